@@ -1,0 +1,126 @@
+// What the tests share: runs over files in memory, and tables of cases.
+mod calls;
+mod examples;
+mod faults;
+mod limits;
+mod refusals;
+
+use clio_top::{Ending, message, run};
+use dx_ports::{File, MemInputs, MemOutputs, Text};
+use std::alloc::{AllocError, Global};
+use std::test::Fail;
+
+/// The mapping of most tests: a name goes over, and a phone has no line.
+const PEOPLE: &str =
+    "mapping 1; source { set emp { name; } } target { set person { name, phone; } } \
+line emp.name -> person.name;";
+
+/// A mapping text with one data file, and all that `exchange` answers and writes.
+#[derive(Clone, Copy)]
+struct Case {
+    mapping: &'static str,
+    file: &'static str,
+    data: &'static [u8],
+    status: u8,
+    message: &'static str,
+    /// Each file that is put: a line `== NAME`, and then its text.
+    files: &'static str,
+    said: &'static str,
+}
+
+/// How a run ended, and what it left.
+#[derive(Drop)]
+struct Outcome {
+    ending: Ending,
+    outputs: MemOutputs,
+}
+
+fn file(alloc: Global, name: &str, bytes: &[u8]) -> Result<File, AllocError> {
+    Ok(File {
+        name: Text::from_str(alloc, name)?,
+        bytes: bytes.to_vec(alloc)?,
+    })
+}
+
+/// A mapping text, and one data file.
+fn two_files(
+    alloc: Global,
+    mapping: &str,
+    name: &str,
+    data: &[u8],
+) -> Result<Vec<File>, AllocError> {
+    let mut files = Vec::new(alloc);
+    files.push(file(alloc, "mapping.clio", mapping.as_bytes())?)?;
+    files.push(file(alloc, name, data)?)?;
+    Ok(files)
+}
+
+/// Runs `exchange` on these files, where these calls of the inputs and of the outputs fail.
+fn exchange(
+    alloc: Global,
+    files: Vec<File>,
+    reads: Vec<u64>,
+    writes: Vec<u64>,
+) -> Result<Outcome, AllocError> {
+    let mut inputs = MemInputs::new(files, reads);
+    let mut outputs = MemOutputs::new(alloc, writes);
+    let mut words = Vec::new(alloc);
+    words.push(Text::from_str(alloc, "exchange")?)?;
+    let ending = run(alloc, &words, &mut inputs, &mut outputs);
+    Ok(Outcome { ending, outputs })
+}
+
+/// All files that were put, as a case has them.
+fn put_files(alloc: Global, outputs: &MemOutputs) -> Result<Vec<u8>, AllocError> {
+    let mut all = Vec::new(alloc);
+    for file in outputs.files() {
+        all.extend_from_slice(b"== ")?;
+        all.extend_from_slice(file.name.bytes())?;
+        all.extend_from_slice(b"\n")?;
+        all.extend_from_slice(file.bytes.as_slice())?;
+    }
+    Ok(all)
+}
+
+/// Whether a run ended and left what is wanted.
+fn ends_so(
+    alloc: Global,
+    outcome: &Outcome,
+    status: u8,
+    text: &str,
+    files: &str,
+    said: &str,
+) -> Result<bool, AllocError> {
+    let put = put_files(alloc, &outcome.outputs)?;
+    let message = message(alloc, &outcome.ending)?;
+    Ok(
+        outcome.ending.status() == status
+            && message.as_str() == text
+            && put.as_slice() == files.as_bytes()
+            && outcome.outputs.said() == said.as_bytes(),
+    )
+}
+
+/// Whether a case ends and leaves what it says.
+fn passes(alloc: Global, case: &Case) -> Result<bool, AllocError> {
+    let files = two_files(alloc, case.mapping, case.file, case.data)?;
+    let outcome = exchange(alloc, files, Vec::new(alloc), Vec::new(alloc))?;
+    ends_so(
+        alloc,
+        &outcome,
+        case.status,
+        case.message,
+        case.files,
+        case.said,
+    )
+}
+
+/// The number of the first case that does not pass, or how many cases there are.
+fn first_failing(alloc: Global, cases: &[Case]) -> Result<usize, AllocError> {
+    for (number, case) in cases.iter().enumerate() {
+        if !passes(alloc, case)? {
+            return Ok(number);
+        }
+    }
+    Ok(cases.len())
+}

@@ -1,0 +1,16 @@
+pub mod FlatFacts
+pub mod FlatMapping
+pub mod RightFacts
+pub mod PlainFacts
+pub mod EndingFacts
+pub mod Written
+pub mod Words
+pub mod SheetRows
+pub mod SheetNulls
+pub mod SheetLists
+pub mod SourceWidths
+pub mod SourceRows
+pub mod SourceSteps
+pub mod PlanFacts
+pub mod OneAscending
+pub mod CauseFacts

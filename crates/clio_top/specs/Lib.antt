@@ -1,0 +1,16 @@
+pub mod FlatRule
+pub mod Mapping
+pub mod TableFiles
+pub mod Reads
+pub mod Source
+pub mod Loading
+pub mod Sheets
+pub mod NullLists
+pub mod Printed
+pub mod Plain
+pub mod Right
+pub mod Exchanging
+pub mod Ending
+pub mod Planning
+pub mod Causes
+pub mod Message

@@ -1,0 +1,56 @@
+-- The text of an ending.
+use Rattle.std.specs.Prelude.{ℕ, List, [], ◌++◌, codes}
+use Rattle.std.specs.Fmt.{decimal}
+use Rattle.dx_ports.specs.declared.file.Count.{Count}
+use Rattle.dx_ports.specs.declared.file.Count.TheVariants as counts
+use Rattle.dx_csv.specs.declared.fault.RowKind.{RowKind}
+use Rattle.dx_csv.specs.declared.fault.RowKind.TheVariants as kinds
+use Rattle.dx_model.specs.Values.{Text}
+use Rattle.clio_top.specs.declared.ending.Ending.{Ending}
+use Rattle.clio_top.specs.declared.ending.Ending.TheVariants as endings
+use Rattle.clio_top.specs.declared.ending.MapFault.{MapFault}
+use Rattle.clio_top.specs.declared.ending.MapFault.TheVariants as map_faults
+use Rattle.clio_top.specs.declared.ending.RowsFault.{RowsFault}
+use Rattle.clio_top.specs.declared.ending.RowsFault.TheVariants as rows_faults
+
+-- the printed name of a count
+abbrev pub count_text : Count → Text
+count_text counts.TextBytes = codes "text bytes"
+count_text counts.DataBytes = codes "data bytes"
+count_text counts.Tables = codes "tables"
+count_text counts.Columns = codes "columns"
+count_text counts.Depth = codes "depth"
+count_text counts.Lines = codes "lines"
+count_text counts.Occurrences = codes "occurrences"
+count_text counts.Ways = codes "ways"
+count_text counts.Candidates = codes "candidates"
+count_text counts.Rules = codes "rules"
+count_text counts.SourceCells = codes "source cells"
+count_text counts.TargetCells = codes "target cells"
+count_text counts.FrozenCells = codes "frozen cells"
+
+abbrev pub map_fault_text : MapFault → Text
+map_fault_text map_faults.Absent = codes "mapping.clio is absent"
+map_fault_text map_faults.NotYet = codes "form not built yet"
+
+-- what is wrong with the records of a file
+abbrev pub kind_text : RowKind → Text
+kind_text kinds.NoHeader = codes "no header"
+kind_text (kinds.Header n) = codes "header at column " ++ decimal n
+kind_text (kinds.Width n) = codes "width of record " ++ decimal n
+kind_text (kinds.NotText n) = codes "record " ++ (decimal n ++ codes " is not text")
+
+abbrev pub rows_fault_text : Text → RowsFault → Text
+rows_fault_text file rows_faults.Absent = file ++ codes " is absent"
+rows_fault_text file (rows_faults.Csv kind) = file ++ (codes ": " ++ kind_text kind)
+
+-- the text of an ending, without a line feed
+abbrev pub message_of : Ending → Text
+message_of (endings.Done done) = []
+message_of endings.Usage = codes "usage: clio show [--core] | clio exchange [--core] [--nested] | clio demo N [--core]"
+message_of (endings.Mapping fault) = codes "mapping: " ++ map_fault_text fault
+message_of (endings.Rows file fault) = codes "rows: " ++ rows_fault_text file fault
+message_of (endings.Limit l) = codes "limit: " ++ (count_text l.what ++ (codes " " ++ decimal l.number))
+message_of (endings.ReadFault file) = codes "read fault: " ++ file
+message_of (endings.WriteFault files) = codes "write fault: " ++ (decimal files ++ codes " files written")
+message_of endings.Memory = codes "out of memory"

@@ -1,0 +1,99 @@
+// What is printed of an ending.
+ghost use Rattle.std.specs.Prelude.{◌≡◌, IfOk, string_bytes};
+ghost use Rattle.clio_top.specs.Message.{count_text, kind_text, map_fault_text, message_of, rows_fault_text};
+
+use crate::ending::{Ending, MapFault, RowsFault};
+use dx_csv::RowKind;
+use dx_ports::{Count, Text};
+use std::alloc::{AllocError, Global};
+
+const USAGE: &str =
+    "usage: clio show [--core] | clio exchange [--core] [--nested] | clio demo N [--core]";
+
+// The printed name of a count.
+fn count_text(count: Count) -> &'static str
+    ensures { result.now ≡ count_text count }
+{
+    match count {
+        Count::TextBytes => "text bytes",
+        Count::DataBytes => "data bytes",
+        Count::Tables => "tables",
+        Count::Columns => "columns",
+        Count::Depth => "depth",
+        Count::Lines => "lines",
+        Count::Occurrences => "occurrences",
+        Count::Ways => "ways",
+        Count::Candidates => "candidates",
+        Count::Rules => "rules",
+        Count::SourceCells => "source cells",
+        Count::TargetCells => "target cells",
+        Count::FrozenCells => "frozen cells",
+    }
+}
+
+// What is wrong with the mapping text.
+fn map_fault_text(fault: MapFault) -> &'static str
+    ensures { result.now ≡ map_fault_text fault }
+{
+    match fault {
+        MapFault::Absent => "mapping.clio is absent",
+        MapFault::NotYet => "form not built yet",
+    }
+}
+
+// What is wrong with the records of a file.
+fn kind_text(alloc: Global, kind: RowKind) -> Result<String, AllocError>
+    ensures { IfOk result (λ s. string_bytes s ≡ kind_text kind) }
+{
+    match kind {
+        RowKind::NoHeader => String::from_str(alloc, "no header"),
+        RowKind::Header(column) => format!(in alloc; "header at column {column}"),
+        RowKind::Width(record) => format!(in alloc; "width of record {record}"),
+        RowKind::NotText(record) => format!(in alloc; "record {record} is not text"),
+    }
+}
+
+// What is wrong with a source file.
+fn rows_fault_text(alloc: Global, file: &Text, fault: RowsFault) -> Result<String, AllocError>
+    ensures { IfOk result (λ s. string_bytes s ≡ rows_fault_text file.now fault) }
+{
+    match fault {
+        RowsFault::Absent => format!(in alloc; "{file} is absent"),
+        RowsFault::Csv(kind) => {
+            let kind = kind_text(alloc, kind)?;
+            format!(in alloc; "{file}: {kind}")
+        }
+    }
+}
+
+fn message_string(alloc: Global, ending: &Ending) -> Result<String, AllocError>
+    ensures { IfOk result (λ s. string_bytes s ≡ message_of ending.now) }
+{
+    match ending {
+        Ending::Done(_) => Ok(String::new(alloc)),
+        Ending::Usage => String::from_str(alloc, USAGE),
+        Ending::Mapping(fault) => {
+            let fault = map_fault_text(*fault);
+            format!(in alloc; "mapping: {fault}")
+        }
+        Ending::Rows { file, fault } => {
+            let fault = rows_fault_text(alloc, file, *fault)?;
+            format!(in alloc; "rows: {fault}")
+        }
+        Ending::Limit(limit) => {
+            let count = count_text(limit.what);
+            let number = limit.number;
+            format!(in alloc; "limit: {count} {number}")
+        }
+        Ending::ReadFault { file } => format!(in alloc; "read fault: {file}"),
+        Ending::WriteFault { files } => format!(in alloc; "write fault: {files} files written"),
+        Ending::Memory => String::from_str(alloc, "out of memory"),
+    }
+}
+
+/// The text of an ending, without a line feed: the empty text where all was done.
+pub fn message(alloc: Global, ending: &Ending) -> Result<Text, AllocError>
+    ensures { IfOk result (λ t. t ≡ message_of ending.now) }
+{
+    Ok(Text::from_string(message_string(alloc, ending)?))
+}

@@ -1,0 +1,5 @@
+pub mod LeftFacts
+pub mod TableFacts
+pub mod PrintFacts
+pub mod OneReading
+pub mod TableTextFacts

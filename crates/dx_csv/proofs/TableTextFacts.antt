@@ -1,0 +1,206 @@
+-- The text of a table, and what it is read as.
+use Rattle.std.proofs.Common.{◌≡◌, ◌∙◌, ◌<◌, ◌≤◌, ◌+◌, ◌++◌, ◌∷◌, ◌==◌, ℕ, zero, suc, List, [], Bool, true, false, refl, sym, ap, subst, arith, length, map, take, append_assoc, append-nil, None, Some, inl, inr}
+use Rattle.std.specs.Prelude.{Option, if◌then◌else◌, ◌&&◌}
+use Rattle.std.specs.List.{flat_map, slice_get}
+use Rattle.std.proofs.lemmas.Bool.{cases_Bool}
+use Rattle.std.proofs.lemmas.List.{take_more, map-append, length-map}
+use Rattle.std.proofs.lemmas.Option.{get_or_from_slice_get, slice_get_within}
+use Rattle.std.proofs.lemmas.Grind.{flat_map-append}
+use Rattle.csv.specs.declared.writer.Writer.{Writer}
+use Rattle.csv.proofs.RoundTrip.{read-write}
+use Rattle.csv.specs.Machine.{next_record}
+use Rattle.csv.specs.Reading.{strip_bom, default_config, is_bom}
+use Rattle.csv.specs.Writing.{default_writer, row_text, read_back, field_text, fields_text, is_blank, needs_quotes, quoted}
+use Rattle.csv.specs.declared.parser.State.TheVariants as st
+use Rattle.dx_ports.specs.Members.{◌∈◌, here, there, Each}
+use Rattle.dx_model.specs.declared.values.Value.{Value}
+use Rattle.dx_instance.specs.Stored.{TableRows, IsSorting, rows_of, table_at, widths}
+use Rattle.dx_instance.specs.ValueText.{value_text_of}
+use Rattle.dx_csv.specs.Left.{left_from, table_records}
+use Rattle.dx_csv.specs.Print.{HasNoMark, HasWritten, IsTableText, lines_text, table_lines}
+use Rattle.dx_csv.proofs.LeftFacts.{left-next, left-none}
+
+-- ---- the lines that were written read back
+nothing : next_record default_config st.StartRecord [] [] [] ≡ None
+unfolding next_record
+nothing = refl
+
+pub lines-read : (rows : List (List (List ℕ))) → left_from st.StartRecord (lines_text rows) ≡ map read_back rows
+lines-read [] = left-none st.StartRecord [] nothing
+lines-read (row ∷ rows) =
+    left-next st.StartRecord (row_text default_writer row ++ lines_text rows) (read_back row, st.StartRecord, lines_text rows) refl (read-write row (lines_text rows))
+    ∙ ap (λ (t : List (List (List ℕ))). read_back row ∷ t) (lines-read rows)
+
+-- a line with a field is that line again
+read_back-same : (row : List (List ℕ)) → 1 ≤ length row → read_back row ≡ row
+read_back-same [] h = absurd (omega arith)
+read_back-same (x ∷ xs) h = refl
+
+read_back-rows : (n : ℕ) (rows : List (List Value)) → 1 ≤ n → Each rows (λ row. length row ≡ n) → map read_back (map (map value_text_of) rows) ≡ map (map value_text_of) rows
+read_back-rows n [] h a = refl
+read_back-rows n (row ∷ rows) h a =
+    let e = length-map row value_text_of in
+    let w = a row (here refl) in
+    rw (read_back-same (map value_text_of row) (omega (arith, e, w, h)))
+    (ap (λ (t : List (List (List ℕ))). map value_text_of row ∷ t) (read_back-rows n rows h (λ r m. a r (there m))))
+
+-- ---- a text that does not begin with a byte order mark stays whole
+strip-other : (a : ℕ) (xs : List ℕ) → (a == 239) ≡ false → strip_bom (a ∷ xs) ≡ a ∷ xs
+unfolding strip_bom
+strip-other a [] n = refl
+strip-other a (b ∷ []) n = refl
+strip-other a (b ∷ c ∷ xs) n = rw n refl
+
+none-third : (p q r : Bool) → r ≡ false → (p && q && r) ≡ false
+none-third true true r e = e
+none-third true false r e = refl
+none-third false q r e = refl
+
+none-second : (p q r : Bool) → q ≡ false → (p && q && r) ≡ false
+none-second true true r e = cc e
+none-second true false r e = refl
+none-second false q r e = refl
+
+strip-second : (a b : ℕ) (xs : List ℕ) → (b == 187) ≡ false → strip_bom (a ∷ b ∷ xs) ≡ a ∷ b ∷ xs
+unfolding strip_bom
+strip-second a b [] n = refl
+strip-second a b (c ∷ xs) n = rw (none-second (a == 239) (b == 187) (c == 191) n) refl
+
+strip-third : (a b c : ℕ) (xs : List ℕ) → (c == 191) ≡ false → strip_bom (a ∷ b ∷ c ∷ xs) ≡ a ∷ b ∷ c ∷ xs
+unfolding strip_bom
+strip-third a b c xs n = rw (none-third (a == 239) (b == 187) (c == 191) n) refl
+
+not-longer : (a b c : ℕ) (xs : List ℕ) → xs ≡ a ∷ b ∷ c ∷ xs → ⊥
+not-longer a b c xs e = let n = ap length e in omega (arith, n)
+
+strip-front : (first : List ℕ) (d : ℕ) (more : List ℕ) → (d == 239) ≡ false → (d == 187) ≡ false → (d == 191) ≡ false → strip_bom first ≡ first
+    → strip_bom (first ++ d ∷ more) ≡ first ++ d ∷ more
+unfolding strip_bom
+strip-front [] d more n1 n2 n3 e = strip-other d more n1
+strip-front (a ∷ []) d more n1 n2 n3 e = strip-second a d more n2
+strip-front (a ∷ b ∷ []) d more n1 n2 n3 e = strip-third a b d more n3
+strip-front (a ∷ b ∷ c ∷ xs) d more n1 n2 n3 e = elim (cases_Bool (is_bom a b c)) [
+  | inl mark ↦ absurd (not-longer a b c xs (rw mark at e))
+  | inr plain ↦ rw plain refl
+]
+
+-- the first byte after a record's first field
+record Small (xs : List ℕ) : Type 0 where
+  head : ℕ
+  tail : List ℕ
+  is : xs ≡ head ∷ tail
+  not239 : (head == 239) ≡ false
+  not187 : (head == 187) ≡ false
+  not191 : (head == 191) ≡ false
+
+blank-small : (b : Bool) (more : List ℕ) → Small (((if b then 34 ∷ 34 ∷ [] else []) ++ 10 ∷ []) ++ more)
+blank-small true more = record { head = 34; tail = 34 ∷ 10 ∷ more; is = refl; not239 = refl; not187 = refl; not191 = refl }
+blank-small false more = record { head = 10; tail = more; is = refl; not239 = refl; not187 = refl; not191 = refl }
+
+strip-after : (first xs : List ℕ) → Small xs → strip_bom first ≡ first → strip_bom (first ++ xs) ≡ first ++ xs
+strip-after first xs s e = rw s.is (strip-front first s.head s.tail s.not239 s.not187 s.not191 e)
+
+-- a field keeps its place before what follows it
+strip-field : (first xs : List ℕ) → Small xs → strip_bom first ≡ first → strip_bom (field_text default_writer first ++ xs) ≡ field_text default_writer first ++ xs
+strip-field first xs s e = by (needs_quotes default_writer first)
+  where
+    by : (b : Bool) → strip_bom ((if b then quoted default_writer first else first) ++ xs) ≡ (if b then quoted default_writer first else first) ++ xs
+    by true = strip-other 34 _ refl
+    by false = strip-after first xs s e
+
+regroup : (f t more : List ℕ) → ((f ++ []) ++ t) ++ more ≡ f ++ (t ++ more)
+regroup f t more = simp (append_assoc, append-nil)
+
+regroup-more : (f : List ℕ) (d : ℕ) (g t more : List ℕ) → ((f ++ (d ∷ g)) ++ t) ++ more ≡ f ++ (d ∷ ((g ++ t) ++ more))
+regroup-more f d g t more = simp append_assoc
+
+row-small : (first : List ℕ) (fields : List (List ℕ)) (more : List ℕ)
+    → (xs : List ℕ) × (row_text default_writer (first ∷ fields) ++ more ≡ field_text default_writer first ++ xs) × Small xs
+unfolding is_blank fields_text
+row-small first [] more = (_, regroup (field_text default_writer first) _ more, blank-small (length (field_text default_writer first) == 0) more)
+row-small first (x ∷ fields) more = (
+  _,
+  regroup-more (field_text default_writer first) 44 (field_text default_writer x ++ fields_text default_writer fields) (10 ∷ []) more,
+  record { head = 44; tail = _; is = refl; not239 = refl; not187 = refl; not191 = refl },
+)
+
+pub strip-lines : (columns : List (List ℕ)) (rest : List (List (List ℕ))) → 1 ≤ length columns → HasNoMark columns
+    → strip_bom (lines_text (columns ∷ rest)) ≡ lines_text (columns ∷ rest)
+strip-lines [] rest h m = absurd (omega arith)
+strip-lines (first ∷ fields) rest h m =
+    let (xs, e, s) = row-small first fields (lines_text rest) in
+    rw e (strip-field first xs s m)
+
+-- a printed table reads back as its lines
+table-read : (columns : List (List ℕ)) (rows : List (List Value)) → 1 ≤ length columns → HasNoMark columns → Each rows (λ row. length row ≡ length columns)
+    → table_records (lines_text (table_lines columns rows)) ≡ table_lines columns rows
+table-read columns rows h m w =
+    rw (strip-lines columns (map (map value_text_of) rows) h m)
+    (lines-read (table_lines columns rows)
+    ∙ rw (read_back-same columns h) (ap (λ (t : List (List (List ℕ))). columns ∷ t) (read_back-rows (length columns) rows h w)))
+
+-- ---- the header, and one row more
+pub header-written : {W : Type 0} (contents : W → Option (List ℕ)) (w : Writer W) (columns line : List (List ℕ)) → line ≡ columns
+    → HasWritten contents w (row_text default_writer line) → HasWritten contents w (lines_text (table_lines columns []))
+header-written contents w columns line same written =
+    subst (HasWritten contents w) (rw same (sym (append-nil (row_text default_writer columns)))) written
+
+shift : (a b c : List ℕ) → a ++ (b ++ (c ++ [])) ≡ (a ++ b) ++ c
+shift a b c = simp (append_assoc, append-nil)
+
+rows-more : (columns : List (List ℕ)) (rows : List (List Value)) (i : ℕ) (row : List Value) → slice_get rows i ≡ Some row
+    → lines_text (table_lines columns (take (i + 1) rows)) ≡ lines_text (table_lines columns (take i rows)) ++ row_text default_writer (map value_text_of row)
+rows-more columns rows i row e =
+    rw (
+      take_more rows i [] (slice_get_within rows i row e),
+      get_or_from_slice_get rows i row [] e,
+      map-append (map value_text_of) (take i rows) (row ∷ []),
+      flat_map-append (row_text default_writer) (map (map value_text_of) (take i rows)) (map value_text_of row ∷ []),
+    )
+    (shift (row_text default_writer columns) (flat_map (row_text default_writer) (map (map value_text_of) (take i rows))) (row_text default_writer (map value_text_of row)))
+
+pub row-written : {W : Type 0} (contents : W → Option (List ℕ)) (w : Writer W) (columns : List (List ℕ)) (rows : List (List Value)) (i : ℕ) (row : List Value) (line : List (List ℕ))
+    → slice_get rows i ≡ Some row → line ≡ map value_text_of row
+    → HasWritten contents w (lines_text (table_lines columns (take i rows)) ++ row_text default_writer line)
+    → HasWritten contents w (lines_text (table_lines columns (take (i + 1) rows)))
+row-written contents w columns rows i row line e same written = subst (HasWritten contents w) (rw same (sym (rows-more columns rows i row e))) written
+
+-- ---- a sorted instance
+pub as-many : (old new : List TableRows) → IsSorting old new → length new ≡ length old
+as-many old new s = sym (length-map new (λ (t : TableRows). t.width)) ∙ (ap (λ (ws : List ℕ). length ws) s.widths_stay ∙ length-map old (λ (t : TableRows). t.width))
+
+first-width : (t u : TableRows) (ts us : List TableRows) → widths (t ∷ ts) ≡ widths (u ∷ us) → t.width ≡ u.width
+first-width t u ts us e = cc e
+
+rest-widths : (t u : TableRows) (ts us : List TableRows) → widths (t ∷ ts) ≡ widths (u ∷ us) → widths ts ≡ widths us
+rest-widths t u ts us e = cc e
+
+width-stays : (old new : List TableRows) (t : ℕ) → widths new ≡ widths old → (table_at new t).width ≡ (table_at old t).width
+width-stays [] [] t e = refl
+width-stays [] (n ∷ new) t e = cc e
+width-stays (o ∷ old) [] t e = cc e
+width-stays (o ∷ old) (n ∷ new) zero e = first-width n o new old e
+width-stays (o ∷ old) (n ∷ new) (suc t) e = width-stays old new t (rest-widths n o new old e)
+
+table-in : (tables : List TableRows) (t : ℕ) → t < length tables → table_at tables t ∈ tables
+table-in [] t h = absurd (omega arith)
+table-in (x ∷ xs) zero h = here refl
+table-in (x ∷ xs) (suc t) h = there (table-in xs t (omega arith))
+
+pub table-text : (columns : List (List ℕ)) (old new : List TableRows) (t : ℕ) (text : List ℕ)
+    → t < length old → length columns ≡ (table_at old t).width → HasNoMark columns → IsSorting old new
+    → Each new (λ u. 1 ≤ u.width) → Each new (λ u. Each u.rows (λ r. length r ≡ u.width))
+    → text ≡ lines_text (table_lines columns (rows_of new t)) → IsTableText columns (rows_of old t) text
+table-text columns old new t text h w m s wide each e =
+    let many = as-many old new s in
+    let inside = table-in new t (omega (arith, many)) in
+    let same = w ∙ sym (width-stays old new t s.widths_stay) in
+    let some = wide (table_at new t) inside in
+    record {
+      sorted = rows_of new t;
+      ascend = s.ascend t;
+      kept = s.kept t;
+      only = s.only t;
+      is = e;
+      reads = rw e (table-read columns (rows_of new t) (omega (arith, same, some)) m (λ r k. each (table_at new t) inside r k ∙ sym same));
+    }

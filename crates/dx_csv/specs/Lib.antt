@@ -1,0 +1,4 @@
+pub mod Left
+pub mod Table
+pub mod Print
+pub mod Laws

@@ -1,0 +1,40 @@
+-- The text of records and of tables.
+use Rattle.std.specs.Prelude.{◌≡◌, ℕ, List, [], ◌∷◌, map, false, true, Option, Some}
+use Rattle.std.specs.List.{flat_map}
+use Rattle.csv.specs.Reading.{strip_bom}
+use Rattle.csv.specs.Writing.{default_writer, fields_written, has_written, row_text, text_written, with_flexible, writer_setup}
+use Rattle.csv.specs.declared.writer.Writer.{Writer}
+use Rattle.dx_ports.specs.Members.{◌⊆◌}
+use Rattle.dx_model.specs.declared.values.Value.{Value}
+use Rattle.dx_model.specs.Values.{RowsAscend}
+use Rattle.dx_instance.specs.ValueText.{value_text_of}
+use Rattle.dx_csv.specs.Left.{table_records}
+
+-- the text of these records, one after the other
+abbrev pub lines_text : List (List (List ℕ)) → List ℕ
+lines_text records = flat_map (row_text default_writer) records
+
+-- the records of a table: the columns, and the value texts of each row
+abbrev pub table_lines : List (List ℕ) → List (List Value) → List (List (List ℕ))
+table_lines columns rows = columns ∷ map (map value_text_of) rows
+
+-- the first column does not begin with the bytes of a byte order mark
+abbrev pub HasNoMark : List (List ℕ) → Type 0
+HasNoMark [] = Unit {0}
+HasNoMark (first ∷ rest) = strip_bom first ≡ first
+
+-- the text of a table: its columns and then its rows, ascending, which is read as just these records
+pub record IsTableText (columns : List (List ℕ)) (rows : List (List Value)) (text : List ℕ) : Type 0 where
+  pub sorted : List (List Value)
+  pub ascend : RowsAscend sorted
+  pub kept : rows ⊆ sorted
+  pub only : sorted ⊆ rows
+  pub is : text ≡ lines_text (table_lines columns sorted)
+  pub reads : table_records text ≡ table_lines columns sorted
+
+-- a writer of records of any lengths, that stands between two records and has written these bytes
+pub record HasWritten {W : Type 0} (contents : W → Option (List ℕ)) (w : Writer W) (bytes : List ℕ) : Type 0 where
+  pub setup : writer_setup w ≡ with_flexible default_writer true
+  pub none : fields_written w ≡ 0
+  pub fresh : has_written w ≡ false
+  pub text : text_written contents w ≡ Some bytes

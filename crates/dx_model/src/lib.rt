@@ -1,0 +1,21 @@
+//! The book of definitions: the types of data exchange, its notions (specs/) and their laws.
+#![tactic(auto)]
+
+mod facts;
+mod laws;
+mod matches;
+mod row;
+mod rules;
+mod tables;
+mod values;
+
+pub use facts::{Fact, NullPair};
+pub use laws::{
+    canonical_fits, canonical_is_universal, canonical_maps_into, canonical_moves_into,
+    exported_exactly,
+};
+pub use matches::{Matches, Places, Tuple};
+pub use row::Row;
+pub use rules::{Atom, Cell, Derived, Rule};
+pub use tables::{Key, Link};
+pub use values::{NullId, Value, copy_value};

@@ -1,0 +1,4 @@
+pub mod Members
+pub mod Loops
+pub mod Held
+pub mod Prefixes

@@ -1,0 +1,62 @@
+-- Members of lists.
+use Rattle.std.proofs.Common.{◌≡◌, ℕ, zero, suc, ◌<◌, List, [], ◌∷◌, ◌++◌, ◌⊎◌, inl, inr, refl, ap, arith, length, get_or, Contains}
+use Rattle.std.specs.Prelude.{map, flat_map}
+use Rattle.dx_ports.specs.Members.{◌∈◌, here, there}
+
+pub in_map : {X Y : Type 0} (f : X → Y) {x : X} {xs : List X} → x ∈ xs → f x ∈ map f xs
+in_map f (here e) = here (ap f e)
+in_map f (there h) = there (in_map f h)
+
+pub from_map : {X Y : Type 0} (f : X → Y) (xs : List X) {y : Y} → y ∈ map f xs → (x : X) × (x ∈ xs) × (f x ≡ y)
+from_map f [] h = elim h [ ]
+from_map f (x ∷ xs) (here e) = (x, here refl, e)
+from_map f (x ∷ xs) (there h) = let r = from_map f xs h in (r.0, there r.1, r.2)
+
+pub in_left : {X : Type 0} {x : X} {xs : List X} (ys : List X) → x ∈ xs → x ∈ (xs ++ ys)
+in_left ys (here e) = here e
+in_left ys (there h) = there (in_left ys h)
+
+pub in_right : {X : Type 0} {x : X} (xs : List X) {ys : List X} → x ∈ ys → x ∈ (xs ++ ys)
+in_right [] h = h
+in_right (x ∷ xs) h = there (in_right xs h)
+
+pub from_append : {X : Type 0} {x : X} (xs : List X) {ys : List X} → x ∈ (xs ++ ys) → (x ∈ xs) ⊎ (x ∈ ys)
+from_append [] h = inr h
+from_append (x ∷ xs) (here e) = inl (here e)
+from_append (x ∷ xs) (there h) = elim (from_append xs h) [ inl l ↦ inl (there l) | inr r ↦ inr r ]
+
+pub in_flat_map : {X Y : Type 0} (f : X → List Y) {x : X} {y : Y} {xs : List X} → x ∈ xs → y ∈ f x → y ∈ flat_map f xs
+in_flat_map f (here e) h = rw e (in_left _ h)
+in_flat_map f (there k) h = in_right _ (in_flat_map f k h)
+
+pub from_flat_map : {X Y : Type 0} (f : X → List Y) (xs : List X) {y : Y} → y ∈ flat_map f xs → (x : X) × (x ∈ xs) × (y ∈ f x)
+from_flat_map f [] h = elim h [ ]
+from_flat_map {X} {Y} f (x ∷ xs) {y} h = elim (from_append (f x) h) [
+  | inl l ↦ (x, here refl, l)
+  | inr r ↦ let k = from_flat_map f xs r in (k.0, there k.1, k.2)
+]
+
+-- equal maps agree at each member
+pub map_agrees : {X Y : Type 0} (f g : X → Y) {x : X} {xs : List X} → map f xs ≡ map g xs → x ∈ xs → f x ≡ g x
+map_agrees f g {xs = []} e m = elim m [ ]
+map_agrees f g {xs = y ∷ ys} e (here d) = rw (← d) (cc)
+map_agrees f g {xs = y ∷ ys} e (there m) = map_agrees f g (cc) m
+
+-- an element is a member
+pub in_at : {X : Type 0} (xs : List X) (i : ℕ) (d : X) → i < length xs → get_or xs i d ∈ xs
+in_at [] i d h = absurd (omega arith)
+in_at (x ∷ xs) zero d h = here refl
+in_at (x ∷ xs) (suc i) d h = there (in_at xs i d (omega arith))
+
+-- std's word for a member says the same
+pub contains_from_in : {X : Type 0} {x : X} {xs : List X} → x ∈ xs → Contains xs x
+contains_from_in (here e) = (0, omega arith, e)
+contains_from_in (there m) = let r = contains_from_in m in (suc r.0, omega (arith, r.1), r.2)
+
+pub in_from_contains : {X : Type 0} (xs : List X) (x : X) → Contains xs x → x ∈ xs
+in_from_contains [] x c = absurd (omega (arith, c.1))
+in_from_contains (y ∷ ys) x c = go c.0 c.1 c.2 (λ d. in_from_contains ys x d)
+  where
+    go : (k : ℕ) → k < length (y ∷ ys) → get_or (y ∷ ys) k x ≡ x → (Contains ys x → x ∈ ys) → x ∈ (y ∷ ys)
+    go zero h e f = here e
+    go (suc k) h e f = there (f (k, omega arith, e))

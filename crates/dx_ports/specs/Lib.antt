@@ -1,0 +1,5 @@
+pub mod Members
+pub mod Entries
+pub mod Faults
+pub mod MemInputs
+pub mod MemOutputs

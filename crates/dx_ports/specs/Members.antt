@@ -1,0 +1,22 @@
+-- Members of lists.
+use Rattle.std.specs.Prelude.{◌≡◌, List, [], ◌∷◌}
+
+-- x is a member of the list
+infix 4 ◌∈◌
+pub data ◌∈◌ {X : Type 0} (x : X) : List X → Type 0 where
+  here : {y : X} {ys : List X} → y ≡ x → x ∈ (y ∷ ys)
+  there : {y : X} {ys : List X} → x ∈ ys → x ∈ (y ∷ ys)
+
+-- every member of A is a member of B
+infix 4 ◌⊆◌
+abbrev pub ◌⊆◌ : {X : Type 0} → List X → List X → Type 0
+◌⊆◌ {X} A B = (x : X) → x ∈ A → x ∈ B
+
+-- each member has it
+abbrev pub Each : {X : Type 0} → List X → (X → Type 0) → Type 0
+Each {X} xs P = (x : X) → x ∈ xs → P x
+
+-- no member stands twice
+abbrev pub Distinct : {X : Type 0} → List X → Type 0
+Distinct [] = Unit {0}
+Distinct (x ∷ xs) = (¬ (x ∈ xs)) × Distinct xs

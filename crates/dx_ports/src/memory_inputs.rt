@@ -1,0 +1,101 @@
+// Inputs in memory, which can be made to fail.
+ghost use Rattle.std.specs.Prelude.{◌≡◌, ℕ, ◌≤◌, ◌<◌, List, [], length, Option, Some, None, OnOk, OnErr, IfSome, IsErrOf, IsSomeAnd, Contains, slice_get, min, ◌+◌, ◌-◌, ◌^◌, ◌⊎◌};
+ghost use Rattle.std.specs.Option.{option_map, option_copied};
+ghost use Rattle.std.specs.FinMap.{get};
+ghost use Rattle.dx_ports.specs.Entries.{Held, held_by};
+ghost use Rattle.dx_ports.specs.Faults.{Rose};
+
+use crate::{FetchFault, File, Inputs, Text};
+use std::alloc::Global;
+
+/// Inputs in memory. They tell the files that they hold, and after a fault of reading the name.
+#[derive(Drop)]
+pub struct MemInputs {
+    files: Vec<File>,
+    fails: Vec<u64>,
+    calls: u64,
+    faults: u64,
+    stopped: Option<Text>,
+}
+
+impl MemInputs {
+    ghost use Rattle.dx_ports.specs.MemInputs.{next_call, failing_calls};
+
+    /// Inputs that hold these files, of equal names the first. The calls of `fetch` with these numbers fail, counted from 0.
+    pub fn new(files: Vec<File>, fails: Vec<u64>) -> MemInputs
+        ensures holds { ⟦<MemInputs as Inputs>⟧.holds result ≡ Some (held_by files.items) }
+        ensures faults { ⟦<MemInputs as Inputs>⟧.faults result ≡ 0 }
+        ensures stopped { ⟦<MemInputs as Inputs>⟧.stopped result ≡ None }
+        ensures calls { next_call result ≡ 0 }
+        ensures fails { failing_calls result ≡ fails.items }
+    {
+        MemInputs {
+            files,
+            fails,
+            calls: 0,
+            faults: 0,
+            stopped: None,
+        }
+    }
+}
+
+// The bytes of the first file of this name.
+fn bytes_named<'a>(files: &'a [File], name: &Text) -> Option<&'a [u8]>
+    ensures { option_copied result ≡ get (held_by files.now) name.now }
+{
+    for file in files {
+        if file.name == *name {
+            return Some(file.bytes.as_slice());
+        }
+    }
+    None
+}
+
+impl Inputs for MemInputs {
+    ghost use Rattle.dx_ports.specs.MemInputs.{next_call, failing_calls};
+
+    ghost holds = { λ m. Some (held_by m.files.items) };
+
+    ghost faults = { λ m. m.faults };
+
+    ghost stopped = { λ m. m.stopped };
+
+    fn fetch(&mut self, name: &Text, limit: u64, into: &mut Vec<u8>) -> Result<(), FetchFault>
+        ensures kept { ⟦<MemInputs as Inputs>⟧.holds self.new ≡ ⟦<MemInputs as Inputs>⟧.holds self.old }
+        ensures counted { ⟦<MemInputs as Inputs>⟧.faults self.old ≤ ⟦<MemInputs as Inputs>⟧.faults self.new }
+        ensures bytes { IfSome (⟦<MemInputs as Inputs>⟧.holds self.old) (λ m. OnOk result (get m name.now ≡ Some into.new.items)) }
+        ensures bound { OnOk result (length into.new.items ≤ limit) }
+        ensures refused { OnErr result (into.new.items ≡ []) }
+        ensures absent { IfSome (⟦<MemInputs as Inputs>⟧.holds self.old) (λ m. IsErrOf result FetchFault.Absent → get m name.now ≡ None) }
+        ensures long { IfSome (⟦<MemInputs as Inputs>⟧.holds self.old) (λ m. IsErrOf result FetchFault.Long
+            → IsSomeAnd (get m name.now) (λ bytes. limit < length bytes)) }
+        ensures failed { IsErrOf result FetchFault.Failed → Rose (⟦<MemInputs as Inputs>⟧.faults self.old) (⟦<MemInputs as Inputs>⟧.faults self.new) }
+        ensures named { IsErrOf result FetchFault.Failed → IfSome (⟦<MemInputs as Inputs>⟧.stopped self.new) (λ n. n ≡ name.now) }
+
+        // What the trait leaves open: which calls fail.
+        ensures only_these { IsErrOf result FetchFault.Failed → Contains (failing_calls self.old) (next_call self.old) }
+        ensures these { Contains (failing_calls self.old) (next_call self.old)
+            → IsErrOf result FetchFault.Failed ⊎ IsErrOf result FetchFault.Memory }
+        ensures tells { IsErrOf result FetchFault.Failed → ⟦<MemInputs as Inputs>⟧.stopped self.new ≡ Some name.now }
+        ensures number { next_call self.new ≡ min (next_call self.old + 1) (2 ^ 64 - 1) }
+        ensures same_numbers { failing_calls self.new ≡ failing_calls self.old }
+    {
+        into.clear();
+        let call = self.calls;
+        self.calls = call.saturating_add(1);
+        let stopped = name.copy()?;
+        if self.fails.contains(&call) {
+            self.faults = self.faults.saturating_add(1);
+            self.stopped = Some(stopped);
+            return Err(FetchFault::Failed);
+        }
+        let Some(bytes) = bytes_named(&self.files, name) else {
+            return Err(FetchFault::Absent);
+        };
+        if bytes.len() as u64 > limit {
+            return Err(FetchFault::Long);
+        }
+        into.extend_from_slice(bytes)?;
+        Ok(())
+    }
+}

@@ -1,0 +1,129 @@
+// Outputs in memory, which can be made to fail.
+ghost use Rattle.std.specs.Prelude.{◌≡◌, ℕ, [], ◌∷◌, Some, OnOk, OnErr, IsErrOf, IsTrue, Contains, min, ◌↔◌, ◌+◌, ◌-◌, ◌^◌, ◌≤◌};
+ghost use Rattle.dx_ports.specs.Entries.{entries_of, appended, GrewByPrefix};
+ghost use Rattle.std.specs.Bool.{OnTrue};
+ghost use Rattle.dx_ports.specs.Faults.{Rose};
+
+use crate::{File, Outputs, PutFault, Text};
+use std::alloc::Global;
+
+/// Outputs in memory. They tell what was put and said, and start with nothing.
+#[derive(Drop)]
+pub struct MemOutputs {
+    alloc: Global,
+    files: Vec<File>,
+    said: Vec<u8>,
+    fails: Vec<u64>,
+    calls: u64,
+    faults: u64,
+}
+
+impl MemOutputs {
+    ghost use Rattle.dx_ports.specs.MemOutputs.{next_write, failing_writes};
+
+    /// Outputs with no files. The calls of `put` and `say` with these numbers fail, counted together from 0.
+    pub fn new(alloc: Global, fails: Vec<u64>) -> MemOutputs
+        ensures files { ⟦<MemOutputs as Outputs>⟧.files result ≡ Some [] }
+        ensures said { ⟦<MemOutputs as Outputs>⟧.said result ≡ Some [] }
+        ensures faults { ⟦<MemOutputs as Outputs>⟧.faults result ≡ 0 }
+        ensures calls { next_write result ≡ 0 }
+        ensures fails { failing_writes result ≡ fails.items }
+    {
+        MemOutputs {
+            alloc,
+            files: Vec::new(alloc),
+            said: Vec::new(alloc),
+            fails,
+            calls: 0,
+            faults: 0,
+        }
+    }
+
+    /// The files that were put, in order.
+    pub fn files(&self) -> &[File]
+        ensures { ⟦<MemOutputs as Outputs>⟧.files self.now ≡ Some (entries_of result.now) }
+    {
+        &self.files
+    }
+
+    /// What was said.
+    pub fn said(&self) -> &[u8]
+        ensures { ⟦<MemOutputs as Outputs>⟧.said self.now ≡ Some result.now }
+    {
+        &self.said
+    }
+
+    // Counts a call, and tells whether it fails.
+    fn fails_now(&mut self) -> bool
+        ensures told { IsTrue result ↔ Contains self.old.fails.items self.old.calls }
+        ensures counted { self.new.calls ≡ min (self.old.calls + 1) (2 ^ 64 - 1) }
+        ensures raised { OnTrue result (Rose self.old.faults self.new.faults) }
+        ensures rises { self.old.faults ≤ self.new.faults }
+        ensures fails { self.new.fails ≡ self.old.fails }
+        ensures files { self.new.files ≡ self.old.files }
+        ensures said { self.new.said ≡ self.old.said }
+    {
+        let call = self.calls;
+        self.calls = call.saturating_add(1);
+        let fails = self.fails.contains(&call);
+        if fails {
+            self.faults = self.faults.saturating_add(1);
+        }
+        fails
+    }
+}
+
+impl Outputs for MemOutputs {
+    ghost use Rattle.dx_ports.specs.MemOutputs.{next_write, failing_writes};
+
+    ghost files = { λ m. Some (entries_of m.files.items) };
+
+    ghost said = { λ m. Some m.said.items };
+
+    ghost faults = { λ m. m.faults };
+
+    fn put(&mut self, name: &Text, bytes: &[u8]) -> Result<(), PutFault>
+        ensures put { OnOk result (⟦<MemOutputs as Outputs>⟧.files self.new ≡ appended (⟦<MemOutputs as Outputs>⟧.files self.old) ((name.now, bytes.now) ∷ [])) }
+        ensures refused { OnErr result (⟦<MemOutputs as Outputs>⟧.files self.new ≡ ⟦<MemOutputs as Outputs>⟧.files self.old) }
+        ensures said { ⟦<MemOutputs as Outputs>⟧.said self.new ≡ ⟦<MemOutputs as Outputs>⟧.said self.old }
+        ensures counted { ⟦<MemOutputs as Outputs>⟧.faults self.old ≤ ⟦<MemOutputs as Outputs>⟧.faults self.new }
+        ensures failed { IsErrOf result PutFault.Failed → Rose (⟦<MemOutputs as Outputs>⟧.faults self.old) (⟦<MemOutputs as Outputs>⟧.faults self.new) }
+
+        // What the trait leaves open: which calls fail.
+        ensures only_these { IsErrOf result PutFault.Failed → Contains (failing_writes self.old) (next_write self.old) }
+        ensures these { Contains (failing_writes self.old) (next_write self.old) → IsErrOf result PutFault.Failed }
+        ensures number { next_write self.new ≡ min (next_write self.old + 1) (2 ^ 64 - 1) }
+        ensures same_numbers { failing_writes self.new ≡ failing_writes self.old }
+    {
+        if self.fails_now() {
+            return Err(PutFault::Failed);
+        }
+        let file = File {
+            name: name.copy()?,
+            bytes: bytes.to_vec(self.alloc)?,
+        };
+        self.files.push(file)?;
+        Ok(())
+    }
+
+    fn say(&mut self, bytes: &[u8]) -> Result<(), PutFault>
+        ensures said { OnOk result (⟦<MemOutputs as Outputs>⟧.said self.new ≡ appended (⟦<MemOutputs as Outputs>⟧.said self.old) bytes.now) }
+        ensures nothing { OnErr result (⟦<MemOutputs as Outputs>⟧.said self.new ≡ ⟦<MemOutputs as Outputs>⟧.said self.old) }
+        ensures refused { OnErr result (GrewByPrefix (⟦<MemOutputs as Outputs>⟧.said self.old) bytes.now (⟦<MemOutputs as Outputs>⟧.said self.new)) }
+        ensures files { ⟦<MemOutputs as Outputs>⟧.files self.new ≡ ⟦<MemOutputs as Outputs>⟧.files self.old }
+        ensures counted { ⟦<MemOutputs as Outputs>⟧.faults self.old ≤ ⟦<MemOutputs as Outputs>⟧.faults self.new }
+        ensures failed { IsErrOf result PutFault.Failed → Rose (⟦<MemOutputs as Outputs>⟧.faults self.old) (⟦<MemOutputs as Outputs>⟧.faults self.new) }
+
+        // What the trait leaves open: which calls fail.
+        ensures only_these { IsErrOf result PutFault.Failed → Contains (failing_writes self.old) (next_write self.old) }
+        ensures these { Contains (failing_writes self.old) (next_write self.old) → IsErrOf result PutFault.Failed }
+        ensures number { next_write self.new ≡ min (next_write self.old + 1) (2 ^ 64 - 1) }
+        ensures same_numbers { failing_writes self.new ≡ failing_writes self.old }
+    {
+        if self.fails_now() {
+            return Err(PutFault::Failed);
+        }
+        self.said.extend_from_slice(bytes)?;
+        Ok(())
+    }
+}

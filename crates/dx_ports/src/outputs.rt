@@ -1,0 +1,62 @@
+// What is written to: files by name, and a text that is said.
+ghost use Rattle.std.specs.Prelude.{◌≡◌, ℕ, ◌≤◌, List, [], ◌∷◌, Option, OnOk, OnErr, IsErrOf};
+ghost use Rattle.dx_ports.specs.Entries.{Entry, appended, GrewByPrefix};
+ghost use Rattle.dx_ports.specs.Faults.{Rose};
+ghost use Rattle.dx_ports.specs.declared.outputs.PutFault.TheVariants.{Memory};
+
+use crate::Text;
+use std::alloc::{AllocError, AllocFailed};
+use thiserror::Error;
+
+/// Why something was not written.
+#[derive(Clone, Copy, Debug, PartialEq, Eq, Error)]
+pub enum PutFault {
+    #[error("the write failed")]
+    Failed,
+    #[error("out of memory")]
+    Memory,
+}
+
+impl From<AllocError> for PutFault {
+    ghost from_gives = { λ _ e. e ≡ Memory };
+
+    fn from(_: AllocError) -> Self {
+        PutFault::Memory
+    }
+}
+
+impl<T: Drop> From<AllocFailed<T>> for PutFault {
+    ghost from_gives = { λ _ e. e ≡ Memory };
+
+    fn from(_: AllocFailed<T>) -> Self {
+        PutFault::Memory
+    }
+}
+
+/// What is written to. What is told before a call is told after it.
+pub trait Outputs {
+    /// The files written whole, where it tells them.
+    ghost files: { Self → Option (List Entry) };
+
+    /// What was said, where it tells it.
+    ghost said: { Self → Option (List ℕ) };
+
+    /// How often a write has failed.
+    ghost faults: { Self → ℕ };
+
+    /// Writes a file.
+    fn put(&mut self, name: &Text, bytes: &[u8]) -> Result<(), PutFault>
+        ensures put { OnOk result (files self.new ≡ appended (files self.old) ((name.now, bytes.now) ∷ [])) }
+        ensures refused { OnErr result (files self.new ≡ files self.old) }
+        ensures said { said self.new ≡ said self.old }
+        ensures counted { faults self.old ≤ faults self.new }
+        ensures failed { IsErrOf result PutFault.Failed → Rose (faults self.old) (faults self.new) };
+
+    /// Says these bytes.
+    fn say(&mut self, bytes: &[u8]) -> Result<(), PutFault>
+        ensures said { OnOk result (said self.new ≡ appended (said self.old) bytes.now) }
+        ensures refused { OnErr result (GrewByPrefix (said self.old) bytes.now (said self.new)) }
+        ensures files { files self.new ≡ files self.old }
+        ensures counted { faults self.old ≤ faults self.new }
+        ensures failed { IsErrOf result PutFault.Failed → Rose (faults self.old) (faults self.new) };
+}

@@ -1,0 +1,11 @@
+pub mod Forests
+pub mod Facts
+pub mod Preorder
+pub mod Loops
+pub mod Marks
+pub mod Valid
+pub mod Ways
+pub mod Plain
+pub mod Steps
+pub mod Examples
+pub mod Levels

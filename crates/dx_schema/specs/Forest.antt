@@ -1,0 +1,102 @@
+-- Sets with their inner sets.
+use Rattle.std.specs.Prelude.{◌≡◌, ℕ, Bool, true, false, ◌+◌, ◌≤◌, List, [], ◌∷◌, ◌++◌, Option, Some, None, refl}
+use Rattle.std.specs.Coded.{Coded, code_by, coded×, coded_ℕ, coded_list, coded_option}
+use Rattle.std.proofs.Common.{ap, ◌∙◌, sym, arith, append_assoc}
+use Rattle.std.proofs.lemmas.List.{append-nil}
+use denote.Param.Weighed.{most}
+use Rattle.dx_schema.specs.declared.sets.KeyDecl.{KeyDecl}
+use Rattle.dx_schema.specs.declared.sets.RefDecl.{RefDecl}
+
+-- a set without its inner sets
+pub record Label : Type 0 where
+  pub name : List ℕ
+  pub columns : List (List ℕ)
+  pub keys : List KeyDecl
+  pub refs : List RefDecl
+
+-- the sets of one level in order, each with its inner sets
+pub data Forest : Type 0 where
+  none : Forest
+  set : Label → Forest → Forest → Forest
+
+-- ---- codes
+
+abbrev pub texts_code : Coded (List (List ℕ))
+texts_code = coded_list (coded_list coded_ℕ)
+
+abbrev pub key_code : Coded KeyDecl
+key_code = code_by (List (List ℕ)) texts_code (λ k. k.columns) (λ p. record { columns = p }) (λ _. refl)
+
+abbrev pub ref_code : Coded RefDecl
+ref_code = code_by (List (List ℕ) × (List ℕ × List (List ℕ))) (coded× texts_code (coded× (coded_list coded_ℕ) texts_code)) (λ r. (r.columns, (r.set, r.referred))) (λ p. record { columns = p.0; set = p.1.0; referred = p.1.1 }) (λ _. refl)
+
+abbrev pub label_code : Coded Label
+label_code = code_by ((List ℕ × List (List ℕ)) × (List KeyDecl × List RefDecl)) (coded× (coded× (coded_list coded_ℕ) texts_code) (coded× (coded_list key_code) (coded_list ref_code)))
+    (λ l. ((l.name, l.columns), (l.keys, l.refs))) (λ p. record { name = p.0.0; columns = p.0.1; keys = p.1.0; refs = p.1.1 }) (λ _. refl)
+
+-- a forest as a list: each set, then its inner sets, then the sets behind it; `None` where a level ends
+abbrev pub listed : Forest → List (Option Label)
+listed none = None ∷ []
+listed (set l inner rest) = Some l ∷ (listed inner ++ listed rest)
+
+abbrev pub joined : Label → List Forest → List Forest
+joined l [] = []
+joined l (i ∷ []) = []
+joined l (i ∷ r ∷ stack) = set l i r ∷ stack
+
+-- the forests that a list gives, from its end
+abbrev pub stacked : List (Option Label) → List Forest
+stacked [] = []
+stacked (None ∷ rest) = none ∷ stacked rest
+stacked (Some l ∷ rest) = joined l (stacked rest)
+
+stacked-listed : (f : Forest) (rest : List (Option Label)) → stacked (listed f ++ rest) ≡ f ∷ stacked rest
+stacked-listed none rest = refl
+stacked-listed (set l i r) rest =
+    let e : stacked ((listed i ++ listed r) ++ rest) ≡ i ∷ r ∷ stacked rest = ap stacked (append_assoc (listed i) (listed r) rest) ∙ stacked-listed i (listed r ++ rest) ∙ ap (λ fs. i ∷ fs) (stacked-listed r rest) in
+    ap (joined l) e
+
+abbrev pub first_of_forests : List Forest → Forest
+first_of_forests [] = none
+first_of_forests (f ∷ fs) = f
+
+pub forest_back : (f : Forest) → first_of_forests (stacked (listed f)) ≡ f
+forest_back f = ap (λ xs. first_of_forests (stacked xs)) (sym (append-nil (listed f))) ∙ ap first_of_forests (stacked-listed f [])
+
+abbrev pub forest_code : Coded Forest
+forest_code = code_by (List (Option Label)) (coded_list (coded_option label_code)) listed (λ xs. first_of_forests (stacked xs)) forest_back
+
+-- ---- views
+
+-- a set with its inner sets
+pub record Tree : Type 0 where
+  pub label : Label
+  pub inner : Forest
+
+abbrev pub tree_code : Coded Tree
+tree_code = code_by (Label × Forest) (coded× label_code forest_code) (λ t. (t.label, t.inner)) (λ p. record { label = p.0; inner = p.1 }) (λ _. refl)
+
+abbrev pub forest_of : List Tree → Forest
+forest_of [] = none
+forest_of (t ∷ ts) = set t.label t.inner (forest_of ts)
+
+abbrev pub forest_size : Forest → ℕ
+forest_size none = 0
+forest_size (set l i r) = forest_size i + 2 + forest_size r
+
+abbrev pub tree_size : Tree → ℕ
+tree_size t = forest_size t.inner + 1
+
+pub most_le-forest_size : (ts : List Tree) → most (λ t. tree_size t + 1) ts ≤ forest_size (forest_of ts)
+most_le-forest_size [] = omega arith
+most_le-forest_size (t ∷ ts) = omega (arith, most_le-forest_size ts)
+
+-- the sets of one level, then others
+abbrev pub followed_by : Forest → Forest → Forest
+followed_by none g = g
+followed_by (set l inner rest) g = set l inner (followed_by rest g)
+
+-- whether there is a set at all
+abbrev pub has_sets : Forest → Bool
+has_sets none = false
+has_sets (set l inner rest) = true

@@ -1,0 +1,7 @@
+pub mod Forest
+pub mod Tables
+pub mod Flat
+pub mod Faults
+pub mod Links
+pub mod Nodes
+pub mod Marks

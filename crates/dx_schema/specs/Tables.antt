@@ -1,0 +1,157 @@
+-- The tables of a schema.
+use Rattle.std.specs.Prelude.{◌≡◌, ℕ, suc, ◌+◌, ◌<◌, ◌≤◌, List, [], ◌∷◌, ◌++◌, Option, Some, None, length, map, cond, nat_eq, codes, slice_index_or}
+use Rattle.std.specs.Cmp.Lexicographic.{pointwise}
+use Rattle.dx_ports.specs.Members.{Distinct, Each, ◌∈◌}
+use Rattle.dx_model.specs.declared.tables.Key.{Key}
+use Rattle.dx_model.specs.declared.tables.Link.{Link}
+use Rattle.dx_model.specs.Tables.{AreWithin, key_of}
+use Rattle.dx_model.specs.Tables.{Table as Numbers}
+use Rattle.dx_schema.specs.declared.sets.KeyDecl.{KeyDecl}
+use Rattle.dx_schema.specs.declared.sets.RefDecl.{RefDecl}
+use Rattle.dx_schema.specs.declared.tables.Table.{Table}
+use Rattle.dx_schema.specs.Forest.{Label, Forest, none, set}
+
+-- a text, by its bytes
+abbrev pub Text : Type 0
+Text = List ℕ
+
+-- a table, as the code has it
+abbrev pub TableOf : Type 0
+TableOf = Table
+
+-- ---- sets in preorder
+
+-- a set, its number, the number of the set that it is an inner set of, and its inner sets
+pub record Placed : Type 0 where
+  pub label : Label
+  pub number : ℕ
+  pub parent : Option ℕ
+  pub inner : Forest
+
+-- how many sets a forest has, at all depths
+abbrev pub count : Forest → ℕ
+count none = 0
+count (set l inner rest) = suc (count inner + count rest)
+
+-- the sets in preorder, of which the first has number n; those of the top level have this parent
+abbrev pub placed : Option ℕ → ℕ → Forest → List Placed
+placed parent n none = []
+placed parent n (set l inner rest) =
+    record { label = l; number = n; parent = parent; inner = inner }
+    ∷ (placed (Some n) (suc n) inner ++ placed parent (suc (n + count inner)) rest)
+
+-- the sets of a schema in preorder, numbered from 0
+abbrev pub sets_of : Forest → List Placed
+sets_of f = placed None 0 f
+
+-- the numbers of the sets of one level, of which the first has number n
+abbrev pub numbers_in : ℕ → Forest → List ℕ
+numbers_in n none = []
+numbers_in n (set l inner rest) = n ∷ numbers_in (suc (n + count inner)) rest
+
+-- ---- columns
+
+-- a name in front where a set has inner sets
+abbrev pub where_has_inner : {X : Type 0} → Forest → X → List X
+where_has_inner none x = []
+where_has_inner (set l inner rest) x = x ∷ []
+
+-- a name in front where a set is an inner set
+abbrev pub where_inner : {X : Type 0} → Option ℕ → X → List X
+where_inner None x = []
+where_inner (Some p) x = x ∷ []
+
+-- the columns of a set's table: `#id` where it has inner sets, `#up` where it is an inner set, then its own
+abbrev pub columns_of : Placed → List Text
+columns_of s = where_has_inner s.inner (codes "#id") ++ (where_inner s.parent (codes "#up") ++ s.label.columns)
+
+-- the number of the first of the names that is x, or how many names there are
+abbrev pub number_of : Text → List Text → ℕ
+number_of x [] = 0
+number_of x (y ∷ ys) = cond (pointwise nat_eq y x) 0 (suc (number_of x ys))
+
+-- the numbers of names
+abbrev pub numbers_of : List Text → List Text → List ℕ
+numbers_of names columns = map (λ x. number_of x columns) names
+
+-- ---- keys and links
+
+-- a key by the names of its columns
+abbrev pub key_named : Placed → List Text → Key
+key_named s names = record { columns = numbers_of names (columns_of s) }
+
+-- the keys of a set's table: `#id` where it has that column, then each declared key, of an inner set with `#up` in front
+abbrev pub keys_in : Placed → List Key
+keys_in s =
+    map (key_named s) (where_has_inner s.inner (codes "#id" ∷ []) ++ map (λ (k : KeyDecl). where_inner s.parent (codes "#up") ++ k.columns) s.label.keys)
+
+-- the names of sets
+abbrev pub names_of : List Placed → List Text
+names_of sets = map (λ s. s.label.name) sets
+
+-- the columns of the set with a number
+abbrev pub columns_at : List Placed → ℕ → List Text
+columns_at sets t = slice_index_or (map columns_of sets) t []
+
+-- the link of a ref
+abbrev pub link_of : List Placed → Placed → RefDecl → Link
+link_of sets s r =
+    let t = number_of r.set (names_of sets) in
+    record { from = numbers_of r.columns (columns_of s); table = t; to = numbers_of r.referred (columns_at sets t) }
+
+-- the link of an inner set to the set that it is in
+abbrev pub link_up : List Placed → Placed → Option ℕ → List Link
+link_up sets s None = []
+link_up sets s (Some p) =
+    record { from = numbers_of (codes "#up" ∷ []) (columns_of s); table = p; to = numbers_of (codes "#id" ∷ []) (columns_at sets p) } ∷ []
+
+-- the links of a set's table: that of `#up` to `#id` where it has that column, then each ref
+abbrev pub links_in : List Placed → Placed → List Link
+links_in sets s = link_up sets s s.parent ++ map (link_of sets s) s.label.refs
+
+-- ---- tables
+
+-- a set as a table, among the sets of its schema
+abbrev pub table_in : List Placed → Placed → TableOf
+table_in sets s = record { name = s.label.name; columns = columns_of s; keys = keys_in s; links = links_in sets s; parent = s.parent; inner = numbers_in (suc s.number) s.inner }
+
+-- the tables of a schema: its sets in preorder
+abbrev pub tables_of : Forest → List TableOf
+tables_of f = map (table_in (sets_of f)) (sets_of f)
+
+-- the table with a number
+abbrev pub table_at : Forest → ℕ → TableOf
+table_at f t = slice_index_or (tables_of f) t (record { name = []; columns = []; keys = []; links = []; parent = None; inner = [] })
+
+-- a table as numbers: its width, what its keys determine, and its links
+abbrev pub as_numbers : TableOf → Numbers
+as_numbers t = record { width = length t.columns; determinations = map (λ (k : Key). key_of (length t.columns) k.columns) t.keys; links = t.links }
+
+-- the tables of a schema as numbers
+abbrev pub model_tables : Forest → List Numbers
+model_tables f = map as_numbers (tables_of f)
+
+-- ---- what holds of each schema
+
+-- a link goes from distinct columns of its table to as many distinct columns of a table
+pub record IsLink (tables : List TableOf) (width : ℕ) (link : Link) : Type 0 where
+  pub table : link.table < length tables
+  pub same_length : length link.from ≡ length link.to
+  pub from : AreWithin link.from width
+  pub to : AreWithin link.to (length (slice_index_or (map (λ (t : TableOf). t.columns) tables) link.table []))
+  pub from_distinct : Distinct link.from
+  pub to_distinct : Distinct link.to
+
+-- what holds of a table among those of its schema
+pub record IsTable (tables : List TableOf) (t : TableOf) : Type 0 where
+  pub some_column : 1 ≤ length t.columns
+  pub few_columns : length t.columns ≤ 64
+  pub distinct_columns : Distinct t.columns
+  pub keys : Each t.keys (λ k. AreWithin k.columns (length t.columns) × Distinct k.columns)
+  pub links : Each t.links (IsLink tables (length t.columns))
+
+-- what holds of the tables of each schema
+pub record AreTables (tables : List TableOf) : Type 0 where
+  pub few_tables : length tables ≤ 64
+  pub distinct_names : Distinct (map (λ (t : TableOf). t.name) tables)
+  pub each_table : Each tables (IsTable tables)

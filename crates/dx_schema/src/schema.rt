@@ -1,0 +1,191 @@
+// A schema: sets, and the tables that they make.
+ghost use Rattle.std.specs.Prelude.{◌≡◌, ◌<◌, ◌≤◌, ◌↔◌, ◌⊎◌, [], length, map, IfOk, IfErr, OnOk, IfSome, IsSome, IsTrue, slice_index_or};
+ghost use Rattle.dx_ports.specs.Members.{◌∈◌};
+ghost use Rattle.dx_model.specs.Tables.{IsSchema};
+ghost use Rattle.dx_schema.specs.Forest.{forest_of};
+ghost use Rattle.dx_schema.specs.Tables.{tables_of, table_at, model_tables, number_of, AreTables};
+ghost use Rattle.dx_schema.specs.Flat.{IsFlat};
+ghost use Rattle.dx_schema.specs.Links.{IsAcyclic, IsFaultless, IsFirstFault};
+ghost use Rattle.dx_schema.specs.declared.fault.SchemaFault.TheVariants.{Memory};
+
+use crate::build::checked_tables;
+use crate::fault::SchemaFault;
+use crate::sets::{SetTree, Trees};
+use crate::tables::Table;
+use dx_model::{Key, Link};
+use dx_ports::Text;
+use std::alloc::Global;
+use std::marker::Model;
+
+/// A schema. A contract sees it as the forest of its sets.
+#[derive(Drop)]
+pub struct Schema {
+    trees: Trees,
+    tables: Vec<Table>,
+}
+
+impl Model for Schema {
+    ghost use Rattle.std.specs.Prelude.{◌≡◌};
+    ghost use Rattle.dx_schema.specs.Forest.{Forest, forest_code};
+    ghost use Rattle.dx_schema.specs.Tables.{tables_of};
+    ghost use Rattle.dx_schema.specs.Links.{IsFaultless};
+
+    ghost Value = { Forest };
+
+    ghost coded = { forest_code };
+
+    ghost view = { λ s. s.trees };
+
+    ghost invariant = { λ s. (s.tables.items ≡ tables_of s.trees) × IsFaultless s.trees };
+}
+
+// The number of a name. None where it isn't there.
+fn number_in(names: &[Text], name: &Text) -> Option<u32>
+    requires { length names.now ≤ 64 }
+    ensures some { IfSome result (λ n. (n < length names.now) × (slice_index_or names.now n [] ≡ name.now)) }
+    ensures none { IsSome result ↔ (name.now ∈ names.now) }
+{
+    for (number, other) in names.iter().enumerate() {
+        if other.is(name) {
+            return Some(number as u32);
+        }
+    }
+    None
+}
+
+impl Schema {
+    /// The schema of sets. Refused is the first fault of this order, but for want of memory, which may come at any point.
+    ///
+    /// 1. More than 64 sets; a set more than 16 levels deep.
+    /// 2. Set by set, an inner set behind its outer one: its name is that of an earlier set; it has no column; its table
+    ///    has more than 64 columns; a name stands twice among `#id`, `#up`, its columns and its inner sets.
+    /// 3. Set by set, each key and then each ref: a list is empty; a column isn't one of the set, or stands twice; the
+    ///    set that is referred to isn't there; a referred column isn't one of that set, or stands twice; the two lists
+    ///    have different length.
+    /// 4. Links lead from a set back to it.
+    pub fn build(alloc: Global, trees: Vec<SetTree>) -> Result<Schema, SchemaFault>
+        ensures ok { IfOk result (λ s. s ≡ forest_of trees.items) }
+        ensures faultless { OnOk result (IsFaultless (forest_of trees.items)) }
+        ensures fault { IfErr result (λ e. (e ≡ Memory) ⊎ IsFirstFault (forest_of trees.items) e) }
+        ensures flat { IsFlat (forest_of trees.items) → IfErr result (λ e. e ≡ Memory) }
+    {
+        let trees = Trees::from_vec(trees);
+        let tables = checked_tables(alloc, &trees)?;
+        Ok(Schema { trees, tables })
+    }
+
+    /// How many tables there are.
+    pub fn tables(&self) -> u32
+        ensures count { result ≡ length (tables_of self.now) }
+        ensures facts { AreTables (tables_of self.now) }
+        ensures schema { IsSchema (model_tables self.now) }
+        ensures acyclic { IsAcyclic (model_tables self.now) }
+    {
+        self.tables.len() as u32
+    }
+
+    /// The name of a table.
+    pub fn name(&self, table: u32) -> &Text
+        requires { table < length (tables_of self.now) }
+        ensures { result.now ≡ (table_at self.now table).name }
+    {
+        &self.tables[table as usize].name
+    }
+
+    /// How many columns a table has.
+    pub fn width(&self, table: u32) -> u32
+        requires { table < length (tables_of self.now) }
+        ensures number { result ≡ length (table_at self.now table).columns }
+        ensures some { 1 ≤ result }
+        ensures few { result ≤ 64 }
+    {
+        self.tables[table as usize].columns.len() as u32
+    }
+
+    /// The names of a table's columns.
+    pub fn columns(&self, table: u32) -> &[Text]
+        requires { table < length (tables_of self.now) }
+        ensures names { result.now ≡ (table_at self.now table).columns }
+        ensures few { length result.now ≤ 64 }
+    {
+        self.tables[table as usize].columns.items()
+    }
+
+    /// The name of a column.
+    pub fn column_name(&self, table: u32, column: u32) -> &Text
+        requires table { table < length (tables_of self.now) }
+        requires column { column < length (table_at self.now table).columns }
+        ensures { result.now ≡ slice_index_or (table_at self.now table).columns column [] }
+    {
+        &self.columns(table)[column as usize]
+    }
+
+    /// The table of this name. None where there is none.
+    pub fn table_named(&self, name: &Text) -> Option<u32>
+        ensures some { IfSome result (λ t. (t < length (tables_of self.now)) × ((table_at self.now t).name ≡ name.now)) }
+        ensures none { IsSome result ↔ (name.now ∈ map (λ t. t.name) (tables_of self.now)) }
+    {
+        for (number, table) in self.tables.iter().enumerate() {
+            if table.name.is(name) {
+                return Some(number as u32);
+            }
+        }
+        None
+    }
+
+    /// The column of this name. None where there is none.
+    pub fn column_named(&self, table: u32, name: &Text) -> Option<u32>
+        requires { table < length (tables_of self.now) }
+        ensures some { IfSome result (λ c. (c < length (table_at self.now table).columns) × (slice_index_or (table_at self.now table).columns c [] ≡ name.now)) }
+        ensures none { IsSome result ↔ (name.now ∈ (table_at self.now table).columns) }
+    {
+        number_in(self.columns(table), name)
+    }
+
+    /// The keys of a table.
+    pub fn keys_of(&self, table: u32) -> &[Key]
+        requires { table < length (tables_of self.now) }
+        ensures { result.now ≡ (table_at self.now table).keys }
+    {
+        self.tables[table as usize].keys.items()
+    }
+
+    /// The links of a table.
+    pub fn links_of(&self, table: u32) -> &[Link]
+        requires { table < length (tables_of self.now) }
+        ensures { result.now ≡ (table_at self.now table).links }
+    {
+        self.tables[table as usize].links.items()
+    }
+
+    /// The table of the set that a table's set is an inner set of. None for a set of the top level.
+    pub fn parent(&self, table: u32) -> Option<u32>
+        requires { table < length (tables_of self.now) }
+        ensures { result ≡ (table_at self.now table).parent }
+    {
+        self.tables[table as usize].parent
+    }
+
+    /// The tables of a set's inner sets, in order.
+    pub fn inner(&self, table: u32) -> &[u32]
+        requires { table < length (tables_of self.now) }
+        ensures { result.now ≡ (table_at self.now table).inner }
+    {
+        self.tables[table as usize].inner.items()
+    }
+
+    /// Whether a table has the column `#id`, which is where its set has inner sets.
+    pub fn has_id(&self, table: u32) -> bool
+        requires { table < length (tables_of self.now) }
+        ensures { IsTrue result ↔ (0 < length (table_at self.now table).inner) }
+    {
+        !self.inner(table).is_empty()
+    }
+
+    /// The sets that the schema was built of.
+    pub fn trees(&self) -> &[SetTree]
+        ensures { forest_of result.now ≡ self.now }
+    {
+        self.trees.items()
+    }
+}

@@ -1,0 +1,125 @@
+// Sets as they are declared, each with its inner sets.
+ghost use Rattle.std.specs.Prelude.{◌≡◌, [], OnOk, OnErr, not};
+ghost use Rattle.dx_schema.specs.Forest.{forest_of, followed_by, has_sets, none, set};
+
+use dx_ports::{Items, Text};
+use std::alloc::{AllocError, Global};
+use std::marker::Model;
+
+/// Columns of a set on which no two of its rows agree.
+#[derive(Debug, Drop)]
+pub struct KeyDecl {
+    pub columns: Items<Text>,
+}
+
+/// Columns of a set that refer to columns of a set.
+#[derive(Debug, Drop)]
+pub struct RefDecl {
+    pub columns: Items<Text>,
+    pub set: Text,
+    pub referred: Items<Text>,
+}
+
+/// A set with its inner sets. A contract sees it as its label, which is all but the inner sets, and these.
+#[cycle(trees)]
+#[derive(Drop)]
+pub struct SetTree {
+    pub name: Text,
+    pub columns: Items<Text>,
+    pub keys: Items<KeyDecl>,
+    pub refs: Items<RefDecl>,
+    pub inner: Trees,
+}
+
+/// A list of sets. A contract sees it as a forest.
+#[cycle(trees)]
+#[derive(Drop)]
+pub struct Trees {
+    items: Vec<SetTree>,
+}
+
+impl Model for SetTree {
+    ghost use Rattle.std.proofs.Common.{arith};
+    ghost use Rattle.dx_schema.specs.Forest.{Tree, tree_code, tree_size};
+
+    ghost Value = { Tree };
+
+    ghost coded = { tree_code };
+
+    ghost view = { λ a. record { label = record { name = a.name; columns = a.columns; keys = a.keys; refs = a.refs }; inner = a.inner } };
+
+    ghost size = { tree_size };
+
+    ghost size_decreases = { λ a h. Prim.omega arith };
+}
+
+impl Model for Trees {
+    ghost use Rattle.std.proofs.Common.{arith};
+    ghost use Rattle.dx_schema.specs.Forest.{Forest, forest_code, forest_of, forest_size, most_le-forest_size};
+
+    ghost Value = { Forest };
+
+    ghost coded = { forest_code };
+
+    ghost view = { λ a. forest_of a.items.items };
+
+    ghost size = { forest_size };
+
+    ghost size_decreases = { λ a h. Prim.omega (arith, most_le-forest_size a.items.items) };
+}
+
+impl SetTree {
+    /// A set with these columns, without keys, refs and inner sets. It takes no memory.
+    pub fn flat(alloc: Global, name: Text, columns: Items<Text>) -> SetTree
+        ensures { result ≡ record { label = record { name = name; columns = columns; keys = []; refs = [] }; inner = none } }
+    {
+        SetTree {
+            name,
+            columns,
+            keys: Items::new(alloc),
+            refs: Items::new(alloc),
+            inner: Trees::new(alloc),
+        }
+    }
+}
+
+impl Trees {
+    /// No sets. It takes no memory.
+    pub fn new(alloc: Global) -> Trees
+        ensures { result ≡ none }
+    {
+        Trees {
+            items: Vec::new(alloc),
+        }
+    }
+
+    /// Takes a `Vec` over, with no memory.
+    pub fn from_vec(items: Vec<SetTree>) -> Trees
+        ensures { result ≡ forest_of items.items }
+    {
+        Trees { items }
+    }
+
+    /// One set more. Where there is no memory for it, the list stays as it was and the set is dropped.
+    pub fn push(&mut self, tree: SetTree) -> Result<(), AllocError>
+        ensures ok { OnOk result (self.new ≡ followed_by self.old (set tree.label tree.inner none)) }
+        ensures err { OnErr result (self.new ≡ self.old) }
+    {
+        self.items.push(tree)?;
+        Ok(())
+    }
+
+    /// Whether there is no set.
+    pub fn is_empty(&self) -> bool
+        ensures { result ≡ not (has_sets self.now) }
+    {
+        self.items.as_slice().is_empty()
+    }
+
+    /// The sets, lent.
+    pub fn items(&self) -> &[SetTree]
+        ensures { forest_of result.now ≡ self.now }
+    {
+        self.items.as_slice()
+    }
+}

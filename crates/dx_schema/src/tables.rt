@@ -1,0 +1,183 @@
+// Sets as tables.
+ghost use Rattle.std.specs.Prelude.{◌≡◌, ◌<◌, ◌≤◌, ◌+◌, ◌++◌, [], ◌∷◌, length, map, codes, IfOk, slice_index_or};
+ghost use Rattle.dx_ports.specs.Members.{Each};
+ghost use Rattle.dx_schema.specs.Tables.{columns_of, count, names_of, numbers_of, where_inner, where_has_inner, key_named, keys_in, links_in, table_in};
+ghost use Rattle.dx_schema.specs.Nodes.{seen};
+
+use crate::checks::columns_made;
+use crate::names::{copies, number_among, numbers_among};
+use crate::nodes::{Node, numbers_made};
+use crate::sets::KeyDecl;
+use dx_model::{Key, Link};
+use dx_ports::{Items, Text};
+use std::alloc::{AllocError, Global};
+
+/// A table: a name, the names of its columns, and its keys and links by the numbers of columns and tables.
+#[derive(Debug, Drop)]
+pub struct Table {
+    pub name: Text,
+    pub columns: Items<Text>,
+    pub keys: Items<Key>,
+    pub links: Items<Link>,
+    /// The table of the set that the set is an inner set of.
+    pub parent: Option<u32>,
+    /// The tables of the set's inner sets, in order.
+    pub inner: Items<u32>,
+}
+
+// The number of one name, as a list.
+fn number_alone(alloc: Global, all: &[Text], name: &str) -> Result<Items<u32>, AllocError>
+    requires { length all.now ≤ 64 }
+    ensures { IfOk result (λ ns. ns ≡ numbers_of (name.now ∷ []) all.now) }
+{
+    let mut out = Items::new(alloc);
+    out.push(number_among(all, &Text::from_str(alloc, name)?))?;
+    Ok(out)
+}
+
+// The names of a key's columns, of an inner set with `#up` in front.
+fn key_names(alloc: Global, node: &Node, key: &KeyDecl) -> Result<Items<Text>, AllocError>
+    ensures { IfOk result (λ names. names ≡ where_inner node.now.parent (codes "#up") ++ key.now.columns) }
+{
+    let mut names = Items::new(alloc);
+    if node.parent.is_some() {
+        names.push(Text::from_str(alloc, "#up")?)?;
+    }
+    for column in key.columns.items() {
+        names.push(column.copy()?)?;
+    }
+    Ok(names)
+}
+
+// The key of `#id`, where the set has inner sets.
+fn keys_begun(alloc: Global, node: &Node, own: &[Text]) -> Result<Items<Key>, AllocError>
+    requires columns { own.now ≡ columns_of (seen node.now) }
+    requires few { length own.now ≤ 64 }
+    ensures { IfOk result (λ keys. keys ≡ map (key_named (seen node.now)) (where_has_inner (seen node.now).inner (codes "#id" ∷ []))) }
+{
+    let tree = node.tree;
+    let mut keys = Items::new(alloc);
+    if !tree.inner.is_empty() {
+        let columns = number_alone(alloc, own, "#id")?;
+        keys.push(Key { columns })?;
+    }
+    Ok(keys)
+}
+
+// The keys of a set's table.
+fn keys_made(alloc: Global, node: &Node, own: &[Text]) -> Result<Items<Key>, AllocError>
+    requires columns { own.now ≡ columns_of (seen node.now) }
+    requires few { length own.now ≤ 64 }
+    ensures { IfOk result (λ keys. keys ≡ keys_in (seen node.now)) }
+{
+    let tree = node.tree;
+    let mut keys = keys_begun(alloc, node, own)?;
+    for key in tree.keys.items() {
+        let names = key_names(alloc, node, key)?;
+        let columns = numbers_among(alloc, own, names.items())?;
+        keys.push(Key { columns })?;
+    }
+    Ok(keys)
+}
+
+// The columns of the set with a number, of no set none.
+fn columns_numbered(columns: &[Items<Text>], number: u32) -> &[Text]
+    ensures { result.now ≡ slice_index_or columns.now number [] }
+{
+    match columns.get(number as usize) {
+        Some(names) => names.items(),
+        None => &[],
+    }
+}
+
+// The links of a set's table.
+fn links_made(
+    alloc: Global,
+    names: &[Text],
+    columns: &[Items<Text>],
+    sets: &[Node],
+    node: &Node,
+    own: &[Text],
+) -> Result<Items<Link>, AllocError>
+    requires names { names.now ≡ names_of (map seen sets.now) }
+    requires few_names { length names.now ≤ 64 }
+    requires columns { columns.now ≡ map columns_of (map seen sets.now) }
+    requires few { Each columns.now (λ c. length c ≤ 64) }
+    requires own { own.now ≡ columns_of (seen node.now) }
+    requires few_own { length own.now ≤ 64 }
+    ensures { IfOk result (λ links. links ≡ links_in (map seen sets.now) (seen node.now)) }
+{
+    let tree = node.tree;
+    let mut links = Items::new(alloc);
+    if let Some(table) = node.parent {
+        let from = number_alone(alloc, own, "#up")?;
+        let to = number_alone(alloc, columns_numbered(columns, table), "#id")?;
+        links.push(Link { from, table, to })?;
+    }
+    for link in tree.refs.items() {
+        let table = number_among(names, &link.set);
+        let from = numbers_among(alloc, own, link.columns.items())?;
+        let referred = columns_numbered(columns, table);
+        let to = numbers_among(alloc, referred, link.referred.items())?;
+        links.push(Link { from, table, to })?;
+    }
+    Ok(links)
+}
+
+// The table of a set.
+fn table_made(
+    alloc: Global,
+    names: &[Text],
+    columns: &[Items<Text>],
+    sets: &[Node],
+    node: &Node,
+    own: &[Text],
+) -> Result<Table, AllocError>
+    requires names { names.now ≡ names_of (map seen sets.now) }
+    requires few_names { length names.now ≤ 64 }
+    requires columns { columns.now ≡ map columns_of (map seen sets.now) }
+    requires few { Each columns.now (λ c. length c ≤ 64) }
+    requires own { own.now ≡ columns_of (seen node.now) }
+    requires few_own { length own.now ≤ 64 }
+    requires bounded { (seen node.now).number + count (seen node.now).inner < 64 }
+    ensures { IfOk result (λ table. table ≡ table_in (map seen sets.now) (seen node.now)) }
+{
+    let tree = node.tree;
+    Ok(Table {
+        name: tree.name.copy()?,
+        columns: copies(alloc, own)?,
+        keys: keys_made(alloc, node, own)?,
+        links: links_made(alloc, names, columns, sets, node, own)?,
+        parent: node.parent,
+        inner: numbers_made(alloc, node.number + 1, &tree.inner)?,
+    })
+}
+
+// The columns of each set's table.
+fn all_columns(alloc: Global, sets: &[Node]) -> Result<Items<Items<Text>>, AllocError>
+    ensures { IfOk result (λ columns. columns ≡ map columns_of (map seen sets.now)) }
+{
+    let mut columns = Items::new(alloc);
+    for node in sets {
+        columns.push(columns_made(alloc, node)?)?;
+    }
+    Ok(columns)
+}
+
+/// The tables of sets, in order.
+pub fn tables_made(alloc: Global, names: &[Text], sets: &[Node]) -> Result<Vec<Table>, AllocError>
+    requires names { names.now ≡ names_of (map seen sets.now) }
+    requires few_names { length names.now ≤ 64 }
+    requires few { Each (map columns_of (map seen sets.now)) (λ c. length c ≤ 64) }
+    requires bounded { Each (map seen sets.now) (λ s. s.number + count s.inner < 64) }
+    ensures { IfOk result (λ tables. tables.items ≡ map (table_in (map seen sets.now)) (map seen sets.now)) }
+{
+    let columns = all_columns(alloc, sets)?;
+    let mut tables = Vec::new(alloc);
+    for (i, node) in sets.iter().enumerate() {
+        let own = columns.items()[i].items();
+        let table = table_made(alloc, names, columns.items(), sets, node, own)?;
+        tables.push(table)?;
+    }
+    Ok(tables)
+}

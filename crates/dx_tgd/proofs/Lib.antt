@@ -1,0 +1,9 @@
+pub mod Sorting
+pub mod Numbers
+pub mod Cells
+pub mod Saying
+pub mod Tables
+pub mod Matched
+pub mod CanonicalFacts
+pub mod Gaining
+pub mod Starting

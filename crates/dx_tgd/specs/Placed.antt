@@ -1,0 +1,46 @@
+-- Rules, places and nulls that are there.
+use Rattle.std.specs.Prelude.{◌≡◌, ◌<◌, ◌≤◌, ℕ, List, [], ◌∷◌, length, Some, slice_get, slice_index_or}
+use Rattle.dx_model.specs.declared.values.NullId.{NullId}
+use Rattle.dx_model.specs.declared.values.Value.{Value}
+use Rattle.dx_model.specs.declared.values.Value.TheVariants.{Null}
+use Rattle.dx_model.specs.declared.facts.Fact.{Fact}
+use Rattle.dx_model.specs.declared.rules.Atom.{Atom}
+use Rattle.dx_model.specs.declared.rules.Rule.{Rule}
+use Rattle.dx_ports.specs.Members.{◌∈◌, Each}
+use Rattle.dx_model.specs.Values.{Tuple, Rows}
+use Rattle.dx_model.specs.Rules.{canonical, cells_of, exported}
+
+-- the null of an existential variable, at a place of a rule
+abbrev pub null_at : ℕ → ℕ → ℕ → Value
+null_at rule place v = Null (record { rule = rule; var = v; row = place })
+
+-- the atom is of a table with as many columns as it has cells
+abbrev pub AtomIsWide : List ℕ → Atom → Type 0
+AtomIsWide widths a = slice_get widths a.table ≡ Some (length a.cells)
+
+-- the atoms of the conclusion are of tables with as many columns as they have cells
+abbrev pub FitsWidths : List ℕ → Rule → Type 0
+FitsWidths widths d = Each d.conclusion (AtomIsWide widths)
+
+-- the conclusion has a cell
+abbrev pub HasCell : Rule → Type 0
+HasCell d = 1 ≤ length (cells_of d.conclusion)
+
+-- each tuple has as many texts
+abbrev pub AreLong : ℕ → List Tuple → Type 0
+AreLong n ts = Each ts (λ (t : Tuple). length t ≡ n)
+
+-- each tuple has a text for each exported variable of its rule
+abbrev pub FitTuples : List Rule → Rows → Type 0
+FitTuples [] rows = Unit {0}
+FitTuples (d ∷ R) [] = Unit {0}
+FitTuples (d ∷ R) (ts ∷ rows) = AreLong (length (exported d)) ts × FitTuples R rows
+
+-- the null names a rule, and a place of this rule
+pub record HasPlace (R : List Rule) (rows : Rows) (n : NullId) : Type 0 where
+  pub rule : n.rule < length R
+  pub place : n.row < length (slice_index_or rows n.rule [])
+
+-- each null of the canonical instance names a rule and a place that are there
+abbrev pub NullsHavePlaces : Type 0
+NullsHavePlaces = (R : List Rule) (rows : Rows) (f : Fact) (n : NullId) → f ∈ canonical 0 R rows → Null n ∈ f.row → HasPlace R rows n
