@@ -14,3 +14,4 @@ pub mod SourceSteps
 pub mod PlanFacts
 pub mod OneAscending
 pub mod CauseFacts
+pub mod FlatExamples

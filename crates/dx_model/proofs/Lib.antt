@@ -4,3 +4,4 @@ pub mod Universal
 pub mod Closed
 pub mod CanonicalUniversal
 pub mod Orders
+pub mod Examples
