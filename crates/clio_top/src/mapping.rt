@@ -9,7 +9,7 @@ use crate::ending::MapFault;
 use crate::flat;
 use dx_model::Rule;
 use dx_ports::{Items, Limit};
-use dx_schema::{Schema, SetTree};
+use dx_schema::{Schema, SetTree, Trees};
 use dx_schema_text::{FlatSet, FlatText, read_first_form};
 use std::alloc::{AllocError, AllocFailed, Global};
 use thiserror::Error;
@@ -57,7 +57,7 @@ fn schema_of(alloc: Global, set: FlatSet) -> Result<Schema, AllocError>
     requires { IsFlat (one_set set) }
     ensures { IfOk result (λ s. s ≡ one_set set) }
 {
-    let mut trees = Vec::new(alloc);
+    let mut trees = Trees::new(alloc);
     trees.push(SetTree::flat(alloc, set.name, set.columns))?;
     match Schema::build(alloc, trees) {
         Ok(schema) => Ok(schema),

@@ -9,3 +9,4 @@ pub mod Plain
 pub mod Steps
 pub mod Examples
 pub mod Levels
+pub mod Inner

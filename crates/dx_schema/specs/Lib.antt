@@ -1,5 +1,6 @@
 pub mod Forest
 pub mod Tables
+pub mod Inner
 pub mod Flat
 pub mod Faults
 pub mod Links

@@ -1,13 +1,13 @@
 // What is wrong with sets, but for links that lead back.
-ghost use Rattle.std.specs.Prelude.{◌≡◌, ◌<◌, ◌≤◌, [], length, map, IfOk};
+ghost use Rattle.std.specs.Prelude.{◌≡◌, ◌<◌, ◌≤◌, ◌++◌, [], length, map, IfOk, OnOk};
 ghost use Rattle.dx_schema.specs.Tables.{columns_of, names_of};
-ghost use Rattle.dx_schema.specs.Faults.{names_within, set_fault, sets_fault, key_fault, ref_fault, rules_fault, first_of, declared_at};
+ghost use Rattle.dx_schema.specs.Faults.{names_in, names_within, set_fault, sets_fault, key_fault, ref_fault, rules_fault, first_of, declared_at};
 ghost use Rattle.dx_schema.specs.Nodes.{seen};
 
 use crate::fault::{SchemaFault, SchemaKind};
 use crate::names::{columns_checked, copies, has_name, number_among, twice_among};
 use crate::nodes::Node;
-use crate::sets::{KeyDecl, RefDecl, SetTree};
+use crate::sets::{KeyDecl, RefDecl, SetTree, Trees};
 use dx_ports::{Count, Items, Limit, Text};
 use std::alloc::{AllocError, Global};
 
@@ -41,6 +41,16 @@ pub fn columns_made(alloc: Global, node: &Node) -> Result<Items<Text>, AllocErro
     Ok(columns)
 }
 
+// Appends the names of the sets of one level.
+fn push_names(trees: &Trees, names: &mut Items<Text>) -> Result<(), AllocError>
+    ensures { OnOk result (names.new ≡ names.old ++ names_in trees.now) }
+{
+    for tree in trees.items() {
+        names.push(tree.name.copy()?)?;
+    }
+    Ok(())
+}
+
 // The names that have to differ in a set.
 fn names_within_made(alloc: Global, node: &Node) -> Result<Items<Text>, AllocError>
     ensures { IfOk result (λ names. names ≡ names_within (seen node.now)) }
@@ -49,12 +59,10 @@ fn names_within_made(alloc: Global, node: &Node) -> Result<Items<Text>, AllocErr
     let mut names = Items::new(alloc);
     names.push(Text::from_str(alloc, "#id")?)?;
     names.push(Text::from_str(alloc, "#up")?)?;
-    'columns: for column in tree.columns.items() {
+    for column in tree.columns.items() {
         names.push(column.copy()?)?;
     }
-    'inner: for inner in tree.inner.items() {
-        names.push(inner.name.copy()?)?;
-    }
+    push_names(&tree.inner, &mut names)?;
     Ok(names)
 }
 

@@ -1,7 +1,13 @@
-// The law of links. The definitions alone carry it: the body computes nothing.
+// The laws of links and of inner tables. The definitions alone carry them: the bodies compute nothing.
 ghost use Rattle.dx_schema.specs.Links.{LinksEnd};
+ghost use Rattle.dx_schema.specs.Inner.{InnerTables};
 
 /// Fewer links than there are tables can be gone along one after another, where none lead back.
 pub fn links_end()
     ensures { LinksEnd }
+{}
+
+/// The inner tables of a table are those that have it as their parent, ascending and behind it.
+pub fn inner_tables()
+    ensures { InnerTables }
 {}

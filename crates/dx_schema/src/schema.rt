@@ -63,13 +63,12 @@ impl Schema {
     ///    set that is referred to isn't there; a referred column isn't one of that set, or stands twice; the two lists
     ///    have different length.
     /// 4. Links lead from a set back to it.
-    pub fn build(alloc: Global, trees: Vec<SetTree>) -> Result<Schema, SchemaFault>
-        ensures ok { IfOk result (λ s. s ≡ forest_of trees.items) }
-        ensures faultless { OnOk result (IsFaultless (forest_of trees.items)) }
-        ensures fault { IfErr result (λ e. (e ≡ Memory) ⊎ IsFirstFault (forest_of trees.items) e) }
-        ensures flat { IsFlat (forest_of trees.items) → IfErr result (λ e. e ≡ Memory) }
+    pub fn build(alloc: Global, trees: Trees) -> Result<Schema, SchemaFault>
+        ensures ok { IfOk result (λ s. s ≡ trees) }
+        ensures faultless { OnOk result (IsFaultless trees) }
+        ensures fault { IfErr result (λ e. (e ≡ Memory) ⊎ IsFirstFault trees e) }
+        ensures flat { IsFlat trees → IfErr result (λ e. e ≡ Memory) }
     {
-        let trees = Trees::from_vec(trees);
         let tables = checked_tables(alloc, &trees)?;
         Ok(Schema { trees, tables })
     }
