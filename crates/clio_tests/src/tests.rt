@@ -4,6 +4,8 @@ mod examples;
 mod faults;
 mod limits;
 mod refusals;
+mod schema_faults;
+mod schemas;
 
 use clio_top::{Ending, message, run};
 use dx_ports::{File, MemInputs, MemOutputs, Text};
