@@ -1,10 +1,10 @@
 -- The inner tables of a table are those that have it as their parent.
-use Rattle.std.proofs.Common.{◌≡◌, ℕ, zero, suc, ◌+◌, ◌-◌, ◌<◌, ◌≤◌, List, [], ◌∷◌, ◌++◌, Option, Some, None, length, map, get_or, refl, sym, ap, ◌∙◌, subst, arith, inl, inr, length-append}
-use Rattle.std.specs.Prelude.{◌⊎◌, ◌↔◌}
+use Rattle.std.proofs.Common.{◌≡◌, ℕ, zero, suc, ◌+◌, ◌-◌, ◌<◌, ◌≤◌, List, [], ◌∷◌, ◌++◌, Option, Some, None, length, get_or, refl, sym, ap, ◌∙◌, subst, arith, inl, inr}
+use Rattle.std.specs.Prelude.{◌⊎◌}
 use Rattle.std.proofs.lemmas.Bool.{cases_lt}
 use Rattle.std.proofs.Math.ListN.{get_or-eq_default}
 use Rattle.std.proofs.lemmas.List.{get_or_append_left, get_or-append-add, get_or-map}
-use Rattle.dx_ports.specs.Members.{Each, here, there, ◌∈◌}
+use Rattle.dx_ports.specs.Members.{here, there, ◌∈◌}
 use Rattle.dx_ports.proofs.Members.{in_left, in_right, from_append, in_at, contains_from_in}
 use Rattle.dx_schema.specs.Forest.{Label, Forest, none, set}
 use Rattle.dx_schema.specs.Tables.{TableOf, Placed, placed, sets_of, count, numbers_in, table_in, tables_of, table_at}

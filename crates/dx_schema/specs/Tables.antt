@@ -1,7 +1,7 @@
 -- The tables of a schema.
 use Rattle.std.specs.Prelude.{◌≡◌, ℕ, suc, ◌+◌, ◌<◌, ◌≤◌, List, [], ◌∷◌, ◌++◌, Option, Some, None, length, map, cond, nat_eq, codes, slice_index_or}
 use Rattle.std.specs.Cmp.Lexicographic.{pointwise}
-use Rattle.dx_ports.specs.Members.{Distinct, Each, ◌∈◌}
+use Rattle.dx_ports.specs.Members.{Distinct, Each}
 use Rattle.dx_model.specs.declared.tables.Key.{Key}
 use Rattle.dx_model.specs.declared.tables.Link.{Link}
 use Rattle.dx_model.specs.Tables.{AreWithin, key_of}
