@@ -3,6 +3,7 @@ mod calls;
 mod examples;
 mod faults;
 mod limits;
+mod mapping_texts;
 mod refusals;
 mod schema_faults;
 mod schemas;

@@ -13,26 +13,29 @@ use Rattle.dx_model.specs.declared.rules.Rule.{Rule}
 use Rattle.dx_model.specs.Values.{Conversions, Rows, Tuple}
 use Rattle.dx_model.specs.Rules.{Ascend, AreRows, IsRows}
 use Rattle.dx_schema.specs.Tables.{TableOf, tables_of}
-use Rattle.dx_schema_text.proofs.FormLaws.{one_mapping}
 use Rattle.dx_csv.specs.declared.fault.RowKind.{RowKind}
 use Rattle.dx_csv.specs.Left.{table_records}
 use Rattle.dx_csv.specs.Table.{IsTable, IsAtFault}
 use Rattle.dx_csv.proofs.OneReading.{table-is-one, fault-is-one, faults-exclude}
 use Rattle.dx_tgd.specs.Counting.{rows_in, canonical_cells}
 use Rattle.clio_top.specs.declared.mapping.Mapping.{Mapping}
+use Rattle.clio_top.specs.declared.mapping.AcceptFault.{AcceptFault}
+use Rattle.clio_top.specs.declared.mapping.AcceptFault.TheVariants as faults
 use Rattle.clio_top.specs.declared.exchange.Exchange.{Exchange}
 use Rattle.clio_top.specs.declared.ending.Ending.{Ending}
 use Rattle.clio_top.specs.declared.ending.Ending.TheVariants as endings
 use Rattle.clio_top.specs.declared.ending.Done.TheVariants.{Exchanged}
 use Rattle.clio_top.specs.declared.ending.MapFault.TheVariants as map_faults
 use Rattle.clio_top.specs.declared.ending.RowsFault.TheVariants as rows_faults
-use Rattle.clio_top.specs.Mapping.{IsMappingOf, mapping_of}
+use Rattle.clio_top.specs.Mapping.{IsMappingOf, IsRefused}
 use Rattle.clio_top.specs.TableFiles.{csv_name}
 use Rattle.clio_top.specs.Source.{FirstStops, IsFaulty, IsSourceOf, PassesBytes, ReadsSource, ReadsTable, StopsAt, data_bytes}
 use Rattle.clio_top.specs.Source.{PassesCells as PassesSourceCells}
 use Rattle.clio_top.specs.Exchanging.{HoldsText, HoldsMapping, IsExchangeOf}
 use Rattle.clio_top.specs.Ending.{HasCause, IsExchange, PassesCells, PassesText, SourceStops}
 use Rattle.clio_top.specs.Causes.{InFormOrRefused, IsInForm, IsOutside, IsRefusal, IsUnrefused, OneRefusal}
+use Rattle.clio_top.proofs.EndingFacts.{ending_of}
+use Rattle.clio_top.proofs.RefusalFacts.{same_mapping_of, one_refused, accepted_or_refused}
 use Rattle.clio_top.proofs.OneAscending.{one_ascending}
 use Rattle.clio_top.proofs.PlainFacts.{no_conversions}
 use Rattle.clio_top.proofs.PlanFacts.{if_some}
@@ -50,9 +53,6 @@ within_or_above : (n used : ℕ) (x y : List ℕ) → x ≡ y → used + length 
 within_or_above n used x y e below above = let above = rw (← e) at above in omega (arith, below, above)
 
 -- ---- one mapping
-same_mapping_of : (text : List ℕ) (M N : Mapping) → IsMappingOf text M → IsMappingOf text N → M ≡ N
-same_mapping_of text M N p q = p.2 ∙ ap mapping_of (one_mapping text p.0 q.0 p.1 q.1) ∙ sym q.2
-
 same_text : (m : Held) (text other : List ℕ) → HoldsText m text → HoldsText m other → text ≡ other
 same_text m text other p q = same_held (get m (codes "mapping.clio")) p.held q.held
 
@@ -206,7 +206,7 @@ one_rows_each convert (d ∷ R) I (ts ∷ rows) (us ∷ others) p q =
 data TextStops (m : Held) (e : Ending) : Type 0 where
   no_text : e ≡ endings.Mapping map_faults.Absent → get m (codes "mapping.clio") ≡ None → TextStops m e
   long_text : (l : Limit) → e ≡ endings.Limit l → PassesText m l → TextStops m e
-  refused : (text : List ℕ) → e ≡ endings.Mapping map_faults.NotYet → HoldsText m text → ((M : Mapping) → ¬ (IsMappingOf text M)) → TextStops m e
+  refused : (text : List ℕ) (f : AcceptFault) → e ≡ ending_of f → HoldsText m text → IsRefused text f → TextStops m e
 
 -- the mapping's canonical instance stops the run
 abbrev CellsStop : Held → Ending → Type 0
@@ -217,11 +217,16 @@ by_cause : (m : Held) (e : Ending) → IsRefusal e → HasCause m e → TextStop
 by_cause m (endings.Done d) r c = absurd r
 by_cause m endings.Usage r c = absurd r
 by_cause m (endings.Mapping map_faults.Absent) r c = inl (no_text refl c)
-by_cause m (endings.Mapping map_faults.NotYet) r c = inl (refused c.0 refl c.1 c.2)
+by_cause m (endings.Mapping (map_faults.Text place kind)) r c = inl (refused c.0 (faults.Mapping (map_faults.Text place kind)) refl c.1 c.2)
+by_cause m (endings.Mapping (map_faults.Source kind)) r c = inl (refused c.0 (faults.Mapping (map_faults.Source kind)) refl c.1 c.2)
+by_cause m (endings.Mapping (map_faults.Target kind)) r c = inl (refused c.0 (faults.Mapping (map_faults.Target kind)) refl c.1 c.2)
+by_cause m (endings.Mapping (map_faults.Reserved name)) r c = inl (refused c.0 (faults.Mapping (map_faults.Reserved name)) refl c.1 c.2)
+by_cause m (endings.Mapping map_faults.NotYet) r c = inl (refused c.0 (faults.Mapping map_faults.NotYet) refl c.1 c.2)
 by_cause m (endings.Rows file fault) r c = inr (inl c)
 by_cause m (endings.Limit l) r (inl c) = inl (long_text l refl c)
-by_cause m (endings.Limit l) r (inr (inl c)) = inr (inl c)
-by_cause m (endings.Limit l) r (inr (inr c)) = inr (inr (l, refl, c))
+by_cause m (endings.Limit l) r (inr (inl c)) = inl (refused c.0 (faults.Limit l) refl c.1 c.2)
+by_cause m (endings.Limit l) r (inr (inr (inl c))) = inr (inl c)
+by_cause m (endings.Limit l) r (inr (inr (inr c))) = inr (inr (l, refl, c))
 by_cause m (endings.ReadFault file) r c = absurd r
 by_cause m (endings.WriteFault n) r c = absurd r
 by_cause m endings.Memory r c = absurd r
@@ -237,19 +242,19 @@ text_or_long m text l h p =
 one_text_stop : (m : Held) (e f : Ending) → TextStops m e → TextStops m f → e ≡ f
 one_text_stop m e f (no_text a p) (no_text b q) = a ∙ sym b
 one_text_stop m e f (no_text a p) (long_text l b q) = absurd (held_or_absent (get m (codes "mapping.clio")) q.1 p)
-one_text_stop m e f (no_text a p) (refused text b q not) = absurd (held_or_absent (get m (codes "mapping.clio")) q.held p)
+one_text_stop m e f (no_text a p) (refused text g b q why) = absurd (held_or_absent (get m (codes "mapping.clio")) q.held p)
 one_text_stop m e f (long_text k a p) (no_text b q) = absurd (held_or_absent (get m (codes "mapping.clio")) p.1 q)
 one_text_stop m e f (long_text k a p) (long_text l b q) = a ∙ ap endings.Limit (p.2 ∙ sym q.2) ∙ sym b
-one_text_stop m e f (long_text k a p) (refused text b q not) = absurd (text_or_long m text k q p)
-one_text_stop m e f (refused text a p not) (no_text b q) = absurd (held_or_absent (get m (codes "mapping.clio")) p.held q)
-one_text_stop m e f (refused text a p not) (long_text l b q) = absurd (text_or_long m text l p q)
-one_text_stop m e f (refused text a p not) (refused other b q never) = a ∙ sym b
+one_text_stop m e f (long_text k a p) (refused text g b q why) = absurd (text_or_long m text k q p)
+one_text_stop m e f (refused text g a p why) (no_text b q) = absurd (held_or_absent (get m (codes "mapping.clio")) p.held q)
+one_text_stop m e f (refused text g a p why) (long_text l b q) = absurd (text_or_long m text l p q)
+one_text_stop m e f (refused text g a p why) (refused other h b q reason) = a ∙ ap ending_of (one_refused text g h why (subst (λ (x : List ℕ). IsRefused x h) (sym (same_text m text other p q)) reason)) ∙ sym b
 
 -- an accepted text stops nothing
 mapping_or_stop : (m : Held) (M : Mapping) (e : Ending) → HoldsMapping m M → ¬ (TextStops m e)
 mapping_or_stop m M e h (no_text a p) = held_or_absent (get m (codes "mapping.clio")) h.1.held p
 mapping_or_stop m M e h (long_text l a p) = text_or_long m h.0 l h.1 p
-mapping_or_stop m M e h (refused text a p not) = not M (subst (λ (x : List ℕ). IsMappingOf x M) (same_text m h.0 text h.1 p) h.2)
+mapping_or_stop m M e h (refused text g a p why) = accepted_or_refused text M g (subst (λ (x : List ℕ). IsMappingOf x M) (same_text m h.0 text h.1 p) h.2) why
 
 one_source_stop : (m : Held) (e f : Ending) → SourceStops m e → SourceStops m f → e ≡ f
 one_source_stop m e f p q =

@@ -1,10 +1,10 @@
 -- The rule of a mapping on a small text, computed.
-use Rattle.std.proofs.Common.{◌≡◌, ℕ, List, [], ◌∷◌, ◌++◌, codes, refl}
+use Rattle.std.proofs.Common.{◌≡◌, [], ◌∷◌, codes, refl}
 use Rattle.dx_model.specs.declared.rules.Cell.TheVariants.{Var, Ex}
 use Rattle.dx_model.specs.declared.rules.Rule.{Rule}
-use Rattle.dx_schema_text.specs.declared.first_form.FlatText.{FlatText}
+use Rattle.clio_top.specs.declared.first_form.FlatText.{FlatText}
 use Rattle.clio_top.specs.FlatRule.{flat_rule}
-use Rattle.clio_top.specs.Mapping.{one_set}
+use Rattle.clio_top.specs.FirstForm.{one_set}
 use Rattle.clio_top.specs.TableFiles.{schema_widths}
 
 -- set emp { name; }, set person { name, phone; }, line emp.name -> person.name;

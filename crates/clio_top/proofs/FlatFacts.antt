@@ -1,17 +1,16 @@
 -- The rule of a flat mapping copies the source set, and fits the target set.
-use Rattle.std.proofs.Common.{◌≡◌, ℕ, zero, suc, ◌+◌, ◌<◌, ◌≤◌, List, [], ◌∷◌, ◌++◌, length, drop, get_or, Option, Some, None, refl, sym, ◌∙◌, ap, subst, inl, inr, arith, nat_eq, append_assoc, drop-cons, add-one}
-use Rattle.std.specs.Prelude.{map, position}
+use Rattle.std.proofs.Common.{◌≡◌, ℕ, zero, suc, ◌+◌, ◌<◌, List, [], ◌∷◌, ◌++◌, length, drop, get_or, Option, Some, None, refl, sym, ◌∙◌, ap, arith, nat_eq, append_assoc}
+use Rattle.std.specs.Prelude.{map}
 use Rattle.std.specs.Cmp.Lexicographic.{pointwise}
 use Rattle.std.proofs.lemmas.List.{drop_more, map-append}
 use Rattle.std.specs.List.{range_with_len}
 use Rattle.std.specs.Option.{option_and_then}
 use Rattle.std.proofs.lemmas.List.Quantifiers.{position-Some}
 use Rattle.dx_ports.specs.Members.{◌∈◌, here, there}
-use Rattle.dx_ports.proofs.Members.{from_append}
 use Rattle.dx_model.specs.declared.rules.Cell.{Cell}
-use Rattle.dx_model.specs.declared.rules.Cell.TheVariants.{Var, Ex, Lit}
-use Rattle.dx_schema_text.specs.declared.first_form.FlatText.{FlatText}
-use Rattle.dx_schema_text.specs.declared.first_form.FlatLine.{FlatLine}
+use Rattle.dx_model.specs.declared.rules.Cell.TheVariants.{Var, Ex}
+use Rattle.clio_top.specs.declared.first_form.FlatText.{FlatText}
+use Rattle.clio_top.specs.declared.first_form.FlatLine.{FlatLine}
 use Rattle.clio_top.specs.FlatRule.{line_to, next_cells, place_of, source_atom, target_cells, variable_of}
 use Rattle.dx_model.specs.declared.rules.Atom.{Atom}
 

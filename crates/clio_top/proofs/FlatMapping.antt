@@ -1,40 +1,34 @@
 -- What holds of the mapping of a text of the first form.
-use Rattle.std.proofs.Common.{◌≡◌, ℕ, suc, ◌<◌, ◌≤◌, List, [], ◌∷◌, length, refl, sym, subst, ◌∙◌, ap, arith, codes, Some, inl, inr, true, false}
-use Rattle.std.specs.Prelude.{map, slice_get}
-use Rattle.std.specs.List.{range_with_len}
-use Rattle.std.proofs.lemmas.List.{length-map, length-append}
-use Rattle.csv.specs.Reading.{strip_bom}
-use Rattle.dx_ports.specs.Members.{◌∈◌, here, there, Each}
+use Rattle.std.proofs.Common.{◌≡◌, ℕ, List, [], ◌∷◌, length, refl, sym, subst, ap, arith, Some, inl, inr}
+use Rattle.std.specs.Prelude.{slice_get}
+use Rattle.std.proofs.lemmas.List.{length-append}
+use Rattle.dx_ports.specs.Members.{◌∈◌, here, there}
 use Rattle.dx_ports.proofs.Members.{from_append}
 use Rattle.dx_model.specs.declared.rules.Cell.{Cell}
 use Rattle.dx_model.specs.declared.rules.Cell.TheVariants.{Var}
 use Rattle.dx_model.specs.declared.rules.Atom.{Atom}
 use Rattle.dx_model.specs.declared.rules.Rule.{Rule}
-use Rattle.dx_model.specs.declared.facts.Fact.{Fact}
 use Rattle.dx_model.specs.Rules.{cells_of}
 use Rattle.dx_model.specs.Solutions.{AtomFits, IsClosed, cells_in}
-use Rattle.dx_model.specs.Tables.{KeysHold, table_of}
+use Rattle.dx_model.specs.Tables.{table_of}
 use Rattle.dx_model.specs.declared.tables.Link.{Link}
-use Rattle.dx_schema.specs.Flat.{IsFlat as IsFlatSchema}
-use Rattle.dx_schema.specs.Tables.{TableOf, tables_of, model_tables}
-use Rattle.dx_schema_text.specs.declared.first_form.FlatSet.{FlatSet}
-use Rattle.dx_schema_text.specs.declared.first_form.FlatText.{FlatText}
-use Rattle.dx_schema_text.specs.FirstForm.{IsFirstForm, IsFlat, IsFlatSet, IsWord}
-use Rattle.dx_csv.specs.Print.{HasNoMark}
+use Rattle.dx_schema.specs.Tables.{model_tables}
+use Rattle.clio_top.specs.declared.first_form.FlatText.{FlatText}
 use Rattle.dx_tgd.specs.Copies.{IsCopy}
 use Rattle.dx_tgd.specs.Placed.{FitsWidths, HasCell}
-use Rattle.clio_top.specs.declared.mapping.Mapping.{Mapping}
 use Rattle.clio_top.specs.FlatRule.{flat_rule, target_cells}
-use Rattle.clio_top.specs.Mapping.{IsMappingOf, mapping_of, one_set}
+use Rattle.clio_top.specs.FirstForm.{one_set}
+use Rattle.clio_top.specs.Mapping.{mapping_of}
 use Rattle.clio_top.specs.TableFiles.{schema_widths}
-use Rattle.clio_top.specs.Plain.{AreCopies, FitsBoth}
+use Rattle.clio_top.specs.Plain.{FitsBoth}
 use Rattle.clio_top.proofs.FlatFacts.{length-target_cells, target_variables}
+use Rattle.clio_top.proofs.FormFacts.{IsSound}
 
 -- the variables of one atom
 from_one : (cs : List Cell) (x : ℕ) → Var x ∈ cells_of (record { table = 0; cells = cs } ∷ []) → Var x ∈ cs
 from_one cs x m = elim (from_append cs m) [ inl l ↦ l | inr r ↦ elim r [ ] ]
 
-module _ (m : FlatText) (flat : IsFlat m) where
+module _ (m : FlatText) (flat : IsSound m) where
   pub flat_copy : IsCopy (schema_widths (one_set m.source)) (flat_rule m)
   flat_copy = record {
     table = 0;
@@ -53,7 +47,7 @@ module _ (m : FlatText) (flat : IsFlat m) where
       here_is a (there k) = elim k [ ]
 
   pub flat_cell : HasCell (flat_rule m)
-  flat_cell = omega (arith, length-target_cells m 0 m.target.columns, flat.target.at_least, length-append (target_cells m 0 m.target.columns) [])
+  flat_cell = omega (arith, length-target_cells m 0 m.target.columns, flat.some_column, length-append (target_cells m 0 m.target.columns) [])
 
   pub flat_closed : IsClosed (model_tables (one_set m.target)) (flat_rule m)
   flat_closed = record { fits = λ a h. fits a h; links = λ a h link k. links a h link k }

@@ -1,4 +1,7 @@
+pub mod FormTests
 pub mod FlatFacts
+pub mod FormFacts
+pub mod AcceptFacts
 pub mod FlatMapping
 pub mod RightFacts
 pub mod PlainFacts
@@ -13,5 +16,6 @@ pub mod SourceRows
 pub mod SourceSteps
 pub mod PlanFacts
 pub mod OneAscending
+pub mod RefusalFacts
 pub mod CauseFacts
 pub mod FlatExamples

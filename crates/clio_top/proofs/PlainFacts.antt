@@ -3,7 +3,7 @@ use Rattle.std.proofs.Common.{◌≡◌, ℕ, zero, suc, ◌+◌, ◌<◌, ◌�
 use Rattle.std.specs.Prelude.{None, map}
 use Rattle.std.proofs.lemmas.List.{take_more, take_all, map-append, length-map}
 use Rattle.std.specs.FinMap as finite
-use Rattle.dx_ports.specs.Members.{◌∈◌, ◌⊆◌, Each}
+use Rattle.dx_ports.specs.Members.{◌⊆◌, Each}
 use Rattle.dx_ports.proofs.Members.{from_map}
 use Rattle.dx_instance.specs.Stored.{IsSorting, TableRows, facts, rows_of, widths}
 use Rattle.dx_instance.proofs.StoredFacts.{fact_from_row, row_from_fact}

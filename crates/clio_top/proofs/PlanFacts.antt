@@ -1,46 +1,41 @@
 -- From an accepted mapping, its source and the plain exchange to a plan, and from a plan to what is left.
-use Rattle.std.proofs.Common.{◌≡◌, ℕ, zero, suc, ◌≤◌, ◌<◌, List, [], ◌∷◌, length, refl, sym, ◌∙◌, ap, subst, inl, inr, Some, None, true, false, Bool}
-use Rattle.std.specs.Prelude.{map, Option, IfSome, ◌==◌, ◌&&◌}
+use Rattle.std.proofs.Common.{◌≡◌, ℕ, zero, suc, List, [], ◌∷◌, refl, sym, subst, inl, inr, Some, None}
+use Rattle.std.specs.Prelude.{Option, IfSome, ◌==◌}
 use Rattle.std.proofs.lemmas.Bool.{cases_Bool, eqb-true}
-use Rattle.csv.specs.Reading.{strip_bom, is_bom}
+use Rattle.csv.specs.Reading.{strip_bom}
 use Rattle.dx_ports.specs.Members.{◌∈◌, ◌⊆◌, here, there, Each}
 use Rattle.dx_ports.specs.Entries.{Held, entries_of}
 use Rattle.dx_ports.proofs.Members.{from_flat_map}
-use Rattle.dx_model.specs.declared.values.NullId.{NullId}
-use Rattle.dx_model.specs.declared.values.Value.TheVariants.{Null}
 use Rattle.dx_model.specs.declared.facts.Fact.{Fact}
 use Rattle.dx_model.specs.declared.rules.Rule.{Rule}
-use Rattle.dx_model.specs.Values.{Conversions}
-use Rattle.dx_model.specs.Instances.{values}
 use Rattle.dx_model.specs.Tables.{KeysHold, table_of, RowsFit}
 use Rattle.dx_model.specs.Solutions.{IsClosed}
-use Rattle.dx_instance.specs.Stored.{TableRows, facts, widths}
-use Rattle.dx_schema.specs.Flat.{IsFlat as IsFlatSchema}
+use Rattle.dx_instance.specs.Stored.{TableRows, facts}
 use Rattle.dx_schema.specs.Tables.{TableOf, tables_of, model_tables}
-use Rattle.dx_schema_text.specs.declared.first_form.FlatSet.{FlatSet}
-use Rattle.dx_schema_text.specs.declared.first_form.FlatText.{FlatText}
-use Rattle.dx_schema_text.specs.FirstForm.{IsFirstForm, IsFlat, IsFlatSet, IsWord}
-use Rattle.dx_schema_text.proofs.Words.{not_in_word}
+use Rattle.clio_top.specs.declared.first_form.FlatSet.{FlatSet}
+use Rattle.clio_top.specs.declared.first_form.FlatText.{FlatText}
+use Rattle.dx_tokens.specs.Lexing.{IsWord}
 use Rattle.dx_csv.specs.Print.{HasNoMark}
 use Rattle.dx_tgd.specs.Counting.{rows_in}
-use Rattle.dx_tgd.specs.Placed.{HasPlace}
 use Rattle.dx_tgd.proofs.CanonicalFacts.{nulls_have_places}
 use Rattle.clio_top.specs.declared.mapping.Mapping.{Mapping}
 use Rattle.clio_top.specs.declared.exchange.Exchange.{Exchange}
-use Rattle.clio_top.specs.declared.exchange.ExchangeFault.TheVariants as exchange_faults
 use Rattle.clio_top.specs.declared.ending.Ending.{Ending}
 use Rattle.clio_top.specs.declared.ending.Ending.TheVariants as endings
 use Rattle.clio_top.specs.declared.top.Plan.{Plan}
 use Rattle.clio_top.specs.FlatRule.{flat_rule}
-use Rattle.clio_top.specs.Mapping.{IsMappingOf, mapping_of, one_set}
+use Rattle.clio_top.specs.FirstForm.{one_set}
+use Rattle.clio_top.specs.Mapping.{IsMappingOf, mapping_of}
 use Rattle.clio_top.specs.TableFiles.{schema_widths}
 use Rattle.clio_top.specs.Source.{IsSourceOf}
 use Rattle.clio_top.specs.Plain.{FitsBoth, IsPlain}
 use Rattle.clio_top.specs.Printed.{FitsFiles}
 use Rattle.clio_top.specs.Exchanging.{HoldsMapping, IsExchangeOf}
 use Rattle.clio_top.specs.Planning.{ExchangeStops, IsPlan, IsPlanOf}
-use Rattle.clio_top.specs.Ending.{HasCause, IsPlanned, PlannedAnd, Told, WroteAll, WroteFirst}
+use Rattle.clio_top.specs.Ending.{HasCause, PlannedAnd, Told, WroteAll, WroteFirst}
+use Rattle.clio_top.proofs.FormFacts.{IsSound, sound}
 use Rattle.clio_top.proofs.FlatMapping.{flat_both, flat_closed}
+use Rattle.clio_top.proofs.Words.{not_in_word}
 use Rattle.clio_top.proofs.PlainFacts.{matches_each, matches_fit}
 use Rattle.clio_top.proofs.RightFacts.{plain_is_right, same_all_rows}
 
@@ -58,8 +53,8 @@ abbrev pub IsAccepted : Mapping → Type 0
 IsAccepted M = (text : List ℕ) × IsMappingOf text M
 
 -- what holds of the mapping of each flat text holds of an accepted mapping
-accepted_has : (P : Mapping → Type 0) (M : Mapping) → ((m : FlatText) → IsFlat m → P (mapping_of m)) → IsAccepted M → P M
-accepted_has P M f a = let form = a.1.1 in subst P (sym a.1.2) (f a.1.0 form.flat)
+accepted_has : (P : Mapping → Type 0) (M : Mapping) → ((m : FlatText) → IsSound m → P (mapping_of m)) → IsAccepted M → P M
+accepted_has P M f a = subst P (sym a.1.is) (f a.1.flat (sound a.0 M a.1))
 
 pub accepted_fits : (M : Mapping) (ws : List ℕ) → IsAccepted M → ws ≡ schema_widths M.source → FitsBoth ws M
 accepted_fits M ws a e = rw e (accepted_has (λ N. FitsBoth (schema_widths N.source) N) M flat_both a)
@@ -67,7 +62,7 @@ accepted_fits M ws a e = rw e (accepted_has (λ N. FitsBoth (schema_widths N.sou
 accepted_closed : (M : Mapping) → IsAccepted M → Each M.rules (IsClosed (model_tables M.target))
 accepted_closed M a = accepted_has (λ N. Each N.rules (IsClosed (model_tables N.target))) M (λ m flat d h. one m flat d h) a
   where
-    one : (m : FlatText) → IsFlat m → (d : Rule) → d ∈ (flat_rule m ∷ []) → IsClosed (model_tables (one_set m.target)) d
+    one : (m : FlatText) → IsSound m → (d : Rule) → d ∈ (flat_rule m ∷ []) → IsClosed (model_tables (one_set m.target)) d
     one m flat d (here e) = subst (IsClosed (model_tables (one_set m.target))) e (flat_closed m flat)
     one m flat d (there k) = elim k [ ]
 
@@ -99,8 +94,8 @@ no_mark (c ∷ cs) h = word_unmarked c (h c (here refl))
 accepted_marks : (M : Mapping) → IsAccepted M → Each (tables_of M.target) (λ (t : TableOf). HasNoMark t.columns)
 accepted_marks M a = accepted_has (λ N. Each (tables_of N.target) (λ (t : TableOf). HasNoMark t.columns)) M (λ m flat t h. one m flat t h) a
   where
-    one : (m : FlatText) → IsFlat m → (t : TableOf) → t ∈ tables_of (one_set m.target) → HasNoMark t.columns
-    one m flat t (here e) = subst (λ (u : TableOf). HasNoMark u.columns) e (no_mark m.target.columns flat.target.columns)
+    one : (m : FlatText) → IsSound m → (t : TableOf) → t ∈ tables_of (one_set m.target) → HasNoMark t.columns
+    one m flat t (here e) = subst (λ (u : TableOf). HasNoMark u.columns) e (no_mark m.target.columns flat.words)
     one m flat t (there k) = elim k [ ]
 
 -- the plain exchange of an accepted mapping can be printed
@@ -150,7 +145,7 @@ exchange_refused M S endings.Usage s m h r = absurd s
 exchange_refused M S (endings.Mapping f) s m h r = absurd s
 exchange_refused M S (endings.Rows file fault) s m h r = absurd s
 exchange_refused M S (endings.Limit l) s m h r =
-    inr (inr (M, r.0, s.0, h, r.1, (λ convert. same_all_rows convert M.rules (facts S) r.0 s.0 r.3 r.2 (s.1 convert)), s.2, s.3))
+    inr (inr (inr (M, r.0, s.0, h, r.1, (λ convert. same_all_rows convert M.rules (facts S) r.0 s.0 r.3 r.2 (s.1 convert)), s.2, s.3)))
 exchange_refused M S (endings.ReadFault file) s m h r = absurd s
 exchange_refused M S (endings.WriteFault n) s m h r = absurd s
 exchange_refused M S endings.Memory s m h r = tt

@@ -1,8 +1,8 @@
 -- A plain exchange is right.
-use Rattle.std.proofs.Common.{◌≡◌, ℕ, List, [], ◌∷◌, length, refl, sym, ◌∙◌, ap, subst, arith, ◌↔◌}
+use Rattle.std.proofs.Common.{◌≡◌, ℕ, List, [], ◌∷◌, length, refl, sym, ◌∙◌, ap, subst, arith}
 use Rattle.std.specs.Prelude.{map}
 use Rattle.std.specs.FinMap as finite
-use Rattle.dx_ports.specs.Members.{◌∈◌, ◌⊆◌, here, there, Each}
+use Rattle.dx_ports.specs.Members.{◌∈◌, ◌⊆◌, Each}
 use Rattle.dx_ports.proofs.Members.{in_map, from_map}
 use Rattle.dx_model.specs.declared.values.NullId.{NullId}
 use Rattle.dx_model.specs.declared.values.Value.{Value}
@@ -11,9 +11,9 @@ use Rattle.dx_model.specs.declared.facts.Fact.{Fact}
 use Rattle.dx_model.specs.declared.facts.NullPair.{NullPair}
 use Rattle.dx_model.specs.declared.rules.Rule.{Rule}
 use Rattle.dx_model.specs.Values.{Conversions, Rows, Text, null_cmp}
-use Rattle.dx_model.specs.Instances.{moved, fact_moved, given, image, values, IsNullMap}
+use Rattle.dx_model.specs.Instances.{moved, fact_moved, given, image, values}
 use Rattle.dx_model.specs.Tables.{Table, KeysHold}
-use Rattle.dx_model.specs.Rules.{IsMatch, IsRows, AreRows, canonical, exported}
+use Rattle.dx_model.specs.Rules.{IsMatch, IsRows, AreRows, canonical}
 use Rattle.dx_model.specs.Solutions.{IsClosed}
 use Rattle.dx_model.proofs.CanonicalUniversal.{canonical_universal}
 use Rattle.dx_instance.specs.NullMaps.{ByNull, pairs_of}

@@ -17,7 +17,9 @@ use Rattle.clio_top.specs.declared.ending.Done.TheVariants.{Exchanged}
 use Rattle.clio_top.specs.declared.ending.MapFault.TheVariants as map_faults
 use Rattle.clio_top.specs.declared.ending.Stop.{Stop}
 use Rattle.clio_top.specs.declared.ending.Stop.TheVariants as stops
-use Rattle.clio_top.specs.Mapping.{IsMappingOf}
+use Rattle.clio_top.specs.declared.mapping.AcceptFault.{AcceptFault}
+use Rattle.clio_top.specs.declared.mapping.AcceptFault.TheVariants as accept_faults
+use Rattle.clio_top.specs.Mapping.{IsRefused}
 use Rattle.clio_top.specs.Source.{IsSourceOf, FirstStops}
 use Rattle.clio_top.specs.Sheets.{Sheet, AreSheets, files_of, summary_of}
 use Rattle.clio_top.specs.Exchanging.{HoldsText, HoldsMapping, IsExchangeOf, text_bytes}
@@ -75,6 +77,10 @@ PassesCells m l =
 abbrev pub PassesText : Held → Limit → Type 0
 PassesText m l = (text : List ℕ) × (get m (codes "mapping.clio") ≡ Some text) × (l ≡ record { what = TextBytes; number = text_bytes }) × (text_bytes < length text)
 
+-- the mapping text is refused for this
+abbrev pub TextRefused : Held → AcceptFault → Type 0
+TextRefused m e = (text : List ℕ) × HoldsText m text × IsRefused text e
+
 -- the first source file that stops the run stops it so
 abbrev pub SourceStops : Held → Ending → Type 0
 SourceStops m s = (M : Mapping) × HoldsMapping m M × FirstStops m 0 0 (tables_of M.source) s
@@ -84,9 +90,9 @@ abbrev pub HasCause : Held → Ending → Type 0
 HasCause m (endings.Done (Exchanged e)) = (M : Mapping) × IsExchangeOf m M e
 HasCause m endings.Usage = Unit {0}
 HasCause m (endings.Mapping map_faults.Absent) = get m (codes "mapping.clio") ≡ None
-HasCause m (endings.Mapping map_faults.NotYet) = (text : List ℕ) × HoldsText m text × ((M : Mapping) → ¬ (IsMappingOf text M))
+HasCause m (endings.Mapping fault) = TextRefused m (accept_faults.Mapping fault)
 HasCause m (endings.Rows file fault) = SourceStops m (endings.Rows file fault)
-HasCause m (endings.Limit l) = PassesText m l ⊎ (SourceStops m (endings.Limit l) ⊎ PassesCells m l)
+HasCause m (endings.Limit l) = PassesText m l ⊎ (TextRefused m (accept_faults.Limit l) ⊎ (SourceStops m (endings.Limit l) ⊎ PassesCells m l))
 HasCause m (endings.ReadFault file) = Unit {0}
 HasCause m (endings.WriteFault files) = (M : Mapping) × (e : Exchange) × IsExchangeOf m M e
 HasCause m endings.Memory = Unit {0}

@@ -1,5 +1,5 @@
 -- What an exchange answers.
-use Rattle.std.specs.Prelude.{◌≡◌, ℕ, ◌≤◌, ◌<◌, List, length, codes, Some, None}
+use Rattle.std.specs.Prelude.{◌≡◌, ℕ, ◌≤◌, List, length, codes, Some}
 use Rattle.std.specs.FinMap.{get}
 use Rattle.dx_ports.specs.Entries.{Held}
 use Rattle.dx_model.specs.declared.facts.Fact.{Fact}

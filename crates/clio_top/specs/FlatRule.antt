@@ -7,8 +7,8 @@ use Rattle.dx_model.specs.declared.rules.Cell.{Cell}
 use Rattle.dx_model.specs.declared.rules.Cell.TheVariants.{Var, Ex}
 use Rattle.dx_model.specs.declared.rules.Atom.{Atom}
 use Rattle.dx_model.specs.declared.rules.Rule.{Rule}
-use Rattle.dx_schema_text.specs.declared.first_form.FlatText.{FlatText}
-use Rattle.dx_schema_text.specs.declared.first_form.FlatLine.{FlatLine}
+use Rattle.clio_top.specs.declared.first_form.FlatText.{FlatText}
+use Rattle.clio_top.specs.declared.first_form.FlatLine.{FlatLine}
 
 -- the line that leads to a target column
 abbrev pub line_to : List FlatLine → List ℕ → Option FlatLine

@@ -1,11 +1,15 @@
 -- The text of an ending.
-use Rattle.std.specs.Prelude.{ℕ, List, [], ◌++◌, codes}
+use Rattle.std.specs.Prelude.{[], ◌++◌, codes}
 use Rattle.std.specs.Fmt.{decimal}
 use Rattle.dx_ports.specs.declared.file.Count.{Count}
 use Rattle.dx_ports.specs.declared.file.Count.TheVariants as counts
 use Rattle.dx_csv.specs.declared.fault.RowKind.{RowKind}
 use Rattle.dx_csv.specs.declared.fault.RowKind.TheVariants as kinds
 use Rattle.dx_model.specs.Values.{Text}
+use Rattle.dx_tokens.specs.declared.faults.TextKind.{TextKind}
+use Rattle.dx_tokens.specs.declared.faults.TextKind.TheVariants as text_kinds
+use Rattle.dx_schema.specs.declared.fault.SchemaKind.{SchemaKind}
+use Rattle.dx_schema.specs.declared.fault.SchemaKind.TheVariants as schema_kinds
 use Rattle.clio_top.specs.declared.ending.Ending.{Ending}
 use Rattle.clio_top.specs.declared.ending.Ending.TheVariants as endings
 use Rattle.clio_top.specs.declared.ending.MapFault.{MapFault}
@@ -29,8 +33,29 @@ count_text counts.SourceCells = codes "source cells"
 count_text counts.TargetCells = codes "target cells"
 count_text counts.FrozenCells = codes "frozen cells"
 
+-- what is wrong at a place of the mapping text
+abbrev pub text_kind_text : TextKind → Text
+text_kind_text text_kinds.Character = codes "bad character"
+text_kind_text text_kinds.Expected = codes "unexpected token"
+text_kind_text text_kinds.Ended = codes "text ended"
+text_kind_text text_kinds.UnknownName = codes "unknown name"
+text_kind_text text_kinds.Width = codes "wrong number of cells"
+text_kind_text text_kinds.Unsafe = codes "unsafe variable"
+
+-- what is wrong with the sets of one side
+abbrev pub schema_kind_text : SchemaKind → Text
+schema_kind_text (schema_kinds.DoubleName name) = codes "double name " ++ name
+schema_kind_text (schema_kinds.NoColumn name) = codes "no column in " ++ name
+schema_kind_text (schema_kinds.UnknownName name) = codes "unknown name " ++ name
+schema_kind_text (schema_kinds.CyclicLinks name) = codes "cyclic links at " ++ name
+schema_kind_text (schema_kinds.BadLink name) = codes "bad link in " ++ name
+
 abbrev pub map_fault_text : MapFault → Text
 map_fault_text map_faults.Absent = codes "mapping.clio is absent"
+map_fault_text (map_faults.Text place kind) = text_kind_text kind ++ (codes " at byte " ++ decimal place)
+map_fault_text (map_faults.Source kind) = codes "source: " ++ schema_kind_text kind
+map_fault_text (map_faults.Target kind) = codes "target: " ++ schema_kind_text kind
+map_fault_text (map_faults.Reserved name) = codes "target: reserved name " ++ name
 map_fault_text map_faults.NotYet = codes "form not built yet"
 
 -- what is wrong with the records of a file

@@ -1,5 +1,5 @@
 -- The plain exchange: the canonical instance, with nothing folded.
-use Rattle.std.specs.Prelude.{◌≡◌, ℕ, ◌≤◌, ◌<◌, List, length, map}
+use Rattle.std.specs.Prelude.{◌≡◌, ℕ, ◌≤◌, ◌<◌, List, length}
 use Rattle.std.specs.FinMap as finite
 use Rattle.dx_ports.specs.Members.{◌⊆◌, Each}
 use Rattle.dx_ports.specs.declared.file.Count.TheVariants.{TargetCells}

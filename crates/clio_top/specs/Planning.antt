@@ -1,7 +1,6 @@
 -- What is computed before anything is written.
-use Rattle.std.specs.Prelude.{◌≡◌, ℕ, List, Option}
+use Rattle.std.specs.Prelude.{◌≡◌, List, Option}
 use Rattle.dx_ports.specs.Entries.{Held, entries_of}
-use Rattle.dx_ports.specs.declared.file.Limit.{Limit}
 use Rattle.dx_model.specs.declared.facts.Fact.{Fact}
 use Rattle.clio_top.specs.declared.ending.Ending.{Ending}
 use Rattle.clio_top.specs.declared.ending.Ending.TheVariants as endings

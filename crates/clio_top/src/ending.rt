@@ -4,6 +4,8 @@ ghost use Rattle.std.specs.Prelude.{◌≡◌};
 use crate::exchange::Exchange;
 use dx_csv::RowKind;
 use dx_ports::{Limit, Text};
+use dx_schema::SchemaKind;
+use dx_schema_text::TextKind;
 
 /// What a run has done.
 #[derive(Drop)]
@@ -13,11 +15,19 @@ pub enum Done {
 }
 
 /// What is wrong with the mapping text.
-#[derive(Clone, Copy, Debug, PartialEq, Eq)]
+#[derive(Debug, Drop)]
 pub enum MapFault {
     /// There is no file `mapping.clio`.
     Absent,
-    /// The text is not of the form that is built.
+    /// The text has a fault behind so many bytes.
+    Text { place: u64, kind: TextKind },
+    /// The source sets make no schema.
+    Source(SchemaKind),
+    /// The target sets make no schema.
+    Target(SchemaKind),
+    /// A target set has this name, which a file of clio's own has.
+    Reserved(Text),
+    /// The mapping is not of the form that is built.
     NotYet,
 }
 

@@ -3,9 +3,9 @@ ghost use Rattle.std.specs.Prelude.{◌≡◌, ◌<◌, ◌^◌, ◌-◌, length
 ghost use Rattle.std.specs.Option.{option_copied};
 ghost use Rattle.clio_top.specs.FlatRule.{flat_rule, line_to, place_of, source_atom, target_atom, target_cells, variable_of};
 
+use crate::first_form::{FlatLine, FlatText};
 use dx_model::{Atom, Cell, Derived, Rule};
 use dx_ports::{Items, Text};
-use dx_schema_text::{FlatLine, FlatText};
 use std::alloc::{AllocError, Global};
 
 // The line that leads to a target column.

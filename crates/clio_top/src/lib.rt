@@ -4,6 +4,7 @@
 mod ending;
 mod exchange;
 mod files;
+mod first_form;
 mod flat;
 mod laws;
 mod mapping;

@@ -1,16 +1,20 @@
 // Accepted mappings.
-ghost use Rattle.std.specs.Prelude.{◌≡◌, ◌<◌, ◌-◌, ◌^◌, ◌∷◌, [], length, IfOk, IfErr};
+ghost use Rattle.std.specs.Prelude.{◌≡◌, ◌⊎◌, ◌<◌, ◌-◌, ◌^◌, ◌∷◌, [], ◌↔◌, length, IfOk, IfErr, IfSome, IfNone, IsTrue, OnOk};
+ghost use Rattle.dx_schema.specs.Links.{IsFaultless, IsFirstFault};
+ghost use Rattle.dx_schema.specs.declared.fault.SchemaFault.{SchemaFault as SchemaFaultOf};
+ghost use Rattle.dx_tokens.specs.declared.faults.TextFault.{TextFault as TextFaultOf};
+ghost use Rattle.dx_schema_text.specs.Texts.{IsMappingText, IsTextFault};
 ghost use Rattle.clio_top.specs.FlatRule.{flat_rule};
-ghost use Rattle.dx_schema.specs.Flat.{IsFlat};
-ghost use Rattle.clio_top.specs.Mapping.{IsMappingOf, IsRefused, one_set};
+ghost use Rattle.clio_top.specs.Mapping.{IsMappingOf, IsRefused, IsReserved, IsFirstReserved, NoneReserved, text_refusal, source_refusal, target_refusal};
 ghost use Rattle.clio_top.specs.declared.mapping.AcceptFault.TheVariants.{Memory};
 
 use crate::ending::MapFault;
+use crate::first_form::{FlatText, first_form};
 use crate::flat;
 use dx_model::Rule;
-use dx_ports::{Items, Limit};
-use dx_schema::{Schema, SetTree, Trees};
-use dx_schema_text::{FlatSet, FlatText, read_first_form};
+use dx_ports::{Count, Items, Limit, Text};
+use dx_schema::{Schema, SchemaFault, Trees};
+use dx_schema_text::{MappingText, TextFault, read_mapping};
 use std::alloc::{AllocError, AllocFailed, Global};
 use thiserror::Error;
 
@@ -41,6 +45,14 @@ impl From<AllocError> for AcceptFault {
     }
 }
 
+impl<T: Drop> From<AllocFailed<T>> for AcceptFault {
+    ghost from_gives = { λ _ e. e ≡ Memory };
+
+    fn from(_: AllocFailed<T>) -> Self {
+        AcceptFault::Memory
+    }
+}
+
 // The rule of the lines.
 fn rules_of(alloc: Global, flat: &FlatText) -> Result<Items<Rule>, AllocError>
     requires source { length flat.now.source.columns < 2 ^ 32 - 1 }
@@ -52,40 +64,124 @@ fn rules_of(alloc: Global, flat: &FlatText) -> Result<Items<Rule>, AllocError>
     Ok(rules)
 }
 
-// The schema of one flat set.
-fn schema_of(alloc: Global, set: FlatSet) -> Result<Schema, AllocError>
-    requires { IsFlat (one_set set) }
-    ensures { IfOk result (λ s. s ≡ one_set set) }
+fn of_text(fault: TextFault) -> AcceptFault
+    ensures { result ≡ text_refusal fault }
 {
-    let mut trees = Trees::new(alloc);
-    trees.push(SetTree::flat(alloc, set.name, set.columns))?;
+    match fault {
+        TextFault::At { place, kind } => AcceptFault::Mapping(MapFault::Text { place, kind }),
+        TextFault::TooDeep { place: _ } => AcceptFault::Limit(Limit {
+            what: Count::Depth,
+            number: 16,
+        }),
+        TextFault::Memory => AcceptFault::Memory,
+    }
+}
+
+fn of_source(fault: SchemaFault) -> AcceptFault
+    ensures { result ≡ source_refusal fault }
+{
+    match fault {
+        SchemaFault::Bad(kind) => AcceptFault::Mapping(MapFault::Source(kind)),
+        SchemaFault::TooMany(limit) => AcceptFault::Limit(limit),
+        SchemaFault::Memory => AcceptFault::Memory,
+    }
+}
+
+fn of_target(fault: SchemaFault) -> AcceptFault
+    ensures { result ≡ target_refusal fault }
+{
+    match fault {
+        SchemaFault::Bad(kind) => AcceptFault::Mapping(MapFault::Target(kind)),
+        SchemaFault::TooMany(limit) => AcceptFault::Limit(limit),
+        SchemaFault::Memory => AcceptFault::Memory,
+    }
+}
+
+// What the text says.
+fn said_by(alloc: Global, text: &[u8]) -> Result<MappingText, AcceptFault>
+    ensures said { IfOk result (IsMappingText text.now) }
+    ensures fault { IfErr result (λ e. (e ≡ Memory) ⊎ ((f : TextFaultOf) × IsTextFault text.now f × (e ≡ text_refusal f))) }
+{
+    match read_mapping(alloc, text) {
+        Ok(said) => Ok(said),
+        Err(fault) => Err(of_text(fault)),
+    }
+}
+
+// The source schema of these sets.
+fn source_of(alloc: Global, trees: Trees) -> Result<Schema, AcceptFault>
+    ensures schema { IfOk result (λ s. s ≡ trees) }
+    ensures faultless { OnOk result (IsFaultless trees) }
+    ensures fault { IfErr result (λ e. (e ≡ Memory) ⊎ ((f : SchemaFaultOf) × IsFirstFault trees f × (e ≡ source_refusal f))) }
+{
     match Schema::build(alloc, trees) {
         Ok(schema) => Ok(schema),
-        Err(_) => Err(AllocError),
+        Err(fault) => Err(of_source(fault)),
     }
+}
+
+// The target schema of these sets.
+fn target_of(alloc: Global, trees: Trees) -> Result<Schema, AcceptFault>
+    ensures schema { IfOk result (λ s. s ≡ trees) }
+    ensures faultless { OnOk result (IsFaultless trees) }
+    ensures fault { IfErr result (λ e. (e ≡ Memory) ⊎ ((f : SchemaFaultOf) × IsFirstFault trees f × (e ≡ target_refusal f))) }
+{
+    match Schema::build(alloc, trees) {
+        Ok(schema) => Ok(schema),
+        Err(fault) => Err(of_target(fault)),
+    }
+}
+
+fn is_reserved(name: &Text) -> bool
+    ensures { IsTrue result ↔ IsReserved name.now }
+{
+    name.as_str() == "nulls" || name.as_str() == "fold"
+}
+
+// The first reserved name among the target's sets.
+fn reserved_in(target: &Schema) -> Result<Option<Text>, AllocError>
+    ensures some { IfOk result (λ o. IfSome o (IsFirstReserved target.now)) }
+    ensures none { IfOk result (λ o. IfNone o (NoneReserved target.now)) }
+{
+    for table in 0..target.tables() {
+        let name = target.name(table);
+        if is_reserved(name) {
+            return Ok(Some(name.copy()?));
+        }
+    }
+    Ok(None)
 }
 
 /// The mapping that a text defines.
 ///
 /// # Errors
 ///
-/// `Mapping` where the text is not of the form that is built, or `Memory`.
+/// In this order: the first fault of the text, of the source sets, of the target sets; the first target set with a name
+/// that is taken; and, until more is built, a mapping that is not of the first form. `Memory` may come at any point.
 pub fn accept(alloc: Global, text: &[u8]) -> Result<Mapping, AcceptFault>
     ensures mapping { IfOk result (IsMappingOf text.now) }
-    ensures fault { IfErr result (IsRefused text.now) }
+    ensures fault { IfErr result (λ e. (e ≡ Memory) ⊎ IsRefused text.now e) }
 {
-    let Some(flat) = read_first_form(alloc, text)? else {
-        return Err(AcceptFault::Mapping(MapFault::NotYet));
-    };
-    let rules = rules_of(alloc, &flat)?;
-    let FlatText {
+    let said = said_by(alloc, text)?;
+    let flat = first_form(alloc, &said)?;
+    let MappingText {
+        version: _,
         source,
         target,
         lines: _,
-    } = flat;
+        rules: _,
+    } = said;
+    let source = source_of(alloc, source)?;
+    let target = target_of(alloc, target)?;
+    if let Some(name) = reserved_in(&target)? {
+        return Err(AcceptFault::Mapping(MapFault::Reserved(name)));
+    }
+    let Some(flat) = flat else {
+        return Err(AcceptFault::Mapping(MapFault::NotYet));
+    };
     Ok(Mapping {
-        source: schema_of(alloc, source)?,
-        target: schema_of(alloc, target)?,
-        rules,
+        rules: rules_of(alloc, &flat)?,
+        source,
+        target,
     })
 }

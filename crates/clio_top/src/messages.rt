@@ -1,10 +1,12 @@
 // What is printed of an ending.
 ghost use Rattle.std.specs.Prelude.{◌≡◌, IfOk, string_bytes};
-ghost use Rattle.clio_top.specs.Message.{count_text, kind_text, map_fault_text, message_of, rows_fault_text};
+ghost use Rattle.clio_top.specs.Message.{count_text, kind_text, map_fault_text, message_of, rows_fault_text, schema_kind_text, text_kind_text};
 
 use crate::ending::{Ending, MapFault, RowsFault};
 use dx_csv::RowKind;
 use dx_ports::{Count, Text};
+use dx_schema::SchemaKind;
+use dx_schema_text::TextKind;
 use std::alloc::{AllocError, Global};
 
 const USAGE: &str =
@@ -31,13 +33,53 @@ fn count_text(count: Count) -> &'static str
     }
 }
 
+// What is wrong at a place of the mapping text.
+fn text_kind_text(kind: TextKind) -> &'static str
+    ensures { result.now ≡ text_kind_text kind }
+{
+    match kind {
+        TextKind::Character => "bad character",
+        TextKind::Expected => "unexpected token",
+        TextKind::Ended => "text ended",
+        TextKind::UnknownName => "unknown name",
+        TextKind::Width => "wrong number of cells",
+        TextKind::Unsafe => "unsafe variable",
+    }
+}
+
+// What is wrong with the sets of one side.
+fn schema_kind_text(alloc: Global, kind: &SchemaKind) -> Result<String, AllocError>
+    ensures { IfOk result (λ s. string_bytes s ≡ schema_kind_text kind.now) }
+{
+    match kind {
+        SchemaKind::DoubleName(name) => format!(in alloc; "double name {name}"),
+        SchemaKind::NoColumn(name) => format!(in alloc; "no column in {name}"),
+        SchemaKind::UnknownName(name) => format!(in alloc; "unknown name {name}"),
+        SchemaKind::CyclicLinks(name) => format!(in alloc; "cyclic links at {name}"),
+        SchemaKind::BadLink(name) => format!(in alloc; "bad link in {name}"),
+    }
+}
+
 // What is wrong with the mapping text.
-fn map_fault_text(fault: MapFault) -> &'static str
-    ensures { result.now ≡ map_fault_text fault }
+fn map_fault_text(alloc: Global, fault: &MapFault) -> Result<String, AllocError>
+    ensures { IfOk result (λ s. string_bytes s ≡ map_fault_text fault.now) }
 {
     match fault {
-        MapFault::Absent => "mapping.clio is absent",
-        MapFault::NotYet => "form not built yet",
+        MapFault::Absent => String::from_str(alloc, "mapping.clio is absent"),
+        MapFault::Text { place, kind } => {
+            let kind = text_kind_text(*kind);
+            format!(in alloc; "{kind} at byte {place}")
+        }
+        MapFault::Source(kind) => {
+            let kind = schema_kind_text(alloc, kind)?;
+            format!(in alloc; "source: {kind}")
+        }
+        MapFault::Target(kind) => {
+            let kind = schema_kind_text(alloc, kind)?;
+            format!(in alloc; "target: {kind}")
+        }
+        MapFault::Reserved(name) => format!(in alloc; "target: reserved name {name}"),
+        MapFault::NotYet => String::from_str(alloc, "form not built yet"),
     }
 }
 
@@ -73,7 +115,7 @@ fn message_string(alloc: Global, ending: &Ending) -> Result<String, AllocError>
         Ending::Done(_) => Ok(String::new(alloc)),
         Ending::Usage => String::from_str(alloc, USAGE),
         Ending::Mapping(fault) => {
-            let fault = map_fault_text(*fault);
+            let fault = map_fault_text(alloc, fault)?;
             format!(in alloc; "mapping: {fault}")
         }
         Ending::Rows { file, fault } => {

@@ -10,3 +10,4 @@ pub mod Steps
 pub mod Examples
 pub mod Levels
 pub mod Inner
+pub mod OneFault

@@ -45,3 +45,11 @@ abbrev pub IsFirstFault : Forest → SchemaFault → Type 0
 IsFirstFault f e =
     (form_fault f ≡ Some e)
     ⊎ ((form_fault f ≡ None) × ((t : ℕ) × IsFirstCycle (model_tables f) t × (e ≡ Bad (CyclicLinks (table_at f t).name))))
+
+-- no sets have two first faults
+abbrev pub OneFirstFault : Type 0
+OneFirstFault = (f : Forest) (d e : SchemaFault) → IsFirstFault f d → IsFirstFault f e → d ≡ e
+
+-- sets that make a schema have none
+abbrev pub FaultlessHaveNone : Type 0
+FaultlessHaveNone = (f : Forest) (e : SchemaFault) → IsFaultless f → ¬ (IsFirstFault f e)

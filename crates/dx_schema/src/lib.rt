@@ -14,7 +14,7 @@ mod tables;
 
 pub use dx_model::{Key, Link};
 pub use fault::{SchemaFault, SchemaKind};
-pub use laws::{inner_tables, links_end};
+pub use laws::{inner_tables, links_end, sets_have_one_fault};
 pub use schema::Schema;
 pub use sets::{KeyDecl, RefDecl, SetTree, Trees};
 pub use tables::Table;

@@ -93,6 +93,13 @@ impl Trees {
         }
     }
 
+    /// Takes a `Vec` over, with no memory.
+    pub fn from_vec(items: Vec<SetTree>) -> Trees
+        ensures { result ≡ forest_of items.items }
+    {
+        Trees { items }
+    }
+
     /// One set more. Where there is no memory for it, the list stays as it was and the set is dropped.
     pub fn push(&mut self, tree: SetTree) -> Result<(), AllocError>
         ensures ok { OnOk result (self.new ≡ followed_by self.old (set tree.label tree.inner none)) }

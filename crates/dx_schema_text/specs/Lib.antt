@@ -1,3 +1,6 @@
-pub mod Tokens
-pub mod FirstForm
-pub mod Lexemes
+pub mod Grammar
+pub mod Reading
+pub mod Spelling
+pub mod Texts
+pub mod Print
+pub mod Laws

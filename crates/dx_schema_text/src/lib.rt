@@ -1,15 +1,24 @@
-//! Mapping texts: their tokens, and mappings in the first form.
+//! Mapping texts: the grammar, what a text says, its first fault with its place, and sets printed back.
+//!
+//! `read_mapping` is Ok exactly for the texts of the grammar (`specs/Grammar.antt`), with the mapping that the text spells
+//! (`specs/Spelling.antt`), and else answers the first fault (`specs/Texts.antt`).
 #![tactic(auto)]
 
-mod bytes;
-mod faults;
-mod first_conditions;
-mod first_form;
-mod first_lexemes;
-mod first_parts;
-mod pieces;
-mod tokenizer;
+mod clauses;
+mod laws;
+mod lexemes;
+mod lines;
+mod mapping;
+mod print;
+mod read;
+mod rules;
+mod texts;
 
-pub use faults::{TextFault, TextKind};
-pub use first_form::{FlatLine, FlatSet, FlatText, read_first_form, says_one_mapping};
-pub use tokenizer::{Token, TokenKind, tokens};
+pub use dx_schema::{KeyDecl, RefDecl, SetTree, Trees};
+pub use dx_tokens::{TextFault, TextKind, Token, TokenKind, tokens};
+pub use laws::{a_text_says_one_thing, what_is_said_is_writable};
+pub use print::print_trees;
+pub use read::read_mapping;
+pub use texts::{
+    AtomText, CellText, DerivedText, LineText, MappingText, PlaceText, RuleText, SourceText,
+};

@@ -2,7 +2,7 @@
 use crate::tests::{Case, PEOPLE, first_failing};
 use std::test::Fail;
 
-const EXAMPLES: [Case; 6] = [
+const EXAMPLES: [Case; 7] = [
     Case {
         mapping: PEOPLE,
         file: "emp.csv",
@@ -61,6 +61,16 @@ const EXAMPLES: [Case; 6] = [
         message: "",
         files: "== b.csv\np,q,r\n?0.0.0,\"u, v\",?0.1.0\n?0.0.1,w,?0.1.1\n== nulls.csv\nnull,variable,value\n?0.0.0,x1,\"u, v\"\n?0.0.1,x1,w\n?0.1.0,x1,\"u, v\"\n?0.1.1,x1,w\n== fold.csv\nnull,value\n",
         said: "b.csv 2\nnulls.csv 4\nfold.csv 0\n",
+    },
+    // there are no reserved words
+    Case {
+        mapping: "mapping 1; source { set set { key, ref; } } target { set line { source, rule; } } line set.ref -> line.rule;",
+        file: "set.csv",
+        data: b"key,ref\n1,2\n",
+        status: 0,
+        message: "",
+        files: "== line.csv\nsource,rule\n?0.0.0,2\n== nulls.csv\nnull,variable,value\n?0.0.0,x1,2\n== fold.csv\nnull,value\n",
+        said: "line.csv 1\nnulls.csv 1\nfold.csv 0\n",
     },
 ];
 

@@ -100,3 +100,64 @@ fn the_target_may_have_so_many_cells(rt: HostRuntime) -> Result<(), Fail> {
     assert!(rt; ends_with(alloc, TEN_COLUMNS, "a.csv", more.as_bytes(), 6, text)?);
     Ok(())
 }
+
+/// A text so many times, between two others.
+fn repeated(
+    alloc: Global,
+    front: &str,
+    each: &str,
+    times: u32,
+    back: &str,
+) -> Result<String, AllocError> {
+    let mut text = String::from_str(alloc, front)?;
+    for _ in 0..times {
+        text.push_str(each)?;
+    }
+    text.push_str(back)?;
+    Ok(text)
+}
+
+/// Whether a mapping is refused with this status and message, whatever the data are.
+fn is_refused(alloc: Global, mapping: &str, status: u8, text: &str) -> Result<bool, AllocError> {
+    ends_with(alloc, mapping, "a.csv", b"x\n", status, text)
+}
+
+const SOURCE: &str = "mapping 1; source { ";
+
+const TARGET: &str = "} target { }";
+
+// The sets have one name, which is the next fault where their count is no longer one.
+const DOUBLE: &str = "mapping: source: double name s";
+
+#[test]
+fn a_schema_may_have_so_many_tables(rt: HostRuntime) -> Result<(), Fail> {
+    let alloc = rt.alloc();
+    let most = repeated(alloc, SOURCE, "set s { x; } ", 64, TARGET)?;
+    assert!(rt; is_refused(alloc, most.as_str(), 4, DOUBLE)?);
+    let more = repeated(alloc, SOURCE, "set s { x; } ", 65, TARGET)?;
+    assert!(rt; is_refused(alloc, more.as_str(), 6, "limit: tables 64")?);
+    Ok(())
+}
+
+#[test]
+fn a_table_may_have_so_many_columns(rt: HostRuntime) -> Result<(), Fail> {
+    let alloc = rt.alloc();
+    let front = "mapping 1; source { set s { ";
+    let back = "c; } } target { }";
+    let most = repeated(alloc, front, "c, ", 63, back)?;
+    assert!(rt; is_refused(alloc, most.as_str(), 4, "mapping: source: double name c")?);
+    let more = repeated(alloc, front, "c, ", 64, back)?;
+    assert!(rt; is_refused(alloc, more.as_str(), 6, "limit: columns 64")?);
+    Ok(())
+}
+
+#[test]
+fn sets_may_be_nested_so_deeply(rt: HostRuntime) -> Result<(), Fail> {
+    let alloc = rt.alloc();
+    for (depth, status, text) in [(16, 4, DOUBLE), (17, 6, "limit: depth 16")] {
+        let open = repeated(alloc, SOURCE, "set s { x; ", depth, "")?;
+        let mapping = repeated(alloc, open.as_str(), "} ", depth, TARGET)?;
+        assert!(rt; is_refused(alloc, mapping.as_str(), status, text)?);
+    }
+    Ok(())
+}

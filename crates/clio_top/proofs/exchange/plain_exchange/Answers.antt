@@ -1,4 +1,4 @@
-use Rattle.std.proofs.Common.{◌≡◌, ◌≤◌, ◌∙◌, sym, true, IsTrue}
+use Rattle.std.proofs.Common.{◌≤◌, ◌∙◌}
 use Rattle.dx_instance.specs.Stored.{facts}
 use Rattle.dx_tgd.specs.Counting.{canonical_cells, rows_in}
 use Rattle.clio_top.specs.Plain.{target_cells}

@@ -1,4 +1,4 @@
-use Rattle.std.proofs.Common.{◌≡◌, ◌≤◌, ◌<◌, length, sym, arith}
+use Rattle.std.proofs.Common.{◌≤◌, ◌<◌, length, arith}
 use Rattle.dx_schema.specs.Tables.{tables_of}
 use Rattle.clio_top.proofs.PlainFacts.{all_widths, few_widths, some_width, widths_more}
 use Rattle.clio_top.proofs.exchange.widths_of.Goals as goal

@@ -1,6 +1,5 @@
-use Rattle.dx_schema_text.proofs.Spelled.{failed_as}
 use Rattle.dx_instance.specs.Stored.{facts, widths}
-use Rattle.clio_top.proofs.EndingFacts.{source_refused, refusal_is_early}
+use Rattle.clio_top.proofs.EndingFacts.{failed_as}
 use Rattle.clio_top.proofs.PlanFacts.{accepted_fits, accepted_prints, exchange_cause, plan_made}
 use Rattle.clio_top.proofs.top.make_plan.Goals as goal
 

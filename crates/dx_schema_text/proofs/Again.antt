@@ -1,0 +1,369 @@
+-- What is spelled is read.
+use Rattle.std.proofs.Common.{◌≡◌, ℕ, zero, suc, Bool, true, false, ◌||◌, List, [], ◌∷◌, ◌++◌, Ok, refl, ap, ◌∙◌, append_assoc}
+use Rattle.std.specs.Prelude.{codes, nat_eq}
+use Rattle.std.specs.Cmp.Lexicographic.{pointwise}
+use Rattle.dx_tokens.specs.declared.scanner.Lexeme.{Lexeme}
+use Rattle.dx_grammar.specs.Readers.{Reader, ◌>>=◌, give, token, next_is, either, many, with_front, Many}
+use Rattle.dx_grammar.proofs.Loops.{Consumes, many_on, many_stops}
+use Rattle.dx_grammar.proofs.Spelled.{Again, NotNext, BeginWith, many_again}
+use Rattle.dx_schema.specs.declared.sets.KeyDecl.{KeyDecl}
+use Rattle.dx_schema.specs.declared.sets.RefDecl.{RefDecl}
+use Rattle.dx_schema.specs.Forest.{Forest, Tree}
+use Rattle.dx_schema_text.specs.declared.clauses.Clause.{Clause}
+use Rattle.dx_schema_text.specs.declared.texts.PlaceText.{PlaceText}
+use Rattle.dx_schema_text.specs.declared.texts.SourceText.{SourceText}
+use Rattle.dx_schema_text.specs.declared.texts.LineText.{LineText}
+use Rattle.dx_schema_text.specs.declared.texts.CellText.{CellText}
+use Rattle.dx_schema_text.specs.declared.texts.AtomText.{AtomText}
+use Rattle.dx_schema_text.specs.declared.texts.DerivedText.{DerivedText}
+use Rattle.dx_schema_text.specs.declared.texts.RuleText.{RuleText}
+use Rattle.dx_schema_text.specs.declared.texts.MappingText.{MappingText}
+use Rattle.dx_schema_text.specs.declared.mapping.ItemText.{ItemText}
+use Rattle.dx_schema_text.specs.Grammar.{is_word, word_is, mark_is}
+use Rattle.dx_schema_text.specs.Reading.{comma_word, words_reader, key_reader, ref_reader, key_clause, ref_clause, set_clause, begins_clause, last_clause_reader, clause_reader_with, set_head_reader, set_reader_of, clause_reader, set_reader, tree_of, place_reader, comma_place, places_reader, string_reader, column_reader, call_reader, named_reader, source_reader, line_reader, name_reader, literal_reader, cell_reader, comma_cell, cells_reader, atom_reader, comma_atom, atoms_reader, derived_reader, comma_derived, where_reader, optional_where, rule_reader, line_item, rule_item, begins_item, item_reader, side_reader, mapping_reader}
+use Rattle.dx_schema_text.specs.Spelling.{IsMark, IsKeyword, Comma, comma_then, Parted, parted, SpellsName, name_of, SpellsKey, key_of, SpellsRef, ref_of, SpellsHead, head_of, SpellsSet, set_of, SpellsClauses, no_clause, clause_first, SpellsClause, a_key, a_ref, a_set, SpellsPlace, place_of, SpellsSource, a_literal, a_column, a_call, SpellsLine, line_of, SpellsCell, a_name, a_text, SpellsAtom, atom_of, SpellsDerived, derived_of, SpellsWhere, no_where, where_of, SpellsRule, rule_of, SpellsItem, a_line, a_rule, SpellsSide, side_of, SpellsMapping, mapping_of}
+use Rattle.dx_schema_text.proofs.Apart.{apart_marks, apart_words, apart_mark_word, apart_word_mark, apart_any_word_string, apart_string_any_word}
+use Rattle.dx_schema_text.proofs.Follows.{comma_word_consumes, comma_place_consumes, comma_cell_consumes, comma_atom_consumes, comma_derived_consumes, clause_consumes, set_consumes, item_consumes}
+
+abbrev comma : Lexeme → Bool
+comma = mark_is (codes ",")
+
+-- whatever is behind it
+abbrev Any : List Lexeme → Type 0
+Any rest = Unit {0}
+
+-- ---- parts
+
+either_left : {A : Type 0} (p : Lexeme → Bool) (r q : Reader Lexeme A) (xs : List Lexeme) → next_is p xs ≡ true → either p r q xs ≡ r xs
+either_left p r q xs e = rw e refl
+
+either_right : {A : Type 0} (p : Lexeme → Bool) (r q : Reader Lexeme A) (xs : List Lexeme) → next_is p xs ≡ false → either p r q xs ≡ q xs
+either_right p r q xs e = rw e refl
+
+last_again : {A B : Type 0} (r : Reader Lexeme A) (h : A → B) (xs rest : List Lexeme) (a : A) → r xs ≡ Ok (a, rest) → (r >>= λ v. give (h v)) xs ≡ Ok (h a, rest)
+last_again r h xs rest a e = rw e refl
+
+comma_behind : {A : Type 0} (r : Reader Lexeme A) (R : A → List Lexeme → Type 0) → Again r R Any → {a : A} {u : List Lexeme} → Comma R a u → (rest : List Lexeme) → (token comma >>= λ c. r) (u ++ rest) ≡ Ok (a, rest)
+comma_behind r R one (comma_then {a = a} {u = u} c e h) rest = rw e (one.again a u rest h tt)
+
+comma_again : {A : Type 0} (r : Reader Lexeme A) (R : A → List Lexeme → Type 0) → Again r R Any → Again (token comma >>= λ c. r) (Comma R) Any
+comma_again r R one = record { again = λ a u rest h ok. comma_behind r R one h rest }
+
+comma_first : {A : Type 0} (R : A → List Lexeme → Type 0) {a : A} {u : List Lexeme} → Comma R a u → (x : Lexeme) × (v : List Lexeme) × (u ≡ x ∷ v) × (comma x ≡ true)
+comma_first R (comma_then {u = u} c e h) = (c, u, refl, e)
+
+comma_begins : {A : Type 0} (R : A → List Lexeme → Type 0) → BeginWith comma (Comma R)
+comma_begins R = record { begin = λ a u h. comma_first R h }
+
+parted_behind : {A : Type 0} (r q : Reader Lexeme A) (R : A → List Lexeme → Type 0) → Again r R Any → Again q (Comma R) Any → Consumes q → {items : List A} {w : List Lexeme} → Parted R items w → (rest : List Lexeme) → NotNext comma rest
+    → (r >>= λ first. many comma q >>= λ others. give (first ∷ others)) (w ++ rest) ≡ Ok (items, rest)
+parted_behind r q R one more consumes (parted {a = a} {others = others} {u = u} {v = v} h m) rest stop =
+    let all = (many_again comma q (Comma R) consumes (comma_begins R) more).again others v rest m stop in
+    rw (append_assoc u v rest, one.again a u (v ++ rest) h tt, all) refl
+
+-- one or more
+parted_again : {A : Type 0} (r q : Reader Lexeme A) (R : A → List Lexeme → Type 0) → Again r R Any → Again q (Comma R) Any → Consumes q → Again (r >>= λ first. many comma q >>= λ others. give (first ∷ others)) (Parted R) (NotNext comma)
+parted_again r q R one more consumes = record { again = λ items w rest h stop. parted_behind r q R one more consumes h rest stop }
+
+-- a mark that is no comma comes next
+no_comma : (m : List ℕ) (x : Lexeme) → pointwise nat_eq m (codes ",") ≡ false → mark_is m x ≡ true → comma x ≡ false
+no_comma m x ne e = apart_marks m (codes ",") ne x e
+
+-- ---- sets
+
+name_behind : {a : List ℕ} {u : List Lexeme} → SpellsName a u → (rest : List Lexeme) → (token is_word >>= λ w. give w.text) (u ++ rest) ≡ Ok (a, rest)
+name_behind (name_of w e) rest = rw e refl
+
+comma_word_again : Again comma_word (Comma SpellsName) Any
+unfolding comma_word
+comma_word_again = comma_again (token is_word >>= λ w. give w.text) SpellsName (record { again = λ a u rest h ok. name_behind h rest })
+
+words_behind : {names : List (List ℕ)} {w : List Lexeme} → Parted SpellsName names w → (rest : List Lexeme) → NotNext comma rest → words_reader (w ++ rest) ≡ Ok (names, rest)
+unfolding words_reader
+words_behind (parted {others = others} {v = v} (name_of x e) m) rest stop =
+    let all = (many_again comma comma_word (Comma SpellsName) comma_word_consumes (comma_begins SpellsName) comma_word_again).again others v rest m stop in
+    rw (e, all) refl
+
+key_behind : {k : KeyDecl} {a : List Lexeme} → SpellsKey k a → (rest : List Lexeme) → key_reader (a ++ rest) ≡ Ok (k, rest)
+unfolding key_reader
+key_behind (key_of {u = u} k o c e kw ow names cw ew) rest =
+    rw (append_assoc u (c ∷ e ∷ []) rest, kw, ow, words_behind names (c ∷ e ∷ rest) (no_comma (codes ")") c refl cw), cw, ew) refl
+
+ref_behind : {r : RefDecl} {a : List Lexeme} → SpellsRef r a → (rest : List Lexeme) → ref_reader (a ++ rest) ≡ Ok (r, rest)
+unfolding ref_reader
+ref_behind (ref_of {u = u} {v = v} k o c arrow s p d e kw ow names cw aw sw pw more dw ew) rest =
+    let tail : (v ++ d ∷ e ∷ []) ++ rest ≡ v ++ d ∷ e ∷ rest = append_assoc v (d ∷ e ∷ []) rest in
+    let all : (u ++ c ∷ arrow ∷ s ∷ p ∷ (v ++ d ∷ e ∷ [])) ++ rest ≡ u ++ c ∷ arrow ∷ s ∷ p ∷ (v ++ d ∷ e ∷ rest) = append_assoc u (c ∷ arrow ∷ s ∷ p ∷ (v ++ d ∷ e ∷ [])) rest ∙ ap (λ ys. u ++ c ∷ arrow ∷ s ∷ p ∷ ys) tail in
+    rw (all, kw, ow, words_behind names (c ∷ arrow ∷ s ∷ p ∷ (v ++ d ∷ e ∷ rest)) (no_comma (codes ")") c refl cw), cw, aw, sw, pw, words_behind more (d ∷ e ∷ rest) (no_comma (codes ")") d refl dw), dw, ew) refl
+
+head_behind : {name : List ℕ} {columns : List (List ℕ)} {a : List Lexeme} → SpellsHead name columns a → (rest : List Lexeme) → set_head_reader (a ++ rest) ≡ Ok ((name, columns), rest)
+unfolding set_head_reader
+head_behind (head_of {u = u} k n o e kw nw ow names ew) rest =
+    rw (append_assoc u (e ∷ []) rest, kw, nw, ow, words_behind names (e ∷ rest) (no_comma (codes ";") e refl ew), ew) refl
+
+key_first : {k : KeyDecl} {a : List Lexeme} → SpellsKey k a → (x : Lexeme) × (v : List Lexeme) × (a ≡ x ∷ v) × IsKeyword (codes "key") x
+key_first (key_of {u = u} k o c e kw ow names cw ew) = (k, o ∷ (u ++ c ∷ e ∷ []), refl, kw)
+
+ref_first : {r : RefDecl} {a : List Lexeme} → SpellsRef r a → (x : Lexeme) × (v : List Lexeme) × (a ≡ x ∷ v) × IsKeyword (codes "ref") x
+ref_first (ref_of {u = u} {v = v} k o c arrow s p d e kw ow names cw aw sw pw more dw ew) = (k, o ∷ (u ++ c ∷ arrow ∷ s ∷ p ∷ (v ++ d ∷ e ∷ [])), refl, kw)
+
+head_first : {name : List ℕ} {columns : List (List ℕ)} {a : List Lexeme} → SpellsHead name columns a → (x : Lexeme) × (v : List Lexeme) × (a ≡ x ∷ v) × IsKeyword (codes "set") x
+head_first (head_of {u = u} k n o e kw nw ow names ew) = (k, n ∷ o ∷ (u ++ e ∷ []), refl, kw)
+
+set_first : {levels : ℕ} {t : Tree} {a : List Lexeme} → SpellsSet levels t a → (x : Lexeme) × (v : List Lexeme) × (a ≡ x ∷ v) × IsKeyword (codes "set") x
+set_first (set_of {u = u} {v = v} c head cs cw) = let h = head_first head in (h.0, h.1 ++ (v ++ c ∷ []), ap (λ ys. ys ++ (v ++ c ∷ [])) h.2, h.3)
+
+-- a test of the token that comes next
+next_true : (p : Lexeme → Bool) (a v rest : List Lexeme) (x : Lexeme) → a ≡ x ∷ v → p x ≡ true → next_is p (a ++ rest) ≡ true
+next_true p a v rest x e t = rw e t
+
+next_false : (p : Lexeme → Bool) (a v rest : List Lexeme) (x : Lexeme) → a ≡ x ∷ v → p x ≡ false → next_is p (a ++ rest) ≡ false
+next_false p a v rest x e t = rw e t
+
+or_left : (p q : Bool) → p ≡ true → (p || q) ≡ true
+or_left true q e = refl
+or_left false q e = absurd cc
+
+or_right : (p q : Bool) → q ≡ true → (p || q) ≡ true
+or_right true q e = refl
+or_right false q e = e
+
+first_clause : {levels : ℕ} {c : Clause} {a : List Lexeme} → SpellsClause levels c a → (x : Lexeme) × (v : List Lexeme) × (a ≡ x ∷ v) × (begins_clause levels x ≡ true)
+first_clause {levels = zero} (a_key h) = let f = key_first h in (f.0, f.1, f.2, or_left (word_is (codes "key") f.0) (word_is (codes "ref") f.0) f.3)
+first_clause {levels = suc levels} (a_key h) = let f = key_first h in (f.0, f.1, f.2, or_left (word_is (codes "key") f.0) (word_is (codes "ref") f.0 || word_is (codes "set") f.0) f.3)
+first_clause {levels = zero} (a_ref h) = let f = ref_first h in (f.0, f.1, f.2, or_right (word_is (codes "key") f.0) (word_is (codes "ref") f.0) f.3)
+first_clause {levels = suc levels} (a_ref h) = let f = ref_first h in (f.0, f.1, f.2, or_right (word_is (codes "key") f.0) (word_is (codes "ref") f.0 || word_is (codes "set") f.0) (or_left (word_is (codes "ref") f.0) (word_is (codes "set") f.0) f.3))
+first_clause {levels = suc levels} (a_set h) = let f = set_first h in (f.0, f.1, f.2, or_right (word_is (codes "key") f.0) (word_is (codes "ref") f.0 || word_is (codes "set") f.0) (or_right (word_is (codes "ref") f.0) (word_is (codes "set") f.0) f.3))
+
+abbrev read_key : Reader Lexeme Clause
+read_key = key_reader >>= λ k. give (key_clause k)
+
+abbrev read_ref : Reader Lexeme Clause
+read_ref = ref_reader >>= λ r. give (ref_clause r)
+
+abbrev read_set : Reader Lexeme Tree → Reader Lexeme Clause
+read_set inner = inner >>= λ t. give (set_clause t)
+
+abbrev read_ref_or_set : Reader Lexeme Tree → Reader Lexeme Clause
+read_ref_or_set inner = either (word_is (codes "ref")) read_ref (read_set inner)
+
+key_clause_behind : {k : KeyDecl} {a : List Lexeme} → SpellsKey k a → (rest : List Lexeme) → (key_reader >>= λ v. give (key_clause v)) (a ++ rest) ≡ Ok (key_clause k, rest)
+key_clause_behind {k = k} {a = a} h rest = last_again key_reader key_clause (a ++ rest) rest k (key_behind h rest)
+
+ref_clause_behind : {r : RefDecl} {a : List Lexeme} → SpellsRef r a → (rest : List Lexeme) → (ref_reader >>= λ v. give (ref_clause v)) (a ++ rest) ≡ Ok (ref_clause r, rest)
+ref_clause_behind {r = r} {a = a} h rest = last_again ref_reader ref_clause (a ++ rest) rest r (ref_behind h rest)
+
+ref_no_key : {r : RefDecl} {a : List Lexeme} → SpellsRef r a → (rest : List Lexeme) → next_is (word_is (codes "key")) (a ++ rest) ≡ false
+ref_no_key {a = a} h rest = let f = ref_first h in next_false (word_is (codes "key")) a f.1 rest f.0 f.2 (apart_words (codes "ref") (codes "key") refl f.0 f.3)
+
+last_clause_key : {k : KeyDecl} {a : List Lexeme} → SpellsKey k a → (rest : List Lexeme) → last_clause_reader (a ++ rest) ≡ Ok (key_clause k, rest)
+unfolding last_clause_reader
+last_clause_key {a = a} h rest = let f = key_first h in either_left (word_is (codes "key")) read_key read_ref (a ++ rest) (next_true (word_is (codes "key")) a f.1 rest f.0 f.2 f.3) ∙ key_clause_behind h rest
+
+last_clause_ref : {r : RefDecl} {a : List Lexeme} → SpellsRef r a → (rest : List Lexeme) → last_clause_reader (a ++ rest) ≡ Ok (ref_clause r, rest)
+unfolding last_clause_reader
+last_clause_ref {a = a} h rest = either_right (word_is (codes "key")) read_key read_ref (a ++ rest) (ref_no_key h rest) ∙ ref_clause_behind h rest
+
+with_key : {k : KeyDecl} {a : List Lexeme} → SpellsKey k a → (inner : Reader Lexeme Tree) (rest : List Lexeme) → clause_reader_with inner (a ++ rest) ≡ Ok (key_clause k, rest)
+unfolding clause_reader_with
+with_key {a = a} h inner rest = let f = key_first h in either_left (word_is (codes "key")) read_key (read_ref_or_set inner) (a ++ rest) (next_true (word_is (codes "key")) a f.1 rest f.0 f.2 f.3) ∙ key_clause_behind h rest
+
+with_ref : {r : RefDecl} {a : List Lexeme} → SpellsRef r a → (inner : Reader Lexeme Tree) (rest : List Lexeme) → clause_reader_with inner (a ++ rest) ≡ Ok (ref_clause r, rest)
+unfolding clause_reader_with
+with_ref {a = a} h inner rest =
+    let f = ref_first h in
+    either_right (word_is (codes "key")) read_key (read_ref_or_set inner) (a ++ rest) (ref_no_key h rest) ∙ either_left (word_is (codes "ref")) read_ref (read_set inner) (a ++ rest) (next_true (word_is (codes "ref")) a f.1 rest f.0 f.2 f.3) ∙ ref_clause_behind h rest
+
+with_set : {levels : ℕ} {t : Tree} {a : List Lexeme} → SpellsSet levels t a → (inner : Reader Lexeme Tree) (rest : List Lexeme) → inner (a ++ rest) ≡ Ok (t, rest) → clause_reader_with inner (a ++ rest) ≡ Ok (set_clause t, rest)
+unfolding clause_reader_with
+with_set {t = t} {a = a} h inner rest read =
+    let f = set_first h in
+    either_right (word_is (codes "key")) read_key (read_ref_or_set inner) (a ++ rest) (next_false (word_is (codes "key")) a f.1 rest f.0 f.2 (apart_words (codes "set") (codes "key") refl f.0 f.3))
+    ∙ either_right (word_is (codes "ref")) read_ref (read_set inner) (a ++ rest) (next_false (word_is (codes "ref")) a f.1 rest f.0 f.2 (apart_words (codes "set") (codes "ref") refl f.0 f.3))
+    ∙ last_again inner set_clause (a ++ rest) rest t read
+
+closing_stops : (levels : ℕ) (c : Lexeme) (rest : List Lexeme) → IsMark (codes "}") c → NotNext (begins_clause levels) (c ∷ rest)
+closing_stops zero c rest cw = rw (apart_mark_word (codes "}") (codes "key") c cw, apart_mark_word (codes "}") (codes "ref") c cw) refl
+closing_stops (suc levels) c rest cw = rw (apart_mark_word (codes "}") (codes "key") c cw, apart_mark_word (codes "}") (codes "ref") c cw, apart_mark_word (codes "}") (codes "set") c cw) refl
+
+set_made : (levels : ℕ) (name : List ℕ) (columns : List (List ℕ)) (cs : List Clause) (c : Lexeme) (xs after rest : List Lexeme) → set_head_reader xs ≡ Ok ((name, columns), after) → many (begins_clause levels) (clause_reader levels) after ≡ Ok (cs, c ∷ rest) → IsMark (codes "}") c
+    → set_reader levels xs ≡ Ok (tree_of name columns cs, rest)
+unfolding set_reader_of
+set_made levels name columns cs c xs after rest e f cw = rw (e, f, cw) refl
+
+mutual
+  unfolding clause_reader
+
+  pub set_behind : {levels : ℕ} {t : Tree} {a : List Lexeme} → SpellsSet levels t a → (rest : List Lexeme) → set_reader levels (a ++ rest) ≡ Ok (t, rest)
+  set_behind {levels = levels} (set_of {name = name} {columns = columns} {cs = cs} {u = u} {v = v} c head clauses cw) rest =
+      let all : (u ++ (v ++ c ∷ [])) ++ rest ≡ u ++ (v ++ c ∷ rest) = append_assoc u (v ++ c ∷ []) rest ∙ ap (λ ys. u ++ ys) (append_assoc v (c ∷ []) rest) in
+      ap (set_reader levels) all ∙ set_made levels name columns cs c (u ++ (v ++ c ∷ rest)) (v ++ c ∷ rest) rest (head_behind head (v ++ c ∷ rest)) (clauses_behind clauses (c ∷ rest) (closing_stops levels c rest cw)) cw
+
+  clauses_behind : {levels : ℕ} {cs : List Clause} {a : List Lexeme} → SpellsClauses levels cs a → (rest : List Lexeme) → NotNext (begins_clause levels) rest → many (begins_clause levels) (clause_reader levels) (a ++ rest) ≡ Ok (cs, rest)
+  clauses_behind {levels = levels} no_clause rest stop = many_stops (begins_clause levels) (clause_reader levels) (clause_consumes levels) rest stop
+  clauses_behind {levels = levels} (clause_first {c = c} {cs = cs} {u = u} {v = v} h more) rest stop =
+      let f = first_clause h in
+      ap (many (begins_clause levels) (clause_reader levels)) (append_assoc u v rest)
+      ∙ many_on (begins_clause levels) (clause_reader levels) (clause_consumes levels) (u ++ (v ++ rest)) (v ++ rest) c (next_true (begins_clause levels) u f.1 (v ++ rest) f.0 f.2 f.3) (clause_behind h (v ++ rest))
+      ∙ ap (with_front (c ∷ [])) (clauses_behind more rest stop)
+
+  clause_behind : {levels : ℕ} {c : Clause} {a : List Lexeme} → SpellsClause levels c a → (rest : List Lexeme) → clause_reader levels (a ++ rest) ≡ Ok (c, rest)
+  clause_behind {levels = zero} (a_key h) rest = last_clause_key h rest
+  clause_behind {levels = suc levels} (a_key h) rest = with_key h (set_reader levels) rest
+  clause_behind {levels = zero} (a_ref h) rest = last_clause_ref h rest
+  clause_behind {levels = suc levels} (a_ref h) rest = with_ref h (set_reader levels) rest
+  clause_behind {levels = suc levels} (a_set h) rest = with_set h (set_reader levels) rest (set_behind h rest)
+
+-- ---- lines
+
+place_behind : {p : PlaceText} {a : List Lexeme} → SpellsPlace p a → (rest : List Lexeme) → place_reader (a ++ rest) ≡ Ok (p, rest)
+unfolding place_reader
+place_behind (place_of s dot c sw dw cw) rest = rw (sw, dw, cw) refl
+
+place_again : Again place_reader SpellsPlace Any
+place_again = record { again = λ p a rest h ok. place_behind h rest }
+
+comma_place_again : Again comma_place (Comma SpellsPlace) Any
+unfolding comma_place
+comma_place_again = comma_again place_reader SpellsPlace place_again
+
+places_again : Again places_reader (Parted SpellsPlace) (NotNext comma)
+unfolding places_reader
+places_again = parted_again place_reader comma_place SpellsPlace place_again comma_place_again comma_place_consumes
+
+source_behind : {s : SourceText} {a : List Lexeme} → SpellsSource s a → (rest : List Lexeme) → source_reader (a ++ rest) ≡ Ok (s, rest)
+unfolding source_reader string_reader named_reader column_reader call_reader
+source_behind (a_literal s sw) rest = rw sw refl
+source_behind (a_column (place_of s dot c sw dw cw)) rest = rw (apart_any_word_string s sw, sw, dw, cw) refl
+source_behind (a_call {args = args} {u = u} n o c nw ow h cw) rest =
+    rw (append_assoc u (c ∷ []) rest, apart_any_word_string n nw, nw, apart_marks (codes "(") (codes ".") refl o ow, ow, places_again.again args u (c ∷ rest) h (no_comma (codes ")") c refl cw), cw) refl
+
+line_behind : {l : LineText} {a : List Lexeme} → SpellsLine l a → (rest : List Lexeme) → line_reader (a ++ rest) ≡ Ok (l, rest)
+unfolding line_reader
+line_behind (line_of {u = u} {v = v} k arrow e kw from aw to ew) rest =
+    let all : (u ++ arrow ∷ (v ++ e ∷ [])) ++ rest ≡ u ++ arrow ∷ (v ++ e ∷ rest) = append_assoc u (arrow ∷ (v ++ e ∷ [])) rest ∙ ap (λ ys. u ++ arrow ∷ ys) (append_assoc v (e ∷ []) rest) in
+    rw (all, kw, source_behind from (arrow ∷ (v ++ e ∷ rest)), aw, place_behind to (e ∷ rest), ew) refl
+
+-- ---- rules
+
+cell_behind : {strings : Bool} {c : CellText} {a : List Lexeme} → SpellsCell strings c a → (rest : List Lexeme) → cell_reader strings (a ++ rest) ≡ Ok (c, rest)
+unfolding cell_reader name_reader literal_reader
+cell_behind {strings = false} (a_name w e) rest = rw e refl
+cell_behind {strings = true} (a_name w e) rest = rw e refl
+cell_behind {strings = true} (a_text s e) rest = rw (apart_string_any_word s e, e) refl
+
+cell_again : (strings : Bool) → Again (cell_reader strings) (SpellsCell strings) Any
+cell_again strings = record { again = λ c a rest h ok. cell_behind h rest }
+
+comma_cell_again : (strings : Bool) → Again (comma_cell strings) (Comma (SpellsCell strings)) Any
+unfolding comma_cell
+comma_cell_again strings = comma_again (cell_reader strings) (SpellsCell strings) (cell_again strings)
+
+cells_again : (strings : Bool) → Again (cells_reader strings) (Parted (SpellsCell strings)) (NotNext comma)
+unfolding cells_reader
+cells_again strings = parted_again (cell_reader strings) (comma_cell strings) (SpellsCell strings) (cell_again strings) (comma_cell_again strings) (comma_cell_consumes strings)
+
+atom_behind : {strings : Bool} {t : AtomText} {a : List Lexeme} → SpellsAtom strings t a → (rest : List Lexeme) → atom_reader strings (a ++ rest) ≡ Ok (t, rest)
+unfolding atom_reader
+atom_behind {strings = strings} (atom_of {cs = cs} {u = u} s o c sw ow h cw) rest =
+    rw (append_assoc u (c ∷ []) rest, sw, ow, (cells_again strings).again cs u (c ∷ rest) h (no_comma (codes ")") c refl cw), cw) refl
+
+atom_again : (strings : Bool) → Again (atom_reader strings) (SpellsAtom strings) Any
+atom_again strings = record { again = λ t a rest h ok. atom_behind h rest }
+
+comma_atom_again : (strings : Bool) → Again (comma_atom strings) (Comma (SpellsAtom strings)) Any
+unfolding comma_atom
+comma_atom_again strings = comma_again (atom_reader strings) (SpellsAtom strings) (atom_again strings)
+
+atoms_again : (strings : Bool) → Again (atoms_reader strings) (Parted (SpellsAtom strings)) (NotNext comma)
+unfolding atoms_reader
+atoms_again strings = parted_again (atom_reader strings) (comma_atom strings) (SpellsAtom strings) (atom_again strings) (comma_atom_again strings) (comma_atom_consumes strings)
+
+derived_behind : {d : DerivedText} {a : List Lexeme} → SpellsDerived d a → (rest : List Lexeme) → derived_reader (a ++ rest) ≡ Ok (d, rest)
+unfolding derived_reader
+derived_behind (derived_of {args = args} {u = u} n equal call o c nw qw kw ow h cw) rest =
+    rw (append_assoc u (c ∷ []) rest, nw, qw, kw, ow, (cells_again false).again args u (c ∷ rest) h (no_comma (codes ")") c refl cw), cw) refl
+
+derived_again : Again derived_reader SpellsDerived Any
+derived_again = record { again = λ d a rest h ok. derived_behind h rest }
+
+comma_derived_again : Again comma_derived (Comma SpellsDerived) Any
+unfolding comma_derived
+comma_derived_again = comma_again derived_reader SpellsDerived derived_again
+
+-- derived variables, up to an arrow
+where_behind : {ds : List DerivedText} {a : List Lexeme} → SpellsWhere ds a → (arrow : Lexeme) (rest : List Lexeme) → IsMark (codes "->") arrow → optional_where (a ++ arrow ∷ rest) ≡ Ok (ds, arrow ∷ rest)
+unfolding optional_where where_reader
+where_behind no_where arrow rest aw = rw (apart_mark_word (codes "->") (codes "where") arrow aw) refl
+where_behind (where_of {ds = ds} {u = u} k kw h) arrow rest aw =
+    rw kw ((parted_again derived_reader comma_derived SpellsDerived derived_again comma_derived_again comma_derived_consumes).again ds u (arrow ∷ rest) h (no_comma (codes "->") arrow refl aw))
+
+-- nothing that may follow the premise begins with a comma
+where_no_comma : {ds : List DerivedText} {a : List Lexeme} → SpellsWhere ds a → (arrow : Lexeme) (rest : List Lexeme) → IsMark (codes "->") arrow → NotNext comma (a ++ arrow ∷ rest)
+where_no_comma no_where arrow rest aw = no_comma (codes "->") arrow refl aw
+where_no_comma (where_of k kw h) arrow rest aw = apart_word_mark (codes "where") (codes ",") k kw
+
+rule_behind : {r : RuleText} {a : List Lexeme} → SpellsRule r a → (rest : List Lexeme) → rule_reader (a ++ rest) ≡ Ok (r, rest)
+unfolding rule_reader
+rule_behind (rule_of {premise = premise} {conclusion = conclusion} {u = u} {v = v} {w = w} k arrow e kw p d aw q ew) rest =
+    let tail : (v ++ arrow ∷ (w ++ e ∷ [])) ++ rest ≡ v ++ arrow ∷ (w ++ e ∷ rest) = append_assoc v (arrow ∷ (w ++ e ∷ [])) rest ∙ ap (λ ys. v ++ arrow ∷ ys) (append_assoc w (e ∷ []) rest) in
+    let all : (u ++ (v ++ arrow ∷ (w ++ e ∷ []))) ++ rest ≡ u ++ (v ++ arrow ∷ (w ++ e ∷ rest)) = append_assoc u (v ++ arrow ∷ (w ++ e ∷ [])) rest ∙ ap (λ ys. u ++ ys) tail in
+    rw (
+      all,
+      kw,
+      (atoms_again false).again premise u (v ++ arrow ∷ (w ++ e ∷ rest)) p (where_no_comma d arrow (w ++ e ∷ rest) aw),
+      where_behind d arrow (w ++ e ∷ rest) aw,
+      aw,
+      (atoms_again true).again conclusion w (e ∷ rest) q (no_comma (codes ";") e refl ew),
+      ew,
+    ) refl
+
+-- ---- mappings
+
+line_first : {l : LineText} {a : List Lexeme} → SpellsLine l a → (x : Lexeme) × (v : List Lexeme) × (a ≡ x ∷ v) × IsKeyword (codes "line") x
+line_first (line_of {u = u} {v = v} k arrow e kw from aw to ew) = (k, u ++ arrow ∷ (v ++ e ∷ []), refl, kw)
+
+rule_first : {r : RuleText} {a : List Lexeme} → SpellsRule r a → (x : Lexeme) × (v : List Lexeme) × (a ≡ x ∷ v) × IsKeyword (codes "rule") x
+rule_first (rule_of {u = u} {v = v} {w = w} k arrow e kw p d aw q ew) = (k, u ++ (v ++ arrow ∷ (w ++ e ∷ [])), refl, kw)
+
+item_first : {i : ItemText} {a : List Lexeme} → SpellsItem i a → (x : Lexeme) × (v : List Lexeme) × (a ≡ x ∷ v) × (begins_item x ≡ true)
+item_first (a_line h) = let f = line_first h in (f.0, f.1, f.2, or_left (word_is (codes "line") f.0) (word_is (codes "rule") f.0) f.3)
+item_first (a_rule h) = let f = rule_first h in (f.0, f.1, f.2, or_right (word_is (codes "line") f.0) (word_is (codes "rule") f.0) f.3)
+
+abbrev read_line : Reader Lexeme ItemText
+read_line = line_reader >>= λ l. give (line_item l)
+
+abbrev read_rule : Reader Lexeme ItemText
+read_rule = rule_reader >>= λ r. give (rule_item r)
+
+item_behind : {i : ItemText} {a : List Lexeme} → SpellsItem i a → (rest : List Lexeme) → item_reader (a ++ rest) ≡ Ok (i, rest)
+unfolding item_reader
+item_behind {a = a} (a_line {l = l} h) rest =
+    let f = line_first h in
+    either_left (word_is (codes "line")) read_line read_rule (a ++ rest) (next_true (word_is (codes "line")) a f.1 rest f.0 f.2 f.3) ∙ last_again line_reader line_item (a ++ rest) rest l (line_behind h rest)
+item_behind {a = a} (a_rule {r = r} h) rest =
+    let f = rule_first h in
+    either_right (word_is (codes "line")) read_line read_rule (a ++ rest) (next_false (word_is (codes "line")) a f.1 rest f.0 f.2 (apart_words (codes "rule") (codes "line") refl f.0 f.3)) ∙ last_again rule_reader rule_item (a ++ rest) rest r (rule_behind h rest)
+
+items_again : Again (many begins_item item_reader) (Many SpellsItem) (NotNext begins_item)
+items_again = many_again begins_item item_reader SpellsItem item_consumes (record { begin = λ i a h. item_first h }) (record { again = λ i a rest h ok. item_behind h rest })
+
+set_begin : (levels : ℕ) (t : Tree) (a : List Lexeme) → SpellsSet levels t a → (x : Lexeme) × (v : List Lexeme) × (a ≡ x ∷ v) × (word_is (codes "set") x ≡ true)
+set_begin levels t a h = set_first h
+
+sets_again : (levels : ℕ) → Again (many (word_is (codes "set")) (set_reader levels)) (Many (SpellsSet levels)) (NotNext (word_is (codes "set")))
+sets_again levels = many_again (word_is (codes "set")) (set_reader levels) (SpellsSet levels) (set_consumes levels) (record { begin = set_begin levels }) (record { again = λ t a rest h ok. set_behind h rest })
+
+side_behind : {name : List ℕ} {levels : ℕ} {f : Forest} {a : List Lexeme} → SpellsSide name levels f a → (rest : List Lexeme) → side_reader name levels (a ++ rest) ≡ Ok (f, rest)
+unfolding side_reader
+side_behind {levels = levels} (side_of {trees = trees} {u = u} k o c kw ow h cw) rest =
+    rw (append_assoc u (c ∷ []) rest, kw, ow, (sets_again levels).again trees u (c ∷ rest) h (apart_mark_word (codes "}") (codes "set") c cw), cw) refl
+
+mapping_behind : {levels : ℕ} {m : MappingText} {a : List Lexeme} → SpellsMapping levels m a → (rest : List Lexeme) → NotNext begins_item rest → mapping_reader levels (a ++ rest) ≡ Ok (m, rest)
+unfolding mapping_reader
+mapping_behind (mapping_of {rest = items} {u = u} {v = v} {w = w} k n e kw nw ew from to h) rest stop =
+    let all : (u ++ (v ++ w)) ++ rest ≡ u ++ (v ++ (w ++ rest)) = append_assoc u (v ++ w) rest ∙ ap (λ ys. u ++ ys) (append_assoc v w rest) in
+    rw (all, kw, nw, ew, side_behind from (v ++ (w ++ rest)), side_behind to (w ++ rest), items_again.again items w rest h stop) refl
+
+pub mapping_again : (levels : ℕ) → Again (mapping_reader levels) (SpellsMapping levels) (NotNext begins_item)
+mapping_again levels = record { again = λ m a rest h stop. mapping_behind h rest stop }

@@ -1,0 +1,83 @@
+-- What is among clauses and items, and one more of them.
+use Rattle.std.proofs.Common.{◌≡◌, List, [], ◌∷◌, ◌++◌, refl, ap, sym, ◌∙◌}
+use Rattle.std.proofs.lemmas.List.{append-nil}
+use Rattle.dx_schema.specs.Forest.{Forest, Tree, none, set, followed_by}
+use Rattle.dx_schema.specs.declared.sets.KeyDecl.{KeyDecl}
+use Rattle.dx_schema.specs.declared.sets.RefDecl.{RefDecl}
+use Rattle.dx_schema_text.specs.declared.clauses.Clause.{Clause}
+use Rattle.dx_schema_text.specs.declared.clauses.Clause.TheVariants as clauses
+use Rattle.dx_schema_text.specs.declared.texts.LineText.{LineText}
+use Rattle.dx_schema_text.specs.declared.texts.RuleText.{RuleText}
+use Rattle.dx_schema_text.specs.declared.mapping.ItemText.{ItemText}
+use Rattle.dx_schema_text.specs.declared.mapping.ItemText.TheVariants as items
+use Rattle.dx_schema_text.specs.Reading.{keys_among, refs_among, sets_among, lines_among, rules_among}
+
+pub keys_among-append : (cs ds : List Clause) → keys_among (cs ++ ds) ≡ keys_among cs ++ keys_among ds
+keys_among-append [] ds = refl
+keys_among-append (clauses.Key k ∷ cs) ds = ap (λ ks. k ∷ ks) (keys_among-append cs ds)
+keys_among-append (clauses.Ref r ∷ cs) ds = keys_among-append cs ds
+keys_among-append (clauses.Set t ∷ cs) ds = keys_among-append cs ds
+
+pub refs_among-append : (cs ds : List Clause) → refs_among (cs ++ ds) ≡ refs_among cs ++ refs_among ds
+refs_among-append [] ds = refl
+refs_among-append (clauses.Key k ∷ cs) ds = refs_among-append cs ds
+refs_among-append (clauses.Ref r ∷ cs) ds = ap (λ rs. r ∷ rs) (refs_among-append cs ds)
+refs_among-append (clauses.Set t ∷ cs) ds = refs_among-append cs ds
+
+pub sets_among-append : (cs ds : List Clause) → sets_among (cs ++ ds) ≡ followed_by (sets_among cs) (sets_among ds)
+sets_among-append [] ds = refl
+sets_among-append (clauses.Key k ∷ cs) ds = sets_among-append cs ds
+sets_among-append (clauses.Ref r ∷ cs) ds = sets_among-append cs ds
+sets_among-append (clauses.Set t ∷ cs) ds = ap (set t.label t.inner) (sets_among-append cs ds)
+
+pub lines_among-append : (is js : List ItemText) → lines_among (is ++ js) ≡ lines_among is ++ lines_among js
+lines_among-append [] js = refl
+lines_among-append (items.Line l ∷ is) js = ap (λ ls. l ∷ ls) (lines_among-append is js)
+lines_among-append (items.Rule r ∷ is) js = lines_among-append is js
+
+pub rules_among-append : (is js : List ItemText) → rules_among (is ++ js) ≡ rules_among is ++ rules_among js
+rules_among-append [] js = refl
+rules_among-append (items.Line l ∷ is) js = rules_among-append is js
+rules_among-append (items.Rule r ∷ is) js = ap (λ rs. r ∷ rs) (rules_among-append is js)
+
+followed_by-none : (f : Forest) → followed_by f none ≡ f
+followed_by-none none = refl
+followed_by-none (set l i r) = ap (set l i) (followed_by-none r)
+
+-- what is among clauses, told of those that were seen
+abbrev pub Among : List Clause → List KeyDecl → List RefDecl → Forest → Type 0
+Among cs keys refs sets = (keys ≡ keys_among cs) × (refs ≡ refs_among cs) × (sets ≡ sets_among cs)
+
+among-append : (cs ds : List Clause) (keys more_keys : List KeyDecl) (refs more_refs : List RefDecl) (sets more_sets : Forest) → keys ≡ keys_among cs → refs ≡ refs_among cs → sets ≡ sets_among cs
+    → more_keys ≡ keys ++ keys_among ds → more_refs ≡ refs ++ refs_among ds → more_sets ≡ followed_by sets (sets_among ds) → Among (cs ++ ds) more_keys more_refs more_sets
+among-append cs ds keys more_keys refs more_refs sets more_sets k r s p q t = (
+  p ∙ ap (λ ks. ks ++ keys_among ds) k ∙ sym (keys_among-append cs ds),
+  q ∙ ap (λ rs. rs ++ refs_among ds) r ∙ sym (refs_among-append cs ds),
+  t ∙ ap (λ f. followed_by f (sets_among ds)) s ∙ sym (sets_among-append cs ds),
+)
+
+pub keys_push : (cs : List Clause) (c : Clause) (key : KeyDecl) (keys more : List KeyDecl) (refs : List RefDecl) (sets : Forest) → c ≡ clauses.Key key → more ≡ keys ++ key ∷ [] → keys ≡ keys_among cs → refs ≡ refs_among cs → sets ≡ sets_among cs
+    → Among (cs ++ c ∷ []) more refs sets
+keys_push cs c key keys more refs sets is pushed k r s =
+    rw is (among-append cs (clauses.Key key ∷ []) keys more refs refs sets sets k r s pushed (sym (append-nil refs)) (sym (followed_by-none sets)))
+
+pub refs_push : (cs : List Clause) (c : Clause) (reference : RefDecl) (keys : List KeyDecl) (refs more : List RefDecl) (sets : Forest) → c ≡ clauses.Ref reference → more ≡ refs ++ reference ∷ [] → keys ≡ keys_among cs → refs ≡ refs_among cs → sets ≡ sets_among cs
+    → Among (cs ++ c ∷ []) keys more sets
+refs_push cs c reference keys refs more sets is pushed k r s =
+    rw is (among-append cs (clauses.Ref reference ∷ []) keys keys refs more sets sets k r s (sym (append-nil keys)) pushed (sym (followed_by-none sets)))
+
+pub sets_push : (cs : List Clause) (c : Clause) (tree : Tree) (keys : List KeyDecl) (refs : List RefDecl) (sets more : Forest) → c ≡ clauses.Set tree → more ≡ followed_by sets (set tree.label tree.inner none) → keys ≡ keys_among cs → refs ≡ refs_among cs → sets ≡ sets_among cs
+    → Among (cs ++ c ∷ []) keys refs more
+sets_push cs c tree keys refs sets more is pushed k r s =
+    rw is (among-append cs (clauses.Set tree ∷ []) keys keys refs refs sets more k r s (sym (append-nil keys)) (sym (append-nil refs)) pushed)
+
+-- the same of items
+pub lines_push : (is : List ItemText) (i : ItemText) (line : LineText) (lines more : List LineText) (rules : List RuleText) → i ≡ items.Line line → more ≡ lines ++ line ∷ [] → lines ≡ lines_among is → rules ≡ rules_among is
+    → (more ≡ lines_among (is ++ i ∷ [])) × (rules ≡ rules_among (is ++ i ∷ []))
+lines_push is i line lines more rules e pushed k r =
+    rw e (pushed ∙ ap (λ ls. ls ++ line ∷ []) k ∙ sym (lines_among-append is (items.Line line ∷ [])), r ∙ sym (append-nil (rules_among is)) ∙ sym (rules_among-append is (items.Line line ∷ [])))
+
+pub rules_push : (is : List ItemText) (i : ItemText) (rule : RuleText) (lines : List LineText) (rules more : List RuleText) → i ≡ items.Rule rule → more ≡ rules ++ rule ∷ [] → lines ≡ lines_among is → rules ≡ rules_among is
+    → (lines ≡ lines_among (is ++ i ∷ [])) × (more ≡ rules_among (is ++ i ∷ []))
+rules_push is i rule lines rules more e pushed k r =
+    rw e (k ∙ sym (append-nil (lines_among is)) ∙ sym (lines_among-append is (items.Rule rule ∷ [])), pushed ∙ ap (λ rs. rs ++ rule ∷ []) r ∙ sym (rules_among-append is (items.Rule rule ∷ [])))

@@ -1,0 +1,406 @@
+-- Each reader reads its form.
+use Rattle.std.proofs.Common.{◌≡◌, ℕ, zero, suc, Bool, true, false, ◌||◌, List, ◌∷◌, refl}
+use Rattle.std.specs.Prelude.{codes}
+use Rattle.dx_tokens.specs.declared.scanner.Lexeme.{Lexeme}
+use Rattle.dx_grammar.specs.Forms.{Form, nothing, one, ◌▸◌, ◌∣◌, repeated, optional}
+use Rattle.dx_grammar.specs.Readers.{Reader, give, token, either, many}
+use Rattle.dx_grammar.proofs.Verdicts.{IsReader, Anything, Stops, Begins, AreApart}
+use Rattle.dx_grammar.proofs.Combined.{one_reads, nothing_reads, then_reads, then_any, last_reads, either_reads, many_reads, begins_one, begins_both, begins_choice, begins_wider, stops_at, stops_past, consumes}
+use Rattle.dx_grammar.proofs.Loops.{Consumes}
+use Rattle.dx_schema.specs.Forest.{Tree}
+use Rattle.dx_schema_text.specs.declared.clauses.Clause.{Clause}
+use Rattle.dx_schema_text.specs.Grammar.{is_word, is_string, word_is, number_is, mark_is, word, string, mark, words, key, ref, set_head, set_of, last_clause, clause_with, clause, set, place, places, behind_word, source, line, cell, cells, atom, atoms, derived, where_part, rule, item, side, mapping}
+use Rattle.dx_schema_text.specs.Reading.{comma_word, words_reader, key_reader, ref_reader, key_clause, ref_clause, set_clause, begins_clause, last_clause_reader, clause_reader_with, set_head_reader, set_reader_of, clause_reader, set_reader, place_reader, comma_place, places_reader, string_reader, column_reader, call_reader, named_reader, source_reader, line_reader, name_reader, literal_reader, cell_reader, comma_cell, cells_reader, atom_reader, comma_atom, atoms_reader, derived_reader, comma_derived, where_reader, optional_where, rule_reader, line_item, rule_item, begins_item, item_reader, side_reader, mapping_reader}
+use Rattle.dx_schema_text.proofs.Apart.{or_false, apart_marks, apart_words, apart_mark_word, apart_word_mark, apart_any_word_string, apart_string_any_word, apart_or, or_apart}
+
+abbrev comma : Lexeme → Bool
+comma = mark_is (codes ",")
+
+-- a token, whatever follows
+a : (p : Lexeme → Bool) → IsReader Anything (one p) (token p)
+a p = one_reads Anything p
+
+-- a mark that is no comma ends what commas part
+comma_stops : (m : List ℕ) (b : Form Lexeme) (more : List (Form Lexeme)) → AreApart comma (mark_is m) → Begins (mark_is m) b → Stops comma (b ∷ more)
+comma_stops m b more apart begins = stops_at comma (mark_is m) b more begins apart
+
+begins_with : (p : Lexeme → Bool) (b : Form Lexeme) → Begins p (one p ▸ b)
+begins_with p b = begins_both p (one p) b (begins_one p)
+
+-- ---- names
+
+pub comma_word_reads : IsReader Anything (mark (codes ",") ▸ word) comma_word
+unfolding comma_word
+comma_word_reads = then_any Anything (mark (codes ",")) word (token comma) _ (a comma) (λ c. last_reads Anything word (token is_word) (λ w. w.text) (a is_word))
+
+pub comma_word_consumes : Consumes comma_word
+comma_word_consumes = consumes comma (mark (codes ",") ▸ word) comma_word comma_word_reads (begins_with comma word)
+
+pub words_reads : IsReader (Stops comma) words words_reader
+unfolding words words_reader
+words_reads =
+    then_any (Stops comma) word (repeated (mark (codes ",") ▸ word)) (token is_word) _ (a is_word) (λ first.
+    last_reads (Stops comma) (repeated (mark (codes ",") ▸ word)) (many comma comma_word) (λ others. first.text ∷ others)
+    (many_reads comma (mark (codes ",") ▸ word) comma_word comma_word_reads (begins_with comma word)))
+
+-- ---- sets
+
+pub key_begins : Begins (word_is (codes "key")) key
+unfolding key
+key_begins = begins_with (word_is (codes "key")) _
+
+pub ref_begins : Begins (word_is (codes "ref")) ref
+unfolding ref
+ref_begins = begins_with (word_is (codes "ref")) _
+
+pub set_of_begins : (inner : Form Lexeme) → Begins (word_is (codes "set")) (set_of inner)
+unfolding set_of set_head
+set_of_begins inner = begins_both (word_is (codes "set")) set_head _ (begins_with (word_is (codes "set")) _)
+
+pub key_reads : IsReader Anything key key_reader
+unfolding key key_reader
+key_reads =
+    then_any Anything _ _ _ _ (a (word_is (codes "key"))) (λ keyword'.
+    then_any Anything _ _ _ _ (a (mark_is (codes "("))) (λ opening.
+    then_reads Anything (Stops comma) words (mark (codes ")") ▸ mark (codes ";")) words_reader _ words_reads (λ columns.
+    then_any Anything _ _ _ _ (a (mark_is (codes ")"))) (λ closing.
+    last_reads Anything (mark (codes ";")) (token (mark_is (codes ";"))) _ (a (mark_is (codes ";")))))
+    (λ more ok. comma_stops (codes ")") _ more (apart_marks (codes ",") (codes ")") refl) (begins_with (mark_is (codes ")")) _))))
+
+pub ref_reads : IsReader Anything ref ref_reader
+unfolding ref ref_reader
+ref_reads =
+    then_any Anything _ _ _ _ (a (word_is (codes "ref"))) (λ keyword'.
+    then_any Anything _ _ _ _ (a (mark_is (codes "("))) (λ opening.
+    then_reads Anything (Stops comma) words _ words_reader _ words_reads (λ columns.
+    then_any Anything _ _ _ _ (a (mark_is (codes ")"))) (λ closing.
+    then_any Anything _ _ _ _ (a (mark_is (codes "->"))) (λ arrow.
+    then_any Anything _ _ _ _ (a is_word) (λ referred_set.
+    then_any Anything _ _ _ _ (a (mark_is (codes "("))) (λ second.
+    then_reads Anything (Stops comma) words (mark (codes ")") ▸ mark (codes ";")) words_reader _ words_reads (λ referred.
+    then_any Anything _ _ _ _ (a (mark_is (codes ")"))) (λ closed.
+    last_reads Anything (mark (codes ";")) (token (mark_is (codes ";"))) _ (a (mark_is (codes ";")))))
+    (λ more ok. comma_stops (codes ")") _ more (apart_marks (codes ",") (codes ")") refl) (begins_with (mark_is (codes ")")) _)))))))
+    (λ more ok. comma_stops (codes ")") _ more (apart_marks (codes ",") (codes ")") refl) (begins_with (mark_is (codes ")")) _))))
+
+pub last_clause_reads : IsReader Anything last_clause last_clause_reader
+unfolding last_clause last_clause_reader
+last_clause_reads =
+    either_reads Anything (word_is (codes "key")) key ref _ _ (last_reads Anything key key_reader key_clause key_reads) (last_reads Anything ref ref_reader ref_clause ref_reads) key_begins
+    (λ more ok. stops_at (word_is (codes "key")) (word_is (codes "ref")) ref more ref_begins (apart_words (codes "key") (codes "ref") refl))
+
+abbrev ref_or_set : Lexeme → Bool
+ref_or_set x = word_is (codes "ref") x || word_is (codes "set") x
+
+pub clause_with_reads : (inner : Form Lexeme) (r : Reader Lexeme Tree) → IsReader Anything inner r → Begins (word_is (codes "set")) inner → IsReader Anything (clause_with inner) (clause_reader_with r)
+unfolding clause_with clause_reader_with
+clause_with_reads inner r reads begins =
+    either_reads Anything (word_is (codes "key")) key (ref ∣ inner) _ _ (last_reads Anything key key_reader key_clause key_reads)
+    (either_reads Anything (word_is (codes "ref")) ref inner _ _ (last_reads Anything ref ref_reader ref_clause ref_reads) (last_reads Anything inner r set_clause reads) ref_begins
+    (λ more ok. stops_at (word_is (codes "ref")) (word_is (codes "set")) inner more begins (apart_words (codes "ref") (codes "set") refl)))
+    key_begins
+    (λ more ok. stops_at (word_is (codes "key")) ref_or_set (ref ∣ inner) more
+    (begins_choice ref_or_set ref inner
+    (begins_wider (word_is (codes "ref")) ref_or_set ref (λ x e. (or_false (word_is (codes "ref") x) (word_is (codes "set") x) e).0) ref_begins)
+    (begins_wider (word_is (codes "set")) ref_or_set inner (λ x e. (or_false (word_is (codes "ref") x) (word_is (codes "set") x) e).1) begins))
+    (apart_or (word_is (codes "key")) (word_is (codes "ref")) (word_is (codes "set")) (apart_words (codes "key") (codes "ref") refl) (apart_words (codes "key") (codes "set") refl)))
+
+set_head_reads : IsReader Anything set_head set_head_reader
+unfolding set_head set_head_reader
+set_head_reads =
+    then_any Anything _ _ _ _ (a (word_is (codes "set"))) (λ keyword'.
+    then_any Anything _ _ _ _ (a is_word) (λ name.
+    then_any Anything _ _ _ _ (a (mark_is (codes "{"))) (λ opening.
+    then_reads Anything (Stops comma) words (mark (codes ";")) words_reader _ words_reads (λ columns.
+    last_reads Anything (mark (codes ";")) (token (mark_is (codes ";"))) _ (a (mark_is (codes ";"))))
+    (λ more ok. comma_stops (codes ";") _ more (apart_marks (codes ",") (codes ";") refl) (begins_one (mark_is (codes ";")))))))
+
+pub set_of_reads : (begins : Lexeme → Bool) (inner : Form Lexeme) (r : Reader Lexeme Clause) → IsReader Anything inner r → Begins begins inner → AreApart begins (mark_is (codes "}")) → IsReader Anything (set_of inner) (set_reader_of begins r)
+unfolding set_of set_reader_of
+set_of_reads begins inner r reads first apart =
+    then_any Anything set_head _ set_head_reader _ set_head_reads (λ head.
+    then_reads Anything (Stops begins) (repeated inner) (mark (codes "}")) (many begins r) _ (many_reads begins inner r reads first) (λ cs.
+    last_reads Anything (mark (codes "}")) (token (mark_is (codes "}"))) _ (a (mark_is (codes "}"))))
+    (λ more ok. stops_at begins (mark_is (codes "}")) (mark (codes "}")) more (begins_one (mark_is (codes "}"))) apart))
+
+last_clause_begins : Begins (begins_clause 0) last_clause
+unfolding last_clause
+last_clause_begins =
+    begins_choice (begins_clause 0) key ref
+    (begins_wider (word_is (codes "key")) (begins_clause 0) key (λ x e. (or_false (word_is (codes "key") x) (word_is (codes "ref") x) e).0) key_begins)
+    (begins_wider (word_is (codes "ref")) (begins_clause 0) ref (λ x e. (or_false (word_is (codes "key") x) (word_is (codes "ref") x) e).1) ref_begins)
+
+clause_with_begins : (levels : ℕ) (inner : Form Lexeme) → Begins (word_is (codes "set")) inner → Begins (begins_clause (suc levels)) (clause_with inner)
+unfolding clause_with
+clause_with_begins levels inner begins =
+    let two : (x : Lexeme) → begins_clause (suc levels) x ≡ false → ref_or_set x ≡ false = λ x e. (or_false (word_is (codes "key") x) (ref_or_set x) e).1 in
+    begins_choice (begins_clause (suc levels)) key (ref ∣ inner)
+    (begins_wider (word_is (codes "key")) (begins_clause (suc levels)) key (λ x e. (or_false (word_is (codes "key") x) (ref_or_set x) e).0) key_begins)
+    (begins_choice (begins_clause (suc levels)) ref inner
+    (begins_wider (word_is (codes "ref")) (begins_clause (suc levels)) ref (λ x e. (or_false (word_is (codes "ref") x) (word_is (codes "set") x) (two x e)).0) ref_begins)
+    (begins_wider (word_is (codes "set")) (begins_clause (suc levels)) inner (λ x e. (or_false (word_is (codes "ref") x) (word_is (codes "set") x) (two x e)).1) begins))
+
+pub clause_begins : (levels : ℕ) → Begins (begins_clause levels) (clause levels)
+unfolding clause
+clause_begins zero = last_clause_begins
+clause_begins (suc levels) = clause_with_begins levels (set_of (clause levels)) (set_of_begins (clause levels))
+
+clause_apart : (levels : ℕ) → AreApart (begins_clause levels) (mark_is (codes "}"))
+clause_apart zero = or_apart (word_is (codes "key")) (word_is (codes "ref")) (mark_is (codes "}")) (apart_word_mark (codes "key") (codes "}")) (apart_word_mark (codes "ref") (codes "}"))
+clause_apart (suc levels) =
+    or_apart (word_is (codes "key")) ref_or_set (mark_is (codes "}")) (apart_word_mark (codes "key") (codes "}"))
+    (or_apart (word_is (codes "ref")) (word_is (codes "set")) (mark_is (codes "}")) (apart_word_mark (codes "ref") (codes "}")) (apart_word_mark (codes "set") (codes "}")))
+
+pub clause_reads : (levels : ℕ) → IsReader Anything (clause levels) (clause_reader levels)
+unfolding clause clause_reader
+clause_reads zero = last_clause_reads
+clause_reads (suc levels) =
+    clause_with_reads (set_of (clause levels)) (set_reader_of (begins_clause levels) (clause_reader levels))
+    (set_of_reads (begins_clause levels) (clause levels) (clause_reader levels) (clause_reads levels) (clause_begins levels) (clause_apart levels)) (set_of_begins (clause levels))
+
+pub clause_consumes : (levels : ℕ) → Consumes (clause_reader levels)
+clause_consumes levels = consumes (begins_clause levels) (clause levels) (clause_reader levels) (clause_reads levels) (clause_begins levels)
+
+pub set_reads : (levels : ℕ) → IsReader Anything (set levels) (set_reader levels)
+set_reads levels = set_of_reads (begins_clause levels) (clause levels) (clause_reader levels) (clause_reads levels) (clause_begins levels) (clause_apart levels)
+
+pub set_consumes : (levels : ℕ) → Consumes (set_reader levels)
+set_consumes levels = consumes (word_is (codes "set")) (set levels) (set_reader levels) (set_reads levels) (set_of_begins (clause levels))
+
+-- ---- lines
+
+pub place_reads : IsReader Anything place place_reader
+unfolding place place_reader
+place_reads =
+    then_any Anything _ _ _ _ (a is_word) (λ s.
+    then_any Anything _ _ _ _ (a (mark_is (codes "."))) (λ dot.
+    last_reads Anything word (token is_word) _ (a is_word)))
+
+pub comma_place_reads : IsReader Anything (mark (codes ",") ▸ place) comma_place
+unfolding comma_place
+comma_place_reads = then_any Anything (mark (codes ",")) place (token comma) _ (a comma) (λ c. place_reads)
+
+pub comma_place_consumes : Consumes comma_place
+comma_place_consumes = consumes comma (mark (codes ",") ▸ place) comma_place comma_place_reads (begins_with comma place)
+
+pub places_reads : IsReader (Stops comma) places places_reader
+unfolding places places_reader
+places_reads =
+    then_any (Stops comma) place (repeated (mark (codes ",") ▸ place)) place_reader _ place_reads (λ first.
+    last_reads (Stops comma) (repeated (mark (codes ",") ▸ place)) (many comma comma_place) (λ others. first ∷ others)
+    (many_reads comma (mark (codes ",") ▸ place) comma_place comma_place_reads (begins_with comma place)))
+
+column_reads : (name : Lexeme) → IsReader Anything (mark (codes ".") ▸ word) (column_reader name)
+unfolding column_reader
+column_reads name = then_any Anything _ _ _ _ (a (mark_is (codes "."))) (λ dot. last_reads Anything word (token is_word) _ (a is_word))
+
+call_reads : (name : Lexeme) → IsReader Anything (mark (codes "(") ▸ places ▸ mark (codes ")")) (call_reader name)
+unfolding call_reader
+call_reads name =
+    then_any Anything _ _ _ _ (a (mark_is (codes "("))) (λ opening.
+    then_reads Anything (Stops comma) places (mark (codes ")")) places_reader _ places_reads (λ args.
+    last_reads Anything (mark (codes ")")) (token (mark_is (codes ")"))) _ (a (mark_is (codes ")"))))
+    (λ more ok. comma_stops (codes ")") _ more (apart_marks (codes ",") (codes ")") refl) (begins_one (mark_is (codes ")")))))
+
+behind_reads : (name : Lexeme) → IsReader Anything behind_word (either (mark_is (codes ".")) (column_reader name) (call_reader name))
+unfolding behind_word
+behind_reads name =
+    either_reads Anything (mark_is (codes ".")) _ _ _ _ (column_reads name) (call_reads name) (begins_with (mark_is (codes ".")) word)
+    (λ more ok. stops_at (mark_is (codes ".")) (mark_is (codes "(")) _ more (begins_with (mark_is (codes "(")) _) (apart_marks (codes ".") (codes "(") refl))
+
+string_reads : IsReader Anything string string_reader
+unfolding string_reader
+string_reads = last_reads Anything string (token is_string) _ (a is_string)
+
+named_reads : IsReader Anything (word ▸ behind_word) named_reader
+unfolding named_reader
+named_reads = then_any Anything word behind_word (token is_word) _ (a is_word) (λ name. behind_reads name)
+
+pub source_reads : IsReader Anything source source_reader
+unfolding source source_reader
+source_reads =
+    either_reads Anything is_string string (word ▸ behind_word) string_reader named_reader string_reads named_reads (begins_one is_string)
+    (λ more ok. stops_at is_string is_word (word ▸ behind_word) more (begins_with is_word behind_word) apart_string_any_word)
+
+pub line_reads : IsReader Anything line line_reader
+unfolding line line_reader
+line_reads =
+    then_any Anything _ _ _ _ (a (word_is (codes "line"))) (λ keyword'.
+    then_any Anything source _ source_reader _ source_reads (λ from.
+    then_any Anything _ _ _ _ (a (mark_is (codes "->"))) (λ arrow.
+    then_any Anything place _ place_reader _ place_reads (λ target.
+    last_reads Anything (mark (codes ";")) (token (mark_is (codes ";"))) _ (a (mark_is (codes ";")))))))
+
+-- ---- rules
+
+name_reads : IsReader Anything word name_reader
+unfolding name_reader
+name_reads = last_reads Anything word (token is_word) _ (a is_word)
+
+literal_reads : IsReader Anything string literal_reader
+unfolding literal_reader
+literal_reads = last_reads Anything string (token is_string) _ (a is_string)
+
+pub cell_reads : (strings : Bool) → IsReader Anything (cell strings) (cell_reader strings)
+unfolding cell cell_reader
+cell_reads false = name_reads
+cell_reads true =
+    either_reads Anything is_word word string name_reader literal_reader name_reads literal_reads (begins_one is_word)
+    (λ more ok. stops_at is_word is_string string more (begins_one is_string) apart_any_word_string)
+
+pub comma_cell_reads : (strings : Bool) → IsReader Anything (mark (codes ",") ▸ cell strings) (comma_cell strings)
+unfolding comma_cell
+comma_cell_reads strings = then_any Anything (mark (codes ",")) (cell strings) (token comma) _ (a comma) (λ c. cell_reads strings)
+
+pub comma_cell_consumes : (strings : Bool) → Consumes (comma_cell strings)
+comma_cell_consumes strings = consumes comma (mark (codes ",") ▸ cell strings) (comma_cell strings) (comma_cell_reads strings) (begins_with comma (cell strings))
+
+pub cells_reads : (strings : Bool) → IsReader (Stops comma) (cells strings) (cells_reader strings)
+unfolding cells cells_reader
+cells_reads strings =
+    then_any (Stops comma) (cell strings) (repeated (mark (codes ",") ▸ cell strings)) (cell_reader strings) _ (cell_reads strings) (λ first.
+    last_reads (Stops comma) (repeated (mark (codes ",") ▸ cell strings)) (many comma (comma_cell strings)) (λ others. first ∷ others)
+    (many_reads comma (mark (codes ",") ▸ cell strings) (comma_cell strings) (comma_cell_reads strings) (begins_with comma (cell strings))))
+
+pub atom_reads : (strings : Bool) → IsReader Anything (atom strings) (atom_reader strings)
+unfolding atom atom_reader
+atom_reads strings =
+    then_any Anything _ _ _ _ (a is_word) (λ s.
+    then_any Anything _ _ _ _ (a (mark_is (codes "("))) (λ opening.
+    then_reads Anything (Stops comma) (cells strings) (mark (codes ")")) (cells_reader strings) _ (cells_reads strings) (λ inside.
+    last_reads Anything (mark (codes ")")) (token (mark_is (codes ")"))) _ (a (mark_is (codes ")"))))
+    (λ more ok. comma_stops (codes ")") _ more (apart_marks (codes ",") (codes ")") refl) (begins_one (mark_is (codes ")"))))))
+
+pub comma_atom_reads : (strings : Bool) → IsReader Anything (mark (codes ",") ▸ atom strings) (comma_atom strings)
+unfolding comma_atom
+comma_atom_reads strings = then_any Anything (mark (codes ",")) (atom strings) (token comma) _ (a comma) (λ c. atom_reads strings)
+
+pub comma_atom_consumes : (strings : Bool) → Consumes (comma_atom strings)
+comma_atom_consumes strings = consumes comma (mark (codes ",") ▸ atom strings) (comma_atom strings) (comma_atom_reads strings) (begins_with comma (atom strings))
+
+pub atoms_reads : (strings : Bool) → IsReader (Stops comma) (atoms strings) (atoms_reader strings)
+unfolding atoms atoms_reader
+atoms_reads strings =
+    then_any (Stops comma) (atom strings) (repeated (mark (codes ",") ▸ atom strings)) (atom_reader strings) _ (atom_reads strings) (λ first.
+    last_reads (Stops comma) (repeated (mark (codes ",") ▸ atom strings)) (many comma (comma_atom strings)) (λ others. first ∷ others)
+    (many_reads comma (mark (codes ",") ▸ atom strings) (comma_atom strings) (comma_atom_reads strings) (begins_with comma (atom strings))))
+
+pub derived_reads : IsReader Anything derived derived_reader
+unfolding derived derived_reader
+derived_reads =
+    then_any Anything _ _ _ _ (a is_word) (λ name.
+    then_any Anything _ _ _ _ (a (mark_is (codes "="))) (λ equal.
+    then_any Anything _ _ _ _ (a is_word) (λ call.
+    then_any Anything _ _ _ _ (a (mark_is (codes "("))) (λ opening.
+    then_reads Anything (Stops comma) (cells false) (mark (codes ")")) (cells_reader false) _ (cells_reads false) (λ args.
+    last_reads Anything (mark (codes ")")) (token (mark_is (codes ")"))) _ (a (mark_is (codes ")"))))
+    (λ more ok. comma_stops (codes ")") _ more (apart_marks (codes ",") (codes ")") refl) (begins_one (mark_is (codes ")"))))))))
+
+pub comma_derived_reads : IsReader Anything (mark (codes ",") ▸ derived) comma_derived
+unfolding comma_derived
+comma_derived_reads = then_any Anything (mark (codes ",")) derived (token comma) _ (a comma) (λ c. derived_reads)
+
+pub comma_derived_consumes : Consumes comma_derived
+comma_derived_consumes = consumes comma (mark (codes ",") ▸ derived) comma_derived comma_derived_reads (begins_with comma derived)
+
+where_reads : IsReader (Stops comma) where_part where_reader
+unfolding where_part where_reader
+where_reads =
+    then_any (Stops comma) _ _ _ _ (a (word_is (codes "where"))) (λ keyword'.
+    then_any (Stops comma) derived (repeated (mark (codes ",") ▸ derived)) derived_reader _ derived_reads (λ first.
+    last_reads (Stops comma) (repeated (mark (codes ",") ▸ derived)) (many comma comma_derived) (λ others. first ∷ others)
+    (many_reads comma (mark (codes ",") ▸ derived) comma_derived comma_derived_reads (begins_with comma derived))))
+
+where_begins : Begins (word_is (codes "where")) where_part
+unfolding where_part
+where_begins = begins_with (word_is (codes "where")) _
+
+-- neither a comma nor "where" begins what follows
+abbrev NoMore : List (Form Lexeme) → Type 0
+NoMore more = Stops comma more × Stops (word_is (codes "where")) more
+
+optional_where_reads : IsReader NoMore (optional where_part) optional_where
+unfolding optional_where
+optional_where_reads =
+    either_reads NoMore (word_is (codes "where")) where_part nothing where_reader (give _) (record { reads = λ more xs ok. where_reads.reads more xs ok.0; leaves = where_reads.leaves }) (nothing_reads NoMore _) where_begins
+    (λ more ok. stops_past (word_is (codes "where")) nothing more (λ x e. refl) ok.1)
+
+arrow_stops : (rest : Form Lexeme) (more : List (Form Lexeme)) → NoMore ((mark (codes "->") ▸ rest) ∷ more)
+arrow_stops rest more = (
+  comma_stops (codes "->") _ more (apart_marks (codes ",") (codes "->") refl) (begins_with (mark_is (codes "->")) rest),
+  stops_at (word_is (codes "where")) (mark_is (codes "->")) _ more (begins_with (mark_is (codes "->")) rest) (apart_word_mark (codes "where") (codes "->")),
+)
+
+abbrev where_or_arrow : Lexeme → Bool
+where_or_arrow x = word_is (codes "where") x || mark_is (codes "->") x
+
+where_or_arrow_begins : (rest : Form Lexeme) → Begins where_or_arrow (optional where_part ▸ mark (codes "->") ▸ rest)
+where_or_arrow_begins rest = record {
+  some = rw where_begins.some refl;
+  first = λ x e. let two = or_false (word_is (codes "where") x) (mark_is (codes "->") x) e in rw (where_begins.first x two.0, where_begins.some, two.1) refl;
+}
+
+-- a comma begins neither "where" nor an arrow
+where_stops : (rest : Form Lexeme) (more : List (Form Lexeme)) → Stops comma ((optional where_part ▸ mark (codes "->") ▸ rest) ∷ more)
+where_stops rest more =
+    stops_at comma where_or_arrow (optional where_part ▸ mark (codes "->") ▸ rest) more (where_or_arrow_begins rest)
+    (apart_or comma (word_is (codes "where")) (mark_is (codes "->")) (apart_mark_word (codes ",") (codes "where")) (apart_marks (codes ",") (codes "->") refl))
+
+pub rule_reads : IsReader Anything rule rule_reader
+unfolding rule rule_reader
+rule_reads =
+    then_any Anything _ _ _ _ (a (word_is (codes "rule"))) (λ keyword'.
+    then_reads Anything (Stops comma) (atoms false) _ (atoms_reader false) _ (atoms_reads false) (λ premise.
+    then_reads Anything NoMore (optional where_part) _ optional_where _ optional_where_reads (λ derived'.
+    then_any Anything _ _ _ _ (a (mark_is (codes "->"))) (λ arrow.
+    then_reads Anything (Stops comma) (atoms true) (mark (codes ";")) (atoms_reader true) _ (atoms_reads true) (λ conclusion.
+    last_reads Anything (mark (codes ";")) (token (mark_is (codes ";"))) _ (a (mark_is (codes ";"))))
+    (λ more ok. comma_stops (codes ";") _ more (apart_marks (codes ",") (codes ";") refl) (begins_one (mark_is (codes ";"))))))
+    (λ more ok. arrow_stops _ more))
+    (λ more ok. where_stops _ more))
+
+-- ---- mappings
+
+line_begins : Begins (word_is (codes "line")) line
+unfolding line
+line_begins = begins_with (word_is (codes "line")) _
+
+rule_begins : Begins (word_is (codes "rule")) rule
+unfolding rule
+rule_begins = begins_with (word_is (codes "rule")) _
+
+pub item_begins : Begins begins_item item
+unfolding item
+item_begins =
+    begins_choice begins_item line rule
+    (begins_wider (word_is (codes "line")) begins_item line (λ x e. (or_false (word_is (codes "line") x) (word_is (codes "rule") x) e).0) line_begins)
+    (begins_wider (word_is (codes "rule")) begins_item rule (λ x e. (or_false (word_is (codes "line") x) (word_is (codes "rule") x) e).1) rule_begins)
+
+pub item_reads : IsReader Anything item item_reader
+unfolding item item_reader
+item_reads =
+    either_reads Anything (word_is (codes "line")) line rule _ _ (last_reads Anything line line_reader line_item line_reads) (last_reads Anything rule rule_reader rule_item rule_reads) line_begins
+    (λ more ok. stops_at (word_is (codes "line")) (word_is (codes "rule")) rule more rule_begins (apart_words (codes "line") (codes "rule") refl))
+
+pub item_consumes : Consumes item_reader
+item_consumes = consumes begins_item item item_reader item_reads item_begins
+
+pub side_reads : (name : List ℕ) (levels : ℕ) → IsReader Anything (side name levels) (side_reader name levels)
+unfolding side side_reader
+side_reads name levels =
+    then_any Anything _ _ _ _ (a (word_is name)) (λ keyword'.
+    then_any Anything _ _ _ _ (a (mark_is (codes "{"))) (λ opening.
+    then_reads Anything (Stops (word_is (codes "set"))) (repeated (set levels)) (mark (codes "}")) (many (word_is (codes "set")) (set_reader levels)) _
+    (many_reads (word_is (codes "set")) (set levels) (set_reader levels) (set_reads levels) (set_of_begins (clause levels))) (λ trees.
+    last_reads Anything (mark (codes "}")) (token (mark_is (codes "}"))) _ (a (mark_is (codes "}"))))
+    (λ more ok. stops_at (word_is (codes "set")) (mark_is (codes "}")) (mark (codes "}")) more (begins_one (mark_is (codes "}"))) (apart_word_mark (codes "set") (codes "}")))))
+
+pub mapping_reads : (levels : ℕ) → IsReader (Stops begins_item) (mapping (codes "1") levels) (mapping_reader levels)
+unfolding mapping mapping_reader
+mapping_reads levels =
+    then_any (Stops begins_item) _ _ _ _ (a (word_is (codes "mapping"))) (λ keyword'.
+    then_any (Stops begins_item) _ _ _ _ (a (number_is (codes "1"))) (λ version.
+    then_any (Stops begins_item) _ _ _ _ (a (mark_is (codes ";"))) (λ ending.
+    then_any (Stops begins_item) _ _ (side_reader (codes "source") levels) _ (side_reads (codes "source") levels) (λ from.
+    then_any (Stops begins_item) _ _ (side_reader (codes "target") levels) _ (side_reads (codes "target") levels) (λ to.
+    last_reads (Stops begins_item) (repeated item) (many begins_item item_reader) _ (many_reads begins_item item item_reader item_reads item_begins))))))

@@ -1,0 +1,298 @@
+-- Printed sets are read again.
+use Rattle.std.proofs.Common.{◌≡◌, ℕ, zero, suc, ◌≤◌, true, List, [], ◌∷◌, ◌++◌, map, refl, sym, ap, ◌∙◌, subst, append_assoc, arith}
+use Rattle.std.specs.Prelude.{IsTrue, codes}
+use Rattle.std.specs.List.{flat_map}
+use Rattle.std.proofs.lemmas.List.{append-nil}
+use Rattle.dx_ports.specs.Members.{here, there, Each}
+use Rattle.dx_tokens.specs.declared.tokenizer.TokenKind.TheVariants.{Word, Number}
+use Rattle.dx_tokens.specs.declared.scanner.Lexeme.{Lexeme}
+use Rattle.dx_tokens.specs.Tokens.{is_blank, is_digit}
+use Rattle.dx_tokens.specs.Lexing as lexing
+use Rattle.dx_grammar.specs.Readers.{Many, no_more, one_more}
+use Rattle.dx_schema.specs.declared.sets.KeyDecl.{KeyDecl}
+use Rattle.dx_schema.specs.declared.sets.RefDecl.{RefDecl}
+use Rattle.dx_schema.specs.Forest.{Label, Forest, none, set, Tree, forest_of}
+use Rattle.dx_schema.specs.Faults.{depth}
+use Rattle.dx_schema_text.specs.declared.clauses.Clause.{Clause}
+use Rattle.dx_schema_text.specs.Reading.{key_clause, ref_clause, set_clause, keys_among, refs_among, sets_among, tree_of}
+use Rattle.dx_schema_text.specs.Grammar.{word_is}
+use Rattle.dx_schema_text.specs.Spelling.{IsMark, IsWord, Comma, comma_then, Parted, parted, SpellsName, name_of, SpellsKey, key_of, SpellsRef, ref_of, SpellsHead, head_of, SpellsSet, set_of, SpellsClauses, no_clause, clause_first, a_key, a_ref, a_set, SpellsSide, side_of, SpellsMapping, mapping_of}
+use Rattle.dx_schema_text.specs.Texts.{deepest, IsMappingText}
+use Rattle.dx_schema_text.specs.Print.{names_text, wider, key_line, ref_line, head_lines, front_lines, last_line, printed, AreNames, IsNamedRef, IsNamed, AreNamed, AreWritable, sides_text, sides, IsReadAgain}
+use Rattle.dx_schema_text.proofs.PrintScans.{Reads, EndsWord, lexeme, no_token, token_then, word_then, mark_then, blanks_then, both_then, told_as, each_passes, a_word, each_append, reads_all}
+
+abbrev AreBlank : List ℕ → Type 0
+AreBlank bs = Each bs (λ b. IsTrue (is_blank b))
+
+-- ---- names
+
+abbrev others_text : List (List ℕ) → List ℕ
+others_text names = flat_map (λ other. codes ", " ++ other) names
+
+comma_name : (x y : Lexeme) (names : List (List ℕ)) (v : List Lexeme) → IsMark (codes ",") x → IsWord y → Many (Comma SpellsName) names v → Many (Comma SpellsName) (y.text ∷ names) (x ∷ y ∷ v)
+comma_name x y names v m w h = one_more (comma_then x m (name_of y w)) h
+
+first_name : (y : Lexeme) (names : List (List ℕ)) (v : List Lexeme) → IsWord y → Many (Comma SpellsName) names v → Parted SpellsName (y.text ∷ names) (y ∷ v)
+first_name y names v w h = parted (name_of y w) h
+
+-- no word goes on before a comma, nor before what ends a word
+ends_before : (names : List (List ℕ)) (more : List ℕ) → EndsWord more → EndsWord (others_text names ++ more)
+ends_before [] more ends = ends
+ends_before (name ∷ names) more ends = refl
+
+others_read : (names : List (List ℕ)) (place : ℕ) (more : List ℕ) → Each names lexing.IsWord → EndsWord more → Reads (Many (Comma SpellsName) names) place (others_text names ++ more) more
+others_read [] place more each ends = no_token _ place more no_more
+others_read (name ∷ names) place more each ends =
+    subst (λ (text : List ℕ). Reads (Many (Comma SpellsName) (name ∷ names)) place (44 ∷ 32 ∷ text) more) (sym (append_assoc name (others_text names) more))
+    (mark_then _ (codes ",") _ more place refl
+    (blanks_then _ (codes " ") _ more _ (each_passes is_blank (codes " ") refl)
+    (word_then _ name (others_text names ++ more) more _ (each name (here refl)) (ends_before names more ends)
+    (told_as (Many (Comma SpellsName) names) _ _ more _ (others_read names _ more (λ n m. each n (there m)) ends) (λ v h. comma_name _ _ names v refl refl h)))))
+
+names_read : (names : List (List ℕ)) (place : ℕ) (more : List ℕ) → AreNames names → EndsWord more → Reads (Parted SpellsName names) place (names_text names ++ more) more
+names_read [] place more h ends = absurd h
+names_read (name ∷ names) place more h ends =
+    subst (λ (text : List ℕ). Reads (Parted SpellsName (name ∷ names)) place text more) (sym (append_assoc name (others_text names) more))
+    (word_then _ name (others_text names ++ more) more place h.0 (ends_before names more ends)
+    (told_as (Many (Comma SpellsName) names) _ _ more _ (others_read names _ more h.1 ends) (λ v m. first_name _ names v refl m)))
+
+-- ---- keys and refs
+
+key_flat : (margin : List ℕ) (k : KeyDecl) (tail : List ℕ) → key_line margin k ++ tail ≡ margin ++ (codes "key (" ++ (names_text k.columns ++ (codes ");\n" ++ tail)))
+key_flat margin k tail = simp append_assoc
+
+key_read : (margin : List ℕ) (k : KeyDecl) (place : ℕ) (tail : List ℕ) → AreBlank margin → AreNames k.columns → Reads (SpellsKey k) place (key_line margin k ++ tail) tail
+key_read margin k place tail blank named =
+    subst (λ (text : List ℕ). Reads (SpellsKey k) place text tail) (sym (key_flat margin k tail))
+    (blanks_then _ margin _ tail place blank
+    (word_then _ (codes "key") _ tail _ (a_word (codes "key") refl) refl
+    (blanks_then _ (codes " ") _ tail _ (each_passes is_blank (codes " ") refl)
+    (mark_then _ (codes "(") _ tail _ refl
+    (both_then (Parted SpellsName k.columns) _ _ _ tail _ (names_read k.columns _ (codes ");\n" ++ tail) named refl) (λ u after h.
+    mark_then _ (codes ")") _ tail _ refl
+    (mark_then _ (codes ";") _ tail _ refl
+    (blanks_then _ (codes "\n") tail tail _ (each_passes is_blank (codes "\n") refl)
+    (no_token _ _ tail (key_of _ _ _ _ refl refl h refl refl))))))))))
+
+ref_flat : (margin : List ℕ) (r : RefDecl) (tail : List ℕ)
+    → ref_line margin r ++ tail ≡ margin ++ (codes "ref (" ++ (names_text r.columns ++ (codes ") -> " ++ (r.set ++ (codes " (" ++ (names_text r.referred ++ (codes ");\n" ++ tail)))))))
+ref_flat margin r tail = simp append_assoc
+
+ref_read : (margin : List ℕ) (r : RefDecl) (place : ℕ) (tail : List ℕ) → AreBlank margin → IsNamedRef r → Reads (SpellsRef r) place (ref_line margin r ++ tail) tail
+ref_read margin r place tail blank named =
+    subst (λ (text : List ℕ). Reads (SpellsRef r) place text tail) (sym (ref_flat margin r tail))
+    (blanks_then _ margin _ tail place blank
+    (word_then _ (codes "ref") _ tail _ (a_word (codes "ref") refl) refl
+    (blanks_then _ (codes " ") _ tail _ (each_passes is_blank (codes " ") refl)
+    (mark_then _ (codes "(") _ tail _ refl
+    (both_then (Parted SpellsName r.columns) _ _ _ tail _ (names_read r.columns _ (codes ") -> " ++ (r.set ++ (codes " (" ++ (names_text r.referred ++ (codes ");\n" ++ tail))))) named.columns refl) (λ u after h.
+    mark_then _ (codes ")") _ tail _ refl
+    (blanks_then _ (codes " ") _ tail _ (each_passes is_blank (codes " ") refl)
+    (mark_then _ (codes "->") _ tail _ refl
+    (blanks_then _ (codes " ") _ tail _ (each_passes is_blank (codes " ") refl)
+    (word_then _ r.set _ tail _ named.refers refl
+    (blanks_then _ (codes " ") _ tail _ (each_passes is_blank (codes " ") refl)
+    (mark_then _ (codes "(") _ tail _ refl
+    (both_then (Parted SpellsName r.referred) _ _ _ tail _ (names_read r.referred _ (codes ");\n" ++ tail) named.referred refl) (λ v behind g.
+    mark_then _ (codes ")") _ tail _ refl
+    (mark_then _ (codes ";") _ tail _ refl
+    (blanks_then _ (codes "\n") tail tail _ (each_passes is_blank (codes "\n") refl)
+    (no_token _ _ tail (ref_of _ _ _ _ _ _ _ _ refl refl h refl refl refl refl g refl refl))))))))))))))))))
+
+-- keys before other clauses, and refs
+keys_read : (levels : ℕ) (margin : List ℕ) (ks : List KeyDecl) (cs : List Clause) (tail more : List ℕ) → AreBlank margin → Each ks (λ k. AreNames k.columns) → ((p : ℕ) → Reads (SpellsClauses levels cs) p tail more)
+    → (place : ℕ) → Reads (SpellsClauses levels (map key_clause ks ++ cs)) place (flat_map (key_line margin) ks ++ tail) more
+keys_read levels margin [] cs tail more blank each on place = on place
+keys_read levels margin (k ∷ ks) cs tail more blank each on place =
+    subst (λ (text : List ℕ). Reads (SpellsClauses levels (map key_clause (k ∷ ks) ++ cs)) place text more) (sym (append_assoc (key_line margin k) (flat_map (key_line margin) ks) tail))
+    (both_then (SpellsKey k) _ _ _ more place (key_read margin k place _ blank (each k (here refl))) (λ u after h.
+    told_as (SpellsClauses levels (map key_clause ks ++ cs)) _ _ more after (keys_read levels margin ks cs tail more blank (λ x m. each x (there m)) on after) (λ v c. clause_first (a_key h) c)))
+
+refs_read : (levels : ℕ) (margin : List ℕ) (rs : List RefDecl) (cs : List Clause) (tail more : List ℕ) → AreBlank margin → Each rs IsNamedRef → ((p : ℕ) → Reads (SpellsClauses levels cs) p tail more)
+    → (place : ℕ) → Reads (SpellsClauses levels (map ref_clause rs ++ cs)) place (flat_map (ref_line margin) rs ++ tail) more
+refs_read levels margin [] cs tail more blank each on place = on place
+refs_read levels margin (r ∷ rs) cs tail more blank each on place =
+    subst (λ (text : List ℕ). Reads (SpellsClauses levels (map ref_clause (r ∷ rs) ++ cs)) place text more) (sym (append_assoc (ref_line margin r) (flat_map (ref_line margin) rs) tail))
+    (both_then (SpellsRef r) _ _ _ more place (ref_read margin r place _ blank (each r (here refl))) (λ u after h.
+    told_as (SpellsClauses levels (map ref_clause rs ++ cs)) _ _ more after (refs_read levels margin rs cs tail more blank (λ x m. each x (there m)) on after) (λ v c. clause_first (a_ref h) c)))
+
+-- ---- the clauses of a set
+
+abbrev set_clauses : Forest → List Clause
+set_clauses none = []
+set_clauses (set l inner rest) = set_clause (record { label = l; inner = inner }) ∷ set_clauses rest
+
+abbrev clauses_of : Label → Forest → List Clause
+clauses_of l inner = map key_clause l.keys ++ (map ref_clause l.refs ++ set_clauses inner)
+
+keys_of_keys : (ks : List KeyDecl) (cs : List Clause) → keys_among (map key_clause ks ++ cs) ≡ ks ++ keys_among cs
+keys_of_keys [] cs = refl
+keys_of_keys (k ∷ ks) cs = ap (λ xs. k ∷ xs) (keys_of_keys ks cs)
+
+keys_of_refs : (rs : List RefDecl) (cs : List Clause) → keys_among (map ref_clause rs ++ cs) ≡ keys_among cs
+keys_of_refs [] cs = refl
+keys_of_refs (r ∷ rs) cs = keys_of_refs rs cs
+
+keys_of_sets : (f : Forest) → keys_among (set_clauses f) ≡ []
+keys_of_sets none = refl
+keys_of_sets (set l i r) = keys_of_sets r
+
+refs_of_keys : (ks : List KeyDecl) (cs : List Clause) → refs_among (map key_clause ks ++ cs) ≡ refs_among cs
+refs_of_keys [] cs = refl
+refs_of_keys (k ∷ ks) cs = refs_of_keys ks cs
+
+refs_of_refs : (rs : List RefDecl) (cs : List Clause) → refs_among (map ref_clause rs ++ cs) ≡ rs ++ refs_among cs
+refs_of_refs [] cs = refl
+refs_of_refs (r ∷ rs) cs = ap (λ xs. r ∷ xs) (refs_of_refs rs cs)
+
+refs_of_sets : (f : Forest) → refs_among (set_clauses f) ≡ []
+refs_of_sets none = refl
+refs_of_sets (set l i r) = refs_of_sets r
+
+sets_of_keys : (ks : List KeyDecl) (cs : List Clause) → sets_among (map key_clause ks ++ cs) ≡ sets_among cs
+sets_of_keys [] cs = refl
+sets_of_keys (k ∷ ks) cs = sets_of_keys ks cs
+
+sets_of_refs : (rs : List RefDecl) (cs : List Clause) → sets_among (map ref_clause rs ++ cs) ≡ sets_among cs
+sets_of_refs [] cs = refl
+sets_of_refs (r ∷ rs) cs = sets_of_refs rs cs
+
+sets_of_sets : (f : Forest) → sets_among (set_clauses f) ≡ f
+sets_of_sets none = refl
+sets_of_sets (set l i r) = ap (λ f. set l i f) (sets_of_sets r)
+
+tree_is : (l : Label) (inner : Forest) → tree_of l.name l.columns (clauses_of l inner) ≡ record { label = l; inner = inner }
+tree_is l inner =
+    let rest = map ref_clause l.refs ++ set_clauses inner in
+    let ks : keys_among (clauses_of l inner) ≡ l.keys = keys_of_keys l.keys rest ∙ ap (λ xs. l.keys ++ xs) (keys_of_refs l.refs (set_clauses inner) ∙ keys_of_sets inner) ∙ append-nil l.keys in
+    let rs : refs_among (clauses_of l inner) ≡ l.refs = refs_of_keys l.keys rest ∙ refs_of_refs l.refs (set_clauses inner) ∙ ap (λ xs. l.refs ++ xs) (refs_of_sets inner) ∙ append-nil l.refs in
+    let ss : sets_among (clauses_of l inner) ≡ inner = sets_of_keys l.keys rest ∙ sets_of_refs l.refs (set_clauses inner) ∙ sets_of_sets inner in
+    ap (λ (k : List KeyDecl). record { label = record { name = l.name; columns = l.columns; keys = k; refs = refs_among (clauses_of l inner) }; inner = sets_among (clauses_of l inner) }) ks
+    ∙ ap (λ (r : List RefDecl). record { label = record { name = l.name; columns = l.columns; keys = l.keys; refs = r }; inner = sets_among (clauses_of l inner) }) rs
+    ∙ ap (λ (f : Forest). record { label = l; inner = f }) ss
+
+-- ---- sets
+
+head_flat : (margin : List ℕ) (l : Label) (tail : List ℕ)
+    → head_lines margin l ++ tail ≡ margin ++ (codes "set " ++ (l.name ++ (codes " {\n" ++ (wider margin ++ (names_text l.columns ++ (codes ";\n" ++ tail))))))
+head_flat margin l tail = simp append_assoc
+
+wider_blank : (margin : List ℕ) → AreBlank margin → AreBlank (wider margin)
+wider_blank margin blank = each_append is_blank margin (codes "  ") blank (each_passes is_blank (codes "  ") refl)
+
+head_read : (margin : List ℕ) (l : Label) (place : ℕ) (tail : List ℕ) → AreBlank margin → IsNamed l → Reads (SpellsHead l.name l.columns) place (head_lines margin l ++ tail) tail
+head_read margin l place tail blank named =
+    subst (λ (text : List ℕ). Reads (SpellsHead l.name l.columns) place text tail) (sym (head_flat margin l tail))
+    (blanks_then _ margin _ tail place blank
+    (word_then _ (codes "set") _ tail _ (a_word (codes "set") refl) refl
+    (blanks_then _ (codes " ") _ tail _ (each_passes is_blank (codes " ") refl)
+    (word_then _ l.name _ tail _ named.name refl
+    (blanks_then _ (codes " ") _ tail _ (each_passes is_blank (codes " ") refl)
+    (mark_then _ (codes "{") _ tail _ refl
+    (blanks_then _ (codes "\n") _ tail _ (each_passes is_blank (codes "\n") refl)
+    (blanks_then _ (wider margin) _ tail _ (wider_blank margin blank)
+    (both_then (Parted SpellsName l.columns) _ _ _ tail _ (names_read l.columns _ (codes ";\n" ++ tail) named.columns refl) (λ u after h.
+    mark_then _ (codes ";") _ tail _ refl
+    (blanks_then _ (codes "\n") tail tail _ (each_passes is_blank (codes "\n") refl)
+    (no_token _ _ tail (head_of _ _ _ _ refl refl refl h refl)))))))))))))
+
+front_flat : (margin : List ℕ) (l : Label) (tail : List ℕ)
+    → front_lines margin l ++ tail ≡ head_lines margin l ++ (flat_map (key_line (wider margin)) l.keys ++ (flat_map (ref_line (wider margin)) l.refs ++ tail))
+front_flat margin l tail =
+    append_assoc (head_lines margin l) (flat_map (key_line (wider margin)) l.keys ++ flat_map (ref_line (wider margin)) l.refs) tail
+    ∙ ap (λ (xs : List ℕ). head_lines margin l ++ xs) (append_assoc (flat_map (key_line (wider margin)) l.keys) (flat_map (ref_line (wider margin)) l.refs) tail)
+
+-- the inner sets of a set as its clauses
+abbrev InnerRead : ℕ → List ℕ → Forest → Type 0
+InnerRead levels margin f = (place : ℕ) (tail : List ℕ) → Reads (SpellsClauses levels (set_clauses f)) place (printed margin f ++ tail) tail
+
+set_closed : (levels : ℕ) (l : Label) (inner : Forest) (u v : List Lexeme) (c : Lexeme) → SpellsHead l.name l.columns u → SpellsClauses levels (clauses_of l inner) v → IsMark (codes "}") c
+    → SpellsSet levels (record { label = l; inner = inner }) (u ++ (v ++ c ∷ []))
+set_closed levels l inner u v c head clauses closing = subst (λ (t : Tree). SpellsSet levels t (u ++ (v ++ c ∷ []))) (tree_is l inner) (set_of c head clauses closing)
+
+set_read : (levels : ℕ) (margin : List ℕ) (l : Label) (inner : Forest) (place : ℕ) (more : List ℕ) → AreBlank margin → IsNamed l → InnerRead levels (wider margin) inner
+    → Reads (SpellsSet levels (record { label = l; inner = inner })) place (front_lines margin l ++ (printed (wider margin) inner ++ (last_line margin ++ more))) more
+set_read levels margin l inner place more blank named on =
+    subst (λ (text : List ℕ). Reads (SpellsSet levels (record { label = l; inner = inner })) place text more) (sym (front_flat margin l (printed (wider margin) inner ++ (last_line margin ++ more))))
+    (both_then (SpellsHead l.name l.columns) _ _ _ more place (head_read margin l place _ blank named) (λ u after h.
+    both_then (SpellsClauses levels (clauses_of l inner)) _ _ (last_line margin ++ more) more after
+    (keys_read levels (wider margin) l.keys (map ref_clause l.refs ++ set_clauses inner) _ (last_line margin ++ more) (wider_blank margin blank) named.keys
+    (refs_read levels (wider margin) l.refs (set_clauses inner) _ (last_line margin ++ more) (wider_blank margin blank) named.refs (λ p. on p (last_line margin ++ more))) after) (λ v behind c.
+    subst (λ (text : List ℕ). Reads (λ w. SpellsSet levels (record { label = l; inner = inner }) (u ++ (v ++ w))) behind text more) (sym (append_assoc margin (codes "}\n") more))
+    (blanks_then _ margin _ more _ blank
+    (mark_then _ (codes "}") _ more _ refl
+    (blanks_then _ (codes "\n") more more _ (each_passes is_blank (codes "\n") refl)
+    (no_token _ _ more (set_closed levels l inner u v _ h c refl))))))))
+
+level_flat : (margin : List ℕ) (l : Label) (inner rest : Forest) (tail : List ℕ)
+    → printed margin (set l inner rest) ++ tail ≡ front_lines margin l ++ (printed (wider margin) inner ++ (last_line margin ++ (printed margin rest ++ tail)))
+level_flat margin l inner rest tail =
+    append_assoc (front_lines margin l) _ tail ∙ ap (λ (xs : List ℕ). front_lines margin l ++ xs) (append_assoc (printed (wider margin) inner) _ tail
+    ∙ ap (λ (xs : List ℕ). printed (wider margin) inner ++ xs) (append_assoc (last_line margin) (printed margin rest) tail))
+
+inner_read : (f : Forest) (levels : ℕ) (margin : List ℕ) → AreBlank margin → AreNamed f → depth f ≤ levels → InnerRead levels margin f
+inner_read none levels margin blank named deep place tail = no_token _ place tail no_clause
+inner_read (set l i r) zero margin blank named deep place tail = absurd (omega arith)
+inner_read (set l i r) (suc n) margin blank named deep place tail =
+    subst (λ (text : List ℕ). Reads (SpellsClauses (suc n) (set_clauses (set l i r))) place text tail) (sym (level_flat margin l i r tail))
+    (both_then (SpellsSet n (record { label = l; inner = i })) _ _ (printed margin r ++ tail) tail place
+    (set_read n margin l i place (printed margin r ++ tail) blank named.0 (inner_read i n (wider margin) (wider_blank margin blank) named.1 (omega arith))) (λ u after h.
+    told_as (SpellsClauses (suc n) (set_clauses r)) _ _ tail after (inner_read r (suc n) margin blank named.2 (omega arith) after tail) (λ v c. clause_first (a_set h) c)))
+
+-- ---- sides
+
+abbrev trees_of : Forest → List Tree
+trees_of none = []
+trees_of (set l inner rest) = record { label = l; inner = inner } ∷ trees_of rest
+
+forest_is : (f : Forest) → forest_of (trees_of f) ≡ f
+forest_is none = refl
+forest_is (set l i r) = ap (λ f. set l i f) (forest_is r)
+
+sets_read : (f : Forest) (levels : ℕ) (margin : List ℕ) → AreBlank margin → AreNamed f → depth f ≤ suc levels → (place : ℕ) (tail : List ℕ) → Reads (Many (SpellsSet levels) (trees_of f)) place (printed margin f ++ tail) tail
+sets_read none levels margin blank named deep place tail = no_token _ place tail no_more
+sets_read (set l i r) n margin blank named deep place tail =
+    subst (λ (text : List ℕ). Reads (Many (SpellsSet n) (trees_of (set l i r))) place text tail) (sym (level_flat margin l i r tail))
+    (both_then (SpellsSet n (record { label = l; inner = i })) _ _ (printed margin r ++ tail) tail place
+    (set_read n margin l i place (printed margin r ++ tail) blank named.0 (inner_read i n (wider margin) (wider_blank margin blank) named.1 (omega arith))) (λ u after h.
+    told_as (Many (SpellsSet n) (trees_of r)) _ _ tail after (sets_read r n margin blank named.2 (omega arith) after tail) (λ v c. one_more h c)))
+
+side_closed : (name : List ℕ) (f : Forest) (k o c : Lexeme) (u : List Lexeme) → word_is name k ≡ true → IsMark (codes "{") o → Many (SpellsSet deepest) (trees_of f) u → IsMark (codes "}") c
+    → SpellsSide name deepest f (k ∷ o ∷ (u ++ c ∷ []))
+side_closed name f k o c u word opening sets closing = subst (λ (g : Forest). SpellsSide name deepest g (k ∷ o ∷ (u ++ c ∷ []))) (forest_is f) (side_of k o c word opening sets closing)
+
+side_read : (name : List ℕ) (f : Forest) (place : ℕ) (more : List ℕ) → lexing.IsWord name → word_is name (lexeme 0 Word name) ≡ true → AreWritable f
+    → Reads (SpellsSide name deepest f) place (name ++ (codes " {\n" ++ (printed [] f ++ (codes "}\n" ++ more)))) more
+side_read name f place more word is w =
+    word_then _ name _ more _ word refl
+    (blanks_then _ (codes " ") _ more _ (each_passes is_blank (codes " ") refl)
+    (mark_then _ (codes "{") _ more _ refl
+    (blanks_then _ (codes "\n") _ more _ (each_passes is_blank (codes "\n") refl)
+    (both_then (Many (SpellsSet deepest) (trees_of f)) _ _ _ more _ (sets_read f deepest [] (each_passes is_blank [] refl) w.named w.levels _ (codes "}\n" ++ more)) (λ u after h.
+    mark_then _ (codes "}") _ more _ refl
+    (blanks_then _ (codes "\n") more more _ (each_passes is_blank (codes "\n") refl)
+    (no_token _ _ more (side_closed name f _ _ _ u is refl h refl))))))))
+
+mapping_read : (from to : Forest) → AreWritable from → AreWritable to → Reads (SpellsMapping deepest (sides from to)) 0 (sides_text (printed [] from) (printed [] to)) []
+mapping_read from to f t =
+    word_then _ (codes "mapping") _ [] 0 (a_word (codes "mapping") refl) refl
+    (blanks_then _ (codes " ") _ [] _ (each_passes is_blank (codes " ") refl)
+    (token_then _ Number (codes "1") _ [] _ (refl, each_passes is_digit [] refl) refl
+    (mark_then _ (codes ";") _ [] _ refl
+    (blanks_then _ (codes "\n") _ [] _ (each_passes is_blank (codes "\n") refl)
+    (both_then (SpellsSide (codes "source") deepest from) _ _ _ [] _ (side_read (codes "source") from _ (codes "target {\n" ++ (printed [] to ++ codes "}\n")) (a_word (codes "source") refl) refl f) (λ u after h.
+    both_then (SpellsSide (codes "target") deepest to) _ _ [] [] _ (side_read (codes "target") to _ [] (a_word (codes "target") refl) refl t) (λ v behind g.
+    no_token _ _ [] (mapping_of _ _ _ refl refl refl h g no_more))))))))
+
+pub mapping_of_sides : (from to : Forest) → AreWritable from → AreWritable to → IsMappingText (sides_text (printed [] from) (printed [] to)) (sides from to)
+mapping_of_sides from to f t = let r = reads_all (SpellsMapping deepest (sides from to)) _ (mapping_read from to f t) in record { no_stop = r.no_stop; spelled = r.has }
+
+pub read_again : (trees : Forest) (text : List ℕ) → text ≡ printed [] trees → AreWritable trees → IsReadAgain trees text
+read_again trees text is w = record {
+  source = λ others o. rw is (mapping_of_sides trees others w o);
+  target = λ others o. rw is (mapping_of_sides others trees o w);
+}
+
+-- what is printed at once
+pub printed_whole : (trees : Forest) (margin before after text : List ℕ) → text ≡ after → after ≡ before ++ printed margin trees → before ≡ [] → margin ≡ [] → text ≡ printed [] trees
+printed_whole trees margin before after text t a b m = t ∙ a ∙ rw (b, m) refl

@@ -1,0 +1,54 @@
+-- What is told of tokens.
+use Rattle.std.proofs.Common.{◌≡◌, ◌⊎◌, ℕ, zero, suc, ◌<◌, ◌≤◌, List, length, Result, Ok, Err, Option, Some, None, refl, sym, ap, ◌∙◌, subst, arith, inl, inr}
+use Rattle.std.specs.Prelude.{codes}
+use Rattle.dx_tokens.specs.declared.scanner.Lexeme.{Lexeme}
+use Rattle.dx_tokens.specs.declared.faults.TextFault.{TextFault}
+use Rattle.dx_tokens.specs.declared.faults.TextFault.TheVariants.{At, TooDeep, Memory}
+use Rattle.dx_tokens.specs.declared.faults.TextKind.{TextKind}
+use Rattle.dx_grammar.specs.Readers.{whole, Tells}
+use Rattle.dx_grammar.proofs.Told.{answers}
+use Rattle.dx_grammar.proofs.Combined.{stops_end}
+use Rattle.dx_grammar.proofs.Verdicts.{Stops}
+use Rattle.dx_schema_text.specs.declared.texts.MappingText.{MappingText}
+use Rattle.dx_schema_text.specs.Grammar.{mapping}
+use Rattle.dx_schema_text.specs.Reading.{begins_item, mapping_reader}
+use Rattle.dx_schema_text.specs.Texts.{deepest, stop_fault, stops_by, unexpected, told_of, Reads}
+use Rattle.dx_schema_text.proofs.Follows.{mapping_reads}
+
+-- what the answer of the reader says of tokens
+pub mapping_tells : (levels : ℕ) (xs : List Lexeme) → Tells (mapping (codes "1") levels) xs (whole (mapping_reader levels) xs)
+mapping_tells levels xs = answers (Stops begins_item) (mapping (codes "1") levels) (mapping_reader levels) (mapping_reads levels) (stops_end begins_item) xs
+
+tells_err : (levels : ℕ) (xs : List Lexeme) (r : Result MappingText ℕ) → whole (mapping_reader levels) xs ≡ r → Tells (mapping (codes "1") levels) xs r
+tells_err levels xs r e = subst (Tells (mapping (codes "1") levels) xs) e (mapping_tells levels xs)
+
+pub left_inside : (levels : ℕ) (xs : List Lexeme) (left : ℕ) → 0 < left → whole (mapping_reader levels) xs ≡ Err left → left ≤ length xs
+left_inside levels xs zero some e = absurd (omega arith)
+left_inside levels xs (suc left) some e = (tells_err levels xs (Err (suc left)) e).0
+
+pub reads_fault : (f : TextFault) (given : Result MappingText TextFault) → given ≡ Err f → Reads (Err f) given
+reads_fault Memory given e = tt
+reads_fault (At place kind) given e = e
+reads_fault (TooDeep place) given e = e
+
+pub told_read : (end : ℕ) (stop : Option (ℕ × TextKind)) (xs : List Lexeme) (m : MappingText) → stop ≡ None → whole (mapping_reader deepest) xs ≡ Ok m → told_of end stop xs ≡ Ok m
+unfolding told_of
+told_read end stop xs m is e = rw (is, e) refl
+
+pub told_stopped : (end : ℕ) (stop : Option (ℕ × TextKind)) (place : ℕ) (kind : TextKind) (xs : List Lexeme) (m : MappingText) → stop ≡ Some (place, kind) → whole (mapping_reader deepest) xs ≡ Ok m → told_of end stop xs ≡ Err (At place kind)
+unfolding told_of
+told_stopped end stop place kind xs m is e = rw (is, e) refl
+
+pub told_open : (end : ℕ) (stop : Option (ℕ × TextKind)) (xs : List Lexeme) (f : TextFault) → whole (mapping_reader deepest) xs ≡ Err 0 → f ≡ stop_fault end stop → Reads (Err f) (told_of end stop xs)
+unfolding told_of
+told_open end stop xs f e is = reads_fault f (told_of end stop xs) (rw (e, is) refl)
+
+told_left : (end : ℕ) (stop : Option (ℕ × TextKind)) (xs : List Lexeme) (left : ℕ) → 0 < left → whole (mapping_reader deepest) xs ≡ Err left → told_of end stop xs ≡ Err (unexpected xs left (stops_by left (whole (mapping_reader 16) xs)))
+unfolding told_of
+told_left end stop xs zero some e = absurd (omega arith)
+told_left end stop xs (suc left) some e = rw e refl
+
+pub told_unexpected : (end : ℕ) (stop : Option (ℕ × TextKind)) (xs : List Lexeme) (left : ℕ) (f : TextFault) → 0 < left → whole (mapping_reader deepest) xs ≡ Err left
+    → (f ≡ Memory) ⊎ (f ≡ unexpected xs left (stops_by left (whole (mapping_reader 16) xs))) → Reads (Err f) (told_of end stop xs)
+told_unexpected end stop xs left f some e (inl m) = rw m tt
+told_unexpected end stop xs left f some e (inr is) = reads_fault f (told_of end stop xs) (told_left end stop xs left some e ∙ ap (λ g. Err g) (sym is))

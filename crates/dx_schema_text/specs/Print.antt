@@ -1,0 +1,86 @@
+-- The text of sets, as a mapping text has them.
+use Rattle.std.specs.Prelude.{ℕ, ◌≤◌, List, [], ◌∷◌, ◌++◌, codes}
+use Rattle.std.specs.List.{flat_map}
+use Rattle.dx_ports.specs.Members.{Each}
+use Rattle.dx_tokens.specs.Lexing.{IsWord}
+use Rattle.dx_schema.specs.declared.sets.KeyDecl.{KeyDecl}
+use Rattle.dx_schema.specs.declared.sets.RefDecl.{RefDecl}
+use Rattle.dx_schema.specs.Forest.{Label, Forest, none, set}
+use Rattle.dx_schema.specs.Faults.{depth}
+use Rattle.dx_schema_text.specs.declared.texts.MappingText.{MappingText}
+use Rattle.dx_schema_text.specs.Texts.{IsMappingText}
+
+-- names, parted by a comma and a space
+abbrev pub names_text : List (List ℕ) → List ℕ
+names_text [] = []
+names_text (name ∷ others) = name ++ flat_map (λ other. codes ", " ++ other) others
+
+-- each line begins with a margin, and what stands in a set has a margin two spaces wider than the set's
+abbrev pub wider : List ℕ → List ℕ
+wider margin = margin ++ codes "  "
+
+-- names in brackets behind a word
+abbrev pub group : List ℕ → List (List ℕ) → List ℕ
+group word names = word ++ (codes " (" ++ (names_text names ++ codes ")"))
+
+abbrev pub key_line : List ℕ → KeyDecl → List ℕ
+key_line margin k = margin ++ (group (codes "key") k.columns ++ codes ";\n")
+
+abbrev pub ref_line : List ℕ → RefDecl → List ℕ
+ref_line margin r = margin ++ (group (codes "ref") r.columns ++ (codes " -> " ++ (group r.set r.referred ++ codes ";\n")))
+
+-- the name of a set, and its columns
+abbrev pub head_lines : List ℕ → Label → List ℕ
+head_lines margin l = margin ++ (codes "set " ++ (l.name ++ (codes " {\n" ++ (wider margin ++ (names_text l.columns ++ codes ";\n")))))
+
+-- a set up to its inner sets: its columns, its keys and its refs
+abbrev pub front_lines : List ℕ → Label → List ℕ
+front_lines margin l = head_lines margin l ++ (flat_map (key_line (wider margin)) l.keys ++ flat_map (ref_line (wider margin)) l.refs)
+
+abbrev pub last_line : List ℕ → List ℕ
+last_line margin = margin ++ codes "}\n"
+
+-- the sets of one level in order, each with its inner sets
+abbrev pub printed : List ℕ → Forest → List ℕ
+printed margin none = []
+printed margin (set l inner rest) = front_lines margin l ++ (printed (wider margin) inner ++ (last_line margin ++ printed margin rest))
+
+-- ---- sets that are read again
+
+-- one or more names, each a word
+abbrev pub AreNames : List (List ℕ) → Type 0
+AreNames [] = ⊥
+AreNames (name ∷ others) = IsWord name × Each others IsWord
+
+pub record IsNamedRef (r : RefDecl) : Type 0 where
+  pub columns : AreNames r.columns
+  pub refers : IsWord r.set
+  pub referred : AreNames r.referred
+
+pub record IsNamed (l : Label) : Type 0 where
+  pub name : IsWord l.name
+  pub columns : AreNames l.columns
+  pub keys : Each l.keys (λ k. AreNames k.columns)
+  pub refs : Each l.refs IsNamedRef
+
+-- the same of all sets
+abbrev pub AreNamed : Forest → Type 0
+AreNamed none = Unit {0}
+AreNamed (set l inner rest) = IsNamed l × AreNamed inner × AreNamed rest
+
+-- every name is a word, no list of names is empty, and there are no more than 16 levels of sets
+pub record AreWritable (f : Forest) : Type 0 where
+  pub named : AreNamed f
+  pub levels : depth f ≤ 16
+
+-- a mapping with sides of these texts, and without lines and rules
+abbrev pub sides_text : List ℕ → List ℕ → List ℕ
+sides_text from to = codes "mapping 1;\nsource {\n" ++ (from ++ (codes "}\ntarget {\n" ++ (to ++ codes "}\n")))
+
+abbrev pub sides : Forest → Forest → MappingText
+sides from to = record { version = 1; source = from; target = to; lines = []; rules = [] }
+
+-- the text is that of the sets: where it stands as a side of a mapping, and other sets are printed as the other side, the mapping is read with these sets
+pub record IsReadAgain (trees : Forest) (text : List ℕ) : Type 0 where
+  pub source : (others : Forest) → AreWritable others → IsMappingText (sides_text text (printed [] others)) (sides trees others)
+  pub target : (others : Forest) → AreWritable others → IsMappingText (sides_text (printed [] others) text) (sides others trees)

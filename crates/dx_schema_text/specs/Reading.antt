@@ -1,0 +1,334 @@
+-- What the forms of mapping texts say: a reader for each.
+use Rattle.std.specs.Prelude.{ℕ, zero, suc, Bool, true, false, ◌||◌, List, [], ◌∷◌, codes}
+use Rattle.dx_tokens.specs.declared.scanner.Lexeme.{Lexeme}
+use Rattle.dx_grammar.specs.Readers.{Reader, ◌>>=◌, give, token, either, many}
+use Rattle.dx_schema.specs.declared.sets.KeyDecl.{KeyDecl}
+use Rattle.dx_schema.specs.declared.sets.RefDecl.{RefDecl}
+use Rattle.dx_schema.specs.Forest.{Forest, none, set, Tree, forest_of}
+use Rattle.dx_schema_text.specs.declared.texts.PlaceText.{PlaceText}
+use Rattle.dx_schema_text.specs.declared.texts.SourceText.{SourceText}
+use Rattle.dx_schema_text.specs.declared.texts.SourceText.TheVariants as sources
+use Rattle.dx_schema_text.specs.declared.texts.LineText.{LineText}
+use Rattle.dx_schema_text.specs.declared.texts.CellText.{CellText}
+use Rattle.dx_schema_text.specs.declared.texts.CellText.TheVariants as cells
+use Rattle.dx_schema_text.specs.declared.texts.AtomText.{AtomText}
+use Rattle.dx_schema_text.specs.declared.texts.DerivedText.{DerivedText}
+use Rattle.dx_schema_text.specs.declared.texts.RuleText.{RuleText}
+use Rattle.dx_schema_text.specs.declared.texts.MappingText.{MappingText}
+use Rattle.dx_schema_text.specs.declared.clauses.Clause.{Clause}
+use Rattle.dx_schema_text.specs.declared.clauses.Clause.TheVariants as clauses
+use Rattle.dx_schema_text.specs.declared.mapping.ItemText.{ItemText}
+use Rattle.dx_schema_text.specs.declared.mapping.ItemText.TheVariants as items
+use Rattle.dx_schema_text.specs.Grammar.{is_word, is_string, word_is, number_is, mark_is}
+
+-- ---- names
+
+-- "," word
+unfoldable pub comma_word : Reader Lexeme (List ℕ)
+comma_word = do
+  comma ← token (mark_is (codes ","))
+  w ← token is_word
+  give w.text
+
+unfoldable pub words_reader : Reader Lexeme (List (List ℕ))
+words_reader = do
+  first ← token is_word
+  others ← many (mark_is (codes ",")) comma_word
+  give (first.text ∷ others)
+
+-- ---- sets
+
+unfoldable pub key_reader : Reader Lexeme KeyDecl
+key_reader = do
+  keyword ← token (word_is (codes "key"))
+  opening ← token (mark_is (codes "("))
+  columns ← words_reader
+  closing ← token (mark_is (codes ")"))
+  ending ← token (mark_is (codes ";"))
+  give (record { columns = columns })
+
+unfoldable pub ref_reader : Reader Lexeme RefDecl
+ref_reader = do
+  keyword ← token (word_is (codes "ref"))
+  opening ← token (mark_is (codes "("))
+  columns ← words_reader
+  closing ← token (mark_is (codes ")"))
+  arrow ← token (mark_is (codes "->"))
+  referred_set ← token is_word
+  opening ← token (mark_is (codes "("))
+  referred ← words_reader
+  closing ← token (mark_is (codes ")"))
+  ending ← token (mark_is (codes ";"))
+  give (record { columns = columns; set = referred_set.text; referred = referred })
+
+abbrev pub key_clause : KeyDecl → Clause
+key_clause k = clauses.Key k
+
+abbrev pub ref_clause : RefDecl → Clause
+ref_clause r = clauses.Ref r
+
+abbrev pub set_clause : Tree → Clause
+set_clause t = clauses.Set t
+
+-- the keys, the refs and the sets among clauses
+abbrev pub keys_among : List Clause → List KeyDecl
+keys_among [] = []
+keys_among (clauses.Key k ∷ cs) = k ∷ keys_among cs
+keys_among (clauses.Ref r ∷ cs) = keys_among cs
+keys_among (clauses.Set t ∷ cs) = keys_among cs
+
+abbrev pub refs_among : List Clause → List RefDecl
+refs_among [] = []
+refs_among (clauses.Key k ∷ cs) = refs_among cs
+refs_among (clauses.Ref r ∷ cs) = r ∷ refs_among cs
+refs_among (clauses.Set t ∷ cs) = refs_among cs
+
+abbrev pub sets_among : List Clause → Forest
+sets_among [] = none
+sets_among (clauses.Key k ∷ cs) = sets_among cs
+sets_among (clauses.Ref r ∷ cs) = sets_among cs
+sets_among (clauses.Set t ∷ cs) = set t.label t.inner (sets_among cs)
+
+-- a set with this name, these columns and these clauses
+abbrev pub tree_of : List ℕ → List (List ℕ) → List Clause → Tree
+tree_of name columns cs = record { label = record { name = name; columns = columns; keys = keys_among cs; refs = refs_among cs }; inner = sets_among cs }
+
+-- a clause begins with "key" or "ref", and where inner sets may stand with "set"
+abbrev pub begins_clause : ℕ → Lexeme → Bool
+begins_clause zero x = word_is (codes "key") x || word_is (codes "ref") x
+begins_clause (suc levels) x = word_is (codes "key") x || (word_is (codes "ref") x || word_is (codes "set") x)
+
+unfoldable pub last_clause_reader : Reader Lexeme Clause
+last_clause_reader = either (word_is (codes "key")) (key_reader >>= λ k. give (key_clause k)) (ref_reader >>= λ r. give (ref_clause r))
+
+unfoldable pub clause_reader_with : Reader Lexeme Tree → Reader Lexeme Clause
+clause_reader_with inner = either (word_is (codes "key")) (key_reader >>= λ k. give (key_clause k)) (either (word_is (codes "ref")) (ref_reader >>= λ r. give (ref_clause r)) (inner >>= λ t. give (set_clause t)))
+
+-- the name and the columns of a set
+unfoldable pub set_head_reader : Reader Lexeme (List ℕ × List (List ℕ))
+set_head_reader = do
+  keyword ← token (word_is (codes "set"))
+  name ← token is_word
+  opening ← token (mark_is (codes "{"))
+  columns ← words_reader
+  ending ← token (mark_is (codes ";"))
+  give (name.text, columns)
+
+unfoldable pub set_reader_of : (Lexeme → Bool) → Reader Lexeme Clause → Reader Lexeme Tree
+set_reader_of begins clause = do
+  head ← set_head_reader
+  cs ← many begins clause
+  closing ← token (mark_is (codes "}"))
+  give (tree_of head.0 head.1 cs)
+
+-- a clause of a set with so many levels of inner sets, at most
+unfoldable pub clause_reader : ℕ → Reader Lexeme Clause
+clause_reader zero = last_clause_reader
+clause_reader (suc levels) = clause_reader_with (set_reader_of (begins_clause levels) (clause_reader levels))
+
+-- a set with so many levels of inner sets, at most
+abbrev pub set_reader : ℕ → Reader Lexeme Tree
+set_reader levels = set_reader_of (begins_clause levels) (clause_reader levels)
+
+-- ---- lines
+
+abbrev pub place_text : Lexeme → Lexeme → PlaceText
+place_text s c = record { set = s.text; set_place = s.place; column = c.text; column_place = c.place }
+
+unfoldable pub place_reader : Reader Lexeme PlaceText
+place_reader = do
+  s ← token is_word
+  dot ← token (mark_is (codes "."))
+  c ← token is_word
+  give (place_text s c)
+
+unfoldable pub comma_place : Reader Lexeme PlaceText
+comma_place = do
+  comma ← token (mark_is (codes ","))
+  place_reader
+
+unfoldable pub places_reader : Reader Lexeme (List PlaceText)
+places_reader = do
+  first ← place_reader
+  others ← many (mark_is (codes ",")) comma_place
+  give (first ∷ others)
+
+abbrev pub literal_source : List ℕ → SourceText
+literal_source text = sources.Literal text
+
+abbrev pub column_source : PlaceText → SourceText
+column_source p = sources.Column p
+
+abbrev pub call_source : Lexeme → List PlaceText → SourceText
+call_source name args = sources.Call name.text name.place args
+
+unfoldable pub string_reader : Reader Lexeme SourceText
+string_reader = do
+  s ← token is_string
+  give (literal_source s.text)
+
+-- a column behind its set, or the arguments of a conversion behind its name
+unfoldable pub column_reader : Lexeme → Reader Lexeme SourceText
+column_reader name = do
+  dot ← token (mark_is (codes "."))
+  c ← token is_word
+  give (column_source (place_text name c))
+
+unfoldable pub call_reader : Lexeme → Reader Lexeme SourceText
+call_reader name = do
+  opening ← token (mark_is (codes "("))
+  args ← places_reader
+  closing ← token (mark_is (codes ")"))
+  give (call_source name args)
+
+unfoldable pub named_reader : Reader Lexeme SourceText
+named_reader = do
+  name ← token is_word
+  either (mark_is (codes ".")) (column_reader name) (call_reader name)
+
+unfoldable pub source_reader : Reader Lexeme SourceText
+source_reader = either is_string string_reader named_reader
+
+unfoldable pub line_reader : Reader Lexeme LineText
+line_reader = do
+  keyword ← token (word_is (codes "line"))
+  from ← source_reader
+  arrow ← token (mark_is (codes "->"))
+  target ← place_reader
+  ending ← token (mark_is (codes ";"))
+  give (record { source = from; target = target })
+
+-- ---- rules
+
+abbrev pub name_cell : Lexeme → CellText
+name_cell x = cells.Name x.text x.place
+
+abbrev pub literal_cell : Lexeme → CellText
+literal_cell x = cells.Literal x.text
+
+unfoldable pub name_reader : Reader Lexeme CellText
+name_reader = do
+  x ← token is_word
+  give (name_cell x)
+
+unfoldable pub literal_reader : Reader Lexeme CellText
+literal_reader = do
+  x ← token is_string
+  give (literal_cell x)
+
+unfoldable pub cell_reader : Bool → Reader Lexeme CellText
+cell_reader false = name_reader
+cell_reader true = either is_word name_reader literal_reader
+
+unfoldable pub comma_cell : Bool → Reader Lexeme CellText
+comma_cell strings = do
+  comma ← token (mark_is (codes ","))
+  cell_reader strings
+
+unfoldable pub cells_reader : Bool → Reader Lexeme (List CellText)
+cells_reader strings = do
+  first ← cell_reader strings
+  others ← many (mark_is (codes ",")) (comma_cell strings)
+  give (first ∷ others)
+
+unfoldable pub atom_reader : Bool → Reader Lexeme AtomText
+atom_reader strings = do
+  s ← token is_word
+  opening ← token (mark_is (codes "("))
+  inside ← cells_reader strings
+  closing ← token (mark_is (codes ")"))
+  give (record { set = s.text; place = s.place; cells = inside })
+
+unfoldable pub comma_atom : Bool → Reader Lexeme AtomText
+comma_atom strings = do
+  comma ← token (mark_is (codes ","))
+  atom_reader strings
+
+unfoldable pub atoms_reader : Bool → Reader Lexeme (List AtomText)
+atoms_reader strings = do
+  first ← atom_reader strings
+  others ← many (mark_is (codes ",")) (comma_atom strings)
+  give (first ∷ others)
+
+unfoldable pub derived_reader : Reader Lexeme DerivedText
+derived_reader = do
+  name ← token is_word
+  equal ← token (mark_is (codes "="))
+  call ← token is_word
+  opening ← token (mark_is (codes "("))
+  args ← cells_reader false
+  closing ← token (mark_is (codes ")"))
+  give (record { name = name.text; place = name.place; call = call.text; call_place = call.place; args = args })
+
+unfoldable pub comma_derived : Reader Lexeme DerivedText
+comma_derived = do
+  comma ← token (mark_is (codes ","))
+  derived_reader
+
+unfoldable pub where_reader : Reader Lexeme (List DerivedText)
+where_reader = do
+  keyword ← token (word_is (codes "where"))
+  first ← derived_reader
+  others ← many (mark_is (codes ",")) comma_derived
+  give (first ∷ others)
+
+unfoldable pub optional_where : Reader Lexeme (List DerivedText)
+optional_where = either (word_is (codes "where")) where_reader (give [])
+
+unfoldable pub rule_reader : Reader Lexeme RuleText
+rule_reader = do
+  keyword ← token (word_is (codes "rule"))
+  premise ← atoms_reader false
+  derived ← optional_where
+  arrow ← token (mark_is (codes "->"))
+  conclusion ← atoms_reader true
+  ending ← token (mark_is (codes ";"))
+  give (record { premise = premise; derived = derived; conclusion = conclusion })
+
+-- ---- mappings
+
+abbrev pub line_item : LineText → ItemText
+line_item l = items.Line l
+
+abbrev pub rule_item : RuleText → ItemText
+rule_item r = items.Rule r
+
+abbrev pub begins_item : Lexeme → Bool
+begins_item x = word_is (codes "line") x || word_is (codes "rule") x
+
+unfoldable pub item_reader : Reader Lexeme ItemText
+item_reader = either (word_is (codes "line")) (line_reader >>= λ l. give (line_item l)) (rule_reader >>= λ r. give (rule_item r))
+
+-- the lines and the rules among items
+abbrev pub lines_among : List ItemText → List LineText
+lines_among [] = []
+lines_among (items.Line l ∷ rest) = l ∷ lines_among rest
+lines_among (items.Rule r ∷ rest) = lines_among rest
+
+abbrev pub rules_among : List ItemText → List RuleText
+rules_among [] = []
+rules_among (items.Line l ∷ rest) = rules_among rest
+rules_among (items.Rule r ∷ rest) = r ∷ rules_among rest
+
+-- "source" or "target", and sets in braces
+unfoldable pub side_reader : List ℕ → ℕ → Reader Lexeme Forest
+side_reader name levels = do
+  keyword ← token (word_is name)
+  opening ← token (mark_is (codes "{"))
+  trees ← many (word_is (codes "set")) (set_reader levels)
+  closing ← token (mark_is (codes "}"))
+  give (forest_of trees)
+
+abbrev pub mapping_text : Forest → Forest → List ItemText → MappingText
+mapping_text from to rest = record { version = 1; source = from; target = to; lines = lines_among rest; rules = rules_among rest }
+
+-- a mapping of version 1 whose sets have so many levels of inner sets, at most
+unfoldable pub mapping_reader : ℕ → Reader Lexeme MappingText
+mapping_reader levels = do
+  keyword ← token (word_is (codes "mapping"))
+  version ← token (number_is (codes "1"))
+  ending ← token (mark_is (codes ";"))
+  from ← side_reader (codes "source") levels
+  to ← side_reader (codes "target") levels
+  rest ← many begins_item item_reader
+  give (mapping_text from to rest)

@@ -1,0 +1,130 @@
+-- What a mapping text says, and its first fault.
+use Rattle.std.specs.Prelude.{◌≡◌, ◌⊎◌, ℕ, zero, suc, ◌-◌, List, [], ◌∷◌, ◌++◌, length, take, codes, Option, Some, None, Result, Ok, Err, Bool, true, false, nat_le, slice_index_or}
+use Rattle.dx_tokens.specs.declared.faults.TextFault.{TextFault}
+use Rattle.dx_tokens.specs.declared.faults.TextFault.TheVariants.{At, TooDeep, Memory}
+use Rattle.dx_tokens.specs.declared.faults.TextKind.{TextKind}
+use Rattle.dx_tokens.specs.declared.faults.TextKind.TheVariants.{Character, Expected, Ended}
+use Rattle.dx_tokens.specs.declared.tokenizer.TokenKind.TheVariants.{Word}
+use Rattle.dx_tokens.specs.declared.scanner.Lexeme.{Lexeme}
+use Rattle.dx_tokens.specs.declared.scanner.Stop.{Stop}
+use Rattle.dx_tokens.specs.Scan.{scan_of}
+use Rattle.dx_grammar.specs.Forms.{Form, Derives, Starts, IsFirstFault}
+use Rattle.dx_grammar.specs.Readers.{whole}
+use Rattle.dx_schema_text.specs.declared.texts.MappingText.{MappingText}
+use Rattle.dx_schema_text.specs.Grammar.{mapping}
+use Rattle.dx_schema_text.specs.Reading.{mapping_reader}
+use Rattle.dx_schema_text.specs.Spelling.{SpellsMapping}
+
+-- a set stands at depth 16 at most: a root has 15 levels of inner sets
+abbrev pub deepest : ℕ
+deepest = 15
+
+-- the form of a mapping text of version 1
+abbrev pub form : Form Lexeme
+form = mapping (codes "1") deepest
+
+-- the same where sets may be nested one level deeper
+abbrev pub deeper_form : Form Lexeme
+deeper_form = mapping (codes "1") 16
+
+-- what was begun where the tokens stop
+abbrev pub begun_in : Option Stop → List Lexeme
+begun_in None = []
+begun_in (Some s) = begun_token s.begun where
+  begun_token : Option Lexeme → List Lexeme
+  begun_token None = []
+  begun_token (Some x) = x ∷ []
+
+-- the tokens that are judged one after the other: those up to the first token fault, and the string or arrow that was begun there
+abbrev pub judged_tokens : List ℕ → List Lexeme
+judged_tokens text = (scan_of text).lexemes ++ begun_in (scan_of text).stop
+
+-- The text says this mapping: all of it is tokens, which spell the mapping.
+pub record IsMappingText (text : List ℕ) (m : MappingText) : Type 0 where
+  pub no_stop : (scan_of text).stop ≡ None
+  pub spelled : SpellsMapping deepest m (scan_of text).lexemes
+
+-- The token that stands at this place is the first that can't stand.
+pub record IsUnexpected (text : List ℕ) (place : ℕ) : Type 0 where
+  pub number : ℕ
+  pub first : IsFirstFault form (judged_tokens text) number
+  pub token : Lexeme
+  pub is : token ≡ slice_index_or (judged_tokens text) number token
+  pub at : place ≡ token.place
+
+-- The token could stand if sets might be nested one level deeper: it is the word "set" of a set that is too deep.
+abbrev pub StandsDeeper : List ℕ → ℕ → Type 0
+StandsDeeper text number = Starts deeper_form (take (suc number) (judged_tokens text))
+
+-- All tokens can stand, and the text stops at a token fault or ends too early.
+pub record IsStopped (text : List ℕ) (place : ℕ) (kind : TextKind) : Type 0 where
+  pub all_stand : Starts form (judged_tokens text)
+  pub why : ((s : Stop) × ((scan_of text).stop ≡ Some s) × (place ≡ s.place) × (kind ≡ s.kind))
+      ⊎ (((scan_of text).stop ≡ None) × (place ≡ length text) × (kind ≡ Ended) × ¬ (Derives form (judged_tokens text)))
+
+-- The first fault of a text.
+abbrev pub IsTextFault : List ℕ → TextFault → Type 0
+IsTextFault text (At place Expected) = (u : IsUnexpected text place) × ¬ (StandsDeeper text u.number)
+IsTextFault text (At place Character) = IsStopped text place Character
+IsTextFault text (At place Ended) = IsStopped text place Ended
+IsTextFault text (At place other) = ⊥
+IsTextFault text (TooDeep place) = (u : IsUnexpected text place) × StandsDeeper text u.number
+IsTextFault text Memory = ⊥
+
+-- ---- the answer, as it is computed: the tokens are read with 15 levels of inner sets, and where one can't stand, with 16
+
+-- the place and the kind of a token fault
+abbrev pub fault_in : Option Stop → Option (ℕ × TextKind)
+fault_in None = None
+fault_in (Some s) = Some (s.place, s.kind)
+
+-- whether a reader stops at the token with which so many are left, or before it
+abbrev pub stops_by : {A : Type 0} → ℕ → Result A ℕ → Bool
+stops_by left (Ok a) = false
+stops_by left (Err n) = nat_le left n
+
+-- the place of a token
+abbrev pub place_of : List Lexeme → ℕ → ℕ
+place_of xs k = (slice_index_or xs k (record { place = 0; kind = Word; text = [] })).place
+
+-- the fault at the token with which so many are left: it can't stand with one level more either, or it can
+abbrev pub unexpected : List Lexeme → ℕ → Bool → TextFault
+unexpected xs left true = At (place_of xs (length xs - left)) Expected
+unexpected xs left false = TooDeep (place_of xs (length xs - left))
+
+-- the fault where all tokens can stand and more are wanted: the token fault, or that the text ends
+abbrev pub stop_fault : ℕ → Option (ℕ × TextKind) → TextFault
+stop_fault end (Some p) = At p.0 p.1
+stop_fault end None = At end Ended
+
+-- what is answered of tokens, where the text has so many bytes and its tokens stop so
+abbrev pub told : ℕ → Option (ℕ × TextKind) → List Lexeme → Result MappingText ℕ → Result MappingText ℕ → Result MappingText TextFault
+told end stop xs (Err zero) deeper = Err (stop_fault end stop)
+told end stop xs (Err (suc left)) deeper = Err (unexpected xs (suc left) (stops_by (suc left) deeper))
+told end (Some p) xs (Ok m) deeper = Err (At p.0 p.1)
+told end None xs (Ok m) deeper = Ok m
+
+unfoldable pub told_of : ℕ → Option (ℕ × TextKind) → List Lexeme → Result MappingText TextFault
+told_of end stop xs = told end stop xs (whole (mapping_reader deepest) xs) (whole (mapping_reader 16) xs)
+
+-- what is answered of a text
+abbrev pub read_text : List ℕ → Result MappingText TextFault
+read_text text = told_of (length text) (fault_in (scan_of text).stop) (judged_tokens text)
+
+-- a call answers so, unless memory ran out
+abbrev pub Reads : Result MappingText TextFault → Result MappingText TextFault → Type 0
+Reads (Ok m) given = given ≡ Ok m
+Reads (Err Memory) given = Unit {0}
+Reads (Err (At place kind)) given = given ≡ Err (At place kind)
+Reads (Err (TooDeep place)) given = given ≡ Err (TooDeep place)
+
+-- a fault that is told is the text's first, unless memory ran out
+abbrev pub IsToldFault : List ℕ → TextFault → Type 0
+IsToldFault text e = (e ≡ Memory) ⊎ IsTextFault text e
+
+-- whatever mapping the text says is answered, and whatever first fault it has
+abbrev pub AnswersMapping : List ℕ → Result MappingText TextFault → Type 0
+AnswersMapping text r = (m : MappingText) → IsMappingText text m → Reads r (Ok m)
+
+abbrev pub AnswersFault : List ℕ → Result MappingText TextFault → Type 0
+AnswersFault text r = (e : TextFault) → IsTextFault text e → Reads r (Err e)

@@ -1,0 +1,209 @@
+// Sets with their clauses.
+ghost use Rattle.std.specs.Prelude.{◌≡◌, codes, IfOk};
+ghost use Rattle.dx_grammar.specs.Readers.{passed, give, next_is, many, Gives};
+ghost use Rattle.dx_schema_text.specs.Reading.{key_reader, ref_reader, key_clause, ref_clause, set_clause, begins_clause, last_clause_reader, clause_reader_with, clause_reader, set_head_reader, set_reader, tree_of};
+
+use crate::lexemes::{keyword, mark, names, next_is_keyword, word};
+use dx_grammar::ReadError;
+use dx_ports::{Items, Text};
+use dx_schema::{KeyDecl, RefDecl, SetTree, Trees};
+use dx_tokens::Lexeme;
+use std::alloc::{AllocError, Global};
+
+/// What stands behind the columns of a set.
+#[derive(Drop)]
+pub enum Clause {
+    Key(KeyDecl),
+    Ref(RefDecl),
+    Set(SetTree),
+}
+
+#[tactic(auto, unfolding(crate::specs::Reading::key_reader))]
+fn key(alloc: Global, tokens: &[Lexeme]) -> Result<(KeyDecl, &[Lexeme]), ReadError>
+    ensures { Gives (λ x. (x.0, x.1.now)) result (key_reader tokens.now) }
+{
+    let (_, rest) = keyword(tokens, b"key")?;
+    let (_, rest) = mark(rest, b"(")?;
+    let (columns, rest) = names(alloc, rest)?;
+    let (_, rest) = mark(rest, b")")?;
+    let (_, rest) = mark(rest, b";")?;
+    Ok((KeyDecl { columns }, rest))
+}
+
+#[tactic(auto, unfolding(crate::specs::Reading::ref_reader))]
+fn reference(alloc: Global, tokens: &[Lexeme]) -> Result<(RefDecl, &[Lexeme]), ReadError>
+    ensures { Gives (λ x. (x.0, x.1.now)) result (ref_reader tokens.now) }
+{
+    let (_, rest) = keyword(tokens, b"ref")?;
+    let (_, rest) = mark(rest, b"(")?;
+    let (columns, rest) = names(alloc, rest)?;
+    let (_, rest) = mark(rest, b")")?;
+    let (_, rest) = mark(rest, b"->")?;
+    let (set, rest) = word(rest)?;
+    let (_, rest) = mark(rest, b"(")?;
+    let (referred, rest) = names(alloc, rest)?;
+    let (_, rest) = mark(rest, b")")?;
+    let (_, rest) = mark(rest, b";")?;
+    let reference = RefDecl {
+        columns,
+        set: set.text.copy()?,
+        referred,
+    };
+    Ok((reference, rest))
+}
+
+// Whether a clause comes next, where a set has so many levels of inner sets, at most.
+fn next_is_clause(tokens: &[Lexeme], levels: u32) -> bool
+    ensures { result ≡ next_is (begins_clause levels) tokens.now }
+{
+    next_is_keyword(tokens, b"key")
+        || next_is_keyword(tokens, b"ref")
+        || (levels > 0 && next_is_keyword(tokens, b"set"))
+}
+
+// A set of this name with these columns and clauses.
+fn tree_made(
+    alloc: Global,
+    name: Text,
+    columns: Items<Text>,
+    clauses: Items<Clause>,
+) -> Result<SetTree, AllocError>
+    ensures { IfOk result (λ t. t ≡ tree_of name columns clauses) }
+{
+    let mut keys = Items::new(alloc);
+    let mut refs = Items::new(alloc);
+    let mut inner = Trees::new(alloc);
+    'clauses: for clause in clauses.into_vec() {
+        match clause {
+            Clause::Key(key) => keys.push(key)?,
+            Clause::Ref(reference) => refs.push(reference)?,
+            Clause::Set(tree) => inner.push(tree)?,
+        }
+    }
+    Ok(SetTree {
+        name,
+        columns,
+        keys,
+        refs,
+        inner,
+    })
+}
+
+fn key_among(alloc: Global, tokens: &[Lexeme]) -> Result<(Clause, &[Lexeme]), ReadError>
+    ensures { Gives (λ x. (x.0, x.1.now)) result (passed (key_reader tokens.now) (λ k. give (key_clause k))) }
+{
+    let (key, rest) = key(alloc, tokens)?;
+    Ok((Clause::Key(key), rest))
+}
+
+fn ref_among(alloc: Global, tokens: &[Lexeme]) -> Result<(Clause, &[Lexeme]), ReadError>
+    ensures { Gives (λ x. (x.0, x.1.now)) result (passed (ref_reader tokens.now) (λ r. give (ref_clause r))) }
+{
+    let (reference, rest) = reference(alloc, tokens)?;
+    Ok((Clause::Ref(reference), rest))
+}
+
+// A clause where no inner set may stand.
+#[tactic(auto, unfolding(crate::specs::Reading::last_clause_reader))]
+fn last_clause(alloc: Global, tokens: &[Lexeme]) -> Result<(Clause, &[Lexeme]), ReadError>
+    ensures { Gives (λ x. (x.0, x.1.now)) result (last_clause_reader tokens.now) }
+{
+    if next_is_keyword(tokens, b"key") {
+        key_among(alloc, tokens)
+    } else {
+        ref_among(alloc, tokens)
+    }
+}
+
+#[cycle(sets)]
+fn set_among(
+    alloc: Global,
+    levels: u32,
+    tokens: &[Lexeme],
+) -> Result<(Clause, &[Lexeme]), ReadError>
+    ensures { Gives (λ x. (x.0, x.1.now)) result (passed (set_reader levels tokens.now) (λ t. give (set_clause t))) }
+{
+    let (tree, rest) = set(alloc, levels, tokens)?;
+    Ok((Clause::Set(tree), rest))
+}
+
+// A clause where an inner set with so many levels may stand.
+#[cycle(sets)]
+#[tactic(auto, unfolding(crate::specs::Reading::clause_reader_with))]
+fn clause_with(
+    alloc: Global,
+    levels: u32,
+    tokens: &[Lexeme],
+) -> Result<(Clause, &[Lexeme]), ReadError>
+    ensures { Gives (λ x. (x.0, x.1.now)) result (clause_reader_with (set_reader levels) tokens.now) }
+{
+    if next_is_keyword(tokens, b"key") {
+        key_among(alloc, tokens)
+    } else if next_is_keyword(tokens, b"ref") {
+        ref_among(alloc, tokens)
+    } else {
+        set_among(alloc, levels, tokens)
+    }
+}
+
+#[cycle(sets)]
+fn one_clause(
+    alloc: Global,
+    levels: u32,
+    tokens: &[Lexeme],
+) -> Result<(Clause, &[Lexeme]), ReadError>
+    ensures { Gives (λ x. (x.0, x.1.now)) result (clause_reader levels tokens.now) }
+{
+    if levels == 0 {
+        last_clause(alloc, tokens)
+    } else {
+        clause_with(alloc, levels - 1, tokens)
+    }
+}
+
+#[cycle(sets)]
+fn clauses(
+    alloc: Global,
+    levels: u32,
+    tokens: &[Lexeme],
+) -> Result<(Items<Clause>, &[Lexeme]), ReadError>
+    ensures { Gives (λ x. (x.0, x.1.now)) result (many (begins_clause levels) (clause_reader levels) tokens.now) }
+{
+    let mut clauses = Items::new(alloc);
+    let mut rest = tokens;
+    'clauses: while next_is_clause(rest, levels) {
+        let (next, after) = one_clause(alloc, levels, rest)?;
+        clauses.push(next)?;
+        rest = after;
+    }
+    Ok((clauses, rest))
+}
+
+// The name and the columns of a set.
+#[tactic(auto, unfolding(crate::specs::Reading::set_head_reader))]
+fn set_head(alloc: Global, tokens: &[Lexeme]) -> Result<(Text, Items<Text>, &[Lexeme]), ReadError>
+    ensures { Gives (λ x. ((x.0, x.1), x.2.now)) result (set_head_reader tokens.now) }
+{
+    let (_, rest) = keyword(tokens, b"set")?;
+    let (name, rest) = word(rest)?;
+    let (_, rest) = mark(rest, b"{")?;
+    let (columns, rest) = names(alloc, rest)?;
+    let (_, rest) = mark(rest, b";")?;
+    Ok((name.text.copy()?, columns, rest))
+}
+
+/// A set with so many levels of inner sets, at most.
+#[cycle(sets)]
+#[tactic(auto, unfolding(crate::specs::Reading::set_reader_of))]
+pub(crate) fn set(
+    alloc: Global,
+    levels: u32,
+    tokens: &[Lexeme],
+) -> Result<(SetTree, &[Lexeme]), ReadError>
+    ensures { Gives (λ x. (x.0, x.1.now)) result (set_reader levels tokens.now) }
+{
+    let (name, columns, rest) = set_head(alloc, tokens)?;
+    let (clauses, rest) = clauses(alloc, levels, rest)?;
+    let (_, rest) = mark(rest, b"}")?;
+    Ok((tree_made(alloc, name, columns, clauses)?, rest))
+}

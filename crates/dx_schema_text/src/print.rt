@@ -1,0 +1,148 @@
+// The text of sets.
+ghost use Rattle.std.specs.Prelude.{◌≡◌, ◌++◌, [], IfOk, OnOk, flat_map, string_bytes};
+ghost use Rattle.dx_schema_text.specs.Print.{AreWritable, IsReadAgain, front_lines, group, head_lines, key_line, last_line, names_text, printed, ref_line, wider};
+
+use dx_ports::Text;
+use dx_schema::{KeyDecl, RefDecl, SetTree, Trees};
+use std::alloc::{AllocError, Global};
+
+// Names, parted by a comma and a space.
+fn push_names(names: &[Text], out: &mut String) -> Result<(), AllocError>
+    ensures { OnOk result (string_bytes out.new ≡ string_bytes out.old ++ names_text names.now) }
+{
+    let Some((name, others)) = names.split_first() else {
+        return Ok(());
+    };
+    out.push_str(name.as_str())?;
+    for other in others {
+        out.push_str(", ")?;
+        out.push_str(other.as_str())?;
+    }
+    Ok(())
+}
+
+// Names in brackets behind a word.
+fn push_group(word: &str, names: &[Text], out: &mut String) -> Result<(), AllocError>
+    ensures { OnOk result (string_bytes out.new ≡ string_bytes out.old ++ group word.now names.now) }
+{
+    out.push_str(word)?;
+    out.push_str(" (")?;
+    push_names(names, out)?;
+    out.push_str(")")?;
+    Ok(())
+}
+
+fn push_key(margin: &str, key: &KeyDecl, out: &mut String) -> Result<(), AllocError>
+    ensures { OnOk result (string_bytes out.new ≡ string_bytes out.old ++ key_line margin.now key.now) }
+{
+    out.push_str(margin)?;
+    push_group("key", key.columns.items(), out)?;
+    out.push_str(";\n")?;
+    Ok(())
+}
+
+fn push_ref(margin: &str, reference: &RefDecl, out: &mut String) -> Result<(), AllocError>
+    ensures { OnOk result (string_bytes out.new ≡ string_bytes out.old ++ ref_line margin.now reference.now) }
+{
+    out.push_str(margin)?;
+    push_group("ref", reference.columns.items(), out)?;
+    out.push_str(" -> ")?;
+    push_group(reference.set.as_str(), reference.referred.items(), out)?;
+    out.push_str(";\n")?;
+    Ok(())
+}
+
+fn push_keys(margin: &str, keys: &[KeyDecl], out: &mut String) -> Result<(), AllocError>
+    ensures { OnOk result (string_bytes out.new ≡ string_bytes out.old ++ flat_map (key_line margin.now) keys.now) }
+{
+    for key in keys {
+        push_key(margin, key, out)?;
+    }
+    Ok(())
+}
+
+fn push_refs(margin: &str, refs: &[RefDecl], out: &mut String) -> Result<(), AllocError>
+    ensures { OnOk result (string_bytes out.new ≡ string_bytes out.old ++ flat_map (ref_line margin.now) refs.now) }
+{
+    for reference in refs {
+        push_ref(margin, reference, out)?;
+    }
+    Ok(())
+}
+
+// The margin of what stands in a set.
+fn wider(alloc: Global, margin: &Text) -> Result<Text, AllocError>
+    ensures { IfOk result (λ w. w ≡ wider margin.now) }
+{
+    let mut wide = String::from_str(alloc, margin.as_str())?;
+    wide.push_str("  ")?;
+    Ok(Text::from_string(wide))
+}
+
+// The name and the columns of a set.
+fn push_head(margin: &str, wide: &str, tree: &SetTree, out: &mut String) -> Result<(), AllocError>
+    requires { wide.now ≡ wider margin.now }
+    ensures { OnOk result (string_bytes out.new ≡ string_bytes out.old ++ head_lines margin.now tree.now.label) }
+{
+    out.push_str(margin)?;
+    out.push_str("set ")?;
+    out.push_str(tree.name.as_str())?;
+    out.push_str(" {\n")?;
+    out.push_str(wide)?;
+    push_names(tree.columns.items(), out)?;
+    out.push_str(";\n")?;
+    Ok(())
+}
+
+// A set up to its inner sets.
+fn push_front(
+    margin: &Text,
+    wide: &Text,
+    tree: &SetTree,
+    out: &mut String,
+) -> Result<(), AllocError>
+    requires { wide.now ≡ wider margin.now }
+    ensures { OnOk result (string_bytes out.new ≡ string_bytes out.old ++ front_lines margin.now tree.now.label) }
+{
+    push_head(margin.as_str(), wide.as_str(), tree, out)?;
+    push_keys(wide.as_str(), tree.keys.items(), out)?;
+    push_refs(wide.as_str(), tree.refs.items(), out)?;
+    Ok(())
+}
+
+fn push_last(margin: &Text, out: &mut String) -> Result<(), AllocError>
+    ensures { OnOk result (string_bytes out.new ≡ string_bytes out.old ++ last_line margin.now) }
+{
+    out.push_str(margin.as_str())?;
+    out.push_str("}\n")?;
+    Ok(())
+}
+
+// The sets of one level, with their inner sets.
+fn push_sets(
+    alloc: Global,
+    margin: &Text,
+    trees: &Trees,
+    out: &mut String,
+) -> Result<(), AllocError>
+    ensures { OnOk result (string_bytes out.new ≡ string_bytes out.old ++ printed margin.now trees.now) }
+{
+    let wide = wider(alloc, margin)?;
+    for tree in trees.items() {
+        push_front(margin, &wide, tree, out)?;
+        push_sets(alloc, &wide, &tree.inner, out)?;
+        push_last(margin, out)?;
+    }
+    Ok(())
+}
+
+/// Prints sets as a mapping text has them. It fails only where memory runs out.
+pub fn print_trees(alloc: Global, trees: &Trees) -> Result<Text, AllocError>
+    ensures text { IfOk result (λ t. t ≡ printed [] trees.now) }
+    ensures read_again { IfOk result (λ t. AreWritable trees.now → IsReadAgain trees.now t) }
+{
+    let margin = Text::from_string(String::new(alloc));
+    let mut out = String::new(alloc);
+    push_sets(alloc, &margin, trees, &mut out)?;
+    Ok(Text::from_string(out))
+}

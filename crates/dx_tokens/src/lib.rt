@@ -1,0 +1,17 @@
+//! The tokens of a mapping text: words, numbers, strings and marks, with the first fault.
+//!
+//! `tokens` gives exactly the tokens of a text, or its first token fault with its place. `scan` gives the tokens up to
+//! that fault, each with its text, and what was begun there, for readers that judge tokens one after the other.
+#![tactic(auto)]
+
+mod bytes;
+mod faults;
+mod laws;
+mod pieces;
+mod scanner;
+mod tokenizer;
+
+pub use faults::{TextFault, TextKind};
+pub use laws::{parts_are_scanned, scan_agrees_with_tokens, scan_is_of_the_text, texts_are_quoted};
+pub use scanner::{Lexeme, Scanned, Stop, scan};
+pub use tokenizer::{Token, TokenKind, tokens};
