@@ -1,0 +1,24 @@
+-- What the shipped conversions give of some texts.
+use Rattle.std.proofs.Common.{◌≡◌, [], ◌∷◌, refl, codes}
+use Rattle.dx_funcs.specs.Shipped.{trimmed, digits_of, paired, shipped_apply}
+
+trimmed-between : trimmed (codes " a b ") ≡ codes "a b"
+trimmed-between = refl
+
+trimmed-spaces : trimmed (codes "   ") ≡ []
+trimmed-spaces = refl
+
+digits_of-phone : digits_of (codes "+39 (02) 7") ≡ codes "39027"
+digits_of-phone = refl
+
+paired-empty : paired (codes "a") [] ≡ codes "a "
+paired-empty = refl
+
+shipped_apply-trim : shipped_apply 0 (codes " a b " ∷ []) ≡ codes "a b"
+shipped_apply-trim = refl
+
+shipped_apply-unknown : shipped_apply 3 (codes "a" ∷ []) ≡ []
+shipped_apply-unknown = refl
+
+shipped_apply-two_for_one : shipped_apply 0 (codes "a" ∷ codes "b" ∷ []) ≡ []
+shipped_apply-two_for_one = refl

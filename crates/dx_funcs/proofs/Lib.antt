@@ -1,0 +1,4 @@
+pub mod Examples
+pub mod Offered
+pub mod Trims
+pub mod Digits

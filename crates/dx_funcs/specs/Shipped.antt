@@ -1,0 +1,45 @@
+-- The conversions that come with the program, and what they give.
+use Rattle.std.specs.Prelude.{ℕ, List, [], ◌∷◌, ◌++◌, ◌==◌, codes, filter, if◌then◌else◌, reverse}
+use Rattle.std.specs.Char.{is_ascii_digit}
+use Rattle.dx_funcs.specs.declared.conversion.Conversion.{Conversion}
+
+-- a text, by its bytes
+abbrev pub Text : Type 0
+Text = List ℕ
+
+abbrev pub space : ℕ
+space = 32
+
+abbrev pub without_spaces_in_front : Text → Text
+without_spaces_in_front [] = []
+without_spaces_in_front (b ∷ bs) = if b == space then without_spaces_in_front bs else b ∷ bs
+
+abbrev pub without_spaces_at_the_end : Text → Text
+without_spaces_at_the_end text = reverse (without_spaces_in_front (reverse text))
+
+-- the text without the spaces at its front and its end
+abbrev pub trimmed : Text → Text
+trimmed text = without_spaces_at_the_end (without_spaces_in_front text)
+
+-- the bytes `0` to `9` of the text, in order
+abbrev pub digits_of : Text → Text
+digits_of text = filter is_ascii_digit text
+
+-- the first text, one space, the second
+abbrev pub paired : Text → Text → Text
+paired first second = first ++ space ∷ second
+
+-- what the conversions give: 0 trims, 1 keeps the digits, 2 pairs; the empty text for all else
+abbrev pub shipped_apply : ℕ → List Text → Text
+shipped_apply code [] = []
+shipped_apply code (text ∷ []) = if code == 0 then trimmed text else if code == 1 then digits_of text else []
+shipped_apply code (first ∷ second ∷ []) = if code == 2 then paired first second else []
+shipped_apply code (first ∷ second ∷ third ∷ rest) = []
+
+-- the conversions that come with the program, in order
+abbrev pub shipped_conversions : List Conversion
+shipped_conversions =
+    record { name = codes "trim"; code = 0; arity = 1 }
+    ∷ record { name = codes "digits"; code = 1; arity = 1 }
+    ∷ record { name = codes "pair"; code = 2; arity = 2 }
+    ∷ []

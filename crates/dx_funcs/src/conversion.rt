@@ -1,0 +1,10 @@
+// A conversion, as a list of conversions has it.
+use dx_ports::Text;
+
+/// A conversion: its name, its code, and of how many texts it makes one.
+#[derive(Debug, Drop)]
+pub struct Conversion {
+    pub name: Text,
+    pub code: u32,
+    pub arity: u32,
+}

@@ -1,0 +1,17 @@
+//! Stored conversions: what a user's program may do to texts on their way from a source to a target.
+//!
+//! A `Host` lists conversions and stores the closure that computes them; a `Meaning` says, in contracts alone, what text
+//! each of them gives. `Shipped` is the meaning of the conversions that come with `clio`: `shipped_list` lists them and
+//! `convert` computes them.
+#![tactic(auto)]
+
+mod conversion;
+mod host;
+mod meaning;
+mod shipped;
+mod steps;
+
+pub use conversion::Conversion;
+pub use host::Host;
+pub use meaning::Meaning;
+pub use shipped::{Shipped, convert, convert_by_host, shipped_list};

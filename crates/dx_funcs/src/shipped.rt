@@ -1,0 +1,67 @@
+// The conversions that come with the program.
+ghost use Rattle.std.specs.Prelude.{◌≡◌, IfOk, length};
+ghost use Rattle.dx_funcs.specs.Offers.{IsListed, IsOffer};
+ghost use Rattle.dx_funcs.specs.Shipped.{shipped_apply, shipped_conversions};
+
+use crate::conversion::Conversion;
+use crate::host::Host;
+use crate::meaning::Meaning;
+use crate::steps::{digits, pair, trim};
+use dx_ports::{Items, Text};
+use std::alloc::{AllocError, Global};
+
+/// What the conversions that come with the program mean.
+#[derive(Clone, Copy, Debug)]
+pub struct Shipped;
+
+impl Meaning for Shipped {
+    ghost apply = { shipped_apply };
+}
+
+fn conversion(alloc: Global, name: &str, code: u32, arity: u32) -> Result<Conversion, AllocError>
+    ensures { IfOk result (λ c. c ≡ record { name = name.now; code = code; arity = arity }) }
+{
+    Ok(Conversion {
+        name: Text::from_str(alloc, name)?,
+        code,
+        arity,
+    })
+}
+
+/// The conversions that come with the program.
+pub fn shipped_list(alloc: Global) -> Result<Items<Conversion>, AllocError>
+    ensures list { IfOk result (λ list. list ≡ shipped_conversions) }
+    ensures offer { IfOk result (λ list. IsOffer list) }
+{
+    let mut list = Items::new(alloc);
+    list.push(conversion(alloc, "trim", 0, 1)?)?;
+    list.push(conversion(alloc, "digits", 1, 1)?)?;
+    list.push(conversion(alloc, "pair", 2, 2)?)?;
+    Ok(list)
+}
+
+/// The text that a shipped conversion makes of texts.
+pub fn convert(alloc: Global, code: u32, args: &Items<Text>) -> Result<Text, AllocError>
+    requires { IsListed shipped_conversions code (length args.now) }
+    ensures { IfOk result (λ t. t ≡ shipped_apply code args.now) }
+{
+    match (code, args.items()) {
+        (0, [text]) => trim(alloc, text),
+        (1, [text]) => digits(alloc, text),
+        (2, [first, second]) => pair(alloc, first, second),
+        _ => unreachable!(),
+    }
+}
+
+/// The same text, by a host that is built of `shipped_list` and `convert`.
+pub fn convert_by_host(alloc: Global, code: u32, args: &Items<Text>) -> Result<Text, AllocError>
+    requires { IsListed shipped_conversions code (length args.now) }
+    ensures { IfOk result (λ t. t ≡ shipped_apply code args.now) }
+{
+    let function = |code: u32, args: &Items<Text>| -> Result<Text, AllocError>
+        requires { IsListed shipped_conversions code (length args.now) }
+        ensures { IfOk result (λ t. t ≡ shipped_apply code args.entry.now) }
+    { convert(alloc, code, args) };
+    let host: Host<_, Shipped> = Host::build(shipped_list(alloc)?, function);
+    host.call(code, args)
+}
