@@ -1,5 +1,6 @@
 // What the tests share: runs over files in memory, and tables of cases.
 mod calls;
+mod conversions;
 mod examples;
 mod faults;
 mod limits;
