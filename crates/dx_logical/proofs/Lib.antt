@@ -1,0 +1,5 @@
+pub mod Fresh
+pub mod Continued
+pub mod Facts
+pub mod Whole
+pub mod Examples

@@ -1,0 +1,87 @@
+-- What holds of unfoldings.
+use Rattle.std.specs.Prelude.{◌≡◌, ℕ, ◌<◌, ◌≤◌, ◌*◌, Some, None, IfSome, length, [], slice_index_or}
+use Rattle.std.specs.Prelude.{List}
+use Rattle.dx_ports.specs.Members.{Each, Distinct}
+use Rattle.dx_model.specs.declared.tables.Link.{Link}
+use Rattle.dx_model.specs.Tables.{Table, table_of, AreWithin}
+use Rattle.dx_schema.specs.Links.{IsAcyclic}
+use Rattle.dx_logical.specs.declared.relation.Occurrence.{Occurrence}
+use Rattle.dx_logical.specs.declared.relation.Relation.{Relation}
+use Rattle.dx_logical.specs.Unfolding.{each_link, all_links, items_at, unfolding_of}
+
+-- a link of a table with this width leads to distinct columns of a table of the schema, from as many
+pub record LinkFits (schema : List Table) (width : ℕ) (l : Link) : Type 0 where
+  pub table : l.table < length schema
+  pub same_length : length l.from ≡ length l.to
+  pub from : AreWithin l.from width
+  pub to : AreWithin l.to (table_of schema l.table).width
+  pub to_distinct : Distinct l.to
+
+-- the links of each table fit
+abbrev pub LinksFit : List Table → Type 0
+LinksFit schema = Each schema (λ t. Each t.links (LinkFits schema t.width))
+
+-- occurrence number n
+abbrev pub occurrence_at : Relation → ℕ → Occurrence
+occurrence_at r n = slice_index_or r.occurrences n (record { table = 0; variables = []; parent = None; link = 0 })
+
+-- link number k of a table
+abbrev pub link_at : List Table → ℕ → ℕ → Link
+link_at schema t k = slice_index_or (table_of schema t).links k (record { from = []; table = 0; to = [] })
+
+-- an occurrence has a table and its width, variables below v, and a parent before number n
+pub record IsOccurrence (schema : List Table) (v n : ℕ) (o : Occurrence) : Type 0 where
+  pub table : o.table < length schema
+  pub width : length o.variables ≡ (table_of schema o.table).width
+  pub variables : AreWithin o.variables v
+  pub parent : IfSome o.parent (λ p. p < n)
+
+-- each occurrence is one of a table of the schema, with its parent before it
+abbrev pub AreOccurrences : List Table → Relation → Type 0
+AreOccurrences schema r = (n : ℕ) → n < length r.occurrences → IsOccurrence schema r.variables n (occurrence_at r n)
+
+-- occurrence number q follows from number p along link l, which has number k: its referred columns have the variables of the referring columns
+pub record IsAlong (r : Relation) (p k : ℕ) (l : Link) (q : ℕ) : Type 0 where
+  pub within : q < length r.occurrences
+  pub parent : (occurrence_at r q).parent ≡ Some p
+  pub link : (occurrence_at r q).link ≡ k
+  pub table : (occurrence_at r q).table ≡ l.table
+  pub shared : items_at l.to (occurrence_at r q).variables ≡ items_at l.from (occurrence_at r p).variables
+
+-- an occurrence with a parent follows from it along the link that it names
+abbrev pub AreAlongLinks : List Table → Relation → Type 0
+AreAlongLinks schema r =
+    (p q : ℕ) → q < length r.occurrences → (occurrence_at r q).parent ≡ Some p
+    → ((occurrence_at r q).link < length (table_of schema (occurrence_at r p).table).links)
+    × IsAlong r p (occurrence_at r q).link (link_at schema (occurrence_at r p).table (occurrence_at r q).link) q
+
+-- from each occurrence one follows along each link of its table
+abbrev pub HasEachLink : List Table → Relation → Type 0
+HasEachLink schema r =
+    (p k : ℕ) → p < length r.occurrences → k < length (table_of schema (occurrence_at r p).table).links
+    → (q : ℕ) × IsAlong r p k (link_at schema (occurrence_at r p).table k) q
+
+-- what holds of the unfolding of a table
+pub record IsUnfolding (schema : List Table) (t : ℕ) (r : Relation) : Type 0 where
+  pub some : 0 < length r.occurrences
+  pub root : (occurrence_at r 0).table ≡ t
+  pub occurrences : AreOccurrences schema r
+  pub along_links : AreAlongLinks schema r
+  pub each_link : HasEachLink schema r
+
+-- at most 64 occurrences, each with at most 64 variables of its own
+pub record IsSmall (r : Relation) : Type 0 where
+  pub occurrences : length r.occurrences ≤ 64
+  pub variables : r.variables ≤ 64 * length r.occurrences
+
+-- ---- laws
+
+-- what an unfolding follows: each link of the table, and from there what the unfolding of the referred table follows
+abbrev pub FollowsEachLink : Type 0
+FollowsEachLink =
+    (schema : List Table) (t : ℕ) → IsAcyclic schema → t < length schema
+    → all_links schema (length schema) t ≡ each_link (all_links schema (length schema)) 0 (table_of schema t).links
+
+-- in an unfolding each link of each occurrence is followed, and no more
+abbrev pub UnfoldingsAre : Type 0
+UnfoldingsAre = (schema : List Table) (t : ℕ) → LinksFit schema → IsAcyclic schema → t < length schema → IsUnfolding schema t (unfolding_of schema t)
