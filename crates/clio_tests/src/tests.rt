@@ -8,6 +8,7 @@ mod mapping_texts;
 mod refusals;
 mod schema_faults;
 mod schemas;
+mod unfoldings;
 
 use clio_top::{Ending, message, run};
 use dx_ports::{File, MemInputs, MemOutputs, Text};

@@ -64,7 +64,7 @@ fn close(roots: &mut Trees, open: &mut Vec<SetTree>, level: usize) -> Result<(),
 }
 
 /// Sets in preorder, one a line. A set has as many blanks in front as it lies in sets.
-fn trees(alloc: Global, lines: &str) -> Result<Trees, AllocError> {
+pub fn trees(alloc: Global, lines: &str) -> Result<Trees, AllocError> {
     let mut roots = Trees::new(alloc);
     let mut open = Vec::new(alloc);
     for line in lines.lines() {
