@@ -7,6 +7,7 @@ use Rattle.dx_schema.specs.Forest.{Forest, none, set}
 use Rattle.dx_schema.specs.Tables.{Text, model_tables}
 use Rattle.dx_logical.specs.declared.relation.Occurrence.{Occurrence}
 use Rattle.dx_logical.specs.Unfolding.{unfolding_of, sub}
+use Rattle.dx_logical.specs.Laws.{variables_of}
 
 -- tables with their variables
 abbrev atoms : List Occurrence → List (ℕ × List ℕ)
@@ -108,3 +109,7 @@ seven = refl
 -- the subtree of the first link of six such tables is that of five
 five : length (sub (unfolding_of (twice 1 ∷ twice 2 ∷ twice 3 ∷ twice 4 ∷ twice 5 ∷ table 1 [] ∷ []) 0).occurrences 1) ≡ 31
 five = refl
+
+-- variables are numbered by first appearance
+trips-variables : variables_of (unfolding_of (model_tables trips) 0) ≡ 0 ∷ 1 ∷ 2 ∷ 1 ∷ 3 ∷ 2 ∷ 4 ∷ []
+trips-variables = refl

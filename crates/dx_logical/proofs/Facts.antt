@@ -1,8 +1,9 @@
 -- What holds of unfoldings.
-use Rattle.std.proofs.Common.{◌≡◌, ℕ, zero, suc, ◌+◌, ◌<◌, ◌≤◌, cond, eqb, Option, Some, None, is_some, unwrap_or, List, [], ◌∷◌, length, get_or, drop, refl, sym, ◌∙◌, ap, subst, inl, inr, arith, add-one}
+use Rattle.std.proofs.Common.{◌≡◌, ℕ, zero, suc, ◌+◌, ◌<◌, ◌≤◌, cond, eqb, Option, Some, None, is_some, unwrap_or, List, [], ◌∷◌, ◌++◌, length, get_or, drop, refl, sym, ◌∙◌, ap, subst, inl, inr, arith, add-one}
 use Rattle.std.specs.Prelude.{map, slice_index, IfSome}
 use Rattle.std.proofs.lemmas.Bool.{cases_lt, cond_both, cond-true, cond-false, eq-eqb, ne_eqb}
-use Rattle.std.proofs.lemmas.List.{drop_more, drop_all, length_push, get_or_push, get_or_append_left, length-map, length-drop}
+use Rattle.std.proofs.lemmas.List.{drop_more, drop_all, length_push, get_or_push, get_or_append_left, length-map, length-drop, append-nil}
+use Rattle.std.proofs.lemmas.List.Concat.{flat_map-append}
 use Rattle.dx_ports.specs.Members.{◌∈◌, here, there, Distinct, Each}
 use Rattle.dx_ports.proofs.Members.{in_at, from_map, from_append}
 use Rattle.dx_model.specs.declared.tables.Link.{Link}
@@ -13,8 +14,8 @@ use Rattle.dx_schema.proofs.Levels.{links_end}
 use Rattle.dx_logical.specs.declared.relation.Occurrence.{Occurrence}
 use Rattle.dx_logical.specs.declared.relation.Relation.{Relation}
 use Rattle.dx_logical.specs.Filled.{given, fresh_below, filled}
-use Rattle.dx_logical.specs.Unfolding.{Follows, none, along, each_link, all_links, joined, items_at, row_of, continued, alone, unfolding_of}
-use Rattle.dx_logical.specs.Laws.{LinkFits, LinksFit, occurrence_at, link_at, IsOccurrence, AreOccurrences, IsAlong, AreAlongLinks, UnfoldingsAre}
+use Rattle.dx_logical.specs.Unfolding.{Follows, none, along, each_link, all_links, joined, items_at, row_of, continued, nothing, alone, unfolding_of}
+use Rattle.dx_logical.specs.Laws.{LinkFits, LinksFit, occurrence_at, link_at, IsOccurrence, AreOccurrences, IsAlong, AreAlongLinks, Numbered, variables_of, UnfoldingsAre}
 use Rattle.dx_logical.proofs.Fresh.{filled_length}
 
 -- ---- rows
@@ -71,6 +72,24 @@ row_within n ks xs (suc w) h x m = elim (from_append (row_of n ks xs w) m) [
     last (here e) = step_within n (fresh_below ks xs w) x (given ks xs w) (λ y g. h y (given_among ks xs w y g)) e
     last (there k) = elim k [ ]
 
+-- what is numbered so far, and goes on so
+numbered_further : (n k m : ℕ) (xs ys : List ℕ) → Numbered n xs k → Numbered k ys m → Numbered n (xs ++ ys) m
+numbered_further n k m [] ys a b = rw a b
+numbered_further n k m (x ∷ xs) ys a b = elim a [
+  | inl l ↦ inl (l.0, numbered_further n k m xs ys l.1 b)
+  | inr r ↦ inr (r.0, numbered_further (suc n) k m xs ys r.1 b)
+]
+
+step_numbered : (n F : ℕ) (o : Option ℕ) → ((y : ℕ) → o ≡ Some y → y < n) → Numbered (n + F) (unwrap_or o (n + F) ∷ []) (n + (F + cond (is_some o) 0 1))
+step_numbered n F None h = inr (refl, omega arith)
+step_numbered n F (Some y) h = let b = h y refl in inl (omega arith, omega arith)
+
+row_numbered : (n : ℕ) (ks xs : List ℕ) (w : ℕ) → AreWithin xs n → Numbered n (row_of n ks xs w) (n + fresh_below ks xs w)
+row_numbered n ks xs zero h = omega arith
+row_numbered n ks xs (suc w) h =
+    numbered_further n (n + fresh_below ks xs w) (n + fresh_below ks xs (suc w)) (row_of n ks xs w) (unwrap_or (given ks xs w) (n + fresh_below ks xs w) ∷ [])
+    (row_numbered n ks xs w h) (step_numbered n (fresh_below ks xs w) (given ks xs w) (λ y g. h y (given_among ks xs w y g)))
+
 -- ---- a relation that goes on
 
 -- the second relation has the occurrences of the first in front
@@ -79,14 +98,14 @@ pub record Extends (r s : Relation) : Type 0 where
   pub same : (n : ℕ) → n < length r.occurrences → occurrence_at s n ≡ occurrence_at r n
   pub more : r.variables ≤ s.variables
 
-extends_further : (r s t : Relation) → Extends r s → Extends s t → Extends r t
+pub extends_further : (r s t : Relation) → Extends r s → Extends s t → Extends r t
 extends_further r s t a b = record {
   longer = omega (arith, a.longer, b.longer);
   same = λ n h. b.same n (omega (arith, a.longer)) ∙ a.same n h;
   more = omega (arith, a.more, b.more);
 }
 
-extends_joined : (r : Relation) (t w : ℕ) (columns shared : List ℕ) (o : Option ℕ) (k : ℕ) → Extends r (joined r t w columns shared o k)
+pub extends_joined : (r : Relation) (t w : ℕ) (columns shared : List ℕ) (o : Option ℕ) (k : ℕ) → Extends r (joined r t w columns shared o k)
 extends_joined r t w columns shared o k = record {
   longer = let e : length (joined r t w columns shared o k).occurrences ≡ length r.occurrences + 1 = length_push r.occurrences _ in rw e (omega arith);
   same = λ n h. get_or_append_left r.occurrences _ _ n h;
@@ -105,7 +124,7 @@ extends schema p vs r (along k l below beside) =
     (extends schema p vs next beside)
 
 -- the new occurrence stands at the end
-last_joined : (r : Relation) (t w : ℕ) (columns shared : List ℕ) (o : Option ℕ) (k : ℕ)
+pub last_joined : (r : Relation) (t w : ℕ) (columns shared : List ℕ) (o : Option ℕ) (k : ℕ)
     → occurrence_at (joined r t w columns shared o k) (length r.occurrences) ≡ record { table = t; variables = row_of r.variables columns shared w; parent = o; link = k }
 last_joined r t w columns shared o k = get_or_push r.occurrences _ _ (length r.occurrences) refl
 
@@ -148,6 +167,16 @@ along_joined schema r p k l vs width fit h e =
 pub record IsWell (schema : List Table) (r : Relation) : Type 0 where
   pub occurrences : AreOccurrences schema r
   pub along_links : AreAlongLinks schema r
+  pub numbered : Numbered 0 (variables_of r) r.variables
+
+numbered_joined : (r : Relation) (t w : ℕ) (columns shared : List ℕ) (o : Option ℕ) (k : ℕ) → Numbered 0 (variables_of r) r.variables → AreWithin shared r.variables
+    → Numbered 0 (variables_of (joined r t w columns shared o k)) (joined r t w columns shared o k).variables
+numbered_joined r t w columns shared o k n h =
+    let row = row_of r.variables columns shared w in
+    let m = r.variables + fresh_below columns shared w in
+    let e : variables_of (joined r t w columns shared o k) ≡ variables_of r ++ row =
+    flat_map-append (λ (o : Occurrence). o.variables) r.occurrences (record { table = t; variables = row; parent = o; link = k } ∷ []) ∙ ap (λ xs. variables_of r ++ xs) (append-nil row) in
+    subst (λ (xs : List ℕ). Numbered 0 xs m) (sym e) (numbered_further 0 r.variables m (variables_of r) row n (row_numbered r.variables columns shared w h))
 
 occurrence_more : (schema : List Table) (v u n : ℕ) (o : Occurrence) → v ≤ u → IsOccurrence schema v n o → IsOccurrence schema u n o
 occurrence_more schema v u n o h i = record { table = i.table; width = i.width; variables = λ x m. let b = i.variables x m in omega (arith, b); parent = i.parent }
@@ -195,7 +224,7 @@ alongs_more schema r s x one old new p q h e = elim (cases_lt q (length r.occurr
       subst (λ (m : ℕ). (occurrence_at s m).parent ≡ Some p → AlongOf schema s p m (occurrence_at s p) (occurrence_at s m)) d (new p) e
 ]
 
-same_some : (p q : ℕ) → Some p ≡ Some q → p ≡ q
+pub same_some : (p q : ℕ) → Some p ≡ Some q → p ≡ q
 same_some p q e = cc
 
 well_joined : (schema : List Table) (r : Relation) (t p k : ℕ) (l : Link) (vs : List ℕ) → LinksFit schema → t < length schema → IsWell schema r → p < length r.occurrences
@@ -222,6 +251,7 @@ well_joined schema r t p k l vs fits t_in well h e_t e_vs m e =
     record {
       occurrences = occurrences_more schema r s x one well.occurrences (subst (IsOccurrence schema s.variables (length r.occurrences)) (sym last) new);
       along_links = alongs_more schema r s x one well goes;
+      numbered = numbered_joined r l.table w l.to shared (Some p) k well.numbered known;
     }
 
 -- ---- all that is followed
@@ -369,6 +399,7 @@ well_alone schema t h = record {
   occurrences = λ n m. let e : 0 ≡ n = omega arith in subst (λ (i : ℕ). IsOccurrence schema (alone schema t).variables i (occurrence_at (alone schema t) i)) e
       (record { table = h; width = filled_length (λ (v : ℕ). v) 0 [] [] (table_of schema t).width; variables = row_within 0 [] [] (table_of schema t).width (λ x k. elim k [ ]); parent = tt });
   along_links = λ p q m e. absurd (let d : 0 ≡ q = omega arith in no_parent p q d e);
+  numbered = numbered_joined nothing t (table_of schema t).width [] [] None 0 refl (λ x k. elim k [ ]);
 }
   where
     no_parent : (p q : ℕ) → 0 ≡ q → (occurrence_at (alone schema t) q).parent ≡ Some p → ⊥
@@ -388,6 +419,7 @@ unfoldings_are schema t fits a h =
       root = root;
       occurrences = ok.occurrences;
       along_links = ok.along_links;
+      numbered = ok.numbered;
       each_link = λ p k p_in m. elim (cases_lt 0 p) [
         | inl l ↦ all.1 p (omega arith) p_in k (omega arith) m
         | inr g ↦ let e : 0 ≡ p = omega arith in subst (λ (i : ℕ). FollowFrom schema (unfolding_of schema t) i (occurrence_at (unfolding_of schema t) i).table 0) e first k (omega arith) m

@@ -3,3 +3,4 @@ pub mod Continued
 pub mod Facts
 pub mod Whole
 pub mod Examples
+pub mod Subtrees

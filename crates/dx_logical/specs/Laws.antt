@@ -1,13 +1,12 @@
 -- What holds of unfoldings.
-use Rattle.std.specs.Prelude.{◌≡◌, ℕ, ◌<◌, ◌≤◌, ◌*◌, Some, None, IfSome, length, [], slice_index_or}
-use Rattle.std.specs.Prelude.{List}
+use Rattle.std.specs.Prelude.{◌≡◌, ℕ, suc, ◌+◌, ◌<◌, ◌≤◌, ◌*◌, ◌↔◌, ◌⊎◌, Some, None, IfSome, length, List, [], ◌∷◌, flat_map, slice_index_or}
 use Rattle.dx_ports.specs.Members.{Each, Distinct}
 use Rattle.dx_model.specs.declared.tables.Link.{Link}
 use Rattle.dx_model.specs.Tables.{Table, table_of, AreWithin}
 use Rattle.dx_schema.specs.Links.{IsAcyclic}
 use Rattle.dx_logical.specs.declared.relation.Occurrence.{Occurrence}
 use Rattle.dx_logical.specs.declared.relation.Relation.{Relation}
-use Rattle.dx_logical.specs.Unfolding.{each_link, all_links, items_at, unfolding_of}
+use Rattle.dx_logical.specs.Unfolding.{each_link, all_links, items_at, unfolding_of, sub}
 
 -- a link of a table with this width leads to distinct columns of a table of the schema, from as many
 pub record LinkFits (schema : List Table) (width : ℕ) (l : Link) : Type 0 where
@@ -61,6 +60,15 @@ HasEachLink schema r =
     (p k : ℕ) → p < length r.occurrences → k < length (table_of schema (occurrence_at r p).table).links
     → (q : ℕ) × IsAlong r p k (link_at schema (occurrence_at r p).table k) q
 
+-- numbers by first appearance: each is below n, or is n, and then the others are so below the next; at the end all are below m
+abbrev pub Numbered : ℕ → List ℕ → ℕ → Type 0
+Numbered n [] m = n ≡ m
+Numbered n (x ∷ xs) m = ((x < n) × Numbered n xs m) ⊎ ((x ≡ n) × Numbered (suc n) xs m)
+
+-- the variables, in order of occurrences and columns
+abbrev pub variables_of : Relation → List ℕ
+variables_of r = flat_map (λ (o : Occurrence). o.variables) r.occurrences
+
 -- what holds of the unfolding of a table
 pub record IsUnfolding (schema : List Table) (t : ℕ) (r : Relation) : Type 0 where
   pub some : 0 < length r.occurrences
@@ -68,8 +76,20 @@ pub record IsUnfolding (schema : List Table) (t : ℕ) (r : Relation) : Type 0 w
   pub occurrences : AreOccurrences schema r
   pub along_links : AreAlongLinks schema r
   pub each_link : HasEachLink schema r
+  pub numbered : Numbered 0 (variables_of r) r.variables
 
--- at most 64 occurrences, each with at most 64 variables of its own
+-- occurrence number q is number p, or follows from one that comes from p
+pub data ComesFrom (r : Relation) (p : ℕ) : ℕ → Type 0 where
+  itself : ComesFrom r p p
+  after : {m q : ℕ} → (occurrence_at r q).parent ≡ Some m → ComesFrom r p m → ComesFrom r p q
+
+-- s has the occurrences that come from number p, which stand together from p on
+pub record IsSubtree (r : Relation) (p : ℕ) (s : List Occurrence) : Type 0 where
+  pub within : p + length s ≤ length r.occurrences
+  pub items : (i : ℕ) → i < length s → slice_index_or s i (record { table = 0; variables = []; parent = None; link = 0 }) ≡ occurrence_at r (p + i)
+  pub exact : (q : ℕ) → q < length r.occurrences → ComesFrom r p q ↔ ((p ≤ q) × (q < p + length s))
+
+-- at most 64 occurrences, and at most 64 variables for each
 pub record IsSmall (r : Relation) : Type 0 where
   pub occurrences : length r.occurrences ≤ 64
   pub variables : r.variables ≤ 64 * length r.occurrences
@@ -82,6 +102,12 @@ FollowsEachLink =
     (schema : List Table) (t : ℕ) → IsAcyclic schema → t < length schema
     → all_links schema (length schema) t ≡ each_link (all_links schema (length schema)) 0 (table_of schema t).links
 
--- in an unfolding each link of each occurrence is followed, and no more
+-- from each occurrence of an unfolding one follows along each link of its table, and what follows from it follows so
 abbrev pub UnfoldingsAre : Type 0
 UnfoldingsAre = (schema : List Table) (t : ℕ) → LinksFit schema → IsAcyclic schema → t < length schema → IsUnfolding schema t (unfolding_of schema t)
+
+-- the subtree at an occurrence of an unfolding has those that come from it, and no others
+abbrev pub SubtreesAre : Type 0
+SubtreesAre =
+    (schema : List Table) (t p : ℕ) → p < length (unfolding_of schema t).occurrences
+    → IsSubtree (unfolding_of schema t) p (sub (unfolding_of schema t).occurrences p)

@@ -1,5 +1,5 @@
 // Why a table has no unfolding.
-use std::alloc::{AllocError, AllocFailed};
+use std::alloc::AllocError;
 use thiserror::Error;
 
 /// Why a table wasn't unfolded.

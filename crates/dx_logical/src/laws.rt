@@ -1,5 +1,5 @@
 // The laws of unfoldings. The definitions alone carry them: the bodies compute nothing.
-ghost use Rattle.dx_logical.specs.Laws.{FollowsEachLink, UnfoldingsAre};
+ghost use Rattle.dx_logical.specs.Laws.{FollowsEachLink, SubtreesAre, UnfoldingsAre};
 
 /// An unfolding follows each link of its table, and from there what the unfolding of the referred table follows.
 pub fn follows_each_link()
@@ -7,7 +7,12 @@ pub fn follows_each_link()
 {}
 
 /// From each occurrence of an unfolding one follows along each link of its table, in whose referred columns stand the
-/// variables of the referring columns; and no other follows from it.
+/// variables of the referring columns, and what follows from it follows so. Variables are numbered by first appearance.
 pub fn unfoldings_are()
     ensures { UnfoldingsAre }
+{}
+
+/// The subtree at an occurrence of an unfolding has those that come from it, and no others.
+pub fn subtrees_are()
+    ensures { SubtreesAre }
 {}
