@@ -4,3 +4,4 @@ pub mod Facts
 pub mod Whole
 pub mod Examples
 pub mod Subtrees
+pub mod Served

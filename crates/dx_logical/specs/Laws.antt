@@ -1,6 +1,6 @@
 -- What holds of unfoldings.
 use Rattle.std.specs.Prelude.{◌≡◌, ℕ, suc, ◌+◌, ◌<◌, ◌≤◌, ◌*◌, ◌↔◌, ◌⊎◌, Some, None, IfSome, length, List, [], ◌∷◌, flat_map, slice_index_or}
-use Rattle.dx_ports.specs.Members.{Each, Distinct}
+use Rattle.dx_ports.specs.Members.{◌∈◌, Each, Distinct}
 use Rattle.dx_model.specs.declared.tables.Link.{Link}
 use Rattle.dx_model.specs.Tables.{Table, table_of, AreWithin}
 use Rattle.dx_schema.specs.Links.{IsAcyclic}
@@ -60,6 +60,12 @@ HasEachLink schema r =
     (p k : ℕ) → p < length r.occurrences → k < length (table_of schema (occurrence_at r p).table).links
     → (q : ℕ) × IsAlong r p k (link_at schema (occurrence_at r p).table k) q
 
+-- each link of each of these occurrences is served by one of them
+abbrev pub AreServed : List Table → List Occurrence → Type 0
+AreServed schema os =
+    Each os (λ a. Each (table_of schema a.table).links (λ l.
+    (b : Occurrence) × (b ∈ os) × (b.table ≡ l.table) × (items_at l.to b.variables ≡ items_at l.from a.variables)))
+
 -- numbers by first appearance: each is below n, or is n, and then the others are so below the next; at the end all are below m
 abbrev pub Numbered : ℕ → List ℕ → ℕ → Type 0
 Numbered n [] m = n ≡ m
@@ -111,3 +117,7 @@ abbrev pub SubtreesAre : Type 0
 SubtreesAre =
     (schema : List Table) (t p : ℕ) → p < length (unfolding_of schema t).occurrences
     → IsSubtree (unfolding_of schema t) p (sub (unfolding_of schema t).occurrences p)
+
+-- the links of each occurrence of an unfolding are served by occurrences of it
+abbrev pub UnfoldingsServe : Type 0
+UnfoldingsServe = (schema : List Table) (t : ℕ) → LinksFit schema → IsAcyclic schema → t < length schema → AreServed schema (unfolding_of schema t).occurrences
