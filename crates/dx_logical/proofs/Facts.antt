@@ -15,8 +15,8 @@ use Rattle.dx_logical.specs.declared.relation.Occurrence.{Occurrence}
 use Rattle.dx_logical.specs.declared.relation.Relation.{Relation}
 use Rattle.dx_logical.specs.Filled.{given, fresh_below, filled}
 use Rattle.dx_logical.specs.Unfolding.{Follows, none, along, each_link, all_links, joined, items_at, row_of, continued, nothing, alone, unfolding_of}
-use Rattle.dx_logical.specs.Laws.{LinkFits, LinksFit, occurrence_at, link_at, IsOccurrence, AreOccurrences, IsAlong, AreAlongLinks, Numbered, variables_of, UnfoldingsAre}
-use Rattle.dx_logical.proofs.Fresh.{filled_length}
+use Rattle.dx_logical.specs.Laws.{LinkFits, LinksFit, occurrence_at, link_at, IsOccurrence, AreOccurrences, IsAlong, AreAlongLinks, shared_columns, IsFresh, AreFresh, Numbered, variables_of, UnfoldingsAre}
+use Rattle.dx_logical.proofs.Fresh.{filled_length, one_fresh}
 
 -- ---- rows
 
@@ -89,6 +89,36 @@ row_numbered n ks xs zero h = omega arith
 row_numbered n ks xs (suc w) h =
     numbered_further n (n + fresh_below ks xs w) (n + fresh_below ks xs (suc w)) (row_of n ks xs w) (unwrap_or (given ks xs w) (n + fresh_below ks xs w) ∷ [])
     (row_numbered n ks xs w h) (step_numbered n (fresh_below ks xs w) (given ks xs w) (λ y g. h y (given_among ks xs w y g)))
+
+-- a column that is none of these has nothing given
+given_none : (ks xs : List ℕ) (c : ℕ) → ¬ (c ∈ ks) → given ks xs c ≡ None
+given_none [] xs c h = refl
+given_none (k ∷ ks) [] c h = refl
+given_none (k ∷ ks) (x ∷ xs) c h =
+    cond-false (eqb k c) (Some x) (given ks xs c) (ne_eqb k c (λ e. h (here e))) ∙ given_none ks xs c (λ m. h (there m))
+
+fresh_grows : (ks xs : List ℕ) (d c : ℕ) → d ≤ c → fresh_below ks xs d ≤ fresh_below ks xs c
+fresh_grows ks xs d zero h = let e : d ≡ 0 = omega arith in rw e (omega arith)
+fresh_grows ks xs d (suc c) h = elim (cases_lt c d) [
+  | inl l ↦ let e : d ≡ suc c = omega arith in rw e (omega arith)
+  | inr g ↦ let i = fresh_grows ks xs d c g in omega arith
+]
+
+-- what is left of a fresh variable is below it
+left_below : (n : ℕ) (ks xs : List ℕ) (d c : ℕ) → AreWithin xs n → d < c → (o : Option ℕ) → given ks xs d ≡ o → unwrap_or o (n + fresh_below ks xs d) < n + fresh_below ks xs c
+left_below n ks xs d c h l None e =
+    let one = one_fresh ks xs d e in
+    let i = fresh_grows ks xs (d + 1) c (omega arith) in
+    omega arith
+left_below n ks xs d c h l (Some y) e = let b = h y (given_among ks xs d y e) in omega arith
+
+row_fresh : (n : ℕ) (ks xs : List ℕ) (w c : ℕ) → AreWithin xs n → c < w → ¬ (c ∈ ks)
+    → (n ≤ slice_index (row_of n ks xs w) c) × ((d : ℕ) → d < c → slice_index (row_of n ks xs w) d < slice_index (row_of n ks xs w) c)
+row_fresh n ks xs w c h l out =
+    let e : slice_index (row_of n ks xs w) c ≡ n + fresh_below ks xs c = filled_at (λ v. v) n ks xs w c 0 l ∙ rw (given_none ks xs c out) refl in (
+      rw e (omega arith),
+      λ d b. rw e (rw (filled_at (λ (v : ℕ). v) n ks xs w d 0 (omega arith)) (left_below n ks xs d c h b (given ks xs d) refl)),
+    )
 
 -- ---- a relation that goes on
 
@@ -167,6 +197,7 @@ along_joined schema r p k l vs width fit h e =
 pub record IsWell (schema : List Table) (r : Relation) : Type 0 where
   pub occurrences : AreOccurrences schema r
   pub along_links : AreAlongLinks schema r
+  pub fresh : AreFresh schema r
   pub numbered : Numbered 0 (variables_of r) r.variables
 
 numbered_joined : (r : Relation) (t w : ℕ) (columns shared : List ℕ) (o : Option ℕ) (k : ℕ) → Numbered 0 (variables_of r) r.variables → AreWithin shared r.variables
@@ -224,6 +255,50 @@ alongs_more schema r s x one old new p q h e = elim (cases_lt q (length r.occurr
       subst (λ (m : ℕ). (occurrence_at s m).parent ≡ Some p → AlongOf schema s p m (occurrence_at s p) (occurrence_at s m)) d (new p) e
 ]
 
+fresh_lift : (r s : Relation) (q c : ℕ) → Extends r s → q < length r.occurrences → IsFresh r q c → IsFresh s q c
+fresh_lift r s q c x h f =
+    let e = ap (λ (o : Occurrence). o.variables) (x.same q h) in
+    record {
+      before = λ n y l m. rw e (f.before n y l (rw (x.same n (omega arith)) at m));
+      left = λ d l. rw e (f.left d l);
+    }
+
+-- the columns that share variables stay
+shared_same : (schema : List Table) (r s : Relation) (q k : ℕ) (o : Option ℕ) → Extends r s → q < length r.occurrences → IfSome o (λ p. p < q) → shared_columns schema s k o ≡ shared_columns schema r k o
+shared_same schema r s q k None x h b = refl
+shared_same schema r s q k (Some p) x h b = ap (λ (o : Occurrence). (link_at schema o.table k).to) (x.same p (omega arith))
+
+abbrev FreshOf : List Table → Relation → ℕ → Occurrence → Type 0
+FreshOf schema s q o = (c : ℕ) → c < length o.variables → ¬ (c ∈ shared_columns schema s o.link o.parent) → IsFresh s q c
+
+fresh_more : (schema : List Table) (r s : Relation) → Extends r s → length s.occurrences ≡ length r.occurrences + 1 → IsWell schema r
+    → FreshOf schema s (length r.occurrences) (occurrence_at s (length r.occurrences)) → AreFresh schema s
+fresh_more schema r s x one old new q c h c_in out = elim (cases_lt q (length r.occurrences)) [
+  | inl l ↦
+      let old_q : FreshOf schema s q (occurrence_at r q) =
+      λ u u_in u_out. fresh_lift r s q u x l (old.fresh q u l u_in (λ m. u_out (rw (shared_same schema r s q (occurrence_at r q).link (occurrence_at r q).parent x l (old.occurrences q l).parent) m))) in
+      subst (FreshOf schema s q) (sym (x.same q l)) old_q c c_in out
+  | inr g ↦
+      let e : length r.occurrences ≡ q = omega arith in
+      subst (λ (i : ℕ). FreshOf schema s i (occurrence_at s i)) e new c c_in out
+]
+
+-- the new occurrence has fresh variables where it shares none
+fresh_last : (schema : List Table) (r s : Relation) (t w k : ℕ) (o : Option ℕ) (columns shared : List ℕ) → Extends r s → AreOccurrences schema r → AreWithin shared r.variables
+    → columns ≡ shared_columns schema s k o → occurrence_at s (length r.occurrences) ≡ record { table = t; variables = row_of r.variables columns shared w; parent = o; link = k }
+    → FreshOf schema s (length r.occurrences) (occurrence_at s (length r.occurrences))
+fresh_last schema r s t w k o columns shared x old h e_columns e_last =
+    let at_last : FreshOf schema s (length r.occurrences) (record { table = t; variables = row_of r.variables columns shared w; parent = o; link = k }) =
+    λ c c_in out.
+    let width = filled_length (λ (v : ℕ). v) r.variables columns shared w in
+    let f = row_fresh r.variables columns shared w c h (rw width at c_in) (λ m. out (rw (← e_columns) m)) in
+    let e = ap (λ (u : Occurrence). u.variables) e_last in
+    record {
+      before = λ n y l m. rw e (let b = (old n l).variables y (rw (x.same n l) at m) in omega (arith, f.0));
+      left = λ d l. rw e (f.1 d l);
+    } in
+    subst (FreshOf schema s (length r.occurrences)) (sym e_last) at_last
+
 pub same_some : (p q : ℕ) → Some p ≡ Some q → p ≡ q
 same_some p q e = cc
 
@@ -244,6 +319,7 @@ well_joined schema r t p k l vs fits t_in well h e_t e_vs m e =
     let new : IsOccurrence schema s.variables (length r.occurrences) (record { table = l.table; variables = row_of r.variables l.to shared w; parent = Some p; link = k }) =
     record { table = fit.table; width = filled_length (λ (v : ℕ). v) r.variables l.to shared w; variables = row_within r.variables l.to shared w known; parent = h } in
     let along_new = along_joined schema r p k l vs (table_of schema t).width fit h e_vs in
+    let columns : l.to ≡ shared_columns schema s k (Some p) = sym (ap (λ (m : Link). m.to) e) ∙ sym (ap (λ (u : ℕ). (link_at schema u k).to) (ap (λ (o : Occurrence). o.table) (x.same p h) ∙ e_t)) in
     let goes : (u : ℕ) → (occurrence_at s (length r.occurrences)).parent ≡ Some u → AlongOf schema s u (length r.occurrences) (occurrence_at s u) (occurrence_at s (length r.occurrences)) =
     λ u d. let same : p ≡ u = same_some p u (sym (ap (λ (o : Occurrence). o.parent) last) ∙ d) in
     subst (λ (v : ℕ). AlongOf schema s v (length r.occurrences) (occurrence_at s v) (occurrence_at s (length r.occurrences))) same
@@ -251,6 +327,7 @@ well_joined schema r t p k l vs fits t_in well h e_t e_vs m e =
     record {
       occurrences = occurrences_more schema r s x one well.occurrences (subst (IsOccurrence schema s.variables (length r.occurrences)) (sym last) new);
       along_links = alongs_more schema r s x one well goes;
+      fresh = fresh_more schema r s x one well (fresh_last schema r s l.table w k (Some p) l.to shared x well.occurrences known columns last);
       numbered = numbered_joined r l.table w l.to shared (Some p) k well.numbered known;
     }
 
@@ -399,6 +476,10 @@ well_alone schema t h = record {
   occurrences = λ n m. let e : 0 ≡ n = omega arith in subst (λ (i : ℕ). IsOccurrence schema (alone schema t).variables i (occurrence_at (alone schema t) i)) e
       (record { table = h; width = filled_length (λ (v : ℕ). v) 0 [] [] (table_of schema t).width; variables = row_within 0 [] [] (table_of schema t).width (λ x k. elim k [ ]); parent = tt });
   along_links = λ p q m e. absurd (let d : 0 ≡ q = omega arith in no_parent p q d e);
+  fresh = λ q c q_in c_in out. let e : 0 ≡ q = omega arith in
+      subst (λ (i : ℕ). FreshOf schema (alone schema t) i (occurrence_at (alone schema t) i)) e
+      (fresh_last schema nothing (alone schema t) t (table_of schema t).width 0 None [] [] (extends_joined nothing t (table_of schema t).width [] [] None 0) (λ n m. absurd (omega arith)) (λ x k. elim k [ ]) refl refl)
+      c c_in out;
   numbered = numbered_joined nothing t (table_of schema t).width [] [] None 0 refl (λ x k. elim k [ ]);
 }
   where
@@ -419,6 +500,7 @@ unfoldings_are schema t fits a h =
       root = root;
       occurrences = ok.occurrences;
       along_links = ok.along_links;
+      fresh = ok.fresh;
       numbered = ok.numbered;
       each_link = λ p k p_in m. elim (cases_lt 0 p) [
         | inl l ↦ all.1 p (omega arith) p_in k (omega arith) m

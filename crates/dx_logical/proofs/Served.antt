@@ -1,5 +1,5 @@
 -- The links of an unfolding's occurrences are served.
-use Rattle.std.proofs.Common.{◌≡◌, ℕ, zero, suc, ◌<◌, List, [], ◌∷◌, length, get_or, None, refl, subst, arith}
+use Rattle.std.proofs.Common.{◌≡◌, ℕ, suc, ◌<◌, List, [], length, get_or, None, subst, arith}
 use Rattle.dx_ports.specs.Members.{◌∈◌, here, there}
 use Rattle.dx_ports.proofs.Members.{in_at}
 use Rattle.dx_model.specs.declared.tables.Link.{Link}
@@ -7,7 +7,7 @@ use Rattle.dx_model.specs.Tables.{Table, table_of}
 use Rattle.dx_logical.specs.declared.relation.Occurrence.{Occurrence}
 use Rattle.dx_logical.specs.declared.relation.Relation.{Relation}
 use Rattle.dx_logical.specs.Unfolding.{items_at}
-use Rattle.dx_logical.specs.Laws.{occurrence_at, link_at, HasEachLink, AreServed, UnfoldingsServe}
+use Rattle.dx_logical.specs.Laws.{occurrence_at, HasEachLink, AreServed, UnfoldingsServe}
 use Rattle.dx_logical.proofs.Facts.{unfoldings_are}
 
 -- a member has a place

@@ -1,5 +1,5 @@
 -- What holds of unfoldings.
-use Rattle.std.specs.Prelude.{◌≡◌, ℕ, suc, ◌+◌, ◌<◌, ◌≤◌, ◌*◌, ◌↔◌, ◌⊎◌, Some, None, IfSome, length, List, [], ◌∷◌, flat_map, slice_index_or}
+use Rattle.std.specs.Prelude.{◌≡◌, ℕ, suc, ◌+◌, ◌<◌, ◌≤◌, ◌*◌, ◌↔◌, ◌⊎◌, Option, Some, None, IfSome, length, List, [], ◌∷◌, flat_map, slice_index, slice_index_or}
 use Rattle.dx_ports.specs.Members.{◌∈◌, Each, Distinct}
 use Rattle.dx_model.specs.declared.tables.Link.{Link}
 use Rattle.dx_model.specs.Tables.{Table, table_of, AreWithin}
@@ -75,6 +75,22 @@ Numbered n (x ∷ xs) m = ((x < n) × Numbered n xs m) ⊎ ((x ≡ n) × Numbere
 abbrev pub variables_of : Relation → List ℕ
 variables_of r = flat_map (λ (o : Occurrence). o.variables) r.occurrences
 
+-- the columns that share variables with the parent, along link number k of its table
+abbrev pub shared_columns : List Table → Relation → ℕ → Option ℕ → List ℕ
+shared_columns schema r k None = []
+shared_columns schema r k (Some p) = (link_at schema (occurrence_at r p).table k).to
+
+-- the variable of occurrence number q in column c is greater than all before it
+pub record IsFresh (r : Relation) (q c : ℕ) : Type 0 where
+  pub before : (n y : ℕ) → n < q → y ∈ (occurrence_at r n).variables → y < slice_index (occurrence_at r q).variables c
+  pub left : (d : ℕ) → d < c → slice_index (occurrence_at r q).variables d < slice_index (occurrence_at r q).variables c
+
+-- all other columns have fresh variables
+abbrev pub AreFresh : List Table → Relation → Type 0
+AreFresh schema r =
+    (q c : ℕ) → q < length r.occurrences → c < length (occurrence_at r q).variables
+    → ¬ (c ∈ shared_columns schema r (occurrence_at r q).link (occurrence_at r q).parent) → IsFresh r q c
+
 -- what holds of the unfolding of a table
 pub record IsUnfolding (schema : List Table) (t : ℕ) (r : Relation) : Type 0 where
   pub some : 0 < length r.occurrences
@@ -82,6 +98,7 @@ pub record IsUnfolding (schema : List Table) (t : ℕ) (r : Relation) : Type 0 w
   pub occurrences : AreOccurrences schema r
   pub along_links : AreAlongLinks schema r
   pub each_link : HasEachLink schema r
+  pub fresh : AreFresh schema r
   pub numbered : Numbered 0 (variables_of r) r.variables
 
 -- occurrence number q is number p, or follows from one that comes from p
