@@ -169,7 +169,7 @@ fn lines_of(alloc: Global, linked: &Linked) -> Result<String, AllocError> {
 }
 
 /// Whether the first of these sets is unfolded to so many occurrences, all with one variable.
-fn widths_hold(alloc: Global, linked: &Linked) -> Result<bool, AllocError> {
+fn is_as_wide(alloc: Global, linked: &Linked) -> Result<bool, AllocError> {
     let lines = lines_of(alloc, linked)?;
     let schema = match Schema::build(alloc, trees(alloc, lines.as_str())?) {
         Ok(schema) => schema,
@@ -192,7 +192,7 @@ fn widths_hold(alloc: Global, linked: &Linked) -> Result<bool, AllocError> {
 fn there_may_be_64_occurrences(rt: HostRuntime) -> Result<(), Fail> {
     let alloc = rt.alloc();
     for (number, linked) in LINKED.iter().enumerate() {
-        assert!(rt; widths_hold(alloc, linked)?, "case {number}");
+        assert!(rt; is_as_wide(alloc, linked)?, "case {number}");
     }
     Ok(())
 }
