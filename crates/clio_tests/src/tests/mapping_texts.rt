@@ -1,7 +1,8 @@
 // Mapping texts: what they say, their first faults, and sets printed back.
 use dx_ports::{Items, Text};
 use dx_schema_text::{
-    CellText, MappingText, RuleText, SourceText, TextFault, TextKind, Trees, print_trees, read_mapping,
+    CellText, MappingText, RuleText, SourceText, TextFault, TextKind, Trees, print_trees,
+    read_mapping,
 };
 use dx_tokens::scan;
 use std::alloc::{AllocError, Global};
@@ -237,7 +238,12 @@ fn a_set_that_is_too_deep_is_named(rt: HostRuntime) -> Result<(), Fail> {
     assert!(rt; read_mapping(alloc, deepest.as_bytes()).is_ok());
     let deeper = nested(alloc, 17)?;
     let told = read_mapping(alloc, deeper.as_bytes()).err();
-    assert_eq!(rt; told, Some(TextFault::TooDeep { place: 20 + 16 * 11 }));
+    assert_eq!(rt;
+        told,
+        Some(TextFault::TooDeep {
+            place: 20 + 16 * 11
+        })
+    );
     Ok(())
 }
 
@@ -253,8 +259,14 @@ line trim(a.x, c.z)->t.u;";
 fn told_set(alloc: Global, trees: &Trees, number: usize) -> Result<String, AllocError> {
     match trees.items().get(number) {
         None => String::from_str(alloc, "none"),
-        Some(tree) => format!(in alloc; "{} {} {} {} {}", tree.name, tree.columns.len(),
-            tree.keys.len(), tree.refs.len(), tree.inner.items().len()),
+        Some(tree) => format!(in alloc;
+            "{} {} {} {} {}",
+            tree.name,
+            tree.columns.len(),
+            tree.keys.len(),
+            tree.refs.len(),
+            tree.inner.items().len()
+        ),
     }
 }
 
@@ -277,11 +289,15 @@ fn told_line(alloc: Global, said: &MappingText, number: usize) -> Result<String,
         return String::from_str(alloc, "none");
     };
     let target = &line.target;
-    let to = format!(in alloc; "{}@{} {}@{}", target.set, target.set_place, target.column,
-        target.column_place)?;
+    let to = format!(in alloc;
+        "{}@{} {}@{}",
+        target.set, target.set_place, target.column, target.column_place
+    )?;
     match &line.source {
-        SourceText::Column(place) => format!(in alloc; "{}@{} {}@{} to {to}", place.set,
-            place.set_place, place.column, place.column_place),
+        SourceText::Column(place) => format!(in alloc;
+            "{}@{} {}@{} to {to}",
+            place.set, place.set_place, place.column, place.column_place
+        ),
         SourceText::Literal(text) => format!(in alloc; "{text} to {to}"),
         SourceText::Call { name, place, args } => {
             format!(in alloc; "{name}@{place} of {} to {to}", args.len())
@@ -345,7 +361,8 @@ fn told_rule(alloc: Global, rule: &RuleText) -> Result<String, AllocError> {
 fn a_text_says_its_rules(rt: HostRuntime) -> Result<(), Fail> {
     let alloc = rt.alloc();
     let said = read_mapping(alloc, WHOLE.as_bytes())?;
-    let wanted = "a@168 p@170 q@173; c@177 p@179; r@188 = f@192 p@194 q@197; t@203 r@205 []; t@213 q@215 n@218; ";
+    let wanted =
+        "a@168 p@170 q@173; c@177 p@179; r@188 = f@192 p@194 q@197; t@203 r@205 []; t@213 q@215 n@218; ";
     assert_eq!(rt; said.rules.len(), 1);
     for rule in said.rules.items() {
         assert_eq!(rt; told_rule(alloc, rule)?.as_str(), wanted);
@@ -362,15 +379,11 @@ fn comments_have_any_bytes(rt: HostRuntime) -> Result<(), Fail> {
     Ok(())
 }
 
-/// A text that is filled up to a size with lines, and with blanks where no line fits.
-fn lines_up_to(alloc: Global, size: usize) -> Result<String, AllocError> {
+/// A mapping text of so many lines.
+fn many_lines(alloc: Global, lines: u32) -> Result<String, AllocError> {
     let mut text = String::from_str(alloc, "mapping 1; source { } target { } ")?;
-    let line = "line a.x -> b.y;\n";
-    for _ in 0..(size - text.len()) / line.len() {
-        text.push_str(line)?;
-    }
-    for _ in text.len()..size {
-        text.push(' ')?;
+    for _ in 0..lines {
+        text.push_str("line a.x -> b.y;\n")?;
     }
     Ok(text)
 }
@@ -378,9 +391,8 @@ fn lines_up_to(alloc: Global, size: usize) -> Result<String, AllocError> {
 #[test]
 fn a_long_text_is_read(rt: HostRuntime) -> Result<(), Fail> {
     let alloc = rt.alloc();
-    let text = lines_up_to(alloc, 1_048_576)?;
+    let text = many_lines(alloc, 61_679)?;
     assert_eq!(rt; text.len(), 1_048_576);
-    // 33 bytes stand before the lines, which have 17 bytes each
     let said = read_mapping(alloc, text.as_bytes())?;
     assert_eq!(rt; said.lines.len(), 61_679);
     Ok(())
@@ -399,7 +411,8 @@ const PRINTED: &str = "set unit {
 #[test]
 fn sets_are_printed_so(rt: HostRuntime) -> Result<(), Fail> {
     let alloc = rt.alloc();
-    let text = b"mapping 1;source{set unit{uname,place;set staff{sname;}ref(place)->town(tname);key(uname);}}target{}";
+    let text =
+        b"mapping 1;source{set unit{uname,place;set staff{sname;}ref(place)->town(tname);key(uname);}}target{}";
     let said = read_mapping(alloc, text)?;
     let printed = print_trees(alloc, &said.source)?;
     assert_eq!(rt; printed.as_str(), PRINTED);
@@ -416,8 +429,14 @@ fn printed_sets_are_read_again(rt: HostRuntime) -> Result<(), Fail> {
     let text = format!(in alloc; "mapping 1;\nsource {{\n{source}}}\ntarget {{\n{target}}}\n")?;
     let again = read_mapping(alloc, text.as_bytes())?;
     assert_eq!(rt; told_set(alloc, &again.source, 0)?.as_str(), "a 2 1 1 1");
-    assert_eq!(rt; print_trees(alloc, &again.source)?.as_str(), source.as_str());
-    assert_eq!(rt; print_trees(alloc, &again.target)?.as_str(), target.as_str());
+    assert_eq!(rt;
+        print_trees(alloc, &again.source)?.as_str(),
+        source.as_str()
+    );
+    assert_eq!(rt;
+        print_trees(alloc, &again.target)?.as_str(),
+        target.as_str()
+    );
     Ok(())
 }
 
