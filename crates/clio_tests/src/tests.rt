@@ -10,7 +10,7 @@ mod schema_faults;
 mod schemas;
 mod unfoldings;
 
-use clio_top::{Ending, message, run};
+use clio_top::{message, run};
 use dx_ports::{File, MemInputs, MemOutputs, Text};
 use std::alloc::{AllocError, Global};
 use std::test::Fail;
@@ -36,7 +36,8 @@ struct Case {
 /// How a run ended, and what it left.
 #[derive(Drop)]
 struct Outcome {
-    ending: Ending,
+    status: u8,
+    message: Text,
     outputs: MemOutputs,
 }
 
@@ -60,6 +61,21 @@ fn two_files(
     Ok(files)
 }
 
+/// Runs the command that these words say.
+fn run_command(
+    alloc: Global,
+    words: &Vec<Text>,
+    inputs: &mut MemInputs,
+    mut outputs: MemOutputs,
+) -> Result<Outcome, AllocError> {
+    let ending = run(alloc, words, inputs, &mut outputs);
+    Ok(Outcome {
+        status: ending.status(),
+        message: message(alloc, &ending)?,
+        outputs,
+    })
+}
+
 /// Runs `exchange` on these files, where these calls of the inputs and of the outputs fail.
 fn exchange(
     alloc: Global,
@@ -68,11 +84,9 @@ fn exchange(
     writes: Vec<u64>,
 ) -> Result<Outcome, AllocError> {
     let mut inputs = MemInputs::new(files, reads);
-    let mut outputs = MemOutputs::new(alloc, writes);
     let mut words = Vec::new(alloc);
     words.push(Text::from_str(alloc, "exchange")?)?;
-    let ending = run(alloc, &words, &mut inputs, &mut outputs);
-    Ok(Outcome { ending, outputs })
+    run_command(alloc, &words, &mut inputs, MemOutputs::new(alloc, writes))
 }
 
 /// All files that were put, as a case has them.
@@ -97,10 +111,9 @@ fn ends_so(
     said: &str,
 ) -> Result<bool, AllocError> {
     let put = put_files(alloc, &outcome.outputs)?;
-    let message = message(alloc, &outcome.ending)?;
     Ok(
-        outcome.ending.status() == status
-            && message.as_str() == text
+        outcome.status == status
+            && outcome.message.as_str() == text
             && put.as_slice() == files.as_bytes()
             && outcome.outputs.said() == said.as_bytes(),
     )

@@ -1,6 +1,5 @@
 // Files at a limit, and past it.
 use crate::tests::{PEOPLE, exchange, two_files};
-use clio_top::message;
 use std::alloc::{AllocError, Global};
 use std::test::Fail;
 
@@ -44,8 +43,7 @@ fn ends_with(
 ) -> Result<bool, AllocError> {
     let files = two_files(alloc, mapping, file, data)?;
     let outcome = exchange(alloc, files, Vec::new(alloc), Vec::new(alloc))?;
-    let message = message(alloc, &outcome.ending)?;
-    Ok(outcome.ending.status() == status && message.as_str() == text)
+    Ok(outcome.status == status && outcome.message.as_str() == text)
 }
 
 #[test]

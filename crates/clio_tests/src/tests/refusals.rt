@@ -1,6 +1,5 @@
 // Refusals: the first fault is named, nothing is put and nothing is said.
-use crate::tests::{Case, Outcome, PEOPLE, ends_so, exchange, first_failing, two_files};
-use clio_top::run;
+use crate::tests::{Case, PEOPLE, ends_so, exchange, first_failing, run_command, two_files};
 use dx_ports::{MemInputs, MemOutputs, Text};
 use std::alloc::{AllocError, Global};
 use std::test::Fail;
@@ -319,23 +318,26 @@ fn an_absent_mapping_is_refused(rt: HostRuntime) -> Result<(), Fail> {
     Ok(())
 }
 
-/// Runs these words, parted by spaces, where the inputs hold a mapping and its data.
-fn run_words(alloc: Global, line: Option<&str>) -> Result<Outcome, AllocError> {
+/// Words that are parted by blanks.
+fn words_of(alloc: Global, line: &str) -> Result<Vec<Text>, AllocError> {
     let mut words = Vec::new(alloc);
-    if let Some(line) = line {
-        for word in line.split(' ') {
-            words.push(Text::from_str(alloc, word)?)?;
-        }
+    for word in line.split(' ') {
+        words.push(Text::from_str(alloc, word)?)?;
     }
-    let files = two_files(alloc, PEOPLE, "emp.csv", b"name\nann\n")?;
-    let mut inputs = MemInputs::new(files, Vec::new(alloc));
-    let mut outputs = MemOutputs::new(alloc, Vec::new(alloc));
-    let ending = run(alloc, &words, &mut inputs, &mut outputs);
-    Ok(Outcome { ending, outputs })
+    Ok(words)
 }
 
 const USAGE: &str =
     "usage: clio show [--core] | clio exchange [--core] [--nested] | clio demo N [--core]";
+
+/// Whether these words are refused as no command, where the inputs hold a mapping and its data.
+fn are_no_command(alloc: Global, words: &Vec<Text>) -> Result<bool, AllocError> {
+    let files = two_files(alloc, PEOPLE, "emp.csv", b"name\nann\n")?;
+    let mut inputs = MemInputs::new(files, Vec::new(alloc));
+    let outputs = MemOutputs::new(alloc, Vec::new(alloc));
+    let outcome = run_command(alloc, words, &mut inputs, outputs)?;
+    ends_so(alloc, &outcome, 2, USAGE, "", "")
+}
 
 const LINES: [&str; 7] = [
     "",
@@ -347,14 +349,20 @@ const LINES: [&str; 7] = [
     "show",
 ];
 
+/// The number of the first line whose words are taken for a command, or how many lines there are.
+fn first_command(alloc: Global, lines: &[&str]) -> Result<usize, AllocError> {
+    for (number, line) in lines.iter().enumerate() {
+        if !are_no_command(alloc, &words_of(alloc, *line)?)? {
+            return Ok(number);
+        }
+    }
+    Ok(lines.len())
+}
+
 #[test]
 fn words_that_are_no_command_are_refused(rt: HostRuntime) -> Result<(), Fail> {
     let alloc = rt.alloc();
-    let none = run_words(alloc, None)?;
-    assert!(rt; ends_so(alloc, &none, 2, USAGE, "", "")?);
-    for line in &LINES {
-        let outcome = run_words(alloc, Some(*line))?;
-        assert!(rt; ends_so(alloc, &outcome, 2, USAGE, "", "")?);
-    }
+    assert!(rt; are_no_command(alloc, &Vec::new(alloc))?);
+    assert_eq!(rt; first_command(alloc, &LINES)?, LINES.len());
     Ok(())
 }
