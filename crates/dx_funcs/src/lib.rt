@@ -14,4 +14,4 @@ mod steps;
 pub use conversion::Conversion;
 pub use host::Host;
 pub use meaning::Meaning;
-pub use shipped::{Shipped, convert, convert_by_host, shipped_list};
+pub use shipped::{Shipped, convert, shipped_list};

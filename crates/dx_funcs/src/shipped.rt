@@ -4,7 +4,6 @@ ghost use Rattle.dx_funcs.specs.Offers.{IsListed, IsOffer};
 ghost use Rattle.dx_funcs.specs.Shipped.{shipped_apply, shipped_conversions};
 
 use crate::conversion::Conversion;
-use crate::host::Host;
 use crate::meaning::Meaning;
 use crate::steps::{digits, pair, trim};
 use dx_ports::{Items, Text};
@@ -51,17 +50,4 @@ pub fn convert(alloc: Global, code: u32, args: &Items<Text>) -> Result<Text, All
         (2, [first, second]) => pair(alloc, first, second),
         _ => unreachable!(),
     }
-}
-
-/// The same text, by a host that is built of `shipped_list` and `convert`.
-pub fn convert_by_host(alloc: Global, code: u32, args: &Items<Text>) -> Result<Text, AllocError>
-    requires { IsListed shipped_conversions code (length args.now) }
-    ensures { IfOk result (λ t. t ≡ shipped_apply code args.now) }
-{
-    let function = |code: u32, args: &Items<Text>| -> Result<Text, AllocError>
-        requires { IsListed shipped_conversions code (length args.now) }
-        ensures { IfOk result (λ t. t ≡ shipped_apply code args.entry.now) }
-    { convert(alloc, code, args) };
-    let host: Host<_, Shipped> = Host::build(shipped_list(alloc)?, function);
-    host.call(code, args)
 }

@@ -1,0 +1,12 @@
+pub mod Groups
+pub mod Counts
+pub mod Lists
+pub mod Subtree
+pub mod Unfolded
+pub mod Paired
+pub mod Readable
+pub mod PartWays
+pub mod Tree
+pub mod Decide
+pub mod Listed
+pub mod FirstOnes

@@ -1,0 +1,60 @@
+// Why candidates aren't listed.
+use dx_logical::WideFault;
+use dx_ports::{Count, Limit};
+use dx_ways::WaysFault;
+use std::alloc::AllocError;
+use thiserror::Error;
+
+/// Why candidates weren't listed.
+#[derive(Debug, Drop, Error)]
+pub enum CandFault {
+    #[error("a limit of lines is passed")]
+    TooMany(Limit),
+    #[error("out of memory")]
+    Memory,
+}
+
+impl From<AllocError> for CandFault {
+    ghost use Rattle.std.specs.Prelude.{◌≡◌};
+    ghost use Rattle.dx_candidates.specs.declared.fault.CandFault.TheVariants.{Memory};
+
+    ghost from_gives = { λ _ e. e ≡ Memory };
+
+    fn from(_: AllocError) -> Self {
+        CandFault::Memory
+    }
+}
+
+impl From<WideFault> for CandFault {
+    ghost use Rattle.std.specs.Prelude.{◌≡◌};
+    ghost use Rattle.dx_candidates.specs.Faults.{wide_fault};
+
+    ghost from_gives = { λ w e. e ≡ wide_fault w };
+
+    fn from(fault: WideFault) -> Self {
+        match fault {
+            WideFault::TooWide => CandFault::TooMany(Limit {
+                what: Count::Occurrences,
+                number: 64,
+            }),
+            WideFault::Memory => CandFault::Memory,
+        }
+    }
+}
+
+impl From<WaysFault> for CandFault {
+    ghost use Rattle.std.specs.Prelude.{◌≡◌};
+    ghost use Rattle.dx_candidates.specs.Faults.{ways_fault};
+
+    ghost from_gives = { λ w e. e ≡ ways_fault w };
+
+    fn from(fault: WaysFault) -> Self {
+        match fault {
+            WaysFault::TooMany => CandFault::TooMany(Limit {
+                what: Count::Ways,
+                number: 64,
+            }),
+            WaysFault::Memory => CandFault::Memory,
+        }
+    }
+}

@@ -1,0 +1,11 @@
+pub mod Going
+pub mod Steps
+pub mod Growth
+pub mod Served
+pub mod Ends
+pub mod Own
+pub mod Numbers
+pub mod Numbered
+pub mod Begun
+pub mod Appearance
+pub mod Examples

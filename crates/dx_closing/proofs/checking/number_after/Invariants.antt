@@ -1,0 +1,7 @@
+use Rattle.std.proofs.Common.{take, flat_map}
+use Rattle.dx_logical.specs.Laws.{Numbered}
+use Rattle.dx_closing.specs.Closing.{existential_in}
+use Rattle.dx_closing.proofs.checking.number_after.Given as goal
+
+abbrev pub invariant-loop-cell : goal.invariant-loop-cell
+invariant-loop-cell l = Numbered l.next (flat_map existential_in (take l.cell-index l.row)) l.after

@@ -1,0 +1,104 @@
+-- The closing of a conclusion along the links of a schema.
+use Rattle.std.specs.Prelude.{◌≡◌, ℕ, zero, suc, ◌+◌, Bool, true, false, cond, ◌&&◌, nat_eq, max, length, Option, Some, None, slice_get, List, [], ◌∷◌, ◌++◌, flat_map, slice_index_or}
+use Rattle.std.specs.List.{list_any}
+use Rattle.std.specs.Str.{bytes_eq}
+use Rattle.dx_model.specs.declared.rules.Cell.{Cell}
+use Rattle.dx_model.specs.declared.rules.Cell.TheVariants.{Var, Ex, Lit}
+use Rattle.dx_model.specs.declared.rules.Atom.{Atom}
+use Rattle.dx_model.specs.declared.rules.Rule.{Rule}
+use Rattle.dx_model.specs.declared.tables.Link.{Link}
+use Rattle.dx_model.specs.Rules.{cells_of}
+use Rattle.dx_model.specs.Solutions.{cells_in}
+use Rattle.dx_model.specs.Tables.{Table, table_of}
+use Rattle.dx_logical.specs.Filled.{fresh_below, filled}
+use Rattle.dx_logical.specs.Laws.{Numbered}
+use Rattle.dx_closing.specs.declared.growing.Growing.{Growing}
+
+-- ---- what serves a link
+
+-- whether two cells are one
+abbrev pub same_cell : Cell → Cell → Bool
+same_cell (Var x) (Var y) = nat_eq x y
+same_cell (Var x) (Ex w) = false
+same_cell (Var x) (Lit t) = false
+same_cell (Ex v) (Var y) = false
+same_cell (Ex v) (Ex w) = nat_eq v w
+same_cell (Ex v) (Lit t) = false
+same_cell (Lit s) (Var y) = false
+same_cell (Lit s) (Ex w) = false
+same_cell (Lit s) (Lit t) = bytes_eq s t
+
+-- whether a row has these cells in these columns
+abbrev pub has_cells : List Cell → List ℕ → List Cell → Bool
+has_cells row [] cells = true
+has_cells row (c ∷ cs) [] = true
+has_cells row (c ∷ cs) (x ∷ xs) = same_cell (slice_index_or row c (Lit [])) x && has_cells row cs xs
+
+-- whether an atom is of the table that the link refers to, and has these cells in the referred columns
+abbrev pub serves : Link → List Cell → Atom → Bool
+serves l cells a = nat_eq a.table l.table && has_cells a.cells l.to cells
+
+-- ---- what is appended
+
+-- an atom more, of the table that the link refers to, with these cells in the referred columns and fresh existential variables elsewhere
+abbrev pub supplied : List Table → Growing → Link → List Cell → Growing
+supplied schema C l cells = record {
+  atoms = C.atoms ++ record { table = l.table; cells = filled Ex C.next l.to cells (table_of schema l.table).width } ∷ [];
+  next = C.next + fresh_below l.to cells (table_of schema l.table).width;
+}
+
+-- going through a link of an atom that has this row: where no atom serves the link, one is appended
+abbrev pub through_link : List Table → List Cell → Growing → Link → Growing
+through_link schema row C l = cond (list_any (serves l (cells_in l.from row)) C.atoms) C (supplied schema C l (cells_in l.from row))
+
+-- going through these links in order
+abbrev pub through_links : List Table → List Cell → Growing → List Link → Growing
+through_links schema row C [] = C
+through_links schema row C (l ∷ ls) = through_links schema row (through_link schema row C l) ls
+
+-- going through the links of an atom's table, if there is an atom
+abbrev pub through_atom : List Table → Growing → Option Atom → Growing
+through_atom schema C None = C
+through_atom schema C (Some a) = through_links schema a.cells C (table_of schema a.table).links
+
+-- going through the first n atoms, those included that are appended on the way
+abbrev pub gone : List Table → Growing → ℕ → Growing
+gone schema C zero = C
+gone schema C (suc n) = through_atom schema (gone schema C n) (slice_get (gone schema C n).atoms n)
+
+-- ---- existential variables
+
+-- the existential variable of a cell, if it is one
+abbrev pub existential_in : Cell → List ℕ
+existential_in (Var x) = []
+existential_in (Ex v) = v ∷ []
+existential_in (Lit t) = []
+
+-- the existential variables of a conclusion, in order of atoms and cells
+abbrev pub existentials : List Atom → List ℕ
+existentials C = flat_map existential_in (cells_of C)
+
+-- the existential variables of a conclusion are numbered by first appearance
+abbrev pub AreNumbered : List Atom → Type 0
+AreNumbered C = (m : ℕ) × Numbered 0 (existentials C) m
+
+-- the least number from n on that is above all of these
+abbrev pub above : ℕ → List ℕ → ℕ
+above n [] = n
+above n (v ∷ vs) = above (max n (suc v)) vs
+
+-- ---- closings
+
+-- a conclusion, and the number after those of its existential variables
+abbrev pub begun : List Atom → Growing
+begun C = record { atoms = C; next = above 0 (existentials C) }
+
+-- the closing of the conclusion C is E: what C has become when all atoms of E were gone through
+abbrev pub IsClosing : List Table → List Atom → List Atom → Type 0
+IsClosing schema C E = (gone schema (begun C) (length E)).atoms ≡ E
+
+-- e is the closing of the rule d: all of d, but for the closing of its conclusion
+pub record IsClosingOf (schema : List Table) (d e : Rule) : Type 0 where
+  pub premise : e.premise ≡ d.premise
+  pub derived : e.derived ≡ d.derived
+  pub conclusion : IsClosing schema d.conclusion e.conclusion

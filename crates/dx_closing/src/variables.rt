@@ -1,0 +1,32 @@
+// The numbers of existential variables.
+ghost use Rattle.std.specs.Prelude.{◌≡◌, ◌<◌, flat_map};
+ghost use Rattle.dx_ports.specs.Members.{Each};
+ghost use Rattle.dx_closing.specs.Closing.{above, existential_in, existentials};
+
+use dx_model::{Atom, Cell};
+
+/// The least number from `next` on that is above those of the row's existential variables.
+fn above_row(next: u32, row: &[Cell]) -> u32
+    requires { Each (flat_map existential_in row.now) (λ v. v < 4096) }
+    ensures { result ≡ above next (flat_map existential_in row.now) }
+{
+    let mut above = next;
+    for cell in row {
+        if let Cell::Ex(variable) = cell {
+            above = above.max(*variable + 1);
+        }
+    }
+    above
+}
+
+/// The least number that is above those of all existential variables.
+pub fn above_all(atoms: &[Atom]) -> u32
+    requires { Each (existentials atoms.now) (λ v. v < 4096) }
+    ensures { result ≡ above 0 (existentials atoms.now) }
+{
+    let mut above = 0;
+    for atom in atoms {
+        above = above_row(above, atom.cells.items());
+    }
+    above
+}

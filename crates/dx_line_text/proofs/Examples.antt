@@ -1,0 +1,105 @@
+-- Employees and persons: lines with names that are there, and with names that aren't.
+use Rattle.std.proofs.Common.{◌≡◌, ℕ, List, [], ◌∷◌, Option, Some, None, codes, refl}
+use Rattle.dx_schema.specs.Forest.{Forest, none, set}
+use Rattle.dx_schema.specs.Tables.{Text}
+use Rattle.dx_tokens.specs.declared.faults.TextFault.{TextFault}
+use Rattle.dx_tokens.specs.declared.faults.TextFault.TheVariants.{At}
+use Rattle.dx_tokens.specs.declared.faults.TextKind.TheVariants.{UnknownName, Width}
+use Rattle.dx_schema_text.specs.declared.texts.PlaceText.{PlaceText}
+use Rattle.dx_schema_text.specs.declared.texts.SourceText.TheVariants as sources
+use Rattle.dx_schema_text.specs.declared.texts.LineText.{LineText}
+use Rattle.dx_funcs.specs.declared.conversion.Conversion.{Conversion}
+use Rattle.dx_lines.specs.declared.line.Origin.TheVariants as origins
+use Rattle.dx_line_text.specs.Naming.{lines_fault, lines_of}
+
+-- a set of one level, with one column
+abbrev flat : Text → Text → Forest → Forest
+flat name column rest = set (record { name = name; columns = column ∷ []; keys = []; refs = [] }) none rest
+
+-- offices and employees
+abbrev employees : Forest
+employees = flat (codes "office") (codes "city") (flat (codes "emp") (codes "name") none)
+
+abbrev persons : Forest
+persons = flat (codes "person") (codes "name") none
+
+-- one conversion, of two texts
+abbrev offer : List Conversion
+offer = record { name = codes "pair"; code = 2; arity = 2 } ∷ []
+
+abbrev fault : List LineText → Option TextFault
+fault lines = lines_fault employees persons offer lines
+
+abbrev at_place : Text → ℕ → Text → ℕ → PlaceText
+at_place x i y j = record { set = x; set_place = i; column = y; column_place = j }
+
+abbrev person_name : PlaceText
+person_name = at_place (codes "person") 20 (codes "name") 27
+
+-- emp.name, and the same with an unknown column, an unknown set, and with both
+abbrev name : PlaceText
+name = at_place (codes "emp") 5 (codes "name") 9
+
+abbrev no_column : PlaceText
+no_column = at_place (codes "emp") 5 (codes "nam") 9
+
+abbrev no_set : PlaceText
+no_set = at_place (codes "em") 5 (codes "name") 9
+
+abbrev neither : PlaceText
+neither = at_place (codes "em") 5 (codes "nam") 9
+
+abbrev line : PlaceText → LineText
+line p = record { source = sources.Column p; target = person_name }
+
+abbrev call : Text → List PlaceText → LineText
+call name args = record { source = sources.Call name 2 args; target = person_name }
+
+-- names that are there, by their numbers
+read : fault (line name ∷ call (codes "pair") (name ∷ name ∷ []) ∷ []) ≡ None
+read = refl
+
+numbers :
+    lines_of employees persons offer (line name ∷ call (codes "pair") (name ∷ name ∷ []) ∷ [])
+    ≡ record { target = record { table = 0; column = 0 }; source = origins.Column (record { table = 1; column = 0 }) }
+    ∷ record { target = record { table = 0; column = 0 }; source = origins.Call 2 (record { table = 1; column = 0 } ∷ record { table = 1; column = 0 } ∷ []) } ∷ []
+numbers = refl
+
+-- an unknown column is at fault at its own place
+column_at_fault : fault (line no_column ∷ []) ≡ Some (At 9 UnknownName)
+column_at_fault = refl
+
+-- an unknown set is at fault before its column
+set_first : fault (line neither ∷ []) ≡ Some (At 5 UnknownName)
+set_first = refl
+
+-- a column of another set is unknown
+own_columns : fault (line (at_place (codes "emp") 5 (codes "city") 9) ∷ []) ≡ Some (At 9 UnknownName)
+own_columns = refl
+
+-- the source is at fault before the target
+source_first : fault (record { source = sources.Column no_column; target = at_place (codes "persons") 20 (codes "name") 28 } ∷ []) ≡ Some (At 9 UnknownName)
+source_first = refl
+
+target_then : fault (record { source = sources.Column name; target = at_place (codes "persons") 20 (codes "name") 28 } ∷ []) ≡ Some (At 20 UnknownName)
+target_then = refl
+
+-- an unknown conversion is at fault before its arguments
+unknown_conversion : fault (call (codes "join") (no_set ∷ []) ∷ []) ≡ Some (At 2 UnknownName)
+unknown_conversion = refl
+
+-- another number of arguments is at fault at the conversion's word, even where the argument is unknown
+width_first : fault (call (codes "pair") (no_set ∷ []) ∷ []) ≡ Some (At 2 Width)
+width_first = refl
+
+-- then its arguments from left to right
+arguments_then : fault (call (codes "pair") (name ∷ no_column ∷ []) ∷ []) ≡ Some (At 9 UnknownName)
+arguments_then = refl
+
+-- a literal has no fault
+literal : fault (record { source = sources.Literal (codes "x"); target = person_name } ∷ []) ≡ None
+literal = refl
+
+-- the first line's fault is the lines' fault
+first_line : fault (line no_column ∷ line no_set ∷ []) ≡ Some (At 9 UnknownName)
+first_line = refl

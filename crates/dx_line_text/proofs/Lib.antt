@@ -1,0 +1,6 @@
+pub mod Faults
+pub mod Found
+pub mod Calls
+pub mod Fits
+pub mod NamesAlone
+pub mod Examples

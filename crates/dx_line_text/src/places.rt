@@ -1,0 +1,47 @@
+// The columns that places name.
+ghost use Rattle.std.specs.Prelude.{◌≡◌, ◌⊎◌, None, Some, MatchResult, map};
+ghost use Rattle.dx_tokens.specs.declared.faults.TextFault.TheVariants.{Memory};
+ghost use Rattle.dx_line_text.specs.Naming.{place_fault, place_of, places_fault};
+
+use dx_lines::Place;
+use dx_ports::Items;
+use dx_schema::Schema;
+use dx_schema_text::PlaceText;
+use dx_tokens::{TextFault, TextKind};
+use std::alloc::Global;
+
+/// The column that a place names. Refused is a set that isn't there, then a column that isn't there.
+pub fn read_place(schema: &Schema, place: &PlaceText) -> Result<Place, TextFault>
+    ensures { MatchResult result (λ p. (p ≡ place_of schema.now place.now) × (place_fault schema.now place.now ≡ None)) (λ e. place_fault schema.now place.now ≡ Some e) }
+{
+    // What holds of the tables of each schema.
+    let _tables = schema.tables();
+    let Some(table) = schema.table_named(&place.set) else {
+        return Err(TextFault::At {
+            place: place.set_place,
+            kind: TextKind::UnknownName,
+        });
+    };
+    let Some(column) = schema.column_named(table, &place.column) else {
+        return Err(TextFault::At {
+            place: place.column_place,
+            kind: TextKind::UnknownName,
+        });
+    };
+    Ok(Place { table, column })
+}
+
+/// The columns that places name. Refused is the first that `read_place` refuses.
+pub fn read_places(
+    alloc: Global,
+    schema: &Schema,
+    places: &[PlaceText],
+) -> Result<Items<Place>, TextFault>
+    ensures { MatchResult result (λ ps. (ps ≡ map (place_of schema.now) places.now) × (places_fault schema.now places.now ≡ None)) (λ e. (e ≡ Memory) ⊎ (places_fault schema.now places.now ≡ Some e)) }
+{
+    let mut columns = Items::new(alloc);
+    for place in places {
+        columns.push(read_place(schema, place)?)?;
+    }
+    Ok(columns)
+}

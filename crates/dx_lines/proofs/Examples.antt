@@ -1,0 +1,179 @@
+-- Worked lines: their candidates, those that are kept, and their rules.
+use Rattle.std.proofs.Common.{◌≡◌, ℕ, Some, None, List, [], ◌∷◌, refl, length}
+use Rattle.std.specs.Prelude.{map}
+use Rattle.dx_model.specs.declared.tables.Link.{Link}
+use Rattle.dx_model.specs.Tables.{Table}
+use Rattle.dx_model.specs.declared.rules.Cell.{Cell}
+use Rattle.dx_model.specs.declared.rules.Cell.TheVariants.{Var, Ex, Lit}
+use Rattle.dx_model.specs.declared.rules.Atom.{Atom}
+use Rattle.dx_model.specs.declared.rules.Rule.{Rule}
+use Rattle.dx_ports.specs.declared.file.Count.TheVariants as counts
+use Rattle.dx_lines.specs.declared.line.Place.{Place}
+use Rattle.dx_lines.specs.declared.line.Origin.TheVariants.{Column, Literal, Call as Converted}
+use Rattle.dx_lines.specs.declared.line.Line.{Line}
+use Rattle.dx_lines.specs.declared.candidate.Candidate.{Candidate}
+use Rattle.dx_lines.specs.declared.candidate.Pick.{Pick}
+use Rattle.dx_lines.specs.declared.term.Term.{Term}
+use Rattle.dx_lines.specs.declared.term.Term.TheVariants.{Var as Variable, Call}
+use Rattle.dx_lines.specs.Candidates.{pair_ways, candidates_of}
+use Rattle.dx_lines.specs.Kept.{kept_candidates}
+use Rattle.dx_lines.specs.Rules.{kept_rules}
+use Rattle.dx_lines.specs.Limits.{passed}
+
+abbrev table : ℕ → List Link → Table
+table w ls = record { width = w; determinations = []; links = ls }
+
+abbrev link : ℕ → ℕ → ℕ → Link
+link from to_table to = record { from = from ∷ []; table = to_table; to = to ∷ [] }
+
+abbrev at : ℕ → ℕ → Place
+at t c = record { table = t; column = c }
+
+-- a line from column c of table t to column d of table u
+abbrev from_column : ℕ → ℕ → ℕ → ℕ → Line
+from_column t c u d = record { target = at u d; source = Column (at t c) }
+
+abbrev atom : ℕ → List Cell → Atom
+atom t cells = record { table = t; cells = cells }
+
+abbrev rule : List Atom → List Atom → Rule
+rule premise conclusion = record { premise = premise; derived = []; conclusion = conclusion }
+
+abbrev tables_of : List Candidate → List (ℕ × ℕ)
+tables_of cs = map (λ (c : Candidate). (c.source, c.target)) cs
+
+abbrev terms_of : List Candidate → List (List Term)
+terms_of cs = map (λ (c : Candidate). map (λ (k : Pick). k.term) c.picks) cs
+
+-- ---- emp(name, dept) with a link to dept(dname); unit(#id, uname), and staff(#up, sname) in it
+
+abbrev company : List Table
+company = table 2 (link 1 1 0 ∷ []) ∷ table 1 [] ∷ []
+
+abbrev units : List Table
+units = table 2 [] ∷ table 2 (link 0 0 0 ∷ []) ∷ []
+
+-- emp.name to staff.sname, and dept.dname to unit.uname
+abbrev company_lines : List Line
+company_lines = from_column 0 0 1 1 ∷ from_column 1 0 0 1 ∷ []
+
+-- of four candidates two are dropped
+company_candidates : tables_of (candidates_of company_lines company units) ≡ (0, 0) ∷ (0, 1) ∷ (1, 0) ∷ (1, 1) ∷ []
+company_candidates = refl
+
+company_kept : tables_of (kept_candidates company_lines company units) ≡ (0, 1) ∷ (1, 0) ∷ []
+company_kept = refl
+
+-- emp(x0, x1), dept(x1) -> staff(y0, x0), unit(y0, x1), and dept(x0) -> unit(y0, x0)
+company_rules : kept_rules company_lines company units ≡
+    rule (atom 0 (Var 0 ∷ Var 1 ∷ []) ∷ atom 1 (Var 1 ∷ []) ∷ []) (atom 1 (Ex 0 ∷ Var 0 ∷ []) ∷ atom 0 (Ex 0 ∷ Var 1 ∷ []) ∷ [])
+    ∷ rule (atom 1 (Var 0 ∷ []) ∷ []) (atom 0 (Ex 0 ∷ Var 0 ∷ []) ∷ [])
+    ∷ []
+company_rules = refl
+
+company_passes_none : passed company_lines company units ≡ None
+company_passes_none = refl
+
+-- ---- trip(no, start, goal) with two links to city(code, label); visit(a, b)
+
+abbrev trips : List Table
+trips = table 3 (link 1 1 0 ∷ link 2 1 0 ∷ []) ∷ table 2 [] ∷ []
+
+abbrev visits : List Table
+visits = table 2 [] ∷ []
+
+-- city.label to visit.a and to visit.b
+abbrev trip_lines : List Line
+trip_lines = from_column 1 1 0 0 ∷ from_column 1 1 0 1 ∷ []
+
+-- four ways, and four candidates of the pair of trip and visit, and one of city and visit
+trip_ways : length (pair_ways trip_lines trips visits 0 0) ≡ 4
+trip_ways = refl
+
+trip_candidates : tables_of (candidates_of trip_lines trips visits) ≡ (0, 0) ∷ (0, 0) ∷ (0, 0) ∷ (0, 0) ∷ (1, 0) ∷ []
+trip_candidates = refl
+
+trip_picks : terms_of (candidates_of trip_lines trips visits) ≡
+    (Variable 3 ∷ Variable 3 ∷ []) ∷ (Variable 3 ∷ Variable 4 ∷ []) ∷ (Variable 4 ∷ Variable 3 ∷ []) ∷ (Variable 4 ∷ Variable 4 ∷ []) ∷ (Variable 1 ∷ Variable 1 ∷ []) ∷ []
+trip_picks = refl
+
+trip_rules : kept_rules trip_lines trips visits ≡
+    rule (atom 0 (Var 0 ∷ Var 1 ∷ Var 2 ∷ []) ∷ atom 1 (Var 1 ∷ Var 3 ∷ []) ∷ atom 1 (Var 2 ∷ Var 4 ∷ []) ∷ []) (atom 0 (Var 3 ∷ Var 4 ∷ []) ∷ [])
+    ∷ rule (atom 0 (Var 0 ∷ Var 1 ∷ Var 2 ∷ []) ∷ atom 1 (Var 1 ∷ Var 3 ∷ []) ∷ atom 1 (Var 2 ∷ Var 4 ∷ []) ∷ []) (atom 0 (Var 4 ∷ Var 3 ∷ []) ∷ [])
+    ∷ rule (atom 1 (Var 0 ∷ Var 1 ∷ []) ∷ []) (atom 0 (Var 1 ∷ Var 1 ∷ []) ∷ [])
+    ∷ []
+trip_rules = refl
+
+-- ---- club(#id, cname), and member(#up, mname, age) in it; seen(who, years, club)
+
+abbrev clubs : List Table
+clubs = table 2 [] ∷ table 3 (link 0 0 0 ∷ []) ∷ []
+
+abbrev seen : List Table
+seen = table 3 [] ∷ []
+
+-- member.mname to seen.who, member.age to seen.years, club.cname to seen.club
+abbrev club_lines : List Line
+club_lines = from_column 1 1 0 0 ∷ from_column 1 2 0 1 ∷ from_column 0 1 0 2 ∷ []
+
+-- club(x0, x1) -> seen(y0, y1, x1), and member(x0, x1, x2), club(x0, x3) -> seen(x1, x2, x3)
+club_rules : kept_rules club_lines clubs seen ≡
+    rule (atom 0 (Var 0 ∷ Var 1 ∷ []) ∷ []) (atom 0 (Ex 0 ∷ Ex 1 ∷ Var 1 ∷ []) ∷ [])
+    ∷ rule (atom 1 (Var 0 ∷ Var 1 ∷ Var 2 ∷ []) ∷ atom 0 (Var 0 ∷ Var 3 ∷ []) ∷ []) (atom 0 (Var 1 ∷ Var 2 ∷ Var 3 ∷ []) ∷ [])
+    ∷ []
+club_rules = refl
+
+-- ---- conversions and literals
+
+-- a conversion gives a derived variable, and a literal line a text
+mixed_rules :
+    kept_rules (record { target = at 0 0; source = Converted 7 (at 0 0 ∷ at 0 0 ∷ []) } ∷ record { target = at 0 1; source = Literal (97 ∷ []) } ∷ []) (table 1 [] ∷ []) (table 3 [] ∷ []) ≡
+    record {
+      premise = atom 0 (Var 0 ∷ []) ∷ [];
+      derived = record { code = 7; args = 0 ∷ 0 ∷ [] } ∷ [];
+      conclusion = atom 0 (Var 1 ∷ Lit (97 ∷ []) ∷ Ex 0 ∷ []) ∷ [];
+    } ∷ []
+mixed_rules = refl
+
+-- a way is taken before a literal, and a literal line alone makes no candidate
+way_before_literal :
+    kept_rules (record { target = at 0 0; source = Literal (97 ∷ []) } ∷ from_column 0 0 0 0 ∷ []) (table 1 [] ∷ []) (table 1 [] ∷ []) ≡
+    rule (atom 0 (Var 0 ∷ []) ∷ []) (atom 0 (Var 0 ∷ []) ∷ []) ∷ []
+way_before_literal = refl
+
+literal_alone : candidates_of (record { target = at 0 0; source = Literal (97 ∷ []) } ∷ []) (table 1 [] ∷ []) (table 1 [] ∷ []) ≡ []
+literal_alone = refl
+
+-- a conversion of columns of two tables chooses an occurrence of each
+paired_rules :
+    kept_rules (record { target = at 0 0; source = Converted 2 (at 0 0 ∷ at 1 0 ∷ []) } ∷ []) company (table 1 [] ∷ []) ≡
+    record {
+      premise = atom 0 (Var 0 ∷ Var 1 ∷ []) ∷ atom 1 (Var 1 ∷ []) ∷ [];
+      derived = record { code = 2; args = 0 ∷ 1 ∷ [] } ∷ [];
+      conclusion = atom 0 (Var 2 ∷ []) ∷ [];
+    } ∷ []
+paired_rules = refl
+
+-- where one of two cities is chosen, both columns are its own
+one_city :
+    terms_of (candidates_of (record { target = at 0 0; source = Converted 2 (at 1 0 ∷ at 1 1 ∷ []) } ∷ []) trips (table 1 [] ∷ [])) ≡
+    (Call 2 (1 ∷ 3 ∷ []) ∷ []) ∷ (Call 2 (2 ∷ 4 ∷ []) ∷ []) ∷ (Call 2 (0 ∷ 1 ∷ []) ∷ []) ∷ []
+one_city = refl
+
+-- ---- limits
+
+-- each table has two links to the next
+abbrev twice : ℕ → Table
+twice next = table 1 (link 0 next 0 ∷ link 0 next 0 ∷ [])
+
+abbrev six : List Table
+six = twice 1 ∷ twice 2 ∷ twice 3 ∷ twice 4 ∷ twice 5 ∷ table 1 [] ∷ []
+
+abbrev seven : List Table
+seven = twice 1 ∷ twice 2 ∷ twice 3 ∷ twice 4 ∷ twice 5 ∷ twice 6 ∷ table 1 [] ∷ []
+
+six_pass_none : passed [] six six ≡ None
+six_pass_none = refl
+
+seven_pass : passed [] seven seven ≡ Some (record { what = counts.Occurrences; number = 64 })
+seven_pass = refl

@@ -1,0 +1,92 @@
+-- Worked values of printed rules.
+use Rattle.std.proofs.Common.{◌≡◌, [], ◌∷◌, refl}
+use Rattle.std.specs.Prelude.{codes}
+use Rattle.std.specs.Fmt.{digits}
+use Rattle.dx_model.specs.declared.rules.Cell.TheVariants.{Var, Ex, Lit}
+use Rattle.dx_model.specs.declared.rules.Rule.{Rule}
+use Rattle.dx_schema.specs.Forest.{Forest, none, set}
+use Rattle.dx_funcs.specs.Shipped.{shipped_conversions}
+use Rattle.dx_rule_text.specs.Printed.{rule_text, rules_text}
+
+-- employees and their departments
+abbrev source : Forest
+source =
+    set (record { name = codes "emp"; columns = codes "name" ∷ codes "dept" ∷ []; keys = []; refs = record { columns = codes "dept" ∷ []; set = codes "dept"; referred = codes "dname" ∷ [] } ∷ [] }) none
+    (set (record { name = codes "dept"; columns = codes "dname" ∷ []; keys = []; refs = [] }) none none)
+
+-- units, and the staff of each
+abbrev target : Forest
+target = set (record { name = codes "unit"; columns = codes "uname" ∷ []; keys = []; refs = [] }) (set (record { name = codes "staff"; columns = codes "sname" ∷ []; keys = []; refs = [] }) none none) none
+
+-- persons
+abbrev persons : Forest
+persons = set (record { name = codes "person"; columns = codes "name" ∷ codes "town" ∷ []; keys = []; refs = [] }) none none
+
+-- an existential variable
+with_existential :
+    rule_text source persons shipped_conversions (record {
+      premise = record { table = 0; cells = Var 0 ∷ [] } ∷ [];
+      derived = [];
+      conclusion = record { table = 0; cells = Var 0 ∷ Ex 0 ∷ [] } ∷ [];
+    }) ≡ codes "rule emp(x0) -> person(x0, y0);"
+unfolding digits
+with_existential = refl
+
+-- two atoms and a derived variable, which has the number after the premise's variables
+with_derived :
+    rule_text source persons shipped_conversions (record {
+      premise = record { table = 0; cells = Var 0 ∷ Var 1 ∷ [] } ∷ record { table = 1; cells = Var 1 ∷ [] } ∷ [];
+      derived = record { code = 2; args = 0 ∷ 1 ∷ [] } ∷ [];
+      conclusion = record { table = 0; cells = Var 2 ∷ [] } ∷ [];
+    }) ≡ codes "rule emp(x0, x1), dept(x1) where x2 = pair(x0, x1) -> person(x2);"
+unfolding digits
+with_derived = refl
+
+-- two derived variables
+with_two_derived :
+    rule_text source persons shipped_conversions (record {
+      premise = record { table = 1; cells = Var 7 ∷ [] } ∷ [];
+      derived = record { code = 0; args = 7 ∷ [] } ∷ record { code = 1; args = 7 ∷ [] } ∷ [];
+      conclusion = record { table = 0; cells = Var 8 ∷ Var 9 ∷ [] } ∷ [];
+    }) ≡ codes "rule dept(x7) where x8 = trim(x7), x9 = digits(x7) -> person(x8, x9);"
+unfolding digits
+with_two_derived = refl
+
+with_literal :
+    rule_text source persons shipped_conversions (record {
+      premise = record { table = 0; cells = Var 0 ∷ [] } ∷ [];
+      derived = [];
+      conclusion = record { table = 0; cells = Var 0 ∷ Lit (codes "none") ∷ [] } ∷ [];
+    }) ≡ codes "rule emp(x0) -> person(x0, \"none\");"
+unfolding digits
+with_literal = refl
+
+-- a quotation mark and a backslash
+with_escapes :
+    rule_text source persons shipped_conversions (record {
+      premise = record { table = 0; cells = Var 0 ∷ [] } ∷ [];
+      derived = [];
+      conclusion = record { table = 0; cells = Lit (codes "a\"b\\") ∷ [] } ∷ [];
+    }) ≡ codes "rule emp(x0) -> person(\"a\\\"b\\\\\");"
+unfolding digits
+with_escapes = refl
+
+-- the staff of a department is in its unit, and each department has a unit
+abbrev staff_in_units : Rule
+staff_in_units = record {
+  premise = record { table = 0; cells = Var 0 ∷ Var 1 ∷ [] } ∷ record { table = 1; cells = Var 1 ∷ [] } ∷ [];
+  derived = [];
+  conclusion = record { table = 1; cells = Ex 0 ∷ Var 0 ∷ [] } ∷ record { table = 0; cells = Ex 0 ∷ Var 1 ∷ [] } ∷ [];
+}
+
+abbrev units : Rule
+units = record { premise = record { table = 1; cells = Var 0 ∷ [] } ∷ []; derived = []; conclusion = record { table = 0; cells = Ex 0 ∷ Var 0 ∷ [] } ∷ [] }
+
+two_rules :
+    rules_text source target shipped_conversions (staff_in_units ∷ units ∷ [])
+    ≡ codes "rule emp(x0, x1), dept(x1) -> staff(y0, x0), unit(y0, x1);\nrule dept(x0) -> unit(y0, x0);\n"
+unfolding digits
+two_rules = refl
+
+no_rules : rules_text source target shipped_conversions [] ≡ []
+no_rules = refl

@@ -1,0 +1,6 @@
+mod Escapes
+mod Numbers
+mod Names
+mod Printing
+mod OneLine
+mod Examples

@@ -1,0 +1,10 @@
+pub mod Giving
+pub mod Lists
+pub mod Once
+pub mod Terms
+pub mod Numbered
+pub mod Cells
+pub mod Whole
+pub mod ClosedRules
+pub mod FittingTerms
+pub mod FittingRules

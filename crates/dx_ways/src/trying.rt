@@ -1,0 +1,143 @@
+// The picks that choices of occurrences give, put into an ascending list of at most 64.
+ghost use Rattle.std.specs.Prelude.{◌≡◌, ◌≤◌, ◌<◌, ◌∷◌, List, IfOk, IfErr, OnOk, insert, length, map};
+ghost use Rattle.dx_ways.specs.declared.fault.WaysFault.TheVariants.{TooMany};
+ghost use Rattle.dx_lines.specs.Ways.{pick, put_in};
+ghost use Rattle.dx_ways.specs.Tried.{picks_by, put_all, tried};
+
+use crate::fault::WaysFault;
+use crate::picks::{copy_term, pick_order};
+use crate::seen::{has_table, term_of};
+use dx_lines::{Origin, Pick, Place, Term};
+use dx_logical::Occurrence;
+use std::alloc::{AllocError, Global};
+use std::cmp::Ordering;
+
+/// Where a pick stands in an ascending list, or else where it belongs.
+fn place_for(found: &[Pick], pick: &Pick) -> Result<usize, usize>
+    ensures found { IfOk result (λ i. found.now ≡ put_in pick.now found.now) }
+    ensures room { IfErr result (λ i. i ≤ length found.now) }
+    ensures missing { IfErr result (λ i. insert found.now i pick.now ≡ put_in pick.now found.now) }
+{
+    for i in 0..found.len() {
+        match pick_order(pick, &found[i]) {
+            Ordering::Less => return Err(i),
+            Ordering::Equal => return Ok(i),
+            Ordering::Greater => {}
+        }
+    }
+    Err(found.len())
+}
+
+/// Inserts a pick at a place.
+fn insert_pick(found: &mut Vec<Pick>, place: usize, pick: Pick) -> Result<(), AllocError>
+    requires { place ≤ length found.old.items }
+    ensures { OnOk result (found.new.items ≡ insert found.old.items place pick) }
+{
+    found.insert(place, pick)?;
+    Ok(())
+}
+
+/// Puts a pick into an ascending list, where it isn't there.
+fn put_pick(found: &mut Vec<Pick>, pick: Pick) -> Result<(), WaysFault>
+    requires { length found.old.items ≤ 64 }
+    ensures put { OnOk result (found.new.items ≡ put_in pick found.old.items) }
+    ensures few { OnOk result (length found.new.items ≤ 64) }
+    ensures many { IfErr result (λ e. e ≡ TooMany → 64 < length (put_in pick found.old.items)) }
+{
+    match place_for(found, &pick) {
+        Ok(_) => Ok(()),
+        Err(place) => {
+            if found.len() >= 64 {
+                return Err(WaysFault::TooMany);
+            }
+            insert_pick(found, place, pick)?;
+            Ok(())
+        }
+    }
+}
+
+/// Puts in that each of the variables gets this term.
+fn add_term(
+    alloc: Global,
+    term: &Term,
+    variables: &[u32],
+    found: &mut Vec<Pick>,
+) -> Result<(), WaysFault>
+    requires { length found.old.items ≤ 64 }
+    ensures all { OnOk result (found.new.items ≡ put_all found.old.items (map (λ y. pick y term.now) variables.now)) }
+    ensures few { OnOk result (length found.new.items ≤ 64) }
+    ensures many { IfErr result (λ e. e ≡ TooMany → 64 < length (put_all found.old.items (map (λ y. pick y term.now) variables.now))) }
+{
+    for variable in variables {
+        let pick = Pick {
+            variable: *variable,
+            term: copy_term(alloc, term)?,
+        };
+        put_pick(found, pick)?;
+    }
+    Ok(())
+}
+
+/// Puts in what a line's source gives the variables under a choice.
+fn add_picks(
+    alloc: Global,
+    source: &Origin,
+    variables: &[u32],
+    choice: &[&Occurrence],
+    found: &mut Vec<Pick>,
+) -> Result<(), WaysFault>
+    requires { length found.old.items ≤ 64 }
+    ensures all { OnOk result (found.new.items ≡ put_all found.old.items (picks_by source.now variables.now (map (λ r. r.now) choice.now))) }
+    ensures few { OnOk result (length found.new.items ≤ 64) }
+    ensures many { IfErr result (λ e. e ≡ TooMany → 64 < length (put_all found.old.items (picks_by source.now variables.now (map (λ r. r.now) choice.now)))) }
+{
+    match term_of(alloc, source, choice)? {
+        None => Ok(()),
+        Some(term) => add_term(alloc, &term, variables, found),
+    }
+}
+
+/// A choice with an occurrence as well.
+fn with_occurrence<'a>(
+    alloc: Global,
+    occurrence: &'a Occurrence,
+    choice: &[&'a Occurrence],
+) -> Result<Vec<&'a Occurrence>, AllocError>
+    ensures { IfOk result (λ os. map (λ r. r.now) os.items ≡ occurrence.now ∷ map (λ r. r.now) choice.now) }
+{
+    let mut more = Vec::new(alloc);
+    more.push(occurrence)?;
+    more.extend_from_slice(choice)?;
+    Ok(more)
+}
+
+/// Puts in what a line's source gives the variables under each choice that has an occurrence as well for each table that
+/// the columns name.
+pub fn add_tried<'a>(
+    alloc: Global,
+    source: &Origin,
+    variables: &[u32],
+    among: &[&'a Occurrence],
+    places: &[Place],
+    choice: &[&'a Occurrence],
+    found: &mut Vec<Pick>,
+) -> Result<(), WaysFault>
+    requires { length found.old.items ≤ 64 }
+    ensures all { OnOk result (found.new.items ≡ put_all found.old.items (tried source.now variables.now (map (λ r. r.now) among.now) places.now (map (λ r. r.now) choice.now))) }
+    ensures few { OnOk result (length found.new.items ≤ 64) }
+    ensures many { IfErr result (λ e. e ≡ TooMany → 64 < length (put_all found.old.items (tried source.now variables.now (map (λ r. r.now) among.now) places.now (map (λ r. r.now) choice.now)))) }
+{
+    let Some((first, rest)) = places.split_first() else {
+        return add_picks(alloc, source, variables, choice, found);
+    };
+    if has_table(choice, first.table) {
+        return add_tried(alloc, source, variables, among, rest, choice, found);
+    }
+    for occurrence in among {
+        if occurrence.table == first.table {
+            let more = with_occurrence(alloc, occurrence, choice)?;
+            add_tried(alloc, source, variables, among, rest, &more, found)?;
+        }
+    }
+    Ok(())
+}
