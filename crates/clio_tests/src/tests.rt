@@ -1,17 +1,26 @@
 // What the tests share: runs over files in memory, and tables of cases.
 mod calls;
+mod candidates;
+mod closings;
 mod conversions;
 mod examples;
 mod faults;
 mod limits;
 mod mapping_texts;
 mod refusals;
+mod rule_limits;
+mod rules;
 mod schema_faults;
 mod schemas;
 mod unfoldings;
 
+ghost use Rattle.std.specs.Prelude.{◌≡◌, IfOk, length};
+ghost use Rattle.dx_funcs.specs.Offers.{IsListed};
+ghost use Rattle.dx_funcs.specs.Shipped.{shipped_apply, shipped_conversions};
+
 use clio_top::{message, run};
-use dx_ports::{File, MemInputs, MemOutputs, Text};
+use dx_funcs::{Host, Shipped, convert, shipped_list};
+use dx_ports::{File, Items, MemInputs, MemOutputs, Text};
 use std::alloc::{AllocError, Global};
 use std::test::Fail;
 
@@ -68,12 +77,31 @@ fn run_command(
     inputs: &mut MemInputs,
     mut outputs: MemOutputs,
 ) -> Result<Outcome, AllocError> {
-    let ending = run(alloc, words, inputs, &mut outputs);
+    let conversions = |code: u32, args: &Items<Text>| -> Result<Text, AllocError>
+        requires { IsListed shipped_conversions code (length args.now) }
+        ensures { IfOk result (λ t. t ≡ shipped_apply code args.entry.now) }
+    { convert(alloc, code, args) };
+    let host: Host<_, Shipped> = Host::build(shipped_list(alloc)?, conversions);
+    let ending = run(alloc, words, inputs, &mut outputs, &host);
     Ok(Outcome {
         status: ending.status(),
         message: message(alloc, &ending)?,
         outputs,
     })
+}
+
+/// Runs a command of one word on these files, where these calls of the inputs and of the outputs fail.
+fn run_word(
+    alloc: Global,
+    word: &str,
+    files: Vec<File>,
+    reads: Vec<u64>,
+    writes: Vec<u64>,
+) -> Result<Outcome, AllocError> {
+    let mut inputs = MemInputs::new(files, reads);
+    let mut words = Vec::new(alloc);
+    words.push(Text::from_str(alloc, word)?)?;
+    run_command(alloc, &words, &mut inputs, MemOutputs::new(alloc, writes))
 }
 
 /// Runs `exchange` on these files, where these calls of the inputs and of the outputs fail.
@@ -83,10 +111,14 @@ fn exchange(
     reads: Vec<u64>,
     writes: Vec<u64>,
 ) -> Result<Outcome, AllocError> {
-    let mut inputs = MemInputs::new(files, reads);
-    let mut words = Vec::new(alloc);
-    words.push(Text::from_str(alloc, "exchange")?)?;
-    run_command(alloc, &words, &mut inputs, MemOutputs::new(alloc, writes))
+    run_word(alloc, "exchange", files, reads, writes)
+}
+
+/// Runs `show` on a mapping text, where these calls of the outputs fail.
+fn show(alloc: Global, mapping: &str, writes: Vec<u64>) -> Result<Outcome, AllocError> {
+    let mut files = Vec::new(alloc);
+    files.push(file(alloc, "mapping.clio", mapping.as_bytes())?)?;
+    run_word(alloc, "show", files, Vec::new(alloc), writes)
 }
 
 /// All files that were put, as a case has them.

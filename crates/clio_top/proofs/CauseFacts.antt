@@ -1,6 +1,6 @@
 -- What the inputs hold has at most one refusal, and none where it is in form.
 use Rattle.std.proofs.Common.{◌≡◌, ◌⊎◌, ℕ, ◌+◌, ◌*◌, ◌<◌, ◌≤◌, List, [], ◌∷◌, length, refl, sym, ◌∙◌, ap, subst, arith, inl, inr, Some, None}
-use Rattle.std.specs.Prelude.{Option, IfSome, ◌↔◌, codes}
+use Rattle.std.specs.Prelude.{Option, IfSome, ◌↔◌, codes, slice_index_or}
 use Rattle.std.specs.FinMap.{get}
 use Rattle.std.specs.Ordering.{nat_cmp}
 use Rattle.std.specs.Cmp.Lexicographic.{slice_cmp}
@@ -21,19 +21,22 @@ use Rattle.dx_tgd.specs.Counting.{rows_in, canonical_cells}
 use Rattle.clio_top.specs.declared.mapping.Mapping.{Mapping}
 use Rattle.clio_top.specs.declared.mapping.AcceptFault.{AcceptFault}
 use Rattle.clio_top.specs.declared.mapping.AcceptFault.TheVariants as faults
-use Rattle.clio_top.specs.declared.exchange.Exchange.{Exchange}
 use Rattle.clio_top.specs.declared.ending.Ending.{Ending}
 use Rattle.clio_top.specs.declared.ending.Ending.TheVariants as endings
-use Rattle.clio_top.specs.declared.ending.Done.TheVariants.{Exchanged}
+use Rattle.dx_funcs.specs.declared.conversion.Conversion.{Conversion}
+use Rattle.clio_top.specs.declared.command.Command.TheVariants.{Exchanging, Showing}
+use Rattle.clio_top.specs.declared.ending.Done.{Done}
+use Rattle.clio_top.specs.declared.ending.Done.TheVariants.{Exchanged, Shown}
+use Rattle.clio_top.specs.declared.ending.MapFault.{MapFault}
 use Rattle.clio_top.specs.declared.ending.MapFault.TheVariants as map_faults
 use Rattle.clio_top.specs.declared.ending.RowsFault.TheVariants as rows_faults
 use Rattle.clio_top.specs.Mapping.{IsMappingOf, IsRefused}
 use Rattle.clio_top.specs.TableFiles.{csv_name}
 use Rattle.clio_top.specs.Source.{FirstStops, IsFaulty, IsSourceOf, PassesBytes, ReadsSource, ReadsTable, StopsAt, data_bytes}
 use Rattle.clio_top.specs.Source.{PassesCells as PassesSourceCells}
-use Rattle.clio_top.specs.Exchanging.{HoldsText, HoldsMapping, IsExchangeOf}
-use Rattle.clio_top.specs.Ending.{HasCause, IsExchange, PassesCells, PassesText, SourceStops}
-use Rattle.clio_top.specs.Causes.{InFormOrRefused, IsInForm, IsOutside, IsRefusal, IsUnrefused, OneRefusal}
+use Rattle.clio_top.specs.Exchanging.{HoldsText, HoldsMapping}
+use Rattle.clio_top.specs.Ending.{HasCause, IsCommand, IsExchange, IsShow, IsDoneOf, FormRefused, TextRefused, PassesCells, PassesText, SourceStops, words_of}
+use Rattle.clio_top.specs.Causes.{InFormOrRefused, IsExchangeable, IsInForm, IsOutside, IsRefusal, IsUnrefused, OneRefusal}
 use Rattle.clio_top.proofs.EndingFacts.{ending_of}
 use Rattle.clio_top.proofs.RefusalFacts.{same_mapping_of, one_refused, accepted_or_refused}
 use Rattle.clio_top.proofs.OneAscending.{one_ascending}
@@ -56,8 +59,8 @@ within_or_above n used x y e below above = let above = rw (← e) at above in om
 same_text : (m : Held) (text other : List ℕ) → HoldsText m text → HoldsText m other → text ≡ other
 same_text m text other p q = same_held (get m (codes "mapping.clio")) p.held q.held
 
-same_mapping : (m : Held) (M N : Mapping) → HoldsMapping m M → HoldsMapping m N → M ≡ N
-same_mapping m M N p q = same_mapping_of p.0 M N p.2 (subst (λ (text : List ℕ). IsMappingOf text N) (sym (same_text m p.0 q.0 p.1 q.1)) q.2)
+same_mapping : (list : List Conversion) (m : Held) (M N : Mapping) → HoldsMapping list m M → HoldsMapping list m N → M ≡ N
+same_mapping list m M N p q = same_mapping_of list p.0 M N p.2 (subst (λ (text : List ℕ). IsMappingOf list text N) (sym (same_text m p.0 q.0 p.1 q.1)) q.2)
 
 -- ---- one table
 same_bytes : (m : Held) (t : TableOf) (used cells : ℕ) (bytes other : List ℕ) (rows others : List (List Value))
@@ -203,33 +206,50 @@ one_rows_each convert (d ∷ R) I (ts ∷ rows) (us ∷ others) p q =
 
 -- ---- one refusal
 -- the mapping text is absent, too long, or refused
-data TextStops (m : Held) (e : Ending) : Type 0 where
-  no_text : e ≡ endings.Mapping map_faults.Absent → get m (codes "mapping.clio") ≡ None → TextStops m e
-  long_text : (l : Limit) → e ≡ endings.Limit l → PassesText m l → TextStops m e
-  refused : (text : List ℕ) (f : AcceptFault) → e ≡ ending_of f → HoldsText m text → IsRefused text f → TextStops m e
+data TextStops (list : List Conversion) (m : Held) (e : Ending) : Type 0 where
+  no_text : e ≡ endings.Mapping map_faults.Absent → get m (codes "mapping.clio") ≡ None → TextStops list m e
+  long_text : (l : Limit) → e ≡ endings.Limit l → PassesText m l → TextStops list m e
+  refused : (text : List ℕ) (f : AcceptFault) → e ≡ ending_of f → HoldsText m text → IsRefused list text f → TextStops list m e
 
--- the mapping's canonical instance stops the run
-abbrev CellsStop : Held → Ending → Type 0
-CellsStop m e = (l : Limit) × (e ≡ endings.Limit l) × PassesCells m l
+-- the form of the mapping, a source file, or the size of the canonical instance stops the exchange
+data ExchangeStops (list : List Conversion) (m : Held) (e : Ending) : Type 0 where
+  by_form : (f : MapFault) → e ≡ endings.Mapping f → FormRefused list m f → ExchangeStops list m e
+  by_source : SourceStops list m e → ExchangeStops list m e
+  by_cells : (l : Limit) → e ≡ endings.Limit l → PassesCells list m l → ExchangeStops list m e
 
--- a refusal is by the text, by the source or by the cells
-by_cause : (m : Held) (e : Ending) → IsRefusal e → HasCause m e → TextStops m e ⊎ (SourceStops m e ⊎ CellsStop m e)
-by_cause m (endings.Done d) r c = absurd r
-by_cause m endings.Usage r c = absurd r
-by_cause m (endings.Mapping map_faults.Absent) r c = inl (no_text refl c)
-by_cause m (endings.Mapping (map_faults.Text place kind)) r c = inl (refused c.0 (faults.Mapping (map_faults.Text place kind)) refl c.1 c.2)
-by_cause m (endings.Mapping (map_faults.Source kind)) r c = inl (refused c.0 (faults.Mapping (map_faults.Source kind)) refl c.1 c.2)
-by_cause m (endings.Mapping (map_faults.Target kind)) r c = inl (refused c.0 (faults.Mapping (map_faults.Target kind)) refl c.1 c.2)
-by_cause m (endings.Mapping (map_faults.Reserved name)) r c = inl (refused c.0 (faults.Mapping (map_faults.Reserved name)) refl c.1 c.2)
-by_cause m (endings.Mapping map_faults.NotYet) r c = inl (refused c.0 (faults.Mapping map_faults.NotYet) refl c.1 c.2)
-by_cause m (endings.Rows file fault) r c = inr (inl c)
-by_cause m (endings.Limit l) r (inl c) = inl (long_text l refl c)
-by_cause m (endings.Limit l) r (inr (inl c)) = inl (refused c.0 (faults.Limit l) refl c.1 c.2)
-by_cause m (endings.Limit l) r (inr (inr (inl c))) = inr (inl c)
-by_cause m (endings.Limit l) r (inr (inr (inr c))) = inr (inr (l, refl, c))
-by_cause m (endings.ReadFault file) r c = absurd r
-by_cause m (endings.WriteFault n) r c = absurd r
-by_cause m endings.Memory r c = absurd r
+-- a refusal is by the text, or, of an exchange, by what comes behind it
+abbrev Why : List Conversion → List (List ℕ) → Held → Ending → Type 0
+Why list words m e = TextStops list m e ⊎ (IsExchange words × ExchangeStops list m e)
+
+mapping_why : (list : List Conversion) (words : List (List ℕ)) (m : Held) (f : MapFault) → TextRefused list m (faults.Mapping f) ⊎ (IsExchange words × FormRefused list m f)
+    → Why list words m (endings.Mapping f)
+mapping_why list words m f (inl c) = inl (refused c.0 (faults.Mapping f) refl c.1 c.2)
+mapping_why list words m f (inr c) = inr (c.0, by_form f refl c.1)
+
+limit_why : (list : List Conversion) (words : List (List ℕ)) (m : Held) (l : Limit)
+    → PassesText m l ⊎ (TextRefused list m (faults.Limit l) ⊎ (IsExchange words × (SourceStops list m (endings.Limit l) ⊎ PassesCells list m l)))
+    → Why list words m (endings.Limit l)
+limit_why list words m l (inl c) = inl (long_text l refl c)
+limit_why list words m l (inr (inl c)) = inl (refused c.0 (faults.Limit l) refl c.1 c.2)
+limit_why list words m l (inr (inr (w, inl c))) = inr (w, by_source c)
+limit_why list words m l (inr (inr (w, inr c))) = inr (w, by_cells l refl c)
+
+by_cause : (list : List Conversion) (words : List (List ℕ)) (m : Held) (e : Ending) → IsRefusal e → HasCause list words m e → Why list words m e
+by_cause list words m (endings.Done d) r c = absurd r
+by_cause list words m endings.Usage r c = absurd r
+by_cause list words m (endings.Mapping map_faults.Absent) r c = inl (no_text refl c)
+by_cause list words m (endings.Mapping (map_faults.Text place kind)) r c = mapping_why list words m (map_faults.Text place kind) c
+by_cause list words m (endings.Mapping (map_faults.Source kind)) r c = mapping_why list words m (map_faults.Source kind) c
+by_cause list words m (endings.Mapping (map_faults.Target kind)) r c = mapping_why list words m (map_faults.Target kind) c
+by_cause list words m (endings.Mapping (map_faults.Reserved name)) r c = mapping_why list words m (map_faults.Reserved name) c
+by_cause list words m (endings.Mapping map_faults.NotYet) r c = mapping_why list words m map_faults.NotYet c
+by_cause list words m (endings.Rows file fault) r c = inr (c.0, by_source c.1)
+by_cause list words m (endings.Limit l) r c = limit_why list words m l c
+by_cause list words m (endings.ReadFault file) r c = absurd r
+by_cause list words m (endings.WriteFault n) r c = absurd r
+by_cause list words m endings.Memory r c = absurd r
+
+-- ---- by the text
 
 -- a text that is held within the limit does not pass it
 text_or_long : (m : Held) (text : List ℕ) (l : Limit) → HoldsText m text → ¬ (PassesText m l)
@@ -239,119 +259,164 @@ text_or_long m text l h p =
     let above = rw (← same) at p.3 in
     omega (arith, below, above)
 
-one_text_stop : (m : Held) (e f : Ending) → TextStops m e → TextStops m f → e ≡ f
-one_text_stop m e f (no_text a p) (no_text b q) = a ∙ sym b
-one_text_stop m e f (no_text a p) (long_text l b q) = absurd (held_or_absent (get m (codes "mapping.clio")) q.1 p)
-one_text_stop m e f (no_text a p) (refused text g b q why) = absurd (held_or_absent (get m (codes "mapping.clio")) q.held p)
-one_text_stop m e f (long_text k a p) (no_text b q) = absurd (held_or_absent (get m (codes "mapping.clio")) p.1 q)
-one_text_stop m e f (long_text k a p) (long_text l b q) = a ∙ ap endings.Limit (p.2 ∙ sym q.2) ∙ sym b
-one_text_stop m e f (long_text k a p) (refused text g b q why) = absurd (text_or_long m text k q p)
-one_text_stop m e f (refused text g a p why) (no_text b q) = absurd (held_or_absent (get m (codes "mapping.clio")) p.held q)
-one_text_stop m e f (refused text g a p why) (long_text l b q) = absurd (text_or_long m text l p q)
-one_text_stop m e f (refused text g a p why) (refused other h b q reason) = a ∙ ap ending_of (one_refused text g h why (subst (λ (x : List ℕ). IsRefused x h) (sym (same_text m text other p q)) reason)) ∙ sym b
+one_text_stop : (list : List Conversion) (m : Held) (e f : Ending) → TextStops list m e → TextStops list m f → e ≡ f
+one_text_stop list m e f (no_text a p) (no_text b q) = a ∙ sym b
+one_text_stop list m e f (no_text a p) (long_text l b q) = absurd (held_or_absent (get m (codes "mapping.clio")) q.1 p)
+one_text_stop list m e f (no_text a p) (refused text g b q why) = absurd (held_or_absent (get m (codes "mapping.clio")) q.held p)
+one_text_stop list m e f (long_text k a p) (no_text b q) = absurd (held_or_absent (get m (codes "mapping.clio")) p.1 q)
+one_text_stop list m e f (long_text k a p) (long_text l b q) = a ∙ ap endings.Limit (p.2 ∙ sym q.2) ∙ sym b
+one_text_stop list m e f (long_text k a p) (refused text g b q why) = absurd (text_or_long m text k q p)
+one_text_stop list m e f (refused text g a p why) (no_text b q) = absurd (held_or_absent (get m (codes "mapping.clio")) p.held q)
+one_text_stop list m e f (refused text g a p why) (long_text l b q) = absurd (text_or_long m text l p q)
+one_text_stop list m e f (refused text g a p why) (refused other h b q reason) =
+    a ∙ ap ending_of (one_refused list text g h why (subst (λ (x : List ℕ). IsRefused list x h) (sym (same_text m text other p q)) reason)) ∙ sym b
 
 -- an accepted text stops nothing
-mapping_or_stop : (m : Held) (M : Mapping) (e : Ending) → HoldsMapping m M → ¬ (TextStops m e)
-mapping_or_stop m M e h (no_text a p) = held_or_absent (get m (codes "mapping.clio")) h.1.held p
-mapping_or_stop m M e h (long_text l a p) = text_or_long m h.0 l h.1 p
-mapping_or_stop m M e h (refused text g a p why) = accepted_or_refused text M g (subst (λ (x : List ℕ). IsMappingOf x M) (same_text m h.0 text h.1 p) h.2) why
+mapping_or_stop : (list : List Conversion) (m : Held) (M : Mapping) (e : Ending) → HoldsMapping list m M → ¬ (TextStops list m e)
+mapping_or_stop list m M e h (no_text a p) = held_or_absent (get m (codes "mapping.clio")) h.1.held p
+mapping_or_stop list m M e h (long_text l a p) = text_or_long m h.0 l h.1 p
+mapping_or_stop list m M e h (refused text g a p why) =
+    accepted_or_refused list text M g (subst (λ (x : List ℕ). IsMappingOf list x M) (same_text m h.0 text h.1 p) h.2) why
 
-one_source_stop : (m : Held) (e f : Ending) → SourceStops m e → SourceStops m f → e ≡ f
-one_source_stop m e f p q =
-    one_first_stop m (tables_of p.0.source) 0 0 e f p.2
-    (subst (λ (M : Mapping). FirstStops m 0 0 (tables_of M.source) f) (same_mapping m q.0 p.0 q.1 p.1) q.2)
+-- where something behind the text stops the exchange, the text was accepted
+stopped_mapping : (list : List Conversion) (m : Held) (e : Ending) → ExchangeStops list m e → (M : Mapping) × HoldsMapping list m M
+stopped_mapping list m e (by_form f a p) = (p.mapping, p.held)
+stopped_mapping list m e (by_source p) = (p.0, p.1)
+stopped_mapping list m e (by_cells l a p) = (p.M, p.mapping)
+
+-- ---- behind the text
+
+one_source_stop : (list : List Conversion) (m : Held) (e f : Ending) → SourceStops list m e → SourceStops list m f → e ≡ f
+one_source_stop list m e f p q =
+    one_first_stop m (tables_of p.0.source) 0 0 e f p.3
+    (subst (λ (M : Mapping). FirstStops m 0 0 (tables_of M.source) f) (same_mapping list m q.0 p.0 q.1 p.1) q.3)
 
 -- a source stops nothing
-source_or_stops : (m : Held) (M : Mapping) (I : List Fact) (e : Ending) → HoldsMapping m M → IsSourceOf m (tables_of M.source) I → ¬ (SourceStops m e)
-source_or_stops m M I e h s p =
-    source_or_stop m (tables_of M.source) 0 0 0 I e s (subst (λ (N : Mapping). FirstStops m 0 0 (tables_of N.source) e) (same_mapping m p.0 M p.1 h) p.2)
-
-one_cells_stop : (m : Held) (e f : Ending) → CellsStop m e → CellsStop m f → e ≡ f
-one_cells_stop m e f p q = p.1 ∙ ap endings.Limit (p.2.6 ∙ sym q.2.6) ∙ sym q.1
+source_or_stops : (list : List Conversion) (m : Held) (M : Mapping) (I : List Fact) (e : Ending) → HoldsMapping list m M → IsSourceOf m (tables_of M.source) I → ¬ (SourceStops list m e)
+source_or_stops list m M I e h s p =
+    source_or_stop m (tables_of M.source) 0 0 0 I e s (subst (λ (N : Mapping). FirstStops m 0 0 (tables_of N.source) e) (same_mapping list m p.0 M p.1 h) p.3)
 
 -- how many cells there are is one
-same_cells : (m : Held) (M N : Mapping) (I J : List Fact) (rows others : Rows) → HoldsMapping m M → HoldsMapping m N → IsSourceOf m (tables_of M.source) I → IsSourceOf m (tables_of N.source) J
+same_cells : (list : List Conversion) (m : Held) (M N : Mapping) (I J : List Fact) (rows others : Rows) → HoldsMapping list m M → HoldsMapping list m N
+    → IsSourceOf m (tables_of M.source) I → IsSourceOf m (tables_of N.source) J
     → AreRows no_conversions M.rules I rows → AreRows no_conversions N.rules J others → canonical_cells M.rules rows ≡ canonical_cells N.rules others
-same_cells m M N I J rows others h k s t a b =
-    let one = same_mapping m N M k h in
+same_cells list m M N I J rows others h k s t a b =
+    let one = same_mapping list m N M k h in
     let facts = one_source m (tables_of M.source) 0 0 0 J I (subst (λ (O : Mapping). IsSourceOf m (tables_of O.source) J) one t) s in
     let same = one_rows_each no_conversions M.rules I others rows
     (subst (λ (K : List Fact). AreRows no_conversions M.rules K others) facts (subst (λ (O : Mapping). AreRows no_conversions O.rules J others) one b)) a in
     sym (ap (λ (O : Mapping). canonical_cells O.rules others) one ∙ ap (canonical_cells M.rules) same)
 
+one_exchange_stop : (list : List Conversion) (m : Held) (e f : Ending) → ExchangeStops list m e → ExchangeStops list m f → e ≡ f
+one_exchange_stop list m e f (by_form j a p) (by_form k b q) = a ∙ ap endings.Mapping (p.is ∙ sym q.is) ∙ sym b
+one_exchange_stop list m e f (by_form j a p) (by_source q) = absurd (p.form q.2)
+one_exchange_stop list m e f (by_form j a p) (by_cells l b q) = absurd (p.form q.form)
+one_exchange_stop list m e f (by_source p) (by_form k b q) = absurd (q.form p.2)
+one_exchange_stop list m e f (by_source p) (by_source q) = one_source_stop list m e f p q
+one_exchange_stop list m e f (by_source p) (by_cells l b q) = absurd (source_or_stops list m q.M q.I e q.mapping q.source p)
+one_exchange_stop list m e f (by_cells l a p) (by_form k b q) = absurd (q.form p.form)
+one_exchange_stop list m e f (by_cells l a p) (by_source q) = absurd (source_or_stops list m p.M p.I f p.mapping p.source q)
+one_exchange_stop list m e f (by_cells k a p) (by_cells l b q) = a ∙ ap endings.Limit (p.is ∙ sym q.is) ∙ sym b
+
+-- what can be exchanged stops nothing
+exchangeable_or_stop : (list : List Conversion) (m : Held) (e : Ending) → IsExchangeable list m → ¬ (ExchangeStops list m e)
+exchangeable_or_stop list m e form (by_form f a p) = p.form form.form
+exchangeable_or_stop list m e form (by_source p) = source_or_stops list m form.M form.I e form.mapping form.source p
+exchangeable_or_stop list m e form (by_cells l a p) =
+    let same = same_cells list m form.M p.M form.I p.I form.rows p.rows form.mapping p.mapping form.source p.source (form.rows_are no_conversions) (p.rows_are no_conversions) in
+    let few = form.cells in
+    let many = rw (← same) at p.many in
+    omega (arith, few, many)
+
+-- ---- the laws
+
+one_why : (list : List Conversion) (words : List (List ℕ)) (m : Held) (e f : Ending) → Why list words m e → Why list words m f → e ≡ f
+one_why list words m e f (inl p) (inl q) = one_text_stop list m e f p q
+one_why list words m e f (inl p) (inr q) = let s = stopped_mapping list m f q.1 in absurd (mapping_or_stop list m s.0 e s.1 p)
+one_why list words m e f (inr p) (inl q) = let s = stopped_mapping list m e p.1 in absurd (mapping_or_stop list m s.0 f s.1 q)
+one_why list words m e f (inr p) (inr q) = one_exchange_stop list m e f p.1 q.1
+
 pub one_refusal : OneRefusal
-one_refusal m e f r s c d = both (by_cause m e r c) (by_cause m f s d)
+one_refusal list words m e f r s c d = one_why list words m e f (by_cause list words m e r c) (by_cause list words m f s d)
+
+-- the words of two commands are two
+other_words : (words : List (List ℕ)) → IsExchange words → ¬ (IsShow words)
+other_words words a b = two (sym a ∙ b)
   where
-    both : TextStops m e ⊎ (SourceStops m e ⊎ CellsStop m e) → TextStops m f ⊎ (SourceStops m f ⊎ CellsStop m f) → e ≡ f
-    both (inl p) (inl q) = one_text_stop m e f p q
-    both (inl p) (inr (inl q)) = absurd (mapping_or_stop m q.0 e q.1 p)
-    both (inl p) (inr (inr q)) = absurd (mapping_or_stop m q.2.0 e q.2.3 p)
-    both (inr (inl p)) (inl q) = absurd (mapping_or_stop m p.0 f p.1 q)
-    both (inr (inl p)) (inr (inl q)) = one_source_stop m e f p q
-    both (inr (inl p)) (inr (inr q)) = absurd (source_or_stops m q.2.0 q.2.1 e q.2.3 q.2.4 p)
-    both (inr (inr p)) (inl q) = absurd (mapping_or_stop m p.2.0 f p.2.3 q)
-    both (inr (inr p)) (inr (inl q)) = absurd (source_or_stops m p.2.0 p.2.1 f p.2.3 p.2.4 q)
-    both (inr (inr p)) (inr (inr q)) = one_cells_stop m e f p q
+    two : ¬ (words_of Exchanging ≡ words_of Showing)
+    two e = let f = ap length (ap (λ (ws : List (List ℕ)). slice_index_or ws 0 []) e) in omega (arith, f)
+
+why_not : (list : List Conversion) (words : List (List ℕ)) (m : Held) (e : Ending) → Why list words m e → ¬ (IsInForm list words m)
+why_not list words m e (inl p) (inl f) = mapping_or_stop list m f.1.M e f.1.mapping p
+why_not list words m e (inl p) (inr f) = mapping_or_stop list m f.1.0 e f.1.1 p
+why_not list words m e (inr p) (inl f) = exchangeable_or_stop list m e f.1 p.1
+why_not list words m e (inr p) (inr f) = other_words words p.0 f.0
 
 pub in_form_or_refused : InFormOrRefused
-in_form_or_refused m e r c form = by (by_cause m e r c)
-  where
-    by : TextStops m e ⊎ (SourceStops m e ⊎ CellsStop m e) → ⊥
-    by (inl p) = mapping_or_stop m form.M e form.mapping p
-    by (inr (inl p)) = source_or_stops m form.M form.I e form.mapping form.source p
-    by (inr (inr p)) =
-        let same = same_cells m form.M p.2.0 form.I p.2.1 form.rows p.2.2 form.mapping p.2.3 form.source p.2.4 (form.rows_are no_conversions) (p.2.5 no_conversions) in
-        let few = form.cells in
-        let many = rw (← same) at p.2.7 in
-        omega (arith, few, many)
+in_form_or_refused list words m e r c = why_not list words m e (by_cause list words m e r c)
 
 -- ---- the endings of a run
--- what has an exchange is in form
-in_form : (m : Held) (M : Mapping) (e : Exchange) → IsExchangeOf m M e → IsInForm m
-in_form m M e x = record {
-  M = M;
-  I = x.I;
-  rows = rows_in e.matches;
-  mapping = x.mapping;
-  source = x.source;
-  rows_are = λ convert. (x.right convert).matches;
-  cells = x.cells;
-}
+
+-- what is done with what the inputs hold is in form
+done_in_form : (list : List Conversion) (words : List (List ℕ)) (m : Held) (d : Done) → IsDoneOf list words m d → IsInForm list words m
+done_in_form list words m (Exchanged e) c =
+    let x = c.1.1 in
+    inl (
+      c.0,
+      record {
+        M = c.1.0;
+        I = x.I;
+        rows = rows_in e.matches;
+        mapping = x.mapping;
+        form = x.form;
+        source = x.source;
+        rows_are = λ convert. (x.right convert).matches;
+        cells = x.cells;
+      },
+    )
+done_in_form list words m Shown c = inr c
 
 -- the ending is that of other words exactly where the words are others
 abbrev IsUsageOnly : List (List ℕ) → Ending → Type 0
-IsUsageOnly words e = (e ≡ endings.Usage) ↔ ¬ (IsExchange words)
+IsUsageOnly words e = (e ≡ endings.Usage) ↔ ¬ (IsCommand words)
 
 -- of what has a refusal the ending is that refusal, or a fault outside
-abbrev IsExact : List (List ℕ) → Ending → Held → Type 0
-IsExact words e m = IsExchange words → (r : Ending) → IsRefusal r → HasCause m r → (e ≡ r) ⊎ IsOutside e
+abbrev IsExact : List Conversion → List (List ℕ) → Ending → Held → Type 0
+IsExact list words e m = IsCommand words → (r : Ending) → IsRefusal r → HasCause list words m r → (e ≡ r) ⊎ IsOutside e
 
 -- of what is in form the ending is no refusal
-abbrev IsComplete : List (List ℕ) → Ending → Held → Type 0
-IsComplete words e m = IsExchange words → IsInForm m → IsUnrefused e
+abbrev IsComplete : List Conversion → List (List ℕ) → Ending → Held → Type 0
+IsComplete list words e m = IsInForm list words m → IsUnrefused e
 
-exact_of : (words : List (List ℕ)) (e : Ending) → IsUsageOnly words e → (m : Held) → HasCause m e → IsExact words e m
-exact_of words (endings.Done (Exchanged x)) u m c w r is d = absurd (in_form_or_refused m r is d (in_form m c.0 x c.1))
-exact_of words endings.Usage u m c w r is d = absurd (u.0 refl w)
-exact_of words (endings.Mapping f) u m c w r is d = inl (one_refusal m (endings.Mapping f) r tt is c d)
-exact_of words (endings.Rows file fault) u m c w r is d = inl (one_refusal m (endings.Rows file fault) r tt is c d)
-exact_of words (endings.Limit l) u m c w r is d = inl (one_refusal m (endings.Limit l) r tt is c d)
-exact_of words (endings.ReadFault file) u m c w r is d = inr tt
-exact_of words (endings.WriteFault n) u m c w r is d = absurd (in_form_or_refused m r is d (in_form m c.0 c.1 c.2))
-exact_of words endings.Memory u m c w r is d = inr tt
+exact_of : (list : List Conversion) (words : List (List ℕ)) (e : Ending) → IsUsageOnly words e → (m : Held) → HasCause list words m e → IsExact list words e m
+exact_of list words (endings.Done d) u m c w r is k = absurd (in_form_or_refused list words m r is k (done_in_form list words m d c))
+exact_of list words endings.Usage u m c w r is k = absurd (u.0 refl w)
+exact_of list words (endings.Mapping f) u m c w r is k = inl (one_refusal list words m (endings.Mapping f) r tt is c k)
+exact_of list words (endings.Rows file fault) u m c w r is k = inl (one_refusal list words m (endings.Rows file fault) r tt is c k)
+exact_of list words (endings.Limit l) u m c w r is k = inl (one_refusal list words m (endings.Limit l) r tt is c k)
+exact_of list words (endings.ReadFault file) u m c w r is k = inr tt
+exact_of list words (endings.WriteFault n) u m c w r is k = absurd (in_form_or_refused list words m r is k (done_in_form list words m c.0 c.1))
+exact_of list words endings.Memory u m c w r is k = inr tt
 
-complete_of : (words : List (List ℕ)) (e : Ending) → IsUsageOnly words e → (m : Held) → HasCause m e → IsComplete words e m
-complete_of words (endings.Done d) u m c w form = tt
-complete_of words endings.Usage u m c w form = absurd (u.0 refl w)
-complete_of words (endings.Mapping f) u m c w form = absurd (in_form_or_refused m (endings.Mapping f) tt c form)
-complete_of words (endings.Rows file fault) u m c w form = absurd (in_form_or_refused m (endings.Rows file fault) tt c form)
-complete_of words (endings.Limit l) u m c w form = absurd (in_form_or_refused m (endings.Limit l) tt c form)
-complete_of words (endings.ReadFault file) u m c w form = tt
-complete_of words (endings.WriteFault n) u m c w form = tt
-complete_of words endings.Memory u m c w form = tt
+-- what is in form is for the words of a command
+in_form_command : (list : List Conversion) (words : List (List ℕ)) (m : Held) → IsInForm list words m → IsCommand words
+in_form_command list words m (inl f) = (Exchanging, f.0)
+in_form_command list words m (inr f) = (Showing, f.0)
 
-pub exact_ending : (holds : Option Held) (words : List (List ℕ)) (e : Ending) → IsUsageOnly words e → IfSome holds (λ m. HasCause m e) → IfSome holds (IsExact words e)
-exact_ending holds words e u c = if_some holds (λ m. HasCause m e) (IsExact words e) (exact_of words e u) c
+complete_of : (list : List Conversion) (words : List (List ℕ)) (e : Ending) → IsUsageOnly words e → (m : Held) → HasCause list words m e → IsComplete list words e m
+complete_of list words (endings.Done d) u m c form = tt
+complete_of list words endings.Usage u m c form = absurd (u.0 refl (in_form_command list words m form))
+complete_of list words (endings.Mapping f) u m c form = absurd (in_form_or_refused list words m (endings.Mapping f) tt c form)
+complete_of list words (endings.Rows file fault) u m c form = absurd (in_form_or_refused list words m (endings.Rows file fault) tt c form)
+complete_of list words (endings.Limit l) u m c form = absurd (in_form_or_refused list words m (endings.Limit l) tt c form)
+complete_of list words (endings.ReadFault file) u m c form = tt
+complete_of list words (endings.WriteFault n) u m c form = tt
+complete_of list words endings.Memory u m c form = tt
 
-pub complete_ending : (holds : Option Held) (words : List (List ℕ)) (e : Ending) → IsUsageOnly words e → IfSome holds (λ m. HasCause m e) → IfSome holds (IsComplete words e)
-complete_ending holds words e u c = if_some holds (λ m. HasCause m e) (IsComplete words e) (complete_of words e u) c
+pub exact_ending : (list : List Conversion) (holds : Option Held) (words : List (List ℕ)) (e : Ending) → IsUsageOnly words e → IfSome holds (λ m. HasCause list words m e)
+    → IfSome holds (IsExact list words e)
+exact_ending list holds words e u c = if_some holds (λ m. HasCause list words m e) (IsExact list words e) (exact_of list words e u) c
+
+pub complete_ending : (list : List Conversion) (holds : Option Held) (words : List (List ℕ)) (e : Ending) → IsUsageOnly words e → IfSome holds (λ m. HasCause list words m e)
+    → IfSome holds (IsComplete list words e)
+complete_ending list holds words e u c = if_some holds (λ m. HasCause list words m e) (IsComplete list words e) (complete_of list words e u) c

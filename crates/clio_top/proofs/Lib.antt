@@ -1,8 +1,10 @@
 pub mod FormTests
-pub mod FlatFacts
+pub mod FlatRows
+pub mod FlatTerms
 pub mod FormFacts
 pub mod AcceptFacts
 pub mod FlatMapping
+pub mod PrintFacts
 pub mod RightFacts
 pub mod PlainFacts
 pub mod EndingFacts
@@ -18,4 +20,3 @@ pub mod PlanFacts
 pub mod OneAscending
 pub mod RefusalFacts
 pub mod CauseFacts
-pub mod FlatExamples

@@ -1,5 +1,5 @@
 -- The first form of a mapping: one source set, one target set, and lines between their columns.
-use Rattle.std.specs.Prelude.{◌≡◌, ◌≤◌, List, [], ◌∷◌, length, map, Option, Some, None}
+use Rattle.std.specs.Prelude.{◌≡◌, ◌≤◌, ℕ, List, [], ◌∷◌, length, map, Option, Some, None}
 use Rattle.dx_ports.specs.Members.{Distinct, Each, ◌∈◌}
 use Rattle.dx_schema.specs.Forest.{Forest, Tree, none, set}
 use Rattle.dx_schema_text.specs.declared.texts.LineText.{LineText}
@@ -7,6 +7,7 @@ use Rattle.dx_schema_text.specs.declared.texts.PlaceText.{PlaceText}
 use Rattle.dx_schema_text.specs.declared.texts.SourceText.{SourceText}
 use Rattle.dx_schema_text.specs.declared.texts.SourceText.TheVariants as sources
 use Rattle.dx_schema_text.specs.declared.texts.MappingText.{MappingText}
+use Rattle.dx_schema_text.specs.Texts.{IsMappingText}
 use Rattle.clio_top.specs.declared.first_form.FlatSet.{FlatSet}
 use Rattle.clio_top.specs.declared.first_form.FlatLine.{FlatLine}
 use Rattle.clio_top.specs.declared.first_form.FlatText.{FlatText}
@@ -57,3 +58,7 @@ pub record IsFirstForm (m : MappingText) (f : FlatText) : Type 0 where
   pub between : Each f.lines (IsFlatLine f.source f.target)
   -- no two lines name one target column
   pub one_line_each : Distinct (map (λ (l : FlatLine). l.target_column) f.lines)
+
+-- The text says a mapping of the first form, which is the form that can be exchanged today.
+abbrev pub IsFlatText : List ℕ → Type 0
+IsFlatText text = (m : MappingText) × IsMappingText text m × (f : FlatText) × IsFirstForm m f

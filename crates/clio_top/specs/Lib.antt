@@ -1,5 +1,4 @@
 pub mod FirstForm
-pub mod FlatRule
 pub mod Mapping
 pub mod TableFiles
 pub mod Reads

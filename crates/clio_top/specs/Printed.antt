@@ -9,6 +9,10 @@ use Rattle.dx_model.specs.Instances.{values}
 use Rattle.dx_instance.specs.Stored.{facts, rows_of, widths}
 use Rattle.dx_schema.specs.Tables.{TableOf, tables_of}
 use Rattle.dx_csv.specs.Print.{HasNoMark}
+use Rattle.dx_model.specs.declared.rules.Rule.{Rule}
+use Rattle.dx_schema.specs.Forest.{Forest}
+use Rattle.dx_funcs.specs.declared.conversion.Conversion.{Conversion}
+use Rattle.dx_rule_text.specs.Printed.{AreAtomsOf, AreListed}
 use Rattle.dx_tgd.specs.Counting.{rows_in}
 use Rattle.dx_tgd.specs.Placed.{HasPlace, FitTuples}
 use Rattle.clio_top.specs.declared.mapping.Mapping.{Mapping}
@@ -38,3 +42,13 @@ pub record FitsFiles (M : Mapping) (e : Exchange) : Type 0 where
   pub places : (n : NullId) → Null n ∈ values (facts e.target) → HasPlace M.rules (rows_in e.matches) n
   pub tuples : FitTuples M.rules (rows_in e.matches)
   pub one_each : length e.matches.rules ≡ length M.rules
+
+-- a rule between two schemas can be printed: its tables are there, and the conversions of its derived variables are listed
+pub record IsPrintable (list : List Conversion) (source target : Forest) (d : Rule) : Type 0 where
+  pub premise : AreAtomsOf source d.premise
+  pub conclusion : AreAtomsOf target d.conclusion
+  pub derived : AreListed list d.derived
+
+-- the rules of a mapping can be printed
+abbrev pub ArePrintable : List Conversion → Mapping → Type 0
+ArePrintable list M = Each M.rules (IsPrintable list M.source M.target)

@@ -12,6 +12,8 @@ use dx_schema_text::TextKind;
 pub enum Done {
     /// The files were put, and the summary was said.
     Exchanged(Exchange),
+    /// The rules were said.
+    Shown,
 }
 
 /// What is wrong with the mapping text.
@@ -27,7 +29,7 @@ pub enum MapFault {
     Target(SchemaKind),
     /// A target set has this name, which a file of clio's own has.
     Reserved(Text),
-    /// The mapping is not of the form that is built.
+    /// The mapping has a hand-written rule, or is to be exchanged and is not of the form that can be: more is to be built.
     NotYet,
 }
 

@@ -1,5 +1,5 @@
 // The first form of a mapping: one source set, one target set, and lines between their columns. Until more is built,
-// `accept` takes no other.
+// `exchange` takes no other.
 ghost use Rattle.std.specs.Prelude.{◌≡◌, ◌↔◌, IfOk, IfSome, IfNone, IsTrue, map, take};
 ghost use Rattle.dx_ports.specs.Members.{Distinct, Each, ◌∈◌};
 ghost use Rattle.clio_top.specs.FirstForm.{one_set, flat_line, flat_lines, IsFlatTree, IsFlatLine, IsFirstForm};

@@ -1,16 +1,19 @@
 // Accepted mappings.
-ghost use Rattle.std.specs.Prelude.{◌≡◌, ◌⊎◌, ◌<◌, ◌-◌, ◌^◌, ◌∷◌, [], ◌↔◌, length, IfOk, IfErr, IfSome, IfNone, IsTrue, OnOk};
+ghost use Rattle.std.specs.Prelude.{◌≡◌, ◌⊎◌, ◌<◌, ◌↔◌, ℕ, length, IfOk, IfErr, IfSome, IfNone, IsTrue, OnOk};
 ghost use Rattle.dx_schema.specs.Links.{IsFaultless, IsFirstFault};
 ghost use Rattle.dx_schema.specs.declared.fault.SchemaFault.{SchemaFault as SchemaFaultOf};
 ghost use Rattle.dx_tokens.specs.declared.faults.TextFault.{TextFault as TextFaultOf};
 ghost use Rattle.dx_schema_text.specs.Texts.{IsMappingText, IsTextFault};
-ghost use Rattle.clio_top.specs.FlatRule.{flat_rule};
+ghost use Rattle.dx_funcs.specs.Serving.{offered};
+ghost use Rattle.dx_schema_text.specs.declared.texts.MappingText.{MappingText as MappingTextOf};
+ghost use Rattle.clio_top.specs.FirstForm.{IsFlatText};
 ghost use Rattle.clio_top.specs.Mapping.{IsMappingOf, IsRefused, IsReserved, IsFirstReserved, NoneReserved, text_refusal, source_refusal, target_refusal};
 ghost use Rattle.clio_top.specs.declared.mapping.AcceptFault.TheVariants.{Memory};
 
 use crate::ending::MapFault;
-use crate::first_form::{FlatText, first_form};
-use crate::flat;
+use crate::first_form::first_form;
+use crate::lines::rules_between;
+use dx_funcs::{Host, Meaning};
 use dx_model::Rule;
 use dx_ports::{Count, Items, Limit, Text};
 use dx_schema::{Schema, SchemaFault, Trees};
@@ -53,18 +56,7 @@ impl<T: Drop> From<AllocFailed<T>> for AcceptFault {
     }
 }
 
-// The rule of the lines.
-fn rules_of(alloc: Global, flat: &FlatText) -> Result<Items<Rule>, AllocError>
-    requires source { length flat.now.source.columns < 2 ^ 32 - 1 }
-    requires target { length flat.now.target.columns < 2 ^ 32 - 1 }
-    ensures { IfOk result (λ rules. rules ≡ flat_rule flat.now ∷ []) }
-{
-    let mut rules = Items::new(alloc);
-    rules.push(flat::rule(alloc, flat)?)?;
-    Ok(rules)
-}
-
-fn of_text(fault: TextFault) -> AcceptFault
+pub(crate) fn of_text(fault: TextFault) -> AcceptFault
     ensures { result ≡ text_refusal fault }
 {
     match fault {
@@ -152,15 +144,25 @@ fn reserved_in(target: &Schema) -> Result<Option<Text>, AllocError>
     Ok(None)
 }
 
-/// The mapping that a text defines.
-///
-/// # Errors
-///
-/// In this order: the first fault of the text, of the source sets, of the target sets; the first target set with a name
-/// that is taken; and, until more is built, a mapping that is not of the first form. `Memory` may come at any point.
-pub fn accept(alloc: Global, text: &[u8]) -> Result<Mapping, AcceptFault>
-    ensures mapping { IfOk result (IsMappingOf text.now) }
-    ensures fault { IfErr result (λ e. (e ≡ Memory) ⊎ IsRefused text.now e) }
+/// A mapping that was accepted, and whether it is of the form that can be exchanged today.
+#[derive(Drop)]
+pub(crate) struct Accepted {
+    pub mapping: Mapping,
+    pub is_flat: bool,
+}
+
+/// The mapping that a text defines, and whether it can be exchanged today.
+pub(crate) fn accept_text<F, M>(
+    alloc: Global,
+    text: &[u8],
+    host: &Host<F, M>,
+) -> Result<Accepted, AcceptFault>
+where
+    F: Fn(u32, &Items<Text>) -> Result<Text, AllocError>,
+    M: Meaning,
+    ensures mapping { IfOk result (λ a. IsMappingOf (offered host.now) text.now a.mapping) }
+    ensures form { IfOk result (λ a. IsTrue a.is_flat ↔ IsFlatText text.now) }
+    ensures fault { IfErr result (λ e. (e ≡ Memory) ⊎ IsRefused (offered host.now) text.now e) }
 {
     let said = said_by(alloc, text)?;
     let flat = first_form(alloc, &said)?;
@@ -168,20 +170,40 @@ pub fn accept(alloc: Global, text: &[u8]) -> Result<Mapping, AcceptFault>
         version: _,
         source,
         target,
-        lines: _,
-        rules: _,
+        lines,
+        rules,
     } = said;
     let source = source_of(alloc, source)?;
     let target = target_of(alloc, target)?;
     if let Some(name) = reserved_in(&target)? {
         return Err(AcceptFault::Mapping(MapFault::Reserved(name)));
     }
-    let Some(flat) = flat else {
-        return Err(AcceptFault::Mapping(MapFault::NotYet));
-    };
-    Ok(Mapping {
-        rules: rules_of(alloc, &flat)?,
-        source,
-        target,
+    let rules = rules_between(alloc, lines.items(), rules.items(), &source, &target, host)?;
+    Ok(Accepted {
+        mapping: Mapping {
+            source,
+            target,
+            rules,
+        },
+        is_flat: flat.is_some(),
     })
+}
+
+/// The mapping that a text defines: its two schemas, and the rules that its lines stand for.
+///
+/// # Errors
+///
+/// In this order: the first fault of the text, of the source sets, of the target sets; the first target set with a name
+/// that is taken; more than 512 lines; until more is built, a hand-written rule; the first word of the lines that names
+/// nothing, or conversion with another number of arguments; the limits of lines (64 occurrences of an unfolding, 64 ways
+/// between two tables, 1,024 candidates); more than 256 rules. `Memory` may come at any point.
+pub fn accept<F, M>(alloc: Global, text: &[u8], host: &Host<F, M>) -> Result<Mapping, AcceptFault>
+where
+    F: Fn(u32, &Items<Text>) -> Result<Text, AllocError>,
+    M: Meaning,
+    ensures mapping { IfOk result (IsMappingOf (offered host.now) text.now) }
+    ensures fault { IfErr result (λ e. (e ≡ Memory) ⊎ IsRefused (offered host.now) text.now e) }
+{
+    let accepted = accept_text(alloc, text, host)?;
+    Ok(accepted.mapping)
 }

@@ -1,7 +1,12 @@
 // Public calls one by one, where there is memory enough.
+ghost use Rattle.std.specs.Prelude.{◌≡◌, IfOk, length};
+ghost use Rattle.dx_funcs.specs.Offers.{IsListed};
+ghost use Rattle.dx_funcs.specs.Shipped.{shipped_apply, shipped_conversions};
+
 use crate::tests::PEOPLE;
 use clio_top::accept;
 use dx_csv::{load_table, print_records};
+use dx_funcs::{Host, Shipped, convert, shipped_list};
 use dx_instance::{copy_value, value_read, value_text};
 use dx_model::{NullId, Value};
 use dx_ports::{
@@ -108,7 +113,12 @@ fn faults_of_tokens_have_their_places(rt: HostRuntime) -> Result<(), Fail> {
 #[test]
 fn a_mapping_text_is_accepted(rt: HostRuntime) -> Result<(), Fail> {
     let alloc = rt.alloc();
-    let mapping = accept(alloc, PEOPLE.as_bytes())?;
+    let conversions = |code: u32, args: &Items<Text>| -> Result<Text, AllocError>
+        requires { IsListed shipped_conversions code (length args.now) }
+        ensures { IfOk result (λ t. t ≡ shipped_apply code args.entry.now) }
+    { convert(alloc, code, args) };
+    let host: Host<_, Shipped> = Host::build(shipped_list(alloc)?, conversions);
+    let mapping = accept(alloc, PEOPLE.as_bytes(), &host)?;
     let person = Text::from_str(alloc, "person")?;
     let emp = Text::from_str(alloc, "emp")?;
     assert_eq!(rt; mapping.target.table_named(&person), Some(0));

@@ -4,7 +4,7 @@ ghost use Rattle.dx_funcs.specs.Offers.{IsListed};
 ghost use Rattle.dx_funcs.specs.Serving.{Serves};
 ghost use Rattle.dx_funcs.specs.Shipped.{shipped_apply, shipped_conversions};
 
-use dx_funcs::{Conversion, Host, Meaning, Shipped, convert, convert_by_host, shipped_list};
+use dx_funcs::{Conversion, Host, Meaning, Shipped, convert, shipped_list};
 use dx_ports::{Items, Text};
 use std::alloc::{AllocError, Global};
 use std::test::Fail;
@@ -164,13 +164,5 @@ fn a_host_answers_by_its_closure(rt: HostRuntime) -> Result<(), Fail> {
     let alloc = rt.alloc();
     assert_eq!(rt; first_failing_of_shipped(alloc)?, SHIPPED.len());
     assert_eq!(rt; first_failing_of_another(alloc)?, FIRST.len());
-    Ok(())
-}
-
-#[test]
-fn a_pair_is_made_by_a_host(rt: HostRuntime) -> Result<(), Fail> {
-    let alloc = rt.alloc();
-    let pair = convert_by_host(alloc, 2, &texts(alloc, &["a", "b"])?)?;
-    assert_eq!(rt; pair.as_str(), "a b");
     Ok(())
 }

@@ -247,19 +247,19 @@ const MAPPINGS: [Refused; 38] = [
     },
     Refused {
         mapping: "mapping 1; source { set a { x; } } target { set b { y; } } line a.z -> b.y;",
-        message: "mapping: form not built yet",
+        message: "mapping: unknown name at byte 66",
     },
     Refused {
         mapping: "mapping 1; source { set a { x; } } target { set b { y; } } line a.x -> b.z;",
-        message: "mapping: form not built yet",
+        message: "mapping: unknown name at byte 73",
     },
     Refused {
         mapping: "mapping 1; source { set a { x; } } target { set b { y; } } line c.x -> b.y;",
-        message: "mapping: form not built yet",
+        message: "mapping: unknown name at byte 64",
     },
     Refused {
         mapping: "mapping 1; source { set a { x; } } target { set b { y; } } line a.x -> c.y;",
-        message: "mapping: form not built yet",
+        message: "mapping: unknown name at byte 71",
     },
     Refused {
         mapping: "mapping 1; source { set a { x, z; } } target { set b { y; } } line a.x -> b.y; line a.z -> b.y;",
@@ -275,7 +275,7 @@ const MAPPINGS: [Refused; 38] = [
     },
     Refused {
         mapping: "mapping 1; source { set a { x; } } target { set b { y; } } line f(a.x) -> b.y;",
-        message: "mapping: form not built yet",
+        message: "mapping: unknown name at byte 64",
     },
     Refused {
         mapping: "mapping 1; source { set a { x; } } target { set b { y; } } rule a(x) -> b(x);",
@@ -339,14 +339,16 @@ fn are_no_command(alloc: Global, words: &Vec<Text>) -> Result<bool, AllocError> 
     ends_so(alloc, &outcome, 2, USAGE, "", "")
 }
 
-const LINES: [&str; 7] = [
+const LINES: [&str; 9] = [
     "",
     "exchange ",
     "exchange --bogus",
     "exchange exchange",
     "Exchange",
     "-- exchange",
-    "show",
+    "show --bogus",
+    "show exchange",
+    "shows",
 ];
 
 /// The number of the first line whose words are taken for a command, or how many lines there are.
