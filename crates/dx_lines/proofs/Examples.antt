@@ -123,6 +123,44 @@ club_rules : kept_rules club_lines clubs seen ≡
     ∷ []
 club_rules = refl
 
+-- ---- dept(dname, city), emp(eid, name, dname) with a link to dept, phone(eid, num) with a link to emp;
+-- unit(#id, uname, place), staff(#up, sid, sname, phone) in it, number(num, who)
+
+abbrev phones : List Table
+phones = table 2 [] ∷ table 3 (link 2 0 0 ∷ []) ∷ table 2 (link 0 1 0 ∷ []) ∷ []
+
+abbrev numbers : List Table
+numbers = table 3 [] ∷ table 4 (link 0 0 0 ∷ []) ∷ table 2 [] ∷ []
+
+abbrev phone_lines : List Line
+phone_lines =
+    from_column 0 0 0 1 ∷ from_column 0 1 0 2
+    ∷ from_column 1 0 1 1 ∷ from_column 1 1 1 2 ∷ from_column 2 1 1 3
+    ∷ from_column 2 1 2 0 ∷ from_column 1 1 2 1 ∷ []
+
+-- dept(x0, x1) -> unit(y0, x0, x1); of an employee and of a phone its staff row in its unit, and its number
+phone_rules : kept_rules phone_lines phones numbers ≡
+    rule (atom 0 (Var 0 ∷ Var 1 ∷ []) ∷ []) (atom 0 (Ex 0 ∷ Var 0 ∷ Var 1 ∷ []) ∷ [])
+    ∷ rule (atom 1 (Var 0 ∷ Var 1 ∷ Var 2 ∷ []) ∷ atom 0 (Var 2 ∷ Var 3 ∷ []) ∷ [])
+    (atom 1 (Ex 0 ∷ Var 0 ∷ Var 1 ∷ Ex 1 ∷ []) ∷ atom 0 (Ex 0 ∷ Var 2 ∷ Var 3 ∷ []) ∷ [])
+    ∷ rule (atom 1 (Var 0 ∷ Var 1 ∷ Var 2 ∷ []) ∷ atom 0 (Var 2 ∷ Var 3 ∷ []) ∷ []) (atom 2 (Ex 0 ∷ Var 1 ∷ []) ∷ [])
+    ∷ rule (atom 2 (Var 0 ∷ Var 1 ∷ []) ∷ atom 1 (Var 0 ∷ Var 2 ∷ Var 3 ∷ []) ∷ atom 0 (Var 3 ∷ Var 4 ∷ []) ∷ [])
+    (atom 1 (Ex 0 ∷ Var 0 ∷ Var 2 ∷ Var 1 ∷ []) ∷ atom 0 (Ex 0 ∷ Var 3 ∷ Var 4 ∷ []) ∷ [])
+    ∷ rule (atom 2 (Var 0 ∷ Var 1 ∷ []) ∷ atom 1 (Var 0 ∷ Var 2 ∷ Var 3 ∷ []) ∷ atom 0 (Var 3 ∷ Var 4 ∷ []) ∷ []) (atom 2 (Var 1 ∷ Var 2 ∷ []) ∷ [])
+    ∷ []
+phone_rules = refl
+
+-- ---- edge(a, b); node(n), and arc(from, to) with two links to it: a line into node makes of each edge an arc from a node to itself
+
+abbrev arcs : List Table
+arcs = table 1 [] ∷ table 2 (link 0 0 0 ∷ link 1 0 0 ∷ []) ∷ []
+
+arc_rules : kept_rules (from_column 0 0 0 0 ∷ []) (table 2 [] ∷ []) arcs ≡
+    rule (atom 0 (Var 0 ∷ Var 1 ∷ []) ∷ []) (atom 0 (Var 0 ∷ []) ∷ [])
+    ∷ rule (atom 0 (Var 0 ∷ Var 1 ∷ []) ∷ []) (atom 1 (Var 0 ∷ Var 0 ∷ []) ∷ atom 0 (Var 0 ∷ []) ∷ atom 0 (Var 0 ∷ []) ∷ [])
+    ∷ []
+arc_rules = refl
+
 -- ---- conversions and literals
 
 -- a conversion gives a derived variable, and a literal line a text
