@@ -1,7 +1,14 @@
 //! The program: it reads `./NAME`, writes `./out/NAME`, and says to standard output.
+//!
+//! `main` gives the top call `run` of `clio_top` the words of the command line, the folder, and the shipped conversions, says
+//! the message of an ending that is not `Done` to standard error, and ends with its status. The two adapters meet the
+//! clauses of `Inputs` and `Outputs` and tell nothing of what the folder holds; that they read and write its files as they
+//! are is tested.
 #![tactic(auto)]
 
 ghost use Rattle.std.specs.Prelude.{◌≡◌, IfOk, length};
+ghost use Rattle.std.specs.Process.{exit_status};
+ghost use Rattle.clio_top.specs.Ending.{status_of};
 ghost use Rattle.dx_funcs.specs.Offers.{IsListed};
 ghost use Rattle.dx_funcs.specs.Shipped.{shipped_apply, shipped_conversions};
 
@@ -35,13 +42,26 @@ fn words(rt: &(impl Env + AllocGlobal)) -> io::Result<Vec<Text>> {
     Ok(words)
 }
 
+// Says the message of an ending, and gives its status.
+fn ended(rt: &(impl Eprint + AllocGlobal), ending: &Ending) -> ExitCode
+    ensures { exit_status result ≡ status_of ending.now }
+{
+    let status = ending.status();
+    if status != 0 {
+        if let Ok(message) = message(rt.alloc(), ending) {
+            let _ = eprintln!(rt; "{message}");
+        }
+    }
+    ExitCode::from(status)
+}
+
 fn main(rt: HostRuntime) -> ExitCode {
     let Ok(words) = words(&rt) else {
-        return ExitCode::from(Ending::Memory.status());
+        return ended(&rt, &Ending::Memory);
     };
     let alloc = rt.alloc();
     let Ok(list) = shipped_list(alloc) else {
-        return ExitCode::from(Ending::Memory.status());
+        return ended(&rt, &Ending::Memory);
     };
     let conversions = |code: u32, args: &Items<Text>| -> Result<Text, AllocError>
         requires { IsListed shipped_conversions code (length args.now) }
@@ -51,13 +71,7 @@ fn main(rt: HostRuntime) -> ExitCode {
     let mut inputs = FolderInputs::new(&rt);
     let mut outputs = FolderOutputs::new(&rt);
     let ending = run(alloc, &words, &mut inputs, &mut outputs, &host);
-    let status = ending.status();
-    if status != 0 {
-        if let Ok(message) = message(alloc, &ending) {
-            let _ = eprintln!(rt; "{message}");
-        }
-    }
-    ExitCode::from(status)
+    ended(&rt, &ending)
 }
 
 #[cfg(test)]

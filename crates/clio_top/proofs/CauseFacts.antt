@@ -14,8 +14,7 @@ use Rattle.dx_model.specs.Values.{Conversions, Rows, Tuple}
 use Rattle.dx_model.specs.Rules.{Ascend, AreRows, IsRows}
 use Rattle.dx_schema.specs.Tables.{TableOf, tables_of}
 use Rattle.dx_csv.specs.declared.fault.RowKind.{RowKind}
-use Rattle.dx_csv.specs.Left.{table_records}
-use Rattle.dx_csv.specs.Table.{IsTable, IsAtFault}
+use Rattle.dx_csv.specs.Table.{IsTable, IsAtFault, table_records}
 use Rattle.dx_csv.proofs.OneReading.{table-is-one, fault-is-one, faults-exclude}
 use Rattle.dx_tgd.specs.Counting.{rows_in, canonical_cells}
 use Rattle.clio_top.specs.declared.mapping.Mapping.{Mapping}
@@ -33,10 +32,10 @@ use Rattle.clio_top.specs.declared.ending.RowsFault.TheVariants as rows_faults
 use Rattle.clio_top.specs.Mapping.{IsMappingOf, IsRefused}
 use Rattle.clio_top.specs.TableFiles.{csv_name}
 use Rattle.clio_top.specs.Source.{FirstStops, IsFaulty, IsSourceOf, PassesBytes, ReadsSource, ReadsTable, StopsAt, data_bytes}
-use Rattle.clio_top.specs.Source.{PassesCells as PassesSourceCells}
+use Rattle.clio_top.specs.Source.{PassesSourceCells}
 use Rattle.clio_top.specs.Exchanging.{HoldsText, HoldsMapping}
-use Rattle.clio_top.specs.Ending.{HasCause, IsCommand, IsExchange, IsShow, IsDoneOf, FormRefused, TextRefused, PassesCells, PassesText, SourceStops, words_of}
-use Rattle.clio_top.specs.Causes.{InFormOrRefused, IsExchangeable, IsInForm, IsOutside, IsRefusal, IsUnrefused, OneRefusal}
+use Rattle.clio_top.specs.Ending.{HasCause, IsCommand, IsExchange, IsShow, IsDoneOf, FormRefused, TextRefused, PassesTargetCells, PassesText, SourceStops, words_of}
+use Rattle.clio_top.specs.Causes.{InFormUnrefused, IsExchangeable, IsInForm, IsOutside, IsRefusal, IsUnrefused, OneRefusal}
 use Rattle.clio_top.proofs.EndingFacts.{ending_of}
 use Rattle.clio_top.proofs.RefusalFacts.{same_mapping_of, one_refused, accepted_or_refused}
 use Rattle.clio_top.proofs.OneAscending.{one_ascending}
@@ -215,7 +214,7 @@ data TextStops (list : List Conversion) (m : Held) (e : Ending) : Type 0 where
 data ExchangeStops (list : List Conversion) (m : Held) (e : Ending) : Type 0 where
   by_form : (f : MapFault) → e ≡ endings.Mapping f → FormRefused list m f → ExchangeStops list m e
   by_source : SourceStops list m e → ExchangeStops list m e
-  by_cells : (l : Limit) → e ≡ endings.Limit l → PassesCells list m l → ExchangeStops list m e
+  by_cells : (l : Limit) → e ≡ endings.Limit l → PassesTargetCells list m l → ExchangeStops list m e
 
 -- a refusal is by the text, or, of an exchange, by what comes behind it
 abbrev Why : List Conversion → List (List ℕ) → Held → Ending → Type 0
@@ -227,7 +226,7 @@ mapping_why list words m f (inl c) = inl (refused c.0 (faults.Mapping f) refl c.
 mapping_why list words m f (inr c) = inr (c.0, by_form f refl c.1)
 
 limit_why : (list : List Conversion) (words : List (List ℕ)) (m : Held) (l : Limit)
-    → PassesText m l ⊎ (TextRefused list m (faults.Limit l) ⊎ (IsExchange words × (SourceStops list m (endings.Limit l) ⊎ PassesCells list m l)))
+    → PassesText m l ⊎ (TextRefused list m (faults.Limit l) ⊎ (IsExchange words × (SourceStops list m (endings.Limit l) ⊎ PassesTargetCells list m l)))
     → Why list words m (endings.Limit l)
 limit_why list words m l (inl c) = inl (long_text l refl c)
 limit_why list words m l (inr (inl c)) = inl (refused c.0 (faults.Limit l) refl c.1 c.2)
@@ -352,7 +351,7 @@ why_not list words m e (inl p) (inr f) = mapping_or_stop list m f.1.0 e f.1.1 p
 why_not list words m e (inr p) (inl f) = exchangeable_or_stop list m e f.1 p.1
 why_not list words m e (inr p) (inr f) = other_words words p.0 f.0
 
-pub in_form_or_refused : InFormOrRefused
+pub in_form_or_refused : InFormUnrefused
 in_form_or_refused list words m e r c = why_not list words m e (by_cause list words m e r c)
 
 -- ---- the endings of a run

@@ -20,3 +20,4 @@ pub mod PlanFacts
 pub mod OneAscending
 pub mod RefusalFacts
 pub mod CauseFacts
+pub mod Decided

@@ -52,6 +52,7 @@ use Rattle.clio_top.proofs.PrintFacts.{accepted_printable}
 use Rattle.clio_top.proofs.Words.{not_in_word}
 use Rattle.clio_top.proofs.PlainFacts.{matches_each, matches_fit}
 use Rattle.clio_top.proofs.RightFacts.{plain_is_right, same_all_rows}
+use Rattle.clio_top.proofs.RefusalFacts.{same_some}
 
 -- what is told of one thing is told of another
 pub if_some : {X : Type 0} (o : Option X) (P Q : X → Type 0) → ((x : X) → P x → Q x) → IfSome o P → IfSome o Q
@@ -70,11 +71,8 @@ for_words list holds words e h = if_some holds (λ m. (ws : List (List ℕ)) →
 -- ---- an accepted mapping
 
 -- one text is held
-same_some : {x y : List ℕ} (o : Option (List ℕ)) → o ≡ Some x → o ≡ Some y → x ≡ y
-same_some o p q = cc
-
 same_text : (m : Held) (other text : List ℕ) → HoldsText m other → HoldsText m text → other ≡ text
-same_text m other text p q = same_some (get m (codes "mapping.clio")) p.held q.held
+same_text m other text p q = same_some (get m (codes "mapping.clio")) other text p.held q.held
 
 -- what was read of a text that is held
 pub accepted_from : (list : List Conversion) (holds : Option Held) (text : List ℕ) (a : Accepted) → IfSome holds (λ m. HoldsText m text) → IsMappingOf list text a.mapping

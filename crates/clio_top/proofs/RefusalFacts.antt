@@ -81,7 +81,7 @@ no_lines lines e few a = let many = a.0 in omega (arith, few, many)
 no_naming : (list : List Conversion) (source target : Forest) (lines : List LineText) (e : AcceptFault) → lines_fault source target list lines ≡ None → ¬ (NamingRefused list source target lines e)
 no_naming list source target lines e none a = let some = a.1 in cc
 
-same_some : {X : Type 0} (o : Option X) (x y : X) → o ≡ Some x → o ≡ Some y → x ≡ y
+pub same_some : {X : Type 0} (o : Option X) (x y : X) → o ≡ Some x → o ≡ Some y → x ≡ y
 same_some o x y a b = cc
 
 one_naming : (list : List Conversion) (source target : Forest) (lines : List LineText) (d e : AcceptFault) → NamingRefused list source target lines d → NamingRefused list source target lines e → d ≡ e

@@ -13,8 +13,7 @@ use Rattle.dx_instance.specs.Stored.{table_at as table_rows}
 use Rattle.dx_instance.proofs.StoredFacts.{row_from_fact}
 use Rattle.dx_schema.specs.Forest.{Forest}
 use Rattle.dx_schema.specs.Tables.{TableOf, tables_of, table_at}
-use Rattle.dx_csv.specs.Left.{table_records}
-use Rattle.dx_csv.specs.Table.{IsTable}
+use Rattle.dx_csv.specs.Table.{IsTable, table_records}
 use Rattle.clio_top.specs.declared.ending.Ending.{Ending}
 use Rattle.clio_top.specs.declared.ending.Ending.TheVariants as endings
 use Rattle.clio_top.specs.declared.source.Reading.{Reading}

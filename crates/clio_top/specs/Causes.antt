@@ -57,5 +57,5 @@ OneRefusal =
     (list : List Conversion) (words : List (List ℕ)) (m : Held) (e f : Ending) → IsRefusal e → IsRefusal f → HasCause list words m e → HasCause list words m f → e ≡ f
 
 -- what is in form has no reason to refuse it
-abbrev pub InFormOrRefused : Type 0
-InFormOrRefused = (list : List Conversion) (words : List (List ℕ)) (m : Held) (e : Ending) → IsRefusal e → HasCause list words m e → ¬ (IsInForm list words m)
+abbrev pub InFormUnrefused : Type 0
+InFormUnrefused = (list : List Conversion) (words : List (List ℕ)) (m : Held) (e : Ending) → IsRefusal e → HasCause list words m e → ¬ (IsInForm list words m)

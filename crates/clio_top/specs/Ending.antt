@@ -38,6 +38,7 @@ abbrev pub words_of : Command → List (List ℕ)
 words_of Exchanging = codes "exchange" ∷ []
 words_of Showing = codes "show" ∷ []
 
+-- the words are `exchange`, `show`
 abbrev pub IsExchange : List (List ℕ) → Type 0
 IsExchange words = words ≡ words_of Exchanging
 
@@ -138,7 +139,7 @@ abbrev pub SourceStops : List Conversion → Held → Ending → Type 0
 SourceStops list m s = (M : Mapping) × HoldsMapping list m M × HoldsFlat m × FirstStops m 0 0 (tables_of M.source) s
 
 -- the mapping's canonical instance has too many cells
-pub record PassesCells (list : List Conversion) (m : Held) (l : Limit) : Type 0 where
+pub record PassesTargetCells (list : List Conversion) (m : Held) (l : Limit) : Type 0 where
   pub M : Mapping
   pub I : List Fact
   pub rows : Rows
@@ -162,7 +163,7 @@ HasCause list words m (endings.Mapping map_faults.Absent) = get m (codes "mappin
 HasCause list words m (endings.Mapping fault) = TextRefused list m (accept_faults.Mapping fault) ⊎ (IsExchange words × FormRefused list m fault)
 HasCause list words m (endings.Rows file fault) = IsExchange words × SourceStops list m (endings.Rows file fault)
 HasCause list words m (endings.Limit l) =
-    PassesText m l ⊎ (TextRefused list m (accept_faults.Limit l) ⊎ (IsExchange words × (SourceStops list m (endings.Limit l) ⊎ PassesCells list m l)))
+    PassesText m l ⊎ (TextRefused list m (accept_faults.Limit l) ⊎ (IsExchange words × (SourceStops list m (endings.Limit l) ⊎ PassesTargetCells list m l)))
 HasCause list words m (endings.ReadFault file) = Unit {0}
 HasCause list words m (endings.WriteFault files) = (d : Done) × IsDoneOf list words m d
 HasCause list words m endings.Memory = Unit {0}

@@ -28,9 +28,11 @@ line_from (sources.Column p) t = Some (record { source_set = p.set; source_colum
 line_from (sources.Literal text) t = None
 line_from (sources.Call name place args) t = None
 
+-- a line of a text by the names of its two columns, where it is from a column
 abbrev pub flat_line : LineText → Option FlatLine
 flat_line l = line_from l.source l.target
 
+-- a line and the others, where each of them is from a column
 abbrev pub with_line : Option FlatLine → Option (List FlatLine) → Option (List FlatLine)
 with_line None rest = None
 with_line (Some l) None = None

@@ -9,8 +9,7 @@ use Rattle.dx_model.specs.declared.facts.Fact.{Fact}
 use Rattle.dx_instance.specs.Stored.{TableRows, facts, rows_of, widths}
 use Rattle.dx_schema.specs.Forest.{Forest}
 use Rattle.dx_schema.specs.Tables.{TableOf}
-use Rattle.dx_csv.specs.Left.{table_records}
-use Rattle.dx_csv.specs.Table.{IsAtFault}
+use Rattle.dx_csv.specs.Table.{IsAtFault, table_records}
 use Rattle.clio_top.specs.declared.ending.Ending.{Ending}
 use Rattle.clio_top.specs.declared.ending.Ending.TheVariants as endings
 use Rattle.clio_top.specs.declared.ending.RowsFault.TheVariants.{Absent, Csv}

@@ -43,6 +43,7 @@ pub record IsFirstReserved (f : Forest) (name : List ℕ) : Type 0 where
 
 -- ---- what is answered of a fault
 
+-- why a mapping is refused, where this is the fault of its text, of its source sets, of its target sets
 abbrev pub text_refusal : TextFault → AcceptFault
 text_refusal (text_faults.At place kind) = faults.Mapping (map_faults.Text place kind)
 text_refusal (text_faults.TooDeep place) = faults.Limit (record { what = Depth; number = 16 })
@@ -155,3 +156,19 @@ IsUnaccepted list m e =
 pub data IsRefused (list : List Conversion) (text : List ℕ) (e : AcceptFault) : Type 0 where
   by_text : (f : TextFault) → IsTextFault text f → e ≡ text_refusal f → IsRefused list text e
   by_mapping : (m : MappingText) → IsMappingText text m → IsUnaccepted list m e → IsRefused list text e
+
+-- ---- one or the other
+
+-- a text has at most one mapping, and at most one reason for which it is refused first
+abbrev pub OneMappingOf : Type 0
+OneMappingOf = (list : List Conversion) (text : List ℕ) (M N : Mapping) → IsMappingOf list text M → IsMappingOf list text N → M ≡ N
+
+abbrev pub OneReason : Type 0
+OneReason = (list : List Conversion) (text : List ℕ) (d e : AcceptFault) → IsRefused list text d → IsRefused list text e → d ≡ e
+
+-- it has one of the two, and never both
+abbrev pub MappingOrRefusal : Type 0
+MappingOrRefusal = (list : List Conversion) (text : List ℕ) → ((M : Mapping) × IsMappingOf list text M) ⊎ ((e : AcceptFault) × IsRefused list text e)
+
+abbrev pub NeverBoth : Type 0
+NeverBoth = (list : List Conversion) (text : List ℕ) (M : Mapping) (e : AcceptFault) → IsMappingOf list text M → ¬ (IsRefused list text e)

@@ -50,6 +50,7 @@ schema_kind_text (schema_kinds.UnknownName name) = codes "unknown name " ++ name
 schema_kind_text (schema_kinds.CyclicLinks name) = codes "cyclic links at " ++ name
 schema_kind_text (schema_kinds.BadLink name) = codes "bad link in " ++ name
 
+-- what is wrong with the mapping text
 abbrev pub map_fault_text : MapFault → Text
 map_fault_text map_faults.Absent = codes "mapping.clio is absent"
 map_fault_text (map_faults.Text place kind) = text_kind_text kind ++ (codes " at byte " ++ decimal place)
@@ -65,6 +66,7 @@ kind_text (kinds.Header n) = codes "header at column " ++ decimal n
 kind_text (kinds.Width n) = codes "width of record " ++ decimal n
 kind_text (kinds.NotText n) = codes "record " ++ (decimal n ++ codes " is not text")
 
+-- what is wrong with a source file
 abbrev pub rows_fault_text : Text → RowsFault → Text
 rows_fault_text file rows_faults.Absent = file ++ codes " is absent"
 rows_fault_text file (rows_faults.Csv kind) = file ++ (codes ": " ++ kind_text kind)

@@ -38,9 +38,11 @@ file_of s = (s.name, lines_text (s.header ∷ s.records))
 abbrev pub line_of : Sheet → Text
 line_of s = s.name ++ (codes " " ++ (decimal (length s.records) ++ codes "\n"))
 
+-- the files in order
 abbrev pub files_of : List Sheet → List Entry
 files_of sheets = map file_of sheets
 
+-- the summary: a line for each file
 abbrev pub summary_of : List Sheet → Text
 summary_of sheets = flat_map line_of sheets
 

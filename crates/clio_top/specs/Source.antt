@@ -9,8 +9,7 @@ use Rattle.dx_model.specs.declared.facts.Fact.{Fact}
 use Rattle.dx_schema.specs.Tables.{TableOf}
 use Rattle.clio_top.specs.TableFiles.{csv_name}
 use Rattle.dx_csv.specs.declared.fault.RowKind.{RowKind}
-use Rattle.dx_csv.specs.Left.{table_records}
-use Rattle.dx_csv.specs.Table.{IsTable, IsAtFault}
+use Rattle.dx_csv.specs.Table.{IsTable, IsAtFault, table_records}
 use Rattle.clio_top.specs.declared.ending.Ending.{Ending}
 use Rattle.clio_top.specs.declared.ending.Ending.TheVariants as endings
 use Rattle.clio_top.specs.declared.ending.RowsFault.TheVariants.{Absent, Csv}
@@ -50,8 +49,8 @@ PassesBytes m t used l =
     (bytes : List ℕ) × (l ≡ record { what = DataBytes; number = data_bytes }) × (get m (csv_name t.name) ≡ Some bytes) × (data_bytes < used + length bytes)
 
 -- the file's rows have too many cells
-abbrev pub PassesCells : Held → TableOf → ℕ → ℕ → Limit → Type 0
-PassesCells m t used cells l =
+abbrev pub PassesSourceCells : Held → TableOf → ℕ → ℕ → Limit → Type 0
+PassesSourceCells m t used cells l =
     (bytes : List ℕ) × (rows : List (List Value)) × (l ≡ record { what = SourceCells; number = source_cells }) × (get m (csv_name t.name) ≡ Some bytes)
     × (used + length bytes ≤ data_bytes) × IsTable (table_records bytes) t.columns rows × (source_cells < cells + length rows * length t.columns)
 
@@ -64,7 +63,7 @@ IsFaulty m t used kind =
 abbrev pub StopsAt : Held → TableOf → ℕ → ℕ → Ending → Type 0
 StopsAt m t used cells (endings.Rows file Absent) = (file ≡ csv_name t.name) × (get m file ≡ None)
 StopsAt m t used cells (endings.Rows file (Csv kind)) = (file ≡ csv_name t.name) × IsFaulty m t used kind
-StopsAt m t used cells (endings.Limit l) = PassesBytes m t used l ⊎ PassesCells m t used cells l
+StopsAt m t used cells (endings.Limit l) = PassesBytes m t used l ⊎ PassesSourceCells m t used cells l
 StopsAt m t used cells _ = ⊥
 
 -- the first of the tables' files that stops the run stops it so

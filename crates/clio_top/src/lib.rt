@@ -20,7 +20,7 @@ mod writing;
 
 pub use ending::{Done, Ending, MapFault, RowsFault};
 pub use exchange::Exchange;
-pub use laws::refusals_exclude;
+pub use laws::{a_text_is_accepted_or_refused, refusals_exclude};
 pub use mapping::{AcceptFault, Mapping, accept};
 pub use messages::message;
 pub use top::run;

@@ -134,6 +134,10 @@ fn message_string(alloc: Global, ending: &Ending) -> Result<String, AllocError>
 }
 
 /// The text of an ending, without a line feed: the empty text where all was done.
+///
+/// # Errors
+///
+/// `AllocError` where there is no memory.
 pub fn message(alloc: Global, ending: &Ending) -> Result<Text, AllocError>
     ensures { IfOk result (λ t. t ≡ message_of ending.now) }
 {

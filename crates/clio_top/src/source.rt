@@ -2,16 +2,14 @@
 ghost use Rattle.std.specs.Prelude.{◌≡◌, ◌+◌, ◌*◌, ◌≤◌, ◌<◌, ◌-◌, ◌^◌, ℕ, List, [], length, IfOk, IfErr, OnOk, IfSome, MatchOption, Some};
 ghost use Rattle.std.specs.FinMap.{get};
 ghost use Rattle.dx_ports.specs.Members.{◌⊆◌, Each};
-ghost use Rattle.dx_ports.specs.Faults.{Rose};
 ghost use Rattle.dx_model.specs.declared.facts.Fact.{Fact};
 ghost use Rattle.dx_instance.specs.Stored.{facts, rows_of, widths, without_rows, table_at as table_rows};
 ghost use Rattle.dx_schema.specs.Tables.{table_at, tables_of};
-ghost use Rattle.dx_csv.specs.Left.{table_records};
-ghost use Rattle.dx_csv.specs.Table.{IsTable};
+ghost use Rattle.dx_csv.specs.Table.{IsTable, table_records};
 ghost use Rattle.clio_top.specs.Source.{FirstStops, IsSourceOf, OnRefusal, StopsAt, source_cells};
 ghost use Rattle.clio_top.specs.Loading.{AddsFacts, HasRead, IsNotFetched, IsNotLoaded, IsReading};
 ghost use Rattle.clio_top.specs.TableFiles.{csv_name, schema_widths};
-ghost use Rattle.clio_top.specs.Reads.{OnReadFault};
+ghost use Rattle.clio_top.specs.Reads.{HasReadFault};
 
 use crate::ending::{Ending, RowsFault};
 use dx_csv::{RowFault, load_table};
@@ -54,8 +52,7 @@ fn fetch_table<I: Inputs>(
     ensures bytes { IfOk result (λ bytes. IfSome (I.holds inputs.old) (λ m. get m file.now ≡ Some bytes.items)) }
     ensures size { IfOk result (λ bytes. length bytes.items ≤ left) }
     ensures refused { IfErr result (λ e. IfSome (I.holds inputs.old) (λ m. IsNotFetched m file.now left e)) }
-    ensures read { IfErr result (λ e. OnReadFault e (λ name. Rose (I.faults inputs.old) (I.faults inputs.new)
-        × IfSome (I.stopped inputs.new) (λ stopped. stopped ≡ name))) }
+    ensures read { IfErr result (HasReadFault (I.faults inputs.old) (I.faults inputs.new) (I.stopped inputs.new)) }
     ensures early { IfErr result (λ e. OnRefusal e (Unit {0})) }
 {
     let mut bytes = Vec::new(alloc);
@@ -134,8 +131,7 @@ fn read_table<I: Inputs>(
     ensures reading { OnOk result (IsReading schema.now (table + 1) reading.new) }
     ensures refused { IfErr result (λ e. IfSome (I.holds inputs.old) (λ m.
         OnRefusal e (StopsAt m (table_at schema.now table) reading.old.bytes reading.old.cells e))) }
-    ensures read { IfErr result (λ e. OnReadFault e (λ name. Rose (I.faults inputs.old) (I.faults inputs.new)
-        × IfSome (I.stopped inputs.new) (λ stopped. stopped ≡ name))) }
+    ensures read { IfErr result (HasReadFault (I.faults inputs.old) (I.faults inputs.new) (I.stopped inputs.new)) }
     ensures early { IfErr result (λ e. OnRefusal e (Unit {0})) }
 {
     let columns = schema.columns(table);
@@ -186,8 +182,7 @@ pub(crate) fn read_source<I: Inputs>(
         (J : List Fact) × IsSourceOf m (tables_of schema.now) J × (J ⊆ facts instance) × (facts instance ⊆ J))) }
     ensures widths { IfOk result (λ instance. widths instance ≡ schema_widths schema.now) }
     ensures refused { IfErr result (λ e. IfSome (I.holds inputs.old) (λ m. OnRefusal e (FirstStops m 0 0 (tables_of schema.now) e))) }
-    ensures read { IfErr result (λ e. OnReadFault e (λ name. Rose (I.faults inputs.old) (I.faults inputs.new)
-        × IfSome (I.stopped inputs.new) (λ stopped. stopped ≡ name))) }
+    ensures read { IfErr result (HasReadFault (I.faults inputs.old) (I.faults inputs.new) (I.stopped inputs.new)) }
     ensures early { IfErr result (λ e. OnRefusal e (Unit {0})) }
 {
     let mut reading = match empty_reading(alloc, schema) {

@@ -14,7 +14,7 @@ ghost use Rattle.clio_top.specs.declared.command.Command.{Command as CommandOf};
 ghost use Rattle.clio_top.specs.declared.command.Command.TheVariants.{Exchanging, Showing};
 ghost use Rattle.clio_top.specs.declared.ending.Ending.{Ending as EndingOf};
 ghost use Rattle.clio_top.specs.Causes.{IsInForm, IsOutside, IsRefusal, IsUnrefused};
-ghost use Rattle.clio_top.specs.Reads.{OnReadFault};
+ghost use Rattle.clio_top.specs.Reads.{HasReadFault};
 ghost use Rattle.clio_top.specs.Plain.{FitsBoth, IsPlain};
 ghost use Rattle.clio_top.specs.Planning.{ExchangeStops, IsAcceptedFrom, IsPlan, IsPlanOf, IsPrinted};
 ghost use Rattle.clio_top.specs.Printed.{FitsFiles, ArePrintable};
@@ -49,8 +49,7 @@ fn fetch_text<I: Inputs>(alloc: Global, inputs: &mut I) -> Result<Vec<u8>, Endin
     ensures counted { I.faults inputs.old ≤ I.faults inputs.new }
     ensures text { IfOk result (λ text. IfSome (I.holds inputs.old) (λ m. HoldsText m text.items)) }
     ensures cause { IfErr result (λ e. IfSome (I.holds inputs.old) (λ m. IsStopOfText m e)) }
-    ensures read { IfErr result (λ e. OnReadFault e (λ file. Rose (I.faults inputs.old) (I.faults inputs.new)
-        × IfSome (I.stopped inputs.new) (λ name. name ≡ file))) }
+    ensures read { IfErr result (HasReadFault (I.faults inputs.old) (I.faults inputs.new) (I.stopped inputs.new)) }
     ensures early { IfErr result IsEarly }
 {
     let Ok(name) = Text::from_str(alloc, "mapping.clio") else {
@@ -82,8 +81,7 @@ where
     ensures counted { I.faults inputs.old ≤ I.faults inputs.new }
     ensures accepted { IfOk result (IsAcceptedFrom (offered host.now) (I.holds inputs.old)) }
     ensures cause { IfErr result (λ e. IfSome (I.holds inputs.old) (λ m. (words : List (List ℕ)) → HasCause (offered host.now) words m e)) }
-    ensures read { IfErr result (λ e. OnReadFault e (λ file. Rose (I.faults inputs.old) (I.faults inputs.new)
-        × IfSome (I.stopped inputs.new) (λ name. name ≡ file))) }
+    ensures read { IfErr result (HasReadFault (I.faults inputs.old) (I.faults inputs.new) (I.stopped inputs.new)) }
     ensures early { IfErr result IsEarly }
 {
     let text = fetch_text(alloc, inputs)?;
@@ -135,8 +133,7 @@ where
     ensures counted { I.faults inputs.old ≤ I.faults inputs.new }
     ensures planned { IfOk result (IsPlan (offered host.now) (words_of Exchanging) (I.holds inputs.old)) }
     ensures cause { IfErr result (λ e. IfSome (I.holds inputs.old) (λ m. HasCause (offered host.now) (words_of Exchanging) m e)) }
-    ensures read { IfErr result (λ e. OnReadFault e (λ file. Rose (I.faults inputs.old) (I.faults inputs.new)
-        × IfSome (I.stopped inputs.new) (λ name. name ≡ file))) }
+    ensures read { IfErr result (HasReadFault (I.faults inputs.old) (I.faults inputs.new) (I.stopped inputs.new)) }
     ensures early { IfErr result IsEarly }
 {
     let accepted = accepted(alloc, inputs, host)?;
@@ -181,8 +178,7 @@ where
     ensures counted { I.faults inputs.old ≤ I.faults inputs.new }
     ensures planned { IfOk result (IsPlan (offered host.now) (words_of Showing) (I.holds inputs.old)) }
     ensures cause { IfErr result (λ e. IfSome (I.holds inputs.old) (λ m. HasCause (offered host.now) (words_of Showing) m e)) }
-    ensures read { IfErr result (λ e. OnReadFault e (λ file. Rose (I.faults inputs.old) (I.faults inputs.new)
-        × IfSome (I.stopped inputs.new) (λ name. name ≡ file))) }
+    ensures read { IfErr result (HasReadFault (I.faults inputs.old) (I.faults inputs.new) (I.stopped inputs.new)) }
     ensures early { IfErr result IsEarly }
 {
     let accepted = accepted(alloc, inputs, host)?;
@@ -206,8 +202,7 @@ where
     ensures counted { I.faults inputs.old ≤ I.faults inputs.new }
     ensures planned { IfOk result (IsPlan (offered host.now) (words_of command) (I.holds inputs.old)) }
     ensures cause { IfErr result (λ e. IfSome (I.holds inputs.old) (λ m. HasCause (offered host.now) (words_of command) m e)) }
-    ensures read { IfErr result (λ e. OnReadFault e (λ file. Rose (I.faults inputs.old) (I.faults inputs.new)
-        × IfSome (I.stopped inputs.new) (λ name. name ≡ file))) }
+    ensures read { IfErr result (HasReadFault (I.faults inputs.old) (I.faults inputs.new) (I.stopped inputs.new)) }
     ensures early { IfErr result IsEarly }
 {
     match command {
@@ -257,8 +252,7 @@ where
     ensures usage { (result ≡ Ending.Usage) ↔ ¬ (IsCommand words.now.items) }
     ensures kept { I.holds inputs.new ≡ I.holds inputs.old }
     ensures cause { IfSome (I.holds inputs.old) (λ m. HasCause (offered host.now) words.now.items m result) }
-    ensures read { OnReadFault result (λ file. Rose (I.faults inputs.old) (I.faults inputs.new)
-        × IfSome (I.stopped inputs.new) (λ name. name ≡ file)) }
+    ensures read { HasReadFault (I.faults inputs.old) (I.faults inputs.new) (I.stopped inputs.new) result }
     ensures write { OnWriteFault result (Rose (O.faults outputs.old) (O.faults outputs.new)) }
     ensures left { Leaves (offered host.now) words.now.items (I.holds inputs.old)
         (record { files = O.files outputs.old; said = O.said outputs.old })
@@ -300,8 +294,7 @@ where
     ensures complete { IfSome (I.holds inputs.old) (λ m. IsInForm (offered host.now) words.now.items m → IsUnrefused result) }
 
     // No fault is answered that nothing outside has had.
-    ensures read { OnReadFault result (λ file. Rose (I.faults inputs.old) (I.faults inputs.new)
-        × IfSome (I.stopped inputs.new) (λ name. name ≡ file)) }
+    ensures read { HasReadFault (I.faults inputs.old) (I.faults inputs.new) (I.stopped inputs.new) result }
     ensures write { OnWriteFault result (Rose (O.faults outputs.old) (O.faults outputs.new)) }
 
     ensures left { Leaves (offered host.now) words.now.items (I.holds inputs.old)

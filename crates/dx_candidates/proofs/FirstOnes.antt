@@ -1,9 +1,8 @@
 -- What lines say that they say once.
-use Rattle.std.proofs.Common.{◌≡◌, ℕ, ◌&&◌, ◌||◌, cond, eqb, Some, None, List, [], ◌∷◌, ◌++◌, inl, inr, length, refl, sym, ◌∙◌, ap, subst}
-use Rattle.std.specs.Prelude.{Bool, true, not, map, nat_lt, Option, nat_eq, flat_map}
+use Rattle.std.proofs.Common.{rules, ◌≡◌, ℕ, ◌&&◌, ◌||◌, cond, eqb, Some, None, List, [], ◌∷◌, ◌++◌, inl, inr, length, refl, sym, ◌∙◌, ap, subst}
+use Rattle.std.specs.Prelude.{Bool, true, not, map, nat_lt, Option, flat_map}
 use Rattle.std.specs.List.{list_any, list_all, filter}
-use Rattle.std.specs.Cmp.Lexicographic.{pointwise, pointwise_decides, bytes_decides}
-use Rattle.std.proofs.lemmas.Bool.{cases_Bool, eqb-true, eq-eqb, and_parts, and_from, cond-true, cond-false, false≢true}
+use Rattle.std.proofs.lemmas.Bool.{cases_Bool, cond-true, cond-false}
 use Rattle.std.proofs.lemmas.List.{append_assoc, append-nil}
 use Rattle.std.proofs.Math.Path.{fun_ext}
 use Rattle.dx_ports.specs.declared.file.Limit.{Limit}
@@ -32,54 +31,38 @@ use Rattle.dx_ways.proofs.Order.{one_ascending}
 use Rattle.dx_ways.proofs.Unlike.{from_unlike, to_unlike}
 use Rattle.dx_ways.proofs.WaysAre.{ways_are, ways_ascend}
 use Rattle.dx_candidates.specs.declared.fault.CandFault.{CandFault}
-use Rattle.dx_candidates.specs.FirstOnes.{same_place, same_origin, same_line, first_ones}
-use Rattle.dx_candidates.proofs.Lists.{from_any}
+use Rattle.dx_candidates.specs.FirstOnes.{same_line, first_ones}
 use Rattle.dx_candidates.proofs.Listed.{IsFirst}
+use Rattle.dx_ports.proofs.Tests.{from_any}
+use Rattle.dx_lines.specs.contracts.line.PlacePartialEq.TheImpl.{eq-value as eq-place}
+use Rattle.dx_lines.specs.contracts.line.OriginPartialEq.TheImpl.{eq-value as eq-origin}
+use Rattle.std.specs.Bool.{Decides}
+use Rattle.std.proofs.lemmas.Slice.Eq.{slice_eq-Decides, bytes_eq-Decides}
 
 -- ---- lines that are one
 
-place_is : (a b : Place) → same_place a b ≡ true → a ≡ b
-place_is a b e =
-    let p = and_parts (nat_eq a.table b.table) (nat_eq a.column b.column) e in
-    let t = eqb-true a.table b.table p.0 in
-    let c = eqb-true a.column b.column p.1 in
-    λ i. record { table = t i; column = c i }
+place_decides : (a b : Place) → Decides (eq-place.it a b) (a ≡ b)
+place_decides a b = search rules
 
-own_place : (a : Place) → same_place a a ≡ true
-own_place a = and_from (nat_eq a.table a.table) (nat_eq a.column a.column) (eq-eqb a.table a.table refl) (eq-eqb a.column a.column refl)
+origin_decides : (a b : Origin) → Decides (eq-origin.it a b) (a ≡ b)
+origin_decides (Column a) (Column b) = search rules
+origin_decides (Column a) (Literal t) = search rules
+origin_decides (Column a) (Call d qs) = search rules
+origin_decides (Literal s) (Column b) = search rules
+origin_decides (Literal s) (Literal t) = search (rules, bytes_eq-Decides)
+origin_decides (Literal s) (Call d qs) = search rules
+origin_decides (Call c ps) (Column b) = search rules
+origin_decides (Call c ps) (Literal t) = search rules
+origin_decides (Call c ps) (Call d qs) = let p = slice_eq-Decides place_decides ps qs _ refl in search (rules, p)
 
-places_decide : (ps qs : List Place) → (pointwise same_place ps qs ≡ true → ps ≡ qs) × (ps ≡ qs → pointwise same_place ps qs ≡ true)
-places_decide = pointwise_decides (λ a b. (place_is a b, λ e. subst (λ (p : Place). same_place a p ≡ true) e (own_place a)))
-
-origin_is : (a b : Origin) → same_origin a b ≡ true → a ≡ b
-origin_is (Column a) (Column b) e = ap Column (place_is a b e)
-origin_is (Column a) (Literal t) e = absurd (false≢true e)
-origin_is (Column a) (Call d qs) e = absurd (false≢true e)
-origin_is (Literal s) (Column b) e = absurd (false≢true e)
-origin_is (Literal s) (Literal t) e = ap Literal ((bytes_decides s t).0 e)
-origin_is (Literal s) (Call d qs) e = absurd (false≢true e)
-origin_is (Call c ps) (Column b) e = absurd (false≢true e)
-origin_is (Call c ps) (Literal t) e = absurd (false≢true e)
-origin_is (Call c ps) (Call d qs) e =
-    let p = and_parts (nat_eq c d) (pointwise same_place ps qs) e in
-    let n = eqb-true c d p.0 in
-    let a = (places_decide ps qs).0 p.1 in
-    cc
-
-own_origin : (a : Origin) → same_origin a a ≡ true
-own_origin (Column a) = own_place a
-own_origin (Literal s) = (bytes_decides s s).1 refl
-own_origin (Call c ps) = and_from (nat_eq c c) (pointwise same_place ps ps) (eq-eqb c c refl) ((places_decide ps ps).1 refl)
+line_decides : (l m : Line) → Decides (same_line l m) (l ≡ m)
+line_decides l m = let o = origin_decides l.source m.source in search (rules, o)
 
 line_is : (l m : Line) → same_line l m ≡ true → l ≡ m
-line_is l m e =
-    let p = and_parts (same_place l.target m.target) (same_origin l.source m.source) e in
-    let t = place_is l.target m.target p.0 in
-    let s = origin_is l.source m.source p.1 in
-    λ i. record { target = t i; source = s i }
+line_is l m e = (line_decides l m).0 e
 
 own_line : (l : Line) → same_line l l ≡ true
-own_line l = and_from (same_place l.target l.target) (same_origin l.source l.source) (own_place l.target) (own_origin l.source)
+own_line l = (line_decides l l).1 refl
 
 -- ---- members
 

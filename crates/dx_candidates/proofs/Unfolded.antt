@@ -20,7 +20,8 @@ use Rattle.dx_lines.specs.Candidates.{upto}
 use Rattle.dx_lines.specs.Limits.{is_wide}
 use Rattle.dx_candidates.specs.Faults.{IsFault, occurrences_limit, wide_fault}
 use Rattle.dx_candidates.specs.Pairs.{IsSound, unfoldings, relation_at}
-use Rattle.dx_candidates.proofs.Lists.{map_upto, any_upto, to_any, in_upto}
+use Rattle.dx_candidates.proofs.Lists.{map_upto, any_upto, in_upto}
+use Rattle.dx_ports.proofs.Tests.{to_any}
 
 pub sound_by : (f : Forest) → AreTables (tables_of f) → IsAcyclic (model_tables f) → IsSound (model_tables f)
 sound_by f a c = record { few = rw length-map a.few_tables; links = links_fit (tables_of f) a; acyclic = c }

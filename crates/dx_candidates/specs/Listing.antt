@@ -14,7 +14,7 @@ use Rattle.dx_candidates.specs.declared.pairs.Pair.{Pair}
 use Rattle.dx_candidates.specs.Pairs.{IsSound, AreRead, AreReached, ArePairs, relation_at, unfoldings, ways_between, have_many_ways, pairs_between}
 use Rattle.dx_candidates.specs.Parts.{is_in_part}
 
--- at most 4,096 variables
+-- at most 4,096 variables: 64 occurrences with 64 columns each
 abbrev pub IsNarrow : Relation → Type 0
 IsNarrow r = r.variables ≤ 4096
 

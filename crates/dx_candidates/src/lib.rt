@@ -2,8 +2,8 @@
 //!
 //! `candidates` and `kept` give exactly the lists of `dx_lines` (specs/Candidates, specs/Rules), or else the first limit
 //! that is passed (specs/Limits). Both read each line once, where it stands first, since a line that stands again says
-//! nothing more. All is counted before it is built. A candidate is dropped where one of the greatest proper parts of its
-//! unfoldings suffices; the law `greatest_parts_decide` says that no other part needs a test.
+//! nothing more. Candidates are counted before one is built. A candidate is dropped where one of the greatest proper
+//! parts of its unfoldings suffices; the law `greatest_parts_decide` says that no other part needs a test.
 #![tactic(auto)]
 
 mod combining;

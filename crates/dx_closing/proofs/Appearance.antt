@@ -6,11 +6,12 @@ use Rattle.std.proofs.lemmas.List.Concat.{flat_map-append}
 use Rattle.dx_model.specs.declared.rules.Cell.{Cell}
 use Rattle.dx_model.specs.declared.rules.Cell.TheVariants.{Var, Ex, Lit}
 use Rattle.dx_model.specs.declared.rules.Atom.{Atom}
-use Rattle.dx_model.specs.Rules.{cells_of}
+use Rattle.dx_model.specs.Rules.{cells_of, existential_in, existentials}
 use Rattle.dx_logical.specs.Laws.{Numbered}
-use Rattle.dx_closing.specs.Closing.{existential_in, existentials, AreNumbered}
+use Rattle.dx_closing.specs.Closing.{AreNumbered}
 use Rattle.dx_closing.proofs.Numbers.{above_numbered, existentials-more}
-use Rattle.dx_closing.proofs.Numbered.{numbered_further, existentials-push}
+use Rattle.dx_logical.proofs.Facts.{numbered_further}
+use Rattle.dx_closing.proofs.Numbered.{existentials-push}
 
 -- what is numbered has its first part numbered, and the others from there on
 numbered_parts : (n m : ℕ) (xs ys : List ℕ) → Numbered n (xs ++ ys) m → (k : ℕ) × Numbered n xs k × Numbered k ys m

@@ -1,5 +1,5 @@
 -- What is added where atoms are gone through.
-use Rattle.std.proofs.Common.{◌≡◌, ℕ, zero, suc, ◌+◌, ◌≤◌, Option, Some, None, List, [], ◌∷◌, ◌++◌, refl, sym, ◌∙◌, ap, arith, inl, inr}
+use Rattle.std.proofs.Common.{◌≡◌, ℕ, zero, suc, ◌+◌, ◌≤◌, Option, Some, None, List, [], ◌∷◌, ◌++◌, length, refl, sym, ◌∙◌, ap, arith, inl, inr}
 use Rattle.std.specs.Prelude.{slice_get}
 use Rattle.std.specs.List.{list_any}
 use Rattle.std.proofs.lemmas.Bool.{cases_Bool, cond-true, cond-false}
@@ -10,7 +10,8 @@ use Rattle.dx_model.specs.declared.tables.Link.{Link}
 use Rattle.dx_model.specs.Tables.{Table, table_of}
 use Rattle.dx_model.specs.Solutions.{cells_in}
 use Rattle.dx_closing.specs.declared.growing.Growing.{Growing}
-use Rattle.dx_closing.specs.Closing.{serves, supplied, through_link, through_links, through_atom, gone}
+use Rattle.dx_closing.specs.Laws.{ClosingKeeps}
+use Rattle.dx_closing.specs.Closing.{serves, supplied, through_link, through_links, through_atom, gone, begun}
 
 -- f of each atom's table, together
 abbrev pub total : (ℕ → ℕ) → List Atom → ℕ
@@ -74,3 +75,9 @@ later schema C n (suc k) =
     let p = later schema C n k in
     let q = adds_atom (λ t. 0) schema (gone schema C (k + n)) (slice_get (gone schema C (k + n)).atoms (k + n)) in
     rw e (p.0 ++ q.more, q.is ∙ (ap (λ (xs : List Atom). xs ++ q.more) p.1 ∙ append_assoc (gone schema C n).atoms p.0 q.more))
+
+pub closing_keeps : ClosingKeeps
+closing_keeps schema C E h =
+    let p = later schema (begun C) 0 (length E) in
+    let e : length E + 0 ≡ length E = omega arith in
+    (p.0, sym h ∙ (rw e at p.1))

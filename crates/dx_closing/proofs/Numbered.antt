@@ -1,8 +1,8 @@
 -- The existential variables of a closing are numbered by first appearance.
-use Rattle.std.proofs.Common.{◌≡◌, ℕ, zero, suc, ◌+◌, ◌<◌, ◌≤◌, cond, eqb, Option, Some, None, unwrap_or, is_some, List, [], ◌∷◌, ◌++◌, length, refl, sym, ◌∙◌, ap, subst, inl, inr, arith}
+use Rattle.std.proofs.Common.{◌≡◌, ℕ, zero, suc, ◌+◌, ◌<◌, ◌≤◌, cond, Option, Some, None, unwrap_or, is_some, List, [], ◌∷◌, ◌++◌, length, refl, sym, ◌∙◌, ap, subst, inl, inr, arith}
 use Rattle.std.specs.Prelude.{flat_map, slice_get, slice_index_or}
 use Rattle.std.specs.List.{list_any}
-use Rattle.std.proofs.lemmas.Bool.{cases_Bool, cond-true, cond-false, cond_both}
+use Rattle.std.proofs.lemmas.Bool.{cases_Bool, cond-true, cond-false}
 use Rattle.std.proofs.lemmas.List.{append-nil}
 use Rattle.std.proofs.lemmas.List.Concat.{flat_map-append}
 use Rattle.dx_ports.specs.Members.{◌∈◌, here, there, Each}
@@ -11,32 +11,17 @@ use Rattle.dx_model.specs.declared.rules.Cell.{Cell}
 use Rattle.dx_model.specs.declared.rules.Cell.TheVariants.{Var, Ex, Lit}
 use Rattle.dx_model.specs.declared.rules.Atom.{Atom}
 use Rattle.dx_model.specs.declared.tables.Link.{Link}
-use Rattle.dx_model.specs.Rules.{cells_of}
+use Rattle.dx_model.specs.Rules.{cells_of, existential_in, existentials}
 use Rattle.dx_model.specs.Solutions.{AtomFits, cells_in}
 use Rattle.dx_model.specs.Tables.{Table, table_of, AreWithin}
 use Rattle.dx_logical.specs.Filled.{given, fresh_below, filled}
 use Rattle.dx_logical.specs.Laws.{LinkFits, LinksFit, Numbered}
 use Rattle.dx_closing.specs.declared.growing.Growing.{Growing}
-use Rattle.dx_closing.specs.Closing.{serves, supplied, through_link, through_links, through_atom, gone, begun, existential_in, existentials, AreNumbered, IsClosing}
+use Rattle.dx_closing.specs.Closing.{serves, supplied, through_link, through_links, through_atom, gone, begun, AreNumbered, IsClosing}
 use Rattle.dx_closing.proofs.Numbers.{above_numbered, numbered_below}
 use Rattle.dx_closing.proofs.Served.{get_in, gone_fits}
 use Rattle.dx_closing.proofs.Steps.{fits_at}
-
--- what is numbered so far, and goes on so
-pub numbered_further : (n k m : ℕ) (xs ys : List ℕ) → Numbered n xs k → Numbered k ys m → Numbered n (xs ++ ys) m
-numbered_further n k m [] ys a b = rw a b
-numbered_further n k m (x ∷ xs) ys a b = elim a [
-  | inl l ↦ inl (l.0, numbered_further n k m xs ys l.1 b)
-  | inr r ↦ inr (r.0, numbered_further (suc n) k m xs ys r.1 b)
-]
-
--- what is given is one of the items
-given_among : {X : Type 0} (ks : List ℕ) (xs : List X) (c : ℕ) (x : X) → given ks xs c ≡ Some x → x ∈ xs
-given_among [] xs c x e = absurd (cc)
-given_among (k ∷ ks) [] c x e = absurd (cc)
-given_among {X} (k ∷ ks) (y ∷ ys) c x e =
-    let P : Option X → Type 0 = λ o. o ≡ Some x → x ∈ (y ∷ ys) in
-    cond_both (eqb k c) (Some y) (given ks ys c) P (λ _ d. here (cc)) (λ _ d. there (given_among ks ys c x d)) e
+use Rattle.dx_logical.proofs.Facts.{given_among, numbered_further}
 
 -- the existential variables of these cells are below n
 abbrev Below : ℕ → List Cell → Type 0

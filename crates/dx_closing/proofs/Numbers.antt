@@ -8,9 +8,9 @@ use Rattle.dx_ports.proofs.Members.{in_flat_map, from_flat_map}
 use Rattle.dx_model.specs.declared.rules.Cell.{Cell}
 use Rattle.dx_model.specs.declared.rules.Cell.TheVariants.{Var, Ex, Lit}
 use Rattle.dx_model.specs.declared.rules.Atom.{Atom}
-use Rattle.dx_model.specs.Rules.{cells_of}
+use Rattle.dx_model.specs.Rules.{cells_of, existential_in, existentials}
 use Rattle.dx_logical.specs.Laws.{Numbered}
-use Rattle.dx_closing.specs.Closing.{existential_in, existentials, above}
+use Rattle.dx_closing.specs.Closing.{above}
 use Rattle.dx_closing.proofs.Steps.{in_item}
 
 pub above-append : (n : ℕ) (xs ys : List ℕ) → above n (xs ++ ys) ≡ above (above n xs) ys

@@ -1,9 +1,9 @@
 -- In a closing each link of each atom is served.
-use Rattle.std.proofs.Common.{◌≡◌, ℕ, zero, suc, ◌+◌, ◌-◌, ◌<◌, true, eqb, Option, Some, None, unwrap_or, List, [], ◌∷◌, ◌++◌, length, get_or, refl, sym, ◌∙◌, ap, subst, arith, inl, inr}
-use Rattle.std.specs.Prelude.{slice_get, slice_index_or, map, nat_eq}
+use Rattle.std.proofs.Common.{◌≡◌, ℕ, zero, suc, ◌+◌, ◌-◌, ◌<◌, true, Option, Some, None, List, [], ◌∷◌, ◌++◌, length, refl, sym, ◌∙◌, ap, subst, arith, inl, inr}
+use Rattle.std.specs.Prelude.{slice_get, slice_index_or, nat_eq}
 use Rattle.std.specs.List.{list_any}
-use Rattle.std.proofs.lemmas.Bool.{cases_Bool, cases_lt, cond-true, cond-false, eqb-true, and_parts, eq-eqb, ne_eqb, false≢true}
-use Rattle.std.proofs.lemmas.List.{get_or_append_left, get_or_push, length-map}
+use Rattle.std.proofs.lemmas.Bool.{cases_Bool, cases_lt, cond-true, cond-false, eqb-true, and_parts, false≢true}
+use Rattle.std.proofs.lemmas.List.{length-map}
 use Rattle.std.proofs.lemmas.Slice.Eq.{bytes_eq-Decides}
 use Rattle.dx_ports.specs.Members.{◌∈◌, here, there, Each, Distinct}
 use Rattle.dx_ports.proofs.Members.{in_left, in_right, from_append}
@@ -13,38 +13,15 @@ use Rattle.dx_model.specs.declared.rules.Atom.{Atom}
 use Rattle.dx_model.specs.declared.tables.Link.{Link}
 use Rattle.dx_model.specs.Tables.{Table, table_of, AreWithin}
 use Rattle.dx_model.specs.Solutions.{AtomFits, cells_in}
-use Rattle.dx_logical.specs.Filled.{given, fresh_below, filled}
+use Rattle.dx_logical.specs.Filled.{filled}
 use Rattle.dx_logical.specs.Laws.{LinkFits, LinksFit}
-use Rattle.dx_logical.proofs.Fresh.{filled_length}
 use Rattle.dx_closing.specs.declared.growing.Growing.{Growing}
 use Rattle.dx_closing.specs.Closing.{same_cell, has_cells, serves, supplied, through_link, through_links, through_atom, gone, begun, IsClosing}
 use Rattle.dx_closing.specs.Laws.{ClosingServes}
 use Rattle.dx_closing.proofs.Going.{gone_stays}
 use Rattle.dx_closing.proofs.Growth.{adds_links, later}
 use Rattle.dx_closing.proofs.Steps.{new_fits, fits_at}
-
--- the item in a column of a filled row
-pub filled_at : {X : Type 0} (fresh : ℕ → X) (n : ℕ) (ks : List ℕ) (xs : List X) (w c : ℕ) (d : X) → c < w
-    → get_or (filled fresh n ks xs w) c d ≡ unwrap_or (given ks xs c) (fresh (n + fresh_below ks xs c))
-filled_at fresh n ks xs zero c d h = absurd (omega arith)
-filled_at fresh n ks xs (suc w) c d h = elim (cases_lt c w) [
-  | inl l ↦ get_or_append_left (filled fresh n ks xs w) _ d c (rw filled_length l) ∙ filled_at fresh n ks xs w c d l
-  | inr g ↦
-      let e : w ≡ c = omega arith in
-      get_or_push (filled fresh n ks xs w) _ d c (filled_length fresh n ks xs w ∙ e) ∙ ap (λ v. unwrap_or (given ks xs v) (fresh (n + fresh_below ks xs v))) e
-]
-
--- what has the given items in the given columns gives them back
-map_given : {X : Type 0} (ks : List ℕ) (xs : List X) (g : ℕ → X) → Distinct ks → length ks ≡ length xs → ((c : ℕ) (x : X) → c ∈ ks → given ks xs c ≡ Some x → g c ≡ x) → map g ks ≡ xs
-map_given [] [] g a e h = refl
-map_given [] (x ∷ xs) g a e h = absurd (omega arith)
-map_given (k ∷ ks) [] g a e h = absurd (omega arith)
-map_given {X} (k ∷ ks) (x ∷ xs) g a e h =
-    let first : g k ≡ x = h k x (here refl) (cond-true (eqb k k) (Some x) (given ks xs k) (eq-eqb k k refl)) in
-    let other : (c : ℕ) (y : X) → c ∈ ks → given ks xs c ≡ Some y → g c ≡ y =
-    λ c y m i. h c y (there m) (cond-false (eqb k c) (Some x) (given ks xs c) (ne_eqb k c (λ p. a.0 (rw p m))) ∙ i) in
-    let rest = map_given ks xs g a.1 (omega arith) other in
-    cc
+use Rattle.dx_logical.proofs.Facts.{filled_at, map_given}
 
 filled_cells : (n : ℕ) (ks : List ℕ) (cells : List Cell) (w : ℕ) → Distinct ks → length ks ≡ length cells → AreWithin ks w → cells_in ks (filled Ex n ks cells w) ≡ cells
 filled_cells n ks cells w a e h =

@@ -1,5 +1,5 @@
 -- The closing of a conclusion along the links of a schema.
-use Rattle.std.specs.Prelude.{◌≡◌, ℕ, zero, suc, ◌+◌, Bool, true, false, cond, ◌&&◌, nat_eq, max, length, Option, Some, None, slice_get, List, [], ◌∷◌, ◌++◌, flat_map, slice_index_or}
+use Rattle.std.specs.Prelude.{◌≡◌, ℕ, zero, suc, ◌+◌, Bool, true, false, cond, ◌&&◌, nat_eq, max, length, Option, Some, None, slice_get, List, [], ◌∷◌, ◌++◌, slice_index_or}
 use Rattle.std.specs.List.{list_any}
 use Rattle.std.specs.Str.{bytes_eq}
 use Rattle.dx_model.specs.declared.rules.Cell.{Cell}
@@ -7,7 +7,7 @@ use Rattle.dx_model.specs.declared.rules.Cell.TheVariants.{Var, Ex, Lit}
 use Rattle.dx_model.specs.declared.rules.Atom.{Atom}
 use Rattle.dx_model.specs.declared.rules.Rule.{Rule}
 use Rattle.dx_model.specs.declared.tables.Link.{Link}
-use Rattle.dx_model.specs.Rules.{cells_of}
+use Rattle.dx_model.specs.Rules.{existentials}
 use Rattle.dx_model.specs.Solutions.{cells_in}
 use Rattle.dx_model.specs.Tables.{Table, table_of}
 use Rattle.dx_logical.specs.Filled.{fresh_below, filled}
@@ -67,16 +67,6 @@ gone schema C zero = C
 gone schema C (suc n) = through_atom schema (gone schema C n) (slice_get (gone schema C n).atoms n)
 
 -- ---- existential variables
-
--- the existential variable of a cell, if it is one
-abbrev pub existential_in : Cell → List ℕ
-existential_in (Var x) = []
-existential_in (Ex v) = v ∷ []
-existential_in (Lit t) = []
-
--- the existential variables of a conclusion, in order of atoms and cells
-abbrev pub existentials : List Atom → List ℕ
-existentials C = flat_map existential_in (cells_of C)
 
 -- the existential variables of a conclusion are numbered by first appearance
 abbrev pub AreNumbered : List Atom → Type 0

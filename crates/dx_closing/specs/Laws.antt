@@ -1,5 +1,5 @@
 -- What holds of closings.
-use Rattle.std.specs.Prelude.{◌≡◌, ◌≤◌, ◌*◌, List, length}
+use Rattle.std.specs.Prelude.{◌≡◌, ◌≤◌, ◌*◌, ◌++◌, List, length}
 use Rattle.dx_ports.specs.Members.{Each}
 use Rattle.dx_model.specs.declared.rules.Atom.{Atom}
 use Rattle.dx_model.specs.declared.rules.Rule.{Rule}
@@ -25,6 +25,10 @@ ClosingEnds = (schema : List Table) (C : List Atom) → LinksFit schema → IsAc
 -- no conclusion has two closings
 abbrev pub OneClosing : Type 0
 OneClosing = (schema : List Table) (C E F : List Atom) → IsClosing schema C E → IsClosing schema C F → E ≡ F
+
+-- a closing has the conclusion in front
+abbrev pub ClosingKeeps : Type 0
+ClosingKeeps = (schema : List Table) (C E : List Atom) → IsClosing schema C E → (more : List Atom) × (E ≡ C ++ more)
 
 -- in the closing of a rule whose conclusion fits, all atoms fit, and each link of each of them is served
 abbrev pub ClosingServes : Type 0

@@ -4,7 +4,8 @@ ghost use Rattle.dx_ports.specs.Members.{Each};
 ghost use Rattle.dx_model.specs.Solutions.{AtomFits};
 ghost use Rattle.dx_schema.specs.Tables.{model_tables};
 ghost use Rattle.dx_logical.specs.Laws.{Numbered};
-ghost use Rattle.dx_closing.specs.Closing.{AreNumbered, existential_in};
+ghost use Rattle.dx_model.specs.Rules.{existential_in};
+ghost use Rattle.dx_closing.specs.Closing.{AreNumbered};
 
 use dx_model::{Atom, Cell};
 use dx_schema::Schema;

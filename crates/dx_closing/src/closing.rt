@@ -16,7 +16,11 @@ use dx_schema::Schema;
 use std::alloc::Global;
 
 /// The closing of a rule along the links of the target: its conclusion with an atom more for each link of an atom that
-/// none served. `TooWide` where a closing has more than 64 atoms, and `Memory` for want of memory.
+/// none served.
+///
+/// # Errors
+///
+/// `TooWide`: each closing of the conclusion has more than 64 atoms. `Memory` where there is no memory.
 pub fn close(alloc: Global, rule: Rule, target: &Schema) -> Result<Rule, CloseFault>
     requires fits { Each rule.conclusion (AtomFits (model_tables target.now)) }
     requires numbered { AreNumbered rule.conclusion }

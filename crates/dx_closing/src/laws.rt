@@ -1,5 +1,5 @@
 // The laws of closings. The definitions alone carry them: the bodies compute nothing.
-ghost use Rattle.dx_closing.specs.Laws.{ClosingEnds, ClosingServes, OneClosing, ServedIsClosing};
+ghost use Rattle.dx_closing.specs.Laws.{ClosingEnds, ClosingKeeps, ClosingServes, OneClosing, ServedIsClosing};
 
 /// Where links have no cycle, each conclusion has a closing.
 pub fn closing_ends()
@@ -9,6 +9,11 @@ pub fn closing_ends()
 /// A conclusion has one closing alone.
 pub fn one_closing()
     ensures { OneClosing }
+{}
+
+/// A closing has the conclusion in front: none of its atoms is lost, changed or moved.
+pub fn closing_keeps()
+    ensures { ClosingKeeps }
 {}
 
 /// In a closing each link of each atom is served.

@@ -19,4 +19,4 @@ mod variables;
 pub use checking::can_be_closed;
 pub use closing::close;
 pub use fault::CloseFault;
-pub use laws::{closing_ends, closing_serves, one_closing, served_is_closing};
+pub use laws::{closing_ends, closing_keeps, closing_serves, one_closing, served_is_closing};

@@ -3,3 +3,4 @@ pub mod TableFacts
 pub mod PrintFacts
 pub mod OneReading
 pub mod TableTextFacts
+pub mod Decided

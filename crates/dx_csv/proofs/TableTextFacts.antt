@@ -16,7 +16,8 @@ use Rattle.dx_ports.specs.Members.{◌∈◌, here, there, Each}
 use Rattle.dx_model.specs.declared.values.Value.{Value}
 use Rattle.dx_instance.specs.Stored.{TableRows, IsSorting, rows_of, table_at, widths}
 use Rattle.dx_instance.specs.ValueText.{value_text_of}
-use Rattle.dx_csv.specs.Left.{left_from, table_records}
+use Rattle.dx_csv.specs.Left.{left_from}
+use Rattle.dx_csv.specs.Table.{table_records}
 use Rattle.dx_csv.specs.Print.{HasNoMark, HasWritten, IsTableText, lines_text, table_lines}
 use Rattle.dx_csv.proofs.LeftFacts.{left-next, left-none}
 
@@ -138,6 +139,18 @@ table-read columns rows h m w =
     rw (strip-lines columns (map (map value_text_of) rows) h m)
     (lines-read (table_lines columns rows)
     ∙ rw (read_back-same columns h) (ap (λ (t : List (List (List ℕ))). columns ∷ t) (read_back-rows (length columns) rows h w)))
+
+-- records with a field each read back
+read_back-all : (rows : List (List (List ℕ))) → Each rows (λ row. 1 ≤ length row) → map read_back rows ≡ rows
+read_back-all [] a = refl
+read_back-all (row ∷ rows) a =
+    rw (read_back-same row (a row (here refl)))
+    (ap (λ (t : List (List (List ℕ))). row ∷ t) (read_back-all rows (λ r m. a r (there m))))
+
+pub printed-reads-back : (first : List (List ℕ)) (rest : List (List (List ℕ))) → HasNoMark first → Each (first ∷ rest) (λ row. 1 ≤ length row)
+    → table_records (lines_text (first ∷ rest)) ≡ first ∷ rest
+printed-reads-back first rest m a =
+    rw (strip-lines first rest (a first (here refl)) m) (lines-read (first ∷ rest) ∙ read_back-all (first ∷ rest) a)
 
 -- ---- the header, and one row more
 pub header-written : {W : Type 0} (contents : W → Option (List ℕ)) (w : Writer W) (columns line : List (List ℕ)) → line ≡ columns

@@ -1,8 +1,10 @@
 -- The records of a table have one reading. Each law is a clause of a public function with an empty body.
-use Rattle.std.specs.Prelude.{◌≡◌, ℕ, List}
+use Rattle.std.specs.Prelude.{◌≡◌, ◌⊎◌, ◌≤◌, ◌∷◌, ℕ, List, length}
 use Rattle.dx_model.specs.declared.values.Value.{Value}
 use Rattle.dx_csv.specs.declared.fault.RowKind.{RowKind}
-use Rattle.dx_csv.specs.Table.{IsAtFault, IsTable}
+use Rattle.dx_ports.specs.Members.{Each}
+use Rattle.dx_csv.specs.Print.{HasNoMark, lines_text}
+use Rattle.dx_csv.specs.Table.{IsAtFault, IsTable, table_records}
 
 -- records are a table of no two lists of rows
 abbrev pub TableIsOne : Type 0
@@ -12,6 +14,17 @@ TableIsOne = (records : List (List (List ℕ))) (columns : List (List ℕ)) (a b
 abbrev pub FaultIsOne : Type 0
 FaultIsOne = (records : List (List (List ℕ))) (columns : List (List ℕ)) (a b : RowKind) → IsAtFault records columns a → IsAtFault records columns b → a ≡ b
 
--- a table has no fault
+-- records are a table, or they have a fault
 abbrev pub TableOrFault : Type 0
-TableOrFault = (records : List (List (List ℕ))) (columns : List (List ℕ)) (rows : List (List Value)) (k : RowKind) → IsTable records columns rows → ¬ (IsAtFault records columns k)
+TableOrFault =
+    (records : List (List (List ℕ))) (columns : List (List ℕ)) → ((rows : List (List Value)) × IsTable records columns rows) ⊎ ((k : RowKind) × IsAtFault records columns k)
+
+-- and never both
+abbrev pub NeverBoth : Type 0
+NeverBoth = (records : List (List (List ℕ))) (columns : List (List ℕ)) (rows : List (List Value)) (k : RowKind) → IsTable records columns rows → ¬ (IsAtFault records columns k)
+
+-- records with a field each, of which the first does not begin with a byte order mark, are printed as a text that is read as just these records
+abbrev pub PrintedReadsBack : Type 0
+PrintedReadsBack =
+    (first : List (List ℕ)) (rest : List (List (List ℕ))) → HasNoMark first → Each (first ∷ rest) (λ (r : List (List ℕ)). 1 ≤ length r)
+    → table_records (lines_text (first ∷ rest)) ≡ first ∷ rest

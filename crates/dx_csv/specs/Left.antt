@@ -1,7 +1,7 @@
 -- The records that a reader of a table has left.
 use Rattle.std.specs.Prelude.{◌≡◌, ◌+◌, ℕ, List, [], true, false, Option, Some, None, length}
 use Rattle.csv.specs.Machine.{ends_at_end}
-use Rattle.csv.specs.Reading.{default_config, is_flexible, reader_config, reader_state, reader_trim, records_from, source_of, strip_bom, records, Ready}
+use Rattle.csv.specs.Reading.{default_config, is_flexible, reader_config, reader_state, reader_trim, records_from, source_of, Ready}
 use Rattle.csv.specs.declared.parser.State.{State}
 use Rattle.csv.specs.declared.reader.Reader.{Reader}
 use Rattle.csv.specs.declared.reader.Trim.TheVariants as trim
@@ -10,6 +10,7 @@ use Rattle.csv.specs.declared.reader.Trim.TheVariants as trim
 abbrev pub left_from : State → List ℕ → List (List (List ℕ))
 left_from s xs = records_from default_config (length xs + 1) s xs
 
+-- the records of what is unread, none where that is not known
 abbrev pub left_known : State → Option (List ℕ) → List (List (List ℕ))
 left_known s None = []
 left_known s (Some xs) = left_from s xs
@@ -27,7 +28,3 @@ pub record IsBetween {R : Type 0} (rem : R → Option (List ℕ)) (r : Reader R)
   pub between : ends_at_end (reader_state r) ≡ false
   pub unread : List ℕ
   pub source : source_of rem r ≡ Some unread
-
--- the records of the bytes of a table
-abbrev pub table_records : List ℕ → List (List (List ℕ))
-table_records bytes = records default_config (strip_bom bytes)

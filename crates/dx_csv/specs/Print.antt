@@ -8,7 +8,7 @@ use Rattle.dx_ports.specs.Members.{◌⊆◌}
 use Rattle.dx_model.specs.declared.values.Value.{Value}
 use Rattle.dx_model.specs.Values.{RowsAscend}
 use Rattle.dx_instance.specs.ValueText.{value_text_of}
-use Rattle.dx_csv.specs.Left.{table_records}
+use Rattle.dx_csv.specs.Table.{table_records}
 
 -- the text of these records, one after the other
 abbrev pub lines_text : List (List (List ℕ)) → List ℕ

@@ -2,12 +2,17 @@
 use Rattle.std.specs.Prelude.{◌≡◌, ◌≢◌, ◌+◌, ℕ, List, [], ◌∷◌, ◌++◌, All, length, map, take, ⊤}
 use Rattle.std.specs.List.{slice_get}
 use Rattle.csv.specs.Records.{AllText}
+use Rattle.csv.specs.Reading.{default_config, strip_bom, records as records_of}
 use Rattle.dx_model.specs.declared.values.Value.{Value}
 use Rattle.dx_model.specs.declared.values.Value.TheVariants.{Const}
 use Rattle.dx_csv.specs.declared.fault.RowFault.{RowFault}
 use Rattle.dx_csv.specs.declared.fault.RowFault.TheVariants as fault
 use Rattle.dx_csv.specs.declared.fault.RowKind.{RowKind}
 use Rattle.dx_csv.specs.declared.fault.RowKind.TheVariants as kind
+
+-- the records of the bytes of a table
+abbrev pub table_records : List ℕ → List (List (List ℕ))
+table_records bytes = records_of default_config (strip_bom bytes)
 
 -- a record with a text for each column
 pub record IsWhole (columns fields : List (List ℕ)) : Type 0 where

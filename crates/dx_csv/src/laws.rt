@@ -1,9 +1,15 @@
 // The laws of reading. The definitions alone carry them: no body computes anything.
-ghost use Rattle.dx_csv.specs.Laws.{FaultIsOne, TableIsOne, TableOrFault};
+ghost use Rattle.dx_csv.specs.Laws.{FaultIsOne, NeverBoth, PrintedReadsBack, TableIsOne, TableOrFault};
 
-/// Bytes are a table of one list of rows, or have one fault.
+/// Records are a table of one list of rows, or have one fault, and never both.
 pub fn one_reading()
     ensures table { TableIsOne }
     ensures fault { FaultIsOne }
     ensures either { TableOrFault }
+    ensures never_both { NeverBoth }
+{}
+
+/// What `print_records` prints of records with a field each is read as these records.
+pub fn printed_reads_back()
+    ensures { PrintedReadsBack }
 {}

@@ -1,8 +1,7 @@
 // A table of constants, read from its bytes.
 ghost use Rattle.std.specs.Prelude.{◌≡◌, ◌<◌, ◌-◌, ◌^◌, ◌↔◌, length, IsTrue, IfOk, IfErr, IfSome, MatchOption};
 ghost use Rattle.csv.specs.Records.{fields_of, AllText};
-ghost use Rattle.dx_csv.specs.Left.{table_records};
-ghost use Rattle.dx_csv.specs.Table.{FirstDifference, HasFault, IsTable, constants};
+ghost use Rattle.dx_csv.specs.Table.{FirstDifference, HasFault, IsTable, constants, table_records};
 
 use crate::fault::{RowFault, RowKind};
 use crate::records::Records;
@@ -45,6 +44,7 @@ fn row_of(alloc: Global, given: &ByteRecord) -> Result<Option<Row>, AllocError>
     let mut row = Row::new(alloc);
     for i in 0..given.len() {
         let Some(field) = given.get(i) else {
+            // A field is there at each place below `len`, by the clauses of `csv`: the branch spares a proof of it.
             return Err(AllocError);
         };
         match Text::from_bytes(alloc, field) {
@@ -59,6 +59,10 @@ fn row_of(alloc: Global, given: &ByteRecord) -> Result<Option<Row>, AllocError>
 /// Reads the rows of a table: a record of the columns, and then for each row a record of the texts of its constants.
 ///
 /// The first record at fault is told; of one record, the number of its fields before its texts.
+///
+/// # Errors
+///
+/// `Bad` with the fault of the first record at fault. `Memory` where there is no memory.
 pub fn load_table(alloc: Global, bytes: &[u8], columns: &[Text]) -> Result<Vec<Row>, RowFault>
     requires { length columns.now < 2 ^ 32 - 1 }
     ensures rows { IfOk result (λ rows. IsTable (table_records bytes.now) columns.now rows.items) }
@@ -85,5 +89,6 @@ pub fn load_table(alloc: Global, bytes: &[u8], columns: &[Text]) -> Result<Vec<R
         };
         rows.push(row)?;
     }
+    // No bytes hold so many records: the loop has a bound so that the number of a record is a `u64`.
     Err(RowFault::Memory)
 }

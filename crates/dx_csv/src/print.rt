@@ -27,6 +27,7 @@ fn write_line(wtr: &mut Writer<Vec<u8>>, line: &ByteRecord) -> Result<(), AllocE
         → HasWritten (λ v. Some v.items) wtr.new (bytes ++ row_text default_writer (fields_of line.now))) }
 {
     let Ok(()) = wtr.write_byte_record(line) else {
+        // Into a `Vec` a write fails for want of memory alone; the clauses of `csv` do not exclude other errors.
         return Err(AllocError);
     };
     Ok(())
@@ -60,16 +61,22 @@ fn text_of(wtr: Writer<Vec<u8>>) -> Result<Text, AllocError>
     ensures { IfOk result (λ t. (bytes : List ℕ) → HasWritten (λ v. Some v.items) wtr bytes → t ≡ bytes) }
 {
     let Ok(bytes) = wtr.into_inner() else {
+        // Into a `Vec` a write fails for want of memory alone; the clauses of `csv` do not exclude other errors.
         return Err(AllocError);
     };
     match String::from_utf8(bytes) {
         Ok(text) => Ok(Text::from_string(text)),
+        // The bytes are those of texts and so UTF-8; no clause says it of the bytes of a writer.
         Err(_) => Err(AllocError),
     }
 }
 
-/// Prints the records, each ended by a line feed. They may have different numbers of fields; one without fields is printed as one empty field.
-/// It fails only where memory runs out.
+/// Prints the records, each ended by a line feed. They may have different numbers of fields; one without fields is
+/// printed as one empty field.
+///
+/// # Errors
+///
+/// `AllocError` where there is no memory.
 pub fn print_records(alloc: Global, records: &[Items<Text>]) -> Result<Text, AllocError>
     ensures { IfOk result (λ t. t ≡ lines_text records.now) }
 {
@@ -104,7 +111,10 @@ fn lines_of(
 }
 
 /// Prints a table: a record of its columns, and then for each row, ascending, a record of the texts of its values.
-/// It fails only where memory runs out.
+///
+/// # Errors
+///
+/// `AllocError` where there is no memory.
 pub fn print_table(
     alloc: Global,
     columns: &[Text],

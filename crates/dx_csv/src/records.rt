@@ -1,7 +1,7 @@
 // The records of a table, one at a time.
 ghost use Rattle.std.specs.Prelude.{◌≡◌, [], ◌∷◌, IfOk, OnErr, true, false};
 ghost use Rattle.csv.specs.Records.{fields_of};
-ghost use Rattle.dx_csv.specs.Left.{table_records};
+ghost use Rattle.dx_csv.specs.Table.{table_records};
 
 use csv::{ByteRecord, Reader, ReaderBuilder};
 use std::alloc::{AllocError, Global};

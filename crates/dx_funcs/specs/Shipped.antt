@@ -7,13 +7,16 @@ use Rattle.dx_funcs.specs.declared.conversion.Conversion.{Conversion}
 abbrev pub Text : Type 0
 Text = List ℕ
 
+-- the byte of a space
 abbrev pub space : ℕ
 space = 32
 
+-- the text without the spaces at its front
 abbrev pub without_spaces_in_front : Text → Text
 without_spaces_in_front [] = []
 without_spaces_in_front (b ∷ bs) = if b == space then without_spaces_in_front bs else b ∷ bs
 
+-- the text without the spaces at its end
 abbrev pub without_spaces_at_the_end : Text → Text
 without_spaces_at_the_end text = reverse (without_spaces_in_front (reverse text))
 

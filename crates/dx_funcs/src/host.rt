@@ -63,6 +63,10 @@ impl<F: Fn(u32, &Items<Text>) -> Result<Text, AllocError>, M: Meaning> Host<F, M
     }
 
     /// The text that a conversion makes of texts.
+    ///
+    /// # Errors
+    ///
+    /// `AllocError` where the closure answers it.
     pub fn call(&self, code: u32, args: &Items<Text>) -> Result<Text, AllocError>
         requires serves { Serves F.Fn M.apply self.now }
         requires listed { IsListed (offered self.now) code (length args.now) }

@@ -1,8 +1,8 @@
 //! Stored conversions: what a user's program may do to texts on their way from a source to a target.
 //!
 //! A `Host` lists conversions and stores the closure that computes them; a `Meaning` says, in contracts alone, what text
-//! each of them gives. `Shipped` is the meaning of the conversions that come with `clio`: `shipped_list` lists them and
-//! `convert` computes them.
+//! each of them gives. An Ok of `Host::call` is that text, for every closure and every meaning. `Shipped` is the meaning of
+//! the conversions that come with `clio`: `shipped_list` lists them and `convert` computes them (specs/Shipped).
 #![tactic(auto)]
 
 mod conversion;

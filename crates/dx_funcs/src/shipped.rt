@@ -27,7 +27,11 @@ fn conversion(alloc: Global, name: &str, code: u32, arity: u32) -> Result<Conver
     })
 }
 
-/// The conversions that come with the program.
+/// The conversions that come with the program, in order of their codes.
+///
+/// # Errors
+///
+/// `AllocError` where there is no memory.
 pub fn shipped_list(alloc: Global) -> Result<Items<Conversion>, AllocError>
     ensures list { IfOk result (λ list. list ≡ shipped_conversions) }
     ensures offer { IfOk result (λ list. IsOffer list) }
@@ -40,6 +44,10 @@ pub fn shipped_list(alloc: Global) -> Result<Items<Conversion>, AllocError>
 }
 
 /// The text that a shipped conversion makes of texts.
+///
+/// # Errors
+///
+/// `AllocError` where there is no memory.
 pub fn convert(alloc: Global, code: u32, args: &Items<Text>) -> Result<Text, AllocError>
     requires { IsListed shipped_conversions code (length args.now) }
     ensures { IfOk result (λ t. t ≡ shipped_apply code args.now) }

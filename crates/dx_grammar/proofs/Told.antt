@@ -1,12 +1,14 @@
 -- What a verdict says of texts and starts, and that there is one first fault.
 use Rattle.std.proofs.Common.{◌≡◌, ℕ, zero, suc, ◌+◌, ◌-◌, ◌<◌, ◌≤◌, Bool, true, false, ◌||◌, List, [], ◌∷◌, ◌++◌, length, take, Result, Ok, Err, refl, sym, ap, ◌∙◌, cond, subst, arith, ◌⊎◌, inl, inr}
-use Rattle.std.proofs.lemmas.Bool.{true≢false}
+use Rattle.std.proofs.lemmas.Bool.{true≢false, or_right}
 use Rattle.std.specs.List.{list_any, flat_map}
+use Rattle.std.proofs.lemmas.List.{take_all}
 use Rattle.std.proofs.lemmas.List.Folds.{list_any-append}
 use Rattle.dx_grammar.specs.Forms.{Form, Starts, IsFirstFault}
 use Rattle.dx_grammar.specs.Readers.{Reader, at_end, whole_of, whole, Tells}
+use Rattle.dx_grammar.specs.Laws.{StartOrFault, StartsHaveNone}
 use Rattle.dx_grammar.proofs.Verdicts.{step, derives, starts, Judged, all_read, fault, is_some, judged, behind, After, IsReader}
-use Rattle.dx_grammar.proofs.Exact.{derives_sound, derives_complete, starts_sound, starts_complete}
+use Rattle.dx_grammar.proofs.Exact.{derives_sound, derives_complete, starts_sound, starts_complete, whole_start}
 
 abbrev left_of : Judged → ℕ
 left_of all_read = 0
@@ -49,12 +51,17 @@ abbrev Ends : {A : Type 0} → Result A ℕ → Judged → Type 0
 Ends (Ok a) j = j ≡ all_read
 Ends (Err n) j = j ≡ fault n
 
+-- an answer of this verdict
+abbrev answer_of : Judged → Result (Unit {0}) ℕ
+answer_of all_read = Ok tt
+answer_of (fault n) = Err n
+
+answer_ends : (j : Judged) → Ends (answer_of j) j
+answer_ends all_read = refl
+answer_ends (fault n) = refl
+
 not_true : {b : Bool} → b ≡ false → ¬ (b ≡ true)
 not_true e t = true≢false (sym t ∙ e)
-
-or_right : (a b : Bool) → b ≡ true → (a || b) ≡ true
-or_right true b e = refl
-or_right false b e = e
 
 module _ {X : Type 0} where
   none_start : (stacks : List (List (Form X))) → list_any (starts []) stacks ≡ is_some stacks
@@ -147,3 +154,18 @@ module _ {X : Type 0} where
   fault_is_one f xs j k p q = apart j k p q (λ lt. p.here (start_take f (suc j) k xs lt q.before)) (λ lt. q.here (start_take f (suc k) j xs lt p.before)) where
     apart : (j k : ℕ) → IsFirstFault f xs j → IsFirstFault f xs k → ¬ (j < k) → ¬ (k < j) → j ≡ k
     apart j k p q not_less not_more = omega arith
+
+  -- ---- a start or a fault
+
+  told_either : (f : Form X) (xs : List X) (r : Result (Unit {0}) ℕ) → Tells f xs r → Starts f xs ⊎ ((k : ℕ) × IsFirstFault f xs k)
+  told_either f xs (Ok u) t = inl (whole_start f xs t)
+  told_either f xs (Err zero) t = inl t.0
+  told_either f xs (Err (suc left)) t = inr (length xs - suc left, t.1)
+
+  pub start_or_fault : (f : Form X) → StartOrFault f
+  start_or_fault f xs =
+      let j = behind (f ∷ []) xs in
+      told_either f xs (answer_of j) (told f xs (answer_of j) (answer_ends j))
+
+  pub starts_have_none : (f : Form X) → StartsHaveNone f
+  starts_have_none f xs k s h = h.here (start_take f (suc k) (length xs) xs h.inside (subst (Starts f) (sym (take_all (length xs) xs (omega arith))) s))

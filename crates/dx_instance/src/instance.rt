@@ -8,7 +8,8 @@ use dx_model::{Row, Value};
 use std::alloc::{AllocError, Global};
 use std::marker::Model;
 
-/// For each table a width and distinct rows in order of adding. A row is found at the cost of one look-up.
+/// For each table a width and distinct rows in order of adding. A row is found at the cost of one look-up. Tables,
+/// their rows and their columns are counted from 0.
 #[derive(Drop)]
 pub struct Instance {
     alloc: Global,
@@ -27,7 +28,11 @@ impl Model for Instance {
 }
 
 impl Instance {
-    /// An instance without rows. Each table has at least one column.
+    /// An instance without rows, with a table for each of these widths. Each table has at least one column.
+    ///
+    /// # Errors
+    ///
+    /// `AllocError` where there is no memory.
     pub fn new(alloc: Global, widths: Vec<u32>) -> Result<Instance, AllocError>
         requires some { Each widths.items (λ w. 1 ≤ w) }
         requires few { length widths.items < 2 ^ 32 - 1 }
@@ -41,6 +46,10 @@ impl Instance {
     }
 
     /// One row more, where it is new; a row that is there changes nothing. Answers whether it is new.
+    ///
+    /// # Errors
+    ///
+    /// `AllocError` where there is no memory: the instance stays as it was.
     pub fn add(&mut self, table: u32, row: Row) -> Result<bool, AllocError>
         requires table { table < length self.old }
         requires width { length row ≡ (table_at self.old table).width }
@@ -110,6 +119,10 @@ impl Instance {
     }
 
     /// A copy of a row.
+    ///
+    /// # Errors
+    ///
+    /// `AllocError` where there is no memory.
     pub fn row_copy(&self, table: u32, place: u32) -> Result<Row, AllocError>
         requires table { table < length self.now }
         requires place { place < length (rows_of self.now table) }
@@ -118,7 +131,11 @@ impl Instance {
         copy_row(self.alloc, self.row(table, place))
     }
 
-    /// The same facts with ascending rows.
+    /// An instance with the same facts, the rows of each table ascending.
+    ///
+    /// # Errors
+    ///
+    /// `AllocError` where there is no memory.
     pub fn sorted(&self) -> Result<Instance, AllocError>
         ensures { IfOk result (IsSorting self.now) }
     {

@@ -46,7 +46,11 @@ impl NullMap {
         self.values.get(null)
     }
 
-    /// The pairs, ascending by null.
+    /// The nulls that are listed, each with what it becomes, ascending by null.
+    ///
+    /// # Errors
+    ///
+    /// `AllocError` where there is no memory.
     pub fn pairs(&self) -> Result<Vec<NullPair>, AllocError>
         ensures { IfOk result (λ pairs. pairs.items ≡ pairs_of self.now) }
     {

@@ -21,7 +21,7 @@ use Rattle.dx_lines.specs.declared.line.Line.{Line}
 use Rattle.dx_lines.specs.Limits.{IsColumn, LineFits}
 use Rattle.dx_lines.specs.Ways.{named}
 use Rattle.dx_line_text.specs.Naming.{set_names, set_number, columns_in, first_named, name_fault, place_fault, places_fault, call_fault, source_fault, line_fault, lines_fault, place_of, code_of, origin_of, line_of, lines_of, IsOffered, IsOfferedFrom}
-use Rattle.dx_line_text.proofs.Faults.{two_none, each_none}
+use Rattle.dx_ports.proofs.Firsts.{two_none, each_none}
 use Rattle.dx_line_text.proofs.Found.{found_listed}
 
 -- ---- places

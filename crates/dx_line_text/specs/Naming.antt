@@ -17,6 +17,7 @@ use Rattle.dx_lines.specs.declared.line.Place.{Place}
 use Rattle.dx_lines.specs.declared.line.Origin.{Origin}
 use Rattle.dx_lines.specs.declared.line.Origin.TheVariants as origins
 use Rattle.dx_lines.specs.declared.line.Line.{Line}
+use Rattle.dx_ports.specs.Firsts.{first_of}
 
 -- ---- names
 
@@ -38,12 +39,6 @@ first_named [] x = None
 first_named (c ∷ cs) x = cond (pointwise nat_eq c.name x) (Some c) (first_named cs x)
 
 -- ---- faults
-
--- the first fault of these
-abbrev pub first_of : List (Option TextFault) → Option TextFault
-first_of [] = None
-first_of (None ∷ faults) = first_of faults
-first_of (Some e ∷ faults) = Some e
 
 -- a name that is not among these is unknown at its place
 abbrev pub name_fault : List Text → Text → ℕ → Option TextFault

@@ -90,13 +90,16 @@ where
     })
 }
 
-/// The lines, by the numbers of the sets, columns and conversions that they name. Refused is the first fault in the order
-/// of the text, but for want of memory, which may come at any point.
+/// The lines, by the numbers of the sets, columns and conversions that they name.
+///
+/// # Errors
+///
+/// `At` with the first fault in the order of the text. `Memory` where there is no memory, which may come at any point.
 ///
 /// 1. Line by line, the source before the target; of a place the set before its column: a set or a column of this name
-///    isn't there.
-/// 2. Of a conversion first its name, which isn't listed; then, at its name, that it takes another number of arguments;
-///    then its arguments from left to right.
+///    isn't there (`UnknownName`).
+/// 2. Of a conversion first its name, which isn't listed (`UnknownName`); then, at its name, that it takes another
+///    number of arguments (`Width`); then its arguments from left to right.
 pub fn read_lines<F, M>(
     alloc: Global,
     lines: &[LineText],

@@ -1,5 +1,5 @@
 -- Worked lines: their candidates, those that are kept, and their rules.
-use Rattle.std.proofs.Common.{◌≡◌, ℕ, Some, None, List, [], ◌∷◌, refl, length}
+use Rattle.std.proofs.Common.{◌≡◌, ℕ, zero, suc, ◌<◌, ◌++◌, Some, None, List, [], ◌∷◌, refl, ◌∙◌, ap, subst, arith, length}
 use Rattle.std.specs.Prelude.{map}
 use Rattle.dx_model.specs.declared.tables.Link.{Link}
 use Rattle.dx_model.specs.Tables.{Table}
@@ -18,7 +18,10 @@ use Rattle.dx_lines.specs.declared.term.Term.TheVariants.{Var as Variable, Call}
 use Rattle.dx_lines.specs.Candidates.{pair_ways, candidates_of}
 use Rattle.dx_lines.specs.Kept.{kept_candidates}
 use Rattle.dx_lines.specs.Rules.{kept_rules}
-use Rattle.dx_lines.specs.Limits.{passed}
+use Rattle.dx_lines.specs.Limits.{passed, IsColumn, LineFits}
+use Rattle.dx_lines.specs.Reading.{HaveColumn, IsRead, IsReached}
+use Rattle.dx_logical.specs.declared.relation.Occurrence.{Occurrence}
+use Rattle.dx_ports.specs.Members.{here, there}
 
 abbrev table : ℕ → List Link → Table
 table w ls = record { width = w; determinations = []; links = ls }
@@ -215,3 +218,120 @@ six_pass_none = refl
 
 seven_pass : passed [] seven seven ≡ Some (record { what = counts.Occurrences; number = 64 })
 seven_pass = refl
+
+-- ---- the order of terms, and terms that are found twice
+
+abbrev converted : ℕ → List Place → ℕ → Line
+converted code args d = record { target = at 0 d; source = Converted code args }
+
+-- variables come before conversions, and these go by code, then by arguments; what two lines give is one way
+ordered_terms :
+    terms_of (candidates_of (
+    converted 4 (at 0 0 ∷ []) 0 ∷ converted 3 (at 0 1 ∷ []) 0 ∷ converted 3 (at 0 0 ∷ []) 0
+    ∷ from_column 0 1 0 0 ∷ from_column 0 0 0 0 ∷ from_column 0 1 0 0 ∷ []
+    ) (table 2 [] ∷ []) (table 1 [] ∷ [])) ≡
+    (Variable 0 ∷ []) ∷ (Variable 1 ∷ []) ∷ (Call 3 (0 ∷ []) ∷ []) ∷ (Call 3 (1 ∷ []) ∷ []) ∷ (Call 4 (0 ∷ []) ∷ []) ∷ []
+ordered_terms = refl
+
+-- conversions have numbers by first appearance, each once
+numbered_conversions :
+    kept_rules (converted 5 (at 0 0 ∷ []) 0 ∷ converted 4 (at 0 0 ∷ []) 1 ∷ converted 5 (at 0 0 ∷ []) 2 ∷ []) (table 1 [] ∷ []) (table 3 [] ∷ []) ≡
+    record {
+      premise = atom 0 (Var 0 ∷ []) ∷ [];
+      derived = record { code = 5; args = 0 ∷ [] } ∷ record { code = 4; args = 0 ∷ [] } ∷ [];
+      conclusion = atom 0 (Var 1 ∷ Var 2 ∷ Var 1 ∷ []) ∷ [];
+    } ∷ []
+numbered_conversions = refl
+
+-- of two literal lines to one column the first counts, and a literal stands in the table that its line names alone
+first_literal :
+    kept_rules (
+    record { target = at 0 1; source = Literal (97 ∷ []) } ∷ record { target = at 0 1; source = Literal (98 ∷ []) } ∷ from_column 0 0 1 2 ∷ []
+    ) (table 1 [] ∷ []) (table 2 [] ∷ table 3 (link 0 0 0 ∷ []) ∷ []) ≡
+    rule (atom 0 (Var 0 ∷ []) ∷ []) (atom 1 (Ex 0 ∷ Ex 1 ∷ Var 0 ∷ []) ∷ atom 0 (Ex 0 ∷ Lit (97 ∷ []) ∷ []) ∷ []) ∷ []
+first_literal = refl
+
+-- ---- limits at their ends
+
+-- so many links to table 1
+abbrev links_to_one : ℕ → List Link
+links_to_one zero = []
+links_to_one (suc n) = link 0 1 0 ∷ links_to_one n
+
+-- a table of this width that unfolds to so many occurrences and itself
+abbrev fan : ℕ → ℕ → List Table
+fan width n = table width (links_to_one n) ∷ table 1 [] ∷ []
+
+-- lines from each of the first n columns to column d
+abbrev from_each : ℕ → ℕ → List Line
+from_each zero d = []
+from_each (suc n) d = from_column 0 n 0 d ∷ from_each n d
+
+-- lines from the first two columns to each of the first n
+abbrev two_to_each : ℕ → List Line
+two_to_each zero = []
+two_to_each (suc n) = from_column 0 0 0 n ∷ from_column 0 1 0 n ∷ two_to_each n
+
+abbrev one : List Table
+one = table 1 [] ∷ []
+
+sixty_four_occurrences : passed [] (fan 1 63) (fan 1 63) ≡ None
+sixty_four_occurrences = refl
+
+sixty_five_in_the_source : passed [] (fan 1 64) one ≡ Some (record { what = counts.Occurrences; number = 64 })
+sixty_five_in_the_source = refl
+
+sixty_five_in_the_target : passed [] one (fan 1 64) ≡ Some (record { what = counts.Occurrences; number = 64 })
+sixty_five_in_the_target = refl
+
+sixty_four_ways : passed (from_each 64 0) (table 64 [] ∷ []) one ≡ None
+sixty_four_ways = refl
+
+sixty_five_ways : passed (from_each 65 0) (table 65 [] ∷ []) one ≡ Some (record { what = counts.Ways; number = 64 })
+sixty_five_ways = refl
+
+all_candidates : passed (two_to_each 10) (table 2 [] ∷ []) (table 10 [] ∷ one) ≡ None
+all_candidates = refl
+
+one_candidate_more : passed (from_column 0 0 1 0 ∷ two_to_each 10) (table 2 [] ∷ []) (table 10 [] ∷ one) ≡ Some (record { what = counts.Candidates; number = 1024 })
+one_candidate_more = refl
+
+-- where several limits are passed, occurrences are told before ways, and ways before candidates
+occurrences_first : passed (from_each 65 0) (fan 65 64) one ≡ Some (record { what = counts.Occurrences; number = 64 })
+occurrences_first = refl
+
+ways_first : passed (from_each 33 0 ++ from_each 33 1) (table 33 [] ∷ []) (table 2 [] ∷ []) ≡ Some (record { what = counts.Ways; number = 64 })
+ways_first = refl
+
+-- ---- lines that fit, and that can be read
+
+-- a line from the last column of a table to the last column of a table fits
+last_columns_fit : LineFits (table 2 [] ∷ []) (table 3 [] ∷ []) (from_column 0 1 0 2)
+last_columns_fit = record {
+  to = record { table = omega arith; column = omega arith };
+  from = λ a m. elim m [ here e ↦ subst (IsColumn (table 2 [] ∷ [])) e (record { table = omega arith; column = omega arith }) | there n ↦ elim n [ ] ];
+}
+
+no_column_behind : ¬ IsColumn (table 2 [] ∷ []) (at 0 2)
+no_column_behind h = let c = h.column in omega (arith, c)
+
+no_table_behind : ¬ IsColumn (table 2 [] ∷ []) (at 1 0)
+no_table_behind h = let c = h.table in omega (arith, c)
+
+abbrev seen_one : List Occurrence
+seen_one = record { table = 0; variables = 0 ∷ 1 ∷ []; parent = None; link = 0 } ∷ []
+
+last_is_read : IsRead seen_one (from_column 0 1 0 2)
+last_is_read a m = elim m [ here e ↦ subst (HaveColumn seen_one) e (λ o n h. elim n [ here g ↦ subst (λ (p : Occurrence). 1 < length p.variables) g (omega arith) | there k ↦ elim k [ ] ]) | there n ↦ elim n [ ] ]
+
+behind_is_not_read : ¬ IsRead seen_one (from_column 0 2 0 1)
+behind_is_not_read h = let b = h (at 0 2) (here refl) (record { table = 0; variables = 0 ∷ 1 ∷ []; parent = None; link = 0 }) (here refl) refl in omega (arith, b)
+
+last_is_reached : IsReached seen_one (from_column 0 2 0 1)
+last_is_reached o n h = elim n [ here g ↦ subst (λ (p : Occurrence). 1 < length p.variables) g (omega arith) | there k ↦ elim k [ ] ]
+
+behind_is_not_reached : ¬ IsReached seen_one (from_column 0 1 0 2)
+behind_is_not_reached h = let b = h (record { table = 0; variables = 0 ∷ 1 ∷ []; parent = None; link = 0 }) (here refl) refl in omega (arith, b)
+
+other_tables_are_not_asked : HaveColumn seen_one (at 1 5)
+other_tables_are_not_asked o n h = elim n [ here g ↦ absurd (let e : ◌≡◌ {A = ℕ} 0 1 = ap (λ (p : Occurrence). p.table) g ∙ h in omega (arith, e)) | there k ↦ elim k [ ] ]

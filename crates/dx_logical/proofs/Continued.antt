@@ -1,5 +1,5 @@
 -- What a relation becomes where it is continued.
-use Rattle.std.proofs.Common.{◌≡◌, ℕ, zero, suc, ◌+◌, ◌-◌, ◌<◌, ◌≤◌, Option, Some, None, List, [], ◌∷◌, ◌++◌, length, get_or, drop, refl, sym, ◌∙◌, ap, subst, arith, add-one}
+use Rattle.std.proofs.Common.{◌≡◌, ℕ, zero, suc, ◌+◌, ◌-◌, ◌<◌, ◌≤◌, Option, None, List, [], ◌∷◌, ◌++◌, length, get_or, drop, refl, sym, ◌∙◌, ap, subst, arith, add-one}
 use Rattle.std.proofs.lemmas.List.{drop_more, drop_all, length_push, length-map}
 use Rattle.std.specs.Prelude.{map}
 use Rattle.dx_ports.specs.Members.{◌∈◌}
@@ -11,7 +11,7 @@ use Rattle.dx_schema.specs.Tables.{TableOf, tables_of, table_at, model_tables, a
 use Rattle.dx_logical.specs.declared.relation.Occurrence.{Occurrence}
 use Rattle.dx_logical.specs.declared.relation.Relation.{Relation}
 use Rattle.dx_logical.specs.Filled.{fresh_below}
-use Rattle.dx_logical.specs.Unfolding.{Follows, none, along, each_link, all_links, joined, items_at, row_of, continued, nothing, unfolding_of}
+use Rattle.dx_logical.specs.Unfolding.{Follows, none, along, each_link, all_links, joined, joined_along, row_along, row_of, continued, nothing, unfolding_of}
 use Rattle.dx_logical.specs.Laws.{IsSmall}
 use Rattle.dx_logical.proofs.Fresh.{fresh_at_most}
 
@@ -19,11 +19,9 @@ use Rattle.dx_logical.proofs.Fresh.{fresh_at_most}
 pub grows : (schema : List Table) (p : ℕ) (vs : List ℕ) (r : Relation) (f : Follows) → length r.occurrences ≤ length (continued schema p vs r f).occurrences
 grows schema p vs r none = omega arith
 grows schema p vs r (along k l below beside) =
-    let w = (table_of schema l.table).width in
-    let shared = items_at l.from vs in
-    let with_it = joined r l.table w l.to shared (Some p) k in
-    let next = continued schema (length r.occurrences) (row_of r.variables l.to shared w) with_it below in
-    let a = grows schema (length r.occurrences) (row_of r.variables l.to shared w) with_it below in
+    let with_it = joined_along schema p vs r k l in
+    let next = continued schema (length r.occurrences) (row_along schema l vs r) with_it below in
+    let a = grows schema (length r.occurrences) (row_along schema l vs r) with_it below in
     let b = grows schema p vs next beside in
     let e : length with_it.occurrences ≡ length r.occurrences + 1 = length_push r.occurrences _ in
     omega (arith, a, b, e)
@@ -32,11 +30,9 @@ grows schema p vs r (along k l below beside) =
 pub grows_along : (schema : List Table) (p : ℕ) (vs : List ℕ) (r : Relation) (k : ℕ) (l : Link) (below beside : Follows)
     → length r.occurrences < length (continued schema p vs r (along k l below beside)).occurrences
 grows_along schema p vs r k l below beside =
-    let w = (table_of schema l.table).width in
-    let shared = items_at l.from vs in
-    let with_it = joined r l.table w l.to shared (Some p) k in
-    let next = continued schema (length r.occurrences) (row_of r.variables l.to shared w) with_it below in
-    let a = grows schema (length r.occurrences) (row_of r.variables l.to shared w) with_it below in
+    let with_it = joined_along schema p vs r k l in
+    let next = continued schema (length r.occurrences) (row_along schema l vs r) with_it below in
+    let a = grows schema (length r.occurrences) (row_along schema l vs r) with_it below in
     let b = grows schema p vs next beside in
     let e : length with_it.occurrences ≡ length r.occurrences + 1 = length_push r.occurrences _ in
     omega (arith, a, b, e)
@@ -79,14 +75,12 @@ is_link tables t d ls k l a h e m i =
     (is_table tables t d a h).links l (rw e at inside)
 
 -- going along a link
-pub step_along : (schema : List Table) (p q n k : ℕ) (vs to shared row : List ℕ) (w : ℕ) (r r1 r2 : Relation) (ls : List Link) (l : Link)
-    → k < length ls → l ≡ get_or ls k l → q ≡ length r.occurrences → to ≡ l.to → w ≡ (table_of schema l.table).width → shared ≡ items_at l.from vs
-    → row ≡ row_of r.variables to shared w → r1 ≡ joined r l.table w to shared (Some p) k
-    → r2 ≡ continued schema q row r1 (all_links schema n l.table)
+pub step_along : (schema : List Table) (p q n k : ℕ) (vs row : List ℕ) (r r1 r2 : Relation) (ls : List Link) (l : Link) → k < length ls → l ≡ get_or ls k l → q ≡ length r.occurrences
+    → row ≡ row_along schema l vs r → r1 ≡ joined_along schema p vs r k l → r2 ≡ continued schema q row r1 (all_links schema n l.table)
     → continued schema p vs r (rest_links schema n ls k) ≡ continued schema p vs r2 (rest_links schema n ls (k + 1))
-step_along schema p q n k vs to shared row w r r1 r2 ls l h i e_q e_to e_w e_shared e_row e_1 e_2 =
+step_along schema p q n k vs row r r1 r2 ls l h i e_q e_row e_1 e_2 =
     let e : rest_links schema n ls k ≡ along k l (all_links schema n l.table) (rest_links schema n ls (k + 1)) = rw (← i) at (rest_more schema n ls k l h) in
-    rw (e, e_2, e_1, e_row, e_shared, e_w, e_to, e_q) refl
+    rw (e, e_2, e_1, e_row, e_q) refl
 
 -- too wide below a link, and too wide in all
 pub wide_below : (schema : List Table) (p n k : ℕ) (vs : List ℕ) (r r2 whole : Relation) (ls : List Link)

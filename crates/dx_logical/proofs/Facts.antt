@@ -1,5 +1,5 @@
 -- What holds of unfoldings.
-use Rattle.std.proofs.Common.{◌≡◌, ℕ, zero, suc, ◌+◌, ◌<◌, ◌≤◌, cond, eqb, Option, Some, None, is_some, unwrap_or, List, [], ◌∷◌, ◌++◌, length, get_or, drop, refl, sym, ◌∙◌, ap, subst, inl, inr, arith, add-one}
+use Rattle.std.proofs.Common.{◌≡◌, ℕ, zero, suc, ◌+◌, ◌<◌, ◌≤◌, ◌⊎◌, cond, eqb, Option, Some, None, is_some, unwrap_or, List, [], ◌∷◌, ◌++◌, length, get_or, drop, refl, sym, ◌∙◌, ap, subst, inl, inr, arith, add-one}
 use Rattle.std.specs.Prelude.{map, slice_index, IfSome}
 use Rattle.std.proofs.lemmas.Bool.{cases_lt, cond_both, cond-true, cond-false, eq-eqb, ne_eqb}
 use Rattle.std.proofs.lemmas.List.{drop_more, drop_all, length_push, get_or_push, get_or_append_left, length-map, length-drop, append-nil}
@@ -15,13 +15,13 @@ use Rattle.dx_logical.specs.declared.relation.Occurrence.{Occurrence}
 use Rattle.dx_logical.specs.declared.relation.Relation.{Relation}
 use Rattle.dx_logical.specs.Filled.{given, fresh_below, filled}
 use Rattle.dx_logical.specs.Unfolding.{Follows, none, along, each_link, all_links, joined, items_at, row_of, continued, nothing, alone, unfolding_of}
-use Rattle.dx_logical.specs.Laws.{LinkFits, LinksFit, occurrence_at, link_at, IsOccurrence, AreOccurrences, IsAlong, AreAlongLinks, shared_columns, IsFresh, AreFresh, Numbered, variables_of, UnfoldingsAre}
+use Rattle.dx_logical.specs.Laws.{LinkFits, LinksFit, occurrence_at, link_at, IsOccurrence, AreOccurrences, IsAlong, AreAlongLinks, shared_columns, IsFresh, AreFresh, HasOneRoot, FollowOnce, Numbered, variables_of, UnfoldingsAre}
 use Rattle.dx_logical.proofs.Fresh.{filled_length, one_fresh}
 
 -- ---- rows
 
 -- the item in a column of a filled row
-filled_at : {X : Type 0} (fresh : ℕ → X) (n : ℕ) (ks : List ℕ) (xs : List X) (w c : ℕ) (d : X) → c < w
+pub filled_at : {X : Type 0} (fresh : ℕ → X) (n : ℕ) (ks : List ℕ) (xs : List X) (w c : ℕ) (d : X) → c < w
     → get_or (filled fresh n ks xs w) c d ≡ unwrap_or (given ks xs c) (fresh (n + fresh_below ks xs c))
 filled_at fresh n ks xs zero c d h = absurd (omega arith)
 filled_at fresh n ks xs (suc w) c d h = elim (cases_lt c w) [
@@ -32,7 +32,7 @@ filled_at fresh n ks xs (suc w) c d h = elim (cases_lt c w) [
 ]
 
 -- what has the given items in the given columns gives them back
-map_given : {X : Type 0} (ks : List ℕ) (xs : List X) (g : ℕ → X) → Distinct ks → length ks ≡ length xs → ((c : ℕ) (x : X) → c ∈ ks → given ks xs c ≡ Some x → g c ≡ x) → map g ks ≡ xs
+pub map_given : {X : Type 0} (ks : List ℕ) (xs : List X) (g : ℕ → X) → Distinct ks → length ks ≡ length xs → ((c : ℕ) (x : X) → c ∈ ks → given ks xs c ≡ Some x → g c ≡ x) → map g ks ≡ xs
 map_given [] [] g a e h = refl
 map_given [] (x ∷ xs) g a e h = absurd (omega arith)
 map_given (k ∷ ks) [] g a e h = absurd (omega arith)
@@ -49,11 +49,11 @@ row_shares n ks xs w a e h =
     map_given ks xs (λ c. slice_index (row_of n ks xs w) c) a e (λ c x m i. filled_at (λ v. v) n ks xs w c 0 (h c m) ∙ rw i refl)
 
 -- what is given is one of the items
-given_among : (ks xs : List ℕ) (c x : ℕ) → given ks xs c ≡ Some x → x ∈ xs
+pub given_among : {X : Type 0} (ks : List ℕ) (xs : List X) (c : ℕ) (x : X) → given ks xs c ≡ Some x → x ∈ xs
 given_among [] xs c x e = absurd (cc)
 given_among (k ∷ ks) [] c x e = absurd (cc)
-given_among (k ∷ ks) (y ∷ ys) c x e =
-    let P : Option ℕ → Type 0 = λ o. o ≡ Some x → x ∈ (y ∷ ys) in
+given_among {X} (k ∷ ks) (y ∷ ys) c x e =
+    let P : Option X → Type 0 = λ o. o ≡ Some x → x ∈ (y ∷ ys) in
     cond_both (eqb k c) (Some y) (given ks ys c) P (λ _ d. here (cc)) (λ _ d. there (given_among ks ys c x d)) e
 
 step_within : (n F x : ℕ) (o : Option ℕ) → ((y : ℕ) → o ≡ Some y → y < n) → unwrap_or o (n + F) ≡ x → x < n + (F + cond (is_some o) 0 1)
@@ -73,7 +73,7 @@ row_within n ks xs (suc w) h x m = elim (from_append (row_of n ks xs w) m) [
     last (there k) = elim k [ ]
 
 -- what is numbered so far, and goes on so
-numbered_further : (n k m : ℕ) (xs ys : List ℕ) → Numbered n xs k → Numbered k ys m → Numbered n (xs ++ ys) m
+pub numbered_further : (n k m : ℕ) (xs ys : List ℕ) → Numbered n xs k → Numbered k ys m → Numbered n (xs ++ ys) m
 numbered_further n k m [] ys a b = rw a b
 numbered_further n k m (x ∷ xs) ys a b = elim a [
   | inl l ↦ inl (l.0, numbered_further n k m xs ys l.1 b)
@@ -469,6 +469,173 @@ all_follow schema t p k vs r (along j l below beside) (l' ∷ ls) fits a e t_in 
       follow_parts schema next whole (length r.occurrences) x_beside (omega (arith, x_below.longer)) first near outer.1,
     )
 
+-- ---- one root, and no link twice
+
+-- each parent stands before
+abbrev pub AreBefore : Relation → Type 0
+AreBefore r = (q p : ℕ) → q < length r.occurrences → (occurrence_at r q).parent ≡ Some p → p < q
+
+-- what follows from number p follows along links below number k
+abbrev pub AreBelow : Relation → ℕ → ℕ → Type 0
+AreBelow r p k = (q : ℕ) → q < length r.occurrences → (occurrence_at r q).parent ≡ Some p → (occurrence_at r q).link < k
+
+-- what follows in s from another one of r than number p is one of r
+abbrev AreOld : Relation → Relation → ℕ → Type 0
+AreOld r s p = (q m : ℕ) → q < length s.occurrences → (occurrence_at s q).parent ≡ Some m → m < length r.occurrences → (m ≡ p) ⊎ (q < length r.occurrences)
+
+-- what holds of a relation that went on from number p
+record IsOnce (r s : Relation) (p : ℕ) : Type 0 where
+  pub root : HasOneRoot s
+  pub once : FollowOnce s
+  pub before : AreBefore s
+  pub old : AreOld r s p
+
+same_parent : (o : Option ℕ) (p m : ℕ) → o ≡ Some p → o ≡ Some m → p ≡ m
+same_parent o p m a b = let e : Some p ≡ Some m = sym a ∙ b in cc
+
+-- a relation with one occurrence more, which follows from number p along link number k
+record IsMore (r s : Relation) (p k : ℕ) : Type 0 where
+  pub one : length s.occurrences ≡ length r.occurrences + 1
+  pub same : (n : ℕ) → n < length r.occurrences → occurrence_at s n ≡ occurrence_at r n
+  pub parent : (occurrence_at s (length r.occurrences)).parent ≡ Some p
+  pub link : (occurrence_at s (length r.occurrences)).link ≡ k
+
+-- a number below the length of the relation with one more
+last_or_old : (r s : Relation) (q : ℕ) → length s.occurrences ≡ length r.occurrences + 1 → q < length s.occurrences → (q < length r.occurrences) ⊎ (q ≡ length r.occurrences)
+last_or_old r s q one h = elim (cases_lt q (length r.occurrences)) [ inl l ↦ inl l | inr g ↦ inr (omega arith) ]
+
+old_parent : (r s : Relation) (p k q : ℕ) (o : Option ℕ) → IsMore r s p k → q < length r.occurrences → (occurrence_at s q).parent ≡ o → (occurrence_at r q).parent ≡ o
+old_parent r s p k q o m h e = sym (ap (λ (o : Occurrence). o.parent) (m.same q h)) ∙ e
+
+old_link : (r s : Relation) (p k q : ℕ) → IsMore r s p k → q < length r.occurrences → (occurrence_at s q).link ≡ (occurrence_at r q).link
+old_link r s p k q m h = ap (λ (o : Occurrence). o.link) (m.same q h)
+
+last_parent : (r s : Relation) (p k q : ℕ) → IsMore r s p k → q ≡ length r.occurrences → (occurrence_at s q).parent ≡ Some p
+last_parent r s p k q m e = subst (λ (i : ℕ). (occurrence_at s i).parent ≡ Some p) (sym e) m.parent
+
+last_link : (r s : Relation) (p k q : ℕ) → IsMore r s p k → q ≡ length r.occurrences → (occurrence_at s q).link ≡ k
+last_link r s p k q m e = subst (λ (i : ℕ). (occurrence_at s i).link ≡ k) (sym e) m.link
+
+root_more : (r s : Relation) (p k : ℕ) → IsMore r s p k → HasOneRoot r → HasOneRoot s
+root_more r s p k m root q h e = elim (last_or_old r s q m.one h) [
+  | inl l ↦ root q l (old_parent r s p k q None m l e)
+  | inr g ↦ absurd (let f : None ≡ Some p = sym e ∙ last_parent r s p k q m g in cc)
+]
+
+before_more : (r s : Relation) (p k : ℕ) → IsMore r s p k → p < length r.occurrences → AreBefore r → AreBefore s
+before_more r s p k m p_in before q n h e = elim (last_or_old r s q m.one h) [
+  | inl l ↦ before q n l (old_parent r s p k q (Some n) m l e)
+  | inr g ↦ let d = same_parent (occurrence_at s q).parent p n (last_parent r s p k q m g) e in omega arith
+]
+
+-- the new one follows from number p along a link that no other one has
+new_alone : (r s : Relation) (p k q n u : ℕ) → IsMore r s p k → AreBelow r p k → q < length r.occurrences → n ≡ length r.occurrences
+    → (occurrence_at s q).parent ≡ Some u → (occurrence_at s n).parent ≡ Some u → ¬ ((occurrence_at s q).link ≡ (occurrence_at s n).link)
+new_alone r s p k q n u m below l g e_q e_n e =
+    let d : p ≡ u = same_parent (occurrence_at s n).parent p u (last_parent r s p k n m g) e_n in
+    let b = below q l (rw d (old_parent r s p k q (Some u) m l e_q)) in
+    let i = old_link r s p k q m l in
+    let j = last_link r s p k n m g in
+    omega (arith, b, i, j, e)
+
+once_more : (r s : Relation) (p k : ℕ) → IsMore r s p k → AreBelow r p k → FollowOnce r → FollowOnce s
+once_more r s p k m below once u q n h i e_q e_n e = elim (last_or_old r s q m.one h) [
+  | inl a ↦ elim (last_or_old r s n m.one i) [
+    | inl b ↦ once u q n a b (old_parent r s p k q (Some u) m a e_q) (old_parent r s p k n (Some u) m b e_n) (sym (old_link r s p k q m a) ∙ (e ∙ old_link r s p k n m b))
+    | inr g ↦ absurd (new_alone r s p k q n u m below a g e_q e_n e)
+  ]
+  | inr f ↦ elim (last_or_old r s n m.one i) [
+    | inl b ↦ absurd (new_alone r s p k n q u m below b f e_n e_q (sym e))
+    | inr g ↦ omega arith
+  ]
+]
+
+-- nothing follows from the new one yet
+none_from_new : (r s : Relation) (p k : ℕ) → IsMore r s p k → AreBefore s → AreBelow s (length r.occurrences) 0
+none_from_new r s p k m before q h e = absurd (let b = before q (length r.occurrences) h e in let one = m.one in omega arith)
+
+-- where s goes on from the new one, what follows from number p follows along links up to number k
+below_next : (r s t : Relation) (p k : ℕ) → IsMore r s p k → p < length r.occurrences → AreBelow r p k → Extends s t → AreOld s t (length r.occurrences) → AreBelow t p (suc k)
+below_next r s t p k m p_in below x old q h e =
+    let one = m.one in
+    elim (old q p h e (omega arith)) [
+      | inl a ↦ absurd (omega arith)
+      | inr l ↦
+          let e_s : (occurrence_at s q).parent ≡ Some p = sym (ap (λ (o : Occurrence). o.parent) (x.same q l)) ∙ e in
+          let i : (occurrence_at t q).link ≡ (occurrence_at s q).link = ap (λ (o : Occurrence). o.link) (x.same q l) in
+          elim (last_or_old r s q m.one l) [
+            | inl a ↦ let b = below q a (old_parent r s p k q (Some p) m a e_s) in let j = old_link r s p k q m a in omega (arith, b, i, j)
+            | inr g ↦ let j = last_link r s p k q m g in omega (arith, i, j)
+          ]
+    ]
+
+-- what follows from another one of r than number p stays one of r
+old_far : (r s t u : Relation) (p k : ℕ) → IsMore r s p k → p < length r.occurrences → Extends s t → Extends t u → AreOld s t (length r.occurrences) → AreOld t u p → AreOld r u p
+old_far r s t u p k m p_in x y near far q n h e n_in =
+    let one = m.one in
+    let longer = x.longer in
+    elim (far q n h e (omega arith)) [
+      | inl a ↦ inl a
+      | inr l ↦
+          let e_t : (occurrence_at t q).parent ≡ Some n = sym (ap (λ (o : Occurrence). o.parent) (y.same q l)) ∙ e in
+          elim (near q n l e_t (omega arith)) [
+            | inl a ↦ absurd (omega arith)
+            | inr b ↦
+                let e_s : (occurrence_at s q).parent ≡ Some n = sym (ap (λ (o : Occurrence). o.parent) (x.same q b)) ∙ e_t in
+                elim (last_or_old r s q m.one b) [
+                  | inl c ↦ inr c
+                  | inr g ↦ inl (sym (same_parent (occurrence_at s q).parent p n (last_parent r s p k q m g) e_s))
+                ]
+          ]
+    ]
+
+is_more : (r : Relation) (t w : ℕ) (columns shared : List ℕ) (p k : ℕ) → IsMore r (joined r t w columns shared (Some p) k) p k
+is_more r t w columns shared p k =
+    let last = last_joined r t w columns shared (Some p) k in
+    record {
+      one = length_push r.occurrences _;
+      same = (extends_joined r t w columns shared (Some p) k).same;
+      parent = ap (λ (o : Occurrence). o.parent) last;
+      link = ap (λ (o : Occurrence). o.link) last;
+    }
+
+goes_once : (schema : List Table) (p k : ℕ) (vs : List ℕ) (r : Relation) (f : Follows) (ls : List Link) → AreAllLinks schema f k ls → p < length r.occurrences
+    → HasOneRoot r → FollowOnce r → AreBefore r → AreBelow r p k → IsOnce r (continued schema p vs r f) p
+goes_once schema p k vs r none ls a p_in root once before below = record { root = root; once = once; before = before; old = λ q m h e n_in. inr h }
+goes_once schema p k vs r (along j l below_it beside) [] a p_in root once before below = absurd a
+goes_once schema p k vs r (along j l below_it beside) (l' ∷ ls) a p_in root once before below =
+    let w = (table_of schema l.table).width in
+    let shared = items_at l.from vs in
+    let row = row_of r.variables l.to shared w in
+    let new = joined r l.table w l.to shared (Some p) j in
+    let m : IsMore r new p k = subst (λ (i : ℕ). IsMore r new p i) a.0 (is_more r l.table w l.to shared p j) in
+    let one = m.one in
+    let before_new = before_more r new p k m p_in before in
+    let next = continued schema (length r.occurrences) row new below_it in
+    let x = extends schema (length r.occurrences) row new below_it in
+    let longer = x.longer in
+    let inner = goes_once schema (length r.occurrences) 0 row new below_it (table_of schema l.table).links a.2 (omega arith)
+    (root_more r new p k m root) (once_more r new p k m below once) before_new (none_from_new r new p k m before_new) in
+    let outer = goes_once schema p (suc k) vs next beside ls a.3 (omega arith) inner.root inner.once inner.before (below_next r new next p k m p_in below x inner.old) in
+    record {
+      root = outer.root;
+      once = outer.once;
+      before = outer.before;
+      old = old_far r new next (continued schema p vs next beside) p k m p_in x (extends schema p vs next beside) inner.old outer.old;
+    }
+
+-- an occurrence alone, and what follows from it
+pub alone_once : (schema : List Table) (t : ℕ) (vs : List ℕ) (f : Follows) (ls : List Link) → AreAllLinks schema f 0 ls
+    → HasOneRoot (continued schema 0 vs (alone schema t) f) × FollowOnce (continued schema 0 vs (alone schema t) f)
+alone_once schema t vs f ls a =
+    let whole = goes_once schema 0 0 vs (alone schema t) f ls a (omega arith)
+    (λ q h e. omega arith) (λ p q n h i e_q e_n e. omega arith)
+    (λ q p h e. absurd (no_parent q p h e)) (λ q h e. absurd (no_parent q 0 h e)) in
+    (whole.root, whole.once)
+  where
+    no_parent : (q p : ℕ) → q < length (alone schema t).occurrences → (occurrence_at (alone schema t) q).parent ≡ Some p → ⊥
+    no_parent q p h e = let z : q ≡ 0 = omega arith in let f : None ≡ Some p = rw z at e in cc
+
 -- ---- the unfolding
 
 well_alone : (schema : List Table) (t : ℕ) → t < length schema → IsWell schema (alone schema t)
@@ -494,14 +661,17 @@ unfoldings_are schema t fits a h =
     let ok = well schema t 0 row (alone schema t) f fits (all_links_are schema (length schema) t) h (omega arith) refl refl (well_alone schema t h) in
     let all = all_follow schema t 0 0 row (alone schema t) f (table_of schema t).links fits (all_links_all schema t a h) refl h (omega arith) refl refl in
     let root : (occurrence_at (unfolding_of schema t) 0).table ≡ t = ap (λ (o : Occurrence). o.table) (x.same 0 (omega arith)) in
+    let single = alone_once schema t row f (table_of schema t).links (all_links_all schema t a h) in
     let first : FollowFrom schema (unfolding_of schema t) 0 (occurrence_at (unfolding_of schema t) 0).table 0 = subst (λ (u : ℕ). FollowFrom schema (unfolding_of schema t) 0 u 0) (sym root) all.0 in
     record {
       some = omega (arith, x.longer);
       root = root;
+      one_root = single.0;
       occurrences = ok.occurrences;
       along_links = ok.along_links;
       fresh = ok.fresh;
       numbered = ok.numbered;
+      once = single.1;
       each_link = λ p k p_in m. elim (cases_lt 0 p) [
         | inl l ↦ all.1 p (omega arith) p_in k (omega arith) m
         | inr g ↦ let e : 0 ≡ p = omega arith in subst (λ (i : ℕ). FollowFrom schema (unfolding_of schema t) i (occurrence_at (unfolding_of schema t) i).table 0) e first k (omega arith) m

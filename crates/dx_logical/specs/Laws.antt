@@ -60,6 +60,16 @@ HasEachLink schema r =
     (p k : ℕ) → p < length r.occurrences → k < length (table_of schema (occurrence_at r p).table).links
     → (q : ℕ) × IsAlong r p k (link_at schema (occurrence_at r p).table k) q
 
+-- all but number 0 follow from one
+abbrev pub HasOneRoot : Relation → Type 0
+HasOneRoot r = (q : ℕ) → q < length r.occurrences → (occurrence_at r q).parent ≡ None → q ≡ 0
+
+-- no two follow from one along one link
+abbrev pub FollowOnce : Relation → Type 0
+FollowOnce r =
+    (p q n : ℕ) → q < length r.occurrences → n < length r.occurrences → (occurrence_at r q).parent ≡ Some p → (occurrence_at r n).parent ≡ Some p
+    → (occurrence_at r q).link ≡ (occurrence_at r n).link → q ≡ n
+
 -- each link of each of these occurrences is served by one of them
 abbrev pub AreServed : List Table → List Occurrence → Type 0
 AreServed schema os =
@@ -95,9 +105,11 @@ AreFresh schema r =
 pub record IsUnfolding (schema : List Table) (t : ℕ) (r : Relation) : Type 0 where
   pub some : 0 < length r.occurrences
   pub root : (occurrence_at r 0).table ≡ t
+  pub one_root : HasOneRoot r
   pub occurrences : AreOccurrences schema r
   pub along_links : AreAlongLinks schema r
   pub each_link : HasEachLink schema r
+  pub once : FollowOnce r
   pub fresh : AreFresh schema r
   pub numbered : Numbered 0 (variables_of r) r.variables
 

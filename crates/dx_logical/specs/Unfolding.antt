@@ -41,15 +41,19 @@ joined r t width columns shared parent link = record {
   variables = r.variables + fresh_below columns shared width;
 }
 
--- the relation, and then what follows from its occurrence number p, which has the variables vs:
--- along each link an occurrence whose referred columns have the variables of the referring columns, and behind it what follows from it
+-- the variables of an occurrence along a link from one that has the variables vs: its referred columns have the variables of the referring columns
+abbrev pub row_along : List Table → Link → List ℕ → Relation → List ℕ
+row_along schema l vs r = row_of r.variables l.to (items_at l.from vs) (table_of schema l.table).width
+
+-- one occurrence more, along link number k from occurrence number p, which has the variables vs
+abbrev pub joined_along : List Table → ℕ → List ℕ → Relation → ℕ → Link → Relation
+joined_along schema p vs r k l = joined r l.table (table_of schema l.table).width l.to (items_at l.from vs) (Some p) k
+
+-- the relation, and then what follows from its occurrence number p, which has the variables vs: along each link one occurrence more, and behind it what follows from it
 abbrev pub continued : List Table → ℕ → List ℕ → Relation → Follows → Relation
 continued schema p vs r none = r
 continued schema p vs r (along k l below beside) =
-    let width = (table_of schema l.table).width in
-    let shared = items_at l.from vs in
-    let with_it = joined r l.table width l.to shared (Some p) k in
-    continued schema p vs (continued schema (length r.occurrences) (row_of r.variables l.to shared width) with_it below) beside
+    continued schema p vs (continued schema (length r.occurrences) (row_along schema l vs r) (joined_along schema p vs r k l) below) beside
 
 -- no occurrence
 abbrev pub nothing : Relation

@@ -1,8 +1,9 @@
 //! Unfoldings: a table with all that follows from it along the links of its schema, as occurrences of tables that
 //! share variables. The definitions (specs/Unfolding) make a tree of followed links first and then number it; `unfold`
 //! goes along the links and makes the occurrences as it meets them, at most 64. specs/Laws has what holds of them.
-//! The layers above read lines between two unfoldings, and make rules of these. The tree is the one place that knows
-//! which links are followed: to follow some links or none, another maker of trees is enough.
+//! The layers above read lines between two unfoldings, and make rules of these. In the definitions the tree is the one
+//! place that knows which links are followed: to follow some links or none, another maker of trees is enough there;
+//! `unfold` itself has no tree and follows each link.
 #![tactic(auto)]
 
 mod fault;

@@ -5,9 +5,13 @@ use dx_ports::Items;
 /// follows from.
 #[derive(Debug, Drop)]
 pub struct Occurrence {
+    /// The number of the table in its schema, counted from 0.
     pub table: u32,
+    /// The variable of each column, in order.
     pub variables: Items<u32>,
+    /// The number of the occurrence that it follows from, counted from 0. None at the root.
     pub parent: Option<u32>,
+    /// The number of the link among those of the parent's table, counted from 0. 0 at the root, where it says nothing.
     pub link: u32,
 }
 

@@ -2,7 +2,6 @@
 use Rattle.std.proofs.Common.{◌≡◌, ℕ, zero, suc, List, [], ◌∷◌, inl, inr, refl, sym, ◌∙◌, ap}
 use Rattle.std.specs.Prelude.{map, slice_index_or}
 use Rattle.std.proofs.lemmas.List.{length-map}
-use Rattle.dx_model.specs.declared.values.NullId.{NullId}
 use Rattle.dx_model.specs.declared.values.Value.{Value}
 use Rattle.dx_model.specs.declared.values.Value.TheVariants.{Null}
 use Rattle.dx_model.specs.declared.facts.Fact.{Fact}
@@ -11,7 +10,7 @@ use Rattle.dx_model.specs.declared.rules.Cell.TheVariants.{Lit}
 use Rattle.dx_model.specs.declared.rules.Atom.{Atom}
 use Rattle.dx_model.specs.declared.rules.Rule.{Rule}
 use Rattle.dx_ports.specs.Members.{◌∈◌, here, there, Each}
-use Rattle.dx_model.specs.Tables.{Table, cell, values_in, IsInstance, LinksHold}
+use Rattle.dx_model.specs.Tables.{cell, values_in, IsInstance, LinksHold}
 use Rattle.dx_model.specs.Rules.{cell_value, said, exported, text_of, at_place, at_places, canonical}
 use Rattle.dx_model.specs.Solutions.{cells_in}
 use Rattle.dx_model.specs.Laws.{CanonicalFits}

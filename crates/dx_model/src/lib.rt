@@ -1,4 +1,8 @@
-//! The book of definitions: the types of data exchange, its notions (specs/) and their laws.
+//! The book of definitions: the types of data exchange, its notions and their laws.
+//!
+//! Read specs/ in this order: `Values`, `Instances`, `Tables`, `Rules`, `Solutions`, `Laws`. Each law is the clause of a
+//! public function with an empty body (src/laws.rt); that the canonical instance of closed rules is a universal solution
+//! where keys hold is one of them. The calls of `Value` and `Row` compare, copy and grow, exactly as the notions say.
 #![tactic(auto)]
 
 mod facts;

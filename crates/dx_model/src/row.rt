@@ -32,6 +32,7 @@ impl Model for Row {
 }
 
 impl Row {
+    /// A row without values.
     pub fn new(alloc: Global) -> Row
         ensures { result ≡ [] }
     {
@@ -40,6 +41,11 @@ impl Row {
         }
     }
 
+    /// One value more, at the end.
+    ///
+    /// # Errors
+    ///
+    /// `AllocError` where there is no memory: the row stays as it was, and the value is dropped.
     pub fn push(&mut self, item: Value) -> Result<(), AllocError>
         ensures ok { OnOk result (self.new ≡ self.old ++ item ∷ []) }
         ensures err { OnErr result (self.new ≡ self.old) }
@@ -48,12 +54,14 @@ impl Row {
         Ok(())
     }
 
+    /// How many values there are.
     pub fn len(&self) -> u64
         ensures { result ≡ length self.now }
     {
         self.values.len() as u64
     }
 
+    /// The values in order, lent.
     pub fn items(&self) -> &[Value]
         ensures { result.now ≡ self.now }
     {

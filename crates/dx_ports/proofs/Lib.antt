@@ -2,3 +2,6 @@ pub mod Members
 pub mod Loops
 pub mod Held
 pub mod Prefixes
+pub mod Ranges
+pub mod Tests
+pub mod Firsts

@@ -3,3 +3,4 @@ pub mod Entries
 pub mod Faults
 pub mod MemInputs
 pub mod MemOutputs
+pub mod Firsts

@@ -11,18 +11,31 @@ pub struct File {
 /// What a limit counts.
 #[derive(Clone, Copy, Debug, PartialEq, Eq)]
 pub enum Count {
+    /// Bytes of the mapping text.
     TextBytes,
+    /// Bytes of all source files together.
     DataBytes,
+    /// Sets of a schema, inner sets included: each is a table.
     Tables,
+    /// Columns of a table.
     Columns,
+    /// Levels of sets, one inside the other.
     Depth,
+    /// Lines of a mapping.
     Lines,
+    /// Occurrences of an unfolding.
     Occurrences,
+    /// Ways between a source table and a target table.
     Ways,
+    /// Candidates of the lines of a mapping.
     Candidates,
+    /// Rules of a mapping.
     Rules,
+    /// Cells of all source rows, repeated rows included.
     SourceCells,
+    /// Cells of the canonical instance, counted for each match.
     TargetCells,
+    /// Not answered by any call yet.
     FrozenCells,
 }
 

@@ -35,13 +35,20 @@ pub trait Inputs {
     /// The bytes by name, where it tells them.
     ghost holds: { Self → Option Held };
 
-    /// How often a read has failed.
+    /// How many reads have failed; no other call changes it.
     ghost faults: { Self → ℕ };
 
     /// The name at which a read failed, where it tells it.
     ghost stopped: { Self → Option (List ℕ) };
 
-    /// The bytes of a file, at most `limit` of them.
+    /// The bytes of a file of at most `limit` bytes; a longer one is refused. They are put into `into`, in place of
+    /// what it has.
+    ///
+    /// # Errors
+    ///
+    /// Where the inputs tell what they hold, `Absent`: there is no file of this name, and `Long`: the file has more
+    /// than `limit` bytes. `Failed`: a read failed, and was counted. `Memory` where there is no memory. `into` is empty
+    /// after each of them.
     fn fetch(&mut self, name: &Text, limit: u64, into: &mut Vec<u8>) -> Result<(), FetchFault>
         ensures kept { holds self.new ≡ holds self.old }
         ensures counted { faults self.old ≤ faults self.new }
@@ -54,5 +61,7 @@ pub trait Inputs {
         ensures long { IfSome (holds self.old) (λ m. IsErrOf result FetchFault.Long
             → IsSomeAnd (get m name.now) (λ bytes. limit < length bytes)) }
         ensures failed { IsErrOf result FetchFault.Failed → Rose (faults self.old) (faults self.new) }
-        ensures named { IsErrOf result FetchFault.Failed → IfSome (stopped self.new) (λ n. n ≡ name.now) };
+        ensures named { IsErrOf result FetchFault.Failed → IfSome (stopped self.new) (λ n. n ≡ name.now) }
+        ensures steady { ¬ (IsErrOf result FetchFault.Failed) → faults self.new ≡ faults self.old }
+        ensures stays { ¬ (IsErrOf result FetchFault.Failed) → stopped self.new ≡ stopped self.old };
 }

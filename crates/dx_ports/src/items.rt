@@ -59,7 +59,11 @@ impl<T> Items<T> {
 }
 
 impl<T: Drop> Items<T> {
-    /// One item more. Where there is no memory for it, the list stays as it was and the item is dropped.
+    /// One item more, at the end.
+    ///
+    /// # Errors
+    ///
+    /// `AllocError` where there is no memory: the list stays as it was, and the item is dropped.
     pub fn push(&mut self, item: T) -> Result<(), AllocError>
         ensures ok { OnOk result (self.new ≡ self.old ++ item ∷ []) }
         ensures err { OnErr result (self.new ≡ self.old) }

@@ -21,7 +21,8 @@ pub struct MemInputs {
 impl MemInputs {
     ghost use Rattle.dx_ports.specs.MemInputs.{next_call, failing_calls};
 
-    /// Inputs that hold these files, of equal names the first. The calls of `fetch` with these numbers fail, counted from 0.
+    /// Inputs that hold these files, of equal names the first. The calls of `fetch` with these numbers fail, counted
+    /// from 0.
     pub fn new(files: Vec<File>, fails: Vec<u64>) -> MemInputs
         ensures holds { ⟦<MemInputs as Inputs>⟧.holds result ≡ Some (held_by files.items) }
         ensures faults { ⟦<MemInputs as Inputs>⟧.faults result ≡ 0 }
@@ -71,12 +72,15 @@ impl Inputs for MemInputs {
             → IsSomeAnd (get m name.now) (λ bytes. limit < length bytes)) }
         ensures failed { IsErrOf result FetchFault.Failed → Rose (⟦<MemInputs as Inputs>⟧.faults self.old) (⟦<MemInputs as Inputs>⟧.faults self.new) }
         ensures named { IsErrOf result FetchFault.Failed → IfSome (⟦<MemInputs as Inputs>⟧.stopped self.new) (λ n. n ≡ name.now) }
+        ensures steady { ¬ (IsErrOf result FetchFault.Failed) → ⟦<MemInputs as Inputs>⟧.faults self.new ≡ ⟦<MemInputs as Inputs>⟧.faults self.old }
+        ensures stays { ¬ (IsErrOf result FetchFault.Failed) → ⟦<MemInputs as Inputs>⟧.stopped self.new ≡ ⟦<MemInputs as Inputs>⟧.stopped self.old }
 
-        // What the trait leaves open: which calls fail.
+        // What the trait leaves open: which calls fail, and that each of them counts one fault.
         ensures only_these { IsErrOf result FetchFault.Failed → Contains (failing_calls self.old) (next_call self.old) }
         ensures these { Contains (failing_calls self.old) (next_call self.old)
             → IsErrOf result FetchFault.Failed ⊎ IsErrOf result FetchFault.Memory }
         ensures tells { IsErrOf result FetchFault.Failed → ⟦<MemInputs as Inputs>⟧.stopped self.new ≡ Some name.now }
+        ensures raised { IsErrOf result FetchFault.Failed → ⟦<MemInputs as Inputs>⟧.faults self.new ≡ min (⟦<MemInputs as Inputs>⟧.faults self.old + 1) (2 ^ 64 - 1) }
         ensures number { next_call self.new ≡ min (next_call self.old + 1) (2 ^ 64 - 1) }
         ensures same_numbers { failing_calls self.new ≡ failing_calls self.old }
     {

@@ -1,7 +1,7 @@
 // Outputs in memory, which can be made to fail.
 ghost use Rattle.std.specs.Prelude.{◌≡◌, ℕ, [], ◌∷◌, Some, OnOk, OnErr, IsErrOf, IsTrue, Contains, min, ◌↔◌, ◌+◌, ◌-◌, ◌^◌, ◌≤◌};
 ghost use Rattle.dx_ports.specs.Entries.{entries_of, appended, GrewByPrefix};
-ghost use Rattle.std.specs.Bool.{OnTrue};
+ghost use Rattle.std.specs.Bool.{OnTrue, MatchBool};
 ghost use Rattle.dx_ports.specs.Faults.{Rose};
 
 use crate::{File, Outputs, PutFault, Text};
@@ -58,6 +58,7 @@ impl MemOutputs {
         ensures told { IsTrue result ↔ Contains self.old.fails.items self.old.calls }
         ensures counted { self.new.calls ≡ min (self.old.calls + 1) (2 ^ 64 - 1) }
         ensures raised { OnTrue result (Rose self.old.faults self.new.faults) }
+        ensures once { MatchBool result (self.new.faults ≡ min (self.old.faults + 1) (2 ^ 64 - 1)) (self.new.faults ≡ self.old.faults) }
         ensures rises { self.old.faults ≤ self.new.faults }
         ensures fails { self.new.fails ≡ self.old.fails }
         ensures files { self.new.files ≡ self.old.files }
@@ -88,10 +89,12 @@ impl Outputs for MemOutputs {
         ensures said { ⟦<MemOutputs as Outputs>⟧.said self.new ≡ ⟦<MemOutputs as Outputs>⟧.said self.old }
         ensures counted { ⟦<MemOutputs as Outputs>⟧.faults self.old ≤ ⟦<MemOutputs as Outputs>⟧.faults self.new }
         ensures failed { IsErrOf result PutFault.Failed → Rose (⟦<MemOutputs as Outputs>⟧.faults self.old) (⟦<MemOutputs as Outputs>⟧.faults self.new) }
+        ensures steady { ¬ (IsErrOf result PutFault.Failed) → ⟦<MemOutputs as Outputs>⟧.faults self.new ≡ ⟦<MemOutputs as Outputs>⟧.faults self.old }
 
-        // What the trait leaves open: which calls fail.
+        // What the trait leaves open: which calls fail, and that each of them counts one fault.
         ensures only_these { IsErrOf result PutFault.Failed → Contains (failing_writes self.old) (next_write self.old) }
         ensures these { Contains (failing_writes self.old) (next_write self.old) → IsErrOf result PutFault.Failed }
+        ensures raised { IsErrOf result PutFault.Failed → ⟦<MemOutputs as Outputs>⟧.faults self.new ≡ min (⟦<MemOutputs as Outputs>⟧.faults self.old + 1) (2 ^ 64 - 1) }
         ensures number { next_write self.new ≡ min (next_write self.old + 1) (2 ^ 64 - 1) }
         ensures same_numbers { failing_writes self.new ≡ failing_writes self.old }
     {
@@ -113,10 +116,12 @@ impl Outputs for MemOutputs {
         ensures files { ⟦<MemOutputs as Outputs>⟧.files self.new ≡ ⟦<MemOutputs as Outputs>⟧.files self.old }
         ensures counted { ⟦<MemOutputs as Outputs>⟧.faults self.old ≤ ⟦<MemOutputs as Outputs>⟧.faults self.new }
         ensures failed { IsErrOf result PutFault.Failed → Rose (⟦<MemOutputs as Outputs>⟧.faults self.old) (⟦<MemOutputs as Outputs>⟧.faults self.new) }
+        ensures steady { ¬ (IsErrOf result PutFault.Failed) → ⟦<MemOutputs as Outputs>⟧.faults self.new ≡ ⟦<MemOutputs as Outputs>⟧.faults self.old }
 
-        // What the trait leaves open: which calls fail.
+        // What the trait leaves open: which calls fail, and that each of them counts one fault.
         ensures only_these { IsErrOf result PutFault.Failed → Contains (failing_writes self.old) (next_write self.old) }
         ensures these { Contains (failing_writes self.old) (next_write self.old) → IsErrOf result PutFault.Failed }
+        ensures raised { IsErrOf result PutFault.Failed → ⟦<MemOutputs as Outputs>⟧.faults self.new ≡ min (⟦<MemOutputs as Outputs>⟧.faults self.old + 1) (2 ^ 64 - 1) }
         ensures number { next_write self.new ≡ min (next_write self.old + 1) (2 ^ 64 - 1) }
         ensures same_numbers { failing_writes self.new ≡ failing_writes self.old }
     {

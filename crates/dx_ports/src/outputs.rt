@@ -41,22 +41,34 @@ pub trait Outputs {
     /// What was said, where it tells it.
     ghost said: { Self → Option (List ℕ) };
 
-    /// How often a write has failed.
+    /// How many writes have failed; no other call changes it.
     ghost faults: { Self → ℕ };
 
-    /// Writes a file.
+    /// Writes a file with this name and these bytes.
+    ///
+    /// # Errors
+    ///
+    /// `Failed`: a write failed, and was counted. `Memory` where there is no memory. The files that were written whole
+    /// are the same then.
     fn put(&mut self, name: &Text, bytes: &[u8]) -> Result<(), PutFault>
         ensures put { OnOk result (files self.new ≡ appended (files self.old) ((name.now, bytes.now) ∷ [])) }
         ensures refused { OnErr result (files self.new ≡ files self.old) }
         ensures said { said self.new ≡ said self.old }
         ensures counted { faults self.old ≤ faults self.new }
-        ensures failed { IsErrOf result PutFault.Failed → Rose (faults self.old) (faults self.new) };
+        ensures failed { IsErrOf result PutFault.Failed → Rose (faults self.old) (faults self.new) }
+        ensures steady { ¬ (IsErrOf result PutFault.Failed) → faults self.new ≡ faults self.old };
 
-    /// Says these bytes.
+    /// Says these bytes, behind what was said.
+    ///
+    /// # Errors
+    ///
+    /// `Failed`: a write failed, and was counted. `Memory` where there is no memory. A front of the bytes was said
+    /// then, which may be empty.
     fn say(&mut self, bytes: &[u8]) -> Result<(), PutFault>
         ensures said { OnOk result (said self.new ≡ appended (said self.old) bytes.now) }
         ensures refused { OnErr result (GrewByPrefix (said self.old) bytes.now (said self.new)) }
         ensures files { files self.new ≡ files self.old }
         ensures counted { faults self.old ≤ faults self.new }
-        ensures failed { IsErrOf result PutFault.Failed → Rose (faults self.old) (faults self.new) };
+        ensures failed { IsErrOf result PutFault.Failed → Rose (faults self.old) (faults self.new) }
+        ensures steady { ¬ (IsErrOf result PutFault.Failed) → faults self.new ≡ faults self.old };
 }

@@ -51,6 +51,10 @@ impl Model for Text {
 
 impl Text {
     /// The text of these bytes, where they are UTF-8.
+    ///
+    /// # Errors
+    ///
+    /// `NotUtf8`: exactly where the bytes are not UTF-8. `Memory` where there is no memory.
     pub fn from_bytes(alloc: Global, bytes: &[u8]) -> Result<Text, TextMade>
         ensures ok { IfOk result (λ t. t ≡ bytes.now) }
         ensures text { OnOk result (IsUtf8 bytes.now) }
@@ -62,6 +66,11 @@ impl Text {
         }
     }
 
+    /// The text with these characters.
+    ///
+    /// # Errors
+    ///
+    /// `AllocError` where there is no memory.
     pub fn from_str(alloc: Global, text: &str) -> Result<Text, AllocError>
         ensures { IfOk result (λ t. t ≡ text.now) }
     {
@@ -83,6 +92,7 @@ impl Text {
         self.inner
     }
 
+    /// The bytes of the text, lent. They are UTF-8.
     pub fn bytes(&self) -> &[u8]
         ensures value { result.now ≡ self.now }
         ensures utf8 { IsUtf8 self.now }
@@ -90,6 +100,7 @@ impl Text {
         self.inner.as_bytes()
     }
 
+    /// The text as a `str`, lent.
     pub fn as_str(&self) -> &str
         ensures { result.now ≡ self.now }
     {
@@ -97,6 +108,10 @@ impl Text {
     }
 
     /// A copy, on the allocator of this text.
+    ///
+    /// # Errors
+    ///
+    /// `AllocError` where there is no memory.
     pub fn copy(&self) -> Result<Text, AllocError>
         ensures { IfOk result (λ t. t ≡ self.now) }
     {

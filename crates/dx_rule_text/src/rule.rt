@@ -35,7 +35,11 @@ fn push_rule<F: Fn(u32, &Items<Text>) -> Result<Text, AllocError>, M: Meaning>(
 }
 
 /// Prints a rule as one line, with no line feed at its end, with the names that its tables have in the schemas and its
-/// conversions in the host. It fails only where memory runs out.
+/// conversions in the host.
+///
+/// # Errors
+///
+/// `AllocError` where there is no memory.
 pub fn print_rule<F: Fn(u32, &Items<Text>) -> Result<Text, AllocError>, M: Meaning>(
     alloc: Global,
     rule: &Rule,
@@ -53,7 +57,11 @@ pub fn print_rule<F: Fn(u32, &Items<Text>) -> Result<Text, AllocError>, M: Meani
     Ok(Text::from_string(out))
 }
 
-/// Prints rules, each in a line of its own, with a line feed. It fails only where memory runs out.
+/// Prints rules, each in a line of its own, with a line feed.
+///
+/// # Errors
+///
+/// `AllocError` where there is no memory.
 pub fn print_rules<F: Fn(u32, &Items<Text>) -> Result<Text, AllocError>, M: Meaning>(
     alloc: Global,
     rules: &[Rule],

@@ -16,7 +16,11 @@ fn push_escaped(character: char, out: &mut String) -> Result<(), AllocError>
 }
 
 /// Appends a text as a string: between quotation marks, with a backslash before each quotation mark and each backslash
-/// of the text. It fails only where memory runs out.
+/// of the text.
+///
+/// # Errors
+///
+/// `AllocError` where there is no memory: then `out` may have a part of it.
 pub fn push_string(text: &str, out: &mut String) -> Result<(), AllocError>
     ensures { OnOk result (string_bytes out.new ≡ string_bytes out.old ++ quoted text.now) }
 {

@@ -1,8 +1,7 @@
 -- What a step makes of the numbers, and the cells that come of it.
-use Rattle.std.proofs.Common.{◌≡◌, ℕ, zero, suc, ◌+◌, ◌<◌, ◌≤◌, Option, Some, None, List, [], ◌∷◌, ◌++◌, length, get_or, take, drop, refl, sym, ◌∙◌, ap, subst, arith, inl, inr}
+use Rattle.std.proofs.Common.{◌≡◌, ℕ, ◌+◌, ◌<◌, ◌≤◌, Option, Some, None, List, [], ◌∷◌, ◌++◌, length, get_or, take, drop, refl, sym, ◌∙◌, ap, subst, arith, inl, inr}
 use Rattle.std.specs.Prelude.{map, flat_map, eqb}
 use Rattle.std.specs.List.{position_or_len, range_with_len}
-use Rattle.std.proofs.lemmas.Bool.{cases_eq}
 use Rattle.std.proofs.lemmas.List.{append-nil, append_assoc, length-append, drop_more, take_more, take-append-drop, map-append}
 use Rattle.std.proofs.lemmas.List.Concat.{flat_map-append}
 use Rattle.std.proofs.lemmas.List.FromFn.{length-range_with_len}
@@ -17,6 +16,7 @@ use Rattle.dx_rules.specs.Numbers.{with_one, with_term, calls_in, left_in, cell_
 use Rattle.dx_rules.proofs.Lists.{distinct_few}
 use Rattle.dx_rules.proofs.Once.{once_more, once_place, once_distinct, from_once}
 use Rattle.dx_rules.proofs.Terms.{tells_terms, tells_numbers}
+use Rattle.dx_ports.proofs.Ranges.{to_range}
 
 pub flat_push : {X Y : Type 0} (f : X → List Y) (xs : List X) (x : X) → flat_map f (xs ++ x ∷ []) ≡ flat_map f xs ++ f x
 flat_push f xs x = flat_map-append f xs (x ∷ []) ∙ ap (λ ys. flat_map f xs ++ ys) (append-nil (f x))
@@ -26,13 +26,6 @@ in_last [] x = here refl
 in_last (y ∷ xs) x = there (in_last xs x)
 
 -- ---- numbers below a bound
-
-in_range : (a n y : ℕ) → a ≤ y → y < a + n → y ∈ range_with_len a n
-in_range a zero y l h = absurd (omega arith)
-in_range a (suc n) y l h = elim (cases_eq a y) [
-  | inl e ↦ here e
-  | inr d ↦ there (in_range (a + 1) n y (omega (arith, d)) (omega arith))
-]
 
 at_most_each : {X Y : Type 0} (f : X → List Y) (xs : List X) → ((x : X) → length (f x) ≤ 1) → length (flat_map f xs) ≤ length xs
 at_most_each f [] h = omega arith
@@ -56,7 +49,7 @@ module _ (term : ℕ → Option Term) (text : ℕ → Option (List ℕ)) where
       let f : ℕ → List Term = λ y. conversion_in (term y) in
       let inside : calls_in term gone ⊆ flat_map f (range_with_len 0 n) =
       λ t m. let r = from_flat_map f gone (from_once same_term (flat_map f gone) m) in
-      in_flat_map f (in_range 0 n r.0 (omega arith) (let b = w r.0 r.1 in omega (arith, b))) r.2 in
+      in_flat_map f (to_range 0 n r.0 (omega arith) (let b = w r.0 r.1 in omega (arith, b))) r.2 in
       let a = distinct_few (calls_in term gone) (flat_map f (range_with_len 0 n)) (once_distinct same_term tells_terms (flat_map f gone)) inside in
       let b = at_most_each f (range_with_len 0 n) (λ y. one_conversion (term y)) in
       omega (arith, a, b, length-range_with_len 0 n)
@@ -68,7 +61,7 @@ module _ (term : ℕ → Option Term) (text : ℕ → Option (List ℕ)) where
       let inside : left_in term text gone ⊆ range_with_len 0 n =
       λ z m. let r = from_flat_map f gone (from_once eqb (flat_map f gone) m) in
       let b = w r.0 r.1 in let e = from_ungiven (term r.0) (text r.0) r.0 z r.2 in
-      in_range 0 n z (omega arith) (omega (arith, b, e)) in
+      to_range 0 n z (omega arith) (omega (arith, b, e)) in
       let a = distinct_few (left_in term text gone) (range_with_len 0 n) (once_distinct eqb tells_numbers (flat_map f gone)) inside in
       omega (arith, a, length-range_with_len 0 n)
 

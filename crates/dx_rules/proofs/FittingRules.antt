@@ -13,7 +13,7 @@ use Rattle.dx_model.specs.declared.rules.Cell.TheVariants as cells
 use Rattle.dx_model.specs.declared.rules.Atom.{Atom}
 use Rattle.dx_model.specs.declared.rules.Derived.{Derived}
 use Rattle.dx_model.specs.Tables.{Table, AreWithin}
-use Rattle.dx_model.specs.Rules.{after_cell, after_cells, cells_of}
+use Rattle.dx_model.specs.Rules.{after_cell, after_cells, cells_of, existential_in}
 use Rattle.dx_logical.specs.declared.relation.Occurrence.{Occurrence}
 use Rattle.dx_logical.specs.declared.relation.Relation.{Relation}
 use Rattle.dx_logical.specs.Laws.{IsUnfolding, Numbered}
@@ -22,7 +22,7 @@ use Rattle.dx_lines.specs.declared.term.Term.{Term}
 use Rattle.dx_lines.specs.declared.term.Term.TheVariants.{Var, Call}
 use Rattle.dx_lines.specs.declared.candidate.Pick.{Pick}
 use Rattle.dx_lines.specs.Rules.{once, same_term, picked, literal_of, standing, conversion_in, conversions, ungiven, left_over, cell_by, cell_for, atom_by, derived_by, rule_by}
-use Rattle.dx_rules.specs.Fitting.{IsVariable, variable_in, existential_in, RuleFits}
+use Rattle.dx_rules.specs.Fitting.{IsVariable, variable_in, RuleFits}
 use Rattle.dx_rules.specs.Laws.{RulesFit}
 use Rattle.dx_rules.proofs.Lists.{place_of_some, place_of_none, place_behind}
 use Rattle.dx_rules.proofs.Once.{from_once, once_more, once_place, finds}

@@ -1,42 +1,11 @@
 -- Lists: places of members, and lists without repetitions.
-use Rattle.std.proofs.Common.{◌≡◌, ℕ, suc, ◌+◌, ◌<◌, ◌≤◌, Bool, true, false, cond, ◌||◌, eqb, ltb, List, [], ◌∷◌, ◌++◌, ◌⊎◌, length, refl, sym, ◌∙◌, ap, arith, inl, inr}
+use Rattle.std.proofs.Common.{◌≡◌, ℕ, suc, ◌+◌, ◌<◌, ◌≤◌, Bool, true, false, cond, ◌||◌, eqb, ltb, List, [], ◌∷◌, ◌++◌, length, refl, sym, ◌∙◌, ap, arith}
 use Rattle.std.specs.Prelude.{not}
 use Rattle.std.specs.List.{list_any, position_or_len}
-use Rattle.std.proofs.lemmas.Bool.{cond-true, cond-false, eq-eqb, ne_eqb, false≢true}
+use Rattle.std.proofs.lemmas.Bool.{cond-true, cond-false, eq-eqb, ne_eqb}
 use Rattle.std.proofs.lemmas.Bool.Decides.{nat_tests}
 use Rattle.std.proofs.lemmas.List.Folds.{position_or_len_push, prefix_len-append}
 use Rattle.dx_ports.specs.Members.{◌∈◌, ◌⊆◌, here, there, Distinct}
-
--- ---- tests
-
-pub either_way : (a b : Bool) → (a ≡ true → b ≡ true) → (b ≡ true → a ≡ true) → a ≡ b
-either_way true b f g = sym (f refl)
-either_way false true f g = g refl
-either_way false false f g = refl
-
-pub or_left : (a b : Bool) → a ≡ true → (a || b) ≡ true
-or_left a b e = rw e refl
-
-pub or_right : (a b : Bool) → b ≡ true → (a || b) ≡ true
-or_right true b e = refl
-or_right false b e = e
-
-pub from_or : (a b : Bool) → (a || b) ≡ true → (a ≡ true) ⊎ (b ≡ true)
-from_or true b e = inl refl
-from_or false b e = inr e
-
--- some member passes
-pub any_of : {X : Type 0} (p : X → Bool) (xs : List X) {x : X} → x ∈ xs → p x ≡ true → list_any p xs ≡ true
-any_of p [] m h = elim m [ ]
-any_of p (y ∷ ys) (here e) h = or_left (p y) (list_any p ys) (rw e h)
-any_of p (y ∷ ys) (there m) h = or_right (p y) (list_any p ys) (any_of p ys m h)
-
-pub from_any : {X : Type 0} (p : X → Bool) (xs : List X) → list_any p xs ≡ true → (x : X) × (x ∈ xs) × (p x ≡ true)
-from_any p [] h = absurd (false≢true h)
-from_any p (y ∷ ys) h = elim (from_or (p y) (list_any p ys) h) [
-  | inl e ↦ (y, here refl, e)
-  | inr e ↦ let r = from_any p ys e in (r.0, there r.1, r.2)
-]
 
 -- ---- places
 

@@ -7,7 +7,8 @@ use Rattle.std.proofs.lemmas.List.{append_assoc, append-nil}
 use Rattle.dx_ports.specs.Members.{◌∈◌, here, there, Distinct}
 use Rattle.dx_lines.specs.Rules.{once}
 use Rattle.dx_rules.specs.Numbers.{with_one}
-use Rattle.dx_rules.proofs.Lists.{either_way, any_of, from_any, place_of_some, place_stays}
+use Rattle.dx_rules.proofs.Lists.{place_of_some, place_stays}
+use Rattle.dx_ports.proofs.Tests.{same_test, to_any, from_any}
 
 -- ---- filters
 
@@ -79,13 +80,13 @@ module _ {X : Type 0} (same : X → X → Bool) (tells : Tells same) where
 
   -- a member is found
   pub finds : (xs : List X) (y : X) → y ∈ xs → list_any (same y) (once same xs) ≡ true
-  finds xs y m = any_of (same y) (once same xs) (in_once xs m) (tells.itself y)
+  finds xs y m = to_any (same y) (once same xs) (in_once xs m) (tells.itself y)
 
   tests_agree : (xs : List X) (y : X) → list_any (λ x. same x y) xs ≡ list_any (same y) (once same xs)
-  tests_agree xs y = either_way (list_any (λ x. same x y) xs) (list_any (same y) (once same xs))
+  tests_agree xs y = same_test (list_any (λ x. same x y) xs) (list_any (same y) (once same xs))
       (λ h. let r = from_any (λ x. same x y) xs h in finds xs y (rw (tells.sound r.0 y r.2) at r.1))
       (λ h. let r = from_any (same y) (once same xs) h in
-      any_of (λ x. same x y) xs (from_once same xs r.1) (rw (← tells.sound y r.0 r.2) (tells.itself y)))
+      to_any (λ x. same x y) xs (from_once same xs r.1) (rw (← tells.sound y r.0 r.2) (tells.itself y)))
 
   -- one item more
   pub once_more : (xs : List X) (y : X) → once same (xs ++ y ∷ []) ≡ with_one same (once same xs) y

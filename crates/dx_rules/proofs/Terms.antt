@@ -1,12 +1,12 @@
 -- Whether two terms are one.
-use Rattle.std.proofs.Common.{◌≡◌, ℕ, ◌+◌, ◌<◌, Bool, true, false, cond, eqb, nat_eq, List, [], ◌∷◌, length, get_or, drop, refl, ap, arith}
+use Rattle.std.proofs.Common.{rules, subst, ◌≡◌, ℕ, ◌+◌, ◌<◌, Bool, true, false, cond, eqb, List, [], ◌∷◌, length, get_or, drop, refl, ap, arith}
 use Rattle.std.specs.Prelude.{not, map}
 use Rattle.std.specs.Borrow.{Bor}
 use Rattle.std.specs.List.{position_or_len}
 use Rattle.std.specs.Ordering.{is_eq, nat_cmp, ordering_then}
 use Rattle.std.specs.declared.cmp.Ordering.{Ordering}
 use Rattle.std.specs.declared.cmp.Ordering.TheVariants.{Less, Equal, Greater}
-use Rattle.std.specs.Cmp.Lexicographic.{pointwise, slice_cmp, texts_ties}
+use Rattle.std.specs.Cmp.Lexicographic.{slice_cmp}
 use Rattle.std.proofs.lemmas.Bool.{false≢true, eq-eqb}
 use Rattle.std.proofs.lemmas.Bool.Decides.{nat_tests}
 use Rattle.std.proofs.lemmas.List.{drop_more, drop_all}
@@ -14,6 +14,10 @@ use Rattle.dx_lines.specs.declared.term.Term.{Term}
 use Rattle.dx_lines.specs.declared.term.Term.TheVariants.{Var, Call}
 use Rattle.dx_lines.specs.Rules.{same_term}
 use Rattle.dx_rules.proofs.Once.{Tells}
+use Rattle.dx_lines.specs.contracts.term.TermPartialEq.TheImpl.{eq-value as eq-term}
+use Rattle.std.specs.Bool.{Decides}
+use Rattle.std.proofs.lemmas.Slice.Eq.{bytes_eq-Decides}
+use Rattle.dx_ports.proofs.Tests.{same_test}
 
 numbers_same : (x y : ℕ) → is_eq (nat_cmp x y) ≡ true → x ≡ y
 numbers_same x y h = grind (arith, nat_tests)
@@ -66,9 +70,16 @@ eqb_sound x y h = grind (arith, nat_tests)
 pub tells_numbers : Tells eqb
 tells_numbers = record { sound = eqb_sound; itself = λ x. eq-eqb x x refl }
 
--- two conversions of one code
-pub calls_same : (s t : Term) (c d : ℕ) (xs ys : List ℕ) → s ≡ Call c xs → t ≡ Call d ys → c ≡ d → pointwise nat_eq xs ys ≡ same_term s t
-calls_same s t c d xs ys e f h = rw (e, f, h, number_itself d) (texts_ties xs ys)
+term_decides : (s t : Term) → Decides (eq-term.it s t) (s ≡ t)
+term_decides (Var x) (Var y) = search rules
+term_decides (Var x) (Call d ys) = search rules
+term_decides (Call c xs) (Var y) = search rules
+term_decides (Call c xs) (Call d ys) = search (rules, bytes_eq-Decides)
+
+-- `==` tells of two terms whether they are one
+pub terms_eq : (s t : Term) → eq-term.it s t ≡ same_term s t
+terms_eq s t =
+    same_test (eq-term.it s t) (same_term s t) (λ e. subst (λ (u : Term). same_term s u ≡ true) ((term_decides s t).0 e) (term_itself s)) (λ e. (term_decides s t).1 (terms_same s t e))
 
 -- ---- the place of a term in a list, which is gone through
 

@@ -5,7 +5,7 @@ use Rattle.dx_model.specs.declared.rules.Cell.{Cell}
 use Rattle.dx_model.specs.declared.rules.Cell.TheVariants.{Var, Ex, Lit}
 use Rattle.dx_model.specs.declared.rules.Rule.{Rule}
 use Rattle.dx_model.specs.Tables.{Table, AreWithin}
-use Rattle.dx_model.specs.Rules.{after_cells, cells_of}
+use Rattle.dx_model.specs.Rules.{after_cells, cells_of, existentials as existentials_of}
 use Rattle.dx_model.specs.Solutions.{AtomFits}
 use Rattle.dx_logical.specs.Laws.{Numbered}
 
@@ -21,19 +21,9 @@ variable_in (Var x) = x ∷ []
 variable_in (Ex v) = []
 variable_in (Lit t) = []
 
--- the existential variable of a cell, if it is one
-abbrev pub existential_in : Cell → List ℕ
-existential_in (Var x) = []
-existential_in (Ex v) = v ∷ []
-existential_in (Lit t) = []
-
 -- the number of a rule's premise variables
 abbrev pub premise_variables : Rule → ℕ
 premise_variables d = after_cells (cells_of d.premise)
-
--- the numbers of a rule's existential variables, in order of atoms and cells
-abbrev pub existentials_of : Rule → List ℕ
-existentials_of d = flat_map existential_in (cells_of d.conclusion)
 
 -- a rule fits a source and a target: its atoms fit them, variables are numbered by first appearance, and each variable of a conversion or of the conclusion is known
 pub record RuleFits (source target : List Table) (d : Rule) : Type 0 where
@@ -45,4 +35,4 @@ pub record RuleFits (source target : List Table) (d : Rule) : Type 0 where
   pub some_conclusion : 0 < length d.conclusion
   pub conclusion : Each d.conclusion (AtomFits target)
   pub known : (x : ℕ) → Var x ∈ cells_of d.conclusion → x < premise_variables d + length d.derived
-  pub existentials : (m : ℕ) × Numbered 0 (existentials_of d) m
+  pub existentials : (m : ℕ) × Numbered 0 (existentials_of d.conclusion) m

@@ -30,7 +30,7 @@ cell_among given n ys y = cell_in n (term_at given) (text_at given) ys y
 abbrev pub HasNumbers : Given → List ℕ → Numbering → Type 0
 HasNumbers given gone numbering = AreNumbered (term_at given) (text_at given) gone (calls_of numbering) numbering.numbers.items numbering.count
 
--- all have places for the same variables, of which there are few
+-- all have places for the same variables, of which there are at most 4,096: 64 occurrences with 64 columns each
 pub record IsReady (given : Given) (numbering : Numbering) : Type 0 where
   pub terms : length given.terms.items ≡ variables_of numbering
   pub texts : length given.texts.items ≡ variables_of numbering

@@ -48,7 +48,8 @@ pub fn premise_atoms(alloc: Global, occurrences: &[Occurrence]) -> Result<Items<
     Ok(atoms)
 }
 
-/// The cell of a variable for which a term is given.
+/// The cell of a variable for which a term is given. Derived variables have numbers from `first` on, which is at most
+/// 4,096, as many variables as an unfolding can have: 64 occurrences with 64 columns each.
 fn term_cell<'a>(first: u32, term: &'a Term, calls: &mut Vec<&'a Term>) -> Result<Cell, AllocError>
     requires first { first ≤ 4096 }
     requires few { length calls.old.items ≤ 4096 }

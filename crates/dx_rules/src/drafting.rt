@@ -13,11 +13,12 @@ use dx_logical::Relation;
 use dx_model::Rule;
 use std::alloc::{AllocError, Global};
 
-/// The rule of picks between the unfolding of a source table and that of a target table.
+/// The rule of picks between the unfolding of a source table and that of a target table. An unfolding has at most 4,096
+/// variables: 64 occurrences with 64 columns each.
 ///
 /// # Errors
 ///
-/// Out of memory.
+/// `AllocError` where there is no memory.
 pub fn draft(
     alloc: Global,
     lines: &[Line],

@@ -28,25 +28,12 @@ pub fn unnumbered<'a>(alloc: Global, variables: u32) -> Result<Numbering<'a>, Al
     })
 }
 
-/// Whether two terms are one.
-fn is_same(a: &Term, b: &Term) -> bool
-    ensures { result ≡ same_term a.now b.now }
-{
-    match (a, b) {
-        (Term::Var(x), Term::Var(y)) => *x == *y,
-        (Term::Call { code: c, args: xs }, Term::Call { code: d, args: ys }) => {
-            *c == *d && xs.items() == ys.items()
-        }
-        _ => false,
-    }
-}
-
 /// Where a term stands first in a list, or else the list's length.
 fn place_of(terms: &[&Term], term: &Term) -> usize
     ensures { result ≡ position_or_len (same_term term.now) (map (λ r. r.now) terms.now) }
 {
     for (place, known) in terms.iter().enumerate() {
-        if is_same(term, known) {
+        if term == *known {
             return place;
         }
     }

@@ -7,7 +7,7 @@ use Rattle.std.specs.List.{range_with_len}
 use Rattle.dx_ports.specs.Members.{◌∈◌, here, there, Each}
 use Rattle.dx_ports.proofs.Members.{from_map, in_map, in_at}
 use Rattle.dx_model.specs.declared.tables.Key.{Key}
-use Rattle.dx_model.specs.Tables.{AreWithin, Determination, key_of, IsSchema}
+use Rattle.dx_model.specs.Tables.{AreWithin, Determination, key_of, DeterminationsFit}
 use Rattle.dx_model.specs.Tables.{Table as Numbers}
 use Rattle.dx_schema.specs.Forest.{Forest}
 use Rattle.dx_schema.specs.Tables.{Text, TableOf, tables_of, table_at, as_numbers, AreTables, IsTable}
@@ -29,7 +29,7 @@ speaks tables t a d n =
     ((a.keys k.0 k.1).0, λ c m. omega (arith, range_within (length t.columns) 0 c m))
 
 -- the tables as numbers are a schema of the book
-pub is_schema : (tables : List TableOf) → AreTables tables → IsSchema (map as_numbers tables)
+pub is_schema : (tables : List TableOf) → AreTables tables → DeterminationsFit (map as_numbers tables)
 is_schema tables a x m =
     let t = from_map as_numbers tables {y = x} m in
     subst (λ (y : Numbers). Each y.determinations (λ d. AreWithin d.left y.width × AreWithin d.right y.width)) t.2 (speaks tables t.0 (a.each_table t.0 t.1))

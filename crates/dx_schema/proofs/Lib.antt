@@ -11,3 +11,4 @@ pub mod Examples
 pub mod Levels
 pub mod Inner
 pub mod OneFault
+pub mod Deciding

@@ -7,7 +7,8 @@ use Rattle.dx_schema.specs.declared.fault.SchemaFault.{SchemaFault}
 use Rattle.dx_schema.specs.declared.fault.SchemaFault.TheVariants.{Bad}
 use Rattle.dx_schema.specs.declared.fault.SchemaKind.TheVariants.{DoubleName, UnknownName}
 use Rattle.dx_schema.specs.Tables.{Text, Placed, names_of, number_of}
-use Rattle.dx_schema.specs.Faults.{first_of, is_among, twice_in, columns_fault, set_fault, sets_fault, declared_at}
+use Rattle.dx_ports.specs.Firsts.{first_of}
+use Rattle.dx_schema.specs.Faults.{is_among, twice_in, columns_fault, set_fault, sets_fault, declared_at}
 use Rattle.dx_schema.proofs.Preorder.{len_map}
 
 pub cut : {X : Type 0} (xs : List X) (i : ℕ) (x : X) → i < length xs → x ≡ get_or xs i x → drop i xs ≡ x ∷ drop (i + 1) xs

@@ -15,7 +15,8 @@ use Rattle.dx_schema.specs.declared.fault.SchemaFault.TheVariants.{Bad, TooMany}
 use Rattle.dx_schema.specs.declared.fault.SchemaKind.TheVariants.{CyclicLinks}
 use Rattle.dx_schema.specs.Forest.{Forest}
 use Rattle.dx_schema.specs.Tables.{Text, TableOf, Placed, count, sets_of, names_of, columns_of, key_named, keys_in, where_has_inner, where_inner, table_in, tables_of, table_at, as_numbers, AreTables}
-use Rattle.dx_schema.specs.Faults.{first_of, depth, sets_fault, rules_fault, form_fault}
+use Rattle.dx_ports.specs.Firsts.{first_of}
+use Rattle.dx_schema.specs.Faults.{depth, sets_fault, rules_fault, form_fault}
 use Rattle.dx_schema.specs.Links.{IsAcyclic, IsFirstCycle, IsFaultless, IsFirstFault}
 use Rattle.dx_schema.specs.Nodes.{seen, Flattened}
 use Rattle.dx_schema.proofs.Preorder.{len_map, length_placed, numbers_bound}

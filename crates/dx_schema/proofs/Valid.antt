@@ -16,22 +16,13 @@ use Rattle.dx_schema.specs.declared.sets.KeyDecl.{KeyDecl}
 use Rattle.dx_schema.specs.declared.sets.RefDecl.{RefDecl}
 use Rattle.dx_schema.specs.Forest.{Label, Forest, none, set, has_sets}
 use Rattle.dx_schema.specs.Tables.{Text, TableOf, Placed, placed, sets_of, names_of, count, where_has_inner, where_inner, columns_of, columns_at, number_of, numbers_of, key_named, keys_in, link_of, link_up, links_in, table_in, tables_of, IsLink, IsTable, AreTables}
-use Rattle.dx_schema.specs.Faults.{first_of, fault_if, is_among, names_in, twice_in, names_within, set_fault, sets_fault, columns_fault, key_fault, declared_at, ref_fault, rules_fault, form_fault}
+use Rattle.dx_ports.specs.Firsts.{first_of}
+use Rattle.dx_schema.specs.Faults.{fault_if, is_among, names_in, twice_in, names_within, set_fault, sets_fault, columns_fault, key_fault, declared_at, ref_fault, rules_fault, form_fault}
 use Rattle.dx_schema.proofs.Preorder.{len_map, length_placed}
 use Rattle.dx_schema.proofs.Loops.{among_number}
+use Rattle.dx_ports.proofs.Firsts.{first_none, none_of, two_none, each_none}
 
--- ---- no fault among faults
-
-first_none : (x : Option SchemaFault) (xs : List (Option SchemaFault)) → first_of (x ∷ xs) ≡ None → (x ≡ None) × (first_of xs ≡ None)
-first_none None xs h = (refl, h)
-first_none (Some e) xs h = absurd cc
-
-none_of : (x : Option SchemaFault) → first_of (x ∷ []) ≡ None → x ≡ None
-none_of None h = refl
-none_of (Some e) h = absurd cc
-
-two_none : (a b : Option SchemaFault) → first_of (a ∷ b ∷ []) ≡ None → (a ≡ None) × (b ≡ None)
-two_none a b h = let r = first_none a (b ∷ []) h in (r.0, none_of b r.1)
+-- ---- no fault
 
 if_none : (b : Bool) (e : SchemaFault) → fault_if b e ≡ None → b ≡ false
 if_none true e h = absurd cc
@@ -40,12 +31,6 @@ if_none false e h = refl
 not_none : (b : Bool) (e : SchemaFault) → fault_if (not b) e ≡ None → b ≡ true
 not_none true e h = refl
 not_none false e h = absurd cc
-
--- no item has a fault
-each_none : {X : Type 0} (g : X → Option SchemaFault) (xs : List X) → first_of (map g xs) ≡ None → (x : X) → x ∈ xs → g x ≡ None
-each_none g [] h x m = elim m [ ]
-each_none g (y ∷ ys) h x (here e) = rw (← e) (first_none (g y) (map g ys) h).0
-each_none g (y ∷ ys) h x (there m) = each_none g ys (first_none (g y) (map g ys) h).1 x m
 
 -- ---- names
 

@@ -1,20 +1,15 @@
 -- What is wrong with the sets of a schema.
-use Rattle.std.specs.Prelude.{◌≡◌, ℕ, suc, ◌++◌, ◌⊎◌, Bool, false, not, ◌||◌, eqb, nat_lt, List, [], ◌∷◌, Option, Some, None, Result, Ok, Err, cond, nat_eq, codes, length, map, max, slice_index_or}
+use Rattle.std.specs.Prelude.{ℕ, suc, ◌++◌, Bool, false, not, ◌||◌, eqb, nat_lt, List, [], ◌∷◌, Option, Some, None, cond, nat_eq, codes, length, map, max, slice_index_or}
 use Rattle.std.specs.Cmp.Lexicographic.{pointwise}
 use Rattle.dx_ports.specs.declared.file.Count.TheVariants.{Tables, Columns, Depth}
 use Rattle.dx_schema.specs.declared.fault.SchemaFault.{SchemaFault}
-use Rattle.dx_schema.specs.declared.fault.SchemaFault.TheVariants.{Bad, TooMany, Memory}
+use Rattle.dx_schema.specs.declared.fault.SchemaFault.TheVariants.{Bad, TooMany}
 use Rattle.dx_schema.specs.declared.fault.SchemaKind.TheVariants.{DoubleName, NoColumn, UnknownName, BadLink}
 use Rattle.dx_schema.specs.declared.sets.KeyDecl.{KeyDecl}
 use Rattle.dx_schema.specs.declared.sets.RefDecl.{RefDecl}
 use Rattle.dx_schema.specs.Forest.{Forest, none, set}
 use Rattle.dx_schema.specs.Tables.{Text, Placed, count, sets_of, names_of, columns_of, number_of}
-
--- the first fault of these
-abbrev pub first_of : List (Option SchemaFault) → Option SchemaFault
-first_of [] = None
-first_of (None ∷ faults) = first_of faults
-first_of (Some e ∷ faults) = Some e
+use Rattle.dx_ports.specs.Firsts.{first_of}
 
 -- a fault, where this is so
 abbrev pub fault_if : Bool → SchemaFault → Option SchemaFault
@@ -117,8 +112,3 @@ form_fault f =
     ∷ sets_fault [] (sets_of f)
     ∷ first_of (map (rules_fault (sets_of f)) (sets_of f))
     ∷ [])
-
--- a test of sets ends well where nothing is wrong with them, and else with the fault, or for want of memory
-abbrev pub Tells : Option SchemaFault → Result (Unit {0}) SchemaFault → Type 0
-Tells fault (Ok u) = fault ≡ None
-Tells fault (Err e) = (e ≡ Memory) ⊎ (fault ≡ Some e)

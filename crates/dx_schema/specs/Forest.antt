@@ -21,6 +21,7 @@ pub data Forest : Type 0 where
 
 -- ---- codes
 
+-- names, keys, refs and sets without their inner sets, each told by lists and numbers
 abbrev pub texts_code : Coded (List (List ℕ))
 texts_code = coded_list (coded_list coded_ℕ)
 
@@ -39,6 +40,7 @@ abbrev pub listed : Forest → List (Option Label)
 listed none = None ∷ []
 listed (set l inner rest) = Some l ∷ (listed inner ++ listed rest)
 
+-- the first two of the forests become the inner sets of a set and the sets behind it
 abbrev pub joined : Label → List Forest → List Forest
 joined l [] = []
 joined l (i ∷ []) = []
@@ -56,13 +58,16 @@ stacked-listed (set l i r) rest =
     let e : stacked ((listed i ++ listed r) ++ rest) ≡ i ∷ r ∷ stacked rest = ap stacked (append_assoc (listed i) (listed r) rest) ∙ stacked-listed i (listed r ++ rest) ∙ ap (λ fs. i ∷ fs) (stacked-listed r rest) in
     ap (joined l) e
 
+-- the first of some forests, and no sets where there is none
 abbrev pub first_of_forests : List Forest → Forest
 first_of_forests [] = none
 first_of_forests (f ∷ fs) = f
 
+-- a forest is what its list gives
 pub forest_back : (f : Forest) → first_of_forests (stacked (listed f)) ≡ f
 forest_back f = ap (λ xs. first_of_forests (stacked xs)) (sym (append-nil (listed f))) ∙ ap first_of_forests (stacked-listed f [])
 
+-- a forest, told by its list
 abbrev pub forest_code : Coded Forest
 forest_code = code_by (List (Option Label)) (coded_list (coded_option label_code)) listed (λ xs. first_of_forests (stacked xs)) forest_back
 
@@ -73,20 +78,25 @@ pub record Tree : Type 0 where
   pub label : Label
   pub inner : Forest
 
+-- a set with its inner sets, told by the two
 abbrev pub tree_code : Coded Tree
 tree_code = code_by (Label × Forest) (coded× label_code forest_code) (λ t. (t.label, t.inner)) (λ p. record { label = p.0; inner = p.1 }) (λ _. refl)
 
+-- the sets in order, as those of one level
 abbrev pub forest_of : List Tree → Forest
 forest_of [] = none
 forest_of (t ∷ ts) = set t.label t.inner (forest_of ts)
 
+-- how large a forest is: two for each of its sets, inner sets included
 abbrev pub forest_size : Forest → ℕ
 forest_size none = 0
 forest_size (set l i r) = forest_size i + 2 + forest_size r
 
+-- how large a set is: larger than its inner sets together, and smaller than each level that it stands in
 abbrev pub tree_size : Tree → ℕ
 tree_size t = forest_size t.inner + 1
 
+-- each set of a level is smaller than the level
 pub most_le-forest_size : (ts : List Tree) → most (λ t. tree_size t + 1) ts ≤ forest_size (forest_of ts)
 most_le-forest_size [] = omega arith
 most_le-forest_size (t ∷ ts) = omega (arith, most_le-forest_size ts)

@@ -53,3 +53,7 @@ OneFirstFault = (f : Forest) (d e : SchemaFault) → IsFirstFault f d → IsFirs
 -- sets that make a schema have none
 abbrev pub FaultlessHaveNone : Type 0
 FaultlessHaveNone = (f : Forest) (e : SchemaFault) → IsFaultless f → ¬ (IsFirstFault f e)
+
+-- sets make a schema, or have a first fault
+abbrev pub FaultlessOrFault : Type 0
+FaultlessOrFault = (f : Forest) → IsFaultless f ⊎ ((e : SchemaFault) × IsFirstFault f e)

@@ -9,13 +9,16 @@ pub data LeadsTo (es : List Edge) : ℕ → ℕ → Type 0 where
   step : (e : Edge) → Contains es e → LeadsTo es e.from e.to
   more : {c : ℕ} (e : Edge) → Contains es e → LeadsTo es e.to c → LeadsTo es e.from c
 
+-- whether a place is marked
 abbrev pub at : List Bool → ℕ → Bool
 at seen k = slice_index_or seen k false
 
+-- the first of so many places from which links lead back to it, or none, where there is no such place
 abbrev pub IsCycleOrNone : List Edge → ℕ → Option ℕ → Type 0
 IsCycleOrNone es count (Some i) = (i < count) × LeadsTo es i i × ((j : ℕ) → j < i → ¬ (LeadsTo es j j))
 IsCycleOrNone es count None = (j : ℕ) → j < count → ¬ (LeadsTo es j j)
 
+-- links lead from the start to each marked place
 abbrev pub IsSound : List Edge → ℕ → List Bool → Type 0
 IsSound es start seen = (k : ℕ) → at seen k ≡ true → LeadsTo es start k
 
@@ -23,6 +26,7 @@ IsSound es start seen = (k : ℕ) → at seen k ≡ true → LeadsTo es start k
 abbrev pub IsClosedAt : ℕ → List Bool → Edge → Type 0
 IsClosedAt start seen e = (e.from ≡ start) ⊎ (at seen e.from ≡ true) → at seen e.to ≡ true
 
+-- how many places are not marked
 abbrev pub unseen : List Bool → ℕ
 unseen seen = count_by not seen
 

@@ -1,7 +1,8 @@
 // What is wrong with sets, but for links that lead back.
 ghost use Rattle.std.specs.Prelude.{◌≡◌, ◌<◌, ◌≤◌, ◌++◌, [], length, map, IfOk, OnOk};
 ghost use Rattle.dx_schema.specs.Tables.{columns_of, names_of};
-ghost use Rattle.dx_schema.specs.Faults.{names_in, names_within, set_fault, sets_fault, key_fault, ref_fault, rules_fault, first_of, declared_at};
+ghost use Rattle.dx_ports.specs.Firsts.{first_of};
+ghost use Rattle.dx_schema.specs.Faults.{names_in, names_within, set_fault, sets_fault, key_fault, ref_fault, rules_fault, declared_at};
 ghost use Rattle.dx_schema.specs.Nodes.{seen};
 
 use crate::fault::{SchemaFault, SchemaKind};

@@ -1,8 +1,8 @@
 // The laws of links, of inner tables and of faults. The definitions alone carry them: the bodies compute nothing.
-ghost use Rattle.dx_schema.specs.Links.{LinksEnd, OneFirstFault, FaultlessHaveNone};
+ghost use Rattle.dx_schema.specs.Links.{LinksEnd, OneFirstFault, FaultlessHaveNone, FaultlessOrFault};
 ghost use Rattle.dx_schema.specs.Inner.{InnerTables};
 
-/// Fewer links than there are tables can be gone along one after another, where none lead back.
+/// Where no links lead back, no chain of links is as long as there are tables.
 pub fn links_end()
     ensures { LinksEnd }
 {}
@@ -12,8 +12,9 @@ pub fn inner_tables()
     ensures { InnerTables }
 {}
 
-/// Sets have at most one first fault, and none where they make a schema.
+/// Sets make a schema or have a first fault, and never both; no sets have two first faults.
 pub fn sets_have_one_fault()
     ensures one { OneFirstFault }
     ensures none { FaultlessHaveNone }
+    ensures either { FaultlessOrFault }
 {}

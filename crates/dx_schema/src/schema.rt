@@ -1,7 +1,7 @@
 // A schema: sets, and the tables that they make.
 ghost use Rattle.std.specs.Prelude.{◌≡◌, ◌<◌, ◌≤◌, ◌↔◌, ◌⊎◌, [], length, map, IfOk, IfErr, OnOk, IfSome, IsSome, IsTrue, slice_index_or};
 ghost use Rattle.dx_ports.specs.Members.{◌∈◌};
-ghost use Rattle.dx_model.specs.Tables.{IsSchema};
+ghost use Rattle.dx_model.specs.Tables.{DeterminationsFit};
 ghost use Rattle.dx_schema.specs.Forest.{forest_of};
 ghost use Rattle.dx_schema.specs.Tables.{tables_of, table_at, model_tables, number_of, AreTables};
 ghost use Rattle.dx_schema.specs.Flat.{IsFlat};
@@ -17,7 +17,7 @@ use dx_ports::Text;
 use std::alloc::Global;
 use std::marker::Model;
 
-/// A schema. A contract sees it as the forest of its sets.
+/// A schema. A contract sees it as the forest of its sets. Tables and their columns are counted from 0.
 #[derive(Drop)]
 pub struct Schema {
     trees: Trees,
@@ -54,15 +54,22 @@ fn number_in(names: &[Text], name: &Text) -> Option<u32>
 }
 
 impl Schema {
-    /// The schema of sets. Refused is the first fault of this order, but for want of memory, which may come at any point.
+    /// The schema of sets.
     ///
-    /// 1. More than 64 sets; a set more than 16 levels deep.
-    /// 2. Set by set, an inner set behind its outer one: its name is that of an earlier set; it has no column; its table
-    ///    has more than 64 columns; a name stands twice among `#id`, `#up`, its columns and its inner sets.
-    /// 3. Set by set, each key and then each ref: a list is empty; a column isn't one of the set, or stands twice; the
-    ///    set that is referred to isn't there; a referred column isn't one of that set, or stands twice; the two lists
-    ///    have different length.
-    /// 4. Links lead from a set back to it.
+    /// # Errors
+    ///
+    /// The first fault of this order: `TooMany`, or `Bad` with its kind. `Memory` where there is no memory, which may
+    /// come at any point.
+    ///
+    /// 1. `TooMany`: more than 64 sets; a set more than 16 levels deep.
+    /// 2. Set by set, an inner set behind its outer one: its name is that of an earlier set (`DoubleName`); it has no
+    ///    column (`NoColumn`); its table has more than 64 columns (`TooMany`); a name stands twice among `#id`, `#up`,
+    ///    its columns and its inner sets (`DoubleName`).
+    /// 3. Set by set, each key and then each ref: a list is empty (`BadLink`); a column isn't one of the set
+    ///    (`UnknownName`), or stands twice (`DoubleName`); the set that is referred to isn't there (`UnknownName`); a
+    ///    referred column isn't one of that set (`UnknownName`), or stands twice (`DoubleName`); the two lists have
+    ///    different length (`BadLink`).
+    /// 4. Links lead from a set back to it (`CyclicLinks`).
     pub fn build(alloc: Global, trees: Trees) -> Result<Schema, SchemaFault>
         ensures ok { IfOk result (λ s. s ≡ trees) }
         ensures faultless { OnOk result (IsFaultless trees) }
@@ -77,7 +84,7 @@ impl Schema {
     pub fn tables(&self) -> u32
         ensures count { result ≡ length (tables_of self.now) }
         ensures facts { AreTables (tables_of self.now) }
-        ensures schema { IsSchema (model_tables self.now) }
+        ensures fits { DeterminationsFit (model_tables self.now) }
         ensures acyclic { IsAcyclic (model_tables self.now) }
     {
         self.tables.len() as u32

@@ -100,7 +100,11 @@ impl Trees {
         Trees { items }
     }
 
-    /// One set more. Where there is no memory for it, the list stays as it was and the set is dropped.
+    /// One set more, at the end.
+    ///
+    /// # Errors
+    ///
+    /// `AllocError` where there is no memory: the list stays as it was, and the set is dropped.
     pub fn push(&mut self, tree: SetTree) -> Result<(), AllocError>
         ensures ok { OnOk result (self.new ≡ followed_by self.old (set tree.label tree.inner none)) }
         ensures err { OnErr result (self.new ≡ self.old) }

@@ -24,6 +24,7 @@ use Rattle.dx_schema_text.specs.Reading.{comma_word, words_reader, key_reader, r
 use Rattle.dx_schema_text.specs.Spelling.{IsMark, IsKeyword, Comma, comma_then, Parted, parted, SpellsName, name_of, SpellsKey, key_of, SpellsRef, ref_of, SpellsHead, head_of, SpellsSet, set_of, SpellsClauses, no_clause, clause_first, SpellsClause, a_key, a_ref, a_set, SpellsPlace, place_of, SpellsSource, a_literal, a_column, a_call, SpellsLine, line_of, SpellsCell, a_name, a_text, SpellsAtom, atom_of, SpellsDerived, derived_of, SpellsWhere, no_where, where_of, SpellsRule, rule_of, SpellsItem, a_line, a_rule, SpellsSide, side_of, SpellsMapping, mapping_of}
 use Rattle.dx_schema_text.proofs.Apart.{apart_marks, apart_words, apart_mark_word, apart_word_mark, apart_any_word_string, apart_string_any_word}
 use Rattle.dx_schema_text.proofs.Follows.{comma_word_consumes, comma_place_consumes, comma_cell_consumes, comma_atom_consumes, comma_derived_consumes, clause_consumes, set_consumes, item_consumes}
+use Rattle.std.proofs.lemmas.Bool.{or_left, or_right}
 
 abbrev comma : Lexeme → Bool
 comma = mark_is (codes ",")
@@ -119,14 +120,6 @@ next_true p a v rest x e t = rw e t
 
 next_false : (p : Lexeme → Bool) (a v rest : List Lexeme) (x : Lexeme) → a ≡ x ∷ v → p x ≡ false → next_is p (a ++ rest) ≡ false
 next_false p a v rest x e t = rw e t
-
-or_left : (p q : Bool) → p ≡ true → (p || q) ≡ true
-or_left true q e = refl
-or_left false q e = absurd cc
-
-or_right : (p q : Bool) → q ≡ true → (p || q) ≡ true
-or_right true q e = refl
-or_right false q e = e
 
 first_clause : {levels : ℕ} {c : Clause} {a : List Lexeme} → SpellsClause levels c a → (x : Lexeme) × (v : List Lexeme) × (a ≡ x ∷ v) × (begins_clause levels x ≡ true)
 first_clause {levels = zero} (a_key h) = let f = key_first h in (f.0, f.1, f.2, or_left (word_is (codes "key") f.0) (word_is (codes "ref") f.0) f.3)

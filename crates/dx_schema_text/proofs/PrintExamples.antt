@@ -1,10 +1,10 @@
 -- Worked values of printed sets.
-use Rattle.std.proofs.Common.{◌≡◌, List, [], ◌∷◌, refl, subst, arith}
+use Rattle.std.proofs.Common.{◌≡◌, [], ◌∷◌, refl, arith}
 use Rattle.std.specs.Prelude.{codes}
-use Rattle.dx_ports.specs.Members.{here, there, Each}
 use Rattle.dx_schema.specs.Forest.{Label, none, set}
 use Rattle.dx_schema_text.specs.Print.{printed, IsNamed, AreWritable}
 use Rattle.dx_schema_text.proofs.PrintScans.{a_word}
+use Rattle.dx_schema_text.proofs.SpelledWords.{each_one, each_none}
 
 abbrev staff : Label
 staff = record { name = codes "staff"; columns = codes "sname" ∷ []; keys = []; refs = [] }
@@ -23,22 +23,15 @@ no_sets = refl
 two_levels : printed [] (set unit (set staff none none) (set staff none none)) ≡ codes "set unit {\n  uname, place;\n  key (uname);\n  ref (place) -> town (tname, land);\n  set staff {\n    sname;\n  }\n}\nset staff {\n  sname;\n}\n"
 two_levels = refl
 
-each_none : {X : Type 0} (P : X → Type 0) → Each [] P
-each_none P x m = elim m [ ]
-
-each_of : {X : Type 0} (P : X → Type 0) (x : X) (xs : List X) → P x → Each xs P → Each (x ∷ xs) P
-each_of P x xs h each y (here e) = subst P e h
-each_of P x xs h each y (there m) = each y m
-
 staff_named : IsNamed staff
 staff_named = record { name = a_word (codes "staff") refl; columns = (a_word (codes "sname") refl, each_none _); keys = each_none _; refs = each_none _ }
 
 unit_named : IsNamed unit
 unit_named = record {
   name = a_word (codes "unit") refl;
-  columns = (a_word (codes "uname") refl, each_of _ _ _ (a_word (codes "place") refl) (each_none _));
-  keys = each_of _ _ _ (a_word (codes "uname") refl, each_none _) (each_none _);
-  refs = each_of _ _ _ (record { columns = (a_word (codes "place") refl, each_none _); refers = a_word (codes "town") refl; referred = (a_word (codes "tname") refl, each_of _ _ _ (a_word (codes "land") refl) (each_none _)) }) (each_none _);
+  columns = (a_word (codes "uname") refl, each_one _ _ (a_word (codes "place") refl) (each_none _));
+  keys = each_one _ _ (a_word (codes "uname") refl, each_none _) (each_none _);
+  refs = each_one _ _ (record { columns = (a_word (codes "place") refl, each_none _); refers = a_word (codes "town") refl; referred = (a_word (codes "tname") refl, each_one _ _ (a_word (codes "land") refl) (each_none _)) }) (each_none _);
 }
 
 two_levels_are_writable : AreWritable (set unit (set staff none none) (set staff none none))

@@ -34,11 +34,11 @@ right_back : (u v : List Lexeme) → WordsAreRight (u ++ v) → WordsAreRight v
 right_back [] v h = h
 right_back (x ∷ u) v h = right_back u v h.1
 
-each_one : {X : Type 0} {P : X → Type 0} (x : X) (xs : List X) → P x → Each xs P → Each (x ∷ xs) P
+pub each_one : {X : Type 0} {P : X → Type 0} (x : X) (xs : List X) → P x → Each xs P → Each (x ∷ xs) P
 each_one {P = P} x xs p each y (here e) = subst P e p
 each_one x xs p each y (there m) = each y m
 
-each_none : {X : Type 0} (P : X → Type 0) → Each {X = X} [] P
+pub each_none : {X : Type 0} (P : X → Type 0) → Each {X = X} [] P
 each_none P y m = elim m [ ]
 
 -- ---- names

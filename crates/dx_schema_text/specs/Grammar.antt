@@ -8,6 +8,7 @@ use Rattle.dx_grammar.specs.Forms.{Form, one, ◌▸◌, ◌∣◌, repeated, op
 
 -- ---- tokens
 
+-- the kind of words, of numbers, of strings, of marks
 abbrev pub is_word_kind : TokenKind → Bool
 is_word_kind Word = true
 is_word_kind Number = false
@@ -32,6 +33,7 @@ is_mark_kind Number = false
 is_mark_kind Str = false
 is_mark_kind Mark = true
 
+-- the token is a word, a string
 abbrev pub is_word : Lexeme → Bool
 is_word x = is_word_kind x.kind
 
@@ -50,6 +52,7 @@ mark_is m x = is_mark_kind x.kind && pointwise nat_eq x.text m
 
 -- ---- forms
 
+-- any word, any string, this word, this mark
 abbrev pub word : Form Lexeme
 word = one is_word
 

@@ -23,6 +23,7 @@ wider margin = margin ++ codes "  "
 abbrev pub group : List ℕ → List (List ℕ) → List ℕ
 group word names = word ++ (codes " (" ++ (names_text names ++ codes ")"))
 
+-- the line of a key, of a ref
 abbrev pub key_line : List ℕ → KeyDecl → List ℕ
 key_line margin k = margin ++ (group (codes "key") k.columns ++ codes ";\n")
 
@@ -37,6 +38,7 @@ head_lines margin l = margin ++ (codes "set " ++ (l.name ++ (codes " {\n" ++ (wi
 abbrev pub front_lines : List ℕ → Label → List ℕ
 front_lines margin l = head_lines margin l ++ (flat_map (key_line (wider margin)) l.keys ++ flat_map (ref_line (wider margin)) l.refs)
 
+-- the line that ends a set
 abbrev pub last_line : List ℕ → List ℕ
 last_line margin = margin ++ codes "}\n"
 
@@ -52,11 +54,13 @@ abbrev pub AreNames : List (List ℕ) → Type 0
 AreNames [] = ⊥
 AreNames (name ∷ others) = IsWord name × Each others IsWord
 
+-- each name of a ref is a word, and neither of its lists is empty
 pub record IsNamedRef (r : RefDecl) : Type 0 where
   pub columns : AreNames r.columns
   pub refers : IsWord r.set
   pub referred : AreNames r.referred
 
+-- each name of a set is a word, and no list of its names is empty
 pub record IsNamed (l : Label) : Type 0 where
   pub name : IsWord l.name
   pub columns : AreNames l.columns
@@ -77,6 +81,7 @@ pub record AreWritable (f : Forest) : Type 0 where
 abbrev pub sides_text : List ℕ → List ℕ → List ℕ
 sides_text from to = codes "mapping 1;\nsource {\n" ++ (from ++ (codes "}\ntarget {\n" ++ (to ++ codes "}\n")))
 
+-- what that text says
 abbrev pub sides : Forest → Forest → MappingText
 sides from to = record { version = 1; source = from; target = to; lines = []; rules = [] }
 

@@ -30,6 +30,7 @@ comma_word = do
   w ← token is_word
   give w.text
 
+-- the names of a list, parted by commas
 unfoldable pub words_reader : Reader Lexeme (List (List ℕ))
 words_reader = do
   first ← token is_word
@@ -38,6 +39,7 @@ words_reader = do
 
 -- ---- sets
 
+-- a key: its columns
 unfoldable pub key_reader : Reader Lexeme KeyDecl
 key_reader = do
   keyword ← token (word_is (codes "key"))
@@ -47,6 +49,7 @@ key_reader = do
   ending ← token (mark_is (codes ";"))
   give (record { columns = columns })
 
+-- a ref: its columns, the set that it refers to, and the referred columns
 unfoldable pub ref_reader : Reader Lexeme RefDecl
 ref_reader = do
   keyword ← token (word_is (codes "ref"))
@@ -61,6 +64,7 @@ ref_reader = do
   ending ← token (mark_is (codes ";"))
   give (record { columns = columns; set = referred_set.text; referred = referred })
 
+-- a key, a ref and an inner set, each as a clause
 abbrev pub key_clause : KeyDecl → Clause
 key_clause k = clauses.Key k
 
@@ -98,9 +102,11 @@ abbrev pub begins_clause : ℕ → Lexeme → Bool
 begins_clause zero x = word_is (codes "key") x || word_is (codes "ref") x
 begins_clause (suc levels) x = word_is (codes "key") x || (word_is (codes "ref") x || word_is (codes "set") x)
 
+-- a key or a ref, in a set that has no inner sets
 unfoldable pub last_clause_reader : Reader Lexeme Clause
 last_clause_reader = either (word_is (codes "key")) (key_reader >>= λ k. give (key_clause k)) (ref_reader >>= λ r. give (ref_clause r))
 
+-- a key, a ref or an inner set
 unfoldable pub clause_reader_with : Reader Lexeme Tree → Reader Lexeme Clause
 clause_reader_with inner = either (word_is (codes "key")) (key_reader >>= λ k. give (key_clause k)) (either (word_is (codes "ref")) (ref_reader >>= λ r. give (ref_clause r)) (inner >>= λ t. give (set_clause t)))
 
@@ -114,6 +120,7 @@ set_head_reader = do
   ending ← token (mark_is (codes ";"))
   give (name.text, columns)
 
+-- a set, where its clauses begin so and are read so
 unfoldable pub set_reader_of : (Lexeme → Bool) → Reader Lexeme Clause → Reader Lexeme Tree
 set_reader_of begins clause = do
   head ← set_head_reader
@@ -132,9 +139,11 @@ set_reader levels = set_reader_of (begins_clause levels) (clause_reader levels)
 
 -- ---- lines
 
+-- a column of a set, by the words for the two
 abbrev pub place_text : Lexeme → Lexeme → PlaceText
 place_text s c = record { set = s.text; set_place = s.place; column = c.text; column_place = c.place }
 
+-- a column of a set
 unfoldable pub place_reader : Reader Lexeme PlaceText
 place_reader = do
   s ← token is_word
@@ -142,17 +151,20 @@ place_reader = do
   c ← token is_word
   give (place_text s c)
 
+-- a comma, and a column of a set
 unfoldable pub comma_place : Reader Lexeme PlaceText
 comma_place = do
   comma ← token (mark_is (codes ","))
   place_reader
 
+-- columns of sets, parted by commas
 unfoldable pub places_reader : Reader Lexeme (List PlaceText)
 places_reader = do
   first ← place_reader
   others ← many (mark_is (codes ",")) comma_place
   give (first ∷ others)
 
+-- a text, a column and a conversion of columns, each as the source of a line
 abbrev pub literal_source : List ℕ → SourceText
 literal_source text = sources.Literal text
 
@@ -162,6 +174,7 @@ column_source p = sources.Column p
 abbrev pub call_source : Lexeme → List PlaceText → SourceText
 call_source name args = sources.Call name.text name.place args
 
+-- a text as the source of a line
 unfoldable pub string_reader : Reader Lexeme SourceText
 string_reader = do
   s ← token is_string
@@ -181,14 +194,17 @@ call_reader name = do
   closing ← token (mark_is (codes ")"))
   give (call_source name args)
 
+-- a column or a conversion of columns, which both begin with a word
 unfoldable pub named_reader : Reader Lexeme SourceText
 named_reader = do
   name ← token is_word
   either (mark_is (codes ".")) (column_reader name) (call_reader name)
 
+-- the source of a line
 unfoldable pub source_reader : Reader Lexeme SourceText
 source_reader = either is_string string_reader named_reader
 
+-- a line: its source, and the column that it leads to
 unfoldable pub line_reader : Reader Lexeme LineText
 line_reader = do
   keyword ← token (word_is (codes "line"))
@@ -200,37 +216,44 @@ line_reader = do
 
 -- ---- rules
 
+-- a word and a string, each as a cell
 abbrev pub name_cell : Lexeme → CellText
 name_cell x = cells.Name x.text x.place
 
 abbrev pub literal_cell : Lexeme → CellText
 literal_cell x = cells.Literal x.text
 
+-- a word as a cell
 unfoldable pub name_reader : Reader Lexeme CellText
 name_reader = do
   x ← token is_word
   give (name_cell x)
 
+-- a string as a cell
 unfoldable pub literal_reader : Reader Lexeme CellText
 literal_reader = do
   x ← token is_string
   give (literal_cell x)
 
+-- a cell: a word, and where strings may stand, a word or a string
 unfoldable pub cell_reader : Bool → Reader Lexeme CellText
 cell_reader false = name_reader
 cell_reader true = either is_word name_reader literal_reader
 
+-- a comma, and a cell
 unfoldable pub comma_cell : Bool → Reader Lexeme CellText
 comma_cell strings = do
   comma ← token (mark_is (codes ","))
   cell_reader strings
 
+-- cells, parted by commas
 unfoldable pub cells_reader : Bool → Reader Lexeme (List CellText)
 cells_reader strings = do
   first ← cell_reader strings
   others ← many (mark_is (codes ",")) (comma_cell strings)
   give (first ∷ others)
 
+-- an atom: its set and its cells
 unfoldable pub atom_reader : Bool → Reader Lexeme AtomText
 atom_reader strings = do
   s ← token is_word
@@ -239,17 +262,20 @@ atom_reader strings = do
   closing ← token (mark_is (codes ")"))
   give (record { set = s.text; place = s.place; cells = inside })
 
+-- a comma, and an atom
 unfoldable pub comma_atom : Bool → Reader Lexeme AtomText
 comma_atom strings = do
   comma ← token (mark_is (codes ","))
   atom_reader strings
 
+-- atoms, parted by commas
 unfoldable pub atoms_reader : Bool → Reader Lexeme (List AtomText)
 atoms_reader strings = do
   first ← atom_reader strings
   others ← many (mark_is (codes ",")) (comma_atom strings)
   give (first ∷ others)
 
+-- a derived variable: its name, and the conversion of variables that gives it
 unfoldable pub derived_reader : Reader Lexeme DerivedText
 derived_reader = do
   name ← token is_word
@@ -260,11 +286,13 @@ derived_reader = do
   closing ← token (mark_is (codes ")"))
   give (record { name = name.text; place = name.place; call = call.text; call_place = call.place; args = args })
 
+-- a comma, and a derived variable
 unfoldable pub comma_derived : Reader Lexeme DerivedText
 comma_derived = do
   comma ← token (mark_is (codes ","))
   derived_reader
 
+-- the derived variables of a rule, behind `where`
 unfoldable pub where_reader : Reader Lexeme (List DerivedText)
 where_reader = do
   keyword ← token (word_is (codes "where"))
@@ -272,9 +300,11 @@ where_reader = do
   others ← many (mark_is (codes ",")) comma_derived
   give (first ∷ others)
 
+-- the derived variables of a rule, of which there may be none
 unfoldable pub optional_where : Reader Lexeme (List DerivedText)
 optional_where = either (word_is (codes "where")) where_reader (give [])
 
+-- a rule: its premise, its derived variables and its conclusion
 unfoldable pub rule_reader : Reader Lexeme RuleText
 rule_reader = do
   keyword ← token (word_is (codes "rule"))
@@ -287,15 +317,18 @@ rule_reader = do
 
 -- ---- mappings
 
+-- a line and a rule, each as an item of a mapping
 abbrev pub line_item : LineText → ItemText
 line_item l = items.Line l
 
 abbrev pub rule_item : RuleText → ItemText
 rule_item r = items.Rule r
 
+-- an item begins with "line" or "rule"
 abbrev pub begins_item : Lexeme → Bool
 begins_item x = word_is (codes "line") x || word_is (codes "rule") x
 
+-- a line or a rule
 unfoldable pub item_reader : Reader Lexeme ItemText
 item_reader = either (word_is (codes "line")) (line_reader >>= λ l. give (line_item l)) (rule_reader >>= λ r. give (rule_item r))
 
@@ -319,6 +352,7 @@ side_reader name levels = do
   closing ← token (mark_is (codes "}"))
   give (forest_of trees)
 
+-- the mapping of these sides and items
 abbrev pub mapping_text : Forest → Forest → List ItemText → MappingText
 mapping_text from to rest = record { version = 1; source = from; target = to; lines = lines_among rest; rules = rules_among rest }
 

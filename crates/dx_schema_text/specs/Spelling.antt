@@ -25,6 +25,7 @@ IsMark m x = mark_is m x ≡ true
 abbrev pub IsKeyword : List ℕ → Lexeme → Type 0
 IsKeyword w x = word_is w x ≡ true
 
+-- the token is a word, a string
 abbrev pub IsWord : Lexeme → Type 0
 IsWord x = is_word x ≡ true
 
@@ -41,9 +42,11 @@ pub data Parted {A : Type 0} (R : A → List Lexeme → Type 0) : List A → Lis
 
 -- ---- sets
 
+-- a word spells a name
 pub data SpellsName : List ℕ → List Lexeme → Type 0 where
   name_of : (w : Lexeme) → IsWord w → SpellsName w.text (w ∷ [])
 
+-- tokens spell a key, a ref
 pub data SpellsKey : KeyDecl → List Lexeme → Type 0 where
   key_of : {columns : List (List ℕ)} {u : List Lexeme} (k o c e : Lexeme) → IsKeyword (codes "key") k → IsMark (codes "(") o → Parted SpellsName columns u → IsMark (codes ")") c → IsMark (codes ";") e
       → SpellsKey (record { columns = columns }) (k ∷ o ∷ (u ++ c ∷ e ∷ []))
@@ -69,6 +72,7 @@ mutual
     no_clause : {levels : ℕ} → SpellsClauses levels [] []
     clause_first : {levels : ℕ} {c : Clause} {cs : List Clause} {u v : List Lexeme} → SpellsClause levels c u → SpellsClauses levels cs v → SpellsClauses levels (c ∷ cs) (u ++ v)
 
+  -- a key, a ref, or where inner sets may stand, an inner set
   pub data SpellsClause : ℕ → Clause → List Lexeme → Type 0 where
     a_key : {levels : ℕ} {k : KeyDecl} {u : List Lexeme} → SpellsKey k u → SpellsClause levels (key_clause k) u
     a_ref : {levels : ℕ} {r : RefDecl} {u : List Lexeme} → SpellsRef r u → SpellsClause levels (ref_clause r) u
@@ -76,14 +80,17 @@ mutual
 
 -- ---- lines
 
+-- tokens spell a column of a set
 pub data SpellsPlace : PlaceText → List Lexeme → Type 0 where
   place_of : (s dot c : Lexeme) → IsWord s → IsMark (codes ".") dot → IsWord c → SpellsPlace (place_text s c) (s ∷ dot ∷ c ∷ [])
 
+-- tokens spell the source of a line: a text, a column, or a conversion of columns
 pub data SpellsSource : SourceText → List Lexeme → Type 0 where
   a_literal : (s : Lexeme) → IsString s → SpellsSource (literal_source s.text) (s ∷ [])
   a_column : {p : PlaceText} {u : List Lexeme} → SpellsPlace p u → SpellsSource (column_source p) u
   a_call : {args : List PlaceText} {u : List Lexeme} (n o c : Lexeme) → IsWord n → IsMark (codes "(") o → Parted SpellsPlace args u → IsMark (codes ")") c → SpellsSource (call_source n args) (n ∷ o ∷ (u ++ c ∷ []))
 
+-- tokens spell a line
 pub data SpellsLine : LineText → List Lexeme → Type 0 where
   line_of : {from : SourceText} {to : PlaceText} {u v : List Lexeme} (k arrow e : Lexeme) → IsKeyword (codes "line") k → SpellsSource from u → IsMark (codes "->") arrow → SpellsPlace to v → IsMark (codes ";") e
       → SpellsLine (record { source = from; target = to }) (k ∷ (u ++ arrow ∷ (v ++ e ∷ [])))
@@ -95,28 +102,34 @@ pub data SpellsCell : Bool → CellText → List Lexeme → Type 0 where
   a_name : {strings : Bool} (w : Lexeme) → IsWord w → SpellsCell strings (name_cell w) (w ∷ [])
   a_text : (s : Lexeme) → IsString s → SpellsCell true (literal_cell s) (s ∷ [])
 
+-- tokens spell an atom, where strings may stand or not
 pub data SpellsAtom : Bool → AtomText → List Lexeme → Type 0 where
   atom_of : {strings : Bool} {cs : List CellText} {u : List Lexeme} (s o c : Lexeme) → IsWord s → IsMark (codes "(") o → Parted (SpellsCell strings) cs u → IsMark (codes ")") c
       → SpellsAtom strings (record { set = s.text; place = s.place; cells = cs }) (s ∷ o ∷ (u ++ c ∷ []))
 
+-- tokens spell a derived variable
 pub data SpellsDerived : DerivedText → List Lexeme → Type 0 where
   derived_of : {args : List CellText} {u : List Lexeme} (n equal call o c : Lexeme) → IsWord n → IsMark (codes "=") equal → IsWord call → IsMark (codes "(") o → Parted (SpellsCell false) args u → IsMark (codes ")") c
       → SpellsDerived (record { name = n.text; place = n.place; call = call.text; call_place = call.place; args = args }) (n ∷ equal ∷ call ∷ o ∷ (u ++ c ∷ []))
 
+-- tokens spell the derived variables of a rule, of which there may be none
 pub data SpellsWhere : List DerivedText → List Lexeme → Type 0 where
   no_where : SpellsWhere [] []
   where_of : {ds : List DerivedText} {u : List Lexeme} (k : Lexeme) → IsKeyword (codes "where") k → Parted SpellsDerived ds u → SpellsWhere ds (k ∷ u)
 
+-- tokens spell a rule
 pub data SpellsRule : RuleText → List Lexeme → Type 0 where
   rule_of : {premise conclusion : List AtomText} {ds : List DerivedText} {u v w : List Lexeme} (k arrow e : Lexeme) → IsKeyword (codes "rule") k → Parted (SpellsAtom false) premise u → SpellsWhere ds v → IsMark (codes "->") arrow → Parted (SpellsAtom true) conclusion w → IsMark (codes ";") e
       → SpellsRule (record { premise = premise; derived = ds; conclusion = conclusion }) (k ∷ (u ++ (v ++ arrow ∷ (w ++ e ∷ []))))
 
 -- ---- mappings
 
+-- tokens spell a line or a rule
 pub data SpellsItem : ItemText → List Lexeme → Type 0 where
   a_line : {l : LineText} {u : List Lexeme} → SpellsLine l u → SpellsItem (line_item l) u
   a_rule : {r : RuleText} {u : List Lexeme} → SpellsRule r u → SpellsItem (rule_item r) u
 
+-- tokens spell the sets of a side, behind its name
 pub data SpellsSide : List ℕ → ℕ → Forest → List Lexeme → Type 0 where
   side_of : {name : List ℕ} {levels : ℕ} {trees : List Tree} {u : List Lexeme} (k o c : Lexeme) → IsKeyword name k → IsMark (codes "{") o → Many (SpellsSet levels) trees u → IsMark (codes "}") c
       → SpellsSide name levels (forest_of trees) (k ∷ o ∷ (u ++ c ∷ []))

@@ -52,7 +52,7 @@ pub record IsUnexpected (text : List ℕ) (place : ℕ) : Type 0 where
   pub is : token ≡ slice_index_or (judged_tokens text) number token
   pub at : place ≡ token.place
 
--- The token could stand if sets might be nested one level deeper: it is the word "set" of a set that is too deep.
+-- The token could stand if sets might be nested one level deeper.
 abbrev pub StandsDeeper : List ℕ → ℕ → Type 0
 StandsDeeper text number = Starts deeper_form (take (suc number) (judged_tokens text))
 
@@ -104,6 +104,7 @@ told end stop xs (Err (suc left)) deeper = Err (unexpected xs (suc left) (stops_
 told end (Some p) xs (Ok m) deeper = Err (At p.0 p.1)
 told end None xs (Ok m) deeper = Ok m
 
+-- what is answered of tokens that are read with 15 levels of inner sets, and then with 16
 unfoldable pub told_of : ℕ → Option (ℕ × TextKind) → List Lexeme → Result MappingText TextFault
 told_of end stop xs = told end stop xs (whole (mapping_reader deepest) xs) (whole (mapping_reader 16) xs)
 

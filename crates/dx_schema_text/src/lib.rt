@@ -1,7 +1,9 @@
 //! Mapping texts: the grammar, what a text says, its first fault with its place, and sets printed back.
 //!
-//! `read_mapping` is Ok exactly for the texts of the grammar (`specs/Grammar.antt`), with the mapping that the text spells
-//! (`specs/Spelling.antt`), and else answers the first fault (`specs/Texts.antt`).
+//! `read_mapping` is Ok exactly for the texts of the grammar (specs/Grammar), with the mapping that the text spells
+//! (specs/Spelling), and else answers the first fault (specs/Texts). `print_trees` gives exactly the text of sets
+//! (specs/Print). The laws: a text says one mapping or has one first fault and never both, and what a text says can be
+//! printed and is read again.
 #![tactic(auto)]
 
 mod clauses;

@@ -136,7 +136,12 @@ fn push_sets(
     Ok(())
 }
 
-/// Prints sets as a mapping text has them. It fails only where memory runs out.
+/// Prints sets as a mapping text has them. Where each name is a word, no list of names is empty and no set is more than
+/// 16 levels deep, the text, as a side of a mapping text, is read as these sets.
+///
+/// # Errors
+///
+/// `AllocError` where there is no memory.
 pub fn print_trees(alloc: Global, trees: &Trees) -> Result<Text, AllocError>
     ensures text { IfOk result (λ t. t ≡ printed [] trees.now) }
     ensures read_again { IfOk result (λ t. AreWritable trees.now → IsReadAgain trees.now t) }

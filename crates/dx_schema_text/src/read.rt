@@ -95,8 +95,8 @@ fn read(alloc: Global, text: &[u8]) -> Result<MappingText, TextFault>
 /// # Errors
 ///
 /// `At` with the place of the first fault: `Character` at a byte that can't stand there, `Expected` at the first byte of a
-/// token that can't, `Ended` at the end of the text where it ends too early. `TooDeep` at the word `set` of a set at
-/// depth 17. `Memory` where memory runs out.
+/// token that can't, `Ended` at the end of the text where it ends too early. `TooDeep` at the first byte of a token
+/// that can't stand, but could if sets might be nested one level deeper. `Memory` where memory runs out.
 pub fn read_mapping(alloc: Global, text: &[u8]) -> Result<MappingText, TextFault>
     ensures value { Reads result (read_text text.now) }
 

@@ -19,13 +19,7 @@ use Rattle.dx_ports.specs.Members.{◌∈◌, here, there}
 use Rattle.dx_model.specs.Rules.{Increase, cells_of, exported}
 use Rattle.dx_model.proofs.Canonical.{exported_exactly}
 use Rattle.dx_ports.proofs.Members.{contains_from_in, in_from_contains}
-
--- the variables that stand in cells, in order and with repeats
-abbrev pub variables_in : List Cell → List ℕ
-variables_in [] = []
-variables_in (Var x ∷ cs) = x ∷ variables_in cs
-variables_in (Ex v ∷ cs) = variables_in cs
-variables_in (Lit t ∷ cs) = variables_in cs
+use Rattle.dx_tgd.specs.Variables.{variables_in}
 
 pub variables_append : (cs ds : List Cell) → variables_in (cs ++ ds) ≡ variables_in cs ++ variables_in ds
 variables_append [] ds = refl

@@ -87,7 +87,7 @@ fn add_rules(
 ///
 /// # Errors
 ///
-/// Out of memory.
+/// `AllocError` where there is no memory.
 pub fn canonical(
     alloc: Global,
     rules: &[Rule],

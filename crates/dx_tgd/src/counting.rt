@@ -18,7 +18,7 @@ fn left_after(rule: &Rule, places: u64, limit: u64) -> Option<u64>
     Some(left)
 }
 
-/// Whether the canonical cells do not pass the limit.
+/// Whether the cells of the canonical instance, counted for each match, are no more than the limit.
 pub fn fits_limit(rules: &[Rule], matches: &Matches, limit: u64) -> bool
     ensures { IsTrue result ↔ (canonical_cells rules.now (rows_in matches.now) ≤ limit) }
 {

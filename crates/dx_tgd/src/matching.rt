@@ -72,7 +72,7 @@ fn tuples_in(
 ///
 /// # Errors
 ///
-/// Out of memory.
+/// `AllocError` where there is no memory.
 pub fn match_rows(alloc: Global, rule: &Rule, source: &Instance) -> Result<Places, AllocError>
     requires copy { IsCopy (widths source.now) rule.now }
     ensures { IfOk result (λ places. (convert : Conversions) → IsRows convert rule.now (facts source.now) places.tuples) }

@@ -1,7 +1,8 @@
 //! The tokens of a mapping text: words, numbers, strings and marks, with the first fault.
 //!
-//! `tokens` gives exactly the tokens of a text, or its first token fault with its place. `scan` gives the tokens up to
-//! that fault, each with its text, and what was begun there, for readers that judge tokens one after the other.
+//! `tokens` gives exactly the tokens of a text (specs/Lexing), or its first token fault with its place. `scan` gives the
+//! tokens up to that fault, each with its text, and what was begun there (specs/Scan), for readers that judge tokens one
+//! after the other. The laws: the two agree, parts of a text scan to their tokens, and quoted texts are read again.
 #![tactic(auto)]
 
 mod bytes;

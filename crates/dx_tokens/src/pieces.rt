@@ -11,18 +11,26 @@ use crate::bytes::{
 /// What stands next inside a string.
 #[derive(Clone, Copy, Debug, PartialEq, Eq)]
 pub(crate) enum Item {
+    /// The quotation mark that ends the string.
     Quote,
+    /// A character or an escape. The number is its length in bytes.
     Whole(usize),
+    /// A byte that can't stand there. The number is its offset: how many bytes of the item stand before it.
     Bad(usize),
+    /// The text ends inside the character or escape.
     Cut,
 }
 
 /// What stands next in a text.
 #[derive(Clone, Copy, Debug, PartialEq, Eq)]
 pub(crate) enum Piece {
+    /// A blank or a comment. The number is its length in bytes.
     Blank(usize),
+    /// A token of a kind. The number is its length in bytes.
     Token(TokenKind, usize),
+    /// A byte that can't stand there. The number is its offset: how many bytes of the piece stand before it.
     Fault(usize),
+    /// The text ends inside the piece.
     Cut,
 }
 

@@ -1,5 +1,5 @@
 -- Choices of occurrences, and functions that choose.
-use Rattle.std.proofs.Common.{◌≡◌, ℕ, Bool, true, cond, List, [], ◌∷◌, inl, inr, refl, sym, ◌∙◌, ap, subst, None}
+use Rattle.std.proofs.Common.{◌≡◌, ℕ, true, cond, List, [], ◌∷◌, inl, inr, refl, sym, ◌∙◌, ap, subst, None}
 use Rattle.std.specs.Prelude.{map}
 use Rattle.std.specs.List.{list_any, filter}
 use Rattle.std.proofs.lemmas.Bool.{cases_Bool, cond-true, cond-false, eqb-true, eq-eqb, or_left, or_right, false≢true}
@@ -13,46 +13,7 @@ use Rattle.dx_lines.specs.declared.term.Term.{Term}
 use Rattle.dx_lines.specs.declared.term.Term.TheVariants.{Var, Call}
 use Rattle.dx_lines.specs.Ways.{is_of, variable_in, named, with_table, choices, variable_at, term_by}
 use Rattle.dx_ways.specs.Laws.{seen_at, TermBy, Chosen}
-
--- ---- lists
-
-first_kept : {X : Type 0} (p : X → Bool) (y : X) (xs ys : List X) {x : X} → p y ≡ true → (x ∈ ys → (x ∈ xs) × (p x ≡ true)) → x ∈ (y ∷ ys) → (x ∈ (y ∷ xs)) × (p x ≡ true)
-first_kept {X} p y xs ys {x} t h (here e) = let Q : X → Type 0 = λ z. p z ≡ true in (here e, subst Q e t)
-first_kept p y xs ys t h (there m) = let r = h m in (there r.0, r.1)
-
-pub from_filter : {X : Type 0} (p : X → Bool) (xs : List X) {x : X} → x ∈ filter p xs → (x ∈ xs) × (p x ≡ true)
-from_filter p [] m = elim m [ ]
-from_filter {X} p (y ∷ xs) {x} m = elim (cases_Bool (p y)) [
-  | inl t ↦ first_kept p y xs (filter p xs) t (λ n. from_filter p xs n) (rw (cond-true (p y) (y ∷ filter p xs) (filter p xs) t) at m)
-  | inr f ↦ let r = from_filter p xs (rw (cond-false (p y) (y ∷ filter p xs) (filter p xs) f) at m) in (there r.0, r.1)
-]
-
-pub to_filter : {X : Type 0} (p : X → Bool) (xs : List X) {x : X} → x ∈ xs → p x ≡ true → x ∈ filter p xs
-to_filter p [] m t = elim m [ ]
-to_filter p (y ∷ xs) {x} (here e) t = let u : p y ≡ true = rw e t in rw (cond-true (p y) (y ∷ filter p xs) (filter p xs) u) (here e)
-to_filter p (y ∷ xs) {x} (there m) t = elim (cases_Bool (p y)) [
-  | inl u ↦ rw (cond-true (p y) (y ∷ filter p xs) (filter p xs) u) (there (to_filter p xs m t))
-  | inr f ↦ rw (cond-false (p y) (y ∷ filter p xs) (filter p xs) f) (to_filter p xs m t)
-]
-
-pub from_any : {X : Type 0} (p : X → Bool) (xs : List X) → list_any p xs ≡ true → (x : X) × (x ∈ xs) × (p x ≡ true)
-from_any p [] h = absurd (false≢true h)
-from_any p (x ∷ xs) h = elim (cases_Bool (p x)) [
-  | inl t ↦ (x, here refl, t)
-  | inr f ↦ let r = from_any p xs (rw f at h) in (r.0, there r.1, r.2)
-]
-
-pub to_any : {X : Type 0} (p : X → Bool) (xs : List X) {x : X} → x ∈ xs → p x ≡ true → list_any p xs ≡ true
-to_any p [] m t = elim m [ ]
-to_any p (y ∷ xs) (here e) t = or_left (p y) (list_any p xs) (rw e t)
-to_any p (y ∷ xs) (there m) t = or_right (p y) (list_any p xs) (to_any p xs m t)
-
-pub map_same : {X Y : Type 0} (f g : X → Y) (xs : List X) → ((x : X) → x ∈ xs → f x ≡ g x) → map f xs ≡ map g xs
-map_same f g [] h = refl
-map_same f g (x ∷ xs) h =
-    let a = h x (here refl) in
-    let b = map_same f g xs (λ y m. h y (there m)) in
-    cc
+use Rattle.dx_ports.proofs.Tests.{from_filter, to_filter, map_same}
 
 -- ---- the first occurrence of a table
 

@@ -17,10 +17,11 @@ use Rattle.dx_lines.specs.declared.candidate.Pick.{Pick}
 use Rattle.dx_lines.specs.Ways.{is_of, variable_in, named, with_table, term_by, pick, put_in, line_ways, ways}
 use Rattle.dx_ways.specs.Laws.{Ascends, TermBy, Chosen, seen_at}
 use Rattle.dx_ways.specs.Tried.{put_all, with_unlike, column_of, agrees_in, is_like, has_tables, one_or_none, picks_by, tried}
-use Rattle.dx_ways.proofs.Choosing.{from_filter, to_filter, to_any, map_same, first_of, Inside, HasTables, IsBy, has_more, IsWith, from_with, to_with, from_term_by, to_term_by, first_chosen, seen_by}
+use Rattle.dx_ways.proofs.Choosing.{first_of, Inside, HasTables, IsBy, has_more, IsWith, from_with, to_with, from_term_by, to_term_by, first_chosen, seen_by}
 use Rattle.dx_ways.proofs.WaysAre.{IsLineWay, from_line, to_line}
 use Rattle.dx_ways.proofs.Unlike.{from_unlike, to_unlike, first_like, first_like_is}
 use Rattle.dx_ways.proofs.Adding.{all_append, all_grows, all_same, all_is_ascending, all_ascends}
+use Rattle.dx_ports.proofs.Tests.{from_filter, to_filter, to_any, map_same}
 
 -- ---- choices that are tried
 

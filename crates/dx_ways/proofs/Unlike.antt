@@ -10,7 +10,7 @@ use Rattle.dx_logical.specs.declared.relation.Occurrence.{Occurrence}
 use Rattle.dx_lines.specs.declared.line.Place.{Place}
 use Rattle.dx_lines.specs.Ways.{is_of, variable_in}
 use Rattle.dx_ways.specs.Tried.{column_of, with_unlike}
-use Rattle.dx_ways.proofs.Choosing.{from_any}
+use Rattle.dx_ports.proofs.Tests.{from_any}
 
 -- ---- steps of the loops
 

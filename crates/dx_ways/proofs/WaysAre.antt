@@ -12,7 +12,8 @@ use Rattle.dx_lines.specs.Ways.{is_of, variable_in, named, choices, term_by, ter
 use Rattle.dx_ways.specs.Laws.{TermBy, Chosen, IsWay, WaysAre, WaysAscend, WaysGrow}
 use Rattle.dx_ways.proofs.Order.{no_longer}
 use Rattle.dx_ways.proofs.Puts.{from_ascending, to_ascending, ascending_ascends}
-use Rattle.dx_ways.proofs.Choosing.{from_filter, to_filter, first_of, from_choices, to_choices, from_term_by, to_term_by, first_chosen, seen_by}
+use Rattle.dx_ways.proofs.Choosing.{first_of, from_choices, to_choices, from_term_by, to_term_by, first_chosen, seen_by}
+use Rattle.dx_ports.proofs.Tests.{from_filter, to_filter}
 
 -- what a line's ways are
 pub record IsLineWay (P Q : List Occurrence) (l : Line) (k : Pick) : Type 0 where

@@ -34,7 +34,7 @@ is_like places o p = eqb o.table p.table && list_all (agrees_in o p) places
 abbrev pub has_tables : List Occurrence → List Place → Bool
 has_tables chosen places = list_all (λ a. list_any (is_of a.table) chosen) places
 
--- what there is
+-- the term, if there is one
 abbrev pub one_or_none : Option Term → List Term
 one_or_none None = []
 one_or_none (Some t) = t ∷ []

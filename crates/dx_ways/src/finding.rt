@@ -47,7 +47,7 @@ fn add_line(
 ///
 /// # Errors
 ///
-/// `TooMany` where there are more than 64 ways.
+/// `TooMany` where there are more than 64 ways. `Memory` where there is no memory.
 pub fn ways(
     alloc: Global,
     lines: &[Line],

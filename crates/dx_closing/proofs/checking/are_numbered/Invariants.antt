@@ -1,6 +1,6 @@
 use Rattle.std.proofs.Common.{take}
 use Rattle.dx_logical.specs.Laws.{Numbered}
-use Rattle.dx_closing.specs.Closing.{existentials}
+use Rattle.dx_model.specs.Rules.{existentials}
 use Rattle.dx_closing.proofs.checking.are_numbered.Given as goal
 
 abbrev pub invariant-loop-atom : goal.invariant-loop-atom

@@ -1,5 +1,6 @@
 use Rattle.std.proofs.Common.{◌≡◌, drop}
-use Rattle.dx_closing.specs.Closing.{above, existentials}
+use Rattle.dx_model.specs.Rules.{existentials}
+use Rattle.dx_closing.specs.Closing.{above}
 use Rattle.dx_closing.proofs.variables.above_all.Given as goal
 
 abbrev pub invariant-loop-atom : goal.invariant-loop-atom

@@ -1,5 +1,6 @@
 use Rattle.std.proofs.Common.{◌≡◌, drop, flat_map}
-use Rattle.dx_closing.specs.Closing.{above, existential_in}
+use Rattle.dx_model.specs.Rules.{existential_in}
+use Rattle.dx_closing.specs.Closing.{above}
 use Rattle.dx_closing.proofs.variables.above_row.Given as goal
 
 abbrev pub invariant-loop-cell : goal.invariant-loop-cell

@@ -1,7 +1,6 @@
 use Rattle.std.proofs.Common.{◌≡◌, length, arith}
 use Rattle.csv.specs.Records.{fields_of}
-use Rattle.dx_csv.specs.Table.{IsWhole}
-use Rattle.dx_csv.specs.Left.{table_records}
+use Rattle.dx_csv.specs.Table.{IsWhole, table_records}
 use Rattle.dx_csv.proofs.TableFacts.{loaded-more}
 use Rattle.dx_csv.proofs.load.load_table.Goals as goal
 

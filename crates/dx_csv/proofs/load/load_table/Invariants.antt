@@ -1,4 +1,4 @@
-use Rattle.dx_csv.specs.Left.{table_records}
+use Rattle.dx_csv.specs.Table.{table_records}
 use Rattle.dx_csv.proofs.TableFacts.{Loaded}
 use Rattle.dx_csv.proofs.load.load_table.Given as goal
 

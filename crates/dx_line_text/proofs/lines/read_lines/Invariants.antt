@@ -1,6 +1,7 @@
 use Rattle.std.proofs.Common.{◌≡◌, map, take, drop}
 use Rattle.dx_funcs.specs.Serving.{offered}
-use Rattle.dx_line_text.specs.Naming.{line_fault, line_of, first_of}
+use Rattle.dx_ports.specs.Firsts.{first_of}
+use Rattle.dx_line_text.specs.Naming.{line_fault, line_of}
 use Rattle.dx_line_text.proofs.lines.read_lines.Given as goal
 
 -- the lines so far are read, and the first fault is that of the rest

@@ -1,5 +1,6 @@
 use Rattle.std.proofs.Common.{◌≡◌, map, take, drop}
-use Rattle.dx_line_text.specs.Naming.{place_fault, place_of, first_of}
+use Rattle.dx_ports.specs.Firsts.{first_of}
+use Rattle.dx_line_text.specs.Naming.{place_fault, place_of}
 use Rattle.dx_line_text.proofs.places.read_places.Given as goal
 
 -- the places so far are read, and the first fault is that of the rest

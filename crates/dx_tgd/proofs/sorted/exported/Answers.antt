@@ -1,4 +1,4 @@
-use Rattle.std.proofs.Common.{◌≡◌, ◌∙◌, ◌++◌, List, ap, sym, take}
+use Rattle.std.proofs.Common.{◌≡◌, ◌∙◌, ◌++◌, ℕ, List, ap, sym, take}
 use Rattle.std.specs.Prelude.{nat_eq}
 use Rattle.std.specs.List.{dedup}
 use Rattle.std.proofs.lemmas.List.Filters.{dedup_is}
@@ -6,22 +6,15 @@ use Rattle.std.proofs.lemmas.List.{take_all}
 use Rattle.dx_model.specs.declared.rules.Cell.{Cell}
 use Rattle.dx_model.specs.declared.rules.Atom.{Atom}
 use Rattle.dx_model.specs.Rules.{cells_of}
-use Rattle.dx_tgd.proofs.Numbers.{variables_in, variables_append, cells_more, cell_variables, no_variable, sorted_is}
+use Rattle.dx_tgd.proofs.Numbers.{variables_append, cells_more, sorted_is}
 use Rattle.dx_tgd.proofs.sorted.exported.Goals as goal
-use Rattle.dx_tgd.proofs.sorted.exported.Goals.{in-Var+in_ok-push, in_default}
-
-pub loop-cell-preserved : goal.loop-cell-preserved
-loop-cell-preserved c = elim c.match-cell.branch [
-  | in-Var+in_ok-push w ↦ rw (w.variables-is, w.in_ok-push.ensures.items)
-      (cell_variables (variables_in (cells_of (take c.loop-atom.atom-index c.items-atom-items.result.now))) c.items-cell-items.result.now c.loop-cell.cell-index c.cell-item.result w.in-Var.x c.loop-cell.variables.items c.loop-cell-test.true c.cell-item.is w.in-Var.is c.loop-cell.invariant)
-  | in_default w ↦ rw w.variables-is
-      (no_variable (variables_in (cells_of (take c.loop-atom.atom-index c.items-atom-items.result.now))) c.items-cell-items.result.now c.loop-cell.cell-index c.cell-item.result c.loop-cell.variables.items c.loop-cell-test.true c.cell-item.is w.in_default.not-Var c.loop-cell.invariant)
-]
+use Rattle.dx_tgd.specs.Variables.{variables_in}
 
 pub loop-atom-preserved : goal.loop-atom-preserved
 loop-atom-preserved c =
-    c.loop-cell.invariant ∙ (ap (λ (z : List Cell). variables_in (cells_of (take c.loop-atom.atom-index c.items-atom-items.result.now)) ++ variables_in z) (take_all c.loop-cell.cell-index c.items-cell-items.result.now c.loop-cell-test.false ∙ c.items-cell-items.ensures)
-    ∙ sym (ap variables_in (cells_more c.items-atom-items.result.now c.loop-atom.atom-index c.atom-item.result c.loop-atom-test.true c.atom-item.is) ∙ variables_append (cells_of (take c.loop-atom.atom-index c.items-atom-items.result.now)) c.atom-item.result.cells))
+    c.in_ok-push_variables.ensures ∙ (ap (λ (z : List ℕ). z ++ variables_in c.items.result.now) c.loop-atom.invariant
+    ∙ (ap (λ (z : List Cell). variables_in (cells_of (take c.loop-atom.atom-index c.items-atom-items.result.now)) ++ variables_in z) c.items.ensures
+    ∙ sym (ap variables_in (cells_more c.items-atom-items.result.now c.loop-atom.atom-index c.atom-item.result c.loop-atom-test.true c.atom-item.is) ∙ variables_append (cells_of (take c.loop-atom.atom-index c.items-atom-items.result.now)) c.atom-item.result.cells)))
 
 pub returns : goal.returns
 returns c =

@@ -1,4 +1,4 @@
-use Rattle.std.proofs.Common.{◌≡◌, ◌∙◌, ap}
+use Rattle.std.proofs.Common.{◌∙◌, ap}
 use Rattle.dx_ports.proofs.Prefixes.{grew_by_none}
 use Rattle.dx_ports.proofs.memory_outputs.MemOutputsOutputs.say.Goals as goal
 

@@ -10,8 +10,8 @@ overflow_cast-result c = let few = (tables_held _ _ c.self.invariant.0 c.self.in
 pub returns-clause-facts : goal.returns-clause-facts
 returns-clause-facts c = tables_fine _ _ c.self.invariant.1 c.self.view_is
 
-pub returns-clause-schema : goal.returns-clause-schema
-returns-clause-schema c = is_schema (tables_of c.args.self.now) (tables_fine _ _ c.self.invariant.1 c.self.view_is)
+pub returns-clause-fits : goal.returns-clause-fits
+returns-clause-fits c = is_schema (tables_of c.args.self.now) (tables_fine _ _ c.self.invariant.1 c.self.view_is)
 
 pub returns-clause-acyclic : goal.returns-clause-acyclic
 returns-clause-acyclic c = (subst IsFaultless c.self.view_is c.self.invariant.1).acyclic
