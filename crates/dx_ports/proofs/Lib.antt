@@ -5,3 +5,5 @@ pub mod Prefixes
 pub mod Ranges
 pub mod Tests
 pub mod Firsts
+mod Buffers
+mod LimitExamples

@@ -1,7 +1,7 @@
 -- Members of lists.
-use Rattle.std.proofs.Common.{◌≡◌, ℕ, zero, suc, ◌<◌, List, [], ◌∷◌, ◌++◌, ◌⊎◌, inl, inr, refl, ap, arith, length, get_or, Contains}
+use Rattle.std.proofs.Common.{◌≡◌, ℕ, zero, suc, ◌<◌, List, [], ◌∷◌, ◌++◌, ◌⊎◌, inl, inr, refl, ap, subst, arith, length, get_or, Contains}
 use Rattle.std.specs.Prelude.{map, flat_map}
-use Rattle.dx_ports.specs.Members.{◌∈◌, here, there}
+use Rattle.dx_ports.specs.Members.{◌∈◌, ◌≈◌, Each, here, there}
 
 pub in_map : {X Y : Type 0} (f : X → Y) {x : X} {xs : List X} → x ∈ xs → f x ∈ map f xs
 in_map f (here e) = here (ap f e)
@@ -60,3 +60,33 @@ in_from_contains (y ∷ ys) x c = go c.0 c.1 c.2 (λ d. in_from_contains ys x d)
     go : (k : ℕ) → k < length (y ∷ ys) → get_or (y ∷ ys) k x ≡ x → (Contains ys x → x ∈ ys) → x ∈ (y ∷ ys)
     go zero h e f = here e
     go (suc k) h e f = there (f (k, omega arith, e))
+
+-- ---- lists with the same members
+
+pub same_members : {X : Type 0} (A : List X) → A ≈ A
+same_members A = ((λ x m. m), (λ x m. m))
+
+pub same_equal : {X : Type 0} {A B : List X} → A ≡ B → A ≈ B
+same_equal {X} {A} {B} e = subst (λ C. A ≈ C) e (same_members A)
+
+pub same_sym : {X : Type 0} {A B : List X} → A ≈ B → B ≈ A
+same_sym s = (s.1, s.0)
+
+pub same_trans : {X : Type 0} {A B C : List X} → A ≈ B → B ≈ C → A ≈ C
+same_trans s t = ((λ x m. t.0 x (s.0 x m)), (λ x m. s.1 x (t.1 x m)))
+
+pub same_append : {X : Type 0} {A B C D : List X} → A ≈ B → C ≈ D → (A ++ C) ≈ (B ++ D)
+same_append {X} {A} {B} {C} {D} s t = (
+  (λ x m. elim (from_append A m) [ inl l ↦ in_left D (s.0 x l) | inr r ↦ in_right B (t.0 x r) ]),
+  (λ x m. elim (from_append B m) [ inl l ↦ in_left C (s.1 x l) | inr r ↦ in_right A (t.1 x r) ]),
+)
+
+pub same_map : {X Y : Type 0} (f : X → Y) {A B : List X} → A ≈ B → map f A ≈ map f B
+same_map f {A} {B} s = (
+  (λ y m. let r = from_map f A m in subst (λ z. z ∈ map f B) r.2 (in_map f (s.0 r.0 r.1))),
+  (λ y m. let r = from_map f B m in subst (λ z. z ∈ map f A) r.2 (in_map f (s.1 r.0 r.1))),
+)
+
+-- what each member of one has, each member of the other has
+pub same_each : {X : Type 0} {A B : List X} (P : X → Type 0) → A ≈ B → Each A P → Each B P
+same_each P s e = λ x m. e x (s.1 x m)

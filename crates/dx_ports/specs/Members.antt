@@ -12,6 +12,11 @@ infix 4 ◌⊆◌
 abbrev pub ◌⊆◌ : {X : Type 0} → List X → List X → Type 0
 ◌⊆◌ {X} A B = (x : X) → x ∈ A → x ∈ B
 
+-- each of the two has the members of the other
+infix 4 ◌≈◌
+abbrev pub ◌≈◌ : {X : Type 0} → List X → List X → Type 0
+◌≈◌ A B = (A ⊆ B) × (B ⊆ A)
+
 -- each member has it
 abbrev pub Each : {X : Type 0} → List X → (X → Type 0) → Type 0
 Each {X} xs P = (x : X) → x ∈ xs → P x

@@ -9,6 +9,7 @@
 mod file;
 mod inputs;
 mod items;
+pub mod limits;
 mod memory_inputs;
 mod memory_outputs;
 mod outputs;

@@ -1,5 +1,5 @@
 // A text: bytes that are UTF-8, compared by their bytes.
-ghost use Rattle.std.specs.Prelude.{◌≡◌, ◌↔◌, IfOk, OnOk, IsTrue, IsErrOf, IsUtf8, List, ℕ, [], Some, nat_eq, refl, string_bytes};
+ghost use Rattle.std.specs.Prelude.{◌≡◌, ◌↔◌, ◌-◌, ◌≤◌, IfOk, OnOk, IsTrue, IsErrOf, IsUtf8, List, ℕ, Some, drop, length, nat_eq, refl, string_bytes, take};
 ghost use Rattle.std.specs.Cmp.{partial_equiv_from_equiv};
 ghost use Rattle.std.specs.Cmp.Lexicographic.{pointwise, slice_cmp, nat_list_eq_equiv, nat_list_cmp_total, texts_po, texts_ties};
 ghost use Rattle.std.specs.Ordering.{nat_cmp};
@@ -10,16 +10,18 @@ ghost use Rattle.dx_ports.specs.declared.text.TextMade.TheVariants.{Memory};
 
 use std::alloc::{AllocError, Global};
 use std::cmp::Ordering;
-use std::default::MadeWith;
 use std::fmt;
 use std::hash::{Hash, Hasher};
 use std::marker::Model;
+use std::rc::Rc;
 use thiserror::Error;
 
-/// A text. A contract sees it as its bytes, which are UTF-8.
-#[derive(Debug, Drop)]
+/// A text: a part of a buffer that it shares with its copies. A contract sees it as its bytes, which are UTF-8.
+#[derive(Drop)]
 pub struct Text {
-    inner: String,
+    buffer: Rc<String>,
+    start: u32,
+    end: u32,
 }
 
 /// Why bytes gave no text.
@@ -40,21 +42,24 @@ impl From<AllocError> for TextMade {
 }
 
 impl Model for Text {
-    ghost use Rattle.std.specs.Prelude.{List, ℕ, IsUtf8, string_bytes};
+    ghost use Rattle.std.specs.Prelude.{List, ℕ, IsUtf8, string_bytes, take, drop, length, ◌-◌, ◌≤◌};
 
     ghost Value = { List ℕ };
 
-    ghost view = { λ t. string_bytes t.inner };
+    ghost view = { λ t. take (t.end - t.start) (drop t.start (string_bytes t.buffer.value)) };
 
-    ghost invariant = { λ t. IsUtf8 (string_bytes t.inner) };
+    ghost invariant = { λ t. (t.start ≤ t.end)
+        × (t.end ≤ length (string_bytes t.buffer.value))
+        × IsUtf8 (take (t.end - t.start) (drop t.start (string_bytes t.buffer.value))) };
 }
 
 impl Text {
-    /// The text of these bytes, where they are UTF-8.
+    /// The text of these bytes, if they are UTF-8.
     ///
     /// # Errors
     ///
-    /// `NotUtf8`: exactly where the bytes are not UTF-8. `Memory` where there is no memory.
+    /// `NotUtf8`: exactly if the bytes are not UTF-8. `Memory` if there is no memory, or there are 2^32 bytes
+    /// or more.
     pub fn from_bytes(alloc: Global, bytes: &[u8]) -> Result<Text, TextMade>
         ensures ok { IfOk result (λ t. t ≡ bytes.now) }
         ensures text { OnOk result (IsUtf8 bytes.now) }
@@ -66,30 +71,51 @@ impl Text {
         }
     }
 
-    /// The text with these characters.
+    /// The text with these characters, in a buffer of its own.
     ///
     /// # Errors
     ///
-    /// `AllocError` where there is no memory.
+    /// `AllocError` if there is no memory, or the text has 2^32 bytes or more.
     pub fn from_str(alloc: Global, text: &str) -> Result<Text, AllocError>
         ensures { IfOk result (λ t. t ≡ text.now) }
     {
-        let inner = String::from_str(alloc, text)?;
-        Ok(Text { inner })
+        Text::from_string(alloc, String::from_str(alloc, text)?)
     }
 
-    /// Takes a string over, with no memory.
-    pub fn from_string(inner: String) -> Text
-        ensures { result ≡ string_bytes inner }
+    /// The text of a string, which becomes its buffer.
+    ///
+    /// # Errors
+    ///
+    /// `AllocError` if there is no memory, or the string has 2^32 bytes or more.
+    pub fn from_string(alloc: Global, string: String) -> Result<Text, AllocError>
+        ensures { IfOk result (λ t. t ≡ string_bytes string) }
     {
-        Text { inner }
+        let Ok(end) = u32::try_from(string.len()) else {
+            return Err(AllocError);
+        };
+        match Rc::new(alloc, string) {
+            Ok(buffer) => Ok(Text {
+                buffer,
+                start: 0,
+                end,
+            }),
+            Err(_) => Err(AllocError),
+        }
     }
 
-    /// Hands the string over, with no memory.
-    pub fn into_string(self) -> String
-        ensures { string_bytes result ≡ self }
+    /// The part of a buffer from `start` up to `end`, two numbers of bytes. It takes no memory.
+    ///
+    /// # Errors
+    ///
+    /// `AllocError` if the buffer has too many owners to be counted.
+    pub fn part(buffer: &Rc<String>, start: u32, end: u32) -> Result<Text, AllocError>
+        requires order { start ≤ end }
+        requires within { end ≤ length (string_bytes buffer.now.value) }
+        requires text { IsUtf8 (take (end - start) (drop start (string_bytes buffer.now.value))) }
+        ensures { IfOk result (λ t. t ≡ take (end - start) (drop start (string_bytes buffer.now.value))) }
     {
-        self.inner
+        let buffer = buffer.clone()?;
+        Ok(Text { buffer, start, end })
     }
 
     /// The bytes of the text, lent. They are UTF-8.
@@ -97,25 +123,31 @@ impl Text {
         ensures value { result.now ≡ self.now }
         ensures utf8 { IsUtf8 self.now }
     {
-        self.inner.as_bytes()
+        &self.buffer.as_bytes()[self.start as usize..self.end as usize]
     }
 
     /// The text as a `str`, lent.
     pub fn as_str(&self) -> &str
         ensures { result.now ≡ self.now }
     {
-        self.inner.as_str()
+        // The part is UTF-8 by the invariant.
+        unsafe { str::from_utf8_unchecked(self.bytes()) }
     }
 
-    /// A copy, on the allocator of this text.
+    /// A copy, which shares the buffer. It takes no memory.
     ///
     /// # Errors
     ///
-    /// `AllocError` where there is no memory.
+    /// `AllocError` if the buffer has too many owners to be counted.
     pub fn copy(&self) -> Result<Text, AllocError>
         ensures { IfOk result (λ t. t ≡ self.now) }
     {
-        Text::from_str(*self.inner.allocator(), self.inner.as_str())
+        let buffer = self.buffer.clone()?;
+        Ok(Text {
+            buffer,
+            start: self.start,
+            end: self.end,
+        })
     }
 
     /// Whether the two texts are one.
@@ -131,6 +163,12 @@ impl fmt::Display for Text {
 
     fn fmt<W: fmt::Write>(&self, f: &mut fmt::Formatter<W>) -> fmt::Result {
         f.write_str(self.as_str())
+    }
+}
+
+impl fmt::Debug for Text {
+    fn fmt<W: fmt::Write>(&self, f: &mut fmt::Formatter<W>) -> fmt::Result {
+        fmt::Debug::fmt(self.as_str(), f)
     }
 }
 
@@ -179,15 +217,5 @@ impl Hash for Text {
 
     fn hash<H: Hasher>(&self, state: &mut H) {
         self.as_str().hash(state);
-    }
-}
-
-impl MadeWith<Global> for Text {
-    ghost is_made_with = { λ t. t ≡ [] };
-
-    fn made_with(alloc: Global) -> Text {
-        Text {
-            inner: String::new(alloc),
-        }
     }
 }
