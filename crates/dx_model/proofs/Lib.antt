@@ -5,3 +5,22 @@ pub mod Closed
 pub mod CanonicalUniversal
 pub mod Orders
 pub mod Examples
+pub mod Forced
+pub mod Decided
+pub mod OneMap
+pub mod CoverFold
+pub mod Reduction
+pub mod Reduced
+pub mod Frozen
+pub mod Lists
+pub mod Carrying
+pub mod Before
+pub mod Ascending
+pub mod RowsExist
+pub mod MembersAre
+pub mod Pruning
+pub mod Widths
+pub mod Joining
+pub mod ByMembers
+pub mod Deciding
+mod CoverExamples

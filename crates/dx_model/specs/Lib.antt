@@ -3,4 +3,9 @@ pub mod Instances
 pub mod Tables
 pub mod Rules
 pub mod Solutions
+pub mod Fitting
+pub mod Chase
+pub mod Covers
+pub mod Blocks
+pub mod Following
 pub mod Laws
