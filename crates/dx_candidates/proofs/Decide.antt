@@ -7,10 +7,9 @@ use Rattle.std.proofs.lemmas.Bool.{eqb-true, ne_eqb, and_parts, and_from, true�
 use Rattle.dx_ports.specs.Members.{◌⊆◌}
 use Rattle.dx_ports.proofs.Members.{in_map, from_map, in_left, in_right, from_append}
 use Rattle.dx_model.specs.Tables.{Table}
-use Rattle.dx_schema.specs.Links.{IsAcyclic}
+use Rattle.dx_schema.specs.Links.{IsAcyclic, LinksFit}
 use Rattle.dx_logical.specs.declared.relation.Occurrence.{Occurrence}
 use Rattle.dx_logical.specs.Unfolding.{unfolding_of, sub}
-use Rattle.dx_logical.specs.Laws.{LinksFit}
 use Rattle.dx_lines.specs.declared.line.Line.{Line}
 use Rattle.dx_lines.specs.declared.candidate.Pick.{Pick}
 use Rattle.dx_lines.specs.Ways.{pick_cmp, ways}

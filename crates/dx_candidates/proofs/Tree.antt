@@ -6,11 +6,11 @@ use Rattle.std.proofs.lemmas.List.{length_push}
 use Rattle.dx_ports.specs.Members.{◌∈◌, ◌⊆◌}
 use Rattle.dx_ports.proofs.Members.{in_at}
 use Rattle.dx_model.specs.Tables.{Table, table_of}
-use Rattle.dx_schema.specs.Links.{IsAcyclic}
+use Rattle.dx_schema.specs.Links.{IsAcyclic, LinksFit}
 use Rattle.dx_logical.specs.declared.relation.Occurrence.{Occurrence}
 use Rattle.dx_logical.specs.declared.relation.Relation.{Relation}
 use Rattle.dx_logical.specs.Unfolding.{Follows, none, along, all_links, joined, items_at, row_of, continued, alone, unfolding_of, sub}
-use Rattle.dx_logical.specs.Laws.{LinksFit, occurrence_at, IsUnfolding, ComesFrom, itself, after, IsSubtree}
+use Rattle.dx_logical.specs.Laws.{occurrence_at, IsUnfolding, ComesFrom, itself, after, IsSubtree}
 use Rattle.dx_logical.proofs.Facts.{extends_joined, last_joined, unfoldings_are}
 use Rattle.dx_logical.proofs.Subtrees.{subtrees_are}
 use Rattle.dx_candidates.proofs.Readable.{place_in}

@@ -15,7 +15,7 @@ use Rattle.dx_logical.specs.declared.relation.Relation.{Relation}
 use Rattle.dx_logical.specs.declared.fault.WideFault.{WideFault}
 use Rattle.dx_logical.specs.declared.fault.WideFault.TheVariants.{TooWide, Memory}
 use Rattle.dx_logical.specs.Unfolding.{nothing, unfolding_of}
-use Rattle.dx_logical.proofs.Facts.{links_fit}
+use Rattle.dx_schema.proofs.Whole.{links_fit}
 use Rattle.dx_lines.specs.Candidates.{upto}
 use Rattle.dx_lines.specs.Limits.{is_wide}
 use Rattle.dx_candidates.specs.Faults.{IsFault, occurrences_limit, wide_fault}

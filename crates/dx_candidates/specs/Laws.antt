@@ -1,9 +1,8 @@
 -- Which parts of two unfoldings need a test.
 use Rattle.std.specs.Prelude.{◌≡◌, ℕ, ◌<◌, List, length}
 use Rattle.dx_model.specs.Tables.{Table}
-use Rattle.dx_schema.specs.Links.{IsAcyclic}
+use Rattle.dx_schema.specs.Links.{IsAcyclic, LinksFit}
 use Rattle.dx_logical.specs.Unfolding.{unfolding_of}
-use Rattle.dx_logical.specs.Laws.{LinksFit}
 use Rattle.dx_lines.specs.declared.line.Line.{Line}
 use Rattle.dx_lines.specs.declared.candidate.Pick.{Pick}
 use Rattle.dx_lines.specs.Kept.{is_dropped}

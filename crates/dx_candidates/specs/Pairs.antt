@@ -3,10 +3,9 @@ use Rattle.std.specs.Prelude.{◌≡◌, ℕ, ◌≤◌, ◌<◌, Bool, nat_lt, 
 use Rattle.std.specs.List.{list_any}
 use Rattle.dx_ports.specs.Members.{Each}
 use Rattle.dx_model.specs.Tables.{Table}
-use Rattle.dx_schema.specs.Links.{IsAcyclic}
+use Rattle.dx_schema.specs.Links.{IsAcyclic, LinksFit}
 use Rattle.dx_logical.specs.declared.relation.Relation.{Relation}
 use Rattle.dx_logical.specs.Unfolding.{nothing, unfolding_of}
-use Rattle.dx_logical.specs.Laws.{LinksFit}
 use Rattle.dx_lines.specs.declared.line.Line.{Line}
 use Rattle.dx_lines.specs.declared.candidate.Pick.{Pick}
 use Rattle.dx_lines.specs.declared.candidate.Candidate.{Candidate}

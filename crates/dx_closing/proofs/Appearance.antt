@@ -7,8 +7,7 @@ use Rattle.dx_model.specs.declared.rules.Cell.{Cell}
 use Rattle.dx_model.specs.declared.rules.Cell.TheVariants.{Var, Ex, Lit}
 use Rattle.dx_model.specs.declared.rules.Atom.{Atom}
 use Rattle.dx_model.specs.Rules.{cells_of, existential_in, existentials}
-use Rattle.dx_logical.specs.Laws.{Numbered}
-use Rattle.dx_closing.specs.Closing.{AreNumbered}
+use Rattle.dx_model.specs.Fitting.{AreNumbered, Numbered}
 use Rattle.dx_closing.proofs.Numbers.{above_numbered, existentials-more}
 use Rattle.dx_logical.proofs.Facts.{numbered_further}
 use Rattle.dx_closing.proofs.Numbered.{existentials-push}

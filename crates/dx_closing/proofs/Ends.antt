@@ -9,9 +9,8 @@ use Rattle.dx_model.specs.declared.rules.Atom.{Atom}
 use Rattle.dx_model.specs.declared.tables.Link.{Link}
 use Rattle.dx_model.specs.Tables.{Table, table_of}
 use Rattle.dx_model.specs.Solutions.{AtomFits}
-use Rattle.dx_schema.specs.Links.{IsAcyclic}
+use Rattle.dx_schema.specs.Links.{IsAcyclic, LinksFit}
 use Rattle.dx_schema.proofs.Levels.{level, IsLocal, settles}
-use Rattle.dx_logical.specs.Laws.{LinksFit}
 use Rattle.dx_closing.specs.Closing.{IsClosing, gone, begun, through_atom}
 use Rattle.dx_closing.specs.Laws.{ClosingEnds}
 use Rattle.dx_closing.proofs.Going.{atom_grows}

@@ -82,7 +82,7 @@ goal-closed = refl
 -- ---- links one after another, and links of two columns
 
 abbrev table : ℕ → List Link → Table
-table width links = record { width = width; determinations = []; links = links }
+table width links = record { width = width; determinations = []; links = links; optional = [] }
 
 abbrev link : ℕ → ℕ → ℕ → Link
 link from to_table to = record { from = from ∷ []; table = to_table; to = to ∷ [] }

@@ -15,9 +15,10 @@ use Rattle.dx_model.specs.Rules.{cells_of, existential_in, existentials}
 use Rattle.dx_model.specs.Solutions.{AtomFits, cells_in}
 use Rattle.dx_model.specs.Tables.{Table, table_of, AreWithin}
 use Rattle.dx_logical.specs.Filled.{given, fresh_below, filled}
-use Rattle.dx_logical.specs.Laws.{LinkFits, LinksFit, Numbered}
+use Rattle.dx_model.specs.Fitting.{AreNumbered, Numbered}
+use Rattle.dx_schema.specs.Links.{LinkFits, LinksFit}
 use Rattle.dx_closing.specs.declared.growing.Growing.{Growing}
-use Rattle.dx_closing.specs.Closing.{serves, supplied, through_link, through_links, through_atom, gone, begun, AreNumbered, IsClosing}
+use Rattle.dx_closing.specs.Closing.{serves, supplied, through_link, through_links, through_atom, gone, begun, IsClosing}
 use Rattle.dx_closing.proofs.Numbers.{above_numbered, numbered_below}
 use Rattle.dx_closing.proofs.Served.{get_in, gone_fits}
 use Rattle.dx_closing.proofs.Steps.{fits_at}

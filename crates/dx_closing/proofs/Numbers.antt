@@ -9,7 +9,7 @@ use Rattle.dx_model.specs.declared.rules.Cell.{Cell}
 use Rattle.dx_model.specs.declared.rules.Cell.TheVariants.{Var, Ex, Lit}
 use Rattle.dx_model.specs.declared.rules.Atom.{Atom}
 use Rattle.dx_model.specs.Rules.{cells_of, existential_in, existentials}
-use Rattle.dx_logical.specs.Laws.{Numbered}
+use Rattle.dx_model.specs.Fitting.{Numbered}
 use Rattle.dx_closing.specs.Closing.{above}
 use Rattle.dx_closing.proofs.Steps.{in_item}
 

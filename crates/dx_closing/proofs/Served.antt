@@ -14,7 +14,7 @@ use Rattle.dx_model.specs.declared.tables.Link.{Link}
 use Rattle.dx_model.specs.Tables.{Table, table_of, AreWithin}
 use Rattle.dx_model.specs.Solutions.{AtomFits, cells_in}
 use Rattle.dx_logical.specs.Filled.{filled}
-use Rattle.dx_logical.specs.Laws.{LinkFits, LinksFit}
+use Rattle.dx_schema.specs.Links.{LinkFits, LinksFit}
 use Rattle.dx_closing.specs.declared.growing.Growing.{Growing}
 use Rattle.dx_closing.specs.Closing.{same_cell, has_cells, serves, supplied, through_link, through_links, through_atom, gone, begun, IsClosing}
 use Rattle.dx_closing.specs.Laws.{ClosingServes}

@@ -15,9 +15,9 @@ use Rattle.dx_model.specs.Solutions.{AtomFits, cells_in}
 use Rattle.dx_schema.specs.Forest.{Forest}
 use Rattle.dx_schema.specs.Tables.{AreTables, tables_of, table_at, model_tables}
 use Rattle.dx_logical.specs.Filled.{fresh_below, filled}
-use Rattle.dx_logical.specs.Laws.{LinkFits, LinksFit}
+use Rattle.dx_schema.specs.Links.{LinkFits, LinksFit}
 use Rattle.dx_logical.proofs.Continued.{table_of-model}
-use Rattle.dx_logical.proofs.Facts.{links_fit}
+use Rattle.dx_schema.proofs.Whole.{links_fit}
 use Rattle.dx_logical.proofs.Fresh.{fresh_at_most, filled_length}
 use Rattle.dx_closing.specs.declared.growing.Growing.{Growing}
 use Rattle.dx_closing.specs.Closing.{same_cell, has_cells, serves, supplied, through_link, through_links, through_atom, gone}
@@ -71,7 +71,7 @@ supplied_roomy schema C l cells fit h r n =
 
 -- the links of a table fit
 pub fits_at : (schema : List Table) (t : ℕ) → LinksFit schema → t < length schema → Each (table_of schema t).links (LinkFits schema (table_of schema t).width)
-fits_at schema t fits h = fits (table_of schema t) (in_at schema t (record { width = 0; determinations = []; links = [] }) h)
+fits_at schema t fits h = fits (table_of schema t) (in_at schema t (record { width = 0; determinations = []; links = []; optional = [] }) h)
 
 -- where none serves, there is one more
 pub not_served_wide : (schema : List Table) (row : List Cell) (C : Growing) (l : Link) → list_any (serves l (cells_in l.from row)) C.atoms ≡ false → 64 ≤ length C.atoms

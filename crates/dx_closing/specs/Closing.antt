@@ -11,7 +11,6 @@ use Rattle.dx_model.specs.Rules.{existentials}
 use Rattle.dx_model.specs.Solutions.{cells_in}
 use Rattle.dx_model.specs.Tables.{Table, table_of}
 use Rattle.dx_logical.specs.Filled.{fresh_below, filled}
-use Rattle.dx_logical.specs.Laws.{Numbered}
 use Rattle.dx_closing.specs.declared.growing.Growing.{Growing}
 
 -- ---- what serves a link
@@ -67,10 +66,6 @@ gone schema C zero = C
 gone schema C (suc n) = through_atom schema (gone schema C n) (slice_get (gone schema C n).atoms n)
 
 -- ---- existential variables
-
--- the existential variables of a conclusion are numbered by first appearance
-abbrev pub AreNumbered : List Atom → Type 0
-AreNumbered C = (m : ℕ) × Numbered 0 (existentials C) m
 
 -- the least number from n on that is above all of these
 abbrev pub above : ℕ → List ℕ → ℕ

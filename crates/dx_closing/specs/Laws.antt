@@ -5,8 +5,7 @@ use Rattle.dx_model.specs.declared.rules.Atom.{Atom}
 use Rattle.dx_model.specs.declared.rules.Rule.{Rule}
 use Rattle.dx_model.specs.Solutions.{AtomFits, IsClosed}
 use Rattle.dx_model.specs.Tables.{Table}
-use Rattle.dx_schema.specs.Links.{IsAcyclic}
-use Rattle.dx_logical.specs.Laws.{LinksFit}
+use Rattle.dx_schema.specs.Links.{IsAcyclic, LinksFit}
 use Rattle.dx_closing.specs.declared.growing.Growing.{Growing}
 use Rattle.dx_closing.specs.Closing.{IsClosing, IsClosingOf}
 

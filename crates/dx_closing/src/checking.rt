@@ -3,9 +3,8 @@ ghost use Rattle.std.specs.Prelude.{◌↔◌, ℕ, IfSome, IsSome, IsTrue, flat
 ghost use Rattle.dx_ports.specs.Members.{Each};
 ghost use Rattle.dx_model.specs.Solutions.{AtomFits};
 ghost use Rattle.dx_schema.specs.Tables.{model_tables};
-ghost use Rattle.dx_logical.specs.Laws.{Numbered};
+ghost use Rattle.dx_model.specs.Fitting.{AreNumbered, Numbered};
 ghost use Rattle.dx_model.specs.Rules.{existential_in};
-ghost use Rattle.dx_closing.specs.Closing.{AreNumbered};
 
 use dx_model::{Atom, Cell};
 use dx_schema::Schema;

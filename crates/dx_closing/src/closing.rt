@@ -5,7 +5,8 @@ ghost use Rattle.dx_model.specs.declared.rules.Atom.{Atom as AtomRow};
 ghost use Rattle.dx_model.specs.Solutions.{AtomFits, IsClosed};
 ghost use Rattle.dx_schema.specs.Tables.{model_tables};
 ghost use Rattle.dx_closing.specs.declared.fault.CloseFault.TheVariants.{TooWide};
-ghost use Rattle.dx_closing.specs.Closing.{AreNumbered, IsClosing, IsClosingOf};
+ghost use Rattle.dx_model.specs.Fitting.{AreNumbered};
+ghost use Rattle.dx_closing.specs.Closing.{IsClosing, IsClosingOf};
 
 use crate::fault::CloseFault;
 use crate::growing::Growing;

@@ -5,7 +5,7 @@ ghost use Rattle.dx_ports.specs.Members.{Each};
 ghost use Rattle.dx_model.specs.Solutions.{AtomFits};
 ghost use Rattle.dx_model.specs.Tables.{AreWithin, table_of};
 ghost use Rattle.dx_schema.specs.Tables.{AreTables, model_tables, tables_of};
-ghost use Rattle.dx_logical.specs.Laws.{LinkFits};
+ghost use Rattle.dx_schema.specs.Links.{LinkFits};
 ghost use Rattle.dx_closing.specs.declared.fault.CloseFault.TheVariants.{TooWide};
 ghost use Rattle.dx_closing.specs.Closing.{serves, supplied, through_atom, through_link, through_links};
 ghost use Rattle.dx_closing.specs.Laws.{IsRoomy};

@@ -1,4 +1,5 @@
 pub mod Examples
 pub mod Offered
+pub mod Named
 pub mod Trims
 pub mod Digits

@@ -1,3 +1,5 @@
+pub mod Laws
+pub mod Names
 pub mod Offers
 pub mod Serving
 pub mod Shipped

@@ -1,6 +1,7 @@
 // A list of conversions, and the closure that computes them.
-ghost use Rattle.std.specs.Prelude.{◌≡◌, ◌↔◌, IfOk, IfSome, IsSome, length, map};
-ghost use Rattle.dx_ports.specs.Members.{◌∈◌};
+ghost use Rattle.std.specs.Prelude.{◌≡◌, None, Some, IfOk, IfSome, IsUtf8, MatchOption, length, map};
+ghost use Rattle.dx_ports.specs.Members.{◌∈◌, Each};
+ghost use Rattle.dx_funcs.specs.Names.{TakesTexts, call_named, conversion_name, first_named};
 ghost use Rattle.dx_funcs.specs.Offers.{IsOffer, IsOffer-prop, IsListed};
 
 use crate::conversion::Conversion;
@@ -35,10 +36,10 @@ impl<F: Fn(u32, &Items<Text>) -> Result<Text, AllocError>, M: Meaning> Host<F, M
         }
     }
 
-    /// The conversion of this name. None where there is none.
+    /// The conversion of this name. None if none is listed.
     pub fn find(&self, name: &Text) -> Option<&Conversion>
-        ensures some { IfSome result (λ c. (c.now ∈ offered self.now) × (c.now.name ≡ name.now)) }
-        ensures none { IsSome result ↔ (name.now ∈ map (λ c. c.name) (offered self.now)) }
+        ensures found { MatchOption result (first_named (offered self.now) name.now ≡ None) (λ c. first_named (offered self.now) name.now ≡ Some c.now) }
+        ensures listed { IfSome result (λ c. (c.now ∈ offered self.now) × (c.now.name ≡ name.now)) }
     {
         for conversion in self.list.items() {
             if conversion.name.is(name) {
@@ -53,6 +54,7 @@ impl<F: Fn(u32, &Items<Text>) -> Result<Text, AllocError>, M: Meaning> Host<F, M
         requires { code ∈ map (λ c. c.code) (offered self.now) }
         ensures listed { result.now ∈ offered self.now }
         ensures code { result.now.code ≡ code }
+        ensures name { result.now.name ≡ conversion_name (offered self.now) code }
     {
         for conversion in self.list.items() {
             if conversion.code == code {
@@ -66,12 +68,38 @@ impl<F: Fn(u32, &Items<Text>) -> Result<Text, AllocError>, M: Meaning> Host<F, M
     ///
     /// # Errors
     ///
-    /// `AllocError` where the closure answers it.
+    /// `AllocError` if the closure answers it.
     pub fn call(&self, code: u32, args: &Items<Text>) -> Result<Text, AllocError>
         requires serves { Serves F.Fn M.apply self.now }
         requires listed { IsListed (offered self.now) code (length args.now) }
         ensures { IfOk result (λ t. t ≡ M.apply code args.now) }
     {
+        are_utf8(args.items());
         (self.function)(code, args)
+    }
+
+    /// The text that the conversion of this name makes of texts.
+    ///
+    /// # Errors
+    ///
+    /// `AllocError` if the closure answers it.
+    pub fn call_named(&self, name: &Text, args: &Items<Text>) -> Result<Text, AllocError>
+        requires serves { Serves F.Fn M.apply self.now }
+        requires takes { TakesTexts (offered self.now) name.now (length args.now) }
+        ensures { IfOk result (λ t. t ≡ call_named M.apply (offered self.now) name.now args.now) }
+    {
+        match self.find(name) {
+            Some(conversion) => self.call(conversion.code, args),
+            None => unreachable!(),
+        }
+    }
+}
+
+// The bytes of each text are UTF-8: a fact of the type, said of a list.
+fn are_utf8(texts: &[Text])
+    ensures { Each texts.now IsUtf8 }
+{
+    for text in texts {
+        let _bytes = text.bytes();
     }
 }

@@ -23,7 +23,7 @@ pub fn digits(alloc: Global, text: &Text) -> Result<Text, AllocError>
             kept.push(char::from(*byte))?;
         }
     }
-    Ok(Text::from_string(kept))
+    Text::from_string(alloc, kept)
 }
 
 /// The first text, one space, the second.
@@ -31,5 +31,5 @@ pub fn pair(alloc: Global, first: &Text, second: &Text) -> Result<Text, AllocErr
     ensures { IfOk result (λ t. t ≡ paired first.now second.now) }
 {
     let joined = format!(in alloc; "{} {}", first.as_str(), second.as_str())?;
-    Ok(Text::from_string(joined))
+    Text::from_string(alloc, joined)
 }

@@ -20,9 +20,10 @@ use Rattle.dx_funcs.specs.declared.conversion.Conversion.{Conversion}
 use Rattle.dx_lines.specs.declared.line.Line.{Line}
 use Rattle.dx_lines.specs.Limits.{IsColumn, LineFits}
 use Rattle.dx_lines.specs.Ways.{named}
-use Rattle.dx_line_text.specs.Naming.{set_names, set_number, columns_in, first_named, name_fault, place_fault, places_fault, call_fault, source_fault, line_fault, lines_fault, place_of, code_of, origin_of, line_of, lines_of, IsOffered, IsOfferedFrom}
+use Rattle.dx_funcs.specs.Names.{first_named}
+use Rattle.dx_line_text.specs.Naming.{set_names, set_number, columns_in, name_fault, place_fault, places_fault, call_fault, source_fault, line_fault, lines_fault, place_of, code_of, origin_of, line_of, lines_of, IsOffered, IsOfferedFrom}
 use Rattle.dx_ports.proofs.Firsts.{two_none, each_none}
-use Rattle.dx_line_text.proofs.Found.{found_listed}
+use Rattle.dx_funcs.proofs.Named.{found_listed}
 
 -- ---- places
 
@@ -36,7 +37,7 @@ is_column f p set_there column_there =
     let t = set_number f p.set in
     let lt : t < length (tables_of f) = rw (← len_map (λ (t : TableOf). t.name) (tables_of f)) (among_number p.set (set_names f) set_there) in
     let width : (table_of (model_tables f) t).width ≡ length (table_at f t).columns =
-    ap (λ n. n.width) (get_or-map as_numbers (tables_of f) t (record { name = []; columns = []; keys = []; links = []; parent = None; inner = [] }) (record { width = 0; determinations = []; links = [] }) lt) in
+    ap (λ n. n.width) (get_or-map as_numbers (tables_of f) t (record { name = []; columns = []; keys = []; links = []; parent = None; inner = [] }) (record { width = 0; determinations = []; links = []; optional = [] }) lt) in
     record {
       table = rw (len_map as_numbers (tables_of f)) lt;
       column = rw width (among_number p.column (columns_in f p.set) column_there);

@@ -15,7 +15,7 @@ use Rattle.dx_tokens.specs.declared.faults.TextKind.TheVariants.{UnknownName}
 use Rattle.dx_schema_text.specs.declared.texts.PlaceText.{PlaceText}
 use Rattle.dx_funcs.specs.declared.conversion.Conversion.{Conversion}
 use Rattle.dx_lines.specs.declared.line.Place.{Place}
-use Rattle.dx_line_text.specs.Naming.{set_names, set_number, columns_in, first_named, name_fault, place_fault, place_of}
+use Rattle.dx_line_text.specs.Naming.{set_names, set_number, columns_in, name_fault, place_fault, place_of}
 
 -- ---- names
 
@@ -98,37 +98,3 @@ place_found f p t c a lt is within at =
       same_place t c (set_number f p.set) (number_of p.column (columns_in f p.set)) (set_is f t p.set a lt is) (ap (number_of p.column) columns ∙ number),
       rw (set_among f t p.set lt is) (ap (λ columns. name_fault columns p.column p.column_place) columns ∙ rw among refl),
     )
-
--- ---- conversions
-
--- among distinct names a listed conversion is the first of its name
-pub conversion_found : (list : List Conversion) (c : Conversion) (x : Text) → Distinct (map (λ c. c.name) list) → c ∈ list → c.name ≡ x → first_named list x ≡ Some c
-conversion_found [] c x d m is = elim m [ ]
-conversion_found (k ∷ ks) c x d (here e) is = go (pointwise nat_eq k.name x) refl
-  where
-    go : (b : Bool) → pointwise nat_eq k.name x ≡ b → cond b (Some k) (first_named ks x) ≡ Some c
-    go true s = ap Some e
-    go false s = absurd (other_text k.name x (sym s) (ap (λ (y : Conversion). y.name) e ∙ is))
-conversion_found (k ∷ ks) c x d (there m) is = go (pointwise nat_eq k.name x) refl (conversion_found ks c x d.1 m is)
-  where
-    go : (b : Bool) → pointwise nat_eq k.name x ≡ b → first_named ks x ≡ Some c → cond b (Some k) (first_named ks x) ≡ Some c
-    go true s h = absurd (d.0 (rw (same_text k.name x (sym s), ← is) (in_map (λ (y : Conversion). y.name) m)))
-    go false s h = h
-
--- a name that isn't listed gives no conversion
-pub conversion_nowhere : (list : List Conversion) (x : Text) → ¬ (x ∈ map (λ c. c.name) list) → first_named list x ≡ None
-conversion_nowhere [] x no_member = refl
-conversion_nowhere (k ∷ ks) x no_member = go (pointwise nat_eq k.name x) refl (conversion_nowhere ks x (λ m. no_member (there m)))
-  where
-    go : (b : Bool) → pointwise nat_eq k.name x ≡ b → first_named ks x ≡ None → cond b (Some k) (first_named ks x) ≡ None
-    go true s h = absurd (no_member (here (same_text k.name x (sym s))))
-    go false s h = h
-
--- a conversion that is found is listed
-pub found_listed : (list : List Conversion) (x : Text) (c : Conversion) → first_named list x ≡ Some c → c ∈ list
-found_listed [] x c h = absurd cc
-found_listed (k ∷ ks) x c h = go (pointwise nat_eq k.name x) h (found_listed ks x c)
-  where
-    go : (b : Bool) → cond b (Some k) (first_named ks x) ≡ Some c → (first_named ks x ≡ Some c → c ∈ ks) → c ∈ (k ∷ ks)
-    go true e f = here (cc)
-    go false e f = there (f e)

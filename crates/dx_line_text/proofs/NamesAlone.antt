@@ -11,7 +11,8 @@ use Rattle.dx_schema_text.specs.declared.texts.SourceText.{SourceText}
 use Rattle.dx_schema_text.specs.declared.texts.SourceText.TheVariants as sources
 use Rattle.dx_schema_text.specs.declared.texts.LineText.{LineText}
 use Rattle.dx_funcs.specs.declared.conversion.Conversion.{Conversion}
-use Rattle.dx_line_text.specs.Naming.{set_names, columns_in, first_named, name_fault, place_fault, places_fault, call_fault, source_fault, line_fault}
+use Rattle.dx_funcs.specs.Names.{first_named}
+use Rattle.dx_line_text.specs.Naming.{set_names, columns_in, name_fault, place_fault, places_fault, call_fault, source_fault, line_fault}
 use Rattle.dx_line_text.specs.Laws.{IsOfNames, NamesAlone}
 use Rattle.dx_ports.proofs.Firsts.{first_so, one_of_two}
 

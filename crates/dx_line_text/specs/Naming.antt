@@ -12,6 +12,7 @@ use Rattle.dx_schema_text.specs.declared.texts.SourceText.{SourceText}
 use Rattle.dx_schema_text.specs.declared.texts.SourceText.TheVariants as sources
 use Rattle.dx_schema_text.specs.declared.texts.LineText.{LineText}
 use Rattle.dx_funcs.specs.declared.conversion.Conversion.{Conversion}
+use Rattle.dx_funcs.specs.Names.{first_named}
 use Rattle.dx_funcs.specs.Offers.{IsListed}
 use Rattle.dx_lines.specs.declared.line.Place.{Place}
 use Rattle.dx_lines.specs.declared.line.Origin.{Origin}
@@ -32,11 +33,6 @@ set_number f x = number_of x (set_names f)
 -- the names of the columns of the set of this name
 abbrev pub columns_in : Forest → Text → List Text
 columns_in f x = (table_at f (set_number f x)).columns
-
--- the first conversion of this name
-abbrev pub first_named : List Conversion → Text → Option Conversion
-first_named [] x = None
-first_named (c ∷ cs) x = cond (pointwise nat_eq c.name x) (Some c) (first_named cs x)
 
 -- ---- faults
 

@@ -3,9 +3,10 @@ ghost use Rattle.std.specs.Prelude.{◌≡◌, ◌⊎◌, None, Some, IfErr, IfO
 ghost use Rattle.dx_ports.specs.Members.{Each};
 ghost use Rattle.dx_schema.specs.Tables.{model_tables};
 ghost use Rattle.dx_tokens.specs.declared.faults.TextFault.TheVariants.{Memory};
+ghost use Rattle.dx_funcs.specs.Names.{first_named};
 ghost use Rattle.dx_funcs.specs.Serving.{offered};
 ghost use Rattle.dx_lines.specs.Limits.{LineFits};
-ghost use Rattle.dx_line_text.specs.Naming.{call_fault, call_of, first_named, line_fault, line_of, lines_fault, lines_of, origin_of, source_fault, IsOffered};
+ghost use Rattle.dx_line_text.specs.Naming.{call_fault, call_of, line_fault, line_of, lines_fault, lines_of, origin_of, source_fault, IsOffered};
 
 use crate::places::{read_place, read_places};
 use dx_funcs::{Host, Meaning};

@@ -24,7 +24,7 @@ use Rattle.dx_logical.specs.declared.relation.Occurrence.{Occurrence}
 use Rattle.dx_ports.specs.Members.{here, there}
 
 abbrev table : ℕ → List Link → Table
-table w ls = record { width = w; determinations = []; links = ls }
+table w ls = record { width = w; determinations = []; links = ls; optional = [] }
 
 abbrev link : ℕ → ℕ → ℕ → Link
 link from to_table to = record { from = from ∷ []; table = to_table; to = to ∷ [] }

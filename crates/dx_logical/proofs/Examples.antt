@@ -72,7 +72,7 @@ trips-second = refl
 -- ---- schemas of tables
 
 abbrev table : ℕ → List Link → Table
-table width links = record { width = width; determinations = []; links = links }
+table width links = record { width = width; determinations = []; links = links; optional = [] }
 
 abbrev link : ℕ → ℕ → ℕ → Link
 link from to_table to = record { from = from ∷ []; table = to_table; to = to ∷ [] }

@@ -8,14 +8,15 @@ use Rattle.dx_ports.specs.Members.{◌∈◌, here, there, Distinct, Each}
 use Rattle.dx_ports.proofs.Members.{in_at, from_map, from_append}
 use Rattle.dx_model.specs.declared.tables.Link.{Link}
 use Rattle.dx_model.specs.Tables.{Table, table_of, AreWithin}
-use Rattle.dx_schema.specs.Links.{IsAcyclic, GoesOn, stop, on}
+use Rattle.dx_schema.specs.Links.{IsAcyclic, GoesOn, stop, on, LinkFits, LinksFit}
 use Rattle.dx_schema.specs.Tables.{TableOf, AreTables, as_numbers, IsLink}
 use Rattle.dx_schema.proofs.Levels.{links_end}
 use Rattle.dx_logical.specs.declared.relation.Occurrence.{Occurrence}
 use Rattle.dx_logical.specs.declared.relation.Relation.{Relation}
 use Rattle.dx_logical.specs.Filled.{given, fresh_below, filled}
 use Rattle.dx_logical.specs.Unfolding.{Follows, none, along, each_link, all_links, joined, items_at, row_of, continued, nothing, alone, unfolding_of}
-use Rattle.dx_logical.specs.Laws.{LinkFits, LinksFit, occurrence_at, link_at, IsOccurrence, AreOccurrences, IsAlong, AreAlongLinks, shared_columns, IsFresh, AreFresh, HasOneRoot, FollowOnce, Numbered, variables_of, UnfoldingsAre}
+use Rattle.dx_model.specs.Fitting.{Numbered}
+use Rattle.dx_logical.specs.Laws.{occurrence_at, link_at, IsOccurrence, AreOccurrences, IsAlong, AreAlongLinks, shared_columns, IsFresh, AreFresh, HasOneRoot, FollowOnce, variables_of, UnfoldingsAre}
 use Rattle.dx_logical.proofs.Fresh.{filled_length, one_fresh}
 
 -- ---- rows
@@ -677,23 +678,3 @@ unfoldings_are schema t fits a h =
         | inr g ↦ let e : 0 ≡ p = omega arith in subst (λ (i : ℕ). FollowFrom schema (unfolding_of schema t) i (occurrence_at (unfolding_of schema t) i).table 0) e first k (omega arith) m
       ];
     }
-
--- links of a schema fit
-columns_of-get : (tables : List TableOf) (t : ℕ) → t < length tables → length (get_or (map (λ (t : TableOf). t.columns) tables) t []) ≡ (table_of (map as_numbers tables) t).width
-columns_of-get [] t h = absurd (omega arith)
-columns_of-get (x ∷ xs) zero h = refl
-columns_of-get (x ∷ xs) (suc t) h = columns_of-get xs t (omega arith)
-
-link_fits : (tables : List TableOf) (w : ℕ) (l : Link) → IsLink tables w l → LinkFits (map as_numbers tables) w l
-link_fits tables w l i = record {
-  table = rw length-map i.table;
-  same_length = i.same_length;
-  from = i.from;
-  to = rw (columns_of-get tables l.table i.table) at i.to;
-  to_distinct = i.to_distinct;
-}
-
-pub links_fit : (tables : List TableOf) → AreTables tables → LinksFit (map as_numbers tables)
-links_fit tables a x m =
-    let t = from_map as_numbers tables {y = x} m in
-    subst (λ (y : Table). Each y.links (LinkFits (map as_numbers tables) y.width)) t.2 (λ l i. link_fits tables (length t.0.columns) l ((a.each_table t.0 t.1).links l i))

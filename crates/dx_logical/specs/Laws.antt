@@ -3,22 +3,11 @@ use Rattle.std.specs.Prelude.{◌≡◌, ℕ, suc, ◌+◌, ◌<◌, ◌≤◌, 
 use Rattle.dx_ports.specs.Members.{◌∈◌, Each, Distinct}
 use Rattle.dx_model.specs.declared.tables.Link.{Link}
 use Rattle.dx_model.specs.Tables.{Table, table_of, AreWithin}
-use Rattle.dx_schema.specs.Links.{IsAcyclic}
+use Rattle.dx_model.specs.Fitting.{Numbered}
+use Rattle.dx_schema.specs.Links.{IsAcyclic, LinksFit}
 use Rattle.dx_logical.specs.declared.relation.Occurrence.{Occurrence}
 use Rattle.dx_logical.specs.declared.relation.Relation.{Relation}
 use Rattle.dx_logical.specs.Unfolding.{each_link, all_links, items_at, unfolding_of, sub}
-
--- a link of a table with this width leads to distinct columns of a table of the schema, from as many
-pub record LinkFits (schema : List Table) (width : ℕ) (l : Link) : Type 0 where
-  pub table : l.table < length schema
-  pub same_length : length l.from ≡ length l.to
-  pub from : AreWithin l.from width
-  pub to : AreWithin l.to (table_of schema l.table).width
-  pub to_distinct : Distinct l.to
-
--- the links of each table fit
-abbrev pub LinksFit : List Table → Type 0
-LinksFit schema = Each schema (λ t. Each t.links (LinkFits schema t.width))
 
 -- occurrence number n
 abbrev pub occurrence_at : Relation → ℕ → Occurrence
@@ -75,11 +64,6 @@ abbrev pub AreServed : List Table → List Occurrence → Type 0
 AreServed schema os =
     Each os (λ a. Each (table_of schema a.table).links (λ l.
     (b : Occurrence) × (b ∈ os) × (b.table ≡ l.table) × (items_at l.to b.variables ≡ items_at l.from a.variables)))
-
--- numbers by first appearance: each is below n, or is n, and then the others are so below the next; at the end all are below m
-abbrev pub Numbered : ℕ → List ℕ → ℕ → Type 0
-Numbered n [] m = n ≡ m
-Numbered n (x ∷ xs) m = ((x < n) × Numbered n xs m) ⊎ ((x ≡ n) × Numbered (suc n) xs m)
 
 -- the variables, in order of occurrences and columns
 abbrev pub variables_of : Relation → List ℕ

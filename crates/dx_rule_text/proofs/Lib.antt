@@ -1,6 +1,5 @@
 mod Escapes
 mod Numbers
-mod Names
 mod Printing
 mod OneLine
 mod Examples

@@ -1,5 +1,5 @@
 -- The text of rules.
-use Rattle.std.specs.Prelude.{ℕ, suc, ◌<◌, ◌==◌, if◌then◌else◌, List, [], ◌∷◌, ◌++◌, length, map, codes, decimal}
+use Rattle.std.specs.Prelude.{ℕ, suc, ◌<◌, List, [], ◌∷◌, ◌++◌, length, map, codes, decimal}
 use Rattle.std.specs.List.{flat_map}
 use Rattle.dx_ports.specs.Members.{◌∈◌, Each}
 use Rattle.dx_model.specs.declared.rules.Cell.{Cell}
@@ -12,6 +12,7 @@ use Rattle.dx_schema.specs.Forest.{Forest}
 use Rattle.dx_schema.specs.Tables.{tables_of, table_at}
 use Rattle.dx_tokens.specs.Quoted.{quoted}
 use Rattle.dx_funcs.specs.declared.conversion.Conversion.{Conversion}
+use Rattle.dx_funcs.specs.Names.{conversion_name}
 
 -- a text, by its bytes
 abbrev pub Text : Type 0
@@ -57,11 +58,6 @@ where_text name n (d ∷ ds) = codes " where " ++ separated (derived_texts name 
 -- the name of a table of a schema
 abbrev pub table_name : Forest → ℕ → Text
 table_name schema t = (table_at schema t).name
-
--- the name of the first conversion with a code
-abbrev pub conversion_name : List Conversion → ℕ → Text
-conversion_name [] code = []
-conversion_name (c ∷ cs) code = if c.code == code then c.name else conversion_name cs code
 
 -- a rule in one line: its premise, its derived variables, which are numbered on from the premise's variables, and its conclusion
 abbrev pub rule_text : Forest → Forest → List Conversion → Rule → Text

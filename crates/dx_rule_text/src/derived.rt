@@ -2,8 +2,9 @@
 ghost use Rattle.std.specs.Prelude.{◌≡◌, ◌++◌, ◌≤◌, ◌^◌, OnOk, map, max, string_bytes};
 ghost use Rattle.dx_ports.specs.Members.{◌∈◌};
 ghost use Rattle.dx_model.specs.Rules.{after_cells, cells_of};
+ghost use Rattle.dx_funcs.specs.Names.{conversion_name};
 ghost use Rattle.dx_funcs.specs.Serving.{offered};
-ghost use Rattle.dx_rule_text.specs.Printed.{AreListed, conversion_name, derived_text, separated, variable_text, where_text};
+ghost use Rattle.dx_rule_text.specs.Printed.{AreListed, derived_text, separated, variable_text, where_text};
 
 use dx_funcs::{Host, Meaning};
 use dx_model::{Atom, Cell, Derived};

@@ -54,7 +54,7 @@ pub fn print_rule<F: Fn(u32, &Items<Text>) -> Result<Text, AllocError>, M: Meani
 {
     let mut out = String::new(alloc);
     push_rule(rule, source, target, host, &mut out)?;
-    Ok(Text::from_string(out))
+    Text::from_string(alloc, out)
 }
 
 /// Prints rules, each in a line of its own, with a line feed.
@@ -79,5 +79,5 @@ pub fn print_rules<F: Fn(u32, &Items<Text>) -> Result<Text, AllocError>, M: Mean
         push_rule(rule, source, target, host, &mut out)?;
         out.push_str("\n")?;
     }
-    Ok(Text::from_string(out))
+    Text::from_string(alloc, out)
 }

@@ -13,7 +13,8 @@ use Rattle.dx_model.specs.Solutions.{cells_in, AtomFits}
 use Rattle.dx_logical.specs.declared.relation.Occurrence.{Occurrence}
 use Rattle.dx_logical.specs.declared.relation.Relation.{Relation}
 use Rattle.dx_logical.specs.Unfolding.{items_at}
-use Rattle.dx_logical.specs.Laws.{LinkFits, LinksFit, IsUnfolding}
+use Rattle.dx_schema.specs.Links.{LinkFits, LinksFit}
+use Rattle.dx_logical.specs.Laws.{IsUnfolding}
 use Rattle.dx_logical.proofs.Served.{served}
 use Rattle.dx_lines.specs.Rules.{atom_by, cell_for}
 use Rattle.dx_rules.specs.Laws.{RulesAreClosed}
@@ -72,7 +73,7 @@ module _ (f : ℕ → Cell) where
 
 -- a link of a table of the schema fits
 pub link_fits : (schema : List Table) (t : ℕ) (l : Link) → LinksFit schema → t < length schema → l ∈ (table_of schema t).links → LinkFits schema (table_of schema t).width l
-link_fits schema t l fits h m = fits (table_of schema t) (get_in schema t (record { width = 0; determinations = []; links = [] }) h) l m
+link_fits schema t l fits h m = fits (table_of schema t) (get_in schema t (record { width = 0; determinations = []; links = []; optional = [] }) h) l m
 
 -- ---- the law
 

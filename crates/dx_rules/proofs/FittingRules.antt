@@ -1,10 +1,11 @@
 -- Rules fit their schemas.
-use Rattle.std.proofs.Common.{◌≡◌, ℕ, suc, ◌+◌, ◌<◌, Bool, true, false, cond, eqb, max, Option, Some, None, List, [], ◌∷◌, ◌++◌, ◌⊎◌, length, refl, sym, ◌∙◌, ap, subst, arith, inl, inr}
-use Rattle.std.specs.Prelude.{map, flat_map}
+use Rattle.std.proofs.Common.{◌≡◌, ℕ, suc, ◌+◌, ◌<◌, ◌≤◌, Bool, true, false, cond, eqb, max, Option, Some, None, List, [], ◌∷◌, ◌++◌, ◌⊎◌, length, refl, sym, ◌∙◌, ap, subst, arith, inl, inr}
+use Rattle.std.specs.Prelude.{◌-◌, ◌^◌, not, map, flat_map}
 use Rattle.std.specs.List.{list_any, position_or_len}
 use Rattle.std.proofs.lemmas.Bool.{cases_Bool}
 use Rattle.std.proofs.lemmas.Bool.Decides.{nat_tests}
 use Rattle.std.proofs.lemmas.List.{length-map, length_push, append-nil, append_assoc, length-append, map-append}
+use Rattle.std.proofs.lemmas.List.Filters.{length-filter_both}
 use Rattle.std.proofs.lemmas.List.Folds.{flat_map-map}
 use Rattle.dx_ports.specs.Members.{◌∈◌, here, there, Each}
 use Rattle.dx_ports.proofs.Members.{from_map, in_flat_map, from_flat_map}
@@ -16,13 +17,13 @@ use Rattle.dx_model.specs.Tables.{Table, AreWithin}
 use Rattle.dx_model.specs.Rules.{after_cell, after_cells, cells_of, existential_in}
 use Rattle.dx_logical.specs.declared.relation.Occurrence.{Occurrence}
 use Rattle.dx_logical.specs.declared.relation.Relation.{Relation}
-use Rattle.dx_logical.specs.Laws.{IsUnfolding, Numbered}
+use Rattle.dx_model.specs.Fitting.{IsVariable, Numbered, RuleFits, variable_in}
+use Rattle.dx_logical.specs.Laws.{IsUnfolding}
 use Rattle.dx_lines.specs.declared.line.Line.{Line}
 use Rattle.dx_lines.specs.declared.term.Term.{Term}
 use Rattle.dx_lines.specs.declared.term.Term.TheVariants.{Var, Call}
 use Rattle.dx_lines.specs.declared.candidate.Pick.{Pick}
 use Rattle.dx_lines.specs.Rules.{once, same_term, picked, literal_of, standing, conversion_in, conversions, ungiven, left_over, cell_by, cell_for, atom_by, derived_by, rule_by}
-use Rattle.dx_rules.specs.Fitting.{IsVariable, variable_in, RuleFits}
 use Rattle.dx_rules.specs.Laws.{RulesFit}
 use Rattle.dx_rules.proofs.Lists.{place_of_some, place_of_none, place_behind}
 use Rattle.dx_rules.proofs.Once.{from_once, once_more, once_place, finds}
@@ -142,6 +143,30 @@ derived_within n (Var x) d w m = elim m [ ]
 derived_within n (Call c xs) d w (here e) = subst (λ (d : Derived). AreWithin d.args n) e w
 derived_within n (Call c xs) d w (there m) = elim m [ ]
 
+few_once : (seen : List Term) → length (once same_term seen) ≤ length seen
+few_once [] = omega arith
+few_once (x ∷ xs) = let i = few_once xs in let f = length-filter_both (λ y. not (same_term x y)) (λ y. not (not (same_term x y))) (λ y. refl) (once same_term xs) in omega (arith, i, f)
+
+few_in : (o : Option Term) → length (conversion_in o) ≤ 1
+few_in None = omega arith
+few_in (Some (Var x)) = omega arith
+few_in (Some (Call c xs)) = omega arith
+
+few_picked : (picks : List Pick) (ys : List ℕ) → length (flat_map (λ y. conversion_in (picked picks y)) ys) ≤ length ys
+few_picked picks [] = omega arith
+few_picked picks (y ∷ ys) =
+    let a = few_in (picked picks y) in
+    let b = few_picked picks ys in
+    let c = length-append (conversion_in (picked picks y)) (flat_map (λ y. conversion_in (picked picks y)) ys) in
+    omega (arith, a, b, c)
+
+-- no more conversions are picked than there are columns
+few_conversions : (picks : List Pick) (Q : List Occurrence) → length (conversions picks Q) ≤ length (standing Q)
+few_conversions picks Q =
+    let a = few_once (flat_map (λ y. conversion_in (picked picks y)) (standing Q)) in
+    let b = few_picked picks (standing Q) in
+    omega (arith, a, b)
+
 -- ---- the conclusion
 
 module _ (n : ℕ) (lines : List Line) (Q : List Occurrence) (picks : List Pick) (w : Each picks (λ k. TermWithin n k.term)) where
@@ -214,20 +239,39 @@ module _ (lines : List Line) (source target : List Table) (s t : ℕ) (S T : Rel
       let e : flat_map existential_in (cells_of (map (atom_by f) T.occurrences)) ≡ map place (flat_map g (standing T.occurrences)) = a ∙ (b ∙ map_flat place g (standing T.occurrences)) in
       (length (left_over lines picks T.occurrences), rw e (places_numbered [] (flat_map g (standing T.occurrences))))
 
-  rule_fits : RuleFits source target (rule_by lines S T picks)
-  rule_fits = record {
-    some_premise = rw length-map u.some;
+  few_variables : length (standing S.occurrences) + length (standing T.occurrences) < 2 ^ 32 - 1
+      → length (cells_of (map (atom_by cells.Var) S.occurrences)) + length (flat_map derived_by (conversions picks T.occurrences)) < 2 ^ 32 - 1
+  few_variables few =
+      let a = ap length (cells_made cells.Var S.occurrences) ∙ length-map (standing S.occurrences) cells.Var in
+      let b = length_derived (conversions picks T.occurrences) calls_are in
+      let c = few_conversions picks T.occurrences in
+      omega (arith, few, a, b, c)
+
+  few_cells : length (standing S.occurrences) + length (standing T.occurrences) < 2 ^ 32 - 1
+      → length (cells_of (map (atom_by (cell_for lines S T.occurrences picks)) T.occurrences)) < 2 ^ 32 - 1
+  few_cells few =
+      let f : ℕ → Cell = cell_for lines S T.occurrences picks in
+      let a = ap length (cells_made f T.occurrences) ∙ length-map (standing T.occurrences) f in
+      omega (arith, few, a)
+
+  rule_fits : length (standing S.occurrences) + length (standing T.occurrences) < 2 ^ 32 - 1 → RuleFits source target (rule_by lines S T picks)
+  rule_fits few = record {
+    rule = record {
+      some_premise = rw length-map u.some;
+      plain = plain_atoms S.occurrences;
+      numbered = rw premise_count premise_numbered;
+      derived = rw premise_count derived_fit;
+      some_conclusion = rw length-map v.some;
+      known = rw premise_count known_fit;
+      existentials = existentials_fit;
+      few_variables = few_variables few;
+      few_cells = few_cells few;
+    };
     premise = atoms_fit source S.variables cells.Var S.occurrences (occurrences_fit source s S u);
-    plain = plain_atoms S.occurrences;
-    numbered = rw premise_count premise_numbered;
-    derived = rw premise_count derived_fit;
-    some_conclusion = rw length-map v.some;
     conclusion = atoms_fit target T.variables (cell_for lines S T.occurrences picks) T.occurrences (occurrences_fit target t T v);
-    known = rw premise_count known_fit;
-    existentials = existentials_fit;
   }
 
 pub rules_fit : RulesFit
-rules_fit lines source target s t S T picks u v fits ways_in =
+rules_fit lines source target s t S T picks u v few fits ways_in =
     let good = ways_within source S.variables S.occurrences (occurrences_fit source s S u) lines target T.occurrences fits in
-    rule_fits lines source target s t S T picks u v (λ k m. good k (ways_in k m))
+    rule_fits lines source target s t S T picks u v (λ k m. good k (ways_in k m)) few

@@ -1,5 +1,5 @@
 -- From sets to tables.
-use Rattle.std.proofs.Common.{◌≡◌, ℕ, ◌+◌, ◌<◌, ◌≤◌, List, [], ◌∷◌, Some, None, Bool, false, length, map, refl, sym, ap, ◌∙◌, subst, arith, inl, inr, get_or, ◌++◌, take, codes}
+use Rattle.std.proofs.Common.{◌≡◌, ℕ, ◌+◌, ◌<◌, ◌≤◌, List, [], ◌∷◌, Option, Some, None, Bool, true, false, not, is_some, append_assoc, length, map, refl, sym, ap, ◌∙◌, subst, arith, inl, inr, get_or, ◌++◌, take, codes}
 use Rattle.std.specs.Prelude.{IsTrue, nat_lt}
 use Rattle.std.proofs.lemmas.Bool.{le-ltb, lt-ltb, cases_lt, false≢true}
 use Rattle.std.proofs.lemmas.List.{get_or_default, get_or-map, take_all, map-append}
@@ -13,7 +13,7 @@ use Rattle.dx_schema.specs.declared.nodes.Node.{Node}
 use Rattle.dx_schema.specs.declared.fault.SchemaFault.{SchemaFault}
 use Rattle.dx_schema.specs.declared.fault.SchemaFault.TheVariants.{Bad, TooMany}
 use Rattle.dx_schema.specs.declared.fault.SchemaKind.TheVariants.{CyclicLinks}
-use Rattle.dx_schema.specs.Forest.{Forest}
+use Rattle.dx_schema.specs.Forest.{Forest, none, set, has_sets}
 use Rattle.dx_schema.specs.Tables.{Text, TableOf, Placed, count, sets_of, names_of, columns_of, key_named, keys_in, where_has_inner, where_inner, table_in, tables_of, table_at, as_numbers, AreTables}
 use Rattle.dx_ports.specs.Firsts.{first_of}
 use Rattle.dx_schema.specs.Faults.{depth, sets_fault, rules_fault, form_fault}
@@ -121,3 +121,28 @@ bounded f nodes h s m = let b = numbers_bound None 0 f s (rw (← h.sets) m) in 
 pub bounded_at : (nodes : List Node) (i : ℕ) (node : Node) → Each (map seen nodes) (λ (s : Placed). s.number + count s.inner < 64) → i < length nodes → node ≡ get_or nodes i node
     → (seen node).number + count (seen node).inner < 64
 bounded_at nodes i node b lt is = b (seen node) (in_map seen {x = node} {xs = nodes} (rw is (in_at nodes i node lt)))
+
+-- ---- the columns of a set's table
+
+-- the names in front, and then the declared columns
+pub columns_ended : (node : Node) (front with all items : List Text) (i : ℕ) → length items ≤ i → all ≡ with ++ take i items → items ≡ node.tree.now.label.columns
+    → front ≡ where_has_inner node.tree.now.inner (codes "#id") → with ≡ front ++ where_inner node.parent (codes "#up") → all ≡ columns_of (seen node)
+columns_ended node front with all items i past is e a b =
+    is ∙ ap (λ xs. with ++ xs) (take_all i items past ∙ e) ∙ ap (λ xs. xs ++ node.tree.now.label.columns) (b ∙ ap (λ xs. xs ++ where_inner node.parent (codes "#up")) a)
+    ∙ append_assoc (where_has_inner node.tree.now.inner (codes "#id")) (where_inner node.parent (codes "#up")) node.tree.now.label.columns
+
+pub with_front : {X : Type 0} (f : Forest) (x : X) → not (has_sets f) ≡ false → where_has_inner f x ≡ x ∷ []
+with_front none x e = absurd cc
+with_front (set l i r) x e = refl
+
+pub no_front : {X : Type 0} (f : Forest) (x : X) → not (has_sets f) ≡ true → where_has_inner f x ≡ []
+no_front none x e = refl
+no_front (set l i r) x e = absurd cc
+
+pub with_up : {X : Type 0} (p : Option ℕ) (x : X) → is_some p ≡ true → where_inner p x ≡ x ∷ []
+with_up None x e = absurd cc
+with_up (Some p) x e = refl
+
+pub no_up : {X : Type 0} (p : Option ℕ) (x : X) → is_some p ≡ false → where_inner p x ≡ []
+no_up None x e = refl
+no_up (Some p) x e = absurd cc

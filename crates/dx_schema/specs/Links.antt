@@ -1,14 +1,26 @@
 -- Where links lead.
 use Rattle.std.specs.Prelude.{◌≡◌, ℕ, suc, ◌<◌, ◌⊎◌, List, length, Some, None}
-use Rattle.dx_ports.specs.Members.{◌∈◌}
+use Rattle.dx_ports.specs.Members.{◌∈◌, Distinct, Each}
 use Rattle.dx_model.specs.declared.tables.Link.{Link}
-use Rattle.dx_model.specs.Tables.{Table, table_of}
+use Rattle.dx_model.specs.Tables.{Table, table_of, AreWithin}
 use Rattle.dx_schema.specs.declared.fault.SchemaFault.{SchemaFault}
 use Rattle.dx_schema.specs.declared.fault.SchemaFault.TheVariants.{Bad}
 use Rattle.dx_schema.specs.declared.fault.SchemaKind.TheVariants.{CyclicLinks}
 use Rattle.dx_schema.specs.Forest.{Forest}
 use Rattle.dx_schema.specs.Tables.{model_tables, table_at}
 use Rattle.dx_schema.specs.Faults.{form_fault}
+
+-- a link of a table with this width leads to distinct columns of a table of the schema, from as many
+pub record LinkFits (schema : List Table) (width : ℕ) (l : Link) : Type 0 where
+  pub table : l.table < length schema
+  pub same_length : length l.from ≡ length l.to
+  pub from : AreWithin l.from width
+  pub to : AreWithin l.to (table_of schema l.table).width
+  pub to_distinct : Distinct l.to
+
+-- the links of each table fit
+abbrev pub LinksFit : List Table → Type 0
+LinksFit schema = Each schema (λ t. Each t.links (LinkFits schema t.width))
 
 -- links lead from one table to another
 pub data Leads (schema : List Table) : ℕ → ℕ → Type 0 where

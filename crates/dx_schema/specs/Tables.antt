@@ -9,7 +9,7 @@ use Rattle.dx_model.specs.Tables.{Table as Numbers}
 use Rattle.dx_schema.specs.declared.sets.KeyDecl.{KeyDecl}
 use Rattle.dx_schema.specs.declared.sets.RefDecl.{RefDecl}
 use Rattle.dx_schema.specs.declared.tables.Table.{Table}
-use Rattle.dx_schema.specs.Forest.{Label, Forest, none, set}
+use Rattle.dx_schema.specs.Forest.{Label, Forest, Tree, none, set}
 
 -- a text, by its bytes
 abbrev pub Text : Type 0
@@ -27,6 +27,10 @@ pub record Placed : Type 0 where
   pub number : ℕ
   pub parent : Option ℕ
   pub inner : Forest
+
+-- a set without where it stands
+abbrev pub tree_of : Placed → Tree
+tree_of s = record { label = s.label; inner = s.inner }
 
 -- how many sets a forest has, at all depths
 abbrev pub count : Forest → ℕ
@@ -125,7 +129,19 @@ table_at f t = slice_index_or (tables_of f) t (record { name = []; columns = [];
 
 -- a table as numbers: its width, what its keys determine, and its links
 abbrev pub as_numbers : TableOf → Numbers
-as_numbers t = record { width = length t.columns; determinations = map (λ (k : Key). key_of (length t.columns) k.columns) t.keys; links = t.links }
+as_numbers t = record { width = length t.columns; determinations = map (λ (k : Key). key_of (length t.columns) k.columns) t.keys; links = t.links; optional = [] }
+
+-- the widths of a schema's tables
+abbrev pub schema_widths : Forest → List ℕ
+schema_widths f = map (λ (t : TableOf). length t.columns) (tables_of f)
+
+-- what stands at a number that no set has
+abbrev pub nowhere : Placed
+nowhere = record { label = record { name = []; columns = []; keys = []; refs = [] }; number = 0; parent = None; inner = none }
+
+-- the set with a number, with its inner sets
+abbrev pub tree_at : Forest → ℕ → Tree
+tree_at f t = tree_of (slice_index_or (sets_of f) t nowhere)
 
 -- the tables of a schema as numbers
 abbrev pub model_tables : Forest → List Numbers

@@ -1,7 +1,7 @@
 // The sets of all levels as one list.
 ghost use Rattle.std.specs.Prelude.{◌≡◌, ◌+◌, ◌<◌, ◌≤◌, ◌⊎◌, ◌++◌, ◌↔◌, length, map, IsTrue, OnOk, IfOk, IfErr};
 ghost use Rattle.dx_ports.specs.declared.file.Count.TheVariants.{Tables};
-ghost use Rattle.dx_schema.specs.Tables.{count, numbers_in, placed};
+ghost use Rattle.dx_schema.specs.Tables.{count, numbers_in, placed, tree_at};
 ghost use Rattle.dx_schema.specs.Faults.{depth};
 ghost use Rattle.dx_schema.specs.Nodes.{seen};
 ghost use Rattle.dx_schema.specs.declared.fault.SchemaFault.TheVariants.{Memory, TooMany};
@@ -60,8 +60,8 @@ pub fn is_deeper(trees: &Trees, levels: u32) -> bool
     false
 }
 
-// How many sets there are.
-fn count_sets(trees: &Trees) -> u32
+/// How many sets there are, inner sets included.
+pub fn count_sets(trees: &Trees) -> u32
     requires { count trees.now ≤ 64 }
     ensures { result ≡ count trees.now }
 {
@@ -70,6 +70,26 @@ fn count_sets(trees: &Trees) -> u32
         sets += 1 + count_sets(&tree.inner);
     }
     sets
+}
+
+/// The set with a number, counted in preorder.
+pub fn tree_numbered(trees: &Trees, number: u32) -> &SetTree
+    requires within { number < count trees.now }
+    requires few { count trees.now ≤ 64 }
+    ensures { result.now ≡ tree_at trees.now number }
+{
+    let mut left = number;
+    for tree in trees.items() {
+        if left == 0 {
+            return tree;
+        }
+        let below = count_sets(&tree.inner);
+        if left <= below {
+            return tree_numbered(&tree.inner, left - 1);
+        }
+        left -= 1 + below;
+    }
+    unreachable!()
 }
 
 /// The numbers of the sets of one level, of which the first has this one.

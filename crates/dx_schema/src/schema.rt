@@ -1,20 +1,21 @@
 // A schema: sets, and the tables that they make.
 ghost use Rattle.std.specs.Prelude.{◌≡◌, ◌<◌, ◌≤◌, ◌↔◌, ◌⊎◌, [], length, map, IfOk, IfErr, OnOk, IfSome, IsSome, IsTrue, slice_index_or};
-ghost use Rattle.dx_ports.specs.Members.{◌∈◌};
+ghost use Rattle.dx_ports.specs.Members.{◌∈◌, Each};
 ghost use Rattle.dx_model.specs.Tables.{DeterminationsFit};
 ghost use Rattle.dx_schema.specs.Forest.{forest_of};
-ghost use Rattle.dx_schema.specs.Tables.{tables_of, table_at, model_tables, number_of, AreTables};
-ghost use Rattle.dx_schema.specs.Flat.{IsFlat};
+ghost use Rattle.dx_schema.specs.Tables.{count, tables_of, table_at, tree_at, model_tables, number_of, schema_widths, AreTables};
+ghost use Rattle.dx_schema.specs.Bounds.{HasFewRules, HasNumbers};
 ghost use Rattle.dx_schema.specs.Links.{IsAcyclic, IsFaultless, IsFirstFault};
 ghost use Rattle.dx_schema.specs.declared.fault.SchemaFault.TheVariants.{Memory};
 
 use crate::build::checked_tables;
 use crate::fault::SchemaFault;
+use crate::nodes::tree_numbered;
 use crate::sets::{SetTree, Trees};
 use crate::tables::Table;
 use dx_model::{Key, Link};
 use dx_ports::Text;
-use std::alloc::Global;
+use std::alloc::{AllocError, Global};
 use std::marker::Model;
 
 /// A schema. A contract sees it as the forest of its sets. Tables and their columns are counted from 0.
@@ -28,6 +29,7 @@ impl Model for Schema {
     ghost use Rattle.std.specs.Prelude.{◌≡◌};
     ghost use Rattle.dx_schema.specs.Forest.{Forest, forest_code};
     ghost use Rattle.dx_schema.specs.Tables.{tables_of};
+    ghost use Rattle.dx_schema.specs.Bounds.{HasFewRules};
     ghost use Rattle.dx_schema.specs.Links.{IsFaultless};
 
     ghost Value = { Forest };
@@ -36,10 +38,10 @@ impl Model for Schema {
 
     ghost view = { λ s. s.trees };
 
-    ghost invariant = { λ s. (s.tables.items ≡ tables_of s.trees) × IsFaultless s.trees };
+    ghost invariant = { λ s. (s.tables.items ≡ tables_of s.trees) × IsFaultless s.trees × HasFewRules s.trees };
 }
 
-// The number of a name. None where it isn't there.
+// The number of a name. None if it isn't there.
 fn number_in(names: &[Text], name: &Text) -> Option<u32>
     requires { length names.now ≤ 64 }
     ensures some { IfSome result (λ n. (n < length names.now) × (slice_index_or names.now n [] ≡ name.now)) }
@@ -58,11 +60,11 @@ impl Schema {
     ///
     /// # Errors
     ///
-    /// The first fault of this order: `TooMany`, or `Bad` with its kind. `Memory` where there is no memory, which may
+    /// The first fault of this order: `TooMany`, or `Bad` with its kind. `Memory` if there is no memory, which may
     /// come at any point.
     ///
     /// 1. `TooMany`: more than 64 sets; a set more than 16 levels deep.
-    /// 2. Set by set, an inner set behind its outer one: its name is that of an earlier set (`DoubleName`); it has no
+    /// 2. Set by set, an inner set after its outer one: its name is that of an earlier set (`DoubleName`); it has no
     ///    column (`NoColumn`); its table has more than 64 columns (`TooMany`); a name stands twice among `#id`, `#up`,
     ///    its columns and its inner sets (`DoubleName`).
     /// 3. Set by set, each key and then each ref: a list is empty (`BadLink`); a column isn't one of the set
@@ -71,10 +73,10 @@ impl Schema {
     ///    different length (`BadLink`).
     /// 4. Links lead from a set back to it (`CyclicLinks`).
     pub fn build(alloc: Global, trees: Trees) -> Result<Schema, SchemaFault>
+        requires few { HasFewRules trees }
         ensures ok { IfOk result (λ s. s ≡ trees) }
         ensures faultless { OnOk result (IsFaultless trees) }
         ensures fault { IfErr result (λ e. (e ≡ Memory) ⊎ IsFirstFault trees e) }
-        ensures flat { IsFlat trees → IfErr result (λ e. e ≡ Memory) }
     {
         let tables = checked_tables(alloc, &trees)?;
         Ok(Schema { trees, tables })
@@ -86,8 +88,26 @@ impl Schema {
         ensures facts { AreTables (tables_of self.now) }
         ensures fits { DeterminationsFit (model_tables self.now) }
         ensures acyclic { IsAcyclic (model_tables self.now) }
+        ensures numbers { Each (tables_of self.now) HasNumbers }
     {
         self.tables.len() as u32
+    }
+
+    /// The widths of the tables, in order.
+    ///
+    /// # Errors
+    ///
+    /// `AllocError` if there is no memory.
+    pub fn widths(&self, alloc: Global) -> Result<Vec<u32>, AllocError>
+        ensures all { IfOk result (λ ws. ws.items ≡ schema_widths self.now) }
+        ensures within { Each (schema_widths self.now) (λ w. (1 ≤ w) × (w ≤ 64)) }
+        ensures few { length (schema_widths self.now) ≤ 64 }
+    {
+        let mut widths = Vec::new(alloc);
+        for table in 0..self.tables() {
+            widths.push(self.width(table))?;
+        }
+        Ok(widths)
     }
 
     /// The name of a table.
@@ -126,7 +146,7 @@ impl Schema {
         &self.columns(table)[column as usize]
     }
 
-    /// The table of this name. None where there is none.
+    /// The table of this name. None if there is none.
     pub fn table_named(&self, name: &Text) -> Option<u32>
         ensures some { IfSome result (λ t. (t < length (tables_of self.now)) × ((table_at self.now t).name ≡ name.now)) }
         ensures none { IsSome result ↔ (name.now ∈ map (λ t. t.name) (tables_of self.now)) }
@@ -139,7 +159,7 @@ impl Schema {
         None
     }
 
-    /// The column of this name. None where there is none.
+    /// The column of this name. None if there is none.
     pub fn column_named(&self, table: u32, name: &Text) -> Option<u32>
         requires { table < length (tables_of self.now) }
         ensures some { IfSome result (λ c. (c < length (table_at self.now table).columns) × (slice_index_or (table_at self.now table).columns c [] ≡ name.now)) }
@@ -180,12 +200,21 @@ impl Schema {
         self.tables[table as usize].inner.items()
     }
 
-    /// Whether a table has the column `#id`, which is where its set has inner sets.
+    /// Whether a table has the column `#id`, which it has if its set has inner sets.
     pub fn has_id(&self, table: u32) -> bool
         requires { table < length (tables_of self.now) }
         ensures { IsTrue result ↔ (0 < length (table_at self.now table).inner) }
     {
         !self.inner(table).is_empty()
+    }
+
+    /// The set of a table, with its inner sets.
+    pub fn tree(&self, table: u32) -> &SetTree
+        requires { table < length (tables_of self.now) }
+        ensures tree { result.now ≡ tree_at self.now table }
+        ensures few { count result.now.inner < 64 }
+    {
+        tree_numbered(&self.trees, table)
     }
 
     /// The sets that the schema was built of.

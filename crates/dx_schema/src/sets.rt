@@ -1,10 +1,16 @@
 // Sets as they are declared, each with its inner sets.
-ghost use Rattle.std.specs.Prelude.{◌≡◌, [], OnOk, OnErr, not};
+ghost use Rattle.std.specs.Prelude.{◌≡◌, ◌≤◌, ◌↔◌, [], OnOk, OnErr, IsTrue, not};
+ghost use Rattle.dx_schema.specs.Bounds.{HasFewRules};
 ghost use Rattle.dx_schema.specs.Forest.{forest_of, followed_by, has_sets, none, set};
+ghost use Rattle.dx_schema.specs.Tables.{count};
 
+use crate::nodes::count_sets;
 use dx_ports::{Items, Text};
 use std::alloc::{AllocError, Global};
 use std::marker::Model;
+
+// With so many keys a table may have one that has no number of 32 bits: it may have one key more than its set.
+const TOO_MANY: u64 = 4_294_967_294;
 
 /// Columns of a set on which no two of its rows agree.
 #[derive(Debug, Drop)]
@@ -70,7 +76,7 @@ impl Model for Trees {
 
 impl SetTree {
     /// A set with these columns, without keys, refs and inner sets. It takes no memory.
-    pub fn flat(alloc: Global, name: Text, columns: Items<Text>) -> SetTree
+    pub fn new(alloc: Global, name: Text, columns: Items<Text>) -> SetTree
         ensures { result ≡ record { label = record { name = name; columns = columns; keys = []; refs = [] }; inner = none } }
     {
         SetTree {
@@ -104,13 +110,36 @@ impl Trees {
     ///
     /// # Errors
     ///
-    /// `AllocError` where there is no memory: the list stays as it was, and the set is dropped.
+    /// `AllocError` if there is no memory: the list stays as it was, and the set is dropped.
     pub fn push(&mut self, tree: SetTree) -> Result<(), AllocError>
         ensures ok { OnOk result (self.new ≡ followed_by self.old (set tree.label tree.inner none)) }
         ensures err { OnErr result (self.new ≡ self.old) }
     {
         self.items.push(tree)?;
         Ok(())
+    }
+
+    /// How many sets there are, inner sets included.
+    pub fn count(&self) -> u32
+        requires { count self.now ≤ 64 }
+        ensures { result ≡ count self.now }
+    {
+        count_sets(self)
+    }
+
+    /// Whether each set, inner sets included, has at most 4,294,967,293 keys and as many refs, as `Schema::build` asks.
+    pub fn has_few_rules(&self) -> bool
+        ensures { IsTrue result ↔ HasFewRules self.now }
+    {
+        for tree in self.items() {
+            if tree.keys.len() >= TOO_MANY || tree.refs.len() >= TOO_MANY {
+                return false;
+            }
+            if !tree.inner.has_few_rules() {
+                return false;
+            }
+        }
+        true
     }
 
     /// Whether there is no set.

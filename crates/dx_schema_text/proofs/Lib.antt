@@ -11,3 +11,4 @@ pub mod PrintScans
 pub mod PrintReads
 pub mod PrintExamples
 pub mod SpelledWords
+pub mod FewRules

@@ -1,5 +1,6 @@
 -- What holds of every text.
-use Rattle.std.specs.Prelude.{◌≡◌, ◌⊎◌, ℕ, List}
+use Rattle.std.specs.Prelude.{◌≡◌, ◌⊎◌, ℕ, List, length}
+use Rattle.dx_schema.specs.Bounds.{RulesBelow}
 use Rattle.dx_tokens.specs.declared.faults.TextFault.{TextFault}
 use Rattle.dx_schema_text.specs.declared.texts.MappingText.{MappingText}
 use Rattle.dx_schema_text.specs.Texts.{IsMappingText, IsTextFault}
@@ -22,3 +23,7 @@ NeverBoth = (text : List ℕ) (m : MappingText) (e : TextFault) → IsMappingTex
 -- the sets that a text says are written again as they are
 abbrev pub SaidIsWritable : Type 0
 SaidIsWritable = (text : List ℕ) (m : MappingText) → IsMappingText text m → AreWritable m.source × AreWritable m.target
+
+-- each set that a text says has fewer keys, and fewer refs, than the text has bytes
+abbrev pub TextsHaveFewRules : Type 0
+TextsHaveFewRules = (text : List ℕ) (m : MappingText) → IsMappingText text m → RulesBelow (length text) m.source × RulesBelow (length text) m.target

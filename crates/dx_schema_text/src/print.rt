@@ -76,7 +76,7 @@ fn wider(alloc: Global, margin: &Text) -> Result<Text, AllocError>
 {
     let mut wide = String::from_str(alloc, margin.as_str())?;
     wide.push_str("  ")?;
-    Ok(Text::from_string(wide))
+    Text::from_string(alloc, wide)
 }
 
 // The name and the columns of a set.
@@ -146,8 +146,8 @@ pub fn print_trees(alloc: Global, trees: &Trees) -> Result<Text, AllocError>
     ensures text { IfOk result (λ t. t ≡ printed [] trees.now) }
     ensures read_again { IfOk result (λ t. AreWritable trees.now → IsReadAgain trees.now t) }
 {
-    let margin = Text::from_string(String::new(alloc));
+    let margin = Text::from_str(alloc, "")?;
     let mut out = String::new(alloc);
     push_sets(alloc, &margin, trees, &mut out)?;
-    Ok(Text::from_string(out))
+    Text::from_string(alloc, out)
 }

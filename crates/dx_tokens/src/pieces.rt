@@ -10,7 +10,7 @@ use crate::bytes::{
 
 /// What stands next inside a string.
 #[derive(Clone, Copy, Debug, PartialEq, Eq)]
-pub(crate) enum Item {
+pub enum Item {
     /// The quotation mark that ends the string.
     Quote,
     /// A character or an escape. The number is its length in bytes.
@@ -34,8 +34,9 @@ pub(crate) enum Piece {
     Cut,
 }
 
+/// A character of more than one byte, of which the first is `b`.
 #[tactic(auto, unfolding(crate::specs::Tokens::wide_at))]
-fn wide_item(b: u8, rest: &[u8]) -> Item
+pub fn wide_item(b: u8, rest: &[u8]) -> Item
     ensures value { result ≡ wide_at b rest.now }
     ensures within { ItemWithin (1 + length rest.now) result }
 {

@@ -1,5 +1,5 @@
 use Rattle.std.proofs.Common.{take}
-use Rattle.dx_logical.specs.Laws.{Numbered}
+use Rattle.dx_model.specs.Fitting.{Numbered}
 use Rattle.dx_model.specs.Rules.{existentials}
 use Rattle.dx_closing.proofs.checking.are_numbered.Given as goal
 

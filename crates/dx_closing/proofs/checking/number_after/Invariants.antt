@@ -1,5 +1,5 @@
 use Rattle.std.proofs.Common.{take, flat_map}
-use Rattle.dx_logical.specs.Laws.{Numbered}
+use Rattle.dx_model.specs.Fitting.{Numbered}
 use Rattle.dx_model.specs.Rules.{existential_in}
 use Rattle.dx_closing.proofs.checking.number_after.Given as goal
 

@@ -2,7 +2,7 @@ use Rattle.std.proofs.Common.{◌+◌, ◌<◌, ◌∙◌, refl, ap, length, ari
 use Rattle.std.specs.Prelude.{slice_get}
 use Rattle.std.proofs.lemmas.Result.{err_from_is_err_and}
 use Rattle.dx_schema.specs.Tables.{model_tables, tables_of}
-use Rattle.dx_logical.proofs.Facts.{links_fit}
+use Rattle.dx_schema.proofs.Whole.{links_fit}
 use Rattle.dx_closing.specs.declared.growing.Growing.{Growing}
 use Rattle.dx_closing.specs.Closing.{begun}
 use Rattle.dx_closing.proofs.Going.{atom_grows, at_end, closing_wide}

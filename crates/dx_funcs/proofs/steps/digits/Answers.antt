@@ -1,4 +1,6 @@
-use Rattle.std.proofs.Common.{◌∙◌, sym, ap}
+use Rattle.std.proofs.Common.{◌≡◌, ◌∙◌, sym, ap}
+use Rattle.std.proofs.lemmas.Result.{IfOk-weaker}
+use Rattle.dx_funcs.specs.Shipped.{digits_of}
 use Rattle.std.specs.String.{string_bytes}
 use Rattle.dx_funcs.proofs.Digits.{digit_kept, other_left_out, digits_seen}
 use Rattle.dx_funcs.proofs.steps.digits.Goals as goal
@@ -11,4 +13,4 @@ loop-byte-preserved c = elim c.if-is_ascii_digit.branch [
 ]
 
 pub returns : goal.returns
-returns c = c.from_string.ensures ∙ digits_seen c.args.text.now c.bytes-byte-items.result.now (string_bytes c.loop-byte.kept) c.loop-byte.byte-index c.bytes-byte-items.ensures.value c.loop-byte-test.false c.loop-byte.invariant
+returns c = IfOk-weaker c.from_string.result (λ t. t ≡ string_bytes c.loop-byte.kept) (λ t. t ≡ digits_of c.args.text.now) (λ t e. e ∙ digits_seen c.args.text.now c.bytes-byte-items.result.now (string_bytes c.loop-byte.kept) c.loop-byte.byte-index c.bytes-byte-items.ensures.value c.loop-byte-test.false c.loop-byte.invariant) c.from_string.ensures

@@ -4,7 +4,8 @@ use Rattle.dx_schema.specs.Tables.{tables_of, model_tables}
 use Rattle.dx_logical.specs.Unfolding.{nothing, unfolding_of}
 use Rattle.dx_logical.specs.Laws.{IsUnfolding}
 use Rattle.dx_logical.proofs.Continued.{small_by, unfolds_by}
-use Rattle.dx_logical.proofs.Facts.{links_fit, unfoldings_are}
+use Rattle.dx_schema.proofs.Whole.{links_fit}
+use Rattle.dx_logical.proofs.Facts.{unfoldings_are}
 use Rattle.dx_logical.proofs.Fresh.{filled_length}
 use Rattle.dx_logical.proofs.occurrences.unfold.Goals as goal
 

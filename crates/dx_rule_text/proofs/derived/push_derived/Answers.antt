@@ -1,7 +1,6 @@
 use Rattle.std.proofs.Common.{◌∙◌}
 use Rattle.dx_funcs.specs.Serving.{offered}
-use Rattle.dx_rule_text.specs.Printed.{conversion_name}
-use Rattle.dx_rule_text.proofs.Names.{conversion_named}
+use Rattle.dx_funcs.specs.Names.{conversion_name}
 use Rattle.dx_rule_text.proofs.Printing.{printed_derived}
 use Rattle.dx_rule_text.proofs.derived.push_derived.Goals as goal
 
@@ -9,4 +8,4 @@ pub returns : goal.returns
 returns g c =
     printed_derived (conversion_name (offered c.args.host.now)) c.args.number c.args.derived.now c.as_str.result.now c.items.result.now _ _ _ _ _ _ _
     c.in_ok-push_variable.ensures c.in_ok-push_str.ensures.bytes c.in_ok-push_str-2.ensures.bytes c.in_ok-push_str-3.ensures.bytes c.in_ok-push_variables.ensures c.in_ok-push_str-4.ensures.bytes
-    (c.as_str.ensures ∙ conversion_named (offered c.args.host.now) c.by_code.result.now c.args.derived.now.code c.args.host.now.offer.codes c.by_code.ensures.listed c.by_code.ensures.code) c.items.ensures
+    (c.as_str.ensures ∙ c.by_code.ensures.name) c.items.ensures

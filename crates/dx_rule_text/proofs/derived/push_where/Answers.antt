@@ -5,7 +5,7 @@ use Rattle.dx_ports.proofs.Loops.{each_item}
 use Rattle.dx_model.specs.declared.rules.Derived.{Derived}
 use Rattle.dx_funcs.specs.declared.conversion.Conversion.{Conversion}
 use Rattle.dx_funcs.specs.Serving.{offered}
-use Rattle.dx_rule_text.specs.Printed.{conversion_name}
+use Rattle.dx_funcs.specs.Names.{conversion_name}
 use Rattle.dx_rule_text.proofs.Printing.{each_first, each_other, one_derived}
 use Rattle.dx_rule_text.proofs.derived.push_where.Goals as goal
 

@@ -1,7 +1,8 @@
 use Rattle.std.proofs.Common.{◌≡◌, suc, ◌+◌, ◌++◌, take, flat_map}
 use Rattle.std.specs.Prelude.{codes, string_bytes}
 use Rattle.dx_funcs.specs.Serving.{offered}
-use Rattle.dx_rule_text.specs.Printed.{conversion_name, derived_texts}
+use Rattle.dx_funcs.specs.Names.{conversion_name}
+use Rattle.dx_rule_text.specs.Printed.{derived_texts}
 use Rattle.dx_rule_text.proofs.derived.push_where.Given as goal
 
 abbrev pub invariant-loop-other : goal.invariant-loop-other

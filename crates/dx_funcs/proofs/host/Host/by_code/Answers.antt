@@ -2,6 +2,7 @@ use Rattle.std.proofs.Common.{◌≡◌}
 use Rattle.dx_ports.proofs.Loops.{each_more}
 use Rattle.dx_funcs.specs.declared.conversion.Conversion.{Conversion}
 use Rattle.dx_funcs.specs.Serving.{offered}
+use Rattle.dx_funcs.proofs.Named.{conversion_named}
 use Rattle.dx_funcs.proofs.Offered.{listed_here, shown_nowhere}
 use Rattle.dx_funcs.proofs.host.Host.by_code.Goals as goal
 
@@ -19,3 +20,8 @@ unreachable-requires g c =
 
 pub loop-conversion-init : goal.loop-conversion-init
 loop-conversion-init g c = (λ x m. elim m [ ])
+
+pub returns-then-conversion-code-clause-name : goal.returns-then-conversion-code-clause-name
+returns-then-conversion-code-clause-name g c =
+    let listed = listed_here c.items-conversion-items.result.now (offered c.args.self.now) c.loop-conversion.conversion-index c.conversion-item.result c.items-conversion-items.ensures c.loop-conversion-test.true c.conversion-item.is in
+    conversion_named (offered c.args.self.now) c.conversion-item.result c.args.code c.args.self.now.offer.codes listed c.if-conversion-code.true
