@@ -1,7 +1,7 @@
 -- The facts of an instance are its rows; what holds of each table holds where a table is read.
 use Rattle.std.proofs.Common.{◌≡◌, ℕ, zero, suc, ◌+◌, ◌<◌, ◌≤◌, ◌-◌, ◌^◌, List, [], ◌∷◌, ◌++◌, ◌⊎◌, inl, inr, refl, sym, ◌∙◌, ap, subst, arith, length, get_or, set, map, take, Bool, true, false, Result, Ok, Err}
 use Rattle.std.specs.Prelude.{IfOk, OnErr, MatchBool}
-use Rattle.std.proofs.lemmas.List.{length-set, get_or-set_same, get_or-set_other, length-append, length-map, take_all}
+use Rattle.std.proofs.lemmas.List.{length-set, get_or-set_same, get_or-set_other, length-append, length-map, take_all, take_more, length-take-le, append-nil, append_assoc}
 use Rattle.std.specs.declared.alloc.AllocError.{AllocError}
 use Rattle.dx_model.specs.declared.values.Value.{Value}
 use Rattle.dx_model.specs.declared.facts.Fact.{Fact}
@@ -13,7 +13,7 @@ use Rattle.dx_instance.proofs.RowSets.{distinct_more}
 abbrev no_table : TableRows
 no_table = record { width = 0; rows = [] }
 
-from_facts : (n : ℕ) (ts : List TableRows) (f : Fact) → f ∈ facts_from n ts → (k : ℕ) × (f.table ≡ n + k) × (k < length ts) × (f.row ∈ rows_of ts k)
+pub from_facts : (n : ℕ) (ts : List TableRows) (f : Fact) → f ∈ facts_from n ts → (k : ℕ) × (f.table ≡ n + k) × (k < length ts) × (f.row ∈ rows_of ts k)
 from_facts n [] f m = elim m [ ]
 from_facts n (t ∷ ts) f m = elim (from_append (map (λ (row : List Value). record { table = n; row = row }) t.rows) m) [
   | inl l ↦ let r = from_map (λ (row : List Value). record { table = n; row = row }) t.rows l in
@@ -153,3 +153,21 @@ fits_after (Err y) I n old new row f h e w room fresh a x = rw (x, set_same I n 
 -- tables that were made one by one
 pub all_new : (ws items : List ℕ) (tables : List TableRows) (i : ℕ) → Each ws (λ w. 1 ≤ w) → length ws < 2 ^ 32 - 1 → items ≡ ws → length items ≤ i → tables ≡ without_rows (take i items) → FitsInstance tables
 all_new ws items tables i some few e h t = rw (t, take_all i items h, e) (fits_new ws some few)
+
+facts_push : (n : ℕ) (ts : List TableRows) (t : TableRows) → facts_from n (ts ++ t ∷ []) ≡ facts_from n ts ++ map (λ (row : List Value). let f : Fact = record { table = n + length ts; row = row } in f) t.rows
+facts_push n [] t =
+    let e : n ≡ n + 0 = omega arith in
+    append-nil _ ∙ ap (λ (m : ℕ). map (λ (row : List Value). let f : Fact = record { table = m; row = row } in f) t.rows) e
+facts_push n (u ∷ ts) t =
+    let e : suc n + length ts ≡ n + length (u ∷ ts) = omega arith in
+    let here = map (λ (row : List Value). let f : Fact = record { table = n; row = row } in f) u.rows in
+    ap (λ (l : List Fact). here ++ l) (facts_push (suc n) ts t) ∙ sym (append_assoc here (facts_from (suc n) ts) _)
+    ∙ ap (λ (m : ℕ). here ++ facts_from (suc n) ts ++ map (λ (row : List Value). let f : Fact = record { table = m; row = row } in f) t.rows) e
+
+-- the facts of one table more
+pub facts_more : (I : List TableRows) (t p : ℕ) (all : List Fact) → t < length I → length (rows_of I t) ≤ p
+    → all ≡ facts_from 0 (take t I) ++ map (λ (row : List Value). let f : Fact = record { table = t; row = row } in f) (take p (rows_of I t)) → all ≡ facts_from 0 (take (t + 1) I)
+facts_more I t p all h b e =
+    let n : 0 + length (take t I) ≡ t = omega (arith, length-take-le t I (omega arith)) in
+    let whole = ap (λ (m : ℕ). facts_from 0 (take t I) ++ map (λ (row : List Value). let f : Fact = record { table = m; row = row } in f) (rows_of I t)) n in
+    e ∙ rw (take_all p (rows_of I t) b) (sym (ap (λ (ts : List TableRows). facts_from 0 ts) (take_more I t no_table h) ∙ facts_push 0 (take t I) (table_at I t) ∙ whole))

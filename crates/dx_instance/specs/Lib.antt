@@ -1,3 +1,13 @@
 pub mod Stored
 pub mod NullMaps
 pub mod ValueText
+pub mod Numbers
+pub mod Ranks
+pub mod Cells
+pub mod Chains
+pub mod Shown
+pub mod Places
+pub mod Images
+pub mod Keys
+pub mod Laws
+pub mod Indexes

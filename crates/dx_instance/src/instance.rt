@@ -1,30 +1,164 @@
-// Instances: for each table a width and distinct rows, with an index of whole rows.
-ghost use Rattle.std.specs.Prelude.{◌≡◌, ◌↔◌, ◌<◌, ◌≤◌, ◌-◌, ◌^◌, length, Some, slice_get, IsTrue, IfOk, OnErr, MatchBool};
+// Instances: for each table a width and distinct rows, whose values stand as numbers.
+ghost use Rattle.std.specs.Prelude.{◌≡◌, ◌↔◌, ◌<◌, ◌≤◌, ◌-◌, ◌^◌, ℕ, List, length, map, count_by, Some, slice_get, slice_index_or, IsTrue, IfOk, OnOk, OnErr, IfSome, IfNone, MatchBool, MatchOption};
+ghost use Rattle.std.specs.Bool.{OnTrue};
 ghost use Rattle.dx_ports.specs.Members.{Distinct, Each, ◌∈◌};
-ghost use Rattle.dx_instance.specs.Stored.{AddsRow, IsSorting, rows_of, table_at, without_rows};
+ghost use Rattle.dx_model.specs.Values.{RowsAscend};
+ghost use Rattle.dx_instance.specs.Stored.{AddsRow, IsSorting, facts, rows_of, table_at, without_rows};
+ghost use Rattle.dx_instance.specs.Images.{AreImages, IsImage};
+ghost use Rattle.dx_instance.specs.Numbers.{AreApart, Extends, ValuesAscend, value_of};
+ghost use Rattle.dx_instance.specs.Shown.{AreBelow, NumbersFit, PartsFit, RowsFit, Shows, renumbered, shown_row, shown_tables};
+ghost use Rattle.dx_instance.specs.Places.{HasValues, IsFirstWith, row_at, rows_with, value_at};
 
-use crate::table::{Table, copy_row};
-use dx_model::{Row, Value};
+use crate::cells::Rows;
+use crate::null_map::NullMap;
+use crate::numbers::Numbers;
+use crate::ordering::Ordered;
+use crate::symbols::Symbols;
+use crate::table::Table;
+use dx_model::{Fact, Row, Value, copy_value};
 use std::alloc::{AllocError, Global};
 use std::marker::Model;
 
-/// For each table a width and distinct rows in order of adding. A row is found at the cost of one look-up. Tables,
-/// their rows and their columns are counted from 0.
+/// For each table a width and distinct rows in order of adding. Tables, their rows and their columns are counted from 0.
 #[derive(Drop)]
 pub struct Instance {
     alloc: Global,
+    symbols: Symbols,
     tables: Vec<Table>,
 }
 
 impl Model for Instance {
     ghost use Rattle.std.specs.Prelude.{List};
-    ghost use Rattle.dx_instance.specs.Stored.{FitsInstance, TableRows};
+    ghost use Rattle.dx_instance.specs.Stored.{TableRows};
+    ghost use Rattle.dx_instance.specs.Shown.{PartsFit, shown_tables};
 
     ghost Value = { List TableRows };
 
-    ghost view = { λ I. I.tables.items };
+    ghost view = { λ I. shown_tables I.symbols I.tables.items };
 
-    ghost invariant = { λ I. FitsInstance I.tables.items };
+    ghost invariant = { λ I. PartsFit I.symbols I.tables.items };
+}
+
+// The number of a value, which goes last in the symbols if it is new.
+fn interned(symbols: &mut Symbols, value: &Value) -> Result<u32, AllocError>
+    requires apart { AreApart symbols.old }
+    requires few { length symbols.old < 2 ^ 32 }
+    ensures within { IfOk result (λ n. n < length symbols.new) }
+    ensures number { IfOk result (λ n. value_of symbols.new n ≡ value.now) }
+    ensures grows { Extends symbols.old symbols.new }
+    ensures apart { AreApart symbols.new }
+    ensures few { length symbols.new < 2 ^ 32 }
+{
+    if let Some(number) = symbols.find(value) {
+        return Ok(number as u32);
+    }
+    let number = symbols.intern(copy_value(value)?)?;
+    Ok(number as u32)
+}
+
+// The numbers of values, of which new ones go last in the symbols.
+fn interned_all(
+    alloc: Global,
+    symbols: &mut Symbols,
+    values: &[Value],
+) -> Result<Vec<u32>, AllocError>
+    requires apart { AreApart symbols.old }
+    requires few { length symbols.old < 2 ^ 32 }
+    ensures shows { IfOk result (λ numbers. Shows symbols.new numbers.items values.now) }
+    ensures grows { Extends symbols.old symbols.new }
+    ensures apart { AreApart symbols.new }
+    ensures few { length symbols.new < 2 ^ 32 }
+{
+    let mut numbers = Vec::new(alloc);
+    for value in values {
+        numbers.push(interned(symbols, value)?)?;
+    }
+    Ok(numbers)
+}
+
+// The number of what each value becomes.
+fn images_of(
+    alloc: Global,
+    symbols: &Symbols,
+    map: &NullMap,
+    into: &mut Symbols,
+) -> Result<Vec<u32>, AllocError>
+    requires apart { AreApart into.old }
+    requires few { length into.old < 2 ^ 32 }
+    ensures images { IfOk result (λ images. AreImages map.now symbols.now into.new images.items (length symbols.now)) }
+    ensures apart { AreApart into.new }
+    ensures few { length into.new < 2 ^ 32 }
+{
+    let mut images = Vec::new(alloc);
+    for number in 0..symbols.len() {
+        images.push(interned(into, map.image(symbols.value(number)))?)?;
+    }
+    Ok(images)
+}
+
+// An instance of rows whose symbols are in order.
+fn of_ordered(alloc: Global, symbols: Symbols, tables: Vec<Rows>) -> Result<Instance, AllocError>
+    requires ascend { ValuesAscend symbols }
+    requires fit { Each tables.items (RowsFit (length symbols)) }
+    requires few { length tables.items < 2 ^ 32 - 1 }
+    ensures { IfOk result (IsSorting (shown_tables symbols tables.items)) }
+{
+    let _few = symbols.len();
+    let mut ordered = Vec::new(alloc);
+    for rows in tables {
+        ordered.push(Table::from_rows(alloc, rows)?)?;
+    }
+    Ok(Instance {
+        alloc,
+        symbols,
+        tables: ordered,
+    })
+}
+
+// The rows with other numbers.
+fn all_renumbered(alloc: Global, tables: Vec<Rows>, ranks: &[u32]) -> Result<Vec<Rows>, AllocError>
+    requires { Each tables.items (RowsFit (length ranks.now)) }
+    ensures { IfOk result (λ all. all.items ≡ map (renumbered ranks.now) tables.items) }
+{
+    let mut all = Vec::new(alloc);
+    for rows in tables {
+        all.push(rows.renumbered(alloc, ranks)?)?;
+    }
+    Ok(all)
+}
+
+// The rows of tables with other numbers.
+fn row_images(alloc: Global, tables: &[Table], images: &[u32]) -> Result<Vec<Rows>, AllocError>
+    requires { Each tables.now (NumbersFit (length images.now)) }
+    ensures { IfOk result (λ all. all.items ≡ map (renumbered images.now) tables.now) }
+{
+    let mut all = Vec::new(alloc);
+    for table in tables {
+        all.push(table.renumbered(alloc, images)?)?;
+    }
+    Ok(all)
+}
+
+// Copies of the rows of tables.
+fn row_copies(alloc: Global, tables: &[Table]) -> Result<Vec<Rows>, AllocError>
+    ensures { IfOk result (λ all. all.items ≡ tables.now) }
+{
+    let mut all = Vec::new(alloc);
+    for table in tables {
+        all.push(table.rows_copy(alloc)?)?;
+    }
+    Ok(all)
+}
+
+// The rows of tables.
+fn rows_alone(alloc: Global, tables: Vec<Table>) -> Result<Vec<Rows>, AllocError>
+    ensures { IfOk result (λ all. all.items ≡ tables.items) }
+{
+    let mut all = Vec::new(alloc);
+    for table in tables {
+        all.push(table.into_rows())?;
+    }
+    Ok(all)
 }
 
 impl Instance {
@@ -32,7 +166,7 @@ impl Instance {
     ///
     /// # Errors
     ///
-    /// `AllocError` where there is no memory.
+    /// `AllocError` if there is no memory.
     pub fn new(alloc: Global, widths: Vec<u32>) -> Result<Instance, AllocError>
         requires some { Each widths.items (λ w. 1 ≤ w) }
         requires few { length widths.items < 2 ^ 32 - 1 }
@@ -42,14 +176,18 @@ impl Instance {
         for width in widths.as_slice() {
             tables.push(Table::new(alloc, *width))?;
         }
-        Ok(Instance { alloc, tables })
+        Ok(Instance {
+            alloc,
+            symbols: Symbols::new(alloc),
+            tables,
+        })
     }
 
-    /// One row more, where it is new; a row that is there changes nothing. Answers whether it is new.
+    /// One row more, if it is new; a row that is there changes nothing. Answers whether it is new.
     ///
     /// # Errors
     ///
-    /// `AllocError` where there is no memory: the instance stays as it was.
+    /// `AllocError` if there is no memory: the instance stays as it was.
     pub fn add(&mut self, table: u32, row: Row) -> Result<bool, AllocError>
         requires table { table < length self.old }
         requires width { length row ≡ (table_at self.old table).width }
@@ -58,7 +196,8 @@ impl Instance {
         ensures added { IfOk result (λ b. MatchBool b (AddsRow self.old self.new table row) (self.new ≡ self.old)) }
         ensures err { OnErr result (self.new ≡ self.old) }
     {
-        self.tables[table as usize].add(row)
+        let numbers = interned_all(self.alloc, &mut self.symbols, row.items())?;
+        self.tables[table as usize].add(&numbers)
     }
 
     /// How many tables there are.
@@ -74,6 +213,14 @@ impl Instance {
         self.tables.len() as u32
     }
 
+    /// The numbers under which the values stand, lent.
+    pub fn numbers(&self) -> Numbers<'_>
+        ensures shown { shown_tables result.symbols result.tables ≡ self.now }
+        ensures fit { PartsFit result.symbols result.tables }
+    {
+        Numbers::new(&self.symbols, &self.tables)
+    }
+
     /// How many columns the table has.
     pub fn width(&self, table: u32) -> u32
         requires { table < length self.now }
@@ -87,7 +234,7 @@ impl Instance {
         requires { table < length self.now }
         ensures { result ≡ length (rows_of self.now table) }
     {
-        self.tables[table as usize].rows().len() as u32
+        self.tables[table as usize].count()
     }
 
     /// The value in a column of a row, lent.
@@ -95,57 +242,292 @@ impl Instance {
         requires table { table < length self.now }
         requires place { place < length (rows_of self.now table) }
         requires column { column < (table_at self.now table).width }
-        ensures { (row : _) → slice_get (rows_of self.now table) place ≡ Some row → slice_get row column ≡ Some result.now }
+        ensures { result.now ≡ value_at self.now table place column }
     {
-        &self.row(table, place)[column as usize]
+        let number = self.tables[table as usize].row(place)[column as usize];
+        self.symbols.value(number as u64)
     }
 
-    /// The values of a row, lent.
-    pub fn row(&self, table: u32, place: u32) -> &[Value]
+    // Whether the row at this place has these values in these columns.
+    fn has_values(&self, table: u32, columns: &[u32], values: &[Value], place: u32) -> bool
         requires table { table < length self.now }
         requires place { place < length (rows_of self.now table) }
-        ensures at { slice_get (rows_of self.now table) place ≡ Some result.now }
-        ensures width { length result.now ≡ (table_at self.now table).width }
+        requires columns { (c : ℕ) → c ∈ columns.now → c < (table_at self.now table).width }
+        requires lengths { length columns.now ≡ length values.now }
+        ensures { IsTrue result ↔ HasValues self.now table columns.now values.now place }
     {
-        self.tables[table as usize].rows()[place as usize].items()
+        for i in 0..columns.len() {
+            if !self.cell(table, place, columns[i]).is(&values[i]) {
+                return false;
+            }
+        }
+        true
     }
 
-    /// Whether the row is in the table.
-    pub fn contains(&self, table: u32, row: &Row) -> bool
-        requires { table < length self.now }
-        ensures { IsTrue result ↔ (row.now ∈ rows_of self.now table) }
+    // The same, row by row.
+    fn scan_columns(&self, table: u32, columns: &[u32], values: &[Value], from: u32) -> Option<u32>
+        requires table { table < length self.now }
+        requires columns { (c : ℕ) → c ∈ columns.now → c < (table_at self.now table).width }
+        requires lengths { length columns.now ≡ length values.now }
+        ensures { IsFirstWith self.now table columns.now values.now from result }
     {
-        self.tables[table as usize].contains(row)
+        for place in from..self.count(table) {
+            if self.has_values(table, columns, values, place) {
+                return Some(place);
+            }
+        }
+        None
+    }
+
+    /// Makes an index of a column, so that `with_columns` and `count_with` need not go through all rows. Nothing else
+    /// changes. It serves until a row is added to the table.
+    ///
+    /// # Errors
+    ///
+    /// `AllocError` if there is no memory.
+    pub fn index(&mut self, table: u32, column: u32) -> Result<(), AllocError>
+        requires table { table < length self.old }
+        requires column { column < (table_at self.old table).width }
+        ensures { self.new ≡ self.old }
+    {
+        self.tables[table as usize].index(self.alloc, column)
+    }
+
+    /// The least place from `from` on whose row has these values in these columns. It goes by the first of the columns
+    /// that has an index, or else through the rows. It takes no memory.
+    pub fn with_columns(
+        &self,
+        table: u32,
+        columns: &[u32],
+        values: &[Value],
+        from: u32,
+    ) -> Option<u32>
+        requires table { table < length self.now }
+        requires columns { (c : ℕ) → c ∈ columns.now → c < (table_at self.now table).width }
+        requires lengths { length columns.now ≡ length values.now }
+        ensures { IsFirstWith self.now table columns.now values.now from result }
+    {
+        if columns.len() == 0 {
+            return self.scan_columns(table, columns, values, from);
+        }
+        let rows = &self.tables[table as usize];
+        let at = rows.indexed_among(columns);
+        let Some(number) = self.symbols.find(&values[at]) else {
+            return None;
+        };
+        let mut next = from;
+        while let Some(place) = rows.next_with(columns[at], number as u32, next) {
+            if self.has_values(table, columns, values, place) {
+                return Some(place);
+            }
+            next = place + 1;
+        }
+        None
+    }
+
+    /// How many rows have this value in this column. It takes no memory.
+    pub fn count_with(&self, table: u32, column: u32, value: &Value) -> u32
+        requires table { table < length self.now }
+        requires column { column < (table_at self.now table).width }
+        ensures { result ≡ rows_with self.now table column value.now }
+    {
+        let Some(number) = self.symbols.find(value) else {
+            return 0;
+        };
+        let rows = &self.tables[table as usize];
+        let mut count = 0u32;
+        let mut next = 0u32;
+        while let Some(place) = rows.next_with(column, number as u32, next) {
+            count += 1;
+            next = place + 1;
+        }
+        count
+    }
+
+    /// The facts: table by table, the rows as they stand. If the rows of each table ascend, so do the facts.
+    ///
+    /// # Errors
+    ///
+    /// `AllocError` if there is no memory.
+    pub fn facts(&self) -> Result<Vec<Fact>, AllocError>
+        ensures { IfOk result (λ v. v.items ≡ facts self.now) }
+    {
+        let mut all = Vec::new(self.alloc);
+        for table in 0..self.tables() {
+            for place in 0..self.count(table) {
+                let row = self.row_copy(table, place)?;
+                all.push(Fact { table, row })?;
+            }
+        }
+        Ok(all)
     }
 
     /// A copy of a row.
     ///
     /// # Errors
     ///
-    /// `AllocError` where there is no memory.
+    /// `AllocError` if there is no memory.
     pub fn row_copy(&self, table: u32, place: u32) -> Result<Row, AllocError>
         requires table { table < length self.now }
         requires place { place < length (rows_of self.now table) }
-        ensures { IfOk result (λ row. slice_get (rows_of self.now table) place ≡ Some row) }
+        ensures at { IfOk result (λ row. slice_get (rows_of self.now table) place ≡ Some row) }
+        ensures row { IfOk result (λ row. row ≡ row_at self.now table place) }
     {
-        copy_row(self.alloc, self.row(table, place))
+        shown_values(
+            self.alloc,
+            &self.symbols,
+            self.tables[table as usize].row(place),
+        )
+    }
+
+    /// An instance of these rows of numbers, which `symbols` give their values: the rows of each table ascend, each once.
+    ///
+    /// # Errors
+    ///
+    /// `AllocError` if there is no memory.
+    pub fn from_rows(
+        alloc: Global,
+        symbols: Symbols,
+        tables: Vec<Rows>,
+    ) -> Result<Instance, AllocError>
+        requires fit { Each tables.items (RowsFit (length symbols)) }
+        requires few { length tables.items < 2 ^ 32 - 1 }
+        ensures { IfOk result (IsSorting (shown_tables symbols tables.items)) }
+    {
+        if symbols.is_ordered() {
+            return of_ordered(alloc, symbols, tables);
+        }
+        let Ordered { symbols, ranks } = symbols.into_order(alloc)?;
+        let ranked = all_renumbered(alloc, tables, &ranks)?;
+        of_ordered(alloc, symbols, ranked)
     }
 
     /// An instance with the same facts, the rows of each table ascending.
     ///
     /// # Errors
     ///
-    /// `AllocError` where there is no memory.
+    /// `AllocError` if there is no memory.
     pub fn sorted(&self) -> Result<Instance, AllocError>
         ensures { IfOk result (IsSorting self.now) }
     {
-        let mut tables = Vec::new(self.alloc);
-        for table in self.tables.as_slice() {
-            tables.push(table.sorted(self.alloc)?)?;
-        }
-        Ok(Instance {
-            alloc: self.alloc,
-            tables,
-        })
+        let symbols = self.symbols.copy(self.alloc)?;
+        let tables = row_copies(self.alloc, &self.tables)?;
+        Instance::from_rows(self.alloc, symbols, tables)
     }
+
+    /// The same as `sorted`, of an instance that is given away. Nothing is copied.
+    ///
+    /// # Errors
+    ///
+    /// `AllocError` if there is no memory.
+    pub fn into_sorted(self) -> Result<Instance, AllocError>
+        ensures { IfOk result (IsSorting self) }
+    {
+        let Instance {
+            alloc,
+            symbols,
+            tables,
+        } = self;
+        let tables = rows_alone(alloc, tables)?;
+        Instance::from_rows(alloc, symbols, tables)
+    }
+
+    /// Whether the rows of the table are known to ascend. It takes no time.
+    pub fn is_ascending(&self, table: u32) -> bool
+        requires { table < length self.now }
+        ensures { OnTrue result (RowsAscend (rows_of self.now table)) }
+    {
+        self.symbols.is_ordered() && self.tables[table as usize].is_ascending()
+    }
+
+    /// The image under the map. The rows of each table ascend.
+    ///
+    /// # Errors
+    ///
+    /// `AllocError` if there is no memory.
+    pub fn map_by(&self, map: &NullMap) -> Result<Instance, AllocError>
+        ensures { IfOk result (IsImage map.now self.now) }
+    {
+        let mut symbols = Symbols::new(self.alloc);
+        let images = images_of(self.alloc, &self.symbols, map, &mut symbols)?;
+        let tables = row_images(self.alloc, &self.tables, &images)?;
+        Instance::from_rows(self.alloc, symbols, tables)
+    }
+
+    /// Whether the row is in the table. It takes no memory.
+    pub fn contains(&self, table: u32, row: &Row) -> bool
+        requires { table < length self.now }
+        ensures { IsTrue result ↔ (row.now ∈ rows_of self.now table) }
+    {
+        let values = row.items();
+        if values.len() > 64 {
+            return self.scan(table, values);
+        }
+        let mut buffer = [0u32; 64];
+        let numbers = &mut buffer[..values.len()];
+        if !find_all(&self.symbols, values, numbers) {
+            return false;
+        }
+        self.tables[table as usize].find(numbers).is_some()
+    }
+
+    // Whether the row is in the table, row by row.
+    fn scan(&self, table: u32, values: &[Value]) -> bool
+        requires { table < length self.now }
+        ensures { IsTrue result ↔ (values.now ∈ rows_of self.now table) }
+    {
+        for place in 0..self.count(table) {
+            if shows(
+                &self.symbols,
+                self.tables[table as usize].row(place),
+                values,
+            ) {
+                return true;
+            }
+        }
+        false
+    }
+}
+
+// The numbers of values, if each has one.
+fn find_all(symbols: &Symbols, values: &[Value], numbers: &mut [u32]) -> bool
+    requires few { length symbols.now < 2 ^ 32 }
+    requires lengths { length values.now ≡ length numbers.old }
+    ensures { MatchBool result (Shows symbols.now numbers.new values.now) ((ns : List ℕ) → ¬ (Shows symbols.now ns values.now)) }
+{
+    for i in 0..values.len() {
+        let Some(number) = symbols.find(&values[i]) else {
+            return false;
+        };
+        numbers[i] = number as u32;
+    }
+    true
+}
+
+// Whether the numbers show these values.
+fn shows(symbols: &Symbols, numbers: &[u32], values: &[Value]) -> bool
+    requires { AreBelow (length symbols.now) numbers.now }
+    ensures { IsTrue result ↔ (shown_row symbols.now numbers.now ≡ values.now) }
+{
+    if numbers.len() != values.len() {
+        return false;
+    }
+    for i in 0..numbers.len() {
+        if !symbols.value(numbers[i] as u64).is(&values[i]) {
+            return false;
+        }
+    }
+    true
+}
+
+// A row of the values that the numbers show.
+fn shown_values(alloc: Global, symbols: &Symbols, numbers: &[u32]) -> Result<Row, AllocError>
+    requires { AreBelow (length symbols.now) numbers.now }
+    ensures { IfOk result (λ row. row ≡ shown_row symbols.now numbers.now) }
+{
+    let mut row = Row::new(alloc);
+    for number in numbers {
+        row.push(copy_value(symbols.value(*number as u64))?)?;
+    }
+    Ok(row)
 }

@@ -1,37 +1,112 @@
-// A table: how many columns it has, and its rows, each once, with an index of whole rows.
-ghost use Rattle.std.specs.Prelude.{◌≡◌, ◌↔◌, [], IsTrue, IfOk, OnErr, MatchBool};
-ghost use Rattle.dx_ports.specs.Members.{Distinct, ◌∈◌};
-ghost use Rattle.dx_instance.specs.Stored.{IsTableSorting, with_row};
+// A table of numbers: its first rows ascend and are found by binary search, those after them by their keys.
+ghost use Rattle.std.specs.Prelude.{◌≡◌, ◌≤◌, ◌<◌, ◌-◌, ◌^◌, [], IfOk, IfSome, OnErr, MatchBool, length, map, slice_index, take, drop};
+ghost use Rattle.std.specs.Bool.{OnTrue};
+ghost use Rattle.dx_ports.specs.Members.{Each, ◌∈◌};
+ghost use Rattle.dx_instance.specs.Shown.{AreBelow, renumbered};
+ghost use Rattle.dx_instance.specs.Cells.{IsPlaceOf, IsPut, NumbersAscend, key_of, numbers_at, with_numbers};
+ghost use Rattle.dx_instance.specs.Chains.{AreChains};
+ghost use Rattle.dx_instance.specs.Indexes.{IsNext};
 
-use dx_model::{Row, Value, copy_value};
-use indexmap::IndexSet;
+use crate::cells::Rows;
+use crate::chains::Chains;
+use crate::column_index::ColumnIndex;
 use std::alloc::{AllocError, Global};
+use std::cmp::Ordering;
 use std::marker::Model;
 
-/// The rows of a table, each once, in order of adding.
+/// Rows of numbers. A contract sees their width and their list.
 #[derive(Drop)]
 pub struct Table {
-    width: u32,
-    rows: IndexSet<Row>,
+    sorted: u32,
+    rows: Rows,
+    chains: Chains,
+    indexes: Vec<ColumnIndex>,
 }
 
 impl Model for Table {
-    ghost use Rattle.dx_instance.specs.Stored.{TableRows};
+    ghost use Rattle.dx_instance.specs.Cells.{NumberTable};
+    ghost use Rattle.dx_instance.specs.Chains.{AreParts};
 
-    ghost Value = { TableRows };
+    ghost Value = { NumberTable };
 
-    ghost view = { λ t. record { width = t.width; rows = t.rows.keys } };
+    ghost view = { λ t. t.rows };
+
+    ghost invariant = { λ t. AreParts t.sorted t.rows.rows t.chains t.indexes.items };
 }
 
-/// A row with copies of these values.
-pub fn copy_row(alloc: Global, values: &[Value]) -> Result<Row, AllocError>
-    ensures { IfOk result (λ row. row ≡ values.now) }
+// The number by which a row is looked up.
+fn row_key(row: &[u32]) -> u64
+    ensures { result ≡ key_of row.now }
 {
-    let mut row = Row::new(alloc);
-    for value in values {
-        row.push(copy_value(value)?)?;
+    let mut key = 7u64;
+    for number in row {
+        key = key
+            .wrapping_mul(0x9E37_79B9_7F4A_7C15)
+            .wrapping_add(*number as u64);
     }
-    Ok(row)
+    key
+}
+
+// The place of a row among the first, which ascend.
+fn find_sorted(rows: &Rows, sorted: u32, row: &[u32]) -> Option<u32>
+    requires some { sorted ≤ length rows.now.rows }
+    requires ascend { NumbersAscend (take sorted rows.now.rows) }
+    ensures { IsPlaceOf (take sorted rows.now.rows) rows.now.rows row.now result }
+{
+    let mut low = 0u32;
+    let mut high = sorted;
+    while low < high {
+        let middle = low + (high - low) / 2;
+        match rows.row(middle).cmp(&row) {
+            Ordering::Less => low = middle + 1,
+            Ordering::Greater => high = middle,
+            Ordering::Equal => return Some(middle),
+        }
+    }
+    None
+}
+
+// The place of a row among those after them.
+fn find_later(rows: &Rows, sorted: u32, chains: &Chains, row: &[u32]) -> Option<u32>
+    requires some { sorted ≤ length rows.now.rows }
+    requires few { length rows.now.rows < 2 ^ 32 }
+    requires chained { AreChains chains.now (map key_of (drop sorted rows.now.rows)) }
+    ensures { IsPlaceOf (drop sorted rows.now.rows) rows.now.rows row.now result }
+{
+    let mut code = chains.last(row_key(row));
+    while code != 0 {
+        let place = sorted + (code - 1);
+        if rows.row(place) == row {
+            return Some(place);
+        }
+        code = chains.earlier(code - 1);
+    }
+    None
+}
+
+// The index of a column, if there is one.
+fn index_of(indexes: &[ColumnIndex], column: u32) -> Option<&ColumnIndex>
+    ensures { IfSome result (λ x. (x.now ∈ indexes.now) × (x.now.column ≡ column)) }
+{
+    for index in indexes {
+        if index.column == column {
+            return Some(index);
+        }
+    }
+    None
+}
+
+// The least place from `from` on whose row has the number in the column, row by row.
+fn next_in(rows: &Rows, column: u32, number: u32, from: u32) -> Option<u32>
+    requires { column < rows.now.width }
+    ensures { IsNext rows.now.rows column number from result }
+{
+    for place in from..rows.count() {
+        if rows.row(place)[column as usize] == number {
+            return Some(place);
+        }
+    }
+    None
 }
 
 impl Table {
@@ -40,64 +115,160 @@ impl Table {
         ensures { result ≡ record { width = width; rows = [] } }
     {
         Table {
-            width,
-            rows: IndexSet::new(alloc),
+            sorted: 0,
+            rows: Rows::new(alloc, width),
+            chains: Chains::new(alloc),
+            indexes: Vec::new(alloc),
         }
     }
 
-    /// How many columns it has.
+    /// A table of these rows, which ascend.
+    pub fn from_sorted(alloc: Global, rows: Rows) -> Table
+        requires ascend { NumbersAscend rows.rows }
+        ensures { result ≡ rows }
+    {
+        Table {
+            sorted: rows.count(),
+            rows,
+            chains: Chains::new(alloc),
+            indexes: Vec::new(alloc),
+        }
+    }
+
     pub fn width(&self) -> u32
         ensures { result ≡ self.now.width }
     {
-        self.width
+        self.rows.width()
     }
 
-    /// The rows, in order of adding.
-    pub fn rows(&self) -> &[Row]
-        ensures { result.now ≡ self.now.rows }
+    pub fn count(&self) -> u32
+        ensures { result ≡ length self.now.rows }
     {
-        self.rows.as_slice()
+        self.rows.count()
     }
 
-    /// Whether the row is there.
-    pub fn contains(&self, row: &Row) -> bool
-        ensures { IsTrue result ↔ (row.now ∈ self.now.rows) }
+    /// The numbers of a row, lent.
+    pub fn row(&self, place: u32) -> &[u32]
+        requires { place < length self.now.rows }
+        ensures row { result.now ≡ numbers_at self.now.rows place }
+        ensures width { length result.now ≡ self.now.width }
     {
-        self.rows.contains(row)
+        self.rows.row(place)
     }
 
-    /// One row more, where it is new. Answers whether it is new.
-    pub fn add(&mut self, row: Row) -> Result<bool, AllocError>
-        ensures is_new { IfOk result (λ b. MatchBool b (¬ (row ∈ self.old.rows)) (row ∈ self.old.rows)) }
-        ensures added { IfOk result (λ b. MatchBool b (self.new ≡ with_row self.old row) (self.new ≡ self.old)) }
+    /// The place of a row, if it is there.
+    pub fn find(&self, row: &[u32]) -> Option<u32>
+        ensures { IsPlaceOf self.now.rows self.now.rows row.now result }
+    {
+        if let Some(place) = find_sorted(&self.rows, self.sorted, row) {
+            return Some(place);
+        }
+        find_later(&self.rows, self.sorted, &self.chains, row)
+    }
+
+    /// One row more, if it is new. Answers whether it is new.
+    pub fn add(&mut self, row: &[u32]) -> Result<bool, AllocError>
+        requires width { length row.now ≡ self.old.width }
+        requires room { length self.old.rows < 2 ^ 32 - 1 }
+        ensures is_new { IfOk result (λ b. MatchBool b (¬ (row.now ∈ self.old.rows)) (row.now ∈ self.old.rows)) }
+        ensures added { IfOk result (λ b. MatchBool b (self.new ≡ with_numbers self.old row.now) (self.new ≡ self.old)) }
         ensures err { OnErr result (self.new ≡ self.old) }
     {
-        let is_new = self.rows.insert(row)?;
-        Ok(is_new)
-    }
-
-    // A table with copies of the rows, in the same order.
-    fn copy(&self, alloc: Global) -> Result<Table, AllocError>
-        requires { Distinct self.now.rows }
-        ensures { IfOk result (λ t. t ≡ self.now) }
-    {
-        let mut rows = IndexSet::new(alloc);
-        for row in self.rows() {
-            rows.insert(copy_row(alloc, row.items())?)?;
+        if let Some(_) = self.find(row) {
+            return Ok(false);
         }
-        Ok(Table {
-            width: self.width,
-            rows,
-        })
+        self.indexes.clear();
+        self.rows.push_keyed(row, &mut self.chains, row_key(row))?;
+        Ok(true)
     }
 
-    /// A table with copies of the rows, ascending.
-    pub fn sorted(&self, alloc: Global) -> Result<Table, AllocError>
-        requires { Distinct self.now.rows }
-        ensures { IfOk result (IsTableSorting self.now) }
+    /// The table of these rows: they are put in order, each once.
+    ///
+    /// # Errors
+    ///
+    /// `AllocError` if there is no memory.
+    pub fn from_rows(alloc: Global, rows: Rows) -> Result<Table, AllocError>
+        ensures { IfOk result (IsPut rows) }
     {
-        let mut table = self.copy(alloc)?;
-        table.rows.sort()?;
-        Ok(table)
+        let rows = rows.into_order(alloc)?;
+        let _wide = rows.count();
+        Ok(Table::from_sorted(alloc, rows))
+    }
+
+    /// The rows alone.
+    pub fn into_rows(self) -> Rows
+        ensures { result ≡ self }
+    {
+        self.rows
+    }
+
+    /// A copy of the rows.
+    ///
+    /// # Errors
+    ///
+    /// `AllocError` if there is no memory.
+    pub fn rows_copy(&self, alloc: Global) -> Result<Rows, AllocError>
+        ensures { IfOk result (λ r. r ≡ self.now) }
+    {
+        self.rows.copy(alloc)
+    }
+
+    /// The rows with other numbers: `images` has one for each number.
+    ///
+    /// # Errors
+    ///
+    /// `AllocError` if there is no memory.
+    pub fn renumbered(&self, alloc: Global, images: &[u32]) -> Result<Rows, AllocError>
+        requires { Each self.now.rows (AreBelow (length images.now)) }
+        ensures { IfOk result (λ r. r ≡ renumbered images.now self.now) }
+    {
+        self.rows.renumbered(alloc, images)
+    }
+
+    /// Whether the rows are known to ascend.
+    pub fn is_ascending(&self) -> bool
+        ensures { OnTrue result (NumbersAscend self.now.rows) }
+    {
+        self.sorted == self.rows.count()
+    }
+
+    /// Makes an index of a column, if there is none. Nothing else changes.
+    ///
+    /// # Errors
+    ///
+    /// `AllocError` if there is no memory.
+    pub fn index(&mut self, alloc: Global, column: u32) -> Result<(), AllocError>
+        requires { column < self.old.width }
+        ensures { self.new ≡ self.old }
+    {
+        if index_of(&self.indexes, column).is_none() {
+            let index = ColumnIndex::new(alloc, &self.rows, column)?;
+            self.indexes.push(index)?;
+        }
+        Ok(())
+    }
+
+    /// The place of the first of these columns that has an index, and else 0.
+    pub fn indexed_among(&self, columns: &[u32]) -> usize
+        requires { 0 < length columns.now }
+        ensures { result < length columns.now }
+    {
+        for i in 0..columns.len() {
+            if index_of(&self.indexes, columns[i]).is_some() {
+                return i;
+            }
+        }
+        0
+    }
+
+    /// The least place from `from` on whose row has the number in the column.
+    pub fn next_with(&self, column: u32, number: u32, from: u32) -> Option<u32>
+        requires { column < self.now.width }
+        ensures { IsNext self.now.rows column number from result }
+    {
+        match index_of(&self.indexes, column) {
+            Some(index) => index.next(number, from),
+            None => next_in(&self.rows, column, number, from),
+        }
     }
 }

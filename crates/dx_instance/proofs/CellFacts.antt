@@ -1,0 +1,110 @@
+-- Rows of numbers that lie one behind the other.
+use Rattle.std.proofs.Common.{◌≡◌, ◌∙◌, ◌+◌, ◌*◌, ◌<◌, ◌≤◌, ◌-◌, ◌++◌, ◌∷◌, ℕ, zero, suc, List, [], refl, sym, ap, subst, arith, length, get_or, take, drop, map, inl, inr, add-one, not, false}
+use Rattle.std.specs.Bool.{◌==◌}
+use Rattle.std.specs.Ordering.{ordering_index}
+use Rattle.std.specs.declared.cmp.Ordering.{Ordering}
+use Rattle.std.specs.declared.cmp.Ordering.TheVariants.{Less, Equal, Greater}
+use Rattle.std.proofs.lemmas.Bool.{cases_lt}
+use Rattle.std.proofs.lemmas.Cmp.{nat_list_cmp_total}
+use Rattle.std.proofs.lemmas.List.{length-drop, length-take-le, get_or-take, get_or-drop, get_or_default, take-map, drop-map, take_more, drop-drop, take_all, take-append-le, drop-append-le, nil_from_length}
+use Rattle.std.proofs.lemmas.List.Quantifiers.{all_pairs_push}
+use Rattle.dx_ports.specs.Members.{◌∈◌, here, there, Each}
+use Rattle.dx_ports.proofs.Members.{in_at}
+use Rattle.dx_instance.specs.Cells.{NumberTable, NumbersAscend, rows_in, numbers_at}
+use Rattle.dx_instance.specs.Shown.{AreBelow, renumbered}
+use Rattle.dx_instance.proofs.TableFacts.{numbers_cmp}
+
+pub length_rows : (n w : ℕ) (cells : List ℕ) → length (rows_in n w cells) ≡ n
+length_rows zero w cells = refl
+length_rows (suc n) w cells = ap suc (length_rows n w (drop w cells))
+
+pub row_is : (n w : ℕ) (cells : List ℕ) (p d : ℕ) → p < n → d ≡ p * w → numbers_at (rows_in n w cells) p ≡ take w (drop d cells)
+row_is zero w cells p d h e = absurd (omega arith)
+row_is (suc n) w cells zero d h e = let z : d ≡ 0 = omega (arith, e) in rw z refl
+row_is (suc n) w cells (suc p) d h e =
+    let s : w + p * w ≡ d = omega (arith, e) in
+    row_is n w (drop w cells) p (p * w) (omega arith) refl ∙ ap (λ (l : List ℕ). take w l) (drop-drop (p * w) w cells ∙ ap (λ (m : ℕ). drop m cells) s)
+
+rows_more : (n w : ℕ) (cells row : List ℕ) → length cells ≡ n * w → length row ≡ w → rows_in (suc n) w (cells ++ row) ≡ rows_in n w cells ++ row ∷ []
+rows_more zero w cells row e l =
+    let none : cells ≡ [] = nil_from_length cells (omega (arith, e)) in
+    rw none (ap (λ (r : List ℕ). r ∷ []) (take_all w row (omega (arith, l))))
+rows_more (suc n) w cells row e l =
+    let long : w ≤ length cells = omega (arith, e) in
+    let rest : length (drop w cells) ≡ n * w = omega (arith, e, length-drop w cells) in
+    rw (take-append-le w cells row long, drop-append-le w cells row long) (ap (λ (rs : List (List ℕ)). take w cells ∷ rs) (rows_more n w (drop w cells) row rest l))
+
+pub rows_push : (n w : ℕ) (cells row : List ℕ) → length cells ≡ n * w → length row ≡ w → rows_in (n + 1) w (cells ++ row) ≡ rows_in n w cells ++ row ∷ []
+rows_push n w cells row e l = rw add-one (rows_more n w cells row e l)
+
+-- a row lies within the cells
+pub row_within : (n w p : ℕ) → p < n → p * w + w ≤ n * w
+row_within (suc n) w zero h = omega arith
+row_within zero w p h = absurd (omega arith)
+row_within (suc n) w (suc p) h = let r = row_within n w p (omega arith) in omega (arith, r)
+
+-- each row has as many cells as the width
+pub rows_wide : (n w : ℕ) (cells : List ℕ) → length cells ≡ n * w → Each (rows_in n w cells) (λ (r : List ℕ). length r ≡ w)
+rows_wide zero w cells e r m = elim m [ ]
+rows_wide (suc n) w cells e r (here q) = rw (← q) (length-take-le w cells (omega (arith, e)))
+rows_wide (suc n) w cells e r (there m) = rows_wide n w (drop w cells) (omega (arith, e, length-drop w cells)) r m
+
+-- a cell stands in some row
+in_rows : (n w : ℕ) (cells : List ℕ) (i x : ℕ) → length cells ≡ n * w → i < length cells → x ≡ get_or cells i x → (r : List ℕ) × (r ∈ rows_in n w cells) × (x ∈ r)
+in_rows zero w cells i x e h q = absurd (omega (arith, e))
+in_rows (suc n) w cells i x e h q = elim (cases_lt i w) [
+  | inl b ↦
+      let l = length-take-le w cells (omega (arith, e)) in
+      (take w cells, here refl, subst (λ (y : ℕ). y ∈ take w cells) (get_or-take w cells i x b ∙ sym q) (in_at (take w cells) i x (omega (arith, l))))
+  | inr b ↦
+      let s : w + (i - w) ≡ i = omega (arith, b) in
+      let k : x ≡ get_or (drop w cells) (i - w) x = q ∙ sym (get_or-drop w cells (i - w) x ∙ ap (λ (j : ℕ). get_or cells j x) s) in
+      let r = in_rows n w (drop w cells) (i - w) x (omega (arith, e, length-drop w cells)) (omega (arith, h, length-drop w cells)) k in
+      (r.0, there r.1, r.2)
+]
+
+pub cell_below : (t : NumberTable) (n w : ℕ) (cells : List ℕ) (i x b : ℕ) → ◌≡◌ {A = NumberTable} (record { width = w; rows = rows_in n w cells }) t → length cells ≡ n * w → Each t.rows (AreBelow b) → i < length cells → x ≡ get_or cells i x → x < b
+cell_below t n w cells i x b v e f h q =
+    let r = in_rows n w cells i x e h q in
+    f r.0 (subst (λ (u : NumberTable). r.0 ∈ u.rows) v r.1) x r.2
+
+rows_map : (f : ℕ → ℕ) (n w : ℕ) (cells : List ℕ) → rows_in n w (map f cells) ≡ map (λ (r : List ℕ). map f r) (rows_in n w cells)
+rows_map f zero w cells = refl
+rows_map f (suc n) w cells =
+    let rest = ap (λ (l : List ℕ). rows_in n w l) (drop-map f w cells) ∙ rows_map f n w (drop w cells) in
+    let first = take-map f w cells in
+    cc (first, rest)
+
+pub renumbered_is : (t : NumberTable) (n w : ℕ) (cells ranks : List ℕ) → ◌≡◌ {A = NumberTable} (record { width = w; rows = rows_in n w cells }) t
+    → ◌≡◌ {A = NumberTable} (record { width = w; rows = rows_in n w (map (λ (x : ℕ). get_or ranks x 0) cells) }) (renumbered ranks t)
+renumbered_is t n w cells ranks v =
+    rw (← v) (ap (λ (rs : List (List ℕ)). let u : NumberTable = record { width = w; rows = rs } in u) (rows_map (λ (x : ℕ). get_or ranks x 0) n w cells))
+
+pub ascends_first : (rows : List (List ℕ)) → NumbersAscend (take 1 rows)
+ascends_first [] i j d h k = absurd (omega arith)
+ascends_first (r ∷ rows) i j d h k = absurd (omega arith)
+
+-- one row more that is above the one before it
+pub ascends_more : (rows : List (List ℕ)) (i : ℕ) (a b : List ℕ) → 0 < i → i < length rows → a ≡ numbers_at rows (i - 1) → b ≡ numbers_at rows i → numbers_cmp a b ≡ Less → NumbersAscend (take i rows) → NumbersAscend (take (i + 1) rows)
+ascends_more rows i a b z h p q l up = rw (take_more rows i [] h) (all_pairs_push (λ r s. numbers_cmp r s ≡ Less) (take i rows) (numbers_at rows i) up under)
+  where
+    less : numbers_cmp (numbers_at rows (i - 1)) (numbers_at rows i) ≡ Less
+    less = rw (← p, ← q) l
+
+    before : (d : List ℕ) → get_or (take i rows) (i - 1) d ≡ numbers_at rows (i - 1)
+    before d = get_or-take i rows (i - 1) d (omega (arith, z)) ∙ get_or_default rows (i - 1) d [] (omega (arith, h))
+
+    under : (k : ℕ) (d : List ℕ) → k < length (take i rows) → numbers_cmp (get_or (take i rows) k d) (numbers_at rows i) ≡ Less
+    under k d c =
+        let m = length-take-le i rows (omega (arith, h)) in
+        elim (cases_lt k (i - 1)) [
+          | inl b ↦
+              let f = up k (i - 1) d b (omega (arith, m, z)) in
+              nat_list_cmp_total.trans (get_or (take i rows) k d) (numbers_at rows (i - 1)) (numbers_at rows i) (rw (before d) at f) less
+          | inr b ↦ let s : k ≡ i - 1 = omega (arith, b, c, m) in rw (s, before d) less
+        ]
+
+pub is_less : (o : Ordering) → not (ordering_index o == 0) ≡ false → o ≡ Less
+is_less Less e = refl
+is_less Equal e = absurd (cc e)
+is_less Greater e = absurd (cc e)

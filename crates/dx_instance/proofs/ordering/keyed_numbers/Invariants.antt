@@ -1,0 +1,5 @@
+use Rattle.dx_instance.specs.Keys.{ValuesAreKeyed}
+use Rattle.dx_instance.proofs.ordering.keyed_numbers.Given as goal
+
+abbrev pub invariant-loop-number : goal.invariant-loop-number
+invariant-loop-number l = ValuesAreKeyed l.symbols l.keys.items l.number

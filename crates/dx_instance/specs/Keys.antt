@@ -1,0 +1,61 @@
+-- Numbers that compare as the first items of a list: lists are sorted by these first.
+use Rattle.std.specs.Prelude.{◌≡◌, ℕ, zero, suc, ◌+◌, ◌-◌, ◌*◌, ◌^◌, ◌<◌, List, [], ◌∷◌, length, map, slice_index, slice_index_or}
+use Rattle.dx_model.specs.declared.values.Value.{Value}
+use Rattle.dx_model.specs.declared.values.Value.TheVariants.{Const, Null}
+use Rattle.dx_ports.specs.Members.{◌∈◌}
+use Rattle.dx_instance.specs.Cells.{numbers_at}
+use Rattle.dx_instance.specs.Numbers.{ValuesAscend, value_of}
+
+-- the first n numbers of a list as digits to the base b, after the digits of p
+abbrev pub packed : ℕ → ℕ → ℕ → List ℕ → ℕ
+packed b zero p xs = p
+packed b (suc n) p [] = packed b n (p * b) []
+packed b (suc n) p (x ∷ xs) = packed b n (p * b + x) xs
+
+-- the first n numbers are below b
+abbrev pub AreSmall : ℕ → ℕ → List ℕ → Type 0
+AreSmall b n xs = (i : ℕ) → i < n → slice_index xs i < b
+
+-- the places of keys
+abbrev pub places_of : List (ℕ × ℕ) → List ℕ
+places_of keys = map (λ (k : ℕ × ℕ). k.1) keys
+
+-- the first two numbers of a row in one
+abbrev pub two_of : List ℕ → ℕ
+two_of row = packed (2 ^ 32) 2 0 row
+
+abbrev pub IsSmallRow : List ℕ → Type 0
+IsSmallRow row = AreSmall (2 ^ 32) 2 row
+
+-- the first eight bytes of a constant in one; nulls come last
+abbrev pub value_key : Value → ℕ
+value_key (Const t) = packed 256 8 0 t
+value_key (Null n) = 2 ^ 64 - 1
+
+abbrev pub IsSmallValue : Value → Type 0
+IsSmallValue (Const t) = AreSmall 256 8 t × (packed 256 8 0 t < 2 ^ 64)
+IsSmallValue (Null n) = Unit {0}
+
+-- the key of the item at a place, and the place
+pub record IsKeyed {X : Type 0} (at : ℕ → X) (key : X → ℕ) (Small : X → Type 0) (p : ℕ) (k : ℕ × ℕ) : Type 0 where
+  pub key_is : k.0 ≡ key (at p)
+  pub place_is : k.1 ≡ p
+  pub small : Small (at p)
+
+-- the keys of the first n items
+pub record AreKeyed {X : Type 0} (at : ℕ → X) (key : X → ℕ) (Small : X → Type 0) (keys : List (ℕ × ℕ)) (n : ℕ) : Type 0 where
+  pub many : length keys ≡ n
+  pub all : (k : ℕ) → k < n → IsKeyed at key Small k (slice_index_or keys k (0, 0))
+
+abbrev pub RowsAreKeyed : List (List ℕ) → List (ℕ × ℕ) → ℕ → Type 0
+RowsAreKeyed rows keys n = AreKeyed (numbers_at rows) two_of IsSmallRow keys n
+
+abbrev pub ValuesAreKeyed : List Value → List (ℕ × ℕ) → ℕ → Type 0
+ValuesAreKeyed symbols keys n = AreKeyed (value_of symbols) value_key IsSmallValue keys n
+
+-- all numbers in the order of their values
+pub record AreSorted (symbols : List Value) (numbers : List ℕ) : Type 0 where
+  pub many : length numbers ≡ length symbols
+  pub within : (k : ℕ) → k < length numbers → slice_index numbers k < length symbols
+  pub all : (n : ℕ) → n < length symbols → n ∈ numbers
+  pub ascend : ValuesAscend (map (value_of symbols) numbers)

@@ -1,0 +1,231 @@
+// Rows of numbers, one after the other.
+ghost use Rattle.std.specs.Prelude.{◌≡◌, ◌<◌, ◌-◌, ◌^◌, ℕ, List, [], ◌∷◌, ◌++◌, IfOk, OnOk, OnErr, IsTrue, ◌↔◌, length, slice_index};
+ghost use Rattle.std.specs.Bool.{OnTrue};
+ghost use Rattle.dx_ports.specs.Members.{Each};
+ghost use Rattle.dx_instance.specs.Chains.{AreChains};
+ghost use Rattle.dx_instance.specs.Cells.{AreInOrder, IsOrderOf, NumbersAscend, numbers_at, with_numbers};
+ghost use Rattle.dx_instance.specs.Keys.{AreSmall, RowsAreKeyed, packed, places_of};
+ghost use Rattle.dx_instance.specs.Shown.{AreBelow, renumbered};
+
+use crate::chains::Chains;
+use std::alloc::{AllocError, Global};
+use std::cmp::Ordering;
+use std::marker::Model;
+
+/// Rows of one width. A contract sees the list of the rows.
+#[derive(Drop)]
+pub struct Rows {
+    width: u32,
+    count: u32,
+    cells: Vec<u32>,
+}
+
+impl Model for Rows {
+    ghost use Rattle.std.specs.Prelude.{◌≡◌, ◌*◌, length};
+    ghost use Rattle.dx_instance.specs.Cells.{NumberTable, rows_in};
+
+    ghost Value = { NumberTable };
+
+    ghost view = { λ r. record { width = r.width; rows = rows_in r.count r.width r.cells.items } };
+
+    ghost invariant = { λ r. length r.cells.items ≡ r.count * r.width };
+}
+
+impl Rows {
+    /// No rows.
+    pub fn new(alloc: Global, width: u32) -> Rows
+        ensures { result ≡ record { width = width; rows = [] } }
+    {
+        Rows {
+            width,
+            count: 0,
+            cells: Vec::new(alloc),
+        }
+    }
+
+    pub fn width(&self) -> u32
+        ensures { result ≡ self.now.width }
+    {
+        self.width
+    }
+
+    pub fn count(&self) -> u32
+        ensures count { result ≡ length self.now.rows }
+
+        // What holds of all rows.
+        ensures wide { Each self.now.rows (λ r. length r ≡ self.now.width) }
+        ensures few { length self.now.rows < 2 ^ 32 }
+    {
+        self.count
+    }
+
+    /// The numbers of a row, lent.
+    pub fn row(&self, place: u32) -> &[u32]
+        requires { place < length self.now.rows }
+        ensures row { result.now ≡ numbers_at self.now.rows place }
+        ensures width { length result.now ≡ self.now.width }
+    {
+        let width = self.width as usize;
+        let start = place as usize * width;
+        &self.cells[start..start + width]
+    }
+
+    /// One row more, at the end.
+    pub fn push(&mut self, row: &[u32]) -> Result<(), AllocError>
+        requires width { length row.now ≡ self.old.width }
+        requires room { length self.old.rows < 2 ^ 32 - 1 }
+        ensures ok { OnOk result (self.new ≡ with_numbers self.old row.now) }
+        ensures err { OnErr result (self.new ≡ self.old) }
+    {
+        self.cells.extend_from_slice(row)?;
+        self.count += 1;
+        Ok(())
+    }
+
+    /// One row more, at the end, and its key in the chains.
+    pub(crate) fn push_keyed(
+        &mut self,
+        row: &[u32],
+        chains: &mut Chains,
+        key: u64,
+    ) -> Result<(), AllocError>
+        requires width { length row.now ≡ self.old.width }
+        requires room { length self.old.rows < 2 ^ 32 - 1 }
+        requires keys { length chains.old.before.items < 2 ^ 32 - 1 }
+        ensures ok { OnOk result (self.new ≡ with_numbers self.old row.now) }
+        ensures chained { OnOk result ((keys : List ℕ) → AreChains chains.old keys → AreChains chains.new (keys ++ key ∷ [])) }
+        ensures err { OnErr result (self.new ≡ self.old) }
+        ensures same { OnErr result ((keys : List ℕ) → AreChains chains.old keys → AreChains chains.new keys) }
+    {
+        self.cells.reserve(row.len())?;
+        chains.push(key)?;
+        let _ = self.cells.extend_from_slice(row);
+        self.count += 1;
+        Ok(())
+    }
+
+    // The numbers of a row, and none if there is no such row.
+    fn row_or_none(&self, place: u32) -> &[u32]
+        ensures { result.now ≡ numbers_at self.now.rows place }
+    {
+        if place < self.count {
+            self.row(place)
+        } else {
+            &[]
+        }
+    }
+
+    // The place of each row, with a key that compares as the first two numbers of the row.
+    fn keyed_places(&self, alloc: Global) -> Result<Vec<(u64, u32)>, AllocError>
+        ensures { IfOk result (λ keys. RowsAreKeyed self.now.rows keys.items (length self.now.rows)) }
+    {
+        let mut keys = Vec::with_capacity(alloc, self.count as usize)?;
+        for place in 0..self.count {
+            keys.push((first_two(self.row(place)), place))?;
+        }
+        Ok(keys)
+    }
+
+    // The places in the order of their rows, with their keys.
+    fn places_in_order(&self, alloc: Global) -> Result<Vec<(u64, u32)>, AllocError>
+        ensures { IfOk result (λ keys. AreInOrder self.now.rows (places_of keys.items)) }
+    {
+        let mut keys = self.keyed_places(alloc)?;
+        keys.sort_unstable_by(|a, b| match a.0.cmp(&b.0) {
+            Ordering::Equal => self.row_or_none(a.1).cmp(&self.row_or_none(b.1)),
+            other => other,
+        });
+        Ok(keys)
+    }
+
+    // Whether the last row is this one.
+    fn ends_with(&self, row: &[u32]) -> bool
+        ensures { IsTrue result ↔ ((0 < length self.now.rows) × (numbers_at self.now.rows (length self.now.rows - 1) ≡ row.now)) }
+    {
+        let count = self.count();
+        count > 0 && self.row(count - 1) == row
+    }
+
+    /// The same rows in order, each once.
+    pub fn in_order(&self, alloc: Global) -> Result<Rows, AllocError>
+        ensures { IfOk result (λ r. IsOrderOf self.now r) }
+    {
+        let places = self.places_in_order(alloc)?;
+        let mut rows = Rows::new(alloc, self.width);
+        for i in 0..self.count {
+            let row = self.row(places[i as usize].1);
+            if !rows.ends_with(row) {
+                rows.push(row)?;
+            }
+        }
+        Ok(rows)
+    }
+
+    // Whether each row is below the next.
+    fn is_ascending(&self) -> bool
+        ensures { OnTrue result (NumbersAscend self.now.rows) }
+    {
+        for place in 1..self.count {
+            if self.row(place - 1).cmp(&self.row(place)) != Ordering::Less {
+                return false;
+            }
+        }
+        true
+    }
+
+    /// The same rows in order, each once. Rows that ascend already are only gone through.
+    pub(crate) fn into_order(self, alloc: Global) -> Result<Rows, AllocError>
+        ensures { IfOk result (λ r. IsOrderOf self r) }
+    {
+        if self.is_ascending() {
+            return Ok(self);
+        }
+        self.in_order(alloc)
+    }
+
+    /// The rows with ranks in the place of numbers.
+    pub fn renumbered(&self, alloc: Global, ranks: &[u32]) -> Result<Rows, AllocError>
+        requires { Each self.now.rows (AreBelow (length ranks.now)) }
+        ensures { IfOk result (λ r. r ≡ renumbered ranks.now self.now) }
+    {
+        let mut cells = Vec::with_capacity(alloc, self.cells.len())?;
+        for cell in self.cells.as_slice() {
+            cells.push(ranks[*cell as usize])?;
+        }
+        Ok(Rows {
+            width: self.width,
+            count: self.count,
+            cells,
+        })
+    }
+
+    /// A copy.
+    pub(crate) fn copy(&self, alloc: Global) -> Result<Rows, AllocError>
+        ensures { IfOk result (λ r. r ≡ self.now) }
+    {
+        let mut cells = Vec::new(alloc);
+        cells.extend_from_slice(&self.cells)?;
+        Ok(Rows {
+            width: self.width,
+            count: self.count,
+            cells,
+        })
+    }
+}
+
+// The number at a place of a row, and 0 if the row is shorter.
+fn number_or_zero(row: &[u32], place: usize) -> u32
+    ensures { result ≡ slice_index row.now place }
+{
+    if place < row.len() { row[place] } else { 0 }
+}
+
+// A number that compares as the first two numbers of the row.
+fn first_two(row: &[u32]) -> u64
+    ensures key { result ≡ packed (2 ^ 32) 2 0 row.now }
+    ensures small { AreSmall (2 ^ 32) 2 row.now }
+{
+    let first = number_or_zero(row, 0);
+    let second = number_or_zero(row, 1);
+    first as u64 * 4_294_967_296 + second as u64
+}

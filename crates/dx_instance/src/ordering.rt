@@ -1,0 +1,234 @@
+// Values put in order, their texts in one buffer.
+ghost use Rattle.std.specs.Prelude.{◌≡◌, ◌≤◌, ◌+◌, ◌<◌, ◌^◌, ℕ, IfOk, OnOk, length, map, slice_index, slice_index_or, string_bytes, take, drop, ◌++◌};
+ghost use Rattle.dx_ports.specs.Members.{Each};
+ghost use Rattle.dx_instance.specs.Keys.{AreSmall, AreSorted, IsSmallValue, ValuesAreKeyed, packed, places_of, value_key};
+ghost use Rattle.dx_instance.specs.Numbers.{AreApart, IsOrdering, value_of};
+ghost use Rattle.dx_instance.specs.Ranks.{AreRanked, joined_texts, text_of};
+
+use crate::symbols::Symbols;
+use dx_model::{NullId, Value, copy_value};
+use dx_ports::Text;
+use std::alloc::{AllocError, Global};
+use std::cmp::Ordering;
+use std::rc::Rc;
+
+/// Values in order, and the place of each number that they had before.
+#[derive(Drop)]
+pub struct Ordered {
+    pub symbols: Symbols,
+    pub ranks: Vec<u32>,
+}
+
+// The byte at a place of a text, and 0 if the text is shorter.
+fn byte_or_zero(text: &[u8], place: usize) -> u8
+    ensures { result ≡ slice_index text.now place }
+{
+    if place < text.len() { text[place] } else { 0 }
+}
+
+// A number that compares as the first eight bytes of a text.
+fn first_bytes(text: &[u8]) -> u64
+    ensures key { result ≡ packed 256 8 0 text.now }
+    ensures small { AreSmall 256 8 text.now }
+{
+    let mut key = 0u64;
+    for i in 0..8usize {
+        key = key * 256 + byte_or_zero(text, i) as u64;
+    }
+    key
+}
+
+// A number that compares as the first bytes of a value's text. Nulls come last.
+fn key_of(value: &Value) -> u64
+    ensures key { result ≡ value_key value.now }
+    ensures small { IsSmallValue value.now }
+{
+    match value {
+        Value::Const(text) => first_bytes(text.bytes()),
+        Value::Null(_) => u64::MAX,
+    }
+}
+
+// Each number, with a key that compares as the first bytes of its value.
+fn keyed_numbers(alloc: Global, symbols: &Symbols) -> Result<Vec<(u64, u32)>, AllocError>
+    ensures keyed { IfOk result (λ keys. ValuesAreKeyed symbols.now keys.items (length symbols.now)) }
+    ensures apart { AreApart symbols.now }
+    ensures few { length symbols.now < 2 ^ 32 }
+{
+    let count = symbols.len();
+    let mut keys = Vec::with_capacity(alloc, count as usize)?;
+    for number in 0..count {
+        keys.push((key_of(symbols.value(number)), number as u32))?;
+    }
+    Ok(keys)
+}
+
+// The value under a number, and `blank` if there is none.
+fn value_or<'a>(symbols: &'a Symbols, number: u32, blank: &'a Value) -> &'a Value
+    ensures { result.now ≡ slice_index_or symbols.now number blank.now }
+{
+    if (number as u64) < symbols.len() {
+        symbols.value(number as u64)
+    } else {
+        blank
+    }
+}
+
+// The numbers in the order of their values, with their keys.
+fn numbers_in_order(alloc: Global, symbols: &Symbols) -> Result<Vec<(u64, u32)>, AllocError>
+    ensures sorted { IfOk result (λ keys. AreSorted symbols.now (places_of keys.items)) }
+    ensures few { length symbols.now < 2 ^ 32 }
+{
+    let blank = Value::Null(NullId {
+        rule: 0,
+        var: 0,
+        row: 0,
+    });
+    let mut keys = keyed_numbers(alloc, symbols)?;
+    keys.sort_unstable_by(|a, b| match a.0.cmp(&b.0) {
+        Ordering::Equal => value_or(symbols, a.1, &blank).order(value_or(symbols, b.1, &blank)),
+        other => other,
+    });
+    Ok(keys)
+}
+
+// The place of each number.
+fn ranks_of(alloc: Global, keys: &[(u64, u32)]) -> Result<Vec<u32>, AllocError>
+    requires few { length keys.now < 2 ^ 32 }
+    requires within { (k : ℕ) → k < length keys.now → slice_index (places_of keys.now) k < length keys.now }
+    ensures many { IfOk result (λ ranks. length ranks.items ≡ length keys.now) }
+    ensures ranked { IfOk result (λ ranks. AreRanked (places_of keys.now) ranks.items (length keys.now)) }
+{
+    let mut ranks = vec![in alloc; 0u32; keys.len()]?;
+    for i in 0..keys.len() {
+        ranks[keys[i].1 as usize] = i as u32;
+    }
+    Ok(ranks)
+}
+
+// Puts the text of a value at the end of a buffer. A null has none.
+fn push_text(buffer: &mut String, value: &Value) -> Result<(), AllocError>
+    ensures { OnOk result (string_bytes buffer.new ≡ string_bytes buffer.old ++ text_of value.now) }
+{
+    if let Value::Const(text) = value {
+        buffer.push_str(text.as_str())?;
+    }
+    Ok(())
+}
+
+// The texts of the values under these numbers, one after the other.
+fn texts_in_order(
+    alloc: Global,
+    symbols: &Symbols,
+    keys: &[(u64, u32)],
+) -> Result<String, AllocError>
+    requires { Each (places_of keys.now) (λ n. n < length symbols.now) }
+    ensures { IfOk result (λ buffer. string_bytes buffer ≡ joined_texts (map (value_of symbols.now) (places_of keys.now))) }
+{
+    let mut buffer = String::new(alloc);
+    for key in keys {
+        push_text(&mut buffer, symbols.value(key.1 as u64))?;
+    }
+    Ok(buffer)
+}
+
+// How many bytes the text of a value has.
+fn text_length(value: &Value) -> usize
+    ensures { result ≡ length (text_of value.now) }
+{
+    match value {
+        Value::Const(text) => text.bytes().len(),
+        Value::Null(_) => 0,
+    }
+}
+
+// The value whose text stands in the buffer from `start` on.
+fn value_in(buffer: &Rc<String>, start: usize, value: &Value) -> Result<Value, AllocError>
+    requires few { length (string_bytes buffer.now.value) < 2 ^ 32 }
+    requires within { start + length (text_of value.now) ≤ length (string_bytes buffer.now.value) }
+    requires text { take (length (text_of value.now)) (drop start (string_bytes buffer.now.value)) ≡ text_of value.now }
+    ensures { IfOk result (λ v. v ≡ value.now) }
+{
+    match value {
+        Value::Const(text) => {
+            let end = start + text.bytes().len();
+            Ok(Value::Const(Text::part(buffer, start as u32, end as u32)?))
+        }
+        Value::Null(null) => Ok(Value::Null(*null)),
+    }
+}
+
+// The values under these numbers, their texts in this buffer.
+fn values_in(
+    alloc: Global,
+    symbols: &Symbols,
+    keys: &[(u64, u32)],
+    buffer: &Rc<String>,
+) -> Result<Vec<Value>, AllocError>
+    requires below { Each (places_of keys.now) (λ n. n < length symbols.now) }
+    requires few { length (string_bytes buffer.now.value) < 2 ^ 32 }
+    requires texts { string_bytes buffer.now.value ≡ joined_texts (map (value_of symbols.now) (places_of keys.now)) }
+    ensures { IfOk result (λ values. values.items ≡ map (value_of symbols.now) (places_of keys.now)) }
+{
+    let mut values = Vec::with_capacity(alloc, keys.len())?;
+    let mut start = 0usize;
+    for key in keys {
+        let value = symbols.value(key.1 as u64);
+        values.push(value_in(buffer, start, value)?)?;
+        start += text_length(value);
+    }
+    Ok(values)
+}
+
+// Copies of the values under these numbers.
+fn copies_in_order(
+    alloc: Global,
+    symbols: &Symbols,
+    keys: &[(u64, u32)],
+) -> Result<Vec<Value>, AllocError>
+    requires { Each (places_of keys.now) (λ n. n < length symbols.now) }
+    ensures { IfOk result (λ values. values.items ≡ map (value_of symbols.now) (places_of keys.now)) }
+{
+    let mut values = Vec::with_capacity(alloc, keys.len())?;
+    for key in keys {
+        values.push(copy_value(symbols.value(key.1 as u64))?)?;
+    }
+    Ok(values)
+}
+
+// The values under these numbers. Their texts lie in one new buffer in this order, if they have fewer than 2^32 bytes
+// together.
+fn values_in_order(
+    alloc: Global,
+    symbols: &Symbols,
+    keys: &[(u64, u32)],
+) -> Result<Vec<Value>, AllocError>
+    requires { Each (places_of keys.now) (λ n. n < length symbols.now) }
+    ensures { IfOk result (λ values. values.items ≡ map (value_of symbols.now) (places_of keys.now)) }
+{
+    let texts = texts_in_order(alloc, symbols, keys)?;
+    if texts.len() >= 4_294_967_296 {
+        return copies_in_order(alloc, symbols, keys);
+    }
+    let Ok(buffer) = Rc::new(alloc, texts) else {
+        return Err(AllocError);
+    };
+    values_in(alloc, symbols, keys, &buffer)
+}
+
+/// All values in order, and the place of each number there.
+///
+/// # Errors
+///
+/// `AllocError` if there is no memory.
+pub(crate) fn in_order(alloc: Global, symbols: &Symbols) -> Result<Ordered, AllocError>
+    ensures { IfOk result (λ o. IsOrdering symbols.now o.symbols o.ranks.items) }
+{
+    let keys = numbers_in_order(alloc, symbols)?;
+    let ranks = ranks_of(alloc, &keys)?;
+    let values = values_in_order(alloc, symbols, &keys)?;
+    Ok(Ordered {
+        symbols: Symbols::from_ordered(alloc, values),
+        ranks,
+    })
+}

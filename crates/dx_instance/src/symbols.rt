@@ -1,0 +1,199 @@
+// Values under numbers.
+ghost use Rattle.std.specs.Prelude.{◌≡◌, ◌<◌, ◌^◌, ℕ, [], ◌∷◌, ◌++◌, IfOk, OnOk, OnErr, length, slice_index};
+ghost use Rattle.std.specs.Bool.{OnTrue};
+ghost use Rattle.std.specs.declared.cmp.Ordering.TheVariants.{Less};
+ghost use Rattle.dx_model.specs.Values.{value_cmp};
+ghost use Rattle.dx_ports.specs.Members.{Each, ◌∈◌};
+ghost use Rattle.dx_instance.specs.Numbers.{AreApart, Extends, IsNumberOf, IsOrdering, ValuesAscend, value_of};
+
+use crate::ordering::{Ordered, in_order};
+use dx_model::{Value, copy_value};
+use indexmap::IndexSet;
+use std::alloc::{AllocError, Global};
+use std::marker::Model;
+
+/// Distinct values, each under a number. A contract sees the list of the values. The first of them are in order and
+/// are found by binary search, those after them by their hashes.
+#[derive(Drop)]
+pub struct Symbols {
+    ordered: Vec<Value>,
+    later: IndexSet<Value>,
+}
+
+impl Model for Symbols {
+    ghost use Rattle.std.specs.Prelude.{List, ◌++◌, ◌<◌, ◌^◌, length};
+    ghost use Rattle.dx_model.specs.declared.values.Value.{Value as Cell};
+    ghost use Rattle.dx_instance.specs.Numbers.{AreApart, ValuesAscend};
+
+    ghost Value = { List Cell };
+
+    ghost view = { λ s. s.ordered.items ++ s.later.keys };
+
+    ghost invariant = { λ s. ValuesAscend s.ordered.items × AreApart (s.ordered.items ++ s.later.keys) × (length (s.ordered.items ++ s.later.keys) < 2 ^ 32) };
+}
+
+impl Symbols {
+    /// No values.
+    pub fn new(alloc: Global) -> Symbols
+        ensures { result ≡ [] }
+    {
+        Symbols {
+            ordered: Vec::new(alloc),
+            later: IndexSet::new(alloc),
+        }
+    }
+
+    /// How many values there are.
+    pub fn len(&self) -> u64
+        ensures len { result ≡ length self.now }
+
+        // What holds of all symbols.
+        ensures apart { AreApart self.now }
+        ensures few { length self.now < 2 ^ 32 }
+    {
+        (self.ordered.len() + self.later.len()) as u64
+    }
+
+    /// Whether all values are known to be in order.
+    pub fn is_ordered(&self) -> bool
+        ensures { OnTrue result (ValuesAscend self.now) }
+    {
+        self.later.is_empty()
+    }
+
+    /// The value under a number, lent.
+    pub fn value(&self, symbol: u64) -> &Value
+        requires { symbol < length self.now }
+        ensures { result.now ≡ value_of self.now symbol }
+    {
+        let number = symbol as usize;
+        if number < self.ordered.len() {
+            &self.ordered[number]
+        } else {
+            &self.later.as_slice()[number - self.ordered.len()]
+        }
+    }
+
+    /// The number of the value, if it has one.
+    pub fn find(&self, value: &Value) -> Option<u64>
+        ensures { IsNumberOf self.now value.now result }
+    {
+        match self.ordered.as_slice().binary_search(value) {
+            Ok(number) => Some(number as u64),
+            Err(_) => match self.later.get_index_of(value) {
+                Some(number) => Some((self.ordered.len() + number) as u64),
+                None => None,
+            },
+        }
+    }
+
+    /// The number of the value, which goes last if it is new. All others keep their numbers.
+    ///
+    /// # Errors
+    ///
+    /// `AllocError` if there is no memory, or no number is left: all stays as it was.
+    pub fn intern(&mut self, value: Value) -> Result<u64, AllocError>
+        ensures within { IfOk result (λ n. n < length self.new) }
+        ensures number { IfOk result (λ n. value_of self.new n ≡ value) }
+        ensures there { OnOk result (value ∈ self.old → self.new ≡ self.old) }
+        ensures fresh { OnOk result (¬ (value ∈ self.old) → self.new ≡ self.old ++ value ∷ []) }
+        ensures err { OnErr result (self.new ≡ self.old) }
+        ensures grows { Extends self.old self.new }
+        ensures apart { AreApart self.new }
+        ensures few { length self.new < 2 ^ 32 }
+    {
+        if let Ok(number) = self.ordered.as_slice().binary_search(&value) {
+            return Ok(number as u64);
+        }
+        if self.ordered.len() + self.later.len() >= 4_294_967_295 {
+            return Err(AllocError);
+        }
+        let (number, _) = self.later.insert_full(value)?;
+        Ok((self.ordered.len() + number) as u64)
+    }
+
+    /// One value more, which is above all others. It goes last, so that values in order stay in order.
+    ///
+    /// # Errors
+    ///
+    /// `AllocError` if there is no memory, or no number is left: all stays as it was.
+    pub fn push_greater(&mut self, value: Value) -> Result<u64, AllocError>
+        requires { Each self.old (λ v. value_cmp v value ≡ Less) }
+        ensures number { IfOk result (λ n. n ≡ length self.old) }
+        ensures pushed { OnOk result (self.new ≡ self.old ++ value ∷ []) }
+        ensures ascend { OnOk result (ValuesAscend self.old → ValuesAscend self.new) }
+        ensures err { OnErr result (self.new ≡ self.old) }
+        ensures few { length self.new < 2 ^ 32 }
+    {
+        let number = self.ordered.len() + self.later.len();
+        if number >= 4_294_967_295 {
+            return Err(AllocError);
+        }
+        if self.later.is_empty() {
+            self.ordered.push(value)?;
+        } else {
+            self.later.insert_full(value)?;
+        }
+        Ok(number as u64)
+    }
+
+    /// Symbols of these values, which are in order.
+    pub(crate) fn from_ordered(alloc: Global, values: Vec<Value>) -> Symbols
+        requires ascend { ValuesAscend values.items }
+        requires few { length values.items < 2 ^ 32 }
+        ensures { result ≡ values.items }
+    {
+        Symbols {
+            ordered: values,
+            later: IndexSet::new(alloc),
+        }
+    }
+
+    /// All values in order, and the place of each old number there. The texts lie one after the other in memory.
+    ///
+    /// # Errors
+    ///
+    /// `AllocError` if there is no memory.
+    pub fn into_order(self, alloc: Global) -> Result<Ordered, AllocError>
+        ensures { IfOk result (λ o. IsOrdering self o.symbols o.ranks.items) }
+    {
+        in_order(alloc, &self)
+    }
+
+    /// A copy: the same values under the same numbers.
+    ///
+    /// # Errors
+    ///
+    /// `AllocError` if there is no memory.
+    pub fn copy(&self, alloc: Global) -> Result<Symbols, AllocError>
+        ensures { IfOk result (λ s. s ≡ self.now) }
+    {
+        Ok(Symbols {
+            ordered: copies_of(alloc, &self.ordered)?,
+            later: set_of(alloc, self.later.as_slice())?,
+        })
+    }
+}
+
+// Copies of values.
+fn copies_of(alloc: Global, values: &[Value]) -> Result<Vec<Value>, AllocError>
+    ensures { IfOk result (λ copies. copies.items ≡ values.now) }
+{
+    let mut copies = Vec::with_capacity(alloc, values.len())?;
+    for value in values {
+        copies.push(copy_value(value)?)?;
+    }
+    Ok(copies)
+}
+
+// Copies of distinct values as a set, in the same order.
+fn set_of(alloc: Global, values: &[Value]) -> Result<IndexSet<Value>, AllocError>
+    requires { AreApart values.now }
+    ensures { IfOk result (λ set. set.keys ≡ values.now) }
+{
+    let mut set = IndexSet::new(alloc);
+    for value in values {
+        set.insert_full(copy_value(value)?)?;
+    }
+    Ok(set)
+}
