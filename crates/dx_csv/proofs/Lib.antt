@@ -1,6 +1,8 @@
 pub mod LeftFacts
 pub mod TableFacts
-pub mod PrintFacts
 pub mod OneReading
 pub mod TableTextFacts
 pub mod Decided
+pub mod LinesFacts
+pub mod FieldFacts
+pub mod InternFacts

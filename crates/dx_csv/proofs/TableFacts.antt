@@ -8,6 +8,8 @@ use Rattle.std.proofs.lemmas.Option.{slice_get_past, slice_get-get_or, get_or_fr
 use Rattle.csv.specs.Records.{field_at}
 use Rattle.dx_model.specs.declared.values.Value.{Value}
 use Rattle.dx_model.specs.declared.values.Value.TheVariants.{Const}
+use Rattle.dx_csv.specs.declared.fields.Fields.{Fields}
+use Rattle.dx_csv.specs.Fields.{AreFields, HaveFields, fields_in, flat}
 use Rattle.dx_csv.specs.Table.{IsWhole, FirstDifference, IsTable, FirstFaulty, constants}
 
 pub field_at-slice_get : (xs : List (List ℕ)) (i : ℕ) → field_at xs i ≡ slice_get xs i
@@ -78,6 +80,57 @@ loaded-more records columns rows left rest number fields row l e w r = record {
   whole = All-append (IsWhole columns) l.under (fields ∷ []) l.whole (All-cons (IsWhole columns) fields [] w (All-nil (IsWhole columns)));
   values = rw (map-append constants l.under (fields ∷ []), l.values, r) refl;
   count = omega (arith, l.count, length-append l.under (fields ∷ []));
+}
+
+-- the fields so far
+pub record Collected (records : List (List (List ℕ))) (columns : List (List ℕ)) (fields : Fields) (left : List (List (List ℕ))) (number : ℕ) : Type 0 where
+  pub under : List (List (List ℕ))
+  pub header : records ≡ columns ∷ (under ++ left)
+  pub whole : All (IsWhole columns) under
+  pub have : HaveFields fields (flat under)
+  pub count : number ≡ length under + 1
+
+pub collected-start : (records : List (List (List ℕ))) (columns : List (List ℕ)) (fields : Fields) (left : List (List (List ℕ))) → records ≡ columns ∷ left → HaveFields fields []
+    → Collected records columns fields left 1
+collected-start records columns fields left e h = record { under = []; header = e; whole = All-nil (IsWhole columns); have = h; count = refl }
+
+flat-more : (under : List (List (List ℕ))) (fields : List (List ℕ)) → flat (under ++ fields ∷ []) ≡ flat under ++ fields
+flat-more [] fields = append-nil fields
+flat-more (u ∷ under) fields = ap (λ (l : List (List ℕ)). u ++ l) (flat-more under fields) ∙ sym (append_assoc u (flat under) fields)
+
+pub collected-more : (records : List (List (List ℕ))) (columns : List (List ℕ)) (old new : Fields) (left rest : List (List (List ℕ))) (number : ℕ) (fields : List (List ℕ))
+    → (c : Collected records columns old left number) → left ≡ fields ∷ rest → IsWhole columns fields → HaveFields new (flat c.under ++ fields)
+    → Collected records columns new rest (number + 1)
+collected-more records columns old new left rest number fields c e w h = record {
+  under = c.under ++ fields ∷ [];
+  header = rw (append_assoc c.under (fields ∷ []) rest, ← e) c.header;
+  whole = All-append (IsWhole columns) c.under (fields ∷ []) c.whole (All-cons (IsWhole columns) fields [] w (All-nil (IsWhole columns)));
+  have = rw (flat-more c.under fields) h;
+  count = omega (arith, c.count, length-append c.under (fields ∷ []));
+}
+
+pub collected-faulty : (records : List (List (List ℕ))) (columns : List (List ℕ)) (old : Fields) (left rest : List (List (List ℕ))) (number : ℕ) (fields : List (List ℕ))
+    → Collected records columns old left number → left ≡ fields ∷ rest → FirstFaulty records columns number fields
+collected-faulty records columns old left rest number fields l e = record {
+  good = l.under;
+  rest = rest;
+  header = rw (← e) l.header;
+  whole = l.whole;
+  place = l.count;
+}
+
+-- fields that stand in a buffer stand in it as its own
+pub have-own : (f : Fields) (fields : List (List ℕ)) → HaveFields f fields → HaveFields f (fields_in f)
+have-own f fields h = record { rising = h.rising; last = h.last; is = refl; text = rw h.is h.text }
+
+pub collected-end : (records : List (List (List ℕ))) (columns : List (List ℕ)) (old : Fields) (left : List (List (List ℕ))) (number count : ℕ) (texts : List (List ℕ))
+    → Collected records columns old left number → left ≡ [] → texts ≡ fields_in old → count + 1 ≡ number → AreFields records columns texts count
+collected-end records columns old left number count texts l e t n = record {
+  under = l.under;
+  header = l.header ∙ rw (e, append-nil l.under) refl;
+  whole = l.whole;
+  is = t ∙ l.have.is;
+  many = omega (arith, n, l.count);
 }
 
 pub loaded-end : (records : List (List (List ℕ))) (columns : List (List ℕ)) (rows : List (List Value)) (left : List (List (List ℕ))) (number : ℕ)

@@ -1,12 +1,8 @@
 -- The text of a table, and what it is read as.
-use Rattle.std.proofs.Common.{◌≡◌, ◌∙◌, ◌<◌, ◌≤◌, ◌+◌, ◌++◌, ◌∷◌, ◌==◌, ℕ, zero, suc, List, [], Bool, true, false, refl, sym, ap, subst, arith, length, map, take, append_assoc, append-nil, None, Some, inl, inr}
-use Rattle.std.specs.Prelude.{Option, if◌then◌else◌, ◌&&◌}
-use Rattle.std.specs.List.{flat_map, slice_get}
+use Rattle.std.proofs.Common.{◌≡◌, ◌∙◌, ◌<◌, ◌≤◌, ◌+◌, ◌++◌, ◌∷◌, ◌==◌, ℕ, zero, suc, List, [], Bool, true, false, refl, sym, ap, arith, length, map, take, append_assoc, append-nil, None, inl, inr}
+use Rattle.std.specs.Prelude.{if◌then◌else◌, ◌&&◌, slice_index_or}
 use Rattle.std.proofs.lemmas.Bool.{cases_Bool}
 use Rattle.std.proofs.lemmas.List.{take_more, map-append, length-map}
-use Rattle.std.proofs.lemmas.Option.{get_or_from_slice_get, slice_get_within}
-use Rattle.std.proofs.lemmas.Grind.{flat_map-append}
-use Rattle.csv.specs.declared.writer.Writer.{Writer}
 use Rattle.csv.proofs.RoundTrip.{read-write}
 use Rattle.csv.specs.Machine.{next_record}
 use Rattle.csv.specs.Reading.{strip_bom, default_config, is_bom}
@@ -14,11 +10,12 @@ use Rattle.csv.specs.Writing.{default_writer, row_text, read_back, field_text, f
 use Rattle.csv.specs.declared.parser.State.TheVariants as st
 use Rattle.dx_ports.specs.Members.{◌∈◌, here, there, Each}
 use Rattle.dx_model.specs.declared.values.Value.{Value}
+use Rattle.dx_model.specs.Values.{RowsAscend}
 use Rattle.dx_instance.specs.Stored.{TableRows, IsSorting, rows_of, table_at, widths}
 use Rattle.dx_instance.specs.ValueText.{value_text_of}
 use Rattle.dx_csv.specs.Left.{left_from}
 use Rattle.dx_csv.specs.Table.{table_records}
-use Rattle.dx_csv.specs.Print.{HasNoMark, HasWritten, IsTableText, lines_text, table_lines}
+use Rattle.dx_csv.specs.Print.{HasNoMark, IsTableText, lines_text, table_lines}
 use Rattle.dx_csv.proofs.LeftFacts.{left-next, left-none}
 
 -- ---- the lines that were written read back
@@ -152,31 +149,13 @@ pub printed-reads-back : (first : List (List ℕ)) (rest : List (List (List ℕ)
 printed-reads-back first rest m a =
     rw (strip-lines first rest (a first (here refl)) m) (lines-read (first ∷ rest) ∙ read_back-all (first ∷ rest) a)
 
--- ---- the header, and one row more
-pub header-written : {W : Type 0} (contents : W → Option (List ℕ)) (w : Writer W) (columns line : List (List ℕ)) → line ≡ columns
-    → HasWritten contents w (row_text default_writer line) → HasWritten contents w (lines_text (table_lines columns []))
-header-written contents w columns line same written =
-    subst (HasWritten contents w) (rw same (sym (append-nil (row_text default_writer columns)))) written
-
-shift : (a b c : List ℕ) → a ++ (b ++ (c ++ [])) ≡ (a ++ b) ++ c
-shift a b c = simp (append_assoc, append-nil)
-
-rows-more : (columns : List (List ℕ)) (rows : List (List Value)) (i : ℕ) (row : List Value) → slice_get rows i ≡ Some row
-    → lines_text (table_lines columns (take (i + 1) rows)) ≡ lines_text (table_lines columns (take i rows)) ++ row_text default_writer (map value_text_of row)
-rows-more columns rows i row e =
-    rw (
-      take_more rows i [] (slice_get_within rows i row e),
-      get_or_from_slice_get rows i row [] e,
-      map-append (map value_text_of) (take i rows) (row ∷ []),
-      flat_map-append (row_text default_writer) (map (map value_text_of) (take i rows)) (map value_text_of row ∷ []),
+-- ---- one row more
+pub table-more : (columns : List (List ℕ)) (rows : List (List Value)) (i : ℕ) → i < length rows
+    → table_lines columns (take (i + 1) rows) ≡ table_lines columns (take i rows) ++ map value_text_of (slice_index_or rows i []) ∷ []
+table-more columns rows i h =
+    ap (λ (t : List (List (List ℕ))). columns ∷ t) (
+    ap (map (map value_text_of)) (take_more rows i [] h) ∙ map-append (map value_text_of) (take i rows) (slice_index_or rows i [] ∷ [])
     )
-    (shift (row_text default_writer columns) (flat_map (row_text default_writer) (map (map value_text_of) (take i rows))) (row_text default_writer (map value_text_of row)))
-
-pub row-written : {W : Type 0} (contents : W → Option (List ℕ)) (w : Writer W) (columns : List (List ℕ)) (rows : List (List Value)) (i : ℕ) (row : List Value) (line : List (List ℕ))
-    → slice_get rows i ≡ Some row → line ≡ map value_text_of row
-    → HasWritten contents w (lines_text (table_lines columns (take i rows)) ++ row_text default_writer line)
-    → HasWritten contents w (lines_text (table_lines columns (take (i + 1) rows)))
-row-written contents w columns rows i row line e same written = subst (HasWritten contents w) (rw same (sym (rows-more columns rows i row e))) written
 
 -- ---- a sorted instance
 pub as-many : (old new : List TableRows) → IsSorting old new → length new ≡ length old
@@ -199,6 +178,27 @@ table-in : (tables : List TableRows) (t : ℕ) → t < length tables → table_a
 table-in [] t h = absurd (omega arith)
 table-in (x ∷ xs) zero h = here refl
 table-in (x ∷ xs) (suc t) h = there (table-in xs t (omega arith))
+
+-- the rows of a table are as wide as it
+pub rows-wide : (tables : List TableRows) (t : ℕ) → t < length tables → Each tables (λ u. Each u.rows (λ r. length r ≡ u.width))
+    → Each (rows_of tables t) (λ r. length r ≡ (table_at tables t).width)
+rows-wide tables t h each = each (table_at tables t) (table-in tables t h)
+
+-- a table whose rows ascend
+pub same-text : (columns : List (List ℕ)) (tables : List TableRows) (t : ℕ) (text : List ℕ)
+    → t < length tables → length columns ≡ (table_at tables t).width → HasNoMark columns → RowsAscend (rows_of tables t)
+    → Each tables (λ u. 1 ≤ u.width) → Each tables (λ u. Each u.rows (λ r. length r ≡ u.width))
+    → text ≡ lines_text (table_lines columns (rows_of tables t)) → IsTableText columns (rows_of tables t) text
+same-text columns tables t text h w m ascend wide each e =
+    let some = wide (table_at tables t) (table-in tables t h) in
+    record {
+      sorted = rows_of tables t;
+      ascend = ascend;
+      kept = λ x k. k;
+      only = λ x k. k;
+      is = e;
+      reads = rw e (table-read columns (rows_of tables t) (omega (arith, w, some)) m (λ r k. rows-wide tables t h each r k ∙ sym w));
+    }
 
 pub table-text : (columns : List (List ℕ)) (old new : List TableRows) (t : ℕ) (text : List ℕ)
     → t < length old → length columns ≡ (table_at old t).width → HasNoMark columns → IsSorting old new

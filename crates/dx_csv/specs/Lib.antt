@@ -2,3 +2,5 @@ pub mod Left
 pub mod Table
 pub mod Print
 pub mod Laws
+pub mod Lines
+pub mod Fields

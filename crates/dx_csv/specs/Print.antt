@@ -1,9 +1,8 @@
 -- The text of records and of tables.
-use Rattle.std.specs.Prelude.{◌≡◌, ℕ, List, [], ◌∷◌, map, false, true, Option, Some}
+use Rattle.std.specs.Prelude.{◌≡◌, ℕ, List, [], ◌∷◌, map}
 use Rattle.std.specs.List.{flat_map}
 use Rattle.csv.specs.Reading.{strip_bom}
-use Rattle.csv.specs.Writing.{default_writer, fields_written, has_written, row_text, text_written, with_flexible, writer_setup}
-use Rattle.csv.specs.declared.writer.Writer.{Writer}
+use Rattle.csv.specs.Writing.{default_writer, row_text}
 use Rattle.dx_ports.specs.Members.{◌⊆◌}
 use Rattle.dx_model.specs.declared.values.Value.{Value}
 use Rattle.dx_model.specs.Values.{RowsAscend}
@@ -31,10 +30,3 @@ pub record IsTableText (columns : List (List ℕ)) (rows : List (List Value)) (t
   pub only : sorted ⊆ rows
   pub is : text ≡ lines_text (table_lines columns sorted)
   pub reads : table_records text ≡ table_lines columns sorted
-
--- a writer of records of any lengths, that stands between two records and has written these bytes
-pub record HasWritten {W : Type 0} (contents : W → Option (List ℕ)) (w : Writer W) (bytes : List ℕ) : Type 0 where
-  pub setup : writer_setup w ≡ with_flexible default_writer true
-  pub none : fields_written w ≡ 0
-  pub fresh : has_written w ≡ false
-  pub text : text_written contents w ≡ Some bytes

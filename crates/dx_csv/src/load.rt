@@ -1,9 +1,11 @@
 // A table of constants, read from its bytes.
-ghost use Rattle.std.specs.Prelude.{◌≡◌, ◌<◌, ◌-◌, ◌^◌, ◌↔◌, length, IsTrue, IfOk, IfErr, IfSome, MatchOption};
+ghost use Rattle.std.specs.Prelude.{◌≡◌, ◌<◌, ◌-◌, ◌^◌, ◌↔◌, ◌++◌, ◌∷◌, ℕ, List, length, true, false, IsTrue, IfOk, IfErr, IfSome, MatchOption};
 ghost use Rattle.csv.specs.Records.{fields_of, AllText};
+ghost use Rattle.dx_csv.specs.Fields.{AreFields, HaveFields, fields_in};
 ghost use Rattle.dx_csv.specs.Table.{FirstDifference, HasFault, IsTable, constants, table_records};
 
 use crate::fault::{RowFault, RowKind};
+use crate::fields::{Fields, Texts};
 use crate::records::Records;
 use csv::ByteRecord;
 use dx_model::{Row, Value};
@@ -36,6 +38,27 @@ fn first_difference(given: &ByteRecord, columns: &[Text]) -> Option<u32>
     }
 }
 
+// The records under the header, which is the columns.
+fn records_under<'a>(
+    alloc: Global,
+    bytes: &'a [u8],
+    columns: &[Text],
+) -> Result<Records<'a>, RowFault>
+    requires { length columns.now < 2 ^ 32 - 1 }
+    ensures under { IfOk result (λ under. table_records bytes.now ≡ columns.now ∷ under) }
+    ensures fault { IfErr result (HasFault (table_records bytes.now) columns.now) }
+{
+    let mut records = Records::new(alloc, bytes);
+    let mut header = ByteRecord::new(alloc);
+    if !records.next(&mut header)? {
+        return Err(RowFault::Bad(RowKind::NoHeader));
+    }
+    match first_difference(&header, columns) {
+        Some(place) => Err(RowFault::Bad(RowKind::Header(place))),
+        None => Ok(records),
+    }
+}
+
 // The row of a record's fields, if each is a text.
 fn row_of(alloc: Global, given: &ByteRecord) -> Result<Option<Row>, AllocError>
     ensures text { IfOk result (λ o. MatchOption o (¬ (AllText (fields_of given.now))) (λ row. AllText (fields_of given.now))) }
@@ -56,6 +79,67 @@ fn row_of(alloc: Global, given: &ByteRecord) -> Result<Option<Row>, AllocError>
     Ok(Some(row))
 }
 
+// Puts the fields of a record behind the others, if each is a text.
+fn push_record(fields: &mut Fields, given: &ByteRecord) -> Result<bool, AllocError>
+    ensures text { IfOk result (λ whole. whole ≡ true → AllText (fields_of given.now)) }
+    ensures not_text { IfOk result (λ whole. whole ≡ false → ¬ (AllText (fields_of given.now))) }
+    ensures pushed { (old : List (List ℕ)) → HaveFields fields.old old
+        → IfOk result (λ whole. whole ≡ true → HaveFields fields.new (old ++ fields_of given.now)) }
+{
+    for i in 0..given.len() {
+        let Some(field) = given.get(i) else {
+            // A field is there at each place below `len`, by the clauses of `csv`: the branch spares a proof of it.
+            return Err(AllocError);
+        };
+        let Ok(text) = str::from_utf8(field) else {
+            return Ok(false);
+        };
+        fields.push(text)?;
+    }
+    Ok(true)
+}
+
+/// The texts of a table's fields under the header, record by record, and how many records there are.
+pub(crate) fn read_fields(
+    alloc: Global,
+    bytes: &[u8],
+    columns: &[Text],
+) -> Result<(Texts, u32), RowFault>
+    requires { length columns.now < 2 ^ 32 - 1 }
+    ensures rows { IfOk result (λ read. AreFields (table_records bytes.now) columns.now read.0 read.1) }
+    ensures fault { IfErr result (HasFault (table_records bytes.now) columns.now) }
+{
+    let mut records = records_under(alloc, bytes, columns)?;
+    let mut record = ByteRecord::new(alloc);
+    let mut fields = Fields::new(alloc);
+    for number in 1..u64::MAX {
+        if !records.next(&mut record)? {
+            return Ok(read_texts(alloc, fields, number - 1)?);
+        }
+        if record.len() != columns.len() {
+            return Err(RowFault::Bad(RowKind::Width(number)));
+        }
+        if !push_record(&mut fields, &record)? {
+            return Err(RowFault::Bad(RowKind::NotText(number)));
+        }
+    }
+    // No bytes hold so many records: the loop has a bound so that the number of a record is a `u64`.
+    Err(RowFault::Memory)
+}
+
+// The fields as texts, and the number of records as it is stored.
+fn read_texts(alloc: Global, fields: Fields, count: u64) -> Result<(Texts, u32), AllocError>
+    requires { HaveFields fields (fields_in fields) }
+    ensures texts { IfOk result (λ read. read.0 ≡ fields_in fields) }
+    ensures count { IfOk result (λ read. read.1 ≡ count) }
+{
+    let Ok(count) = u32::try_from(count) else {
+        return Err(AllocError);
+    };
+    let texts = fields.into_texts(alloc)?;
+    Ok((texts, count))
+}
+
 /// Reads the rows of a table: a record of the columns, and then for each row a record of the texts of its constants.
 ///
 /// The first record at fault is told; of one record, the number of its fields before its texts.
@@ -68,14 +152,8 @@ pub fn load_table(alloc: Global, bytes: &[u8], columns: &[Text]) -> Result<Vec<R
     ensures rows { IfOk result (λ rows. IsTable (table_records bytes.now) columns.now rows.items) }
     ensures fault { IfErr result (HasFault (table_records bytes.now) columns.now) }
 {
-    let mut records = Records::new(alloc, bytes);
+    let mut records = records_under(alloc, bytes, columns)?;
     let mut record = ByteRecord::new(alloc);
-    if !records.next(&mut record)? {
-        return Err(RowFault::Bad(RowKind::NoHeader));
-    }
-    if let Some(place) = first_difference(&record, columns) {
-        return Err(RowFault::Bad(RowKind::Header(place)));
-    }
     let mut rows = Vec::new(alloc);
     for number in 1..u64::MAX {
         if !records.next(&mut record)? {

@@ -1,72 +1,55 @@
 // The text of records and of tables.
-ghost use Rattle.std.specs.Prelude.{◌≡◌, ◌<◌, length, map, ◌++◌, [], ℕ, List, IfOk, OnOk, Some, string_bytes};
-ghost use Rattle.csv.specs.Records.{fields_of};
-ghost use Rattle.csv.specs.Writing.{default_writer, row_text};
+ghost use Rattle.std.specs.Prelude.{◌≡◌, ◌<◌, ◌++◌, ◌∷◌, [], ℕ, List, IfOk, OnOk, length, map};
+ghost use Rattle.dx_ports.specs.Members.{Each};
+ghost use Rattle.dx_instance.specs.Places.{row_at};
 ghost use Rattle.dx_instance.specs.Stored.{rows_of, table_at};
+ghost use Rattle.dx_model.specs.Values.{RowsAscend};
 ghost use Rattle.dx_instance.specs.ValueText.{value_text_of};
-ghost use Rattle.dx_csv.specs.Print.{HasNoMark, HasWritten, IsTableText, lines_text, table_lines};
+ghost use Rattle.dx_csv.specs.Lines.{HavePrinted};
+ghost use Rattle.dx_csv.specs.Print.{HasNoMark, IsTableText, lines_text, table_lines};
 
-use csv::{ByteRecord, Writer, WriterBuilder};
-use dx_instance::{Instance, value_text};
-use dx_model::Value;
+use crate::lines::Lines;
+use dx_instance::Instance;
 use dx_ports::{Items, Text};
 use std::alloc::{AllocError, Global};
 
-// A writer that has written nothing, for records of any lengths.
-fn new_writer(alloc: Global) -> Writer<Vec<u8>>
-    ensures { HasWritten (λ v. Some v.items) result [] }
+// Prints one record more.
+fn print_record(lines: &mut Lines, fields: &[Text]) -> Result<(), AllocError>
+    ensures { (records : List (List (List ℕ))) → HavePrinted lines.old records []
+        → OnOk result (HavePrinted lines.new (records ++ fields.now ∷ []) []) }
 {
-    WriterBuilder::new()
-        .flexible(true)
-        .from_writer(Vec::new(alloc))
-}
-
-// Writes one record, and ends its line.
-fn write_line(wtr: &mut Writer<Vec<u8>>, line: &ByteRecord) -> Result<(), AllocError>
-    ensures { OnOk result ((bytes : List ℕ) → HasWritten (λ v. Some v.items) wtr.old bytes
-        → HasWritten (λ v. Some v.items) wtr.new (bytes ++ row_text default_writer (fields_of line.now))) }
-{
-    let Ok(()) = wtr.write_byte_record(line) else {
-        // Into a `Vec` a write fails for want of memory alone; the clauses of `csv` do not exclude other errors.
-        return Err(AllocError);
-    };
-    Ok(())
-}
-
-// Puts texts into a line, in place of what it has.
-fn fill_texts(line: &mut ByteRecord, texts: &[Text]) -> Result<(), AllocError>
-    ensures { OnOk result (fields_of line.new ≡ texts.now) }
-{
-    line.clear();
-    for text in texts {
-        line.push_field(text.bytes())?;
+    for text in fields {
+        lines.field(text.bytes())?;
     }
-    Ok(())
+    lines.end()
 }
 
-// Puts the texts of values into a line, in place of what it has.
-fn fill_values(alloc: Global, line: &mut ByteRecord, values: &[Value]) -> Result<(), AllocError>
-    ensures { OnOk result (fields_of line.new ≡ map value_text_of values.now) }
+// Prints a row as one record more.
+fn print_row(
+    lines: &mut Lines,
+    instance: &Instance,
+    table: u32,
+    place: u32,
+) -> Result<(), AllocError>
+    requires table { table < length instance.now }
+    requires place { place < length (rows_of instance.now table) }
+    requires width { length (row_at instance.now table place) ≡ (table_at instance.now table).width }
+    ensures { (records : List (List (List ℕ))) → HavePrinted lines.old records []
+        → OnOk result (HavePrinted lines.new (records ++ map value_text_of (row_at instance.now table place) ∷ []) []) }
 {
-    line.clear();
-    for value in values {
-        let text = value_text(alloc, value)?;
-        line.push_field(text.bytes())?;
+    for column in 0..instance.width(table) {
+        lines.value(instance.cell(table, place, column))?;
     }
-    Ok(())
+    lines.end()
 }
 
-// The text that a writer has written.
-fn text_of(wtr: Writer<Vec<u8>>) -> Result<Text, AllocError>
-    ensures { IfOk result (λ t. (bytes : List ℕ) → HasWritten (λ v. Some v.items) wtr bytes → t ≡ bytes) }
+// The text of these bytes.
+fn text_of(alloc: Global, bytes: Vec<u8>) -> Result<Text, AllocError>
+    ensures { IfOk result (λ t. t ≡ bytes.items) }
 {
-    let Ok(bytes) = wtr.into_inner() else {
-        // Into a `Vec` a write fails for want of memory alone; the clauses of `csv` do not exclude other errors.
-        return Err(AllocError);
-    };
     match String::from_utf8(bytes) {
-        Ok(text) => Ok(Text::from_string(text)),
-        // The bytes are those of texts and so UTF-8; no clause says it of the bytes of a writer.
+        Ok(text) => Text::from_string(alloc, text),
+        // The bytes are those of texts and so UTF-8; no clause says it of the bytes of lines.
         Err(_) => Err(AllocError),
     }
 }
@@ -76,17 +59,26 @@ fn text_of(wtr: Writer<Vec<u8>>) -> Result<Text, AllocError>
 ///
 /// # Errors
 ///
-/// `AllocError` where there is no memory.
+/// `AllocError` if there is no memory.
 pub fn print_records(alloc: Global, records: &[Items<Text>]) -> Result<Text, AllocError>
     ensures { IfOk result (λ t. t ≡ lines_text records.now) }
 {
-    let mut wtr = new_writer(alloc);
-    let mut line = ByteRecord::new(alloc);
+    text_of(alloc, print_records_bytes(alloc, records)?)
+}
+
+/// The bytes of what `print_records` prints.
+///
+/// # Errors
+///
+/// `AllocError` if there is no memory.
+pub fn print_records_bytes(alloc: Global, records: &[Items<Text>]) -> Result<Vec<u8>, AllocError>
+    ensures { IfOk result (λ bytes. bytes.items ≡ lines_text records.now) }
+{
+    let mut lines = Lines::new(alloc);
     for record in records {
-        fill_texts(&mut line, record.items())?;
-        write_line(&mut wtr, &line)?;
+        print_record(&mut lines, record.items())?;
     }
-    text_of(wtr)
+    Ok(lines.into_bytes())
 }
 
 // The text of the columns and of a table's rows, in the order that they have.
@@ -95,26 +87,24 @@ fn lines_of(
     columns: &[Text],
     instance: &Instance,
     table: u32,
-) -> Result<Text, AllocError>
-    requires { table < length instance.now }
-    ensures { IfOk result (λ t. t ≡ lines_text (table_lines columns.now (rows_of instance.now table))) }
+) -> Result<Vec<u8>, AllocError>
+    requires table { table < length instance.now }
+    requires widths { Each (rows_of instance.now table) (λ r. length r ≡ (table_at instance.now table).width) }
+    ensures { IfOk result (λ bytes. bytes.items ≡ lines_text (table_lines columns.now (rows_of instance.now table))) }
 {
-    let mut wtr = new_writer(alloc);
-    let mut line = ByteRecord::new(alloc);
-    fill_texts(&mut line, columns)?;
-    write_line(&mut wtr, &line)?;
+    let mut lines = Lines::new(alloc);
+    print_record(&mut lines, columns)?;
     for place in 0..instance.count(table) {
-        fill_values(alloc, &mut line, instance.row(table, place))?;
-        write_line(&mut wtr, &line)?;
+        print_row(&mut lines, instance, table, place)?;
     }
-    text_of(wtr)
+    Ok(lines.into_bytes())
 }
 
 /// Prints a table: a record of its columns, and then for each row, ascending, a record of the texts of its values.
 ///
 /// # Errors
 ///
-/// `AllocError` where there is no memory.
+/// `AllocError` if there is no memory.
 pub fn print_table(
     alloc: Global,
     columns: &[Text],
@@ -125,6 +115,61 @@ pub fn print_table(
     requires width { length columns.now ≡ (table_at instance.now table).width }
     requires no_mark { HasNoMark columns.now }
     ensures text { IfOk result (λ t. IsTableText columns.now (rows_of instance.now table) t) }
+{
+    text_of(alloc, print_table_bytes(alloc, columns, instance, table)?)
+}
+
+/// The bytes of what `print_table` prints.
+///
+/// # Errors
+///
+/// `AllocError` if there is no memory.
+pub fn print_table_bytes(
+    alloc: Global,
+    columns: &[Text],
+    instance: &Instance,
+    table: u32,
+) -> Result<Vec<u8>, AllocError>
+    requires table { table < length instance.now }
+    requires width { length columns.now ≡ (table_at instance.now table).width }
+    requires no_mark { HasNoMark columns.now }
+    ensures text { IfOk result (λ bytes. IsTableText columns.now (rows_of instance.now table) bytes.items) }
+{
+    if instance.is_ascending(table) {
+        print_ascending(alloc, columns, instance, table)
+    } else {
+        print_sorted(alloc, columns, instance, table)
+    }
+}
+
+// Prints a table whose rows ascend.
+fn print_ascending(
+    alloc: Global,
+    columns: &[Text],
+    instance: &Instance,
+    table: u32,
+) -> Result<Vec<u8>, AllocError>
+    requires table { table < length instance.now }
+    requires width { length columns.now ≡ (table_at instance.now table).width }
+    requires no_mark { HasNoMark columns.now }
+    requires ascend { RowsAscend (rows_of instance.now table) }
+    ensures text { IfOk result (λ bytes. IsTableText columns.now (rows_of instance.now table) bytes.items) }
+{
+    prove!(table < instance.tables());
+    lines_of(alloc, columns, instance, table)
+}
+
+// Prints a table, its rows sorted first.
+fn print_sorted(
+    alloc: Global,
+    columns: &[Text],
+    instance: &Instance,
+    table: u32,
+) -> Result<Vec<u8>, AllocError>
+    requires table { table < length instance.now }
+    requires width { length columns.now ≡ (table_at instance.now table).width }
+    requires no_mark { HasNoMark columns.now }
+    ensures text { IfOk result (λ bytes. IsTableText columns.now (rows_of instance.now table) bytes.items) }
 {
     let sorted = instance.sorted()?;
     prove!(table < sorted.tables());

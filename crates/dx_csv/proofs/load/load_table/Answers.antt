@@ -6,10 +6,10 @@ use Rattle.dx_csv.proofs.load.load_table.Goals as goal
 
 pub loop-number-preserved : goal.loop-number-preserved
 loop-number-preserved c =
-    let left = c.in_ok-next-2.ensures.some c.if-not-branch-2.false in
-    let text = rw c.in-Some-2.is at c.in_ok-row.ensures.text in
-    let row = rw c.in-Some-2.is at c.in_ok-row.ensures.row in
-    let fields = fields_of c.next-in-loop-number.new.row in
+    let left = c.in_ok-next.ensures.some c.if-not-branch.false in
+    let text = rw c.in-Some.is at c.in_ok-row.ensures.text in
+    let row = rw c.in-Some.is at c.in_ok-row.ensures.row in
+    let fields = fields_of c.next.new.row in
     let width : length fields ≡ length c.args.columns.now = omega arith in
     let whole : IsWhole c.args.columns.now fields = record { width = width; text = text } in
-    rw c.in_ok-push.ensures.items (loaded-more (table_records c.args.bytes.now) c.args.columns.now c.loop-number.rows.items c.loop-number.records c.next-in-loop-number.new.self c.loop-number.number fields c.in-Some-2.row c.loop-number.invariant left whole row)
+    rw c.in_ok-push.ensures.items (loaded-more (table_records c.args.bytes.now) c.args.columns.now c.loop-number.rows.items c.loop-number.records c.next.new.self c.loop-number.number fields c.in-Some.row c.loop-number.invariant left whole row)

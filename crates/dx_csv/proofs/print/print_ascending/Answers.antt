@@ -1,0 +1,18 @@
+use Rattle.std.proofs.Common.{◌≡◌}
+use Rattle.std.proofs.lemmas.Result.{IfOk-weaker}
+use Rattle.dx_instance.specs.Stored.{rows_of}
+use Rattle.dx_csv.specs.Print.{IsTableText, lines_text, table_lines}
+use Rattle.dx_csv.proofs.TableTextFacts.{rows-wide, same-text}
+use Rattle.dx_csv.proofs.print.print_ascending.Goals as goal
+
+pub lines_of-requires-clause-widths : goal.lines_of-requires-clause-widths
+lines_of-requires-clause-widths c = rows-wide c.args.instance.now c.args.table c.requires.table c.tables.ensures.rows
+
+pub returns : goal.returns
+returns c =
+    let columns = c.args.columns.now in
+    let rows = rows_of c.args.instance.now c.args.table in
+    record {
+      text = IfOk-weaker c.lines_of.result (λ t. t.items ≡ lines_text (table_lines columns rows)) (λ t. IsTableText columns rows t.items)
+          (λ t. same-text columns c.args.instance.now c.args.table t.items c.requires.table c.requires.width c.requires.no_mark c.requires.ascend c.tables.ensures.widths c.tables.ensures.rows) c.lines_of.ensures;
+    }

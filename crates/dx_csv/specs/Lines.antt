@@ -1,0 +1,35 @@
+-- Records that are printed field by field.
+use Rattle.std.specs.Prelude.{◌≡◌, ◌++◌, ◌==◌, ℕ, List, [], ◌∷◌, length, if◌then◌else◌}
+use Rattle.csv.specs.Writing.{comma, default_writer, is_blank, quote_mark, row_body}
+use Rattle.dx_csv.specs.declared.lines.Lines.{Lines}
+use Rattle.dx_csv.specs.declared.lines.OpenLine.{OpenLine}
+use Rattle.dx_csv.specs.declared.lines.OpenLine.TheVariants.{NoField, NoByte, Bytes}
+use Rattle.dx_csv.specs.Print.{lines_text}
+
+-- what the line of these fields shows
+abbrev pub open_line : List (List ℕ) → OpenLine
+open_line [] = NoField
+open_line (field ∷ rest) = if is_blank default_writer (field ∷ rest) then NoByte else Bytes
+
+-- these records are printed whole, and of the next one these fields
+pub record HavePrinted (lines : Lines) (records : List (List (List ℕ))) (fields : List (List ℕ)) : Type 0 where
+  pub text : lines.bytes.items ≡ lines_text records ++ row_body default_writer fields
+  pub line : lines.line ≡ open_line fields
+
+-- what stands before the next field of a line
+abbrev pub before_field : OpenLine → List ℕ
+before_field NoField = []
+before_field NoByte = comma ∷ []
+before_field Bytes = comma ∷ []
+
+-- what a line shows with one field more
+abbrev pub line_with : OpenLine → List ℕ → OpenLine
+line_with NoField field = if length field == 0 then NoByte else Bytes
+line_with NoByte field = Bytes
+line_with Bytes field = Bytes
+
+-- what ends a line
+abbrev pub line_end : OpenLine → List ℕ
+line_end NoField = quote_mark ∷ quote_mark ∷ 10 ∷ []
+line_end NoByte = quote_mark ∷ quote_mark ∷ 10 ∷ []
+line_end Bytes = 10 ∷ []

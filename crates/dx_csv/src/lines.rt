@@ -1,0 +1,214 @@
+// Records as CSV, printed field by field into one buffer.
+ghost use Rattle.std.specs.Prelude.{◌≡◌, ◌++◌, ◌∷◌, ◌==◌, [], ℕ, List, OnOk, false, length};
+ghost use Rattle.std.specs.Fmt.{decimal};
+ghost use Rattle.csv.specs.Writing.{default_writer, escaped, field_text, needs_quotes};
+ghost use Rattle.dx_instance.specs.ValueText.{NullFits, const_text, null_text, value_text_of};
+ghost use Rattle.dx_csv.specs.Lines.{HavePrinted, before_field, line_end, line_with};
+ghost use Rattle.dx_csv.specs.Print.{lines_text};
+
+use dx_model::{NullId, Value};
+use itoa::Buffer;
+use std::alloc::{AllocError, Global};
+
+/// What the line that is being printed shows so far.
+#[derive(Clone, Copy, PartialEq, Eq)]
+pub(crate) enum OpenLine {
+    /// No field.
+    NoField,
+    /// One field, which is empty.
+    NoByte,
+    /// Fields that show a byte.
+    Bytes,
+}
+
+/// Records as CSV, printed field by field into one buffer of bytes, as the default writer of `csv` prints them. A
+/// contract sees which records are printed whole, and which fields of the next one.
+///
+/// After an error nothing is said of the lines: drop them.
+#[derive(Drop)]
+pub struct Lines {
+    bytes: Vec<u8>,
+    line: OpenLine,
+}
+
+impl OpenLine {
+    // What ends the line.
+    fn ending(self) -> &'static [u8]
+        ensures { result.now ≡ line_end self }
+    {
+        match self {
+            OpenLine::NoField | OpenLine::NoByte => b"\"\"\n",
+            OpenLine::Bytes => b"\n",
+        }
+    }
+}
+
+impl Lines {
+    /// No records, and no field of the next one.
+    pub fn new(alloc: Global) -> Lines
+        ensures { HavePrinted result [] [] }
+    {
+        Lines {
+            bytes: Vec::new(alloc),
+            line: OpenLine::NoField,
+        }
+    }
+
+    /// One field more of the open record.
+    ///
+    /// # Errors
+    ///
+    /// `AllocError` if there is no memory.
+    pub fn field(&mut self, field: &[u8]) -> Result<(), AllocError>
+        ensures { (records : List (List (List ℕ))) (fields : List (List ℕ)) → HavePrinted self.old records fields
+            → OnOk result (HavePrinted self.new records (fields ++ field.now ∷ [])) }
+    {
+        self.begin_field(field.is_empty())?;
+        push_field(&mut self.bytes, b"", field)
+    }
+
+    /// The text of a value as one field more of the open record.
+    ///
+    /// # Errors
+    ///
+    /// `AllocError` if there is no memory.
+    pub fn value(&mut self, value: &Value) -> Result<(), AllocError>
+        ensures { (records : List (List (List ℕ))) (fields : List (List ℕ)) → HavePrinted self.old records fields
+            → OnOk result (HavePrinted self.new records (fields ++ value_text_of value.now ∷ [])) }
+    {
+        match value {
+            Value::Const(text) => self.constant(text.bytes()),
+            Value::Null(null) => self.null(null),
+        }
+    }
+
+    /// Ends the open record. One without fields is printed as one empty field.
+    ///
+    /// # Errors
+    ///
+    /// `AllocError` if there is no memory.
+    pub fn end(&mut self) -> Result<(), AllocError>
+        ensures { (records : List (List (List ℕ))) (fields : List (List ℕ)) → HavePrinted self.old records fields
+            → OnOk result (HavePrinted self.new (records ++ fields ∷ []) []) }
+    {
+        self.bytes.extend_from_slice(self.line.ending())?;
+        self.line = OpenLine::NoField;
+        Ok(())
+    }
+
+    /// The text of the records, with no memory.
+    pub fn into_bytes(self) -> Vec<u8>
+        ensures { (records : List (List (List ℕ))) → HavePrinted self records [] → result.items ≡ lines_text records }
+    {
+        self.bytes
+    }
+
+    // The text of a constant as one field more.
+    fn constant(&mut self, text: &[u8]) -> Result<(), AllocError>
+        ensures { (records : List (List (List ℕ))) (fields : List (List ℕ)) → HavePrinted self.old records fields
+            → OnOk result (HavePrinted self.new records (fields ++ const_text text.now ∷ [])) }
+    {
+        self.begin_field(text.is_empty())?;
+        push_field(&mut self.bytes, mark_of(text), text)
+    }
+
+    // The text of a null as one field more.
+    fn null(&mut self, null: &NullId) -> Result<(), AllocError>
+        ensures { (records : List (List (List ℕ))) (fields : List (List ℕ)) → HavePrinted self.old records fields
+            → OnOk result (HavePrinted self.new records (fields ++ null_text null.now ∷ [])) }
+    {
+        self.begin_field(false)?;
+        push_null(&mut self.bytes, null)
+    }
+
+    // What stands before the next field, and what the line shows with it.
+    fn begin_field(&mut self, is_empty: bool) -> Result<(), AllocError>
+        ensures bytes { OnOk result (self.new.bytes.items ≡ self.old.bytes.items ++ before_field self.old.line) }
+        ensures line { OnOk result ((field : List ℕ) → is_empty ≡ (length field == 0) → self.new.line ≡ line_with self.old.line field) }
+    {
+        match self.line {
+            OpenLine::NoField if is_empty => self.line = OpenLine::NoByte,
+            OpenLine::NoField => self.line = OpenLine::Bytes,
+            _ => {
+                self.bytes.push(b',')?;
+                self.line = OpenLine::Bytes;
+            }
+        }
+        Ok(())
+    }
+}
+
+// What stands before the text of a constant.
+fn mark_of(text: &[u8]) -> &'static [u8]
+    ensures text { result.now ++ text.now ≡ const_text text.now }
+    ensures plain { needs_quotes default_writer result.now ≡ false }
+{
+    match text {
+        [b'?', ..] => b"?",
+        _ => b"",
+    }
+}
+
+// Whether a field calls for quotes.
+fn calls_for_quotes(field: &[u8]) -> bool
+    ensures { result ≡ needs_quotes default_writer field.now }
+{
+    for byte in field {
+        if matches!(*byte, b',' | b'"' | b'\n' | b'\r') {
+            return true;
+        }
+    }
+    false
+}
+
+// The bytes of a field, each quote twice.
+fn push_escaped(bytes: &mut Vec<u8>, field: &[u8]) -> Result<(), AllocError>
+    ensures { OnOk result (bytes.new.items ≡ bytes.old.items ++ escaped default_writer field.now) }
+{
+    for byte in field {
+        if *byte == b'"' {
+            bytes.push(b'"')?;
+        }
+        bytes.push(*byte)?;
+    }
+    Ok(())
+}
+
+// A field that begins with a mark, in quotes if it calls for them.
+fn push_field(bytes: &mut Vec<u8>, mark: &[u8], field: &[u8]) -> Result<(), AllocError>
+    requires { needs_quotes default_writer mark.now ≡ false }
+    ensures { OnOk result (bytes.new.items ≡ bytes.old.items ++ field_text default_writer (mark.now ++ field.now)) }
+{
+    if calls_for_quotes(field) {
+        bytes.push(b'"')?;
+        bytes.extend_from_slice(mark)?;
+        push_escaped(bytes, field)?;
+        bytes.push(b'"')?;
+    } else {
+        bytes.extend_from_slice(mark)?;
+        bytes.extend_from_slice(field)?;
+    }
+    Ok(())
+}
+
+// The digits of a number.
+fn push_number(bytes: &mut Vec<u8>, number: u32) -> Result<(), AllocError>
+    ensures { OnOk result (bytes.new.items ≡ bytes.old.items ++ decimal number) }
+{
+    let mut buffer = Buffer::new();
+    bytes.extend_from_slice(buffer.format(number).as_bytes())
+}
+
+// The text of a null.
+fn push_null(bytes: &mut Vec<u8>, null: &NullId) -> Result<(), AllocError>
+    ensures text { OnOk result (bytes.new.items ≡ bytes.old.items ++ null_text null.now) }
+    ensures fits { NullFits null.now }
+{
+    let NullId { rule, var, row } = *null;
+    bytes.push(b'?')?;
+    push_number(bytes, rule)?;
+    bytes.push(b'.')?;
+    push_number(bytes, var)?;
+    bytes.push(b'.')?;
+    push_number(bytes, row)
+}
