@@ -1,0 +1,44 @@
+use Rattle.std.proofs.Common.{◌≡◌, ◌∙◌, ◌∷◌, [], ℕ, List, ap, sym, subst, length}
+use Rattle.std.specs.Prelude.{map}
+use Rattle.std.proofs.lemmas.List.{length-map}
+use Rattle.dx_model.specs.declared.values.Value.{Value}
+use Rattle.dx_instance.specs.Shown.{shown_row}
+use Rattle.dx_canonical.specs.Gained.{Gains}
+use Rattle.dx_canonical.specs.Planned.{built, number_of, planned_fact}
+use Rattle.dx_canonical.proofs.Gaining.{gains_next}
+use Rattle.dx_canonical.proofs.Plans.{item_in, some_below}
+use Rattle.dx_canonical.proofs.Tables.{wide_table}
+use Rattle.dx_canonical.proofs.building.add_place.Goals as goal
+
+pub fill-requires : goal.fill-requires
+fill-requires c =
+    let s = c.requires.stand c.atom-item.result (item_in c.args.atoms.now c.loop-atom.atom-index c.atom-item.result c.loop-atom-test.true c.atom-item.is) in
+    rw c.deref.ensures.value s.there
+
+pub add-requires-clause-table : goal.add-requires-clause-table
+add-requires-clause-table c =
+    let s = c.requires.stand c.atom-item.result (item_in c.args.atoms.now c.loop-atom.atom-index c.atom-item.result c.loop-atom-test.true c.atom-item.is) in
+    (wide_table (built c.loop-atom.target) c.atom-item.result.table (length c.atom-item.result.cells.items) (rw c.loop-atom.invariant.gains.widths_stay s.wide)).0
+
+pub add-requires-clause-width : goal.add-requires-clause-width
+add-requires-clause-width c =
+    let s = c.requires.stand c.atom-item.result (item_in c.args.atoms.now c.loop-atom.atom-index c.atom-item.result c.loop-atom-test.true c.atom-item.is) in
+    let w = wide_table (built c.loop-atom.target) c.atom-item.result.table (length c.atom-item.result.cells.items) (rw c.loop-atom.invariant.gains.widths_stay s.wide) in
+    ap length c.deref-in-loop-atom.ensures.value ∙ ap length c.in_ok-fill.ensures ∙ length-map c.deref.result.now (number_of c.args.row.now c.args.place) ∙ ap length c.deref.ensures.value ∙ sym w.1
+
+pub add-requires-clause-below : goal.add-requires-clause-below
+add-requires-clause-below c =
+    let s = c.requires.stand c.atom-item.result (item_in c.args.atoms.now c.loop-atom.atom-index c.atom-item.result c.loop-atom-test.true c.atom-item.is) in
+    rw (c.deref-in-loop-atom.ensures.value, c.in_ok-fill.ensures, c.deref.ensures.value, c.loop-atom.invariant.symbols) (some_below c.args.row.now c.args.place c.atom-item.result.cells.items (length c.args.target.now.symbols) s.below)
+
+pub loop-atom-preserved : goal.loop-atom-preserved
+loop-atom-preserved c =
+    let numbers : c.deref-in-loop-atom.result.now ≡ map (number_of c.args.row.now c.args.place) c.atom-item.result.cells.items =
+    c.deref-in-loop-atom.ensures.value ∙ c.in_ok-fill.ensures ∙ ap (map (number_of c.args.row.now c.args.place)) c.deref.ensures.value in
+    let row : shown_row c.loop-atom.target.symbols c.deref-in-loop-atom.result.now ≡ shown_row c.args.target.now.symbols (map (number_of c.args.row.now c.args.place) c.atom-item.result.cells.items) =
+    ap (λ (S : List Value). shown_row S c.deref-in-loop-atom.result.now) c.loop-atom.invariant.symbols ∙ ap (λ (ns : List ℕ). shown_row c.args.target.now.symbols ns) numbers in
+    record {
+      symbols = c.in_ok-add.ensures.symbols ∙ c.loop-atom.invariant.symbols;
+      gains = gains_next (planned_fact c.args.target.now.symbols c.args.row.now c.args.place) c.args.atoms.now c.loop-atom.atom-index c.atom-item.result c.loop-atom-test.true c.atom-item.is c.loop-atom.invariant.gains
+          (subst (λ (vs : List Value). Gains (built c.loop-atom.target) (built c.add.new.self) (record { table = c.atom-item.result.table; row = vs } ∷ [])) row c.in_ok-add.ensures.added);
+    }

@@ -1,0 +1,15 @@
+mod Ascending
+mod ByPlace
+mod Carrying
+mod Collections
+mod Derived
+mod Growing
+mod Linking
+mod Loops
+mod Numbers
+mod Pairing
+mod Patterns
+mod Places
+mod Translating
+mod Wanting
+mod Whole

@@ -1,0 +1,26 @@
+-- Loops over lists of numbers.
+use Rattle.std.proofs.Common.{◌≡◌, ◌↔◌, ◌∙◌, ◌<◌, ◌≤◌, ◌+◌, ◌++◌, ◌∷◌, ℕ, zero, suc, List, [], refl, sym, ap, subst, arith, length, get_or, take, inl, inr}
+use Rattle.std.proofs.lemmas.List.{take_more, map_more, get_or_default}
+use Rattle.std.specs.Prelude.{map, slice_index, Bool, true, false, ◌==◌}
+use Rattle.std.specs.Bool.{OnTrue}
+use Rattle.std.specs.Ordering.{ordering_index}
+use Rattle.std.specs.declared.cmp.Ordering.{Ordering}
+use Rattle.std.specs.declared.cmp.Ordering.TheVariants.{Less, Equal, Greater}
+use Rattle.dx_ports.specs.Members.{◌∈◌, Each}
+use Rattle.dx_ports.proofs.Members.{in_at}
+
+-- the item that a loop read is the one that an index gives
+pub item_is : (xs : List ℕ) (i x : ℕ) → i < length xs → x ≡ get_or xs i x → x ≡ get_or xs i 0
+item_is xs i x h e = e ∙ get_or_default xs i x 0 h
+
+pub item_in : {X : Type 0} (xs : List X) (i : ℕ) (x : X) → i < length xs → x ≡ get_or xs i x → x ∈ xs
+item_in {X} xs i x h e = subst (λ (y : X). y ∈ xs) (sym e) (in_at xs i x h)
+
+pub on_true : (b : Bool) (P : Type 0) → (b ≡ true → P) → OnTrue b P
+on_true true P f = f refl
+on_true false P f = tt
+
+pub is_less : (o : Ordering) → true ≡ (ordering_index o == 0) → o ≡ Less
+is_less Less e = refl
+is_less Equal e = absurd (cc e)
+is_less Greater e = absurd (cc e)

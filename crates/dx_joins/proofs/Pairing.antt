@@ -1,0 +1,33 @@
+-- Pairs of rows.
+use Rattle.std.proofs.Common.{◌≡◌, ◌↔◌, ◌∙◌, ◌<◌, ◌≤◌, ◌+◌, ◌++◌, ℕ, List, Bool, refl, sym, ap, subst, arith, length, inl, inr, Result, Ok, Err}
+use Rattle.std.specs.Prelude.{map, slice_index, IfOk}
+use Rattle.std.specs.declared.alloc.AllocError.{AllocError}
+use Rattle.std.proofs.lemmas.List.{length-map}
+use Rattle.dx_ports.specs.Members.{◌∈◌, Each}
+use Rattle.dx_joins.specs.declared.plan.Plan.{Plan}
+use Rattle.dx_joins.specs.Collecting.{Collection, Collects}
+use Rattle.dx_joins.specs.Joining.{AreMarked, Joined}
+use Rattle.dx_joins.specs.Looking.{numbers_in}
+use Rattle.dx_joins.specs.Planning.{IsPlan, Pairs, place_of}
+use Rattle.dx_joins.proofs.Places.{joined_from, joined_agree, joined_is}
+use Rattle.dx_joins.proofs.Collections.{collects_more}
+
+pub gathered_width : (p : Plan) (row buffer : List ℕ) → IsPlan p → buffer ≡ numbers_in row p.places.items → length buffer ≡ length p.kept.items
+gathered_width p row buffer i e =
+    let a = ap length e in
+    let c = ap length i.places in
+    let d = length-map p.kept.items (place_of (p.left.items ++ p.right.items)) in
+    a ∙ long p.places.items ∙ c ∙ d
+  where
+    long : (xs : List ℕ) → length (numbers_in row xs) ≡ length xs
+    long xs = length-map xs (slice_index row)
+
+-- what is collected of a pair whose rows agree
+pub paired : (result : Result Bool AllocError) (p : Plan) (marks : List Bool) (r s buffer : List ℕ) (old new : Collection) → IsPlan p → length r ≡ length p.left.items → AreMarked marks s
+    → numbers_in (r ++ s) p.firsts.items ≡ s → buffer ≡ numbers_in (r ++ s) p.places.items
+    → IfOk result (λ full. Collects full old new (λ t. t ≡ buffer)) → IfOk result (λ full. Collects full old new (Pairs p marks r s))
+paired (Err e) p marks r s buffer old new i w m a b k = tt
+paired (Ok full) p marks r s buffer old new i w m a b k = collects_more full old new (λ t. t ≡ buffer) (Pairs p marks r s) (λ t. (
+  (λ e. record { marked = m; joined = joined_from p.left.items p.right.items p.kept.items p.firsts.items p.places.items r s i.once w i.firsts i.places a t (e ∙ b) }),
+  (λ q. joined_is p.left.items p.right.items p.kept.items p.places.items r s t i.known i.places q.joined ∙ sym b),
+)) k

@@ -1,0 +1,51 @@
+use Rattle.std.proofs.Common.{◌≡◌, ◌∙◌, ◌++◌, ◌∷◌, [], ◌+◌, ◌<◌, sym, ap, subst, refl, ℕ, List, take, length, true}
+use Rattle.std.specs.Prelude.{map}
+use Rattle.std.proofs.lemmas.List.{append-nil, take_all}
+use Rattle.dx_model.specs.declared.rules.Derived.{Derived}
+use Rattle.dx_instance.proofs.NumberFacts.{stays}
+use Rattle.dx_instance.proofs.ShownFacts.{extends_both}
+use Rattle.dx_joins.specs.Shown.{AreTexts, texts_of}
+use Rattle.dx_joins.specs.Derivations.{derived_texts}
+use Rattle.dx_joins.proofs.Loops.{item_in}
+use Rattle.dx_joins.proofs.Growing.{derive_more, texts_grow, texts_stay}
+use Rattle.dx_joins.proofs.computed.derive.Goals as goal
+
+pub loop-one-init : goal.loop-one-init
+loop-one-init g c =
+    let e : c.extend_from_slice.new.self.items ≡ c.args.row.now = c.in_ok-extend_from_slice.ensures.items ∙ ap (λ (l : List ℕ). l ++ c.args.row.now) c.clear.ensures.items in
+    record {
+      grows = stays c.args.symbols.now;
+      apart = c.requires.apart;
+      texts = subst (λ (l : List ℕ). AreTexts c.args.symbols.now l) (sym e) c.requires.texts;
+      shown = ap (texts_of c.args.symbols.now) e ∙ sym (append-nil (texts_of c.args.symbols.now c.args.row.now));
+    }
+
+pub derived_number-requires-clause-listed : goal.derived_number-requires-clause-listed
+derived_number-requires-clause-listed g c = c.requires.listed _ (item_in c.args.derived.now c.loop-one.one-index c.one-item.result c.loop-one-test.true c.one-item.is)
+
+pub derived_number-requires-clause-known : goal.derived_number-requires-clause-known
+derived_number-requires-clause-known g c = c.requires.known _ (item_in c.args.derived.now c.loop-one.one-index c.one-item.result c.loop-one-test.true c.one-item.is)
+
+pub derived_number-requires-clause-texts : goal.derived_number-requires-clause-texts
+derived_number-requires-clause-texts g c = texts_grow c.args.symbols.now c.loop-one.symbols c.args.row.now c.loop-one.invariant.grows c.requires.texts
+
+pub returns-in_err-number-clause-grows : goal.returns-in_err-number-clause-grows
+returns-in_err-number-clause-grows g c = extends_both c.args.symbols.now c.loop-one.symbols c.derived_number.new.symbols c.loop-one.invariant.grows c.derived_number.ensures.grows
+
+pub returns-in_err-push-clause-grows : goal.returns-in_err-push-clause-grows
+returns-in_err-push-clause-grows g c = extends_both c.args.symbols.now c.loop-one.symbols c.derived_number.new.symbols c.loop-one.invariant.grows c.derived_number.ensures.grows
+
+pub loop-one-preserved : goal.loop-one-preserved
+loop-one-preserved g c =
+    let inv = c.loop-one.invariant in
+    let more = derive_more g.M.Meaning.apply c.args.names.now c.args.derived.now c.args.row.now c.loop-one.buffer.items c.loop-one.one-index c.one-item.result c.in_ok-number.number c.args.symbols.now c.loop-one.symbols c.derived_number.new.symbols
+    c.loop-one-test.true c.one-item.is inv.grows c.derived_number.ensures.grows c.requires.texts inv.texts c.in_ok-number.ensures.within c.in_ok-number.ensures.value inv.shown in
+    record {
+      grows = extends_both c.args.symbols.now c.loop-one.symbols c.derived_number.new.symbols inv.grows c.derived_number.ensures.grows;
+      apart = c.derived_number.ensures.apart;
+      texts = subst (λ (l : List ℕ). AreTexts c.derived_number.new.symbols l) (sym c.in_ok-push.ensures.items) more.0;
+      shown = ap (texts_of c.derived_number.new.symbols) c.in_ok-push.ensures.items ∙ more.1;
+    }
+
+pub returns-clause-shown : goal.returns-clause-shown
+returns-clause-shown g c = c.loop-one.invariant.shown ∙ ap (λ (l : List Derived). texts_of c.args.symbols.now c.args.row.now ++ derived_texts g.M.Meaning.apply c.args.names.now l (texts_of c.args.symbols.now c.args.row.now)) (take_all c.loop-one.one-index c.args.derived.now c.loop-one-test.false)

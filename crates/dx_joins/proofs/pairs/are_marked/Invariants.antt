@@ -1,0 +1,6 @@
+use Rattle.std.proofs.Common.{◌≡◌, ℕ, take}
+use Rattle.dx_joins.specs.Joining.{AreMarked}
+use Rattle.dx_joins.proofs.pairs.are_marked.Given as goal
+
+abbrev pub invariant-loop-number : goal.invariant-loop-number
+invariant-loop-number l = AreMarked l.marks (take l.number-index l.row)

@@ -1,0 +1,6 @@
+use Rattle.std.proofs.Common.{◌≡◌, ℕ, take}
+use Rattle.dx_ports.specs.Members.{Each}
+use Rattle.dx_joins.proofs.plan.has.Given as goal
+
+abbrev pub invariant-loop-y : goal.invariant-loop-y
+invariant-loop-y l = Each (take l.y-index l.numbers) (λ z. ¬ (z ≡ l.x))

@@ -1,0 +1,12 @@
+use Rattle.std.proofs.Common.{◌≡◌, ◌≤◌, ℕ, take, length}
+use Rattle.dx_ports.specs.Members.{◌∈◌, ◌⊆◌, Distinct}
+use Rattle.dx_joins.specs.Planning.{IsNeeded}
+use Rattle.dx_joins.proofs.premise.needed.Given as goal
+
+abbrev pub invariant-loop-x : goal.invariant-loop-x
+invariant-loop-x l = record {
+  some : l.kept.items ⊆ l.names;
+  all : (x : ℕ) → x ∈ take l.x-index l.names → IsNeeded l.later l.wanted x → x ∈ l.kept.items;
+  once : Distinct l.kept.items;
+  few : length l.kept.items ≤ l.x-index;
+}

@@ -1,0 +1,27 @@
+use Rattle.std.proofs.Common.{refl, ◌≡◌, ◌∙◌, ◌⊎◌, ◌↔◌, sym, ap, subst, arith, List, ℕ, length, [], ◌<◌}
+use Rattle.dx_ports.specs.Members.{◌∈◌}
+use Rattle.dx_joins.specs.Collecting.{Collection, Collects, Gains, MoreThan}
+use Rattle.dx_joins.specs.Planning.{StepsTo}
+use Rattle.dx_joins.proofs.Carrying.{from_plan, plan_steps, step_done, step_full}
+use Rattle.dx_joins.proofs.premise.step.Goals as goal
+
+pub returns-then-branch : goal.returns-then-branch
+returns-then-branch c =
+    let plan = c.in_ok-plan.plan in
+    let e = c.in_ok-plan.ensures in
+    let P : List ℕ → Type 0 = from_plan c.args.source.now.tables c.args.marks.now c.args.partial.now c.args.pattern.now plan in
+    let Q : List ℕ → Type 0 = StepsTo c.args.source.now.tables c.args.marks.now c.args.partial.now c.args.pattern.now c.args.kept.now in
+    let full : MoreThan c.new-out.result.most (λ t. (t ∈ c.new-out.result.rows) ⊎ P t) = rw c.if-branch.true at c.in_ok-join.ensures in
+    step_full c.new-out.result c.args.most P Q (ap (λ (x : Collection). x.most) c.new-out.ensures) (ap (λ (x : Collection). x.rows) c.new-out.ensures)
+    (λ t. (plan_steps c.args.source.now.tables c.args.marks.now c.args.partial.now c.args.pattern.now plan c.args.kept.now (e.left ∙ c.deref.ensures.value) (e.right ∙ c.deref-2.ensures.value) e.kept t).0) full
+
+pub returns : goal.returns
+returns c =
+    let plan = c.in_ok-plan.plan in
+    let e = c.in_ok-plan.ensures in
+    let P : List ℕ → Type 0 = from_plan c.args.source.now.tables c.args.marks.now c.args.partial.now c.args.pattern.now plan in
+    let Q : List ℕ → Type 0 = StepsTo c.args.source.now.tables c.args.marks.now c.args.partial.now c.args.pattern.now c.args.kept.now in
+    let gains : Gains c.new-out.result c.join.new.out P = rw c.if-branch.false at c.in_ok-join.ensures in
+    step_done c.finish.result c.new-out.result c.join.new.out c.args.most (length c.args.kept.now) P Q (ap (λ (x : Collection). x.most) c.new-out.ensures) (ap (λ (x : Collection). x.width) c.new-out.ensures)
+    (ap (λ (x : Collection). x.rows) c.new-out.ensures)
+    (plan_steps c.args.source.now.tables c.args.marks.now c.args.partial.now c.args.pattern.now plan c.args.kept.now (e.left ∙ c.deref.ensures.value) (e.right ∙ c.deref-2.ensures.value) e.kept) gains c.finish.ensures

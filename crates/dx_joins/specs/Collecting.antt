@@ -1,0 +1,32 @@
+-- Rows that are collected, up to a number.
+use Rattle.std.specs.Prelude.{◌≡◌, ◌↔◌, ◌⊎◌, ◌<◌, ◌≤◌, ◌^◌, ℕ, Bool, MatchBool, List, length, take}
+use Rattle.dx_ports.specs.Members.{◌∈◌, Each}
+use Rattle.dx_instance.specs.Cells.{NumbersAscend}
+
+-- rows of one width, of which no more than so many distinct ones are wanted
+pub record Collection : Type 0 where
+  pub width : ℕ
+  pub most : ℕ
+  pub rows : List (List ℕ)
+
+-- the collection has what it had and what has P, and nothing else
+pub record Gains (old new : Collection) (P : List ℕ → Type 0) : Type 0 where
+  pub width : new.width ≡ old.width
+  pub most : new.most ≡ old.most
+  pub exact : (t : List ℕ) → (t ∈ new.rows) ↔ ((t ∈ old.rows) ⊎ P t)
+
+-- more than so many rows have P
+pub record MoreThan (most : ℕ) (P : List ℕ → Type 0) : Type 0 where
+  pub some : List (List ℕ)
+  pub ascend : NumbersAscend some
+  pub each : Each some P
+  pub more : most < length some
+  pub few : length some < 2 ^ 32
+
+-- there are more rows than are wanted, or else the collection gains those that have P
+abbrev pub Collects : Bool → Collection → Collection → (List ℕ → Type 0) → Type 0
+Collects full old new P = MatchBool full (MoreThan old.most (λ t. (t ∈ old.rows) ⊎ P t)) (Gains old new P)
+
+-- what is known of the first rows: they ascend
+abbrev pub FirstAscend : ℕ → List (List ℕ) → Type 0
+FirstAscend n rows = (n ≤ length rows) × NumbersAscend (take n rows)

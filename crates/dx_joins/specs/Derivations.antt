@@ -1,0 +1,33 @@
+-- Derived variables of a row.
+use Rattle.std.specs.Prelude.{◌≡◌, ◌⊎◌, ℕ, Bool, List, [], ◌++◌, length, map, slice_index_or}
+use Rattle.std.specs.List.{range_with_len}
+use Rattle.dx_ports.specs.Members.{◌∈◌}
+use Rattle.dx_model.specs.declared.values.Value.{Value}
+use Rattle.dx_joins.specs.Collecting.{Collection, Collects}
+use Rattle.dx_joins.specs.Shown.{AreTexts, texts_of}
+use Rattle.dx_model.specs.declared.rules.Derived.{Derived}
+use Rattle.dx_model.specs.Values.{Conversions, Text, Tuple}
+use Rattle.dx_model.specs.Rules.{text_of}
+
+-- the texts of derived variables, if these variables have the texts of a tuple
+abbrev pub derived_texts : Conversions → List ℕ → List Derived → Tuple → Tuple
+derived_texts convert names derived t = map (λ (e : Derived). convert e.code (map (text_of names t) e.args)) derived
+
+-- the variable is an argument of a derived variable, or is shown
+abbrev pub IsWanted : List Derived → List ℕ → ℕ → Type 0
+IsWanted derived shown x = (x ∈ shown) ⊎ ((e : Derived) × (e ∈ derived) × (x ∈ e.args))
+
+-- what a tuple and its derived variables, which are numbered from `first` on, give to the shown variables
+abbrev pub given_to : Conversions → List ℕ → List Derived → ℕ → List ℕ → Tuple → Tuple
+given_to convert wanted derived first shown u = map (text_of (wanted ++ range_with_len first (length derived)) (u ++ derived_texts convert wanted derived u)) shown
+
+-- one of the rows gives t
+abbrev pub GivenBy : Conversions → List ℕ → List Derived → ℕ → List ℕ → List Value → List (List ℕ) → Tuple → Type 0
+GivenBy convert wanted derived first shown symbols rows t = (r : List ℕ) × (r ∈ rows) × (t ≡ given_to convert wanted derived first shown (texts_of symbols r))
+
+-- the collection gets the row of texts that a row and its derived variables have at these places
+pub record DerivesTo (convert : Conversions) (wanted : List ℕ) (derived : List Derived) (places : List ℕ) (old new : List Value) (row : List ℕ) (full : Bool) (before after : Collection) : Type 0 where
+  pub got : List ℕ
+  pub texts : AreTexts new got
+  pub shown : texts_of new got ≡ map (λ i. slice_index_or (texts_of old row ++ derived_texts convert wanted derived (texts_of old row)) i []) places
+  pub collects : Collects full before after (λ t. t ≡ got)

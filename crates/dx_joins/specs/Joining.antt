@@ -1,0 +1,33 @@
+-- Natural joins of rows of numbers.
+use Rattle.std.specs.Prelude.{◌≡◌, ◌↔◌, ◌⊎◌, ◌<◌, ℕ, suc, cond, eqb, Bool, false, true, List, [], ◌∷◌, ◌++◌, length, map, flat_map, slice_index, slice_index_or}
+use Rattle.dx_ports.specs.Members.{◌∈◌, Distinct, Each}
+use Rattle.dx_instance.specs.Cells.{NumberTable}
+use Rattle.dx_instance.specs.Shown.{numbers_of_table}
+use Rattle.dx_joins.specs.declared.pattern.Pattern.{Pattern}
+
+-- the rows are what the assignments that have P give to these variables
+pub record Tells (P : (ℕ → ℕ) → Type 0) (variables : List ℕ) (rows : List (List ℕ)) : Type 0 where
+  pub exact : (t : List ℕ) → (t ∈ rows) ↔ ((numbers : ℕ → ℕ) × P numbers × (t ≡ map numbers variables))
+
+-- one assignment gives r to the variables of the left, s to those of the right, and t to those that are kept
+pub record Joined (left right kept : List ℕ) (r s t : List ℕ) : Type 0 where
+  pub numbers : ℕ → ℕ
+  pub first : r ≡ map numbers left
+  pub second : s ≡ map numbers right
+  pub whole : t ≡ map numbers kept
+
+-- the list has true under each of these numbers
+abbrev pub AreMarked : List Bool → List ℕ → Type 0
+AreMarked marks row = Each row (λ n. slice_index_or marks n false ≡ true)
+
+-- the numbers of a pattern's variables are a row of its table, each of them marked
+abbrev pub Stands : List NumberTable → List Bool → (ℕ → ℕ) → Pattern → Type 0
+Stands tables marks numbers p = (map numbers p.variables.items ∈ (numbers_of_table tables p.table).rows) × AreMarked marks (map numbers p.variables.items)
+
+-- so are those of each pattern
+abbrev pub Says : List NumberTable → List Bool → List Pattern → (ℕ → ℕ) → Type 0
+Says tables marks patterns numbers = Each patterns (Stands tables marks numbers)
+
+-- the variables of patterns, in order and with repeats
+abbrev pub variables_of : List Pattern → List ℕ
+variables_of patterns = flat_map (λ (p : Pattern). p.variables.items) patterns

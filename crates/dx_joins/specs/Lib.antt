@@ -1,0 +1,6 @@
+pub mod Collecting
+pub mod Derivations
+pub mod Joining
+pub mod Looking
+pub mod Planning
+pub mod Shown

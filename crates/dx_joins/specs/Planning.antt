@@ -1,0 +1,71 @@
+-- How a row of a table of partial matches and a row of a pattern's table are put together.
+use Rattle.std.specs.Prelude.{◌≡◌, ◌↔◌, ◌⊎◌, ◌<◌, ◌≤◌, ◌+◌, ℕ, suc, cond, eqb, Bool, List, [], ◌∷◌, ◌++◌, length, map, slice_index}
+use Rattle.dx_ports.specs.Members.{◌∈◌, ◌⊆◌, Distinct, Each}
+use Rattle.dx_joins.specs.declared.plan.Plan.{Plan}
+use Rattle.dx_joins.specs.declared.pattern.Pattern.{Pattern}
+use Rattle.dx_instance.specs.Cells.{NumberTable, NumbersAscend}
+use Rattle.dx_instance.specs.Shown.{numbers_of_table}
+use Rattle.dx_joins.specs.declared.premise.Partial.{Partial}
+use Rattle.dx_joins.specs.Joining.{AreMarked, Joined, Says, Tells, variables_of}
+
+-- the place where x stands first
+abbrev pub place_of : List ℕ → ℕ → ℕ
+place_of [] x = 0
+place_of (y ∷ ys) x = cond (eqb x y) 0 (suc (place_of ys x))
+
+-- the plan's places are those of its variables, and it looks for rows by variables that stand on both sides
+pub record IsPlan (p : Plan) : Type 0 where
+  pub once : Distinct p.left.items
+  pub known : p.kept.items ⊆ (p.left.items ++ p.right.items)
+  pub firsts : p.firsts.items ≡ map (place_of (p.left.items ++ p.right.items)) p.right.items
+  pub places : p.places.items ≡ map (place_of (p.left.items ++ p.right.items)) p.kept.items
+  pub left_within : Each p.by_left.items (λ i. i < length p.left.items)
+  pub right_within : Each p.by_right.items (λ i. i < length p.right.items)
+  pub shared : map (slice_index p.left.items) p.by_left.items ≡ map (slice_index p.right.items) p.by_right.items
+
+-- t comes of r and the marked row s
+pub record Pairs (p : Plan) (marks : List Bool) (r s t : List ℕ) : Type 0 where
+  pub marked : AreMarked marks s
+  pub joined : Joined p.left.items p.right.items p.kept.items r s t
+
+-- t comes of r and one of the rows
+abbrev pub PairsWith : Plan → List Bool → List (List ℕ) → List ℕ → List ℕ → Type 0
+PairsWith p marks rows r t = (s : List ℕ) × (s ∈ rows) × Pairs p marks r s t
+
+-- a later pattern has the variable, or it is wanted in the end
+abbrev pub IsNeeded : List Pattern → List ℕ → ℕ → Type 0
+IsNeeded later wanted x = (x ∈ variables_of later) ⊎ (x ∈ wanted)
+
+-- the pattern has a variable for each column of its table
+pub record FitPattern (tables : List NumberTable) (p : Pattern) : Type 0 where
+  pub table : p.table < length tables
+  pub width : (numbers_of_table tables p.table).width ≡ length p.variables.items
+
+-- t comes of a partial match and a row of the pattern's table
+abbrev pub StepsTo : List NumberTable → List Bool → Partial → Pattern → List ℕ → List ℕ → Type 0
+StepsTo tables marks p pattern kept t =
+    (r : List ℕ) × (r ∈ p.rows.rows) × (s : List ℕ) × (s ∈ (numbers_of_table tables pattern.table).rows) × AreMarked marks s × Joined p.variables.items pattern.variables.items kept r s t
+
+-- the partial matches are those of the patterns that are done, for the variables that are needed
+pub record Carries (tables : List NumberTable) (marks : List Bool) (done later : List Pattern) (wanted : List ℕ) (p : Partial) : Type 0 where
+  pub told : Tells (Says tables marks done) p.variables.items p.rows.rows
+  pub kept : (x : ℕ) → x ∈ variables_of done → IsNeeded later wanted x → x ∈ p.variables.items
+  pub once : Distinct p.variables.items
+  pub wide : p.rows.width ≡ length p.variables.items
+  pub few : length p.variables.items ≤ length (variables_of done)
+
+-- a match of the patterns gives t to the variables
+abbrev pub IsTold : List NumberTable → List Bool → List Pattern → List ℕ → List ℕ → Type 0
+IsTold tables marks patterns shown t = (numbers : ℕ → ℕ) × Says tables marks patterns numbers × (t ≡ map numbers shown)
+
+-- the rows are what the matches of the patterns give to the variables
+pub record Told (tables : List NumberTable) (marks : List Bool) (patterns : List Pattern) (shown : List ℕ) (t : NumberTable) : Type 0 where
+  pub width : t.width ≡ length shown
+  pub ascend : NumbersAscend t.rows
+  pub exact : (r : List ℕ) → (r ∈ t.rows) ↔ IsTold tables marks patterns shown r
+
+-- x is added to distinct numbers, if it is not there
+pub record AddsOnce (old new : List ℕ) (x : ℕ) : Type 0 where
+  pub all : (y : ℕ) → (y ∈ new) ↔ ((y ∈ old) ⊎ (y ≡ x))
+  pub once : Distinct old → Distinct new
+  pub few : length new ≤ length old + 1

@@ -1,0 +1,107 @@
+// Derived variables, whose texts a host computes.
+ghost use Rattle.std.specs.Prelude.{◌≡◌, ◌↔◌, ◌⊎◌, ◌<◌, ◌≤◌, ◌+◌, ◌-◌, ◌^◌, ◌++◌, ◌∷◌, [], ℕ, List, IfOk, OnOk, IsTrue, MatchOption, length, map};
+ghost use Rattle.dx_ports.specs.Members.{◌∈◌, ◌⊆◌, Distinct, Each};
+ghost use Rattle.dx_model.specs.declared.values.Value.TheVariants.{Const};
+ghost use Rattle.dx_model.specs.declared.rules.Derived.{Derived as AnyDerived};
+ghost use Rattle.dx_model.specs.Values.{Tuple as AnyTuple};
+ghost use Rattle.dx_model.specs.Rules.{text_of};
+ghost use Rattle.dx_funcs.specs.Offers.{IsListed};
+ghost use Rattle.dx_funcs.specs.Serving.{Serves, offered};
+ghost use Rattle.dx_instance.specs.Numbers.{AreApart, Extends, value_of};
+ghost use Rattle.dx_instance.specs.Shown.{AreBelow};
+ghost use Rattle.dx_joins.specs.Shown.{AreTexts, text_in, texts_of};
+ghost use Rattle.dx_joins.specs.Derivations.{derived_texts};
+
+use crate::plan::place;
+use dx_funcs::{Host, Meaning};
+use dx_instance::{Symbols, Value};
+use dx_model::Derived;
+use dx_ports::{Items, Text};
+use std::alloc::{AllocError, Global};
+
+// The text for which a number stands.
+fn text_at(symbols: &Symbols, number: u32) -> Result<Text, AllocError>
+    requires { AreTexts symbols.now (number ∷ []) }
+    ensures { IfOk result (λ t. t ≡ text_in (value_of symbols.now number)) }
+{
+    match symbols.value(number as u64) {
+        Value::Const(text) => text.copy(),
+        Value::Null(_) => unreachable!(),
+    }
+}
+
+// The texts that a row gives to variables.
+fn texts_for(
+    alloc: Global,
+    names: &[u32],
+    row: &[u32],
+    variables: &[u32],
+    symbols: &Symbols,
+) -> Result<Items<Text>, AllocError>
+    requires known { variables.now ⊆ names.now }
+    requires many { length row.now ≡ length names.now }
+    requires texts { AreTexts symbols.now row.now }
+    ensures { IfOk result (λ t. t ≡ map (text_of names.now (texts_of symbols.now row.now)) variables.now) }
+{
+    let mut texts = Items::new(alloc);
+    for x in variables {
+        texts.push(text_at(symbols, row[place(names, *x)])?)?;
+    }
+    Ok(texts)
+}
+
+// The number of a derived variable's text, for the texts of a row.
+fn derived_number<F: Fn(u32, &Items<Text>) -> Result<Text, AllocError>, M: Meaning>(
+    alloc: Global,
+    names: &[u32],
+    row: &[u32],
+    derived: &Derived,
+    symbols: &mut Symbols,
+    host: &Host<F, M>,
+) -> Result<u32, AllocError>
+    requires serves { Serves F.Fn M.apply host.now }
+    requires listed { IsListed (offered host.now) derived.now.code (length derived.now.args) }
+    requires known { derived.now.args ⊆ names.now }
+    requires many { length row.now ≡ length names.now }
+    requires texts { AreTexts symbols.old row.now }
+    requires apart { AreApart symbols.old }
+    ensures grows { Extends symbols.old symbols.new }
+    ensures apart { AreApart symbols.new }
+    ensures within { IfOk result (λ n. n < length symbols.new) }
+    ensures value { IfOk result (λ n. value_of symbols.new n ≡ Const (M.apply derived.now.code (map (text_of names.now (texts_of symbols.old row.now)) derived.now.args))) }
+{
+    let args = texts_for(alloc, names, row, derived.args.items(), symbols)?;
+    let text = host.call(derived.code, &args)?;
+    let number = symbols.intern(Value::Const(text))?;
+    Ok(number as u32)
+}
+
+/// Puts a row into the buffer, and after it the numbers of the texts of derived variables.
+pub(crate) fn derive<F: Fn(u32, &Items<Text>) -> Result<Text, AllocError>, M: Meaning>(
+    alloc: Global,
+    names: &[u32],
+    row: &[u32],
+    derived: &[Derived],
+    symbols: &mut Symbols,
+    host: &Host<F, M>,
+    buffer: &mut Vec<u32>,
+) -> Result<(), AllocError>
+    requires serves { Serves F.Fn M.apply host.now }
+    requires listed { Each derived.now (λ (e : AnyDerived). IsListed (offered host.now) e.code (length e.args)) }
+    requires known { Each derived.now (λ (e : AnyDerived). e.args ⊆ names.now) }
+    requires many { length row.now ≡ length names.now }
+    requires texts { AreTexts symbols.old row.now }
+    requires apart { AreApart symbols.old }
+    ensures grows { Extends symbols.old symbols.new }
+    ensures apart { AreApart symbols.new }
+    ensures texts { OnOk result (AreTexts symbols.new buffer.new.items) }
+    ensures shown { OnOk result (texts_of symbols.new buffer.new.items ≡ texts_of symbols.old row.now ++ derived_texts M.apply names.now derived.now (texts_of symbols.old row.now)) }
+{
+    buffer.clear();
+    buffer.extend_from_slice(row)?;
+    for one in derived {
+        let number = derived_number(alloc, names, row, one, symbols, host)?;
+        buffer.push(number)?;
+    }
+    Ok(())
+}

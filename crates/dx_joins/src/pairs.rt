@@ -1,0 +1,94 @@
+// Pairs of rows.
+ghost use Rattle.std.specs.Prelude.{◌≡◌, ◌↔◌, ◌<◌, ◌+◌, ◌++◌, IfOk, OnOk, IsTrue, length, map, slice_index};
+ghost use Rattle.dx_ports.specs.Members.{Each};
+ghost use Rattle.dx_instance.specs.Shown.{AreBelow};
+ghost use Rattle.dx_joins.specs.Collecting.{Collects};
+ghost use Rattle.dx_joins.specs.Joining.{AreMarked};
+ghost use Rattle.dx_joins.specs.Looking.{numbers_in};
+ghost use Rattle.dx_joins.specs.Planning.{IsPlan, Pairs};
+
+use crate::collected::Collected;
+use crate::plan::Plan;
+use std::alloc::AllocError;
+
+/// Whether each number of the row is marked.
+pub(crate) fn are_marked(marks: &[bool], row: &[u32]) -> bool
+    requires { AreBelow (length marks.now) row.now }
+    ensures { IsTrue result ↔ AreMarked marks.now row.now }
+{
+    for number in row {
+        if !marks[*number as usize] {
+            return false;
+        }
+    }
+    true
+}
+
+// The number at a place of two rows, one after the other.
+fn number_at(left: &[u32], right: &[u32], place: usize) -> u32
+    requires { place < length left.now + length right.now }
+    ensures { result ≡ slice_index (left.now ++ right.now) place }
+{
+    if place < left.len() {
+        left[place]
+    } else {
+        right[place - left.len()]
+    }
+}
+
+// Whether the numbers of the right row are those at these places.
+fn agree(left: &[u32], right: &[u32], firsts: &[usize]) -> bool
+    requires within { Each firsts.now (λ i. i < length left.now + length right.now) }
+    requires many { length firsts.now ≡ length right.now }
+    ensures { IsTrue result ↔ (numbers_in (left.now ++ right.now) firsts.now ≡ right.now) }
+{
+    for column in 0..firsts.len() {
+        if number_at(left, right, firsts[column]) != right[column] {
+            return false;
+        }
+    }
+    true
+}
+
+// Puts the numbers at these places into the buffer.
+pub(crate) fn gather(
+    left: &[u32],
+    right: &[u32],
+    places: &[usize],
+    buffer: &mut Vec<u32>,
+) -> Result<(), AllocError>
+    requires within { Each places.now (λ i. i < length left.now + length right.now) }
+    ensures { OnOk result (buffer.new.items ≡ numbers_in (left.now ++ right.now) places.now) }
+{
+    buffer.clear();
+    for place in places {
+        buffer.push(number_at(left, right, *place))?;
+    }
+    Ok(())
+}
+
+/// Collects what comes of two rows, if anything does. Answers whether there are more rows than are wanted.
+pub(crate) fn join_pair(
+    plan: &Plan,
+    marks: &[bool],
+    left: &[u32],
+    right: &[u32],
+    buffer: &mut Vec<u32>,
+    out: &mut Collected,
+) -> Result<bool, AllocError>
+    requires plan { IsPlan plan.now }
+    requires left { length left.now ≡ length plan.now.left.items }
+    requires right { length right.now ≡ length plan.now.right.items }
+    requires below { AreBelow (length marks.now) right.now }
+    requires width { out.old.width ≡ length plan.now.kept.items }
+    ensures { IfOk result (λ full. Collects full out.old out.new (Pairs plan.now marks.now left.now right.now)) }
+{
+    if !are_marked(marks, right) {
+        return Ok(false);
+    }
+    if !agree(left, right, &plan.firsts) {
+        return Ok(false);
+    }
+    gather(left, right, &plan.places, buffer)?;
+    out.push(buffer)
+}

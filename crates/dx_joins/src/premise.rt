@@ -1,0 +1,197 @@
+// The join of a premise, pattern by pattern.
+ghost use Rattle.std.specs.Prelude.{◌≡◌, ◌↔◌, ◌⊎◌, ◌<◌, ◌≤◌, ◌+◌, ◌-◌, ◌^◌, ◌++◌, ◌∷◌, [], ℕ, List, IfOk, OnOk, IsTrue, MatchOption, length, map};
+ghost use Rattle.dx_ports.specs.Members.{◌∈◌, ◌⊆◌, Distinct, Each};
+ghost use Rattle.dx_instance.specs.Cells.{NumbersAscend};
+ghost use Rattle.dx_instance.specs.Shown.{numbers_of_table};
+ghost use Rattle.dx_joins.specs.declared.pattern.Pattern.{Pattern as AnyPattern};
+ghost use Rattle.dx_joins.specs.Collecting.{MoreThan};
+ghost use Rattle.dx_joins.specs.Joining.{Says, variables_of};
+ghost use Rattle.dx_joins.specs.Planning.{AddsOnce, Carries, FitPattern, IsNeeded, IsTold, StepsTo, Told};
+
+use crate::collected::Collected;
+use crate::join::join;
+use crate::pattern::Pattern;
+use crate::plan::{Plan, copied, has, joined};
+use dx_instance::{Numbers, Rows};
+use std::alloc::{AllocError, Global};
+
+/// Rows of numbers, and the variables that they are for.
+#[derive(Drop)]
+pub(crate) struct Partial {
+    pub(crate) variables: Vec<u32>,
+    pub(crate) rows: Rows,
+}
+
+// Whether the variable stands in one of the patterns.
+fn stands_in(x: u32, patterns: &[Pattern]) -> bool
+    ensures { IsTrue result ↔ (x ∈ variables_of patterns.now) }
+{
+    for pattern in patterns {
+        if has(&pattern.variables, x) {
+            return true;
+        }
+    }
+    false
+}
+
+// Whether a later pattern has the variable, or it is wanted in the end.
+fn is_needed(x: u32, later: &[Pattern], wanted: &[u32]) -> bool
+    ensures { IsTrue result ↔ IsNeeded later.now wanted.now x }
+{
+    if has(wanted, x) {
+        return true;
+    }
+    stands_in(x, later)
+}
+
+// Adds a variable that is not there yet.
+fn add_once(variables: &mut Vec<u32>, x: u32) -> Result<(), AllocError>
+    ensures { OnOk result (AddsOnce variables.old.items variables.new.items x) }
+{
+    if has(variables, x) {
+        return Ok(());
+    }
+    variables.push(x)?;
+    Ok(())
+}
+
+// The variables that are still needed, each once.
+fn needed(
+    alloc: Global,
+    names: &[u32],
+    later: &[Pattern],
+    wanted: &[u32],
+) -> Result<Vec<u32>, AllocError>
+    ensures some { IfOk result (λ v. v.items ⊆ names.now) }
+    ensures all { IfOk result (λ v. (x : ℕ) → x ∈ names.now → IsNeeded later.now wanted.now x → x ∈ v.items) }
+    ensures once { IfOk result (λ v. Distinct v.items) }
+    ensures few { IfOk result (λ v. length v.items ≤ length names.now) }
+{
+    let mut kept = Vec::new(alloc);
+    for x in names {
+        if is_needed(*x, later, wanted) {
+            add_once(&mut kept, *x)?;
+        }
+    }
+    Ok(kept)
+}
+
+// The rows that one pattern more makes of partial matches, for the variables that are kept. None if there are more
+// than are wanted.
+fn step(
+    alloc: Global,
+    partial: &Partial,
+    pattern: &Pattern,
+    kept: &[u32],
+    marks: &[bool],
+    source: &Numbers,
+    most: u64,
+) -> Result<Option<Rows>, AllocError>
+    requires once { Distinct partial.now.variables.items }
+    requires wide { partial.now.rows.width ≡ length partial.now.variables.items }
+    requires known { kept.now ⊆ (partial.now.variables.items ++ pattern.now.variables.items) }
+    requires few { length kept.now < 2 ^ 32 }
+    requires fits { FitPattern source.now.tables pattern.now }
+    requires marks { length marks.now ≡ length source.now.symbols }
+    ensures { IfOk result (λ o. MatchOption o
+        (MoreThan most (StepsTo source.now.tables marks.now partial.now pattern.now kept.now))
+        (λ r. (r.width ≡ length kept.now) × NumbersAscend r.rows × ((t : List ℕ) → (t ∈ r.rows) ↔ StepsTo source.now.tables marks.now partial.now pattern.now kept.now t))) }
+{
+    let plan = Plan::build(alloc, &partial.variables, &pattern.variables, kept)?;
+    let mut out = Collected::new(alloc, kept.len() as u32, most);
+    if join(
+        alloc,
+        &plan,
+        marks,
+        source,
+        pattern.table,
+        &partial.rows,
+        &mut out,
+    )? {
+        return Ok(None);
+    }
+    out.finish()
+}
+
+// The partial matches with one pattern more. Variables that nobody needs any more are dropped.
+fn next(
+    alloc: Global,
+    partial: &Partial,
+    pattern: &Pattern,
+    later: &[Pattern],
+    wanted: &[u32],
+    marks: &[bool],
+    source: &Numbers,
+) -> Result<Partial, AllocError>
+    requires once { Distinct partial.now.variables.items }
+    requires wide { partial.now.rows.width ≡ length partial.now.variables.items }
+    requires few { length partial.now.variables.items + length pattern.now.variables.items < 2 ^ 32 }
+    requires fits { FitPattern source.now.tables pattern.now }
+    requires marks { length marks.now ≡ length source.now.symbols }
+    ensures { IfOk result (λ p. (done : List AnyPattern) → Carries source.now.tables marks.now done (pattern.now ∷ later.now) wanted.now partial.now
+        → Carries source.now.tables marks.now (done ++ pattern.now ∷ []) later.now wanted.now p) }
+{
+    let names = joined(alloc, &partial.variables, &pattern.variables)?;
+    let kept = needed(alloc, &names, later, wanted)?;
+    match step(alloc, partial, pattern, &kept, marks, source, u64::MAX)? {
+        Some(rows) => Ok(Partial {
+            variables: kept,
+            rows,
+        }),
+        None => unreachable!(),
+    }
+}
+
+// The partial match before the first pattern.
+fn start(alloc: Global) -> Result<Partial, AllocError>
+    ensures variables { IfOk result (λ p. p.variables.items ≡ []) }
+    ensures rows { IfOk result (λ p. p.rows.rows ≡ [] ∷ []) }
+    ensures width { IfOk result (λ p. p.rows.width ≡ 0) }
+{
+    let mut rows = Rows::new(alloc, 0);
+    rows.push(&[])?;
+    Ok(Partial {
+        variables: Vec::new(alloc),
+        rows,
+    })
+}
+
+/// The numbers that the matches of a premise give to the variables, ascending and each row once. None if there are more
+/// rows than are wanted.
+///
+/// # Errors
+///
+/// `AllocError` if there is no memory, or a table of partial matches has more rows than have numbers.
+pub(crate) fn premise_rows(
+    alloc: Global,
+    patterns: &[Pattern],
+    shown: &[u32],
+    marks: &[bool],
+    source: &Numbers,
+    most: u64,
+) -> Result<Option<Rows>, AllocError>
+    requires some { ¬ (patterns.now ≡ []) }
+    requires fit { Each patterns.now (FitPattern source.now.tables) }
+    requires few { length (variables_of patterns.now) < 2 ^ 32 }
+    requires shown { shown.now ⊆ variables_of patterns.now }
+    requires wide { length shown.now < 2 ^ 32 }
+    requires marks { length marks.now ≡ length source.now.symbols }
+    ensures { IfOk result (λ o. MatchOption o
+        (MoreThan most (IsTold source.now.tables marks.now patterns.now shown.now))
+        (λ r. Told source.now.tables marks.now patterns.now shown.now r)) }
+{
+    let last = patterns.len() - 1;
+    let mut partial = start(alloc)?;
+    for i in 0..last {
+        partial = next(
+            alloc,
+            &partial,
+            &patterns[i],
+            &patterns[i + 1..],
+            shown,
+            marks,
+            source,
+        )?;
+    }
+    step(alloc, &partial, &patterns[last], shown, marks, source, most)
+}

@@ -1,0 +1,225 @@
+// What the matches of a premise and derived variables give to any variables.
+ghost use Rattle.std.specs.Prelude.{◌≡◌, ◌↔◌, ◌⊎◌, ◌<◌, ◌≤◌, ◌+◌, ◌-◌, ◌^◌, ◌++◌, ◌∷◌, [], ℕ, List, IfOk, OnOk, IsTrue, MatchOption, length, map, max};
+ghost use Rattle.std.specs.List.{range_with_len};
+ghost use Rattle.dx_ports.specs.Members.{◌∈◌, ◌⊆◌, Distinct, Each};
+ghost use Rattle.dx_model.specs.declared.rules.Derived.{Derived as AnyDerived};
+ghost use Rattle.dx_model.specs.Rules.{after_cells, cells_of};
+ghost use Rattle.dx_funcs.specs.Offers.{IsListed};
+ghost use Rattle.dx_funcs.specs.Serving.{Serves, offered};
+ghost use Rattle.dx_instance.specs.Numbers.{AreApart, Extends};
+ghost use Rattle.dx_instance.specs.Stored.{facts, widths};
+ghost use Rattle.dx_instance.specs.Shown.{shown_tables};
+ghost use Rattle.dx_joins.specs.Collecting.{Collection};
+ghost use Rattle.dx_joins.specs.Shown.{AreTexts, FitsMatching, IsShown, MoreTuples, StandFor};
+ghost use Rattle.dx_joins.specs.Derivations.{DerivesTo, GivenBy, IsWanted};
+
+use crate::collected::Collected;
+use crate::computed::derive;
+use crate::pairs::gather;
+use crate::plan::{copied, has, places};
+use crate::texts::premise_shown;
+use dx_funcs::{Host, Meaning};
+use dx_instance::{Numbers, Rows, Symbols};
+use dx_model::{Atom, Cell, Derived};
+use dx_ports::{Items, Text};
+use std::alloc::{AllocError, Global};
+
+// The number after the variables of cells, which is no less than `least`.
+fn after(cells: &[Cell], least: u64) -> u64
+    requires { least ≤ 2 ^ 32 }
+    ensures number { result ≡ max least (after_cells cells.now) }
+    ensures low { result ≤ 2 ^ 32 }
+{
+    let mut next = least;
+    for cell in cells {
+        if let Cell::Var(number) = cell {
+            next = next.max(u64::from(*number) + 1);
+        }
+    }
+    next
+}
+
+// How many variables the premise has.
+fn premise_variables(premise: &[Atom]) -> u64
+    ensures number { result ≡ after_cells (cells_of premise.now) }
+    ensures low { result ≤ 2 ^ 32 }
+{
+    let mut next = 0;
+    for atom in premise {
+        next = after(atom.cells.items(), next);
+    }
+    next
+}
+
+// Whether the variable is an argument of a derived variable.
+fn is_argument(x: u32, derived: &[Derived]) -> bool
+    ensures { IsTrue result ↔ ((e : AnyDerived) × (e ∈ derived.now) × (x ∈ e.args)) }
+{
+    for one in derived {
+        if has(one.args.items(), x) {
+            return true;
+        }
+    }
+    false
+}
+
+// Whether the variable is an argument of a derived variable, or is shown.
+fn is_wanted(x: u32, derived: &[Derived], shown: &[u32]) -> bool
+    ensures { IsTrue result ↔ IsWanted derived.now shown.now x }
+{
+    if has(shown, x) {
+        return true;
+    }
+    is_argument(x, derived)
+}
+
+// The variables below a number that derived variables need or that are shown.
+fn wanted_variables(
+    alloc: Global,
+    derived: &[Derived],
+    shown: &[u32],
+    first: u32,
+) -> Result<Vec<u32>, AllocError>
+    ensures below { IfOk result (λ v. Each v.items (λ x. x < first)) }
+    ensures all { IfOk result (λ v. (x : ℕ) → x < first → IsWanted derived.now shown.now x → x ∈ v.items) }
+    ensures few { IfOk result (λ v. length v.items ≤ first) }
+{
+    let mut variables = Vec::new(alloc);
+    for x in 0..first {
+        if is_wanted(x, derived, shown) {
+            variables.push(x)?;
+        }
+    }
+    Ok(variables)
+}
+
+// The variables, and after them as many as there are derived ones.
+fn names_of(alloc: Global, wanted: &[u32], first: u32, count: u32) -> Result<Vec<u32>, AllocError>
+    requires { first + count < 2 ^ 32 }
+    ensures { IfOk result (λ v. v.items ≡ wanted.now ++ range_with_len first count) }
+{
+    let mut names = copied(alloc, wanted)?;
+    for i in 0..count {
+        names.push(first + i)?;
+    }
+    Ok(names)
+}
+
+// Collects what a row and its derived variables give to the variables at these places of both. Answers whether there are
+// more rows than are wanted.
+fn derive_row<F: Fn(u32, &Items<Text>) -> Result<Text, AllocError>, M: Meaning>(
+    alloc: Global,
+    wanted: &[u32],
+    row: &[u32],
+    derived: &[Derived],
+    places: &[usize],
+    symbols: &mut Symbols,
+    host: &Host<F, M>,
+    out: &mut Collected,
+) -> Result<bool, AllocError>
+    requires serves { Serves F.Fn M.apply host.now }
+    requires listed { Each derived.now (λ (e : AnyDerived). IsListed (offered host.now) e.code (length e.args)) }
+    requires known { Each derived.now (λ (e : AnyDerived). e.args ⊆ wanted.now) }
+    requires many { length row.now ≡ length wanted.now }
+    requires texts { AreTexts symbols.old row.now }
+    requires apart { AreApart symbols.old }
+    requires places { Each places.now (λ i. i < length wanted.now + length derived.now) }
+    requires width { out.old.width ≡ length places.now }
+    ensures grows { Extends symbols.old symbols.new }
+    ensures apart { AreApart symbols.new }
+    ensures derives { IfOk result (λ full. DerivesTo M.apply wanted.now derived.now places.now symbols.old symbols.new row.now full out.old out.new) }
+{
+    let mut buffer = Vec::new(alloc);
+    let mut gathered = Vec::new(alloc);
+    derive(alloc, wanted, row, derived, symbols, host, &mut buffer)?;
+    gather(&buffer, &[], places, &mut gathered)?;
+    out.push(&gathered)
+}
+
+// The rows that rows and their derived variables give to the variables.
+fn derived_rows<F: Fn(u32, &Items<Text>) -> Result<Text, AllocError>, M: Meaning>(
+    alloc: Global,
+    wanted: &[u32],
+    rows: &Rows,
+    derived: &[Derived],
+    first: u32,
+    shown: &[u32],
+    symbols: &mut Symbols,
+    host: &Host<F, M>,
+    most: u64,
+) -> Result<Option<Rows>, AllocError>
+    requires serves { Serves F.Fn M.apply host.now }
+    requires listed { Each derived.now (λ (e : AnyDerived). IsListed (offered host.now) e.code (length e.args)) }
+    requires known { Each derived.now (λ (e : AnyDerived). e.args ⊆ wanted.now) }
+    requires many { rows.now.width ≡ length wanted.now }
+    requires texts { Each rows.now.rows (AreTexts symbols.old) }
+    requires apart { AreApart symbols.old }
+    requires numbers { first + length derived.now < 2 ^ 32 }
+    requires shown { shown.now ⊆ (wanted.now ++ range_with_len first (length derived.now)) }
+    requires short { length shown.now < 2 ^ 32 }
+    ensures grows { Extends symbols.old symbols.new }
+    ensures apart { AreApart symbols.new }
+    ensures rows { IfOk result (λ o. MatchOption o
+        (MoreTuples most (GivenBy M.apply wanted.now derived.now first shown.now symbols.old rows.now.rows))
+        (StandFor (length shown.now) (GivenBy M.apply wanted.now derived.now first shown.now symbols.old rows.now.rows) symbols.new)) }
+{
+    let names = names_of(alloc, wanted, first, derived.len() as u32)?;
+    let places = places(alloc, &names, shown)?;
+    let mut out = Collected::new(alloc, shown.len() as u32, most);
+    for place in 0..rows.count() {
+        if derive_row(
+            alloc,
+            wanted,
+            rows.row(place),
+            derived,
+            &places,
+            symbols,
+            host,
+            &mut out,
+        )? {
+            return Ok(None);
+        }
+    }
+    out.finish()
+}
+
+/// Rows of numbers that stand for what the matches of a premise and derived variables give to the shown variables, which
+/// may repeat and come in any order. The numbers are those of `symbols`, where the texts of derived variables go last.
+/// None if there are more than `most` different ones.
+///
+/// # Errors
+///
+/// `AllocError` if there is no memory, a table of partial matches has more rows than have numbers, or the host answers it.
+pub fn shown_rows<F: Fn(u32, &Items<Text>) -> Result<Text, AllocError>, M: Meaning>(
+    alloc: Global,
+    premise: &[Atom],
+    derived: &[Derived],
+    shown: &[u32],
+    source: &Numbers,
+    symbols: &mut Symbols,
+    host: &Host<F, M>,
+    most: u64,
+) -> Result<Option<Rows>, AllocError>
+    requires serves { Serves F.Fn M.apply host.now }
+    requires listed { Each derived.now (λ (e : AnyDerived). IsListed (offered host.now) e.code (length e.args)) }
+    requires fits { FitsMatching (widths (shown_tables source.now.symbols source.now.tables)) premise.now derived.now shown.now }
+    requires symbols { Extends source.now.symbols symbols.old }
+    requires apart { AreApart symbols.old }
+    ensures grows { Extends symbols.old symbols.new }
+    ensures apart { AreApart symbols.new }
+    ensures rows { IfOk result (λ o. MatchOption o
+        (MoreTuples most (IsShown M.apply premise.now derived.now (facts (shown_tables source.now.symbols source.now.tables)) shown.now))
+        (StandFor (length shown.now) (IsShown M.apply premise.now derived.now (facts (shown_tables source.now.symbols source.now.tables)) shown.now) symbols.new)) }
+{
+    if derived.is_empty() {
+        return premise_shown(alloc, premise, shown, source, most);
+    }
+    let first = premise_variables(premise) as u32;
+    let wanted = wanted_variables(alloc, derived, shown, first)?;
+    match premise_shown(alloc, premise, &wanted, source, u64::MAX)? {
+        Some(rows) => derived_rows(
+            alloc, &wanted, &rows, derived, first, shown, symbols, host, most,
+        ),
+        None => unreachable!(),
+    }
+}
