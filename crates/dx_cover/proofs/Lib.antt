@@ -1,0 +1,4 @@
+pub mod Extending
+pub mod Numbers
+pub mod Searching
+pub mod Covering

@@ -1,0 +1,313 @@
+ghost use Rattle.std.specs.Prelude.{◌≡◌, ◌<◌, ◌≤◌, ℕ, ◌&&◌, ◌++◌, IfOk, IsTrue, OnOk, List, [], ◌∷◌, length, map};
+ghost use Rattle.std.specs.List.{list_all};
+ghost use Rattle.dx_model.specs.declared.rules.Atom.{Atom as AtomValue};
+ghost use Rattle.dx_model.specs.declared.rules.Cell.TheVariants.{Var as VarCell, Ex as ExCell};
+ghost use Rattle.dx_ports.specs.Members.{◌∈◌};
+ghost use Rattle.dx_model.specs.Rules.{cells_of, exported};
+ghost use Rattle.dx_model.specs.Covers.{after_existential, below, first_met, is_cell_map, map_of, may_meet, meet, same_cell, same_cells, used_maps};
+ghost use Rattle.dx_model.specs.Fitting.{AgreeInWidths, IsRule};
+ghost use Rattle.dx_cover.specs.Search.{found_after, fresh, has_met_in, maps_under, seen};
+
+use crate::variables::{existentials, exported};
+use dx_model::{Atom, Cell, CellMap, Meeting, Rule};
+use dx_ports::Items;
+use std::alloc::{AllocError, Global};
+
+/// Whether two cells are one.
+pub(crate) fn is_same_cell(a: &Cell, b: &Cell) -> bool
+    ensures { result ≡ same_cell a.now b.now }
+{
+    match (a, b) {
+        (Cell::Var(x), Cell::Var(y)) => *x == *y,
+        (Cell::Ex(v), Cell::Ex(w)) => *v == *w,
+        (Cell::Lit(t), Cell::Lit(u)) => t == u,
+        _ => false,
+    }
+}
+
+/// Whether a cell may meet another.
+pub(crate) fn is_allowed(cell: &Cell, met: &Cell) -> bool
+    ensures { result ≡ may_meet cell.now met.now }
+{
+    match (cell, met) {
+        (Cell::Var(_), Cell::Ex(_)) => false,
+        (Cell::Lit(_), _) => is_same_cell(cell, met),
+        _ => true,
+    }
+}
+
+/// Whether what a cell meets first is this cell.
+pub(crate) fn first_is(cell: &Cell, meetings: &[Meeting], met: &Cell) -> bool
+    ensures { result ≡ same_cell (first_met cell.now meetings.now) met.now }
+{
+    for meeting in meetings {
+        if is_same_cell(cell, &meeting.cell) {
+            return is_same_cell(&meeting.met, met);
+        }
+    }
+    is_same_cell(cell, met)
+}
+
+/// Whether each cell may meet what it meets, and meets the same wherever it stands.
+pub(crate) fn make_map(meetings: &[Meeting]) -> bool
+    ensures { result ≡ is_cell_map meetings.now }
+{
+    for meeting in meetings {
+        if !first_is(&meeting.cell, meetings, &meeting.met) {
+            return false;
+        }
+        if !is_allowed(&meeting.cell, &meeting.met) {
+            return false;
+        }
+    }
+    true
+}
+
+/// Whether two rows of cells are one.
+pub(crate) fn are_same_cells(a: &[Cell], b: &[Cell]) -> bool
+    ensures { result ≡ same_cells a.now b.now }
+{
+    if a.len() != b.len() {
+        return false;
+    }
+    for i in 0..a.len() {
+        if !is_same_cell(&a[i], &b[i]) {
+            return false;
+        }
+    }
+    true
+}
+
+/// Whether one of the maps agrees with this one on the exported variables.
+pub(crate) fn is_seen(found: &[CellMap], map: &CellMap) -> bool
+    ensures { result ≡ seen found.now map.now }
+{
+    for other in found {
+        if are_same_cells(other.exported.items(), map.exported.items()) {
+            return true;
+        }
+    }
+    false
+}
+
+/// A cell of its own that is the same.
+pub(crate) fn copy_cell(alloc: Global, cell: &Cell) -> Result<Cell, AllocError>
+    ensures { IfOk result (λ c. c ≡ cell.now) }
+{
+    match cell {
+        Cell::Var(x) => Ok(Cell::Var(*x)),
+        Cell::Ex(v) => Ok(Cell::Ex(*v)),
+        Cell::Lit(text) => Ok(Cell::Lit(text.copy()?)),
+    }
+}
+
+/// Adds the meetings of two rows of cells.
+pub(crate) fn add_meetings(
+    alloc: Global,
+    bound: &mut Vec<Meeting>,
+    cells: &[Cell],
+    others: &[Cell],
+) -> Result<(), AllocError>
+    requires { length cells.now ≡ length others.now }
+    ensures { OnOk result (bound.new.items ≡ bound.old.items ++ meet cells.now others.now) }
+{
+    for i in 0..cells.len() {
+        let cell = copy_cell(alloc, &cells[i])?;
+        let met = copy_cell(alloc, &others[i])?;
+        bound.push(Meeting { cell, met })?;
+    }
+    Ok(())
+}
+
+/// The cell that a cell meets first.
+pub(crate) fn met_first(
+    alloc: Global,
+    cell: &Cell,
+    meetings: &[Meeting],
+) -> Result<Cell, AllocError>
+    ensures { IfOk result (λ c. c ≡ first_met cell.now meetings.now) }
+{
+    for meeting in meetings {
+        if is_same_cell(cell, &meeting.cell) {
+            return copy_cell(alloc, &meeting.met);
+        }
+    }
+    copy_cell(alloc, cell)
+}
+
+/// What the variables meet first.
+pub(crate) fn images(
+    alloc: Global,
+    variables: &[u32],
+    meetings: &[Meeting],
+) -> Result<Vec<Cell>, AllocError>
+    ensures { IfOk result (λ v. v.items ≡ map (λ x. first_met (VarCell x) meetings.now) variables.now) }
+{
+    let mut images = Vec::new(alloc);
+    for variable in variables {
+        images.push(met_first(alloc, &Cell::Var(*variable), meetings)?)?;
+    }
+    Ok(images)
+}
+
+/// What the first existential variables meet first.
+pub(crate) fn existential_images(
+    alloc: Global,
+    count: u32,
+    meetings: &[Meeting],
+) -> Result<Vec<Cell>, AllocError>
+    ensures { IfOk result (λ v. v.items ≡ map (λ x. first_met (ExCell x) meetings.now) (below count)) }
+{
+    let mut images = Vec::new(alloc);
+    for variable in 0..count {
+        images.push(met_first(alloc, &Cell::Ex(variable), meetings)?)?;
+    }
+    Ok(images)
+}
+
+/// The exported variables of a rule, and how many existential ones it has.
+#[derive(Drop)]
+pub(crate) struct Variables {
+    pub exported: Vec<u32>,
+    pub existential: u32,
+}
+
+/// The cell map that these meetings make.
+pub(crate) fn map_made(
+    alloc: Global,
+    rule: &Rule,
+    variables: &Variables,
+    meetings: &[Meeting],
+) -> Result<CellMap, AllocError>
+    requires exported { variables.now.exported.items ≡ exported rule.now }
+    requires existential { variables.now.existential ≡ after_existential (cells_of rule.now.conclusion) }
+    ensures { IfOk result (λ m. m ≡ map_of rule.now meetings.now) }
+{
+    let _of = rule;
+    let exported = images(alloc, variables.exported.as_slice(), meetings)?;
+    let existential = existential_images(alloc, variables.existential, meetings)?;
+    Ok(CellMap {
+        exported: Items::from_vec(exported),
+        existential: Items::from_vec(existential),
+    })
+}
+
+/// Adds a map, where none agrees with it on the exported variables.
+pub(crate) fn add_map(found: &mut Vec<CellMap>, map: CellMap) -> Result<(), AllocError>
+    requires { length found.old.items ≤ 15 }
+    ensures { OnOk result (found.new.items ≡ found_after found.old.items (map ∷ [])) }
+{
+    if !is_seen(found.as_slice(), &map) {
+        found.push(map)?;
+    }
+    Ok(())
+}
+
+/// Whether a cell has met one.
+pub(crate) fn has_met(cell: &Cell, meetings: &[Meeting]) -> bool
+    ensures { result ≡ has_met_in meetings.now cell.now }
+{
+    for meeting in meetings {
+        if is_same_cell(cell, &meeting.cell) {
+            return true;
+        }
+    }
+    false
+}
+
+/// Whether each of the variables has met a cell.
+pub(crate) fn have_met(variables: &[u32], meetings: &[Meeting]) -> bool
+    ensures { result ≡ list_all (λ x. has_met_in meetings.now (VarCell x)) variables.now }
+{
+    for variable in variables {
+        if !has_met(&Cell::Var(*variable), meetings) {
+            return false;
+        }
+    }
+    true
+}
+
+/// Whether it is known that all cell maps that begin with these meetings agree with one that is found.
+pub(crate) fn is_done(
+    alloc: Global,
+    rule: &Rule,
+    variables: &Variables,
+    bound: &[Meeting],
+    found: &[CellMap],
+) -> Result<bool, AllocError>
+    requires exported { variables.now.exported.items ≡ exported rule.now }
+    requires existential { variables.now.existential ≡ after_existential (cells_of rule.now.conclusion) }
+    ensures { IfOk result (λ b. IsTrue b → (rest others : List AtomValue) → fresh found.now (maps_under rule.now bound.now rest others) ≡ []) }
+{
+    if !have_met(variables.exported.as_slice(), bound) {
+        return Ok(false);
+    }
+    let map = map_made(alloc, rule, variables, bound)?;
+    Ok(is_seen(found, &map))
+}
+
+/// Finds the cell maps that begin with these meetings, and choose for each of the rest one of the others.
+pub(crate) fn extend(
+    alloc: Global,
+    rule: &Rule,
+    variables: &Variables,
+    rest: &[Atom],
+    others: &[Atom],
+    bound: &mut Vec<Meeting>,
+    found: &mut Vec<CellMap>,
+) -> Result<(), AllocError>
+    requires exported { variables.now.exported.items ≡ exported rule.now }
+    requires existential { variables.now.existential ≡ after_existential (cells_of rule.now.conclusion) }
+    requires widths { (a b : AtomValue) → a ∈ rest.now → b ∈ others.now → a.table ≡ b.table → length a.cells ≡ length b.cells }
+    requires few { length found.old.items ≤ 16 }
+    ensures bound { OnOk result (bound.new.items ≡ bound.old.items) }
+    ensures few { OnOk result (length found.new.items ≤ 16) }
+    ensures found { OnOk result (found.new.items ≡ found_after found.old.items (maps_under rule.now bound.old.items rest.now others.now)) }
+{
+    if found.len() == 16 || !make_map(bound.as_slice()) {
+        return Ok(());
+    }
+    if is_done(alloc, rule, variables, bound.as_slice(), found.as_slice())? {
+        return Ok(());
+    }
+    match rest.split_first() {
+        None => {
+            let map = map_made(alloc, rule, variables, bound.as_slice())?;
+            add_map(found, map)
+        }
+        Some((first, rest)) => {
+            let start = bound.len();
+            for other in others {
+                if first.table == other.table {
+                    let cells = first.cells.items();
+                    add_meetings(alloc, bound, cells, other.cells.items())?;
+                    extend(alloc, rule, variables, rest, others, bound, found)?;
+                    bound.truncate(start);
+                }
+            }
+            Ok(())
+        }
+    }
+}
+
+/// The used cell maps from rule i to rule j, in order.
+///
+/// # Errors
+///
+/// `AllocError` where there is no memory.
+pub fn cover(alloc: Global, i: &Rule, j: &Rule) -> Result<Vec<CellMap>, AllocError>
+    requires rule { IsRule i.now }
+    requires widths { AgreeInWidths (i.now.conclusion ++ j.now.conclusion) }
+    ensures { IfOk result (λ v. v.items ≡ used_maps i.now j.now) }
+{
+    let variables = Variables {
+        exported: exported(alloc, i)?,
+        existential: existentials(i),
+    };
+    let rest = i.conclusion.items();
+    let others = j.conclusion.items();
+    let mut bound = Vec::new(alloc);
+    let mut found = Vec::new(alloc);
+    extend(alloc, i, &variables, rest, others, &mut bound, &mut found)?;
+    Ok(found)
+}

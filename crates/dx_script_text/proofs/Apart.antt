@@ -1,0 +1,48 @@
+-- Tokens that can't be mistaken for each other.
+use Rattle.std.proofs.Common.{◌≡◌, ℕ, Bool, true, false, ◌&&◌, ◌||◌, refl, arith}
+use Rattle.std.specs.Prelude.{nat_eq}
+use Rattle.std.proofs.lemmas.Bool.Decides.{nat_tests}
+use Rattle.dx_grammar.specs.Numbers.{has_number}
+use Rattle.dx_grammar.proofs.Verdicts.{AreApart}
+use Rattle.dx_script_tokens.specs.declared.scanner.ScriptToken.{ScriptToken}
+use Rattle.dx_script_tokens.specs.declared.kinds.ScriptKind.{ScriptKind}
+use Rattle.dx_script_tokens.specs.Kinds.{rank}
+use Rattle.dx_script_text.specs.Grammar.{of_kind, number}
+
+pub and_true : (a b : Bool) → (a && b) ≡ true → (a ≡ true) × (b ≡ true)
+and_true true b e = (refl, e)
+and_true false b e = absurd cc
+
+pub or_false : (a b : Bool) → (a || b) ≡ false → (a ≡ false) × (b ≡ false)
+or_false true b e = absurd cc
+or_false false b e = (refl, e)
+
+pub same_if : (n m : ℕ) → nat_eq n m ≡ true → n ≡ m
+same_if n m e = grind (arith, nat_tests)
+
+-- a token of one kind is of no other
+pub apart_kinds : (j k : ScriptKind) → nat_eq (rank j) (rank k) ≡ false → AreApart (of_kind j) (of_kind k)
+apart_kinds j k ne x e = let is : rank x.kind ≡ rank j = same_if (rank x.kind) (rank j) e in rw is ne
+
+-- this number of one kind, and any of another
+pub apart_number_kind : (j : ScriptKind) (n : ℕ) (k : ScriptKind) → nat_eq (rank j) (rank k) ≡ false → AreApart (has_number (of_kind j) number n) (of_kind k)
+apart_number_kind j n k ne x e = apart_kinds j k ne x (and_true (of_kind j x) (nat_eq x.number n) e).0
+
+and_left : (a b : Bool) → a ≡ false → (a && b) ≡ false
+and_left a b e = rw e refl
+
+pub apart_kind_number : (j k : ScriptKind) (n : ℕ) → nat_eq (rank j) (rank k) ≡ false → AreApart (of_kind j) (has_number (of_kind k) number n)
+apart_kind_number j k n ne x e = and_left (of_kind k x) (nat_eq x.number n) (apart_kinds j k ne x e)
+
+pub apart_numbers : (j : ScriptKind) (n : ℕ) (k : ScriptKind) (m : ℕ) → nat_eq (rank j) (rank k) ≡ false → AreApart (has_number (of_kind j) number n) (has_number (of_kind k) number m)
+apart_numbers j n k m ne x e = and_left (of_kind k x) (nat_eq x.number m) (apart_number_kind j n k ne x e)
+
+-- where the next token may pass one of two tests
+pub apart_or : (p q r : ScriptToken → Bool) → AreApart p q → AreApart p r → AreApart p (λ x. q x || r x)
+apart_or p q r h k x e = rw (h x e, k x e) refl
+
+pub or_apart : (p q r : ScriptToken → Bool) → AreApart p r → AreApart q r → AreApart (λ x. p x || q x) r
+or_apart p q r h k x e = or_case (p x) (q x) (h x) (k x) e where
+  or_case : (a b : Bool) → (a ≡ true → r x ≡ false) → (b ≡ true → r x ≡ false) → (a || b) ≡ true → r x ≡ false
+  or_case true b f g e = f refl
+  or_case false b f g e = g e

@@ -1,0 +1,319 @@
+// Steps that match a rule.
+ghost use Rattle.std.specs.Prelude.{◌≡◌, ◌-◌, ◌∷◌, [], ◌≤◌, length};
+ghost use Rattle.dx_grammar.specs.Readers.{many, with_front, Gives};
+ghost use Rattle.dx_grammar.specs.Lists.{past, list_reader};
+ghost use Rattle.dx_grammar.specs.Numbers.{counted_reader};
+ghost use Rattle.dx_script_text.specs.Grammar.{is_comma, is_and};
+ghost use Rattle.dx_script_tokens.specs.Numbers.{greatest};
+ghost use Rattle.dx_script_text.specs.Reading.{cell_reader, call_reader, cell_value_reader, value_reader, item_reader, comma_item, items_reader, no_items, select_reader, source_reader, comma_source, sources_reader, equal_reader, equals_reader, where_reader, match_reader};
+
+use crate::tokens::{any_of, next_counts, next_has, next_of, that};
+use dx_grammar::ReadError;
+use dx_ports::{Items, Text};
+use dx_script::{CellRef, Equal, Select, Step};
+use dx_script_tokens::{ScriptKind, ScriptToken};
+use std::alloc::Global;
+
+#[tactic(auto, unfolding(crate::specs::Reading::cell_reader))]
+fn cell(tokens: &[ScriptToken]) -> Result<(CellRef, &[ScriptToken]), ReadError>
+    ensures { Gives (λ x. (x.0, x.1.now)) result (cell_reader tokens.now) }
+{
+    let (alias, rest) = any_of(tokens, ScriptKind::Alias)?;
+    let (_, rest) = any_of(rest, ScriptKind::Dot)?;
+    let (column, rest) = any_of(rest, ScriptKind::Name)?;
+    let cell = CellRef {
+        alias: alias.number,
+        column: column.text.copy()?,
+    };
+    Ok((cell, rest))
+}
+
+fn comma_cell(tokens: &[ScriptToken]) -> Result<(CellRef, &[ScriptToken]), ReadError>
+    ensures { Gives (λ x. (x.0, x.1.now)) result (past is_comma cell_reader tokens.now) }
+{
+    let (_, rest) = any_of(tokens, ScriptKind::Comma)?;
+    cell(rest)
+}
+
+// These cells, and those that follow, each behind a comma.
+fn more_cells(
+    all: Items<CellRef>,
+    tokens: &[ScriptToken],
+) -> Result<(Items<CellRef>, &[ScriptToken]), ReadError>
+    ensures { Gives (λ x. (x.0, x.1.now)) result (with_front all (many is_comma (past is_comma cell_reader) tokens.now)) }
+{
+    let mut all = all;
+    let mut rest = tokens;
+    'all: while next_of(rest, ScriptKind::Comma) {
+        let (next, after) = comma_cell(rest)?;
+        all.push(next)?;
+        rest = after;
+    }
+    Ok((all, rest))
+}
+
+fn cells(
+    alloc: Global,
+    tokens: &[ScriptToken],
+) -> Result<(Items<CellRef>, &[ScriptToken]), ReadError>
+    ensures { Gives (λ x. (x.0, x.1.now)) result (list_reader is_comma cell_reader tokens.now) }
+{
+    let (first, rest) = cell(tokens)?;
+    let mut all = Items::new(alloc);
+    all.push(first)?;
+    more_cells(all, rest)
+}
+
+#[tactic(auto, unfolding(crate::specs::Reading::call_reader))]
+fn call(alloc: Global, tokens: &[ScriptToken]) -> Result<(Select, &[ScriptToken]), ReadError>
+    ensures { Gives (λ x. (x.0, x.1.now)) result (call_reader tokens.now) }
+{
+    let (name, rest) = any_of(tokens, ScriptKind::Name)?;
+    let (_, rest) = any_of(rest, ScriptKind::Open)?;
+    let (args, rest) = cells(alloc, rest)?;
+    let (_, rest) = any_of(rest, ScriptKind::Close)?;
+    let select = Select::Call {
+        name: name.text.copy()?,
+        args,
+    };
+    Ok((select, rest))
+}
+
+#[tactic(auto, unfolding(crate::specs::Reading::cell_value_reader))]
+fn cell_value(tokens: &[ScriptToken]) -> Result<(Select, &[ScriptToken]), ReadError>
+    ensures { Gives (λ x. (x.0, x.1.now)) result (cell_value_reader tokens.now) }
+{
+    let (cell, rest) = cell(tokens)?;
+    Ok((Select::Cell(cell), rest))
+}
+
+#[tactic(auto, unfolding(crate::specs::Reading::value_reader))]
+fn value(alloc: Global, tokens: &[ScriptToken]) -> Result<(Select, &[ScriptToken]), ReadError>
+    ensures { Gives (λ x. (x.0, x.1.now)) result (value_reader tokens.now) }
+{
+    if next_of(tokens, ScriptKind::Alias) {
+        cell_value(tokens)
+    } else {
+        call(alloc, tokens)
+    }
+}
+
+#[tactic(auto, unfolding(crate::specs::Reading::item_reader))]
+fn item(
+    alloc: Global,
+    number: u32,
+    tokens: &[ScriptToken],
+) -> Result<(Select, &[ScriptToken]), ReadError>
+    ensures { Gives (λ x. (x.0, x.1.now)) result (item_reader number tokens.now) }
+{
+    let (value, rest) = value(alloc, tokens)?;
+    let (_, rest) = any_of(rest, ScriptKind::As)?;
+    let (_, rest) = that(rest, ScriptKind::Column, number)?;
+    Ok((value, rest))
+}
+
+#[tactic(auto, unfolding(crate::specs::Reading::comma_item))]
+fn next_item(
+    alloc: Global,
+    number: u32,
+    tokens: &[ScriptToken],
+) -> Result<(Select, &[ScriptToken]), ReadError>
+    ensures { Gives (λ x. (x.0, x.1.now)) result (comma_item number tokens.now) }
+{
+    let (_, rest) = any_of(tokens, ScriptKind::Comma)?;
+    item(alloc, number, rest)
+}
+
+// These items, and those that follow, each behind a comma and with the next number.
+fn more_items(
+    alloc: Global,
+    all: Items<Select>,
+    tokens: &[ScriptToken],
+) -> Result<(Items<Select>, &[ScriptToken]), ReadError>
+    ensures { Gives (λ x. (x.0, x.1.now)) result (with_front all (counted_reader is_comma comma_item (4294967296 - length all) (length all) tokens.now)) }
+{
+    let mut all = all;
+    let mut rest = tokens;
+    'all: while next_counts(rest, all.len()) {
+        let (next, after) = next_item(alloc, all.len() as u32, rest)?;
+        all.push(next)?;
+        rest = after;
+    }
+    Ok((all, rest))
+}
+
+#[tactic(auto, unfolding(crate::specs::Reading::items_reader))]
+fn items(
+    alloc: Global,
+    tokens: &[ScriptToken],
+) -> Result<(Items<Select>, &[ScriptToken]), ReadError>
+    ensures { Gives (λ x. (x.0, x.1.now)) result (items_reader greatest tokens.now) }
+{
+    let (first, rest) = item(alloc, 0, tokens)?;
+    let mut all = Items::new(alloc);
+    all.push(first)?;
+    more_items(alloc, all, rest)
+}
+
+#[tactic(auto, unfolding(crate::specs::Reading::no_items))]
+fn no_item(
+    alloc: Global,
+    tokens: &[ScriptToken],
+) -> Result<(Items<Select>, &[ScriptToken]), ReadError>
+    ensures { Gives (λ x. (x.0, x.1.now)) result (no_items tokens.now) }
+{
+    let (_, rest) = that(tokens, ScriptKind::Number, 1)?;
+    Ok((Items::new(alloc), rest))
+}
+
+#[tactic(auto, unfolding(crate::specs::Reading::select_reader))]
+fn select(
+    alloc: Global,
+    tokens: &[ScriptToken],
+) -> Result<(Items<Select>, &[ScriptToken]), ReadError>
+    ensures { Gives (λ x. (x.0, x.1.now)) result (select_reader greatest tokens.now) }
+{
+    if next_has(tokens, ScriptKind::Number, 1) {
+        no_item(alloc, tokens)
+    } else {
+        items(alloc, tokens)
+    }
+}
+
+#[tactic(auto, unfolding(crate::specs::Reading::source_reader))]
+fn source(number: u32, tokens: &[ScriptToken]) -> Result<(Text, &[ScriptToken]), ReadError>
+    ensures { Gives (λ x. (x.0, x.1.now)) result (source_reader number tokens.now) }
+{
+    let (_, rest) = any_of(tokens, ScriptKind::Source)?;
+    let (_, rest) = any_of(rest, ScriptKind::Dot)?;
+    let (table, rest) = any_of(rest, ScriptKind::Name)?;
+    let (_, rest) = any_of(rest, ScriptKind::As)?;
+    let (_, rest) = that(rest, ScriptKind::Alias, number)?;
+    Ok((table.text.copy()?, rest))
+}
+
+#[tactic(auto, unfolding(crate::specs::Reading::comma_source))]
+fn next_source(number: u32, tokens: &[ScriptToken]) -> Result<(Text, &[ScriptToken]), ReadError>
+    ensures { Gives (λ x. (x.0, x.1.now)) result (comma_source number tokens.now) }
+{
+    let (_, rest) = any_of(tokens, ScriptKind::Comma)?;
+    source(number, rest)
+}
+
+// These sources, and those that follow, each behind a comma and with the next number.
+fn more_sources(
+    all: Items<Text>,
+    tokens: &[ScriptToken],
+) -> Result<(Items<Text>, &[ScriptToken]), ReadError>
+    ensures { Gives (λ x. (x.0, x.1.now)) result (with_front all (counted_reader is_comma comma_source (4294967296 - length all) (length all) tokens.now)) }
+{
+    let mut all = all;
+    let mut rest = tokens;
+    'all: while next_counts(rest, all.len()) {
+        let (next, after) = next_source(all.len() as u32, rest)?;
+        all.push(next)?;
+        rest = after;
+    }
+    Ok((all, rest))
+}
+
+#[tactic(auto, unfolding(crate::specs::Reading::sources_reader))]
+fn sources(
+    alloc: Global,
+    tokens: &[ScriptToken],
+) -> Result<(Items<Text>, &[ScriptToken]), ReadError>
+    ensures { Gives (λ x. (x.0, x.1.now)) result (sources_reader greatest tokens.now) }
+{
+    let (first, rest) = source(0, tokens)?;
+    let mut all = Items::new(alloc);
+    all.push(first)?;
+    more_sources(all, rest)
+}
+
+#[tactic(auto, unfolding(crate::specs::Reading::equal_reader))]
+fn equal(tokens: &[ScriptToken]) -> Result<(Equal, &[ScriptToken]), ReadError>
+    ensures { Gives (λ x. (x.0, x.1.now)) result (equal_reader tokens.now) }
+{
+    let (left, rest) = cell(tokens)?;
+    let (_, rest) = any_of(rest, ScriptKind::Equal)?;
+    let (right, rest) = cell(rest)?;
+    Ok((Equal { left, right }, rest))
+}
+
+fn and_equal(tokens: &[ScriptToken]) -> Result<(Equal, &[ScriptToken]), ReadError>
+    ensures { Gives (λ x. (x.0, x.1.now)) result (past is_and equal_reader tokens.now) }
+{
+    let (_, rest) = any_of(tokens, ScriptKind::And)?;
+    equal(rest)
+}
+
+// These, and those that follow, each behind ScriptKind::And.
+fn more_equal(
+    all: Items<Equal>,
+    tokens: &[ScriptToken],
+) -> Result<(Items<Equal>, &[ScriptToken]), ReadError>
+    ensures { Gives (λ x. (x.0, x.1.now)) result (with_front all (many is_and (past is_and equal_reader) tokens.now)) }
+{
+    let mut all = all;
+    let mut rest = tokens;
+    'all: while next_of(rest, ScriptKind::And) {
+        let (next, after) = and_equal(rest)?;
+        all.push(next)?;
+        rest = after;
+    }
+    Ok((all, rest))
+}
+
+#[tactic(auto, unfolding(crate::specs::Reading::equals_reader))]
+fn equals(
+    alloc: Global,
+    tokens: &[ScriptToken],
+) -> Result<(Items<Equal>, &[ScriptToken]), ReadError>
+    ensures { Gives (λ x. (x.0, x.1.now)) result (equals_reader tokens.now) }
+{
+    let (_, rest) = any_of(tokens, ScriptKind::Where)?;
+    let (first, rest) = equal(rest)?;
+    let mut all = Items::new(alloc);
+    all.push(first)?;
+    more_equal(all, rest)
+}
+
+#[tactic(auto, unfolding(crate::specs::Reading::where_reader))]
+fn where_part(
+    alloc: Global,
+    tokens: &[ScriptToken],
+) -> Result<(Items<Equal>, &[ScriptToken]), ReadError>
+    ensures { Gives (λ x. (x.0, x.1.now)) result (where_reader tokens.now) }
+{
+    if next_of(tokens, ScriptKind::Where) {
+        equals(alloc, tokens)
+    } else {
+        Ok((Items::new(alloc), tokens))
+    }
+}
+
+/// What stands behind `ScriptKind::Create ScriptKind::Table` where a rule is matched.
+#[tactic(auto, unfolding(crate::specs::Reading::match_reader))]
+pub(crate) fn match_rows(
+    alloc: Global,
+    tokens: &[ScriptToken],
+) -> Result<(Step, &[ScriptToken]), ReadError>
+    ensures { Gives (λ x. (x.0, x.1.now)) result (match_reader greatest tokens.now) }
+{
+    let (table, rest) = any_of(tokens, ScriptKind::Match)?;
+    let (_, rest) = any_of(rest, ScriptKind::As)?;
+    let (_, rest) = any_of(rest, ScriptKind::Select)?;
+    let (_, rest) = any_of(rest, ScriptKind::Distinct)?;
+    let (select, rest) = select(alloc, rest)?;
+    let (_, rest) = any_of(rest, ScriptKind::From)?;
+    let (sources, rest) = sources(alloc, rest)?;
+    let (equal, rest) = where_part(alloc, rest)?;
+    let (_, rest) = any_of(rest, ScriptKind::Semicolon)?;
+    let step = Step::MatchRows {
+        rule: table.number,
+        select,
+        sources,
+        equal,
+    };
+    Ok((step, rest))
+}

@@ -1,0 +1,8 @@
+pub mod Digits
+pub mod Passing
+pub mod Utf8
+pub mod StopKinds
+pub mod Decimal
+pub mod Standing
+pub mod Doubled
+pub mod QuotedTexts

@@ -1,0 +1,5 @@
+pub mod Numbers
+pub mod Kinds
+pub mod Pieces
+pub mod Scan
+pub mod Quoted

@@ -1,0 +1,220 @@
+// The tokens of a script's text up to its first fault.
+ghost use Rattle.std.specs.Prelude.{◌≡◌, ◌<◌, ◌≤◌, ◌^◌, IfOk, IsUtf8, length};
+ghost use Rattle.dx_script_tokens.specs.Scan.{SaysUtf8, begun_at, inside, mark_of, name_token, plain_token, scan_of, stop_at, stopped, text_token, token_of, undoubled, with_tokens};
+
+use crate::kinds::{ScriptKind, mark};
+use crate::numbers::numeral;
+use crate::pieces::{Piece, Shape, next_piece};
+use crate::words::word;
+use dx_ports::{Items, Text, TextMade};
+use dx_tokens::TextKind;
+use std::alloc::{AllocError, Global};
+
+/// A token with what it says. A place counts the bytes before it.
+#[derive(Debug, Drop)]
+pub struct ScriptToken {
+    pub place: u64,
+    pub kind: ScriptKind,
+    /// The number of a number, or of a word that is a letter and a number. Else 0.
+    pub number: u32,
+    /// The characters of a name, and of a text with each doubled quote made one. Else empty.
+    pub text: Text,
+}
+
+/// The first fault of the tokens of a text.
+#[derive(Debug, Drop)]
+pub struct ScriptStop {
+    pub place: u64,
+    pub kind: TextKind,
+    /// If a name or a text is faulty or cut: a token of this kind at its first byte.
+    pub begun: Option<ScriptToken>,
+}
+
+/// The tokens of a text up to its first fault, and that fault.
+#[derive(Debug, Drop)]
+pub struct ScriptScan {
+    pub tokens: Items<ScriptToken>,
+    pub stop: Option<ScriptStop>,
+}
+
+// The bytes between the first and the last.
+fn inside(bytes: &[u8]) -> &[u8]
+    ensures { result.now ≡ inside bytes.now }
+{
+    match bytes {
+        [_, middle @ .., _] => middle,
+        _ => &[],
+    }
+}
+
+// The characters of a text, with each doubled quote made one.
+fn undoubled(alloc: Global, bytes: &[u8]) -> Result<Vec<u8>, AllocError>
+    ensures { IfOk result (λ found. found.items ≡ undoubled bytes.now) }
+{
+    let mut found = Vec::new(alloc);
+    let mut rest = bytes;
+    'bytes: while let Some((b, others)) = rest.split_first() {
+        found.push(*b)?;
+        rest = match others.split_first() {
+            Some((_, after)) if *b == b'\'' => after,
+            _ => others,
+        };
+    }
+    Ok(found)
+}
+
+// The text of bytes that are UTF-8.
+fn text_from(alloc: Global, bytes: &[u8]) -> Result<Text, AllocError>
+    requires { IsUtf8 bytes.now }
+    ensures { IfOk result (λ t. t ≡ bytes.now) }
+{
+    match Text::from_bytes(alloc, bytes) {
+        Ok(text) => Ok(text),
+        Err(TextMade::Memory) => Err(AllocError),
+        Err(TextMade::NotUtf8) => unreachable!(),
+    }
+}
+
+// A token without a text.
+fn plain(
+    alloc: Global,
+    place: u64,
+    kind: ScriptKind,
+    number: u32,
+) -> Result<ScriptToken, AllocError>
+    ensures { IfOk result (λ t. t ≡ plain_token place kind number) }
+{
+    Ok(ScriptToken {
+        place,
+        kind,
+        number,
+        text: Text::from_str(alloc, "")?,
+    })
+}
+
+// The name that bytes are.
+fn name_token(alloc: Global, place: u64, bytes: &[u8]) -> Result<ScriptToken, AllocError>
+    requires { IsUtf8 (inside bytes.now) }
+    ensures { IfOk result (λ t. t ≡ name_token place bytes.now) }
+{
+    Ok(ScriptToken {
+        place,
+        kind: ScriptKind::Name,
+        number: 0,
+        text: text_from(alloc, inside(bytes))?,
+    })
+}
+
+// The text that bytes are.
+fn text_token(alloc: Global, place: u64, bytes: &[u8]) -> Result<ScriptToken, AllocError>
+    requires { IsUtf8 (undoubled (inside bytes.now)) }
+    ensures { IfOk result (λ t. t ≡ text_token place bytes.now) }
+{
+    let characters = undoubled(alloc, inside(bytes))?;
+    Ok(ScriptToken {
+        place,
+        kind: ScriptKind::Text,
+        number: 0,
+        text: text_from(alloc, &characters)?,
+    })
+}
+
+// Which mark a token is.
+fn mark_kind(bytes: &[u8]) -> ScriptKind
+    ensures { result ≡ mark_of bytes.now }
+{
+    match bytes.split_first() {
+        Some((first, _)) => mark(*first),
+        None => ScriptKind::Star,
+    }
+}
+
+// The token that bytes at a place are.
+fn token(alloc: Global, place: u64, shape: Shape, bytes: &[u8]) -> Result<ScriptToken, AllocError>
+    requires { SaysUtf8 shape bytes.now }
+    ensures { IfOk result (λ t. t ≡ token_of place shape bytes.now) }
+{
+    match shape {
+        Shape::Word => {
+            let (kind, number) = word(bytes);
+            plain(alloc, place, kind, number)
+        }
+        Shape::Number => {
+            let number = numeral(bytes).unwrap_or(0);
+            plain(alloc, place, ScriptKind::Number, number)
+        }
+        Shape::Name => name_token(alloc, place, bytes),
+        Shape::Text => text_token(alloc, place, bytes),
+        Shape::Mark => plain(alloc, place, mark_kind(bytes), 0),
+    }
+}
+
+// The name or text that a quotation mark begins.
+fn begun(alloc: Global, place: u64, b: u8) -> Result<Option<ScriptToken>, AllocError>
+    ensures { IfOk result (λ t. t ≡ begun_at place b) }
+{
+    match b {
+        b'"' => Ok(Some(plain(alloc, place, ScriptKind::Name, 0)?)),
+        b'\'' => Ok(Some(plain(alloc, place, ScriptKind::Text, 0)?)),
+        _ => Ok(None),
+    }
+}
+
+// These tokens, and the fault behind them, in what begins with the byte `b` at `begin`.
+fn stopped_at(
+    alloc: Global,
+    tokens: Items<ScriptToken>,
+    begin: u64,
+    place: u64,
+    kind: TextKind,
+    b: u8,
+) -> Result<ScriptScan, AllocError>
+    ensures { IfOk result (λ s. s ≡ with_tokens tokens (stopped (stop_at begin place kind b))) }
+{
+    Ok(ScriptScan {
+        tokens,
+        stop: Some(ScriptStop {
+            place,
+            kind,
+            begun: begun(alloc, begin, b)?,
+        }),
+    })
+}
+
+/// The tokens of a script's text up to its first fault, each with what it says, and that fault.
+///
+/// # Errors
+///
+/// `AllocError` where there is no memory.
+pub fn scan_script(alloc: Global, text: &[u8]) -> Result<ScriptScan, AllocError>
+    ensures { IfOk result (λ s. s ≡ scan_of text.now) }
+{
+    let mut tokens = Items::new(alloc);
+    let mut rest = text;
+    let mut place = 0usize;
+    'bytes: while let Some((b, others)) = rest.split_first() {
+        match next_piece(*b, others) {
+            Piece::Blank => {
+                rest = others;
+                place += 1;
+            }
+            Piece::Token(shape, len) => {
+                let (bytes, after) = rest.split_at(len);
+                tokens.push(token(alloc, place as u64, shape, bytes)?)?;
+                rest = after;
+                place += len;
+            }
+            Piece::Fault(offset) => {
+                let begin = place as u64;
+                let at = (place + offset) as u64;
+                return stopped_at(alloc, tokens, begin, at, TextKind::Character, *b);
+            }
+            Piece::Cut => {
+                let begin = place as u64;
+                let end = text.len() as u64;
+                return stopped_at(alloc, tokens, begin, end, TextKind::Ended, *b);
+            }
+        }
+    }
+    Ok(ScriptScan { tokens, stop: None })
+}

@@ -1,0 +1,29 @@
+use Rattle.std.proofs.Common.{◌≡◌, ◌<◌, ◌∙◌, ◌++◌, ◌∷◌, [], ap, sym, subst, length, get_or}
+use Rattle.dx_ports.specs.Members.{◌∈◌}
+use Rattle.dx_ports.proofs.Members.{in_at}
+use Rattle.dx_model.specs.declared.rules.Rule.{Rule}
+use Rattle.dx_model.specs.Covers.{rule_at}
+use Rattle.dx_schema.specs.Names.{named_of}
+use Rattle.dx_funcs.specs.Serving.{offered}
+use Rattle.dx_script.specs.Generated.{match_step}
+use Rattle.dx_scriptgen.proofs.Lists.{map_more, same_at}
+use Rattle.dx_scriptgen.proofs.Tables.{item_in}
+use Rattle.dx_scriptgen.proofs.generate.push_matches.Goals as goal
+
+pub match_step-requires-clause-rule : goal.match_step-requires-clause-rule
+match_step-requires-clause-rule g c = c.requires.rules c.index-rules-number.result (item_in c.args.rules.now c.loop-number.number c.index-rules-number.result c.loop-number-test.true c.index-rules-number.is)
+
+pub match_step-requires-clause-atoms : goal.match_step-requires-clause-atoms
+match_step-requires-clause-atoms g c = c.requires.premises c.index-rules-number.result (item_in c.args.rules.now c.loop-number.number c.index-rules-number.result c.loop-number-test.true c.index-rules-number.is)
+
+pub match_step-requires-clause-listed : goal.match_step-requires-clause-listed
+match_step-requires-clause-listed g c = c.requires.listed c.index-rules-number.result (item_in c.args.rules.now c.loop-number.number c.index-rules-number.result c.loop-number-test.true c.index-rules-number.is)
+
+pub loop-number-preserved : goal.loop-number-preserved
+loop-number-preserved g c =
+    let n = c.loop-number.number in
+    let R = c.args.rules.now in
+    let d = c.index-rules-number.result in
+    map_more (λ r. match_step (named_of c.args.source.now) (offered c.args.host.now) r (rule_at R r)) n c.args.steps.now c.loop-number.steps c.push.new.self c.loop-number.invariant
+    (c.in_ok-push.ensures.ok
+    ∙ ap (λ z. c.loop-number.steps ++ z ∷ []) (c.in_ok-match_step.ensures ∙ ap (match_step (named_of c.args.source.now) (offered c.args.host.now) n) (c.index-rules-number.is ∙ same_at R n d _ c.loop-number-test.true)))

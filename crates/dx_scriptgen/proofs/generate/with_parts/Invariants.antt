@@ -1,0 +1,7 @@
+use Rattle.std.proofs.Common.{◌≡◌, ◌+◌, ◌++◌, List, [], take, drop, eqb, false, length}
+use Rattle.std.specs.Prelude.{map, flat_map, slice_index_or}
+use Rattle.dx_script.specs.Generated.{has_parts}
+use Rattle.dx_scriptgen.proofs.generate.with_parts.Given as goal
+
+abbrev pub invariant-loop-unless : goal.invariant-loop-unless
+invariant-loop-unless l = l.kept.items ≡ map has_parts (take l.unless-index l.parts)
