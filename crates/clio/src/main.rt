@@ -3,7 +3,7 @@
 //! `main` gives the top call `run` of `clio_top` the words of the command line, the folder, and the shipped conversions, says
 //! the message of an ending that is not `Done` to standard error, and ends with its status. The two adapters meet the
 //! clauses of `Inputs` and `Outputs` and tell nothing of what the folder holds; that they read and write its files as they
-//! are is tested.
+//! are is tested. If there is no memory for the words or the conversions, nothing is printed, and the status is 9.
 #![tactic(auto)]
 
 ghost use Rattle.std.specs.Prelude.{◌≡◌, IfOk, length};
@@ -25,7 +25,7 @@ use std::process::ExitCode;
 use std::rt::Env;
 use std::{env, io};
 
-// The words behind the program's name. Where one of them is no text, the list is the empty word alone, which no
+// The words after the program's name. Where one of them is no text, the list is the empty word alone, which no
 // command has.
 fn words(rt: &(impl Env + AllocGlobal)) -> io::Result<Vec<Text>> {
     let alloc = rt.alloc();
@@ -33,7 +33,7 @@ fn words(rt: &(impl Env + AllocGlobal)) -> io::Result<Vec<Text>> {
     match env::args(rt) {
         Ok(arguments) => {
             for word in arguments.skip(1) {
-                words.push(Text::from_string(word))?;
+                words.push(Text::from_string(alloc, word)?)?;
             }
         }
         Err(error) if error.kind() == io::ErrorKind::OutOfMemory => return Err(error),
@@ -55,13 +55,20 @@ fn ended(rt: &(impl Eprint + AllocGlobal), ending: &Ending) -> ExitCode
     ExitCode::from(status)
 }
 
+// The status of a run that had no memory to begin. Nothing is printed.
+fn no_memory() -> ExitCode
+    ensures { exit_status result ≡ 9 }
+{
+    ExitCode::from(Ending::Memory.status())
+}
+
 fn main(rt: HostRuntime) -> ExitCode {
     let Ok(words) = words(&rt) else {
-        return ended(&rt, &Ending::Memory);
+        return no_memory();
     };
     let alloc = rt.alloc();
     let Ok(list) = shipped_list(alloc) else {
-        return ended(&rt, &Ending::Memory);
+        return no_memory();
     };
     let conversions = |code: u32, args: &Items<Text>| -> Result<Text, AllocError>
         requires { IsListed shipped_conversions code (length args.now) }

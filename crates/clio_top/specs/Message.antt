@@ -12,10 +12,10 @@ use Rattle.dx_schema.specs.declared.fault.SchemaKind.{SchemaKind}
 use Rattle.dx_schema.specs.declared.fault.SchemaKind.TheVariants as schema_kinds
 use Rattle.clio_top.specs.declared.ending.Ending.{Ending}
 use Rattle.clio_top.specs.declared.ending.Ending.TheVariants as endings
-use Rattle.clio_top.specs.declared.ending.MapFault.{MapFault}
-use Rattle.clio_top.specs.declared.ending.MapFault.TheVariants as map_faults
-use Rattle.clio_top.specs.declared.ending.RowsFault.{RowsFault}
-use Rattle.clio_top.specs.declared.ending.RowsFault.TheVariants as rows_faults
+use Rattle.clio_accept.specs.declared.fault.MapFault.{MapFault}
+use Rattle.clio_accept.specs.declared.fault.MapFault.TheVariants as map_faults
+use Rattle.clio_source.specs.declared.fault.RowsFault.{RowsFault}
+use Rattle.clio_source.specs.declared.fault.RowsFault.TheVariants as rows_faults
 
 -- the printed name of a count
 abbrev pub count_text : Count → Text

@@ -1,6 +1,6 @@
 // The commands.
-ghost use Rattle.std.specs.Prelude.{◌≡◌, IfSome, IfNone};
-ghost use Rattle.clio_top.specs.Ending.{IsCommand, words_of};
+ghost use Rattle.std.specs.Prelude.{◌≡◌};
+ghost use Rattle.clio_top.specs.Words.{named, says};
 
 use dx_ports::Text;
 
@@ -11,17 +11,25 @@ pub(crate) enum Command {
     Showing,
 }
 
-/// The command that the words say. None where they say none.
-pub(crate) fn command_of(words: &[Text]) -> Option<Command>
-    ensures some { IfSome result (λ c. words.now ≡ words_of c) }
-    ensures none { IfNone result (¬ (IsCommand words.now)) }
+// The command of this name. None if there is none.
+fn command_named(name: &Text) -> Option<Command>
+    ensures { result ≡ named name.now }
 {
-    if words.len() != 1 {
-        return None;
+    if name.as_str() == "exchange" {
+        return Some(Command::Exchanging);
     }
-    match words[0].as_str() {
-        "exchange" => Some(Command::Exchanging),
-        "show" => Some(Command::Showing),
+    if name.as_str() == "show" {
+        return Some(Command::Showing);
+    }
+    None
+}
+
+/// The command that the words say. None if they say none.
+pub(crate) fn command_of(words: &[Text]) -> Option<Command>
+    ensures { result ≡ says words.now }
+{
+    match words {
+        [name] => command_named(name),
         _ => None,
     }
 }

@@ -1,11 +1,13 @@
 // How a run ends.
 ghost use Rattle.std.specs.Prelude.{◌≡◌};
+ghost use Rattle.clio_top.specs.Ending.{ending_of, refusal_ending, status_of};
+ghost use Rattle.dx_stages.specs.declared.plan.Ended.{Ended as EndedOf};
 
-use crate::exchange::Exchange;
-use dx_csv::RowKind;
+use clio_accept::MapFault;
+use clio_source::RowsFault;
+use dx_exchange::Exchange;
 use dx_ports::{Limit, Text};
-use dx_schema::SchemaKind;
-use dx_schema_text::TextKind;
+use dx_stages::Ended;
 
 /// What a run has done.
 #[derive(Drop)]
@@ -14,32 +16,6 @@ pub enum Done {
     Exchanged(Exchange),
     /// The rules were said.
     Shown,
-}
-
-/// What is wrong with the mapping text.
-#[derive(Debug, Drop)]
-pub enum MapFault {
-    /// There is no file `mapping.clio`.
-    Absent,
-    /// The text has a fault behind so many bytes.
-    Text { place: u64, kind: TextKind },
-    /// The source sets make no schema.
-    Source(SchemaKind),
-    /// The target sets make no schema.
-    Target(SchemaKind),
-    /// A target set has this name, which a file of clio's own has.
-    Reserved(Text),
-    /// The mapping has a hand-written rule, or is to be exchanged and is not of the form that can be: more is to be built.
-    NotYet,
-}
-
-/// What is wrong with a source file.
-#[derive(Clone, Copy, Debug, PartialEq, Eq)]
-pub enum RowsFault {
-    /// There is no such file.
-    Absent,
-    /// The file is no table of the set's columns.
-    Csv(RowKind),
 }
 
 /// How a run ends.
@@ -60,16 +36,16 @@ pub enum Ending {
     Memory,
 }
 
-/// Why writing stopped.
-#[derive(Clone, Copy, Debug, PartialEq, Eq)]
-pub(crate) enum Stop {
-    Failed { files: u64 },
-    OutOfMemory,
+/// Why a run is refused.
+#[derive(Debug, Drop)]
+pub(crate) enum Refusal {
+    Usage,
+    Mapping(MapFault),
+    Rows { file: Text, fault: RowsFault },
+    Limit(Limit),
 }
 
 impl Ending {
-    ghost use Rattle.clio_top.specs.Ending.{status_of};
-
     /// The exit status of the program.
     pub fn status(&self) -> u8
         ensures { result ≡ status_of self.now }
@@ -84,5 +60,30 @@ impl Ending {
             Ending::WriteFault { .. } => 8,
             Ending::Memory => 9,
         }
+    }
+}
+
+// The ending of a run that is refused.
+fn of_refusal(refusal: Refusal) -> Ending
+    ensures { result ≡ refusal_ending refusal }
+{
+    match refusal {
+        Refusal::Usage => Ending::Usage,
+        Refusal::Mapping(fault) => Ending::Mapping(fault),
+        Refusal::Rows { file, fault } => Ending::Rows { file, fault },
+        Refusal::Limit(limit) => Ending::Limit(limit),
+    }
+}
+
+/// The ending of a run that ended so.
+pub(crate) fn as_ending(ended: Ended<Done, Refusal>) -> Ending
+    ensures { result ≡ ending_of ended }
+{
+    match ended {
+        Ended::Done(done) => Ending::Done(done),
+        Ended::Refused(refusal) => of_refusal(refusal),
+        Ended::ReadFault(file) => Ending::ReadFault { file },
+        Ended::WriteFault(files) => Ending::WriteFault { files },
+        Ended::Memory => Ending::Memory,
     }
 }

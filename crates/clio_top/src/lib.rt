@@ -1,26 +1,23 @@
 //! The whole program, over what it reads from and writes to.
 //!
-//! `run` does what the words say: it shows the rules of a mapping, or exchanges data under it. Its clauses say why each
-//! ending comes and what it leaves (specs/Ending, specs/Causes); for an exchange, that the target is a universal solution
-//! (specs/Exchanging, specs/Right). `accept` gives the mapping of a text, or the first reason to refuse it (specs/Mapping).
+//! `run` does what the words say: it shows the rules of a mapping, or exchanges data under it. Its contract is one record
+//! (dx_stages, specs/Ending, `Runs`) of one row of stages (specs/Running): there is a look-up from names to bytes, which is what
+//! the inputs hold if they tell, in which the run ended so for its reason, and it left what it had to. `message` is the text of
+//! an ending (specs/Message).
 #![tactic(auto)]
 
 mod command;
 mod ending;
-mod exchange;
-mod files;
-mod first_form;
 mod laws;
-mod lines;
 mod mapping;
 mod messages;
+mod planning;
 mod source;
 mod top;
-mod writing;
 
-pub use ending::{Done, Ending, MapFault, RowsFault};
-pub use exchange::Exchange;
-pub use laws::{a_text_is_accepted_or_refused, refusals_exclude};
-pub use mapping::{AcceptFault, Mapping, accept};
+pub use clio_accept::{AcceptFault, MapFault, Mapping, accept};
+pub use clio_source::RowsFault;
+pub use ending::{Done, Ending};
+pub use laws::{over_anything, refused_or_planned};
 pub use messages::message;
 pub use top::run;

@@ -2,7 +2,9 @@
 ghost use Rattle.std.specs.Prelude.{◌≡◌, IfOk, string_bytes};
 ghost use Rattle.clio_top.specs.Message.{count_text, kind_text, map_fault_text, message_of, rows_fault_text, schema_kind_text, text_kind_text};
 
-use crate::ending::{Ending, MapFault, RowsFault};
+use crate::ending::Ending;
+use clio_accept::MapFault;
+use clio_source::RowsFault;
 use dx_csv::RowKind;
 use dx_ports::{Count, Text};
 use dx_schema::SchemaKind;
@@ -141,5 +143,5 @@ fn message_string(alloc: Global, ending: &Ending) -> Result<String, AllocError>
 pub fn message(alloc: Global, ending: &Ending) -> Result<Text, AllocError>
     ensures { IfOk result (λ t. t ≡ message_of ending.now) }
 {
-    Ok(Text::from_string(message_string(alloc, ending)?))
+    Text::from_string(alloc, message_string(alloc, ending)?)
 }

@@ -1,55 +1,44 @@
-use Rattle.dx_instance.specs.Stored.{facts, widths}
+use Rattle.std.proofs.Common.{◌≡◌, false, true, ◌∙◌, sym}
+use Rattle.std.proofs.lemmas.Bool.{false≢true}
+use Rattle.std.proofs.lemmas.Result.{err_from_is_err_and}
 use Rattle.dx_funcs.specs.Serving.{offered}
-use Rattle.clio_top.specs.declared.command.Command.TheVariants.{Exchanging}
-use Rattle.clio_top.specs.Ending.{words_of}
-use Rattle.clio_top.proofs.EndingFacts.{failed_as}
-use Rattle.clio_top.proofs.PlanFacts.{accepted_fits, accepted_prints, exchange_cause, flat_of, for_words, form_cause, held_flat, plan_made, source_cause}
+use Rattle.dx_exchange.specs.Plain.{IsPlainForm}
+use Rattle.dx_stages.specs.Ending.{planned}
+use Rattle.clio_top.specs.Running.{Program}
+use Rattle.clio_top.proofs.Mappings.{mapping_fits}
+use Rattle.clio_top.proofs.Plans.{exchanged, form_stops, mapping_stops, rows_stop, rows_widths}
 use Rattle.clio_top.proofs.top.exchange_plan.Goals as goal
 
-pub returns-in_err-accepted-clause-cause : goal.returns-in_err-accepted-clause-cause
-returns-in_err-accepted-clause-cause g c =
-    failed_as _ c.in_err-accepted.field-0.0 _ c.from_residual.ensures.1
-    (for_words (offered c.args.host.now) (g.I.Inputs.holds c.args.inputs.now) (words_of Exchanging) c.in_err-accepted.field-0.0 c.in_err-accepted.ensures.cause)
+pub returns-in_err-mapping : goal.returns-in_err-mapping
+returns-in_err-mapping g c =
+    let P : Program = record { list = offered c.args.host.now; apply = g.M.Meaning.apply } in
+    let p = err_from_is_err_and c.from_residual.result c.from_residual.ensures.1 in
+    rw (p.1, p.2) (mapping_stops P c.in_err-mapping.field-0.0 _ _ c.in_err-mapping.ensures)
 
-pub returns-then-not-accepted-clause-cause : goal.returns-then-not-accepted-clause-cause
-returns-then-not-accepted-clause-cause g c =
-    form_cause (offered c.args.host.now) (g.I.Inputs.holds c.args.inputs.now) c.in_ok-accepted.accepted c.in_ok-accepted.ensures.accepted c.if-not-accepted.true
+pub returns-then-not-is_plain : goal.returns-then-not-is_plain
+returns-then-not-is_plain g c =
+    let P : Program = record { list = offered c.args.host.now; apply = g.M.Meaning.apply } in
+    form_stops P c.in_ok-mapping.mapping _ _ c.in_ok-mapping.ensures (λ plain. false≢true (sym c.if-not-is_plain.true ∙ c.is_plain.ensures.1 plain))
 
-pub returns-in_err-source-clause-cause : goal.returns-in_err-source-clause-cause
-returns-in_err-source-clause-cause g c =
-    let list = offered c.args.host.now in
-    let holds = g.I.Inputs.holds c.args.inputs.now in
-    let a = c.in_ok-accepted.accepted in
-    failed_as _ c.in_err-source.field-0.0 _ c.from_residual-in_err-source.ensures.1
-    (source_cause list holds _ a.mapping c.in_err-source.field-0.0 c.in_ok-accepted.ensures.kept (held_flat list holds a c.in_ok-accepted.ensures.accepted c.if-not-accepted.false) c.in_err-source.ensures.refused)
+pub returns-in_err-rows : goal.returns-in_err-rows
+returns-in_err-rows g c =
+    let P : Program = record { list = offered c.args.host.now; apply = g.M.Meaning.apply } in
+    let p = err_from_is_err_and c.from_residual-in_err-rows.result c.from_residual-in_err-rows.ensures.1 in
+    rw (p.1, p.2) (rows_stop P c.in_ok-mapping.mapping c.in_err-rows.field-0.0 _ _ _ c.in_ok-mapping.ensures (c.is_plain.ensures.0 c.if-not-is_plain.false) c.in_err-rows.ensures)
 
-pub exchanged-requires : goal.exchanged-requires
-exchanged-requires g c =
-    let list = offered c.args.host.now in
-    let a = c.in_ok-accepted.accepted in
-    accepted_fits list a.mapping (widths c.in_ok-source.source) (flat_of list (g.I.Inputs.holds c.args.inputs.now) a c.in_ok-accepted.ensures.accepted c.if-not-accepted.false) c.in_ok-source.ensures.widths
+pub plan_rows-requires-clause-fits : goal.plan_rows-requires-clause-fits
+plan_rows-requires-clause-fits g c =
+    let P : Program = record { list = offered c.args.host.now; apply = g.M.Meaning.apply } in
+    mapping_fits P c.in_ok-mapping.mapping _ _ c.in_ok-mapping.ensures
 
-pub printed-requires : goal.printed-requires
-printed-requires g c =
-    let list = offered c.args.host.now in
-    let a = c.in_ok-accepted.accepted in
-    accepted_prints list a.mapping (facts c.in_ok-source.source) c.in_ok-exchange.exchange
-    (flat_of list (g.I.Inputs.holds c.args.inputs.now) a c.in_ok-accepted.ensures.accepted c.if-not-accepted.false) c.in_ok-exchange.ensures.plain
+pub plan_rows-requires-clause-plain : goal.plan_rows-requires-clause-plain
+plan_rows-requires-clause-plain g c = c.is_plain.ensures.0 c.if-not-is_plain.false
 
-pub returns-in_err-exchange-clause-cause : goal.returns-in_err-exchange-clause-cause
-returns-in_err-exchange-clause-cause g c =
-    let list = offered c.args.host.now in
-    let holds = g.I.Inputs.holds c.args.inputs.now in
-    let a = c.in_ok-accepted.accepted in
-    failed_as _ c.in_err-exchange.field-0.0 _ c.from_residual-in_err-exchange.ensures.1
-    (exchange_cause list holds _ a.mapping c.in_ok-source.source c.in_err-exchange.field-0.0 c.in_ok-accepted.ensures.kept
-    (held_flat list holds a c.in_ok-accepted.ensures.accepted c.if-not-accepted.false) c.in_ok-source.ensures.source c.in_err-exchange.ensures.stops)
+pub plan_rows-requires-clause-rows : goal.plan_rows-requires-clause-rows
+plan_rows-requires-clause-rows g c = rows_widths c.in_ok-mapping.mapping.source c.in_ok-rows.rows _ _ c.in_ok-rows.ensures
 
-pub returns-in-Ok-clause-planned : goal.returns-in-Ok-clause-planned
-returns-in-Ok-clause-planned g c =
-    let list = offered c.args.host.now in
-    let holds = g.I.Inputs.holds c.args.inputs.now in
-    let a = c.in_ok-accepted.accepted in
-    plan_made list holds _ a.mapping c.in_ok-source.source c.in_ok-exchange.exchange c.in-Ok.plan c.in_ok-accepted.ensures.kept
-    (flat_of list holds a c.in_ok-accepted.ensures.accepted c.if-not-accepted.false) (held_flat list holds a c.in_ok-accepted.ensures.accepted c.if-not-accepted.false)
-    c.in_ok-source.ensures.source c.in_ok-exchange.ensures.plain c.in-Ok.ensures
+pub returns : goal.returns
+returns g c =
+    let P : Program = record { list = offered c.args.host.now; apply = g.M.Meaning.apply } in
+    exchanged P c.in_ok-mapping.mapping c.in_ok-rows.rows (planned c.plan_rows.result) _ _ _ c.in_ok-mapping.ensures (c.is_plain.ensures.0 c.if-not-is_plain.false)
+    c.in_ok-rows.ensures c.plan_rows.ensures

@@ -1,11 +1,12 @@
 use Rattle.dx_funcs.specs.Serving.{offered}
-use Rattle.clio_top.proofs.CauseFacts.{exact_ending, complete_ending}
+use Rattle.dx_stages.proofs.Decided.{Any}
+use Rattle.dx_stages.proofs.Carrying.{carried_runs}
+use Rattle.std.proofs.Common.{◌≡◌}
+use Rattle.clio_top.specs.Running.{Program, run_stages}
+use Rattle.clio_top.proofs.Promised.{run_decided}
 use Rattle.clio_top.proofs.top.run.Goals as goal
 
-pub returns-clause-exact : goal.returns-clause-exact
-returns-clause-exact g c =
-    exact_ending (offered c.args.host.now) (g.I.Inputs.holds c.args.inputs.now) c.args.words.now.items c.run_command.result c.run_command.ensures.usage c.run_command.ensures.cause
-
-pub returns-clause-complete : goal.returns-clause-complete
-returns-clause-complete g c =
-    complete_ending (offered c.args.host.now) (g.I.Inputs.holds c.args.inputs.now) c.args.words.now.items c.run_command.result c.run_command.ensures.usage c.run_command.ensures.cause
+pub returns : goal.returns
+returns g c =
+    let P : Program = record { list = offered c.args.host.now; apply = g.M.Meaning.apply } in
+    (c.carry_out.result, c.as_ending.ensures, carried_runs (λ r k. r ≡ k) Any (run_stages P) (run_decided P) _ tt _ _ _ _ _ _ _ c.carry_out.result (rw c.deref.ensures.value at c.plan_words-plan.ensures) c.carry_out.ensures)

@@ -1,18 +1,29 @@
+use Rattle.std.proofs.lemmas.Result.{err_from_is_err_and}
 use Rattle.dx_funcs.specs.Serving.{offered}
-use Rattle.clio_top.specs.declared.command.Command.TheVariants.{Showing}
-use Rattle.clio_top.specs.Ending.{words_of}
-use Rattle.clio_top.proofs.EndingFacts.{failed_as}
-use Rattle.clio_top.proofs.PlanFacts.{for_words, mapping_prints, plan_shown}
+use Rattle.dx_stages.specs.Ending.{planned_of}
+use Rattle.clio_top.specs.Running.{Program}
+use Rattle.clio_top.proofs.Mappings.{mapping_fits}
+use Rattle.clio_top.proofs.Plans.{show_stops, shown, shown_none}
 use Rattle.clio_top.proofs.top.show_plan.Goals as goal
 
-pub returns-in_err-accepted-clause-cause : goal.returns-in_err-accepted-clause-cause
-returns-in_err-accepted-clause-cause g c =
-    failed_as _ c.in_err-accepted.field-0.0 _ c.from_residual.ensures.1
-    (for_words (offered c.args.host.now) (g.I.Inputs.holds c.args.inputs.now) (words_of Showing) c.in_err-accepted.field-0.0 c.in_err-accepted.ensures.cause)
+pub returns-in_err-mapping : goal.returns-in_err-mapping
+returns-in_err-mapping g c =
+    let P : Program = record { list = offered c.args.host.now; apply = g.M.Meaning.apply } in
+    let p = err_from_is_err_and c.from_residual.result c.from_residual.ensures.1 in
+    rw (p.1, p.2) (show_stops P c.in_err-mapping.field-0.0 _ _ c.in_err-mapping.ensures)
 
-pub shown-requires : goal.shown-requires
-shown-requires g c = mapping_prints (offered c.args.host.now) (g.I.Inputs.holds c.args.inputs.now) c.in_ok-accepted.accepted c.in_ok-accepted.ensures.accepted
+pub plan_shown-requires : goal.plan_shown-requires
+plan_shown-requires g c =
+    let P : Program = record { list = offered c.args.host.now; apply = g.M.Meaning.apply } in
+    mapping_fits P c.in_ok-mapping.mapping _ _ c.in_ok-mapping.ensures
 
-pub returns-in-Ok-clause-planned : goal.returns-in-Ok-clause-planned
-returns-in-Ok-clause-planned g c =
-    plan_shown (offered c.args.host.now) (g.I.Inputs.holds c.args.inputs.now) c.in_ok-accepted.accepted c.in-Ok.plan c.in_ok-accepted.ensures.accepted c.in-Ok.ensures
+pub returns-in_err-plan_shown : goal.returns-in_err-plan_shown
+returns-in_err-plan_shown g c =
+    let P : Program = record { list = offered c.args.host.now; apply = g.M.Meaning.apply } in
+    let p = err_from_is_err_and c.from_residual-in_err-plan_shown.result c.from_residual-in_err-plan_shown.ensures.1 in
+    rw (p.1, p.2) (shown_none P c.in_ok-mapping.mapping _ _ c.in_ok-mapping.ensures)
+
+pub returns : goal.returns
+returns g c =
+    let P : Program = record { list = offered c.args.host.now; apply = g.M.Meaning.apply } in
+    shown P c.in_ok-mapping.mapping (planned_of c.in_ok-plan_shown.field-0) _ _ c.in_ok-plan_shown.ensures c.in_ok-mapping.ensures

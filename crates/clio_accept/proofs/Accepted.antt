@@ -1,0 +1,228 @@
+-- What holds of an accepted mapping.
+use Rattle.std.proofs.Common.{◌≡◌, ◌≤◌, ℕ, ◌<◌, Bool, true, false, cond, eqb, List, [], ◌∷◌, length, Option, Some, None, refl, sym, ◌∙◌, subst, ap, arith, get_or, Result, Ok}
+use Rattle.std.specs.Prelude.{map, flat_map}
+use Rattle.std.proofs.lemmas.List.{length-map, get_or_default}
+use Rattle.dx_ports.specs.Members.{◌∈◌, here, there, Each}
+use Rattle.dx_ports.proofs.Members.{in_map, from_map, from_flat_map, contains_from_in}
+use Rattle.dx_model.specs.declared.rules.Cell.{Cell}
+use Rattle.dx_model.specs.declared.rules.Cell.TheVariants as cells
+use Rattle.dx_model.specs.declared.rules.Derived.{Derived}
+use Rattle.dx_model.specs.declared.rules.Rule.{Rule}
+use Rattle.dx_model.specs.Solutions.{IsClosed}
+use Rattle.dx_schema.specs.Forest.{Forest}
+use Rattle.dx_schema.specs.Tables.{as_numbers, model_tables, tables_of}
+use Rattle.dx_schema.specs.Links.{IsFaultless}
+use Rattle.dx_schema.proofs.Valid.{are_tables}
+use Rattle.dx_schema_text.specs.declared.texts.MappingText.{MappingText}
+use Rattle.dx_schema_text.proofs.SpelledWords.{said_is_writable}
+use Rattle.dx_funcs.specs.declared.conversion.Conversion.{Conversion}
+use Rattle.dx_logical.specs.declared.relation.Occurrence.{Occurrence}
+use Rattle.dx_logical.specs.Laws.{IsUnfolding}
+use Rattle.dx_logical.specs.Unfolding.{unfolding_of}
+use Rattle.dx_schema.proofs.Whole.{links_fit}
+use Rattle.dx_logical.proofs.Facts.{unfoldings_are}
+use Rattle.dx_line_text.specs.Naming.{lines_fault, lines_of, IsOffered, IsOfferedFrom}
+use Rattle.dx_line_text.proofs.Fits.{lines_fit, lines_offered}
+use Rattle.dx_lines.specs.declared.line.Line.{Line}
+use Rattle.dx_lines.specs.declared.line.Origin.{Origin}
+use Rattle.dx_lines.specs.declared.line.Origin.TheVariants as origins
+use Rattle.dx_lines.specs.declared.term.Term.{Term}
+use Rattle.dx_lines.specs.declared.term.Term.TheVariants.{Var, Call}
+use Rattle.dx_lines.specs.declared.candidate.Pick.{Pick}
+use Rattle.dx_lines.specs.Ways.{ways}
+use Rattle.dx_lines.specs.Rules.{atom_by, conversion_in, conversions, derived_by, once, picked, same_term, standing}
+use Rattle.dx_lines.proofs.Sources.{from_kept, in_whole}
+use Rattle.dx_ways.specs.Laws.{TermBy, seen_at}
+use Rattle.dx_ways.proofs.WaysAre.{ways_are}
+use Rattle.dx_rules.proofs.ClosedRules.{rules_are_closed}
+use Rattle.dx_rules.proofs.FittingRules.{rules_fit}
+use Rattle.dx_model.specs.Fitting.{RuleFits}
+use Rattle.dx_funcs.specs.Offers.{IsListed}
+use Rattle.dx_rule_text.specs.Printed.{AreAtomsOf}
+use Rattle.dx_stages.specs.Worlds.{World}
+use Rattle.dx_stages.specs.Stages.{Stage, next, checking}
+use Rattle.clio_accept.specs.declared.mapping.Mapping.{Mapping}
+use Rattle.clio_accept.specs.Mapping.{SourceRefused, TargetRefused, NameRefused, LinesRefused, ByHandRefused, NamingRefused, LimitRefused, RulesRefused, NoneReserved, rules_of, limit_of}
+use Rattle.clio_accept.specs.Accepting.{accepting, accepting_said, between_of, limits, naming, by_hand, rule_count, rules, said_rules, taking, target_names, target_sets, with_rules}
+use Rattle.clio_accept.specs.Laws.{AcceptedFits, MappingFits}
+use Rattle.clio_accept.proofs.Few.{few_variables}
+
+-- a term that is picked is one of the picks'
+pub from_picked : (picks : List Pick) (y : ℕ) (t : Term) → picked picks y ≡ Some t → (k : Pick) × (k ∈ picks) × (k.term ≡ t)
+from_picked [] y t e = cc
+from_picked (k ∷ ks) y t e = by_test (eqb k.variable y) e (λ r. from_picked ks y t r)
+  where
+    by_test : (b : Bool) → cond b (Some k.term) (picked ks y) ≡ Some t → (picked ks y ≡ Some t → (j : Pick) × (j ∈ ks) × (j.term ≡ t)) → (j : Pick) × (j ∈ (k ∷ ks)) × (j.term ≡ t)
+    by_test true e r = (k, here refl, cc)
+    by_test false e r = let j = r e in (j.0, there j.1, j.2)
+
+-- ---- tables of atoms
+
+-- the occurrences of an unfolding are of tables of the schema
+tables_there : (f : Forest) (t : ℕ) → IsFaultless f → t < length (model_tables f) → Each (unfolding_of (model_tables f) t).occurrences (λ o. o.table < length (tables_of f))
+tables_there f t ok lt o m =
+    let u = unfoldings_are (model_tables f) t (links_fit (tables_of f) (are_tables f ok.form)) ok.acyclic lt in
+    let c = contains_from_in m in
+    let place = (u.occurrences c.0 c.1).table in
+    let same = length-map (tables_of f) as_numbers in
+    let here_it : o.table < length (model_tables f) = subst (λ (x : Occurrence). x.table < length (model_tables f)) (at_place c.0 c.1 c.2) place in
+    omega (arith, here_it, same)
+  where
+    at_place : (i : ℕ) → i < length (unfolding_of (model_tables f) t).occurrences → get_or (unfolding_of (model_tables f) t).occurrences i o ≡ o
+        → get_or (unfolding_of (model_tables f) t).occurrences i (record { table = 0; variables = []; parent = None; link = 0 }) ≡ o
+    at_place i lt e = get_or_default (unfolding_of (model_tables f) t).occurrences i (record { table = 0; variables = []; parent = None; link = 0 }) o lt ∙ e
+
+-- its atoms too
+atoms_there : (f : Forest) (g : ℕ → Cell) (os : List Occurrence) → Each os (λ o. o.table < length (tables_of f)) → AreAtomsOf f (map (atom_by g) os)
+atoms_there f g os h a m =
+    let o = from_map (atom_by g) os m in
+    subst (λ x. x.table < length (tables_of f)) o.2 (h o.0 o.1)
+
+-- ---- derived variables
+
+-- what stands once was there
+in_once : {X : Type 0} (same : X → X → Bool) (xs : List X) {x : X} → x ∈ once same xs → x ∈ xs
+in_once same [] m = elim m [ ]
+in_once same (y ∷ ys) (here e) = here e
+in_once same (y ∷ ys) (there m) = there (in_once same ys (in_whole _ (once same ys) m))
+
+-- a derived variable is that of a conversion
+derived_call : (t : Term) (x : Derived) → x ∈ derived_by t → (c : ℕ) × (xs : List ℕ) × (t ≡ Call c xs) × (c ≡ x.code) × (xs ≡ x.args)
+derived_call (Var y) x m = elim m [ ]
+derived_call (Call c xs) x (here e) = (c, xs, refl, ap (λ (d : Derived). d.code) e, ap (λ (d : Derived). d.args) e)
+derived_call (Call c xs) x (there m) = elim m [ ]
+
+-- a conversion that is picked
+picked_conversion : (o : Option Term) (t : Term) → t ∈ conversion_in o → o ≡ Some t
+picked_conversion None t m = elim m [ ]
+picked_conversion (Some (Var x)) t m = elim m [ ]
+picked_conversion (Some (Call c xs)) t (here e) = ap Some e
+picked_conversion (Some (Call c xs)) t (there m) = elim m [ ]
+
+from_conversions : (picks : List Pick) (Q : List Occurrence) (t : Term) → t ∈ conversions picks Q → (k : Pick) × (k ∈ picks) × (k.term ≡ t)
+from_conversions picks Q t m =
+    let y = from_flat_map (λ y. conversion_in (picked picks y)) (standing Q) (in_once same_term (flat_map (λ y. conversion_in (picked picks y)) (standing Q)) m) in
+    from_picked picks y.0 t (picked_conversion (picked picks y.0) t y.2)
+
+-- the conversion of a way is listed, with as many arguments as it takes
+call_listed : (list : List Conversion) (f : ℕ → Occurrence) (o : Origin) (c : ℕ) (xs : List ℕ) → IsOfferedFrom list o → TermBy f o (Call c xs) → IsListed list c (length xs)
+call_listed list f (origins.Column a) c xs offered by = cc
+call_listed list f (origins.Literal t) c xs offered by = absurd by
+call_listed list f (origins.Call code args) c xs offered by =
+    let same : c ≡ code = cc in
+    let made : xs ≡ map (seen_at f) args = cc in
+    let many : length args ≡ length xs = sym (ap length made ∙ length-map args (seen_at f)) in
+    (offered.0, offered.1, offered.2 ∙ sym same, offered.3 ∙ many)
+
+way_listed : (list : List Conversion) (lines : List Line) (P Q : List Occurrence) (k : Pick) (c : ℕ) (xs : List ℕ) → Each lines (IsOffered list) → k ∈ ways lines P Q → k.term ≡ Call c xs
+    → IsListed list c (length xs)
+way_listed list lines P Q k c xs offered m is =
+    let w = (ways_are lines P Q k).0 m in
+    call_listed list w.choice w.line.source c xs (offered w.line w.is_line) (subst (TermBy w.choice w.line.source) is w.term)
+
+derived_listed : (list : List Conversion) (lines : List Line) (P Q : List Occurrence) (picks : List Pick) → Each lines (IsOffered list) → Each picks (λ k. k ∈ ways lines P Q)
+    → Each (flat_map derived_by (conversions picks Q)) (λ e. IsListed list e.code (length e.args))
+derived_listed list lines P Q picks offered are x m =
+    let t = from_flat_map derived_by (conversions picks Q) m in
+    let d = derived_call t.0 x t.2 in
+    let k = from_conversions picks Q t.0 t.1 in
+    let l = way_listed list lines P Q k.0 d.0 d.1 offered (are k.0 k.1) (k.2 ∙ d.2) in
+    (l.0, l.1, l.2 ∙ d.3, l.3 ∙ ap length d.4)
+
+-- ---- rules
+
+-- what is known of what an accepted text says
+record IsAccepted (list : List Conversion) (m : MappingText) : Type 0 where
+  source : IsFaultless m.source
+  target : IsFaultless m.target
+  named : lines_fault m.source m.target list m.lines ≡ None
+  limits : limit_of list m.source m.target m.lines ≡ None
+  few : length (rules_of list m.source m.target m.lines) ≤ 256
+
+unfolds : (f : Forest) (t : ℕ) → IsFaultless f → t < length (model_tables f) → IsUnfolding (model_tables f) t (unfolding_of (model_tables f) t)
+unfolds f t ok lt = unfoldings_are (model_tables f) t (links_fit (tables_of f) (are_tables f ok.form)) ok.acyclic lt
+
+each_closed : (list : List Conversion) (m : MappingText) → IsAccepted list m → Each (rules_of list m.source m.target m.lines) (IsClosed (model_tables m.target))
+each_closed list m a d i =
+    let lines = lines_of m.source m.target list m.lines in
+    let k = from_kept lines (model_tables m.source) (model_tables m.target) d i in
+    subst (IsClosed (model_tables m.target)) k.2
+    (rules_are_closed lines (model_tables m.target) k.0.target (unfolding_of (model_tables m.source) k.0.source) (unfolding_of (model_tables m.target) k.0.target) k.0.picks
+    (links_fit (tables_of m.target) (are_tables m.target a.target.form)) (unfolds m.target k.0.target a.target k.1.target_table))
+
+each_fits : (list : List Conversion) (m : MappingText) → IsAccepted list m → Each (rules_of list m.source m.target m.lines) (RuleFits (model_tables m.source) (model_tables m.target))
+each_fits list m a d i =
+    let lines = lines_of m.source m.target list m.lines in
+    let k = from_kept lines (model_tables m.source) (model_tables m.target) d i in
+    subst (RuleFits (model_tables m.source) (model_tables m.target)) k.2
+    (rules_fit lines (model_tables m.source) (model_tables m.target) k.0.source k.0.target (unfolding_of (model_tables m.source) k.0.source) (unfolding_of (model_tables m.target) k.0.target) k.0.picks
+    (unfolds m.source k.0.source a.source k.1.source_table) (unfolds m.target k.0.target a.target k.1.target_table)
+    (few_variables m.source m.target lines k.0.source k.0.target a.source a.target a.limits k.1.source_table k.1.target_table
+    (unfolds m.source k.0.source a.source k.1.source_table) (unfolds m.target k.0.target a.target k.1.target_table))
+    (lines_fit m.source m.target list m.lines lines refl a.named) k.1.picks)
+
+each_premise : (list : List Conversion) (m : MappingText) → IsAccepted list m → Each (rules_of list m.source m.target m.lines) (λ d. AreAtomsOf m.source d.premise)
+each_premise list m a d i =
+    let k = from_kept (lines_of m.source m.target list m.lines) (model_tables m.source) (model_tables m.target) d i in
+    subst (λ (e : Rule). AreAtomsOf m.source e.premise) k.2
+    (atoms_there m.source cells.Var (unfolding_of (model_tables m.source) k.0.source).occurrences (tables_there m.source k.0.source a.source k.1.source_table))
+
+each_conclusion : (list : List Conversion) (m : MappingText) → IsAccepted list m → Each (rules_of list m.source m.target m.lines) (λ d. AreAtomsOf m.target d.conclusion)
+each_conclusion list m a d i =
+    let k = from_kept (lines_of m.source m.target list m.lines) (model_tables m.source) (model_tables m.target) d i in
+    subst (λ (e : Rule). AreAtomsOf m.target e.conclusion) k.2
+    (atoms_there m.target _ (unfolding_of (model_tables m.target) k.0.target).occurrences (tables_there m.target k.0.target a.target k.1.target_table))
+
+each_listed : (list : List Conversion) (m : MappingText) → IsAccepted list m → Each (rules_of list m.source m.target m.lines) (λ d. Each d.derived (λ e. IsListed list e.code (length e.args)))
+each_listed list m a d i =
+    let lines = lines_of m.source m.target list m.lines in
+    let k = from_kept lines (model_tables m.source) (model_tables m.target) d i in
+    subst (λ (r : Rule). Each r.derived (λ e. IsListed list e.code (length e.args))) k.2
+    (derived_listed list lines (unfolding_of (model_tables m.source) k.0.source).occurrences (unfolding_of (model_tables m.target) k.0.target).occurrences k.0.picks
+    (lines_offered m.source m.target list m.lines lines refl a.named) k.1.picks)
+
+-- ---- what the stages have checked
+
+checked : {E A B : Type 0} (refused : A → E → Type 0) (fits : A → Type 0) (t : Stage E A B) (c : World) (a : A) (x : B) → (next (checking refused fits) t).passes c a x → fits a × t.passes c a x
+checked refused fits t c a x p = (p.1.0, subst (λ v. t.passes c v x) p.1.1 p.2)
+
+ok_of : {X Y : Type 0} (x y : X) → ◌≡◌ {A = Result X Y} (Ok x) (Ok y) → y ≡ x
+ok_of x y e = cc
+
+-- the rules are those of the lines, of which the words are known, and they are few
+record IsTaken (list : List Conversion) (m : MappingText) (R : List Rule) : Type 0 where
+  named : lines_fault m.source m.target list m.lines ≡ None
+  limits : limit_of list m.source m.target m.lines ≡ None
+  few : length (rules_of list m.source m.target m.lines) ≤ 256
+  are : R ≡ rules_of list m.source m.target m.lines
+
+is_taken : (list : List Conversion) (c : World) (m : MappingText) (R : List Rule) → (taking list).passes c (between_of m) R → IsTaken list m R
+is_taken list c m R p =
+    let b = between_of m in
+    let one = checked (λ b. LinesRefused b.lines) (λ b. length b.lines ≤ 512) (next by_hand (next (naming list) (next (limits list) (next (rule_count list) (rules list))))) c b R p in
+    let two = checked (λ b. ByHandRefused b.by_hand) (λ b. b.by_hand ≡ []) (next (naming list) (next (limits list) (next (rule_count list) (rules list)))) c b R one.1 in
+    let three = checked (λ b. NamingRefused list b.source b.target b.lines) (λ b. lines_fault b.source b.target list b.lines ≡ None) (next (limits list) (next (rule_count list) (rules list))) c b R two.1 in
+    let four = checked (λ b. LimitRefused list b.source b.target b.lines) (λ b. limit_of list b.source b.target b.lines ≡ None) (next (rule_count list) (rules list)) c b R three.1 in
+    let five = checked (λ b. RulesRefused list b.source b.target b.lines) (λ b. length (rules_of list b.source b.target b.lines) ≤ 256) (rules list) c b R four.1 in
+    record { named = three.0; limits = four.0; few = five.0; are = ok_of (rules_of list m.source m.target m.lines) R five.1 }
+
+pub accepted_fits : AcceptedFits
+accepted_fits list c text M (m, says, p) =
+    let one = checked (λ m. SourceRefused m.source) (λ m. IsFaultless m.source) (next target_sets (next target_names (said_rules list))) c m M p in
+    let two = checked (λ m. TargetRefused m.target) (λ m. IsFaultless m.target) (next target_names (said_rules list)) c m M one.1 in
+    let three = checked (λ m. NameRefused m.target) (λ m. NoneReserved m.target) (said_rules list) c m M two.1 in
+    let t = is_taken list c m three.1.0 three.1.1 in
+    let a : IsAccepted list m = record { source = one.0; target = two.0; named = t.named; limits = t.limits; few = t.few } in
+    let words = said_is_writable text m says in
+    subst (MappingFits list) (sym (three.1.2 ∙ ap (with_rules m) t.are)) (record {
+      source = one.0;
+      target = two.0;
+      source_names = words.0.named;
+      target_names = words.1.named;
+      few = t.few;
+      fit = each_fits list m a;
+      closed = each_closed list m a;
+      premises = each_premise list m a;
+      conclusions = each_conclusion list m a;
+      listed = each_listed list m a;
+    })

@@ -1,0 +1,291 @@
+-- A text is accepted with one mapping, or refused for one reason, and never both.
+use Rattle.std.proofs.Common.{◌≡◌, ◌⊎◌, ℕ, zero, suc, ◌<◌, ◌≤◌, List, [], ◌∷◌, Some, None, length, refl, sym, ◌∙◌, ap, true, false, subst, inl, inr, codes, arith, nat_eq, Ok}
+use Rattle.std.specs.Prelude.{Option}
+use Rattle.std.specs.Cmp.Lexicographic.{pointwise, bytes_decides}
+use Rattle.std.proofs.lemmas.Bool.{cases_lt, cases_eq, cases_Bool, true≢false}
+use Rattle.dx_ports.specs.declared.file.Count.TheVariants.{Lines, Rules}
+use Rattle.dx_schema.specs.Forest.{Forest}
+use Rattle.dx_schema.specs.Tables.{table_at, tables_of}
+use Rattle.dx_schema.specs.Links.{IsFaultless}
+use Rattle.dx_schema.proofs.Deciding.{faultless_or_fault}
+use Rattle.dx_schema.proofs.OneFault.{one_first_fault, faultless_have_none}
+use Rattle.dx_schema_text.specs.declared.texts.LineText.{LineText}
+use Rattle.dx_schema_text.specs.declared.texts.RuleText.{RuleText}
+use Rattle.dx_schema_text.specs.declared.texts.MappingText.{MappingText}
+use Rattle.dx_schema_text.specs.Texts.{IsMappingText, IsTextFault}
+use Rattle.dx_schema_text.proofs.Answered.{mapping_or_fault, one_mapping, one_fault, never_said_and_faulty}
+use Rattle.dx_funcs.specs.declared.conversion.Conversion.{Conversion}
+use Rattle.dx_line_text.specs.Naming.{lines_fault}
+use Rattle.dx_stages.specs.Stages.{Stage, next, into, over, saying, notions, checking, computing}
+use Rattle.dx_stages.specs.Laws.{PassesOne, IsDecided}
+use Rattle.dx_stages.proofs.Decided.{Any, next_one, next_decided, checking_one, checking_decided, computing_one, computing_decided, into_one, into_decided, over_one, over_decided, notions_decided, saying_decided}
+use Rattle.clio_accept.specs.declared.fault.AcceptFault.{AcceptFault}
+use Rattle.clio_accept.specs.declared.fault.AcceptFault.TheVariants as faults
+use Rattle.clio_accept.specs.declared.fault.MapFault.TheVariants as map_faults
+use Rattle.clio_accept.specs.Mapping.{IsReserved, NoneReserved, IsFirstReserved, rules_of, limit_of, text_refusal, source_refusal, target_refusal}
+use Rattle.clio_accept.specs.Mapping.{SourceRefused, TargetRefused, NameRefused, LinesRefused, ByHandRefused, NamingRefused, LimitRefused, RulesRefused}
+use Rattle.clio_accept.specs.Accepting.{Between, line_count, by_hand, naming, limits, rule_count, rules, taking, source_sets, target_sets, target_names, between_of, with_rules, said_rules, accepting_said, said_by, accepting}
+
+abbrev Same : AcceptFault → AcceptFault → Type 0
+Same d e = d ≡ e
+
+-- ---- schemas
+
+one_source : (f : Forest) (d e : AcceptFault) → SourceRefused f d → SourceRefused f e → d ≡ e
+one_source f d e a b = a.2 ∙ ap source_refusal (one_first_fault f a.0 b.0 a.1 b.1) ∙ sym b.2
+
+no_source : (f : Forest) (e : AcceptFault) → IsFaultless f → ¬ (SourceRefused f e)
+no_source f e ok a = faultless_have_none f a.0 ok a.1
+
+one_target : (f : Forest) (d e : AcceptFault) → TargetRefused f d → TargetRefused f e → d ≡ e
+one_target f d e a b = a.2 ∙ ap target_refusal (one_first_fault f a.0 b.0 a.1 b.1) ∙ sym b.2
+
+no_target : (f : Forest) (e : AcceptFault) → IsFaultless f → ¬ (TargetRefused f e)
+no_target f e ok a = faultless_have_none f a.0 ok a.1
+
+-- ---- reserved names
+
+same_table : (f : Forest) (t u : ℕ) → IsReserved (table_at f t).name → IsReserved (table_at f u).name → ((k : ℕ) → k < t → ¬ (IsReserved (table_at f k).name))
+    → ((k : ℕ) → k < u → ¬ (IsReserved (table_at f k).name)) → t ≡ u
+same_table f t u a b p q =
+    elim (cases_lt t u) [
+      | inl lt ↦ absurd (q t lt a)
+      | inr ge ↦ elim (cases_lt u t) [
+        | inl lt ↦ absurd (p u lt b)
+        | inr le ↦ omega (arith, ge, le)
+      ]
+    ]
+
+at_table : (f : Forest) (name : List ℕ) (r : IsFirstReserved f name) → IsReserved (table_at f r.table).name
+at_table f name r = subst IsReserved r.is r.reserved
+
+same_name : (f : Forest) (name other : List ℕ) → IsFirstReserved f name → IsFirstReserved f other → name ≡ other
+same_name f name other a b = a.is ∙ ap (λ t. (table_at f t).name) (same_table f a.table b.table (at_table f name a) (at_table f other b) a.first b.first) ∙ sym b.is
+
+one_name : (f : Forest) (d e : AcceptFault) → NameRefused f d → NameRefused f e → d ≡ e
+one_name f d e a b = a.2 ∙ ap (λ n. faults.Mapping (map_faults.Reserved n)) (same_name f a.0 b.0 a.1 b.1) ∙ sym b.2
+
+no_name : (f : Forest) (e : AcceptFault) → NoneReserved f → ¬ (NameRefused f e)
+no_name f e none a = none a.1.table a.1.within (at_table f a.0 a.1)
+
+-- ---- lines
+
+no_lines : (lines : List LineText) (e : AcceptFault) → length lines ≤ 512 → ¬ (LinesRefused lines e)
+no_lines lines e few a = let many = a.0 in omega (arith, few, many)
+
+no_naming : (list : List Conversion) (source target : Forest) (lines : List LineText) (e : AcceptFault) → lines_fault source target list lines ≡ None → ¬ (NamingRefused list source target lines e)
+no_naming list source target lines e none a = let some = a.1 in cc
+
+same_some : {X : Type 0} (o : Option X) (x y : X) → o ≡ Some x → o ≡ Some y → x ≡ y
+same_some o x y a b = cc
+
+one_naming : (list : List Conversion) (source target : Forest) (lines : List LineText) (d e : AcceptFault) → NamingRefused list source target lines d → NamingRefused list source target lines e → d ≡ e
+one_naming list source target lines d e a b = a.2 ∙ ap text_refusal (same_some (lines_fault source target list lines) a.0 b.0 a.1 b.1) ∙ sym b.2
+
+no_limit : (list : List Conversion) (source target : Forest) (lines : List LineText) (e : AcceptFault) → limit_of list source target lines ≡ None → ¬ (LimitRefused list source target lines e)
+no_limit list source target lines e none a = let some = a.1 in cc
+
+one_limit : (list : List Conversion) (source target : Forest) (lines : List LineText) (d e : AcceptFault) → LimitRefused list source target lines d → LimitRefused list source target lines e → d ≡ e
+one_limit list source target lines d e a b = a.2 ∙ ap faults.Limit (same_some (limit_of list source target lines) a.0 b.0 a.1 b.1) ∙ sym b.2
+
+no_rules : (list : List Conversion) (source target : Forest) (lines : List LineText) (e : AcceptFault) → length (rules_of list source target lines) ≤ 256 → ¬ (RulesRefused list source target lines e)
+no_rules list source target lines e few a = let many = a.0 in omega (arith, few, many)
+
+there_or_not : {X : Type 0} (o : Option X) → (o ≡ None) ⊎ ((x : X) × (o ≡ Some x))
+there_or_not None = inl refl
+there_or_not (Some x) = inr (x, refl)
+
+-- ---- reserved names
+
+reserved_or_not : (name : List ℕ) → IsReserved name ⊎ ¬ (IsReserved name)
+reserved_or_not name = elim (cases_Bool (pointwise nat_eq name (codes "nulls"))) [
+  | inl t ↦ inl (inl ((bytes_decides name (codes "nulls")).0 t))
+  | inr f ↦ elim (cases_Bool (pointwise nat_eq name (codes "fold"))) [
+    | inl t ↦ inl (inr ((bytes_decides name (codes "fold")).0 t))
+    | inr g ↦ inr (λ r. neither f g r)
+  ]
+]
+  where
+    neither : pointwise nat_eq name (codes "nulls") ≡ false → pointwise nat_eq name (codes "fold") ≡ false → ¬ (IsReserved name)
+    neither f g (inl e) = true≢false (sym ((bytes_decides name (codes "nulls")).1 e) ∙ f)
+    neither f g (inr e) = true≢false (sym ((bytes_decides name (codes "fold")).1 e) ∙ g)
+
+-- the first of the tables below n with a reserved name, or none of them has one
+first_reserved : (f : Forest) (n : ℕ) → ((t : ℕ) → t < n → ¬ (IsReserved (table_at f t).name))
+    ⊎ ((t : ℕ) × (t < n) × IsReserved (table_at f t).name × ((k : ℕ) → k < t → ¬ (IsReserved (table_at f k).name)))
+first_reserved f zero = inl (λ t h. absurd (omega arith))
+first_reserved f (suc n) = elim (first_reserved f n) [
+  | inr r ↦ inr (r.0, omega (arith, r.1), r.2, r.3)
+  | inl none ↦ elim (reserved_or_not (table_at f n).name) [
+    | inl r ↦ inr (n, omega arith, r, none)
+    | inr d ↦ inl (also none d)
+  ]
+]
+  where
+    also : ((t : ℕ) → t < n → ¬ (IsReserved (table_at f t).name)) → ¬ (IsReserved (table_at f n).name) → (t : ℕ) → t < suc n → ¬ (IsReserved (table_at f t).name)
+    also none d t h = elim (cases_eq t n) [
+      | inl e ↦ subst (λ (k : ℕ). ¬ (IsReserved (table_at f k).name)) (sym e) d
+      | inr ne ↦ none t (omega (arith, h, ne))
+    ]
+
+none_or_reserved : (f : Forest) → NoneReserved f ⊎ ((name : List ℕ) × IsFirstReserved f name)
+none_or_reserved f = elim (first_reserved f (length (tables_of f))) [
+  | inl none ↦ inl none
+  | inr r ↦ inr ((table_at f r.0).name, record { table = r.0; within = r.1; is = refl; reserved = r.2; first = r.3 })
+]
+
+-- ---- one stage after the other
+
+after : {A B C : Type 0} (s : Stage AcceptFault A B) (t : Stage AcceptFault B C) → PassesOne s → IsDecided Same Any s → IsDecided Same Any t → IsDecided Same Any (next s t)
+after s t p u v = next_decided Same Any Any s t p (λ c a b g h. tt) u v
+
+check : {A : Type 0} (refused : A → AcceptFault → Type 0) (fits : A → Type 0) → ((a : A) (e f : AcceptFault) → refused a e → refused a f → e ≡ f) → ((a : A) (e : AcceptFault) → fits a → ¬ (refused a e))
+    → ((a : A) → fits a ⊎ ((e : AcceptFault) × refused a e)) → IsDecided Same Any (checking refused fits)
+check refused fits one never either = checking_decided Same Any refused fits one never either
+
+-- ---- lines
+
+line_count_decided : IsDecided Same Any line_count
+line_count_decided = check (λ b. LinesRefused b.lines) (λ b. length b.lines ≤ 512) (λ b d e p q. p.1 ∙ sym q.1) (λ b e. no_lines b.lines e) either
+  where
+    either : (b : Between) → (length b.lines ≤ 512) ⊎ ((e : AcceptFault) × LinesRefused b.lines e)
+    either b = elim (cases_lt 512 (length b.lines)) [
+      | inl many ↦ inr (faults.Limit (record { what = Lines; number = 512 }), (many, refl))
+      | inr few ↦ inl few
+    ]
+
+by_hand_decided : IsDecided Same Any by_hand
+by_hand_decided = check (λ b. ByHandRefused b.by_hand) (λ b. b.by_hand ≡ []) (λ b d e p q. p.1 ∙ sym q.1) (λ b e is p. p.0 is) (λ b. either b.by_hand)
+  where
+    either : (rs : List RuleText) → (rs ≡ []) ⊎ ((e : AcceptFault) × ByHandRefused rs e)
+    either [] = inl refl
+    either (r ∷ rs) = inr (faults.Mapping map_faults.NotYet, ((λ e. cc e), refl))
+
+naming_decided : (list : List Conversion) → IsDecided Same Any (naming list)
+naming_decided list = check (λ b. NamingRefused list b.source b.target b.lines) (λ b. lines_fault b.source b.target list b.lines ≡ None)
+    (λ b. one_naming list b.source b.target b.lines) (λ b. no_naming list b.source b.target b.lines) either
+  where
+    either : (b : Between) → (lines_fault b.source b.target list b.lines ≡ None) ⊎ ((e : AcceptFault) × NamingRefused list b.source b.target b.lines e)
+    either b = elim (there_or_not (lines_fault b.source b.target list b.lines)) [
+      | inl none ↦ inl none
+      | inr k ↦ inr (text_refusal k.0, (k.0, k.1, refl))
+    ]
+
+limits_decided : (list : List Conversion) → IsDecided Same Any (limits list)
+limits_decided list = check (λ b. LimitRefused list b.source b.target b.lines) (λ b. limit_of list b.source b.target b.lines ≡ None)
+    (λ b. one_limit list b.source b.target b.lines) (λ b. no_limit list b.source b.target b.lines) either
+  where
+    either : (b : Between) → (limit_of list b.source b.target b.lines ≡ None) ⊎ ((e : AcceptFault) × LimitRefused list b.source b.target b.lines e)
+    either b = elim (there_or_not (limit_of list b.source b.target b.lines)) [
+      | inl none ↦ inl none
+      | inr l ↦ inr (faults.Limit l.0, (l.0, l.1, refl))
+    ]
+
+rule_count_decided : (list : List Conversion) → IsDecided Same Any (rule_count list)
+rule_count_decided list = check (λ b. RulesRefused list b.source b.target b.lines) (λ b. length (rules_of list b.source b.target b.lines) ≤ 256)
+    (λ b d e p q. p.1 ∙ sym q.1) (λ b. no_rules list b.source b.target b.lines) either
+  where
+    either : (b : Between) → (length (rules_of list b.source b.target b.lines) ≤ 256) ⊎ ((e : AcceptFault) × RulesRefused list b.source b.target b.lines e)
+    either b = elim (cases_lt 256 (length (rules_of list b.source b.target b.lines))) [
+      | inl many ↦ inr (faults.Limit (record { what = Rules; number = 256 }), (many, refl))
+      | inr few ↦ inl few
+    ]
+
+line_count_one : PassesOne line_count
+line_count_one = checking_one (λ b. LinesRefused b.lines) (λ b. length b.lines ≤ 512)
+
+by_hand_one : PassesOne by_hand
+by_hand_one = checking_one (λ b. ByHandRefused b.by_hand) (λ b. b.by_hand ≡ [])
+
+naming_one : (list : List Conversion) → PassesOne (naming list)
+naming_one list = checking_one (λ b. NamingRefused list b.source b.target b.lines) (λ b. lines_fault b.source b.target list b.lines ≡ None)
+
+limits_one : (list : List Conversion) → PassesOne (limits list)
+limits_one list = checking_one (λ b. LimitRefused list b.source b.target b.lines) (λ b. limit_of list b.source b.target b.lines ≡ None)
+
+rule_count_one : (list : List Conversion) → PassesOne (rule_count list)
+rule_count_one list = checking_one (λ b. RulesRefused list b.source b.target b.lines) (λ b. length (rules_of list b.source b.target b.lines) ≤ 256)
+
+taking_one : (list : List Conversion) → PassesOne (taking list)
+taking_one list =
+    next_one line_count (next by_hand (next (naming list) (next (limits list) (next (rule_count list) (rules list))))) line_count_one
+    (next_one by_hand (next (naming list) (next (limits list) (next (rule_count list) (rules list)))) by_hand_one
+    (next_one (naming list) (next (limits list) (next (rule_count list) (rules list))) (naming_one list)
+    (next_one (limits list) (next (rule_count list) (rules list)) (limits_one list)
+    (next_one (rule_count list) (rules list) (rule_count_one list) (computing_one (λ (b : Between). Ok (rules_of list b.source b.target b.lines)))))))
+
+taking_decided : (list : List Conversion) → IsDecided Same Any (taking list)
+taking_decided list =
+    after line_count (next by_hand (next (naming list) (next (limits list) (next (rule_count list) (rules list))))) line_count_one line_count_decided
+    (after by_hand (next (naming list) (next (limits list) (next (rule_count list) (rules list)))) by_hand_one by_hand_decided
+    (after (naming list) (next (limits list) (next (rule_count list) (rules list))) (naming_one list) (naming_decided list)
+    (after (limits list) (next (rule_count list) (rules list)) (limits_one list) (limits_decided list) (after (rule_count list) (rules list) (rule_count_one list) (rule_count_decided list)
+    (computing_decided Same Any (λ (b : Between). Ok (rules_of list b.source b.target b.lines)) (λ e. refl))))))
+
+-- ---- what a text says
+
+source_decided : IsDecided Same Any source_sets
+source_decided = check (λ m. SourceRefused m.source) (λ m. IsFaultless m.source) (λ m. one_source m.source) (λ m. no_source m.source) either
+  where
+    either : (m : MappingText) → IsFaultless m.source ⊎ ((e : AcceptFault) × SourceRefused m.source e)
+    either m = elim (faultless_or_fault m.source) [
+      | inl ok ↦ inl ok
+      | inr k ↦ inr (source_refusal k.0, (k.0, k.1, refl))
+    ]
+
+target_decided : IsDecided Same Any target_sets
+target_decided = check (λ m. TargetRefused m.target) (λ m. IsFaultless m.target) (λ m. one_target m.target) (λ m. no_target m.target) either
+  where
+    either : (m : MappingText) → IsFaultless m.target ⊎ ((e : AcceptFault) × TargetRefused m.target e)
+    either m = elim (faultless_or_fault m.target) [
+      | inl ok ↦ inl ok
+      | inr k ↦ inr (target_refusal k.0, (k.0, k.1, refl))
+    ]
+
+names_decided : IsDecided Same Any target_names
+names_decided = check (λ m. NameRefused m.target) (λ m. NoneReserved m.target) (λ m. one_name m.target) (λ m. no_name m.target) either
+  where
+    either : (m : MappingText) → NoneReserved m.target ⊎ ((e : AcceptFault) × NameRefused m.target e)
+    either m = elim (none_or_reserved m.target) [
+      | inl none ↦ inl none
+      | inr r ↦ inr (faults.Mapping (map_faults.Reserved r.0), (r.0, r.1, refl))
+    ]
+
+source_one : PassesOne source_sets
+source_one = checking_one (λ m. SourceRefused m.source) (λ m. IsFaultless m.source)
+
+target_one : PassesOne target_sets
+target_one = checking_one (λ m. TargetRefused m.target) (λ m. IsFaultless m.target)
+
+names_one : PassesOne target_names
+names_one = checking_one (λ m. NameRefused m.target) (λ m. NoneReserved m.target)
+
+said_rules_one : (list : List Conversion) → PassesOne (said_rules list)
+said_rules_one list = into_one with_rules (over between_of (taking list)) (over_one between_of (taking list) (taking_one list))
+
+said_one : (list : List Conversion) → PassesOne (accepting_said list)
+said_one list =
+    next_one source_sets (next target_sets (next target_names (said_rules list))) source_one
+    (next_one target_sets (next target_names (said_rules list)) target_one (next_one target_names (said_rules list) names_one (said_rules_one list)))
+
+said_decided : (list : List Conversion) → IsDecided Same Any (accepting_said list)
+said_decided list =
+    after source_sets (next target_sets (next target_names (said_rules list))) source_one source_decided
+    (after target_sets (next target_names (said_rules list)) target_one target_decided (after target_names (said_rules list) names_one names_decided
+    (into_decided Same Any with_rules (over between_of (taking list)) (over_decided Same Any Any between_of (taking list) (λ a g. tt) (taking_decided list)))))
+
+-- ---- a text
+
+said_by_one : PassesOne said_by
+said_by_one c text m n = one_mapping text m n
+
+said_by_decided : IsDecided Same Any said_by
+said_by_decided =
+    saying_decided (λ e k. e ≡ k) Same Any text_refusal (notions IsTextFault IsMappingText) (λ e k is. ap text_refusal is)
+    (notions_decided (λ e k. e ≡ k) Any IsTextFault IsMappingText (λ text e f g. one_fault text e f) (λ text m e g. never_said_and_faulty text m e) (λ text g. mapping_or_fault text))
+
+pub accepting_one : (list : List Conversion) → PassesOne (accepting list)
+accepting_one list = next_one said_by (accepting_said list) said_by_one (said_one list)
+
+pub accepting_decided : (list : List Conversion) → IsDecided (λ e f. e ≡ f) (λ text. Unit {0}) (accepting list)
+accepting_decided list = after said_by (accepting_said list) said_by_one said_by_decided (said_decided list)

@@ -1,0 +1,5 @@
+pub mod LineRules
+pub mod Refused
+pub mod Decided
+pub mod Few
+pub mod Accepted

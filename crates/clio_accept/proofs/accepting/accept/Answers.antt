@@ -1,0 +1,26 @@
+use Rattle.dx_funcs.specs.Serving.{offered}
+use Rattle.dx_stages.specs.Running.{Answers}
+use Rattle.dx_stages.proofs.Running.{answers_next, as_error}
+use Rattle.clio_accept.specs.declared.fault.AcceptFault.TheVariants.{Memory}
+use Rattle.clio_accept.specs.Mapping.{text_refusal}
+use Rattle.clio_accept.specs.Accepting.{accepting, accepting_said, said_by}
+use Rattle.clio_accept.proofs.Refused.{by_text}
+use Rattle.clio_accept.proofs.Few.{few_rules}
+use Rattle.clio_accept.proofs.accepting.accept.Goals as goal
+
+pub returns-in_err-said : goal.returns-in_err-said
+returns-in_err-said g c =
+    let list = offered c.args.host.now in
+    let fault = c.in_err-said.field-0.0 in
+    as_error _ (text_refusal fault) (Answers Memory (accepting list) c.args.text.now) c.from_residual.ensures.1 (by_text list c.args.text.now fault c.in_err-said.ensures.fault)
+
+pub accept_said-requires-clause-source : goal.accept_said-requires-clause-source
+accept_said-requires-clause-source g c = (few_rules c.args.text.now c.in_ok-said.said c.requires c.in_ok-said.ensures.mapping).0
+
+pub accept_said-requires-clause-target : goal.accept_said-requires-clause-target
+accept_said-requires-clause-target g c = (few_rules c.args.text.now c.in_ok-said.said c.requires c.in_ok-said.ensures.mapping).1
+
+pub returns : goal.returns
+returns g c =
+    let list = offered c.args.host.now in
+    answers_next Memory said_by (accepting_said list) c.args.text.now c.in_ok-said.said _ (λ w. c.in_ok-said.ensures.mapping) c.accept_said.ensures

@@ -1,0 +1,88 @@
+-- Accepting a text, one stage after the other.
+use Rattle.std.specs.Prelude.{◌≡◌, ◌≤◌, ℕ, List, [], None, Ok, length}
+use Rattle.dx_model.specs.declared.rules.Rule.{Rule}
+use Rattle.dx_schema.specs.Forest.{Forest}
+use Rattle.dx_schema.specs.Links.{IsFaultless}
+use Rattle.dx_schema_text.specs.declared.texts.LineText.{LineText}
+use Rattle.dx_schema_text.specs.declared.texts.RuleText.{RuleText}
+use Rattle.dx_schema_text.specs.declared.texts.MappingText.{MappingText}
+use Rattle.dx_schema_text.specs.Texts.{IsMappingText, IsTextFault}
+use Rattle.dx_tokens.specs.declared.faults.TextFault.{TextFault}
+use Rattle.dx_funcs.specs.declared.conversion.Conversion.{Conversion}
+use Rattle.dx_line_text.specs.Naming.{lines_fault}
+use Rattle.dx_stages.specs.Stages.{Stage, next, over, into, saying, computing, checking, notions}
+use Rattle.clio_accept.specs.declared.mapping.Mapping.{Mapping}
+use Rattle.clio_accept.specs.declared.fault.AcceptFault.{AcceptFault}
+use Rattle.clio_accept.specs.Mapping.{SourceRefused, TargetRefused, NameRefused, LinesRefused, ByHandRefused, NamingRefused, LimitRefused, RulesRefused, NoneReserved, rules_of, limit_of, text_refusal}
+
+-- ---- the rules of lines
+
+-- lines and hand-written rules, and the two schemas that they stand between
+pub record Between : Type 0 where
+  pub source : Forest
+  pub target : Forest
+  pub lines : List LineText
+  pub by_hand : List RuleText
+
+-- at most 512 lines
+abbrev pub line_count : Stage AcceptFault Between Between
+line_count = checking (λ b. LinesRefused b.lines) (λ b. length b.lines ≤ 512)
+
+-- no hand-written rule, for which more is to be built
+abbrev pub by_hand : Stage AcceptFault Between Between
+by_hand = checking (λ b. ByHandRefused b.by_hand) (λ b. b.by_hand ≡ [])
+
+-- the words of the lines name what there is
+abbrev pub naming : List Conversion → Stage AcceptFault Between Between
+naming list = checking (λ b. NamingRefused list b.source b.target b.lines) (λ b. lines_fault b.source b.target list b.lines ≡ None)
+
+-- no limit of lines is passed
+abbrev pub limits : List Conversion → Stage AcceptFault Between Between
+limits list = checking (λ b. LimitRefused list b.source b.target b.lines) (λ b. limit_of list b.source b.target b.lines ≡ None)
+
+-- at most 256 rules
+abbrev pub rule_count : List Conversion → Stage AcceptFault Between Between
+rule_count list = checking (λ b. RulesRefused list b.source b.target b.lines) (λ b. length (rules_of list b.source b.target b.lines) ≤ 256)
+
+-- the rules that the lines stand for
+abbrev pub rules : List Conversion → Stage AcceptFault Between (List Rule)
+rules list = computing (λ b. Ok (rules_of list b.source b.target b.lines))
+
+abbrev pub taking : List Conversion → Stage AcceptFault Between (List Rule)
+taking list = next line_count (next by_hand (next (naming list) (next (limits list) (next (rule_count list) (rules list)))))
+
+-- ---- the mapping of what a text says
+
+-- the sets of the source, and of the target, make a schema
+abbrev pub source_sets : Stage AcceptFault MappingText MappingText
+source_sets = checking (λ m. SourceRefused m.source) (λ m. IsFaultless m.source)
+
+abbrev pub target_sets : Stage AcceptFault MappingText MappingText
+target_sets = checking (λ m. TargetRefused m.target) (λ m. IsFaultless m.target)
+
+-- no target set has a reserved name
+abbrev pub target_names : Stage AcceptFault MappingText MappingText
+target_names = checking (λ m. NameRefused m.target) (λ m. NoneReserved m.target)
+
+-- the lines and rules of what a text says
+abbrev pub between_of : MappingText → Between
+between_of m = record { source = m.source; target = m.target; lines = m.lines; by_hand = m.rules }
+
+-- the two schemas with these rules
+abbrev pub with_rules : MappingText → List Rule → Mapping
+with_rules m R = record { source = m.source; target = m.target; rules = R }
+
+abbrev pub said_rules : List Conversion → Stage AcceptFault MappingText Mapping
+said_rules list = into with_rules (over between_of (taking list))
+
+abbrev pub accepting_said : List Conversion → Stage AcceptFault MappingText Mapping
+accepting_said list = next source_sets (next target_sets (next target_names (said_rules list)))
+
+-- ---- the mapping of a text
+
+-- what a text says, or its first fault
+abbrev pub said_by : Stage AcceptFault (List ℕ) MappingText
+said_by = saying text_refusal (notions IsTextFault IsMappingText)
+
+abbrev pub accepting : List Conversion → Stage AcceptFault (List ℕ) Mapping
+accepting list = next said_by (accepting_said list)

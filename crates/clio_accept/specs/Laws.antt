@@ -1,0 +1,41 @@
+-- What holds of accepted mappings.
+use Rattle.std.specs.Prelude.{◌≡◌, ◌≤◌, ℕ, List, length}
+use Rattle.dx_ports.specs.Members.{Each}
+use Rattle.dx_schema.specs.Tables.{model_tables}
+use Rattle.dx_schema.specs.Links.{IsFaultless}
+use Rattle.dx_schema_text.specs.Print.{AreNamed}
+use Rattle.dx_model.specs.Solutions.{IsClosed}
+use Rattle.dx_funcs.specs.declared.conversion.Conversion.{Conversion}
+use Rattle.dx_model.specs.Fitting.{RuleFits}
+use Rattle.dx_funcs.specs.Offers.{IsListed}
+use Rattle.dx_rule_text.specs.Printed.{AreAtomsOf}
+use Rattle.dx_stages.specs.Worlds.{World}
+use Rattle.dx_stages.specs.Laws.{IsDecided, PassesOne}
+use Rattle.clio_accept.specs.declared.mapping.Mapping.{Mapping}
+use Rattle.clio_accept.specs.Accepting.{accepting}
+
+-- Both schemas are faultless and their names are words; there are at most 256 rules; each fits the schemas, is closed under the
+-- links of the target, and has conversions of the list alone, each of as many arguments as it takes.
+pub record MappingFits (list : List Conversion) (M : Mapping) : Type 0 where
+  pub source : IsFaultless M.source
+  pub target : IsFaultless M.target
+  pub source_names : AreNamed M.source
+  pub target_names : AreNamed M.target
+  pub few : length M.rules ≤ 256
+  pub fit : Each M.rules (RuleFits (model_tables M.source) (model_tables M.target))
+  pub closed : Each M.rules (IsClosed (model_tables M.target))
+  pub premises : Each M.rules (λ d. AreAtomsOf M.source d.premise)
+  pub conclusions : Each M.rules (λ d. AreAtomsOf M.target d.conclusion)
+  pub listed : Each M.rules (λ d. Each d.derived (λ e. IsListed list e.code (length e.args)))
+
+-- a text has at most one mapping
+abbrev pub OneMapping : Type 0
+OneMapping = (list : List Conversion) → PassesOne (accepting list)
+
+-- a text is accepted or refused for one reason, and never both
+abbrev pub AcceptedOrRefused : Type 0
+AcceptedOrRefused = (list : List Conversion) → IsDecided (λ e f. e ≡ f) (λ text. Unit {0}) (accepting list)
+
+-- an accepted mapping has two schemas, and rules that fit them
+abbrev pub AcceptedFits : Type 0
+AcceptedFits = (list : List Conversion) (c : World) (text : List ℕ) (M : Mapping) → (accepting list).passes c text M → MappingFits list M

@@ -1,0 +1,113 @@
+-- What a text is refused for, and the mapping of what it says.
+use Rattle.std.specs.Prelude.{◌≡◌, ◌⊎◌, ℕ, ◌<◌, List, [], Option, Some, length, codes}
+use Rattle.dx_ports.specs.declared.file.Count.TheVariants.{Depth, Lines, Rules}
+use Rattle.dx_ports.specs.declared.file.Limit.{Limit}
+use Rattle.dx_model.specs.declared.rules.Rule.{Rule}
+use Rattle.dx_tokens.specs.declared.faults.TextFault.{TextFault}
+use Rattle.dx_tokens.specs.declared.faults.TextFault.TheVariants as text_faults
+use Rattle.dx_candidates.specs.declared.fault.CandFault.{CandFault}
+use Rattle.dx_candidates.specs.declared.fault.CandFault.TheVariants as cand_faults
+use Rattle.dx_schema.specs.declared.fault.SchemaFault.{SchemaFault}
+use Rattle.dx_schema.specs.declared.fault.SchemaFault.TheVariants as schema_faults
+use Rattle.dx_schema.specs.Forest.{Forest}
+use Rattle.dx_schema.specs.Tables.{tables_of, table_at, model_tables}
+use Rattle.dx_schema.specs.Links.{IsFirstFault}
+use Rattle.dx_schema_text.specs.declared.texts.LineText.{LineText}
+use Rattle.dx_schema_text.specs.declared.texts.RuleText.{RuleText}
+use Rattle.dx_schema_text.specs.declared.texts.MappingText.{MappingText}
+use Rattle.dx_funcs.specs.declared.conversion.Conversion.{Conversion}
+use Rattle.dx_line_text.specs.Naming.{lines_fault, lines_of}
+use Rattle.dx_lines.specs.Rules.{kept_rules}
+use Rattle.dx_lines.specs.Limits.{passed}
+use Rattle.clio_accept.specs.declared.mapping.Mapping.{Mapping}
+use Rattle.clio_accept.specs.declared.fault.AcceptFault.{AcceptFault}
+use Rattle.clio_accept.specs.declared.fault.AcceptFault.TheVariants as faults
+use Rattle.clio_accept.specs.declared.fault.MapFault.TheVariants as map_faults
+
+-- ---- reserved names
+
+-- a target set of this name would write a file of a name that is taken
+abbrev pub IsReserved : List ℕ → Type 0
+IsReserved name = (name ≡ codes "nulls") ⊎ (name ≡ codes "fold")
+
+-- no set has a reserved name
+abbrev pub NoneReserved : Forest → Type 0
+NoneReserved f = (t : ℕ) → t < length (tables_of f) → ¬ (IsReserved (table_at f t).name)
+
+-- the first set with a reserved name has this one
+pub record IsFirstReserved (f : Forest) (name : List ℕ) : Type 0 where
+  pub table : ℕ
+  pub within : table < length (tables_of f)
+  pub is : name ≡ (table_at f table).name
+  pub reserved : IsReserved name
+  pub first : (t : ℕ) → t < table → ¬ (IsReserved (table_at f t).name)
+
+-- ---- what is answered of a fault
+
+-- why a mapping is refused, where this is the fault of its text, of its source sets, of its target sets
+abbrev pub text_refusal : TextFault → AcceptFault
+text_refusal (text_faults.At place kind) = faults.Mapping (map_faults.Text place kind)
+text_refusal (text_faults.TooDeep place) = faults.Limit (record { what = Depth; number = 16 })
+text_refusal text_faults.Memory = faults.Memory
+
+-- and where this is the fault of the limits of its lines
+abbrev pub limit_refusal : CandFault → AcceptFault
+limit_refusal (cand_faults.TooMany l) = faults.Limit l
+limit_refusal cand_faults.Memory = faults.Memory
+
+abbrev pub source_refusal : SchemaFault → AcceptFault
+source_refusal (schema_faults.Bad kind) = faults.Mapping (map_faults.Source kind)
+source_refusal (schema_faults.TooMany l) = faults.Limit l
+source_refusal schema_faults.Memory = faults.Memory
+
+abbrev pub target_refusal : SchemaFault → AcceptFault
+target_refusal (schema_faults.Bad kind) = faults.Mapping (map_faults.Target kind)
+target_refusal (schema_faults.TooMany l) = faults.Limit l
+target_refusal schema_faults.Memory = faults.Memory
+
+-- ---- the rules of lines
+
+-- what lines between two schemas stand for: the rules of their kept candidates, in order
+abbrev pub rules_of : List Conversion → Forest → Forest → List LineText → List Rule
+rules_of list source target lines = kept_rules (lines_of source target list lines) (model_tables source) (model_tables target)
+
+-- the first limit that lines between two schemas pass
+abbrev pub limit_of : List Conversion → Forest → Forest → List LineText → Option Limit
+limit_of list source target lines = passed (lines_of source target list lines) (model_tables source) (model_tables target)
+
+-- the two schemas, and the rules that the lines stand for
+abbrev pub mapping_of : List Conversion → MappingText → Mapping
+mapping_of list m = record { source = m.source; target = m.target; rules = rules_of list m.source m.target m.lines }
+
+-- ---- why it is refused
+
+-- the sets of the source, and of the target, have a first fault
+abbrev pub SourceRefused : Forest → AcceptFault → Type 0
+SourceRefused f e = (k : SchemaFault) × IsFirstFault f k × (e ≡ source_refusal k)
+
+abbrev pub TargetRefused : Forest → AcceptFault → Type 0
+TargetRefused f e = (k : SchemaFault) × IsFirstFault f k × (e ≡ target_refusal k)
+
+-- a target set has a reserved name
+abbrev pub NameRefused : Forest → AcceptFault → Type 0
+NameRefused f e = (name : List ℕ) × IsFirstReserved f name × (e ≡ faults.Mapping (map_faults.Reserved name))
+
+-- there are too many lines
+abbrev pub LinesRefused : List LineText → AcceptFault → Type 0
+LinesRefused lines e = (512 < length lines) × (e ≡ faults.Limit (record { what = Lines; number = 512 }))
+
+-- there is a hand-written rule, which is not built yet
+abbrev pub ByHandRefused : List RuleText → AcceptFault → Type 0
+ByHandRefused by_hand e = (¬ (by_hand ≡ [])) × (e ≡ faults.Mapping map_faults.NotYet)
+
+-- a word of a line names nothing, or a conversion has another number of arguments
+abbrev pub NamingRefused : List Conversion → Forest → Forest → List LineText → AcceptFault → Type 0
+NamingRefused list source target lines e = (k : TextFault) × (lines_fault source target list lines ≡ Some k) × (e ≡ text_refusal k)
+
+-- the lines pass a limit
+abbrev pub LimitRefused : List Conversion → Forest → Forest → List LineText → AcceptFault → Type 0
+LimitRefused list source target lines e = (l : Limit) × (limit_of list source target lines ≡ Some l) × (e ≡ faults.Limit l)
+
+-- there are too many rules
+abbrev pub RulesRefused : List Conversion → Forest → Forest → List LineText → AcceptFault → Type 0
+RulesRefused list source target lines e = (256 < length (rules_of list source target lines)) × (e ≡ faults.Limit (record { what = Rules; number = 256 }))

@@ -1,0 +1,120 @@
+// Accepted mappings.
+ghost use Rattle.std.specs.Prelude.{◌≡◌, ◌⊎◌, ◌↔◌, ◌<◌, ◌-◌, ◌^◌, ℕ, length, IfOk, IfErr, IfSome, IfNone, IsTrue, OnOk};
+ghost use Rattle.dx_schema.specs.Bounds.{HasFewRules};
+ghost use Rattle.dx_schema.specs.Links.{IsFaultless};
+ghost use Rattle.dx_funcs.specs.Serving.{offered};
+ghost use Rattle.dx_stages.specs.Running.{Answers};
+ghost use Rattle.clio_accept.specs.Accepting.{accepting, accepting_said};
+ghost use Rattle.clio_accept.specs.Mapping.{IsFirstReserved, IsReserved, NoneReserved, SourceRefused, TargetRefused};
+ghost use Rattle.clio_accept.specs.declared.fault.AcceptFault.TheVariants.{Memory};
+
+use crate::fault::{AcceptFault, MapFault};
+use crate::lines::rules_between;
+use crate::mapping::Mapping;
+use dx_funcs::{Host, Meaning};
+use dx_ports::{Items, Text};
+use dx_schema::{Schema, SchemaFault, Trees};
+use dx_schema_text::{MappingText, read_mapping};
+use std::alloc::{AllocError, Global};
+
+// The source schema of these sets.
+fn source_of(alloc: Global, trees: Trees) -> Result<Schema, AcceptFault>
+    requires { HasFewRules trees }
+    ensures schema { IfOk result (λ s. s ≡ trees) }
+    ensures faultless { OnOk result (IsFaultless trees) }
+    ensures fault { IfErr result (λ e. (e ≡ Memory) ⊎ SourceRefused trees e) }
+{
+    match Schema::build(alloc, trees) {
+        Ok(schema) => Ok(schema),
+        Err(SchemaFault::Bad(kind)) => Err(AcceptFault::Mapping(MapFault::Source(kind))),
+        Err(SchemaFault::TooMany(limit)) => Err(AcceptFault::Limit(limit)),
+        Err(SchemaFault::Memory) => Err(AcceptFault::Memory),
+    }
+}
+
+// The target schema of these sets.
+fn target_of(alloc: Global, trees: Trees) -> Result<Schema, AcceptFault>
+    requires { HasFewRules trees }
+    ensures schema { IfOk result (λ s. s ≡ trees) }
+    ensures faultless { OnOk result (IsFaultless trees) }
+    ensures fault { IfErr result (λ e. (e ≡ Memory) ⊎ TargetRefused trees e) }
+{
+    match Schema::build(alloc, trees) {
+        Ok(schema) => Ok(schema),
+        Err(SchemaFault::Bad(kind)) => Err(AcceptFault::Mapping(MapFault::Target(kind))),
+        Err(SchemaFault::TooMany(limit)) => Err(AcceptFault::Limit(limit)),
+        Err(SchemaFault::Memory) => Err(AcceptFault::Memory),
+    }
+}
+
+fn is_reserved(name: &Text) -> bool
+    ensures { IsTrue result ↔ IsReserved name.now }
+{
+    name.as_str() == "nulls" || name.as_str() == "fold"
+}
+
+// The first reserved name among the target's sets.
+fn reserved_in(target: &Schema) -> Result<Option<Text>, AllocError>
+    ensures some { IfOk result (λ o. IfSome o (IsFirstReserved target.now)) }
+    ensures none { IfOk result (λ o. IfNone o (NoneReserved target.now)) }
+{
+    for table in 0..target.tables() {
+        let name = target.name(table);
+        if is_reserved(name) {
+            return Ok(Some(name.copy()?));
+        }
+    }
+    Ok(None)
+}
+
+// The mapping of what a text says.
+fn accept_said<F, M>(
+    alloc: Global,
+    said: MappingText,
+    host: &Host<F, M>,
+) -> Result<Mapping, AcceptFault>
+where
+    F: Fn(u32, &Items<Text>) -> Result<Text, AllocError>,
+    M: Meaning,
+    requires source { HasFewRules said.source }
+    requires target { HasFewRules said.target }
+    ensures { Answers AcceptFault.Memory (accepting_said (offered host.now)) said result }
+{
+    let MappingText {
+        version: _,
+        source,
+        target,
+        lines,
+        rules,
+    } = said;
+    let source = source_of(alloc, source)?;
+    let target = target_of(alloc, target)?;
+    if let Some(name) = reserved_in(&target)? {
+        return Err(AcceptFault::Mapping(MapFault::Reserved(name)));
+    }
+    let rules = rules_between(alloc, lines.items(), rules.items(), &source, &target, host)?;
+    Ok(Mapping {
+        source,
+        target,
+        rules,
+    })
+}
+
+/// The mapping that a text defines: its two schemas, and the rules that its lines stand for.
+///
+/// # Errors
+///
+/// In this order: the first fault of the text, of the source sets, of the target sets; the first target set with a name
+/// that is taken; more than 512 lines; until more is built, a hand-written rule; the first word of the lines that names
+/// nothing, or conversion with another number of arguments; the limits of lines (64 occurrences of an unfolding, 64 ways
+/// between two tables, 1,024 candidates); more than 256 rules. `Memory` may come at any point.
+pub fn accept<F, M>(alloc: Global, text: &[u8], host: &Host<F, M>) -> Result<Mapping, AcceptFault>
+where
+    F: Fn(u32, &Items<Text>) -> Result<Text, AllocError>,
+    M: Meaning,
+    requires { length text.now < 2 ^ 32 - 1 }
+    ensures { Answers AcceptFault.Memory (accepting (offered host.now)) text.now result }
+{
+    let said = read_mapping(alloc, text)?;
+    accept_said(alloc, said, host)
+}

@@ -1,0 +1,13 @@
+// The laws of accepted mappings. The definitions alone carry them: no body computes anything.
+ghost use Rattle.clio_accept.specs.Laws.{AcceptedFits, AcceptedOrRefused, OneMapping};
+
+/// A text is accepted with one mapping or refused for one reason, and never both.
+pub fn a_text_is_accepted_or_refused()
+    ensures mapping { OneMapping }
+    ensures refused { AcceptedOrRefused }
+{}
+
+/// An accepted mapping has two schemas, and rules that fit them.
+pub fn an_accepted_mapping_fits()
+    ensures { AcceptedFits }
+{}

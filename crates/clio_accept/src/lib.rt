@@ -1,0 +1,17 @@
+//! Accepting a mapping text.
+//!
+//! `accept` gives the mapping that a text defines, its two schemas and the rules of its lines, or the first reason to refuse
+//! it. Its contract is one row of stages (specs/Accepting): the text, the source sets, the target sets, the names of the
+//! target sets, the number of lines, hand-written rules, the words of the lines, their limits, and the number of rules.
+#![tactic(auto)]
+
+mod accepting;
+mod fault;
+mod laws;
+mod lines;
+mod mapping;
+
+pub use accepting::accept;
+pub use fault::{AcceptFault, MapFault};
+pub use laws::{a_text_is_accepted_or_refused, an_accepted_mapping_fits};
+pub use mapping::Mapping;

@@ -1,0 +1,89 @@
+-- An exchange that fits its schema has files.
+use Rattle.std.proofs.Common.{◌≡◌, ℕ, suc, ◌≤◌, List, [], ◌∷◌, length, map, refl, ap, subst, arith}
+use Rattle.std.specs.Cmp.{IsTotalOrder}
+use Rattle.std.specs.declared.cmp.Ordering.TheVariants.{Equal}
+use Rattle.std.proofs.lemmas.Cmp.{lists_total}
+use Rattle.std.proofs.lemmas.List.{length-map}
+use Rattle.dx_ports.specs.Members.{◌∈◌, here, there, Each}
+use Rattle.dx_ports.proofs.Members.{from_map}
+use Rattle.dx_model.specs.declared.facts.Fact.{Fact}
+use Rattle.dx_model.specs.declared.values.NullId.{NullId}
+use Rattle.dx_model.specs.declared.values.Value.{Value}
+use Rattle.dx_model.specs.Instances.{values}
+use Rattle.dx_model.specs.Values.{null_cmp, row_cmp, value_cmp}
+use Rattle.dx_model.proofs.Ascending.{in_order, in_order_ascends, in_in_order, from_in_order}
+use Rattle.dx_model.proofs.Orders.{null_exact, null_total, slice_exact, value_exact, value_total}
+use Rattle.dx_instance.specs.Stored.{TableRows, facts, rows_of}
+use Rattle.dx_instance.specs.ValueText.{value_text_of}
+use Rattle.dx_instance.proofs.StoredFacts.{fact_from_row}
+use Rattle.dx_schema.specs.Tables.{TableOf, tables_of}
+use Rattle.dx_csv.specs.Print.{HasNoMark, lines_text, table_lines}
+use Rattle.dx_csv.proofs.TableTextFacts.{printed-reads-back}
+use Rattle.clio_source.specs.Source.{csv_name}
+use Rattle.clio_files.specs.Files.{AreTableFiles, IsTableFile, nulls_in}
+use Rattle.clio_files.specs.Laws.{FilesExist}
+use Rattle.clio_files.specs.Sheets.{AreNulls, Told}
+use Rattle.clio_files.proofs.SheetNulls.{from_nulls, in_nulls}
+
+row_total : IsTotalOrder row_cmp
+row_total = lists_total value_total
+
+row_exact : (x y : List Value) → row_cmp x y ≡ Equal → x ≡ y
+row_exact = slice_exact value_cmp value_exact
+
+table_file : (t : TableOf) (rows : List (List Value)) → HasNoMark t.columns → 1 ≤ length t.columns → Each rows (λ row. 1 ≤ length row) → (f : Told) × IsTableFile t rows f
+table_file t rows mark some wide =
+    let sorted = in_order row_cmp row_total row_exact rows in (
+      record { name = csv_name t.name; bytes = lines_text (table_lines t.columns sorted); count = length rows },
+      record {
+        name = refl;
+        bytes = record {
+          sorted = sorted;
+          ascend = in_order_ascends row_cmp row_total row_exact rows;
+          kept = λ x m. in_in_order row_cmp row_total row_exact x rows m;
+          only = λ x m. from_in_order row_cmp row_total row_exact x rows m;
+          is = refl;
+          reads = printed-reads-back t.columns (map (map value_text_of) sorted) mark each;
+        };
+        count = refl;
+      },
+    )
+  where
+    one : (r : List (List ℕ)) → r ∈ map (map value_text_of) (in_order row_cmp row_total row_exact rows) → 1 ≤ length r
+    one r m =
+        let p = from_map (map value_text_of) (in_order row_cmp row_total row_exact rows) m in
+        let w = wide p.0 (from_in_order row_cmp row_total row_exact p.0 rows p.1) in
+        let e = ap length p.2 in
+        let l = length-map p.0 value_text_of in
+        omega (arith, w, e, l)
+
+    each : Each (t.columns ∷ map (map value_text_of) (in_order row_cmp row_total row_exact rows)) (λ r. 1 ≤ length r)
+    each r (here e) = subst (λ (c : List (List ℕ)). 1 ≤ length c) e some
+    each r (there m) = one r m
+
+table_files : (n : ℕ) (ts : List TableOf) (T : List TableRows) → Each ts (λ t. HasNoMark t.columns) → Each ts (λ t. 1 ≤ length t.columns) → ((t : ℕ) → Each (rows_of T t) (λ row. 1 ≤ length row))
+    → (fs : List Told) × AreTableFiles n ts T fs
+table_files n [] T marks some wide = ([], tt)
+table_files n (t ∷ ts) T marks some wide =
+    let f = table_file t (rows_of T n) (marks t (here refl)) (some t (here refl)) (wide n) in
+    let fs = table_files (suc n) ts T (λ u m. marks u (there m)) (λ u m. some u (there m)) wide in
+    (f.0 ∷ fs.0, (f.1, fs.1))
+
+nulls_exist : (T : List Fact) → (ns : List NullId) × AreNulls T ns
+nulls_exist T =
+    let all = nulls_in (values T) in (
+      in_order null_cmp null_total null_exact all,
+      record {
+        ascend = in_order_ascends null_cmp null_total null_exact all;
+        exact = λ n. (
+          (λ m. from_nulls n (values T) (from_in_order null_cmp null_total null_exact n all m)),
+          (λ m. in_in_order null_cmp null_total null_exact n all (in_nulls n (values T) m)),
+        );
+      },
+    )
+
+pub files_exist : FilesExist
+files_exist R target e fits tables wide =
+    let fs = table_files 0 (tables_of target) e.target fits.no_marks (λ t m. (tables.each_table t m).some_column) (λ t row m. wide _ (fact_from_row e.target t row m)) in
+    let ns = nulls_exist (facts e.target) in
+    (_, record { tables = fs.0; tables_are = fs.1; nulls = ns.0; nulls_are = ns.1; is = refl })

@@ -1,0 +1,3 @@
+pub mod SheetNulls
+pub mod SheetLists
+pub mod Existing

@@ -1,0 +1,77 @@
+-- The files and the summary of an exchange.
+use Rattle.std.specs.Prelude.{◌≡◌, ℕ, suc, List, [], ◌∷◌, ◌++◌, length, map, codes}
+use Rattle.std.specs.List.{flat_map}
+use Rattle.std.specs.Fmt.{decimal}
+use Rattle.dx_ports.specs.Entries.{Entry}
+use Rattle.dx_ports.specs.Members.{◌∈◌, Each}
+use Rattle.dx_model.specs.declared.values.NullId.{NullId}
+use Rattle.dx_model.specs.declared.values.Value.{Value}
+use Rattle.dx_model.specs.declared.values.Value.TheVariants.{Const, Null}
+use Rattle.dx_model.specs.declared.rules.Rule.{Rule}
+use Rattle.dx_model.specs.Values.{Text}
+use Rattle.dx_model.specs.Instances.{values}
+use Rattle.dx_instance.specs.NullMaps.{pairs_of}
+use Rattle.dx_instance.specs.Stored.{TableRows, facts, rows_of, widths}
+use Rattle.dx_schema.specs.Forest.{Forest}
+use Rattle.dx_schema.specs.Tables.{TableOf, schema_widths, tables_of}
+use Rattle.dx_csv.specs.Print.{HasNoMark, IsTableText}
+use Rattle.dx_tgd.specs.Counting.{rows_in}
+use Rattle.dx_tgd.specs.Placed.{FitTuples, HasPlace}
+use Rattle.dx_exchange.specs.declared.result.Exchange.{Exchange}
+use Rattle.clio_source.specs.Source.{csv_name}
+use Rattle.clio_files.specs.declared.printing.Printed.{Printed}
+use Rattle.clio_files.specs.Sheets.{AreNulls, Told, file_of, fold_sheet, nulls_sheet}
+
+-- the file of a table: its text, with as many records as it has rows
+pub record IsTableFile (t : TableOf) (rows : List (List Value)) (f : Told) : Type 0 where
+  pub name : f.name ≡ csv_name t.name
+  pub bytes : IsTableText t.columns rows f.bytes
+  pub count : f.count ≡ length rows
+
+-- the files of the tables from number n on
+abbrev pub AreTableFiles : ℕ → List TableOf → List TableRows → List Told → Type 0
+AreTableFiles n [] T [] = Unit {0}
+AreTableFiles n [] T (f ∷ fs) = ⊥
+AreTableFiles n (t ∷ ts) T [] = ⊥
+AreTableFiles n (t ∷ ts) T (f ∷ fs) = IsTableFile t (rows_of T n) f × AreTableFiles (suc n) ts T fs
+
+-- the files of an exchange: each target table, what the nulls of the target stand for, and the fold
+pub record AreFiles (R : List Rule) (target : Forest) (e : Exchange) (files : List Told) : Type 0 where
+  pub tables : List Told
+  pub tables_are : AreTableFiles 0 (tables_of target) e.target tables
+  pub nulls : List NullId
+  pub nulls_are : AreNulls (facts e.target) nulls
+  pub is : files ≡ tables ++ file_of (nulls_sheet R (rows_in e.matches) nulls) ∷ file_of (fold_sheet (pairs_of e.fold)) ∷ []
+
+-- the files by names and bytes
+abbrev pub files_of : List Told → List Entry
+files_of files = map (λ (f : Told). (f.name, f.bytes)) files
+
+-- the line of the summary: the name, a space, the count
+abbrev pub line_of : Told → Text
+line_of f = f.name ++ (codes " " ++ (decimal f.count ++ codes "\n"))
+
+-- the summary: a line for each file
+abbrev pub summary_of : List Told → Text
+summary_of files = flat_map line_of files
+
+-- The target has the tables of its schema; no table's text begins with a byte order mark; and for each null of the target the
+-- matches have its place, with a text for each exported variable of its rule.
+pub record FitsFiles (R : List Rule) (target : Forest) (e : Exchange) : Type 0 where
+  pub widths_are : widths e.target ≡ schema_widths target
+  pub no_marks : Each (tables_of target) (λ (t : TableOf). HasNoMark t.columns)
+  pub places : (n : NullId) → Null n ∈ values (facts e.target) → HasPlace R (rows_in e.matches) n
+  pub tuples : FitTuples R (rows_in e.matches)
+  pub one_each : length e.matches.rules ≡ length R
+
+-- ---- what the code has
+
+-- what is told of a printed file
+abbrev pub seen : Printed → Told
+seen p = record { name = p.file.name; bytes = p.file.bytes.items; count = p.count }
+
+-- the nulls among values, in order
+abbrev pub nulls_in : List Value → List NullId
+nulls_in [] = []
+nulls_in (Const t ∷ vs) = nulls_in vs
+nulls_in (Null n ∷ vs) = n ∷ nulls_in vs

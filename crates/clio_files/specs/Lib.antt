@@ -1,0 +1,4 @@
+pub mod Sheets
+pub mod Files
+pub mod Laws
+pub mod Printing

@@ -1,0 +1,59 @@
+// Records that are printed, and how many they are.
+ghost use Rattle.std.specs.Prelude.{◌≡◌, ◌++◌, ◌∷◌, [], ℕ, List, OnOk, length};
+ghost use Rattle.dx_instance.specs.ValueText.{value_text_of};
+ghost use Rattle.clio_files.specs.Printing.{AreRecords, HasFields};
+
+use dx_csv::Lines;
+use dx_model::Value;
+use std::alloc::{AllocError, Global};
+
+/// Records printed into one buffer, field by field, and how many are whole.
+#[derive(Drop)]
+pub(crate) struct Records {
+    pub(crate) lines: Lines,
+    pub(crate) count: u64,
+}
+
+impl Records {
+    /// No records.
+    pub(crate) fn new(alloc: Global) -> Records
+        ensures { AreRecords result [] }
+    {
+        Records {
+            lines: Lines::new(alloc),
+            count: 0,
+        }
+    }
+
+    /// One field more of the record that is being printed.
+    pub(crate) fn field(&mut self, field: &[u8]) -> Result<(), AllocError>
+        ensures { (records : List (List (List ℕ))) (fields : List (List ℕ)) → HasFields self.old records fields
+            → OnOk result (HasFields self.new records (fields ++ field.now ∷ [])) }
+    {
+        self.lines.field(field)
+    }
+
+    /// The text of a value as one field more.
+    pub(crate) fn value(&mut self, value: &Value) -> Result<(), AllocError>
+        ensures { (records : List (List (List ℕ))) (fields : List (List ℕ)) → HasFields self.old records fields
+            → OnOk result (HasFields self.new records (fields ++ value_text_of value.now ∷ [])) }
+    {
+        self.lines.value(value)
+    }
+
+    /// Ends the record.
+    pub(crate) fn end(&mut self) -> Result<(), AllocError>
+        ensures { (records : List (List (List ℕ))) (fields : List (List ℕ)) → HasFields self.old records fields
+            → OnOk result (AreRecords self.new (records ++ fields ∷ [])) }
+    {
+        self.lines.end()?;
+        // No buffer holds so many records: the branch spares a proof of it.
+        match self.count.checked_add(1) {
+            Some(count) => {
+                self.count = count;
+                Ok(())
+            }
+            None => Err(AllocError),
+        }
+    }
+}

@@ -1,0 +1,195 @@
+-- From the stages of a command to what it writes.
+use Rattle.std.proofs.Common.{◌≡◌, ℕ, zero, suc, ◌<◌, ◌≤◌, List, [], ◌∷◌, length, refl, sym, ◌∙◌, ap, subst, inl, inr, Result, Ok, Err, Option, None, Some, arith, get_or}
+use Rattle.std.specs.Prelude.{◌==◌, map}
+use Rattle.std.proofs.lemmas.List.{length-map}
+use Rattle.std.proofs.lemmas.Bool.{cases_Bool, eqb-true}
+use Rattle.csv.specs.Reading.{strip_bom}
+use Rattle.dx_funcs.specs.declared.conversion.Conversion.{Conversion}
+use Rattle.dx_rule_text.specs.Printed.{AreListed}
+use Rattle.dx_ports.specs.Members.{◌∈◌, Each, here, there}
+use Rattle.dx_ports.proofs.Members.{from_append, from_flat_map, from_map, in_map}
+use Rattle.dx_model.specs.declared.facts.Fact.{Fact}
+use Rattle.dx_model.specs.declared.rules.Rule.{Rule}
+use Rattle.dx_model.specs.Tables.{Table, table_of}
+use Rattle.dx_model.specs.Rules.{canonical}
+use Rattle.dx_instance.specs.Stored.{TableRows, facts, widths}
+use Rattle.dx_schema.specs.Forest.{Forest, none, set}
+use Rattle.dx_schema.specs.Tables.{Placed, TableOf, as_numbers, columns_of, model_tables, placed, schema_widths, sets_of, table_in, tables_of}
+use Rattle.dx_schema.proofs.Valid.{are_tables}
+use Rattle.dx_schema_text.specs.Print.{AreNamed, AreNames}
+use Rattle.dx_tokens.specs.Lexing.{IsWord}
+use Rattle.dx_csv.specs.Print.{HasNoMark}
+use Rattle.dx_tgd.specs.Counting.{rows_in}
+use Rattle.dx_tgd.proofs.CanonicalFacts.{nulls_have_places}
+use Rattle.dx_exchange.specs.declared.result.Exchange.{Exchange}
+use Rattle.dx_exchange.specs.Exchanging.{Fits, IsExchange}
+use Rattle.dx_exchange.specs.Plain.{IsPlainForm}
+use Rattle.dx_exchange.proofs.Fitting.{model_widths}
+use Rattle.dx_exchange.proofs.Lists.{fit_tuples, one_each}
+use Rattle.dx_stages.specs.declared.stop.Stop.{Stop}
+use Rattle.dx_stages.specs.declared.stop.Stop.TheVariants as stops
+use Rattle.dx_stages.specs.Stages.{by, next, over, saying}
+use Rattle.dx_stages.specs.Running.{Told, Ran, Gives, said}
+use Rattle.dx_stages.specs.Ending.{Planned}
+use Rattle.dx_stages.proofs.Running.{ran_by, ran_into, ran_into_stop, ran_memory, ran_next, ran_over, ran_passes, ran_saying, ran_stop, ran_value, silent_apart}
+use Rattle.clio_accept.specs.declared.fault.MapFault.TheVariants as map_faults
+use Rattle.clio_accept.specs.declared.mapping.Mapping.{Mapping}
+use Rattle.clio_accept.specs.Laws.{MappingFits}
+use Rattle.clio_source.specs.declared.fault.SourceRefusal.{SourceRefusal}
+use Rattle.clio_source.specs.Source.{source_stages}
+use Rattle.clio_files.specs.Files.{FitsFiles}
+use Rattle.clio_top.specs.declared.command.Command.{Command}
+use Rattle.clio_top.specs.declared.ending.Done.{Done}
+use Rattle.clio_top.specs.declared.ending.Refusal.{Refusal}
+use Rattle.clio_top.specs.declared.ending.Refusal.TheVariants as refusals
+use Rattle.clio_top.specs.Ending.{source_refusal}
+use Rattle.clio_top.specs.Running.{Program, asked, exchange_stages, form, mapping_stages, rows_stages, run_stages, saying_words, show_stages, shown_plan, stages_of, target_stages}
+use Rattle.clio_top.specs.Words.{or_usage, says}
+use Rattle.clio_top.proofs.Names.{apart}
+use Rattle.clio_top.proofs.Words.{not_in_word}
+
+-- ---- no table's text begins with a byte order mark
+
+word_unmarked : (w : List ℕ) → IsWord w → strip_bom w ≡ w
+unfolding strip_bom
+word_unmarked [] h = refl
+word_unmarked (a ∷ []) h = refl
+word_unmarked (a ∷ b ∷ []) h = refl
+word_unmarked (a ∷ b ∷ c ∷ rest) h = elim (cases_Bool (a == 239)) [
+  | inl e ↦ absurd (not_in_word 239 (a ∷ b ∷ c ∷ rest) refl h (here (eqb-true a 239 e)))
+  | inr n ↦ rw n refl
+]
+
+names_unmarked : (columns : List (List ℕ)) → AreNames columns → HasNoMark columns
+names_unmarked [] h = absurd h
+names_unmarked (c ∷ cs) h = word_unmarked c h.0
+
+set_unmarked : (s : Placed) → AreNames s.label.columns → HasNoMark (columns_of s)
+unfolding strip_bom
+set_unmarked s names = of s.inner s.parent
+  where
+    of : (inner : Forest) (parent : Option ℕ) → HasNoMark (columns_of (record { label = s.label; number = s.number; parent = parent; inner = inner }))
+    of (set l i r) parent = refl
+    of none (Some p) = refl
+    of none None = names_unmarked s.label.columns names
+
+placed_unmarked : (parent : Option ℕ) (n : ℕ) (f : Forest) → AreNamed f → Each (placed parent n f) (λ s. HasNoMark (columns_of s))
+placed_unmarked parent n none h s m = elim m [ ]
+placed_unmarked parent n (set l inner rest) h s (here e) = subst (λ t. HasNoMark (columns_of t)) e (set_unmarked (record { label = l; number = n; parent = parent; inner = inner }) h.0.columns)
+placed_unmarked parent n (set l inner rest) h s (there m) = elim (from_append (placed (Some n) _ inner) m) [
+  | inl k ↦ placed_unmarked (Some n) _ inner h.1 s k
+  | inr k ↦ placed_unmarked parent _ rest h.2 s k
+]
+
+pub no_marks : (f : Forest) → AreNamed f → Each (tables_of f) (λ t. HasNoMark t.columns)
+no_marks f h t m =
+    let p = from_map (table_in (sets_of f)) (sets_of f) m in
+    subst (λ (u : TableOf). HasNoMark u.columns) p.2 (placed_unmarked None 0 f h p.0 p.1)
+
+-- ---- the exchange
+
+pub rules_fit : (P : Program) (M : Mapping) → MappingFits P.list M → Fits P.list M.rules (model_tables M.source) (model_tables M.target)
+rules_fit P M h = record { few = h.few; listed = h.listed; fit = h.fit; closed = h.closed }
+
+-- the conversions of the rules are listed by their codes
+pub codes_listed : (P : Program) (M : Mapping) → MappingFits P.list M → Each M.rules (λ d. AreListed P.list d.derived)
+codes_listed P M h d m e n =
+    let l = h.listed d m e n in
+    subst (λ code. code ∈ map (λ (c : Conversion). c.code) P.list) l.2 (in_map (λ (c : Conversion). c.code) l.1)
+
+pub files_fit : (P : Program) (M : Mapping) (I : List TableRows) (e : Exchange) → MappingFits P.list M → IsExchange P.apply (asked (M, I)) e → FitsFiles M.rules M.target e
+files_fit P M I e h x = record {
+  widths_are = x.widths_are ∙ model_widths M.target;
+  no_marks = no_marks M.target h.target_names;
+  places = λ n m.
+      let w = from_flat_map (λ (f : Fact). f.row) (canonical 0 M.rules (rows_in e.matches)) (x.nulls n m) in
+      nulls_have_places M.rules (rows_in e.matches) w.0 n w.1 w.2;
+  tuples = fit_tuples P.apply M.rules (facts I) (rows_in e.matches) x.matches;
+  one_each = sym (length-map e.matches.rules (λ p. p.tuples)) ∙ one_each P.apply M.rules (facts I) (rows_in e.matches) x.matches;
+}
+
+-- each fact of the target has a value
+pub facts_wide : (P : Program) (M : Mapping) (I : List TableRows) (e : Exchange) → MappingFits P.list M → IsExchange P.apply (asked (M, I)) e → Each (facts e.target) (λ f. 1 ≤ length f.row)
+facts_wide P M I e h x f m =
+    let fits = x.universal.solution.fits f m in
+    let w = wide (tables_of M.target) f.table (λ t k. ((are_tables M.target h.target.form).each_table t k).some_column) fits.table in
+    let k = fits.width in omega (arith, w, k)
+  where
+    wide : (ts : List TableOf) (n : ℕ) → Each ts (λ t. 1 ≤ length t.columns) → n < length (map as_numbers ts) → 1 ≤ (table_of (map as_numbers ts) n).width
+    wide [] n some k = absurd (omega (arith, k))
+    wide (t ∷ ts) zero some k = some t (here refl)
+    wide (t ∷ ts) (suc n) some k = wide ts n (λ u i. some u (there i)) (omega (arith, k))
+
+-- ---- a command
+
+-- where the mapping text stops the run, it stops each command
+pub mapping_stops : (P : Program) (e : Stop Refusal) (old new : Told) → Ran (mapping_stages P) (tt {0}) (Err e) old new → Ran (exchange_stages P) (tt {0}) (Err e) old new
+mapping_stops P e old new x = ran_stop (mapping_stages P) (next form (next rows_stages (target_stages P))) (tt {0}) e old new x
+
+pub show_stops : (P : Program) (e : Stop Refusal) (old new : Told) → Ran (mapping_stages P) (tt {0}) (Err e) old new → Ran (show_stages P) (tt {0}) (Err e) old new
+show_stops P e old new x = ran_into_stop (λ (u : Unit {0}) (M : Mapping). shown_plan P M) (mapping_stages P) (tt {0}) e old new x
+
+pub shown : (P : Program) (M : Mapping) (p : Planned Done) (old new : Told) → p ≡ shown_plan P M → Ran (mapping_stages P) (tt {0}) (Ok M) old new → Ran (show_stages P) (tt {0}) (Ok p) old new
+shown P M p old new is x =
+    subst (λ v. Ran (show_stages P) (tt {0}) (Ok v) old new) (sym is) (ran_into (λ (u : Unit {0}) (M : Mapping). shown_plan P M) (mapping_stages P) (tt {0}) M old new x)
+
+-- what memory could not make of a mapping that was read
+pub shown_none : (P : Program) (M : Mapping) (old new : Told) → Ran (mapping_stages P) (tt {0}) (Ok M) old new → Ran (show_stages P) (tt {0}) (Err stops.Memory) old new
+shown_none P M old new x = ran_memory (show_stages P) (tt {0}) (Ok (shown_plan P M)) old new (shown P M (shown_plan P M) old new refl x)
+
+-- a mapping of another form is refused
+pub form_stops : (P : Program) (M : Mapping) (old new : Told) → Ran (mapping_stages P) (tt {0}) (Ok M) old new → ¬ (IsPlainForm M.source M.target)
+    → Ran (exchange_stages P) (tt {0}) (Err (stops.Refused (refusals.Mapping map_faults.NotYet))) old new
+form_stops P M old new x other =
+    ran_next (mapping_stages P) (next form (next rows_stages (target_stages P))) (tt {0}) M (Err (stops.Refused (refusals.Mapping map_faults.NotYet))) old new new (apart P) x
+    (ran_stop form (next rows_stages (target_stages P)) M (stops.Refused (refusals.Mapping map_faults.NotYet)) new new
+    (ran_value form M (Err (stops.Refused (refusals.Mapping map_faults.NotYet))) new (λ c. (other, refl))))
+
+-- of a mapping of the form, what follows decides
+formed : (P : Program) (M : Mapping) (q : Result (Planned Done) (Stop Refusal)) (old mid new : Told) → Ran (mapping_stages P) (tt {0}) (Ok M) old mid → IsPlainForm M.source M.target
+    → Ran (next rows_stages (target_stages P)) M q mid new → Ran (exchange_stages P) (tt {0}) q old new
+formed P M q old mid new x plain y =
+    ran_next (mapping_stages P) (next form (next rows_stages (target_stages P))) (tt {0}) M q old mid new (apart P) x
+    (ran_next form (next rows_stages (target_stages P)) M M q mid mid new (λ c d a b n p h k. h) (ran_value form M (Ok M) mid (λ c. (plain, refl))) y)
+
+pub rows_stop : (P : Program) (M : Mapping) (e : Stop Refusal) (old mid new : Told) → Ran (mapping_stages P) (tt {0}) (Ok M) old mid → IsPlainForm M.source M.target
+    → Ran (saying source_refusal source_stages) M.source (Err e) mid new → Ran (exchange_stages P) (tt {0}) (Err e) old new
+rows_stop P M e old mid new x plain y =
+    formed P M (Err e) old mid new x plain
+    (ran_stop rows_stages (target_stages P) M e mid new
+    (ran_into_stop (λ (M : Mapping) (I : List TableRows). (M, I)) (over (λ (M : Mapping). M.source) (saying source_refusal source_stages)) M e mid new
+    (ran_over (λ (M : Mapping). M.source) (saying source_refusal source_stages) M (Err e) mid new y)))
+
+pub exchanged : (P : Program) (M : Mapping) (I : List TableRows) (q : Result (Planned Done) (Stop Refusal)) (old mid new : Told) → Ran (mapping_stages P) (tt {0}) (Ok M) old mid
+    → IsPlainForm M.source M.target → Ran (saying source_refusal source_stages) M.source (Ok I) mid new → Gives (target_stages P) (M, I) q → Ran (exchange_stages P) (tt {0}) q old new
+exchanged P M I q old mid new x plain y g =
+    formed P M q old mid new x plain
+    (ran_next rows_stages (target_stages P) M (M, I) q mid new new (silent_apart rows_stages (target_stages P) (λ d b n h. h))
+    (ran_into (λ (M : Mapping) (I : List TableRows). (M, I)) (over (λ (M : Mapping). M.source) (saying source_refusal source_stages)) M I mid new
+    (ran_over (λ (M : Mapping). M.source) (saying source_refusal source_stages) M (Ok I) mid new y))
+    (ran_value (target_stages P) (M, I) q new g))
+
+-- why no rows were read, said as a refusal of the run
+pub rows_said : (f : Forest) (r : Result (List TableRows) (Stop SourceRefusal)) (e : Stop SourceRefusal) (k : Stop Refusal) (old new : Told) → r ≡ Err e
+    → ◌≡◌ {A = Result (List TableRows) (Stop Refusal)} (Err k) (said source_refusal (Err e)) → Ran source_stages f r old new → Ran (saying source_refusal source_stages) f (Err k) old new
+rows_said f r e k old new is k_is x = ran_saying source_refusal source_stages f r (Err k) old new (k_is ∙ sym (ap (said source_refusal) is)) x
+
+-- the rows that were read have the tables of the schema
+pub rows_widths : (f : Forest) (I : List TableRows) (old new : Told) → Ran (saying source_refusal source_stages) f (Ok I) old new → widths I ≡ schema_widths f
+rows_widths f I old new x = let p = ran_passes (saying source_refusal source_stages) f I old new x in p.1.2.widths_are
+
+-- ---- the words
+
+-- the stages of the command that the words say
+pub of_words : (P : Program) (words : List (List ℕ)) (command : Command) (q : Result (Planned Done) (Stop Refusal)) (old new : Told) → says words ≡ Some command → Ran (stages_of P command) (tt {0}) q old new
+    → Ran (run_stages P) words q old new
+of_words P words command q old new is x =
+    ran_next saying_words (by (λ (c : Command). over (λ (d : Command). tt {0}) (stages_of P c))) words command q old old new
+    (λ c d a b n p h k. h) (ran_value saying_words words (Ok command) old (λ c. ap or_usage is))
+    (ran_by (λ (c : Command). over (λ (d : Command). tt {0}) (stages_of P c)) command q old new (ran_over (λ (d : Command). tt {0}) (stages_of P command) command q old new x))
+
+-- other words are refused
+pub misused : (P : Program) (words : List (List ℕ)) (told : Told) → says words ≡ None → Ran (run_stages P) words (Err (stops.Refused refusals.Usage)) told told
+misused P words told is =
+    ran_stop saying_words (by (λ (c : Command). over (λ (d : Command). tt {0}) (stages_of P c))) words (stops.Refused refusals.Usage) told told
+    (ran_value saying_words words (Err (stops.Refused refusals.Usage)) told (λ c. ap or_usage is))

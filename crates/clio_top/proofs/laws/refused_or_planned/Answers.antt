@@ -1,0 +1,5 @@
+use Rattle.clio_top.proofs.Promised.{run_decided}
+use Rattle.clio_top.proofs.laws.refused_or_planned.Goals as goal
+
+pub returns : goal.returns
+returns c = run_decided

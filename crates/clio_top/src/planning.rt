@@ -1,0 +1,119 @@
+// What is written: everything is computed before the first file is put.
+ghost use Rattle.std.specs.Prelude.{◌≡◌, IfOk};
+ghost use Rattle.dx_funcs.specs.Serving.{Serves, offered};
+ghost use Rattle.dx_instance.specs.Stored.{widths};
+ghost use Rattle.dx_schema.specs.Tables.{schema_widths};
+ghost use Rattle.dx_stages.specs.Ending.{planned, planned_of};
+ghost use Rattle.dx_stages.specs.Running.{Gives};
+ghost use Rattle.dx_stages.specs.Stages.{over, saying};
+ghost use Rattle.dx_exchange.specs.Exchanging.{exchanging};
+ghost use Rattle.dx_exchange.specs.Plain.{IsPlainForm};
+ghost use Rattle.clio_accept.specs.Laws.{MappingFits};
+ghost use Rattle.clio_files.specs.Files.{FitsFiles};
+ghost use Rattle.clio_top.specs.Ending.{exchange_refusal};
+ghost use Rattle.clio_top.specs.Running.{IsPlanOf, asked, shown_plan, target_stages};
+
+use crate::ending::{Done, Refusal};
+use clio_accept::Mapping;
+use clio_files::{into_files, print_files, summary};
+use dx_exchange::{ExFault, Exchange, Mode, exchange};
+use dx_funcs::{Host, Meaning};
+use dx_instance::Instance;
+use dx_ports::limits::TARGET_CELLS;
+use dx_ports::{Items, Text};
+use dx_rule_text::print_rules;
+use dx_stages::{Plan, Stop};
+use std::alloc::{AllocError, Global};
+
+// The exchange of rows under a mapping.
+fn exchange_rows<F, M>(
+    alloc: Global,
+    mapping: &Mapping,
+    rows: &Instance,
+    host: &Host<F, M>,
+) -> Result<Exchange, Stop<Refusal>>
+where
+    F: Fn(u32, &Items<Text>) -> Result<Text, AllocError>,
+    M: Meaning,
+    requires serves { Serves F.Fn M.apply host.now }
+    requires fits { MappingFits (offered host.now) mapping.now }
+    requires plain { IsPlainForm mapping.now.source mapping.now.target }
+    requires rows { widths rows.now ≡ schema_widths mapping.now.source }
+    ensures { Gives (over asked (saying exchange_refusal (exchanging M.apply))) (mapping.now, rows.now) result }
+{
+    let rules = mapping.rules.items();
+    let Mapping { source, target, .. } = mapping;
+    match exchange(
+        alloc,
+        rules,
+        source,
+        target,
+        rows,
+        host,
+        Mode::Plain,
+        TARGET_CELLS,
+    ) {
+        Ok(exchange) => Ok(exchange),
+        Err(ExFault::Limit(limit)) => Err(Stop::Refused(Refusal::Limit(limit))),
+        Err(ExFault::Memory) => Err(Stop::Memory),
+    }
+}
+
+// What is written of an exchange.
+fn plan_exchange(
+    alloc: Global,
+    mapping: &Mapping,
+    exchange: Exchange,
+) -> Result<Plan<Done>, AllocError>
+    requires { FitsFiles mapping.now.rules mapping.now.target exchange }
+    ensures { IfOk result (λ p. IsPlanOf mapping.now exchange (planned_of p)) }
+{
+    let printed = print_files(alloc, mapping.rules.items(), &mapping.target, &exchange)?;
+    let text = summary(alloc, &printed)?;
+    Ok(Plan {
+        done: Done::Exchanged(exchange),
+        files: into_files(alloc, printed)?,
+        text,
+    })
+}
+
+/// What is written of the exchange of rows under a mapping.
+pub(crate) fn plan_rows<F, M>(
+    alloc: Global,
+    mapping: &Mapping,
+    rows: &Instance,
+    host: &Host<F, M>,
+) -> Result<Plan<Done>, Stop<Refusal>>
+where
+    F: Fn(u32, &Items<Text>) -> Result<Text, AllocError>,
+    M: Meaning,
+    requires serves { Serves F.Fn M.apply host.now }
+    requires fits { MappingFits (offered host.now) mapping.now }
+    requires plain { IsPlainForm mapping.now.source mapping.now.target }
+    requires rows { widths rows.now ≡ schema_widths mapping.now.source }
+    ensures { Gives (target_stages (record { list = offered host.now; apply = M.apply })) (mapping.now, rows.now) (planned result) }
+{
+    let exchange = exchange_rows(alloc, mapping, rows, host)?;
+    Ok(plan_exchange(alloc, mapping, exchange)?)
+}
+
+/// What is said of a mapping that is shown.
+pub(crate) fn plan_shown<F, M>(
+    alloc: Global,
+    mapping: &Mapping,
+    host: &Host<F, M>,
+) -> Result<Plan<Done>, AllocError>
+where
+    F: Fn(u32, &Items<Text>) -> Result<Text, AllocError>,
+    M: Meaning,
+    requires { MappingFits (offered host.now) mapping.now }
+    ensures { IfOk result (λ p. planned_of p ≡ shown_plan (record { list = offered host.now; apply = M.apply }) mapping.now) }
+{
+    let rules = mapping.rules.items();
+    let text = print_rules(alloc, rules, &mapping.source, &mapping.target, host)?;
+    Ok(Plan {
+        done: Done::Shown,
+        files: Vec::new(alloc),
+        text: Vec::from_slice(alloc, text.bytes())?,
+    })
+}

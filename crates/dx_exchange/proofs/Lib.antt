@@ -1,0 +1,6 @@
+pub mod Lists
+pub mod Testing
+pub mod Fitting
+pub mod Made
+pub mod Deciding
+pub mod Decided

@@ -1,0 +1,71 @@
+-- What an exchange is: the headline.
+use Rattle.std.specs.Prelude.{◌≡◌, ◌<◌, ◌≤◌, ℕ, List, length, map}
+use Rattle.dx_ports.specs.Members.{◌∈◌, ◌≈◌, Each}
+use Rattle.dx_ports.specs.declared.file.Count.TheVariants.{TargetCells}
+use Rattle.dx_funcs.specs.declared.conversion.Conversion.{Conversion}
+use Rattle.dx_funcs.specs.Offers.{IsListed}
+use Rattle.dx_model.specs.declared.values.NullId.{NullId}
+use Rattle.dx_model.specs.declared.values.Value.TheVariants.{Null}
+use Rattle.dx_model.specs.declared.facts.Fact.{Fact}
+use Rattle.dx_model.specs.declared.facts.NullPair.{NullPair}
+use Rattle.dx_model.specs.declared.rules.Rule.{Rule}
+use Rattle.dx_model.specs.Values.{Conversions, Rows, RowsAscend}
+use Rattle.dx_model.specs.Instances.{IsCore, IsNullMap, image, values}
+use Rattle.dx_model.specs.Tables.{Table}
+use Rattle.dx_model.specs.Rules.{AreRows, canonical}
+use Rattle.dx_model.specs.Fitting.{RuleFits}
+use Rattle.dx_model.specs.Chase.{IsForcedMap}
+use Rattle.dx_model.specs.Solutions.{IsClosed, IsUniversal}
+use Rattle.dx_instance.specs.NullMaps.{pairs_of}
+use Rattle.dx_instance.specs.Stored.{facts, rows_of, widths}
+use Rattle.dx_tgd.specs.Counting.{canonical_cells, rows_in}
+use Rattle.dx_stages.specs.Stages.{Stage, notions}
+use Rattle.dx_exchange.specs.declared.mode.Mode.{Mode}
+use Rattle.dx_exchange.specs.declared.mode.Mode.TheVariants.{Plain, Core}
+use Rattle.dx_exchange.specs.declared.result.Exchange.{Exchange}
+use Rattle.dx_exchange.specs.declared.fault.ExFault.{ExFault}
+use Rattle.dx_exchange.specs.declared.fault.ExFault.TheVariants.{Limit}
+
+-- what is asked: the target of these rows under these rules into this schema, in this mode, within a limit on canonical cells
+pub record Asked : Type 0 where
+  pub rules : List Rule
+  pub schema : List Table
+  pub rows : List Fact
+  pub mode : Mode
+  pub limit : ℕ
+
+-- in plain mode the fold is the forced map of the canonical instance, and in core mode the target is a core
+abbrev pub IsOfMode : Mode → List Table → List Fact → List NullPair → List Fact → Type 0
+IsOfMode Plain schema C fold target = IsForcedMap schema C fold
+IsOfMode Core schema C fold target = IsCore target
+
+-- The exchange: the matches are the rows of each rule, within the limit; the target is a universal solution; the fold sends the
+-- canonical instance onto it, as the mode asks; each null of the target is one of the canonical instance; rows ascend.
+pub record IsExchange (convert : Conversions) (a : Asked) (e : Exchange) : Type 0 where
+  pub matches : AreRows convert a.rules a.rows (rows_in e.matches)
+  pub within : canonical_cells a.rules (rows_in e.matches) ≤ a.limit
+  pub universal : IsUniversal convert a.rules a.schema a.rows (facts e.target)
+  pub null_map : IsNullMap (pairs_of e.fold)
+  pub listed : Each (pairs_of e.fold) (λ p. Null p.null ∈ values (canonical 0 a.rules (rows_in e.matches)))
+  pub folded : image (pairs_of e.fold) (canonical 0 a.rules (rows_in e.matches)) ≈ facts e.target
+  pub by_mode : IsOfMode a.mode a.schema (canonical 0 a.rules (rows_in e.matches)) (pairs_of e.fold) (facts e.target)
+  pub nulls : (n : NullId) → Null n ∈ values (facts e.target) → Null n ∈ values (canonical 0 a.rules (rows_in e.matches))
+  pub widths_are : widths e.target ≡ map (λ (t : Table). t.width) a.schema
+  pub ascend : (t : ℕ) → RowsAscend (rows_of e.target t)
+
+-- the canonical cells pass the limit
+abbrev pub PassesLimit : Conversions → Asked → ExFault → Type 0
+PassesLimit convert a e =
+    (rows : Rows) × AreRows convert a.rules a.rows rows × (a.limit < canonical_cells a.rules rows) × (e ≡ Limit (record { what = TargetCells; number = a.limit }))
+
+-- the exchange, or the limit
+abbrev pub exchanging : Conversions → Stage ExFault Asked Exchange
+exchanging convert = notions (PassesLimit convert) (IsExchange convert)
+
+-- There are at most 256 rules; each fits the two schemas and is closed under the links of the target; its conversions are listed
+-- with as many arguments as they take.
+pub record Fits (list : List Conversion) (R : List Rule) (source target : List Table) : Type 0 where
+  pub few : length R ≤ 256
+  pub listed : Each R (λ d. Each d.derived (λ e. IsListed list e.code (length e.args)))
+  pub fit : Each R (RuleFits source target)
+  pub closed : Each R (IsClosed target)

@@ -1,0 +1,3 @@
+pub mod Exchanging
+pub mod Plain
+pub mod Laws
