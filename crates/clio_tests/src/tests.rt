@@ -1,18 +1,11 @@
 // What the tests share: runs over files in memory, and tables of cases.
 mod calls;
-mod candidates;
-mod closings;
-mod conversions;
 mod examples;
 mod faults;
 mod limits;
-mod mapping_texts;
 mod refusals;
 mod rule_limits;
 mod rules;
-mod schema_faults;
-mod schemas;
-mod unfoldings;
 
 ghost use Rattle.std.specs.Prelude.{◌≡◌, IfOk, length};
 ghost use Rattle.dx_funcs.specs.Offers.{IsListed};

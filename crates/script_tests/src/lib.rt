@@ -1,0 +1,8 @@
+//! Tests of the texts of scripts: what is read is printed as it stood, and the first fault of what is none has its place.
+//!
+//! Each is a table of constants behind one small function. What is wanted is worked out from the definitions, never taken
+//! from what the program answers.
+#![tactic(auto)]
+
+#[cfg(test)]
+mod tests;
