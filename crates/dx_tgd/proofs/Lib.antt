@@ -1,9 +1,12 @@
 pub mod Sorting
 pub mod Numbers
-mod RuleRows
-pub mod Cells
-pub mod Saying
 pub mod Tables
+mod RuleRows
 pub mod CanonicalFacts
 pub mod Gaining
-pub mod Starting
+pub mod Saying
+pub mod Plans
+pub mod Built
+pub mod Steps
+pub mod Ascending
+mod Founds

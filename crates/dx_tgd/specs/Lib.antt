@@ -1,4 +1,7 @@
 pub mod Counting
+pub mod Found
 pub mod Gained
 pub mod Placed
+pub mod Planned
+pub mod Texts
 pub mod Variables

@@ -1,112 +1,142 @@
-// The canonical instance.
-ghost use Rattle.std.specs.Prelude.{◌≡◌, ◌<◌, ◌≤◌, ◌-◌, ◌^◌, IfOk, OnOk, length};
-ghost use Rattle.dx_ports.specs.Members.{◌⊆◌, Each};
-ghost use Rattle.dx_model.specs.Rules.{at_place, at_places, canonical as canonical_of, exported as exported_of};
-ghost use Rattle.dx_instance.specs.Stored.{facts, widths};
-ghost use Rattle.dx_tgd.specs.Counting.{canonical_cells, rows_in};
-ghost use Rattle.dx_tgd.specs.Placed.{AreLong, FitTuples, FitsWidths, HasCell};
+// The canonical instance of rows of numbers.
+ghost use Rattle.std.specs.Prelude.{◌≡◌, ◌<◌, ◌≤◌, ◌-◌, ◌^◌, ℕ, IfOk, OnOk, length, map};
+ghost use Rattle.dx_ports.specs.Members.{◌≈◌, Each};
+ghost use Rattle.dx_model.specs.Values.{RowsAscend};
+ghost use Rattle.dx_model.specs.Rules.{at_places, canonical, exported as exported_of};
+ghost use Rattle.dx_instance.specs.Cells.{NumberTable};
+ghost use Rattle.dx_instance.specs.Numbers.{Extends};
+ghost use Rattle.dx_instance.specs.Stored.{facts, rows_of, widths};
+ghost use Rattle.dx_tgd.specs.Counting.{canonical_cells};
 ghost use Rattle.dx_tgd.specs.Gained.{Gains, HasRoom};
+ghost use Rattle.dx_tgd.specs.Placed.{FitsWidths, HasCell};
+ghost use Rattle.dx_joins.specs.Shown.{AreTexts, texts_of};
+ghost use Rattle.dx_tgd.specs.Texts.{FitRules, tuples_in};
+ghost use Rattle.dx_tgd.specs.Planned.{CanStand, HasNumber, built, number_of, planned_fact};
 
-use crate::said::row_said;
-use crate::sorted::exported;
-use dx_instance::Instance;
-use dx_model::{Matches, Places, Rule};
-use dx_ports::Text;
+use crate::builder::Builder;
+use crate::planned::{PlannedAtom, PlannedCell};
+use crate::variables::exported;
+use dx_instance::{Instance, Rows, Symbols};
+use dx_model::Rule;
 use std::alloc::{AllocError, Global};
 
-/// Adds what the conclusion says at a place.
-fn add_place(
-    alloc: Global,
-    rule: &Rule,
-    number: u32,
-    variables: &[u32],
-    place: u32,
-    tuple: &[Text],
-    target: &mut Instance,
-) -> Result<(), AllocError>
-    requires variables { variables.now ≡ exported_of rule.now }
-    requires lengths { length tuple.now ≡ length (exported_of rule.now) }
-    requires fits { FitsWidths (widths target.old) rule.now }
-    requires room { HasRoom target.old (length rule.now.conclusion) }
-    ensures { OnOk result (Gains target.old target.new (at_place number rule.now place tuple.now)) }
+// The number of a planned cell at a place.
+fn number_at(cell: &PlannedCell, row: &[u32], place: u32) -> u32
+    requires { HasNumber row.now place cell.now }
+    ensures { result ≡ number_of row.now place cell.now }
 {
-    for atom in rule.conclusion.items() {
-        let row = row_said(alloc, atom.cells.items(), variables, tuple, number, place)?;
-        target.add(atom.table, row)?;
+    match cell {
+        PlannedCell::Column(column) => row[*column],
+        PlannedCell::Fixed(number) => *number,
+        PlannedCell::Nulls(numbers) => numbers[place as usize],
+    }
+}
+
+// Puts the numbers of planned cells in the buffer.
+fn fill(
+    cells: &[PlannedCell],
+    row: &[u32],
+    place: u32,
+    buffer: &mut Vec<u32>,
+) -> Result<(), AllocError>
+    requires { Each cells.now (HasNumber row.now place) }
+    ensures { OnOk result (buffer.new.items ≡ map (number_of row.now place) cells.now) }
+{
+    buffer.clear();
+    for cell in cells {
+        buffer.push(number_at(cell, row, place))?;
     }
     Ok(())
 }
 
-/// Adds what the conclusion says at each place.
-fn add_places(
+// Adds what planned atoms say of a row at a place.
+fn add_place(
+    atoms: &[PlannedAtom],
+    row: &[u32],
+    place: u32,
+    buffer: &mut Vec<u32>,
+    target: &mut Builder,
+) -> Result<(), AllocError>
+    requires stand { Each atoms.now (CanStand (widths (built target.old)) (length target.old.symbols) row.now place) }
+    requires room { HasRoom (built target.old) (length atoms.now) }
+    ensures symbols { OnOk result (target.new.symbols ≡ target.old.symbols) }
+    ensures gained { OnOk result (Gains (built target.old) (built target.new) (map (planned_fact target.old.symbols row.now place) atoms.now)) }
+{
+    for atom in atoms {
+        fill(&atom.cells, row, place, buffer)?;
+        target.add(atom.table, buffer)?;
+    }
+    Ok(())
+}
+
+// Adds what the conclusion of a rule says at each place.
+fn add_rule(
     alloc: Global,
     rule: &Rule,
     number: u32,
-    places: &Places,
-    target: &mut Instance,
+    rows: &Rows,
+    target: &mut Builder,
 ) -> Result<(), AllocError>
-    requires tuples { AreLong (length (exported_of rule.now)) places.now.tuples }
-    requires few { length places.now.tuples < 2 ^ 32 }
-    requires fits { FitsWidths (widths target.old) rule.now }
-    requires room { HasRoom target.old (length (at_places number rule.now 0 places.now.tuples)) }
-    ensures { OnOk result (Gains target.old target.new (at_places number rule.now 0 places.now.tuples)) }
+    requires width { rows.now.width ≡ length (exported_of rule.now) }
+    requires texts { Each rows.now.rows (AreTexts target.old.symbols) }
+    requires fits { FitsWidths (widths (built target.old)) rule.now }
+    requires room { HasRoom (built target.old) (length (at_places number rule.now 0 (map (texts_of target.old.symbols) rows.now.rows))) }
+    ensures grows { OnOk result (Extends target.old.symbols target.new.symbols) }
+    ensures gained { OnOk result (Gains (built target.old) (built target.new) (at_places number rule.now 0 (map (texts_of target.old.symbols) rows.now.rows))) }
 {
     let variables = exported(alloc, rule)?;
-    let tuples = places.tuples.items();
-    for place in 0..tuples.len() {
-        let tuple = tuples[place].items();
-        add_place(alloc, rule, number, &variables, place as u32, tuple, target)?;
+    let plan = target.plan(alloc, rule, number, &variables, rows.count())?;
+    let mut buffer = Vec::new(alloc);
+    for place in 0..rows.count() {
+        add_place(&plan, rows.row(place), place, &mut buffer, target)?;
     }
     Ok(())
 }
 
-/// Adds what the conclusions of all rules say at each place.
+// Adds what the conclusions of all rules say at each place.
 fn add_rules(
     alloc: Global,
     rules: &[Rule],
-    matches: &Matches,
-    target: &mut Instance,
+    rows: &[Rows],
+    target: &mut Builder,
 ) -> Result<(), AllocError>
-    requires one { length matches.now.rules ≡ length rules.now }
     requires rules { length rules.now < 2 ^ 32 }
-    requires tuples { FitTuples rules.now (rows_in matches.now) }
-    requires few { Each (rows_in matches.now) (λ ts. length ts < 2 ^ 32) }
-    requires fits { Each rules.now (FitsWidths (widths target.old)) }
-    requires room { HasRoom target.old (length (canonical_of 0 rules.now (rows_in matches.now))) }
-    ensures { OnOk result (Gains target.old target.new (canonical_of 0 rules.now (rows_in matches.now))) }
+    requires tuples { FitRules target.old.symbols rules.now rows.now }
+    requires fits { Each rules.now (FitsWidths (widths (built target.old))) }
+    requires room { HasRoom (built target.old) (length (canonical 0 rules.now (tuples_in target.old.symbols rows.now))) }
+    ensures { OnOk result (Gains (built target.old) (built target.new) (canonical 0 rules.now (tuples_in target.old.symbols rows.now))) }
 {
-    let lists = matches.rules.items();
     for i in 0..rules.len() {
-        add_places(alloc, &rules[i], i as u32, &lists[i], target)?;
+        add_rule(alloc, &rules[i], i as u32, &rows[i], target)?;
     }
     Ok(())
 }
 
-/// The canonical instance: for each rule and each of its places what the conclusion says there.
-/// Its tables have as many columns as the list says.
+/// The canonical instance: for each rule and each of its places what the conclusion says there. A rule's places are rows of
+/// numbers that stand for the texts of its exported variables. Its tables have as many columns as the list says.
 ///
 /// # Errors
 ///
-/// `AllocError` where there is no memory.
-pub fn canonical(
+/// `AllocError` if there is no memory, or there are more values than have numbers.
+pub fn canonical_of_rows(
     alloc: Global,
     rules: &[Rule],
-    matches: &Matches,
-    columns: Vec<u32>,
+    rows: &[Rows],
+    symbols: Symbols,
+    columns: &[u32],
 ) -> Result<Instance, AllocError>
-    requires some { Each columns.items (λ w. 1 ≤ w) }
-    requires few { length columns.items < 2 ^ 32 - 1 }
-    requires one { length matches.now.rules ≡ length rules.now }
-    requires fits { Each rules.now (FitsWidths columns.items) }
+    requires some { Each columns.now (λ w. 1 ≤ w) }
+    requires few { length columns.now < 2 ^ 32 - 1 }
+    requires fits { Each rules.now (FitsWidths columns.now) }
     requires cells { Each rules.now HasCell }
-    requires tuples { FitTuples rules.now (rows_in matches.now) }
-    requires limit { canonical_cells rules.now (rows_in matches.now) < 2 ^ 32 - 1 }
+    requires tuples { FitRules symbols rules.now rows.now }
+    requires limit { canonical_cells rules.now (tuples_in symbols rows.now) < 2 ^ 32 - 1 }
     requires rules { length rules.now < 2 ^ 32 - 1 }
-    ensures widths { IfOk result (λ I. widths I ≡ columns.items) }
-    ensures there { IfOk result (λ I. canonical_of 0 rules.now (rows_in matches.now) ⊆ facts I) }
-    ensures only { IfOk result (λ I. facts I ⊆ canonical_of 0 rules.now (rows_in matches.now)) }
+    ensures widths { IfOk result (λ I. widths I ≡ columns.now) }
+    ensures facts { IfOk result (λ I. facts I ≈ canonical 0 rules.now (tuples_in symbols rows.now)) }
+    ensures ascend { IfOk result (λ I. (t : ℕ) → RowsAscend (rows_of I t)) }
 {
-    let mut target = Instance::new(alloc, columns)?;
-    add_rules(alloc, rules, matches, &mut target)?;
-    Ok(target)
+    let mut target = Builder::new(alloc, symbols, columns)?;
+    add_rules(alloc, rules, rows, &mut target)?;
+    target.finish(alloc)
 }

@@ -1,21 +1,31 @@
-//! Rules: their matches, the canonical instance, and its size before it is built.
+//! Rules: their matches, and the canonical instance.
 //!
 //! `exported` gives the variables that a rule exports, ascending; `match_rows` exactly the rows of a rule: the exported texts
-//! of its matches, ascending and each once, with derived variables computed by the host's closure; `fits_limit` whether the
-//! cells of the canonical instance pass a limit; `canonical` an instance with exactly the facts of the canonical instance.
-//! All are the notions of `dx_model`'s specs/Rules. The law `nulls_have_places`: each null of the canonical instance names a
-//! rule and a place that are there.
+//! of its matches, ascending and each once, with derived variables computed by the host's closure. `canonical_plain` gives the
+//! rows of all rules and an instance with exactly the facts of the canonical instance, or tells that its cells, counted
+//! for each match, pass a limit, before memory is spent on them. All are the notions of `dx_model`'s specs/Rules.
+//! The law `nulls_have_places`: each null of the canonical instance names a rule and a place that are there.
+//!
+//! Matches are rows of numbers from beginning to end (`found`); each text is copied once, for the tuple that is answered.
 #![tactic(auto)]
 
+mod builder;
 mod building;
 mod counting;
+mod fault;
+mod found;
 mod laws;
+mod made;
 mod matching;
-mod said;
-mod sorted;
+mod plain;
+mod planned;
+mod planning;
+mod texts;
+mod variables;
 
-pub use building::canonical;
-pub use counting::fits_limit;
+pub use fault::CanonFault;
 pub use laws::nulls_have_places;
+pub use made::Made;
 pub use matching::match_rows;
-pub use sorted::exported;
+pub use plain::canonical_plain;
+pub use variables::exported;

@@ -1,28 +1,44 @@
-use Rattle.std.proofs.Common.{◌≡◌, ◌∙◌, ap, sym, length, List, ℕ}
+use Rattle.std.proofs.Common.{◌≡◌, ◌∙◌, ◌∷◌, [], ℕ, List, ap, sym, subst, length}
 use Rattle.std.specs.Prelude.{map}
 use Rattle.std.proofs.lemmas.List.{length-map}
-use Rattle.dx_model.specs.declared.rules.Cell.{Cell}
-use Rattle.dx_model.specs.Rules.{cell_value, exported, said, text_of}
-use Rattle.dx_tgd.specs.Placed.{null_at}
-use Rattle.dx_tgd.proofs.Gaining.{atom_fits, exported_there, gains_next, gains_one, gains_said}
+use Rattle.dx_model.specs.declared.values.Value.{Value}
+use Rattle.dx_instance.specs.Shown.{shown_row}
+use Rattle.dx_tgd.specs.Gained.{Gains}
+use Rattle.dx_tgd.specs.Planned.{built, number_of, planned_fact}
+use Rattle.dx_tgd.proofs.Gaining.{gains_next}
+use Rattle.dx_tgd.proofs.Plans.{item_in, some_below}
+use Rattle.dx_tgd.proofs.Tables.{wide_table}
 use Rattle.dx_tgd.proofs.building.add_place.Goals as goal
 
-pub row_said-requires-clause-listed : goal.row_said-requires-clause-listed
-row_said-requires-clause-listed c = exported_there c.args.rule.now c.items-atom-items.result.now c.loop-atom.atom-index c.atom-item.result c.items.result.now c.args.variables.now c.loop-atom-test.true c.atom-item.is c.items-atom-items.ensures c.items.ensures c.requires.variables
+pub fill-requires : goal.fill-requires
+fill-requires c =
+    let s = c.requires.stand c.atom-item.result (item_in c.args.atoms.now c.loop-atom.atom-index c.atom-item.result c.loop-atom-test.true c.atom-item.is) in
+    rw c.deref.ensures.value s.there
 
 pub add-requires-clause-table : goal.add-requires-clause-table
-add-requires-clause-table c = (atom_fits c.args.target.now c.loop-atom.target c.args.rule.now c.items-atom-items.result.now c.loop-atom.atom-index c.atom-item.result c.loop-atom-test.true c.atom-item.is c.items-atom-items.ensures c.requires.fits c.loop-atom.invariant.widths_stay).0
+add-requires-clause-table c =
+    let s = c.requires.stand c.atom-item.result (item_in c.args.atoms.now c.loop-atom.atom-index c.atom-item.result c.loop-atom-test.true c.atom-item.is) in
+    (wide_table (built c.loop-atom.target) c.atom-item.result.table (length c.atom-item.result.cells.items) (rw c.loop-atom.invariant.gains.widths_stay s.wide)).0
 
 pub add-requires-clause-width : goal.add-requires-clause-width
 add-requires-clause-width c =
-    let f = atom_fits c.args.target.now c.loop-atom.target c.args.rule.now c.items-atom-items.result.now c.loop-atom.atom-index c.atom-item.result c.loop-atom-test.true c.atom-item.is c.items-atom-items.ensures c.requires.fits c.loop-atom.invariant.widths_stay in
-    ap length c.in_ok-row.ensures ∙ (length-map c.items.result.now (cell_value (text_of c.args.variables.now c.args.tuple.now) (null_at c.args.number c.args.place)) ∙ (ap length c.items.ensures ∙ sym f.1))
+    let s = c.requires.stand c.atom-item.result (item_in c.args.atoms.now c.loop-atom.atom-index c.atom-item.result c.loop-atom-test.true c.atom-item.is) in
+    let w = wide_table (built c.loop-atom.target) c.atom-item.result.table (length c.atom-item.result.cells.items) (rw c.loop-atom.invariant.gains.widths_stay s.wide) in
+    ap length c.deref-in-loop-atom.ensures.value ∙ ap length c.in_ok-fill.ensures ∙ length-map c.deref.result.now (number_of c.args.row.now c.args.place) ∙ ap length c.deref.ensures.value ∙ sym w.1
+
+pub add-requires-clause-below : goal.add-requires-clause-below
+add-requires-clause-below c =
+    let s = c.requires.stand c.atom-item.result (item_in c.args.atoms.now c.loop-atom.atom-index c.atom-item.result c.loop-atom-test.true c.atom-item.is) in
+    rw (c.deref-in-loop-atom.ensures.value, c.in_ok-fill.ensures, c.deref.ensures.value, c.loop-atom.invariant.symbols) (some_below c.args.row.now c.args.place c.atom-item.result.cells.items (length c.args.target.now.symbols) s.below)
 
 pub loop-atom-preserved : goal.loop-atom-preserved
 loop-atom-preserved c =
-    let e : c.in_ok-row.row ≡ map (cell_value (text_of (exported c.args.rule.now) c.args.tuple.now) (null_at c.args.number c.args.place)) c.atom-item.result.cells =
-    c.in_ok-row.ensures ∙ (ap (λ (z : List ℕ). map (cell_value (text_of z c.args.tuple.now) (null_at c.args.number c.args.place)) c.items.result.now) c.requires.variables
-    ∙ ap (λ (z : List Cell). map (cell_value (text_of (exported c.args.rule.now) c.args.tuple.now) (null_at c.args.number c.args.place)) z) c.items.ensures) in
-    gains_next (said (text_of (exported c.args.rule.now) c.args.tuple.now) (null_at c.args.number c.args.place)) c.items-atom-items.result.now c.loop-atom.atom-index c.atom-item.result c.loop-atom-test.true c.atom-item.is c.loop-atom.invariant
-    (gains_said c.atom-item.result (text_of (exported c.args.rule.now) c.args.tuple.now) (null_at c.args.number c.args.place) c.in_ok-row.row e
-    (gains_one c.loop-atom.target c.add.new.self c.atom-item.result.table c.in_ok-row.row c.in_ok-add.field-0 c.in_ok-add.ensures.is_new c.in_ok-add.ensures.added))
+    let numbers : c.deref-in-loop-atom.result.now ≡ map (number_of c.args.row.now c.args.place) c.atom-item.result.cells.items =
+    c.deref-in-loop-atom.ensures.value ∙ c.in_ok-fill.ensures ∙ ap (map (number_of c.args.row.now c.args.place)) c.deref.ensures.value in
+    let row : shown_row c.loop-atom.target.symbols c.deref-in-loop-atom.result.now ≡ shown_row c.args.target.now.symbols (map (number_of c.args.row.now c.args.place) c.atom-item.result.cells.items) =
+    ap (λ (S : List Value). shown_row S c.deref-in-loop-atom.result.now) c.loop-atom.invariant.symbols ∙ ap (λ (ns : List ℕ). shown_row c.args.target.now.symbols ns) numbers in
+    record {
+      symbols = c.in_ok-add.ensures.symbols ∙ c.loop-atom.invariant.symbols;
+      gains = gains_next (planned_fact c.args.target.now.symbols c.args.row.now c.args.place) c.args.atoms.now c.loop-atom.atom-index c.atom-item.result c.loop-atom-test.true c.atom-item.is c.loop-atom.invariant.gains
+          (subst (λ (vs : List Value). Gains (built c.loop-atom.target) (built c.add.new.self) (record { table = c.atom-item.result.table; row = vs } ∷ [])) row c.in_ok-add.ensures.added);
+    }

@@ -1,9 +1,0 @@
-pub mod Numbers
-pub mod Tables
-pub mod CanonicalFacts
-pub mod Gaining
-pub mod Saying
-pub mod Plans
-pub mod Built
-pub mod Steps
-pub mod Ascending

@@ -1,8 +1,0 @@
-use Rattle.std.proofs.Common.{take}
-use Rattle.std.specs.List.{AllZip}
-use Rattle.dx_instance.specs.Numbers.{Extends}
-use Rattle.dx_canonical.specs.Planned.{IsPlanned}
-use Rattle.dx_canonical.proofs.planning.planned_cells.Given as goal
-
-abbrev pub invariant-loop-cell : goal.invariant-loop-cell
-invariant-loop-cell l = record { planned : AllZip (IsPlanned l.symbols l.rule l.variables l.places) l.planned.items (take l.cell-index l.cells); grows : Extends l.fn.symbols l.symbols }

@@ -1,0 +1,235 @@
+-- Rows that are found for rules: as symbols grow, in order, and how many they are.
+use Rattle.std.proofs.Common.{◌≡◌, ◌↔◌, ◌∙◌, ℕ, zero, suc, ◌+◌, ◌*◌, ◌/◌, ◌<◌, ◌≤◌, ◌⊎◌, List, [], ◌∷◌, ◌++◌, true, inl, inr, refl, sym, ap, subst, arith, length, get_or, take}
+use Rattle.std.specs.Prelude.{map, slice_index}
+use Rattle.std.specs.List.{AllZip}
+use Rattle.std.specs.declared.cmp.Ordering.TheVariants.{Less}
+use Rattle.std.proofs.lemmas.List.{length-map, take_all, take_more, append_assoc}
+use Rattle.std.proofs.Math.Nat.{mul-le-mul_right}
+use Rattle.dx_ports.specs.Members.{◌∈◌, ◌⊆◌, here, there, Distinct, Each}
+use Rattle.dx_ports.proofs.Members.{contains_from_in, from_map, in_at, in_map}
+use Rattle.dx_model.specs.declared.facts.Fact.{Fact}
+use Rattle.dx_model.specs.declared.rules.Rule.{Rule}
+use Rattle.dx_model.specs.declared.values.Value.{Value}
+use Rattle.dx_model.specs.Values.{Conversions, Rows, Tuple, tuple_cmp}
+use Rattle.dx_model.specs.Fitting.{IsRule}
+use Rattle.dx_model.specs.Rules.{Ascend, AreRows, IsRows, cells_of, exported}
+use Rattle.dx_model.proofs.RowsExist.{rows_exist}
+use Rattle.dx_instance.specs.Cells.{IsOrderOf, NumberTable, NumbersAscend}
+use Rattle.dx_instance.specs.Numbers.{AreApart, Extends, IsOrdering, ValuesAscend, value_of}
+use Rattle.dx_instance.specs.Shown.{AreBelow, renumbered}
+use Rattle.dx_joins.specs.Shown.{AreTexts, IsShown, MoreTuples, StandFor, is_text, text_in, texts_of}
+use Rattle.dx_joins.proofs.Translating.{distinct_texts}
+use Rattle.dx_tgd.specs.Counting.{canonical_cells}
+use Rattle.dx_tgd.specs.Found.{AreFound, IsFoundRule, IsReordered, IsTuple, MoreCells}
+use Rattle.dx_tgd.specs.Placed.{HasCell}
+use Rattle.dx_tgd.specs.Texts.{FitRule, FitRules, tuples_in}
+use Rattle.dx_tgd.proofs.Ascending.{tuples_ascend}
+use Rattle.dx_tgd.proofs.Steps.{texts_there, tuples_grown}
+
+-- ---- as symbols grow
+
+pub stand_grown : (n : ℕ) (P : Tuple → Type 0) (S T : List Value) (t : NumberTable) → Extends S T → StandFor n P S t → StandFor n P T t
+stand_grown n P S T t e s = record {
+  width = s.width;
+  ascend = s.ascend;
+  texts = λ r m. texts_there S T r e (s.texts r m);
+  exact = λ u. rw (tuples_grown S T t.rows e s.texts) (s.exact u);
+}
+
+pub found_grown : (convert : Conversions) (I : List Fact) (S T : List Value) (R : List Rule) (ts : List NumberTable) → Extends S T → AreFound convert I S R ts → AreFound convert I T R ts
+found_grown convert I S T [] [] e f = tt
+found_grown convert I S T [] (t ∷ ts) e f = absurd f
+found_grown convert I S T (d ∷ R) [] e f = absurd f
+found_grown convert I S T (d ∷ R) (t ∷ ts) e f = (stand_grown (length (exported d)) (IsTuple convert I d) S T t e f.0, found_grown convert I S T R ts e f.1)
+
+pub found_more : (convert : Conversions) (I : List Fact) (S : List Value) (R : List Rule) (ts : List NumberTable) (d : Rule) (t : NumberTable) → AreFound convert I S R ts → IsFoundRule convert I S d t → AreFound convert I S (R ++ d ∷ []) (ts ++ t ∷ [])
+found_more convert I S [] [] d t f g = (g, tt)
+found_more convert I S [] (u ∷ ts) d t f g = absurd f
+found_more convert I S (e ∷ R) [] d t f g = absurd f
+found_more convert I S (e ∷ R) (u ∷ ts) d t f g = (f.0, found_more convert I S R ts d t f.1 g)
+
+grown_tuples : (convert : Conversions) (I : List Fact) (S T : List Value) (R : List Rule) (ts : List NumberTable) → Extends S T → AreFound convert I S R ts → tuples_in T ts ≡ tuples_in S ts
+grown_tuples convert I S T [] [] e f = refl
+grown_tuples convert I S T [] (t ∷ ts) e f = absurd f
+grown_tuples convert I S T (d ∷ R) [] e f = absurd f
+grown_tuples convert I S T (d ∷ R) (t ∷ ts) e f =
+    let first = tuples_grown S T t.rows e f.0.texts in
+    let rest = grown_tuples convert I S T R ts e f.1 in
+    cc (first, rest)
+
+-- ---- what is found fits
+
+pub found_texts : (convert : Conversions) (I : List Fact) (S : List Value) (R : List Rule) (ts : List NumberTable) → AreFound convert I S R ts → Each ts (λ (t : NumberTable). Each t.rows (AreTexts S))
+found_texts convert I S [] [] f u m = elim m [ ]
+found_texts convert I S [] (t ∷ ts) f u m = absurd f
+found_texts convert I S (d ∷ R) [] f u m = absurd f
+found_texts convert I S (d ∷ R) (t ∷ ts) f u (here e) = rw (← e) f.0.texts
+found_texts convert I S (d ∷ R) (t ∷ ts) f u (there m) = found_texts convert I S R ts f.1 u m
+
+pub found_ascend : (convert : Conversions) (I : List Fact) (S : List Value) (R : List Rule) (ts : List NumberTable) → AreFound convert I S R ts → Each ts (λ (t : NumberTable). NumbersAscend t.rows)
+found_ascend convert I S [] [] f u m = elim m [ ]
+found_ascend convert I S [] (t ∷ ts) f u m = absurd f
+found_ascend convert I S (d ∷ R) [] f u m = absurd f
+found_ascend convert I S (d ∷ R) (t ∷ ts) f u (here e) = rw (← e) f.0.ascend
+found_ascend convert I S (d ∷ R) (t ∷ ts) f u (there m) = found_ascend convert I S R ts f.1 u m
+
+pub found_fit : (convert : Conversions) (I : List Fact) (S : List Value) (R : List Rule) (ts : List NumberTable) → AreFound convert I S R ts → FitRules S R ts
+found_fit convert I S [] [] f = tt
+found_fit convert I S [] (t ∷ ts) f = absurd f
+found_fit convert I S (d ∷ R) [] f = absurd f
+found_fit convert I S (d ∷ R) (t ∷ ts) f = (record { width = f.0.width; texts = f.0.texts }, found_fit convert I S R ts f.1)
+
+-- ---- in another order
+
+ranked_row : (S T : List Value) (ranks row : List ℕ) → IsOrdering S T ranks → AreTexts S row → AreTexts T (map (slice_index ranks) row) × (texts_of T (map (slice_index ranks) row) ≡ texts_of S row)
+ranked_row S T ranks [] o h = ((λ n m. elim m [ ]), refl)
+ranked_row S T ranks (n ∷ row) o h =
+    let k = h n (here refl) in
+    let same : value_of T (slice_index ranks n) ≡ value_of S n = o.at n k.0 in
+    let rest = ranked_row S T ranks row o (λ x m. h x (there m)) in
+    let first : text_in (value_of T (slice_index ranks n)) ≡ text_in (value_of S n) = ap text_in same in
+    let tail = rest.1 in
+    (texts k same rest.0, cc (first, tail))
+  where
+    texts : (n < length S) × (is_text (value_of S n) ≡ true) → value_of T (slice_index ranks n) ≡ value_of S n → AreTexts T (map (slice_index ranks) row) → AreTexts T (slice_index ranks n ∷ map (slice_index ranks) row)
+    texts k same rest m (here e) = rw (← e) (omega (arith, o.within n k.0, o.many), ap is_text same ∙ k.1)
+    texts k same rest m (there q) = rest m q
+
+ranked_rows : (S T : List Value) (ranks : List ℕ) (rows : List (List ℕ)) → IsOrdering S T ranks → Each rows (AreTexts S)
+    → Each (map (λ (r : List ℕ). map (slice_index ranks) r) rows) (AreTexts T) × (map (texts_of T) (map (λ (r : List ℕ). map (slice_index ranks) r) rows) ≡ map (texts_of S) rows)
+ranked_rows S T ranks [] o h = ((λ n m. elim m [ ]), refl)
+ranked_rows S T ranks (r ∷ rows) o h =
+    let one = ranked_row S T ranks r o (h r (here refl)) in
+    let rest = ranked_rows S T ranks rows o (λ x m. h x (there m)) in
+    let first = one.1 in
+    let tail = rest.1 in
+    (texts one.0 rest.0, cc (first, tail))
+  where
+    texts : AreTexts T (map (slice_index ranks) r) → Each (map (λ (q : List ℕ). map (slice_index ranks) q) rows) (AreTexts T) → Each (map (slice_index ranks) r ∷ map (λ (q : List ℕ). map (slice_index ranks) q) rows) (AreTexts T)
+    texts a b m (here e) = rw (← e) a
+    texts a b m (there q) = b m q
+
+same_mapped : {X Y : Type 0} (f : X → Y) (xs ys : List X) (y : Y) → xs ⊆ ys → y ∈ map f xs → y ∈ map f ys
+same_mapped f xs ys y s m = let p = from_map f xs m in subst (λ z. z ∈ map f ys) p.2 (in_map f (s p.0 p.1))
+
+pub is_reordered : (S T : List Value) (ranks : List ℕ) (t u : NumberTable) → IsOrdering S T ranks → Each t.rows (AreTexts S) → IsOrderOf (renumbered ranks t) u → IsReordered S T t u
+is_reordered S T ranks t u o h p =
+    let q = ranked_rows S T ranks t.rows o h in record {
+      width = p.width;
+      ascend = p.ascend;
+      texts = λ r m. q.0 r (p.only r m);
+      same = λ s. (
+        (λ m. subst (λ (l : List Tuple). s ∈ l) q.1 (same_mapped (texts_of T) u.rows _ s p.only m)),
+        (λ m. same_mapped (texts_of T) _ u.rows s p.kept (subst (λ (l : List Tuple). s ∈ l) (sym q.1) m)),
+      );
+    }
+
+pub same_order : (S : List Value) (t : NumberTable) → NumbersAscend t.rows → Each t.rows (AreTexts S) → IsReordered S S t t
+same_order S t a h = record { width = refl; ascend = a; texts = h; same = λ s. ((λ m. m), (λ m. m)) }
+
+pub all_same_order : (S : List Value) (ts : List NumberTable) → Each ts (λ (t : NumberTable). NumbersAscend t.rows) → Each ts (λ (t : NumberTable). Each t.rows (AreTexts S)) → AllZip (IsReordered S S) ts ts
+all_same_order S [] a h = tt
+all_same_order S (t ∷ ts) a h = (same_order S t (a t (here refl)) (h t (here refl)), all_same_order S ts (λ u m. a u (there m)) (λ u m. h u (there m)))
+
+pub all_reordered : (S T : List Value) (ranks : List ℕ) (ts us : List NumberTable) → IsOrdering S T ranks → Each ts (λ (t : NumberTable). Each t.rows (AreTexts S)) → AllZip (λ t u. IsOrderOf (renumbered ranks t) u) ts us
+    → AllZip (IsReordered S T) ts us
+all_reordered S T ranks [] [] o h z = tt
+all_reordered S T ranks [] (u ∷ us) o h z = absurd z
+all_reordered S T ranks (t ∷ ts) [] o h z = absurd z
+all_reordered S T ranks (t ∷ ts) (u ∷ us) o h z = (is_reordered S T ranks t u o (h t (here refl)) z.0, all_reordered S T ranks ts us o (λ x m. h x (there m)) z.1)
+
+below_ranks : (S T : List Value) (ranks : List ℕ) (row : List ℕ) → IsOrdering S T ranks → AreTexts S row → AreBelow (length ranks) row
+below_ranks S T ranks row o h n m = omega (arith, (h n m).0, o.ranked)
+
+pub rows_below : (S T : List Value) (ranks : List ℕ) (t : NumberTable) → IsOrdering S T ranks → Each t.rows (AreTexts S) → Each t.rows (AreBelow (length ranks))
+rows_below S T ranks t o h r m = below_ranks S T ranks r o (h r m)
+
+pub all_below : (S T : List Value) (ranks : List ℕ) (ts : List NumberTable) → IsOrdering S T ranks → Each ts (λ (t : NumberTable). Each t.rows (AreTexts S)) → Each ts (λ (t : NumberTable). Each t.rows (AreBelow (length ranks)))
+all_below S T ranks ts o h t m = rows_below S T ranks t o (h t m)
+
+pub stand_reordered : (n : ℕ) (P : Tuple → Type 0) (S T : List Value) (t u : NumberTable) → IsReordered S T t u → StandFor n P S t → StandFor n P T u
+stand_reordered n P S T t u r s = record {
+  width = r.width ∙ s.width;
+  ascend = r.ascend;
+  texts = r.texts;
+  exact = λ x. ((λ m. (s.exact x).0 ((r.same x).0 m)), (λ p. (r.same x).1 ((s.exact x).1 p)));
+}
+
+pub found_reordered : (convert : Conversions) (I : List Fact) (S T : List Value) (R : List Rule) (ts us : List NumberTable) → AllZip (IsReordered S T) ts us → AreFound convert I S R ts → AreFound convert I T R us
+found_reordered convert I S T [] [] [] z f = tt
+found_reordered convert I S T [] [] (u ∷ us) z f = absurd z
+found_reordered convert I S T [] (t ∷ ts) us z f = absurd f
+found_reordered convert I S T (d ∷ R) [] us z f = absurd f
+found_reordered convert I S T (d ∷ R) (t ∷ ts) [] z f = absurd z
+found_reordered convert I S T (d ∷ R) (t ∷ ts) (u ∷ us) z f = (stand_reordered (length (exported d)) (IsTuple convert I d) S T t u z.0 f.0, found_reordered convert I S T R ts us z.1 f.1)
+
+-- ---- the rows of rules
+
+-- the tuples for which ascending rows stand under ascending symbols are the rows of the rule
+pub rule_rows : (convert : Conversions) (I : List Fact) (S : List Value) (d : Rule) (t : NumberTable) → ValuesAscend S → IsFoundRule convert I S d t → IsRows convert d I (map (texts_of S) t.rows)
+rule_rows convert I S d t up s = record {
+  ascend = tuples_ascend S t.rows up s.texts s.ascend;
+  exact = λ u. (
+    (λ m. let q = (s.exact u).0 m in (q.0, record { premise = q.1.atoms; derived = q.1.derives }, q.2)),
+    (λ q. (s.exact u).1 (q.0, record { atoms = q.1.premise; derives = q.1.derived }, q.2)),
+  );
+}
+
+pub all_rule_rows : (convert : Conversions) (I : List Fact) (S : List Value) (R : List Rule) (ts : List NumberTable) → ValuesAscend S → AreFound convert I S R ts → AreRows convert R I (tuples_in S ts)
+all_rule_rows convert I S [] [] up f = tt
+all_rule_rows convert I S [] (t ∷ ts) up f = absurd f
+all_rule_rows convert I S (d ∷ R) [] up f = absurd f
+all_rule_rows convert I S (d ∷ R) (t ∷ ts) up f = (rule_rows convert I S d t up f.0, all_rule_rows convert I S R ts up f.1)
+
+-- ---- how many they are
+
+-- a list with a member taken out has all others
+take_out : {X : Type 0} {x : X} (ys : List X) → x ∈ ys → (zs : List X) × (length ys ≡ suc (length zs)) × ((z : X) → z ∈ ys → ¬ (z ≡ x) → z ∈ zs)
+take_out [] m = elim m [ ]
+take_out {X} {x} (y ∷ ys) (here e) = (ys, refl, others)
+  where
+    others : (z : X) → z ∈ (y ∷ ys) → ¬ (z ≡ x) → z ∈ ys
+    others z (here f) d = absurd (d (sym f ∙ e))
+    others z (there n) d = n
+take_out {X} {x} (y ∷ ys) (there m) = let r = take_out ys m in (y ∷ r.0, ap suc r.1, others r.0 r.2)
+  where
+    others : (zs : List X) → ((z : X) → z ∈ ys → ¬ (z ≡ x) → z ∈ zs) → (z : X) → z ∈ (y ∷ ys) → ¬ (z ≡ x) → z ∈ (y ∷ zs)
+    others zs f z (here e) d = here e
+    others zs f z (there n) d = there (f z n d)
+
+-- what has no repetitions is no longer than what has all its members
+distinct_few : {X : Type 0} (xs ys : List X) → Distinct xs → xs ⊆ ys → length xs ≤ length ys
+distinct_few [] ys d s = omega arith
+distinct_few {X} (x ∷ xs) ys d s =
+    let r = take_out ys (s x (here refl)) in
+    let i = distinct_few xs r.0 d.1 (λ y m. r.2 y (s y (there m)) (λ e. d.0 (rw e at m))) in
+    omega (arith, i, r.1)
+
+to_shown : (convert : Conversions) (I : List Fact) (d : Rule) (ts : List Tuple) (t : Tuple) → IsRows convert d I ts → IsTuple convert I d t → t ∈ ts
+to_shown convert I d ts t a q = (a.exact t).1 (q.0, record { premise = q.1.atoms; derived = q.1.derives }, q.2)
+
+-- rows of numbers are no more than the rows of their rule
+found_few : (convert : Conversions) (I : List Fact) (S : List Value) (d : Rule) (t : NumberTable) (ts : List Tuple) → AreApart S → IsFoundRule convert I S d t → IsRows convert d I ts → length t.rows ≤ length ts
+found_few convert I S d t ts p s a =
+    let few = distinct_few (map (texts_of S) t.rows) ts (distinct_texts S t.rows p s.texts s.ascend) (λ u m. to_shown convert I d ts u a ((s.exact u).0 m)) in
+    omega (arith, few, length-map t.rows (texts_of S))
+
+-- the rows of all rules have no fewer canonical cells than what is found of the first of them
+found_cells : (convert : Conversions) (I : List Fact) (S : List Value) (R : List Rule) (ts : List NumberTable) (rows : Rows) → AreApart S → AreFound convert I S R ts → AreRows convert R I rows → canonical_cells R (tuples_in S ts) ≤ canonical_cells R rows
+found_cells convert I S [] [] [] p f a = omega arith
+found_cells convert I S [] [] (us ∷ rows) p f a = absurd a
+found_cells convert I S [] (t ∷ ts) rows p f a = absurd f
+found_cells convert I S (d ∷ R) [] rows p f a = absurd f
+found_cells convert I S (d ∷ R) (t ∷ ts) [] p f a = absurd a
+found_cells convert I S (d ∷ R) (t ∷ ts) (us ∷ rows) p f a =
+    let one : length (map (texts_of S) t.rows) ≤ length us = omega (arith, found_few convert I S d t us p f.0 a.0, length-map t.rows (texts_of S)) in
+    let n = length (cells_of d.conclusion) in
+    let rest = found_cells convert I S R ts rows p f.1 a.1 in
+    omega (arith, mul-le-mul_right n one, rest)
+
+rows_all_exist : (convert : Conversions) (R : List Rule) (I : List Fact) → Each R IsRule → (rows : Rows) × AreRows convert R I rows
+rows_all_exist convert [] I h = ([], tt)
+rows_all_exist convert (d ∷ R) I h =
+    let one = rows_exist convert d I (h d (here refl)) in
+    let rest = rows_all_exist convert R I (λ e m. h e (there m)) in
+    (one.0 ∷ rest.0, (one.1, rest.1))

@@ -1,0 +1,100 @@
+// Rows of numbers for each table, before they are put in order.
+ghost use Rattle.std.specs.Prelude.{◌≡◌, ◌<◌, ◌≤◌, ◌-◌, ◌^◌, [], ◌∷◌, IfOk, OnOk, length};
+ghost use Rattle.std.specs.List.{AllZip};
+ghost use Rattle.dx_ports.specs.Members.{◌∈◌, Each};
+ghost use Rattle.dx_model.specs.Rules.{exported as exported_of};
+ghost use Rattle.dx_instance.specs.Numbers.{Extends};
+ghost use Rattle.dx_instance.specs.Shown.{AreBelow, shown_row, shown_tables};
+ghost use Rattle.dx_instance.specs.Stored.{IsSorting, rows_of, table_at, widths, without_rows};
+ghost use Rattle.dx_tgd.specs.Gained.{Gains};
+ghost use Rattle.dx_tgd.specs.Planned.{IsPlannedAtom, built};
+
+use crate::planned::PlannedAtom;
+use crate::planning::planned_atoms;
+use dx_instance::{Instance, Rows, Symbols};
+use dx_model::Rule;
+use std::alloc::{AllocError, Global};
+use std::marker::Model;
+
+/// Symbols, and for each table rows of their numbers.
+#[derive(Drop)]
+pub(crate) struct Builder {
+    symbols: Symbols,
+    tables: Vec<Rows>,
+}
+
+impl Model for Builder {
+    ghost use Rattle.std.specs.Prelude.{length};
+    ghost use Rattle.dx_ports.specs.Members.{Each};
+    ghost use Rattle.dx_instance.specs.Shown.{Numbered, RowsFit};
+
+    ghost Value = { Numbered };
+
+    ghost view = { λ b. record { symbols = b.symbols; tables = b.tables.items } };
+
+    ghost invariant = { λ b. Each b.tables.items (RowsFit (length b.symbols)) };
+}
+
+impl Builder {
+    /// No rows, in tables of these widths.
+    pub(crate) fn new(
+        alloc: Global,
+        symbols: Symbols,
+        widths: &[u32],
+    ) -> Result<Builder, AllocError>
+        requires { Each widths.now (λ w. 1 ≤ w) }
+        ensures symbols { IfOk result (λ b. b.symbols ≡ symbols) }
+        ensures empty { IfOk result (λ b. built b ≡ without_rows widths.now) }
+    {
+        let mut tables = Vec::new(alloc);
+        for width in widths {
+            tables.push(Rows::new(alloc, *width))?;
+        }
+        Ok(Builder { symbols, tables })
+    }
+
+    /// The plan of a rule's conclusion, for so many places. Its literals and nulls become symbols.
+    pub(crate) fn plan(
+        &mut self,
+        alloc: Global,
+        rule: &Rule,
+        number: u32,
+        variables: &[u32],
+        places: u32,
+    ) -> Result<Vec<PlannedAtom>, AllocError>
+        requires variables { variables.now ≡ exported_of rule.now }
+        ensures planned { IfOk result (λ v. AllZip (IsPlannedAtom self.new.symbols number variables.now places) v.items rule.now.conclusion) }
+        ensures grows { Extends self.old.symbols self.new.symbols }
+        ensures same { built self.new ≡ built self.old }
+    {
+        planned_atoms(
+            alloc,
+            rule.conclusion.items(),
+            variables,
+            number,
+            places,
+            &mut self.symbols,
+        )
+    }
+
+    /// One row of numbers more.
+    pub(crate) fn add(&mut self, table: u32, numbers: &[u32]) -> Result<(), AllocError>
+        requires table { table < length (built self.old) }
+        requires width { length numbers.now ≡ (table_at (built self.old) table).width }
+        requires below { AreBelow (length self.old.symbols) numbers.now }
+        requires room { length (rows_of (built self.old) table) < 2 ^ 32 - 1 }
+        ensures symbols { OnOk result (self.new.symbols ≡ self.old.symbols) }
+        ensures added { OnOk result (Gains (built self.old) (built self.new) (record { table = table; row = shown_row self.old.symbols numbers.now } ∷ [])) }
+    {
+        self.tables[table as usize].push(numbers)
+    }
+
+    /// The instance of these rows, which ascend, each once.
+    pub(crate) fn finish(self, alloc: Global) -> Result<Instance, AllocError>
+        requires { length (built self) < 2 ^ 32 - 1 }
+        ensures { IfOk result (IsSorting (built self)) }
+    {
+        let Builder { symbols, tables } = self;
+        Instance::from_rows(alloc, symbols, tables)
+    }
+}

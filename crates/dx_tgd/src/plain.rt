@@ -1,0 +1,140 @@
+// The canonical instance, by the plain way: the matches of each rule, and what its conclusion says of them.
+ghost use Rattle.std.specs.Prelude.{◌≡◌, ◌<◌, ◌≤◌, ◌-◌, ◌^◌, ℕ, IfOk, IfErr, length};
+ghost use Rattle.dx_ports.specs.Members.{◌≈◌, Each};
+ghost use Rattle.dx_funcs.specs.Offers.{IsListed};
+ghost use Rattle.dx_funcs.specs.Serving.{Serves, offered};
+ghost use Rattle.dx_model.specs.Fitting.{AtomsFitWidths, IsRule};
+ghost use Rattle.dx_model.specs.Rules.{AreRows, canonical};
+ghost use Rattle.dx_model.specs.Values.{RowsAscend};
+ghost use Rattle.dx_instance.specs.Numbers.{Extends};
+ghost use Rattle.dx_instance.specs.Shown.{shown_tables};
+ghost use Rattle.dx_instance.specs.Stored.{facts, rows_of, widths};
+ghost use Rattle.dx_schema.specs.Tables.{schema_widths};
+ghost use Rattle.dx_joins.specs.Shown.{AreTexts};
+ghost use Rattle.dx_tgd.specs.Counting.{canonical_cells, rows_in};
+ghost use Rattle.dx_tgd.specs.Found.{AreFound, IsRefusal};
+ghost use Rattle.dx_tgd.specs.Placed.{HasCell};
+ghost use Rattle.dx_tgd.specs.Texts.{tuples_in};
+
+use crate::building::canonical_of_rows;
+use crate::counting::conclusion_cells;
+use crate::fault::CanonFault;
+use crate::found::Found;
+use crate::made::Made;
+use crate::matching::rule_rows;
+use crate::texts::places_of_rows;
+use dx_funcs::{Host, Meaning};
+use dx_instance::{Instance, Numbers, Rows, Symbols, Value};
+use dx_model::{Cell, Matches, Rule};
+use dx_ports::{Count, Items, Limit, Text};
+use dx_schema::Schema;
+use std::alloc::{AllocError, Global};
+
+// The literals of a conclusion become symbols, so that nothing but nulls is new later.
+fn intern_literals(rule: &Rule, symbols: &mut Symbols) -> Result<(), AllocError>
+    ensures { Extends symbols.old symbols.new }
+{
+    for atom in rule.conclusion.items() {
+        intern_cells(atom.cells.items(), symbols)?;
+    }
+    Ok(())
+}
+
+// The literals among these cells become symbols.
+fn intern_cells(cells: &[Cell], symbols: &mut Symbols) -> Result<(), AllocError>
+    ensures { Extends symbols.old symbols.new }
+{
+    for cell in cells {
+        if let Cell::Lit(text) = cell {
+            symbols.intern(Value::Const(text.copy()?))?;
+        }
+    }
+    Ok(())
+}
+
+// The matches of each rule, as rows of numbers. A rule may have as many as the limit leaves room for.
+fn found_rules<F: Fn(u32, &Items<Text>) -> Result<Text, AllocError>, M: Meaning>(
+    alloc: Global,
+    rules: &[Rule],
+    source: &Numbers,
+    host: &Host<F, M>,
+    limit: u64,
+) -> Result<Found, CanonFault>
+    requires serves { Serves F.Fn M.apply host.now }
+    requires listed { Each rules.now (λ d. Each d.derived (λ e. IsListed (offered host.now) e.code (length e.args))) }
+    requires rules { Each rules.now IsRule }
+    requires premises { Each rules.now (λ d. AtomsFitWidths (widths (shown_tables source.now.symbols source.now.tables)) d.premise) }
+    requires cells { Each rules.now HasCell }
+    ensures found { IfOk result (λ f. AreFound M.apply (facts (shown_tables source.now.symbols source.now.tables)) f.symbols rules.now f.tables.items) }
+    ensures within { IfOk result (λ f. canonical_cells rules.now (tuples_in f.symbols f.tables.items) ≤ limit) }
+    ensures refused { IfErr result (IsRefusal M.apply rules.now (facts (shown_tables source.now.symbols source.now.tables)) limit) }
+{
+    let mut symbols = source.copy_symbols(alloc)?;
+    let mut tables = Vec::new(alloc);
+    let mut left = limit;
+    for rule in rules {
+        let cells = conclusion_cells(rule);
+        intern_literals(rule, &mut symbols)?;
+        match rule_rows(alloc, rule, source, &mut symbols, host, left / cells)? {
+            Some(rows) => {
+                left -= rows.count() as u64 * cells;
+                tables.push(rows)?;
+            }
+            None => {
+                return Err(CanonFault::Limit(Limit {
+                    what: Count::TargetCells,
+                    number: limit,
+                }));
+            }
+        }
+    }
+    Ok(Found { symbols, tables })
+}
+
+// The tuples for which the rows of each rule stand.
+fn matches_of(alloc: Global, tables: &[Rows], symbols: &Symbols) -> Result<Matches, AllocError>
+    requires texts { Each tables.now (λ t. Each t.rows (AreTexts symbols.now)) }
+    ensures { IfOk result (λ m. rows_in m ≡ tuples_in symbols.now tables.now) }
+{
+    let mut rules = Items::new(alloc);
+    for rows in tables {
+        rules.push(places_of_rows(alloc, rows, symbols)?)?;
+    }
+    Ok(Matches { rules })
+}
+
+/// The rows of each rule, and the canonical instance: exactly the facts that the conclusions say of them, in tables
+/// whose rows ascend.
+///
+/// # Errors
+///
+/// `Limit` exactly if the canonical cells, counted for each match, are more than the limit. `Memory` at any point.
+pub fn canonical_plain<F: Fn(u32, &Items<Text>) -> Result<Text, AllocError>, M: Meaning>(
+    alloc: Global,
+    rules: &[Rule],
+    source: &Instance,
+    host: &Host<F, M>,
+    target: &Schema,
+    limit: u64,
+) -> Result<Made, CanonFault>
+    requires serves { Serves F.Fn M.apply host.now }
+    requires listed { Each rules.now (λ d. Each d.derived (λ e. IsListed (offered host.now) e.code (length e.args))) }
+    requires rules { Each rules.now IsRule }
+    requires few { length rules.now < 2 ^ 32 - 1 }
+    requires premises { Each rules.now (λ d. AtomsFitWidths (widths source.now) d.premise) }
+    requires conclusions { Each rules.now (λ d. AtomsFitWidths (schema_widths target.now) d.conclusion) }
+    requires limit { limit < 2 ^ 32 - 1 }
+    ensures matches { IfOk result (λ m. AreRows M.apply rules.now (facts source.now) (rows_in m.matches)) }
+    ensures within { IfOk result (λ m. canonical_cells rules.now (rows_in m.matches) ≤ limit) }
+    ensures facts { IfOk result (λ m. facts m.instance ≈ canonical 0 rules.now (rows_in m.matches)) }
+    ensures widths { IfOk result (λ m. widths m.instance ≡ schema_widths target.now) }
+    ensures ascend { IfOk result (λ m. (t : ℕ) → RowsAscend (rows_of m.instance t)) }
+    ensures refused { IfErr result (IsRefusal M.apply rules.now (facts source.now) limit) }
+{
+    let found = found_rules(alloc, rules, &source.numbers(), host, limit)?;
+    let Found { symbols, tables } = found.in_order(alloc)?;
+    let matches = matches_of(alloc, &tables, &symbols)?;
+    let columns = target.widths(alloc)?;
+    let instance = canonical_of_rows(alloc, rules, &tables, symbols, &columns)?;
+    Ok(Made { instance, matches })
+}
