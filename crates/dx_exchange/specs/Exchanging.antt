@@ -15,7 +15,7 @@ use Rattle.dx_model.specs.Tables.{Table}
 use Rattle.dx_model.specs.Rules.{AreRows, canonical}
 use Rattle.dx_model.specs.Fitting.{RuleFits}
 use Rattle.dx_model.specs.Chase.{IsForcedMap}
-use Rattle.dx_model.specs.Solutions.{IsClosed, IsUniversal}
+use Rattle.dx_model.specs.Solutions.{IsClosed, IsSolution, IsUniversal}
 use Rattle.dx_instance.specs.NullMaps.{pairs_of}
 use Rattle.dx_instance.specs.Stored.{facts, rows_of, widths}
 use Rattle.dx_tgd.specs.Counting.{canonical_cells, rows_in}
@@ -24,7 +24,10 @@ use Rattle.dx_exchange.specs.declared.mode.Mode.{Mode}
 use Rattle.dx_exchange.specs.declared.mode.Mode.TheVariants.{Plain, Core}
 use Rattle.dx_exchange.specs.declared.result.Exchange.{Exchange}
 use Rattle.dx_exchange.specs.declared.fault.ExFault.{ExFault}
-use Rattle.dx_exchange.specs.declared.fault.ExFault.TheVariants.{Limit}
+use Rattle.dx_exchange.specs.declared.fault.ExFault.TheVariants.{Clash, Limit, Memory}
+use Rattle.dx_keys.specs.declared.answers.Clash.{Clash as ClashOf}
+use Rattle.dx_keys.specs.Answers.{IsClash}
+use Rattle.dx_ports.specs.declared.file.Limit.{Limit as LimitOf}
 
 -- what is asked: the target of these rows under these rules into this schema, in this mode, within a limit on canonical cells
 pub record Asked : Type 0 where
@@ -53,14 +56,41 @@ pub record IsExchange (convert : Conversions) (a : Asked) (e : Exchange) : Type 
   pub widths_are : widths e.target ≡ map (λ (t : Table). t.width) a.schema
   pub ascend : (t : ℕ) → RowsAscend (rows_of e.target t)
 
--- the canonical cells pass the limit
-abbrev pub PassesLimit : Conversions → Asked → ExFault → Type 0
-PassesLimit convert a e =
-    (rows : Rows) × AreRows convert a.rules a.rows rows × (a.limit < canonical_cells a.rules rows) × (e ≡ Limit (record { what = TargetCells; number = a.limit }))
+-- ---- why there is no exchange
 
--- the exchange, or the limit
+-- the canonical cells pass the limit
+pub record PassesLimit (convert : Conversions) (a : Asked) (l : LimitOf) : Type 0 where
+  pub rows : Rows
+  pub are : AreRows convert a.rules a.rows rows
+  pub many : a.limit < canonical_cells a.rules rows
+  pub said : l ≡ record { what = TargetCells; number = a.limit }
+
+-- The limit is not passed, and there is no solution: key steps, one after the other, lead from the canonical instance to two
+-- facts, the lesser first, that agree on a key and have two constants in a column.
+pub record HasClash (convert : Conversions) (a : Asked) (c : ClashOf) : Type 0 where
+  pub rows : Rows
+  pub are : AreRows convert a.rules a.rows rows
+  pub within : canonical_cells a.rules rows ≤ a.limit
+  pub clash : IsClash a.schema (canonical 0 a.rules rows) c
+  pub no_solution : (K : List Fact) → ¬ (IsSolution convert a.rules a.schema a.rows K)
+
+-- there is no exchange for this reason
+abbrev pub HasNone : Conversions → Asked → ExFault → Type 0
+HasNone convert a (Limit l) = PassesLimit convert a l
+HasNone convert a (Clash c) = HasClash convert a c
+HasNone convert a Memory = ⊥
+
+-- two reasons are alike: they are one limit, or they are clashes, of which there may be many
+abbrev pub AreAlike : ExFault → ExFault → Type 0
+AreAlike (Clash c) (Clash d) = Unit {0}
+AreAlike (Clash c) (Limit l) = ⊥
+AreAlike (Clash c) Memory = ⊥
+AreAlike (Limit l) e = Limit l ≡ e
+AreAlike Memory e = Memory ≡ e
+
+-- the exchange, or why there is none
 abbrev pub exchanging : Conversions → Stage ExFault Asked Exchange
-exchanging convert = notions (PassesLimit convert) (IsExchange convert)
+exchanging convert = notions (HasNone convert) (IsExchange convert)
 
 -- There are at most 256 rules; each fits the two schemas and is closed under the links of the target; its conversions are listed
 -- with as many arguments as they take.

@@ -1,0 +1,79 @@
+// Tables of numbers with what determines what in them.
+ghost use Rattle.std.specs.Prelude.{◌≡◌, ◌<◌, IfOk, length, map};
+ghost use Rattle.dx_model.specs.Tables.{table_of};
+ghost use Rattle.dx_schema.specs.Tables.{model_tables, tables_of};
+ghost use Rattle.dx_keys.specs.Numbers.{AreTablesIn, determination_of};
+
+use crate::numbering::counted;
+use dx_chase::{Columns, NumberTable};
+use dx_instance::Rows;
+use dx_ports::Items;
+use dx_schema::Schema;
+use std::alloc::{AllocError, Global};
+
+// A copy of numbers.
+fn copied(alloc: Global, numbers: &[u32]) -> Result<Items<u32>, AllocError>
+    ensures { IfOk result (λ copy. copy ≡ numbers.now) }
+{
+    let mut copy = Vec::with_capacity(alloc, numbers.len())?;
+    copy.extend_from_slice(numbers)?;
+    Ok(Items::from_vec(copy))
+}
+
+/// The determinations of a table: each key determines all columns.
+///
+/// # Errors
+///
+/// `AllocError` if there is no memory.
+pub fn determinations(
+    alloc: Global,
+    schema: &Schema,
+    table: u32,
+) -> Result<Items<Columns>, AllocError>
+    requires { table < length (tables_of schema.now) }
+    ensures { IfOk result (λ all. map determination_of all ≡ (table_of (model_tables schema.now) table).determinations) }
+{
+    let width = schema.width(table);
+    let mut all = Items::new(alloc);
+    for key in schema.keys_of(table) {
+        all.push(Columns {
+            left: copied(alloc, key.columns.items())?,
+            right: Items::from_vec(counted(alloc, width)?),
+        })?;
+    }
+    Ok(all)
+}
+
+// The rows as a list of lists.
+fn listed(alloc: Global, rows: &Rows) -> Result<Items<Items<u32>>, AllocError>
+    ensures { IfOk result (λ all. all ≡ rows.now.rows) }
+{
+    let mut all = Vec::with_capacity(alloc, rows.count() as usize)?;
+    for place in 0..rows.count() {
+        all.push(copied(alloc, rows.row(place))?)?;
+    }
+    Ok(Items::from_vec(all))
+}
+
+/// The rows of each table, with its determinations.
+///
+/// # Errors
+///
+/// `AllocError` if there is no memory.
+pub fn number_tables(
+    alloc: Global,
+    schema: &Schema,
+    tables: &[Rows],
+) -> Result<Vec<NumberTable>, AllocError>
+    requires { length tables.now ≡ length (tables_of schema.now) }
+    ensures { IfOk result (λ all. AreTablesIn (model_tables schema.now) tables.now all.items) }
+{
+    let mut all = Vec::new(alloc);
+    for table in 0..schema.tables() {
+        all.push(NumberTable {
+            rows: listed(alloc, &tables[table as usize])?,
+            determinations: determinations(alloc, schema, table)?,
+        })?;
+    }
+    Ok(all)
+}
