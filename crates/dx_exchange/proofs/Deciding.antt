@@ -11,7 +11,7 @@ use Rattle.dx_model.specs.declared.rules.Derived.{Derived}
 use Rattle.dx_model.specs.declared.rules.Rule.{Rule}
 use Rattle.dx_schema.specs.Forest.{Forest}
 use Rattle.dx_schema.specs.Tables.{TableOf, tables_of}
-use Rattle.dx_exchange.specs.Plain.{IsPlainForm}
+use Rattle.dx_exchange.specs.Flat.{IsPlainForm}
 
 abbrev Decided : Type 0 → Type 0
 Decided P = P ⊎ (¬ P)

@@ -1,126 +1,130 @@
--- The sorted canonical instance is the exchange where the target has no keys.
-use Rattle.std.proofs.Common.{◌≡◌, ℕ, ◌≤◌, ◌<◌, List, [], ◌∷◌, length, refl, sym, ◌∙◌, ap, subst, arith}
+-- The image of the canonical instance under its forced map is the exchange, if keys hold in it; a clash means that there is none.
+use Rattle.std.proofs.Common.{◌≡◌, ◌⊎◌, ℕ, ◌≤◌, List, [], ◌∷◌, refl, sym, ◌∙◌, ap, subst}
 use Rattle.std.specs.Prelude.{map}
-use Rattle.std.specs.declared.cmp.Ordering.TheVariants.{Greater}
-use Rattle.std.specs.FinMap as finite
 use Rattle.dx_ports.specs.Members.{◌∈◌, ◌⊆◌, ◌≈◌, Each}
-use Rattle.dx_ports.proofs.Members.{in_map, from_map, in_flat_map, from_flat_map}
 use Rattle.dx_model.specs.declared.values.NullId.{NullId}
 use Rattle.dx_model.specs.declared.values.Value.{Value}
-use Rattle.dx_model.specs.declared.values.Value.TheVariants.{Const, Null}
+use Rattle.dx_model.specs.declared.values.Value.TheVariants.{Null}
 use Rattle.dx_model.specs.declared.facts.Fact.{Fact}
 use Rattle.dx_model.specs.declared.facts.NullPair.{NullPair}
-use Rattle.dx_model.specs.declared.rules.Rule.{Rule}
-use Rattle.dx_model.specs.Values.{Conversions, Rows, RowsAscend, Text, null_cmp, value_cmp}
-use Rattle.dx_model.specs.Instances.{moved, fact_moved, given, image, values}
-use Rattle.dx_model.specs.Tables.{IsInstance, IsKeyed, KeysHold, Table}
+use Rattle.dx_model.specs.Values.{Conversions, Rows, RowsAscend}
+use Rattle.dx_model.specs.Instances.{image, values}
+use Rattle.dx_model.specs.Tables.{Determination, IsKeyed, KeysHold, Table}
 use Rattle.dx_model.specs.Rules.{AreRows, canonical}
-use Rattle.dx_model.specs.Chase.{ForcedEqual, IsForcedMap}
-use Rattle.dx_model.specs.Solutions.{IsClosed}
-use Rattle.dx_model.proofs.CanonicalUniversal.{canonical_universal}
-use Rattle.dx_model.proofs.Closed.{canonical_fits_closed}
-use Rattle.dx_model.proofs.Orders.{null_total}
-use Rattle.dx_instance.specs.NullMaps.{ByNull, pairs_of}
-use Rattle.dx_instance.specs.Stored.{IsSorting, TableRows, facts, rows_of, widths}
-use Rattle.dx_instance.proofs.StoredFacts.{fact_from_row, row_from_fact}
+use Rattle.dx_model.specs.Chase.{AreSteps, Break, IsClashAt, IsForcedMap, IsKeyStep, NoneReceives, after}
+use Rattle.dx_model.specs.Solutions.{IsClosed, IsSolution, IsUniversal}
+use Rattle.dx_model.proofs.ByMembers.{forced_image_stays, forced_map_by_members, image_by_members, image_part, keys_by_members, none_receives_by_members, universal_by_members, values_part}
+use Rattle.dx_model.proofs.Canonical.{canonical_into}
+use Rattle.dx_model.proofs.Closed.{chased_universal}
+use Rattle.dx_instance.specs.Images.{IsImage}
+use Rattle.dx_instance.specs.NullMaps.{pairs_of}
+use Rattle.dx_instance.specs.Stored.{TableRows, facts, rows_of, widths}
+use Rattle.dx_keys.specs.declared.answers.Clash.{Clash as ClashOf}
+use Rattle.dx_keys.specs.Answers.{IsClash, determination_at, fact_in}
 use Rattle.dx_tgd.specs.Counting.{canonical_cells, rows_in}
 use Rattle.dx_exchange.specs.declared.mode.Mode.{Mode}
 use Rattle.dx_exchange.specs.declared.mode.Mode.TheVariants.{Plain}
 use Rattle.dx_exchange.specs.declared.result.Exchange.{Exchange}
-use Rattle.dx_exchange.specs.Exchanging.{Asked, IsExchange, IsOfMode}
-use Rattle.dx_exchange.proofs.Fitting.{keys_hold}
+use Rattle.dx_exchange.specs.Exchanging.{Asked, HasClash, IsExchange, IsOfMode}
 
--- ---- the null map that lists nothing
+-- what is known of an exchange that is made: its matches, a forced map of an instance with the canonical instance's facts, and the image
+pub record MadeOf (convert : Conversions) (a : Asked) (I : List TableRows) (e : Exchange) : Type 0 where
+  pub mode : a.mode ≡ Plain
+  pub closed : Each a.rules (IsClosed a.schema)
+  pub matches : AreRows convert a.rules a.rows (rows_in e.matches)
+  pub within : canonical_cells a.rules (rows_in e.matches) ≤ a.limit
+  pub same : facts I ≈ canonical 0 a.rules (rows_in e.matches)
+  pub wide : widths I ≡ map (λ (t : Table). t.width) a.schema
+  pub forced : IsForcedMap a.schema (facts I) (pairs_of e.fold)
+  pub imaged : IsImage e.fold I e.target
+  pub keyed : IsKeyed a.schema (facts e.target)
 
-stays : (vs : List Value) → map (moved (given [])) vs ≡ vs
-stays [] = refl
-stays (Const t ∷ vs) = ap (λ (xs : List Value). Const t ∷ xs) (stays vs)
-stays (Null n ∷ vs) = ap (λ (xs : List Value). Null n ∷ xs) (stays vs)
+both_ways : {X : Type 0} (A B C : List X) → A ≈ B → B ≈ C → A ≈ C
+both_ways A B C p q = ((λ x m. q.0 x (p.0 x m)), (λ x m. p.1 x (q.1 x m)))
 
-fact_stays : (f : Fact) → fact_moved (given []) f ≡ f
-fact_stays f = let e = stays f.row in (λ i. record { table = f.table; row = e i })
+turned : {X : Type 0} (A B : List X) → A ≈ B → B ≈ A
+turned A B p = (p.1, p.0)
 
-no_items : {X : Type 0} (xs : List X) → length xs ≡ 0 → xs ≡ []
-no_items [] e = refl
-no_items (x ∷ xs) e = absurd (omega arith)
-
-nothing_listed : pairs_of (finite.empty {X = Value} {R = null_cmp}) ≡ []
-nothing_listed =
-    ap (map (λ (e : NullId × Value). record { null = e.0; value = e.1 }))
-    (no_items (finite.entries (finite.empty {X = Value} {R = null_cmp})) (sym (finite.len-entries (finite.empty {X = Value} {R = null_cmp})) ∙ finite.len-empty null_cmp Value))
-
-pub no_pairs : (m : ByNull) → m ≡ finite.empty → pairs_of m ≡ []
-no_pairs m e = ap pairs_of e ∙ nothing_listed
-
-image_in : (A T : List Fact) → A ⊆ T → image [] A ⊆ T
-image_in A T s f m =
-    let p = from_map (fact_moved (given [])) A m in
-    subst (λ (g : Fact). g ∈ T) (sym (fact_stays p.0) ∙ p.2) (s p.0 p.1)
-
-in_image : (A T : List Fact) → T ⊆ A → T ⊆ image [] A
-in_image A T s f m = subst (λ (g : Fact). g ∈ map (fact_moved (given [])) A) (fact_stays f) (in_map (fact_moved (given [])) (s f m))
-
--- ---- without keys nothing is forced
-
-not_greater : (n m : NullId) → Null n ≡ Null m → ¬ (value_cmp (Null n) (Null m) ≡ Greater)
-not_greater n m e g =
-    let same : null_cmp n n ≡ Greater = ap (λ v. value_cmp (Null n) v) e ∙ g in
-    let t = null_total.antisymm n n in
-    cc (rw same at t)
-
-nothing_forced : (schema : List Table) (A : List Fact) → IsInstance schema A → KeysHold schema A → IsForcedMap schema A []
-nothing_forced schema A fits keys = record {
-  null_map = tt;
-  here_alone = λ p m. elim m [ ];
-  gives = λ n h. record {
-    forced = λ K g k m. refl;
-    constant = λ t f. same (Null n) (Const t) f;
-    of_here = λ m e. subst (λ v. v ∈ values A) e h;
-    least = λ m k f. not_greater n m (same (Null n) (Null m) f);
-  };
-}
-  where
-    keyed : IsKeyed schema A
-    keyed = record { fits = fits; keys = keys }
-
-    same : (v w : Value) → ForcedEqual schema A v w → v ≡ w
-    same (Const t) (Const u) f = f A [] keyed (record { null_map = tt; inside = image_in A A (λ g m. m) })
-    same (Const t) (Null m) f = f A [] keyed (record { null_map = tt; inside = image_in A A (λ g m. m) })
-    same (Null n) (Const u) f = f A [] keyed (record { null_map = tt; inside = image_in A A (λ g m. m) })
-    same (Null n) (Null m) f = f A [] keyed (record { null_map = tt; inside = image_in A A (λ g m. m) })
-
--- ---- the exchange
-
-same_values : (A B : List Fact) → A ⊆ B → (v : Value) → v ∈ values A → v ∈ values B
-same_values A B s v m =
-    let w = from_flat_map (λ (f : Fact). f.row) A m in
-    in_flat_map (λ (f : Fact). f.row) (s w.0 w.1) w.2
-
--- what has exactly the facts of the canonical instance, ascending, and folds nothing
-pub made : (convert : Conversions) (a : Asked) (e : Exchange) → a.mode ≡ Plain → Each a.rules (IsClosed a.schema) → Each a.schema (λ (t : Table). t.determinations ≡ [])
-    → AreRows convert a.rules a.rows (rows_in e.matches) → canonical_cells a.rules (rows_in e.matches) ≤ a.limit → e.fold ≡ finite.empty
-    → canonical 0 a.rules (rows_in e.matches) ⊆ facts e.target → facts e.target ⊆ canonical 0 a.rules (rows_in e.matches)
-    → widths e.target ≡ map (λ (t : Table). t.width) a.schema → ((t : ℕ) → RowsAscend (rows_of e.target t)) → IsExchange convert a e
-made convert a e mode closed none matches within fold there only ws ascend =
+pub made : (convert : Conversions) (a : Asked) (I : List TableRows) (e : Exchange) → MadeOf convert a I e → IsExchange convert a e
+made convert a I e k =
     let C = canonical 0 a.rules (rows_in e.matches) in
-    let nothing : pairs_of e.fold ≡ [] = no_pairs e.fold fold in
-    let fits = (canonical_fits_closed a.schema a.rules (rows_in e.matches) closed).0 in record {
-      matches = matches;
-      within = within;
-      universal = canonical_universal convert a.rules a.schema a.rows (facts e.target) (rows_in e.matches) matches closed there only (keys_hold a.schema (facts e.target) none);
-      null_map = rw nothing tt;
-      listed = λ p m. elim (rw nothing at m) [ ];
-      folded = subst (λ h. image h C ≈ facts e.target) (sym nothing) (image_in C (facts e.target) there, in_image C (facts e.target) only);
-      by_mode = subst (λ m. IsOfMode m a.schema C (pairs_of e.fold) (facts e.target)) (sym mode)
-          (subst (λ h. IsForcedMap a.schema C h) (sym nothing) (nothing_forced a.schema C fits (keys_hold a.schema C none)));
-      nulls = λ n m. same_values (facts e.target) C only (Null n) m;
-      widths_are = ws;
-      ascend = ascend;
+    let m = pairs_of e.fold in
+    let forced : IsForcedMap a.schema C m = forced_map_by_members a.schema (facts I) C m k.same k.forced in
+    let folded : image m C ≈ facts e.target = both_ways (image m C) (image m (facts I)) (facts e.target) (image_by_members m C (facts I) (turned (facts I) C k.same)) k.imaged.is in
+    let keys : KeysHold a.schema (image m C) = keys_by_members a.schema (image m C) (facts e.target) folded.0 k.keyed.keys in record {
+      matches = k.matches;
+      within = k.within;
+      universal = universal_by_members convert a.rules a.schema a.rows (image m C) (facts e.target) folded (chased_universal convert a.rules a.schema a.rows (rows_in e.matches) m k.matches k.closed forced keys);
+      null_map = forced.null_map;
+      listed = forced.here_alone;
+      folded = folded;
+      by_mode = subst (λ (x : Mode). IsOfMode x a.schema C m (facts e.target)) (sym k.mode) forced;
+      nulls = λ n h. forced_image_stays a.schema C m n forced (values_part (facts e.target) (image m C) folded.1 (Null n) h);
+      widths_are = k.imaged.widths_stay ∙ k.wide;
+      ascend = k.imaged.ascend;
     }
 
--- sorting leaves the facts
-pub sorted_there : (A B : List TableRows) → IsSorting A B → facts A ⊆ facts B
-sorted_there A B s f m = fact_from_row B f.table f.row (s.kept f.table f.row (row_from_fact A f m))
+-- ---- a clash
 
-pub sorted_only : (A B : List TableRows) → IsSorting A B → facts B ⊆ facts A
-sorted_only A B s f m = fact_from_row A f.table f.row (s.only f.table f.row (row_from_fact B f m))
+break_part : (schema : List Table) (A B : List Fact) (a b : Fact) (d : Determination) (c : ℕ) → A ⊆ B → Break schema A a b d c → Break schema B a b d c
+break_part schema A B a b d c s k = record {
+  left = s a k.left;
+  right = s b k.right;
+  table = k.table;
+  of_table = k.of_table;
+  same = k.same;
+  column = k.column;
+  differ = k.differ;
+}
+
+step_part : (schema : List Table) (A B : List Fact) (p : NullPair) → A ⊆ B → IsKeyStep schema A p → IsKeyStep schema B p
+step_part schema A B p s k = record {
+  a = k.a;
+  b = k.b;
+  d = k.d;
+  c = k.c;
+  break = break_part schema A B k.a k.b k.d k.c s k.break;
+  null = k.null;
+  value = k.value;
+  less = k.less;
+}
+
+steps_part : (schema : List Table) (A B : List Fact) (ss : List NullPair) → A ⊆ B → AreSteps schema A ss → AreSteps schema B ss
+steps_part schema A B [] s k = tt
+steps_part schema A B (p ∷ ss) s k = (step_part schema A B p s k.0, steps_part schema (image (p ∷ []) A) (image (p ∷ []) B) ss (image_part (p ∷ []) A B s) k.1)
+
+after_part : (A B : List Fact) (ss : List NullPair) → A ⊆ B → after ss A ⊆ after ss B
+after_part A B [] s = s
+after_part A B (p ∷ ss) s = after_part (image (p ∷ []) A) (image (p ∷ []) B) ss (image_part (p ∷ []) A B s)
+
+clash_part : (schema : List Table) (A B : List Fact) (c : ClashOf) → A ⊆ B → IsClash schema A c → IsClash schema B c
+clash_part schema A B c s k = record {
+  steps = steps_part schema A B c.steps s k.steps;
+  key = k.key;
+  clash = record {
+    break = break_part schema (after c.steps A) (after c.steps B) (fact_in c.table c.left) (fact_in c.table c.right) (determination_at schema c.table c.key) c.column (after_part A B c.steps s) k.clash.break;
+    one = k.clash.one;
+    other = k.clash.other;
+    left = k.clash.left;
+    right = k.clash.right;
+  };
+  lesser = k.lesser;
+  none = none_receives_by_members schema A B s k.none;
+}
+
+-- nothing in which keys hold receives the canonical instance, so there is no solution
+no_solution : (convert : Conversions) (a : Asked) (rows : Rows) → AreRows convert a.rules a.rows rows → NoneReceives a.schema (canonical 0 a.rules rows) → (K : List Fact) → ¬ (IsSolution convert a.rules a.schema a.rows K)
+no_solution convert a rows are none K s =
+    let h = canonical_into convert a.rules a.rows K rows are s.rules in
+    none K h.0 (record { fits = s.fits; keys = s.keys }) h.1
+
+pub has_clash : (convert : Conversions) (a : Asked) (rows : Rows) (A : List Fact) (c : ClashOf) → AreRows convert a.rules a.rows rows → canonical_cells a.rules rows ≤ a.limit → A ⊆ canonical 0 a.rules rows → IsClash a.schema A c
+    → HasClash convert a c
+has_clash convert a rows A c are few s k =
+    let clash = clash_part a.schema A (canonical 0 a.rules rows) c s k in record {
+      rows = rows;
+      are = are;
+      within = few;
+      clash = clash;
+      no_solution = no_solution convert a rows are clash.none;
+    }

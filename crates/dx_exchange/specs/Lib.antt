@@ -1,4 +1,4 @@
 pub mod Exchanging
 pub mod Faults
-pub mod Plain
+pub mod Flat
 pub mod Laws

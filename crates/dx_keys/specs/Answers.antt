@@ -31,14 +31,14 @@ pub record IsChased (schema : List Table) (I : List TableRows) (c : Chased) : Ty
 
 -- A clash of an instance: key steps, one after the other; of what they leave two facts, the lesser first, that agree on the left
 -- of a determination and have two constants in a column of its right. Nothing in which keys hold receives the instance.
-pub record IsClash (schema : List Table) (I : List TableRows) (c : Clash) : Type 0 where
-  pub steps : AreSteps schema (facts I) c.steps
+pub record IsClash (schema : List Table) (A : List Fact) (c : Clash) : Type 0 where
+  pub steps : AreSteps schema A c.steps
   pub key : c.key < length (table_of schema c.table).determinations
-  pub clash : IsClashAt schema (after c.steps (facts I)) (fact_in c.table c.left) (fact_in c.table c.right) (determination_at schema c.table c.key) c.column
+  pub clash : IsClashAt schema (after c.steps A) (fact_in c.table c.left) (fact_in c.table c.right) (determination_at schema c.table c.key) c.column
   pub lesser : row_cmp c.left c.right ≡ Less
-  pub none : NoneReceives schema (facts I)
+  pub none : NoneReceives schema A
 
 -- why an instance has no chase
 abbrev pub IsFaultOf : List Table → List TableRows → ChaseFault → Type 0
-IsFaultOf schema I (IsOf c) = IsClash schema I c
+IsFaultOf schema I (IsOf c) = IsClash schema (facts I) c
 IsFaultOf schema I Memory = Unit {0}

@@ -1,10 +1,10 @@
 -- Rows that are found for rules: as symbols grow, in order, and how many they are.
-use Rattle.std.proofs.Common.{◌≡◌, ◌↔◌, ◌∙◌, ℕ, zero, suc, ◌+◌, ◌*◌, ◌/◌, ◌<◌, ◌≤◌, ◌⊎◌, List, [], ◌∷◌, ◌++◌, true, inl, inr, refl, sym, ap, subst, arith, length, get_or, take}
+use Rattle.std.proofs.Common.{◌≡◌, ◌↔◌, ◌∙◌, ℕ, zero, suc, ◌+◌, ◌*◌, ◌/◌, ◌-◌, ◌<◌, ◌≤◌, ◌⊎◌, List, [], ◌∷◌, ◌++◌, true, inl, inr, refl, sym, ap, subst, arith, length, get_or, take}
 use Rattle.std.specs.Prelude.{map, slice_index}
 use Rattle.std.specs.List.{AllZip}
 use Rattle.std.specs.declared.cmp.Ordering.TheVariants.{Less}
 use Rattle.std.proofs.lemmas.List.{length-map, take_all, take_more, append_assoc}
-use Rattle.std.proofs.Math.Nat.{mul-le-mul_right}
+use Rattle.std.proofs.Math.Nat.{div-lt_iff_lt-mul, mul-le-mul_right}
 use Rattle.dx_ports.specs.Members.{◌∈◌, ◌⊆◌, here, there, Distinct, Each}
 use Rattle.dx_ports.proofs.Members.{contains_from_in, from_map, in_at, in_map}
 use Rattle.dx_model.specs.declared.facts.Fact.{Fact}
@@ -17,30 +17,24 @@ use Rattle.dx_model.proofs.RowsExist.{rows_exist}
 use Rattle.dx_instance.specs.Cells.{IsOrderOf, NumberTable, NumbersAscend}
 use Rattle.dx_instance.specs.Numbers.{AreApart, Extends, IsOrdering, ValuesAscend, value_of}
 use Rattle.dx_instance.specs.Shown.{AreBelow, renumbered}
+use Rattle.dx_instance.proofs.ShownFacts.{extends_both}
 use Rattle.dx_joins.specs.Shown.{AreTexts, IsShown, MoreTuples, StandFor, is_text, text_in, texts_of}
 use Rattle.dx_joins.proofs.Translating.{distinct_texts}
+use Rattle.dx_joins.proofs.Whole.{stand_grow}
 use Rattle.dx_tgd.specs.Counting.{canonical_cells}
 use Rattle.dx_tgd.specs.Found.{AreFound, IsFoundRule, IsReordered, IsTuple, MoreCells}
 use Rattle.dx_tgd.specs.Placed.{HasCell}
 use Rattle.dx_tgd.specs.Texts.{FitRule, FitRules, tuples_in}
 use Rattle.dx_tgd.proofs.Ascending.{tuples_ascend}
-use Rattle.dx_tgd.proofs.Steps.{texts_there, tuples_grown}
+use Rattle.dx_tgd.proofs.Steps.{tuples_grown}
 
 -- ---- as symbols grow
-
-pub stand_grown : (n : ℕ) (P : Tuple → Type 0) (S T : List Value) (t : NumberTable) → Extends S T → StandFor n P S t → StandFor n P T t
-stand_grown n P S T t e s = record {
-  width = s.width;
-  ascend = s.ascend;
-  texts = λ r m. texts_there S T r e (s.texts r m);
-  exact = λ u. rw (tuples_grown S T t.rows e s.texts) (s.exact u);
-}
 
 pub found_grown : (convert : Conversions) (I : List Fact) (S T : List Value) (R : List Rule) (ts : List NumberTable) → Extends S T → AreFound convert I S R ts → AreFound convert I T R ts
 found_grown convert I S T [] [] e f = tt
 found_grown convert I S T [] (t ∷ ts) e f = absurd f
 found_grown convert I S T (d ∷ R) [] e f = absurd f
-found_grown convert I S T (d ∷ R) (t ∷ ts) e f = (stand_grown (length (exported d)) (IsTuple convert I d) S T t e f.0, found_grown convert I S T R ts e f.1)
+found_grown convert I S T (d ∷ R) (t ∷ ts) e f = (stand_grow (length (exported d)) (IsTuple convert I d) S T t e f.0, found_grown convert I S T R ts e f.1)
 
 pub found_more : (convert : Conversions) (I : List Fact) (S : List Value) (R : List Rule) (ts : List NumberTable) (d : Rule) (t : NumberTable) → AreFound convert I S R ts → IsFoundRule convert I S d t → AreFound convert I S (R ++ d ∷ []) (ts ++ t ∷ [])
 found_more convert I S [] [] d t f g = (g, tt)
@@ -227,9 +221,89 @@ found_cells convert I S (d ∷ R) (t ∷ ts) (us ∷ rows) p f a =
     let rest = found_cells convert I S R ts rows p f.1 a.1 in
     omega (arith, mul-le-mul_right n one, rest)
 
-rows_all_exist : (convert : Conversions) (R : List Rule) (I : List Fact) → Each R IsRule → (rows : Rows) × AreRows convert R I rows
+pub rows_all_exist : (convert : Conversions) (R : List Rule) (I : List Fact) → Each R IsRule → (rows : Rows) × AreRows convert R I rows
 rows_all_exist convert [] I h = ([], tt)
 rows_all_exist convert (d ∷ R) I h =
     let one = rows_exist convert d I (h d (here refl)) in
     let rest = rows_all_exist convert R I (λ e m. h e (there m)) in
     (one.0 ∷ rest.0, (one.1, rest.1))
+
+-- ---- the limit
+
+-- what is known of the rules before one of them: what is found of them, and what they leave of the limit
+pub record FoundSoFar (convert : Conversions) (I : List Fact) (source S : List Value) (R : List Rule) (ts : List NumberTable) (limit left : ℕ) : Type 0 where
+  pub found : AreFound convert I S R ts
+  pub grows : Extends source S
+  pub apart : AreApart S
+  pub cells : canonical_cells R (tuples_in S ts) + left ≡ limit
+
+cells_more : (S : List Value) (R : List Rule) (ts : List NumberTable) (d : Rule) (t : NumberTable) → length R ≡ length ts
+    → canonical_cells (R ++ d ∷ []) (tuples_in S (ts ++ t ∷ [])) ≡ canonical_cells R (tuples_in S ts) + length t.rows * length (cells_of d.conclusion)
+cells_more S [] [] d t e = let l = length-map t.rows (texts_of S) in rw l (omega arith)
+cells_more S [] (u ∷ ts) d t e = absurd (omega (arith, e))
+cells_more S (c ∷ R) [] d t e = absurd (omega (arith, e))
+cells_more S (c ∷ R) (u ∷ ts) d t e = let r = cells_more S R ts d t (omega (arith, e)) in omega (arith, r)
+
+found_long : (convert : Conversions) (I : List Fact) (S : List Value) (R : List Rule) (ts : List NumberTable) → AreFound convert I S R ts → length R ≡ length ts
+found_long convert I S [] [] f = refl
+found_long convert I S [] (t ∷ ts) f = absurd f
+found_long convert I S (d ∷ R) [] f = absurd f
+found_long convert I S (d ∷ R) (t ∷ ts) f = ap suc (found_long convert I S R ts f.1)
+
+-- one rule more
+pub so_far_more : (convert : Conversions) (I : List Fact) (source S T U : List Value) (R : List Rule) (ts us : List NumberTable) (limit left i : ℕ) (d : Rule) (t : NumberTable)
+    → FoundSoFar convert I source S (take i R) ts limit left → i < length R → d ≡ get_or R i d → Extends S T → Extends T U → AreApart U → IsFoundRule convert I U d t → us ≡ ts ++ t ∷ []
+    → length t.rows * length (cells_of d.conclusion) ≤ left → FoundSoFar convert I source U (take (i + 1) R) us limit (left - length t.rows * length (cells_of d.conclusion))
+so_far_more convert I source S T U R ts us limit left i d t k h is e g p f more few =
+    let grown = extends_both S T U e g in
+    let old = found_grown convert I S U (take i R) ts grown k.found in
+    let same = grown_tuples convert I S U (take i R) ts grown k.found in
+    let cells = cells_more U (take i R) ts d t (found_long convert I U (take i R) ts old) in
+    let before : canonical_cells (take i R) (tuples_in U ts) + left ≡ limit = rw same k.cells in
+    let all : take (i + 1) R ≡ take i R ++ d ∷ [] = take_more R i d h ∙ ap (λ (x : Rule). take i R ++ x ∷ []) (sym is) in record {
+      found = rw (all, more) (found_more convert I U (take i R) ts d t old f);
+      grows = extends_both source S U k.grows grown;
+      apart = p;
+      cells = rw (all, more) (omega (arith, cells, before, few));
+    }
+
+-- more tuples of one rule than the rest of the limit leaves room for: the rows of all rules pass it
+pub passes : (convert : Conversions) (I : List Fact) (source S : List Value) (R : List Rule) (ts : List NumberTable) (limit left i : ℕ) (d : Rule) (us : List Tuple)
+    → FoundSoFar convert I source S (take i R) ts limit left → Each R IsRule → i < length R → d ≡ get_or R i d → Distinct us → Each us (IsTuple convert I d) → left < length us * length (cells_of d.conclusion)
+    → MoreCells convert R I limit
+passes convert I source S R ts limit left i d us k rules h is distinct each many =
+    let all = rows_all_exist convert R I rules in record {
+      rows = all.0;
+      are = all.1;
+      more = let n = split R all.0 ts i k.found all.1 h is in let c = k.cells in omega (arith, n, c, many);
+    }
+  where
+    n : ℕ
+    n = length (cells_of d.conclusion)
+
+    one : (ws : List Tuple) → IsRows convert d I ws → length us ≤ length ws
+    one ws a = distinct_few us ws distinct (λ t m. to_shown convert I d ws t a (each t m))
+
+    split : (Q : List Rule) (rows : Rows) (vs : List NumberTable) (j : ℕ) → AreFound convert I S (take j Q) vs → AreRows convert Q I rows → j < length Q → d ≡ get_or Q j d
+        → canonical_cells (take j Q) (tuples_in S vs) + length us * n ≤ canonical_cells Q rows
+    split [] rows vs j f a b e = absurd (omega (arith, b))
+    split (q ∷ Q) [] vs j f a b e = absurd a
+    split (q ∷ Q) (ws ∷ rows) [] zero f a b e =
+        let l = mul-le-mul_right n (one ws (rw e a.0)) in rw (← e) (omega (arith, l))
+    split (q ∷ Q) (ws ∷ rows) (v ∷ vs) zero f a b e = absurd f
+    split (q ∷ Q) (ws ∷ rows) [] (suc j) f a b e = absurd f
+    split (q ∷ Q) (ws ∷ rows) (v ∷ vs) (suc j) f a b e =
+        let l : length (map (texts_of S) v.rows) ≤ length ws = let m = length-map v.rows (texts_of S) in let c = found_few convert I S q v ws k.apart f.0 a.0 in omega (arith, m, c) in
+        let r = split Q rows vs j f.1 a.1 (omega (arith, b)) e in
+        let w = mul-le-mul_right (length (cells_of q.conclusion)) l in
+        omega (arith, r, w)
+
+-- there are more tuples than were asked for
+pub none_passes : (most cells left n : ℕ) → 1 ≤ cells → most ≡ left / cells → most < n → left < n * cells
+none_passes most cells left n some is more = (div-lt_iff_lt-mul {k = cells} {x = left} {y = n} some).0 (rw (← is) more)
+
+pub tuples_distinct : (convert : Conversions) (I : List Fact) (S : List Value) (d : Rule) (t : NumberTable) → AreApart S → IsFoundRule convert I S d t → Distinct (map (texts_of S) t.rows)
+tuples_distinct convert I S d t p s = distinct_texts S t.rows p s.texts s.ascend
+
+pub tuples_shown : (convert : Conversions) (I : List Fact) (S : List Value) (d : Rule) (t : NumberTable) → IsFoundRule convert I S d t → Each (map (texts_of S) t.rows) (IsTuple convert I d)
+tuples_shown convert I S d t s u m = (s.exact u).0 m

@@ -5,6 +5,7 @@ mod RuleRows
 pub mod CanonicalFacts
 pub mod Gaining
 pub mod Saying
+mod Cells
 pub mod Plans
 pub mod Built
 pub mod Steps

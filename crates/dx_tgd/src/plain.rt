@@ -1,6 +1,8 @@
 // The canonical instance, by the plain way: the matches of each rule, and what its conclusion says of them.
 ghost use Rattle.std.specs.Prelude.{◌≡◌, ◌<◌, ◌≤◌, ◌-◌, ◌^◌, ℕ, IfOk, IfErr, length};
 ghost use Rattle.dx_ports.specs.Members.{◌≈◌, Each};
+ghost use Rattle.dx_ports.specs.declared.file.Count.TheVariants.{TargetCells};
+ghost use Rattle.dx_tgd.specs.declared.fault.CanonFault.TheVariants.{Limit as Refused};
 ghost use Rattle.dx_funcs.specs.Offers.{IsListed};
 ghost use Rattle.dx_funcs.specs.Serving.{Serves, offered};
 ghost use Rattle.dx_model.specs.Fitting.{AtomsFitWidths, IsRule};
@@ -52,6 +54,16 @@ fn intern_cells(cells: &[Cell], symbols: &mut Symbols) -> Result<(), AllocError>
     Ok(())
 }
 
+// The limit on canonical cells is passed.
+fn passed(limit: u64) -> CanonFault
+    ensures { result ≡ Refused (record { what = TargetCells; number = limit }) }
+{
+    CanonFault::Limit(Limit {
+        what: Count::TargetCells,
+        number: limit,
+    })
+}
+
 // The matches of each rule, as rows of numbers. A rule may have as many as the limit leaves room for.
 fn found_rules<F: Fn(u32, &Items<Text>) -> Result<Text, AllocError>, M: Meaning>(
     alloc: Global,
@@ -75,18 +87,16 @@ fn found_rules<F: Fn(u32, &Items<Text>) -> Result<Text, AllocError>, M: Meaning>
     for rule in rules {
         let cells = conclusion_cells(rule);
         intern_literals(rule, &mut symbols)?;
-        match rule_rows(alloc, rule, source, &mut symbols, host, left / cells)? {
-            Some(rows) => {
-                left -= rows.count() as u64 * cells;
-                tables.push(rows)?;
-            }
-            None => {
-                return Err(CanonFault::Limit(Limit {
-                    what: Count::TargetCells,
-                    number: limit,
-                }));
-            }
+        let found = rule_rows(alloc, rule, source, &mut symbols, host, left / cells)?;
+        let Some(rows) = found else {
+            return Err(passed(limit));
+        };
+        let used = rows.count() as u64 * cells;
+        if used > left {
+            return Err(passed(limit));
         }
+        left -= used;
+        tables.push(rows)?;
     }
     Ok(Found { symbols, tables })
 }

@@ -2,7 +2,7 @@ use Rattle.std.proofs.Common.{◌≡◌, ◌<◌, ◌≤◌, [], length, arith, 
 use Rattle.std.proofs.lemmas.Bool.{false≢true}
 use Rattle.dx_schema.specs.Tables.{TableOf, tables_of}
 use Rattle.dx_exchange.proofs.Testing.{each_all, each_at, each_at_more, is_empty, not_empty}
-use Rattle.dx_exchange.proofs.plain.is_flat.Goals as goal
+use Rattle.dx_exchange.proofs.flat.is_flat.Goals as goal
 
 pub returns-then-not-is_empty : goal.returns-then-not-is_empty
 returns-then-not-is_empty c =
