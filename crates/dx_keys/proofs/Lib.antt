@@ -6,3 +6,6 @@ pub mod Mapped
 pub mod OfRows
 pub mod Whole
 pub mod Received
+pub mod EndsFound
+pub mod EndsReached
+pub mod EndsAnswered

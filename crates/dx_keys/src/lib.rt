@@ -9,6 +9,7 @@
 
 mod answers;
 mod chasing;
+mod ends;
 mod fault;
 mod laws;
 mod numbering;
@@ -17,5 +18,6 @@ mod tables;
 
 pub use answers::{Chased, Clash, KeyStep};
 pub use chasing::chase;
+pub use ends::every_chase_ends;
 pub use fault::ChaseFault;
 pub use laws::{chased_is_received, rows_chase_facts};
