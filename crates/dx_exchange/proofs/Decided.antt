@@ -30,8 +30,10 @@ use Rattle.dx_model.proofs.Closed.{canonical_fits_closed}
 use Rattle.dx_model.proofs.Orders.{slice_exact, value_exact, value_total}
 use Rattle.dx_model.proofs.ByMembers.{forced_map_by_members, image_by_members, keys_by_members}
 use Rattle.dx_model.proofs.RowsExist.{one_rows}
-use Rattle.dx_keys.specs.Ends.{ChaseEnds}
-use Rattle.dx_keys.proofs.Ends.{chase_ends}
+use Rattle.dx_keys.specs.declared.answers.Clash.{Clash as ClashOf}
+use Rattle.dx_keys.specs.Answers.{IsClash}
+use Rattle.dx_keys.specs.Ends.{EndsInMap}
+use Rattle.dx_keys.proofs.EndsAnswered.{every_chase_answers}
 use Rattle.dx_instance.specs.NullMaps.{pairs_of}
 use Rattle.dx_tgd.proofs.Founds.{rows_all_exist}
 use Rattle.dx_instance.specs.Stored.{TableRows, facts, facts_from, rows_of, widths}
@@ -228,8 +230,8 @@ exchange_or_none convert list source = notions_decided AreAlike (IsPlainAsked li
     never a x Memory g is n = n
 
     ended : (a : Asked) (rows : Rows) → IsPlainAsked list source a → AreRows convert a.rules a.rows rows → canonical_cells a.rules rows ≤ a.limit
-        → ChaseEnds a.schema (canonical 0 a.rules rows) → ((x : Exchange) × IsExchange convert a x) ⊎ ((e : ExFault) × HasNone convert a e)
-    ended a rows g are few (inl k) = inl (exchange_of a rows k.0, is_exchange convert list source a rows k.0 g are few k.1 k.2)
+        → EndsInMap a.schema (canonical 0 a.rules rows) ⊎ ((c : ClashOf) × IsClash a.schema (canonical 0 a.rules rows) c) → ((x : Exchange) × IsExchange convert a x) ⊎ ((e : ExFault) × HasNone convert a e)
+    ended a rows g are few (inl k) = inl (exchange_of a rows k.map, is_exchange convert list source a rows k.map g are few k.forced k.keys)
     ended a rows g are few (inr k) = inr (Clash k.0, has_clash convert a rows (canonical 0 a.rules rows) k.0 are few (λ f m. m) k.1)
 
     either : (a : Asked) → IsPlainAsked list source a → ((x : Exchange) × IsExchange convert a x) ⊎ ((e : ExFault) × HasNone convert a e)
@@ -237,5 +239,5 @@ exchange_or_none convert list source = notions_decided AreAlike (IsPlainAsked li
         let r = rows_all_exist convert a.rules a.rows (λ d m. (g.fits.fit d m).rule) in
         elim (cases_lt a.limit (canonical_cells a.rules r.0)) [
           | inl many ↦ inr (Limit (record { what = TargetCells; number = a.limit }), record { rows = r.0; are = r.1; many = many; said = refl })
-          | inr few ↦ ended a r.0 g r.1 few (chase_ends a.schema (canonical 0 a.rules r.0) (canonical_fits_closed a.schema a.rules r.0 g.fits.closed).0)
+          | inr few ↦ ended a r.0 g r.1 few (every_chase_answers a.schema (canonical 0 a.rules r.0) (canonical_fits_closed a.schema a.rules r.0 g.fits.closed).0)
         ]

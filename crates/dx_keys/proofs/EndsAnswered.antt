@@ -12,7 +12,6 @@ use Rattle.dx_model.specs.Values.{row_cmp, value_cmp}
 use Rattle.dx_model.specs.Chase.{IsClashAt, after}
 use Rattle.dx_model.proofs.Orders.{value_total, value_exact, slice_exact}
 use Rattle.dx_model.proofs.Forced.{clash_after}
-use Rattle.dx_instance.specs.Stored.{TableRows, facts}
 use Rattle.dx_keys.specs.declared.answers.Clash.{Clash}
 use Rattle.dx_keys.specs.Answers.{IsClash, fact_in}
 use Rattle.dx_keys.specs.Ends.{EndsInClash, ClashHasAnswer, EveryChaseAnswers}
@@ -33,10 +32,10 @@ clash_turned schema B a b d c x = record {
   right = x.left;
 }
 
-module _ (schema : List Table) (I : List TableRows) where
+module _ (schema : List Table) (A : List Fact) where
   -- the clash of two facts of which the first is the lesser
-  answered : (E : EndsInClash schema (facts I)) (a b : Fact) → IsClashAt schema (after E.steps (facts I)) a b E.d E.c → row_cmp a.row b.row ≡ Less
-      → (c : Clash) × IsClash schema I c
+  answered : (E : EndsInClash schema A) (a b : Fact) → IsClashAt schema (after E.steps A) a b E.d E.c → row_cmp a.row b.row ≡ Less
+      → (c : Clash) × IsClash schema A c
   answered E a b x less =
       let place = place_of E.d (record { left = []; right = [] }) (table_of schema a.table).determinations x.break.of_table in
       let other : b ≡ fact_in a.table b.row = (λ i. record { table = sym x.break.table i; row = b.row }) in (
@@ -44,25 +43,25 @@ module _ (schema : List Table) (I : List TableRows) where
         record {
           steps = E.are_steps;
           key = place.1;
-          clash = subst (λ d. IsClashAt schema (after E.steps (facts I)) (fact_in a.table a.row) (fact_in a.table b.row) d E.c) (sym place.2)
-              (subst (λ f. IsClashAt schema (after E.steps (facts I)) a f E.d E.c) other x);
+          clash = subst (λ d. IsClashAt schema (after E.steps A) (fact_in a.table a.row) (fact_in a.table b.row) d E.c) (sym place.2)
+              (subst (λ f. IsClashAt schema (after E.steps A) a f E.d E.c) other x);
           lesser = less;
-          none = clash_after schema (facts I) E.steps a b E.d E.c E.are_steps x;
+          none = clash_after schema A E.steps a b E.d E.c E.are_steps x;
         },
       )
 
-  clash_answered : EndsInClash schema (facts I) → (c : Clash) × IsClash schema I c
+  clash_answered : EndsInClash schema A → (c : Clash) × IsClash schema A c
   clash_answered E = by (row_cmp E.a.row E.b.row) refl
     where
-      by : (o : Ordering) → row_cmp E.a.row E.b.row ≡ o → (c : Clash) × IsClash schema I c
+      by : (o : Ordering) → row_cmp E.a.row E.b.row ≡ o → (c : Clash) × IsClash schema A c
       by Less q = answered E E.a E.b E.clash q
       by Equal q = absurd (E.clash.break.differ (ap (λ r. cell r E.c) (slice_exact value_cmp value_exact E.a.row E.b.row q)))
       by Greater q =
-          answered E E.b E.a (clash_turned schema (after E.steps (facts I)) E.a E.b E.d E.c E.clash)
+          answered E E.b E.a (clash_turned schema (after E.steps A) E.a E.b E.d E.c E.clash)
           ((lists_total value_total).antisymm E.b.row E.a.row ∙ ap ordering_reverse q)
 
 pub clash_has_answer : ClashHasAnswer
-clash_has_answer schema I E = clash_answered schema I E
+clash_has_answer schema A E = clash_answered schema A E
 
 pub every_chase_answers : EveryChaseAnswers
-every_chase_answers schema I fits = elim (every_chase_ends schema (facts I) fits) [ inl m ↦ inl m | inr E ↦ inr (clash_has_answer schema I E) ]
+every_chase_answers schema A fits = elim (every_chase_ends schema A fits) [ inl m ↦ inl m | inr E ↦ inr (clash_has_answer schema A E) ]

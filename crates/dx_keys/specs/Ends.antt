@@ -5,7 +5,6 @@ use Rattle.dx_model.specs.declared.facts.NullPair.{NullPair}
 use Rattle.dx_model.specs.Tables.{Table, Determination, IsInstance, KeysHold}
 use Rattle.dx_model.specs.Instances.{image, values}
 use Rattle.dx_model.specs.Chase.{after, AreSteps, IsClashAt, IsForcedMap}
-use Rattle.dx_instance.specs.Stored.{TableRows, facts}
 use Rattle.dx_keys.specs.declared.answers.Clash.{Clash}
 use Rattle.dx_keys.specs.Answers.{IsClash}
 
@@ -38,13 +37,12 @@ EveryChaseEnds = (schema : List Table) (A : List Fact) → IsInstance schema A �
 abbrev pub EndsOnce : Type 0
 EndsOnce = (schema : List Table) (A : List Fact) → IsInstance schema A → EndsInMap schema A → ¬ (EndsInClash schema A)
 
--- each clash of a stored instance has a form in which the chase answers it: by its rows, the lesser first, and the number of its
--- determination
+-- each clash has a form in which the chase answers it: by its rows, the lesser first, and the number of its determination
 abbrev pub ClashHasAnswer : Type 0
-ClashHasAnswer = (schema : List Table) (I : List TableRows) → EndsInClash schema (facts I) → (c : Clash) × IsClash schema I c
+ClashHasAnswer = (schema : List Table) (A : List Fact) → EndsInClash schema A → (c : Clash) × IsClash schema A c
 
--- each stored instance of the schema has a forced map, in whose image keys hold, or a clash that the chase may answer
+-- each instance of the schema has a forced map, in whose image keys hold, or a clash that the chase may answer
 abbrev pub EveryChaseAnswers : Type 0
 EveryChaseAnswers =
-    (schema : List Table) (I : List TableRows) → IsInstance schema (facts I)
-    → EndsInMap schema (facts I) ⊎ ((c : Clash) × IsClash schema I c)
+    (schema : List Table) (A : List Fact) → IsInstance schema A
+    → EndsInMap schema A ⊎ ((c : Clash) × IsClash schema A c)
