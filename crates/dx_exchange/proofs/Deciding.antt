@@ -1,4 +1,4 @@
--- Rows can be exchanged between two schemas, or they can't.
+-- A schema has sets with inner sets, or it has none.
 use Rattle.std.proofs.Common.{◌≡◌, ◌⊎◌, ℕ, suc, ◌+◌, true, false, eqb, List, [], ◌∷◌, length, refl, sym, ◌∙◌, ap, subst, inl, inr}
 use Rattle.std.specs.Prelude.{map}
 use Rattle.std.specs.List.{range_with_len}
@@ -11,7 +11,7 @@ use Rattle.dx_model.specs.declared.rules.Derived.{Derived}
 use Rattle.dx_model.specs.declared.rules.Rule.{Rule}
 use Rattle.dx_schema.specs.Forest.{Forest}
 use Rattle.dx_schema.specs.Tables.{TableOf, tables_of}
-use Rattle.dx_exchange.specs.Flat.{IsPlainForm}
+use Rattle.dx_exchange.specs.Flat.{IsFlat}
 
 abbrev Decided : Type 0 → Type 0
 Decided P = P ⊎ (¬ P)
@@ -33,12 +33,5 @@ empty_decided : {X : Type 0} (xs : List X) → Decided (xs ≡ [])
 empty_decided [] = inl refl
 empty_decided (x ∷ xs) = inr (λ e. cc e)
 
-pub plain_or_not : (source target : Forest) → IsPlainForm source target ⊎ (¬ (IsPlainForm source target))
-plain_or_not source target =
-    of (each_decided (λ (t : TableOf). t.keys ≡ []) (λ t. empty_decided t.keys) (tables_of target))
-    (each_decided (λ (t : TableOf). t.inner ≡ []) (λ t. empty_decided t.inner) (tables_of source))
-  where
-    of : Decided (Each (tables_of target) (λ t. t.keys ≡ [])) → Decided (Each (tables_of source) (λ t. t.inner ≡ [])) → Decided (IsPlainForm source target)
-    of (inl b) (inl c) = inl (record { no_keys = b; flat = c })
-    of (inr n) c = inr (λ p. n p.no_keys)
-    of (inl b) (inr n) = inr (λ p. n p.flat)
+pub flat_or_not : (source : Forest) → IsFlat source ⊎ (¬ (IsFlat source))
+flat_or_not source = each_decided (λ (t : TableOf). t.inner ≡ []) (λ t. empty_decided t.inner) (tables_of source)

@@ -20,7 +20,8 @@ use Rattle.dx_model.specs.Tables.{KeysHold, Table, table_of}
 use Rattle.dx_schema.specs.Forest.{Forest}
 use Rattle.dx_schema.specs.Links.{IsFaultless}
 use Rattle.dx_schema.specs.Tables.{AreTables, TableOf, as_numbers, model_tables, schema_widths, tables_of}
-use Rattle.dx_tgd.specs.Placed.{AtomIsWide, FitsWidths, HasCell}
+use Rattle.dx_model.specs.Fitting.{AtomFitsWidths}
+use Rattle.dx_tgd.specs.Placed.{FitsWidths, HasCell}
 use Rattle.dx_exchange.specs.Exchanging.{Fits}
 
 -- ---- widths
@@ -48,34 +49,3 @@ premise_widths list R source target fits d m a n = atom_wide source a ((fits.fit
 
 pub fit_widths : (list : List Conversion) (R : List Rule) (source : List Table) (target : Forest) → Fits list R source (model_tables target) → Each R (FitsWidths (schema_widths target))
 fit_widths list R source target fits d m a n = atom_wide target a ((fits.fit d m).conclusion a n)
-
--- the conclusion has a cell where each table has a column
-pub has_cells : (list : List Conversion) (R : List Rule) (source : List Table) (target : Forest) → Fits list R source (model_tables target) → Each (schema_widths target) (λ w. 1 ≤ w) → Each R HasCell
-has_cells list R source target fits some d m = first d.conclusion (fits.fit d m).rule.some_conclusion (fits.fit d m).conclusion
-  where
-    at_some : (ws : List ℕ) (t w : ℕ) → Each ws (λ v. 1 ≤ v) → slice_get ws t ≡ Some w → 1 ≤ w
-    at_some [] t w h e = cc
-    at_some (v ∷ ws) zero w h e = let same : v ≡ w = cc in let k = h v (here refl) in omega (arith, k, same)
-    at_some (v ∷ ws) (suc t) w h e = at_some ws t w (λ u n. h u (there n)) e
-
-    first : (atoms : List Atom) → 0 < length atoms → Each atoms (AtomFits (model_tables target)) → 1 ≤ length (cells_of atoms)
-    first [] h f = absurd (omega (arith, h))
-    first (a ∷ atoms) h f =
-        let w = at_some (schema_widths target) a.table (length a.cells) some (atom_wide target a (f a (here refl))) in
-        let e = length-append a.cells (cells_of atoms) in
-        omega (arith, w, e)
-
--- ---- keys
-
-pub no_determinations : (ts : List TableOf) → Each ts (λ t. t.keys ≡ []) → Each (map as_numbers ts) (λ (t : Table). t.determinations ≡ [])
-no_determinations ts h t m =
-    let p = from_map as_numbers ts m in
-    ap (λ (n : Table). n.determinations) (sym p.2) ∙ ap (map _) (h p.0 p.1)
-
-pub keys_hold : (schema : List Table) (K : List Fact) → Each schema (λ (t : Table). t.determinations ≡ []) → KeysHold schema K
-keys_hold schema K none x h y k e d n = elim (rw (at schema x.table none) at n) [ ]
-  where
-    at : (ts : List Table) (t : ℕ) → Each ts (λ (t : Table). t.determinations ≡ []) → (table_of ts t).determinations ≡ []
-    at [] t f = refl
-    at (x ∷ xs) zero f = f x (here refl)
-    at (x ∷ xs) (suc t) f = at xs t (λ y m. f y (there m))

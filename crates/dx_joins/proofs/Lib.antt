@@ -10,6 +10,6 @@ mod Numbers
 mod Pairing
 mod Patterns
 mod Places
-mod Translating
+pub mod Translating
 mod Wanting
-mod Whole
+pub mod Whole

@@ -1,17 +1,18 @@
 -- Rows that are found for rules: as symbols grow, in order, and how many they are.
 use Rattle.std.proofs.Common.{◌≡◌, ◌↔◌, ◌∙◌, ℕ, zero, suc, ◌+◌, ◌*◌, ◌/◌, ◌-◌, ◌<◌, ◌≤◌, ◌⊎◌, List, [], ◌∷◌, ◌++◌, true, inl, inr, refl, sym, ap, subst, arith, length, get_or, take}
-use Rattle.std.specs.Prelude.{map, slice_index}
+use Rattle.std.specs.Prelude.{MatchOption, None, Option, Some, map, slice_get, slice_index}
 use Rattle.std.specs.List.{AllZip}
 use Rattle.std.specs.declared.cmp.Ordering.TheVariants.{Less}
-use Rattle.std.proofs.lemmas.List.{length-map, take_all, take_more, append_assoc}
-use Rattle.std.proofs.Math.Nat.{div-lt_iff_lt-mul, mul-le-mul_right}
+use Rattle.std.proofs.lemmas.List.{append-nil, length-append, length-map, take_more}
+use Rattle.std.proofs.Math.Nat.{div-lt_iff_lt-mul, mul-le-mul, mul-le-mul_right}
 use Rattle.dx_ports.specs.Members.{◌∈◌, ◌⊆◌, here, there, Distinct, Each}
 use Rattle.dx_ports.proofs.Members.{contains_from_in, from_map, in_at, in_map}
 use Rattle.dx_model.specs.declared.facts.Fact.{Fact}
+use Rattle.dx_model.specs.declared.rules.Atom.{Atom}
 use Rattle.dx_model.specs.declared.rules.Rule.{Rule}
 use Rattle.dx_model.specs.declared.values.Value.{Value}
 use Rattle.dx_model.specs.Values.{Conversions, Rows, Tuple, tuple_cmp}
-use Rattle.dx_model.specs.Fitting.{IsRule}
+use Rattle.dx_model.specs.Fitting.{AtomsFitWidths, IsRule}
 use Rattle.dx_model.specs.Rules.{Ascend, AreRows, IsRows, cells_of, exported}
 use Rattle.dx_model.proofs.RowsExist.{rows_exist}
 use Rattle.dx_instance.specs.Cells.{IsOrderOf, NumberTable, NumbersAscend}
@@ -175,6 +176,12 @@ all_rule_rows convert I S [] (t ∷ ts) up f = absurd f
 all_rule_rows convert I S (d ∷ R) [] up f = absurd f
 all_rule_rows convert I S (d ∷ R) (t ∷ ts) up f = (rule_rows convert I S d t up f.0, all_rule_rows convert I S R ts up f.1)
 
+-- the same, of rows that were put in order
+pub ordered_rows : (convert : Conversions) (I J : List Fact) (S T : List Value) (d : Rule) (t u : NumberTable) (tuples : List Tuple) → I ≡ J → IsFoundRule convert I S d t → ValuesAscend T → IsReordered S T t u → tuples ≡ map (texts_of T) u.rows
+    → IsRows convert d J tuples
+ordered_rows convert I J S T d t u tuples same f up r is =
+    rw (is, ← same) (rule_rows convert I T d u up (stand_reordered (length (exported d)) (IsTuple convert I d) S T t u r f))
+
 -- ---- how many they are
 
 -- a list with a member taken out has all others
@@ -307,3 +314,64 @@ tuples_distinct convert I S d t p s = distinct_texts S t.rows p s.texts s.ascend
 
 pub tuples_shown : (convert : Conversions) (I : List Fact) (S : List Value) (d : Rule) (t : NumberTable) → IsFoundRule convert I S d t → Each (map (texts_of S) t.rows) (IsTuple convert I d)
 tuples_shown convert I S d t s u m = (s.exact u).0 m
+
+-- ---- lists side by side
+
+zip_append : {X Y : Type 0} (R : X → Y → Type 0) (xs : List X) (ys : List Y) (x : X) (y : Y) → AllZip R xs ys → R x y → AllZip R (xs ++ x ∷ []) (ys ++ y ∷ [])
+zip_append R [] [] x y z r = (r, tt)
+zip_append R [] (w ∷ ys) x y z r = absurd z
+zip_append R (v ∷ xs) [] x y z r = absurd z
+zip_append R (v ∷ xs) (w ∷ ys) x y z r = (z.0, zip_append R xs ys x y z.1 r)
+
+-- one pair more
+pub zip_more : {X Y : Type 0} (R : X → Y → Type 0) (xs : List X) (ys now : List Y) (i : ℕ) (x : X) (y : Y) → i < length xs → x ≡ get_or xs i x → now ≡ ys ++ y ∷ [] → AllZip R (take i xs) ys → R x y → AllZip R (take (i + 1) xs) now
+zip_more R xs ys now i x y h is e z r = rw (e, take_more xs i x h, ← is) (zip_append R (take i xs) ys x y z r)
+
+-- ---- in order, within the limit
+
+reordered_few : (S T : List Value) (t u : NumberTable) → AreApart T → IsReordered S T t u → length u.rows ≤ length t.rows
+reordered_few S T t u p r =
+    let few = distinct_few (map (texts_of T) u.rows) (map (texts_of S) t.rows) (distinct_texts T u.rows p r.texts r.ascend) (λ s m. (r.same s).0 m) in
+    omega (arith, few, length-map u.rows (texts_of T), length-map t.rows (texts_of S))
+
+pub reordered_cells : (S T : List Value) (R : List Rule) (ts us : List NumberTable) → AreApart T → AllZip (IsReordered S T) ts us → canonical_cells R (tuples_in T us) ≤ canonical_cells R (tuples_in S ts)
+reordered_cells S T [] ts us p z = omega arith
+reordered_cells S T (d ∷ R) [] [] p z = omega arith
+reordered_cells S T (d ∷ R) [] (u ∷ us) p z = absurd z
+reordered_cells S T (d ∷ R) (t ∷ ts) [] p z = absurd z
+reordered_cells S T (d ∷ R) (t ∷ ts) (u ∷ us) p z =
+    let one : length (map (texts_of T) u.rows) ≤ length (map (texts_of S) t.rows) = omega (arith, reordered_few S T t u p z.0, length-map u.rows (texts_of T), length-map t.rows (texts_of S)) in
+    let w = mul-le-mul_right (length (cells_of d.conclusion)) one in
+    let rest = reordered_cells S T R ts us p z.1 in
+    omega (arith, w, rest)
+
+-- ---- conclusions have cells
+
+at_some : (ws : List ℕ) (t w : ℕ) → Each ws (λ v. 1 ≤ v) → slice_get ws t ≡ Some w → 1 ≤ w
+at_some [] t w h e = absurd (cc e)
+at_some (v ∷ ws) zero w h e = let same : v ≡ w = cc e in let k = h v (here refl) in omega (arith, k, same)
+at_some (v ∷ ws) (suc t) w h e = at_some ws t w (λ u n. h u (there n)) e
+
+some_cells : (ws : List ℕ) (atoms : List Atom) → Each ws (λ v. 1 ≤ v) → 0 < length atoms → AtomsFitWidths ws atoms → 1 ≤ length (cells_of atoms)
+some_cells ws [] h k f = absurd (omega (arith, k))
+some_cells ws (a ∷ atoms) h k f =
+    let w = at_some ws a.table (length a.cells) h (f a (here refl)) in
+    omega (arith, w, length-append a.cells (cells_of atoms))
+
+pub have_cells : (ws : List ℕ) (R : List Rule) → Each ws (λ v. 1 ≤ v) → Each R IsRule → Each R (λ d. AtomsFitWidths ws d.conclusion) → Each R HasCell
+have_cells ws R h rules fit d m = some_cells ws d.conclusion h (rules d m).some_conclusion (fit d m)
+
+-- ---- the loop over rules
+
+pub found_start : (convert : Conversions) (I : List Fact) (source S : List Value) (ts : List NumberTable) (limit : ℕ) → S ≡ source → ts ≡ [] → AreApart source → FoundSoFar convert I source S [] ts limit limit
+found_start convert I source S ts limit e f p =
+    rw (e, f) (record { found = tt; grows = record { more = []; is = sym (append-nil source) }; apart = p; cells = omega arith })
+
+pub none_found : (o : Option NumberTable) (P : Type 0) (Q : NumberTable → Type 0) → o ≡ None → MatchOption o P Q → P
+none_found None P Q e m = m
+none_found (Some t) P Q e m = absurd (cc e)
+
+-- a product of two numbers below 2^32
+pub product_fits : (a b : ℕ) → a < 4294967296 → b < 4294967295 → a * b < 18446744073709551616
+product_fits a b h k =
+    let p = mul-le-mul {n₁ = a} {m₁ = b} {n₂ = 4294967295} {m₂ = 4294967294} (omega (arith, h)) (omega (arith, k)) in omega (arith, p)

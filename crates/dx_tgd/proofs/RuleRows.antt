@@ -79,18 +79,6 @@ rule_fits widths d r w =
       short = let k = r.few_cells in let e = exported_few (cells_of d.conclusion) in omega (arith, k, e);
     }
 
--- the tuples that are shown, in order, are the rows of the rule
-pub are_rows : (convert : Conversions) (d : Rule) (I : List Fact) (shown : List ℕ) (S : List Value) (table : NumberTable) (tuples sorted : List Tuple) → shown ≡ exported d
-    → StandFor (length shown) (IsShown convert d.premise d.derived I shown) S table → tuples ≡ map (texts_of S) table.rows → Ascend sorted → ((t : Tuple) → (t ∈ sorted) ↔ (t ∈ tuples)) → IsRows convert d I sorted
-are_rows convert d I shown S table tuples sorted e s is up same = record {
-  ascend = up;
-  exact = λ t. (
-    (λ m. let q = (s.exact t).0 (subst (λ (l : List Tuple). t ∈ l) is ((same t).0 m)) in
-        (q.0, record { premise = q.1.atoms; derived = q.1.derives }, q.2 ∙ ap (map q.0) e)),
-    (λ q. (same t).1 (subst (λ (l : List Tuple). t ∈ l) (sym is) ((s.exact t).1 (q.0, record { atoms = q.1.premise; derives = q.1.derived }, q.2 ∙ ap (map q.0) (sym e))))),
-  );
-}
-
 pub found_rows : (o : Option NumberTable) (r : NumberTable) (P : Type 0) (R : NumberTable → Type 0) → o ≡ Some r → MatchOption o P R → R r
 found_rows None r P R e m = absurd (cc e)
 found_rows (Some s) r P R e m = let d : s ≡ r = cc e in subst R d m
@@ -98,8 +86,3 @@ found_rows (Some s) r P R e m = let d : s ≡ r = cc e in subst R d m
 pub never_full : (o : Option NumberTable) (Q : Tuple → Type 0) (R : NumberTable → Type 0) → o ≡ None → MatchOption o (MoreTuples 18446744073709551615 Q) R → ⊥
 never_full None Q R e m = let a = m.more in let b = m.few in absurd (omega (arith, a, b))
 never_full (Some r) Q R e m = absurd (cc e)
-
--- a number of a row of texts
-pub one_text : (S : List Value) (row : List ℕ) (i : ℕ) → i < length row → AreTexts S row → AreTexts S (get_or row i 0 ∷ [])
-one_text S row i h t n (here e) = subst (λ (k : ℕ). (k < length S) × (is_text (value_of S k) ≡ true)) e (t (get_or row i 0) (in_at row i 0 h))
-one_text S row i h t n (there m) = elim m [ ]

@@ -19,7 +19,8 @@ use Rattle.dx_instance.proofs.StoredFacts.{fact_from_row, row_from_fact}
 use Rattle.dx_tgd.specs.declared.planned.PlannedAtom.{PlannedAtom}
 use Rattle.dx_tgd.specs.Counting.{canonical_cells}
 use Rattle.dx_tgd.specs.Gained.{Gains, HasRoom}
-use Rattle.dx_tgd.specs.Placed.{AtomIsWide, FitsWidths}
+use Rattle.dx_model.specs.Fitting.{AtomFitsWidths}
+use Rattle.dx_tgd.specs.Placed.{FitsWidths}
 use Rattle.dx_tgd.specs.Planned.{CanStand, IsPlannedAtom, planned_fact}
 use Rattle.dx_joins.specs.Shown.{AreTexts, is_text, text_in, texts_of}
 use Rattle.dx_tgd.specs.Texts.{FitRule, FitRules, tuples_in}
@@ -77,7 +78,7 @@ module _ (S T L : List Value) (i : ℕ) (d : Rule) (t : NumberTable) (n k : ℕ)
       ap (λ (U : List Value). map (planned_fact U row k) ps) a.same ∙ plan_says T i d n k row ps d.conclusion stands_at a.plan
       ∙ ap (λ (u : Tuple). at_place i d k u) (texts_grown S T row a.grows texts_at)
 
-  one_stands : (ws : List ℕ) (p : PlannedAtom) (b : Atom) → IsPlannedAtom T i (exported d) n p b → AtomIsWide ws b → CanStand ws (length T) row k p
+  one_stands : (ws : List ℕ) (p : PlannedAtom) (b : Atom) → IsPlannedAtom T i (exported d) n p b → AtomFitsWidths ws b → CanStand ws (length T) row k p
   one_stands ws p b z w =
       let c = cells_stand T i d n k row p.cells.items b.cells stands_at z.cells in
       record {
@@ -86,7 +87,7 @@ module _ (S T L : List Value) (i : ℕ) (d : Rule) (t : NumberTable) (n k : ℕ)
         below = λ x m. (c.0 x m).1;
       }
 
-  all_stand : (ws : List ℕ) (qs : List PlannedAtom) (atoms : List Atom) → AllZip (IsPlannedAtom T i (exported d) n) qs atoms → Each atoms (AtomIsWide ws) → Each qs (CanStand ws (length T) row k)
+  all_stand : (ws : List ℕ) (qs : List PlannedAtom) (atoms : List Atom) → AllZip (IsPlannedAtom T i (exported d) n) qs atoms → Each atoms (AtomFitsWidths ws) → Each qs (CanStand ws (length T) row k)
   all_stand ws [] atoms z f p m = elim m [ ]
   all_stand ws (q ∷ qs) [] z f p m = absurd z
   all_stand ws (q ∷ qs) (b ∷ atoms) z f p (here e) = subst (CanStand ws (length T) row k) e (one_stands ws q b z.0 (f b (here refl)))

@@ -1,12 +1,12 @@
 -- Rules, places and nulls that are there.
-use Rattle.std.specs.Prelude.{◌≡◌, ◌<◌, ◌≤◌, ℕ, List, [], ◌∷◌, length, Some, slice_get, slice_index_or}
+use Rattle.std.specs.Prelude.{◌≡◌, ◌<◌, ◌≤◌, ℕ, List, [], ◌∷◌, length, slice_index_or}
 use Rattle.dx_model.specs.declared.values.NullId.{NullId}
 use Rattle.dx_model.specs.declared.values.Value.{Value}
 use Rattle.dx_model.specs.declared.values.Value.TheVariants.{Null}
 use Rattle.dx_model.specs.declared.facts.Fact.{Fact}
-use Rattle.dx_model.specs.declared.rules.Atom.{Atom}
 use Rattle.dx_model.specs.declared.rules.Rule.{Rule}
 use Rattle.dx_ports.specs.Members.{◌∈◌, Each}
+use Rattle.dx_model.specs.Fitting.{AtomsFitWidths}
 use Rattle.dx_model.specs.Values.{Tuple, Rows}
 use Rattle.dx_model.specs.Rules.{canonical, cells_of, exported}
 
@@ -14,13 +14,9 @@ use Rattle.dx_model.specs.Rules.{canonical, cells_of, exported}
 abbrev pub null_at : ℕ → ℕ → ℕ → Value
 null_at rule place v = Null (record { rule = rule; var = v; row = place })
 
--- the atom is of a table with as many columns as it has cells
-abbrev pub AtomIsWide : List ℕ → Atom → Type 0
-AtomIsWide widths a = slice_get widths a.table ≡ Some (length a.cells)
-
 -- the atoms of the conclusion are of tables with as many columns as they have cells
 abbrev pub FitsWidths : List ℕ → Rule → Type 0
-FitsWidths widths d = Each d.conclusion (AtomIsWide widths)
+FitsWidths widths d = AtomsFitWidths widths d.conclusion
 
 -- the conclusion has a cell
 abbrev pub HasCell : Rule → Type 0

@@ -8,7 +8,7 @@ ghost use Rattle.dx_funcs.specs.Serving.{Serves, offered};
 ghost use Rattle.dx_model.specs.Fitting.{AtomsFitWidths, IsRule};
 ghost use Rattle.dx_model.specs.Rules.{AreRows, canonical};
 ghost use Rattle.dx_model.specs.Values.{RowsAscend};
-ghost use Rattle.dx_instance.specs.Numbers.{Extends};
+ghost use Rattle.dx_instance.specs.Numbers.{AreApart, Extends};
 ghost use Rattle.dx_instance.specs.Shown.{shown_tables};
 ghost use Rattle.dx_instance.specs.Stored.{facts, rows_of, widths};
 ghost use Rattle.dx_schema.specs.Tables.{schema_widths};
@@ -34,7 +34,9 @@ use std::alloc::{AllocError, Global};
 
 // The literals of a conclusion become symbols, so that nothing but nulls is new later.
 fn intern_literals(rule: &Rule, symbols: &mut Symbols) -> Result<(), AllocError>
-    ensures { Extends symbols.old symbols.new }
+    requires { AreApart symbols.old }
+    ensures grows { Extends symbols.old symbols.new }
+    ensures apart { AreApart symbols.new }
 {
     for atom in rule.conclusion.items() {
         intern_cells(atom.cells.items(), symbols)?;
@@ -44,7 +46,9 @@ fn intern_literals(rule: &Rule, symbols: &mut Symbols) -> Result<(), AllocError>
 
 // The literals among these cells become symbols.
 fn intern_cells(cells: &[Cell], symbols: &mut Symbols) -> Result<(), AllocError>
-    ensures { Extends symbols.old symbols.new }
+    requires { AreApart symbols.old }
+    ensures grows { Extends symbols.old symbols.new }
+    ensures apart { AreApart symbols.new }
 {
     for cell in cells {
         if let Cell::Lit(text) = cell {
@@ -77,6 +81,7 @@ fn found_rules<F: Fn(u32, &Items<Text>) -> Result<Text, AllocError>, M: Meaning>
     requires rules { Each rules.now IsRule }
     requires premises { Each rules.now (λ d. AtomsFitWidths (widths (shown_tables source.now.symbols source.now.tables)) d.premise) }
     requires cells { Each rules.now HasCell }
+    requires apart { AreApart source.now.symbols }
     ensures found { IfOk result (λ f. AreFound M.apply (facts (shown_tables source.now.symbols source.now.tables)) f.symbols rules.now f.tables.items) }
     ensures within { IfOk result (λ f. canonical_cells rules.now (tuples_in f.symbols f.tables.items) ≤ limit) }
     ensures refused { IfErr result (IsRefusal M.apply rules.now (facts (shown_tables source.now.symbols source.now.tables)) limit) }
@@ -141,10 +146,10 @@ pub fn canonical_plain<F: Fn(u32, &Items<Text>) -> Result<Text, AllocError>, M: 
     ensures ascend { IfOk result (λ m. (t : ℕ) → RowsAscend (rows_of m.instance t)) }
     ensures refused { IfErr result (IsRefusal M.apply rules.now (facts source.now) limit) }
 {
+    let columns = target.widths(alloc)?;
     let found = found_rules(alloc, rules, &source.numbers(), host, limit)?;
     let Found { symbols, tables } = found.in_order(alloc)?;
     let matches = matches_of(alloc, &tables, &symbols)?;
-    let columns = target.widths(alloc)?;
     let instance = canonical_of_rows(alloc, rules, &tables, symbols, &columns)?;
     Ok(Made { instance, matches })
 }
