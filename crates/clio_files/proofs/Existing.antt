@@ -83,7 +83,7 @@ nulls_exist T =
     )
 
 pub files_exist : FilesExist
-files_exist R target e fits tables wide =
+files_exist source target list R e fits tables wide =
     let fs = table_files 0 (tables_of target) e.target fits.no_marks (λ t m. (tables.each_table t m).some_column) (λ t row m. wide _ (fact_from_row e.target t row m)) in
     let ns = nulls_exist (facts e.target) in
     (_, record { tables = fs.0; tables_are = fs.1; nulls = ns.0; nulls_are = ns.1; is = refl })

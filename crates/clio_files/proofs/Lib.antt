@@ -1,3 +1,4 @@
 pub mod SheetNulls
 pub mod SheetLists
+pub mod TextFiles
 pub mod Existing

@@ -16,7 +16,7 @@ use Rattle.clio_files.specs.Printing.{AreRecords}
 use Rattle.dx_model.specs.Values.{Text, Rows}
 use Rattle.dx_instance.specs.Stored.{TableRows, rows_of}
 use Rattle.dx_schema.specs.Tables.{TableOf}
-use Rattle.clio_files.specs.declared.printing.Printed.{Printed}
+use Rattle.clio_files.specs.declared.printed.Printed.{Printed}
 use Rattle.clio_files.specs.Files.{AreTableFiles, IsTableFile, files_of, line_of, seen, summary_of}
 use Rattle.clio_files.specs.Sheets.{Sheet, Told, exported_names, file_of, fold_sheet, nulls_sheet, rule_of, term_records, texts_of}
 
@@ -54,7 +54,7 @@ two_more ps qs rs a b s t f g d h =
 
 -- ---- tables, one by one
 
-are_more : (n : ℕ) (ts : List TableOf) (T : List TableRows) (fs : List Told) (t : TableOf) (f : Told) → AreTableFiles n ts T fs → IsTableFile t (rows_of T (n + length ts)) f
+pub are_more : (n : ℕ) (ts : List TableOf) (T : List TableRows) (fs : List Told) (t : TableOf) (f : Told) → AreTableFiles n ts T fs → IsTableFile t (rows_of T (n + length ts)) f
     → AreTableFiles n (ts ++ t ∷ []) T (fs ++ f ∷ [])
 are_more n [] T [] t f h k = let e : n + 0 ≡ n = omega arith in (subst (λ m. IsTableFile t (rows_of T m) f) e k, tt)
 are_more n [] T (g ∷ fs) t f h k = absurd h
@@ -62,7 +62,7 @@ are_more n (u ∷ ts) T [] t f h k = absurd h
 are_more n (u ∷ ts) T (g ∷ fs) t f h k =
     let e : n + length (u ∷ ts) ≡ suc n + length ts = omega arith in (h.0, are_more (suc n) ts T fs t f h.1 (subst (λ m. IsTableFile t (rows_of T m) f) e k))
 
-length_take : (ts : List TableOf) (i : ℕ) → i < length ts → length (take i ts) ≡ i
+pub length_take : (ts : List TableOf) (i : ℕ) → i < length ts → length (take i ts) ≡ i
 length_take [] i h = absurd (omega (arith, h))
 length_take (t ∷ ts) zero h = refl
 length_take (t ∷ ts) (suc i) h = ap suc (length_take ts i (omega (arith, h)))

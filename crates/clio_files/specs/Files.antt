@@ -15,12 +15,14 @@ use Rattle.dx_instance.specs.Stored.{TableRows, facts, rows_of, widths}
 use Rattle.dx_schema.specs.Forest.{Forest}
 use Rattle.dx_schema.specs.Tables.{TableOf, schema_widths, tables_of}
 use Rattle.dx_csv.specs.Print.{HasNoMark, IsTableText}
+use Rattle.dx_funcs.specs.declared.conversion.Conversion.{Conversion}
 use Rattle.dx_tgd.specs.Counting.{rows_in}
 use Rattle.dx_tgd.specs.Placed.{FitTuples, HasPlace}
 use Rattle.dx_exchange.specs.declared.result.Exchange.{Exchange}
 use Rattle.clio_source.specs.Source.{csv_name}
-use Rattle.clio_files.specs.declared.printing.Printed.{Printed}
+use Rattle.clio_files.specs.declared.printed.Printed.{Printed}
 use Rattle.clio_files.specs.Sheets.{AreNulls, Told, file_of, fold_sheet, nulls_sheet}
+use Rattle.clio_files.specs.Texts.{texts_told}
 
 -- the file of a table: its text, with as many records as it has rows
 pub record IsTableFile (t : TableOf) (rows : List (List Value)) (f : Told) : Type 0 where
@@ -35,13 +37,13 @@ AreTableFiles n [] T (f ∷ fs) = ⊥
 AreTableFiles n (t ∷ ts) T [] = ⊥
 AreTableFiles n (t ∷ ts) T (f ∷ fs) = IsTableFile t (rows_of T n) f × AreTableFiles (suc n) ts T fs
 
--- the files of an exchange: each target table, what the nulls of the target stand for, and the fold
-pub record AreFiles (R : List Rule) (target : Forest) (e : Exchange) (files : List Told) : Type 0 where
+-- the files of an exchange: the rules, their script, each target table, what the nulls of the target stand for, and the fold
+pub record AreFiles (source target : Forest) (list : List Conversion) (R : List Rule) (e : Exchange) (files : List Told) : Type 0 where
   pub tables : List Told
   pub tables_are : AreTableFiles 0 (tables_of target) e.target tables
   pub nulls : List NullId
   pub nulls_are : AreNulls (facts e.target) nulls
-  pub is : files ≡ tables ++ file_of (nulls_sheet R (rows_in e.matches) nulls) ∷ file_of (fold_sheet (pairs_of e.fold)) ∷ []
+  pub is : files ≡ texts_told source target list R ++ (tables ++ file_of (nulls_sheet R (rows_in e.matches) nulls) ∷ file_of (fold_sheet (pairs_of e.fold)) ∷ [])
 
 -- the files by names and bytes
 abbrev pub files_of : List Told → List Entry
@@ -54,6 +56,10 @@ line_of f = f.name ++ (codes " " ++ (decimal f.count ++ codes "\n"))
 -- the summary: a line for each file
 abbrev pub summary_of : List Told → Text
 summary_of files = flat_map line_of files
+
+-- the bytes of the files, one after the other
+abbrev pub contents_of : List Told → Text
+contents_of files = flat_map (λ (f : Told). f.bytes) files
 
 -- The target has the tables of its schema; no table's text begins with a byte order mark; and for each null of the target the
 -- matches have its place, with a text for each exported variable of its rule.

@@ -2,6 +2,7 @@
 use Rattle.std.specs.Prelude.{List, ◌≤◌, length}
 use Rattle.dx_ports.specs.Members.{Each}
 use Rattle.dx_model.specs.declared.rules.Rule.{Rule}
+use Rattle.dx_funcs.specs.declared.conversion.Conversion.{Conversion}
 use Rattle.dx_instance.specs.Stored.{facts}
 use Rattle.dx_schema.specs.Forest.{Forest}
 use Rattle.dx_schema.specs.Tables.{AreTables, tables_of}
@@ -12,5 +13,5 @@ use Rattle.clio_files.specs.Sheets.{Told}
 -- an exchange that fits its schema has files
 abbrev pub FilesExist : Type 0
 FilesExist =
-    (R : List Rule) (target : Forest) (e : Exchange) → FitsFiles R target e → AreTables (tables_of target)
-    → Each (facts e.target) (λ f. 1 ≤ length f.row) → (files : List Told) × AreFiles R target e files
+    (source target : Forest) (list : List Conversion) (R : List Rule) (e : Exchange) → FitsFiles R target e → AreTables (tables_of target)
+    → Each (facts e.target) (λ f. 1 ≤ length f.row) → (files : List Told) × AreFiles source target list R e files

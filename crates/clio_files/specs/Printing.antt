@@ -1,8 +1,12 @@
--- Records that are printed one by one.
-use Rattle.std.specs.Prelude.{◌≡◌, List, [], length}
+-- Records that are printed one by one, and files that are added.
+use Rattle.std.specs.Prelude.{◌≡◌, List, [], ◌++◌, length}
 use Rattle.dx_model.specs.Values.{Text}
+use Rattle.dx_instance.specs.Stored.{TableRows}
+use Rattle.dx_schema.specs.Tables.{TableOf}
 use Rattle.dx_csv.specs.Lines.{HavePrinted}
 use Rattle.clio_files.specs.declared.records.Records.{Records}
+use Rattle.clio_files.specs.Files.{AreTableFiles}
+use Rattle.clio_files.specs.Sheets.{Told}
 
 -- these records are printed whole, and of the next one these fields; the records are counted
 pub record HasFields (r : Records) (records : List (List Text)) (fields : List Text) : Type 0 where
@@ -12,3 +16,9 @@ pub record HasFields (r : Records) (records : List (List Text)) (fields : List T
 -- these records are printed whole, and nothing of the next one
 abbrev pub AreRecords : Records → List (List Text) → Type 0
 AreRecords r records = HasFields r records []
+
+-- the files of these tables are added
+pub record AddsTables (ts : List TableOf) (T : List TableRows) (old new : List Told) : Type 0 where
+  pub tables : List Told
+  pub are : AreTableFiles 0 ts T tables
+  pub is : new ≡ old ++ tables

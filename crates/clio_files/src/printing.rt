@@ -11,30 +11,28 @@ ghost use Rattle.dx_instance.specs.Stored.{facts, rows_of, widths};
 ghost use Rattle.dx_instance.specs.ValueText.{const_text, null_text, value_text_of};
 ghost use Rattle.dx_schema.specs.Tables.{schema_widths, table_at, tables_of};
 ghost use Rattle.dx_csv.specs.Print.{HasNoMark};
+ghost use Rattle.dx_funcs.specs.Serving.{offered};
 ghost use Rattle.dx_tgd.specs.Counting.{rows_in};
 ghost use Rattle.dx_tgd.specs.Placed.{HasPlace};
-ghost use Rattle.clio_files.specs.Files.{AreFiles, AreTableFiles, FitsFiles, IsTableFile, files_of, nulls_in, seen, summary_of};
-ghost use Rattle.clio_files.specs.Printing.{AreRecords};
+ghost use Rattle.clio_files.specs.Files.{AreFiles, FitsFiles, IsTableFile, contents_of, files_of, nulls_in, seen, summary_of};
+ghost use Rattle.clio_files.specs.Printing.{AddsTables, AreRecords};
 ghost use Rattle.clio_files.specs.Sheets.{AreNulls, Sheet, exported_names, file_of, fold_sheet, nulls_sheet, term_records, texts_of, variable_text};
+ghost use Rattle.clio_files.specs.Texts.{FitTexts, texts_told};
 ghost use Rattle.clio_source.specs.Source.{csv_name};
 
+use crate::printed::Printed;
 use crate::records::Records;
+use crate::texts::print_texts;
 use clio_source::file_name;
 use dx_csv::print_table_bytes;
 use dx_exchange::Exchange;
+use dx_funcs::{Host, Meaning};
 use dx_instance::{Instance, NullMap, Numbers};
 use dx_model::{Matches, NullId, NullPair, Rule, Value};
 use dx_ports::{File, Items, Text};
 use dx_schema::Schema;
 use dx_tgd::exported;
 use std::alloc::{AllocError, Global};
-
-/// A file, and how many things stand in it, as its kind counts them: of a table and of nulls the records under the header.
-#[derive(Drop)]
-pub struct Printed {
-    pub file: File,
-    pub count: u64,
-}
 
 // A table of the target.
 fn table_file(
@@ -58,21 +56,21 @@ fn table_file(
     })
 }
 
-// The tables of the target, in order.
-fn table_files(
+// Adds the files of the target's tables, in order.
+fn push_tables(
     alloc: Global,
     schema: &Schema,
     target: &Instance,
-) -> Result<Vec<Printed>, AllocError>
+    files: &mut Vec<Printed>,
+) -> Result<(), AllocError>
     requires widths { widths target.now ≡ schema_widths schema.now }
     requires no_marks { Each (tables_of schema.now) (λ t. HasNoMark t.columns) }
-    ensures { IfOk result (λ ps. AreTableFiles 0 (tables_of schema.now) target.now (map seen ps.items)) }
+    ensures { OnOk result (AddsTables (tables_of schema.now) target.now (map seen files.old.items) (map seen files.new.items)) }
 {
-    let mut files = Vec::new(alloc);
     for table in 0..schema.tables() {
         files.push(table_file(alloc, schema, target, table)?)?;
     }
-    Ok(files)
+    Ok(())
 }
 
 // The nulls of a row of numbers.
@@ -270,22 +268,30 @@ fn fold_file(alloc: Global, fold: &NullMap) -> Result<Printed, AllocError>
     sheet_file(alloc, "fold.csv", records)
 }
 
-/// The files of an exchange, in order.
+/// The files of an exchange, in order: the rules, their script, each target table, what the nulls of the target stand for, and
+/// the fold.
 ///
 /// # Errors
 ///
 /// Out of memory.
-pub fn print_files(
+pub fn print_files<F, M>(
     alloc: Global,
     rules: &[Rule],
-    schema: &Schema,
+    source: &Schema,
+    target: &Schema,
     exchange: &Exchange,
+    host: &Host<F, M>,
 ) -> Result<Vec<Printed>, AllocError>
-    requires { FitsFiles rules.now schema.now exchange.now }
-    ensures { IfOk result (λ ps. AreFiles rules.now schema.now exchange.now (map seen ps.items)) }
+where
+    F: Fn(u32, &Items<Text>) -> Result<Text, AllocError>,
+    M: Meaning,
+    requires texts { FitTexts source.now target.now (offered host.now) rules.now }
+    requires fits { FitsFiles rules.now target.now exchange.now }
+    ensures { IfOk result (λ ps. AreFiles source.now target.now (offered host.now) rules.now exchange.now (map seen ps.items)) }
 {
     let nulls = nulls_of(alloc, &exchange.target)?;
-    let mut printed = table_files(alloc, schema, &exchange.target)?;
+    let mut printed = print_texts(alloc, rules, source, target, host)?;
+    push_tables(alloc, target, &exchange.target, &mut printed)?;
     printed.push(nulls_file(alloc, rules, &exchange.matches, &nulls)?)?;
     printed.push(fold_file(alloc, &exchange.fold)?)?;
     Ok(printed)
@@ -311,6 +317,21 @@ pub fn summary(alloc: Global, printed: &[Printed]) -> Result<Vec<u8>, AllocError
     let mut text = Vec::new(alloc);
     for one in printed {
         text.extend_from_slice(line(alloc, one)?.as_bytes())?;
+    }
+    Ok(text)
+}
+
+/// The bytes of the files, one after the other.
+///
+/// # Errors
+///
+/// Out of memory.
+pub fn contents(alloc: Global, printed: &[Printed]) -> Result<Vec<u8>, AllocError>
+    ensures { IfOk result (λ text. text.items ≡ contents_of (map seen printed.now)) }
+{
+    let mut text = Vec::new(alloc);
+    for one in printed {
+        text.extend_from_slice(one.file.bytes.as_slice())?;
     }
     Ok(text)
 }

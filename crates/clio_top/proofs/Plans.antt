@@ -4,10 +4,8 @@ use Rattle.std.specs.Prelude.{◌==◌, map}
 use Rattle.std.proofs.lemmas.List.{length-map}
 use Rattle.std.proofs.lemmas.Bool.{cases_Bool, eqb-true}
 use Rattle.csv.specs.Reading.{strip_bom}
-use Rattle.dx_funcs.specs.declared.conversion.Conversion.{Conversion}
-use Rattle.dx_rule_text.specs.Printed.{AreListed}
 use Rattle.dx_ports.specs.Members.{◌∈◌, Each, here, there}
-use Rattle.dx_ports.proofs.Members.{from_append, from_flat_map, from_map, in_map}
+use Rattle.dx_ports.proofs.Members.{from_append, from_flat_map, from_map}
 use Rattle.dx_model.specs.declared.facts.Fact.{Fact}
 use Rattle.dx_model.specs.declared.rules.Rule.{Rule}
 use Rattle.dx_model.specs.Tables.{Table, table_of}
@@ -38,6 +36,7 @@ use Rattle.clio_accept.specs.Laws.{MappingFits}
 use Rattle.clio_source.specs.declared.fault.SourceRefusal.{SourceRefusal}
 use Rattle.clio_source.specs.Source.{source_stages}
 use Rattle.clio_files.specs.Files.{FitsFiles}
+use Rattle.clio_files.specs.Texts.{FitTexts}
 use Rattle.clio_top.specs.declared.command.Command.{Command}
 use Rattle.clio_top.specs.declared.ending.Done.{Done}
 use Rattle.clio_top.specs.declared.ending.Refusal.{Refusal}
@@ -91,11 +90,8 @@ no_marks f h t m =
 pub rules_fit : (P : Program) (M : Mapping) → MappingFits P.list M → Fits P.list M.rules (model_tables M.source) (model_tables M.target)
 rules_fit P M h = record { few = h.few; listed = h.listed; fit = h.fit; closed = h.closed }
 
--- the conversions of the rules are listed by their codes
-pub codes_listed : (P : Program) (M : Mapping) → MappingFits P.list M → Each M.rules (λ d. AreListed P.list d.derived)
-codes_listed P M h d m e n =
-    let l = h.listed d m e n in
-    subst (λ code. code ∈ map (λ (c : Conversion). c.code) P.list) l.2 (in_map (λ (c : Conversion). c.code) l.1)
+pub texts_fit : (P : Program) (M : Mapping) → MappingFits P.list M → FitTexts M.source M.target P.list M.rules
+texts_fit P M h = let few = h.few in record { few = omega (arith, few); fit = h.fit; listed = h.listed }
 
 pub files_fit : (P : Program) (M : Mapping) (I : List TableRows) (e : Exchange) → MappingFits P.list M → IsExchange P.apply (asked (M, I)) e → FitsFiles M.rules M.target e
 files_fit P M I e h x = record {

@@ -94,14 +94,14 @@ AreReady P p = IsReady P p.0
 plain_asked : (P : Program) (p : Mapping × List TableRows) → AreReady P p → IsPlainAsked P.list (model_tables p.0.source) (asked p)
 plain_asked P p r = record { fits = rules_fit P p.0 r.fits; no_keys = no_determinations (tables_of p.0.target) r.plain.no_keys; mode = refl }
 
-plan_exists : (P : Program) (p : Mapping × List TableRows) (e : Exchange) → AreReady P p → IsExchange P.apply (asked p) e → (plan : Planned Done) × IsPlanOf p.0 e plan
+plan_exists : (P : Program) (p : Mapping × List TableRows) (e : Exchange) → AreReady P p → IsExchange P.apply (asked p) e → (plan : Planned Done) × IsPlanOf P p.0 e plan
 plan_exists P p e r x =
-    let fs = files_exist p.0.rules p.0.target e (files_fit P p.0 p.1 e r.fits x) (are_tables p.0.target r.fits.target.form) (facts_wide P p.0 p.1 e r.fits x) in
+    let fs = files_exist p.0.source p.0.target P.list p.0.rules e (files_fit P p.0 p.1 e r.fits x) (are_tables p.0.target r.fits.target.form) (facts_wide P p.0 p.1 e r.fits x) in
     (_, (fs.0, fs.1, refl))
 
 target_decided : (P : Program) → IsDecided Same (AreReady P) (target_stages P)
 target_decided P =
-    become_decided Same (AreReady P) (λ p e plan. IsPlanOf p.0 e plan) (over asked (saying exchange_refusal (exchanging P.apply))) (λ c p e r x. plan_exists P p e r x) decided
+    become_decided Same (AreReady P) (λ p e plan. IsPlanOf P p.0 e plan) (over asked (saying exchange_refusal (exchanging P.apply))) (λ c p e r x. plan_exists P p e r x) decided
   where
     asked_decided : (source : _) → IsDecided Same (IsPlainAsked P.list source) (saying exchange_refusal (exchanging P.apply))
     asked_decided source = saying_decided (λ e k. e ≡ k) Same (IsPlainAsked P.list source) exchange_refusal (exchanging P.apply) (λ e k is. ap exchange_refusal is) (exchange_or_limit P.apply P.list source)

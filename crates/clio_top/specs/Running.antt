@@ -6,7 +6,6 @@ use Rattle.dx_funcs.specs.declared.conversion.Conversion.{Conversion}
 use Rattle.dx_instance.specs.Stored.{TableRows, facts}
 use Rattle.dx_schema.specs.Forest.{Forest}
 use Rattle.dx_schema.specs.Tables.{model_tables}
-use Rattle.dx_rule_text.specs.Printed.{rules_text}
 use Rattle.dx_exchange.specs.declared.mode.Mode.TheVariants.{Plain}
 use Rattle.dx_exchange.specs.declared.result.Exchange.{Exchange}
 use Rattle.dx_exchange.specs.Exchanging.{Asked, exchanging}
@@ -17,8 +16,9 @@ use Rattle.clio_accept.specs.declared.mapping.Mapping.{Mapping}
 use Rattle.clio_accept.specs.declared.fault.MapFault.TheVariants as map_faults
 use Rattle.clio_accept.specs.Accepting.{accepting}
 use Rattle.clio_source.specs.Source.{source_stages}
-use Rattle.clio_files.specs.Files.{AreFiles, files_of, summary_of}
+use Rattle.clio_files.specs.Files.{AreFiles, contents_of, files_of, summary_of}
 use Rattle.clio_files.specs.Sheets.{Told}
+use Rattle.clio_files.specs.Texts.{texts_told}
 use Rattle.clio_top.specs.declared.command.Command.{Command}
 use Rattle.clio_top.specs.declared.command.Command.TheVariants.{Exchanging, Showing}
 use Rattle.clio_top.specs.declared.ending.Done.{Done}
@@ -68,21 +68,22 @@ abbrev pub asked : Mapping × List TableRows → Asked
 asked p = record { rules = p.0.rules; schema = model_tables p.0.target; rows = facts p.1; mode = Plain; limit = target_cells }
 
 -- what is written of an exchange: its files, and their summary
-abbrev pub IsPlanOf : Mapping → Exchange → Planned Done → Type 0
-IsPlanOf M e plan = (files : List Told) × AreFiles M.rules M.target e files × (plan ≡ record { done = Exchanged e; files = files_of files; text = summary_of files })
+abbrev pub IsPlanOf : Program → Mapping → Exchange → Planned Done → Type 0
+IsPlanOf P M e plan =
+    (files : List Told) × AreFiles M.source M.target P.list M.rules e files × (plan ≡ record { done = Exchanged e; files = files_of files; text = summary_of files })
 
 -- the exchange of the rows, and what is written of it
 abbrev pub target_stages : Program → Stage Refusal (Mapping × List TableRows) (Planned Done)
-target_stages P = become (λ p e plan. IsPlanOf p.0 e plan) (over asked (saying exchange_refusal (exchanging P.apply)))
+target_stages P = become (λ p e plan. IsPlanOf P p.0 e plan) (over asked (saying exchange_refusal (exchanging P.apply)))
 
 abbrev pub exchange_stages : Program → Stage Refusal (Unit {0}) (Planned Done)
 exchange_stages P = next (mapping_stages P) (next form (next rows_stages (target_stages P)))
 
 -- ---- showing
 
--- what is said of a mapping that is shown: the text of its rules
+-- what is said of a mapping that is shown: the text of its rules, and then that of their script
 abbrev pub shown_plan : Program → Mapping → Planned Done
-shown_plan P M = record { done = Shown; files = []; text = rules_text M.source M.target P.list M.rules }
+shown_plan P M = record { done = Shown; files = []; text = contents_of (texts_told M.source M.target P.list M.rules) }
 
 abbrev pub show_stages : Program → Stage Refusal (Unit {0}) (Planned Done)
 show_stages P = into (λ (u : Unit {0}) (M : Mapping). shown_plan P M) (mapping_stages P)

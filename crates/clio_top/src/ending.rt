@@ -14,7 +14,7 @@ use dx_stages::Ended;
 pub enum Done {
     /// The files were put, and the summary was said.
     Exchanged(Exchange),
-    /// The rules were said.
+    /// The rules were said, and their script.
     Shown,
 }
 

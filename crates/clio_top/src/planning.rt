@@ -10,18 +10,18 @@ ghost use Rattle.dx_exchange.specs.Exchanging.{exchanging};
 ghost use Rattle.dx_exchange.specs.Plain.{IsPlainForm};
 ghost use Rattle.clio_accept.specs.Laws.{MappingFits};
 ghost use Rattle.clio_files.specs.Files.{FitsFiles};
+ghost use Rattle.clio_files.specs.Texts.{FitTexts};
 ghost use Rattle.clio_top.specs.Ending.{exchange_refusal};
 ghost use Rattle.clio_top.specs.Running.{IsPlanOf, asked, shown_plan, target_stages};
 
 use crate::ending::{Done, Refusal};
 use clio_accept::Mapping;
-use clio_files::{into_files, print_files, summary};
+use clio_files::{contents, into_files, print_files, print_texts, summary};
 use dx_exchange::{ExFault, Exchange, Mode, exchange};
 use dx_funcs::{Host, Meaning};
 use dx_instance::Instance;
 use dx_ports::limits::TARGET_CELLS;
 use dx_ports::{Items, Text};
-use dx_rule_text::print_rules;
 use dx_stages::{Plan, Stop};
 use std::alloc::{AllocError, Global};
 
@@ -60,15 +60,22 @@ where
 }
 
 // What is written of an exchange.
-fn plan_exchange(
+fn plan_exchange<F, M>(
     alloc: Global,
     mapping: &Mapping,
     exchange: Exchange,
+    host: &Host<F, M>,
 ) -> Result<Plan<Done>, AllocError>
-    requires { FitsFiles mapping.now.rules mapping.now.target exchange }
-    ensures { IfOk result (λ p. IsPlanOf mapping.now exchange (planned_of p)) }
+where
+    F: Fn(u32, &Items<Text>) -> Result<Text, AllocError>,
+    M: Meaning,
+    requires texts { FitTexts mapping.now.source mapping.now.target (offered host.now) mapping.now.rules }
+    requires fits { FitsFiles mapping.now.rules mapping.now.target exchange }
+    ensures { IfOk result (λ p. IsPlanOf (record { list = offered host.now; apply = M.apply }) mapping.now exchange (planned_of p)) }
 {
-    let printed = print_files(alloc, mapping.rules.items(), &mapping.target, &exchange)?;
+    let rules = mapping.rules.items();
+    let Mapping { source, target, .. } = mapping;
+    let printed = print_files(alloc, rules, source, target, &exchange, host)?;
     let text = summary(alloc, &printed)?;
     Ok(Plan {
         done: Done::Exchanged(exchange),
@@ -94,7 +101,7 @@ where
     ensures { Gives (target_stages (record { list = offered host.now; apply = M.apply })) (mapping.now, rows.now) (planned result) }
 {
     let exchange = exchange_rows(alloc, mapping, rows, host)?;
-    Ok(plan_exchange(alloc, mapping, exchange)?)
+    Ok(plan_exchange(alloc, mapping, exchange, host)?)
 }
 
 /// What is said of a mapping that is shown.
@@ -110,10 +117,10 @@ where
     ensures { IfOk result (λ p. planned_of p ≡ shown_plan (record { list = offered host.now; apply = M.apply }) mapping.now) }
 {
     let rules = mapping.rules.items();
-    let text = print_rules(alloc, rules, &mapping.source, &mapping.target, host)?;
+    let printed = print_texts(alloc, rules, &mapping.source, &mapping.target, host)?;
     Ok(Plan {
         done: Done::Shown,
         files: Vec::new(alloc),
-        text: Vec::from_slice(alloc, text.bytes())?,
+        text: contents(alloc, &printed)?,
     })
 }

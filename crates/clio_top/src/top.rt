@@ -105,7 +105,7 @@ where
 /// Runs the command that the words say.
 ///
 /// `exchange` reads `mapping.clio` and the file of each source set, computes the target, puts the files and says the
-/// summary. `show` reads `mapping.clio` and says its rules. Everything is computed before the first file is put.
+/// summary. `show` reads `mapping.clio` and says its rules and their script. Everything is computed before the first file is put.
 ///
 /// There is a look-up from names to bytes, which is what the inputs hold if they tell, in which the run ended so for its
 /// reason, and it left what it had to.

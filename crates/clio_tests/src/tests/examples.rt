@@ -8,8 +8,8 @@ const EXAMPLES: [Case; 1] = [Case {
     data: b"name\nann\nbob\n",
     status: 0,
     message: "",
-    files: "== person.csv\nname,phone\nann,?0.0.0\nbob,?0.0.1\n== nulls.csv\nnull,variable,value\n?0.0.0,x0,ann\n?0.0.1,x0,bob\n== fold.csv\nnull,value\n",
-    said: "person.csv 2\nnulls.csv 2\nfold.csv 0\n",
+    files: "== rules.txt\nrule emp(x0) -> person(x0, y0);\n== script.sql\nCREATE TABLE target.\"person\" (\"name\" TEXT, \"phone\" TEXT);\nCREATE TABLE m0 AS SELECT DISTINCT a0.\"name\" AS c0 FROM source.\"emp\" AS a0;\nINSERT INTO target.\"person\" SELECT m.c0, SKOLEM(0, 0, m.place) FROM m0 AS m;\n== person.csv\nname,phone\nann,?0.0.0\nbob,?0.0.1\n== nulls.csv\nnull,variable,value\n?0.0.0,x0,ann\n?0.0.1,x0,bob\n== fold.csv\nnull,value\n",
+    said: "rules.txt 1\nscript.sql 3\nperson.csv 2\nnulls.csv 2\nfold.csv 0\n",
 }];
 
 #[test]

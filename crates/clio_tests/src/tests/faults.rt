@@ -28,28 +28,39 @@ fn each_read_can_fail(rt: HostRuntime) -> Result<(), Fail> {
     Ok(())
 }
 
-/// What each call of the outputs, failing, leaves.
-const LEFT: [&str; 4] = [
-    "",
+/// The files in their order.
+const FILES: [&str; 5] = [
+    "== rules.txt\nrule emp(x0) -> person(x0, y0);\n",
+    "== script.sql\nCREATE TABLE target.\"person\" (\"name\" TEXT, \"phone\" TEXT);\nCREATE TABLE m0 AS SELECT DISTINCT a0.\"name\" AS c0 FROM source.\"emp\" AS a0;\nINSERT INTO target.\"person\" SELECT m.c0, SKOLEM(0, 0, m.place) FROM m0 AS m;\n",
     "== person.csv\nname,phone\nann,?0.0.0\n",
-    "== person.csv\nname,phone\nann,?0.0.0\n== nulls.csv\nnull,variable,value\n?0.0.0,x0,ann\n",
-    "== person.csv\nname,phone\nann,?0.0.0\n== nulls.csv\nnull,variable,value\n?0.0.0,x0,ann\n== fold.csv\nnull,value\n",
+    "== nulls.csv\nnull,variable,value\n?0.0.0,x0,ann\n",
+    "== fold.csv\nnull,value\n",
 ];
 
-const WRITE_FAULTS: [&str; 4] = [
+const WRITE_FAULTS: [&str; 6] = [
     "write fault: 0 files written",
     "write fault: 1 files written",
     "write fault: 2 files written",
     "write fault: 3 files written",
+    "write fault: 4 files written",
+    "write fault: 5 files written",
 ];
+
+/// Whether the call of the outputs with this number, failing, leaves the files before it, and has this message.
+fn leaves_the_files_before(alloc: Global, number: usize, text: &str) -> Result<bool, AllocError> {
+    let outcome = failing(alloc, None, Some(number as u64))?;
+    let mut left = String::new(alloc);
+    for file in FILES.iter().take(number) {
+        left.push_str(*file)?;
+    }
+    ends_so(alloc, &outcome, 8, text, left.as_str(), "")
+}
 
 #[test]
 fn each_write_can_fail(rt: HostRuntime) -> Result<(), Fail> {
     let alloc = rt.alloc();
-    for (number, left) in LEFT.iter().enumerate() {
-        let outcome = failing(alloc, None, Some(number as u64))?;
-        let text = WRITE_FAULTS.get(number).copied().unwrap_or("");
-        assert!(rt; ends_so(alloc, &outcome, 8, text, *left, "")?);
+    for (number, text) in WRITE_FAULTS.iter().enumerate() {
+        assert!(rt; leaves_the_files_before(alloc, number, *text)?);
     }
     Ok(())
 }

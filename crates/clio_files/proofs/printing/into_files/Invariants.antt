@@ -1,5 +1,5 @@
 use Rattle.std.proofs.Common.{◌≡◌, map}
-use Rattle.clio_files.specs.declared.printing.Printed.{Printed}
+use Rattle.clio_files.specs.declared.printed.Printed.{Printed}
 use Rattle.clio_files.proofs.printing.into_files.Given as goal
 
 abbrev pub invariant-loop-one : goal.invariant-loop-one

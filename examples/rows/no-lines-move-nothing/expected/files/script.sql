@@ -1,0 +1,1 @@
+CREATE TABLE target."b" ("y" TEXT);

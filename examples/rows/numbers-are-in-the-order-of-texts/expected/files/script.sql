@@ -1,0 +1,3 @@
+CREATE TABLE target."b" ("y" TEXT, "z" TEXT);
+CREATE TABLE m0 AS SELECT DISTINCT a0."x" AS c0 FROM source."a" AS a0;
+INSERT INTO target."b" SELECT m.c0, SKOLEM(0, 0, m.place) FROM m0 AS m;

@@ -1,0 +1,5 @@
+CREATE TABLE target."b" ("y" TEXT);
+CREATE TABLE m0 AS SELECT DISTINCT a0."x" AS c0 FROM source."a" AS a0;
+CREATE TABLE m1 AS SELECT DISTINCT a0."z" AS c0 FROM source."a" AS a0;
+INSERT INTO target."b" SELECT m.c0 FROM m0 AS m;
+INSERT INTO target."b" SELECT m.c0 FROM m1 AS m;
