@@ -21,7 +21,7 @@ use Rattle.dx_tgd.specs.Counting.{rows_in}
 use Rattle.dx_tgd.proofs.CanonicalFacts.{nulls_have_places}
 use Rattle.dx_exchange.specs.declared.result.Exchange.{Exchange}
 use Rattle.dx_exchange.specs.Exchanging.{Fits, IsExchange}
-use Rattle.dx_exchange.specs.Plain.{IsPlainForm}
+use Rattle.dx_exchange.specs.Flat.{IsFlat}
 use Rattle.dx_exchange.proofs.Fitting.{model_widths}
 use Rattle.dx_exchange.proofs.Lists.{fit_tuples, one_each}
 use Rattle.dx_stages.specs.declared.stop.Stop.{Stop}
@@ -134,7 +134,7 @@ pub shown_none : (P : Program) (M : Mapping) (old new : Told) → Ran (mapping_s
 shown_none P M old new x = ran_memory (show_stages P) (tt {0}) (Ok (shown_plan P M)) old new (shown P M (shown_plan P M) old new refl x)
 
 -- a mapping of another form is refused
-pub form_stops : (P : Program) (M : Mapping) (old new : Told) → Ran (mapping_stages P) (tt {0}) (Ok M) old new → ¬ (IsPlainForm M.source M.target)
+pub form_stops : (P : Program) (M : Mapping) (old new : Told) → Ran (mapping_stages P) (tt {0}) (Ok M) old new → ¬ (IsFlat M.source)
     → Ran (exchange_stages P) (tt {0}) (Err (stops.Refused (refusals.Mapping map_faults.NotYet))) old new
 form_stops P M old new x other =
     ran_next (mapping_stages P) (next form (next rows_stages (target_stages P))) (tt {0}) M (Err (stops.Refused (refusals.Mapping map_faults.NotYet))) old new new (apart P) x
@@ -142,13 +142,13 @@ form_stops P M old new x other =
     (ran_value form M (Err (stops.Refused (refusals.Mapping map_faults.NotYet))) new (λ c. (other, refl))))
 
 -- of a mapping of the form, what follows decides
-formed : (P : Program) (M : Mapping) (q : Result (Planned Done) (Stop Refusal)) (old mid new : Told) → Ran (mapping_stages P) (tt {0}) (Ok M) old mid → IsPlainForm M.source M.target
+formed : (P : Program) (M : Mapping) (q : Result (Planned Done) (Stop Refusal)) (old mid new : Told) → Ran (mapping_stages P) (tt {0}) (Ok M) old mid → IsFlat M.source
     → Ran (next rows_stages (target_stages P)) M q mid new → Ran (exchange_stages P) (tt {0}) q old new
 formed P M q old mid new x plain y =
     ran_next (mapping_stages P) (next form (next rows_stages (target_stages P))) (tt {0}) M q old mid new (apart P) x
     (ran_next form (next rows_stages (target_stages P)) M M q mid mid new (λ c d a b n p h k. h) (ran_value form M (Ok M) mid (λ c. (plain, refl))) y)
 
-pub rows_stop : (P : Program) (M : Mapping) (e : Stop Refusal) (old mid new : Told) → Ran (mapping_stages P) (tt {0}) (Ok M) old mid → IsPlainForm M.source M.target
+pub rows_stop : (P : Program) (M : Mapping) (e : Stop Refusal) (old mid new : Told) → Ran (mapping_stages P) (tt {0}) (Ok M) old mid → IsFlat M.source
     → Ran (saying source_refusal source_stages) M.source (Err e) mid new → Ran (exchange_stages P) (tt {0}) (Err e) old new
 rows_stop P M e old mid new x plain y =
     formed P M (Err e) old mid new x plain
@@ -157,7 +157,7 @@ rows_stop P M e old mid new x plain y =
     (ran_over (λ (M : Mapping). M.source) (saying source_refusal source_stages) M (Err e) mid new y)))
 
 pub exchanged : (P : Program) (M : Mapping) (I : List TableRows) (q : Result (Planned Done) (Stop Refusal)) (old mid new : Told) → Ran (mapping_stages P) (tt {0}) (Ok M) old mid
-    → IsPlainForm M.source M.target → Ran (saying source_refusal source_stages) M.source (Ok I) mid new → Gives (target_stages P) (M, I) q → Ran (exchange_stages P) (tt {0}) q old new
+    → IsFlat M.source → Ran (saying source_refusal source_stages) M.source (Ok I) mid new → Gives (target_stages P) (M, I) q → Ran (exchange_stages P) (tt {0}) q old new
 exchanged P M I q old mid new x plain y g =
     formed P M q old mid new x plain
     (ran_next rows_stages (target_stages P) M (M, I) q mid new new (silent_apart rows_stages (target_stages P) (λ d b n h. h))

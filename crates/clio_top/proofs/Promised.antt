@@ -4,15 +4,16 @@ use Rattle.std.specs.Prelude.{codes}
 use Rattle.dx_ports.specs.declared.file.Count.TheVariants.{TextBytes}
 use Rattle.dx_instance.specs.Stored.{TableRows}
 use Rattle.dx_schema.specs.Forest.{Forest}
-use Rattle.dx_schema.specs.Tables.{model_tables, tables_of}
+use Rattle.dx_schema.specs.Tables.{model_tables}
 use Rattle.dx_schema.proofs.Valid.{are_tables}
 use Rattle.dx_exchange.specs.declared.result.Exchange.{Exchange}
-use Rattle.dx_exchange.specs.Exchanging.{Asked, IsExchange, exchanging}
+use Rattle.dx_exchange.specs.Exchanging.{AreAlike as FaultsAlike, Asked, IsExchange, exchanging}
 use Rattle.dx_exchange.specs.Laws.{IsPlainAsked}
-use Rattle.dx_exchange.specs.Plain.{IsPlainForm}
-use Rattle.dx_exchange.proofs.Fitting.{no_determinations}
-use Rattle.dx_exchange.proofs.Decided.{exchange_or_limit}
-use Rattle.dx_exchange.proofs.Deciding.{plain_or_not}
+use Rattle.dx_exchange.specs.declared.fault.ExFault.{ExFault}
+use Rattle.dx_exchange.specs.declared.fault.ExFault.TheVariants as exchange_faults
+use Rattle.dx_exchange.specs.Flat.{IsFlat}
+use Rattle.dx_exchange.proofs.Decided.{exchange_or_none}
+use Rattle.dx_exchange.proofs.Deciding.{flat_or_not}
 use Rattle.dx_stages.specs.Worlds.{World}
 use Rattle.dx_stages.specs.Stages.{next, become, by, over, into, saying, computing, checking}
 use Rattle.dx_stages.specs.Laws.{PassesOne, IsDecided}
@@ -32,37 +33,44 @@ use Rattle.clio_top.specs.declared.command.Command.TheVariants.{Exchanging, Show
 use Rattle.clio_top.specs.declared.ending.Done.{Done}
 use Rattle.clio_top.specs.declared.ending.Refusal.{Refusal}
 use Rattle.clio_top.specs.declared.ending.Refusal.TheVariants as refusals
-use Rattle.clio_top.specs.Ending.{exchange_refusal, mapping_refusal, source_refusal}
+use Rattle.clio_top.specs.Ending.{AreAlike, exchange_refusal, mapping_refusal, source_refusal}
 use Rattle.clio_top.specs.Promises.{RefusedOrPlanned}
-use Rattle.clio_top.specs.Running.{IsNotYet, IsPlanOf, Program, asked, exchange_stages, form, mapping_file, mapping_stages, rows_stages, run_stages, saying_words, show_stages, shown_plan, stages_of, target_stages, text_bytes}
+use Rattle.clio_top.specs.Running.{IsNotYet, IsPlanOf, Program, asked, exchange_stages, form, mapping_file, mapping_stages, named_stage, rows_stages, run_stages, saying_words, show_stages, shown_plan, stages_of, target_stages, text_bytes}
 use Rattle.clio_top.specs.Words.{or_usage, says}
 use Rattle.clio_top.proofs.Mappings.{absent, long}
 use Rattle.clio_top.proofs.Plans.{facts_wide, files_fit, rules_fit}
 
-abbrev Same : Refusal → Refusal → Type 0
-Same d e = d ≡ e
+alike : (e : Refusal) → AreAlike e e
+alike refusals.Usage = refl
+alike (refusals.Clash c t k n) = tt
+alike (refusals.Mapping fault) = refl
+alike (refusals.Rows file fault) = refl
+alike (refusals.Limit limit) = refl
+
+same_alike : (d e : Refusal) → d ≡ e → AreAlike d e
+same_alike d e is = subst (AreAlike d) is (alike d)
 
 -- ---- the mapping
 
 mapping_one : (P : Program) → PassesOne (mapping_stages P)
 mapping_one P = next_one mapping_file (saying mapping_refusal (accepting P.list)) (file_one (Unit {0}) (codes "mapping.clio") text_bytes absent long) (accepting_one P.list)
 
-mapping_decided : (P : Program) → IsDecided Same Any (mapping_stages P)
+mapping_decided : (P : Program) → IsDecided AreAlike Any (mapping_stages P)
 mapping_decided P =
-    next_decided Same Any Any mapping_file (saying mapping_refusal (accepting P.list)) (file_one (Unit {0}) (codes "mapping.clio") text_bytes absent long) (λ c a b g p. tt)
-    (file_decided Same Any (codes "mapping.clio") text_bytes absent long (λ e. refl))
-    (saying_decided (λ e k. e ≡ k) Same Any mapping_refusal (accepting P.list) (λ e k is. ap mapping_refusal is) (accepting_decided P.list))
+    next_decided AreAlike Any Any mapping_file (saying mapping_refusal (accepting P.list)) (file_one (Unit {0}) (codes "mapping.clio") text_bytes absent long) (λ c a b g p. tt)
+    (file_decided AreAlike Any (codes "mapping.clio") text_bytes absent long alike)
+    (saying_decided (λ e k. e ≡ k) AreAlike Any mapping_refusal (accepting P.list) (λ e k is. same_alike (mapping_refusal e) (mapping_refusal k) (ap mapping_refusal is)) (accepting_decided P.list))
 
 -- ---- the form
 
 form_one : PassesOne form
-form_one = checking_one IsNotYet (λ M. IsPlainForm M.source M.target)
+form_one = checking_one IsNotYet (λ M. IsFlat M.source)
 
-form_decided : (Given : Mapping → Type 0) → IsDecided Same Given form
-form_decided Given = checking_decided Same Given IsNotYet (λ M. IsPlainForm M.source M.target) (λ M d e p q. p.1 ∙ sym q.1) (λ M e plain p. p.0 plain) either
+form_decided : (Given : Mapping → Type 0) → IsDecided AreAlike Given form
+form_decided Given = checking_decided AreAlike Given IsNotYet (λ M. IsFlat M.source) (λ M d e p q. same_alike d e (p.1 ∙ sym q.1)) (λ M e plain p. p.0 plain) either
   where
-    either : (M : Mapping) → IsPlainForm M.source M.target ⊎ ((e : Refusal) × IsNotYet M e)
-    either M = elim (plain_or_not M.source M.target) [
+    either : (M : Mapping) → IsFlat M.source ⊎ ((e : Refusal) × IsNotYet M e)
+    either M = elim (flat_or_not M.source) [
       | inl plain ↦ inl plain
       | inr other ↦ inr (refusals.Mapping map_faults.NotYet, (other, refl))
     ]
@@ -75,42 +83,50 @@ its_source M = M.source
 rows_one : PassesOne rows_stages
 rows_one = into_one (λ (M : Mapping) (I : List TableRows). (M, I)) (over its_source (saying source_refusal source_stages)) (over_one its_source (saying source_refusal source_stages) source_one)
 
-rows_decided : (Given : Mapping → Type 0) → IsDecided Same Given rows_stages
+rows_decided : (Given : Mapping → Type 0) → IsDecided AreAlike Given rows_stages
 rows_decided Given =
-    into_decided Same Given (λ (M : Mapping) (I : List TableRows). (M, I)) (over its_source (saying source_refusal source_stages))
-    (over_decided Same Given Any its_source (saying source_refusal source_stages) (λ M g. tt)
-    (saying_decided (λ e k. e ≡ k) Same Any source_refusal source_stages (λ e k is. ap source_refusal is) source_decided))
+    into_decided AreAlike Given (λ (M : Mapping) (I : List TableRows). (M, I)) (over its_source (saying source_refusal source_stages))
+    (over_decided AreAlike Given Any its_source (saying source_refusal source_stages) (λ M g. tt)
+    (saying_decided (λ e k. e ≡ k) AreAlike Any source_refusal source_stages (λ e k is. same_alike (source_refusal e) (source_refusal k) (ap source_refusal is)) source_decided))
 
 -- ---- the target
 
 -- the mapping fits and is of the form
 record IsReady (P : Program) (M : Mapping) : Type 0 where
   fits : MappingFits P.list M
-  plain : IsPlainForm M.source M.target
+  plain : IsFlat M.source
 
 abbrev AreReady : Program → Mapping × List TableRows → Type 0
 AreReady P p = IsReady P p.0
 
 plain_asked : (P : Program) (p : Mapping × List TableRows) → AreReady P p → IsPlainAsked P.list (model_tables p.0.source) (asked p)
-plain_asked P p r = record { fits = rules_fit P p.0 r.fits; no_keys = no_determinations (tables_of p.0.target) r.plain.no_keys; mode = refl }
+plain_asked P p r = record { fits = rules_fit P p.0 r.fits; mode = refl }
 
 plan_exists : (P : Program) (p : Mapping × List TableRows) (e : Exchange) → AreReady P p → IsExchange P.apply (asked p) e → (plan : Planned Done) × IsPlanOf P p.0 e plan
 plan_exists P p e r x =
     let fs = files_exist p.0.source p.0.target P.list p.0.rules e (files_fit P p.0 p.1 e r.fits x) (are_tables p.0.target r.fits.target.form) (facts_wide P p.0 p.1 e r.fits x) in
     (_, (fs.0, fs.1, refl))
 
-target_decided : (P : Program) → IsDecided Same (AreReady P) (target_stages P)
+target_decided : (P : Program) → IsDecided AreAlike (AreReady P) (target_stages P)
 target_decided P =
-    become_decided Same (AreReady P) (λ p e plan. IsPlanOf P p.0 e plan) (over asked (saying exchange_refusal (exchanging P.apply))) (λ c p e r x. plan_exists P p e r x) decided
+    become_decided AreAlike (AreReady P) (λ p e plan. IsPlanOf P p.0 e plan) (by (named_stage P)) (λ c p e r x. plan_exists P p e r x) decided
   where
-    asked_decided : (source : _) → IsDecided Same (IsPlainAsked P.list source) (saying exchange_refusal (exchanging P.apply))
-    asked_decided source = saying_decided (λ e k. e ≡ k) Same (IsPlainAsked P.list source) exchange_refusal (exchanging P.apply) (λ e k is. ap exchange_refusal is) (exchange_or_limit P.apply P.list source)
+    faults_alike : (target : Forest) (e k : ExFault) → FaultsAlike e k → AreAlike (exchange_refusal target e) (exchange_refusal target k)
+    faults_alike target (exchange_faults.Clash c) (exchange_faults.Clash d) a = tt
+    faults_alike target (exchange_faults.Clash c) (exchange_faults.Limit l) a = absurd a
+    faults_alike target (exchange_faults.Clash c) exchange_faults.Memory a = absurd a
+    faults_alike target (exchange_faults.Limit l) e a = same_alike _ _ (ap (exchange_refusal target) a)
+    faults_alike target exchange_faults.Memory e a = same_alike _ _ (ap (exchange_refusal target) a)
 
-    decided : IsDecided Same (AreReady P) (over asked (saying exchange_refusal (exchanging P.apply)))
+    asked_decided : (source target : Forest) → IsDecided AreAlike (IsPlainAsked P.list (model_tables source)) (saying (exchange_refusal target) (exchanging P.apply))
+    asked_decided source target =
+        saying_decided FaultsAlike AreAlike (IsPlainAsked P.list (model_tables source)) (exchange_refusal target) (exchanging P.apply) (faults_alike target) (exchange_or_none P.apply P.list (model_tables source))
+
+    decided : IsDecided AreAlike (AreReady P) (by (named_stage P))
     decided = record {
-      one = λ c p e f r. (asked_decided (model_tables p.0.source)).one c (asked p) e f (plain_asked P p r);
-      never_both = λ c p b e r. (asked_decided (model_tables p.0.source)).never_both c (asked p) b e (plain_asked P p r);
-      either = λ c p r. (asked_decided (model_tables p.0.source)).either c (asked p) (plain_asked P p r);
+      one = λ c p e f r. (asked_decided p.0.source p.0.target).one c (asked p) e f (plain_asked P p r);
+      never_both = λ c p b e r. (asked_decided p.0.source p.0.target).never_both c (asked p) b e (plain_asked P p r);
+      either = λ c p r. (asked_decided p.0.source p.0.target).either c (asked p) (plain_asked P p r);
     }
 
 -- ---- the commands
@@ -118,11 +134,11 @@ target_decided P =
 abbrev FitsList : Program → Mapping → Type 0
 FitsList P M = MappingFits P.list M
 
-exchange_decided : (P : Program) → IsDecided Same Any (exchange_stages P)
+exchange_decided : (P : Program) → IsDecided AreAlike Any (exchange_stages P)
 exchange_decided P =
-    next_decided Same Any (FitsList P) (mapping_stages P) (next form (next rows_stages (target_stages P))) (mapping_one P) (λ c a M g p. accepted_fits P.list c p.0 M p.2) (mapping_decided P)
-    (next_decided Same (FitsList P) (IsReady P) form (next rows_stages (target_stages P)) form_one ready (form_decided (FitsList P))
-    (next_decided Same (IsReady P) (AreReady P) rows_stages (target_stages P) rows_one rows_ready (rows_decided (IsReady P)) (target_decided P)))
+    next_decided AreAlike Any (FitsList P) (mapping_stages P) (next form (next rows_stages (target_stages P))) (mapping_one P) (λ c a M g p. accepted_fits P.list c p.0 M p.2) (mapping_decided P)
+    (next_decided AreAlike (FitsList P) (IsReady P) form (next rows_stages (target_stages P)) form_one ready (form_decided (FitsList P))
+    (next_decided AreAlike (IsReady P) (AreReady P) rows_stages (target_stages P) rows_one rows_ready (rows_decided (IsReady P)) (target_decided P)))
   where
     ready : (c : World) (M N : Mapping) → FitsList P M → form.passes c M N → IsReady P N
     ready c M N h p = subst (IsReady P) (sym p.1) (record { fits = h; plain = p.0 })
@@ -130,15 +146,15 @@ exchange_decided P =
     rows_ready : (c : World) (M : Mapping) (p : Mapping × List TableRows) → IsReady P M → rows_stages.passes c M p → AreReady P p
     rows_ready c M p h (I, s, is) = subst (AreReady P) (sym is) h
 
-show_decided : (P : Program) → IsDecided Same Any (show_stages P)
-show_decided P = into_decided Same Any (λ (u : Unit {0}) (M : Mapping). shown_plan P M) (mapping_stages P) (mapping_decided P)
+show_decided : (P : Program) → IsDecided AreAlike Any (show_stages P)
+show_decided P = into_decided AreAlike Any (λ (u : Unit {0}) (M : Mapping). shown_plan P M) (mapping_stages P) (mapping_decided P)
 
-stages_decided : (P : Program) (c : Command) → IsDecided Same Any (stages_of P c)
+stages_decided : (P : Program) (c : Command) → IsDecided AreAlike Any (stages_of P c)
 stages_decided P Exchanging = exchange_decided P
 stages_decided P Showing = show_decided P
 
 pub run_decided : RefusedOrPlanned
 run_decided P =
-    next_decided Same Any Any saying_words (by (λ (c : Command). over (λ (d : Command). tt {0}) (stages_of P c))) (computing_one (λ words. or_usage (says words))) (λ c a b g p. tt)
-    (computing_decided Same Any (λ words. or_usage (says words)) (λ e. refl))
-    (by_decided Same Any (λ (c : Command). over (λ (d : Command). tt {0}) (stages_of P c)) (λ c g. over_decided Same Any Any (λ (d : Command). tt {0}) (stages_of P c) (λ a g. tt) (stages_decided P c)))
+    next_decided AreAlike Any Any saying_words (by (λ (c : Command). over (λ (d : Command). tt {0}) (stages_of P c))) (computing_one (λ words. or_usage (says words))) (λ c a b g p. tt)
+    (computing_decided AreAlike Any (λ words. or_usage (says words)) alike)
+    (by_decided AreAlike Any (λ (c : Command). over (λ (d : Command). tt {0}) (stages_of P c)) (λ c g. over_decided AreAlike Any Any (λ (d : Command). tt {0}) (stages_of P c) (λ a g. tt) (stages_decided P c)))

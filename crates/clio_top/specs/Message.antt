@@ -1,11 +1,16 @@
 -- The text of an ending.
-use Rattle.std.specs.Prelude.{[], ◌++◌, codes}
+use Rattle.std.specs.Prelude.{ℕ, List, [], ◌++◌, codes, slice_index_or}
 use Rattle.std.specs.Fmt.{decimal}
 use Rattle.dx_ports.specs.declared.file.Count.{Count}
 use Rattle.dx_ports.specs.declared.file.Count.TheVariants as counts
 use Rattle.dx_csv.specs.declared.fault.RowKind.{RowKind}
 use Rattle.dx_csv.specs.declared.fault.RowKind.TheVariants as kinds
+use Rattle.dx_model.specs.declared.values.Value.{Value}
+use Rattle.dx_model.specs.declared.values.Value.TheVariants.{Const, Null}
 use Rattle.dx_model.specs.Values.{Text}
+use Rattle.dx_tokens.specs.Quoted.{quoted}
+use Rattle.dx_rule_text.specs.Printed.{separated}
+use Rattle.dx_keys.specs.declared.answers.Clash.{Clash}
 use Rattle.dx_tokens.specs.declared.faults.TextKind.{TextKind}
 use Rattle.dx_tokens.specs.declared.faults.TextKind.TheVariants as text_kinds
 use Rattle.dx_schema.specs.declared.fault.SchemaKind.{SchemaKind}
@@ -71,10 +76,25 @@ abbrev pub rows_fault_text : Text → RowsFault → Text
 rows_fault_text file rows_faults.Absent = file ++ codes " is absent"
 rows_fault_text file (rows_faults.Csv kind) = file ++ (codes ": " ++ kind_text kind)
 
+-- the text of a constant, and the empty text for a null
+abbrev pub constant_text : Value → Text
+constant_text (Const t) = t
+constant_text (Null n) = []
+
+-- the text of the value in a column of a row, and the empty text if there is none
+abbrev pub text_in : List Value → ℕ → Text
+text_in row column = constant_text (slice_index_or row column (Const []))
+
+-- what is wrong with two rows
+abbrev pub clash_text : Clash → Text → List Text → Text → Text
+clash_text c table key column =
+    codes "table " ++ (table ++ (codes ", key (" ++ (separated key ++ (codes "): " ++ (quoted (text_in c.left c.column) ++ (codes " and " ++ (quoted (text_in c.right c.column) ++ (codes " in column " ++ column))))))))
+
 -- the text of an ending, without a line feed
 abbrev pub message_of : Ending → Text
 message_of (endings.Done done) = []
 message_of endings.Usage = codes "usage: clio show [--core] | clio exchange [--core] [--nested] | clio demo N [--core]"
+message_of (endings.Clash clash table key column) = codes "clash: " ++ clash_text clash table key column
 message_of (endings.Mapping fault) = codes "mapping: " ++ map_fault_text fault
 message_of (endings.Rows file fault) = codes "rows: " ++ rows_fault_text file fault
 message_of (endings.Limit l) = codes "limit: " ++ (count_text l.what ++ (codes " " ++ decimal l.number))

@@ -14,11 +14,12 @@ use Rattle.clio_accept.specs.Accepting.{accepting}
 use Rattle.clio_source.specs.Source.{source_stages}
 use Rattle.clio_top.specs.declared.ending.Done.TheVariants.{Exchanged}
 use Rattle.clio_top.specs.declared.ending.Refusal.{Refusal}
+use Rattle.clio_top.specs.Ending.{AreAlike}
 use Rattle.clio_top.specs.Running.{Program, asked, mapping_stages, run_stages}
 
--- there is one reason to refuse a run, or a plan, and never both
+-- there is one reason to refuse a run, up to which clash is told, or a plan, and never both
 abbrev pub RefusedOrPlanned : Type 0
-RefusedOrPlanned = (P : Program) → IsDecided (λ e f. e ≡ f) (λ words. Unit {0}) (run_stages P)
+RefusedOrPlanned = (P : Program) → IsDecided AreAlike (λ words. Unit {0}) (run_stages P)
 
 -- An exchange that is done is that of an accepted mapping text and the source of some files, whether or not the inputs tell
 -- what they hold.

@@ -9,7 +9,7 @@ use Rattle.dx_schema.specs.Tables.{model_tables}
 use Rattle.dx_exchange.specs.declared.mode.Mode.TheVariants.{Plain}
 use Rattle.dx_exchange.specs.declared.result.Exchange.{Exchange}
 use Rattle.dx_exchange.specs.Exchanging.{Asked, exchanging}
-use Rattle.dx_exchange.specs.Plain.{IsPlainForm}
+use Rattle.dx_exchange.specs.Flat.{IsFlat}
 use Rattle.dx_stages.specs.Ending.{Planned}
 use Rattle.dx_stages.specs.Stages.{Stage, next, become, by, over, into, file, saying, computing, checking}
 use Rattle.clio_accept.specs.declared.mapping.Mapping.{Mapping}
@@ -52,12 +52,12 @@ mapping_stages P = next mapping_file (saying mapping_refusal (accepting P.list))
 
 -- ---- an exchange
 
--- a target table has a key or a source set has inner sets, for which more is to be built
+-- a source set has inner sets, for which more is to be built
 abbrev pub IsNotYet : Mapping → Refusal → Type 0
-IsNotYet M e = (¬ (IsPlainForm M.source M.target)) × (e ≡ refusals.Mapping map_faults.NotYet)
+IsNotYet M e = (¬ (IsFlat M.source)) × (e ≡ refusals.Mapping map_faults.NotYet)
 
 abbrev pub form : Stage Refusal Mapping Mapping
-form = checking IsNotYet (λ M. IsPlainForm M.source M.target)
+form = checking IsNotYet (λ M. IsFlat M.source)
 
 -- the rows of the source files, beside the mapping
 abbrev pub rows_stages : Stage Refusal Mapping (Mapping × List TableRows)
@@ -72,9 +72,13 @@ abbrev pub IsPlanOf : Program → Mapping → Exchange → Planned Done → Type
 IsPlanOf P M e plan =
     (files : List Told) × AreFiles M.source M.target P.list M.rules e files × (plan ≡ record { done = Exchanged e; files = files_of files; text = summary_of files })
 
+-- the exchange of the rows; a clash is told with the names that the target has
+abbrev pub named_stage : Program → Mapping × List TableRows → Stage Refusal (Mapping × List TableRows) Exchange
+named_stage P p = over asked (saying (exchange_refusal p.0.target) (exchanging P.apply))
+
 -- the exchange of the rows, and what is written of it
 abbrev pub target_stages : Program → Stage Refusal (Mapping × List TableRows) (Planned Done)
-target_stages P = become (λ p e plan. IsPlanOf P p.0 e plan) (over asked (saying exchange_refusal (exchanging P.apply)))
+target_stages P = become (λ p e plan. IsPlanOf P p.0 e plan) (by (named_stage P))
 
 abbrev pub exchange_stages : Program → Stage Refusal (Unit {0}) (Planned Done)
 exchange_stages P = next (mapping_stages P) (next form (next rows_stages (target_stages P)))

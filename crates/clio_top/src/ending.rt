@@ -5,8 +5,8 @@ ghost use Rattle.dx_stages.specs.declared.plan.Ended.{Ended as EndedOf};
 
 use clio_accept::MapFault;
 use clio_source::RowsFault;
-use dx_exchange::Exchange;
-use dx_ports::{Limit, Text};
+use dx_exchange::{Clash, Exchange};
+use dx_ports::{Items, Limit, Text};
 use dx_stages::Ended;
 
 /// What a run has done.
@@ -24,6 +24,13 @@ pub enum Ending {
     Done(Done),
     /// The words are not those of a command.
     Usage,
+    /// There is no solution. The names are those of the clash's table, of its key's columns and of its column.
+    Clash {
+        clash: Clash,
+        table: Text,
+        key: Items<Text>,
+        column: Text,
+    },
     Mapping(MapFault),
     Rows { file: Text, fault: RowsFault },
     /// A count passed its number.
@@ -40,6 +47,12 @@ pub enum Ending {
 #[derive(Debug, Drop)]
 pub(crate) enum Refusal {
     Usage,
+    Clash {
+        clash: Clash,
+        table: Text,
+        key: Items<Text>,
+        column: Text,
+    },
     Mapping(MapFault),
     Rows { file: Text, fault: RowsFault },
     Limit(Limit),
@@ -53,6 +66,7 @@ impl Ending {
         match self {
             Ending::Done(_) => 0,
             Ending::Usage => 2,
+            Ending::Clash { .. } => 3,
             Ending::Mapping(_) => 4,
             Ending::Rows { .. } => 5,
             Ending::Limit(_) => 6,
@@ -69,6 +83,17 @@ fn of_refusal(refusal: Refusal) -> Ending
 {
     match refusal {
         Refusal::Usage => Ending::Usage,
+        Refusal::Clash {
+            clash,
+            table,
+            key,
+            column,
+        } => Ending::Clash {
+            clash,
+            table,
+            key,
+            column,
+        },
         Refusal::Mapping(fault) => Ending::Mapping(fault),
         Refusal::Rows { file, fault } => Ending::Rows { file, fault },
         Refusal::Limit(limit) => Ending::Limit(limit),

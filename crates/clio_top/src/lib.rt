@@ -6,6 +6,7 @@
 //! the text of an ending (specs/Message).
 #![tactic(auto)]
 
+mod clashes;
 mod command;
 mod ending;
 mod laws;

@@ -2,6 +2,7 @@
 ghost use Rattle.std.specs.Prelude.{◌≡◌, IfOk, string_bytes};
 ghost use Rattle.clio_top.specs.Message.{count_text, kind_text, map_fault_text, message_of, rows_fault_text, schema_kind_text, text_kind_text};
 
+use crate::clashes::clash_text;
 use crate::ending::Ending;
 use clio_accept::MapFault;
 use clio_source::RowsFault;
@@ -116,6 +117,12 @@ fn message_string(alloc: Global, ending: &Ending) -> Result<String, AllocError>
     match ending {
         Ending::Done(_) => Ok(String::new(alloc)),
         Ending::Usage => String::from_str(alloc, USAGE),
+        Ending::Clash {
+            clash,
+            table,
+            key,
+            column,
+        } => clash_text(alloc, clash, table, key.items(), column),
         Ending::Mapping(fault) => {
             let fault = map_fault_text(alloc, fault)?;
             format!(in alloc; "mapping: {fault}")

@@ -5,15 +5,13 @@ ghost use Rattle.dx_instance.specs.Stored.{widths};
 ghost use Rattle.dx_schema.specs.Tables.{schema_widths};
 ghost use Rattle.dx_stages.specs.Ending.{planned, planned_of};
 ghost use Rattle.dx_stages.specs.Running.{Gives};
-ghost use Rattle.dx_stages.specs.Stages.{over, saying};
-ghost use Rattle.dx_exchange.specs.Exchanging.{exchanging};
-ghost use Rattle.dx_exchange.specs.Plain.{IsPlainForm};
+ghost use Rattle.dx_stages.specs.Stages.{by};
 ghost use Rattle.clio_accept.specs.Laws.{MappingFits};
 ghost use Rattle.clio_files.specs.Files.{FitsFiles};
 ghost use Rattle.clio_files.specs.Texts.{FitTexts};
-ghost use Rattle.clio_top.specs.Ending.{exchange_refusal};
-ghost use Rattle.clio_top.specs.Running.{IsPlanOf, asked, shown_plan, target_stages};
+ghost use Rattle.clio_top.specs.Running.{IsPlanOf, named_stage, shown_plan, target_stages};
 
+use crate::clashes::named_clash;
 use crate::ending::{Done, Refusal};
 use clio_accept::Mapping;
 use clio_files::{contents, into_files, print_files, print_texts, summary};
@@ -37,9 +35,8 @@ where
     M: Meaning,
     requires serves { Serves F.Fn M.apply host.now }
     requires fits { MappingFits (offered host.now) mapping.now }
-    requires plain { IsPlainForm mapping.now.source mapping.now.target }
     requires rows { widths rows.now ≡ schema_widths mapping.now.source }
-    ensures { Gives (over asked (saying exchange_refusal (exchanging M.apply))) (mapping.now, rows.now) result }
+    ensures { Gives (by (named_stage (record { list = offered host.now; apply = M.apply }))) (mapping.now, rows.now) result }
 {
     let rules = mapping.rules.items();
     let Mapping { source, target, .. } = mapping;
@@ -54,6 +51,7 @@ where
         TARGET_CELLS,
     ) {
         Ok(exchange) => Ok(exchange),
+        Err(ExFault::Clash(clash)) => Err(Stop::Refused(named_clash(alloc, clash, target)?)),
         Err(ExFault::Limit(limit)) => Err(Stop::Refused(Refusal::Limit(limit))),
         Err(ExFault::Memory) => Err(Stop::Memory),
     }
@@ -96,7 +94,6 @@ where
     M: Meaning,
     requires serves { Serves F.Fn M.apply host.now }
     requires fits { MappingFits (offered host.now) mapping.now }
-    requires plain { IsPlainForm mapping.now.source mapping.now.target }
     requires rows { widths rows.now ≡ schema_widths mapping.now.source }
     ensures { Gives (target_stages (record { list = offered host.now; apply = M.apply })) (mapping.now, rows.now) (planned result) }
 {

@@ -6,7 +6,7 @@ ghost use Rattle.dx_stages.specs.Ending.{Runs, planned};
 ghost use Rattle.dx_stages.specs.declared.plan.Ended.{Ended as EndedOf};
 ghost use Rattle.clio_top.specs.declared.ending.Done.{Done as DoneOf};
 ghost use Rattle.clio_top.specs.declared.ending.Refusal.{Refusal as RefusalOf};
-ghost use Rattle.clio_top.specs.Ending.{ending_of};
+ghost use Rattle.clio_top.specs.Ending.{AreAlike, ending_of};
 ghost use Rattle.clio_top.specs.Running.{exchange_stages, run_stages, show_stages, stages_of};
 
 use crate::command::{Command, command_of};
@@ -15,7 +15,7 @@ use crate::mapping::read_mapping;
 use crate::planning::{plan_rows, plan_shown};
 use crate::source::read_rows;
 use clio_accept::MapFault;
-use dx_exchange::is_plain;
+use dx_exchange::is_flat;
 use dx_funcs::{Host, Meaning};
 use dx_ports::{Inputs, Items, Outputs, Text};
 use dx_stages::{Plan, Stop, carry_out};
@@ -36,7 +36,7 @@ where
         (record { holds = I.holds inputs.new; faults = I.faults inputs.new; stopped = I.stopped inputs.new }) }
 {
     let mapping = read_mapping(alloc, inputs, host)?;
-    if !is_plain(&mapping.source, &mapping.target) {
+    if !is_flat(&mapping.source) {
         return Err(Stop::Refused(Refusal::Mapping(MapFault::NotYet)));
     }
     let rows = read_rows(alloc, inputs, &mapping.source)?;
@@ -121,7 +121,7 @@ where
     M: Meaning,
     requires serves { Serves F.Fn M.apply host.now }
     ensures { (e : EndedOf DoneOf RefusalOf) × (result ≡ ending_of e)
-        × Runs (λ r k. r ≡ k) (run_stages (record { list = offered host.now; apply = M.apply })) words.now.items e
+        × Runs AreAlike (run_stages (record { list = offered host.now; apply = M.apply })) words.now.items e
         (record { holds = I.holds inputs.old; faults = I.faults inputs.old; stopped = I.stopped inputs.old })
         (record { holds = I.holds inputs.new; faults = I.faults inputs.new; stopped = I.stopped inputs.new })
         (record { files = O.files outputs.old; said = O.said outputs.old })

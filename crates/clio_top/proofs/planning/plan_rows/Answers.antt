@@ -1,12 +1,10 @@
 use Rattle.std.proofs.Common.{List, ℕ, None}
 use Rattle.std.proofs.lemmas.Result.{err_from_is_err_and}
 use Rattle.dx_funcs.specs.Serving.{offered}
-use Rattle.dx_exchange.specs.Exchanging.{exchanging}
 use Rattle.dx_stages.specs.Ending.{planned_of}
-use Rattle.dx_stages.specs.Stages.{over, saying}
+use Rattle.dx_stages.specs.Stages.{by}
 use Rattle.dx_stages.proofs.Running.{gives_become, gives_become_stop}
-use Rattle.clio_top.specs.Ending.{exchange_refusal}
-use Rattle.clio_top.specs.Running.{IsPlanOf, Program, asked}
+use Rattle.clio_top.specs.Running.{IsPlanOf, Program, named_stage}
 use Rattle.clio_top.proofs.Plans.{files_fit, texts_fit}
 use Rattle.clio_top.proofs.planning.plan_rows.Goals as goal
 
@@ -14,7 +12,7 @@ pub returns-in_err-exchange : goal.returns-in_err-exchange
 returns-in_err-exchange g c =
     let p = err_from_is_err_and c.from_residual.result c.from_residual.ensures.1 in
     let P : Program = record { list = offered c.args.host.now; apply = g.M.Meaning.apply } in
-    rw (p.1, p.2) (gives_become_stop (λ p e plan. IsPlanOf P p.0 e plan) (over asked (saying exchange_refusal (exchanging g.M.Meaning.apply))) (c.args.mapping.now, c.args.rows.now) c.in_err-exchange.field-0.0 c.in_err-exchange.ensures)
+    rw (p.1, p.2) (gives_become_stop (λ p e plan. IsPlanOf P p.0 e plan) (by (named_stage P)) (c.args.mapping.now, c.args.rows.now) c.in_err-exchange.field-0.0 c.in_err-exchange.ensures)
 
 pub plan_exchange-requires-clause-texts : goal.plan_exchange-requires-clause-texts
 plan_exchange-requires-clause-texts g c =
@@ -29,5 +27,5 @@ plan_exchange-requires-clause-fits g c =
 pub returns : goal.returns
 returns g c =
     let P : Program = record { list = offered c.args.host.now; apply = g.M.Meaning.apply } in
-    gives_become (λ p e plan. IsPlanOf P p.0 e plan) (over asked (saying exchange_refusal (exchanging g.M.Meaning.apply))) (c.args.mapping.now, c.args.rows.now) c.in_ok-exchange.exchange
+    gives_become (λ p e plan. IsPlanOf P p.0 e plan) (by (named_stage P)) (c.args.mapping.now, c.args.rows.now) c.in_ok-exchange.exchange
     (planned_of c.in_ok-plan_exchange.field-0) c.in_ok-plan_exchange.ensures c.in_ok-exchange.ensures
