@@ -1,13 +1,15 @@
 -- Rows that are found for rules: as symbols grow, in order, and how many they are.
 use Rattle.std.proofs.Common.{◌≡◌, ◌↔◌, ◌∙◌, ℕ, zero, suc, ◌+◌, ◌*◌, ◌/◌, ◌-◌, ◌<◌, ◌≤◌, ◌⊎◌, List, [], ◌∷◌, ◌++◌, true, inl, inr, refl, sym, ap, subst, arith, length, get_or, take}
-use Rattle.std.specs.Prelude.{MatchOption, None, Option, Some, map, slice_get, slice_index}
+use Rattle.std.specs.Prelude.{Err, IfOk, MatchOption, None, Ok, Option, Result, Some, map, slice_get, slice_index}
 use Rattle.std.specs.List.{AllZip}
 use Rattle.std.specs.declared.cmp.Ordering.TheVariants.{Less}
 use Rattle.std.proofs.lemmas.List.{append-nil, length-append, length-map, take_more}
 use Rattle.std.proofs.Math.Nat.{div-lt_iff_lt-mul, mul-le-mul, mul-le-mul_right}
 use Rattle.dx_ports.specs.Members.{◌∈◌, ◌⊆◌, here, there, Distinct, Each}
 use Rattle.dx_ports.proofs.Members.{contains_from_in, from_map, in_at, in_map}
+use Rattle.std.specs.declared.alloc.AllocError.{AllocError}
 use Rattle.dx_model.specs.declared.facts.Fact.{Fact}
+use Rattle.dx_model.specs.declared.matches.Places.{Places}
 use Rattle.dx_model.specs.declared.rules.Atom.{Atom}
 use Rattle.dx_model.specs.declared.rules.Rule.{Rule}
 use Rattle.dx_model.specs.declared.values.Value.{Value}
@@ -181,6 +183,11 @@ pub ordered_rows : (convert : Conversions) (I J : List Fact) (S T : List Value) 
     → IsRows convert d J tuples
 ordered_rows convert I J S T d t u tuples same f up r is =
     rw (is, ← same) (rule_rows convert I T d u up (stand_reordered (length (exported d)) (IsTuple convert I d) S T t u r f))
+
+pub ordered_places : (convert : Conversions) (I J : List Fact) (S T : List Value) (d : Rule) (t u : NumberTable) (r : Result Places AllocError) → I ≡ J → IsFoundRule convert I S d t → ValuesAscend T → IsReordered S T t u
+    → IfOk r (λ p. p.tuples ≡ map (texts_of T) u.rows) → IfOk r (λ p. IsRows convert d J p.tuples)
+ordered_places convert I J S T d t u (Ok p) same f up r is = ordered_rows convert I J S T d t u p.tuples same f up r is
+ordered_places convert I J S T d t u (Err e) same f up r is = tt
 
 -- ---- how many they are
 

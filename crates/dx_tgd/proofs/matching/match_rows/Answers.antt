@@ -1,9 +1,12 @@
-use Rattle.std.proofs.Common.{subst, sym, List}
+use Rattle.std.proofs.Common.{ap, subst, sym, List}
 use Rattle.dx_model.specs.declared.values.Value.{Value}
 use Rattle.dx_model.specs.Fitting.{AtomsFitWidths}
 use Rattle.dx_instance.specs.Numbers.{AreApart, Extends}
-use Rattle.dx_instance.specs.Stored.{TableRows, widths}
+use Rattle.dx_instance.specs.Stored.{TableRows, facts, widths}
 use Rattle.dx_instance.proofs.NumberFacts.{stays}
+use Rattle.dx_instance.specs.Shown.{shown_tables}
+use Rattle.dx_tgd.specs.Found.{IsFoundRule}
+use Rattle.dx_tgd.proofs.Founds.{ordered_places}
 use Rattle.dx_tgd.proofs.RuleRows.{found_rows, never_full}
 use Rattle.dx_tgd.proofs.matching.match_rows.Goals as goal
 
@@ -24,3 +27,10 @@ one_in_order-requires-clause-texts g c = (found_rows c.in_ok-found.found c.in-So
 
 pub unreachable-requires : goal.unreachable-requires
 unreachable-requires g c = never_full c.in_ok-found.found _ _ c.in-None.is c.in_ok-found.ensures.rows
+
+pub returns : goal.returns
+returns g c =
+    let J = facts (shown_tables c.numbers-numbers.result.symbols c.numbers-numbers.result.tables) in
+    let s = found_rows c.in_ok-found.found c.in-Some.rows _ (IsFoundRule g.M.Meaning.apply J c.rule_rows.new.symbols c.args.rule.now) c.in-Some.is c.in_ok-found.ensures.rows in
+    ordered_places g.M.Meaning.apply J (facts c.args.source.now) c.rule_rows.new.symbols c.in_ok-symbols-in-Some.symbols c.args.rule.now c.in-Some.rows c.in_ok-symbols-in-Some.rows c.places_of_rows.result
+    (ap facts c.numbers-numbers.ensures.shown) s c.in_ok-symbols-in-Some.ensures.ascend c.in_ok-symbols-in-Some.ensures.same c.places_of_rows.ensures.exact

@@ -1,4 +1,4 @@
-use Rattle.std.proofs.Common.{◌≡◌, ◌<◌, ◌/◌, ◌*◌, arith, length, refl}
+use Rattle.std.proofs.Common.{◌≡◌, ◌<◌, ◌/◌, ◌*◌, ℕ, arith, length, refl, subst}
 use Rattle.std.specs.Prelude.{map}
 use Rattle.std.proofs.lemmas.List.{length-map}
 use Rattle.dx_ports.specs.Members.{Each}
@@ -51,14 +51,15 @@ returns-in_default-clause-refused g c =
     rw c.passed.ensures (
       refl,
       passes g.M.Meaning.apply I c.args.source.now.symbols c.loop-rule.symbols c.args.rules.now c.loop-rule.tables.items c.args.limit c.loop-rule.left c.loop-rule.rule-index c.rule-item.result m.tuples
-      c.loop-rule.invariant c.requires.rules c.loop-rule-test.true c.rule-item.is m.distinct m.each (rw c.conclusion_cells-cells.ensures at many),
+      c.loop-rule.invariant c.requires.rules c.loop-rule-test.true c.rule-item.is m.distinct m.each (subst (λ (n : ℕ). c.loop-rule.left < length m.tuples * n) c.conclusion_cells-cells.ensures many),
     )
 
 pub overflow_mul-used : goal.overflow_mul-used
 overflow_mul-used g c =
     let d = each_item IsRule c.args.rules.now c.loop-rule.rule-index c.rule-item.result c.loop-rule-test.true c.rule-item.is c.requires.rules in
     let k = d.few_cells in
-    product_fits c.count.result c.conclusion_cells-cells.result (omega (arith, c.count.ensures.count, c.count.ensures.few)) (omega (arith, k, c.conclusion_cells-cells.ensures))
+    let p = product_fits c.count.result c.conclusion_cells-cells.result (omega (arith, c.count.ensures.count, c.count.ensures.few)) (omega (arith, k, c.conclusion_cells-cells.ensures)) in
+    omega (arith, p)
 
 pub returns-then-used-left-clause-refused : goal.returns-then-used-left-clause-refused
 returns-then-used-left-clause-refused g c =

@@ -6,4 +6,4 @@ use Rattle.dx_tgd.proofs.plain.matches_of.Goals as goal
 
 pub places_of_rows-requires : goal.places_of_rows-requires
 places_of_rows-requires c =
-    each_item (λ (t : NumberTable). Each t.rows (AreTexts c.args.symbols.now)) c.args.tables.now c.loop-rows.rows-index c.rows-item.result c.loop-rows-test.true c.rows-item.is c.requires
+    each_item (λ (t : NumberTable). Each t.rows (AreTexts c.args.symbols.now)) c.args.tables.now c.loop-rows.rows-index c.rows-item.result c.loop-rows-test.true c.rows-item.is c.requires.texts

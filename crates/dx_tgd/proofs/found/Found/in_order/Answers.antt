@@ -1,7 +1,3 @@
-use Rattle.std.proofs.Common.{subst, sym, ℕ, List, length}
-use Rattle.dx_ports.specs.Members.{Each}
-use Rattle.dx_instance.specs.Cells.{NumberTable}
-use Rattle.dx_instance.specs.Shown.{AreBelow}
 use Rattle.dx_tgd.proofs.Founds.{all_below, all_reordered, all_same_order}
 use Rattle.dx_tgd.proofs.found.Found.in_order.Goals as goal
 
@@ -10,9 +6,9 @@ returns-then-is_ordered-clause-same c = all_same_order c.args.self.symbols c.arg
 
 pub all_ranked-requires : goal.all_ranked-requires
 all_ranked-requires c =
-    subst (λ (ranks : List ℕ). Each c.args.self.tables.items (λ (t : NumberTable). Each t.rows (AreBelow (length ranks)))) (sym c.deref.ensures.value)
-    (all_below c.args.self.symbols c.in_ok-symbols.field-0.symbols c.in_ok-symbols.field-0.ranks.items c.args.self.tables.items c.in_ok-symbols.ensures c.requires.texts)
+    rw (c.deref.ensures.value, c.deref-2.ensures.value) (all_below c.args.self.symbols c.in_ok-symbols.field-0.symbols c.in_ok-symbols.field-0.ranks.items c.args.self.tables.items c.in_ok-symbols.ensures c.requires.texts)
 
 pub returns-clause-same : goal.returns-clause-same
 returns-clause-same c =
-    all_reordered c.args.self.symbols c.in_ok-symbols.field-0.symbols c.in_ok-symbols.field-0.ranks.items c.args.self.tables.items c.in_ok-tables.tables.items c.in_ok-symbols.ensures c.requires.texts (rw c.deref.ensures.value at c.in_ok-tables.ensures)
+    all_reordered c.args.self.symbols c.in_ok-symbols.field-0.symbols c.in_ok-symbols.field-0.ranks.items c.args.self.tables.items c.in_ok-tables.tables.items c.in_ok-symbols.ensures c.requires.texts
+    (rw (c.deref.ensures.value, c.deref-2.ensures.value) at c.in_ok-tables.ensures)
