@@ -1,3 +1,4 @@
+pub mod Demanding
 pub mod Reached
 pub mod Followed
 pub mod Readings
@@ -6,3 +7,7 @@ pub mod Mapped
 pub mod OfRows
 pub mod Whole
 pub mod Received
+pub mod Numbering
+pub mod NumberTables
+pub mod Reading
+pub mod Answering

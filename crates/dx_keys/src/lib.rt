@@ -3,12 +3,12 @@
 //! `chase` gives the forced map of an instance and its image under that map, in which keys hold; or a clash, if nothing in
 //! which keys hold receives the instance (specs/Answers). It numbers the values in ascending order (`numbering`), lists what
 //! determines what in each table (`tables`: the one place that knows of keys), lets `dx_chase` join the numbers, and reads
-//! values again (`reading`). Laws: a chase of rows of numbers is the key chase of the facts that they show, and what the chase
-//! makes of an instance receives it (specs/Laws).
+//! values again (`reading`, `clashes`). A law says that what the chase makes of an instance receives it (specs/Laws).
 #![tactic(auto)]
 
 mod answers;
 mod chasing;
+mod clashes;
 mod fault;
 mod laws;
 mod numbering;
@@ -18,4 +18,4 @@ mod tables;
 pub use answers::{Chased, Clash, KeyStep};
 pub use chasing::chase;
 pub use fault::ChaseFault;
-pub use laws::{chased_is_received, rows_chase_facts};
+pub use laws::chased_is_received;
