@@ -7,7 +7,7 @@ pub mod Mapped
 pub mod OfRows
 pub mod Whole
 pub mod Received
-pub mod Numbering
+pub mod InOrder
 pub mod NumberTables
-pub mod Reading
+pub mod RootMaps
 pub mod Answering

@@ -1,4 +1,4 @@
-use Rattle.dx_keys.proofs.Numbering.{AreConstants}
+use Rattle.dx_keys.proofs.InOrder.{AreConstants}
 use Rattle.dx_keys.proofs.numbering.count_constants.Given as goal
 
 abbrev pub invariant-loop-number : goal.invariant-loop-number

@@ -1,5 +1,5 @@
 use Rattle.std.proofs.Common.{◌≤◌, length}
-use Rattle.dx_keys.proofs.Reading.{MapFrom}
+use Rattle.dx_keys.proofs.RootMaps.{MapFrom}
 use Rattle.dx_keys.proofs.reading.read_map.Given as goal
 
 abbrev pub invariant-loop : goal.invariant-loop

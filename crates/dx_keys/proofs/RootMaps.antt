@@ -22,7 +22,7 @@ use Rattle.dx_instance.proofs.ShownFacts.{number_same}
 use Rattle.dx_chase.specs.Joins.{at}
 use Rattle.dx_keys.specs.Numbers.{AreRoots, null_of, pairs_from}
 use Rattle.dx_keys.proofs.Mapped.{IsPairAt, View, pairs_at}
-use Rattle.dx_keys.proofs.Numbering.{apart}
+use Rattle.dx_keys.proofs.InOrder.{apart}
 use Rattle.dx_keys.proofs.Readings.{AreDistinct}
 
 -- the map lists what becomes of the numbers from i on
