@@ -1,8 +1,10 @@
 -- What the chase of an instance answers, from what a chase over its numbers gives.
 use Rattle.std.proofs.Common.{◌≡◌, ◌∙◌, ℕ, zero, suc, ◌<◌, Option, None, Some, List, [], ◌∷◌, ◌⊎◌, inl, inr, refl, sym, ap, subst, length, get_or, map, arith}
 use Rattle.std.specs.Prelude.{MatchOption}
+use Rattle.std.specs.Ordering.{ordering_reverse}
 use Rattle.std.specs.declared.cmp.Ordering.{Ordering}
 use Rattle.std.specs.declared.cmp.Ordering.TheVariants.{Less, Equal, Greater}
+use Rattle.std.proofs.lemmas.Cmp.{lists_total}
 use Rattle.std.proofs.lemmas.List.{get_or-map, length-map}
 use Rattle.dx_ports.specs.Members.{◌∈◌, Each, here, there}
 use Rattle.dx_ports.proofs.Members.{from_map, in_at, in_map}
@@ -16,7 +18,10 @@ use Rattle.dx_model.specs.Values.{row_cmp, value_cmp}
 use Rattle.dx_model.specs.Chase.{after, IsClashAt}
 use Rattle.dx_model.proofs.ByMembers.{keys_by_members}
 use Rattle.dx_model.proofs.Closed.{image_fits}
-use Rattle.dx_model.proofs.Orders.{slice_exact, value_exact}
+use Rattle.dx_model.proofs.Orders.{slice_exact, value_exact, value_total}
+use Rattle.dx_schema.specs.Forest.{Forest}
+use Rattle.dx_schema.specs.Tables.{model_tables, schema_widths}
+use Rattle.dx_schema.proofs.Whole.{widths_agree}
 use Rattle.dx_instance.specs.Cells.{NumberTable as TableOfNumbers}
 use Rattle.dx_instance.specs.Images.{AreImages, IsImage}
 use Rattle.dx_instance.specs.NullMaps.{ByNull, becomes, pairs_of}
@@ -34,8 +39,9 @@ use Rattle.dx_chase.specs.Boards.{firsts}
 use Rattle.dx_chase.specs.Joins.{IsChased as IsChasedByNumber, AllFit, IsClash as IsClashByNumber, at, demand_at}
 use Rattle.dx_chase.specs.Rows.{AreBelow, AreRowDemands, ColumnsFit, InRows, columns_at, row_at, row_count, table_at}
 use Rattle.dx_keys.specs.declared.answers.Clash.{Clash}
+use Rattle.dx_keys.specs.declared.numbering.Numbering.{Numbering}
 use Rattle.dx_keys.specs.Answers.{IsChased, IsClash, determination_at, fact_in}
-use Rattle.dx_keys.specs.Numbers.{AreTablesIn, AreValues, CanRead, IsRead, determination_of, map_of, row_read, steps_of}
+use Rattle.dx_keys.specs.Numbers.{AreRoots, AreTablesIn, AreValues, CanRead, IsNumbering, IsRead, determination_of, map_of, row_read, steps_of}
 use Rattle.dx_keys.proofs.Demanding.{AreTablesOf, IsRowChase, IsRowClash, IsRowMap, determination_in, fact_of, left_fact}
 use Rattle.dx_keys.proofs.Whole.{row_chase}
 
@@ -44,6 +50,13 @@ place_of : (xs : List (List ℕ)) (x : List ℕ) → x ∈ xs → (r : ℕ) × (
 place_of [] x m = elim m [ ]
 place_of (y ∷ xs) x (here e) = (0, omega arith, e)
 place_of (y ∷ xs) x (there m) = let r = place_of xs x m in (suc r.0, omega (arith, r.1), r.2)
+
+-- what holds at the end, by how it ended
+fits_of : (P : Type 0) (Q : ClashAt → Type 0) (o : Option ClashAt) → o ≡ None → MatchOption o P Q → P
+fits_of P Q o e m = subst (λ (z : Option ClashAt). MatchOption z P Q) e m
+
+clash_of : (P : Type 0) (Q : ClashAt → Type 0) (o : Option ClashAt) (p : ClashAt) → o ≡ Some p → MatchOption o P Q → Q p
+clash_of P Q o p e m = subst (λ (z : Option ClashAt). MatchOption z P Q) e m
 
 -- ---- clashes
 
@@ -66,6 +79,12 @@ turned schema A a b d c C = record {
 
 clash_moved : (schema : List Table) (A B : List Fact) (a x b y : Fact) (d f : Determination) (c g : ℕ) → A ≡ B → a ≡ x → b ≡ y → d ≡ f → c ≡ g → IsClashAt schema A a b d c → IsClashAt schema B x y f g
 clash_moved schema A B a x b y d f c g p q r s t C = rw (← p, ← q, ← r, ← s, ← t) C
+
+pub row_turned : (x y : List Value) → row_cmp x y ≡ Greater → ¬ (row_cmp y x ≡ Greater)
+row_turned x y e g = differ (sym g ∙ ((lists_total value_total).antisymm y x ∙ ap ordering_reverse e))
+  where
+    differ : Greater ≡ Less → ⊥
+    differ q = cc
 
 less_of : (x y : List Value) → ¬ (row_cmp x y ≡ Greater) → ¬ (x ≡ y) → row_cmp x y ≡ Less
 less_of x y g d = by (row_cmp x y) refl
@@ -130,7 +149,7 @@ module _ (schema : List Table) (I : List TableRows) (S : List Value) (ts : List 
 
     module _ (none : c.chased.clash ≡ None) (m : ByNull) (K : List TableRows) (G : pairs_of m ≡ map_of S c.chased.roots) (Z : IsSorting (shown_tables S (map (renumbered c.chased.roots) ts)) K) where
       is_map : IsRowMap schema S (facts I) c
-      is_map = rw none at chased.ends
+      is_map = fits_of (IsRowMap schema S (facts I) c) (IsRowClash schema S (facts I) tables c) c.chased.clash none chased.ends
 
       moved_by : (v : Value) → moved (becomes m) v ≡ moved (given (map_of S c.chased.roots)) v
       moved_by (Const t) = refl
@@ -152,7 +171,7 @@ module _ (schema : List Table) (I : List TableRows) (S : List Value) (ts : List 
 
     module _ (p : ClashAt) (some : c.chased.clash ≡ Some p) where
       by_number : IsClashByNumber consts c.demands c.chased.roots p
-      by_number = rw some at X.ends
+      by_number = clash_of (AllFit c.demands c.chased.roots) (IsClashByNumber consts c.demands c.chased.roots) c.chased.clash p some X.ends
 
       pub can_read : CanRead S tables c p
       can_read = record {
@@ -167,7 +186,7 @@ module _ (schema : List Table) (I : List TableRows) (S : List Value) (ts : List 
 
       module _ (k : Clash) (Z : IsRead S tables c p k) where
         is_clash : IsRowClash schema S (facts I) tables c p
-        is_clash = rw some at chased.ends
+        is_clash = clash_of (IsRowMap schema S (facts I) c) (IsRowClash schema S (facts I) tables c) c.chased.clash p some chased.ends
 
         in_rows : InRows tables (demand_at c.demands p.one).table (demand_at c.demands p.one).determination (demand_at c.demands p.one).row
         in_rows = (R.from _ (in_at c.demands p.one _ by_number.asks.alike.one)).inside
@@ -204,3 +223,41 @@ module _ (schema : List Table) (I : List TableRows) (S : List Value) (ts : List 
           lesser = less_of k.left k.right Z.in_order (λ e. as_read.break.differ (ap (λ (row : List Value). cell row k.column) e));
           none = is_clash.none;
         }
+
+-- ---- what stands when the rows are chased, and after it
+
+pub record Numbered (f : Forest) (I : List TableRows) (n : Numbering) (rows : List NumberTable) : Type 0 where
+  pub widths_are : widths I ≡ schema_widths f
+  pub wide : Each I (λ (t : TableRows). Each t.rows (λ (row : List Value). length row ≡ t.width))
+  pub determined : DeterminationsFit (model_tables f)
+  pub numbering : IsNumbering I n
+  pub listed : AreTablesIn (model_tables f) n.tables.items rows
+
+pub record Done (n : Numbering) (rows : List NumberTable) (c : RowsChased) : Type 0 where
+  pub demands : AreRowDemands rows c.demands
+  pub ended : IsChasedByNumber (firsts (length n.symbols)) n.constants c.demands c.chased
+
+module _ (f : Forest) (I : List TableRows) (n : Numbering) (rows : List NumberTable) (N : Numbered f I n rows) where
+  by_schema : widths I ≡ map (λ (t : Table). t.width) (model_tables f)
+  by_schema = N.widths_are ∙ widths_agree f
+
+  pub numbers_fit : ColumnsFit rows
+  numbers_fit = columns_fit (model_tables f) I n.symbols n.tables.items rows by_schema N.wide N.numbering.is_shown N.numbering.parts N.listed N.determined
+
+  pub numbers_below : AreBelow (length n.symbols) rows
+  numbers_below = are_below (model_tables f) I n.symbols n.tables.items rows by_schema N.wide N.numbering.is_shown N.numbering.parts N.listed
+
+  module _ (c : RowsChased) (D : Done n rows c) where
+    pub roots_are_read : AreRoots n.symbols c.chased.roots
+    roots_are_read =
+        (chased (model_tables f) I n.symbols n.tables.items rows by_schema N.wide N.numbering.is_shown N.numbering.parts N.listed n.constants c N.numbering.ordered N.determined D.demands D.ended).roots_are
+
+    pub map_answers : c.chased.clash ≡ None → (m : ByNull) (K : List TableRows) → pairs_of m ≡ map_of n.symbols c.chased.roots
+        → IsSorting (shown_tables n.symbols (map (renumbered c.chased.roots) n.tables.items)) K → IsChased (model_tables f) I (record { instance = K; map = m })
+    map_answers = is_chased (model_tables f) I n.symbols n.tables.items rows by_schema N.wide N.numbering.is_shown N.numbering.parts N.listed n.constants c N.numbering.ordered N.determined D.demands D.ended
+
+    pub clash_can_be_read : (p : ClashAt) → c.chased.clash ≡ Some p → CanRead n.symbols rows c p
+    clash_can_be_read = can_read (model_tables f) I n.symbols n.tables.items rows by_schema N.wide N.numbering.is_shown N.numbering.parts N.listed n.constants c N.numbering.ordered N.determined D.demands D.ended
+
+    pub clash_answers : (p : ClashAt) → c.chased.clash ≡ Some p → (k : Clash) → IsRead n.symbols rows c p k → IsClash (model_tables f) I k
+    clash_answers = is_answer (model_tables f) I n.symbols n.tables.items rows by_schema N.wide N.numbering.is_shown N.numbering.parts N.listed n.constants c N.numbering.ordered N.determined D.demands D.ended

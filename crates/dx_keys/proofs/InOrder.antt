@@ -3,7 +3,7 @@ use Rattle.std.proofs.Common.{◌≡◌, ◌∙◌, ℕ, suc, ◌+◌, ◌-◌, 
 use Rattle.std.specs.List.{range_with_len}
 use Rattle.std.specs.declared.cmp.Ordering.TheVariants.{Less, Equal, Greater}
 use Rattle.std.proofs.lemmas.Bool.{cases_eq}
-use Rattle.std.proofs.lemmas.List.{length-map, take_all, take_more}
+use Rattle.std.proofs.lemmas.List.{get_or_default, length-map, take_all, take_more}
 use Rattle.dx_ports.specs.Members.{◌∈◌, Distinct, Each, here, there}
 use Rattle.dx_ports.proofs.Members.{in_at, in_map}
 use Rattle.dx_model.specs.declared.values.NullId.{NullId}
@@ -13,9 +13,10 @@ use Rattle.dx_model.specs.Tables.{cell}
 use Rattle.dx_model.specs.Values.{Text, value_cmp}
 use Rattle.dx_instance.specs.Cells.{NumberTable, numbers_at, with_numbers}
 use Rattle.dx_instance.specs.Numbers.{AreApart, IsOrdering, ValuesAscend, value_of}
-use Rattle.dx_instance.specs.Shown.{NumbersFit, PartsFit, RowsFit, shown, shown_row, shown_tables}
+use Rattle.dx_instance.specs.Shown.{NumbersFit, PartsFit, RowsFit, renumbered, shown, shown_row, shown_tables}
 use Rattle.dx_instance.specs.Stored.{TableRows}
 use Rattle.dx_instance.proofs.NumberFacts.{self_equal}
+use Rattle.dx_instance.proofs.SortFacts.{images_fit, parts_rows, ranks_show}
 use Rattle.dx_chase.specs.Joins.{at}
 use Rattle.dx_chase.proofs.Opening.{at_first, length_range}
 use Rattle.dx_keys.specs.Numbers.{AreValues}
@@ -60,6 +61,9 @@ values_all S n up f h = record {
   constants = λ i l k. f i l;
   nulls = λ i l k. absurd (omega arith);
 }
+
+pub values_ascend : (S : List Value) (n : ℕ) → AreValues n S → ValuesAscend S
+values_ascend S n V i j d l k = rw (get_or_default S i d (Const []) (omega arith), get_or_default S j d (Const []) k) (V.ascend i j l k)
 
 -- the first p rows of a table
 abbrev pub first_rows : NumberTable → ℕ → NumberTable
@@ -107,3 +111,15 @@ parts_of S ts I up small f e few w d l = record {
       fits_of S t (f t m) (w (shown S t) k) (d (shown S t) k) (l (shown S t) k);
   few = few;
 }
+
+-- tables with ranks in the place of numbers show the same, and fit
+pub ranked_parts : (I : List TableRows) (S T : List Value) (ranks : List ℕ) (ts us : List NumberTable) → IsOrdering S T ranks → PartsFit S ts → us ≡ map (renumbered ranks) ts → shown_tables S ts ≡ I
+    → Each I (λ (t : TableRows). Each t.rows (λ (r : List Value). length r ≡ t.width)) → Each I (λ (t : TableRows). Distinct t.rows) → Each I (λ (t : TableRows). length t.rows < 2 ^ 32)
+    → (shown_tables T us ≡ I) × PartsFit T us
+ranked_parts I S T ranks ts us o P e s w d l =
+    let below : (x : ℕ) → x < length S → at ranks x < length T = λ x h. let k = o.within x h in let m = o.many in omega arith in
+    let fit = images_fit (length T) (length S) ranks ts below (parts_rows S ts P) in
+    let is = ranks_show S T ranks ts o (parts_rows S ts P) ∙ s in
+    let few : length (map (renumbered ranks) ts) < 2 ^ 32 - 1 = (let m = length-map ts (renumbered ranks) in let f = P.few in omega arith) in
+    let small : length T < 2 ^ 32 = (let m = o.many in let f = P.small in omega arith) in
+    rw e (is, parts_of T (map (renumbered ranks) ts) I o.ascend small fit is few w d l)

@@ -38,7 +38,8 @@ none_of_length (x ∷ xs) e = absurd (omega (arith, e))
 
 pub map_none : (S : List Value) (roots : List ℕ) (i : ℕ) (m : ByNull) → m ≡ finite.empty → length S ≤ i → MapFrom S roots i m
 map_none S roots i m e h =
-    let none : finite.entries {R = null_cmp} {X = Value} finite.empty ≡ [] = none_of_length _ (sym (finite.len-entries _) ∙ finite.len-empty null_cmp Value) in
+    let nothing : ByNull = finite.empty in
+    let none : finite.entries nothing ≡ [] = none_of_length (finite.entries nothing) (sym (finite.len-entries nothing) ∙ finite.len-empty null_cmp Value) in
     rw (e, drop_all i S h) (ap (map pair_of) none)
 
 pub map_kept : (S : List Value) (roots : List ℕ) (i j : ℕ) (m : ByNull) → j ≡ i + 1 → i < length S → at roots i ≡ i → MapFrom S roots j m → MapFrom S roots i m
