@@ -1,3 +1,4 @@
+pub mod Demanding
 pub mod Reached
 pub mod Followed
 pub mod Readings
@@ -9,3 +10,7 @@ pub mod Received
 pub mod EndsFound
 pub mod EndsReached
 pub mod EndsAnswered
+pub mod InOrder
+pub mod NumberTables
+pub mod RootMaps
+pub mod Answering

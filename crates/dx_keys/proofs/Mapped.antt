@@ -16,15 +16,16 @@ use Rattle.dx_chase.specs.declared.demands.Demand.{Demand}
 use Rattle.dx_chase.specs.Joins.{at, AreDemands, AllFit}
 use Rattle.dx_chase.specs.Boards.{firsts}
 use Rattle.dx_chase.proofs.Opening.{at_first, length_range}
-use Rattle.dx_keys.specs.Numbers.{AreValues, AreDemandsOf, IsFactMap, null_of, pairs_from, map_of}
+use Rattle.dx_keys.specs.Numbers.{AreValues, null_of, pairs_from, map_of}
+use Rattle.dx_keys.proofs.Demanding.{AreDemandsOf, IsFactMap}
 use Rattle.dx_keys.proofs.Followed.{followed_first, followed_forced}
 use Rattle.dx_keys.proofs.Readings.{AreDistinct}
 use Rattle.dx_keys.proofs.Bridge.{Stands, keys_hold, distinct}
 
 -- the values from a number on
-record View (S : List Value) (i : ℕ) (vs : List Value) : Type 0 where
-  each : i + length vs ≡ length S
-  same : (j : ℕ) → j < length vs → cell vs j ≡ cell S (i + j)
+pub record View (S : List Value) (i : ℕ) (vs : List Value) : Type 0 where
+  pub each : i + length vs ≡ length S
+  pub same : (j : ℕ) → j < length vs → cell vs j ≡ cell S (i + j)
 
 view_more : (S : List Value) (i : ℕ) (v : Value) (vs : List Value) → View S i (v ∷ vs) → View S (i + 1) vs
 view_more S i v vs W = record {
@@ -41,20 +42,20 @@ view_here S i v vs W = (let e : i + 0 ≡ i = omega arith in W.same 0 (omega ari
 module _ (S : List Value) (roots : List ℕ) (D : AreDistinct S) (inside : (k : ℕ) → k < length S → at roots k < length S)
     (nulls : (k : ℕ) → k < length S → ¬ (at roots k ≡ k) → (n : NullId) × (cell S k ≡ Null n)) where
   -- a pair is that of a number that is not its own root
-  record IsPairAt (i : ℕ) (p : NullPair) : Type 0 where
-    k : ℕ
-    from : i ≤ k
-    small : k < length S
-    null : cell S k ≡ Null p.null
-    value : p.value ≡ cell S (at roots k)
-    other : ¬ (at roots k ≡ k)
+  pub record IsPairAt (i : ℕ) (p : NullPair) : Type 0 where
+    pub k : ℕ
+    pub from : i ≤ k
+    pub small : k < length S
+    pub null : cell S k ≡ Null p.null
+    pub value : p.value ≡ cell S (at roots k)
+    pub other : ¬ (at roots k ≡ k)
 
   pair_here : (i : ℕ) (v : Value) → v ≡ cell S i → i < length S → ¬ (at roots i ≡ i) → cell S i ≡ Null (null_of v)
   pair_here i v e h d =
       let w = nulls i h d in
       w.1 ∙ ap Null (sym (ap null_of w.1) ∙ ap null_of (sym e))
 
-  pairs_at : (i : ℕ) (vs : List Value) → View S i vs → (p : NullPair) → p ∈ pairs_from S roots i vs → IsPairAt i p
+  pub pairs_at : (i : ℕ) (vs : List Value) → View S i vs → (p : NullPair) → p ∈ pairs_from S roots i vs → IsPairAt i p
   pairs_at i [] W p m = elim m [ ]
   pairs_at i (v ∷ vs) W p m = elim (cases_eq (at roots i) i) [
     | inl e ↦ later (pairs_at (i + 1) vs (view_more S i v vs W) p (rw (eq-eqb (at roots i) i e) at m))
@@ -167,20 +168,33 @@ stands_first schema S consts A = record {
   constants = λ i h k. at_first (length S) i k;
 }
 
+-- a number that is not its own root is that of a null
+pub nulls_at : (schema : List Table) (S : List Value) (consts : ℕ) (A : List Fact) → AreValues consts S → (roots : List ℕ) (h : NullId → Value) (ss : List NullPair) → Stands schema S consts A roots h ss
+    → (k : ℕ) → k < length S → ¬ (at roots k ≡ k) → (n : NullId) × (cell S k ≡ Null n)
+nulls_at schema S consts A V roots h ss T k l d = elim (cases_lt k consts) [
+  | inl c ↦ absurd (d (T.constants k c l))
+  | inr g ↦ V.nulls k g l
+]
+
 module _ (schema : List Table) (S : List Value) (consts : ℕ) (A : List Fact) (ds : List Demand) (V : AreValues consts S) (O : HasNumbers S A)
     (D : AreDemands (length S) ds) (M : AreDemandsOf schema S A ds) where
   module _ (roots : List ℕ) (h : NullId → Value) (ss : List NullPair) (T : Stands schema S consts A roots h ss) (fits : IsInstance schema A)
       (F : AllFit ds roots) where
-    null_at : (k : ℕ) → k < length S → ¬ (at roots k ≡ k) → (n : NullId) × (cell S k ≡ Null n)
-    null_at k l d = elim (cases_lt k consts) [
-      | inl c ↦ absurd (d (T.constants k c l))
-      | inr g ↦ V.nulls k g l
+    -- what each number gives, also one that no fact has
+    pub root_gives : (i : ℕ) → i < length S → moved (given (map_of S roots)) (cell S i) ≡ cell S (at roots i)
+    root_gives i l = elim (cases_lt i consts) [
+      | inl c ↦
+          let w = V.constants i c l in
+          ap (moved (given (map_of S roots))) w.1 ∙ (sym w.1 ∙ ap (cell S) (sym (T.constants i c l)))
+      | inr g ↦
+          let w = V.nulls i g l in
+          ap (moved (given (map_of S roots))) w.1 ∙ gives_from S roots (distinct consts S V) T.reads.inside (nulls_at schema S consts A V roots h ss T) 0 S (view_first S) i w.0 (omega arith) l w.1
     ]
 
     pub map_gives : (n : NullId) → Null n ∈ values A → given (map_of S roots) n ≡ h n
     map_gives n m =
         let w = O (Null n) m in
-        gives_from S roots (distinct consts S V) T.reads.inside null_at 0 S (view_first S) w.0 n (omega arith) w.1 w.2 ∙ sym (T.reads.gives n w.0 w.1 w.2)
+        gives_from S roots (distinct consts S V) T.reads.inside (nulls_at schema S consts A V roots h ss T) 0 S (view_first S) w.0 n (omega arith) w.1 w.2 ∙ sym (T.reads.gives n w.0 w.1 w.2)
 
     image_is : image (map_of S roots) A ≡ map (fact_moved h) A
     image_is = moved_same (given (map_of S roots)) h A map_gives
@@ -191,9 +205,9 @@ module _ (schema : List Table) (S : List Value) (consts : ℕ) (A : List Fact) (
     pub fact_map : IsFactMap schema A ss (map_of S roots)
     fact_map = record {
       forced = record {
-        null_map = map_from S roots (distinct consts S V) T.reads.inside null_at 0 S (view_first S);
+        null_map = map_from S roots (distinct consts S V) T.reads.inside (nulls_at schema S consts A V roots h ss T) 0 S (view_first S);
         here_alone = λ p m.
-            let Q = pairs_at S roots (distinct consts S V) T.reads.inside null_at 0 S (view_first S) p m in
+            let Q = pairs_at S roots (distinct consts S V) T.reads.inside (nulls_at schema S consts A V roots h ss T) 0 S (view_first S) p m in
             elim (T.followed.from p.null) [
               | inl e ↦ absurd (Q.other (distinct consts S V (at roots Q.k) Q.k (T.reads.inside Q.k Q.small) Q.small (sym (T.reads.gives p.null Q.k Q.small Q.null) ∙ (e ∙ sym Q.null))))
               | inr k ↦ k

@@ -1,8 +1,11 @@
 // An instance as rows of numbers that compare as their values.
-ghost use Rattle.std.specs.Prelude.{◌≡◌, ◌<◌, IfOk, length, map};
+ghost use Rattle.std.specs.Prelude.{◌≡◌, ◌<◌, ◌≤◌, ℕ, IfOk, length, map};
 ghost use Rattle.std.specs.List.{range_with_len};
+ghost use Rattle.dx_model.specs.Tables.{cell};
+ghost use Rattle.dx_model.specs.Values.{Text};
+ghost use Rattle.dx_model.specs.declared.values.Value.TheVariants.{Const};
 ghost use Rattle.dx_instance.specs.Numbers.{IsOrdering, ValuesAscend};
-ghost use Rattle.dx_instance.specs.Shown.{numbers_of_table, renumbered};
+ghost use Rattle.dx_instance.specs.Shown.{PartsFit, numbers_of_table, renumbered};
 ghost use Rattle.dx_keys.specs.Numbers.{AreValues, IsNumbering};
 
 use dx_instance::{Instance, Numbers, Ordered, Rows, Symbols, Value};
@@ -17,6 +20,7 @@ pub struct Numbering {
 }
 
 /// The numbers below n, ascending.
+#[tactic(auto, using(dx_chase::proofs::Opening::firsts_more))]
 pub fn counted(alloc: Global, n: u32) -> Result<Vec<u32>, AllocError>
     ensures { IfOk result (λ v. v.items ≡ range_with_len 0 n) }
 {
@@ -46,8 +50,9 @@ fn count_constants(symbols: &Symbols) -> u32
 {
     let count = symbols.len();
     for number in 0..count {
-        if let Value::Null(_) = symbols.value(number) {
-            return number as u32;
+        match symbols.value(number) {
+            Value::Null(_) => return number as u32,
+            Value::Const(_) => {}
         }
     }
     count as u32
@@ -67,7 +72,8 @@ fn rows_copied(alloc: Global, numbers: &Numbers, table: u32) -> Result<Rows, All
 
 // The rows of all tables, with ranks in the place of numbers.
 fn ranked(alloc: Global, numbers: &Numbers, ranks: &[u32]) -> Result<Vec<Rows>, AllocError>
-    requires { length ranks.now ≡ length numbers.now.symbols }
+    requires fit { PartsFit numbers.now.symbols numbers.now.tables }
+    requires ranks { length ranks.now ≡ length numbers.now.symbols }
     ensures { IfOk result (λ all. all.items ≡ map (renumbered ranks.now) numbers.now.tables) }
 {
     let mut all = Vec::new(alloc);
@@ -86,6 +92,7 @@ fn ranked(alloc: Global, numbers: &Numbers, ranks: &[u32]) -> Result<Vec<Rows>, 
 pub fn number(alloc: Global, instance: &Instance) -> Result<Numbering, AllocError>
     ensures { IfOk result (IsNumbering instance.now) }
 {
+    let _tables = instance.tables();
     let numbers = instance.numbers();
     let Ordered { symbols, ranks } = symbols_in_order(alloc, &numbers)?;
     let constants = count_constants(&symbols);

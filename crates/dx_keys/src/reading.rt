@@ -1,10 +1,13 @@
 // From numbers back to values.
-ghost use Rattle.std.specs.Prelude.{◌≡◌, ◌<◌, IfOk, length, map, ℕ};
+ghost use Rattle.std.specs.Prelude.{◌≡◌, ◌<◌, IfOk, length, map};
+ghost use Rattle.dx_ports.specs.Members.{Each};
 ghost use Rattle.dx_model.specs.Tables.{cell};
 ghost use Rattle.dx_chase.specs.Joins.{at};
-ghost use Rattle.dx_instance.specs.NullMaps.{becomes};
-ghost use Rattle.dx_instance.specs.Shown.{AreBelow, RowsFit, renumbered};
-ghost use Rattle.dx_keys.specs.Numbers.{map_of, null_of, pairs_of};
+ghost use Rattle.dx_instance.specs.NullMaps.{pairs_of};
+ghost use Rattle.dx_instance.specs.Numbers.{ValuesAscend};
+ghost use Rattle.dx_instance.specs.Shown.{PartsFit, RowsFit, renumbered, shown_tables};
+ghost use Rattle.dx_instance.specs.Stored.{IsSorting};
+ghost use Rattle.dx_keys.specs.Numbers.{AreRoots, map_of, null_of, steps_of};
 
 use dx_chase::Step;
 use dx_instance::{Instance, NullId, NullMap, Row, Rows, Symbols, Value, copy_value};
@@ -27,20 +30,24 @@ fn null_at(symbols: &Symbols, number: u32) -> NullId
     }
 }
 
-/// What becomes of each null, by the roots of numbers.
+/// What becomes of each null: the value at the root of its number.
 ///
 /// # Errors
 ///
 /// `AllocError` if there is no memory.
-pub fn null_map(alloc: Global, symbols: &Symbols, roots: &[u32]) -> Result<NullMap, AllocError> {
+pub fn read_map(alloc: Global, symbols: &Symbols, roots: &[u32]) -> Result<NullMap, AllocError>
+    requires ascend { ValuesAscend symbols.now }
+    requires roots { AreRoots symbols.now roots.now }
+    ensures { IfOk result (λ m. pairs_of m ≡ map_of symbols.now roots.now) }
+{
     let mut map = NullMap::new(alloc);
-    let mut number = roots.len();
+    let mut number = symbols.len() as u32;
     while number > 0 {
         number -= 1;
-        let root = roots[number];
-        if root as usize != number {
+        let root = roots[number as usize];
+        if root != number {
             let value = copy_value(symbols.value(root as u64))?;
-            map.set(null_at(symbols, number as u32), value)?;
+            map.set(null_at(symbols, number), value)?;
         }
     }
     Ok(map)
@@ -51,11 +58,14 @@ pub fn null_map(alloc: Global, symbols: &Symbols, roots: &[u32]) -> Result<NullM
 /// # Errors
 ///
 /// `AllocError` if there is no memory.
-pub fn steps_read(
+pub fn read_steps(
     alloc: Global,
     symbols: &Symbols,
     steps: &[Step],
-) -> Result<Items<NullPair>, AllocError> {
+) -> Result<Items<NullPair>, AllocError>
+    requires { Each steps.now (λ s. (s.greater < length symbols.now) × (s.lesser < length symbols.now)) }
+    ensures { IfOk result (λ all. all ≡ steps_of symbols.now steps.now) }
+{
     let mut all = Vec::with_capacity(alloc, steps.len())?;
     for step in steps {
         all.push(NullPair {
@@ -71,12 +81,16 @@ pub fn steps_read(
 /// # Errors
 ///
 /// `AllocError` if there is no memory.
-pub fn row_read(
+pub fn read_row(
     alloc: Global,
     symbols: &Symbols,
     roots: &[u32],
     numbers: &[u32],
-) -> Result<Row, AllocError> {
+) -> Result<Row, AllocError>
+    requires roots { AreRoots symbols.now roots.now }
+    requires numbers { Each numbers.now (λ v. v < length symbols.now) }
+    ensures { IfOk result (λ row. row ≡ map (cell symbols.now) (map (at roots.now) numbers.now)) }
+{
     let mut row = Row::new(alloc);
     for number in numbers {
         let root = roots[*number as usize];
@@ -85,20 +99,33 @@ pub fn row_read(
     Ok(row)
 }
 
-/// An instance of the rows at the roots of their numbers.
-///
-/// # Errors
-///
-/// `AllocError` if there is no memory.
-pub fn image(
-    alloc: Global,
-    symbols: Symbols,
-    roots: &[u32],
-    tables: Vec<Rows>,
-) -> Result<Instance, AllocError> {
+// The rows of tables, each number at its root.
+fn at_roots(alloc: Global, roots: &[u32], tables: &[Rows]) -> Result<Vec<Rows>, AllocError>
+    requires { Each tables.now (RowsFit (length roots.now)) }
+    ensures { IfOk result (λ all. all.items ≡ map (renumbered roots.now) tables.now) }
+{
     let mut all = Vec::new(alloc);
     for rows in tables {
         all.push(rows.renumbered(alloc, roots)?)?;
     }
+    Ok(all)
+}
+
+/// An instance of the rows, each number at its root.
+///
+/// # Errors
+///
+/// `AllocError` if there is no memory.
+pub fn read_image(
+    alloc: Global,
+    symbols: Symbols,
+    roots: &[u32],
+    tables: &[Rows],
+) -> Result<Instance, AllocError>
+    requires roots { AreRoots symbols roots.now }
+    requires fit { PartsFit symbols tables.now }
+    ensures { IfOk result (IsSorting (shown_tables symbols (map (renumbered roots.now) tables.now))) }
+{
+    let all = at_roots(alloc, roots, tables)?;
     Instance::from_rows(alloc, symbols, all)
 }

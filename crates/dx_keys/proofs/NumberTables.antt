@@ -1,0 +1,51 @@
+-- Tables of numbers with what determines what in them.
+use Rattle.std.proofs.Common.{◌≡◌, ◌∙◌, ℕ, suc, ◌+◌, ◌<◌, ◌≤◌, List, [], ◌∷◌, ◌++◌, inl, inr, refl, sym, ap, subst, length, get_or, take, map, arith}
+use Rattle.std.proofs.lemmas.Bool.{cases_lt}
+use Rattle.std.proofs.lemmas.List.{get_or-map, get_or_append_left, get_or_push, length-append}
+use Rattle.dx_model.specs.declared.tables.Key.{Key}
+use Rattle.dx_model.specs.Tables.{Table as Numbers, key_of, table_of}
+use Rattle.dx_schema.specs.Forest.{Forest}
+use Rattle.dx_schema.specs.Tables.{TableOf, as_numbers, model_tables, table_at as table_in, tables_of}
+use Rattle.dx_instance.specs.Cells.{NumberTable as TableOfNumbers}
+use Rattle.dx_instance.specs.Shown.{numbers_of_table}
+use Rattle.dx_chase.specs.declared.rows.NumberTable.{NumberTable}
+use Rattle.dx_chase.specs.Rows.{table_at}
+use Rattle.dx_keys.specs.Numbers.{AreTablesIn, determination_of}
+
+-- the determinations of a table of a schema are its keys
+pub keys_determine : (f : Forest) (t : ℕ) → t < length (tables_of f)
+    → map (λ (k : Key). key_of (length (table_in f t).columns) k.columns) (table_in f t).keys ≡ (table_of (model_tables f) t).determinations
+keys_determine f t h = sym (ap (λ (x : Numbers). x.determinations) (get_or-map as_numbers (tables_of f) t _ _ h))
+
+-- the first n tables
+pub record AreFirst (schema : List Numbers) (rows : List TableOfNumbers) (n : ℕ) (tables : List NumberTable) : Type 0 where
+  pub many : length tables ≡ n
+  pub rows_are : (t : ℕ) → t < n → (table_at tables t).rows ≡ (numbers_of_table rows t).rows
+  pub determined : (t : ℕ) → t < n → map determination_of (table_at tables t).determinations ≡ (table_of schema t).determinations
+
+pub first_more : (schema : List Numbers) (rows : List TableOfNumbers) (n : ℕ) (old new : List NumberTable) (x : NumberTable) → AreFirst schema rows n old → new ≡ old ++ x ∷ []
+    → x.rows ≡ (numbers_of_table rows n).rows → map determination_of x.determinations ≡ (table_of schema n).determinations → AreFirst schema rows (n + 1) new
+first_more schema rows n old new x F e r d = rw e (record {
+  many = (let q = length-append old (x ∷ []) in let m = F.many in omega arith);
+  rows_are = λ t h. elim (cases_lt t n) [
+    | inl l ↦ ap (λ (z : NumberTable). z.rows) (before t l) ∙ F.rows_are t l
+    | inr l ↦ let q : n ≡ t = omega arith in ap (λ (z : NumberTable). z.rows) (last t q) ∙ (r ∙ ap (λ k. (numbers_of_table rows k).rows) q)
+  ];
+  determined = λ t h. elim (cases_lt t n) [
+    | inl l ↦ ap (λ (z : NumberTable). map determination_of z.determinations) (before t l) ∙ F.determined t l
+    | inr l ↦ let q : n ≡ t = omega arith in ap (λ (z : NumberTable). map determination_of z.determinations) (last t q) ∙ (d ∙ ap (λ k. (table_of schema k).determinations) q)
+  ];
+})
+  where
+    before : (t : ℕ) → t < n → table_at (old ++ x ∷ []) t ≡ table_at old t
+    before t l = get_or_append_left old (x ∷ []) _ t (let m = F.many in omega arith)
+
+    last : (t : ℕ) → n ≡ t → table_at (old ++ x ∷ []) t ≡ x
+    last t q = get_or_push old x _ t (F.many ∙ q)
+
+pub first_all : (schema : List Numbers) (rows : List TableOfNumbers) (n : ℕ) (tables : List NumberTable) → AreFirst schema rows n tables → n ≡ length rows → AreTablesIn schema rows tables
+first_all schema rows n tables F e = record {
+  many = F.many ∙ e;
+  rows_are = λ t h. F.rows_are t (let m = F.many in omega arith);
+  determined = λ t h. F.determined t (let m = F.many in omega arith);
+}

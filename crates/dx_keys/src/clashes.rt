@@ -1,0 +1,95 @@
+// A clash of rows of numbers, by values.
+ghost use Rattle.std.specs.Prelude.{◌≡◌, ◌<◌, ◌⊎◌, IfOk, length};
+ghost use Rattle.std.specs.declared.cmp.Ordering.TheVariants.{Greater};
+ghost use Rattle.dx_model.specs.Values.{row_cmp};
+ghost use Rattle.dx_chase.specs.Joins.{at};
+ghost use Rattle.dx_chase.specs.Rows.{AreBelow, IsRowDemand, columns_at};
+ghost use Rattle.dx_keys.specs.Numbers.{AreRoots, CanRead, IsRead, row_read};
+
+use crate::answers::Clash;
+use crate::reading::{read_row, read_steps};
+use dx_chase::{ClashAt, Demand, NumberTable, RowsChased};
+use dx_instance::{Row, Symbols};
+use std::alloc::{AllocError, Global};
+use std::cmp::Ordering;
+
+// The row of a demand, each number at its root.
+fn demand_row(
+    alloc: Global,
+    symbols: &Symbols,
+    tables: &[NumberTable],
+    roots: &[u32],
+    demand: &Demand,
+) -> Result<Row, AllocError>
+    requires roots { AreRoots symbols.now roots.now }
+    requires below { AreBelow (length symbols.now) tables.now }
+    requires demand { IsRowDemand tables.now demand.now }
+    ensures { IfOk result (λ row. row ≡ row_read symbols.now tables.now roots.now demand.now) }
+{
+    let table = &tables[demand.table as usize];
+    let rows = table.rows.items();
+    let numbers = rows[demand.row as usize].items();
+    read_row(alloc, symbols, roots, numbers)
+}
+
+// The column at a place on the right of a demand.
+fn column_at(tables: &[NumberTable], demand: &Demand, place: usize) -> u32
+    requires demand { IsRowDemand tables.now demand.now }
+    requires place { place < length demand.now.right }
+    ensures { result ≡ at (columns_at tables.now demand.now.table demand.now.determination).right place }
+{
+    let table = &tables[demand.table as usize];
+    let all = table.determinations.items();
+    let columns = all[demand.determination as usize].right.items();
+    columns[place]
+}
+
+// Two rows, the lesser first.
+fn in_order(one: Row, other: Row) -> (Row, Row)
+    ensures rows { ((result.0 ≡ one) × (result.1 ≡ other)) ⊎ ((result.0 ≡ other) × (result.1 ≡ one)) }
+    ensures order { ¬ (row_cmp result.0 result.1 ≡ Greater) }
+{
+    match one.cmp(&other) {
+        Ordering::Greater => (other, one),
+        Ordering::Less => (one, other),
+        Ordering::Equal => (one, other),
+    }
+}
+
+/// A clash by values.
+///
+/// # Errors
+///
+/// `AllocError` if there is no memory.
+pub fn read_clash(
+    alloc: Global,
+    symbols: &Symbols,
+    tables: &[NumberTable],
+    found: &RowsChased,
+    place: ClashAt,
+) -> Result<Clash, AllocError>
+    requires { CanRead symbols.now tables.now found.now place }
+    ensures { IfOk result (IsRead symbols.now tables.now found.now place) }
+{
+    let demands = found.demands.items();
+    let roots = found.chased.roots.items();
+    let demand = &demands[place.one as usize];
+    let steps = read_steps(alloc, symbols, found.chased.steps.items())?;
+    let one = demand_row(alloc, symbols, tables, roots, demand)?;
+    let other = demand_row(
+        alloc,
+        symbols,
+        tables,
+        roots,
+        &demands[place.other as usize],
+    )?;
+    let (left, right) = in_order(one, other);
+    Ok(Clash {
+        steps,
+        table: demand.table,
+        key: demand.determination,
+        left,
+        right,
+        column: column_at(tables, demand, place.column),
+    })
+}
