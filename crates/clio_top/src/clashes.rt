@@ -25,12 +25,7 @@ fn table_named(alloc: Global, schema: &Schema, table: u32) -> Result<Text, Alloc
 }
 
 // The name of a column, and the empty text if there is no such column.
-fn column_named(
-    alloc: Global,
-    schema: &Schema,
-    table: u32,
-    column: u32,
-) -> Result<Text, AllocError>
+fn column_named(alloc: Global, schema: &Schema, table: u32, column: u32) -> Result<Text, AllocError>
     ensures { IfOk result (λ t. t ≡ column_text schema.now table column) }
 {
     if table < schema.tables() && column < schema.width(table) {

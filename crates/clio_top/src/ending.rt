@@ -32,13 +32,20 @@ pub enum Ending {
         column: Text,
     },
     Mapping(MapFault),
-    Rows { file: Text, fault: RowsFault },
+    Rows {
+        file: Text,
+        fault: RowsFault,
+    },
     /// A count passed its number.
     Limit(Limit),
     /// A file could not be read.
-    ReadFault { file: Text },
+    ReadFault {
+        file: Text,
+    },
     /// Something could not be written. So many files were written whole, the first of the list.
-    WriteFault { files: u64 },
+    WriteFault {
+        files: u64,
+    },
     /// Memory ran out.
     Memory,
 }
@@ -54,7 +61,10 @@ pub(crate) enum Refusal {
         column: Text,
     },
     Mapping(MapFault),
-    Rows { file: Text, fault: RowsFault },
+    Rows {
+        file: Text,
+        fault: RowsFault,
+    },
     Limit(Limit),
 }
 

@@ -7,6 +7,7 @@ ghost use Rattle.dx_keys.specs.Answers.{IsChased, IsFaultOf};
 use crate::answers::Chased;
 use crate::clashes::read_clash;
 use crate::fault::ChaseFault;
+use crate::keyless::{has_no_keys, unchanged};
 use crate::numbering::{Numbering, number};
 use crate::reading::{read_image, read_map};
 use crate::tables::number_tables;
@@ -27,6 +28,9 @@ pub fn chase(alloc: Global, instance: Instance, schema: &Schema) -> Result<Chase
     ensures fault { IfErr result (IsFaultOf (model_tables schema.now) instance) }
 {
     let _instance_tables = instance.tables();
+    if has_no_keys(schema) {
+        return Ok(unchanged(alloc, instance)?);
+    }
     let Numbering {
         symbols,
         constants,

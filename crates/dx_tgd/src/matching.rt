@@ -13,8 +13,8 @@ ghost use Rattle.dx_joins.specs.Shown.{MoreTuples};
 ghost use Rattle.dx_tgd.specs.Found.{IsFoundRule, IsTuple};
 
 use crate::found::one_in_order;
-use crate::variables::exported;
 use crate::texts::places_of_rows;
+use crate::variables::exported;
 use dx_funcs::{Host, Meaning};
 use dx_instance::{Instance, Numbers, Rows, Symbols};
 use dx_joins::shown_rows;

@@ -2,7 +2,13 @@ use Rattle.std.proofs.Common.{◌≡◌, ◌∙◌, ap, length, sym}
 use Rattle.dx_keys.specs.Numbers.{map_of}
 use Rattle.dx_keys.proofs.Answering.{Done, Numbered, clash_answers, clash_can_be_read, map_answers, numbers_below, numbers_fit, roots_are_read}
 use Rattle.dx_keys.proofs.InOrder.{values_ascend}
+use Rattle.dx_keys.proofs.Keyless.{keyless_is_keyed}
+use Rattle.dx_schema.specs.Tables.{model_tables}
 use Rattle.dx_keys.proofs.chasing.chase.Goals as goal
+
+pub returns-then-has_no_keys-clause-ok : goal.returns-then-has_no_keys-clause-ok
+returns-then-has_no_keys-clause-ok c =
+    c.in_ok-unchanged.ensures (model_tables c.args.schema.now) (keyless_is_keyed c.args.schema.now c.args.instance c.requires c.tables-instance_tables.ensures.rows (c.has_no_keys.ensures.0 c.if-has_no_keys.true))
 
 pub chase_rows-requires-clause-fit : goal.chase_rows-requires-clause-fit
 chase_rows-requires-clause-fit c =

@@ -51,7 +51,7 @@ returns-in_default-clause-refused g c =
     rw c.passed.ensures (
       refl,
       passes g.M.Meaning.apply I c.args.source.now.symbols c.loop-rule.symbols c.args.rules.now c.loop-rule.tables.items c.args.limit c.loop-rule.left c.loop-rule.rule-index c.rule-item.result m.tuples
-      c.loop-rule.invariant c.requires.rules c.loop-rule-test.true c.rule-item.is m.distinct m.each (subst (λ (n : ℕ). c.loop-rule.left < length m.tuples * n) c.conclusion_cells-cells.ensures many),
+          c.loop-rule.invariant c.requires.rules c.loop-rule-test.true c.rule-item.is m.distinct m.each (subst (λ (n : ℕ). c.loop-rule.left < length m.tuples * n) c.conclusion_cells-cells.ensures many),
     )
 
 pub overflow_mul-used : goal.overflow_mul-used
@@ -70,9 +70,9 @@ returns-then-used-left-clause-refused g c =
     rw c.passed-then-used-left.ensures (
       refl,
       passes g.M.Meaning.apply I c.args.source.now.symbols c.loop-rule.symbols c.args.rules.now c.loop-rule.tables.items c.args.limit c.loop-rule.left c.loop-rule.rule-index c.rule-item.result
-      (map (texts_of c.rule_rows.new.symbols) c.in-Some.rows.rows) c.loop-rule.invariant c.requires.rules c.loop-rule-test.true c.rule-item.is
-      (tuples_distinct g.M.Meaning.apply I c.rule_rows.new.symbols c.rule-item.result c.in-Some.rows c.in_ok-found.ensures.apart s) (tuples_shown g.M.Meaning.apply I c.rule_rows.new.symbols c.rule-item.result c.in-Some.rows s)
-      (rw (n, c.conclusion_cells-cells.ensures) at c.if-used-left.true),
+          (map (texts_of c.rule_rows.new.symbols) c.in-Some.rows.rows) c.loop-rule.invariant c.requires.rules c.loop-rule-test.true c.rule-item.is
+          (tuples_distinct g.M.Meaning.apply I c.rule_rows.new.symbols c.rule-item.result c.in-Some.rows c.in_ok-found.ensures.apart s) (tuples_shown g.M.Meaning.apply I c.rule_rows.new.symbols c.rule-item.result c.in-Some.rows s)
+          (rw (n, c.conclusion_cells-cells.ensures) at c.if-used-left.true),
     )
 
 pub loop-rule-preserved : goal.loop-rule-preserved
@@ -81,6 +81,6 @@ loop-rule-preserved g c =
     let s = found_rows c.in_ok-found.found c.in-Some.rows _ (IsFoundRule g.M.Meaning.apply I c.rule_rows.new.symbols c.rule-item.result) c.in-Some.is c.in_ok-found.ensures.rows in
     let few = rw (c.count.ensures.count, c.conclusion_cells-cells.ensures) at c.if-used-left.false in
     rw (c.count.ensures.count, c.conclusion_cells-cells.ensures) (
-      so_far_more g.M.Meaning.apply I c.args.source.now.symbols c.loop-rule.symbols c.intern_literals.new.symbols c.rule_rows.new.symbols c.args.rules.now c.loop-rule.tables.items c.push.new.self.items c.args.limit c.loop-rule.left
-      c.loop-rule.rule-index c.rule-item.result c.in-Some.rows c.loop-rule.invariant c.loop-rule-test.true c.rule-item.is c.in_ok-intern_literals.ensures.grows c.in_ok-found.ensures.grows c.in_ok-found.ensures.apart s c.in_ok-push.ensures.items few
+    so_far_more g.M.Meaning.apply I c.args.source.now.symbols c.loop-rule.symbols c.intern_literals.new.symbols c.rule_rows.new.symbols c.args.rules.now c.loop-rule.tables.items c.push.new.self.items c.args.limit c.loop-rule.left
+    c.loop-rule.rule-index c.rule-item.result c.in-Some.rows c.loop-rule.invariant c.loop-rule-test.true c.rule-item.is c.in_ok-intern_literals.ensures.grows c.in_ok-found.ensures.grows c.in_ok-found.ensures.apart s c.in_ok-push.ensures.items few
     )

@@ -1,0 +1,102 @@
+-- Without keys nothing is forced.
+use Rattle.std.proofs.Common.{◌≡◌, ◌∙◌, ℕ, zero, suc, ◌<◌, ◌≤◌, List, [], ◌∷◌, Bool, true, false, refl, sym, ap, subst, inl, inr, arith, length, get_or, take}
+use Rattle.std.specs.Prelude.{◌+◌, map, ◌==◌}
+use Rattle.std.specs.FinMap as finite
+use Rattle.std.proofs.lemmas.Bool.{eqb-true, false≢true}
+use Rattle.std.proofs.lemmas.List.{take_more, take_all}
+use Rattle.dx_ports.specs.Members.{◌∈◌, ◌⊆◌, ◌≈◌, here, there, Each}
+use Rattle.dx_ports.proofs.Members.{from_append, from_map, in_at, in_map}
+use Rattle.dx_model.specs.declared.values.NullId.{NullId}
+use Rattle.dx_model.specs.declared.values.Value.{Value}
+use Rattle.dx_model.specs.declared.values.Value.TheVariants.{Const, Null}
+use Rattle.dx_model.specs.declared.facts.Fact.{Fact}
+use Rattle.dx_model.specs.declared.facts.NullPair.{NullPair}
+use Rattle.dx_model.specs.Values.{null_cmp}
+use Rattle.dx_model.specs.Instances.{fact_moved, given, image, moved}
+use Rattle.dx_model.specs.Tables.{IsKeyed, Table, table_of}
+use Rattle.dx_model.specs.Chase.{IsForcedMap}
+use Rattle.dx_model.proofs.ByMembers.{keyed_map_is_empty, keys_by_members, no_keys_hold}
+use Rattle.dx_schema.proofs.Whole.{widths_agree}
+use Rattle.dx_schema.specs.Forest.{Forest}
+use Rattle.dx_schema.specs.Tables.{TableOf, as_numbers, model_tables, schema_widths, tables_of}
+use Rattle.dx_instance.specs.NullMaps.{ByNull, pairs_of}
+use Rattle.dx_instance.specs.Stored.{IsSorting, TableRows, facts, widths}
+use Rattle.dx_instance.proofs.LawFacts.{facts_fit}
+use Rattle.dx_instance.proofs.StoredFacts.{fact_from_row, row_from_fact}
+use Rattle.dx_keys.specs.Answers.{IsChased}
+
+-- ---- a map that lists nothing
+
+no_items : {X : Type 0} (xs : List X) → length xs ≡ 0 → xs ≡ []
+no_items [] e = refl
+no_items (x ∷ xs) e = absurd (omega arith)
+
+nothing_listed : pairs_of (finite.empty {X = Value} {R = null_cmp}) ≡ []
+nothing_listed =
+    ap (map (λ (e : NullId × Value). record { null = e.0; value = e.1 }))
+    (no_items (finite.entries (finite.empty {X = Value} {R = null_cmp})) (sym (finite.len-entries (finite.empty {X = Value} {R = null_cmp})) ∙ finite.len-empty null_cmp Value))
+
+row_stays : (vs : List Value) → map (moved (given [])) vs ≡ vs
+row_stays [] = refl
+row_stays (Const t ∷ vs) = ap (λ (xs : List Value). Const t ∷ xs) (row_stays vs)
+row_stays (Null n ∷ vs) = ap (λ (xs : List Value). Null n ∷ xs) (row_stays vs)
+
+fact_stays : (f : Fact) → fact_moved (given []) f ≡ f
+fact_stays f = let e = row_stays f.row in (λ i. record { table = f.table; row = e i })
+
+facts_stay : (A : List Fact) → image [] A ≡ A
+facts_stay [] = refl
+facts_stay (f ∷ A) = let e = fact_stays f in let r = facts_stay A in (λ i. e i ∷ r i)
+
+sorted_facts : (I K : List TableRows) → IsSorting I K → facts I ≈ facts K
+sorted_facts I K s = (
+  (λ f m. fact_from_row K f.table f.row (s.kept f.table f.row (row_from_fact I f m))),
+  (λ f m. fact_from_row I f.table f.row (s.only f.table f.row (row_from_fact K f m))),
+)
+
+pub unchanged_is_chased : (schema : List Table) (I K : List TableRows) (m : ByNull) → m ≡ finite.empty → IsSorting I K → IsKeyed schema (facts I) → IsChased schema I (record { instance = K; map = m })
+unchanged_is_chased schema I K m e s k =
+    let none : pairs_of m ≡ [] = ap pairs_of e ∙ nothing_listed in
+    let same = sorted_facts I K s in record {
+      forced = subst (λ (ps : List NullPair). IsForcedMap schema (facts I) ps) (sym none) (keyed_map_is_empty schema (facts I) k);
+      imaged = record {
+        widths_stay = s.widths_stay;
+        ascend = s.ascend;
+        is = subst (λ (fs : List Fact). fs ≈ facts K) (sym (ap (λ (ps : List NullPair). image ps (facts I)) none ∙ facts_stay (facts I))) same;
+      };
+      keyed = record { fits = λ f h. k.fits f (same.1 f h); keys = keys_by_members schema (facts K) (facts I) same.1 k.keys };
+    }
+
+-- ---- a schema without keys
+
+no_determinations : (ts : List TableOf) → Each ts (λ t. t.keys ≡ []) → (n : ℕ) → (table_of (map as_numbers ts) n).determinations ≡ []
+no_determinations [] h n = refl
+no_determinations (t ∷ ts) h zero = ap (map _) (h t (here refl))
+no_determinations (t ∷ ts) h (suc n) = no_determinations ts (λ u m. h u (there m)) n
+
+pub keyless_is_keyed : (f : Forest) (I : List TableRows) → widths I ≡ schema_widths f → Each I (λ (t : TableRows). Each t.rows (λ (row : List Value). length row ≡ t.width)) → Each (tables_of f) (λ t. t.keys ≡ [])
+    → IsKeyed (model_tables f) (facts I)
+keyless_is_keyed f I w l none = record { fits = facts_fit (model_tables f) I (w ∙ widths_agree f) l; keys = no_keys_hold (model_tables f) (facts I) (λ g m. no_determinations (tables_of f) none g.table) }
+
+-- ---- tests of tables, one by one
+
+pub each_at_more : {X : Type 0} (P : X → Type 0) (xs : List X) (i : ℕ) (d : X) → i < length xs → Each (take i xs) P → P (get_or xs i d) → Each (take (i + 1) xs) P
+each_at_more {X} P xs i d h e p y m = elim (from_append (take i xs) (rw (take_more xs i d h) at m)) [ inl l ↦ e y l | inr r ↦ last r ]
+  where
+    last : y ∈ (get_or xs i d ∷ []) → P y
+    last (here k) = subst P k p
+    last (there n) = elim n [ ]
+
+pub each_at : {X : Type 0} (P : X → Type 0) (xs : List X) (i : ℕ) (d : X) → i < length xs → Each xs P → P (get_or xs i d)
+each_at P xs i d h e = e (get_or xs i d) (in_at xs i d h)
+
+pub each_all : {X : Type 0} (P : X → Type 0) (xs : List X) (i : ℕ) → length xs ≤ i → Each (take i xs) P → Each xs P
+each_all P xs i h e x m = e x (rw (take_all i xs h) m)
+
+pub is_empty : {X : Type 0} (xs : List X) (b : Bool) → b ≡ (length xs == 0) → b ≡ true → xs ≡ []
+is_empty [] b e h = refl
+is_empty (x ∷ xs) b e h = let k = eqb-true (length (x ∷ xs)) 0 (sym e ∙ h) in absurd (omega (arith, k))
+
+pub not_empty : {X : Type 0} (xs : List X) (b : Bool) → b ≡ (length xs == 0) → b ≡ false → ¬ (xs ≡ [])
+not_empty [] b e h = λ k. false≢true (sym h ∙ e)
+not_empty (x ∷ xs) b e h = λ k. cc k
