@@ -14,4 +14,4 @@ pub mod InOrder
 pub mod NumberTables
 pub mod RootMaps
 pub mod Answering
-mod Keyless
+mod Unforced

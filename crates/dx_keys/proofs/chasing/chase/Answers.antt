@@ -2,7 +2,7 @@ use Rattle.std.proofs.Common.{◌≡◌, ◌∙◌, ap, length, sym}
 use Rattle.dx_keys.specs.Numbers.{map_of}
 use Rattle.dx_keys.proofs.Answering.{Done, Numbered, clash_answers, clash_can_be_read, map_answers, numbers_below, numbers_fit, roots_are_read}
 use Rattle.dx_keys.proofs.InOrder.{values_ascend}
-use Rattle.dx_keys.proofs.Keyless.{keyless_is_keyed}
+use Rattle.dx_keys.proofs.Unforced.{keyless_is_keyed}
 use Rattle.dx_schema.specs.Tables.{model_tables}
 use Rattle.dx_keys.proofs.chasing.chase.Goals as goal
 

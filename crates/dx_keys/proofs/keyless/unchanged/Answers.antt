@@ -1,4 +1,4 @@
-use Rattle.dx_keys.proofs.Keyless.{unchanged_is_chased}
+use Rattle.dx_keys.proofs.Unforced.{unchanged_is_chased}
 use Rattle.dx_keys.proofs.keyless.unchanged.Goals as goal
 
 pub returns : goal.returns
