@@ -1,5 +1,5 @@
 -- What the chase of an instance answers, from what a chase over its numbers gives.
-use Rattle.std.proofs.Common.{◌≡◌, ◌∙◌, ℕ, zero, suc, ◌<◌, Option, None, Some, List, [], ◌∷◌, ◌⊎◌, inl, inr, refl, sym, ap, subst, length, get_or, map, arith}
+use Rattle.std.proofs.Common.{◌≡◌, ◌∙◌, ℕ, suc, ◌<◌, Option, None, Some, List, [], ◌∷◌, inl, inr, refl, sym, ap, subst, length, get_or, map, arith}
 use Rattle.std.specs.Prelude.{MatchOption}
 use Rattle.std.specs.Ordering.{ordering_reverse}
 use Rattle.std.specs.declared.cmp.Ordering.{Ordering}
@@ -12,7 +12,7 @@ use Rattle.dx_model.specs.declared.values.Value.{Value}
 use Rattle.dx_model.specs.declared.values.Value.TheVariants.{Const, Null}
 use Rattle.dx_model.specs.declared.facts.Fact.{Fact}
 use Rattle.dx_model.specs.declared.facts.NullPair.{NullPair}
-use Rattle.dx_model.specs.Tables.{Determination, DeterminationsFit, FactFits, IsInstance, IsKeyed, KeysHold, Table, cell, table_of}
+use Rattle.dx_model.specs.Tables.{Determination, DeterminationsFit, FactFits, IsInstance, Table, cell, table_of}
 use Rattle.dx_model.specs.Instances.{given, image, moved}
 use Rattle.dx_model.specs.Values.{row_cmp, value_cmp}
 use Rattle.dx_model.specs.Chase.{after, IsClashAt}
@@ -23,7 +23,7 @@ use Rattle.dx_schema.specs.Forest.{Forest}
 use Rattle.dx_schema.specs.Tables.{model_tables, schema_widths}
 use Rattle.dx_schema.proofs.Whole.{widths_agree}
 use Rattle.dx_instance.specs.Cells.{NumberTable as TableOfNumbers}
-use Rattle.dx_instance.specs.Images.{AreImages, IsImage}
+use Rattle.dx_instance.specs.Images.{IsImage}
 use Rattle.dx_instance.specs.NullMaps.{ByNull, becomes, pairs_of}
 use Rattle.dx_instance.specs.Shown.{PartsFit, numbers_of_table, renumbered, shown, shown_row, shown_tables}
 use Rattle.dx_instance.specs.Stored.{IsSorting, TableRows, facts, rows_of, widths}
@@ -32,17 +32,16 @@ use Rattle.dx_instance.proofs.LawFacts.{facts_fit}
 use Rattle.dx_instance.proofs.SortFacts.{instance_maps}
 use Rattle.dx_instance.proofs.StoredFacts.{fact_from_row, fact_table, row_from_fact}
 use Rattle.dx_chase.specs.declared.demands.ClashAt.{ClashAt}
-use Rattle.dx_chase.specs.declared.demands.Demand.{Demand}
 use Rattle.dx_chase.specs.declared.rows.NumberTable.{NumberTable}
 use Rattle.dx_chase.specs.declared.rows.RowsChased.{RowsChased}
 use Rattle.dx_chase.specs.Boards.{firsts}
 use Rattle.dx_chase.specs.Joins.{IsChased as IsChasedByNumber, AllFit, IsClash as IsClashByNumber, at, demand_at}
-use Rattle.dx_chase.specs.Rows.{AreBelow, AreRowDemands, ColumnsFit, InRows, columns_at, row_at, row_count, table_at}
+use Rattle.dx_chase.specs.Rows.{AreBelow, AreRowDemands, ColumnsFit, InRows, columns_at, row_at, table_at}
 use Rattle.dx_keys.specs.declared.answers.Clash.{Clash}
 use Rattle.dx_keys.specs.declared.numbering.Numbering.{Numbering}
 use Rattle.dx_keys.specs.Answers.{IsChased, IsClash, determination_at, fact_in}
-use Rattle.dx_keys.specs.Numbers.{AreRoots, AreTablesIn, AreValues, CanRead, IsNumbering, IsRead, determination_of, map_of, row_read, steps_of}
-use Rattle.dx_keys.proofs.Demanding.{AreTablesOf, IsRowChase, IsRowClash, IsRowMap, determination_in, fact_of, left_fact}
+use Rattle.dx_keys.specs.Numbers.{AreRoots, AreTablesIn, AreValues, CanRead, IsNumbering, IsRead, determination_of, map_of, row_read}
+use Rattle.dx_keys.proofs.Demanding.{AreTablesOf, IsRowChase, IsRowClash, IsRowMap, determination_in, fact_of}
 use Rattle.dx_keys.proofs.Whole.{row_chase}
 
 -- a member stands at a place

@@ -101,7 +101,7 @@ module _ (schema : List Table) (A : List Fact) (h : NullId → Value) (ss : List
   pub clash_followed : (a b : Fact) (d : Determination) (c : ℕ) → IsClashAt schema (map (fact_moved h) A) a b d c → NoneReceives schema A
   clash_followed a b d c s K g keyed i = clash_none schema (map (fact_moved h) A) a b d c s K g keyed (image_through K g keyed i)
 
-  -- the null map that lists h is the forced map, where keys hold in the image
+  -- the null map that lists h is the forced map, if keys hold in the image
   module _ (fits : IsInstance schema A) (keys : KeysHold schema (map (fact_moved h) A)) where
     pub image_listed : image (listing h (values A)) A ≡ map (fact_moved h) A
     image_listed = moved_same (given (listing h (values A))) h A (λ n i. listing_gives h n (values A) i)

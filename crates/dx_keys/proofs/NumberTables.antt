@@ -1,11 +1,11 @@
 -- Tables of numbers with what determines what in them.
-use Rattle.std.proofs.Common.{◌≡◌, ◌∙◌, ℕ, suc, ◌+◌, ◌<◌, ◌≤◌, List, [], ◌∷◌, ◌++◌, inl, inr, refl, sym, ap, subst, length, get_or, take, map, arith}
+use Rattle.std.proofs.Common.{◌≡◌, ◌∙◌, ℕ, ◌+◌, ◌<◌, List, [], ◌∷◌, ◌++◌, inl, inr, sym, ap, length, map, arith}
 use Rattle.std.proofs.lemmas.Bool.{cases_lt}
 use Rattle.std.proofs.lemmas.List.{get_or-map, get_or_append_left, get_or_push, length-append}
 use Rattle.dx_model.specs.declared.tables.Key.{Key}
 use Rattle.dx_model.specs.Tables.{Table as Numbers, key_of, table_of}
 use Rattle.dx_schema.specs.Forest.{Forest}
-use Rattle.dx_schema.specs.Tables.{TableOf, as_numbers, model_tables, table_at as table_in, tables_of}
+use Rattle.dx_schema.specs.Tables.{as_numbers, model_tables, table_at as table_in, tables_of}
 use Rattle.dx_instance.specs.Cells.{NumberTable as TableOfNumbers}
 use Rattle.dx_instance.specs.Shown.{numbers_of_table}
 use Rattle.dx_chase.specs.declared.rows.NumberTable.{NumberTable}

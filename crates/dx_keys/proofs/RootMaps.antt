@@ -1,18 +1,18 @@
 -- The null map of the roots, null by null from the last.
-use Rattle.std.proofs.Common.{◌≡◌, ◌∙◌, ℕ, suc, ◌+◌, ◌<◌, ◌≤◌, true, false, List, [], ◌∷◌, inl, inr, refl, sym, ap, length, get_or, drop, map, arith}
+use Rattle.std.proofs.Common.{◌≡◌, ◌∙◌, ℕ, suc, ◌+◌, ◌<◌, ◌≤◌, true, false, List, [], ◌∷◌, inl, inr, refl, sym, ap, length, drop, map, arith}
 use Rattle.std.specs.declared.cmp.Ordering.TheVariants.{Less}
 use Rattle.std.specs.FinMap as finite
 use Rattle.std.specs.FinMap.Entries.{put, by_order}
 use Rattle.std.proofs.Math.Seq.{drop-cons}
 use Rattle.std.proofs.lemmas.Bool.{cases_Bool, eq-eqb, ne_eqb}
 use Rattle.std.proofs.lemmas.List.{drop_all, get_or-drop, length-drop}
-use Rattle.dx_ports.specs.Members.{◌∈◌, here, there}
+use Rattle.dx_ports.specs.Members.{◌∈◌, here}
 use Rattle.dx_model.specs.declared.values.NullId.{NullId}
 use Rattle.dx_model.specs.declared.values.Value.{Value}
 use Rattle.dx_model.specs.declared.values.Value.TheVariants.{Const, Null}
 use Rattle.dx_model.specs.declared.facts.NullPair.{NullPair}
 use Rattle.dx_model.specs.Tables.{cell}
-use Rattle.dx_model.specs.Values.{null_cmp, value_cmp}
+use Rattle.dx_model.specs.Values.{null_cmp}
 use Rattle.dx_model.proofs.Maps.{same_null-true}
 use Rattle.dx_model.proofs.Orders.{null_total}
 use Rattle.dx_instance.specs.NullMaps.{ByNull, is_itself, pairs_of, with_value}
@@ -21,7 +21,7 @@ use Rattle.dx_instance.proofs.NullFacts.{pair_of}
 use Rattle.dx_instance.proofs.ShownFacts.{number_same}
 use Rattle.dx_chase.specs.Joins.{at}
 use Rattle.dx_keys.specs.Numbers.{AreRoots, null_of, pairs_from}
-use Rattle.dx_keys.proofs.Mapped.{IsPairAt, View, pairs_at}
+use Rattle.dx_keys.proofs.Mapped.{View, pairs_at}
 use Rattle.dx_keys.proofs.InOrder.{apart}
 use Rattle.dx_keys.proofs.Readings.{AreDistinct}
 

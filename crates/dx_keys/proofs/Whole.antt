@@ -1,6 +1,6 @@
 -- The chase of rows is the key chase of facts.
-use Rattle.std.proofs.Common.{◌≡◌, ℕ, ◌<◌, Option, None, Some, List, [], ◌∙◌, ap, length}
-use Rattle.std.specs.Prelude.{map, MatchOption}
+use Rattle.std.proofs.Common.{◌≡◌, ℕ, ◌<◌, Option, None, Some, List, [], ap, length}
+use Rattle.std.specs.Prelude.{MatchOption}
 use Rattle.dx_model.specs.declared.values.NullId.{NullId}
 use Rattle.dx_model.specs.declared.values.Value.{Value}
 use Rattle.dx_model.specs.declared.facts.Fact.{Fact}
@@ -9,13 +9,13 @@ use Rattle.dx_model.specs.Instances.{fact_moved}
 use Rattle.dx_chase.specs.declared.demands.ClashAt.{ClashAt}
 use Rattle.dx_chase.specs.declared.rows.NumberTable.{NumberTable}
 use Rattle.dx_chase.specs.declared.rows.RowsChased.{RowsChased}
-use Rattle.dx_chase.specs.Joins.{at, demand_at, AreDemands, AllFit, IsClash, IsChased}
+use Rattle.dx_chase.specs.Joins.{demand_at, AreDemands, AllFit, IsClash, IsChased}
 use Rattle.dx_chase.specs.Boards.{firsts}
-use Rattle.dx_chase.specs.Rows.{AreBelow, AreRowDemands, ColumnsFit, row_at, row_count}
+use Rattle.dx_chase.specs.Rows.{AreBelow, AreRowDemands, ColumnsFit, row_at}
 use Rattle.dx_chase.proofs.RowDemands.{row_demands}
 use Rattle.dx_ports.proofs.Members.{from_flat_map, from_map, in_at}
 use Rattle.dx_keys.specs.Numbers.{AreValues, steps_of}
-use Rattle.dx_keys.proofs.Demanding.{AreDemandsOf, AreTablesOf, IsRowChase, IsRowClash, IsRowMap, fact_of, left_fact}
+use Rattle.dx_keys.proofs.Demanding.{AreDemandsOf, AreTablesOf, IsRowChase, IsRowClash, IsRowMap, left_fact}
 use Rattle.dx_keys.proofs.Followed.{clash_followed}
 use Rattle.dx_keys.proofs.Bridge.{Stands, stands_all, steps_small, clashes, list_read}
 use Rattle.dx_keys.proofs.Mapped.{HasNumbers, stands_first, fact_map, nulls_at, root_gives}

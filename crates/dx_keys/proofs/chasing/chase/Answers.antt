@@ -1,4 +1,4 @@
-use Rattle.std.proofs.Common.{◌≡◌, ◌∙◌, ap, length, sym}
+use Rattle.std.proofs.Common.{◌∙◌, ap}
 use Rattle.dx_keys.specs.Numbers.{map_of}
 use Rattle.dx_keys.proofs.Answering.{Done, Numbered, clash_answers, clash_can_be_read, map_answers, numbers_below, numbers_fit, roots_are_read}
 use Rattle.dx_keys.proofs.InOrder.{values_ascend}

@@ -1,4 +1,4 @@
-use Rattle.std.proofs.Common.{◌<◌, length, sym, arith}
+use Rattle.std.proofs.Common.{◌<◌, length, arith}
 use Rattle.dx_keys.proofs.InOrder.{constants_more, values_until}
 use Rattle.dx_keys.proofs.numbering.count_constants.Goals as goal
 

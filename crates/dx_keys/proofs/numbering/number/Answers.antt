@@ -1,6 +1,3 @@
-use Rattle.std.proofs.Common.{◌≡◌, List, ℕ, map}
-use Rattle.dx_instance.specs.Cells.{NumberTable}
-use Rattle.dx_instance.specs.Shown.{renumbered}
 use Rattle.dx_keys.proofs.InOrder.{ranked_parts}
 use Rattle.dx_keys.proofs.numbering.number.Goals as goal
 

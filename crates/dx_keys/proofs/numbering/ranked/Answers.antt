@@ -1,5 +1,4 @@
-use Rattle.std.proofs.Common.{◌≡◌, ◌<◌, ℕ, [], sym, subst, length, arith}
-use Rattle.dx_ports.specs.Members.{Each}
+use Rattle.std.proofs.Common.{◌<◌, [], sym, subst, length, arith}
 use Rattle.dx_ports.proofs.Members.{in_at}
 use Rattle.dx_instance.specs.Cells.{NumberTable}
 use Rattle.dx_instance.specs.Shown.{NumbersFit}

@@ -1,5 +1,4 @@
-use Rattle.std.proofs.Common.{◌<◌, length, sym}
-use Rattle.dx_ports.specs.Members.{Each}
+use Rattle.std.proofs.Common.{◌<◌, length}
 use Rattle.dx_chase.proofs.Settles.{each_take}
 use Rattle.dx_keys.proofs.reading.read_row.Goals as goal
 

@@ -1,4 +1,3 @@
-use Rattle.std.proofs.Common.{◌<◌, length}
 use Rattle.dx_ports.proofs.Members.{in_at}
 use Rattle.dx_keys.proofs.reading.read_steps.Goals as goal
 
