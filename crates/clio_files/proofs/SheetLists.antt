@@ -67,15 +67,6 @@ length_take [] i h = absurd (omega (arith, h))
 length_take (t ∷ ts) zero h = refl
 length_take (t ∷ ts) (suc i) h = ap suc (length_take ts i (omega (arith, h)))
 
-pub tables_more : (ts : List TableOf) (i : ℕ) (d : TableOf) (T : List TableRows) (ps qs : List Printed) (p : Printed) → i < length ts → AreTableFiles 0 (take i ts) T (map seen ps)
-    → IsTableFile (get_or ts i d) (rows_of T i) (seen p) → qs ≡ ps ++ p ∷ [] → AreTableFiles 0 (take (i + 1) ts) T (map seen qs)
-tables_more ts i d T ps qs p h a k e =
-    let n : 0 + length (take i ts) ≡ i = omega (arith, length_take ts i h) in
-    rw (e, map-append seen ps (p ∷ []), take_more ts i d h) (are_more 0 (take i ts) T (map seen ps) (get_or ts i d) (seen p) a (subst (λ m. IsTableFile (get_or ts i d) (rows_of T m) (seen p)) (sym n) k))
-
-pub tables_all : (ts : List TableOf) (i : ℕ) (T : List TableRows) (fs : List Told) → length ts ≤ i → AreTableFiles 0 (take i ts) T fs → AreTableFiles 0 ts T fs
-tables_all ts i T fs h a = subst (λ us. AreTableFiles 0 us T fs) (take_all i ts h) a
-
 -- the file of a sheet
 pub sheet_told : (r : Result Printed AllocError) (name : Text) (records : Records) (s : Sheet)
     → IfOk r (λ p. (s : Sheet) → name ≡ s.name → AreRecords records (s.header ∷ s.records) → seen p ≡ file_of s) → name ≡ s.name → AreRecords records (s.header ∷ s.records) → IfOk r (λ p. seen p ≡ file_of s)

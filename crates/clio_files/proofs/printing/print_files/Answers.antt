@@ -1,4 +1,4 @@
-use Rattle.std.proofs.Common.{map, refl}
+use Rattle.std.proofs.Common.{map}
 use Rattle.dx_funcs.specs.Serving.{offered}
 use Rattle.dx_instance.specs.NullMaps.{pairs_of}
 use Rattle.dx_tgd.specs.Counting.{rows_in}

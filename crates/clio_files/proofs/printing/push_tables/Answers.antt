@@ -10,8 +10,8 @@ table_file-requires-clause-no_mark c =
     let h : c.loop-table.table < length (tables_of c.args.schema.now) = omega arith in
     c.requires.no_marks _ (in_at (tables_of c.args.schema.now) c.loop-table.table _ h)
 
-pub loop-table-begins : goal.loop-table-begins
-loop-table-begins c = adds_none c.args.target.now (map seen c.args.files.now.items)
+pub loop-table-init : goal.loop-table-init
+loop-table-init c = adds_none c.args.target.now (map seen c.args.files.now.items)
 
 pub loop-table-preserved : goal.loop-table-preserved
 loop-table-preserved c =
