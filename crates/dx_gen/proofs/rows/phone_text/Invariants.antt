@@ -1,0 +1,7 @@
+use Rattle.std.proofs.Common.{◌≡◌, ◌++◌}
+use Rattle.std.specs.Prelude.{codes, string_bytes}
+use Rattle.dx_gen.specs.Demo.{each_below, phone_record}
+use Rattle.dx_gen.proofs.rows.phone_text.Given as goal
+
+abbrev pub invariant-loop-number : goal.invariant-loop-number
+invariant-loop-number l = string_bytes l.out ≡ codes "eid,num\n" ++ each_below phone_record l.number

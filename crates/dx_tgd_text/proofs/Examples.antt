@@ -1,0 +1,81 @@
+-- A rule from employees to persons: read by numbers, and refused at the first word that is at fault.
+use Rattle.std.proofs.Common.{◌≡◌, ℕ, List, [], ◌∷◌, Option, Some, None, codes, refl}
+use Rattle.dx_model.specs.declared.rules.Cell.TheVariants.{Var, Ex}
+use Rattle.dx_schema.specs.Forest.{Forest, none, set}
+use Rattle.dx_schema.specs.Tables.{Text}
+use Rattle.dx_tokens.specs.declared.faults.TextFault.{TextFault}
+use Rattle.dx_tokens.specs.declared.faults.TextFault.TheVariants.{At}
+use Rattle.dx_tokens.specs.declared.faults.TextKind.TheVariants.{Width, Unsafe}
+use Rattle.dx_schema_text.specs.declared.texts.CellText.{CellText}
+use Rattle.dx_schema_text.specs.declared.texts.CellText.TheVariants.{Name, Literal}
+use Rattle.dx_schema_text.specs.declared.texts.AtomText.{AtomText}
+use Rattle.dx_schema_text.specs.declared.texts.DerivedText.{DerivedText}
+use Rattle.dx_schema_text.specs.declared.texts.RuleText.{RuleText}
+use Rattle.dx_funcs.specs.declared.conversion.Conversion.{Conversion}
+use Rattle.dx_tgd_text.specs.Reading.{rule_fault, rule_of}
+
+-- employees with a name and a place, persons with a name and a telephone
+abbrev employees : Forest
+employees = set (record { name = codes "emp"; columns = codes "name" ∷ codes "place" ∷ []; keys = []; refs = [] }) none none
+
+abbrev persons : Forest
+persons = set (record { name = codes "person"; columns = codes "name" ∷ codes "phone" ∷ []; keys = []; refs = [] }) none none
+
+-- one conversion, of two texts
+abbrev offer : List Conversion
+offer = record { name = codes "pair"; code = 2; arity = 2 } ∷ []
+
+abbrev atom : Text → ℕ → List CellText → AtomText
+atom name place cells = record { set = name; place = place; cells = cells }
+
+abbrev named : Text → ℕ → CellText
+named name place = Name name place
+
+abbrev derived : Text → ℕ → List CellText → DerivedText
+derived name place args = record { name = name; place = place; call = codes "pair"; call_place = 20; args = args }
+
+abbrev rule : List CellText → List DerivedText → List CellText → RuleText
+rule premise ds conclusion = record { premise = atom (codes "emp") 5 premise ∷ []; derived = ds; conclusion = atom (codes "person") 40 conclusion ∷ [] }
+
+abbrev fault : RuleText → Option TextFault
+fault r = rule_fault employees persons offer r
+
+abbrev x : CellText
+x = named (codes "x") 9
+
+abbrev y : CellText
+y = named (codes "y") 11
+
+abbrev pair : List CellText → DerivedText
+pair args = derived (codes "z") 16 args
+
+-- variables by first appearance, the derived one after them, and the others existential
+numbers :
+    rule_of employees persons offer (rule (y ∷ x ∷ []) (pair (x ∷ y ∷ []) ∷ []) (named (codes "z") 47 ∷ named (codes "w") 49 ∷ []))
+    ≡ record {
+      premise = record { table = 0; cells = Var 0 ∷ Var 1 ∷ [] } ∷ [];
+      derived = record { code = 2; args = 1 ∷ 0 ∷ [] } ∷ [];
+      conclusion = record { table = 0; cells = Var 2 ∷ Ex 0 ∷ [] } ∷ [];
+    }
+numbers = refl
+
+read : fault (rule (y ∷ x ∷ []) (pair (x ∷ y ∷ []) ∷ []) (named (codes "z") 47 ∷ Literal (codes "w") ∷ [])) ≡ None
+read = refl
+
+-- another number of cells is told at the set
+wide_premise : fault (rule (x ∷ []) (pair (x ∷ []) ∷ []) []) ≡ Some (At 5 Width)
+wide_premise = refl
+
+wide_conclusion : fault (rule (x ∷ y ∷ []) [] (x ∷ [])) ≡ Some (At 40 Width)
+wide_conclusion = refl
+
+-- a derived name that is a variable, before all else of its conversion
+known_name : fault (rule (x ∷ y ∷ []) (derived (codes "x") 16 [] ∷ []) []) ≡ Some (At 16 Unsafe)
+known_name = refl
+
+-- an argument that is no variable of the premise: another name, or an earlier derived one
+unknown_argument : fault (rule (x ∷ y ∷ []) (pair (x ∷ named (codes "v") 27 ∷ []) ∷ []) []) ≡ Some (At 27 Unsafe)
+unknown_argument = refl
+
+derived_argument : fault (rule (x ∷ y ∷ []) (pair (x ∷ y ∷ []) ∷ derived (codes "v") 30 (x ∷ named (codes "z") 37 ∷ []) ∷ []) []) ≡ Some (At 37 Unsafe)
+derived_argument = refl

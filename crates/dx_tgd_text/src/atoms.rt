@@ -1,0 +1,93 @@
+// Atoms, by the numbers of what they name.
+ghost use Rattle.std.specs.Prelude.{◌≡◌, ◌⊎◌, None, Some, MatchResult, IfOk, map};
+ghost use Rattle.dx_tokens.specs.declared.faults.TextFault.TheVariants.{Memory};
+ghost use Rattle.dx_line_text.specs.Naming.{set_number};
+ghost use Rattle.dx_tgd_text.specs.Reading.{atom_fault, atom_of, atoms_fault, atoms_of, cell_of};
+
+use crate::names::Names;
+use dx_model::{Atom, Cell};
+use dx_ports::Items;
+use dx_schema::Schema;
+use dx_schema_text::{AtomText, CellText};
+use dx_tokens::{TextFault, TextKind};
+use std::alloc::{AllocError, Global};
+
+// The table of an atom's set. Refused is a set that isn't there, then another number of cells than the set has columns.
+fn read_set(schema: &Schema, atom: &AtomText) -> Result<u32, TextFault>
+    ensures { MatchResult result (λ t. (t ≡ set_number schema.now atom.now.set) × (atom_fault schema.now atom.now ≡ None)) (λ e. atom_fault schema.now atom.now ≡ Some e) }
+{
+    // What holds of the tables of each schema.
+    let _tables = schema.tables();
+    let Some(table) = schema.table_named(&atom.set) else {
+        return Err(TextFault::At {
+            place: atom.place,
+            kind: TextKind::UnknownName,
+        });
+    };
+    if atom.cells.len() != u64::from(schema.width(table)) {
+        return Err(TextFault::At {
+            place: atom.place,
+            kind: TextKind::Width,
+        });
+    }
+    Ok(table)
+}
+
+fn read_cell(cell: &CellText, known: &Names, fresh: &Names) -> Result<Cell, AllocError>
+    ensures { IfOk result (λ c. c ≡ cell_of known.now fresh.now cell.now) }
+{
+    match cell {
+        CellText::Name { name, place: _ } => match known.find(name) {
+            Some(number) => Ok(Cell::Var(number)),
+            None => Ok(Cell::Ex(fresh.number(name))),
+        },
+        CellText::Literal(text) => Ok(Cell::Lit(text.copy()?)),
+    }
+}
+
+fn read_cells(
+    alloc: Global,
+    cells: &[CellText],
+    known: &Names,
+    fresh: &Names,
+) -> Result<Items<Cell>, AllocError>
+    ensures { IfOk result (λ cs. cs ≡ map (cell_of known.now fresh.now) cells.now) }
+{
+    let mut read = Items::new(alloc);
+    for cell in cells {
+        read.push(read_cell(cell, known, fresh)?)?;
+    }
+    Ok(read)
+}
+
+fn read_atom(
+    alloc: Global,
+    atom: &AtomText,
+    schema: &Schema,
+    known: &Names,
+    fresh: &Names,
+) -> Result<Atom, TextFault>
+    ensures { MatchResult result (λ a. (a ≡ atom_of schema.now known.now fresh.now atom.now) × (atom_fault schema.now atom.now ≡ None)) (λ e. (e ≡ Memory) ⊎ (atom_fault schema.now atom.now ≡ Some e)) }
+{
+    let table = read_set(schema, atom)?;
+    let cells = read_cells(alloc, atom.cells.items(), known, fresh)?;
+    Ok(Atom { table, cells })
+}
+
+/// Atoms, with known names as variables and others as existential ones. Refused is the first atom whose set isn't there or
+/// has another number of columns.
+pub fn read_atoms(
+    alloc: Global,
+    atoms: &[AtomText],
+    schema: &Schema,
+    known: &Names,
+    fresh: &Names,
+) -> Result<Items<Atom>, TextFault>
+    ensures { MatchResult result (λ a. (a ≡ atoms_of schema.now known.now fresh.now atoms.now) × (atoms_fault schema.now atoms.now ≡ None)) (λ e. (e ≡ Memory) ⊎ (atoms_fault schema.now atoms.now ≡ Some e)) }
+{
+    let mut read = Items::new(alloc);
+    for atom in atoms {
+        read.push(read_atom(alloc, atom, schema, known, fresh)?)?;
+    }
+    Ok(read)
+}
