@@ -5,7 +5,6 @@ use Rattle.dx_model.specs.declared.values.NullId.{NullId}
 use Rattle.dx_model.specs.declared.values.Value.{Value}
 use Rattle.dx_model.specs.declared.values.Value.TheVariants.{Const, Null}
 use Rattle.dx_model.specs.declared.facts.Fact.{Fact}
-use Rattle.dx_model.specs.declared.facts.NullPair.{NullPair}
 use Rattle.dx_model.specs.Instances.{moved, fact_moved}
 use Rattle.dx_hom.specs.declared.matching.Found.{Found}
 use Rattle.dx_instance.specs.Stored.{TableRows, rows_of}

@@ -6,7 +6,6 @@ use Rattle.std.proofs.lemmas.List.{take_more, map-append, take_all, take-map, le
 use Rattle.dx_model.specs.declared.values.NullId.{NullId}
 use Rattle.dx_model.specs.declared.values.Value.{Value}
 use Rattle.dx_model.specs.declared.values.Value.TheVariants.{Const, Null}
-use Rattle.dx_model.specs.declared.facts.NullPair.{NullPair}
 use Rattle.dx_instance.specs.NullMaps.{ByNull}
 use Rattle.dx_ports.specs.Members.{◌∈◌, here, there, ◌⊆◌}
 use Rattle.dx_model.specs.Instances.{moved}

@@ -1,24 +1,21 @@
 -- Rows at places, and null maps made of what was found.
-use Rattle.std.proofs.Common.{◌≡◌, ◌∙◌, ℕ, zero, suc, ◌+◌, ◌<◌, ◌≤◌, Bool, true, false, cond, List, [], ◌∷◌, ◌++◌, inl, inr, refl, sym, ap, subst, arith, length, get_or, take, drop, Vec, Global}
+use Rattle.std.proofs.Common.{◌≡◌, ◌∙◌, ℕ, zero, suc, ◌+◌, ◌<◌, ◌≤◌, Bool, true, cond, List, [], ◌∷◌, ◌++◌, refl, sym, ap, arith, length, get_or, take, drop, Vec, Global}
 use Rattle.std.proofs.Math.ListN.{set}
-use Rattle.std.specs.Prelude.{◌↔◌, IsTrue, MatchOption, Option, Some, None, map}
+use Rattle.std.specs.Prelude.{◌↔◌, IsTrue, Option, Some, None, map}
 use Rattle.std.specs.FinMap as finite
-use Rattle.std.proofs.lemmas.Bool.{false≢true}
 use Rattle.std.proofs.lemmas.List.{drop_more, take_more, take_all}
-use Rattle.dx_ports.specs.Members.{◌∈◌, Each}
+use Rattle.dx_ports.specs.Members.{Each}
 use Rattle.dx_ports.proofs.Members.{in_at}
 use Rattle.dx_model.specs.declared.values.NullId.{NullId}
 use Rattle.dx_model.specs.declared.values.Value.{Value}
-use Rattle.dx_model.specs.declared.values.Value.TheVariants.{Const}
-use Rattle.dx_model.specs.declared.facts.Fact.{Fact}
 use Rattle.dx_model.specs.Instances.{given, same_null}
 use Rattle.dx_instance.specs.NullMaps.{ByNull, becomes, or_itself, pairs_of, with_value}
 use Rattle.dx_model.specs.Values.{null_cmp}
 use Rattle.dx_instance.specs.Stored.{TableRows, rows_of, table_at}
-use Rattle.dx_instance.specs.Places.{row_at, value_at}
+use Rattle.dx_instance.specs.Places.{row_at}
 use Rattle.dx_instance.proofs.AfterFacts.{becomes_set, pairs_give}
 use Rattle.dx_hom.specs.declared.matching.Found.{Found}
-use Rattle.dx_hom.specs.View.{fact_at, marked}
+use Rattle.dx_hom.specs.View.{marked}
 use Rattle.dx_hom.specs.Homs.{found_pairs}
 use Rattle.dx_hom.specs.Narrowing.{Allows, value_of}
 

@@ -1,18 +1,18 @@
 -- The homomorphism that cells give.
-use Rattle.std.proofs.Common.{◌≡◌, ◌∙◌, ℕ, ◌<◌, Bool, true, false, cond, List, [], ◌∷◌, inl, inr, refl, sym, ap, subst, length}
-use Rattle.std.specs.Prelude.{◌↔◌, IsTrue, MatchBool, Option, Some, None, map}
+use Rattle.std.proofs.Common.{◌≡◌, ◌∙◌, Bool, true, false, List, [], ◌∷◌, inl, inr, refl, sym, ap, subst}
+use Rattle.std.specs.Prelude.{◌↔◌, IsTrue, MatchBool, Option, Some}
 use Rattle.std.specs.FinMap as finite
 use Rattle.std.specs.Bool.{OnTrue}
 use Rattle.std.proofs.lemmas.Bool.{cases_Bool, false≢true}
-use Rattle.dx_ports.specs.Members.{◌∈◌, ◌⊆◌, Distinct, here, there}
+use Rattle.dx_ports.specs.Members.{◌∈◌, Distinct, here, there}
 use Rattle.dx_ports.proofs.Members.{contains_from_in, from_map, in_at, in_map}
 use Rattle.dx_model.specs.declared.values.NullId.{NullId}
 use Rattle.dx_model.specs.declared.values.Value.{Value}
 use Rattle.dx_model.specs.declared.values.Value.TheVariants.{Null}
 use Rattle.dx_model.specs.declared.facts.Fact.{Fact}
 use Rattle.dx_model.specs.declared.facts.NullPair.{NullPair}
-use Rattle.dx_model.specs.Instances.{IsHomomorphism, IsNullMap, fact_moved, given, image, moved, same_null, values}
-use Rattle.dx_model.proofs.Maps.{is_null_map, listing, listing_gives, moved_same, same_null-refl, same_null-true}
+use Rattle.dx_model.specs.Instances.{IsNullMap, fact_moved, given, image, same_null, values}
+use Rattle.dx_model.proofs.Maps.{is_null_map, listing, listing_gives, same_null-refl, same_null-true}
 use Rattle.dx_instance.specs.NullMaps.{ByNull}
 use Rattle.dx_instance.specs.Stored.{TableRows, facts, rows_of}
 use Rattle.dx_instance.specs.Places.{row_at}
@@ -20,7 +20,7 @@ use Rattle.dx_instance.proofs.StoredFacts.{fact_from_row, other_default, row_fro
 use Rattle.dx_hom.specs.declared.matching.Found.{Found}
 use Rattle.dx_hom.specs.View.{fact_at}
 use Rattle.dx_hom.specs.Narrowing.{Gives, IsGood, names, nulls_in, value_of}
-use Rattle.dx_hom.specs.Searching.{Ends, IsOpen, MovesOpen, NoMore, Reaches, Stands}
+use Rattle.dx_hom.specs.Searching.{Ends, MovesOpen, NoMore, Reaches, Stands}
 use Rattle.dx_hom.specs.Homs.{IsAnswer, IsSought, IsThere, found_pairs}
 use Rattle.dx_hom.proofs.Narrowing.{from_nulls, in_nulls}
 

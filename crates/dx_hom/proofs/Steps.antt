@@ -10,7 +10,6 @@ use Rattle.std.proofs.Math.Nat.{mul-le-mul_right, add-mul}
 use Rattle.dx_model.specs.declared.values.NullId.{NullId}
 use Rattle.dx_model.specs.declared.values.Value.{Value}
 use Rattle.dx_model.specs.declared.facts.Fact.{Fact}
-use Rattle.dx_model.specs.declared.facts.NullPair.{NullPair}
 use Rattle.dx_instance.specs.NullMaps.{ByNull}
 use Rattle.dx_ports.specs.Members.{◌∈◌, here, there, ◌⊆◌}
 use Rattle.dx_model.specs.Instances.{moved, fact_moved, values}

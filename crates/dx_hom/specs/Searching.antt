@@ -3,7 +3,6 @@ use Rattle.std.specs.Prelude.{◌≡◌, ℕ, ◌<◌, ◌≤◌, Bool, false, O
 use Rattle.dx_model.specs.declared.values.NullId.{NullId}
 use Rattle.dx_model.specs.declared.values.Value.{Value}
 use Rattle.dx_model.specs.declared.facts.Fact.{Fact}
-use Rattle.dx_model.specs.declared.facts.NullPair.{NullPair}
 use Rattle.dx_instance.specs.NullMaps.{ByNull}
 use Rattle.std.specs.FinMap as finite
 use Rattle.dx_ports.specs.Members.{◌∈◌, ◌⊆◌}

@@ -41,7 +41,12 @@ fn allows(fixed: &NullMap, null: NullId, value: &Value) -> bool
 }
 
 /// Gives the null the value of the cell, if it can have it.
-pub(crate) fn meet_null(found: &mut Vec<Found>, into: &Instance, fixed: &NullMap, cell: Found) -> bool
+pub(crate) fn meet_null(
+    found: &mut Vec<Found>,
+    into: &Instance,
+    fixed: &NullMap,
+    cell: Found,
+) -> bool
     requires cell { IsCell into.now cell }
     requires good { IsGood into.now fixed.now found.old.items }
     requires room { AtMost (names found.old.items ++ cell.null ∷ []) (vec_capacity found.old) }

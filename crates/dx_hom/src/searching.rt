@@ -11,8 +11,8 @@ ghost use Rattle.dx_hom.specs.Narrowing.{AtMost, IsGood, Narrows, names, nulls_i
 ghost use Rattle.dx_hom.specs.Searching.{Ends, FitsIn, IsOpen, NoMore, NotFrom, Skips};
 
 use crate::gone::Gone;
-use dx_instance::{Instance, NullMap};
 use crate::matching::{Found, found_at, meet_row};
+use dx_instance::{Instance, NullMap};
 use dx_model::{Fact, Value};
 use std::slice::from_ref;
 
@@ -51,7 +51,13 @@ fn is_row(into: &Instance, table: u32, place: u32, row: &[Value]) -> bool
 }
 
 /// Whether the fact at this place may be met.
-pub(crate) fn is_open(into: &Instance, gone: &Gone, avoid: Option<&Fact>, table: u32, place: u32) -> bool
+pub(crate) fn is_open(
+    into: &Instance,
+    gone: &Gone,
+    avoid: Option<&Fact>,
+    table: u32,
+    place: u32,
+) -> bool
     requires table { table < length into.now }
     requires place { place < length (rows_of into.now table) }
     ensures { IsTrue result ↔ IsOpen into.now gone.now (option_copied avoid.entry) table place }

@@ -1,4 +1,4 @@
-use Rattle.std.proofs.Common.{◌∙◌, refl, sym}
+use Rattle.std.proofs.Common.{refl, sym}
 use Rattle.dx_hom.proofs.Placing.{allows_none, allows_some}
 use Rattle.dx_hom.proofs.matching.allows.Goals as goal
 

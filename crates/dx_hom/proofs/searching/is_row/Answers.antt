@@ -1,4 +1,4 @@
-use Rattle.std.proofs.Common.{◌≡◌, ◌<◌, ◌∙◌, [], ap, arith, length, refl, sym}
+use Rattle.std.proofs.Common.{◌≡◌, ◌<◌, ◌∙◌, [], ap, arith, length, refl}
 use Rattle.std.proofs.lemmas.Bool.{false≢true}
 use Rattle.dx_model.specs.declared.values.Value.TheVariants.{Const}
 use Rattle.dx_instance.specs.Places.{row_at}
@@ -21,8 +21,7 @@ loop-column-preserved c =
 
 pub returns : goal.returns
 returns c =
-    let wide = row_wide c.args.into.now c.args.table c.args.place c.requires.table c.requires.place c.tables-wide.ensures.rows in
-    (
+    let wide = row_wide c.args.into.now c.args.table c.args.place c.requires.table c.requires.place c.tables-wide.ensures.rows in (
       (λ t. rows_same c.args.row.now (row_at c.args.into.now c.args.table c.args.place) c.loop-column.column (omega (arith, c.if-row-width.false, c.width.ensures, c.width-column-end.ensures, c.loop-column-test.false)) (omega (arith, wide, c.if-row-width.false, c.width.ensures)) c.loop-column.invariant),
       (λ q. refl),
     )
