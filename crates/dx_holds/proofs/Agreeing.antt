@@ -1,0 +1,81 @@
+-- Rows that agree in columns.
+use Rattle.std.proofs.Common.{◌≡◌, ◌∙◌, ℕ, zero, suc, ◌+◌, ◌<◌, ◌≤◌, List, [], ◌∷◌, ◌++◌, inl, inr, sym, ap, subst, arith, length, get_or, take, Bool, true, false}
+use Rattle.std.specs.Prelude.{map, Option, None, Some, is_some, ◌==◌}
+use Rattle.dx_ports.specs.Members.{◌∈◌, here, there}
+use Rattle.std.proofs.lemmas.Bool.{cases_lt, true≢false, false≢true}
+use Rattle.std.proofs.lemmas.List.{take_more, take_all, map-append}
+use Rattle.dx_model.specs.declared.values.Value.{Value}
+use Rattle.dx_model.specs.declared.tables.Link.{Link}
+use Rattle.dx_model.specs.Tables.{values_in}
+use Rattle.dx_instance.specs.Stored.{TableRows, rows_of}
+use Rattle.dx_instance.specs.Places.{HasValues, IsFirstWith, NoneWith, row_at, value_at}
+use Rattle.dx_holds.specs.Columns.{Agrees, RowsDiffer, RowsLead}
+
+-- ---- column by column
+
+pub agree_more : (f g : ℕ → Value) (xs ys : List ℕ) (i : ℕ) → i < length xs → length ys ≡ length xs → map f (take i xs) ≡ map g (take i ys) → f (get_or xs i 0) ≡ g (get_or ys i 0)
+    → map f (take (i + 1) xs) ≡ map g (take (i + 1) ys)
+agree_more f g xs ys i h l e q =
+    let both : map f (take i xs) ++ f (get_or xs i 0) ∷ [] ≡ map g (take i ys) ++ g (get_or ys i 0) ∷ [] = cc in
+    ap (map f) (take_more xs i 0 h) ∙ (map-append f (take i xs) (get_or xs i 0 ∷ []) ∙ (both ∙ sym (ap (map g) (take_more ys i 0 (omega (arith, h, l))) ∙ map-append g (take i ys) (get_or ys i 0 ∷ []))))
+
+pub agree_at : (f g : ℕ → Value) (xs ys : List ℕ) (i : ℕ) → i < length xs → length ys ≡ length xs → map f xs ≡ map g ys → f (get_or xs i 0) ≡ g (get_or ys i 0)
+agree_at f g [] ys i h l e = absurd (omega arith)
+agree_at f g (x ∷ xs) [] i h l e = absurd (omega arith)
+agree_at f g (x ∷ xs) (y ∷ ys) zero h l e = cc
+agree_at f g (x ∷ xs) (y ∷ ys) (suc i) h l e = agree_at f g xs ys i (omega arith) (omega arith) (cc)
+
+pub agree_all : (f g : ℕ → Value) (xs ys : List ℕ) (i : ℕ) → length xs ≤ i → length ys ≡ length xs → map f (take i xs) ≡ map g (take i ys) → map f xs ≡ map g ys
+agree_all f g xs ys i h l e = sym (ap (map f) (take_all i xs h)) ∙ (e ∙ ap (map g) (take_all i ys (omega (arith, h, l))))
+
+-- ---- the next row that agrees
+
+-- no row up to a place, if none has the value of one column from the last one on
+pub none_on : (I : List TableRows) (t : ℕ) (columns : List ℕ) (values : List Value) (a m b c : ℕ) (x : Value) → ((p : ℕ) → HasValues I t columns values p → value_at I t p c ≡ x)
+    → NoneWith I t columns values a m → NoneWith I t (c ∷ []) (x ∷ []) m b → NoneWith I t columns values a b
+none_on I t columns values a m b c x one old none p g k q = elim (cases_lt p m) [ inl l ↦ old p g l q | inr l ↦ none p l k (ap (λ (v : Value). v ∷ []) (one p q)) ]
+
+-- ---- all rows
+
+-- the first n rows agree with none that follow
+abbrev pub DifferBelow : List TableRows → ℕ → List ℕ → ℕ → Type 0
+DifferBelow I t columns n = (p q : ℕ) → p < n → p < q → q < length (rows_of I t) → ¬ (Agrees I t p columns t columns q)
+
+pub differ_more : (I : List TableRows) (t n : ℕ) (columns : List ℕ) (o : Option ℕ) → is_some o ≡ false → IsFirstWith I t columns (values_in columns (row_at I t n)) (n + 1) o → DifferBelow I t columns n → DifferBelow I t columns (n + 1)
+differ_more I t n columns (Some x) e m old p q h b r = absurd (true≢false e)
+differ_more I t n columns None e m old p q h b r = elim (cases_lt p n) [
+  | inl l ↦ old p q l b r
+  | inr l ↦ let s : n ≡ p = omega (arith, h, l) in subst (λ (k : ℕ). ¬ (Agrees I t k columns t columns q)) s (m q (omega (arith, s, b)) r)
+]
+
+pub differ_all : (I : List TableRows) (t n : ℕ) (columns : List ℕ) → length (rows_of I t) ≤ n → DifferBelow I t columns n → RowsDiffer I t columns
+differ_all I t n columns h old p q b r = old p q (omega (arith, h, b, r)) b r
+
+pub not_differ : (I : List TableRows) (t n : ℕ) (columns : List ℕ) (o : Option ℕ) → is_some o ≡ true → IsFirstWith I t columns (values_in columns (row_at I t n)) (n + 1) o → ¬ (RowsDiffer I t columns)
+not_differ I t n columns None e m d = false≢true e
+not_differ I t n columns (Some q) e m d = d n q (omega (arith, m.0)) m.1 m.3
+
+-- the first n rows have the rows that the link names
+abbrev pub LeadBelow : List TableRows → ℕ → Link → ℕ → Type 0
+LeadBelow I t link n = (p : ℕ) → p < n → (q : ℕ) × (q < length (rows_of I link.table)) × Agrees I t p link.from link.table link.to q
+
+pub lead_more : (I : List TableRows) (t n : ℕ) (link : Link) (o : Option ℕ) → is_some o ≡ true → IsFirstWith I link.table link.to (values_in link.from (row_at I t n)) 0 o → LeadBelow I t link n → LeadBelow I t link (n + 1)
+lead_more I t n link None e m old p h = absurd (false≢true e)
+lead_more I t n link (Some q) e m old p h = elim (cases_lt p n) [
+  | inl l ↦ old p l
+  | inr l ↦ let s : n ≡ p = omega (arith, h, l) in (q, m.1, subst (λ (k : ℕ). Agrees I t k link.from link.table link.to q) s m.3)
+]
+
+pub not_lead : (I : List TableRows) (t n : ℕ) (link : Link) (o : Option ℕ) → n < length (rows_of I t) → is_some o ≡ false → IsFirstWith I link.table link.to (values_in link.from (row_at I t n)) 0 o → ¬ (RowsLead I t link)
+not_lead I t n link (Some x) h e m r = true≢false e
+not_lead I t n link None h e m r = let k = r n h in m k.0 (omega arith) k.1 k.2
+
+-- ---- single columns
+
+pub only_one : (n c k : ℕ) → k ∈ (c ∷ []) → c < n → k < n
+only_one n c k (here e) h = rw (← e) h
+only_one n c k (there m) h = elim m [ ]
+
+pub some_column : (xs : List ℕ) (b : Bool) → b ≡ (length xs == 0) → b ≡ false → 0 < length xs
+some_column [] b e h = absurd (false≢true (sym h ∙ e))
+some_column (x ∷ xs) b e h = omega arith

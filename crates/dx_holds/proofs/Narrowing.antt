@@ -1,0 +1,224 @@
+-- Cells that say what a search found.
+use Rattle.std.proofs.Common.{◌≡◌, ◌∙◌, ℕ, zero, suc, ◌+◌, ◌<◌, ◌≤◌, List, [], ◌∷◌, ◌++◌, inl, inr, refl, sym, ap, subst, arith, length, get_or, take, append_assoc}
+use Rattle.std.specs.Prelude.{map, ◌↔◌, Bool, true, false, IsTrue, MatchBool, MatchOption, Option, None, Some}
+use Rattle.std.specs.List.{range_with_len}
+use Rattle.std.proofs.lemmas.Bool.{cases_eq, cases_lt, false≢true}
+use Rattle.std.proofs.lemmas.List.{take_more, map-append, take_all, take-map, length-append, length-map, append-nil}
+use Rattle.std.proofs.lemmas.List.FromFn.{length-range_with_len}
+use Rattle.std.proofs.Math.Seq.{take-append_seam}
+use Rattle.dx_ports.specs.Members.{◌∈◌, Distinct, Each, here, there}
+use Rattle.dx_ports.proofs.Members.{from_append, from_map, in_at, in_flat_map, in_left, in_right}
+use Rattle.dx_ports.proofs.Ranges.{to_range}
+use Rattle.dx_model.specs.declared.values.Value.{Value}
+use Rattle.dx_model.specs.declared.values.Value.TheVariants.{Const}
+use Rattle.dx_model.specs.declared.rules.Atom.{Atom}
+use Rattle.dx_model.specs.declared.rules.Cell.{Cell}
+use Rattle.dx_model.specs.declared.rules.Cell.TheVariants.{Ex}
+use Rattle.dx_model.specs.Values.{Text}
+use Rattle.dx_model.specs.Rules.{cell_value, cells_of}
+use Rattle.dx_schema.proofs.Levels.{no_longer}
+use Rattle.dx_instance.specs.Stored.{TableRows, rows_of, table_at}
+use Rattle.dx_instance.specs.Places.{IsFirstWith, HasValues, row_at, value_at}
+use Rattle.dx_holds.specs.declared.matching.Found.{Found}
+use Rattle.dx_holds.specs.Searching.{AreFound, Begins, Gives, IsCell, Meets, Misses, Narrows, Skips, names, value_of}
+
+-- ---- lists
+
+pub distinct_more : {X : Type 0} (xs : List X) (x : X) → Distinct xs → ¬ (x ∈ xs) → Distinct (xs ++ x ∷ [])
+distinct_more [] x d n = ((λ m. elim m [ ]), tt)
+distinct_more (y ∷ ys) x d n = (
+  (λ m. elim (from_append ys m) [ inl l ↦ d.0 l | inr r ↦ last r ]),
+  distinct_more ys x d.1 (λ m. n (there m)),
+)
+  where
+    last : y ∈ (x ∷ []) → ⊥
+    last (here e) = n (here (sym e))
+    last (there m) = elim m [ ]
+
+-- distinct numbers below n are at most n
+pub distinct_few : (xs : List ℕ) (n : ℕ) → Distinct xs → Each xs (λ x. x < n) → length xs ≤ n
+distinct_few xs n d b = let h = no_longer xs (range_with_len 0 n) d (λ x m. to_range 0 n x (omega arith) (let k = b x m in omega (arith, k))) in omega (arith, h, length-range_with_len 0 n)
+
+pub each_last : {X : Type 0} (P : X → Type 0) (xs : List X) (x : X) → Each xs P → P x → Each (xs ++ x ∷ []) P
+each_last {X} P xs x h p y m = elim (from_append xs m) [ inl l ↦ h y l | inr r ↦ at r ]
+  where
+    at : y ∈ (x ∷ []) → P y
+    at (here e) = subst P e p
+    at (there i) = elim i [ ]
+
+-- with one more there is room
+pub room_more : (xs : List ℕ) (n x : ℕ) → Distinct xs → Each xs (λ y. y < n) → ¬ (x ∈ xs) → x < n → length xs < n
+room_more xs n x d b k h =
+    let l = distinct_few (xs ++ x ∷ []) n (distinct_more xs x d k) (each_last (λ y. y < n) xs x b h) in
+    omega (arith, l, length-append xs (x ∷ []))
+
+pub begins_none : {X : Type 0} (xs : List X) → Begins xs xs
+begins_none xs = ([], sym (append-nil xs))
+
+pub begins_on : {X : Type 0} (a b c : List X) → Begins a b → Begins b c → Begins a c
+begins_on a b c x y = (x.0 ++ y.0, y.1 ∙ (ap (λ l. l ++ y.0) x.1 ∙ append_assoc a x.0 y.0))
+
+-- a list that begins with another, cut where it began
+pub cut : {X : Type 0} (old new : List X) (n : ℕ) → n ≡ length old → Begins old new → take n new ≡ old
+cut old new n e b = rw (e, b.1) (take-append_seam old b.0)
+
+names_below : (n : ℕ) (found : List Found) → Each found (λ b. b.variable < n) → Each (names found) (λ v. v < n)
+names_below n found h v m = let r = from_map (λ (b : Found). b.variable) found m in subst (λ (k : ℕ). k < n) r.2 (h r.0 r.1)
+
+-- ---- one variable
+
+module _ (I : List TableRows) (n : ℕ) (found : List Found) (cell : Found) where
+  -- there is room for a variable that was not found
+  pub room_for : AreFound I n found → ¬ (cell.variable ∈ names found) → cell.variable < n → length found < n
+  room_for good k b = let h = room_more (names found) n cell.variable good.once (names_below n found good.below) k b in omega (arith, h, length-map found (λ (x : Found). x.variable))
+
+  met_before : (b : Found) → AreFound I n found → b ∈ found → b.variable ≡ cell.variable → value_of I b ≡ value_of I cell → Narrows I n found (λ values. values cell.variable ≡ value_of I cell) found
+  met_before b good m e v = record {
+    begins = begins_none found;
+    good = good;
+    exact = λ values. ((λ w. (w, ap values (sym e) ∙ (w b m ∙ v))), (λ w. w.0));
+  }
+
+  failed_before : (b : Found) → b ∈ found → b.variable ≡ cell.variable → ¬ (value_of I b ≡ value_of I cell) → Misses I found (λ values. values cell.variable ≡ value_of I cell) found
+  failed_before b m e v = record {
+    begins = begins_none found;
+    none = λ values w d. v (sym (w b m) ∙ (ap values e ∙ d));
+  }
+
+  pub answer_before : (b : Found) → AreFound I n found → b ∈ found → b.variable ≡ cell.variable → (r : Bool) → (IsTrue r ↔ (value_of I b ≡ value_of I cell))
+      → MatchBool r (Narrows I n found (λ values. values cell.variable ≡ value_of I cell) found) (Misses I found (λ values. values cell.variable ≡ value_of I cell) found)
+  answer_before b good m e true h = met_before b good m e (h.0 refl)
+  answer_before b good m e false h = failed_before b m e (λ q. absurd (false≢true (h.1 q)))
+
+  pub met_now : AreFound I n found → IsCell I cell → ¬ (cell.variable ∈ names found) → cell.variable < n → Narrows I n found (λ values. values cell.variable ≡ value_of I cell) (found ++ cell ∷ [])
+  met_now good c new b = record {
+    begins = (cell ∷ [], refl);
+    good = record {
+      once = rw map-append (distinct_more (names found) cell.variable good.once new);
+      cells = each_last (IsCell I) found cell good.cells c;
+      below = each_last (λ (x : Found). x.variable < n) found cell good.below b;
+    };
+    exact = λ values. (
+      (λ w. ((λ x m. w x (in_left _ m)), w cell (in_right found (here refl)))),
+      (λ w. each_last (λ (x : Found). values x.variable ≡ value_of I x) found cell w.0 w.1),
+    );
+  }
+
+-- ---- one cell
+
+-- a cell whose value is known
+pub answer_known : (I : List TableRows) (n : ℕ) (found : List Found) (f : (ℕ → Value) → Value) (w : Value) (r : Bool) → AreFound I n found → ((values : ℕ → Value) → IsTrue r ↔ (f values ≡ w))
+    → MatchBool r (Narrows I n found (λ values. f values ≡ w) found) (Misses I found (λ values. f values ≡ w) found)
+answer_known I n found f w true good h = record {
+  begins = begins_none found;
+  good = good;
+  exact = λ values. ((λ a. (a, (h values).0 refl)), (λ a. a.0));
+}
+answer_known I n found f w false good h = record { begins = begins_none found; none = λ values a d. absurd (false≢true ((h values).1 d)) }
+
+-- ---- rows
+
+last_apart : {X : Type 0} (xs ys : List X) (x y : X) → xs ++ x ∷ [] ≡ ys ++ y ∷ [] → (xs ≡ ys) × (x ≡ y)
+last_apart [] [] x y e = (refl, cc)
+last_apart [] (z ∷ ys) x y e = absurd (let l = ap length e in omega (arith, simp length-append at l))
+last_apart (z ∷ xs) [] x y e = absurd (let l = ap length e in omega (arith, simp length-append at l))
+last_apart (z ∷ xs) (w ∷ ys) x y e =
+    let d : xs ++ x ∷ [] ≡ ys ++ y ∷ [] = cc in
+    let r = last_apart xs ys x y d in
+    let h : z ≡ w = cc in
+    let k : xs ≡ ys = r.0 in
+    (cc, r.1)
+
+-- the first i cells say the first i values
+abbrev pub MeetsFirst : (ℕ → Text) → List Cell → List Value → ℕ → (ℕ → Value) → Type 0
+MeetsFirst T a b i values = map (cell_value T values) (take i a) ≡ take i b
+
+pub row_start : (T : ℕ → Text) (I : List TableRows) (n : ℕ) (a : List Cell) (b : List Value) (found : List Found) → AreFound I n found → Narrows I n found (MeetsFirst T a b 0) found
+row_start T I n a b found good = record { begins = begins_none found; good = good; exact = λ values. ((λ w. (w, refl)), (λ w. w.0)) }
+
+module _ (T : ℕ → Text) (I : List TableRows) (n : ℕ) (a : List Cell) (b : List Value) (start now : List Found) (i : ℕ) (x : Cell) (y : Value)
+    (l : length a ≡ length b) (h : i < length a) (p : x ≡ get_or a i x) (q : y ≡ get_or b i y) (s : Narrows I n start (MeetsFirst T a b i) now) where
+  parts : (values : ℕ → Value) → MeetsFirst T a b (i + 1) values → MeetsFirst T a b i values × (cell_value T values x ≡ y)
+  parts values e =
+      let within : i < length b = omega arith in
+      let f : map (cell_value T values) (take i a) ++ cell_value T values (get_or a i x) ∷ [] ≡ take i b ++ get_or b i y ∷ [] =
+      sym (map-append (cell_value T values) (take i a) (get_or a i x ∷ [])) ∙ (ap (map (cell_value T values)) (sym (take_more a i x h)) ∙ (e ∙ take_more b i y within)) in
+      let w = last_apart (map (cell_value T values) (take i a)) (take i b) _ _ f in
+      (w.0, ap (cell_value T values) p ∙ (w.1 ∙ sym q))
+
+  joined : (values : ℕ → Value) → MeetsFirst T a b i values → cell_value T values x ≡ y → MeetsFirst T a b (i + 1) values
+  joined values e d =
+      let within : i < length b = omega arith in
+      rw (take_more a i x h, take_more b i y within, map-append (cell_value T values), e) (let z : cell_value T values (get_or a i x) ≡ get_or b i y = ap (cell_value T values) (sym p) ∙ (d ∙ q) in ap (λ v. take i b ++ v ∷ []) z)
+
+  pub row_more : (more : List Found) → Narrows I n now (λ values. cell_value T values x ≡ y) more → Narrows I n start (MeetsFirst T a b (i + 1)) more
+  row_more more t = record {
+    begins = begins_on start now more s.begins t.begins;
+    good = t.good;
+    exact = λ values. (
+      (λ m. let u = (t.exact values).0 m in let w = (s.exact values).0 u.0 in (w.0, joined values w.1 u.1)),
+      (λ w. (t.exact values).1 ((s.exact values).1 (w.0, (parts values w.1).0), (parts values w.1).1)),
+    );
+  }
+
+  pub row_failed : (more : List Found) → Misses I now (λ values. cell_value T values x ≡ y) more → Misses I start (λ values. map (cell_value T values) a ≡ b) more
+  row_failed more t = record {
+    begins = begins_on start now more s.begins t.begins;
+    none = λ values m e.
+        let whole : MeetsFirst T a b (i + 1) values = sym (take-map (cell_value T values) (i + 1) a) ∙ ap (take (i + 1)) e in
+        t.none values ((s.exact values).1 (m, (parts values whole).0)) (parts values whole).1;
+  }
+
+pub row_whole : (T : ℕ → Text) (I : List TableRows) (n : ℕ) (a : List Cell) (b : List Value) (start now : List Found) (i : ℕ) → length a ≡ length b → length a ≤ i
+    → Narrows I n start (MeetsFirst T a b i) now → Narrows I n start (λ values. map (cell_value T values) a ≡ b) now
+row_whole T I n a b start now i l h s =
+    subst (λ (c : List Cell). Narrows I n start (λ values. map (cell_value T values) c ≡ b) now) (take_all i a h)
+    (subst (λ (d : List Value). Narrows I n start (λ values. map (cell_value T values) (take i a) ≡ d) now) (take_all i b (omega (arith, l, h))) s)
+
+-- ---- places
+
+module _ (T : ℕ → Text) (I : List TableRows) (n : ℕ) where
+  pub skips_more : (found : List Found) (a : Atom) (x p : ℕ) → Skips T I found a x p → ((values : ℕ → Value) → Gives I found values → ¬ (Meets T I a p values)) → Skips T I found a x (p + 1)
+  skips_more found a x p s h q values l k w e = elim (cases_eq q p) [
+    | inl d ↦ h values w (rw d at e)
+    | inr d ↦ let m : q < p = omega arith in s q values l m w e
+  ]
+
+  pub skips_on : (found : List Found) (a : Atom) (x y z : ℕ) → Skips T I found a x y → Skips T I found a y z → Skips T I found a x z
+  skips_on found a x y z s t q values l k w e = elim (cases_lt q y) [ inl b ↦ s q values l b w e | inr b ↦ t q values b k w e ]
+
+-- what a look-up by a known cell tells
+abbrev pub Next : (ℕ → Text) → List TableRows → List Found → Atom → ℕ → Option ℕ → Type 0
+Next T I found a n o = MatchOption o (Skips T I found a n (length (rows_of I a.table))) (λ p. (n ≤ p) × (p < length (rows_of I a.table)) × Skips T I found a n p)
+
+map_at : {X Y : Type 0} (g : X → Y) (xs : List X) (i : ℕ) (d : X) (e : Y) → i < length xs → get_or (map g xs) i e ≡ g (get_or xs i d)
+map_at g [] i d e h = absurd (omega arith)
+map_at g (x ∷ xs) zero d e h = refl
+map_at g (x ∷ xs) (suc i) d e h = map_at g xs i d e (omega arith)
+
+other_column : (T : ℕ → Text) (I : List TableRows) (found : List Found) (a : Atom) (c p : ℕ) (x : Cell) (v : Value) → c < length a.cells → x ≡ get_or a.cells c x
+    → ((values : ℕ → Value) → Gives I found values → cell_value T values x ≡ v) → ¬ (HasValues I a.table (c ∷ []) (v ∷ []) p) → (values : ℕ → Value) → Gives I found values → ¬ (Meets T I a p values)
+other_column T I found a c p x v h e known none values w r =
+    let d : get_or (row_at I a.table p) c (Const []) ≡ cell_value T values x = ap (λ l. get_or l c (Const [])) (sym r) ∙ (map_at (cell_value T values) a.cells c x (Const []) h ∙ ap (cell_value T values) (sym e)) in
+    let k : value_at I a.table p c ≡ v = d ∙ known values w in
+    none (ap (λ y. y ∷ []) k)
+
+pub by_column : (T : ℕ → Text) (I : List TableRows) (found : List Found) (a : Atom) (c n : ℕ) (x : Cell) (v : Value) → c < length a.cells → x ≡ get_or a.cells c x
+    → ((values : ℕ → Value) → Gives I found values → cell_value T values x ≡ v) → (o : Option ℕ) → IsFirstWith I a.table (c ∷ []) (v ∷ []) n o → Next T I found a n o
+by_column T I found a c n x v h e known None k = λ p values l b w. other_column T I found a c p x v h e known (k p l b) values w
+by_column T I found a c n x v h e known (Some q) k = (k.0, k.1, λ p values l b w. other_column T I found a c p x v h e known (k.2 p l b) values w)
+
+pub by_none : (T : ℕ → Text) (I : List TableRows) (found : List Found) (a : Atom) (n : ℕ) (o : Option ℕ) → IsFirstWith I a.table [] [] n o → Next T I found a n o
+by_none T I found a n None k = λ p values l b w d. k p l b refl
+by_none T I found a n (Some q) k = (k.0, k.1, λ p values l b w d. k.2 p l b refl)
+
+pub known_value : (T : ℕ → Text) (I : List TableRows) (found : List Found) (x : Cell) (v : ℕ) (b : Found) → x ≡ Ex v → b ∈ found → b.variable ≡ v → (values : ℕ → Value) → Gives I found values → cell_value T values x ≡ value_of I b
+known_value T I found x v b e m d values w = ap (cell_value T values) e ∙ (ap values (sym d) ∙ w b m)
+
+-- a cell of an atom is one of the cells
+pub in_cells : (A : List Atom) (a : Atom) (c : Cell) → a ∈ A → c ∈ a.cells → c ∈ cells_of A
+in_cells A a c m k = in_flat_map (λ (x : Atom). x.cells) m k
+
+-- an atom is as wide as the rows of its table
+pub row_wide : (I : List TableRows) (a : Atom) (p : ℕ) → a.table < length I → length a.cells ≡ (table_at I a.table).width → p < length (rows_of I a.table) → Each I (λ t. Each t.rows (λ (r : List Value). length r ≡ t.width)) → length a.cells ≡ length (row_at I a.table p)
+row_wide I a p h e b wide = e ∙ sym (wide (table_at I a.table) (in_at I a.table (record { width = 0; rows = [] }) h) (row_at I a.table p) (in_at (rows_of I a.table) p [] b))

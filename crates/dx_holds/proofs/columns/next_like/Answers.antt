@@ -1,0 +1,57 @@
+use Rattle.std.proofs.Common.{◌∙◌, ◌<◌, ◌^◌, [], arith, sym, length, get_or}
+use Rattle.std.proofs.lemmas.Bool.{true≢false}
+use Rattle.dx_ports.proofs.Members.{in_at}
+use Rattle.dx_model.specs.Tables.{cell, values_in}
+use Rattle.dx_instance.specs.Stored.{rows_of, table_at}
+use Rattle.dx_instance.specs.Places.{row_at, value_at}
+use Rattle.dx_instance.proofs.PlaceFacts.{none_more}
+use Rattle.dx_holds.proofs.Agreeing.{agree_at, none_on, only_one, some_column}
+use Rattle.dx_holds.proofs.columns.next_like.Goals as goal
+
+pub cell-value-requires-clause-column : goal.cell-value-requires-clause-column
+cell-value-requires-clause-column c =
+    let h = some_column c.args.columns.now c.is_empty.result c.is_empty.ensures c.if-is_empty.false in
+    c.requires.seen_columns _ (in_at c.args.row.now.columns.now 0 0 (omega (arith, c.requires.lengths, h)))
+
+pub with_columns-requires-in-loop-place-clause-columns : goal.with_columns-requires-in-loop-place-clause-columns
+with_columns-requires-in-loop-place-clause-columns c = λ k m.
+    let h = some_column c.args.columns.now c.is_empty.result c.is_empty.ensures c.if-is_empty.false in
+    only_one _ (get_or c.args.columns.now 0 0) k (rw c.from_ref.ensures.value at m) (c.requires.columns _ (in_at c.args.columns.now 0 0 h))
+
+pub returns-then-agrees : goal.returns-then-agrees
+returns-then-agrees c =
+    let h = some_column c.args.columns.now c.is_empty.result c.is_empty.ensures c.if-is_empty.false in
+    let next = rw (c.from_ref.ensures.value, c.from_ref-in-loop-place.ensures.value) at c.in-Some.ensures in (
+      omega (arith, c.loop-place.invariant.later, next.0),
+      next.1,
+      none_on c.args.instance.now c.args.table c.args.columns.now (values_in c.args.row.now.columns.now (row_at c.args.instance.now c.args.row.now.table c.args.row.now.place)) c.args.from c.loop-place.next c.in-Some.place (get_or c.args.columns.now 0 0) c.cell-value.result.now
+          (λ p q. agree_at (value_at c.args.instance.now c.args.table p) (cell (row_at c.args.instance.now c.args.row.now.table c.args.row.now.place)) c.args.columns.now c.args.row.now.columns.now 0 h c.requires.lengths q ∙ sym c.cell-value.ensures)
+          c.loop-place.invariant.none next.2,
+      c.agrees.ensures.0 c.if-agrees.true,
+    )
+
+pub overflow_add-next : goal.overflow_add-next
+overflow_add-next c =
+    let few : length (rows_of c.args.instance.now c.args.table) < 2 ^ 32 = c.tables-few.ensures.few (table_at c.args.instance.now c.args.table) (in_at c.args.instance.now c.args.table (record { width = 0; rows = [] }) c.requires.table) in
+    omega (arith, few, c.in-Some.ensures.1)
+
+pub loop-place-preserved : goal.loop-place-preserved
+loop-place-preserved c =
+    let h = some_column c.args.columns.now c.is_empty.result c.is_empty.ensures c.if-is_empty.false in
+    let next = rw (c.from_ref.ensures.value, c.from_ref-in-loop-place.ensures.value) at c.in-Some.ensures in
+    record {
+      later = omega (arith, c.loop-place.invariant.later, next.0);
+      none = none_more c.args.instance.now c.args.table c.args.columns.now (values_in c.args.row.now.columns.now (row_at c.args.instance.now c.args.row.now.table c.args.row.now.place)) c.args.from c.in-Some.place
+          (none_on c.args.instance.now c.args.table c.args.columns.now (values_in c.args.row.now.columns.now (row_at c.args.instance.now c.args.row.now.table c.args.row.now.place)) c.args.from c.loop-place.next c.in-Some.place (get_or c.args.columns.now 0 0) c.cell-value.result.now
+          (λ p q. agree_at (value_at c.args.instance.now c.args.table p) (cell (row_at c.args.instance.now c.args.row.now.table c.args.row.now.place)) c.args.columns.now c.args.row.now.columns.now 0 h c.requires.lengths q ∙ sym c.cell-value.ensures)
+          c.loop-place.invariant.none next.2)
+          (λ q. true≢false (sym (c.agrees.ensures.1 q) ∙ c.if-agrees.false));
+    }
+
+pub returns : goal.returns
+returns c =
+    let h = some_column c.args.columns.now c.is_empty.result c.is_empty.ensures c.if-is_empty.false in
+    let last = rw (c.in_default.is, c.from_ref.ensures.value, c.from_ref-in-loop-place.ensures.value) at c.with_columns-in-loop-place.ensures in
+    none_on c.args.instance.now c.args.table c.args.columns.now (values_in c.args.row.now.columns.now (row_at c.args.instance.now c.args.row.now.table c.args.row.now.place)) c.args.from c.loop-place.next (length (rows_of c.args.instance.now c.args.table)) (get_or c.args.columns.now 0 0) c.cell-value.result.now
+    (λ p q. agree_at (value_at c.args.instance.now c.args.table p) (cell (row_at c.args.instance.now c.args.row.now.table c.args.row.now.place)) c.args.columns.now c.args.row.now.columns.now 0 h c.requires.lengths q ∙ sym c.cell-value.ensures)
+    c.loop-place.invariant.none last

@@ -1,0 +1,27 @@
+-- Keys and links of one table, by the places of rows.
+use Rattle.std.specs.Prelude.{◌≡◌, ℕ, ◌<◌, List, length}
+use Rattle.dx_model.specs.declared.tables.Link.{Link}
+use Rattle.dx_model.specs.Tables.{values_in}
+use Rattle.dx_ports.specs.Members.{◌∈◌}
+use Rattle.dx_instance.specs.Stored.{TableRows, rows_of, table_at}
+use Rattle.dx_instance.specs.Places.{HasValues, row_at}
+
+-- the row at place q of table u has in its columns `to` what the row at place p of table t has in its columns `from`
+abbrev pub Agrees : List TableRows → ℕ → ℕ → List ℕ → ℕ → List ℕ → ℕ → Type 0
+Agrees I t p from u to q = HasValues I u to (values_in from (row_at I t p)) q
+
+-- no two rows of the table have the same values in these columns
+abbrev pub RowsDiffer : List TableRows → ℕ → List ℕ → Type 0
+RowsDiffer I t columns = (p q : ℕ) → p < q → q < length (rows_of I t) → ¬ (Agrees I t p columns t columns q)
+
+-- each row of the table has the row that the link names
+abbrev pub RowsLead : List TableRows → ℕ → Link → Type 0
+RowsLead I t link =
+    (p : ℕ) → p < length (rows_of I t) → (q : ℕ) × (q < length (rows_of I link.table)) × Agrees I t p link.from link.table link.to q
+
+-- a link goes from columns of the table to as many columns of a table
+pub record LinkFits (I : List TableRows) (width : ℕ) (link : Link) : Type 0 where
+  pub table : link.table < length I
+  pub lengths : length link.from ≡ length link.to
+  pub from : (c : ℕ) → c ∈ link.from → c < width
+  pub to : (c : ℕ) → c ∈ link.to → c < (table_at I link.table).width

@@ -1,0 +1,181 @@
+// Cells that hold the values of existential variables, and the rows that atoms can be.
+ghost use Rattle.std.specs.Prelude.{◌≡◌, ◌↔◌, ◌<◌, ◌≤◌, ◌+◌, ◌^◌, ℕ, IsTrue, IfSome, MatchBool, MatchOption, length, vec_capacity};
+ghost use Rattle.dx_ports.specs.Members.{◌∈◌};
+ghost use Rattle.dx_model.specs.declared.values.Value.{Value as AnyValue};
+ghost use Rattle.dx_model.specs.declared.rules.Cell.TheVariants.{Ex, Var};
+ghost use Rattle.dx_model.specs.Rules.{cell_value, cells_of};
+ghost use Rattle.dx_instance.specs.Stored.{rows_of, table_at};
+ghost use Rattle.dx_instance.specs.Places.{value_at};
+ghost use Rattle.dx_holds.specs.Searching.{AreFound, IsAsked, IsCell, Meets, Misses, Narrows, Skips, names, texts, value_of};
+
+use crate::texts::text_for;
+use dx_instance::Instance;
+use dx_model::{Atom, Cell, Value};
+use dx_ports::Text;
+use std::slice::from_ref;
+
+/// An existential variable, and a cell that holds its value.
+#[derive(Clone, Copy)]
+pub struct Found {
+    pub variable: u32,
+    pub table: u32,
+    pub place: u32,
+    pub column: u32,
+}
+
+/// What is asked: whether atoms, with texts for their variables, can be facts of an instance.
+#[derive(Clone, Copy)]
+pub(crate) struct Question<'a> {
+    pub atoms: &'a [Atom],
+    pub tuple: &'a [Text],
+    pub target: &'a Instance,
+}
+
+/// Where the variable was found, if it was.
+pub(crate) fn found_at(found: &[Found], variable: u32) -> Option<Found>
+    ensures { MatchOption result (¬ (variable ∈ names found.now)) (λ b. (b ∈ found.now) × (b.variable ≡ variable)) }
+{
+    for entry in found {
+        if entry.variable == variable {
+            return Some(*entry);
+        }
+    }
+    None
+}
+
+/// Whether a variable or a literal has this value. An existential variable has none.
+fn shows(question: &Question, cell: &Cell, value: &Value) -> bool
+    requires asked { IsAsked question.now.target.now question.now.atoms.now question.now.tuple.now }
+    requires known { (x : ℕ) → cell.now ≡ Var x → Var x ∈ cells_of question.now.atoms.now }
+    ensures { (values : ℕ → AnyValue) → ((v : ℕ) → ¬ (cell.now ≡ Ex v)) → IsTrue result ↔ (cell_value (texts question.now.atoms.now question.now.tuple.now) values cell.now ≡ value.now) }
+{
+    match (cell, value) {
+        (Cell::Var(x), Value::Const(text)) => {
+            text_for(question.atoms, question.tuple, *x).is(text)
+        }
+        (Cell::Lit(said), Value::Const(text)) => said.is(text),
+        _ => false,
+    }
+}
+
+/// Gives the variable the value of the cell, if it can have it.
+fn meet_variable(target: &Instance, found: &mut Vec<Found>, cell: Found) -> bool
+    requires cell { IsCell target.now cell }
+    requires good { AreFound target.now (vec_capacity found.old) found.old.items }
+    requires below { cell.variable < vec_capacity found.old }
+    ensures capacity { vec_capacity found.new ≡ vec_capacity found.old }
+    ensures cases { MatchBool result (Narrows target.now (vec_capacity found.old) found.old.items (λ values. values cell.variable ≡ value_of target.now cell) found.new.items) (Misses target.now found.old.items (λ values. values cell.variable ≡ value_of target.now cell) found.new.items) }
+{
+    let value = target.cell(cell.table, cell.place, cell.column);
+    if let Some(entry) = found_at(found.as_slice(), cell.variable) {
+        return target
+            .cell(entry.table, entry.place, entry.column)
+            .is(value);
+    }
+    found.push_reserved(cell);
+    true
+}
+
+/// Gives the atom's cell the value in a column of a row, if it can have it.
+fn meet_cell(
+    question: &Question,
+    found: &mut Vec<Found>,
+    cell: &Cell,
+    table: u32,
+    place: u32,
+    column: u32,
+) -> bool
+    requires asked { IsAsked question.now.target.now question.now.atoms.now question.now.tuple.now }
+    requires known { cell.now ∈ cells_of question.now.atoms.now }
+    requires table { table < length question.now.target.now }
+    requires place { place < length (rows_of question.now.target.now table) }
+    requires column { column < (table_at question.now.target.now table).width }
+    requires good { AreFound question.now.target.now (vec_capacity found.old) found.old.items }
+    requires below { (v : ℕ) → cell.now ≡ Ex v → v < vec_capacity found.old }
+    ensures capacity { vec_capacity found.new ≡ vec_capacity found.old }
+    ensures cases { MatchBool result (Narrows question.now.target.now (vec_capacity found.old) found.old.items (λ values. cell_value (texts question.now.atoms.now question.now.tuple.now) values cell.now ≡ value_at question.now.target.now table place column) found.new.items) (Misses question.now.target.now found.old.items (λ values. cell_value (texts question.now.atoms.now question.now.tuple.now) values cell.now ≡ value_at question.now.target.now table place column) found.new.items) }
+{
+    let target = question.target;
+    match cell {
+        Cell::Ex(variable) => meet_variable(
+            target,
+            found,
+            Found {
+                variable: *variable,
+                table,
+                place,
+                column,
+            },
+        ),
+        _ => shows(question, cell, target.cell(table, place, column)),
+    }
+}
+
+/// Gives the atom's cells the values of the row at a place, if they can have them.
+fn meet_row(question: &Question, found: &mut Vec<Found>, atom: &Atom, place: u32) -> bool
+    requires asked { IsAsked question.now.target.now question.now.atoms.now question.now.tuple.now }
+    requires atom { atom.now ∈ question.now.atoms.now }
+    requires place { place < length (rows_of question.now.target.now atom.now.table) }
+    requires good { AreFound question.now.target.now (vec_capacity found.old) found.old.items }
+    requires below { (v : ℕ) → Ex v ∈ atom.now.cells → v < vec_capacity found.old }
+    ensures capacity { vec_capacity found.new ≡ vec_capacity found.old }
+    ensures cases { MatchBool result (Narrows question.now.target.now (vec_capacity found.old) found.old.items (Meets (texts question.now.atoms.now question.now.tuple.now) question.now.target.now atom.now place) found.new.items) (Misses question.now.target.now found.old.items (Meets (texts question.now.atoms.now question.now.tuple.now) question.now.target.now atom.now place) found.new.items) }
+{
+    let _wide = question.target.tables();
+    let cells = atom.cells.items();
+    for column in 0..question.target.width(atom.table) {
+        let cell = &cells[column as usize];
+        if !meet_cell(question, found, cell, atom.table, place, column) {
+            return false;
+        }
+    }
+    true
+}
+
+/// The least place from `from` on whose row agrees with the atom in the first column that is known.
+fn candidate(question: &Question, found: &[Found], atom: &Atom, from: u32) -> Option<u32>
+    requires asked { IsAsked question.now.target.now question.now.atoms.now question.now.tuple.now }
+    requires atom { atom.now ∈ question.now.atoms.now }
+    requires good { (n : ℕ) × AreFound question.now.target.now n found.now }
+    ensures { MatchOption result (Skips (texts question.now.atoms.now question.now.tuple.now) question.now.target.now found.now atom.now from (length (rows_of question.now.target.now atom.now.table))) (λ p. (from ≤ p) × (p < length (rows_of question.now.target.now atom.now.table)) × Skips (texts question.now.atoms.now question.now.tuple.now) question.now.target.now found.now atom.now from p) }
+{
+    let target = question.target;
+    let cells = atom.cells.items();
+    for column in 0..target.width(atom.table) {
+        if let Cell::Ex(variable) = &cells[column as usize] {
+            if let Some(entry) = found_at(found, *variable) {
+                let value = target.cell(entry.table, entry.place, entry.column);
+                return target.with_columns(atom.table, from_ref(&column), from_ref(value), from);
+            }
+        }
+    }
+    target.with_columns(atom.table, &[], &[], from)
+}
+
+/// The least place from `from` on whose row the atom can be, and the variables that are found there.
+pub(crate) fn next_place(
+    question: &Question,
+    found: &mut Vec<Found>,
+    atom: &Atom,
+    from: u32,
+) -> Option<u32>
+    requires asked { IsAsked question.now.target.now question.now.atoms.now question.now.tuple.now }
+    requires atom { atom.now ∈ question.now.atoms.now }
+    requires good { AreFound question.now.target.now (vec_capacity found.old) found.old.items }
+    requires below { (v : ℕ) → Ex v ∈ atom.now.cells → v < vec_capacity found.old }
+    ensures capacity { vec_capacity found.new ≡ vec_capacity found.old }
+    ensures small { IfSome result (λ p. p + 1 < 2 ^ 32) }
+    ensures cases { MatchOption result ((found.new.items ≡ found.old.items) × Skips (texts question.now.atoms.now question.now.tuple.now) question.now.target.now found.old.items atom.now from (length (rows_of question.now.target.now atom.now.table))) (λ p. (from ≤ p) × (p < length (rows_of question.now.target.now atom.now.table)) × Skips (texts question.now.atoms.now question.now.tuple.now) question.now.target.now found.old.items atom.now from p × Narrows question.now.target.now (vec_capacity found.old) found.old.items (Meets (texts question.now.atoms.now question.now.tuple.now) question.now.target.now atom.now p) found.new.items) }
+{
+    let _few = question.target.tables();
+    let mark = found.len();
+    let mut next = from;
+    while let Some(place) = candidate(question, found.as_slice(), atom, next) {
+        if meet_row(question, found, atom, place) {
+            return Some(place);
+        }
+        found.truncate(mark);
+        next = place + 1;
+    }
+    None
+}

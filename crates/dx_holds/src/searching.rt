@@ -1,0 +1,102 @@
+// A search for values of existential variables, part by part.
+ghost use Rattle.std.specs.Prelude.{◌≡◌, ◌↔◌, ◌<◌, ◌≤◌, ◌^◌, ℕ, IsTrue, IfSome, MatchBool, MatchOption, length, vec_capacity};
+ghost use Rattle.dx_ports.specs.Members.{◌∈◌, Each};
+ghost use Rattle.dx_model.specs.declared.values.Value.{Value as AnyValue};
+ghost use Rattle.dx_model.specs.declared.rules.Cell.TheVariants.{Ex};
+ghost use Rattle.dx_model.specs.Rules.{cells_of, said};
+ghost use Rattle.dx_instance.specs.Stored.{facts};
+ghost use Rattle.dx_holds.specs.Searching.{Begins, Fails, IsAsked, IsState, IsWanted, NoneLeft, names, texts};
+
+use crate::matching::{Found, Question, found_at, next_place};
+use dx_model::{Atom, Cell};
+
+/// Whether one of the cells is a variable that was found.
+fn has_found(cells: &[Cell], found: &[Found]) -> bool
+    ensures { IsTrue result ↔ ((v : ℕ) × (Ex v ∈ cells.now) × (v ∈ names found.now)) }
+{
+    for cell in cells {
+        if let Cell::Ex(variable) = cell {
+            if found_at(found, *variable).is_some() {
+                return true;
+            }
+        }
+    }
+    false
+}
+
+/// Whether the atom is wanted: each is, or those that have a variable that was found since.
+fn is_wanted(atom: &Atom, found: &[Found], since: Option<usize>) -> bool
+    requires { IfSome since (λ m. m ≤ length found.now) }
+    ensures { IsTrue result ↔ IsWanted found.now since atom.now }
+{
+    match since {
+        None => true,
+        Some(mark) => has_found(atom.cells.items(), &found[mark..]),
+    }
+}
+
+/// Whether the atom is done.
+fn is_done(done: &[usize], atom: usize) -> bool
+    ensures { IsTrue result ↔ (atom ∈ done.now) }
+{
+    for other in done {
+        if *other == atom {
+            return true;
+        }
+    }
+    false
+}
+
+/// The first atom that is wanted and not done.
+fn next_atom(atoms: &[Atom], found: &[Found], done: &[usize], since: Option<usize>) -> Option<usize>
+    requires { IfSome since (λ m. m ≤ length found.now) }
+    ensures { MatchOption result (NoneLeft atoms.now found.now done.now since) (λ i. (i < length atoms.now) × ¬ (i ∈ done.now)) }
+{
+    for i in 0..atoms.len() {
+        if !is_done(done, i) {
+            if is_wanted(&atoms[i], found, since) {
+                return Some(i);
+            }
+        }
+    }
+    None
+}
+
+/// Finds values with which all wanted atoms are facts, beside those that are done. An atom that shares a variable with
+/// one that was just done is wanted next, so that parts that share none are never tried in all combinations.
+pub(crate) fn extend(
+    question: &Question,
+    found: &mut Vec<Found>,
+    done: &mut Vec<usize>,
+    since: Option<usize>,
+) -> bool
+    requires asked { IsAsked question.now.target.now question.now.atoms.now question.now.tuple.now }
+    requires state { IsState (texts question.now.atoms.now question.now.tuple.now) question.now.atoms.now question.now.target.now (vec_capacity found.old) found.old.items done.old.items }
+    requires below { (v : ℕ) → Ex v ∈ cells_of question.now.atoms.now → v < vec_capacity found.old }
+    requires room { length question.now.atoms.now ≤ vec_capacity done.old }
+    requires since { IfSome since (λ m. m ≤ length found.old.items) }
+    ensures found_capacity { vec_capacity found.new ≡ vec_capacity found.old }
+    ensures done_capacity { vec_capacity done.new ≡ vec_capacity done.old }
+    ensures found_begins { Begins found.old.items found.new.items }
+    ensures done_begins { Begins done.old.items done.new.items }
+    ensures cases { MatchBool result (IsState (texts question.now.atoms.now question.now.tuple.now) question.now.atoms.now question.now.target.now (vec_capacity found.old) found.new.items done.new.items × NoneLeft question.now.atoms.now found.new.items done.new.items since) (Fails (texts question.now.atoms.now question.now.tuple.now) question.now.atoms.now question.now.target.now found.old.items done.old.items) }
+{
+    let wanted = next_atom(question.atoms, found.as_slice(), done.as_slice(), since);
+    let Some(next) = wanted else {
+        return true;
+    };
+    let atom = &question.atoms[next];
+    let mark = found.len();
+    let before = done.len();
+    let mut from = 0;
+    while let Some(place) = next_place(question, found, atom, from) {
+        done.push_reserved(next);
+        if extend(question, found, done, Some(mark)) {
+            return extend(question, found, done, since);
+        }
+        found.truncate(mark);
+        done.truncate(before);
+        from = place + 1;
+    }
+    false
+}

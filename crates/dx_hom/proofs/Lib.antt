@@ -1,0 +1,5 @@
+pub mod Columns
+pub mod Narrowing
+pub mod Reading
+pub mod Steps
+pub mod Placing

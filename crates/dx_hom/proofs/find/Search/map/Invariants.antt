@@ -1,0 +1,12 @@
+use Rattle.std.proofs.Common.{◌≤◌, vec_len}
+use Rattle.dx_hom.proofs.Placing.{MadeFrom}
+use Rattle.dx_hom.proofs.find.Search.map.Given as goal
+
+abbrev pub decreases-loop-left : goal.decreases-loop-left
+decreases-loop-left l = l.left
+
+abbrev pub invariant-loop-left : goal.invariant-loop-left
+invariant-loop-left l = record {
+  within : l.left ≤ vec_len l.self-inside.found;
+  made : MadeFrom l.into l.self-inside.found.items l.left l.map;
+}

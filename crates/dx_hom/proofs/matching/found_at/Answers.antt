@@ -1,0 +1,24 @@
+use Rattle.std.proofs.Common.{◌≡◌, get_or, rules}
+use Rattle.std.proofs.lemmas.List.{take_all}
+use Rattle.dx_hom.specs.declared.matching.Found.{Found}
+use Rattle.dx_ports.proofs.Members.{from_map}
+use Rattle.dx_ports.proofs.Members.{in_at}
+use Rattle.dx_ports.proofs.Loops.{each_more}
+use Rattle.dx_instance.proofs.StoredFacts.{other_default}
+use Rattle.dx_hom.proofs.matching.found_at.Goals as goal
+
+abbrev blank : Found
+blank = record { null = record { rule = 0; var = 0; row = 0 }; table = 0; place = 0; column = 0 }
+
+pub returns-then-eq : goal.returns-then-eq
+returns-then-eq c =
+    let e : (get_or c.args.found.now c.loop-entry.entry-index blank).null ≡ c.args.null = search rules in
+    (in_at c.args.found.now c.loop-entry.entry-index blank c.loop-entry-test.true, e)
+
+pub loop-entry-preserved : goal.loop-entry-preserved
+loop-entry-preserved c =
+    each_more (λ (b : Found). ¬ (b.null ≡ c.args.null)) c.args.found.now c.loop-entry.entry-index (get_or c.args.found.now c.loop-entry.entry-index blank)
+    c.loop-entry-test.true (other_default c.args.found.now c.loop-entry.entry-index blank _ c.loop-entry-test.true) c.loop-entry.invariant (λ e. let d : (get_or c.args.found.now c.loop-entry.entry-index blank).null ≡ c.args.null → ⊥ = search rules in d e)
+
+pub returns : goal.returns
+returns c = λ m. let r = from_map (λ (b : Found). b.null) c.args.found.now m in c.loop-entry.invariant r.0 (rw (take_all c.loop-entry.entry-index c.args.found.now c.loop-entry-test.false) r.1) r.2

@@ -1,0 +1,5 @@
+pub mod View
+pub mod Narrowing
+pub mod Searching
+pub mod Homs
+pub mod Room

@@ -1,0 +1,56 @@
+-- What a search asks and answers.
+use Rattle.std.specs.Prelude.{◌≡◌, ℕ, ◌<◌, ◌≤◌, Bool, false, Option, Some, List, length}
+use Rattle.dx_model.specs.declared.values.NullId.{NullId}
+use Rattle.dx_model.specs.declared.values.Value.{Value}
+use Rattle.dx_model.specs.declared.facts.Fact.{Fact}
+use Rattle.dx_instance.specs.NullMaps.{ByNull}
+use Rattle.std.specs.FinMap as finite
+use Rattle.dx_ports.specs.Members.{◌∈◌, ◌⊆◌}
+use Rattle.dx_model.specs.Instances.{fact_moved, values}
+use Rattle.dx_hom.specs.declared.matching.Found.{Found}
+use Rattle.dx_instance.specs.Stored.{TableRows, rows_of, table_at}
+use Rattle.dx_hom.specs.View.{fact_at, gone_at}
+use Rattle.dx_hom.specs.Narrowing.{names, nulls_in, IsGood, Gives}
+
+-- a fact has a table of the instance, and its width
+pub record FitsIn (T : List TableRows) (f : Fact) : Type 0 where
+  pub table : f.table < length T
+  pub width : length f.row ≡ (table_at T f.table).width
+
+-- a fact of the instance that is not taken out and not to be avoided
+pub record IsOpen (T : List TableRows) (gone : List (List Bool)) (avoid : Option Fact) (t p : ℕ) : Type 0 where
+  pub place : p < length (rows_of T t)
+  pub kept : gone_at gone t p ≡ false
+  pub other : ¬ (avoid ≡ Some (fact_at T t p))
+
+-- f is such a fact
+abbrev pub Stands : List TableRows → List (List Bool) → Option Fact → Fact → Type 0
+Stands T gone avoid f = (p : ℕ) × IsOpen T gone avoid f.table p × (f ≡ fact_at T f.table p)
+
+-- nothing of which found is true moves the fact to one of the places from a up to b
+abbrev pub Skips : List TableRows → List (List Bool) → ByNull → Option Fact → List Found → Fact → ℕ → ℕ → Type 0
+Skips T gone fixed avoid found f a b =
+    (p : ℕ) (g : NullId → Value) → a ≤ p → p < b → IsOpen T gone avoid f.table p → Gives T fixed found g → ¬ (fact_moved g f ≡ fact_at T f.table p)
+
+-- g moves each of the facts to such a fact
+abbrev pub MovesOpen : List TableRows → List (List Bool) → Option Fact → (NullId → Value) → List Fact → Type 0
+MovesOpen T gone avoid g F = (f : Fact) → f ∈ F → Stands T gone avoid (fact_moved g f)
+
+-- what is found is of all the nulls of F, and moves F
+pub record Ends (T : List TableRows) (gone : List (List Bool)) (fixed : ByNull) (avoid : Option Fact) (F : List Fact) (found : List Found) : Type 0 where
+  pub good : IsGood T fixed found
+  pub whole : nulls_in (values F) ⊆ names found
+  pub only : names found ⊆ nulls_in (values F)
+  pub moves : (g : NullId → Value) → Gives T fixed found g → MovesOpen T gone avoid g F
+
+-- nothing of which found is true moves F
+abbrev pub NoMore : List TableRows → List (List Bool) → ByNull → Option Fact → List Found → List Fact → Type 0
+NoMore T gone fixed avoid found F = (g : NullId → Value) → Gives T fixed found g → ¬ (MovesOpen T gone avoid g F)
+
+-- something gives the fixed nulls their values and moves F
+abbrev pub Reaches : List TableRows → List (List Bool) → ByNull → Option Fact → List Fact → Type 0
+Reaches T gone fixed avoid F = (g : NullId → Value) × ((n : NullId) (x : Value) → finite.get fixed n ≡ Some x → g n ≡ x) × MovesOpen T gone avoid g F
+
+-- nothing of which found is true moves the fact to one of the places from a up to b
+abbrev pub NotFrom : List TableRows → ByNull → List Found → Fact → ℕ → ℕ → Type 0
+NotFrom T fixed found f a b = (p : ℕ) (g : NullId → Value) → a ≤ p → p < b → Gives T fixed found g → ¬ (fact_moved g f ≡ fact_at T f.table p)

@@ -1,0 +1,17 @@
+-- Facts by their places, and facts that are taken out.
+use Rattle.std.specs.Prelude.{ℕ, Bool, true, false, List, [], slice_index_or, slice_set}
+use Rattle.dx_model.specs.declared.facts.Fact.{Fact}
+use Rattle.dx_instance.specs.Stored.{TableRows}
+use Rattle.dx_instance.specs.Places.{row_at}
+
+-- the fact at a place
+abbrev pub fact_at : List TableRows → ℕ → ℕ → Fact
+fact_at I t p = record { table = t; row = row_at I t p }
+
+-- whether the fact at a place is taken out
+abbrev pub gone_at : List (List Bool) → ℕ → ℕ → Bool
+gone_at gone t p = slice_index_or (slice_index_or gone t []) p false
+
+-- the marks with one more place taken out
+abbrev pub marked : List (List Bool) → ℕ → ℕ → List (List Bool)
+marked gone t p = slice_set gone t (slice_set (slice_index_or gone t []) p true)

@@ -1,0 +1,148 @@
+// Searches in reserved room.
+ghost use Rattle.std.specs.Prelude.{◌≡◌, ◌↔◌, ◌≤◌, [], IfOk, IsTrue, Some, length};
+ghost use Rattle.std.specs.Bool.{OnTrue};
+ghost use Rattle.std.specs.FinMap as finite;
+ghost use Rattle.std.specs.Option.{option_copied};
+ghost use Rattle.dx_ports.specs.Members.{◌∈◌, Each};
+ghost use Rattle.dx_model.specs.Instances.{given, values};
+ghost use Rattle.dx_model.specs.declared.facts.Fact.{Fact as FactRow};
+ghost use Rattle.dx_model.specs.declared.values.NullId.{NullId as Id};
+ghost use Rattle.dx_model.specs.declared.values.Value.{Value as AnyValue};
+ghost use Rattle.dx_instance.specs.NullMaps.{pairs_of};
+ghost use Rattle.dx_instance.specs.Stored.{facts};
+ghost use Rattle.dx_hom.specs.Homs.{IsAnswer, IsThere, found_pairs};
+ghost use Rattle.dx_hom.specs.Narrowing.{AtMost, IsCell, nulls_in};
+ghost use Rattle.dx_hom.specs.Searching.{Ends, FitsIn, Reaches};
+
+use crate::gone::Gone;
+use crate::matching::Found;
+use crate::searching::{Step, search};
+use dx_instance::{Instance, NullMap, copy_value};
+use dx_model::Fact;
+use std::alloc::{AllocError, Global};
+use std::marker::Model;
+
+/// Room for a search, and what the last one found. A contract sees for how many facts and for how many nulls there is room, and
+/// the nulls that were found, each with a cell that holds its value.
+#[derive(Drop)]
+pub struct Search {
+    alloc: Global,
+    facts: u32,
+    nulls: u32,
+    found: Vec<Found>,
+    steps: Vec<Step>,
+    none: Gone,
+}
+
+impl Model for Search {
+    ghost use Rattle.std.specs.Prelude.{◌≡◌, ◌≤◌, [], vec_capacity};
+    ghost use Rattle.dx_hom.specs.Room.{Room};
+
+    ghost Value = { Room };
+
+    ghost view = { λ a. record { facts = a.facts; nulls = a.nulls; found = a.found.items } };
+
+    ghost invariant = { λ a. (a.facts ≤ vec_capacity a.steps) × (a.nulls ≤ vec_capacity a.found) × (a.none ≡ []) };
+}
+
+impl Search {
+    /// Room for a search with so many facts and nulls.
+    ///
+    /// # Errors
+    ///
+    /// `AllocError` if there is no memory.
+    pub fn reserve(alloc: Global, facts: u32, nulls: u32) -> Result<Search, AllocError>
+        ensures facts { IfOk result (λ s. s.facts ≡ facts) }
+        ensures nulls { IfOk result (λ s. s.nulls ≡ nulls) }
+        ensures found { IfOk result (λ s. s.found ≡ []) }
+    {
+        let found = Vec::with_capacity(alloc, nulls as usize)?;
+        let steps = Vec::with_capacity(alloc, facts as usize)?;
+        Ok(Search {
+            alloc,
+            facts,
+            nulls,
+            found,
+            steps,
+            none: Gone::none(alloc),
+        })
+    }
+
+    /// Whether there is a homomorphism from these facts into the instance that gives the fixed nulls their values and whose
+    /// image lacks the fact to avoid. It takes no memory.
+    pub fn find(
+        &mut self,
+        from: &[Fact],
+        into: &Instance,
+        fixed: &NullMap,
+        avoid: Option<&Fact>,
+    ) -> bool
+        requires fits { (f : FactRow) → f ∈ from.now → FitsIn into.now f }
+        requires facts { length from.now ≤ self.old.facts }
+        requires nulls { AtMost (nulls_in (values from.now)) self.old.nulls }
+        requires fixed { (n : Id) (x : AnyValue) → finite.get fixed.now n ≡ Some x → n ∈ nulls_in (values from.now) }
+        ensures facts { self.new.facts ≡ self.old.facts }
+        ensures nulls { self.new.nulls ≡ self.old.nulls }
+        ensures exact { IsTrue result ↔ IsThere fixed.now (option_copied avoid.entry) from.now (facts into.now) }
+        ensures found { OnTrue result (IsAnswer into.now fixed.now (option_copied avoid.entry) from.now self.new.found) }
+    {
+        search(
+            &mut self.found,
+            &mut self.steps,
+            from,
+            into,
+            &self.none,
+            fixed,
+            avoid,
+        )
+    }
+
+    /// The same into what is left of the instance without the facts that are gone.
+    pub fn find_left(
+        &mut self,
+        from: &[Fact],
+        into: &Instance,
+        gone: &Gone,
+        fixed: &NullMap,
+        avoid: Option<&Fact>,
+    ) -> bool
+        requires fits { (f : FactRow) → f ∈ from.now → FitsIn into.now f }
+        requires facts { length from.now ≤ self.old.facts }
+        requires nulls { AtMost (nulls_in (values from.now)) self.old.nulls }
+        requires fixed { (n : Id) (x : AnyValue) → finite.get fixed.now n ≡ Some x → n ∈ nulls_in (values from.now) }
+        ensures facts { self.new.facts ≡ self.old.facts }
+        ensures nulls { self.new.nulls ≡ self.old.nulls }
+        ensures exact { IsTrue result ↔ Reaches into.now gone.now fixed.now (option_copied avoid.entry) from.now }
+        ensures found { OnTrue result (Ends into.now gone.now fixed.now (option_copied avoid.entry) from.now self.new.found) }
+    {
+        search(
+            &mut self.found,
+            &mut self.steps,
+            from,
+            into,
+            gone,
+            fixed,
+            avoid,
+        )
+    }
+
+    /// The null map that gives each null that was found the value of its cell.
+    ///
+    /// # Errors
+    ///
+    /// `AllocError` if there is no memory.
+    pub fn map(&self, into: &Instance) -> Result<NullMap, AllocError>
+        requires { Each self.now.found (IsCell into.now) }
+        ensures { IfOk result (λ m. (n : Id) → given (pairs_of m) n ≡ given (found_pairs into.now self.now.found) n) }
+    {
+        let mut map = NullMap::new(self.alloc);
+        let mut left = self.found.len();
+        while left > 0 {
+            left -= 1;
+            let entry = self.found[left];
+            let value = into.cell(entry.table, entry.place, entry.column);
+            map.set(entry.null, copy_value(value)?)?;
+        }
+        Ok(map)
+    }
+}
