@@ -1,0 +1,4 @@
+pub mod Steps
+pub mod OneReading
+pub mod Fitting
+pub mod Nested
