@@ -19,6 +19,7 @@ use Rattle.dx_json.specs.declared.fault.JsonFault.{JsonFault}
 use Rattle.dx_json.specs.declared.place.Place.{Place}
 use Rattle.dx_json.specs.Said.{Said, says, wrong_shape, wrong_number, unknown_member, Reading, constant, no_integer, no_constant, below, column_faults, constants, id_of, is_known, items_say, item_says, member_says, object_says, reading_faults, row_of, sets_say, unknown_members, up_cell}
 use Rattle.dx_json.specs.Documents.{document_says, tree_says}
+use Rattle.dx_json.specs.Laws.{FactsFit}
 use Rattle.dx_json.specs.Nesting.{up_column}
 use Rattle.dx_json.specs.Standing.{Stand}
 
@@ -256,8 +257,8 @@ none_alike None e = tt
 none_alike (Some p) e = cc e
 
 -- the facts that a document says of a root fit the tables of its schema
-facts_fit : (f : Forest) (t : ℕ) (d : Data) (facts : List Fact) → t < length (tables_of f) → document_says f t d ≡ map says facts → (table_at f t).parent ≡ None → IsInstance (model_tables f) facts
-facts_fit f t d facts lt e top fact m =
+said_fits : (f : Forest) (t : ℕ) (d : Data) (facts : List Fact) → t < length (tables_of f) → document_says f t d ≡ map says facts → (table_at f t).parent ≡ None → IsInstance (model_tables f) facts
+said_fits f t d facts lt e top fact m =
     let s = set_at f t in
     let number = set_number f t lt in
     let parent : s.parent ≡ None = sym (ap (λ (t : TableOf). t.parent) (table_of_set f s (set_in f t lt)).1) ∙ ap (λ k. (table_at f k).parent) number ∙ top in
@@ -268,5 +269,8 @@ facts_fit f t d facts lt e top fact m =
 
 pub facts_of_root : {A : Type 0} (seen : A → List Fact) (r : Result A JsonFault) (f : Forest) (t : ℕ) (tree : Tree) (d : Data) → t < length (tables_of f) → tree ≡ tree_at f t
     → IfOk r (λ v. tree_says tree t d ≡ map says (seen v)) → IfOk r (λ v. (table_at f t).parent ≡ None → IsInstance (model_tables f) (seen v))
-facts_of_root seen (Ok v) f t tree d lt is e = facts_fit f t d (seen v) lt (ap (λ u. tree_says u t d) (sym is) ∙ e)
+facts_of_root seen (Ok v) f t tree d lt is e = said_fits f t d (seen v) lt (ap (λ u. tree_says u t d) (sym is) ∙ e)
 facts_of_root seen (Err x) f t tree d lt is e = tt
+
+pub facts_fit : FactsFit
+facts_fit bytes f t facts lt top s = said_fits f t s.0 facts lt s.2 top

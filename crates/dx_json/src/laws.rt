@@ -1,5 +1,5 @@
-// The law of documents. The definitions alone carry it: no body computes anything.
-ghost use Rattle.dx_json.specs.Laws.{FactsAreOne, FactsOrFault, FaultIsOne, NeverBoth};
+// The laws of documents and of nested texts. The definitions alone carry them: no body computes anything.
+ghost use Rattle.dx_json.specs.Laws.{FactsAreOne, FactsFit, FactsOrFault, FaultIsOne, HasNestedText, NestedTextIsOne, NeverBoth};
 
 /// Bytes say one list of facts of a root or have one first fault, and never both.
 pub fn one_reading()
@@ -7,4 +7,15 @@ pub fn one_reading()
     ensures fault { FaultIsOne }
     ensures either { FactsOrFault }
     ensures never_both { NeverBoth }
+{}
+
+/// The facts that bytes say of a root fit the tables of its schema.
+pub fn facts_fit()
+    ensures { FactsFit }
+{}
+
+/// A root of an instance has one nested text.
+pub fn one_nested_text()
+    ensures one { NestedTextIsOne }
+    ensures some { HasNestedText }
 {}
