@@ -1,0 +1,5 @@
+pub mod Said
+pub mod Documents
+pub mod Nesting
+pub mod Laws
+pub mod Standing

@@ -1,0 +1,172 @@
+// The members of one object.
+ghost use Rattle.std.specs.Prelude.{◌≡◌, ◌<◌, [], List, IfOk, IfErr, OnOk, Some, option_map};
+ghost use Rattle.serde_json.specs.Data.{Members};
+ghost use Rattle.serde_json.specs.Find.{get_member};
+ghost use Rattle.serde_json.specs.View.{view, items_view, members_view};
+ghost use Rattle.dx_schema.specs.Forest.{Label, Forest};
+ghost use Rattle.dx_json.specs.declared.place.Place.{Place};
+ghost use Rattle.dx_json.specs.Documents.{Fails};
+ghost use Rattle.dx_json.specs.Said.{Said, below, column_faults, id_of as id_at, is_known, items_say, member_says, reading_faults, reading_of, row_of as row_at, text_of, unknown_members};
+
+use crate::fault::{JsonFault, JsonKind};
+use dx_model::{Row, Value};
+use dx_ports::Text;
+use dx_schema::SetTree;
+use serde_json::{Map, Value as Json};
+use std::alloc::{AllocError, Global};
+
+// The member of this name.
+fn member_of<'v>(members: &'v Map<String, Json>, name: &str) -> Option<&'v Json>
+    ensures { option_map (λ v. view v.now) result ≡ get_member name.now (members_view members.now.entries) }
+{
+    members.get(name)
+}
+
+/// The path of a member or an item.
+pub fn path_below(alloc: Global, path: &Text, step: &str) -> Result<Text, AllocError>
+    ensures { IfOk result (λ t. t ≡ below path.now step.now) }
+{
+    Text::from_string(alloc, format!(in alloc; "{}/{step}", path.as_str())?)
+}
+
+/// The `#id` of the object at a position.
+pub fn id_of(alloc: Global, up: &Option<Text>, position: usize) -> Result<Text, AllocError>
+    ensures { IfOk result (λ t. t ≡ id_at up.now position) }
+{
+    match up {
+        None => Text::from_string(alloc, format!(in alloc; "#{position}")?),
+        Some(up) => Text::from_string(alloc, format!(in alloc; "{}.{position}", up.as_str())?),
+    }
+}
+
+// Whether a member is a column or an inner set.
+fn knows(tree: &SetTree, name: &str) -> bool
+    ensures { result ≡ is_known tree.now.label tree.now.inner name.now }
+{
+    for column in tree.columns.items() {
+        if column.as_str() == name {
+            return true;
+        }
+    }
+    for inner in tree.inner.items() {
+        if inner.name.as_str() == name {
+            return true;
+        }
+    }
+    false
+}
+
+/// Refuses the first member that is neither a column nor an inner set.
+pub fn check_members(
+    alloc: Global,
+    tree: &SetTree,
+    path: &Text,
+    members: &Map<String, Json>,
+) -> Result<(), JsonFault>
+    ensures ok { OnOk result (unknown_members path.now tree.now.label tree.now.inner (members_view members.now.entries) ≡ []) }
+    ensures fault { IfErr result (Fails (unknown_members path.now tree.now.label tree.now.inner (members_view members.now.entries))) }
+{
+    for (name, _) in members.iter() {
+        if !knows(tree, name.as_str()) {
+            let at = path_below(alloc, path, name.as_str())?;
+            return Err(JsonFault::Bad(JsonKind::Unknown(at)));
+        }
+    }
+    Ok(())
+}
+
+// The constant that a column's member says.
+fn constant_in(alloc: Global, path: &Text, column: &Text, value: &Json) -> Result<Text, JsonFault>
+    ensures ok { IfOk result (λ x. (reading_faults (below path.now column.now) (reading_of (Some (view value.now))) ≡ []) × (x ≡ text_of (reading_of (Some (view value.now))))) }
+    ensures fault { IfErr result (Fails (reading_faults (below path.now column.now) (reading_of (Some (view value.now))))) }
+{
+    match value {
+        Json::Null => Ok(Text::from_str(alloc, "")?),
+        Json::Bool(true) => Ok(Text::from_str(alloc, "true")?),
+        Json::Bool(false) => Ok(Text::from_str(alloc, "false")?),
+        Json::String(text) => Ok(Text::from_str(alloc, text.as_str())?),
+        Json::Number(number) => {
+            if let Some(n) = number.as_u64() {
+                Ok(Text::from_string(alloc, n.to_string(alloc)?)?)
+            } else if let Some(z) = number.as_i64() {
+                Ok(Text::from_string(alloc, z.to_string(alloc)?)?)
+            } else {
+                let at = path_below(alloc, path, column.as_str())?;
+                Err(JsonFault::Bad(JsonKind::Number(at)))
+            }
+        }
+        Json::Array(_) | Json::Object(_) => {
+            let at = path_below(alloc, path, column.as_str())?;
+            Err(JsonFault::Bad(JsonKind::Shape(at)))
+        }
+    }
+}
+
+// The constant of a column.
+fn cell_of(
+    alloc: Global,
+    path: &Text,
+    column: &Text,
+    members: &Map<String, Json>,
+) -> Result<Text, JsonFault>
+    ensures ok { IfOk result (λ x. (reading_faults (below path.now column.now) (reading_of (get_member column.now (members_view members.now.entries))) ≡ []) × (x ≡ text_of (reading_of (get_member column.now (members_view members.now.entries))))) }
+    ensures fault { IfErr result (Fails (reading_faults (below path.now column.now) (reading_of (get_member column.now (members_view members.now.entries))))) }
+{
+    match member_of(members, column.as_str()) {
+        None => Ok(Text::from_str(alloc, "")?),
+        Some(value) => constant_in(alloc, path, column, value),
+    }
+}
+
+/// The row of an object, or the first fault of its columns.
+pub fn row_of(
+    alloc: Global,
+    tree: &SetTree,
+    up: &Option<Text>,
+    id: &Text,
+    path: &Text,
+    members: &Map<String, Json>,
+) -> Result<Row, JsonFault>
+    ensures ok { IfOk result (λ x. (column_faults path.now tree.now.label.columns (members_view members.now.entries) ≡ []) × (x ≡ row_at tree.now.label tree.now.inner up.now id.now (members_view members.now.entries))) }
+    ensures fault { IfErr result (Fails (column_faults path.now tree.now.label.columns (members_view members.now.entries))) }
+{
+    let mut row = Row::new(alloc);
+    if !tree.inner.is_empty() {
+        row.push(Value::Const(id.copy()?))?;
+    }
+    if let Some(up) = up {
+        row.push(Value::Const(up.copy()?))?;
+    }
+    for column in tree.columns.items() {
+        row.push(Value::Const(cell_of(alloc, path, column, members)?))?;
+    }
+    Ok(row)
+}
+
+/// A copy of an `#up`.
+pub fn copy_of(up: &Option<Text>) -> Result<Option<Text>, AllocError>
+    ensures { IfOk result (λ o. o ≡ up.now) }
+{
+    match up {
+        None => Ok(None),
+        Some(up) => Ok(Some(up.copy()?)),
+    }
+}
+
+/// The objects of an inner set's member, none if it is `null` or absent.
+pub fn items_in<'v>(
+    members: &'v Map<String, Json>,
+    name: &str,
+    path: &Text,
+) -> Result<&'v [Json], JsonFault>
+    ensures ok { IfOk result (λ s. (l : Label) (inner : Forest) (deeper : Place → Members → List Said) (at : Place)
+        → member_says l inner deeper at (get_member name.now (members_view members.now.entries)) ≡ items_say l inner deeper at 0 (items_view s.now)) }
+    ensures fault { IfErr result (λ e. (l : Label) (inner : Forest) (deeper : Place → Members → List Said) (at : Place)
+        → at.path ≡ path.now → Fails (member_says l inner deeper at (get_member name.now (members_view members.now.entries))) e) }
+{
+    match member_of(members, name) {
+        None | Some(Json::Null) => Ok(&[]),
+        Some(Json::Array(items)) => Ok(items.as_slice()),
+        Some(_) => Err(JsonFault::Bad(JsonKind::Shape(path.copy()?))),
+    }
+}
