@@ -8,4 +8,7 @@ pub mod Fitted
 pub mod BothFit
 pub mod Uncovered
 pub mod Unique
+pub mod Made
+pub mod Widths
+pub mod FitsTest
 mod Examples

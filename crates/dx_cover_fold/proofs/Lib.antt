@@ -1,0 +1,6 @@
+pub mod TextsOf
+pub mod Finding
+pub mod IndexFacts
+pub mod CoverFacts
+pub mod Numbers
+pub mod FoldFacts

@@ -1,0 +1,145 @@
+// The cover fold.
+ghost use Rattle.std.specs.Prelude.{◌≡◌, ◌<◌, ◌^◌, IfOk, length, map, suc};
+ghost use Rattle.dx_model.specs.declared.values.Value.TheVariants.{Null as NullValue};
+ghost use Rattle.dx_model.specs.Rules.{exported as exported_of};
+ghost use Rattle.dx_model.specs.declared.rules.Cell.TheVariants.{Ex as ExCell};
+ghost use Rattle.dx_model.specs.Covers.{IsPlace, folded, least_cover, value_under};
+ghost use Rattle.dx_cover.specs.Covering.{covers_of};
+ghost use Rattle.dx_cover_fold.specs.Found.{AllLeast, cover_of};
+ghost use Rattle.dx_cover_fold.specs.Folding.{IsCoverFold};
+ghost use Rattle.dx_cover_fold.specs.Matched.{rows_of};
+
+use crate::covering::least_covers;
+use crate::found::Found;
+use crate::nulls::place_nulls;
+use crate::rows_said::value_said;
+use dx_cover::{Covers, exported};
+use dx_instance::NullMap;
+use dx_model::{Cell, Matches, NullId, Rule, Value};
+use dx_ports::Items;
+use std::alloc::{AllocError, Global};
+
+/// The exported variables of each rule.
+fn all_exported(alloc: Global, rules: &[Rule]) -> Result<Vec<Items<u32>>, AllocError>
+    ensures { IfOk result (λ v. v.items ≡ map exported_of rules.now) }
+{
+    let mut all = Vec::new(alloc);
+    for rule in rules {
+        all.push(Items::from_vec(exported(alloc, rule)?))?;
+    }
+    Ok(all)
+}
+
+/// For each rule the least covers of its places.
+fn all_covers(
+    alloc: Global,
+    rules: &[Rule],
+    covers: &Covers,
+    matches: &Matches,
+) -> Result<Vec<Items<Option<Found>>>, AllocError>
+    requires covers { covers.now ≡ covers_of rules.now }
+    requires few { length rules.now < 2 ^ 32 }
+    requires one { length matches.now.rules ≡ length rules.now }
+    ensures { IfOk result (λ v. AllLeast rules.now (rows_of matches.now) v.items (length rules.now)) }
+{
+    let mut all = Vec::new(alloc);
+    for i in 0..rules.len() {
+        all.push(Items::from_vec(least_covers(alloc, rules, covers, matches, i as u32)?))?;
+    }
+    Ok(all)
+}
+
+/// The value that a cover gives for an existential variable of rule i.
+fn value_given(
+    alloc: Global,
+    rules: &[Rule],
+    covers: &Covers,
+    matches: &Matches,
+    variables: &[Items<u32>],
+    i: u32,
+    found: Found,
+    var: u32,
+) -> Result<Value, AllocError>
+    requires covers { covers.now ≡ covers_of rules.now }
+    requires from { i < length rules.now }
+    requires one { length matches.now.rules ≡ length rules.now }
+    requires variables { variables.now ≡ map exported_of rules.now }
+    requires place { IsPlace rules.now (rows_of matches.now) found.rule found.row }
+    ensures { IfOk result (λ v. v ≡ value_under rules.now (rows_of matches.now) i (cover_of rules.now i found) (ExCell var)) }
+{
+    let _rules = rules;
+    let other = Cell::Ex(0);
+    let cell = match covers.maps(i, found.rule).get(found.map as usize) {
+        Some(map) => match map.existential.items().get(var as usize) {
+            Some(cell) => cell,
+            None => &other,
+        },
+        None => &other,
+    };
+    let variables = variables[found.rule as usize].items();
+    let tuples = matches.rules.items()[found.rule as usize].tuples.items();
+    let tuple = tuples[found.row as usize].items();
+    value_said(alloc, variables, tuple, found.rule, found.row, cell)
+}
+
+/// What the cover fold makes of a null of a place.
+fn fold_null(
+    alloc: Global,
+    rules: &[Rule],
+    covers: &Covers,
+    matches: &Matches,
+    variables: &[Items<u32>],
+    least: &[Items<Option<Found>>],
+    null: NullId,
+) -> Result<Value, AllocError>
+    requires covers { covers.now ≡ covers_of rules.now }
+    requires one { length matches.now.rules ≡ length rules.now }
+    requires variables { variables.now ≡ map exported_of rules.now }
+    requires least { AllLeast rules.now (rows_of matches.now) least.now (length rules.now) }
+    requires place { IsPlace rules.now (rows_of matches.now) null.rule null.row }
+    ensures { IfOk result (λ v. v ≡ folded rules.now (rows_of matches.now) (least_cover rules.now (rows_of matches.now)) (suc (length rules.now)) null) }
+{
+    let mut now = null;
+    for _step in 0..rules.len() + 1 {
+        let Some(found) = least[now.rule as usize].items()[now.row as usize] else {
+            return Ok(Value::Null(now));
+        };
+        match value_given(
+            alloc, rules, covers, matches, variables, now.rule, found, now.var,
+        )? {
+            Value::Const(text) => return Ok(Value::Const(text)),
+            Value::Null(next) => now = next,
+        }
+    }
+    Ok(Value::Null(now))
+}
+
+/// The cover fold over matches: a null of a covered place becomes what the cover fold makes of the value that the least cover
+/// of its place gives it. All other nulls stay.
+///
+/// # Errors
+///
+/// `AllocError` if there is no memory, or there are more rules or places of a rule than have numbers.
+pub fn cover_fold(
+    alloc: Global,
+    rules: &[Rule],
+    covers: &Covers,
+    matches: &Matches,
+) -> Result<NullMap, AllocError>
+    requires covers { covers.now ≡ covers_of rules.now }
+    requires one { length matches.now.rules ≡ length rules.now }
+    ensures { IfOk result (IsCoverFold rules.now (rows_of matches.now)) }
+{
+    if rules.len() > u32::MAX as usize {
+        return Err(AllocError);
+    }
+    let variables = all_exported(alloc, rules)?;
+    let least = all_covers(alloc, rules, covers, matches)?;
+    let nulls = place_nulls(alloc, rules, matches)?;
+    let mut map = NullMap::new(alloc);
+    for null in &nulls {
+        let value = fold_null(alloc, rules, covers, matches, &variables, &least, *null)?;
+        map.set(*null, value)?;
+    }
+    Ok(map)
+}

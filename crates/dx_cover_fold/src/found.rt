@@ -1,0 +1,9 @@
+// What covers a place, by numbers.
+
+/// A rule, the number of a used cell map to it, and a place of it.
+#[derive(Clone, Copy, Debug)]
+pub struct Found {
+    pub rule: u32,
+    pub map: u32,
+    pub row: u32,
+}

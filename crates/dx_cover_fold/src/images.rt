@@ -1,0 +1,56 @@
+// The images of exported variables.
+ghost use Rattle.std.specs.Prelude.{◌≡◌, IfOk, map};
+ghost use Rattle.dx_model.specs.declared.rules.Cell.TheVariants.{Var as VarCell};
+ghost use Rattle.dx_model.specs.Covers.{image_of};
+
+use dx_model::Cell;
+use std::alloc::{AllocError, Global};
+
+/// A copy of a cell.
+fn copy_cell(cell: &Cell) -> Result<Cell, AllocError>
+    ensures { IfOk result (λ c. c ≡ cell.now) }
+{
+    match cell {
+        Cell::Var(x) => Ok(Cell::Var(*x)),
+        Cell::Ex(v) => Ok(Cell::Ex(*v)),
+        Cell::Lit(text) => Ok(Cell::Lit(text.copy()?)),
+    }
+}
+
+/// The cell that a list of images gives for a variable of a list.
+fn image_in(variables: &[u32], images: &[Cell], variable: u32) -> Result<Cell, AllocError>
+    ensures { IfOk result (λ c. c ≡ image_of variables.now images.now variable) }
+{
+    for i in 0..variables.len().min(images.len()) {
+        if variable == variables[i] {
+            return copy_cell(&images[i]);
+        }
+    }
+    Ok(Cell::Ex(0))
+}
+
+/// The cells that a list of images gives for each variable of a list.
+pub(crate) fn images_in(
+    alloc: Global,
+    variables: &[u32],
+    images: &[Cell],
+) -> Result<Vec<Cell>, AllocError>
+    ensures { IfOk result (λ v. v.items ≡ map (image_of variables.now images.now) variables.now) }
+{
+    let mut cells = Vec::new(alloc);
+    for variable in variables {
+        cells.push(image_in(variables, images, *variable)?)?;
+    }
+    Ok(cells)
+}
+
+/// The variables as cells.
+pub(crate) fn as_cells(alloc: Global, variables: &[u32]) -> Result<Vec<Cell>, AllocError>
+    ensures { IfOk result (λ v. v.items ≡ map VarCell variables.now) }
+{
+    let mut cells = Vec::new(alloc);
+    for variable in variables {
+        cells.push(Cell::Var(*variable))?;
+    }
+    Ok(cells)
+}

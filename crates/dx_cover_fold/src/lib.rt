@@ -1,0 +1,17 @@
+//! The cover fold: where the nulls of covered places go.
+//!
+//! `cover_fold` gives the null map of `dx_model`'s specs/Covers over matches: a null of a covered place becomes what the cover
+//! fold makes of the value that its least cover gives it, and the others stay (specs/Folding). The places that cover are
+//! found by an index of the rows that a rule's cells say at its places, one for each used cell map; a rule whose places are
+//! all covered looks no further.
+#![tactic(auto)]
+
+mod covering;
+mod folding;
+mod found;
+mod images;
+mod index;
+mod nulls;
+mod rows_said;
+
+pub use folding::cover_fold;

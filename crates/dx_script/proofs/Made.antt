@@ -1,0 +1,151 @@
+-- What the first steps make, step by step, and the names of a schema's tables.
+use Rattle.std.proofs.Common.{◌≡◌, ℕ, zero, suc, ◌+◌, ◌<◌, ◌≤◌, List, [], ◌∷◌, ◌++◌, length, get_or, take, drop, refl, sym, ◌∙◌, ap, subst, arith, inl, inr}
+use Rattle.std.specs.Prelude.{IsTrue, ◌↔◌, true, false, Bool, map, flat_map, nat_eq}
+use Rattle.std.proofs.lemmas.Bool.{false≢true, cases_lt}
+use Rattle.std.proofs.lemmas.List.{drop_more, drop_all, get_or-map, length-map, get_or_default}
+use Rattle.std.proofs.lemmas.Simd.{map-map}
+use Rattle.dx_ports.specs.Members.{◌∈◌, here, there, Each}
+use Rattle.dx_ports.proofs.Members.{in_right, from_append}
+use Rattle.dx_model.specs.Values.{Text}
+use Rattle.dx_schema.specs.Forest.{Forest}
+use Rattle.dx_schema.specs.Tables.{AreTables, TableOf, tables_of, table_at, number_of}
+use Rattle.dx_schema.specs.Names.{Named, named_of, names_of_table}
+use Rattle.dx_schema.proofs.Loops.{cut}
+use Rattle.dx_script.specs.declared.form.Step.{Step}
+use Rattle.dx_script.specs.declared.form.Step.TheVariants.{Create, MatchRows, KeepRows, InsertRows}
+use Rattle.dx_script.specs.Names.{table_numbered, table_names, table_named}
+use Rattle.dx_script.specs.Fits.{created, created_in, kept_in, kept_rules}
+use Rattle.dx_script.proofs.NameFacts.{no_table, table_number, same_text, other_text}
+use Rattle.dx_script.proofs.RuleFacts.{are_named}
+
+-- ---- what the rest of the steps makes
+
+pub made_next : {X : Type 0} (f : Step → List X) (steps : List Step) (i : ℕ) (s : Step) → i < length steps → s ≡ get_or steps i s → flat_map f (drop i steps) ≡ f s ++ flat_map f (drop (i + 1) steps)
+made_next f steps i s lt is = rw (cut steps i s lt is) refl
+
+-- a step that doesn't make it leaves it to the rest
+pub made_past : {X : Type 0} {W : Type 0} (f : Step → List X) (x : X) (steps : List Step) (i : ℕ) (s : Step) → i < length steps → s ≡ get_or steps i s
+    → ¬ (x ∈ f s) → (W ↔ (x ∈ flat_map f (drop i steps))) → (W ↔ (x ∈ flat_map f (drop (i + 1) steps)))
+made_past f x steps i s lt is lacks inv = (
+  (λ m. elim (from_append (f s) (rw (made_next f steps i s lt is) at (inv.0 m))) [ inl l ↦ absurd (lacks l) | inr r ↦ r ]),
+  (λ m. inv.1 (rw (made_next f steps i s lt is) (in_right (f s) m))),
+)
+
+-- a step that makes it
+pub made_here : {X : Type 0} {W : Type 0} (f : Step → List X) (x : X) (steps : List Step) (i : ℕ) (s : Step) (rest : List X) → i < length steps → s ≡ get_or steps i s
+    → f s ≡ x ∷ rest → (W ↔ (x ∈ flat_map f (drop i steps))) → (IsTrue true ↔ W)
+made_here f x steps i s rest lt is e inv = ((λ _. inv.1 (rw (made_next f steps i s lt is, e) (here refl))), (λ _. refl))
+
+-- no step makes it
+pub made_nowhere : {X : Type 0} {W : Type 0} (f : Step → List X) (x : X) (steps : List Step) (i : ℕ) → length steps ≤ i
+    → (W ↔ (x ∈ flat_map f (drop i steps))) → (IsTrue false ↔ W)
+made_nowhere {X} {W} f x steps i past inv = ((λ t. absurd (false≢true t)), (λ w. none (rw (drop_all i steps past) at (inv.0 w))))
+  where
+    none : x ∈ flat_map f [] → false ≡ true
+    none m = elim m [ ]
+
+-- ---- keep tables
+
+pub no_keep : (s : Step) (n : ℕ) → ((r : ℕ) (u : _) → ¬ (s ≡ KeepRows r u)) → ¬ (n ∈ kept_in s)
+no_keep (Create table columns) n h m = elim m [ ]
+no_keep (MatchRows r select sources equal) n h m = elim m [ ]
+no_keep (KeepRows r unless) n h m = absurd (h r unless refl)
+no_keep (InsertRows table r kept cells) n h m = elim m [ ]
+
+pub other_keep : (s : Step) (r n : ℕ) (u : _) → s ≡ KeepRows r u → ¬ (r ≡ n) → ¬ (n ∈ kept_in s)
+other_keep s r n u e d m = elim (rw e at m) [ here q ↦ absurd (d q) | there k ↦ elim k [ ] ]
+
+-- ---- created tables
+
+-- the names of the tables that a step creates
+abbrev pub created_names : Step → List Text
+created_names s = map (λ (t : Text × List Text). t.0) (created_in s)
+
+pub names_created : (steps : List Step) → map (λ (t : Text × List Text). t.0) (created steps) ≡ flat_map created_names steps
+names_created [] = refl
+names_created (Create table columns ∷ steps) = ap (λ z. table ∷ z) (names_created steps)
+names_created (MatchRows r select sources equal ∷ steps) = names_created steps
+names_created (KeepRows r unless ∷ steps) = names_created steps
+names_created (InsertRows table r kept cells ∷ steps) = names_created steps
+
+pub no_create : (s : Step) (n : Text) → ((t : _) (u : _) → ¬ (s ≡ Create t u)) → ¬ (n ∈ created_names s)
+no_create (Create table columns) n h m = absurd (h table columns refl)
+no_create (MatchRows r select sources equal) n h m = elim m [ ]
+no_create (KeepRows r unless) n h m = elim m [ ]
+no_create (InsertRows table r kept cells) n h m = elim m [ ]
+
+pub other_create : (s : Step) (t n : Text) (u : List Text) → s ≡ Create t u → ¬ (t ≡ n) → ¬ (n ∈ created_names s)
+other_create s t n u e d m = elim (rw e at m) [ here q ↦ absurd (d q) | there k ↦ elim k [ ] ]
+
+-- ---- tables by their names
+
+pub named_count : (f : Forest) → length (named_of f) ≡ length (tables_of f)
+named_count f = length-map (tables_of f) names_of_table
+
+pub named_at : (f : Forest) (t : ℕ) → t < length (tables_of f) → table_numbered (named_of f) t ≡ names_of_table (table_at f t)
+named_at f t lt = get_or-map names_of_table (tables_of f) t _ no_table lt
+
+pub names_are : (f : Forest) → table_names (named_of f) ≡ map (λ (t : TableOf). t.name) (tables_of f)
+names_are f = map-map (λ (n : Named). n.name) names_of_table (tables_of f)
+
+-- the table of a name that is there
+pub table_there : (f : Forest) (t : ℕ) (name : Text) → AreTables (tables_of f) → t < length (tables_of f) → (table_at f t).name ≡ name
+    → table_numbered (named_of f) (table_named (named_of f) name) ≡ names_of_table (table_at f t)
+table_there f t name a lt e =
+    let n : (table_numbered (named_of f) t).name ≡ name = ap (λ (z : Named). z.name) (named_at f t lt) ∙ e in
+    let w : table_named (named_of f) name ≡ t = ap (table_named (named_of f)) (sym n) ∙ table_number (named_of f) t (are_named f a) (rw (named_count f) lt) in
+    ap (table_numbered (named_of f)) w ∙ named_at f t lt
+
+number_past : (x : Text) (xs : List Text) → ¬ (x ∈ xs) → number_of x xs ≡ length xs
+number_past x [] h = refl
+number_past x (y ∷ ys) h = rw (other_text y x (λ e. h (here e))) (ap suc (number_past x ys (λ m. h (there m))))
+
+past_all : (tables : List Named) (n : ℕ) → length tables ≤ n → table_numbered tables n ≡ no_table
+past_all [] zero h = refl
+past_all [] (suc n) h = refl
+past_all (t ∷ ts) zero h = absurd (omega arith)
+past_all (t ∷ ts) (suc n) h = past_all ts n (omega arith)
+
+-- a name that isn't there has no columns
+pub table_nowhere : (f : Forest) (name : Text) → ¬ (name ∈ map (λ (t : TableOf). t.name) (tables_of f))
+    → table_numbered (named_of f) (table_named (named_of f) name) ≡ no_table
+table_nowhere f name h =
+    let e : table_named (named_of f) name ≡ length (table_names (named_of f)) = number_past name (table_names (named_of f)) (λ m. h (rw (names_are f) at m)) in
+    past_all (named_of f) (table_named (named_of f) name) (omega (arith, e, length-map (named_of f) (λ (n : Named). n.name)))
+
+-- ---- the created tables, one by one
+
+module _ {X : Type 0} where
+  pub head_is : (xs : List X) (n : ℕ) (x d : X) (rest : List X) → (x ∷ rest) ≡ drop n xs → (n < length xs) × (get_or xs n d ≡ x)
+  head_is xs n x d rest e = elim (cases_lt n (length xs)) [
+    | inl l ↦ let w = drop_more xs n d l in (l, cc)
+    | inr g ↦ absurd (let w = drop_all n xs g in cc)
+  ]
+
+  -- one more is the same on both sides
+  pub both_more : {W : Type 0} (all xs : List X) (ys : List X) (n : ℕ) (x : X) → n < length xs → get_or xs n x ≡ x
+      → (W ↔ ((x ∷ ys) ≡ drop n xs)) → (W ↔ (ys ≡ drop (n + 1) xs))
+  both_more all xs ys n x lt e inv =
+      let w = drop_more xs n x lt in (
+        (λ q. let v = inv.0 q in cc),
+        (λ q. inv.1 (cc)),
+      )
+
+  -- the other is at its end too
+  pub both_end : {W : Type 0} (xs : List X) (n : ℕ) (b : Bool) → (IsTrue b ↔ (n ≡ length xs)) → n ≤ length xs → (W ↔ ([] ≡ drop n xs)) → (IsTrue b ↔ W)
+  both_end xs n b t le inv = (
+    (λ q. let e = t.0 q in inv.1 (sym (drop_all n xs (omega arith)))),
+    (λ w. t.1 (elim (cases_lt n (length xs)) [
+      | inl l ↦ absurd (more n xs l (inv.0 w))
+      | inr g ↦ omega arith
+    ])),
+  )
+    where
+      more : (n : ℕ) (xs : List X) → n < length xs → ¬ ([] ≡ drop n xs)
+      more n [] l e = absurd (omega arith)
+      more zero (x ∷ xs) l e = cc
+      more (suc n) (x ∷ xs) l e = more n xs (omega arith) e
+
+-- no column stands among none
+pub no_column : (x : Text) → (IsTrue false ↔ (x ∈ []))
+no_column x = ((λ t. absurd (false≢true t)), (λ m. elim m [ ]))
