@@ -16,21 +16,13 @@ use dx_instance::Instance;
 use dx_schema::Schema;
 use std::alloc::Global;
 
-/// Lets nulls of an instance become other values of it, as its keys ask: a null becomes the constant that it has to be equal
-/// to, or else the least null.
-///
-/// # Errors
-///
-/// `Clash` exactly if no instance in which keys hold receives a homomorphism from the instance. `Memory` at any point.
-pub fn chase(alloc: Global, instance: Instance, schema: &Schema) -> Result<Chased, ChaseFault>
+// The chase by the numbers of values.
+fn chase_numbers(alloc: Global, instance: Instance, schema: &Schema) -> Result<Chased, ChaseFault>
     requires { widths instance ≡ schema_widths schema.now }
     ensures ok { IfOk result (IsChased (model_tables schema.now) instance) }
     ensures fault { IfErr result (IsFaultOf (model_tables schema.now) instance) }
 {
     let _instance_tables = instance.tables();
-    if has_no_keys(schema) {
-        return Ok(unchanged(alloc, instance)?);
-    }
     let Numbering {
         symbols,
         constants,
@@ -52,4 +44,22 @@ pub fn chase(alloc: Global, instance: Instance, schema: &Schema) -> Result<Chase
             Ok(Chased { instance, map })
         }
     }
+}
+
+/// Lets nulls of an instance become other values of it, as its keys ask: a null becomes the constant that it has to be equal
+/// to, or else the least null.
+///
+/// # Errors
+///
+/// `Clash` exactly if no instance in which keys hold receives a homomorphism from the instance. `Memory` at any point.
+pub fn chase(alloc: Global, instance: Instance, schema: &Schema) -> Result<Chased, ChaseFault>
+    requires { widths instance ≡ schema_widths schema.now }
+    ensures ok { IfOk result (IsChased (model_tables schema.now) instance) }
+    ensures fault { IfErr result (IsFaultOf (model_tables schema.now) instance) }
+{
+    if !has_no_keys(schema) {
+        return chase_numbers(alloc, instance, schema);
+    }
+    let _tables = instance.tables();
+    Ok(unchanged(alloc, instance)?)
 }
