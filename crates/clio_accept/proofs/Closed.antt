@@ -187,7 +187,7 @@ module _ (Q : Cell → Type 0) (fresh : (v : ℕ) → Q (Ex v)) (empty : Q (Lit 
   gone_keeps schema C (suc n) h = atom_keeps schema (gone schema C n) (slice_get (gone schema C n).atoms n) (λ a e. get_in (gone schema C n).atoms n a e) (gone_keeps schema C n h)
 
 -- a variable of the closing is one of the conclusion
-Kept : List Atom → Cell → Type 0
+abbrev Kept : List Atom → Cell → Type 0
 Kept C (Var x) = Var x ∈ cells_of C
 Kept C (Ex v) = Unit {0}
 Kept C (Lit t) = Unit {0}

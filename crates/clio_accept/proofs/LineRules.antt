@@ -62,7 +62,7 @@ all_rules list b written kept closed R are is closings both = record {
 pub count_stops : (list : List Conversion) (b : Between) (R : List Rule) → AreRead list b → limit_of list b.source b.target b.lines ≡ None → AreRulesOf list b.source b.target b.lines b.by_hand R
     → 256 < length R → Answers faults.Memory (taking list) b (Err (faults.Limit (record { what = counts.Rules; number = 256 })))
 count_stops list b R r limits are many =
-    inr (λ c. inr (b, (r.few, refl), inr (b, (r.named, refl), inr (b, (r.written, refl), inr (b, (limits, refl), inr (R, are, inl (many, refl)))))))
+    inr (λ c. inr (b, (r.few, refl), inr (b, (r.named, refl), inr (b, (r.written, refl), inr (b, (limits, refl), inr (R, are, (many, refl)))))))
 
 -- the rules are taken
 pub rules_taken : (list : List Conversion) (b : Between) (R : List Rule) → AreRead list b → limit_of list b.source b.target b.lines ≡ None → AreRulesOf list b.source b.target b.lines b.by_hand R

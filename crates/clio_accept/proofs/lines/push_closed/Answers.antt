@@ -34,10 +34,10 @@ loop-rule-preserved c =
 pub returns : goal.returns
 returns c =
     let end = YieldsList-end (YieldsList-from_vec c.args.written.items (search rules) (search rules)) c.loop-rule.yielded c.loop-rule.rule-iterator c.loop-rule.yielded_by c.next.result c.next.new.self c.in-None.is c.next.ensures.steps in
-    (c.loop-rule.invariant.0, all_closed (model_tables c.args.target.now) c.loop-rule.yielded c.args.written.items c.loop-rule.invariant.0 c.loop-rule.invariant.1 end.0, c.loop-rule.invariant.2)
+    record { closings = (c.loop-rule.invariant.0, all_closed (model_tables c.args.target.now) c.loop-rule.yielded c.args.written.items c.loop-rule.invariant.0 c.loop-rule.invariant.1 end.0, c.loop-rule.invariant.2); wide = tt }
 
 pub returns-in_err-closed : goal.returns-in_err-closed
 returns-in_err-closed c =
     let t = YieldsList-turn (YieldsList-from_vec c.args.written.items (search rules) (search rules)) c.loop-rule.yielded c.loop-rule.rule-iterator c.loop-rule.yielded_by c.next.result c.next.new.self c.in-Some.rule c.in-Some.is c.next.ensures.steps in
     let p = err_from_is_err_and c.from_residual.result c.from_residual.ensures.1 in
-    rw (p.1, p.2) (one_wide (model_tables c.args.target.now) c.args.written.items (length c.loop-rule.yielded) c.in-Some.rule _ t.0 t.1 c.in_err-closed.ensures)
+    rw (p.1, p.2) (record { closings = tt; wide = one_wide (model_tables c.args.target.now) c.args.written.items (length c.loop-rule.yielded) c.in-Some.rule _ t.0 t.1 c.in_err-closed.ensures })

@@ -71,4 +71,4 @@ returns g c =
     let e = c.in_ok-push_closed.ensures.closings in
     let all = all_rules list b c.in_ok-written.written.items c.in_ok-rules.rules.items e.0 c.push_closed.new.rules.items c.in_ok-written.ensures.rules
     (rw (c.items.ensures, c.in_ok-lines.ensures.lines) at c.in_ok-rules.ensures.rules) e.1 e.2 in
-    rules_taken list b c.push_closed.new.rules.items r (rw (c.items.ensures, c.in_ok-lines.ensures.lines) at c.in_ok-rules.ensures.passed_none) all (omega (arith, c.len.ensures, c.if-len-gt-RULES.false))
+    rw c.from_vec.ensures (rules_taken list b c.push_closed.new.rules.items r (rw (c.items.ensures, c.in_ok-lines.ensures.lines) at c.in_ok-rules.ensures.passed_none) all (omega (arith, c.len.ensures, c.if-len-gt-RULES.false)))
