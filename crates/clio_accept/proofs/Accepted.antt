@@ -1,14 +1,15 @@
 -- What holds of an accepted mapping.
-use Rattle.std.proofs.Common.{◌≡◌, ◌≤◌, ℕ, ◌<◌, Bool, true, false, cond, eqb, List, [], ◌∷◌, length, Option, Some, None, refl, sym, ◌∙◌, subst, ap, arith, get_or, Result, Ok}
+use Rattle.std.proofs.Common.{◌≡◌, ◌≤◌, ℕ, ◌<◌, Bool, true, false, cond, eqb, List, [], ◌∷◌, length, Option, Some, None, refl, sym, ◌∙◌, subst, ap, arith, get_or, inl, inr}
 use Rattle.std.specs.Prelude.{map, flat_map}
 use Rattle.std.proofs.lemmas.List.{length-map, get_or_default}
 use Rattle.dx_ports.specs.Members.{◌∈◌, here, there, Each}
-use Rattle.dx_ports.proofs.Members.{in_map, from_map, from_flat_map, contains_from_in}
+use Rattle.dx_ports.proofs.Members.{in_map, from_append, from_map, from_flat_map, contains_from_in}
 use Rattle.dx_model.specs.declared.rules.Cell.{Cell}
 use Rattle.dx_model.specs.declared.rules.Cell.TheVariants as cells
 use Rattle.dx_model.specs.declared.rules.Derived.{Derived}
 use Rattle.dx_model.specs.declared.rules.Rule.{Rule}
-use Rattle.dx_model.specs.Solutions.{IsClosed}
+use Rattle.dx_model.specs.declared.rules.Atom.{Atom}
+use Rattle.dx_model.specs.Solutions.{AtomFits, IsClosed}
 use Rattle.dx_schema.specs.Forest.{Forest}
 use Rattle.dx_schema.specs.Tables.{as_numbers, model_tables, tables_of}
 use Rattle.dx_schema.specs.Links.{IsFaultless}
@@ -23,6 +24,10 @@ use Rattle.dx_schema.proofs.Whole.{links_fit}
 use Rattle.dx_logical.proofs.Facts.{unfoldings_are}
 use Rattle.dx_line_text.specs.Naming.{lines_fault, lines_of, IsOffered, IsOfferedFrom}
 use Rattle.dx_line_text.proofs.Fits.{lines_fit, lines_offered}
+use Rattle.dx_tgd_text.specs.Reading.{IsNarrow, rules_fault}
+use Rattle.dx_tgd_text.specs.Laws.{IsWhole}
+use Rattle.dx_tgd_text.proofs.Fits.{all_fit, all_offered}
+use Rattle.dx_tgd_text.proofs.Written.{texts_have_whole_rules}
 use Rattle.dx_lines.specs.declared.line.Line.{Line}
 use Rattle.dx_lines.specs.declared.line.Origin.{Origin}
 use Rattle.dx_lines.specs.declared.line.Origin.TheVariants as origins
@@ -42,10 +47,11 @@ use Rattle.dx_rule_text.specs.Printed.{AreAtomsOf}
 use Rattle.dx_stages.specs.Worlds.{World}
 use Rattle.dx_stages.specs.Stages.{Stage, next, checking}
 use Rattle.clio_accept.specs.declared.mapping.Mapping.{Mapping}
-use Rattle.clio_accept.specs.Mapping.{SourceRefused, TargetRefused, NameRefused, LinesRefused, ByHandRefused, NamingRefused, LimitRefused, RulesRefused, NoneReserved, rules_of, limit_of}
-use Rattle.clio_accept.specs.Accepting.{accepting, accepting_said, between_of, limits, naming, by_hand, rule_count, rules, said_rules, taking, target_names, target_sets, with_rules}
+use Rattle.clio_accept.specs.Mapping.{SourceRefused, TargetRefused, NameRefused, LinesRefused, NamingRefused, WritingRefused, LimitRefused, WidthRefused, RulesRefused, NoneReserved, AreRulesOf, rules_of, limit_of, written_of}
+use Rattle.clio_accept.specs.Accepting.{accepting, accepting_said, between_of, limits, naming, writing, closing, rule_count, said_rules, taking, target_names, target_sets, with_rules}
 use Rattle.clio_accept.specs.Laws.{AcceptedFits, MappingFits}
 use Rattle.clio_accept.proofs.Few.{few_variables}
+use Rattle.clio_accept.proofs.Closed.{closed_fits, closed_is_closed, closed_of}
 
 -- a term that is picked is one of the picks'
 pub from_picked : (picks : List Pick) (y : ℕ) (t : Term) → picked picks y ≡ Some t → (k : Pick) × (k ∈ picks) × (k.term ≡ t)
@@ -137,7 +143,9 @@ record IsAccepted (list : List Conversion) (m : MappingText) : Type 0 where
   target : IsFaultless m.target
   named : lines_fault m.source m.target list m.lines ≡ None
   limits : limit_of list m.source m.target m.lines ≡ None
-  few : length (rules_of list m.source m.target m.lines) ≤ 256
+  written : rules_fault m.source m.target list m.rules ≡ None
+  whole : Each m.rules IsWhole
+  narrow : Each m.rules IsNarrow
 
 unfolds : (f : Forest) (t : ℕ) → IsFaultless f → t < length (model_tables f) → IsUnfolding (model_tables f) t (unfolding_of (model_tables f) t)
 unfolds f t ok lt = unfoldings_are (model_tables f) t (links_fit (tables_of f) (are_tables f ok.form)) ok.acyclic lt
@@ -181,48 +189,110 @@ each_listed list m a d i =
     (derived_listed list lines (unfolding_of (model_tables m.source) k.0.source).occurrences (unfolding_of (model_tables m.target) k.0.target).occurrences k.0.picks
     (lines_offered m.source m.target list m.lines lines refl a.named) k.1.picks)
 
+-- ---- hand-written rules
+
+-- a hand-written rule fits, and its conversions are listed
+written_fits : (list : List Conversion) (m : MappingText) → IsAccepted list m → Each (written_of list m.source m.target m.rules) (RuleFits (model_tables m.source) (model_tables m.target))
+written_fits list m a = all_fit m.source m.target list m.rules (written_of list m.source m.target m.rules) a.narrow refl a.written a.whole
+
+-- atoms that fit are of tables of the schema
+fit_there : (f : Forest) (atoms : List Atom) → Each atoms (AtomFits (model_tables f)) → AreAtomsOf f atoms
+fit_there f atoms h a m =
+    let t = (h a m).table in
+    let same = length-map (tables_of f) as_numbers in
+    omega (arith, t, same)
+
+record IsGood (list : List Conversion) (m : MappingText) (e : Rule) : Type 0 where
+  fits : RuleFits (model_tables m.source) (model_tables m.target) e
+  closed : IsClosed (model_tables m.target) e
+  premise : AreAtomsOf m.source e.premise
+  conclusion : AreAtomsOf m.target e.conclusion
+  listed : Each e.derived (λ d. IsListed list d.code (length d.args))
+
+closed_good : (list : List Conversion) (m : MappingText) (R : List Rule) → IsAccepted list m → (r : AreRulesOf list m.source m.target m.lines m.rules R) → Each r.closed (IsGood list m)
+closed_good list m R a r e i =
+    let d = closed_of (model_tables m.target) (written_of list m.source m.target m.rules) r.closed r.closings e i in
+    let fit = written_fits list m a d.0 d.1 in
+    let fits = closed_fits m.source m.target d.0 e a.target fit d.2 in
+    record {
+      fits = fits;
+      closed = closed_is_closed m.target d.0 e a.target fit.conclusion d.2;
+      premise = fit_there m.source e.premise fits.premise;
+      conclusion = fit_there m.target e.conclusion fits.conclusion;
+      listed = rw d.2.closing.derived (all_offered m.source m.target list m.rules (written_of list m.source m.target m.rules) refl a.written d.0 d.1);
+    }
+
+kept_good : (list : List Conversion) (m : MappingText) → IsAccepted list m → Each (rules_of list m.source m.target m.lines) (IsGood list m)
+kept_good list m a e i = record {
+  fits = each_fits list m a e i;
+  closed = each_closed list m a e i;
+  premise = each_premise list m a e i;
+  conclusion = each_conclusion list m a e i;
+  listed = each_listed list m a e i;
+}
+
+all_good : (list : List Conversion) (m : MappingText) (R : List Rule) → IsAccepted list m → AreRulesOf list m.source m.target m.lines m.rules R → Each R (IsGood list m)
+all_good list m R a r e i = elim (from_append (rules_of list m.source m.target m.lines) (subst (λ rs. e ∈ rs) r.are i)) [
+  | inl k ↦ kept_good list m a e k
+  | inr k ↦ closed_good list m R a r e k
+]
+
 -- ---- what the stages have checked
 
 checked : {E A B : Type 0} (refused : A → E → Type 0) (fits : A → Type 0) (t : Stage E A B) (c : World) (a : A) (x : B) → (next (checking refused fits) t).passes c a x → fits a × t.passes c a x
 checked refused fits t c a x p = (p.1.0, subst (λ v. t.passes c v x) p.1.1 p.2)
 
-ok_of : {X Y : Type 0} (x y : X) → ◌≡◌ {A = Result X Y} (Ok x) (Ok y) → y ≡ x
-ok_of x y e = cc
-
--- the rules are those of the lines, of which the words are known, and they are few
+-- the rules are those of the lines, and after them the closed hand-written rules, and they are few
 record IsTaken (list : List Conversion) (m : MappingText) (R : List Rule) : Type 0 where
   named : lines_fault m.source m.target list m.lines ≡ None
   limits : limit_of list m.source m.target m.lines ≡ None
-  few : length (rules_of list m.source m.target m.lines) ≤ 256
-  are : R ≡ rules_of list m.source m.target m.lines
+  written : rules_fault m.source m.target list m.rules ≡ None
+  few : length R ≤ 256
+  are : AreRulesOf list m.source m.target m.lines m.rules R
 
 is_taken : (list : List Conversion) (c : World) (m : MappingText) (R : List Rule) → (taking list).passes c (between_of m) R → IsTaken list m R
 is_taken list c m R p =
     let b = between_of m in
-    let one = checked (λ b. LinesRefused b.lines) (λ b. length b.lines ≤ 512) (next by_hand (next (naming list) (next (limits list) (next (rule_count list) (rules list))))) c b R p in
-    let two = checked (λ b. ByHandRefused b.by_hand) (λ b. b.by_hand ≡ []) (next (naming list) (next (limits list) (next (rule_count list) (rules list)))) c b R one.1 in
-    let three = checked (λ b. NamingRefused list b.source b.target b.lines) (λ b. lines_fault b.source b.target list b.lines ≡ None) (next (limits list) (next (rule_count list) (rules list))) c b R two.1 in
-    let four = checked (λ b. LimitRefused list b.source b.target b.lines) (λ b. limit_of list b.source b.target b.lines ≡ None) (next (rule_count list) (rules list)) c b R three.1 in
-    let five = checked (λ b. RulesRefused list b.source b.target b.lines) (λ b. length (rules_of list b.source b.target b.lines) ≤ 256) (rules list) c b R four.1 in
-    record { named = three.0; limits = four.0; few = five.0; are = ok_of (rules_of list m.source m.target m.lines) R five.1 }
+    let one = checked (λ b. LinesRefused b.lines) (λ b. length b.lines ≤ 512) (next (naming list) (next (writing list) (next (limits list) (next (closing list) rule_count)))) c b R p in
+    let two = checked (λ b. NamingRefused list b.source b.target b.lines) (λ b. lines_fault b.source b.target list b.lines ≡ None) (next (writing list) (next (limits list) (next (closing list) rule_count))) c b R one.1 in
+    let three = checked (λ b. WritingRefused list b.source b.target b.by_hand) (λ b. rules_fault b.source b.target list b.by_hand ≡ None) (next (limits list) (next (closing list) rule_count)) c b R two.1 in
+    let four = checked (λ b. LimitRefused list b.source b.target b.lines) (λ b. limit_of list b.source b.target b.lines ≡ None) (next (closing list) rule_count) c b R three.1 in
+    let counted = four.1.2 in
+    record {
+      named = two.0;
+      written = three.0;
+      limits = four.0;
+      few = rw counted.1 counted.0;
+      are = subst (AreRulesOf list m.source m.target m.lines m.rules) (sym counted.1) four.1.1;
+    }
 
 pub accepted_fits : AcceptedFits
-accepted_fits list c text M (m, says, p) =
+accepted_fits list c text M small (m, says, p) =
     let one = checked (λ m. SourceRefused m.source) (λ m. IsFaultless m.source) (next target_sets (next target_names (said_rules list))) c m M p in
     let two = checked (λ m. TargetRefused m.target) (λ m. IsFaultless m.target) (next target_names (said_rules list)) c m M one.1 in
     let three = checked (λ m. NameRefused m.target) (λ m. NoneReserved m.target) (said_rules list) c m M two.1 in
     let t = is_taken list c m three.1.0 three.1.1 in
-    let a : IsAccepted list m = record { source = one.0; target = two.0; named = t.named; limits = t.limits; few = t.few } in
+    let rules = texts_have_whole_rules text m says in
+    let a : IsAccepted list m = record {
+      source = one.0;
+      target = two.0;
+      named = t.named;
+      limits = t.limits;
+      written = t.written;
+      whole = λ r i. (rules r i).0;
+      narrow = λ r i. let few = (rules r i).1 in omega (arith, few, small);
+    } in
+    let good = all_good list m three.1.0 a t.are in
     let words = said_is_writable text m says in
-    subst (MappingFits list) (sym (three.1.2 ∙ ap (with_rules m) t.are)) (record {
+    subst (MappingFits list) (sym three.1.2) (record {
       source = one.0;
       target = two.0;
       source_names = words.0.named;
       target_names = words.1.named;
       few = t.few;
-      fit = each_fits list m a;
-      closed = each_closed list m a;
-      premises = each_premise list m a;
-      conclusions = each_conclusion list m a;
-      listed = each_listed list m a;
+      fit = λ d i. (good d i).fits;
+      closed = λ d i. (good d i).closed;
+      premises = λ d i. (good d i).premise;
+      conclusions = λ d i. (good d i).conclusion;
+      listed = λ d i. (good d i).listed;
     })

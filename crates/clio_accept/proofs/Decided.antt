@@ -1,30 +1,33 @@
 -- A text is accepted with one mapping, or refused for one reason, and never both.
-use Rattle.std.proofs.Common.{◌≡◌, ◌⊎◌, ℕ, zero, suc, ◌<◌, ◌≤◌, List, [], ◌∷◌, Some, None, length, refl, sym, ◌∙◌, ap, true, false, subst, inl, inr, codes, arith, nat_eq, Ok}
+use Rattle.std.proofs.Common.{◌≡◌, ◌⊎◌, ℕ, zero, suc, ◌<◌, ◌≤◌, List, [], ◌∷◌, ◌++◌, Some, None, length, refl, sym, ◌∙◌, ap, true, false, subst, inl, inr, codes, arith, nat_eq}
 use Rattle.std.specs.Prelude.{Option}
 use Rattle.std.specs.Cmp.Lexicographic.{pointwise, bytes_decides}
 use Rattle.std.proofs.lemmas.Bool.{cases_lt, cases_eq, cases_Bool, true≢false}
 use Rattle.dx_ports.specs.declared.file.Count.TheVariants.{Lines, Rules}
 use Rattle.dx_schema.specs.Forest.{Forest}
-use Rattle.dx_schema.specs.Tables.{table_at, tables_of}
+use Rattle.dx_schema.specs.Tables.{model_tables, table_at, tables_of}
 use Rattle.dx_schema.specs.Links.{IsFaultless}
 use Rattle.dx_schema.proofs.Deciding.{faultless_or_fault}
 use Rattle.dx_schema.proofs.OneFault.{one_first_fault, faultless_have_none}
 use Rattle.dx_schema_text.specs.declared.texts.LineText.{LineText}
 use Rattle.dx_schema_text.specs.declared.texts.RuleText.{RuleText}
+use Rattle.dx_model.specs.declared.rules.Rule.{Rule}
 use Rattle.dx_schema_text.specs.declared.texts.MappingText.{MappingText}
 use Rattle.dx_schema_text.specs.Texts.{IsMappingText, IsTextFault}
 use Rattle.dx_schema_text.proofs.Answered.{mapping_or_fault, one_mapping, one_fault, never_said_and_faulty}
 use Rattle.dx_funcs.specs.declared.conversion.Conversion.{Conversion}
 use Rattle.dx_line_text.specs.Naming.{lines_fault}
-use Rattle.dx_stages.specs.Stages.{Stage, next, into, over, saying, notions, checking, computing}
+use Rattle.dx_tgd_text.specs.Reading.{rules_fault}
+use Rattle.dx_stages.specs.Stages.{Stage, next, into, over, saying, notions, checking}
 use Rattle.dx_stages.specs.Laws.{PassesOne, IsDecided}
-use Rattle.dx_stages.proofs.Decided.{Any, next_one, next_decided, checking_one, checking_decided, computing_one, computing_decided, into_one, into_decided, over_one, over_decided, notions_decided, saying_decided}
+use Rattle.dx_stages.proofs.Decided.{Any, next_one, next_decided, checking_one, checking_decided, into_one, into_decided, over_one, over_decided, notions_decided, saying_decided}
 use Rattle.clio_accept.specs.declared.fault.AcceptFault.{AcceptFault}
 use Rattle.clio_accept.specs.declared.fault.AcceptFault.TheVariants as faults
 use Rattle.clio_accept.specs.declared.fault.MapFault.TheVariants as map_faults
-use Rattle.clio_accept.specs.Mapping.{IsReserved, NoneReserved, IsFirstReserved, rules_of, limit_of, text_refusal, source_refusal, target_refusal}
-use Rattle.clio_accept.specs.Mapping.{SourceRefused, TargetRefused, NameRefused, LinesRefused, ByHandRefused, NamingRefused, LimitRefused, RulesRefused}
-use Rattle.clio_accept.specs.Accepting.{Between, line_count, by_hand, naming, limits, rule_count, rules, taking, source_sets, target_sets, target_names, between_of, with_rules, said_rules, accepting_said, said_by, accepting}
+use Rattle.clio_accept.specs.Mapping.{IsReserved, NoneReserved, IsFirstReserved, AreRulesOf, TooWide, rules_of, written_of, limit_of, text_refusal, source_refusal, target_refusal}
+use Rattle.clio_accept.specs.Mapping.{SourceRefused, TargetRefused, NameRefused, LinesRefused, NamingRefused, WritingRefused, LimitRefused, WidthRefused, RulesRefused}
+use Rattle.clio_accept.proofs.Closed.{one_closed, never_closed, closed_or_wide}
+use Rattle.clio_accept.specs.Accepting.{Between, line_count, naming, writing, limits, closing, rule_count, taking, source_sets, target_sets, target_names, between_of, with_rules, said_rules, accepting_said, said_by, accepting}
 
 abbrev Same : AcceptFault → AcceptFault → Type 0
 Same d e = d ≡ e
@@ -88,8 +91,14 @@ no_limit list source target lines e none a = let some = a.1 in cc
 one_limit : (list : List Conversion) (source target : Forest) (lines : List LineText) (d e : AcceptFault) → LimitRefused list source target lines d → LimitRefused list source target lines e → d ≡ e
 one_limit list source target lines d e a b = a.2 ∙ ap faults.Limit (same_some (limit_of list source target lines) a.0 b.0 a.1 b.1) ∙ sym b.2
 
-no_rules : (list : List Conversion) (source target : Forest) (lines : List LineText) (e : AcceptFault) → length (rules_of list source target lines) ≤ 256 → ¬ (RulesRefused list source target lines e)
-no_rules list source target lines e few a = let many = a.0 in omega (arith, few, many)
+no_writing : (list : List Conversion) (source target : Forest) (by_hand : List RuleText) (e : AcceptFault) → rules_fault source target list by_hand ≡ None → ¬ (WritingRefused list source target by_hand e)
+no_writing list source target by_hand e none a = let some = a.1 in cc
+
+one_writing : (list : List Conversion) (source target : Forest) (by_hand : List RuleText) (d e : AcceptFault) → WritingRefused list source target by_hand d → WritingRefused list source target by_hand e → d ≡ e
+one_writing list source target by_hand d e a b = a.2 ∙ ap text_refusal (same_some (rules_fault source target list by_hand) a.0 b.0 a.1 b.1) ∙ sym b.2
+
+no_rules : (R : List Rule) (e : AcceptFault) → length R ≤ 256 → ¬ (RulesRefused R e)
+no_rules R e few a = let many = a.0 in omega (arith, few, many)
 
 there_or_not : {X : Type 0} (o : Option X) → (o ≡ None) ⊎ ((x : X) × (o ≡ Some x))
 there_or_not None = inl refl
@@ -154,13 +163,6 @@ line_count_decided = check (λ b. LinesRefused b.lines) (λ b. length b.lines �
       | inr few ↦ inl few
     ]
 
-by_hand_decided : IsDecided Same Any by_hand
-by_hand_decided = check (λ b. ByHandRefused b.by_hand) (λ b. b.by_hand ≡ []) (λ b d e p q. p.1 ∙ sym q.1) (λ b e is p. p.0 is) (λ b. either b.by_hand)
-  where
-    either : (rs : List RuleText) → (rs ≡ []) ⊎ ((e : AcceptFault) × ByHandRefused rs e)
-    either [] = inl refl
-    either (r ∷ rs) = inr (faults.Mapping map_faults.NotYet, ((λ e. cc e), refl))
-
 naming_decided : (list : List Conversion) → IsDecided Same Any (naming list)
 naming_decided list = check (λ b. NamingRefused list b.source b.target b.lines) (λ b. lines_fault b.source b.target list b.lines ≡ None)
     (λ b. one_naming list b.source b.target b.lines) (λ b. no_naming list b.source b.target b.lines) either
@@ -181,12 +183,34 @@ limits_decided list = check (λ b. LimitRefused list b.source b.target b.lines) 
       | inr l ↦ inr (faults.Limit l.0, (l.0, l.1, refl))
     ]
 
-rule_count_decided : (list : List Conversion) → IsDecided Same Any (rule_count list)
-rule_count_decided list = check (λ b. RulesRefused list b.source b.target b.lines) (λ b. length (rules_of list b.source b.target b.lines) ≤ 256)
-    (λ b d e p q. p.1 ∙ sym q.1) (λ b. no_rules list b.source b.target b.lines) either
+writing_decided : (list : List Conversion) → IsDecided Same Any (writing list)
+writing_decided list = check (λ b. WritingRefused list b.source b.target b.by_hand) (λ b. rules_fault b.source b.target list b.by_hand ≡ None)
+    (λ b. one_writing list b.source b.target b.by_hand) (λ b. no_writing list b.source b.target b.by_hand) either
   where
-    either : (b : Between) → (length (rules_of list b.source b.target b.lines) ≤ 256) ⊎ ((e : AcceptFault) × RulesRefused list b.source b.target b.lines e)
-    either b = elim (cases_lt 256 (length (rules_of list b.source b.target b.lines))) [
+    either : (b : Between) → (rules_fault b.source b.target list b.by_hand ≡ None) ⊎ ((e : AcceptFault) × WritingRefused list b.source b.target b.by_hand e)
+    either b = elim (there_or_not (rules_fault b.source b.target list b.by_hand)) [
+      | inl none ↦ inl none
+      | inr k ↦ inr (text_refusal k.0, (k.0, k.1, refl))
+    ]
+
+closing_decided : (list : List Conversion) → IsDecided Same Any (closing list)
+closing_decided list =
+    notions_decided Same Any (λ b. WidthRefused (model_tables b.target) (written_of list b.source b.target b.by_hand)) (λ b. AreRulesOf list b.source b.target b.lines b.by_hand)
+    (λ b e f g p q. p.3 ∙ sym q.3)
+    (λ b R e g a. never_closed (model_tables b.target) (written_of list b.source b.target b.by_hand) a.closed e a.closings)
+    (λ b g. either b)
+  where
+    either : (b : Between) → ((R : List Rule) × AreRulesOf list b.source b.target b.lines b.by_hand R) ⊎ ((e : AcceptFault) × WidthRefused (model_tables b.target) (written_of list b.source b.target b.by_hand) e)
+    either b = elim (closed_or_wide (model_tables b.target) (written_of list b.source b.target b.by_hand)) [
+      | inl r ↦ inl (rules_of list b.source b.target b.lines ++ r.0, record { closed = r.0; closings = r.1; are = refl })
+      | inr w ↦ inr (TooWide, (w.0, w.1, w.2, refl))
+    ]
+
+rule_count_decided : IsDecided Same Any rule_count
+rule_count_decided = check RulesRefused (λ R. length R ≤ 256) (λ R d e p q. p.1 ∙ sym q.1) no_rules either
+  where
+    either : (R : List Rule) → (length R ≤ 256) ⊎ ((e : AcceptFault) × RulesRefused R e)
+    either R = elim (cases_lt 256 (length R)) [
       | inl many ↦ inr (faults.Limit (record { what = Rules; number = 256 }), (many, refl))
       | inr few ↦ inl few
     ]
@@ -194,33 +218,35 @@ rule_count_decided list = check (λ b. RulesRefused list b.source b.target b.lin
 line_count_one : PassesOne line_count
 line_count_one = checking_one (λ b. LinesRefused b.lines) (λ b. length b.lines ≤ 512)
 
-by_hand_one : PassesOne by_hand
-by_hand_one = checking_one (λ b. ByHandRefused b.by_hand) (λ b. b.by_hand ≡ [])
-
 naming_one : (list : List Conversion) → PassesOne (naming list)
 naming_one list = checking_one (λ b. NamingRefused list b.source b.target b.lines) (λ b. lines_fault b.source b.target list b.lines ≡ None)
 
 limits_one : (list : List Conversion) → PassesOne (limits list)
 limits_one list = checking_one (λ b. LimitRefused list b.source b.target b.lines) (λ b. limit_of list b.source b.target b.lines ≡ None)
 
-rule_count_one : (list : List Conversion) → PassesOne (rule_count list)
-rule_count_one list = checking_one (λ b. RulesRefused list b.source b.target b.lines) (λ b. length (rules_of list b.source b.target b.lines) ≤ 256)
+writing_one : (list : List Conversion) → PassesOne (writing list)
+writing_one list = checking_one (λ b. WritingRefused list b.source b.target b.by_hand) (λ b. rules_fault b.source b.target list b.by_hand ≡ None)
+
+closing_one : (list : List Conversion) → PassesOne (closing list)
+closing_one list c b R S p q =
+    p.are ∙ ap (λ es. rules_of list b.source b.target b.lines ++ es) (one_closed (model_tables b.target) (written_of list b.source b.target b.by_hand) p.closed q.closed p.closings q.closings) ∙ sym q.are
+
+rule_count_one : PassesOne rule_count
+rule_count_one = checking_one RulesRefused (λ R. length R ≤ 256)
 
 taking_one : (list : List Conversion) → PassesOne (taking list)
 taking_one list =
-    next_one line_count (next by_hand (next (naming list) (next (limits list) (next (rule_count list) (rules list))))) line_count_one
-    (next_one by_hand (next (naming list) (next (limits list) (next (rule_count list) (rules list)))) by_hand_one
-    (next_one (naming list) (next (limits list) (next (rule_count list) (rules list))) (naming_one list)
-    (next_one (limits list) (next (rule_count list) (rules list)) (limits_one list)
-    (next_one (rule_count list) (rules list) (rule_count_one list) (computing_one (λ (b : Between). Ok (rules_of list b.source b.target b.lines)))))))
+    next_one line_count (next (naming list) (next (writing list) (next (limits list) (next (closing list) rule_count)))) line_count_one
+    (next_one (naming list) (next (writing list) (next (limits list) (next (closing list) rule_count))) (naming_one list)
+    (next_one (writing list) (next (limits list) (next (closing list) rule_count)) (writing_one list)
+    (next_one (limits list) (next (closing list) rule_count) (limits_one list) (next_one (closing list) rule_count (closing_one list) rule_count_one))))
 
 taking_decided : (list : List Conversion) → IsDecided Same Any (taking list)
 taking_decided list =
-    after line_count (next by_hand (next (naming list) (next (limits list) (next (rule_count list) (rules list))))) line_count_one line_count_decided
-    (after by_hand (next (naming list) (next (limits list) (next (rule_count list) (rules list)))) by_hand_one by_hand_decided
-    (after (naming list) (next (limits list) (next (rule_count list) (rules list))) (naming_one list) (naming_decided list)
-    (after (limits list) (next (rule_count list) (rules list)) (limits_one list) (limits_decided list) (after (rule_count list) (rules list) (rule_count_one list) (rule_count_decided list)
-    (computing_decided Same Any (λ (b : Between). Ok (rules_of list b.source b.target b.lines)) (λ e. refl))))))
+    after line_count (next (naming list) (next (writing list) (next (limits list) (next (closing list) rule_count)))) line_count_one line_count_decided
+    (after (naming list) (next (writing list) (next (limits list) (next (closing list) rule_count))) (naming_one list) (naming_decided list)
+    (after (writing list) (next (limits list) (next (closing list) rule_count)) (writing_one list) (writing_decided list)
+    (after (limits list) (next (closing list) rule_count) (limits_one list) (limits_decided list) (after (closing list) rule_count (closing_one list) (closing_decided list) rule_count_decided))))
 
 -- ---- what a text says
 

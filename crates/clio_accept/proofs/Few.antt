@@ -51,7 +51,7 @@ few_at schema t e h =
     grind (arith, nat_tests, n)
 
 -- tables have at most 64 columns
-few_columns : (f : Forest) (t : ℕ) → IsFaultless f → t < length (model_tables f) → (table_of (model_tables f) t).width ≤ 64
+pub few_columns : (f : Forest) (t : ℕ) → IsFaultless f → t < length (model_tables f) → (table_of (model_tables f) t).width ≤ 64
 few_columns f t ok h =
     let m = from_map as_numbers (tables_of f) (in_at (model_tables f) t (record { width = 0; determinations = []; links = []; optional = [] }) h) in
     let w = (are_tables f ok.form).each_table m.0 m.1 in

@@ -2,4 +2,5 @@ pub mod LineRules
 pub mod Refused
 pub mod Decided
 pub mod Few
+pub mod Closed
 pub mod Accepted

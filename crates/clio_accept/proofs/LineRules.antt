@@ -1,50 +1,70 @@
--- From the answers of the steps of lines to that of their rules.
-use Rattle.std.proofs.Common.{◌≡◌, ◌⊎◌, ℕ, ◌<◌, ◌≤◌, List, [], ◌∷◌, length, Bool, true, false, arith, Some, None, refl, inl, inr, sym, ap, ◌∙◌, Err}
-use Rattle.std.specs.Prelude.{◌==◌}
-use Rattle.std.proofs.lemmas.Bool.{eqb-true, false≢true}
+-- From the answers of the steps of lines and hand-written rules to that of their rules.
+use Rattle.std.proofs.Common.{◌≡◌, ◌⊎◌, ℕ, ◌<◌, ◌≤◌, List, [], ◌∷◌, ◌++◌, length, Some, None, refl, inl, inr, sym, ap, ◌∙◌, subst, Ok, Err}
 use Rattle.dx_ports.specs.declared.file.Limit.{Limit}
 use Rattle.dx_ports.specs.declared.file.Count.TheVariants as counts
+use Rattle.dx_model.specs.declared.rules.Rule.{Rule}
 use Rattle.dx_schema.specs.Tables.{model_tables}
 use Rattle.dx_tokens.specs.declared.faults.TextFault.{TextFault}
 use Rattle.dx_tokens.specs.declared.faults.TextFault.TheVariants as text_faults
 use Rattle.dx_funcs.specs.declared.conversion.Conversion.{Conversion}
-use Rattle.dx_lines.specs.Limits.{passed}
 use Rattle.dx_candidates.specs.declared.fault.CandFault.{CandFault}
 use Rattle.dx_candidates.specs.declared.fault.CandFault.TheVariants as cand_faults
 use Rattle.dx_line_text.specs.Naming.{lines_fault}
+use Rattle.dx_tgd_text.specs.Reading.{rules_fault}
 use Rattle.dx_stages.specs.Running.{Answers}
+use Rattle.clio_accept.specs.declared.fault.AcceptFault.{AcceptFault}
 use Rattle.clio_accept.specs.declared.fault.AcceptFault.TheVariants as faults
-use Rattle.clio_accept.specs.declared.fault.MapFault.TheVariants as map_faults
-use Rattle.clio_accept.specs.Mapping.{limit_of, limit_refusal, rules_of, text_refusal}
+use Rattle.clio_accept.specs.Mapping.{AreClosings, AreRulesOf, WidthRefused, limit_of, limit_refusal, rules_of, text_refusal, written_of}
 use Rattle.clio_accept.specs.Accepting.{Between, taking}
 
-pub is_empty : {X : Type 0} (xs : List X) (b : Bool) → b ≡ (length xs == 0) → b ≡ true → xs ≡ []
-is_empty [] b e h = refl
-is_empty (x ∷ xs) b e h = let k = eqb-true (length (x ∷ xs)) 0 (sym e ∙ h) in absurd (omega (arith, k))
-
-pub not_empty : {X : Type 0} (xs : List X) (b : Bool) → b ≡ (length xs == 0) → b ≡ false → ¬ (xs ≡ [])
-not_empty [] b e h = λ k. false≢true (sym h ∙ e)
-not_empty (x ∷ xs) b e h = λ k. cc k
-
--- there is a hand-written rule
-pub by_hand_stops : (list : List Conversion) (b : Between) → length b.lines ≤ 512 → ¬ (b.by_hand ≡ []) → Answers faults.Memory (taking list) b (Err (faults.Mapping map_faults.NotYet))
-by_hand_stops list b few some = inr (λ c. inr (b, (few, refl), inl (some, refl)))
-
 -- a word of the lines names nothing
-pub naming_stops : (list : List Conversion) (b : Between) (f : TextFault) → length b.lines ≤ 512 → b.by_hand ≡ [] → (f ≡ text_faults.Memory) ⊎ (lines_fault b.source b.target list b.lines ≡ Some f)
+pub naming_stops : (list : List Conversion) (b : Between) (f : TextFault) → length b.lines ≤ 512 → (f ≡ text_faults.Memory) ⊎ (lines_fault b.source b.target list b.lines ≡ Some f)
     → Answers faults.Memory (taking list) b (Err (text_refusal f))
-naming_stops list b f few none (inl is) = inl (ap text_refusal is)
-naming_stops list b f few none (inr h) = inr (λ c. inr (b, (few, refl), inr (b, (none, refl), inl (f, h, refl))))
+naming_stops list b f few (inl is) = inl (ap text_refusal is)
+naming_stops list b f few (inr h) = inr (λ c. inr (b, (few, refl), inl (f, h, refl)))
+
+-- a hand-written rule has a fault
+pub writing_stops : (list : List Conversion) (b : Between) (f : TextFault) → length b.lines ≤ 512 → lines_fault b.source b.target list b.lines ≡ None
+    → (f ≡ text_faults.Memory) ⊎ (rules_fault b.source b.target list b.by_hand ≡ Some f) → Answers faults.Memory (taking list) b (Err (text_refusal f))
+writing_stops list b f few named (inl is) = inl (ap text_refusal is)
+writing_stops list b f few named (inr h) = inr (λ c. inr (b, (few, refl), inr (b, (named, refl), inl (f, h, refl))))
+
+-- what is known of lines and hand-written rules without a fault
+pub record AreRead (list : List Conversion) (b : Between) : Type 0 where
+  pub few : length b.lines ≤ 512
+  pub named : lines_fault b.source b.target list b.lines ≡ None
+  pub written : rules_fault b.source b.target list b.by_hand ≡ None
 
 -- the lines pass a limit
-pub limit_stops : (list : List Conversion) (b : Between) (f : CandFault) → length b.lines ≤ 512 → b.by_hand ≡ [] → lines_fault b.source b.target list b.lines ≡ None
+pub limit_stops : (list : List Conversion) (b : Between) (f : CandFault) → AreRead list b
     → (f ≡ cand_faults.Memory) ⊎ ((l : Limit) × (limit_of list b.source b.target b.lines ≡ Some l) × (f ≡ cand_faults.TooMany l)) → Answers faults.Memory (taking list) b (Err (limit_refusal f))
-limit_stops list b f few none named (inl is) = inl (ap limit_refusal is)
-limit_stops list b f few none named (inr (l, h, is)) =
-    inr (λ c. inr (b, (few, refl), inr (b, (none, refl), inr (b, (named, refl), inl (l, h, ap limit_refusal is)))))
+limit_stops list b f r (inl is) = inl (ap limit_refusal is)
+limit_stops list b f r (inr (l, h, is)) =
+    inr (λ c. inr (b, (r.few, refl), inr (b, (r.named, refl), inr (b, (r.written, refl), inl (l, h, ap limit_refusal is)))))
+
+-- a hand-written rule is too wide
+pub width_stops : (list : List Conversion) (b : Between) (written : List Rule) (e : AcceptFault) → AreRead list b → limit_of list b.source b.target b.lines ≡ None → written ≡ written_of list b.source b.target b.by_hand
+    → (e ≡ faults.Memory) ⊎ WidthRefused (model_tables b.target) written e → Answers faults.Memory (taking list) b (Err e)
+width_stops list b written e r limits are (inl is) = inl is
+width_stops list b written e r limits are (inr h) =
+    inr (λ c. inr (b, (r.few, refl), inr (b, (r.named, refl), inr (b, (r.written, refl), inr (b, (limits, refl), inl (subst (λ ds. WidthRefused (model_tables b.target) ds e) are h))))))
+
+-- all rules, of which those of lines stand in front
+pub all_rules : (list : List Conversion) (b : Between) (written kept closed R : List Rule) → written ≡ written_of list b.source b.target b.by_hand → kept ≡ rules_of list b.source b.target b.lines
+    → AreClosings (model_tables b.target) written closed → R ≡ kept ++ closed → AreRulesOf list b.source b.target b.lines b.by_hand R
+all_rules list b written kept closed R are is closings both = record {
+  closed = closed;
+  closings = subst (λ ds. AreClosings (model_tables b.target) ds closed) are closings;
+  are = both ∙ ap (λ ks. ks ++ closed) is;
+}
 
 -- the rules are too many
-pub count_stops : (list : List Conversion) (b : Between) → length b.lines ≤ 512 → b.by_hand ≡ [] → lines_fault b.source b.target list b.lines ≡ None → limit_of list b.source b.target b.lines ≡ None
-    → 256 < length (rules_of list b.source b.target b.lines) → Answers faults.Memory (taking list) b (Err (faults.Limit (record { what = counts.Rules; number = 256 })))
-count_stops list b few none named limits many =
-    inr (λ c. inr (b, (few, refl), inr (b, (none, refl), inr (b, (named, refl), inr (b, (limits, refl), inl (many, refl))))))
+pub count_stops : (list : List Conversion) (b : Between) (R : List Rule) → AreRead list b → limit_of list b.source b.target b.lines ≡ None → AreRulesOf list b.source b.target b.lines b.by_hand R
+    → 256 < length R → Answers faults.Memory (taking list) b (Err (faults.Limit (record { what = counts.Rules; number = 256 })))
+count_stops list b R r limits are many =
+    inr (λ c. inr (b, (r.few, refl), inr (b, (r.named, refl), inr (b, (r.written, refl), inr (b, (limits, refl), inr (R, are, (many, refl)))))))
+
+-- the rules are taken
+pub rules_taken : (list : List Conversion) (b : Between) (R : List Rule) → AreRead list b → limit_of list b.source b.target b.lines ≡ None → AreRulesOf list b.source b.target b.lines b.by_hand R
+    → length R ≤ 256 → Answers faults.Memory (taking list) b (Ok R)
+rules_taken list b R r limits are few = λ c. (b, (r.few, refl), (b, (r.named, refl), (b, (r.written, refl), (b, (limits, refl), (R, are, (few, refl))))))

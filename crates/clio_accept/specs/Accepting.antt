@@ -1,7 +1,8 @@
 -- Accepting a text, one stage after the other.
-use Rattle.std.specs.Prelude.{◌≡◌, ◌≤◌, ℕ, List, [], None, Ok, length}
+use Rattle.std.specs.Prelude.{◌≡◌, ◌≤◌, ℕ, List, None, length}
 use Rattle.dx_model.specs.declared.rules.Rule.{Rule}
 use Rattle.dx_schema.specs.Forest.{Forest}
+use Rattle.dx_schema.specs.Tables.{model_tables}
 use Rattle.dx_schema.specs.Links.{IsFaultless}
 use Rattle.dx_schema_text.specs.declared.texts.LineText.{LineText}
 use Rattle.dx_schema_text.specs.declared.texts.RuleText.{RuleText}
@@ -10,12 +11,13 @@ use Rattle.dx_schema_text.specs.Texts.{IsMappingText, IsTextFault}
 use Rattle.dx_tokens.specs.declared.faults.TextFault.{TextFault}
 use Rattle.dx_funcs.specs.declared.conversion.Conversion.{Conversion}
 use Rattle.dx_line_text.specs.Naming.{lines_fault}
-use Rattle.dx_stages.specs.Stages.{Stage, next, over, into, saying, computing, checking, notions}
+use Rattle.dx_tgd_text.specs.Reading.{rules_fault}
+use Rattle.dx_stages.specs.Stages.{Stage, next, over, into, saying, checking, notions}
 use Rattle.clio_accept.specs.declared.mapping.Mapping.{Mapping}
 use Rattle.clio_accept.specs.declared.fault.AcceptFault.{AcceptFault}
-use Rattle.clio_accept.specs.Mapping.{SourceRefused, TargetRefused, NameRefused, LinesRefused, ByHandRefused, NamingRefused, LimitRefused, RulesRefused, NoneReserved, rules_of, limit_of, text_refusal}
+use Rattle.clio_accept.specs.Mapping.{SourceRefused, TargetRefused, NameRefused, LinesRefused, NamingRefused, WritingRefused, LimitRefused, WidthRefused, RulesRefused, NoneReserved, AreRulesOf, written_of, limit_of, text_refusal}
 
--- ---- the rules of lines
+-- ---- rules
 
 -- lines and hand-written rules, and the two schemas that they stand between
 pub record Between : Type 0 where
@@ -28,28 +30,29 @@ pub record Between : Type 0 where
 abbrev pub line_count : Stage AcceptFault Between Between
 line_count = checking (λ b. LinesRefused b.lines) (λ b. length b.lines ≤ 512)
 
--- no hand-written rule, for which more is to be built
-abbrev pub by_hand : Stage AcceptFault Between Between
-by_hand = checking (λ b. ByHandRefused b.by_hand) (λ b. b.by_hand ≡ [])
-
 -- the words of the lines name what there is
 abbrev pub naming : List Conversion → Stage AcceptFault Between Between
 naming list = checking (λ b. NamingRefused list b.source b.target b.lines) (λ b. lines_fault b.source b.target list b.lines ≡ None)
+
+-- the hand-written rules have no fault
+abbrev pub writing : List Conversion → Stage AcceptFault Between Between
+writing list = checking (λ b. WritingRefused list b.source b.target b.by_hand) (λ b. rules_fault b.source b.target list b.by_hand ≡ None)
 
 -- no limit of lines is passed
 abbrev pub limits : List Conversion → Stage AcceptFault Between Between
 limits list = checking (λ b. LimitRefused list b.source b.target b.lines) (λ b. limit_of list b.source b.target b.lines ≡ None)
 
--- at most 256 rules
-abbrev pub rule_count : List Conversion → Stage AcceptFault Between Between
-rule_count list = checking (λ b. RulesRefused list b.source b.target b.lines) (λ b. length (rules_of list b.source b.target b.lines) ≤ 256)
+-- the rules that the lines stand for, and the closed hand-written rules, none of which is too wide
+abbrev pub closing : List Conversion → Stage AcceptFault Between (List Rule)
+closing list =
+    notions (λ b. WidthRefused (model_tables b.target) (written_of list b.source b.target b.by_hand)) (λ b. AreRulesOf list b.source b.target b.lines b.by_hand)
 
--- the rules that the lines stand for
-abbrev pub rules : List Conversion → Stage AcceptFault Between (List Rule)
-rules list = computing (λ b. Ok (rules_of list b.source b.target b.lines))
+-- at most 256 rules
+abbrev pub rule_count : Stage AcceptFault (List Rule) (List Rule)
+rule_count = checking RulesRefused (λ R. length R ≤ 256)
 
 abbrev pub taking : List Conversion → Stage AcceptFault Between (List Rule)
-taking list = next line_count (next by_hand (next (naming list) (next (limits list) (next (rule_count list) (rules list)))))
+taking list = next line_count (next (naming list) (next (writing list) (next (limits list) (next (closing list) rule_count))))
 
 -- ---- the mapping of what a text says
 

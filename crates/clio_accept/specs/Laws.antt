@@ -1,5 +1,5 @@
 -- What holds of accepted mappings.
-use Rattle.std.specs.Prelude.{◌≡◌, ◌≤◌, ℕ, List, length}
+use Rattle.std.specs.Prelude.{◌≡◌, ◌≤◌, ◌<◌, ◌-◌, ◌^◌, ℕ, List, length}
 use Rattle.dx_ports.specs.Members.{Each}
 use Rattle.dx_schema.specs.Tables.{model_tables}
 use Rattle.dx_schema.specs.Links.{IsFaultless}
@@ -36,6 +36,6 @@ OneMapping = (list : List Conversion) → PassesOne (accepting list)
 abbrev pub AcceptedOrRefused : Type 0
 AcceptedOrRefused = (list : List Conversion) → IsDecided (λ e f. e ≡ f) (λ text. Unit {0}) (accepting list)
 
--- an accepted mapping has two schemas, and rules that fit them
+-- an accepted mapping has two schemas, and rules that fit them, of a text of fewer than 4,294,967,295 bytes
 abbrev pub AcceptedFits : Type 0
-AcceptedFits = (list : List Conversion) (c : World) (text : List ℕ) (M : Mapping) → (accepting list).passes c text M → MappingFits list M
+AcceptedFits = (list : List Conversion) (c : World) (text : List ℕ) (M : Mapping) → length text < 2 ^ 32 - 1 → (accepting list).passes c text M → MappingFits list M

@@ -1,8 +1,11 @@
 -- What a text is refused for, and the mapping of what it says.
-use Rattle.std.specs.Prelude.{◌≡◌, ◌⊎◌, ℕ, ◌<◌, List, [], Option, Some, length, codes}
-use Rattle.dx_ports.specs.declared.file.Count.TheVariants.{Depth, Lines, Rules}
+use Rattle.std.specs.Prelude.{◌≡◌, ◌⊎◌, ℕ, ◌<◌, ◌≤◌, List, [], ◌∷◌, ◌++◌, Option, Some, length, codes}
+use Rattle.dx_ports.specs.declared.file.Count.TheVariants.{Depth, Lines, Occurrences, Rules}
 use Rattle.dx_ports.specs.declared.file.Limit.{Limit}
+use Rattle.dx_ports.specs.Members.{◌∈◌}
+use Rattle.dx_model.specs.declared.rules.Atom.{Atom}
 use Rattle.dx_model.specs.declared.rules.Rule.{Rule}
+use Rattle.dx_model.specs.Tables.{Table}
 use Rattle.dx_tokens.specs.declared.faults.TextFault.{TextFault}
 use Rattle.dx_tokens.specs.declared.faults.TextFault.TheVariants as text_faults
 use Rattle.dx_candidates.specs.declared.fault.CandFault.{CandFault}
@@ -17,9 +20,11 @@ use Rattle.dx_schema_text.specs.declared.texts.RuleText.{RuleText}
 use Rattle.dx_schema_text.specs.declared.texts.MappingText.{MappingText}
 use Rattle.dx_funcs.specs.declared.conversion.Conversion.{Conversion}
 use Rattle.dx_line_text.specs.Naming.{lines_fault, lines_of}
+use Rattle.dx_closing.specs.Closing.{IsClosing, IsClosingOf}
 use Rattle.dx_lines.specs.Rules.{kept_rules}
 use Rattle.dx_lines.specs.Limits.{passed}
-use Rattle.clio_accept.specs.declared.mapping.Mapping.{Mapping}
+use Rattle.dx_tgd_text.specs.Reading.{rules_fault}
+use Rattle.dx_tgd_text.specs.Reading.{rules_of as said_rules_of}
 use Rattle.clio_accept.specs.declared.fault.AcceptFault.{AcceptFault}
 use Rattle.clio_accept.specs.declared.fault.AcceptFault.TheVariants as faults
 use Rattle.clio_accept.specs.declared.fault.MapFault.TheVariants as map_faults
@@ -75,9 +80,34 @@ rules_of list source target lines = kept_rules (lines_of source target list line
 abbrev pub limit_of : List Conversion → Forest → Forest → List LineText → Option Limit
 limit_of list source target lines = passed (lines_of source target list lines) (model_tables source) (model_tables target)
 
--- the two schemas, and the rules that the lines stand for
-abbrev pub mapping_of : List Conversion → MappingText → Mapping
-mapping_of list m = record { source = m.source; target = m.target; rules = rules_of list m.source m.target m.lines }
+-- ---- hand-written rules
+
+-- what hand-written rules between two schemas say
+abbrev pub written_of : List Conversion → Forest → Forest → List RuleText → List Rule
+written_of list source target by_hand = said_rules_of source target list by_hand
+
+-- e is the closing of d, and neither the premise nor the closed conclusion has more than 64 atoms
+pub record IsNarrowClosing (schema : List Table) (d e : Rule) : Type 0 where
+  pub closing : IsClosingOf schema d e
+  pub premise : length d.premise ≤ 64
+  pub conclusion : length e.conclusion ≤ 64
+
+-- each of these rules is the closing of one of those, in order
+abbrev pub AreClosings : List Table → List Rule → List Rule → Type 0
+AreClosings schema [] [] = Unit {0}
+AreClosings schema [] (e ∷ es) = ⊥
+AreClosings schema (d ∷ ds) [] = ⊥
+AreClosings schema (d ∷ ds) (e ∷ es) = IsNarrowClosing schema d e × AreClosings schema ds es
+
+-- a rule is too wide: its premise has more than 64 atoms, or each closing of its conclusion has
+abbrev pub IsTooWide : List Table → Rule → Type 0
+IsTooWide schema d = (64 < length d.premise) ⊎ ((E : List Atom) → IsClosing schema d.conclusion E → 64 < length E)
+
+-- the rules of lines, and after them the closed hand-written rules
+pub record AreRulesOf (list : List Conversion) (source target : Forest) (lines : List LineText) (by_hand : List RuleText) (R : List Rule) : Type 0 where
+  pub closed : List Rule
+  pub closings : AreClosings (model_tables target) (written_of list source target by_hand) closed
+  pub are : R ≡ rules_of list source target lines ++ closed
 
 -- ---- why it is refused
 
@@ -96,18 +126,26 @@ NameRefused f e = (name : List ℕ) × IsFirstReserved f name × (e ≡ faults.M
 abbrev pub LinesRefused : List LineText → AcceptFault → Type 0
 LinesRefused lines e = (512 < length lines) × (e ≡ faults.Limit (record { what = Lines; number = 512 }))
 
--- there is a hand-written rule, which is not built yet
-abbrev pub ByHandRefused : List RuleText → AcceptFault → Type 0
-ByHandRefused by_hand e = (¬ (by_hand ≡ [])) × (e ≡ faults.Mapping map_faults.NotYet)
-
 -- a word of a line names nothing, or a conversion has another number of arguments
 abbrev pub NamingRefused : List Conversion → Forest → Forest → List LineText → AcceptFault → Type 0
 NamingRefused list source target lines e = (k : TextFault) × (lines_fault source target list lines ≡ Some k) × (e ≡ text_refusal k)
+
+-- a hand-written rule has a fault
+abbrev pub WritingRefused : List Conversion → Forest → Forest → List RuleText → AcceptFault → Type 0
+WritingRefused list source target by_hand e = (k : TextFault) × (rules_fault source target list by_hand ≡ Some k) × (e ≡ text_refusal k)
 
 -- the lines pass a limit
 abbrev pub LimitRefused : List Conversion → Forest → Forest → List LineText → AcceptFault → Type 0
 LimitRefused list source target lines e = (l : Limit) × (limit_of list source target lines ≡ Some l) × (e ≡ faults.Limit l)
 
+-- what is answered of a rule that is too wide
+abbrev pub TooWide : AcceptFault
+TooWide = faults.Limit (record { what = Occurrences; number = 64 })
+
+-- a hand-written rule is too wide
+abbrev pub WidthRefused : List Table → List Rule → AcceptFault → Type 0
+WidthRefused schema written e = (d : Rule) × (d ∈ written) × IsTooWide schema d × (e ≡ TooWide)
+
 -- there are too many rules
-abbrev pub RulesRefused : List Conversion → Forest → Forest → List LineText → AcceptFault → Type 0
-RulesRefused list source target lines e = (256 < length (rules_of list source target lines)) × (e ≡ faults.Limit (record { what = Rules; number = 256 }))
+abbrev pub RulesRefused : List Rule → AcceptFault → Type 0
+RulesRefused R e = (256 < length R) × (e ≡ faults.Limit (record { what = Rules; number = 256 }))

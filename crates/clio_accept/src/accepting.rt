@@ -1,9 +1,12 @@
 // Accepted mappings.
 ghost use Rattle.std.specs.Prelude.{◌≡◌, ◌⊎◌, ◌↔◌, ◌<◌, ◌-◌, ◌^◌, ℕ, length, IfOk, IfErr, IfSome, IfNone, IsTrue, OnOk};
+ghost use Rattle.dx_ports.specs.Members.{Each};
 ghost use Rattle.dx_schema.specs.Bounds.{HasFewRules};
 ghost use Rattle.dx_schema.specs.Links.{IsFaultless};
 ghost use Rattle.dx_funcs.specs.Serving.{offered};
 ghost use Rattle.dx_stages.specs.Running.{Answers};
+ghost use Rattle.dx_tgd_text.specs.Laws.{IsWhole};
+ghost use Rattle.dx_tgd_text.specs.Reading.{IsNarrow};
 ghost use Rattle.clio_accept.specs.Accepting.{accepting, accepting_said};
 ghost use Rattle.clio_accept.specs.Mapping.{IsFirstReserved, IsReserved, NoneReserved, SourceRefused, TargetRefused};
 ghost use Rattle.clio_accept.specs.declared.fault.AcceptFault.TheVariants.{Memory};
@@ -78,6 +81,8 @@ where
     M: Meaning,
     requires source { HasFewRules said.source }
     requires target { HasFewRules said.target }
+    requires whole { Each said.rules IsWhole }
+    requires narrow { Each said.rules IsNarrow }
     ensures { Answers AcceptFault.Memory (accepting_said (offered host.now)) said result }
 {
     let MappingText {
@@ -100,14 +105,15 @@ where
     })
 }
 
-/// The mapping that a text defines: its two schemas, and the rules that its lines stand for.
+/// The mapping that a text defines: its two schemas, the rules that its lines stand for, and its closed hand-written rules.
 ///
 /// # Errors
 ///
 /// In this order: the first fault of the text, of the source sets, of the target sets; the first target set with a name
-/// that is taken; more than 512 lines; until more is built, a hand-written rule; the first word of the lines that names
-/// nothing, or conversion with another number of arguments; the limits of lines (64 occurrences of an unfolding, 64 ways
-/// between two tables, 1,024 candidates); more than 256 rules. `Memory` may come at any point.
+/// that is taken; more than 512 lines; the first word of the lines that names nothing, or conversion with another number
+/// of arguments; the first fault of the hand-written rules; the limits of lines (64 occurrences of an unfolding, 64 ways
+/// between two tables, 1,024 candidates); a hand-written rule whose premise or closed conclusion has more than 64 atoms;
+/// more than 256 rules. `Memory` may come at any point.
 pub fn accept<F, M>(alloc: Global, text: &[u8], host: &Host<F, M>) -> Result<Mapping, AcceptFault>
 where
     F: Fn(u32, &Items<Text>) -> Result<Text, AllocError>,

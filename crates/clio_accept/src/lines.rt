@@ -1,22 +1,70 @@
-// The rules of a mapping's lines.
-ghost use Rattle.std.specs.Prelude.{◌≡◌, Some, None, IfOk, IfErr, OnOk};
+// The rules of a mapping's lines, and its hand-written rules.
+ghost use Rattle.std.specs.Prelude.{◌≡◌, ◌⊎◌, ◌++◌, List, Some, None, IfOk, IfErr, OnOk, MatchResult};
+ghost use Rattle.dx_ports.specs.Members.{Each};
+ghost use Rattle.dx_model.specs.declared.rules.Rule.{Rule as RuleOf};
+ghost use Rattle.dx_model.specs.Fitting.{AreNumbered};
+ghost use Rattle.dx_model.specs.Solutions.{AtomFits};
+ghost use Rattle.dx_schema.specs.Tables.{model_tables};
 ghost use Rattle.dx_funcs.specs.Serving.{offered};
 ghost use Rattle.dx_stages.specs.Running.{Answers};
+ghost use Rattle.dx_tgd_text.specs.Laws.{IsWhole};
+ghost use Rattle.dx_tgd_text.specs.Reading.{IsNarrow};
 ghost use Rattle.clio_accept.specs.Accepting.{taking};
-ghost use Rattle.clio_accept.specs.declared.fault.AcceptFault.{AcceptFault as AcceptFaultOf};
+ghost use Rattle.clio_accept.specs.Mapping.{AreClosings, IsNarrowClosing, IsTooWide, TooWide, WidthRefused};
+ghost use Rattle.clio_accept.specs.declared.fault.AcceptFault.TheVariants.{Memory};
 
-use crate::fault::{AcceptFault, MapFault};
+use crate::fault::AcceptFault;
 use dx_candidates::kept;
+use dx_closing::{CloseFault, close};
 use dx_funcs::{Host, Meaning};
 use dx_line_text::read_lines;
 use dx_model::Rule;
-use dx_ports::limits::{LINES, RULES};
+use dx_ports::limits::{LINES, OCCURRENCES, RULES};
 use dx_ports::{Count, Items, Limit, Text};
 use dx_schema::Schema;
 use dx_schema_text::{LineText, RuleText};
+use dx_tgd_text::read_rules;
 use std::alloc::{AllocError, Global};
 
-/// The rules that lines between two schemas stand for.
+// The closing of a hand-written rule. Refused is a premise or a closed conclusion of more than 64 atoms.
+fn closed(alloc: Global, rule: Rule, target: &Schema) -> Result<Rule, AcceptFault>
+    requires fits { Each rule.conclusion (AtomFits (model_tables target.now)) }
+    requires numbered { AreNumbered rule.conclusion }
+    ensures { MatchResult result (IsNarrowClosing (model_tables target.now) rule) (λ e. (e ≡ Memory) ⊎ (IsTooWide (model_tables target.now) rule × (e ≡ TooWide))) }
+{
+    let wide = AcceptFault::Limit(Limit {
+        what: Count::Occurrences,
+        number: OCCURRENCES,
+    });
+    if rule.premise.len() > OCCURRENCES {
+        return Err(wide);
+    }
+    match close(alloc, rule, target) {
+        Ok(rule) => Ok(rule),
+        Err(CloseFault::TooWide) => Err(wide),
+        Err(CloseFault::Memory) => Err(AcceptFault::Memory),
+    }
+}
+
+// The closings of hand-written rules, after those that there are. Refused is one that is too wide.
+fn push_closed(
+    alloc: Global,
+    written: Vec<Rule>,
+    target: &Schema,
+    rules: &mut Vec<Rule>,
+) -> Result<(), AcceptFault>
+    requires fits { Each written.items (λ d. Each d.conclusion (AtomFits (model_tables target.now))) }
+    requires numbered { Each written.items (λ d. AreNumbered d.conclusion) }
+    ensures closings { OnOk result ((E : List RuleOf) × AreClosings (model_tables target.now) written.items E × (rules.new.items ≡ rules.old.items ++ E)) }
+    ensures wide { IfErr result (λ e. (e ≡ Memory) ⊎ WidthRefused (model_tables target.now) written.items e) }
+{
+    for rule in written {
+        rules.push(closed(alloc, rule, target)?)?;
+    }
+    Ok(())
+}
+
+/// The rules that lines between two schemas stand for, and after them the closed hand-written rules.
 pub(crate) fn rules_between<F, M>(
     alloc: Global,
     lines: &[LineText],
@@ -28,6 +76,8 @@ pub(crate) fn rules_between<F, M>(
 where
     F: Fn(u32, &Items<Text>) -> Result<Text, AllocError>,
     M: Meaning,
+    requires whole { Each by_hand.now IsWhole }
+    requires narrow { Each by_hand.now IsNarrow }
     ensures { Answers AcceptFault.Memory (taking (offered host.now))
         (record { source = source.now; target = target.now; lines = lines.now; by_hand = by_hand.now }) result }
 {
@@ -37,11 +87,10 @@ where
             number: LINES,
         }));
     }
-    if !by_hand.is_empty() {
-        return Err(AcceptFault::Mapping(MapFault::NotYet));
-    }
     let lines = read_lines(alloc, lines, source, target, host)?;
-    let rules = kept(alloc, lines.items(), source, target)?;
+    let written = read_rules(alloc, by_hand, source, target, host)?;
+    let mut rules = kept(alloc, lines.items(), source, target)?;
+    push_closed(alloc, written, target, &mut rules)?;
     if rules.len() as u64 > RULES {
         return Err(AcceptFault::Limit(Limit {
             what: Count::Rules,

@@ -1,5 +1,5 @@
 -- The mapping text, fetched and accepted.
-use Rattle.std.proofs.Common.{◌≡◌, ◌≤◌, ℕ, List, length, subst, sym, Result, Ok, Err}
+use Rattle.std.proofs.Common.{◌≡◌, ◌<◌, ◌≤◌, ◌-◌, ◌^◌, ℕ, List, length, subst, sym, Result, Ok, Err, arith}
 use Rattle.std.specs.Prelude.{codes}
 use Rattle.dx_ports.specs.declared.file.Count.TheVariants.{TextBytes}
 use Rattle.dx_stages.specs.declared.stop.Stop.{Stop}
@@ -35,11 +35,15 @@ passed P called text bytes r old new is same x g =
     (subst (λ n. Ran (file {A = Unit {0}} n text_bytes absent long) (tt {0}) (Ok text) old new) is x)
     (ran_value (saying mapping_refusal (accepting P.list)) text r new (subst (λ v. Gives (saying mapping_refusal (accepting P.list)) v r) same g))
 
+-- the file of a mapping text is far smaller than a text may be
+pub is_small : (text : List ℕ) → length text ≤ text_bytes → length text < 2 ^ 32 - 1
+is_small text few = omega (arith, few)
+
 -- a mapping that was read fits
 pub mapping_fits : (P : Program) (M : Mapping) (old new : Told) → Ran (mapping_stages P) (tt {0}) (Ok M) old new → MappingFits P.list M
 mapping_fits P M old new x =
     let p = ran_passes (mapping_stages P) (tt {0}) M old new x in
-    accepted_fits P.list p.0 p.1.0 M p.1.2
+    accepted_fits P.list p.0 p.1.0 M (is_small p.1.0 p.1.1.1) p.1.2
 
 -- a text that was fetched is within the limit
 pub within : (called text bytes : List ℕ) (old new : Told) → bytes ≡ text → Ran (file {A = Unit {0}} called text_bytes absent long) (tt {0}) (Ok text) old new → length bytes ≤ text_bytes

@@ -9,7 +9,7 @@ use Rattle.dx_stages.specs.Worlds.{World}
 use Rattle.dx_stages.specs.Stages.{Stage, next}
 use Rattle.dx_stages.specs.Laws.{AreApart, AsksOnly}
 use Rattle.dx_stages.proofs.Decided.{apart_by, each_only}
-use Rattle.clio_accept.specs.Accepting.{Between, accepting, accepting_said, between_of, by_hand, limits, line_count, naming, rule_count, rules, said_by, said_rules, source_sets, taking, target_names, target_sets}
+use Rattle.clio_accept.specs.Accepting.{Between, accepting, accepting_said, between_of, closing, limits, line_count, naming, rule_count, said_by, said_rules, source_sets, taking, target_names, target_sets, writing}
 use Rattle.clio_source.specs.Source.{at_start, csv_name, reading, source_stages}
 use Rattle.clio_source.proofs.Runs.{asks_own}
 use Rattle.clio_top.specs.Running.{Program, form, mapping_stages, rows_stages, target_stages}
@@ -25,11 +25,10 @@ next_silent s t p q c a n (inr h) = q c h.0 n h.2
 
 taking_silent : (list : List Conversion) → IsSilent (taking list)
 taking_silent list =
-    next_silent line_count (next by_hand (next (naming list) (next (limits list) (next (rule_count list) (rules list))))) (λ c a n h. h)
-    (next_silent by_hand (next (naming list) (next (limits list) (next (rule_count list) (rules list)))) (λ c a n h. h)
-    (next_silent (naming list) (next (limits list) (next (rule_count list) (rules list))) (λ c a n h. h)
-    (next_silent (limits list) (next (rule_count list) (rules list)) (λ c a n h. h)
-    (next_silent (rule_count list) (rules list) (λ c a n h. h) (λ c a n h. h)))))
+    next_silent line_count (next (naming list) (next (writing list) (next (limits list) (next (closing list) rule_count)))) (λ c a n h. h)
+    (next_silent (naming list) (next (writing list) (next (limits list) (next (closing list) rule_count))) (λ c a n h. h)
+    (next_silent (writing list) (next (limits list) (next (closing list) rule_count)) (λ c a n h. h)
+    (next_silent (limits list) (next (closing list) rule_count) (λ c a n h. h) (next_silent (closing list) rule_count (λ c a n h. h) (λ c a n h. h)))))
 
 pub accepting_silent : (list : List Conversion) → IsSilent (accepting list)
 accepting_silent list =

@@ -37,7 +37,7 @@ use Rattle.clio_top.specs.Ending.{AreAlike, exchange_refusal, mapping_refusal, s
 use Rattle.clio_top.specs.Promises.{RefusedOrPlanned}
 use Rattle.clio_top.specs.Running.{IsNotYet, IsPlanOf, Program, asked, exchange_stages, form, mapping_file, mapping_stages, named_stage, rows_stages, run_stages, saying_words, show_stages, shown_plan, stages_of, target_stages, text_bytes}
 use Rattle.clio_top.specs.Words.{or_usage, says}
-use Rattle.clio_top.proofs.Mappings.{absent, long}
+use Rattle.clio_top.proofs.Mappings.{absent, is_small, long}
 use Rattle.clio_top.proofs.Plans.{facts_wide, files_fit, rules_fit}
 
 alike : (e : Refusal) → AreAlike e e
@@ -136,7 +136,7 @@ FitsList P M = MappingFits P.list M
 
 exchange_decided : (P : Program) → IsDecided AreAlike Any (exchange_stages P)
 exchange_decided P =
-    next_decided AreAlike Any (FitsList P) (mapping_stages P) (next form (next rows_stages (target_stages P))) (mapping_one P) (λ c a M g p. accepted_fits P.list c p.0 M p.2) (mapping_decided P)
+    next_decided AreAlike Any (FitsList P) (mapping_stages P) (next form (next rows_stages (target_stages P))) (mapping_one P) (λ c a M g p. accepted_fits P.list c p.0 M (is_small p.0 p.1.1) p.2) (mapping_decided P)
     (next_decided AreAlike (FitsList P) (IsReady P) form (next rows_stages (target_stages P)) form_one ready (form_decided (FitsList P))
     (next_decided AreAlike (IsReady P) (AreReady P) rows_stages (target_stages P) rows_one rows_ready (rows_decided (IsReady P)) (target_decided P)))
   where

@@ -1,3 +1,4 @@
+use Rattle.std.proofs.Common.{arith}
 use Rattle.dx_funcs.specs.Serving.{offered}
 use Rattle.dx_stages.specs.Running.{Answers}
 use Rattle.dx_stages.proofs.Running.{answers_next, as_error}
@@ -5,6 +6,7 @@ use Rattle.clio_accept.specs.declared.fault.AcceptFault.TheVariants.{Memory}
 use Rattle.clio_accept.specs.Mapping.{text_refusal}
 use Rattle.clio_accept.specs.Accepting.{accepting, accepting_said, said_by}
 use Rattle.clio_accept.proofs.Refused.{by_text}
+use Rattle.dx_tgd_text.proofs.Written.{texts_have_whole_rules}
 use Rattle.clio_accept.proofs.Few.{few_rules}
 use Rattle.clio_accept.proofs.accepting.accept.Goals as goal
 
@@ -19,6 +21,12 @@ accept_said-requires-clause-source g c = (few_rules c.args.text.now c.in_ok-said
 
 pub accept_said-requires-clause-target : goal.accept_said-requires-clause-target
 accept_said-requires-clause-target g c = (few_rules c.args.text.now c.in_ok-said.said c.requires c.in_ok-said.ensures.mapping).1
+
+pub accept_said-requires-clause-whole : goal.accept_said-requires-clause-whole
+accept_said-requires-clause-whole g c r m = (texts_have_whole_rules c.args.text.now c.in_ok-said.said c.in_ok-said.ensures.mapping r m).0
+
+pub accept_said-requires-clause-narrow : goal.accept_said-requires-clause-narrow
+accept_said-requires-clause-narrow g c r m = let few = (texts_have_whole_rules c.args.text.now c.in_ok-said.said c.in_ok-said.ensures.mapping r m).1 in omega (arith, few, c.requires)
 
 pub returns : goal.returns
 returns g c =

@@ -1,20 +1,18 @@
-use Rattle.std.proofs.Common.{◌≡◌, ◌⊎◌, ◌<◌, ◌≤◌, ◌∙◌, List, [], length, None, ap, arith, subst, sym}
-use Rattle.dx_ports.specs.declared.file.Limit.{Limit}
-use Rattle.dx_model.specs.declared.rules.Rule.{Rule}
+use Rattle.std.proofs.Common.{◌≡◌, ◌<◌, ◌≤◌, length, arith}
 use Rattle.dx_funcs.specs.Serving.{offered}
 use Rattle.dx_stages.specs.Running.{Answers}
 use Rattle.dx_stages.proofs.Running.{as_error}
 use Rattle.clio_accept.specs.declared.fault.AcceptFault.TheVariants.{Memory}
-use Rattle.clio_accept.specs.Mapping.{limit_of, limit_refusal, rules_of, text_refusal}
+use Rattle.clio_accept.specs.Mapping.{limit_refusal, text_refusal}
 use Rattle.clio_accept.specs.Accepting.{Between, taking}
-use Rattle.clio_accept.proofs.LineRules.{by_hand_stops, count_stops, is_empty, limit_stops, naming_stops, not_empty}
+use Rattle.clio_accept.proofs.LineRules.{AreRead, all_rules, count_stops, limit_stops, naming_stops, rules_taken, width_stops, writing_stops}
 use Rattle.clio_accept.proofs.lines.rules_between.Goals as goal
 
-pub returns-then-not-is_empty : goal.returns-then-not-is_empty
-returns-then-not-is_empty g c =
-    let b : Between = record { source = c.args.source.now; target = c.args.target.now; lines = c.args.lines.now; by_hand = c.args.by_hand.now } in
-    let few : length b.lines ≤ 512 = omega (arith, c.if-lines-gt-LINES.false) in
-    by_hand_stops (offered c.args.host.now) b few (not_empty b.by_hand c.is_empty.result c.is_empty.ensures c.if-not-is_empty.true)
+pub push_closed-requires-clause-fits : goal.push_closed-requires-clause-fits
+push_closed-requires-clause-fits g c d m = (c.in_ok-written.ensures.fit c.requires.whole d m).conclusion
+
+pub push_closed-requires-clause-numbered : goal.push_closed-requires-clause-numbered
+push_closed-requires-clause-numbered g c d m = (c.in_ok-written.ensures.fit c.requires.whole d m).rule.existentials
 
 pub returns-in_err-lines : goal.returns-in_err-lines
 returns-in_err-lines g c =
@@ -22,8 +20,16 @@ returns-in_err-lines g c =
     let b : Between = record { source = c.args.source.now; target = c.args.target.now; lines = c.args.lines.now; by_hand = c.args.by_hand.now } in
     let fault = c.in_err-lines.field-0.0 in
     let few : length b.lines ≤ 512 = omega (arith, c.if-lines-gt-LINES.false) in
-    let none = is_empty b.by_hand c.is_empty.result c.is_empty.ensures c.if-not-is_empty.false in
-    as_error _ (text_refusal fault) (Answers Memory (taking list) b) c.from_residual.ensures.1 (naming_stops list b fault few none c.in_err-lines.ensures.fault)
+    as_error _ (text_refusal fault) (Answers Memory (taking list) b) c.from_residual.ensures.1 (naming_stops list b fault few c.in_err-lines.ensures.fault)
+
+pub returns-in_err-written : goal.returns-in_err-written
+returns-in_err-written g c =
+    let list = offered c.args.host.now in
+    let b : Between = record { source = c.args.source.now; target = c.args.target.now; lines = c.args.lines.now; by_hand = c.args.by_hand.now } in
+    let fault = c.in_err-written.field-0.0 in
+    let few : length b.lines ≤ 512 = omega (arith, c.if-lines-gt-LINES.false) in
+    as_error _ (text_refusal fault) (Answers Memory (taking list) b) c.from_residual-in_err-written.ensures.1
+    (writing_stops list b fault few c.in_ok-lines.ensures.none c.in_err-written.ensures.fault)
 
 pub returns-in_err-rules : goal.returns-in_err-rules
 returns-in_err-rules g c =
@@ -31,16 +37,38 @@ returns-in_err-rules g c =
     let b : Between = record { source = c.args.source.now; target = c.args.target.now; lines = c.args.lines.now; by_hand = c.args.by_hand.now } in
     let fault = c.in_err-rules.field-0.0 in
     let few : length b.lines ≤ 512 = omega (arith, c.if-lines-gt-LINES.false) in
-    let none = is_empty b.by_hand c.is_empty.result c.is_empty.ensures c.if-not-is_empty.false in
+    let r : AreRead list b = record { few = few; named = c.in_ok-lines.ensures.none; written = c.in_ok-written.ensures.none } in
     as_error _ (limit_refusal fault) (Answers Memory (taking list) b) c.from_residual-in_err-rules.ensures.1
-    (limit_stops list b fault few none c.in_ok-lines.ensures.none (rw (c.items.ensures, c.in_ok-lines.ensures.lines) at c.in_err-rules.ensures.fault))
+    (limit_stops list b fault r (rw (c.items.ensures, c.in_ok-lines.ensures.lines) at c.in_err-rules.ensures.fault))
+
+pub returns-in_err-push_closed : goal.returns-in_err-push_closed
+returns-in_err-push_closed g c =
+    let list = offered c.args.host.now in
+    let b : Between = record { source = c.args.source.now; target = c.args.target.now; lines = c.args.lines.now; by_hand = c.args.by_hand.now } in
+    let fault = c.in_err-push_closed.field-0.0 in
+    let few : length b.lines ≤ 512 = omega (arith, c.if-lines-gt-LINES.false) in
+    let r : AreRead list b = record { few = few; named = c.in_ok-lines.ensures.none; written = c.in_ok-written.ensures.none } in
+    as_error _ fault (Answers Memory (taking list) b) c.from_residual-in_err-push_closed.ensures.1
+    (width_stops list b c.in_ok-written.written.items fault r (rw (c.items.ensures, c.in_ok-lines.ensures.lines) at c.in_ok-rules.ensures.passed_none) c.in_ok-written.ensures.rules c.in_err-push_closed.ensures.wide)
 
 pub returns-then-len-gt-RULES : goal.returns-then-len-gt-RULES
 returns-then-len-gt-RULES g c =
     let list = offered c.args.host.now in
     let b : Between = record { source = c.args.source.now; target = c.args.target.now; lines = c.args.lines.now; by_hand = c.args.by_hand.now } in
     let few : length b.lines ≤ 512 = omega (arith, c.if-lines-gt-LINES.false) in
-    let none = is_empty b.by_hand c.is_empty.result c.is_empty.ensures c.if-not-is_empty.false in
-    let are : c.in_ok-rules.rules.items ≡ rules_of list b.source b.target b.lines = rw (c.items.ensures, c.in_ok-lines.ensures.lines) at c.in_ok-rules.ensures.rules in
-    let many : 256 < length (rules_of list b.source b.target b.lines) = subst (λ (r : List Rule). 256 < length r) are (omega (arith, c.len.ensures, c.if-len-gt-RULES.true)) in
-    count_stops list b few none c.in_ok-lines.ensures.none (rw (c.items.ensures, c.in_ok-lines.ensures.lines) at c.in_ok-rules.ensures.passed_none) many
+    let r : AreRead list b = record { few = few; named = c.in_ok-lines.ensures.none; written = c.in_ok-written.ensures.none } in
+    let e = c.in_ok-push_closed.ensures.closings in
+    let all = all_rules list b c.in_ok-written.written.items c.in_ok-rules.rules.items e.0 c.push_closed.new.rules.items c.in_ok-written.ensures.rules
+    (rw (c.items.ensures, c.in_ok-lines.ensures.lines) at c.in_ok-rules.ensures.rules) e.1 e.2 in
+    count_stops list b c.push_closed.new.rules.items r (rw (c.items.ensures, c.in_ok-lines.ensures.lines) at c.in_ok-rules.ensures.passed_none) all (omega (arith, c.len.ensures, c.if-len-gt-RULES.true))
+
+pub returns : goal.returns
+returns g c =
+    let list = offered c.args.host.now in
+    let b : Between = record { source = c.args.source.now; target = c.args.target.now; lines = c.args.lines.now; by_hand = c.args.by_hand.now } in
+    let few : length b.lines ≤ 512 = omega (arith, c.if-lines-gt-LINES.false) in
+    let r : AreRead list b = record { few = few; named = c.in_ok-lines.ensures.none; written = c.in_ok-written.ensures.none } in
+    let e = c.in_ok-push_closed.ensures.closings in
+    let all = all_rules list b c.in_ok-written.written.items c.in_ok-rules.rules.items e.0 c.push_closed.new.rules.items c.in_ok-written.ensures.rules
+    (rw (c.items.ensures, c.in_ok-lines.ensures.lines) at c.in_ok-rules.ensures.rules) e.1 e.2 in
+    rw c.from_vec.ensures (rules_taken list b c.push_closed.new.rules.items r (rw (c.items.ensures, c.in_ok-lines.ensures.lines) at c.in_ok-rules.ensures.passed_none) all (omega (arith, c.len.ensures, c.if-len-gt-RULES.false)))
