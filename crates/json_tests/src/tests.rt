@@ -1,0 +1,4 @@
+// Tests of calls over documents.
+mod nested;
+mod sets;
+mod shredded;
