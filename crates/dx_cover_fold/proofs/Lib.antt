@@ -4,3 +4,4 @@ pub mod IndexFacts
 pub mod CoverFacts
 pub mod Numbers
 pub mod FoldFacts
+pub mod Uncovering

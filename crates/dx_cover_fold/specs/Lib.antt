@@ -1,3 +1,4 @@
 pub mod Matched
 pub mod Found
 pub mod Folding
+pub mod Laws

@@ -2,8 +2,8 @@
 //!
 //! `cover_fold` gives the null map of `dx_model`'s specs/Covers over matches: a null of a covered place becomes what the cover
 //! fold makes of the value that its least cover gives it, and the others stay (specs/Folding). The places that cover are
-//! found by an index of the rows that a rule's cells say at its places, one for each used cell map; a rule whose places are
-//! all covered looks no further.
+//! found by an index of the rows that a rule's cells say at its places, one for each used cell map. The law `fold_uncovers`:
+//! the image of the canonical instance under the cover fold is its uncovered part.
 #![tactic(auto)]
 
 mod covering;
@@ -11,7 +11,9 @@ mod folding;
 mod found;
 mod images;
 mod index;
+mod laws;
 mod nulls;
 mod rows_said;
 
 pub use folding::cover_fold;
+pub use laws::fold_uncovers;

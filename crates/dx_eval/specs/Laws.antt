@@ -1,0 +1,30 @@
+-- What holds of runs of scripts.
+use Rattle.std.specs.Prelude.{◌≡◌, ℕ, List}
+use Rattle.dx_ports.specs.Members.{◌≈◌}
+use Rattle.dx_model.specs.declared.facts.Fact.{Fact}
+use Rattle.dx_model.specs.Values.{Text, Tuple, Rows}
+use Rattle.dx_schema.specs.Names.{Named}
+use Rattle.dx_instance.specs.Stored.{facts}
+use Rattle.dx_script.specs.declared.form.Step.{Step}
+use Rattle.dx_script.specs.Meaning.{Means}
+use Rattle.dx_eval.specs.declared.made.Made.{Made}
+use Rattle.dx_eval.specs.declared.fault.EvalFault.{EvalFault}
+use Rattle.dx_eval.specs.Evaluating.{AreMatchTables, IsMade, PassesLimit, tuples_of}
+
+-- two runs of a script on the same rows have the same matches and the same facts
+abbrev pub RunsAgree : Type 0
+RunsAgree =
+    (source target : List Named) (call : Text → Tuple → Text) (steps : List Step) (I : List Fact) (limit : ℕ) (m n : Made)
+    → IsMade source target call steps I limit m → IsMade source target call steps I limit n → (tuples_of m.matches ≡ tuples_of n.matches) × (facts m.instance ≈ facts n.instance)
+
+-- a script that makes something within a limit doesn't pass it
+abbrev pub MadeOrTooMany : Type 0
+MadeOrTooMany =
+    (source target : List Named) (call : Text → Tuple → Text) (steps : List Step) (I : List Fact) (limit : ℕ) (m : Made) (e : EvalFault)
+    → IsMade source target call steps I limit m → ¬ (PassesLimit source call steps I limit e)
+
+-- the match tables of a script are those of its meaning
+abbrev pub TablesOfMeaning : Type 0
+TablesOfMeaning =
+    (source target : List Named) (call : Text → Tuple → Text) (steps : List Step) (I : List Fact) (tables others : Rows) (K : List Fact)
+    → Means source target call steps I tables K → AreMatchTables source call steps I others → tables ≡ others
