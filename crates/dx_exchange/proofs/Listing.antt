@@ -35,7 +35,8 @@ gives : (m : List NullPair) → IsNullMap m → (n : NullId) → becomes (listin
 gives [] d n = ap (or_itself n) (finite.get-empty null_cmp n)
 gives (p ∷ m) d n =
     let f = differs p.null p.value d.0 in
-    let e = rw f at becomes_set (listing m) p.null p.value n in
+    let b = becomes_set (listing m) p.null p.value n in
+    let e = rw f at b in
     e ∙ ap (cond (same_null p.null n) p.value) (gives m d.2 n)
 
 pub same_given : (m : List NullPair) → IsNullMap m → given (pairs_of (listing m)) ≡ given m
@@ -54,18 +55,20 @@ empty_entries = no_entries _ (sym (finite.len-entries (finite.empty {X = Value} 
 from_put : (k : NullId) (v : Value) (es : List (NullId × Value)) (x : NullId × Value) → x ∈ put null_cmp k v es → ((x.0 ≡ k) × (x.1 ≡ v)) ⊎ (x ∈ es)
 from_put k v [] x (here e) = inl (ap (λ (y : NullId × Value). y.0) (sym e), ap (λ (y : NullId × Value). y.1) (sym e))
 from_put k v [] x (there m) = elim m [ ]
-from_put k v (e ∷ es) x h = by (null_cmp k e.0) refl h
+from_put k v (e ∷ es) x h = by (from_put k v es x) (null_cmp k e.0) refl h
   where
-    rest : x ∈ put null_cmp k v es → ((x.0 ≡ k) × (x.1 ≡ v)) ⊎ (x ∈ (e ∷ es))
-    rest m = elim (from_put k v es x m) [ inl l ↦ inl l | inr r ↦ inr (there r) ]
+    later : ((x.0 ≡ k) × (x.1 ≡ v)) ⊎ (x ∈ es) → ((x.0 ≡ k) × (x.1 ≡ v)) ⊎ (x ∈ (e ∷ es))
+    later (inl l) = inl l
+    later (inr r) = inr (there r)
 
-    by : (o : Ordering) → null_cmp k e.0 ≡ o → x ∈ by_order o ((k, v) ∷ e ∷ es) ((e.0, v) ∷ es) (e ∷ put null_cmp k v es) → ((x.0 ≡ k) × (x.1 ≡ v)) ⊎ (x ∈ (e ∷ es))
-    by Less q (here i) = inl (ap (λ (y : NullId × Value). y.0) (sym i), ap (λ (y : NullId × Value). y.1) (sym i))
-    by Less q (there m) = inr m
-    by Equal q (here i) = inl (ap (λ (y : NullId × Value). y.0) (sym i) ∙ sym (null_exact k e.0 q), ap (λ (y : NullId × Value). y.1) (sym i))
-    by Equal q (there m) = inr (there m)
-    by Greater q (here i) = inr (here i)
-    by Greater q (there m) = rest m
+    by : (x ∈ put null_cmp k v es → ((x.0 ≡ k) × (x.1 ≡ v)) ⊎ (x ∈ es)) → (o : Ordering) → null_cmp k e.0 ≡ o → x ∈ by_order o ((k, v) ∷ e ∷ es) ((e.0, v) ∷ es) (e ∷ put null_cmp k v es)
+        → ((x.0 ≡ k) × (x.1 ≡ v)) ⊎ (x ∈ (e ∷ es))
+    by rest Less q (here i) = inl (ap (λ (y : NullId × Value). y.0) (sym i), ap (λ (y : NullId × Value). y.1) (sym i))
+    by rest Less q (there m) = inr m
+    by rest Equal q (here i) = inl (ap (λ (y : NullId × Value). y.0) (sym i) ∙ sym (null_exact k e.0 q), ap (λ (y : NullId × Value). y.1) (sym i))
+    by rest Equal q (there m) = inr (there m)
+    by rest Greater q (here i) = inr (here i)
+    by rest Greater q (there m) = later (rest m)
 
 -- each entry is that of a pair
 from_entries : (m : List NullPair) (x : NullId × Value) → x ∈ finite.entries (listing m) → (p : NullPair) × (p ∈ m) × (x.0 ≡ p.null) × (x.1 ≡ p.value)

@@ -1,5 +1,5 @@
 -- The image of the canonical instance under its forced map is the exchange, if keys hold in it; a clash means that there is none.
-use Rattle.std.proofs.Common.{◌≡◌, ◌⊎◌, ℕ, ◌≤◌, List, [], ◌∷◌, refl, sym, ◌∙◌, ap, subst}
+use Rattle.std.proofs.Common.{◌≡◌, ◌⊎◌, ℕ, ◌≤◌, List, [], ◌∷◌, inl, inr, refl, sym, ◌∙◌, ap, subst}
 use Rattle.std.specs.Prelude.{map}
 use Rattle.dx_ports.specs.Members.{◌∈◌, ◌⊆◌, ◌≈◌, Each}
 use Rattle.dx_model.specs.declared.values.NullId.{NullId}
@@ -20,12 +20,17 @@ use Rattle.dx_instance.specs.Images.{IsImage}
 use Rattle.dx_instance.specs.NullMaps.{pairs_of}
 use Rattle.dx_instance.specs.Stored.{TableRows, facts, rows_of, widths}
 use Rattle.dx_keys.specs.declared.answers.Clash.{Clash as ClashOf}
-use Rattle.dx_keys.specs.Answers.{IsClash, determination_at, fact_in}
+use Rattle.dx_keys.specs.declared.fault.ChaseFault.{ChaseFault}
+use Rattle.dx_keys.specs.declared.fault.ChaseFault.TheVariants as chase
+use Rattle.dx_keys.specs.Answers.{IsClash, IsFaultOf, determination_at, fact_in}
+use Rattle.dx_stages.specs.Worlds.{World}
 use Rattle.dx_tgd.specs.Counting.{canonical_cells, rows_in}
 use Rattle.dx_exchange.specs.declared.mode.Mode.{Mode}
 use Rattle.dx_exchange.specs.declared.mode.Mode.TheVariants.{Plain}
 use Rattle.dx_exchange.specs.declared.result.Exchange.{Exchange}
-use Rattle.dx_exchange.specs.Exchanging.{Asked, HasClash, IsExchange, IsOfMode}
+use Rattle.dx_exchange.specs.declared.fault.ExFault.TheVariants as faults
+use Rattle.dx_exchange.specs.Faults.{of_chase}
+use Rattle.dx_exchange.specs.Exchanging.{Asked, HasClash, HasNone, IsExchange, IsOfMode}
 
 -- what is known of an exchange that is made: its matches, a forced map of an instance with the canonical instance's facts, and the image
 pub record MadeOf (convert : Conversions) (a : Asked) (I : List TableRows) (e : Exchange) : Type 0 where
@@ -128,3 +133,9 @@ has_clash convert a rows A c are few s k =
       clash = clash;
       no_solution = no_solution convert a rows are clash.none;
     }
+
+-- a fault of the chase of an instance with the canonical instance's facts is one of the exchange
+pub chase_refused : (convert : Conversions) (a : Asked) (rows : Rows) (I : List TableRows) (f : ChaseFault) → AreRows convert a.rules a.rows rows → canonical_cells a.rules rows ≤ a.limit → facts I ≈ canonical 0 a.rules rows → IsFaultOf a.schema I f
+    → (of_chase f ≡ faults.Memory) ⊎ (World → HasNone convert a (of_chase f))
+chase_refused convert a rows I (chase.Clash c) are few same k = inr (λ world. has_clash convert a rows (facts I) c are few same.0 k)
+chase_refused convert a rows I chase.Memory are few same k = inl refl

@@ -10,4 +10,4 @@ pub mod Plans
 pub mod Built
 pub mod Steps
 pub mod Ascending
-mod Founds
+pub mod Founds
