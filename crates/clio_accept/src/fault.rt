@@ -24,7 +24,7 @@ pub enum MapFault {
     Target(SchemaKind),
     /// A target set has this name, which a file of clio's own has.
     Reserved(Text),
-    /// The mapping is to be exchanged and has a key or sets for which more is to be built.
+    /// The mapping is to be exchanged and a source set has inner sets, which CSV files don't say.
     NotYet,
 }
 
