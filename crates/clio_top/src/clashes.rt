@@ -119,13 +119,11 @@ pub(crate) fn clash_text(
 ) -> Result<String, AllocError>
     ensures { IfOk result (λ s. string_bytes s ≡ codes "clash: " ++ clash_text clash.now table.now key.now column.now) }
 {
-    let mut out = format!(in alloc; "clash: table {table}, key (")?;
-    push_names(key, &mut out)?;
-    out.push_str("): ")?;
-    push_text(&clash.left, clash.column, &mut out)?;
-    out.push_str(" and ")?;
-    push_text(&clash.right, clash.column, &mut out)?;
-    out.push_str(" in column ")?;
-    out.push_str(column.as_str())?;
-    Ok(out)
+    let mut names = String::new(alloc);
+    push_names(key, &mut names)?;
+    let mut left = String::new(alloc);
+    push_text(&clash.left, clash.column, &mut left)?;
+    let mut right = String::new(alloc);
+    push_text(&clash.right, clash.column, &mut right)?;
+    format!(in alloc; "clash: table {table}, key ({names}): {left} and {right} in column {column}")
 }

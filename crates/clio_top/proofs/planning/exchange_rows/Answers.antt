@@ -14,11 +14,11 @@ exchange-requires-clause-fits g c =
     let P : Program = record { list = offered c.args.host.now; apply = g.M.Meaning.apply } in
     rw c.items-rules.ensures (rules_fit P c.args.mapping.now c.requires.fits)
 
-pub returns-in-Err-Clash : goal.returns-in-Err-Clash
-returns-in-Err-Clash g c =
+pub returns-in_ok-named_clash-in-Err-Clash : goal.returns-in_ok-named_clash-in-Err-Clash
+returns-in_ok-named_clash-in-Err-Clash g c =
     let clash = c.in-Err-Clash.clash in
-    answer_refuses faults.Memory (exchange_refusal c.args.mapping.now.target) (exchanging g.M.Meaning.apply) (asked (c.args.mapping.now, c.args.rows.now)) c.exchange.result (faults.Clash clash) c.in_ok-named_clash.field-0
-    (c.in-Err-Clash.is ∙ ap Err c.in-Err-Clash.field-0-is) (λ e. cc) c.in_ok-named_clash.ensures (rw c.items-rules.ensures at c.exchange.ensures)
+    answer_refuses faults.Memory (exchange_refusal c.args.mapping.now.target) (exchanging g.M.Meaning.apply) (asked (c.args.mapping.now, c.args.rows.now)) c.exchange.result (faults.Clash clash) c.in_ok-named_clash-in-Err-Clash.field-0
+    (c.in-Err-Clash.is ∙ ap Err c.in-Err-Clash.field-0-is) (λ e. cc) c.in_ok-named_clash-in-Err-Clash.ensures (rw c.items-rules.ensures at c.exchange.ensures)
 
 pub returns-in-Err-Limit : goal.returns-in-Err-Limit
 returns-in-Err-Limit g c =
