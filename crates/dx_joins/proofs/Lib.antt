@@ -10,6 +10,7 @@ mod Numbers
 mod Pairing
 mod Patterns
 mod Places
+mod Reordering
 pub mod Translating
 mod Wanting
 pub mod Whole

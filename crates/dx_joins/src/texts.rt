@@ -9,8 +9,8 @@ ghost use Rattle.dx_instance.specs.Stored.{facts, widths};
 ghost use Rattle.dx_instance.specs.Shown.{PartsFit, shown_tables};
 ghost use Rattle.dx_joins.specs.Shown.{ArePatterns, FitsMatching, IsPattern, IsShown, MoreTuples, StandFor, is_text};
 
+use crate::order::ordered_rows;
 use crate::pattern::Pattern;
-use crate::premise::premise_rows;
 use dx_instance::{Numbers, Rows, Value};
 use dx_model::{Atom, Cell};
 use std::alloc::{AllocError, Global};
@@ -86,5 +86,5 @@ pub(crate) fn premise_shown(
 {
     let patterns = patterns_of(alloc, premise)?;
     let marks = marks_of(alloc, source)?;
-    premise_rows(alloc, &patterns, shown, &marks, source, most)
+    ordered_rows(alloc, patterns, shown, &marks, source, most)
 }

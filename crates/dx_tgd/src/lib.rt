@@ -7,6 +7,7 @@
 //! The law `nulls_have_places`: each null of the canonical instance names a rule and a place that are there.
 //!
 //! Matches are rows of numbers from beginning to end (`found`); each text is copied once, for the tuple that is answered.
+//! The other calls on rules are named here too: closing a rule, printing it, and whether an instance satisfies rules, keys and links.
 #![tactic(auto)]
 
 mod builder;
@@ -23,6 +24,9 @@ mod planning;
 mod texts;
 mod variables;
 
+pub use dx_closing::{CloseFault, close};
+pub use dx_holds::{Room, keys_hold, links_hold, satisfied};
+pub use dx_rule_text::print_rule;
 pub use fault::CanonFault;
 pub use laws::nulls_have_places;
 pub use made::Made;

@@ -6,24 +6,24 @@ use Rattle.dx_joins.specs.Shown.{is_text, ArePatterns}
 use Rattle.dx_joins.proofs.Translating.{result_shown, some_patterns, all_fit, all_known, few_variables}
 use Rattle.dx_joins.proofs.texts.premise_shown.Goals as goal
 
-pub premise_rows-requires-clause-some : goal.premise_rows-requires-clause-some
-premise_rows-requires-clause-some c = rw c.deref.ensures.value (some_patterns c.args.premise.now c.in_ok-patterns.patterns.items c.requires.fits.some c.in_ok-patterns.ensures)
+pub ordered_rows-requires-clause-some : goal.ordered_rows-requires-clause-some
+ordered_rows-requires-clause-some c = (some_patterns c.args.premise.now c.in_ok-patterns.patterns.items c.requires.fits.some c.in_ok-patterns.ensures)
 
-pub premise_rows-requires-clause-fit : goal.premise_rows-requires-clause-fit
-premise_rows-requires-clause-fit c = rw c.deref.ensures.value (all_fit c.args.source.now.symbols c.args.source.now.tables c.args.premise.now c.in_ok-patterns.patterns.items c.requires.fits.wide c.requires.fits.plain c.in_ok-patterns.ensures)
+pub ordered_rows-requires-clause-fit : goal.ordered_rows-requires-clause-fit
+ordered_rows-requires-clause-fit c = (all_fit c.args.source.now.symbols c.args.source.now.tables c.args.premise.now c.in_ok-patterns.patterns.items c.requires.fits.wide c.requires.fits.plain c.in_ok-patterns.ensures)
 
-pub premise_rows-requires-clause-few : goal.premise_rows-requires-clause-few
-premise_rows-requires-clause-few c = rw c.deref.ensures.value (few_variables c.args.premise.now c.in_ok-patterns.patterns.items c.in_ok-patterns.ensures c.requires.fits.plain c.requires.fits.few)
+pub ordered_rows-requires-clause-few : goal.ordered_rows-requires-clause-few
+ordered_rows-requires-clause-few c = (few_variables c.args.premise.now c.in_ok-patterns.patterns.items c.in_ok-patterns.ensures c.requires.fits.plain c.requires.fits.few)
 
-pub premise_rows-requires-clause-shown : goal.premise_rows-requires-clause-shown
-premise_rows-requires-clause-shown c = rw c.deref.ensures.value (all_known c.args.premise.now c.in_ok-patterns.patterns.items c.args.shown.now c.in_ok-patterns.ensures c.requires.fits.numbered c.requires.fits.known)
+pub ordered_rows-requires-clause-shown : goal.ordered_rows-requires-clause-shown
+ordered_rows-requires-clause-shown c = (all_known c.args.premise.now c.in_ok-patterns.patterns.items c.args.shown.now c.in_ok-patterns.ensures c.requires.fits.numbered c.requires.fits.known)
 
-pub premise_rows-requires-clause-marks : goal.premise_rows-requires-clause-marks
-premise_rows-requires-clause-marks c = ap length (c.deref-2.ensures.value ∙ c.in_ok-marks.ensures.marks) ∙ length-map c.args.source.now.symbols is_text
+pub ordered_rows-requires-clause-marks : goal.ordered_rows-requires-clause-marks
+ordered_rows-requires-clause-marks c = ap length (c.deref.ensures.value ∙ c.in_ok-marks.ensures.marks) ∙ length-map c.args.source.now.symbols is_text
 
 pub returns : goal.returns
 returns c = λ convert.
     let ps = c.in_ok-patterns.patterns.items in
     let known = all_known c.args.premise.now ps c.args.shown.now c.in_ok-patterns.ensures c.requires.fits.numbered c.requires.fits.known in
-    result_shown c.args.source.now.symbols c.args.source.now.tables c.marks_of.ensures.fit c.args.premise.now ps c.args.shown.now c.requires.fits.plain c.in_ok-patterns.ensures known convert c.deref-2.result.now c.args.most c.premise_rows.result
-    (c.deref-2.ensures.value ∙ c.in_ok-marks.ensures.marks) (rw c.deref.ensures.value at c.premise_rows.ensures)
+    result_shown c.args.source.now.symbols c.args.source.now.tables c.marks_of.ensures.fit c.args.premise.now ps c.args.shown.now c.requires.fits.plain c.in_ok-patterns.ensures known convert c.deref.result.now c.args.most c.ordered_rows.result
+    (c.deref.ensures.value ∙ c.in_ok-marks.ensures.marks) c.ordered_rows.ensures

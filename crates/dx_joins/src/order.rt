@@ -1,0 +1,89 @@
+// The order in which patterns are joined.
+ghost use Rattle.std.specs.Prelude.{◌≡◌, ◌↔◌, ◌<◌, ◌≤◌, ◌^◌, [], IfOk, IsPermutation, List, MatchOption, length, ℕ};
+ghost use Rattle.dx_ports.specs.Members.{◌∈◌, ◌⊆◌, Each};
+ghost use Rattle.dx_joins.specs.Collecting.{MoreThan};
+ghost use Rattle.dx_joins.specs.Joining.{variables_of};
+ghost use Rattle.dx_joins.specs.Planning.{FitPattern, IsTold, Told};
+
+use crate::known::Known;
+use crate::pattern::Pattern;
+use crate::premise::premise_rows;
+use dx_instance::{Numbers, Rows};
+use std::alloc::{AllocError, Global};
+
+// How many rows a pattern may stand for, after all others if it shares no variable with those before it.
+fn cost(pattern: &Pattern, known: &Known, source: &Numbers) -> u64
+    requires { FitPattern source.now.tables pattern.now }
+{
+    let rows = u64::from(source.count(pattern.table));
+    if known.meets(pattern) {
+        rows
+    } else {
+        rows.saturating_add(u64::from(u32::MAX))
+    }
+}
+
+// The place, from `first` on, of a pattern with the least cost.
+fn cheapest(patterns: &[Pattern], first: usize, known: &Known, source: &Numbers) -> usize
+    requires fit { Each patterns.now (FitPattern source.now.tables) }
+    requires first { first < length patterns.now }
+    ensures { result < length patterns.now }
+{
+    let mut best = first;
+    let mut least = cost(&patterns[first], known, source);
+    for place in first + 1..patterns.len() {
+        let next = cost(&patterns[place], known, source);
+        if next < least {
+            least = next;
+            best = place;
+        }
+    }
+    best
+}
+
+// The same patterns: always one next that shares a variable with those before it, if there is one, of the smallest table.
+fn in_order(
+    alloc: Global,
+    patterns: Vec<Pattern>,
+    source: &Numbers,
+) -> Result<Vec<Pattern>, AllocError>
+    requires { Each patterns.items (FitPattern source.now.tables) }
+    ensures { IfOk result (λ v. IsPermutation patterns.items v.items) }
+{
+    let mut patterns = patterns;
+    let mut known = Known::none(alloc, &patterns)?;
+    for place in 0..patterns.len() {
+        let next = cheapest(&patterns, place, &known, source);
+        patterns.swap(place, next);
+        known.add(&patterns[place]);
+    }
+    Ok(patterns)
+}
+
+/// The numbers that the matches of a premise give to the variables, ascending and each row once. None if there are more
+/// rows than are wanted. The patterns are joined in an order in which as few rows as can be foreseen come of them.
+///
+/// # Errors
+///
+/// `AllocError` if there is no memory, or a table of partial matches has more rows than have numbers.
+pub(crate) fn ordered_rows(
+    alloc: Global,
+    patterns: Vec<Pattern>,
+    shown: &[u32],
+    marks: &[bool],
+    source: &Numbers,
+    most: u64,
+) -> Result<Option<Rows>, AllocError>
+    requires some { ¬ (patterns.items ≡ []) }
+    requires fit { Each patterns.items (FitPattern source.now.tables) }
+    requires few { length (variables_of patterns.items) < 2 ^ 32 }
+    requires shown { shown.now ⊆ variables_of patterns.items }
+    requires wide { length shown.now < 2 ^ 32 }
+    requires marks { length marks.now ≡ length source.now.symbols }
+    ensures { IfOk result (λ o. MatchOption o
+        (MoreThan most (IsTold source.now.tables marks.now patterns.items shown.now))
+        (λ r. Told source.now.tables marks.now patterns.items shown.now r)) }
+{
+    let ordered = in_order(alloc, patterns, source)?;
+    premise_rows(alloc, &ordered, shown, marks, source, most)
+}
