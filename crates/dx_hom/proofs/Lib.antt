@@ -3,3 +3,4 @@ pub mod Narrowing
 pub mod Reading
 pub mod Steps
 pub mod Placing
+pub mod Marks

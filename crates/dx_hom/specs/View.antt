@@ -1,5 +1,5 @@
 -- Facts by their places, and facts that are taken out.
-use Rattle.std.specs.Prelude.{ℕ, Bool, true, false, List, [], slice_index_or, slice_set}
+use Rattle.std.specs.Prelude.{ℕ, Bool, true, false, List, [], length, map, replicate, slice_index_or, slice_set}
 use Rattle.dx_model.specs.declared.facts.Fact.{Fact}
 use Rattle.dx_instance.specs.Stored.{TableRows}
 use Rattle.dx_instance.specs.Places.{row_at}
@@ -15,3 +15,7 @@ gone_at gone t p = slice_index_or (slice_index_or gone t []) p false
 -- the marks with one more place taken out
 abbrev pub marked : List (List Bool) → ℕ → ℕ → List (List Bool)
 marked gone t p = slice_set gone t (slice_set (slice_index_or gone t []) p true)
+
+-- a mark for each fact of an instance, none of them taken out
+abbrev pub all_there : List TableRows → List (List Bool)
+all_there I = map (λ (t : TableRows). replicate (length t.rows) false) I

@@ -1,8 +1,9 @@
 // Facts that are taken out of an instance.
-ghost use Rattle.std.specs.Prelude.{◌≡◌, ◌<◌, [], length, slice_index_or};
-ghost use Rattle.dx_hom.specs.View.{gone_at, marked};
+ghost use Rattle.std.specs.Prelude.{◌≡◌, ◌<◌, [], IfOk, length, slice_index_or};
+ghost use Rattle.dx_hom.specs.View.{all_there, gone_at, marked};
 
-use std::alloc::Global;
+use dx_instance::Instance;
+use std::alloc::{AllocError, Global};
 use std::marker::Model;
 
 /// Which facts of an instance are taken out.
@@ -27,6 +28,22 @@ impl Gone {
         Gone {
             tables: Vec::new(alloc),
         }
+    }
+
+    /// None, with a mark for each fact of the instance, so that each of them can be taken out.
+    ///
+    /// # Errors
+    ///
+    /// `AllocError` if there is no memory.
+    pub fn none_of(alloc: Global, instance: &Instance) -> Result<Gone, AllocError>
+        ensures { IfOk result (λ g. g ≡ all_there instance.now) }
+    {
+        let mut tables = Vec::new(alloc);
+        for table in 0..instance.tables() {
+            let marks = vec![in alloc; false; instance.count(table) as usize]?;
+            tables.push(marks)?;
+        }
+        Ok(Gone { tables })
     }
 
     /// Whether the fact at this place is taken out.

@@ -1,0 +1,9 @@
+pub mod Connections
+pub mod Trees
+pub mod Sorting
+pub mod NullLists
+pub mod Labelling
+pub mod Placing
+pub mod Filling
+pub mod BlockParts
+pub mod BlockLaws

@@ -1,0 +1,30 @@
+use Rattle.dx_blocks.proofs.Labelling.{known, fact_joined, fact_passed, all_joined}
+use Rattle.dx_blocks.proofs.labels.join_all.Goals as goal
+use Rattle.dx_blocks.proofs.labels.join_all.Goals.{in-Some, in_default}
+
+pub first_place-requires-clause-known : goal.first_place-requires-clause-known
+first_place-requires-clause-known c =
+    rw c.items-row.ensures
+    (known c.args.facts.now c.args.nulls.now c.loop-fact.fact-index c.fact-item.result c.requires.nulls
+    c.loop-fact-test.true c.fact-item.is)
+
+pub join_row-requires-clause-known : goal.join_row-requires-clause-known
+join_row-requires-clause-known c =
+    rw c.items-row.ensures
+    (known c.args.facts.now c.args.nulls.now c.loop-fact.fact-index c.fact-item.result c.requires.nulls
+    c.loop-fact-test.true c.fact-item.is)
+
+pub loop-fact-preserved : goal.loop-fact-preserved
+loop-fact-preserved c = elim c.match-first_place.branch [
+  | in-Some w ↦ rw w.parents-is
+      (fact_joined c.args.facts.now c.args.nulls.now c.args.parents.now c.loop-fact.parents c.loop-fact.fact-index c.fact-item.result
+      c.loop-fact-test.true c.fact-item.is c.loop-fact.invariant w.join_row.new.parents (rw c.items-row.ensures at w.join_row.ensures))
+  | in_default w ↦ rw w.parents-is
+      (fact_passed c.args.facts.now c.args.nulls.now c.args.parents.now c.loop-fact.parents c.loop-fact.fact-index c.fact-item.result
+      c.loop-fact-test.true c.fact-item.is c.loop-fact.invariant (rw c.items-row.ensures at w.in_default.ensures.none))
+]
+
+pub returns : goal.returns
+returns c =
+    all_joined c.args.facts.now c.args.nulls.now c.loop-fact.fact-index c.args.parents.now c.loop-fact.parents
+    c.loop-fact-test.false c.loop-fact.invariant

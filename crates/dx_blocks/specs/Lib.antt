@@ -1,0 +1,5 @@
+pub mod Blocks
+pub mod Nulls
+pub mod Forest
+pub mod Labels
+pub mod Laws

@@ -1,0 +1,11 @@
+pub mod CoreParts
+pub mod Cores
+pub mod Kept
+pub mod Listed
+pub mod Mapped
+pub mod Marked
+pub mod Passed
+pub mod Spared
+pub mod Standing
+pub mod Tried
+pub mod Whole

@@ -1,0 +1,1 @@
+use Rattle.dx_core.proofs.reducing.index_all.Goals as goal

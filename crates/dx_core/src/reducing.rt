@@ -1,0 +1,63 @@
+// The reduction to a core.
+ghost use Rattle.std.specs.Prelude.{◌≡◌, IfOk, OnOk};
+ghost use Rattle.dx_ports.specs.Members.{Each};
+ghost use Rattle.dx_core.specs.Reducing.{IsReduction};
+ghost use Rattle.dx_core.specs.Sparing.{HasRoom};
+
+use crate::leaving::instance_left;
+use crate::mapping::map_into;
+use crate::reduced::Reduced;
+use crate::sparing::spare_blocks;
+use dx_blocks::{Block, blocks};
+use dx_hom::{Gone, Search};
+use dx_instance::Instance;
+use std::alloc::{AllocError, Global};
+
+// Makes an index of each column.
+fn index_all(instance: &mut Instance) -> Result<(), AllocError>
+    ensures { OnOk result (instance.new ≡ instance.old) }
+{
+    for table in 0..instance.tables() {
+        for column in 0..instance.width(table) {
+            instance.index(table, column)?;
+        }
+    }
+    Ok(())
+}
+
+// Room for a search of the largest of these blocks.
+fn room_for(alloc: Global, blocks: &[Block]) -> Result<Search, AllocError>
+    ensures { IfOk result (λ search. Each blocks.now (HasRoom search)) }
+{
+    let mut facts = 0u64;
+    let mut nulls = 0u64;
+    for block in blocks {
+        facts = facts.max(block.facts.len());
+        nulls = nulls.max(block.nulls.len());
+    }
+    match (u32::try_from(facts), u32::try_from(nulls)) {
+        (Ok(facts), Ok(nulls)) => Search::reserve(alloc, facts, nulls),
+        _ => Err(AllocError),
+    }
+}
+
+/// The reduction of an instance: a part of it that is its image under the map, and a core.
+///
+/// # Errors
+///
+/// `AllocError` if there is no memory, or there are more facts or nulls than have numbers.
+pub fn reduce(alloc: Global, instance: Instance) -> Result<Reduced, AllocError>
+    ensures { IfOk result (IsReduction instance) }
+{
+    let mut sorted = instance.into_sorted()?;
+    index_all(&mut sorted)?;
+    let blocks = blocks(alloc, &sorted)?;
+    let mut search = room_for(alloc, &blocks)?;
+    let mut gone = Gone::none_of(alloc, &sorted)?;
+    let changed = spare_blocks(alloc, &mut search, blocks, &sorted, &mut gone)?;
+    let map = map_into(alloc, &mut search, &changed, &sorted, &gone)?;
+    Ok(Reduced {
+        instance: instance_left(alloc, &sorted, &gone)?,
+        map,
+    })
+}

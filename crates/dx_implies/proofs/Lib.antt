@@ -1,0 +1,6 @@
+pub mod Plain
+pub mod Cells
+pub mod Near
+pub mod Pruned
+pub mod Premises
+pub mod Answered

@@ -1,0 +1,4 @@
+pub mod Frozen
+pub mod Pruning
+pub mod Laws
+pub mod Near

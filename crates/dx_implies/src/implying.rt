@@ -1,0 +1,105 @@
+// Whether a rule follows from others.
+ghost use Rattle.std.specs.Prelude.{◌≡◌, ◌↔◌, ◌<◌, ◌-◌, ◌^◌, ◌∷◌, [], ℕ, IfErr, IfOk, IsTrue, OnOk, length};
+ghost use Rattle.dx_ports.specs.Members.{◌∈◌, Each};
+ghost use Rattle.dx_model.specs.declared.values.Value.{Value as AnyValue};
+ghost use Rattle.dx_model.specs.declared.rules.Rule.{Rule as RuleOf};
+ghost use Rattle.dx_model.specs.Fitting.{AtomsFitWidths, RuleFits};
+ghost use Rattle.dx_model.specs.Following.{Follows, IsClean, frozen_text, underived};
+ghost use Rattle.dx_model.specs.Rules.{said};
+ghost use Rattle.dx_model.specs.Values.{Conversions};
+ghost use Rattle.dx_schema.specs.Tables.{model_tables};
+ghost use Rattle.dx_instance.specs.Stored.{facts, widths};
+ghost use Rattle.dx_implies.specs.Frozen.{IsRefusal, PassesFrozen};
+
+use crate::freezing::{frozen_rule_of, frozen_with};
+use crate::host::NoConversions;
+use crate::nearby::near_rules;
+use crate::prefixes::{marks, marks_in};
+use crate::refusing::told_as_frozen;
+use dx_funcs::Host;
+use dx_holds::{Room, satisfied};
+use dx_instance::Instance;
+use dx_model::{Places, Rule};
+use dx_ports::{Items, Text};
+use dx_schema::Schema;
+use dx_tgd::{CanonFault, canonical_plain};
+use std::alloc::{AllocError, Global};
+use std::slice::from_ref;
+
+/// Whether the conclusion of the rule stands in the instance, with the texts of its variables and some values of its
+/// existential variables.
+fn has_conclusion(
+    alloc: Global,
+    rule: &Rule,
+    prefix: &Text,
+    instance: &Instance,
+) -> Result<bool, AllocError>
+    requires { AtomsFitWidths (widths instance.now) rule.now.conclusion }
+    ensures { IfOk result (λ b. IsTrue b ↔ ((values : ℕ → AnyValue) × Each rule.now.conclusion (λ a. said (frozen_text prefix.now) values a ∈ facts instance.now))) }
+{
+    let conclusion = frozen_rule_of(alloc, rule, prefix)?;
+    let mut tuples = Items::new(alloc);
+    tuples.push(Items::new(alloc))?;
+    let place = Places { tuples };
+    let mut room = Room::reserve(alloc, from_ref(&conclusion))?;
+    Ok(satisfied(&conclusion, &place, instance, &mut room))
+}
+
+/// Whether the rule follows from those of the others that have no derived variables. The prefix is one with which no literal
+/// begins.
+pub(crate) fn follows(
+    alloc: Global,
+    rule: &Rule,
+    others: &[Rule],
+    prefix: &Text,
+    source: &Schema,
+    target: &Schema,
+    limit: u64,
+) -> Result<bool, CanonFault>
+    requires fits { Each (rule.now ∷ others.now) (RuleFits (model_tables source.now) (model_tables target.now)) }
+    requires clean { Each (rule.now ∷ others.now) (IsClean prefix.now) }
+    requires plain { rule.now.derived ≡ [] }
+    requires few { length others.now < 2 ^ 32 - 1 }
+    requires limit { limit < 2 ^ 32 - 1 }
+    ensures follows { IfOk result (λ b. (convert : Conversions) → IsTrue b ↔ Follows convert (underived others.now) rule.now) }
+    ensures within { OnOk result (¬ (PassesFrozen limit (underived others.now) rule.now)) }
+    ensures refused { IfErr result (IsRefusal limit (PassesFrozen limit (underived others.now) rule.now)) }
+{
+    let host: Host<_, NoConversions> = Host::build(
+        Items::new(alloc),
+        |_code: u32, _texts: &Items<Text>| Err(AllocError),
+    );
+    let premise = frozen_with(alloc, rule, prefix, source)?;
+    let near = near_rules(alloc, others, &premise)?;
+    match canonical_plain(alloc, near.as_slice(), &premise, &host, target, limit) {
+        Ok(made) => Ok(has_conclusion(alloc, rule, prefix, &made.instance)?),
+        Err(fault) => Err(told_as_frozen(fault)),
+    }
+}
+
+/// Whether a rule follows from others, none of which has derived variables: each two instances that satisfy the others satisfy it.
+///
+/// # Errors
+///
+/// `Limit` exactly if the canonical cells of the others on the frozen premise of the rule are more than the limit. `Memory` at any
+/// point.
+pub fn implied(
+    alloc: Global,
+    rule: &Rule,
+    others: &[Rule],
+    source: &Schema,
+    target: &Schema,
+    limit: u64,
+) -> Result<bool, CanonFault>
+    requires fits { Each (rule.now ∷ others.now) (RuleFits (model_tables source.now) (model_tables target.now)) }
+    requires plain { Each (rule.now ∷ others.now) (λ (d : RuleOf). d.derived ≡ []) }
+    requires few { length others.now < 2 ^ 32 - 1 }
+    requires limit { limit < 2 ^ 32 - 1 }
+    ensures follows { IfOk result (λ b. (convert : Conversions) → IsTrue b ↔ Follows convert others.now rule.now) }
+    ensures within { OnOk result (¬ (PassesFrozen limit others.now rule.now)) }
+    ensures refused { IfErr result (IsRefusal limit (PassesFrozen limit others.now rule.now)) }
+{
+    let most = marks_in(others, marks_in(from_ref(rule), 0));
+    let prefix = marks(alloc, most + 1)?;
+    follows(alloc, rule, others, &prefix, source, target, limit)
+}
