@@ -1,5 +1,6 @@
 -- The instance of the facts that are left.
-use Rattle.std.proofs.Common.{◌≡◌, ◌∙◌, ℕ, zero, suc, ◌+◌, ◌<◌, ◌≤◌, ◌-◌, ◌^◌, Bool, true, false, List, [], ◌∷◌, ◌++◌, refl, sym, ap, subst, arith, length, get_or, map, inl, inr, Result, Ok, Err}
+use Rattle.std.proofs.Common.{◌≡◌, ◌∙◌, ℕ, zero, suc, ◌+◌, ◌<◌, ◌≤◌, ◌-◌, ◌^◌, Bool, true, false, List, [], ◌∷◌, ◌++◌, refl, sym, ap}
+use Rattle.std.proofs.Common.{subst, arith, length, get_or, map, inl, inr, Result, Ok, Err}
 use Rattle.std.specs.Prelude.{IfOk}
 use Rattle.std.specs.declared.alloc.AllocError.{AllocError}
 use Rattle.std.proofs.lemmas.Bool.{cases_eq, true≢false}
@@ -34,7 +35,8 @@ module _ (gone : List (List Bool)) (t : ℕ) (old : NumberTable) where
   left_start w new e d = rw d (record { width = e; few = omega arith; kept = λ p h. absurd (omega arith); only = λ row m. elim m [ ] })
 
   module _ (i : ℕ) (new : NumberTable) (k : AreLeftTo gone t old i new) where
-    pub left_more : (more : NumberTable) (row : List ℕ) → gone_at gone t i ≡ false → row ≡ numbers_at old.rows i → more ≡ with_numbers new row → AreLeftTo gone t old (i + 1) more
+    pub left_more : (more : NumberTable) (row : List ℕ) → gone_at gone t i ≡ false → row ≡ numbers_at old.rows i
+        → more ≡ with_numbers new row → AreLeftTo gone t old (i + 1) more
     left_more more row g e d = rw d (record {
       width = k.width;
       few = omega (arith, length-append new.rows (row ∷ []), k.few);
@@ -53,7 +55,10 @@ module _ (gone : List (List Bool)) (t : ℕ) (old : NumberTable) where
     left_out g = record {
       width = k.width;
       few = omega (arith, k.few);
-      kept = λ p h f. elim (cases_eq p i) [ inl q ↦ absurd (true≢false (sym g ∙ (ap (gone_at gone t) (sym q) ∙ f))) | inr n ↦ k.kept p (omega arith) f ];
+      kept = λ p h f. elim (cases_eq p i) [
+        | inl q ↦ absurd (true≢false (sym g ∙ (ap (gone_at gone t) (sym q) ∙ f)))
+        | inr n ↦ k.kept p (omega arith) f
+      ];
       only = λ r m. let w = k.only r m in (w.0, omega (arith, w.1), w.2, w.3);
     }
 
@@ -78,7 +83,8 @@ module _ (gone : List (List Bool)) (all : List NumberTable) where
   pub tables_start : (new : List NumberTable) → new ≡ [] → AreTablesLeft gone all 0 new
   tables_start new e = rw e (record { many = refl; each = λ t h. absurd (omega arith) })
 
-  pub tables_more : (n : ℕ) (old new : List NumberTable) (rows : NumberTable) → new ≡ old ++ rows ∷ [] → AreRowsLeft gone n (numbers_of_table all n) rows → AreTablesLeft gone all n old
+  pub tables_more : (n : ℕ) (old new : List NumberTable) (rows : NumberTable) → new ≡ old ++ rows ∷ []
+      → AreRowsLeft gone n (numbers_of_table all n) rows → AreTablesLeft gone all n old
       → AreTablesLeft gone all (n + 1) new
   tables_more n old new rows e r k = rw e (record {
     many = length_push old rows ∙ ap (λ i. i + 1) k.many;
@@ -88,12 +94,14 @@ module _ (gone : List (List Bool)) (all : List NumberTable) where
     ];
   })
 
-  pub all_left : (n : ℕ) (new : List NumberTable) (end : ℕ) → end ≡ length all → n ≤ end → end ≤ n → AreTablesLeft gone all n new → AreTablesLeft gone all (length all) new
+  pub all_left : (n : ℕ) (new : List NumberTable) (end : ℕ) → end ≡ length all → n ≤ end → end ≤ n → AreTablesLeft gone all n new
+      → AreTablesLeft gone all (length all) new
   all_left n new end e h l k =
       let is : n ≡ length all = omega (arith, e, h, l) in
       rw (← is) k
 
-module _ (S : List Value) (I : List TableRows) (gone : List (List Bool)) (all new : List NumberTable) (view : shown_tables S all ≡ I) (parts : PartsFit S all)
+module _ (S : List Value) (I : List TableRows) (gone : List (List Bool)) (all new : List NumberTable) (view : shown_tables S all ≡ I)
+    (parts : PartsFit S all)
     (k : AreTablesLeft gone all (length all) new) where
   tables_many : length all ≡ length I
   tables_many = sym (length-map all (shown S)) ∙ ap length view
@@ -110,7 +118,8 @@ module _ (S : List Value) (I : List TableRows) (gone : List (List Bool)) (all ne
       let f = old_fits c.0 h in
       rw (← e) (record {
         columns = rw r.width f.columns;
-        within = λ row i. let w = r.only row i in rw (← w.3) (f.within (numbers_at (numbers_of_table all c.0).rows w.0) (in_at (numbers_of_table all c.0).rows w.0 [] w.1));
+        within = λ row i. let w = r.only row i in
+            rw (← w.3) (f.within (numbers_at (numbers_of_table all c.0).rows w.0) (in_at (numbers_of_table all c.0).rows w.0 [] w.1));
       })
 
   pub new_few : length new < 2 ^ 32 - 1
@@ -118,25 +127,39 @@ module _ (S : List Value) (I : List TableRows) (gone : List (List Bool)) (all ne
 
   -- the rows that a table of the new ones shows
   new_shown : (t : ℕ) → t < length new → rows_of (shown_tables S new) t ≡ map (shown_row S) (numbers_of_table new t).rows
-  new_shown t h = ap (λ (u : TableRows). u.rows) (is_shown S new t (numbers_of_table new t) h (other_default new t no_numbers (numbers_of_table new t) h))
+  new_shown t h = ap (λ (u : TableRows). u.rows)
+      (is_shown S new t (numbers_of_table new t) h (other_default new t no_numbers (numbers_of_table new t) h))
 
   -- a row of the instance is shown by its numbers
-  old_shown : (t p : ℕ) → t < length all → p < length (numbers_of_table all t).rows → row_at I t p ≡ shown_row S (numbers_at (numbers_of_table all t).rows p)
+  old_shown : (t p : ℕ) → t < length all → p < length (numbers_of_table all t).rows
+      → row_at I t p ≡ shown_row S (numbers_at (numbers_of_table all t).rows p)
   old_shown t p h b = row_shown S all I t p (numbers_of_table all t) view h (other_default all t no_numbers (numbers_of_table all t) h) b
 
   old_long : (t : ℕ) → t < length all → length (rows_of I t) ≡ length (numbers_of_table all t).rows
   old_long t h =
-      ap (λ (J : List TableRows). length (rows_of J t)) (sym view) ∙ (ap (λ (u : TableRows). length u.rows) (is_shown S all t (numbers_of_table all t) h (other_default all t no_numbers (numbers_of_table all t) h))
+      ap (λ (J : List TableRows). length (rows_of J t)) (sym view)
+      ∙ (ap (λ (u : TableRows). length u.rows)
+      (is_shown S all t (numbers_of_table all t) h (other_default all t no_numbers (numbers_of_table all t) h))
       ∙ length-map (numbers_of_table all t).rows (shown_row S))
 
   from_new : (f : Fact) → f ∈ facts (shown_tables S new) → f ∈ left I gone
   from_new f m =
       let h : f.table < length new = omega (arith, fact_table (shown_tables S new) f m, length-map new (shown S)) in
       let g : f.table < length all = omega (arith, h, k.many) in
-      let q = from_map (shown_row S) (numbers_of_table new f.table).rows (rw (new_shown f.table h) at (row_from_fact (shown_tables S new) f m)) in
+      let q = from_map (shown_row S) (numbers_of_table new f.table).rows
+      (rw (new_shown f.table h) at (row_from_fact (shown_tables S new) f m)) in
       let w = (k.each f.table g).only q.0 q.1 in
       let e : f.row ≡ row_at I f.table w.0 = sym q.2 ∙ (ap (shown_row S) (sym w.3) ∙ sym (old_shown f.table w.0 g w.1)) in
-      to_left I gone f (w.0, omega (arith, g, tables_many), omega (arith, w.1, old_long f.table g), w.2, λ i. record { table = f.table; row = e i })
+      to_left I gone f (
+        w.0,
+        omega (arith, g, tables_many),
+        omega (arith, w.1, old_long f.table g),
+        w.2,
+        λ i. record {
+          table = f.table;
+          row = e i;
+        },
+      )
 
   to_new : (f : Fact) → f ∈ left I gone → f ∈ facts (shown_tables S new)
   to_new f m =
@@ -160,7 +183,8 @@ module _ (S : List Value) (I : List TableRows) (gone : List (List Bool)) (all ne
       ((λ f m. from_new f (w.1 f m)), (λ f m. w.0 f (to_new f m)))
 
   pub new_widths : (K : List TableRows) → IsSorting (shown_tables S new) K → widths K ≡ widths I
-  new_widths K s = s.widths_stay ∙ (same_number_lists (widths (shown_tables S new)) (widths (shown_tables S all)) many each ∙ ap widths view)
+  new_widths K s = s.widths_stay ∙ (same_number_lists (widths (shown_tables S new)) (widths (shown_tables S all)) many each
+      ∙ ap widths view)
     where
       wide : (ts : List NumberTable) (t : ℕ) → get_or (widths (shown_tables S ts)) t 0 ≡ (numbers_of_table ts t).width
       wide [] t = refl
@@ -174,10 +198,12 @@ module _ (S : List Value) (I : List TableRows) (gone : List (List Bool)) (all ne
       many : length (widths (shown_tables S new)) ≡ length (widths (shown_tables S all))
       many = long new ∙ (k.many ∙ sym (long all))
 
-      each : (t : ℕ) → t < length (widths (shown_tables S new)) → get_or (widths (shown_tables S new)) t 0 ≡ get_or (widths (shown_tables S all)) t 0
+      each : (t : ℕ) → t < length (widths (shown_tables S new)) → get_or (widths (shown_tables S new)) t 0 ≡ get_or
+          (widths (shown_tables S all)) t 0
       each t h = wide new t ∙ ((k.each t (omega (arith, h, long new, k.many))).width ∙ sym (wide all t))
 
 -- what an answer has, and so what follows from it
-pub told : {P Q : List TableRows → Type 0} (r : Result (List TableRows) AllocError) → ((K : List TableRows) → P K → Q K) → IfOk r P → IfOk r Q
+pub told : {P Q : List TableRows → Type 0} (r : Result (List TableRows) AllocError) → ((K : List TableRows) → P K → Q K) → IfOk r P
+    → IfOk r Q
 told (Ok K) f p = f K p
 told (Err e) f p = tt

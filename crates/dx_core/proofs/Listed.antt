@@ -1,5 +1,6 @@
 -- Null maps that are made null by null.
-use Rattle.std.proofs.Common.{◌≡◌, ◌∙◌, ◌+◌, ◌<◌, ℕ, List, [], ◌∷◌, ◌++◌, Bool, true, false, cond, refl, sym, ap, subst, inl, inr, length, get_or, take}
+use Rattle.std.proofs.Common.{◌≡◌, ◌∙◌, ◌+◌, ◌<◌, ℕ, List, [], ◌∷◌, ◌++◌, Bool, true, false, cond, refl, sym, ap, subst, inl, inr, length}
+use Rattle.std.proofs.Common.{get_or, take}
 use Rattle.std.specs.Prelude.{Option, Some, None, T, map, ◌&&◌}
 use Rattle.std.specs.FinMap as finite
 use Rattle.std.specs.FinMap.Entries.{below_all, find, is_sorted}
@@ -68,14 +69,16 @@ found (x ∷ es) s e (here i) =
     let q : null_cmp e.0 x.0 ≡ Equal = ap (λ (y : NullId × Value). null_cmp e.0 y.0) i ∙ self e.0 in
     rw q (ap (λ (y : NullId × Value). Some y.1) i)
 found (x ∷ es) s e (there m) = elim (cases_Bool (is_eq (null_cmp e.0 x.0))) [
-  | inl t ↦ absurd (not_among x.0 es (and_first (below_all null_cmp x.0 es) (is_sorted null_cmp es) s) e m (null_exact e.0 x.0 (tie (null_cmp e.0 x.0) t)))
+  | inl t ↦ absurd (not_among x.0 es (and_first (below_all null_cmp x.0 es) (is_sorted null_cmp es) s) e m
+      (null_exact e.0 x.0 (tie (null_cmp e.0 x.0) t)))
   | inr f ↦ rw f (found es (and_second (below_all null_cmp x.0 es) (is_sorted null_cmp es) s) e m)
 ]
 
 got : (m : ByNull) (e : NullId × Value) → e ∈ finite.entries m → finite.get m e.0 ≡ Some e.1
 got m e i = finite.get-entries m e.0 ∙ found (finite.entries m) (finite.entries_sorted m) e i
 
-sorted_map : (es : List (NullId × Value)) → T (is_sorted null_cmp es) → Each es (λ (e : NullId × Value). ¬ (e.1 ≡ Null e.0)) → IsNullMap (map pair_of es)
+sorted_map : (es : List (NullId × Value)) → T (is_sorted null_cmp es) → Each es (λ (e : NullId × Value). ¬ (e.1 ≡ Null e.0))
+    → IsNullMap (map pair_of es)
 sorted_map [] s h = tt
 sorted_map (e ∷ es) s h = (
   h e (here refl),
@@ -129,11 +132,13 @@ pub record AreGiven (other start new : ByNull) (ns : List NullId) : Type 0 where
   pub others : (n : NullId) → ¬ (n ∈ ns) → becomes new n ≡ becomes start n
   pub proper : IsProper start → IsProper new
 
-pub given_more : (other start old new : ByNull) (ns : List NullId) (i : ℕ) (n : NullId) (v : Value) → i < length ns → n ≡ get_or ns i n → v ≡ becomes other n → new ≡ with_value old n v
+pub given_more : (other start old new : ByNull) (ns : List NullId) (i : ℕ) (n : NullId) (v : Value) → i < length ns → n ≡ get_or ns i n
+    → v ≡ becomes other n → new ≡ with_value old n v
     → AreGiven other start old (take i ns) → AreGiven other start new (take (i + 1) ns)
 given_more other start old new ns i n v h e d w a =
     let s : take (i + 1) ns ≡ take i ns ++ n ∷ [] = take_more ns i n h ∙ ap (λ (k : NullId). take i ns ++ k ∷ []) (sym e) in
-    let b : (k : NullId) → becomes new k ≡ cond (same_null n k) v (becomes old k) = λ k. ap (λ (m : ByNull). becomes m k) w ∙ becomes_set old n v k in
+    let b : (k : NullId) → becomes new k ≡ cond (same_null n k) v (becomes old k) = λ k. ap (λ (m : ByNull). becomes m k) w
+    ∙ becomes_set old n v k in
     rw s (record {
       nulls = λ k m. elim (cases_Bool (same_null n k)) [
         | inl t ↦ rw (b k, t) (d ∙ ap (becomes other) (same_null-true n k t))

@@ -1,5 +1,6 @@
 -- A null map that moves an instance into what is left of it, made block by block.
-use Rattle.std.proofs.Common.{◌≡◌, ◌∙◌, ℕ, zero, suc, ◌+◌, ◌<◌, ◌≤◌, arith, List, [], ◌∷◌, ◌⊎◌, inl, inr, refl, sym, ap, subst, length, get_or, drop, Bool}
+use Rattle.std.proofs.Common.{◌≡◌, ◌∙◌, ℕ, zero, suc, ◌+◌, ◌<◌, ◌≤◌, arith, List, [], ◌∷◌, ◌⊎◌, inl, inr, refl, sym, ap, subst, length}
+use Rattle.std.proofs.Common.{get_or, drop, Bool}
 use Rattle.std.specs.Prelude.{None, Option, Some}
 use Rattle.std.specs.FinMap as finite
 use Rattle.std.proofs.lemmas.List.{drop_more}
@@ -36,20 +37,24 @@ use Rattle.dx_core.proofs.Tried.{block_fits, its_fact, its_null, nothing_fixed, 
 -- ---- what a search for a block finds
 
 -- there is always something to be found
-pub reaches_left : (I : List TableRows) (gone : List (List Bool)) (F : List Fact) → F ⊆ facts I → IsReduct (facts I) (left I gone) → Reaches I gone finite.empty None F
+pub reaches_left : (I : List TableRows) (gone : List (List Bool)) (F : List Fact) → F ⊆ facts I → IsReduct (facts I) (left I gone)
+    → Reaches I gone finite.empty None F
 reaches_left I gone F inside r = (
   r.moves.0,
   (λ n x e. nothing_fixed finite.empty n x refl e),
-  λ f i. let w = from_left I gone (fact_moved r.moves.0 f) (r.moves.1 f (inside f i)) in (w.0, record { place = w.2; kept = w.3; other = λ d. apart d }, w.4),
+  λ f i. let w = from_left I gone (fact_moved r.moves.0 f) (r.moves.1 f (inside f i)) in
+      (w.0, record { place = w.2; kept = w.3; other = λ d. apart d }, w.4),
 )
   where
     apart : {f : Fact} → ◌≡◌ {A = Option Fact} None (Some f) → ⊥
     apart d = cc
 
-pub found_moves : (I : List TableRows) (gone : List (List Bool)) (F : List Fact) (found : List Found) (part : ByNull) → ((f : Fact) → f ∈ F → FitsIn I f) → Ends I gone finite.empty None F found
+pub found_moves : (I : List TableRows) (gone : List (List Bool)) (F : List Fact) (found : List Found) (part : ByNull)
+    → ((f : Fact) → f ∈ F → FitsIn I f) → Ends I gone finite.empty None F found
     → ((n : NullId) → given (pairs_of part) n ≡ given (found_pairs I found) n) → Moves (becomes part) F (left I gone)
 found_moves I gone F found part fits ends same f m =
-    let gives = read_gives I finite.empty found (becomes part) ends.good (λ n x e. nothing_fixed finite.empty n x refl e) (λ n i. sym (pairs_give part n) ∙ same n) in
+    let gives = read_gives I finite.empty found (becomes part) ends.good (λ n x e. nothing_fixed finite.empty n x refl e)
+    (λ n i. sym (pairs_give part n) ∙ same n) in
     let s = ends.moves (becomes part) gives f m in
     to_left I gone (fact_moved (becomes part) f) (s.0, (fits f m).table, s.1.place, s.1.kept, s.2)
 
@@ -61,7 +66,8 @@ pub record IsMapped (I : List TableRows) (gone : List (List Bool)) (coming : Lis
   pub moved : (f : Fact) → f ∈ facts I → (fact_moved (becomes m) f ∈ left I gone) ⊎ ((b : Block) × (b ∈ coming) × (f ∈ b.facts))
   pub others : (n : NullId) → (becomes m n ≡ Null n) ⊎ (Null n ∈ values (facts I))
 
-pub mapped_start : (I : List TableRows) (gone : List (List Bool)) (bs : List Block) (m : ByNull) → m ≡ finite.empty → Each (facts I) (IsLeftOrIn (left I gone) bs) → IsMapped I gone bs m
+pub mapped_start : (I : List TableRows) (gone : List (List Bool)) (bs : List Block) (m : ByNull) → m ≡ finite.empty
+    → Each (facts I) (IsLeftOrIn (left I gone) bs) → IsMapped I gone bs m
 mapped_start I gone bs m e rest = record {
   proper = empty_proper m e;
   moved = λ f i. elim (rest f i) [ inl l ↦ inl (rw (fact_stays (becomes m) f (λ n k. stays n)) l) | inr r ↦ inr r ];
@@ -71,15 +77,18 @@ mapped_start I gone bs m e rest = record {
     stays : (n : NullId) → becomes m n ≡ Null n
     stays n = ap (λ (k : ByNull). becomes k n) e ∙ ap (or_itself n) (finite.get-empty null_cmp n)
 
-module _ (I : List TableRows) (gone : List (List Bool)) (room : Room) (b : Block) (t : IsTried I room b) (old new part : ByNull) (given : AreGiven part old new b.nulls) where
+module _ (I : List TableRows) (gone : List (List Bool)) (room : Room) (b : Block) (t : IsTried I room b) (old new part : ByNull)
+    (given : AreGiven part old new b.nulls) where
   -- a fact of the block is moved as the part moves it, and any other as before
   as_part : (f : Fact) → f ∈ b.facts → fact_moved (becomes new) f ≡ fact_moved (becomes part) f
   as_part f m = fact_same (becomes new) (becomes part) f (λ n i. given.nulls n (its_null (facts I) (least b) b t.block f n m i))
 
   as_before : (f : Fact) → f ∈ facts I → ¬ (f ∈ b.facts) → fact_moved (becomes new) f ≡ fact_moved (becomes old) f
-  as_before f m k = fact_same (becomes new) (becomes old) f (λ n i. given.others n (λ j. k (its_fact (facts I) (least b) b t.block f n m i j)))
+  as_before f m k = fact_same (becomes new) (becomes old) f
+      (λ n i. given.others n (λ j. k (its_fact (facts I) (least b) b t.block f n m i j)))
 
-  pub mapped_more : (coming : List Block) → Moves (becomes part) b.facts (left I gone) → IsMapped I gone (b ∷ coming) old → IsMapped I gone coming new
+  pub mapped_more : (coming : List Block) → Moves (becomes part) b.facts (left I gone) → IsMapped I gone (b ∷ coming) old
+      → IsMapped I gone coming new
   mapped_more coming moves k = record {
     proper = given.proper k.proper;
     moved = λ f i. elim (decide_in same_fact f b.facts) [
@@ -101,7 +110,8 @@ next_block bs i b h e = drop_more bs i b h ∙ ap (λ (x : Block). x ∷ drop (i
 
 -- ---- the end
 
-pub none_coming : (I : List TableRows) (gone : List (List Bool)) (bs : List Block) (i : ℕ) (m : ByNull) → length bs ≤ i → IsMapped I gone (drop i bs) m → IsMapped I gone [] m
+pub none_coming : (I : List TableRows) (gone : List (List Bool)) (bs : List Block) (i : ℕ) (m : ByNull) → length bs ≤ i
+    → IsMapped I gone (drop i bs) m → IsMapped I gone [] m
 none_coming I gone bs i m h k = subst (λ (cs : List Block). IsMapped I gone cs m) (drop_past bs i h) k
   where
     drop_past : (xs : List Block) (i : ℕ) → length xs ≤ i → drop i xs ≡ []

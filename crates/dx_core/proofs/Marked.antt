@@ -17,7 +17,8 @@ use Rattle.dx_core.specs.Left.{HasMarks, left, left_below, left_tables}
 
 -- the fact stands at a place that is not taken out
 abbrev pub IsLeft : List TableRows → List (List Bool) → Fact → Type 0
-IsLeft I gone f = (p : ℕ) × (f.table < length I) × (p < length (rows_of I f.table)) × (gone_at gone f.table p ≡ false) × (f ≡ fact_at I f.table p)
+IsLeft I gone f = (p : ℕ) × (f.table < length I) × (p < length (rows_of I f.table)) × (gone_at gone f.table p ≡ false)
+    × (f ≡ fact_at I f.table p)
 
 module _ (I : List TableRows) (gone : List (List Bool)) where
   to_below : (t n p : ℕ) → p < n → gone_at gone t p ≡ false → fact_at I t p ∈ left_below I gone t n
@@ -30,7 +31,8 @@ module _ (I : List TableRows) (gone : List (List Bool)) where
   abbrev StandsBelow : ℕ → ℕ → Fact → Type 0
   StandsBelow t n f = (p : ℕ) × (p < n) × (gone_at gone t p ≡ false) × (f ≡ fact_at I t p)
 
-  first : (t n : ℕ) (f : Fact) → gone_at gone t n ≡ false → (f ∈ left_below I gone t n → StandsBelow t n f) → f ∈ (fact_at I t n ∷ left_below I gone t n) → StandsBelow t (suc n) f
+  first : (t n : ℕ) (f : Fact) → gone_at gone t n ≡ false → (f ∈ left_below I gone t n → StandsBelow t n f)
+      → f ∈ (fact_at I t n ∷ left_below I gone t n) → StandsBelow t (suc n) f
   first t n f b h (here e) = (n, omega arith, b, sym e)
   first t n f b h (there k) = let r = h k in (r.0, omega (arith, r.1), r.2, r.3)
 
@@ -48,7 +50,8 @@ module _ (I : List TableRows) (gone : List (List Bool)) where
     | inr d ↦ in_right (left_below I gone n (length (rows_of I n))) (to_tables n t p (omega arith) k g)
   ]
 
-  from_tables : (n : ℕ) (f : Fact) → f ∈ left_tables I gone n → (t p : ℕ) × (t < n) × (p < length (rows_of I t)) × (gone_at gone t p ≡ false) × (f ≡ fact_at I t p)
+  from_tables : (n : ℕ) (f : Fact) → f ∈ left_tables I gone n → (t p : ℕ) × (t < n) × (p < length (rows_of I t))
+      × (gone_at gone t p ≡ false) × (f ≡ fact_at I t p)
   from_tables zero f m = elim m [ ]
   from_tables (suc n) f m = elim (from_append (left_below I gone n (length (rows_of I n))) m) [
     | inl l ↦ let r = from_below n (length (rows_of I n)) f l in (n, r.0, omega arith, r.1, r.2, r.3)
@@ -58,7 +61,8 @@ module _ (I : List TableRows) (gone : List (List Bool)) where
   pub to_left : (f : Fact) → IsLeft I gone f → f ∈ left I gone
   to_left f w = rw w.4 (to_tables (length I) f.table w.0 w.1 w.2 w.3)
 
-  at_table : (f : Fact) (t p : ℕ) → f.table ≡ t → t < length I → p < length (rows_of I t) → gone_at gone t p ≡ false → f ≡ fact_at I t p → IsLeft I gone f
+  at_table : (f : Fact) (t p : ℕ) → f.table ≡ t → t < length I → p < length (rows_of I t) → gone_at gone t p ≡ false → f ≡ fact_at I t p
+      → IsLeft I gone f
   at_table f t p e h k g d = (p, rw e h, rw e k, rw e g, d ∙ ap (λ i. fact_at I i p) (sym e))
 
   pub from_left : (f : Fact) → f ∈ left I gone → IsLeft I gone f
@@ -92,7 +96,8 @@ whole_reduct I =
     record { inside = left_inside I (all_there I); moves = (r.moves.0, λ f m. whole_left I _ (r.moves.1 f m)) }
 
 -- distinct members stand at different places
-pub one_place : {X : Type 0} (xs : List X) (d : X) (p q : ℕ) → Distinct xs → p < length xs → q < length xs → get_or xs p d ≡ get_or xs q d → p ≡ q
+pub one_place : {X : Type 0} (xs : List X) (d : X) (p q : ℕ) → Distinct xs → p < length xs → q < length xs → get_or xs p d ≡ get_or xs q d
+    → p ≡ q
 one_place [] d p q n h k e = absurd (omega arith)
 one_place (x ∷ xs) d zero zero n h k e = refl
 one_place (x ∷ xs) d zero (suc q) n h k e = absurd (n.0 (rw e (in_at xs q d (omega arith))))
@@ -100,41 +105,45 @@ one_place (x ∷ xs) d (suc p) zero n h k e = absurd (n.0 (rw (← e) (in_at xs 
 one_place (x ∷ xs) d (suc p) (suc q) n h k e = ap suc (one_place xs d p q n.1 (omega arith) (omega arith) e)
 
 -- one more mark
-module _ (I : List TableRows) (gone : List (List Bool)) (t p : ℕ) (has : HasMarks I gone) (h : t < length I) (k : p < length (rows_of I t)) where
-  in_tables : t < length gone
-  in_tables = omega (arith, has.tables)
+module _ (I : List TableRows) (gone : List (List Bool)) (t p : ℕ) (has : HasMarks I gone) (h : t < length I) (k : p < length (rows_of I t))
+  where
+    in_tables : t < length gone
+    in_tables = omega (arith, has.tables)
 
-  in_places : p < length (get_or gone t [])
-  in_places = omega (arith, has.places t h)
+    in_places : p < length (get_or gone t [])
+    in_places = omega (arith, has.places t h)
 
-  marked_there : gone_at (marked gone t p) t p ≡ true
-  marked_there = ap (λ l. get_or l p false) (get_or-set_same gone t (set (get_or gone t []) p true) [] in_tables) ∙ get_or-set_same (get_or gone t []) p true false in_places
+    marked_there : gone_at (marked gone t p) t p ≡ true
+    marked_there = ap (λ l. get_or l p false) (get_or-set_same gone t (set (get_or gone t []) p true) [] in_tables)
+        ∙ get_or-set_same (get_or gone t []) p true false in_places
 
-  marked_else : (u q : ℕ) → ¬ ((u ≡ t) × (q ≡ p)) → gone_at (marked gone t p) u q ≡ gone_at gone u q
-  marked_else u q d = elim (cases_eq u t) [
-    | inl e ↦ let a = get_or-set_same gone t (set (get_or gone t []) p true) [] in_tables in
-        rw e (ap (λ l. get_or l q false) a ∙ get_or-set_other (get_or gone t []) p q true false (λ j. d (e, j)))
-    | inr e ↦ ap (λ l. get_or l q false) (get_or-set_other gone t u (set (get_or gone t []) p true) [] e)
-  ]
+    marked_else : (u q : ℕ) → ¬ ((u ≡ t) × (q ≡ p)) → gone_at (marked gone t p) u q ≡ gone_at gone u q
+    marked_else u q d = elim (cases_eq u t) [
+      | inl e ↦ let a = get_or-set_same gone t (set (get_or gone t []) p true) [] in_tables in
+          rw e (ap (λ l. get_or l q false) a ∙ get_or-set_other (get_or gone t []) p q true false (λ j. d (e, j)))
+      | inr e ↦ ap (λ l. get_or l q false) (get_or-set_other gone t u (set (get_or gone t []) p true) [] e)
+    ]
 
-  pub marks_stay : HasMarks I (marked gone t p)
-  marks_stay = record { tables = tables_stay gone t p ∙ has.tables; places = λ u i. places_stay gone t p u ∙ has.places u i }
+    pub marks_stay : HasMarks I (marked gone t p)
+    marks_stay = record { tables = tables_stay gone t p ∙ has.tables; places = λ u i. places_stay gone t p u ∙ has.places u i }
 
-  pub marked_inside : left I (marked gone t p) ⊆ left I gone
-  marked_inside f m =
-      let r = from_left I (marked gone t p) f m in
-      let other : ¬ ((f.table ≡ t) × (r.0 ≡ p)) = λ w. true≢false (sym marked_there ∙ (ap (λ i. gone_at (marked gone t p) i p) (sym w.0) ∙ (ap (gone_at (marked gone t p) f.table) (sym w.1) ∙ r.3))) in
-      to_left I gone f (r.0, r.1, r.2, sym (marked_else f.table r.0 other) ∙ r.3, r.4)
+    pub marked_inside : left I (marked gone t p) ⊆ left I gone
+    marked_inside f m =
+        let r = from_left I (marked gone t p) f m in
+        let other : ¬ ((f.table ≡ t) × (r.0 ≡ p)) =
+        λ w. true≢false (sym marked_there
+        ∙ (ap (λ i. gone_at (marked gone t p) i p) (sym w.0) ∙ (ap (gone_at (marked gone t p) f.table) (sym w.1) ∙ r.3))) in
+        to_left I gone f (r.0, r.1, r.2, sym (marked_else f.table r.0 other) ∙ r.3, r.4)
 
-  pub marked_kept : (f : Fact) → f ∈ left I gone → ¬ (f ≡ fact_at I t p) → f ∈ left I (marked gone t p)
-  marked_kept f m d =
-      let r = from_left I gone f m in
-      let other : ¬ ((f.table ≡ t) × (r.0 ≡ p)) = λ w. d (r.4 ∙ (ap (λ i. fact_at I i r.0) w.0 ∙ ap (fact_at I t) w.1)) in
-      to_left I (marked gone t p) f (r.0, r.1, r.2, marked_else f.table r.0 other ∙ r.3, r.4)
+    pub marked_kept : (f : Fact) → f ∈ left I gone → ¬ (f ≡ fact_at I t p) → f ∈ left I (marked gone t p)
+    marked_kept f m d =
+        let r = from_left I gone f m in
+        let other : ¬ ((f.table ≡ t) × (r.0 ≡ p)) = λ w. d (r.4 ∙ (ap (λ i. fact_at I i r.0) w.0 ∙ ap (fact_at I t) w.1)) in
+        to_left I (marked gone t p) f (r.0, r.1, r.2, marked_else f.table r.0 other ∙ r.3, r.4)
 
-  pub marked_out : Each I (λ (u : TableRows). Distinct u.rows) → ¬ (fact_at I t p ∈ left I (marked gone t p))
-  marked_out distinct m =
-      let r = from_left I (marked gone t p) (fact_at I t p) m in
-      let d = distinct (table_at I t) (in_at I t (record { width = 0; rows = [] }) h) in
-      let e = one_place (rows_of I t) [] p r.0 d k r.2 (ap (λ (f : Fact). f.row) r.4) in
-      true≢false (sym marked_there ∙ (ap (gone_at (marked gone t p) t) e ∙ r.3))
+    pub marked_out : Each I (λ (u : TableRows). Distinct u.rows) → ¬ (fact_at I t p ∈ left I (marked gone t p))
+    marked_out distinct m =
+        let r = from_left I (marked gone t p) (fact_at I t p) m in
+        let d = distinct (table_at I t) (in_at I t (record { width = 0; rows = [] }) h) in
+        let e = one_place (rows_of I t) [] p r.0 d k r.2 (ap (λ (f : Fact). f.row) r.4) in
+        true≢false (sym marked_there ∙ (ap (gone_at (marked gone t p) t) e ∙ r.3))

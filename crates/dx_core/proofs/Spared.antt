@@ -1,5 +1,6 @@
 -- Facts that are spared, and those that are needed.
-use Rattle.std.proofs.Common.{◌≡◌, ◌∙◌, ℕ, ◌+◌, ◌-◌, ◌<◌, ◌≤◌, Bool, List, [], ◌∷◌, ◌⊎◌, inl, inr, refl, sym, ap, subst, arith, length, get_or, drop}
+use Rattle.std.proofs.Common.{◌≡◌, ◌∙◌, ℕ, ◌+◌, ◌-◌, ◌<◌, ◌≤◌, Bool, List, [], ◌∷◌, ◌⊎◌, inl, inr, refl, sym, ap, subst, arith, length}
+use Rattle.std.proofs.Common.{get_or, drop}
 use Rattle.std.specs.Prelude.{Some}
 use Rattle.std.specs.FinMap as finite
 use Rattle.std.proofs.lemmas.List.{drop_more}
@@ -23,7 +24,8 @@ use Rattle.dx_core.proofs.Marked.{from_left, left_inside, marked_inside, marked_
 use Rattle.dx_core.proofs.Tried.{block_fits, nothing_fixed, of_instance}
 
 -- what each of the last members has, and the one before them has
-pub each_before : {X : Type 0} (P : X → Type 0) (xs : List X) (i : ℕ) (x : X) → 0 < i → i ≤ length xs → x ≡ get_or xs (i - 1) x → Each (drop i xs) P → P x → Each (drop (i - 1) xs) P
+pub each_before : {X : Type 0} (P : X → Type 0) (xs : List X) (i : ℕ) (x : X) → 0 < i → i ≤ length xs → x ≡ get_or xs (i - 1) x
+    → Each (drop i xs) P → P x → Each (drop (i - 1) xs) P
 each_before {X} P xs i x h k e a p y m = first (rw s at m)
   where
     n : i - 1 + 1 ≡ i
@@ -76,9 +78,12 @@ pub record IsTaken (I : List TableRows) (before gone new : List (List Bool)) (b 
   pub needed : Each (drop i b.facts) (NeededIn (left I new))
   pub others : (d : Fact) → d ∈ left I gone → ¬ (d ∈ b.facts) → d ∈ left I new
 
-module _ (I : List TableRows) (before gone : List (List Bool)) (room : Room) (b : Block) (wide : Each I (λ (u : TableRows). Each u.rows (λ (r : List Value). length r ≡ u.width)))
-    (distinct : Each I (λ (u : TableRows). Distinct u.rows)) (t : IsTried I room b) (has : HasMarks I gone) (whole : IsReduct (facts I) (left I before)) (r : IsReduct (left I before) (left I gone))
-    (i : ℕ) (f : Fact) (h : 0 < i) (k : i ≤ length b.facts) (e : f ≡ get_or b.facts (i - 1) f) (n : Each (drop i b.facts) (NeededIn (left I gone))) where
+module _ (I : List TableRows) (before gone : List (List Bool)) (room : Room) (b : Block)
+    (wide : Each I (λ (u : TableRows). Each u.rows (λ (r : List Value). length r ≡ u.width)))
+    (distinct : Each I (λ (u : TableRows). Distinct u.rows)) (t : IsTried I room b) (has : HasMarks I gone)
+    (whole : IsReduct (facts I) (left I before)) (r : IsReduct (left I before) (left I gone))
+    (i : ℕ) (f : Fact) (h : 0 < i) (k : i ≤ length b.facts) (e : f ≡ get_or b.facts (i - 1) f)
+    (n : Each (drop i b.facts) (NeededIn (left I gone))) where
   reduct : IsReduct (facts I) (left I gone)
   reduct = reduct_of_reduct (facts I) (left I before) (left I gone) whole r
 
@@ -87,35 +92,38 @@ module _ (I : List TableRows) (before gone : List (List Bool)) (room : Room) (b 
 
   pub kept : ¬ (Reaches I gone finite.empty (Some f) b.facts) → Each (drop (i - 1) b.facts) (NeededIn (left I gone))
   kept none = each_before (NeededIn (left I gone)) b.facts i f h k e n
-      (λ _. keep_it (facts I) (left I gone) b.facts f reduct (of_instance (facts I) (least b) b t.block) (λ s. none (reaches_from I gone b.facts f s)))
+      (λ _. keep_it (facts I) (left I gone) b.facts f reduct (of_instance (facts I) (least b) b t.block)
+      (λ s. none (reaches_from I gone b.facts f s)))
 
-  module _ (p : ℕ) (q : p < length (rows_of I f.table)) (is : f ≡ fact_at I f.table p) (w : Reaches I gone finite.empty (Some f) b.facts) where
-    there_is : f.table < length I
-    there_is = fact_table I f (of_instance (facts I) (least b) b t.block f m)
+  module _ (p : ℕ) (q : p < length (rows_of I f.table)) (is : f ≡ fact_at I f.table p) (w : Reaches I gone finite.empty (Some f) b.facts)
+    where
+      there_is : f.table < length I
+      there_is = fact_table I f (of_instance (facts I) (least b) b t.block f m)
 
-    without : IsWithout (left I gone) f (left I (marked gone f.table p))
-    without = record {
-      inside = marked_inside I gone f.table p has there_is q;
-      kept = λ d j x. marked_kept I gone f.table p has there_is q d j (λ z. x (z ∙ sym is));
-    }
+      without : IsWithout (left I gone) f (left I (marked gone f.table p))
+      without = record {
+        inside = marked_inside I gone f.table p has there_is q;
+        kept = λ d j x. marked_kept I gone f.table p has there_is q d j (λ z. x (z ∙ sym is));
+      }
 
-    one_less : IsReduct (left I gone) (left I (marked gone f.table p))
-    one_less =
-        take_out (facts I) (left I gone) (left I (marked gone f.table p)) b.facts f reduct (block_closed (facts I) b.facts (least b) t.block.facts) m
-        (spares_from I gone b.facts f (block_fits I room b t wide) w) without
+      one_less : IsReduct (left I gone) (left I (marked gone f.table p))
+      one_less =
+          take_out (facts I) (left I gone) (left I (marked gone f.table p)) b.facts f reduct
+          (block_closed (facts I) b.facts (least b) t.block.facts) m
+          (spares_from I gone b.facts f (block_fits I room b t wide) w) without
 
-    taken_reduct : IsReduct (left I before) (left I (marked gone f.table p))
-    taken_reduct = reduct_of_reduct (left I before) (left I gone) (left I (marked gone f.table p)) r one_less
+      taken_reduct : IsReduct (left I before) (left I (marked gone f.table p))
+      taken_reduct = reduct_of_reduct (left I before) (left I gone) (left I (marked gone f.table p)) r one_less
 
-    taken_needed : Each (drop (i - 1) b.facts) (NeededIn (left I (marked gone f.table p)))
-    taken_needed = each_before (NeededIn (left I (marked gone f.table p))) b.facts i f h k e
-        (λ d j x. needed_stays (left I gone) (left I (marked gone f.table p)) d one_less (n d j (without.inside d x)))
-        (λ j. absurd (marked_out I gone f.table p has there_is q distinct (subst (λ (z : Fact). z ∈ left I (marked gone f.table p)) is j)))
+      taken_needed : Each (drop (i - 1) b.facts) (NeededIn (left I (marked gone f.table p)))
+      taken_needed = each_before (NeededIn (left I (marked gone f.table p))) b.facts i f h k e
+          (λ d j x. needed_stays (left I gone) (left I (marked gone f.table p)) d one_less (n d j (without.inside d x)))
+          (λ j. absurd (marked_out I gone f.table p has there_is q distinct (subst (λ (z : Fact). z ∈ left I (marked gone f.table p)) is j)))
 
-    pub taken : IsTaken I before gone (marked gone f.table p) b (i - 1)
-    taken = record {
-      marks = marks_stay I gone f.table p has there_is q;
-      reduct = taken_reduct;
-      needed = taken_needed;
-      others = λ d j x. without.kept d j (λ z. x (rw z m));
-    }
+      pub taken : IsTaken I before gone (marked gone f.table p) b (i - 1)
+      taken = record {
+        marks = marks_stay I gone f.table p has there_is q;
+        reduct = taken_reduct;
+        needed = taken_needed;
+        others = λ d j x. without.kept d j (λ z. x (rw z m));
+      }

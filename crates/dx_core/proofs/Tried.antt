@@ -1,5 +1,6 @@
 -- What a search tells of a block.
-use Rattle.std.proofs.Common.{◌≡◌, ◌∙◌, ℕ, suc, ◌+◌, ◌<◌, ◌≤◌, Bool, true, false, List, [], ◌∷◌, ◌⊎◌, inl, inr, refl, sym, ap, arith, length}
+use Rattle.std.proofs.Common.{◌≡◌, ◌∙◌, ℕ, suc, ◌+◌, ◌<◌, ◌≤◌, Bool, true, false, List, [], ◌∷◌, ◌⊎◌, inl, inr, refl, sym, ap, arith}
+use Rattle.std.proofs.Common.{length}
 use Rattle.std.specs.Prelude.{◌↔◌, IsTrue, Option, Some, None}
 use Rattle.std.specs.FinMap as finite
 use Rattle.std.proofs.lemmas.Bool.{true≢false}
@@ -59,13 +60,15 @@ pub of_instance : (A : List Fact) (n : NullId) (b : Block) → IsBlockOf A n b �
 of_instance A n b is f m = ((is.facts f).0 m).0
 
 -- the nulls of a block's facts are its nulls
-pub its_null : (A : List Fact) (n : NullId) (b : Block) → IsBlockOf A n b → (f : Fact) (k : NullId) → f ∈ b.facts → Null k ∈ f.row → k ∈ b.nulls
+pub its_null : (A : List Fact) (n : NullId) (b : Block) → IsBlockOf A n b → (f : Fact) (k : NullId) → f ∈ b.facts → Null k ∈ f.row
+    → k ∈ b.nulls
 its_null A n b is f k m i =
     let w = (is.facts f).0 m in
     (is.nulls k).1 (in_flat_map (λ (e : Fact). e.row) w.0 i, onward f w.2 w.0 w.3 i)
 
 -- a fact of the instance with one of its nulls is its fact
-pub its_fact : (A : List Fact) (n : NullId) (b : Block) → IsBlockOf A n b → (f : Fact) (k : NullId) → f ∈ A → Null k ∈ f.row → k ∈ b.nulls → f ∈ b.facts
+pub its_fact : (A : List Fact) (n : NullId) (b : Block) → IsBlockOf A n b → (f : Fact) (k : NullId) → f ∈ A → Null k ∈ f.row → k ∈ b.nulls
+    → f ∈ b.facts
 its_fact A n b is f k m i j = (is.facts f).1 (m, k, ((is.nulls k).0 j).1, i)
 
 module _ (I : List TableRows) (room : Room) (b : Block) (t : IsTried I room b) where
@@ -82,7 +85,8 @@ module _ (I : List TableRows) (room : Room) (b : Block) (t : IsTried I room b) w
       let l = no_more ds b.nulls d (λ k m. null_listed k (s k m)) in
       omega (arith, l, t.has_room.nulls)
 
-pub alone_room : (I : List TableRows) (room : Room) (b : Block) (f : Fact) → IsTried I room b → f ∈ b.facts → AtMost (nulls_in (values (f ∷ []))) room.nulls
+pub alone_room : (I : List TableRows) (room : Room) (b : Block) (f : Fact) → IsTried I room b → f ∈ b.facts
+    → AtMost (nulls_in (values (f ∷ []))) room.nulls
 alone_room I room b f t m = narrower (nulls_in (values b.facts)) (nulls_in (values (f ∷ []))) room.nulls its (block_room I room b t)
   where
     its : nulls_in (values (f ∷ [])) ⊆ nulls_in (values b.facts)
@@ -103,6 +107,7 @@ nothing_fixed m n x e g = absurd (apart (sym (finite.get-empty null_cmp n) ∙ (
     apart e = cc
 
 -- a fact that can't be moved by itself can't be moved with others
-pub not_alone : (r : Bool) (I : List TableRows) (gone : List (List Bool)) (m : ByNull) (avoid : Option Fact) (F G : List Fact) → F ⊆ G → (IsTrue r ↔ Reaches I gone m avoid F) → r ≡ false
+pub not_alone : (r : Bool) (I : List TableRows) (gone : List (List Bool)) (m : ByNull) (avoid : Option Fact) (F G : List Fact) → F ⊆ G
+    → (IsTrue r ↔ Reaches I gone m avoid F) → r ≡ false
     → IsTrue r ↔ Reaches I gone m avoid G
 not_alone r I gone m avoid F G s e f = ((λ t. absurd (true≢false (sym t ∙ f))), (λ w. e.1 (w.0, w.1, λ g i. w.2 g (s g i))))

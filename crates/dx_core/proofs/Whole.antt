@@ -28,15 +28,19 @@ core_same : (A B : List Fact) → A ≈ B → IsCore A → IsCore B
 core_same A B s core h hom =
     let there : IsHomomorphism h A A = record {
       null_map = hom.null_map;
-      inside = λ f m. let r = from_map (fact_moved (given h)) A m in s.1 f (hom.inside f (subst (λ (x : Fact). x ∈ image h B) r.2 (in_map (fact_moved (given h)) (s.0 r.0 r.1))));
+      inside = λ f m. let r = from_map (fact_moved (given h)) A m in
+          s.1 f (hom.inside f (subst (λ (x : Fact). x ∈ image h B) r.2 (in_map (fact_moved (given h)) (s.0 r.0 r.1))));
     } in
-    λ f m. let r = from_map (fact_moved (given h)) A (core h there f (s.1 f m)) in subst (λ (x : Fact). x ∈ image h B) r.2 (in_map (fact_moved (given h)) (s.0 r.0 r.1))
+    λ f m. let r = from_map (fact_moved (given h)) A (core h there f (s.1 f m)) in
+    subst (λ (x : Fact). x ∈ image h B) r.2 (in_map (fact_moved (given h)) (s.0 r.0 r.1))
 
 values_same : (A B : List Fact) → A ⊆ B → values A ⊆ values B
 values_same A B s v m = let r = from_flat_map (λ (f : Fact). f.row) A m in in_flat_map (λ (f : Fact). f.row) (s r.0 r.1) r.2
 
-module _ (I J : List TableRows) (T : List Fact) (r : Reduced) (sorting : IsSorting I J) (reduct : IsReduct (facts J) T) (core : IsCore T) (moves : Moves (given (pairs_of r.map)) (facts J) T)
-    (null_map : IsNullMap (pairs_of r.map)) (listed : Each (pairs_of r.map) (λ p. Null p.null ∈ values (facts J))) (same : facts r.instance ≈ T) (wide : widths r.instance ≡ widths J)
+module _ (I J : List TableRows) (T : List Fact) (r : Reduced) (sorting : IsSorting I J) (reduct : IsReduct (facts J) T) (core : IsCore T)
+    (moves : Moves (given (pairs_of r.map)) (facts J) T)
+    (null_map : IsNullMap (pairs_of r.map)) (listed : Each (pairs_of r.map) (λ p. Null p.null ∈ values (facts J)))
+    (same : facts r.instance ≈ T) (wide : widths r.instance ≡ widths J)
     (ascend : (t : ℕ) → RowsAscend (rows_of r.instance t)) where
   hom : IsHomomorphism (pairs_of r.map) (facts J) T
   hom = record {

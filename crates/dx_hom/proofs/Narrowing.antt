@@ -1,5 +1,6 @@
 -- Cells that say what a search found.
-use Rattle.std.proofs.Common.{◌≡◌, ℕ, ◌<◌, ◌≤◌, ◌+◌, List, [], ◌∷◌, ◌++◌, inl, inr, length, get_or, take, drop, refl, sym, ◌∙◌, ap, arith, append_assoc}
+use Rattle.std.proofs.Common.{◌≡◌, ℕ, ◌<◌, ◌≤◌, ◌+◌, List, [], ◌∷◌, ◌++◌, inl, inr, length, get_or, take, drop}
+use Rattle.std.proofs.Common.{refl, sym, ◌∙◌, ap, arith, append_assoc}
 use Rattle.std.specs.Prelude.{map, ◌↔◌, Bool, true, false, IsTrue, MatchBool}
 use Rattle.std.proofs.lemmas.Bool.{false≢true}
 use Rattle.std.proofs.lemmas.List.{take_more, map-append, take_all, take-map, length-append, length-map, append-nil, take-append-drop}
@@ -12,7 +13,7 @@ use Rattle.dx_model.specs.Instances.{moved}
 use Rattle.dx_ports.proofs.Members.{in_left, in_map, in_right, from_append}
 use Rattle.dx_hom.specs.declared.matching.Found.{Found}
 use Rattle.dx_instance.specs.Stored.{TableRows}
-use Rattle.dx_hom.specs.Narrowing.{names, value_of, IsCell, AtMost, Allows, IsGood, Begins, nulls_in, Narrows, Fails}
+use Rattle.dx_hom.specs.Narrowing.{names, value_of, GivesCell, IsCell, AtMost, Allows, IsGood, Begins, nulls_in, Narrows, Fails}
 use Rattle.dx_ports.specs.Members.{Distinct}
 
 -- members of a distinct list, and one more
@@ -31,7 +32,8 @@ pub narrower : {X : Type 0} (xs ys : List X) (n : ℕ) → ys ⊆ xs → AtMost 
 narrower xs ys n s a ds d i = a ds d (λ x m. s x (i x m))
 
 -- there is room for a null that was not found
-pub room_for : (found : List Found) (n : NullId) (capacity : ℕ) → Distinct (names found) → ¬ (n ∈ names found) → AtMost (names found ++ n ∷ []) capacity → length found < capacity
+pub room_for : (found : List Found) (n : NullId) (capacity : ℕ) → Distinct (names found) → ¬ (n ∈ names found)
+    → AtMost (names found ++ n ∷ []) capacity → length found < capacity
 room_for found n capacity d k a =
     let l = a (names found ++ n ∷ []) (distinct_more (names found) n d k) (λ x m. m) in
     let e : length (names found ++ n ∷ []) ≡ length found + 1 = simp (length-append, length-map) in
@@ -40,7 +42,7 @@ room_for found n capacity d k a =
 module _ (T : List TableRows) (fixed : ByNull) (found : List Found) (cell : Found) where
   -- the null was found before
   pub met_before : (b : Found) → IsGood T fixed found → b ∈ found → b.null ≡ cell.null → value_of T b ≡ value_of T cell
-      → Narrows T fixed found (cell.null ∷ []) (λ g. g cell.null ≡ value_of T cell) found
+      → Narrows T fixed found (cell.null ∷ []) (GivesCell T cell) found
   met_before b good m e v = record {
     begins = ([], sym (append-nil found));
     good = good;
@@ -54,13 +56,13 @@ module _ (T : List TableRows) (fixed : ByNull) (found : List Found) (cell : Foun
       only_one n (there i) = elim i [ ]
 
   pub failed_before : (b : Found) → b ∈ found → b.null ≡ cell.null → ¬ (value_of T b ≡ value_of T cell)
-      → Fails T fixed found (λ g. g cell.null ≡ value_of T cell) found
+      → Fails T fixed found (GivesCell T cell) found
   failed_before b m e v = record {
     begins = ([], sym (append-nil found));
     none = λ g w d. v (sym (w.cell_values b m) ∙ (ap g e ∙ d));
   }
 
-  pub not_allowed : ¬ (Allows fixed cell.null (value_of T cell)) → Fails T fixed found (λ g. g cell.null ≡ value_of T cell) found
+  pub not_allowed : ¬ (Allows fixed cell.null (value_of T cell)) → Fails T fixed found (GivesCell T cell) found
   not_allowed k = record {
     begins = ([], sym (append-nil found));
     none = λ g w d. k (λ x e. sym (w.fixed_values cell.null x e) ∙ d);
@@ -74,7 +76,7 @@ module _ (T : List TableRows) (fixed : ByNull) (found : List Found) (cell : Foun
       at (there i) = elim i [ ]
 
   pub met_now : IsGood T fixed found → IsCell T cell → ¬ (cell.null ∈ names found) → Allows fixed cell.null (value_of T cell)
-      → Narrows T fixed found (cell.null ∷ []) (λ g. g cell.null ≡ value_of T cell) (found ++ cell ∷ [])
+      → Narrows T fixed found (cell.null ∷ []) (GivesCell T cell) (found ++ cell ∷ [])
   met_now good c new a = record {
     begins = (cell ∷ [], refl);
     good = record {
@@ -85,7 +87,10 @@ module _ (T : List TableRows) (fixed : ByNull) (found : List Found) (cell : Foun
     whole = λ n i. rw map-append (in_right (names found) i);
     only = λ n i. rw map-append at i;
     exact = λ g. (
-      (λ w. (record { fixed_values = w.fixed_values; cell_values = λ b m. w.cell_values b (in_left _ m) }, w.cell_values cell (in_right found (here refl)))),
+      (λ w. (
+        record { fixed_values = w.fixed_values; cell_values = λ b m. w.cell_values b (in_left _ m) },
+        w.cell_values cell (in_right found (here refl)),
+      )),
       (λ w. record { fixed_values = w.0.fixed_values; cell_values = last_one {P = λ b. g b.null ≡ value_of T b} w.0.cell_values w.1 }),
     );
   }
@@ -102,7 +107,8 @@ same_narrows T fixed old new ns P Q s n = record {
 }
 
 -- a constant is what it is
-module _ (T : List TableRows) (fixed : ByNull) (found : List Found) (v w : Value) (stays : (g : NullId → Value) → moved g v ≡ v) (none : nulls_in (v ∷ []) ≡ []) where
+module _ (T : List TableRows) (fixed : ByNull) (found : List Found) (v w : Value) (stays : (g : NullId → Value) → moved g v ≡ v)
+    (none : nulls_in (v ∷ []) ≡ []) where
   pub const_met : IsGood T fixed found → v ≡ w → Narrows T fixed found (nulls_in (v ∷ [])) (λ g. moved g v ≡ w) found
   const_met good e = record {
     begins = ([], sym (append-nil found));
@@ -156,19 +162,24 @@ module _ (T : List TableRows) (fixed : ByNull) (a b : List Value) (start now : L
   within : i < length b
   within = omega arith
 
-  parts : (g : NullId → Value) → map (moved g) (take (i + 1) a) ≡ take (i + 1) b → (map (moved g) (take i a) ≡ take i b) × (moved g x ≡ y)
+  parts : (g : NullId → Value) → map (moved g) (take (i + 1) a) ≡ take (i + 1) b
+      → (map (moved g) (take i a) ≡ take i b) × (moved g x ≡ y)
   parts g e =
       let f : map (moved g) (take i a) ++ moved g (get_or a i x) ∷ [] ≡ take i b ++ get_or b i y ∷ [] =
-      sym (map-append (moved g) (take i a) (get_or a i x ∷ [])) ∙ (ap (map (moved g)) (sym (take_more a i x h)) ∙ (e ∙ take_more b i y within)) in
+      sym (map-append (moved g) (take i a) (get_or a i x ∷ []))
+      ∙ (ap (map (moved g)) (sym (take_more a i x h)) ∙ (e ∙ take_more b i y within)) in
       let w = last_apart (map (moved g) (take i a)) (take i b) _ _ f in
       (w.0, ap (moved g) p ∙ (w.1 ∙ sym q))
 
   joined : (g : NullId → Value) → map (moved g) (take i a) ≡ take i b → moved g x ≡ y → map (moved g) (take (i + 1) a) ≡ take (i + 1) b
   joined g e d =
-      rw (take_more a i x h, take_more b i y within, map-append (moved g), e) (let z : moved g (get_or a i x) ≡ get_or b i y = ap (moved g) (sym p) ∙ (d ∙ q) in ap (λ v. take i b ++ v ∷ []) z)
+      let z : moved g (get_or a i x) ≡ get_or b i y = ap (moved g) (sym p) ∙ (d ∙ q) in
+      rw (take_more a i x h, take_more b i y within, map-append (moved g), e) (ap (λ v. take i b ++ v ∷ []) z)
 
   nulls_to : nulls_in (take (i + 1) a) ≡ nulls_in (take i a) ++ nulls_in (x ∷ [])
-  nulls_to = ap nulls_in (take_more a i x h) ∙ (nulls_append (take i a) (get_or a i x ∷ []) ∙ ap (λ v. nulls_in (take i a) ++ nulls_in (v ∷ [])) (sym p))
+  nulls_to =
+      ap nulls_in (take_more a i x h)
+      ∙ (nulls_append (take i a) (get_or a i x ∷ []) ∙ ap (λ v. nulls_in (take i a) ++ nulls_in (v ∷ [])) (sym p))
 
   pub row_more : (more : List Found) → Narrows T fixed now (nulls_in (x ∷ [])) (λ g. moved g x ≡ y) more
       → Narrows T fixed start (nulls_in (take (i + 1) a)) (λ g. map (moved g) (take (i + 1) a) ≡ take (i + 1) b) more
@@ -206,22 +217,24 @@ module _ (T : List TableRows) (fixed : ByNull) (a b : List Value) (start now : L
     where
       part : (k : NullId) → k ∈ (nulls_in (take i a) ++ nulls_in (x ∷ [])) → k ∈ nulls_in a
       part k m =
-          let e : nulls_in a ≡ nulls_in (take (i + 1) a) ++ nulls_in (drop (i + 1) a) = ap nulls_in (sym (take-append-drop (i + 1) a)) ∙ nulls_append (take (i + 1) a) (drop (i + 1) a) in
+          let e : nulls_in a ≡ nulls_in (take (i + 1) a) ++ nulls_in (drop (i + 1) a) =
+          ap nulls_in (sym (take-append-drop (i + 1) a)) ∙ nulls_append (take (i + 1) a) (drop (i + 1) a) in
           rw e (in_left (nulls_in (drop (i + 1) a)) (rw nulls_to m))
 
-pub row_whole : (T : List TableRows) (fixed : ByNull) (a b : List Value) (start now : List Found) (i : ℕ) → length a ≡ length b → length a ≤ i
-    → Narrows T fixed start (nulls_in (take i a)) (λ g. map (moved g) (take i a) ≡ take i b) now → Narrows T fixed start (nulls_in a) (λ g. map (moved g) a ≡ b) now
+pub row_whole : (T : List TableRows) (fixed : ByNull) (a b : List Value) (start now : List Found) (i : ℕ) → length a ≡ length b
+    → length a ≤ i → Narrows T fixed start (nulls_in (take i a)) (λ g. map (moved g) (take i a) ≡ take i b) now
+    → Narrows T fixed start (nulls_in a) (λ g. map (moved g) a ≡ b) now
 row_whole T fixed a b start now i l h s = rw (take_all i a h, take_all i b (let k : length b ≤ i = omega arith in k)) at s
 
 -- the answers of the two cases
-pub answer_before : (T : List TableRows) (fixed : ByNull) (found : List Found) (cell b : Found) → IsGood T fixed found → b ∈ found → b.null ≡ cell.null
-    → (r : Bool) → (IsTrue r ↔ (value_of T b ≡ value_of T cell))
-    → MatchBool r (Narrows T fixed found (cell.null ∷ []) (λ g. g cell.null ≡ value_of T cell) found) (Fails T fixed found (λ g. g cell.null ≡ value_of T cell) found)
+pub answer_before : (T : List TableRows) (fixed : ByNull) (found : List Found) (cell b : Found) → IsGood T fixed found → b ∈ found
+    → b.null ≡ cell.null → (r : Bool) → (IsTrue r ↔ (value_of T b ≡ value_of T cell))
+    → MatchBool r (Narrows T fixed found (cell.null ∷ []) (GivesCell T cell) found) (Fails T fixed found (GivesCell T cell) found)
 answer_before T fixed found cell b good m e true h = met_before T fixed found cell b good m e (h.0 refl)
 answer_before T fixed found cell b good m e false h = failed_before T fixed found cell b m e (λ q. absurd (false≢true (h.1 q)))
 
-pub answer_const : (T : List TableRows) (fixed : ByNull) (found : List Found) (v w : Value) → ((g : NullId → Value) → moved g v ≡ v) → nulls_in (v ∷ []) ≡ [] → IsGood T fixed found
-    → (r : Bool) → (IsTrue r ↔ (v ≡ w))
+pub answer_const : (T : List TableRows) (fixed : ByNull) (found : List Found) (v w : Value)
+    → ((g : NullId → Value) → moved g v ≡ v) → nulls_in (v ∷ []) ≡ [] → IsGood T fixed found → (r : Bool) → (IsTrue r ↔ (v ≡ w))
     → MatchBool r (Narrows T fixed found (nulls_in (v ∷ [])) (λ g. moved g v ≡ w) found) (Fails T fixed found (λ g. moved g v ≡ w) found)
 answer_const T fixed found v w stays none good true h = const_met T fixed found v w stays none good (h.0 refl)
 answer_const T fixed found v w stays none good false h = const_failed T fixed found v w stays none (λ q. absurd (false≢true (h.1 q)))

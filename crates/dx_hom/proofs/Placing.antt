@@ -1,5 +1,6 @@
 -- Rows at places, and null maps made of what was found.
-use Rattle.std.proofs.Common.{◌≡◌, ◌∙◌, ℕ, zero, suc, ◌+◌, ◌<◌, ◌≤◌, Bool, true, cond, List, [], ◌∷◌, ◌++◌, refl, sym, ap, arith, length, get_or, take, drop, Vec, Global}
+use Rattle.std.proofs.Common.{◌≡◌, ◌∙◌, ℕ, zero, suc, ◌+◌, ◌<◌, ◌≤◌, Bool, true, cond, List, [], ◌∷◌, ◌++◌, refl, sym, ap, arith}
+use Rattle.std.proofs.Common.{length, get_or, take, drop, Vec, Global}
 use Rattle.std.proofs.Math.ListN.{set}
 use Rattle.std.specs.Prelude.{◌↔◌, IsTrue, Option, Some, None, map}
 use Rattle.std.specs.FinMap as finite
@@ -20,23 +21,27 @@ use Rattle.dx_hom.specs.Homs.{found_pairs}
 use Rattle.dx_hom.specs.Narrowing.{Allows, value_of}
 
 -- rows are as wide as their table
-pub row_wide : (I : List TableRows) (t p : ℕ) → t < length I → p < length (rows_of I t) → Each I (λ u. Each u.rows (λ (r : List Value). length r ≡ u.width)) → length (row_at I t p) ≡ (table_at I t).width
+pub row_wide : (I : List TableRows) (t p : ℕ) → t < length I → p < length (rows_of I t)
+    → Each I (λ u. Each u.rows (λ (r : List Value). length r ≡ u.width)) → length (row_at I t p) ≡ (table_at I t).width
 row_wide I t p h b wide = wide (table_at I t) (in_at I t (record { width = 0; rows = [] }) h) (row_at I t p) (in_at (rows_of I t) p [] b)
 
 -- a row that was gone through
 pub rows_same : (xs ys : List Value) (i : ℕ) → length xs ≤ i → length ys ≡ length xs → take i xs ≡ take i ys → xs ≡ ys
 rows_same xs ys i h l e = sym (take_all i xs h) ∙ (e ∙ take_all i ys (omega (arith, h, l)))
 
-pub rows_more : (xs ys : List Value) (i : ℕ) (x y : Value) → i < length xs → length ys ≡ length xs → x ≡ get_or xs i x → y ≡ get_or ys i y → y ≡ x → take i xs ≡ take i ys → take (i + 1) xs ≡ take (i + 1) ys
+pub rows_more : (xs ys : List Value) (i : ℕ) (x y : Value) → i < length xs → length ys ≡ length xs → x ≡ get_or xs i x
+    → y ≡ get_or ys i y → y ≡ x → take i xs ≡ take i ys → take (i + 1) xs ≡ take (i + 1) ys
 rows_more xs ys i x y h l p q d e =
-    let both : take i xs ++ get_or xs i x ∷ [] ≡ take i ys ++ get_or ys i y ∷ [] = let z : get_or xs i x ≡ get_or ys i y = sym p ∙ (sym d ∙ q) in cc in
+    let z : get_or xs i x ≡ get_or ys i y = sym p ∙ (sym d ∙ q) in
+    let both : take i xs ++ get_or xs i x ∷ [] ≡ take i ys ++ get_or ys i y ∷ [] = cc in
     take_more xs i x h ∙ (both ∙ sym (take_more ys i y (omega (arith, h, l))))
 
 -- what is fixed, or not
 pub allows_none : (m : ByNull) (n : NullId) (v : Value) → finite.get m n ≡ None → Allows m n v
 allows_none m n v e x f = let d : ◌≡◌ {A = Option Value} None (Some x) = sym e ∙ f in cc d
 
-pub allows_some : (m : ByNull) (n : NullId) (v w : Value) (r : Bool) → finite.get m n ≡ Some w → (IsTrue r ↔ (w ≡ v)) → IsTrue r ↔ Allows m n v
+pub allows_some : (m : ByNull) (n : NullId) (v w : Value) (r : Bool) → finite.get m n ≡ Some w → (IsTrue r ↔ (w ≡ v))
+    → IsTrue r ↔ Allows m n v
 allows_some m n v w r e s = (
   (λ t x f. let d : ◌≡◌ {A = Option Value} (Some w) (Some x) = sym e ∙ f in let k : w ≡ x = cc d in sym k ∙ s.0 t),
   (λ a. s.1 (a w e)),
@@ -47,28 +52,37 @@ allows_some m n v w r e s = (
 abbrev pub MadeFrom : List TableRows → List Found → ℕ → ByNull → Type 0
 MadeFrom I found i m = (n : NullId) → becomes m n ≡ given (found_pairs I (drop i found)) n
 
-pub made_more : (I : List TableRows) (found : List Found) (i : ℕ) (b : Found) (old new : ByNull) (v : Value) → i < length found → b ≡ get_or found i b → v ≡ value_of I b → new ≡ with_value old b.null v → MadeFrom I found (i + 1) old → MadeFrom I found i new
+pub made_more : (I : List TableRows) (found : List Found) (i : ℕ) (b : Found) (old new : ByNull) (v : Value) → i < length found
+    → b ≡ get_or found i b → v ≡ value_of I b → new ≡ with_value old b.null v → MadeFrom I found (i + 1) old → MadeFrom I found i new
 made_more I found i b old new v h e d w m n =
+    let rest = found_pairs I (drop (i + 1) found) in
     let s : drop i found ≡ b ∷ drop (i + 1) found = drop_more found i b h ∙ ap (λ (x : Found). x ∷ drop (i + 1) found) (sym e) in
-    let k : becomes new n ≡ cond (same_null b.null n) (value_of I b) (given (found_pairs I (drop (i + 1) found)) n) =
-    ap (λ (x : ByNull). becomes x n) w ∙ (becomes_set old b.null v n ∙ (ap (λ (x : Value). cond (same_null b.null n) x (becomes old n)) d ∙ ap (λ (x : Value). cond (same_null b.null n) (value_of I b) x) (m n))) in
+    let is = ap (λ (x : ByNull). becomes x n) w ∙ becomes_set old b.null v n in
+    let cell = ap (λ (x : Value). cond (same_null b.null n) x (becomes old n)) d in
+    let others = ap (λ (x : Value). cond (same_null b.null n) (value_of I b) x) (m n) in
+    let k : becomes new n ≡ cond (same_null b.null n) (value_of I b) (given rest n) = is ∙ (cell ∙ others) in
     rw s k
 
 -- ---- marks of what is taken out
 
-item_seen : (ts : List (Vec Bool Global)) (t : ℕ) (w : Vec Bool Global) → t < length ts → w ≡ get_or ts t w → get_or (map (λ (v : Vec Bool Global). v.items) ts) t [] ≡ w.items
+abbrev pub seen : List (Vec Bool Global) → List (List Bool)
+seen ts = map (λ (v : Vec Bool Global). v.items) ts
+
+item_seen : (ts : List (Vec Bool Global)) (t : ℕ) (w : Vec Bool Global) → t < length ts → w ≡ get_or ts t w
+    → get_or (seen ts) t [] ≡ w.items
 item_seen [] t w h e = absurd (omega arith)
 item_seen (v ∷ ts) zero w h e = ap (λ (v : Vec Bool Global). v.items) (sym e)
 item_seen (v ∷ ts) (suc t) w h e = item_seen ts t w (omega arith) e
 
-set_seen : (ts : List (Vec Bool Global)) (t : ℕ) (x : Vec Bool Global) → map (λ (v : Vec Bool Global). v.items) (set ts t x) ≡ set (map (λ (v : Vec Bool Global). v.items) ts) t x.items
+set_seen : (ts : List (Vec Bool Global)) (t : ℕ) (x : Vec Bool Global) → seen (set ts t x) ≡ set (seen ts) t x.items
 set_seen [] t x = refl
 set_seen (v ∷ ts) zero x = refl
 set_seen (v ∷ ts) (suc t) x = ap (λ l. v.items ∷ l) (set_seen ts t x)
 
-pub marked_seen : (ts : List (Vec Bool Global)) (t p : ℕ) (w x : Vec Bool Global) → t < length ts → w ≡ get_or ts t w → x.items ≡ set w.items p true
-    → map (λ (v : Vec Bool Global). v.items) (set ts t x) ≡ marked (map (λ (v : Vec Bool Global). v.items) ts) t p
-marked_seen ts t p w x h e d = set_seen ts t x ∙ ap (set (map (λ (v : Vec Bool Global). v.items) ts) t) (d ∙ ap (λ l. set l p true) (sym (item_seen ts t w h e)))
+pub marked_seen : (ts : List (Vec Bool Global)) (t p : ℕ) (w x : Vec Bool Global) → t < length ts → w ≡ get_or ts t w
+    → x.items ≡ set w.items p true → seen (set ts t x) ≡ marked (seen ts) t p
+marked_seen ts t p w x h e d =
+    set_seen ts t x ∙ ap (set (seen ts) t) (d ∙ ap (λ l. set l p true) (sym (item_seen ts t w h e)))
 
 -- ---- the first and the last of a null map that is made
 
@@ -84,8 +98,12 @@ drop_none (x ∷ xs) = refl
 
 pub made_none : (I : List TableRows) (found : List Found) (i : ℕ) (m : ByNull) → length found ≤ i → m ≡ finite.empty → MadeFrom I found i m
 made_none I found i m h e n =
-    ap (λ (x : ByNull). becomes x n) e ∙ (ap (or_itself n) (finite.get-empty null_cmp n) ∙ sym (ap (λ (l : List Found). given (found_pairs I l) n) (drop_past found i h)))
+    let none = sym (ap (λ (l : List Found). given (found_pairs I l) n) (drop_past found i h)) in
+    ap (λ (x : ByNull). becomes x n) e ∙ (ap (or_itself n) (finite.get-empty null_cmp n) ∙ none)
 
-pub made_all : (I : List TableRows) (found all : List Found) (i : ℕ) (m : ByNull) → i ≡ 0 → found ≡ all → MadeFrom I found i m → (n : NullId) → given (pairs_of m) n ≡ given (found_pairs I all) n
+pub made_all : (I : List TableRows) (found all : List Found) (i : ℕ) (m : ByNull) → i ≡ 0 → found ≡ all → MadeFrom I found i m
+    → (n : NullId) → given (pairs_of m) n ≡ given (found_pairs I all) n
 made_all I found all i m z e k n =
-    pairs_give m n ∙ (k n ∙ (ap (λ (j : ℕ). given (found_pairs I (drop j found)) n) z ∙ (ap (λ (l : List Found). given (found_pairs I l) n) (drop_none found) ∙ ap (λ (l : List Found). given (found_pairs I l) n) e)))
+    let start = ap (λ (j : ℕ). given (found_pairs I (drop j found)) n) z in
+    let whole = ap (λ (l : List Found). given (found_pairs I l) n) (drop_none found ∙ e) in
+    pairs_give m n ∙ (k n ∙ (start ∙ whole))

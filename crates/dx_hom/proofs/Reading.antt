@@ -28,7 +28,8 @@ use Rattle.dx_hom.proofs.Narrowing.{from_nulls, in_nulls}
 abbrev pub read : List TableRows → List Found → NullId → Value
 read T found n = given (found_pairs T found) n
 
-pub reads : (T : List TableRows) (found : List Found) → Distinct (names found) → (b : Found) → b ∈ found → read T found b.null ≡ value_of T b
+pub reads : (T : List TableRows) (found : List Found) → Distinct (names found) → (b : Found) → b ∈ found
+    → read T found b.null ≡ value_of T b
 reads T [] d b m = elim m [ ]
 reads T (c ∷ found) d b (here e) = rw (ap (λ (x : Found). same_null x.null b.null) e ∙ same_null-refl b.null) (ap (value_of T) e)
 reads T (c ∷ found) d b (there m) = elim (cases_Bool (same_null c.null b.null)) [
@@ -37,7 +38,8 @@ reads T (c ∷ found) d b (there m) = elim (cases_Bool (same_null c.null b.null)
 ]
 
 -- what agrees with the cells gives them
-pub read_gives : (T : List TableRows) (fixed : ByNull) (found : List Found) (g : NullId → Value) → IsGood T fixed found → ((n : NullId) (x : Value) → finite.get fixed n ≡ Some x → n ∈ names found)
+pub read_gives : (T : List TableRows) (fixed : ByNull) (found : List Found) (g : NullId → Value) → IsGood T fixed found
+    → ((n : NullId) (x : Value) → finite.get fixed n ≡ Some x → n ∈ names found)
     → ((n : NullId) → n ∈ names found → g n ≡ read T found n) → Gives T fixed found g
 read_gives T fixed found g good listed same = record {
   fixed_values = λ n x e.
@@ -50,10 +52,12 @@ read_gives T fixed found g good listed same = record {
 -- ---- facts and places
 
 stands_in : (T : List TableRows) (gone : List (List Bool)) (avoid : Option Fact) (f : Fact) → Stands T gone avoid f → f ∈ facts T
-stands_in T gone avoid f s = rw s.2 (fact_from_row T f.table (row_at T f.table s.0) (in_at (rows_of T f.table) s.0 [] s.1.place))
+stands_in T gone avoid f s =
+    rw s.2 (fact_from_row T f.table (row_at T f.table s.0) (in_at (rows_of T f.table) s.0 [] s.1.place))
 
 -- a fact of the instance that is not the one to avoid stands at a place
-in_stands : (T : List TableRows) (avoid : Option Fact) (f : Fact) → f ∈ facts T → ((a : Fact) → avoid ≡ Some a → ¬ (a ≡ f)) → Stands T [] avoid f
+in_stands : (T : List TableRows) (avoid : Option Fact) (f : Fact) → f ∈ facts T → ((a : Fact) → avoid ≡ Some a → ¬ (a ≡ f))
+    → Stands T [] avoid f
 in_stands T avoid f m other =
     let k = contains_from_in (row_from_fact T f m) in
     let e : row_at T f.table k.0 ≡ f.row = other_default (rows_of T f.table) k.0 [] f.row k.1 ∙ k.2 in
@@ -62,19 +66,31 @@ in_stands T avoid f m other =
 
 -- ---- the answer
 
-module _ (T : List TableRows) (fixed : ByNull) (avoid : Option Fact) (F : List Fact) (found : List Found) (listed : (n : NullId) (x : Value) → finite.get fixed n ≡ Some x → n ∈ nulls_in (values F)) where
-  sought : Ends T [] fixed avoid F found → (h : List NullPair) → IsNullMap h → ((n : NullId) → Null n ∈ values F → given h n ≡ read T found n) → IsSought fixed avoid F (facts T) h
+-- each fixed null stands in the facts
+abbrev pub AreListed : ByNull → List Fact → Type 0
+AreListed fixed F = (n : NullId) (x : Value) → finite.get fixed n ≡ Some x → n ∈ nulls_in (values F)
+
+module _ (T : List TableRows) (fixed : ByNull) (avoid : Option Fact) (F : List Fact) (found : List Found) (listed : AreListed fixed F) where
+  sought : Ends T [] fixed avoid F found → (h : List NullPair) → IsNullMap h
+      → ((n : NullId) → Null n ∈ values F → given h n ≡ read T found n) → IsSought fixed avoid F (facts T) h
   sought ends h is same = record {
-    homomorphism = record { null_map = is; inside = λ y m. let r = from_map (fact_moved (given h)) F m in subst (λ (f : Fact). f ∈ facts T) r.2 (stands_in T [] avoid (fact_moved (given h) r.0) (moves r.0 r.1)) };
+    homomorphism = record { null_map = is; inside = λ y m. let r = from_map (fact_moved (given h)) F m in inside r.0 y r.1 r.2 };
     keeps = gives.fixed_values;
-    avoids = λ a q m. let r = from_map (fact_moved (given h)) F m in let s = moves r.0 r.1 in s.1.other (q ∙ ap (λ (f : Fact). Some f) (sym r.2 ∙ s.2));
+    avoids = λ a q m.
+        let r = from_map (fact_moved (given h)) F m in
+        let s = moves r.0 r.1 in
+        s.1.other (q ∙ ap (λ (f : Fact). Some f) (sym r.2 ∙ s.2));
   }
     where
       gives : Gives T fixed found (given h)
-      gives = read_gives T fixed found (given h) ends.good (λ n x e. ends.whole n (listed n x e)) (λ n m. same n (from_nulls n (values F) (ends.only n m)))
+      gives = read_gives T fixed found (given h) ends.good (λ n x e. ends.whole n (listed n x e))
+          (λ n m. same n (from_nulls n (values F) (ends.only n m)))
 
       moves : MovesOpen T [] avoid (given h) F
       moves = ends.moves (given h) gives
+
+      inside : (f y : Fact) → f ∈ F → fact_moved (given h) f ≡ y → y ∈ facts T
+      inside f y m e = subst (λ (x : Fact). x ∈ facts T) e (stands_in T [] avoid (fact_moved (given h) f) (moves f m))
 
   pub is_answer : Ends T [] fixed avoid F found → IsAnswer T fixed avoid F found
   is_answer ends = record {
@@ -85,19 +101,28 @@ module _ (T : List TableRows) (fixed : ByNull) (avoid : Option Fact) (F : List F
   }
 
   there_is : Ends T [] fixed avoid F found → IsThere fixed avoid F (facts T)
-  there_is ends = (listing (read T found) (values F), sought ends (listing (read T found) (values F)) (is_null_map (read T found) (values F)) (λ n m. listing_gives (read T found) n (values F) m))
+  there_is ends =
+      let h = listing (read T found) (values F) in
+      (h, sought ends h (is_null_map (read T found) (values F)) (λ n m. listing_gives (read T found) n (values F) m))
 
   none_is : NoMore T [] fixed avoid [] F → ¬ (IsThere fixed avoid F (facts T))
-  none_is none q = none (given q.0) (record { fixed_values = q.1.keeps; cell_values = λ b m. elim m [ ] })
-      (λ f m. in_stands T avoid (fact_moved (given q.0) f) (q.1.homomorphism.inside (fact_moved (given q.0) f) (in_map (fact_moved (given q.0)) m)) (λ a e d. q.1.avoids a e (subst (λ (x : Fact). x ∈ image q.0 F) (sym d) (in_map (fact_moved (given q.0)) m))))
+  none_is none q = none (given q.0) (record { fixed_values = q.1.keeps; cell_values = λ b m. elim m [ ] }) moves
+    where
+      moves : MovesOpen T [] avoid (given q.0) F
+      moves f m =
+          let y = fact_moved (given q.0) f in
+          let i : y ∈ image q.0 F = in_map (fact_moved (given q.0)) m in
+          in_stands T avoid y (q.1.homomorphism.inside y i) (λ a e d. q.1.avoids a e (subst (λ (x : Fact). x ∈ image q.0 F) (sym d) i))
 
-  pub answer : (r : Bool) → MatchBool r (Ends T [] fixed avoid F found) (NoMore T [] fixed avoid [] F) → IsTrue r ↔ IsThere fixed avoid F (facts T)
+  pub answer : (r : Bool) → MatchBool r (Ends T [] fixed avoid F found) (NoMore T [] fixed avoid [] F)
+      → IsTrue r ↔ IsThere fixed avoid F (facts T)
   answer true h = ((λ _. there_is h), (λ _. refl))
   answer false h = ((λ t. absurd (false≢true t)), (λ q. absurd (none_is h q)))
 
 -- with facts that are gone
 pub answer_left : (T : List TableRows) (gone : List (List Bool)) (fixed : ByNull) (avoid : Option Fact) (F : List Fact) (found : List Found)
-    → ((n : NullId) (x : Value) → finite.get fixed n ≡ Some x → n ∈ nulls_in (values F)) → (r : Bool) → MatchBool r (Ends T gone fixed avoid F found) (NoMore T gone fixed avoid [] F) → IsTrue r ↔ Reaches T gone fixed avoid F
+    → AreListed fixed F → (r : Bool) → MatchBool r (Ends T gone fixed avoid F found) (NoMore T gone fixed avoid [] F)
+    → IsTrue r ↔ Reaches T gone fixed avoid F
 answer_left T gone fixed avoid F found listed true h =
     let g = read_gives T fixed found (read T found) h.good (λ n x e. h.whole n (listed n x e)) (λ n m. refl) in
     ((λ _. (read T found, g.fixed_values, h.moves (read T found) g)), (λ _. refl))
@@ -106,7 +131,7 @@ answer_left T gone fixed avoid F found listed false h = (
   (λ w. absurd (h w.0 (record { fixed_values = w.1; cell_values = λ b m. elim m [ ] }) w.2)),
 )
 
-pub answer_found : (T : List TableRows) (fixed : ByNull) (avoid : Option Fact) (F : List Fact) (found : List Found) → ((n : NullId) (x : Value) → finite.get fixed n ≡ Some x → n ∈ nulls_in (values F)) → (r : Bool)
-    → MatchBool r (Ends T [] fixed avoid F found) (NoMore T [] fixed avoid [] F) → OnTrue r (IsAnswer T fixed avoid F found)
+pub answer_found : (T : List TableRows) (fixed : ByNull) (avoid : Option Fact) (F : List Fact) (found : List Found) → AreListed fixed F
+    → (r : Bool) → MatchBool r (Ends T [] fixed avoid F found) (NoMore T [] fixed avoid [] F) → OnTrue r (IsAnswer T fixed avoid F found)
 answer_found T fixed avoid F found listed true h = is_answer T fixed avoid F found listed h
 answer_found T fixed avoid F found listed false h = tt

@@ -32,4 +32,5 @@ pub record IsAnswer (I : List TableRows) (fixed : ByNull) (avoid : Option Fact) 
   pub once : Distinct (names found)
   pub nulls : (n : NullId) → (n ∈ names found) ↔ (Null n ∈ values F)
   pub cells : Each found (IsCell I)
-  pub gives : (h : List NullPair) → IsNullMap h → ((n : NullId) → Null n ∈ values F → given h n ≡ given (found_pairs I found) n) → IsSought fixed avoid F (facts I) h
+  pub gives : (h : List NullPair) → IsNullMap h → ((n : NullId) → Null n ∈ values F → given h n ≡ given (found_pairs I found) n)
+      → IsSought fixed avoid F (facts I) h

@@ -1,5 +1,5 @@
 -- What is said of g by cells that hold its values.
-use Rattle.std.specs.Prelude.{◌≡◌, ◌↔◌, ℕ, ◌<◌, ◌≤◌, List, [], ◌∷◌, ◌++◌, length, map, Some}
+use Rattle.std.specs.Prelude.{◌≡◌, ◌↔◌, ℕ, ◌<◌, ◌≤◌, List, [], ◌∷◌, ◌++◌, length, map, Some, Bool, MatchBool}
 use Rattle.dx_model.specs.declared.values.NullId.{NullId}
 use Rattle.dx_model.specs.declared.values.Value.{Value}
 use Rattle.dx_model.specs.declared.values.Value.TheVariants.{Const, Null}
@@ -8,7 +8,9 @@ use Rattle.std.specs.FinMap as finite
 use Rattle.dx_ports.specs.Members.{◌∈◌, ◌⊆◌, Distinct}
 use Rattle.dx_hom.specs.declared.matching.Found.{Found}
 use Rattle.dx_instance.specs.Stored.{TableRows, rows_of, table_at}
-use Rattle.dx_instance.specs.Places.{value_at}
+use Rattle.dx_instance.specs.Places.{row_at, value_at}
+use Rattle.dx_model.specs.Instances.{moved}
+use Rattle.dx_hom.specs.Bound.{Bound}
 
 -- the nulls that were found
 abbrev pub names : List Found → List NullId
@@ -53,7 +55,8 @@ nulls_in (Const t ∷ vs) = nulls_in vs
 nulls_in (Null n ∷ vs) = n ∷ nulls_in vs
 
 -- new finds the nulls ns as well, and says exactly P beside what old says
-pub record Narrows (T : List TableRows) (fixed : ByNull) (old : List Found) (ns : List NullId) (P : (NullId → Value) → Type 0) (new : List Found) : Type 0 where
+pub record Narrows (T : List TableRows) (fixed : ByNull) (old : List Found) (ns : List NullId) (P : (NullId → Value) → Type 0)
+    (new : List Found) : Type 0 where
   pub begins : Begins old new
   pub good : IsGood T fixed new
   pub whole : ns ⊆ names new
@@ -64,3 +67,33 @@ pub record Narrows (T : List TableRows) (fixed : ByNull) (old : List Found) (ns 
 pub record Fails (T : List TableRows) (fixed : ByNull) (old : List Found) (P : (NullId → Value) → Type 0) (new : List Found) : Type 0 where
   pub begins : Begins old new
   pub none : (g : NullId → Value) → Gives T fixed old g → ¬ (P g)
+
+-- there is room for these nulls beside those that were found
+abbrev pub HasRoom : Bound → List NullId → Type 0
+HasRoom b ns = AtMost (names b.cells ++ ns) b.room
+
+-- g gives the null of the cell its value
+abbrev pub GivesCell : List TableRows → Found → (NullId → Value) → Type 0
+GivesCell T b g = g b.null ≡ value_of T b
+
+-- g moves the value to that in a column of the row at a place
+abbrev pub GivesValue : List TableRows → Value → ℕ → ℕ → ℕ → (NullId → Value) → Type 0
+GivesValue T v t p c g = moved g v ≡ value_at T t p c
+
+-- g moves the row to the row at a place
+abbrev pub GivesRow : List TableRows → List Value → ℕ → ℕ → (NullId → Value) → Type 0
+GivesRow T row t p g = map (moved g) row ≡ row_at T t p
+
+-- the answer to the question whether something of which old is true has P: new says it beside old, or nothing has P
+abbrev pub IsNarrowed : List TableRows → ByNull → List NullId → ((NullId → Value) → Type 0) → Bound → Bound → Bool → Type 0
+IsNarrowed T fixed ns P old new b = MatchBool b (Narrows T fixed old.cells ns P new.cells) (Fails T fixed old.cells P new.cells)
+
+-- the null, the value, the row is given what stands there, or can't be
+abbrev pub MeetsNull : List TableRows → ByNull → Found → Bound → Bound → Bool → Type 0
+MeetsNull T fixed cell = IsNarrowed T fixed (cell.null ∷ []) (GivesCell T cell)
+
+abbrev pub MeetsValue : List TableRows → ByNull → Value → ℕ → ℕ → ℕ → Bound → Bound → Bool → Type 0
+MeetsValue T fixed v t p c = IsNarrowed T fixed (nulls_in (v ∷ [])) (GivesValue T v t p c)
+
+abbrev pub MeetsRow : List TableRows → ByNull → List Value → ℕ → ℕ → Bound → Bound → Bool → Type 0
+MeetsRow T fixed row t p = IsNarrowed T fixed (nulls_in row) (GivesRow T row t p)

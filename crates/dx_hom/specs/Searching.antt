@@ -1,16 +1,17 @@
 -- What a search asks and answers.
-use Rattle.std.specs.Prelude.{◌≡◌, ℕ, ◌<◌, ◌≤◌, Bool, false, Option, Some, List, length}
+use Rattle.std.specs.Prelude.{◌≡◌, ℕ, ◌<◌, ◌≤◌, Bool, false, MatchBool, MatchOption, Option, Some, List, [], length}
 use Rattle.dx_model.specs.declared.values.NullId.{NullId}
 use Rattle.dx_model.specs.declared.values.Value.{Value}
 use Rattle.dx_model.specs.declared.facts.Fact.{Fact}
 use Rattle.dx_instance.specs.NullMaps.{ByNull}
 use Rattle.std.specs.FinMap as finite
 use Rattle.dx_ports.specs.Members.{◌∈◌, ◌⊆◌}
-use Rattle.dx_model.specs.Instances.{fact_moved, values}
+use Rattle.dx_model.specs.Instances.{fact_moved, moved, values}
 use Rattle.dx_hom.specs.declared.matching.Found.{Found}
 use Rattle.dx_instance.specs.Stored.{TableRows, rows_of, table_at}
 use Rattle.dx_hom.specs.View.{fact_at, gone_at}
-use Rattle.dx_hom.specs.Narrowing.{names, nulls_in, IsGood, Gives}
+use Rattle.dx_hom.specs.Bound.{Bound}
+use Rattle.dx_hom.specs.Narrowing.{names, nulls_in, value_of, IsGood, Gives, Narrows}
 
 -- a fact has a table of the instance, and its width
 pub record FitsIn (T : List TableRows) (f : Fact) : Type 0 where
@@ -30,14 +31,16 @@ Stands T gone avoid f = (p : ℕ) × IsOpen T gone avoid f.table p × (f ≡ fac
 -- nothing of which found is true moves the fact to one of the places from a up to b
 abbrev pub Skips : List TableRows → List (List Bool) → ByNull → Option Fact → List Found → Fact → ℕ → ℕ → Type 0
 Skips T gone fixed avoid found f a b =
-    (p : ℕ) (g : NullId → Value) → a ≤ p → p < b → IsOpen T gone avoid f.table p → Gives T fixed found g → ¬ (fact_moved g f ≡ fact_at T f.table p)
+    (p : ℕ) (g : NullId → Value) → a ≤ p → p < b → IsOpen T gone avoid f.table p → Gives T fixed found g
+    → ¬ (fact_moved g f ≡ fact_at T f.table p)
 
 -- g moves each of the facts to such a fact
 abbrev pub MovesOpen : List TableRows → List (List Bool) → Option Fact → (NullId → Value) → List Fact → Type 0
 MovesOpen T gone avoid g F = (f : Fact) → f ∈ F → Stands T gone avoid (fact_moved g f)
 
 -- what is found is of all the nulls of F, and moves F
-pub record Ends (T : List TableRows) (gone : List (List Bool)) (fixed : ByNull) (avoid : Option Fact) (F : List Fact) (found : List Found) : Type 0 where
+pub record Ends (T : List TableRows) (gone : List (List Bool)) (fixed : ByNull) (avoid : Option Fact) (F : List Fact)
+    (found : List Found) : Type 0 where
   pub good : IsGood T fixed found
   pub whole : nulls_in (values F) ⊆ names found
   pub only : names found ⊆ nulls_in (values F)
@@ -49,8 +52,35 @@ NoMore T gone fixed avoid found F = (g : NullId → Value) → Gives T fixed fou
 
 -- something gives the fixed nulls their values and moves F
 abbrev pub Reaches : List TableRows → List (List Bool) → ByNull → Option Fact → List Fact → Type 0
-Reaches T gone fixed avoid F = (g : NullId → Value) × ((n : NullId) (x : Value) → finite.get fixed n ≡ Some x → g n ≡ x) × MovesOpen T gone avoid g F
+Reaches T gone fixed avoid F =
+    (g : NullId → Value) × ((n : NullId) (x : Value) → finite.get fixed n ≡ Some x → g n ≡ x) × MovesOpen T gone avoid g F
 
 -- nothing of which found is true moves the fact to one of the places from a up to b
 abbrev pub NotFrom : List TableRows → ByNull → List Found → Fact → ℕ → ℕ → Type 0
-NotFrom T fixed found f a b = (p : ℕ) (g : NullId → Value) → a ≤ p → p < b → Gives T fixed found g → ¬ (fact_moved g f ≡ fact_at T f.table p)
+NotFrom T fixed found f a b =
+    (p : ℕ) (g : NullId → Value) → a ≤ p → p < b → Gives T fixed found g → ¬ (fact_moved g f ≡ fact_at T f.table p)
+
+-- w is what each g moves v to that gives each null that was found the value of its cell
+abbrev pub IsKnown : List TableRows → List Found → Value → Value → Type 0
+IsKnown T found v w = (g : NullId → Value) → ((b : Found) → b ∈ found → g b.null ≡ value_of T b) → moved g v ≡ w
+
+-- a place from a on with no place for the fact before it, or nothing if there is no place from a on
+abbrev pub IsAhead : List TableRows → ByNull → List Found → Fact → ℕ → Option ℕ → Type 0
+IsAhead T fixed found f a o =
+    MatchOption o (NotFrom T fixed found f a (length (rows_of T f.table)))
+    (λ p. (a ≤ p) × (p < length (rows_of T f.table)) × NotFrom T fixed found f a p)
+
+-- g moves the fact to the fact at a place
+abbrev pub MovesTo : List TableRows → Fact → ℕ → (NullId → Value) → Type 0
+MovesTo T f p g = fact_moved g f ≡ fact_at T f.table p
+
+-- the least open place from a on to which something of which old is true moves the fact: new says so beside old; or there is none
+abbrev pub IsNextMove : List TableRows → List (List Bool) → ByNull → Option Fact → Fact → ℕ → Bound → Bound → Option ℕ → Type 0
+IsNextMove T gone fixed avoid f a old new o =
+    MatchOption o ((new.cells ≡ old.cells) × Skips T gone fixed avoid old.cells f a (length (rows_of T f.table)))
+    (λ p. (a ≤ p) × IsOpen T gone avoid f.table p × Skips T gone fixed avoid old.cells f a p
+    × Narrows T fixed old.cells (nulls_in f.row) (MovesTo T f p) new.cells)
+
+-- the answer of a search
+abbrev pub IsSearched : List TableRows → List (List Bool) → ByNull → Option Fact → List Fact → List Found → Bool → Type 0
+IsSearched T gone fixed avoid F found b = MatchBool b (Ends T gone fixed avoid F found) (NoMore T gone fixed avoid [] F)

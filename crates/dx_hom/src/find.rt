@@ -14,9 +14,9 @@ ghost use Rattle.dx_hom.specs.Homs.{IsAnswer, IsThere, found_pairs};
 ghost use Rattle.dx_hom.specs.Narrowing.{AtMost, IsCell, nulls_in};
 ghost use Rattle.dx_hom.specs.Searching.{Ends, FitsIn, Reaches};
 
+use crate::bindings::Bindings;
 use crate::gone::Gone;
-use crate::matching::Found;
-use crate::searching::{Step, search};
+use crate::searching::{Stack, search};
 use dx_instance::{Instance, NullMap, copy_value};
 use dx_model::Fact;
 use std::alloc::{AllocError, Global};
@@ -28,9 +28,8 @@ use std::marker::Model;
 pub struct Search {
     alloc: Global,
     facts: u32,
-    nulls: u32,
-    found: Vec<Found>,
-    steps: Vec<Step>,
+    found: Bindings,
+    stack: Stack,
     none: Gone,
 }
 
@@ -40,9 +39,9 @@ impl Model for Search {
 
     ghost Value = { Room };
 
-    ghost view = { λ a. record { facts = a.facts; nulls = a.nulls; found = a.found.items } };
+    ghost view = { λ a. record { facts = a.facts; nulls = a.found.room; found = a.found.cells } };
 
-    ghost invariant = { λ a. (a.facts ≤ vec_capacity a.steps) × (a.nulls ≤ vec_capacity a.found) × (a.none ≡ []) };
+    ghost invariant = { λ a. (a.facts ≤ vec_capacity a.stack.steps) × (a.facts ≤ vec_capacity a.stack.order) × (a.none ≡ []) };
 }
 
 impl Search {
@@ -56,14 +55,13 @@ impl Search {
         ensures nulls { IfOk result (λ s. s.nulls ≡ nulls) }
         ensures found { IfOk result (λ s. s.found ≡ []) }
     {
-        let found = Vec::with_capacity(alloc, nulls as usize)?;
-        let steps = Vec::with_capacity(alloc, facts as usize)?;
+        let found = Bindings::reserve(alloc, nulls)?;
+        let stack = Stack::reserve(alloc, facts as usize)?;
         Ok(Search {
             alloc,
             facts,
-            nulls,
             found,
-            steps,
+            stack,
             none: Gone::none(alloc),
         })
     }
@@ -88,7 +86,7 @@ impl Search {
     {
         search(
             &mut self.found,
-            &mut self.steps,
+            &mut self.stack,
             from,
             into,
             &self.none,
@@ -117,7 +115,7 @@ impl Search {
     {
         search(
             &mut self.found,
-            &mut self.steps,
+            &mut self.stack,
             from,
             into,
             gone,
@@ -139,7 +137,7 @@ impl Search {
         let mut left = self.found.len();
         while left > 0 {
             left -= 1;
-            let entry = self.found[left];
+            let entry = self.found.at(left);
             let value = into.cell(entry.table, entry.place, entry.column);
             map.set(entry.null, copy_value(value)?)?;
         }

@@ -1,20 +1,23 @@
 // A search for places of facts, in reserved room.
-ghost use Rattle.std.specs.Prelude.{◌≡◌, ◌↔◌, ◌<◌, ◌≤◌, ◌+◌, ◌^◌, [], ◌++◌, IfSome, IsTrue, MatchBool, MatchOption, length, vec_capacity};
+ghost use Rattle.std.specs.Prelude.{◌≡◌, ◌↔◌, ◌<◌, ◌≤◌, ◌+◌, ◌^◌, [], IfOk, IfSome, IsTrue, length, vec_capacity};
 ghost use Rattle.std.specs.Option.{option_copied};
-ghost use Rattle.dx_ports.specs.Members.{◌∈◌};
-ghost use Rattle.dx_model.specs.Instances.{fact_moved, values};
+ghost use Rattle.dx_ports.specs.Members.{◌∈◌, Each};
+ghost use Rattle.dx_model.specs.Instances.{values};
 ghost use Rattle.dx_model.specs.declared.facts.Fact.{Fact as FactRow};
-ghost use Rattle.dx_hom.specs.View.{fact_at};
-ghost use Rattle.dx_instance.specs.Stored.{rows_of};
 ghost use Rattle.dx_instance.specs.Places.{row_at};
-ghost use Rattle.dx_hom.specs.Narrowing.{AtMost, IsGood, Narrows, names, nulls_in};
-ghost use Rattle.dx_hom.specs.Searching.{Ends, FitsIn, IsOpen, NoMore, NotFrom, Skips};
+ghost use Rattle.dx_instance.specs.Stored.{rows_of};
+ghost use Rattle.dx_hom.specs.Narrowing.{AtMost, HasRoom, IsCell, IsGood, nulls_in};
+ghost use Rattle.dx_hom.specs.Orders.{IsOrder, IsReordered};
+ghost use Rattle.dx_hom.specs.Searching.{FitsIn, IsNextMove, IsOpen, IsSearched};
+ghost use Rattle.dx_hom.specs.View.{fact_at};
 
+use crate::bindings::Bindings;
+use crate::candidates::{candidate, fact_at_turn, next_fact};
 use crate::gone::Gone;
-use crate::matching::{Found, found_at, meet_row};
+use crate::matching::meet_row;
 use dx_instance::{Instance, NullMap};
 use dx_model::{Fact, Value};
-use std::slice::from_ref;
+use std::alloc::{AllocError, Global};
 
 /// Where a fact was moved to, and how many nulls were found before it.
 #[derive(Clone, Copy)]
@@ -23,7 +26,45 @@ pub(crate) struct Step {
     pub before: usize,
 }
 
-/// Whether this fact stands at this place.
+/// The steps of a search, and the order in which it moves the facts, by their places.
+#[derive(Drop)]
+pub(crate) struct Stack {
+    pub steps: Vec<Step>,
+    pub order: Vec<usize>,
+}
+
+impl Stack {
+    /// Room for so many facts.
+    ///
+    /// # Errors
+    ///
+    /// `AllocError` if there is no memory.
+    pub(crate) fn reserve(alloc: Global, facts: usize) -> Result<Stack, AllocError>
+        ensures steps { IfOk result (λ s. facts ≤ vec_capacity s.steps) }
+        ensures order { IfOk result (λ s. facts ≤ vec_capacity s.order) }
+    {
+        let steps = Vec::with_capacity(alloc, facts)?;
+        let order = Vec::with_capacity(alloc, facts)?;
+        Ok(Stack { steps, order })
+    }
+
+    // No steps, and the facts as they stand.
+    fn begin(&mut self, facts: usize)
+        requires { facts ≤ vec_capacity self.old.order }
+        ensures steps { self.new.steps.items ≡ [] }
+        ensures order { IsOrder facts self.new.order.items }
+        ensures steps_capacity { vec_capacity self.new.steps ≡ vec_capacity self.old.steps }
+        ensures order_capacity { vec_capacity self.new.order ≡ vec_capacity self.old.order }
+    {
+        self.steps.clear();
+        self.order.clear();
+        for place in 0..facts {
+            self.order.push_reserved(place);
+        }
+    }
+}
+
+// Whether this fact stands at this place.
 fn is_at(into: &Instance, table: u32, place: u32, fact: &Fact) -> bool
     requires table { table < length into.now }
     requires place { place < length (rows_of into.now table) }
@@ -71,39 +112,9 @@ pub(crate) fn is_open(
     }
 }
 
-/// The least place from `next` on that agrees with the fact in a column that is known.
-pub(crate) fn candidate(
-    found: &[Found],
-    into: &Instance,
-    fact: &Fact,
-    next: u32,
-    fixed: &NullMap,
-) -> Option<u32>
-    requires fits { FitsIn into.now fact.now }
-    requires good { IsGood into.now fixed.now found.now }
-    ensures { MatchOption result (NotFrom into.now fixed.now found.now fact.now next (length (rows_of into.now fact.now.table))) (λ p. (next ≤ p) × (p < length (rows_of into.now fact.now.table)) × NotFrom into.now fixed.now found.now fact.now next p) }
-{
-    let row = fact.row.items();
-    for column in 0..into.width(fact.table) {
-        match &row[column as usize] {
-            Value::Const(_) => {
-                let value = &row[column as usize];
-                return into.with_columns(fact.table, from_ref(&column), from_ref(value), next);
-            }
-            Value::Null(null) => {
-                if let Some(entry) = found_at(found, *null) {
-                    let value = into.cell(entry.table, entry.place, entry.column);
-                    return into.with_columns(fact.table, from_ref(&column), from_ref(value), next);
-                }
-            }
-        }
-    }
-    into.with_columns(fact.table, &[], &[], next)
-}
-
 /// The least place from `next` on that the fact can be moved to.
 pub(crate) fn place_from(
-    found: &mut Vec<Found>,
+    found: &mut Bindings,
     into: &Instance,
     gone: &Gone,
     fixed: &NullMap,
@@ -112,17 +123,17 @@ pub(crate) fn place_from(
     next: u32,
 ) -> Option<u32>
     requires fits { FitsIn into.now fact.now }
-    requires good { IsGood into.now fixed.now found.old.items }
-    requires room { AtMost (names found.old.items ++ nulls_in fact.now.row) (vec_capacity found.old) }
-    ensures capacity { vec_capacity found.new ≡ vec_capacity found.old }
+    requires good { IsGood into.now fixed.now found.old.cells }
+    requires room { HasRoom found.old (nulls_in fact.now.row) }
+    ensures room { found.new.room ≡ found.old.room }
     ensures small { IfSome result (λ p. p + 1 < 2 ^ 32) }
-    ensures cases { MatchOption result ((found.new.items ≡ found.old.items) × Skips into.now gone.now fixed.now (option_copied avoid.entry) found.old.items fact.now next (length (rows_of into.now fact.now.table))) (λ p. (next ≤ p) × IsOpen into.now gone.now (option_copied avoid.entry) fact.now.table p × Skips into.now gone.now fixed.now (option_copied avoid.entry) found.old.items fact.now next p × Narrows into.now fixed.now found.old.items (nulls_in fact.now.row) (λ g. fact_moved g fact.now ≡ fact_at into.now fact.now.table p) found.new.items) }
+    ensures cases { IsNextMove into.now gone.now fixed.now (option_copied avoid.entry) fact.now next found.old found.new result }
 {
     let bound = found.len();
     let count = into.count(fact.table);
     let _wide = into.tables();
     let mut next = next;
-    while let Some(place) = candidate(found.as_slice(), into, fact, next, fixed) {
+    while let Some(place) = candidate(found, into, fact, next) {
         if is_open(into, gone, avoid, fact.table, place) {
             if meet_row(found, into, fixed, fact.row.items(), fact.table, place) {
                 return Some(place);
@@ -134,10 +145,26 @@ pub(crate) fn place_from(
     None
 }
 
+// Brings the fact that is best moved next to the front of those that are left.
+fn choose(stack: &mut Stack, found: &Bindings, into: &Instance, from: &[Fact])
+    requires fits { (f : FactRow) → f ∈ from.now → FitsIn into.now f }
+    requires cells { Each found.now.cells (IsCell into.now) }
+    requires order { IsOrder (length from.now) stack.old.order.items }
+    ensures order { IsReordered (length stack.old.steps.items) stack.old.order.items stack.new.order.items }
+    ensures steps { stack.new.steps ≡ stack.old.steps }
+    ensures capacity { vec_capacity stack.new.order ≡ vec_capacity stack.old.order }
+{
+    let start = stack.steps.len();
+    if start < stack.order.len() {
+        let next = next_fact(found, into, from, &stack.order, start);
+        stack.order.swap(start, next);
+    }
+}
+
 /// Whether something moves these facts into the instance. It takes no memory.
 pub(crate) fn search(
-    found: &mut Vec<Found>,
-    steps: &mut Vec<Step>,
+    found: &mut Bindings,
+    stack: &mut Stack,
     from: &[Fact],
     into: &Instance,
     gone: &Gone,
@@ -145,23 +172,28 @@ pub(crate) fn search(
     avoid: Option<&Fact>,
 ) -> bool
     requires fits { (f : FactRow) → f ∈ from.now → FitsIn into.now f }
-    requires found_room { AtMost (nulls_in (values from.now)) (vec_capacity found.old) }
-    requires steps_room { length from.now ≤ vec_capacity steps.old }
-    ensures found_capacity { vec_capacity found.new ≡ vec_capacity found.old }
-    ensures steps_capacity { vec_capacity steps.new ≡ vec_capacity steps.old }
-    ensures cases { MatchBool result (Ends into.now gone.now fixed.now (option_copied avoid.entry) from.now found.new.items) (NoMore into.now gone.now fixed.now (option_copied avoid.entry) [] from.now) }
+    requires found_room { AtMost (nulls_in (values from.now)) found.old.room }
+    requires steps_room { length from.now ≤ vec_capacity stack.old.steps }
+    requires order_room { length from.now ≤ vec_capacity stack.old.order }
+    ensures found_room { found.new.room ≡ found.old.room }
+    ensures steps_capacity { vec_capacity stack.new.steps ≡ vec_capacity stack.old.steps }
+    ensures order_capacity { vec_capacity stack.new.order ≡ vec_capacity stack.old.order }
+    ensures cases { IsSearched into.now gone.now fixed.now (option_copied avoid.entry) from.now found.new.cells result }
 {
-    found.clear();
-    steps.clear();
+    found.truncate(0);
+    stack.begin(from.len());
+    choose(stack, found, into, from);
     let mut next = 0;
-    while steps.len() < from.len() {
+    'steps: while stack.steps.len() < from.len() {
         let before = found.len();
-        match place_from(found, into, gone, fixed, avoid, &from[steps.len()], next) {
+        let fact = fact_at_turn(from, &stack.order, stack.steps.len());
+        match place_from(found, into, gone, fixed, avoid, fact, next) {
             Some(place) => {
-                steps.push_reserved(Step { place, before });
+                stack.steps.push_reserved(Step { place, before });
+                choose(stack, found, into, from);
                 next = 0;
             }
-            None => match steps.pop() {
+            None => match stack.steps.pop() {
                 None => return false,
                 Some(step) => {
                     found.truncate(step.before);

@@ -13,6 +13,8 @@ loop-null-init c = given_start c.args.other.now c.args.map.now c.args.nulls.now
 
 pub loop-null-preserved : goal.loop-null-preserved
 loop-null-preserved c =
-    given_more c.args.other.now c.args.map.now c.loop-null.map c.set.new.self c.args.nulls.now c.loop-null.null-index (get_or c.args.nulls.now c.loop-null.null-index blank) c.in_ok-copy_value.field-0
-    c.loop-null-test.true (other_default c.args.nulls.now c.loop-null.null-index blank (get_or c.args.nulls.now c.loop-null.null-index blank) c.loop-null-test.true)
+    given_more c.args.other.now c.args.map.now c.loop-null.map c.set.new.self c.args.nulls.now c.loop-null.null-index
+    (get_or c.args.nulls.now c.loop-null.null-index blank) c.in_ok-copy_value.field-0
+    c.loop-null-test.true (other_default c.args.nulls.now c.loop-null.null-index blank
+    (get_or c.args.nulls.now c.loop-null.null-index blank) c.loop-null-test.true)
     (c.in_ok-copy_value.ensures ∙ c.image.ensures) c.in_ok-set.ensures.ok c.loop-null.invariant

@@ -14,31 +14,37 @@ pub returns-in-Less : goal.returns-in-Less
 returns-in-Less c =
     let wide = row_wide c.args.instance.now c.args.table c.args.place c.requires.table c.requires.place c.tables-wide.ensures.rows in
     let there = row_at c.args.instance.now c.args.table c.args.place in
-    let h : c.loop-column.column < length c.args.row.now = omega (arith, c.requires.width, c.width-column-end.ensures, c.loop-column-test.true) in
+    let h : c.loop-column.column < length c.args.row.now =
+    omega (arith, c.requires.width, c.width-column-end.ensures, c.loop-column-test.true) in
     let k : c.loop-column.column < length there = omega (arith, wide, c.width-column-end.ensures, c.loop-column-test.true) in
     let less : row_cmp there c.args.row.now ≡ Less =
     row_first Less there c.args.row.now c.loop-column.column c.cell.result.now c.index-row-column.result (λ e. cc) k h
-    (c.cell.ensures ∙ other_default there c.loop-column.column (Const []) c.cell.result.now k) c.index-row-column.is c.loop-column.invariant (sym c.in-Less.ensures) in
+    (c.cell.ensures ∙ other_default there c.loop-column.column (Const []) c.cell.result.now k) c.index-row-column.is
+    c.loop-column.invariant (sym c.in-Less.ensures) in
     ((λ t. less), (λ e. refl))
 
 pub returns-in-Greater : goal.returns-in-Greater
 returns-in-Greater c =
     let wide = row_wide c.args.instance.now c.args.table c.args.place c.requires.table c.requires.place c.tables-wide.ensures.rows in
     let there = row_at c.args.instance.now c.args.table c.args.place in
-    let h : c.loop-column.column < length c.args.row.now = omega (arith, c.requires.width, c.width-column-end.ensures, c.loop-column-test.true) in
+    let h : c.loop-column.column < length c.args.row.now =
+    omega (arith, c.requires.width, c.width-column-end.ensures, c.loop-column-test.true) in
     let k : c.loop-column.column < length there = omega (arith, wide, c.width-column-end.ensures, c.loop-column-test.true) in
     let greater : row_cmp there c.args.row.now ≡ Greater =
     row_first Greater there c.args.row.now c.loop-column.column c.cell.result.now c.index-row-column.result (λ e. cc) k h
-    (c.cell.ensures ∙ other_default there c.loop-column.column (Const []) c.cell.result.now k) c.index-row-column.is c.loop-column.invariant (sym c.in-Greater.ensures) in
+    (c.cell.ensures ∙ other_default there c.loop-column.column (Const []) c.cell.result.now k) c.index-row-column.is
+    c.loop-column.invariant (sym c.in-Greater.ensures) in
     ((λ t. absurd (false≢true t)), (λ e. absurd (cc (greater, e))))
 
 pub loop-column-preserved : goal.loop-column-preserved
 loop-column-preserved c =
     let wide = row_wide c.args.instance.now c.args.table c.args.place c.requires.table c.requires.place c.tables-wide.ensures.rows in
     let there = row_at c.args.instance.now c.args.table c.args.place in
-    let h : c.loop-column.column < length c.args.row.now = omega (arith, c.requires.width, c.width-column-end.ensures, c.loop-column-test.true) in
+    let h : c.loop-column.column < length c.args.row.now =
+    omega (arith, c.requires.width, c.width-column-end.ensures, c.loop-column-test.true) in
     let k : c.loop-column.column < length there = omega (arith, wide, c.width-column-end.ensures, c.loop-column-test.true) in
-    rows_more there c.args.row.now c.loop-column.column c.cell.result.now c.index-row-column.result k (omega (arith, wide, c.requires.width))
+    rows_more there c.args.row.now c.loop-column.column c.cell.result.now c.index-row-column.result k
+    (omega (arith, wide, c.requires.width))
     (c.cell.ensures ∙ other_default there c.loop-column.column (Const []) c.cell.result.now k) c.index-row-column.is
     (sym (value_exact c.cell.result.now c.index-row-column.result (sym c.in-Equal.ensures))) c.loop-column.invariant
 
@@ -47,5 +53,6 @@ returns c =
     let wide = row_wide c.args.instance.now c.args.table c.args.place c.requires.table c.requires.place c.tables-wide.ensures.rows in
     let there = row_at c.args.instance.now c.args.table c.args.place in
     let same : there ≡ c.args.row.now =
-    rows_same there c.args.row.now c.loop-column.column (omega (arith, wide, c.width-column-end.ensures, c.loop-column-test.false)) (omega (arith, wide, c.requires.width)) c.loop-column.invariant in
+    rows_same there c.args.row.now c.loop-column.column (omega (arith, wide, c.width-column-end.ensures, c.loop-column-test.false))
+    (omega (arith, wide, c.requires.width)) c.loop-column.invariant in
     ((λ t. absurd (false≢true t)), (λ e. absurd (not_before there c.args.row.now same e)))

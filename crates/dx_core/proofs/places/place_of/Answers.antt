@@ -9,7 +9,8 @@ pub count-high-requires : goal.count-high-requires
 count-high-requires c = fact_table c.args.instance.now c.args.fact.now c.requires.there
 
 pub is_before-requires-clause-width : goal.is_before-requires-clause-width
-is_before-requires-clause-width c = rw c.items.ensures ((fits c.args.instance.now c.args.fact.now c.tables-wide.ensures.rows c.requires.there).width)
+is_before-requires-clause-width c =
+    rw c.items.ensures ((fits c.args.instance.now c.args.fact.now c.tables-wide.ensures.rows c.requires.there).width)
 
 pub loop-low-preserved-then-is_before : goal.loop-low-preserved-then-is_before
 loop-low-preserved-then-is_before c =
@@ -18,7 +19,8 @@ loop-low-preserved-then-is_before c =
     record {
       order = omega arith;
       within = c.loop-low.invariant.within;
-      before = before_step (rows_of c.args.instance.now c.args.fact.now.table) c.requires.ascend c.args.fact.now.row m (omega (arith, b, c.loop-low.invariant.within))
+      before = before_step (rows_of c.args.instance.now c.args.fact.now.table) c.requires.ascend c.args.fact.now.row m
+          (omega (arith, b, c.loop-low.invariant.within))
           (rw c.items.ensures at (c.if-is_before.ensures.0 refl));
       after = c.loop-low.invariant.after;
     }
@@ -37,10 +39,12 @@ loop-low-preserved c =
 pub returns-clause-place : goal.returns-clause-place
 returns-clause-place c =
     (stands (rows_of c.args.instance.now c.args.fact.now.table) c.requires.ascend c.args.fact.now.row c.loop-low.low c.loop-low.high
-    (row_from_fact c.args.instance.now c.args.fact.now c.requires.there) c.loop-low-test.false c.loop-low.invariant.before c.loop-low.invariant.after).0
+    (row_from_fact c.args.instance.now c.args.fact.now c.requires.there) c.loop-low-test.false c.loop-low.invariant.before
+    c.loop-low.invariant.after).0
 
 pub returns-clause-fact : goal.returns-clause-fact
 returns-clause-fact c =
     let e = (stands (rows_of c.args.instance.now c.args.fact.now.table) c.requires.ascend c.args.fact.now.row c.loop-low.low c.loop-low.high
-    (row_from_fact c.args.instance.now c.args.fact.now c.requires.there) c.loop-low-test.false c.loop-low.invariant.before c.loop-low.invariant.after).1 in
+    (row_from_fact c.args.instance.now c.args.fact.now c.requires.there) c.loop-low-test.false c.loop-low.invariant.before
+    c.loop-low.invariant.after).1 in
     λ i. record { table = c.args.fact.now.table; row = e i }

@@ -16,6 +16,8 @@ pub returns : goal.returns
 returns c =
     let J = c.index_all.new.instance in
     let sorting : IsSorting c.args.instance J = rw c.in_ok-index_all.ensures c.in_ok-sorted.ensures in
-    is_reduction c.args.instance J (left J c.spare_blocks.new.gone) (record { instance = c.in_ok-instance_left.field-0; map = c.in_ok-map.map }) sorting
-    c.in_ok-changed.ensures.reduct c.in_ok-changed.ensures.core c.in_ok-map.ensures.moves c.in_ok-map.ensures.null_map c.in_ok-map.ensures.listed
+    is_reduction c.args.instance J (left J c.spare_blocks.new.gone)
+    (record { instance = c.in_ok-instance_left.field-0; map = c.in_ok-map.map }) sorting
+    c.in_ok-changed.ensures.reduct c.in_ok-changed.ensures.core c.in_ok-map.ensures.moves c.in_ok-map.ensures.null_map
+    c.in_ok-map.ensures.listed
     c.in_ok-instance_left.ensures.facts c.in_ok-instance_left.ensures.widths c.in_ok-instance_left.ensures.ascend

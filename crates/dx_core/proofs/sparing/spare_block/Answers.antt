@@ -18,35 +18,42 @@ loop-at-init c = record {
   same_nulls = refl;
   marks = c.requires.marks;
   reduct = reduct_itself (left c.args.into.now c.args.gone.now);
-  needed = none_after (NeededIn (left c.args.into.now c.args.gone.now)) c.args.block.now.facts c.items-facts.result.now c.items-facts.ensures;
+  needed = none_after (NeededIn (left c.args.into.now c.args.gone.now)) c.args.block.now.facts c.items-facts.result.now
+      c.items-facts.ensures;
   others = λ f m n. m;
   same = λ e. refl;
 }
 
 pub can_spare-requires-clause-block : goal.can_spare-requires-clause-block
 can_spare-requires-clause-block c =
-    room_same c.args.into.now c.args.search.now c.loop-at.search c.args.block.now c.loop-at.invariant.same_facts c.loop-at.invariant.same_nulls c.requires.block
+    room_same c.args.into.now c.args.search.now c.loop-at.search c.args.block.now c.loop-at.invariant.same_facts
+    c.loop-at.invariant.same_nulls c.requires.block
 
 pub can_spare-requires-clause-fact : goal.can_spare-requires-clause-fact
 can_spare-requires-clause-fact c =
     let k : c.loop-at.at ≤ length c.args.block.now.facts = rw (← c.items-facts.ensures) c.loop-at.auto.at in
-    let e : c.index-facts-at.result ≡ get_or c.args.block.now.facts (c.loop-at.at - 1) c.index-facts-at.result = rw c.items-facts.ensures at c.index-facts-at.is in
+    let e : c.index-facts-at.result ≡ get_or c.args.block.now.facts (c.loop-at.at - 1) c.index-facts-at.result =
+    rw c.items-facts.ensures at c.index-facts-at.is in
     fact_in c.args.block.now.facts c.loop-at.at c.index-facts-at.result c.loop-at-test.true k e
 
 pub place_of-requires-clause-there : goal.place_of-requires-clause-there
 place_of-requires-clause-there c =
     let k : c.loop-at.at ≤ length c.args.block.now.facts = rw (← c.items-facts.ensures) c.loop-at.auto.at in
-    let e : c.index-facts-at.result ≡ get_or c.args.block.now.facts (c.loop-at.at - 1) c.index-facts-at.result = rw c.items-facts.ensures at c.index-facts-at.is in
+    let e : c.index-facts-at.result ≡ get_or c.args.block.now.facts (c.loop-at.at - 1) c.index-facts-at.result =
+    rw c.items-facts.ensures at c.index-facts-at.is in
     of_instance (facts c.args.into.now) (least c.args.block.now) c.args.block.now c.requires.block.block c.index-facts-at.result
     (fact_in c.args.block.now.facts c.loop-at.at c.index-facts-at.result c.loop-at-test.true k e)
 
 pub loop-at-preserved-then-can_spare : goal.loop-at-preserved-then-can_spare
 loop-at-preserved-then-can_spare c =
     let k : c.loop-at.at ≤ length c.args.block.now.facts = rw (← c.items-facts.ensures) c.loop-at.auto.at in
-    let e : c.index-facts-at.result ≡ get_or c.args.block.now.facts (c.loop-at.at - 1) c.index-facts-at.result = rw c.items-facts.ensures at c.index-facts-at.is in
+    let e : c.index-facts-at.result ≡ get_or c.args.block.now.facts (c.loop-at.at - 1) c.index-facts-at.result =
+    rw c.items-facts.ensures at c.index-facts-at.is in
     let t =
-    taken c.args.into.now c.args.gone.now c.loop-at.gone c.args.search.now c.args.block.now c.tables-wide.ensures.rows c.tables-wide.ensures.distinct c.requires.block
-    c.loop-at.invariant.marks c.requires.reduct c.loop-at.invariant.reduct c.loop-at.at c.index-facts-at.result c.loop-at-test.true k e c.loop-at.invariant.needed
+    taken c.args.into.now c.args.gone.now c.loop-at.gone c.args.search.now c.args.block.now c.tables-wide.ensures.rows
+    c.tables-wide.ensures.distinct c.requires.block
+    c.loop-at.invariant.marks c.requires.reduct c.loop-at.invariant.reduct c.loop-at.at c.index-facts-at.result c.loop-at-test.true k e
+    c.loop-at.invariant.needed
     c.place_of.result c.place_of.ensures.place c.place_of.ensures.fact (c.if-can_spare.ensures.exact.0 refl) in
     rw c.take_out.ensures (record {
       same_facts = c.can_spare.ensures.facts ∙ c.loop-at.invariant.same_facts;
@@ -61,14 +68,17 @@ loop-at-preserved-then-can_spare c =
 pub loop-at-preserved : goal.loop-at-preserved
 loop-at-preserved c =
     let k : c.loop-at.at ≤ length c.args.block.now.facts = rw (← c.items-facts.ensures) c.loop-at.auto.at in
-    let e : c.index-facts-at.result ≡ get_or c.args.block.now.facts (c.loop-at.at - 1) c.index-facts-at.result = rw c.items-facts.ensures at c.index-facts-at.is in
+    let e : c.index-facts-at.result ≡ get_or c.args.block.now.facts (c.loop-at.at - 1) c.index-facts-at.result =
+    rw c.items-facts.ensures at c.index-facts-at.is in
     record {
       same_facts = c.can_spare.ensures.facts ∙ c.loop-at.invariant.same_facts;
       same_nulls = c.can_spare.ensures.nulls ∙ c.loop-at.invariant.same_nulls;
       marks = c.loop-at.invariant.marks;
       reduct = c.loop-at.invariant.reduct;
-      needed = kept c.args.into.now c.args.gone.now c.loop-at.gone c.args.search.now c.args.block.now c.tables-wide.ensures.rows c.tables-wide.ensures.distinct c.requires.block
-          c.loop-at.invariant.marks c.requires.reduct c.loop-at.invariant.reduct c.loop-at.at c.index-facts-at.result c.loop-at-test.true k e c.loop-at.invariant.needed
+      needed = kept c.args.into.now c.args.gone.now c.loop-at.gone c.args.search.now c.args.block.now c.tables-wide.ensures.rows
+          c.tables-wide.ensures.distinct c.requires.block
+          c.loop-at.invariant.marks c.requires.reduct c.loop-at.invariant.reduct c.loop-at.at c.index-facts-at.result c.loop-at-test.true k
+          e c.loop-at.invariant.needed
           (λ w. false≢true (c.if-can_spare.ensures.exact.1 w));
       others = c.loop-at.invariant.others;
       same = c.loop-at.invariant.same;

@@ -6,4 +6,5 @@ pub returns-in-None : goal.returns-in-None
 returns-in-None c = ((λ t. allows_none c.args.fixed.now c.args.null c.args.value.now (sym c.in-None.ensures)), (λ a. refl))
 
 pub returns-in-Some : goal.returns-in-Some
-returns-in-Some c = allows_some c.args.fixed.now c.args.null c.args.value.now c.in-Some.other.now c.is.result (sym c.in-Some.ensures) c.is.ensures
+returns-in-Some c =
+    allows_some c.args.fixed.now c.args.null c.args.value.now c.in-Some.other.now c.is.result (sym c.in-Some.ensures) c.is.ensures

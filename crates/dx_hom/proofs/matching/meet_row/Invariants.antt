@@ -1,4 +1,4 @@
-use Rattle.std.proofs.Common.{◌≡◌, take, vec_capacity}
+use Rattle.std.proofs.Common.{◌≡◌, take}
 use Rattle.std.specs.Prelude.{map}
 use Rattle.dx_model.specs.Instances.{moved}
 use Rattle.dx_instance.specs.Places.{row_at}
@@ -7,6 +7,7 @@ use Rattle.dx_hom.proofs.matching.meet_row.Given as goal
 
 abbrev pub invariant-loop-column : goal.invariant-loop-column
 invariant-loop-column l = record {
-  capacity : vec_capacity l.found ≡ vec_capacity l.fn.found;
-  narrows : Narrows l.into l.fixed l.fn.found.items (nulls_in (take l.column l.row)) (λ g. map (moved g) (take l.column l.row) ≡ take l.column (row_at l.into l.table l.place)) l.found.items;
+  room : l.found.room ≡ l.fn.found.room;
+  narrows : Narrows l.into l.fixed l.fn.found.cells (nulls_in (take l.column l.row))
+      (λ g. map (moved g) (take l.column l.row) ≡ take l.column (row_at l.into l.table l.place)) l.found.cells;
 }

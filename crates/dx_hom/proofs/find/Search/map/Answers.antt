@@ -1,4 +1,5 @@
-use Rattle.std.proofs.Common.{◌≡◌, ◌<◌, ◌∙◌, ◌+◌, ◌-◌, ℕ, List, ap, arith, length, subst}
+use Rattle.std.proofs.Common.{◌≡◌, ◌<◌, ◌∙◌, ◌+◌, ◌-◌, ℕ, List, ap, arith, get_or, length, subst}
+use Rattle.std.proofs.lemmas.List.{get_or_default}
 use Rattle.dx_ports.specs.Members.{◌∈◌}
 use Rattle.dx_ports.proofs.Loops.{each_item}
 use Rattle.dx_hom.specs.declared.matching.Found.{Found}
@@ -10,25 +11,38 @@ use Rattle.dx_hom.proofs.find.Search.map.Goals as goal
 pub loop-left-init : goal.loop-left-init
 loop-left-init c = record {
   within = omega (arith, c.len-left.ensures);
-  made = made_none c.args.into.now c.self.inside.found.items c.len-left.result c.new-map.result (omega (arith, c.len-left.ensures, c.self.inside.found.ok.0)) c.new-map.ensures;
+  made = made_none c.args.into.now c.self.inside.found.cells c.len-left.result c.new-map.result (omega (arith, c.len-left.ensures))
+      c.new-map.ensures;
 }
 
 pub cell-value-requires : goal.cell-value-requires
 cell-value-requires c =
-    let same : c.self.inside.found.items ≡ c.args.self.now.found = ap (λ (r : Room). r.found) c.self.view_is in
-    let h : c.loop-left.left - 1 < length c.self.inside.found.items = omega (arith, c.loop-left.invariant.within, c.loop-left-test.true, c.self.inside.found.ok.0) in
-    let cell = each_item (IsCell c.args.into.now) c.self.inside.found.items (c.loop-left.left - 1) c.index-entry.result.now h c.index-entry.ensures (λ b m. c.requires b (subst (λ (l : List Found). b ∈ l) same m)) in
+    let cells = c.self.inside.found.cells in
+    let entry = c.at-entry.result in
+    let i = c.loop-left.left - 1 in
+    let same : cells ≡ c.args.self.now.found = ap (λ (r : Room). r.found) c.self.view_is in
+    let h : i < length cells = omega (arith, c.loop-left.invariant.within, c.loop-left-test.true) in
+    let at : entry ≡ get_or cells i entry = c.at-entry.ensures ∙ get_or_default cells i _ _ h in
+    let cell = each_item (IsCell c.args.into.now) cells i entry h at (λ b m. c.requires b (subst (λ (l : List Found). b ∈ l) same m)) in
     record { table = cell.table; place = cell.place; column = cell.column }
 
 pub loop-left-preserved : goal.loop-left-preserved
 loop-left-preserved c =
-    let h : c.loop-left.left - 1 < length c.self.inside.found.items = omega (arith, c.loop-left.invariant.within, c.loop-left-test.true, c.self.inside.found.ok.0) in
-    let up : c.loop-left.left ≡ c.loop-left.left - 1 + 1 = omega (arith, c.loop-left-test.true) in
+    let I = c.args.into.now in
+    let cells = c.self.inside.found.cells in
+    let entry = c.at-entry.result in
+    let i = c.loop-left.left - 1 in
+    let h : i < length cells = omega (arith, c.loop-left.invariant.within, c.loop-left-test.true) in
+    let at : entry ≡ get_or cells i entry = c.at-entry.ensures ∙ get_or_default cells i _ _ h in
+    let up : c.loop-left.left ≡ i + 1 = omega (arith, c.loop-left-test.true) in
+    let made = subst (λ (k : ℕ). MadeFrom I cells k c.loop-left.map) up c.loop-left.invariant.made in
     record {
       within = omega (arith, c.loop-left.invariant.within);
-      made = made_more c.args.into.now c.self.inside.found.items (c.loop-left.left - 1) c.index-entry.result.now c.loop-left.map c.set.new.self c.in_ok-copy_value.field-0 h c.index-entry.ensures (c.in_ok-copy_value.ensures ∙ c.cell-value.ensures) c.in_ok-set.ensures.ok
-          (subst (λ (i : ℕ). MadeFrom c.args.into.now c.self.inside.found.items i c.loop-left.map) up c.loop-left.invariant.made);
+      made = made_more I cells i entry c.loop-left.map c.set.new.self c.in_ok-copy_value.field-0 h at
+          (c.in_ok-copy_value.ensures ∙ c.cell-value.ensures) c.in_ok-set.ensures.ok made;
     }
 
 pub returns : goal.returns
-returns c = made_all c.args.into.now c.self.inside.found.items c.args.self.now.found c.loop-left.left c.loop-left.map (omega (arith, c.loop-left-test.false)) (ap (λ (r : Room). r.found) c.self.view_is) c.loop-left.invariant.made
+returns c =
+    made_all c.args.into.now c.self.inside.found.cells c.args.self.now.found c.loop-left.left c.loop-left.map
+    (omega (arith, c.loop-left-test.false)) (ap (λ (r : Room). r.found) c.self.view_is) c.loop-left.invariant.made

@@ -1,4 +1,4 @@
-use Rattle.std.proofs.Common.{◌≤◌, vec_len}
+use Rattle.std.proofs.Common.{◌≤◌, length}
 use Rattle.dx_hom.proofs.Placing.{MadeFrom}
 use Rattle.dx_hom.proofs.find.Search.map.Given as goal
 
@@ -7,6 +7,6 @@ decreases-loop-left l = l.left
 
 abbrev pub invariant-loop-left : goal.invariant-loop-left
 invariant-loop-left l = record {
-  within : l.left ≤ vec_len l.self-inside.found;
-  made : MadeFrom l.into l.self-inside.found.items l.left l.map;
+  within : l.left ≤ length l.self-inside.found.cells;
+  made : MadeFrom l.into l.self-inside.found.cells l.left l.map;
 }

@@ -1,0 +1,203 @@
+// Places of the instance that agree with a fact in each column that is known, and the fact that is best moved next.
+ghost use Rattle.std.specs.Prelude.{◌≡◌, ◌<◌, ◌≤◌, IfSome, length, slice_index};
+ghost use Rattle.dx_ports.specs.Members.{◌∈◌, Each};
+ghost use Rattle.dx_instance.specs.Stored.{table_at};
+ghost use Rattle.dx_instance.specs.NullMaps.{ByNull};
+ghost use Rattle.dx_model.specs.declared.facts.Fact.{Fact as FactRow};
+ghost use Rattle.dx_hom.specs.Narrowing.{IsCell};
+ghost use Rattle.dx_hom.specs.Orders.{fact_in};
+ghost use Rattle.dx_hom.specs.Searching.{FitsIn, IsAhead, IsKnown};
+
+use crate::bindings::Bindings;
+use dx_instance::Instance;
+use dx_model::{Fact, Value};
+use std::slice::from_ref;
+
+/// How many of the facts that are left are looked at for the one that is moved next.
+const LOOKED_AT: usize = 8;
+
+/// How many candidates are few. If more facts than this are left, candidates are counted for the first step alone.
+const FEW: u32 = 16;
+
+// What a value becomes by what was found, if that is known.
+fn known<'a>(found: &Bindings, into: &'a Instance, value: &'a Value) -> Option<&'a Value>
+    requires { Each found.now.cells (IsCell into.now) }
+    ensures { IfSome result (λ v. IsKnown into.now found.now.cells value.now v.now) }
+{
+    match value {
+        Value::Const(_) => Some(value),
+        Value::Null(null) => match found.find(*null) {
+            None => None,
+            Some(entry) => Some(into.cell(entry.table, entry.place, entry.column)),
+        },
+    }
+}
+
+// The least place from `next` on that agrees with the fact in this column, if its value is known.
+fn ahead_by(found: &Bindings, into: &Instance, fact: &Fact, column: u32, next: u32) -> Option<u32>
+    requires fits { FitsIn into.now fact.now }
+    requires column { column < (table_at into.now fact.now.table).width }
+    requires cells { Each found.now.cells (IsCell into.now) }
+    ensures { (fixed : ByNull) → IsAhead into.now fixed found.now.cells fact.now next result }
+{
+    if next >= into.count(fact.table) {
+        return None;
+    }
+    let Some(value) = known(found, into, &fact.row.items()[column as usize]) else {
+        return Some(next);
+    };
+    if into.cell(fact.table, next, column).is(value) {
+        return Some(next);
+    }
+    into.with_columns(fact.table, from_ref(&column), from_ref(value), next)
+}
+
+// A place from `next` on, ahead of which no place agrees with the fact in each column that is known.
+fn ahead(found: &Bindings, into: &Instance, fact: &Fact, next: u32) -> Option<u32>
+    requires fits { FitsIn into.now fact.now }
+    requires cells { Each found.now.cells (IsCell into.now) }
+    ensures { (fixed : ByNull) → IsAhead into.now fixed found.now.cells fact.now next result }
+{
+    let mut place = next;
+    for column in 0..into.width(fact.table) {
+        match ahead_by(found, into, fact, column, place) {
+            None => return None,
+            Some(later) => place = later,
+        }
+    }
+    if place < into.count(fact.table) {
+        Some(place)
+    } else {
+        None
+    }
+}
+
+/// The least place from `next` on that agrees with the fact in each column that is known.
+pub(crate) fn candidate(found: &Bindings, into: &Instance, fact: &Fact, next: u32) -> Option<u32>
+    requires fits { FitsIn into.now fact.now }
+    requires cells { Each found.now.cells (IsCell into.now) }
+    ensures { (fixed : ByNull) → IsAhead into.now fixed found.now.cells fact.now next result }
+{
+    let mut place = next;
+    while let Some(later) = ahead(found, into, fact, place) {
+        if later == place {
+            return Some(place);
+        }
+        place = later;
+    }
+    None
+}
+
+// Whether at most so many places agree with the fact, as far as it is known.
+fn has_few(found: &Bindings, into: &Instance, fact: &Fact, limit: u32) -> bool
+    requires fits { FitsIn into.now fact.now }
+    requires cells { Each found.now.cells (IsCell into.now) }
+    requires limit { limit < 100 }
+{
+    let _few = into.tables();
+    let mut next = 0;
+    for _ in 0..limit + 1 {
+        match candidate(found, into, fact, next) {
+            None => return true,
+            Some(place) => next = place + 1,
+        }
+    }
+    false
+}
+
+// Whether a null of the fact was found.
+fn is_linked(found: &Bindings, fact: &Fact) -> bool {
+    for value in fact.row.items() {
+        if let Value::Null(null) = value {
+            if found.find(*null).is_some() {
+                return true;
+            }
+        }
+    }
+    false
+}
+
+/// The fact at a place of the order.
+pub(crate) fn fact_at_turn<'a>(from: &'a [Fact], order: &[usize], place: usize) -> &'a Fact
+    requires place { place < length order.now }
+    requires within { Each order.now (λ i. i < length from.now) }
+    ensures fact { result.now ≡ fact_in from.now (slice_index order.now place) }
+    ensures member { result.now ∈ from.now }
+{
+    let at = order[place];
+    &from[at]
+}
+
+// The first of the facts that are left of which a null was found, or the first of them.
+fn first_linked(found: &Bindings, from: &[Fact], order: &[usize], start: usize) -> usize
+    requires start { start < length order.now }
+    requires within { Each order.now (λ i. i < length from.now) }
+    ensures after { start ≤ result }
+    ensures within { result < length order.now }
+{
+    for place in start..order.len() {
+        if is_linked(found, fact_at_turn(from, order, place)) {
+            return place;
+        }
+    }
+    start
+}
+
+// The first of the next facts with which at most so many places agree, of those that are looked at.
+fn first_with_few(
+    found: &Bindings,
+    into: &Instance,
+    from: &[Fact],
+    order: &[usize],
+    start: usize,
+    limit: u32,
+) -> Option<usize>
+    requires fits { (f : FactRow) → f ∈ from.now → FitsIn into.now f }
+    requires cells { Each found.now.cells (IsCell into.now) }
+    requires within { Each order.now (λ i. i < length from.now) }
+    requires limit { limit < 100 }
+    ensures { IfSome result (λ p. (start ≤ p) × (p < length order.now)) }
+{
+    for place in start..order.len() {
+        if place - start == LOOKED_AT {
+            return None;
+        }
+        if has_few(found, into, fact_at_turn(from, order, place), limit) {
+            return Some(place);
+        }
+    }
+    None
+}
+
+/// The place in the order of the fact that is best moved next: one of which a null was found, with few candidates. Which of
+/// the facts that are left it is, is a matter of time alone.
+pub(crate) fn next_fact(
+    found: &Bindings,
+    into: &Instance,
+    from: &[Fact],
+    order: &[usize],
+    start: usize,
+) -> usize
+    requires start { start < length order.now }
+    requires fits { (f : FactRow) → f ∈ from.now → FitsIn into.now f }
+    requires cells { Each found.now.cells (IsCell into.now) }
+    requires within { Each order.now (λ i. i < length from.now) }
+    ensures after { start ≤ result }
+    ensures within { result < length order.now }
+{
+    let first = if start == 0 {
+        start
+    } else {
+        first_linked(found, from, order, start)
+    };
+    if start > 0 && order.len() - start > FEW as usize {
+        return first;
+    }
+    if let Some(place) = first_with_few(found, into, from, order, first, 1) {
+        return place;
+    }
+    match first_with_few(found, into, from, order, first, FEW) {
+        Some(place) => place,
+        None => first,
+    }
+}
