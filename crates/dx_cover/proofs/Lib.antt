@@ -1,4 +1,5 @@
 pub mod Extending
 pub mod Numbers
 pub mod Searching
+pub mod Memory
 pub mod Covering

@@ -1,3 +1,4 @@
 pub mod Covering
 pub mod Search
+pub mod States
 pub mod Variables

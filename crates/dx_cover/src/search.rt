@@ -1,4 +1,4 @@
-ghost use Rattle.std.specs.Prelude.{◌≡◌, ◌<◌, ◌≤◌, ℕ, ◌&&◌, ◌++◌, IfOk, IsTrue, OnOk, List, [], ◌∷◌, length, map};
+ghost use Rattle.std.specs.Prelude.{◌≡◌, ◌<◌, ◌≤◌, ℕ, ◌&&◌, ◌++◌, IfOk, IsTrue, OnOk, false, List, [], ◌∷◌, length, map};
 ghost use Rattle.std.specs.List.{list_all};
 ghost use Rattle.dx_model.specs.declared.rules.Atom.{Atom as AtomValue};
 ghost use Rattle.dx_model.specs.declared.rules.Cell.TheVariants.{Var as VarCell, Ex as ExCell};
@@ -7,23 +7,14 @@ ghost use Rattle.dx_model.specs.Rules.{cells_of, exported};
 ghost use Rattle.dx_model.specs.Covers.{after_existential, below, first_met, is_cell_map, map_of, may_meet, meet, same_cell, same_cells, used_maps};
 ghost use Rattle.dx_model.specs.Fitting.{AgreeInWidths, IsRule};
 ghost use Rattle.dx_cover.specs.Search.{found_after, fresh, has_met_in, maps_under, seen};
+ghost use Rattle.dx_cover.specs.States.{IsSearch, IsTrueFor, last};
 
+use crate::cells::{copy_cell, is_same_cell};
+use crate::states::{Search, is_known, make_state, remember};
 use crate::variables::{existentials, exported};
 use dx_model::{Atom, Cell, CellMap, Meeting, Rule};
 use dx_ports::Items;
 use std::alloc::{AllocError, Global};
-
-/// Whether two cells are one.
-pub(crate) fn is_same_cell(a: &Cell, b: &Cell) -> bool
-    ensures { result ≡ same_cell a.now b.now }
-{
-    match (a, b) {
-        (Cell::Var(x), Cell::Var(y)) => *x == *y,
-        (Cell::Ex(v), Cell::Ex(w)) => *v == *w,
-        (Cell::Lit(t), Cell::Lit(u)) => t == u,
-        _ => false,
-    }
-}
 
 /// Whether a cell may meet another.
 pub(crate) fn is_allowed(cell: &Cell, met: &Cell) -> bool
@@ -88,17 +79,6 @@ pub(crate) fn is_seen(found: &[CellMap], map: &CellMap) -> bool
         }
     }
     false
-}
-
-/// A cell of its own that is the same.
-pub(crate) fn copy_cell(alloc: Global, cell: &Cell) -> Result<Cell, AllocError>
-    ensures { IfOk result (λ c. c ≡ cell.now) }
-{
-    match cell {
-        Cell::Var(x) => Ok(Cell::Var(*x)),
-        Cell::Ex(v) => Ok(Cell::Ex(*v)),
-        Cell::Lit(text) => Ok(Cell::Lit(text.copy()?)),
-    }
 }
 
 /// Adds the meetings of two rows of cells.
@@ -246,7 +226,53 @@ pub(crate) fn is_done(
     Ok(is_seen(found, &map))
 }
 
-/// Finds the cell maps that begin with these meetings, and choose for each of the rest one of the others.
+/// What is known of a part of the search before it is gone through.
+pub(crate) enum Outlook {
+    /// There is no cell map.
+    NoMap,
+    /// Its cell maps add nothing to those that are found.
+    NothingNew,
+    /// There may be new ones.
+    Open,
+}
+
+/// What is known of the cell maps that begin with these meetings.
+pub(crate) fn look_ahead(
+    alloc: Global,
+    rule: &Rule,
+    variables: &Variables,
+    rest: &[Atom],
+    bound: &[Meeting],
+    search: &Search,
+) -> Result<Outlook, AllocError>
+    requires exported { variables.now.exported.items ≡ exported rule.now }
+    requires existential { variables.now.existential ≡ after_existential (cells_of rule.now.conclusion) }
+    requires last { rest.now ≡ last (length rest.now) rule.now.conclusion }
+    ensures { IfOk result (λ k. (others : List AtomValue) → IsSearch rule.now others search.now
+        → IsTrueFor k rule.now bound.now rest.now others search.now.found.items) }
+{
+    if search.found.len() == 16 {
+        return Ok(Outlook::NothingNew);
+    }
+    if !make_map(bound) {
+        return Ok(Outlook::NoMap);
+    }
+    if is_done(alloc, rule, variables, bound, search.found.as_slice())? {
+        return Ok(Outlook::NothingNew);
+    }
+    let ending = make_state(alloc, false, rest, bound)?;
+    if is_known(&ending, search.dead.as_slice()) {
+        return Ok(Outlook::NoMap);
+    }
+    let state = make_state(alloc, true, rest, bound)?;
+    if is_known(&state, search.gone.as_slice()) {
+        return Ok(Outlook::NothingNew);
+    }
+    Ok(Outlook::Open)
+}
+
+/// Finds the cell maps that begin with these meetings, and choose for each of the rest one of the others: false if there is
+/// none.
 pub(crate) fn extend(
     alloc: Global,
     rule: &Rule,
@@ -254,38 +280,43 @@ pub(crate) fn extend(
     rest: &[Atom],
     others: &[Atom],
     bound: &mut Vec<Meeting>,
-    found: &mut Vec<CellMap>,
-) -> Result<(), AllocError>
+    search: &mut Search,
+) -> Result<bool, AllocError>
     requires exported { variables.now.exported.items ≡ exported rule.now }
     requires existential { variables.now.existential ≡ after_existential (cells_of rule.now.conclusion) }
     requires widths { (a b : AtomValue) → a ∈ rest.now → b ∈ others.now → a.table ≡ b.table → length a.cells ≡ length b.cells }
-    requires few { length found.old.items ≤ 16 }
+    requires last { rest.now ≡ last (length rest.now) rule.now.conclusion }
+    requires memory { IsSearch rule.now others.now search.old }
     ensures bound { OnOk result (bound.new.items ≡ bound.old.items) }
-    ensures few { OnOk result (length found.new.items ≤ 16) }
-    ensures found { OnOk result (found.new.items ≡ found_after found.old.items (maps_under rule.now bound.old.items rest.now others.now)) }
+    ensures memory { OnOk result (IsSearch rule.now others.now search.new) }
+    ensures found { OnOk result (search.new.found.items
+        ≡ found_after search.old.found.items (maps_under rule.now bound.old.items rest.now others.now)) }
+    ensures none { IfOk result (λ any. any ≡ false → maps_under rule.now bound.old.items rest.now others.now ≡ []) }
 {
-    if found.len() == 16 || !make_map(bound.as_slice()) {
-        return Ok(());
-    }
-    if is_done(alloc, rule, variables, bound.as_slice(), found.as_slice())? {
-        return Ok(());
+    match look_ahead(alloc, rule, variables, rest, bound.as_slice(), search)? {
+        Outlook::NoMap => return Ok(false),
+        Outlook::NothingNew => return Ok(true),
+        Outlook::Open => {}
     }
     match rest.split_first() {
         None => {
             let map = map_made(alloc, rule, variables, bound.as_slice())?;
-            add_map(found, map)
+            add_map(&mut search.found, map)?;
+            Ok(true)
         }
-        Some((first, rest)) => {
+        Some((first, after)) => {
             let start = bound.len();
+            let mut any = false;
             for other in others {
                 if first.table == other.table {
                     let cells = first.cells.items();
                     add_meetings(alloc, bound, cells, other.cells.items())?;
-                    extend(alloc, rule, variables, rest, others, bound, found)?;
+                    any |= extend(alloc, rule, variables, after, others, bound, search)?;
                     bound.truncate(start);
                 }
             }
-            Ok(())
+            remember(alloc, rest, bound.as_slice(), any, search)?;
+            Ok(any)
         }
     }
 }
@@ -307,7 +338,11 @@ pub fn cover(alloc: Global, i: &Rule, j: &Rule) -> Result<Vec<CellMap>, AllocErr
     let rest = i.conclusion.items();
     let others = j.conclusion.items();
     let mut bound = Vec::new(alloc);
-    let mut found = Vec::new(alloc);
-    extend(alloc, i, &variables, rest, others, &mut bound, &mut found)?;
-    Ok(found)
+    let mut search = Search {
+        found: Vec::new(alloc),
+        gone: Vec::new(alloc),
+        dead: Vec::new(alloc),
+    };
+    extend(alloc, i, &variables, rest, others, &mut bound, &mut search)?;
+    Ok(search.found)
 }
