@@ -3,7 +3,7 @@ use Rattle.std.proofs.Common.{◌≡◌, ◌≤◌, ℕ, ◌<◌, Bool, true, fa
 use Rattle.std.specs.Prelude.{map, flat_map}
 use Rattle.std.proofs.lemmas.List.{length-map, get_or_default}
 use Rattle.dx_ports.specs.Members.{◌∈◌, here, there, Each}
-use Rattle.dx_ports.proofs.Members.{in_map, from_append, from_map, from_flat_map, contains_from_in}
+use Rattle.dx_ports.proofs.Members.{from_append, from_map, from_flat_map, contains_from_in}
 use Rattle.dx_model.specs.declared.rules.Cell.{Cell}
 use Rattle.dx_model.specs.declared.rules.Cell.TheVariants as cells
 use Rattle.dx_model.specs.declared.rules.Derived.{Derived}
@@ -46,9 +46,13 @@ use Rattle.dx_funcs.specs.Offers.{IsListed}
 use Rattle.dx_rule_text.specs.Printed.{AreAtomsOf}
 use Rattle.dx_stages.specs.Worlds.{World}
 use Rattle.dx_stages.specs.Stages.{Stage, next, checking}
-use Rattle.clio_accept.specs.declared.mapping.Mapping.{Mapping}
-use Rattle.clio_accept.specs.Mapping.{SourceRefused, TargetRefused, NameRefused, LinesRefused, NamingRefused, WritingRefused, LimitRefused, WidthRefused, RulesRefused, NoneReserved, AreRulesOf, rules_of, limit_of, written_of}
-use Rattle.clio_accept.specs.Accepting.{accepting, accepting_said, between_of, limits, naming, writing, closing, rule_count, said_rules, taking, target_names, target_sets, with_rules}
+use Rattle.dx_implies.specs.Pruning.{IsLeft, PassesTest}
+use Rattle.dx_implies.proofs.Pruned.{left_implies}
+use Rattle.clio_accept.specs.Mapping.{SourceRefused, TargetRefused, NameRefused, LinesRefused, NamingRefused, WritingRefused}
+use Rattle.clio_accept.specs.Mapping.{LimitRefused, RulesRefused, FrozenRefused, frozen_cells}
+use Rattle.clio_accept.specs.Mapping.{NoneReserved, AreRulesOf, rules_of, limit_of, written_of}
+use Rattle.clio_accept.specs.Accepting.{between_of, limits, naming, writing, closing, leaving}
+use Rattle.clio_accept.specs.Accepting.{frozen_count, pruning, said_rules, taking, target_names, target_sets}
 use Rattle.clio_accept.specs.Laws.{AcceptedFits, MappingFits}
 use Rattle.clio_accept.proofs.Few.{few_variables}
 use Rattle.clio_accept.proofs.Closed.{closed_fits, closed_is_closed, closed_of}
@@ -137,20 +141,19 @@ derived_listed list lines P Q picks offered are x m =
 
 -- ---- rules
 
--- what is known of what an accepted text says
-record IsAccepted (list : List Conversion) (m : MappingText) : Type 0 where
-  source : IsFaultless m.source
-  target : IsFaultless m.target
-  named : lines_fault m.source m.target list m.lines ≡ None
-  limits : limit_of list m.source m.target m.lines ≡ None
-  written : rules_fault m.source m.target list m.rules ≡ None
-  whole : Each m.rules IsWhole
-  narrow : Each m.rules IsNarrow
+-- what is known of what a text says that is read
+pub record IsRead (list : List Conversion) (m : MappingText) : Type 0 where
+  pub source : IsFaultless m.source
+  pub target : IsFaultless m.target
+  pub named : lines_fault m.source m.target list m.lines ≡ None
+  pub limits : limit_of list m.source m.target m.lines ≡ None
+  pub written : rules_fault m.source m.target list m.rules ≡ None
+  pub whole : Each m.rules IsWhole
 
 unfolds : (f : Forest) (t : ℕ) → IsFaultless f → t < length (model_tables f) → IsUnfolding (model_tables f) t (unfolding_of (model_tables f) t)
 unfolds f t ok lt = unfoldings_are (model_tables f) t (links_fit (tables_of f) (are_tables f ok.form)) ok.acyclic lt
 
-each_closed : (list : List Conversion) (m : MappingText) → IsAccepted list m → Each (rules_of list m.source m.target m.lines) (IsClosed (model_tables m.target))
+each_closed : (list : List Conversion) (m : MappingText) → IsRead list m → Each (rules_of list m.source m.target m.lines) (IsClosed (model_tables m.target))
 each_closed list m a d i =
     let lines = lines_of m.source m.target list m.lines in
     let k = from_kept lines (model_tables m.source) (model_tables m.target) d i in
@@ -158,7 +161,7 @@ each_closed list m a d i =
     (rules_are_closed lines (model_tables m.target) k.0.target (unfolding_of (model_tables m.source) k.0.source) (unfolding_of (model_tables m.target) k.0.target) k.0.picks
     (links_fit (tables_of m.target) (are_tables m.target a.target.form)) (unfolds m.target k.0.target a.target k.1.target_table))
 
-each_fits : (list : List Conversion) (m : MappingText) → IsAccepted list m → Each (rules_of list m.source m.target m.lines) (RuleFits (model_tables m.source) (model_tables m.target))
+pub each_fits : (list : List Conversion) (m : MappingText) → IsRead list m → Each (rules_of list m.source m.target m.lines) (RuleFits (model_tables m.source) (model_tables m.target))
 each_fits list m a d i =
     let lines = lines_of m.source m.target list m.lines in
     let k = from_kept lines (model_tables m.source) (model_tables m.target) d i in
@@ -169,19 +172,19 @@ each_fits list m a d i =
     (unfolds m.source k.0.source a.source k.1.source_table) (unfolds m.target k.0.target a.target k.1.target_table))
     (lines_fit m.source m.target list m.lines lines refl a.named) k.1.picks)
 
-each_premise : (list : List Conversion) (m : MappingText) → IsAccepted list m → Each (rules_of list m.source m.target m.lines) (λ d. AreAtomsOf m.source d.premise)
+each_premise : (list : List Conversion) (m : MappingText) → IsRead list m → Each (rules_of list m.source m.target m.lines) (λ d. AreAtomsOf m.source d.premise)
 each_premise list m a d i =
     let k = from_kept (lines_of m.source m.target list m.lines) (model_tables m.source) (model_tables m.target) d i in
     subst (λ (e : Rule). AreAtomsOf m.source e.premise) k.2
     (atoms_there m.source cells.Var (unfolding_of (model_tables m.source) k.0.source).occurrences (tables_there m.source k.0.source a.source k.1.source_table))
 
-each_conclusion : (list : List Conversion) (m : MappingText) → IsAccepted list m → Each (rules_of list m.source m.target m.lines) (λ d. AreAtomsOf m.target d.conclusion)
+each_conclusion : (list : List Conversion) (m : MappingText) → IsRead list m → Each (rules_of list m.source m.target m.lines) (λ d. AreAtomsOf m.target d.conclusion)
 each_conclusion list m a d i =
     let k = from_kept (lines_of m.source m.target list m.lines) (model_tables m.source) (model_tables m.target) d i in
     subst (λ (e : Rule). AreAtomsOf m.target e.conclusion) k.2
     (atoms_there m.target _ (unfolding_of (model_tables m.target) k.0.target).occurrences (tables_there m.target k.0.target a.target k.1.target_table))
 
-each_listed : (list : List Conversion) (m : MappingText) → IsAccepted list m → Each (rules_of list m.source m.target m.lines) (λ d. Each d.derived (λ e. IsListed list e.code (length e.args)))
+each_listed : (list : List Conversion) (m : MappingText) → IsRead list m → Each (rules_of list m.source m.target m.lines) (λ d. Each d.derived (λ e. IsListed list e.code (length e.args)))
 each_listed list m a d i =
     let lines = lines_of m.source m.target list m.lines in
     let k = from_kept lines (model_tables m.source) (model_tables m.target) d i in
@@ -191,9 +194,9 @@ each_listed list m a d i =
 
 -- ---- hand-written rules
 
--- a hand-written rule fits, and its conversions are listed
-written_fits : (list : List Conversion) (m : MappingText) → IsAccepted list m → Each (written_of list m.source m.target m.rules) (RuleFits (model_tables m.source) (model_tables m.target))
-written_fits list m a = all_fit m.source m.target list m.rules (written_of list m.source m.target m.rules) a.narrow refl a.written a.whole
+-- a hand-written rule fits
+written_fits : (list : List Conversion) (m : MappingText) → IsRead list m → Each m.rules IsNarrow → Each (written_of list m.source m.target m.rules) (RuleFits (model_tables m.source) (model_tables m.target))
+written_fits list m a narrow = all_fit m.source m.target list m.rules (written_of list m.source m.target m.rules) narrow refl a.written a.whole
 
 -- atoms that fit are of tables of the schema
 fit_there : (f : Forest) (atoms : List Atom) → Each atoms (AtomFits (model_tables f)) → AreAtomsOf f atoms
@@ -209,10 +212,10 @@ record IsGood (list : List Conversion) (m : MappingText) (e : Rule) : Type 0 whe
   conclusion : AreAtomsOf m.target e.conclusion
   listed : Each e.derived (λ d. IsListed list d.code (length d.args))
 
-closed_good : (list : List Conversion) (m : MappingText) (R : List Rule) → IsAccepted list m → (r : AreRulesOf list m.source m.target m.lines m.rules R) → Each r.closed (IsGood list m)
-closed_good list m R a r e i =
+closed_good : (list : List Conversion) (m : MappingText) (R : List Rule) → IsRead list m → Each m.rules IsNarrow → (r : AreRulesOf list m.source m.target m.lines m.rules R) → Each r.closed (IsGood list m)
+closed_good list m R a narrow r e i =
     let d = closed_of (model_tables m.target) (written_of list m.source m.target m.rules) r.closed r.closings e i in
-    let fit = written_fits list m a d.0 d.1 in
+    let fit = written_fits list m a narrow d.0 d.1 in
     let fits = closed_fits m.source m.target d.0 e a.target fit d.2 in
     record {
       fits = fits;
@@ -222,7 +225,7 @@ closed_good list m R a r e i =
       listed = rw d.2.closing.derived (all_offered m.source m.target list m.rules (written_of list m.source m.target m.rules) refl a.written d.0 d.1);
     }
 
-kept_good : (list : List Conversion) (m : MappingText) → IsAccepted list m → Each (rules_of list m.source m.target m.lines) (IsGood list m)
+kept_good : (list : List Conversion) (m : MappingText) → IsRead list m → Each (rules_of list m.source m.target m.lines) (IsGood list m)
 kept_good list m a e i = record {
   fits = each_fits list m a e i;
   closed = each_closed list m a e i;
@@ -231,40 +234,44 @@ kept_good list m a e i = record {
   listed = each_listed list m a e i;
 }
 
-all_good : (list : List Conversion) (m : MappingText) (R : List Rule) → IsAccepted list m → AreRulesOf list m.source m.target m.lines m.rules R → Each R (IsGood list m)
-all_good list m R a r e i = elim (from_append (rules_of list m.source m.target m.lines) (subst (λ rs. e ∈ rs) r.are i)) [
+all_good : (list : List Conversion) (m : MappingText) (R : List Rule) → IsRead list m → Each m.rules IsNarrow → AreRulesOf list m.source m.target m.lines m.rules R → Each R (IsGood list m)
+all_good list m R a narrow r e i = elim (from_append (rules_of list m.source m.target m.lines) (subst (λ rs. e ∈ rs) r.are i)) [
   | inl k ↦ kept_good list m a e k
-  | inr k ↦ closed_good list m R a r e k
+  | inr k ↦ closed_good list m R a narrow r e k
 ]
+
+-- the rules of lines and the closed hand-written ones fit
+pub all_rules_fit : (list : List Conversion) (m : MappingText) (R : List Rule) → IsRead list m → Each m.rules IsNarrow
+    → AreRulesOf list m.source m.target m.lines m.rules R → Each R (RuleFits (model_tables m.source) (model_tables m.target))
+all_rules_fit list m R a narrow r e i = (all_good list m R a narrow r e i).fits
 
 -- ---- what the stages have checked
 
 checked : {E A B : Type 0} (refused : A → E → Type 0) (fits : A → Type 0) (t : Stage E A B) (c : World) (a : A) (x : B) → (next (checking refused fits) t).passes c a x → fits a × t.passes c a x
 checked refused fits t c a x p = (p.1.0, subst (λ v. t.passes c v x) p.1.1 p.2)
 
--- the rules are those of the lines, and after them the closed hand-written rules, and they are few
-record IsTaken (list : List Conversion) (m : MappingText) (R : List Rule) : Type 0 where
+-- the rules are the pruned ones of those of the lines and the closed hand-written ones, which are few
+record IsTaken (list : List Conversion) (m : MappingText) (P : List Rule) : Type 0 where
   named : lines_fault m.source m.target list m.lines ≡ None
   limits : limit_of list m.source m.target m.lines ≡ None
   written : rules_fault m.source m.target list m.rules ≡ None
-  few : length R ≤ 256
-  are : AreRulesOf list m.source m.target m.lines m.rules R
+  all : List Rule
+  are : AreRulesOf list m.source m.target m.lines m.rules all
+  few : length all ≤ 256
+  left : IsLeft all P
 
-is_taken : (list : List Conversion) (c : World) (m : MappingText) (R : List Rule) → (taking list).passes c (between_of m) R → IsTaken list m R
-is_taken list c m R p =
+is_taken : (list : List Conversion) (c : World) (m : MappingText) (P : List Rule) → (taking list).passes c (between_of m) P → IsTaken list m P
+is_taken list c m P p =
     let b = between_of m in
-    let one = checked (λ b. LinesRefused b.lines) (λ b. length b.lines ≤ 512) (next (naming list) (next (writing list) (next (limits list) (next (closing list) rule_count)))) c b R p in
-    let two = checked (λ b. NamingRefused list b.source b.target b.lines) (λ b. lines_fault b.source b.target list b.lines ≡ None) (next (writing list) (next (limits list) (next (closing list) rule_count))) c b R one.1 in
-    let three = checked (λ b. WritingRefused list b.source b.target b.by_hand) (λ b. rules_fault b.source b.target list b.by_hand ≡ None) (next (limits list) (next (closing list) rule_count)) c b R two.1 in
-    let four = checked (λ b. LimitRefused list b.source b.target b.lines) (λ b. limit_of list b.source b.target b.lines ≡ None) (next (closing list) rule_count) c b R three.1 in
-    let counted = four.1.2 in
-    record {
-      named = two.0;
-      written = three.0;
-      limits = four.0;
-      few = rw counted.1 counted.0;
-      are = subst (AreRulesOf list m.source m.target m.lines m.rules) (sym counted.1) four.1.1;
-    }
+    let rest = next (writing list) (next (limits list) (next (closing list) leaving)) in
+    let one = checked (λ b. LinesRefused b.lines) (λ b. length b.lines ≤ 512) (next (naming list) rest) c b P p in
+    let two = checked (λ b. NamingRefused list b.source b.target b.lines) (λ b. lines_fault b.source b.target list b.lines ≡ None) rest c b P one.1 in
+    let three = checked (λ b. WritingRefused list b.source b.target b.by_hand) (λ b. rules_fault b.source b.target list b.by_hand ≡ None) (next (limits list) (next (closing list) leaving)) c b P two.1 in
+    let four = checked (λ b. LimitRefused list b.source b.target b.lines) (λ b. limit_of list b.source b.target b.lines ≡ None) (next (closing list) leaving) c b P three.1 in
+    let R = four.1.0 in
+    let five = checked RulesRefused (λ R. length R ≤ 256) (next frozen_count pruning) c R P four.1.2 in
+    let six = checked FrozenRefused (λ R. ¬ (PassesTest frozen_cells R)) pruning c R P five.1 in
+    record { named = two.0; written = three.0; limits = four.0; all = R; are = four.1.1; few = five.0; left = six.1 }
 
 pub accepted_fits : AcceptedFits
 accepted_fits list c text M small (m, says, p) =
@@ -273,23 +280,26 @@ accepted_fits list c text M small (m, says, p) =
     let three = checked (λ m. NameRefused m.target) (λ m. NoneReserved m.target) (said_rules list) c m M two.1 in
     let t = is_taken list c m three.1.0 three.1.1 in
     let rules = texts_have_whole_rules text m says in
-    let a : IsAccepted list m = record {
+    let a : IsRead list m = record {
       source = one.0;
       target = two.0;
       named = t.named;
       limits = t.limits;
       written = t.written;
       whole = λ r i. (rules r i).0;
-      narrow = λ r i. let few = (rules r i).1 in omega (arith, few, small);
     } in
-    let good = all_good list m three.1.0 a t.are in
+    let narrow : Each m.rules IsNarrow = λ r i. let few = (rules r i).1 in omega (arith, few, small) in
+    let part = left_implies t.all three.1.0 t.left in
+    let shorter = part.1 in
+    let many = t.few in
+    let good : Each three.1.0 (IsGood list m) = λ d i. all_good list m t.all a narrow t.are d (part.0 d i) in
     let words = said_is_writable text m says in
     subst (MappingFits list) (sym three.1.2) (record {
       source = one.0;
       target = two.0;
       source_names = words.0.named;
       target_names = words.1.named;
-      few = t.few;
+      few = omega (arith, shorter, many);
       fit = λ d i. (good d i).fits;
       closed = λ d i. (good d i).closed;
       premises = λ d i. (good d i).premise;

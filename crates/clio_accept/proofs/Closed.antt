@@ -1,5 +1,5 @@
 -- Closed hand-written rules: there is one closing at most, a rule has one or is too wide, and a closed rule fits as the rule did.
-use Rattle.std.proofs.Common.{◌≡◌, ◌⊎◌, inl, inr, ℕ, zero, suc, ◌+◌, ◌*◌, ◌-◌, ◌^◌, ◌<◌, ◌≤◌, List, [], ◌∷◌, ◌++◌, Option, Some, None, unwrap_or, length, refl, sym, ap, ◌∙◌, subst, arith, length-append, get_or}
+use Rattle.std.proofs.Common.{◌≡◌, ◌⊎◌, inl, inr, ℕ, zero, suc, ◌+◌, ◌*◌, ◌<◌, ◌≤◌, List, [], ◌∷◌, ◌++◌, Option, Some, None, unwrap_or, length, refl, sym, ap, ◌∙◌, subst, arith, length-append, get_or}
 use Rattle.std.specs.Prelude.{map, slice_get, slice_index_or}
 use Rattle.std.specs.List.{list_any}
 use Rattle.std.proofs.lemmas.Bool.{cases_Bool, cases_lt, cases_eq, cond-true, cond-false}
@@ -8,7 +8,6 @@ use Rattle.dx_ports.proofs.Members.{from_append, from_map, in_at, in_flat_map, f
 use Rattle.dx_model.specs.declared.rules.Cell.{Cell}
 use Rattle.dx_model.specs.declared.rules.Cell.TheVariants.{Var, Ex, Lit}
 use Rattle.dx_model.specs.declared.rules.Atom.{Atom}
-use Rattle.dx_model.specs.declared.rules.Derived.{Derived}
 use Rattle.dx_model.specs.declared.rules.Rule.{Rule}
 use Rattle.dx_model.specs.declared.tables.Link.{Link}
 use Rattle.dx_model.specs.Rules.{cells_of}
@@ -17,13 +16,13 @@ use Rattle.dx_model.specs.Solutions.{AtomFits, IsClosed, cells_in}
 use Rattle.dx_model.specs.Fitting.{RuleFits, premise_variables}
 use Rattle.dx_schema.specs.Forest.{Forest}
 use Rattle.dx_schema.specs.Tables.{model_tables, tables_of}
-use Rattle.dx_schema.specs.Links.{IsFaultless, LinksFit}
+use Rattle.dx_schema.specs.Links.{IsFaultless}
 use Rattle.dx_schema.proofs.Valid.{are_tables}
 use Rattle.dx_schema.proofs.Whole.{links_fit}
 use Rattle.dx_logical.specs.Filled.{given, fresh_below, filled}
 use Rattle.dx_logical.proofs.Facts.{given_among}
 use Rattle.dx_closing.specs.declared.growing.Growing.{Growing}
-use Rattle.dx_closing.specs.Closing.{serves, supplied, through_link, through_links, through_atom, gone, begun, IsClosing, IsClosingOf}
+use Rattle.dx_closing.specs.Closing.{serves, supplied, through_link, through_links, through_atom, gone, begun, IsClosing}
 use Rattle.dx_closing.proofs.Going.{one_closing}
 use Rattle.dx_closing.proofs.Numbered.{closing_numbered}
 use Rattle.dx_closing.proofs.Served.{closing_serves, get_in}

@@ -1,9 +1,16 @@
 -- A text is accepted with one mapping, or refused for one reason, and never both.
-use Rattle.std.proofs.Common.{◌≡◌, ◌⊎◌, ℕ, zero, suc, ◌<◌, ◌≤◌, List, [], ◌∷◌, ◌++◌, Some, None, length, refl, sym, ◌∙◌, ap, true, false, subst, inl, inr, codes, arith, nat_eq}
+use Rattle.std.proofs.Common.{◌≡◌, ◌⊎◌, ℕ, zero, suc, ◌<◌, ◌≤◌, List, ◌++◌, Some, None, length, refl, sym, ◌∙◌, ap, false, subst, inl, inr, codes, arith, nat_eq}
 use Rattle.std.specs.Prelude.{Option}
 use Rattle.std.specs.Cmp.Lexicographic.{pointwise, bytes_decides}
 use Rattle.std.proofs.lemmas.Bool.{cases_lt, cases_eq, cases_Bool, true≢false}
-use Rattle.dx_ports.specs.declared.file.Count.TheVariants.{Lines, Rules}
+use Rattle.dx_ports.specs.declared.file.Count.TheVariants.{FrozenCells, Lines, Rules}
+use Rattle.dx_ports.specs.Members.{Each}
+use Rattle.dx_model.specs.Fitting.{IsRule}
+use Rattle.dx_model.specs.Following.{underived}
+use Rattle.dx_tgd_text.specs.Laws.{IsWhole}
+use Rattle.dx_tgd_text.proofs.Written.{texts_have_whole_rules}
+use Rattle.dx_implies.specs.Pruning.{IsLeft, PassesTest}
+use Rattle.dx_implies.proofs.Pruned.{left_exists, one_is_left, passes_or_none}
 use Rattle.dx_schema.specs.Forest.{Forest}
 use Rattle.dx_schema.specs.Tables.{model_tables, table_at, tables_of}
 use Rattle.dx_schema.specs.Links.{IsFaultless}
@@ -18,16 +25,19 @@ use Rattle.dx_schema_text.proofs.Answered.{mapping_or_fault, one_mapping, one_fa
 use Rattle.dx_funcs.specs.declared.conversion.Conversion.{Conversion}
 use Rattle.dx_line_text.specs.Naming.{lines_fault}
 use Rattle.dx_tgd_text.specs.Reading.{rules_fault}
-use Rattle.dx_stages.specs.Stages.{Stage, next, into, over, saying, notions, checking}
-use Rattle.dx_stages.specs.Laws.{PassesOne, IsDecided}
-use Rattle.dx_stages.proofs.Decided.{Any, next_one, next_decided, checking_one, checking_decided, into_one, into_decided, over_one, over_decided, notions_decided, saying_decided}
+use Rattle.dx_stages.specs.Stages.{Stage, next, over, notions, checking}
+use Rattle.dx_stages.specs.Laws.{PassesOne, IsDecided, Leads}
+use Rattle.dx_stages.proofs.Decided.{Any, next_one, next_decided, checking_one, checking_decided, into_one, into_decided, over_one, over_decided, notions_decided, saying_decided, weaker}
 use Rattle.clio_accept.specs.declared.fault.AcceptFault.{AcceptFault}
 use Rattle.clio_accept.specs.declared.fault.AcceptFault.TheVariants as faults
 use Rattle.clio_accept.specs.declared.fault.MapFault.TheVariants as map_faults
 use Rattle.clio_accept.specs.Mapping.{IsReserved, NoneReserved, IsFirstReserved, AreRulesOf, TooWide, rules_of, written_of, limit_of, text_refusal, source_refusal, target_refusal}
-use Rattle.clio_accept.specs.Mapping.{SourceRefused, TargetRefused, NameRefused, LinesRefused, NamingRefused, WritingRefused, LimitRefused, WidthRefused, RulesRefused}
+use Rattle.clio_accept.specs.Mapping.{SourceRefused, TargetRefused, NameRefused, LinesRefused, NamingRefused, WritingRefused}
+use Rattle.clio_accept.specs.Mapping.{LimitRefused, WidthRefused, RulesRefused, FrozenRefused, frozen_cells}
 use Rattle.clio_accept.proofs.Closed.{one_closed, never_closed, closed_or_wide}
-use Rattle.clio_accept.specs.Accepting.{Between, line_count, naming, writing, limits, closing, rule_count, taking, source_sets, target_sets, target_names, between_of, with_rules, said_rules, accepting_said, said_by, accepting}
+use Rattle.clio_accept.proofs.Ruled.{are_rules, saying_all}
+use Rattle.clio_accept.specs.Accepting.{Between, line_count, naming, writing, limits, closing, rule_count, frozen_count, pruning, leaving, taking}
+use Rattle.clio_accept.specs.Accepting.{source_sets, target_sets, target_names, between_of, with_rules, said_rules, accepting_said, said_by, accepting}
 
 abbrev Same : AcceptFault → AcceptFault → Type 0
 Same d e = d ≡ e
@@ -145,8 +155,14 @@ none_or_reserved f = elim (first_reserved f (length (tables_of f))) [
 
 -- ---- one stage after the other
 
-after : {A B C : Type 0} (s : Stage AcceptFault A B) (t : Stage AcceptFault B C) → PassesOne s → IsDecided Same Any s → IsDecided Same Any t → IsDecided Same Any (next s t)
-after s t p u v = next_decided Same Any Any s t p (λ c a b g h. tt) u v
+-- a first stage that is decided of all, and one that is decided of what it passes
+after : {A B C : Type 0} (Given : A → Type 0) (Between : B → Type 0) (s : Stage AcceptFault A B) (t : Stage AcceptFault B C) → PassesOne s → Leads Given Between s
+    → IsDecided Same Any s → IsDecided Same Between t → IsDecided Same Given (next s t)
+after Given Between s t p leads u v = next_decided Same Given Between s t p leads (weaker Same Any Given s (λ a g. tt) u) v
+
+-- what is checked is so in what is passed
+keeps : {A : Type 0} (Given : A → Type 0) (refused : A → AcceptFault → Type 0) (fits : A → Type 0) → Leads Given (λ a. Given a × fits a) (checking refused fits)
+keeps Given refused fits c a b g p = subst (λ x. Given x × fits x) (sym p.1) (g, p.0)
 
 check : {A : Type 0} (refused : A → AcceptFault → Type 0) (fits : A → Type 0) → ((a : A) (e f : AcceptFault) → refused a e → refused a f → e ≡ f) → ((a : A) (e : AcceptFault) → fits a → ¬ (refused a e))
     → ((a : A) → fits a ⊎ ((e : AcceptFault) × refused a e)) → IsDecided Same Any (checking refused fits)
@@ -234,19 +250,90 @@ closing_one list c b R S p q =
 rule_count_one : PassesOne rule_count
 rule_count_one = checking_one RulesRefused (λ R. length R ≤ 256)
 
+-- ---- what is left of rules
+
+-- those without derived variables are rules
+abbrev AreRules : List Rule → Type 0
+AreRules R = Each (underived R) IsRule
+
+frozen_one : PassesOne frozen_count
+frozen_one = checking_one FrozenRefused (λ R. ¬ (PassesTest frozen_cells R))
+
+pruning_one : PassesOne pruning
+pruning_one c R P Q p q = one_is_left R P Q p q
+
+leaving_one : PassesOne leaving
+leaving_one = next_one rule_count (next frozen_count pruning) rule_count_one (next_one frozen_count pruning frozen_one pruning_one)
+
+frozen_decided : IsDecided Same AreRules frozen_count
+frozen_decided =
+    notions_decided Same AreRules FrozenRefused (λ R P. (¬ (PassesTest frozen_cells R)) × (P ≡ R)) (λ R d e g p q. p.1 ∙ sym q.1) (λ R P e g p q. p.0 q.0)
+    (λ R g. either R g)
+  where
+    either : (R : List Rule) → AreRules R → ((P : List Rule) × ((¬ (PassesTest frozen_cells R)) × (P ≡ R))) ⊎ ((e : AcceptFault) × FrozenRefused R e)
+    either R g = elim (passes_or_none frozen_cells R g) [
+      | inl p ↦ inr (faults.Limit (record { what = FrozenCells; number = frozen_cells }), (p, refl))
+      | inr n ↦ inl (R, (n, refl))
+    ]
+
+pruning_decided : IsDecided Same AreRules pruning
+pruning_decided = notions_decided Same AreRules (λ R e. ⊥) IsLeft (λ R d e g p q. absurd p) (λ R P e g p q. q) (λ R g. inl (left_exists R g))
+
+-- a check passes on what it was given
+stays : {A : Type 0} (Given : A → Type 0) (refused : A → AcceptFault → Type 0) (fits : A → Type 0) → Leads Given Given (checking refused fits)
+stays Given refused fits c a b g p = subst Given (sym p.1) g
+
+leaving_decided : IsDecided Same AreRules leaving
+leaving_decided =
+    after AreRules AreRules rule_count (next frozen_count pruning) rule_count_one (stays AreRules RulesRefused (λ R. length R ≤ 256)) rule_count_decided
+    (next_decided Same AreRules AreRules frozen_count pruning frozen_one (stays AreRules FrozenRefused (λ R. ¬ (PassesTest frozen_cells R))) frozen_decided pruning_decided)
+
+-- ---- the rules between two schemas
+
+-- the schemas have no fault, and the hand-written rules are whole
+abbrev IsSound : Between → Type 0
+IsSound b = (Each b.by_hand IsWhole × IsFaultless b.source) × IsFaultless b.target
+
+abbrev IsCounted : Between → Type 0
+IsCounted b = IsSound b × (length b.lines ≤ 512)
+
+abbrev IsNamed : List Conversion → Between → Type 0
+IsNamed list b = IsCounted b × (lines_fault b.source b.target list b.lines ≡ None)
+
+abbrev IsWritten : List Conversion → Between → Type 0
+IsWritten list b = IsNamed list b × (rules_fault b.source b.target list b.by_hand ≡ None)
+
+abbrev IsLimited : List Conversion → Between → Type 0
+IsLimited list b = IsWritten list b × (limit_of list b.source b.target b.lines ≡ None)
+
+closing_leads : (list : List Conversion) → Leads (IsLimited list) AreRules (closing list)
+closing_leads list c b R g are = are_rules list (saying_all b) R (record {
+  source = g.0.0.0.0.0.1;
+  target = g.0.0.0.0.1;
+  named = g.0.0.1;
+  limits = g.1;
+  written = g.0.1;
+  whole = g.0.0.0.0.0.0;
+}) are
+
 taking_one : (list : List Conversion) → PassesOne (taking list)
 taking_one list =
-    next_one line_count (next (naming list) (next (writing list) (next (limits list) (next (closing list) rule_count)))) line_count_one
-    (next_one (naming list) (next (writing list) (next (limits list) (next (closing list) rule_count))) (naming_one list)
-    (next_one (writing list) (next (limits list) (next (closing list) rule_count)) (writing_one list)
-    (next_one (limits list) (next (closing list) rule_count) (limits_one list) (next_one (closing list) rule_count (closing_one list) rule_count_one))))
+    next_one line_count (next (naming list) (next (writing list) (next (limits list) (next (closing list) leaving)))) line_count_one
+    (next_one (naming list) (next (writing list) (next (limits list) (next (closing list) leaving))) (naming_one list)
+    (next_one (writing list) (next (limits list) (next (closing list) leaving)) (writing_one list)
+    (next_one (limits list) (next (closing list) leaving) (limits_one list) (next_one (closing list) leaving (closing_one list) leaving_one))))
 
-taking_decided : (list : List Conversion) → IsDecided Same Any (taking list)
+taking_decided : (list : List Conversion) → IsDecided Same IsSound (taking list)
 taking_decided list =
-    after line_count (next (naming list) (next (writing list) (next (limits list) (next (closing list) rule_count)))) line_count_one line_count_decided
-    (after (naming list) (next (writing list) (next (limits list) (next (closing list) rule_count))) (naming_one list) (naming_decided list)
-    (after (writing list) (next (limits list) (next (closing list) rule_count)) (writing_one list) (writing_decided list)
-    (after (limits list) (next (closing list) rule_count) (limits_one list) (limits_decided list) (after (closing list) rule_count (closing_one list) (closing_decided list) rule_count_decided))))
+    after IsSound IsCounted line_count (next (naming list) (next (writing list) (next (limits list) (next (closing list) leaving)))) line_count_one
+    (keeps IsSound (λ b. LinesRefused b.lines) (λ b. length b.lines ≤ 512)) line_count_decided
+    (after IsCounted (IsNamed list) (naming list) (next (writing list) (next (limits list) (next (closing list) leaving))) (naming_one list)
+    (keeps IsCounted (λ b. NamingRefused list b.source b.target b.lines) (λ b. lines_fault b.source b.target list b.lines ≡ None)) (naming_decided list)
+    (after (IsNamed list) (IsWritten list) (writing list) (next (limits list) (next (closing list) leaving)) (writing_one list)
+    (keeps (IsNamed list) (λ b. WritingRefused list b.source b.target b.by_hand) (λ b. rules_fault b.source b.target list b.by_hand ≡ None)) (writing_decided list)
+    (after (IsWritten list) (IsLimited list) (limits list) (next (closing list) leaving) (limits_one list)
+    (keeps (IsWritten list) (λ b. LimitRefused list b.source b.target b.lines) (λ b. limit_of list b.source b.target b.lines ≡ None)) (limits_decided list)
+    (after (IsLimited list) AreRules (closing list) leaving (closing_one list) (closing_leads list) (closing_decided list) leaving_decided))))
 
 -- ---- what a text says
 
@@ -294,11 +381,23 @@ said_one list =
     next_one source_sets (next target_sets (next target_names (said_rules list))) source_one
     (next_one target_sets (next target_names (said_rules list)) target_one (next_one target_names (said_rules list) names_one (said_rules_one list)))
 
-said_decided : (list : List Conversion) → IsDecided Same Any (accepting_said list)
+-- the hand-written rules are whole
+abbrev IsWholeText : MappingText → Type 0
+IsWholeText m = Each m.rules IsWhole
+
+abbrev HasSource : MappingText → Type 0
+HasSource m = IsWholeText m × IsFaultless m.source
+
+abbrev HasTarget : MappingText → Type 0
+HasTarget m = HasSource m × IsFaultless m.target
+
+said_decided : (list : List Conversion) → IsDecided Same IsWholeText (accepting_said list)
 said_decided list =
-    after source_sets (next target_sets (next target_names (said_rules list))) source_one source_decided
-    (after target_sets (next target_names (said_rules list)) target_one target_decided (after target_names (said_rules list) names_one names_decided
-    (into_decided Same Any with_rules (over between_of (taking list)) (over_decided Same Any Any between_of (taking list) (λ a g. tt) (taking_decided list)))))
+    after IsWholeText HasSource source_sets (next target_sets (next target_names (said_rules list))) source_one
+    (keeps IsWholeText (λ m. SourceRefused m.source) (λ m. IsFaultless m.source)) source_decided
+    (after HasSource HasTarget target_sets (next target_names (said_rules list)) target_one (keeps HasSource (λ m. TargetRefused m.target) (λ m. IsFaultless m.target)) target_decided
+    (after HasTarget HasTarget target_names (said_rules list) names_one (stays HasTarget (λ m. NameRefused m.target) (λ m. NoneReserved m.target)) names_decided
+    (into_decided Same HasTarget with_rules (over between_of (taking list)) (over_decided Same HasTarget IsSound between_of (taking list) (λ m g. g) (taking_decided list)))))
 
 -- ---- a text
 
@@ -310,8 +409,11 @@ said_by_decided =
     saying_decided (λ e k. e ≡ k) Same Any text_refusal (notions IsTextFault IsMappingText) (λ e k is. ap text_refusal is)
     (notions_decided (λ e k. e ≡ k) Any IsTextFault IsMappingText (λ text e f g. one_fault text e f) (λ text m e g. never_said_and_faulty text m e) (λ text g. mapping_or_fault text))
 
+said_by_leads : Leads Any IsWholeText said_by
+said_by_leads c text m g says r i = (texts_have_whole_rules text m says r i).0
+
 pub accepting_one : (list : List Conversion) → PassesOne (accepting list)
 accepting_one list = next_one said_by (accepting_said list) said_by_one (said_one list)
 
 pub accepting_decided : (list : List Conversion) → IsDecided (λ e f. e ≡ f) (λ text. Unit {0}) (accepting list)
-accepting_decided list = after said_by (accepting_said list) said_by_one said_by_decided (said_decided list)
+accepting_decided list = after Any IsWholeText said_by (accepting_said list) said_by_one said_by_leads said_by_decided (said_decided list)

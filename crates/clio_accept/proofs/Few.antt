@@ -1,10 +1,10 @@
 -- The unfoldings of schemas within the limits have few variables.
-use Rattle.std.proofs.Common.{◌≡◌, ℕ, ◌+◌, ◌*◌, ◌-◌, ◌^◌, ◌<◌, ◌≤◌, Bool, true, false, cond, List, [], ◌∷◌, ◌++◌, length, refl, sym, ◌∙◌, ap, subst, arith, get_or, Option, Some, None}
-use Rattle.std.specs.Prelude.{flat_map, map, nat_lt, ◌||◌}
+use Rattle.std.proofs.Common.{◌≡◌, ℕ, ◌+◌, ◌*◌, ◌-◌, ◌^◌, ◌<◌, ◌≤◌, Bool, true, false, cond, List, [], ◌∷◌, length, refl, sym, ap, subst, arith, Option, Some, None}
+use Rattle.std.specs.Prelude.{flat_map, nat_lt, ◌||◌}
 use Rattle.std.specs.List.{list_any}
 use Rattle.std.proofs.lemmas.Bool.{false≢true}
 use Rattle.std.proofs.lemmas.Bool.Decides.{nat_tests}
-use Rattle.std.proofs.lemmas.List.{length-append, length-map, get_or-map}
+use Rattle.std.proofs.lemmas.List.{length-append}
 use Rattle.dx_ports.specs.Members.{◌∈◌, here, there, Each}
 use Rattle.dx_ports.proofs.Members.{from_map, in_at}
 use Rattle.dx_model.specs.Tables.{Table, table_of}
@@ -14,15 +14,14 @@ use Rattle.dx_schema_text.specs.declared.texts.MappingText.{MappingText}
 use Rattle.dx_schema_text.specs.Texts.{IsMappingText}
 use Rattle.dx_schema_text.proofs.FewRules as few
 use Rattle.dx_schema.specs.Links.{IsFaultless}
-use Rattle.dx_schema.specs.Tables.{TableOf, AreTables, as_numbers, model_tables, tables_of}
+use Rattle.dx_schema.specs.Tables.{as_numbers, model_tables, tables_of}
 use Rattle.dx_schema.proofs.Valid.{are_tables}
 use Rattle.dx_logical.specs.declared.relation.Occurrence.{Occurrence}
-use Rattle.dx_logical.specs.declared.relation.Relation.{Relation}
 use Rattle.dx_logical.specs.Laws.{IsUnfolding, variables_of}
 use Rattle.dx_logical.specs.Unfolding.{unfolding_of}
 use Rattle.dx_lines.specs.declared.line.Line.{Line}
 use Rattle.dx_lines.specs.Candidates.{upto}
-use Rattle.dx_lines.specs.Limits.{has_many_ways, is_wide, passed}
+use Rattle.dx_lines.specs.Limits.{is_wide, passed}
 use Rattle.dx_candidates.proofs.Lists.{in_upto}
 use Rattle.dx_rules.proofs.ClosedRules.{occurrences_fit}
 

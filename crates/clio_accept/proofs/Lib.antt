@@ -4,3 +4,5 @@ pub mod Decided
 pub mod Few
 pub mod Closed
 pub mod Accepted
+pub mod Ruled
+pub mod Silent

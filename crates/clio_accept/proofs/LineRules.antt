@@ -1,5 +1,5 @@
 -- From the answers of the steps of lines and hand-written rules to that of their rules.
-use Rattle.std.proofs.Common.{◌≡◌, ◌⊎◌, ℕ, ◌<◌, ◌≤◌, List, [], ◌∷◌, ◌++◌, length, Some, None, refl, inl, inr, sym, ap, ◌∙◌, subst, Ok, Err}
+use Rattle.std.proofs.Common.{◌≡◌, ◌⊎◌, ◌<◌, ◌≤◌, List, ◌++◌, length, Some, None, refl, inl, inr, ap, ◌∙◌, subst, Ok, Err}
 use Rattle.dx_ports.specs.declared.file.Limit.{Limit}
 use Rattle.dx_ports.specs.declared.file.Count.TheVariants as counts
 use Rattle.dx_model.specs.declared.rules.Rule.{Rule}
@@ -14,7 +14,12 @@ use Rattle.dx_tgd_text.specs.Reading.{rules_fault}
 use Rattle.dx_stages.specs.Running.{Answers}
 use Rattle.clio_accept.specs.declared.fault.AcceptFault.{AcceptFault}
 use Rattle.clio_accept.specs.declared.fault.AcceptFault.TheVariants as faults
-use Rattle.clio_accept.specs.Mapping.{AreClosings, AreRulesOf, WidthRefused, limit_of, limit_refusal, rules_of, text_refusal, written_of}
+use Rattle.dx_tgd.specs.declared.fault.CanonFault.{CanonFault}
+use Rattle.dx_tgd.specs.declared.fault.CanonFault.TheVariants as canon_faults
+use Rattle.dx_implies.specs.Frozen.{IsRefusal}
+use Rattle.dx_implies.specs.Pruning.{IsLeft, PassesTest}
+use Rattle.clio_accept.specs.Mapping.{AreClosings, AreRulesOf, WidthRefused, frozen_cells, frozen_refusal, limit_of, limit_refusal}
+use Rattle.clio_accept.specs.Mapping.{rules_of, text_refusal, written_of}
 use Rattle.clio_accept.specs.Accepting.{Between, taking}
 
 -- a word of the lines names nothing
@@ -62,9 +67,17 @@ all_rules list b written kept closed R are is closings both = record {
 pub count_stops : (list : List Conversion) (b : Between) (R : List Rule) → AreRead list b → limit_of list b.source b.target b.lines ≡ None → AreRulesOf list b.source b.target b.lines b.by_hand R
     → 256 < length R → Answers faults.Memory (taking list) b (Err (faults.Limit (record { what = counts.Rules; number = 256 })))
 count_stops list b R r limits are many =
-    inr (λ c. inr (b, (r.few, refl), inr (b, (r.named, refl), inr (b, (r.written, refl), inr (b, (limits, refl), inr (R, are, (many, refl)))))))
+    inr (λ c. inr (b, (r.few, refl), inr (b, (r.named, refl), inr (b, (r.written, refl), inr (b, (limits, refl), inr (R, are, inl (many, refl)))))))
 
--- the rules are taken
-pub rules_taken : (list : List Conversion) (b : Between) (R : List Rule) → AreRead list b → limit_of list b.source b.target b.lines ≡ None → AreRulesOf list b.source b.target b.lines b.by_hand R
-    → length R ≤ 256 → Answers faults.Memory (taking list) b (Ok R)
-rules_taken list b R r limits are few = λ c. (b, (r.few, refl), (b, (r.named, refl), (b, (r.written, refl), (b, (limits, refl), (R, are, (few, refl))))))
+-- a test of pruning passes the limit
+pub frozen_stops : (list : List Conversion) (b : Between) (R : List Rule) (f : CanonFault) → AreRead list b → limit_of list b.source b.target b.lines ≡ None
+    → AreRulesOf list b.source b.target b.lines b.by_hand R → length R ≤ 256 → IsRefusal frozen_cells (PassesTest frozen_cells R) f → Answers faults.Memory (taking list) b (Err (frozen_refusal f))
+frozen_stops list b R canon_faults.Memory r limits are few h = inl refl
+frozen_stops list b R (canon_faults.Limit l) r limits are few h =
+    inr (λ c. inr (b, (r.few, refl), inr (b, (r.named, refl), inr (b, (r.written, refl), inr (b, (limits, refl), inr (R, are, inr (R, (few, refl), inl (h.1, ap faults.Limit h.0))))))))
+
+-- the pruned rules are taken
+pub rules_taken : (list : List Conversion) (b : Between) (R P : List Rule) → AreRead list b → limit_of list b.source b.target b.lines ≡ None → AreRulesOf list b.source b.target b.lines b.by_hand R
+    → length R ≤ 256 → ¬ (PassesTest frozen_cells R) → IsLeft R P → Answers faults.Memory (taking list) b (Ok P)
+rules_taken list b R P r limits are few none left =
+    λ c. (b, (r.few, refl), (b, (r.named, refl), (b, (r.written, refl), (b, (limits, refl), (R, are, (R, (few, refl), (R, (none, refl), left)))))))

@@ -9,12 +9,12 @@ use Rattle.dx_tokens.specs.declared.faults.TextFault.{TextFault}
 use Rattle.dx_funcs.specs.declared.conversion.Conversion.{Conversion}
 use Rattle.dx_stages.specs.Stages.{next}
 use Rattle.dx_stages.specs.Running.{Answers}
-use Rattle.dx_stages.proofs.Running.{answers_next, answers_made, answers_unmade}
+use Rattle.dx_stages.proofs.Running.{answers_next}
 use Rattle.clio_accept.specs.declared.fault.AcceptFault.{AcceptFault}
 use Rattle.clio_accept.specs.declared.fault.AcceptFault.TheVariants.{Mapping, Memory}
 use Rattle.clio_accept.specs.declared.fault.MapFault.TheVariants as map_faults
 use Rattle.clio_accept.specs.Mapping.{IsFirstReserved, NoneReserved, SourceRefused, TargetRefused, text_refusal}
-use Rattle.clio_accept.specs.Accepting.{Between, accepting, accepting_said, between_of, said_by, said_rules, source_sets, taking, target_names, target_sets, with_rules}
+use Rattle.clio_accept.specs.Accepting.{Between, accepting, accepting_said, between_of, said_rules, source_sets, taking, target_names, target_sets, with_rules}
 
 pub by_text : (list : List Conversion) (text : List ℕ) (f : TextFault) → IsToldFault text f → Answers Memory (accepting list) text (Err (text_refusal f))
 by_text list text f (inl is) = inl (ap text_refusal is)

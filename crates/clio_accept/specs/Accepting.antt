@@ -8,14 +8,16 @@ use Rattle.dx_schema_text.specs.declared.texts.LineText.{LineText}
 use Rattle.dx_schema_text.specs.declared.texts.RuleText.{RuleText}
 use Rattle.dx_schema_text.specs.declared.texts.MappingText.{MappingText}
 use Rattle.dx_schema_text.specs.Texts.{IsMappingText, IsTextFault}
-use Rattle.dx_tokens.specs.declared.faults.TextFault.{TextFault}
 use Rattle.dx_funcs.specs.declared.conversion.Conversion.{Conversion}
 use Rattle.dx_line_text.specs.Naming.{lines_fault}
 use Rattle.dx_tgd_text.specs.Reading.{rules_fault}
+use Rattle.dx_implies.specs.Pruning.{IsLeft, PassesTest}
 use Rattle.dx_stages.specs.Stages.{Stage, next, over, into, saying, checking, notions}
 use Rattle.clio_accept.specs.declared.mapping.Mapping.{Mapping}
 use Rattle.clio_accept.specs.declared.fault.AcceptFault.{AcceptFault}
-use Rattle.clio_accept.specs.Mapping.{SourceRefused, TargetRefused, NameRefused, LinesRefused, NamingRefused, WritingRefused, LimitRefused, WidthRefused, RulesRefused, NoneReserved, AreRulesOf, written_of, limit_of, text_refusal}
+use Rattle.clio_accept.specs.Mapping.{SourceRefused, TargetRefused, NameRefused, LinesRefused, NamingRefused, WritingRefused}
+use Rattle.clio_accept.specs.Mapping.{LimitRefused, WidthRefused, RulesRefused, FrozenRefused, frozen_cells}
+use Rattle.clio_accept.specs.Mapping.{NoneReserved, AreRulesOf, written_of, limit_of, text_refusal}
 
 -- ---- rules
 
@@ -45,14 +47,27 @@ limits list = checking (λ b. LimitRefused list b.source b.target b.lines) (λ b
 -- the rules that the lines stand for, and the closed hand-written rules, none of which is too wide
 abbrev pub closing : List Conversion → Stage AcceptFault Between (List Rule)
 closing list =
-    notions (λ b. WidthRefused (model_tables b.target) (written_of list b.source b.target b.by_hand)) (λ b. AreRulesOf list b.source b.target b.lines b.by_hand)
+    notions (λ b. WidthRefused (model_tables b.target) (written_of list b.source b.target b.by_hand))
+    (λ b. AreRulesOf list b.source b.target b.lines b.by_hand)
 
 -- at most 256 rules
 abbrev pub rule_count : Stage AcceptFault (List Rule) (List Rule)
 rule_count = checking RulesRefused (λ R. length R ≤ 256)
 
+-- at most 4,000,000 canonical cells on the frozen premise of each rule that pruning tests
+abbrev pub frozen_count : Stage AcceptFault (List Rule) (List Rule)
+frozen_count = checking FrozenRefused (λ R. ¬ (PassesTest frozen_cells R))
+
+-- the pruned list
+abbrev pub pruning : Stage AcceptFault (List Rule) (List Rule)
+pruning = notions (λ R e. ⊥) IsLeft
+
+-- what is left of the rules
+abbrev pub leaving : Stage AcceptFault (List Rule) (List Rule)
+leaving = next rule_count (next frozen_count pruning)
+
 abbrev pub taking : List Conversion → Stage AcceptFault Between (List Rule)
-taking list = next line_count (next (naming list) (next (writing list) (next (limits list) (next (closing list) rule_count))))
+taking list = next line_count (next (naming list) (next (writing list) (next (limits list) (next (closing list) leaving))))
 
 -- ---- the mapping of what a text says
 

@@ -14,7 +14,7 @@ use Rattle.dx_stages.specs.Laws.{IsDecided, PassesOne}
 use Rattle.clio_accept.specs.declared.mapping.Mapping.{Mapping}
 use Rattle.clio_accept.specs.Accepting.{accepting}
 
--- Both schemas are faultless and their names are words; there are at most 256 rules; each fits the schemas, is closed under the
+-- Both schemas are faultless and their names are words; at most 256 rules are left; each fits the schemas, is closed under the
 -- links of the target, and has conversions of the list alone, each of as many arguments as it takes.
 pub record MappingFits (list : List Conversion) (M : Mapping) : Type 0 where
   pub source : IsFaultless M.source
@@ -38,4 +38,6 @@ AcceptedOrRefused = (list : List Conversion) → IsDecided (λ e f. e ≡ f) (λ
 
 -- an accepted mapping has two schemas, and rules that fit them, of a text of fewer than 4,294,967,295 bytes
 abbrev pub AcceptedFits : Type 0
-AcceptedFits = (list : List Conversion) (c : World) (text : List ℕ) (M : Mapping) → length text < 2 ^ 32 - 1 → (accepting list).passes c text M → MappingFits list M
+AcceptedFits =
+    (list : List Conversion) (c : World) (text : List ℕ) (M : Mapping) → length text < 2 ^ 32 - 1 → (accepting list).passes c text M
+    → MappingFits list M

@@ -1,6 +1,6 @@
 -- What a text is refused for, and the mapping of what it says.
 use Rattle.std.specs.Prelude.{◌≡◌, ◌⊎◌, ℕ, ◌<◌, ◌≤◌, List, [], ◌∷◌, ◌++◌, Option, Some, length, codes}
-use Rattle.dx_ports.specs.declared.file.Count.TheVariants.{Depth, Lines, Occurrences, Rules}
+use Rattle.dx_ports.specs.declared.file.Count.TheVariants.{Depth, FrozenCells, Lines, Occurrences, Rules}
 use Rattle.dx_ports.specs.declared.file.Limit.{Limit}
 use Rattle.dx_ports.specs.Members.{◌∈◌}
 use Rattle.dx_model.specs.declared.rules.Atom.{Atom}
@@ -10,6 +10,8 @@ use Rattle.dx_tokens.specs.declared.faults.TextFault.{TextFault}
 use Rattle.dx_tokens.specs.declared.faults.TextFault.TheVariants as text_faults
 use Rattle.dx_candidates.specs.declared.fault.CandFault.{CandFault}
 use Rattle.dx_candidates.specs.declared.fault.CandFault.TheVariants as cand_faults
+use Rattle.dx_tgd.specs.declared.fault.CanonFault.{CanonFault}
+use Rattle.dx_tgd.specs.declared.fault.CanonFault.TheVariants as canon_faults
 use Rattle.dx_schema.specs.declared.fault.SchemaFault.{SchemaFault}
 use Rattle.dx_schema.specs.declared.fault.SchemaFault.TheVariants as schema_faults
 use Rattle.dx_schema.specs.Forest.{Forest}
@@ -17,13 +19,13 @@ use Rattle.dx_schema.specs.Tables.{tables_of, table_at, model_tables}
 use Rattle.dx_schema.specs.Links.{IsFirstFault}
 use Rattle.dx_schema_text.specs.declared.texts.LineText.{LineText}
 use Rattle.dx_schema_text.specs.declared.texts.RuleText.{RuleText}
-use Rattle.dx_schema_text.specs.declared.texts.MappingText.{MappingText}
 use Rattle.dx_funcs.specs.declared.conversion.Conversion.{Conversion}
 use Rattle.dx_line_text.specs.Naming.{lines_fault, lines_of}
 use Rattle.dx_closing.specs.Closing.{IsClosing, IsClosingOf}
 use Rattle.dx_lines.specs.Rules.{kept_rules}
 use Rattle.dx_lines.specs.Limits.{passed}
 use Rattle.dx_tgd_text.specs.Reading.{rules_fault}
+use Rattle.dx_implies.specs.Pruning.{PassesTest}
 use Rattle.dx_tgd_text.specs.Reading.{rules_of as said_rules_of}
 use Rattle.clio_accept.specs.declared.fault.AcceptFault.{AcceptFault}
 use Rattle.clio_accept.specs.declared.fault.AcceptFault.TheVariants as faults
@@ -59,6 +61,11 @@ text_refusal text_faults.Memory = faults.Memory
 abbrev pub limit_refusal : CandFault → AcceptFault
 limit_refusal (cand_faults.TooMany l) = faults.Limit l
 limit_refusal cand_faults.Memory = faults.Memory
+
+-- and where this is the fault of pruning its rules
+abbrev pub frozen_refusal : CanonFault → AcceptFault
+frozen_refusal (canon_faults.Limit l) = faults.Limit l
+frozen_refusal canon_faults.Memory = faults.Memory
 
 abbrev pub source_refusal : SchemaFault → AcceptFault
 source_refusal (schema_faults.Bad kind) = faults.Mapping (map_faults.Source kind)
@@ -149,3 +156,11 @@ WidthRefused schema written e = (d : Rule) × (d ∈ written) × IsTooWide schem
 -- there are too many rules
 abbrev pub RulesRefused : List Rule → AcceptFault → Type 0
 RulesRefused R e = (256 < length R) × (e ≡ faults.Limit (record { what = Rules; number = 256 }))
+
+-- how many canonical cells a frozen premise may have
+abbrev pub frozen_cells : ℕ
+frozen_cells = 4000000
+
+-- a rule that pruning tests has a frozen premise with too many canonical cells
+abbrev pub FrozenRefused : List Rule → AcceptFault → Type 0
+FrozenRefused R e = PassesTest frozen_cells R × (e ≡ faults.Limit (record { what = FrozenCells; number = frozen_cells }))

@@ -105,7 +105,8 @@ where
     })
 }
 
-/// The mapping that a text defines: its two schemas, the rules that its lines stand for, and its closed hand-written rules.
+/// The mapping that a text defines: its two schemas, and what pruning leaves of the rules that its lines stand for and its closed
+/// hand-written rules.
 ///
 /// # Errors
 ///
@@ -113,7 +114,8 @@ where
 /// that is taken; more than 512 lines; the first word of the lines that names nothing, or conversion with another number
 /// of arguments; the first fault of the hand-written rules; the limits of lines (64 occurrences of an unfolding, 64 ways
 /// between two tables, 1,024 candidates); a hand-written rule whose premise or closed conclusion has more than 64 atoms;
-/// more than 256 rules. `Memory` may come at any point.
+/// more than 256 rules; a rule that pruning tests, on whose frozen premise the others make more than 4,000,000 canonical
+/// cells. `Memory` may come at any point.
 pub fn accept<F, M>(alloc: Global, text: &[u8], host: &Host<F, M>) -> Result<Mapping, AcceptFault>
 where
     F: Fn(u32, &Items<Text>) -> Result<Text, AllocError>,

@@ -1,6 +1,6 @@
 // Why a mapping text is not accepted.
 ghost use Rattle.std.specs.Prelude.{◌≡◌};
-ghost use Rattle.clio_accept.specs.Mapping.{limit_refusal, text_refusal};
+ghost use Rattle.clio_accept.specs.Mapping.{frozen_refusal, limit_refusal, text_refusal};
 ghost use Rattle.clio_accept.specs.declared.fault.AcceptFault.TheVariants.{Memory};
 
 use dx_candidates::CandFault;
@@ -8,6 +8,7 @@ use dx_ports::limits::DEPTH;
 use dx_ports::{Count, Limit, Text};
 use dx_schema::SchemaKind;
 use dx_schema_text::{TextFault, TextKind};
+use dx_tgd::CanonFault;
 use std::alloc::{AllocError, AllocFailed};
 use thiserror::Error;
 
@@ -24,8 +25,6 @@ pub enum MapFault {
     Target(SchemaKind),
     /// A target set has this name, which a file of clio's own has.
     Reserved(Text),
-    /// The mapping is to be exchanged and a source set has inner sets, which CSV files don't say.
-    NotYet,
 }
 
 /// Why a mapping text is not accepted.
@@ -77,6 +76,17 @@ impl From<CandFault> for AcceptFault {
         match fault {
             CandFault::TooMany(limit) => AcceptFault::Limit(limit),
             CandFault::Memory => AcceptFault::Memory,
+        }
+    }
+}
+
+impl From<CanonFault> for AcceptFault {
+    ghost from_gives = { λ fault e. e ≡ frozen_refusal fault };
+
+    fn from(fault: CanonFault) -> Self {
+        match fault {
+            CanonFault::Limit(limit) => AcceptFault::Limit(limit),
+            CanonFault::Memory => AcceptFault::Memory,
         }
     }
 }

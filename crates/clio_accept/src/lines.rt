@@ -1,9 +1,10 @@
-// The rules of a mapping's lines, and its hand-written rules.
+// The rules of a mapping's lines, and its hand-written rules, without those that follow from the others.
 ghost use Rattle.std.specs.Prelude.{◌≡◌, ◌⊎◌, ◌++◌, List, Some, None, IfOk, IfErr, OnOk, MatchResult};
 ghost use Rattle.dx_ports.specs.Members.{Each};
 ghost use Rattle.dx_model.specs.declared.rules.Rule.{Rule as RuleOf};
 ghost use Rattle.dx_model.specs.Fitting.{AreNumbered};
 ghost use Rattle.dx_model.specs.Solutions.{AtomFits};
+ghost use Rattle.dx_schema.specs.Links.{IsFaultless};
 ghost use Rattle.dx_schema.specs.Tables.{model_tables};
 ghost use Rattle.dx_funcs.specs.Serving.{offered};
 ghost use Rattle.dx_stages.specs.Running.{Answers};
@@ -17,9 +18,10 @@ use crate::fault::AcceptFault;
 use dx_candidates::kept;
 use dx_closing::{CloseFault, close};
 use dx_funcs::{Host, Meaning};
+use dx_implies::prune;
 use dx_line_text::read_lines;
 use dx_model::Rule;
-use dx_ports::limits::{LINES, OCCURRENCES, RULES};
+use dx_ports::limits::{FROZEN_CELLS, LINES, OCCURRENCES, RULES};
 use dx_ports::{Count, Items, Limit, Text};
 use dx_schema::Schema;
 use dx_schema_text::{LineText, RuleText};
@@ -30,7 +32,8 @@ use std::alloc::{AllocError, Global};
 fn closed(alloc: Global, rule: Rule, target: &Schema) -> Result<Rule, AcceptFault>
     requires fits { Each rule.conclusion (AtomFits (model_tables target.now)) }
     requires numbered { AreNumbered rule.conclusion }
-    ensures { MatchResult result (IsNarrowClosing (model_tables target.now) rule) (λ e. (e ≡ Memory) ⊎ (IsTooWide (model_tables target.now) rule × (e ≡ TooWide))) }
+    ensures { MatchResult result (IsNarrowClosing (model_tables target.now) rule)
+        (λ e. (e ≡ Memory) ⊎ (IsTooWide (model_tables target.now) rule × (e ≡ TooWide))) }
 {
     let wide = AcceptFault::Limit(Limit {
         what: Count::Occurrences,
@@ -55,7 +58,8 @@ fn push_closed(
 ) -> Result<(), AcceptFault>
     requires fits { Each written.items (λ d. Each d.conclusion (AtomFits (model_tables target.now))) }
     requires numbered { Each written.items (λ d. AreNumbered d.conclusion) }
-    ensures closings { OnOk result ((E : List RuleOf) × AreClosings (model_tables target.now) written.items E × (rules.new.items ≡ rules.old.items ++ E)) }
+    ensures closings { OnOk result ((E : List RuleOf) × AreClosings (model_tables target.now) written.items E
+        × (rules.new.items ≡ rules.old.items ++ E)) }
     ensures wide { IfErr result (λ e. (e ≡ Memory) ⊎ WidthRefused (model_tables target.now) written.items e) }
 {
     for rule in written {
@@ -64,7 +68,7 @@ fn push_closed(
     Ok(())
 }
 
-/// The rules that lines between two schemas stand for, and after them the closed hand-written rules.
+/// What pruning leaves of the rules that lines between two schemas stand for, and after them the closed hand-written rules.
 pub(crate) fn rules_between<F, M>(
     alloc: Global,
     lines: &[LineText],
@@ -76,6 +80,8 @@ pub(crate) fn rules_between<F, M>(
 where
     F: Fn(u32, &Items<Text>) -> Result<Text, AllocError>,
     M: Meaning,
+    requires source { IsFaultless source.now }
+    requires target { IsFaultless target.now }
     requires whole { Each by_hand.now IsWhole }
     requires narrow { Each by_hand.now IsNarrow }
     ensures { Answers AcceptFault.Memory (taking (offered host.now))
@@ -97,5 +103,6 @@ where
             number: RULES,
         }));
     }
-    Ok(Items::from_vec(rules))
+    let left = prune(alloc, rules, source, target, FROZEN_CELLS)?;
+    Ok(Items::from_vec(left))
 }

@@ -36,3 +36,9 @@ pub returns : goal.returns
 returns g c =
     made (offered c.args.host.now) c.args.said c.in_ok-source.source c.in_ok-target.target c.in_ok-rules.rules c.in_ok-source.ensures.faultless c.in_ok-target.ensures.faultless
     c.in_ok-source.ensures.schema c.in_ok-target.ensures.schema (rw c.in_default.is at c.in_ok-name.ensures.none) (rw (c.items.ensures, c.items-2.ensures) at c.in_ok-rules.ensures)
+
+pub rules_between-requires-clause-source : goal.rules_between-requires-clause-source
+rules_between-requires-clause-source g c = rw c.in_ok-source.ensures.schema c.in_ok-source.ensures.faultless
+
+pub rules_between-requires-clause-target : goal.rules_between-requires-clause-target
+rules_between-requires-clause-target g c = rw c.in_ok-target.ensures.schema c.in_ok-target.ensures.faultless

@@ -1,14 +1,13 @@
-use Rattle.std.proofs.Common.{◌≡◌, ◌∙◌, ◌∷◌, ◌++◌, [], length, rules, ap, sym, subst, append_assoc, inl, inr}
+use Rattle.std.proofs.Common.{◌∙◌, ◌∷◌, ◌++◌, [], length, rules, ap, append_assoc}
 use Rattle.std.proofs.lemmas.Iterator.Adapters.{YieldsList-from_vec}
 use Rattle.std.proofs.lemmas.Iterator.Consumers.{YieldsList-end, YieldsList-turn}
 use Rattle.std.proofs.lemmas.Result.{err_from_is_err_and}
-use Rattle.dx_ports.specs.Members.{◌∈◌, Each}
+use Rattle.dx_ports.specs.Members.{Each}
 use Rattle.dx_ports.proofs.Loops.{each_item}
 use Rattle.dx_model.specs.declared.rules.Rule.{Rule}
 use Rattle.dx_model.specs.Fitting.{AreNumbered}
 use Rattle.dx_model.specs.Solutions.{AtomFits}
 use Rattle.dx_schema.specs.Tables.{model_tables}
-use Rattle.clio_accept.specs.Mapping.{AreClosings, WidthRefused}
 use Rattle.clio_accept.proofs.Closed.{closings_push, all_closed, one_wide}
 use Rattle.clio_accept.proofs.lines.push_closed.Goals as goal
 

@@ -1,11 +1,12 @@
-use Rattle.std.proofs.Common.{◌≡◌, ◌<◌, ◌≤◌, length, arith}
+use Rattle.std.proofs.Common.{◌≤◌, length, arith}
 use Rattle.dx_funcs.specs.Serving.{offered}
 use Rattle.dx_stages.specs.Running.{Answers}
 use Rattle.dx_stages.proofs.Running.{as_error}
 use Rattle.clio_accept.specs.declared.fault.AcceptFault.TheVariants.{Memory}
-use Rattle.clio_accept.specs.Mapping.{limit_refusal, text_refusal}
+use Rattle.clio_accept.specs.Mapping.{frozen_refusal, limit_refusal, text_refusal}
 use Rattle.clio_accept.specs.Accepting.{Between, taking}
-use Rattle.clio_accept.proofs.LineRules.{AreRead, all_rules, count_stops, limit_stops, naming_stops, rules_taken, width_stops, writing_stops}
+use Rattle.clio_accept.proofs.Ruled.{between_fit}
+use Rattle.clio_accept.proofs.LineRules.{AreRead, all_rules, count_stops, frozen_stops, limit_stops, naming_stops, rules_taken, width_stops, writing_stops}
 use Rattle.clio_accept.proofs.lines.rules_between.Goals as goal
 
 pub push_closed-requires-clause-fits : goal.push_closed-requires-clause-fits
@@ -62,6 +63,38 @@ returns-then-len-gt-RULES g c =
     (rw (c.items.ensures, c.in_ok-lines.ensures.lines) at c.in_ok-rules.ensures.rules) e.1 e.2 in
     count_stops list b c.push_closed.new.rules.items r (rw (c.items.ensures, c.in_ok-lines.ensures.lines) at c.in_ok-rules.ensures.passed_none) all (omega (arith, c.len.ensures, c.if-len-gt-RULES.true))
 
+pub prune-requires-clause-fits : goal.prune-requires-clause-fits
+prune-requires-clause-fits g c =
+    let list = offered c.args.host.now in
+    let b : Between = record { source = c.args.source.now; target = c.args.target.now; lines = c.args.lines.now; by_hand = c.args.by_hand.now } in
+    let few : length b.lines ≤ 512 = omega (arith, c.if-lines-gt-LINES.false) in
+    let r : AreRead list b = record { few = few; named = c.in_ok-lines.ensures.none; written = c.in_ok-written.ensures.none } in
+    let e = c.in_ok-push_closed.ensures.closings in
+    let all = all_rules list b c.in_ok-written.written.items c.in_ok-rules.rules.items e.0 c.push_closed.new.rules.items c.in_ok-written.ensures.rules
+    (rw (c.items.ensures, c.in_ok-lines.ensures.lines) at c.in_ok-rules.ensures.rules) e.1 e.2 in
+    between_fit list b c.push_closed.new.rules.items c.requires.source c.requires.target r (rw (c.items.ensures, c.in_ok-lines.ensures.lines) at c.in_ok-rules.ensures.passed_none)
+    c.requires.whole c.requires.narrow all
+
+pub prune-requires-clause-few : goal.prune-requires-clause-few
+prune-requires-clause-few g c = omega (arith, c.len.ensures, c.if-len-gt-RULES.false)
+
+pub prune-requires-clause-limit : goal.prune-requires-clause-limit
+prune-requires-clause-limit g c = omega arith
+
+pub returns-in_err-left : goal.returns-in_err-left
+returns-in_err-left g c =
+    let list = offered c.args.host.now in
+    let b : Between = record { source = c.args.source.now; target = c.args.target.now; lines = c.args.lines.now; by_hand = c.args.by_hand.now } in
+    let few : length b.lines ≤ 512 = omega (arith, c.if-lines-gt-LINES.false) in
+    let r : AreRead list b = record { few = few; named = c.in_ok-lines.ensures.none; written = c.in_ok-written.ensures.none } in
+    let e = c.in_ok-push_closed.ensures.closings in
+    let all = all_rules list b c.in_ok-written.written.items c.in_ok-rules.rules.items e.0 c.push_closed.new.rules.items c.in_ok-written.ensures.rules
+    (rw (c.items.ensures, c.in_ok-lines.ensures.lines) at c.in_ok-rules.ensures.rules) e.1 e.2 in
+    let fault = c.in_err-left.field-0.0 in
+    as_error _ (frozen_refusal fault) (Answers Memory (taking list) b) c.from_residual-in_err-left.ensures.1
+    (frozen_stops list b c.push_closed.new.rules.items fault r (rw (c.items.ensures, c.in_ok-lines.ensures.lines) at c.in_ok-rules.ensures.passed_none) all
+    (omega (arith, c.len.ensures, c.if-len-gt-RULES.false)) c.in_err-left.ensures.refused)
+
 pub returns : goal.returns
 returns g c =
     let list = offered c.args.host.now in
@@ -71,4 +104,5 @@ returns g c =
     let e = c.in_ok-push_closed.ensures.closings in
     let all = all_rules list b c.in_ok-written.written.items c.in_ok-rules.rules.items e.0 c.push_closed.new.rules.items c.in_ok-written.ensures.rules
     (rw (c.items.ensures, c.in_ok-lines.ensures.lines) at c.in_ok-rules.ensures.rules) e.1 e.2 in
-    rw c.from_vec.ensures (rules_taken list b c.push_closed.new.rules.items r (rw (c.items.ensures, c.in_ok-lines.ensures.lines) at c.in_ok-rules.ensures.passed_none) all (omega (arith, c.len.ensures, c.if-len-gt-RULES.false)))
+    rw c.from_vec.ensures (rules_taken list b c.push_closed.new.rules.items c.in_ok-left.left.items r (rw (c.items.ensures, c.in_ok-lines.ensures.lines) at c.in_ok-rules.ensures.passed_none) all
+    (omega (arith, c.len.ensures, c.if-len-gt-RULES.false)) c.in_ok-left.ensures.within c.in_ok-left.ensures.left)
