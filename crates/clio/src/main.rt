@@ -8,7 +8,7 @@
 
 ghost use Rattle.std.specs.Prelude.{◌≡◌, IfOk, length};
 ghost use Rattle.std.specs.Process.{exit_status};
-ghost use Rattle.clio_top.specs.Ending.{status_of};
+ghost use Rattle.clio_ending.specs.Ending.{status_of};
 ghost use Rattle.dx_funcs.specs.Offers.{IsListed};
 ghost use Rattle.dx_funcs.specs.Shipped.{shipped_apply, shipped_conversions};
 

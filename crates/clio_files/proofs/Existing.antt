@@ -1,5 +1,6 @@
 -- An exchange that fits its schema has files.
 use Rattle.std.proofs.Common.{◌≡◌, ℕ, suc, ◌≤◌, List, [], ◌∷◌, length, map, refl, ap, subst, arith}
+use Rattle.std.specs.Prelude.{if◌then◌else◌}
 use Rattle.std.specs.Cmp.{IsTotalOrder}
 use Rattle.std.specs.declared.cmp.Ordering.TheVariants.{Equal}
 use Rattle.std.proofs.lemmas.Cmp.{lists_total}
@@ -16,12 +17,15 @@ use Rattle.dx_model.proofs.Orders.{null_exact, null_total, slice_exact, value_ex
 use Rattle.dx_instance.specs.Stored.{TableRows, facts, rows_of}
 use Rattle.dx_instance.specs.ValueText.{value_text_of}
 use Rattle.dx_instance.proofs.StoredFacts.{fact_from_row}
-use Rattle.dx_schema.specs.Tables.{TableOf, tables_of}
+use Rattle.dx_schema.specs.Forest.{Forest}
+use Rattle.dx_schema.specs.Tables.{TableOf, table_at, tables_of}
 use Rattle.dx_csv.specs.Print.{HasNoMark, lines_text, table_lines}
 use Rattle.dx_csv.proofs.TableTextFacts.{printed-reads-back}
+use Rattle.dx_json.proofs.OneText.{has_text}
 use Rattle.clio_source.specs.Source.{csv_name}
 use Rattle.clio_files.specs.Files.{AreTableFiles, IsTableFile, nulls_in}
 use Rattle.clio_files.specs.Laws.{FilesExist}
+use Rattle.clio_files.specs.Nested.{AreRootFiles, IsRootFile, json_name, roots}
 use Rattle.clio_files.specs.Sheets.{AreNulls, Told}
 use Rattle.clio_files.proofs.SheetNulls.{from_nulls, in_nulls}
 
@@ -31,7 +35,8 @@ row_total = lists_total value_total
 row_exact : (x y : List Value) → row_cmp x y ≡ Equal → x ≡ y
 row_exact = slice_exact value_cmp value_exact
 
-table_file : (t : TableOf) (rows : List (List Value)) → HasNoMark t.columns → 1 ≤ length t.columns → Each rows (λ row. 1 ≤ length row) → (f : Told) × IsTableFile t rows f
+table_file : (t : TableOf) (rows : List (List Value)) → HasNoMark t.columns → 1 ≤ length t.columns → Each rows (λ row. 1 ≤ length row)
+    → (f : Told) × IsTableFile t rows f
 table_file t rows mark some wide =
     let sorted = in_order row_cmp row_total row_exact rows in (
       record { name = csv_name t.name; bytes = lines_text (table_lines t.columns sorted); count = length rows },
@@ -61,7 +66,8 @@ table_file t rows mark some wide =
     each r (here e) = subst (λ (c : List (List ℕ)). 1 ≤ length c) e some
     each r (there m) = one r m
 
-table_files : (n : ℕ) (ts : List TableOf) (T : List TableRows) → Each ts (λ t. HasNoMark t.columns) → Each ts (λ t. 1 ≤ length t.columns) → ((t : ℕ) → Each (rows_of T t) (λ row. 1 ≤ length row))
+table_files : (n : ℕ) (ts : List TableOf) (T : List TableRows) → Each ts (λ t. HasNoMark t.columns) → Each ts (λ t. 1 ≤ length t.columns)
+    → ((t : ℕ) → Each (rows_of T t) (λ row. 1 ≤ length row))
     → (fs : List Told) × AreTableFiles n ts T fs
 table_files n [] T marks some wide = ([], tt)
 table_files n (t ∷ ts) T marks some wide =
@@ -69,7 +75,7 @@ table_files n (t ∷ ts) T marks some wide =
     let fs = table_files (suc n) ts T (λ u m. marks u (there m)) (λ u m. some u (there m)) wide in
     (f.0 ∷ fs.0, (f.1, fs.1))
 
-nulls_exist : (T : List Fact) → (ns : List NullId) × AreNulls T ns
+pub nulls_exist : (T : List Fact) → (ns : List NullId) × AreNulls T ns
 nulls_exist T =
     let all = nulls_in (values T) in (
       in_order null_cmp null_total null_exact all,
@@ -82,8 +88,24 @@ nulls_exist T =
       },
     )
 
+root_file : (target : Forest) (T : List TableRows) (root : ℕ) → (f : Told) × IsRootFile target T root f
+root_file target T root =
+    let text = has_text T target root in (
+      record { name = json_name (table_at target root).name; bytes = text.0; count = length (rows_of T root) },
+      record { name = refl; bytes = text.1; count = refl },
+    )
+
+root_files : (target : Forest) (T : List TableRows) (rs : List ℕ) → (fs : List Told) × AreRootFiles target T rs fs
+root_files target T [] = ([], tt)
+root_files target T (r ∷ rs) =
+    let f = root_file target T r in
+    let fs = root_files target T rs in
+    (f.0 ∷ fs.0, (f.1, fs.1))
+
 pub files_exist : FilesExist
-files_exist source target list R e fits tables wide =
-    let fs = table_files 0 (tables_of target) e.target fits.no_marks (λ t m. (tables.each_table t m).some_column) (λ t row m. wide _ (fact_from_row e.target t row m)) in
+files_exist source target list mode nested R e fits tables wide =
+    let some : Each (tables_of target) (λ t. 1 ≤ length t.columns) = λ t m. (tables.each_table t m).some_column in
+    let fs = table_files 0 (tables_of target) e.target fits.no_marks some (λ t row m. wide _ (fact_from_row e.target t row m)) in
     let ns = nulls_exist (facts e.target) in
-    (_, record { tables = fs.0; tables_are = fs.1; nulls = ns.0; nulls_are = ns.1; is = refl })
+    let ds = root_files target e.target (if nested then roots target else []) in
+    (_, record { tables = fs.0; tables_are = fs.1; nulls = ns.0; nulls_are = ns.1; documents = ds.0; documents_are = ds.1; is = refl })

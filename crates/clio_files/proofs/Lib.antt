@@ -1,4 +1,5 @@
 pub mod SheetNulls
 pub mod SheetLists
 pub mod TextFiles
+pub mod RootFiles
 pub mod Existing

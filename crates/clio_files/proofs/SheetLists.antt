@@ -1,5 +1,6 @@
 -- Files, records and tables, one by one.
-use Rattle.std.proofs.Common.{◌≡◌, ℕ, zero, suc, ◌+◌, ◌-◌, ◌<◌, ◌≤◌, List, [], ◌∷◌, ◌++◌, ◌⊎◌, inl, inr, refl, sym, ap, ◌∙◌, subst, arith, Result, Ok, Err, length, get_or, take, map, flat_map, append_assoc}
+use Rattle.std.proofs.Common.{◌≡◌, ℕ, zero, suc, ◌+◌, ◌-◌, ◌<◌, ◌≤◌, List, [], ◌∷◌, ◌++◌, ◌⊎◌, inl, inr, refl, sym, ap, ◌∙◌, subst, arith}
+use Rattle.std.proofs.Common.{Result, Ok, Err, length, get_or, take, map, flat_map, append_assoc}
 use Rattle.std.specs.Prelude.{IfOk}
 use Rattle.std.specs.declared.alloc.AllocError.{AllocError}
 use Rattle.std.proofs.lemmas.Grind.{flat_map-append}
@@ -31,7 +32,8 @@ entries_seen [] = refl
 entries_seen (p ∷ ps) = ap (λ es. entry_of p.file ∷ es) (entries_seen ps)
 
 -- the files of printed files, taken over one by one
-pub files_taken : (files : List File) (taken ps : List Printed) → files ≡ map (λ (p : Printed). p.file) taken → map (λ (p : Printed). p) taken ≡ ps
+pub files_taken : (files : List File) (taken ps : List Printed) → files ≡ map (λ (p : Printed). p.file) taken
+    → map (λ (p : Printed). p) taken ≡ ps
     → entries_of files ≡ files_of (map seen ps)
 files_taken files taken ps e t =
     ap entries_of (e ∙ ap (λ (l : List Printed). map (λ (p : Printed). p.file) l) (sym (map_same taken) ∙ t)) ∙ entries_seen ps
@@ -44,23 +46,27 @@ lines_seen : (ps : List Printed) → flat_map printed_line ps ≡ summary_of (ma
 lines_seen [] = refl
 lines_seen (p ∷ ps) = ap (λ (l : List ℕ). line_of (seen p) ++ l) (lines_seen ps)
 
-pub all_lines : (ps : List Printed) (i : ℕ) (text : Text) → length ps ≤ i → text ≡ flat_map printed_line (take i ps) → text ≡ summary_of (map seen ps)
+pub all_lines : (ps : List Printed) (i : ℕ) (text : Text) → length ps ≤ i → text ≡ flat_map printed_line (take i ps)
+    → text ≡ summary_of (map seen ps)
 all_lines ps i text h e = e ∙ ap (flat_map printed_line) (take_all i ps h) ∙ lines_seen ps
 
 -- the files of two more
-pub two_more : (ps qs rs : List Printed) (a b : Printed) (s t : Told) → seen a ≡ s → seen b ≡ t → qs ≡ ps ++ a ∷ [] → rs ≡ qs ++ b ∷ [] → map seen rs ≡ map seen ps ++ s ∷ t ∷ []
+pub two_more : (ps qs rs : List Printed) (a b : Printed) (s t : Told) → seen a ≡ s → seen b ≡ t → qs ≡ ps ++ a ∷ [] → rs ≡ qs ++ b ∷ []
+    → map seen rs ≡ map seen ps ++ s ∷ t ∷ []
 two_more ps qs rs a b s t f g d h =
     rw (h, d, append_assoc ps (a ∷ []) (b ∷ []), map-append seen ps (a ∷ b ∷ []), f, g) refl
 
 -- ---- tables, one by one
 
-pub are_more : (n : ℕ) (ts : List TableOf) (T : List TableRows) (fs : List Told) (t : TableOf) (f : Told) → AreTableFiles n ts T fs → IsTableFile t (rows_of T (n + length ts)) f
+pub are_more : (n : ℕ) (ts : List TableOf) (T : List TableRows) (fs : List Told) (t : TableOf) (f : Told) → AreTableFiles n ts T fs
+    → IsTableFile t (rows_of T (n + length ts)) f
     → AreTableFiles n (ts ++ t ∷ []) T (fs ++ f ∷ [])
 are_more n [] T [] t f h k = let e : n + 0 ≡ n = omega arith in (subst (λ m. IsTableFile t (rows_of T m) f) e k, tt)
 are_more n [] T (g ∷ fs) t f h k = absurd h
 are_more n (u ∷ ts) T [] t f h k = absurd h
 are_more n (u ∷ ts) T (g ∷ fs) t f h k =
-    let e : n + length (u ∷ ts) ≡ suc n + length ts = omega arith in (h.0, are_more (suc n) ts T fs t f h.1 (subst (λ m. IsTableFile t (rows_of T m) f) e k))
+    let e : n + length (u ∷ ts) ≡ suc n + length ts = omega arith in
+    (h.0, are_more (suc n) ts T fs t f h.1 (subst (λ m. IsTableFile t (rows_of T m) f) e k))
 
 pub length_take : (ts : List TableOf) (i : ℕ) → i < length ts → length (take i ts) ≡ i
 length_take [] i h = absurd (omega (arith, h))
@@ -69,11 +75,13 @@ length_take (t ∷ ts) (suc i) h = ap suc (length_take ts i (omega (arith, h)))
 
 -- the file of a sheet
 pub sheet_told : (r : Result Printed AllocError) (name : Text) (records : Records) (s : Sheet)
-    → IfOk r (λ p. (s : Sheet) → name ≡ s.name → AreRecords records (s.header ∷ s.records) → seen p ≡ file_of s) → name ≡ s.name → AreRecords records (s.header ∷ s.records) → IfOk r (λ p. seen p ≡ file_of s)
+    → IfOk r (λ p. (s : Sheet) → name ≡ s.name → AreRecords records (s.header ∷ s.records) → seen p ≡ file_of s) → name ≡ s.name
+    → AreRecords records (s.header ∷ s.records) → IfOk r (λ p. seen p ≡ file_of s)
 sheet_told (Ok p) name records s f n e = f s n e
 sheet_told (Err x) name records s f n e = tt
 
-pub sheet_is : (s : Sheet) (records : Records) (name bytes : List ℕ) (count : ℕ) → name ≡ s.name → AreRecords records (s.header ∷ s.records) → bytes ≡ lines_text (s.header ∷ s.records) → count ≡ records.count - 1
+pub sheet_is : (s : Sheet) (records : Records) (name bytes : List ℕ) (count : ℕ) → name ≡ s.name
+    → AreRecords records (s.header ∷ s.records) → bytes ≡ lines_text (s.header ∷ s.records) → count ≡ records.count - 1
     → ◌≡◌ {A = Told} (record { name = name; bytes = bytes; count = count }) (file_of s)
 sheet_is s records name bytes count n h b c =
     let k : count ≡ length s.records = omega (arith, c, h.count) in
@@ -92,12 +100,15 @@ get_map f (x ∷ xs) zero d e h = refl
 get_map f (x ∷ xs) (suc i) d e h = get_map f xs i d e (omega arith)
 
 -- the names of the exported variables of the rule of a null
-pub names_at : (R : List Rule) (n : NullId) (lists : List (List Text)) (xs : List Text) → lists ≡ map exported_names R → n.rule < length R → xs ≡ get_or lists n.rule xs → xs ≡ exported_names (rule_of R n)
+pub names_at : (R : List Rule) (n : NullId) (lists : List (List Text)) (xs : List Text) → lists ≡ map exported_names R → n.rule < length R
+    → xs ≡ get_or lists n.rule xs → xs ≡ exported_names (rule_of R n)
 names_at R n lists xs e h g = g ∙ rw e (get_map exported_names R n.rule xs (record { premise = []; derived = []; conclusion = [] }) h)
 
 -- one null more
-pub null_lines_more : (R : List Rule) (rows : Rows) (ns : List NullId) (i : ℕ) (d : NullId) (lines : List (List Text)) → i < length ns → lines ≡ lines_of (nulls_sheet R rows (take i ns))
-    → lines ++ term_records (get_or ns i d) (exported_names (rule_of R (get_or ns i d))) (texts_of rows (get_or ns i d)) ≡ lines_of (nulls_sheet R rows (take (i + 1) ns))
+pub null_lines_more : (R : List Rule) (rows : Rows) (ns : List NullId) (i : ℕ) (d : NullId) (lines : List (List Text)) → i < length ns
+    → lines ≡ lines_of (nulls_sheet R rows (take i ns))
+    → lines ++ term_records (get_or ns i d) (exported_names (rule_of R (get_or ns i d))) (texts_of rows (get_or ns i d))
+    ≡ lines_of (nulls_sheet R rows (take (i + 1) ns))
 null_lines_more R rows ns i d lines h e =
     let n = get_or ns i d in
     let f = λ (m : NullId). term_records m (exported_names (rule_of R m)) (texts_of rows m) in
@@ -107,8 +118,10 @@ null_lines_more R rows ns i d lines h e =
     ap (λ (l : List (List Text)). l ++ f n) e ∙ ap (λ (l : List (List Text)). header ∷ l) (sym more)
 
 -- the file of equal rules and nulls
-pub same_told : (R Q : List Rule) (rows : Rows) (ns ms : List NullId) (p : Printed) → Q ≡ R → ms ≡ ns → seen p ≡ file_of (nulls_sheet Q rows ms) → seen p ≡ file_of (nulls_sheet R rows ns)
-same_told R Q rows ns ms p e d h = h ∙ ap (λ (S : List Rule). file_of (nulls_sheet S rows ms)) e ∙ ap (λ (ls : List NullId). file_of (nulls_sheet R rows ls)) d
+pub same_told : (R Q : List Rule) (rows : Rows) (ns ms : List NullId) (p : Printed) → Q ≡ R → ms ≡ ns
+    → seen p ≡ file_of (nulls_sheet Q rows ms) → seen p ≡ file_of (nulls_sheet R rows ns)
+same_told R Q rows ns ms p e d h =
+    h ∙ ap (λ (S : List Rule). file_of (nulls_sheet S rows ms)) e ∙ ap (λ (ls : List NullId). file_of (nulls_sheet R rows ls)) d
 
 -- where no variable or no text is left, there are no records more
 terms_none : (n : NullId) (xs : List Text) → term_records n xs [] ≡ []
@@ -121,37 +134,49 @@ pub record Done (r : Records) (n : NullId) (xs ts : List Text) (rs whole : List 
   pub printed : AreRecords r lines
   pub left : lines ++ term_records n xs ts ≡ rs ++ whole
 
-pub terms_begin : (r : Records) (n : NullId) (xs ts ys us : List Text) (rs : List (List Text)) → xs ≡ ys → ts ≡ us → AreRecords r rs → Done r n xs ts rs (term_records n ys us)
-terms_begin r n xs ts ys us rs e f h = record { lines = rs; printed = h; left = ap (λ vs. rs ++ term_records n vs ts) e ∙ ap (λ vs. rs ++ term_records n ys vs) f }
+pub terms_begin : (r : Records) (n : NullId) (xs ts ys us : List Text) (rs : List (List Text)) → xs ≡ ys → ts ≡ us → AreRecords r rs
+    → Done r n xs ts rs (term_records n ys us)
+terms_begin r n xs ts ys us rs e f h =
+    record { lines = rs; printed = h; left = ap (λ vs. rs ++ term_records n vs ts) e ∙ ap (λ vs. rs ++ term_records n ys vs) f }
 
 -- one record more
-pub terms_more : (r s : Records) (n : NullId) (x t : Text) (xs ts ys us : List Text) (rs whole : List (List Text)) → xs ≡ x ∷ ys → ts ≡ t ∷ us → Done r n xs ts rs whole
-    → ((lines : List (List Text)) → AreRecords r lines → AreRecords s (lines ++ (null_text n ∷ x ∷ const_text t ∷ []) ∷ [])) → Done s n ys us rs whole
+pub terms_more : (r s : Records) (n : NullId) (x t : Text) (xs ts ys us : List Text) (rs whole : List (List Text)) → xs ≡ x ∷ ys
+    → ts ≡ t ∷ us → Done r n xs ts rs whole
+    → ((lines : List (List Text)) → AreRecords r lines → AreRecords s (lines ++ (null_text n ∷ x ∷ const_text t ∷ []) ∷ []))
+    → Done s n ys us rs whole
 terms_more r s n x t xs ts ys us rs whole e f d push = record {
   lines = d.lines ++ (null_text n ∷ x ∷ const_text t ∷ []) ∷ [];
   printed = push d.lines d.printed;
-  left = append_assoc d.lines ((null_text n ∷ x ∷ const_text t ∷ []) ∷ []) (term_records n ys us) ∙ subst (λ vs. d.lines ++ term_records n vs (t ∷ us) ≡ rs ++ whole) e (subst (λ vs. d.lines ++ term_records n xs vs ≡ rs ++ whole) f d.left);
+  left = append_assoc d.lines ((null_text n ∷ x ∷ const_text t ∷ []) ∷ []) (term_records n ys us)
+      ∙ subst (λ vs. d.lines ++ term_records n vs (t ∷ us) ≡ rs ++ whole) e
+      (subst (λ vs. d.lines ++ term_records n xs vs ≡ rs ++ whole) f d.left);
 }
 
-pub terms_end : (r : Records) (n : NullId) (xs ts : List Text) (rs whole : List (List Text)) → (xs ≡ []) ⊎ (ts ≡ []) → Done r n xs ts rs whole → AreRecords r (rs ++ whole)
+pub terms_end : (r : Records) (n : NullId) (xs ts : List Text) (rs whole : List (List Text)) → (xs ≡ []) ⊎ (ts ≡ [])
+    → Done r n xs ts rs whole → AreRecords r (rs ++ whole)
 terms_end r n xs ts rs whole (inl e) d =
     let same : d.lines ++ [] ≡ rs ++ whole = subst (λ vs. d.lines ++ term_records n vs ts ≡ rs ++ whole) e d.left in
     subst (AreRecords r) (sym (append-nil d.lines) ∙ same) d.printed
 terms_end r n xs ts rs whole (inr e) d =
-    let same : d.lines ++ [] ≡ rs ++ whole = ap (λ v. d.lines ++ v) (sym (terms_none n xs)) ∙ subst (λ vs. d.lines ++ term_records n xs vs ≡ rs ++ whole) e d.left in
+    let same : d.lines ++ [] ≡ rs ++ whole =
+    ap (λ v. d.lines ++ v) (sym (terms_none n xs)) ∙ subst (λ vs. d.lines ++ term_records n xs vs ≡ rs ++ whole) e d.left in
     subst (AreRecords r) (sym (append-nil d.lines) ∙ same) d.printed
 
 -- one pair of the fold more
-pub fold_more : (pairs : List NullPair) (i : ℕ) (p : NullPair) → i < length pairs → p ≡ get_or pairs i p → lines_of (fold_sheet (take i pairs)) ++ (null_text p.null ∷ value_text_of p.value ∷ []) ∷ [] ≡ lines_of (fold_sheet (take (i + 1) pairs))
+pub fold_more : (pairs : List NullPair) (i : ℕ) (p : NullPair) → i < length pairs → p ≡ get_or pairs i p
+    → lines_of (fold_sheet (take i pairs)) ++ (null_text p.null ∷ value_text_of p.value ∷ []) ∷ []
+    ≡ lines_of (fold_sheet (take (i + 1) pairs))
 fold_more pairs i p h is =
     let f = λ (q : NullPair). null_text q.null ∷ value_text_of q.value ∷ [] in
-    let e : map f (take (i + 1) pairs) ≡ map f (take i pairs) ++ f p ∷ [] = ap (map f) (take_more pairs i p h ∙ ap (λ q. take i pairs ++ q ∷ []) (sym is)) ∙ map-append f (take i pairs) (p ∷ []) in
+    let e : map f (take (i + 1) pairs) ≡ map f (take i pairs) ++ f p ∷ [] =
+    ap (map f) (take_more pairs i p h ∙ ap (λ q. take i pairs ++ q ∷ []) (sym is)) ∙ map-append f (take i pairs) (p ∷ []) in
     ap (λ rs. (fold_sheet []).header ∷ rs) (sym e)
 
 -- ---- tables
 
 -- a table is as wide as its columns are many
-pub width_at : (I : List TableRows) (ts : List TableOf) (n : ℕ) (d : TableRows) (e : TableOf) → map (λ (t : TableRows). t.width) I ≡ map (λ (t : TableOf). length t.columns) ts
+pub width_at : (I : List TableRows) (ts : List TableOf) (n : ℕ) (d : TableRows) (e : TableOf)
+    → map (λ (t : TableRows). t.width) I ≡ map (λ (t : TableOf). length t.columns) ts
     → n < length ts → (n < length I) × (length (get_or ts n e).columns ≡ (get_or I n d).width)
 width_at I [] n d e w h = absurd (omega arith)
 width_at [] (t ∷ ts) n d e w h = absurd (cc)

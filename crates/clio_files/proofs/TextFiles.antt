@@ -1,5 +1,6 @@
 -- The files of texts, and files that are added.
-use Rattle.std.proofs.Common.{◌≡◌, ℕ, ◌+◌, ◌<◌, ◌≤◌, List, [], ◌∷◌, ◌++◌, length, map, refl, sym, ◌∙◌, ap, subst, arith, get_or, take, flat_map, append_assoc}
+use Rattle.std.proofs.Common.{◌≡◌, ℕ, ◌+◌, ◌<◌, ◌≤◌, List, [], ◌∷◌, ◌++◌, length, map, refl, sym, ◌∙◌, ap, subst, arith, get_or, take}
+use Rattle.std.proofs.Common.{flat_map, append_assoc}
 use Rattle.std.proofs.lemmas.List.{append-nil, length-map, map-append, take_more, take_all}
 use Rattle.dx_ports.specs.Members.{◌∈◌, Each}
 use Rattle.dx_ports.proofs.Members.{in_map}
@@ -27,14 +28,17 @@ atoms_of f atoms h a m =
     let e = length-map (tables_of f) as_numbers in
     omega (arith, k, e)
 
-pub premises_of : (source target : Forest) (list : List Conversion) (R : List Rule) → FitTexts source target list R → Each R (λ d. AreAtomsOf source d.premise)
+pub premises_of : (source target : Forest) (list : List Conversion) (R : List Rule) → FitTexts source target list R
+    → Each R (λ d. AreAtomsOf source d.premise)
 premises_of source target list R h d m = atoms_of source d.premise (h.fit d m).premise
 
-pub conclusions_of : (source target : Forest) (list : List Conversion) (R : List Rule) → FitTexts source target list R → Each R (λ d. AreAtomsOf target d.conclusion)
+pub conclusions_of : (source target : Forest) (list : List Conversion) (R : List Rule) → FitTexts source target list R
+    → Each R (λ d. AreAtomsOf target d.conclusion)
 conclusions_of source target list R h d m = atoms_of target d.conclusion (h.fit d m).conclusion
 
 -- conversions are listed by their codes
-pub codes_of : (source target : Forest) (list : List Conversion) (R : List Rule) → FitTexts source target list R → Each R (λ d. AreListed list d.derived)
+pub codes_of : (source target : Forest) (list : List Conversion) (R : List Rule) → FitTexts source target list R
+    → Each R (λ d. AreListed list d.derived)
 codes_of source target list R h d m e n =
     let l = h.listed d m e n in
     subst (λ code. code ∈ map (λ (c : Conversion). c.code) list) l.2 (in_map (λ (c : Conversion). c.code) l.1)
@@ -45,27 +49,33 @@ pub adds_none : (T : List TableRows) (files : List Told) → AddsTables [] T fil
 adds_none T files = record { tables = []; are = tt; is = sym (append-nil files) }
 
 -- the file of one table more
-pub adds_more : (ts : List TableOf) (i : ℕ) (d : TableOf) (T : List TableRows) (old : List Told) (ps qs : List Printed) (p : Printed) → i < length ts → AddsTables (take i ts) T old (map seen ps)
+pub adds_more : (ts : List TableOf) (i : ℕ) (d : TableOf) (T : List TableRows) (old : List Told) (ps qs : List Printed) (p : Printed)
+    → i < length ts → AddsTables (take i ts) T old (map seen ps)
     → IsTableFile (get_or ts i d) (rows_of T i) (seen p) → qs ≡ ps ++ p ∷ [] → AddsTables (take (i + 1) ts) T old (map seen qs)
 adds_more ts i d T old ps qs p h a k e =
     let n : 0 + length (take i ts) ≡ i = omega (arith, length_take ts i h) in record {
       tables = a.tables ++ seen p ∷ [];
-      are = rw (take_more ts i d h) (are_more 0 (take i ts) T a.tables (get_or ts i d) (seen p) a.are (subst (λ m. IsTableFile (get_or ts i d) (rows_of T m) (seen p)) (sym n) k));
+      are = rw (take_more ts i d h) (are_more 0 (take i ts) T a.tables (get_or ts i d) (seen p) a.are
+          (subst (λ m. IsTableFile (get_or ts i d) (rows_of T m) (seen p)) (sym n) k));
       is = rw (e, map-append seen ps (p ∷ []), a.is) (append_assoc old a.tables (seen p ∷ []));
     }
 
-pub adds_all : (ts : List TableOf) (i : ℕ) (T : List TableRows) (old new : List Told) → length ts ≤ i → AddsTables (take i ts) T old new → AddsTables ts T old new
+pub adds_all : (ts : List TableOf) (i : ℕ) (T : List TableRows) (old new : List Told) → length ts ≤ i → AddsTables (take i ts) T old new
+    → AddsTables ts T old new
 adds_all ts i T old new h a = subst (λ us. AddsTables us T old new) (take_all i ts h) a
 
 -- ---- all files
 
 -- two files
-pub both_files : (none ps qs : List Printed) (a b : Printed) (r s : Told) → none ≡ [] → seen a ≡ r → seen b ≡ s → ps ≡ none ++ a ∷ [] → qs ≡ ps ++ b ∷ [] → map seen qs ≡ r ∷ s ∷ []
+pub both_files : (none ps qs : List Printed) (a b : Printed) (r s : Told) → none ≡ [] → seen a ≡ r → seen b ≡ s → ps ≡ none ++ a ∷ []
+    → qs ≡ ps ++ b ∷ [] → map seen qs ≡ r ∷ s ∷ []
 both_files none ps qs a b r s z f g d e = two_more none ps qs a b r s f g d e ∙ ap (λ l. map seen l ++ r ∷ s ∷ []) z
 
 -- files, those that are added, and two more
-pub four_parts : (front tables old new all : List Told) (s t : Told) → old ≡ front → new ≡ old ++ tables → all ≡ new ++ s ∷ t ∷ [] → all ≡ front ++ (tables ++ s ∷ t ∷ [])
-four_parts front tables old new all s t d e f = f ∙ ap (λ l. l ++ s ∷ t ∷ []) (e ∙ ap (λ l. l ++ tables) d) ∙ append_assoc front tables (s ∷ t ∷ [])
+pub four_parts : (front tables old new all : List Told) (s t : Told) → old ≡ front → new ≡ old ++ tables → all ≡ new ++ s ∷ t ∷ []
+    → all ≡ front ++ (tables ++ s ∷ t ∷ [])
+four_parts front tables old new all s t d e f =
+    f ∙ ap (λ l. l ++ s ∷ t ∷ []) (e ∙ ap (λ l. l ++ tables) d) ∙ append_assoc front tables (s ∷ t ∷ [])
 
 -- the bytes of a printed file
 abbrev pub printed_bytes : Printed → List ℕ
@@ -75,5 +85,6 @@ contents_seen : (ps : List Printed) → flat_map printed_bytes ps ≡ contents_o
 contents_seen [] = refl
 contents_seen (p ∷ ps) = ap (λ (l : List ℕ). printed_bytes p ++ l) (contents_seen ps)
 
-pub all_contents : (ps : List Printed) (i : ℕ) (text : List ℕ) → length ps ≤ i → text ≡ flat_map printed_bytes (take i ps) → text ≡ contents_of (map seen ps)
+pub all_contents : (ps : List Printed) (i : ℕ) (text : List ℕ) → length ps ≤ i → text ≡ flat_map printed_bytes (take i ps)
+    → text ≡ contents_of (map seen ps)
 all_contents ps i text h e = e ∙ ap (flat_map printed_bytes) (take_all i ps h) ∙ contents_seen ps

@@ -1,5 +1,5 @@
 -- The files and the summary of an exchange.
-use Rattle.std.specs.Prelude.{◌≡◌, ℕ, suc, List, [], ◌∷◌, ◌++◌, length, map, codes}
+use Rattle.std.specs.Prelude.{◌≡◌, Bool, if◌then◌else◌, ℕ, suc, List, [], ◌∷◌, ◌++◌, length, map, codes}
 use Rattle.std.specs.List.{flat_map}
 use Rattle.std.specs.Fmt.{decimal}
 use Rattle.dx_ports.specs.Entries.{Entry}
@@ -18,9 +18,11 @@ use Rattle.dx_csv.specs.Print.{HasNoMark, IsTableText}
 use Rattle.dx_funcs.specs.declared.conversion.Conversion.{Conversion}
 use Rattle.dx_tgd.specs.Counting.{rows_in}
 use Rattle.dx_tgd.specs.Placed.{FitTuples, HasPlace}
+use Rattle.dx_exchange.specs.declared.mode.Mode.{Mode}
 use Rattle.dx_exchange.specs.declared.result.Exchange.{Exchange}
 use Rattle.clio_source.specs.Source.{csv_name}
 use Rattle.clio_files.specs.declared.printed.Printed.{Printed}
+use Rattle.clio_files.specs.Nested.{AreRootFiles, roots}
 use Rattle.clio_files.specs.Sheets.{AreNulls, Told, file_of, fold_sheet, nulls_sheet}
 use Rattle.clio_files.specs.Texts.{texts_told}
 
@@ -37,13 +39,18 @@ AreTableFiles n [] T (f ∷ fs) = ⊥
 AreTableFiles n (t ∷ ts) T [] = ⊥
 AreTableFiles n (t ∷ ts) T (f ∷ fs) = IsTableFile t (rows_of T n) f × AreTableFiles (suc n) ts T fs
 
--- the files of an exchange: the rules, their script, each target table, what the nulls of the target stand for, and the fold
-pub record AreFiles (source target : Forest) (list : List Conversion) (R : List Rule) (e : Exchange) (files : List Told) : Type 0 where
+-- the files of an exchange: the rules, their script, each target table, what the nulls of the target stand for, the fold, and, if
+-- nested ones are asked for, each root of the target as a document
+pub record AreFiles (source target : Forest) (list : List Conversion) (mode : Mode) (nested : Bool) (R : List Rule) (e : Exchange)
+    (files : List Told) : Type 0 where
   pub tables : List Told
   pub tables_are : AreTableFiles 0 (tables_of target) e.target tables
   pub nulls : List NullId
   pub nulls_are : AreNulls (facts e.target) nulls
-  pub is : files ≡ texts_told source target list R ++ (tables ++ file_of (nulls_sheet R (rows_in e.matches) nulls) ∷ file_of (fold_sheet (pairs_of e.fold)) ∷ [])
+  pub documents : List Told
+  pub documents_are : AreRootFiles target e.target (if nested then roots target else []) documents
+  pub is : files ≡ texts_told source target list mode R
+      ++ (tables ++ file_of (nulls_sheet R (rows_in e.matches) nulls) ∷ file_of (fold_sheet (pairs_of e.fold)) ∷ documents)
 
 -- the files by names and bytes
 abbrev pub files_of : List Told → List Entry

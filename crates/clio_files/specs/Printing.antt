@@ -1,11 +1,13 @@
 -- Records that are printed one by one, and files that are added.
-use Rattle.std.specs.Prelude.{◌≡◌, List, [], ◌++◌, length}
+use Rattle.std.specs.Prelude.{◌≡◌, ℕ, List, [], ◌++◌, length}
 use Rattle.dx_model.specs.Values.{Text}
 use Rattle.dx_instance.specs.Stored.{TableRows}
+use Rattle.dx_schema.specs.Forest.{Forest}
 use Rattle.dx_schema.specs.Tables.{TableOf}
 use Rattle.dx_csv.specs.Lines.{HavePrinted}
 use Rattle.clio_files.specs.declared.records.Records.{Records}
 use Rattle.clio_files.specs.Files.{AreTableFiles}
+use Rattle.clio_files.specs.Nested.{AreRootFiles}
 use Rattle.clio_files.specs.Sheets.{Told}
 
 -- these records are printed whole, and of the next one these fields; the records are counted
@@ -22,3 +24,9 @@ pub record AddsTables (ts : List TableOf) (T : List TableRows) (old new : List T
   pub tables : List Told
   pub are : AreTableFiles 0 ts T tables
   pub is : new ≡ old ++ tables
+
+-- the files of these roots are added
+pub record AddsRoots (target : Forest) (T : List TableRows) (roots : List ℕ) (old new : List Told) : Type 0 where
+  pub files : List Told
+  pub are : AreRootFiles target T roots files
+  pub is : new ≡ old ++ files

@@ -1,9 +1,34 @@
 // A file that is printed.
-use dx_ports::File;
+ghost use Rattle.std.specs.Prelude.{◌≡◌, IfOk};
+ghost use Rattle.clio_files.specs.Files.{seen};
 
-/// A file, and how many things stand in it, as its kind counts them: rules, steps of a script, or the records under a header.
+use dx_ports::{File, Text};
+use std::alloc::{AllocError, Global};
+
+/// A file, and how many things stand in it, as its kind counts them: rules, steps of a script, the records under a header, or
+/// the objects of a document.
 #[derive(Drop)]
 pub struct Printed {
     pub file: File,
     pub count: u64,
+}
+
+impl Printed {
+    /// The file of this name and this text.
+    pub(crate) fn of_text(
+        alloc: Global,
+        name: &str,
+        text: &Text,
+        count: u64,
+    ) -> Result<Printed, AllocError>
+        ensures { IfOk result (λ p. seen p ≡ record { name = name.now; bytes = text.now; count = count }) }
+    {
+        Ok(Printed {
+            file: File {
+                name: Text::from_str(alloc, name)?,
+                bytes: Vec::from_slice(alloc, text.bytes())?,
+            },
+            count,
+        })
+    }
 }

@@ -7,30 +7,19 @@ ghost use Rattle.dx_schema.specs.Tables.{model_tables};
 ghost use Rattle.dx_rule_text.specs.Printed.{AreAtomsOf, AreListed};
 ghost use Rattle.dx_script_text.specs.Print.{script_text};
 ghost use Rattle.clio_files.specs.Files.{seen};
-ghost use Rattle.clio_files.specs.Texts.{FitTexts, rules_told, script_told, texts_told};
+ghost use Rattle.clio_files.specs.Texts.{FitTexts, rules_told, script_of, script_told, texts_told};
 
 use crate::printed::Printed;
+use dx_exchange::Mode;
 use dx_funcs::{Host, Meaning};
 use dx_model::Rule;
-use dx_ports::{File, Items, Text};
+use dx_ports::{Items, Text};
 use dx_rule_text::print_rules;
 use dx_schema::Schema;
+use dx_script::Script;
 use dx_script_text::print_script;
-use dx_scriptgen::plain_script;
+use dx_scriptgen::{plain_script, rewritten_script};
 use std::alloc::{AllocError, Global};
-
-// A file of this name and this text.
-fn text_file(alloc: Global, name: &str, text: &Text, count: u64) -> Result<Printed, AllocError>
-    ensures { IfOk result (λ p. seen p ≡ record { name = name.now; bytes = text.now; count = count }) }
-{
-    Ok(Printed {
-        file: File {
-            name: Text::from_str(alloc, name)?,
-            bytes: Vec::from_slice(alloc, text.bytes())?,
-        },
-        count,
-    })
-}
 
 // The text of the rules.
 fn rules_file<F, M>(
@@ -47,29 +36,51 @@ where
     ensures { IfOk result (λ p. seen p ≡ rules_told source.now target.now (offered host.now) rules.now) }
 {
     let text = print_rules(alloc, rules, source, target, host)?;
-    text_file(alloc, "rules.txt", &text, rules.len() as u64)
+    Printed::of_text(alloc, "rules.txt", &text, rules.len() as u64)
 }
 
-// The text of the script that makes the canonical instance of the rules.
+// The script of the rules in a mode.
+fn script_in<F, M>(
+    alloc: Global,
+    rules: &[Rule],
+    source: &Schema,
+    target: &Schema,
+    host: &Host<F, M>,
+    mode: Mode,
+) -> Result<Script, AllocError>
+where
+    F: Fn(u32, &Items<Text>) -> Result<Text, AllocError>,
+    M: Meaning,
+    requires { FitTexts source.now target.now (offered host.now) rules.now }
+    ensures { IfOk result (λ s. s ≡ script_of source.now target.now (offered host.now) mode rules.now) }
+{
+    match mode {
+        Mode::Plain => plain_script(alloc, rules, source, target, host),
+        Mode::Core => rewritten_script(alloc, rules, source, target, host),
+    }
+}
+
+// The text of the script.
 fn script_file<F, M>(
     alloc: Global,
     rules: &[Rule],
     source: &Schema,
     target: &Schema,
     host: &Host<F, M>,
+    mode: Mode,
 ) -> Result<Printed, AllocError>
 where
     F: Fn(u32, &Items<Text>) -> Result<Text, AllocError>,
     M: Meaning,
     requires { FitTexts source.now target.now (offered host.now) rules.now }
-    ensures { IfOk result (λ p. seen p ≡ script_told source.now target.now (offered host.now) rules.now) }
+    ensures { IfOk result (λ p. seen p ≡ script_told source.now target.now (offered host.now) mode rules.now) }
 {
-    let script = plain_script(alloc, rules, source, target, host)?;
+    let script = script_in(alloc, rules, source, target, host, mode)?;
     let text = print_script(alloc, &script)?;
-    text_file(alloc, "script.sql", &text, script.steps.len())
+    Printed::of_text(alloc, "script.sql", &text, script.steps.len())
 }
 
-/// The two files of texts, in order: `rules.txt`, the rules, and `script.sql`, the script that makes their canonical instance.
+/// The two files of texts, in order: `rules.txt`, the rules, and `script.sql`, their script in this mode.
 ///
 /// # Errors
 ///
@@ -80,15 +91,16 @@ pub fn print_texts<F, M>(
     source: &Schema,
     target: &Schema,
     host: &Host<F, M>,
+    mode: Mode,
 ) -> Result<Vec<Printed>, AllocError>
 where
     F: Fn(u32, &Items<Text>) -> Result<Text, AllocError>,
     M: Meaning,
     requires { FitTexts source.now target.now (offered host.now) rules.now }
-    ensures { IfOk result (λ ps. map seen ps.items ≡ texts_told source.now target.now (offered host.now) rules.now) }
+    ensures { IfOk result (λ ps. map seen ps.items ≡ texts_told source.now target.now (offered host.now) mode rules.now) }
 {
     let mut printed = Vec::new(alloc);
     printed.push(rules_file(alloc, rules, source, target, host)?)?;
-    printed.push(script_file(alloc, rules, source, target, host)?)?;
+    printed.push(script_file(alloc, rules, source, target, host, mode)?)?;
     Ok(printed)
 }

@@ -1,75 +1,107 @@
 -- Files say one source, or are refused for one reason, and never both.
-use Rattle.std.proofs.Common.{◌≡◌, ◌⊎◌, ℕ, zero, suc, List, [], ◌∷◌, refl, sym, ◌∙◌, ap, subst, inl, inr, length, get_or}
-use Rattle.std.specs.Prelude.{map, slice_index_or}
+use Rattle.std.proofs.Common.{◌≡◌, ◌⊎◌, ℕ, zero, suc, ◌+◌, ◌-◌, ◌<◌, List, [], ◌∷◌, refl, sym, ◌∙◌, ap, subst, inl, inr, length, get_or, arith}
+use Rattle.std.specs.Prelude.{map, filter, ◌==◌}
 use Rattle.std.specs.Cmp.{IsTotalOrder}
+use Rattle.std.proofs.lemmas.Bool.{eq-eqb, eqb-true}
 use Rattle.std.proofs.lemmas.Cmp.{lists_total}
-use Rattle.dx_ports.specs.Members.{◌⊆◌}
+use Rattle.std.proofs.lemmas.List.{length-map}
+use Rattle.dx_ports.specs.Members.{◌∈◌, ◌⊆◌, Each}
+use Rattle.dx_ports.proofs.Members.{from_map, in_map}
+use Rattle.dx_ports.proofs.Tests.{from_filter, to_filter}
 use Rattle.dx_model.specs.declared.values.Value.{Value}
+use Rattle.dx_model.specs.declared.facts.Fact.{Fact}
 use Rattle.dx_model.specs.Values.{RowsAscend, row_cmp, value_cmp}
 use Rattle.std.specs.declared.cmp.Ordering.TheVariants.{Equal}
 use Rattle.dx_model.proofs.Orders.{slice_exact, value_exact, value_total}
 use Rattle.dx_model.proofs.Ascending.{one_ascending, in_order, in_order_ascends, in_in_order, from_in_order}
-use Rattle.dx_instance.specs.Stored.{TableRows, rows_of, widths}
+use Rattle.dx_instance.specs.Stored.{TableRows, facts, rows_of, widths}
+use Rattle.dx_instance.proofs.StoredFacts.{fact_from_row, fact_table, row_from_fact}
 use Rattle.dx_schema.specs.Forest.{Forest}
-use Rattle.dx_schema.specs.Tables.{TableOf, schema_widths, tables_of}
+use Rattle.dx_schema.specs.Tables.{TableOf, schema_widths, table_at, tables_of}
 use Rattle.dx_csv.specs.Table.{table_records}
 use Rattle.dx_csv.proofs.OneReading.{table-is-one, fault-is-one, faults-exclude}
 use Rattle.dx_csv.proofs.Decided.{table_or_fault}
+use Rattle.dx_json.proofs.OneReading.{facts_are_one, fault_is_one}
+use Rattle.dx_json.proofs.OneReading.{never_both as document_or_fault, either as one_of_both}
 use Rattle.dx_stages.specs.Stages.{next, by, over, computing, notions}
 use Rattle.dx_stages.specs.Laws.{PassesOne, IsDecided}
 use Rattle.dx_stages.proofs.Decided.{Any, next_one, next_decided, each_one, each_decided, by_one, by_decided, over_one, over_decided, into_one, into_decided, file_one, file_decided, computing_one, computing_decided, notions_decided, weaker}
+use Rattle.clio_source.specs.declared.fault.RowsFault.{RowsFault}
+use Rattle.clio_source.specs.declared.fault.RowsFault.TheVariants.{Absent, Csv, Json}
 use Rattle.clio_source.specs.declared.fault.SourceRefusal.{SourceRefusal}
 use Rattle.clio_source.specs.declared.fault.SourceRefusal.TheVariants as refusals
-use Rattle.clio_source.specs.declared.fault.RowsFault.TheVariants.{Absent, Csv}
-use Rattle.clio_source.specs.Source.{IsFaulty, IsStored, Read, Says, at_start, csv_name, fetching, files_stages, loading, reading, storing, too_many_bytes, with_rows}
+use Rattle.clio_source.specs.Source.{Form, HaveFault, IsFaulty, IsStored, Read, SayFacts, Says, as_facts, at_start, fetching, file_at, files_stages, flat, form_at, loading, named_by, nested, reading, roots, storing, too_many_bytes, with_facts}
 use Rattle.clio_source.specs.Laws.{OneSource, ReadOrRefused}
 use Rattle.clio_source.proofs.Runs.{its_file}
-use Rattle.clio_source.proofs.Passed.{FitTables, passed_fit}
+use Rattle.clio_source.proofs.Passed.{AreOf, passed_of}
 
 abbrev Same : SourceRefusal → SourceRefusal → Type 0
 Same d e = d ≡ e
 
--- ---- one table
+-- ---- what the bytes of a root's file say
 
-fetching_one : (t : TableOf) → PassesOne (fetching t)
-fetching_one t = into_one (λ (r : Read) (bytes : List ℕ). (r, bytes)) (by (its_file t)) (by_one (its_file t) (λ r. file_one Read (csv_name t.name) r.bytes_left (refusals.Rows (csv_name t.name) Absent) too_many_bytes))
+said_one : (form : Form) (f : Forest) (root : ℕ) (bytes : List ℕ) (a b : List Fact) → SayFacts form f root bytes a → SayFacts form f root bytes b → a ≡ b
+said_one flat f root bytes a b x y = x.2 ∙ ap (as_facts root) (table-is-one (table_records bytes) (table_at f root).columns x.0 y.0 x.1 y.1) ∙ sym y.2
+said_one nested f root bytes a b x y = facts_are_one bytes f root a b x y
 
-fetching_decided : (t : TableOf) → IsDecided Same Any (fetching t)
-fetching_decided t = into_decided Same Any (λ (r : Read) (bytes : List ℕ). (r, bytes)) (by (its_file t))
-    (by_decided Same Any (its_file t) (λ r g. file_decided Same Any (csv_name t.name) r.bytes_left (refusals.Rows (csv_name t.name) Absent) too_many_bytes (λ e. refl)))
+fault_one : (form : Form) (f : Forest) (root : ℕ) (bytes : List ℕ) (d e : RowsFault) → HaveFault form f root bytes d → HaveFault form f root bytes e → d ≡ e
+fault_one flat f root bytes d e x y = x.2 ∙ ap Csv (fault-is-one (table_records bytes) (table_at f root).columns x.0 y.0 x.1 y.1) ∙ sym y.2
+fault_one nested f root bytes d e x y = x.2 ∙ ap Json (fault_is_one bytes f root x.0 y.0 x.1 y.1) ∙ sym y.2
 
-says_one : (t : TableOf) → PassesOne (notions (IsFaulty t) (Says t))
-says_one t c p q s x y =
-    x.2 ∙ ap (λ (rows : List (List Value)). (record { tables = p.0.tables; bytes_left = _; cells_left = p.0.cells_left }, rows))
-    (table-is-one (table_records p.1) t.columns x.0 y.0 x.1 y.1) ∙ sym y.2
+never_both : (form : Form) (f : Forest) (root : ℕ) (bytes : List ℕ) (a : List Fact) (e : RowsFault) → SayFacts form f root bytes a → ¬ (HaveFault form f root bytes e)
+never_both flat f root bytes a e x y = faults-exclude (table_records bytes) (table_at f root).columns x.0 y.0 x.1 y.1
+never_both nested f root bytes a e x y = document_or_fault bytes f root a y.0 x y.1
 
-says_decided : (t : TableOf) → IsDecided Same Any (notions (IsFaulty t) (Says t))
-says_decided t = notions_decided Same Any (IsFaulty t) (Says t) one never either
+either_one : (form : Form) (f : Forest) (root : ℕ) (bytes : List ℕ) → ((a : List Fact) × SayFacts form f root bytes a) ⊎ ((e : RowsFault) × HaveFault form f root bytes e)
+either_one flat f root bytes = elim (table_or_fault (table_records bytes) (table_at f root).columns) [
+  | inl r ↦ inl (_, (r.0, r.1, refl))
+  | inr k ↦ inr (_, (k.0, k.1, refl))
+]
+either_one nested f root bytes = elim (one_of_both bytes f root) [
+  | inl s ↦ inl s
+  | inr k ↦ inr (_, (k.0, k.1, refl))
+]
+
+-- ---- one root
+
+fetching_one : (name : List ℕ) → PassesOne (fetching name)
+fetching_one name = into_one (λ (r : Read) (bytes : List ℕ). (r, bytes)) (by (its_file name)) (by_one (its_file name) (λ r. file_one Read name r.bytes_left (refusals.Rows name Absent) too_many_bytes))
+
+fetching_decided : (name : List ℕ) → IsDecided Same Any (fetching name)
+fetching_decided name = into_decided Same Any (λ (r : Read) (bytes : List ℕ). (r, bytes)) (by (its_file name))
+    (by_decided Same Any (its_file name) (λ r g. file_decided Same Any name r.bytes_left (refusals.Rows name Absent) too_many_bytes (λ e. refl)))
+
+says_one : (form : Form) (f : Forest) (root : ℕ) → PassesOne (notions (IsFaulty form f root) (Says form f root))
+says_one form f root c p q s x y =
+    x.2 ∙ ap (λ (said : List Fact). (record { facts = p.0.facts; bytes_left = p.0.bytes_left - length p.1; cells_left = p.0.cells_left }, said)) (said_one form f root p.1 x.0 y.0 x.1 y.1) ∙ sym y.2
+
+says_decided : (form : Form) (f : Forest) (root : ℕ) → IsDecided Same Any (notions (IsFaulty form f root) (Says form f root))
+says_decided form f root = notions_decided Same Any (IsFaulty form f root) (Says form f root) one never either
   where
-    one : (p : Read × List ℕ) (d e : SourceRefusal) → Unit {0} → IsFaulty t p d → IsFaulty t p e → d ≡ e
-    one p d e g x y = x.2 ∙ ap (λ k. refusals.Rows (csv_name t.name) (Csv k)) (fault-is-one (table_records p.1) t.columns x.0 y.0 x.1 y.1) ∙ sym y.2
+    one : (p : Read × List ℕ) (d e : SourceRefusal) → Unit {0} → IsFaulty form f root p d → IsFaulty form f root p e → d ≡ e
+    one p d e g x y = x.2 ∙ ap (λ k. refusals.Rows (named_by form (table_at f root).name) k) (fault_one form f root p.1 x.0 y.0 x.1 y.1) ∙ sym y.2
 
-    never : (p : Read × List ℕ) (q : Read × List (List Value)) (e : SourceRefusal) → Unit {0} → Says t p q → ¬ (IsFaulty t p e)
-    never p q e g x y = faults-exclude (table_records p.1) t.columns x.0 y.0 x.1 y.1
+    never : (p : Read × List ℕ) (q : Read × List Fact) (e : SourceRefusal) → Unit {0} → Says form f root p q → ¬ (IsFaulty form f root p e)
+    never p q e g x y = never_both form f root p.1 x.0 y.0 x.1 y.1
 
-    either : (p : Read × List ℕ) → Unit {0} → ((q : Read × List (List Value)) × Says t p q) ⊎ ((e : SourceRefusal) × IsFaulty t p e)
-    either p g = elim (table_or_fault (table_records p.1) t.columns) [
-      | inl r ↦ inl (_, (r.0, r.1, refl))
+    either : (p : Read × List ℕ) → Unit {0} → ((q : Read × List Fact) × Says form f root p q) ⊎ ((e : SourceRefusal) × IsFaulty form f root p e)
+    either p g = elim (either_one form f root p.1) [
+      | inl s ↦ inl (_, (s.0, s.1, refl))
       | inr k ↦ inr (_, (k.0, k.1, refl))
     ]
 
-loading_one : (t : TableOf) → PassesOne (loading t)
-loading_one t = next_one (notions (IsFaulty t) (Says t)) (computing (with_rows t)) (says_one t) (computing_one (with_rows t))
+loading_one : (form : Form) (f : Forest) (root : ℕ) → PassesOne (loading form f root)
+loading_one form f root = next_one (notions (IsFaulty form f root) (Says form f root)) (computing (with_facts f)) (says_one form f root) (computing_one (with_facts f))
 
-loading_decided : (t : TableOf) → IsDecided Same Any (loading t)
-loading_decided t = next_decided Same Any Any (notions (IsFaulty t) (Says t)) (computing (with_rows t)) (says_one t) (λ c a b g p. tt) (says_decided t)
-    (computing_decided Same Any (with_rows t) (λ e. refl))
+loading_decided : (form : Form) (f : Forest) (root : ℕ) → IsDecided Same Any (loading form f root)
+loading_decided form f root = next_decided Same Any Any (notions (IsFaulty form f root) (Says form f root)) (computing (with_facts f)) (says_one form f root) (λ c a b g p. tt) (says_decided form f root)
+    (computing_decided Same Any (with_facts f) (λ e. refl))
 
-reading_one : (t : TableOf) → PassesOne (reading t)
-reading_one t = next_one (fetching t) (loading t) (fetching_one t) (loading_one t)
+reading_one : (f : Forest) (root : ℕ) → PassesOne (reading f root)
+reading_one f root = next_one (fetching (file_at f root)) (loading (form_at f root) f root) (fetching_one (file_at f root)) (loading_one (form_at f root) f root)
 
-reading_decided : (t : TableOf) → IsDecided Same Any (reading t)
-reading_decided t = next_decided Same Any Any (fetching t) (loading t) (fetching_one t) (λ c a b g p. tt) (fetching_decided t) (loading_decided t)
+reading_decided : (f : Forest) (root : ℕ) → IsDecided Same Any (reading f root)
+reading_decided f root = next_decided Same Any Any (fetching (file_at f root)) (loading (form_at f root) f root) (fetching_one (file_at f root)) (λ c a b g p. tt) (fetching_decided (file_at f root)) (loading_decided (form_at f root) f root)
 
 -- ---- the instance
 
@@ -93,82 +125,87 @@ same_tables (x ∷ xs) (y ∷ ys) w r =
     tail_of : (a b : ℕ) (xs ys : List ℕ) → (a ∷ xs) ≡ (b ∷ ys) → xs ≡ ys
     tail_of a b xs ys e = cc
 
+-- a row of one is a row of the other
+row_of_both : (f : Forest) (said : List Fact) (I J : List TableRows) → IsStored f said I → IsStored f said J → (t : ℕ) → rows_of I t ⊆ rows_of J t
+row_of_both f said I J p q t x m = row_from_fact J (record { table = t; row = x }) (q.exact.1 (record { table = t; row = x }) (p.exact.0 (record { table = t; row = x }) (fact_from_row I t x m)))
+
 storing_one : (f : Forest) → PassesOne (storing f)
 storing_one f c r I J p q = same_tables I J (p.widths_are ∙ sym q.widths_are) (λ t.
-    one_ascending row_cmp row_total (rows_of I t) (rows_of J t) (p.ascend t) (q.ascend t) (λ x m. q.kept t x (p.only t x m)) (λ x m. p.kept t x (q.only t x m)))
+    one_ascending row_cmp row_total (rows_of I t) (rows_of J t) (p.ascend t) (q.ascend t) (row_of_both f r.facts I J p q t) (row_of_both f r.facts J I q p t))
 
--- the rows of the tables in order, as many as there are widths
+-- the rows of a table among facts
+abbrev rows_among : List Fact → ℕ → List (List Value)
+rows_among said t = map (λ (fact : Fact). fact.row) (filter (λ (fact : Fact). fact.table == t) said)
+
+row_among : (said : List Fact) (fact : Fact) → fact ∈ said → fact.row ∈ rows_among said fact.table
+row_among said fact m = in_map (λ (fact : Fact). fact.row) (to_filter (λ (x : Fact). x.table == fact.table) said m (eq-eqb fact.table fact.table refl))
+
+fact_among : (said : List Fact) (t : ℕ) (row : List Value) → row ∈ rows_among said t → ◌∈◌ {X = Fact} (record { table = t; row = row }) said
+fact_among said t row m =
+    let k = from_map (λ (fact : Fact). fact.row) (filter (λ (fact : Fact). fact.table == t) said) m in
+    let h = from_filter (λ (fact : Fact). fact.table == t) said k.1 in
+    let table : k.0.table ≡ t = eqb-true k.0.table t h.1 in
+    subst (λ (x : Fact). x ∈ said) (λ i. record { table = table i; row = k.2 i }) h.0
+
+-- the rows of each table in order
 abbrev sorted_rows : List (List Value) → List (List Value)
 sorted_rows = in_order row_cmp row_total row_exact
 
-abbrev stored : List ℕ → List (List (List Value)) → List TableRows
-stored [] tables = []
-stored (w ∷ ws) [] = record { width = w; rows = [] } ∷ stored ws []
-stored (w ∷ ws) (rows ∷ tables) = record { width = w; rows = sorted_rows rows } ∷ stored ws tables
+abbrev stored : List ℕ → ℕ → List Fact → List TableRows
+stored [] n said = []
+stored (w ∷ ws) n said = record { width = w; rows = sorted_rows (rows_among said n) } ∷ stored ws (suc n) said
 
-stored_widths : (ws : List ℕ) (tables : List (List (List Value))) → widths (stored ws tables) ≡ ws
-stored_widths [] tables = refl
-stored_widths (w ∷ ws) [] = ap (λ vs. w ∷ vs) (stored_widths ws [])
-stored_widths (w ∷ ws) (rows ∷ tables) = ap (λ vs. w ∷ vs) (stored_widths ws tables)
+stored_widths : (ws : List ℕ) (n : ℕ) (said : List Fact) → widths (stored ws n said) ≡ ws
+stored_widths [] n said = refl
+stored_widths (w ∷ ws) n said = ap (λ vs. w ∷ vs) (stored_widths ws (suc n) said)
 
-stored_ascends : (ws : List ℕ) (tables : List (List (List Value))) (t : ℕ) → RowsAscend (rows_of (stored ws tables) t)
-stored_ascends [] tables t = tt
-stored_ascends (w ∷ ws) [] zero = tt
-stored_ascends (w ∷ ws) [] (suc t) = stored_ascends ws [] t
-stored_ascends (w ∷ ws) (rows ∷ tables) zero = in_order_ascends row_cmp row_total row_exact rows
-stored_ascends (w ∷ ws) (rows ∷ tables) (suc t) = stored_ascends ws tables t
+stored_ascends : (ws : List ℕ) (n : ℕ) (said : List Fact) (t : ℕ) → RowsAscend (rows_of (stored ws n said) t)
+stored_ascends [] n said t = tt
+stored_ascends (w ∷ ws) n said zero = in_order_ascends row_cmp row_total row_exact (rows_among said n)
+stored_ascends (w ∷ ws) n said (suc t) = stored_ascends ws (suc n) said t
 
-stored_only : (ws : List ℕ) (tables : List (List (List Value))) (t : ℕ) → rows_of (stored ws tables) t ⊆ slice_index_or tables t []
-stored_only [] tables t x m = elim m [ ]
-stored_only (w ∷ ws) [] zero x m = m
-stored_only (w ∷ ws) [] (suc t) x m = stored_only ws [] t x m
-stored_only (w ∷ ws) (rows ∷ tables) zero x m = from_in_order row_cmp row_total row_exact x rows m
-stored_only (w ∷ ws) (rows ∷ tables) (suc t) x m = stored_only ws tables t x m
+stored_only : (ws : List ℕ) (n : ℕ) (said : List Fact) (t : ℕ) → rows_of (stored ws n said) t ⊆ rows_among said (n + t)
+stored_only [] n said t x m = elim m [ ]
+stored_only (w ∷ ws) n said zero x m = let e : n ≡ n + 0 = omega arith in subst (λ k. x ∈ rows_among said k) e (from_in_order row_cmp row_total row_exact x (rows_among said n) m)
+stored_only (w ∷ ws) n said (suc t) x m = let e : suc n + t ≡ n + suc t = omega arith in subst (λ k. x ∈ rows_among said k) e (stored_only ws (suc n) said t x m)
 
--- there are no more lists of rows than widths
-abbrev NoMore : List ℕ → List (List (List Value)) → Type 0
-NoMore ws [] = Unit {0}
-NoMore [] (rows ∷ tables) = ⊥
-NoMore (w ∷ ws) (rows ∷ tables) = NoMore ws tables
+stored_kept : (ws : List ℕ) (n : ℕ) (said : List Fact) (t : ℕ) → t < length ws → rows_among said (n + t) ⊆ rows_of (stored ws n said) t
+stored_kept [] n said t h x m = absurd (omega arith)
+stored_kept (w ∷ ws) n said zero h x m = let e : n + 0 ≡ n = omega arith in in_in_order row_cmp row_total row_exact x (rows_among said n) (subst (λ k. x ∈ rows_among said k) e m)
+stored_kept (w ∷ ws) n said (suc t) h x m = let e : n + suc t ≡ suc n + t = omega arith in stored_kept ws (suc n) said t (omega arith) x (subst (λ k. x ∈ rows_among said k) e m)
 
-stored_kept : (ws : List ℕ) (tables : List (List (List Value))) (t : ℕ) → NoMore ws tables → slice_index_or tables t [] ⊆ rows_of (stored ws tables) t
-stored_kept ws [] t h x m = elim m [ ]
-stored_kept [] (rows ∷ tables) t h x m = absurd h
-stored_kept (w ∷ ws) (rows ∷ tables) zero h x m = in_in_order row_cmp row_total row_exact x rows m
-stored_kept (w ∷ ws) (rows ∷ tables) (suc t) h x m = stored_kept ws tables t h x m
+abbrev IsOf : Forest → Read → Type 0
+IsOf f r = AreOf f r.facts
 
-abbrev HasTables : Forest → Read → Type 0
-HasTables f r = NoMore (schema_widths f) r.tables
+is_stored : (f : Forest) (said : List Fact) → AreOf f said → IsStored f said (stored (schema_widths f) 0 said)
+is_stored f said of = record { widths_are = stored_widths (schema_widths f) 0 said; ascend = stored_ascends (schema_widths f) 0 said; exact = (only, kept) }
+  where
+    only : facts (stored (schema_widths f) 0 said) ⊆ said
+    only x m =
+        let e : 0 + x.table ≡ x.table = omega arith in
+        fact_among said x.table x.row (subst (λ k. x.row ∈ rows_among said k) e (stored_only (schema_widths f) 0 said x.table x.row (row_from_fact (stored (schema_widths f) 0 said) x m)))
 
-storing_decided : (f : Forest) → IsDecided Same (HasTables f) (storing f)
-storing_decided f = notions_decided Same (HasTables f) (λ r e. ⊥) (λ r I. IsStored f r.tables I) (λ r d e g x y. absurd x) (λ r I e g x y. y)
-    (λ r g. inl (
-      stored (schema_widths f) r.tables,
-      record {
-        widths_are = stored_widths (schema_widths f) r.tables;
-        ascend = stored_ascends (schema_widths f) r.tables;
-        kept = λ t. stored_kept (schema_widths f) r.tables t g;
-        only = stored_only (schema_widths f) r.tables;
-      },
-    ))
+    kept : said ⊆ facts (stored (schema_widths f) 0 said)
+    kept x m =
+        let e : x.table ≡ 0 + x.table = omega arith in
+        let lt : x.table < length (schema_widths f) = omega (arith, of x m, length-map (tables_of f) (λ (t : TableOf). length t.columns)) in
+        fact_from_row (stored (schema_widths f) 0 said) x.table x.row (stored_kept (schema_widths f) 0 said x.table lt x.row (subst (λ k. x.row ∈ rows_among said k) e (row_among said x m)))
 
--- ---- all tables
+storing_decided : (f : Forest) → IsDecided Same (IsOf f) (storing f)
+storing_decided f = notions_decided Same (IsOf f) (λ r e. ⊥) (λ r I. IsStored f r.facts I) (λ r d e g x y. absurd x) (λ r I e g x y. y) (λ r g. inl (_, is_stored f r.facts g))
 
-fits_widths : (ts : List TableOf) (tables : List (List (List Value))) → FitTables ts tables → NoMore (map (λ (t : TableOf). length t.columns) ts) tables
-fits_widths ts [] h = tt
-fits_widths [] (rows ∷ tables) h = h
-fits_widths (t ∷ ts) (rows ∷ tables) h = fits_widths ts tables h.1
+-- ---- all roots
 
 whole_one : (f : Forest) → PassesOne (next (files_stages f) (storing f))
-whole_one f = next_one (files_stages f) (storing f) (each_one reading (tables_of f) reading_one) (storing_one f)
+whole_one f = next_one (files_stages f) (storing f) (each_one (reading f) (roots f) (reading_one f)) (storing_one f)
 
 abbrev IsStart : Read → Type 0
 IsStart r = r ≡ at_start
 
 whole_decided : (f : Forest) → IsDecided Same IsStart (next (files_stages f) (storing f))
-whole_decided f = next_decided Same IsStart (HasTables f) (files_stages f) (storing f) (each_one reading (tables_of f) reading_one)
-    (λ c a r g p. fits_widths (tables_of f) r.tables (passed_fit f c r (subst (λ v. (files_stages f).passes c v r) g p)))
-    (weaker Same Any IsStart (files_stages f) (λ a g. tt) (each_decided Same Any reading (tables_of f) reading_one (λ x c a b g p. tt) reading_decided)) (storing_decided f)
+whole_decided f = next_decided Same IsStart (IsOf f) (files_stages f) (storing f) (each_one (reading f) (roots f) (reading_one f))
+    (λ c a r g p. passed_of f c r (subst (λ v. (files_stages f).passes c v r) g p))
+    (weaker Same Any IsStart (files_stages f) (λ a g. tt) (each_decided Same Any (reading f) (roots f) (reading_one f) (λ x c a b g p. tt) (reading_decided f))) (storing_decided f)
 
 pub source_one : OneSource
 source_one = by_one (λ (f : Forest). over (λ (_ : Forest). at_start) (next (files_stages f) (storing f)))

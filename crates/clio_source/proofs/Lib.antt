@@ -1,5 +1,7 @@
-pub mod Widths
+pub mod Roots
+pub mod Ranges
 pub mod Numbers
+pub mod Fits
 pub mod Passed
 pub mod Runs
 pub mod Decided

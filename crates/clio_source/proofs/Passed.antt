@@ -1,73 +1,51 @@
 -- What the stages of the source have passed.
-use Rattle.std.proofs.Common.{◌≡◌, ℕ, ◌*◌, ◌-◌, ◌≤◌, List, [], ◌∷◌, ◌++◌, length, refl, sym, ◌∙◌, ap, subst, Ok, Err, arith, true, false, append_assoc}
-use Rattle.std.proofs.lemmas.List.{append-nil}
+use Rattle.std.proofs.Common.{◌≡◌, ℕ, ◌-◌, ◌<◌, List, [], ◌∷◌, ◌++◌, length, refl, sym, ◌∙◌, ap, subst, Ok, Err, inl, inr, arith, true, false}
 use Rattle.std.specs.Prelude.{nat_lt, Bool, if◌then◌else◌}
-use Rattle.std.proofs.lemmas.Bool.Decides.{nat_tests}
-use Rattle.dx_ports.specs.Members.{Each}
+use Rattle.dx_ports.specs.Members.{◌∈◌, here, there, Each}
+use Rattle.dx_ports.proofs.Members.{from_append, from_map}
 use Rattle.dx_model.specs.declared.values.Value.{Value}
+use Rattle.dx_model.specs.declared.facts.Fact.{Fact}
 use Rattle.dx_schema.specs.Forest.{Forest}
-use Rattle.dx_schema.specs.Tables.{TableOf, tables_of}
+use Rattle.dx_schema.specs.Tables.{as_numbers, tables_of}
+use Rattle.dx_schema.proofs.Preorder.{len_map}
+use Rattle.dx_json.proofs.Fitting.{facts_fit}
 use Rattle.dx_stages.specs.Worlds.{World}
 use Rattle.dx_stages.specs.Stages.{each}
-use Rattle.clio_source.specs.Source.{Read, at_start, cells_in, files_stages, reading, source_cells, too_many_cells, with_rows}
-use Rattle.clio_source.proofs.Widths.{row_widths}
+use Rattle.clio_source.specs.Source.{Form, Read, SayFacts, as_facts, at_start, cells_in, files_stages, flat, form_at, nested, reading, roots, too_many_cells, with_facts}
+use Rattle.clio_source.proofs.Roots.{IsRoot, is_root}
 
--- rows of a table have a value for each column, and not too many cells
-pub record FitTable (t : TableOf) (rows : List (List Value)) : Type 0 where
-  pub wide : Each rows (λ row. length row ≡ length t.columns)
-  pub few : length rows * length t.columns ≤ source_cells
+-- each fact is of a table of the schema
+abbrev pub AreOf : Forest → List Fact → Type 0
+AreOf f said = Each said (λ fact. fact.table < length (tables_of f))
 
--- there is such a list of rows for each table
-abbrev pub FitTables : List TableOf → List (List (List Value)) → Type 0
-FitTables [] [] = Unit {0}
-FitTables [] (rows ∷ tables) = ⊥
-FitTables (t ∷ ts) [] = ⊥
-FitTables (t ∷ ts) (rows ∷ tables) = FitTable t rows × FitTables ts tables
+said_of : (form : Form) (f : Forest) (root : ℕ) (bytes : List ℕ) (said : List Fact) → IsRoot f root → SayFacts form f root bytes said → AreOf f said
+said_of flat f root bytes said r s x m =
+    let k = from_map (λ (row : List Value). record { table = root; row = row }) s.0 (subst (λ fs. x ∈ fs) s.2 m) in
+    subst (λ n. n < length (tables_of f)) (ap (λ (y : Fact). y.table) k.2) r.within
+said_of nested f root bytes said r s x m =
+    let k = (facts_fit bytes f root said r.within r.parent s x m).table in
+    omega (arith, k, len_map as_numbers (tables_of f))
 
--- the rows that a table's file adds
-record Reads (t : TableOf) (r s : Read) : Type 0 where
-  rows : List (List Value)
-  wide : Each rows (λ row. length row ≡ length t.columns)
-  tables : s.tables ≡ r.tables ++ rows ∷ []
-  few : length rows * length t.columns ≤ r.cells_left
-  left : s.cells_left ≤ r.cells_left
-
-counted : (t : TableOf) (q : Read × List (List Value)) (s : Read) → with_rows t q ≡ Ok s
-    → (cells_in t q.1 ≤ q.0.cells_left) × (s ≡ record { tables = q.0.tables ++ q.1 ∷ []; bytes_left = q.0.bytes_left; cells_left = q.0.cells_left - cells_in t q.1 })
-counted t q s is = of (nat_lt q.0.cells_left (cells_in t q.1)) refl is
+counted : (f : Forest) (q : Read × List Fact) (s : Read) → with_facts f q ≡ Ok s → s.facts ≡ q.0.facts ++ q.1
+counted f q s is = of (nat_lt q.0.cells_left (cells_in f q.1)) is
   where
-    of : (b : Bool) → nat_lt q.0.cells_left (cells_in t q.1) ≡ b
-        → (if b then Err too_many_cells else Ok (record { tables = q.0.tables ++ q.1 ∷ []; bytes_left = q.0.bytes_left; cells_left = q.0.cells_left - cells_in t q.1 })) ≡ Ok s
-        → (cells_in t q.1 ≤ q.0.cells_left) × (s ≡ record { tables = q.0.tables ++ q.1 ∷ []; bytes_left = q.0.bytes_left; cells_left = q.0.cells_left - cells_in t q.1 })
-    of true test e = cc
-    of false test e = (grind (arith, nat_tests, test), cc)
+    of : (b : Bool) → (if b then Err too_many_cells else Ok (record { facts = q.0.facts ++ q.1; bytes_left = q.0.bytes_left; cells_left = q.0.cells_left - cells_in f q.1 })) ≡ Ok s → s.facts ≡ q.0.facts ++ q.1
+    of true e = cc
+    of false e =
+        let same : record { facts = q.0.facts ++ q.1; bytes_left = q.0.bytes_left; cells_left = q.0.cells_left - cells_in f q.1 } ≡ s = cc in
+        sym (ap (λ (v : Read). v.facts) same)
 
-one_read : (t : TableOf) (c : World) (r s : Read) → (reading t).passes c r s → Reads t r s
-one_read t c r s (p, (bytes, found, p_is), (q, (rows, table, q_is), s_is)) =
-    let k = counted t q s s_is in
-    let q_rows : q.1 ≡ rows = ap (λ (v : Read × List (List Value)). v.1) q_is in
-    let q_tables : q.0.tables ≡ r.tables = ap (λ (v : Read × List (List Value)). v.0.tables) q_is ∙ ap (λ (v : Read × List ℕ). v.0.tables) p_is in
-    let q_left : q.0.cells_left ≡ r.cells_left = ap (λ (v : Read × List (List Value)). v.0.cells_left) q_is ∙ ap (λ (v : Read × List ℕ). v.0.cells_left) p_is in
-    let s_left : s.cells_left ≡ q.0.cells_left - cells_in t q.1 = ap (λ (v : Read). v.cells_left) k.1 in record {
-      rows = rows;
-      wide = row_widths _ t.columns rows table;
-      tables = ap (λ (v : Read). v.tables) k.1 ∙ ap (λ v. v ++ q.1 ∷ []) q_tables ∙ ap (λ v. r.tables ++ v ∷ []) q_rows;
-      few = subst (λ n. length rows * length t.columns ≤ n) q_left (subst (λ v. length v * length t.columns ≤ q.0.cells_left) q_rows k.0);
-      left = omega (arith, s_left, q_left);
-    }
+one_read : (f : Forest) (root : ℕ) (c : World) (r s : Read) → IsRoot f root → AreOf f r.facts → (reading f root).passes c r s → AreOf f s.facts
+one_read f root c r s is of (p, (bytes, found, p_is), (q, (said, says, q_is), s_is)) =
+    let added = said_of (form_at f root) f root p.1 said is says in
+    let before : q.0.facts ≡ r.facts = ap (λ (v : Read × List Fact). v.0.facts) q_is ∙ ap (λ (v : Read × List ℕ). v.0.facts) p_is in
+    let after : s.facts ≡ r.facts ++ said = counted f q s s_is ∙ ap (λ fs. fs ++ q.1) before ∙ ap (λ (v : Read × List Fact). r.facts ++ v.1) q_is in
+    λ x m. elim (from_append r.facts (subst (λ fs. x ∈ fs) after m)) [ inl old ↦ of x old | inr new ↦ added x new ]
 
-all_read : (ts : List TableOf) (c : World) (r s : Read) → r.cells_left ≤ source_cells → (each reading ts).passes c r s → (new : List (List (List Value))) × (s.tables ≡ r.tables ++ new) × FitTables ts new
-all_read [] c r s h p = ([], ap (λ (v : Read). v.tables) p ∙ sym (append-nil r.tables), tt)
-all_read (t ∷ ts) c r s h (b, one, rest) =
-    let o = one_read t c r b one in
-    let k = all_read ts c b s (omega (arith, h, o.left)) rest in (
-      o.rows ∷ k.0,
-      k.1 ∙ ap (λ v. v ++ k.0) o.tables ∙ append_assoc r.tables (o.rows ∷ []) k.0,
-      (record { wide = o.wide; few = omega (arith, h, o.few) }, k.2),
-    )
+all_read : (f : Forest) (us : List ℕ) (c : World) (r s : Read) → Each us (IsRoot f) → AreOf f r.facts → (each (reading f) us).passes c r s → AreOf f s.facts
+all_read f [] c r s are of p = subst (AreOf f) (sym (ap (λ (v : Read). v.facts) p)) of
+all_read f (u ∷ us) c r s are of (b, one, rest) = all_read f us c b s (λ v m. are v (there m)) (one_read f u c r b (are u (here refl)) of one) rest
 
--- what was read fits the tables
-pub passed_fit : (f : Forest) (c : World) (r : Read) → (files_stages f).passes c at_start r → FitTables (tables_of f) r.tables
-passed_fit f c r p =
-    let k = all_read (tables_of f) c at_start r (omega arith) p in
-    subst (FitTables (tables_of f)) (sym k.1) k.2
+-- what was read is of the schema's tables
+pub passed_of : (f : Forest) (c : World) (r : Read) → (files_stages f).passes c at_start r → AreOf f r.facts
+passed_of f c r p = all_read f (roots f) c at_start r (is_root f) (λ x m. elim m [ ]) p

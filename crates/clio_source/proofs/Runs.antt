@@ -1,153 +1,141 @@
--- The tables' files, fetched and read.
-use Rattle.std.proofs.Common.{◌≡◌, ℕ, ◌+◌, ◌*◌, ◌-◌, ◌<◌, ◌≤◌, List, [], ◌∷◌, ◌++◌, length, take, drop, get_or, refl, sym, ◌∙◌, ap, subst, Result, Ok, Err, inl, inr, arith}
-use Rattle.std.specs.Prelude.{map, codes}
-use Rattle.std.proofs.lemmas.List.{take_more, take-append-drop, map-append, append_cancel_right}
-use Rattle.std.proofs.lemmas.Grind.{common_steps}
+-- The roots' files, fetched and read.
+use Rattle.std.proofs.Common.{◌≡◌, ℕ, ◌+◌, ◌-◌, ◌<◌, ◌≤◌, List, [], ◌∷◌, ◌++◌, length, take, get_or, refl, sym, ◌∙◌, ap, subst, Result, Ok, Err, inl, inr, arith}
 use Rattle.std.proofs.lemmas.Bool.Decides.{nat_tests}
-use Rattle.dx_ports.specs.Members.{◌∈◌, here, there, Distinct}
-use Rattle.dx_ports.proofs.Members.{in_map, in_right}
-use Rattle.dx_model.specs.declared.values.Value.{Value}
-use Rattle.dx_instance.specs.Stored.{TableRows}
-use Rattle.dx_schema.specs.Forest.{Forest}
-use Rattle.dx_schema.specs.Tables.{TableOf}
-use Rattle.dx_csv.specs.Table.{IsAtFault, IsTable, table_records}
+use Rattle.dx_ports.specs.Members.{◌∈◌, ◌≈◌}
+use Rattle.dx_model.specs.declared.facts.Fact.{Fact}
+use Rattle.dx_instance.specs.Shown.{shown_tables}
+use Rattle.dx_instance.specs.Stored.{TableRows, facts}
+use Rattle.dx_schema.specs.Forest.{Forest, Tree, forest_of}
+use Rattle.dx_schema.specs.Tables.{AreTables, count, table_at, tables_of}
 use Rattle.dx_stages.specs.declared.stop.Stop.{Stop}
 use Rattle.dx_stages.specs.declared.stop.Stop.TheVariants as stops
 use Rattle.dx_stages.specs.Worlds.{World}
 use Rattle.dx_stages.specs.Stages.{Stage, file, each, by, over, stay, next}
-use Rattle.dx_stages.specs.Laws.{AreApart, AsksOnly}
+use Rattle.dx_stages.specs.Laws.{AreApart}
 use Rattle.dx_stages.specs.Running.{Told, Ran, Gives}
-use Rattle.dx_stages.proofs.Decided.{apart_by, each_only}
 use Rattle.dx_stages.proofs.Running.{ran_file, ran_next, ran_stop, ran_value, ran_by, ran_into, ran_into_stop, ran_over, ran_more, ran_front, silent_apart}
 use Rattle.clio_source.specs.declared.fault.SourceRefusal.{SourceRefusal}
 use Rattle.clio_source.specs.declared.fault.SourceRefusal.TheVariants as refusals
-use Rattle.clio_source.specs.declared.fault.RowsFault.TheVariants.{Absent, Csv}
-use Rattle.clio_source.specs.Source.{NotATable, Read, at_start, cells_in, csv_name, fetching, files_stages, loading, reading, storing, source_stages, too_many_bytes, too_many_cells, with_rows}
+use Rattle.clio_source.specs.declared.fault.RowsFault.TheVariants.{Absent}
+use Rattle.clio_source.specs.declared.reading.Reading.{Reading}
+use Rattle.clio_source.specs.Source.{Form, Read, SayFacts, at_start, cells_in, fetching, file_at, files_stages, form_at, loading, named_by, reading, roots, source_stages, storing, too_many_bytes, too_many_cells, with_facts}
+use Rattle.clio_source.specs.Fitting.{GivesTo, Holds, NotRead, RanTo}
+use Rattle.clio_source.proofs.Roots.{apart, first_roots, next_root, numbers_between, roots_all, roots_more, roots_rest}
 
 -- ---- what is read of bytes
 
-pub not_loaded : (t : TableOf) (before : Read) (bytes name : List ℕ) (columns : List (List ℕ)) (e : Stop SourceRefusal) → name ≡ csv_name t.name → columns ≡ t.columns
-    → NotATable bytes columns name e → Gives (loading t) (before, bytes) (Err e)
-not_loaded t before bytes name columns (stops.Refused e) n c h =
-    λ w. inl (h.0, subst (λ cs. IsAtFault (table_records bytes) cs h.0) c h.1, h.2 ∙ ap (λ k. refusals.Rows k (Csv h.0)) n)
-not_loaded t before bytes name columns (stops.Failed k) n c h = h
-not_loaded t before bytes name columns stops.Memory n c h = tt
+pub not_loaded : (form : Form) (f : Forest) (root : ℕ) (q : Read) (bytes name : List ℕ) (e : Stop SourceRefusal) → name ≡ named_by form (table_at f root).name → NotRead form f root bytes name e
+    → GivesTo (loading form f root) (q, bytes) (Err e)
+not_loaded form f root q bytes name (stops.Refused e) n h = λ w. inl (h.0, h.1, h.2 ∙ ap (λ k. refusals.Rows k h.0) n)
+not_loaded form f root q bytes name (stops.Failed k) n h = h
+not_loaded form f root q bytes name stops.Memory n h = tt
 
--- the rows that were read, before their cells are counted
+-- the facts that were read, before their cells are counted
 abbrev with_bytes : Read → List ℕ → Read
-with_bytes r bytes = record { tables = r.tables; bytes_left = r.bytes_left - length bytes; cells_left = r.cells_left }
+with_bytes r bytes = record { facts = r.facts; bytes_left = r.bytes_left - length bytes; cells_left = r.cells_left }
 
-too_many : (t : TableOf) (q : Read × List (List Value)) → q.0.cells_left < cells_in t q.1 → with_rows t q ≡ Err too_many_cells
-too_many t q h = grind (arith, nat_tests, h)
+abbrev with_cells : Forest → Read × List Fact → Read
+with_cells f q = record { facts = q.0.facts ++ q.1; bytes_left = q.0.bytes_left; cells_left = q.0.cells_left - cells_in f q.1 }
 
-within : (t : TableOf) (q : Read × List (List Value)) → cells_in t q.1 ≤ q.0.cells_left
-    → with_rows t q ≡ Ok (record { tables = q.0.tables ++ q.1 ∷ []; bytes_left = q.0.bytes_left; cells_left = q.0.cells_left - cells_in t q.1 })
-within t q h = grind (arith, nat_tests, h)
+too_many : (f : Forest) (q : Read × List Fact) → q.0.cells_left < cells_in f q.1 → with_facts f q ≡ Err too_many_cells
+too_many f q h = grind (arith, nat_tests, h)
 
-pub no_cells_left : (t : TableOf) (before : Read) (bytes : List ℕ) (columns : List (List ℕ)) (rows : List (List Value)) (many width : ℕ) → columns ≡ t.columns → IsTable (table_records bytes) columns rows
-    → many ≡ length rows → width ≡ length t.columns → before.cells_left < many * width → Gives (loading t) (before, bytes) (Err (stops.Refused too_many_cells))
-no_cells_left t before bytes columns rows many width c table m w h =
-    λ world. inr (
-      (with_bytes before bytes, rows),
-      (rows, subst (λ cs. IsTable (table_records bytes) cs rows) c table, refl),
-      too_many t (with_bytes before bytes, rows) (subst (λ k. before.cells_left < k * length t.columns) m (subst (λ k. before.cells_left < many * k) w h)),
-    )
+within : (f : Forest) (q : Read × List Fact) → cells_in f q.1 ≤ q.0.cells_left → with_facts f q ≡ Ok (with_cells f q)
+within f q h = grind (arith, nat_tests, h)
 
-pub loaded : (t : TableOf) (before after : Read) (bytes : List ℕ) (columns : List (List ℕ)) (rows : List (List Value)) (many width : ℕ) → columns ≡ t.columns → IsTable (table_records bytes) columns rows
-    → many ≡ length rows → width ≡ length t.columns → many * width ≤ before.cells_left
-    → after ≡ record { tables = before.tables ++ rows ∷ []; bytes_left = before.bytes_left - length bytes; cells_left = before.cells_left - many * width } → Gives (loading t) (before, bytes) (Ok after)
-loaded t before after bytes columns rows many width c table m w h is =
-    let cells : many * width ≡ cells_in t rows = ap (λ k. k * width) m ∙ ap (λ k. length rows * k) w in
-    let k : cells_in t rows ≤ before.cells_left = subst (λ n. n ≤ before.cells_left) cells h in
-    let same : after ≡ record { tables = before.tables ++ rows ∷ []; bytes_left = before.bytes_left - length bytes; cells_left = before.cells_left - cells_in t rows } =
-    is ∙ ap (λ n. record { tables = before.tables ++ rows ∷ []; bytes_left = before.bytes_left - length bytes; cells_left = before.cells_left - n }) cells in
-    λ world. ((with_bytes before bytes, rows), (rows, subst (λ cs. IsTable (table_records bytes) cs rows) c table, refl), within t (with_bytes before bytes, rows) k ∙ ap Ok (sym same))
+pub no_cells_left : (form : Form) (f : Forest) (root left : ℕ) (q : Read) (bytes : List ℕ) (said : List Fact) → SayFacts form f root bytes said → left ≡ q.cells_left → left < cells_in f said
+    → GivesTo (loading form f root) (q, bytes) (Err (stops.Refused too_many_cells))
+no_cells_left form f root left q bytes said s is h = λ world. inr ((with_bytes q bytes, said), (said, s, refl), too_many f (with_bytes q bytes, said) (subst (λ n. n < cells_in f said) is h))
 
--- ---- a table's file
+pub loaded : (form : Form) (f : Forest) (root left : ℕ) (q : Read) (after : Reading) (bytes : List ℕ) (said : List Fact) → SayFacts form f root bytes said → left ≡ q.cells_left → cells_in f said ≤ left
+    → facts (shown_tables after.symbols after.tables.items) ≈ (q.facts ++ said) → after.bytes_left ≡ q.bytes_left - length bytes → after.cells_left ≡ left - cells_in f said → GivesTo (loading form f root) (q, bytes) (Ok after)
+loaded form f root left q after bytes said s is h are b c = (
+  with_cells f (with_bytes q bytes, said),
+  record { facts_are = are; bytes = b; cells = c ∙ ap (λ n. n - cells_in f said) is },
+  λ world. ((with_bytes q bytes, said), (said, s, refl), within f (with_bytes q bytes, said) (subst (λ n. cells_in f said ≤ n) is h)),
+)
 
-absence : TableOf → SourceRefusal
-absence t = refusals.Rows (csv_name t.name) Absent
+-- ---- a root's file
 
-abbrev pub its_file : TableOf → Read → Stage SourceRefusal Read (List ℕ)
-its_file t r = file (csv_name t.name) r.bytes_left (refusals.Rows (csv_name t.name) Absent) too_many_bytes
+abbrev pub its_file : List ℕ → Read → Stage SourceRefusal Read (List ℕ)
+its_file name r = file name r.bytes_left (refusals.Rows name Absent) too_many_bytes
 
-pub silent : (t : TableOf) (d : World) (b : Read × List ℕ) (n : List ℕ) → ¬ ((loading t).asks d b n)
-silent t d b n (inl h) = h
-silent t d b n (inr h) = h.2
+silent : (form : Form) (f : Forest) (root : ℕ) (d : World) (b : Read × List ℕ) (n : List ℕ) → ¬ ((loading form f root).asks d b n)
+silent form f root d b n (inl h) = h
+silent form f root d b n (inr h) = h.2
 
-pub stopped : (t : TableOf) (name copy : List ℕ) (r : Read) (e : Stop SourceRefusal) (old new : Told) → name ≡ csv_name t.name → copy ≡ csv_name t.name
-    → Ran (file {A = Unit {0}} name r.bytes_left (refusals.Rows copy Absent) too_many_bytes) (tt {0}) (Err e) old new → Ran (reading t) r (Err e) old new
-stopped t name copy r e old new is copied ran =
-    ran_stop (fetching t) (loading t) r e old new
-    (ran_into_stop (λ (r : Read) (bytes : List ℕ). (r, bytes)) (by (its_file t)) r e old new
-    (ran_by (its_file t) r (Err e) old new
-    (ran_file name (csv_name t.name) r.bytes_left r.bytes_left (refusals.Rows copy Absent) (refusals.Rows (csv_name t.name) Absent) too_many_bytes too_many_bytes r (Err e) old new
-    is refl (ap (λ n. refusals.Rows n Absent) copied) refl ran)))
+-- the file that was asked for is that of the stage
+asked : (name n copy : List ℕ) (left : ℕ) (long : SourceRefusal) (r : Read) (x : Result (List ℕ) (Stop SourceRefusal)) (old new : Told) → n ≡ name → copy ≡ name → left ≡ r.bytes_left → long ≡ too_many_bytes
+    → Ran (file {A = Unit {0}} n left (refusals.Rows copy Absent) long) (tt {0}) x old new → Ran (by (its_file name)) r x old new
+asked name n copy left long r x old new is copied many wide ran =
+    ran_by (its_file name) r x old new
+    (ran_file n name left r.bytes_left (refusals.Rows copy Absent) (refusals.Rows name Absent) long too_many_bytes r x old new is many (ap (λ k. refusals.Rows k Absent) copied) wide ran)
 
-pub passed : (t : TableOf) (name copy bytes lent : List ℕ) (r : Read) (q : Result Read (Stop SourceRefusal)) (old new : Told) → name ≡ csv_name t.name → copy ≡ csv_name t.name → lent ≡ bytes
-    → Ran (file {A = Unit {0}} name r.bytes_left (refusals.Rows copy Absent) too_many_bytes) (tt {0}) (Ok bytes) old new → Gives (loading t) (r, lent) q → Ran (reading t) r q old new
-passed t name copy bytes lent r q old new is copied same ran g =
-    ran_next (fetching t) (loading t) r (r, bytes) q old new new (silent_apart (fetching t) (loading t) (silent t))
-    (ran_into (λ (r : Read) (bytes : List ℕ). (r, bytes)) (by (its_file t)) r bytes old new
-    (ran_by (its_file t) r (Ok bytes) old new
-    (ran_file name (csv_name t.name) r.bytes_left r.bytes_left (refusals.Rows copy Absent) (refusals.Rows (csv_name t.name) Absent) too_many_bytes too_many_bytes r (Ok bytes) old new
-    is refl (ap (λ n. refusals.Rows n Absent) copied) refl ran)))
-    (ran_value (loading t) (r, bytes) q new (subst (λ v. Gives (loading t) (r, v) q) same g))
+pub stopped : (f : Forest) (root left : ℕ) (n copy : List ℕ) (long : SourceRefusal) (r : Read) (e : Stop SourceRefusal) (old new : Told) → n ≡ file_at f root → copy ≡ file_at f root → left ≡ r.bytes_left → long ≡ too_many_bytes
+    → Ran (file {A = Unit {0}} n left (refusals.Rows copy Absent) long) (tt {0}) (Err e) old new → RanTo (reading f root) r (Err e) old new
+stopped f root left n copy long r e old new is copied many wide ran =
+    ran_stop (fetching (file_at f root)) (loading (form_at f root) f root) r e old new
+    (ran_into_stop (λ (r : Read) (bytes : List ℕ). (r, bytes)) (by (its_file (file_at f root))) r e old new (asked (file_at f root) n copy left long r (Err e) old new is copied many wide ran))
 
--- ---- one table after the other
+-- what a stage gives to a reading, a run of it gives
+to_run : {A B : Type 0} (s : Stage SourceRefusal A Read) (t : Stage SourceRefusal B Read) (a : A) (b : B) (r : Result Reading (Stop SourceRefusal)) (old new : Told)
+    → ((x : Result Read (Stop SourceRefusal)) → Gives s a x → Ran t b x old new) → GivesTo s a r → RanTo t b r old new
+to_run s t a b (Ok r) old new k g = (g.0, g.1, k (Ok g.0) g.2)
+to_run s t a b (Err e) old new k g = k (Err e) g
 
--- a table's stages ask for its file alone
-pub asks_own : (t : TableOf) → AsksOnly (λ n. n ≡ csv_name t.name) (reading t)
-asks_own t c a n (inl h) = h
-asks_own t c a n (inr h) = absurd (silent t c h.0 n h.2)
+pub passed : (f : Forest) (root left : ℕ) (form : Form) (n copy bytes lent : List ℕ) (long : SourceRefusal) (r : Read) (x : Result Reading (Stop SourceRefusal)) (old new : Told) → n ≡ file_at f root → copy ≡ file_at f root → left ≡ r.bytes_left → long ≡ too_many_bytes
+    → lent ≡ bytes → form ≡ form_at f root → Ran (file {A = Unit {0}} n left (refusals.Rows copy Absent) long) (tt {0}) (Ok bytes) old new → GivesTo (loading form f root) (r, lent) x → RanTo (reading f root) r x old new
+passed f root left form n copy bytes lent long r x old new is copied many wide same formed ran g =
+    to_run (loading (form_at f root) f root) (reading f root) (r, bytes) r x old new
+    (λ y given. ran_next (fetching (file_at f root)) (loading (form_at f root) f root) r (r, bytes) y old new new (silent_apart (fetching (file_at f root)) (loading (form_at f root) f root) (silent (form_at f root) f root))
+    (ran_into (λ (r : Read) (bytes : List ℕ). (r, bytes)) (by (its_file (file_at f root))) r bytes old new (asked (file_at f root) n copy left long r (Ok bytes) old new is copied many wide ran))
+    (ran_value (loading (form_at f root) f root) (r, bytes) y new given))
+    (subst (λ k. GivesTo (loading k f root) (r, bytes) x) formed (subst (λ v. GivesTo (loading form f root) (r, v) x) same g))
 
-abbrev names_in : List TableOf → List (List ℕ)
-names_in ts = map (λ (t : TableOf). t.name) ts
+-- ---- one root after the other
 
-not_before : (xs ys : List (List ℕ)) (x : List ℕ) → Distinct (xs ++ x ∷ ys) → ¬ (x ∈ xs)
-not_before [] ys x d m = elim m [ ]
-not_before (y ∷ xs) ys x d (here e) = d.0 (subst (λ v. v ∈ (xs ++ x ∷ ys)) (sym e) (in_right xs (here refl)))
-not_before (y ∷ xs) ys x d (there m) = not_before xs ys x d.1 m
+pub none_read : (f : Forest) (r : Reading) (told : Told) → Holds r at_start → RanTo (each (reading f) []) at_start (Ok r) told told
+none_read f r told h = (at_start, h, ran_value (stay {E = SourceRefusal} {A = Read}) at_start (Ok at_start) told (λ c. refl))
 
--- the tables before ask for no file of this one
-apart : (xs ys : List TableOf) (x : TableOf) → Distinct (names_in (xs ++ x ∷ ys)) → AreApart (each reading xs) (reading x)
-apart xs ys x d =
-    apart_by (λ n. (y : TableOf) × (y ∈ xs) × (n ≡ csv_name y.name)) (λ n. n ≡ csv_name x.name) (each reading xs) (reading x) (each_only reading (λ y. csv_name y.name) xs asks_own) (asks_own x) never
+pub more : (f : Forest) (us : List ℕ) (root : ℕ) (before : Reading) (x : Result Reading (Stop SourceRefusal)) (old mid new : Told) → AreApart (each (reading f) us) (reading f root) → RanTo (each (reading f) us) at_start (Ok before) old mid
+    → ((q : Read) → Holds before q → RanTo (reading f root) q x mid new) → RanTo (each (reading f) (us ++ root ∷ [])) at_start x old new
+more f us root before x old mid new apart p one = of x (one p.0 p.1)
   where
-    apart_names : Distinct (names_in xs ++ x.name ∷ names_in ys)
-    apart_names = subst Distinct (map-append (λ (t : TableOf). t.name) xs (x ∷ ys)) d
+    of : (x : Result Reading (Stop SourceRefusal)) → RanTo (reading f root) p.0 x mid new → RanTo (each (reading f) (us ++ root ∷ [])) at_start x old new
+    of (Ok r) h = (h.0, h.1, ran_more (reading f) us root at_start p.0 (Ok h.0) old mid new apart p.2 h.2)
+    of (Err e) h = ran_more (reading f) us root at_start p.0 (Err e) old mid new apart p.2 h
 
-    never : (n : List ℕ) → (y : TableOf) × (y ∈ xs) × (n ≡ csv_name y.name) → ¬ (n ≡ csv_name x.name)
-    never n (y, m, is) e =
-        let same : y.name ≡ x.name = append_cancel_right y.name x.name (codes ".csv") (sym is ∙ e) in
-        not_before (names_in xs) (names_in ys) x.name apart_names (subst (λ v. v ∈ names_in xs) same (in_map (λ (t : TableOf). t.name) m))
+-- with the root of the next set
+pub one_more : (f : Forest) (ts : List Tree) (k : ℕ) (t : Tree) (root : ℕ) (before : Reading) (x : Result Reading (Stop SourceRefusal)) (old mid new : Told) → AreTables (tables_of f) → forest_of ts ≡ f → k < length ts → t ≡ get_or ts k t
+    → root ≡ count (forest_of (take k ts)) → RanTo (each (reading f) (first_roots ts k)) at_start (Ok before) old mid → ((q : Read) → Holds before q → RanTo (reading f root) q x mid new)
+    → RanTo (each (reading f) (first_roots ts (k + 1))) at_start x old new
+one_more f ts k t root before x old mid new tables whole lt is at p one =
+    subst (λ (us : List ℕ). RanTo (each (reading f) us) at_start x old new) (sym (roots_more ts k t root lt is at))
+    (more f (first_roots ts k) root before x old mid new (apart f (first_roots ts k) root tables.distinct_names (next_root ts k t root f whole lt is at).within below) p one)
+  where
+    below : (u : ℕ) → u ∈ first_roots ts k → u < root
+    below u m = let h = numbers_between 0 (forest_of (take k ts)) u m in omega (arith, h, at)
 
-split_at : (xs : List TableOf) (i : ℕ) (d : TableOf) → i < length xs → xs ≡ take i xs ++ get_or xs i d ∷ drop (i + 1) xs
-split_at xs i d h = grind (arith, common_steps)
+-- if it stops there, the whole stops
+pub ended : (f : Forest) (ts : List Tree) (k : ℕ) (e : Stop SourceRefusal) (old new : Told) → forest_of ts ≡ f → RanTo (each (reading f) (first_roots ts k)) at_start (Err e) old new → RanTo (files_stages f) at_start (Err e) old new
+ended f ts k e old new whole p =
+    let rest = roots_rest ts k f whole in
+    subst (λ (us : List ℕ). Ran (each (reading f) us) at_start (Err e) old new) (sym rest.1) (ran_front (reading f) (first_roots ts k) rest.0 at_start e old new p)
 
-pub more : (ts : List TableOf) (i : ℕ) (d : TableOf) (start r : Read) (q : Result Read (Stop SourceRefusal)) (old mid new : Told) → Distinct (names_in ts) → i < length ts
-    → Ran (each reading (take i ts)) start (Ok r) old mid → Ran (reading (get_or ts i d)) r q mid new → Ran (each reading (take (i + 1) ts)) start q old new
-more ts i d start r q old mid new distinct inside p ran =
-    let whole = split_at ts i d inside in
-    subst (λ ys. Ran (each reading ys) start q old new) (sym (take_more ts i d inside))
-    (ran_more reading (take i ts) (get_or ts i d) start r q old mid new
-    (apart (take i ts) (drop (i + 1) ts) (get_or ts i d) (subst (λ ys. Distinct (names_in ys)) whole distinct)) p ran)
-
-pub ended : (ts : List TableOf) (i : ℕ) (start : Read) (e : Stop SourceRefusal) (old new : Told) → Ran (each reading (take i ts)) start (Err e) old new → Ran (each reading ts) start (Err e) old new
-ended ts i start e old new p = subst (λ ys. Ran (each reading ys) start (Err e) old new) (take-append-drop i ts) (ran_front reading (take i ts) (drop i ts) start e old new p)
-
-pub none_read : (ts : List TableOf) (r : Read) (told : Told) → r ≡ at_start → Ran (each reading (take 0 ts)) at_start (Ok r) told told
-none_read ts r told is = ran_value (stay {E = SourceRefusal} {A = Read}) at_start (Ok r) told (λ c. is)
+-- after the last set all were read
+pub all_read : (f : Forest) (ts : List Tree) (k : ℕ) (r : Reading) (old new : Told) → forest_of ts ≡ f → length ts ≤ k → RanTo (each (reading f) (first_roots ts k)) at_start (Ok r) old new → RanTo (files_stages f) at_start (Ok r) old new
+all_read f ts k r old new whole past p = subst (λ (us : List ℕ). RanTo (each (reading f) us) at_start (Ok r) old new) (roots_all ts k f whole past) p
 
 -- ---- the whole source
 
 abbrev whole_of : Forest → Stage SourceRefusal Forest (List TableRows)
 whole_of f = over (λ (_ : Forest). at_start) (next (files_stages f) (storing f))
 
-pub source_stops : (f : Forest) (e : Stop SourceRefusal) (old new : Told) → Ran (files_stages f) at_start (Err e) old new → Ran source_stages f (Err e) old new
+pub source_stops : (f : Forest) (e : Stop SourceRefusal) (old new : Told) → RanTo (files_stages f) at_start (Err e) old new → Ran source_stages f (Err e) old new
 source_stops f e old new x = ran_by whole_of f (Err e) old new (ran_over (λ (_ : Forest). at_start) (next (files_stages f) (storing f)) f (Err e) old new (ran_stop (files_stages f) (storing f) at_start e old new x))
 
-pub source_had : (f : Forest) (r : Read) (q : Result (List TableRows) (Stop SourceRefusal)) (old new : Told) → Ran (files_stages f) at_start (Ok r) old new → Gives (storing f) r q → Ran source_stages f q old new
-source_had f r q old new x g =
-    ran_by whole_of f q old new (ran_over (λ (_ : Forest). at_start) (next (files_stages f) (storing f)) f q old new
-    (ran_next (files_stages f) (storing f) at_start r q old new new (silent_apart (files_stages f) (storing f) (λ d b n h. h)) x (ran_value (storing f) r q new g)))
+pub source_had : (f : Forest) (r : Reading) (x : Result (List TableRows) (Stop SourceRefusal)) (old new : Told) → RanTo (files_stages f) at_start (Ok r) old new
+    → ((q : Read) → Holds r q → Gives (storing f) q x) → Ran source_stages f x old new
+source_had f r x old new (q, holds, ran) g =
+    ran_by whole_of f x old new (ran_over (λ (_ : Forest). at_start) (next (files_stages f) (storing f)) f x old new
+    (ran_next (files_stages f) (storing f) at_start q x old new new (silent_apart (files_stages f) (storing f) (λ d b n h. h)) ran (ran_value (storing f) q x new (g q holds))))

@@ -1,13 +1,73 @@
--- What is known of the rows that were read, as numbers of symbols.
-use Rattle.std.specs.Prelude.{◌≡◌, ℕ, length, map, take}
-use Rattle.dx_ports.specs.Members.{Each}
+-- What the code has of what was read: rows of the tables, as numbers of symbols.
+use Rattle.std.specs.Prelude.{◌≡◌, ◌≤◌, ◌<◌, ℕ, List, [], ◌++◌, map, length, take, Result, Ok, Err}
+use Rattle.dx_ports.specs.Members.{Each, ◌≈◌}
+use Rattle.dx_model.specs.declared.values.Value.{Value}
+use Rattle.dx_model.specs.declared.facts.Fact.{Fact}
 use Rattle.dx_instance.specs.Cells.{NumberTable}
-use Rattle.dx_instance.specs.Shown.{RowsFit}
+use Rattle.dx_instance.specs.Shown.{RowsFit, numbers_of_table, shown_row, shown_tables}
+use Rattle.dx_instance.specs.Stored.{facts}
 use Rattle.dx_schema.specs.Forest.{Forest}
 use Rattle.dx_schema.specs.Tables.{schema_widths}
+use Rattle.dx_stages.specs.declared.stop.Stop.{Stop}
+use Rattle.dx_stages.specs.declared.stop.Stop.TheVariants as stops
+use Rattle.dx_stages.specs.Stages.{Stage}
+use Rattle.dx_stages.specs.Running.{Gives, Ran, Told}
 use Rattle.clio_source.specs.declared.reading.Reading.{Reading}
+use Rattle.clio_source.specs.declared.fault.RowsFault.{RowsFault}
+use Rattle.clio_source.specs.declared.fault.SourceRefusal.{SourceRefusal}
+use Rattle.clio_source.specs.declared.fault.SourceRefusal.TheVariants as refusals
+use Rattle.clio_source.specs.Source.{Form, HaveFault, Read, named_by, source_cells}
 
--- the first n tables of a schema were read: as many columns as these have, and numbers of the symbols
+-- the rows that numbers of symbols show
+abbrev pub rows_shown : List Value → NumberTable → List (List Value)
+rows_shown symbols t = map (shown_row symbols) t.rows
+
+-- the first n tables of a schema were come to: as many columns as these have, and numbers of the symbols
 pub record ReadFits (f : Forest) (n : ℕ) (r : Reading) : Type 0 where
-  pub widths : map (λ (t : NumberTable). t.width) r.tables ≡ take n (schema_widths f)
-  pub below : Each r.tables (RowsFit (length r.symbols))
+  pub widths : map (λ (t : NumberTable). t.width) r.tables.items ≡ take n (schema_widths f)
+  pub below : Each r.tables.items (RowsFit (length r.symbols))
+  pub few : r.cells_left ≤ source_cells
+
+-- the tables have the facts that were read
+pub record Holds (r : Reading) (q : Read) : Type 0 where
+  pub facts_are : facts (shown_tables r.symbols r.tables.items) ≈ q.facts
+  pub bytes : r.bytes_left ≡ q.bytes_left
+  pub cells : r.cells_left ≡ q.cells_left
+
+-- the stage ran so, and the tables have what it passes
+abbrev pub RanTo : {A : Type 0} → Stage SourceRefusal A Read → A → Result Reading (Stop SourceRefusal) → Told → Told → Type 0
+RanTo s a (Ok r) old new = (q : Read) × Holds r q × Ran s a (Ok q) old new
+RanTo s a (Err e) old new = Ran s a (Err e) old new
+
+-- the stage gives it in every world, and the tables have it
+abbrev pub GivesTo : {A : Type 0} → Stage SourceRefusal A Read → A → Result Reading (Stop SourceRefusal) → Type 0
+GivesTo s a (Ok r) = (q : Read) × Holds r q × Gives s a (Ok q)
+GivesTo s a (Err e) = Gives s a (Err e)
+
+-- why the facts of a file's bytes were not read
+abbrev pub NotRead : Form → Forest → ℕ → List ℕ → List ℕ → Stop SourceRefusal → Type 0
+NotRead form f root bytes name (stops.Refused e) = (k : RowsFault) × HaveFault form f root bytes k × (e ≡ refusals.Rows name k)
+NotRead form f root bytes name (stops.Failed n) = ⊥
+NotRead form f root bytes name stops.Memory = Unit {0}
+
+-- ---- the tables of a root and its inner sets
+
+-- after these tables come empty ones, up to the table of a schema with this number
+pub record AddsEmpty (f : Forest) (last : ℕ) (old new : List NumberTable) : Type 0 where
+  pub more : List NumberTable
+  pub is : new ≡ old ++ more
+  pub widths : map (λ (t : NumberTable). t.width) new ≡ take last (schema_widths f)
+  pub some : Each more (λ t. 1 ≤ t.width)
+  pub empty : Each more (λ t. t.rows ≡ [])
+
+-- each fact has one of the tables from the first on, and its width; these have no rows yet
+pub record CanTake (ts : List NumberTable) (first : ℕ) (said : List Fact) : Type 0 where
+  pub within : Each said (λ fact. (first ≤ fact.table) × (fact.table < length ts))
+  pub wide : Each said (λ fact. length fact.row ≡ (numbers_of_table ts fact.table).width)
+  pub empty : (t : ℕ) → first ≤ t → (numbers_of_table ts t).rows ≡ []
+
+-- the tables have these facts besides
+pub record AddsFacts (S T : List Value) (old new : List NumberTable) (said : List Fact) : Type 0 where
+  pub shown : facts (shown_tables T new) ≈ (facts (shown_tables S old) ++ said)
+  pub widths : map (λ (t : NumberTable). t.width) new ≡ map (λ (t : NumberTable). t.width) old
+  pub below : Each new (RowsFit (length T))

@@ -1,46 +1,29 @@
 -- The source of files, one stage after the other.
-use Rattle.std.specs.Prelude.{◌≡◌, ◌*◌, ◌-◌, ℕ, List, [], ◌∷◌, ◌++◌, length, nat_lt, codes, map, slice_index_or, if◌then◌else◌, Result, Ok, Err}
-use Rattle.dx_ports.specs.Members.{◌⊆◌}
+use Rattle.std.specs.Prelude.{◌≡◌, ◌-◌, ℕ, List, [], ◌++◌, length, map, sum_by, nat_lt, codes, if◌then◌else◌, Result, Ok, Err}
+use Rattle.dx_ports.specs.Members.{◌≈◌}
 use Rattle.dx_ports.specs.declared.file.Count.TheVariants.{DataBytes, SourceCells}
 use Rattle.dx_model.specs.declared.values.Value.{Value}
+use Rattle.dx_model.specs.declared.facts.Fact.{Fact}
 use Rattle.dx_model.specs.Values.{RowsAscend}
-use Rattle.dx_instance.specs.Stored.{TableRows, rows_of, widths}
-use Rattle.dx_instance.specs.Cells.{NumberTable}
-use Rattle.dx_instance.specs.Shown.{shown_row}
-use Rattle.dx_schema.specs.Forest.{Forest}
-use Rattle.dx_schema.specs.Tables.{TableOf, schema_widths, tables_of}
+use Rattle.dx_instance.specs.Stored.{TableRows, facts, rows_of, widths}
+use Rattle.dx_schema.specs.Forest.{Forest, none, set}
+use Rattle.dx_schema.specs.Tables.{numbers_in, schema_widths, table_at, tree_at}
 use Rattle.dx_csv.specs.declared.fault.RowKind.{RowKind}
 use Rattle.dx_csv.specs.Table.{IsAtFault, IsTable, table_records}
-use Rattle.dx_stages.specs.declared.stop.Stop.{Stop}
-use Rattle.dx_stages.specs.declared.stop.Stop.TheVariants as stops
+use Rattle.dx_json.specs.declared.fault.JsonKind.{JsonKind}
+use Rattle.dx_json.specs.Documents.{IsFirstFault, SaysFacts}
 use Rattle.dx_stages.specs.Stages.{Stage, next, each, by, over, into, file, computing, notions}
-use Rattle.clio_source.specs.declared.reading.Reading.{Reading}
+use Rattle.clio_source.specs.declared.fault.RowsFault.{RowsFault}
+use Rattle.clio_source.specs.declared.fault.RowsFault.TheVariants.{Absent, Csv, Json}
 use Rattle.clio_source.specs.declared.fault.SourceRefusal.{SourceRefusal}
 use Rattle.clio_source.specs.declared.fault.SourceRefusal.TheVariants as refusals
-use Rattle.clio_source.specs.declared.fault.RowsFault.TheVariants.{Absent, Csv}
 
--- how many bytes all source files may have, and how many cells all their rows
+-- how many bytes all source files may have, and how many cells all their facts
 abbrev pub data_bytes : ℕ
 data_bytes = 67108864
 
 abbrev pub source_cells : ℕ
 source_cells = 4000000
-
--- the name of a table's file
-abbrev pub csv_name : List ℕ → List ℕ
-csv_name table = table ++ codes ".csv"
-
--- the rows of the tables that were read so far, and how many bytes and cells may still come
-pub record Read : Type 0 where
-  pub tables : List (List (List Value))
-  pub bytes_left : ℕ
-  pub cells_left : ℕ
-
--- nothing was read
-abbrev pub at_start : Read
-at_start = record { tables = []; bytes_left = data_bytes; cells_left = source_cells }
-
--- ---- a table's file
 
 abbrev pub too_many_bytes : SourceRefusal
 too_many_bytes = refusals.Limit (record { what = DataBytes; number = data_bytes })
@@ -48,73 +31,116 @@ too_many_bytes = refusals.Limit (record { what = DataBytes; number = data_bytes 
 abbrev pub too_many_cells : SourceRefusal
 too_many_cells = refusals.Limit (record { what = SourceCells; number = source_cells })
 
--- the file of a table, of as many bytes as are left, beside what was read before it
-abbrev pub fetching : TableOf → Stage SourceRefusal Read (Read × List ℕ)
-fetching t = into (λ (r : Read) (bytes : List ℕ). (r, bytes)) (by (λ (r : Read). file (csv_name t.name) r.bytes_left (refusals.Rows (csv_name t.name) Absent) too_many_bytes))
+-- ---- the files
 
--- its bytes are no table of the columns
-abbrev pub IsFaulty : TableOf → Read × List ℕ → SourceRefusal → Type 0
-IsFaulty t p e = (k : RowKind) × IsAtFault (table_records p.1) t.columns k × (e ≡ refusals.Rows (csv_name t.name) (Csv k))
+-- the name of a table's file
+abbrev pub csv_name : List ℕ → List ℕ
+csv_name table = table ++ codes ".csv"
 
--- they are, and say these rows
-abbrev pub Says : TableOf → Read × List ℕ → Read × List (List Value) → Type 0
-Says t p q =
-    (rows : List (List Value)) × IsTable (table_records p.1) t.columns rows
-    × (q ≡ (record { tables = p.0.tables; bytes_left = p.0.bytes_left - length p.1; cells_left = p.0.cells_left }, rows))
+-- the name of the file of a root with its inner sets
+abbrev pub json_name : List ℕ → List ℕ
+json_name table = table ++ codes ".json"
 
--- how many cells the rows of a table have
-abbrev pub cells_in : TableOf → List (List Value) → ℕ
-cells_in t rows = length rows * length t.columns
+-- the roots of a schema, in order: the tables of the sets of its top level
+abbrev pub roots : Forest → List ℕ
+roots f = numbers_in 0 f
 
--- the rows after those that were read before them, within the cells that are left
-abbrev pub with_rows : TableOf → Read × List (List Value) → Result Read SourceRefusal
-with_rows t q = if nat_lt q.0.cells_left (cells_in t q.1) then Err too_many_cells
-    else Ok (record { tables = q.0.tables ++ q.1 ∷ []; bytes_left = q.0.bytes_left; cells_left = q.0.cells_left - cells_in t q.1 })
+-- a root without inner sets is flat: its file is a table. One with inner sets is nested: its file is a document
+pub data Form : Type 0 where
+  flat : Form
+  nested : Form
 
--- what is read of the bytes of a table's file
-abbrev pub loading : TableOf → Stage SourceRefusal (Read × List ℕ) Read
-loading t = next (notions (IsFaulty t) (Says t)) (computing (with_rows t))
+abbrev pub form_of : Forest → Form
+form_of none = flat
+form_of (set l inner rest) = nested
 
--- a table's file, and then what is read of it
-abbrev pub reading : TableOf → Stage SourceRefusal Read Read
-reading t = next (fetching t) (loading t)
+abbrev pub form_at : Forest → ℕ → Form
+form_at f root = form_of (tree_at f root).inner
 
--- ---- all tables
+abbrev pub named_by : Form → List ℕ → List ℕ
+named_by flat root = csv_name root
+named_by nested root = json_name root
 
--- the files of the tables, in order
+-- the name of a root's file
+abbrev pub file_at : Forest → ℕ → List ℕ
+file_at f root = named_by (form_at f root) (table_at f root).name
+
+-- ---- what the bytes of a root's file say
+
+-- rows of a table, as facts
+abbrev pub as_facts : ℕ → List (List Value) → List Fact
+as_facts table rows = map (λ (row : List Value). record { table = table; row = row }) rows
+
+-- these facts: those of the rows of the table, or those of the document
+abbrev pub SayFacts : Form → Forest → ℕ → List ℕ → List Fact → Type 0
+SayFacts flat f root bytes facts =
+    (rows : List (List Value)) × IsTable (table_records bytes) (table_at f root).columns rows × (facts ≡ as_facts root rows)
+SayFacts nested f root bytes facts = SaysFacts bytes f root facts
+
+-- or that they are no such file, with its first fault
+abbrev pub HaveFault : Form → Forest → ℕ → List ℕ → RowsFault → Type 0
+HaveFault flat f root bytes e = (k : RowKind) × IsAtFault (table_records bytes) (table_at f root).columns k × (e ≡ Csv k)
+HaveFault nested f root bytes e = (k : JsonKind) × IsFirstFault bytes f root k × (e ≡ Json k)
+
+-- ---- one root
+
+-- the facts that were read so far, and how many bytes and cells may still come
+pub record Read : Type 0 where
+  pub facts : List Fact
+  pub bytes_left : ℕ
+  pub cells_left : ℕ
+
+-- nothing was read
+abbrev pub at_start : Read
+at_start = record { facts = []; bytes_left = data_bytes; cells_left = source_cells }
+
+-- the file of this name, of as many bytes as are left, beside what was read before it
+abbrev pub fetching : List ℕ → Stage SourceRefusal Read (Read × List ℕ)
+fetching name =
+    into (λ (r : Read) (bytes : List ℕ). (r, bytes)) (by (λ (r : Read). file name r.bytes_left (refusals.Rows name Absent) too_many_bytes))
+
+-- its bytes have a fault
+abbrev pub IsFaulty : Form → Forest → ℕ → Read × List ℕ → SourceRefusal → Type 0
+IsFaulty form f root p e = (k : RowsFault) × HaveFault form f root p.1 k × (e ≡ refusals.Rows (named_by form (table_at f root).name) k)
+
+-- they have none, and say these facts
+abbrev pub Says : Form → Forest → ℕ → Read × List ℕ → Read × List Fact → Type 0
+Says form f root p q =
+    (said : List Fact) × SayFacts form f root p.1 said
+    × (q ≡ (record { facts = p.0.facts; bytes_left = p.0.bytes_left - length p.1; cells_left = p.0.cells_left }, said))
+
+-- how many cells facts have: each as many as its table has columns
+abbrev pub cells_in : Forest → List Fact → ℕ
+cells_in f said = sum_by (λ (fact : Fact). length (table_at f fact.table).columns) said
+
+-- the facts after those that were read before them, within the cells that are left
+abbrev pub with_facts : Forest → Read × List Fact → Result Read SourceRefusal
+with_facts f q = if nat_lt q.0.cells_left (cells_in f q.1) then Err too_many_cells
+    else Ok (record { facts = q.0.facts ++ q.1; bytes_left = q.0.bytes_left; cells_left = q.0.cells_left - cells_in f q.1 })
+
+-- what is read of the bytes of a root's file
+abbrev pub loading : Form → Forest → ℕ → Stage SourceRefusal (Read × List ℕ) Read
+loading form f root = next (notions (IsFaulty form f root) (Says form f root)) (computing (with_facts f))
+
+-- a root's file, and then what is read of it
+abbrev pub reading : Forest → ℕ → Stage SourceRefusal Read Read
+reading f root = next (fetching (file_at f root)) (loading (form_at f root) f root)
+
+-- ---- all roots
+
+-- the files of the roots, in order
 abbrev pub files_stages : Forest → Stage SourceRefusal Read Read
-files_stages f = each reading (tables_of f)
+files_stages f = each (reading f) (roots f)
 
--- the instance has exactly these rows of the tables, ascending
-pub record IsStored (f : Forest) (tables : List (List (List Value))) (I : List TableRows) : Type 0 where
+-- the instance has exactly these facts; the rows of each table ascend
+pub record IsStored (f : Forest) (said : List Fact) (I : List TableRows) : Type 0 where
   pub widths_are : widths I ≡ schema_widths f
   pub ascend : (t : ℕ) → RowsAscend (rows_of I t)
-  pub kept : (t : ℕ) → slice_index_or tables t [] ⊆ rows_of I t
-  pub only : (t : ℕ) → rows_of I t ⊆ slice_index_or tables t []
+  pub exact : facts I ≈ said
 
 abbrev pub storing : Forest → Stage SourceRefusal Read (List TableRows)
-storing f = notions (λ r e. ⊥) (λ r I. IsStored f r.tables I)
+storing f = notions (λ r e. ⊥) (λ r I. IsStored f r.facts I)
 
--- the files of a schema's tables, and the instance of their rows
+-- the files of a schema's roots, and the instance of their facts
 abbrev pub source_stages : Stage SourceRefusal Forest (List TableRows)
 source_stages = by (λ (f : Forest). over (λ (_ : Forest). at_start) (next (files_stages f) (storing f)))
-
--- ---- what the code has
-
--- the rows that numbers of symbols show
-abbrev pub rows_shown : List Value → NumberTable → List (List Value)
-rows_shown symbols t = map (shown_row symbols) t.rows
-
--- what a reading says
-abbrev pub read_of : Reading → Read
-read_of r = record { tables = map (rows_shown r.symbols) r.tables; bytes_left = r.bytes_left; cells_left = r.cells_left }
-
-abbrev pub seen : Result Reading (Stop SourceRefusal) → Result Read (Stop SourceRefusal)
-seen (Ok r) = Ok (read_of r)
-seen (Err e) = Err e
-
--- why a file's rows were not read
-abbrev pub NotATable : List ℕ → List (List ℕ) → List ℕ → Stop SourceRefusal → Type 0
-NotATable bytes columns name (stops.Refused e) = (k : RowKind) × IsAtFault (table_records bytes) columns k × (e ≡ refusals.Rows name (Csv k))
-NotATable bytes columns name (stops.Failed n) = ⊥
-NotATable bytes columns name stops.Memory = Unit {0}

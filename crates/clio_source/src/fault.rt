@@ -1,14 +1,17 @@
 // Why a source is refused.
 use dx_csv::RowKind;
+use dx_json::JsonKind;
 use dx_ports::{Limit, Text};
 
 /// What is wrong with a source file.
-#[derive(Clone, Copy, Debug, PartialEq, Eq)]
+#[derive(Debug, Drop)]
 pub enum RowsFault {
     /// There is no such file.
     Absent,
     /// The file is no table of the set's columns.
     Csv(RowKind),
+    /// The file is no document of the set and its inner sets.
+    Json(JsonKind),
 }
 
 /// Why the source is refused.
@@ -16,6 +19,6 @@ pub enum RowsFault {
 pub enum SourceRefusal {
     /// What is wrong with this file, the first at fault.
     Rows { file: Text, fault: RowsFault },
-    /// The files have too many bytes, or their rows too many cells.
+    /// The files have too many bytes, or their facts too many cells.
     Limit(Limit),
 }

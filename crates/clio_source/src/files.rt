@@ -1,59 +1,70 @@
-// The files of a schema's tables.
-ghost use Rattle.std.specs.Prelude.{◌≡◌, ◌+◌, ◌<◌, ◌≤◌, length, IfOk};
-ghost use Rattle.dx_schema.specs.Tables.{table_at, tables_of};
+// The files of a schema's roots.
+ghost use Rattle.std.specs.Prelude.{◌≡◌, ◌+◌, ◌<◌, ◌≤◌, length, None, IfOk};
+ghost use Rattle.dx_schema.specs.Tables.{count, table_at, tables_of, tree_at};
 ghost use Rattle.dx_stages.specs.Running.{Ran};
-ghost use Rattle.clio_source.specs.Fitting.{ReadFits};
-ghost use Rattle.clio_source.specs.Source.{at_start, csv_name, files_stages, read_of, reading, seen, source_stages};
+ghost use Rattle.clio_source.specs.Source.{Read, at_start, file_at, files_stages, reading, source_stages};
+ghost use Rattle.clio_source.specs.Fitting.{Holds, RanTo, ReadFits};
 
+use crate::documents::load_document;
 use crate::fault::{RowsFault, SourceRefusal};
-use crate::reading::{Reading, load};
-use dx_instance::{Instance, Symbols};
-use dx_ports::limits::{DATA_BYTES, SOURCE_CELLS};
-use dx_ports::{Count, Inputs, Items, Limit, Text};
+use crate::names::{file_name, json_file_name};
+use crate::reading::{Reading, at_start, too_many_bytes};
+use crate::tables::load_table;
+use dx_instance::Instance;
+use dx_ports::{Inputs, Text};
 use dx_schema::Schema;
 use dx_stages::{Stop, fetch};
 use std::alloc::{AllocError, Global};
 
-/// The name of a table's file.
-///
-/// # Errors
-///
-/// Out of memory.
-pub fn file_name(alloc: Global, table: &Text) -> Result<Text, AllocError>
-    ensures { IfOk result (λ name. name ≡ csv_name table.now) }
+// The name of a root's file.
+fn root_file_name(alloc: Global, schema: &Schema, root: u32) -> Result<Text, AllocError>
+    requires { root < length (tables_of schema.now) }
+    ensures { IfOk result (λ name. name ≡ file_at schema.now root) }
 {
-    Text::from_string(alloc, format!(in alloc; "{table}.csv")?)
+    if schema.tree(root).inner.is_empty() {
+        file_name(alloc, schema.name(root))
+    } else {
+        json_file_name(alloc, schema.name(root))
+    }
 }
 
-// Reads a table's file, after what was read before it.
-fn read_file<I: Inputs>(
+// Reads a root's file, after what was read before it.
+fn read_root<I: Inputs>(
     alloc: Global,
     inputs: &mut I,
     schema: &Schema,
-    table: u32,
+    root: u32,
     before: Reading,
 ) -> Result<Reading, Stop<SourceRefusal>>
-    requires table { table < length (tables_of schema.now) }
-    requires fit { ReadFits schema.now table before }
-    ensures fit { IfOk result (ReadFits schema.now (table + 1)) }
-    ensures read { Ran (reading (table_at schema.now table)) (read_of before) (seen result)
+    requires root { root < length (tables_of schema.now) }
+    requires parent { (table_at schema.now root).parent ≡ None }
+    requires fit { ReadFits schema.now root before }
+    ensures fit { IfOk result (ReadFits schema.now (root + 1 + count (tree_at schema.now root).inner)) }
+    ensures read { (q : Read) → Holds before q → RanTo (reading schema.now root) q result
         (record { holds = I.holds inputs.old; faults = I.faults inputs.old; stopped = I.stopped inputs.old })
         (record { holds = I.holds inputs.new; faults = I.faults inputs.new; stopped = I.stopped inputs.new }) }
 {
-    let name = file_name(alloc, schema.name(table))?;
+    let name = root_file_name(alloc, schema, root)?;
     let absent = SourceRefusal::Rows {
         file: name.copy()?,
         fault: RowsFault::Absent,
     };
-    let long = SourceRefusal::Limit(Limit {
-        what: Count::DataBytes,
-        number: DATA_BYTES,
-    });
-    let bytes = fetch(alloc, inputs, name.copy()?, before.bytes_left, absent, long)?;
-    load(alloc, before, schema, table, bytes.items(), name)
+    let bytes = fetch(
+        alloc,
+        inputs,
+        name.copy()?,
+        before.bytes_left,
+        absent,
+        too_many_bytes(),
+    )?;
+    if schema.tree(root).inner.is_empty() {
+        load_table(alloc, before, schema, root, bytes.items(), name)
+    } else {
+        load_document(alloc, before, schema, root, bytes.items(), name)
+    }
 }
 
-// Reads the files of all tables.
+// Reads the files of all roots.
 fn read_files<I: Inputs>(
     alloc: Global,
     inputs: &mut I,
@@ -61,28 +72,27 @@ fn read_files<I: Inputs>(
 ) -> Result<Reading, Stop<SourceRefusal>>
     ensures fit { IfOk result (ReadFits schema.now (length (tables_of schema.now))) }
     ensures few { length (tables_of schema.now) ≤ 64 }
-    ensures read { Ran (files_stages schema.now) at_start (seen result)
+    ensures read { RanTo (files_stages schema.now) at_start result
         (record { holds = I.holds inputs.old; faults = I.faults inputs.old; stopped = I.stopped inputs.old })
         (record { holds = I.holds inputs.new; faults = I.faults inputs.new; stopped = I.stopped inputs.new }) }
 {
-    let mut so_far = Reading {
-        symbols: Symbols::new(alloc),
-        tables: Items::new(alloc),
-        bytes_left: DATA_BYTES,
-        cells_left: SOURCE_CELLS,
-    };
-    for table in 0..schema.tables() {
-        so_far = read_file(alloc, inputs, schema, table, so_far)?;
+    prove!(schema.tables() <= 64);
+    let mut so_far = at_start(alloc);
+    let mut root = 0;
+    for tree in schema.trees() {
+        so_far = read_root(alloc, inputs, schema, root, so_far)?;
+        root += 1 + tree.inner.count();
     }
     Ok(so_far)
 }
 
-/// The source that the files of a schema's tables hold.
+/// The source that the files of a schema's roots hold: of a root without inner sets a table, of another a document.
 ///
 /// # Errors
 ///
-/// For each table in order: its file is absent, passes what is left of 67,108,864 bytes, is no table of its columns, or its
-/// rows pass what is left of 4,000,000 cells. A read that failed, and want of memory, may come at any file.
+/// For each root in order: its file is absent, passes what is left of 67,108,864 bytes, is no table of its columns or no
+/// document of its sets, or its facts pass what is left of 4,000,000 cells. A read that failed, and want of memory, may
+/// come at any file.
 pub fn read_source<I: Inputs>(
     alloc: Global,
     inputs: &mut I,
@@ -93,6 +103,5 @@ pub fn read_source<I: Inputs>(
         (record { holds = I.holds inputs.new; faults = I.faults inputs.new; stopped = I.stopped inputs.new }) }
 {
     let reading = read_files(alloc, inputs, schema)?;
-    let tables = reading.tables.into_vec();
-    Ok(Instance::from_rows(alloc, reading.symbols, tables)?)
+    Ok(Instance::from_rows(alloc, reading.symbols, reading.tables)?)
 }

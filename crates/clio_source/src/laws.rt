@@ -1,8 +1,13 @@
-// The law of the source. The definitions alone carry it: no body computes anything.
-ghost use Rattle.clio_source.specs.Laws.{OneSource, ReadOrRefused};
+// The laws of the source. The definitions alone carry them: no body computes anything.
+ghost use Rattle.clio_source.specs.Laws.{OneSource, ReadOrRefused, RootsHaveNoParent};
 
 /// Files say one source or are refused for one reason, and never both.
 pub fn files_are_read_or_refused()
     ensures source { OneSource }
     ensures refused { ReadOrRefused }
+{}
+
+/// The roots of a schema are its tables without a parent, in order.
+pub fn roots_have_no_parent()
+    ensures { RootsHaveNoParent }
 {}

@@ -1,15 +1,21 @@
 //! The source of files.
 //!
-//! `read_source` reads the file of each table of a schema in order and gives the instance of exactly their rows, or the first
-//! reason to refuse them. Its contract is one row of stages (specs/Source): for each table its file, of as many bytes as are
-//! left, then its form, then the cells that are left. Rows of an instance ascend, so there is one instance of the files.
+//! `read_source` reads the file of each root of a schema in order and gives the instance of exactly their facts, or the first
+//! reason to refuse them. The file of a root without inner sets is a table, `<set>.csv`; that of another is a document with
+//! its inner sets, `<set>.json`. The contract is one row of stages (specs/Source): for each root its file, of as many bytes
+//! as are left, then its form, then the cells of its facts, of as many as are left. Rows of an instance ascend, so there is
+//! one instance of the files. What the code has of what was read stands in specs/Fitting.
 #![tactic(auto)]
 
+mod documents;
 mod fault;
 mod files;
 mod laws;
+mod names;
 mod reading;
+mod tables;
 
 pub use fault::{RowsFault, SourceRefusal};
-pub use files::{file_name, read_source};
-pub use laws::files_are_read_or_refused;
+pub use files::read_source;
+pub use laws::{files_are_read_or_refused, roots_have_no_parent};
+pub use names::{file_name, json_file_name};

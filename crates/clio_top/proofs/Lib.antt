@@ -4,3 +4,8 @@ pub mod Mappings
 pub mod Plans
 pub mod Promised
 pub mod OverAnything
+pub mod Demos
+pub mod Ranges
+pub mod Clashes
+pub mod Endings
+pub mod Headline

@@ -1,14 +1,13 @@
 -- From the stages of a command to what it writes.
-use Rattle.std.proofs.Common.{◌≡◌, ℕ, zero, suc, ◌<◌, ◌≤◌, List, [], ◌∷◌, length, refl, sym, ◌∙◌, ap, subst, inl, inr, Result, Ok, Err, Option, None, Some, arith, get_or}
+use Rattle.std.proofs.Common.{◌≡◌, ℕ, zero, suc, ◌<◌, ◌≤◌, List, [], ◌∷◌, length, refl, sym, ◌∙◌, ap, subst, inl, inr, Result, Ok, Err, Option, None, Some, arith}
 use Rattle.std.specs.Prelude.{◌==◌, map}
 use Rattle.std.proofs.lemmas.List.{length-map}
 use Rattle.std.proofs.lemmas.Bool.{cases_Bool, eqb-true}
 use Rattle.csv.specs.Reading.{strip_bom}
-use Rattle.dx_ports.specs.Members.{◌∈◌, Each, here, there}
+use Rattle.dx_ports.specs.Members.{Each, here, there}
 use Rattle.dx_ports.proofs.Members.{from_append, from_flat_map, from_map}
 use Rattle.dx_model.specs.declared.facts.Fact.{Fact}
-use Rattle.dx_model.specs.declared.rules.Rule.{Rule}
-use Rattle.dx_model.specs.Tables.{Table, table_of}
+use Rattle.dx_model.specs.Tables.{table_of}
 use Rattle.dx_model.specs.Rules.{canonical}
 use Rattle.dx_instance.specs.Stored.{TableRows, facts, widths}
 use Rattle.dx_schema.specs.Forest.{Forest, none, set}
@@ -19,18 +18,18 @@ use Rattle.dx_tokens.specs.Lexing.{IsWord}
 use Rattle.dx_csv.specs.Print.{HasNoMark}
 use Rattle.dx_tgd.specs.Counting.{rows_in}
 use Rattle.dx_tgd.proofs.CanonicalFacts.{nulls_have_places}
+use Rattle.dx_exchange.specs.declared.mode.Mode.{Mode}
 use Rattle.dx_exchange.specs.declared.result.Exchange.{Exchange}
 use Rattle.dx_exchange.specs.Exchanging.{Fits, IsExchange}
-use Rattle.dx_exchange.specs.Flat.{IsFlat}
 use Rattle.dx_exchange.proofs.Fitting.{model_widths}
 use Rattle.dx_exchange.proofs.Lists.{fit_tuples, one_each}
 use Rattle.dx_stages.specs.declared.stop.Stop.{Stop}
 use Rattle.dx_stages.specs.declared.stop.Stop.TheVariants as stops
-use Rattle.dx_stages.specs.Stages.{by, next, over, saying}
-use Rattle.dx_stages.specs.Running.{Told, Ran, Gives, said}
+use Rattle.dx_stages.specs.Stages.{Stage, become, by, next, over, saying}
+use Rattle.dx_stages.specs.Running.{FailedAt, Told, Ran, Gives, Meets, said}
+use Rattle.dx_stages.specs.Worlds.{World}
 use Rattle.dx_stages.specs.Ending.{Planned}
 use Rattle.dx_stages.proofs.Running.{ran_by, ran_into, ran_into_stop, ran_memory, ran_next, ran_over, ran_passes, ran_saying, ran_stop, ran_value, silent_apart}
-use Rattle.clio_accept.specs.declared.fault.MapFault.TheVariants as map_faults
 use Rattle.clio_accept.specs.declared.mapping.Mapping.{Mapping}
 use Rattle.clio_accept.specs.Laws.{MappingFits}
 use Rattle.clio_source.specs.declared.fault.SourceRefusal.{SourceRefusal}
@@ -38,11 +37,12 @@ use Rattle.clio_source.specs.Source.{source_stages}
 use Rattle.clio_files.specs.Files.{FitsFiles}
 use Rattle.clio_files.specs.Texts.{FitTexts}
 use Rattle.clio_top.specs.declared.command.Command.{Command}
-use Rattle.clio_top.specs.declared.ending.Done.{Done}
-use Rattle.clio_top.specs.declared.ending.Refusal.{Refusal}
-use Rattle.clio_top.specs.declared.ending.Refusal.TheVariants as refusals
-use Rattle.clio_top.specs.Ending.{source_refusal}
-use Rattle.clio_top.specs.Running.{Program, asked, exchange_stages, form, mapping_stages, rows_stages, run_stages, saying_words, show_stages, shown_plan, stages_of, target_stages}
+use Rattle.clio_ending.specs.declared.ending.Done.{Done}
+use Rattle.clio_ending.specs.declared.ending.Refusal.{Refusal}
+use Rattle.clio_ending.specs.declared.ending.Refusal.TheVariants as refusals
+use Rattle.clio_ending.specs.Ending.{source_refusal}
+use Rattle.clio_top.specs.Running.{Filled, Program, asked, exchanges, mapping_stages, named_stage, rows_stages, show_stages, shown_plan, target_stages}
+use Rattle.clio_top.specs.Commands.{run_stages, saying_words, stages_of}
 use Rattle.clio_top.specs.Words.{or_usage, says}
 use Rattle.clio_top.proofs.Names.{apart}
 use Rattle.clio_top.proofs.Words.{not_in_word}
@@ -93,8 +93,8 @@ rules_fit P M h = record { few = h.few; listed = h.listed; fit = h.fit; closed =
 pub texts_fit : (P : Program) (M : Mapping) → MappingFits P.list M → FitTexts M.source M.target P.list M.rules
 texts_fit P M h = let few = h.few in record { few = omega (arith, few); fit = h.fit; listed = h.listed }
 
-pub files_fit : (P : Program) (M : Mapping) (I : List TableRows) (e : Exchange) → MappingFits P.list M → IsExchange P.apply (asked (M, I)) e → FitsFiles M.rules M.target e
-files_fit P M I e h x = record {
+pub files_fit : (P : Program) (mode : Mode) (M : Mapping) (I : List TableRows) (e : Exchange) → MappingFits P.list M → IsExchange P.apply (asked mode (M, I)) e → FitsFiles M.rules M.target e
+files_fit P mode M I e h x = record {
   widths_are = x.widths_are ∙ model_widths M.target;
   no_marks = no_marks M.target h.target_names;
   places = λ n m.
@@ -105,8 +105,8 @@ files_fit P M I e h x = record {
 }
 
 -- each fact of the target has a value
-pub facts_wide : (P : Program) (M : Mapping) (I : List TableRows) (e : Exchange) → MappingFits P.list M → IsExchange P.apply (asked (M, I)) e → Each (facts e.target) (λ f. 1 ≤ length f.row)
-facts_wide P M I e h x f m =
+pub facts_wide : (P : Program) (mode : Mode) (M : Mapping) (I : List TableRows) (e : Exchange) → MappingFits P.list M → IsExchange P.apply (asked mode (M, I)) e → Each (facts e.target) (λ f. 1 ≤ length f.row)
+facts_wide P mode M I e h x f m =
     let fits = x.universal.solution.fits f m in
     let w = wide (tables_of M.target) f.table (λ t k. ((are_tables M.target h.target.form).each_table t k).some_column) fits.table in
     let k = fits.width in omega (arith, w, k)
@@ -116,58 +116,108 @@ facts_wide P M I e h x f m =
     wide (t ∷ ts) zero some k = some t (here refl)
     wide (t ∷ ts) (suc n) some k = wide ts n (λ u i. some u (there i)) (omega (arith, k))
 
--- ---- a command
+-- ---- an exchange
 
--- where the mapping text stops the run, it stops each command
-pub mapping_stops : (P : Program) (e : Stop Refusal) (old new : Told) → Ran (mapping_stages P) (tt {0}) (Err e) old new → Ran (exchange_stages P) (tt {0}) (Err e) old new
-mapping_stops P e old new x = ran_stop (mapping_stages P) (next form (next rows_stages (target_stages P))) (tt {0}) e old new x
+-- if the mapping text stops the run, it stops the exchange
+pub mapping_stops : (P : Program) (mode : Mode) (e : Stop Refusal) (old new : Told) → Ran (mapping_stages P) (tt {0}) (Err e) old new
+    → Ran (exchanges P mode) (tt {0}) (Err e) old new
+mapping_stops P mode e old new x = ran_stop (mapping_stages P) (next rows_stages (target_stages P mode)) (tt {0}) e old new x
 
-pub show_stops : (P : Program) (e : Stop Refusal) (old new : Told) → Ran (mapping_stages P) (tt {0}) (Err e) old new → Ran (show_stages P) (tt {0}) (Err e) old new
-show_stops P e old new x = ran_into_stop (λ (u : Unit {0}) (M : Mapping). shown_plan P M) (mapping_stages P) (tt {0}) e old new x
+beside : Mapping → List TableRows → Filled
+beside M I = (M, I)
 
-pub shown : (P : Program) (M : Mapping) (p : Planned Done) (old new : Told) → p ≡ shown_plan P M → Ran (mapping_stages P) (tt {0}) (Ok M) old new → Ran (show_stages P) (tt {0}) (Ok p) old new
-shown P M p old new is x =
-    subst (λ v. Ran (show_stages P) (tt {0}) (Ok v) old new) (sym is) (ran_into (λ (u : Unit {0}) (M : Mapping). shown_plan P M) (mapping_stages P) (tt {0}) M old new x)
+its_source : Mapping → Forest
+its_source M = M.source
+
+pub rows_stop : (P : Program) (mode : Mode) (M : Mapping) (e : Stop Refusal) (old mid new : Told) → Ran (mapping_stages P) (tt {0}) (Ok M) old mid
+    → Ran (saying source_refusal source_stages) M.source (Err e) mid new → Ran (exchanges P mode) (tt {0}) (Err e) old new
+unfolding beside its_source
+rows_stop P mode M e old mid new x y =
+    ran_next (mapping_stages P) (next rows_stages (target_stages P mode)) (tt {0}) M (Err e) old mid new (apart P mode) x
+    (ran_stop rows_stages (target_stages P mode) M e mid new
+    (ran_into_stop beside (over its_source (saying source_refusal source_stages)) M e mid new
+    (ran_over its_source (saying source_refusal source_stages) M (Err e) mid new y)))
+
+-- what the exchange of the rows that were read answers
+pub answered : (P : Program) (mode : Mode) (M : Mapping) (I : List TableRows) (q : Result (Mapping × Exchange) (Stop Refusal)) (old mid new : Told)
+    → Ran (mapping_stages P) (tt {0}) (Ok M) old mid → Ran (saying source_refusal source_stages) M.source (Ok I) mid new
+    → Gives (target_stages P mode) (M, I) q → Ran (exchanges P mode) (tt {0}) q old new
+unfolding beside its_source
+answered P mode M I q old mid new x y g =
+    ran_next (mapping_stages P) (next rows_stages (target_stages P mode)) (tt {0}) M q old mid new (apart P mode) x
+    (ran_next rows_stages (target_stages P mode) M (M, I) q mid new new (silent_apart rows_stages (target_stages P mode) (λ d b n h. h))
+    (ran_into beside (over its_source (saying source_refusal source_stages)) M I mid new
+    (ran_over its_source (saying source_refusal source_stages) M (Ok I) mid new y))
+    (ran_value (target_stages P mode) (M, I) q new g))
+
+-- an exchange that was refused
+pub target_stops : (P : Program) (mode : Mode) (p : Filled) (e : Stop Refusal) → Gives (by (named_stage P mode)) p (Err e)
+    → Gives (target_stages P mode) p (Err e)
+target_stops P mode p (stops.Refused e) g = g
+target_stops P mode p (stops.Failed n) g = g
+target_stops P mode p stops.Memory g = g
+
+-- an exchange that was made
+pub target_made : (P : Program) (mode : Mode) (p : Filled) (e : Exchange) → Gives (by (named_stage P mode)) p (Ok e)
+    → Gives (target_stages P mode) p (Ok (p.0, e))
+target_made P mode p e g = λ c. (e, g c, refl)
+
+-- ---- what becomes of a result
+
+fault_of : {E : Type 0} (B C : Type 0) (old new : Told) (e : Stop E) → FailedAt {B = B} old new (Err e) → FailedAt {B = C} old new (Err e)
+fault_of B C old new (stops.Refused e) f = tt
+fault_of B C old new (stops.Failed n) f = f
+fault_of B C old new stops.Memory f = tt
+
+pub ran_become_stop : {E A B C : Type 0} (R : A → B → C → Type 0) (s : Stage E A B) (a : A) (e : Stop E) (old new : Told) → Ran s a (Err e) old new
+    → Ran (become R s) a (Err e) old new
+ran_become_stop {E} {A} {B} {C} R s a e old new x = record {
+  kept = x.kept;
+  counted = x.counted;
+  failed = fault_of B C old new e x.failed;
+  finds = record {
+    found = x.finds.found;
+    told = x.finds.told;
+    once = x.finds.once;
+    asked = λ c g n h. x.finds.asked c g n h;
+    meets = λ c g. meets e c (x.finds.meets c g);
+  };
+}
+  where
+    meets : (e : Stop E) (c : World) → Meets s c a (Err e) → Meets (become R s) c a (Err e)
+    meets (stops.Refused e) c m = m
+    meets (stops.Failed n) c m = m
+    meets stops.Memory c m = tt
+
+-- what memory could not make of a result
+pub ran_become_none : {E A B C : Type 0} (R : A → B → C → Type 0) (s : Stage E A B) (a : A) (b : B) (old new : Told) → Ran s a (Ok b) old new
+    → Ran (become R s) a (Err stops.Memory) old new
+ran_become_none R s a b old new x = ran_become_stop R s a stops.Memory old new (ran_memory s a (Ok b) old new x)
+
+-- ---- showing
+
+pub show_stops : (P : Program) (mode : Mode) (e : Stop Refusal) (old new : Told) → Ran (mapping_stages P) (tt {0}) (Err e) old new
+    → Ran (show_stages P mode) (tt {0}) (Err e) old new
+show_stops P mode e old new x = ran_into_stop (λ (u : Unit {0}) (M : Mapping). shown_plan P mode M) (mapping_stages P) (tt {0}) e old new x
+
+pub shown : (P : Program) (mode : Mode) (M : Mapping) (p : Planned Done) (old new : Told) → p ≡ shown_plan P mode M
+    → Ran (mapping_stages P) (tt {0}) (Ok M) old new → Ran (show_stages P mode) (tt {0}) (Ok p) old new
+shown P mode M p old new is x =
+    subst (λ v. Ran (show_stages P mode) (tt {0}) (Ok v) old new) (sym is)
+    (ran_into (λ (u : Unit {0}) (M : Mapping). shown_plan P mode M) (mapping_stages P) (tt {0}) M old new x)
 
 -- what memory could not make of a mapping that was read
-pub shown_none : (P : Program) (M : Mapping) (old new : Told) → Ran (mapping_stages P) (tt {0}) (Ok M) old new → Ran (show_stages P) (tt {0}) (Err stops.Memory) old new
-shown_none P M old new x = ran_memory (show_stages P) (tt {0}) (Ok (shown_plan P M)) old new (shown P M (shown_plan P M) old new refl x)
+pub shown_none : (P : Program) (mode : Mode) (M : Mapping) (old new : Told) → Ran (mapping_stages P) (tt {0}) (Ok M) old new
+    → Ran (show_stages P mode) (tt {0}) (Err stops.Memory) old new
+shown_none P mode M old new x =
+    ran_memory (show_stages P mode) (tt {0}) (Ok (shown_plan P mode M)) old new (shown P mode M (shown_plan P mode M) old new refl x)
 
--- a mapping of another form is refused
-pub form_stops : (P : Program) (M : Mapping) (old new : Told) → Ran (mapping_stages P) (tt {0}) (Ok M) old new → ¬ (IsFlat M.source)
-    → Ran (exchange_stages P) (tt {0}) (Err (stops.Refused (refusals.Mapping map_faults.NotYet))) old new
-form_stops P M old new x other =
-    ran_next (mapping_stages P) (next form (next rows_stages (target_stages P))) (tt {0}) M (Err (stops.Refused (refusals.Mapping map_faults.NotYet))) old new new (apart P) x
-    (ran_stop form (next rows_stages (target_stages P)) M (stops.Refused (refusals.Mapping map_faults.NotYet)) new new
-    (ran_value form M (Err (stops.Refused (refusals.Mapping map_faults.NotYet))) new (λ c. (other, refl))))
-
--- of a mapping of the form, what follows decides
-formed : (P : Program) (M : Mapping) (q : Result (Planned Done) (Stop Refusal)) (old mid new : Told) → Ran (mapping_stages P) (tt {0}) (Ok M) old mid → IsFlat M.source
-    → Ran (next rows_stages (target_stages P)) M q mid new → Ran (exchange_stages P) (tt {0}) q old new
-formed P M q old mid new x plain y =
-    ran_next (mapping_stages P) (next form (next rows_stages (target_stages P))) (tt {0}) M q old mid new (apart P) x
-    (ran_next form (next rows_stages (target_stages P)) M M q mid mid new (λ c d a b n p h k. h) (ran_value form M (Ok M) mid (λ c. (plain, refl))) y)
-
-pub rows_stop : (P : Program) (M : Mapping) (e : Stop Refusal) (old mid new : Told) → Ran (mapping_stages P) (tt {0}) (Ok M) old mid → IsFlat M.source
-    → Ran (saying source_refusal source_stages) M.source (Err e) mid new → Ran (exchange_stages P) (tt {0}) (Err e) old new
-rows_stop P M e old mid new x plain y =
-    formed P M (Err e) old mid new x plain
-    (ran_stop rows_stages (target_stages P) M e mid new
-    (ran_into_stop (λ (M : Mapping) (I : List TableRows). (M, I)) (over (λ (M : Mapping). M.source) (saying source_refusal source_stages)) M e mid new
-    (ran_over (λ (M : Mapping). M.source) (saying source_refusal source_stages) M (Err e) mid new y)))
-
-pub exchanged : (P : Program) (M : Mapping) (I : List TableRows) (q : Result (Planned Done) (Stop Refusal)) (old mid new : Told) → Ran (mapping_stages P) (tt {0}) (Ok M) old mid
-    → IsFlat M.source → Ran (saying source_refusal source_stages) M.source (Ok I) mid new → Gives (target_stages P) (M, I) q → Ran (exchange_stages P) (tt {0}) q old new
-exchanged P M I q old mid new x plain y g =
-    formed P M q old mid new x plain
-    (ran_next rows_stages (target_stages P) M (M, I) q mid new new (silent_apart rows_stages (target_stages P) (λ d b n h. h))
-    (ran_into (λ (M : Mapping) (I : List TableRows). (M, I)) (over (λ (M : Mapping). M.source) (saying source_refusal source_stages)) M I mid new
-    (ran_over (λ (M : Mapping). M.source) (saying source_refusal source_stages) M (Ok I) mid new y))
-    (ran_value (target_stages P) (M, I) q new g))
+-- ---- the rows
 
 -- why no rows were read, said as a refusal of the run
 pub rows_said : (f : Forest) (r : Result (List TableRows) (Stop SourceRefusal)) (e : Stop SourceRefusal) (k : Stop Refusal) (old new : Told) → r ≡ Err e
-    → ◌≡◌ {A = Result (List TableRows) (Stop Refusal)} (Err k) (said source_refusal (Err e)) → Ran source_stages f r old new → Ran (saying source_refusal source_stages) f (Err k) old new
+    → ◌≡◌ {A = Result (List TableRows) (Stop Refusal)} (Err k) (said source_refusal (Err e)) → Ran source_stages f r old new
+    → Ran (saying source_refusal source_stages) f (Err k) old new
 rows_said f r e k old new is k_is x = ran_saying source_refusal source_stages f r (Err k) old new (k_is ∙ sym (ap (said source_refusal) is)) x
 
 -- the rows that were read have the tables of the schema
@@ -177,15 +227,17 @@ rows_widths f I old new x = let p = ran_passes (saying source_refusal source_sta
 -- ---- the words
 
 -- the stages of the command that the words say
-pub of_words : (P : Program) (words : List (List ℕ)) (command : Command) (q : Result (Planned Done) (Stop Refusal)) (old new : Told) → says words ≡ Some command → Ran (stages_of P command) (tt {0}) q old new
-    → Ran (run_stages P) words q old new
+pub of_words : (P : Program) (words : List (List ℕ)) (command : Command) (q : Result (Planned Done) (Stop Refusal)) (old new : Told)
+    → says words ≡ Some command → Ran (stages_of P command) (tt {0}) q old new → Ran (run_stages P) words q old new
 of_words P words command q old new is x =
     ran_next saying_words (by (λ (c : Command). over (λ (d : Command). tt {0}) (stages_of P c))) words command q old old new
     (λ c d a b n p h k. h) (ran_value saying_words words (Ok command) old (λ c. ap or_usage is))
-    (ran_by (λ (c : Command). over (λ (d : Command). tt {0}) (stages_of P c)) command q old new (ran_over (λ (d : Command). tt {0}) (stages_of P command) command q old new x))
+    (ran_by (λ (c : Command). over (λ (d : Command). tt {0}) (stages_of P c)) command q old new
+    (ran_over (λ (d : Command). tt {0}) (stages_of P command) command q old new x))
 
 -- other words are refused
-pub misused : (P : Program) (words : List (List ℕ)) (told : Told) → says words ≡ None → Ran (run_stages P) words (Err (stops.Refused refusals.Usage)) told told
+pub misused : (P : Program) (words : List (List ℕ)) (told : Told) → says words ≡ None
+    → Ran (run_stages P) words (Err (stops.Refused refusals.Usage)) told told
 misused P words told is =
     ran_stop saying_words (by (λ (c : Command). over (λ (d : Command). tt {0}) (stages_of P c))) words (stops.Refused refusals.Usage) told told
     (ran_value saying_words words (Err (stops.Refused refusals.Usage)) told (λ c. ap or_usage is))

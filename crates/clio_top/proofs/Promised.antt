@@ -1,25 +1,24 @@
 -- There is one reason to refuse a run, or a plan, and never both.
-use Rattle.std.proofs.Common.{◌≡◌, ◌⊎◌, ℕ, List, [], ◌∷◌, length, refl, sym, ◌∙◌, ap, subst, inl, inr}
-use Rattle.std.specs.Prelude.{codes}
-use Rattle.dx_ports.specs.declared.file.Count.TheVariants.{TextBytes}
-use Rattle.dx_instance.specs.Stored.{TableRows}
+use Rattle.std.proofs.Common.{◌≡◌, ℕ, List, refl, sym, ap, subst, Ok}
+use Rattle.std.specs.Prelude.{Bool, codes}
+use Rattle.dx_instance.specs.Stored.{TableRows, facts, widths}
 use Rattle.dx_schema.specs.Forest.{Forest}
-use Rattle.dx_schema.specs.Tables.{model_tables}
+use Rattle.dx_schema.specs.Tables.{model_tables, schema_widths}
 use Rattle.dx_schema.proofs.Valid.{are_tables}
 use Rattle.dx_exchange.specs.declared.result.Exchange.{Exchange}
-use Rattle.dx_exchange.specs.Exchanging.{AreAlike as FaultsAlike, Asked, IsExchange, exchanging}
-use Rattle.dx_exchange.specs.Laws.{IsPlainAsked}
+use Rattle.dx_exchange.specs.declared.mode.Mode.{Mode}
+use Rattle.dx_exchange.specs.Exchanging.{AreAlike as FaultsAlike, IsExchange, exchanging}
+use Rattle.dx_exchange.specs.Laws.{IsAsked}
 use Rattle.dx_exchange.specs.declared.fault.ExFault.{ExFault}
 use Rattle.dx_exchange.specs.declared.fault.ExFault.TheVariants as exchange_faults
-use Rattle.dx_exchange.specs.Flat.{IsFlat}
 use Rattle.dx_exchange.proofs.Decided.{exchange_or_none}
-use Rattle.dx_exchange.proofs.Deciding.{flat_or_not}
 use Rattle.dx_stages.specs.Worlds.{World}
-use Rattle.dx_stages.specs.Stages.{next, become, by, over, into, saying, computing, checking}
+use Rattle.dx_stages.specs.Stages.{Stage, next, by, over, saying}
 use Rattle.dx_stages.specs.Laws.{PassesOne, IsDecided}
 use Rattle.dx_stages.specs.Ending.{Planned}
-use Rattle.dx_stages.proofs.Decided.{Any, next_one, next_decided, by_decided, over_one, over_decided, into_one, into_decided, file_one, file_decided, computing_one, computing_decided, saying_decided, checking_one, checking_decided, become_decided, weaker}
-use Rattle.clio_accept.specs.declared.fault.MapFault.TheVariants as map_faults
+use Rattle.dx_stages.specs.Running.{Ran, Told}
+use Rattle.dx_stages.proofs.Running.{ran_passes}
+use Rattle.dx_stages.proofs.Decided.{Any, next_one, next_decided, by_decided, over_one, over_decided, into_one, into_decided, file_one, file_decided, computing_one, computing_decided, saying_decided, become_decided}
 use Rattle.clio_accept.specs.declared.mapping.Mapping.{Mapping}
 use Rattle.clio_accept.specs.Accepting.{accepting}
 use Rattle.clio_accept.specs.Laws.{MappingFits}
@@ -27,18 +26,22 @@ use Rattle.clio_accept.proofs.Accepted.{accepted_fits}
 use Rattle.clio_accept.proofs.Decided.{accepting_decided, accepting_one}
 use Rattle.clio_source.specs.Source.{source_stages}
 use Rattle.clio_source.proofs.Decided.{source_decided, source_one}
-use Rattle.clio_files.proofs.Existing.{files_exist}
+use Rattle.clio_files.specs.Files.{FitsFiles}
+use Rattle.clio_files.specs.Texts.{FitTexts}
+use Rattle.clio_files.proofs.Existing.{files_exist, nulls_exist}
 use Rattle.clio_top.specs.declared.command.Command.{Command}
-use Rattle.clio_top.specs.declared.command.Command.TheVariants.{Exchanging, Showing}
-use Rattle.clio_top.specs.declared.ending.Done.{Done}
-use Rattle.clio_top.specs.declared.ending.Refusal.{Refusal}
-use Rattle.clio_top.specs.declared.ending.Refusal.TheVariants as refusals
-use Rattle.clio_top.specs.Ending.{AreAlike, exchange_refusal, mapping_refusal, source_refusal}
+use Rattle.clio_top.specs.declared.command.Command.TheVariants.{Demonstrating, Exchanging, Showing}
+use Rattle.clio_ending.specs.declared.ending.Done.{Done}
+use Rattle.clio_ending.specs.declared.ending.Refusal.{Refusal}
+use Rattle.clio_ending.specs.declared.ending.Refusal.TheVariants as refusals
+use Rattle.clio_ending.specs.Ending.{AreAlike, exchange_refusal, mapping_refusal, source_refusal}
 use Rattle.clio_top.specs.Promises.{RefusedOrPlanned}
-use Rattle.clio_top.specs.Running.{IsNotYet, IsPlanOf, Program, asked, exchange_stages, form, mapping_file, mapping_stages, named_stage, rows_stages, run_stages, saying_words, show_stages, shown_plan, stages_of, target_stages, text_bytes}
+use Rattle.clio_top.specs.Running.{Filled, IsPlanOf, Program, absent, asked, exchange_stages, exchanges, mapping_file, mapping_stages, named_stage, rows_stages, show_stages, shown_plan, target_stages, text_bytes, too_long}
+use Rattle.clio_top.specs.Demo.{IsDemoPlan, demo_stages, demo_world, inside}
+use Rattle.clio_top.specs.Commands.{saying_words, stages_of}
 use Rattle.clio_top.specs.Words.{or_usage, says}
-use Rattle.clio_top.proofs.Mappings.{absent, is_small, long}
-use Rattle.clio_top.proofs.Plans.{facts_wide, files_fit, rules_fit}
+use Rattle.clio_top.proofs.Mappings.{is_small}
+use Rattle.clio_top.proofs.Plans.{facts_wide, files_fit, rules_fit, texts_fit}
 
 alike : (e : Refusal) → AreAlike e e
 alike refusals.Usage = refl
@@ -53,27 +56,13 @@ same_alike d e is = subst (AreAlike d) is (alike d)
 -- ---- the mapping
 
 mapping_one : (P : Program) → PassesOne (mapping_stages P)
-mapping_one P = next_one mapping_file (saying mapping_refusal (accepting P.list)) (file_one (Unit {0}) (codes "mapping.clio") text_bytes absent long) (accepting_one P.list)
+mapping_one P = next_one mapping_file (saying mapping_refusal (accepting P.list)) (file_one (Unit {0}) (codes "mapping.clio") text_bytes absent too_long) (accepting_one P.list)
 
 mapping_decided : (P : Program) → IsDecided AreAlike Any (mapping_stages P)
 mapping_decided P =
-    next_decided AreAlike Any Any mapping_file (saying mapping_refusal (accepting P.list)) (file_one (Unit {0}) (codes "mapping.clio") text_bytes absent long) (λ c a b g p. tt)
-    (file_decided AreAlike Any (codes "mapping.clio") text_bytes absent long alike)
+    next_decided AreAlike Any Any mapping_file (saying mapping_refusal (accepting P.list)) (file_one (Unit {0}) (codes "mapping.clio") text_bytes absent too_long) (λ c a b g p. tt)
+    (file_decided AreAlike Any (codes "mapping.clio") text_bytes absent too_long alike)
     (saying_decided (λ e k. e ≡ k) AreAlike Any mapping_refusal (accepting P.list) (λ e k is. same_alike (mapping_refusal e) (mapping_refusal k) (ap mapping_refusal is)) (accepting_decided P.list))
-
--- ---- the form
-
-form_one : PassesOne form
-form_one = checking_one IsNotYet (λ M. IsFlat M.source)
-
-form_decided : (Given : Mapping → Type 0) → IsDecided AreAlike Given form
-form_decided Given = checking_decided AreAlike Given IsNotYet (λ M. IsFlat M.source) (λ M d e p q. same_alike d e (p.1 ∙ sym q.1)) (λ M e plain p. p.0 plain) either
-  where
-    either : (M : Mapping) → IsFlat M.source ⊎ ((e : Refusal) × IsNotYet M e)
-    either M = elim (flat_or_not M.source) [
-      | inl plain ↦ inl plain
-      | inr other ↦ inr (refusals.Mapping map_faults.NotYet, (other, refl))
-    ]
 
 -- ---- the rows
 
@@ -91,25 +80,16 @@ rows_decided Given =
 
 -- ---- the target
 
--- the mapping fits and is of the form
-record IsReady (P : Program) (M : Mapping) : Type 0 where
-  fits : MappingFits P.list M
-  plain : IsFlat M.source
+AreReady : Program → Filled → Type 0
+AreReady P p = MappingFits P.list p.0
 
-abbrev AreReady : Program → Mapping × List TableRows → Type 0
-AreReady P p = IsReady P p.0
-
-plain_asked : (P : Program) (p : Mapping × List TableRows) → AreReady P p → IsPlainAsked P.list (model_tables p.0.source) (asked p)
-plain_asked P p r = record { fits = rules_fit P p.0 r.fits; mode = refl }
-
-plan_exists : (P : Program) (p : Mapping × List TableRows) (e : Exchange) → AreReady P p → IsExchange P.apply (asked p) e → (plan : Planned Done) × IsPlanOf P p.0 e plan
-plan_exists P p e r x =
-    let fs = files_exist p.0.source p.0.target P.list p.0.rules e (files_fit P p.0 p.1 e r.fits x) (are_tables p.0.target r.fits.target.form) (facts_wide P p.0 p.1 e r.fits x) in
-    (_, (fs.0, fs.1, refl))
-
-target_decided : (P : Program) → IsDecided AreAlike (AreReady P) (target_stages P)
-target_decided P =
-    become_decided AreAlike (AreReady P) (λ p e plan. IsPlanOf P p.0 e plan) (by (named_stage P)) (λ c p e r x. plan_exists P p e r x) decided
+target_decided : (P : Program) (mode : Mode) → IsDecided AreAlike (AreReady P) (by (named_stage P mode))
+unfolding AreReady
+target_decided P mode = record {
+  one = λ c p e f r. (asked_decided p.0.source p.0.target).one c (asked mode p) e f (rules_fit P p.0 r);
+  never_both = λ c p b e r. (asked_decided p.0.source p.0.target).never_both c (asked mode p) b e (rules_fit P p.0 r);
+  either = λ c p r. (asked_decided p.0.source p.0.target).either c (asked mode p) (rules_fit P p.0 r);
+}
   where
     faults_alike : (target : Forest) (e k : ExFault) → FaultsAlike e k → AreAlike (exchange_refusal target e) (exchange_refusal target k)
     faults_alike target (exchange_faults.Clash c) (exchange_faults.Clash d) a = tt
@@ -118,43 +98,101 @@ target_decided P =
     faults_alike target (exchange_faults.Limit l) e a = same_alike _ _ (ap (exchange_refusal target) a)
     faults_alike target exchange_faults.Memory e a = same_alike _ _ (ap (exchange_refusal target) a)
 
-    asked_decided : (source target : Forest) → IsDecided AreAlike (IsPlainAsked P.list (model_tables source)) (saying (exchange_refusal target) (exchanging P.apply))
+    asked_decided : (source target : Forest)
+        → IsDecided AreAlike (IsAsked P.list (model_tables source)) (saying (exchange_refusal target) (exchanging P.apply))
     asked_decided source target =
-        saying_decided FaultsAlike AreAlike (IsPlainAsked P.list (model_tables source)) (exchange_refusal target) (exchanging P.apply) (faults_alike target) (exchange_or_none P.apply P.list (model_tables source))
+        saying_decided FaultsAlike AreAlike (IsAsked P.list (model_tables source)) (exchange_refusal target) (exchanging P.apply)
+        (faults_alike target) (exchange_or_none P.apply P.list (model_tables source))
 
-    decided : IsDecided AreAlike (AreReady P) (by (named_stage P))
-    decided = record {
-      one = λ c p e f r. (asked_decided p.0.source p.0.target).one c (asked p) e f (plain_asked P p r);
-      never_both = λ c p b e r. (asked_decided p.0.source p.0.target).never_both c (asked p) b e (plain_asked P p r);
-      either = λ c p r. (asked_decided p.0.source p.0.target).either c (asked p) (plain_asked P p r);
-    }
+-- ---- an exchange
+
+FitsList : Program → Mapping → Type 0
+FitsList P M = MappingFits P.list M
+
+exchanges_decided : (P : Program) (mode : Mode) → IsDecided AreAlike Any (exchanges P mode)
+unfolding FitsList AreReady
+exchanges_decided P mode =
+    next_decided AreAlike Any (FitsList P) (mapping_stages P) (next rows_stages (target_stages P mode)) (mapping_one P)
+    (λ c a M g p. accepted_fits P.list c p.0 M (is_small p.0 p.1.1) p.2) (mapping_decided P)
+    (next_decided AreAlike (FitsList P) (AreReady P) rows_stages (target_stages P mode) rows_one rows_ready (rows_decided (FitsList P))
+    (into_decided AreAlike (AreReady P) (λ (p : Filled) (e : Exchange). (p.0, e)) (by (named_stage P mode)) (target_decided P mode)))
+  where
+    rows_ready : (c : World) (M : Mapping) (p : Filled) → FitsList P M → rows_stages.passes c M p → AreReady P p
+    rows_ready c M p h (I, s, is) = subst (AreReady P) (sym is) h
+
+-- what is known of an exchange that was made
+pub record IsMade (P : Program) (mode : Mode) (M : Mapping) (e : Exchange) : Type 0 where
+  pub fits : MappingFits P.list M
+  pub rows : List TableRows
+  pub exchange : IsExchange P.apply (asked mode (M, rows)) e
+
+made_in : (P : Program) (mode : Mode) (c : World) (q : Mapping × Exchange) → (exchanges P mode).passes c (tt {0}) q → IsMade P mode q.0 q.1
+made_in P mode c q (M, m, (pair, (I, source, pair_is), (x, exchange, q_is))) =
+    subst (λ (r : Mapping × Exchange). IsMade P mode r.0 r.1) (sym q_is)
+    (subst (λ (r : Filled). IsMade P mode r.0 x) (sym pair_is) (record {
+      fits = accepted_fits P.list c m.0 M (is_small m.0 m.1.1) m.2;
+      rows = I;
+      exchange = subst (λ (r : Filled). IsExchange P.apply (asked mode r) x) pair_is exchange;
+    }))
+
+-- an exchange that ran was made
+pub made : (P : Program) (mode : Mode) (q : Mapping × Exchange) (old new : Told) → Ran (exchanges P mode) (tt {0}) (Ok q) old new → IsMade P mode q.0 q.1
+made P mode q old new x = let p = ran_passes (exchanges P mode) (tt {0}) q old new x in made_in P mode p.0 q p.1
+
+pub texts_ready : (P : Program) (mode : Mode) (M : Mapping) (e : Exchange) → IsMade P mode M e → FitTexts M.source M.target P.list M.rules
+texts_ready P mode M e h = texts_fit P M h.fits
+
+pub files_ready : (P : Program) (mode : Mode) (M : Mapping) (e : Exchange) → IsMade P mode M e → FitsFiles M.rules M.target e
+files_ready P mode M e h = files_fit P mode M h.rows e h.fits h.exchange
+
+pub widths_ready : (P : Program) (mode : Mode) (M : Mapping) (e : Exchange) → IsMade P mode M e → widths e.target ≡ schema_widths M.target
+widths_ready P mode M e h = (files_ready P mode M e h).widths_are
+
+plan_exists : (P : Program) (mode : Mode) (nested : Bool) (M : Mapping) (e : Exchange) → IsMade P mode M e
+    → (plan : Planned Done) × IsPlanOf P mode nested M e plan
+plan_exists P mode nested M e h =
+    let fs = files_exist M.source M.target P.list mode nested M.rules e (files_fit P mode M h.rows e h.fits h.exchange)
+    (are_tables M.target h.fits.target.form) (facts_wide P mode M h.rows e h.fits h.exchange) in
+    (_, (fs.0, fs.1, refl))
+
+exchange_decided : (P : Program) (mode : Mode) (nested : Bool) → IsDecided AreAlike Any (exchange_stages P mode nested)
+exchange_decided P mode nested =
+    become_decided AreAlike Any (λ u q plan. IsPlanOf P mode nested q.0 q.1 plan) (exchanges P mode)
+    (λ c u q g x. plan_exists P mode nested q.0 q.1 (made_in P mode c q x)) (exchanges_decided P mode)
+
+-- ---- a demo
+
+-- a stage in a given world is decided if it is
+inside_decided : {E A B : Type 0} (Alike : E → E → Type 0) (Given : A → Type 0) (w : World) (s : Stage E A B) → IsDecided Alike Given s
+    → IsDecided Alike Given (inside w s)
+inside_decided Alike Given w s d = record {
+  one = λ c a e f g p q. d.one w a e f g p q;
+  never_both = λ c a b e g p q. d.never_both w a b e g p q;
+  either = λ c a g. d.either w a g;
+}
+
+demo_exists : (P : Program) (number : ℕ) (M : Mapping) (e : Exchange) → (plan : Planned Done) × IsDemoPlan number M e plan
+demo_exists P number M e = let ns = nulls_exist (facts e.target) in (_, (ns.0, ns.1, refl))
+
+demo_decided : (P : Program) (number : ℕ) (mode : Mode) → IsDecided AreAlike Any (demo_stages P number mode)
+demo_decided P number mode =
+    become_decided AreAlike Any (λ u q plan. IsDemoPlan number q.0 q.1 plan) (inside (demo_world number) (exchanges P mode))
+    (λ c u q g x. demo_exists P number q.0 q.1) (inside_decided AreAlike Any (demo_world number) (exchanges P mode) (exchanges_decided P mode))
 
 -- ---- the commands
 
-abbrev FitsList : Program → Mapping → Type 0
-FitsList P M = MappingFits P.list M
-
-exchange_decided : (P : Program) → IsDecided AreAlike Any (exchange_stages P)
-exchange_decided P =
-    next_decided AreAlike Any (FitsList P) (mapping_stages P) (next form (next rows_stages (target_stages P))) (mapping_one P) (λ c a M g p. accepted_fits P.list c p.0 M (is_small p.0 p.1.1) p.2) (mapping_decided P)
-    (next_decided AreAlike (FitsList P) (IsReady P) form (next rows_stages (target_stages P)) form_one ready (form_decided (FitsList P))
-    (next_decided AreAlike (IsReady P) (AreReady P) rows_stages (target_stages P) rows_one rows_ready (rows_decided (IsReady P)) (target_decided P)))
-  where
-    ready : (c : World) (M N : Mapping) → FitsList P M → form.passes c M N → IsReady P N
-    ready c M N h p = subst (IsReady P) (sym p.1) (record { fits = h; plain = p.0 })
-
-    rows_ready : (c : World) (M : Mapping) (p : Mapping × List TableRows) → IsReady P M → rows_stages.passes c M p → AreReady P p
-    rows_ready c M p h (I, s, is) = subst (AreReady P) (sym is) h
-
-show_decided : (P : Program) → IsDecided AreAlike Any (show_stages P)
-show_decided P = into_decided AreAlike Any (λ (u : Unit {0}) (M : Mapping). shown_plan P M) (mapping_stages P) (mapping_decided P)
+show_decided : (P : Program) (mode : Mode) → IsDecided AreAlike Any (show_stages P mode)
+show_decided P mode =
+    into_decided AreAlike Any (λ (u : Unit {0}) (M : Mapping). shown_plan P mode M) (mapping_stages P) (mapping_decided P)
 
 stages_decided : (P : Program) (c : Command) → IsDecided AreAlike Any (stages_of P c)
-stages_decided P Exchanging = exchange_decided P
-stages_decided P Showing = show_decided P
+stages_decided P (Exchanging mode nested) = exchange_decided P mode nested
+stages_decided P (Showing mode) = show_decided P mode
+stages_decided P (Demonstrating number mode) = demo_decided P number mode
 
 pub run_decided : RefusedOrPlanned
 run_decided P =
-    next_decided AreAlike Any Any saying_words (by (λ (c : Command). over (λ (d : Command). tt {0}) (stages_of P c))) (computing_one (λ words. or_usage (says words))) (λ c a b g p. tt)
-    (computing_decided AreAlike Any (λ words. or_usage (says words)) alike)
-    (by_decided AreAlike Any (λ (c : Command). over (λ (d : Command). tt {0}) (stages_of P c)) (λ c g. over_decided AreAlike Any Any (λ (d : Command). tt {0}) (stages_of P c) (λ a g. tt) (stages_decided P c)))
+    next_decided AreAlike Any Any saying_words (by (λ (c : Command). over (λ (d : Command). tt {0}) (stages_of P c)))
+    (computing_one (λ words. or_usage (says words))) (λ c a b g p. tt) (computing_decided AreAlike Any (λ words. or_usage (says words)) alike)
+    (by_decided AreAlike Any (λ (c : Command). over (λ (d : Command). tt {0}) (stages_of P c))
+    (λ c g. over_decided AreAlike Any Any (λ (d : Command). tt {0}) (stages_of P c) (λ a g. tt) (stages_decided P c)))

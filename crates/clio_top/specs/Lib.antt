@@ -1,5 +1,5 @@
 pub mod Words
-pub mod Ending
 pub mod Running
+pub mod Demo
+pub mod Commands
 pub mod Promises
-pub mod Message

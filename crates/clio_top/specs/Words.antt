@@ -1,20 +1,81 @@
 -- The words of a run.
-use Rattle.std.specs.Prelude.{ℕ, List, [], ◌∷◌, Option, Some, None, Result, Ok, Err, cond, nat_eq, codes}
+use Rattle.std.specs.Prelude.{ℕ, ◌*◌, ◌+◌, ◌-◌, List, [], ◌∷◌, Option, Some, None, Result, Ok, Err, Bool, true, false, eqb, nat_eq, nat_lt, ◌&&◌, ◌||◌, codes, if◌then◌else◌}
 use Rattle.std.specs.Cmp.Lexicographic.{pointwise}
+use Rattle.dx_tokens.specs.Tokens.{is_digit}
+use Rattle.dx_exchange.specs.declared.mode.Mode.{Mode}
+use Rattle.dx_exchange.specs.declared.mode.Mode.TheVariants.{Plain, Core}
+use Rattle.clio_ending.specs.declared.ending.Refusal.{Refusal}
+use Rattle.clio_ending.specs.declared.ending.Refusal.TheVariants.{Usage}
 use Rattle.clio_top.specs.declared.command.Command.{Command}
-use Rattle.clio_top.specs.declared.command.Command.TheVariants.{Exchanging, Showing}
-use Rattle.clio_top.specs.declared.ending.Refusal.{Refusal}
-use Rattle.clio_top.specs.declared.ending.Refusal.TheVariants.{Usage}
+use Rattle.clio_top.specs.declared.command.Command.TheVariants.{Demonstrating, Exchanging, Showing}
 
--- the command of a name
-abbrev pub named : List ℕ → Option Command
-named name = cond (pointwise nat_eq name (codes "exchange")) (Some Exchanging) (cond (pointwise nat_eq name (codes "show")) (Some Showing) None)
+-- a word, by its bytes
+abbrev pub Word : Type 0
+Word = List ℕ
 
--- what words say: the name of a command alone
-abbrev pub says : List (List ℕ) → Option Command
+-- whether two words are one
+abbrev pub same : Word → Word → Bool
+same = pointwise nat_eq
+
+abbrev pub is_core : Word → Bool
+is_core w = same w (codes "--core")
+
+abbrev pub is_nested : Word → Bool
+is_nested w = same w (codes "--nested")
+
+-- ---- numerals
+
+-- the number that digits say after those of n, as long as it is at most 100,000
+abbrev pub number_after : ℕ → Word → Option ℕ
+number_after n [] = Some n
+number_after n (b ∷ bs) =
+    let m = 10 * n + (b - 48) in if is_digit b && nat_lt m 100001 then number_after m bs else None
+
+-- the number of a numeral without a leading zero, from 1 to 100,000
+abbrev pub number_in : Word → Option ℕ
+number_in [] = None
+number_in (b ∷ bs) = if eqb b 48 then None else number_after 0 (b ∷ bs)
+
+-- ---- commands
+
+-- after `show`: nothing, or `--core`
+abbrev pub show_said : List Word → Option Command
+show_said [] = Some (Showing Plain)
+show_said (w ∷ []) = if is_core w then Some (Showing Core) else None
+show_said (v ∷ w ∷ words) = None
+
+-- after `exchange`: `--core` and `--nested`, each at most once, in any order
+abbrev pub exchange_said : List Word → Option Command
+exchange_said [] = Some (Exchanging Plain false)
+exchange_said (w ∷ []) =
+    if is_core w then Some (Exchanging Core false) else if is_nested w then Some (Exchanging Plain true) else None
+exchange_said (v ∷ w ∷ []) =
+    if (is_core v && is_nested w) || (is_nested v && is_core w) then Some (Exchanging Core true) else None
+exchange_said (u ∷ v ∷ w ∷ words) = None
+
+-- the demo of a number
+abbrev pub demo_of : Mode → Option ℕ → Option Command
+demo_of mode None = None
+demo_of mode (Some n) = Some (Demonstrating n mode)
+
+abbrev pub numbered : Word → Mode → Option Command
+numbered w mode = demo_of mode (number_in w)
+
+-- after `demo`: a number, before or after it perhaps `--core`
+abbrev pub demo_said : List Word → Option Command
+demo_said [] = None
+demo_said (w ∷ []) = numbered w Plain
+demo_said (v ∷ w ∷ []) = if is_core v then numbered w Core else if is_core w then numbered v Core else None
+demo_said (u ∷ v ∷ w ∷ words) = None
+
+-- what words say: a command, by its name and what stands after it
+abbrev pub says : List Word → Option Command
 says [] = None
-says (name ∷ []) = named name
-says (name ∷ word ∷ words) = None
+says (name ∷ words) =
+    if same name (codes "show") then show_said words
+    else if same name (codes "exchange") then exchange_said words
+    else if same name (codes "demo") then demo_said words
+    else None
 
 -- the command, or the refusal of other words
 abbrev pub or_usage : Option Command → Result Command Refusal

@@ -4,11 +4,11 @@ ghost use Rattle.dx_funcs.specs.Serving.{offered};
 ghost use Rattle.dx_stages.specs.Running.{Gives, Ran};
 ghost use Rattle.dx_stages.specs.Stages.{saying};
 ghost use Rattle.clio_accept.specs.Accepting.{accepting};
-ghost use Rattle.clio_top.specs.Ending.{mapping_refusal};
-ghost use Rattle.clio_top.specs.Running.{mapping_stages, text_bytes};
+ghost use Rattle.clio_ending.specs.Ending.{mapping_refusal};
+ghost use Rattle.clio_top.specs.Running.{mapping_stages, program, text_bytes};
 
-use crate::ending::Refusal;
 use clio_accept::{AcceptFault, MapFault, Mapping, accept};
+use clio_ending::Refusal;
 use dx_funcs::{Host, Meaning};
 use dx_ports::limits::TEXT_BYTES;
 use dx_ports::{Count, Inputs, Items, Limit, Text};
@@ -44,7 +44,7 @@ pub(crate) fn read_mapping<I: Inputs, F, M>(
 where
     F: Fn(u32, &Items<Text>) -> Result<Text, AllocError>,
     M: Meaning,
-    ensures { Ran (mapping_stages (record { list = offered host.now; apply = M.apply })) (tt {0}) result
+    ensures { Ran (mapping_stages (program (offered host.now) M.apply)) (tt {0}) result
         (record { holds = I.holds inputs.old; faults = I.faults inputs.old; stopped = I.stopped inputs.old })
         (record { holds = I.holds inputs.new; faults = I.faults inputs.new; stopped = I.stopped inputs.new }) }
 {

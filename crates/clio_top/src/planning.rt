@@ -3,17 +3,16 @@ ghost use Rattle.std.specs.Prelude.{◌≡◌, IfOk};
 ghost use Rattle.dx_funcs.specs.Serving.{Serves, offered};
 ghost use Rattle.dx_instance.specs.Stored.{widths};
 ghost use Rattle.dx_schema.specs.Tables.{schema_widths};
-ghost use Rattle.dx_stages.specs.Ending.{planned, planned_of};
+ghost use Rattle.dx_stages.specs.Ending.{planned_of};
 ghost use Rattle.dx_stages.specs.Running.{Gives};
 ghost use Rattle.dx_stages.specs.Stages.{by};
 ghost use Rattle.clio_accept.specs.Laws.{MappingFits};
 ghost use Rattle.clio_files.specs.Files.{FitsFiles};
 ghost use Rattle.clio_files.specs.Texts.{FitTexts};
-ghost use Rattle.clio_top.specs.Running.{IsPlanOf, named_stage, shown_plan, target_stages};
+ghost use Rattle.clio_top.specs.Running.{IsPlanOf, named_stage, program, shown_plan};
 
-use crate::clashes::named_clash;
-use crate::ending::{Done, Refusal};
 use clio_accept::Mapping;
+use clio_ending::{Done, Refusal, named_clash};
 use clio_files::{contents, into_files, print_files, print_texts, summary};
 use dx_exchange::{ExFault, Exchange, Mode, exchange};
 use dx_funcs::{Host, Meaning};
@@ -23,12 +22,13 @@ use dx_ports::{Items, Text};
 use dx_stages::{Plan, Stop};
 use std::alloc::{AllocError, Global};
 
-// The exchange of rows under a mapping.
-fn exchange_rows<F, M>(
+/// The exchange of rows under a mapping.
+pub(crate) fn exchange_rows<F, M>(
     alloc: Global,
     mapping: &Mapping,
     rows: &Instance,
     host: &Host<F, M>,
+    mode: Mode,
 ) -> Result<Exchange, Stop<Refusal>>
 where
     F: Fn(u32, &Items<Text>) -> Result<Text, AllocError>,
@@ -36,20 +36,11 @@ where
     requires serves { Serves F.Fn M.apply host.now }
     requires fits { MappingFits (offered host.now) mapping.now }
     requires rows { widths rows.now ≡ schema_widths mapping.now.source }
-    ensures { Gives (by (named_stage (record { list = offered host.now; apply = M.apply }))) (mapping.now, rows.now) result }
+    ensures { Gives (by (named_stage (program (offered host.now) M.apply) mode)) (mapping.now, rows.now) result }
 {
     let rules = mapping.rules.items();
     let Mapping { source, target, .. } = mapping;
-    match exchange(
-        alloc,
-        rules,
-        source,
-        target,
-        rows,
-        host,
-        Mode::Plain,
-        TARGET_CELLS,
-    ) {
+    match exchange(alloc, rules, source, target, rows, host, mode, TARGET_CELLS) {
         Ok(exchange) => Ok(exchange),
         Err(ExFault::Clash(clash)) => Err(Stop::Refused(named_clash(alloc, clash, target)?)),
         Err(ExFault::Limit(limit)) => Err(Stop::Refused(Refusal::Limit(limit))),
@@ -57,23 +48,25 @@ where
     }
 }
 
-// What is written of an exchange.
-fn plan_exchange<F, M>(
+/// What is written of an exchange.
+pub(crate) fn plan_exchange<F, M>(
     alloc: Global,
     mapping: &Mapping,
     exchange: Exchange,
     host: &Host<F, M>,
+    mode: Mode,
+    nested: bool,
 ) -> Result<Plan<Done>, AllocError>
 where
     F: Fn(u32, &Items<Text>) -> Result<Text, AllocError>,
     M: Meaning,
     requires texts { FitTexts mapping.now.source mapping.now.target (offered host.now) mapping.now.rules }
     requires fits { FitsFiles mapping.now.rules mapping.now.target exchange }
-    ensures { IfOk result (λ p. IsPlanOf (record { list = offered host.now; apply = M.apply }) mapping.now exchange (planned_of p)) }
+    ensures { IfOk result (λ p. IsPlanOf (program (offered host.now) M.apply) mode nested mapping.now exchange (planned_of p)) }
 {
     let rules = mapping.rules.items();
     let Mapping { source, target, .. } = mapping;
-    let printed = print_files(alloc, rules, source, target, &exchange, host)?;
+    let printed = print_files(alloc, rules, source, target, &exchange, host, mode, nested)?;
     let text = summary(alloc, &printed)?;
     Ok(Plan {
         done: Done::Exchanged(exchange),
@@ -82,39 +75,21 @@ where
     })
 }
 
-/// What is written of the exchange of rows under a mapping.
-pub(crate) fn plan_rows<F, M>(
-    alloc: Global,
-    mapping: &Mapping,
-    rows: &Instance,
-    host: &Host<F, M>,
-) -> Result<Plan<Done>, Stop<Refusal>>
-where
-    F: Fn(u32, &Items<Text>) -> Result<Text, AllocError>,
-    M: Meaning,
-    requires serves { Serves F.Fn M.apply host.now }
-    requires fits { MappingFits (offered host.now) mapping.now }
-    requires rows { widths rows.now ≡ schema_widths mapping.now.source }
-    ensures { Gives (target_stages (record { list = offered host.now; apply = M.apply })) (mapping.now, rows.now) (planned result) }
-{
-    let exchange = exchange_rows(alloc, mapping, rows, host)?;
-    Ok(plan_exchange(alloc, mapping, exchange, host)?)
-}
-
 /// What is said of a mapping that is shown.
 pub(crate) fn plan_shown<F, M>(
     alloc: Global,
     mapping: &Mapping,
     host: &Host<F, M>,
+    mode: Mode,
 ) -> Result<Plan<Done>, AllocError>
 where
     F: Fn(u32, &Items<Text>) -> Result<Text, AllocError>,
     M: Meaning,
     requires { MappingFits (offered host.now) mapping.now }
-    ensures { IfOk result (λ p. planned_of p ≡ shown_plan (record { list = offered host.now; apply = M.apply }) mapping.now) }
+    ensures { IfOk result (λ p. planned_of p ≡ shown_plan (program (offered host.now) M.apply) mode mapping.now) }
 {
     let rules = mapping.rules.items();
-    let printed = print_texts(alloc, rules, &mapping.source, &mapping.target, host)?;
+    let printed = print_texts(alloc, rules, &mapping.source, &mapping.target, host, mode)?;
     Ok(Plan {
         done: Done::Shown,
         files: Vec::new(alloc),

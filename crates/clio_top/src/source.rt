@@ -3,9 +3,9 @@ ghost use Rattle.std.specs.Prelude.{◌≡◌};
 ghost use Rattle.dx_stages.specs.Running.{Ran};
 ghost use Rattle.dx_stages.specs.Stages.{saying};
 ghost use Rattle.clio_source.specs.Source.{source_stages};
-ghost use Rattle.clio_top.specs.Ending.{source_refusal};
+ghost use Rattle.clio_ending.specs.Ending.{source_refusal};
 
-use crate::ending::Refusal;
+use clio_ending::Refusal;
 use clio_source::{SourceRefusal, read_source};
 use dx_instance::Instance;
 use dx_ports::Inputs;

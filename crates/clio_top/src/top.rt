@@ -1,63 +1,116 @@
 // The top call.
-ghost use Rattle.std.specs.Prelude.{◌≡◌, ℕ, List};
+ghost use Rattle.std.specs.Prelude.{◌≡◌, ◌≤◌, ℕ, List};
 ghost use Rattle.dx_funcs.specs.Serving.{Serves, offered};
-ghost use Rattle.dx_stages.specs.Running.{Ran};
+ghost use Rattle.dx_exchange.specs.declared.result.Exchange.{Exchange as ExchangeOf};
+ghost use Rattle.dx_keys.specs.declared.answers.Clash.{Clash as ClashOf};
+ghost use Rattle.dx_stages.specs.Running.{Gives, Ran};
+ghost use Rattle.dx_stages.specs.Worlds.{IsOf, World};
 ghost use Rattle.dx_stages.specs.Ending.{Runs, planned};
 ghost use Rattle.dx_stages.specs.declared.plan.Ended.{Ended as EndedOf};
-ghost use Rattle.clio_top.specs.declared.ending.Done.{Done as DoneOf};
-ghost use Rattle.clio_top.specs.declared.ending.Refusal.{Refusal as RefusalOf};
-ghost use Rattle.clio_top.specs.Ending.{AreAlike, ending_of};
-ghost use Rattle.clio_top.specs.Running.{exchange_stages, run_stages, show_stages, stages_of};
+ghost use Rattle.clio_ending.specs.declared.ending.Done.{Done as DoneOf};
+ghost use Rattle.clio_ending.specs.declared.ending.Done.TheVariants.{Exchanged};
+ghost use Rattle.clio_ending.specs.declared.ending.Ending.TheVariants.{Clash as ClashEnding, Done as DoneEnding};
+ghost use Rattle.clio_ending.specs.declared.ending.Refusal.{Refusal as RefusalOf};
+ghost use Rattle.clio_ending.specs.Ending.{AreAlike, ending_of};
+ghost use Rattle.clio_top.specs.Running.{exchange_stages, exchanges, program, show_stages};
+ghost use Rattle.clio_top.specs.Demo.{demo_stages};
+ghost use Rattle.clio_top.specs.Commands.{IsInRange, run_stages, stages_of};
+ghost use Rattle.clio_top.specs.Promises.{IsClashOf, IsDone};
 
 use crate::command::{Command, command_of};
-use crate::ending::{Done, Ending, Refusal, as_ending};
+use crate::demo::plan_demo;
+use crate::demo_inputs::DemoInputs;
 use crate::mapping::read_mapping;
-use crate::planning::{plan_rows, plan_shown};
+use crate::planning::{exchange_rows, plan_exchange, plan_shown};
 use crate::source::read_rows;
-use clio_accept::MapFault;
-use dx_exchange::is_flat;
+use clio_accept::Mapping;
+use clio_ending::{Done, Ending, Refusal, as_ending};
+use dx_exchange::{Exchange, Mode};
 use dx_funcs::{Host, Meaning};
+use dx_gen::demo_files;
 use dx_ports::{Inputs, Items, Outputs, Text};
 use dx_stages::{Plan, Stop, carry_out};
 use std::alloc::{AllocError, Global};
+
+// A mapping, and the exchange of the rows of its source files.
+fn exchange_files<I: Inputs, F, M>(
+    alloc: Global,
+    inputs: &mut I,
+    host: &Host<F, M>,
+    mode: Mode,
+) -> Result<(Mapping, Exchange), Stop<Refusal>>
+where
+    F: Fn(u32, &Items<Text>) -> Result<Text, AllocError>,
+    M: Meaning,
+    requires { Serves F.Fn M.apply host.now }
+    ensures { Ran (exchanges (program (offered host.now) M.apply) mode) (tt {0}) result
+        (record { holds = I.holds inputs.old; faults = I.faults inputs.old; stopped = I.stopped inputs.old })
+        (record { holds = I.holds inputs.new; faults = I.faults inputs.new; stopped = I.stopped inputs.new }) }
+{
+    let mapping = read_mapping(alloc, inputs, host)?;
+    let rows = read_rows(alloc, inputs, &mapping.source)?;
+    let exchange = exchange_rows(alloc, &mapping, &rows, host, mode)?;
+    Ok((mapping, exchange))
+}
 
 // What `exchange` writes.
 fn exchange_plan<I: Inputs, F, M>(
     alloc: Global,
     inputs: &mut I,
     host: &Host<F, M>,
+    mode: Mode,
+    nested: bool,
 ) -> Result<Plan<Done>, Stop<Refusal>>
 where
     F: Fn(u32, &Items<Text>) -> Result<Text, AllocError>,
     M: Meaning,
     requires { Serves F.Fn M.apply host.now }
-    ensures { Ran (exchange_stages (record { list = offered host.now; apply = M.apply })) (tt {0}) (planned result)
+    ensures { Ran (exchange_stages (program (offered host.now) M.apply) mode nested) (tt {0}) (planned result)
         (record { holds = I.holds inputs.old; faults = I.faults inputs.old; stopped = I.stopped inputs.old })
         (record { holds = I.holds inputs.new; faults = I.faults inputs.new; stopped = I.stopped inputs.new }) }
 {
-    let mapping = read_mapping(alloc, inputs, host)?;
-    if !is_flat(&mapping.source) {
-        return Err(Stop::Refused(Refusal::Mapping(MapFault::NotYet)));
-    }
-    let rows = read_rows(alloc, inputs, &mapping.source)?;
-    plan_rows(alloc, &mapping, &rows, host)
+    let (mapping, exchange) = exchange_files(alloc, inputs, host, mode)?;
+    Ok(plan_exchange(alloc, &mapping, exchange, host, mode, nested)?)
 }
 
-// What `show` writes.
-fn show_plan<I: Inputs, F, M>(
+// What `demo` says.
+fn demo_plan<F, M>(
     alloc: Global,
-    inputs: &mut I,
+    number: u32,
     host: &Host<F, M>,
+    mode: Mode,
 ) -> Result<Plan<Done>, Stop<Refusal>>
 where
     F: Fn(u32, &Items<Text>) -> Result<Text, AllocError>,
     M: Meaning,
-    ensures { Ran (show_stages (record { list = offered host.now; apply = M.apply })) (tt {0}) (planned result)
+    requires serves { Serves F.Fn M.apply host.now }
+    requires some { 1 ≤ number }
+    requires few { number ≤ 100000 }
+    ensures { Gives (demo_stages (program (offered host.now) M.apply) number mode) (tt {0}) (planned result) }
+{
+    let mut inputs = DemoInputs {
+        files: demo_files(alloc, number)?,
+    };
+    let (mapping, exchange) = exchange_files(alloc, &mut inputs, host, mode)?;
+    Ok(plan_demo(alloc, number, &mapping, exchange)?)
+}
+
+// What `show` says.
+fn show_plan<I: Inputs, F, M>(
+    alloc: Global,
+    inputs: &mut I,
+    host: &Host<F, M>,
+    mode: Mode,
+) -> Result<Plan<Done>, Stop<Refusal>>
+where
+    F: Fn(u32, &Items<Text>) -> Result<Text, AllocError>,
+    M: Meaning,
+    ensures { Ran (show_stages (program (offered host.now) M.apply) mode) (tt {0}) (planned result)
         (record { holds = I.holds inputs.old; faults = I.faults inputs.old; stopped = I.stopped inputs.old })
         (record { holds = I.holds inputs.new; faults = I.faults inputs.new; stopped = I.stopped inputs.new }) }
 {
     let mapping = read_mapping(alloc, inputs, host)?;
-    Ok(plan_shown(alloc, &mapping, host)?)
+    Ok(plan_shown(alloc, &mapping, host, mode)?)
 }
 
 // What a command writes.
@@ -70,14 +123,16 @@ fn plan_command<I: Inputs, F, M>(
 where
     F: Fn(u32, &Items<Text>) -> Result<Text, AllocError>,
     M: Meaning,
-    requires { Serves F.Fn M.apply host.now }
-    ensures { Ran (stages_of (record { list = offered host.now; apply = M.apply }) command) (tt {0}) (planned result)
+    requires serves { Serves F.Fn M.apply host.now }
+    requires range { IsInRange command }
+    ensures { Ran (stages_of (program (offered host.now) M.apply) command) (tt {0}) (planned result)
         (record { holds = I.holds inputs.old; faults = I.faults inputs.old; stopped = I.stopped inputs.old })
         (record { holds = I.holds inputs.new; faults = I.faults inputs.new; stopped = I.stopped inputs.new }) }
 {
     match command {
-        Command::Exchanging => exchange_plan(alloc, inputs, host),
-        Command::Showing => show_plan(alloc, inputs, host),
+        Command::Exchanging { mode, nested } => exchange_plan(alloc, inputs, host, mode, nested),
+        Command::Showing { mode } => show_plan(alloc, inputs, host, mode),
+        Command::Demonstrating { number, mode } => demo_plan(alloc, number, host, mode),
     }
 }
 
@@ -92,7 +147,7 @@ where
     F: Fn(u32, &Items<Text>) -> Result<Text, AllocError>,
     M: Meaning,
     requires { Serves F.Fn M.apply host.now }
-    ensures { Ran (run_stages (record { list = offered host.now; apply = M.apply })) words.now (planned result)
+    ensures { Ran (run_stages (program (offered host.now) M.apply)) words.now (planned result)
         (record { holds = I.holds inputs.old; faults = I.faults inputs.old; stopped = I.stopped inputs.old })
         (record { holds = I.holds inputs.new; faults = I.faults inputs.new; stopped = I.stopped inputs.new }) }
 {
@@ -104,11 +159,14 @@ where
 
 /// Runs the command that the words say.
 ///
-/// `exchange` reads `mapping.clio` and the file of each source set, computes the target, puts the files and says the
-/// summary. `show` reads `mapping.clio` and says its rules and their script. Everything is computed before the first file is put.
+/// `exchange` reads `mapping.clio` and the file of each source root, computes the target, puts the files and says the
+/// summary. `show` reads `mapping.clio` and says its rules and their script. `demo` exchanges files that it makes for a number of
+/// employees, and says counts. With `--core` the target is a core. Everything is computed before the first file is put.
 ///
-/// There is a look-up from names to bytes, which is what the inputs hold if they tell, in which the run ended so for its
-/// reason, and it left what it had to.
+/// There is a world, a look-up from names to bytes, which is what the inputs hold if they tell. After `Done(Exchanged(e))`, `e` is
+/// the exchange of the mapping text and of the source files there, and exactly its files and its summary were written (specs/Promises,
+/// `IsDone`). After `Clash`, these have no solution (`IsClashOf`). In general the stages of the words (`run_stages`) give this ending
+/// there, and what was written is what they allow.
 pub fn run<I: Inputs, O: Outputs, F, M>(
     alloc: Global,
     words: &Vec<Text>,
@@ -120,8 +178,13 @@ where
     F: Fn(u32, &Items<Text>) -> Result<Text, AllocError>,
     M: Meaning,
     requires serves { Serves F.Fn M.apply host.now }
-    ensures { (e : EndedOf DoneOf RefusalOf) × (result ≡ ending_of e)
-        × Runs AreAlike (run_stages (record { list = offered host.now; apply = M.apply })) words.now.items e
+    ensures exchanged { (e : ExchangeOf) → result ≡ DoneEnding (Exchanged e) → (c : World) × IsOf (I.holds inputs.old) c
+        × IsDone (program (offered host.now) M.apply) c words.now.items e
+        (record { files = O.files outputs.old; said = O.said outputs.old }) (record { files = O.files outputs.new; said = O.said outputs.new }) }
+    ensures clash { (k : ClashOf) (table : List ℕ) (key : List (List ℕ)) (column : List ℕ) → result ≡ ClashEnding k table key column
+        → (c : World) × IsOf (I.holds inputs.old) c × IsClashOf (program (offered host.now) M.apply) c words.now.items k }
+    ensures runs { (e : EndedOf DoneOf RefusalOf) × (result ≡ ending_of e)
+        × Runs AreAlike (run_stages (program (offered host.now) M.apply)) words.now.items e
         (record { holds = I.holds inputs.old; faults = I.faults inputs.old; stopped = I.stopped inputs.old })
         (record { holds = I.holds inputs.new; faults = I.faults inputs.new; stopped = I.stopped inputs.new })
         (record { files = O.files outputs.old; said = O.said outputs.old })

@@ -1,13 +1,13 @@
 -- A script has one run.
-use Rattle.std.proofs.Common.{◌≡◌, ℕ, zero, suc, ◌<◌, ◌≤◌, List, [], ◌∷◌, length, get_or, refl, sym, ◌∙◌, ap, subst, arith}
+use Rattle.std.proofs.Common.{◌≡◌, ℕ, suc, ◌<◌, ◌≤◌, List, [], ◌∷◌, length, get_or, refl, subst, arith}
 use Rattle.dx_model.specs.declared.facts.Fact.{Fact}
 use Rattle.dx_model.specs.Values.{Text, Tuple, Rows}
 use Rattle.dx_schema.specs.Names.{Named}
 use Rattle.dx_script.specs.declared.form.Step.{Step}
-use Rattle.dx_script.specs.Meaning.{match_table, Means}
+use Rattle.dx_script.specs.Meaning.{match_table}
 use Rattle.dx_script.proofs.Steps.{at_most}
 use Rattle.dx_script.proofs.Unique.{meaning_is_unique, one_list}
-use Rattle.dx_eval.specs.Evaluating.{AreMatchTables, IsMade, PassesLimit, script_cells, tuples_of}
+use Rattle.dx_eval.specs.Evaluating.{AreMatchTables, script_cells, tuples_of}
 use Rattle.dx_eval.specs.Laws.{MadeOrTooMany, RunsAgree, TablesOfMeaning}
 
 one_by_one : (xs ys : Rows) → length xs ≡ length ys → ((r : ℕ) → r < length xs → get_or xs r [] ≡ get_or ys r []) → xs ≡ ys

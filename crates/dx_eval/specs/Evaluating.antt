@@ -1,5 +1,5 @@
 -- What a run of a script makes of the rows of a source, and when it passes a limit.
-use Rattle.std.specs.Prelude.{◌≡◌, ℕ, ◌+◌, ◌*◌, ◌<◌, ◌≤◌, cond, eqb, List, [], ◌∷◌, length, map, sum}
+use Rattle.std.specs.Prelude.{◌≡◌, ℕ, ◌*◌, ◌<◌, ◌≤◌, cond, eqb, List, length, map, sum}
 use Rattle.dx_ports.specs.Members.{◌∈◌}
 use Rattle.dx_ports.specs.declared.file.Count.TheVariants.{TargetCells}
 use Rattle.dx_model.specs.declared.facts.Fact.{Fact}
@@ -42,19 +42,23 @@ script_cells steps tables = sum (map (λ r. length (match_table tables r) * cell
 -- ---- runs
 
 -- the match tables of a script on the rows I of a source
-pub record AreMatchTables (source : List Named) (call : Text → Tuple → Text) (steps : List Step) (I : List Fact) (tables : Rows) : Type 0 where
+pub record AreMatchTables (source : List Named) (call : Text → Tuple → Text) (steps : List Step) (I : List Fact) (tables : Rows)
+    : Type 0 where
   pub matches : (r : ℕ) (select : List Select) (sources : List Text) (equal : List Equal) → MatchRows r select sources equal ∈ steps
       → (r < length tables) × IsMatchTable source call I select sources equal (match_table tables r)
-  pub no_more : (r : ℕ) → r < length tables → (select : List Select) × (sources : List Text) × (equal : List Equal) × (MatchRows r select sources equal ∈ steps)
+  pub no_more : (r : ℕ) → r < length tables
+      → (select : List Select) × (sources : List Text) × (equal : List Equal) × (MatchRows r select sources equal ∈ steps)
 
 -- the matches and the facts are what the script means, within the limit; the tables have the columns of the target's
-pub record IsMade (source target : List Named) (call : Text → Tuple → Text) (steps : List Step) (I : List Fact) (limit : ℕ) (m : Made) : Type 0 where
+pub record IsMade (source target : List Named) (call : Text → Tuple → Text) (steps : List Step) (I : List Fact) (limit : ℕ)
+    (m : Made) : Type 0 where
   pub means : Means source target call steps I (tuples_of m.matches) (facts m.instance)
   pub within : script_cells steps (tuples_of m.matches) ≤ limit
   pub wide : widths m.instance ≡ map (λ (t : Named). length t.columns) target
 
 -- the match tables of the script pass the limit, and this is the fault
-pub record PassesLimit (source : List Named) (call : Text → Tuple → Text) (steps : List Step) (I : List Fact) (limit : ℕ) (e : EvalFault) : Type 0 where
+pub record PassesLimit (source : List Named) (call : Text → Tuple → Text) (steps : List Step) (I : List Fact) (limit : ℕ)
+    (e : EvalFault) : Type 0 where
   pub tables : Rows
   pub are : AreMatchTables source call steps I tables
   pub more : limit < script_cells steps tables

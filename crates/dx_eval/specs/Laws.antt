@@ -15,13 +15,14 @@ use Rattle.dx_eval.specs.Evaluating.{AreMatchTables, IsMade, PassesLimit, tuples
 abbrev pub RunsAgree : Type 0
 RunsAgree =
     (source target : List Named) (call : Text → Tuple → Text) (steps : List Step) (I : List Fact) (limit : ℕ) (m n : Made)
-    → IsMade source target call steps I limit m → IsMade source target call steps I limit n → (tuples_of m.matches ≡ tuples_of n.matches) × (facts m.instance ≈ facts n.instance)
+    → IsMade source target call steps I limit m → IsMade source target call steps I limit n
+    → (tuples_of m.matches ≡ tuples_of n.matches) × (facts m.instance ≈ facts n.instance)
 
 -- a script that makes something within a limit doesn't pass it
 abbrev pub MadeOrTooMany : Type 0
 MadeOrTooMany =
-    (source target : List Named) (call : Text → Tuple → Text) (steps : List Step) (I : List Fact) (limit : ℕ) (m : Made) (e : EvalFault)
-    → IsMade source target call steps I limit m → ¬ (PassesLimit source call steps I limit e)
+    (source target : List Named) (call : Text → Tuple → Text) (steps : List Step) (I : List Fact) (limit : ℕ)
+    (m : Made) (e : EvalFault) → IsMade source target call steps I limit m → ¬ (PassesLimit source call steps I limit e)
 
 -- the match tables of a script are those of its meaning
 abbrev pub TablesOfMeaning : Type 0

@@ -1,14 +1,31 @@
-//! What a run of a script makes: definitions, with the types of its result and of its faults.
+//! What a run of a script makes.
 //!
 //! specs/Evaluating says what is made of the rows of a source (`IsMade`: the matches and the facts that the script means, within
-//! a limit on the cells that are inserted for all matches) and when a script passes the limit (`PassesLimit`). The laws: two
-//! runs of a script agree, and a script that makes something within a limit doesn't pass it.
+//! a limit on the cells that are inserted for all matches) and when a script passes the limit (`PassesLimit`). `eval` makes
+//! exactly that. The laws: two runs of a script agree, and a script that makes something within a limit doesn't pass it.
+//!
+//! A match step is read as a premise with derived variables (`query`, specs/Query): cells that are to be equal have one variable
+//! (`variables`). `dx_joins` finds its tuples as rows of numbers. Partners are looked up by the numbers in the columns that
+//! tests compare (`keys`).
 #![tactic(auto)]
 
+mod builder;
 mod fault;
+mod finding;
+mod found;
+mod inserting;
+mod keeping;
+mod keys;
 mod laws;
 mod made;
+mod matching;
+mod names;
+mod query;
+mod run;
+mod texts;
+mod variables;
 
 pub use fault::EvalFault;
 pub use laws::{made_or_too_many, runs_agree, tables_of_meaning};
 pub use made::Made;
+pub use run::eval;

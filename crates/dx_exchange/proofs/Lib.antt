@@ -2,6 +2,9 @@ pub mod Lists
 pub mod Testing
 pub mod Fitting
 pub mod Listing
+pub mod Nulls
+pub mod Placed
 pub mod Made
-pub mod Deciding
+pub mod CoreMade
+pub mod Existing
 pub mod Decided

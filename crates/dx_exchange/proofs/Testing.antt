@@ -1,16 +1,13 @@
 -- Tests of tables, one by one.
-use Rattle.std.proofs.Common.{◌≡◌, ℕ, ◌+◌, ◌<◌, ◌≤◌, List, [], ◌∷◌, ◌++◌, length, get_or, take, refl, sym, ◌∙◌, ap, subst, inl, inr, arith, Bool, true, false}
+use Rattle.std.proofs.Common.{◌≡◌, ℕ, ◌+◌, ◌<◌, ◌≤◌, List, [], ◌∷◌, length, get_or, take, refl, sym, ◌∙◌, subst, inl, inr, arith, Bool, true, false}
 use Rattle.std.proofs.lemmas.Bool.{eqb-true, false≢true}
-use Rattle.std.specs.Prelude.{map, ◌==◌}
-use Rattle.std.specs.List.{range_with_len}
+use Rattle.std.specs.Prelude.{◌==◌}
 use Rattle.std.proofs.lemmas.List.{take_more, take_all}
-use Rattle.std.proofs.lemmas.List.FromFn.{get_or-map-range_with_len, map-range_with_len_more}
 use Rattle.dx_ports.specs.Members.{◌∈◌, here, there, Each}
 use Rattle.dx_ports.proofs.Members.{from_append, in_at}
-use Rattle.dx_model.specs.declared.rules.Cell.{Cell}
-use Rattle.dx_model.specs.declared.rules.Cell.TheVariants.{Var}
 
-pub each_at_more : {X : Type 0} (P : X → Type 0) (xs : List X) (i : ℕ) (d : X) → i < length xs → Each (take i xs) P → P (get_or xs i d) → Each (take (i + 1) xs) P
+pub each_at_more : {X : Type 0} (P : X → Type 0) (xs : List X) (i : ℕ) (d : X) → i < length xs → Each (take i xs) P → P (get_or xs i d)
+    → Each (take (i + 1) xs) P
 each_at_more {X} P xs i d h e p y m = elim (from_append (take i xs) (rw (take_more xs i d h) at m)) [ inl l ↦ e y l | inr r ↦ last r ]
   where
     last : y ∈ (get_or xs i d ∷ []) → P y

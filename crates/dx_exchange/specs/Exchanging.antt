@@ -1,6 +1,6 @@
--- What an exchange is: the headline.
+-- What an exchange is: the first sentence of docs/PROMISES.md.
 use Rattle.std.specs.Prelude.{◌≡◌, ◌<◌, ◌≤◌, ℕ, List, length, map}
-use Rattle.dx_ports.specs.Members.{◌∈◌, ◌≈◌, Each}
+use Rattle.dx_ports.specs.Members.{◌∈◌, ◌⊆◌, ◌≈◌, Each}
 use Rattle.dx_ports.specs.declared.file.Count.TheVariants.{TargetCells}
 use Rattle.dx_funcs.specs.declared.conversion.Conversion.{Conversion}
 use Rattle.dx_funcs.specs.Offers.{IsListed}
@@ -10,11 +10,12 @@ use Rattle.dx_model.specs.declared.facts.Fact.{Fact}
 use Rattle.dx_model.specs.declared.facts.NullPair.{NullPair}
 use Rattle.dx_model.specs.declared.rules.Rule.{Rule}
 use Rattle.dx_model.specs.Values.{Conversions, Rows, RowsAscend}
-use Rattle.dx_model.specs.Instances.{IsCore, IsNullMap, image, values}
+use Rattle.dx_model.specs.Instances.{IsCore, IsNullMap, fact_moved, given, image, moved, values}
 use Rattle.dx_model.specs.Tables.{Table}
 use Rattle.dx_model.specs.Rules.{AreRows, canonical}
 use Rattle.dx_model.specs.Fitting.{RuleFits}
 use Rattle.dx_model.specs.Chase.{IsForcedMap}
+use Rattle.dx_model.specs.Covers.{cover_fold, uncovered_part}
 use Rattle.dx_model.specs.Solutions.{IsClosed, IsSolution, IsUniversal}
 use Rattle.dx_instance.specs.NullMaps.{pairs_of}
 use Rattle.dx_instance.specs.Stored.{facts, rows_of, widths}
@@ -37,10 +38,28 @@ pub record Asked : Type 0 where
   pub mode : Mode
   pub limit : ℕ
 
--- in plain mode the fold is the forced map of the canonical instance, and in core mode the target is a core
-abbrev pub IsOfMode : Mode → List Table → List Fact → List NullPair → List Fact → Type 0
-IsOfMode Plain schema C fold target = IsForcedMap schema C fold
-IsOfMode Core schema C fold target = IsCore target
+-- what keys are chased in, which is what the script of the mode means: in plain mode the canonical instance, in core mode its
+-- uncovered part
+abbrev pub meant : Mode → List Rule → Rows → List Fact
+meant Plain R rows = canonical 0 R rows
+meant Core R rows = uncovered_part R rows
+
+-- In core mode the target is a core. The cover fold sends the canonical instance onto its uncovered part; the target is a part of the
+-- image of the uncovered part under the forced map of that part; and the fold gives each null of the canonical instance what it
+-- gives to what the cover fold and then that forced map make of the null.
+pub record IsCoreMode (schema : List Table) (R : List Rule) (rows : Rows) (fold : List NullPair) (target : List Fact) : Type 0 where
+  pub core : IsCore target
+  pub uncovers : map (fact_moved (cover_fold R rows)) (canonical 0 R rows) ≈ uncovered_part R rows
+  pub key_map : List NullPair
+  pub forced : IsForcedMap schema (uncovered_part R rows) key_map
+  pub inside : target ⊆ image key_map (uncovered_part R rows)
+  pub follows : (n : NullId) → Null n ∈ values (canonical 0 R rows)
+      → given fold n ≡ moved (given fold) (moved (given key_map) (cover_fold R rows n))
+
+-- in plain mode the fold is the forced map of the canonical instance
+abbrev pub IsOfMode : Mode → List Table → List Rule → Rows → List NullPair → List Fact → Type 0
+IsOfMode Plain schema R rows fold target = IsForcedMap schema (canonical 0 R rows) fold
+IsOfMode Core schema R rows fold target = IsCoreMode schema R rows fold target
 
 -- The exchange: the matches are the rows of each rule, within the limit; the target is a universal solution; the fold sends the
 -- canonical instance onto it, as the mode asks; each null of the target is one of the canonical instance; rows ascend.
@@ -51,7 +70,7 @@ pub record IsExchange (convert : Conversions) (a : Asked) (e : Exchange) : Type 
   pub null_map : IsNullMap (pairs_of e.fold)
   pub listed : Each (pairs_of e.fold) (λ p. Null p.null ∈ values (canonical 0 a.rules (rows_in e.matches)))
   pub folded : image (pairs_of e.fold) (canonical 0 a.rules (rows_in e.matches)) ≈ facts e.target
-  pub by_mode : IsOfMode a.mode a.schema (canonical 0 a.rules (rows_in e.matches)) (pairs_of e.fold) (facts e.target)
+  pub by_mode : IsOfMode a.mode a.schema a.rules (rows_in e.matches) (pairs_of e.fold) (facts e.target)
   pub nulls : (n : NullId) → Null n ∈ values (facts e.target) → Null n ∈ values (canonical 0 a.rules (rows_in e.matches))
   pub widths_are : widths e.target ≡ map (λ (t : Table). t.width) a.schema
   pub ascend : (t : ℕ) → RowsAscend (rows_of e.target t)
@@ -65,13 +84,13 @@ pub record PassesLimit (convert : Conversions) (a : Asked) (l : LimitOf) : Type 
   pub many : a.limit < canonical_cells a.rules rows
   pub said : l ≡ record { what = TargetCells; number = a.limit }
 
--- The limit is not passed, and there is no solution: key steps, one after the other, lead from the canonical instance to two
+-- The limit is not passed, and there is no solution: key steps, one after the other, lead from what the mode's script means to two
 -- facts, the lesser first, that agree on a key and have two constants in a column.
 pub record HasClash (convert : Conversions) (a : Asked) (c : ClashOf) : Type 0 where
   pub rows : Rows
   pub are : AreRows convert a.rules a.rows rows
   pub within : canonical_cells a.rules rows ≤ a.limit
-  pub clash : IsClash a.schema (canonical 0 a.rules rows) c
+  pub clash : IsClash a.schema (meant a.mode a.rules rows) c
   pub no_solution : (K : List Fact) → ¬ (IsSolution convert a.rules a.schema a.rows K)
 
 -- there is no exchange for this reason

@@ -9,5 +9,7 @@ returns g c =
     let target = c.args.target.now in
     let list = offered c.args.host.now in
     let R = c.args.rules.now in
-    both_files c.new-printed.result.items c.push.new.self.items c.push-2.new.self.items c.in_ok-rules_file.field-0 c.in_ok-script_file.field-0 (rules_told source target list R) (script_told source target list R)
-    c.new-printed.ensures.items c.in_ok-rules_file.ensures c.in_ok-script_file.ensures c.in_ok-push.ensures.items c.in_ok-push-2.ensures.items
+    both_files c.new-printed.result.items c.push.new.self.items c.push-2.new.self.items c.in_ok-rules_file.field-0
+    c.in_ok-script_file.field-0 (rules_told source target list R) (script_told source target list c.args.mode R)
+    c.new-printed.ensures.items c.in_ok-rules_file.ensures c.in_ok-script_file.ensures c.in_ok-push.ensures.items
+    c.in_ok-push-2.ensures.items

@@ -3,10 +3,12 @@ use Rattle.clio_files.proofs.TextFiles.{codes_of, conclusions_of, premises_of}
 use Rattle.clio_files.proofs.texts.rules_file.Goals as goal
 
 pub print_rules-requires-clause-premise : goal.print_rules-requires-clause-premise
-print_rules-requires-clause-premise g c = premises_of c.args.source.now c.args.target.now (offered c.args.host.now) c.args.rules.now c.requires
+print_rules-requires-clause-premise g c =
+    premises_of c.args.source.now c.args.target.now (offered c.args.host.now) c.args.rules.now c.requires
 
 pub print_rules-requires-clause-conclusion : goal.print_rules-requires-clause-conclusion
-print_rules-requires-clause-conclusion g c = conclusions_of c.args.source.now c.args.target.now (offered c.args.host.now) c.args.rules.now c.requires
+print_rules-requires-clause-conclusion g c =
+    conclusions_of c.args.source.now c.args.target.now (offered c.args.host.now) c.args.rules.now c.requires
 
 pub print_rules-requires-clause-derived : goal.print_rules-requires-clause-derived
 print_rules-requires-clause-derived g c = codes_of c.args.source.now c.args.target.now (offered c.args.host.now) c.args.rules.now c.requires

@@ -1,8 +1,11 @@
-use Rattle.clio_top.proofs.OverAnything.{in_order, of_texts}
+use Rattle.clio_top.proofs.OverAnything.{in_order, of_demos, of_texts}
 use Rattle.clio_top.proofs.laws.over_anything.Goals as goal
 
 pub returns-clause-exchange : goal.returns-clause-exchange
 returns-clause-exchange c = of_texts
+
+pub returns-clause-demo : goal.returns-clause-demo
+returns-clause-demo c = of_demos
 
 pub returns-clause-asked : goal.returns-clause-asked
 returns-clause-asked c = in_order

@@ -3,8 +3,8 @@ use Rattle.dx_funcs.specs.Serving.{offered}
 use Rattle.dx_stages.proofs.Running.{answer_refuses}
 use Rattle.clio_accept.specs.declared.fault.AcceptFault.TheVariants as faults
 use Rattle.clio_accept.specs.Accepting.{accepting}
-use Rattle.clio_top.specs.declared.ending.Refusal.TheVariants as refusals
-use Rattle.clio_top.specs.Ending.{mapping_refusal}
+use Rattle.clio_ending.specs.declared.ending.Refusal.TheVariants as refusals
+use Rattle.clio_ending.specs.Ending.{mapping_refusal}
 use Rattle.clio_top.proofs.mapping.accept_mapping.Goals as goal
 
 pub returns-in-Err-Mapping : goal.returns-in-Err-Mapping

@@ -1,6 +1,6 @@
 use Rattle.std.proofs.Common.{map}
 use Rattle.clio_files.specs.Files.{seen}
-use Rattle.clio_top.specs.declared.ending.Done.TheVariants.{Exchanged}
+use Rattle.clio_ending.specs.declared.ending.Done.TheVariants.{Exchanged}
 use Rattle.clio_top.proofs.planning.plan_exchange.Goals as goal
 
 pub print_files-requires-clause-texts : goal.print_files-requires-clause-texts

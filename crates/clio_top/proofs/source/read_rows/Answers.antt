@@ -1,7 +1,7 @@
 use Rattle.std.proofs.Common.{◌∙◌, refl, ap, Err}
 use Rattle.dx_stages.specs.declared.stop.Stop.TheVariants as stops
 use Rattle.clio_source.specs.declared.fault.SourceRefusal.TheVariants as source_refusals
-use Rattle.clio_top.specs.declared.ending.Refusal.TheVariants as refusals
+use Rattle.clio_ending.specs.declared.ending.Refusal.TheVariants as refusals
 use Rattle.clio_top.proofs.Plans.{rows_said}
 use Rattle.clio_top.proofs.source.read_rows.Goals as goal
 

@@ -1,40 +1,45 @@
-use Rattle.std.proofs.Common.{◌≡◌, false, true, ◌∙◌, sym}
-use Rattle.std.proofs.lemmas.Bool.{false≢true}
 use Rattle.std.proofs.lemmas.Result.{err_from_is_err_and}
 use Rattle.dx_funcs.specs.Serving.{offered}
-use Rattle.dx_stages.specs.Ending.{planned}
-use Rattle.clio_top.specs.Running.{Program}
-use Rattle.clio_top.proofs.Mappings.{mapping_fits}
-use Rattle.clio_top.proofs.Plans.{exchanged, form_stops, mapping_stops, rows_stop, rows_widths}
+use Rattle.dx_stages.specs.Ending.{planned_of}
+use Rattle.dx_stages.proofs.Running.{ran_become}
+use Rattle.clio_top.specs.Running.{IsPlanOf, Program, exchanges, program}
+use Rattle.clio_top.proofs.Plans.{ran_become_none, ran_become_stop}
+use Rattle.clio_top.proofs.Promised.{files_ready, made, texts_ready}
 use Rattle.clio_top.proofs.top.exchange_plan.Goals as goal
 
 pub returns-in_err-mapping : goal.returns-in_err-mapping
 returns-in_err-mapping g c =
-    let P : Program = record { list = offered c.args.host.now; apply = g.M.Meaning.apply } in
+    let P : Program = program (offered c.args.host.now) g.M.Meaning.apply in
     let p = err_from_is_err_and c.from_residual.result c.from_residual.ensures.1 in
-    rw (p.1, p.2) (mapping_stops P c.in_err-mapping.field-0.0 _ _ c.in_err-mapping.ensures)
+    rw (p.1, p.2)
+    (ran_become_stop (λ u q plan. IsPlanOf P c.args.mode c.args.nested q.0 q.1 plan) (exchanges P c.args.mode) tt c.in_err-mapping.field-0.0 _ _
+    c.in_err-mapping.ensures)
 
-pub returns-then-not-is_flat : goal.returns-then-not-is_flat
-returns-then-not-is_flat g c =
-    let P : Program = record { list = offered c.args.host.now; apply = g.M.Meaning.apply } in
-    form_stops P c.in_ok-mapping.mapping _ _ c.in_ok-mapping.ensures (λ plain. false≢true (sym c.if-not-is_flat.true ∙ c.is_flat.ensures.1 plain))
+pub plan_exchange-requires-clause-texts : goal.plan_exchange-requires-clause-texts
+plan_exchange-requires-clause-texts g c =
+    let P : Program = program (offered c.args.host.now) g.M.Meaning.apply in
+    let M = c.in_ok-mapping.mapping in
+    let e = c.in_ok-mapping.exchange in
+    texts_ready P c.args.mode M e (made P c.args.mode (M, e) _ _ c.in_ok-mapping.ensures)
 
-pub returns-in_err-rows : goal.returns-in_err-rows
-returns-in_err-rows g c =
-    let P : Program = record { list = offered c.args.host.now; apply = g.M.Meaning.apply } in
-    let p = err_from_is_err_and c.from_residual-in_err-rows.result c.from_residual-in_err-rows.ensures.1 in
-    rw (p.1, p.2) (rows_stop P c.in_ok-mapping.mapping c.in_err-rows.field-0.0 _ _ _ c.in_ok-mapping.ensures (c.is_flat.ensures.0 c.if-not-is_flat.false) c.in_err-rows.ensures)
+pub plan_exchange-requires-clause-fits : goal.plan_exchange-requires-clause-fits
+plan_exchange-requires-clause-fits g c =
+    let P : Program = program (offered c.args.host.now) g.M.Meaning.apply in
+    let M = c.in_ok-mapping.mapping in
+    let e = c.in_ok-mapping.exchange in
+    files_ready P c.args.mode M e (made P c.args.mode (M, e) _ _ c.in_ok-mapping.ensures)
 
-pub plan_rows-requires-clause-fits : goal.plan_rows-requires-clause-fits
-plan_rows-requires-clause-fits g c =
-    let P : Program = record { list = offered c.args.host.now; apply = g.M.Meaning.apply } in
-    mapping_fits P c.in_ok-mapping.mapping _ _ c.in_ok-mapping.ensures
-
-pub plan_rows-requires-clause-rows : goal.plan_rows-requires-clause-rows
-plan_rows-requires-clause-rows g c = rows_widths c.in_ok-mapping.mapping.source c.in_ok-rows.rows _ _ c.in_ok-rows.ensures
+pub returns-in_err-plan_exchange : goal.returns-in_err-plan_exchange
+returns-in_err-plan_exchange g c =
+    let P : Program = program (offered c.args.host.now) g.M.Meaning.apply in
+    let p = err_from_is_err_and c.from_residual-in_err-plan_exchange.result c.from_residual-in_err-plan_exchange.ensures.1 in
+    rw (p.1, p.2)
+    (ran_become_none (λ u q plan. IsPlanOf P c.args.mode c.args.nested q.0 q.1 plan) (exchanges P c.args.mode) tt
+    (c.in_ok-mapping.mapping, c.in_ok-mapping.exchange) _ _ c.in_ok-mapping.ensures)
 
 pub returns : goal.returns
 returns g c =
-    let P : Program = record { list = offered c.args.host.now; apply = g.M.Meaning.apply } in
-    exchanged P c.in_ok-mapping.mapping c.in_ok-rows.rows (planned c.plan_rows.result) _ _ _ c.in_ok-mapping.ensures (c.is_flat.ensures.0 c.if-not-is_flat.false)
-    c.in_ok-rows.ensures c.plan_rows.ensures
+    let P : Program = program (offered c.args.host.now) g.M.Meaning.apply in
+    ran_become (λ u q plan. IsPlanOf P c.args.mode c.args.nested q.0 q.1 plan) (exchanges P c.args.mode) tt
+    (c.in_ok-mapping.mapping, c.in_ok-mapping.exchange) (planned_of c.in_ok-plan_exchange.field-0) _ _ c.in_ok-plan_exchange.ensures
+    c.in_ok-mapping.ensures

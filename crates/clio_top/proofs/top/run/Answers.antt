@@ -1,12 +1,28 @@
 use Rattle.dx_funcs.specs.Serving.{offered}
 use Rattle.dx_stages.proofs.Decided.{Any}
 use Rattle.dx_stages.proofs.Carrying.{carried_runs}
-use Rattle.clio_top.specs.Ending.{AreAlike}
-use Rattle.clio_top.specs.Running.{Program, run_stages}
+use Rattle.clio_ending.specs.Ending.{AreAlike}
+use Rattle.clio_top.specs.Commands.{run_stages}
+use Rattle.clio_top.specs.Running.{Program, program}
+use Rattle.clio_top.proofs.Headline.{clashed, exchanged}
 use Rattle.clio_top.proofs.Promised.{run_decided}
 use Rattle.clio_top.proofs.top.run.Goals as goal
 
-pub returns : goal.returns
-returns g c =
-    let P : Program = record { list = offered c.args.host.now; apply = g.M.Meaning.apply } in
+pub returns-clause-exchanged : goal.returns-clause-exchanged
+returns-clause-exchanged g c x h =
+    let P : Program = program (offered c.args.host.now) g.M.Meaning.apply in
+    exchanged P _ _ c.carry_out.result _ _ _ _ _ _ c.as_ending.ensures
+    (carried_runs AreAlike Any (run_stages P) (run_decided P) _ tt _ _ _ _ _ _ _ c.carry_out.result (rw c.deref.ensures.value at c.plan_words-plan.ensures) c.carry_out.ensures)
+    x h
+
+pub returns-clause-clash : goal.returns-clause-clash
+returns-clause-clash g c k table key column h =
+    let P : Program = program (offered c.args.host.now) g.M.Meaning.apply in
+    clashed P _ _ c.carry_out.result _ _ _ _ _ _ c.as_ending.ensures
+    (carried_runs AreAlike Any (run_stages P) (run_decided P) _ tt _ _ _ _ _ _ _ c.carry_out.result (rw c.deref.ensures.value at c.plan_words-plan.ensures) c.carry_out.ensures)
+    k table key column h
+
+pub returns-clause-runs : goal.returns-clause-runs
+returns-clause-runs g c =
+    let P : Program = program (offered c.args.host.now) g.M.Meaning.apply in
     (c.carry_out.result, c.as_ending.ensures, carried_runs AreAlike Any (run_stages P) (run_decided P) _ tt _ _ _ _ _ _ _ c.carry_out.result (rw c.deref.ensures.value at c.plan_words-plan.ensures) c.carry_out.ensures)

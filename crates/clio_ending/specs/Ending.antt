@@ -1,0 +1,89 @@
+-- How a run ends.
+use Rattle.std.specs.Prelude.{◌≡◌, ℕ, List, [], map, slice_index_or}
+use Rattle.clio_accept.specs.declared.fault.AcceptFault.{AcceptFault}
+use Rattle.clio_accept.specs.declared.fault.AcceptFault.TheVariants as accept_faults
+use Rattle.clio_source.specs.declared.fault.SourceRefusal.{SourceRefusal}
+use Rattle.clio_source.specs.declared.fault.SourceRefusal.TheVariants as source_refusals
+use Rattle.dx_model.specs.Values.{Text}
+use Rattle.dx_schema.specs.Forest.{Forest}
+use Rattle.dx_schema.specs.Tables.{table_at}
+use Rattle.dx_rule_text.specs.Printed.{table_name}
+use Rattle.dx_keys.specs.declared.answers.Clash.{Clash}
+use Rattle.dx_exchange.specs.declared.fault.ExFault.{ExFault}
+use Rattle.dx_exchange.specs.declared.fault.ExFault.TheVariants as exchange_faults
+use Rattle.dx_stages.specs.declared.plan.Ended.{Ended}
+use Rattle.dx_stages.specs.declared.plan.Ended.TheVariants as endeds
+use Rattle.clio_ending.specs.declared.ending.Done.{Done}
+use Rattle.clio_ending.specs.declared.ending.Refusal.{Refusal}
+use Rattle.clio_ending.specs.declared.ending.Refusal.TheVariants as refusals
+use Rattle.clio_ending.specs.declared.ending.Ending.{Ending}
+use Rattle.clio_ending.specs.declared.ending.Ending.TheVariants as endings
+
+-- a fault of the mapping text; want of memory is none
+abbrev pub mapping_refusal : AcceptFault → Refusal
+mapping_refusal (accept_faults.Mapping fault) = refusals.Mapping fault
+mapping_refusal (accept_faults.Limit limit) = refusals.Limit limit
+mapping_refusal accept_faults.Memory = refusals.Usage
+
+-- a refusal of the source
+abbrev pub source_refusal : SourceRefusal → Refusal
+source_refusal (source_refusals.Rows file fault) = refusals.Rows file fault
+source_refusal (source_refusals.Limit limit) = refusals.Limit limit
+
+-- the name of a column of a table
+abbrev pub column_text : Forest → ℕ → ℕ → Text
+column_text schema t c = slice_index_or (table_at schema t).columns c []
+
+-- the columns of a key of a table
+abbrev pub key_columns : Forest → ℕ → ℕ → List ℕ
+key_columns schema t k = (slice_index_or (table_at schema t).keys k (record { columns = [] })).columns
+
+-- the clash with the names of its table, of its key's columns and of its column in the target
+abbrev pub named_clash : Forest → Clash → Refusal
+named_clash target c = refusals.Clash c (table_name target c.table) (map (column_text target c.table) (key_columns target c.table c.key)) (column_text target c.table c.column)
+
+-- a fault of the exchange into this target; want of memory is none
+abbrev pub exchange_refusal : Forest → ExFault → Refusal
+exchange_refusal target (exchange_faults.Clash clash) = named_clash target clash
+exchange_refusal target (exchange_faults.Limit limit) = refusals.Limit limit
+exchange_refusal target exchange_faults.Memory = refusals.Usage
+
+-- two refusals are alike: they are one, or they are clashes, of which there may be many
+abbrev pub AreAlike : Refusal → Refusal → Type 0
+AreAlike (refusals.Clash c t k n) (refusals.Clash d u l m) = Unit {0}
+AreAlike (refusals.Clash c t k n) refusals.Usage = ⊥
+AreAlike (refusals.Clash c t k n) (refusals.Mapping fault) = ⊥
+AreAlike (refusals.Clash c t k n) (refusals.Rows file fault) = ⊥
+AreAlike (refusals.Clash c t k n) (refusals.Limit limit) = ⊥
+AreAlike refusals.Usage e = refusals.Usage ≡ e
+AreAlike (refusals.Mapping fault) e = refusals.Mapping fault ≡ e
+AreAlike (refusals.Rows file fault) e = refusals.Rows file fault ≡ e
+AreAlike (refusals.Limit limit) e = refusals.Limit limit ≡ e
+
+-- the ending of a refusal
+abbrev pub refusal_ending : Refusal → Ending
+refusal_ending refusals.Usage = endings.Usage
+refusal_ending (refusals.Clash clash table key column) = endings.Clash clash table key column
+refusal_ending (refusals.Mapping fault) = endings.Mapping fault
+refusal_ending (refusals.Rows file fault) = endings.Rows file fault
+refusal_ending (refusals.Limit limit) = endings.Limit limit
+
+-- the ending of a run that ended so
+abbrev pub ending_of : Ended Done Refusal → Ending
+ending_of (endeds.Done d) = endings.Done d
+ending_of (endeds.Refused e) = refusal_ending e
+ending_of (endeds.ReadFault n) = endings.ReadFault n
+ending_of (endeds.WriteFault count) = endings.WriteFault count
+ending_of endeds.Memory = endings.Memory
+
+-- the exit status
+abbrev pub status_of : Ending → ℕ
+status_of (endings.Done _) = 0
+status_of endings.Usage = 2
+status_of (endings.Clash _ _ _ _) = 3
+status_of (endings.Mapping _) = 4
+status_of (endings.Rows _ _) = 5
+status_of (endings.Limit _) = 6
+status_of (endings.ReadFault _) = 7
+status_of (endings.WriteFault _) = 8
+status_of endings.Memory = 9

@@ -1,0 +1,126 @@
+// How a run ends.
+ghost use Rattle.std.specs.Prelude.{◌≡◌};
+ghost use Rattle.clio_ending.specs.Ending.{ending_of, refusal_ending, status_of};
+ghost use Rattle.dx_stages.specs.declared.plan.Ended.{Ended as EndedOf};
+
+use clio_accept::MapFault;
+use clio_source::RowsFault;
+use dx_exchange::{Clash, Exchange};
+use dx_ports::{Items, Limit, Text};
+use dx_stages::Ended;
+
+/// What a run has done.
+#[derive(Drop)]
+pub enum Done {
+    /// The files were put, and the summary was said.
+    Exchanged(Exchange),
+    /// The rules were said, and their script.
+    Shown,
+    /// The counts of a demo were said.
+    Demo(Exchange),
+}
+
+/// How a run ends.
+#[derive(Drop)]
+pub enum Ending {
+    Done(Done),
+    /// The words are not those of a command.
+    Usage,
+    /// There is no solution. The names are those of the clash's table, of its key's columns and of its column.
+    Clash {
+        clash: Clash,
+        table: Text,
+        key: Items<Text>,
+        column: Text,
+    },
+    Mapping(MapFault),
+    Rows {
+        file: Text,
+        fault: RowsFault,
+    },
+    /// A count passed its number.
+    Limit(Limit),
+    /// A file could not be read.
+    ReadFault {
+        file: Text,
+    },
+    /// Something could not be written. So many files were written whole, the first of the list.
+    WriteFault {
+        files: u64,
+    },
+    /// Memory ran out.
+    Memory,
+}
+
+/// Why a run is refused. Each is an ending by the same name.
+#[derive(Debug, Drop)]
+pub enum Refusal {
+    Usage,
+    Clash {
+        clash: Clash,
+        table: Text,
+        key: Items<Text>,
+        column: Text,
+    },
+    Mapping(MapFault),
+    Rows {
+        file: Text,
+        fault: RowsFault,
+    },
+    Limit(Limit),
+}
+
+impl Ending {
+    /// The exit status of the program.
+    pub fn status(&self) -> u8
+        ensures { result ≡ status_of self.now }
+    {
+        match self {
+            Ending::Done(_) => 0,
+            Ending::Usage => 2,
+            Ending::Clash { .. } => 3,
+            Ending::Mapping(_) => 4,
+            Ending::Rows { .. } => 5,
+            Ending::Limit(_) => 6,
+            Ending::ReadFault { .. } => 7,
+            Ending::WriteFault { .. } => 8,
+            Ending::Memory => 9,
+        }
+    }
+}
+
+// The ending of a run that is refused.
+fn of_refusal(refusal: Refusal) -> Ending
+    ensures { result ≡ refusal_ending refusal }
+{
+    match refusal {
+        Refusal::Usage => Ending::Usage,
+        Refusal::Clash {
+            clash,
+            table,
+            key,
+            column,
+        } => Ending::Clash {
+            clash,
+            table,
+            key,
+            column,
+        },
+        Refusal::Mapping(fault) => Ending::Mapping(fault),
+        Refusal::Rows { file, fault } => Ending::Rows { file, fault },
+        Refusal::Limit(limit) => Ending::Limit(limit),
+    }
+}
+
+/// The ending of a run that ended so.
+pub fn as_ending(ended: Ended<Done, Refusal>) -> Ending
+    ensures { result ≡ ending_of ended }
+{
+    match ended {
+        Ended::Done(done) => Ending::Done(done),
+        Ended::Refused(refusal) => of_refusal(refusal),
+        Ended::ReadFault(file) => Ending::ReadFault { file },
+        Ended::WriteFault(files) => Ending::WriteFault { files },
+        Ended::Memory => Ending::Memory,
+    }
+}

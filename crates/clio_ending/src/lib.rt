@@ -1,0 +1,17 @@
+//! How a run of the program ends: endings, their exit statuses and their messages.
+//!
+//! An `Ending` is what a run answers; `status` is its exit status (specs/Ending) and `message` its text (specs/Message). A
+//! `Refusal` is why a run was refused, `named_clash` gives a clash the names that the target has, and `as_ending` makes the
+//! ending of what the stages of a run ended with.
+#![tactic(auto)]
+
+mod clashes;
+mod ending;
+mod messages;
+
+pub use clashes::named_clash;
+pub use clio_accept::MapFault;
+pub use clio_source::RowsFault;
+pub use dx_exchange::{Clash, Exchange};
+pub use ending::{Done, Ending, Refusal, as_ending};
+pub use messages::message;

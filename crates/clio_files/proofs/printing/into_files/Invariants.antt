@@ -1,6 +1,0 @@
-use Rattle.std.proofs.Common.{◌≡◌, map}
-use Rattle.clio_files.specs.declared.printed.Printed.{Printed}
-use Rattle.clio_files.proofs.printing.into_files.Given as goal
-
-abbrev pub invariant-loop-one : goal.invariant-loop-one
-invariant-loop-one l = l.files.items ≡ map (λ (p : Printed). p.file) l.yielded

@@ -1,0 +1,28 @@
+-- The roots of a target as documents.
+use Rattle.std.specs.Prelude.{◌≡◌, ℕ, List, [], ◌∷◌, ◌++◌, length, codes}
+use Rattle.dx_instance.specs.Stored.{TableRows, rows_of}
+use Rattle.dx_schema.specs.Forest.{Forest}
+use Rattle.dx_schema.specs.Tables.{Text, numbers_in, table_at}
+use Rattle.dx_json.specs.Nesting.{IsNestedText}
+use Rattle.clio_files.specs.Sheets.{Told}
+
+-- the name of the file of a root's document
+abbrev pub json_name : Text → Text
+json_name table = table ++ codes ".json"
+
+-- the roots: the sets of the top level, by their numbers
+abbrev pub roots : Forest → List ℕ
+roots target = numbers_in 0 target
+
+-- the file of a root: its nested text, with as many objects as the root has rows
+pub record IsRootFile (target : Forest) (T : List TableRows) (root : ℕ) (f : Told) : Type 0 where
+  pub name : f.name ≡ json_name (table_at target root).name
+  pub bytes : IsNestedText T target root f.bytes
+  pub count : f.count ≡ length (rows_of T root)
+
+-- the files of these roots, in order
+abbrev pub AreRootFiles : Forest → List TableRows → List ℕ → List Told → Type 0
+AreRootFiles target T [] [] = Unit {0}
+AreRootFiles target T [] (f ∷ fs) = ⊥
+AreRootFiles target T (r ∷ rs) [] = ⊥
+AreRootFiles target T (r ∷ rs) (f ∷ fs) = IsRootFile target T r f × AreRootFiles target T rs fs

@@ -1,0 +1,168 @@
+// Files of records: what nulls stand for, and what becomes of them.
+ghost use Rattle.std.specs.Prelude.{◌≡◌, ◌<◌, ℕ, List, [], ◌∷◌, ◌++◌, IfOk, OnOk, codes, length, map, slice_index_or};
+ghost use Rattle.std.specs.Fmt.{decimal};
+ghost use Rattle.dx_ports.specs.Members.{Each};
+ghost use Rattle.dx_instance.specs.NullMaps.{pairs_of};
+ghost use Rattle.dx_instance.specs.ValueText.{const_text, null_text, value_text_of};
+ghost use Rattle.dx_tgd.specs.Counting.{rows_in};
+ghost use Rattle.dx_tgd.specs.Placed.{HasPlace};
+ghost use Rattle.clio_files.specs.Files.{seen};
+ghost use Rattle.clio_files.specs.Printing.{AreRecords};
+ghost use Rattle.clio_files.specs.Sheets.{Sheet, exported_names, file_of, fold_sheet, nulls_sheet, term_records, texts_of, variable_text};
+
+use crate::printed::Printed;
+use crate::records::Records;
+use dx_instance::NullMap;
+use dx_model::{Matches, NullId, NullPair, Rule, Value};
+use dx_ports::{File, Items, Text};
+use dx_tgd::exported;
+use std::alloc::{AllocError, Global};
+
+// The file of a sheet, of which the header is the first of the records.
+fn sheet_file(alloc: Global, name: &str, records: Records) -> Result<Printed, AllocError>
+    ensures { IfOk result (λ p. (s : Sheet) → name.now ≡ s.name → AreRecords records (s.header ∷ s.records) → seen p ≡ file_of s) }
+{
+    let Records { lines, count } = records;
+    Ok(Printed {
+        file: File {
+            name: Text::from_str(alloc, name)?,
+            bytes: lines.into_bytes(),
+        },
+        count: count.saturating_sub(1),
+    })
+}
+
+// The record of a null and a variable.
+fn push_term(
+    null: &NullId,
+    variable: &Text,
+    text: &Text,
+    records: &mut Records,
+) -> Result<(), AllocError>
+    ensures { (rs : List (List (List ℕ))) → AreRecords records.old rs
+        → OnOk result (AreRecords records.new (rs ++ (null_text null.now ∷ variable.now ∷ const_text text.now ∷ []) ∷ [])) }
+{
+    records.value(&Value::Null(*null))?;
+    records.field(variable.bytes())?;
+    records.value(&Value::Const(text.copy()?))?;
+    records.end()
+}
+
+// The records of one null: one for each exported variable of its rule.
+fn push_terms(
+    null: &NullId,
+    variables: &[Text],
+    texts: &[Text],
+    records: &mut Records,
+) -> Result<(), AllocError>
+    ensures { (rs : List (List (List ℕ))) → AreRecords records.old rs
+        → OnOk result (AreRecords records.new (rs ++ term_records null.now variables.now texts.now)) }
+{
+    for (variable, text) in variables.iter().zip(texts) {
+        push_term(null, variable, text, records)?;
+    }
+    Ok(())
+}
+
+// The name of a variable.
+fn variable_name(alloc: Global, variable: u32) -> Result<Text, AllocError>
+    ensures { IfOk result (λ t. t ≡ variable_text variable) }
+{
+    Text::from_string(alloc, format!(in alloc; "x{variable}")?)
+}
+
+// The names of variables.
+fn variable_names(alloc: Global, variables: &[u32]) -> Result<Items<Text>, AllocError>
+    ensures { IfOk result (λ names. names ≡ map variable_text variables.now) }
+{
+    let mut names = Items::new(alloc);
+    for variable in variables {
+        names.push(variable_name(alloc, *variable)?)?;
+    }
+    Ok(names)
+}
+
+// The names of the exported variables of each rule.
+fn all_names(alloc: Global, rules: &[Rule]) -> Result<Items<Items<Text>>, AllocError>
+    ensures { IfOk result (λ names. names ≡ map exported_names rules.now) }
+{
+    let mut names = Items::new(alloc);
+    for rule in rules {
+        names.push(variable_names(alloc, &exported(alloc, rule)?)?)?;
+    }
+    Ok(names)
+}
+
+// The texts of the place of a null.
+fn texts_at<'a>(matches: &'a Matches, null: &NullId) -> &'a [Text]
+    requires rule { null.now.rule < length matches.now.rules }
+    requires place { null.now.row < length (slice_index_or (rows_in matches.now) null.now.rule []) }
+    ensures { result.now ≡ texts_of (rows_in matches.now) null.now }
+{
+    let places = &matches.rules.items()[null.rule as usize];
+    places.tuples.items()[null.row as usize].items()
+}
+
+// The header of what nulls stand for.
+fn push_nulls_header(records: &mut Records) -> Result<(), AllocError>
+    ensures { AreRecords records.old []
+        → OnOk result (AreRecords records.new ((codes "null" ∷ codes "variable" ∷ codes "value" ∷ []) ∷ [])) }
+{
+    records.field(b"null")?;
+    records.field(b"variable")?;
+    records.field(b"value")?;
+    records.end()
+}
+
+/// What each null stands for.
+pub(crate) fn nulls_file(
+    alloc: Global,
+    rules: &[Rule],
+    matches: &Matches,
+    nulls: &[NullId],
+) -> Result<Printed, AllocError>
+    requires one_each { length matches.now.rules ≡ length rules.now }
+    requires places { Each nulls.now (HasPlace rules.now (rows_in matches.now)) }
+    ensures { IfOk result (λ p. seen p ≡ file_of (nulls_sheet rules.now (rows_in matches.now) nulls.now)) }
+{
+    let names = all_names(alloc, rules)?;
+    let mut records = Records::new(alloc);
+    push_nulls_header(&mut records)?;
+    for null in nulls {
+        let variables = names.items()[null.rule as usize].items();
+        push_terms(null, variables, texts_at(matches, null), &mut records)?;
+    }
+    sheet_file(alloc, "nulls.csv", records)
+}
+
+// The header of what nulls become.
+fn push_fold_header(records: &mut Records) -> Result<(), AllocError>
+    ensures { AreRecords records.old [] → OnOk result (AreRecords records.new ((codes "null" ∷ codes "value" ∷ []) ∷ [])) }
+{
+    records.field(b"null")?;
+    records.field(b"value")?;
+    records.end()
+}
+
+// The record of what a null becomes.
+fn push_pair(pair: &NullPair, records: &mut Records) -> Result<(), AllocError>
+    ensures { (rs : List (List (List ℕ))) → AreRecords records.old rs
+        → OnOk result (AreRecords records.new (rs ++ (null_text pair.now.null ∷ value_text_of pair.now.value ∷ []) ∷ [])) }
+{
+    records.value(&Value::Null(pair.null))?;
+    records.value(&pair.value)?;
+    records.end()
+}
+
+/// What each null that the fold lists becomes.
+pub(crate) fn fold_file(alloc: Global, fold: &NullMap) -> Result<Printed, AllocError>
+    ensures { IfOk result (λ p. seen p ≡ file_of (fold_sheet (pairs_of fold.now))) }
+{
+    let pairs = fold.pairs()?;
+    let mut records = Records::new(alloc);
+    push_fold_header(&mut records)?;
+    for pair in pairs.as_slice() {
+        push_pair(pair, &mut records)?;
+    }
+    sheet_file(alloc, "fold.csv", records)
+}

@@ -1,0 +1,146 @@
+// A nested root: its file is a document.
+ghost use Rattle.std.specs.Prelude.{◌≡◌, ◌+◌, ◌-◌, ◌≤◌, ◌<◌, ◌^◌, length, map, take, None, IfOk, IfErr, OnOk, MatchOption};
+ghost use Rattle.dx_ports.specs.Members.{Each};
+ghost use Rattle.dx_model.specs.Tables.{IsInstance};
+ghost use Rattle.dx_instance.specs.Numbers.{Extends};
+ghost use Rattle.dx_instance.specs.Shown.{RowsFit, Shows};
+ghost use Rattle.dx_json.specs.Documents.{SaysFacts};
+ghost use Rattle.dx_schema.specs.Tables.{count, model_tables, schema_widths, table_at, tables_of, tree_at};
+ghost use Rattle.clio_source.specs.Source.{Read, cells_in, loading, named_by, nested};
+ghost use Rattle.clio_source.specs.Fitting.{AddsEmpty, AddsFacts, CanTake, GivesTo, Holds, NotRead, ReadFits};
+
+use crate::fault::{RowsFault, SourceRefusal};
+use crate::reading::{Reading, too_many_cells};
+use dx_instance::{Fact, Row, Rows, Symbols, copy_value};
+use dx_json::{JsonFault, shred};
+use dx_ports::Text;
+use dx_schema::Schema;
+use dx_stages::Stop;
+use std::alloc::{AllocError, Global};
+
+// The facts of a file's bytes.
+fn facts_of_bytes(
+    alloc: Global,
+    bytes: &[u8],
+    schema: &Schema,
+    root: u32,
+    file: Text,
+) -> Result<Vec<Fact>, Stop<SourceRefusal>>
+    requires { root < length (tables_of schema.now) }
+    ensures facts { IfOk result (λ facts. SaysFacts bytes.now schema.now root facts.items) }
+    ensures fault { IfErr result (NotRead nested schema.now root bytes.now file) }
+{
+    match shred(alloc, bytes, schema, root) {
+        Ok(facts) => Ok(facts),
+        Err(JsonFault::Bad(kind)) => Err(Stop::Refused(SourceRefusal::Rows {
+            file,
+            fault: RowsFault::Json(kind),
+        })),
+        Err(JsonFault::Memory) => Err(Stop::Memory),
+    }
+}
+
+// What is left of so many cells after these facts, unless they have more.
+fn cells_after(left: u64, schema: &Schema, facts: &[Fact]) -> Option<u64>
+    requires { IsInstance (model_tables schema.now) facts.now }
+    ensures { MatchOption result (left < cells_in schema.now facts.now)
+        (λ rest. (rest ≡ left - cells_in schema.now facts.now) × (cells_in schema.now facts.now ≤ left)) }
+{
+    let mut rest = left;
+    for fact in facts {
+        prove!(fact.table < schema.tables());
+        rest = rest.checked_sub(u64::from(schema.width(fact.table)))?;
+    }
+    Some(rest)
+}
+
+// Tables without rows for a root and its inner sets, behind those of the roots before it.
+fn push_tables(
+    alloc: Global,
+    schema: &Schema,
+    root: u32,
+    end: u32,
+    tables: &mut Vec<Rows>,
+) -> Result<(), AllocError>
+    requires first { root ≤ end }
+    requires last { end ≤ length (tables_of schema.now) }
+    requires widths { map (λ t. t.width) tables.old.items ≡ take root (schema_widths schema.now) }
+    ensures { OnOk result (AddsEmpty schema.now end tables.old.items tables.new.items) }
+{
+    for table in root..end {
+        tables.push(Rows::new(alloc, schema.width(table)))?;
+    }
+    Ok(())
+}
+
+// The numbers of a row's values, in place of what `numbers` has.
+fn intern_row(row: &Row, symbols: &mut Symbols, numbers: &mut Vec<u32>) -> Result<(), AllocError>
+    ensures shows { OnOk result (Shows symbols.new numbers.new.items row.now) }
+    ensures grows { Extends symbols.old symbols.new }
+{
+    numbers.clear();
+    for value in row.items() {
+        let number = symbols.intern(copy_value(value)?)?;
+        numbers.push(number as u32)?;
+    }
+    Ok(())
+}
+
+// The facts as rows of their tables, which have none yet.
+fn push_facts(
+    alloc: Global,
+    root: u32,
+    facts: &[Fact],
+    symbols: &mut Symbols,
+    tables: &mut Vec<Rows>,
+) -> Result<(), AllocError>
+    requires fit { CanTake tables.old.items root facts.now }
+    requires below { Each tables.old.items (RowsFit (length symbols.old)) }
+    requires few { length facts.now < 2 ^ 32 - 1 }
+    ensures { OnOk result (AddsFacts symbols.old symbols.new tables.old.items tables.new.items facts.now) }
+{
+    let mut numbers = Vec::new(alloc);
+    for fact in facts {
+        intern_row(&fact.row, symbols, &mut numbers)?;
+        tables[fact.table as usize].push(&numbers)?;
+    }
+    Ok(())
+}
+
+/// Reads a nested root from the bytes of its document, after what was read before it.
+pub(crate) fn load_document(
+    alloc: Global,
+    before: Reading,
+    schema: &Schema,
+    root: u32,
+    bytes: &[u8],
+    file: Text,
+) -> Result<Reading, Stop<SourceRefusal>>
+    requires root { root < length (tables_of schema.now) }
+    requires parent { (table_at schema.now root).parent ≡ None }
+    requires file { file ≡ named_by nested (table_at schema.now root).name }
+    requires fit { ReadFits schema.now root before }
+    ensures fit { IfOk result (ReadFits schema.now (root + 1 + count (tree_at schema.now root).inner)) }
+    ensures read { (q : Read) → Holds before q → GivesTo (loading nested schema.now root) (q, bytes.now) result }
+{
+    let Reading {
+        mut symbols,
+        mut tables,
+        bytes_left,
+        cells_left,
+    } = before;
+    let facts = facts_of_bytes(alloc, bytes, schema, root, file)?;
+    let Some(cells_left) = cells_after(cells_left, schema, &facts) else {
+        return Err(Stop::Refused(too_many_cells()));
+    };
+    prove!(schema.tables() <= 64);
+    let end = root + 1 + schema.tree(root).inner.count();
+    push_tables(alloc, schema, root, end, &mut tables)?;
+    push_facts(alloc, root, &facts, &mut symbols, &mut tables)?;
+    Ok(Reading {
+        symbols,
+        tables,
+        bytes_left: bytes_left.saturating_sub(bytes.len() as u64),
+        cells_left,
+    })
+}

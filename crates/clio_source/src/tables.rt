@@ -1,0 +1,86 @@
+// A flat root: its file is a table.
+ghost use Rattle.std.specs.Prelude.{◌≡◌, ◌+◌, ◌*◌, ◌-◌, ◌≤◌, ◌<◌, length, IfOk, IfErr, MatchOption};
+ghost use Rattle.dx_ports.specs.Members.{Each};
+ghost use Rattle.dx_instance.specs.Numbers.{Extends};
+ghost use Rattle.dx_instance.specs.Shown.{AreBelow};
+ghost use Rattle.dx_csv.specs.Table.{IsTable, table_records};
+ghost use Rattle.dx_schema.specs.Tables.{table_at, tables_of};
+ghost use Rattle.clio_source.specs.Source.{Read, flat, loading, named_by};
+ghost use Rattle.clio_source.specs.Fitting.{GivesTo, Holds, NotRead, ReadFits, rows_shown};
+
+use crate::fault::{RowsFault, SourceRefusal};
+use crate::reading::{Reading, too_many_cells};
+use dx_csv::{RowFault, load_into};
+use dx_instance::{Rows, Symbols};
+use dx_ports::Text;
+use dx_schema::Schema;
+use dx_stages::Stop;
+use std::alloc::Global;
+
+// The rows of a file's bytes.
+fn rows_of_bytes(
+    alloc: Global,
+    bytes: &[u8],
+    schema: &Schema,
+    root: u32,
+    file: Text,
+    symbols: &mut Symbols,
+) -> Result<Rows, Stop<SourceRefusal>>
+    requires { root < length (tables_of schema.now) }
+    ensures rows { IfOk result (λ rows. IsTable (table_records bytes.now) (table_at schema.now root).columns (rows_shown symbols.new rows)) }
+    ensures width { IfOk result (λ rows. rows.width ≡ length (table_at schema.now root).columns) }
+    ensures below { IfOk result (λ rows. Each rows.rows (AreBelow (length symbols.new))) }
+    ensures grows { Extends symbols.old symbols.new }
+    ensures fault { IfErr result (NotRead flat schema.now root bytes.now file) }
+{
+    match load_into(alloc, bytes, schema.columns(root), symbols) {
+        Ok(rows) => Ok(rows),
+        Err(RowFault::Bad(kind)) => Err(Stop::Refused(SourceRefusal::Rows {
+            file,
+            fault: RowsFault::Csv(kind),
+        })),
+        Err(RowFault::Memory) => Err(Stop::Memory),
+    }
+}
+
+// What is left of so many cells after these rows, unless they have more.
+fn cells_after(left: u64, rows: u32, width: u32) -> Option<u64>
+    ensures { MatchOption result (left < rows * width) (λ rest. (rest ≡ left - rows * width) × (rows * width ≤ left)) }
+{
+    let cells = u64::from(rows).checked_mul(u64::from(width))?;
+    left.checked_sub(cells)
+}
+
+/// Reads a flat root from the bytes of its table, after what was read before it.
+pub(crate) fn load_table(
+    alloc: Global,
+    before: Reading,
+    schema: &Schema,
+    root: u32,
+    bytes: &[u8],
+    file: Text,
+) -> Result<Reading, Stop<SourceRefusal>>
+    requires root { root < length (tables_of schema.now) }
+    requires file { file ≡ named_by flat (table_at schema.now root).name }
+    requires fit { ReadFits schema.now root before }
+    ensures fit { IfOk result (ReadFits schema.now (root + 1)) }
+    ensures read { (q : Read) → Holds before q → GivesTo (loading flat schema.now root) (q, bytes.now) result }
+{
+    let Reading {
+        mut symbols,
+        mut tables,
+        bytes_left,
+        cells_left,
+    } = before;
+    let rows = rows_of_bytes(alloc, bytes, schema, root, file, &mut symbols)?;
+    let Some(cells_left) = cells_after(cells_left, rows.count(), schema.width(root)) else {
+        return Err(Stop::Refused(too_many_cells()));
+    };
+    tables.push(rows)?;
+    Ok(Reading {
+        symbols,
+        tables,
+        bytes_left: bytes_left.saturating_sub(bytes.len() as u64),
+        cells_left,
+    })
+}

@@ -1,0 +1,154 @@
+-- When a run is refused with a clash.
+use Rattle.std.proofs.Common.{◌≡◌, ◌⊎◌, ℕ, List, refl, sym, ◌∙◌, ap, subst, inl, inr, Option, Some, None, Err, Bool, true, false, arith}
+use Rattle.std.proofs.lemmas.Bool.{true≢false}
+use Rattle.std.proofs.lemmas.Option.{same_Some}
+use Rattle.dx_instance.specs.Stored.{facts}
+use Rattle.dx_schema.specs.Forest.{Forest}
+use Rattle.dx_keys.specs.declared.answers.Clash.{Clash}
+use Rattle.dx_exchange.specs.declared.mode.Mode.{Mode}
+use Rattle.dx_exchange.specs.declared.result.Exchange.{Exchange}
+use Rattle.dx_exchange.specs.declared.fault.ExFault.{ExFault}
+use Rattle.dx_exchange.specs.declared.fault.ExFault.TheVariants as exchange_faults
+use Rattle.dx_exchange.specs.Exchanging.{HasClash, HasNone, IsExchange, exchanging}
+use Rattle.dx_exchange.proofs.Decided.{exchange_or_none}
+use Rattle.dx_schema.specs.Tables.{model_tables}
+use Rattle.dx_stages.specs.Worlds.{World}
+use Rattle.clio_accept.specs.declared.fault.AcceptFault.{AcceptFault}
+use Rattle.clio_accept.specs.declared.fault.AcceptFault.TheVariants as accept_faults
+use Rattle.clio_accept.specs.declared.mapping.Mapping.{Mapping}
+use Rattle.clio_accept.proofs.Accepted.{accepted_fits}
+use Rattle.clio_source.specs.declared.fault.SourceRefusal.{SourceRefusal}
+use Rattle.clio_source.specs.declared.fault.SourceRefusal.TheVariants as source_refusals
+use Rattle.clio_ending.specs.declared.ending.Refusal.{Refusal}
+use Rattle.clio_ending.specs.declared.ending.Refusal.TheVariants as refusals
+use Rattle.clio_ending.specs.Ending.{exchange_refusal, mapping_refusal, named_clash, source_refusal}
+use Rattle.clio_top.specs.declared.command.Command.{Command}
+use Rattle.clio_top.specs.declared.command.Command.TheVariants.{Demonstrating, Exchanging, Showing}
+use Rattle.clio_top.specs.Words.{or_usage, says}
+use Rattle.clio_top.specs.Running.{Filled, Program, asked, exchanges, mapping_stages, rows_stages}
+use Rattle.clio_top.specs.Demo.{demo_world}
+use Rattle.clio_top.specs.Commands.{stages_of}
+use Rattle.clio_top.specs.Promises.{ClashesAreOfTexts, HasNoSolutionIn, IsClashIn, IsClashOf, NoSolutionIsAClash}
+use Rattle.clio_top.proofs.Mappings.{is_small}
+use Rattle.clio_top.proofs.OverAnything.{said}
+use Rattle.clio_top.proofs.Plans.{rules_fit}
+
+-- ---- which refusals are clashes
+
+is_clash : Refusal → Bool
+is_clash (refusals.Clash k table key column) = true
+is_clash refusals.Usage = false
+is_clash (refusals.Mapping fault) = false
+is_clash (refusals.Rows file fault) = false
+is_clash (refusals.Limit limit) = false
+
+clash_in : Refusal → Option Clash
+clash_in (refusals.Clash k table key column) = Some k
+clash_in refusals.Usage = None
+clash_in (refusals.Mapping fault) = None
+clash_in (refusals.Rows file fault) = None
+clash_in (refusals.Limit limit) = None
+
+of_mapping : (k : AcceptFault) → is_clash (mapping_refusal k) ≡ false
+unfolding is_clash
+of_mapping (accept_faults.Mapping fault) = refl
+of_mapping (accept_faults.Limit limit) = refl
+of_mapping accept_faults.Memory = refl
+
+of_source : (k : SourceRefusal) → is_clash (source_refusal k) ≡ false
+unfolding is_clash
+of_source (source_refusals.Rows file fault) = refl
+of_source (source_refusals.Limit limit) = refl
+
+mapping_never : (P : Program) (c : World) (e : Refusal) → (mapping_stages P).refuses c (tt {0}) e → is_clash e ≡ false
+unfolding is_clash
+mapping_never P c e (inl (inl (none, is))) = ap is_clash is
+mapping_never P c e (inl (inr (bytes, held, many, is))) = ap is_clash is
+mapping_never P c e (inr (text, there, (k, refused, is))) = ap is_clash is ∙ of_mapping k
+
+rows_never : (c : World) (M : Mapping) (e : Refusal) → rows_stages.refuses c M e → is_clash e ≡ false
+rows_never c M e (k, refused, is) = ap is_clash is ∙ of_source k
+
+usage_never : (words : List (List ℕ)) (e : Refusal) → or_usage (says words) ≡ Err e → is_clash e ≡ false
+unfolding is_clash
+usage_never words e is = of (says words) refl
+  where
+    of : (o : Option Command) → says words ≡ o → is_clash e ≡ false
+    of None h = let k : or_usage None ≡ Err e = sym (ap or_usage h) ∙ is in usage e k
+      where
+        usage : (f : Refusal) → or_usage None ≡ Err f → is_clash f ≡ false
+        usage refusals.Usage k = refl
+        usage (refusals.Clash c t l n) k = cc
+        usage (refusals.Mapping fault) k = refl
+        usage (refusals.Rows file fault) k = refl
+        usage (refusals.Limit limit) k = refl
+    of (Some d) h = let k : or_usage (Some d) ≡ Err e = sym (ap or_usage h) ∙ is in cc
+
+-- ---- a clash has its reason
+
+clash_of : (P : Program) (mode : Mode) (p : Filled) (target : Forest) (k : Clash) (table : List ℕ) (key : List (List ℕ)) (column : List ℕ) (fault : ExFault)
+    → HasNone P.apply (asked mode p) fault → refusals.Clash k table key column ≡ exchange_refusal target fault → HasClash P.apply (asked mode p) k
+unfolding clash_in is_clash
+clash_of P mode p target k table key column (exchange_faults.Clash d) h is = subst (HasClash P.apply (asked mode p)) (sym (same_Some k d (ap clash_in is))) h
+clash_of P mode p target k table key column (exchange_faults.Limit l) h is = absurd (true≢false (ap is_clash is))
+clash_of P mode p target k table key column exchange_faults.Memory h is = absurd h
+
+exchange_clashes : (P : Program) (mode : Mode) (c : World) (k : Clash) (table : List ℕ) (key : List (List ℕ)) (column : List ℕ)
+    → (exchanges P mode).refuses c (tt {0}) (refusals.Clash k table key column) → IsClashIn P mode c k
+unfolding is_clash
+exchange_clashes P mode c k table key column (inl m) = absurd (true≢false (mapping_never P c (refusals.Clash k table key column) m))
+exchange_clashes P mode c k table key column (inr (M, (text, there, accepted), inl r)) =
+    absurd (true≢false (rows_never c M (refusals.Clash k table key column) r))
+exchange_clashes P mode c k table key column (inr (M, (text, there, accepted), inr (pair, (I, source, pair_is), (fault, none, is)))) = record {
+  text = text;
+  held = there.0;
+  mapping = M;
+  accepted = accepted;
+  rows = I;
+  source = source;
+  clash = subst (λ (r : Filled). HasClash P.apply (asked mode r) k) pair_is (clash_of P mode pair pair.0.target k table key column fault none is);
+}
+
+clashing_by : (P : Program) (c : World) (words : List (List ℕ)) (d : Command) (k : Clash) (table : List ℕ) (key : List (List ℕ)) (column : List ℕ)
+    → says words ≡ Some d → (stages_of P d).refuses c (tt {0}) (refusals.Clash k table key column) → IsClashOf P c words k
+unfolding is_clash
+clashing_by P c words (Exchanging mode nested) k table key column w r = inl (mode, nested, w, exchange_clashes P mode c k table key column r)
+clashing_by P c words (Showing mode) k table key column w r = absurd (true≢false (mapping_never P c (refusals.Clash k table key column) r))
+clashing_by P c words (Demonstrating number mode) k table key column w r =
+    inr (number, mode, w, exchange_clashes P mode (demo_world number) k table key column r)
+
+pub of_texts : ClashesAreOfTexts
+unfolding is_clash
+of_texts P c words before after k table key column (inl e, left) = absurd (true≢false (usage_never words (refusals.Clash k table key column) e))
+of_texts P c words before after k table key column (inr (d, w, r), left) = clashing_by P c words d k table key column (said words d w) r
+
+-- ---- without a solution there is a clash
+
+clash_there : (P : Program) (mode : Mode) (c : World) (h : HasNoSolutionIn P c)
+    → (k : Clash) × (exchanging P.apply).refuses c (asked mode (h.mapping, h.rows)) (exchange_faults.Clash k)
+clash_there P mode c h =
+    let fits = accepted_fits P.list c h.text h.mapping (is_small h.text h.few) h.accepted in
+    let d = exchange_or_none P.apply P.list (model_tables h.mapping.source) in
+    of (d.either c (asked mode (h.mapping, h.rows)) (rules_fit P h.mapping fits))
+  where
+    of : ((e : Exchange) × IsExchange P.apply (asked mode (h.mapping, h.rows)) e) ⊎ ((f : ExFault) × HasNone P.apply (asked mode (h.mapping, h.rows)) f)
+        → (k : Clash) × (exchanging P.apply).refuses c (asked mode (h.mapping, h.rows)) (exchange_faults.Clash k)
+    of (inl (e, x)) = absurd (h.none (facts e.target) x.universal.solution)
+    of (inr (exchange_faults.Clash k, x)) = (k, x)
+    of (inr (exchange_faults.Limit l, x)) = let few = h.within x.rows x.are in let many = x.many in absurd (omega (arith, few, many))
+    of (inr (exchange_faults.Memory, x)) = absurd x
+
+pub no_solution : NoSolutionIsAClash
+no_solution P c words mode nested w h =
+    let k = clash_there P mode c h in
+    let named = named_clash h.mapping.target k.0 in (
+      k.0,
+      _,
+      _,
+      _,
+      inr (
+        Exchanging mode nested,
+        ap or_usage w,
+        inr (h.mapping, (h.text, (h.held, h.few), h.accepted), inr ((h.mapping, h.rows), (h.rows, h.source, refl), (exchange_faults.Clash k.0, k.1, refl))),
+      ),
+    )

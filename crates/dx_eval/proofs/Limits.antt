@@ -1,0 +1,288 @@
+-- How many cells are inserted for the tuples that are found.
+use Rattle.std.proofs.Common.{◌≡◌, ℕ, suc, ◌+◌, ◌*◌, ◌/◌, ◌-◌, ◌<◌, ◌≤◌, ◌^◌, List, [], ◌∷◌, ◌++◌, length, get_or, take, drop, refl, sym, ◌∙◌, ap, subst, inl, inr, arith}
+use Rattle.std.specs.Prelude.{map, flat_map, ◌↔◌, Some, None, Option, MatchOption}
+use Rattle.std.specs.List.{AllZip}
+use Rattle.std.proofs.lemmas.Bool.{cases_lt}
+use Rattle.std.proofs.lemmas.List.{take_all, append-nil, get_or-map, get_or_append_left, get_or_push, length-map, length-append, take_more, take-append-drop, map_push}
+use Rattle.std.proofs.lemmas.List.Concat.{flat_map-append}
+use Rattle.std.proofs.Math.Nat.{mul-le-mul_right, le-div_iff_mul-le}
+use Rattle.dx_ports.specs.Members.{◌∈◌, ◌⊆◌, here, there, Distinct, Each}
+use Rattle.dx_ports.proofs.Members.{in_at}
+use Rattle.dx_ports.specs.declared.file.Count.TheVariants.{TargetCells}
+use Rattle.dx_model.specs.declared.facts.Fact.{Fact}
+use Rattle.dx_model.specs.declared.values.Value.{Value}
+use Rattle.dx_model.specs.Values.{Text, Tuple, Rows}
+use Rattle.dx_instance.specs.Cells.{NumberTable}
+use Rattle.dx_instance.specs.Numbers.{AreApart, Extends}
+use Rattle.dx_instance.proofs.ShownFacts.{extends_both}
+use Rattle.dx_joins.specs.Shown.{MoreTuples, StandFor, texts_of}
+use Rattle.dx_joins.proofs.Translating.{distinct_texts}
+use Rattle.dx_joins.proofs.Whole.{found_table}
+use Rattle.dx_schema.specs.Names.{Named}
+use Rattle.dx_funcs.specs.declared.conversion.Conversion.{Conversion}
+use Rattle.dx_script.specs.declared.form.Select.{Select}
+use Rattle.dx_script.specs.declared.form.Equal.{Equal}
+use Rattle.dx_script.specs.declared.form.Step.{Step}
+use Rattle.dx_script.specs.declared.form.Step.TheVariants.{Create, MatchRows, KeepRows, InsertRows}
+use Rattle.dx_script.specs.Fits.{MatchFits}
+use Rattle.dx_script.specs.Meaning.{IsMatchTable, match_table}
+use Rattle.dx_tgd.specs.Found.{IsReordered}
+use Rattle.dx_tgd.specs.Texts.{tuples_in}
+use Rattle.dx_tgd.proofs.Steps.{tuples_grown}
+use Rattle.dx_eval.specs.declared.fault.EvalFault.{EvalFault}
+use Rattle.dx_eval.specs.declared.fault.EvalFault.TheVariants.{Limit}
+use Rattle.dx_eval.specs.Evaluating.{PassesLimit, cells_for, script_cells}
+use Rattle.dx_eval.specs.Query.{IsSelected}
+use Rattle.dx_eval.specs.Finding.{AreFoundSteps, FoundSoFar, IsRefusal, IsFoundStep, Matching, MatchesFit, matching_in, matchings}
+use Rattle.dx_eval.proofs.Sums.{total, total_less, total_longer, total_more, total_same}
+use Rattle.dx_eval.proofs.Tables.{matching_long, IsTable, are_tables, found_grown, of_step, stands_at, tables_exist, zip_here, zip_long, zip_push, no_matching}
+
+-- ---- few and many
+
+take_out : {X : Type 0} {x : X} (ys : List X) → x ∈ ys → (zs : List X) × (length ys ≡ suc (length zs)) × ((z : X) → z ∈ ys → ¬ (z ≡ x) → z ∈ zs)
+take_out [] m = elim m [ ]
+take_out {X} {x} (y ∷ ys) (here e) = (ys, refl, others)
+  where
+    others : (z : X) → z ∈ (y ∷ ys) → ¬ (z ≡ x) → z ∈ ys
+    others z (here f) d = absurd (d (sym f ∙ e))
+    others z (there n) d = n
+take_out {X} {x} (y ∷ ys) (there m) = let r = take_out ys m in (y ∷ r.0, ap suc r.1, others r.0 r.2)
+  where
+    others : (zs : List X) → ((z : X) → z ∈ ys → ¬ (z ≡ x) → z ∈ zs) → (z : X) → z ∈ (y ∷ ys) → ¬ (z ≡ x) → z ∈ (y ∷ zs)
+    others zs f z (here e) d = here e
+    others zs f z (there n) d = there (f z n d)
+
+-- what has no repetitions is no longer than what has all its members
+distinct_few : {X : Type 0} (xs ys : List X) → Distinct xs → xs ⊆ ys → length xs ≤ length ys
+distinct_few [] ys d s = omega arith
+distinct_few {X} (x ∷ xs) ys d s =
+    let r = take_out ys (s x (here refl)) in
+    let i = distinct_few xs r.0 d.1 (λ y m. r.2 y (s y (there m)) (λ e. d.0 (rw e at m))) in
+    omega (arith, i, r.1)
+
+-- ---- cells
+
+-- the cells of the tuples of one rule
+abbrev pub cells_of_rule : List Step → Rows → ℕ → ℕ
+cells_of_rule steps tables r = length (match_table tables r) * cells_for steps r
+
+pub cells_more : (steps : List Step) (tables : Rows) (ts : List Tuple) → script_cells steps (tables ++ ts ∷ []) ≡ script_cells steps tables + length ts * cells_for steps (length tables)
+cells_more steps tables ts =
+    let l : length (tables ++ ts ∷ []) ≡ suc (length tables) = omega (arith, length-append tables (ts ∷ [])) in
+    let a = ap (total (cells_of_rule steps (tables ++ ts ∷ []))) l in
+    let b = total_more (cells_of_rule steps (tables ++ ts ∷ [])) (length tables) in
+    let c = total_same (cells_of_rule steps (tables ++ ts ∷ [])) (cells_of_rule steps tables) (length tables) (λ k h. ap (λ z. length z * cells_for steps k) (get_or_append_left tables (ts ∷ []) [] k h)) in
+    let d : cells_of_rule steps (tables ++ ts ∷ []) (length tables) ≡ length ts * cells_for steps (length tables) = ap (λ z. length z * cells_for steps (length tables)) (get_or_push tables ts [] (length tables) refl) in
+    a ∙ (b ∙ omega (arith, c, d))
+
+-- more tuples at each place make no fewer cells
+pub cells_less : (steps : List Step) (some all : Rows) → length some ≤ length all → ((k : ℕ) → k < length some → length (match_table some k) ≤ length (match_table all k)) → script_cells steps some ≤ script_cells steps all
+cells_less steps some all l h =
+    let a = total_less (cells_of_rule steps some) (cells_of_rule steps all) (length some) (λ k i. mul-le-mul_right (cells_for steps k) (h k i)) in
+    let b = total_longer (cells_of_rule steps all) (length some) (length all) l in
+    omega (arith, a, b)
+
+tuples_long : (S : List Value) (ts : List NumberTable) → length (tuples_in S ts) ≡ length ts
+tuples_long S ts = length-map ts (λ (t : NumberTable). map (texts_of S) t.rows)
+
+no_rows : NumberTable
+no_rows = record { width = 0; rows = [] }
+
+tuples_at : (S : List Value) (ts : List NumberTable) (k : ℕ) → k < length ts → match_table (tuples_in S ts) k ≡ map (texts_of S) (get_or ts k no_rows).rows
+tuples_at S ts k h = get_or-map (λ (t : NumberTable). map (texts_of S) t.rows) ts k no_rows [] h
+
+-- ---- in another order
+
+reordered_few : (S T : List Value) (t u : NumberTable) → AreApart T → IsReordered S T t u → length u.rows ≤ length t.rows
+reordered_few S T t u p r =
+    let few = distinct_few (map (texts_of T) u.rows) (map (texts_of S) t.rows) (distinct_texts T u.rows p r.texts r.ascend) (λ s m. (r.same s).0 m) in
+    omega (arith, few, length-map u.rows (texts_of T), length-map t.rows (texts_of S))
+
+pub reordered_cells : (steps : List Step) (S T : List Value) (ts us : List NumberTable) → AreApart T → AllZip (IsReordered S T) ts us → script_cells steps (tuples_in T us) ≤ script_cells steps (tuples_in S ts)
+reordered_cells steps S T ts us p z =
+    let l = zip_long (IsReordered S T) ts us z in
+    let a = tuples_long T us in
+    let b = tuples_long S ts in
+    cells_less steps (tuples_in T us) (tuples_in S ts) (omega (arith, l, a, b)) (λ k h.
+    let i : k < length ts = omega (arith, h, a, l) in
+    let j : k < length us = omega (arith, h, a) in
+    let one = reordered_few S T (get_or ts k no_rows) (get_or us k no_rows) p (zip_here (IsReordered S T) ts us k no_rows no_rows z i) in
+    let x = length-map (get_or us k no_rows).rows (texts_of T) in
+    let y = length-map (get_or ts k no_rows).rows (texts_of S) in
+    rw (tuples_at T us k j, tuples_at S ts k i) (omega (arith, one, x, y)))
+
+-- ---- step by step
+
+module _ (source : List Named) (call : Text → Tuple → Text) (I : List Fact) (steps : List Step) where
+  grown_tuples : (S T : List Value) (ms : List Matching) (ts : List NumberTable) → Extends S T → AreFoundSteps source call I S ms ts → tuples_in T ts ≡ tuples_in S ts
+  grown_tuples S T [] [] e f = refl
+  grown_tuples S T [] (t ∷ ts) e f = absurd f
+  grown_tuples S T (m ∷ ms) [] e f = absurd f
+  grown_tuples S T (m ∷ ms) (t ∷ ts) e f =
+      let first = tuples_grown S T t.rows e f.0.texts in
+      let rest = grown_tuples S T ms ts e f.1 in
+      cc (first, rest)
+
+  pub start : (old S : List Value) (ts : List NumberTable) (limit : ℕ) → S ≡ old → ts ≡ [] → AreApart old → FoundSoFar source call I steps old S [] ts limit limit
+  start old S ts limit e f p = rw (e, f) (record { found = tt; grows = record { more = []; is = sym (append-nil old) }; apart = p; cells = omega arith })
+
+  -- a step that makes no match table
+  pub other_step : (old S : List Value) (ts : List NumberTable) (limit left i : ℕ) (s : Step) → i < length steps → s ≡ get_or steps i s → ((r : ℕ) (a b d : _) → ¬ (s ≡ MatchRows r a b d))
+      → FoundSoFar source call I steps old S (matchings (take i steps)) ts limit left → FoundSoFar source call I steps old S (matchings (take (i + 1) steps)) ts limit left
+  other_step old S ts limit left i s h is n f =
+      let e : matchings (take (i + 1) steps) ≡ matchings (take i steps) =
+      ap matchings (take_more steps i s h ∙ ap (λ z. take i steps ++ z ∷ []) (sym is)) ∙ (flat_map-append matching_in (take i steps) (s ∷ []) ∙ (ap (λ z. matchings (take i steps) ++ z) (none s n) ∙ append-nil (matchings (take i steps)))) in
+      rw e f
+    where
+      none : (s : Step) → ((r : ℕ) (a b d : _) → ¬ (s ≡ MatchRows r a b d)) → flat_map matching_in (s ∷ []) ≡ []
+      none (Create table columns) n = refl
+      none (MatchRows r a b d) n = absurd (n r a b d refl)
+      none (KeepRows r unless) n = refl
+      none (InsertRows table r kept cells) n = refl
+
+  -- a match step more
+  pub match_step : (old S U : List Value) (ts us : List NumberTable) (limit left i r : ℕ) (select : List Select) (sources : List Text) (equal : List Equal) (s : Step) (t : NumberTable)
+      → i < length steps → s ≡ get_or steps i s → s ≡ MatchRows r select sources equal → length ts ≡ r
+      → FoundSoFar source call I steps old S (matchings (take i steps)) ts limit left → Extends S U → AreApart U
+      → StandFor (length select) (IsSelected source call I select sources equal) U t → us ≡ ts ++ t ∷ [] → length t.rows * cells_for steps r ≤ left
+      → FoundSoFar source call I steps old U (matchings (take (i + 1) steps)) us limit (left - length t.rows * cells_for steps r)
+  match_step old S U ts us limit left i r select sources equal s t h is variant number f grown p stand more few =
+      let e : matchings (take (i + 1) steps) ≡ matchings (take i steps) ++ of_step select sources equal ∷ [] =
+      ap matchings (take_more steps i s h ∙ ap (λ z. take i steps ++ z ∷ []) (sym is ∙ variant)) ∙ flat_map-append matching_in (take i steps) (MatchRows r select sources equal ∷ []) in
+      let before = found_grown source call I S U (matchings (take i steps)) ts grown f.found in
+      let same = grown_tuples S U (matchings (take i steps)) ts grown f.found in
+      let old_cells : script_cells steps (tuples_in U ts) + left ≡ limit = rw same f.cells in
+      let push : tuples_in U (ts ++ t ∷ []) ≡ tuples_in U ts ++ map (texts_of U) t.rows ∷ [] = map_push (λ (z : NumberTable). map (texts_of U) z.rows) ts t in
+      let c = cells_more steps (tuples_in U ts) (map (texts_of U) t.rows) in
+      let x = length-map t.rows (texts_of U) in
+      let y = tuples_long U ts in
+      let number_is : cells_for steps (length (tuples_in U ts)) ≡ cells_for steps r = ap (cells_for steps) (y ∙ number) in
+      let product : length (map (texts_of U) t.rows) * cells_for steps (length (tuples_in U ts)) ≡ length t.rows * cells_for steps r = ap (λ z. z * cells_for steps (length (tuples_in U ts))) x ∙ ap (λ z. length t.rows * z) number_is in
+      let total_is : script_cells steps (tuples_in U (ts ++ t ∷ [])) ≡ script_cells steps (tuples_in U ts) + length t.rows * cells_for steps r = ap (script_cells steps) push ∙ (c ∙ ap (λ z. script_cells steps (tuples_in U ts) + z) product) in
+      rw (e, more) (record {
+        found = zip_push (IsFoundStep source call I U) (matchings (take i steps)) ts (of_step select sources equal) t before stand;
+        grows = extends_both old S U f.grows grown;
+        apart = p;
+        cells = omega (arith, total_is, old_cells, few);
+      })
+
+  -- more tuples of one step than there is room for: the script passes the limit
+  pub passes : (list : List Conversion) (old S : List Value) (ts : List NumberTable) (limit left i r : ℕ) (select : List Select) (sources : List Text) (equal : List Equal) (s : Step) (us : List Tuple)
+      → MatchesFit source list steps → i < length steps → s ≡ get_or steps i s → s ≡ MatchRows r select sources equal → length ts ≡ r
+      → FoundSoFar source call I steps old S (matchings (take i steps)) ts limit left → Distinct us → Each us (IsSelected source call I select sources equal) → left < length us * cells_for steps r
+      → PassesLimit source call steps I limit (Limit (record { what = TargetCells; number = limit }))
+  unfolding IsTable
+  passes list old S ts limit left i r select sources equal s us fit h is variant number f distinct each many =
+      let member : MatchRows r select sources equal ∈ steps = subst (λ z. z ∈ steps) (sym is ∙ variant) (in_at steps i s h) in
+      let w = tables_exist source call I list steps steps fit (λ z m. m) in
+      let all = w.0 in
+      let p = stands_at source list steps fit r select sources equal member in
+      let own : IsMatchTable source call I select sources equal (match_table all r) = subst (λ (q : Matching). IsMatchTable source call I q.select q.sources q.equal (match_table all r)) p.1 (zip_here (IsTable source call I) (matchings steps) all r no_matching [] w.1 p.0) in
+      let lw = zip_long (IsTable source call I) (matchings steps) all w.1 in
+      let one : length us ≤ length (match_table all r) = distinct_few us (match_table all r) distinct (λ t m. (own.exact t).1 (each t m)) in
+      let tl = tuples_long S ts in
+      let within = p.0 in
+      let less = total_less (cells_of_rule steps (tuples_in S ts)) (cells_of_rule steps all) r (λ k l. mul-le-mul_right (cells_for steps k) (before k l all w.1 lw)) in
+      let here_cells = total_more (cells_of_rule steps all) r in
+      let whole = total_longer (cells_of_rule steps all) (suc r) (length all) (omega (arith, within, lw)) in
+      let start_is : script_cells steps (tuples_in S ts) ≡ total (cells_of_rule steps (tuples_in S ts)) r = ap (total (cells_of_rule steps (tuples_in S ts))) (tl ∙ number) in
+      let product = mul-le-mul_right (cells_for steps r) one in
+      let cells = f.cells in
+      record {
+        tables = all;
+        are = are_tables source call I list steps all fit w.1;
+        more = omega (arith, less, here_cells, whole, start_is, product, cells, many);
+        fault = refl;
+      }
+    where
+      -- what is found of the steps before has no more tuples than their tables
+      before : (k : ℕ) → k < r → (all : Rows) → AllZip (IsTable source call I) (matchings steps) all → length (matchings steps) ≡ length all → length (match_table (tuples_in S ts) k) ≤ length (match_table all k)
+      before k l all z long =
+          let a : k < length ts = omega (arith, l, number) in
+          let fl = zip_long (IsFoundStep source call I S) (matchings (take i steps)) ts f.found in
+          let b : k < length (matchings (take i steps)) = omega (arith, a, fl) in
+          let found = zip_here (IsFoundStep source call I S) (matchings (take i steps)) ts k no_matching no_rows f.found b in
+          let split : matchings steps ≡ matchings (take i steps) ++ matchings (drop i steps) = ap matchings (sym (take-append-drop i steps)) ∙ flat_map-append matching_in (take i steps) (drop i steps) in
+          let same : get_or (matchings steps) k no_matching ≡ get_or (matchings (take i steps)) k no_matching = ap (λ z. get_or z k no_matching) split ∙ get_or_append_left (matchings (take i steps)) (matchings (drop i steps)) no_matching k b in
+          let e = ap length split ∙ length-append (matchings (take i steps)) (matchings (drop i steps)) in
+          let c : k < length (matchings steps) = omega (arith, b, e) in
+          let table = zip_here (IsTable source call I) (matchings steps) all k no_matching [] z c in
+          let table_is : IsMatchTable source call I (get_or (matchings (take i steps)) k no_matching).select (get_or (matchings (take i steps)) k no_matching).sources (get_or (matchings (take i steps)) k no_matching).equal (match_table all k) =
+          subst (λ (q : Matching). IsMatchTable source call I q.select q.sources q.equal (match_table all k)) same table in
+          rw (tuples_at S ts k a) (distinct_few (map (texts_of S) (get_or ts k no_rows).rows) (match_table all k) (distinct_texts S (get_or ts k no_rows).rows f.apart found.texts found.ascend) (λ t m. (table_is.exact t).1 ((found.exact t).0 m)))
+
+  -- each match step so far has a table
+  pub number_is : (list : List Conversion) (old S : List Value) (ts : List NumberTable) (limit left i r : ℕ) (select : List Select) (sources : List Text) (equal : List Equal)
+      → FoundSoFar source call I steps old S (matchings (take i steps)) ts limit left → MatchFits source list (take i steps) r select sources equal → length ts ≡ r
+  number_is list old S ts limit left i r select sources equal f m =
+      sym (zip_long (IsFoundStep source call I S) (matchings (take i steps)) ts f.found) ∙ (matching_long (take i steps) ∙ sym m.number)
+
+  -- all steps
+  pub all_found : (old S : List Value) (ts : List NumberTable) (limit left i : ℕ) → length steps ≤ i → FoundSoFar source call I steps old S (matchings (take i steps)) ts limit left
+      → AreFoundSteps source call I S (matchings steps) ts
+  all_found old S ts limit left i h f = subst (λ (z : List Step). AreFoundSteps source call I S (matchings z) ts) (take_all i steps h) f.found
+
+-- ---- room
+
+pub room_without : (left cells n : ℕ) → cells ≡ 0 → n < 2 ^ 64 → (n ≤ 18446744073709551615) ↔ (n * cells ≤ left)
+room_without left cells n e h = let p : n * cells ≡ n * 0 = ap (λ (z : ℕ). n * z) e in ((λ q. omega (arith, p)), (λ q. omega (arith, h)))
+
+pub room_is : (left cells n : ℕ) → ¬ (cells ≡ 0) → (n ≤ left / cells) ↔ (n * cells ≤ left)
+room_is left cells n some = let k : 0 < cells = omega (arith, some) in le-div_iff_mul-le {k = cells} {x = n} {y = left} k
+
+-- more tuples than there is room for
+pub record TooMany (room : ℕ) (P : Tuple → Type 0) : Type 0 where
+  pub tuples : List Tuple
+  pub distinct : Distinct tuples
+  pub each : Each tuples P
+  pub more : room < length tuples
+  pub few : length tuples < 2 ^ 32
+
+pub too_many : (found : Option NumberTable) (room w : ℕ) (P : Tuple → Type 0) (U : List Value) → AreApart U → MatchOption found (MoreTuples room P) (StandFor w P U)
+    → MatchOption found (Unit {0}) (λ t. (room < length t.rows) × (length t.rows < 2 ^ 32)) → TooMany room P
+too_many None room w P U apart m q = record { tuples = m.tuples; distinct = m.distinct; each = m.each; more = m.more; few = m.few }
+too_many (Some t) room w P U apart m q =
+    let l = length-map t.rows (texts_of U) in
+    record {
+      tuples = map (texts_of U) t.rows;
+      distinct = distinct_texts U t.rows apart m.texts m.ascend;
+      each = (λ u n. (m.exact u).0 n);
+      more = let a = q.0 in omega (arith, a, l);
+      few = let b = q.1 in omega (arith, b, l);
+    }
+
+pub many_cells : (room cells left n : ℕ) → ((k : ℕ) → k < 2 ^ 64 → (k ≤ room) ↔ (k * cells ≤ left)) → n < 2 ^ 32 → room < n → left < n * cells
+many_cells room cells left n f h more = elim (cases_lt left (n * cells)) [
+  | inl l ↦ l
+  | inr g ↦ absurd (let k = (f n (omega (arith, h))).1 g in omega (arith, k, more))
+]
+
+pub few_cells : (room cells left n : ℕ) → ((k : ℕ) → k < 2 ^ 64 → (k ≤ room) ↔ (k * cells ≤ left)) → n < 2 ^ 32 → n ≤ room → n * cells ≤ left
+few_cells room cells left n f h few = (f n (omega (arith, h))).0 few
+
+pub table_found : (found : Option NumberTable) (t : NumberTable) (P : Type 0) (R : NumberTable → Type 0) → found ≡ Some t → MatchOption found P R → R t
+table_found found t P R e m = found_table found t P R e m
+
+-- ---- what is selected, by the lists that are lent
+
+pub stand_items : (source : List Named) (call : Text → Tuple → Text) (I : List Fact) (sel select : List Select) (src sources : List Text) (eq equal : List Equal) (U : List Value) (t : NumberTable) → sel ≡ select → src ≡ sources → eq ≡ equal
+    → StandFor (length sel) (IsSelected source call I sel src eq) U t → StandFor (length select) (IsSelected source call I select sources equal) U t
+stand_items source call I sel select src sources eq equal U t a b d s =
+    subst (λ (z : List Equal). StandFor (length select) (IsSelected source call I select sources z) U t) d
+    (subst (λ (z : List Text). StandFor (length select) (IsSelected source call I select z eq) U t) b (subst (λ (z : List Select). StandFor (length z) (IsSelected source call I z src eq) U t) a s))
+
+pub each_items : (source : List Named) (call : Text → Tuple → Text) (I : List Fact) (sel select : List Select) (src sources : List Text) (eq equal : List Equal) (us : List Tuple) → sel ≡ select → src ≡ sources → eq ≡ equal
+    → Each us (IsSelected source call I sel src eq) → Each us (IsSelected source call I select sources equal)
+each_items source call I sel select src sources eq equal us a b d s =
+    subst (λ (z : List Equal). Each us (IsSelected source call I select sources z)) d
+    (subst (λ (z : List Text). Each us (IsSelected source call I select z eq)) b (subst (λ (z : List Select). Each us (IsSelected source call I z src eq)) a s))
+
+-- ---- the refusal
+
+pub refused_limit : (source : List Named) (call : Text → Tuple → Text) (steps : List Step) (I : List Fact) (limit : ℕ) (e : EvalFault) → e ≡ Limit (record { what = TargetCells; number = limit })
+    → PassesLimit source call steps I limit (Limit (record { what = TargetCells; number = limit })) → IsRefusal source call steps I limit e
+refused_limit source call steps I limit e is p = subst (IsRefusal source call steps I limit) (sym is) p
+
+pub refused_same : (source : List Named) (call : Text → Tuple → Text) (steps others : List Step) (I J : List Fact) (limit : ℕ) (e f : EvalFault) → steps ≡ others → I ≡ J → f ≡ e → IsRefusal source call steps I limit e → IsRefusal source call others J limit f
+refused_same source call steps others I J limit e f s i is r =
+    subst (IsRefusal source call others J limit) (sym is) (subst (λ (z : List Fact). IsRefusal source call others z limit e) i (subst (λ (z : List Step). IsRefusal source call z I limit e) s r))

@@ -1,0 +1,99 @@
+use Rattle.std.proofs.Common.{◌*◌, ◌<◌, ◌≤◌, ℕ, arith, length, subst}
+use Rattle.std.proofs.lemmas.Result.{err_from_is_err_and}
+use Rattle.dx_funcs.specs.Names.{call_named}
+use Rattle.dx_funcs.specs.Serving.{offered}
+use Rattle.dx_instance.specs.Shown.{shown_tables}
+use Rattle.dx_instance.specs.Stored.{facts}
+use Rattle.dx_joins.specs.Shown.{MoreTuples, StandFor}
+use Rattle.dx_schema.specs.Names.{named_of}
+use Rattle.dx_eval.specs.Query.{IsSelected}
+use Rattle.dx_eval.proofs.Limits.{all_found, each_items, few_cells, many_cells, match_step, number_is, other_step, passes, refused_limit, stand_items, start, table_found, too_many}
+use Rattle.dx_eval.proofs.Tables.{match_fits_at}
+use Rattle.dx_eval.proofs.finding.found_steps.Goals.{in-MatchRows+in_ok-cells+in_ok-found+in_ok-table+in_ok-push, in_default}
+use Rattle.dx_eval.proofs.finding.found_steps.Goals as goal
+
+pub loop-step-init : goal.loop-step-init
+loop-step-init g c =
+    let N = named_of c.args.source.now in
+    let I = facts (shown_tables c.args.rows.now.symbols c.args.rows.now.tables) in
+    start N (call_named g.M.Meaning.apply (offered c.args.host.now)) I c.args.steps.now c.args.rows.now.symbols c.in_ok-symbols.symbols c.new-tables.result.items c.args.limit c.in_ok-symbols.ensures c.new-tables.ensures.items c.requires.apart
+
+pub step_rows-requires-clause-named : goal.step_rows-requires-clause-named
+step_rows-requires-clause-named g c =
+    let m = match_fits_at (named_of c.args.source.now) (offered c.args.host.now) c.args.steps.now c.loop-step.step-index c.in-MatchRows.rule c.in-MatchRows.select c.in-MatchRows.sources c.in-MatchRows.equal c.step-item.result c.requires.fit
+    c.loop-step-test.true c.step-item.is c.in-MatchRows.is in
+    rw c.items-in-MatchRows.ensures m.sources_named
+
+pub step_rows-requires-clause-selected : goal.step_rows-requires-clause-selected
+step_rows-requires-clause-selected g c =
+    let m = match_fits_at (named_of c.args.source.now) (offered c.args.host.now) c.args.steps.now c.loop-step.step-index c.in-MatchRows.rule c.in-MatchRows.select c.in-MatchRows.sources c.in-MatchRows.equal c.step-item.result c.requires.fit
+    c.loop-step-test.true c.step-item.is c.in-MatchRows.is in
+    rw (c.items.ensures, c.items-in-MatchRows.ensures) m.selected
+
+pub step_rows-requires-clause-equal : goal.step_rows-requires-clause-equal
+step_rows-requires-clause-equal g c =
+    let m = match_fits_at (named_of c.args.source.now) (offered c.args.host.now) c.args.steps.now c.loop-step.step-index c.in-MatchRows.rule c.in-MatchRows.select c.in-MatchRows.sources c.in-MatchRows.equal c.step-item.result c.requires.fit
+    c.loop-step-test.true c.step-item.is c.in-MatchRows.is in
+    rw (c.items-in-MatchRows.ensures, c.items-in-MatchRows-2.ensures) m.equal_cells
+
+pub returns-in_err-table-clause-refused : goal.returns-in_err-table-clause-refused
+returns-in_err-table-clause-refused g c =
+    let N = named_of c.args.source.now in
+    let L = offered c.args.host.now in
+    let C = call_named g.M.Meaning.apply L in
+    let I = facts (shown_tables c.args.rows.now.symbols c.args.rows.now.tables) in
+    let w = c.in-MatchRows in
+    let m = match_fits_at N L c.args.steps.now c.loop-step.step-index w.rule w.select w.sources w.equal c.step-item.result c.requires.fit c.loop-step-test.true c.step-item.is w.is in
+    let f = c.loop-step.invariant in
+    let many = too_many c.in_ok-found.found c.room_for-room.result (length c.items.result.now) (IsSelected N C I c.items.result.now c.items-in-MatchRows.result.now c.items-in-MatchRows-2.result.now) c.step_rows.new.symbols
+    c.in_ok-found.ensures.apart c.in_ok-found.ensures.rows c.in_err-table.ensures.err.1 in
+    let each = each_items N C I c.items.result.now w.select c.items-in-MatchRows.result.now w.sources c.items-in-MatchRows-2.result.now w.equal many.tuples c.items.ensures c.items-in-MatchRows.ensures c.items-in-MatchRows-2.ensures many.each in
+    let more = many_cells c.room_for-room.result c.in_ok-cells.cells c.loop-step.left (length many.tuples) c.room_for-room.ensures many.few many.more in
+    let over = subst (λ (z : ℕ). c.loop-step.left < length many.tuples * z) c.in_ok-cells.ensures more in
+    let p = passes N C I c.args.steps.now L c.args.rows.now.symbols c.loop-step.symbols c.loop-step.tables.items c.args.limit c.loop-step.left c.loop-step.step-index w.rule w.select w.sources w.equal c.step-item.result many.tuples
+    c.requires.fit c.loop-step-test.true c.step-item.is w.is
+    (number_is N C I c.args.steps.now L c.args.rows.now.symbols c.loop-step.symbols c.loop-step.tables.items c.args.limit c.loop-step.left c.loop-step.step-index w.rule w.select w.sources w.equal f m)
+    f many.distinct each over in
+    let e = err_from_is_err_and c.from_residual-in_err-table.result c.from_residual-in_err-table.ensures.1 in
+    rw (e.1, e.2) (refused_limit N C c.args.steps.now I c.args.limit c.in_err-table.field-0.0 c.in_err-table.ensures.err.0 p)
+
+pub overflow_mul-left : goal.overflow_mul-left
+overflow_mul-left g c =
+    let n = c.count.ensures.count in
+    let few = c.count.ensures.few in
+    let le = c.in_ok-table.ensures.ok.1 in
+    let k = few_cells c.room_for-room.result c.in_ok-cells.cells c.loop-step.left c.count.result c.room_for-room.ensures (omega (arith, n, few)) (omega (arith, n, le)) in
+    omega (arith, k, c.loop-step.auto.left-fits)
+
+pub loop-step-preserved : goal.loop-step-preserved
+loop-step-preserved g c =
+    let N = named_of c.args.source.now in
+    let L = offered c.args.host.now in
+    let C = call_named g.M.Meaning.apply L in
+    let I = facts (shown_tables c.args.rows.now.symbols c.args.rows.now.tables) in
+    let f = c.loop-step.invariant in
+    elim c.match-step.branch [
+      | in-MatchRows+in_ok-cells+in_ok-found+in_ok-table+in_ok-push w ↦
+          let m = match_fits_at N L c.args.steps.now c.loop-step.step-index w.in-MatchRows.rule w.in-MatchRows.select w.in-MatchRows.sources w.in-MatchRows.equal c.step-item.result c.requires.fit c.loop-step-test.true c.step-item.is w.in-MatchRows.is in
+          let lent = table_found w.in_ok-found.found w.in_ok-table.table (MoreTuples w.room_for-room.result (IsSelected N C I w.items.result.now w.items-in-MatchRows.result.now w.items-in-MatchRows-2.result.now))
+          (StandFor (length w.items.result.now) (IsSelected N C I w.items.result.now w.items-in-MatchRows.result.now w.items-in-MatchRows-2.result.now) w.step_rows.new.symbols) w.in_ok-table.ensures.ok.0 w.in_ok-found.ensures.rows in
+          let stand = stand_items N C I w.items.result.now w.in-MatchRows.select w.items-in-MatchRows.result.now w.in-MatchRows.sources w.items-in-MatchRows-2.result.now w.in-MatchRows.equal w.step_rows.new.symbols w.in_ok-table.table
+          w.items.ensures w.items-in-MatchRows.ensures w.items-in-MatchRows-2.ensures lent in
+          let few = few_cells w.room_for-room.result w.in_ok-cells.cells c.loop-step.left (length w.in_ok-table.table.rows) w.room_for-room.ensures w.in_ok-table.ensures.few w.in_ok-table.ensures.ok.1 in
+          let less = subst (λ (z : ℕ). length w.in_ok-table.table.rows * z ≤ c.loop-step.left) w.in_ok-cells.ensures few in
+          rw (w.symbols-is, w.tables-is, w.left-is, w.count.ensures.count, w.in_ok-cells.ensures) (match_step N C I c.args.steps.now c.args.rows.now.symbols c.loop-step.symbols w.step_rows.new.symbols c.loop-step.tables.items w.push.new.self.items
+          c.args.limit c.loop-step.left c.loop-step.step-index w.in-MatchRows.rule w.in-MatchRows.select w.in-MatchRows.sources w.in-MatchRows.equal c.step-item.result w.in_ok-table.table c.loop-step-test.true c.step-item.is w.in-MatchRows.is
+          (number_is N C I c.args.steps.now L c.args.rows.now.symbols c.loop-step.symbols c.loop-step.tables.items c.args.limit c.loop-step.left c.loop-step.step-index w.in-MatchRows.rule w.in-MatchRows.select w.in-MatchRows.sources w.in-MatchRows.equal f m)
+          f w.in_ok-found.ensures.grows w.in_ok-found.ensures.apart stand w.in_ok-push.ensures.items less)
+      | in_default w ↦ rw (w.symbols-is, w.tables-is, w.left-is) (other_step N C I c.args.steps.now c.args.rows.now.symbols c.loop-step.symbols c.loop-step.tables.items c.args.limit c.loop-step.left c.loop-step.step-index c.step-item.result
+          c.loop-step-test.true c.step-item.is w.in_default.not-MatchRows f)
+    ]
+
+pub returns-clause-found : goal.returns-clause-found
+returns-clause-found g c =
+    let N = named_of c.args.source.now in
+    let I = facts (shown_tables c.args.rows.now.symbols c.args.rows.now.tables) in
+    all_found N (call_named g.M.Meaning.apply (offered c.args.host.now)) I c.args.steps.now c.args.rows.now.symbols c.loop-step.symbols c.loop-step.tables.items c.args.limit c.loop-step.left c.loop-step.step-index c.loop-step-test.false c.loop-step.invariant
+
+pub returns-clause-within : goal.returns-clause-within
+returns-clause-within g c = let e = c.loop-step.invariant.cells in omega (arith, e)

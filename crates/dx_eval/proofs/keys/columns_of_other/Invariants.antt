@@ -1,0 +1,6 @@
+use Rattle.std.proofs.Common.{◌≡◌, take}
+use Rattle.dx_eval.specs.Keeping.{other_columns}
+use Rattle.dx_eval.proofs.keys.columns_of_other.Given as goal
+
+abbrev pub invariant-loop-test : goal.invariant-loop-test
+invariant-loop-test l = l.columns.items ≡ other_columns (take l.test-index l.tests)

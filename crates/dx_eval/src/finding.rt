@@ -1,0 +1,147 @@
+// The match tables of a script, within a limit on the cells that are inserted.
+ghost use Rattle.std.specs.Prelude.{◌≡◌, ◌↔◌, ◌<◌, ◌≤◌, ◌*◌, ◌^◌, ℕ};
+ghost use Rattle.std.specs.Prelude.{IfOk, IfErr, MatchOption, Some, length};
+ghost use Rattle.dx_ports.specs.declared.file.Count.TheVariants.{TargetCells};
+ghost use Rattle.dx_funcs.specs.Names.{call_named};
+ghost use Rattle.dx_funcs.specs.Serving.{Serves, offered};
+ghost use Rattle.dx_instance.specs.Numbers.{AreApart};
+ghost use Rattle.dx_instance.specs.Shown.{shown_tables};
+ghost use Rattle.dx_instance.specs.Stored.{facts, widths};
+ghost use Rattle.dx_schema.specs.Names.{named_of};
+ghost use Rattle.dx_schema.specs.Tables.{schema_widths};
+ghost use Rattle.dx_tgd.specs.Texts.{tuples_in};
+ghost use Rattle.dx_eval.specs.declared.fault.EvalFault.TheVariants.{Limit as Refused};
+ghost use Rattle.dx_eval.specs.Evaluating.{cells_for, cells_in, script_cells};
+ghost use Rattle.dx_eval.specs.Finding.{AreFoundSteps, IsRefusal, MatchesFit, matchings};
+
+use crate::fault::EvalFault;
+use crate::found::Found;
+use crate::matching::step_rows;
+use dx_funcs::{Host, Meaning};
+use dx_instance::{Numbers, Rows};
+use dx_ports::{Count, Items, Limit, Text};
+use dx_schema::Schema;
+use dx_script::Step;
+use std::alloc::{AllocError, Global};
+
+// How many cells a step inserts for each tuple of a rule.
+fn step_cells(step: &Step, rule: u32) -> u64
+    ensures { result ≡ cells_in rule step.now }
+{
+    match step {
+        Step::InsertRows {
+            rule: number,
+            cells,
+            ..
+        } => { if *number == rule { cells.len() } else { 0 } }
+        _ => 0,
+    }
+}
+
+// How many cells the steps insert for each tuple of a rule.
+fn rule_cells(steps: &[Step], rule: u32) -> Result<u64, AllocError>
+    ensures { IfOk result (λ n. n ≡ cells_for steps.now rule) }
+{
+    let mut cells = 0u64;
+    for step in steps {
+        let more = step_cells(step, rule);
+        if more > u64::MAX - cells {
+            return Err(AllocError);
+        }
+        cells += more;
+    }
+    Ok(cells)
+}
+
+// How many tuples there is room for, if each of them makes so many cells.
+fn room_for(left: u64, cells: u64) -> u64
+    ensures { (n : ℕ) → n < 2 ^ 64 → (n ≤ result) ↔ (n * cells ≤ left) }
+{
+    if cells == 0 {
+        return u64::MAX;
+    }
+    left / cells
+}
+
+// The limit on inserted cells is passed.
+fn passed(limit: u64) -> EvalFault
+    ensures { result ≡ Refused (record { what = TargetCells; number = limit }) }
+{
+    EvalFault::Limit(Limit {
+        what: Count::TargetCells,
+        number: limit,
+    })
+}
+
+// The rows that were found, unless they are more than there is room for.
+fn within(found: Option<Rows>, room: u64, limit: u64) -> Result<Rows, EvalFault>
+    ensures ok { IfOk result (λ t. (found ≡ Some t) × (length t.rows ≤ room)) }
+    ensures few { IfOk result (λ t. length t.rows < 2 ^ 32) }
+    ensures err { IfErr result (λ e. (e ≡ Refused (record { what = TargetCells; number = limit }))
+        × MatchOption found (Unit {0}) (λ t. (room < length t.rows) × (length t.rows < 2 ^ 32))) }
+{
+    match found {
+        Some(table) => {
+            if table.count() as u64 > room {
+                return Err(passed(limit));
+            }
+            Ok(table)
+        }
+        None => Err(passed(limit)),
+    }
+}
+
+/// The tuples of each match step, as rows of numbers. A step may have as many as the limit leaves room for.
+///
+/// # Errors
+///
+/// `Limit` exactly if the script inserts more cells than the limit, counted for all tuples. `Memory` at any point.
+pub(crate) fn found_steps<F: Fn(u32, &Items<Text>) -> Result<Text, AllocError>, M: Meaning>(
+    alloc: Global,
+    steps: &[Step],
+    source: &Schema,
+    rows: &Numbers,
+    host: &Host<F, M>,
+    limit: u64,
+) -> Result<Found, EvalFault>
+    requires serves { Serves F.Fn M.apply host.now }
+    requires widths { widths (shown_tables rows.now.symbols rows.now.tables) ≡ schema_widths source.now }
+    requires fit { MatchesFit (named_of source.now) (offered host.now) steps.now }
+    requires apart { AreApart rows.now.symbols }
+    ensures found { IfOk result (λ f. AreFoundSteps (named_of source.now) (call_named M.apply (offered host.now))
+        (facts (shown_tables rows.now.symbols rows.now.tables)) f.symbols (matchings steps.now) f.tables.items) }
+    ensures within { IfOk result (λ f. script_cells steps.now (tuples_in f.symbols f.tables.items) ≤ limit) }
+    ensures refused { IfErr result (IsRefusal (named_of source.now) (call_named M.apply (offered host.now)) steps.now
+        (facts (shown_tables rows.now.symbols rows.now.tables)) limit) }
+{
+    let mut symbols = rows.copy_symbols(alloc)?;
+    let mut tables = Vec::new(alloc);
+    let mut left = limit;
+    for step in steps {
+        if let Step::MatchRows {
+            rule,
+            select,
+            sources,
+            equal,
+        } = step
+        {
+            let cells = rule_cells(steps, *rule)?;
+            let room = room_for(left, cells);
+            let found = step_rows(
+                alloc,
+                source,
+                rows,
+                host,
+                select.items(),
+                sources.items(),
+                equal.items(),
+                &mut symbols,
+                room,
+            )?;
+            let table = within(found, room, limit)?;
+            left -= table.count() as u64 * cells;
+            tables.push(table)?;
+        }
+    }
+    Ok(Found { symbols, tables })
+}

@@ -1,0 +1,183 @@
+// What insert steps make of the places that keep steps leave.
+ghost use Rattle.std.specs.Prelude.{◌≡◌, ◌↔◌, ◌<◌, ℕ, List, []};
+ghost use Rattle.std.specs.Prelude.{IfOk, OnOk, IsTrue, Bool, length, map, slice_index};
+ghost use Rattle.dx_ports.specs.Members.{◌∈◌, Each};
+ghost use Rattle.dx_model.specs.Values.{Text as AnyText};
+ghost use Rattle.dx_model.specs.declared.facts.Fact.{Fact as AnyFact};
+ghost use Rattle.dx_instance.specs.Numbers.{Extends};
+ghost use Rattle.dx_instance.specs.Shown.{AreBelow, numbers_of_table, shown_row};
+ghost use Rattle.dx_instance.specs.Stored.{facts, widths};
+ghost use Rattle.dx_joins.specs.Shown.{AreTexts, texts_of};
+ghost use Rattle.dx_schema.specs.Names.{named_of};
+ghost use Rattle.dx_schema.specs.Tables.{schema_widths};
+ghost use Rattle.dx_script.specs.declared.form.Out.{Out as AnyOut};
+ghost use Rattle.dx_script.specs.declared.form.Unless.{Unless as AnyUnless};
+ghost use Rattle.dx_script.specs.declared.form.Step.TheVariants.{InsertRows, KeepRows};
+ghost use Rattle.dx_script.specs.Meaning.{IsInserted, inserted};
+ghost use Rattle.dx_tgd.specs.Gained.{Gains};
+ghost use Rattle.dx_tgd.specs.Planned.{StandsAs, built};
+ghost use Rattle.dx_tgd.specs.Texts.{tuples_in};
+ghost use Rattle.dx_eval.specs.Keeping.{PartStands};
+ghost use Rattle.dx_eval.specs.Inserting.{InsertStands, OutStands, facts_by, placed_fact};
+
+use crate::builder::Builder;
+use crate::keeping::stay_places;
+use crate::names::table_number;
+use dx_instance::{NullId, Rows, Value};
+use dx_schema::Schema;
+use dx_script::{Out, Step};
+use std::alloc::{AllocError, Global};
+
+// The number of what an insert puts into a column, for the row at a place of a rule.
+fn number_of(
+    out: &Out,
+    rule: u32,
+    place: u32,
+    row: &[u32],
+    target: &mut Builder,
+) -> Result<u32, AllocError>
+    requires stands { OutStands (length row.now) out.now }
+    requires texts { AreTexts target.old.symbols row.now }
+    ensures number { IfOk result (λ n. StandsAs target.new.symbols n (inserted rule place (texts_of target.old.symbols row.now) out.now)) }
+    ensures grows { Extends target.old.symbols target.new.symbols }
+    ensures same { built target.new ≡ built target.old }
+{
+    match out {
+        Out::Column(column) => Ok(row[*column as usize]),
+        Out::Literal(text) => target.number(Value::Const(text.copy()?)),
+        Out::Skolem(variable) => target.number(Value::Null(NullId {
+            rule,
+            var: *variable,
+            row: place,
+        })),
+    }
+}
+
+// Puts the numbers of what an insert makes of a place in the buffer.
+fn fill(
+    cells: &[Out],
+    rule: u32,
+    place: u32,
+    row: &[u32],
+    buffer: &mut Vec<u32>,
+    target: &mut Builder,
+) -> Result<(), AllocError>
+    requires stand { Each cells.now (OutStands (length row.now)) }
+    requires texts { AreTexts target.old.symbols row.now }
+    ensures below { OnOk result (AreBelow (length target.new.symbols) buffer.new.items) }
+    ensures shown { OnOk result (shown_row target.new.symbols buffer.new.items
+        ≡ map (inserted rule place (texts_of target.old.symbols row.now)) cells.now) }
+    ensures grows { Extends target.old.symbols target.new.symbols }
+    ensures same { built target.new ≡ built target.old }
+{
+    buffer.clear();
+    for cell in cells {
+        buffer.push(number_of(cell, rule, place, row, target)?)?;
+    }
+    Ok(())
+}
+
+// Adds what an insert step makes of these places.
+fn insert_places(
+    alloc: Global,
+    cells: &[Out],
+    table: u32,
+    rule: u32,
+    rows: &Rows,
+    places: &[u32],
+    target: &mut Builder,
+) -> Result<(), AllocError>
+    requires stand { Each cells.now (OutStands rows.now.width) }
+    requires texts { Each rows.now.rows (AreTexts target.old.symbols) }
+    requires places { Each places.now (λ k. k < length rows.now.rows) }
+    requires table { table < length (built target.old) }
+    requires width { length cells.now ≡ slice_index (widths (built target.old)) table }
+    ensures grows { OnOk result (Extends target.old.symbols target.new.symbols) }
+    ensures gained { OnOk result (Gains (built target.old) (built target.new)
+        (map (placed_fact table rule (map (texts_of target.old.symbols) rows.now.rows) cells.now) places.now)) }
+{
+    let mut buffer = Vec::new(alloc);
+    for place in places {
+        fill(cells, rule, *place, rows.row(*place), &mut buffer, target)?;
+        target.add(table, &buffer)?;
+    }
+    Ok(())
+}
+
+// Adds what the insert steps of a rule make of these places.
+fn insert_rule(
+    alloc: Global,
+    steps: &[Step],
+    schema: &Schema,
+    rule: u32,
+    rows: &Rows,
+    places: &[u32],
+    target: &mut Builder,
+) -> Result<(), AllocError>
+    requires stand { (table : AnyText) (kept : Bool) (cells : List AnyOut) → InsertRows table rule kept cells ∈ steps.now
+        → InsertStands (named_of schema.now) rows.now.width table cells }
+    requires texts { Each rows.now.rows (AreTexts target.old.symbols) }
+    requires places { Each places.now (λ k. k < length rows.now.rows) }
+    requires widths { widths (built target.old) ≡ schema_widths schema.now }
+    ensures grows { OnOk result (Extends target.old.symbols target.new.symbols) }
+    ensures gained { OnOk result (Gains (built target.old) (built target.new)
+        (facts_by (named_of schema.now) steps.now rule (map (texts_of target.old.symbols) rows.now.rows) places.now)) }
+{
+    for step in steps {
+        if let Step::InsertRows {
+            table,
+            rule: number,
+            cells,
+            ..
+        } = step
+        {
+            if *number == rule {
+                let table = table_number(schema, table);
+                insert_places(alloc, cells.items(), table, rule, rows, places, target)?;
+            }
+        }
+    }
+    Ok(())
+}
+
+/// Adds what the insert steps make of the places of all rules.
+///
+/// # Errors
+///
+/// `AllocError` if there is no memory, or numbers run out.
+pub(crate) fn insert_all(
+    alloc: Global,
+    steps: &[Step],
+    schema: &Schema,
+    tables: &[Rows],
+    target: &mut Builder,
+) -> Result<(), AllocError>
+    requires texts { Each tables.now (λ t. Each t.rows (AreTexts target.old.symbols)) }
+    requires keeps { (r : ℕ) (unless : List AnyUnless) → KeepRows r unless ∈ steps.now → Each unless (PartStands tables.now r) }
+    requires inserts { (table : AnyText) (r : ℕ) (kept : Bool) (cells : List AnyOut) → InsertRows table r kept cells ∈ steps.now
+        → InsertStands (named_of schema.now) (numbers_of_table tables.now r).width table cells }
+    requires reads { (table : AnyText) (r : ℕ) (kept : Bool) (cells : List AnyOut) (unless : List AnyUnless)
+        → InsertRows table r kept cells ∈ steps.now → KeepRows r unless ∈ steps.now → IsTrue kept }
+    requires widths { widths (built target.old) ≡ schema_widths schema.now }
+    requires empty { facts (built target.old) ≡ [] }
+    ensures widths { OnOk result (widths (built target.new) ≡ schema_widths schema.now) }
+    ensures facts { OnOk result ((f : AnyFact) → (f ∈ facts (built target.new))
+        ↔ IsInserted (named_of schema.now) steps.now (tuples_in target.old.symbols tables.now) f) }
+{
+    if tables.len() > u32::MAX as usize {
+        return Err(AllocError);
+    }
+    for rule in 0..tables.len() {
+        let places = stay_places(alloc, steps, rule as u32, tables, target.symbols())?;
+        insert_rule(
+            alloc,
+            steps,
+            schema,
+            rule as u32,
+            &tables[rule],
+            &places,
+            target,
+        )?;
+    }
+    Ok(())
+}

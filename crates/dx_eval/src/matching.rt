@@ -1,0 +1,84 @@
+// The tuples of a match step, as rows of numbers.
+ghost use Rattle.std.specs.Prelude.{◌≡◌, ◌<◌, [], ◌∷◌, IfOk, MatchOption, length};
+ghost use Rattle.dx_ports.specs.Members.{◌∈◌, Each};
+ghost use Rattle.dx_funcs.specs.Names.{call_named};
+ghost use Rattle.dx_funcs.specs.Serving.{Serves, offered};
+ghost use Rattle.dx_instance.specs.Numbers.{AreApart, Extends};
+ghost use Rattle.dx_instance.specs.Shown.{shown_tables};
+ghost use Rattle.dx_instance.specs.Stored.{facts, widths};
+ghost use Rattle.dx_joins.specs.Shown.{MoreTuples, StandFor};
+ghost use Rattle.dx_schema.specs.Names.{named_of};
+ghost use Rattle.dx_schema.specs.Tables.{schema_widths};
+ghost use Rattle.dx_script.specs.Fits.{SelectFits};
+ghost use Rattle.dx_script.specs.Names.{table_names};
+ghost use Rattle.dx_eval.specs.Query.{IsSelected};
+ghost use Rattle.dx_eval.specs.Variables.{EqualFits};
+
+use crate::query::Query;
+use dx_funcs::{Host, Meaning};
+use dx_instance::{Numbers, Rows, Symbols};
+use dx_joins::shown_rows;
+use dx_ports::{Items, Text};
+use dx_schema::Schema;
+use dx_script::{Equal, Select};
+use std::alloc::{AllocError, Global};
+
+// The empty tuple alone, for a step without aliases. None if not even one tuple is wanted.
+fn one_row(alloc: Global, most: u64) -> Result<Option<Rows>, AllocError>
+    ensures { IfOk result (λ o. MatchOption o (most ≡ 0) (λ r. r ≡ record { width = 0; rows = [] ∷ [] })) }
+{
+    if most == 0 {
+        return Ok(None);
+    }
+    let mut rows = Rows::new(alloc, 0);
+    rows.push(&[])?;
+    Ok(Some(rows))
+}
+
+/// Rows of numbers that stand for the tuples that a match step selects. The texts of conversions go last in the symbols.
+/// None if there are more than `most` tuples.
+///
+/// # Errors
+///
+/// `AllocError` if there is no memory, numbers run out, or the host answers it.
+pub(crate) fn step_rows<F: Fn(u32, &Items<Text>) -> Result<Text, AllocError>, M: Meaning>(
+    alloc: Global,
+    source: &Schema,
+    rows: &Numbers,
+    host: &Host<F, M>,
+    select: &[Select],
+    sources: &[Text],
+    equal: &[Equal],
+    symbols: &mut Symbols,
+    most: u64,
+) -> Result<Option<Rows>, AllocError>
+    requires serves { Serves F.Fn M.apply host.now }
+    requires widths { widths (shown_tables rows.now.symbols rows.now.tables) ≡ schema_widths source.now }
+    requires named { Each sources.now (λ name. name ∈ table_names (named_of source.now)) }
+    requires selected { Each select.now (SelectFits (named_of source.now) (offered host.now) sources.now) }
+    requires equal { Each equal.now (EqualFits (named_of source.now) sources.now) }
+    requires symbols { Extends rows.now.symbols symbols.old }
+    requires apart { AreApart symbols.old }
+    ensures grows { Extends symbols.old symbols.new }
+    ensures apart { AreApart symbols.new }
+    ensures rows { IfOk result (λ o. MatchOption o
+        (MoreTuples most (IsSelected (named_of source.now) (call_named M.apply (offered host.now))
+        (facts (shown_tables rows.now.symbols rows.now.tables)) select.now sources.now equal.now))
+        (StandFor (length select.now) (IsSelected (named_of source.now) (call_named M.apply (offered host.now))
+        (facts (shown_tables rows.now.symbols rows.now.tables)) select.now sources.now equal.now) symbols.new)) }
+{
+    // The call tells that rows are as wide as their tables.
+    let _count = rows.len();
+    if sources.is_empty() {
+        return one_row(alloc, most);
+    }
+    if select.len() > u32::MAX as usize {
+        return Err(AllocError);
+    }
+    let Query {
+        premise,
+        derived,
+        shown,
+    } = Query::of_step(alloc, source, host, select, sources, equal)?;
+    shown_rows(alloc, &premise, &derived, &shown, rows, symbols, host, most)
+}

@@ -1,0 +1,185 @@
+// A match step as a premise, derived variables and shown variables.
+ghost use Rattle.std.specs.Prelude.{◌≡◌, ◌<◌, ◌^◌, ◌+◌, IfOk, map};
+ghost use Rattle.dx_ports.specs.Members.{◌∈◌, Each};
+ghost use Rattle.dx_model.specs.declared.rules.Cell.TheVariants.{Var};
+ghost use Rattle.dx_funcs.specs.Names.{first_named};
+ghost use Rattle.dx_funcs.specs.Serving.{offered};
+ghost use Rattle.dx_schema.specs.Names.{named_of};
+ghost use Rattle.dx_script.specs.Fits.{CellFits, SelectFits};
+ghost use Rattle.dx_script.specs.Names.{table_names};
+ghost use Rattle.dx_eval.specs.Variables.{AreWide, EqualFits, variable_of};
+ghost use Rattle.dx_eval.specs.Query.{IsQuery, atoms_of, code_found, derived_of, next_after, shown_from};
+
+use crate::names::table_number;
+use crate::variables::{Variables, variable_of_cell};
+use dx_funcs::{Host, Meaning};
+use dx_model::{Atom, Cell, Derived};
+use dx_ports::{Items, Text};
+use dx_schema::Schema;
+use dx_script::{CellRef, Equal, Select};
+use std::alloc::{AllocError, Global};
+
+/// A match step as a premise: its atoms, its derived variables, and the variables that it shows.
+#[derive(Drop)]
+pub(crate) struct Query {
+    pub(crate) premise: Vec<Atom>,
+    pub(crate) derived: Vec<Derived>,
+    pub(crate) shown: Vec<u32>,
+}
+
+// Variables as the cells of an atom.
+fn cells_of_row(alloc: Global, row: &[u32]) -> Result<Items<Cell>, AllocError>
+    ensures { IfOk result (λ cells. cells ≡ map Var row.now) }
+{
+    let mut cells = Items::new(alloc);
+    for x in row {
+        cells.push(Cell::Var(*x))?;
+    }
+    Ok(cells)
+}
+
+// An atom for each alias.
+fn premise_of(
+    alloc: Global,
+    source: &Schema,
+    sources: &[Text],
+    rows: &[Items<u32>],
+) -> Result<Vec<Atom>, AllocError>
+    requires named { Each sources.now (λ name. name ∈ table_names (named_of source.now)) }
+    requires wide { AreWide (named_of source.now) sources.now rows.now }
+    ensures { IfOk result (λ v. v.items ≡ atoms_of (named_of source.now) sources.now rows.now) }
+{
+    let mut premise = Vec::new(alloc);
+    for alias in 0..sources.len() {
+        premise.push(Atom {
+            table: table_number(source, &sources[alias]),
+            cells: cells_of_row(alloc, rows[alias].items())?,
+        })?;
+    }
+    Ok(premise)
+}
+
+// The code of the conversion of this name.
+fn code_of<F: Fn(u32, &Items<Text>) -> Result<Text, AllocError>, M: Meaning>(
+    host: &Host<F, M>,
+    name: &Text,
+) -> u32
+    ensures { result ≡ code_found (first_named (offered host.now) name.now) }
+{
+    match host.find(name) {
+        Some(conversion) => conversion.code,
+        None => 0,
+    }
+}
+
+// The variables of cells.
+fn arguments(
+    alloc: Global,
+    source: &Schema,
+    sources: &[Text],
+    rows: &[Items<u32>],
+    cells: &[CellRef],
+) -> Result<Items<u32>, AllocError>
+    requires named { Each sources.now (λ name. name ∈ table_names (named_of source.now)) }
+    requires wide { AreWide (named_of source.now) sources.now rows.now }
+    requires fit { Each cells.now (CellFits (named_of source.now) sources.now) }
+    ensures { IfOk result (λ args. args ≡ map (variable_of (named_of source.now) sources.now rows.now) cells.now) }
+{
+    let mut args = Items::new(alloc);
+    for cell in cells {
+        args.push(variable_of_cell(source, sources, rows, cell))?;
+    }
+    Ok(args)
+}
+
+// A derived variable for each conversion that is selected.
+fn derived_variables<F: Fn(u32, &Items<Text>) -> Result<Text, AllocError>, M: Meaning>(
+    alloc: Global,
+    source: &Schema,
+    host: &Host<F, M>,
+    sources: &[Text],
+    rows: &[Items<u32>],
+    select: &[Select],
+) -> Result<Vec<Derived>, AllocError>
+    requires named { Each sources.now (λ name. name ∈ table_names (named_of source.now)) }
+    requires wide { AreWide (named_of source.now) sources.now rows.now }
+    requires fit { Each select.now (SelectFits (named_of source.now) (offered host.now) sources.now) }
+    ensures { IfOk result (λ v. v.items
+        ≡ derived_of (offered host.now) (variable_of (named_of source.now) sources.now rows.now) select.now) }
+{
+    let mut derived = Vec::new(alloc);
+    for one in select {
+        if let Select::Call { name, args } = one {
+            derived.push(Derived {
+                code: code_of(host, name),
+                args: arguments(alloc, source, sources, rows, args.items())?,
+            })?;
+        }
+    }
+    Ok(derived)
+}
+
+// The variables that are shown. Those of conversions are counted from a number.
+fn shown_variables<F: Fn(u32, &Items<Text>) -> Result<Text, AllocError>, M: Meaning>(
+    alloc: Global,
+    source: &Schema,
+    host: &Host<F, M>,
+    sources: &[Text],
+    rows: &[Items<u32>],
+    select: &[Select],
+    first: u32,
+) -> Result<Vec<u32>, AllocError>
+    requires named { Each sources.now (λ name. name ∈ table_names (named_of source.now)) }
+    requires wide { AreWide (named_of source.now) sources.now rows.now }
+    requires fit { Each select.now (SelectFits (named_of source.now) (offered host.now) sources.now) }
+    ensures shown { IfOk result (λ v. v.items ≡ shown_from (variable_of (named_of source.now) sources.now rows.now) first select.now) }
+    ensures few { IfOk result (λ v. next_after first select.now < 2 ^ 32) }
+{
+    let mut shown = Vec::new(alloc);
+    let mut next = first;
+    for one in select {
+        match one {
+            Select::Cell(cell) => {
+                shown.push(variable_of_cell(source, sources, rows, cell))?;
+            }
+            Select::Call { .. } => {
+                if next == u32::MAX {
+                    return Err(AllocError);
+                }
+                shown.push(next)?;
+                next += 1;
+            }
+        }
+    }
+    Ok(shown)
+}
+
+impl Query {
+    /// The query of a match step.
+    ///
+    /// # Errors
+    ///
+    /// `AllocError` if there is no memory, or there are more cells or conversions than have numbers.
+    pub(crate) fn of_step<F: Fn(u32, &Items<Text>) -> Result<Text, AllocError>, M: Meaning>(
+        alloc: Global,
+        source: &Schema,
+        host: &Host<F, M>,
+        select: &[Select],
+        sources: &[Text],
+        equal: &[Equal],
+    ) -> Result<Query, AllocError>
+        requires named { Each sources.now (λ name. name ∈ table_names (named_of source.now)) }
+        requires selected { Each select.now (SelectFits (named_of source.now) (offered host.now) sources.now) }
+        requires equal { Each equal.now (EqualFits (named_of source.now) sources.now) }
+        ensures { IfOk result (λ q. IsQuery (named_of source.now) (offered host.now) select.now sources.now equal.now
+            q.premise.items q.derived.items q.shown.items) }
+    {
+        let Variables { rows, count } = Variables::of_step(alloc, source, sources, equal)?;
+        let shown = shown_variables(alloc, source, host, sources, &rows, select, count)?;
+        Ok(Query {
+            premise: premise_of(alloc, source, sources, &rows)?,
+            derived: derived_variables(alloc, source, host, sources, &rows, select)?,
+            shown,
+        })
+    }
+}
