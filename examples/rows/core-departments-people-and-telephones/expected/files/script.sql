@@ -1,0 +1,18 @@
+CREATE TABLE target."unit" ("#id" TEXT, "uname" TEXT, "place" TEXT);
+CREATE TABLE target."staff" ("#up" TEXT, "sid" TEXT, "sname" TEXT, "phone" TEXT);
+CREATE TABLE target."number" ("num" TEXT, "who" TEXT);
+CREATE TABLE m0 AS SELECT DISTINCT a0."dname" AS c0, a0."city" AS c1 FROM source."dept" AS a0;
+CREATE TABLE m1 AS SELECT DISTINCT a0."eid" AS c0, a0."name" AS c1, a0."dname" AS c2, a1."city" AS c3 FROM source."emp" AS a0, source."dept" AS a1 WHERE a0."dname" = a1."dname";
+CREATE TABLE m2 AS SELECT DISTINCT a0."name" AS c0 FROM source."emp" AS a0, source."dept" AS a1 WHERE a0."dname" = a1."dname";
+CREATE TABLE m3 AS SELECT DISTINCT a0."eid" AS c0, a0."num" AS c1, a1."name" AS c2, a1."dname" AS c3, a2."city" AS c4 FROM source."phone" AS a0, source."emp" AS a1, source."dept" AS a2 WHERE a0."eid" = a1."eid" AND a1."dname" = a2."dname";
+CREATE TABLE m4 AS SELECT DISTINCT a0."num" AS c0, a1."name" AS c1 FROM source."phone" AS a0, source."emp" AS a1, source."dept" AS a2 WHERE a0."eid" = a1."eid" AND a1."dname" = a2."dname";
+CREATE TABLE k0 AS SELECT * FROM m0 AS m WHERE NOT EXISTS (SELECT * FROM m1 AS n WHERE n.c2 = m.c0 AND n.c3 = m.c1) AND NOT EXISTS (SELECT * FROM m3 AS n WHERE n.c3 = m.c0 AND n.c4 = m.c1);
+CREATE TABLE k1 AS SELECT * FROM m1 AS m WHERE NOT EXISTS (SELECT * FROM m3 AS n WHERE n.c0 = m.c0 AND n.c2 = m.c1 AND n.c3 = m.c2 AND n.c4 = m.c3);
+CREATE TABLE k2 AS SELECT * FROM m2 AS m WHERE NOT EXISTS (SELECT * FROM m4 AS n WHERE n.c1 = m.c0);
+INSERT INTO target."unit" SELECT SKOLEM(0, 0, m.place), m.c0, m.c1 FROM k0 AS m;
+INSERT INTO target."staff" SELECT SKOLEM(1, 0, m.place), m.c0, m.c1, SKOLEM(1, 1, m.place) FROM k1 AS m;
+INSERT INTO target."unit" SELECT SKOLEM(1, 0, m.place), m.c2, m.c3 FROM k1 AS m;
+INSERT INTO target."number" SELECT SKOLEM(2, 0, m.place), m.c0 FROM k2 AS m;
+INSERT INTO target."staff" SELECT SKOLEM(3, 0, m.place), m.c0, m.c2, m.c1 FROM m3 AS m;
+INSERT INTO target."unit" SELECT SKOLEM(3, 0, m.place), m.c3, m.c4 FROM m3 AS m;
+INSERT INTO target."number" SELECT m.c0, m.c1 FROM m4 AS m;

@@ -1,0 +1,6 @@
+CREATE TABLE target."p" ("x" TEXT, "y" TEXT);
+CREATE TABLE m0 AS SELECT DISTINCT a0."x" AS c0 FROM source."a" AS a0;
+CREATE TABLE m1 AS SELECT DISTINCT a0."x" AS c0 FROM source."b" AS a0;
+CREATE TABLE k1 AS SELECT * FROM m1 AS m WHERE NOT EXISTS (SELECT * FROM m0 AS n WHERE n.c0 = m.c0);
+INSERT INTO target."p" SELECT m.c0, SKOLEM(0, 0, m.place) FROM m0 AS m;
+INSERT INTO target."p" SELECT m.c0, SKOLEM(1, 0, m.place) FROM k1 AS m;
