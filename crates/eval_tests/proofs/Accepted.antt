@@ -1,5 +1,5 @@
 -- Mappings that are accepted fit.
-use Rattle.std.proofs.Common.{◌≡◌, ℕ, ◌<◌, ◌-◌, ◌^◌, List, length, Result, Ok, Err, None}
+use Rattle.std.proofs.Common.{ℕ, ◌<◌, ◌-◌, ◌^◌, List, length, Result, Ok, Err, None}
 use Rattle.std.specs.Prelude.{IfOk}
 use Rattle.dx_funcs.specs.declared.conversion.Conversion.{Conversion}
 use Rattle.dx_stages.specs.Running.{Answers}

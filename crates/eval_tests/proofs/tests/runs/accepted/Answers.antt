@@ -1,4 +1,4 @@
-use Rattle.std.proofs.Common.{◌<◌, ◌-◌, ◌^◌, length, arith}
+use Rattle.std.proofs.Common.{arith}
 use Rattle.dx_funcs.specs.Serving.{offered}
 use Rattle.eval_tests.proofs.Accepted.{fits_of}
 use Rattle.eval_tests.proofs.tests.runs.accepted.Goals as goal
