@@ -1,4 +1,4 @@
--- Rows of numbers that lie one behind the other.
+-- Rows of numbers that lie one after the other.
 use Rattle.std.proofs.Common.{◌≡◌, ◌∙◌, ◌+◌, ◌*◌, ◌<◌, ◌≤◌, ◌-◌, ◌++◌, ◌∷◌, ℕ, zero, suc, List, [], refl, sym, ap, subst, arith, length, get_or, take, drop, map, inl, inr, add-one, not, false}
 use Rattle.std.specs.Bool.{◌==◌}
 use Rattle.std.specs.Ordering.{ordering_index}
@@ -9,7 +9,7 @@ use Rattle.std.proofs.lemmas.Cmp.{nat_list_cmp_total}
 use Rattle.std.proofs.lemmas.List.{length-drop, length-take-le, get_or-take, get_or-drop, get_or_default, take-map, drop-map, take_more, drop-drop, take_all, take-append-le, drop-append-le, nil_from_length}
 use Rattle.std.proofs.lemmas.List.Quantifiers.{all_pairs_push}
 use Rattle.dx_ports.specs.Members.{◌∈◌, here, there, Each}
-use Rattle.dx_ports.proofs.Members.{in_at}
+use Rattle.dx_ports.proofs.Members.{from_append, in_at}
 use Rattle.dx_instance.specs.Cells.{NumberTable, NumbersAscend, rows_in, numbers_at}
 use Rattle.dx_instance.specs.Shown.{AreBelow, renumbered}
 use Rattle.dx_instance.proofs.TableFacts.{numbers_cmp}
@@ -67,6 +67,31 @@ pub cell_below : (t : NumberTable) (n w : ℕ) (cells : List ℕ) (i x b : ℕ) 
 cell_below t n w cells i x b v e f h q =
     let r = in_rows n w cells i x e h q in
     f r.0 (subst (λ (u : NumberTable). r.0 ∈ u.rows) v r.1) x r.2
+
+from_take : (n : ℕ) (xs : List ℕ) {x : ℕ} → x ∈ take n xs → x ∈ xs
+from_take zero xs m = elim m [ ]
+from_take (suc n) [] m = elim m [ ]
+from_take (suc n) (y ∷ xs) (here e) = here e
+from_take (suc n) (y ∷ xs) (there m) = there (from_take n xs m)
+
+from_drop : (n : ℕ) (xs : List ℕ) {x : ℕ} → x ∈ drop n xs → x ∈ xs
+from_drop zero xs m = m
+from_drop (suc n) [] m = elim m [ ]
+from_drop (suc n) (y ∷ xs) m = there (from_drop n xs m)
+
+-- one cell more below a bound
+pub below_one_more : (cells : List ℕ) (i b c : ℕ) → i < length cells → b ≤ c → get_or cells i 0 < c → AreBelow b (take i cells) → AreBelow c (take (i + 1) cells)
+below_one_more cells i b c h up last f x m = elim (from_append (take i cells) (subst (λ (l : List ℕ). x ∈ l) (take_more cells i 0 h) m)) [
+  | inl k ↦ let l = f x k in omega (arith, l, up)
+  | inr (here e) ↦ rw (← e) last
+  | inr (there k) ↦ elim k [ ]
+]
+
+-- what holds of all cells holds of the cells of each row
+pub rows_below : (n w b : ℕ) (cells : List ℕ) → AreBelow b cells → Each (rows_in n w cells) (AreBelow b)
+rows_below zero w b cells f r m = elim m [ ]
+rows_below (suc n) w b cells f r (here e) = rw (← e) (λ x h. f x (from_take w cells h))
+rows_below (suc n) w b cells f r (there m) = rows_below n w b (drop w cells) (λ x h. f x (from_drop w cells h)) r m
 
 rows_map : (f : ℕ → ℕ) (n w : ℕ) (cells : List ℕ) → rows_in n w (map f cells) ≡ map (λ (r : List ℕ). map f r) (rows_in n w cells)
 rows_map f zero w cells = refl

@@ -127,7 +127,7 @@ parted rows x number from is i j d h b t =
       | inr l ↦ elim low [ inl k ↦ inl (omega (arith, l.0, k)) | inr k ↦ inr (l.0 ∙ k.0, omega (arith, l.1, k.1)) ]
     ]))
 
--- an entry for a place with the number, from a place on, stands behind the first
+-- an entry for a place with the number, from a place on, stands after the first
 behind : (rows : List (List ℕ)) (x : ColumnIndex) (number from first p : ℕ) → IsIndex rows x → IsPartitionPoint (λ y. test number from y ≡ true) (λ y. test number from y ≡ false) x.entries.items first
     → from ≤ p → p < length rows → number_in rows x.column p ≡ number → (k : ℕ) × (first ≤ k) × (k < length x.entries.items) × ((entry_at x k).1 ≡ p) × ((entry_at x k).0 ≡ number)
 behind rows x number from first p is parts l h e =

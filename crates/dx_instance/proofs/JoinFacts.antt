@@ -1,4 +1,4 @@
--- The texts of values one behind the other.
+-- The texts of values one after the other.
 use Rattle.std.proofs.Common.{◌≡◌, ◌∙◌, ◌+◌, ◌<◌, ◌≤◌, ◌++◌, ◌∷◌, ℕ, List, [], refl, sym, ap, arith, length, get_or, take, drop, map}
 use Rattle.std.proofs.lemmas.List.{append_assoc, append-nil, length-append, length-drop, drop-drop, drop_more, map_more, map-append, length-map}
 use Rattle.dx_model.specs.declared.values.Value.{Value}

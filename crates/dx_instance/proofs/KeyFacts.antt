@@ -1,7 +1,7 @@
 -- Items that are sorted by a key first: where the key never falls while the items rise, the order is that of the items.
 use Rattle.std.proofs.Common.{◌≡◌, ◌∙◌, ◌+◌, ◌*◌, ◌-◌, ◌<◌, ◌≤◌, ◌^◌, ◌∷◌, ℕ, zero, suc, List, [], Bool, refl, sym, ap, arith, length, get_or, drop, add-one, inl, inr, IsPermutation, All, IsSortedBy, rules, below_more, ◌++◌}
 use Rattle.std.specs.Prelude.{slice_index}
-use Rattle.std.specs.Ordering.{is_lt, nat_cmp, ordering_then, ordering_reverse}
+use Rattle.std.specs.Ordering.{is_lt, nat_cmp, ord_max, ordering_then, ordering_reverse}
 use Rattle.std.specs.Cmp.{IsTotalOrder}
 use Rattle.std.specs.declared.cmp.Ordering.{Ordering}
 use Rattle.std.specs.declared.cmp.Ordering.TheVariants.{Less, Equal, Greater}
@@ -13,7 +13,9 @@ use Rattle.std.proofs.Math.Nat.{mul-le-mul_right, pow-suc, pow-le-pow_right}
 use Rattle.std.proofs.lemmas.Cmp.{nat_list_cmp_total}
 use Rattle.dx_instance.specs.Cells.{AreInOrder, numbers_at}
 use Rattle.dx_instance.proofs.OrderFacts.{places_ordered}
-use Rattle.dx_instance.specs.Keys.{packed, AreSmall, IsSmallRow, places_of, two_of, AreKeyed, RowsAreKeyed}
+use Rattle.dx_instance.specs.Keys.{packed, AreSmall, HasRoom, places_of, AreKeyed, RowsAreKeyed}
+use Rattle.dx_instance.specs.Shown.{AreBelow}
+use Rattle.dx_ports.specs.Members.{here, there}
 use Rattle.dx_instance.proofs.TableFacts.{numbers_cmp, numbers_exact}
 
 nat_less : (x y : ℕ) → x < y → nat_cmp x y ≡ Less
@@ -143,18 +145,19 @@ module _ {X : Type 0} (cmp : X → X → Ordering) (total : IsTotalOrder cmp) (e
 abbrev pub row_key_lt : List (List ℕ) → (ℕ × ℕ) → (ℕ × ℕ) → Bool
 row_key_lt rows a b = is_lt (by_key numbers_cmp (numbers_at rows) a b)
 
-row_rises : (x y : List ℕ) → IsSmallRow x → IsSmallRow y → numbers_cmp x y ≡ Less → two_of x ≤ two_of y
-row_rises x y a b h = rises (2 ^ 32) 2 0 x y a h
+module _ (b n : ℕ) where
+  row_rises : (x y : List ℕ) → AreSmall b n x → AreSmall b n y → numbers_cmp x y ≡ Less → packed b n 0 x ≤ packed b n 0 y
+  row_rises x y s t h = rises b n 0 x y s h
 
-pub row_key_total : (rows : List (List ℕ)) → IsTotalOrder (by_key numbers_cmp (numbers_at rows))
-row_key_total rows = by_key_total numbers_cmp nat_list_cmp_total numbers_exact (numbers_at rows) two_of IsSmallRow row_rises
+  pub row_key_total : (rows : List (List ℕ)) → IsTotalOrder (by_key numbers_cmp (numbers_at rows))
+  row_key_total rows = by_key_total numbers_cmp nat_list_cmp_total numbers_exact (numbers_at rows) (packed b n 0) (AreSmall b n) row_rises
 
--- what a sort of the keyed places comes to
-pub keys_ordered : (rows : List (List ℕ)) (ks qs : List (ℕ × ℕ)) → RowsAreKeyed rows ks (length rows) → IsPermutation ks qs → IsSortedBy (row_key_lt rows) qs → AreInOrder rows (places_of qs)
-keys_ordered rows ks qs a p s =
-    places_ordered rows (places_of ks) (places_of qs) (length-map ks (λ (k : ℕ × ℕ). k.1) ∙ a.many) (λ k h. get_or-map (λ (q : ℕ × ℕ). q.1) ks k (0, 0) 0 (omega (arith, h, a.many)) ∙ (a.all k h).place_is)
-    (IsPermutation-map (λ (k : ℕ × ℕ). k.1) ks qs p) (keys_sorted numbers_cmp nat_list_cmp_total numbers_exact (numbers_at rows) two_of IsSmallRow row_rises qs
-    (All-permutation (IsKeyOf (numbers_at rows) two_of IsSmallRow) ks qs p (all_keys (numbers_at rows) two_of IsSmallRow ks (length rows) a)) s)
+  -- what a sort of the keyed places comes to
+  pub keys_ordered : (rows : List (List ℕ)) (ks qs : List (ℕ × ℕ)) → RowsAreKeyed b n rows ks (length rows) → IsPermutation ks qs → IsSortedBy (row_key_lt rows) qs → AreInOrder rows (places_of qs)
+  keys_ordered rows ks qs a p s =
+      places_ordered rows (places_of ks) (places_of qs) (length-map ks (λ (k : ℕ × ℕ). k.1) ∙ a.many) (λ k h. get_or-map (λ (q : ℕ × ℕ). q.1) ks k (0, 0) 0 (omega (arith, h, a.many)) ∙ (a.all k h).place_is)
+      (IsPermutation-map (λ (k : ℕ × ℕ). k.1) ks qs p) (keys_sorted numbers_cmp nat_list_cmp_total numbers_exact (numbers_at rows) (packed b n 0) (AreSmall b n) row_rises qs
+      (All-permutation (IsKeyOf (numbers_at rows) (packed b n 0) (AreSmall b n)) ks qs p (all_keys (numbers_at rows) (packed b n 0) (AreSmall b n) ks (length rows) a)) s)
 
 pub place_read : (keys : List (ℕ × ℕ)) (i : ℕ) (k : ℕ × ℕ) → i < length (places_of keys) → k ≡ get_or keys i k → k.1 ≡ get_or (places_of keys) i 0
 place_read keys i k h e = ap (λ (q : ℕ × ℕ). q.1) e ∙ sym (get_or-map (λ (q : ℕ × ℕ). q.1) keys i k 0 (omega (arith, h, length-map keys (λ (q : ℕ × ℕ). q.1))))
@@ -164,21 +167,67 @@ pub packed_step : (b n p : ℕ) (xs : List ℕ) → packed b (suc n) p xs ≡ pa
 packed_step b n p [] = let z : p * b + 0 ≡ p * b = omega arith in rw z refl
 packed_step b n p (x ∷ xs) = refl
 
-pub byte_more : (text : List ℕ) (i key byte : ℕ) → i < 8 → byte ≡ slice_index text i → packed 256 (8 - i) key (drop i text) ≡ packed 256 8 0 text → packed 256 (8 - (i + 1)) (key * 256 + byte) (drop (i + 1) text) ≡ packed 256 8 0 text
-byte_more text i key byte h e r =
-    let n : 8 - i ≡ suc (8 - (i + 1)) = omega (arith, h) in
-    let head : slice_index (drop i text) 0 ≡ byte = get_or-drop i text 0 0 ∙ (let z : i + 0 ≡ i = omega arith in ap (λ (j : ℕ). get_or text j 0) z) ∙ sym e in
-    let one = packed_step 256 (8 - (i + 1)) key (drop i text) in
-    let whole : packed 256 (8 - i) key (drop i text) ≡ packed 256 (8 - (i + 1)) (key * 256 + byte) (drop (i + 1) text) =
-    ap (λ (m : ℕ). packed 256 m key (drop i text)) n ∙ one ∙ (λ j. packed 256 (8 - (i + 1)) (key * 256 + head j) (drop-drop 1 i text j)) in
+-- a number with one digit more, and what is left to read
+pub digit_more : (b n i key digit : ℕ) (xs : List ℕ) → i < n → digit ≡ slice_index xs i → packed b (n - i) key (drop i xs) ≡ packed b n 0 xs → packed b (n - (i + 1)) (key * b + digit) (drop (i + 1) xs) ≡ packed b n 0 xs
+digit_more b n i key digit xs h e r =
+    let m : n - i ≡ suc (n - (i + 1)) = omega (arith, h) in
+    let head : slice_index (drop i xs) 0 ≡ digit = get_or-drop i xs 0 0 ∙ (let z : i + 0 ≡ i = omega arith in ap (λ (j : ℕ). get_or xs j 0) z) ∙ sym e in
+    let one = packed_step b (n - (i + 1)) key (drop i xs) in
+    let whole : packed b (n - i) key (drop i xs) ≡ packed b (n - (i + 1)) (key * b + digit) (drop (i + 1) xs) =
+    ap (λ (k : ℕ). packed b k key (drop i xs)) m ∙ one ∙ (λ j. packed b (n - (i + 1)) (key * b + head j) (drop-drop 1 i xs j)) in
     sym whole ∙ r
 
-pub byte_fits : (i key byte : ℕ) → i < 8 → key < 256 ^ i → byte < 256 → (key * 256 + byte < 256 ^ (i + 1)) × (key * 256 + byte < 2 ^ 64)
-byte_fits i key byte h b c =
-    let s : 256 ^ (i + 1) ≡ 256 ^ i * 256 = ap (λ (m : ℕ). 256 ^ m) (add-one i) ∙ pow-suc 256 i in
-    let most : 256 ^ (i + 1) ≤ 256 ^ 8 = pow-le-pow_right {n = 256} (omega arith) {i = i + 1} {j = 8} (omega (arith, h)) in
-    let up = mul-le-mul_right 256 (suc_below b) in
-    (omega (arith, s, up, c), omega (arith, s, up, c, most))
+pub digit_fits : (b n i key digit : ℕ) → HasRoom b n → i < n → key < b ^ i → digit < b → (key * b + digit < b ^ (i + 1)) × (key * b + digit < 2 ^ 64)
+digit_fits b n i key digit room h k d =
+    let s : b ^ (i + 1) ≡ b ^ i * b = ap (λ (m : ℕ). b ^ m) (add-one i) ∙ pow-suc b i in
+    let most : b ^ (i + 1) ≤ b ^ n = pow-le-pow_right {n = b} room.some {i = i + 1} {j = n} (omega (arith, h)) in
+    let up = mul-le-mul_right b (suc_below k) in
+    let f = room.fits in
+    (omega (arith, s, up, d), omega (arith, s, up, d, most, f))
   where
     suc_below : {x y : ℕ} → x < y → x + 1 ≤ y
     suc_below k = omega (arith, k)
+
+bytes_fit : HasRoom 256 8
+bytes_fit = record { some = omega arith; fits = omega arith }
+
+pub byte_more : (text : List ℕ) (i key byte : ℕ) → i < 8 → byte ≡ slice_index text i → packed 256 (8 - i) key (drop i text) ≡ packed 256 8 0 text → packed 256 (8 - (i + 1)) (key * 256 + byte) (drop (i + 1) text) ≡ packed 256 8 0 text
+byte_more text i key byte h e r = digit_more 256 8 i key byte text h e r
+
+pub byte_fits : (i key byte : ℕ) → i < 8 → key < 256 ^ i → byte < 256 → (key * 256 + byte < 256 ^ (i + 1)) × (key * 256 + byte < 2 ^ 64)
+byte_fits i key byte h b c = digit_fits 256 8 i key byte bytes_fit h b c
+
+-- numbers that are all below a bound, and 0 after them
+pub below_small : (b n : ℕ) (xs : List ℕ) → 0 < b → AreBelow b xs → AreSmall b n xs
+below_small b n xs z a i h = at xs i a
+  where
+    at : (ys : List ℕ) (k : ℕ) → AreBelow b ys → slice_index ys k < b
+    at [] k f = z
+    at (y ∷ ys) zero f = f y (here refl)
+    at (y ∷ ys) (suc k) f = at ys k (λ x m. f x (there m))
+
+pub below_more_bound : (b c : ℕ) (xs : List ℕ) → b ≤ c → AreBelow b xs → AreBelow c xs
+below_more_bound b c xs h f x m = let l = f x m in omega (arith, l, h)
+
+-- the greater of two numbers
+pub record IsGreater (a b m : ℕ) : Type 0 where
+  pub first : a ≤ m
+  pub second : b ≤ m
+  pub least : (n : ℕ) → a ≤ n → b ≤ n → m ≤ n
+
+pub max_is : (a b m : ℕ) → m ≡ ord_max nat_cmp a b → IsGreater a b m
+max_is a b m s = elim (cases_lt b a) [
+  | inl h ↦
+      let e : m ≡ a = s ∙ rw (nat_less b a h) refl in
+      record { first = omega (arith, e); second = omega (arith, e, h); least = λ n p q. omega (arith, e, p) }
+  | inr h ↦ elim (cases_lt a b) [
+    | inl k ↦
+        let g : nat_cmp b a ≡ Greater = nat_cmp_total.antisymm b a ∙ ap ordering_reverse (nat_less a b k) in
+        let e : m ≡ b = s ∙ rw g refl in
+        record { first = omega (arith, e, k); second = omega (arith, e); least = λ n p q. omega (arith, e, q) }
+    | inr k ↦
+        let q : a ≡ b = omega (arith, h, k) in
+        let e : m ≡ b = s ∙ ap (λ (x : ℕ). ord_max nat_cmp x b) q ∙ rw (nat_self b) refl in
+        record { first = omega (arith, e, q); second = omega (arith, e); least = λ n u v. omega (arith, e, v) }
+  ]
+]

@@ -1,5 +1,5 @@
 -- Numbers that compare as the first items of a list: lists are sorted by these first.
-use Rattle.std.specs.Prelude.{◌≡◌, ℕ, zero, suc, ◌+◌, ◌-◌, ◌*◌, ◌^◌, ◌<◌, List, [], ◌∷◌, length, map, slice_index, slice_index_or}
+use Rattle.std.specs.Prelude.{◌≡◌, ℕ, zero, suc, ◌+◌, ◌-◌, ◌*◌, ◌^◌, ◌<◌, ◌≤◌, List, [], ◌∷◌, length, map, slice_index, slice_index_or}
 use Rattle.dx_model.specs.declared.values.Value.{Value}
 use Rattle.dx_model.specs.declared.values.Value.TheVariants.{Const, Null}
 use Rattle.dx_ports.specs.Members.{◌∈◌}
@@ -20,12 +20,10 @@ AreSmall b n xs = (i : ℕ) → i < n → slice_index xs i < b
 abbrev pub places_of : List (ℕ × ℕ) → List ℕ
 places_of keys = map (λ (k : ℕ × ℕ). k.1) keys
 
--- the first two numbers of a row in one
-abbrev pub two_of : List ℕ → ℕ
-two_of row = packed (2 ^ 32) 2 0 row
-
-abbrev pub IsSmallRow : List ℕ → Type 0
-IsSmallRow row = AreSmall (2 ^ 32) 2 row
+-- n digits to the base b make a number of 64 bits
+pub record HasRoom (b n : ℕ) : Type 0 where
+  pub some : 0 < b
+  pub fits : b ^ n ≤ 2 ^ 64
 
 -- the first eight bytes of a constant in one; nulls come last
 abbrev pub value_key : Value → ℕ
@@ -47,8 +45,9 @@ pub record AreKeyed {X : Type 0} (at : ℕ → X) (key : X → ℕ) (Small : X �
   pub many : length keys ≡ n
   pub all : (k : ℕ) → k < n → IsKeyed at key Small k (slice_index_or keys k (0, 0))
 
-abbrev pub RowsAreKeyed : List (List ℕ) → List (ℕ × ℕ) → ℕ → Type 0
-RowsAreKeyed rows keys n = AreKeyed (numbers_at rows) two_of IsSmallRow keys n
+-- the keys of rows: their first n numbers, as digits to the base b
+abbrev pub RowsAreKeyed : ℕ → ℕ → List (List ℕ) → List (ℕ × ℕ) → ℕ → Type 0
+RowsAreKeyed b n rows keys many = AreKeyed (numbers_at rows) (packed b n 0) (AreSmall b n) keys many
 
 abbrev pub ValuesAreKeyed : List Value → List (ℕ × ℕ) → ℕ → Type 0
 ValuesAreKeyed symbols keys n = AreKeyed (value_of symbols) value_key IsSmallValue keys n

@@ -1,15 +1,16 @@
 // Rows of numbers, one after the other.
-ghost use Rattle.std.specs.Prelude.{◌≡◌, ◌<◌, ◌-◌, ◌^◌, ℕ, List, [], ◌∷◌, ◌++◌, IfOk, OnOk, OnErr, IsTrue, ◌↔◌, length, slice_index};
+ghost use Rattle.std.specs.Prelude.{◌≡◌, ◌<◌, ◌≤◌, ◌-◌, ◌^◌, ℕ, List, [], ◌∷◌, ◌++◌, IfOk, OnOk, OnErr, IsTrue, ◌↔◌, length, slice_index};
 ghost use Rattle.std.specs.Bool.{OnTrue};
 ghost use Rattle.dx_ports.specs.Members.{Each};
 ghost use Rattle.dx_instance.specs.Chains.{AreChains};
 ghost use Rattle.dx_instance.specs.Cells.{AreInOrder, IsOrderOf, NumbersAscend, numbers_at, with_numbers};
-ghost use Rattle.dx_instance.specs.Keys.{AreSmall, RowsAreKeyed, packed, places_of};
+ghost use Rattle.dx_instance.specs.Keys.{HasRoom, RowsAreKeyed, places_of};
 ghost use Rattle.dx_instance.specs.Shown.{AreBelow, renumbered};
 
 use crate::chains::Chains;
+use crate::packing::Packing;
 use std::alloc::{AllocError, Global};
-use std::cmp::Ordering;
+use std::cmp::{Ordering, max};
 use std::marker::Model;
 
 /// Rows of one width. A contract sees the list of the rows.
@@ -115,13 +116,27 @@ impl Rows {
         }
     }
 
-    // The place of each row, with a key that compares as the first two numbers of the row.
-    fn keyed_places(&self, alloc: Global) -> Result<Vec<(u64, u32)>, AllocError>
-        ensures { IfOk result (λ keys. RowsAreKeyed self.now.rows keys.items (length self.now.rows)) }
+    // A number that is above all numbers of the rows.
+    fn bound(&self) -> u64
+        ensures below { Each self.now.rows (AreBelow result) }
+        ensures small { result ≤ 2 ^ 32 }
+    {
+        let mut bound = 0u64;
+        for cell in self.cells.as_slice() {
+            bound = max(bound, *cell as u64 + 1);
+        }
+        bound
+    }
+
+    // The place of each row, with a key that compares as the first numbers of the row.
+    fn keyed_places(&self, alloc: Global, packing: Packing) -> Result<Vec<(u64, u32)>, AllocError>
+        requires room { HasRoom packing.base packing.digits }
+        requires below { Each self.now.rows (AreBelow packing.base) }
+        ensures { IfOk result (λ keys. RowsAreKeyed packing.base packing.digits self.now.rows keys.items (length self.now.rows)) }
     {
         let mut keys = Vec::with_capacity(alloc, self.count as usize)?;
         for place in 0..self.count {
-            keys.push((first_two(self.row(place)), place))?;
+            keys.push((packing.key_of(self.row(place)), place))?;
         }
         Ok(keys)
     }
@@ -130,7 +145,7 @@ impl Rows {
     fn places_in_order(&self, alloc: Global) -> Result<Vec<(u64, u32)>, AllocError>
         ensures { IfOk result (λ keys. AreInOrder self.now.rows (places_of keys.items)) }
     {
-        let mut keys = self.keyed_places(alloc)?;
+        let mut keys = self.keyed_places(alloc, Packing::below(self.bound()))?;
         keys.sort_unstable_by(|a, b| match a.0.cmp(&b.0) {
             Ordering::Equal => self.row_or_none(a.1).cmp(&self.row_or_none(b.1)),
             other => other,
@@ -211,21 +226,4 @@ impl Rows {
             cells,
         })
     }
-}
-
-// The number at a place of a row, and 0 if the row is shorter.
-fn number_or_zero(row: &[u32], place: usize) -> u32
-    ensures { result ≡ slice_index row.now place }
-{
-    if place < row.len() { row[place] } else { 0 }
-}
-
-// A number that compares as the first two numbers of the row.
-fn first_two(row: &[u32]) -> u64
-    ensures key { result ≡ packed (2 ^ 32) 2 0 row.now }
-    ensures small { AreSmall (2 ^ 32) 2 row.now }
-{
-    let first = number_or_zero(row, 0);
-    let second = number_or_zero(row, 1);
-    first as u64 * 4_294_967_296 + second as u64
 }

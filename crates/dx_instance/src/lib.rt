@@ -22,6 +22,7 @@ mod laws;
 mod null_map;
 mod numbers;
 mod ordering;
+mod packing;
 mod symbols;
 mod table;
 mod value_texts;

@@ -8,5 +8,5 @@ use Rattle.dx_instance.proofs.cells.Rows.places_in_order.Goals as goal
 pub returns : goal.returns
 returns c =
     let rows = c.args.self.now.rows in
-    keys_ordered rows c.in_ok-keys.keys.items c.sort_unstable_by.new.self.items c.in_ok-keys.ensures c.sort_unstable_by.ensures.permutation
-    (c.sort_unstable_by.ensures.sorted (row_key_lt rows) (ranks_by (row_key_total rows) (λ k. k)) (always_returns_same _ (λ a r. is_lt r ≡ row_key_lt rows a.0.now a.1.0.now) _ (λ a r f k. search rules)))
+    keys_ordered c.below.result.base c.below.result.digits rows c.in_ok-keys.keys.items c.sort_unstable_by.new.self.items c.in_ok-keys.ensures c.sort_unstable_by.ensures.permutation
+    (c.sort_unstable_by.ensures.sorted (row_key_lt rows) (ranks_by (row_key_total c.below.result.base c.below.result.digits rows) (λ k. k)) (always_returns_same _ (λ a r. is_lt r ≡ row_key_lt rows a.0.now a.1.0.now) _ (λ a r f k. search rules)))
