@@ -1,23 +1,22 @@
 -- The instance of the facts that are left.
 use Rattle.std.proofs.Common.{◌≡◌, ◌∙◌, ℕ, zero, suc, ◌+◌, ◌<◌, ◌≤◌, ◌-◌, ◌^◌, Bool, true, false, List, [], ◌∷◌, ◌++◌, refl, sym, ap}
-use Rattle.std.proofs.Common.{subst, arith, length, get_or, map, inl, inr, Result, Ok, Err}
+use Rattle.std.proofs.Common.{arith, length, get_or, map, inl, inr, Result, Ok, Err}
 use Rattle.std.specs.Prelude.{IfOk}
 use Rattle.std.specs.declared.alloc.AllocError.{AllocError}
 use Rattle.std.proofs.lemmas.Bool.{cases_eq, true≢false}
 use Rattle.std.proofs.lemmas.List.{get_or_append_left, get_or_push, length-append, length-map, length_push}
 use Rattle.std.proofs.lemmas.Grind.{same_number_lists}
-use Rattle.dx_ports.specs.Members.{◌∈◌, ◌⊆◌, ◌≈◌, Each, here, there}
+use Rattle.dx_ports.specs.Members.{◌∈◌, ◌≈◌, Each, here, there}
 use Rattle.dx_ports.proofs.Members.{contains_from_in, from_append, from_map, in_at, in_left, in_map, in_right}
 use Rattle.dx_model.specs.declared.values.Value.{Value}
 use Rattle.dx_model.specs.declared.facts.Fact.{Fact}
 use Rattle.dx_instance.specs.Cells.{NumberTable, numbers_at, with_numbers}
-use Rattle.dx_instance.specs.Numbers.{value_of}
-use Rattle.dx_instance.specs.Shown.{AreBelow, NumbersFit, PartsFit, RowsFit, numbers_of_table, shown, shown_row, shown_tables}
-use Rattle.dx_instance.specs.Stored.{IsSorting, TableRows, facts, rows_of, table_at, widths}
+use Rattle.dx_instance.specs.Shown.{NumbersFit, PartsFit, RowsFit, numbers_of_table, shown, shown_row, shown_tables}
+use Rattle.dx_instance.specs.Stored.{IsSorting, TableRows, facts, rows_of, widths}
 use Rattle.dx_instance.specs.Places.{row_at}
 use Rattle.dx_instance.proofs.ShownFacts.{is_shown, row_shown}
 use Rattle.dx_instance.proofs.StoredFacts.{fact_from_row, fact_table, other_default, row_from_fact}
-use Rattle.dx_hom.specs.View.{fact_at, gone_at}
+use Rattle.dx_hom.specs.View.{gone_at}
 use Rattle.dx_core.specs.Left.{AreRowsLeft, left}
 use Rattle.dx_core.proofs.Marked.{from_left, to_left}
 

@@ -1,5 +1,5 @@
 -- Null maps that are made null by null.
-use Rattle.std.proofs.Common.{◌≡◌, ◌∙◌, ◌+◌, ◌<◌, ℕ, List, [], ◌∷◌, ◌++◌, Bool, true, false, cond, refl, sym, ap, subst, inl, inr, length}
+use Rattle.std.proofs.Common.{◌≡◌, ◌∙◌, ◌+◌, ◌<◌, ℕ, List, [], ◌∷◌, ◌++◌, Bool, true, false, cond, refl, sym, ap, inl, inr, length}
 use Rattle.std.proofs.Common.{get_or, take}
 use Rattle.std.specs.Prelude.{Option, Some, None, T, map, ◌&&◌}
 use Rattle.std.specs.FinMap as finite
@@ -13,7 +13,7 @@ use Rattle.dx_ports.specs.Members.{◌∈◌, Each, here, there}
 use Rattle.dx_ports.proofs.Members.{from_append, from_map, in_left, in_right}
 use Rattle.dx_model.specs.declared.values.NullId.{NullId}
 use Rattle.dx_model.specs.declared.values.Value.{Value}
-use Rattle.dx_model.specs.declared.values.Value.TheVariants.{Const, Null}
+use Rattle.dx_model.specs.declared.values.Value.TheVariants.{Null}
 use Rattle.dx_model.specs.declared.facts.NullPair.{NullPair}
 use Rattle.dx_model.specs.Instances.{IsNullMap, same_null}
 use Rattle.dx_model.specs.Values.{null_cmp}

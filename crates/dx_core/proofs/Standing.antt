@@ -1,19 +1,18 @@
 -- Where a row stands among rows that ascend.
-use Rattle.std.proofs.Common.{◌≡◌, ◌∙◌, ℕ, zero, suc, ◌+◌, ◌<◌, ◌≤◌, List, [], ◌∷◌, refl, sym, ap, subst, arith, length, get_or, take}
+use Rattle.std.proofs.Common.{◌≡◌, ◌∙◌, ℕ, zero, suc, ◌+◌, ◌<◌, ◌≤◌, List, [], ◌∷◌, refl, sym, ap, arith, length, get_or, take}
 use Rattle.std.proofs.Common.{inl, inr}
-use Rattle.std.specs.Ordering.{ordering_then}
 use Rattle.std.specs.declared.cmp.Ordering.{Ordering}
 use Rattle.std.specs.declared.cmp.Ordering.TheVariants.{Less, Equal, Greater}
 use Rattle.std.specs.Cmp.{IsTotalOrder}
 use Rattle.std.proofs.lemmas.Bool.{cases_eq, cases_lt}
 use Rattle.std.proofs.lemmas.Cmp.{lists_total}
-use Rattle.dx_ports.specs.Members.{◌∈◌, Each, here, there}
+use Rattle.dx_ports.specs.Members.{◌∈◌, Each}
 use Rattle.dx_ports.proofs.Members.{contains_from_in, in_at}
 use Rattle.dx_model.specs.declared.values.Value.{Value}
 use Rattle.dx_model.specs.Values.{RowsAscend, row_cmp, value_cmp}
 use Rattle.dx_model.proofs.Orders.{value_total}
 use Rattle.dx_model.specs.declared.facts.Fact.{Fact}
-use Rattle.dx_instance.specs.Stored.{TableRows, facts, rows_of, table_at}
+use Rattle.dx_instance.specs.Stored.{TableRows, facts, table_at}
 use Rattle.dx_instance.proofs.StoredFacts.{fact_table, other_default, row_from_fact}
 use Rattle.dx_hom.specs.Searching.{FitsIn}
 

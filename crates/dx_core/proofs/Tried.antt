@@ -1,10 +1,11 @@
 -- What a search tells of a block.
-use Rattle.std.proofs.Common.{◌≡◌, ◌∙◌, ℕ, suc, ◌+◌, ◌<◌, ◌≤◌, Bool, true, false, List, [], ◌∷◌, ◌⊎◌, inl, inr, refl, sym, ap, arith}
+use Rattle.std.proofs.Common.{◌≡◌, ◌∙◌, suc, ◌≤◌, Bool, true, false, List, [], ◌∷◌, refl, sym, ap, arith}
 use Rattle.std.proofs.Common.{length}
 use Rattle.std.specs.Prelude.{◌↔◌, IsTrue, Option, Some, None}
+use Rattle.std.specs.Bool.{OnTrue}
 use Rattle.std.specs.FinMap as finite
 use Rattle.std.proofs.lemmas.Bool.{true≢false}
-use Rattle.dx_ports.specs.Members.{◌∈◌, ◌⊆◌, Distinct, Each, here, there}
+use Rattle.dx_ports.specs.Members.{◌∈◌, ◌⊆◌, ◌≈◌, Distinct, Each, here, there}
 use Rattle.dx_ports.proofs.Members.{from_flat_map, in_flat_map}
 use Rattle.dx_model.specs.declared.values.NullId.{NullId}
 use Rattle.dx_model.specs.declared.values.Value.{Value}
@@ -17,11 +18,13 @@ use Rattle.dx_instance.specs.NullMaps.{ByNull}
 use Rattle.dx_instance.specs.Stored.{TableRows, facts}
 use Rattle.dx_hom.specs.Narrowing.{AtMost, nulls_in}
 use Rattle.dx_hom.specs.Room.{Room}
-use Rattle.dx_hom.specs.Searching.{FitsIn, Reaches}
+use Rattle.dx_hom.specs.declared.matching.Found.{Found}
+use Rattle.dx_hom.specs.Searching.{Ends, FitsIn, Reaches}
+use Rattle.dx_hom.proofs.Steps.{ends_same}
 use Rattle.dx_hom.proofs.Narrowing.{from_nulls, in_nulls, narrower}
 use Rattle.dx_blocks.specs.Blocks.{IsBlockOf, least}
 use Rattle.dx_blocks.specs.declared.block.Block.{Block}
-use Rattle.dx_core.specs.Sparing.{HasRoom, IsTried}
+use Rattle.dx_core.specs.Sparing.{IsTried}
 use Rattle.dx_core.proofs.Standing.{fits}
 
 -- ---- distinct members of a list are no more than its members
@@ -43,7 +46,7 @@ others_stay (y ∷ ys) (here e) (there k) n = k
 others_stay (y ∷ ys) (there m) (here d) n = here d
 others_stay (y ∷ ys) (there m) (there k) n = there (others_stay ys m k n)
 
-no_more : {X : Type 0} (ds xs : List X) → Distinct ds → ds ⊆ xs → length ds ≤ length xs
+pub no_more : {X : Type 0} (ds xs : List X) → Distinct ds → ds ⊆ xs → length ds ≤ length xs
 no_more [] xs d s = omega arith
 no_more (x ∷ ds) xs d s =
     let m = s x (here refl) in
@@ -85,14 +88,14 @@ module _ (I : List TableRows) (room : Room) (b : Block) (t : IsTried I room b) w
       let l = no_more ds b.nulls d (λ k m. null_listed k (s k m)) in
       omega (arith, l, t.has_room.nulls)
 
-pub alone_room : (I : List TableRows) (room : Room) (b : Block) (f : Fact) → IsTried I room b → f ∈ b.facts
-    → AtMost (nulls_in (values (f ∷ []))) room.nulls
-alone_room I room b f t m = narrower (nulls_in (values b.facts)) (nulls_in (values (f ∷ []))) room.nulls its (block_room I room b t)
+pub part_room : (I : List TableRows) (room : Room) (b : Block) (F : List Fact) → IsTried I room b → F ⊆ b.facts
+    → AtMost (nulls_in (values F)) room.nulls
+part_room I room b F t s = narrower (nulls_in (values b.facts)) (nulls_in (values F)) room.nulls its (block_room I room b t)
   where
-    its : nulls_in (values (f ∷ [])) ⊆ nulls_in (values b.facts)
+    its : nulls_in (values F) ⊆ nulls_in (values b.facts)
     its k i =
-        let w = from_flat_map (λ (e : Fact). e.row) (f ∷ []) (from_nulls k (values (f ∷ [])) i) in
-        in_nulls k (values b.facts) (in_flat_map (λ (e : Fact). e.row) (single f b.facts m w.0 w.1) w.2)
+        let w = from_flat_map (λ (e : Fact). e.row) F (from_nulls k (values F) i) in
+        in_nulls k (values b.facts) (in_flat_map (λ (e : Fact). e.row) (s w.0 w.1) w.2)
 
 -- the same room serves
 pub room_same : (I : List TableRows) (r s : Room) (b : Block) → s.facts ≡ r.facts → s.nulls ≡ r.nulls → IsTried I r b → IsTried I s b
@@ -106,8 +109,21 @@ nothing_fixed m n x e g = absurd (apart (sym (finite.get-empty null_cmp n) ∙ (
     apart : ◌≡◌ {A = Option Value} None (Some x) → ⊥
     apart e = cc
 
--- a fact that can't be moved by itself can't be moved with others
+-- facts that can't be moved by themselves can't be moved with others
 pub not_alone : (r : Bool) (I : List TableRows) (gone : List (List Bool)) (m : ByNull) (avoid : Option Fact) (F G : List Fact) → F ⊆ G
     → (IsTrue r ↔ Reaches I gone m avoid F) → r ≡ false
     → IsTrue r ↔ Reaches I gone m avoid G
 not_alone r I gone m avoid F G s e f = ((λ t. absurd (true≢false (sym t ∙ f))), (λ w. e.1 (w.0, w.1, λ g i. w.2 g (s g i))))
+
+-- the same facts in another order
+pub reaches_again : (r : Bool) (I : List TableRows) (gone : List (List Bool)) (m : ByNull) (avoid : Option Fact) (F G : List Fact) → F ≈ G
+    → (IsTrue r ↔ Reaches I gone m avoid F) → IsTrue r ↔ Reaches I gone m avoid G
+reaches_again r I gone m avoid F G s e = (
+  (λ t. let w = e.0 t in (w.0, w.1, λ f i. w.2 f (s.1 f i))),
+  (λ w. e.1 (w.0, w.1, λ f i. w.2 f (s.0 f i))),
+)
+
+pub ends_again : (r : Bool) (I : List TableRows) (gone : List (List Bool)) (m : ByNull) (avoid : Option Fact) (F G : List Fact)
+    (found : List Found) → F ≈ G → OnTrue r (Ends I gone m avoid F found) → OnTrue r (Ends I gone m avoid G found)
+ends_again true I gone m avoid F G found s e = ends_same I gone m avoid F G found s e
+ends_again false I gone m avoid F G found s e = tt

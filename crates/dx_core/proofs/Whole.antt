@@ -1,19 +1,16 @@
 -- What is left of a sorted instance is a reduction of the instance.
-use Rattle.std.proofs.Common.{◌≡◌, ◌∙◌, ℕ, List, [], ◌∷◌, refl, sym, ap, subst, Bool}
-use Rattle.std.specs.Prelude.{map}
+use Rattle.std.proofs.Common.{◌≡◌, ◌∙◌, ℕ, List, subst}
 use Rattle.dx_ports.specs.Members.{◌∈◌, ◌⊆◌, ◌≈◌, Each}
 use Rattle.dx_ports.proofs.Members.{from_flat_map, from_map, in_flat_map, in_map, same_map, same_trans}
 use Rattle.dx_model.specs.declared.facts.Fact.{Fact}
-use Rattle.dx_model.specs.declared.facts.NullPair.{NullPair}
 use Rattle.dx_model.specs.declared.values.Value.TheVariants.{Null}
 use Rattle.dx_model.specs.Instances.{IsCore, IsHomomorphism, IsNullMap, Moves, fact_moved, given, image, values}
 use Rattle.dx_model.specs.Values.{RowsAscend}
 use Rattle.dx_model.specs.Blocks.{IsReduct}
 use Rattle.dx_model.proofs.Reduction.{onto_core}
-use Rattle.dx_instance.specs.NullMaps.{ByNull, pairs_of}
+use Rattle.dx_instance.specs.NullMaps.{pairs_of}
 use Rattle.dx_instance.specs.Stored.{IsSorting, TableRows, facts, rows_of, widths}
 use Rattle.dx_instance.proofs.StoredFacts.{fact_from_row, row_from_fact}
-use Rattle.dx_core.specs.Left.{left}
 use Rattle.dx_core.specs.Reducing.{IsReduction}
 use Rattle.dx_core.specs.declared.reduced.Reduced.{Reduced}
 

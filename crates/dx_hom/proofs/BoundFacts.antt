@@ -1,7 +1,7 @@
 -- Nulls in buckets: one more, one less, and what a look-up tells.
 use Rattle.std.proofs.Common.{◌≡◌, ◌∙◌, ℕ, zero, suc, ◌+◌, ◌<◌, ◌≤◌, ◌==◌, List, [], ◌∷◌, ◌++◌, false, refl, sym, ap, arith, inl, inr}
-use Rattle.std.proofs.Common.{length, get_or, set, take, replicate, eq-eqb}
-use Rattle.std.specs.Prelude.{map, Option, Some, if◌then◌else◌}
+use Rattle.std.proofs.Common.{length, get_or, set, replicate, eq-eqb}
+use Rattle.std.specs.Prelude.{Option, Some, if◌then◌else◌}
 use Rattle.std.specs.Option.{option_to_list, unwrap_or}
 use Rattle.std.proofs.lemmas.Bool.{cases_Bool, cases_lt, eqb-true}
 use Rattle.std.proofs.lemmas.List.{length-append, length-map, length-set, length-replicate, map-append, get_or_append_left, get_or_default}
@@ -156,7 +156,7 @@ bound_less cells front heads before rest cell b old x o e h c d s u l =
 
 -- ---- a look-up
 
--- the next place at which the null may stand is one less than the code; it stands nowhere behind that
+-- the next place at which the null may stand is one less than the code; it stands nowhere after that
 pub record Looks (m : ℕ) (cells : List Found) (null : NullId) (code : ℕ) : Type 0 where
   pub within : code ≤ length cells
   pub key : (p : ℕ) → code ≡ suc p → get_or (buckets_of m cells) p 0 ≡ bucket m null

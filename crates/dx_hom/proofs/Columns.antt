@@ -11,7 +11,6 @@ use Rattle.dx_model.specs.Instances.{moved, fact_moved}
 use Rattle.dx_instance.specs.NullMaps.{ByNull}
 use Rattle.dx_instance.specs.Stored.{TableRows, rows_of}
 use Rattle.dx_instance.specs.Places.{HasValues, IsFirstWith, row_at, value_at}
-use Rattle.dx_instance.proofs.StoredFacts.{other_default}
 use Rattle.dx_hom.specs.declared.matching.Found.{Found}
 use Rattle.dx_hom.specs.View.{fact_at}
 use Rattle.dx_hom.specs.Narrowing.{Gives, value_of}

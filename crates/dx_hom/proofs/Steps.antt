@@ -242,7 +242,7 @@ abbrev pub top : ℕ → ℕ → ℕ → ℕ
 top c zero p = 1
 top c (suc n) p = 1 + (c - p) * (1 + size c n)
 
--- behind the places of the steps
+-- after the places of the steps
 abbrev pub later : ℕ → List Step → ℕ → ℕ
 later c [] n = 0
 later c (s ∷ ss) zero = 0

@@ -16,7 +16,7 @@ use std::slice::from_ref;
 /// How many of the facts that are left are looked at for the one that is moved next.
 const LOOKED_AT: usize = 8;
 
-/// How many candidates are few. If more facts than this are left, candidates are counted for the first step alone.
+/// Up to how many candidates are counted. If more facts than this are left, candidates are counted for the first step alone.
 const FEW: u32 = 16;
 
 // What a value becomes by what was found, if that is known.
@@ -88,21 +88,21 @@ pub(crate) fn candidate(found: &Bindings, into: &Instance, fact: &Fact, next: u3
     None
 }
 
-// Whether at most so many places agree with the fact, as far as it is known.
-fn has_few(found: &Bindings, into: &Instance, fact: &Fact, limit: u32) -> bool
+// How many places agree with the fact, as far as it is known; counted up to a limit.
+fn count_to(found: &Bindings, into: &Instance, fact: &Fact, limit: u32) -> u32
     requires fits { FitsIn into.now fact.now }
     requires cells { Each found.now.cells (IsCell into.now) }
-    requires limit { limit < 100 }
+    ensures { result ≤ limit }
 {
     let _few = into.tables();
     let mut next = 0;
-    for _ in 0..limit + 1 {
+    for count in 0..limit {
         match candidate(found, into, fact, next) {
-            None => return true,
+            None => return count,
             Some(place) => next = place + 1,
         }
     }
-    false
+    limit
 }
 
 // Whether a null of the fact was found.
@@ -143,30 +143,85 @@ fn first_linked(found: &Bindings, from: &[Fact], order: &[usize], start: usize) 
     start
 }
 
-// The first of the next facts with which at most so many places agree, of those that are looked at.
-fn first_with_few(
+// The first of the next facts with which the fewest places agree, of those that are looked at.
+fn first_with_fewest(
     found: &Bindings,
     into: &Instance,
     from: &[Fact],
     order: &[usize],
     start: usize,
-    limit: u32,
-) -> Option<usize>
+) -> usize
+    requires start { start < length order.now }
     requires fits { (f : FactRow) → f ∈ from.now → FitsIn into.now f }
     requires cells { Each found.now.cells (IsCell into.now) }
     requires within { Each order.now (λ i. i < length from.now) }
-    requires limit { limit < 100 }
-    ensures { IfSome result (λ p. (start ≤ p) × (p < length order.now)) }
+    ensures after { start ≤ result }
+    ensures within { result < length order.now }
 {
+    let mut best = start;
+    let mut fewest = FEW + 1;
     for place in start..order.len() {
-        if place - start == LOOKED_AT {
-            return None;
+        if fewest <= 1 || place - start == LOOKED_AT {
+            break;
         }
-        if has_few(found, into, fact_at_turn(from, order, place), limit) {
-            return Some(place);
+        let count = count_to(found, into, fact_at_turn(from, order, place), fewest);
+        if count < fewest {
+            best = place;
+            fewest = count;
         }
     }
-    None
+    best
+}
+
+// Whether the fact has a constant.
+fn has_constant(fact: &Fact) -> bool {
+    for value in fact.row.items() {
+        if let Value::Const(_) = value {
+            return true;
+        }
+    }
+    false
+}
+
+// The only one of the next facts that has a constant, of those that are looked at.
+fn only_with_constant(from: &[Fact], order: &[usize], start: usize) -> Option<usize>
+    requires { Each order.now (λ i. i < length from.now) }
+    ensures { IfSome result (λ p. (start ≤ p) × (p < length order.now)) }
+{
+    let mut only = None;
+    for place in start..order.len() {
+        if place - start == LOOKED_AT {
+            break;
+        }
+        if has_constant(fact_at_turn(from, order, place)) {
+            if only.is_some() {
+                return None;
+            }
+            only = Some(place);
+        }
+    }
+    only
+}
+
+// The fact that is best moved first. If only one has a constant, it is that one; else candidates are counted.
+fn first_fact(
+    found: &Bindings,
+    into: &Instance,
+    from: &[Fact],
+    order: &[usize],
+    start: usize,
+) -> usize
+    requires start { start < length order.now }
+    requires fits { (f : FactRow) → f ∈ from.now → FitsIn into.now f }
+    requires cells { Each found.now.cells (IsCell into.now) }
+    requires within { Each order.now (λ i. i < length from.now) }
+    ensures after { start ≤ result }
+    ensures within { result < length order.now }
+{
+    match only_with_constant(from, order, start) {
+        Some(place) => place,
+        None => first_with_fewest(found, into, from, order, start),
+    }
 }
 
 /// The place in the order of the fact that is best moved next: one of which a null was found, with few candidates. Which of
@@ -185,19 +240,16 @@ pub(crate) fn next_fact(
     ensures after { start ≤ result }
     ensures within { result < length order.now }
 {
-    let first = if start == 0 {
-        start
-    } else {
-        first_linked(found, from, order, start)
-    };
-    if start > 0 && order.len() - start > FEW as usize {
+    let left = order.len() - start;
+    if left == 1 {
+        return start;
+    }
+    if start == 0 {
+        return first_fact(found, into, from, order, start);
+    }
+    let first = first_linked(found, from, order, start);
+    if left > FEW as usize {
         return first;
     }
-    if let Some(place) = first_with_few(found, into, from, order, first, 1) {
-        return place;
-    }
-    match first_with_few(found, into, from, order, first, FEW) {
-        Some(place) => place,
-        None => first,
-    }
+    first_with_fewest(found, into, from, order, first)
 }

@@ -1,5 +1,4 @@
-use Rattle.std.proofs.Common.{◌∙◌, ap, get_or}
-use Rattle.std.proofs.lemmas.List.{take_all}
+use Rattle.std.proofs.Common.{◌∙◌, get_or}
 use Rattle.dx_model.specs.declared.values.NullId.{NullId}
 use Rattle.dx_instance.proofs.StoredFacts.{other_default}
 use Rattle.dx_core.proofs.Listed.{given_more, given_start}

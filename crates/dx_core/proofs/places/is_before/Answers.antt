@@ -1,8 +1,8 @@
 use Rattle.std.proofs.Common.{◌≡◌, ◌<◌, ◌∙◌, [], arith, length, refl, sym}
 use Rattle.std.proofs.lemmas.Bool.{false≢true}
-use Rattle.std.specs.declared.cmp.Ordering.TheVariants.{Less, Equal, Greater}
+use Rattle.std.specs.declared.cmp.Ordering.TheVariants.{Less, Greater}
 use Rattle.dx_model.specs.declared.values.Value.TheVariants.{Const}
-use Rattle.dx_model.specs.Values.{row_cmp, value_cmp}
+use Rattle.dx_model.specs.Values.{row_cmp}
 use Rattle.dx_model.proofs.Orders.{value_exact}
 use Rattle.dx_instance.specs.Places.{row_at}
 use Rattle.dx_instance.proofs.StoredFacts.{other_default}

@@ -1,1 +1,0 @@
-use Rattle.dx_core.proofs.reducing.index_all.Goals as goal

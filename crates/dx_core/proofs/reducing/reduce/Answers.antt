@@ -1,7 +1,5 @@
-use Rattle.std.proofs.Common.{List}
-use Rattle.dx_instance.specs.Stored.{IsSorting, TableRows}
+use Rattle.dx_instance.specs.Stored.{IsSorting}
 use Rattle.dx_core.specs.Left.{left}
-use Rattle.dx_core.specs.declared.reduced.Reduced.{Reduced}
 use Rattle.dx_core.proofs.Marked.{whole_left, whole_reduct}
 use Rattle.dx_core.proofs.Whole.{is_reduction}
 use Rattle.dx_core.proofs.reducing.reduce.Goals as goal

@@ -1,4 +1,4 @@
-use Rattle.std.proofs.Common.{◌≡◌, ◌∙◌, [], ap, arith, sym}
+use Rattle.std.proofs.Common.{◌≡◌, ◌∙◌, [], ap, arith}
 use Rattle.std.specs.Option.{option_copied}
 use Rattle.std.proofs.lemmas.Bool.{false≢true}
 use Rattle.dx_ports.proofs.Members.{in_at}

@@ -1,4 +1,4 @@
-use Rattle.std.proofs.Common.{◌≡◌, ◌∙◌, ◌<◌, ap, arith, length, false, ℕ}
+use Rattle.std.proofs.Common.{◌≡◌, ◌∙◌, ap, arith, length, false, ℕ}
 use Rattle.std.specs.Prelude.{replicate}
 use Rattle.dx_instance.specs.Stored.{rows_of}
 use Rattle.dx_hom.proofs.Marks.{marks_more}

@@ -3,7 +3,7 @@ use Rattle.std.specs.FinMap as finite
 use Rattle.dx_ports.proofs.Members.{in_at}
 use Rattle.dx_instance.specs.NullMaps.{ByNull}
 use Rattle.dx_instance.specs.Stored.{table_at}
-use Rattle.dx_hom.proofs.candidates.has_few.Goals as goal
+use Rattle.dx_hom.proofs.candidates.count_to.Goals as goal
 
 pub overflow_add-next : goal.overflow_add-next
 overflow_add-next c =

@@ -1,0 +1,6 @@
+use Rattle.std.proofs.Common.{◌≤◌, ◌<◌, length}
+use Rattle.std.specs.Prelude.{IfSome}
+use Rattle.dx_hom.proofs.candidates.only_with_constant.Given as goal
+
+abbrev pub invariant-loop-place : goal.invariant-loop-place
+invariant-loop-place l = IfSome l.only (λ p. (l.start ≤ p) × (p < length l.order))
