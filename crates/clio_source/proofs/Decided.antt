@@ -5,7 +5,7 @@ use Rattle.std.specs.Cmp.{IsTotalOrder}
 use Rattle.std.proofs.lemmas.Bool.{eq-eqb, eqb-true}
 use Rattle.std.proofs.lemmas.Cmp.{lists_total}
 use Rattle.std.proofs.lemmas.List.{length-map}
-use Rattle.dx_ports.specs.Members.{◌∈◌, ◌⊆◌, Each}
+use Rattle.dx_ports.specs.Members.{◌∈◌, ◌⊆◌}
 use Rattle.dx_ports.proofs.Members.{from_map, in_map}
 use Rattle.dx_ports.proofs.Tests.{from_filter, to_filter}
 use Rattle.dx_model.specs.declared.values.Value.{Value}
@@ -15,7 +15,7 @@ use Rattle.std.specs.declared.cmp.Ordering.TheVariants.{Equal}
 use Rattle.dx_model.proofs.Orders.{slice_exact, value_exact, value_total}
 use Rattle.dx_model.proofs.Ascending.{one_ascending, in_order, in_order_ascends, in_in_order, from_in_order}
 use Rattle.dx_instance.specs.Stored.{TableRows, facts, rows_of, widths}
-use Rattle.dx_instance.proofs.StoredFacts.{fact_from_row, fact_table, row_from_fact}
+use Rattle.dx_instance.proofs.StoredFacts.{fact_from_row, row_from_fact}
 use Rattle.dx_schema.specs.Forest.{Forest}
 use Rattle.dx_schema.specs.Tables.{TableOf, schema_widths, table_at, tables_of}
 use Rattle.dx_csv.specs.Table.{table_records}

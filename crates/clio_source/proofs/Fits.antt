@@ -1,11 +1,11 @@
 -- What was read fits the tables of the schema.
-use Rattle.std.proofs.Common.{None, ◌≡◌, ℕ, zero, suc, ◌+◌, ◌-◌, ◌*◌, ◌<◌, ◌≤◌, List, [], ◌∷◌, ◌++◌, length, map, take, get_or, refl, sym, ◌∙◌, ap, subst, arith, inl, inr, append_assoc}
-use Rattle.std.specs.Prelude.{sum_by}
+use Rattle.std.proofs.Common.{None, ◌≡◌, ℕ, suc, ◌+◌, ◌-◌, ◌*◌, ◌<◌, ◌≤◌, List, [], ◌∷◌, ◌++◌, length, map, take, get_or, slice_get, Some, refl, sym, ◌∙◌, ap, subst, arith, inl, inr, append_assoc}
 use Rattle.std.proofs.Math.Nat.{suc-mul, zero-mul}
 use Rattle.std.proofs.lemmas.Bool.{cases_lt}
-use Rattle.std.proofs.lemmas.List.{append-nil, get_or-append_right, get_or-map, get_or-take, get_or_past, length-append, length-map, length-take-le, map-append, take_all}
-use Rattle.std.proofs.lemmas.List.Sums.{sum_by-cons, sum_by_more_le}
-use Rattle.dx_ports.specs.Members.{◌∈◌, ◌⊆◌, ◌≈◌, here, there, Each}
+use Rattle.std.proofs.lemmas.List.{get_or-append_right, get_or-map, get_or-take, get_or_default, get_or_past, length-map, length-take-le, map-append, take_all}
+use Rattle.std.proofs.lemmas.Option.{slice_get-get_or}
+use Rattle.std.proofs.lemmas.List.Sums.{sum_by-cons, sum_by_more, sum_by_more_le}
+use Rattle.dx_ports.specs.Members.{◌∈◌, ◌≈◌, here, there, Each}
 use Rattle.dx_ports.proofs.Members.{from_append, in_at, same_append, same_equal, same_members, same_trans}
 use Rattle.dx_model.specs.declared.values.Value.{Value}
 use Rattle.dx_model.specs.declared.facts.Fact.{Fact}
@@ -13,11 +13,10 @@ use Rattle.dx_model.specs.Tables.{IsInstance, Table}
 use Rattle.dx_instance.specs.Cells.{NumberTable}
 use Rattle.dx_instance.specs.Numbers.{Extends}
 use Rattle.dx_instance.specs.Shown.{AreBelow, RowsFit, numbers_of_table, shown_tables}
-use Rattle.dx_instance.specs.Stored.{IsSorting, TableRows, facts, rows_of, widths}
-use Rattle.dx_instance.proofs.ShownFacts.{grown_below}
+use Rattle.dx_instance.specs.Stored.{IsSorting, TableRows, facts, widths}
 use Rattle.dx_instance.proofs.StoredFacts.{fact_from_row, row_from_fact}
 use Rattle.dx_schema.specs.Forest.{Forest}
-use Rattle.dx_schema.specs.Tables.{TableOf, AreTables, as_numbers, count, model_tables, schema_widths, table_at, tables_of, tree_at}
+use Rattle.dx_schema.specs.Tables.{TableOf, AreTables, as_numbers, model_tables, schema_widths, table_at, tables_of}
 use Rattle.dx_schema.proofs.Preorder.{len_map}
 use Rattle.dx_schema.proofs.Whole.{widths_more}
 use Rattle.clio_source.specs.declared.reading.Reading.{Reading}
@@ -168,6 +167,19 @@ table_in f said k fact fits lt at =
 
 abbrev cells_of : Forest → Fact → ℕ
 cells_of f fact = length (table_at f fact.table).columns
+
+-- a fact stands at each place
+pub fact_in : (said : List Fact) (k : ℕ) → k < length said → (fact : Fact) × (slice_get said k ≡ Some fact) × (fact ≡ get_or said k fact)
+fact_in said k lt =
+    let blank : Fact = record { table = 0; row = [] } in
+    (get_or said k blank, slice_get-get_or said k blank lt, get_or_default said k blank (get_or said k blank) lt)
+
+pub cells_more : (f : Forest) (left rest next width : ℕ) (said : List Fact) (k : ℕ) (fact : Fact) → rest + cells_in f (take k said) ≡ left → k < length said → fact ≡ get_or said k fact → width ≡ length (table_at f fact.table).columns
+    → next + width ≡ rest → next + cells_in f (take (k + 1) said) ≡ left
+cells_more f left rest next width said k fact so_far lt at is less =
+    let h = sum_by_more (cells_of f) said k fact lt in
+    let same : cells_of f (get_or said k fact) ≡ width = ap (cells_of f) (sym at) ∙ sym is in
+    omega (arith, so_far, h, same, less)
 
 pub cells_past : (f : Forest) (left rest width : ℕ) (said : List Fact) (k : ℕ) (fact : Fact) → rest + cells_in f (take k said) ≡ left → k < length said → fact ≡ get_or said k fact → width ≡ length (table_at f fact.table).columns
     → rest < width → left < cells_in f said

@@ -1,23 +1,19 @@
 -- Tables of numbers, and the facts that they show.
 use Rattle.std.proofs.Common.{◌≡◌, ℕ, zero, suc, ◌+◌, ◌-◌, ◌^◌, ◌<◌, ◌≤◌, List, [], ◌∷◌, ◌++◌, length, map, set, take, get_or, refl, sym, ◌∙◌, ap, subst, arith, ◌⊎◌, inl, inr, append_assoc}
 use Rattle.std.proofs.lemmas.Bool.{cases_eq}
-use Rattle.std.proofs.lemmas.List.{append-nil, get_or-append_right, get_or-map, get_or_default, get_or-set_other, get_or-set_same, get_or_append_left, get_or_past, length-append, length-map, length-set, map-append, map-set, set-get_or, take_all, take_more}
+use Rattle.std.proofs.lemmas.List.{append-nil, get_or-map, get_or_default, get_or-set_other, get_or-set_same, length-append, length-map, map-append, map-set, take_all, take_more}
 use Rattle.dx_ports.specs.Members.{◌∈◌, ◌⊆◌, ◌≈◌, here, there, Each}
-use Rattle.dx_ports.proofs.Members.{from_append, from_map, in_at, in_left, in_map, in_right, same_append, same_equal, same_members, same_sym, same_trans}
+use Rattle.dx_ports.proofs.Members.{from_append, in_at, in_left, in_right, same_append, same_equal, same_members, same_trans}
 use Rattle.dx_model.specs.declared.values.Value.{Value}
 use Rattle.dx_model.specs.declared.facts.Fact.{Fact}
 use Rattle.dx_instance.specs.Cells.{NumberTable, with_numbers}
 use Rattle.dx_instance.specs.Numbers.{Extends, value_of}
 use Rattle.dx_instance.specs.Shown.{AreBelow, RowsFit, Shows, numbers_of_table, shown, shown_row, shown_tables}
-use Rattle.dx_instance.specs.Stored.{AddsRow, IsSorting, TableRows, facts, facts_from, rows_of, widths, with_row}
+use Rattle.dx_instance.specs.Stored.{AddsRow, TableRows, facts, facts_from, rows_of, widths}
 use Rattle.dx_instance.proofs.ShownFacts.{grown_below, grown_row}
-use Rattle.dx_instance.proofs.StoredFacts.{fact_from_row, from_facts, row_from_fact}
-use Rattle.dx_schema.specs.Forest.{Forest}
-use Rattle.dx_schema.specs.Tables.{TableOf, schema_widths, table_at, tables_of}
-use Rattle.dx_schema.proofs.Whole.{widths_more}
-use Rattle.clio_source.specs.declared.reading.Reading.{Reading}
-use Rattle.clio_source.specs.Source.{IsStored, Read, as_facts, at_start, source_cells}
-use Rattle.clio_source.specs.Fitting.{AddsEmpty, AddsFacts, CanTake, Holds, ReadFits, rows_shown}
+use Rattle.dx_instance.proofs.StoredFacts.{fact_from_row, row_from_fact}
+use Rattle.clio_source.specs.Source.{as_facts}
+use Rattle.clio_source.specs.Fitting.{AddsFacts, CanTake, rows_shown}
 
 -- ---- more symbols change no row
 

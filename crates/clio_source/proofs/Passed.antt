@@ -11,7 +11,7 @@ use Rattle.dx_schema.proofs.Preorder.{len_map}
 use Rattle.dx_json.proofs.Fitting.{facts_fit}
 use Rattle.dx_stages.specs.Worlds.{World}
 use Rattle.dx_stages.specs.Stages.{each}
-use Rattle.clio_source.specs.Source.{Form, Read, SayFacts, as_facts, at_start, cells_in, files_stages, flat, form_at, nested, reading, roots, too_many_cells, with_facts}
+use Rattle.clio_source.specs.Source.{Form, Read, SayFacts, at_start, cells_in, files_stages, flat, form_at, nested, reading, roots, too_many_cells, with_facts}
 use Rattle.clio_source.proofs.Roots.{IsRoot, is_root}
 
 -- each fact is of a table of the schema

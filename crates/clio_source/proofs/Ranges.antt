@@ -1,5 +1,5 @@
 -- The facts that a document says of a root are of the root's table and of those of its inner sets.
-use Rattle.std.proofs.Common.{◌≡◌, ℕ, zero, suc, ◌+◌, ◌<◌, ◌≤◌, List, [], ◌∷◌, ◌++◌, Option, Some, None, Bool, true, false, map, refl, sym, ap, ◌∙◌, subst, arith, inl, inr}
+use Rattle.std.proofs.Common.{◌≡◌, ℕ, suc, ◌+◌, ◌<◌, ◌≤◌, List, [], ◌∷◌, ◌++◌, Option, Some, None, Bool, true, false, refl, ap, subst, arith, inl, inr}
 use Rattle.std.specs.Prelude.{if◌then◌else◌}
 use Rattle.std.specs.Fmt.{decimal}
 use Rattle.serde_json.specs.Data.{Data, null, boolean, number, string, array, object, Items, no_items, item, Members, no_members, member}
@@ -9,8 +9,8 @@ use Rattle.dx_model.specs.declared.facts.Fact.{Fact}
 use Rattle.dx_schema.specs.Forest.{Label, Forest, Tree, none, set}
 use Rattle.dx_schema.specs.Tables.{count, tree_at}
 use Rattle.dx_json.specs.declared.place.Place.{Place}
-use Rattle.dx_json.specs.Said.{Said, says, wrong_shape, wrong_number, unknown_member, Reading, constant, no_integer, no_constant, below, column_faults, id_of, is_known, items_say, item_says, member_says, object_says, reading_faults, reading_of, row_of, sets_say, unknown_members}
-use Rattle.dx_json.specs.Documents.{SaysFacts, document_says, tree_says}
+use Rattle.dx_json.specs.Said.{Said, says, wrong_shape, unknown_member, Reading, constant, no_integer, no_constant, below, column_faults, id_of, is_known, items_say, item_says, member_says, object_says, reading_faults, row_of, sets_say, unknown_members}
+use Rattle.dx_json.specs.Documents.{SaysFacts, tree_says}
 
 -- the facts among what is said are of tables from a on, below b
 abbrev Are : ℕ → ℕ → List Said → Type 0
@@ -53,7 +53,7 @@ of_fact : (a b : ℕ) (x : Fact) (xs : List Said) → (a ≤ x.table) × (x.tabl
 of_fact a b x xs p q fact (here e) = let same : x ≡ fact = cc e in subst (λ (y : Fact). (a ≤ y.table) × (y.table < b)) same p
 of_fact a b x xs p q fact (there m) = q fact m
 
--- what the inner sets of the objects of a table say is of the tables behind it
+-- what the inner sets of the objects of a table say is of the tables after it
 abbrev Deeper : ℕ → ℕ → (Place → Members → List Said) → Type 0
 Deeper n b deeper = (at : Place) (ms : Members) → at.table ≡ suc n → Are (suc n) b (deeper at ms)
 

@@ -18,7 +18,7 @@ use Rattle.clio_source.specs.Source.{Form, csv_name, file_at, flat, form_at, for
 
 -- ---- their numbers
 
--- those of a level are not below the first, and below those behind the level
+-- those of a level are not below the first, and below those after the level
 pub numbers_between : (n : ℕ) (g : Forest) (u : ℕ) → u ∈ numbers_in n g → (n ≤ u) × (u < n + count g)
 numbers_between n none u m = elim m [ ]
 numbers_between n (set l i r) u (here e) = (omega (arith, e), omega (arith, e))
@@ -150,7 +150,7 @@ next_set ts k t root f whole lt is at =
 
 -- ---- the root's table and those of its inner sets
 
--- a set's inner sets are among those behind it
+-- a set's inner sets are among those after it
 inner_behind : (p : Option ℕ) (n : ℕ) (g : Forest) (k : ℕ) (d : Placed) → k < count g → k + 1 + count (get_or (placed p n g) k d).inner ≤ count g
 inner_behind p n none k d lt = absurd (omega (arith, lt))
 inner_behind p n (set l i r) zero d lt = omega arith
@@ -184,7 +184,7 @@ few_inner f ts k t root tables whole lt is at =
     let h = end_within f root (next_root ts k t root f whole lt is at).within in
     omega (arith, h, tables.few_tables, ap (λ (u : Tree). count u.inner) (next_set ts k t root f whole lt is at))
 
--- the number behind the next root and its inner sets
+-- the number after the next root and its inner sets
 pub next_number : (f : Forest) (ts : List Tree) (k : ℕ) (t : Tree) (root : ℕ) → forest_of ts ≡ f → k < length ts → t ≡ get_or ts k t → root ≡ count (forest_of (take k ts))
     → (root + 1 + count (tree_at f root).inner ≡ root + (1 + count t.inner)) × (root + (1 + count t.inner) ≡ count (forest_of (take (k + 1) ts)))
 next_number f ts k t root whole lt is at =
@@ -192,7 +192,7 @@ next_number f ts k t root whole lt is at =
     let more = count_more ts k t t.inner lt is refl in
     (omega (arith, same), omega (arith, more, at))
 
--- behind the last one is no table
+-- after the last one is no table
 pub last_number : (f : Forest) (ts : List Tree) (k root : ℕ) → forest_of ts ≡ f → length ts ≤ k → root ≡ count (forest_of (take k ts)) → root ≡ length (tables_of f)
 last_number f ts k root whole past at = at ∙ ap (λ (us : List Tree). count (forest_of us)) (take_all k ts past) ∙ ap count whole ∙ sym (tables_counted f)
 

@@ -18,7 +18,7 @@ use Rattle.clio_source.specs.declared.fault.SourceRefusal.{SourceRefusal}
 use Rattle.clio_source.specs.declared.fault.SourceRefusal.TheVariants as refusals
 use Rattle.clio_source.specs.declared.fault.RowsFault.TheVariants.{Absent}
 use Rattle.clio_source.specs.declared.reading.Reading.{Reading}
-use Rattle.clio_source.specs.Source.{Form, Read, SayFacts, at_start, cells_in, fetching, file_at, files_stages, form_at, loading, named_by, reading, roots, source_stages, storing, too_many_bytes, too_many_cells, with_facts}
+use Rattle.clio_source.specs.Source.{Form, Read, SayFacts, at_start, cells_in, fetching, file_at, files_stages, form_at, loading, named_by, reading, source_stages, storing, too_many_bytes, too_many_cells, with_facts}
 use Rattle.clio_source.specs.Fitting.{GivesTo, Holds, NotRead, RanTo}
 use Rattle.clio_source.proofs.Roots.{apart, first_roots, next_root, numbers_between, roots_all, roots_more, roots_rest}
 

@@ -16,7 +16,7 @@ use Rattle.clio_source.specs.declared.reading.Reading.{Reading}
 use Rattle.clio_source.specs.declared.fault.RowsFault.{RowsFault}
 use Rattle.clio_source.specs.declared.fault.SourceRefusal.{SourceRefusal}
 use Rattle.clio_source.specs.declared.fault.SourceRefusal.TheVariants as refusals
-use Rattle.clio_source.specs.Source.{Form, HaveFault, Read, named_by, source_cells}
+use Rattle.clio_source.specs.Source.{Form, HaveFault, Read, source_cells}
 
 -- the rows that numbers of symbols show
 abbrev pub rows_shown : List Value → NumberTable → List (List Value)

@@ -11,26 +11,28 @@ ghost use Rattle.clio_source.specs.Fitting.{AddsEmpty, AddsFacts, CanTake, Gives
 
 use crate::fault::{RowsFault, SourceRefusal};
 use crate::reading::{Reading, too_many_cells};
-use dx_instance::{Fact, Row, Rows, Symbols, copy_value};
-use dx_json::{JsonFault, shred};
+use dx_instance::{Row, Rows, Symbols, copy_value};
+use dx_json::{Facts, JsonFault, shred};
 use dx_ports::Text;
 use dx_schema::Schema;
 use dx_stages::Stop;
+use json::Scratch;
 use std::alloc::{AllocError, Global};
 
 // The facts of a file's bytes.
 fn facts_of_bytes(
     alloc: Global,
     bytes: &[u8],
+    scratch: &mut Scratch,
     schema: &Schema,
     root: u32,
     file: Text,
-) -> Result<Vec<Fact>, Stop<SourceRefusal>>
+) -> Result<Facts, Stop<SourceRefusal>>
     requires { root < length (tables_of schema.now) }
-    ensures facts { IfOk result (λ facts. SaysFacts bytes.now schema.now root facts.items) }
+    ensures facts { IfOk result (λ facts. SaysFacts bytes.now schema.now root facts) }
     ensures fault { IfErr result (NotRead nested schema.now root bytes.now file) }
 {
-    match shred(alloc, bytes, schema, root) {
+    match shred(alloc, bytes, scratch, schema, root) {
         Ok(facts) => Ok(facts),
         Err(JsonFault::Bad(kind)) => Err(Stop::Refused(SourceRefusal::Rows {
             file,
@@ -41,20 +43,21 @@ fn facts_of_bytes(
 }
 
 // What is left of so many cells after these facts, unless they have more.
-fn cells_after(left: u64, schema: &Schema, facts: &[Fact]) -> Option<u64>
+fn cells_after(left: u64, schema: &Schema, facts: &Facts) -> Option<u64>
     requires { IsInstance (model_tables schema.now) facts.now }
     ensures { MatchOption result (left < cells_in schema.now facts.now)
         (λ rest. (rest ≡ left - cells_in schema.now facts.now) × (cells_in schema.now facts.now ≤ left)) }
 {
     let mut rest = left;
-    for fact in facts {
-        prove!(fact.table < schema.tables());
-        rest = rest.checked_sub(u64::from(schema.width(fact.table)))?;
+    for place in 0..facts.len() {
+        let table = facts.table(place);
+        prove!(table < schema.tables());
+        rest = rest.checked_sub(u64::from(schema.width(table)))?;
     }
     Some(rest)
 }
 
-// Tables without rows for a root and its inner sets, behind those of the roots before it.
+// Tables without rows for a root and its inner sets, after those of the roots before it.
 fn push_tables(
     alloc: Global,
     schema: &Schema,
@@ -90,7 +93,7 @@ fn intern_row(row: &Row, symbols: &mut Symbols, numbers: &mut Vec<u32>) -> Resul
 fn push_facts(
     alloc: Global,
     root: u32,
-    facts: &[Fact],
+    facts: &Facts,
     symbols: &mut Symbols,
     tables: &mut Vec<Rows>,
 ) -> Result<(), AllocError>
@@ -100,7 +103,8 @@ fn push_facts(
     ensures { OnOk result (AddsFacts symbols.old symbols.new tables.old.items tables.new.items facts.now) }
 {
     let mut numbers = Vec::new(alloc);
-    for fact in facts {
+    for place in 0..facts.len() {
+        let fact = facts.fact(alloc, place)?;
         intern_row(&fact.row, symbols, &mut numbers)?;
         tables[fact.table as usize].push(&numbers)?;
     }
@@ -129,7 +133,8 @@ pub(crate) fn load_document(
         bytes_left,
         cells_left,
     } = before;
-    let facts = facts_of_bytes(alloc, bytes, schema, root, file)?;
+    let mut scratch = Scratch::new(alloc);
+    let facts = facts_of_bytes(alloc, bytes, &mut scratch, schema, root, file)?;
     let Some(cells_left) = cells_after(cells_left, schema, &facts) else {
         return Err(Stop::Refused(too_many_cells()));
     };

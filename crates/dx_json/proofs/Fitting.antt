@@ -1,5 +1,5 @@
 -- The sets below a root, and that what is said of it fits their tables.
-use Rattle.std.proofs.Common.{◌≡◌, ℕ, zero, suc, ◌+◌, ◌-◌, ◌<◌, List, [], ◌∷◌, ◌++◌, Option, Some, None, Bool, true, false, length, map, get_or, refl, sym, ap, ◌∙◌, subst, arith, inl, inr, Result, Ok, Err, IfOk}
+use Rattle.std.proofs.Common.{◌≡◌, ℕ, zero, suc, ◌+◌, ◌-◌, ◌<◌, List, [], ◌∷◌, ◌++◌, Option, Some, None, Bool, true, false, length, map, get_or, refl, sym, ap, ◌∙◌, subst, arith, inl, inr}
 use Rattle.std.specs.Prelude.{⊤, if◌then◌else◌}
 use Rattle.std.specs.Fmt.{decimal}
 use Rattle.std.proofs.lemmas.Bool.{cases_lt}
@@ -15,7 +15,6 @@ use Rattle.dx_schema.specs.Tables.{Placed, TableOf, as_numbers, columns_of, coun
 use Rattle.dx_schema.proofs.Preorder.{len_map, length_placed}
 use Rattle.dx_instance.specs.Stored.{TableRows, widths}
 use Rattle.dx_instance.specs.Stored.{table_at as stored_at}
-use Rattle.dx_json.specs.declared.fault.JsonFault.{JsonFault}
 use Rattle.dx_json.specs.declared.place.Place.{Place}
 use Rattle.dx_json.specs.Said.{Said, says, wrong_shape, wrong_number, unknown_member, Reading, constant, no_integer, no_constant, below, column_faults, constants, id_of, is_known, items_say, item_says, member_says, object_says, reading_faults, row_of, sets_say, unknown_members, up_cell}
 use Rattle.dx_json.specs.Documents.{document_says, tree_says}
@@ -266,11 +265,6 @@ said_fits f t d facts lt e top fact m =
     let fit = fit_tree f s d (set_in f t lt) (none_alike s.parent parent) deeper in
     let said : tree_says (tree_of s) s.number d ≡ map says facts = ap (λ k. tree_says (tree_of s) k d) number ∙ e in
     subst (Fit f) said fit fact (in_map says m)
-
-pub facts_of_root : {A : Type 0} (seen : A → List Fact) (r : Result A JsonFault) (f : Forest) (t : ℕ) (tree : Tree) (d : Data) → t < length (tables_of f) → tree ≡ tree_at f t
-    → IfOk r (λ v. tree_says tree t d ≡ map says (seen v)) → IfOk r (λ v. (table_at f t).parent ≡ None → IsInstance (model_tables f) (seen v))
-facts_of_root seen (Ok v) f t tree d lt is e = said_fits f t d (seen v) lt (ap (λ u. tree_says u t d) (sym is) ∙ e)
-facts_of_root seen (Err x) f t tree d lt is e = tt
 
 pub facts_fit : FactsFit
 facts_fit bytes f t facts lt top s = said_fits f t s.0 facts lt s.2 top

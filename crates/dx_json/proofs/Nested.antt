@@ -1,5 +1,5 @@
 -- What rows become in a document.
-use Rattle.std.proofs.Common.{◌≡◌, ℕ, zero, suc, ◌+◌, ◌-◌, ◌<◌, ◌≤◌, ◌||◌, List, [], ◌∷◌, ◌++◌, length, get_or, drop, Some, None, Bool, true, false, refl, sym, ap, ◌∙◌, subst, arith, inl, inr, Ordering, Less, Equal, Greater, nat_cmp}
+use Rattle.std.proofs.Common.{◌≡◌, ℕ, zero, suc, ◌+◌, ◌-◌, ◌<◌, ◌≤◌, ◌||◌, List, [], ◌∷◌, ◌++◌, length, get_or, drop, Some, None, Bool, true, false, nat_lt, lt-ltb, append_assoc, refl, sym, ap, ◌∙◌, subst, arith, inl, inr, Ordering, Less, Equal, Greater, nat_cmp}
 use Rattle.std.specs.Prelude.{cond, filter}
 use Rattle.std.specs.Cmp.Lexicographic.{slice_cmp}
 use Rattle.std.specs.Ordering.{match_ordering}
@@ -7,7 +7,7 @@ use Rattle.std.proofs.lemmas.Bool.{cases_Bool}
 use Rattle.std.proofs.lemmas.List.{drop_all, drop_more}
 use Rattle.std.proofs.lemmas.Slice.Eq.{bytes_eq-Decides}
 use Rattle.serde_json.specs.Data.{Data, string, array, object, Items, no_items, item, Members, no_members, member, put}
-use Rattle.serde_json.specs.Written.{has_float, items_have_float, members_have_float}
+use Rattle.serde_json.specs.Written.{comma_if, compact_text, has_float, items_have_float, items_text, members_have_float}
 use Rattle.serde_json.specs.View.{view, items_view}
 use Rattle.serde_json.specs.declared.value.Value.{Value as Json}
 use Rattle.dx_model.specs.declared.values.Value.{Value}
@@ -21,7 +21,7 @@ use Rattle.dx_instance.specs.Stored.{TableRows, rows_of}
 use Rattle.dx_instance.specs.ValueText.{value_text_of}
 use Rattle.dx_instance.proofs.PlaceFacts.{same_value-true}
 use Rattle.dx_model.proofs.Maps.{same_null-refl}
-use Rattle.dx_json.specs.Nesting.{object_of, objects, root_objects, rows_below, with_columns, with_sets}
+use Rattle.dx_json.specs.Nesting.{object_of, objects, rows_below, with_columns, with_sets}
 use Rattle.dx_json.specs.Standing.{Stand}
 use Rattle.dx_json.proofs.Steps.{left_at}
 
@@ -172,8 +172,27 @@ sets_clean I (set l inner rest) table id ms c =
     (put_clean l.name (array (objects objects_at (rows_below I table inner id))) ms
     (objects_clean objects_at (rows_below I table inner id) (λ row. object_clean l inner (with_sets I inner (suc table)) true row (sets_clean I inner (suc table)))) c)
 
-pub document_clean : (I : List TableRows) (t : Tree) (root : ℕ) → has_float (array (root_objects I t root)) ≡ false
-document_clean I t root = objects_clean _ (rows_of I root) (λ row. object_clean t.label t.inner (with_sets I t.inner (suc root)) false row (sets_clean I t.inner (suc root)))
+pub root_object_clean : (I : List TableRows) (t : Tree) (root : ℕ) (row : List Value) → members_have_float (object_of t.label t.inner (with_sets I t.inner (suc root)) false row) ≡ false
+root_object_clean I t root row = object_clean t.label t.inner (with_sets I t.inner (suc root)) false row (sets_clean I t.inner (suc root))
+
+-- ---- the text of a document, object by object
+
+pub object_written : (object_at : List Value → Members) (left rest : List (List Value)) (row : List Value) (before between written after whole : List ℕ) (later : Bool) → left ≡ row ∷ rest → between ≡ before ++ comma_if later
+    → written ≡ compact_text (object (object_at row)) → after ≡ between ++ written → before ++ items_text later (objects object_at left) ≡ whole → after ++ items_text true (objects object_at rest) ≡ whole
+object_written object_at left rest row before between written after whole later next b w a e =
+    let comma = comma_if later in
+    let this = compact_text (object (object_at row)) in
+    let more = items_text true (objects object_at rest) in
+    let are : after ++ more ≡ ((before ++ comma) ++ this) ++ more = rw (a, b, w) refl in
+    are ∙ append_assoc (before ++ comma) this more ∙ append_assoc before comma (this ++ more) ∙ ap (λ xs. before ++ items_text later (objects object_at xs)) (sym next) ∙ e
+
+pub document_written : (object_at : List Value → Members) (all left : List (List Value)) (before after : List ℕ) (later : Bool) → left ≡ [] → after ≡ before ++ 93 ∷ 10 ∷ [] → before ++ items_text later (objects object_at left) ≡ 91 ∷ items_text false (objects object_at all)
+    → after ≡ compact_text (array (objects object_at all)) ++ 10 ∷ []
+document_written object_at all left before after later none_left a e =
+    a ∙ sym (append_assoc before (93 ∷ []) (10 ∷ [])) ∙ ap (λ xs. (before ++ items_text later (objects object_at xs)) ++ 10 ∷ []) (sym none_left) ∙ ap (λ xs. xs ++ 10 ∷ []) e
+
+pub some_objects : (n : ℕ) → true ≡ nat_lt 0 (n + 1)
+some_objects n = sym (lt-ltb 0 (n + 1) (omega arith))
 
 -- ---- no more columns, or no more cells
 

@@ -1,11 +1,11 @@
 -- Going through what a document says.
-use Rattle.std.proofs.Common.{◌≡◌, ℕ, suc, ◌+◌, ◌<◌, List, [], ◌∷◌, ◌++◌, length, get_or, drop, map, Option, Some, None, refl, sym, ap, ◌∙◌, append_assoc, subst, add-one, drop-cons, Result, Ok, Err, IfErr, option_map}
+use Rattle.std.proofs.Common.{◌≡◌, ℕ, suc, ◌+◌, ◌<◌, List, [], ◌∷◌, ◌++◌, length, get_or, drop, map, Option, Some, None, refl, sym, ap, ◌∙◌, append_assoc, add-one, drop-cons, Result, Ok, Err, IfErr, option_map}
 use Rattle.std.specs.Result.{IsErrAnd}
 use Rattle.std.specs.Fmt.{decimal}
-use Rattle.serde_json.specs.Data.{Data, null, boolean, number, string, array, object, Items, Members}
+use Rattle.serde_json.specs.Data.{Data, null, boolean, number, string, array, object, Members}
 use Rattle.serde_json.specs.Find.{as_object, get_member}
-use Rattle.serde_json.specs.View.{view, items_view}
-use Rattle.serde_json.specs.declared.value.Value.{Value as Json}
+use Rattle.dx_json.specs.View.{view, items_view}
+use Rattle.dx_json.specs.declared.tree.Json.{Json}
 use Rattle.dx_schema.specs.Forest.{Label, Forest, set, Tree, forest_of}
 use Rattle.dx_model.specs.declared.facts.Fact.{Fact}
 use Rattle.dx_json.specs.declared.fault.JsonKind.{JsonKind}
@@ -14,8 +14,8 @@ use Rattle.dx_json.specs.declared.fault.JsonFault.{JsonFault}
 use Rattle.dx_json.specs.declared.fault.JsonFault.TheVariants as fault
 use Rattle.dx_json.specs.declared.place.Place.{Place}
 use Rattle.dx_json.specs.Said.{Said, says, wrong_shape, wrong_number, unknown_member, unknown_members, column_faults, reading_faults, reading_of, below, item_says, items_say, object_says, member_says, sets_say}
-use Rattle.dx_schema.specs.Tables.{count, tree_at}
-use Rattle.dx_json.specs.Documents.{first_fault, Fails, HasFault, IsDocument, document_says, tree_says}
+use Rattle.dx_schema.specs.Tables.{count}
+use Rattle.dx_json.specs.Documents.{first_fault, Fails, HasFault, IsDocument, document_says}
 
 -- a fault stays the first, whatever follows
 pub first_fault-more : (k : JsonKind) (xs ys : List Said) → first_fault xs ≡ Some k → first_fault (xs ++ ys) ≡ Some k
@@ -118,12 +118,6 @@ pub added_more : (before now then : List Fact) (all left here rest : List Said) 
     → map says before ++ all ≡ map says then ++ rest
 added_more before now then all left here rest e is more = e ∙ ap (λ xs. map says now ++ xs) is ∙ sym (append_assoc (map says now) here rest) ∙ ap (λ xs. xs ++ rest) (sym more)
 
--- the next member of an array is an object
-pub object_left : (l : Label) (inner : Forest) (deeper : Place → Members → List Said) (at : Place) (vs : List Json) (k : ℕ) (v : Json) (ms : Members) → k < length vs → v ≡ get_or vs k v → Some ms ≡ as_object (view v)
-    → items_say l inner deeper at k (items_view (drop k vs)) ≡ object_says l inner deeper at k ms ++ items_say l inner deeper at (k + 1) (items_view (drop (k + 1) vs))
-object_left l inner deeper at vs k v ms lt is o =
-    items_left l inner deeper at vs k v lt is ∙ ap (λ xs. xs ++ items_say l inner deeper at (k + 1) (items_view (drop (k + 1) vs))) (is_object l inner deeper at k (view v) ms o)
-
 pub fails_after : (e : JsonFault) (done rest : List Said) → done ≡ [] → Fails rest e → Fails (done ++ rest) e
 fails_after e done rest is h = rw is h
 
@@ -138,16 +132,11 @@ pub columns_next : (l : Label) (inner : Forest) (deeper : Place → Members → 
 columns_next l inner deeper at k ms path e is clear h =
     fails_after e (unknown_members (below at.path (decimal k)) l inner ms) _ (rw is at clear) (fails_more e (column_faults (below at.path (decimal k)) l.columns ms) _ (rw is at h))
 
-pub set_fails : (e : JsonFault) (ms : Members) (t : Tree) (place : Place) (name path : List ℕ) → name ≡ t.label.name → place.path ≡ path
-    → ((l : Label) (inner : Forest) (deeper : Place → Members → List Said) (at : Place) → at.path ≡ path → Fails (member_says l inner deeper at (get_member name ms)) e)
-    → Fails (member_says t.label t.inner (sets_say t.inner) place (get_member t.label.name ms)) e
-set_fails e ms t place name path n p f = rw (← n) (f t.label t.inner (sets_say t.inner) place p)
-
-pub set_items : (ms : Members) (t : Tree) (at : Place) (table : ℕ) (up : Option (List ℕ)) (path name : List ℕ) (ds : Items) → name ≡ t.label.name → up ≡ at.up → path ≡ below at.path t.label.name
-    → ((l : Label) (inner : Forest) (deeper : Place → Members → List Said) (at : Place) → member_says l inner deeper at (get_member name ms) ≡ items_say l inner deeper at 0 ds)
+-- what an inner set's member says
+pub set_says : (ms : Members) (t : Tree) (at : Place) (table : ℕ) (up : Option (List ℕ)) (path : List ℕ) (member : Option Data) → member ≡ get_member t.label.name ms → up ≡ at.up → path ≡ below at.path t.label.name
     → member_says t.label t.inner (sets_say t.inner) (record { table = table; up = at.up; path = below at.path t.label.name }) (get_member t.label.name ms)
-    ≡ items_say t.label t.inner (sets_say t.inner) (record { table = table; up = up; path = path }) 0 ds
-set_items ms t at table up path name ds n u p f = rw (u, p, ← n) (f t.label t.inner (sets_say t.inner) _)
+    ≡ member_says t.label t.inner (sets_say t.inner) (record { table = table; up = up; path = path }) member
+set_says ms t at table up path member m u p = rw (u, p, m) refl
 
 -- a fault of the next column is one of the columns
 pub column_fails : (path : List ℕ) (cs : List (List ℕ)) (k : ℕ) (x : List ℕ) (ms : Members) (all : List Said) (e : JsonFault) → k < length cs → x ≡ get_or cs k x → all ≡ column_faults path (drop k cs) ms
@@ -155,10 +144,3 @@ pub column_fails : (path : List ℕ) (cs : List (List ℕ)) (k : ℕ) (x : List 
 column_fails path cs k x ms all e lt is a f =
     let next : drop k cs ≡ x ∷ drop (suc k) cs = drop-cons cs k x lt ∙ ap (λ y. y ∷ drop (suc k) cs) (sym is) in
     rw (a, next) (fails_more e (reading_faults (below path x) (reading_of (get_member x ms))) (column_faults path (drop (suc k) cs) ms) f)
-
--- ---- the whole document
-
-pub has_fault : {A : Type 0} (r : Result A JsonFault) (bytes : List ℕ) (schema : Forest) (root : ℕ) (t : Tree) (d : Data) → IsDocument bytes d → t ≡ tree_at schema root
-    → IfErr r (Fails (tree_says t root d)) → IfErr r (HasFault bytes schema root)
-has_fault (Ok v) bytes schema root t d doc s f = tt
-has_fault (Err e) bytes schema root t d doc s f = refused_document bytes schema root d e doc (subst (λ u. Fails (tree_says u root d) e) s f)

@@ -1,5 +1,5 @@
 -- The facts of a document, and its first fault.
-use Rattle.std.specs.Prelude.{◌≡◌, ℕ, List, [], ◌∷◌, Option, Some, None, map, Result, Ok, Err, IsUtf8, ⊤, take, drop, if◌then◌else◌}
+use Rattle.std.specs.Prelude.{◌≡◌, ℕ, List, [], ◌∷◌, ◌++◌, Option, Some, None, map, IsUtf8, ⊤, take, drop, if◌then◌else◌}
 use Rattle.std.specs.Str.{bytes_eq}
 use Rattle.serde_json.specs.Data.{Data, null, boolean, number, string, array, object}
 use Rattle.serde_json.specs.Read.{read}
@@ -46,11 +46,16 @@ abbrev pub Fails : List Said → JsonFault → Type 0
 Fails met (fault.Bad k) = first_fault met ≡ Some k
 Fails met fault.Memory = ⊤
 
--- the value of the bytes
-abbrev pub Reads : {A : Type 0} → List ℕ → (A → Data) → Result A JsonFault → Type 0
-Reads bytes seen (Ok v) = IsDocument bytes (seen v)
-Reads bytes seen (Err (fault.Bad k)) = (k ≡ kind.NotJson) × ((d : Data) → ¬ (IsDocument bytes d))
-Reads bytes seen (Err fault.Memory) = ⊤
+-- what was met so far: facts alone, which were added, or else a first fault
+abbrev pub Tells : Option JsonKind → List Fact → List Fact → List Said → Type 0
+Tells None old new met = map says new ≡ map says old ++ met
+Tells (Some k) old new met = first_fault met ≡ Some k
+
+-- why the value that was read, if one was, says no facts
+abbrev pub Refuses : Option Data → (Data → List Said) → JsonFault → Type 0
+Refuses None said (fault.Bad k) = k ≡ kind.NotJson
+Refuses (Some d) said (fault.Bad k) = first_fault (said d) ≡ Some k
+Refuses o said fault.Memory = ⊤
 
 -- the bytes are a document that says these facts of the root, and no fault
 abbrev pub SaysFacts : List ℕ → Forest → ℕ → List Fact → Type 0

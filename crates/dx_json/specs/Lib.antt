@@ -1,3 +1,7 @@
+pub mod Spans
+pub mod Lines
+pub mod View
+pub mod Unread
 pub mod Said
 pub mod Documents
 pub mod Nesting

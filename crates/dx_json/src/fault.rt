@@ -1,7 +1,9 @@
 // What is wrong with a document.
 ghost use Rattle.std.specs.Prelude.{◌≡◌};
 ghost use Rattle.dx_json.specs.declared.fault.JsonFault.TheVariants.{Memory};
+ghost use Rattle.dx_json.specs.Unread.{fault_of};
 
+use crate::reading::Unread;
 use dx_ports::Text;
 use std::alloc::{AllocError, AllocFailed};
 use thiserror::Error;
@@ -47,5 +49,16 @@ impl<T: Drop> From<AllocFailed<T>> for JsonFault {
 
     fn from(_: AllocFailed<T>) -> Self {
         JsonFault::Memory
+    }
+}
+
+impl From<Unread> for JsonFault {
+    ghost from_gives = { λ u e. e ≡ fault_of u };
+
+    fn from(e: Unread) -> Self {
+        match e {
+            Unread::NotJson => JsonFault::Bad(JsonKind::NotJson),
+            Unread::Memory => JsonFault::Memory,
+        }
     }
 }

@@ -1,25 +1,27 @@
 // The members of one object.
-ghost use Rattle.std.specs.Prelude.{◌≡◌, ◌<◌, [], List, IfOk, IfErr, OnOk, Some, option_map};
-ghost use Rattle.serde_json.specs.Data.{Members};
+ghost use Rattle.std.specs.Prelude.{◌≡◌, ◌<◌, [], List, IfOk, IfErr, OnOk, Some, map, option_map};
+ghost use Rattle.dx_model.specs.declared.values.Value.TheVariants.{Const};
 ghost use Rattle.serde_json.specs.Find.{get_member};
-ghost use Rattle.serde_json.specs.View.{view, items_view, members_view};
-ghost use Rattle.dx_schema.specs.Forest.{Label, Forest};
-ghost use Rattle.dx_json.specs.declared.place.Place.{Place};
+ghost use Rattle.dx_json.specs.View.{view, members_view};
 ghost use Rattle.dx_json.specs.Documents.{Fails};
-ghost use Rattle.dx_json.specs.Said.{Said, below, column_faults, id_of as id_at, is_known, items_say, member_says, reading_faults, reading_of, row_of as row_at, text_of, unknown_members};
+ghost use Rattle.dx_json.specs.Said.{below, column_faults, id_of as id_at, is_known, reading_faults, reading_of, row_of as row_at, text_of, unknown_members};
 
 use crate::fault::{JsonFault, JsonKind};
-use dx_model::{Row, Value};
+use crate::tree::Json;
 use dx_ports::Text;
 use dx_schema::SetTree;
-use serde_json::{Map, Value as Json};
 use std::alloc::{AllocError, Global};
 
-// The member of this name.
-fn member_of<'v>(members: &'v Map<String, Json>, name: &str) -> Option<&'v Json>
-    ensures { option_map (λ v. view v.now) result ≡ get_member name.now (members_view members.now.entries) }
+/// The member of this name.
+pub fn member_of<'v, 'a>(members: &'v [(&'a str, Json<'a>)], name: &str) -> Option<&'v Json<'a>>
+    ensures { option_map (λ v. view v.now) result ≡ get_member name.now (members_view members.now) }
 {
-    members.get(name)
+    for member in members {
+        if member.0 == name {
+            return Some(&member.1);
+        }
+    }
+    None
 }
 
 /// The path of a member or an item.
@@ -57,18 +59,18 @@ fn knows(tree: &SetTree, name: &str) -> bool
 }
 
 /// Refuses the first member that is neither a column nor an inner set.
-pub fn check_members(
+pub fn check_members<'a>(
     alloc: Global,
     tree: &SetTree,
     path: &Text,
-    members: &Map<String, Json>,
+    members: &[(&'a str, Json<'a>)],
 ) -> Result<(), JsonFault>
-    ensures ok { OnOk result (unknown_members path.now tree.now.label tree.now.inner (members_view members.now.entries) ≡ []) }
-    ensures fault { IfErr result (Fails (unknown_members path.now tree.now.label tree.now.inner (members_view members.now.entries))) }
+    ensures ok { OnOk result (unknown_members path.now tree.now.label tree.now.inner (members_view members.now) ≡ []) }
+    ensures fault { IfErr result (Fails (unknown_members path.now tree.now.label tree.now.inner (members_view members.now))) }
 {
-    for (name, _) in members.iter() {
-        if !knows(tree, name.as_str()) {
-            let at = path_below(alloc, path, name.as_str())?;
+    for member in members {
+        if !knows(tree, member.0) {
+            let at = path_below(alloc, path, member.0)?;
             return Err(JsonFault::Bad(JsonKind::Unknown(at)));
         }
     }
@@ -76,7 +78,12 @@ pub fn check_members(
 }
 
 // The constant that a column's member says.
-fn constant_in(alloc: Global, path: &Text, column: &Text, value: &Json) -> Result<Text, JsonFault>
+fn constant_in(
+    alloc: Global,
+    path: &Text,
+    column: &Text,
+    value: &Json<'_>,
+) -> Result<Text, JsonFault>
     ensures ok { IfOk result (λ x. (reading_faults (below path.now column.now) (reading_of (Some (view value.now))) ≡ []) × (x ≡ text_of (reading_of (Some (view value.now))))) }
     ensures fault { IfErr result (Fails (reading_faults (below path.now column.now) (reading_of (Some (view value.now))))) }
 {
@@ -84,7 +91,7 @@ fn constant_in(alloc: Global, path: &Text, column: &Text, value: &Json) -> Resul
         Json::Null => Ok(Text::from_str(alloc, "")?),
         Json::Bool(true) => Ok(Text::from_str(alloc, "true")?),
         Json::Bool(false) => Ok(Text::from_str(alloc, "false")?),
-        Json::String(text) => Ok(Text::from_str(alloc, text.as_str())?),
+        Json::String(text) => Ok(Text::from_str(alloc, text)?),
         Json::Number(number) => {
             if let Some(n) = number.as_u64() {
                 Ok(Text::from_string(alloc, n.to_string(alloc)?)?)
@@ -103,14 +110,14 @@ fn constant_in(alloc: Global, path: &Text, column: &Text, value: &Json) -> Resul
 }
 
 // The constant of a column.
-fn cell_of(
+fn cell_of<'a>(
     alloc: Global,
     path: &Text,
     column: &Text,
-    members: &Map<String, Json>,
+    members: &[(&'a str, Json<'a>)],
 ) -> Result<Text, JsonFault>
-    ensures ok { IfOk result (λ x. (reading_faults (below path.now column.now) (reading_of (get_member column.now (members_view members.now.entries))) ≡ []) × (x ≡ text_of (reading_of (get_member column.now (members_view members.now.entries))))) }
-    ensures fault { IfErr result (Fails (reading_faults (below path.now column.now) (reading_of (get_member column.now (members_view members.now.entries))))) }
+    ensures ok { IfOk result (λ x. (reading_faults (below path.now column.now) (reading_of (get_member column.now (members_view members.now))) ≡ []) × (x ≡ text_of (reading_of (get_member column.now (members_view members.now))))) }
+    ensures fault { IfErr result (Fails (reading_faults (below path.now column.now) (reading_of (get_member column.now (members_view members.now))))) }
 {
     match member_of(members, column.as_str()) {
         None => Ok(Text::from_str(alloc, "")?),
@@ -118,27 +125,27 @@ fn cell_of(
     }
 }
 
-/// The row of an object, or the first fault of its columns.
-pub fn row_of(
+/// The constants of the row of an object, or the first fault of its columns.
+pub fn row_of<'a>(
     alloc: Global,
     tree: &SetTree,
     up: &Option<Text>,
     id: &Text,
     path: &Text,
-    members: &Map<String, Json>,
-) -> Result<Row, JsonFault>
-    ensures ok { IfOk result (λ x. (column_faults path.now tree.now.label.columns (members_view members.now.entries) ≡ []) × (x ≡ row_at tree.now.label tree.now.inner up.now id.now (members_view members.now.entries))) }
-    ensures fault { IfErr result (Fails (column_faults path.now tree.now.label.columns (members_view members.now.entries))) }
+    members: &[(&'a str, Json<'a>)],
+) -> Result<Vec<Text>, JsonFault>
+    ensures ok { IfOk result (λ x. (column_faults path.now tree.now.label.columns (members_view members.now) ≡ []) × (map Const x.items ≡ row_at tree.now.label tree.now.inner up.now id.now (members_view members.now))) }
+    ensures fault { IfErr result (Fails (column_faults path.now tree.now.label.columns (members_view members.now))) }
 {
-    let mut row = Row::new(alloc);
+    let mut row = Vec::new(alloc);
     if !tree.inner.is_empty() {
-        row.push(Value::Const(id.copy()?))?;
+        row.push(id.copy()?)?;
     }
     if let Some(up) = up {
-        row.push(Value::Const(up.copy()?))?;
+        row.push(up.copy()?)?;
     }
     for column in tree.columns.items() {
-        row.push(Value::Const(cell_of(alloc, path, column, members)?))?;
+        row.push(cell_of(alloc, path, column, members)?)?;
     }
     Ok(row)
 }
@@ -150,23 +157,5 @@ pub fn copy_of(up: &Option<Text>) -> Result<Option<Text>, AllocError>
     match up {
         None => Ok(None),
         Some(up) => Ok(Some(up.copy()?)),
-    }
-}
-
-/// The objects of an inner set's member, none if it is `null` or absent.
-pub fn items_in<'v>(
-    members: &'v Map<String, Json>,
-    name: &str,
-    path: &Text,
-) -> Result<&'v [Json], JsonFault>
-    ensures ok { IfOk result (λ s. (l : Label) (inner : Forest) (deeper : Place → Members → List Said) (at : Place)
-        → member_says l inner deeper at (get_member name.now (members_view members.now.entries)) ≡ items_say l inner deeper at 0 (items_view s.now)) }
-    ensures fault { IfErr result (λ e. (l : Label) (inner : Forest) (deeper : Place → Members → List Said) (at : Place)
-        → at.path ≡ path.now → Fails (member_says l inner deeper at (get_member name.now (members_view members.now.entries))) e) }
-{
-    match member_of(members, name) {
-        None | Some(Json::Null) => Ok(&[]),
-        Some(Json::Array(items)) => Ok(items.as_slice()),
-        Some(_) => Err(JsonFault::Bad(JsonKind::Shape(path.copy()?))),
     }
 }

@@ -1,8 +1,9 @@
 // Rows as a document.
-ghost use Rattle.std.specs.Prelude.{◌≡◌, ◌+◌, ◌<◌, ◌^◌, length, suc, drop, true, IfOk, OnOk};
+ghost use Rattle.std.specs.Prelude.{◌≡◌, ◌+◌, ◌<◌, ◌^◌, [], ◌∷◌, ◌++◌, length, nat_lt, suc, drop, string_bytes, true, IfOk, OnOk};
 ghost use Rattle.serde_json.specs.View.{items_view, members_view};
+ghost use Rattle.serde_json.specs.Written.{comma_if};
 ghost use Rattle.dx_schema.specs.Tables.{count, schema_widths, tables_of, tree_at};
-ghost use Rattle.dx_instance.specs.Places.{row_at};
+ghost use Rattle.dx_instance.specs.Places.{IsFirstWith, row_at};
 ghost use Rattle.dx_instance.specs.Stored.{rows_of, table_at, widths};
 ghost use Rattle.dx_json.specs.Nesting.{IsNestedText, nested_text, object_of as object_at, objects, own_from, root_objects, rows_below, up_column, with_columns, with_sets};
 ghost use Rattle.dx_json.specs.Standing.{Stand};
@@ -55,9 +56,7 @@ pub fn nest_sorted(
     prove!(root < instance.tables());
     let tree = schema.tree(root);
     index_sets(instance, &tree.inner, root + 1)?;
-    let document = Json::Array(objects_of_root(alloc, instance, tree, root)?);
-    let text = document.to_string(alloc)?;
-    Text::from_string(alloc, format!(in alloc; "{text}\n")?)
+    Text::from_string(alloc, text_of_root(alloc, instance, tree, root)?)
 }
 
 // The column `#up` of an inner set's table.
@@ -111,26 +110,52 @@ fn own_cells<'v>(tree: &SetTree, is_inner: bool, row: &'v Row) -> &'v [Value]
     row.items().get(from..).unwrap_or(&[])
 }
 
-// The objects of a root's rows.
-fn objects_of_root(
+// The text of the objects of a root's rows. Each object is gone when the next is made.
+fn text_of_root(
     alloc: Global,
     instance: &Instance,
     tree: &SetTree,
     root: u32,
-) -> Result<Vec<Json>, AllocError>
+) -> Result<String, AllocError>
     requires table { root < length instance.now }
     requires width { 0 < (table_at instance.now root).width }
     requires stand { Stand instance.now (suc root) tree.now.inner }
     requires few { count tree.now.inner < 64 }
     requires room { root + suc (count tree.now.inner) < 2 ^ 32 }
-    ensures { IfOk result (λ v. items_view v.items ≡ root_objects instance.now tree.now root) }
+    ensures { IfOk result (λ text. string_bytes text ≡ nested_text instance.now tree.now root) }
 {
-    let mut objects = Vec::new(alloc);
+    let mut text = String::from_str(alloc, "[")?;
     for place in 0..instance.count(root) {
+        push_comma_after(place, &mut text)?;
         let members = object_of(alloc, instance, tree, root, place, false)?;
-        objects.push(Json::Object(members))?;
+        let object = Json::Object(members).to_string(alloc)?;
+        text.push_str(object.as_str())?;
     }
-    Ok(objects)
+    text.push_str("]\n")?;
+    Ok(text)
+}
+
+// Puts a comma after so many objects, if there are any.
+fn push_comma_after(objects: u32, text: &mut String) -> Result<(), AllocError>
+    ensures { OnOk result (string_bytes text.new ≡ string_bytes text.old ++ comma_if (nat_lt 0 objects)) }
+{
+    if objects > 0 {
+        text.push_str(",")?;
+    }
+    Ok(())
+}
+
+// The least place from `from` on whose row has this value in the column. In rows that ascend it is most often the first.
+fn next_with(instance: &Instance, table: u32, column: u32, value: &Value, from: u32) -> Option<u32>
+    requires table { table < length instance.now }
+    requires column { column < (table_at instance.now table).width }
+    ensures { IsFirstWith instance.now table (column ∷ []) (value.now ∷ []) from result }
+{
+    if from < instance.count(table) && instance.cell(table, from, column).is(value) {
+        return Some(from);
+    }
+    let columns = [column];
+    instance.with_columns(table, &columns, slice::from_ref(value), from)
 }
 
 // The objects of the rows of an inner set's table that are below this `#id`.
@@ -150,10 +175,10 @@ fn objects_below(
     ensures { IfOk result (λ v. items_view v.items ≡ objects (object_at tree.now.label tree.now.inner (with_sets instance.now tree.now.inner (suc table)) true) (rows_below instance.now table tree.now.inner id.now)) }
 {
     prove!(table < instance.tables());
-    let columns = [column_up(tree)];
+    let column = column_up(tree);
     let mut objects = Vec::new(alloc);
     let mut next = 0;
-    while let Some(place) = instance.with_columns(table, &columns, slice::from_ref(id), next) {
+    while let Some(place) = next_with(instance, table, column, id, next) {
         let members = object_of(alloc, instance, tree, table, place, true)?;
         objects.push(Json::Object(members))?;
         next = place + 1;

@@ -1,43 +1,30 @@
 // The facts of a document.
-ghost use Rattle.std.specs.Prelude.{◌≡◌, ◌+◌, ◌<◌, ◌^◌, ◌++◌, length, suc, map, Some, None, IfOk, IfErr, OnOk};
+ghost use Rattle.std.specs.Prelude.{◌≡◌, ◌+◌, ◌<◌, ◌^◌, ◌++◌, List, length, suc, map, option_map, Some, None, IfOk, IfErr, OnOk, Err};
 ghost use Rattle.std.specs.Fmt.{decimal};
-ghost use Rattle.serde_json.specs.View.{view, items_view, members_view};
+ghost use Rattle.json.specs.Json.{items, value};
+ghost use Rattle.serde_json.specs.Data.{Data, Items};
+ghost use Rattle.serde_json.specs.Read.{converted, max_depth, of_items, of_json, read as read_text};
+ghost use Rattle.dx_model.specs.declared.facts.Fact.{Fact};
 ghost use Rattle.dx_model.specs.Tables.{IsInstance};
 ghost use Rattle.dx_schema.specs.Tables.{count, model_tables, table_at, tables_of};
-ghost use Rattle.dx_json.specs.Said.{below, items_say, object_says, says, sets_say};
-ghost use Rattle.dx_json.specs.Documents.{Fails, HasFault, Reads, SaysFacts, tree_says};
+ghost use Rattle.dx_json.specs.View.{view, items_view, members_view};
+ghost use Rattle.dx_json.specs.Said.{Said, below, item_says, items_say, member_says, object_says, says, sets_say};
+ghost use Rattle.dx_json.specs.Documents.{Fails, HasFault, Refuses, SaysFacts, Tells, tree_says};
 
+use crate::facts::{FactList, Facts};
 use crate::fault::{JsonFault, JsonKind};
-use crate::members::{check_members, copy_of, id_of, items_in, path_below, row_of};
+use crate::members::{check_members, copy_of, id_of, member_of, path_below, row_of};
 use crate::place::Place;
-use dx_model::Fact;
+use crate::reading::{MAX_DEPTH, Unread, read, read_from, text_of};
+use crate::tree::Json;
 use dx_ports::Text;
 use dx_schema::{Schema, SetTree, Trees};
-use serde_json::{Map, Value as Json};
-use std::alloc::Global;
-
-// The value of the bytes, which may begin with a byte order mark.
-fn read_document(alloc: Global, bytes: &[u8]) -> Result<Json, JsonFault>
-    ensures { Reads bytes.now view result }
-{
-    let rest = match bytes {
-        [0xEF, 0xBB, 0xBF, rest @ ..] => rest,
-        _ => bytes,
-    };
-    match Json::from_slice(alloc, rest) {
-        Ok(value) => Ok(value),
-        Err(e) => {
-            if e.is_memory() {
-                Err(JsonFault::Memory)
-            } else {
-                Err(JsonFault::Bad(JsonKind::NotJson))
-            }
-        }
-    }
-}
+use json::{Reader, Scratch, Token};
+use std::alloc::{AllocError, Global};
 
 /// The facts that a document says of a root of a schema: objects in order, an object before those of its inner sets, and
-/// these in the schema's order.
+/// these in the schema's order. Texts with an escape are put together in `scratch`, which serves one document after the
+/// other.
 ///
 /// # Errors
 ///
@@ -47,37 +34,120 @@ fn read_document(alloc: Global, bytes: &[u8]) -> Result<Json, JsonFault>
 pub fn shred(
     alloc: Global,
     bytes: &[u8],
+    scratch: &mut Scratch,
     schema: &Schema,
     root: u32,
-) -> Result<Vec<Fact>, JsonFault>
+) -> Result<Facts, JsonFault>
     requires root { root < length (tables_of schema.now) }
-    ensures facts { IfOk result (λ v. SaysFacts bytes.now schema.now root v.items) }
-    ensures fit { IfOk result (λ v. (table_at schema.now root).parent ≡ None → IsInstance (model_tables schema.now) v.items) }
+    ensures facts { IfOk result (λ v. SaysFacts bytes.now schema.now root v) }
+    ensures fit { IfOk result (λ v. (table_at schema.now root).parent ≡ None → IsInstance (model_tables schema.now) v) }
     ensures fault { IfErr result (HasFault bytes.now schema.now root) }
 {
     prove!(root < schema.tables());
-    let value = read_document(alloc, bytes)?;
-    facts_of(alloc, &value, schema.tree(root), root)
+    let text = text_of(bytes)?;
+    let facts = facts_of(alloc, text, scratch, schema.tree(root), root)?;
+    Ok(facts.shared(alloc)?)
 }
 
-// The facts that a value says of a set.
-fn facts_of(alloc: Global, value: &Json, tree: &SetTree, table: u32) -> Result<Vec<Fact>, JsonFault>
+// The facts that a text says of a set.
+fn facts_of(
+    alloc: Global,
+    text: &str,
+    scratch: &mut Scratch,
+    tree: &SetTree,
+    table: u32,
+) -> Result<FactList, JsonFault>
     requires table { table < 2 ^ 31 }
     requires few { count tree.now.inner < 64 }
-    ensures ok { IfOk result (λ v. tree_says tree.now table (view value.now) ≡ map says v.items) }
-    ensures fault { IfErr result (Fails (tree_says tree.now table (view value.now))) }
+    ensures ok { IfOk result (λ facts. (d : Data) × (read_text text.now ≡ Some d) × (tree_says tree.now table d ≡ map says facts)) }
+    ensures fault { IfErr result (Refuses (read_text text.now) (tree_says tree.now table)) }
+{
+    let mut reader = Reader::new(text, scratch)?;
+    let mut facts = FactList::new(alloc);
+    let met = push_document(alloc, tree, table, &mut reader, &mut facts)?;
+    if reader.next().is_some() {
+        return Err(JsonFault::Bad(JsonKind::NotJson));
+    }
+    match met {
+        None => Ok(facts),
+        Some(kind) => Err(JsonFault::Bad(kind)),
+    }
+}
+
+// Appends what a document says, up to the first fault, which it gives.
+fn push_document(
+    alloc: Global,
+    tree: &SetTree,
+    table: u32,
+    reader: &mut Reader<'_>,
+    out: &mut FactList,
+) -> Result<Option<JsonKind>, Unread>
+    requires table { table < 2 ^ 31 }
+    requires few { count tree.now.inner < 64 }
+    ensures ok { IfOk result (λ met. (d : Data) × (converted of_json (value max_depth reader.old) ≡ Some (d, reader.new)) × Tells met out.old out.new (tree_says tree.now table d)) }
+    ensures refused { result ≡ Err Unread.NotJson → converted of_json (value max_depth reader.old) ≡ None }
 {
     let at = Place {
         table,
         up: None,
         path: Text::from_str(alloc, "")?,
     };
-    let Json::Array(items) = value else {
-        return Err(JsonFault::Bad(JsonKind::Shape(at.path)));
-    };
-    let mut facts = Vec::new(alloc);
-    push_items(alloc, tree, &at, items, &mut facts)?;
-    Ok(facts)
+    let token = reader.next().ok_or(Unread::NotJson)?;
+    if let Token::BeginArray = token {
+        return push_array(alloc, tree, &at, reader, out);
+    }
+    read_from(alloc, token, reader, MAX_DEPTH)?;
+    Ok(Some(JsonKind::Shape(at.path)))
+}
+
+// Appends what the items of an array say as they are read, up to the first fault, which it gives. The items after that are
+// read nevertheless.
+fn push_array(
+    alloc: Global,
+    tree: &SetTree,
+    at: &Place,
+    reader: &mut Reader<'_>,
+    out: &mut FactList,
+) -> Result<Option<JsonKind>, Unread>
+    requires room { at.now.table + suc (count tree.now.inner) < 2 ^ 32 }
+    requires few { count tree.now.inner < 64 }
+    ensures ok { IfOk result (λ met. (ds : Items) × (converted of_items (items (value 126) (length reader.old) reader.old) ≡ Some (ds, reader.new))
+        × Tells met out.old out.new (items_say tree.now.label tree.now.inner (sets_say tree.now.inner) at.now 0 ds)) }
+    ensures refused { result ≡ Err Unread.NotJson → converted of_items (items (value 126) (length reader.old) reader.old) ≡ None }
+{
+    let mut met = None;
+    let mut place = 0usize;
+    'items: while !reader.take_end_array() {
+        let item = read(alloc, reader, MAX_DEPTH - 1)?;
+        met = push_next(alloc, tree, at, place, &item, met, out)?;
+        place = place.checked_add(1).ok_or(Unread::Memory)?;
+    }
+    Ok(met)
+}
+
+// Appends what the k-th item of an array says, unless a fault was met before. Gives the first fault that was met.
+fn push_next(
+    alloc: Global,
+    tree: &SetTree,
+    at: &Place,
+    k: usize,
+    item: &Json<'_>,
+    met: Option<JsonKind>,
+    out: &mut FactList,
+) -> Result<Option<JsonKind>, AllocError>
+    requires room { at.now.table + suc (count tree.now.inner) < 2 ^ 32 }
+    requires few { count tree.now.inner < 64 }
+    ensures { IfOk result (λ now. (old : List Fact) (before : List Said) → Tells met old out.old before
+        → Tells now old out.new (before ++ item_says tree.now.label tree.now.inner (sets_say tree.now.inner) at.now k (view item.now))) }
+{
+    if met.is_some() {
+        return Ok(met);
+    }
+    match push_item(alloc, tree, at, k, item, out) {
+        Ok(()) => Ok(None),
+        Err(JsonFault::Bad(kind)) => Ok(Some(kind)),
+        Err(JsonFault::Memory) => Err(AllocError),
+    }
 }
 
 // Appends what the items of an array say.
@@ -86,49 +156,64 @@ fn push_items(
     alloc: Global,
     tree: &SetTree,
     at: &Place,
-    items: &[Json],
-    out: &mut Vec<Fact>,
+    items: &[Json<'_>],
+    out: &mut FactList,
 ) -> Result<(), JsonFault>
     requires room { at.now.table + suc (count tree.now.inner) < 2 ^ 32 }
     requires few { count tree.now.inner < 64 }
-    ensures ok { OnOk result (map says out.new.items ≡ map says out.old.items ++ items_say tree.now.label tree.now.inner (sets_say tree.now.inner) at.now 0 (items_view items.now)) }
+    ensures ok { OnOk result (map says out.new ≡ map says out.old ++ items_say tree.now.label tree.now.inner (sets_say tree.now.inner) at.now 0 (items_view items.now)) }
     ensures fault { IfErr result (Fails (items_say tree.now.label tree.now.inner (sets_say tree.now.inner) at.now 0 (items_view items.now))) }
 {
     for (k, item) in items.iter().enumerate() {
-        let position = k.to_string(alloc)?;
-        let path = path_below(alloc, &at.path, position.as_str())?;
-        let Some(members) = item.as_object() else {
-            return Err(JsonFault::Bad(JsonKind::Shape(path)));
-        };
-        push_object(alloc, tree, at, k, path, members, out)?;
+        push_item(alloc, tree, at, k, item, out)?;
     }
     Ok(())
 }
 
+// Appends what the k-th item of an array says: it is to be an object.
+#[cycle(walk)]
+fn push_item(
+    alloc: Global,
+    tree: &SetTree,
+    at: &Place,
+    k: usize,
+    item: &Json<'_>,
+    out: &mut FactList,
+) -> Result<(), JsonFault>
+    requires room { at.now.table + suc (count tree.now.inner) < 2 ^ 32 }
+    requires few { count tree.now.inner < 64 }
+    ensures ok { OnOk result (map says out.new ≡ map says out.old ++ item_says tree.now.label tree.now.inner (sets_say tree.now.inner) at.now k (view item.now)) }
+    ensures fault { IfErr result (Fails (item_says tree.now.label tree.now.inner (sets_say tree.now.inner) at.now k (view item.now))) }
+{
+    let position = k.to_string(alloc)?;
+    let path = path_below(alloc, &at.path, position.as_str())?;
+    let Some(members) = item.as_object() else {
+        return Err(JsonFault::Bad(JsonKind::Shape(path)));
+    };
+    push_object(alloc, tree, at, k, path, members, out)
+}
+
 // Appends what the k-th object of a list says.
 #[cycle(walk)]
-fn push_object(
+fn push_object<'a>(
     alloc: Global,
     tree: &SetTree,
     at: &Place,
     k: usize,
     path: Text,
-    members: &Map<String, Json>,
-    out: &mut Vec<Fact>,
+    members: &[(&'a str, Json<'a>)],
+    out: &mut FactList,
 ) -> Result<(), JsonFault>
     requires room { at.now.table + suc (count tree.now.inner) < 2 ^ 32 }
     requires few { count tree.now.inner < 64 }
     requires path { path ≡ below at.now.path (decimal k) }
-    ensures ok { OnOk result (map says out.new.items ≡ map says out.old.items ++ object_says tree.now.label tree.now.inner (sets_say tree.now.inner) at.now k (members_view members.now.entries)) }
-    ensures fault { IfErr result (Fails (object_says tree.now.label tree.now.inner (sets_say tree.now.inner) at.now k (members_view members.now.entries))) }
+    ensures ok { OnOk result (map says out.new ≡ map says out.old ++ object_says tree.now.label tree.now.inner (sets_say tree.now.inner) at.now k (members_view members.now)) }
+    ensures fault { IfErr result (Fails (object_says tree.now.label tree.now.inner (sets_say tree.now.inner) at.now k (members_view members.now))) }
 {
     check_members(alloc, tree, &path, members)?;
     let id = id_of(alloc, &at.up, k)?;
     let row = row_of(alloc, tree, &at.up, &id, &path, members)?;
-    out.push(Fact {
-        table: at.table,
-        row,
-    })?;
+    out.push(at.table, &row)?;
     let deeper = Place {
         table: at.table + 1,
         up: Some(id),
@@ -137,19 +222,40 @@ fn push_object(
     push_sets(alloc, &tree.inner, &deeper, members, out)
 }
 
+// Appends what the member of an inner set says: an array, `null` or absent.
+#[cycle(walk)]
+fn push_member(
+    alloc: Global,
+    tree: &SetTree,
+    at: &Place,
+    member: Option<&Json<'_>>,
+    out: &mut FactList,
+) -> Result<(), JsonFault>
+    requires room { at.now.table + suc (count tree.now.inner) < 2 ^ 32 }
+    requires few { count tree.now.inner < 64 }
+    ensures ok { OnOk result (map says out.new ≡ map says out.old ++ member_says tree.now.label tree.now.inner (sets_say tree.now.inner) at.now (option_map (λ v. view v.now) member.entry)) }
+    ensures fault { IfErr result (Fails (member_says tree.now.label tree.now.inner (sets_say tree.now.inner) at.now (option_map (λ v. view v.now) member.entry))) }
+{
+    match member {
+        None | Some(Json::Null) => Ok(()),
+        Some(Json::Array(items)) => push_items(alloc, tree, at, items, out),
+        Some(_) => Err(JsonFault::Bad(JsonKind::Shape(at.path.copy()?))),
+    }
+}
+
 // Appends what the inner sets of an object say.
 #[cycle(walk)]
-fn push_sets(
+fn push_sets<'a>(
     alloc: Global,
     sets: &Trees,
     at: &Place,
-    members: &Map<String, Json>,
-    out: &mut Vec<Fact>,
+    members: &[(&'a str, Json<'a>)],
+    out: &mut FactList,
 ) -> Result<(), JsonFault>
     requires room { at.now.table + count sets.now < 2 ^ 32 }
     requires few { count sets.now < 64 }
-    ensures ok { OnOk result (map says out.new.items ≡ map says out.old.items ++ sets_say sets.now at.now (members_view members.now.entries)) }
-    ensures fault { IfErr result (Fails (sets_say sets.now at.now (members_view members.now.entries))) }
+    ensures ok { OnOk result (map says out.new ≡ map says out.old ++ sets_say sets.now at.now (members_view members.now)) }
+    ensures fault { IfErr result (Fails (sets_say sets.now at.now (members_view members.now))) }
 {
     let mut table = at.table;
     for inner in sets.items() {
@@ -158,8 +264,8 @@ fn push_sets(
             up: copy_of(&at.up)?,
             path: path_below(alloc, &at.path, inner.name.as_str())?,
         };
-        let items = items_in(members, inner.name.as_str(), &place.path)?;
-        push_items(alloc, inner, &place, items, out)?;
+        let member = member_of(members, inner.name.as_str());
+        push_member(alloc, inner, &place, member, out)?;
         table += 1 + inner.inner.count();
     }
     Ok(())

@@ -1,7 +1,8 @@
 // The facts of documents, and their first faults.
 use super::sets::schema;
-use dx_json::{JsonFault, JsonKind, shred};
-use dx_model::{Fact, Value};
+use dx_json::{Facts, JsonFault, JsonKind, shred};
+use dx_model::Value;
+use json::Scratch;
 use std::alloc::{AllocError, Global};
 use std::test::Fail;
 
@@ -146,9 +147,10 @@ const CASES: [Case; 20] = [
     },
 ];
 
-fn listed(alloc: Global, facts: &[Fact]) -> Result<String, AllocError> {
+fn listed(alloc: Global, facts: &Facts) -> Result<String, AllocError> {
     let mut line = String::new(alloc);
-    for fact in facts {
+    for place in 0..facts.len() {
+        let fact = facts.fact(alloc, place)?;
         line.push_str(format!(in alloc; "{}", fact.table)?.as_str())?;
         for value in fact.row.items() {
             line.push('|')?;
@@ -166,7 +168,8 @@ fn told(alloc: Global, case: &Case) -> Result<String, AllocError> {
     if case.root >= schema.tables() {
         return String::from_str(alloc, "no such root");
     }
-    match shred(alloc, case.document, &schema, case.root) {
+    let mut scratch = Scratch::new(alloc);
+    match shred(alloc, case.document, &mut scratch, &schema, case.root) {
         Ok(facts) => listed(alloc, &facts),
         Err(JsonFault::Memory) => String::from_str(alloc, "out of memory"),
         Err(JsonFault::Bad(JsonKind::NotJson)) => String::from_str(alloc, "no JSON"),

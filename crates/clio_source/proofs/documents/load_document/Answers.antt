@@ -1,5 +1,4 @@
-use Rattle.std.proofs.Common.{◌≡◌, ◌+◌, ◌-◌, ◌<◌, ◌≤◌, arith, length, List, Ok, Err, sym, ◌∙◌, ap, subst}
-use Rattle.dx_model.specs.declared.facts.Fact.{Fact}
+use Rattle.std.proofs.Common.{◌≡◌, ◌+◌, ◌-◌, ◌≤◌, arith, length, Err, sym, ◌∙◌, ap, subst}
 use Rattle.dx_model.specs.Tables.{IsInstance}
 use Rattle.dx_schema.specs.Forest.{Tree}
 use Rattle.dx_schema.specs.Tables.{count, model_tables, tables_of, tree_at}
@@ -7,8 +6,8 @@ use Rattle.dx_json.proofs.Fitting.{facts_fit}
 use Rattle.dx_stages.specs.declared.stop.Stop.TheVariants as stops
 use Rattle.clio_source.specs.declared.fault.SourceRefusal.{SourceRefusal}
 use Rattle.clio_source.specs.declared.reading.Reading.{Reading}
-use Rattle.clio_source.specs.Source.{cells_in, loading, nested}
-use Rattle.clio_source.specs.Fitting.{AddsFacts, CanTake, GivesTo}
+use Rattle.clio_source.specs.Source.{loading, nested}
+use Rattle.clio_source.specs.Fitting.{GivesTo}
 use Rattle.clio_source.proofs.Fits.{can_take, few_facts, fit_empty, holds_document, many_tables}
 use Rattle.clio_source.proofs.Ranges.{between}
 use Rattle.clio_source.proofs.Roots.{end_within}
@@ -17,37 +16,34 @@ use Rattle.clio_source.proofs.documents.load_document.Goals as goal
 
 pub cells_after-requires : goal.cells_after-requires
 cells_after-requires c =
-    subst (λ (fs : List Fact). IsInstance (model_tables c.args.schema.now) fs) (sym c.deref.ensures.value)
-    (facts_fit c.args.bytes.now c.args.schema.now c.args.root c.in_ok-facts.facts.items c.requires.root c.requires.parent c.in_ok-facts.ensures.facts)
+    facts_fit c.args.bytes.now c.args.schema.now c.args.root c.in_ok-facts.facts c.requires.root c.requires.parent c.in_ok-facts.ensures.facts
 
 pub returns-in_default-clause-read : goal.returns-in_default-clause-read
 returns-in_default-clause-read c = λ q h.
     subst (λ (e : SourceRefusal). GivesTo (loading nested c.args.schema.now c.args.root) (q, c.args.bytes.now) (Err (stops.Refused e))) (sym c.too_many_cells.ensures)
-    (no_cells_left nested c.args.schema.now c.args.root c.args.before.cells_left q c.args.bytes.now c.in_ok-facts.facts.items c.in_ok-facts.ensures.facts h.cells
-    (subst (λ (fs : List Fact). c.args.before.cells_left < cells_in c.args.schema.now fs) c.deref.ensures.value c.in_default.ensures))
+    (no_cells_left nested c.args.schema.now c.args.root c.args.before.cells_left q c.args.bytes.now c.in_ok-facts.facts c.in_ok-facts.ensures.facts h.cells c.in_default.ensures)
 
 pub push_tables-requires-clause-last : goal.push_tables-requires-clause-last
 push_tables-requires-clause-last c =
     let same = ap (λ (t : Tree). count t.inner) (c.behind-schema.view_is ∙ c.tree.ensures.tree) in
     omega (arith, end_within c.args.schema.now c.args.root c.requires.root, c.count.ensures, same)
 
--- the table behind those of the root
+-- the table after those of the root
 ends : (c : goal.After-tables-2-1) → c.args.root + 1 + c.count.result ≡ c.args.root + 1 + count (tree_at c.args.schema.now c.args.root).inner
 ends c =
     let same = ap (λ (t : Tree). count t.inner) (c.behind-schema.view_is ∙ c.tree.ensures.tree) in
     omega (arith, c.count.ensures, same)
 
-fits : (c : goal.After-tables-2-1) → IsInstance (model_tables c.args.schema.now) c.in_ok-facts.facts.items
-fits c = facts_fit c.args.bytes.now c.args.schema.now c.args.root c.in_ok-facts.facts.items c.requires.root c.requires.parent c.in_ok-facts.ensures.facts
+fits : (c : goal.After-tables-2-1) → IsInstance (model_tables c.args.schema.now) c.in_ok-facts.facts
+fits c = facts_fit c.args.bytes.now c.args.schema.now c.args.root c.in_ok-facts.facts c.requires.root c.requires.parent c.in_ok-facts.ensures.facts
 
 pub push_facts-requires-clause-fit : goal.push_facts-requires-clause-fit
 push_facts-requires-clause-fit c =
     let last = c.args.root + 1 + c.count.result in
     let few : last ≤ length (tables_of c.args.schema.now) = omega (arith, end_within c.args.schema.now c.args.root c.requires.root, ends c) in
     let many = many_tables c.args.schema.now c.args.root c.args.before (omega (arith, c.requires.root)) c.requires.fit in
-    let in_range = between c.args.schema.now c.args.root last c.args.bytes.now c.in_ok-facts.facts.items (omega (arith, ends c)) c.in_ok-facts.ensures.facts in
-    subst (λ (fs : List Fact). CanTake c.push_tables.new.tables.items c.args.root fs) (sym c.deref-2.ensures.value)
-    (can_take c.args.schema.now c.args.root last c.args.before.tables.items c.push_tables.new.tables.items c.in_ok-facts.facts.items c.in_ok-push_tables.ensures many few (fits c) in_range)
+    let in_range = between c.args.schema.now c.args.root last c.args.bytes.now c.in_ok-facts.facts (omega (arith, ends c)) c.in_ok-facts.ensures.facts in
+    can_take c.args.schema.now c.args.root last c.args.before.tables.items c.push_tables.new.tables.items c.in_ok-facts.facts c.in_ok-push_tables.ensures many few (fits c) in_range
 
 pub push_facts-requires-clause-below : goal.push_facts-requires-clause-below
 push_facts-requires-clause-below c =
@@ -55,19 +51,13 @@ push_facts-requires-clause-below c =
 
 pub push_facts-requires-clause-few : goal.push_facts-requires-clause-few
 push_facts-requires-clause-few c =
-    let cells = few_facts c.args.schema.now c.in_ok-facts.facts.items c.tables.ensures.facts (fits c) in
-    let within : cells_in c.args.schema.now c.in_ok-facts.facts.items ≤ c.args.before.cells_left =
-    subst (λ (fs : List Fact). cells_in c.args.schema.now fs ≤ c.args.before.cells_left) c.deref.ensures.value c.in-Some.ensures.1 in
-    omega (arith, cells, within, c.requires.fit.few, ap length c.deref-2.ensures.value)
+    let cells = few_facts c.args.schema.now c.in_ok-facts.facts c.tables.ensures.facts (fits c) in
+    omega (arith, cells, c.in-Some.ensures.1, c.requires.fit.few)
 
 pub returns-clause-read : goal.returns-clause-read
 returns-clause-read c = λ q h.
     let f = c.args.schema.now in
     let after : Reading = record { symbols = c.push_facts.new.symbols; tables = c.push_facts.new.tables; bytes_left = c.saturating_sub.result; cells_left = c.in-Some.cells_left } in
-    let within : cells_in f c.in_ok-facts.facts.items ≤ c.args.before.cells_left = subst (λ (fs : List Fact). cells_in f fs ≤ c.args.before.cells_left) c.deref.ensures.value c.in-Some.ensures.1 in
-    let put : AddsFacts c.args.before.symbols c.push_facts.new.symbols c.push_tables.new.tables.items c.push_facts.new.tables.items c.in_ok-facts.facts.items =
-    subst (λ (fs : List Fact). AddsFacts c.args.before.symbols c.push_facts.new.symbols c.push_tables.new.tables.items c.push_facts.new.tables.items fs) c.deref-2.ensures.value c.in_ok-push_facts.ensures in
-    loaded nested f c.args.root c.args.before.cells_left q after c.args.bytes.now c.in_ok-facts.facts.items c.in_ok-facts.ensures.facts h.cells within
-    (holds_document f (c.args.root + 1 + c.count.result) c.args.before after c.push_tables.new.tables.items c.in_ok-facts.facts.items q h c.in_ok-push_tables.ensures put)
-    (c.saturating_sub.ensures ∙ ap (λ n. n - length c.args.bytes.now) h.bytes)
-    (c.in-Some.ensures.0 ∙ ap (λ (fs : List Fact). c.args.before.cells_left - cells_in f fs) c.deref.ensures.value)
+    loaded nested f c.args.root c.args.before.cells_left q after c.args.bytes.now c.in_ok-facts.facts c.in_ok-facts.ensures.facts h.cells c.in-Some.ensures.1
+    (holds_document f (c.args.root + 1 + c.count.result) c.args.before after c.push_tables.new.tables.items c.in_ok-facts.facts q h c.in_ok-push_tables.ensures c.in_ok-push_facts.ensures)
+    (c.saturating_sub.ensures ∙ ap (λ n. n - length c.args.bytes.now) h.bytes) c.in-Some.ensures.0

@@ -1,7 +1,7 @@
-use Rattle.std.proofs.Common.{◌≡◌}
-use Rattle.serde_json.specs.View.{members_view}
+use Rattle.std.proofs.Common.{◌≡◌, drop}
+use Rattle.dx_json.specs.View.{members_view}
 use Rattle.dx_json.specs.Said.{unknown_members}
 use Rattle.dx_json.proofs.members.check_members.Given as goal
 
-abbrev pub invariant-loop-name : goal.invariant-loop-name
-invariant-loop-name l = unknown_members l.path l.tree.label l.tree.inner (members_view l.members.entries) ≡ unknown_members l.path l.tree.label l.tree.inner (members_view l.name-iterator)
+abbrev pub invariant-loop-member : goal.invariant-loop-member
+invariant-loop-member l = unknown_members l.path l.tree.label l.tree.inner (members_view l.members) ≡ unknown_members l.path l.tree.label l.tree.inner (members_view (drop l.member-index l.members))

@@ -18,7 +18,7 @@ pub objects_below-overflow_add-next : goal.objects_below-overflow_add-next
 objects_below-overflow_add-next t c =
     let I = c.args.instance.now in
     let few : length (rows_of I c.args.table) < 2 ^ 32 = c.tables.ensures.few (table_at I c.args.table) (in_at I c.args.table _ c.requires.table) in
-    let next = next_row I c.args.table (up_column c.args.tree.now.inner) c.loop-place.next c.in-Some.place c.args.id.now _ _ (ap (λ n. n ∷ []) c.column_up.ensures) c.from_ref.ensures.value c.in-Some.ensures in
+    let next = next_row I c.args.table (up_column c.args.tree.now.inner) c.loop-place.next c.in-Some.place c.args.id.now _ _ (ap (λ n. n ∷ []) c.column_up-column.ensures) refl c.in-Some.ensures in
     omega (arith, few, next.0)
 
 pub objects_below-loop-place-preserved : goal.objects_below-loop-place-preserved
@@ -26,7 +26,7 @@ objects_below-loop-place-preserved t c =
     let I = c.args.instance.now in
     let tree = c.args.tree.now in
     let up = up_column tree.inner in
-    let next = next_row I c.args.table up c.loop-place.next c.in-Some.place c.args.id.now _ _ (ap (λ n. n ∷ []) c.column_up.ensures) c.from_ref.ensures.value c.in-Some.ensures in
+    let next = next_row I c.args.table up c.loop-place.next c.in-Some.place c.args.id.now _ _ (ap (λ n. n ∷ []) c.column_up-column.ensures) refl c.in-Some.ensures in
     let object_at = object_of tree.label tree.inner (with_sets I tree.inner (suc c.args.table)) true in
     record {
       made = object_added object_at (objects object_at (rows_below I c.args.table tree.inner c.args.id.now)) (rows_left I c.args.table up c.args.id.now c.loop-place.next) (rows_left I c.args.table up c.args.id.now (c.in-Some.place + 1)) (row_at I c.args.table c.in-Some.place)
@@ -41,7 +41,7 @@ objects_below-returns t c =
     let up = up_column tree.inner in
     let object_at = object_of tree.label tree.inner (with_sets I tree.inner (suc c.args.table)) true in
     objects_done object_at (objects object_at (rows_below I c.args.table tree.inner c.args.id.now)) (rows_left I c.args.table up c.args.id.now c.loop-place.next) c.loop-place.objects.items
-    (no_row_left I c.args.table up c.loop-place.next c.args.id.now _ _ (ap (λ n. n ∷ []) c.column_up.ensures) c.from_ref.ensures.value c.loop-place.invariant.within c.in_default.ensures) c.loop-place.invariant.made
+    (no_row_left I c.args.table up c.loop-place.next c.args.id.now _ _ (ap (λ n. n ∷ []) c.column_up-column.ensures) refl c.loop-place.invariant.within c.in_default.ensures) c.loop-place.invariant.made
 
 pub put_sets-objects_below-requires : goal.put_sets-objects_below-requires
 put_sets-objects_below-requires t c =

@@ -1,16 +1,10 @@
-use Rattle.std.proofs.Common.{◌≡◌, ◌<◌, ◌≤◌, ◌++◌, ◌∷◌, [], refl, ap, ◌∙◌, rules, arith, string_bytes, false, length}
+use Rattle.std.proofs.Common.{◌≡◌, ◌<◌, ◌≤◌, refl, ap, ◌∙◌, arith, string_bytes, length}
 use Rattle.std.proofs.lemmas.Result.{IfOk-weaker}
-use Rattle.serde_json.specs.Data.{array}
-use Rattle.serde_json.specs.View.{view}
-use Rattle.serde_json.specs.Written.{compact_text, has_float}
-use Rattle.serde_json.specs.declared.value.Value.{Array}
-use Rattle.serde_json.proofs.Views.{view-Array}
 use Rattle.dx_ports.proofs.Members.{in_at}
 use Rattle.dx_schema.specs.Tables.{tree_at}
 use Rattle.dx_instance.specs.Stored.{table_at}
-use Rattle.dx_json.specs.Nesting.{nested_text, root_objects}
+use Rattle.dx_json.specs.Nesting.{nested_text}
 use Rattle.dx_json.proofs.Fitting.{sets_stand}
-use Rattle.dx_json.proofs.Nested.{document_clean}
 use Rattle.dx_json.proofs.nesting.nest_sorted.Goals as goal
 
 pub index_sets-requires-clause-stand : goal.index_sets-requires-clause-stand
@@ -18,15 +12,15 @@ index_sets-requires-clause-stand c =
     let I = c.args.instance.now in
     sets_stand I I c.args.schema.now c.args.root _ c.tree-tree.result.now c.tree.inside.inner c.requires.widths c.requires.root c.tree-tree.ensures.tree refl (ap (λ v. v.inner) c.tree.view_is) (omega arith)
 
-pub objects_of_root-requires-clause-width : goal.objects_of_root-requires-clause-width
-objects_of_root-requires-clause-width c =
+pub text_of_root-requires-clause-width : goal.text_of_root-requires-clause-width
+text_of_root-requires-clause-width c =
     let I = c.args.instance.now in
     let within : c.args.root < length I = omega (arith, c.if-prove-2.false, c.tables-2.ensures.number) in
     let wide : 1 ≤ (table_at I c.args.root).width = c.tables-2.ensures.widths (table_at I c.args.root) (in_at I c.args.root _ within) in
     rw c.index_sets.ensures (omega (arith, wide))
 
-pub objects_of_root-requires-clause-stand : goal.objects_of_root-requires-clause-stand
-objects_of_root-requires-clause-stand c =
+pub text_of_root-requires-clause-stand : goal.text_of_root-requires-clause-stand
+text_of_root-requires-clause-stand c =
     sets_stand c.args.instance.now _ c.args.schema.now c.args.root _ c.tree-tree.result.now _ c.requires.widths c.requires.root c.tree-tree.ensures.tree c.index_sets.ensures refl refl
 
 pub returns-clause-text : goal.returns-clause-text
@@ -34,10 +28,6 @@ returns-clause-text c =
     let I = c.args.instance.now in
     let t = c.tree-tree.result.now in
     let root = c.args.root in
-    let v = c.in_ok-objects_of_root.field-0 in
-    let seen : view (Array v) ≡ array (root_objects I t root) = view-Array v ∙ ap array (c.in_ok-objects_of_root.ensures ∙ ap (λ J. root_objects J t root) c.index_sets.ensures) in
-    let clear : has_float (view (Array v)) ≡ false = ap has_float seen ∙ document_clean I t root in
-    let text : string_bytes c.in_ok-text.text ≡ compact_text (view (Array v)) = c.in_ok-text.ensures.text clear in
-    let line : string_bytes c.in_ok-format.field-0 ≡ string_bytes c.in_ok-text.text ++ 10 ∷ [] = search rules in
-    let all : string_bytes c.in_ok-format.field-0 ≡ nested_text I (tree_at c.args.schema.now root) root = line ∙ ap (λ x. x ++ 10 ∷ []) (text ∙ ap compact_text seen) ∙ ap (λ u. nested_text I u root) c.tree-tree.ensures.tree in
-    IfOk-weaker c.from_string.result (λ x. x ≡ string_bytes c.in_ok-format.field-0) (λ x. x ≡ nested_text I (tree_at c.args.schema.now root) root) (λ x e. e ∙ all) c.from_string.ensures
+    let text = c.in_ok-text_of_root.field-0 in
+    let all : string_bytes text ≡ nested_text I (tree_at c.args.schema.now root) root = c.in_ok-text_of_root.ensures ∙ ap (λ J. nested_text J t root) c.index_sets.ensures ∙ ap (λ u. nested_text I u root) c.tree-tree.ensures.tree in
+    IfOk-weaker c.from_string.result (λ x. x ≡ string_bytes text) (λ x. x ≡ nested_text I (tree_at c.args.schema.now root) root) (λ x e. e ∙ all) c.from_string.ensures

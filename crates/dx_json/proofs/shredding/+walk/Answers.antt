@@ -1,57 +1,53 @@
-use Rattle.std.proofs.Common.{◌≡◌, ◌++◌, ◌+◌, suc, refl, sym, ap, ◌∙◌, arith, rules, drop, Some, decimal}
-use Rattle.serde_json.specs.View.{view, items_view, members_view}
+use Rattle.std.proofs.Common.{◌≡◌, ◌++◌, ◌+◌, suc, refl, sym, ap, ◌∙◌, arith, rules, drop, option_map, Some, decimal}
+use Rattle.dx_json.specs.View.{view, items_view, members_view}
 use Rattle.dx_schema.specs.Forest.{forest_of, forest_size}
 use Rattle.dx_schema.proofs.Preorder.{count_below, forest_size-inner}
 use Rattle.serde_json.specs.Find.{get_member}
-use Rattle.dx_json.specs.declared.fault.JsonFault.TheVariants as fault
 use Rattle.dx_json.specs.declared.fault.JsonKind.TheVariants as kind
 use Rattle.dx_json.specs.declared.place.Place.{Place}
 use Rattle.dx_schema.specs.Tables.{count}
 use Rattle.dx_json.specs.Said.{below, member_says, item_says, items_say, object_says, sets_say}
 use Rattle.dx_json.specs.Documents.{first_fault}
-use Rattle.dx_json.proofs.Steps.{added_more, columns_next, count_at, fails_left, items_left, no_object, none_there, object_left, refused, set_fails, set_items, sets_left, unknown_first}
+use Rattle.dx_json.proofs.Steps.{added_more, columns_next, count_at, fails_left, items_left, no_object, none_there, refused, set_says, sets_left, unknown_first}
 use Rattle.dx_json.proofs.shredding.+walk.Goals as goal
 
-pub push_items-returns-in_default-clause-fault : goal.push_items-returns-in_default-clause-fault
-push_items-returns-in_default-clause-fault t c =
+pub push_items-returns-in_err-push_item-clause-fault : goal.push_items-returns-in_err-push_item-clause-fault
+push_items-returns-in_err-push_item-clause-fault t c =
     let l = c.args.tree.now.label in
     let inner = c.args.tree.now.inner in
     let at = c.args.at.now in
-    let k = c.loop-k.k-counter in
+    let k = c.loop-k.k in
     let v = c.index-items-k.result in
-    let left = items_left l inner (sets_say inner) at c.args.items.now k v c.loop-k-test.true c.index-items-k.is in
-    let path : c.in_ok-path.path ≡ below at.path (decimal k) = search rules in
-    let none = none_there c.as_object.result (λ m. members_view m.now.entries) _ c.in_default.not-Some c.as_object.ensures in
-    fails_left (fault.Bad (kind.Shape c.in_ok-path.path)) c.args.out.now.items c.loop-k.out.items _ _ (item_says l inner (sets_say inner) at k (view v)) _ c.loop-k.invariant left
-    (ap first_fault (no_object l inner (sets_say inner) at k (view v) none) ∙ ap (λ p. Some (kind.Shape p)) (sym path))
-
-pub push_items-returns-in_err-push_object-clause-fault : goal.push_items-returns-in_err-push_object-clause-fault
-push_items-returns-in_err-push_object-clause-fault t c =
-    let l = c.args.tree.now.label in
-    let inner = c.args.tree.now.inner in
-    let at = c.args.at.now in
-    let k = c.loop-k.k-counter in
-    let ms = members_view c.in-Some.members.now.entries in
     let all = items_say l inner (sets_say inner) at 0 (items_view c.args.items.now) in
-    let left = object_left l inner (sets_say inner) at c.args.items.now k c.index-items-k.result ms c.loop-k-test.true c.index-items-k.is c.in-Some.ensures in
-    refused c.from_residual-in_err-push_object.result c.in_err-push_object.field-0.0 all c.from_residual-in_err-push_object.ensures.1
-    (fails_left c.in_err-push_object.field-0.0 c.args.out.now.items c.loop-k.out.items all _ (object_says l inner (sets_say inner) at k ms) _ c.loop-k.invariant left c.in_err-push_object.ensures.fault)
+    let left = items_left l inner (sets_say inner) at c.args.items.now k v c.loop-k-test.true c.index-items-k.is in
+    refused c.from_residual.result c.in_err-push_item.field-0.0 all c.from_residual.ensures.1
+    (fails_left c.in_err-push_item.field-0.0 c.args.out.now c.loop-k.out all _ (item_says l inner (sets_say inner) at k (view v)) _ c.loop-k.invariant left c.in_err-push_item.ensures.fault)
 
 pub push_items-loop-k-preserved : goal.push_items-loop-k-preserved
 push_items-loop-k-preserved t c =
     let l = c.args.tree.now.label in
     let inner = c.args.tree.now.inner in
     let at = c.args.at.now in
-    let k = c.loop-k.k-counter in
-    let ms = members_view c.in-Some.members.now.entries in
-    let left = object_left l inner (sets_say inner) at c.args.items.now k c.index-items-k.result ms c.loop-k-test.true c.index-items-k.is c.in-Some.ensures in
-    added_more c.args.out.now.items c.loop-k.out.items c.push_object.new.out.items _ _ (object_says l inner (sets_say inner) at k ms) _ c.loop-k.invariant left c.in_ok-push_object.ensures.ok
+    let k = c.loop-k.k in
+    let v = c.index-items-k.result in
+    let left = items_left l inner (sets_say inner) at c.args.items.now k v c.loop-k-test.true c.index-items-k.is in
+    added_more c.args.out.now c.loop-k.out c.push_item.new.out _ _ (item_says l inner (sets_say inner) at k (view v)) _ c.loop-k.invariant left c.in_ok-push_item.ensures.ok
+
+pub push_item-returns-in_default-clause-fault : goal.push_item-returns-in_default-clause-fault
+push_item-returns-in_default-clause-fault t c =
+    let l = c.args.tree.now.label in
+    let inner = c.args.tree.now.inner in
+    let at = c.args.at.now in
+    let k = c.args.k in
+    let path : c.in_ok-path.path ≡ below at.path (decimal k) = search rules in
+    let none = none_there c.as_object.result (λ m. members_view m.now) _ c.in_default.not-Some c.as_object.ensures in
+    ap first_fault (no_object l inner (sets_say inner) at k (view c.args.item.now) none) ∙ ap (λ p. Some (kind.Shape p)) (sym path)
 
 pub push_object-returns-in_err-check_members-clause-fault : goal.push_object-returns-in_err-check_members-clause-fault
 push_object-returns-in_err-check_members-clause-fault t c =
     let l = c.args.tree.now.label in
     let inner = c.args.tree.now.inner in
-    let ms = members_view c.args.members.now.entries in
+    let ms = members_view c.args.members.now in
     refused c.from_residual.result c.in_err-check_members.field-0.0 (object_says l inner (sets_say inner) c.args.at.now c.args.k ms) c.from_residual.ensures.1
     (unknown_first l inner (sets_say inner) c.args.at.now c.args.k ms c.args.path c.in_err-check_members.field-0.0 c.requires.path c.in_err-check_members.ensures.fault)
 
@@ -59,27 +55,12 @@ pub push_object-returns-in_err-row-clause-fault : goal.push_object-returns-in_er
 push_object-returns-in_err-row-clause-fault t c =
     let l = c.args.tree.now.label in
     let inner = c.args.tree.now.inner in
-    let ms = members_view c.args.members.now.entries in
+    let ms = members_view c.args.members.now in
     refused c.from_residual-in_err-row.result c.in_err-row.field-0.0 (object_says l inner (sets_say inner) c.args.at.now c.args.k ms) c.from_residual-in_err-row.ensures.1
     (columns_next l inner (sets_say inner) c.args.at.now c.args.k ms c.args.path c.in_err-row.field-0.0 c.requires.path c.in_ok-check_members.ensures.ok c.in_err-row.ensures.fault)
 
-pub push_sets-returns-in_err-items-clause-fault : goal.push_sets-returns-in_err-items-clause-fault
-push_sets-returns-in_err-items-clause-fault t c =
-    let at = c.args.at.now in
-    let ms = members_view c.args.members.now.entries in
-    let ts = c.items-inner-items.result.now in
-    let s = c.inner-item.result in
-    let place : Place = record { table = c.loop-inner.table; up = at.up; path = below at.path s.label.name } in
-    let named : c.inner.inside.name ≡ s.label.name = ap (λ v. v.label.name) c.inner.view_is in
-    let name : c.as_str-in-loop-inner.result.now ≡ s.label.name = c.as_str-in-loop-inner.ensures ∙ named in
-    let path : below at.path s.label.name ≡ c.in_ok-path_below.field-0 = sym (c.in_ok-path_below.ensures ∙ ap (below at.path) (c.as_str.ensures ∙ named)) in
-    let left = sets_left (record { table = c.loop-inner.table; up = at.up; path = at.path }) ms ts c.loop-inner.inner-index s c.loop-inner-test.true c.inner-item.is in
-    refused c.from_residual-in_err-items.result c.in_err-items.field-0.0 (sets_say c.args.sets.now at ms) c.from_residual-in_err-items.ensures.1
-    (fails_left c.in_err-items.field-0.0 c.args.out.now.items c.loop-inner.out.items (sets_say c.args.sets.now at ms) _ (member_says s.label s.inner (sets_say s.inner) place (get_member s.label.name ms)) _ c.loop-inner.invariant.added left
-    (set_fails c.in_err-items.field-0.0 ms s place _ _ name path c.in_err-items.ensures.fault))
-
-pub push_sets-push_items-requires : goal.push_sets-push_items-requires
-push_sets-push_items-requires t c =
+pub push_sets-push_member-requires : goal.push_sets-push_member-requires
+push_sets-push_member-requires t c =
     let ts = c.items-inner-items.result.now in
     let s = c.inner-item.result in
     let smaller = forest_size-inner ts c.loop-inner.inner-index s c.loop-inner-test.true c.inner-item.is in
@@ -89,42 +70,40 @@ push_sets-push_items-requires t c =
       (omega (arith, counted, c.loop-inner.invariant.room, c.requires.room), omega (arith, fewer, c.requires.few)),
     )
 
-pub push_sets-returns-in_err-push_items-clause-fault : goal.push_sets-returns-in_err-push_items-clause-fault
-push_sets-returns-in_err-push_items-clause-fault t c =
+pub push_sets-returns-in_err-push_member-clause-fault : goal.push_sets-returns-in_err-push_member-clause-fault
+push_sets-returns-in_err-push_member-clause-fault t c =
     let at = c.args.at.now in
-    let ms = members_view c.args.members.now.entries in
+    let ms = members_view c.args.members.now in
     let ts = c.items-inner-items.result.now in
     let s = c.inner-item.result in
     let place : Place = record { table = c.loop-inner.table; up = c.in_ok-copy_of.field-0; path = c.in_ok-path_below.field-0 } in
     let rest = sets_say (forest_of (drop (c.loop-inner.inner-index + 1) ts)) (record { table = suc (c.loop-inner.table + count s.inner); up = at.up; path = at.path }) ms in
     let named : c.inner.inside.name ≡ s.label.name = ap (λ v. v.label.name) c.inner.view_is in
-    let name : c.as_str-in-loop-inner.result.now ≡ s.label.name = c.as_str-in-loop-inner.ensures ∙ named in
     let path : c.in_ok-path_below.field-0 ≡ below at.path s.label.name = c.in_ok-path_below.ensures ∙ ap (below at.path) (c.as_str.ensures ∙ named) in
     let left = sets_left (record { table = c.loop-inner.table; up = at.up; path = at.path }) ms ts c.loop-inner.inner-index s c.loop-inner-test.true c.inner-item.is in
-    let here = set_items ms s at c.loop-inner.table c.in_ok-copy_of.field-0 c.in_ok-path_below.field-0 _ (items_view c.in_ok-items.items.now) name c.in_ok-copy_of.ensures path c.in_ok-items.ensures.ok in
-    refused c.from_residual-in_err-push_items.result c.in_err-push_items.field-0.0 (sets_say c.args.sets.now at ms) c.from_residual-in_err-push_items.ensures.1
-    (fails_left c.in_err-push_items.field-0.0 c.args.out.now.items c.loop-inner.out.items (sets_say c.args.sets.now at ms) _ (items_say s.label s.inner (sets_say s.inner) place 0 (items_view c.in_ok-items.items.now)) rest c.loop-inner.invariant.added
-    (left ∙ ap (λ xs. xs ++ rest) here) c.in_err-push_items.ensures.fault)
+    let here = set_says ms s at c.loop-inner.table c.in_ok-copy_of.field-0 c.in_ok-path_below.field-0 _ (c.member_of-member.ensures ∙ ap (λ n. get_member n ms) (c.as_str-in-loop-inner.ensures ∙ named)) c.in_ok-copy_of.ensures path in
+    refused c.from_residual-in_err-push_member.result c.in_err-push_member.field-0.0 (sets_say c.args.sets.now at ms) c.from_residual-in_err-push_member.ensures.1
+    (fails_left c.in_err-push_member.field-0.0 c.args.out.now c.loop-inner.out (sets_say c.args.sets.now at ms) _ (member_says s.label s.inner (sets_say s.inner) place (option_map (λ v. view v.now) c.member_of-member.result)) rest c.loop-inner.invariant.added
+    (left ∙ ap (λ xs. xs ++ rest) here) c.in_err-push_member.ensures.fault)
 
 pub push_sets-loop-inner-preserved : goal.push_sets-loop-inner-preserved
 push_sets-loop-inner-preserved t c =
     let at = c.args.at.now in
-    let ms = members_view c.args.members.now.entries in
+    let ms = members_view c.args.members.now in
     let ts = c.items-inner-items.result.now in
     let s = c.inner-item.result in
     let place : Place = record { table = c.loop-inner.table; up = c.in_ok-copy_of.field-0; path = c.in_ok-path_below.field-0 } in
     let rest = sets_say (forest_of (drop (c.loop-inner.inner-index + 1) ts)) (record { table = suc (c.loop-inner.table + count s.inner); up = at.up; path = at.path }) ms in
     let named : c.inner.inside.name ≡ s.label.name = ap (λ v. v.label.name) c.inner.view_is in
-    let name : c.as_str-in-loop-inner.result.now ≡ s.label.name = c.as_str-in-loop-inner.ensures ∙ named in
     let path : c.in_ok-path_below.field-0 ≡ below at.path s.label.name = c.in_ok-path_below.ensures ∙ ap (below at.path) (c.as_str.ensures ∙ named) in
     let left = sets_left (record { table = c.loop-inner.table; up = at.up; path = at.path }) ms ts c.loop-inner.inner-index s c.loop-inner-test.true c.inner-item.is in
-    let here = set_items ms s at c.loop-inner.table c.in_ok-copy_of.field-0 c.in_ok-path_below.field-0 _ (items_view c.in_ok-items.items.now) name c.in_ok-copy_of.ensures path c.in_ok-items.ensures.ok in
+    let here = set_says ms s at c.loop-inner.table c.in_ok-copy_of.field-0 c.in_ok-path_below.field-0 _ (c.member_of-member.ensures ∙ ap (λ n. get_member n ms) (c.as_str-in-loop-inner.ensures ∙ named)) c.in_ok-copy_of.ensures path in
     let sets : c.count.result ≡ count s.inner = c.count.ensures ∙ ap (λ v. count v.inner) c.inner.view_is in
     let table : c.loop-inner.table + (1 + c.count.result) ≡ suc (c.loop-inner.table + count s.inner) = omega (arith, sets) in
     let counted = count_at ts c.loop-inner.inner-index s s.inner c.loop-inner-test.true c.inner-item.is refl in
     record {
-      added = rw table (added_more c.args.out.now.items c.loop-inner.out.items c.push_items.new.out.items (sets_say c.args.sets.now at ms) _ (items_say s.label s.inner (sets_say s.inner) place 0 (items_view c.in_ok-items.items.now)) rest
-          c.loop-inner.invariant.added (left ∙ ap (λ xs. xs ++ rest) here) c.in_ok-push_items.ensures.ok);
+      added = rw table (added_more c.args.out.now c.loop-inner.out c.push_member.new.out (sets_say c.args.sets.now at ms) _ (member_says s.label s.inner (sets_say s.inner) place (option_map (λ v. view v.now) c.member_of-member.result)) rest
+          c.loop-inner.invariant.added (left ∙ ap (λ xs. xs ++ rest) here) c.in_ok-push_member.ensures.ok);
       room = omega (arith, counted, sets, c.loop-inner.invariant.room);
     }
 
