@@ -1,0 +1,119 @@
+-- The rules of an accepted mapping are read again.
+use Rattle.std.proofs.Common.{◌≡◌, ◌≤◌, List, None, length, inl, inr, refl, sym, subst}
+use Rattle.dx_ports.specs.Members.{◌∈◌, Each}
+use Rattle.dx_ports.proofs.Members.{from_append, from_map}
+use Rattle.dx_ports.proofs.Firsts.{each_none}
+use Rattle.dx_model.specs.declared.rules.Rule.{Rule}
+use Rattle.dx_schema.specs.Tables.{AreTables, model_tables, tables_of}
+use Rattle.dx_schema.specs.Links.{IsFaultless}
+use Rattle.dx_schema.proofs.Valid.{are_tables}
+use Rattle.dx_schema_text.specs.declared.texts.MappingText.{MappingText}
+use Rattle.dx_schema_text.specs.Texts.{IsMappingText}
+use Rattle.dx_schema_text.specs.Print.{sides}
+use Rattle.dx_schema_text.proofs.SpelledWords.{said_is_writable}
+use Rattle.dx_funcs.specs.declared.conversion.Conversion.{Conversion}
+use Rattle.dx_funcs.specs.Offers.{IsOffer}
+use Rattle.dx_line_text.specs.Naming.{lines_fault}
+use Rattle.dx_rule_text.specs.Printed.{Text}
+use Rattle.dx_tgd_text.specs.Reading.{rule_fault, rules_fault, rule_of}
+use Rattle.dx_rule_laws.specs.ReadBack.{IsWritable}
+use Rattle.dx_rule_laws.proofs.Lines.{printed_lines_are_read}
+use Rattle.dx_rule_laws.proofs.Said.{said_rules_are_writable}
+use Rattle.dx_rule_laws.proofs.LineRules.{line_rules_are_writable}
+use Rattle.dx_rule_laws.proofs.Closings.{closings_are_writable}
+use Rattle.dx_stages.specs.Worlds.{World}
+use Rattle.dx_stages.specs.Stages.{Stage, next, checking}
+use Rattle.dx_implies.specs.Pruning.{IsLeft, PassesTest}
+use Rattle.dx_implies.proofs.Pruned.{left_implies}
+use Rattle.clio_accept.specs.declared.mapping.Mapping.{Mapping}
+use Rattle.clio_accept.specs.Mapping.{SourceRefused, TargetRefused, NameRefused, LinesRefused, NamingRefused, WritingRefused}
+use Rattle.clio_accept.specs.Mapping.{LimitRefused, RulesRefused, FrozenRefused, frozen_cells}
+use Rattle.clio_accept.specs.Mapping.{NoneReserved, AreRulesOf, IsNarrowClosing, rules_of, limit_of, written_of}
+use Rattle.clio_accept.specs.Accepting.{between_of, limits, naming, writing, closing, leaving}
+use Rattle.clio_accept.specs.Accepting.{accepting, frozen_count, pruning, said_rules, taking, target_names, target_sets, with_rules}
+use Rattle.clio_accept.specs.Laws.{MappingFits}
+use Rattle.clio_accept.proofs.Accepted.{accepted_fits}
+use Rattle.clio_accept.proofs.Closed.{closed_of}
+use Rattle.clio_rule_laws.specs.Laws.{AreShownAgain, ShownRulesAreReadAgain}
+
+-- ---- what the stages have checked
+
+checked : {E A B : Type 0} (refused : A → E → Type 0) (fits : A → Type 0) (t : Stage E A B) (c : World) (a : A) (x : B) → (next (checking refused fits) t).passes c a x → fits a × t.passes c a x
+checked refused fits t c a x p = (p.1.0, subst (λ v. t.passes c v x) p.1.1 p.2)
+
+-- the rules are what is left of those of the lines and the closed hand-written ones, where no word is at fault
+pub record IsTaken (list : List Conversion) (m : MappingText) (P : List Rule) : Type 0 where
+  pub named : lines_fault m.source m.target list m.lines ≡ None
+  pub written : rules_fault m.source m.target list m.rules ≡ None
+  pub limits : limit_of list m.source m.target m.lines ≡ None
+  pub all : List Rule
+  pub are : AreRulesOf list m.source m.target m.lines m.rules all
+  pub few : ¬ (PassesTest frozen_cells all)
+  pub left : IsLeft all P
+
+is_taken : (list : List Conversion) (c : World) (m : MappingText) (P : List Rule) → (taking list).passes c (between_of m) P → IsTaken list m P
+is_taken list c m P p =
+    let b = between_of m in
+    let rest = next (writing list) (next (limits list) (next (closing list) leaving)) in
+    let one = checked (λ b. LinesRefused b.lines) (λ b. length b.lines ≤ 512) (next (naming list) rest) c b P p in
+    let two = checked (λ b. NamingRefused list b.source b.target b.lines) (λ b. lines_fault b.source b.target list b.lines ≡ None) rest c b P one.1 in
+    let three = checked (λ b. WritingRefused list b.source b.target b.by_hand) (λ b. rules_fault b.source b.target list b.by_hand ≡ None) (next (limits list) (next (closing list) leaving)) c b P two.1 in
+    let four = checked (λ b. LimitRefused list b.source b.target b.lines) (λ b. limit_of list b.source b.target b.lines ≡ None) (next (closing list) leaving) c b P three.1 in
+    let R = four.1.0 in
+    let five = checked RulesRefused (λ R. length R ≤ 256) (next frozen_count pruning) c R P four.1.2 in
+    let six = checked FrozenRefused (λ R. ¬ (PassesTest frozen_cells R)) pruning c R P five.1 in
+    record { named = two.0; written = three.0; limits = four.0; all = R; are = four.1.1; few = six.0; left = six.1 }
+
+-- ---- the rules
+
+written_writable : (text : Text) (list : List Conversion) (m : MappingText) → IsMappingText text m → IsOffer list → rules_fault m.source m.target list m.rules ≡ None → Each (written_of list m.source m.target m.rules) (IsWritable list)
+written_writable text list m says offer none d i =
+    let r = from_map (rule_of m.source m.target list) m.rules i in
+    subst (IsWritable list) r.2 (said_rules_are_writable text m list r.0 says offer r.1 (each_none (rule_fault m.source m.target list) m.rules none r.0 r.1))
+
+taken_writable : (text : Text) (list : List Conversion) (m : MappingText) (P : List Rule) → IsMappingText text m → IsOffer list → IsTaken list m P → Each P (IsWritable list)
+taken_writable text list m P says offer t d i =
+    elim (from_append (rules_of list m.source m.target m.lines) (subst (λ rs. d ∈ rs) t.are.are ((left_implies t.all P t.left).0 d i))) [
+      | inl k ↦ line_rules_are_writable text m list says offer t.named d k
+      | inr k ↦ closed_writable (closed_of (model_tables m.target) (written_of list m.source m.target m.rules) t.are.closed t.are.closings d k)
+    ]
+  where
+    closed_writable : ((e : Rule) × (e ∈ written_of list m.source m.target m.rules) × IsNarrowClosing (model_tables m.target) e d) → IsWritable list d
+    closed_writable (e, k, closing) = closings_are_writable (model_tables m.target) list e d closing.closing (written_writable text list m says offer t.written e k)
+
+-- what was accepted, part by part
+pub record IsAccepted (list : List Conversion) (text : Text) (M : Mapping) : Type 0 where
+  pub said : MappingText
+  pub is_text : IsMappingText text said
+  pub source : IsFaultless said.source
+  pub target : IsFaultless said.target
+  pub names : NoneReserved said.target
+  pub rules : List Rule
+  pub taken : IsTaken list said rules
+  pub is : M ≡ with_rules said rules
+
+pub is_accepted : (list : List Conversion) (c : World) (text : Text) (M : Mapping) → (accepting list).passes c text M → IsAccepted list text M
+is_accepted list c text M (m, says, p) =
+    let one = checked (λ m. SourceRefused m.source) (λ m. IsFaultless m.source) (next target_sets (next target_names (said_rules list))) c m M p in
+    let two = checked (λ m. TargetRefused m.target) (λ m. IsFaultless m.target) (next target_names (said_rules list)) c m M one.1 in
+    let three = checked (λ m. NameRefused m.target) (λ m. NoneReserved m.target) (said_rules list) c m M two.1 in
+    record { said = m; is_text = says; source = one.0; target = two.0; names = three.0; rules = three.1.0; taken = is_taken list c m three.1.0 three.1.1; is = three.1.2 }
+
+pub shown_rules_are_read_again : ShownRulesAreReadAgain
+shown_rules_are_read_again list c text M offer small p =
+    let a = is_accepted list c text M p in
+    let m = a.said in
+    let P = a.rules in
+    let words = said_is_writable text m a.is_text in
+    let from : AreTables (tables_of m.source) = are_tables m.source a.source.form in
+    let to : AreTables (tables_of m.target) = are_tables m.target a.target.form in
+    let fit : MappingFits list (with_rules m P) = subst (MappingFits list) a.is (accepted_fits list c text M small p) in
+    let writable = taken_writable text list m P a.is_text offer a.taken in
+    subst (AreShownAgain list text) (sym a.is) (record {
+      said = m;
+      is_text = a.is_text;
+      source = refl;
+      target = refl;
+      behind = printed_lines_are_read text m list P a.is_text from to offer fit.fit fit.listed writable;
+      alone = λ sets b. printed_lines_are_read sets (sides m.source m.target) list P b from to offer fit.fit fit.listed writable;
+    })

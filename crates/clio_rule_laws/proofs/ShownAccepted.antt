@@ -1,0 +1,175 @@
+-- The sets of an accepted mapping, with its rules after them, are accepted with the same mapping.
+use Rattle.std.proofs.Common.{◌≡◌, ℕ, ◌<◌, ◌≤◌, ◌-◌, ◌^◌, Bool, true, false, cond, List, [], ◌∷◌, ◌++◌, Option, Some, None, length, map, flat_map, inl, inr, refl, sym, ap, subst, arith}
+use Rattle.std.specs.Prelude.{◌||◌, nat_lt}
+use Rattle.std.specs.List.{filter, list_any}
+use Rattle.std.proofs.lemmas.Bool.{false≢true}
+use Rattle.std.proofs.lemmas.Bool.Decides.{nat_tests}
+use Rattle.std.proofs.lemmas.List.{length-map}
+use Rattle.dx_ports.specs.declared.file.Limit.{Limit}
+use Rattle.dx_ports.specs.Members.{◌∈◌, here, there, Each}
+use Rattle.dx_ports.proofs.Members.{from_append}
+use Rattle.dx_model.specs.declared.rules.Rule.{Rule}
+use Rattle.dx_model.specs.Fitting.{IsRule}
+use Rattle.dx_model.specs.Solutions.{IsClosed}
+use Rattle.dx_model.specs.Tables.{Table}
+use Rattle.dx_schema.specs.Tables.{model_tables}
+use Rattle.dx_schema_text.specs.declared.texts.MappingText.{MappingText}
+use Rattle.dx_schema_text.specs.declared.texts.RuleText.{RuleText}
+use Rattle.dx_schema_text.specs.Print.{sides}
+use Rattle.dx_schema_text.specs.Texts.{IsMappingText}
+use Rattle.dx_schema.specs.Links.{IsFaultless}
+use Rattle.dx_logical.specs.Unfolding.{unfolding_of}
+use Rattle.dx_closing.proofs.Own.{served_is_closing}
+use Rattle.dx_funcs.specs.declared.conversion.Conversion.{Conversion}
+use Rattle.dx_lines.specs.Candidates.{upto, pair_ways, pair_candidates, candidates_of}
+use Rattle.dx_lines.specs.Kept.{is_kept}
+use Rattle.dx_lines.specs.Limits.{has_many_ways, is_wide, passed}
+use Rattle.dx_lines.specs.Rules.{kept_rules, rule_of}
+use Rattle.dx_lines.specs.declared.line.Line.{Line}
+use Rattle.dx_lines.proofs.Sources.{from_kept}
+use Rattle.dx_candidates.proofs.Lists.{in_upto}
+use Rattle.dx_line_text.specs.Naming.{lines_of}
+use Rattle.dx_rule_text.specs.Printed.{Text}
+use Rattle.dx_tgd_text.specs.Reading.{IsNarrow, rules_of as said_rules_of}
+use Rattle.dx_tgd_text.proofs.Written.{texts_have_whole_rules}
+use Rattle.dx_rule_laws.specs.ReadBack.{AreReadBehind}
+use Rattle.dx_rule_laws.specs.ReadBack as read_back
+use Rattle.dx_stages.specs.Worlds.{World}
+use Rattle.dx_stages.specs.Stages.{next}
+use Rattle.dx_implies.proofs.Pruned.{left_implies}
+use Rattle.clio_accept.specs.declared.mapping.Mapping.{Mapping}
+use Rattle.clio_accept.specs.Mapping.{AreClosings, AreRulesOf, IsNarrowClosing, NoneReserved, frozen_cells, limit_of, rules_of, written_of}
+use Rattle.clio_accept.specs.Accepting.{accepting, between_of, closing, leaving, taking, with_rules}
+use Rattle.clio_accept.specs.Laws.{MappingFits}
+use Rattle.clio_accept.proofs.Accepted.{IsRead, accepted_fits, all_rules_fit}
+use Rattle.clio_accept.proofs.Closed.{closed_of}
+use Rattle.clio_rule_laws.specs.Laws.{AreShownAgain, ShownIsAccepted, rule_lines}
+use Rattle.clio_rule_laws.proofs.Shown.{IsTaken, is_accepted, shown_rules_are_read_again}
+use Rattle.clio_rule_laws.proofs.Pruned.{no_test_passes, pruned_again}
+
+-- ---- no lines pass no limit
+
+any_none : {X : Type 0} (p : X → Bool) (xs : List X) → ((x : X) → p x ≡ false) → list_any p xs ≡ false
+any_none p [] h = refl
+any_none p (x ∷ xs) h = rw (h x) (any_none p xs h)
+
+flat_none : {X Y : Type 0} (f : X → List Y) (xs : List X) → ((x : X) → f x ≡ []) → flat_map f xs ≡ []
+flat_none f [] h = refl
+flat_none f (x ∷ xs) h = rw (h x) (flat_none f xs h)
+
+no_ways : (A B : List Table) (s t : ℕ) → pair_ways [] A B s t ≡ []
+no_ways A B s t = refl
+
+no_candidates : (A B : List Table) → candidates_of [] A B ≡ []
+no_candidates A B = flat_none _ (upto (length A)) (λ s. flat_none (pair_candidates [] A B s) (upto (length B)) (λ t. refl))
+
+no_many_ways : (A B : List Table) → has_many_ways [] A B ≡ false
+no_many_ways A B = any_none _ (upto (length A)) (λ s. any_none _ (upto (length B)) (λ t. refl))
+
+both_narrow : (a b : Bool) (l : Limit) (o : Option Limit) → cond (a || b) (Some l) o ≡ None → (a ≡ false) × (b ≡ false)
+both_narrow true b l o e = absurd cc
+both_narrow false true l o e = absurd cc
+both_narrow false false l o e = (refl, refl)
+
+narrow_sides : (lines : List Line) (A B : List Table) → passed lines A B ≡ None → (is_wide A ≡ false) × (is_wide B ≡ false)
+narrow_sides lines A B e = both_narrow (is_wide A) (is_wide B) _ _ e
+
+none_passed : (lines : List Line) (A B : List Table) → passed lines A B ≡ None → passed [] A B ≡ None
+none_passed lines A B e =
+    let n = narrow_sides lines A B e in
+    rw (n.0, n.1, no_many_ways A B, no_candidates A B) refl
+
+-- ---- the rules are their own closings
+
+any_each : {X : Type 0} (p : X → Bool) (xs : List X) → list_any p xs ≡ false → (x : X) → x ∈ xs → p x ≡ false
+any_each p [] e x m = elim m [ ]
+any_each p (y ∷ ys) e x (here is) = subst (λ z. p z ≡ false) is (first (p y) (list_any p ys) e)
+  where
+    first : (a b : Bool) → (a || b) ≡ false → a ≡ false
+    first true b e = absurd (false≢true (sym e))
+    first false b e = refl
+any_each p (y ∷ ys) e x (there m) = any_each p ys (rest (p y) (list_any p ys) e) x m
+  where
+    rest : (a b : Bool) → (a || b) ≡ false → b ≡ false
+    rest true b e = absurd (false≢true (sym e))
+    rest false b e = e
+
+few_at : (schema : List Table) (t : ℕ) → is_wide schema ≡ false → t < length schema → length (unfolding_of schema t).occurrences ≤ 64
+few_at schema t e h =
+    let n = any_each (λ t. nat_lt 64 (length (unfolding_of schema t).occurrences)) (upto (length schema)) e t (in_upto (length schema) t h) in
+    grind (arith, nat_tests, n)
+
+-- neither side of a rule has more than 64 atoms
+record HasFewAtoms (d : Rule) : Type 0 where
+  premise : length d.premise ≤ 64
+  conclusion : length d.conclusion ≤ 64
+
+kept_few : (lines : List Line) (A B : List Table) → passed lines A B ≡ None → Each (kept_rules lines A B) HasFewAtoms
+kept_few lines A B e d m =
+    let n = narrow_sides lines A B e in
+    let k = from_kept lines A B d m in
+    let from = few_at A k.0.source n.0 k.1.source_table in
+    let to = few_at B k.0.target n.1 k.1.target_table in
+    subst HasFewAtoms k.2 (record {
+      premise = rw (length-map (unfolding_of A k.0.source).occurrences _) from;
+      conclusion = rw (length-map (unfolding_of B k.0.target).occurrences _) to;
+    })
+
+closed_few : (schema : List Table) (ds es : List Rule) → AreClosings schema ds es → Each es HasFewAtoms
+closed_few schema ds es closings e m =
+    let k = closed_of schema ds es closings e m in
+    record { premise = rw k.2.closing.premise k.2.premise; conclusion = k.2.conclusion }
+
+all_few : (list : List Conversion) (m : MappingText) (P : List Rule) (t : IsTaken list m P) → Each t.all HasFewAtoms
+all_few list m P t d i =
+    elim (from_append (rules_of list m.source m.target m.lines) (subst (λ rs. d ∈ rs) t.are.are i)) [
+      | inl k ↦ kept_few (lines_of m.source m.target list m.lines) (model_tables m.source) (model_tables m.target) t.limits d k
+      | inr k ↦ closed_few (model_tables m.target) (written_of list m.source m.target m.rules) t.are.closed t.are.closings d k
+    ]
+
+own_closings : (schema : List Table) (ds : List Rule) → Each ds (λ d. IsNarrowClosing schema d d) → AreClosings schema ds ds
+own_closings schema [] h = tt
+own_closings schema (d ∷ ds) h = (h d (here refl), own_closings schema ds (λ e m. h e (there m)))
+
+-- ---- the rules after the sets
+
+no_kept : (A B : List Table) → kept_rules [] A B ≡ []
+no_kept A B = ap (λ cs. map (rule_of [] A B) (filter (is_kept [] A B) cs)) (no_candidates A B)
+
+-- what is left of the rules of a mapping is taken again, where a text says it between the same sides
+taken_again : (list : List Conversion) (m : MappingText) (P : List Rule) (said : List RuleText) → IsTaken list m P → Each P (λ d. IsClosed (model_tables m.target) d) → Each P HasFewAtoms
+    → said_rules_of m.source m.target list said ≡ P → AreRulesOf list m.source m.target [] said P
+taken_again list m P said t closed few same =
+    let T = model_tables m.target in
+    let own : AreClosings T P P = own_closings T P (λ d i. record { closing = served_is_closing T d (closed d i); premise = (few d i).premise; conclusion = (few d i).conclusion }) in
+    record {
+      closed = P;
+      closings = subst (λ ds. AreClosings T ds P) (sym same) own;
+      are = ap (λ (ks : List Rule). ks ++ P) (sym (no_kept (model_tables m.source) T));
+    }
+
+accepted_again : (list : List Conversion) (c : World) (text sets : Text) (m : MappingText) (P : List Rule) → length text < 2 ^ 32 - 1 → IsMappingText text m → IsFaultless m.source → IsFaultless m.target → NoneReserved m.target → IsTaken list m P
+    → MappingFits list (with_rules m P) → AreReadBehind (sides m.source m.target) list P (sets ++ rule_lines list (with_rules m P)) → (accepting list).passes c (sets ++ rule_lines list (with_rules m P)) (with_rules m P)
+accepted_again list c text sets m P small says source target names t fit shown =
+    let whole = texts_have_whole_rules text m says in
+    let read : IsRead list m = record { source = source; target = target; named = t.named; limits = t.limits; written = t.written; whole = λ r i. (whole r i).0 } in
+    let narrow : Each m.rules IsNarrow = λ r i. (let few = (whole r i).1 in omega (arith, few, small)) in
+    let rules : Each t.all IsRule = λ d i. (all_rules_fit list m t.all read narrow t.are d i).rule in
+    let part = (left_implies t.all P t.left).0 in
+    let few : Each P HasFewAtoms = λ d i. all_few list m P t d (part d i) in
+    let said = read_back.with_rules (sides m.source m.target) shown.said in
+    let b = between_of said in
+    let limit : limit_of list m.source m.target [] ≡ None = none_passed (lines_of m.source m.target list m.lines) (model_tables m.source) (model_tables m.target) t.limits in
+    let left : leaving.passes c P P = (P, (fit.few, refl), (P, (no_test_passes frozen_cells t.all P rules t.left t.few, refl), pruned_again t.all P t.left)) in
+    let closed : (next (closing list) leaving).passes c b P = (P, taken_again list m P shown.said t fit.closed few shown.same, left) in
+    let again : (taking list).passes c b P = (b, (omega arith, refl), (b, (refl, refl), (b, (shown.no_fault, refl), (b, (limit, refl), closed)))) in
+    (said, shown.is_text, (said, (source, refl), (said, (target, refl), (said, (names, refl), (P, again, refl)))))
+
+pub shown_is_accepted : ShownIsAccepted
+shown_is_accepted list c text sets M offer small p says =
+    let a = is_accepted list c text M p in
+    let fit : MappingFits list (with_rules a.said a.rules) = subst (MappingFits list) a.is (accepted_fits list c text M small p) in
+    let shown = subst (AreShownAgain list text) a.is (shown_rules_are_read_again list c text M offer small p) in
+    let sets_say : IsMappingText sets (sides a.said.source a.said.target) = subst (λ (N : Mapping). IsMappingText sets (sides N.source N.target)) a.is says in
+    subst (λ (N : Mapping). (accepting list).passes c (sets ++ rule_lines list N) N) (sym a.is)
+    (accepted_again list c text sets a.said a.rules small a.is_text a.source a.target a.names a.taken fit (shown.alone sets sets_say))

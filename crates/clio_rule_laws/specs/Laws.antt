@@ -1,0 +1,37 @@
+-- The rules of an accepted mapping are read again.
+use Rattle.std.specs.Prelude.{◌≡◌, ◌-◌, ◌^◌, ◌<◌, List, ◌++◌, codes, length}
+use Rattle.dx_schema_text.specs.declared.texts.MappingText.{MappingText}
+use Rattle.dx_schema_text.specs.Texts.{IsMappingText}
+use Rattle.dx_schema_text.specs.Print.{sides}
+use Rattle.dx_funcs.specs.declared.conversion.Conversion.{Conversion}
+use Rattle.dx_funcs.specs.Offers.{IsOffer}
+use Rattle.dx_rule_text.specs.Printed.{Text, rules_text}
+use Rattle.dx_rule_laws.specs.ReadBack.{AreReadBehind}
+use Rattle.dx_stages.specs.Worlds.{World}
+use Rattle.clio_accept.specs.declared.mapping.Mapping.{Mapping}
+use Rattle.clio_accept.specs.Accepting.{accepting}
+
+-- the rules of a mapping, each in a line after the end of a line
+abbrev pub rule_lines : List Conversion → Mapping → Text
+rule_lines list M = codes "\n" ++ rules_text M.source M.target list M.rules
+
+-- the lines of the rules are read as these rules: after the text of the mapping, and after each text that says its sets alone
+pub record AreShownAgain (list : List Conversion) (text : Text) (M : Mapping) : Type 0 where
+  pub said : MappingText
+  pub is_text : IsMappingText text said
+  pub source : said.source ≡ M.source
+  pub target : said.target ≡ M.target
+  pub behind : AreReadBehind said list M.rules (text ++ rule_lines list M)
+  pub alone : (sets : Text) → IsMappingText sets (sides M.source M.target) → AreReadBehind (sides M.source M.target) list M.rules (sets ++ rule_lines list M)
+
+-- the rules of each accepted text of fewer than 4,294,967,295 bytes are read again
+abbrev pub ShownRulesAreReadAgain : Type 0
+ShownRulesAreReadAgain =
+    (list : List Conversion) (c : World) (text : Text) (M : Mapping) → IsOffer list → length text < 2 ^ 32 - 1 → (accepting list).passes c text M
+    → AreShownAgain list text M
+
+-- and each text that says its sets alone, with the lines of its rules after it, is accepted with the same mapping
+abbrev pub ShownIsAccepted : Type 0
+ShownIsAccepted =
+    (list : List Conversion) (c : World) (text sets : Text) (M : Mapping) → IsOffer list → length text < 2 ^ 32 - 1 → (accepting list).passes c text M
+    → IsMappingText sets (sides M.source M.target) → (accepting list).passes c (sets ++ rule_lines list M) M

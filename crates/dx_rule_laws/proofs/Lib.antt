@@ -1,0 +1,17 @@
+pub mod Says
+pub mod VariableTexts
+pub mod Spelled
+pub mod Runs
+pub mod Cells
+pub mod Atoms
+pub mod Derivings
+pub mod ReadBack
+pub mod CanBeWritten
+pub mod Strings
+pub mod LineScans
+pub mod Lines
+pub mod OneRule
+pub mod Said
+pub mod LineRules
+pub mod Closings
+pub mod Examples

@@ -1,0 +1,8 @@
+use Rattle.dx_rule_laws.proofs.OneRule.{one_rule, one_rule_text}
+use Rattle.dx_rule_laws.proofs.laws.a_text_says_one_rule.Goals as goal
+
+pub returns-clause-text : goal.returns-clause-text
+returns-clause-text c = one_rule_text
+
+pub returns-clause-rule : goal.returns-clause-rule
+returns-clause-rule c = one_rule

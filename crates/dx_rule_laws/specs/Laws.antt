@@ -1,0 +1,69 @@
+-- Printed rules are read again.
+use Rattle.std.specs.Prelude.{◌≡◌, List, ◌++◌, None, codes}
+use Rattle.dx_ports.specs.Members.{◌∈◌, Each}
+use Rattle.dx_model.specs.declared.rules.Rule.{Rule}
+use Rattle.dx_model.specs.Tables.{Table}
+use Rattle.dx_model.specs.Fitting.{RuleFits}
+use Rattle.dx_schema.specs.Forest.{Forest}
+use Rattle.dx_schema.specs.Tables.{AreTables, tables_of, model_tables}
+use Rattle.dx_schema_text.specs.declared.texts.RuleText.{RuleText}
+use Rattle.dx_schema_text.specs.declared.texts.MappingText.{MappingText}
+use Rattle.dx_schema_text.specs.Texts.{IsMappingText}
+use Rattle.dx_funcs.specs.declared.conversion.Conversion.{Conversion}
+use Rattle.dx_funcs.specs.Offers.{IsOffer}
+use Rattle.dx_closing.specs.Closing.{IsClosingOf}
+use Rattle.dx_lines.specs.Rules.{kept_rules}
+use Rattle.dx_line_text.specs.Naming.{lines_fault, lines_of}
+use Rattle.dx_rule_text.specs.Printed.{Text, rule_text, rules_text}
+use Rattle.dx_tgd_text.specs.Reading.{IsNarrow, rule_fault, rule_of, rules_fault, rules_of}
+use Rattle.dx_tgd_text.specs.Laws.{AreOffered}
+use Rattle.dx_rule_laws.specs.ReadBack.{IsRuleText, IsReadAs, AreReadBehind, IsPrintable, IsWritable}
+
+-- between two schemas with offered conversions, the text of each rule that can be printed is read as this rule
+abbrev pub PrintedRulesAreRead : Type 0
+PrintedRulesAreRead =
+    (source target : Forest) (list : List Conversion) (d : Rule) → AreTables (tables_of source) → AreTables (tables_of target) → IsOffer list → IsPrintable source target list d
+    → IsReadAs source target list d (rule_text source target list d)
+
+-- so no two of them have one text
+abbrev pub PrintedRulesDiffer : Type 0
+PrintedRulesDiffer =
+    (source target : Forest) (list : List Conversion) (d e : Rule) → AreTables (tables_of source) → AreTables (tables_of target) → IsOffer list → IsPrintable source target list d → IsPrintable source target list e
+    → rule_text source target list d ≡ rule_text source target list e → d ≡ e
+
+-- after a mapping text whose sides are schemas, the lines of rules that fit them and can be written are read as rules of the mapping: these
+abbrev pub PrintedLinesAreRead : Type 0
+PrintedLinesAreRead =
+    (text : Text) (m : MappingText) (list : List Conversion) (ds : List Rule) → IsMappingText text m → AreTables (tables_of m.source) → AreTables (tables_of m.target) → IsOffer list
+    → Each ds (RuleFits (model_tables m.source) (model_tables m.target)) → Each ds (AreOffered list) → Each ds (IsWritable list)
+    → AreReadBehind m list ds (text ++ (codes "\n" ++ rules_text m.source m.target list ds))
+
+-- of a rule that a mapping text says without a fault each conversion and each literal can be written
+abbrev pub SaidRulesAreWritable : Type 0
+SaidRulesAreWritable =
+    (text : Text) (m : MappingText) (list : List Conversion) (r : RuleText) → IsMappingText text m → IsOffer list → r ∈ m.rules → rule_fault m.source m.target list r ≡ None
+    → IsWritable list (rule_of m.source m.target list r)
+
+-- and so it is of each rule that the lines of a mapping text stand for
+abbrev pub LineRulesAreWritable : Type 0
+LineRulesAreWritable =
+    (text : Text) (m : MappingText) (list : List Conversion) → IsMappingText text m → IsOffer list → lines_fault m.source m.target list m.lines ≡ None
+    → Each (kept_rules (lines_of m.source m.target list m.lines) (model_tables m.source) (model_tables m.target)) (IsWritable list)
+
+-- and of the closing of a rule, where it is so of the rule
+abbrev pub ClosingsAreWritable : Type 0
+ClosingsAreWritable = (schema : List Table) (list : List Conversion) (d e : Rule) → IsClosingOf schema d e → IsWritable list d → IsWritable list e
+
+-- so whatever rules a mapping text says without a fault: printed in lines after the text, they are read as the same rules
+abbrev pub SaidRulesAreReadAgain : Type 0
+SaidRulesAreReadAgain =
+    (text : Text) (m : MappingText) (list : List Conversion) → IsMappingText text m → AreTables (tables_of m.source) → AreTables (tables_of m.target) → IsOffer list
+    → Each m.rules IsNarrow → rules_fault m.source m.target list m.rules ≡ None
+    → AreReadBehind m list (rules_of m.source m.target list m.rules) (text ++ (codes "\n" ++ rules_text m.source m.target list (rules_of m.source m.target list m.rules)))
+
+-- a text says at most one rule, and is read as at most one
+abbrev pub OneRuleText : Type 0
+OneRuleText = (text : Text) (r s : RuleText) → IsRuleText text r → IsRuleText text s → r ≡ s
+
+abbrev pub OneRule : Type 0
+OneRule = (source target : Forest) (list : List Conversion) (d e : Rule) (text : Text) → IsReadAs source target list d text → IsReadAs source target list e text → d ≡ e
