@@ -12,11 +12,11 @@ use Rattle.dx_logical.specs.Unfolding.{is_behind, sub}
 abbrev nowhere : Occurrence
 nowhere = record { table = 0; variables = []; parent = None; link = 0 }
 
--- an occurrence stands behind number p
+-- an occurrence stands after number p
 abbrev pub stands_behind : ℕ → Occurrence → Bool
 stands_behind p o = is_behind p o.parent
 
--- the occurrences from p up to the first that isn't behind it
+-- the occurrences from p up to the first that isn't after it
 pub subtree_is : (os : List Occurrence) (p e : ℕ) (d : Occurrence) → p < e → e ≤ length os
     → ((k : ℕ) → p < k → k < e → stands_behind p (get_or os k d) ≡ true)
     → (e < length os → stands_behind p (get_or os e d) ≡ false)

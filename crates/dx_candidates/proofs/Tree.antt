@@ -119,7 +119,7 @@ all_in_first r u is_u f x m =
 
 -- ---- of unfoldings
 
--- an occurrence behind the first stands in the subtree of a child, which has all of its subtree
+-- an occurrence after the first stands in the subtree of a child, which has all of its subtree
 pub record IsBelow (os : List Occurrence) (q : ℕ) : Type 0 where
   pub child : ℕ
   pub within : child < length os
@@ -144,7 +144,7 @@ first_has_all schema t l a h =
     let u = unfoldings_are schema t l a h in
     all_in_first r (sub r.occurrences 0) (subtrees_are schema t 0 u.some) (first_by r (before_unfolding schema t u) (parents_unfolding schema t))
 
--- a child stands behind the first
+-- a child stands after the first
 pub child_later : (schema : List Table) (t : ℕ) → LinksFit schema → IsAcyclic schema → t < length schema → (n : ℕ) → n < length (unfolding_of schema t).occurrences
     → (occurrence_at (unfolding_of schema t) n).parent ≡ Some 0 → 0 < n
 child_later schema t l a h n w e = before_unfolding schema t (unfoldings_are schema t l a h) n 0 w e

@@ -19,7 +19,7 @@ fn count_combinations(ways: &[Pick]) -> usize
     (end.min(1025) * rest).min(1025)
 }
 
-// How many candidates some ways give: none where there is no way. 1,025 stands for more than 1,024.
+// How many candidates some ways give: none if there is no way. 1,025 stands for more than 1,024.
 fn count_picks(ways: &[Pick]) -> usize
     ensures { result ≡ min 1025 (length (all_picks ways.now)) }
 {

@@ -85,7 +85,7 @@ fn add_candidates(alloc: Global, pair: &Pair, all: &mut Vec<Candidate>) -> Resul
 /// # Errors
 ///
 /// `TooMany` with the first limit that is passed: 64 occurrences of an unfolding, 64 ways between two tables, 1,024
-/// candidates. `Memory` where there is no memory.
+/// candidates. `Memory` if there is no memory.
 pub fn candidates(
     alloc: Global,
     lines: &[Line],

@@ -20,7 +20,7 @@ numbered_parts n m (x ∷ xs) ys h = elim h [
   | inr s ↦ let r = numbered_parts (suc n) m xs ys s.1 in (r.0, inr (s.0, r.1), r.2)
 ]
 
--- numbered are those behind a first part that is numbered up to k
+-- numbered are those after a first part that is numbered up to k
 rest_numbered : (n k m : ℕ) (xs ys : List ℕ) → Numbered n xs k → Numbered n (xs ++ ys) m → Numbered k ys m
 rest_numbered n k m xs ys a h =
     let r = numbered_parts n m xs ys h in

@@ -41,7 +41,7 @@ staff-closed = refl
 units-stay : IsClosing (model_tables units) (unit (Ex 0) (Lit a) ∷ staff (Ex 0) (Var 0) ∷ staff (Ex 0) (Var 1) ∷ []) (unit (Ex 0) (Lit a) ∷ staff (Ex 0) (Var 0) ∷ staff (Ex 0) (Var 1) ∷ [])
 units-stay = refl
 
--- an atom behind serves as well
+-- an atom after serves as well
 unit-behind : IsClosing (model_tables units) (staff (Ex 0) (Var 0) ∷ unit (Ex 0) (Var 1) ∷ []) (staff (Ex 0) (Var 0) ∷ unit (Ex 0) (Var 1) ∷ [])
 unit-behind = refl
 

@@ -21,7 +21,7 @@ use std::alloc::Global;
 ///
 /// # Errors
 ///
-/// `TooWide`: each closing of the conclusion has more than 64 atoms. `Memory` where there is no memory.
+/// `TooWide`: each closing of the conclusion has more than 64 atoms. `Memory` if there is no memory.
 pub fn close(alloc: Global, rule: Rule, target: &Schema) -> Result<Rule, CloseFault>
     requires fits { Each rule.conclusion (AtomFits (model_tables target.now)) }
     requires numbered { AreNumbered rule.conclusion }

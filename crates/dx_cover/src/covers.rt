@@ -49,7 +49,7 @@ impl Covers {
     ///
     /// # Errors
     ///
-    /// `AllocError` where there is no memory.
+    /// `AllocError` if there is no memory.
     pub fn compute(alloc: Global, rules: &[Rule]) -> Result<Covers, AllocError>
         requires rules { Each rules.now IsRule }
         requires widths { AgreeInWidths (conclusions_of rules.now) }

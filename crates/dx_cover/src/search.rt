@@ -325,7 +325,7 @@ pub(crate) fn extend(
 ///
 /// # Errors
 ///
-/// `AllocError` where there is no memory.
+/// `AllocError` if there is no memory.
 pub fn cover(alloc: Global, i: &Rule, j: &Rule) -> Result<Vec<CellMap>, AllocError>
     requires rule { IsRule i.now }
     requires widths { AgreeInWidths (i.now.conclusion ++ j.now.conclusion) }

@@ -1,4 +1,4 @@
--- Fields that stand one behind the other in a buffer, and records that are cut of them.
+-- Fields that stand one after the other in a buffer, and records that are cut of them.
 use Rattle.std.specs.Prelude.{◌≡◌, ◌++◌, ℕ, zero, suc, List, [], ◌∷◌, All, length, take, drop, string_bytes}
 use Rattle.csv.specs.Records.{AllText, Rising, cut_from, last_end}
 use Rattle.dx_csv.specs.declared.fields.Fields.{Fields}

@@ -1,4 +1,4 @@
-// Fields one behind the other in one buffer, and the texts that share it.
+// Fields one after the other in one buffer, and the texts that share it.
 ghost use Rattle.std.specs.Prelude.{◌≡◌, ◌≤◌, ◌++◌, ◌∷◌, [], ℕ, List, IfOk, OnOk, length};
 ghost use Rattle.dx_csv.specs.Fields.{HaveFields, fields_in};
 
@@ -7,7 +7,7 @@ use std::alloc::{AllocError, Global};
 use std::marker::Model;
 use std::rc::Rc;
 
-/// Fields that are texts, one behind the other in one buffer, and the place where each ends.
+/// Fields that are texts, one after the other in one buffer, and the place where each ends.
 #[derive(Drop)]
 pub(crate) struct Fields {
     text: String,

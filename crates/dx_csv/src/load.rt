@@ -79,7 +79,7 @@ fn row_of(alloc: Global, given: &ByteRecord) -> Result<Option<Row>, AllocError>
     Ok(Some(row))
 }
 
-// Puts the fields of a record behind the others, if each is a text.
+// Puts the fields of a record after the others, if each is a text.
 fn push_record(fields: &mut Fields, given: &ByteRecord) -> Result<bool, AllocError>
     ensures text { IfOk result (λ whole. whole ≡ true → AllText (fields_of given.now)) }
     ensures not_text { IfOk result (λ whole. whole ≡ false → ¬ (AllText (fields_of given.now))) }
@@ -146,7 +146,7 @@ fn read_texts(alloc: Global, fields: Fields, count: u64) -> Result<(Texts, u32),
 ///
 /// # Errors
 ///
-/// `Bad` with the fault of the first record at fault. `Memory` where there is no memory.
+/// `Bad` with the fault of the first record at fault. `Memory` if there is no memory.
 pub fn load_table(alloc: Global, bytes: &[u8], columns: &[Text]) -> Result<Vec<Row>, RowFault>
     requires { length columns.now < 2 ^ 32 - 1 }
     ensures rows { IfOk result (λ rows. IsTable (table_records bytes.now) columns.now rows.items) }

@@ -31,7 +31,7 @@ fn conversion(alloc: Global, name: &str, code: u32, arity: u32) -> Result<Conver
 ///
 /// # Errors
 ///
-/// `AllocError` where there is no memory.
+/// `AllocError` if there is no memory.
 pub fn shipped_list(alloc: Global) -> Result<Items<Conversion>, AllocError>
     ensures list { IfOk result (λ list. list ≡ shipped_conversions) }
     ensures offer { IfOk result (λ list. IsOffer list) }
@@ -47,7 +47,7 @@ pub fn shipped_list(alloc: Global) -> Result<Items<Conversion>, AllocError>
 ///
 /// # Errors
 ///
-/// `AllocError` where there is no memory.
+/// `AllocError` if there is no memory.
 pub fn convert(alloc: Global, code: u32, args: &Items<Text>) -> Result<Text, AllocError>
     requires { IsListed shipped_conversions code (length args.now) }
     ensures { IfOk result (λ t. t ≡ shipped_apply code args.now) }

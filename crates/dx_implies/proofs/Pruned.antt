@@ -26,7 +26,7 @@ use Rattle.dx_implies.proofs.Plain.{IsPlain, all_rows_any, go_any, underived_pla
 abbrev none : Conversions
 none code texts = []
 
--- P is what is left of R behind the rules in front, whatever conversions do
+-- P is what is left of R after the rules in front, whatever conversions do
 abbrev pub LeftAfter : List Rule → List Rule → List Rule → Type 0
 LeftAfter front R P = (convert : Conversions) → PrunedAfter convert front R P
 
@@ -68,7 +68,7 @@ keeps front R kept d l g convert = (kept, l convert, inr (g convert, refl))
 
 -- ---- the limit
 
--- a test of R passes the limit, behind the rules in front
+-- a test of R passes the limit, after the rules in front
 pub record PassesAfter (limit : ℕ) (outer R : List Rule) : Type 0 where
   pub front : List Rule
   pub rule : Rule
@@ -213,7 +213,7 @@ module _ (limit : ℕ) where
     | inl e ↦ elim (passes_or_not limit (underived others) d a (underived_plain others)) [ inl p ↦ inl (e, p) | inr n ↦ inr (λ p. n p.1) ]
   ]
 
-  -- what is left behind the rules in front, and whether a test passed
+  -- what is left after the rules in front, and whether a test passed
   record Tried (outer R : List Rule) : Type 0 where
     kept : List Rule
     left : LeftAfter outer R kept

@@ -95,7 +95,7 @@ where
 ///
 /// # Errors
 ///
-/// `At` with the first fault in the order of the text. `Memory` where there is no memory, which may come at any point.
+/// `At` with the first fault in the order of the text. `Memory` if there is no memory, which may come at any point.
 ///
 /// 1. Line by line, the source before the target; of a place the set before its column: a set or a column of this name
 ///    isn't there (`UnknownName`).

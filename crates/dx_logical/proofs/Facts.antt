@@ -413,14 +413,14 @@ follow_lift schema r s n t k x h f j le m = let a = f j le m in (a.0, along_lift
 abbrev FollowAll : List Table → Relation → ℕ → Type 0
 FollowAll schema r m = (n : ℕ) → m ≤ n → n < length r.occurrences → FollowFrom schema r n (occurrence_at r n).table 0
 
--- links from number k on, where one follows along the first and along those behind it
+-- links from number k on, where one follows along the first and along those after it
 follow_first : (schema : List Table) (s : Relation) (p t k q : ℕ) → IsAlong s p k (link_at schema t k) q → FollowFrom schema s p t (suc k) → FollowFrom schema s p t k
 follow_first schema s p t k q a f j le m = elim (cases_lt k j) [
   | inl h ↦ f j (omega arith) m
   | inr g ↦ let e : k ≡ j = omega arith in (q, subst (λ (i : ℕ). IsAlong s p i (link_at schema t i) q) e a)
 ]
 
--- occurrences from number m on, where all follow from m, from those behind it in r, and from those behind r
+-- occurrences from number m on, where all follow from m, from those after it in r, and from those after r
 follow_parts : (schema : List Table) (r s : Relation) (m : ℕ) → Extends r s → m < length r.occurrences → FollowFrom schema r m (occurrence_at r m).table 0 → FollowAll schema r (suc m)
     → FollowAll schema s (length r.occurrences) → FollowAll schema s m
 follow_parts schema r s m x h first near far n le n_in = elim (cases_lt n (length r.occurrences)) [

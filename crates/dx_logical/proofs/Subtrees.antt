@@ -18,7 +18,7 @@ pub record IsNested (r : Relation) : Type 0 where
   pub before : (p q : ℕ) → q < length r.occurrences → (occurrence_at r q).parent ≡ Some p → p < q
   pub between : (p q n : ℕ) → q < length r.occurrences → (occurrence_at r q).parent ≡ Some p → p < n → n ≤ q → ComesFrom r p n
 
--- all behind occurrence p comes from it
+-- all after occurrence p comes from it
 abbrev IsOpen : Relation → ℕ → Type 0
 IsOpen r p = (n : ℕ) → p < n → n < length r.occurrences → ComesFrom r p n
 
@@ -117,7 +117,7 @@ behind_is : (p : ℕ) (o : Option ℕ) → is_behind p o ≡ true → (m : ℕ) 
 behind_is p None e = absurd (true≢false (sym e))
 behind_is p (Some m) e = (m, refl, leb-true p m e)
 
--- what comes from p and stands behind it follows from one that isn't before p
+-- what comes from p and stands after it follows from one that isn't before p
 follows_behind : (r : Relation) → IsNested r → (p q : ℕ) → q < length r.occurrences → p < q → ComesFrom r p q → is_behind p (occurrence_at r q).parent ≡ true
 follows_behind r n p q h b itself = absurd (omega arith)
 follows_behind r n p q h b (after {m = u} e c) =
@@ -152,7 +152,7 @@ nowhere = record { table = 0; variables = []; parent = None; link = 0 }
 abbrev passes : ℕ → Occurrence → Bool
 passes p o = is_behind p o.parent
 
--- how many come behind p
+-- how many come after p
 abbrev behind : Relation → ℕ → ℕ
 behind r p = prefix_len (passes p) (drop (suc p) r.occurrences)
 
@@ -175,7 +175,7 @@ in_block r p z b m =
     let e : suc p + (z - suc p) ≡ z = omega arith in
     rw (get_or-drop (suc p) r.occurrences (z - suc p) nowhere, e) at i
 
--- the one behind the block doesn't
+-- the one after the block doesn't
 past_block : (r : Relation) (p : ℕ) → p + suc (behind r p) < length r.occurrences → is_behind p (occurrence_at r (p + suc (behind r p))).parent ≡ false
 past_block r p h =
     let i = prefix_len_stops (passes p) (drop (suc p) r.occurrences) nowhere (rw length-drop (omega arith)) in

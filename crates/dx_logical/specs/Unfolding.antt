@@ -49,7 +49,7 @@ row_along schema l vs r = row_of r.variables l.to (items_at l.from vs) (table_of
 abbrev pub joined_along : List Table → ℕ → List ℕ → Relation → ℕ → Link → Relation
 joined_along schema p vs r k l = joined r l.table (table_of schema l.table).width l.to (items_at l.from vs) (Some p) k
 
--- the relation, and then what follows from its occurrence number p, which has the variables vs: along each link one occurrence more, and behind it what follows from it
+-- the relation, and then what follows from its occurrence number p, which has the variables vs: along each link one occurrence more, and after it what follows from it
 abbrev pub continued : List Table → ℕ → List ℕ → Relation → Follows → Relation
 continued schema p vs r none = r
 continued schema p vs r (along k l below beside) =
@@ -78,6 +78,6 @@ abbrev pub is_behind : ℕ → Option ℕ → Bool
 is_behind p None = false
 is_behind p (Some k) = nat_le p k
 
--- the subtree at occurrence p: it, and the occurrences behind it up to the first that follows from one before it
+-- the subtree at occurrence p: it, and the occurrences after it up to the first that follows from one before it
 abbrev pub sub : List Occurrence → ℕ → List Occurrence
 sub os p = take 1 (drop p os) ++ take_while (λ (o : Occurrence). is_behind p o.parent) (drop (suc p) os)

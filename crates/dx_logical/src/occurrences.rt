@@ -92,7 +92,7 @@ fn follow(
 ///
 /// # Errors
 ///
-/// `TooWide`: the unfolding has more than 64 occurrences. `Memory` where there is no memory.
+/// `TooWide`: the unfolding has more than 64 occurrences. `Memory` if there is no memory.
 pub fn unfold(alloc: Global, schema: &Schema, table: u32) -> Result<Relation, WideFault>
     requires { table < length (tables_of schema.now) }
     ensures unfolding { IfOk result (λ r. r ≡ unfolding_of (model_tables schema.now) table) }

@@ -35,7 +35,7 @@ pub enum Count {
     SourceCells,
     /// Cells of the canonical instance, counted for each match.
     TargetCells,
-    /// Not answered by any call yet.
+    /// Cells that are made to test whether rules follow from others.
     FrozenCells,
 }
 

@@ -47,7 +47,7 @@ pub trait Inputs {
     /// # Errors
     ///
     /// Where the inputs tell what they hold, `Absent`: there is no file of this name, and `Long`: the file has more
-    /// than `limit` bytes. `Failed`: a read failed, and was counted. `Memory` where there is no memory. `into` is empty
+    /// than `limit` bytes. `Failed`: a read failed, and was counted. `Memory` if there is no memory. `into` is empty
     /// after each of them.
     fn fetch(&mut self, name: &Text, limit: u64, into: &mut Vec<u8>) -> Result<(), FetchFault>
         ensures kept { holds self.new ≡ holds self.old }

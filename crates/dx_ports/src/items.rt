@@ -63,7 +63,7 @@ impl<T: Drop> Items<T> {
     ///
     /// # Errors
     ///
-    /// `AllocError` where there is no memory: the list stays as it was, and the item is dropped.
+    /// `AllocError` if there is no memory: the list stays as it was, and the item is dropped.
     pub fn push(&mut self, item: T) -> Result<(), AllocError>
         ensures ok { OnOk result (self.new ≡ self.old ++ item ∷ []) }
         ensures err { OnErr result (self.new ≡ self.old) }

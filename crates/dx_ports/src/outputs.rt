@@ -48,7 +48,7 @@ pub trait Outputs {
     ///
     /// # Errors
     ///
-    /// `Failed`: a write failed, and was counted. `Memory` where there is no memory. The files that were written whole
+    /// `Failed`: a write failed, and was counted. `Memory` if there is no memory. The files that were written whole
     /// are the same then.
     fn put(&mut self, name: &Text, bytes: &[u8]) -> Result<(), PutFault>
         ensures put { OnOk result (files self.new ≡ appended (files self.old) ((name.now, bytes.now) ∷ [])) }
@@ -58,11 +58,11 @@ pub trait Outputs {
         ensures failed { IsErrOf result PutFault.Failed → Rose (faults self.old) (faults self.new) }
         ensures steady { ¬ (IsErrOf result PutFault.Failed) → faults self.new ≡ faults self.old };
 
-    /// Says these bytes, behind what was said.
+    /// Says these bytes, after what was said.
     ///
     /// # Errors
     ///
-    /// `Failed`: a write failed, and was counted. `Memory` where there is no memory. A front of the bytes was said
+    /// `Failed`: a write failed, and was counted. `Memory` if there is no memory. A front of the bytes was said
     /// then, which may be empty.
     fn say(&mut self, bytes: &[u8]) -> Result<(), PutFault>
         ensures said { OnOk result (said self.new ≡ appended (said self.old) bytes.now) }

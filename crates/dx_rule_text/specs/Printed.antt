@@ -50,7 +50,7 @@ abbrev pub derived_texts : (ℕ → Text) → ℕ → List Derived → List Text
 derived_texts name n [] = []
 derived_texts name n (d ∷ ds) = derived_text name n d ∷ derived_texts name (suc n) ds
 
--- the derived variables behind `where`; nothing where there are none
+-- the derived variables after `where`; nothing if there are none
 abbrev pub where_text : (ℕ → Text) → ℕ → List Derived → Text
 where_text name n [] = []
 where_text name n (d ∷ ds) = codes " where " ++ separated (derived_texts name n (d ∷ ds))

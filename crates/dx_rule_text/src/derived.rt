@@ -79,7 +79,7 @@ fn push_derived<F: Fn(u32, &Items<Text>) -> Result<Text, AllocError>, M: Meaning
     Ok(())
 }
 
-// Derived variables behind `where`, of which the first has the number `first`. Nothing where there are none.
+// Derived variables after `where`, of which the first has the number `first`. Nothing if there are none.
 pub fn push_where<F: Fn(u32, &Items<Text>) -> Result<Text, AllocError>, M: Meaning>(
     derived: &[Derived],
     first: u64,

@@ -39,7 +39,7 @@ fn push_rule<F: Fn(u32, &Items<Text>) -> Result<Text, AllocError>, M: Meaning>(
 ///
 /// # Errors
 ///
-/// `AllocError` where there is no memory.
+/// `AllocError` if there is no memory.
 pub fn print_rule<F: Fn(u32, &Items<Text>) -> Result<Text, AllocError>, M: Meaning>(
     alloc: Global,
     rule: &Rule,
@@ -61,7 +61,7 @@ pub fn print_rule<F: Fn(u32, &Items<Text>) -> Result<Text, AllocError>, M: Meani
 ///
 /// # Errors
 ///
-/// `AllocError` where there is no memory.
+/// `AllocError` if there is no memory.
 pub fn print_rules<F: Fn(u32, &Items<Text>) -> Result<Text, AllocError>, M: Meaning>(
     alloc: Global,
     rules: &[Rule],

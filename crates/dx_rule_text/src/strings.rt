@@ -20,7 +20,7 @@ fn push_escaped(character: char, out: &mut String) -> Result<(), AllocError>
 ///
 /// # Errors
 ///
-/// `AllocError` where there is no memory: then `out` may have a part of it.
+/// `AllocError` if there is no memory: then `out` may have a part of it.
 pub fn push_string(text: &str, out: &mut String) -> Result<(), AllocError>
     ensures { OnOk result (string_bytes out.new ≡ string_bytes out.old ++ quoted text.now) }
 {

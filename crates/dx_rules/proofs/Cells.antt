@@ -140,7 +140,7 @@ module _ (term : ℕ → Option Term) (text : ℕ → Option (List ℕ)) where
       → AreNumbered term text gone known places next → cells.Ex k ≡ cell_in first term text (gone ++ y ∷ []) y
   cell_left first gone known places next y k e f g a = rw (e, f, left_with gone y e f) (ap cells.Ex (g (left_in term text gone) a.left))
 
-  -- ---- cells stay where variables come behind
+  -- ---- cells stay where variables come after
 
   cell_final : (first : ℕ) (gone more : List ℕ) (y : ℕ) → y ∈ gone → (o : Option Term) (l : Option (List ℕ)) → term y ≡ o → text y ≡ l
       → cell_by first (calls_in term gone) (left_in term text gone) o l y ≡ cell_by first (calls_in term (gone ++ more)) (left_in term text (gone ++ more)) o l y

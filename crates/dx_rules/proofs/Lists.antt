@@ -41,12 +41,12 @@ some_by_place p xs h = let e = any_position p xs in grind (arith, nat_tests)
 pub none_by_place : {X : Type 0} (p : X → Bool) (xs : List X) → position_or_len p xs ≡ length xs → list_any p xs ≡ false
 none_by_place p xs h = let e = any_position p xs in grind (arith, nat_tests)
 
--- an item's place stays where items come behind it
+-- an item's place stays where items come after it
 pub place_stays : {X : Type 0} (p : X → Bool) (xs ys : List X) → position_or_len p xs < length xs → position_or_len p (xs ++ ys) ≡ position_or_len p xs
 place_stays p xs ys h =
     prefix_len-append (λ x. not (p x)) xs ys ∙ cond-false (eqb (position_or_len p xs) (length xs)) _ (position_or_len p xs) (ne_eqb (position_or_len p xs) (length xs) (λ e. omega (arith, e)))
 
--- a new item stands behind all others
+-- a new item stands after all others
 pub place_behind : {X : Type 0} (p : X → Bool) (xs : List X) (y : X) → position_or_len p xs ≡ length xs → p y ≡ true → position_or_len p (xs ++ y ∷ []) ≡ length xs
 place_behind p xs y e h =
     position_or_len_push p xs y ∙ (cond-true (eqb (position_or_len p xs) (length xs)) _ (position_or_len p xs) (eq-eqb (position_or_len p xs) (length xs) e) ∙ rw h (omega arith))

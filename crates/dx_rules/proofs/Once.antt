@@ -92,7 +92,7 @@ module _ {X : Type 0} (same : X → X → Bool) (tells : Tells same) where
   pub once_more : (xs : List X) (y : X) → once same (xs ++ y ∷ []) ≡ with_one same (once same xs) y
   once_more xs y = once_push same xs y ∙ ap (λ b. cond b (once same xs) (once same xs ++ y ∷ [])) (tests_agree xs y)
 
-  -- more items come behind
+  -- more items come after
   pub once_grows : (xs ys : List X) → (zs : List X) × (once same (xs ++ ys) ≡ once same xs ++ zs)
   once_grows xs [] = ([], ap (once same) (append-nil xs) ∙ sym (append-nil (once same xs)))
   once_grows xs (y ∷ ys) =

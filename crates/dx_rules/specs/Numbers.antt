@@ -34,7 +34,7 @@ left_in term text ys = once eqb (flat_map (λ y. ungiven (term y) (text y) y) ys
 abbrev pub cell_in : ℕ → (ℕ → Option Term) → (ℕ → Option (List ℕ)) → List ℕ → ℕ → Cell
 cell_in n term text ys y = cell_by n (calls_in term ys) (left_in term text ys) (term y) (text y) y
 
--- each variable has its place in the list as its number, and the next number is that behind the list
+-- each variable has its place in the list as its number, and the next number is that after the list
 pub record AreLeft (left : List ℕ) (places : List (Option ℕ)) (next : ℕ) : Type 0 where
   pub numbers : (y : ℕ) → y < length places → slice_index_or places y None ≡ position (eqb y) left
   pub count : next ≡ length left

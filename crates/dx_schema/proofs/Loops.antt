@@ -89,7 +89,7 @@ fault_further g xs i x lt is at = rw (cut xs i x lt is, ← at) refl
 pub fault_none : {X : Type 0} (g : X → Option SchemaFault) (xs : List X) (i : ℕ) → length xs ≤ i → first_of (map g (drop i xs)) ≡ None
 fault_none g xs i past = rw (drop_all i xs past) refl
 
--- ---- the first fault of sets, each behind those before it
+-- ---- the first fault of sets, each after those before it
 
 pub set_here : (names : List Text) (sets : List Placed) (i : ℕ) (s : Placed) (e : SchemaFault) → i < length sets → s ≡ get_or sets i s → Some e ≡ set_fault (take i names) s → sets_fault (take i names) (drop i sets) ≡ Some e
 set_here names sets i s e lt is at = rw (cut sets i s lt is, ← at) refl

@@ -168,7 +168,7 @@ set_ok before s h =
     some zero e = absurd cc
     some (suc n) e = omega arith
 
--- each set has no fault behind those before it, and their names differ
+-- each set has no fault after those before it, and their names differ
 sets_ok : (before : List Text) (sets : List Placed) → sets_fault before sets ≡ None
     → AreNew before (names_of sets) × ((s : Placed) → s ∈ sets → (b : List Text) × (set_fault b s ≡ None))
 sets_ok before [] h = ((tt, λ x m. elim m [ ]), λ x m. elim m [ ])

@@ -35,12 +35,12 @@ abbrev pub label_code : Coded Label
 label_code = code_by ((List ℕ × List (List ℕ)) × (List KeyDecl × List RefDecl)) (coded× (coded× (coded_list coded_ℕ) texts_code) (coded× (coded_list key_code) (coded_list ref_code)))
     (λ l. ((l.name, l.columns), (l.keys, l.refs))) (λ p. record { name = p.0.0; columns = p.0.1; keys = p.1.0; refs = p.1.1 }) (λ _. refl)
 
--- a forest as a list: each set, then its inner sets, then the sets behind it; `None` where a level ends
+-- a forest as a list: each set, then its inner sets, then the sets after it; `None` where a level ends
 abbrev pub listed : Forest → List (Option Label)
 listed none = None ∷ []
 listed (set l inner rest) = Some l ∷ (listed inner ++ listed rest)
 
--- the first two of the forests become the inner sets of a set and the sets behind it
+-- the first two of the forests become the inner sets of a set and the sets after it
 abbrev pub joined : Label → List Forest → List Forest
 joined l [] = []
 joined l (i ∷ []) = []

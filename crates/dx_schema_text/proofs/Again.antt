@@ -29,7 +29,7 @@ use Rattle.std.proofs.lemmas.Bool.{or_left, or_right}
 abbrev comma : Lexeme → Bool
 comma = mark_is (codes ",")
 
--- whatever is behind it
+-- whatever is after it
 abbrev Any : List Lexeme → Type 0
 Any rest = Unit {0}
 

@@ -177,7 +177,7 @@ text_fault text e told = err_told text (fault_in (scan_of text).stop) (whole (ma
 
 -- ---- there is one fault, and none where a mapping is said
 
--- a fault at a token, or a stop behind all tokens
+-- a fault at a token, or a stop after all tokens
 abbrev AtToken : List ℕ → TextFault → Type 0
 AtToken text e = (place : ℕ) × (u : IsUnexpected text place) × (((e ≡ At place Expected) × ¬ (StandsDeeper text u.number)) ⊎ ((e ≡ TooDeep place) × StandsDeeper text u.number))
 

@@ -19,7 +19,7 @@ unfolding clause_reader
 one_level zero xs lt = absurd (omega arith)
 one_level (suc levels) xs lt = let e : suc levels - 1 ≡ levels = omega arith in rw e refl
 
--- ---- a set behind its head
+-- ---- a set after its head
 
 abbrev clauses_in : ℕ → Reader Lexeme (List Clause)
 clauses_in levels = many (begins_clause levels) (clause_reader levels)

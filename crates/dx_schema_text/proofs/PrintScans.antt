@@ -19,7 +19,7 @@ use Rattle.dx_tokens.proofs.PartScans.{token_scanned, blanks_scanned}
 abbrev pub with_all : List Lexeme → Scanned → Scanned
 with_all xs s = record { lexemes = xs ++ s.lexemes; stop = s.stop }
 
--- The text from this place on begins with lexemes that have R, and more is behind them.
+-- The text from this place on begins with lexemes that have R, and more is after them.
 pub record Reads (R : List Lexeme → Type 0) (place : ℕ) (text more : List ℕ) : Type 0 where
   pub lexemes : List Lexeme
   pub after : ℕ

@@ -110,7 +110,7 @@ place = word ▸ mark (codes ".") ▸ word
 unfoldable pub places : Form Lexeme
 places = place ▸ repeated (mark (codes ",") ▸ place)
 
--- a column behind its set, or the arguments of a conversion behind its name:
+-- a column after its set, or the arguments of a conversion after its name:
 -- "." word | "(" places ")"
 unfoldable pub behind_word : Form Lexeme
 behind_word = (mark (codes ".") ▸ word) ∣ (mark (codes "(") ▸ places ▸ mark (codes ")"))

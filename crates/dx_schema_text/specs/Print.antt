@@ -19,7 +19,7 @@ names_text (name ∷ others) = name ++ flat_map (λ other. codes ", " ++ other) 
 abbrev pub wider : List ℕ → List ℕ
 wider margin = margin ++ codes "  "
 
--- names in brackets behind a word
+-- names in brackets after a word
 abbrev pub group : List ℕ → List (List ℕ) → List ℕ
 group word names = word ++ (codes " (" ++ (names_text names ++ codes ")"))
 

@@ -180,7 +180,7 @@ string_reader = do
   s ← token is_string
   give (literal_source s.text)
 
--- a column behind its set, or the arguments of a conversion behind its name
+-- a column after its set, or the arguments of a conversion after its name
 unfoldable pub column_reader : Lexeme → Reader Lexeme SourceText
 column_reader name = do
   dot ← token (mark_is (codes "."))
@@ -292,7 +292,7 @@ comma_derived = do
   comma ← token (mark_is (codes ","))
   derived_reader
 
--- the derived variables of a rule, behind `where`
+-- the derived variables of a rule, after `where`
 unfoldable pub where_reader : Reader Lexeme (List DerivedText)
 where_reader = do
   keyword ← token (word_is (codes "where"))

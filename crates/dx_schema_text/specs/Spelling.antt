@@ -129,7 +129,7 @@ pub data SpellsItem : ItemText → List Lexeme → Type 0 where
   a_line : {l : LineText} {u : List Lexeme} → SpellsLine l u → SpellsItem (line_item l) u
   a_rule : {r : RuleText} {u : List Lexeme} → SpellsRule r u → SpellsItem (rule_item r) u
 
--- tokens spell the sets of a side, behind its name
+-- tokens spell the sets of a side, after its name
 pub data SpellsSide : List ℕ → ℕ → Forest → List Lexeme → Type 0 where
   side_of : {name : List ℕ} {levels : ℕ} {trees : List Tree} {u : List Lexeme} (k o c : Lexeme) → IsKeyword name k → IsMark (codes "{") o → Many (SpellsSet levels) trees u → IsMark (codes "}") c
       → SpellsSide name levels (forest_of trees) (k ∷ o ∷ (u ++ c ∷ []))

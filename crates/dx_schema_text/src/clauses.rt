@@ -10,7 +10,7 @@ use dx_schema::{KeyDecl, RefDecl, SetTree, Trees};
 use dx_tokens::Lexeme;
 use std::alloc::{AllocError, Global};
 
-/// What stands behind the columns of a set.
+/// What stands after the columns of a set.
 #[derive(Drop)]
 pub enum Clause {
     Key(KeyDecl),

@@ -79,7 +79,7 @@ pub(crate) fn next_is_keyword(tokens: &[Lexeme], word: &[u8]) -> bool
     }
 }
 
-/// A word, and what is left behind it.
+/// A word, and what is left after it.
 pub(crate) fn word(tokens: &[Lexeme]) -> Result<(&Lexeme, &[Lexeme]), ReadError>
     ensures { Gives (λ x. (x.0.now, x.1.now)) result (token is_word tokens.now) }
 {
@@ -90,7 +90,7 @@ pub(crate) fn word(tokens: &[Lexeme]) -> Result<(&Lexeme, &[Lexeme]), ReadError>
     }
 }
 
-/// A string, and what is left behind it.
+/// A string, and what is left after it.
 pub(crate) fn string(tokens: &[Lexeme]) -> Result<(&Lexeme, &[Lexeme]), ReadError>
     ensures { Gives (λ x. (x.0.now, x.1.now)) result (token is_string tokens.now) }
 {
@@ -101,7 +101,7 @@ pub(crate) fn string(tokens: &[Lexeme]) -> Result<(&Lexeme, &[Lexeme]), ReadErro
     }
 }
 
-/// This word, and what is left behind it.
+/// This word, and what is left after it.
 pub(crate) fn keyword<'a>(
     tokens: &'a [Lexeme],
     word: &[u8],
@@ -115,7 +115,7 @@ pub(crate) fn keyword<'a>(
     }
 }
 
-/// This number, and what is left behind it.
+/// This number, and what is left after it.
 pub(crate) fn number<'a>(
     tokens: &'a [Lexeme],
     number: &[u8],
@@ -129,7 +129,7 @@ pub(crate) fn number<'a>(
     }
 }
 
-/// This mark, and what is left behind it.
+/// This mark, and what is left after it.
 pub(crate) fn mark<'a>(
     tokens: &'a [Lexeme],
     mark: &[u8],
@@ -152,7 +152,7 @@ fn comma_name(tokens: &[Lexeme]) -> Result<(Text, &[Lexeme]), ReadError>
     Ok((name.text.copy()?, rest))
 }
 
-// These names, and those that follow, each behind a comma.
+// These names, and those that follow, each after a comma.
 fn more_names(names: Items<Text>, tokens: &[Lexeme]) -> Result<(Items<Text>, &[Lexeme]), ReadError>
     ensures { Gives (λ x. (x.0, x.1.now)) result (with_front names (many (mark_is (codes ",")) comma_word tokens.now)) }
 {
@@ -166,7 +166,7 @@ fn more_names(names: Items<Text>, tokens: &[Lexeme]) -> Result<(Items<Text>, &[L
     Ok((names, rest))
 }
 
-/// Names parted by commas, and what is left behind them.
+/// Names parted by commas, and what is left after them.
 #[tactic(auto, unfolding(crate::specs::Reading::words_reader))]
 pub(crate) fn names(alloc: Global, tokens: &[Lexeme]) -> Result<(Items<Text>, &[Lexeme]), ReadError>
     ensures { Gives (λ x. (x.0, x.1.now)) result (words_reader tokens.now) }

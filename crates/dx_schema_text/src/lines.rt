@@ -35,7 +35,7 @@ fn next_place(tokens: &[Lexeme]) -> Result<(PlaceText, &[Lexeme]), ReadError>
     place(rest)
 }
 
-// These places, and those that follow, each behind a comma.
+// These places, and those that follow, each after a comma.
 fn more_places(
     places: Items<PlaceText>,
     tokens: &[Lexeme],
@@ -70,7 +70,7 @@ fn literal(tokens: &[Lexeme]) -> Result<(SourceText, &[Lexeme]), ReadError>
     Ok((SourceText::Literal(text.text.copy()?), rest))
 }
 
-// The column behind the name of a set.
+// The column after the name of a set.
 #[tactic(auto, unfolding(crate::specs::Reading::column_reader))]
 fn column<'a>(set: &Lexeme, tokens: &'a [Lexeme]) -> Result<(SourceText, &'a [Lexeme]), ReadError>
     ensures { Gives (λ x. (x.0, x.1.now)) result (column_reader set.now tokens.now) }
@@ -86,7 +86,7 @@ fn column<'a>(set: &Lexeme, tokens: &'a [Lexeme]) -> Result<(SourceText, &'a [Le
     Ok((SourceText::Column(place), rest))
 }
 
-// The arguments behind the name of a conversion.
+// The arguments after the name of a conversion.
 #[tactic(auto, unfolding(crate::specs::Reading::call_reader))]
 fn call<'a>(
     alloc: Global,
@@ -129,7 +129,7 @@ fn source(alloc: Global, tokens: &[Lexeme]) -> Result<(SourceText, &[Lexeme]), R
     }
 }
 
-/// A line, and what is left behind it.
+/// A line, and what is left after it.
 #[tactic(auto, unfolding(crate::specs::Reading::line_reader))]
 pub(crate) fn line(alloc: Global, tokens: &[Lexeme]) -> Result<(LineText, &[Lexeme]), ReadError>
     ensures { Gives (λ x. (x.0, x.1.now)) result (line_reader tokens.now) }

@@ -15,7 +15,7 @@ use dx_schema::{SetTree, Trees};
 use dx_tokens::Lexeme;
 use std::alloc::{AllocError, Global};
 
-/// What stands behind the two sides of a mapping.
+/// What stands after the two sides of a mapping.
 #[derive(Debug, Drop)]
 pub enum ItemText {
     Line(LineText),

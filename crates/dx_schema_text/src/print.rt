@@ -21,7 +21,7 @@ fn push_names(names: &[Text], out: &mut String) -> Result<(), AllocError>
     Ok(())
 }
 
-// Names in brackets behind a word.
+// Names in brackets after a word.
 fn push_group(word: &str, names: &[Text], out: &mut String) -> Result<(), AllocError>
     ensures { OnOk result (string_bytes out.new ≡ string_bytes out.old ++ group word.now names.now) }
 {
@@ -141,7 +141,7 @@ fn push_sets(
 ///
 /// # Errors
 ///
-/// `AllocError` where there is no memory.
+/// `AllocError` if there is no memory.
 pub fn print_trees(alloc: Global, trees: &Trees) -> Result<Text, AllocError>
     ensures text { IfOk result (λ t. t ≡ printed [] trees.now) }
     ensures read_again { IfOk result (λ t. AreWritable trees.now → IsReadAgain trees.now t) }

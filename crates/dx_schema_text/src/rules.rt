@@ -51,7 +51,7 @@ fn next_cell(strings: bool, tokens: &[Lexeme]) -> Result<(CellText, &[Lexeme]), 
     cell(strings, rest)
 }
 
-// These cells, and those that follow, each behind a comma.
+// These cells, and those that follow, each after a comma.
 fn more_cells(
     strings: bool,
     cells: Items<CellText>,
@@ -111,7 +111,7 @@ fn next_atom(
     atom(alloc, strings, rest)
 }
 
-// These atoms, and those that follow, each behind a comma.
+// These atoms, and those that follow, each after a comma.
 fn more_atoms(
     alloc: Global,
     strings: bool,
@@ -172,7 +172,7 @@ fn next_derived(alloc: Global, tokens: &[Lexeme]) -> Result<(DerivedText, &[Lexe
     derived(alloc, rest)
 }
 
-// These derived variables, and those that follow, each behind a comma.
+// These derived variables, and those that follow, each after a comma.
 fn more_derived(
     alloc: Global,
     all: Items<DerivedText>,
@@ -218,7 +218,7 @@ fn derived_variables(
     }
 }
 
-/// A rule, and what is left behind it.
+/// A rule, and what is left after it.
 #[tactic(auto, unfolding(crate::specs::Reading::rule_reader))]
 pub(crate) fn rule(alloc: Global, tokens: &[Lexeme]) -> Result<(RuleText, &[Lexeme]), ReadError>
     ensures { Gives (λ x. (x.0, x.1.now)) result (rule_reader tokens.now) }

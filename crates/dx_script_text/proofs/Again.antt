@@ -27,7 +27,7 @@ use Rattle.dx_script_text.specs.Spelling.{Of, SpellsDeclared, declared_of, Spell
 use Rattle.dx_script_text.proofs.Apart.{and_true, same_if, apart_kinds, apart_number_kind, apart_kind_number}
 use Rattle.dx_script_text.proofs.Follows.{comma_declared_consumes, comma_cell_consumes, and_equal_consumes, and_test_consumes, and_unless_consumes, comma_out_consumes, step_consumes}
 
--- whatever is behind it
+-- whatever is after it
 abbrev Any : List ScriptToken → Type 0
 Any rest = Unit {0}
 

@@ -154,7 +154,7 @@ pub equals_reads : IsReader (Stops is_and) where_part equals_reader
 unfolding where_part equals_reader
 equals_reads = then_any (Stops is_and) (any kinds.Where) (listed is_and equal) (token (of_kind kinds.Where)) _ (a (of_kind kinds.Where)) (λ k. list_reads is_and equal equal_reader equal_reads)
 
--- what may stand behind WHERE and its list
+-- what may stand after WHERE and its list
 abbrev NoWhere : List (Form ScriptToken) → Type 0
 NoWhere more = Stops is_and more × Stops (of_kind kinds.Where) more
 

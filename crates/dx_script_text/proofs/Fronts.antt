@@ -36,7 +36,7 @@ k kind = (made kind 0, eq_self (rank kind))
 n : (kind : ScriptKind) (number' : ℕ) → HasTokens (one (has_number (of_kind kind) number number'))
 n kind number' = (made kind number', rw (eq_self (rank kind), eq_self number') refl)
 
--- one behind the other
+-- one after the other
 infixr 6 ◌&◌
 abbrev ◌&◌ : {A B : Type 0} → A → B → A × B
 a & b = (a, b)

@@ -37,7 +37,7 @@ use Rattle.dx_script_text.proofs.PrintScans.{Reads, Ends, no_token, word_then, n
 eq_self : (n : ℕ) → nat_eq n n ≡ true
 eq_self n = grind (arith, nat_tests)
 
--- pieces, and what is behind all of them
+-- pieces, and what is after all of them
 flat_3 : (a b c t : List ℕ) → (a ++ (b ++ c)) ++ t ≡ a ++ (b ++ (c ++ t))
 flat_3 a b c t = simp append_assoc
 

@@ -23,7 +23,7 @@ use Rattle.dx_script_text.specs.Printable.{IsName, AreSome}
 use Rattle.dx_script_text.specs.Grammar.{is_comma, is_and}
 use Rattle.dx_script_tokens.proofs.QuotedTexts.{is_quote, undoubled-doubled, quoted_read}
 
--- The text from this place on begins with tokens that have R, and more is behind them.
+-- The text from this place on begins with tokens that have R, and more is after them.
 pub record Reads (R : List ScriptToken → Type 0) (place : ℕ) (text more : List ℕ) : Type 0 where
   pub tokens : List ScriptToken
   pub after : ℕ

@@ -28,7 +28,7 @@ fn comma_declared(tokens: &[ScriptToken]) -> Result<(Text, &[ScriptToken]), Read
     declared(rest)
 }
 
-// These columns, and those that follow, each behind a comma.
+// These columns, and those that follow, each after a comma.
 fn more_declared(
     all: Items<Text>,
     tokens: &[ScriptToken],
@@ -57,7 +57,7 @@ fn columns(
     more_declared(all, rest)
 }
 
-/// What stands behind `ScriptKind::Create ScriptKind::Table` where a target table is created.
+/// What stands after `ScriptKind::Create ScriptKind::Table` where a target table is created.
 #[tactic(auto, unfolding(crate::specs::Reading::create_reader))]
 pub(crate) fn create(
     alloc: Global,

@@ -106,7 +106,7 @@ fn next_out(
     out(known, rest)
 }
 
-// These cells, and those that follow, each behind a comma.
+// These cells, and those that follow, each after a comma.
 fn more_outs(
     all: Items<Out>,
     first: Option<u32>,

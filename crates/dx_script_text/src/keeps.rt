@@ -65,7 +65,7 @@ fn and_test(tokens: &[ScriptToken]) -> Result<(Test, &[ScriptToken]), ReadError>
     test(rest)
 }
 
-// These tests, and those that follow, each behind ScriptKind::And.
+// These tests, and those that follow, each after ScriptKind::And.
 fn more_tests(
     all: Items<Test>,
     tokens: &[ScriptToken],
@@ -136,7 +136,7 @@ fn and_unless(alloc: Global, tokens: &[ScriptToken]) -> Result<(Unless, &[Script
     unless(alloc, rest)
 }
 
-// These, and those that follow, each behind ScriptKind::And.
+// These, and those that follow, each after ScriptKind::And.
 fn more_unless(
     alloc: Global,
     all: Items<Unless>,
@@ -187,7 +187,7 @@ fn keep_tail(
     Ok((Step::KeepRows { rule, unless }, rest))
 }
 
-/// What stands behind `ScriptKind::Create ScriptKind::Table` where matches are kept.
+/// What stands after `ScriptKind::Create ScriptKind::Table` where matches are kept.
 #[tactic(auto, unfolding(crate::specs::Reading::keep_reader))]
 pub(crate) fn keep_rows(
     alloc: Global,

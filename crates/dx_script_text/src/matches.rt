@@ -35,7 +35,7 @@ fn comma_cell(tokens: &[ScriptToken]) -> Result<(CellRef, &[ScriptToken]), ReadE
     cell(rest)
 }
 
-// These cells, and those that follow, each behind a comma.
+// These cells, and those that follow, each after a comma.
 fn more_cells(
     all: Items<CellRef>,
     tokens: &[ScriptToken],
@@ -124,7 +124,7 @@ fn next_item(
     item(alloc, number, rest)
 }
 
-// These items, and those that follow, each behind a comma and with the next number.
+// These items, and those that follow, each after a comma and with the next number.
 fn more_items(
     alloc: Global,
     all: Items<Select>,
@@ -200,7 +200,7 @@ fn next_source(number: u32, tokens: &[ScriptToken]) -> Result<(Text, &[ScriptTok
     source(number, rest)
 }
 
-// These sources, and those that follow, each behind a comma and with the next number.
+// These sources, and those that follow, each after a comma and with the next number.
 fn more_sources(
     all: Items<Text>,
     tokens: &[ScriptToken],
@@ -247,7 +247,7 @@ fn and_equal(tokens: &[ScriptToken]) -> Result<(Equal, &[ScriptToken]), ReadErro
     equal(rest)
 }
 
-// These, and those that follow, each behind ScriptKind::And.
+// These, and those that follow, each after ScriptKind::And.
 fn more_equal(
     all: Items<Equal>,
     tokens: &[ScriptToken],
@@ -292,7 +292,7 @@ fn where_part(
     }
 }
 
-/// What stands behind `ScriptKind::Create ScriptKind::Table` where a rule is matched.
+/// What stands after `ScriptKind::Create ScriptKind::Table` where a rule is matched.
 #[tactic(auto, unfolding(crate::specs::Reading::match_reader))]
 pub(crate) fn match_rows(
     alloc: Global,

@@ -23,7 +23,7 @@ fn push_test(test: &Test, out: &mut String) -> Result<(), AllocError>
     }
 }
 
-// The tests of a partner, behind WHERE. Nothing if there is none.
+// The tests of a partner, after WHERE. Nothing if there is none.
 fn push_tests(tests: &[Test], out: &mut String) -> Result<(), AllocError>
     ensures { OnOk result (string_bytes out.new ≡ string_bytes out.old ++ where_text (map test_text tests.now)) }
 {

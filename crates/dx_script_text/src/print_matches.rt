@@ -115,7 +115,7 @@ fn push_equal(equal: &Equal, out: &mut String) -> Result<(), AllocError>
     push_cell(&equal.right, out)
 }
 
-// What is equal, behind WHERE. Nothing if there is nothing.
+// What is equal, after WHERE. Nothing if there is nothing.
 fn push_where(equal: &[Equal], out: &mut String) -> Result<(), AllocError>
     ensures { OnOk result (string_bytes out.new ≡ string_bytes out.old ++ where_text (map equal_text equal.now)) }
 {

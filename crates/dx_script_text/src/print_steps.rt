@@ -74,7 +74,7 @@ fn push_step(step: &Step, out: &mut String) -> Result<(), AllocError>
 ///
 /// # Errors
 ///
-/// `AllocError` where there is no memory.
+/// `AllocError` if there is no memory.
 pub fn print_script(alloc: Global, script: &Script) -> Result<Text, AllocError>
     ensures text { IfOk result (λ t. t ≡ script_text script.now) }
     ensures read_again { IfOk result (λ t. IsPrintable script.now → IsScriptText t script.now) }

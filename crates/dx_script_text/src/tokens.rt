@@ -50,7 +50,7 @@ pub(crate) fn next_counts(tokens: &[ScriptToken], count: u64) -> bool
     next_of(tokens, ScriptKind::Comma) && count < MOST
 }
 
-/// A token of this kind, and what is left behind it.
+/// A token of this kind, and what is left after it.
 pub(crate) fn any_of(
     tokens: &[ScriptToken],
     kind: ScriptKind,
@@ -64,7 +64,7 @@ pub(crate) fn any_of(
     }
 }
 
-/// A token of this kind with this number, and what is left behind it.
+/// A token of this kind with this number, and what is left after it.
 pub(crate) fn that(
     tokens: &[ScriptToken],
     kind: ScriptKind,

@@ -26,7 +26,7 @@ more_case (Some w) value m len rest ys e h =
     pair_is : (p : ℕ × ℕ) (x y : ℕ) → p.0 ≡ x → p.1 ≡ y → p ≡ (x, y)
     pair_is p x y a b = ap (λ (n : ℕ). (n, p.1)) a ∙ ap (λ (n : ℕ). (x, n)) b
 
--- digits that were all taken, and what is behind them
+-- digits that were all taken, and what is after them
 more_append : (value m : ℕ) (rest ys : List ℕ) → more_digits value rest ≡ (length rest, m) → more_digits value (rest ++ ys) ≡ past (length rest) (more_digits m ys)
 unfolding more_digits
 more_append value m [] ys e =
@@ -101,12 +101,12 @@ next_step m ds l le d =
 pub decimal_read : (n : ℕ) → n ≤ greatest → IsDecimal n (decimal n)
 decimal_read n le = decimal_by_steps (λ m ds. m ≤ greatest → IsDecimal m ds) (λ m l h. first_step m l h) (λ m ds l h le. next_step m ds l le (h (omega (arith, le)))) n (omega (arith, le)) le
 
--- the number that its first digit begins, if no digit is behind it
+-- the number that its first digit begins, if no digit is after it
 zero_is : (k : ℕ) → ¬ (0 < k) → 0 ≡ k
 zero_is zero h = refl
 zero_is (suc k) h = absurd (h (omega arith))
 
--- the number that its first digit begins, if no digit is behind it
+-- the number that its first digit begins, if no digit is after it
 pub number_read : (n : ℕ) (ds tail : List ℕ) (d : IsDecimal n ds) → StopsAt is_digit tail → number_at d.first (d.others ++ tail) ≡ (suc (length d.others), n)
 number_read n ds tail d stops = go (cases_eq d.first 48) where
   go : (d.first ≡ 48) ⊎ (d.first ≢ 48) → number_at d.first (d.others ++ tail) ≡ (suc (length d.others), n)

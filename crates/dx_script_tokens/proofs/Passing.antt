@@ -1,4 +1,4 @@
--- Going on behind what was read.
+-- Going on after what was read.
 use Rattle.std.proofs.Common.{◌≡◌, ℕ, zero, suc, ◌+◌, ◌-◌, ◌≤◌, List, [], ◌∷◌, ◌++◌, length, take, drop, None, refl, sym, ap, ◌∙◌, append_assoc, append-nil, arith, add-zero}
 use Rattle.dx_tokens.specs.declared.pieces.Item.{Item}
 use Rattle.dx_tokens.specs.declared.pieces.Item.TheVariants as items

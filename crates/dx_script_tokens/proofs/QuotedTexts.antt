@@ -39,7 +39,7 @@ quote_doubled : (n : ℕ) (more : List ℕ) → text_from 0 n (39 ∷ 39 ∷ mor
 unfolding text_from text_item
 quote_doubled n more = ap (λ k. text_from 0 k more) (omega arith)
 
--- an item goes on behind its bytes
+-- an item goes on after its bytes
 item_passed : (n b : ℕ) (others more : List ℕ) → text_item b (others ++ more) ≡ items.Whole (1 + length others) → text_from 0 n (b ∷ (others ++ more)) ≡ text_from 0 (n + (1 + length others)) more
 item_passed n b others more e =
     let all : List ℕ = b ∷ (others ++ more) in
@@ -58,7 +58,7 @@ wide_is : (b : ℕ) (rest : List ℕ) → 128 ≤ b → text_item b rest ≡ ite
 unfolding text_item item_at
 wide_is b rest h = rw (ne_eqb b 39 (λ e. omega (arith, e)), le-ltb b 128 h, ne_eqb b 34 (λ e. omega (arith, e)), ne_eqb b 92 (λ e. omega (arith, e)), le-ltb b 32 (omega arith)) refl
 
--- a character other than a single quote goes on behind its bytes
+-- a character other than a single quote goes on after its bytes
 character_passed : (n x : ℕ) (more : List ℕ) → scalar x ≡ true → x ≢ 39 → text_from 0 n (encode_utf8 x ++ more) ≡ text_from 0 (n + length (encode_utf8 x)) more
 character_passed n x more ok ne = go (cases_lt x 128) where
   go : (x < 128) ⊎ (128 ≤ x) → text_from 0 n (encode_utf8 x ++ more) ≡ text_from 0 (n + length (encode_utf8 x)) more

@@ -82,7 +82,7 @@ size_in (pieces.Token shape len) = len
 size_in (pieces.Fault n) = 0
 size_in pieces.Cut = 0
 
--- a name that is read: its characters, and what is behind it
+-- a name that is read: its characters, and what is after it
 pub record IsNameOf (rest : List ℕ) (shape : Shape) (len : ℕ) : Type 0 where
   pub inner : List ℕ
   pub behind : List ℕ
@@ -215,7 +215,7 @@ quote_byte b rest h =
       | inr f ↦ elim (taken (nat_lt b 128) (items.Whole 1) (wide_at b rest) items.Quote f.1) [ inl t ↦ absurd cc | inr w ↦ absurd (wide_no_quote b rest w.1) ]
     ]
 
--- a text that is read from its byte n on: what stands before the quote that ends it, and what is behind
+-- a text that is read from its byte n on: what stands before the quote that ends it, and what is after
 pub record IsTextOf (n : ℕ) (rest : List ℕ) (shape : Shape) (len : ℕ) : Type 0 where
   pub inner : List ℕ
   pub behind : List ℕ

@@ -18,7 +18,7 @@ abbrev pub more_step : Option ℕ → ℕ → (ℕ → ℕ × ℕ) → ℕ × �
 more_step None value next = (0, value)
 more_step (Some w) value next = longer (next w)
 
--- how many digits go on behind a value, and the value with them
+-- how many digits go on after a value, and the value with them
 unfoldable pub more_digits : ℕ → List ℕ → ℕ × ℕ
 more_digits value [] = (0, value)
 more_digits value (d ∷ rest) = more_step (with_digit value d) value (λ w. more_digits w rest)

@@ -11,19 +11,19 @@ use Rattle.dx_script_tokens.specs.Kinds.{is_mark}
 
 -- ---- names in double quotes
 
--- what stands behind the characters of a name, of which n bytes are read
+-- what stands after the characters of a name, of which n bytes are read
 abbrev pub name_end : ℕ → List ℕ → Piece
 name_end n [] = pieces.Cut
 name_end n (c ∷ rest) = if c == 34 then pieces.Token Name (n + 1) else pieces.Fault n
 
--- a name behind its first quotation mark: one character at least, and the first may be #
+-- a name after its first quotation mark: one character at least, and the first may be #
 abbrev pub name_at : List ℕ → Piece
 name_at [] = pieces.Cut
 name_at (c ∷ rest) = if c == 35 || is_word_byte c then name_end (2 + run is_word_byte rest) (drop (run is_word_byte rest) rest) else pieces.Fault 1
 
 -- ---- texts in single quotes
 
--- behind a single quote inside a text: it is doubled, or it ends the text
+-- after a single quote inside a text: it is doubled, or it ends the text
 abbrev pub quote_at : List ℕ → Item
 quote_at [] = items.Quote
 quote_at (c ∷ rest) = if c == 39 then items.Whole 2 else items.Quote

@@ -76,11 +76,11 @@ stop_at begin place kind b = record { place = place; kind = kind; begun = begun_
 abbrev pub stopped : ScriptStop → ScriptScan
 stopped s = record { tokens = []; stop = Some s }
 
--- what was scanned before, and what is scanned behind it
+-- what was scanned before, and what is scanned after it
 abbrev pub with_tokens : List ScriptToken → ScriptScan → ScriptScan
 with_tokens front s = record { tokens = front ++ s.tokens; stop = s.stop }
 
--- a token, and what is scanned behind it
+-- a token, and what is scanned after it
 abbrev pub with_token : ScriptToken → ScriptScan → ScriptScan
 with_token x s = record { tokens = x ∷ s.tokens; stop = s.stop }
 

@@ -20,7 +20,7 @@ fn with_digit(value: u32, digit: u8) -> Option<u32>
     }
 }
 
-// How many digits go on behind a value, and the value with them.
+// How many digits go on after a value, and the value with them.
 fn more_digits(first: u32, digits: &[u8]) -> (usize, u32)
     ensures value { result ≡ more_digits first digits.now }
     ensures within { result.0 ≤ length digits.now }

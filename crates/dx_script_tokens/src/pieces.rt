@@ -37,7 +37,7 @@ fn word_run(bytes: &[u8]) -> usize
     bytes.iter().take_while(|b| continues_word(**b)).count()
 }
 
-// What stands behind the characters of a name, of which `n` bytes are read.
+// What stands after the characters of a name, of which `n` bytes are read.
 fn name_rest(n: usize, rest: &[u8]) -> Piece
     requires { n + length rest.now < 2 ^ 64 }
     ensures value { result ≡ name_end n rest.now }
@@ -50,7 +50,7 @@ fn name_rest(n: usize, rest: &[u8]) -> Piece
     }
 }
 
-// The name behind a double quote.
+// The name after a double quote.
 fn name_piece(rest: &[u8]) -> Piece
     requires { length rest.now + 1 < 2 ^ 64 }
     ensures value { result ≡ name_at rest.now }
@@ -67,7 +67,7 @@ fn name_piece(rest: &[u8]) -> Piece
     }
 }
 
-// What stands behind a single quote inside a text.
+// What stands after a single quote inside a text.
 fn quote_item(rest: &[u8]) -> Item
     ensures value { result ≡ quote_at rest.now }
     ensures within { ItemWithin (1 + length rest.now) result }
@@ -92,7 +92,7 @@ fn next_item(b: u8, rest: &[u8]) -> Item
     }
 }
 
-// The text behind a single quote.
+// The text after a single quote.
 fn text_piece(text: &[u8]) -> Piece
     requires { length text.now + 1 < 2 ^ 64 }
     ensures value { result ≡ text_from 0 1 text.now }

@@ -160,7 +160,7 @@ fn begun(alloc: Global, place: u64, b: u8) -> Result<Option<ScriptToken>, AllocE
     }
 }
 
-// These tokens, and the fault behind them, in what begins with the byte `b` at `begin`.
+// These tokens, and the fault after them, in what begins with the byte `b` at `begin`.
 fn stopped_at(
     alloc: Global,
     tokens: Items<ScriptToken>,
@@ -185,7 +185,7 @@ fn stopped_at(
 ///
 /// # Errors
 ///
-/// `AllocError` where there is no memory.
+/// `AllocError` if there is no memory.
 pub fn scan_script(alloc: Global, text: &[u8]) -> Result<ScriptScan, AllocError>
     ensures { IfOk result (λ s. s ≡ scan_of text.now) }
 {

@@ -13,7 +13,7 @@ use Rattle.dx_schema_text.specs.declared.texts.CellText.TheVariants.{Name, Liter
 use Rattle.dx_schema_text.specs.declared.texts.AtomText.{AtomText}
 use Rattle.dx_tgd_text.specs.Numbering.{with_name, appeared, names_in, new_name, new_names, text_cells}
 
--- ---- names in front and behind
+-- ---- names in front and after
 
 pub among_append : (x : Text) (xs ys : List Text) → is_among x (xs ++ ys) ≡ (is_among x xs || is_among x ys)
 among_append x [] ys = refl

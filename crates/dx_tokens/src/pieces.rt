@@ -109,7 +109,7 @@ fn next_item(b: u8, rest: &[u8]) -> Item
     }
 }
 
-/// The string behind a quotation mark.
+/// The string after a quotation mark.
 fn string_piece(text: &[u8]) -> Piece
     requires { length text.now + 1 < 2 ^ 64 }
     ensures value { result ≡ string_from 0 1 text.now }

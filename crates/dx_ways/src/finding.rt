@@ -47,7 +47,7 @@ fn add_line(
 ///
 /// # Errors
 ///
-/// `TooMany` where there are more than 64 ways. `Memory` where there is no memory.
+/// `TooMany` where there are more than 64 ways. `Memory` if there is no memory.
 pub fn ways(
     alloc: Global,
     lines: &[Line],

@@ -60,7 +60,7 @@ pub fn copy_term(alloc: Global, term: &Term) -> Result<Term, AllocError>
 ///
 /// # Errors
 ///
-/// `AllocError` where there is no memory.
+/// `AllocError` if there is no memory.
 pub fn copy_pick(alloc: Global, pick: &Pick) -> Result<Pick, AllocError>
     ensures { IfOk result (λ k. k ≡ pick.now) }
 {

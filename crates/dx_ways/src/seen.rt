@@ -21,7 +21,7 @@ pub fn named(source: &Origin) -> &[Place]
     }
 }
 
-/// The variable that stands in a column at an occurrence; 0 where there is no such column.
+/// The variable that stands in a column at an occurrence; 0 if there is no such column.
 fn variable_in(occurrence: &Occurrence, column: u32) -> u32
     ensures { result ≡ variable_in_of occurrence.now column }
 {

@@ -321,7 +321,7 @@ fn a_text_says_its_lines(rt: HostRuntime) -> Result<(), Fail> {
     Ok(())
 }
 
-/// A name with its place and the cells behind it; a text stands in brackets.
+/// A name with its place and the cells after it; a text stands in brackets.
 fn told_cells(
     alloc: Global,
     name: &Text,

@@ -7,7 +7,7 @@ use dx_schema::Schema;
 use std::alloc::{AllocError, Global};
 use std::test::Fail;
 
-/// The number behind a letter, of one digit.
+/// The number after a letter, of one digit.
 fn number(word: &str) -> u32 {
     word.as_bytes()
         .get(1)

@@ -222,7 +222,7 @@ const PAIRS: [Case; 25] = [
         sets: "a\n b y\n b z",
         outcome: "NoColumn a",
     },
-    // set by set, an inner set behind its outer one and before the next
+    // set by set, an inner set after its outer one and before the next
     Case {
         sets: "a x x\nb",
         outcome: "DoubleName x",

@@ -279,7 +279,7 @@ fn sets_have_these_tables(rt: HostRuntime) -> Result<(), Fail> {
     Ok(())
 }
 
-/// A line of a set with so many columns behind this text.
+/// A line of a set with so many columns after this text.
 fn wide_line(alloc: Global, head: &str, columns: u32) -> Result<String, AllocError> {
     let mut line = String::from_str(alloc, head)?;
     for number in 0..columns {
@@ -395,7 +395,7 @@ fn there_may_be_so_many_sets_and_levels(rt: HostRuntime) -> Result<(), Fail> {
     Ok(())
 }
 
-/// Sets, of which one has so many columns `c0`, `c1` and on behind the first text.
+/// Sets, of which one has so many columns `c0`, `c1` and on after the first text.
 #[derive(Clone, Copy)]
 struct Wide {
     head: &'static str,
@@ -456,7 +456,7 @@ const WIDE: [Wide; 13] = [
         rest: "\n  c x",
         outcome: "Columns 64",
     },
-    // behind the set's name, before the names within, set by set, and before keys
+    // after the set's name, before the names within, set by set, and before keys
     Wide {
         head: "a x\na",
         columns: 65,

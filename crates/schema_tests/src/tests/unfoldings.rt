@@ -62,7 +62,7 @@ const UNFOLDED: [Unfolded; 8] = [
         table: 2,
         line: "[2: 0 1][1: 0 2 3][0: 3 4]",
     },
-    // a ref of two columns, in another order, and a ref behind `#up`
+    // a ref of two columns, in another order, and a ref after `#up`
     Unfolded {
         sets: "a x\n b y z; ref z y -> c u w\nc u v w",
         table: 1,
