@@ -1,0 +1,116 @@
+"""The sets that a mapping text declares, for the tools beside this file.
+
+It reads texts that clio accepts; of others it says only that they are none (`clio show` says what is wrong).
+"""
+import re
+
+TOKEN = re.compile(r"[ \t\r\n]+|//[^\n]*|(?P<token>[A-Za-z_][A-Za-z0-9_]*|[0-9]+|\"(?:[^\"\\]|\\[\"\\])*\"|->|[{}(),;.=])")
+
+
+class Set:
+    """A set as a table: its columns with #id and #up, its keys, and its links to other tables."""
+
+    def __init__(self, name, parent):
+        self.name = name
+        self.parent = parent
+        self.declared = []
+        self.declared_keys = []
+        self.refs = []  # columns, the other set's name, its columns
+        self.inner = []
+
+    @property
+    def columns(self):
+        own = (["#id"] if self.inner else []) + (["#up"] if self.parent else [])
+        return own + self.declared
+
+    @property
+    def keys(self):
+        up = ["#up"] if self.parent else []
+        return ([["#id"]] if self.inner else []) + [up + key for key in self.declared_keys]
+
+    @property
+    def links(self):
+        return ([(["#up"], self.parent.name, ["#id"])] if self.parent else []) + self.refs
+
+
+class Reader:
+    def __init__(self, text):
+        self.tokens = []
+        place = 0
+        while place < len(text):
+            found = TOKEN.match(text, place)
+            if not found:
+                raise ValueError("the mapping text has a character that no token begins with")
+            if found.group("token"):
+                self.tokens.append(found.group("token"))
+            place = found.end()
+        self.next = 0
+
+    def take(self, *wanted):
+        token = self.tokens[self.next] if self.next < len(self.tokens) else "the end"
+        if wanted and token not in wanted:
+            raise ValueError(f"the mapping text has {token} where {' or '.join(wanted)} must stand")
+        self.next += 1
+        return token
+
+    def words(self):
+        listed = [self.take()]
+        while self.take(",", ";", ")") == ",":
+            listed.append(self.take())
+        return listed
+
+    def one_set(self, parent, tables):
+        """Reads on after the word `set`; puts the set and those inside it, in preorder, to the tables."""
+        made = Set(self.take(), parent)
+        tables.append(made)
+        self.take("{")
+        made.declared = self.words()
+        while (word := self.take("key", "ref", "set", "}")) != "}":
+            if word == "set":
+                made.inner.append(self.one_set(made, tables))
+                continue
+            self.take("(")
+            columns = self.words()
+            if word == "key":
+                made.declared_keys.append(columns)
+            else:
+                self.take("->")
+                other = self.take()
+                self.take("(")
+                made.refs.append((columns, other, self.words()))
+            self.take(";")
+        return made
+
+    def side(self, name):
+        self.take(name)
+        self.take("{")
+        tables = []
+        while self.take("set", "}") == "set":
+            self.one_set(None, tables)
+        return tables
+
+
+def read_sets(text):
+    """The tables of the source and those of the target, each side in preorder."""
+    reader = Reader(text)
+    reader.take("mapping")
+    reader.take()
+    reader.take(";")
+    return {"source": reader.side("source"), "target": reader.side("target")}
+
+
+def in_order_of_links(tables):
+    """The tables, each after those that it refers to."""
+    ordered = []
+    named = {table.name: table for table in tables}
+
+    def place(table):
+        if table in ordered:
+            return
+        for _, other, _ in table.links:
+            place(named[other])
+        ordered.append(table)
+
+    for table in tables:
+        place(table)
+    return ordered

@@ -1,0 +1,144 @@
+#!/usr/bin/env python3
+"""Compares the first faults of chosen texts and files with the program's: faults.py PROGRAM."""
+import os
+import sys
+
+from hostile import folder_instance, folder_mapping
+from program import Folder
+from refusals import Refusal, Unsure
+
+NESTED = "mapping 1; source { set r { c; set i { d; } } } target { set t { x; } } line r.c -> t.x;"
+FLAT = "mapping 1; source { set a { x; } } target { set t { y; } } "
+
+DOCUMENTS = [
+    '[{"z":1,"a":2,"b/":3}]',
+    '[{"c":1.5,"x":1}]',
+    '[{"c":"a","i":[{"d":1e3}]},3]',
+    '[{"c":"\\ud800"}]',
+    '[{"c":1e400}]',
+    '[{"c":999999999999999999999999999999}]',
+    '[]x',
+    '[NaN]',
+    '\ufeff\ufeff[]',
+    '[{"i":{}}]',
+    '[{"i":[null]}]',
+    'null',
+    '[{"c":-9223372036854775808},{"c":-9223372036854775809}]',
+    '[{"c":tru}]',
+    '[{"c":"\t"}]',
+    ' [ ] \n\r\t',
+    '[]\x0c',
+    '[{"c":01}]',
+    '[{"c":1.}]',
+    '[{"c":+1}]',
+]
+
+DOCUMENTS += ["[" * depth + "]" * depth for depth in (126, 127, 128)]
+DOCUMENTS += ['[{"c":' + "[" * depth + "]" * depth + "}]" for depth in (125, 126, 127)]
+DOCUMENTS += ['[{"c":' + "9" * digits + "}]" for digits in (30, 400)]
+
+TABLES = [
+    'x',
+    'x\n',
+    'x\n\n\na\r\rb',
+    'x\na,b',
+    'x,\n',
+    '\ufeffx\na',
+    '"x"\n"a"\n',
+    'X\n',
+    'x\n"a""b"',
+    'x\n\n""\n',
+    '\n\nx\na',
+    ' x\n',
+    'x\r\na\r\n',
+    'x\n,',
+]
+
+SCHEMAS = [
+    'set a{x;ref(x)->b(x);}set b{x;ref(x)->c(x);}set c{x;ref(x)->b(x);}',
+    'set a{x;set b{x;}ref(x)->b(x);}',
+    'set a{x;set b{x;set c{x;ref(x)->a(x);}}ref(x)->d(x);}set d{x;}',
+    'set a{x;ref(x)->d(x);}set d{x;set e{x;ref(x)->d(x);}ref(x)->e(x);}',
+    'set a{x,x;}set a{x;}',
+    'set a{x;set x{y;}}',
+    'set a{x;key(x,x);ref(q)->z(x);}',
+    'set a{x;ref(x)->z(x);}',
+    'set a{x,y;ref(x,y)->a(x);}',
+    'set a{x;ref(x)->a(y);}',
+    'set a{x;ref(x)->a(x,x);}',
+]
+
+ITEMS = [
+    'rule a(p)where p=pair(p)->t(p);',
+    'rule a(p)where q=pair(p)->t(p);',
+    'rule a(p)where q=trim(z)->t(p);',
+    'rule a(p)where q=trim(p),q=trim(p)->t(p);',
+    'rule a(p,p)->t(p);',
+    'rule b(p,p)->t(p);',
+    'rule a(p)->u(p);',
+    'rule a(p)->t(p,p);',
+    'rule a(p)where q=trim(p),r=trim(q)->t(r);',
+    'rule a(p)where q=trum(p,p)->t(p);',
+    'line a.x->t.x;',
+    'line a.y->u.x;',
+    'line pair(a.x)->t.y;',
+    'line prr(a.x)->t.y;',
+    'line pair(a.z,b.x)->t.y;',
+    'line "\xfc\\x"->t.y;',
+    'line "a',
+    'line a-',
+    'line a.x-',
+    'line a.x/',
+    'line / a',
+    'rule a(p) -> t("a\x1f");',
+    'line a.x->t.y;;',
+    'rule a(p)->t(p),',
+    '/',
+    'line a.x->t.y;/',
+    'line a.x->t.y;//',
+    '"',
+]
+
+
+def chosen_folders():
+    """The files of each folder."""
+    for text in DOCUMENTS:
+        yield {"mapping.clio": NESTED, "r.json": text}
+    for text in TABLES:
+        yield {"mapping.clio": FLAT + "line a.x -> t.y;", "a.csv": text}
+    for text in SCHEMAS:
+        yield {"mapping.clio": "mapping 1; source { %s } target { }" % text}
+        yield {"mapping.clio": "mapping 1; source { } target { %s }" % text}
+    for text in ITEMS:
+        yield {"mapping.clio": FLAT + text, "a.csv": "x\n"}
+
+
+def agrees(program, files):
+    """Whether the program ends with the status and the message of this reading."""
+    folder, wanted = Folder(files), (0, "")
+    try:
+        folder_instance(folder, folder_mapping(folder))
+    except Refusal as refusal:
+        wanted = (refusal.status, refusal.message + "\n")
+    except Unsure:
+        wanted = None
+    run = folder.run(program, ["exchange"])
+    folder.remove()
+    if wanted in (None, (run.status, run.told)):
+        return True
+    print("DIFFERENCE: %s\n  the program: %s\n  this reading: %s" % (files, (run.status, run.told), wanted))
+    return False
+
+
+def main(words):
+    """All chosen folders."""
+    if len(words) != 1:
+        print("usage: faults.py PROGRAM", file=sys.stderr)
+        return 2
+    results = [agrees(os.path.abspath(words[0]), files) for files in chosen_folders()]
+    print("folders %d, differences %d" % (len(results), results.count(False)))
+    return 1 if False in results else 0
+
+
+if __name__ == "__main__":
+    sys.exit(main(sys.argv[1:]))

@@ -1,0 +1,35 @@
+"""A mapping: two schemas, lines and hand-written rules, and the rule list that it defines."""
+from dataclasses import dataclass, field
+
+from homomorphisms import pruned
+from refusals import OCCURRENCES, RULES, Limit, TooLong
+from lines import rules_of_lines
+from rules import closed
+from schema import tables_of
+
+READABLE_RULES = 30  # more rules than these take a search by plain trial too long
+
+
+@dataclass
+class Mapping:
+    """Two schemas as set trees, lines, and rules as they were written by hand."""
+    source_trees: list
+    target_trees: list
+    lines: list = field(default_factory=list)
+    rules: list = field(default_factory=list)
+
+    def __post_init__(self):
+        self.source, self.target = tables_of(self.source_trees), tables_of(self.target_trees)
+
+    def rule_list(self):
+        """The rules of the lines, then the closed hand-written rules, pruned; and how many they were before."""
+        rules = rules_of_lines(self.lines, self.source, self.target)
+        for rule in self.rules:
+            if len(rule.premise) > OCCURRENCES:
+                raise Limit("occurrences", OCCURRENCES)
+            rules.append(closed(rule, self.target))
+        if len(rules) > RULES:
+            raise Limit("rules", RULES)
+        if len(rules) > READABLE_RULES:
+            raise TooLong()
+        return pruned(rules), len(rules)

@@ -1,0 +1,107 @@
+"""Schemas: set trees as the mapping text declares them, and the tables, keys and links that they stand for."""
+from dataclasses import dataclass, field
+from typing import NamedTuple, Optional
+
+
+@dataclass
+class Reference:
+    """A ref: columns of its set, the set that it names and that set's columns."""
+    own: list
+    name: str
+    referred: list
+
+
+@dataclass
+class SetTree:
+    """A set has a name, columns, keys, refs and inner sets."""
+    name: str
+    columns: list
+    keys: list = field(default_factory=list)
+    references: list = field(default_factory=list)
+    inner: list = field(default_factory=list)
+
+
+class Link(NamedTuple):
+    """A link says that each row's values in `own` stand in the columns `referred` of some row of `table`."""
+    own: tuple
+    table: int
+    referred: tuple
+
+
+@dataclass
+class Table:
+    """A table is a set with its numbered columns, `#id` and `#up` before the declared ones."""
+    name: str
+    columns: list
+    tree: SetTree
+    parent: Optional[int]
+    inner: list = field(default_factory=list)
+    keys: list = field(default_factory=list)
+    links: list = field(default_factory=list)
+
+    def numbers(self, names):
+        return tuple(self.columns.index(name) for name in names)
+
+
+def preorder(trees):
+    """All sets, each before its inner sets."""
+    for tree in trees:
+        yield tree
+        yield from preorder(tree.inner)
+
+
+def tables_of(trees):
+    """The tables of a schema are its sets in preorder, with their keys and links."""
+    tables = []
+
+    def visit(tree, parent):
+        number = len(tables)
+        columns = ["#id"] * bool(tree.inner) + ["#up"] * (parent is not None) + tree.columns
+        tables.append(Table(tree.name, columns, tree, parent))
+        if parent is not None:
+            tables[parent].inner.append(number)
+        for inner in tree.inner:
+            visit(inner, number)
+
+    for tree in trees:
+        visit(tree, None)
+    for table in tables:
+        table.keys = keys_of(table)
+        table.links = links_of(table, tables)
+    return tables
+
+
+def keys_of(table):
+    """The keys of a table: `#id` alone, then the declared ones, which in an inner set have `#up` in front."""
+    up = ["#up"] if table.parent is not None else []
+    declared = [table.numbers(up + key) for key in table.tree.keys]
+    return ([table.numbers(["#id"])] if table.tree.inner else []) + declared
+
+
+def links_of(table, tables):
+    """The links of a table: `#up` to the parent's `#id`, then the refs."""
+    links = []
+    if table.parent is not None:
+        links.append(Link(table.numbers(["#up"]), table.parent, tables[table.parent].numbers(["#id"])))
+    for reference in table.tree.references:
+        number = next(n for n, other in enumerate(tables) if other.name == reference.name)
+        links.append(Link(table.numbers(reference.own), number, tables[number].numbers(reference.referred)))
+    return links
+
+
+def is_acyclic(tables):
+    """Whether no walk along links comes back to its start."""
+    finished, open_now = set(), set()
+
+    def leads_back(number):
+        if number in open_now:
+            return True
+        if number in finished:
+            return False
+        open_now.add(number)
+        back = any(leads_back(link.table) for link in tables[number].links)
+        open_now.remove(number)
+        finished.add(number)
+        return back
+
+    return not any(leads_back(number) for number in range(len(tables)))
