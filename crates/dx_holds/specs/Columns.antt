@@ -1,14 +1,20 @@
 -- Keys and links of one table, by the places of rows.
 use Rattle.std.specs.Prelude.{◌≡◌, ℕ, ◌<◌, List, length}
+use Rattle.dx_model.specs.declared.values.Value.{Value}
 use Rattle.dx_model.specs.declared.tables.Link.{Link}
 use Rattle.dx_model.specs.Tables.{values_in}
 use Rattle.dx_ports.specs.Members.{◌∈◌}
 use Rattle.dx_instance.specs.Stored.{TableRows, rows_of, table_at}
 use Rattle.dx_instance.specs.Places.{HasValues, row_at}
+use Rattle.dx_holds.specs.declared.columns.Seen.{Seen}
 
 -- the row at place q of table u has in its columns `to` what the row at place p of table t has in its columns `from`
 abbrev pub Agrees : List TableRows → ℕ → ℕ → List ℕ → ℕ → List ℕ → ℕ → Type 0
 Agrees I t p from u to q = HasValues I u to (values_in from (row_at I t p)) q
+
+-- what the row that was seen has in its columns
+abbrev pub seen_values : List TableRows → Seen → List Value
+seen_values I row = values_in row.columns.now (row_at I row.table row.place)
 
 -- no two rows of the table have the same values in these columns
 abbrev pub RowsDiffer : List TableRows → ℕ → List ℕ → Type 0

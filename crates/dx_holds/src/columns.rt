@@ -1,10 +1,9 @@
 // Rows that have the same values in columns.
 ghost use Rattle.std.specs.Prelude.{◌≡◌, ◌↔◌, ◌<◌, ℕ, IsTrue, length};
 ghost use Rattle.dx_ports.specs.Members.{◌∈◌};
-ghost use Rattle.dx_model.specs.Tables.{values_in};
 ghost use Rattle.dx_instance.specs.Stored.{rows_of, table_at};
-ghost use Rattle.dx_instance.specs.Places.{IsFirstWith, row_at};
-ghost use Rattle.dx_holds.specs.Columns.{Agrees};
+ghost use Rattle.dx_instance.specs.Places.{IsFirstWith};
+ghost use Rattle.dx_holds.specs.Columns.{Agrees, seen_values};
 
 use dx_instance::Instance;
 use std::slice::from_ref;
@@ -53,7 +52,7 @@ pub(crate) fn next_like(
     requires table { table < length instance.now }
     requires columns { (c : ℕ) → c ∈ columns.now → c < (table_at instance.now table).width }
     requires lengths { length row.now.columns.now ≡ length columns.now }
-    ensures { IsFirstWith instance.now table columns.now (values_in row.now.columns.now (row_at instance.now row.now.table row.now.place)) from result }
+    ensures { IsFirstWith instance.now table columns.now (seen_values instance.now row.now) from result }
 {
     let _few = instance.tables();
     if columns.is_empty() {

@@ -1,12 +1,13 @@
 // Cells that hold the values of existential variables, and the rows that atoms can be.
-ghost use Rattle.std.specs.Prelude.{◌≡◌, ◌↔◌, ◌<◌, ◌≤◌, ◌+◌, ◌^◌, ℕ, IsTrue, IfSome, MatchBool, MatchOption, length, vec_capacity};
+ghost use Rattle.std.specs.Prelude.{◌≡◌, ◌↔◌, ◌<◌, ◌+◌, ◌^◌, ℕ, IsTrue, IfSome, MatchOption, length, vec_capacity};
 ghost use Rattle.dx_ports.specs.Members.{◌∈◌};
 ghost use Rattle.dx_model.specs.declared.values.Value.{Value as AnyValue};
 ghost use Rattle.dx_model.specs.declared.rules.Cell.TheVariants.{Ex, Var};
-ghost use Rattle.dx_model.specs.Rules.{cell_value, cells_of};
+ghost use Rattle.dx_model.specs.Rules.{cells_of};
 ghost use Rattle.dx_instance.specs.Stored.{rows_of, table_at};
 ghost use Rattle.dx_instance.specs.Places.{value_at};
-ghost use Rattle.dx_holds.specs.Searching.{AreFound, IsAsked, IsCell, Meets, Misses, Narrows, Skips, names, texts, value_of};
+ghost use Rattle.dx_holds.specs.Searching.{AreFound, IsCell, names};
+ghost use Rattle.dx_holds.specs.Questions.{FindsRow, HasValue, IsAnswerable, IsNextPlace, NowhereFrom, SaysRow, Settles, TakesValue};
 
 use crate::texts::text_for;
 use dx_instance::Instance;
@@ -45,9 +46,9 @@ pub(crate) fn found_at(found: &[Found], variable: u32) -> Option<Found>
 
 /// Whether a variable or a literal has this value. An existential variable has none.
 fn shows(question: &Question, cell: &Cell, value: &Value) -> bool
-    requires asked { IsAsked question.now.target.now question.now.atoms.now question.now.tuple.now }
+    requires asked { IsAnswerable question.now }
     requires known { (x : ℕ) → cell.now ≡ Var x → Var x ∈ cells_of question.now.atoms.now }
-    ensures { (values : ℕ → AnyValue) → ((v : ℕ) → ¬ (cell.now ≡ Ex v)) → IsTrue result ↔ (cell_value (texts question.now.atoms.now question.now.tuple.now) values cell.now ≡ value.now) }
+    ensures { (values : ℕ → AnyValue) → ((v : ℕ) → ¬ (cell.now ≡ Ex v)) → IsTrue result ↔ HasValue question.now cell.now value.now values }
 {
     match (cell, value) {
         (Cell::Var(x), Value::Const(text)) => {
@@ -64,7 +65,7 @@ fn meet_variable(target: &Instance, found: &mut Vec<Found>, cell: Found) -> bool
     requires good { AreFound target.now (vec_capacity found.old) found.old.items }
     requires below { cell.variable < vec_capacity found.old }
     ensures capacity { vec_capacity found.new ≡ vec_capacity found.old }
-    ensures cases { MatchBool result (Narrows target.now (vec_capacity found.old) found.old.items (λ values. values cell.variable ≡ value_of target.now cell) found.new.items) (Misses target.now found.old.items (λ values. values cell.variable ≡ value_of target.now cell) found.new.items) }
+    ensures cases { Settles result target.now found.old found.new (TakesValue target.now cell) }
 {
     let value = target.cell(cell.table, cell.place, cell.column);
     if let Some(entry) = found_at(found.as_slice(), cell.variable) {
@@ -85,7 +86,7 @@ fn meet_cell(
     place: u32,
     column: u32,
 ) -> bool
-    requires asked { IsAsked question.now.target.now question.now.atoms.now question.now.tuple.now }
+    requires asked { IsAnswerable question.now }
     requires known { cell.now ∈ cells_of question.now.atoms.now }
     requires table { table < length question.now.target.now }
     requires place { place < length (rows_of question.now.target.now table) }
@@ -93,7 +94,8 @@ fn meet_cell(
     requires good { AreFound question.now.target.now (vec_capacity found.old) found.old.items }
     requires below { (v : ℕ) → cell.now ≡ Ex v → v < vec_capacity found.old }
     ensures capacity { vec_capacity found.new ≡ vec_capacity found.old }
-    ensures cases { MatchBool result (Narrows question.now.target.now (vec_capacity found.old) found.old.items (λ values. cell_value (texts question.now.atoms.now question.now.tuple.now) values cell.now ≡ value_at question.now.target.now table place column) found.new.items) (Misses question.now.target.now found.old.items (λ values. cell_value (texts question.now.atoms.now question.now.tuple.now) values cell.now ≡ value_at question.now.target.now table place column) found.new.items) }
+    ensures cases { Settles result question.now.target.now found.old found.new
+        (HasValue question.now cell.now (value_at question.now.target.now table place column)) }
 {
     let target = question.target;
     match cell {
@@ -113,13 +115,13 @@ fn meet_cell(
 
 /// Gives the atom's cells the values of the row at a place, if they can have them.
 fn meet_row(question: &Question, found: &mut Vec<Found>, atom: &Atom, place: u32) -> bool
-    requires asked { IsAsked question.now.target.now question.now.atoms.now question.now.tuple.now }
+    requires asked { IsAnswerable question.now }
     requires atom { atom.now ∈ question.now.atoms.now }
     requires place { place < length (rows_of question.now.target.now atom.now.table) }
     requires good { AreFound question.now.target.now (vec_capacity found.old) found.old.items }
     requires below { (v : ℕ) → Ex v ∈ atom.now.cells → v < vec_capacity found.old }
     ensures capacity { vec_capacity found.new ≡ vec_capacity found.old }
-    ensures cases { MatchBool result (Narrows question.now.target.now (vec_capacity found.old) found.old.items (Meets (texts question.now.atoms.now question.now.tuple.now) question.now.target.now atom.now place) found.new.items) (Misses question.now.target.now found.old.items (Meets (texts question.now.atoms.now question.now.tuple.now) question.now.target.now atom.now place) found.new.items) }
+    ensures cases { Settles result question.now.target.now found.old found.new (SaysRow question.now atom.now place) }
 {
     let _wide = question.target.tables();
     let cells = atom.cells.items();
@@ -134,10 +136,10 @@ fn meet_row(question: &Question, found: &mut Vec<Found>, atom: &Atom, place: u32
 
 /// The least place from `from` on whose row agrees with the atom in the first column that is known.
 fn candidate(question: &Question, found: &[Found], atom: &Atom, from: u32) -> Option<u32>
-    requires asked { IsAsked question.now.target.now question.now.atoms.now question.now.tuple.now }
+    requires asked { IsAnswerable question.now }
     requires atom { atom.now ∈ question.now.atoms.now }
     requires good { (n : ℕ) × AreFound question.now.target.now n found.now }
-    ensures { MatchOption result (Skips (texts question.now.atoms.now question.now.tuple.now) question.now.target.now found.now atom.now from (length (rows_of question.now.target.now atom.now.table))) (λ p. (from ≤ p) × (p < length (rows_of question.now.target.now atom.now.table)) × Skips (texts question.now.atoms.now question.now.tuple.now) question.now.target.now found.now atom.now from p) }
+    ensures { MatchOption result (NowhereFrom question.now found.now atom.now from) (IsNextPlace question.now found.now atom.now from) }
 {
     let target = question.target;
     let cells = atom.cells.items();
@@ -159,13 +161,15 @@ pub(crate) fn next_place(
     atom: &Atom,
     from: u32,
 ) -> Option<u32>
-    requires asked { IsAsked question.now.target.now question.now.atoms.now question.now.tuple.now }
+    requires asked { IsAnswerable question.now }
     requires atom { atom.now ∈ question.now.atoms.now }
     requires good { AreFound question.now.target.now (vec_capacity found.old) found.old.items }
     requires below { (v : ℕ) → Ex v ∈ atom.now.cells → v < vec_capacity found.old }
     ensures capacity { vec_capacity found.new ≡ vec_capacity found.old }
     ensures small { IfSome result (λ p. p + 1 < 2 ^ 32) }
-    ensures cases { MatchOption result ((found.new.items ≡ found.old.items) × Skips (texts question.now.atoms.now question.now.tuple.now) question.now.target.now found.old.items atom.now from (length (rows_of question.now.target.now atom.now.table))) (λ p. (from ≤ p) × (p < length (rows_of question.now.target.now atom.now.table)) × Skips (texts question.now.atoms.now question.now.tuple.now) question.now.target.now found.old.items atom.now from p × Narrows question.now.target.now (vec_capacity found.old) found.old.items (Meets (texts question.now.atoms.now question.now.tuple.now) question.now.target.now atom.now p) found.new.items) }
+    ensures cases { MatchOption result
+        ((found.new.items ≡ found.old.items) × NowhereFrom question.now found.old.items atom.now from)
+        (λ p. IsNextPlace question.now found.old.items atom.now from p × FindsRow question.now found.old found.new atom.now p) }
 {
     let _few = question.target.tables();
     let mark = found.len();

@@ -1,13 +1,12 @@
 // Room for a search, reserved before it.
 ghost use Rattle.std.specs.Prelude.{◌≡◌, ◌↔◌, ◌<◌, ◌≤◌, ℕ, IfOk, IsTrue, length, vec_capacity};
 ghost use Rattle.dx_ports.specs.Members.{◌∈◌, Each};
-ghost use Rattle.dx_model.specs.declared.values.Value.{Value as AnyValue};
 ghost use Rattle.dx_model.specs.declared.rules.Cell.TheVariants.{Ex};
-ghost use Rattle.dx_model.specs.Rules.{PlacesSatisfied, cells_of, exported, said};
+ghost use Rattle.dx_model.specs.Rules.{PlacesSatisfied, cells_of, exported};
 ghost use Rattle.dx_model.specs.Fitting.{AtomsFitWidths};
 ghost use Rattle.dx_instance.specs.Stored.{facts, widths};
 ghost use Rattle.dx_holds.specs.Rooms.{FitsRoom};
-ghost use Rattle.dx_holds.specs.Searching.{IsAsked, texts};
+ghost use Rattle.dx_holds.specs.Questions.{CanHold, IsAnswerable};
 
 use crate::matching::{Found, Question};
 use crate::searching::extend;
@@ -72,12 +71,12 @@ fn above_atoms(atoms: &[Atom]) -> u64
 
 /// Whether there are values with which all atoms are facts.
 fn completes(question: &Question, found: &mut Vec<Found>, done: &mut Vec<usize>) -> bool
-    requires asked { IsAsked question.now.target.now question.now.atoms.now question.now.tuple.now }
+    requires asked { IsAnswerable question.now }
     requires below { (v : ℕ) → Ex v ∈ cells_of question.now.atoms.now → v < vec_capacity found.old }
     requires room { length question.now.atoms.now ≤ vec_capacity done.old }
     ensures found_capacity { vec_capacity found.new ≡ vec_capacity found.old }
     ensures done_capacity { vec_capacity done.new ≡ vec_capacity done.old }
-    ensures value { IsTrue result ↔ ((values : ℕ → AnyValue) × Each question.now.atoms.now (λ a. said (texts question.now.atoms.now question.now.tuple.now) values a ∈ facts question.now.target.now)) }
+    ensures value { IsTrue result ↔ CanHold question.now }
 {
     found.clear();
     done.clear();

@@ -1,11 +1,10 @@
 // A search for values of existential variables, part by part.
 ghost use Rattle.std.specs.Prelude.{◌≡◌, ◌↔◌, ◌<◌, ◌≤◌, ◌^◌, ℕ, IsTrue, IfSome, MatchBool, MatchOption, length, vec_capacity};
-ghost use Rattle.dx_ports.specs.Members.{◌∈◌, Each};
-ghost use Rattle.dx_model.specs.declared.values.Value.{Value as AnyValue};
+ghost use Rattle.dx_ports.specs.Members.{◌∈◌};
 ghost use Rattle.dx_model.specs.declared.rules.Cell.TheVariants.{Ex};
-ghost use Rattle.dx_model.specs.Rules.{cells_of, said};
-ghost use Rattle.dx_instance.specs.Stored.{facts};
-ghost use Rattle.dx_holds.specs.Searching.{Begins, Fails, IsAsked, IsState, IsWanted, NoneLeft, names, texts};
+ghost use Rattle.dx_model.specs.Rules.{cells_of};
+ghost use Rattle.dx_holds.specs.Searching.{Begins, IsWanted, NoneLeft, names};
+ghost use Rattle.dx_holds.specs.Questions.{AreDone, IsAnswerable, RestFails};
 
 use crate::matching::{Found, Question, found_at, next_place};
 use dx_model::{Atom, Cell};
@@ -70,8 +69,8 @@ pub(crate) fn extend(
     done: &mut Vec<usize>,
     since: Option<usize>,
 ) -> bool
-    requires asked { IsAsked question.now.target.now question.now.atoms.now question.now.tuple.now }
-    requires state { IsState (texts question.now.atoms.now question.now.tuple.now) question.now.atoms.now question.now.target.now (vec_capacity found.old) found.old.items done.old.items }
+    requires asked { IsAnswerable question.now }
+    requires state { AreDone question.now (vec_capacity found.old) found.old.items done.old.items }
     requires below { (v : ℕ) → Ex v ∈ cells_of question.now.atoms.now → v < vec_capacity found.old }
     requires room { length question.now.atoms.now ≤ vec_capacity done.old }
     requires since { IfSome since (λ m. m ≤ length found.old.items) }
@@ -79,7 +78,10 @@ pub(crate) fn extend(
     ensures done_capacity { vec_capacity done.new ≡ vec_capacity done.old }
     ensures found_begins { Begins found.old.items found.new.items }
     ensures done_begins { Begins done.old.items done.new.items }
-    ensures cases { MatchBool result (IsState (texts question.now.atoms.now question.now.tuple.now) question.now.atoms.now question.now.target.now (vec_capacity found.old) found.new.items done.new.items × NoneLeft question.now.atoms.now found.new.items done.new.items since) (Fails (texts question.now.atoms.now question.now.tuple.now) question.now.atoms.now question.now.target.now found.old.items done.old.items) }
+    ensures cases { MatchBool result
+        (AreDone question.now (vec_capacity found.old) found.new.items done.new.items
+        × NoneLeft question.now.atoms.now found.new.items done.new.items since)
+        (RestFails question.now found.old.items done.old.items) }
 {
     let wanted = next_atom(question.atoms, found.as_slice(), done.as_slice(), since);
     let Some(next) = wanted else {

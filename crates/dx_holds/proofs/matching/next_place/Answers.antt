@@ -14,9 +14,11 @@ returns-then-meet_row-clause-small c =
 pub returns-then-meet_row-clause-cases : goal.returns-then-meet_row-clause-cases
 returns-then-meet_row-clause-cases c =
     let next = rw (c.as_slice.ensures.value, c.loop-place.invariant.same) at c.in-Some.ensures in (
-      omega (arith, c.loop-place.invariant.later, next.0),
-      next.1,
-      skips_on (texts c.args.question.now.atoms.now c.args.question.now.tuple.now) c.args.question.now.target.now 0 c.args.found.now.items c.args.atom.now c.args.from c.loop-place.next c.in-Some.place c.loop-place.invariant.skips next.2,
+      (
+        omega (arith, c.loop-place.invariant.later, next.0),
+        next.1,
+        skips_on (texts c.args.question.now.atoms.now c.args.question.now.tuple.now) c.args.question.now.target.now 0 c.args.found.now.items c.args.atom.now c.args.from c.loop-place.next c.in-Some.place c.loop-place.invariant.skips next.2,
+      ),
       rw (c.loop-place.invariant.capacity, c.loop-place.invariant.same) at c.if-meet_row.ensures.cases,
     )
 

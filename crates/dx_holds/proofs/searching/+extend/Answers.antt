@@ -29,8 +29,8 @@ extend-requires t c =
     let met = rw (is, c.loop-place.invariant.found_capacity, c.loop-place.invariant.found_same) at c.in-Some-next_place.ensures.cases in
     let pushed = c.push_reserved.ensures.items ∙ ap (λ (l : List ℕ). l ++ c.in-Some.next ∷ []) c.loop-place.invariant.done_same in
     let longer = ap length pushed ∙ length-append c.args.done.now.items (c.in-Some.next ∷ []) in
-    let found_longer = begins_longer c.args.found.now.items c.next_place.new.found.items met.3.begins in
-    let s = state_more (texts c.args.question.now.atoms.now c.args.question.now.tuple.now) c.args.question.now.atoms.now c.args.question.now.target.now (vec_capacity c.args.found.now) c.args.found.now.items c.next_place.new.found.items c.args.done.now.items c.in-Some.next c.in-Some-next_place.place c.requires.state c.in-Some.ensures.0 new met.1 met.3 in (
+    let found_longer = begins_longer c.args.found.now.items c.next_place.new.found.items met.1.begins in
+    let s = state_more (texts c.args.question.now.atoms.now c.args.question.now.tuple.now) c.args.question.now.atoms.now c.args.question.now.target.now (vec_capacity c.args.found.now) c.args.found.now.items c.next_place.new.found.items c.args.done.now.items c.in-Some.next c.in-Some-next_place.place c.requires.state c.in-Some.ensures.0 new met.0.1 met.1 in (
       omega (arith, c.decreases, r, longer),
       (
         c.requires.asked,
@@ -53,7 +53,7 @@ extend-requires-then-extend t c =
     let pushed = c.push_reserved.ensures.items ∙ ap (λ (l : List ℕ). l ++ c.in-Some.next ∷ []) c.loop-place.invariant.done_same in
     let longer = ap length pushed ∙ length-append c.args.done.now.items (c.in-Some.next ∷ []) in
     let done_longer = begins_longer c.push_reserved.new.self.items c.extend.new.done.items c.if-extend.ensures.done_begins in
-    let found_longer = begins_longer c.args.found.now.items c.next_place.new.found.items met.3.begins in
+    let found_longer = begins_longer c.args.found.now.items c.next_place.new.found.items met.1.begins in
     let more_found = begins_longer c.next_place.new.found.items c.extend.new.found.items c.if-extend.ensures.found_begins in
     let s = c.if-extend.ensures.cases.0 in
     let few = done_few (texts c.args.question.now.atoms.now c.args.question.now.tuple.now) c.args.question.now.atoms.now c.args.question.now.target.now _ c.extend.new.found.items c.extend.new.done.items s in (
@@ -82,7 +82,7 @@ returns-then-extend-clause-cases t c =
     let mark : c.len-mark.result ≡ length c.args.found.now.items = c.len-mark.ensures ∙ c.args.found.now.ok.0 in
     or_else _ _ _ c.extend-then-extend.result
     (fails_after T c.args.question.now.atoms.now c.args.question.now.target.now _ c.args.found.now.items c.extend.new.found.items c.args.done.now.items c.extend.new.done.items
-    (begins_on c.args.found.now.items c.next_place.new.found.items c.extend.new.found.items met.3.begins c.if-extend.ensures.found_begins)
+    (begins_on c.args.found.now.items c.next_place.new.found.items c.extend.new.found.items met.1.begins c.if-extend.ensures.found_begins)
     (begins_on c.args.done.now.items c.push_reserved.new.self.items c.extend.new.done.items (c.in-Some.next ∷ [], pushed) c.if-extend.ensures.done_begins) c.if-extend.ensures.cases.0.good
     (subst (λ (m : ℕ). NoneLeft c.args.question.now.atoms.now c.extend.new.found.items c.extend.new.done.items (Some m)) mark c.if-extend.ensures.cases.1))
     (rw (c.if-extend.ensures.found_capacity, c.next_place.ensures.capacity, c.loop-place.invariant.found_capacity) at c.extend-then-extend.ensures.cases)
@@ -96,11 +96,11 @@ loop-place-preserved t c =
     record {
       found_capacity = c.truncate.ensures.capacity ∙ (c.extend.ensures.found_capacity ∙ (c.next_place.ensures.capacity ∙ c.loop-place.invariant.found_capacity));
       done_capacity = c.truncate-in-Some-next_place.ensures.capacity ∙ (c.extend.ensures.done_capacity ∙ (c.push_reserved.ensures.capacity ∙ c.loop-place.invariant.done_capacity));
-      found_same = c.truncate.ensures.items ∙ cut c.args.found.now.items c.extend.new.found.items c.len-mark.result (c.len-mark.ensures ∙ c.args.found.now.ok.0) (begins_on c.args.found.now.items c.next_place.new.found.items c.extend.new.found.items met.3.begins c.extend.ensures.found_begins);
+      found_same = c.truncate.ensures.items ∙ cut c.args.found.now.items c.extend.new.found.items c.len-mark.result (c.len-mark.ensures ∙ c.args.found.now.ok.0) (begins_on c.args.found.now.items c.next_place.new.found.items c.extend.new.found.items met.1.begins c.extend.ensures.found_begins);
       done_same = c.truncate-in-Some-next_place.ensures.items ∙ cut c.args.done.now.items c.extend.new.done.items c.len-before.result (c.len-before.ensures ∙ c.args.done.now.ok.0) (begins_on c.args.done.now.items c.push_reserved.new.self.items c.extend.new.done.items (c.in-Some.next ∷ [], pushed) c.extend.ensures.done_begins);
       tried = tried_fail T c.args.question.now.atoms.now c.args.question.now.target.now c.args.found.now.items c.args.done.now.items c.in-Some.next (vec_capacity c.args.found.now) c.in-Some-next_place.place c.next_place.new.found.items
-          (tried_skip T c.args.question.now.atoms.now c.args.question.now.target.now c.args.found.now.items c.args.done.now.items c.in-Some.next c.loop-place.from c.in-Some-next_place.place c.loop-place.invariant.tried met.2)
-          met.3 (rw pushed at c.if-extend.ensures.cases);
+          (tried_skip T c.args.question.now.atoms.now c.args.question.now.target.now c.args.found.now.items c.args.done.now.items c.in-Some.next c.loop-place.from c.in-Some-next_place.place c.loop-place.invariant.tried met.0.2)
+          met.1 (rw pushed at c.if-extend.ensures.cases);
     }
 
 pub returns-clause-cases : goal.returns-clause-cases
