@@ -1,11 +1,12 @@
 // Lines, by the numbers of what they name.
-ghost use Rattle.std.specs.Prelude.{◌≡◌, ◌⊎◌, None, Some, IfErr, IfOk, MatchResult, OnOk};
+ghost use Rattle.std.specs.Prelude.{◌≡◌, ◌⊎◌, None, Some, IfErr, IfOk, OnOk};
 ghost use Rattle.dx_ports.specs.Members.{Each};
 ghost use Rattle.dx_schema.specs.Tables.{model_tables};
 ghost use Rattle.dx_tokens.specs.declared.faults.TextFault.TheVariants.{Memory};
 ghost use Rattle.dx_funcs.specs.Names.{first_named};
 ghost use Rattle.dx_funcs.specs.Serving.{offered};
 ghost use Rattle.dx_lines.specs.Limits.{LineFits};
+ghost use Rattle.dx_line_text.specs.Answers.{ReadsOrMemory};
 ghost use Rattle.dx_line_text.specs.Naming.{call_fault, call_of, line_fault, line_of, lines_fault, lines_of, origin_of, source_fault, IsOffered};
 
 use crate::places::{read_place, read_places};
@@ -29,7 +30,9 @@ fn read_call<F, M>(
 where
     F: Fn(u32, &Items<Text>) -> Result<Text, AllocError>,
     M: Meaning,
-    ensures { MatchResult result (λ o. (o ≡ call_of schema.now (first_named (offered host.now) name.now) args.now) × (call_fault schema.now (first_named (offered host.now) name.now) place args.now ≡ None)) (λ e. (e ≡ Memory) ⊎ (call_fault schema.now (first_named (offered host.now) name.now) place args.now ≡ Some e)) }
+    ensures { ReadsOrMemory result
+        (call_of schema.now (first_named (offered host.now) name.now) args.now)
+        (call_fault schema.now (first_named (offered host.now) name.now) place args.now) }
 {
     let Some(conversion) = host.find(name) else {
         return Err(TextFault::At {
@@ -59,7 +62,9 @@ fn read_source<F, M>(
 where
     F: Fn(u32, &Items<Text>) -> Result<Text, AllocError>,
     M: Meaning,
-    ensures { MatchResult result (λ o. (o ≡ origin_of schema.now (offered host.now) source.now) × (source_fault schema.now (offered host.now) source.now ≡ None)) (λ e. (e ≡ Memory) ⊎ (source_fault schema.now (offered host.now) source.now ≡ Some e)) }
+    ensures { ReadsOrMemory result
+        (origin_of schema.now (offered host.now) source.now)
+        (source_fault schema.now (offered host.now) source.now) }
 {
     match source {
         SourceText::Column(place) => Ok(Origin::Column(read_place(schema, place)?)),
@@ -81,7 +86,9 @@ fn read_line<F, M>(
 where
     F: Fn(u32, &Items<Text>) -> Result<Text, AllocError>,
     M: Meaning,
-    ensures { MatchResult result (λ l. (l ≡ line_of source.now target.now (offered host.now) line.now) × (line_fault source.now target.now (offered host.now) line.now ≡ None)) (λ e. (e ≡ Memory) ⊎ (line_fault source.now target.now (offered host.now) line.now ≡ Some e)) }
+    ensures { ReadsOrMemory result
+        (line_of source.now target.now (offered host.now) line.now)
+        (line_fault source.now target.now (offered host.now) line.now) }
 {
     let origin = read_source(alloc, source, host, &line.source)?;
     let column = read_place(target, &line.target)?;

@@ -1,6 +1,6 @@
 // The columns that places name.
-ghost use Rattle.std.specs.Prelude.{◌≡◌, ◌⊎◌, None, Some, MatchResult, map};
-ghost use Rattle.dx_tokens.specs.declared.faults.TextFault.TheVariants.{Memory};
+ghost use Rattle.std.specs.Prelude.{map};
+ghost use Rattle.dx_line_text.specs.Answers.{Reads, ReadsOrMemory};
 ghost use Rattle.dx_line_text.specs.Naming.{place_fault, place_of, places_fault};
 
 use dx_lines::Place;
@@ -12,7 +12,7 @@ use std::alloc::Global;
 
 /// The column that a place names. Refused is a set that isn't there, then a column that isn't there.
 pub fn read_place(schema: &Schema, place: &PlaceText) -> Result<Place, TextFault>
-    ensures { MatchResult result (λ p. (p ≡ place_of schema.now place.now) × (place_fault schema.now place.now ≡ None)) (λ e. place_fault schema.now place.now ≡ Some e) }
+    ensures { Reads result (place_of schema.now place.now) (place_fault schema.now place.now) }
 {
     // What holds of the tables of each schema.
     let _tables = schema.tables();
@@ -37,7 +37,7 @@ pub fn read_places(
     schema: &Schema,
     places: &[PlaceText],
 ) -> Result<Items<Place>, TextFault>
-    ensures { MatchResult result (λ ps. (ps ≡ map (place_of schema.now) places.now) × (places_fault schema.now places.now ≡ None)) (λ e. (e ≡ Memory) ⊎ (places_fault schema.now places.now ≡ Some e)) }
+    ensures { ReadsOrMemory result (map (place_of schema.now) places.now) (places_fault schema.now places.now) }
 {
     let mut columns = Items::new(alloc);
     for place in places {
