@@ -65,6 +65,10 @@ abbrev pub call_fault : List Text → Option Conversion → ℕ → List CellTex
 call_fault variables None place args = Some (At place UnknownName)
 call_fault variables (Some c) place args = cond (eqb c.arity (length args)) (args_fault variables place args) (Some (At place Width))
 
+-- the first fault of a derived variable's conversion
+abbrev pub conversion_fault : List Conversion → List Text → DerivedText → Option TextFault
+conversion_fault list variables d = call_fault variables (first_named list d.call) d.call_place d.args
+
 -- of a derived variable its name is looked at, which is none of those known so far, then its conversion
 abbrev pub derived_fault : List Conversion → List Text → List Text → DerivedText → Option TextFault
 derived_fault list variables known d =

@@ -1,6 +1,6 @@
 // Atoms, by the numbers of what they name.
-ghost use Rattle.std.specs.Prelude.{◌≡◌, ◌⊎◌, None, Some, MatchResult, IfOk, map};
-ghost use Rattle.dx_tokens.specs.declared.faults.TextFault.TheVariants.{Memory};
+ghost use Rattle.std.specs.Prelude.{◌≡◌, IfOk, map};
+ghost use Rattle.dx_line_text.specs.Answers.{Reads, ReadsOrMemory};
 ghost use Rattle.dx_line_text.specs.Naming.{set_number};
 ghost use Rattle.dx_tgd_text.specs.Reading.{atom_fault, atom_of, atoms_fault, atoms_of, cell_of};
 
@@ -14,7 +14,7 @@ use std::alloc::{AllocError, Global};
 
 // The table of an atom's set. Refused is a set that isn't there, then another number of cells than the set has columns.
 fn read_set(schema: &Schema, atom: &AtomText) -> Result<u32, TextFault>
-    ensures { MatchResult result (λ t. (t ≡ set_number schema.now atom.now.set) × (atom_fault schema.now atom.now ≡ None)) (λ e. atom_fault schema.now atom.now ≡ Some e) }
+    ensures { Reads result (set_number schema.now atom.now.set) (atom_fault schema.now atom.now) }
 {
     // What holds of the tables of each schema.
     let _tables = schema.tables();
@@ -67,7 +67,7 @@ fn read_atom(
     known: &Names,
     fresh: &Names,
 ) -> Result<Atom, TextFault>
-    ensures { MatchResult result (λ a. (a ≡ atom_of schema.now known.now fresh.now atom.now) × (atom_fault schema.now atom.now ≡ None)) (λ e. (e ≡ Memory) ⊎ (atom_fault schema.now atom.now ≡ Some e)) }
+    ensures { ReadsOrMemory result (atom_of schema.now known.now fresh.now atom.now) (atom_fault schema.now atom.now) }
 {
     let table = read_set(schema, atom)?;
     let cells = read_cells(alloc, atom.cells.items(), known, fresh)?;
@@ -83,7 +83,9 @@ pub fn read_atoms(
     known: &Names,
     fresh: &Names,
 ) -> Result<Items<Atom>, TextFault>
-    ensures { MatchResult result (λ a. (a ≡ atoms_of schema.now known.now fresh.now atoms.now) × (atoms_fault schema.now atoms.now ≡ None)) (λ e. (e ≡ Memory) ⊎ (atoms_fault schema.now atoms.now ≡ Some e)) }
+    ensures { ReadsOrMemory result
+        (atoms_of schema.now known.now fresh.now atoms.now)
+        (atoms_fault schema.now atoms.now) }
 {
     let mut read = Items::new(alloc);
     for atom in atoms {

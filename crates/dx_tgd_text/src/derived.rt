@@ -1,10 +1,9 @@
 // Derived variables, by the numbers of what they name.
 ghost use Rattle.std.specs.Prelude.{◌≡◌, ◌⊎◌, ◌+◌, ◌-◌, ◌^◌, ◌<◌, ◌≤◌, ◌++◌, None, Some, MatchResult, length, map, take};
 ghost use Rattle.dx_tokens.specs.declared.faults.TextFault.TheVariants.{Memory};
-ghost use Rattle.dx_funcs.specs.Names.{first_named};
 ghost use Rattle.dx_funcs.specs.Serving.{offered};
-ghost use Rattle.dx_line_text.specs.Naming.{code_of};
-ghost use Rattle.dx_tgd_text.specs.Reading.{arg_fault, arg_of, args_fault, call_fault, derived_fault, derived_faults, derived_names, derived_of};
+ghost use Rattle.dx_line_text.specs.Answers.{Reads, ReadsOrMemory};
+ghost use Rattle.dx_tgd_text.specs.Reading.{arg_fault, arg_of, args_fault, conversion_fault, derived_fault, derived_faults, derived_names, derived_of};
 
 use crate::names::Names;
 use dx_funcs::{Host, Meaning};
@@ -17,7 +16,9 @@ use std::alloc::{AllocError, Global};
 // The variable that an argument names, which is one of the first `variables` known names.
 fn read_arg(arg: &CellText, call: u64, known: &Names, variables: u32) -> Result<u32, TextFault>
     requires { variables ≤ length known.now }
-    ensures { MatchResult result (λ x. (x ≡ arg_of (take variables known.now) arg.now) × (arg_fault (take variables known.now) call arg.now ≡ None)) (λ e. arg_fault (take variables known.now) call arg.now ≡ Some e) }
+    ensures { Reads result
+        (arg_of (take variables known.now) arg.now)
+        (arg_fault (take variables known.now) call arg.now) }
 {
     match arg {
         CellText::Name { name, place } => match known.find(name) {
@@ -42,7 +43,9 @@ fn read_args(
     variables: u32,
 ) -> Result<Items<u32>, TextFault>
     requires { variables ≤ length known.now }
-    ensures { MatchResult result (λ xs. (xs ≡ map (arg_of (take variables known.now)) args.now) × (args_fault (take variables known.now) call args.now ≡ None)) (λ e. (e ≡ Memory) ⊎ (args_fault (take variables known.now) call args.now ≡ Some e)) }
+    ensures { ReadsOrMemory result
+        (map (arg_of (take variables known.now)) args.now)
+        (args_fault (take variables known.now) call args.now) }
 {
     let mut read = Items::new(alloc);
     for arg in args {
@@ -63,7 +66,9 @@ where
     F: Fn(u32, &Items<Text>) -> Result<Text, AllocError>,
     M: Meaning,
     requires { variables ≤ length known.now }
-    ensures { MatchResult result (λ d. (d ≡ derived_of (offered host.now) (take variables known.now) derived.now) × (call_fault (take variables known.now) (first_named (offered host.now) derived.now.call) derived.now.call_place derived.now.args ≡ None)) (λ e. (e ≡ Memory) ⊎ (call_fault (take variables known.now) (first_named (offered host.now) derived.now.call) derived.now.call_place derived.now.args ≡ Some e)) }
+    ensures { ReadsOrMemory result
+        (derived_of (offered host.now) (take variables known.now) derived.now)
+        (conversion_fault (offered host.now) (take variables known.now) derived.now) }
 {
     let place = derived.call_place;
     let Some(conversion) = host.find(&derived.call) else {
@@ -96,7 +101,9 @@ where
     F: Fn(u32, &Items<Text>) -> Result<Text, AllocError>,
     M: Meaning,
     requires { variables ≤ length known.now }
-    ensures { MatchResult result (λ d. (d ≡ derived_of (offered host.now) (take variables known.now) derived.now) × (derived_fault (offered host.now) (take variables known.now) known.now derived.now ≡ None)) (λ e. (e ≡ Memory) ⊎ (derived_fault (offered host.now) (take variables known.now) known.now derived.now ≡ Some e)) }
+    ensures { ReadsOrMemory result
+        (derived_of (offered host.now) (take variables known.now) derived.now)
+        (derived_fault (offered host.now) (take variables known.now) known.now derived.now) }
 {
     if known.find(&derived.name).is_some() {
         return Err(TextFault::At {
@@ -120,7 +127,10 @@ where
     F: Fn(u32, &Items<Text>) -> Result<Text, AllocError>,
     M: Meaning,
     requires { length known.old + length derived.now < 2 ^ 32 - 1 }
-    ensures { MatchResult result (λ ds. (ds ≡ map (derived_of (offered host.now) known.old) derived.now) × (derived_faults (offered host.now) known.old known.old derived.now ≡ None) × (known.new ≡ known.old ++ derived_names derived.now))
+    ensures { MatchResult result
+        (λ ds. (ds ≡ map (derived_of (offered host.now) known.old) derived.now)
+        × (derived_faults (offered host.now) known.old known.old derived.now ≡ None)
+        × (known.new ≡ known.old ++ derived_names derived.now))
         (λ e. (e ≡ Memory) ⊎ (derived_faults (offered host.now) known.old known.old derived.now ≡ Some e)) }
 {
     let variables = known.len();

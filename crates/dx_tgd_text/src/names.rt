@@ -45,7 +45,8 @@ impl Names {
 
     /// The number of a name. None if it isn't there.
     pub fn find(&self, name: &Text) -> Option<u32>
-        ensures { MatchOption result (is_among name.now self.now ≡ false) (λ n. (is_among name.now self.now ≡ true) × (n ≡ number_of name.now self.now) × (n < length self.now)) }
+        ensures { MatchOption result (is_among name.now self.now ≡ false)
+            (λ n. (is_among name.now self.now ≡ true) × (n ≡ number_of name.now self.now) × (n < length self.now)) }
     {
         match self.names.get_index_of(name) {
             Some(number) => Some(number as u32),

@@ -1,10 +1,11 @@
 // Rules, by the numbers of what they name.
-ghost use Rattle.std.specs.Prelude.{◌≡◌, ◌⊎◌, None, Some, IfErr, IfOk, MatchResult, OnOk};
+ghost use Rattle.std.specs.Prelude.{◌≡◌, ◌⊎◌, None, Some, IfErr, IfOk, OnOk};
 ghost use Rattle.dx_ports.specs.Members.{Each};
 ghost use Rattle.dx_model.specs.Fitting.{RuleFits};
 ghost use Rattle.dx_schema.specs.Tables.{model_tables};
 ghost use Rattle.dx_tokens.specs.declared.faults.TextFault.TheVariants.{Memory};
 ghost use Rattle.dx_funcs.specs.Serving.{offered};
+ghost use Rattle.dx_line_text.specs.Answers.{ReadsOrMemory};
 ghost use Rattle.dx_tgd_text.specs.Laws.{AreOffered, IsWhole};
 ghost use Rattle.dx_tgd_text.specs.Reading.{IsNarrow, rule_fault, rule_of, rules_fault, rules_of};
 
@@ -31,7 +32,9 @@ where
     F: Fn(u32, &Items<Text>) -> Result<Text, AllocError>,
     M: Meaning,
     requires { IsNarrow rule.now }
-    ensures { MatchResult result (λ d. (d ≡ rule_of source.now target.now (offered host.now) rule.now) × (rule_fault source.now target.now (offered host.now) rule.now ≡ None)) (λ e. (e ≡ Memory) ⊎ (rule_fault source.now target.now (offered host.now) rule.now ≡ Some e)) }
+    ensures { ReadsOrMemory result
+        (rule_of source.now target.now (offered host.now) rule.now)
+        (rule_fault source.now target.now (offered host.now) rule.now) }
 {
     let none = Names::new(alloc);
     let mut known = Names::of_atoms(alloc, rule.premise.items(), &none)?;
@@ -72,7 +75,8 @@ where
     ensures rules { IfOk result (λ ds. ds.items ≡ rules_of source.now target.now (offered host.now) rules.now) }
     ensures none { OnOk result (rules_fault source.now target.now (offered host.now) rules.now ≡ None) }
     ensures fault { IfErr result (λ e. (e ≡ Memory) ⊎ (rules_fault source.now target.now (offered host.now) rules.now ≡ Some e)) }
-    ensures fit { IfOk result (λ ds. Each rules.now IsWhole → Each ds.items (RuleFits (model_tables source.now) (model_tables target.now))) }
+    ensures fit { IfOk result (λ ds. Each rules.now IsWhole
+        → Each ds.items (RuleFits (model_tables source.now) (model_tables target.now))) }
     ensures listed { IfOk result (λ ds. Each ds.items (AreOffered (offered host.now))) }
 {
     let mut read = Vec::new(alloc);
