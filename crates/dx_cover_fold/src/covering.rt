@@ -1,5 +1,5 @@
 // The least covers of the places of a rule.
-ghost use Rattle.std.specs.Prelude.{◌≡◌, ◌<◌, ◌^◌, ◌++◌, IfOk, List, ℕ, None, flat_map, length, slice_index_or};
+ghost use Rattle.std.specs.Prelude.{◌≡◌, ◌<◌, ◌^◌, ◌++◌, IfOk, List, ℕ, None, [], flat_map, length, slice_index_or};
 ghost use Rattle.std.specs.Option.{option_map, option_or};
 ghost use Rattle.std.specs.BTreeMap.{is_at};
 ghost use Rattle.std.specs.Map.{lookup};
@@ -90,7 +90,6 @@ fn by_rule(
     covers: &Covers,
     matches: &Matches,
     i: u32,
-    own: &[Row],
     j: u32,
     known: Vec<Option<Found>>,
 ) -> Result<Vec<Option<Found>>, AllocError>
@@ -98,12 +97,12 @@ fn by_rule(
     requires from { i < length rules.now }
     requires to { j < length rules.now }
     requires one { length matches.now.rules ≡ length rules.now }
-    requires own { AreOwn rules.now (rows_of matches.now) i own.now }
-    requires many { length own.now ≡ length known.items }
+    requires many { length known.items ≡ length (slice_index_or (rows_of matches.now) i []) }
     ensures many { IfOk result (λ v. length v.items ≡ length known.items) }
     ensures finds { IfOk result (λ v. (C : List Cover) → FindsAmong rules.now (rows_of matches.now) i C known.items
         → FindsAmong rules.now (rows_of matches.now) i (C ++ flat_map (places_by (rows_of matches.now) j) (used_maps (rule_at rules.now i) (rule_at rules.now j))) v.items) }
 {
+    let own = own_of(alloc, rules, matches, i)?;
     let maps = covers.maps(i, j);
     let mut found = known;
     for number in 0..maps.len() {
@@ -112,7 +111,7 @@ fn by_rule(
             rules,
             matches,
             i,
-            own,
+            &own,
             j,
             &maps[number],
             number as u32,
@@ -169,11 +168,11 @@ pub(crate) fn least_covers(
     requires one { length matches.now.rules ≡ length rules.now }
     ensures { IfOk result (λ v. AreLeast rules.now (rows_of matches.now) i v.items) }
 {
-    let own = own_of(alloc, rules, matches, i)?;
-    let mut found = none_known(alloc, own.len())?;
+    let tuples = matches.rules.items()[i as usize].tuples.items();
+    let mut found = none_known(alloc, tuples.len())?;
     for j in 0..rules.len() {
         if covers.before(j as u32, i) {
-            found = by_rule(alloc, rules, covers, matches, i, &own, j as u32, found)?;
+            found = by_rule(alloc, rules, covers, matches, i, j as u32, found)?;
         }
     }
     Ok(found)

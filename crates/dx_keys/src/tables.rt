@@ -5,7 +5,7 @@ ghost use Rattle.dx_schema.specs.Tables.{model_tables, tables_of};
 ghost use Rattle.dx_keys.specs.Numbers.{AreTablesIn, determination_of};
 
 use crate::numbering::counted;
-use dx_chase::{Columns, NumberTable};
+use dx_chase::{Columns, NumberList, NumberTable};
 use dx_instance::Rows;
 use dx_ports::Items;
 use dx_schema::Schema;
@@ -45,12 +45,12 @@ pub fn determinations(
 }
 
 // The rows as a list of lists.
-fn listed(alloc: Global, rows: &Rows) -> Result<Items<Items<u32>>, AllocError>
+fn listed(alloc: Global, rows: &Rows) -> Result<Items<NumberList>, AllocError>
     ensures { IfOk result (λ all. all ≡ rows.now.rows) }
 {
     let mut all = Vec::with_capacity(alloc, rows.count() as usize)?;
     for place in 0..rows.count() {
-        all.push(copied(alloc, rows.row(place))?)?;
+        all.push(NumberList::from_slice(alloc, rows.row(place))?)?;
     }
     Ok(Items::from_vec(all))
 }
