@@ -174,6 +174,16 @@ fn push_escaped(bytes: &mut Vec<u8>, field: &[u8]) -> Result<(), AllocError>
     Ok(())
 }
 
+// What stands before a field, if anything does.
+fn push_mark(bytes: &mut Vec<u8>, mark: &[u8]) -> Result<(), AllocError>
+    ensures { OnOk result (bytes.new.items ≡ bytes.old.items ++ mark.now) }
+{
+    if mark.is_empty() {
+        return Ok(());
+    }
+    bytes.extend_from_slice(mark)
+}
+
 // A field that begins with a mark, in quotes if it calls for them.
 fn push_field(bytes: &mut Vec<u8>, mark: &[u8], field: &[u8]) -> Result<(), AllocError>
     requires { needs_quotes default_writer mark.now ≡ false }
@@ -181,20 +191,25 @@ fn push_field(bytes: &mut Vec<u8>, mark: &[u8], field: &[u8]) -> Result<(), Allo
 {
     if calls_for_quotes(field) {
         bytes.push(b'"')?;
-        bytes.extend_from_slice(mark)?;
+        push_mark(bytes, mark)?;
         push_escaped(bytes, field)?;
         bytes.push(b'"')?;
     } else {
-        bytes.extend_from_slice(mark)?;
+        push_mark(bytes, mark)?;
         bytes.extend_from_slice(field)?;
     }
     Ok(())
 }
 
 // The digits of a number.
+#[tactic(auto, using(std::proofs::lemmas::Fmt::decimal_digit))]
 fn push_number(bytes: &mut Vec<u8>, number: u32) -> Result<(), AllocError>
     ensures { OnOk result (bytes.new.items ≡ bytes.old.items ++ decimal number) }
 {
+    if number < 10 {
+        bytes.push(b'0' + number as u8)?;
+        return Ok(());
+    }
     let mut buffer = Buffer::new();
     bytes.extend_from_slice(buffer.format(number).as_bytes())
 }

@@ -7,5 +7,5 @@ pub returns-in_ok-push-2 : goal.returns-in_ok-push-2
 returns-in_ok-push-2 c =
     let start = c.args.bytes.now.items in
     between-quotes start c.args.mark.now (escaped default_writer c.args.field.now) _ _ _ _
-    c.in_ok-push.ensures.items c.in_ok-extend_from_slice.ensures.items c.in_ok-push_escaped.ensures c.in_ok-push-2.ensures.items
+    c.in_ok-push.ensures.items c.in_ok-push_mark.ensures c.in_ok-push_escaped.ensures c.in_ok-push-2.ensures.items
     ∙ ap (λ (t : List ℕ). start ++ t) (sym (marked-quoted c.args.mark.now c.args.field.now c.requires (sym c.calls_for_quotes.ensures ∙ c.if-calls_for_quotes.true)))
