@@ -1,4 +1,4 @@
--- How a run ends.
+-- Refusals and endings of a run: their exit statuses, the names of a clash, and which refusals are alike.
 use Rattle.std.specs.Prelude.{◌≡◌, ℕ, List, [], map, slice_index_or}
 use Rattle.clio_accept.specs.declared.fault.AcceptFault.{AcceptFault}
 use Rattle.clio_accept.specs.declared.fault.AcceptFault.TheVariants as accept_faults

@@ -1,4 +1,4 @@
--- A run, by its words.
+-- The stages of a run: what its words say, and then the stages of that command.
 use Rattle.std.specs.Prelude.{◌≤◌, List}
 use Rattle.dx_stages.specs.Ending.{Planned}
 use Rattle.dx_stages.specs.Stages.{Stage, next, by, over, computing}

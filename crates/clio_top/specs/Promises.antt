@@ -1,4 +1,4 @@
--- What holds of the stages of a run, whatever is outside.
+-- What a finished exchange and a clash come to: the sentence at the top of docs/ASSURANCE.md, of a run. And laws of its stages.
 use Rattle.std.specs.Prelude.{◌≡◌, ◌⊎◌, ◌≤◌, ℕ, List, codes, length, Some, Bool}
 use Rattle.dx_model.specs.declared.facts.Fact.{Fact}
 use Rattle.dx_model.specs.Rules.{AreRows}

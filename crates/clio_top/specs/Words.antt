@@ -1,4 +1,4 @@
--- The words of a run.
+-- Which command the words of a run say.
 use Rattle.std.specs.Prelude.{ℕ, ◌*◌, ◌+◌, ◌-◌, List, [], ◌∷◌, Option, Some, None, Result, Ok, Err, Bool, true, false, eqb, nat_eq, nat_lt, ◌&&◌, ◌||◌, codes, if◌then◌else◌}
 use Rattle.std.specs.Cmp.Lexicographic.{pointwise}
 use Rattle.dx_tokens.specs.Tokens.{is_digit}

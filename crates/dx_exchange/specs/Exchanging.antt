@@ -1,4 +1,4 @@
--- What an exchange is: the first sentence of docs/PROMISES.md.
+-- What an exchange is, and why there is none: the sentence at the top of docs/ASSURANCE.md, over values.
 use Rattle.std.specs.Prelude.{◌≡◌, ◌<◌, ◌≤◌, ℕ, List, length, map}
 use Rattle.dx_ports.specs.Members.{◌∈◌, ◌⊆◌, ◌≈◌, Each}
 use Rattle.dx_ports.specs.declared.file.Count.TheVariants.{TargetCells}
