@@ -1,8 +1,10 @@
 //! The whole program, over what it reads from and writes to.
 //!
 //! `run` does what the words say: it shows the rules of a mapping and their script, exchanges data under it, or exchanges the
-//! files of a demo. Its contract is one record (dx_stages, specs/Ending, `Runs`) of one row of stages (specs/Commands, `run_stages`): there is a look-up from names to bytes, which is what the inputs hold if they tell, in which the run ended so for
-//! its reason, and it left what it had to. Endings and their messages are those of `clio_ending`.
+//! files of a demo. Its contract is a record (dx_stages, specs/Ending, `Runs`) of one row of stages (specs/Commands, `run_stages`):
+//! there is a look-up from names to bytes, which is what the inputs hold if they tell, in which the run ended so for its reason, and
+//! it left what it had to. Two clauses more say what a finished exchange and a clash come to (specs/Promises). Endings and their
+//! messages are those of `clio_ending`.
 #![tactic(auto)]
 
 mod command;
