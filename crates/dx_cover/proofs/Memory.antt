@@ -395,11 +395,10 @@ none_more f os i o before more any l e p q a n =
     neither true b h = absurd (cc)
     neither false b h = (refl, h)
 
-pub none_there : (i : Rule) (bound : List Meeting) (a : Atom) (rest others all : List Atom) (k : ℕ) → length others ≤ k → all ≡ a ∷ rest
-    → flat_map (branch i bound a rest others) (take k others) ≡ [] → maps_under i bound all others ≡ []
-none_there i bound a rest others all k l e h =
-    ap (λ z. maps_under i bound z others) e ∙ (maps_by_choice i bound a rest others
-    ∙ (ap (flat_map (branch i bound a rest others)) (sym (take_all k others l)) ∙ h))
+pub none_there : (i : Rule) (bound : List Meeting) (a : Atom) (rest others : List Atom) (k : ℕ) → length others ≤ k
+    → flat_map (branch i bound a rest others) (take k others) ≡ [] → maps_under i bound (a ∷ rest) others ≡ []
+none_there i bound a rest others k l h =
+    maps_by_choice i bound a rest others ∙ (ap (flat_map (branch i bound a rest others)) (sym (take_all k others l)) ∙ h)
 
 -- ---- the last atoms
 

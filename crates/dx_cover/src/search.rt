@@ -2,11 +2,10 @@ ghost use Rattle.std.specs.Prelude.{◌≡◌, ◌<◌, ◌≤◌, ℕ, ◌&&◌
 ghost use Rattle.std.specs.List.{list_all};
 ghost use Rattle.dx_model.specs.declared.rules.Atom.{Atom as AtomValue};
 ghost use Rattle.dx_model.specs.declared.rules.Cell.TheVariants.{Var as VarCell, Ex as ExCell};
-ghost use Rattle.dx_ports.specs.Members.{◌∈◌};
 ghost use Rattle.dx_model.specs.Rules.{cells_of, exported};
 ghost use Rattle.dx_model.specs.Covers.{after_existential, below, first_met, is_cell_map, map_of, may_meet, meet, same_cell, same_cells, used_maps};
 ghost use Rattle.dx_model.specs.Fitting.{AgreeInWidths, IsRule};
-ghost use Rattle.dx_cover.specs.Search.{found_after, fresh, has_met_in, maps_under, seen};
+ghost use Rattle.dx_cover.specs.Search.{AreAllSeen, MeetInWidths, found_after, has_met_in, maps_under, seen};
 ghost use Rattle.dx_cover.specs.States.{IsSearch, IsTrueFor, last};
 
 use crate::cells::{copy_cell, is_same_cell};
@@ -217,7 +216,7 @@ pub(crate) fn is_done(
 ) -> Result<bool, AllocError>
     requires exported { variables.now.exported.items ≡ exported rule.now }
     requires existential { variables.now.existential ≡ after_existential (cells_of rule.now.conclusion) }
-    ensures { IfOk result (λ b. IsTrue b → (rest others : List AtomValue) → fresh found.now (maps_under rule.now bound.now rest others) ≡ []) }
+    ensures { IfOk result (λ b. IsTrue b → AreAllSeen rule.now bound.now found.now) }
 {
     if !have_met(variables.exported.as_slice(), bound) {
         return Ok(false);
@@ -273,6 +272,7 @@ pub(crate) fn look_ahead(
 
 /// Finds the cell maps that begin with these meetings, and choose for each of the rest one of the others: false if there is
 /// none.
+#[cycle(extend)]
 pub(crate) fn extend(
     alloc: Global,
     rule: &Rule,
@@ -284,7 +284,7 @@ pub(crate) fn extend(
 ) -> Result<bool, AllocError>
     requires exported { variables.now.exported.items ≡ exported rule.now }
     requires existential { variables.now.existential ≡ after_existential (cells_of rule.now.conclusion) }
-    requires widths { (a b : AtomValue) → a ∈ rest.now → b ∈ others.now → a.table ≡ b.table → length a.cells ≡ length b.cells }
+    requires widths { MeetInWidths rest.now others.now }
     requires last { rest.now ≡ last (length rest.now) rule.now.conclusion }
     requires memory { IsSearch rule.now others.now search.old }
     ensures bound { OnOk result (bound.new.items ≡ bound.old.items) }
@@ -305,20 +305,51 @@ pub(crate) fn extend(
             Ok(true)
         }
         Some((first, after)) => {
-            let start = bound.len();
-            let mut any = false;
-            for other in others {
-                if first.table == other.table {
-                    let cells = first.cells.items();
-                    add_meetings(alloc, bound, cells, other.cells.items())?;
-                    any |= extend(alloc, rule, variables, after, others, bound, search)?;
-                    bound.truncate(start);
-                }
-            }
+            let any = extend_by_choice(
+                alloc, rule, variables, first, after, others, bound, search,
+            )?;
             remember(alloc, rest, bound.as_slice(), any, search)?;
             Ok(any)
         }
     }
+}
+
+/// Finds the cell maps that begin with these meetings, and choose for the first atom each of the others in turn, and for each
+/// of those after it one of the others: false if there is none.
+#[cycle(extend)]
+pub(crate) fn extend_by_choice(
+    alloc: Global,
+    rule: &Rule,
+    variables: &Variables,
+    first: &Atom,
+    after: &[Atom],
+    others: &[Atom],
+    bound: &mut Vec<Meeting>,
+    search: &mut Search,
+) -> Result<bool, AllocError>
+    requires exported { variables.now.exported.items ≡ exported rule.now }
+    requires existential { variables.now.existential ≡ after_existential (cells_of rule.now.conclusion) }
+    requires widths { MeetInWidths (first.now ∷ after.now) others.now }
+    requires last { after.now ≡ last (length after.now) rule.now.conclusion }
+    requires memory { IsSearch rule.now others.now search.old }
+    ensures bound { OnOk result (bound.new.items ≡ bound.old.items) }
+    ensures memory { OnOk result (IsSearch rule.now others.now search.new) }
+    ensures found { OnOk result (search.new.found.items
+        ≡ found_after search.old.found.items (maps_under rule.now bound.old.items (first.now ∷ after.now) others.now)) }
+    ensures none { IfOk result (λ any. any ≡ false
+        → maps_under rule.now bound.old.items (first.now ∷ after.now) others.now ≡ []) }
+{
+    let start = bound.len();
+    let mut any = false;
+    for other in others {
+        if first.table == other.table {
+            let cells = first.cells.items();
+            add_meetings(alloc, bound, cells, other.cells.items())?;
+            any |= extend(alloc, rule, variables, after, others, bound, search)?;
+            bound.truncate(start);
+        }
+    }
+    Ok(any)
 }
 
 /// The used cell maps from rule i to rule j, in order.
