@@ -14,12 +14,12 @@ overflow_cast-number c =
 
 pub loop-number-preserved : goal.loop-number-preserved
 loop-number-preserved c = (
-  c.in_ok-found.ensures.many ∙ ap length c.deref.ensures.value ∙ c.loop-number.invariant.0,
+  c.in_ok-found.ensures.many ∙ ap length c.deref-in-loop-number.ensures.value ∙ c.loop-number.invariant.0,
   record {
     finds = λ C p.
         let more = maps_more (rows_of c.args.matches.now) c.args.j c.loop-number.number c.maps-maps.result.now c.index-maps-number.result C c.loop-number-test.true c.index-maps-number.is in
         let so_far = c.loop-number.invariant.1.finds C p in
-        let next = c.in_ok-found.ensures.finds (C ++ flat_map (places_by (rows_of c.args.matches.now) c.args.j) (take c.loop-number.number c.maps-maps.result.now)) (rw c.deref.ensures.value so_far) in
+        let next = c.in_ok-found.ensures.finds (C ++ flat_map (places_by (rows_of c.args.matches.now) c.args.j) (take c.loop-number.number c.maps-maps.result.now)) (rw c.deref-in-loop-number.ensures.value so_far) in
         subst (λ z. FindsAmong c.args.rules.now (rows_of c.args.matches.now) c.args.i z c.in_ok-found.found.items) more next;
   },
 )
