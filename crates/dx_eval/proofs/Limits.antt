@@ -33,7 +33,7 @@ use Rattle.dx_eval.specs.declared.fault.EvalFault.{EvalFault}
 use Rattle.dx_eval.specs.declared.fault.EvalFault.TheVariants.{Limit}
 use Rattle.dx_eval.specs.Evaluating.{PassesLimit, cells_for, script_cells}
 use Rattle.dx_eval.specs.Query.{IsSelected}
-use Rattle.dx_eval.specs.Finding.{AreFoundSteps, FoundSoFar, IsRefusal, IsFoundStep, Matching, MatchesFit, matching_in, matchings}
+use Rattle.dx_eval.specs.Finding.{AreFoundSteps, FoundSoFar, IsFoundUpTo, IsRefusal, IsFoundStep, Matching, MatchesFit, MatchingFits, matching_in, matchings}
 use Rattle.dx_eval.proofs.Sums.{total, total_less, total_longer, total_more, total_same}
 use Rattle.dx_eval.proofs.Tables.{matching_long, IsTable, are_tables, found_grown, of_step, stands_at, tables_exist, zip_here, zip_long, zip_push, no_matching}
 
@@ -263,19 +263,35 @@ few_cells room cells left n f h few = (f n (omega (arith, h))).0 few
 pub table_found : (found : Option NumberTable) (t : NumberTable) (P : Type 0) (R : NumberTable → Type 0) → found ≡ Some t → MatchOption found P R → R t
 table_found found t P R e m = found_table found t P R e m
 
--- ---- what is selected, by the lists that are lent
+-- ---- what a step says, if it is a match step
 
-pub stand_items : (source : List Named) (call : Text → Tuple → Text) (I : List Fact) (sel select : List Select) (src sources : List Text) (eq equal : List Equal) (U : List Value) (t : NumberTable) → sel ≡ select → src ≡ sources → eq ≡ equal
-    → StandFor (length sel) (IsSelected source call I sel src eq) U t → StandFor (length select) (IsSelected source call I select sources equal) U t
-stand_items source call I sel select src sources eq equal U t a b d s =
-    subst (λ (z : List Equal). StandFor (length select) (IsSelected source call I select sources z) U t) d
-    (subst (λ (z : List Text). StandFor (length select) (IsSelected source call I select z eq) U t) b (subst (λ (z : List Select). StandFor (length z) (IsSelected source call I z src eq) U t) a s))
+pub of_matching : (P : Matching → Type 0) (s : Step) (r : ℕ) (select : List Select) (sources : List Text) (equal : List Equal) → s ≡ MatchRows r select sources equal → P (of_step select sources equal) → Each (matching_in s) P
+of_matching P s r select sources equal e p = subst (λ z. Each (matching_in z) P) (sym e) one
+  where
+    one : (m : Matching) → m ∈ (of_step select sources equal ∷ []) → P m
+    one m (here q) = subst P q p
+    one m (there n) = elim n [ ]
 
-pub each_items : (source : List Named) (call : Text → Tuple → Text) (I : List Fact) (sel select : List Select) (src sources : List Text) (eq equal : List Equal) (us : List Tuple) → sel ≡ select → src ≡ sources → eq ≡ equal
-    → Each us (IsSelected source call I sel src eq) → Each us (IsSelected source call I select sources equal)
-each_items source call I sel select src sources eq equal us a b d s =
-    subst (λ (z : List Equal). Each us (IsSelected source call I select sources z)) d
-    (subst (λ (z : List Text). Each us (IsSelected source call I select z eq)) b (subst (λ (z : List Select). Each us (IsSelected source call I z src eq)) a s))
+pub matching_at : (P : Matching → Type 0) (s : Step) (r : ℕ) (select : List Select) (sources : List Text) (equal : List Equal) → s ≡ MatchRows r select sources equal → Each (matching_in s) P → P (of_step select sources equal)
+matching_at P s r select sources equal e h = (subst (λ z. Each (matching_in z) P) e h) (of_step select sources equal) (here refl)
+
+pub not_matching : (P : Matching → Type 0) (s : Step) → ((r : ℕ) (a b d : _) → ¬ (s ≡ MatchRows r a b d)) → Each (matching_in s) P
+not_matching P (Create table columns) n = λ m k. elim k [ ]
+not_matching P (MatchRows r a b d) n = absurd (n r a b d refl)
+not_matching P (KeepRows r unless) n = λ m k. elim k [ ]
+not_matching P (InsertRows table r kept cells) n = λ m k. elim k [ ]
+
+pub matching_fits : (source : List Named) (list : List Conversion) (before : List Step) (s : Step) (r : ℕ) (select : List Select) (sources : List Text) (equal : List Equal) → s ≡ MatchRows r select sources equal
+    → MatchFits source list before r select sources equal → Each (matching_in s) (MatchingFits source list)
+matching_fits source list before s r select sources equal e m =
+    of_matching (MatchingFits source list) s r select sources equal e (record { sources_named = m.sources_named; selected = m.selected; equal_cells = m.equal_cells })
+
+-- the rows of a match step, by the lists that are lent
+pub lent_matching : (most : ℕ) (source : List Named) (call : Text → Tuple → Text) (I : List Fact) (U : List Value) (o : Option NumberTable) (sel select : List Select) (src sources : List Text) (eq equal : List Equal)
+    → sel ≡ select → src ≡ sources → eq ≡ equal → IsFoundUpTo most source call I U o (of_step sel src eq) → IsFoundUpTo most source call I U o (of_step select sources equal)
+lent_matching most source call I U o sel select src sources eq equal a b d s =
+    subst (λ (z : List Equal). IsFoundUpTo most source call I U o (of_step select sources z)) d
+    (subst (λ (z : List Text). IsFoundUpTo most source call I U o (of_step select z eq)) b (subst (λ (z : List Select). IsFoundUpTo most source call I U o (of_step z src eq)) a s))
 
 -- ---- the refusal
 

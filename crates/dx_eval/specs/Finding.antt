@@ -1,6 +1,7 @@
 -- The match tables of steps, found one after the other as rows of numbers.
-use Rattle.std.specs.Prelude.{◌≡◌, ℕ, ◌+◌, ◌∷◌, ◌++◌, [], List, length, flat_map}
+use Rattle.std.specs.Prelude.{◌≡◌, ℕ, ◌+◌, ◌∷◌, ◌++◌, [], List, MatchOption, Option, length, flat_map}
 use Rattle.std.specs.List.{AllZip}
+use Rattle.dx_ports.specs.Members.{◌∈◌, Each}
 use Rattle.dx_model.specs.declared.facts.Fact.{Fact}
 use Rattle.dx_model.specs.declared.values.Value.{Value}
 use Rattle.dx_model.specs.Values.{Text, Tuple}
@@ -8,17 +9,19 @@ use Rattle.dx_schema.specs.Names.{Named}
 use Rattle.dx_funcs.specs.declared.conversion.Conversion.{Conversion}
 use Rattle.dx_instance.specs.Cells.{NumberTable}
 use Rattle.dx_instance.specs.Numbers.{AreApart, Extends}
-use Rattle.dx_joins.specs.Shown.{StandFor}
+use Rattle.dx_joins.specs.Shown.{MoreTuples, StandFor}
 use Rattle.dx_script.specs.declared.form.Select.{Select}
 use Rattle.dx_script.specs.declared.form.Equal.{Equal}
 use Rattle.dx_script.specs.declared.form.Step.{Step}
 use Rattle.dx_script.specs.declared.form.Step.TheVariants.{Create, MatchRows, KeepRows, InsertRows}
-use Rattle.dx_script.specs.Fits.{MatchFits}
+use Rattle.dx_script.specs.Fits.{MatchFits, SelectFits}
+use Rattle.dx_script.specs.Names.{table_names}
 use Rattle.dx_tgd.specs.Texts.{tuples_in}
 use Rattle.dx_eval.specs.declared.fault.EvalFault.{EvalFault}
 use Rattle.dx_eval.specs.declared.fault.EvalFault.TheVariants.{Limit, Memory}
 use Rattle.dx_eval.specs.Evaluating.{PassesLimit, script_cells}
 use Rattle.dx_eval.specs.Query.{IsSelected}
+use Rattle.dx_eval.specs.Variables.{EqualFits}
 
 -- what a match step says of its table
 pub record Matching : Type 0 where
@@ -36,6 +39,12 @@ matching_in (InsertRows table r kept cells) = []
 abbrev pub matchings : List Step → List Matching
 matchings steps = flat_map matching_in steps
 
+-- a match step names tables of the source, and columns and conversions that are there
+pub record MatchingFits (source : List Named) (list : List Conversion) (m : Matching) : Type 0 where
+  pub sources_named : Each m.sources (λ name. name ∈ table_names source)
+  pub selected : Each m.select (SelectFits source list m.sources)
+  pub equal_cells : Each m.equal (EqualFits source m.sources)
+
 -- each match step fits after the steps before it
 abbrev pub MatchesFit : List Named → List Conversion → List Step → Type 0
 MatchesFit source list steps =
@@ -46,7 +55,12 @@ MatchesFit source list steps =
 abbrev pub IsFoundStep : List Named → (Text → Tuple → Text) → List Fact → List Value → Matching → NumberTable → Type 0
 IsFoundStep source call I symbols m t = StandFor (length m.select) (IsSelected source call I m.select m.sources m.equal) symbols t
 
--- each match step has such rows
+-- rows that stand for the tuples that a match step selects, or none if these are more than so many
+abbrev pub IsFoundUpTo : ℕ → List Named → (Text → Tuple → Text) → List Fact → List Value → Option NumberTable → Matching → Type 0
+IsFoundUpTo most source call I symbols rows m =
+    MatchOption rows (MoreTuples most (IsSelected source call I m.select m.sources m.equal)) (IsFoundStep source call I symbols m)
+
+-- each match step has rows that stand for its tuples
 abbrev pub AreFoundSteps : List Named → (Text → Tuple → Text) → List Fact → List Value → List Matching → List NumberTable
     → Type 0
 AreFoundSteps source call I symbols ms tables = AllZip (IsFoundStep source call I symbols) ms tables

@@ -2,9 +2,10 @@
 ghost use Rattle.std.specs.Prelude.{◌≡◌, ◌↔◌, ◌<◌, ◌≤◌, ◌*◌, ◌^◌, ℕ};
 ghost use Rattle.std.specs.Prelude.{IfOk, IfErr, MatchOption, Some, length};
 ghost use Rattle.dx_ports.specs.declared.file.Count.TheVariants.{TargetCells};
+ghost use Rattle.dx_ports.specs.Members.{Each};
 ghost use Rattle.dx_funcs.specs.Names.{call_named};
 ghost use Rattle.dx_funcs.specs.Serving.{Serves, offered};
-ghost use Rattle.dx_instance.specs.Numbers.{AreApart};
+ghost use Rattle.dx_instance.specs.Numbers.{AreApart, Extends};
 ghost use Rattle.dx_instance.specs.Shown.{shown_tables};
 ghost use Rattle.dx_instance.specs.Stored.{facts, widths};
 ghost use Rattle.dx_schema.specs.Names.{named_of};
@@ -12,13 +13,13 @@ ghost use Rattle.dx_schema.specs.Tables.{schema_widths};
 ghost use Rattle.dx_tgd.specs.Texts.{tuples_in};
 ghost use Rattle.dx_eval.specs.declared.fault.EvalFault.TheVariants.{Limit as Refused};
 ghost use Rattle.dx_eval.specs.Evaluating.{cells_for, cells_in, script_cells};
-ghost use Rattle.dx_eval.specs.Finding.{AreFoundSteps, IsRefusal, MatchesFit, matchings};
+ghost use Rattle.dx_eval.specs.Finding.{AreFoundSteps, IsFoundUpTo, IsRefusal, MatchesFit, MatchingFits, matching_in, matchings};
 
 use crate::fault::EvalFault;
 use crate::found::Found;
 use crate::matching::step_rows;
 use dx_funcs::{Host, Meaning};
-use dx_instance::{Numbers, Rows};
+use dx_instance::{Numbers, Rows, Symbols};
 use dx_ports::{Count, Items, Limit, Text};
 use dx_schema::Schema;
 use dx_script::Step;
@@ -91,6 +92,48 @@ fn within(found: Option<Rows>, room: u64, limit: u64) -> Result<Rows, EvalFault>
     }
 }
 
+// The rows of numbers that stand for the tuples that a match step selects. None if there are more than `most` tuples, and for
+// a step of another kind.
+fn matched_rows<F: Fn(u32, &Items<Text>) -> Result<Text, AllocError>, M: Meaning>(
+    alloc: Global,
+    source: &Schema,
+    rows: &Numbers,
+    host: &Host<F, M>,
+    step: &Step,
+    symbols: &mut Symbols,
+    most: u64,
+) -> Result<Option<Rows>, AllocError>
+    requires serves { Serves F.Fn M.apply host.now }
+    requires widths { widths (shown_tables rows.now.symbols rows.now.tables) ≡ schema_widths source.now }
+    requires fit { Each (matching_in step.now) (MatchingFits (named_of source.now) (offered host.now)) }
+    requires symbols { Extends rows.now.symbols symbols.old }
+    requires apart { AreApart symbols.old }
+    ensures grows { Extends symbols.old symbols.new }
+    ensures apart { AreApart symbols.new }
+    ensures rows { IfOk result (λ o. Each (matching_in step.now) (IsFoundUpTo most (named_of source.now)
+        (call_named M.apply (offered host.now)) (facts (shown_tables rows.now.symbols rows.now.tables)) symbols.new o)) }
+{
+    match step {
+        Step::MatchRows {
+            select,
+            sources,
+            equal,
+            ..
+        } => step_rows(
+            alloc,
+            source,
+            rows,
+            host,
+            select.items(),
+            sources.items(),
+            equal.items(),
+            symbols,
+            most,
+        ),
+        _ => Ok(None),
+    }
+}
+
 /// The tuples of each match step, as rows of numbers. A step may have as many as the limit leaves room for.
 ///
 /// # Errors
@@ -118,26 +161,10 @@ pub(crate) fn found_steps<F: Fn(u32, &Items<Text>) -> Result<Text, AllocError>, 
     let mut tables = Vec::new(alloc);
     let mut left = limit;
     for step in steps {
-        if let Step::MatchRows {
-            rule,
-            select,
-            sources,
-            equal,
-        } = step
-        {
+        if let Step::MatchRows { rule, .. } = step {
             let cells = rule_cells(steps, *rule)?;
             let room = room_for(left, cells);
-            let found = step_rows(
-                alloc,
-                source,
-                rows,
-                host,
-                select.items(),
-                sources.items(),
-                equal.items(),
-                &mut symbols,
-                room,
-            )?;
+            let found = matched_rows(alloc, source, rows, host, step, &mut symbols, room)?;
             let table = within(found, room, limit)?;
             left -= table.count() as u64 * cells;
             tables.push(table)?;

@@ -1,14 +1,15 @@
-use Rattle.std.proofs.Common.{◌*◌, ◌<◌, ◌≤◌, ℕ, arith, length, subst}
+use Rattle.std.proofs.Common.{◌*◌, ◌<◌, ◌≤◌, ℕ, arith, length, subst, take}
 use Rattle.std.proofs.lemmas.Result.{err_from_is_err_and}
 use Rattle.dx_funcs.specs.Names.{call_named}
 use Rattle.dx_funcs.specs.Serving.{offered}
 use Rattle.dx_instance.specs.Shown.{shown_tables}
 use Rattle.dx_instance.specs.Stored.{facts}
-use Rattle.dx_joins.specs.Shown.{MoreTuples, StandFor}
+use Rattle.dx_joins.specs.Shown.{MoreTuples}
 use Rattle.dx_schema.specs.Names.{named_of}
+use Rattle.dx_eval.specs.Finding.{IsFoundStep, IsFoundUpTo}
 use Rattle.dx_eval.specs.Query.{IsSelected}
-use Rattle.dx_eval.proofs.Limits.{all_found, each_items, few_cells, many_cells, match_step, number_is, other_step, passes, refused_limit, stand_items, start, table_found, too_many}
-use Rattle.dx_eval.proofs.Tables.{match_fits_at}
+use Rattle.dx_eval.proofs.Limits.{all_found, few_cells, many_cells, match_step, matching_at, matching_fits, number_is, other_step, passes, refused_limit, start, table_found, too_many}
+use Rattle.dx_eval.proofs.Tables.{match_fits_at, of_step}
 use Rattle.dx_eval.proofs.finding.found_steps.Goals.{in-MatchRows+in_ok-cells+in_ok-found+in_ok-table+in_ok-push, in_default}
 use Rattle.dx_eval.proofs.finding.found_steps.Goals as goal
 
@@ -18,23 +19,13 @@ loop-step-init g c =
     let I = facts (shown_tables c.args.rows.now.symbols c.args.rows.now.tables) in
     start N (call_named g.M.Meaning.apply (offered c.args.host.now)) I c.args.steps.now c.args.rows.now.symbols c.in_ok-symbols.symbols c.new-tables.result.items c.args.limit c.in_ok-symbols.ensures c.new-tables.ensures.items c.requires.apart
 
-pub step_rows-requires-clause-named : goal.step_rows-requires-clause-named
-step_rows-requires-clause-named g c =
-    let m = match_fits_at (named_of c.args.source.now) (offered c.args.host.now) c.args.steps.now c.loop-step.step-index c.in-MatchRows.rule c.in-MatchRows.select c.in-MatchRows.sources c.in-MatchRows.equal c.step-item.result c.requires.fit
-    c.loop-step-test.true c.step-item.is c.in-MatchRows.is in
-    rw c.items-in-MatchRows.ensures m.sources_named
-
-pub step_rows-requires-clause-selected : goal.step_rows-requires-clause-selected
-step_rows-requires-clause-selected g c =
-    let m = match_fits_at (named_of c.args.source.now) (offered c.args.host.now) c.args.steps.now c.loop-step.step-index c.in-MatchRows.rule c.in-MatchRows.select c.in-MatchRows.sources c.in-MatchRows.equal c.step-item.result c.requires.fit
-    c.loop-step-test.true c.step-item.is c.in-MatchRows.is in
-    rw (c.items.ensures, c.items-in-MatchRows.ensures) m.selected
-
-pub step_rows-requires-clause-equal : goal.step_rows-requires-clause-equal
-step_rows-requires-clause-equal g c =
-    let m = match_fits_at (named_of c.args.source.now) (offered c.args.host.now) c.args.steps.now c.loop-step.step-index c.in-MatchRows.rule c.in-MatchRows.select c.in-MatchRows.sources c.in-MatchRows.equal c.step-item.result c.requires.fit
-    c.loop-step-test.true c.step-item.is c.in-MatchRows.is in
-    rw (c.items-in-MatchRows.ensures, c.items-in-MatchRows-2.ensures) m.equal_cells
+pub matched_rows-requires-clause-fit : goal.matched_rows-requires-clause-fit
+matched_rows-requires-clause-fit g c =
+    let N = named_of c.args.source.now in
+    let L = offered c.args.host.now in
+    let w = c.in-MatchRows in
+    matching_fits N L (take c.loop-step.step-index c.args.steps.now) c.step-item.result w.rule w.select w.sources w.equal w.is
+    (match_fits_at N L c.args.steps.now c.loop-step.step-index w.rule w.select w.sources w.equal c.step-item.result c.requires.fit c.loop-step-test.true c.step-item.is w.is)
 
 pub returns-in_err-table-clause-refused : goal.returns-in_err-table-clause-refused
 returns-in_err-table-clause-refused g c =
@@ -45,15 +36,15 @@ returns-in_err-table-clause-refused g c =
     let w = c.in-MatchRows in
     let m = match_fits_at N L c.args.steps.now c.loop-step.step-index w.rule w.select w.sources w.equal c.step-item.result c.requires.fit c.loop-step-test.true c.step-item.is w.is in
     let f = c.loop-step.invariant in
-    let many = too_many c.in_ok-found.found c.room_for-room.result (length c.items.result.now) (IsSelected N C I c.items.result.now c.items-in-MatchRows.result.now c.items-in-MatchRows-2.result.now) c.step_rows.new.symbols
-    c.in_ok-found.ensures.apart c.in_ok-found.ensures.rows c.in_err-table.ensures.err.1 in
-    let each = each_items N C I c.items.result.now w.select c.items-in-MatchRows.result.now w.sources c.items-in-MatchRows-2.result.now w.equal many.tuples c.items.ensures c.items-in-MatchRows.ensures c.items-in-MatchRows-2.ensures many.each in
+    let selected = IsSelected N C I w.select w.sources w.equal in
+    let rows = matching_at (IsFoundUpTo c.room_for-room.result N C I c.matched_rows.new.symbols c.in_ok-found.found) c.step-item.result w.rule w.select w.sources w.equal w.is c.in_ok-found.ensures.rows in
+    let many = too_many c.in_ok-found.found c.room_for-room.result (length w.select) selected c.matched_rows.new.symbols c.in_ok-found.ensures.apart rows c.in_err-table.ensures.err.1 in
     let more = many_cells c.room_for-room.result c.in_ok-cells.cells c.loop-step.left (length many.tuples) c.room_for-room.ensures many.few many.more in
     let over = subst (λ (z : ℕ). c.loop-step.left < length many.tuples * z) c.in_ok-cells.ensures more in
     let p = passes N C I c.args.steps.now L c.args.rows.now.symbols c.loop-step.symbols c.loop-step.tables.items c.args.limit c.loop-step.left c.loop-step.step-index w.rule w.select w.sources w.equal c.step-item.result many.tuples
     c.requires.fit c.loop-step-test.true c.step-item.is w.is
     (number_is N C I c.args.steps.now L c.args.rows.now.symbols c.loop-step.symbols c.loop-step.tables.items c.args.limit c.loop-step.left c.loop-step.step-index w.rule w.select w.sources w.equal f m)
-    f many.distinct each over in
+    f many.distinct many.each over in
     let e = err_from_is_err_and c.from_residual-in_err-table.result c.from_residual-in_err-table.ensures.1 in
     rw (e.1, e.2) (refused_limit N C c.args.steps.now I c.args.limit c.in_err-table.field-0.0 c.in_err-table.ensures.err.0 p)
 
@@ -75,13 +66,13 @@ loop-step-preserved g c =
     elim c.match-step.branch [
       | in-MatchRows+in_ok-cells+in_ok-found+in_ok-table+in_ok-push w ↦
           let m = match_fits_at N L c.args.steps.now c.loop-step.step-index w.in-MatchRows.rule w.in-MatchRows.select w.in-MatchRows.sources w.in-MatchRows.equal c.step-item.result c.requires.fit c.loop-step-test.true c.step-item.is w.in-MatchRows.is in
-          let lent = table_found w.in_ok-found.found w.in_ok-table.table (MoreTuples w.room_for-room.result (IsSelected N C I w.items.result.now w.items-in-MatchRows.result.now w.items-in-MatchRows-2.result.now))
-          (StandFor (length w.items.result.now) (IsSelected N C I w.items.result.now w.items-in-MatchRows.result.now w.items-in-MatchRows-2.result.now) w.step_rows.new.symbols) w.in_ok-table.ensures.ok.0 w.in_ok-found.ensures.rows in
-          let stand = stand_items N C I w.items.result.now w.in-MatchRows.select w.items-in-MatchRows.result.now w.in-MatchRows.sources w.items-in-MatchRows-2.result.now w.in-MatchRows.equal w.step_rows.new.symbols w.in_ok-table.table
-          w.items.ensures w.items-in-MatchRows.ensures w.items-in-MatchRows-2.ensures lent in
+          let v = w.in-MatchRows in
+          let rows = matching_at (IsFoundUpTo w.room_for-room.result N C I w.matched_rows.new.symbols w.in_ok-found.found) c.step-item.result v.rule v.select v.sources v.equal v.is w.in_ok-found.ensures.rows in
+          let stand = table_found w.in_ok-found.found w.in_ok-table.table (MoreTuples w.room_for-room.result (IsSelected N C I v.select v.sources v.equal))
+          (IsFoundStep N C I w.matched_rows.new.symbols (of_step v.select v.sources v.equal)) w.in_ok-table.ensures.ok.0 rows in
           let few = few_cells w.room_for-room.result w.in_ok-cells.cells c.loop-step.left (length w.in_ok-table.table.rows) w.room_for-room.ensures w.in_ok-table.ensures.few w.in_ok-table.ensures.ok.1 in
           let less = subst (λ (z : ℕ). length w.in_ok-table.table.rows * z ≤ c.loop-step.left) w.in_ok-cells.ensures few in
-          rw (w.symbols-is, w.tables-is, w.left-is, w.count.ensures.count, w.in_ok-cells.ensures) (match_step N C I c.args.steps.now c.args.rows.now.symbols c.loop-step.symbols w.step_rows.new.symbols c.loop-step.tables.items w.push.new.self.items
+          rw (w.symbols-is, w.tables-is, w.left-is, w.count.ensures.count, w.in_ok-cells.ensures) (match_step N C I c.args.steps.now c.args.rows.now.symbols c.loop-step.symbols w.matched_rows.new.symbols c.loop-step.tables.items w.push.new.self.items
           c.args.limit c.loop-step.left c.loop-step.step-index w.in-MatchRows.rule w.in-MatchRows.select w.in-MatchRows.sources w.in-MatchRows.equal c.step-item.result w.in_ok-table.table c.loop-step-test.true c.step-item.is w.in-MatchRows.is
           (number_is N C I c.args.steps.now L c.args.rows.now.symbols c.loop-step.symbols c.loop-step.tables.items c.args.limit c.loop-step.left c.loop-step.step-index w.in-MatchRows.rule w.in-MatchRows.select w.in-MatchRows.sources w.in-MatchRows.equal f m)
           f w.in_ok-found.ensures.grows w.in_ok-found.ensures.apart stand w.in_ok-push.ensures.items less)
