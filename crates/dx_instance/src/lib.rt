@@ -17,6 +17,7 @@
 mod cells;
 mod chains;
 mod column_index;
+mod hints;
 mod instance;
 mod laws;
 mod null_map;

@@ -5,6 +5,7 @@ ghost use Rattle.dx_instance.specs.Keys.{AreSmall, AreSorted, IsSmallValue, Valu
 ghost use Rattle.dx_instance.specs.Numbers.{AreApart, IsOrdering, value_of};
 ghost use Rattle.dx_instance.specs.Ranks.{AreRanked, joined_texts, text_of};
 
+use crate::hints::hints_of;
 use crate::symbols::Symbols;
 use dx_model::{NullId, Value, copy_value};
 use dx_ports::Text;
@@ -38,8 +39,8 @@ fn first_bytes(text: &[u8]) -> u64
     key
 }
 
-// A number that compares as the first bytes of a value's text. Nulls come last.
-fn key_of(value: &Value) -> u64
+/// A number that compares as the first bytes of a value's text. Nulls come last.
+pub(crate) fn key_of(value: &Value) -> u64
     ensures key { result ≡ value_key value.now }
     ensures small { IsSmallValue value.now }
 {
@@ -227,8 +228,9 @@ pub(crate) fn in_order(alloc: Global, symbols: &Symbols) -> Result<Ordered, Allo
     let keys = numbers_in_order(alloc, symbols)?;
     let ranks = ranks_of(alloc, &keys)?;
     let values = values_in_order(alloc, symbols, &keys)?;
+    let hints = hints_of(alloc, &keys, &values)?;
     Ok(Ordered {
-        symbols: Symbols::from_ordered(alloc, values),
+        symbols: Symbols::from_ordered(alloc, values, hints),
         ranks,
     })
 }

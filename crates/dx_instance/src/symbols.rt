@@ -1,22 +1,24 @@
 // Values under numbers.
-ghost use Rattle.std.specs.Prelude.{◌≡◌, ◌<◌, ◌^◌, ℕ, [], ◌∷◌, ◌++◌, IfOk, OnOk, OnErr, length, slice_index};
+ghost use Rattle.std.specs.Prelude.{◌≡◌, ◌<◌, ◌^◌, ℕ, [], ◌∷◌, ◌++◌, IfOk, IfSome, OnOk, OnErr, Some, length, slice_index};
 ghost use Rattle.std.specs.Bool.{OnTrue};
 ghost use Rattle.std.specs.declared.cmp.Ordering.TheVariants.{Less};
 ghost use Rattle.dx_model.specs.Values.{value_cmp};
 ghost use Rattle.dx_ports.specs.Members.{Each, ◌∈◌};
 ghost use Rattle.dx_instance.specs.Numbers.{AreApart, Extends, IsNumberOf, IsOrdering, ValuesAscend, value_of};
 
-use crate::ordering::{Ordered, in_order};
+use crate::hints::hint_of;
+use crate::ordering::{Ordered, in_order, key_of};
 use dx_model::{Value, copy_value};
 use indexmap::IndexSet;
 use std::alloc::{AllocError, Global};
 use std::marker::Model;
 
 /// Distinct values, each under a number. A contract sees the list of the values. The first of them are in order and
-/// are found by binary search, those after them by their hashes.
+/// are found by binary search, at once by their hints or else by themselves; those after them by their hashes.
 #[derive(Drop)]
 pub struct Symbols {
     ordered: Vec<Value>,
+    hints: Vec<u64>,
     later: IndexSet<Value>,
 }
 
@@ -39,6 +41,7 @@ impl Symbols {
     {
         Symbols {
             ordered: Vec::new(alloc),
+            hints: Vec::new(alloc),
             later: IndexSet::new(alloc),
         }
     }
@@ -74,10 +77,28 @@ impl Symbols {
         }
     }
 
+    // The number of the value, if the hints tell it at once.
+    fn hinted(&self, value: &Value) -> Option<usize>
+        ensures { IfSome result (λ number. IsNumberOf self.now value.now (Some number)) }
+    {
+        let hint = hint_of(key_of(value), value);
+        let Ok(number) = self.hints.as_slice().binary_search(&hint) else {
+            return None;
+        };
+        if number < self.ordered.len() && self.ordered[number].is(value) {
+            Some(number)
+        } else {
+            None
+        }
+    }
+
     /// The number of the value, if it has one.
     pub fn find(&self, value: &Value) -> Option<u64>
         ensures { IsNumberOf self.now value.now result }
     {
+        if let Some(number) = self.hinted(value) {
+            return Some(number as u64);
+        }
         match self.ordered.as_slice().binary_search(value) {
             Ok(number) => Some(number as u64),
             Err(_) => match self.later.get_index_of(value) {
@@ -137,14 +158,15 @@ impl Symbols {
         Ok(number as u64)
     }
 
-    /// Symbols of these values, which are in order.
-    pub(crate) fn from_ordered(alloc: Global, values: Vec<Value>) -> Symbols
+    /// Symbols of these values, which are in order, with their hints.
+    pub(crate) fn from_ordered(alloc: Global, values: Vec<Value>, hints: Vec<u64>) -> Symbols
         requires ascend { ValuesAscend values.items }
         requires few { length values.items < 2 ^ 32 }
         ensures { result ≡ values.items }
     {
         Symbols {
             ordered: values,
+            hints,
             later: IndexSet::new(alloc),
         }
     }
@@ -170,9 +192,17 @@ impl Symbols {
     {
         Ok(Symbols {
             ordered: copies_of(alloc, &self.ordered)?,
+            hints: copied(alloc, &self.hints)?,
             later: set_of(alloc, self.later.as_slice())?,
         })
     }
+}
+
+// A copy of hints.
+fn copied(alloc: Global, hints: &[u64]) -> Result<Vec<u64>, AllocError> {
+    let mut copy = Vec::with_capacity(alloc, hints.len())?;
+    copy.extend_from_slice(hints)?;
+    Ok(copy)
 }
 
 // Copies of values.
