@@ -1,11 +1,10 @@
 -- What is found first, and rows that compare as equal.
-use Rattle.std.proofs.Common.{◌≡◌, ℕ, Bool, true, List, [], ◌∷◌, Option, Some, None, refl, ap, subst, inl, inr}
+use Rattle.std.proofs.Common.{◌≡◌, ℕ, Bool, true, List, [], ◌∷◌, Option, Some, None, refl, sym, ◌∙◌, ap, subst, inl, inr}
 use Rattle.std.specs.Prelude.{map}
 use Rattle.std.specs.Option.{option_map, option_or}
 use Rattle.std.specs.List.{find, list_all}
 use Rattle.std.specs.BTreeMap.{is_at}
 use Rattle.std.specs.Ordering.{is_eq, ordering_reverse}
-use Rattle.std.specs.Cmp.Lexicographic.{slice_cmp}
 use Rattle.std.specs.declared.cmp.Ordering.{Ordering}
 use Rattle.std.specs.declared.cmp.Ordering.TheVariants.{Less, Equal, Greater}
 use Rattle.std.proofs.lemmas.Bool.{cases_Bool, false≢true}
@@ -17,10 +16,10 @@ use Rattle.dx_model.specs.declared.values.Value.{Value}
 use Rattle.dx_model.specs.declared.values.Value.TheVariants.{Const, Null}
 use Rattle.dx_model.specs.Values.{row_cmp, value_cmp}
 use Rattle.dx_model.specs.Covers.{same_value}
-use Rattle.dx_model.specs.contracts.values.ValueOrd.TheImpl.{cmp-value as value_order}
 use Rattle.dx_model.proofs.Lists.{all_of, of_all}
 use Rattle.dx_model.proofs.Maps.{same_null-refl}
 use Rattle.dx_instance.proofs.PlaceFacts.{same_value-true}
+use Rattle.dx_instance.proofs.Equal.{row_eq, row_eq-Decides}
 use Rattle.dx_model.proofs.Orders.{slice_exact, value_exact, value_total}
 
 -- ---- what is found first
@@ -43,15 +42,9 @@ map_map f g (Some x) = refl
 
 -- ---- rows that compare as equal
 
-value_alike : (a b : Value) → value_order.it a b ≡ value_cmp a b
-value_alike (Const a) (Const b) = refl
-value_alike (Const a) (Null n) = refl
-value_alike (Null m) (Const b) = refl
-value_alike (Null m) (Null n) = refl
-
--- rows as they are stored compare as the book says
-pub rows_alike : slice_cmp value_order.it ≡ row_cmp
-rows_alike = λ i. slice_cmp (λ a b. value_alike a b i)
+-- a row is found by its values
+abbrev pub same_row : List Value → List Value → Bool
+same_row q = is_at (row_cmp q)
 
 turned : (o : Ordering) → o ≡ ordering_reverse o → o ≡ Equal
 turned Less e = absurd (cc)
@@ -68,6 +61,19 @@ equal_of Greater e = absurd (false≢true e)
 
 pub row_exact : (q r : List Value) → is_at (row_cmp q) r ≡ true → q ≡ r
 row_exact q r e = slice_exact value_cmp value_exact q r (equal_of (row_cmp q r) e)
+
+-- the same by the equality of rows
+pub rows_same : row_eq ≡ same_row
+rows_same = λ i q r. one q r i
+  where
+    one : (q r : List Value) → row_eq q r ≡ is_at (row_cmp q) r
+    one q r = elim (cases_Bool (row_eq q r)) [
+      | inl t ↦ t ∙ sym (subst (λ z. is_at (row_cmp q) z ≡ true) ((row_eq-Decides q r).0 t) (row_itself q))
+      | inr f ↦ elim (cases_Bool (is_at (row_cmp q) r)) [
+        | inl t ↦ absurd (false≢true (sym f ∙ (row_eq-Decides q r).1 (row_exact q r t)))
+        | inr g ↦ f ∙ sym g
+      ]
+    ]
 
 same-itself : (v : Value) → same_value v v ≡ true
 same-itself (Const t) = (bytes_eq-Decides t t).1 refl

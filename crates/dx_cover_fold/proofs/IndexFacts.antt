@@ -6,13 +6,12 @@ use denote.Ref.{Bor}
 use Rattle.std.specs.List.{find}
 use Rattle.std.specs.BTreeMap.{is_at}
 use Rattle.std.specs.Map.{lookup}
-use Rattle.std.specs.declared.cmp.Ordering.{Ordering}
 use Rattle.std.proofs.lemmas.Bool.{cases_Bool, false≢true, true≢false}
 use Rattle.std.proofs.lemmas.List.Folds.{find-append}
 use Rattle.dx_model.specs.declared.values.Value.{Value}
 use Rattle.dx_model.specs.Values.{row_cmp}
 use Rattle.dx_model.specs.Covers.{below}
-use Rattle.dx_cover_fold.proofs.Finding.{row_exact, row_itself}
+use Rattle.dx_cover_fold.proofs.Finding.{row_exact, row_itself, same_row}
 
 -- the entries have for each row the first place below n that has it
 abbrev pub IndexedBelow : (ℕ → List Value) → List (List Value × ℕ) → ℕ → Type 0
@@ -46,12 +45,12 @@ indexed_kept row entries n w e h = rw (add-one n) (λ q. h q ∙ sym (find-appen
     ]
 
 -- a row that is put in
-pub indexed_put : (R : List Value → List Value → Ordering) → R ≡ row_cmp → (row : ℕ → List Value) (entries new : List (List Value × ℕ)) (n : ℕ) → lookup (is_at (row_cmp (row n))) entries ≡ None
-    → ((q : List Value) → lookup (is_at (R q)) new ≡ cond (is_at (R (row n)) q) (Some n) (lookup (is_at (R q)) entries)) → IndexedBelow row entries n → IndexedBelow row new (n + 1)
-indexed_put R a row entries new n e put h = rw (add-one n) (λ q. stored q ∙ sym (find-append (λ l. is_at (row_cmp q) (row l)) (below n) (n ∷ []) ∙ ap (λ z. option_or z (find (λ l. is_at (row_cmp q) (row l)) (n ∷ []))) (sym (h q)) ∙ last q))
+pub indexed_put : (E : List Value → List Value → Bool) → E ≡ same_row → (row : ℕ → List Value) (entries new : List (List Value × ℕ)) (n : ℕ) → lookup (is_at (row_cmp (row n))) entries ≡ None
+    → ((q : List Value) → lookup (E q) new ≡ cond (E (row n) q) (Some n) (lookup (E q) entries)) → IndexedBelow row entries n → IndexedBelow row new (n + 1)
+indexed_put E a row entries new n e put h = rw (add-one n) (λ q. stored q ∙ sym (find-append (λ l. is_at (row_cmp q) (row l)) (below n) (n ∷ []) ∙ ap (λ z. option_or z (find (λ l. is_at (row_cmp q) (row l)) (n ∷ []))) (sym (h q)) ∙ last q))
   where
     stored : (q : List Value) → lookup (is_at (row_cmp q)) new ≡ cond (is_at (row_cmp (row n)) q) (Some n) (lookup (is_at (row_cmp q)) entries)
-    stored = subst (λ S. (q : List Value) → lookup (is_at (S q)) new ≡ cond (is_at (S (row n)) q) (Some n) (lookup (is_at (S q)) entries)) a put
+    stored = subst (λ (S : List Value → List Value → Bool). (q : List Value) → lookup (S q) new ≡ cond (S (row n) q) (Some n) (lookup (S q) entries)) a put
 
     last : (q : List Value) → option_or (lookup (is_at (row_cmp q)) entries) (find (λ l. is_at (row_cmp q) (row l)) (n ∷ [])) ≡ cond (is_at (row_cmp (row n)) q) (Some n) (lookup (is_at (row_cmp q)) entries)
     last q = elim (cases_Bool (is_at (row_cmp (row n)) q)) [
@@ -69,12 +68,12 @@ indexed_put R a row entries new n e put h = rw (add-one n) (λ q. stored q ∙ s
     ]
 
 -- what a look-up of a row answers
-pub absent : (R : List Value → List Value → Ordering) → R ≡ row_cmp → (q : List Value) (entries : List (List Value × ℕ)) (o : Option (Bor ℕ)) (b : Bool)
-    → option_copied o ≡ lookup (is_at (R q)) entries → is_some o ≡ not b → b ≡ true → lookup (is_at (row_cmp q)) entries ≡ None
-absent R a q entries None b e s t = subst (λ S. lookup (is_at (S q)) entries ≡ None) a (sym e)
-absent R a q entries (Some x) b e s t = absurd (true≢false (s ∙ ap not t))
+pub absent : (E : List Value → List Value → Bool) → E ≡ same_row → (q : List Value) (entries : List (List Value × ℕ)) (o : Option (Bor ℕ)) (b : Bool)
+    → option_copied o ≡ lookup (E q) entries → is_some o ≡ not b → b ≡ true → lookup (is_at (row_cmp q)) entries ≡ None
+absent E a q entries None b e s t = subst (λ (S : List Value → List Value → Bool). lookup (S q) entries ≡ None) a (sym e)
+absent E a q entries (Some x) b e s t = absurd (true≢false (s ∙ ap not t))
 
-pub present : (R : List Value → List Value → Ordering) → R ≡ row_cmp → (q : List Value) (entries : List (List Value × ℕ)) (o : Option (Bor ℕ)) (b : Bool)
-    → option_copied o ≡ lookup (is_at (R q)) entries → is_some o ≡ not b → b ≡ false → (w : ℕ) × (lookup (is_at (row_cmp q)) entries ≡ Some w)
-present R a q entries None b e s t = absurd (false≢true (s ∙ ap not t))
-present R a q entries (Some x) b e s t = (x.now, subst (λ S. lookup (is_at (S q)) entries ≡ Some x.now) a (sym e))
+pub present : (E : List Value → List Value → Bool) → E ≡ same_row → (q : List Value) (entries : List (List Value × ℕ)) (o : Option (Bor ℕ)) (b : Bool)
+    → option_copied o ≡ lookup (E q) entries → is_some o ≡ not b → b ≡ false → (w : ℕ) × (lookup (is_at (row_cmp q)) entries ≡ Some w)
+present E a q entries None b e s t = absurd (false≢true (s ∙ ap not t))
+present E a q entries (Some x) b e s t = (x.now, subst (λ (S : List Value → List Value → Bool). lookup (S q) entries ≡ Some x.now) a (sym e))

@@ -8,12 +8,12 @@ ghost use Rattle.dx_cover_fold.specs.Found.{Indexes};
 use crate::rows_said::cells_said;
 use dx_model::{Cell, Row, Tuple};
 use std::alloc::{AllocError, Global};
-use std::collections::BTreeMap;
+use std::collections::HashMap;
 
 /// The first place of each row of values.
 #[derive(Drop)]
 pub(crate) struct Index {
-    pub(crate) places: BTreeMap<Row, u32>,
+    pub(crate) places: HashMap<Row, u32>,
 }
 
 impl Index {
@@ -32,7 +32,7 @@ impl Index {
         requires { length tuples.now < 2 ^ 32 }
         ensures { IfOk result (Indexes variables.now tuples.now rule cells.now) }
     {
-        let mut places = BTreeMap::new(alloc);
+        let mut places = HashMap::new(alloc);
         for place in 0..tuples.len() {
             let tuple = tuples[place].items();
             let row = cells_said(alloc, variables, tuple, rule, place as u32, cells)?;
