@@ -1,3 +1,4 @@
 pub mod Source
+pub mod Agreeing
 pub mod Fitting
 pub mod Laws

@@ -1,0 +1,70 @@
+-- Which columns of the source rules use, and instances that agree on these columns.
+use Rattle.std.specs.Prelude.{◌≡◌, ℕ, suc, Bool, true, false, cond, eqb, List, [], ◌∷◌, ◌++◌, map, flat_map, slice_index_or}
+use Rattle.dx_model.specs.declared.values.Value.{Value}
+use Rattle.dx_model.specs.declared.values.Value.TheVariants.{Const, Null}
+use Rattle.dx_model.specs.declared.facts.Fact.{Fact}
+use Rattle.dx_model.specs.declared.rules.Cell.{Cell}
+use Rattle.dx_model.specs.declared.rules.Cell.TheVariants.{Var, Ex, Lit}
+use Rattle.dx_model.specs.declared.rules.Atom.{Atom}
+use Rattle.dx_model.specs.declared.rules.Derived.{Derived}
+use Rattle.dx_model.specs.declared.rules.Rule.{Rule}
+use Rattle.dx_ports.specs.Members.{◌∈◌, ◌≈◌, Each}
+use Rattle.dx_model.specs.Rules.{cells_of}
+
+-- how often a variable stands among cells
+abbrev pub times : ℕ → List Cell → ℕ
+times x [] = 0
+times x (Var y ∷ cs) = cond (eqb x y) (suc (times x cs)) (times x cs)
+times x (Ex v ∷ cs) = times x cs
+times x (Lit t ∷ cs) = times x cs
+
+-- the arguments of a rule's conversions, as cells
+abbrev pub arguments : Rule → List Cell
+arguments d = flat_map (λ (e : Derived). map Var e.args) d.derived
+
+-- the cells that a rule mentions: those of its premise, those of its conclusion, and the arguments of its conversions
+abbrev pub mentions : Rule → List Cell
+mentions d = cells_of d.premise ++ (cells_of d.conclusion ++ arguments d)
+
+-- a cell asks nothing of the value there: it is a variable, which the rule mentions this once
+abbrev pub IsIdle : Rule → Cell → Type 0
+IsIdle d c = (x : ℕ) × (c ≡ Var x) × (times x (mentions d) ≡ 1)
+
+-- the cells in columns that are not used are idle; a column without a mark is used
+abbrev pub AreIdle : Rule → List Bool → List Cell → Type 0
+AreIdle d [] cells = Unit {0}
+AreIdle d (u ∷ used) [] = Unit {0}
+AreIdle d (true ∷ used) (c ∷ cells) = AreIdle d used cells
+AreIdle d (false ∷ used) (c ∷ cells) = IsIdle d c × AreIdle d used cells
+
+-- for each table a mark for each column: whether it is used
+abbrev pub Marks : Type 0
+Marks = List (List Bool)
+
+-- the marks of a table
+abbrev pub marks_at : Marks → ℕ → List Bool
+marks_at used table = slice_index_or used table []
+
+-- the rule uses no other columns than these
+abbrev pub UsesOnly : Marks → Rule → Type 0
+UsesOnly used d = Each d.premise (λ a. AreIdle d (marks_at used a.table) a.cells)
+
+-- a value that does not count: of a constant nothing is left but that it is one
+abbrev pub blank : Value → Value
+blank (Const t) = Const []
+blank (Null n) = Null n
+
+-- a row, blank in the columns that are not used
+abbrev pub blanked : List Bool → List Value → List Value
+blanked [] row = row
+blanked (u ∷ used) [] = []
+blanked (true ∷ used) (v ∷ row) = v ∷ blanked used row
+blanked (false ∷ used) (v ∷ row) = blank v ∷ blanked used row
+
+-- a fact, blank in the columns of its table that are not used
+abbrev pub fact_blanked : Marks → Fact → Fact
+fact_blanked used f = record { table = f.table; row = blanked (marks_at used f.table) f.row }
+
+-- two instances agree on the used columns: with the other columns blank they have the same facts
+abbrev pub Agree : Marks → List Fact → List Fact → Type 0
+Agree used I J = map (fact_blanked used) I ≈ map (fact_blanked used) J

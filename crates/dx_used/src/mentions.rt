@@ -1,0 +1,1 @@
+// How often a rule mentions its variables.
