@@ -1,5 +1,5 @@
 -- The first sixteen bytes of a text as two numbers of eight bytes.
-use Rattle.std.proofs.Common.{◌≡◌, ◌∙◌, ◌+◌, ◌*◌, ◌-◌, ◌<◌, ◌^◌, ◌∷◌, ℕ, zero, suc, List, [], refl, sym, ap, arith, drop, inl, inr}
+use Rattle.std.proofs.Common.{◌≡◌, ◌∙◌, ◌+◌, ◌*◌, ◌-◌, ◌^◌, ◌∷◌, ℕ, zero, suc, List, [], refl, ap, arith, drop, inl, inr}
 use Rattle.std.specs.Prelude.{slice_index}
 use Rattle.std.proofs.lemmas.Bool.{cases_lt}
 use Rattle.std.proofs.lemmas.List.{get_or-drop}

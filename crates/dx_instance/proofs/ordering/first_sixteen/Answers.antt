@@ -1,5 +1,5 @@
-use Rattle.std.proofs.Common.{◌∙◌, ◌≡◌, ◌+◌, ◌*◌, ◌^◌, ap, sym, subst, drop, List, ℕ}
-use Rattle.dx_instance.specs.Keys.{AreSmall, packed}
+use Rattle.std.proofs.Common.{◌∙◌, ◌≡◌, ap, sym, drop, List, ℕ}
+use Rattle.dx_instance.specs.Keys.{packed}
 use Rattle.dx_instance.proofs.HalfFacts.{halves, small_halves}
 use Rattle.dx_instance.proofs.ordering.first_sixteen.Goals as goal
 
