@@ -2,6 +2,7 @@
 use Rattle.std.proofs.Common.{◌≡◌, ◌∙◌, ◌<◌, ◌≤◌, ◌-◌, ℕ, Bool, true, List, [], inl, inr, refl, sym, ap, subst, arith, length, get_or}
 use Rattle.std.specs.Prelude.{Some}
 use Rattle.std.specs.FinMap as finite
+use Rattle.std.proofs.lemmas.List.{get_or_default}
 use Rattle.dx_ports.specs.Members.{◌∈◌, ◌⊆◌, Each}
 use Rattle.dx_ports.proofs.Members.{from_flat_map, from_map, in_map}
 use Rattle.dx_model.specs.declared.values.NullId.{NullId}
@@ -16,7 +17,6 @@ use Rattle.dx_model.proofs.Reduction.{and_then, fact_stays, fact_twice}
 use Rattle.dx_instance.specs.NullMaps.{ByNull, becomes, pairs_of}
 use Rattle.dx_instance.specs.Stored.{TableRows, facts}
 use Rattle.dx_instance.proofs.AfterFacts.{pairs_give}
-use Rattle.dx_instance.proofs.StoredFacts.{other_default}
 use Rattle.dx_hom.specs.declared.matching.Found.{Found}
 use Rattle.dx_hom.specs.Homs.{found_pairs}
 use Rattle.dx_hom.specs.Narrowing.{Gives, value_of}
@@ -102,4 +102,4 @@ module _ (I : List TableRows) (gone : List (List Bool)) (room : Room) (b : Block
 
 -- the fact before a place
 pub placed : (F : List Fact) (i : ℕ) (f : Fact) → 0 < i → i ≤ length F → f ≡ get_or F (i - 1) f → fact_in F (i - 1) ≡ f
-placed F i f h k e = other_default F (i - 1) (record { table = 0; row = [] }) f (omega (arith, h, k)) ∙ sym e
+placed F i f h k e = get_or_default F (i - 1) (record { table = 0; row = [] }) f (omega (arith, h, k)) ∙ sym e

@@ -1,12 +1,12 @@
 -- What a search tells of a block.
-use Rattle.std.proofs.Common.{◌≡◌, ◌∙◌, suc, ◌≤◌, Bool, true, false, List, [], ◌∷◌, refl, sym, ap, arith}
+use Rattle.std.proofs.Common.{◌≡◌, ◌∙◌, Bool, true, false, List, [], ◌∷◌, sym, ap, arith}
 use Rattle.std.proofs.Common.{length}
 use Rattle.std.specs.Prelude.{◌↔◌, IsTrue, Option, Some, None}
 use Rattle.std.specs.Bool.{OnTrue}
 use Rattle.std.specs.FinMap as finite
 use Rattle.std.proofs.lemmas.Bool.{true≢false}
-use Rattle.dx_ports.specs.Members.{◌∈◌, ◌⊆◌, ◌≈◌, Distinct, Each, here, there}
-use Rattle.dx_ports.proofs.Members.{from_flat_map, in_flat_map}
+use Rattle.dx_ports.specs.Members.{◌∈◌, ◌⊆◌, ◌≈◌, Each, here, there}
+use Rattle.dx_ports.proofs.Members.{from_flat_map, in_flat_map, no_longer}
 use Rattle.dx_model.specs.declared.values.NullId.{NullId}
 use Rattle.dx_model.specs.declared.values.Value.{Value}
 use Rattle.dx_model.specs.declared.values.Value.TheVariants.{Null}
@@ -33,25 +33,6 @@ abbrev without : {X : Type 0} {x : X} (xs : List X) → x ∈ xs → List X
 without [] m = elim m [ ]
 without (y ∷ ys) (here e) = ys
 without (y ∷ ys) (there m) = y ∷ without ys m
-
-one_less : {X : Type 0} {x : X} (xs : List X) (m : x ∈ xs) → length xs ≡ suc (length (without xs m))
-one_less [] m = elim m [ ]
-one_less (y ∷ ys) (here e) = refl
-one_less (y ∷ ys) (there m) = ap suc (one_less ys m)
-
-others_stay : {X : Type 0} {x z : X} (xs : List X) (m : x ∈ xs) → z ∈ xs → ¬ (x ≡ z) → z ∈ without xs m
-others_stay [] m k n = elim k [ ]
-others_stay (y ∷ ys) (here e) (here d) n = absurd (n (sym e ∙ d))
-others_stay (y ∷ ys) (here e) (there k) n = k
-others_stay (y ∷ ys) (there m) (here d) n = here d
-others_stay (y ∷ ys) (there m) (there k) n = there (others_stay ys m k n)
-
-pub no_more : {X : Type 0} (ds xs : List X) → Distinct ds → ds ⊆ xs → length ds ≤ length xs
-no_more [] xs d s = omega arith
-no_more (x ∷ ds) xs d s =
-    let m = s x (here refl) in
-    let r = no_more ds (without xs m) d.1 (λ z k. others_stay xs m (s z (there k)) (λ e. d.0 (rw e k))) in
-    omega (arith, r, one_less xs m)
 
 -- ---- blocks
 
@@ -85,7 +66,7 @@ module _ (I : List TableRows) (room : Room) (b : Block) (t : IsTried I room b) w
 
   pub block_room : AtMost (nulls_in (values b.facts)) room.nulls
   block_room ds d s =
-      let l = no_more ds b.nulls d (λ k m. null_listed k (s k m)) in
+      let l = no_longer ds b.nulls d (λ k m. null_listed k (s k m)) in
       omega (arith, l, t.has_room.nulls)
 
 pub part_room : (I : List TableRows) (room : Room) (b : Block) (F : List Fact) → IsTried I room b → F ⊆ b.facts

@@ -7,6 +7,7 @@ use Rattle.std.specs.declared.cmp.Ordering.TheVariants.{Less, Equal, Greater}
 use Rattle.std.proofs.lemmas.Bool.{false≢true, or_left, or_right}
 use Rattle.dx_ports.specs.Members.{◌∈◌, ◌⊆◌, here, there, Each}
 use Rattle.dx_ports.proofs.Members.{in_at, from_map, from_flat_map}
+use Rattle.dx_ports.proofs.Tests.{from_filter}
 use Rattle.dx_model.specs.Tables.{Table, table_of, AreWithin}
 use Rattle.dx_logical.specs.declared.relation.Occurrence.{Occurrence}
 use Rattle.dx_lines.specs.declared.line.Place.{Place}
@@ -18,7 +19,6 @@ use Rattle.dx_lines.specs.declared.term.Term.TheVariants.{Var, Call}
 use Rattle.dx_lines.specs.declared.candidate.Pick.{Pick}
 use Rattle.dx_lines.specs.Limits.{IsColumn, LineFits}
 use Rattle.dx_lines.specs.Ways.{is_of, variable_in, named, with_table, choices, variable_at, term_by, terms_of, pick, ways_at, line_ways, pick_cmp, put_by, put_in, ascending, ways}
-use Rattle.dx_rules.proofs.Once.{from_filter}
 use Rattle.dx_rules.proofs.Terms.{tells_numbers}
 use Rattle.dx_rules.proofs.ClosedRules.{OccurrenceFits}
 

@@ -1,16 +1,18 @@
 -- What holds of each schema.
-use Rattle.std.proofs.Common.{◌≡◌, ℕ, zero, suc, ◌+◌, ◌<◌, ◌≤◌, List, length, map, get_or, refl, subst, arith, take}
+use Rattle.std.proofs.Common.{◌≡◌, ℕ, zero, suc, ◌+◌, ◌<◌, ◌≤◌, List, length, map, get_or, refl, subst, arith, take, [], ◌∙◌, ap}
 use Rattle.std.specs.Prelude.{IsTrue, ◌↔◌, true, false}
 use Rattle.std.proofs.lemmas.Bool.{false≢true}
-use Rattle.std.proofs.lemmas.List.{take_all, get_or_default}
+use Rattle.std.proofs.lemmas.List.{take_all, get_or_default, length-map, get_or-map}
 use Rattle.std.specs.List.{range_with_len}
 use Rattle.dx_ports.specs.Members.{◌∈◌, here, there, Each}
 use Rattle.dx_ports.proofs.Members.{from_map, in_map, in_at}
 use Rattle.dx_model.specs.declared.tables.Key.{Key}
-use Rattle.dx_model.specs.Tables.{AreWithin, Determination, key_of, DeterminationsFit}
+use Rattle.dx_model.specs.Tables.{AreWithin, Determination, key_of, DeterminationsFit, Table}
 use Rattle.dx_model.specs.Tables.{Table as Numbers}
+use Rattle.dx_model.specs.declared.rules.Atom.{Atom}
+use Rattle.dx_model.specs.Solutions.{AtomFits}
 use Rattle.dx_schema.specs.Forest.{Forest}
-use Rattle.dx_schema.specs.Tables.{Text, TableOf, tables_of, table_at, as_numbers, AreTables, IsTable}
+use Rattle.dx_schema.specs.Tables.{Text, TableOf, tables_of, table_at, as_numbers, AreTables, IsTable, model_tables}
 use Rattle.dx_schema.specs.Links.{IsFaultless}
 use Rattle.dx_schema.proofs.Valid.{are_tables}
 
@@ -78,3 +80,10 @@ tables_fine f g h e = subst (λ x. AreTables (tables_of x)) e (are_tables f h.fo
 
 pub tables_held : (tables : List TableOf) (f : Forest) → tables ≡ tables_of f → IsFaultless f → AreTables tables
 tables_held tables f e h = rw e (are_tables f h.form)
+
+-- an atom that fits is of a table of the schema, with its width
+pub atom_table : (f : Forest) (a : Atom) → AtomFits (model_tables f) a → a.table < length (tables_of f)
+atom_table f a w = rw (length-map (tables_of f) as_numbers) at w.table
+
+pub atom_width : (f : Forest) (a : Atom) → AtomFits (model_tables f) a → length a.cells ≡ length (table_at f a.table).columns
+atom_width f a w = w.width ∙ ap (λ (z : Table). z.width) (get_or-map as_numbers (tables_of f) a.table no_table (record { width = 0; determinations = []; links = []; optional = [] }) (atom_table f a w))
