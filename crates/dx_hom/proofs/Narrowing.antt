@@ -6,15 +6,15 @@ use Rattle.std.proofs.lemmas.Bool.{false≢true}
 use Rattle.std.proofs.lemmas.List.{take_more, map-append, take_all, take-map, length-append, length-map, append-nil, take-append-drop, same_from_push}
 use Rattle.dx_model.specs.declared.values.NullId.{NullId}
 use Rattle.dx_model.specs.declared.values.Value.{Value}
-use Rattle.dx_model.specs.declared.values.Value.TheVariants.{Const, Null}
 use Rattle.dx_instance.specs.NullMaps.{ByNull}
 use Rattle.dx_ports.specs.Members.{◌∈◌, here, there, ◌⊆◌}
-use Rattle.dx_model.specs.Instances.{moved}
+use Rattle.dx_model.specs.Instances.{moved, nulls_in}
 use Rattle.dx_ports.proofs.Members.{in_left, in_map, in_right, from_append, distinct_more}
 use Rattle.dx_hom.specs.declared.matching.Found.{Found}
 use Rattle.dx_instance.specs.Stored.{TableRows}
-use Rattle.dx_hom.specs.Narrowing.{names, value_of, GivesCell, IsCell, AtMost, Allows, IsGood, Begins, nulls_in, Narrows, Fails}
+use Rattle.dx_hom.specs.Narrowing.{names, value_of, GivesCell, IsCell, AtMost, Allows, IsGood, Begins, Narrows, Fails}
 use Rattle.dx_ports.specs.Members.{Distinct}
+use Rattle.dx_model.proofs.Reduction.{nulls_append}
 
 pub narrower : {X : Type 0} (xs ys : List X) (n : ℕ) → ys ⊆ xs → AtMost xs n → AtMost ys n
 narrower xs ys n s a ds d i = a ds d (λ x m. s x (i x m))
@@ -111,11 +111,6 @@ module _ (T : List TableRows) (fixed : ByNull) (found : List Found) (v w : Value
     begins = ([], sym (append-nil found));
     none = λ g a d. k (sym (stays g) ∙ d);
   }
-
-pub nulls_append : (vs ws : List Value) → nulls_in (vs ++ ws) ≡ nulls_in vs ++ nulls_in ws
-nulls_append [] ws = refl
-nulls_append (Const t ∷ vs) ws = nulls_append vs ws
-nulls_append (Null n ∷ vs) ws = ap (λ ns. n ∷ ns) (nulls_append vs ws)
 
 pub begins_on : (a b c : List Found) → Begins a b → Begins b c → Begins a c
 begins_on a b c x y = (x.0 ++ y.0, y.1 ∙ (ap (λ l. l ++ y.0) x.1 ∙ append_assoc a x.0 y.0))
@@ -214,19 +209,3 @@ pub answer_const : (T : List TableRows) (fixed : ByNull) (found : List Found) (v
     → MatchBool r (Narrows T fixed found (nulls_in (v ∷ [])) (λ g. moved g v ≡ w) found) (Fails T fixed found (λ g. moved g v ≡ w) found)
 answer_const T fixed found v w stays none good true h = const_met T fixed found v w stays none good (h.0 refl)
 answer_const T fixed found v w stays none good false h = const_failed T fixed found v w stays none (λ q. absurd (false≢true (h.1 q)))
-
-pub in_nulls : (n : NullId) (vs : List Value) → Null n ∈ vs → n ∈ nulls_in vs
-in_nulls n [] m = elim m [ ]
-in_nulls n (Const t ∷ vs) (here e) = absurd (apart t n e)
-  where
-    apart : (t : _) (n : NullId) → Const t ≡ Null n → ⊥
-    apart t n e = cc
-in_nulls n (Const t ∷ vs) (there m) = in_nulls n vs m
-in_nulls n (Null k ∷ vs) (here e) = let d : k ≡ n = cc in here d
-in_nulls n (Null k ∷ vs) (there m) = there (in_nulls n vs m)
-
-pub from_nulls : (n : NullId) (vs : List Value) → n ∈ nulls_in vs → Null n ∈ vs
-from_nulls n [] m = elim m [ ]
-from_nulls n (Const t ∷ vs) m = there (from_nulls n vs m)
-from_nulls n (Null k ∷ vs) (here e) = here (ap Null e)
-from_nulls n (Null k ∷ vs) (there m) = there (from_nulls n vs m)

@@ -12,18 +12,18 @@ use Rattle.dx_model.specs.declared.values.Value.{Value}
 use Rattle.dx_model.specs.declared.values.Value.TheVariants.{Null}
 use Rattle.dx_model.specs.declared.facts.Fact.{Fact}
 use Rattle.dx_model.specs.declared.facts.NullPair.{NullPair}
-use Rattle.dx_model.specs.Instances.{IsNullMap, fact_moved, given, image, same_null, values}
+use Rattle.dx_model.specs.Instances.{IsNullMap, fact_moved, given, image, same_null, values, nulls_in}
 use Rattle.dx_model.proofs.Maps.{is_null_map, listing, listing_gives, same_null-refl, same_null-true}
+use Rattle.dx_model.proofs.Reduction.{in_nulls, from_nulls}
 use Rattle.dx_instance.specs.NullMaps.{ByNull}
 use Rattle.dx_instance.specs.Stored.{TableRows, facts, rows_of}
 use Rattle.dx_instance.specs.Places.{row_at}
 use Rattle.dx_instance.proofs.StoredFacts.{fact_from_row, row_from_fact}
 use Rattle.dx_hom.specs.declared.matching.Found.{Found}
 use Rattle.dx_hom.specs.View.{fact_at}
-use Rattle.dx_hom.specs.Narrowing.{Gives, IsGood, names, nulls_in, value_of}
+use Rattle.dx_hom.specs.Narrowing.{Gives, IsGood, names, value_of}
 use Rattle.dx_hom.specs.Searching.{Ends, MovesOpen, NoMore, Reaches, Stands}
 use Rattle.dx_hom.specs.Homs.{IsAnswer, IsSought, IsThere, found_pairs}
-use Rattle.dx_hom.proofs.Narrowing.{from_nulls, in_nulls}
 
 -- the value of the null's cell
 abbrev pub read : List TableRows → List Found → NullId → Value

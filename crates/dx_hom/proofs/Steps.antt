@@ -10,18 +10,19 @@ use Rattle.std.proofs.Math.Nat.{mul-le-mul_right, add-mul}
 use Rattle.dx_model.specs.declared.values.NullId.{NullId}
 use Rattle.dx_model.specs.declared.values.Value.{Value}
 use Rattle.dx_model.specs.declared.facts.Fact.{Fact}
-use Rattle.dx_model.specs.Instances.{moved, fact_moved, values}
+use Rattle.dx_model.specs.Instances.{moved, fact_moved, values, nulls_in}
 use Rattle.dx_instance.specs.NullMaps.{ByNull}
 use Rattle.dx_instance.specs.Places.{row_at}
 use Rattle.dx_instance.specs.Stored.{TableRows, rows_of}
 use Rattle.dx_ports.specs.Members.{◌∈◌, ◌⊆◌, ◌≈◌, here, there}
 use Rattle.dx_ports.proofs.Members.{in_left, in_right, from_append, in_flat_map, from_flat_map}
+use Rattle.dx_model.proofs.Reduction.{in_nulls, from_nulls, nulls_append}
 use Rattle.dx_hom.specs.declared.matching.Found.{Found}
 use Rattle.dx_hom.specs.declared.searching.Step.{Step}
 use Rattle.dx_hom.specs.View.{fact_at}
-use Rattle.dx_hom.specs.Narrowing.{names, nulls_in, AtMost, Begins, Gives, GivesRow, Narrows, Fails}
+use Rattle.dx_hom.specs.Narrowing.{names, AtMost, Begins, Gives, GivesRow, Narrows, Fails}
 use Rattle.dx_hom.specs.Searching.{IsOpen, Stands, Skips, NotFrom, MovesOpen, MovesTo, Ends, NoMore}
-use Rattle.dx_hom.proofs.Narrowing.{narrower, nulls_append, in_nulls, from_nulls}
+use Rattle.dx_hom.proofs.Narrowing.{narrower}
 
 -- a list that begins with another, cut where it began
 pub cut : (old new : List Found) (n : ℕ) → n ≡ length old → Begins old new → take n new ≡ old

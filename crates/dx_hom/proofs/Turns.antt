@@ -4,11 +4,12 @@ use Rattle.std.specs.Prelude.{Bool, Option}
 use Rattle.std.proofs.lemmas.List.{length-append, nil_from_length}
 use Rattle.dx_ports.specs.Members.{◌∈◌}
 use Rattle.dx_model.specs.declared.facts.Fact.{Fact}
+use Rattle.dx_model.specs.Instances.{nulls_in}
 use Rattle.dx_instance.specs.NullMaps.{ByNull}
 use Rattle.dx_instance.specs.Stored.{TableRows, rows_of}
 use Rattle.dx_hom.specs.declared.matching.Found.{Found}
 use Rattle.dx_hom.specs.declared.searching.Step.{Step}
-use Rattle.dx_hom.specs.Narrowing.{Narrows, nulls_in}
+use Rattle.dx_hom.specs.Narrowing.{Narrows}
 use Rattle.dx_hom.specs.Orders.{IsOrder, IsReordered, fact_in}
 use Rattle.dx_hom.specs.Searching.{Ends, IsOpen, MovesTo, NoMore, Skips}
 use Rattle.dx_hom.proofs.OrderFacts.{all_moved, moved_in, moved_more, moved_stays}
