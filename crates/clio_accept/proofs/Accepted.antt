@@ -278,9 +278,11 @@ accepted_fits list c text M small (m, says, p) =
       listed = λ d i. (good d i).listed;
     })
 
+-- nothing is outside
 nowhere : World
 nowhere = λ name. None
 
+-- a mapping that is accepted fits
 pub fits_of : (list : List Conversion) (text : List ℕ) (r : Result Mapping AcceptFault) → length text < 2 ^ 32 - 1 → Answers Memory (accepting list) text r → IfOk r (MappingFits list)
 fits_of list text (Ok m) small a = accepted_fits list nowhere text m small (a nowhere)
 fits_of list text (Err e) small a = tt

@@ -355,6 +355,7 @@ pub row_below : (N : Numbered) (S : List Value) (ts : List NumberTable) (n p : �
 row_below N S ts n p t row v f e r =
     subst (λ (M : Numbered). n < length M.tables → p < length (numbers_of_table M.tables n).rows → AreBelow (length M.symbols) row) v (lent_below S ts n p t row f e r)
 
+-- tables whose rows fit the symbols show the same with more symbols
 pub grown_fitting : (S T : List Value) (ts : List NumberTable) → Extends S T → Each ts (RowsFit (length S)) → shown_tables T ts ≡ shown_tables S ts
 grown_fitting S T [] e h = refl
 grown_fitting S T (t ∷ ts) e h =
@@ -362,5 +363,6 @@ grown_fitting S T (t ∷ ts) e h =
     let rest = grown_fitting S T ts e (λ y m. h y (there m)) in
     cc (first, rest)
 
+-- a table that is read is the one that stands there
 pub table_read : (tables : List NumberTable) (r : ℕ) (t : NumberTable) → r < length tables → t ≡ get_or tables r t → t ≡ numbers_of_table tables r
 table_read tables r t h e = e ∙ get_or_default tables r t (record { width = 0; rows = [] }) h

@@ -6,7 +6,7 @@ use Rattle.std.specs.declared.alloc.AllocError.{AllocError}
 use Rattle.dx_model.specs.declared.values.Value.{Value}
 use Rattle.dx_model.specs.declared.facts.Fact.{Fact}
 use Rattle.dx_ports.specs.Members.{◌∈◌, here, there, Each, ◌≈◌}
-use Rattle.dx_ports.proofs.Members.{in_map, from_map, in_left, in_right, from_append, in_at, distinct_more}
+use Rattle.dx_ports.proofs.Members.{in_map, from_map, in_left, in_right, from_append, in_at, distinct_more, same_sym}
 use Rattle.dx_instance.specs.Stored.{TableRows, table_at, rows_of, widths, facts_from, facts, without_rows, AddsRow, FitsTable, FitsInstance, with_row, IsSorting}
 
 abbrev no_table : TableRows
@@ -179,18 +179,17 @@ same_tables (x ∷ xs) (y ∷ ys) w r =
     tail_of : (a b : ℕ) (xs ys : List ℕ) → (a ∷ xs) ≡ (b ∷ ys) → xs ≡ ys
     tail_of a b xs ys e = cc
 
+-- an instance and its sorting have the same facts
 pub sorted_facts : (I K : List TableRows) → IsSorting I K → facts I ≈ facts K
 sorted_facts I K s = (
   (λ f m. fact_from_row K f.table f.row (s.kept f.table f.row (row_from_fact I f m))),
   (λ f m. fact_from_row I f.table f.row (s.only f.table f.row (row_from_fact K f m))),
 )
 
+-- the widths of tables without rows
 pub widths_without : (ws : List ℕ) → widths (without_rows ws) ≡ ws
 widths_without [] = refl
 widths_without (w ∷ ws) = ap (λ (vs : List ℕ). w ∷ vs) (widths_without ws)
 
 pub sorting_facts : (J K : List TableRows) → IsSorting J K → facts K ≈ facts J
-sorting_facts J K s = (
-  (λ f m. fact_from_row J f.table f.row (s.only f.table f.row (row_from_fact K f m))),
-  (λ f m. fact_from_row K f.table f.row (s.kept f.table f.row (row_from_fact J f m))),
-)
+sorting_facts J K s = same_sym (sorted_facts J K s)
