@@ -1,6 +1,7 @@
 -- Files of records: what nulls stand for, and what becomes of them.
-use Rattle.std.specs.Prelude.{◌↔◌, ℕ, List, [], ◌∷◌, length, map, codes, slice_index_or}
+use Rattle.std.specs.Prelude.{◌↔◌, ℕ, List, [], ◌∷◌, ◌++◌, length, map, codes, slice_index_or}
 use Rattle.std.specs.List.{flat_map}
+use Rattle.std.specs.Fmt.{decimal}
 use Rattle.dx_ports.specs.Members.{◌∈◌}
 use Rattle.dx_model.specs.declared.values.NullId.{NullId}
 use Rattle.dx_model.specs.declared.values.Value.TheVariants.{Null}
@@ -12,7 +13,6 @@ use Rattle.dx_model.specs.Instances.{values}
 use Rattle.dx_model.specs.Rules.{exported}
 use Rattle.dx_instance.specs.ValueText.{const_text, null_text, value_text_of}
 use Rattle.dx_csv.specs.Print.{lines_text}
-use Rattle.dx_rule_text.specs.Printed.{variable_text}
 
 -- a file as it is told of: its name, its bytes and its count
 pub record Told : Type 0 where
@@ -29,6 +29,10 @@ pub record Sheet : Type 0 where
 -- the file: each record as csv writes it, the header first; the records are counted
 abbrev pub file_of : Sheet → Told
 file_of s = record { name = s.name; bytes = lines_text (s.header ∷ s.records); count = length s.records }
+
+-- the name of a variable: `x` and its number
+abbrev pub variable_text : ℕ → Text
+variable_text x = codes "x" ++ decimal x
 
 -- the names of the exported variables of a rule
 abbrev pub exported_names : Rule → List Text

@@ -4,12 +4,11 @@ ghost use Rattle.std.specs.Fmt.{decimal};
 ghost use Rattle.dx_ports.specs.Members.{Each};
 ghost use Rattle.dx_instance.specs.NullMaps.{pairs_of};
 ghost use Rattle.dx_instance.specs.ValueText.{const_text, null_text, value_text_of};
-ghost use Rattle.dx_rule_text.specs.Printed.{variable_text};
 ghost use Rattle.dx_tgd.specs.Counting.{rows_in};
 ghost use Rattle.dx_tgd.specs.Placed.{HasPlace};
 ghost use Rattle.clio_files.specs.Files.{seen};
 ghost use Rattle.clio_files.specs.Printing.{AreRecords};
-ghost use Rattle.clio_files.specs.Sheets.{Sheet, exported_names, file_of, fold_sheet, nulls_sheet, term_records, texts_of};
+ghost use Rattle.clio_files.specs.Sheets.{Sheet, exported_names, file_of, fold_sheet, nulls_sheet, term_records, texts_of, variable_text};
 
 use crate::printed::Printed;
 use crate::records::Records;

@@ -1,7 +1,7 @@
 -- Values in order, and the rows of their numbers.
-use Rattle.std.proofs.Common.{◌≡◌, ◌∙◌, ℕ, ◌+◌, ◌-◌, ◌<◌, ◌≤◌, ◌^◌, List, [], ◌∷◌, ◌++◌, inl, inr, refl, sym, ap, subst, length, take, map, arith}
+use Rattle.std.proofs.Common.{◌≡◌, ◌∙◌, ℕ, ◌+◌, ◌-◌, ◌<◌, ◌≤◌, ◌^◌, List, [], ◌∷◌, ◌++◌, inl, inr, refl, sym, ap, subst, length, get_or, take, map, arith}
 use Rattle.std.specs.List.{range_with_len}
-use Rattle.std.specs.declared.cmp.Ordering.TheVariants.{Less, Greater}
+use Rattle.std.specs.declared.cmp.Ordering.TheVariants.{Less, Equal, Greater}
 use Rattle.std.proofs.lemmas.Bool.{cases_eq}
 use Rattle.std.proofs.lemmas.List.{get_or_default, length-map, take_all, take_more}
 use Rattle.std.proofs.lemmas.List.FromFn.{length-range_with_len}
@@ -13,11 +13,11 @@ use Rattle.dx_model.specs.declared.values.Value.TheVariants.{Const, Null}
 use Rattle.dx_model.specs.Tables.{cell}
 use Rattle.dx_model.specs.Values.{Text, value_cmp}
 use Rattle.dx_instance.specs.Cells.{NumberTable, numbers_at, with_numbers}
-use Rattle.dx_instance.specs.Numbers.{IsOrdering, ValuesAscend, value_of}
+use Rattle.dx_instance.specs.Numbers.{AreApart, IsOrdering, ValuesAscend, value_of}
 use Rattle.dx_instance.specs.Shown.{NumbersFit, PartsFit, RowsFit, renumbered, shown, shown_row, shown_tables}
 use Rattle.dx_instance.specs.Stored.{TableRows}
+use Rattle.dx_instance.proofs.NumberFacts.{self_equal}
 use Rattle.dx_instance.proofs.SortFacts.{images_fit, parts_rows, ranks_show}
-use Rattle.dx_instance.proofs.RankFacts.{ascend_apart}
 use Rattle.dx_chase.specs.Joins.{at}
 use Rattle.dx_chase.proofs.Opening.{at_first}
 use Rattle.dx_keys.specs.Numbers.{AreValues}
@@ -80,6 +80,13 @@ rows_more t r new p row h e q n =
 pub rows_all : (t r : NumberTable) (p : ℕ) → length t.rows ≤ p → r ≡ first_rows t p → r ≡ t
 rows_all t r p h e = e ∙ with_rows t _ _ (take_all p t.rows h)
 
+-- numbers in order are apart
+pub apart : (S : List Value) → ValuesAscend S → AreApart S
+apart S up i j d h k e = differ (sym (self_equal (get_or S i d)) ∙ (ap (value_cmp (get_or S i d)) e ∙ up i j d h k))
+  where
+    differ : Equal ≡ Less → ⊥
+    differ q = cc
+
 distinct_of : (S : List Value) (rows : List (List ℕ)) → Distinct (map (shown_row S) rows) → Distinct rows
 distinct_of S [] d = tt
 distinct_of S (r ∷ rows) d = ((λ m. d.0 (in_map (shown_row S) m)), distinct_of S rows d.1)
@@ -98,7 +105,7 @@ fits_of S t f w d l = record {
 pub parts_of : (S : List Value) (ts : List NumberTable) (I : List TableRows) → ValuesAscend S → length S < 2 ^ 32 → Each ts (RowsFit (length S)) → shown_tables S ts ≡ I → length ts < 2 ^ 32 - 1
     → Each I (λ (t : TableRows). Each t.rows (λ (r : List Value). length r ≡ t.width)) → Each I (λ (t : TableRows). Distinct t.rows) → Each I (λ (t : TableRows). length t.rows < 2 ^ 32) → PartsFit S ts
 parts_of S ts I up small f e few w d l = record {
-  apart = ascend_apart S up;
+  apart = apart S up;
   small = small;
   each = λ t m.
       let k : shown S t ∈ I = subst (λ (J : List TableRows). shown S t ∈ J) e (in_map (shown S) m) in

@@ -1,5 +1,5 @@
 use Rattle.std.proofs.Common.{◌≡◌, take, map}
-use Rattle.dx_rule_text.specs.Printed.{variable_text}
+use Rattle.clio_files.specs.Sheets.{variable_text}
 use Rattle.clio_files.proofs.sheets.variable_names.Given as goal
 
 abbrev pub invariant-loop-variable : goal.invariant-loop-variable
