@@ -1,4 +1,4 @@
--- Numbers of variables in cells.
+-- The variables of cells: the number after them, and how many there are.
 use Rattle.std.proofs.Common.{◌≡◌, ℕ, suc, arith, refl, List, [], ◌∷◌, ◌++◌, ap, ◌∙◌, ◌≤◌, eqb, inl, inr, length, ◌<◌, ◌+◌, drop, get_or, sym}
 use Rattle.std.specs.Prelude.{max, cond, nat_lt, flat_map}
 use Rattle.std.proofs.lemmas.Bool.Decides.{nat_tests}
@@ -10,6 +10,7 @@ use Rattle.dx_model.specs.declared.rules.Cell.TheVariants.{Var, Ex, Lit}
 use Rattle.dx_model.specs.Rules.{after_cell, after_cells, variables, with_number, cells_of, existential_in}
 use Rattle.dx_model.specs.declared.rules.Atom.{Atom}
 
+-- the number after variables is the greatest of those after each
 pub variable-after : (x n : ℕ) → cond (nat_lt x n) n (suc x) ≡ max n (suc x)
 variable-after x n = grind (arith, nat_tests, common_steps)
 
@@ -33,6 +34,7 @@ with_few x (y ∷ ys) = elim (cases_Bool (eqb x y)) [
   | inr f ↦ elim (cases_Bool (nat_lt x y)) [ inl t ↦ rw (f, t) (omega arith) | inr g ↦ rw (f, g) (let r = with_few x ys in omega (arith, r)) ]
 ]
 
+-- a row has no more variables than cells
 pub variables_few : (cs : List Cell) → length (variables cs) ≤ length cs
 variables_few [] = omega arith
 variables_few (Var x ∷ cs) = let r = variables_few cs in let s = with_few x (variables cs) in omega (arith, r, s)

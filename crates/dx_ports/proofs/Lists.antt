@@ -1,4 +1,4 @@
--- Lists from a place on, empty ones, and lists place by place.
+-- Lists from a place on, empty ones, and two lists place by place.
 use Rattle.std.proofs.Common.{◌≡◌, ℕ, suc, ◌+◌, ◌<◌, List, ◌∷◌, sym, ◌∙◌, ap, length, drop, get_or, add-one, drop-cons, zero, [], arith, ◌≤◌, Bool, false, true, refl, Option, Some, None, inl, inr, ◌++◌}
 use Rattle.std.specs.Prelude.{◌==◌, ◌⊎◌}
 use Rattle.std.proofs.lemmas.Bool.{false≢true, eqb-true}
@@ -9,7 +9,7 @@ use Rattle.dx_ports.specs.Members.{◌∈◌, here, there}
 pub cut_at : {X : Type 0} (xs : List X) (i : ℕ) (x : X) → i < length xs → x ≡ get_or xs i x → drop i xs ≡ x ∷ drop (i + 1) xs
 cut_at xs i x h e = rw (add-one i) (drop-cons xs i x h ∙ ap (λ z. z ∷ drop (suc i) xs) (sym e))
 
--- looking for a variable
+-- looking for a number from a place on: it is not at that place, or none are left
 pub skip_listed : (vars : List ℕ) (i x : ℕ) → i < length vars → ¬ (get_or vars i 0 ≡ x) → x ∈ drop i vars → x ∈ drop (i + 1) vars
 skip_listed [] i x h n m = absurd (omega arith)
 skip_listed (y ∷ ys) zero x h n m = behind m
@@ -27,6 +27,7 @@ nothing_left [] (suc i) x h m = elim m [ ]
 nothing_left (y ∷ ys) zero x h m = absurd (omega arith)
 nothing_left (y ∷ ys) (suc i) x h m = nothing_left ys i x (omega arith) m
 
+-- a test for the empty list
 pub not_empty : {X : Type 0} (xs : List X) (b : Bool) → b ≡ (length xs == 0) → b ≡ false → ¬ (xs ≡ [])
 not_empty [] b e h = λ k. false≢true (sym h ∙ e)
 not_empty (x ∷ xs) b e h = λ k. cc k
@@ -35,10 +36,12 @@ pub is_empty : {X : Type 0} (xs : List X) (b : Bool) → b ≡ (length xs == 0) 
 is_empty [] b e h = refl
 is_empty (x ∷ xs) b e h = let k = eqb-true (length (x ∷ xs)) 0 (sym e ∙ h) in absurd (omega (arith, k))
 
+-- an option has nothing or something
 pub none_or_some : {X : Type 0} (o : Option X) → (o ≡ None) ⊎ ((x : X) × (o ≡ Some x))
 none_or_some None = inl refl
 none_or_some (Some x) = inr (x, refl)
 
+-- two lists that agree place by place: one more of each, as many in both, and what follows
 pub zip_push : {X Y : Type 0} (R : X → Y → Type 0) (xs : List X) (ys : List Y) (x : X) (y : Y) → AllZip R xs ys → R x y → AllZip R (xs ++ x ∷ []) (ys ++ y ∷ [])
 zip_push R [] [] x y h r = (r, tt)
 zip_push R [] (w ∷ ys) x y h r = absurd h

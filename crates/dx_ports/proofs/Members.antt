@@ -96,16 +96,20 @@ same_each P s e = λ x m. e x (s.1 x m)
 pub item_in : {X : Type 0} (xs : List X) (i : ℕ) (x : X) → i < length xs → x ≡ get_or xs i x → x ∈ xs
 item_in xs i x h e = rw e (in_at xs i x h)
 
+-- in a list of one number
 pub only_one : (n c k : ℕ) → k ∈ (c ∷ []) → c < n → k < n
 only_one n c k (here e) h = rw (← e) h
 only_one n c k (there m) h = elim m [ ]
 
+-- what each item has, the item at a place has
 pub each_at : {X : Type 0} (P : X → Type 0) (xs : List X) (i : ℕ) (d : X) → i < length xs → Each xs P → P (get_or xs i d)
 each_at P xs i d h e = e (get_or xs i d) (in_at xs i d h)
 
+-- where the first items are all of them
 pub each_all : {X : Type 0} (P : X → Type 0) (xs : List X) (i : ℕ) → length xs ≤ i → Each (take i xs) P → Each xs P
 each_all P xs i h e x m = e x (rw (take_all i xs h) m)
 
+-- one item more in front
 pub each_cons : {X : Type 0} {P : X → Type 0} (x : X) (xs : List X) → P x → Each xs P → Each (x ∷ xs) P
 each_cons {X} {P} x xs p each y (here e) = subst P e p
 each_cons x xs p each y (there m) = each y m

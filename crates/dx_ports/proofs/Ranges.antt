@@ -1,4 +1,4 @@
--- Members of ranges of numbers.
+-- Ranges of numbers, and how numbers compare.
 use Rattle.std.proofs.Common.{ℕ, zero, suc, ◌+◌, ◌<◌, ◌≤◌, inl, inr, arith, ◌≡◌, ◌∙◌, ◌++◌, ◌∷◌, List, [], ap, rules}
 use Rattle.std.specs.List.{range_with_len}
 use Rattle.std.proofs.lemmas.Bool.{cases_lt}
@@ -18,12 +18,15 @@ to_range a (suc n) x h l = elim (cases_lt a x) [
   | inr g ↦ here (omega arith)
 ]
 
+-- one number more at the end
 pub range_more : (a n : ℕ) → range_with_len a (n + 1) ≡ range_with_len a n ++ (a + n) ∷ []
 range_more a zero = let z : a ≡ a + 0 = omega arith in ap (λ (k : ℕ). k ∷ []) z
 range_more a (suc n) =
     let e : suc n + 1 ≡ suc (n + 1) = omega arith in
     let s : a + 1 + n ≡ a + suc n = omega arith in
     ap (range_with_len a) e ∙ ap (λ (l : List ℕ). a ∷ l) (range_more (a + 1) n ∙ ap (λ (k : ℕ). range_with_len (a + 1) n ++ k ∷ []) s)
+
+-- ---- numbers as their order compares them
 
 pub nat_self : (x : ℕ) → nat_cmp x x ≡ Equal
 nat_self x = search rules
