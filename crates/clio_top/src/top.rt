@@ -22,7 +22,7 @@ use crate::demo::plan_demo;
 use crate::demo_inputs::DemoInputs;
 use crate::mapping::read_mapping;
 use crate::planning::{exchange_rows, plan_exchange, plan_shown};
-use crate::source::read_rows;
+use crate::source::read_used_rows;
 use clio_accept::Mapping;
 use clio_ending::{Done, Ending, Refusal, as_ending};
 use dx_exchange::{Exchange, Mode};
@@ -48,7 +48,7 @@ where
         (record { holds = I.holds inputs.new; faults = I.faults inputs.new; stopped = I.stopped inputs.new }) }
 {
     let mapping = read_mapping(alloc, inputs, host)?;
-    let rows = read_rows(alloc, inputs, &mapping.source)?;
+    let rows = read_used_rows(alloc, inputs, &mapping)?;
     let exchange = exchange_rows(alloc, &mapping, &rows, host, mode)?;
     Ok((mapping, exchange))
 }
