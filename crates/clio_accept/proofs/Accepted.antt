@@ -1,6 +1,6 @@
 -- What holds of an accepted mapping.
-use Rattle.std.proofs.Common.{◌≡◌, ◌≤◌, ℕ, ◌<◌, Bool, true, false, cond, eqb, List, [], ◌∷◌, length, Option, Some, None, refl, sym, ◌∙◌, subst, ap, arith, get_or, inl, inr}
-use Rattle.std.specs.Prelude.{map, flat_map}
+use Rattle.std.proofs.Common.{◌≡◌, ◌≤◌, ℕ, ◌<◌, List, [], length, None, refl, sym, ◌∙◌, subst, ap, arith, get_or, inl, inr, ◌-◌, ◌^◌, Result, Ok, Err}
+use Rattle.std.specs.Prelude.{map, flat_map, IfOk}
 use Rattle.std.proofs.lemmas.List.{length-map, get_or_default}
 use Rattle.dx_ports.specs.Members.{◌∈◌, here, there, Each}
 use Rattle.dx_ports.proofs.Members.{from_append, from_map, from_flat_map, contains_from_in}
@@ -8,8 +8,7 @@ use Rattle.dx_model.specs.declared.rules.Cell.{Cell}
 use Rattle.dx_model.specs.declared.rules.Cell.TheVariants as cells
 use Rattle.dx_model.specs.declared.rules.Derived.{Derived}
 use Rattle.dx_model.specs.declared.rules.Rule.{Rule}
-use Rattle.dx_model.specs.declared.rules.Atom.{Atom}
-use Rattle.dx_model.specs.Solutions.{AtomFits, IsClosed}
+use Rattle.dx_model.specs.Solutions.{IsClosed}
 use Rattle.dx_schema.specs.Forest.{Forest}
 use Rattle.dx_schema.specs.Tables.{as_numbers, model_tables, tables_of}
 use Rattle.dx_schema.specs.Links.{IsFaultless}
@@ -35,8 +34,8 @@ use Rattle.dx_lines.specs.declared.term.Term.{Term}
 use Rattle.dx_lines.specs.declared.term.Term.TheVariants.{Var, Call}
 use Rattle.dx_lines.specs.declared.candidate.Pick.{Pick}
 use Rattle.dx_lines.specs.Ways.{ways}
-use Rattle.dx_lines.specs.Rules.{atom_by, conversion_in, conversions, derived_by, once, picked, same_term, standing}
-use Rattle.dx_lines.proofs.Sources.{from_kept, in_whole}
+use Rattle.dx_lines.specs.Rules.{atom_by, conversions, derived_by}
+use Rattle.dx_lines.proofs.Sources.{from_kept}
 use Rattle.dx_ways.specs.Laws.{TermBy, seen_at}
 use Rattle.dx_ways.proofs.WaysAre.{ways_are}
 use Rattle.dx_rules.proofs.ClosedRules.{rules_are_closed}
@@ -46,25 +45,22 @@ use Rattle.dx_funcs.specs.Offers.{IsListed}
 use Rattle.dx_rule_text.specs.Printed.{AreAtomsOf}
 use Rattle.dx_stages.specs.Worlds.{World}
 use Rattle.dx_stages.specs.Stages.{Stage, next, checking}
+use Rattle.dx_stages.specs.Running.{Answers}
+use Rattle.dx_lines.proofs.Conversions.{from_conversions}
+use Rattle.dx_rule_text.proofs.Printing.{atoms_of}
 use Rattle.dx_implies.specs.Pruning.{IsLeft, PassesTest}
 use Rattle.dx_implies.proofs.Pruned.{left_implies}
 use Rattle.clio_accept.specs.Mapping.{SourceRefused, TargetRefused, NameRefused, LinesRefused, NamingRefused, WritingRefused}
 use Rattle.clio_accept.specs.Mapping.{LimitRefused, RulesRefused, FrozenRefused, frozen_cells}
 use Rattle.clio_accept.specs.Mapping.{NoneReserved, AreRulesOf, rules_of, limit_of, written_of}
-use Rattle.clio_accept.specs.Accepting.{between_of, limits, naming, writing, closing, leaving}
+use Rattle.clio_accept.specs.Accepting.{between_of, limits, naming, writing, closing, leaving, accepting}
 use Rattle.clio_accept.specs.Accepting.{frozen_count, pruning, said_rules, taking, target_names, target_sets}
 use Rattle.clio_accept.specs.Laws.{AcceptedFits, MappingFits}
 use Rattle.clio_accept.proofs.Few.{few_variables}
 use Rattle.clio_accept.proofs.Closed.{closed_fits, closed_is_closed, closed_of}
-
--- a term that is picked is one of the picks'
-pub from_picked : (picks : List Pick) (y : ℕ) (t : Term) → picked picks y ≡ Some t → (k : Pick) × (k ∈ picks) × (k.term ≡ t)
-from_picked [] y t e = cc
-from_picked (k ∷ ks) y t e = by_test (eqb k.variable y) e (λ r. from_picked ks y t r)
-  where
-    by_test : (b : Bool) → cond b (Some k.term) (picked ks y) ≡ Some t → (picked ks y ≡ Some t → (j : Pick) × (j ∈ ks) × (j.term ≡ t)) → (j : Pick) × (j ∈ (k ∷ ks)) × (j.term ≡ t)
-    by_test true e r = (k, here refl, cc)
-    by_test false e r = let j = r e in (j.0, there j.1, j.2)
+use Rattle.clio_accept.specs.declared.fault.AcceptFault.{AcceptFault}
+use Rattle.clio_accept.specs.declared.fault.AcceptFault.TheVariants.{Memory}
+use Rattle.clio_accept.specs.declared.mapping.Mapping.{Mapping}
 
 -- ---- tables of atoms
 
@@ -90,29 +86,11 @@ atoms_there f g os h a m =
 
 -- ---- derived variables
 
--- what stands once was there
-in_once : {X : Type 0} (same : X → X → Bool) (xs : List X) {x : X} → x ∈ once same xs → x ∈ xs
-in_once same [] m = elim m [ ]
-in_once same (y ∷ ys) (here e) = here e
-in_once same (y ∷ ys) (there m) = there (in_once same ys (in_whole _ (once same ys) m))
-
 -- a derived variable is that of a conversion
 derived_call : (t : Term) (x : Derived) → x ∈ derived_by t → (c : ℕ) × (xs : List ℕ) × (t ≡ Call c xs) × (c ≡ x.code) × (xs ≡ x.args)
 derived_call (Var y) x m = elim m [ ]
 derived_call (Call c xs) x (here e) = (c, xs, refl, ap (λ (d : Derived). d.code) e, ap (λ (d : Derived). d.args) e)
 derived_call (Call c xs) x (there m) = elim m [ ]
-
--- a conversion that is picked
-picked_conversion : (o : Option Term) (t : Term) → t ∈ conversion_in o → o ≡ Some t
-picked_conversion None t m = elim m [ ]
-picked_conversion (Some (Var x)) t m = elim m [ ]
-picked_conversion (Some (Call c xs)) t (here e) = ap Some e
-picked_conversion (Some (Call c xs)) t (there m) = elim m [ ]
-
-from_conversions : (picks : List Pick) (Q : List Occurrence) (t : Term) → t ∈ conversions picks Q → (k : Pick) × (k ∈ picks) × (k.term ≡ t)
-from_conversions picks Q t m =
-    let y = from_flat_map (λ y. conversion_in (picked picks y)) (standing Q) (in_once same_term (flat_map (λ y. conversion_in (picked picks y)) (standing Q)) m) in
-    from_picked picks y.0 t (picked_conversion (picked picks y.0) t y.2)
 
 -- the conversion of a way is listed, with as many arguments as it takes
 call_listed : (list : List Conversion) (f : ℕ → Occurrence) (o : Origin) (c : ℕ) (xs : List ℕ) → IsOfferedFrom list o → TermBy f o (Call c xs) → IsListed list c (length xs)
@@ -198,13 +176,6 @@ each_listed list m a d i =
 written_fits : (list : List Conversion) (m : MappingText) → IsRead list m → Each m.rules IsNarrow → Each (written_of list m.source m.target m.rules) (RuleFits (model_tables m.source) (model_tables m.target))
 written_fits list m a narrow = all_fit m.source m.target list m.rules (written_of list m.source m.target m.rules) narrow refl a.written a.whole
 
--- atoms that fit are of tables of the schema
-fit_there : (f : Forest) (atoms : List Atom) → Each atoms (AtomFits (model_tables f)) → AreAtomsOf f atoms
-fit_there f atoms h a m =
-    let t = (h a m).table in
-    let same = length-map (tables_of f) as_numbers in
-    omega (arith, t, same)
-
 record IsGood (list : List Conversion) (m : MappingText) (e : Rule) : Type 0 where
   fits : RuleFits (model_tables m.source) (model_tables m.target) e
   closed : IsClosed (model_tables m.target) e
@@ -220,8 +191,8 @@ closed_good list m R a narrow r e i =
     record {
       fits = fits;
       closed = closed_is_closed m.target d.0 e a.target fit.conclusion d.2;
-      premise = fit_there m.source e.premise fits.premise;
-      conclusion = fit_there m.target e.conclusion fits.conclusion;
+      premise = atoms_of m.source e.premise fits.premise;
+      conclusion = atoms_of m.target e.conclusion fits.conclusion;
       listed = rw d.2.closing.derived (all_offered m.source m.target list m.rules (written_of list m.source m.target m.rules) refl a.written d.0 d.1);
     }
 
@@ -247,7 +218,7 @@ all_rules_fit list m R a narrow r e i = (all_good list m R a narrow r e i).fits
 
 -- ---- what the stages have checked
 
-checked : {E A B : Type 0} (refused : A → E → Type 0) (fits : A → Type 0) (t : Stage E A B) (c : World) (a : A) (x : B) → (next (checking refused fits) t).passes c a x → fits a × t.passes c a x
+pub checked : {E A B : Type 0} (refused : A → E → Type 0) (fits : A → Type 0) (t : Stage E A B) (c : World) (a : A) (x : B) → (next (checking refused fits) t).passes c a x → fits a × t.passes c a x
 checked refused fits t c a x p = (p.1.0, subst (λ v. t.passes c v x) p.1.1 p.2)
 
 -- the rules are the pruned ones of those of the lines and the closed hand-written ones, which are few
@@ -260,7 +231,7 @@ record IsTaken (list : List Conversion) (m : MappingText) (P : List Rule) : Type
   few : length all ≤ 256
   left : IsLeft all P
 
-is_taken : (list : List Conversion) (c : World) (m : MappingText) (P : List Rule) → (taking list).passes c (between_of m) P → IsTaken list m P
+pub is_taken : (list : List Conversion) (c : World) (m : MappingText) (P : List Rule) → (taking list).passes c (between_of m) P → IsTaken list m P
 is_taken list c m P p =
     let b = between_of m in
     let rest = next (writing list) (next (limits list) (next (closing list) leaving)) in
@@ -306,3 +277,12 @@ accepted_fits list c text M small (m, says, p) =
       conclusions = λ d i. (good d i).conclusion;
       listed = λ d i. (good d i).listed;
     })
+
+-- nothing is outside
+nowhere : World
+nowhere = λ name. None
+
+-- a mapping that is accepted fits
+pub fits_of : (list : List Conversion) (text : List ℕ) (r : Result Mapping AcceptFault) → length text < 2 ^ 32 - 1 → Answers Memory (accepting list) text r → IfOk r (MappingFits list)
+fits_of list text (Ok m) small a = accepted_fits list nowhere text m small (a nowhere)
+fits_of list text (Err e) small a = tt

@@ -5,6 +5,7 @@ use Rattle.std.specs.Cmp.Lexicographic.{pointwise, bytes_decides}
 use Rattle.std.proofs.lemmas.Bool.{cases_lt, cases_eq, cases_Bool, true≢false}
 use Rattle.dx_ports.specs.declared.file.Count.TheVariants.{FrozenCells, Lines, Rules}
 use Rattle.dx_ports.specs.Members.{Each}
+use Rattle.dx_ports.proofs.Lists.{none_or_some}
 use Rattle.dx_model.specs.Fitting.{IsRule}
 use Rattle.dx_model.specs.Following.{underived}
 use Rattle.dx_tgd_text.specs.Laws.{IsWhole}
@@ -110,10 +111,6 @@ one_writing list source target by_hand d e a b = a.2 ∙ ap text_refusal (same_s
 no_rules : (R : List Rule) (e : AcceptFault) → length R ≤ 256 → ¬ (RulesRefused R e)
 no_rules R e few a = let many = a.0 in omega (arith, few, many)
 
-there_or_not : {X : Type 0} (o : Option X) → (o ≡ None) ⊎ ((x : X) × (o ≡ Some x))
-there_or_not None = inl refl
-there_or_not (Some x) = inr (x, refl)
-
 -- ---- reserved names
 
 reserved_or_not : (name : List ℕ) → IsReserved name ⊎ ¬ (IsReserved name)
@@ -184,7 +181,7 @@ naming_decided list = check (λ b. NamingRefused list b.source b.target b.lines)
     (λ b. one_naming list b.source b.target b.lines) (λ b. no_naming list b.source b.target b.lines) either
   where
     either : (b : Between) → (lines_fault b.source b.target list b.lines ≡ None) ⊎ ((e : AcceptFault) × NamingRefused list b.source b.target b.lines e)
-    either b = elim (there_or_not (lines_fault b.source b.target list b.lines)) [
+    either b = elim (none_or_some (lines_fault b.source b.target list b.lines)) [
       | inl none ↦ inl none
       | inr k ↦ inr (text_refusal k.0, (k.0, k.1, refl))
     ]
@@ -194,7 +191,7 @@ limits_decided list = check (λ b. LimitRefused list b.source b.target b.lines) 
     (λ b. one_limit list b.source b.target b.lines) (λ b. no_limit list b.source b.target b.lines) either
   where
     either : (b : Between) → (limit_of list b.source b.target b.lines ≡ None) ⊎ ((e : AcceptFault) × LimitRefused list b.source b.target b.lines e)
-    either b = elim (there_or_not (limit_of list b.source b.target b.lines)) [
+    either b = elim (none_or_some (limit_of list b.source b.target b.lines)) [
       | inl none ↦ inl none
       | inr l ↦ inr (faults.Limit l.0, (l.0, l.1, refl))
     ]
@@ -204,7 +201,7 @@ writing_decided list = check (λ b. WritingRefused list b.source b.target b.by_h
     (λ b. one_writing list b.source b.target b.by_hand) (λ b. no_writing list b.source b.target b.by_hand) either
   where
     either : (b : Between) → (rules_fault b.source b.target list b.by_hand ≡ None) ⊎ ((e : AcceptFault) × WritingRefused list b.source b.target b.by_hand e)
-    either b = elim (there_or_not (rules_fault b.source b.target list b.by_hand)) [
+    either b = elim (none_or_some (rules_fault b.source b.target list b.by_hand)) [
       | inl none ↦ inl none
       | inr k ↦ inr (text_refusal k.0, (k.0, k.1, refl))
     ]

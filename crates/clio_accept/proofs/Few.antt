@@ -8,14 +8,15 @@ use Rattle.std.proofs.lemmas.List.{length-append}
 use Rattle.dx_ports.specs.Members.{◌∈◌, here, there, Each}
 use Rattle.dx_ports.proofs.Members.{from_map, in_at}
 use Rattle.dx_model.specs.Tables.{Table, table_of}
-use Rattle.dx_schema.specs.Bounds.{HasFewRules, RulesBelow}
-use Rattle.dx_schema.specs.Forest.{Forest, none, set}
+use Rattle.dx_schema.specs.Bounds.{HasFewRules}
+use Rattle.dx_schema.specs.Forest.{Forest}
 use Rattle.dx_schema_text.specs.declared.texts.MappingText.{MappingText}
 use Rattle.dx_schema_text.specs.Texts.{IsMappingText}
 use Rattle.dx_schema_text.proofs.FewRules as few
 use Rattle.dx_schema.specs.Links.{IsFaultless}
 use Rattle.dx_schema.specs.Tables.{as_numbers, model_tables, tables_of}
 use Rattle.dx_schema.proofs.Valid.{are_tables}
+use Rattle.dx_schema.proofs.Bounds.{rules_raised}
 use Rattle.dx_logical.specs.declared.relation.Occurrence.{Occurrence}
 use Rattle.dx_logical.specs.Laws.{IsUnfolding, variables_of}
 use Rattle.dx_logical.specs.Unfolding.{unfolding_of}
@@ -44,7 +45,7 @@ both_narrow true b x o e = cc
 both_narrow false true x o e = cc
 both_narrow false false x o e = (refl, refl)
 
-few_at : (schema : List Table) (t : ℕ) → is_wide schema ≡ false → t < length schema → length (unfolding_of schema t).occurrences ≤ 64
+pub few_at : (schema : List Table) (t : ℕ) → is_wide schema ≡ false → t < length schema → length (unfolding_of schema t).occurrences ≤ 64
 few_at schema t e h =
     let n = none_passes (λ t. nat_lt 64 (length (unfolding_of schema t).occurrences)) (upto (length schema)) t e (in_upto (length schema) t h) in
     grind (arith, nat_tests, n)
@@ -89,12 +90,8 @@ few_variables source target lines s t ok fine unpassed h k u v =
 
 -- ---- keys and refs
 
-below_more : (n m : ℕ) (f : Forest) → n ≤ m → RulesBelow n f → RulesBelow m f
-below_more n m none h b = tt
-below_more n m (set l inner rest) h b = (omega (arith, h, b.0), omega (arith, h, b.1), below_more n m inner h b.2, below_more n m rest h b.3)
-
 pub few_rules : (text : List ℕ) (m : MappingText) → length text < 2 ^ 32 - 1 → IsMappingText text m → HasFewRules m.source × HasFewRules m.target
 few_rules text m h says =
     let b = few.texts_have_few_rules text m says in
     let k : length text ≤ 2 ^ 32 - 2 = omega (arith, h) in
-    (below_more (length text) (2 ^ 32 - 2) m.source k b.0, below_more (length text) (2 ^ 32 - 2) m.target k b.1)
+    (rules_raised (length text) (2 ^ 32 - 2) m.source k b.0, rules_raised (length text) (2 ^ 32 - 2) m.target k b.1)

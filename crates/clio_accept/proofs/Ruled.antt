@@ -6,10 +6,11 @@ use Rattle.std.proofs.lemmas.List.{length-append, length-map}
 use Rattle.dx_ports.specs.Members.{◌∈◌, here, there, Each}
 use Rattle.dx_ports.proofs.Members.{from_append, from_map}
 use Rattle.dx_ports.proofs.Firsts.{each_none, first_none, none_of}
+use Rattle.dx_ports.proofs.Tests.{from_filter}
 use Rattle.dx_model.specs.declared.rules.Rule.{Rule}
 use Rattle.dx_model.specs.Fitting.{IsRule, RuleFits}
 use Rattle.dx_model.specs.Following.{are_none, underived}
-use Rattle.dx_model.proofs.Lists.{from_filter}
+use Rattle.dx_model.proofs.Deciding.{none_derived}
 use Rattle.dx_schema.specs.Forest.{Forest}
 use Rattle.dx_schema.specs.Faults.{is_among}
 use Rattle.dx_schema.specs.Links.{IsFaultless}
@@ -27,7 +28,6 @@ use Rattle.dx_tgd_text.specs.Laws.{IsWhole}
 use Rattle.dx_tgd_text.specs.Numbering.{text_cells}
 use Rattle.dx_tgd_text.specs.Reading.{IsNarrow, atom_fault, atom_of, atoms_fault, derived_faults, derived_of, fresh_of, known_of, rule_fault, rule_of, variables_of}
 use Rattle.dx_tgd_text.proofs.Fits.{read_rules_fit}
-use Rattle.dx_implies.proofs.Plain.{none_derived}
 use Rattle.clio_accept.specs.Mapping.{AreRulesOf, IsNarrowClosing, limit_of, rules_of, written_of}
 use Rattle.clio_accept.specs.Accepting.{Between}
 use Rattle.clio_accept.proofs.Accepted.{IsRead, all_rules_fit, each_fits}

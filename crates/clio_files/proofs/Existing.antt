@@ -1,8 +1,7 @@
 -- An exchange that fits its schema has files.
-use Rattle.std.proofs.Common.{◌≡◌, ℕ, suc, ◌≤◌, List, [], ◌∷◌, length, map, refl, ap, subst, arith}
+use Rattle.std.proofs.Common.{ℕ, suc, ◌≤◌, List, [], ◌∷◌, length, map, refl, ap, subst, arith}
 use Rattle.std.specs.Prelude.{if◌then◌else◌}
 use Rattle.std.specs.Cmp.{IsTotalOrder}
-use Rattle.std.specs.declared.cmp.Ordering.TheVariants.{Equal}
 use Rattle.std.proofs.lemmas.Cmp.{lists_total}
 use Rattle.std.proofs.lemmas.List.{length-map}
 use Rattle.dx_ports.specs.Members.{◌∈◌, here, there, Each}
@@ -10,10 +9,11 @@ use Rattle.dx_ports.proofs.Members.{from_map}
 use Rattle.dx_model.specs.declared.facts.Fact.{Fact}
 use Rattle.dx_model.specs.declared.values.NullId.{NullId}
 use Rattle.dx_model.specs.declared.values.Value.{Value}
-use Rattle.dx_model.specs.Instances.{values}
-use Rattle.dx_model.specs.Values.{null_cmp, row_cmp, value_cmp}
+use Rattle.dx_model.specs.Instances.{values, nulls_in}
+use Rattle.dx_model.specs.Values.{null_cmp, row_cmp}
 use Rattle.dx_model.proofs.Ascending.{in_order, in_order_ascends, in_in_order, from_in_order}
-use Rattle.dx_model.proofs.Orders.{null_exact, null_total, slice_exact, value_exact, value_total}
+use Rattle.dx_model.proofs.Orders.{null_exact, null_total, value_total, row_exact}
+use Rattle.dx_model.proofs.Reduction.{in_nulls, from_nulls}
 use Rattle.dx_instance.specs.Stored.{TableRows, facts, rows_of}
 use Rattle.dx_instance.specs.ValueText.{value_text_of}
 use Rattle.dx_instance.proofs.StoredFacts.{fact_from_row}
@@ -22,18 +22,14 @@ use Rattle.dx_schema.specs.Tables.{TableOf, table_at, tables_of}
 use Rattle.dx_csv.specs.Print.{HasNoMark, lines_text, table_lines}
 use Rattle.dx_csv.proofs.TableTextFacts.{printed-reads-back}
 use Rattle.dx_json.proofs.OneText.{has_text}
-use Rattle.clio_source.specs.Source.{csv_name}
-use Rattle.clio_files.specs.Files.{AreTableFiles, IsTableFile, nulls_in}
+use Rattle.clio_source.specs.Source.{csv_name, roots, json_name}
+use Rattle.clio_files.specs.Files.{AreTableFiles, IsTableFile}
 use Rattle.clio_files.specs.Laws.{FilesExist}
-use Rattle.clio_files.specs.Nested.{AreRootFiles, IsRootFile, json_name, roots}
+use Rattle.clio_files.specs.Nested.{AreRootFiles, IsRootFile}
 use Rattle.clio_files.specs.Sheets.{AreNulls, Told}
-use Rattle.clio_files.proofs.SheetNulls.{from_nulls, in_nulls}
 
 row_total : IsTotalOrder row_cmp
 row_total = lists_total value_total
-
-row_exact : (x y : List Value) → row_cmp x y ≡ Equal → x ≡ y
-row_exact = slice_exact value_cmp value_exact
 
 table_file : (t : TableOf) (rows : List (List Value)) → HasNoMark t.columns → 1 ≤ length t.columns → Each rows (λ row. 1 ≤ length row)
     → (f : Told) × IsTableFile t rows f

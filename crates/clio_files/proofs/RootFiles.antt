@@ -8,9 +8,10 @@ use Rattle.dx_schema.specs.Forest.{Forest, Tree, forest_of}
 use Rattle.dx_schema.specs.Tables.{AreTables, count, numbers_in, tables_of}
 use Rattle.dx_schema.proofs.Numbered.{tables_counted}
 use Rattle.dx_schema.proofs.Preorder.{count_below, numbers_more}
+use Rattle.clio_source.specs.Source.{roots}
 use Rattle.clio_files.specs.declared.printed.Printed.{Printed}
 use Rattle.clio_files.specs.Files.{seen}
-use Rattle.clio_files.specs.Nested.{AreRootFiles, IsRootFile, roots}
+use Rattle.clio_files.specs.Nested.{AreRootFiles, IsRootFile}
 use Rattle.clio_files.specs.Printing.{AddsRoots}
 use Rattle.clio_files.specs.Sheets.{Told}
 

@@ -24,34 +24,16 @@ use Rattle.dx_model.specs.contracts.values.NullIdOrd.TheImpl.Laws.{total-law, ma
 use Rattle.dx_model.specs.contracts.values.NullIdEq.TheImpl.Laws.{laws-law}
 use Rattle.dx_model.specs.contracts.values.NullIdPartialEq.TheImpl.{eq-value}
 use Rattle.dx_model.specs.Values.{Text, null_cmp}
-use Rattle.dx_model.specs.Instances.{values}
+use Rattle.dx_model.specs.Instances.{values, nulls_in}
 use Rattle.dx_instance.specs.Cells.{NumberTable, numbers_at}
 use Rattle.dx_instance.specs.Numbers.{value_of}
 use Rattle.dx_instance.specs.Shown.{numbers_of_table, shown_row, shown_tables}
 use Rattle.dx_instance.specs.Stored.{TableRows, facts_from, facts, rows_of}
-use Rattle.clio_files.specs.Files.{nulls_in}
 use Rattle.dx_model.specs.Values.{NullsAscend}
+use Rattle.dx_model.proofs.Reduction.{in_nulls, from_nulls, nulls_append}
 use Rattle.clio_files.specs.Sheets.{AreNulls}
 
 -- ---- the nulls among values
-
-pub nulls_in_append : (us vs : List Value) → nulls_in (us ++ vs) ≡ nulls_in us ++ nulls_in vs
-nulls_in_append [] vs = refl
-nulls_in_append (Const t ∷ us) vs = nulls_in_append us vs
-nulls_in_append (Null n ∷ us) vs = ap (λ (l : List NullId). n ∷ l) (nulls_in_append us vs)
-
-pub in_nulls : (n : NullId) (vs : List Value) → Null n ∈ vs → n ∈ nulls_in vs
-in_nulls n [] m = elim m [ ]
-in_nulls n (Const t ∷ vs) (here e) = absurd (cc)
-in_nulls n (Const t ∷ vs) (there m) = in_nulls n vs m
-in_nulls n (Null k ∷ vs) (here e) = let d : k ≡ n = cc in here d
-in_nulls n (Null k ∷ vs) (there m) = there (in_nulls n vs m)
-
-pub from_nulls : (n : NullId) (vs : List Value) → n ∈ nulls_in vs → Null n ∈ vs
-from_nulls n [] m = elim m [ ]
-from_nulls n (Const t ∷ vs) m = there (from_nulls n vs m)
-from_nulls n (Null k ∷ vs) (here e) = here (ap Null e)
-from_nulls n (Null k ∷ vs) (there m) = there (from_nulls n vs m)
 
 -- what was there, what was done, and more
 pub pushed : (old before new done all more : List NullId) → new ≡ before ++ more → before ≡ old ++ done → all ≡ done ++ more
@@ -84,14 +66,14 @@ pub number_constant : (S : List Value) (row : List ℕ) (i : ℕ) (v : Value) (t
     → nulls_in (shown_row S (take (i + 1) row)) ≡ nulls_in (shown_row S (take i row))
 number_constant S row i v t h g e =
     ap nulls_in (shown_more S row i h ∙ ap (λ x. shown_row S (take i row) ++ x ∷ []) (sym g ∙ e))
-    ∙ nulls_in_append (shown_row S (take i row)) (Const t ∷ []) ∙ append-nil (nulls_in (shown_row S (take i row)))
+    ∙ nulls_append (shown_row S (take i row)) (Const t ∷ []) ∙ append-nil (nulls_in (shown_row S (take i row)))
 
 pub number_null : (S : List Value) (row : List ℕ) (i : ℕ) (v : Value) (n : NullId) → i < length row → v ≡ value_of S (get_or row i 0)
     → v ≡ Null n
     → nulls_in (shown_row S (take (i + 1) row)) ≡ nulls_in (shown_row S (take i row)) ++ n ∷ []
 number_null S row i v n h g e =
     ap nulls_in (shown_more S row i h ∙ ap (λ x. shown_row S (take i row) ++ x ∷ []) (sym g ∙ e))
-    ∙ nulls_in_append (shown_row S (take i row)) (Null n ∷ [])
+    ∙ nulls_append (shown_row S (take i row)) (Null n ∷ [])
 
 rows_are : (S : List Value) (ts : List NumberTable) (n : ℕ) → n < length ts
     → rows_of (shown_tables S ts) n ≡ map (shown_row S) (numbers_of_table ts n).rows
@@ -125,7 +107,7 @@ nulls_of_rows : (k : ℕ) (rows : List (List Value)) (fs : List Fact)
     ≡ flat_map nulls_in rows ++ nulls_in (values fs)
 nulls_of_rows k [] fs = refl
 nulls_of_rows k (r ∷ rows) fs =
-    nulls_in_append r (values (map (λ (row : List Value). record { table = k; row = row }) rows ++ fs))
+    nulls_append r (values (map (λ (row : List Value). record { table = k; row = row }) rows ++ fs))
     ∙ ap (λ (l : List NullId). nulls_in r ++ l) (nulls_of_rows k rows fs)
     ∙ sym (append_assoc (nulls_in r) (flat_map nulls_in rows) (nulls_in (values fs)))
 

@@ -1,17 +1,16 @@
 -- The files of texts, and files that are added.
 use Rattle.std.proofs.Common.{◌≡◌, ℕ, ◌+◌, ◌<◌, ◌≤◌, List, [], ◌∷◌, ◌++◌, length, map, refl, sym, ◌∙◌, ap, subst, arith, get_or, take}
 use Rattle.std.proofs.Common.{flat_map, append_assoc}
-use Rattle.std.proofs.lemmas.List.{append-nil, length-map, map-append, take_more, take_all}
+use Rattle.std.proofs.lemmas.List.{append-nil, map-append, take_more, take_all}
 use Rattle.dx_ports.specs.Members.{◌∈◌, Each}
 use Rattle.dx_ports.proofs.Members.{in_map}
-use Rattle.dx_model.specs.declared.rules.Atom.{Atom}
 use Rattle.dx_model.specs.declared.rules.Rule.{Rule}
-use Rattle.dx_model.specs.Solutions.{AtomFits}
 use Rattle.dx_instance.specs.Stored.{TableRows, rows_of}
 use Rattle.dx_schema.specs.Forest.{Forest}
-use Rattle.dx_schema.specs.Tables.{TableOf, as_numbers, model_tables, tables_of}
+use Rattle.dx_schema.specs.Tables.{TableOf}
 use Rattle.dx_funcs.specs.declared.conversion.Conversion.{Conversion}
 use Rattle.dx_rule_text.specs.Printed.{AreAtomsOf, AreListed}
+use Rattle.dx_rule_text.proofs.Printing.{atoms_of}
 use Rattle.clio_files.specs.declared.printed.Printed.{Printed}
 use Rattle.clio_files.specs.Files.{IsTableFile, contents_of, seen}
 use Rattle.clio_files.specs.Printing.{AddsTables}
@@ -20,13 +19,6 @@ use Rattle.clio_files.specs.Texts.{FitTexts}
 use Rattle.clio_files.proofs.SheetLists.{are_more, length_take, two_more}
 
 -- ---- rules whose texts are printed
-
--- atoms that fit are atoms of the schema
-atoms_of : (f : Forest) (atoms : List Atom) → Each atoms (AtomFits (model_tables f)) → AreAtomsOf f atoms
-atoms_of f atoms h a m =
-    let k = (h a m).table in
-    let e = length-map (tables_of f) as_numbers in
-    omega (arith, k, e)
 
 pub premises_of : (source target : Forest) (list : List Conversion) (R : List Rule) → FitTexts source target list R
     → Each R (λ d. AreAtomsOf source d.premise)

@@ -6,7 +6,7 @@ use Rattle.dx_ports.specs.Entries.{Entry}
 use Rattle.dx_ports.specs.Members.{◌∈◌, Each}
 use Rattle.dx_model.specs.declared.values.NullId.{NullId}
 use Rattle.dx_model.specs.declared.values.Value.{Value}
-use Rattle.dx_model.specs.declared.values.Value.TheVariants.{Const, Null}
+use Rattle.dx_model.specs.declared.values.Value.TheVariants.{Null}
 use Rattle.dx_model.specs.declared.rules.Rule.{Rule}
 use Rattle.dx_model.specs.Values.{Text}
 use Rattle.dx_model.specs.Instances.{values}
@@ -20,9 +20,9 @@ use Rattle.dx_tgd.specs.Counting.{rows_in}
 use Rattle.dx_tgd.specs.Placed.{FitTuples, HasPlace}
 use Rattle.dx_exchange.specs.declared.mode.Mode.{Mode}
 use Rattle.dx_exchange.specs.declared.result.Exchange.{Exchange}
-use Rattle.clio_source.specs.Source.{csv_name}
+use Rattle.clio_source.specs.Source.{csv_name, roots}
 use Rattle.clio_files.specs.declared.printed.Printed.{Printed}
-use Rattle.clio_files.specs.Nested.{AreRootFiles, roots}
+use Rattle.clio_files.specs.Nested.{AreRootFiles}
 use Rattle.clio_files.specs.Sheets.{AreNulls, Told, file_of, fold_sheet, nulls_sheet}
 use Rattle.clio_files.specs.Texts.{texts_told}
 
@@ -82,9 +82,3 @@ pub record FitsFiles (R : List Rule) (target : Forest) (e : Exchange) : Type 0 w
 -- what is told of a printed file
 abbrev pub seen : Printed → Told
 seen p = record { name = p.file.name; bytes = p.file.bytes.items; count = p.count }
-
--- the nulls among values, in order
-abbrev pub nulls_in : List Value → List NullId
-nulls_in [] = []
-nulls_in (Const t ∷ vs) = nulls_in vs
-nulls_in (Null n ∷ vs) = n ∷ nulls_in vs

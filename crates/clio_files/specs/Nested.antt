@@ -1,18 +1,11 @@
 -- The roots of a target as documents.
-use Rattle.std.specs.Prelude.{◌≡◌, ℕ, List, [], ◌∷◌, ◌++◌, length, codes}
+use Rattle.std.specs.Prelude.{◌≡◌, ℕ, List, [], ◌∷◌, length}
 use Rattle.dx_instance.specs.Stored.{TableRows, rows_of}
 use Rattle.dx_schema.specs.Forest.{Forest}
-use Rattle.dx_schema.specs.Tables.{Text, numbers_in, table_at}
+use Rattle.dx_schema.specs.Tables.{table_at}
 use Rattle.dx_json.specs.Nesting.{IsNestedText}
+use Rattle.clio_source.specs.Source.{json_name}
 use Rattle.clio_files.specs.Sheets.{Told}
-
--- the name of the file of a root's document
-abbrev pub json_name : Text → Text
-json_name table = table ++ codes ".json"
-
--- the roots: the sets of the top level, by their numbers
-abbrev pub roots : Forest → List ℕ
-roots target = numbers_in 0 target
 
 -- the file of a root: its nested text, with as many objects as the root has rows
 pub record IsRootFile (target : Forest) (T : List TableRows) (root : ℕ) (f : Told) : Type 0 where

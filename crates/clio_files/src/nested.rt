@@ -2,8 +2,9 @@
 ghost use Rattle.std.specs.Prelude.{◌≡◌, ◌<◌, IfOk, OnOk, length, map};
 ghost use Rattle.dx_instance.specs.Stored.{IsSorting, widths};
 ghost use Rattle.dx_schema.specs.Tables.{schema_widths, tables_of};
+ghost use Rattle.clio_source.specs.Source.{roots, json_name};
 ghost use Rattle.clio_files.specs.Files.{seen};
-ghost use Rattle.clio_files.specs.Nested.{IsRootFile, json_name, roots};
+ghost use Rattle.clio_files.specs.Nested.{IsRootFile};
 ghost use Rattle.clio_files.specs.Printing.{AddsRoots};
 
 use crate::printed::Printed;

@@ -1,11 +1,10 @@
 // The nulls of an instance.
 ghost use Rattle.std.specs.Prelude.{◌≡◌, ◌↔◌, ◌<◌, ◌++◌, IfOk, OnOk, length, flat_map};
 ghost use Rattle.dx_ports.specs.Members.{◌∈◌};
-ghost use Rattle.dx_model.specs.Instances.{values};
+ghost use Rattle.dx_model.specs.Instances.{values, nulls_in};
 ghost use Rattle.dx_model.specs.Values.{NullsAscend};
 ghost use Rattle.dx_instance.specs.Shown.{AreBelow, shown_row, shown_tables};
 ghost use Rattle.dx_instance.specs.Stored.{facts, rows_of};
-ghost use Rattle.clio_files.specs.Files.{nulls_in};
 ghost use Rattle.clio_files.specs.Sheets.{AreNulls};
 
 use dx_instance::{Instance, Numbers};

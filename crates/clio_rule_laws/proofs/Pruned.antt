@@ -1,17 +1,18 @@
 -- A pruned list is its own pruned list, and no test of it passes a limit that no test of the list passes.
-use Rattle.std.proofs.Common.{◌≡◌, ℕ, ◌≤◌, ◌⊎◌, inl, inr, Bool, true, false, cond, List, [], ◌∷◌, ◌++◌, refl, sym, ◌∙◌, ap, subst, arith, append_assoc}
+use Rattle.std.proofs.Common.{◌≡◌, ℕ, ◌≤◌, inl, inr, Bool, true, false, cond, List, [], ◌∷◌, ◌++◌, refl, sym, ◌∙◌, ap, subst, arith, append_assoc}
 use Rattle.std.specs.List.{filter}
 use Rattle.std.proofs.lemmas.List.{append-nil}
 use Rattle.dx_ports.specs.Members.{◌∈◌, ◌⊆◌, here, there, Each}
 use Rattle.dx_ports.proofs.Members.{from_append, in_left, in_right}
+use Rattle.dx_ports.proofs.Tests.{from_filter}
 use Rattle.dx_model.specs.declared.facts.Fact.{Fact}
 use Rattle.dx_model.specs.declared.rules.Rule.{Rule}
 use Rattle.dx_model.specs.Values.{Conversions, Rows}
 use Rattle.dx_model.specs.Rules.{AreRows}
 use Rattle.dx_model.specs.Fitting.{IsRule}
 use Rattle.dx_model.specs.Following.{CanGo, PrunedAfter, are_none, underived}
-use Rattle.dx_model.proofs.Lists.{in_filter, from_filter}
-use Rattle.dx_model.proofs.Pruning.{part_after}
+use Rattle.dx_model.proofs.Lists.{in_filter}
+use Rattle.dx_model.proofs.Pruning.{part_after, one_after}
 use Rattle.dx_model.proofs.RowsExist.{rows_of_all, rows_of_all_exist}
 use Rattle.dx_tgd.specs.Counting.{canonical_cells}
 use Rattle.dx_implies.specs.Frozen.{PassesFrozen, frozen_premise}
@@ -48,17 +49,6 @@ pub pruned_again : (R P : List Rule) → IsLeft R P → IsLeft P P
 pruned_again R P left convert = left_again convert [] [] R P (λ d m. m) (left convert)
 
 -- ---- one list is left, whatever conversions do
-
-one_left : (convert : Conversions) (front R P Q : List Rule) → PrunedAfter convert front R P → PrunedAfter convert front R Q → P ≡ Q
-one_left convert front [] P Q p q = p ∙ sym q
-one_left convert front (d ∷ R) P Q (kept, behind, p) (other, later, q) = go (one_left convert (front ++ d ∷ []) R kept other behind later) p q
-  where
-    go : kept ≡ other → (CanGo convert (front ++ kept) d × (P ≡ kept)) ⊎ ((¬ (CanGo convert (front ++ kept) d)) × (P ≡ d ∷ kept))
-        → (CanGo convert (front ++ other) d × (Q ≡ other)) ⊎ ((¬ (CanGo convert (front ++ other) d)) × (Q ≡ d ∷ other)) → P ≡ Q
-    go e (inl a) (inl b) = a.1 ∙ (e ∙ sym b.1)
-    go e (inl a) (inr b) = absurd (b.0 (subst (λ ks. CanGo convert (front ++ ks) d) e a.0))
-    go e (inr a) (inl b) = absurd (a.0 (subst (λ ks. CanGo convert (front ++ ks) d) (sym e) b.0))
-    go e (inr a) (inr b) = a.1 ∙ (ap (λ ks. d ∷ ks) e ∙ sym b.1)
 
 left_any : (convert other : Conversions) (front R P : List Rule) → PrunedAfter convert front R P → PrunedAfter other front R P
 left_any convert other front [] P p = p
@@ -172,7 +162,7 @@ pub no_test_passes : (limit : ℕ) (R P : List Rule) → Each R IsRule → IsLef
 no_test_passes limit R P rules left none_passes t =
     let s = stood [] R P t.front t.rule t.back (left none) t.is in
     let within : (t.front ++ t.rule ∷ []) ⊆ (s.front ++ t.rule ∷ []) = both_within t.front s.front (t.rule ∷ []) (t.rule ∷ []) (part_members t.front s.front s.part) (λ d m. m) in
-    let same : t.kept ≡ t.back = one_left none (t.front ++ t.rule ∷ []) t.back t.kept t.back (t.behind none) (left_again none (s.front ++ t.rule ∷ []) (t.front ++ t.rule ∷ []) s.back t.back within s.behind) in
+    let same : t.kept ≡ t.back = one_after none (t.front ++ t.rule ∷ []) t.back t.kept t.back (t.behind none) (left_again none (s.front ++ t.rule ∷ []) (t.front ++ t.rule ∷ []) s.back t.back within s.behind) in
     let of_list : (s.front ++ t.back) ⊆ R =
     λ d m. subst (λ (xs : List Rule). d ∈ xs) (sym s.is) (elim (from_append s.front m) [
       | inl k ↦ in_left (t.rule ∷ s.back) k

@@ -1,5 +1,5 @@
 -- The rules of an accepted mapping are read again.
-use Rattle.std.proofs.Common.{◌≡◌, ◌≤◌, List, None, length, inl, inr, refl, sym, subst}
+use Rattle.std.proofs.Common.{◌≡◌, List, None, inl, inr, refl, sym, subst}
 use Rattle.dx_ports.specs.Members.{◌∈◌, Each}
 use Rattle.dx_ports.proofs.Members.{from_append, from_map}
 use Rattle.dx_ports.proofs.Firsts.{each_none}
@@ -22,24 +22,21 @@ use Rattle.dx_rule_laws.proofs.Said.{said_rules_are_writable}
 use Rattle.dx_rule_laws.proofs.LineRules.{line_rules_are_writable}
 use Rattle.dx_rule_laws.proofs.Closings.{closings_are_writable}
 use Rattle.dx_stages.specs.Worlds.{World}
-use Rattle.dx_stages.specs.Stages.{Stage, next, checking}
+use Rattle.dx_stages.specs.Stages.{next}
 use Rattle.dx_implies.specs.Pruning.{IsLeft, PassesTest}
 use Rattle.dx_implies.proofs.Pruned.{left_implies}
 use Rattle.clio_accept.specs.declared.mapping.Mapping.{Mapping}
-use Rattle.clio_accept.specs.Mapping.{SourceRefused, TargetRefused, NameRefused, LinesRefused, NamingRefused, WritingRefused}
-use Rattle.clio_accept.specs.Mapping.{LimitRefused, RulesRefused, FrozenRefused, frozen_cells}
+use Rattle.clio_accept.specs.Mapping.{SourceRefused, TargetRefused, NameRefused}
+use Rattle.clio_accept.specs.Mapping.{frozen_cells}
 use Rattle.clio_accept.specs.Mapping.{NoneReserved, AreRulesOf, IsNarrowClosing, rules_of, limit_of, written_of}
-use Rattle.clio_accept.specs.Accepting.{between_of, limits, naming, writing, closing, leaving}
-use Rattle.clio_accept.specs.Accepting.{accepting, frozen_count, pruning, said_rules, taking, target_names, target_sets, with_rules}
+use Rattle.clio_accept.specs.Accepting.{limits, closing}
+use Rattle.clio_accept.specs.Accepting.{accepting, said_rules, target_names, target_sets, with_rules}
 use Rattle.clio_accept.specs.Laws.{MappingFits}
-use Rattle.clio_accept.proofs.Accepted.{accepted_fits}
+use Rattle.clio_accept.proofs.Accepted.{accepted_fits, is_taken, checked}
 use Rattle.clio_accept.proofs.Closed.{closed_of}
 use Rattle.clio_rule_laws.specs.Laws.{AreShownAgain, ShownRulesAreReadAgain}
 
 -- ---- what the stages have checked
-
-checked : {E A B : Type 0} (refused : A → E → Type 0) (fits : A → Type 0) (t : Stage E A B) (c : World) (a : A) (x : B) → (next (checking refused fits) t).passes c a x → fits a × t.passes c a x
-checked refused fits t c a x p = (p.1.0, subst (λ v. t.passes c v x) p.1.1 p.2)
 
 -- the rules are what is left of those of the lines and the closed hand-written ones, where no word is at fault
 pub record IsTaken (list : List Conversion) (m : MappingText) (P : List Rule) : Type 0 where
@@ -50,19 +47,6 @@ pub record IsTaken (list : List Conversion) (m : MappingText) (P : List Rule) : 
   pub are : AreRulesOf list m.source m.target m.lines m.rules all
   pub few : ¬ (PassesTest frozen_cells all)
   pub left : IsLeft all P
-
-is_taken : (list : List Conversion) (c : World) (m : MappingText) (P : List Rule) → (taking list).passes c (between_of m) P → IsTaken list m P
-is_taken list c m P p =
-    let b = between_of m in
-    let rest = next (writing list) (next (limits list) (next (closing list) leaving)) in
-    let one = checked (λ b. LinesRefused b.lines) (λ b. length b.lines ≤ 512) (next (naming list) rest) c b P p in
-    let two = checked (λ b. NamingRefused list b.source b.target b.lines) (λ b. lines_fault b.source b.target list b.lines ≡ None) rest c b P one.1 in
-    let three = checked (λ b. WritingRefused list b.source b.target b.by_hand) (λ b. rules_fault b.source b.target list b.by_hand ≡ None) (next (limits list) (next (closing list) leaving)) c b P two.1 in
-    let four = checked (λ b. LimitRefused list b.source b.target b.lines) (λ b. limit_of list b.source b.target b.lines ≡ None) (next (closing list) leaving) c b P three.1 in
-    let R = four.1.0 in
-    let five = checked RulesRefused (λ R. length R ≤ 256) (next frozen_count pruning) c R P four.1.2 in
-    let six = checked FrozenRefused (λ R. ¬ (PassesTest frozen_cells R)) pruning c R P five.1 in
-    record { named = two.0; written = three.0; limits = four.0; all = R; are = four.1.1; few = six.0; left = six.1 }
 
 -- ---- the rules
 

@@ -1,9 +1,7 @@
 -- The sets of an accepted mapping, with its rules after them, are accepted with the same mapping.
 use Rattle.std.proofs.Common.{◌≡◌, ℕ, ◌<◌, ◌≤◌, ◌-◌, ◌^◌, Bool, true, false, cond, List, [], ◌∷◌, ◌++◌, Option, Some, None, length, map, flat_map, inl, inr, refl, sym, ap, subst, arith}
-use Rattle.std.specs.Prelude.{◌||◌, nat_lt}
+use Rattle.std.specs.Prelude.{◌||◌}
 use Rattle.std.specs.List.{filter, list_any}
-use Rattle.std.proofs.lemmas.Bool.{false≢true}
-use Rattle.std.proofs.lemmas.Bool.Decides.{nat_tests}
 use Rattle.std.proofs.lemmas.List.{length-map}
 use Rattle.dx_ports.specs.declared.file.Limit.{Limit}
 use Rattle.dx_ports.specs.Members.{◌∈◌, here, there, Each}
@@ -27,7 +25,6 @@ use Rattle.dx_lines.specs.Limits.{has_many_ways, is_wide, passed}
 use Rattle.dx_lines.specs.Rules.{kept_rules, rule_of}
 use Rattle.dx_lines.specs.declared.line.Line.{Line}
 use Rattle.dx_lines.proofs.Sources.{from_kept}
-use Rattle.dx_candidates.proofs.Lists.{in_upto}
 use Rattle.dx_line_text.specs.Naming.{lines_of}
 use Rattle.dx_rule_text.specs.Printed.{Text}
 use Rattle.dx_tgd_text.specs.Reading.{IsNarrow, rules_of as said_rules_of}
@@ -43,6 +40,7 @@ use Rattle.clio_accept.specs.Accepting.{accepting, between_of, closing, leaving,
 use Rattle.clio_accept.specs.Laws.{MappingFits}
 use Rattle.clio_accept.proofs.Accepted.{IsRead, accepted_fits, all_rules_fit}
 use Rattle.clio_accept.proofs.Closed.{closed_of}
+use Rattle.clio_accept.proofs.Few.{few_at}
 use Rattle.clio_rule_laws.specs.Laws.{AreShownAgain, ShownIsAccepted, rule_lines}
 use Rattle.clio_rule_laws.proofs.Shown.{IsTaken, is_accepted, shown_rules_are_read_again}
 use Rattle.clio_rule_laws.proofs.Pruned.{no_test_passes, pruned_again}
@@ -80,24 +78,6 @@ none_passed lines A B e =
     rw (n.0, n.1, no_many_ways A B, no_candidates A B) refl
 
 -- ---- the rules are their own closings
-
-any_each : {X : Type 0} (p : X → Bool) (xs : List X) → list_any p xs ≡ false → (x : X) → x ∈ xs → p x ≡ false
-any_each p [] e x m = elim m [ ]
-any_each p (y ∷ ys) e x (here is) = subst (λ z. p z ≡ false) is (first (p y) (list_any p ys) e)
-  where
-    first : (a b : Bool) → (a || b) ≡ false → a ≡ false
-    first true b e = absurd (false≢true (sym e))
-    first false b e = refl
-any_each p (y ∷ ys) e x (there m) = any_each p ys (rest (p y) (list_any p ys) e) x m
-  where
-    rest : (a b : Bool) → (a || b) ≡ false → b ≡ false
-    rest true b e = absurd (false≢true (sym e))
-    rest false b e = e
-
-few_at : (schema : List Table) (t : ℕ) → is_wide schema ≡ false → t < length schema → length (unfolding_of schema t).occurrences ≤ 64
-few_at schema t e h =
-    let n = any_each (λ t. nat_lt 64 (length (unfolding_of schema t).occurrences)) (upto (length schema)) e t (in_upto (length schema) t h) in
-    grind (arith, nat_tests, n)
 
 -- neither side of a rule has more than 64 atoms
 record HasFewAtoms (d : Rule) : Type 0 where

@@ -1,5 +1,5 @@
 -- Files say one source, or are refused for one reason, and never both.
-use Rattle.std.proofs.Common.{◌≡◌, ◌⊎◌, ℕ, zero, suc, ◌+◌, ◌-◌, ◌<◌, List, [], ◌∷◌, refl, sym, ◌∙◌, ap, subst, inl, inr, length, get_or, arith}
+use Rattle.std.proofs.Common.{◌≡◌, ◌⊎◌, ℕ, zero, suc, ◌+◌, ◌-◌, ◌<◌, List, [], ◌∷◌, refl, sym, ◌∙◌, ap, subst, inl, inr, length, arith}
 use Rattle.std.specs.Prelude.{map, filter, ◌==◌}
 use Rattle.std.specs.Cmp.{IsTotalOrder}
 use Rattle.std.proofs.lemmas.Bool.{eq-eqb, eqb-true}
@@ -10,12 +10,11 @@ use Rattle.dx_ports.proofs.Members.{from_map, in_map}
 use Rattle.dx_ports.proofs.Tests.{from_filter, to_filter}
 use Rattle.dx_model.specs.declared.values.Value.{Value}
 use Rattle.dx_model.specs.declared.facts.Fact.{Fact}
-use Rattle.dx_model.specs.Values.{RowsAscend, row_cmp, value_cmp}
-use Rattle.std.specs.declared.cmp.Ordering.TheVariants.{Equal}
-use Rattle.dx_model.proofs.Orders.{slice_exact, value_exact, value_total}
+use Rattle.dx_model.specs.Values.{RowsAscend, row_cmp}
+use Rattle.dx_model.proofs.Orders.{value_total, row_exact}
 use Rattle.dx_model.proofs.Ascending.{one_ascending, in_order, in_order_ascends, in_in_order, from_in_order}
 use Rattle.dx_instance.specs.Stored.{TableRows, facts, rows_of, widths}
-use Rattle.dx_instance.proofs.StoredFacts.{fact_from_row, row_from_fact}
+use Rattle.dx_instance.proofs.StoredFacts.{fact_from_row, row_from_fact, same_tables}
 use Rattle.dx_schema.specs.Forest.{Forest}
 use Rattle.dx_schema.specs.Tables.{TableOf, schema_widths, table_at, tables_of}
 use Rattle.dx_csv.specs.Table.{table_records}
@@ -107,23 +106,6 @@ reading_decided f root = next_decided Same Any Any (fetching (file_at f root)) (
 
 row_total : IsTotalOrder row_cmp
 row_total = lists_total value_total
-
-row_exact : (x y : List Value) → row_cmp x y ≡ Equal → x ≡ y
-row_exact = slice_exact value_cmp value_exact
-
--- instances with the same widths and rows are one
-same_tables : (I J : List TableRows) → widths I ≡ widths J → ((t : ℕ) → rows_of I t ≡ rows_of J t) → I ≡ J
-same_tables [] [] w r = refl
-same_tables [] (y ∷ ys) w r = absurd (cc)
-same_tables (x ∷ xs) [] w r = absurd (cc)
-same_tables (x ∷ xs) (y ∷ ys) w r =
-    let first : x.width ≡ y.width = ap (λ (ns : List ℕ). get_or ns 0 0) w in
-    let rows : x.rows ≡ y.rows = r 0 in
-    let rest : xs ≡ ys = same_tables xs ys (tail_of _ _ _ _ w) (λ t. r (suc t)) in
-    (λ i. record { width = first i; rows = rows i } ∷ rest i)
-  where
-    tail_of : (a b : ℕ) (xs ys : List ℕ) → (a ∷ xs) ≡ (b ∷ ys) → xs ≡ ys
-    tail_of a b xs ys e = cc
 
 -- a row of one is a row of the other
 row_of_both : (f : Forest) (said : List Fact) (I J : List TableRows) → IsStored f said I → IsStored f said J → (t : ℕ) → rows_of I t ⊆ rows_of J t

@@ -14,10 +14,9 @@ use Rattle.dx_instance.specs.Cells.{NumberTable}
 use Rattle.dx_instance.specs.Numbers.{Extends}
 use Rattle.dx_instance.specs.Shown.{AreBelow, RowsFit, numbers_of_table, shown_tables}
 use Rattle.dx_instance.specs.Stored.{IsSorting, TableRows, facts, widths}
-use Rattle.dx_instance.proofs.StoredFacts.{fact_from_row, row_from_fact}
+use Rattle.dx_instance.proofs.StoredFacts.{sorting_facts}
 use Rattle.dx_schema.specs.Forest.{Forest}
 use Rattle.dx_schema.specs.Tables.{TableOf, AreTables, as_numbers, model_tables, schema_widths, table_at, tables_of}
-use Rattle.dx_schema.proofs.Preorder.{len_map}
 use Rattle.dx_schema.proofs.Whole.{widths_more}
 use Rattle.clio_source.specs.declared.reading.Reading.{Reading}
 use Rattle.clio_source.specs.Source.{IsStored, Read, as_facts, at_start, cells_in, source_cells}
@@ -43,7 +42,7 @@ holds_start r e b c = record { facts_are = same_equal (ap (λ ts. facts (shown_t
 
 pub many_tables : (f : Forest) (n : ℕ) (r : Reading) → n ≤ length (tables_of f) → ReadFits f n r → length r.tables.items ≡ n
 many_tables f n r le fit =
-    sym (length-map r.tables.items width_of) ∙ ap length fit.widths ∙ length-take-le n (schema_widths f) (omega (arith, le, len_map (λ (t : TableOf). length t.columns) (tables_of f)))
+    sym (length-map r.tables.items width_of) ∙ ap length fit.widths ∙ length-take-le n (schema_widths f) (omega (arith, le, length-map (tables_of f) (λ (t : TableOf). length t.columns)))
 
 pub fit_more : (f : Forest) (n : ℕ) (before after : Reading) (t : NumberTable) → ReadFits f n before → n < length (tables_of f) → Extends before.symbols after.symbols
     → after.tables.items ≡ before.tables.items ++ t ∷ [] → t.width ≡ length (table_at f n).columns → 1 ≤ t.width → Each t.rows (AreBelow (length after.symbols)) → after.cells_left ≤ before.cells_left → ReadFits f (n + 1) after
@@ -105,7 +104,7 @@ pub can_take : (f : Forest) (first last : ℕ) (old new : List NumberTable) (sai
 can_take f first last old new said a many le fits between = record { within = λ x m. (let b = between x m in (omega (arith, b), omega (arith, b, length_new))); wide = wide; empty = empty }
   where
     length_new : length new ≡ last
-    length_new = sym (length-map new width_of) ∙ ap length a.widths ∙ length-take-le last (schema_widths f) (omega (arith, le, len_map (λ (t : TableOf). length t.columns) (tables_of f)))
+    length_new = sym (length-map new width_of) ∙ ap length a.widths ∙ length-take-le last (schema_widths f) (omega (arith, le, length-map (tables_of f) (λ (t : TableOf). length t.columns)))
 
     wide : Each said (λ fact. length fact.row ≡ (numbers_of_table new fact.table).width)
     wide x m =
@@ -155,7 +154,7 @@ pub few_facts : (f : Forest) (said : List Fact) → AreTables (tables_of f) → 
 few_facts f [] tables fits = omega arith
 few_facts f (x ∷ said) tables fits =
     let h = few_facts f said tables (λ y m. fits y (there m)) in
-    let lt : x.table < length (tables_of f) = omega (arith, (fits x (here refl)).table, len_map as_numbers (tables_of f)) in
+    let lt : x.table < length (tables_of f) = omega (arith, (fits x (here refl)).table, length-map (tables_of f) as_numbers) in
     let some = (tables.each_table (table_at f x.table) (in_at (tables_of f) x.table _ lt)).some_column in
     omega (arith, h, some, sum_by-cons (λ (fact : Fact). length (table_at f fact.table).columns) x said)
 
@@ -163,7 +162,7 @@ few_facts f (x ∷ said) tables fits =
 pub table_in : (f : Forest) (said : List Fact) (k : ℕ) (fact : Fact) → IsInstance (model_tables f) said → k < length said → fact ≡ get_or said k fact → fact.table < length (tables_of f)
 table_in f said k fact fits lt at =
     let h = (fits fact (subst (λ (x : Fact). x ∈ said) (sym at) (in_at said k fact lt))).table in
-    omega (arith, h, len_map as_numbers (tables_of f))
+    omega (arith, h, length-map (tables_of f) as_numbers)
 
 abbrev cells_of : Forest → Fact → ℕ
 cells_of f fact = length (table_at f fact.table).columns
@@ -200,12 +199,9 @@ shown_widths : (S : List Value) (ts : List NumberTable) → widths (shown_tables
 shown_widths S [] = refl
 shown_widths S (t ∷ ts) = ap (λ ws. t.width ∷ ws) (shown_widths S ts)
 
-sorted_facts : (I J : List TableRows) → IsSorting I J → facts J ≈ facts I
-sorted_facts I J s = (λ x m. fact_from_row I x.table x.row (s.only x.table x.row (row_from_fact J x m)), λ x m. fact_from_row J x.table x.row (s.kept x.table x.row (row_from_fact I x m)))
-
 pub is_stored : (f : Forest) (r : Reading) (q : Read) (I : List TableRows) → ReadFits f (length (tables_of f)) r → Holds r q → IsSorting (shown_tables r.symbols r.tables.items) I → IsStored f q.facts I
 is_stored f r q I fit h s = record {
   widths_are = s.widths_stay ∙ shown_widths r.symbols r.tables.items ∙ all_wide f r fit;
   ascend = s.ascend;
-  exact = same_trans (sorted_facts (shown_tables r.symbols r.tables.items) I s) h.facts_are;
+  exact = same_trans (sorting_facts (shown_tables r.symbols r.tables.items) I s) h.facts_are;
 }

@@ -1,7 +1,7 @@
 -- Tables of numbers, and the facts that they show.
-use Rattle.std.proofs.Common.{◌≡◌, ℕ, zero, suc, ◌+◌, ◌-◌, ◌^◌, ◌<◌, ◌≤◌, List, [], ◌∷◌, ◌++◌, length, map, set, take, get_or, refl, sym, ◌∙◌, ap, subst, arith, ◌⊎◌, inl, inr, append_assoc}
+use Rattle.std.proofs.Common.{◌≡◌, ℕ, zero, suc, ◌+◌, ◌-◌, ◌^◌, ◌<◌, ◌≤◌, List, [], ◌∷◌, ◌++◌, length, map, set, take, get_or, refl, sym, ◌∙◌, ap, subst, arith, inl, inr, append_assoc}
 use Rattle.std.proofs.lemmas.Bool.{cases_eq}
-use Rattle.std.proofs.lemmas.List.{append-nil, get_or-map, get_or_default, get_or-set_other, get_or-set_same, length-append, length-map, map-append, map-set, take_all, take_more}
+use Rattle.std.proofs.lemmas.List.{append-nil, get_or-map, get_or-set_other, get_or-set_same, length-append, length-map, map-append, map-set, take_all, take_more}
 use Rattle.dx_ports.specs.Members.{◌∈◌, ◌⊆◌, ◌≈◌, here, there, Each}
 use Rattle.dx_ports.proofs.Members.{from_append, in_at, in_left, in_right, same_append, same_equal, same_members, same_trans}
 use Rattle.dx_model.specs.declared.values.Value.{Value}
@@ -10,23 +10,12 @@ use Rattle.dx_instance.specs.Cells.{NumberTable, with_numbers}
 use Rattle.dx_instance.specs.Numbers.{Extends, value_of}
 use Rattle.dx_instance.specs.Shown.{AreBelow, RowsFit, Shows, numbers_of_table, shown, shown_row, shown_tables}
 use Rattle.dx_instance.specs.Stored.{AddsRow, TableRows, facts, facts_from, rows_of, widths}
-use Rattle.dx_instance.proofs.ShownFacts.{grown_below, grown_row}
+use Rattle.dx_instance.proofs.ShownFacts.{grown_below, grown_rows, grown_fitting, from_set, table_read}
 use Rattle.dx_instance.proofs.StoredFacts.{fact_from_row, row_from_fact}
 use Rattle.clio_source.specs.Source.{as_facts}
 use Rattle.clio_source.specs.Fitting.{AddsFacts, CanTake, rows_shown}
 
 -- ---- more symbols change no row
-
-rows_kept : (S T : List Value) (rows : List (List ℕ)) → Extends S T → Each rows (AreBelow (length S)) → map (shown_row T) rows ≡ map (shown_row S) rows
-rows_kept S T [] x b = refl
-rows_kept S T (r ∷ rs) x b =
-    ap (λ v. v ∷ map (shown_row T) rs) (grown_row S T r x (b r (here refl))) ∙ ap (λ vs. shown_row S r ∷ vs) (rows_kept S T rs x (λ q m. b q (there m)))
-
-tables_kept : (S T : List Value) (ts : List NumberTable) → Extends S T → Each ts (RowsFit (length S)) → shown_tables T ts ≡ shown_tables S ts
-tables_kept S T [] x b = refl
-tables_kept S T (t ∷ ts) x b =
-    let first : shown T t ≡ shown S t = (let e = rows_kept S T t.rows x (b t (here refl)).within in λ i. record { width = t.width; rows = e i }) in
-    ap (λ v. v ∷ shown_tables T ts) first ∙ ap (λ vs. shown S t ∷ vs) (tables_kept S T ts x (λ u m. b u (there m)))
 
 pub still_fit : (S T : List Value) (t : NumberTable) → Extends S T → RowsFit (length S) t → RowsFit (length T) t
 still_fit S T t x b = record { columns = b.columns; within = λ r m. grown_below S T r x (b.within r m) }
@@ -51,7 +40,7 @@ pub facts_of_one : (S T : List Value) (ts now : List NumberTable) (t : NumberTab
     → facts (shown_tables T now) ≡ facts (shown_tables S ts) ++ as_facts n (rows_shown T t)
 facts_of_one S T ts now t n x b e many =
     ap (λ us. facts (shown_tables T us)) e ∙ shown_both T ts (t ∷ [])
-    ∙ ap (λ (I : List TableRows). facts I ++ facts_from (length ts) (shown_tables T (t ∷ []))) (tables_kept S T ts x b)
+    ∙ ap (λ (I : List TableRows). facts I ++ facts_from (length ts) (shown_tables T (t ∷ []))) (grown_fitting S T ts x b)
     ∙ ap (λ k. facts (shown_tables S ts) ++ (as_facts k (rows_shown T t) ++ [])) many
     ∙ ap (λ fs. facts (shown_tables S ts) ++ fs) (append-nil (as_facts n (rows_shown T t)))
 
@@ -134,7 +123,7 @@ adds_numbers S T ts now j t numbers row x b lt at is shows =
     width = sym (ap (λ (u : TableRows). u.width) (old_is (shown T (with_numbers t numbers))))
 
     kept : map (shown_row T) t.rows ≡ map (shown_row S) t.rows
-    kept = rows_kept S T t.rows x (b t (subst (λ (u : NumberTable). u ∈ ts) (sym at) (in_at ts j t lt))).within
+    kept = grown_rows S T t.rows x (b t (subst (λ (u : NumberTable). u ∈ ts) (sym at) (in_at ts j t lt))).within
 
     rows_are : map (shown_row T) (t.rows ++ numbers ∷ []) ≡ rows_of (shown_tables S ts) j ++ row ∷ []
     rows_are =
@@ -142,7 +131,7 @@ adds_numbers S T ts now j t numbers row x b lt at is shows =
         ∙ ap (λ (r : List Value). map (shown_row S) t.rows ++ r ∷ []) shows ∙ ap (λ (rs : List (List Value)). rs ++ row ∷ []) (sym (ap (λ (u : TableRows). u.rows) (old_is no_rows)))
 
     whole : shown_tables T now ≡ set (shown_tables S ts) j new
-    whole = ap (shown_tables T) is ∙ map-set (shown T) ts j (with_numbers t numbers) ∙ ap (λ (I : List TableRows). set I j (shown T (with_numbers t numbers))) (tables_kept S T ts x b)
+    whole = ap (shown_tables T) is ∙ map-set (shown T) ts j (with_numbers t numbers) ∙ ap (λ (I : List TableRows). set I j (shown T (with_numbers t numbers))) (grown_fitting S T ts x b)
 
 -- ---- facts one after the other
 
@@ -173,9 +162,6 @@ many_same ts now e = sym (length-map now width_of) ∙ ap length e ∙ length-ma
 width_at : (ts : List NumberTable) (j : ℕ) → j < length ts → get_or (map width_of ts) j 0 ≡ (numbers_of_table ts j).width
 width_at ts j lt = get_or-map width_of ts j no_numbers 0 lt
 
-read_at : (ts : List NumberTable) (j : ℕ) (t : NumberTable) → j < length ts → t ≡ get_or ts j t → t ≡ numbers_of_table ts j
-read_at ts j t lt at = at ∙ get_or_default ts j t no_numbers lt
-
 -- what is asked of the next row
 pub record IsNext (ts now : List NumberTable) (t : NumberTable) (fact : Fact) (numbers : List ℕ) : Type 0 where
   pub table : fact.table < length now
@@ -195,7 +181,7 @@ is_next S T U ts now first said k fact t numbers p c lt at few read shows =
     let m : fact ∈ said = subst (λ (x : Fact). x ∈ said) (sym at) (in_at said k fact lt) in
     let w = table_there S T ts now first said k fact p c lt at in
     let old : fact.table < length ts = omega (arith, w, many_same ts now p.widths) in
-    let is = read_at now fact.table t w.1 read in
+    let is = table_read now fact.table t w.1 read in
     let rows = p.few fact.table w.0 in
     let wide = sym (width_at ts fact.table old) ∙ ap (λ ws. get_or ws fact.table 0) (sym p.widths) ∙ width_at now fact.table w.1 ∙ sym (ap width_of is) in record {
       table = w.1;
@@ -207,13 +193,6 @@ widths_put : (ts : List NumberTable) (j : ℕ) (t u : NumberTable) → t ≡ get
 widths_put [] j t u at lt e = absurd (omega arith)
 widths_put (x ∷ ts) zero t u at lt e = ap (λ w. w ∷ map width_of ts) (e ∙ ap width_of at)
 widths_put (x ∷ ts) (suc j) t u at lt e = ap (λ ws. x.width ∷ ws) (widths_put ts j t u at (omega arith) e)
-
-from_set : (ts : List NumberTable) (j : ℕ) (u x : NumberTable) → x ∈ set ts j u → (u ≡ x) ⊎ (x ∈ ts)
-from_set [] j u x m = elim m [ ]
-from_set (z ∷ zs) zero u x (here e) = inl e
-from_set (z ∷ zs) zero u x (there m) = inr (there m)
-from_set (z ∷ zs) (suc j) u x (here e) = inr (here e)
-from_set (z ∷ zs) (suc j) u x (there m) = elim (from_set zs j u x m) [ inl e ↦ inl e | inr k ↦ inr (there k) ]
 
 pub one_put : (S T U : List Value) (ts now after : List NumberTable) (first : ℕ) (said : List Fact) (k : ℕ) (fact : Fact) (t : NumberTable) (numbers : List ℕ) → ArePut S T ts now first said k → CanTake ts first said
     → k < length said → fact ≡ get_or said k fact → t ≡ get_or now fact.table t → Extends T U → Shows U numbers fact.row → after ≡ set now fact.table (with_numbers t numbers) → ArePut S U ts after first said (k + 1)
@@ -254,7 +233,7 @@ one_put S T U ts now after first said k fact t numbers p c lt at read grows show
           let x = get_or-set_same now fact.table (with_numbers t numbers) no_numbers there_is in
           let n = ap (λ i. length (numbers_of_table (set now fact.table (with_numbers t numbers)) i).rows) e ∙ ap (λ (u : NumberTable). length u.rows) x ∙ length-append t.rows (numbers ∷ []) in
           let o = p.few fact.table (table_there S T ts now first said k fact p c lt at).0 in
-          omega (arith, n, o, ap (λ (u : NumberTable). length u.rows) (read_at now fact.table t there_is read))
+          omega (arith, n, o, ap (λ (u : NumberTable). length u.rows) (table_read now fact.table t there_is read))
       | inr other ↦
           let n = ap (λ (u : NumberTable). length u.rows) (get_or-set_other now fact.table j (with_numbers t numbers) no_numbers other) in
           let o = p.few j le in

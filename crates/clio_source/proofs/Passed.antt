@@ -1,13 +1,13 @@
 -- What the stages of the source have passed.
 use Rattle.std.proofs.Common.{◌≡◌, ℕ, ◌-◌, ◌<◌, List, [], ◌∷◌, ◌++◌, length, refl, sym, ◌∙◌, ap, subst, Ok, Err, inl, inr, arith, true, false}
 use Rattle.std.specs.Prelude.{nat_lt, Bool, if◌then◌else◌}
+use Rattle.std.proofs.lemmas.List.{length-map}
 use Rattle.dx_ports.specs.Members.{◌∈◌, here, there, Each}
 use Rattle.dx_ports.proofs.Members.{from_append, from_map}
 use Rattle.dx_model.specs.declared.values.Value.{Value}
 use Rattle.dx_model.specs.declared.facts.Fact.{Fact}
 use Rattle.dx_schema.specs.Forest.{Forest}
 use Rattle.dx_schema.specs.Tables.{as_numbers, tables_of}
-use Rattle.dx_schema.proofs.Preorder.{len_map}
 use Rattle.dx_json.proofs.Fitting.{facts_fit}
 use Rattle.dx_stages.specs.Worlds.{World}
 use Rattle.dx_stages.specs.Stages.{each}
@@ -24,7 +24,7 @@ said_of flat f root bytes said r s x m =
     subst (λ n. n < length (tables_of f)) (ap (λ (y : Fact). y.table) k.2) r.within
 said_of nested f root bytes said r s x m =
     let k = (facts_fit bytes f root said r.within r.parent s x m).table in
-    omega (arith, k, len_map as_numbers (tables_of f))
+    omega (arith, k, length-map (tables_of f) as_numbers)
 
 counted : (f : Forest) (q : Read × List Fact) (s : Read) → with_facts f q ≡ Ok s → s.facts ≡ q.0.facts ++ q.1
 counted f q s is = of (nat_lt q.0.cells_left (cells_in f q.1)) is

@@ -2,17 +2,17 @@
 use Rattle.std.proofs.Common.{◌≡◌, ℕ, zero, suc, ◌+◌, ◌-◌, ◌<◌, ◌≤◌, List, [], ◌∷◌, ◌++◌, length, map, take, drop, get_or, reverse, Option, Some, None, true, false, not, refl, sym, ◌∙◌, ap, subst, arith, inl, inr}
 use Rattle.std.specs.Prelude.{codes}
 use Rattle.std.proofs.lemmas.Bool.{cases_lt}
-use Rattle.std.proofs.lemmas.List.{append_cancel_right, get_or_append_left, get_or-append-add, get_or-map, reverse-append, take_more, take-append-drop, take_all}
+use Rattle.std.proofs.lemmas.List.{append_cancel_right, get_or_append_left, get_or-append-add, get_or-map, reverse-append, take_more, take-append-drop, take_all, length-map}
 use Rattle.dx_ports.specs.Members.{◌∈◌, here, there, Distinct}
 use Rattle.dx_ports.proofs.Members.{in_at}
 use Rattle.dx_schema.specs.Forest.{Forest, Tree, none, set, forest_of, has_sets}
-use Rattle.dx_schema.specs.Inner.{AreAscending}
 use Rattle.dx_schema.specs.Tables.{AreTables, Placed, TableOf, count, nowhere, numbers_in, placed, sets_of, table_at, table_in, tables_of, tree_at}
 use Rattle.dx_schema.proofs.Numbered.{found_here, tables_counted}
-use Rattle.dx_schema.proofs.Preorder.{count_more, len_map, length_placed}
+use Rattle.dx_schema.proofs.Preorder.{count_more, length_placed}
 use Rattle.dx_stages.specs.Stages.{each}
 use Rattle.dx_stages.specs.Laws.{AreApart, AsksOnly}
 use Rattle.dx_stages.proofs.Decided.{apart_by, each_only}
+use Rattle.dx_schema.proofs.Inner.{numbers_ascend}
 use Rattle.clio_source.specs.Laws.{RootsHaveNoParent}
 use Rattle.clio_source.specs.Source.{Form, csv_name, file_at, flat, form_at, form_of, json_name, named_by, nested, reading, roots}
 
@@ -87,12 +87,8 @@ of_level n (set l i r) (suc k) d lt e =
           there (subst (λ m. m ∈ numbers_in (suc (n + count i)) r) number rest)
     ]
 
-ascend : (n : ℕ) (g : Forest) → AreAscending (numbers_in n g)
-ascend n none = tt
-ascend n (set l i r) = ((λ u m. (let h = numbers_between (suc (n + count i)) r u m in omega (arith, h))), ascend (suc (n + count i)) r)
-
 pub no_parent : RootsHaveNoParent
-no_parent f = record { exact = λ t. ((λ m. (let r = is_root f t m in (r.within, r.parent))), back t); ascending = ascend 0 f }
+no_parent f = record { exact = λ t. ((λ m. (let r = is_root f t m in (r.within, r.parent))), back t); ascending = numbers_ascend 0 f }
   where
     back : (t : ℕ) → (t < length (tables_of f)) × ((table_at f t).parent ≡ None) → t ∈ roots f
     back t (lt, e) =
@@ -221,7 +217,7 @@ names_in ts = map (λ (t : TableOf). t.name) ts
 names_differ : (f : Forest) (u v : ℕ) → Distinct (names_in (tables_of f)) → u < v → v < length (tables_of f) → ¬ ((table_at f u).name ≡ (table_at f v).name)
 names_differ f u v d lt within e =
     let name = λ (t : TableOf). t.name in
-    let v_in : v < length (names_in (tables_of f)) = omega (arith, len_map name (tables_of f)) in
+    let v_in : v < length (names_in (tables_of f)) = omega (arith, length-map (tables_of f) name) in
     let at_u = get_or-map name (tables_of f) u _ [] (omega arith) in
     let at_v = get_or-map name (tables_of f) v _ [] within in
     distinct_at (names_in (tables_of f)) u v d lt v_in (at_u ∙ e ∙ sym at_v)

@@ -26,10 +26,10 @@ use Rattle.dx_exchange.proofs.Lists.{fit_tuples, one_each}
 use Rattle.dx_stages.specs.declared.stop.Stop.{Stop}
 use Rattle.dx_stages.specs.declared.stop.Stop.TheVariants as stops
 use Rattle.dx_stages.specs.Stages.{Stage, become, by, next, over, saying}
-use Rattle.dx_stages.specs.Running.{FailedAt, Told, Ran, Gives, Meets, said}
+use Rattle.dx_stages.specs.Running.{Told, Ran, Gives, Meets, said}
 use Rattle.dx_stages.specs.Worlds.{World}
 use Rattle.dx_stages.specs.Ending.{Planned}
-use Rattle.dx_stages.proofs.Running.{ran_by, ran_into, ran_into_stop, ran_memory, ran_next, ran_over, ran_passes, ran_saying, ran_stop, ran_value, silent_apart}
+use Rattle.dx_stages.proofs.Running.{ran_by, ran_into, ran_into_stop, ran_memory, ran_next, ran_over, ran_passes, ran_saying, ran_stop, ran_value, silent_apart, fault_of}
 use Rattle.clio_accept.specs.declared.mapping.Mapping.{Mapping}
 use Rattle.clio_accept.specs.Laws.{MappingFits}
 use Rattle.clio_source.specs.declared.fault.SourceRefusal.{SourceRefusal}
@@ -163,11 +163,6 @@ pub target_made : (P : Program) (mode : Mode) (p : Filled) (e : Exchange) → Gi
 target_made P mode p e g = λ c. (e, g c, refl)
 
 -- ---- what becomes of a result
-
-fault_of : {E : Type 0} (B C : Type 0) (old new : Told) (e : Stop E) → FailedAt {B = B} old new (Err e) → FailedAt {B = C} old new (Err e)
-fault_of B C old new (stops.Refused e) f = tt
-fault_of B C old new (stops.Failed n) f = f
-fault_of B C old new stops.Memory f = tt
 
 pub ran_become_stop : {E A B C : Type 0} (R : A → B → C → Type 0) (s : Stage E A B) (a : A) (e : Stop E) (old new : Told) → Ran s a (Err e) old new
     → Ran (become R s) a (Err e) old new

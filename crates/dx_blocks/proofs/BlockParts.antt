@@ -12,9 +12,10 @@ use Rattle.dx_model.specs.declared.values.Value.TheVariants.{Null}
 use Rattle.dx_model.specs.declared.facts.Fact.{Fact}
 use Rattle.dx_model.specs.Values.{NullsAscend, null_cmp}
 use Rattle.dx_model.specs.Instances.{values}
-use Rattle.dx_model.proofs.Lists.{from_filter, in_filter}
+use Rattle.dx_model.proofs.Lists.{in_filter}
 use Rattle.dx_model.proofs.Orders.{null_total, null_exact}
 use Rattle.std.specs.Ordering.{ordering_reverse}
+use Rattle.dx_ports.proofs.Tests.{from_filter}
 use Rattle.dx_blocks.specs.declared.block.Block.{Block}
 use Rattle.dx_blocks.specs.Blocks.{AreBlocks, IsBlockOf, least}
 use Rattle.dx_blocks.specs.Nulls.{AreNulls, null_at}

@@ -3,6 +3,7 @@ use Rattle.std.proofs.Common.{◌≡◌, ℕ, ◌+◌, ◌<◌, ◌≤◌, List,
 use Rattle.std.proofs.Common.{length, get_or, take}
 use Rattle.std.specs.List.{range_with_len}
 use Rattle.std.proofs.lemmas.List.{take_more, take_all, take_at}
+use Rattle.std.proofs.lemmas.List.FromFn.{length-range_with_len}
 use Rattle.dx_ports.specs.Members.{◌∈◌, here, there}
 use Rattle.dx_ports.proofs.Loops.{each_item, each_more}
 use Rattle.dx_ports.proofs.Members.{in_at, in_flat_map, from_append}
@@ -17,7 +18,7 @@ use Rattle.dx_blocks.specs.Forest.{Falls, Respects, AreTied, AreSameTrees, IsJoi
 use Rattle.dx_blocks.specs.Labels.{AreLabels, AreOne, JoinsRow, JoinsAll}
 use Rattle.dx_blocks.proofs.Connections.{connected_by, connected_trans, connected_sym, connected_same}
 use Rattle.dx_blocks.proofs.NullLists.{place_is_one, place_there}
-use Rattle.dx_blocks.proofs.Trees.{length_singles, at_singles}
+use Rattle.dx_blocks.proofs.Trees.{at_singles}
 
 abbrev at : List ℕ → ℕ → ℕ
 at xs k = get_or xs k 0
@@ -141,17 +142,17 @@ known A ns i f a h e n m = (a.exactly n).1 (in_flat_map (λ (g : Fact). g.row) (
 -- ---- labels
 
 singles_fall : (n : ℕ) → Falls (range_with_len 0 n)
-singles_fall n k h = let e = at_singles n k (rw (length_singles 0 n) at h) in omega arith
+singles_fall n k h = let e = at_singles n k (rw (length-range_with_len 0 n) at h) in omega arith
 
 pub single_trees_fall : (P : List ℕ) (n : ℕ) → P ≡ range_with_len 0 n → Falls P
 single_trees_fall P n e = rw e (singles_fall n)
 
 pub single_trees_many : (P : List ℕ) (n : ℕ) → P ≡ range_with_len 0 n → length P ≡ n
-single_trees_many P n e = rw e (length_singles 0 n)
+single_trees_many P n e = rw e (length-range_with_len 0 n)
 
 single_trees_tied : (A : List Fact) (ns : List NullId) (P : List ℕ) (n : ℕ) → P ≡ range_with_len 0 n → AreTied A ns P
 single_trees_tied A ns P n e k h =
-    connected_same (ap (null_at ns) (sym (rw e (at_singles n k (rw (e, length_singles 0 n) at h)))))
+    connected_same (ap (null_at ns) (sym (rw e (at_singles n k (rw (e, length-range_with_len 0 n) at h)))))
 
 -- flat trees in which the nulls of each fact are one
 module _ (A : List Fact) (ns : List NullId) (a : AreNulls A ns) (R : List ℕ) (many : length R ≡ length ns)

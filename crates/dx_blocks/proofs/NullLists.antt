@@ -20,7 +20,7 @@ use Rattle.dx_model.specs.contracts.values.NullIdOrd.TheImpl.{cmp-value as null_
 use Rattle.dx_model.specs.contracts.values.NullIdPartialEq.TheImpl.{eq-value as null_same}
 use Rattle.dx_model.specs.Values.{Ascends, NullsAscend, null_cmp}
 use Rattle.dx_model.specs.Instances.{values}
-use Rattle.dx_model.proofs.Orders.{null_total}
+use Rattle.dx_model.proofs.Orders.{null_total, not_above}
 use Rattle.dx_blocks.specs.Nulls.{AreNulls, null_at, null_in, nulls_in}
 use Rattle.dx_blocks.proofs.Sorting.{nulls_ascend, nulls_same}
 
@@ -86,9 +86,6 @@ ascends_at before (x ∷ xs) a (suc i) (suc j) d h k = ascends_at before xs a.1 
 pub not_less : (n : NullId) → null_cmp n n ≡ Less → ⊥
 not_less n e = let t = null_total.antisymm n n in cc (rw e at t)
 
-not_greater : (n : NullId) → null_cmp n n ≡ Greater → ⊥
-not_greater n e = let t = null_total.antisymm n n in cc (rw e at t)
-
 -- the nulls of an ascending list differ
 pub place_is_one : (ns : List NullId) → NullsAscend ns → (i j : ℕ) → i < length ns → j < length ns → null_at ns i ≡ null_at ns j → i ≡ j
 place_is_one ns a i j h k e = elim (cases_order i j) [
@@ -123,9 +120,9 @@ is_found ns n i a m p =
     let split = p (searchable ns n a) in
     let d : NullId = record { rule = 0; var = 0; row = 0 } in
     elim (cases_order w.0 i) [
-      | inl e ↦ not_greater n (rw w.2 at (split.1 w.0 d (omega arith) w.1))
+      | inl e ↦ not_above n (rw w.2 at (split.1 w.0 d (omega arith) w.1))
       | inr o ↦ elim o [
         | inl l ↦ not_less n (rw w.2 at (split.0 w.0 d (omega arith) l))
-        | inr l ↦ not_greater n (rw w.2 at (split.1 w.0 d (omega arith) w.1))
+        | inr l ↦ not_above n (rw w.2 at (split.1 w.0 d (omega arith) w.1))
       ]
     ]

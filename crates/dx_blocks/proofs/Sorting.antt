@@ -70,7 +70,7 @@ nulls_same = once_same null_order.it null_order_total null_same.it null_equiv (�
 
 -- ---- facts
 
-fact_exactly : (a b : Fact) → fact_order.it a b ≡ Equal → a ≡ b
+pub fact_exactly : (a b : Fact) → fact_order.it a b ≡ Equal → a ≡ b
 fact_exactly a b e =
     let d : fact_cmp a b ≡ Equal = sym (facts_compare a b) ∙ e in
     let rows = fact_exact a b d in

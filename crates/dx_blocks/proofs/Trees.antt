@@ -3,6 +3,7 @@ use Rattle.std.proofs.Common.{◌≡◌, ℕ, zero, suc, ◌+◌, ◌<◌, ◌�
 use Rattle.std.proofs.Common.{length, get_or, set, length-set, get_or-set_same, get_or-set_other}
 use Rattle.std.specs.List.{range_with_len}
 use Rattle.std.proofs.lemmas.Bool.{cases_eq}
+use Rattle.dx_ports.proofs.Ranges.{range_more}
 use Rattle.dx_model.specs.declared.values.NullId.{NullId}
 use Rattle.dx_model.specs.declared.facts.Fact.{Fact}
 use Rattle.dx_model.specs.Blocks.{Connected, itself}
@@ -13,20 +14,8 @@ use Rattle.dx_blocks.proofs.Connections.{connected_trans, connected_sym}
 abbrev at : List ℕ → ℕ → ℕ
 at xs k = get_or xs k 0
 
-range_more : (a n : ℕ) → range_with_len a (n + 1) ≡ range_with_len a n ++ (a + n) ∷ []
-range_more a zero = ap (λ z. z ∷ []) (omega arith)
-range_more a (suc n) =
-    let r = range_more (a + 1) n in
-    let e : (a + 1) + n ≡ a + suc n = omega arith in
-    let d : suc n + 1 ≡ suc (n + 1) = omega arith in
-    ap (range_with_len a) d ∙ ap (λ z. a ∷ z) (r ∙ ap (λ z. range_with_len (a + 1) n ++ z ∷ []) e)
-
 pub singles_more : (n : ℕ) → range_with_len 0 (n + 1) ≡ range_with_len 0 n ++ n ∷ []
 singles_more n = range_more 0 n ∙ ap (λ z. range_with_len 0 n ++ z ∷ []) (omega arith)
-
-pub length_singles : (a n : ℕ) → length (range_with_len a n) ≡ n
-length_singles a zero = refl
-length_singles a (suc n) = ap suc (length_singles (a + 1) n)
 
 at_range : (a n k : ℕ) → k < n → at (range_with_len a n) k ≡ a + k
 at_range a zero k h = absurd (omega arith)

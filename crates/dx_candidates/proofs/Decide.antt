@@ -18,10 +18,11 @@ use Rattle.dx_lines.specs.Kept.{is_among, suffices_at, is_dropped}
 use Rattle.dx_ways.proofs.WaysAre.{ways_grow}
 use Rattle.dx_candidates.specs.Laws.{GreatestPartsDecide}
 use Rattle.dx_candidates.specs.Parts.{is_first, is_child, children, source_parts, target_parts, greatest_parts, are_among, is_in_part}
-use Rattle.dx_candidates.proofs.Lists.{below_upto, in_upto}
+use Rattle.dx_candidates.proofs.Lists.{in_upto}
 use Rattle.dx_candidates.proofs.Subtree.{sub_within}
 use Rattle.dx_candidates.proofs.Tree.{is_below, first_has_all, child_later, has_first}
 use Rattle.dx_ports.proofs.Tests.{from_any, to_any, from_all, to_all, from_filter, to_filter, same_test}
+use Rattle.dx_lines.proofs.Sources.{below_upto}
 
 -- more ways have more picks
 among_grow : (found more : List Pick) (k : Pick) → found ⊆ more → is_among found k ≡ true → is_among more k ≡ true

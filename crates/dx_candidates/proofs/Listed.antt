@@ -27,12 +27,12 @@ use Rattle.dx_candidates.specs.Faults.{IsFault, ways_limit, candidates_limit}
 use Rattle.dx_candidates.specs.declared.listing.Plan.{Plan}
 use Rattle.dx_candidates.specs.Listing.{IsPlan, IsReady, is_needed, rules_between, rules_of_pair}
 use Rattle.dx_candidates.specs.Pairs.{IsSound, unfoldings, relation_at, ways_between, pair_by, pair_at, pairs_at, pairs_between, has_many_to, has_many_at, have_many_ways, candidates_in, IsPair, ArePairs}
-use Rattle.dx_candidates.proofs.Lists.{below_upto}
 use Rattle.dx_candidates.proofs.Paired.{pairs_are}
 use Rattle.dx_candidates.proofs.Readable.{are_read, are_reached, have_variables}
 use Rattle.dx_candidates.proofs.Unfolded.{unfoldings_length, unfolding_at}
 use Rattle.dx_candidates.proofs.Decide.{greatest_parts_decide}
 use Rattle.dx_ports.proofs.Tests.{flat_map_same, any_same}
+use Rattle.dx_lines.proofs.Sources.{below_upto}
 
 -- ---- lists of lists
 

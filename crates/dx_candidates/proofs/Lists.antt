@@ -8,7 +8,7 @@ use Rattle.std.proofs.lemmas.List.Folds.{list_any-append}
 use Rattle.std.proofs.lemmas.List.Elements.{filter-append}
 use Rattle.dx_ports.specs.Members.{◌∈◌}
 use Rattle.dx_lines.specs.Candidates.{upto}
-use Rattle.dx_ports.proofs.Ranges.{from_range, to_range}
+use Rattle.dx_ports.proofs.Ranges.{to_range}
 
 -- ---- numbers from 0 on
 
@@ -37,9 +37,6 @@ any_upto f n e h = ap (list_any f) (upto_more n) ∙ (list_any-append f (upto n)
 
 pub filter_upto : (f : ℕ → Bool) (n : ℕ) → filter f (upto (n + 1)) ≡ filter f (upto n) ++ cond (f n) (n ∷ []) []
 filter_upto f n = ap (filter f) (upto_more n) ∙ filter-append f (upto n) (n ∷ [])
-
-pub below_upto : (n x : ℕ) → x ∈ upto n → x < n
-below_upto n x m = let r = from_range 0 n x m in omega (arith, r.1)
 
 pub in_upto : (n x : ℕ) → x < n → x ∈ upto n
 in_upto n x h = to_range 0 n x (omega arith) (omega arith)

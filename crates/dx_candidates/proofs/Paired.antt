@@ -18,8 +18,9 @@ use Rattle.dx_candidates.specs.declared.fault.CandFault.{CandFault}
 use Rattle.dx_candidates.specs.declared.pairs.Pair.{Pair}
 use Rattle.dx_candidates.specs.Faults.{IsFault, ways_limit, ways_fault}
 use Rattle.dx_candidates.specs.Pairs.{relation_at, ways_between, pair_by, pair_at, pairs_from, pairs_at, pairs_between, has_many_to, has_many_from, has_many_at, have_many_ways, IsPair, ArePairs}
-use Rattle.dx_candidates.proofs.Lists.{flat_map_upto, any_upto, in_upto, below_upto}
+use Rattle.dx_candidates.proofs.Lists.{flat_map_upto, any_upto, in_upto}
 use Rattle.dx_ports.proofs.Tests.{to_any, none_of}
+use Rattle.dx_lines.proofs.Sources.{below_upto}
 
 pub at_item : (rs : List Relation) (n : ℕ) (r : Relation) → n < length rs → r ≡ get_or rs n r → relation_at rs n ≡ r
 at_item rs n r h e = get_or_default rs n nothing r h ∙ sym e

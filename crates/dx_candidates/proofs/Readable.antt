@@ -11,9 +11,9 @@ use Rattle.dx_lines.specs.declared.line.Line.{Line}
 use Rattle.dx_lines.specs.Candidates.{upto}
 use Rattle.dx_lines.specs.Limits.{LineFits}
 use Rattle.dx_lines.specs.Reading.{IsRead, IsReached}
+use Rattle.dx_lines.proofs.Sources.{below_upto}
 use Rattle.dx_candidates.specs.Listing.{HaveVariables}
 use Rattle.dx_candidates.specs.Pairs.{IsSound, unfoldings, AreRead, AreReached}
-use Rattle.dx_candidates.proofs.Lists.{below_upto}
 use Rattle.dx_candidates.proofs.Subtree.{sub_within}
 
 -- ---- parts

@@ -12,7 +12,7 @@ use Rattle.dx_logical.specs.declared.relation.Relation.{Relation}
 use Rattle.dx_logical.specs.Unfolding.{Follows, none, along, all_links, joined, items_at, row_of, continued, alone, unfolding_of, sub}
 use Rattle.dx_logical.specs.Laws.{occurrence_at, IsUnfolding, ComesFrom, itself, after, IsSubtree}
 use Rattle.dx_logical.proofs.Facts.{extends_joined, last_joined, unfoldings_are}
-use Rattle.dx_logical.proofs.Subtrees.{subtrees_are}
+use Rattle.dx_logical.proofs.Subtrees.{subtrees_are, comes_further}
 use Rattle.dx_candidates.proofs.Readable.{place_in}
 
 abbrev nowhere : Occurrence
@@ -81,10 +81,6 @@ child_by r b h (suc fuel) q lt pos w =
           let e : x.0 ≡ 0 = omega arith in
           record { child = q; later = pos; within = w; parent = x.1 ∙ ap Some e; from = itself }
     ]
-
-comes_further : (r : Relation) (p m q : ℕ) → ComesFrom r p m → ComesFrom r m q → ComesFrom r p q
-comes_further r p m q a itself = a
-comes_further r p m q a (after {m = u} e c) = after e (comes_further r p m u a c)
 
 first_by : (r : Relation) → AreBefore r → HasParents r → (q : ℕ) → q < length r.occurrences → ComesFrom r 0 q
 first_by r b h q w = elim (cases_lt 0 q) [

@@ -6,9 +6,10 @@ use Rattle.dx_model.specs.declared.rules.Atom.{Atom}
 use Rattle.dx_model.specs.Solutions.{AtomFits}
 use Rattle.dx_schema.specs.Forest.{Forest}
 use Rattle.dx_schema.specs.Tables.{AreTables, tables_of, table_at, model_tables}
-use Rattle.dx_logical.proofs.Continued.{is_table, width_at}
+use Rattle.dx_logical.proofs.Continued.{width_at}
 use Rattle.dx_model.specs.Rules.{existentials}
 use Rattle.dx_model.specs.Fitting.{AreNumbered}
+use Rattle.dx_schema.proofs.Facts.{is_table}
 use Rattle.dx_closing.specs.Closing.{above, begun}
 use Rattle.dx_closing.specs.Laws.{IsRoomy}
 use Rattle.dx_closing.proofs.Numbers.{above_numbered, numbered_few, numbered_below, few_in_atoms}

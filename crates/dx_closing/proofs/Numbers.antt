@@ -10,6 +10,7 @@ use Rattle.dx_model.specs.declared.rules.Cell.TheVariants.{Var, Ex, Lit}
 use Rattle.dx_model.specs.declared.rules.Atom.{Atom}
 use Rattle.dx_model.specs.Rules.{cells_of, existential_in, existentials}
 use Rattle.dx_model.specs.Fitting.{Numbered}
+use Rattle.dx_model.proofs.Cells.{few_existentials}
 use Rattle.dx_closing.specs.Closing.{above}
 use Rattle.dx_closing.proofs.Steps.{in_item}
 
@@ -47,13 +48,6 @@ few_in_cell (Var x) = omega arith
 few_in_cell (Ex v) = omega arith
 few_in_cell (Lit t) = omega arith
 
-pub few_in_row : (row : List Cell) → length (flat_map existential_in row) ≤ length row
-few_in_row [] = omega arith
-few_in_row (c ∷ cs) =
-    let a = few_in_cell c in
-    let b = few_in_row cs in
-    rw length-append (omega (arith, a, b))
-
 pub existentials-more : (a : Atom) (C : List Atom) → existentials (a ∷ C) ≡ flat_map existential_in a.cells ++ existentials C
 existentials-more a C = flat_map-append existential_in a.cells (cells_of C)
 
@@ -62,7 +56,7 @@ pub few_in_atoms : (C : List Atom) → Each C (λ a. length a.cells ≤ 64) → 
 few_in_atoms [] h = omega arith
 few_in_atoms (a ∷ C) h =
     let w = h a (here refl) in
-    let r = few_in_row a.cells in
+    let r = few_existentials a.cells in
     let i = few_in_atoms C (λ b m. h b (there m)) in
     rw (existentials-more a C, length-append) (omega (arith, w, r, i))
 

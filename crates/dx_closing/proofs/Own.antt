@@ -1,8 +1,8 @@
 -- A conclusion whose links are served is its own closing.
-use Rattle.std.proofs.Common.{◌≡◌, ℕ, zero, suc, Bool, true, false, ◌||◌, Option, Some, None, List, [], ◌∷◌, length, refl, ap}
+use Rattle.std.proofs.Common.{◌≡◌, ℕ, zero, suc, Bool, true, Option, Some, None, List, [], ◌∷◌, length, refl, ap}
 use Rattle.std.specs.Prelude.{slice_get, slice_index_or}
 use Rattle.std.specs.List.{list_any}
-use Rattle.std.proofs.lemmas.Bool.{cond-true, eq-eqb}
+use Rattle.std.proofs.lemmas.Bool.{cond-true, eq-eqb, or_right}
 use Rattle.std.proofs.lemmas.Slice.Eq.{bytes_eq-Decides}
 use Rattle.dx_ports.specs.Members.{◌∈◌, here, there, Each}
 use Rattle.dx_model.specs.declared.rules.Cell.{Cell}
@@ -28,14 +28,10 @@ has_cells-itself row (c ∷ cs) = rw (same_cell-refl (slice_index_or row c (Lit 
 serves_all : (l : Link) (cells : List Cell) (a : Atom) → a.table ≡ l.table → cells_in l.to a.cells ≡ cells → serves l cells a ≡ true
 serves_all l cells a t e = rw (← e, t, eq-eqb l.table l.table refl) (has_cells-itself a.cells l.to)
 
-or_so : (a b : Bool) → b ≡ true → (a || b) ≡ true
-or_so true b e = refl
-or_so false b e = e
-
 any_so : {X : Type 0} (p : X → Bool) {x : X} {xs : List X} → x ∈ xs → p x ≡ true → list_any p xs ≡ true
 any_so p {xs = []} m e = elim m [ ]
 any_so p {x} {xs = y ∷ ys} (here d) e = rw (d, e) refl
-any_so p {x} {xs = y ∷ ys} (there m) e = or_so (p y) (list_any p ys) (any_so p m e)
+any_so p {x} {xs = y ∷ ys} (there m) e = or_right (p y) (list_any p ys) (any_so p m e)
 
 links_stay : (schema : List Table) (row : List Cell) (C : Growing) (ls : List Link) → Each ls (λ l. Has l (cells_in l.from row) C.atoms) → through_links schema row C ls ≡ C
 links_stay schema row C [] h = refl

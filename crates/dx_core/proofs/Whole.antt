@@ -1,24 +1,19 @@
 -- What is left of a sorted instance is a reduction of the instance.
 use Rattle.std.proofs.Common.{◌≡◌, ◌∙◌, ℕ, List, subst}
-use Rattle.dx_ports.specs.Members.{◌∈◌, ◌⊆◌, ◌≈◌, Each}
-use Rattle.dx_ports.proofs.Members.{from_flat_map, from_map, in_flat_map, in_map, same_map, same_trans}
+use Rattle.dx_ports.specs.Members.{◌∈◌, ◌≈◌, Each}
+use Rattle.dx_ports.proofs.Members.{from_map, in_map, same_map, same_trans}
 use Rattle.dx_model.specs.declared.facts.Fact.{Fact}
 use Rattle.dx_model.specs.declared.values.Value.TheVariants.{Null}
 use Rattle.dx_model.specs.Instances.{IsCore, IsHomomorphism, IsNullMap, Moves, fact_moved, given, image, values}
 use Rattle.dx_model.specs.Values.{RowsAscend}
 use Rattle.dx_model.specs.Blocks.{IsReduct}
 use Rattle.dx_model.proofs.Reduction.{onto_core}
+use Rattle.dx_model.proofs.ByMembers.{values_part}
 use Rattle.dx_instance.specs.NullMaps.{pairs_of}
 use Rattle.dx_instance.specs.Stored.{IsSorting, TableRows, facts, rows_of, widths}
-use Rattle.dx_instance.proofs.StoredFacts.{fact_from_row, row_from_fact}
+use Rattle.dx_instance.proofs.StoredFacts.{sorted_facts}
 use Rattle.dx_core.specs.Reducing.{IsReduction}
 use Rattle.dx_core.specs.declared.reduced.Reduced.{Reduced}
-
-pub sorted_facts : (I K : List TableRows) → IsSorting I K → facts I ≈ facts K
-sorted_facts I K s = (
-  (λ f m. fact_from_row K f.table f.row (s.kept f.table f.row (row_from_fact I f m))),
-  (λ f m. fact_from_row I f.table f.row (s.only f.table f.row (row_from_fact K f m))),
-)
 
 -- the same facts are a core as well
 core_same : (A B : List Fact) → A ≈ B → IsCore A → IsCore B
@@ -30,9 +25,6 @@ core_same A B s core h hom =
     } in
     λ f m. let r = from_map (fact_moved (given h)) A (core h there f (s.1 f m)) in
     subst (λ (x : Fact). x ∈ image h B) r.2 (in_map (fact_moved (given h)) (s.0 r.0 r.1))
-
-values_same : (A B : List Fact) → A ⊆ B → values A ⊆ values B
-values_same A B s v m = let r = from_flat_map (λ (f : Fact). f.row) A m in in_flat_map (λ (f : Fact). f.row) (s r.0 r.1) r.2
 
 module _ (I J : List TableRows) (T : List Fact) (r : Reduced) (sorting : IsSorting I J) (reduct : IsReduct (facts J) T) (core : IsCore T)
     (moves : Moves (given (pairs_of r.map)) (facts J) T)
@@ -56,7 +48,7 @@ module _ (I J : List TableRows) (T : List Fact) (r : Reduced) (sorting : IsSorti
         folded = same_trans (same_map (fact_moved (given (pairs_of r.map))) s) (same_trans onto (same.1, same.0));
         core = core_same T (facts r.instance) (same.1, same.0) core;
         null_map = null_map;
-        listed = λ p m. values_same (facts J) (facts I) s.1 (Null p.null) (listed p m);
+        listed = λ p m. values_part (facts J) (facts I) s.1 (Null p.null) (listed p m);
         widths_stay = wide ∙ sorting.widths_stay;
         ascend = λ up. ascend;
       }

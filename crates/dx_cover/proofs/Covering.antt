@@ -1,18 +1,19 @@
 -- The used cell maps between the rules of a list.
-use Rattle.std.proofs.Common.{◌≡◌, ℕ, zero, suc, ◌+◌, ◌<◌, ◌≤◌, Bool, true, false, List, [], ◌∷◌, ◌++◌, inl, inr, refl, sym, ◌∙◌, ap, length, take, get_or, arith, subst}
-use Rattle.std.specs.Prelude.{map, flat_map, not, nat_lt, ◌==◌}
-use Rattle.std.proofs.lemmas.List.{get_or-map, length-map, map-append, take_more, take_all}
+use Rattle.std.proofs.Common.{◌≡◌, ℕ, suc, ◌+◌, ◌<◌, ◌≤◌, Bool, true, false, List, [], ◌∷◌, ◌++◌, inl, inr, refl, sym, ◌∙◌, ap, length, take, get_or, arith, subst}
+use Rattle.std.specs.Prelude.{map, not, nat_lt, ◌==◌}
+use Rattle.std.proofs.lemmas.List.{get_or-map, length-map, map-append, take_more, take_all, get_or_default}
 use Rattle.std.proofs.lemmas.Bool.{ne_eqb}
 use Rattle.dx_ports.specs.Members.{◌∈◌, here, there, Each}
 use Rattle.dx_ports.proofs.Members.{in_at, from_append, in_flat_map, from_map}
-use Rattle.dx_model.specs.declared.rules.Cell.{Cell}
-use Rattle.dx_model.specs.declared.rules.Cell.TheVariants.{Var, Ex, Lit}
+use Rattle.dx_model.specs.declared.rules.Cell.TheVariants.{Ex}
 use Rattle.dx_model.specs.declared.rules.Atom.{Atom}
 use Rattle.dx_model.specs.declared.rules.Rule.{Rule}
 use Rattle.dx_model.specs.declared.covers.CellMap.{CellMap}
 use Rattle.dx_model.specs.Rules.{cells_of, existential_in, existentials}
 use Rattle.dx_model.specs.Covers.{apart, before, cell_maps, has_map, is_some, rule_at, used_maps}
 use Rattle.dx_model.specs.Fitting.{AgreeInWidths, IsRule, Numbered, conclusions_of}
+use Rattle.dx_model.proofs.Frozen.{few_numbered}
+use Rattle.dx_model.proofs.Cells.{few_existentials}
 use Rattle.dx_cover.specs.Covering.{covers_of, maps_in}
 
 -- ---- existential variables
@@ -34,23 +35,12 @@ numbered_below n (x ∷ xs) m v (inr h) (here e) = let g = least (suc n) xs m h.
 numbered_below n (x ∷ xs) m v (inl h) (there k) = numbered_below n xs m v h.1 k
 numbered_below n (x ∷ xs) m v (inr h) (there k) = numbered_below (suc n) xs m v h.1 k
 
-numbered_few : (n : ℕ) (xs : List ℕ) (m : ℕ) → Numbered n xs m → m ≤ n + length xs
-numbered_few n [] m h = omega (arith, h)
-numbered_few n (x ∷ xs) m (inl h) = let g = numbered_few n xs m h.1 in omega arith
-numbered_few n (x ∷ xs) m (inr h) = let g = numbered_few (suc n) xs m h.1 in omega arith
-
-few_existentials : (cs : List Cell) → length (flat_map existential_in cs) ≤ length cs
-few_existentials [] = omega arith
-few_existentials (Var x ∷ cs) = let h = few_existentials cs in omega (arith, h)
-few_existentials (Ex v ∷ cs) = let h = few_existentials cs in omega (arith, h)
-few_existentials (Lit t ∷ cs) = let h = few_existentials cs in omega (arith, h)
-
 -- the existential variables of a rule have few numbers
 pub existential_few : (d : Rule) → IsRule d → (v : ℕ) → Ex v ∈ cells_of d.conclusion → v < 4294967295
 existential_few d r v m =
     let k : v ∈ existentials d.conclusion = in_flat_map existential_in m (here refl) in
     let a = numbered_below 0 (existentials d.conclusion) r.existentials.0 v r.existentials.1 k in
-    let b = numbered_few 0 (existentials d.conclusion) r.existentials.0 r.existentials.1 in
+    let b = few_numbered 0 r.existentials.0 (existentials d.conclusion) r.existentials.1 in
     let c = few_existentials (cells_of d.conclusion) in
     let f = r.few_cells in
     omega arith
@@ -95,19 +85,13 @@ is_square R i maps h e row m =
     let w = from_map (λ a. map (λ b. used_maps a b) R) R (subst (λ z. row ∈ z) q m) in
     sym (ap length w.2) ∙ (length-map R (λ b. used_maps w.0 b) ∙ (sym (length-map R (λ a. map (λ b. used_maps a b) R)) ∙ ap length (sym q)))
 
--- a look-up within the list doesn't rest on the default
-same_at : {X : Type 0} (xs : List X) (i : ℕ) (d e : X) → i < length xs → get_or xs i d ≡ get_or xs i e
-same_at [] i d e h = absurd (omega arith)
-same_at (x ∷ xs) zero d e h = refl
-same_at (x ∷ xs) (suc i) d e h = same_at xs i d e (omega arith)
-
 -- the rows of a square are as long as it
 pub row_wide : (maps : List (List (List CellMap))) (i : ℕ) (row : List (List CellMap)) → Each maps (λ r. length r ≡ length maps) → i < length maps → row ≡ get_or maps i row → length row ≡ length maps
 row_wide maps i row s h e = s row (subst (λ z. z ∈ maps) (sym e) (in_at maps i row h))
 
 pub found_maps : (maps : List (List (List CellMap))) (i j : ℕ) (row : List (List CellMap)) (ms : List CellMap) → i < length maps → j < length row → row ≡ get_or maps i row → ms ≡ get_or row j ms → ms ≡ maps_in maps i j
 found_maps maps i j row ms h k e f =
-    f ∙ (same_at row j ms [] k ∙ ap (λ z. get_or z j []) (e ∙ same_at maps i row [] h))
+    f ∙ (get_or_default row j ms [] k ∙ ap (λ z. get_or z j []) (e ∙ get_or_default maps i row [] h))
 
 -- the same of lists that are the covers of rules
 pub used_at : (R : List Rule) (covers : List (List (List CellMap))) (i j : ℕ) → covers ≡ covers_of R → i < length covers → j < length covers → maps_in covers i j ≡ used_maps (rule_at R i) (rule_at R j)

@@ -3,7 +3,7 @@ use Rattle.std.proofs.Common.{◌≡◌, ℕ, zero, suc, ◌+◌, ◌-◌, ◌<�
 use Rattle.std.specs.Prelude.{map, flat_map, eqb, nat_lt, ◌&&◌, ◌||◌}
 use Rattle.std.specs.List.{filter, list_any}
 use Rattle.std.specs.Cmp.{both_ways}
-use Rattle.std.proofs.lemmas.Bool.{cases_Bool, cases_order, eqb-true, or_cases}
+use Rattle.std.proofs.lemmas.Bool.{cases_Bool, cases_order, eqb-true, or_cases, and_parts, or_right, or_left}
 use Rattle.std.proofs.lemmas.List.{length-take, append-nil, take_more, take_all}
 use Rattle.dx_model.specs.declared.rules.Cell.{Cell}
 use Rattle.dx_model.specs.declared.rules.Cell.TheVariants.{Var, Ex, Lit}
@@ -13,9 +13,9 @@ use Rattle.dx_model.specs.declared.covers.CellMap.{CellMap}
 use Rattle.dx_model.specs.declared.covers.Meeting.{Meeting}
 use Rattle.dx_ports.specs.Members.{◌∈◌, here, there, Each}
 use Rattle.dx_ports.proofs.Members.{in_left, in_right, from_append}
+use Rattle.dx_ports.proofs.Tests.{to_all, from_filter, from_all}
 use Rattle.dx_model.specs.Rules.{exported}
 use Rattle.dx_model.specs.Covers.{meet, meetings, choices, first_met, may_meet, same_cell, same_cells, is_cell_map, map_of}
-use Rattle.dx_model.proofs.Lists.{both, from_filter, all_of, of_all}
 use Rattle.dx_model.proofs.Carrying.{same_cell-true, same_cell-refl}
 use Rattle.dx_cover.specs.declared.states.State.{State}
 use Rattle.dx_cover.specs.declared.states.Search.{Search}
@@ -24,13 +24,6 @@ use Rattle.dx_cover.specs.Search.{branch, found_after, fresh, maps_under, seen}
 use Rattle.dx_cover.specs.States.{AddsNothing, DeadIsEnough, GoneAddsNothing, IsDead, IsSearch, IsTrueFor, NothingStays, SameAddNothing, StateIsEnough, counted, counts, exported_images, last, maps_below, remembered, same_meetings, same_state, stands_in, state_of}
 use Rattle.dx_cover.proofs.Searching.{maps_by_choice, same_cells-refl, first_kept, map_same, fresh_append, parts_follow, seen_gives_nothing}
 use Rattle.dx_cover.proofs.Extending.{flat_append, full, nothing_new}
-
-or_left : (a b : Bool) → a ≡ true → (a || b) ≡ true
-or_left a b e = rw e refl
-
-or_right : (a b : Bool) → b ≡ true → (a || b) ≡ true
-or_right true b e = refl
-or_right false b e = e
 
 -- ---- equal states
 
@@ -48,15 +41,15 @@ same_meetings-true [] [] h = refl
 same_meetings-true [] (n ∷ ns) h = cc
 same_meetings-true (m ∷ ms) [] h = cc
 same_meetings-true (m ∷ ms) (n ∷ ns) h =
-    let w = both (same_cell m.cell n.cell && same_cell m.met n.met) (same_meetings ms ns) h in
-    let v = both (same_cell m.cell n.cell) (same_cell m.met n.met) w.0 in
+    let w = and_parts (same_cell m.cell n.cell && same_cell m.met n.met) (same_meetings ms ns) h in
+    let v = and_parts (same_cell m.cell n.cell) (same_cell m.met n.met) w.0 in
     let a : m ≡ n = same_meeting m n (same_cell-true m.cell n.cell v.0) (same_cell-true m.met n.met v.1) in
     let b : ms ≡ ns = same_meetings-true ms ns w.1 in
     cc
 
 same_state-true : (s t : State) → same_state s t ≡ true → s ≡ t
 same_state-true s t h =
-    let w = both (eqb s.left t.left) (same_meetings s.meetings t.meetings) h in
+    let w = and_parts (eqb s.left t.left) (same_meetings s.meetings t.meetings) h in
     ap (λ z. state z s.meetings) (eqb-true s.left t.left w.0) ∙ ap (state t.left) (same_meetings-true s.meetings t.meetings w.1)
 
 known : (s : State) (gone : List State) → list_any (same_state s) gone ≡ true → s ∈ gone
@@ -125,17 +118,17 @@ module _ (p : Cell → Bool) where
       first m t = first_left m.cell t bound ns
 
       more : is_cell_map (few ++ ns) ≡ true → is_cell_map (bound ++ ns) ≡ true
-      more t = of_all (fits (bound ++ ns)) (bound ++ ns) (λ m k. elim (from_append bound k) [
-        | inl l ↦ move bound (bound ++ ns) m (sym (first_kept m.cell bound ns m l refl)) (all_of (fits bound) bound h l)
-        | inr r ↦ move (few ++ ns) (bound ++ ns) m (first m (q m r)) (all_of (fits (few ++ ns)) (few ++ ns) t (in_right few r))
+      more t = to_all (fits (bound ++ ns)) (bound ++ ns) (λ m k. elim (from_append bound k) [
+        | inl l ↦ move bound (bound ++ ns) m (sym (first_kept m.cell bound ns m l refl)) (from_all (fits bound) bound h l)
+        | inr r ↦ move (few ++ ns) (bound ++ ns) m (first m (q m r)) (from_all (fits (few ++ ns)) (few ++ ns) t (in_right few r))
       ])
 
       less : is_cell_map (bound ++ ns) ≡ true → is_cell_map (few ++ ns) ≡ true
-      less t = of_all (fits (few ++ ns)) (few ++ ns) (λ m k. elim (from_append few k) [
+      less t = to_all (fits (few ++ ns)) (few ++ ns) (λ m k. elim (from_append few k) [
         | inl l ↦
             let w = from_filter (λ (m : Meeting). p m.cell) bound l in
-            move (bound ++ ns) (few ++ ns) m (sym (first m w.1)) (all_of (fits (bound ++ ns)) (bound ++ ns) t (in_left ns w.0))
-        | inr r ↦ move (bound ++ ns) (few ++ ns) m (sym (first m (q m r))) (all_of (fits (bound ++ ns)) (bound ++ ns) t (in_right bound r))
+            move (bound ++ ns) (few ++ ns) m (sym (first m w.1)) (from_all (fits (bound ++ ns)) (bound ++ ns) t (in_left ns w.0))
+        | inr r ↦ move (bound ++ ns) (few ++ ns) m (sym (first m (q m r))) (from_all (fits (bound ++ ns)) (bound ++ ns) t (in_right bound r))
       ])
 
 one_choice : (p : List Meeting → Bool) (f : List Meeting → CellMap) (ms ns : List Meeting) (xs ys : List (List Meeting)) → p ms ≡ p ns

@@ -9,18 +9,15 @@ use Rattle.std.specs.declared.cmp.Ordering.{Ordering}
 use Rattle.std.specs.declared.cmp.Ordering.TheVariants.{Less, Equal, Greater}
 use Rattle.std.proofs.lemmas.Bool.{cases_Bool, false≢true}
 use Rattle.std.proofs.lemmas.Cmp.{lists_total}
-use Rattle.std.proofs.lemmas.Slice.Eq.{bytes_eq-Decides}
 use Rattle.dx_ports.proofs.Members.{map_agrees}
-use Rattle.dx_ports.proofs.Tests.{map_same, same_test}
+use Rattle.dx_ports.proofs.Tests.{map_same, same_test, to_all, from_all}
 use Rattle.dx_model.specs.declared.values.Value.{Value}
-use Rattle.dx_model.specs.declared.values.Value.TheVariants.{Const, Null}
 use Rattle.dx_model.specs.Values.{row_cmp, value_cmp}
 use Rattle.dx_model.specs.Covers.{same_value}
-use Rattle.dx_model.proofs.Lists.{all_of, of_all}
-use Rattle.dx_model.proofs.Maps.{same_null-refl}
-use Rattle.dx_instance.proofs.PlaceFacts.{same_value-true}
 use Rattle.dx_instance.proofs.Equal.{row_eq, row_eq-Decides}
 use Rattle.dx_model.proofs.Orders.{slice_exact, value_exact, value_total}
+use Rattle.dx_model.proofs.Before.{same_value-refl, same_value-true}
+use Rattle.dx_instance.proofs.AfterFacts.{tie}
 
 -- ---- what is found first
 
@@ -54,13 +51,8 @@ turned Greater e = absurd (cc)
 pub row_itself : (q : List Value) → is_at (row_cmp q) q ≡ true
 row_itself q = ap is_eq (turned (row_cmp q q) ((lists_total value_total).antisymm q q))
 
-equal_of : (o : Ordering) → is_eq o ≡ true → o ≡ Equal
-equal_of Less e = absurd (false≢true e)
-equal_of Equal e = refl
-equal_of Greater e = absurd (false≢true e)
-
 pub row_exact : (q r : List Value) → is_at (row_cmp q) r ≡ true → q ≡ r
-row_exact q r e = slice_exact value_cmp value_exact q r (equal_of (row_cmp q r) e)
+row_exact q r e = slice_exact value_cmp value_exact q r (tie (row_cmp q r) e)
 
 -- the same by the equality of rows
 pub rows_same : row_eq ≡ same_row
@@ -75,20 +67,16 @@ rows_same = λ i q r. one q r i
       ]
     ]
 
-same-itself : (v : Value) → same_value v v ≡ true
-same-itself (Const t) = (bytes_eq-Decides t t).1 refl
-same-itself (Null m) = same_null-refl m
-
 -- values agree one by one exactly if their rows compare as equal
 pub all_agree : (f g : ℕ → Value) (xs : List ℕ) → list_all (λ x. same_value (f x) (g x)) xs ≡ is_at (row_cmp (map f xs)) (map g xs)
 all_agree f g xs = same_test (list_all (λ x. same_value (f x) (g x)) xs) (is_at (row_cmp (map f xs)) (map g xs)) there_is back
   where
     there_is : list_all (λ x. same_value (f x) (g x)) xs ≡ true → is_at (row_cmp (map f xs)) (map g xs) ≡ true
     there_is t =
-        let e : map f xs ≡ map g xs = map_same f g xs (λ x m. same_value-true (f x) (g x) (all_of (λ x. same_value (f x) (g x)) xs t m)) in
+        let e : map f xs ≡ map g xs = map_same f g xs (λ x m. same_value-true (f x) (g x) (from_all (λ x. same_value (f x) (g x)) xs t m)) in
         subst (λ r. is_at (row_cmp (map f xs)) r ≡ true) e (row_itself (map f xs))
 
     back : is_at (row_cmp (map f xs)) (map g xs) ≡ true → list_all (λ x. same_value (f x) (g x)) xs ≡ true
     back t =
         let e : map f xs ≡ map g xs = row_exact (map f xs) (map g xs) t in
-        of_all (λ x. same_value (f x) (g x)) xs (λ x m. let d : f x ≡ g x = map_agrees f g e m in rw (← d) (same-itself (f x)))
+        to_all (λ x. same_value (f x) (g x)) xs (λ x m. let d : f x ≡ g x = map_agrees f g e m in rw (← d) (same_value-refl (f x)))

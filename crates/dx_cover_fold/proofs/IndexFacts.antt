@@ -8,6 +8,7 @@ use Rattle.std.specs.BTreeMap.{is_at}
 use Rattle.std.specs.Map.{lookup}
 use Rattle.std.proofs.lemmas.Bool.{cases_Bool, false≢true, true≢false}
 use Rattle.std.proofs.lemmas.List.Folds.{find-append}
+use Rattle.dx_ports.proofs.Lists.{none_or_some}
 use Rattle.dx_model.specs.declared.values.Value.{Value}
 use Rattle.dx_model.specs.Values.{row_cmp}
 use Rattle.dx_model.specs.Covers.{below}
@@ -16,10 +17,6 @@ use Rattle.dx_cover_fold.proofs.Finding.{row_exact, row_itself, same_row}
 -- the entries have for each row the first place below n that has it
 abbrev pub IndexedBelow : (ℕ → List Value) → List (List Value × ℕ) → ℕ → Type 0
 IndexedBelow row entries n = (q : List Value) → lookup (is_at (row_cmp q)) entries ≡ find (λ l. is_at (row_cmp q) (row l)) (below n)
-
-either : {X : Type 0} (o : Option X) → (o ≡ None) ⊎ ((x : X) × (o ≡ Some x))
-either None = inl refl
-either (Some x) = inr (x, refl)
 
 or_none : (o : Option ℕ) → option_or o None ≡ o
 or_none None = refl
@@ -30,7 +27,7 @@ none_indexed row q = refl
 
 -- a row that is there
 pub indexed_kept : (row : ℕ → List Value) (entries : List (List Value × ℕ)) (n w : ℕ) → lookup (is_at (row_cmp (row n))) entries ≡ Some w → IndexedBelow row entries n → IndexedBelow row entries (n + 1)
-indexed_kept row entries n w e h = rw (add-one n) (λ q. h q ∙ sym (find-append (λ l. is_at (row_cmp q) (row l)) (below n) (n ∷ []) ∙ rest q (either (find (λ l. is_at (row_cmp q) (row l)) (below n)))))
+indexed_kept row entries n w e h = rw (add-one n) (λ q. h q ∙ sym (find-append (λ l. is_at (row_cmp q) (row l)) (below n) (n ∷ []) ∙ rest q (none_or_some (find (λ l. is_at (row_cmp q) (row l)) (below n)))))
   where
     rest : (q : List Value) → (find (λ l. is_at (row_cmp q) (row l)) (below n) ≡ None) ⊎ ((x : ℕ) × (find (λ l. is_at (row_cmp q) (row l)) (below n) ≡ Some x))
         → option_or (find (λ l. is_at (row_cmp q) (row l)) (below n)) (find (λ l. is_at (row_cmp q) (row l)) (n ∷ [])) ≡ find (λ l. is_at (row_cmp q) (row l)) (below n)

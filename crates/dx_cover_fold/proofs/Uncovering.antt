@@ -1,7 +1,6 @@
 -- The cover fold makes the uncovered part of the canonical instance.
-use Rattle.std.proofs.Common.{◌≡◌, ℕ, suc, ◌<◌, Bool, true, false, cond, List, [], ◌∷◌, length, get_or, refl, sym, ◌∙◌, ap, subst, inl, inr, arith}
-use Rattle.std.specs.Prelude.{map, nat_lt}
-use Rattle.std.proofs.lemmas.Bool.{cases_Bool, cases_lt, lt-ltb, ltb-true, true≢false}
+use Rattle.std.proofs.Common.{◌≡◌, ℕ, Bool, true, List, [], ◌∷◌, length, get_or, refl, ◌∙◌, ap, subst, arith}
+use Rattle.std.specs.Prelude.{map}
 use Rattle.dx_ports.specs.Members.{◌∈◌, ◌⊆◌, ◌≈◌, here, there}
 use Rattle.dx_ports.proofs.Members.{from_map, in_flat_map, same_equal, same_trans}
 use Rattle.dx_ports.proofs.Tests.{map_same}
@@ -16,32 +15,14 @@ use Rattle.dx_model.specs.declared.rules.Rule.{Rule}
 use Rattle.dx_model.specs.Values.{Rows}
 use Rattle.dx_model.specs.Instances.{fact_moved, given, moved}
 use Rattle.dx_model.specs.Rules.{at_place, canonical, cell_value, cells_of, exported, said, text_of}
-use Rattle.dx_model.specs.Covers.{IsPlace, after_existential, cover_fold, rule_at, row_at}
+use Rattle.dx_model.specs.Covers.{IsPlace, cover_fold, rule_at, row_at}
 use Rattle.dx_model.proofs.Before.{cover_fold_uncovers}
 use Rattle.dx_model.proofs.CoverFold.{from_canonical}
+use Rattle.dx_model.proofs.Carrying.{below_existential}
 use Rattle.dx_instance.specs.NullMaps.{ByNull, becomes, pairs_of}
 use Rattle.dx_instance.proofs.AfterFacts.{pairs_give}
 use Rattle.dx_cover_fold.specs.Folding.{IsCoverFold, IsPlaceNull}
 use Rattle.dx_cover_fold.specs.Laws.{FoldUncovers}
-
--- an existential variable of cells is below the number after them
-greater_is : (v n : ℕ) → (v < cond (nat_lt v n) n (suc v)) × (n < suc (cond (nat_lt v n) n (suc v)))
-greater_is v n = elim (cases_Bool (nat_lt v n)) [
-  | inl t ↦ rw t (ltb-true v n t, omega arith)
-  | inr f ↦ rw f (omega arith, at_most f)
-]
-  where
-    at_most : nat_lt v n ≡ false → n < suc (suc v)
-    at_most f = elim (cases_lt v n) [ inl l ↦ absurd (true≢false (sym (lt-ltb v n l) ∙ f)) | inr g ↦ omega arith ]
-
-below_after : (v : ℕ) (cs : List Cell) → Ex v ∈ cs → v < after_existential cs
-below_after v [] m = elim m [ ]
-below_after v (Var x ∷ cs) (here e) = absurd (cc)
-below_after v (Var x ∷ cs) (there m) = below_after v cs m
-below_after v (Ex w ∷ cs) (here e) = let d : w ≡ v = cc in rw (← d) (greater_is w (after_existential cs)).0
-below_after v (Ex w ∷ cs) (there m) = let h = below_after v cs m in let g = (greater_is w (after_existential cs)).1 in omega (arith, h, g)
-below_after v (Lit t ∷ cs) (here e) = absurd (cc)
-below_after v (Lit t ∷ cs) (there m) = below_after v cs m
 
 module _ (R : List Rule) (rows : Rows) (m : ByNull) (fold : IsCoverFold R rows m) where
   F : NullId → Value
@@ -54,7 +35,7 @@ module _ (R : List Rule) (rows : Rows) (m : ByNull) (fold : IsCoverFold R rows m
   cell_same i k p (Var x) h texts = refl
   cell_same i k p (Lit t) h texts = refl
   cell_same i k p (Ex v) h texts =
-      pairs_give m (record { rule = i; var = v; row = k }) ∙ fold.folds (record { rule = i; var = v; row = k }) (record { place = p; variable = below_after v (cells_of (rule_at R i).conclusion) h })
+      pairs_give m (record { rule = i; var = v; row = k }) ∙ fold.folds (record { rule = i; var = v; row = k }) (record { place = p; variable = below_existential v (cells_of (rule_at R i).conclusion) h })
 
   fact_same : (f : Fact) → f ∈ canonical 0 R rows → fact_moved F f ≡ fact_moved (cover_fold R rows) f
   fact_same f h =

@@ -5,6 +5,7 @@ use Rattle.std.proofs.lemmas.Bool.{cases_eq}
 use Rattle.std.proofs.lemmas.List.{get_or-map, length-map}
 use Rattle.dx_ports.specs.Members.{◌∈◌, here, there, Each}
 use Rattle.dx_ports.proofs.Members.{from_flat_map, from_map, in_flat_map, in_map}
+use Rattle.dx_ports.proofs.Tests.{map_same}
 use Rattle.dx_model.specs.declared.facts.Fact.{Fact}
 use Rattle.dx_model.specs.declared.values.Value.{Value}
 use Rattle.dx_model.specs.declared.values.Value.TheVariants.{Const, Null}
@@ -21,7 +22,6 @@ use Rattle.dx_script.specs.declared.form.Equal.{Equal}
 use Rattle.dx_script.specs.Fits.{CellFits, SelectFits}
 use Rattle.dx_script.specs.Names.{column_named, table_named}
 use Rattle.dx_script.specs.Meaning.{IsMatchTable, cell_text, selected, table_of_alias}
-use Rattle.dx_script.proofs.MatchTables.{map_agree}
 use Rattle.dx_eval.specs.Query.{IsSelected}
 
 -- ---- tuples of a table
@@ -179,7 +179,7 @@ module _ (source : List Named) (list : List Conversion) (call : Text → Tuple �
 
   same_select : (rows : ℕ → Tuple) (s : Select) → SelectFits source list sources s → selected source call sources (by (front rows (length sources))) s ≡ selected source call sources rows s
   same_select rows (Cell c) f = same_cell rows c f
-  same_select rows (Call name args) f = ap (call name) (map_agree (cell_text source sources (by (front rows (length sources)))) (cell_text source sources rows) args (λ c m. same_cell rows c (f.1 c m)))
+  same_select rows (Call name args) f = ap (call name) (map_same (cell_text source sources (by (front rows (length sources)))) (cell_text source sources rows) args (λ c m. same_cell rows c (f.1 c m)))
 
   in_some : (t : Tuple) → IsSelected source call I select sources equal t → t ∈ some
   unfolding some tuple_if
@@ -191,7 +191,7 @@ module _ (source : List Named) (list : List Conversion) (call : Text → Tuple �
       let agrees : (q : Equal) → q ∈ equal → cell_text source sources (by listed) q.left ≡ cell_text source sources (by listed) q.right =
       (λ q m. same_cell rows q.left (equals q m).0 ∙ (g.agree q m ∙ sym (same_cell rows q.right (equals q m).1))) in
       let same : map (selected source call sources (by listed)) select ≡ t =
-      map_agree (selected source call sources (by listed)) (selected source call sources rows) select (λ s m. same_select rows s (selects s m)) ∙ sym e in
+      map_same (selected source call sources (by listed)) (selected source call sources rows) select (λ s m. same_select rows s (selects s m)) ∙ sym e in
       in_flat_map (λ (r : List Tuple). tuple_if r (agree_in r equal)) member (subst (λ (z : Tuple). z ∈ tuple_if listed (agree_in listed equal)) same (go (agree_in listed equal) agrees))
     where
       go : (o : ((q : Equal) → q ∈ equal → cell_text source sources (by (front rows (length sources))) q.left ≡ cell_text source sources (by (front rows (length sources))) q.right)

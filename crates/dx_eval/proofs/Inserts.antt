@@ -22,6 +22,8 @@ use Rattle.dx_joins.specs.Shown.{AreTexts, texts_of}
 use Rattle.dx_schema.specs.Forest.{Forest}
 use Rattle.dx_schema.specs.Names.{Named, named_of, names_of_table}
 use Rattle.dx_schema.specs.Tables.{TableOf, schema_widths, tables_of}
+use Rattle.dx_instance.proofs.ShownFacts.{longer, grown_row}
+use Rattle.dx_joins.proofs.Growing.{texts_stay, texts_grow}
 use Rattle.dx_script.specs.declared.form.Out.{Out}
 use Rattle.dx_script.specs.declared.form.Out.TheVariants.{Column, Literal, Skolem}
 use Rattle.dx_script.specs.declared.form.Unless.{Unless}
@@ -35,8 +37,7 @@ use Rattle.dx_tgd.specs.Planned.{StandsAs}
 use Rattle.dx_tgd.specs.Texts.{tuples_in}
 use Rattle.dx_tgd.proofs.Ascending.{row_there}
 use Rattle.dx_tgd.proofs.Gaining.{gains_more, gains_next, gains_nothing}
-use Rattle.dx_tgd.proofs.Plans.{grown_value, longer}
-use Rattle.dx_tgd.proofs.Steps.{texts_there, tuples_grown}
+use Rattle.dx_tgd.proofs.Steps.{tuples_grown}
 use Rattle.dx_eval.specs.Keeping.{Stay}
 use Rattle.dx_eval.specs.Inserting.{IsInsertedBelow, OutStands, fact_at, facts_by, facts_in, placed_fact}
 use Rattle.dx_eval.specs.Variables.{width_named}
@@ -51,23 +52,8 @@ column_stands S row c n t h e =
     let v = (constant_is (value_of S (slice_index row c)) (in_column (texts_of S row) c) k.1).1 (sym (column_is S row c h)) in
     rw e (record { within = k.0; value = v })
 
--- texts stay as symbols grow
-pub texts_stay : (S T : List Value) (row : List ℕ) → Extends S T → AreTexts S row → texts_of T row ≡ texts_of S row
-texts_stay S T row e t = let p = tuples_grown S T (row ∷ []) e (λ r m. one r m) in cc
-  where
-    one : (r : List ℕ) → r ∈ (row ∷ []) → AreTexts S r
-    one r (here q) = subst (AreTexts S) q t
-    one r (there m) = elim m [ ]
-
 pub all_texts_there : (S T : List Value) (rows : List (List ℕ)) → Extends S T → Each rows (AreTexts S) → Each rows (AreTexts T)
-all_texts_there S T rows e t r m = texts_there S T r e (t r m)
-
-shown_grown : (S T : List Value) (ns : List ℕ) → Extends S T → AreBelow (length S) ns → shown_row T ns ≡ shown_row S ns
-shown_grown S T [] e h = refl
-shown_grown S T (n ∷ ns) e h =
-    let first = grown_value S T n e (h n (here refl)) in
-    let rest = shown_grown S T ns e (λ x m. h x (there m)) in
-    cc
+all_texts_there S T rows e t r m = texts_grow S T r e (t r m)
 
 -- one number more in the buffer
 pub filled_more : (S T U : List Value) (row buffer new : List ℕ) (r k : ℕ) (cells : List Out) (i n : ℕ) (out : Out) → i < length cells → out ≡ get_or cells i out → Extends S T → Extends T U → AreTexts S row
@@ -81,7 +67,7 @@ filled_more S T U row buffer new r k cells i n out h is st tu texts below shown 
     let l = longer T U tu in
     rw (e, all) (
       (λ x m. elim (from_append buffer m) [ inl q ↦ let b = below x q in omega (arith, b, l) | inr q ↦ last w x q ]),
-      map_push (value_of U) buffer n ∙ (ap (λ z. z ++ value_of U n ∷ []) (shown_grown T U buffer tu below ∙ shown) ∙ (ap (λ z. map (inserted r k (texts_of S row)) (take i cells) ++ z ∷ []) value ∙ sym (map_push (inserted r k (texts_of S row)) (take i cells) out))),
+      map_push (value_of U) buffer n ∙ (ap (λ z. z ++ value_of U n ∷ []) (grown_row T U buffer tu below ∙ shown) ∙ (ap (λ z. map (inserted r k (texts_of S row)) (take i cells) ++ z ∷ []) value ∙ sym (map_push (inserted r k (texts_of S row)) (take i cells) out))),
     )
   where
     last : n < length U → (x : ℕ) → x ∈ (n ∷ []) → x < length U

@@ -4,6 +4,7 @@ use Rattle.std.specs.Prelude.{map, slice_index, slice_index_or}
 use Rattle.std.specs.List.{range_with_len}
 use Rattle.std.proofs.lemmas.Bool.{cases_lt, cases_eq, cases_Bool, eqb-true, eqb-false}
 use Rattle.std.proofs.lemmas.List.{get_or-map, get_or_append_left, get_or_push, get_or_default, length-map, length-append, take_more, take_all, take-append-drop}
+use Rattle.std.proofs.lemmas.List.FromFn.{length-range_with_len}
 use Rattle.dx_ports.specs.Members.{◌∈◌, here, there, Each}
 use Rattle.dx_ports.proofs.Members.{from_append, in_left, in_right}
 use Rattle.dx_model.specs.Values.{Text, Tuple}
@@ -23,10 +24,6 @@ range_at : (a n c : ℕ) → c < n → slice_index (range_with_len a n) c ≡ a 
 range_at a zero c h = absurd (omega arith)
 range_at a (suc n) zero h = omega arith
 range_at a (suc n) (suc c) h = let r = range_at (a + 1) n c (omega arith) in omega (arith, r)
-
-length_range : (a n : ℕ) → length (range_with_len a n) ≡ n
-length_range a zero = refl
-length_range a (suc n) = let r = length_range (a + 1) n in omega (arith, r)
 
 -- ---- one row more
 
@@ -99,7 +96,7 @@ wide_more source names vars name row s w = record {
 pub separate_more : (source : List Named) (names : List Text) (vars : List (List ℕ)) (n w : ℕ) (name : Text) → AreSeparate source names vars n → w ≡ width_named source name
     → AreSeparate source (names ++ name ∷ []) (vars ++ range_with_len n w ∷ []) (n + w)
 separate_more source names vars n w name s e = record {
-  shape = wide_more source names vars name (range_with_len n w) s.shape (length_range n w ∙ e);
+  shape = wide_more source names vars name (range_with_len n w) s.shape (length-range_with_len n w ∙ e);
   below_n = λ a c h. low a c (cell_where vars (range_with_len n w) a c h);
   all = λ x h. found x h (cases_lt x n);
   own = λ a c b d h k q. single a c b d (cell_where vars (range_with_len n w) a c h) (cell_where vars (range_with_len n w) b d k) q;
@@ -109,7 +106,7 @@ separate_more source names vars n w name s e = record {
     low : (a c : ℕ) → Where vars (range_with_len n w) a c → variable_at (vars ++ (range_with_len n w) ∷ []) a c < n + w
     low a c h = elim (h.is) [
       | inl o ↦ let b = s.below_n a c o.0 in let q = o.1 in omega (arith, b, q)
-      | inr o ↦ let l : c < w = rw (length_range n w) at o.1 in let q = o.2 in let r = range_at n w c l in omega (arith, l, q, r)
+      | inr o ↦ let l : c < w = rw (length-range_with_len n w) at o.1 in let q = o.2 in let r = range_at n w c l in omega (arith, l, q, r)
     ]
 
     found : (x : ℕ) → x < n + w → (x < n) ⊎ (n ≤ x) → HasVariable (vars ++ (range_with_len n w) ∷ []) x
@@ -123,7 +120,7 @@ separate_more source names vars n w name s e = record {
         record {
           alias = length vars;
           column = c;
-          is_cell = cell_new vars (range_with_len n w) c (rw (length_range n w) l);
+          is_cell = cell_new vars (range_with_len n w) c (rw (length-range_with_len n w) l);
           is = ap (λ (z : List ℕ). slice_index z c) (row_new vars (range_with_len n w)) ∙ omega (arith, r, g);
         }
 
@@ -132,7 +129,7 @@ separate_more source names vars n w name s e = record {
       | inl o ↦ elim (k.is) [
         | inl p ↦ s.own a c b d o.0 p.0 (sym o.1 ∙ (q ∙ p.1))
         | inr p ↦
-            let l : d < w = rw (length_range n w) at p.1 in
+            let l : d < w = rw (length-range_with_len n w) at p.1 in
             let r = range_at n w d l in
             let m = s.below_n a c o.0 in
             let x = o.1 in
@@ -140,13 +137,13 @@ separate_more source names vars n w name s e = record {
             absurd (omega (arith, q, r, m, x, y))
       ]
       | inr o ↦
-          let l : c < w = rw (length_range n w) at o.1 in
+          let l : c < w = rw (length-range_with_len n w) at o.1 in
           let r = range_at n w c l in
           let x = o.2 in
           elim (k.is) [
             | inl p ↦ let m = s.below_n b d p.0 in let y = p.1 in absurd (omega (arith, q, r, m, x, y))
             | inr p ↦
-                let i : d < w = rw (length_range n w) at p.1 in
+                let i : d < w = rw (length-range_with_len n w) at p.1 in
                 let t = range_at n w d i in
                 let y = p.2 in
                 (o.0 ∙ sym p.0, omega (arith, q, r, t, x, y))
@@ -161,7 +158,7 @@ separate_more source names vars n w name s e = record {
         let a = ap (total f) l in
         let b = total_more f (length vars) in
         let c = total_same f g (length vars) (λ k h. ap length (row_old vars (range_with_len n w) k h)) in
-        let d : f (length vars) ≡ w = ap length (row_new vars (range_with_len n w)) ∙ length_range n w in
+        let d : f (length vars) ≡ w = ap length (row_new vars (range_with_len n w)) ∙ length-range_with_len n w in
         let q = s.count in
         a ∙ (b ∙ omega (arith, c, d, q))
 
@@ -385,14 +382,6 @@ joined_variables source sources equal e old new n m fit v j = record {
         ∙ total_same (λ a. length (row_of new a)) (λ a. length (row_of old a)) (length old) (λ a h. ap length (row_is a h) ∙ length-map (row_of old a) j.by)
 
 -- ---- in loops
-
-pub range_more : (a n : ℕ) → range_with_len a (n + 1) ≡ range_with_len a n ++ (a + n) ∷ []
-range_more a zero = let e : a + 0 ≡ a = omega arith in rw e refl
-range_more a (suc n) =
-    let r = range_more (a + 1) n in
-    let e : (a + 1) + n ≡ a + suc n = omega arith in
-    let k : suc n + 1 ≡ suc (n + 1) = omega arith in
-    rw k (ap (λ (l : List ℕ). a ∷ l) (r ∙ ap (λ (x : ℕ). range_with_len (a + 1) n ++ x ∷ []) e))
 
 pub separate_step : (source : List Named) (sources : List Text) (i : ℕ) (name : Text) (vars new : List (List ℕ)) (row : List ℕ) (n w : ℕ) → i < length sources → name ≡ get_or sources i name
     → AreSeparate source (take i sources) vars n → w ≡ width_named source name → row ≡ range_with_len n w → new ≡ vars ++ row ∷ [] → AreSeparate source (take (i + 1) sources) new (n + w)

@@ -6,9 +6,10 @@ use Rattle.std.proofs.lemmas.Bool.{cases_lt}
 use Rattle.std.proofs.lemmas.List.{take_all, append-nil, get_or-map, get_or_append_left, get_or_push, length-map, length-append, take_more, take-append-drop, map_push}
 use Rattle.std.proofs.lemmas.List.Concat.{flat_map-append}
 use Rattle.std.proofs.Math.Nat.{mul-le-mul_right, le-div_iff_mul-le}
-use Rattle.dx_ports.specs.Members.{◌∈◌, ◌⊆◌, here, there, Distinct, Each}
-use Rattle.dx_ports.proofs.Members.{in_at}
+use Rattle.dx_ports.specs.Members.{◌∈◌, here, there, Distinct, Each}
+use Rattle.dx_ports.proofs.Members.{in_at, no_longer}
 use Rattle.dx_ports.specs.declared.file.Count.TheVariants.{TargetCells}
+use Rattle.dx_ports.proofs.Lists.{zip_push, zip_long}
 use Rattle.dx_model.specs.declared.facts.Fact.{Fact}
 use Rattle.dx_model.specs.declared.values.Value.{Value}
 use Rattle.dx_model.specs.Values.{Text, Tuple, Rows}
@@ -17,7 +18,6 @@ use Rattle.dx_instance.specs.Numbers.{AreApart, Extends}
 use Rattle.dx_instance.proofs.ShownFacts.{extends_both}
 use Rattle.dx_joins.specs.Shown.{MoreTuples, StandFor, texts_of}
 use Rattle.dx_joins.proofs.Translating.{distinct_texts}
-use Rattle.dx_joins.proofs.Whole.{found_table}
 use Rattle.dx_schema.specs.Names.{Named}
 use Rattle.dx_funcs.specs.declared.conversion.Conversion.{Conversion}
 use Rattle.dx_script.specs.declared.form.Select.{Select}
@@ -29,36 +29,16 @@ use Rattle.dx_script.specs.Meaning.{IsMatchTable, match_table}
 use Rattle.dx_tgd.specs.Found.{IsReordered}
 use Rattle.dx_tgd.specs.Texts.{tuples_in}
 use Rattle.dx_tgd.proofs.Steps.{tuples_grown}
+use Rattle.dx_tgd.proofs.Founds.{reordered_few}
 use Rattle.dx_eval.specs.declared.fault.EvalFault.{EvalFault}
 use Rattle.dx_eval.specs.declared.fault.EvalFault.TheVariants.{Limit}
 use Rattle.dx_eval.specs.Evaluating.{PassesLimit, cells_for, script_cells}
 use Rattle.dx_eval.specs.Query.{IsSelected}
 use Rattle.dx_eval.specs.Finding.{AreFoundSteps, FoundSoFar, IsFoundUpTo, IsRefusal, IsFoundStep, Matching, MatchesFit, MatchingFits, matching_in, matchings}
 use Rattle.dx_eval.proofs.Sums.{total, total_less, total_longer, total_more, total_same}
-use Rattle.dx_eval.proofs.Tables.{matching_long, IsTable, are_tables, found_grown, of_step, stands_at, tables_exist, zip_here, zip_long, zip_push, no_matching}
+use Rattle.dx_eval.proofs.Tables.{matching_long, IsTable, are_tables, found_grown, of_step, stands_at, tables_exist, zip_here, no_matching}
 
 -- ---- few and many
-
-take_out : {X : Type 0} {x : X} (ys : List X) → x ∈ ys → (zs : List X) × (length ys ≡ suc (length zs)) × ((z : X) → z ∈ ys → ¬ (z ≡ x) → z ∈ zs)
-take_out [] m = elim m [ ]
-take_out {X} {x} (y ∷ ys) (here e) = (ys, refl, others)
-  where
-    others : (z : X) → z ∈ (y ∷ ys) → ¬ (z ≡ x) → z ∈ ys
-    others z (here f) d = absurd (d (sym f ∙ e))
-    others z (there n) d = n
-take_out {X} {x} (y ∷ ys) (there m) = let r = take_out ys m in (y ∷ r.0, ap suc r.1, others r.0 r.2)
-  where
-    others : (zs : List X) → ((z : X) → z ∈ ys → ¬ (z ≡ x) → z ∈ zs) → (z : X) → z ∈ (y ∷ ys) → ¬ (z ≡ x) → z ∈ (y ∷ zs)
-    others zs f z (here e) d = here e
-    others zs f z (there n) d = there (f z n d)
-
--- what has no repetitions is no longer than what has all its members
-distinct_few : {X : Type 0} (xs ys : List X) → Distinct xs → xs ⊆ ys → length xs ≤ length ys
-distinct_few [] ys d s = omega arith
-distinct_few {X} (x ∷ xs) ys d s =
-    let r = take_out ys (s x (here refl)) in
-    let i = distinct_few xs r.0 d.1 (λ y m. r.2 y (s y (there m)) (λ e. d.0 (rw e at m))) in
-    omega (arith, i, r.1)
 
 -- ---- cells
 
@@ -92,11 +72,6 @@ tuples_at : (S : List Value) (ts : List NumberTable) (k : ℕ) → k < length ts
 tuples_at S ts k h = get_or-map (λ (t : NumberTable). map (texts_of S) t.rows) ts k no_rows [] h
 
 -- ---- in another order
-
-reordered_few : (S T : List Value) (t u : NumberTable) → AreApart T → IsReordered S T t u → length u.rows ≤ length t.rows
-reordered_few S T t u p r =
-    let few = distinct_few (map (texts_of T) u.rows) (map (texts_of S) t.rows) (distinct_texts T u.rows p r.texts r.ascend) (λ s m. (r.same s).0 m) in
-    omega (arith, few, length-map u.rows (texts_of T), length-map t.rows (texts_of S))
 
 pub reordered_cells : (steps : List Step) (S T : List Value) (ts us : List NumberTable) → AreApart T → AllZip (IsReordered S T) ts us → script_cells steps (tuples_in T us) ≤ script_cells steps (tuples_in S ts)
 reordered_cells steps S T ts us p z =
@@ -179,7 +154,7 @@ module _ (source : List Named) (call : Text → Tuple → Text) (I : List Fact) 
       let p = stands_at source list steps fit r select sources equal member in
       let own : IsMatchTable source call I select sources equal (match_table all r) = subst (λ (q : Matching). IsMatchTable source call I q.select q.sources q.equal (match_table all r)) p.1 (zip_here (IsTable source call I) (matchings steps) all r no_matching [] w.1 p.0) in
       let lw = zip_long (IsTable source call I) (matchings steps) all w.1 in
-      let one : length us ≤ length (match_table all r) = distinct_few us (match_table all r) distinct (λ t m. (own.exact t).1 (each t m)) in
+      let one : length us ≤ length (match_table all r) = no_longer us (match_table all r) distinct (λ t m. (own.exact t).1 (each t m)) in
       let tl = tuples_long S ts in
       let within = p.0 in
       let less = total_less (cells_of_rule steps (tuples_in S ts)) (cells_of_rule steps all) r (λ k l. mul-le-mul_right (cells_for steps k) (before k l all w.1 lw)) in
@@ -209,7 +184,7 @@ module _ (source : List Named) (call : Text → Tuple → Text) (I : List Fact) 
           let table = zip_here (IsTable source call I) (matchings steps) all k no_matching [] z c in
           let table_is : IsMatchTable source call I (get_or (matchings (take i steps)) k no_matching).select (get_or (matchings (take i steps)) k no_matching).sources (get_or (matchings (take i steps)) k no_matching).equal (match_table all k) =
           subst (λ (q : Matching). IsMatchTable source call I q.select q.sources q.equal (match_table all k)) same table in
-          rw (tuples_at S ts k a) (distinct_few (map (texts_of S) (get_or ts k no_rows).rows) (match_table all k) (distinct_texts S (get_or ts k no_rows).rows f.apart found.texts found.ascend) (λ t m. (table_is.exact t).1 ((found.exact t).0 m)))
+          rw (tuples_at S ts k a) (no_longer (map (texts_of S) (get_or ts k no_rows).rows) (match_table all k) (distinct_texts S (get_or ts k no_rows).rows f.apart found.texts found.ascend) (λ t m. (table_is.exact t).1 ((found.exact t).0 m)))
 
   -- each match step so far has a table
   pub number_is : (list : List Conversion) (old S : List Value) (ts : List NumberTable) (limit left i r : ℕ) (select : List Select) (sources : List Text) (equal : List Equal)
@@ -259,9 +234,6 @@ many_cells room cells left n f h more = elim (cases_lt left (n * cells)) [
 
 pub few_cells : (room cells left n : ℕ) → ((k : ℕ) → k < 2 ^ 64 → (k ≤ room) ↔ (k * cells ≤ left)) → n < 2 ^ 32 → n ≤ room → n * cells ≤ left
 few_cells room cells left n f h few = (f n (omega (arith, h))).0 few
-
-pub table_found : (found : Option NumberTable) (t : NumberTable) (P : Type 0) (R : NumberTable → Type 0) → found ≡ Some t → MatchOption found P R → R t
-table_found found t P R e m = found_table found t P R e m
 
 -- ---- what a step says, if it is a match step
 

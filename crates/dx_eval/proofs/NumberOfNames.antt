@@ -8,10 +8,10 @@ use Rattle.dx_model.specs.Values.{Text}
 use Rattle.dx_schema.specs.Forest.{Forest}
 use Rattle.dx_schema.specs.Tables.{AreTables, TableOf, number_of, table_at, tables_of}
 use Rattle.dx_schema.specs.Names.{Named, named_of}
+use Rattle.dx_schema.proofs.Whole.{are_named}
 use Rattle.dx_script.specs.Names.{column_at, column_named, table_named, table_names, table_numbered}
 use Rattle.dx_script.proofs.Made.{named_at, named_count, names_are}
 use Rattle.dx_script.proofs.NameFacts.{column_number, same_text, table_number}
-use Rattle.dx_script.proofs.RuleFacts.{are_named}
 
 -- a name that is there has its number among them
 pub number_within : (name : Text) (names : List Text) → name ∈ names → number_of name names < length names

@@ -1,23 +1,14 @@
 -- A script has one run.
-use Rattle.std.proofs.Common.{◌≡◌, ℕ, suc, ◌<◌, ◌≤◌, List, [], ◌∷◌, length, get_or, refl, subst, arith}
+use Rattle.std.proofs.Common.{◌≡◌, ◌≤◌, List, length, subst, arith}
 use Rattle.dx_model.specs.declared.facts.Fact.{Fact}
 use Rattle.dx_model.specs.Values.{Text, Tuple, Rows}
 use Rattle.dx_schema.specs.Names.{Named}
 use Rattle.dx_script.specs.declared.form.Step.{Step}
 use Rattle.dx_script.specs.Meaning.{match_table}
 use Rattle.dx_script.proofs.Steps.{at_most}
-use Rattle.dx_script.proofs.Unique.{meaning_is_unique, one_list}
+use Rattle.dx_script.proofs.Unique.{meaning_is_unique, one_list, one_by_one}
 use Rattle.dx_eval.specs.Evaluating.{AreMatchTables, script_cells, tuples_of}
 use Rattle.dx_eval.specs.Laws.{MadeOrTooMany, RunsAgree, TablesOfMeaning}
-
-one_by_one : (xs ys : Rows) → length xs ≡ length ys → ((r : ℕ) → r < length xs → get_or xs r [] ≡ get_or ys r []) → xs ≡ ys
-one_by_one [] [] l h = refl
-one_by_one [] (y ∷ ys) l h = absurd (omega arith)
-one_by_one (x ∷ xs) [] l h = absurd (omega arith)
-one_by_one (x ∷ xs) (y ∷ ys) l h =
-    let e : x ≡ y = h 0 (omega arith) in
-    let r : xs ≡ ys = one_by_one xs ys (omega arith) (λ k m. h (suc k) (omega arith)) in
-    cc
 
 module _ (source : List Named) (call : Text → Tuple → Text) (steps : List Step) (I : List Fact) where
   below : (tables others : Rows) → AreMatchTables source call steps I tables → AreMatchTables source call steps I others → length tables ≤ length others

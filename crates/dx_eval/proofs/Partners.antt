@@ -1,10 +1,10 @@
 -- Partners are found by keys, and places are left step by step.
-use Rattle.std.proofs.Common.{◌≡◌, ◌↔◌, ◌⊎◌, ℕ, ◌+◌, ◌<◌, ◌≤◌, true, false, Bool, List, [], ◌∷◌, ◌++◌, length, get_or, take, refl, sym, ◌∙◌, ap, subst, inl, inr}
+use Rattle.std.proofs.Common.{◌≡◌, ◌↔◌, ℕ, ◌+◌, ◌<◌, ◌≤◌, true, false, Bool, List, [], ◌∷◌, ◌++◌, length, get_or, take, refl, sym, ◌∙◌, ap, subst, inl, inr}
 use Rattle.std.specs.Prelude.{IsTrue, map, slice_index, slice_index_or}
-use Rattle.std.proofs.lemmas.List.{get_or-map, get_or_default, length-map, take_all, take_more}
+use Rattle.std.proofs.lemmas.List.{get_or-map, length-map, take_all, take_more}
 use Rattle.std.proofs.lemmas.Bool.{false≢true}
 use Rattle.dx_ports.specs.Members.{◌∈◌, here, there, Each}
-use Rattle.dx_ports.proofs.Members.{from_append, from_map, in_at, in_left, in_map, in_right}
+use Rattle.dx_ports.proofs.Members.{from_append, from_map, in_at, in_left, in_map, in_right, at_last}
 use Rattle.dx_model.specs.declared.values.NullId.{NullId}
 use Rattle.dx_model.specs.declared.values.Value.{Value}
 use Rattle.dx_model.specs.declared.values.Value.TheVariants.{Const, Null}
@@ -101,20 +101,13 @@ partnered_is S own others keys tests w apart mine theirs wide stand k = (
 pub leaves_none : (P : ℕ → Type 0) → Leaves P [] []
 leaves_none P k = ((λ m. elim m [ ]), (λ q. q.0))
 
-last_in : (xs : List ℕ) (x k : ℕ) → k ∈ (xs ++ x ∷ []) → (k ∈ xs) ⊎ (x ≡ k)
-last_in xs x k m = elim (from_append xs m) [ inl l ↦ inl l | inr r ↦ inr (one r) ]
-  where
-    one : k ∈ (x ∷ []) → x ≡ k
-    one (here e) = e
-    one (there n) = elim n [ ]
-
 -- a place that is left
 pub leaves_one : (P : ℕ → Type 0) (places old : List ℕ) (i k : ℕ) → i < length places → k ≡ get_or places i k → P k → Leaves P (take i places) old → Leaves P (take (i + 1) places) (old ++ k ∷ [])
 leaves_one P places old i k h e p l =
     let all : take (i + 1) places ≡ take i places ++ k ∷ [] = take_more places i k h ∙ ap (λ z. take i places ++ z ∷ []) (sym e) in
     rw all (λ j. (
-      (λ m. elim (last_in old k j m) [ inl q ↦ (in_left (k ∷ []) ((l j).0 q).0, ((l j).0 q).1) | inr q ↦ (in_right (take i places) (here q), subst P q p) ]),
-      (λ q. elim (last_in (take i places) k j q.0) [ inl m ↦ in_left (k ∷ []) ((l j).1 (m, q.1)) | inr m ↦ in_right old (here m) ]),
+      (λ m. elim (at_last old k j m) [ inl q ↦ (in_left (k ∷ []) ((l j).0 q).0, ((l j).0 q).1) | inr q ↦ (in_right (take i places) (here q), subst P q p) ]),
+      (λ q. elim (at_last (take i places) k j q.0) [ inl m ↦ in_left (k ∷ []) ((l j).1 (m, q.1)) | inr m ↦ in_right old (here m) ]),
     ))
 
 -- a place that is not
@@ -123,7 +116,7 @@ leaves_not P places old i k h e n l =
     let all : take (i + 1) places ≡ take i places ++ k ∷ [] = take_more places i k h ∙ ap (λ z. take i places ++ z ∷ []) (sym e) in
     rw all (λ j. (
       (λ m. (in_left (k ∷ []) ((l j).0 m).0, ((l j).0 m).1)),
-      (λ q. elim (last_in (take i places) k j q.0) [ inl m ↦ (l j).1 (m, q.1) | inr m ↦ absurd (n (subst P (sym m) q.1)) ]),
+      (λ q. elim (at_last (take i places) k j q.0) [ inl m ↦ (l j).1 (m, q.1) | inr m ↦ absurd (n (subst P (sym m) q.1)) ]),
     ))
 
 -- ---- parts
@@ -150,9 +143,6 @@ parts_more S tables r unless i u own other old mid new h e eo et a b =
 
 pub left_within : (P : ℕ → Type 0) (n : ℕ) (old new : List ℕ) → Each old (λ k. k < n) → Leaves P old new → Each new (λ k. k < n)
 left_within P n old new h l k m = h k ((l k).0 m).0
-
-pub table_is : (tables : List NumberTable) (r : ℕ) (t : NumberTable) → r < length tables → t ≡ get_or tables r t → t ≡ numbers_of_table tables r
-table_is tables r t h e = e ∙ get_or_default tables r t (record { width = 0; rows = [] }) h
 
 -- ---- steps
 

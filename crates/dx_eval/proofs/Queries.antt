@@ -15,6 +15,7 @@ use Rattle.dx_model.specs.Rules.{Derive, after_cells, cell_value, cells_of, prem
 use Rattle.dx_model.proofs.Lists.{from_below, in_below}
 use Rattle.dx_ports.specs.Members.{◌∈◌, here, there, Each}
 use Rattle.dx_ports.proofs.Members.{from_map, in_at, in_map}
+use Rattle.dx_ports.proofs.Tests.{map_same}
 use Rattle.dx_schema.specs.Names.{Named}
 use Rattle.dx_funcs.specs.declared.conversion.Conversion.{Conversion}
 use Rattle.dx_funcs.specs.Names.{call_found, call_named, first_named}
@@ -26,7 +27,6 @@ use Rattle.dx_script.specs.declared.form.Equal.{Equal}
 use Rattle.dx_script.specs.Names.{column_named, table_numbered}
 use Rattle.dx_script.specs.Fits.{CellFits, SelectFits}
 use Rattle.dx_script.specs.Meaning.{IsAssignment, cell_text, selected, table_of_alias}
-use Rattle.dx_script.proofs.MatchTables.{map_agree}
 use Rattle.dx_eval.specs.Variables.{AreVariables, IsCell, row_of, variable_at, variable_of}
 use Rattle.dx_eval.specs.Query.{IsSelected, atom_of, atoms_of, code_found, derived_of, shown_from}
 use Rattle.dx_eval.proofs.NumberOfNames.{column_within}
@@ -41,7 +41,7 @@ call_by_code convert (Some c) args count h = refl
 module _ (source : List Named) (list : List Conversion) (convert : Conversions) (sources : List Text) (variable : CellRef → ℕ) (rows : ℕ → Tuple) (texts : ℕ → Text)
     (at : (c : CellRef) → CellFits source sources c → cell_text source sources rows c ≡ texts (variable c)) where
   cells_at : (args : List CellRef) → Each args (CellFits source sources) → map (cell_text source sources rows) args ≡ map texts (map variable args)
-  cells_at args f = map_agree (cell_text source sources rows) (λ c. texts (variable c)) args (λ c m. at c (f c m)) ∙ sym (map-map texts variable args)
+  cells_at args f = map_same (cell_text source sources rows) (λ c. texts (variable c)) args (λ c m. at c (f c m)) ∙ sym (map-map texts variable args)
 
   -- what is selected is what the shown variables have
   pub selects_shown : (next : ℕ) (select : List Select) → Each select (SelectFits source list sources) → Derive convert texts next (derived_of list variable select)
@@ -199,7 +199,7 @@ module _ (source : List Named) (list : List Conversion) (convert : Conversions) 
             subst (λ b. premise_fact texts b ∈ I) w.2 (subst (λ r. record { table = table_of_alias source sources w.0; row = r } ∈ I) (sym same) k);
         derives = rw numbered (all_derived convert texts n derived (λ i l.
             text_high source sources equal vars n v convert derived rows (n + i) i refl
-            ∙ ap (convert (get_or derived i e0).code) (map_agree (low source sources equal vars n v rows) texts (get_or derived i e0).args
+            ∙ ap (convert (get_or derived i e0).code) (map_same (low source sources equal vars n v rows) texts (get_or derived i e0).args
             (λ y k. sym (text_low source sources equal vars n v convert derived rows y (args_at i l y k))))));
       }
     where

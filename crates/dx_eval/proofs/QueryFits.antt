@@ -33,6 +33,7 @@ use Rattle.dx_instance.specs.Stored.{facts, widths}
 use Rattle.dx_instance.proofs.LawFacts.{facts_fit}
 use Rattle.dx_instance.proofs.ShownFacts.{all_fit}
 use Rattle.std.proofs.lemmas.Simd.{map-map}
+use Rattle.dx_model.proofs.RowsExist.{below_after}
 use Rattle.dx_joins.specs.Shown.{FitsMatching, IsShown, MoreTuples, StandFor, is_text}
 use Rattle.dx_joins.proofs.Whole.{result_same}
 use Rattle.dx_script.specs.declared.form.CellRef.{CellRef}
@@ -44,7 +45,7 @@ use Rattle.dx_script.specs.Names.{table_named, table_names, table_numbered}
 use Rattle.dx_script.specs.Meaning.{selected, table_of_alias}
 use Rattle.dx_script.proofs.MatchTables.{index_of}
 use Rattle.dx_script.proofs.NameFacts.{nat_lt_tells, no_table}
-use Rattle.dx_script.proofs.RuleFacts.{WidthsFit, below_after, widths_fit}
+use Rattle.dx_script.proofs.RuleFacts.{WidthsFit, widths_fit}
 use Rattle.dx_eval.specs.Variables.{AreVariables, HasVariable, IsCell, cell_count, row_of, variable_at, variable_of}
 use Rattle.dx_eval.specs.Query.{IsQuery, IsSelected, atom_of, atoms_of, code_found, derived_in, derived_of, next_after, shown_from}
 use Rattle.dx_eval.proofs.Joined.{fits_cell}

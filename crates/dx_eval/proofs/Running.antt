@@ -6,6 +6,7 @@ use Rattle.std.proofs.lemmas.List.{get_or-map, get_or_append_left, length-append
 use Rattle.std.proofs.lemmas.List.Concat.{flat_map-append}
 use Rattle.dx_ports.specs.Members.{◌∈◌, here, Each}
 use Rattle.dx_ports.proofs.Members.{from_map, in_flat_map, in_left, in_map}
+use Rattle.dx_ports.proofs.Lists.{zip_long}
 use Rattle.dx_model.specs.declared.facts.Fact.{Fact}
 use Rattle.dx_model.specs.declared.matches.Matches.{Matches}
 use Rattle.dx_model.specs.declared.values.Value.{Value}
@@ -16,6 +17,7 @@ use Rattle.dx_instance.specs.Numbers.{ValuesAscend}
 use Rattle.dx_instance.specs.Shown.{numbers_of_table}
 use Rattle.dx_instance.specs.Stored.{IsSorting, TableRows, facts, widths, without_rows}
 use Rattle.dx_instance.proofs.RankFacts.{ascend_apart}
+use Rattle.dx_instance.proofs.StoredFacts.{widths_without}
 use Rattle.dx_funcs.specs.declared.conversion.Conversion.{Conversion}
 use Rattle.dx_script.specs.declared.form.Test.{Test}
 use Rattle.dx_script.specs.declared.form.Test.TheVariants.{Columns, Literal as Same}
@@ -29,14 +31,14 @@ use Rattle.dx_script.specs.Meaning.{IsInserted, Means}
 use Rattle.dx_script.specs.Names.{table_names}
 use Rattle.dx_tgd.specs.Found.{IsReordered}
 use Rattle.dx_tgd.specs.Texts.{tuples_in}
-use Rattle.dx_tgd.proofs.Tables.{no_facts, widths_without}
+use Rattle.dx_tgd.proofs.Tables.{no_facts}
 use Rattle.dx_eval.specs.Evaluating.{IsMade, script_cells, tuples_of}
 use Rattle.dx_eval.specs.Finding.{AreFoundSteps, IsFoundStep, Matching, MatchesFit, matchings}
 use Rattle.dx_eval.specs.Inserting.{InsertStands, OutStands}
 use Rattle.dx_eval.specs.Keeping.{PartStands, TestStands}
 use Rattle.dx_eval.proofs.Inserts.{sorted_facts}
 use Rattle.dx_eval.proofs.Limits.{reordered_cells}
-use Rattle.dx_eval.proofs.Tables.{are_tables, found_reordered, matching_long, no_matching, split_in, to_tables, zip_here, zip_long}
+use Rattle.dx_eval.proofs.Tables.{are_tables, found_reordered, matching_long, no_matching, split_in, to_tables, zip_here}
 
 pub matches_fit : (source target : List Named) (list : List Conversion) (steps : List Step) → FitsScript source target list steps → MatchesFit source list steps
 matches_fit source target list steps f before after r select sources equal e = f.each before after (MatchRows r select sources equal) e

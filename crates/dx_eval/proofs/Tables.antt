@@ -6,6 +6,7 @@ use Rattle.std.proofs.lemmas.List.{append_assoc, take-append-drop, length-append
 use Rattle.std.proofs.lemmas.List.Concat.{flat_map-append}
 use Rattle.dx_ports.specs.Members.{◌∈◌, here, there, Each}
 use Rattle.dx_ports.proofs.Members.{in_right}
+use Rattle.dx_ports.proofs.Lists.{zip_long, zip_grow}
 use Rattle.dx_model.specs.declared.facts.Fact.{Fact}
 use Rattle.dx_model.specs.declared.values.Value.{Value}
 use Rattle.dx_model.specs.Values.{Text, Tuple, Rows}
@@ -106,24 +107,6 @@ module _ (source : List Named) (list : List Conversion) (steps : List Step) (fit
   rule_at k h = let w = at_place steps k h in sym (placed w.rule w.select w.sources w.equal w.split) ∙ w.place
 
 -- ---- lists side by side
-
-zip_grow : {X Y : Type 0} (R Q : X → Y → Type 0) (xs : List X) (ys : List Y) → ((x : X) (y : Y) → R x y → Q x y) → AllZip R xs ys → AllZip Q xs ys
-zip_grow R Q [] [] f z = tt
-zip_grow R Q [] (y ∷ ys) f z = absurd z
-zip_grow R Q (x ∷ xs) [] f z = absurd z
-zip_grow R Q (x ∷ xs) (y ∷ ys) f z = (f x y z.0, zip_grow R Q xs ys f z.1)
-
-pub zip_push : {X Y : Type 0} (R : X → Y → Type 0) (xs : List X) (ys : List Y) (x : X) (y : Y) → AllZip R xs ys → R x y → AllZip R (xs ++ x ∷ []) (ys ++ y ∷ [])
-zip_push R [] [] x y z r = (r, tt)
-zip_push R [] (w ∷ ys) x y z r = absurd z
-zip_push R (v ∷ xs) [] x y z r = absurd z
-zip_push R (v ∷ xs) (w ∷ ys) x y z r = (z.0, zip_push R xs ys x y z.1 r)
-
-pub zip_long : {X Y : Type 0} (R : X → Y → Type 0) (xs : List X) (ys : List Y) → AllZip R xs ys → length xs ≡ length ys
-zip_long R [] [] z = refl
-zip_long R [] (y ∷ ys) z = absurd z
-zip_long R (x ∷ xs) [] z = absurd z
-zip_long R (x ∷ xs) (y ∷ ys) z = ap suc (zip_long R xs ys z.1)
 
 pub zip_here : {X Y : Type 0} (R : X → Y → Type 0) (xs : List X) (ys : List Y) (i : ℕ) (d : X) (e : Y) → AllZip R xs ys → i < length xs → R (get_or xs i d) (get_or ys i e)
 zip_here R [] ys i d e z h = absurd (omega (arith, h))

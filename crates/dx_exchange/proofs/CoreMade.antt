@@ -11,7 +11,7 @@ use Rattle.dx_model.specs.declared.values.Value.{Value}
 use Rattle.dx_model.specs.declared.values.Value.TheVariants.{Const, Null}
 use Rattle.dx_model.specs.Chase.{IsForcedMap}
 use Rattle.dx_model.specs.Covers.{HasWidths, cover_fold, least_cover, uncovered_part}
-use Rattle.dx_model.specs.Instances.{IsCore, IsNullMap, fact_moved, given, image, moved, values}
+use Rattle.dx_model.specs.Instances.{IsCore, IsNullMap, fact_moved, given, image, moved, values, nulls_in}
 use Rattle.dx_model.specs.Rules.{AreRows, canonical}
 use Rattle.dx_model.specs.Solutions.{IsClosed}
 use Rattle.dx_model.specs.Tables.{KeysHold, Table, table_of}
@@ -20,7 +20,7 @@ use Rattle.dx_model.proofs.Before.{cover_fold_uncovers}
 use Rattle.dx_model.proofs.ByMembers.{forced_image_stays, forced_map_by_members, image_by_members, keys_by_members, moves_follow, uncovered_is_part, values_part}
 use Rattle.dx_model.proofs.Decided.{decide_in, same_null_id}
 use Rattle.dx_model.proofs.Reduced.{least_core_universal}
-use Rattle.dx_model.proofs.Reduction.{from_nulls, in_nulls, nulls_in}
+use Rattle.dx_model.proofs.Reduction.{from_nulls, in_nulls}
 use Rattle.dx_instance.specs.Images.{IsImage}
 use Rattle.dx_instance.specs.NullMaps.{ByNull, pairs_of}
 use Rattle.dx_instance.specs.Stored.{TableRows, facts, rows_of, widths}

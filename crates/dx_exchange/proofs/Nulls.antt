@@ -1,10 +1,7 @@
 -- Which nulls have places, and what the cover fold and the forced map leave as it is.
-use Rattle.std.proofs.Common.{◌≡◌, ◌∙◌, ◌⊎◌, ℕ, suc, ◌<◌, ◌≤◌, false, cond, List, [], ◌∷◌, None, refl, sym, ap, subst, inl, inr, arith}
+use Rattle.std.proofs.Common.{◌≡◌, ◌∙◌, ◌⊎◌, ℕ, suc, ◌<◌, ◌≤◌, List, [], ◌∷◌, None, refl, sym, ap, subst, inl, inr, arith}
 use Rattle.std.specs.Prelude.{map, nat_lt}
-use Rattle.std.specs.declared.cmp.Ordering.{Ordering}
-use Rattle.std.specs.declared.cmp.Ordering.TheVariants.{Less, Equal, Greater}
-use Rattle.std.specs.Ordering.{ordering_reverse}
-use Rattle.std.proofs.lemmas.Bool.{cases_Bool, cases_lt, lt-ltb, ltb-true, true≢false}
+use Rattle.std.proofs.lemmas.Bool.{cases_Bool, cases_lt}
 use Rattle.dx_ports.specs.Members.{◌∈◌, here, there, Each}
 use Rattle.dx_ports.proofs.Members.{in_at, in_map, from_map, in_flat_map, from_flat_map}
 use Rattle.dx_model.specs.declared.facts.Fact.{Fact}
@@ -22,11 +19,13 @@ use Rattle.dx_model.specs.Fitting.{IsRule, Numbered}
 use Rattle.dx_model.specs.Instances.{IsNullMap, fact_moved, given, image, moved, same_null, values}
 use Rattle.dx_model.specs.Rules.{canonical, cells_of, existential_in, existentials}
 use Rattle.dx_model.specs.Tables.{Table}
-use Rattle.dx_model.specs.Values.{Rows, null_cmp}
+use Rattle.dx_model.specs.Values.{Rows}
 use Rattle.dx_model.proofs.Forced.{given_or}
 use Rattle.dx_model.proofs.Maps.{same_null-refl, same_null-true}
 use Rattle.dx_model.proofs.MembersAre.{canonical_are, uncovered_are}
-use Rattle.dx_model.proofs.Orders.{null_exact, null_total}
+use Rattle.dx_model.proofs.OneMap.{same_by_order}
+use Rattle.dx_model.proofs.Deciding.{from_existential}
+use Rattle.dx_model.proofs.Carrying.{below_existential}
 use Rattle.dx_instance.specs.NullMaps.{ByNull, pairs_of}
 use Rattle.dx_instance.proofs.AfterFacts.{pairs_give}
 use Rattle.dx_cover_fold.specs.Folding.{IsCoverFold, IsPlaceNull}
@@ -69,14 +68,6 @@ listed_gets (q ∷ m) p d (there h) = elim (cases_Bool (same_null q.null p.null)
 ]
 
 -- ---- the forced map
-
-same_by_order : (i j : NullId) → ¬ (null_cmp i j ≡ Greater) → ¬ (null_cmp j i ≡ Greater) → i ≡ j
-same_by_order i j a b = by (null_cmp i j) refl
-  where
-    by : (o : Ordering) → null_cmp i j ≡ o → i ≡ j
-    by Less e = absurd (b (null_total.antisymm j i ∙ ap ordering_reverse e))
-    by Equal e = null_exact i j e
-    by Greater e = absurd (a e)
 
 -- a null that is forced for another is forced for itself
 own_value : (schema : List Table) (A : List Fact) (n k : NullId) (v : Value) → IsForcedValue schema A n (Null k)
@@ -124,31 +115,13 @@ cover_stays R rows n h =
     let q = null_said R rows u.0 u.1 e.0 n u.4 e.2 in
     open_stays R rows n (subst (λ (j : NullId). least_cover R rows j.rule j.row ≡ None) (sym q.2) u.3)
 
-greater_is : (v n : ℕ) → (v < cond (nat_lt v n) n (suc v)) × (n < suc (cond (nat_lt v n) n (suc v)))
-greater_is v n = elim (cases_Bool (nat_lt v n)) [
-  | inl t ↦ rw t (ltb-true v n t, omega arith)
-  | inr f ↦ rw f (omega arith, at_most f)
-]
-  where
-    at_most : nat_lt v n ≡ false → n < suc (suc v)
-    at_most f = elim (cases_lt v n) [ inl l ↦ absurd (true≢false (sym (lt-ltb v n l) ∙ f)) | inr g ↦ omega arith ]
-
-below_after : (v : ℕ) (cs : List Cell) → Ex v ∈ cs → v < after_existential cs
-below_after v [] m = elim m [ ]
-below_after v (Var x ∷ cs) (here e) = absurd (cc)
-below_after v (Var x ∷ cs) (there m) = below_after v cs m
-below_after v (Ex w ∷ cs) (here e) = let d : w ≡ v = cc in rw (← d) (greater_is w (after_existential cs)).0
-below_after v (Ex w ∷ cs) (there m) = let h = below_after v cs m in let g = (greater_is w (after_existential cs)).1 in omega (arith, h, g)
-below_after v (Lit t ∷ cs) (here e) = absurd (cc)
-below_after v (Lit t ∷ cs) (there m) = below_after v cs m
-
 -- the nulls of the canonical instance are those of places
 pub place_null : (R : List Rule) (rows : Rows) (n : NullId) → Null n ∈ values (canonical 0 R rows) → IsPlaceNull R rows n
 place_null R rows n h =
     let e = from_flat_map row_of (canonical 0 R rows) h in
     let u = (canonical_are R rows e.0).0 e.1 in
     let q = null_said R rows u.0 u.1 e.0 n u.3 e.2 in
-    subst (IsPlaceNull R rows) (sym q.2) (record { place = u.2; variable = below_after q.0 (cells_of (rule_at R u.0).conclusion) q.1 })
+    subst (IsPlaceNull R rows) (sym q.2) (record { place = u.2; variable = below_existential q.0 (cells_of (rule_at R u.0).conclusion) q.1 })
 
 -- the map of the cover fold gives them what the cover fold makes of them
 pub fold_gives : (R : List Rule) (rows : Rows) (f : ByNull) (n : NullId) → IsCoverFold R rows f → Null n ∈ values (canonical 0 R rows)
@@ -178,12 +151,6 @@ stands n (y ∷ ys) m v w (inr h) (there k) l = elim (stands (suc n) ys m v w h.
   | inl a ↦ elim (cases_lt v n) [ inl c ↦ inl c | inr b ↦ inr (here (let d = h.0 in omega (arith, a, b, d))) ]
   | inr b ↦ inr (there b)
 ]
-
-from_existential : (v : ℕ) (c : Cell) → v ∈ existential_in c → c ≡ Ex v
-from_existential v (Var x) m = elim m [ ]
-from_existential v (Ex w) (here e) = ap Ex e
-from_existential v (Ex w) (there m) = elim m [ ]
-from_existential v (Lit t) m = elim m [ ]
 
 stands_in : (d : Rule) (v : ℕ) → IsRule d → v < after_existential (cells_of d.conclusion) → Ex v ∈ cells_of d.conclusion
 stands_in d v rule h =

@@ -1,7 +1,6 @@
 -- Rows that agree in columns.
 use Rattle.std.proofs.Common.{◌≡◌, ◌∙◌, ℕ, zero, suc, ◌+◌, ◌<◌, ◌≤◌, List, [], ◌∷◌, ◌++◌, inl, inr, sym, ap, subst, arith, length, get_or, take, Bool, true, false}
 use Rattle.std.specs.Prelude.{map, Option, None, Some, is_some, ◌==◌}
-use Rattle.dx_ports.specs.Members.{◌∈◌, here, there}
 use Rattle.std.proofs.lemmas.Bool.{cases_lt, true≢false, false≢true}
 use Rattle.std.proofs.lemmas.List.{take_more, take_all, map-append}
 use Rattle.dx_model.specs.declared.values.Value.{Value}
@@ -71,10 +70,6 @@ not_lead I t n link (Some x) h e m r = true≢false e
 not_lead I t n link None h e m r = let k = r n h in m k.0 (omega arith) k.1 k.2
 
 -- ---- single columns
-
-pub only_one : (n c k : ℕ) → k ∈ (c ∷ []) → c < n → k < n
-only_one n c k (here e) h = rw (← e) h
-only_one n c k (there m) h = elim m [ ]
 
 pub some_column : (xs : List ℕ) (b : Bool) → b ≡ (length xs == 0) → b ≡ false → 0 < length xs
 some_column [] b e h = absurd (false≢true (sym h ∙ e))

@@ -1,13 +1,13 @@
 -- Cells that say what a search found.
-use Rattle.std.proofs.Common.{◌≡◌, ◌∙◌, ℕ, zero, suc, ◌+◌, ◌<◌, ◌≤◌, List, [], ◌∷◌, ◌++◌, inl, inr, refl, sym, ap, subst, arith, length, get_or, take, append_assoc}
+use Rattle.std.proofs.Common.{◌≡◌, ◌∙◌, ℕ, ◌+◌, ◌<◌, ◌≤◌, List, [], ◌∷◌, ◌++◌, inl, inr, refl, sym, ap, subst, arith, length, get_or, take, append_assoc}
 use Rattle.std.specs.Prelude.{map, ◌↔◌, Bool, true, false, IsTrue, MatchBool, MatchOption, Option, None, Some}
 use Rattle.std.specs.List.{range_with_len}
 use Rattle.std.proofs.lemmas.Bool.{cases_eq, cases_lt, false≢true}
-use Rattle.std.proofs.lemmas.List.{take_more, map-append, take_all, take-map, length-append, length-map, append-nil}
+use Rattle.std.proofs.lemmas.List.{take_more, map-append, take_all, take-map, length-append, length-map, append-nil, same_from_push, get_or-map}
 use Rattle.std.proofs.lemmas.List.FromFn.{length-range_with_len}
 use Rattle.std.proofs.Math.Seq.{take-append_seam}
 use Rattle.dx_ports.specs.Members.{◌∈◌, Distinct, Each, here, there}
-use Rattle.dx_ports.proofs.Members.{from_append, from_map, in_at, in_flat_map, in_left, in_right}
+use Rattle.dx_ports.proofs.Members.{from_append, from_map, in_at, in_flat_map, in_left, in_right, distinct_more, no_longer}
 use Rattle.dx_ports.proofs.Ranges.{to_range}
 use Rattle.dx_model.specs.declared.values.Value.{Value}
 use Rattle.dx_model.specs.declared.values.Value.TheVariants.{Const}
@@ -16,24 +16,12 @@ use Rattle.dx_model.specs.declared.rules.Cell.{Cell}
 use Rattle.dx_model.specs.declared.rules.Cell.TheVariants.{Ex}
 use Rattle.dx_model.specs.Values.{Text}
 use Rattle.dx_model.specs.Rules.{cell_value, cells_of}
-use Rattle.dx_schema.proofs.Levels.{no_longer}
 use Rattle.dx_instance.specs.Stored.{TableRows, rows_of, table_at}
 use Rattle.dx_instance.specs.Places.{IsFirstWith, HasValues, row_at, value_at}
 use Rattle.dx_holds.specs.declared.matching.Found.{Found}
 use Rattle.dx_holds.specs.Searching.{AreFound, Begins, Gives, IsCell, Meets, Misses, Narrows, Skips, names, value_of}
 
 -- ---- lists
-
-pub distinct_more : {X : Type 0} (xs : List X) (x : X) → Distinct xs → ¬ (x ∈ xs) → Distinct (xs ++ x ∷ [])
-distinct_more [] x d n = ((λ m. elim m [ ]), tt)
-distinct_more (y ∷ ys) x d n = (
-  (λ m. elim (from_append ys m) [ inl l ↦ d.0 l | inr r ↦ last r ]),
-  distinct_more ys x d.1 (λ m. n (there m)),
-)
-  where
-    last : y ∈ (x ∷ []) → ⊥
-    last (here e) = n (here (sym e))
-    last (there m) = elim m [ ]
 
 -- distinct numbers below n are at most n
 pub distinct_few : (xs : List ℕ) (n : ℕ) → Distinct xs → Each xs (λ x. x < n) → length xs ≤ n
@@ -118,17 +106,6 @@ answer_known I n found f w false good h = record { begins = begins_none found; n
 
 -- ---- rows
 
-last_apart : {X : Type 0} (xs ys : List X) (x y : X) → xs ++ x ∷ [] ≡ ys ++ y ∷ [] → (xs ≡ ys) × (x ≡ y)
-last_apart [] [] x y e = (refl, cc)
-last_apart [] (z ∷ ys) x y e = absurd (let l = ap length e in omega (arith, simp length-append at l))
-last_apart (z ∷ xs) [] x y e = absurd (let l = ap length e in omega (arith, simp length-append at l))
-last_apart (z ∷ xs) (w ∷ ys) x y e =
-    let d : xs ++ x ∷ [] ≡ ys ++ y ∷ [] = cc in
-    let r = last_apart xs ys x y d in
-    let h : z ≡ w = cc in
-    let k : xs ≡ ys = r.0 in
-    (cc, r.1)
-
 -- the first i cells say the first i values
 abbrev pub MeetsFirst : (ℕ → Text) → List Cell → List Value → ℕ → (ℕ → Value) → Type 0
 MeetsFirst T a b i values = map (cell_value T values) (take i a) ≡ take i b
@@ -143,7 +120,7 @@ module _ (T : ℕ → Text) (I : List TableRows) (n : ℕ) (a : List Cell) (b : 
       let within : i < length b = omega arith in
       let f : map (cell_value T values) (take i a) ++ cell_value T values (get_or a i x) ∷ [] ≡ take i b ++ get_or b i y ∷ [] =
       sym (map-append (cell_value T values) (take i a) (get_or a i x ∷ [])) ∙ (ap (map (cell_value T values)) (sym (take_more a i x h)) ∙ (e ∙ take_more b i y within)) in
-      let w = last_apart (map (cell_value T values) (take i a)) (take i b) _ _ f in
+      let w = same_from_push (map (cell_value T values) (take i a)) (take i b) _ _ f in
       (w.0, ap (cell_value T values) p ∙ (w.1 ∙ sym q))
 
   joined : (values : ℕ → Value) → MeetsFirst T a b i values → cell_value T values x ≡ y → MeetsFirst T a b (i + 1) values
@@ -191,15 +168,10 @@ module _ (T : ℕ → Text) (I : List TableRows) (n : ℕ) where
 abbrev pub Next : (ℕ → Text) → List TableRows → List Found → Atom → ℕ → Option ℕ → Type 0
 Next T I found a n o = MatchOption o (Skips T I found a n (length (rows_of I a.table))) (λ p. (n ≤ p) × (p < length (rows_of I a.table)) × Skips T I found a n p)
 
-map_at : {X Y : Type 0} (g : X → Y) (xs : List X) (i : ℕ) (d : X) (e : Y) → i < length xs → get_or (map g xs) i e ≡ g (get_or xs i d)
-map_at g [] i d e h = absurd (omega arith)
-map_at g (x ∷ xs) zero d e h = refl
-map_at g (x ∷ xs) (suc i) d e h = map_at g xs i d e (omega arith)
-
 other_column : (T : ℕ → Text) (I : List TableRows) (found : List Found) (a : Atom) (c p : ℕ) (x : Cell) (v : Value) → c < length a.cells → x ≡ get_or a.cells c x
     → ((values : ℕ → Value) → Gives I found values → cell_value T values x ≡ v) → ¬ (HasValues I a.table (c ∷ []) (v ∷ []) p) → (values : ℕ → Value) → Gives I found values → ¬ (Meets T I a p values)
 other_column T I found a c p x v h e known none values w r =
-    let d : get_or (row_at I a.table p) c (Const []) ≡ cell_value T values x = ap (λ l. get_or l c (Const [])) (sym r) ∙ (map_at (cell_value T values) a.cells c x (Const []) h ∙ ap (cell_value T values) (sym e)) in
+    let d : get_or (row_at I a.table p) c (Const []) ≡ cell_value T values x = ap (λ l. get_or l c (Const [])) (sym r) ∙ (get_or-map (cell_value T values) a.cells c x (Const []) h ∙ ap (cell_value T values) (sym e)) in
     let k : value_at I a.table p c ≡ v = d ∙ known values w in
     none (ap (λ y. y ∷ []) k)
 

@@ -2,23 +2,23 @@
 use Rattle.std.proofs.Common.{◌≡◌, ◌∙◌, ℕ, ◌+◌, ◌<◌, ◌≤◌, List, [], ◌∷◌, ◌++◌, ◌⊎◌, inl, inr, refl, sym, ap, subst, arith, length, drop}
 use Rattle.std.specs.Prelude.{map, ◌↔◌, cond, eqb, Bool, true, false, IfSome, IsTrue, MatchBool, Option, None, Some}
 use Rattle.std.proofs.lemmas.Bool.{cases_Bool, cases_eq, cases_lt, eqb-true, eq-eqb, false≢true, ne_eqb}
-use Rattle.std.proofs.lemmas.List.{map-append, length-append}
+use Rattle.std.proofs.lemmas.List.{map-append, length-append, get_or_default}
 use Rattle.dx_ports.specs.Members.{◌∈◌, Distinct, Each, here, there}
-use Rattle.dx_ports.proofs.Members.{contains_from_in, from_append, in_at, in_left, in_map, in_right}
+use Rattle.dx_ports.proofs.Members.{contains_from_in, from_append, in_at, in_left, in_map, in_right, distinct_more}
 use Rattle.dx_model.specs.declared.values.Value.{Value}
 use Rattle.dx_model.specs.declared.values.Value.TheVariants.{Const}
 use Rattle.dx_model.specs.declared.facts.Fact.{Fact}
 use Rattle.dx_model.specs.declared.rules.Atom.{Atom}
-use Rattle.dx_model.specs.declared.rules.Cell.{Cell}
-use Rattle.dx_model.specs.declared.rules.Cell.TheVariants.{Ex, Var, Lit}
+use Rattle.dx_model.specs.declared.rules.Cell.TheVariants.{Ex}
 use Rattle.dx_model.specs.Values.{Text}
 use Rattle.dx_model.specs.Rules.{cell_value, said}
+use Rattle.dx_model.proofs.Deciding.{cells_with}
 use Rattle.dx_instance.specs.Stored.{TableRows, facts, rows_of}
 use Rattle.dx_instance.specs.Places.{row_at}
-use Rattle.dx_instance.proofs.StoredFacts.{fact_from_row, other_default, row_from_fact}
+use Rattle.dx_instance.proofs.StoredFacts.{fact_from_row, row_from_fact}
 use Rattle.dx_holds.specs.declared.matching.Found.{Found}
 use Rattle.dx_holds.specs.Searching.{AreFound, Begins, Fails, Gives, IsState, Meets, Narrows, NoneLeft, Rest, Skips, atom_at, names, value_of}
-use Rattle.dx_holds.proofs.Narrowing.{distinct_few, distinct_more, each_last, room_more}
+use Rattle.dx_holds.proofs.Narrowing.{distinct_few, each_last, room_more}
 
 -- ---- values of what was found
 
@@ -58,13 +58,6 @@ mixed_gives I n old new b values good g x m =
 
 -- ---- atoms
 
--- cells without the variables in which values differ have the same values
-cells_same : (T : ℕ → Text) (values others : ℕ → Value) (cells : List Cell) → ((v : ℕ) → Ex v ∈ cells → values v ≡ others v) → map (cell_value T values) cells ≡ map (cell_value T others) cells
-cells_same T values others [] h = refl
-cells_same T values others (Var x ∷ cs) h = ap (λ (l : List Value). Const (T x) ∷ l) (cells_same T values others cs (λ v m. h v (there m)))
-cells_same T values others (Ex v ∷ cs) h = let a = h v (here refl) in let b = cells_same T values others cs (λ w m. h w (there m)) in cc
-cells_same T values others (Lit t ∷ cs) h = ap (λ (l : List Value). Const t ∷ l) (cells_same T values others cs (λ v m. h v (there m)))
-
 drop_front : {X : Type 0} (xs ys : List X) → drop (length xs) (xs ++ ys) ≡ ys
 drop_front [] [] = refl
 drop_front [] (y ∷ ys) = refl
@@ -80,7 +73,7 @@ fails_after T A I n old new before done b d good none fails values g rest =
     (rest i h (λ m. k (subst (λ (l : List ℕ). i ∈ l) (sym d.1) (in_left d.0 m)))))
   where
     same : (i : ℕ) → ((v : ℕ) → Ex v ∈ (atom_at A i).cells → mixed I b.0 values v ≡ values v) → said T values (atom_at A i) ∈ facts I → said T (mixed I b.0 values) (atom_at A i) ∈ facts I
-    same i h m = subst (λ (row : List Value). ◌∈◌ {X = Fact} (record { table = (atom_at A i).table; row = row }) (facts I)) (sym (cells_same T (mixed I b.0 values) values (atom_at A i).cells h)) m
+    same i h m = subst (λ (row : List Value). ◌∈◌ {X = Fact} (record { table = (atom_at A i).table; row = row }) (facts I)) (sym (cells_with T (mixed I b.0 values) values (atom_at A i).cells h)) m
 
 -- an atom more is done
 pub state_more : (T : ℕ → Text) (A : List Atom) (I : List TableRows) (n : ℕ) (old new : List Found) (done : List ℕ) (i p : ℕ) → IsState T A I n old done → i < length A → ¬ (i ∈ done) → p < length (rows_of I (atom_at A i).table)
@@ -117,7 +110,7 @@ module _ (T : ℕ → Text) (A : List Atom) (I : List TableRows) (found : List F
       let row = row_from_fact I (said T values (atom_at A i)) (r i h k) in
       let at = contains_from_in row in
       tried_skip m (length (rows_of I (atom_at A i).table)) t s values g r at.0 at.1
-      (sym (other_default (rows_of I (atom_at A i).table) at.0 [] (map (cell_value T values) (atom_at A i).cells) at.1 ∙ at.2))
+      (sym (get_or_default (rows_of I (atom_at A i).table) at.0 [] (map (cell_value T values) (atom_at A i).cells) at.1 ∙ at.2))
 
 -- ---- all atoms
 
@@ -143,7 +136,7 @@ all_done T A I n found done s none = (mixed I found (λ _. Const []), each)
     each : Each A (λ a. said T (mixed I found (λ _. Const [])) a ∈ facts I)
     each a m =
         let k = contains_from_in m in
-        let e : atom_at A k.0 ≡ a = other_default A k.0 (record { table = 0; cells = [] }) a k.1 ∙ k.2 in
+        let e : atom_at A k.0 ≡ a = get_or_default A k.0 (record { table = 0; cells = [] }) a k.1 ∙ k.2 in
         subst (λ (x : Atom). said T (mixed I found (λ _. Const [])) x ∈ facts I) e (s.says (mixed I found (λ _. Const [])) (mixed_found I found (λ _. Const []) s.good.once) k.0 (is_done k.0 k.1))
 
 -- if nothing can make all of them facts, no values do

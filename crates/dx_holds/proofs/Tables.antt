@@ -3,7 +3,7 @@ use Rattle.std.proofs.Common.{◌≡◌, ◌∙◌, ℕ, zero, suc, ◌+◌, ◌
 use Rattle.std.specs.Prelude.{map, None}
 use Rattle.std.specs.List.{range_with_len}
 use Rattle.std.proofs.lemmas.Bool.{cases_lt}
-use Rattle.std.proofs.lemmas.List.{length-map, get_or-map}
+use Rattle.std.proofs.lemmas.List.{length-map, get_or-map, get_or_default}
 use Rattle.dx_ports.specs.Members.{◌∈◌, Distinct, Each}
 use Rattle.dx_ports.proofs.Members.{in_at, in_map, from_map, contains_from_in}
 use Rattle.dx_model.specs.declared.values.Value.{Value}
@@ -16,7 +16,7 @@ use Rattle.dx_schema.specs.Tables.{AreTables, TableOf, as_numbers, model_tables,
 use Rattle.dx_schema.specs.Tables.{table_at as schema_table}
 use Rattle.dx_instance.specs.Stored.{TableRows, facts, rows_of, table_at, widths}
 use Rattle.dx_instance.specs.Places.{row_at}
-use Rattle.dx_instance.proofs.StoredFacts.{fact_from_row, fact_table, other_default, row_from_fact}
+use Rattle.dx_instance.proofs.StoredFacts.{fact_from_row, fact_table, row_from_fact}
 use Rattle.dx_holds.specs.Columns.{LinkFits, RowsDiffer, RowsLead}
 
 -- ---- tables of the schema
@@ -46,7 +46,7 @@ as_wide f I t e h =
 place_of : (I : List TableRows) (t : ℕ) (row : List Value) → row ∈ rows_of I t → (p : ℕ) × (p < length (rows_of I t)) × (row_at I t p ≡ row)
 place_of I t row m =
     let k = contains_from_in m in
-    (k.0, k.1, other_default (rows_of I t) k.0 [] row k.1 ∙ k.2)
+    (k.0, k.1, get_or_default (rows_of I t) k.0 [] row k.1 ∙ k.2)
 
 -- a row's values in all its columns are the row
 values_from : (n a : ℕ) (row : List Value) → a + n ≡ length row → map (cell row) (range_with_len a n) ≡ drop a row

@@ -5,6 +5,7 @@ use Rattle.std.proofs.lemmas.Bool.{ne_eqb, eq-eqb}
 use Rattle.std.proofs.lemmas.List.{drop_more, take_more, take-append-drop}
 use Rattle.dx_ports.specs.Members.{◌∈◌, Each, here, there}
 use Rattle.dx_ports.proofs.Members.{from_append, in_at, in_right}
+use Rattle.dx_ports.proofs.Lists.{nothing_left}
 use Rattle.dx_model.specs.declared.rules.Atom.{Atom}
 use Rattle.dx_model.specs.declared.rules.Cell.TheVariants.{Var}
 use Rattle.dx_model.specs.Rules.{Increase, cells_of, text_of, variables}
@@ -38,12 +39,6 @@ text_here [] tuple i x d h l e = absurd (omega arith)
 text_here (y ∷ ys) [] i x d h l e = absurd (omega arith)
 text_here (y ∷ ys) (t ∷ ts) zero x d h l e = rw (eq-eqb x y (sym e)) refl
 text_here (y ∷ ys) (t ∷ ts) (suc i) x d h l e = text_here ys ts i x d (omega arith) (omega arith) e
-
-nothing_left : (vars : List ℕ) (i x : ℕ) → length vars ≤ i → ¬ (x ∈ drop i vars)
-nothing_left [] zero x h m = elim m [ ]
-nothing_left [] (suc i) x h m = elim m [ ]
-nothing_left (y ∷ ys) zero x h m = absurd (omega arith)
-nothing_left (y ∷ ys) (suc i) x h m = nothing_left ys i x (omega arith) m
 
 module _ (A : List Atom) (t : Tuple) (x : ℕ) (long : length t ≡ length (variables (cells_of A))) where
   abbrev vars : List ℕ

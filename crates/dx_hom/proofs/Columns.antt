@@ -1,8 +1,9 @@
 -- Places that agree with a fact in the columns that are known.
-use Rattle.std.proofs.Common.{◌≡◌, ℕ, ◌<◌, ◌≤◌, List, [], ◌∷◌, length, get_or, refl, sym, ◌∙◌, ap, arith, zero, suc, inl, inr}
+use Rattle.std.proofs.Common.{◌≡◌, ℕ, ◌<◌, ◌≤◌, List, [], ◌∷◌, length, get_or, refl, sym, ◌∙◌, ap, arith, inl, inr}
 use Rattle.std.specs.Prelude.{map, Option, Some, None}
 use Rattle.std.proofs.lemmas.Bool.{cases_lt}
-use Rattle.dx_ports.specs.Members.{◌∈◌, here, there}
+use Rattle.std.proofs.lemmas.List.{get_or-map}
+use Rattle.dx_ports.specs.Members.{◌∈◌}
 use Rattle.dx_model.specs.declared.values.NullId.{NullId}
 use Rattle.dx_model.specs.declared.values.Value.{Value}
 use Rattle.dx_model.specs.declared.values.Value.TheVariants.{Const, Null}
@@ -16,11 +17,6 @@ use Rattle.dx_hom.specs.View.{fact_at}
 use Rattle.dx_hom.specs.Narrowing.{Gives, value_of}
 use Rattle.dx_hom.specs.Searching.{IsAhead, IsKnown, NotFrom}
 
-pub map_at : {X Y : Type 0} (g : X → Y) (xs : List X) (i : ℕ) (d : X) (e : Y) → i < length xs → get_or (map g xs) i e ≡ g (get_or xs i d)
-map_at g [] i d e h = absurd (omega arith)
-map_at g (x ∷ xs) zero d e h = refl
-map_at g (x ∷ xs) (suc i) d e h = map_at g xs i d e (omega arith)
-
 -- ---- what is known
 
 pub known_const : (T : List TableRows) (found : List Found) (v : Value) (t : List ℕ) → v ≡ Const t → IsKnown T found v v
@@ -32,10 +28,6 @@ known_null T found v w n b e m d h g k = let at : g n ≡ w = ap g (sym d) ∙ (
 
 -- ---- places ahead of which there is none
 
-pub only_one : (n c k : ℕ) → k ∈ (c ∷ []) → c < n → k < n
-only_one n c k (here e) h = rw (← e) h
-only_one n c k (there m) h = elim m [ ]
-
 module _ (T : List TableRows) (fixed : ByNull) (found : List Found) (f : Fact) where
   -- a place that lacks what is known of a column is no image
   other_column : (c p : ℕ) (x v : Value) → c < length f.row → x ≡ get_or f.row c x → IsKnown T found x v
@@ -44,7 +36,7 @@ module _ (T : List TableRows) (fixed : ByNull) (found : List Found) (f : Fact) w
   other_column c p x v h e known none g w q =
       let r : map (moved g) f.row ≡ row_at T f.table p = ap (λ (y : Fact). y.row) q in
       let d : get_or (row_at T f.table p) c (Const []) ≡ moved g x =
-      ap (λ l. get_or l c (Const [])) (sym r) ∙ (map_at (moved g) f.row c x (Const []) h ∙ ap (moved g) (sym e)) in
+      ap (λ l. get_or l c (Const [])) (sym r) ∙ (get_or-map (moved g) f.row c x (Const []) h ∙ ap (moved g) (sym e)) in
       let k : value_at T f.table p c ≡ v = d ∙ known g w.cell_values in
       none (ap (λ y. y ∷ []) k)
 

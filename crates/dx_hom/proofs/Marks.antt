@@ -3,10 +3,9 @@ use Rattle.std.proofs.Common.{◌≡◌, ◌∙◌, ℕ, zero, suc, ◌+◌, ◌
 use Rattle.std.proofs.Common.{length, get_or, take, Vec, Global}
 use Rattle.std.specs.Prelude.{map, replicate}
 use Rattle.std.proofs.Math.ListN.{set, length-set}
-use Rattle.std.proofs.lemmas.List.{length-map, length-replicate, map-append, take_more}
+use Rattle.std.proofs.lemmas.List.{length-map, length-replicate, map-append, take_more, get_or-map}
 use Rattle.dx_instance.specs.Stored.{TableRows, rows_of}
 use Rattle.dx_hom.specs.View.{all_there, gone_at, marked}
-use Rattle.dx_hom.proofs.Columns.{map_at}
 
 none_in : (n p : ℕ) → get_or (replicate n false) p false ≡ false
 none_in zero p = refl
@@ -53,6 +52,6 @@ pub marks_more : (I : List TableRows) (t : ℕ) (old : List (Vec Bool Global)) (
 marks_more I t old marks h e d =
     let k : t < length (all_there I) = rw (tables_marked I) h in
     let m : get_or (all_there I) t [] ≡ replicate (length (rows_of I t)) false =
-    map_at (λ (u : TableRows). replicate (length u.rows) false) I t (record { width = 0; rows = [] }) [] h in
+    get_or-map (λ (u : TableRows). replicate (length u.rows) false) I t (record { width = 0; rows = [] }) [] h in
     let both : marks_in old ++ marks.items ∷ [] ≡ take t (all_there I) ++ get_or (all_there I) t [] ∷ [] = cc in
     map-append (λ (v : Vec Bool Global). v.items) old (marks ∷ []) ∙ (both ∙ sym (take_more (all_there I) t [] k))

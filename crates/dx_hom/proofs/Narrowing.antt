@@ -3,30 +3,18 @@ use Rattle.std.proofs.Common.{◌≡◌, ℕ, ◌<◌, ◌≤◌, ◌+◌, List,
 use Rattle.std.proofs.Common.{refl, sym, ◌∙◌, ap, arith, append_assoc}
 use Rattle.std.specs.Prelude.{map, ◌↔◌, Bool, true, false, IsTrue, MatchBool}
 use Rattle.std.proofs.lemmas.Bool.{false≢true}
-use Rattle.std.proofs.lemmas.List.{take_more, map-append, take_all, take-map, length-append, length-map, append-nil, take-append-drop}
+use Rattle.std.proofs.lemmas.List.{take_more, map-append, take_all, take-map, length-append, length-map, append-nil, take-append-drop, same_from_push}
 use Rattle.dx_model.specs.declared.values.NullId.{NullId}
 use Rattle.dx_model.specs.declared.values.Value.{Value}
-use Rattle.dx_model.specs.declared.values.Value.TheVariants.{Const, Null}
 use Rattle.dx_instance.specs.NullMaps.{ByNull}
 use Rattle.dx_ports.specs.Members.{◌∈◌, here, there, ◌⊆◌}
-use Rattle.dx_model.specs.Instances.{moved}
-use Rattle.dx_ports.proofs.Members.{in_left, in_map, in_right, from_append}
+use Rattle.dx_model.specs.Instances.{moved, nulls_in}
+use Rattle.dx_ports.proofs.Members.{in_left, in_map, in_right, from_append, distinct_more}
 use Rattle.dx_hom.specs.declared.matching.Found.{Found}
 use Rattle.dx_instance.specs.Stored.{TableRows}
-use Rattle.dx_hom.specs.Narrowing.{names, value_of, GivesCell, IsCell, AtMost, Allows, IsGood, Begins, nulls_in, Narrows, Fails}
+use Rattle.dx_hom.specs.Narrowing.{names, value_of, GivesCell, IsCell, AtMost, Allows, IsGood, Begins, Narrows, Fails}
 use Rattle.dx_ports.specs.Members.{Distinct}
-
--- members of a distinct list, and one more
-pub distinct_more : {X : Type 0} (xs : List X) (x : X) → Distinct xs → ¬ (x ∈ xs) → Distinct (xs ++ x ∷ [])
-distinct_more [] x d n = ((λ m. elim m [ ]), tt)
-distinct_more (y ∷ ys) x d n = (
-  (λ m. elim (from_append ys m) [ inl l ↦ d.0 l | inr r ↦ last r ]),
-  distinct_more ys x d.1 (λ m. n (there m)),
-)
-  where
-    last : y ∈ (x ∷ []) → ⊥
-    last (here e) = n (here (sym e))
-    last (there m) = elim m [ ]
+use Rattle.dx_model.proofs.Reduction.{nulls_append}
 
 pub narrower : {X : Type 0} (xs ys : List X) (n : ℕ) → ys ⊆ xs → AtMost xs n → AtMost ys n
 narrower xs ys n s a ds d i = a ds d (λ x m. s x (i x m))
@@ -124,23 +112,6 @@ module _ (T : List TableRows) (fixed : ByNull) (found : List Found) (v w : Value
     none = λ g a d. k (sym (stays g) ∙ d);
   }
 
--- lists with equal ends
-pub last_apart : {X : Type 0} (xs ys : List X) (x y : X) → xs ++ x ∷ [] ≡ ys ++ y ∷ [] → (xs ≡ ys) × (x ≡ y)
-last_apart [] [] x y e = (refl, cc)
-last_apart [] (z ∷ ys) x y e = absurd (let l = ap length e in omega (arith, simp length-append at l))
-last_apart (z ∷ xs) [] x y e = absurd (let l = ap length e in omega (arith, simp length-append at l))
-last_apart (z ∷ xs) (w ∷ ys) x y e =
-    let d : xs ++ x ∷ [] ≡ ys ++ y ∷ [] = cc in
-    let r = last_apart xs ys x y d in
-    let h : z ≡ w = cc in
-    let k : xs ≡ ys = r.0 in
-    (cc, r.1)
-
-pub nulls_append : (vs ws : List Value) → nulls_in (vs ++ ws) ≡ nulls_in vs ++ nulls_in ws
-nulls_append [] ws = refl
-nulls_append (Const t ∷ vs) ws = nulls_append vs ws
-nulls_append (Null n ∷ vs) ws = ap (λ ns. n ∷ ns) (nulls_append vs ws)
-
 pub begins_on : (a b c : List Found) → Begins a b → Begins b c → Begins a c
 begins_on a b c x y = (x.0 ++ y.0, y.1 ∙ (ap (λ l. l ++ y.0) x.1 ∙ append_assoc a x.0 y.0))
 
@@ -168,7 +139,7 @@ module _ (T : List TableRows) (fixed : ByNull) (a b : List Value) (start now : L
       let f : map (moved g) (take i a) ++ moved g (get_or a i x) ∷ [] ≡ take i b ++ get_or b i y ∷ [] =
       sym (map-append (moved g) (take i a) (get_or a i x ∷ []))
       ∙ (ap (map (moved g)) (sym (take_more a i x h)) ∙ (e ∙ take_more b i y within)) in
-      let w = last_apart (map (moved g) (take i a)) (take i b) _ _ f in
+      let w = same_from_push (map (moved g) (take i a)) (take i b) _ _ f in
       (w.0, ap (moved g) p ∙ (w.1 ∙ sym q))
 
   joined : (g : NullId → Value) → map (moved g) (take i a) ≡ take i b → moved g x ≡ y → map (moved g) (take (i + 1) a) ≡ take (i + 1) b
@@ -238,19 +209,3 @@ pub answer_const : (T : List TableRows) (fixed : ByNull) (found : List Found) (v
     → MatchBool r (Narrows T fixed found (nulls_in (v ∷ [])) (λ g. moved g v ≡ w) found) (Fails T fixed found (λ g. moved g v ≡ w) found)
 answer_const T fixed found v w stays none good true h = const_met T fixed found v w stays none good (h.0 refl)
 answer_const T fixed found v w stays none good false h = const_failed T fixed found v w stays none (λ q. absurd (false≢true (h.1 q)))
-
-pub in_nulls : (n : NullId) (vs : List Value) → Null n ∈ vs → n ∈ nulls_in vs
-in_nulls n [] m = elim m [ ]
-in_nulls n (Const t ∷ vs) (here e) = absurd (apart t n e)
-  where
-    apart : (t : _) (n : NullId) → Const t ≡ Null n → ⊥
-    apart t n e = cc
-in_nulls n (Const t ∷ vs) (there m) = in_nulls n vs m
-in_nulls n (Null k ∷ vs) (here e) = let d : k ≡ n = cc in here d
-in_nulls n (Null k ∷ vs) (there m) = there (in_nulls n vs m)
-
-pub from_nulls : (n : NullId) (vs : List Value) → n ∈ nulls_in vs → Null n ∈ vs
-from_nulls n [] m = elim m [ ]
-from_nulls n (Const t ∷ vs) m = there (from_nulls n vs m)
-from_nulls n (Null k ∷ vs) (here e) = here (ap Null e)
-from_nulls n (Null k ∷ vs) (there m) = there (from_nulls n vs m)

@@ -4,6 +4,7 @@ use Rattle.std.specs.Prelude.{◌↔◌, IsTrue, MatchBool, Option, Some}
 use Rattle.std.specs.FinMap as finite
 use Rattle.std.specs.Bool.{OnTrue}
 use Rattle.std.proofs.lemmas.Bool.{cases_Bool, false≢true}
+use Rattle.std.proofs.lemmas.List.{get_or_default}
 use Rattle.dx_ports.specs.Members.{◌∈◌, Distinct, here, there}
 use Rattle.dx_ports.proofs.Members.{contains_from_in, from_map, in_at, in_map}
 use Rattle.dx_model.specs.declared.values.NullId.{NullId}
@@ -11,18 +12,18 @@ use Rattle.dx_model.specs.declared.values.Value.{Value}
 use Rattle.dx_model.specs.declared.values.Value.TheVariants.{Null}
 use Rattle.dx_model.specs.declared.facts.Fact.{Fact}
 use Rattle.dx_model.specs.declared.facts.NullPair.{NullPair}
-use Rattle.dx_model.specs.Instances.{IsNullMap, fact_moved, given, image, same_null, values}
+use Rattle.dx_model.specs.Instances.{IsNullMap, fact_moved, given, image, same_null, values, nulls_in}
 use Rattle.dx_model.proofs.Maps.{is_null_map, listing, listing_gives, same_null-refl, same_null-true}
+use Rattle.dx_model.proofs.Reduction.{in_nulls, from_nulls}
 use Rattle.dx_instance.specs.NullMaps.{ByNull}
 use Rattle.dx_instance.specs.Stored.{TableRows, facts, rows_of}
 use Rattle.dx_instance.specs.Places.{row_at}
-use Rattle.dx_instance.proofs.StoredFacts.{fact_from_row, other_default, row_from_fact}
+use Rattle.dx_instance.proofs.StoredFacts.{fact_from_row, row_from_fact}
 use Rattle.dx_hom.specs.declared.matching.Found.{Found}
 use Rattle.dx_hom.specs.View.{fact_at}
-use Rattle.dx_hom.specs.Narrowing.{Gives, IsGood, names, nulls_in, value_of}
+use Rattle.dx_hom.specs.Narrowing.{Gives, IsGood, names, value_of}
 use Rattle.dx_hom.specs.Searching.{Ends, MovesOpen, NoMore, Reaches, Stands}
 use Rattle.dx_hom.specs.Homs.{IsAnswer, IsSought, IsThere, found_pairs}
-use Rattle.dx_hom.proofs.Narrowing.{from_nulls, in_nulls}
 
 -- the value of the null's cell
 abbrev pub read : List TableRows → List Found → NullId → Value
@@ -60,7 +61,7 @@ in_stands : (T : List TableRows) (avoid : Option Fact) (f : Fact) → f ∈ fact
     → Stands T [] avoid f
 in_stands T avoid f m other =
     let k = contains_from_in (row_from_fact T f m) in
-    let e : row_at T f.table k.0 ≡ f.row = other_default (rows_of T f.table) k.0 [] f.row k.1 ∙ k.2 in
+    let e : row_at T f.table k.0 ≡ f.row = get_or_default (rows_of T f.table) k.0 [] f.row k.1 ∙ k.2 in
     let is : f ≡ fact_at T f.table k.0 = λ j. record { table = f.table; row = sym e j } in
     (k.0, record { place = k.1; kept = refl; other = λ q. other (fact_at T f.table k.0) q (sym is) }, is)
 

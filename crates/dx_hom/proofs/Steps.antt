@@ -3,25 +3,26 @@ use Rattle.std.proofs.Common.{◌≡◌, ℕ, ◌<◌, ◌≤◌, ◌+◌, ◌-�
 use Rattle.std.proofs.Common.{refl, sym, ◌∙◌, ap, arith, zero, suc}
 use Rattle.std.specs.Prelude.{map, Option, Bool}
 use Rattle.std.proofs.lemmas.Bool.{cases_eq, cases_lt}
-use Rattle.std.proofs.lemmas.List.{length-append, map-append, append-nil}
+use Rattle.std.proofs.lemmas.List.{length-append, map-append, append-nil, same_from_push}
 use Rattle.std.proofs.lemmas.Grind.{flat_map-append}
 use Rattle.std.proofs.Math.Seq.{take-append_seam}
 use Rattle.std.proofs.Math.Nat.{mul-le-mul_right, add-mul}
 use Rattle.dx_model.specs.declared.values.NullId.{NullId}
 use Rattle.dx_model.specs.declared.values.Value.{Value}
 use Rattle.dx_model.specs.declared.facts.Fact.{Fact}
-use Rattle.dx_model.specs.Instances.{moved, fact_moved, values}
+use Rattle.dx_model.specs.Instances.{moved, fact_moved, values, nulls_in}
 use Rattle.dx_instance.specs.NullMaps.{ByNull}
 use Rattle.dx_instance.specs.Places.{row_at}
 use Rattle.dx_instance.specs.Stored.{TableRows, rows_of}
 use Rattle.dx_ports.specs.Members.{◌∈◌, ◌⊆◌, ◌≈◌, here, there}
 use Rattle.dx_ports.proofs.Members.{in_left, in_right, from_append, in_flat_map, from_flat_map}
+use Rattle.dx_model.proofs.Reduction.{in_nulls, from_nulls, nulls_append}
 use Rattle.dx_hom.specs.declared.matching.Found.{Found}
 use Rattle.dx_hom.specs.declared.searching.Step.{Step}
 use Rattle.dx_hom.specs.View.{fact_at}
-use Rattle.dx_hom.specs.Narrowing.{names, nulls_in, AtMost, Begins, Gives, GivesRow, Narrows, Fails}
+use Rattle.dx_hom.specs.Narrowing.{names, AtMost, Begins, Gives, GivesRow, Narrows, Fails}
 use Rattle.dx_hom.specs.Searching.{IsOpen, Stands, Skips, NotFrom, MovesOpen, MovesTo, Ends, NoMore}
-use Rattle.dx_hom.proofs.Narrowing.{last_apart, narrower, nulls_append, in_nulls, from_nulls}
+use Rattle.dx_hom.proofs.Narrowing.{narrower}
 
 -- a list that begins with another, cut where it began
 pub cut : (old new : List Found) (n : ℕ) → n ≡ length old → Begins old new → take n new ≡ old
@@ -150,8 +151,8 @@ module _ (T : List TableRows) (gone : List (List Bool)) (fixed : ByNull) (avoid 
         → Trail steps G found → steps ≡ before ++ s ∷ [] → G ≡ H ++ a ∷ [] → Last before H s a found
     last_of before H s a start e d = absurd (let l = ap length e in omega (arith, simp length-append at l))
     last_of {steps} {G} {found} before H s a (onward b K old r x t p q o st) e d =
-        let w = last_apart b before r s (sym p ∙ e) in
-        let v = last_apart K H x a (sym q ∙ d) in
+        let w = same_from_push b before r s (sym p ∙ e) in
+        let v = same_from_push K H x a (sym q ∙ d) in
         let i : b ≡ before = w.0 in
         let j : r ≡ s = w.1 in
         let k : K ≡ H = v.0 in

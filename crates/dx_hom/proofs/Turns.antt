@@ -1,22 +1,19 @@
 -- Facts that take their turns in an order.
-use Rattle.std.proofs.Common.{◌≡◌, ◌∙◌, ℕ, ◌<◌, ◌≤◌, ◌+◌, ◌^◌, List, [], ◌∷◌, ◌++◌, refl, sym, ap, arith, length, get_or, take}
+use Rattle.std.proofs.Common.{◌≡◌, ◌∙◌, ℕ, ◌<◌, ◌≤◌, ◌+◌, ◌^◌, List, [], ◌∷◌, ◌++◌, sym, ap, arith, length, get_or, take}
 use Rattle.std.specs.Prelude.{Bool, Option}
-use Rattle.std.proofs.lemmas.List.{length-append}
+use Rattle.std.proofs.lemmas.List.{length-append, nil_from_length}
 use Rattle.dx_ports.specs.Members.{◌∈◌}
 use Rattle.dx_model.specs.declared.facts.Fact.{Fact}
+use Rattle.dx_model.specs.Instances.{nulls_in}
 use Rattle.dx_instance.specs.NullMaps.{ByNull}
 use Rattle.dx_instance.specs.Stored.{TableRows, rows_of}
 use Rattle.dx_hom.specs.declared.matching.Found.{Found}
 use Rattle.dx_hom.specs.declared.searching.Step.{Step}
-use Rattle.dx_hom.specs.Narrowing.{Narrows, nulls_in}
+use Rattle.dx_hom.specs.Narrowing.{Narrows}
 use Rattle.dx_hom.specs.Orders.{IsOrder, IsReordered, fact_in}
 use Rattle.dx_hom.specs.Searching.{Ends, IsOpen, MovesTo, NoMore, Skips}
 use Rattle.dx_hom.proofs.OrderFacts.{all_moved, moved_in, moved_more, moved_stays}
 use Rattle.dx_hom.proofs.Steps.{Last, Passed, Trail, ends_same, exhausted, last_of, none_yet, passed_back, pushed, sound, start}
-
-nothing : {X : Type 0} (xs : List X) → length xs ≡ 0 → xs ≡ []
-nothing [] e = refl
-nothing (x ∷ xs) e = absurd (omega (arith, e))
 
 one_more : (before : List Step) (s : Step) → length (before ++ s ∷ []) ≡ length before + 1
 one_more before s = simp length-append
@@ -92,7 +89,7 @@ module _ (T : List TableRows) (gone : List (List Bool)) (fixed : ByNull) (avoid 
   pub goes_nowhere : (steps : List Step) (order : List ℕ) (found : List Found) (n : ℕ) (a : Fact) → IsTurn steps order found n a
       → Skips T gone fixed avoid found a n (length (rows_of T a.table)) → length steps ≡ 0 → NoMore T gone fixed avoid [] F
   goes_nowhere steps order found n a t skips z =
-      let none = none_yet T gone fixed avoid F t.goes (nothing steps z) in
+      let none = none_yet T gone fixed avoid F t.goes (nil_from_length steps z) in
       let nowhere = over steps order found n a t skips in
       rw none at nowhere
 

@@ -2,14 +2,13 @@
 use Rattle.std.specs.Prelude.{◌≡◌, ◌↔◌, ℕ, ◌<◌, ◌≤◌, List, [], ◌∷◌, ◌++◌, length, map, Some, Bool, MatchBool}
 use Rattle.dx_model.specs.declared.values.NullId.{NullId}
 use Rattle.dx_model.specs.declared.values.Value.{Value}
-use Rattle.dx_model.specs.declared.values.Value.TheVariants.{Const, Null}
 use Rattle.dx_instance.specs.NullMaps.{ByNull}
 use Rattle.std.specs.FinMap as finite
 use Rattle.dx_ports.specs.Members.{◌∈◌, ◌⊆◌, Distinct}
 use Rattle.dx_hom.specs.declared.matching.Found.{Found}
 use Rattle.dx_instance.specs.Stored.{TableRows, rows_of, table_at}
 use Rattle.dx_instance.specs.Places.{row_at, value_at}
-use Rattle.dx_model.specs.Instances.{moved}
+use Rattle.dx_model.specs.Instances.{moved, nulls_in}
 use Rattle.dx_hom.specs.Bound.{Bound}
 
 -- the nulls that were found
@@ -47,12 +46,6 @@ pub record Gives (T : List TableRows) (fixed : ByNull) (found : List Found) (g :
 -- new is old with more found at the end
 abbrev pub Begins : List Found → List Found → Type 0
 Begins old new = (more : List Found) × (new ≡ old ++ more)
-
--- the nulls among values
-abbrev pub nulls_in : List Value → List NullId
-nulls_in [] = []
-nulls_in (Const t ∷ vs) = nulls_in vs
-nulls_in (Null n ∷ vs) = n ∷ nulls_in vs
 
 -- new finds the nulls ns as well, and says exactly P beside what old says
 pub record Narrows (T : List TableRows) (fixed : ByNull) (old : List Found) (ns : List NullId) (P : (NullId → Value) → Type 0)

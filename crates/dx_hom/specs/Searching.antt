@@ -6,12 +6,12 @@ use Rattle.dx_model.specs.declared.facts.Fact.{Fact}
 use Rattle.dx_instance.specs.NullMaps.{ByNull}
 use Rattle.std.specs.FinMap as finite
 use Rattle.dx_ports.specs.Members.{◌∈◌, ◌⊆◌}
-use Rattle.dx_model.specs.Instances.{fact_moved, moved, values}
+use Rattle.dx_model.specs.Instances.{fact_moved, moved, values, nulls_in}
 use Rattle.dx_hom.specs.declared.matching.Found.{Found}
 use Rattle.dx_instance.specs.Stored.{TableRows, rows_of, table_at}
 use Rattle.dx_hom.specs.View.{fact_at, gone_at}
 use Rattle.dx_hom.specs.Bound.{Bound}
-use Rattle.dx_hom.specs.Narrowing.{names, nulls_in, value_of, IsGood, Gives, Narrows}
+use Rattle.dx_hom.specs.Narrowing.{names, value_of, IsGood, Gives, Narrows}
 
 -- a fact has a table of the instance, and its width
 pub record FitsIn (T : List TableRows) (f : Fact) : Type 0 where

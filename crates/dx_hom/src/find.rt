@@ -4,14 +4,14 @@ ghost use Rattle.std.specs.Bool.{OnTrue};
 ghost use Rattle.std.specs.FinMap as finite;
 ghost use Rattle.std.specs.Option.{option_copied};
 ghost use Rattle.dx_ports.specs.Members.{◌∈◌, Each};
-ghost use Rattle.dx_model.specs.Instances.{given, values};
+ghost use Rattle.dx_model.specs.Instances.{given, values, nulls_in};
 ghost use Rattle.dx_model.specs.declared.facts.Fact.{Fact as FactRow};
 ghost use Rattle.dx_model.specs.declared.values.NullId.{NullId as Id};
 ghost use Rattle.dx_model.specs.declared.values.Value.{Value as AnyValue};
 ghost use Rattle.dx_instance.specs.NullMaps.{pairs_of};
 ghost use Rattle.dx_instance.specs.Stored.{facts};
 ghost use Rattle.dx_hom.specs.Homs.{IsAnswer, IsThere, found_pairs};
-ghost use Rattle.dx_hom.specs.Narrowing.{AtMost, IsCell, nulls_in};
+ghost use Rattle.dx_hom.specs.Narrowing.{AtMost, IsCell};
 ghost use Rattle.dx_hom.specs.Searching.{Ends, FitsIn, Reaches};
 
 use crate::bindings::Bindings;

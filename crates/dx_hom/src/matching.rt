@@ -1,8 +1,9 @@
 // Cells that hold the values of nulls.
 ghost use Rattle.std.specs.Prelude.{◌≡◌, ◌↔◌, ◌<◌, ◌^◌, [], ◌∷◌, IsTrue, length};
+ghost use Rattle.dx_model.specs.Instances.{nulls_in};
 ghost use Rattle.dx_instance.specs.Places.{row_at};
 ghost use Rattle.dx_instance.specs.Stored.{rows_of, table_at};
-ghost use Rattle.dx_hom.specs.Narrowing.{Allows, HasRoom, IsCell, IsGood, MeetsNull, MeetsRow, MeetsValue, nulls_in};
+ghost use Rattle.dx_hom.specs.Narrowing.{Allows, HasRoom, IsCell, IsGood, MeetsNull, MeetsRow, MeetsValue};
 
 use crate::bindings::Bindings;
 use dx_instance::{Instance, NullMap};

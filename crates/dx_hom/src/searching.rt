@@ -2,11 +2,11 @@
 ghost use Rattle.std.specs.Prelude.{◌≡◌, ◌↔◌, ◌<◌, ◌≤◌, ◌+◌, ◌^◌, [], IfOk, IfSome, IsTrue, length, vec_capacity};
 ghost use Rattle.std.specs.Option.{option_copied};
 ghost use Rattle.dx_ports.specs.Members.{◌∈◌, Each};
-ghost use Rattle.dx_model.specs.Instances.{values};
+ghost use Rattle.dx_model.specs.Instances.{values, nulls_in};
 ghost use Rattle.dx_model.specs.declared.facts.Fact.{Fact as FactRow};
 ghost use Rattle.dx_instance.specs.Places.{row_at};
 ghost use Rattle.dx_instance.specs.Stored.{rows_of};
-ghost use Rattle.dx_hom.specs.Narrowing.{AtMost, HasRoom, IsCell, IsGood, nulls_in};
+ghost use Rattle.dx_hom.specs.Narrowing.{AtMost, HasRoom, IsCell, IsGood};
 ghost use Rattle.dx_hom.specs.Orders.{IsOrder, IsReordered};
 ghost use Rattle.dx_hom.specs.Searching.{FitsIn, IsNextMove, IsOpen, IsSearched};
 ghost use Rattle.dx_hom.specs.View.{fact_at};

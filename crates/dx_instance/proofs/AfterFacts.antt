@@ -22,7 +22,7 @@ use Rattle.dx_instance.specs.Stored.{TableRows, facts, rows_of}
 use Rattle.dx_instance.proofs.StoredFacts.{fact_from_row, row_from_fact}
 use Rattle.dx_instance.proofs.NullFacts.{pair_of}
 
-tie : (o : Ordering) → is_eq o ≡ true → o ≡ Equal
+pub tie : (o : Ordering) → is_eq o ≡ true → o ≡ Equal
 tie Less e = absurd (cc e)
 tie Equal e = refl
 tie Greater e = absurd (cc e)
@@ -55,7 +55,7 @@ given_find (e ∷ es) q = elim (cases_Bool (is_eq (null_cmp q e.0))) [
 pub pairs_give : (m : ByNull) (n : NullId) → given (pairs_of m) n ≡ becomes m n
 pairs_give m n = given_find (finite.entries m) n ∙ ap (or_itself n) (sym (finite.get-entries m n))
 
-itself : (k : NullId) (v : Value) → is_itself k v ≡ true → v ≡ Null k
+pub itself : (k : NullId) (v : Value) → is_itself k v ≡ true → v ≡ Null k
 itself k (Const t) e = absurd (cc e)
 itself k (Null m) e = ap (λ (j : NullId). Null j) (same_null-true m k e)
 

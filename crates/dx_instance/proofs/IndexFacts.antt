@@ -1,9 +1,8 @@
 -- Indexes of columns.
-use Rattle.std.proofs.Common.{◌≡◌, ◌∙◌, ◌+◌, ◌<◌, ◌≤◌, ◌++◌, ◌∷◌, ◌⊎◌, ◌||◌, ◌&&◌, ◌==◌, ℕ, List, [], Bool, true, false, refl, sym, ap, subst, arith, length, get_or, nat_lt, inl, inr, IsPermutation, IsSorted, All, Contains, below_more, rules}
+use Rattle.std.proofs.Common.{◌≡◌, ◌∙◌, ◌+◌, ◌<◌, ◌≤◌, ◌++◌, ◌∷◌, ◌⊎◌, ◌||◌, ◌&&◌, ◌==◌, ℕ, List, [], Bool, true, false, refl, sym, ap, subst, arith, length, get_or, nat_lt, inl, inr, IsPermutation, IsSorted, All, Contains, below_more}
 use Rattle.std.specs.Ordering.{is_lt, nat_cmp, ordering_then}
 use Rattle.std.specs.Cmp.{IsTotalOrder}
 use Rattle.std.specs.declared.cmp.Ordering.{Ordering}
-use Rattle.std.specs.declared.cmp.Ordering.TheVariants.{Less, Equal}
 use Rattle.std.specs.List.Sorted.{IsPartitionPoint, IsPartitionedBy}
 use Rattle.std.proofs.lemmas.Bool.{cases_Bool, cases_lt, eq-eqb, eqb-true, lt-ltb, ltb-true, true≢false}
 use Rattle.std.proofs.lemmas.Cmp.{nat_cmp_total, on_total, then_total}
@@ -11,6 +10,7 @@ use Rattle.std.proofs.lemmas.List.{get_or_default, get_or_push, get_or_append_le
 use Rattle.std.proofs.lemmas.List.MinMax.{ranks_by}
 use Rattle.std.proofs.lemmas.List.Sorted.{All-permutation, Contains-permutation, sorted_far}
 use Rattle.dx_ports.specs.Members.{Each}
+use Rattle.dx_ports.proofs.Ranges.{nat_self, nat_less}
 use Rattle.dx_instance.specs.Indexes.{IsIndex, NoNumber, entry_at, number_in}
 use Rattle.dx_instance.specs.declared.column_index.ColumnIndex.{ColumnIndex}
 
@@ -30,12 +30,6 @@ pair_cmp x y = ordering_then (nat_cmp x.0 y.0) (nat_cmp x.1 y.1)
 
 pair_total : IsTotalOrder pair_cmp
 pair_total = then_total (on_total (λ (p : ℕ × ℕ). p.0) nat_cmp_total) (on_total (λ (p : ℕ × ℕ). p.1) nat_cmp_total)
-
-nat_less : (x y : ℕ) → x < y → nat_cmp x y ≡ Less
-nat_less x y h = search (rules, h)
-
-nat_self : (x : ℕ) → nat_cmp x x ≡ Equal
-nat_self x = search rules
 
 -- a pair that is not below another comes after it
 not_below : (x y : ℕ × ℕ) → is_lt (pair_cmp y x) ≡ false → (x.0 < y.0) ⊎ ((x.0 ≡ y.0) × (x.1 ≤ y.1))

@@ -1,6 +1,7 @@
 -- The texts of values one after the other.
-use Rattle.std.proofs.Common.{◌≡◌, ◌∙◌, ◌+◌, ◌<◌, ◌≤◌, ◌++◌, ◌∷◌, ℕ, List, [], refl, sym, ap, arith, length, get_or, take, drop, map}
+use Rattle.std.proofs.Common.{◌≡◌, ◌∙◌, ◌+◌, ◌<◌, ◌≤◌, ◌++◌, ◌∷◌, ℕ, List, [], sym, ap, arith, length, get_or, take, drop, map}
 use Rattle.std.proofs.lemmas.List.{append_assoc, append-nil, length-append, length-drop, drop-drop, drop_more, map_more, map-append, length-map}
+use Rattle.std.proofs.Math.Seq.{drop-append_seam, take-append_seam}
 use Rattle.dx_model.specs.declared.values.Value.{Value}
 use Rattle.dx_ports.specs.Members.{Each}
 use Rattle.dx_ports.proofs.Members.{in_at}
@@ -38,14 +39,6 @@ key_below n keys i f h =
     let b = f (get_or (places_of keys) i 0) (in_at (places_of keys) i 0 (omega (arith, h, many))) in
     omega (arith, b, r)
 
-take_first : (a b : List ℕ) → take (length a) (a ++ b) ≡ a
-take_first [] b = refl
-take_first (x ∷ a) b = ap (λ (l : List ℕ). x ∷ l) (take_first a b)
-
-drop_first : (a b : List ℕ) → drop (length a) (a ++ b) ≡ b
-drop_first [] b = refl
-drop_first (x ∷ a) b = drop_first a b
-
 -- where the text of the next value stands in the buffer
 pub record Stands (S : List Value) (keys : List (ℕ × ℕ)) (i start : ℕ) (buffer : List ℕ) (v : Value) : Type 0 where
   pub within : start + length (text_of v) ≤ length buffer
@@ -59,6 +52,6 @@ stands_next S keys i start buffer v h w b r =
     let is : drop start buffer ≡ text_of v ++ more = r ∙ ap (λ (l : List (ℕ × ℕ)). joined_texts (values_at S l)) (drop_more keys i (0, 0) h) ∙ ap (λ (x : Value). text_of x ++ more) (sym w) in
     record {
       within = omega (arith, b, ap length is, length-append (text_of v) more, length-drop start buffer);
-      text = ap (λ (l : List ℕ). take (length (text_of v)) l) is ∙ take_first (text_of v) more;
-      rest = sym (drop-drop (length (text_of v)) start buffer) ∙ ap (λ (l : List ℕ). drop (length (text_of v)) l) is ∙ drop_first (text_of v) more;
+      text = ap (λ (l : List ℕ). take (length (text_of v)) l) is ∙ take-append_seam (text_of v) more;
+      rest = sym (drop-drop (length (text_of v)) start buffer) ∙ ap (λ (l : List ℕ). drop (length (text_of v)) l) is ∙ drop-append_seam (text_of v) more;
     }

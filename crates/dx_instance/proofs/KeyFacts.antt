@@ -16,12 +16,10 @@ use Rattle.dx_instance.proofs.OrderFacts.{places_ordered}
 use Rattle.dx_instance.specs.Keys.{packed, AreSmall, HasRoom, places_of, AreKeyed, RowsAreKeyed}
 use Rattle.dx_instance.specs.Shown.{AreBelow}
 use Rattle.dx_ports.specs.Members.{here, there}
+use Rattle.dx_ports.proofs.Ranges.{nat_self, nat_less}
 use Rattle.dx_instance.proofs.TableFacts.{numbers_cmp, numbers_exact}
 
-nat_less : (x y : ℕ) → x < y → nat_cmp x y ≡ Less
-nat_less x y h = search (rules, h)
-
-from_less : (x y : ℕ) → nat_cmp x y ≡ Less → x < y
+pub from_less : (x y : ℕ) → nat_cmp x y ≡ Less → x < y
 from_less x y e = elim (cases_lt x y) [
   | inl h ↦ h
   | inr h ↦ elim (cases_lt y x) [
@@ -100,9 +98,6 @@ keyed_more at key Small keys new i k l n e s a = rw n (record {
   where
     last : get_or (keys ++ (k, i) ∷ []) i (0, 0) ≡ (k, i)
     last = get_or_push keys (k, i) (0, 0) i l
-
-nat_self : (x : ℕ) → nat_cmp x x ≡ Equal
-nat_self x = search rules
 
 module _ {X : Type 0} (cmp : X → X → Ordering) (total : IsTotalOrder cmp) (exact : (x y : X) → cmp x y ≡ Equal → x ≡ y) (at : ℕ → X) (key : X → ℕ) (Small : X → Type 0)
     (up : (x y : X) → Small x → Small y → cmp x y ≡ Less → key x ≤ key y) where

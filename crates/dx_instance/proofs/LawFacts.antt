@@ -1,7 +1,6 @@
 -- Facts of tables: their order, and their widths.
-use Rattle.std.proofs.Common.{◌≡◌, ◌∙◌, ◌<◌, ◌++◌, ◌∷◌, ℕ, suc, List, [], refl, sym, ap, subst, arith, length, get_or, map, inl, inr, rules}
-use Rattle.std.specs.Ordering.{nat_cmp}
-use Rattle.std.specs.declared.cmp.Ordering.TheVariants.{Less, Equal}
+use Rattle.std.proofs.Common.{◌≡◌, ◌∙◌, ◌<◌, ◌++◌, ◌∷◌, ℕ, suc, List, [], refl, sym, ap, subst, arith, length, get_or, map, inl, inr}
+use Rattle.std.specs.declared.cmp.Ordering.TheVariants.{Less}
 use Rattle.std.proofs.lemmas.List.{length-map, get_or-map}
 use Rattle.dx_model.specs.declared.values.Value.{Value}
 use Rattle.dx_model.specs.declared.facts.Fact.{Fact}
@@ -9,14 +8,9 @@ use Rattle.dx_model.specs.Tables.{IsInstance, Table}
 use Rattle.dx_model.specs.Values.{FactsAscend, RowsAscend, fact_cmp}
 use Rattle.dx_ports.specs.Members.{◌∈◌, here, there, Each}
 use Rattle.dx_ports.proofs.Members.{from_append, from_map, in_at}
+use Rattle.dx_ports.proofs.Ranges.{nat_self, nat_less}
 use Rattle.dx_instance.specs.Stored.{TableRows, facts, facts_from, rows_of, table_at, widths}
 use Rattle.dx_instance.proofs.StoredFacts.{fact_table, from_facts, row_from_fact}
-
-nat_less : (x y : ℕ) → x < y → nat_cmp x y ≡ Less
-nat_less x y h = search (rules, h)
-
-nat_self : (x : ℕ) → nat_cmp x x ≡ Equal
-nat_self x = search rules
 
 abbrev fact_in : ℕ → List Value → Fact
 fact_in n row = record { table = n; row = row }

@@ -18,3 +18,4 @@ pub mod LawFacts
 pub mod AfterFacts
 pub mod IndexFacts
 pub mod PartFacts
+pub mod HalfFacts

@@ -67,8 +67,12 @@ missing xs v i up found =
 same_found : (a v : Value) → cmp-value.it a v ≡ Equal → a ≡ v
 same_found a v e = value_exact a v (sym (same_value a v) ∙ e)
 
-pub found_first : (xs ks : List Value) (v : Value) (i : ℕ) → i < length xs → ((d : Value) → cmp-value.it (get_or xs i d) v ≡ Equal) → (i < length (xs ++ ks)) × (value_of (xs ++ ks) i ≡ v)
-found_first xs ks v i h e = (omega (arith, length-append xs ks), get_or_append_left xs ks (Const []) i h ∙ same_found (get_or xs i (Const [])) v (e (Const [])))
+-- a value that a binary search found stands there
+pub found_in : (xs : List Value) (v : Value) (i : ℕ) → i < length xs → ((d : Value) → cmp-value.it (get_or xs i d) v ≡ Equal) → (i < length xs) × (value_of xs i ≡ v)
+found_in xs v i h e = (h, same_found (get_or xs i (Const [])) v (e (Const [])))
+
+pub found_first : (xs ks : List Value) (v : Value) (i : ℕ) → (i < length xs) × (value_of xs i ≡ v) → (i < length (xs ++ ks)) × (value_of (xs ++ ks) i ≡ v)
+found_first xs ks v i f = (omega (arith, f.0, length-append xs ks), get_or_append_left xs ks (Const []) i f.0 ∙ f.1)
 
 -- equal values are the same
 pub value_same : (a b : Value) → value_eq a b ≡ true → a ≡ b

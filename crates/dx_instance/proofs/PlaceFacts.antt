@@ -5,10 +5,7 @@ use Rattle.std.specs.Prelude.{Option, None, Bool, MatchOption, IsTrue, ◌↔◌
 use Rattle.std.proofs.Common.{count_by, true, false}
 use Rattle.std.proofs.lemmas.Bool.{cases_Bool, cases_lt}
 use Rattle.std.proofs.lemmas.List.Sums.{count_by_more_yes, count_by_more_no}
-use Rattle.std.proofs.lemmas.Slice.Eq.{bytes_eq-Decides}
-use Rattle.dx_model.specs.declared.values.Value.TheVariants.{Null}
 use Rattle.dx_model.specs.Tables.{cell}
-use Rattle.dx_model.proofs.Maps.{same_null-true, same_null-refl}
 use Rattle.dx_instance.specs.Indexes.{IsNext, NoNumber}
 use Rattle.dx_instance.specs.Places.{HasValues, NoneWith}
 use Rattle.dx_model.specs.Covers.{same_value}
@@ -20,6 +17,7 @@ use Rattle.dx_model.specs.declared.values.Value.{Value}
 use Rattle.dx_model.specs.declared.values.Value.TheVariants.{Const}
 use Rattle.dx_ports.specs.Members.{◌∈◌, here, there}
 use Rattle.dx_ports.proofs.Members.{in_at, from_map, contains_from_in, from_append}
+use Rattle.dx_model.proofs.Before.{same_value-refl, same_value-true}
 use Rattle.dx_instance.specs.Stored.{TableRows, table_at, rows_of, FitsInstance}
 use Rattle.dx_instance.specs.Numbers.{value_of}
 use Rattle.dx_instance.specs.Cells.{NumberTable}
@@ -131,16 +129,6 @@ pub found_row : (o : Option ℕ) (b : Bool) (rows : List (List ℕ)) (row : List
 found_row None b rows row e f = ((λ t. absurd (cc (t, e))), (λ m. absurd (f m)))
 found_row (Some p) b rows row e f = ((λ t. stands rows p row f.0 f.1), (λ m. e))
 
-pub same_value-true : (a b : Value) → same_value a b ≡ true → a ≡ b
-same_value-true (Const t) (Const u) h = ap Const ((bytes_eq-Decides t u).0 h)
-same_value-true (Const t) (Null n) h = absurd (cc h)
-same_value-true (Null m) (Const u) h = absurd (cc h)
-same_value-true (Null m) (Null n) h = ap Null (same_null-true m n h)
-
-same_value-refl : (a : Value) → same_value a a ≡ true
-same_value-refl (Const t) = (bytes_eq-Decides t t).1 refl
-same_value-refl (Null n) = same_null-refl n
-
 pub width_read : (S : List Value) (ts : List NumberTable) (I : List TableRows) (n : ℕ) (t : NumberTable) → shown_tables S ts ≡ I → n < length I → t ≡ get_or ts n t → (table_at I n).width ≡ t.width
 width_read S ts I n t v h r = ap (λ (J : List TableRows). (table_at J n).width) (sym v) ∙ ap (λ (u : TableRows). u.width) (is_shown S ts n t (table_within S ts I n v h) r)
 
@@ -202,7 +190,7 @@ not_counted f rows a (suc d) h n =
     let one = count_by_more_no f rows (a + d) [] (omega (arith, h)) (n (a + d) (omega arith) (omega arith)) in
     ap (λ (m : ℕ). count_by f (take m rows)) s ∙ one ∙ rest
 
-other_value : (a b : Value) → ¬ (a ≡ b) → same_value a b ≡ false
+pub other_value : (a b : Value) → ¬ (a ≡ b) → same_value a b ≡ false
 other_value a b n = elim (cases_Bool (same_value a b)) [ inl y ↦ absurd (n (same_value-true a b y)) | inr f ↦ f ]
 
 pub skipped : (I : List TableRows) (t c a b : ℕ) (x : Value) → a ≤ b → b ≤ length (rows_of I t) → NoValue I t c x a b

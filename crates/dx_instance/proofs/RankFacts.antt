@@ -90,7 +90,7 @@ ascend_apart xs up i j d h k e =
     cc (rw e at l, s)
 
 value_rises : (x y : Value) → IsSmallValue x → IsSmallValue y → value_cmp x y ≡ Less → value_key x ≤ value_key y
-value_rises (Const t) (Const u) a b h = rises 256 8 0 t u a.0 h
+value_rises (Const t) (Const u) a b h = rises 256 16 0 t u a.0 h
 value_rises (Const t) (Null n) a b h = omega (arith, a.1)
 value_rises (Null m) (Const u) a b h = absurd (cc h)
 value_rises (Null m) (Null n) a b h = omega arith

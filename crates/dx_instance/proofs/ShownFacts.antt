@@ -4,9 +4,7 @@ use Rattle.std.proofs.Common.{◌≡◌, ◌∙◌, ◌+◌, ◌-◌, ◌<◌, �
 use Rattle.std.specs.Prelude.{IfOk, OnErr, MatchBool}
 use Rattle.std.specs.Ordering.{nat_cmp, ordering_then, ordering_reverse}
 use Rattle.std.specs.Cmp.Lexicographic.{slice_cmp}
-use Rattle.std.specs.declared.cmp.Ordering.TheVariants.{Less, Equal}
 use Rattle.std.specs.declared.alloc.AllocError.{AllocError}
-use Rattle.std.proofs.Common.{rules}
 use Rattle.std.proofs.lemmas.Cmp.{nat_cmp_total}
 use Rattle.std.proofs.lemmas.Bool.{cases_lt}
 use Rattle.std.proofs.lemmas.List.{append_assoc, length-map, length-append, length-set, get_or-map, get_or_append_left, get_or_default, map-append, map-set, take_all, take_more, map_push}
@@ -15,14 +13,14 @@ use Rattle.dx_model.specs.declared.values.Value.TheVariants.{Const}
 use Rattle.dx_model.specs.Values.{value_cmp, row_cmp}
 use Rattle.dx_model.proofs.Orders.{value_total}
 use Rattle.dx_ports.specs.Members.{◌∈◌, here, there, Each, Distinct}
-use Rattle.dx_ports.proofs.Members.{in_map, from_map, in_at, from_append}
+use Rattle.dx_ports.proofs.Members.{in_map, from_map, in_at, from_append, distinct_more}
+use Rattle.dx_ports.proofs.Ranges.{nat_self, nat_less}
 use Rattle.dx_instance.specs.Stored.{TableRows, table_at, rows_of, without_rows, AddsRow, FitsTable, FitsInstance, with_row}
 use Rattle.dx_instance.specs.Numbers.{AreApart, Extends, IsOrdering, ValuesAscend, value_of}
 use Rattle.dx_instance.specs.Cells.{NumberTable, numbers_at, with_numbers}
-use Rattle.dx_instance.specs.Shown.{AreBelow, Numbered, NumbersFit, PartsFit, Shows, numbers_of_table, shown, shown_row, shown_tables}
+use Rattle.dx_instance.specs.Shown.{AreBelow, Numbered, NumbersFit, PartsFit, Shows, numbers_of_table, shown, shown_row, shown_tables, RowsFit}
 use Rattle.dx_instance.specs.Places.{row_at, value_at}
 use Rattle.dx_instance.proofs.NumberFacts.{self_equal}
-use Rattle.dx_instance.proofs.RowSets.{distinct_more}
 use Rattle.dx_instance.proofs.StoredFacts.{adds_row}
 
 -- numbers are equal where their values are
@@ -47,19 +45,13 @@ row_same S (x ∷ a) (y ∷ b) p h k e =
     let rest = row_same S a b p (λ z m. h z (there m)) (λ z m. k z (there m)) (tail_same _ _ _ _ e) in
     cc (first, rest)
 
-nat_less : (x y : ℕ) → x < y → nat_cmp x y ≡ Less
-nat_less x y h = search (rules, h)
-
-nat_equal : (x : ℕ) → nat_cmp x x ≡ Equal
-nat_equal x = search rules
-
 -- numbers compare as their values
 pub number_less : (S : List Value) (x y : ℕ) → ValuesAscend S → x < length S → y < length S → value_cmp (value_of S x) (value_of S y) ≡ nat_cmp x y
 number_less S x y up h k = elim (cases_lt x y) [
   | inl b ↦ up x y (Const []) b k ∙ sym (nat_less x y b)
   | inr b ↦ elim (cases_lt y x) [
     | inl c ↦ value_total.antisymm (value_of S x) (value_of S y) ∙ ap ordering_reverse (up y x (Const []) c h) ∙ sym (nat_cmp_total.antisymm x y ∙ ap ordering_reverse (nat_less y x c))
-    | inr c ↦ let q : y ≡ x = omega arith in rw q (self_equal (value_of S x) ∙ sym (nat_equal x))
+    | inr c ↦ let q : y ≡ x = omega arith in rw q (self_equal (value_of S x) ∙ sym (nat_self x))
   ]
 ]
 
@@ -129,10 +121,10 @@ pub numbers_wide : (n : ℕ) (t : NumberTable) (p : ℕ) → NumbersFit n t → 
 numbers_wide n t p f b = f.each (numbers_at t.rows p) (in_at t.rows p [] b)
 
 -- more symbols leave what is shown
-longer : (S S' : List Value) → Extends S S' → length S ≤ length S'
+pub longer : (S S' : List Value) → Extends S S' → length S ≤ length S'
 longer S S' e = omega (arith, ap length e.is, length-append S e.more)
 
-grown_value : (S S' : List Value) (x : ℕ) → Extends S S' → x < length S → value_of S' x ≡ value_of S x
+pub grown_value : (S S' : List Value) (x : ℕ) → Extends S S' → x < length S → value_of S' x ≡ value_of S x
 grown_value S S' x e h = ap (λ (T : List Value). value_of T x) e.is ∙ get_or_append_left S e.more (Const []) x h
 
 pub grown_row : (S S' : List Value) (row : List ℕ) → Extends S S' → AreBelow (length S) row → shown_row S' row ≡ shown_row S row
@@ -145,7 +137,7 @@ grown_row S S' (x ∷ row) e h =
 pub grown_below : (S S' : List Value) (row : List ℕ) → Extends S S' → AreBelow (length S) row → AreBelow (length S') row
 grown_below S S' row e h x m = let b = h x m in let l = longer S S' e in omega (arith, b, l)
 
-grown_rows : (S S' : List Value) (rows : List (List ℕ)) → Extends S S' → Each rows (AreBelow (length S)) → map (shown_row S') rows ≡ map (shown_row S) rows
+pub grown_rows : (S S' : List Value) (rows : List (List ℕ)) → Extends S S' → Each rows (AreBelow (length S)) → map (shown_row S') rows ≡ map (shown_row S) rows
 grown_rows S S' [] e h = refl
 grown_rows S S' (r ∷ rows) e h =
     let first = grown_row S S' r e (h r (here refl)) in
@@ -178,7 +170,7 @@ fits_more n t row f w b room new = record {
     last r (here e) = sym e
     last r (there m) = elim m [ ]
 
-from_set : (xs : List NumberTable) (i : ℕ) (y x : NumberTable) → x ∈ set xs i y → (y ≡ x) ⊎ (x ∈ xs)
+pub from_set : (xs : List NumberTable) (i : ℕ) (y x : NumberTable) → x ∈ set xs i y → (y ≡ x) ⊎ (x ∈ xs)
 from_set [] i y x m = elim m [ ]
 from_set (z ∷ zs) zero y x (here e) = inl e
 from_set (z ∷ zs) zero y x (there m) = inr (there m)
@@ -362,3 +354,15 @@ pub row_below : (N : Numbered) (S : List Value) (ts : List NumberTable) (n p : �
     → n < length N.tables → p < length (numbers_of_table N.tables n).rows → AreBelow (length N.symbols) row
 row_below N S ts n p t row v f e r =
     subst (λ (M : Numbered). n < length M.tables → p < length (numbers_of_table M.tables n).rows → AreBelow (length M.symbols) row) v (lent_below S ts n p t row f e r)
+
+-- tables whose rows fit the symbols show the same with more symbols
+pub grown_fitting : (S T : List Value) (ts : List NumberTable) → Extends S T → Each ts (RowsFit (length S)) → shown_tables T ts ≡ shown_tables S ts
+grown_fitting S T [] e h = refl
+grown_fitting S T (t ∷ ts) e h =
+    let first : shown T t ≡ shown S t = ap (λ (rs : List (List Value)). let u : TableRows = record { width = t.width; rows = rs } in u) (grown_rows S T t.rows e (h t (here refl)).within) in
+    let rest = grown_fitting S T ts e (λ y m. h y (there m)) in
+    cc (first, rest)
+
+-- a table that is read is the one that stands there
+pub table_read : (tables : List NumberTable) (r : ℕ) (t : NumberTable) → r < length tables → t ≡ get_or tables r t → t ≡ numbers_of_table tables r
+table_read tables r t h e = e ∙ get_or_default tables r t (record { width = 0; rows = [] }) h

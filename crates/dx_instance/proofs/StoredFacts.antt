@@ -1,14 +1,13 @@
 -- The facts of an instance are its rows; what holds of each table holds where a table is read.
 use Rattle.std.proofs.Common.{◌≡◌, ℕ, zero, suc, ◌+◌, ◌<◌, ◌≤◌, ◌-◌, ◌^◌, List, [], ◌∷◌, ◌++◌, ◌⊎◌, inl, inr, refl, sym, ◌∙◌, ap, subst, arith, length, get_or, set, map, take, Bool, true, false, Result, Ok, Err}
 use Rattle.std.specs.Prelude.{IfOk, OnErr, MatchBool}
-use Rattle.std.proofs.lemmas.List.{length-set, get_or-set_same, get_or-set_other, length-append, length-map, take_all, take_more, length-take-le, append-nil, append_assoc}
+use Rattle.std.proofs.lemmas.List.{length-set, get_or-set_same, get_or-set_other, length-append, length-map, take_all, take_more, length-take-le, append-nil, append_assoc, get_or_default}
 use Rattle.std.specs.declared.alloc.AllocError.{AllocError}
 use Rattle.dx_model.specs.declared.values.Value.{Value}
 use Rattle.dx_model.specs.declared.facts.Fact.{Fact}
-use Rattle.dx_ports.specs.Members.{◌∈◌, here, there, Each}
-use Rattle.dx_ports.proofs.Members.{in_map, from_map, in_left, in_right, from_append, in_at}
-use Rattle.dx_instance.specs.Stored.{TableRows, table_at, rows_of, widths, facts_from, facts, without_rows, AddsRow, FitsTable, FitsInstance, with_row}
-use Rattle.dx_instance.proofs.RowSets.{distinct_more}
+use Rattle.dx_ports.specs.Members.{◌∈◌, here, there, Each, ◌≈◌}
+use Rattle.dx_ports.proofs.Members.{in_map, from_map, in_left, in_right, from_append, in_at, distinct_more, same_sym}
+use Rattle.dx_instance.specs.Stored.{TableRows, table_at, rows_of, widths, facts_from, facts, without_rows, AddsRow, FitsTable, FitsInstance, with_row, IsSorting}
 
 abbrev no_table : TableRows
 no_table = record { width = 0; rows = [] }
@@ -49,15 +48,9 @@ fact_table I f m =
     let k = from_facts 0 I f m in
     omega (arith, k.1, k.2)
 
--- an element is the same whatever stands for one that is not there
-pub other_default : {X : Type 0} (xs : List X) (i : ℕ) (d e : X) → i < length xs → get_or xs i d ≡ get_or xs i e
-other_default [] i d e h = absurd (omega arith)
-other_default (x ∷ xs) zero d e h = refl
-other_default (x ∷ xs) (suc i) d e h = other_default xs i d e (omega arith)
-
 -- a table that was read is the one with its number
 pub is_table : (I : List TableRows) (n : ℕ) (t : TableRows) → n < length I → t ≡ get_or I n t → t ≡ table_at I n
-is_table I n t h e = e ∙ other_default I n t no_table h
+is_table I n t h e = e ∙ get_or_default I n t no_table h
 
 pub fits_at : (I : List TableRows) (n : ℕ) → FitsInstance I → n < length I → FitsTable (table_at I n)
 fits_at I n f h = f.each (table_at I n) (in_at I n no_table h)
@@ -171,3 +164,32 @@ facts_more I t p all h b e =
     let n : 0 + length (take t I) ≡ t = omega (arith, length-take-le t I (omega arith)) in
     let whole = ap (λ (m : ℕ). facts_from 0 (take t I) ++ map (λ (row : List Value). let f : Fact = record { table = m; row = row } in f) (rows_of I t)) n in
     e ∙ rw (take_all p (rows_of I t) b) (sym (ap (λ (ts : List TableRows). facts_from 0 ts) (take_more I t no_table h) ∙ facts_push 0 (take t I) (table_at I t) ∙ whole))
+
+-- instances with the same widths and rows are one
+pub same_tables : (I J : List TableRows) → widths I ≡ widths J → ((t : ℕ) → rows_of I t ≡ rows_of J t) → I ≡ J
+same_tables [] [] w r = refl
+same_tables [] (y ∷ ys) w r = absurd (cc)
+same_tables (x ∷ xs) [] w r = absurd (cc)
+same_tables (x ∷ xs) (y ∷ ys) w r =
+    let first : x.width ≡ y.width = ap (λ (ns : List ℕ). get_or ns 0 0) w in
+    let rows : x.rows ≡ y.rows = r 0 in
+    let rest : xs ≡ ys = same_tables xs ys (tail_of _ _ _ _ w) (λ t. r (suc t)) in
+    (λ i. record { width = first i; rows = rows i } ∷ rest i)
+  where
+    tail_of : (a b : ℕ) (xs ys : List ℕ) → (a ∷ xs) ≡ (b ∷ ys) → xs ≡ ys
+    tail_of a b xs ys e = cc
+
+-- an instance and its sorting have the same facts
+pub sorted_facts : (I K : List TableRows) → IsSorting I K → facts I ≈ facts K
+sorted_facts I K s = (
+  (λ f m. fact_from_row K f.table f.row (s.kept f.table f.row (row_from_fact I f m))),
+  (λ f m. fact_from_row I f.table f.row (s.only f.table f.row (row_from_fact K f m))),
+)
+
+-- the widths of tables without rows
+pub widths_without : (ws : List ℕ) → widths (without_rows ws) ≡ ws
+widths_without [] = refl
+widths_without (w ∷ ws) = ap (λ (vs : List ℕ). w ∷ vs) (widths_without ws)
+
+pub sorting_facts : (J K : List TableRows) → IsSorting J K → facts K ≈ facts J
+sorting_facts J K s = same_sym (sorted_facts J K s)

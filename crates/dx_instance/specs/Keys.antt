@@ -25,13 +25,13 @@ pub record HasRoom (b n : ℕ) : Type 0 where
   pub some : 0 < b
   pub fits : b ^ n ≤ 2 ^ 64
 
--- the first eight bytes of a constant in one; nulls come last
+-- the first sixteen bytes of a constant in one; nulls come last
 abbrev pub value_key : Value → ℕ
-value_key (Const t) = packed 256 8 0 t
-value_key (Null n) = 2 ^ 64 - 1
+value_key (Const t) = packed 256 16 0 t
+value_key (Null n) = 2 ^ 128 - 1
 
 abbrev pub IsSmallValue : Value → Type 0
-IsSmallValue (Const t) = AreSmall 256 8 t × (packed 256 8 0 t < 2 ^ 64)
+IsSmallValue (Const t) = AreSmall 256 16 t × (packed 256 16 0 t < 2 ^ 128)
 IsSmallValue (Null n) = Unit {0}
 
 -- the key of the item at a place, and the place

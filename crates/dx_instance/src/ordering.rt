@@ -13,6 +13,9 @@ use std::alloc::{AllocError, Global};
 use std::cmp::Ordering;
 use std::rc::Rc;
 
+// What the first eight bytes of sixteen count for.
+const TWO_TO_64: u128 = 18_446_744_073_709_551_616;
+
 /// Values in order, and the place of each number that they had before.
 #[derive(Drop)]
 pub struct Ordered {
@@ -39,19 +42,46 @@ fn first_bytes(text: &[u8]) -> u64
     key
 }
 
-/// A number that compares as the first bytes of a value's text. Nulls come last.
-pub(crate) fn key_of(value: &Value) -> u64
+// The bytes of a text after its first eight.
+fn later_bytes(text: &[u8]) -> &[u8]
+    ensures { result.now ≡ drop 8 text.now }
+{
+    if text.len() > 8 { &text[8..] } else { &[] }
+}
+
+// A number that compares as the first sixteen bytes of a text.
+fn first_sixteen(text: &[u8]) -> u128
+    ensures key { result ≡ packed 256 16 0 text.now }
+    ensures small { AreSmall 256 16 text.now }
+{
+    let first = first_bytes(text);
+    let second = first_bytes(later_bytes(text));
+    first as u128 * TWO_TO_64 + second as u128
+}
+
+// A number that compares as the first sixteen bytes of a value's text. Nulls come last.
+fn key_of(value: &Value) -> u128
     ensures key { result ≡ value_key value.now }
     ensures small { IsSmallValue value.now }
 {
     match value {
+        Value::Const(text) => first_sixteen(text.bytes()),
+        Value::Null(_) => u128::MAX,
+    }
+}
+
+/// A number that compares as the first eight bytes of a value's text.
+pub(crate) fn short_key_of(value: &Value) -> u64
+    ensures { result ≡ packed 256 8 0 (text_of value.now) }
+{
+    match value {
         Value::Const(text) => first_bytes(text.bytes()),
-        Value::Null(_) => u64::MAX,
+        Value::Null(_) => 0,
     }
 }
 
 // Each number, with a key that compares as the first bytes of its value.
-fn keyed_numbers(alloc: Global, symbols: &Symbols) -> Result<Vec<(u64, u32)>, AllocError>
+fn keyed_numbers(alloc: Global, symbols: &Symbols) -> Result<Vec<(u128, u32)>, AllocError>
     ensures keyed { IfOk result (λ keys. ValuesAreKeyed symbols.now keys.items (length symbols.now)) }
     ensures apart { AreApart symbols.now }
     ensures few { length symbols.now < 2 ^ 32 }
@@ -76,7 +106,7 @@ fn value_or<'a>(symbols: &'a Symbols, number: u32, blank: &'a Value) -> &'a Valu
 }
 
 // The numbers in the order of their values, with their keys.
-fn numbers_in_order(alloc: Global, symbols: &Symbols) -> Result<Vec<(u64, u32)>, AllocError>
+fn numbers_in_order(alloc: Global, symbols: &Symbols) -> Result<Vec<(u128, u32)>, AllocError>
     ensures sorted { IfOk result (λ keys. AreSorted symbols.now (places_of keys.items)) }
     ensures few { length symbols.now < 2 ^ 32 }
 {
@@ -94,7 +124,7 @@ fn numbers_in_order(alloc: Global, symbols: &Symbols) -> Result<Vec<(u64, u32)>,
 }
 
 // The place of each number.
-fn ranks_of(alloc: Global, keys: &[(u64, u32)]) -> Result<Vec<u32>, AllocError>
+fn ranks_of(alloc: Global, keys: &[(u128, u32)]) -> Result<Vec<u32>, AllocError>
     requires few { length keys.now < 2 ^ 32 }
     requires within { (k : ℕ) → k < length keys.now → slice_index (places_of keys.now) k < length keys.now }
     ensures many { IfOk result (λ ranks. length ranks.items ≡ length keys.now) }
@@ -121,7 +151,7 @@ fn push_text(buffer: &mut String, value: &Value) -> Result<(), AllocError>
 fn texts_in_order(
     alloc: Global,
     symbols: &Symbols,
-    keys: &[(u64, u32)],
+    keys: &[(u128, u32)],
 ) -> Result<String, AllocError>
     requires { Each (places_of keys.now) (λ n. n < length symbols.now) }
     ensures { IfOk result (λ buffer. string_bytes buffer ≡ joined_texts (map (value_of symbols.now) (places_of keys.now))) }
@@ -163,7 +193,7 @@ fn value_in(buffer: &Rc<String>, start: usize, value: &Value) -> Result<Value, A
 fn values_in(
     alloc: Global,
     symbols: &Symbols,
-    keys: &[(u64, u32)],
+    keys: &[(u128, u32)],
     buffer: &Rc<String>,
 ) -> Result<Vec<Value>, AllocError>
     requires below { Each (places_of keys.now) (λ n. n < length symbols.now) }
@@ -185,7 +215,7 @@ fn values_in(
 fn copies_in_order(
     alloc: Global,
     symbols: &Symbols,
-    keys: &[(u64, u32)],
+    keys: &[(u128, u32)],
 ) -> Result<Vec<Value>, AllocError>
     requires { Each (places_of keys.now) (λ n. n < length symbols.now) }
     ensures { IfOk result (λ values. values.items ≡ map (value_of symbols.now) (places_of keys.now)) }
@@ -202,7 +232,7 @@ fn copies_in_order(
 fn values_in_order(
     alloc: Global,
     symbols: &Symbols,
-    keys: &[(u64, u32)],
+    keys: &[(u128, u32)],
 ) -> Result<Vec<Value>, AllocError>
     requires { Each (places_of keys.now) (λ n. n < length symbols.now) }
     ensures { IfOk result (λ values. values.items ≡ map (value_of symbols.now) (places_of keys.now)) }

@@ -7,7 +7,7 @@ ghost use Rattle.dx_ports.specs.Members.{Each, ◌∈◌};
 ghost use Rattle.dx_instance.specs.Numbers.{AreApart, Extends, IsNumberOf, IsOrdering, ValuesAscend, value_of};
 
 use crate::hints::hint_of;
-use crate::ordering::{Ordered, in_order, key_of};
+use crate::ordering::{Ordered, in_order, short_key_of};
 use dx_model::{Value, copy_value};
 use indexmap::IndexSet;
 use std::alloc::{AllocError, Global};
@@ -32,6 +32,20 @@ impl Model for Symbols {
     ghost view = { λ s. s.ordered.items ++ s.later.keys };
 
     ghost invariant = { λ s. ValuesAscend s.ordered.items × AreApart (s.ordered.items ++ s.later.keys) × (length (s.ordered.items ++ s.later.keys) < 2 ^ 32) };
+}
+
+// The number of a value among values in order. While a source is read there are none.
+fn number_in(ordered: &[Value], value: &Value) -> Option<usize>
+    requires { ValuesAscend ordered.now }
+    ensures { IsNumberOf ordered.now value.now result }
+{
+    if ordered.is_empty() {
+        return None;
+    }
+    match ordered.binary_search(value) {
+        Ok(number) => Some(number),
+        Err(_) => None,
+    }
 }
 
 impl Symbols {
@@ -81,7 +95,10 @@ impl Symbols {
     fn hinted(&self, value: &Value) -> Option<usize>
         ensures { IfSome result (λ number. IsNumberOf self.now value.now (Some number)) }
     {
-        let hint = hint_of(key_of(value), value);
+        if self.hints.is_empty() {
+            return None;
+        }
+        let hint = hint_of(short_key_of(value), value);
         let Ok(number) = self.hints.as_slice().binary_search(&hint) else {
             return None;
         };
@@ -99,9 +116,9 @@ impl Symbols {
         if let Some(number) = self.hinted(value) {
             return Some(number as u64);
         }
-        match self.ordered.as_slice().binary_search(value) {
-            Ok(number) => Some(number as u64),
-            Err(_) => match self.later.get_index_of(value) {
+        match number_in(&self.ordered, value) {
+            Some(number) => Some(number as u64),
+            None => match self.later.get_index_of(value) {
                 Some(number) => Some((self.ordered.len() + number) as u64),
                 None => None,
             },
@@ -123,7 +140,7 @@ impl Symbols {
         ensures apart { AreApart self.new }
         ensures few { length self.new < 2 ^ 32 }
     {
-        if let Ok(number) = self.ordered.as_slice().binary_search(&value) {
+        if let Some(number) = number_in(&self.ordered, &value) {
             return Ok(number as u64);
         }
         if self.ordered.len() + self.later.len() >= 4_294_967_295 {

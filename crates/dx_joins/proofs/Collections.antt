@@ -1,19 +1,13 @@
 -- What collections gain.
-use Rattle.std.proofs.Common.{◌≡◌, ◌↔◌, ◌⊎◌, ◌∙◌, ◌<◌, ◌≤◌, ◌+◌, ◌++◌, ◌∷◌, ◌^◌, ℕ, zero, suc, List, [], Bool, true, false, refl, sym, ap, subst, arith, length, get_or, take, inl, inr}
+use Rattle.std.proofs.Common.{◌≡◌, ◌↔◌, ◌⊎◌, ◌∙◌, ◌<◌, ◌≤◌, ◌+◌, ◌++◌, ◌∷◌, ◌^◌, ℕ, List, [], Bool, true, false, refl, sym, ap, subst, arith, length, get_or, take, inl, inr}
 use Rattle.std.specs.Prelude.{nat_lt, MatchBool}
 use Rattle.std.proofs.lemmas.Bool.{cases_Bool, ltb-true}
 use Rattle.std.proofs.lemmas.List.{length-take-le}
 use Rattle.dx_ports.specs.Members.{◌∈◌, ◌⊆◌, here, there, Each}
 use Rattle.dx_ports.proofs.Members.{in_left, in_right, from_append}
+use Rattle.dx_model.proofs.Lists.{from_take}
 use Rattle.dx_instance.specs.Cells.{NumberTable, with_numbers}
 use Rattle.dx_joins.specs.Collecting.{Collection, Collects, FirstAscend, Gains, MoreThan}
-
-pub in_take : {X : Type 0} (i : ℕ) (xs : List X) {x : X} → x ∈ take i xs → x ∈ xs
-in_take zero [] m = m
-in_take zero (y ∷ xs) m = elim m [ ]
-in_take (suc i) [] m = m
-in_take (suc i) (y ∷ xs) (here e) = here e
-in_take (suc i) (y ∷ xs) (there m) = there (in_take i xs m)
 
 pub gains_nothing : (c : Collection) (P : List ℕ → Type 0) → ((t : List ℕ) → ¬ (P t)) → Gains c c P
 gains_nothing c P n = record { width = refl; most = refl; exact = λ t. (inl, λ m. elim m [ inl l ↦ l | inr p ↦ absurd (n t p) ]) }
@@ -73,7 +67,7 @@ pub pushed : (full : Bool) (most width n : ℕ) (old rows : List (List ℕ)) (ro
 pushed true most width n old rows row e small f s = record {
   some = take n rows;
   ascend = f.1;
-  each = λ t m. elim (from_append old (s.1 t (in_take n rows m))) [ inl l ↦ inl l | inr r ↦ inr (last_in r) ];
+  each = λ t m. elim (from_append old (s.1 t (from_take n rows m))) [ inl l ↦ inl l | inr r ↦ inr (last_in r) ];
   more = let k = ltb-true most n (sym e) in omega (arith, k, length-take-le n rows f.0);
   few = omega (arith, small, length-take-le n rows f.0);
 }

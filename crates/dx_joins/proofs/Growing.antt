@@ -4,7 +4,8 @@ use Rattle.std.specs.Prelude.{map, slice_index, slice_index_or, IfOk, MatchOptio
 use Rattle.std.specs.List.{range_with_len}
 use Rattle.std.specs.declared.alloc.AllocError.{AllocError}
 use Rattle.std.proofs.lemmas.Bool.{cases_Bool, cases_lt, eqb-false}
-use Rattle.std.proofs.lemmas.List.{length-map, length-append, get_or_default, get_or_append_left, get_or-map, map-append, append_assoc, take_more}
+use Rattle.std.proofs.lemmas.List.{length-map, length-append, get_or_default, get_or-map, map-append, append_assoc, take_more}
+use Rattle.std.proofs.lemmas.Simd.{map-map}
 use Rattle.dx_joins.specs.Looking.{numbers_in}
 use Rattle.dx_ports.specs.Members.{◌∈◌, ◌⊆◌, here, there, Each, Distinct}
 use Rattle.dx_ports.proofs.Members.{in_left, in_right, from_append, in_map, from_map, in_at, contains_from_in}
@@ -16,24 +17,18 @@ use Rattle.dx_model.specs.Values.{Conversions, Text, Tuple}
 use Rattle.dx_model.specs.Rules.{text_of}
 use Rattle.dx_instance.specs.Numbers.{AreApart, Extends, value_of}
 use Rattle.dx_instance.specs.Cells.{NumberTable, NumbersAscend, numbers_at}
+use Rattle.dx_instance.proofs.ShownFacts.{grown_value, longer}
 use Rattle.dx_joins.specs.Collecting.{Collection, Collects, Gains, MoreThan}
 use Rattle.dx_joins.specs.Planning.{place_of}
 use Rattle.dx_joins.specs.Shown.{AreTexts, MoreTuples, StandFor, is_text, text_in, texts_of}
 use Rattle.dx_joins.specs.Derivations.{DerivesTo, GivenBy, derived_texts, given_to}
-use Rattle.dx_joins.proofs.Places.{map_map}
 use Rattle.dx_joins.proofs.Translating.{distinct_texts}
 
-longer : (S S' : List Value) → Extends S S' → length S ≤ length S'
-longer S S' e = omega (arith, ap length e.is, length-append S e.more)
-
-pub grown : (S S' : List Value) (x : ℕ) → Extends S S' → x < length S → value_of S' x ≡ value_of S x
-grown S S' x e h = ap (λ (T : List Value). value_of T x) e.is ∙ get_or_append_left S e.more (Const []) x h
-
 pub texts_grow : (S S' : List Value) (row : List ℕ) → Extends S S' → AreTexts S row → AreTexts S' row
-texts_grow S S' row e h n m = let k = h n m in (omega (arith, k.0, longer S S' e), ap is_text (grown S S' n e k.0) ∙ k.1)
+texts_grow S S' row e h n m = let k = h n m in (omega (arith, k.0, longer S S' e), ap is_text (grown_value S S' n e k.0) ∙ k.1)
 
 pub texts_stay : (S S' : List Value) (row : List ℕ) → Extends S S' → AreTexts S row → texts_of S' row ≡ texts_of S row
-texts_stay S S' row e h = map_same (λ n. text_in (value_of S' n)) (λ n. text_in (value_of S n)) row (λ n m. ap text_in (grown S S' n e (h n m).0))
+texts_stay S S' row e h = map_same (λ n. text_in (value_of S' n)) (λ n. text_in (value_of S n)) row (λ n m. ap text_in (grown_value S S' n e (h n m).0))
 
 -- the text of a variable is the one at its place
 pub text_at : (names : List ℕ) (ts : Tuple) (x : ℕ) → length ts ≡ length names → x ∈ names → text_of names ts x ≡ slice_index_or ts (place_of names x) []
@@ -113,7 +108,7 @@ module _ (convert : Conversions) (wanted : List ℕ) (derived : List Derived) (f
       let long : length all ≡ length names =
       omega (arith, length-append u (derived_texts convert wanted derived u), length-append wanted (range_with_len first (length derived)), length-map row (λ n. text_in (value_of S0 n)), wide row m, count, long_derived u) in
       d.shown ∙ ap (λ (v : Tuple). map (λ i. slice_index_or (v ++ derived_texts convert wanted derived v) i []) places) stay
-      ∙ ap (λ (l : List ℕ). map (λ i. slice_index_or all i []) l) at ∙ map_map (λ i. slice_index_or all i []) (place_of names) shown
+      ∙ ap (λ (l : List ℕ). map (λ i. slice_index_or all i []) l) at ∙ map-map (λ i. slice_index_or all i []) (place_of names) shown
       ∙ sym (map_same (text_of names all) (λ x. slice_index_or all (place_of names x) []) shown (λ x k. text_at names all x long (known x k)))
     where
       long_derived : (u : Tuple) → length (derived_texts convert wanted derived u) ≡ length derived
@@ -232,7 +227,7 @@ pub picked : (S : List Value) (row places : List ℕ) → Each places (λ i. i <
     → AreTexts S (numbers_in row places) × (texts_of S (numbers_in row places) ≡ map (λ (i : ℕ). slice_index_or (texts_of S row) i []) places)
 picked S row places w t = (
   (λ n m. let r = from_map (slice_index row) places m in subst (λ (k : ℕ). (k < length S) × (is_text (value_of S k) ≡ true)) r.2 (t (get_or row r.0 0) (in_at row r.0 0 (w r.0 r.1)))),
-  map_map (λ (n : ℕ). text_in (value_of S n)) (slice_index row) places
+  map-map (λ (n : ℕ). text_in (value_of S n)) (slice_index row) places
       ∙ map_same (λ (i : ℕ). text_in (value_of S (get_or row i 0))) (λ (i : ℕ). slice_index_or (texts_of S row) i []) places (λ i m. sym (get_or-map (λ (n : ℕ). text_in (value_of S n)) row i 0 [] (w i m))),
 )
 

@@ -1,12 +1,11 @@
 mod Ascending
 mod ByPlace
-mod Carrying
+pub mod Carrying
 mod Collections
 mod Derived
-mod Growing
+pub mod Growing
 mod Linking
 mod Loops
-mod Numbers
 mod Pairing
 mod Patterns
 mod Places

@@ -1,20 +1,16 @@
 -- Loops over lists of numbers.
-use Rattle.std.proofs.Common.{◌≡◌, ◌↔◌, ◌∙◌, ◌<◌, ◌≤◌, ◌+◌, ◌++◌, ◌∷◌, ℕ, zero, suc, List, [], refl, sym, ap, subst, arith, length, get_or, take, inl, inr}
+use Rattle.std.proofs.Common.{◌≡◌, ◌↔◌, ◌∙◌, ◌<◌, ◌≤◌, ◌+◌, ◌++◌, ◌∷◌, ℕ, zero, suc, List, [], refl, ap, arith, length, get_or, take, inl, inr}
 use Rattle.std.proofs.lemmas.List.{take_more, map_more, get_or_default}
 use Rattle.std.specs.Prelude.{map, slice_index, Bool, true, false, ◌==◌}
 use Rattle.std.specs.Bool.{OnTrue}
 use Rattle.std.specs.Ordering.{ordering_index}
 use Rattle.std.specs.declared.cmp.Ordering.{Ordering}
 use Rattle.std.specs.declared.cmp.Ordering.TheVariants.{Less, Equal, Greater}
-use Rattle.dx_ports.specs.Members.{◌∈◌, Each}
-use Rattle.dx_ports.proofs.Members.{in_at}
+use Rattle.dx_ports.specs.Members.{Each}
 
 -- the item that a loop read is the one that an index gives
 pub item_is : (xs : List ℕ) (i x : ℕ) → i < length xs → x ≡ get_or xs i x → x ≡ get_or xs i 0
 item_is xs i x h e = e ∙ get_or_default xs i x 0 h
-
-pub item_in : {X : Type 0} (xs : List X) (i : ℕ) (x : X) → i < length xs → x ≡ get_or xs i x → x ∈ xs
-item_in {X} xs i x h e = subst (λ (y : X). y ∈ xs) (sym e) (in_at xs i x h)
 
 pub on_true : (b : Bool) (P : Type 0) → (b ≡ true → P) → OnTrue b P
 on_true true P f = f refl

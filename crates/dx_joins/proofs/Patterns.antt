@@ -5,9 +5,8 @@ use Rattle.std.specs.List.{list_any}
 use Rattle.std.proofs.lemmas.Bool.{cases_Bool, eqb-true, eq-eqb, cond-true, cond-false}
 use Rattle.std.proofs.lemmas.List.{length-append, take_more, take_all, append-nil, append_assoc}
 use Rattle.dx_ports.specs.Members.{◌∈◌, ◌⊆◌, here, there, Each}
-use Rattle.dx_ports.proofs.Members.{in_left, in_right, from_append, in_flat_map, from_flat_map, map_agrees, in_at}
+use Rattle.dx_ports.proofs.Members.{in_left, in_right, from_append, in_flat_map, from_flat_map, map_agrees, in_at, distinct_more}
 use Rattle.dx_ports.proofs.Tests.{map_same, to_any, from_any}
-use Rattle.dx_instance.proofs.RowSets.{distinct_more}
 use Rattle.dx_instance.specs.Cells.{NumberTable}
 use Rattle.dx_instance.specs.Shown.{numbers_of_table}
 use Rattle.dx_joins.specs.declared.pattern.Pattern.{Pattern}

@@ -1,8 +1,9 @@
 -- Places of variables, and rows that two rows make.
-use Rattle.std.proofs.Common.{◌≡◌, ◌↔◌, ◌⊎◌, ◌∙◌, ◌<◌, ◌≤◌, ◌+◌, ◌-◌, ◌++◌, ◌∷◌, ℕ, zero, suc, cond, eqb, List, [], true, false, refl, sym, ap, subst, arith, length, get_or, take, drop, inl, inr}
+use Rattle.std.proofs.Common.{◌≡◌, ◌↔◌, ◌⊎◌, ◌∙◌, ◌<◌, ◌+◌, ◌-◌, ◌++◌, ◌∷◌, ℕ, suc, cond, eqb, List, [], true, false, refl, sym, ap, subst, arith, length, get_or, take, drop, inl, inr}
 use Rattle.std.specs.Prelude.{map, slice_index}
 use Rattle.std.proofs.lemmas.Bool.{cases_Bool, eqb-true, eqb-false, eq-eqb, ne_eqb}
 use Rattle.std.proofs.lemmas.List.{map-append, drop_more, length-map, length-append, get_or-map}
+use Rattle.std.proofs.lemmas.Simd.{map-map}
 use Rattle.dx_ports.specs.Members.{◌∈◌, ◌⊆◌, here, there, Distinct, Each}
 use Rattle.dx_ports.proofs.Members.{in_left, in_right, from_append, from_map, in_map}
 use Rattle.dx_ports.proofs.Tests.{map_same}
@@ -41,22 +42,18 @@ by_places (x ∷ xs) (n ∷ r) ys s d e =
     let more = by_places xs r ys s d.1 (omega arith) in
     cc (first, others, more)
 
-pub map_map : {X Y Z : Type 0} (f : Y → Z) (g : X → Y) (xs : List X) → map f (map g xs) ≡ map (λ x. f (g x)) xs
-map_map f g [] = refl
-map_map f g (x ∷ xs) = let r = map_map f g xs in cc r
-
 -- what the firsts and the places of a plan tell
 pub joined_from : (left right kept firsts places r s : List ℕ) → Distinct left → length r ≡ length left → firsts ≡ map (place_of (left ++ right)) right → places ≡ map (place_of (left ++ right)) kept
     → numbers_in (r ++ s) firsts ≡ s → (t : List ℕ) → t ≡ numbers_in (r ++ s) places → Joined left right kept r s t
 joined_from left right kept firsts places r s d e f p a t q = record {
   numbers = λ x. slice_index (r ++ s) (place_of (left ++ right) x);
   first = sym (by_places left r right s d e);
-  second = sym a ∙ ap (λ (l : List ℕ). numbers_in (r ++ s) l) f ∙ map_map (slice_index (r ++ s)) (place_of (left ++ right)) right;
-  whole = q ∙ ap (λ (l : List ℕ). numbers_in (r ++ s) l) p ∙ map_map (slice_index (r ++ s)) (place_of (left ++ right)) kept;
+  second = sym a ∙ ap (λ (l : List ℕ). numbers_in (r ++ s) l) f ∙ map-map (slice_index (r ++ s)) (place_of (left ++ right)) right;
+  whole = q ∙ ap (λ (l : List ℕ). numbers_in (r ++ s) l) p ∙ map-map (slice_index (r ++ s)) (place_of (left ++ right)) kept;
 }
 
 gathered : (f : ℕ → ℕ) (names xs : List ℕ) → xs ⊆ names → numbers_in (map f names) (map (place_of names) xs) ≡ map f xs
-gathered f names xs within = map_map (slice_index (map f names)) (place_of names) xs ∙ map_same (λ x. slice_index (map f names) (place_of names x)) f xs (λ x m. at_place f names x (within x m))
+gathered f names xs within = map-map (slice_index (map f names)) (place_of names) xs ∙ map_same (λ x. slice_index (map f names) (place_of names x)) f xs (λ x m. at_place f names x (within x m))
 
 pub joined_agree : (left right kept firsts r s t : List ℕ) → firsts ≡ map (place_of (left ++ right)) right → Joined left right kept r s t → numbers_in (r ++ s) firsts ≡ s
 joined_agree left right kept firsts r s t f j =
@@ -70,16 +67,12 @@ joined_is left right kept places r s t k p j =
 
 -- rows that join have the same key
 shared_at : (f : ℕ → ℕ) (xs places : List ℕ) → Each places (λ i. i < length xs) → numbers_in (map f xs) places ≡ map f (map (slice_index xs) places)
-shared_at f xs places w = map_same (slice_index (map f xs)) (λ i. f (slice_index xs i)) places (λ i m. get_or-map f xs i 0 0 (w i m)) ∙ sym (map_map f (slice_index xs) places)
+shared_at f xs places w = map_same (slice_index (map f xs)) (λ i. f (slice_index xs i)) places (λ i m. get_or-map f xs i 0 0 (w i m)) ∙ sym (map-map f (slice_index xs) places)
 
 pub keys_meet : (left right kept by_left by_right r s t : List ℕ) → Each by_left (λ i. i < length left) → Each by_right (λ i. i < length right) → map (slice_index left) by_left ≡ map (slice_index right) by_right
     → Joined left right kept r s t → key_of (numbers_in r by_left) ≡ key_of (numbers_in s by_right)
 keys_meet left right kept by_left by_right r s t u v e j =
     ap key_of (ap (λ (l : List ℕ). numbers_in l by_left) j.first ∙ shared_at j.numbers left by_left u ∙ ap (map j.numbers) e ∙ sym (shared_at j.numbers right by_right v) ∙ ap (λ (l : List ℕ). numbers_in l by_right) (sym j.second))
-
--- looking for a variable
-pub skip_listed : (vars : List ℕ) (i x : ℕ) → i < length vars → ¬ (get_or vars i 0 ≡ x) → x ∈ drop i vars → x ∈ drop (i + 1) vars
-skip_listed vars i x h n m = elim (rw (drop_more vars i 0 h) at m) [ here e ↦ absurd (n e) | there k ↦ k ]
 
 pub skip_same : (vars : List ℕ) (i x : ℕ) → i < length vars → ¬ (get_or vars i 0 ≡ x) → place_of (drop i vars) x ≡ suc (place_of (drop (i + 1) vars) x)
 skip_same vars i x h n = ap (λ (l : List ℕ). place_of l x) (drop_more vars i 0 h) ∙ go
@@ -92,12 +85,6 @@ is_here vars i x h e = ap (λ (l : List ℕ). place_of l x) (drop_more vars i 0 
   where
     go : place_of (get_or vars i 0 ∷ drop (i + 1) vars) x ≡ 0
     go = rw (eq-eqb x (get_or vars i 0) (sym e)) refl
-
-pub nothing_left : (vars : List ℕ) (i x : ℕ) → length vars ≤ i → ¬ (x ∈ drop i vars)
-nothing_left [] zero x h m = elim m [ ]
-nothing_left [] (suc i) x h m = elim m [ ]
-nothing_left (y ∷ ys) zero x h m = absurd (omega arith)
-nothing_left (y ∷ ys) (suc i) x h m = nothing_left ys i x (omega arith) m
 
 pub place_left : (left right : List ℕ) (x : ℕ) → place_of (left ++ right) x < length left → slice_index left (place_of (left ++ right) x) ≡ x
 place_left [] right x h = absurd (omega arith)

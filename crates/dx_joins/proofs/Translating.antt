@@ -19,17 +19,16 @@ use Rattle.dx_model.specs.declared.rules.Cell.{Cell}
 use Rattle.dx_model.specs.declared.rules.Cell.TheVariants.{Var, Ex, Lit}
 use Rattle.dx_model.specs.declared.rules.Atom.{Atom}
 use Rattle.dx_model.specs.Values.{Conversions, Text, Tuple}
-use Rattle.dx_model.proofs.Maps.{same_null-refl}
-use Rattle.std.proofs.lemmas.Slice.Eq.{bytes_eq-Decides}
+use Rattle.std.proofs.lemmas.Simd.{map-map}
 use Rattle.dx_model.specs.Rules.{cell_value, cells_of, premise_fact, after_cells}
 use Rattle.dx_model.specs.Fitting.{IsVariable, variable_in}
 use Rattle.dx_instance.specs.Stored.{TableRows, facts, rows_of, widths}
 use Rattle.dx_instance.specs.Numbers.{AreApart, value_of}
 use Rattle.dx_model.specs.Covers.{same_value}
+use Rattle.dx_model.proofs.Before.{same_value-refl, same_value-true}
 use Rattle.dx_instance.specs.Cells.{NumberTable, NumbersAscend, numbers_at}
 use Rattle.dx_instance.specs.Shown.{AreBelow, NumbersFit, PartsFit, numbers_of_table, shown_row, shown_tables, shown}
 use Rattle.dx_instance.proofs.TableFacts.{numbers_cmp}
-use Rattle.dx_instance.proofs.PlaceFacts.{same_value-true}
 use Rattle.dx_instance.proofs.ShownFacts.{number_same, row_same}
 use Rattle.dx_instance.proofs.StoredFacts.{row_from_fact, fact_from_row}
 use Rattle.dx_joins.specs.declared.pattern.Pattern.{Pattern}
@@ -37,7 +36,6 @@ use Rattle.dx_joins.specs.Collecting.{MoreThan}
 use Rattle.dx_joins.specs.Joining.{AreMarked, Says, Stands, variables_of}
 use Rattle.dx_joins.specs.Planning.{FitPattern, IsTold, Told}
 use Rattle.dx_joins.specs.Shown.{ArePatterns, AreTexts, FitsMatching, IsFound, IsPattern, IsShown, MoreTuples, StandFor, is_text, text_in, texts_of}
-use Rattle.dx_joins.proofs.Places.{map_map}
 
 -- ---- distinct tuples
 
@@ -51,7 +49,7 @@ distinct_from (x ∷ xs) h = (
   distinct_from xs (λ i j d a b. h (suc i) (suc j) d (omega (arith, a)) (omega (arith, b))),
 )
 
-text_back : (v : Value) → is_text v ≡ true → Const (text_in v) ≡ v
+pub text_back : (v : Value) → is_text v ≡ true → Const (text_in v) ≡ v
 text_back (Const t) e = refl
 text_back (Null n) e = absurd (cc e)
 
@@ -80,10 +78,6 @@ distinct_texts S rows p w up = distinct_from (map (texts_of S) rows) pairs
 
 -- ---- numbers of values
 
-same_self : (v : Value) → same_value v v ≡ true
-same_self (Const t) = (bytes_eq-Decides t t).1 refl
-same_self (Null n) = same_null-refl n
-
 abbrev number_in : List Value → Value → ℕ
 number_in [] v = 0
 number_in (w ∷ ws) v = cond (same_value w v) 0 (suc (number_in ws v))
@@ -96,7 +90,7 @@ number_there (w ∷ ws) v m = elim (cases_Bool (same_value w v)) [
 ]
   where
     self : (u : Value) → same_value u u ≡ false → ⊥
-    self u e = true≢false (sym (same_self u) ∙ e)
+    self u e = true≢false (sym (same_value-refl u) ∙ e)
 
     rest : v ∈ (w ∷ ws) → same_value w v ≡ false → v ∈ ws
     rest (here e) f = absurd (self v (subst (λ (u : Value). same_value u v ≡ false) e f))
@@ -170,7 +164,7 @@ module _ (S : List Value) (T : List NumberTable) (fits : PartsFit S T) where
       let below = fit.within (map numbers p.variables.items) h.0 in
       let texts : ℕ → Text = λ x. text_in (value_of S (numbers x)) in
       let row : map (λ x. Const (texts x)) p.variables.items ≡ shown_row S (map numbers p.variables.items) = map_same (λ x. Const (texts x)) (λ x. value_of S (numbers x)) p.variables.items (λ x m.
-      let k = in_map numbers m in text_back (value_of S (numbers x)) (sym (marked_at S (numbers x) (below (numbers x) k)) ∙ h.1 (numbers x) k)) ∙ sym (map_map (value_of S) numbers p.variables.items) in
+      let k = in_map numbers m in text_back (value_of S (numbers x)) (sym (marked_at S (numbers x) (below (numbers x) k)) ∙ h.1 (numbers x) k)) ∙ sym (map-map (value_of S) numbers p.variables.items) in
       let said : map (cell_value texts (λ _. Const [])) a.cells ≡ shown_row S (map numbers p.variables.items) = plain_row texts (λ _. Const []) a.cells plain ∙ ap (map (λ x. Const (texts x))) (sym q.variables) ∙ row in
       let there_shown : shown_row S (map numbers p.variables.items) ∈ rows_of (shown_tables S T) a.table = rw (rows_shown S T a.table, ← q.table) (in_map (shown_row S) h.0) in
       fact_from_row (shown_tables S T) a.table (map (cell_value texts (λ _. Const [])) a.cells) (rw said there_shown)
@@ -235,7 +229,7 @@ module _ (S : List Value) (T : List NumberTable) (fits : PartsFit S T) where
         atoms = λ a m. let r = pattern_there premise ps are a m in stands_fact numbers a r.0 (plain a m) r.2 (says r.0 r.1);
         derives = tt;
       },
-      map_map (λ n. text_in (value_of S n)) numbers shown,
+      map-map (λ n. text_in (value_of S n)) numbers shown,
     )
 
     from_texts : (t : Tuple) → IsShown convert premise [] (facts (shown_tables S T)) shown t → (numbers : ℕ → ℕ) × Says T marks ps numbers × (texts_of S (map numbers shown) ≡ t)
@@ -244,7 +238,7 @@ module _ (S : List Value) (T : List NumberTable) (fits : PartsFit S T) where
         let stands : (p : Pattern) → p ∈ ps → Stands T marks numbers p × ((x : ℕ) → x ∈ p.variables.items → Const (texts x) ∈ S) = λ p m. let r = atom_there premise ps are p m in fact_stands texts r.0 p (plain r.0 r.1) r.2 (f.atoms r.0 r.1) in (
           numbers,
           (λ p m. (stands p m).0),
-          map_map (λ n. text_in (value_of S n)) numbers shown
+          map-map (λ n. text_in (value_of S n)) numbers shown
               ∙ map_same (λ x. text_in (value_of S (numbers x))) texts shown (λ x m. let p = shown_pattern x m in ap text_in (number_there S (Const (texts x)) ((stands p.0 p.1).1 x p.2)).1) ∙ sym e,
         )
 

@@ -1,10 +1,11 @@
 -- Variables that are wanted, and names of derived variables.
-use Rattle.std.proofs.Common.{◌≡◌, ◌∙◌, ◌<◌, ◌≤◌, ◌+◌, ◌++◌, ◌∷◌, ◌⊎◌, ℕ, zero, suc, List, [], refl, sym, ap, subst, arith, length, inl, inr}
+use Rattle.std.proofs.Common.{◌≡◌, ◌<◌, ◌+◌, ◌++◌, ◌∷◌, ◌⊎◌, ℕ, List, [], sym, subst, arith, length, inl, inr}
 use Rattle.std.specs.List.{range_with_len}
 use Rattle.std.proofs.lemmas.Bool.{cases_lt}
 use Rattle.std.proofs.lemmas.List.{append_assoc}
 use Rattle.dx_ports.specs.Members.{◌∈◌, ◌⊆◌, here, there, Each}
 use Rattle.dx_ports.proofs.Members.{in_left, in_right, from_append}
+use Rattle.dx_ports.proofs.Ranges.{to_range}
 use Rattle.dx_model.specs.declared.rules.Derived.{Derived}
 use Rattle.dx_joins.specs.Derivations.{IsWanted}
 
@@ -26,30 +27,12 @@ want_none P vs x n below all = (
   (λ y h p. elim (cases_lt y x) [ inl b ↦ all y b p | inr b ↦ let e : y ≡ x = omega (arith, b, h) in absurd (n (subst P e p)) ]),
 )
 
-pub range_more : (a n : ℕ) → range_with_len a (n + 1) ≡ range_with_len a n ++ (a + n) ∷ []
-range_more a zero = let z : a ≡ a + 0 = omega arith in ap (λ (k : ℕ). k ∷ []) z
-range_more a (suc n) =
-    let e : suc n + 1 ≡ suc (n + 1) = omega arith in
-    let s : a + 1 + n ≡ a + suc n = omega arith in
-    ap (range_with_len a) e ∙ ap (λ (l : List ℕ). a ∷ l) (range_more (a + 1) n ∙ ap (λ (k : ℕ). range_with_len (a + 1) n ++ k ∷ []) s)
-
-pub range_length : (a n : ℕ) → length (range_with_len a n) ≡ n
-range_length a zero = refl
-range_length a (suc n) = ap suc (range_length (a + 1) n)
-
-in_range : (a n x : ℕ) → a ≤ x → x < a + n → x ∈ range_with_len a n
-in_range a zero x h k = absurd (omega (arith, h, k))
-in_range a (suc n) x h k = elim (cases_lt a x) [
-  | inl b ↦ there (in_range (a + 1) n x (omega (arith, b)) (omega (arith, k)))
-  | inr b ↦ here (omega (arith, b, h))
-]
-
 -- the shown variables are among those that are wanted and the derived ones
 pub shown_known : (derived : List Derived) (shown wanted : List ℕ) (first : ℕ) → ((x : ℕ) → x < first → IsWanted derived shown x → x ∈ wanted) → Each shown (λ x. x < first + length derived)
     → shown ⊆ (wanted ++ range_with_len first (length derived))
 shown_known derived shown wanted first all known x m = elim (cases_lt x first) [
   | inl b ↦ in_left (range_with_len first (length derived)) (all x b (inl m))
-  | inr b ↦ in_right wanted (in_range first (length derived) x b (known x m))
+  | inr b ↦ in_right wanted (to_range first (length derived) x b (known x m))
 ]
 
 pub args_known : (derived : List Derived) (shown wanted : List ℕ) (first : ℕ) → ((x : ℕ) → x < first → IsWanted derived shown x → x ∈ wanted) → Each derived (λ (e : Derived). Each e.args (λ x. x < first))

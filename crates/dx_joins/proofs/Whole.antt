@@ -1,5 +1,5 @@
 -- The whole of a premise with derived variables.
-use Rattle.std.proofs.Common.{◌≡◌, ◌↔◌, ◌⊎◌, ◌∙◌, ◌<◌, ◌≤◌, ◌+◌, ◌-◌, ◌^◌, ◌++◌, ℕ, List, [], ◌∷◌, refl, sym, ap, subst, arith, length, Result, Ok, Err, Option, None, Some}
+use Rattle.std.proofs.Common.{◌≡◌, ◌↔◌, ◌⊎◌, ◌∙◌, ◌<◌, ◌≤◌, ◌+◌, ◌-◌, ◌^◌, ◌++◌, ℕ, List, [], ◌∷◌, refl, sym, ap, arith, length, Result, Ok, Err, Option, None, Some}
 use Rattle.std.specs.Prelude.{map, IfOk, MatchOption}
 use Rattle.std.specs.List.{range_with_len}
 use Rattle.std.specs.declared.alloc.AllocError.{AllocError}
@@ -36,10 +36,6 @@ pub result_same : (result : Result (Option NumberTable) AllocError) (most w : �
 result_same (Err x) most w P Q S s k = tt
 result_same (Ok None) most w P Q S s k = record { tuples = k.tuples; distinct = k.distinct; each = λ t m. (s t).0 (k.each t m); more = k.more; few = k.few }
 result_same (Ok (Some r)) most w P Q S s k = record { width = k.width; ascend = k.ascend; texts = k.texts; exact = λ t. ((λ m. (s t).0 ((k.exact t).0 m)), (λ q. (k.exact t).1 ((s t).1 q))) }
-
-pub found_table : (o : Option NumberTable) (r : NumberTable) (P : Type 0) (R : NumberTable → Type 0) → o ≡ Some r → MatchOption o P R → R r
-found_table None r P R e m = absurd (cc e)
-found_table (Some s) r P R e m = let d : s ≡ r = cc e in subst R d m
 
 pub none_found : (o : Option NumberTable) (Q : Tuple → Type 0) (R : NumberTable → Type 0) → o ≡ None → MatchOption o (MoreTuples 18446744073709551615 Q) R → ⊥
 none_found None Q R e m = let a = m.more in let b = m.few in absurd (omega (arith, a, b))

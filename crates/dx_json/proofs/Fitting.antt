@@ -1,18 +1,18 @@
 -- The sets below a root, and that what is said of it fits their tables.
-use Rattle.std.proofs.Common.{◌≡◌, ℕ, zero, suc, ◌+◌, ◌-◌, ◌<◌, List, [], ◌∷◌, ◌++◌, Option, Some, None, Bool, true, false, length, map, get_or, refl, sym, ap, ◌∙◌, subst, arith, inl, inr}
+use Rattle.std.proofs.Common.{◌≡◌, ℕ, suc, ◌+◌, ◌<◌, List, [], ◌∷◌, ◌++◌, Option, Some, None, Bool, true, false, length, map, get_or, refl, sym, ap, ◌∙◌, subst, arith, inl, inr}
 use Rattle.std.specs.Prelude.{⊤, if◌then◌else◌}
 use Rattle.std.specs.Fmt.{decimal}
-use Rattle.std.proofs.lemmas.Bool.{cases_lt}
-use Rattle.std.proofs.lemmas.List.{get_or_append_left, get_or-append-add, get_or-map}
+use Rattle.std.proofs.lemmas.List.{get_or-map, length-map}
 use Rattle.serde_json.specs.Data.{Data, null, boolean, number, string, array, object, Items, no_items, item, Members, no_members, member}
 use Rattle.dx_ports.specs.Members.{◌∈◌, here, there}
-use Rattle.dx_ports.proofs.Members.{contains_from_in, from_append, in_at, in_left, in_map, in_right}
+use Rattle.dx_ports.proofs.Members.{from_append, in_at, in_left, in_map, in_right}
 use Rattle.dx_model.specs.declared.values.Value.{Value}
 use Rattle.dx_model.specs.declared.facts.Fact.{Fact}
 use Rattle.dx_model.specs.Tables.{FactFits, IsInstance}
 use Rattle.dx_schema.specs.Forest.{Label, Forest, Tree, none, set}
 use Rattle.dx_schema.specs.Tables.{Placed, TableOf, as_numbers, columns_of, count, model_tables, nowhere, placed, schema_widths, sets_of, table_at, table_in, tables_of, tree_at, tree_of, where_has_inner}
-use Rattle.dx_schema.proofs.Preorder.{len_map, length_placed}
+use Rattle.dx_schema.proofs.Preorder.{length_placed}
+use Rattle.dx_schema.proofs.Inner.{table_of_set, number_at}
 use Rattle.dx_instance.specs.Stored.{TableRows, widths}
 use Rattle.dx_instance.specs.Stored.{table_at as stored_at}
 use Rattle.dx_json.specs.declared.place.Place.{Place}
@@ -23,35 +23,6 @@ use Rattle.dx_json.specs.Nesting.{up_column}
 use Rattle.dx_json.specs.Standing.{Stand}
 
 -- ---- the sets of a schema
-
-number_at : (p : Option ℕ) (n : ℕ) (f : Forest) (k : ℕ) (d : Placed) → k < count f → (get_or (placed p n f) k d).number ≡ n + k
-number_at p n none k d lt = absurd (omega (arith, lt))
-number_at p n (set l i r) zero d lt = omega arith
-number_at p n (set l i r) (suc k) d lt =
-    let left = placed (Some n) (suc n) i in
-    let right = placed p (suc (n + count i)) r in
-    let size : length left ≡ count i = length_placed (Some n) (suc n) i in
-    elim (cases_lt k (count i)) [
-      | inl a ↦ ap (λ (s : Placed). s.number) (get_or_append_left left right d k (omega (arith, a, size))) ∙ number_at (Some n) (suc n) i k d a ∙ omega arith
-      | inr b ↦
-          let place : k ≡ length left + (k - count i) = omega (arith, b, size) in
-          ap (λ j. (get_or (left ++ right) j d).number) place
-          ∙ ap (λ (s : Placed). s.number) (get_or-append-add left right (k - count i) d)
-          ∙ number_at p (suc (n + count i)) r (k - count i) d (omega (arith, b, lt))
-          ∙ omega (arith, b)
-    ]
-
--- the table of a set has the set's number
-table_of_set : (f : Forest) (s : Placed) → s ∈ sets_of f → (s.number < length (tables_of f)) × (table_at f s.number ≡ table_in (sets_of f) s)
-table_of_set f s m = go (contains_from_in m)
-  where
-    go : (k : ℕ) × (k < length (sets_of f)) × (get_or (sets_of f) k s ≡ s) → (s.number < length (tables_of f)) × (table_at f s.number ≡ table_in (sets_of f) s)
-    go h =
-        let size = length_placed None 0 f in
-        let is : s.number ≡ h.0 = sym (ap (λ (q : Placed). q.number) h.2) ∙ number_at None 0 f h.0 s (omega (arith, h.1, size)) ∙ omega arith in (
-          omega (arith, is, h.1, len_map (table_in (sets_of f)) (sets_of f)),
-          ap (table_at f) is ∙ get_or-map (table_in (sets_of f)) (sets_of f) h.0 s _ h.1 ∙ ap (table_in (sets_of f)) h.2,
-        )
 
 -- the sets of a level, of which the first has this number, are among those of the schema
 abbrev pub Within : Forest → Option ℕ → ℕ → Forest → Type 0
@@ -72,10 +43,10 @@ abbrev set_at : Forest → ℕ → Placed
 set_at f t = get_or (sets_of f) t nowhere
 
 set_in : (f : Forest) (t : ℕ) → t < length (tables_of f) → set_at f t ∈ sets_of f
-set_in f t lt = in_at (sets_of f) t nowhere (omega (arith, lt, len_map (table_in (sets_of f)) (sets_of f)))
+set_in f t lt = in_at (sets_of f) t nowhere (omega (arith, lt, length-map (sets_of f) (table_in (sets_of f))))
 
 set_number : (f : Forest) (t : ℕ) → t < length (tables_of f) → (set_at f t).number ≡ t
-set_number f t lt = number_at None 0 f t nowhere (omega (arith, lt, len_map (table_in (sets_of f)) (sets_of f), length_placed None 0 f)) ∙ omega arith
+set_number f t lt = number_at None 0 f t nowhere (omega (arith, lt, length-map (sets_of f) (table_in (sets_of f)), length_placed None 0 f)) ∙ omega arith
 
 -- its inner sets
 below_within : (f : Forest) (t : ℕ) → t < length (tables_of f) → Within f (Some t) (suc t) (tree_at f t).inner
@@ -94,7 +65,7 @@ within_rest f p n l i r w u m = w u (there (in_right (placed (Some n) (suc n) i)
 stored_width : (I : List TableRows) (f : Forest) (s : Placed) → widths I ≡ schema_widths f → s ∈ sets_of f → (s.number < length I) × ((stored_at I s.number).width ≡ length (columns_of s))
 stored_width I f s e m =
     let t = table_of_set f s m in
-    let many : length I ≡ length (tables_of f) = sym (len_map (λ (t : TableRows). t.width) I) ∙ ap length e ∙ len_map (λ (t : TableOf). length t.columns) (tables_of f) in
+    let many : length I ≡ length (tables_of f) = sym (length-map I (λ (t : TableRows). t.width)) ∙ ap length e ∙ length-map (tables_of f) (λ (t : TableOf). length t.columns) in
     let lt : s.number < length I = omega (arith, t.0, many) in
     let mine : get_or (widths I) s.number 0 ≡ (stored_at I s.number).width = get_or-map (λ (t : TableRows). t.width) I s.number _ 0 lt in
     let theirs : get_or (schema_widths f) s.number 0 ≡ length (table_at f s.number).columns = get_or-map (λ (t : TableOf). length t.columns) (tables_of f) s.number _ 0 t.0 in
@@ -126,7 +97,7 @@ fact_fits f s fact m e long =
     let t = table_of_set f s m in
     let wide : (get_or (model_tables f) s.number _).width ≡ length (table_at f s.number).columns = ap (λ t. t.width) (get_or-map as_numbers (tables_of f) s.number _ _ t.0) in
     record {
-      table = omega (arith, e, t.0, len_map as_numbers (tables_of f));
+      table = omega (arith, e, t.0, length-map (tables_of f) as_numbers);
       width = rw e (long ∙ sym (wide ∙ ap (λ (t : TableOf). length t.columns) t.1));
     }
 

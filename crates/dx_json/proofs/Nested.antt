@@ -1,17 +1,15 @@
 -- What rows become in a document.
-use Rattle.std.proofs.Common.{◌≡◌, ℕ, zero, suc, ◌+◌, ◌-◌, ◌<◌, ◌≤◌, ◌||◌, List, [], ◌∷◌, ◌++◌, length, get_or, drop, Some, None, Bool, true, false, nat_lt, lt-ltb, append_assoc, refl, sym, ap, ◌∙◌, subst, arith, inl, inr, Ordering, Less, Equal, Greater, nat_cmp}
+use Rattle.std.proofs.Common.{◌≡◌, ℕ, zero, suc, ◌+◌, ◌-◌, ◌<◌, ◌≤◌, List, [], ◌∷◌, ◌++◌, length, get_or, drop, Some, None, Bool, true, false, nat_lt, lt-ltb, append_assoc, refl, sym, ap, ◌∙◌, subst, arith, Ordering, Less, Equal, Greater, nat_cmp}
 use Rattle.std.specs.Prelude.{cond, filter}
 use Rattle.std.specs.Cmp.Lexicographic.{slice_cmp}
 use Rattle.std.specs.Ordering.{match_ordering}
-use Rattle.std.proofs.lemmas.Bool.{cases_Bool}
+use Rattle.std.proofs.lemmas.Bool.{or_parts}
 use Rattle.std.proofs.lemmas.List.{drop_all, drop_more}
-use Rattle.std.proofs.lemmas.Slice.Eq.{bytes_eq-Decides}
 use Rattle.serde_json.specs.Data.{Data, string, array, object, Items, no_items, item, Members, no_members, member, put}
 use Rattle.serde_json.specs.Written.{comma_if, compact_text, has_float, items_have_float, items_text, members_have_float}
 use Rattle.serde_json.specs.View.{view, items_view}
 use Rattle.serde_json.specs.declared.value.Value.{Value as Json}
 use Rattle.dx_model.specs.declared.values.Value.{Value}
-use Rattle.dx_model.specs.declared.values.Value.TheVariants.{Const, Null}
 use Rattle.dx_model.specs.Covers.{same_value}
 use Rattle.dx_model.specs.Tables.{cell}
 use Rattle.dx_schema.specs.Forest.{Label, Forest, none, set, Tree, forest_of}
@@ -19,11 +17,11 @@ use Rattle.dx_schema.specs.Tables.{count}
 use Rattle.dx_instance.specs.Places.{IsFirstWith, row_at, value_at}
 use Rattle.dx_instance.specs.Stored.{TableRows, rows_of}
 use Rattle.dx_instance.specs.ValueText.{value_text_of}
-use Rattle.dx_instance.proofs.PlaceFacts.{same_value-true}
-use Rattle.dx_model.proofs.Maps.{same_null-refl}
+use Rattle.dx_instance.proofs.PlaceFacts.{other_value}
+use Rattle.dx_model.proofs.Before.{same_value-refl}
+use Rattle.dx_schema.proofs.Numbered.{dropped_here}
 use Rattle.dx_json.specs.Nesting.{object_of, objects, rows_below, with_columns, with_sets}
 use Rattle.dx_json.specs.Standing.{Stand}
-use Rattle.dx_json.proofs.Steps.{left_at}
 
 -- ---- a list of objects, extended
 
@@ -75,13 +73,6 @@ kept_next test xs d p h y =
     let stays : cond (test (get_or xs p d)) (get_or xs p d ∷ filter test (drop (p + 1) xs)) (filter test (drop (p + 1) xs)) ≡ get_or xs p d ∷ filter test (drop (p + 1) xs) = rw y refl in
     this ∙ stays
 
-same_value-refl : (a : Value) → same_value a a ≡ true
-same_value-refl (Const t) = (bytes_eq-Decides t t).1 refl
-same_value-refl (Null n) = same_null-refl n
-
-other_value : (a b : Value) → ¬ (a ≡ b) → same_value a b ≡ false
-other_value a b n = elim (cases_Bool (same_value a b)) [ inl y ↦ absurd (n (same_value-true a b y)) | inr f ↦ f ]
-
 -- the rows from a place on that have this value in a column
 abbrev pub rows_left : List TableRows → ℕ → ℕ → Value → ℕ → List (List Value)
 rows_left I t c x a = filter (λ row. same_value (cell row c) x) (drop a (rows_of I t))
@@ -116,7 +107,7 @@ no_row_left I t c a x columns values cs vs le first = go (subst (λ ws. IsFirstW
 
 -- the next of the sets has its table there, and so have those after it
 pub stand_at : (I : List TableRows) (table : ℕ) (ts : List Tree) (k : ℕ) (t : Tree) → k < length ts → t ≡ get_or ts k t → Stand I table (forest_of (drop k ts)) → Stand I table (set t.label t.inner (forest_of (drop (k + 1) ts)))
-stand_at I table ts k t lt is s = subst (Stand I table) (left_at ts k t lt is) s
+stand_at I table ts k t lt is s = subst (Stand I table) (dropped_here ts k t lt is) s
 
 -- so have its inner sets
 pub stand_inner : (I J : List TableRows) (table next : ℕ) (ts : List Tree) (k : ℕ) (t : Tree) (inner : Forest) → k < length ts → t ≡ get_or ts k t → Stand I table (forest_of (drop k ts)) → J ≡ I → inner ≡ t.inner → next ≡ suc table → Stand J next inner
@@ -131,7 +122,7 @@ pub set_put : (I : List TableRows) (id : Value) (ts : List Tree) (k : ℕ) (t : 
     → ds ≡ objects (object_of t.label t.inner (with_sets I t.inner (suc table)) true) (rows_below I table t.inner id)
     → ns ≡ put name (array ds) ms → next ≡ suc (table + count t.inner) → all ≡ with_sets I (forest_of (drop (k + 1) ts)) next id ns
 set_put I id ts k t table next name ds all ms ns lt is e n o p q =
-    e ∙ ap (λ f. with_sets I f table id ms) (left_at ts k t lt is) ∙ rw (q, p, n, o) refl
+    e ∙ ap (λ f. with_sets I f table id ms) (dropped_here ts k t lt is) ∙ rw (q, p, n, o) refl
 
 -- ---- no floats
 
@@ -140,10 +131,6 @@ put_clean_at : (o : Ordering) (k l : List ℕ) (d e : Data) (ms : Members) → h
 put_clean_at Less k l d e ms a b c f = rw (a, b) c
 put_clean_at Equal k l d e ms a b c f = rw a c
 put_clean_at Greater k l d e ms a b c f = rw b f
-
-or_parts : (a b : Bool) → (a || b) ≡ false → (a ≡ false) × (b ≡ false)
-or_parts true b e = cc e
-or_parts false b e = (refl, e)
 
 put_clean : (k : List ℕ) (d : Data) (ms : Members) → has_float d ≡ false → members_have_float ms ≡ false → members_have_float (put k d ms) ≡ false
 put_clean k d no_members a c = rw a refl

@@ -1,37 +1,19 @@
 -- A root of an instance has one nested text.
-use Rattle.std.proofs.Common.{◌≡◌, ℕ, zero, suc, List, [], ◌∷◌, refl, sym, ◌∙◌, ap, get_or}
+use Rattle.std.proofs.Common.{◌≡◌, ℕ, zero, suc, List, [], ◌∷◌, refl, sym, ◌∙◌, ap}
 use Rattle.std.specs.Cmp.{IsTotalOrder}
 use Rattle.std.proofs.lemmas.Cmp.{lists_total}
-use Rattle.std.specs.declared.cmp.Ordering.TheVariants.{Equal}
 use Rattle.dx_ports.specs.Members.{◌⊆◌}
-use Rattle.dx_model.specs.declared.values.Value.{Value}
-use Rattle.dx_model.specs.Values.{RowsAscend, row_cmp, value_cmp}
-use Rattle.dx_model.proofs.Orders.{slice_exact, value_exact, value_total}
+use Rattle.dx_model.specs.Values.{RowsAscend, row_cmp}
+use Rattle.dx_model.proofs.Orders.{value_total, row_exact}
 use Rattle.dx_model.proofs.Ascending.{one_ascending, in_order, in_order_ascends, in_in_order, from_in_order}
 use Rattle.dx_instance.specs.Stored.{IsSorting, TableRows, rows_of, widths}
 use Rattle.dx_schema.specs.Tables.{tree_at}
+use Rattle.dx_instance.proofs.StoredFacts.{same_tables}
 use Rattle.dx_json.specs.Laws.{HasNestedText, NestedTextIsOne}
 use Rattle.dx_json.specs.Nesting.{nested_text}
 
 row_total : IsTotalOrder row_cmp
 row_total = lists_total value_total
-
-row_exact : (x y : List Value) → row_cmp x y ≡ Equal → x ≡ y
-row_exact = slice_exact value_cmp value_exact
-
--- instances with the same widths and rows are one
-same_tables : (I J : List TableRows) → widths I ≡ widths J → ((t : ℕ) → rows_of I t ≡ rows_of J t) → I ≡ J
-same_tables [] [] w r = refl
-same_tables [] (y ∷ ys) w r = absurd (cc)
-same_tables (x ∷ xs) [] w r = absurd (cc)
-same_tables (x ∷ xs) (y ∷ ys) w r =
-    let first : x.width ≡ y.width = ap (λ (ns : List ℕ). get_or ns 0 0) w in
-    let rows : x.rows ≡ y.rows = r 0 in
-    let rest : xs ≡ ys = same_tables xs ys (tail_of _ _ _ _ w) (λ t. r (suc t)) in
-    (λ i. record { width = first i; rows = rows i } ∷ rest i)
-  where
-    tail_of : (a b : ℕ) (xs ys : List ℕ) → (a ∷ xs) ≡ (b ∷ ys) → xs ≡ ys
-    tail_of a b xs ys e = cc
 
 -- an instance is sorted to one
 one_sorting : (I A B : List TableRows) → IsSorting I A → IsSorting I B → A ≡ B

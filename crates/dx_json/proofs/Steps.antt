@@ -6,7 +6,7 @@ use Rattle.serde_json.specs.Data.{Data, null, boolean, number, string, array, ob
 use Rattle.serde_json.specs.Find.{as_object, get_member}
 use Rattle.dx_json.specs.View.{view, items_view}
 use Rattle.dx_json.specs.declared.tree.Json.{Json}
-use Rattle.dx_schema.specs.Forest.{Label, Forest, set, Tree, forest_of}
+use Rattle.dx_schema.specs.Forest.{Label, Forest, Tree, forest_of}
 use Rattle.dx_model.specs.declared.facts.Fact.{Fact}
 use Rattle.dx_json.specs.declared.fault.JsonKind.{JsonKind}
 use Rattle.dx_json.specs.declared.fault.JsonKind.TheVariants as kind
@@ -15,6 +15,7 @@ use Rattle.dx_json.specs.declared.fault.JsonFault.TheVariants as fault
 use Rattle.dx_json.specs.declared.place.Place.{Place}
 use Rattle.dx_json.specs.Said.{Said, says, wrong_shape, wrong_number, unknown_member, unknown_members, column_faults, reading_faults, reading_of, below, item_says, items_say, object_says, member_says, sets_say}
 use Rattle.dx_schema.specs.Tables.{count}
+use Rattle.dx_schema.proofs.Numbered.{dropped_here}
 use Rattle.dx_json.specs.Documents.{first_fault, Fails, HasFault, IsDocument, document_says}
 
 -- a fault stays the first, whatever follows
@@ -62,14 +63,8 @@ pub fails_more : (e : JsonFault) (here rest : List Said) → Fails here e → Fa
 fails_more (fault.Bad k) here rest h = first_fault-more k here rest h
 fails_more fault.Memory here rest h = tt
 
--- the sets that are left, from the k-th on
-pub left_at : (ts : List Tree) (k : ℕ) (t : Tree) → k < length ts → t ≡ get_or ts k t → forest_of (drop k ts) ≡ set t.label t.inner (forest_of (drop (k + 1) ts))
-left_at ts k t lt is =
-    let e : drop k ts ≡ t ∷ drop (k + 1) ts = rw add-one (drop-cons ts k t lt ∙ ap (λ x. x ∷ drop (suc k) ts) (sym is)) in
-    ap forest_of e
-
 pub count_at : (ts : List Tree) (k : ℕ) (t : Tree) (inner : Forest) → k < length ts → t ≡ get_or ts k t → inner ≡ t.inner → count (forest_of (drop k ts)) ≡ suc (count inner + count (forest_of (drop (k + 1) ts)))
-count_at ts k t inner lt is same = rw (left_at ts k t lt is, same) refl
+count_at ts k t inner lt is same = rw (dropped_here ts k t lt is, same) refl
 
 -- the members of an array that are left, from the k-th on
 pub items_left : (l : Label) (inner : Forest) (deeper : Place → Members → List Said) (at : Place) (vs : List Json) (k : ℕ) (v : Json) → k < length vs → v ≡ get_or vs k v
@@ -83,7 +78,7 @@ pub sets_left : (at : Place) (ms : Members) (ts : List Tree) (k : ℕ) (t : Tree
     → sets_say (forest_of (drop k ts)) at ms
     ≡ member_says t.label t.inner (sets_say t.inner) (record { table = at.table; up = at.up; path = below at.path t.label.name }) (get_member t.label.name ms)
     ++ sets_say (forest_of (drop (k + 1) ts)) (record { table = suc (at.table + count t.inner); up = at.up; path = at.path }) ms
-sets_left at ms ts k t lt is = ap (λ f. sets_say f at ms) (left_at ts k t lt is)
+sets_left at ms ts k t lt is = ap (λ f. sets_say f at ms) (dropped_here ts k t lt is)
 
 pub none_there : {X : Type 0} (o : Option X) (f : X → Members) (p : Option Members) → ((x : X) → o ≡ Some x → ⊥) → option_map f o ≡ p → None ≡ p
 none_there None f p n e = e

@@ -43,6 +43,7 @@ use Rattle.dx_keys.specs.Answers.{IsChased, IsClash, determination_at, fact_in}
 use Rattle.dx_keys.specs.Numbers.{AreRoots, AreTablesIn, AreValues, CanRead, IsNumbering, IsRead, determination_of, map_of, row_read}
 use Rattle.dx_keys.proofs.Demanding.{AreTablesOf, IsRowChase, IsRowClash, IsRowMap, determination_in, fact_of}
 use Rattle.dx_keys.proofs.Whole.{row_chase}
+use Rattle.dx_keys.proofs.EndsAnswered.{clash_turned}
 
 -- a member stands at a place
 place_of : (xs : List (List ℕ)) (x : List ℕ) → x ∈ xs → (r : ℕ) × (r < length xs) × (get_or xs r [] ≡ x)
@@ -58,23 +59,6 @@ clash_of : (P : Type 0) (Q : ClashAt → Type 0) (o : Option ClashAt) (p : Clash
 clash_of P Q o p e m = subst (λ (z : Option ClashAt). MatchOption z P Q) e m
 
 -- ---- clashes
-
-turned : (schema : List Table) (A : List Fact) (a b : Fact) (d : Determination) (c : ℕ) → IsClashAt schema A a b d c → IsClashAt schema A b a d c
-turned schema A a b d c C = record {
-  break = record {
-    left = C.break.right;
-    right = C.break.left;
-    table = sym C.break.table;
-    of_table = subst (λ (t : ℕ). d ∈ (table_of schema t).determinations) C.break.table C.break.of_table;
-    same = sym C.break.same;
-    column = C.break.column;
-    differ = λ e. C.break.differ (sym e);
-  };
-  one = C.other;
-  other = C.one;
-  left = C.right;
-  right = C.left;
-}
 
 clash_moved : (schema : List Table) (A B : List Fact) (a x b y : Fact) (d f : Determination) (c g : ℕ) → A ≡ B → a ≡ x → b ≡ y → d ≡ f → c ≡ g → IsClashAt schema A a b d c → IsClashAt schema B x y f g
 clash_moved schema A B a x b y d f c g p q r s t C = rw (← p, ← q, ← r, ← s, ← t) C
@@ -211,7 +195,7 @@ module _ (schema : List Table) (I : List TableRows) (S : List Value) (ts : List 
         as_read : IsClashAt schema (after k.steps (facts I)) (fact_in k.table k.left) (fact_in k.table k.right) (determination_at schema k.table k.key) k.column
         as_read = elim Z.rows_are [
           | inl q ↦ clash_moved schema _ _ _ _ _ _ _ _ _ _ refl (ap (fact_in k.table) (sym q.0)) (ap (fact_in k.table) (sym q.1)) refl refl in_order
-          | inr q ↦ clash_moved schema _ _ _ _ _ _ _ _ _ _ refl (ap (fact_in k.table) (sym q.0)) (ap (fact_in k.table) (sym q.1)) refl refl (turned schema _ _ _ _ _ in_order)
+          | inr q ↦ clash_moved schema _ _ _ _ _ _ _ _ _ _ refl (ap (fact_in k.table) (sym q.0)) (ap (fact_in k.table) (sym q.1)) refl refl (clash_turned schema _ _ _ _ _ in_order)
         ]
 
         pub is_answer : IsClash schema (facts I) k

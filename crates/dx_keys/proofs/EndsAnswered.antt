@@ -23,7 +23,7 @@ place_of : {X : Type 0} (d e : X) (ds : List X) → d ∈ ds → (k : ℕ) × (k
 place_of d e ds (here q) = (0, omega arith, q)
 place_of d e (x ∷ ds) (there m) = let w = place_of d e ds m in (suc w.0, omega (arith, w.1), w.2)
 
-clash_turned : (schema : List Table) (B : List Fact) (a b : Fact) (d : Determination) (c : ℕ) → IsClashAt schema B a b d c → IsClashAt schema B b a d c
+pub clash_turned : (schema : List Table) (B : List Fact) (a b : Fact) (d : Determination) (c : ℕ) → IsClashAt schema B a b d c → IsClashAt schema B b a d c
 clash_turned schema B a b d c x = record {
   break = turned schema B a b d c x.break;
   one = x.other;

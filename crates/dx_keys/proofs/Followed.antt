@@ -19,7 +19,8 @@ use Rattle.dx_ports.proofs.Members.{in_map, from_map}
 use Rattle.dx_model.proofs.Maps.{same_null-true, listing, is_null_map, listing_gives, listing_pairs, moved_same}
 use Rattle.dx_model.proofs.Forced.{fact_twice, steps_forced, clash_none}
 use Rattle.dx_model.proofs.Closed.{image_fits}
-use Rattle.dx_keys.proofs.Reached.{from_moved, null_stands, facts_moved, less_then, steps_more, after_more, not_above}
+use Rattle.dx_model.proofs.Orders.{not_above}
+use Rattle.dx_keys.proofs.Reached.{from_moved, null_stands, facts_moved, less_then, steps_more, after_more}
 
 -- h is what the steps make of each null
 pub record Followed (schema : List Table) (A : List Fact) (h : NullId → Value) (ss : List NullPair) : Type 0 where

@@ -4,6 +4,7 @@ use Rattle.std.specs.List.{range_with_len}
 use Rattle.std.specs.declared.cmp.Ordering.TheVariants.{Less, Equal, Greater}
 use Rattle.std.proofs.lemmas.Bool.{cases_eq}
 use Rattle.std.proofs.lemmas.List.{get_or_default, length-map, take_all, take_more}
+use Rattle.std.proofs.lemmas.List.FromFn.{length-range_with_len}
 use Rattle.dx_ports.specs.Members.{◌∈◌, Distinct, Each}
 use Rattle.dx_ports.proofs.Members.{in_map}
 use Rattle.dx_model.specs.declared.values.NullId.{NullId}
@@ -18,7 +19,7 @@ use Rattle.dx_instance.specs.Stored.{TableRows}
 use Rattle.dx_instance.proofs.NumberFacts.{self_equal}
 use Rattle.dx_instance.proofs.SortFacts.{images_fit, parts_rows, ranks_show}
 use Rattle.dx_chase.specs.Joins.{at}
-use Rattle.dx_chase.proofs.Opening.{at_first, length_range}
+use Rattle.dx_chase.proofs.Opening.{at_first}
 use Rattle.dx_keys.specs.Numbers.{AreValues}
 
 -- values that are in order keep their numbers
@@ -26,7 +27,7 @@ pub same_order : (S T : List Value) (ranks : List ℕ) (n : ℕ) → ValuesAscen
 same_order S T ranks n up e m r = rw (e, r, m) (record {
   ascend = up;
   many = refl;
-  ranked = length_range 0 (length S);
+  ranked = length-range_with_len 0 (length S);
   within = λ n h. rw (at_first (length S) n h) h;
   at = λ n h. ap (value_of S) (at_first (length S) n h);
 })

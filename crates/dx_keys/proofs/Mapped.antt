@@ -2,6 +2,7 @@
 use Rattle.std.proofs.Common.{◌≡◌, ℕ, suc, ◌<◌, ◌≤◌, ◌+◌, true, List, [], ◌∷◌, inl, inr, refl, sym, ◌∙◌, ap, length, arith}
 use Rattle.std.specs.Prelude.{map}
 use Rattle.std.proofs.lemmas.Bool.{cases_eq, cases_lt, cases_Bool, eq-eqb, ne_eqb}
+use Rattle.std.proofs.lemmas.List.FromFn.{length-range_with_len}
 use Rattle.dx_ports.specs.Members.{◌∈◌, here, there}
 use Rattle.dx_model.specs.declared.values.NullId.{NullId}
 use Rattle.dx_model.specs.declared.values.Value.{Value}
@@ -15,7 +16,7 @@ use Rattle.dx_model.proofs.Maps.{listing, listing_gives, moved_same, same_null-t
 use Rattle.dx_chase.specs.declared.demands.Demand.{Demand}
 use Rattle.dx_chase.specs.Joins.{at, AreDemands, AllFit}
 use Rattle.dx_chase.specs.Boards.{firsts}
-use Rattle.dx_chase.proofs.Opening.{at_first, length_range}
+use Rattle.dx_chase.proofs.Opening.{at_first}
 use Rattle.dx_keys.specs.Numbers.{AreValues, null_of, pairs_from, map_of}
 use Rattle.dx_keys.proofs.Demanding.{AreDemandsOf, IsFactMap}
 use Rattle.dx_keys.proofs.Followed.{followed_first, followed_forced}
@@ -161,7 +162,7 @@ pub stands_first : (schema : List Table) (S : List Value) (consts : ℕ) (A : Li
 stands_first schema S consts A = record {
   followed = followed_first schema A (facts_same A);
   reads = record {
-    each = length_range 0 (length S);
+    each = length-range_with_len 0 (length S);
     inside = λ i h. rw (at_first (length S) i h) h;
     gives = λ n i h e. sym e ∙ ap (cell S) (sym (at_first (length S) i h));
   };

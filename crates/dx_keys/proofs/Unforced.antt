@@ -1,11 +1,10 @@
 -- Without keys nothing is forced.
-use Rattle.std.proofs.Common.{◌≡◌, ◌∙◌, ℕ, zero, suc, ◌<◌, ◌≤◌, List, [], ◌∷◌, Bool, true, false, refl, sym, ap, subst, inl, inr, arith, length, get_or, take}
-use Rattle.std.specs.Prelude.{◌+◌, map, ◌==◌}
+use Rattle.std.proofs.Common.{◌≡◌, ◌∙◌, ℕ, zero, suc, ◌<◌, List, [], ◌∷◌, refl, sym, ap, subst, inl, inr, length, get_or, take}
+use Rattle.std.specs.Prelude.{◌+◌, map}
 use Rattle.std.specs.FinMap as finite
-use Rattle.std.proofs.lemmas.Bool.{eqb-true, false≢true}
-use Rattle.std.proofs.lemmas.List.{take_more, take_all}
+use Rattle.std.proofs.lemmas.List.{take_more, nil_from_length}
 use Rattle.dx_ports.specs.Members.{◌∈◌, ◌⊆◌, ◌≈◌, here, there, Each}
-use Rattle.dx_ports.proofs.Members.{from_append, from_map, in_at, in_map}
+use Rattle.dx_ports.proofs.Members.{from_append, from_map, in_map}
 use Rattle.dx_model.specs.declared.values.NullId.{NullId}
 use Rattle.dx_model.specs.declared.values.Value.{Value}
 use Rattle.dx_model.specs.declared.values.Value.TheVariants.{Const, Null}
@@ -22,19 +21,15 @@ use Rattle.dx_schema.specs.Tables.{TableOf, as_numbers, model_tables, schema_wid
 use Rattle.dx_instance.specs.NullMaps.{ByNull, pairs_of}
 use Rattle.dx_instance.specs.Stored.{IsSorting, TableRows, facts, widths}
 use Rattle.dx_instance.proofs.LawFacts.{facts_fit}
-use Rattle.dx_instance.proofs.StoredFacts.{fact_from_row, row_from_fact}
+use Rattle.dx_instance.proofs.StoredFacts.{sorted_facts}
 use Rattle.dx_keys.specs.Answers.{IsChased}
 
 -- ---- a map that lists nothing
 
-no_items : {X : Type 0} (xs : List X) → length xs ≡ 0 → xs ≡ []
-no_items [] e = refl
-no_items (x ∷ xs) e = absurd (omega arith)
-
 nothing_listed : pairs_of (finite.empty {X = Value} {R = null_cmp}) ≡ []
 nothing_listed =
     ap (map (λ (e : NullId × Value). record { null = e.0; value = e.1 }))
-    (no_items (finite.entries (finite.empty {X = Value} {R = null_cmp})) (sym (finite.len-entries (finite.empty {X = Value} {R = null_cmp})) ∙ finite.len-empty null_cmp Value))
+    (nil_from_length (finite.entries (finite.empty {X = Value} {R = null_cmp})) (sym (finite.len-entries (finite.empty {X = Value} {R = null_cmp})) ∙ finite.len-empty null_cmp Value))
 
 row_stays : (vs : List Value) → map (moved (given [])) vs ≡ vs
 row_stays [] = refl
@@ -47,12 +42,6 @@ fact_stays f = let e = row_stays f.row in (λ i. record { table = f.table; row =
 facts_stay : (A : List Fact) → image [] A ≡ A
 facts_stay [] = refl
 facts_stay (f ∷ A) = let e = fact_stays f in let r = facts_stay A in (λ i. e i ∷ r i)
-
-sorted_facts : (I K : List TableRows) → IsSorting I K → facts I ≈ facts K
-sorted_facts I K s = (
-  (λ f m. fact_from_row K f.table f.row (s.kept f.table f.row (row_from_fact I f m))),
-  (λ f m. fact_from_row I f.table f.row (s.only f.table f.row (row_from_fact K f m))),
-)
 
 pub unchanged_is_chased : (schema : List Table) (I K : List TableRows) (m : ByNull) → m ≡ finite.empty → IsSorting I K → IsKeyed schema (facts I) → IsChased schema I (record { instance = K; map = m })
 unchanged_is_chased schema I K m e s k =
@@ -86,17 +75,3 @@ each_at_more {X} P xs i d h e p y m = elim (from_append (take i xs) (rw (take_mo
     last : y ∈ (get_or xs i d ∷ []) → P y
     last (here k) = subst P k p
     last (there n) = elim n [ ]
-
-pub each_at : {X : Type 0} (P : X → Type 0) (xs : List X) (i : ℕ) (d : X) → i < length xs → Each xs P → P (get_or xs i d)
-each_at P xs i d h e = e (get_or xs i d) (in_at xs i d h)
-
-pub each_all : {X : Type 0} (P : X → Type 0) (xs : List X) (i : ℕ) → length xs ≤ i → Each (take i xs) P → Each xs P
-each_all P xs i h e x m = e x (rw (take_all i xs h) m)
-
-pub is_empty : {X : Type 0} (xs : List X) (b : Bool) → b ≡ (length xs == 0) → b ≡ true → xs ≡ []
-is_empty [] b e h = refl
-is_empty (x ∷ xs) b e h = let k = eqb-true (length (x ∷ xs)) 0 (sym e ∙ h) in absurd (omega (arith, k))
-
-pub not_empty : {X : Type 0} (xs : List X) (b : Bool) → b ≡ (length xs == 0) → b ≡ false → ¬ (xs ≡ [])
-not_empty [] b e h = λ k. false≢true (sym h ∙ e)
-not_empty (x ∷ xs) b e h = λ k. cc k

@@ -1,8 +1,8 @@
 -- Lines without a fault fit the two schemas, and their conversions are listed.
-use Rattle.std.proofs.Common.{◌≡◌, ℕ, suc, ◌<◌, ◌≤◌, take, List, [], ◌∷◌, Option, Some, None, Bool, true, false, cond, length, map, refl, sym, ap, ◌∙◌, subst}
+use Rattle.std.proofs.Common.{◌≡◌, ℕ, ◌<◌, ◌≤◌, take, List, [], Option, Some, None, Bool, true, false, cond, length, map, refl, sym, ap, ◌∙◌, subst}
 use Rattle.std.specs.Prelude.{eqb}
 use Rattle.std.proofs.lemmas.Bool.{eqb-true}
-use Rattle.std.proofs.lemmas.List.{get_or-map, take_all}
+use Rattle.std.proofs.lemmas.List.{get_or-map, take_all, length-map}
 use Rattle.dx_ports.specs.Members.{here, there, Each}
 use Rattle.dx_ports.proofs.Members.{from_map}
 use Rattle.dx_model.specs.Tables.{table_of}
@@ -27,19 +27,15 @@ use Rattle.dx_funcs.proofs.Named.{found_listed}
 
 -- ---- places
 
-len_map : {X Y : Type 0} (f : X → Y) (xs : List X) → length (map f xs) ≡ length xs
-len_map f [] = refl
-len_map f (x ∷ xs) = ap suc (len_map f xs)
-
 -- the numbers of a set and a column that are there
 is_column : (f : Forest) (p : PlaceText) → is_among p.set (set_names f) ≡ true → is_among p.column (columns_in f p.set) ≡ true → IsColumn (model_tables f) (place_of f p)
 is_column f p set_there column_there =
     let t = set_number f p.set in
-    let lt : t < length (tables_of f) = rw (← len_map (λ (t : TableOf). t.name) (tables_of f)) (among_number p.set (set_names f) set_there) in
+    let lt : t < length (tables_of f) = rw (← length-map (tables_of f) (λ (t : TableOf). t.name)) (among_number p.set (set_names f) set_there) in
     let width : (table_of (model_tables f) t).width ≡ length (table_at f t).columns =
     ap (λ n. n.width) (get_or-map as_numbers (tables_of f) t (record { name = []; columns = []; keys = []; links = []; parent = None; inner = [] }) (record { width = 0; determinations = []; links = []; optional = [] }) lt) in
     record {
-      table = rw (len_map as_numbers (tables_of f)) lt;
+      table = rw (length-map (tables_of f) as_numbers) lt;
       column = rw width (among_number p.column (columns_in f p.set) column_there);
     }
 
@@ -83,7 +79,7 @@ source_offered f list (sources.Column p) h = tt
 source_offered f list (sources.Literal t) h = tt
 source_offered f list (sources.Call name place args) h =
     let r = call_fine f (first_named list name) place args h in
-    (r.0, found_listed list name r.0 r.1, ap code_of (sym r.1), r.2 ∙ sym (len_map (place_of f) args))
+    (r.0, found_listed list name r.0 r.1, ap code_of (sym r.1), r.2 ∙ sym (length-map args (place_of f)))
 
 -- ---- lines
 

@@ -1,15 +1,14 @@
 -- What is looked up by a name is the first of that name.
 use Rattle.std.proofs.Common.{◌≡◌, ℕ, zero, suc, ◌<◌, List, [], ◌∷◌, Some, None, Bool, true, false, cond, length, map, get_or, refl, sym, ap, ◌∙◌, arith, nat_eq}
-use Rattle.std.specs.Prelude.{◌||◌}
 use Rattle.std.specs.Cmp.Lexicographic.{pointwise, same_text, other_text}
 use Rattle.std.proofs.lemmas.List.{get_or-map}
-use Rattle.dx_ports.specs.Members.{◌∈◌, here, there, Distinct}
+use Rattle.dx_ports.specs.Members.{◌∈◌, Distinct}
 use Rattle.dx_ports.proofs.Members.{in_at, in_map}
 use Rattle.dx_schema.specs.Forest.{Forest}
 use Rattle.dx_schema.specs.Tables.{Text, TableOf, tables_of, table_at, number_of, AreTables}
 use Rattle.dx_schema.specs.Faults.{is_among}
 use Rattle.dx_schema.proofs.Facts.{is_table}
-use Rattle.dx_schema.proofs.Valid.{among_in}
+use Rattle.dx_schema.proofs.Valid.{among_in, in_among}
 use Rattle.dx_tokens.specs.declared.faults.TextFault.TheVariants.{At}
 use Rattle.dx_tokens.specs.declared.faults.TextKind.TheVariants.{UnknownName}
 use Rattle.dx_schema_text.specs.declared.texts.PlaceText.{PlaceText}
@@ -26,20 +25,6 @@ not_found x xs no_member = go (is_among x xs) refl
     go : (b : Bool) → is_among x xs ≡ b → is_among x xs ≡ false
     go true e = absurd (no_member (among_in x xs e))
     go false e = e
-
--- a name that is there is found
-pub is_found : (x : Text) (xs : List Text) → x ∈ xs → is_among x xs ≡ true
-is_found x [] m = elim m [ ]
-is_found x (y ∷ ys) (here e) = go (pointwise nat_eq y x) refl
-  where
-    go : (b : Bool) → pointwise nat_eq y x ≡ b → (b || is_among x ys) ≡ true
-    go true s = refl
-    go false s = absurd (other_text y x (sym s) e)
-is_found x (y ∷ ys) (there m) = go (pointwise nat_eq y x) (is_found x ys m)
-  where
-    go : (b : Bool) → is_among x ys ≡ true → (b || is_among x ys) ≡ true
-    go true h = refl
-    go false h = h
 
 -- among distinct names the number of a name is its place
 pub number_is : (xs : List Text) (n : ℕ) (x : Text) → Distinct xs → n < length xs → get_or xs n [] ≡ x → number_of x xs ≡ n
@@ -67,8 +52,8 @@ set_is f t x a lt is =
     number_is (set_names f) t x a.distinct_names (rw (len_names (tables_of f)) lt) (get_or-map (λ (t : TableOf). t.name) (tables_of f) t _ [] lt ∙ is)
 
 -- a set of this name is there
-set_among : (f : Forest) (t : ℕ) (x : Text) → t < length (tables_of f) → (table_at f t).name ≡ x → is_among x (set_names f) ≡ true
-set_among f t x lt is = is_found x (set_names f) (rw (← is) (in_map (λ (t : TableOf). t.name) (in_at (tables_of f) t _ lt)))
+pub set_among : (f : Forest) (t : ℕ) (x : Text) → t < length (tables_of f) → (table_at f t).name ≡ x → is_among x (set_names f) ≡ true
+set_among f t x lt is = in_among x (set_names f) (rw (← is) (in_map (λ (t : TableOf). t.name) (in_at (tables_of f) t _ lt)))
 
 -- and its columns are those of that table
 columns_are : (f : Forest) (t : ℕ) (x : Text) → AreTables (tables_of f) → t < length (tables_of f) → (table_at f t).name ≡ x → columns_in f x ≡ (table_at f t).columns
@@ -93,7 +78,7 @@ pub place_found : (f : Forest) (p : PlaceText) (t c : ℕ) → AreTables (tables
     → (record { table = t; column = c } ≡ place_of f p) × (place_fault f p ≡ None)
 place_found f p t c a lt is within at =
     let number : number_of p.column (table_at f t).columns ≡ c = number_is (table_at f t).columns c p.column (is_table (tables_of f) t _ a lt).distinct_columns within at in
-    let among : is_among p.column (table_at f t).columns ≡ true = is_found p.column (table_at f t).columns (rw (← at) (in_at (table_at f t).columns c [] within)) in
+    let among : is_among p.column (table_at f t).columns ≡ true = in_among p.column (table_at f t).columns (rw (← at) (in_at (table_at f t).columns c [] within)) in
     let columns : columns_in f p.set ≡ (table_at f t).columns = columns_are f t p.set a lt is in (
       same_place t c (set_number f p.set) (number_of p.column (columns_in f p.set)) (set_is f t p.set a lt is) (ap (number_of p.column) columns ∙ number),
       rw (set_among f t p.set lt is) (ap (λ columns. name_fault columns p.column p.column_place) columns ∙ rw among refl),

@@ -7,7 +7,8 @@ use Rattle.dx_ports.proofs.Members.{in_at}
 use Rattle.dx_model.specs.declared.tables.Link.{Link}
 use Rattle.dx_model.specs.Tables.{Table, table_of}
 use Rattle.dx_schema.specs.Forest.{Forest}
-use Rattle.dx_schema.specs.Tables.{TableOf, tables_of, table_at, model_tables, as_numbers, AreTables, IsTable, IsLink}
+use Rattle.dx_schema.specs.Tables.{TableOf, tables_of, table_at, model_tables, as_numbers, AreTables, IsLink}
+use Rattle.dx_schema.proofs.Facts.{is_table}
 use Rattle.dx_logical.specs.declared.relation.Occurrence.{Occurrence}
 use Rattle.dx_logical.specs.declared.relation.Relation.{Relation}
 use Rattle.dx_logical.specs.Filled.{fresh_below}
@@ -63,9 +64,6 @@ columns_of-get : (tables : List TableOf) (t : ℕ) (d : TableOf) → t < length 
 columns_of-get [] t d h = absurd (omega arith)
 columns_of-get (x ∷ xs) zero d h = refl
 columns_of-get (x ∷ xs) (suc t) d h = columns_of-get xs t d (omega arith)
-
-pub is_table : (tables : List TableOf) (t : ℕ) (d : TableOf) → AreTables tables → t < length tables → IsTable tables (get_or tables t d)
-is_table tables t d a h = a.each_table (get_or tables t d) (in_at tables t d h)
 
 -- the k-th link of a table is a link
 pub is_link : (tables : List TableOf) (t : ℕ) (d : TableOf) (ls : List Link) (k : ℕ) (l : Link) → AreTables tables → t < length tables

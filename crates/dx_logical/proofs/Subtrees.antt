@@ -22,7 +22,7 @@ pub record IsNested (r : Relation) : Type 0 where
 abbrev IsOpen : Relation → ℕ → Type 0
 IsOpen r p = (n : ℕ) → p < n → n < length r.occurrences → ComesFrom r p n
 
-comes_further : (r : Relation) (p m q : ℕ) → ComesFrom r p m → ComesFrom r m q → ComesFrom r p q
+pub comes_further : (r : Relation) (p m q : ℕ) → ComesFrom r p m → ComesFrom r m q → ComesFrom r p q
 comes_further r p m q a itself = a
 comes_further r p m q a (after {m = u} e c) = after e (comes_further r p m u a c)
 

@@ -13,6 +13,7 @@ use Rattle.dx_model.specs.declared.rules.Derived.{Derived}
 use Rattle.dx_model.specs.declared.rules.Rule.{Rule}
 use Rattle.dx_ports.specs.Members.{◌∈◌, ◌⊆◌, here, there, Each}
 use Rattle.dx_ports.proofs.Members.{from_append, in_map, in_flat_map, from_flat_map}
+use Rattle.dx_ports.proofs.Tests.{from_filter}
 use Rattle.dx_model.specs.Values.{Text, Conversions}
 use Rattle.dx_model.specs.Instances.{values}
 use Rattle.dx_model.specs.Rules.{cell_value, said, cells_of, existential_in, existentials, canonical}
@@ -20,14 +21,13 @@ use Rattle.dx_model.specs.Fitting.{IsRule}
 use Rattle.dx_model.specs.Following.{frozen, frozen_text, IsClean, are_none, underived, CanGo, PrunedAfter}
 use Rattle.dx_model.specs.Laws.{FollowsIsDecided, PrunedExists}
 use Rattle.dx_model.proofs.Decided.{same_fact, decide_in}
-use Rattle.dx_model.proofs.Lists.{from_filter}
 use Rattle.dx_model.proofs.RowsExist.{rows_of_all_exist}
 use Rattle.dx_model.proofs.Frozen.{follows_by_prefix}
 use Rattle.dx_model.proofs.Pruning.{part_after}
 
 -- ---- values for existential variables
 
-cells_with : (texts : ℕ → Text) (u v : ℕ → Value) (cs : List Cell) → ((x : ℕ) → Ex x ∈ cs → u x ≡ v x) → map (cell_value texts u) cs ≡ map (cell_value texts v) cs
+pub cells_with : (texts : ℕ → Text) (u v : ℕ → Value) (cs : List Cell) → ((x : ℕ) → Ex x ∈ cs → u x ≡ v x) → map (cell_value texts u) cs ≡ map (cell_value texts v) cs
 cells_with texts u v [] s = refl
 cells_with texts u v (Var x ∷ cs) s = let r = cells_with texts u v cs (λ y m. s y (there m)) in cc
 cells_with texts u v (Ex x ∷ cs) s = let e = s x (here refl) in let r = cells_with texts u v cs (λ y m. s y (there m)) in cc
@@ -36,7 +36,7 @@ cells_with texts u v (Lit t ∷ cs) s = let r = cells_with texts u v cs (λ y m.
 said_with : (texts : ℕ → Text) (u v : ℕ → Value) (a : Atom) → ((x : ℕ) → Ex x ∈ a.cells → u x ≡ v x) → said texts u a ≡ said texts v a
 said_with texts u v a s = let e = cells_with texts u v a.cells s in (λ i. record { table = a.table; row = e i })
 
-from_existential : (v : ℕ) (c : Cell) → v ∈ existential_in c → c ≡ Ex v
+pub from_existential : (v : ℕ) (c : Cell) → v ∈ existential_in c → c ≡ Ex v
 from_existential v (Var x) m = elim m [ ]
 from_existential v (Ex x) (here e) = ap Ex e
 from_existential v (Ex x) (there m) = elim m [ ]
@@ -202,7 +202,7 @@ follows_is_decided convert R d each =
     let tells = follows_by_prefix convert prefix R d rows.0 (λ r m. ((each r m).0, (each r m).1, clean (d ∷ R) r m)) rows.1 in
     elim (values_found (frozen_text prefix) d.conclusion (canonical 0 R rows.0)) [ inl h ↦ inl (tells.1 h) | inr n ↦ inr (λ f. n (tells.0 f)) ]
 
-none_derived : (ds : List Derived) → are_none ds ≡ true → ds ≡ []
+pub none_derived : (ds : List Derived) → are_none ds ≡ true → ds ≡ []
 none_derived [] e = refl
 none_derived (d ∷ ds) e = absurd (cc)
 

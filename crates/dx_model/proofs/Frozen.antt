@@ -98,7 +98,7 @@ follows_by_frozen convert freeze thaw R d rows back dp p a = (
 -- ---- a prefix and digits
 
 -- there are no more variables than places at which they are numbered
-few_numbered : (n m : ℕ) (xs : List ℕ) → Numbered n xs m → m ≤ n + length xs
+pub few_numbered : (n m : ℕ) (xs : List ℕ) → Numbered n xs m → m ≤ n + length xs
 few_numbered n m [] e = omega (arith, e)
 few_numbered n m (x ∷ xs) (inl (l, r)) = let i = few_numbered n m xs r in omega (arith, i)
 few_numbered n m (x ∷ xs) (inr (e, r)) = let i = few_numbered (suc n) m xs r in omega (arith, i)
@@ -108,7 +108,7 @@ few_in_cell (Var x) = omega arith
 few_in_cell (Ex v) = omega arith
 few_in_cell (Lit t) = omega arith
 
-few_in_cells : (cs : List Cell) → length (flat_map variable_in cs) ≤ length cs
+pub few_in_cells : (cs : List Cell) → length (flat_map variable_in cs) ≤ length cs
 few_in_cells [] = omega arith
 few_in_cells (c ∷ cs) = let a = few_in_cell c in let b = few_in_cells cs in let e = length-append (variable_in c) (flat_map variable_in cs) in omega (arith, a, b, e)
 

@@ -24,3 +24,4 @@ pub mod Joining
 pub mod ByMembers
 pub mod Deciding
 mod CoverExamples
+pub mod Cells

@@ -12,6 +12,7 @@ use Rattle.dx_model.specs.declared.rules.Atom.{Atom}
 use Rattle.dx_model.specs.declared.rules.Rule.{Rule}
 use Rattle.dx_ports.specs.Members.{◌∈◌, ◌⊆◌, here, there, Each}
 use Rattle.dx_ports.proofs.Members.{in_left, in_right, from_append, from_flat_map}
+use Rattle.dx_ports.proofs.Tests.{from_filter}
 use Rattle.dx_model.specs.Values.{Text, Conversions}
 use Rattle.dx_model.specs.Instances.{HoldsConstants}
 use Rattle.dx_model.specs.Tables.{Table, table_of, FactFits}
@@ -19,13 +20,12 @@ use Rattle.dx_model.specs.Rules.{cell_value, said, premise_fact, Satisfies}
 use Rattle.dx_model.specs.Solutions.{AtomFits}
 use Rattle.dx_model.specs.Following.{SatisfyAll, Implies, are_none, CanGo, PrunedAfter}
 use Rattle.dx_model.specs.Laws.{ImpliesEach, OnePruned, PrunedImplies, FollowsInSchemas}
-use Rattle.dx_model.proofs.Lists.{from_filter}
 use Rattle.dx_model.proofs.RowsExist.{match_of}
 
 pub implies_each : ImpliesEach
 implies_each convert P Q = ((λ h d m I K s. h I K s d m), (λ h I K s d m. h d m I K s))
 
-one_after : (convert : Conversions) (front R P Q : List Rule) → PrunedAfter convert front R P → PrunedAfter convert front R Q → P ≡ Q
+pub one_after : (convert : Conversions) (front R P Q : List Rule) → PrunedAfter convert front R P → PrunedAfter convert front R Q → P ≡ Q
 one_after convert front [] P Q p q = p ∙ sym q
 one_after convert front (d ∷ R) P Q p q = go (one_after convert (front ++ d ∷ []) R p.0 q.0 p.1 q.1) p.2 q.2
   where

@@ -14,6 +14,7 @@ use Rattle.dx_model.specs.declared.rules.Derived.{Derived}
 use Rattle.dx_model.specs.declared.rules.Rule.{Rule}
 use Rattle.dx_ports.specs.Members.{◌∈◌, ◌⊆◌, here, there, Each}
 use Rattle.dx_ports.proofs.Members.{in_map, from_map, in_right, in_flat_map, from_flat_map}
+use Rattle.dx_ports.proofs.Tests.{map_same}
 use Rattle.dx_model.specs.Values.{Text, Tuple, Conversions, tuple_cmp}
 use Rattle.dx_model.specs.Tables.{AreWithin}
 use Rattle.dx_model.specs.Rules.{cell_value, premise_fact, after_cells, cells_of, Derive, IsMatch, exported, text_of}
@@ -24,7 +25,7 @@ use Rattle.dx_model.proofs.Orders.{tuple_total, tuple_exact}
 use Rattle.dx_model.proofs.Ascending.{one_ascending, in_order, in_order_ascends, in_in_order, from_in_order}
 use Rattle.dx_model.proofs.Canonical.{in_variables, from_variables, text_of-map}
 use Rattle.dx_model.proofs.Universal.{said_same}
-use Rattle.dx_model.proofs.Lists.{from_below}
+use Rattle.dx_model.proofs.Lists.{from_below, length_below}
 use Rattle.dx_model.proofs.Decided.{same_fact, decide_in}
 
 -- ---- at most one list
@@ -61,17 +62,9 @@ read_back [] vs n i e = let d : n ≡ i = omega arith in ap (read vs) d
 read_back (u ∷ us) vs zero i e = absurd (omega arith)
 read_back (u ∷ us) vs (suc n) i e = read_back us vs n i (omega arith)
 
-map_same : {X Y : Type 0} (f g : X → Y) (xs : List X) → ((x : X) → x ∈ xs → f x ≡ g x) → map f xs ≡ map g xs
-map_same f g [] s = refl
-map_same f g (x ∷ xs) s = let e = s x (here refl) in let r = map_same f g xs (λ y m. s y (there m)) in cc
-
 -- the first n texts, as a list
 abbrev front : (ℕ → Text) → ℕ → Tuple
 front texts n = map texts (below n)
-
-length_below : (n : ℕ) → length (below n) ≡ n
-length_below zero = refl
-length_below (suc n) = let e = length_below n in let a = length-append (below n) (n ∷ []) in omega (arith, e, a)
 
 length_front : (texts : ℕ → Text) (n : ℕ) → length (front texts n) ≡ n
 length_front texts n = length-map (below n) texts ∙ length_below n
@@ -172,7 +165,7 @@ appears n m (y ∷ ys) (inr (e, r)) x a b = elim (cases_order x n) [
   | inr o ↦ elim o [ inl k ↦ absurd (omega (arith, a, k)) | inr k ↦ there (appears (suc n) m ys r x (omega (arith, k)) b) ]
 ]
 
-from_variable : (x : ℕ) (c : Cell) → x ∈ variable_in c → c ≡ Var x
+pub from_variable : (x : ℕ) (c : Cell) → x ∈ variable_in c → c ≡ Var x
 from_variable x (Var y) (here e) = ap Var e
 from_variable x (Var y) (there m) = elim m [ ]
 from_variable x (Ex v) m = elim m [ ]

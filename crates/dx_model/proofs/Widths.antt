@@ -29,7 +29,7 @@ fits_by_widths schema a = (
   (λ e. let r = get_width schema a.table (length a.cells) e in record { table = r.0; width = r.1 }),
 )
 
-in_get : (ws : List ℕ) (i w : ℕ) → slice_get ws i ≡ Some w → w ∈ ws
+pub in_get : (ws : List ℕ) (i w : ℕ) → slice_get ws i ≡ Some w → w ∈ ws
 in_get [] i w e = absurd (cc)
 in_get (v ∷ ws) zero w e = let d : v ≡ w = cc in here d
 in_get (v ∷ ws) (suc i) w e = there (in_get ws i w e)

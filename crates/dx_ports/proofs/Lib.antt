@@ -7,3 +7,4 @@ pub mod Tests
 pub mod Firsts
 mod Buffers
 mod LimitExamples
+pub mod Lists

@@ -1,7 +1,8 @@
 -- Members of lists.
-use Rattle.std.proofs.Common.{◌≡◌, ℕ, zero, suc, ◌<◌, List, [], ◌∷◌, ◌++◌, ◌⊎◌, inl, inr, refl, ap, subst, arith, length, get_or, Contains}
+use Rattle.std.proofs.Common.{◌≡◌, ℕ, zero, suc, ◌<◌, List, [], ◌∷◌, ◌++◌, ◌⊎◌, inl, inr, refl, ap, subst, arith, length, get_or, Contains, ◌≤◌, take, sym, ◌∙◌}
 use Rattle.std.specs.Prelude.{map, flat_map}
-use Rattle.dx_ports.specs.Members.{◌∈◌, ◌≈◌, Each, here, there}
+use Rattle.std.proofs.lemmas.List.{take_all}
+use Rattle.dx_ports.specs.Members.{◌∈◌, ◌≈◌, Each, here, there, Distinct, ◌⊆◌}
 
 pub in_map : {X Y : Type 0} (f : X → Y) {x : X} {xs : List X} → x ∈ xs → f x ∈ map f xs
 in_map f (here e) = here (ap f e)
@@ -90,3 +91,62 @@ same_map f {A} {B} s = (
 -- what each member of one has, each member of the other has
 pub same_each : {X : Type 0} {A B : List X} (P : X → Type 0) → A ≈ B → Each A P → Each B P
 same_each P s e = λ x m. e x (s.1 x m)
+
+-- an item of a list is its member
+pub item_in : {X : Type 0} (xs : List X) (i : ℕ) (x : X) → i < length xs → x ≡ get_or xs i x → x ∈ xs
+item_in xs i x h e = rw e (in_at xs i x h)
+
+pub only_one : (n c k : ℕ) → k ∈ (c ∷ []) → c < n → k < n
+only_one n c k (here e) h = rw (← e) h
+only_one n c k (there m) h = elim m [ ]
+
+pub each_at : {X : Type 0} (P : X → Type 0) (xs : List X) (i : ℕ) (d : X) → i < length xs → Each xs P → P (get_or xs i d)
+each_at P xs i d h e = e (get_or xs i d) (in_at xs i d h)
+
+pub each_all : {X : Type 0} (P : X → Type 0) (xs : List X) (i : ℕ) → length xs ≤ i → Each (take i xs) P → Each xs P
+each_all P xs i h e x m = e x (rw (take_all i xs h) m)
+
+pub each_cons : {X : Type 0} {P : X → Type 0} (x : X) (xs : List X) → P x → Each xs P → Each (x ∷ xs) P
+each_cons {X} {P} x xs p each y (here e) = subst P e p
+each_cons x xs p each y (there m) = each y m
+
+-- a list with a new member at its end is distinct
+pub distinct_more : {X : Type 0} (xs : List X) (x : X) → Distinct xs → ¬ (x ∈ xs) → Distinct (xs ++ x ∷ [])
+distinct_more [] x d n = ((λ m. elim m [ ]), tt)
+distinct_more (y ∷ ys) x d n = (first, distinct_more ys x d.1 (λ m. n (there m)))
+  where
+    last : y ∈ (x ∷ []) → ⊥
+    last (here e) = n (here (sym e))
+    last (there m) = elim m [ ]
+
+    first : ¬ (y ∈ (ys ++ x ∷ []))
+    first m = elim (from_append ys m) [ inl l ↦ d.0 l | inr r ↦ last r ]
+
+-- a list with a member taken out has all others
+pub take_out : {X : Type 0} {x : X} (ys : List X) → x ∈ ys → (zs : List X) × (length ys ≡ suc (length zs)) × ((z : X) → z ∈ ys → ¬ (z ≡ x) → z ∈ zs)
+take_out [] m = elim m [ ]
+take_out {X} {x} (y ∷ ys) (here e) = (ys, refl, others)
+  where
+    others : (z : X) → z ∈ (y ∷ ys) → ¬ (z ≡ x) → z ∈ ys
+    others z (here f) d = absurd (d (sym f ∙ e))
+    others z (there n) d = n
+take_out {X} {x} (y ∷ ys) (there m) = let r = take_out ys m in (y ∷ r.0, ap suc r.1, others r.0 r.2)
+  where
+    others : (zs : List X) → ((z : X) → z ∈ ys → ¬ (z ≡ x) → z ∈ zs) → (z : X) → z ∈ (y ∷ ys) → ¬ (z ≡ x) → z ∈ (y ∷ zs)
+    others zs f z (here e) d = here e
+    others zs f z (there n) d = there (f z n d)
+
+-- what has no repetitions is no longer than what has all its members
+pub no_longer : {X : Type 0} (xs ys : List X) → Distinct xs → xs ⊆ ys → length xs ≤ length ys
+no_longer [] ys d s = omega arith
+no_longer {X} (x ∷ xs) ys d s =
+    let r = take_out ys (s x (here refl)) in
+    let i = no_longer xs r.0 d.1 (λ y m. r.2 y (s y (there m)) (λ e. d.0 (rw e at m))) in
+    omega (arith, i, r.1)
+
+-- what is in a list with one more at its end
+pub at_last : (xs : List ℕ) (y i : ℕ) → i ∈ (xs ++ y ∷ []) → (i ∈ xs) ⊎ (y ≡ i)
+at_last [] y i (here e) = inr e
+at_last [] y i (there m) = elim m [ ]
+at_last (x ∷ xs) y i (here e) = inl (here e)
+at_last (x ∷ xs) y i (there m) = elim (at_last xs y i m) [ inl l ↦ inl (there l) | inr e ↦ inr e ]

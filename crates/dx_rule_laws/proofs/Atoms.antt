@@ -1,6 +1,5 @@
 -- The atoms of a printed rule are read as they were.
-use Rattle.std.proofs.Common.{◌≡◌, ℕ, suc, ◌<◌, List, [], ◌∷◌, ◌++◌, Option, None, map, length, refl, sym, ap, ◌∙◌}
-use Rattle.std.proofs.lemmas.List.{get_or-map, length-map}
+use Rattle.std.proofs.Common.{◌≡◌, ℕ, suc, List, [], ◌∷◌, ◌++◌, Option, None, map, length, refl, sym, ap, ◌∙◌}
 use Rattle.dx_ports.specs.Members.{here, there, Each}
 use Rattle.dx_ports.proofs.Members.{in_left, in_right}
 use Rattle.dx_ports.specs.Firsts.{first_of}
@@ -9,7 +8,8 @@ use Rattle.dx_model.specs.declared.rules.Atom.{Atom}
 use Rattle.dx_model.specs.Rules.{cells_of}
 use Rattle.dx_model.specs.Solutions.{AtomFits}
 use Rattle.dx_schema.specs.Forest.{Forest}
-use Rattle.dx_schema.specs.Tables.{Text, AreTables, as_numbers, model_tables, tables_of, table_at}
+use Rattle.dx_schema.specs.Tables.{Text, AreTables, model_tables, tables_of}
+use Rattle.dx_schema.proofs.Facts.{atom_table, atom_width}
 use Rattle.dx_tokens.specs.declared.faults.TextFault.{TextFault}
 use Rattle.dx_schema_text.specs.declared.texts.AtomText.{AtomText}
 use Rattle.dx_rule_text.specs.Printed.{table_name}
@@ -24,13 +24,6 @@ paired_length R [] (y ∷ ys) h = elim h [ ]
 paired_length R (x ∷ xs) [] h = elim h [ ]
 paired_length R (x ∷ xs) (y ∷ ys) (one_pair r h) = ap suc (paired_length R xs ys h)
 
--- the table of a fitting atom, and its width
-pub fits_table : (f : Forest) (a : Atom) → AtomFits (model_tables f) a → a.table < length (tables_of f)
-fits_table f a fits = let k = length-map (tables_of f) as_numbers in rw (← k) fits.table
-
-pub fits_width : (f : Forest) (a : Atom) → AtomFits (model_tables f) a → length a.cells ≡ length (table_at f a.table).columns
-fits_width f a fits = fits.width ∙ ap (λ n. n.width) (get_or-map as_numbers (tables_of f) a.table _ _ (fits_table f a fits))
-
 -- an atom has no fault, and is read as it was
 pub record IsAtomBack (f : Forest) (known fresh : List Text) (a : Atom) (t : AtomText) : Type 0 where
   pub no_fault : atom_fault f t ≡ None
@@ -38,7 +31,7 @@ pub record IsAtomBack (f : Forest) (known fresh : List Text) (a : Atom) (t : Ato
 
 atom_back : (f : Forest) (known fresh : List Text) (a : Atom) (t : AtomText) → AreTables (tables_of f) → AtomFits (model_tables f) a → SaysAtom (table_name f) a t → HaveNumbers known fresh a.cells → IsAtomBack f known fresh a t
 atom_back f known fresh a t tables fits s h =
-    let found = set_found f t a.table tables (fits_table f a fits) (sym s.set) (paired_length SaysCell a.cells t.cells s.cells ∙ fits_width f a fits) in
+    let found = set_found f t a.table tables (atom_table f a fits) (sym s.set) (paired_length SaysCell a.cells t.cells s.cells ∙ atom_width f a fits) in
     record {
       no_fault = found.1;
       same = ap (λ (n : ℕ). record { table = n; cells = map (cell_of known fresh) t.cells }) (sym found.0)

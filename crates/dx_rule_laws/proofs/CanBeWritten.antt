@@ -13,6 +13,7 @@ use Rattle.dx_model.specs.Solutions.{AtomFits}
 use Rattle.dx_model.specs.Fitting.{IsVariable, variable_in, premise_variables, IsRule, RuleFits}
 use Rattle.dx_schema.specs.Forest.{Forest}
 use Rattle.dx_schema.specs.Tables.{AreTables, model_tables, tables_of, table_at}
+use Rattle.dx_schema.proofs.Facts.{atom_table, atom_width}
 use Rattle.dx_schema_text.specs.Spelling.{SpellsRule}
 use Rattle.dx_schema_text.proofs.PrintScans.{Reads, ReadsAll, reads_all}
 use Rattle.dx_funcs.specs.declared.conversion.Conversion.{Conversion}
@@ -25,14 +26,13 @@ use Rattle.dx_rule_laws.specs.Laws.{PrintedRulesAreRead}
 use Rattle.dx_rule_laws.proofs.Says.{Counted, counted, SaysRule}
 use Rattle.dx_rule_laws.proofs.Spelled.{Spelled, CanStand, CanBeAtom, CanBeDerived, CanBeRule, rule_read}
 use Rattle.dx_rule_laws.proofs.Runs.{numbered_below}
-use Rattle.dx_rule_laws.proofs.Atoms.{fits_table, fits_width}
 use Rattle.dx_rule_laws.proofs.ReadBack.{variables_below, existentials_below, rule_back}
 
 -- the atom has a cell, since its table has a column
 some_cell : (f : Forest) (a : Atom) → AreTables (tables_of f) → AtomFits (model_tables f) a → 0 < length a.cells
 some_cell f a tables fits =
-    let column = (tables.each_table (table_at f a.table) (in_at (tables_of f) a.table _ (fits_table f a fits))).some_column in
-    let width = fits_width f a fits in
+    let column = (tables.each_table (table_at f a.table) (in_at (tables_of f) a.table _ (atom_table f a fits))).some_column in
+    let width = atom_width f a fits in
     omega (arith, column, width)
 
 premise_can : (source target : Forest) (list : List Conversion) (d : Rule) → AreTables (tables_of source) → RuleFits (model_tables source) (model_tables target) d → HasNamedTables source target d → Each d.premise (CanBeAtom false (table_name source))

@@ -1,6 +1,5 @@
 -- The rules that the lines of a mapping text stand for can be written.
-use Rattle.std.proofs.Common.{◌≡◌, ℕ, Bool, true, false, List, [], ◌∷◌, ◌++◌, Option, Some, None, cond, eqb, map, flat_map, refl, sym, ap, ◌∙◌, subst}
-use Rattle.std.specs.Prelude.{not}
+use Rattle.std.proofs.Common.{◌≡◌, ℕ, Bool, true, false, List, [], ◌∷◌, ◌++◌, Option, Some, None, cond, map, flat_map, refl, sym, ap, ◌∙◌, subst}
 use Rattle.dx_ports.specs.Members.{◌∈◌, here, there, Each}
 use Rattle.dx_ports.proofs.Members.{from_map, from_flat_map, in_left, in_right}
 use Rattle.dx_ports.proofs.Firsts.{two_none, each_none}
@@ -21,6 +20,7 @@ use Rattle.dx_schema_text.specs.declared.texts.MappingText.{MappingText}
 use Rattle.dx_schema_text.specs.declared.mapping.ItemText.{ItemText}
 use Rattle.dx_schema_text.specs.Reading.{lines_among}
 use Rattle.dx_schema_text.specs.Spelling.{SpellsSource, a_literal, a_column, a_call, SpellsLine, line_of, SpellsItem, a_line, a_rule, SpellsMapping, mapping_of}
+use Rattle.dx_schema_text.proofs.SpelledWords.{kind_word}
 use Rattle.dx_logical.specs.declared.relation.Occurrence.{Occurrence}
 use Rattle.dx_logical.specs.declared.relation.Relation.{Relation}
 use Rattle.dx_logical.specs.Unfolding.{unfolding_of}
@@ -34,15 +34,16 @@ use Rattle.dx_lines.specs.declared.term.Term.{Term}
 use Rattle.dx_lines.specs.declared.term.Term.TheVariants.{Var, Call}
 use Rattle.dx_lines.specs.declared.candidate.Pick.{Pick}
 use Rattle.dx_lines.specs.Ways.{ways}
-use Rattle.dx_lines.specs.Rules.{atom_by, cell_by, cell_for, conversion_in, conversions, derived_by, left_over, literal_of, once, or_else, picked, reaches, rule_by, same_term, standing, text_of}
-use Rattle.dx_lines.proofs.Sources.{from_kept, in_whole}
+use Rattle.dx_lines.specs.Rules.{atom_by, cell_by, cell_for, conversions, derived_by, left_over, literal_of, or_else, picked, reaches, rule_by, text_of}
+use Rattle.dx_lines.proofs.Sources.{from_kept}
+use Rattle.dx_lines.proofs.Conversions.{from_conversions}
 use Rattle.dx_ways.specs.Laws.{TermBy}
 use Rattle.dx_ways.proofs.WaysAre.{ways_are}
 use Rattle.dx_line_text.specs.Naming as naming
 use Rattle.dx_rule_laws.specs.ReadBack.{IsStringText, HasStringTexts, IsWritable}
 use Rattle.dx_rule_laws.specs.Laws.{LineRulesAreWritable}
 use Rattle.dx_rule_laws.proofs.LineScans.{right_lexemes}
-use Rattle.dx_rule_laws.proofs.Said.{AreRight, kind_word, kind_string, call_named}
+use Rattle.dx_rule_laws.proofs.Said.{AreRight, kind_string, call_named}
 
 -- ---- what the tokens of lines say
 
@@ -124,30 +125,6 @@ text_writable list (origins.Literal u) t w e = let same : u ≡ t = cc e in subs
 text_writable list (origins.Call code args) t w e = absurd cc
 
 -- ---- conversions
-
-from_picked : (picks : List Pick) (y : ℕ) (t : Term) → picked picks y ≡ Some t → (k : Pick) × (k ∈ picks) × (k.term ≡ t)
-from_picked [] y t e = absurd cc
-from_picked (k ∷ ks) y t e = go (eqb k.variable y) e (from_picked ks y t)
-  where
-    go : (b : Bool) → cond b (Some k.term) (picked ks y) ≡ Some t → (picked ks y ≡ Some t → (j : Pick) × (j ∈ ks) × (j.term ≡ t)) → (j : Pick) × (j ∈ (k ∷ ks)) × (j.term ≡ t)
-    go true f next = (k, here refl, cc f)
-    go false f next = let j = next f in (j.0, there j.1, j.2)
-
-in_once : {X : Type 0} (same : X → X → Bool) (xs : List X) {x : X} → x ∈ once same xs → x ∈ xs
-in_once same [] m = elim m [ ]
-in_once same (y ∷ ys) (here e) = here e
-in_once same (y ∷ ys) (there m) = there (in_once same ys (in_whole (λ z. not (same y z)) (once same ys) m))
-
-picked_conversion : (o : Option Term) (t : Term) → t ∈ conversion_in o → o ≡ Some t
-picked_conversion None t m = elim m [ ]
-picked_conversion (Some (Var x)) t m = elim m [ ]
-picked_conversion (Some (Call c xs)) t (here e) = ap Some e
-picked_conversion (Some (Call c xs)) t (there m) = elim m [ ]
-
-from_conversions : (picks : List Pick) (Q : List Occurrence) (t : Term) → t ∈ conversions picks Q → (k : Pick) × (k ∈ picks) × (k.term ≡ t)
-from_conversions picks Q t m =
-    let y = from_flat_map (λ y. conversion_in (picked picks y)) (standing Q) (in_once same_term (flat_map (λ y. conversion_in (picked picks y)) (standing Q)) m) in
-    from_picked picks y.0 t (picked_conversion (picked picks y.0) t y.2)
 
 -- a derived variable is that of a conversion
 derived_call : (t : Term) (x : Derived) → x ∈ derived_by t → (xs : List ℕ) × (t ≡ Call x.code xs)

@@ -4,6 +4,7 @@ use Rattle.std.specs.Prelude.{IsTrue, IsOk, MatchResult}
 use Rattle.std.proofs.lemmas.Bool.{false≢true}
 use Rattle.std.proofs.lemmas.List.{drop_at, length-append}
 use Rattle.dx_ports.specs.Members.{here, there, Each}
+use Rattle.dx_ports.proofs.Members.{each_cons}
 use Rattle.dx_tokens.specs.declared.tokenizer.Token.{Token}
 use Rattle.dx_tokens.specs.declared.tokenizer.TokenKind.{TokenKind}
 use Rattle.dx_tokens.specs.declared.tokenizer.TokenKind.TheVariants.{Word, Number, Str, Mark}
@@ -19,7 +20,7 @@ use Rattle.dx_tokens.proofs.PartScans.{token_scanned, blanks_scanned}
 use Rattle.dx_tokens.proofs.Meanings.{longest_stops, comment_piece}
 use Rattle.dx_tokens.proofs.Lexings.{IsFaultOfText, tokens_mean}
 use Rattle.dx_tokens.proofs.Agrees.{no_stop_has_tokens}
-use Rattle.dx_tokens.proofs.Forms.{each_cons}
+use Rattle.dx_tokens.proofs.ScanLeads.{end_scanned}
 use Rattle.dx_schema_text.proofs.PrintScans.{with_all}
 use Rattle.dx_rule_laws.specs.ReadBack.{IsStringText}
 use Rattle.dx_rule_laws.proofs.Strings.{string_text}
@@ -70,7 +71,6 @@ record IsScannedAlike (place : ℕ) (left : List ℕ) : Type 0 where
   alone : scan_from 0 place left ≡ record { lexemes = lexemes; stop = None }
   before : (more : List ℕ) → scan_from 0 place (left ++ 10 ∷ more) ≡ with_all lexemes (scan_from 0 after (10 ∷ more))
 
-end_scanned : (place : ℕ) → scan_from 0 place [] ≡ record { lexemes = []; stop = None }
 unfolding scan_from
 end_scanned place = refl
 

@@ -9,6 +9,7 @@ use Rattle.dx_model.specs.declared.rules.Rule.{Rule}
 use Rattle.dx_model.specs.Fitting.{RuleFits}
 use Rattle.dx_schema.specs.Forest.{Forest, none, set}
 use Rattle.dx_schema.specs.Tables.{Placed, placed, sets_of, count, table_in, AreTables, model_tables, tables_of}
+use Rattle.dx_schema.proofs.Facts.{atom_table}
 use Rattle.dx_tokens.specs.declared.scanner.Lexeme.{Lexeme}
 use Rattle.dx_tokens.specs.Tokens.{is_blank}
 use Rattle.dx_tokens.specs.Scan.{scan_of}
@@ -35,7 +36,6 @@ use Rattle.dx_rule_laws.specs.ReadBack.{HasNamedTables, with_rules}
 use Rattle.dx_rule_laws.specs.Laws.{PrintedLinesAreRead}
 use Rattle.dx_rule_laws.proofs.Says.{Paired, no_pair, one_pair, SaysRule}
 use Rattle.dx_rule_laws.proofs.Spelled.{Spelled, CanBeRule, rule_read}
-use Rattle.dx_rule_laws.proofs.Atoms.{fits_table}
 use Rattle.dx_rule_laws.proofs.ReadBack.{rule_back}
 use Rattle.dx_rule_laws.proofs.CanBeWritten.{can_be_written}
 use Rattle.dx_rule_laws.proofs.LineScans.{scanned_before}
@@ -92,8 +92,8 @@ table_named f t w lt =
 
 tables_named : (source target : Forest) (d : Rule) → AreWritable source → AreWritable target → RuleFits (model_tables source) (model_tables target) d → HasNamedTables source target d
 tables_named source target d from to fits = record {
-  premise = λ a m. table_named source a.table from (fits_table source a (fits.premise a m));
-  conclusion = λ a m. table_named target a.table to (fits_table target a (fits.conclusion a m));
+  premise = λ a m. table_named source a.table from (atom_table source a (fits.premise a m));
+  conclusion = λ a m. table_named target a.table to (atom_table target a (fits.conclusion a m));
 }
 
 -- ---- lines

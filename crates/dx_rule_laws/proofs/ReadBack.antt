@@ -1,15 +1,16 @@
 -- A printed rule is read as the same rule.
-use Rattle.std.proofs.Common.{◌≡◌, ℕ, ◌+◌, ◌<◌, ◌≤◌, ◌^◌, false, List, [], ◌∷◌, ◌++◌, None, map, flat_map, length, refl, ap, ◌∙◌, arith}
+use Rattle.std.proofs.Common.{◌≡◌, ℕ, ◌+◌, ◌<◌, ◌^◌, false, List, [], ◌∷◌, ◌++◌, None, map, flat_map, length, refl, ap, ◌∙◌, arith}
 use Rattle.dx_ports.specs.Members.{◌∈◌, here, Each}
 use Rattle.dx_ports.specs.Firsts.{first_of}
 use Rattle.dx_ports.proofs.Members.{in_flat_map, from_flat_map}
-use Rattle.dx_model.specs.declared.rules.Cell.{Cell}
-use Rattle.dx_model.specs.declared.rules.Cell.TheVariants.{Var, Ex, Lit}
+use Rattle.dx_model.specs.declared.rules.Cell.TheVariants.{Var, Ex}
 use Rattle.dx_model.specs.declared.rules.Atom.{Atom}
 use Rattle.dx_model.specs.declared.rules.Derived.{Derived}
 use Rattle.dx_model.specs.declared.rules.Rule.{Rule}
 use Rattle.dx_model.specs.Rules.{cells_of, existential_in, existentials}
 use Rattle.dx_model.specs.Fitting.{IsVariable, variable_in, premise_variables, IsRule, RuleFits}
+use Rattle.dx_model.proofs.Frozen.{few_numbered, few_in_cells}
+use Rattle.dx_model.proofs.Cells.{few_existentials}
 use Rattle.dx_schema.specs.Forest.{Forest}
 use Rattle.dx_schema.specs.Tables.{Text, AreTables, model_tables, tables_of}
 use Rattle.dx_schema.specs.Faults.{is_among}
@@ -22,36 +23,24 @@ use Rattle.dx_tgd_text.specs.Reading.{variables_of, known_of, fresh_of, derived_
 use Rattle.dx_tgd_text.specs.Laws.{AreOffered}
 use Rattle.dx_rule_laws.proofs.Says.{Paired, existential_text, SaysCell, SaysRule}
 use Rattle.dx_rule_laws.proofs.VariableTexts.{one_variable, one_existential, variable_no_existential}
-use Rattle.dx_rule_laws.proofs.Runs.{numbered_few, numbered_below, run, DifferBelow, among_run, absent_run, number_run, appeared_run}
+use Rattle.dx_rule_laws.proofs.Runs.{numbered_below, run, DifferBelow, among_run, absent_run, number_run, appeared_run}
 use Rattle.dx_rule_laws.proofs.Cells.{paired_cells, premise_names, conclusion_names, HaveNumbers}
 use Rattle.dx_rule_laws.proofs.Atoms.{AreAtomsBack, atoms_back}
 use Rattle.dx_rule_laws.proofs.Derivings.{AreDerivedBack, derivings_back}
 
 -- ---- how many variables there are
 
-variables_few : (cells : List Cell) → length (flat_map variable_in cells) ≤ length cells
-variables_few [] = omega arith
-variables_few (Var n ∷ cells) = let k = variables_few cells in omega (arith, k)
-variables_few (Ex v ∷ cells) = let k = variables_few cells in omega (arith, k)
-variables_few (Lit t ∷ cells) = let k = variables_few cells in omega (arith, k)
-
-existentials_few : (cells : List Cell) → length (flat_map existential_in cells) ≤ length cells
-existentials_few [] = omega arith
-existentials_few (Var n ∷ cells) = let k = existentials_few cells in omega (arith, k)
-existentials_few (Ex v ∷ cells) = let k = existentials_few cells in omega (arith, k)
-existentials_few (Lit t ∷ cells) = let k = existentials_few cells in omega (arith, k)
-
 pub variables_below : (d : Rule) → IsRule d → premise_variables d + length d.derived < 2 ^ 32
 variables_below d rule =
-    let few = numbered_few 0 (flat_map variable_in (cells_of d.premise)) (premise_variables d) rule.numbered in
-    let short = variables_few (cells_of d.premise) in
+    let few = few_numbered 0 (premise_variables d) (flat_map variable_in (cells_of d.premise)) rule.numbered in
+    let short = few_in_cells (cells_of d.premise) in
     let bound = rule.few_variables in
     omega (arith, few, short, bound)
 
 pub existentials_below : (d : Rule) (rule : IsRule d) → rule.existentials.0 < 2 ^ 32
 existentials_below d rule =
-    let few = numbered_few 0 (existentials d.conclusion) rule.existentials.0 rule.existentials.1 in
-    let short = existentials_few (cells_of d.conclusion) in
+    let few = few_numbered 0 rule.existentials.0 (existentials d.conclusion) rule.existentials.1 in
+    let short = few_existentials (cells_of d.conclusion) in
     let bound = rule.few_cells in
     omega (arith, few, short, bound)
 

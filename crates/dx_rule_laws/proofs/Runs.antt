@@ -1,5 +1,5 @@
 -- Names that are numbered one after the other.
-use Rattle.std.proofs.Common.{◌≡◌, ◌≢◌, ℕ, zero, suc, ◌+◌, ◌<◌, ◌≤◌, Bool, true, false, List, [], ◌∷◌, ◌++◌, map, length, inl, inr, cond, nat_eq, refl, sym, ap, ◌∙◌, arith}
+use Rattle.std.proofs.Common.{◌≡◌, ◌≢◌, ℕ, zero, suc, ◌+◌, ◌<◌, ◌≤◌, Bool, true, false, List, [], ◌∷◌, ◌++◌, map, inl, inr, cond, nat_eq, refl, sym, ap, ◌∙◌, arith}
 use Rattle.std.specs.Prelude.{◌||◌}
 use Rattle.std.proofs.lemmas.Bool.{cases_eq}
 use Rattle.std.specs.Cmp.Lexicographic.{pointwise, same_text, other_text}
@@ -15,11 +15,6 @@ pub numbered_up : (n : ℕ) (xs : List ℕ) (m : ℕ) → Numbered n xs m → n 
 numbered_up n [] m h = omega (arith, h)
 numbered_up n (x ∷ xs) m (inl h) = numbered_up n xs m h.1
 numbered_up n (x ∷ xs) m (inr h) = let k = numbered_up (suc n) xs m h.1 in omega (arith, k)
-
-pub numbered_few : (n : ℕ) (xs : List ℕ) (m : ℕ) → Numbered n xs m → m ≤ n + length xs
-numbered_few n [] m h = omega (arith, h)
-numbered_few n (x ∷ xs) m (inl h) = let k = numbered_few n xs m h.1 in omega (arith, k)
-numbered_few n (x ∷ xs) m (inr h) = let k = numbered_few (suc n) xs m h.1 in omega (arith, k)
 
 pub numbered_below : (n : ℕ) (xs : List ℕ) (m : ℕ) → Numbered n xs m → (x : ℕ) → x ∈ xs → x < m
 numbered_below n [] m h x member = elim member [ ]

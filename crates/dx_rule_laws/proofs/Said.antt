@@ -26,9 +26,10 @@ use Rattle.dx_schema_text.specs.declared.texts.DerivedText.{DerivedText}
 use Rattle.dx_schema_text.specs.declared.texts.RuleText.{RuleText}
 use Rattle.dx_schema_text.specs.declared.texts.MappingText.{MappingText}
 use Rattle.dx_schema_text.specs.declared.mapping.ItemText.{ItemText}
-use Rattle.dx_schema_text.specs.Grammar.{is_word_kind, is_string_kind}
+use Rattle.dx_schema_text.specs.Grammar.{is_string_kind}
 use Rattle.dx_schema_text.specs.Reading.{rules_among}
 use Rattle.dx_schema_text.specs.Spelling.{Comma, comma_then, Parted, parted, SpellsCell, a_name, a_text, SpellsAtom, atom_of, SpellsDerived, derived_of, SpellsWhere, no_where, where_of, SpellsRule, rule_of, SpellsItem, a_line, a_rule, SpellsMapping, mapping_of}
+use Rattle.dx_schema_text.proofs.SpelledWords.{kind_word}
 use Rattle.dx_funcs.specs.declared.conversion.Conversion.{Conversion}
 use Rattle.dx_funcs.specs.Names.{first_named, conversion_name}
 use Rattle.dx_funcs.specs.Offers.{IsOffer}
@@ -56,12 +57,6 @@ record IsRightRule (r : RuleText) : Type 0 where
 
 abbrev pub AreRight : List Lexeme → Type 0
 AreRight xs = Each xs IsRight
-
-pub kind_word : (k : TokenKind) → is_word_kind k ≡ true → k ≡ Word
-kind_word Word e = refl
-kind_word Number e = absurd cc
-kind_word Str e = absurd cc
-kind_word Mark e = absurd cc
 
 pub kind_string : (k : TokenKind) → is_string_kind k ≡ true → k ≡ Str
 kind_string Word e = absurd cc

@@ -7,6 +7,7 @@ use Rattle.std.proofs.lemmas.Bool.Decides.{nat_tests}
 use Rattle.std.proofs.lemmas.Str.Parse.{digit_from_value}
 use Rattle.std.proofs.lemmas.Fmt.{decimal_injective, decimal_is_IsNumeral}
 use Rattle.dx_ports.specs.Members.{here, there, Each}
+use Rattle.dx_ports.proofs.Lists.{head_is}
 use Rattle.dx_tokens.specs.Tokens.{is_word_byte}
 use Rattle.dx_tokens.specs.Lexing.{IsWord}
 use Rattle.dx_rule_text.specs.Printed.{variable_text}
@@ -40,9 +41,6 @@ one_variable m n h k e = decimal_injective m n h k (tail_is 120 (decimal m) (dec
 
 pub one_existential : (m n : ℕ) → m < 2 ^ 64 → n < 2 ^ 64 → existential_text m ≡ existential_text n → m ≡ n
 one_existential m n h k e = decimal_injective m n h k (tail_is 121 (decimal m) (decimal n) e)
-
-head_is : (b c : ℕ) (xs ys : List ℕ) → b ∷ xs ≡ c ∷ ys → b ≡ c
-head_is b c xs ys e = cc
 
 pub variable_no_existential : (m n : ℕ) → variable_text m ≢ existential_text n
 variable_no_existential m n e = let h = head_is 120 121 (decimal m) (decimal n) e in omega (arith, h)

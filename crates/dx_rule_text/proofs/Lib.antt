@@ -1,5 +1,4 @@
 mod Escapes
-mod Numbers
-mod Printing
+pub mod Printing
 mod OneLine
 mod Examples

@@ -1,10 +1,14 @@
 -- Lists that are printed, one item after the other.
 use Rattle.std.proofs.Common.{append_assoc, ◌≡◌, ◌<◌, ◌+◌, ℕ, suc, List, [], ◌∷◌, ◌++◌, take, length, get_or, refl, sym, ap, ◌∙◌, arith, flat_map}
 use Rattle.std.specs.Prelude.{codes, map}
-use Rattle.std.proofs.lemmas.List.{append-nil, take_more, length-take}
+use Rattle.std.proofs.lemmas.List.{append-nil, take_more, length-take, length-map}
 use Rattle.dx_ports.specs.Members.{here, there, Each}
 use Rattle.dx_model.specs.declared.rules.Derived.{Derived}
-use Rattle.dx_rule_text.specs.Printed.{derived_text, derived_texts, separated, variable_text}
+use Rattle.dx_model.specs.declared.rules.Atom.{Atom}
+use Rattle.dx_model.specs.Solutions.{AtomFits}
+use Rattle.dx_schema.specs.Forest.{Forest}
+use Rattle.dx_schema.specs.Tables.{as_numbers, model_tables, tables_of}
+use Rattle.dx_rule_text.specs.Printed.{derived_text, derived_texts, separated, variable_text, AreAtomsOf}
 
 -- what each member has, the first has, and each other
 pub each_first : {X : Type 0} (P : X → Type 0) (xs : List X) (x : X) (others : List X) → xs ≡ x ∷ others → Each xs P → P x
@@ -50,3 +54,10 @@ pub printed_derived : (name : ℕ → List ℕ) (n : ℕ) (d : Derived) (shown a
     → after ≡ before ++ derived_text name n d
 printed_derived name n d shown args before with_variable with_equal with_name opened with_args after v e m o a l is same =
     l ∙ rw (a, o, m, e, v, is, same) (simp append_assoc)
+
+-- atoms that fit are atoms of the schema
+pub atoms_of : (f : Forest) (atoms : List Atom) → Each atoms (AtomFits (model_tables f)) → AreAtomsOf f atoms
+atoms_of f atoms h a m =
+    let k = (h a m).table in
+    let e = length-map (tables_of f) as_numbers in
+    omega (arith, k, e)

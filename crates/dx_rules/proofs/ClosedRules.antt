@@ -3,7 +3,7 @@ use Rattle.std.proofs.Common.{◌≡◌, ℕ, zero, suc, ◌<◌, List, [], ◌�
 use Rattle.std.specs.Prelude.{map, slice_index_or}
 use Rattle.std.proofs.lemmas.List.{length-map}
 use Rattle.dx_ports.specs.Members.{◌∈◌, here, there, Each}
-use Rattle.dx_ports.proofs.Members.{in_map, from_map}
+use Rattle.dx_ports.proofs.Members.{in_map, from_map, in_at}
 use Rattle.dx_model.specs.declared.rules.Cell.{Cell}
 use Rattle.dx_model.specs.declared.rules.Cell.TheVariants.{Lit}
 use Rattle.dx_model.specs.declared.rules.Atom.{Atom}
@@ -24,12 +24,6 @@ pub at_place : {X : Type 0} {x : X} (xs : List X) (d : X) → x ∈ xs → (i : 
 at_place [] d m = elim m [ ]
 at_place (y ∷ ys) d (here e) = (0, omega arith, e)
 at_place (y ∷ ys) d (there m) = let r = at_place ys d m in (suc r.0, omega (arith, r.1), r.2)
-
--- an item within the list is a member
-pub get_in : {X : Type 0} (xs : List X) (i : ℕ) (d : X) → i < length xs → get_or xs i d ∈ xs
-get_in [] i d h = absurd (omega arith)
-get_in (x ∷ xs) zero d h = here refl
-get_in (x ∷ xs) (suc i) d h = there (get_in xs i d (omega arith))
 
 -- ---- occurrences of an unfolding
 
@@ -73,7 +67,7 @@ module _ (f : ℕ → Cell) where
 
 -- a link of a table of the schema fits
 pub link_fits : (schema : List Table) (t : ℕ) (l : Link) → LinksFit schema → t < length schema → l ∈ (table_of schema t).links → LinkFits schema (table_of schema t).width l
-link_fits schema t l fits h m = fits (table_of schema t) (get_in schema t (record { width = 0; determinations = []; links = []; optional = [] }) h) l m
+link_fits schema t l fits h m = fits (table_of schema t) (in_at schema t (record { width = 0; determinations = []; links = []; optional = [] }) h) l m
 
 -- ---- the law
 

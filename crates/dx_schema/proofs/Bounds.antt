@@ -2,14 +2,13 @@
 use Rattle.std.proofs.Common.{◌≡◌, ℕ, zero, suc, ◌+◌, ◌-◌, ◌^◌, ◌<◌, ◌≤◌, List, [], ◌∷◌, ◌++◌, Option, Some, None, length, map, get_or, take, sym, ap, ◌∙◌, subst, arith, inl, inr, length-append, codes}
 use Rattle.std.specs.Prelude.{IsTrue, ◌↔◌, false}
 use Rattle.std.proofs.lemmas.Bool.{false≢true}
-use Rattle.std.proofs.lemmas.List.{take_more, take_all}
+use Rattle.std.proofs.lemmas.List.{take_more, take_all, length-map}
 use Rattle.dx_ports.specs.Members.{◌∈◌, here, there, Each}
 use Rattle.dx_ports.proofs.Members.{from_append, from_map}
 use Rattle.dx_schema.specs.declared.sets.KeyDecl.{KeyDecl}
 use Rattle.dx_schema.specs.Forest.{Forest, none, set, Tree, forest_of}
 use Rattle.dx_schema.specs.Tables.{Placed, placed, sets_of, count, where_has_inner, where_inner, key_named, keys_in, link_up, links_in, link_of, table_in, tables_of}
 use Rattle.dx_schema.specs.Bounds.{RulesBelow, HasFewRules, HasNumbers}
-use Rattle.dx_schema.proofs.Preorder.{len_map}
 
 -- what is below n is below what is greater
 pub rules_raised : (n m : ℕ) (f : Forest) → n ≤ m → RulesBelow n f → RulesBelow m f
@@ -65,10 +64,10 @@ few_keys : (s : Placed) → length s.label.keys < 2 ^ 32 - 2 → length (keys_in
 few_keys s h =
     let front : List (List (List ℕ)) = where_has_inner s.inner (codes "#id" ∷ []) in
     let own : List (List (List ℕ)) = map (λ (k : KeyDecl). where_inner s.parent (codes "#up") ++ k.columns) s.label.keys in
-    omega (arith, h, len_map (key_named s) (front ++ own), length-append front own, len_map (λ (k : KeyDecl). where_inner s.parent (codes "#up") ++ k.columns) s.label.keys, one_in_front s.inner (codes "#id" ∷ []))
+    omega (arith, h, length-map (front ++ own) (key_named s), length-append front own, length-map s.label.keys (λ (k : KeyDecl). where_inner s.parent (codes "#up") ++ k.columns), one_in_front s.inner (codes "#id" ∷ []))
 
 few_links : (sets : List Placed) (s : Placed) → length s.label.refs < 2 ^ 32 - 2 → length (links_in sets s) < 2 ^ 32 - 1
-few_links sets s h = omega (arith, h, length-append (link_up sets s s.parent) (map (link_of sets s) s.label.refs), len_map (link_of sets s) s.label.refs, one_up sets s s.parent)
+few_links sets s h = omega (arith, h, length-append (link_up sets s s.parent) (map (link_of sets s) s.label.refs), length-map s.label.refs (link_of sets s), one_up sets s s.parent)
 
 numbers_in_table : (sets : List Placed) (s : Placed) → (length s.label.keys < 2 ^ 32 - 2) × (length s.label.refs < 2 ^ 32 - 2) → HasNumbers (table_in sets s)
 numbers_in_table sets s h = record { keys = few_keys s h.0; links = few_links sets s h.1 }

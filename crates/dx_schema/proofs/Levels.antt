@@ -3,7 +3,7 @@ use Rattle.std.proofs.Common.{◌≡◌, ℕ, zero, suc, ◌+◌, ◌≤◌, ◌
 use Rattle.std.proofs.lemmas.Bool.{cases_lt}
 use Rattle.std.proofs.lemmas.List.{length-append}
 use Rattle.dx_ports.specs.Members.{Distinct, here, there, ◌∈◌, ◌⊆◌}
-use Rattle.dx_ports.proofs.Members.{in_left, in_right}
+use Rattle.dx_ports.proofs.Members.{in_left, in_right, no_longer}
 use Rattle.dx_model.specs.declared.tables.Link.{Link}
 use Rattle.dx_model.specs.Tables.{Table, table_of}
 use Rattle.dx_schema.specs.Links.{Leads, directly, further, IsAcyclic, GoesOn, stop, on, LinksEnd}
@@ -23,15 +23,6 @@ taken_out {X} {x} {ys = y ∷ ys} (there m) =
     go : (r : (zs : List X) × (length ys ≡ suc (length zs)) × ((z : X) → z ∈ ys → (z ≡ x) ⊎ (z ∈ zs))) → (z : X) → z ∈ (y ∷ ys) → (z ≡ x) ⊎ (z ∈ (y ∷ r.0))
     go r z (here d) = inr (here d)
     go r z (there k) = elim (r.2 z k) [ inl e ↦ inl e | inr l ↦ inr (there l) ]
-
--- a distinct list within another is no longer
-pub no_longer : {X : Type 0} (xs ys : List X) → Distinct xs → xs ⊆ ys → length xs ≤ length ys
-no_longer [] ys d s = omega arith
-no_longer {X} (x ∷ xs) ys d s =
-    let r = taken_out (s x (here refl)) in
-    let smaller : xs ⊆ r.0 = λ z k. elim (r.2 z (s z (there k))) [ inl e ↦ absurd (d.0 (rw (sym e) k)) | inr q ↦ q ] in
-    let l = no_longer xs r.0 d.1 smaller in
-    omega (arith, l, r.1)
 
 abbrev upto : ℕ → List ℕ
 upto zero = []

@@ -2,8 +2,9 @@
 use Rattle.std.proofs.Common.{◌≡◌, ℕ, ◌+◌, ◌<◌, ◌≤◌, List, [], ◌∷◌, Option, Some, None, Bool, true, false, not, is_some, append_assoc, length, map, refl, sym, ap, ◌∙◌, subst, arith, inl, inr, get_or, ◌++◌, take, codes}
 use Rattle.std.specs.Prelude.{IsTrue, nat_lt}
 use Rattle.std.proofs.lemmas.Bool.{le-ltb, lt-ltb, cases_lt, false≢true}
-use Rattle.std.proofs.lemmas.List.{get_or_default, get_or-map, take_all, map-append}
+use Rattle.std.proofs.lemmas.List.{get_or_default, get_or-map, take_all, map-append, length-map}
 use Rattle.std.proofs.Math.ListN.{get_or-eq_default}
+use Rattle.std.proofs.lemmas.Simd.{map-map}
 use Rattle.dx_ports.specs.declared.file.Count.TheVariants.{Tables, Depth}
 use Rattle.dx_ports.specs.Members.{◌∈◌, Each}
 use Rattle.dx_ports.proofs.Members.{from_map, in_map, in_at}
@@ -19,7 +20,7 @@ use Rattle.dx_ports.specs.Firsts.{first_of}
 use Rattle.dx_schema.specs.Faults.{depth, sets_fault, rules_fault, form_fault}
 use Rattle.dx_schema.specs.Links.{IsAcyclic, IsFirstCycle, IsFaultless, IsFirstFault}
 use Rattle.dx_schema.specs.Nodes.{seen, Flattened}
-use Rattle.dx_schema.proofs.Preorder.{len_map, length_placed, numbers_bound}
+use Rattle.dx_schema.proofs.Preorder.{length_placed, numbers_bound}
 use Rattle.dx_schema.proofs.Loops.{one_left, shown_in, shown_is, taken}
 use Rattle.dx_schema.proofs.Valid.{are_tables, columns_are}
 
@@ -31,10 +32,10 @@ flattened f before after e sets few = record { sets = sets; few = few }
 
 -- no more sets than nodes
 pub few_sets : (f : Forest) (nodes : List Node) → Flattened f nodes → count f ≤ 64
-few_sets f nodes h = omega (arith, h.few, len_map seen nodes, ap length h.sets, length_placed None 0 f)
+few_sets f nodes h = omega (arith, h.few, length-map nodes seen, ap length h.sets, length_placed None 0 f)
 
 pub few_names : (f : Forest) (nodes : List Node) (names : List Text) → Flattened f nodes → names ≡ names_of (sets_of f) → length names ≤ 64
-few_names f nodes names h e = omega (arith, few_sets f nodes h, ap length e, len_map (λ (s : Placed). s.label.name) (sets_of f), length_placed None 0 f)
+few_names f nodes names h e = omega (arith, few_sets f nodes h, ap length e, length-map (sets_of f) (λ (s : Placed). s.label.name), length_placed None 0 f)
 
 pub names_seen : (f : Forest) (nodes : List Node) (names : List Text) → Flattened f nodes → names ≡ names_of (sets_of f) → names ≡ names_of (map seen nodes)
 names_seen f nodes names h e = e ∙ ap names_of (sym h.sets)
@@ -74,7 +75,7 @@ pub faultless : (f : Forest) (tables : List TableOf) → tables ≡ tables_of f 
 faultless f tables e none_so a = record { form = none_so; acyclic = subst (λ (ts : List TableOf). IsAcyclic (map as_numbers ts)) e a }
 
 pub cycle_within : (tables : List TableOf) (t : ℕ) → IsFirstCycle (map as_numbers tables) t → t < length tables
-cycle_within tables t h = rw (← len_map as_numbers tables) h.within
+cycle_within tables t h = rw (← length-map tables as_numbers) h.within
 
 pub cycle_fault : (f : Forest) (tables : List TableOf) (t : ℕ) (table : TableOf) (name : Text) → tables ≡ tables_of f → form_fault f ≡ None → IsFirstCycle (map as_numbers tables) t
     → table ≡ get_or tables t table → name ≡ table.name → IsFirstFault f (Bad (CyclicLinks name))
@@ -86,15 +87,11 @@ cycle_fault f tables t table name e none_so h is named =
 
 -- ---- tables of sets
 
-map_twice : {X Y Z : Type 0} (f : Y → Z) (g : X → Y) (xs : List X) → map f (map g xs) ≡ map (λ x. f (g x)) xs
-map_twice f g [] = refl
-map_twice f g (x ∷ xs) = ap (λ ys. f (g x) ∷ ys) (map_twice f g xs)
-
 pub keys_done : (s : Placed) (first keys : List Key) (items : List KeyDecl) (i : ℕ) → length items ≤ i → items ≡ s.label.keys
     → first ≡ map (key_named s) (where_has_inner s.inner (codes "#id" ∷ [])) → keys ≡ first ++ map (λ (k : KeyDecl). key_named s (where_inner s.parent (codes "#up") ++ k.columns)) (take i items) → keys ≡ keys_in s
 keys_done s first keys items i past same e is =
     rw (is, e, take_all i items past, same) (sym (map-append (key_named s) (where_has_inner s.inner (codes "#id" ∷ [])) (map (λ (k : KeyDecl). where_inner s.parent (codes "#up") ++ k.columns) s.label.keys)
-    ∙ ap (λ ks. map (key_named s) (where_has_inner s.inner (codes "#id" ∷ [])) ++ ks) (map_twice (key_named s) (λ (k : KeyDecl). where_inner s.parent (codes "#up") ++ k.columns) s.label.keys)))
+    ∙ ap (λ ks. map (key_named s) (where_has_inner s.inner (codes "#id" ∷ [])) ++ ks) (map-map (key_named s) (λ (k : KeyDecl). where_inner s.parent (codes "#up") ++ k.columns) s.label.keys)))
 
 -- no list of columns is too long, nor is none
 pub few_at : (columns : List (List Text)) (n : ℕ) → Each columns (λ (c : List Text). length c ≤ 64) → length (get_or columns n []) ≤ 64

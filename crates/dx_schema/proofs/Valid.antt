@@ -3,7 +3,7 @@ use Rattle.std.proofs.Common.{◌≡◌, ℕ, zero, suc, ◌+◌, ◌<◌, ◌�
 use Rattle.std.specs.Prelude.{◌||◌, ◌⊎◌, eqb}
 use Rattle.std.specs.Cmp.Lexicographic.{pointwise, same_text, other_text}
 use Rattle.std.proofs.lemmas.Bool.{false≢true, true≢false, ltb-false, eqb-true}
-use Rattle.std.proofs.lemmas.List.{get_or_append_left, get_or-append-add, get_or-map}
+use Rattle.std.proofs.lemmas.List.{get_or_append_left, get_or-append-add, get_or-map, length-map}
 use Rattle.dx_ports.specs.Members.{Distinct, here, there, ◌∈◌, ◌⊆◌}
 use Rattle.dx_ports.proofs.Members.{from_map, in_left, in_right, from_append}
 use Rattle.dx_model.specs.declared.tables.Key.{Key}
@@ -18,7 +18,7 @@ use Rattle.dx_schema.specs.Forest.{Label, Forest, none, set, has_sets}
 use Rattle.dx_schema.specs.Tables.{Text, TableOf, Placed, placed, sets_of, names_of, count, where_has_inner, where_inner, columns_of, columns_at, number_of, numbers_of, key_named, keys_in, link_of, link_up, links_in, table_in, tables_of, IsLink, IsTable, AreTables}
 use Rattle.dx_ports.specs.Firsts.{first_of}
 use Rattle.dx_schema.specs.Faults.{fault_if, is_among, names_in, twice_in, names_within, set_fault, sets_fault, columns_fault, key_fault, declared_at, ref_fault, rules_fault, form_fault}
-use Rattle.dx_schema.proofs.Preorder.{len_map, length_placed}
+use Rattle.dx_schema.proofs.Preorder.{length_placed}
 use Rattle.dx_schema.proofs.Loops.{among_number}
 use Rattle.dx_ports.proofs.Firsts.{first_none, none_of, two_none, each_none}
 
@@ -51,7 +51,7 @@ not_among x (y ∷ ys) h m = go (pointwise nat_eq y x) refl h m (not_among x ys)
     go false e k (here d) f = other_text y x (sym e) d
     go false e k (there n) f = f k n
 
-in_among : (x : Text) (xs : List Text) → x ∈ xs → is_among x xs ≡ true
+pub in_among : (x : Text) (xs : List Text) → x ∈ xs → is_among x xs ≡ true
 in_among x xs m = go (is_among x xs) refl
   where
     go : (b : Bool) → is_among x xs ≡ b → is_among x xs ≡ true
@@ -323,8 +323,8 @@ link_fits sets s t own referred h =
     let a = numbers_fit (columns_of s) own h.own.0 h.own.1 in
     let b = numbers_fit (columns_at sets t) referred h.inside h.distinct in
     record {
-      table = rw (len_map (table_in sets) sets) h.table;
-      same_length = len_map (λ x. number_of x (columns_of s)) own ∙ h.same_length ∙ sym (len_map (λ x. number_of x (columns_at sets t)) referred);
+      table = rw (length-map sets (table_in sets)) h.table;
+      same_length = length-map own (λ x. number_of x (columns_of s)) ∙ h.same_length ∙ sym (length-map referred (λ x. number_of x (columns_at sets t)));
       from = a.0;
       to = rw (columns_are sets sets) b.0;
       from_distinct = a.1;
@@ -346,7 +346,7 @@ ref_fits sets s r h =
     let d = first_none f4 (f5 ∷ []) c.1 in
     let own = columns_none_new s.label.columns [] r.columns b.0 in
     let there_is : is_among r.set (names_of sets) ≡ true = not_none (is_among r.set (names_of sets)) (Bad (UnknownName r.set)) c.0 in
-    let lt : t < length sets = omega (arith, among_number r.set (names_of sets) there_is, len_map (λ (q : Placed). q.label.name) sets) in
+    let lt : t < length sets = omega (arith, among_number r.set (names_of sets) there_is, length-map sets (λ (q : Placed). q.label.name)) in
     let to = columns_none_new (declared_at sets t) [] r.referred d.0 in
     record {
       table = lt;
@@ -407,7 +407,7 @@ are_tables f h =
     let sets = sets_ok [] (sets_of f) b.0 in
     let rules = none_of _ b.1 in
     record {
-      few_tables = let l = ltb-false 64 (count f) (if_none _ _ size.0) in omega (arith, l, len_map (table_in (sets_of f)) (sets_of f), length_placed None 0 f);
+      few_tables = let l = ltb-false 64 (count f) (if_none _ _ size.0) in omega (arith, l, length-map (sets_of f) (table_in (sets_of f)), length_placed None 0 f);
       distinct_names = rw (names_are (sets_of f) (sets_of f)) sets.0.0;
       each_table = λ t m. of_table (from_map (table_in (sets_of f)) (sets_of f) {y = t} m) sets.1 rules;
     }

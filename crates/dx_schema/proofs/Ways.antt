@@ -2,17 +2,16 @@
 use Rattle.std.proofs.Common.{◌≡◌, ℕ, zero, suc, ◌+◌, ◌<◌, ◌≤◌, List, [], ◌∷◌, ◌++◌, Option, Some, None, length, map, drop, get_or, refl, sym, ap, ◌∙◌, subst, arith, inl, inr, append_assoc}
 use Rattle.std.specs.Prelude.{All, Contains, MatchOption}
 use Rattle.std.proofs.lemmas.Bool.{cases_lt}
-use Rattle.std.proofs.lemmas.List.{append-nil, drop_all, get_or-map, get_or_default}
+use Rattle.std.proofs.lemmas.List.{append-nil, drop_all, get_or-map, get_or_default, length-map}
 use Rattle.dx_ports.specs.Members.{◌∈◌}
 use Rattle.dx_ports.proofs.Members.{from_map, in_map, in_at, in_left, in_right, from_append, contains_from_in, in_from_contains}
+use Rattle.dx_ports.proofs.Lists.{cut_at}
 use Rattle.dx_model.specs.declared.tables.Link.{Link}
 use Rattle.dx_model.specs.Tables.{Table, table_of}
 use Rattle.dx_schema.specs.declared.cycles.Edge.{Edge}
 use Rattle.dx_schema.specs.Tables.{TableOf, as_numbers, AreTables}
 use Rattle.dx_schema.specs.Marks.{LeadsTo, step, more, IsCycleOrNone, edges_of}
 use Rattle.dx_schema.specs.Links.{Leads, directly, further, IsAcyclic, IsFirstCycle}
-use Rattle.dx_schema.proofs.Preorder.{len_map}
-use Rattle.dx_schema.proofs.Loops.{cut}
 use Rattle.dx_schema.proofs.Marks.{LeadsTo-snoc}
 
 -- a link of a table
@@ -72,7 +71,7 @@ link_within tables a t l m = elim (cases_lt t (length tables)) [
       let d : TableOf = record { name = []; columns = []; keys = []; links = []; parent = None; inner = [] } in
       let at : table_of (map as_numbers tables) t ≡ as_numbers (get_or tables t d) = get_or-map as_numbers tables t d _ lt in
       ((a.each_table (get_or tables t d) (in_at tables t d lt)).links l (subst (λ (q : Table). l ∈ q.links) at m)).table
-  | inr ge ↦ absurd (nowhere (map as_numbers tables) t (rw (len_map as_numbers tables) ge) m)
+  | inr ge ↦ absurd (nowhere (map as_numbers tables) t (rw (length-map tables as_numbers) ge) m)
 ]
   where
     nowhere : (schema : List Table) (t : ℕ) → length schema ≤ t → l ∈ (table_of schema t).links → ⊥
@@ -87,17 +86,17 @@ edges_within tables es count a all n k d lt =
     let e = get_or es k d in
     let r = edge_is (map as_numbers tables) es e all (k, lt, get_or_default es k e d lt) in
     let to = link_within tables a e.from r.1.0 r.1.1 in
-    (omega (arith, r.0, len_map as_numbers tables, n), rw n (rw (← r.1.2) to))
+    (omega (arith, r.0, length-map tables as_numbers, n), rw n (rw (← r.1.2) to))
 
 pub acyclic_when : (tables : List TableOf) (es : List Edge) (count : ℕ) → AreTables tables → es ≡ edges_of 0 (map as_numbers tables) → count ≡ length tables → IsCycleOrNone es count None → IsAcyclic (map as_numbers tables)
 acyclic_when tables es count a all n none_so = record {
-  no_cycle = λ t w. let way = leads_to es all w in none_so t (rw n (rw (← len_map as_numbers tables) (leads_from (map as_numbers tables) all way).0)) way;
-  within = λ t l m. rw (len_map as_numbers tables) (link_within tables a t l m);
+  no_cycle = λ t w. let way = leads_to es all w in none_so t (rw n (rw (← length-map tables as_numbers) (leads_from (map as_numbers tables) all way).0)) way;
+  within = λ t l m. rw (length-map tables as_numbers) (link_within tables a t l m);
 }
 
 pub cycle_when : (tables : List TableOf) (es : List Edge) (count t : ℕ) → es ≡ edges_of 0 (map as_numbers tables) → count ≡ length tables → IsCycleOrNone es count (Some t) → IsFirstCycle (map as_numbers tables) t
 cycle_when tables es count t all n h = record {
-  within = rw (len_map as_numbers tables, ← n) h.0;
+  within = rw (length-map tables as_numbers, ← n) h.0;
   cycle = (leads_from (map as_numbers tables) all h.1).1;
   first = λ u lt w. h.2 u lt (leads_to es all w);
 }
@@ -107,7 +106,7 @@ pub edges_more : (schema : List Table) (i : ℕ) (t : Table) (before after whole
     → whole ≡ before ++ edges_of i (drop i schema) → after ≡ before ++ map (λ (l : Link). record { from = i; to = l.table }) links → whole ≡ after ++ edges_of (i + 1) (drop (i + 1) schema)
 edges_more schema i t before after whole links lt is same e pushed =
     let next : suc i ≡ i + 1 = omega arith in
-    rw (e, pushed, cut schema i t lt is, same, next) (simp append_assoc)
+    rw (e, pushed, cut_at schema i t lt is, same, next) (simp append_assoc)
 
 pub edges_done : (schema : List Table) (i : ℕ) (edges whole : List Edge) → length schema ≤ i → whole ≡ edges ++ edges_of i (drop i schema) → edges ≡ whole
 edges_done schema i edges whole past e = sym (e ∙ rw (drop_all i schema past) (append-nil edges))

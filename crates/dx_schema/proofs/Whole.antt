@@ -1,6 +1,6 @@
 -- What holds of the tables of sets without a fault.
 use Rattle.std.proofs.Common.{◌≡◌, ℕ, zero, suc, ◌+◌, ◌<◌, ◌≤◌, List, [], ◌∷◌, ◌++◌, length, map, get_or, take, refl, sym, ap, ◌∙◌, subst, arith}
-use Rattle.std.proofs.lemmas.List.{take_more, take_all, get_or-map}
+use Rattle.std.proofs.lemmas.List.{take_more, take_all, get_or-map, length-map}
 use Rattle.dx_ports.specs.Members.{Each, Distinct}
 use Rattle.dx_ports.proofs.Members.{from_map}
 use Rattle.dx_model.specs.declared.tables.Link.{Link}
@@ -12,7 +12,6 @@ use Rattle.dx_schema.specs.Names.{Named, names_of_table, named_of, AreNamed}
 use Rattle.dx_schema.specs.Links.{LinkFits, LinksFit}
 use Rattle.dx_schema.specs.Laws.{FaultlessAreTables, WidthsAgree}
 use Rattle.dx_schema.proofs.Facts.{is_schema}
-use Rattle.dx_schema.proofs.Preorder.{len_map}
 use Rattle.dx_schema.proofs.Valid.{are_tables}
 
 -- ---- links
@@ -24,7 +23,7 @@ width_named (x ∷ xs) (suc t) h = width_named xs t (omega arith)
 
 link_fits : (tables : List TableOf) (w : ℕ) (l : Link) → IsLink tables w l → LinkFits (map as_numbers tables) w l
 link_fits tables w l i = record {
-  table = rw (len_map as_numbers tables) i.table;
+  table = rw (length-map tables as_numbers) i.table;
   same_length = i.same_length;
   from = i.from;
   to = rw (width_named tables l.table i.table) at i.to;
@@ -57,7 +56,7 @@ each_width f a w m =
     subst (λ (n : ℕ). (1 ≤ n) × (n ≤ 64)) t.2 (is.some_column, is.few_columns)
 
 pub few_widths : (f : Forest) → AreTables (tables_of f) → length (schema_widths f) ≤ 64
-few_widths f a = rw (len_map (λ (t : TableOf). length t.columns) (tables_of f)) a.few_tables
+few_widths f a = rw (length-map (tables_of f) (λ (t : TableOf). length t.columns)) a.few_tables
 
 -- the width of one table more
 pub widths_more : (f : Forest) (ws now : List ℕ) (i w : ℕ) → i < length (tables_of f) → w ≡ length (table_at f i).columns → ws ≡ take i (schema_widths f) → now ≡ ws ++ w ∷ []
@@ -65,10 +64,10 @@ pub widths_more : (f : Forest) (ws now : List ℕ) (i w : ℕ) → i < length (t
 widths_more f ws now i w h is e n =
     let at : get_or (schema_widths f) i 0 ≡ w = get_or-map (λ (t : TableOf). length t.columns) (tables_of f) i _ 0 h ∙ sym is in
     n ∙ ap (λ (xs : List ℕ). xs ++ w ∷ []) e ∙ ap (λ (x : ℕ). take i (schema_widths f) ++ x ∷ []) (sym at)
-    ∙ sym (take_more (schema_widths f) i 0 (rw (len_map (λ (t : TableOf). length t.columns) (tables_of f)) h))
+    ∙ sym (take_more (schema_widths f) i 0 (rw (length-map (tables_of f) (λ (t : TableOf). length t.columns)) h))
 
 pub all_widths : (f : Forest) (ws : List ℕ) (i : ℕ) → length (tables_of f) ≤ i → ws ≡ take i (schema_widths f) → ws ≡ schema_widths f
-all_widths f ws i h e = e ∙ take_all i (schema_widths f) (rw (len_map (λ (t : TableOf). length t.columns) (tables_of f)) h)
+all_widths f ws i h e = e ∙ take_all i (schema_widths f) (rw (length-map (tables_of f) (λ (t : TableOf). length t.columns)) h)
 
 pub widths_agree : WidthsAgree
 widths_agree f = go (tables_of f)

@@ -1,8 +1,7 @@
 -- What is answered of a text is what it says, or its first fault, and the other way round.
 use Rattle.std.proofs.Common.{◌≡◌, ◌⊎◌, ℕ, zero, suc, ◌-◌, ◌<◌, ◌≤◌, Bool, true, false, List, [], ◌++◌, length, take, get_or, Result, Ok, Err, Option, Some, None, refl, sym, ap, ◌∙◌, subst, arith, inl, inr}
-use Rattle.std.specs.Prelude.{nat_le, IfOk, IfErr}
+use Rattle.std.specs.Prelude.{IfOk, IfErr}
 use Rattle.std.proofs.lemmas.List.{append-nil, take_all, get_or_default}
-use Rattle.std.proofs.lemmas.Bool.Decides.{nat_tests}
 use Rattle.dx_tokens.specs.declared.tokenizer.TokenKind.TheVariants.{Word}
 use Rattle.dx_tokens.specs.declared.scanner.Lexeme.{Lexeme}
 use Rattle.dx_tokens.specs.declared.scanner.Stop.{Stop}
@@ -17,6 +16,7 @@ use Rattle.dx_grammar.specs.Readers.{whole, Tells}
 use Rattle.dx_grammar.proofs.Told.{start_take, fault_is_one}
 use Rattle.dx_grammar.proofs.Exact.{whole_start}
 use Rattle.dx_grammar.proofs.Spelled.{NotNext, whole_again, whole_finds}
+use Rattle.dx_grammar.proofs.Counted.{not_le_test, le_test}
 use Rattle.dx_schema_text.specs.declared.texts.MappingText.{MappingText}
 use Rattle.dx_schema_text.specs.Reading.{begins_item, mapping_reader}
 use Rattle.dx_schema_text.specs.Spelling.{SpellsMapping}
@@ -105,12 +105,6 @@ le_same n = omega arith
 -- the tokens up to a token, of tokens that are a start
 stands : (f : Form Lexeme) (xs : List Lexeme) (k : ℕ) → k ≤ length xs → Starts f xs → Starts f (take k xs)
 stands f xs k le s = start_take f k (length xs) xs le (subst (Starts f) (sym (take_all (length xs) xs (le_same (length xs)))) s)
-
-le_test : (m n : ℕ) → nat_le m n ≡ true → m ≤ n
-le_test m n e = grind (arith, nat_tests)
-
-not_le_test : (m n : ℕ) → nat_le m n ≡ false → n < m
-not_le_test m n e = grind (arith, nat_tests)
 
 -- whether the tokens up to the first that can't stand, with so many left, could stand one level deeper
 deeper : (xs : List Lexeme) (left : ℕ) (d : Result MappingText ℕ) → suc left ≤ length xs → Tells deeper_form xs d → stops_by (suc left) d ≡ false → Starts deeper_form (take (suc (length xs - suc left)) xs)

@@ -1,20 +1,13 @@
 -- Tokens that can't be mistaken for each other.
-use Rattle.std.proofs.Common.{◌≡◌, ℕ, Bool, true, false, ◌&&◌, ◌||◌, List, refl, sym}
+use Rattle.std.proofs.Common.{◌≡◌, ℕ, Bool, true, false, ◌||◌, List, refl, sym}
 use Rattle.std.specs.Prelude.{nat_eq}
 use Rattle.std.specs.Cmp.Lexicographic.{pointwise, same_text}
+use Rattle.std.proofs.lemmas.Bool.{and_parts}
 use Rattle.dx_tokens.specs.declared.tokenizer.TokenKind.{TokenKind}
 use Rattle.dx_tokens.specs.declared.tokenizer.TokenKind.TheVariants.{Word, Number, Str, Mark}
 use Rattle.dx_tokens.specs.declared.scanner.Lexeme.{Lexeme}
 use Rattle.dx_grammar.proofs.Verdicts.{AreApart}
 use Rattle.dx_schema_text.specs.Grammar.{is_word_kind, is_string_kind, is_mark_kind, is_word, is_string, word_is, mark_is}
-
-pub and_true : (a b : Bool) → (a && b) ≡ true → (a ≡ true) × (b ≡ true)
-and_true true b e = (refl, e)
-and_true false b e = absurd cc
-
-pub or_false : (a b : Bool) → (a || b) ≡ false → (a ≡ false) × (b ≡ false)
-or_false true b e = absurd cc
-or_false false b e = (refl, e)
 
 mark_no_word : (k : TokenKind) → is_mark_kind k ≡ true → is_word_kind k ≡ false
 mark_no_word Word e = absurd cc
@@ -42,21 +35,21 @@ word_no_string Mark e = absurd cc
 
 pub apart_marks : (m n : List ℕ) → pointwise nat_eq m n ≡ false → AreApart (mark_is m) (mark_is n)
 apart_marks m n ne x e =
-    let both = and_true (is_mark_kind x.kind) (pointwise nat_eq x.text m) e in
+    let both = and_parts (is_mark_kind x.kind) (pointwise nat_eq x.text m) e in
     let is : x.text ≡ m = same_text x.text m (sym both.1) in
     rw (both.0, is) ne
 
 pub apart_words : (v w : List ℕ) → pointwise nat_eq v w ≡ false → AreApart (word_is v) (word_is w)
 apart_words v w ne x e =
-    let both = and_true (is_word x) (pointwise nat_eq x.text v) e in
+    let both = and_parts (is_word x) (pointwise nat_eq x.text v) e in
     let is : x.text ≡ v = same_text x.text v (sym both.1) in
     rw (both.0, is) ne
 
 pub apart_mark_word : (m w : List ℕ) → AreApart (mark_is m) (word_is w)
-apart_mark_word m w x e = rw (mark_no_word x.kind (and_true (is_mark_kind x.kind) _ e).0) refl
+apart_mark_word m w x e = rw (mark_no_word x.kind (and_parts (is_mark_kind x.kind) _ e).0) refl
 
 pub apart_word_mark : (w m : List ℕ) → AreApart (word_is w) (mark_is m)
-apart_word_mark w m x e = rw (word_no_mark x.kind (and_true (is_word x) _ e).0) refl
+apart_word_mark w m x e = rw (word_no_mark x.kind (and_parts (is_word x) _ e).0) refl
 
 pub apart_any_word_string : AreApart is_word is_string
 apart_any_word_string x e = word_no_string x.kind e

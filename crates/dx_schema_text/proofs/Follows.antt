@@ -1,6 +1,7 @@
 -- Each reader reads its form.
 use Rattle.std.proofs.Common.{◌≡◌, ℕ, zero, suc, Bool, true, false, ◌||◌, List, ◌∷◌, refl}
 use Rattle.std.specs.Prelude.{codes}
+use Rattle.std.proofs.lemmas.Bool.{or_parts}
 use Rattle.dx_tokens.specs.declared.scanner.Lexeme.{Lexeme}
 use Rattle.dx_grammar.specs.Forms.{Form, nothing, one, ◌▸◌, ◌∣◌, repeated, optional}
 use Rattle.dx_grammar.specs.Readers.{Reader, give, token, either, many}
@@ -11,7 +12,7 @@ use Rattle.dx_schema.specs.Forest.{Tree}
 use Rattle.dx_schema_text.specs.declared.clauses.Clause.{Clause}
 use Rattle.dx_schema_text.specs.Grammar.{is_word, is_string, word_is, number_is, mark_is, word, string, mark, words, key, ref, set_head, set_of, last_clause, clause_with, clause, set, place, places, behind_word, source, line, cell, cells, atom, atoms, derived, where_part, rule, item, side, mapping}
 use Rattle.dx_schema_text.specs.Reading.{comma_word, words_reader, key_reader, ref_reader, key_clause, ref_clause, set_clause, begins_clause, last_clause_reader, clause_reader_with, set_head_reader, set_reader_of, clause_reader, set_reader, place_reader, comma_place, places_reader, string_reader, column_reader, call_reader, named_reader, source_reader, line_reader, name_reader, literal_reader, cell_reader, comma_cell, cells_reader, atom_reader, comma_atom, atoms_reader, derived_reader, comma_derived, where_reader, optional_where, rule_reader, line_item, rule_item, begins_item, item_reader, side_reader, mapping_reader}
-use Rattle.dx_schema_text.proofs.Apart.{or_false, apart_marks, apart_words, apart_mark_word, apart_word_mark, apart_any_word_string, apart_string_any_word, apart_or, or_apart}
+use Rattle.dx_schema_text.proofs.Apart.{apart_marks, apart_words, apart_mark_word, apart_word_mark, apart_any_word_string, apart_string_any_word, apart_or, or_apart}
 
 abbrev comma : Lexeme → Bool
 comma = mark_is (codes ",")
@@ -101,8 +102,8 @@ clause_with_reads inner r reads begins =
     key_begins
     (λ more ok. stops_at (word_is (codes "key")) ref_or_set (ref ∣ inner) more
     (begins_choice ref_or_set ref inner
-    (begins_wider (word_is (codes "ref")) ref_or_set ref (λ x e. (or_false (word_is (codes "ref") x) (word_is (codes "set") x) e).0) ref_begins)
-    (begins_wider (word_is (codes "set")) ref_or_set inner (λ x e. (or_false (word_is (codes "ref") x) (word_is (codes "set") x) e).1) begins))
+    (begins_wider (word_is (codes "ref")) ref_or_set ref (λ x e. (or_parts (word_is (codes "ref") x) (word_is (codes "set") x) e).0) ref_begins)
+    (begins_wider (word_is (codes "set")) ref_or_set inner (λ x e. (or_parts (word_is (codes "ref") x) (word_is (codes "set") x) e).1) begins))
     (apart_or (word_is (codes "key")) (word_is (codes "ref")) (word_is (codes "set")) (apart_words (codes "key") (codes "ref") refl) (apart_words (codes "key") (codes "set") refl)))
 
 set_head_reads : IsReader Anything set_head set_head_reader
@@ -127,18 +128,18 @@ last_clause_begins : Begins (begins_clause 0) last_clause
 unfolding last_clause
 last_clause_begins =
     begins_choice (begins_clause 0) key ref
-    (begins_wider (word_is (codes "key")) (begins_clause 0) key (λ x e. (or_false (word_is (codes "key") x) (word_is (codes "ref") x) e).0) key_begins)
-    (begins_wider (word_is (codes "ref")) (begins_clause 0) ref (λ x e. (or_false (word_is (codes "key") x) (word_is (codes "ref") x) e).1) ref_begins)
+    (begins_wider (word_is (codes "key")) (begins_clause 0) key (λ x e. (or_parts (word_is (codes "key") x) (word_is (codes "ref") x) e).0) key_begins)
+    (begins_wider (word_is (codes "ref")) (begins_clause 0) ref (λ x e. (or_parts (word_is (codes "key") x) (word_is (codes "ref") x) e).1) ref_begins)
 
 clause_with_begins : (levels : ℕ) (inner : Form Lexeme) → Begins (word_is (codes "set")) inner → Begins (begins_clause (suc levels)) (clause_with inner)
 unfolding clause_with
 clause_with_begins levels inner begins =
-    let two : (x : Lexeme) → begins_clause (suc levels) x ≡ false → ref_or_set x ≡ false = λ x e. (or_false (word_is (codes "key") x) (ref_or_set x) e).1 in
+    let two : (x : Lexeme) → begins_clause (suc levels) x ≡ false → ref_or_set x ≡ false = λ x e. (or_parts (word_is (codes "key") x) (ref_or_set x) e).1 in
     begins_choice (begins_clause (suc levels)) key (ref ∣ inner)
-    (begins_wider (word_is (codes "key")) (begins_clause (suc levels)) key (λ x e. (or_false (word_is (codes "key") x) (ref_or_set x) e).0) key_begins)
+    (begins_wider (word_is (codes "key")) (begins_clause (suc levels)) key (λ x e. (or_parts (word_is (codes "key") x) (ref_or_set x) e).0) key_begins)
     (begins_choice (begins_clause (suc levels)) ref inner
-    (begins_wider (word_is (codes "ref")) (begins_clause (suc levels)) ref (λ x e. (or_false (word_is (codes "ref") x) (word_is (codes "set") x) (two x e)).0) ref_begins)
-    (begins_wider (word_is (codes "set")) (begins_clause (suc levels)) inner (λ x e. (or_false (word_is (codes "ref") x) (word_is (codes "set") x) (two x e)).1) begins))
+    (begins_wider (word_is (codes "ref")) (begins_clause (suc levels)) ref (λ x e. (or_parts (word_is (codes "ref") x) (word_is (codes "set") x) (two x e)).0) ref_begins)
+    (begins_wider (word_is (codes "set")) (begins_clause (suc levels)) inner (λ x e. (or_parts (word_is (codes "ref") x) (word_is (codes "set") x) (two x e)).1) begins))
 
 pub clause_begins : (levels : ℕ) → Begins (begins_clause levels) (clause levels)
 unfolding clause
@@ -337,7 +338,7 @@ where_or_arrow x = word_is (codes "where") x || mark_is (codes "->") x
 where_or_arrow_begins : (rest : Form Lexeme) → Begins where_or_arrow (optional where_part ▸ mark (codes "->") ▸ rest)
 where_or_arrow_begins rest = record {
   some = rw where_begins.some refl;
-  first = λ x e. let two = or_false (word_is (codes "where") x) (mark_is (codes "->") x) e in rw (where_begins.first x two.0, where_begins.some, two.1) refl;
+  first = λ x e. let two = or_parts (word_is (codes "where") x) (mark_is (codes "->") x) e in rw (where_begins.first x two.0, where_begins.some, two.1) refl;
 }
 
 -- a comma begins neither "where" nor an arrow
@@ -373,8 +374,8 @@ pub item_begins : Begins begins_item item
 unfolding item
 item_begins =
     begins_choice begins_item line rule
-    (begins_wider (word_is (codes "line")) begins_item line (λ x e. (or_false (word_is (codes "line") x) (word_is (codes "rule") x) e).0) line_begins)
-    (begins_wider (word_is (codes "rule")) begins_item rule (λ x e. (or_false (word_is (codes "line") x) (word_is (codes "rule") x) e).1) rule_begins)
+    (begins_wider (word_is (codes "line")) begins_item line (λ x e. (or_parts (word_is (codes "line") x) (word_is (codes "rule") x) e).0) line_begins)
+    (begins_wider (word_is (codes "rule")) begins_item rule (λ x e. (or_parts (word_is (codes "line") x) (word_is (codes "rule") x) e).1) rule_begins)
 
 pub item_reads : IsReader Anything item item_reader
 unfolding item item_reader

@@ -1,10 +1,11 @@
 -- Worked values of printed sets.
 use Rattle.std.proofs.Common.{◌≡◌, [], ◌∷◌, refl, arith}
 use Rattle.std.specs.Prelude.{codes}
+use Rattle.dx_ports.proofs.Members.{each_cons}
 use Rattle.dx_schema.specs.Forest.{Label, none, set}
 use Rattle.dx_schema_text.specs.Print.{printed, IsNamed, AreWritable}
 use Rattle.dx_schema_text.proofs.PrintScans.{a_word}
-use Rattle.dx_schema_text.proofs.SpelledWords.{each_one, each_none}
+use Rattle.dx_schema_text.proofs.SpelledWords.{each_none}
 
 abbrev staff : Label
 staff = record { name = codes "staff"; columns = codes "sname" ∷ []; keys = []; refs = [] }
@@ -29,9 +30,9 @@ staff_named = record { name = a_word (codes "staff") refl; columns = (a_word (co
 unit_named : IsNamed unit
 unit_named = record {
   name = a_word (codes "unit") refl;
-  columns = (a_word (codes "uname") refl, each_one _ _ (a_word (codes "place") refl) (each_none _));
-  keys = each_one _ _ (a_word (codes "uname") refl, each_none _) (each_none _);
-  refs = each_one _ _ (record { columns = (a_word (codes "place") refl, each_none _); refers = a_word (codes "town") refl; referred = (a_word (codes "tname") refl, each_one _ _ (a_word (codes "land") refl) (each_none _)) }) (each_none _);
+  columns = (a_word (codes "uname") refl, each_cons _ _ (a_word (codes "place") refl) (each_none _));
+  keys = each_cons _ _ (a_word (codes "uname") refl, each_none _) (each_none _);
+  refs = each_cons _ _ (record { columns = (a_word (codes "place") refl, each_none _); refers = a_word (codes "town") refl; referred = (a_word (codes "tname") refl, each_cons _ _ (a_word (codes "land") refl) (each_none _)) }) (each_none _);
 }
 
 two_levels_are_writable : AreWritable (set unit (set staff none none) (set staff none none))

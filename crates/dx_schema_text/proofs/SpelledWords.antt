@@ -1,6 +1,7 @@
 -- The names of sets that are read are words, each list of them has one, and no set is too deep.
-use Rattle.std.proofs.Common.{◌≡◌, ℕ, suc, ◌≤◌, true, List, [], ◌∷◌, ◌++◌, refl, subst, arith}
-use Rattle.dx_ports.specs.Members.{Each, here, there}
+use Rattle.std.proofs.Common.{◌≡◌, ℕ, suc, ◌≤◌, true, List, [], ◌∷◌, ◌++◌, refl, arith}
+use Rattle.dx_ports.specs.Members.{Each}
+use Rattle.dx_ports.proofs.Members.{each_cons}
 use Rattle.dx_tokens.specs.declared.tokenizer.TokenKind.{TokenKind}
 use Rattle.dx_tokens.specs.declared.tokenizer.TokenKind.TheVariants.{Word, Number, Str, Mark}
 use Rattle.dx_tokens.specs.declared.scanner.Lexeme.{Lexeme}
@@ -20,7 +21,7 @@ use Rattle.dx_schema_text.specs.Texts.{IsMappingText}
 use Rattle.dx_schema_text.specs.Print.{AreNames, IsNamedRef, IsNamed, AreNamed, AreWritable}
 
 -- a token that can stand for a word is one
-kind_word : (k : TokenKind) → is_word_kind k ≡ true → k ≡ Word
+pub kind_word : (k : TokenKind) → is_word_kind k ≡ true → k ≡ Word
 kind_word Word e = refl
 kind_word Number e = absurd cc
 kind_word Str e = absurd cc
@@ -33,10 +34,6 @@ right_front (x ∷ u) v h = (h.0, right_front u v h.1)
 right_back : (u v : List Lexeme) → WordsAreRight (u ++ v) → WordsAreRight v
 right_back [] v h = h
 right_back (x ∷ u) v h = right_back u v h.1
-
-pub each_one : {X : Type 0} {P : X → Type 0} (x : X) (xs : List X) → P x → Each xs P → Each (x ∷ xs) P
-each_one {P = P} x xs p each y (here e) = subst P e p
-each_one x xs p each y (there m) = each y m
 
 pub each_none : {X : Type 0} (P : X → Type 0) → Each {X = X} [] P
 each_none P y m = elim m [ ]
@@ -54,7 +51,7 @@ comma_right (comma_then c e n) h = name_right n h.1
 
 many_right : {names : List (List ℕ)} {u : List Lexeme} → Many (Comma SpellsName) names u → WordsAreRight u → Each names IsWord
 many_right no_more h = each_none _
-many_right (one_more {a = a} {others = others} {u = u} {v = v} c m) h = each_one a others (comma_right c (right_front u v h)) (many_right m (right_back u v h))
+many_right (one_more {a = a} {others = others} {u = u} {v = v} c m) h = each_cons a others (comma_right c (right_front u v h)) (many_right m (right_back u v h))
 
 names_right : {names : List (List ℕ)} {u : List Lexeme} → Parted SpellsName names u → WordsAreRight u → AreNames names
 names_right (parted {u = u} {v = v} n m) h = (name_right n (right_front u v h), many_right m (right_back u v h))
@@ -88,8 +85,8 @@ mutual
   clauses_right (clause_first {cs = cs} {u = u} {v = v} c more) h = clause_right c cs (right_front u v h) (clauses_right more (right_back u v h))
 
   clause_right : {levels : ℕ} {c : Clause} {u : List Lexeme} → SpellsClause levels c u → (cs : List Clause) → WordsAreRight u → AreRight levels cs → AreRight levels (c ∷ cs)
-  clause_right (a_key {k = k} s) cs h rest = (each_one k (keys_among cs) (key_right s h) rest.0, rest.1, rest.2, rest.3)
-  clause_right (a_ref {r = r} s) cs h rest = (rest.0, each_one r (refs_among cs) (ref_right s h) rest.1, rest.2, rest.3)
+  clause_right (a_key {k = k} s) cs h rest = (each_cons k (keys_among cs) (key_right s h) rest.0, rest.1, rest.2, rest.3)
+  clause_right (a_ref {r = r} s) cs h rest = (rest.0, each_cons r (refs_among cs) (ref_right s h) rest.1, rest.2, rest.3)
   clause_right (a_set {t = t} s) cs h rest = let one = set_right s h in (rest.0, rest.1, (one.0, one.1, rest.2), omega (arith, one.2, rest.3))
 
 trees_right : {levels : ℕ} {trees : List Tree} {u : List Lexeme} → Many (SpellsSet levels) trees u → WordsAreRight u → AreNamed (forest_of trees) × (depth (forest_of trees) ≤ suc levels)

@@ -3,6 +3,7 @@ use Rattle.std.proofs.Common.{ℕ, ◌<◌, List, [], length, inl, inr, subst}
 use Rattle.std.specs.Prelude.{map}
 use Rattle.dx_ports.specs.Members.{◌∈◌, Each}
 use Rattle.dx_ports.proofs.Members.{in_map, from_map, in_flat_map, from_flat_map}
+use Rattle.dx_ports.proofs.Tests.{from_filter}
 use Rattle.dx_model.specs.declared.rules.Cell.{Cell}
 use Rattle.dx_model.specs.declared.rules.Cell.TheVariants.{Var, Ex, Lit}
 use Rattle.dx_model.specs.declared.rules.Atom.{Atom}
@@ -10,7 +11,7 @@ use Rattle.dx_model.specs.declared.rules.Rule.{Rule}
 use Rattle.dx_model.specs.declared.covers.CellMap.{CellMap}
 use Rattle.dx_model.specs.Rules.{cells_of, exported}
 use Rattle.dx_model.specs.Covers.{HasWidths, IsKnown, below, before, cell_under, rule_at, used_maps}
-use Rattle.dx_model.proofs.Lists.{from_filter, from_below}
+use Rattle.dx_model.proofs.Lists.{from_below}
 use Rattle.dx_model.proofs.Canonical.{in_variables, from_variables}
 use Rattle.dx_model.proofs.Carrying.{maps_carry}
 use Rattle.dx_model.proofs.Before.{from_used, widths_at}

@@ -3,7 +3,7 @@ use Rattle.std.proofs.Common.{◌≡◌, ℕ, zero, suc, ◌+◌, ◌-◌, ◌<�
 use Rattle.std.specs.Prelude.{map, flat_map}
 use Rattle.std.specs.List.{position_or_len}
 use Rattle.std.proofs.lemmas.Bool.{cases_Bool, eqb-false}
-use Rattle.std.proofs.lemmas.List.{append-nil, get_or-map, length-map, length-append, get_or_append_left}
+use Rattle.std.proofs.lemmas.List.{append-nil, get_or-map, length-map, get_or_append_left}
 use Rattle.std.proofs.Math.Seq.{get_or-append_seam}
 use Rattle.std.proofs.lemmas.Grind.{flat_map-append}
 use Rattle.std.proofs.lemmas.List.Concat.{flat_map_single}
@@ -17,7 +17,7 @@ use Rattle.dx_model.specs.declared.rules.Rule.{Rule}
 use Rattle.dx_model.specs.Values.{Text}
 use Rattle.dx_model.specs.Rules.{cells_of, after_cells, exported}
 use Rattle.dx_model.specs.Covers.{below, rule_at}
-use Rattle.dx_model.proofs.Lists.{in_below, from_below}
+use Rattle.dx_model.proofs.Lists.{in_below, from_below, length_below}
 use Rattle.dx_model.proofs.Canonical.{in_variables}
 use Rattle.dx_schema.specs.Names.{Named}
 use Rattle.dx_funcs.specs.declared.conversion.Conversion.{Conversion}
@@ -39,10 +39,6 @@ use Rattle.dx_script.proofs.Spots.{atom_at, from_spots, standing_spots, first_st
 use Rattle.dx_script.proofs.Parts.{from_inserts, from_keep_step, in_keep_step, kept_from}
 
 -- ---- lists
-
-length_below : (n : ℕ) → length (below n) ≡ n
-length_below zero = refl
-length_below (suc n) = length-append (below n) (n ∷ []) ∙ ap (λ z. z + 1) (length_below n) ∙ (omega arith)
 
 below_at : (n r d : ℕ) → r < n → get_or (below n) r d ≡ r
 below_at zero r d h = absurd (omega arith)

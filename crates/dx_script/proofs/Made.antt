@@ -6,22 +6,22 @@ use Rattle.std.proofs.lemmas.List.{drop_more, drop_all, get_or-map, length-map, 
 use Rattle.std.proofs.lemmas.Simd.{map-map}
 use Rattle.dx_ports.specs.Members.{◌∈◌, here, there, Each}
 use Rattle.dx_ports.proofs.Members.{in_right, from_append}
+use Rattle.dx_ports.proofs.Lists.{cut_at}
 use Rattle.dx_model.specs.Values.{Text}
 use Rattle.dx_schema.specs.Forest.{Forest}
 use Rattle.dx_schema.specs.Tables.{AreTables, TableOf, tables_of, table_at, number_of}
 use Rattle.dx_schema.specs.Names.{Named, named_of, names_of_table}
-use Rattle.dx_schema.proofs.Loops.{cut}
+use Rattle.dx_schema.proofs.Whole.{are_named}
 use Rattle.dx_script.specs.declared.form.Step.{Step}
 use Rattle.dx_script.specs.declared.form.Step.TheVariants.{Create, MatchRows, KeepRows, InsertRows}
 use Rattle.dx_script.specs.Names.{table_numbered, table_names, table_named}
 use Rattle.dx_script.specs.Fits.{created, created_in, kept_in, kept_rules}
 use Rattle.dx_script.proofs.NameFacts.{no_table, table_number, same_text, other_text}
-use Rattle.dx_script.proofs.RuleFacts.{are_named}
 
 -- ---- what the rest of the steps makes
 
 pub made_next : {X : Type 0} (f : Step → List X) (steps : List Step) (i : ℕ) (s : Step) → i < length steps → s ≡ get_or steps i s → flat_map f (drop i steps) ≡ f s ++ flat_map f (drop (i + 1) steps)
-made_next f steps i s lt is = rw (cut steps i s lt is) refl
+made_next f steps i s lt is = rw (cut_at steps i s lt is) refl
 
 -- a step that doesn't make it leaves it to the rest
 pub made_past : {X : Type 0} {W : Type 0} (f : Step → List X) (x : X) (steps : List Step) (i : ℕ) (s : Step) → i < length steps → s ≡ get_or steps i s

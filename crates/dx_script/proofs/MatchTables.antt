@@ -24,8 +24,10 @@ use Rattle.dx_script.specs.Meaning.{IsAssignment, IsMatchTable}
 use Rattle.dx_model.specs.Rules.{IsRows}
 use Rattle.dx_model.specs.Values.{Text, Tuple, Conversions}
 use Rattle.dx_script.specs.Generated.{Spot, spots, first_spot, shows, equals, select_of, selects_of, sources_of}
-use Rattle.dx_script.proofs.RuleFacts.{below_after, premise_fits, premise_variable, stands, arguments_below, exported_known, NamesFit, WidthsFit}
+use Rattle.dx_script.proofs.RuleFacts.{premise_fits, premise_variable, stands, arguments_below, exported_known, NamesFit, WidthsFit}
 use Rattle.dx_ports.proofs.Members.{in_at}
+use Rattle.dx_ports.proofs.Tests.{map_same}
+use Rattle.dx_model.proofs.RowsExist.{below_after}
 use Rattle.dx_script.proofs.NameFacts.{table_number, column_number, calls_by_name}
 use Rattle.dx_script.proofs.Spots.{atom_at, cell_in, from_spots, in_spots, standing_spots, first_stands, from_equals, in_equals}
 
@@ -34,14 +36,6 @@ pub index_of : {X : Type 0} (xs : List X) (x d : X) → x ∈ xs → (j : ℕ) �
 index_of [] x d m = elim m [ ]
 index_of (y ∷ ys) x d (here e) = (0, omega arith, e)
 index_of (y ∷ ys) x d (there m) = let w = index_of ys x d m in (suc w.0, omega (arith, w.1), w.2)
-
--- maps that agree on the members
-pub map_agree : {X Y : Type 0} (f g : X → Y) (xs : List X) → ((x : X) → x ∈ xs → f x ≡ g x) → map f xs ≡ map g xs
-map_agree f g [] h = refl
-map_agree f g (x ∷ xs) h =
-    let e : f x ≡ g x = h x (here refl) in
-    let r : map f xs ≡ map g xs = map_agree f g xs (λ y m. h y (there m)) in
-    cc
 
 -- derived variables, by their place
 derived_at : (convert : ℕ → List (List ℕ) → List ℕ) (texts : ℕ → List ℕ) (n : ℕ) (ds : List Derived) (i : ℕ) → Derive convert texts n ds → i < length ds
@@ -192,7 +186,7 @@ module _ (source target : List Named) (convert : Conversions) (list : List Conve
         let e : Derived = get_or d.derived (x - n) e0 in
         let i : e ∈ d.derived = in_at d.derived (x - n) e0 (omega arith) in
         let r : map (λ y. shown source (sources_of source d) rows (shows (first_spot y all))) e.args ≡ map texts e.args =
-        map_agree (λ y. shown source (sources_of source d) rows (shows (first_spot y all))) texts e.args (λ y k. a y (arguments_below source target list R d good member e i y k)) in
+        map_same (λ y. shown source (sources_of source d) rows (shows (first_spot y all))) texts e.args (λ y k. a y (arguments_below source target list R d good member e i y k)) in
         rw f.0 (
         ap (call (conversion_name list e.code)) (map-map (shown source (sources_of source d) rows) (λ y. shows (first_spot y all)) e.args ∙ r)
         ∙ (calls_by_name convert list e.code (length e.args) (map texts e.args) good.offer (good.listed d member e i) ∙ sym (b x g l))
@@ -246,7 +240,7 @@ module _ (source target : List Named) (convert : Conversions) (list : List Conve
         let q : (n + i) - n ≡ i = omega arith in
         let e : Derived = get_or d.derived i e0 in
         let r : map (λ y. value rows (first_spot y all)) e.args ≡ map (texts_of rows) e.args =
-        map_agree (λ y. value rows (first_spot y all)) (texts_of rows) e.args
+        map_same (λ y. value rows (first_spot y all)) (texts_of rows) e.args
         (λ y k. sym (low rows y (arguments_below source target list R d good member e (in_at d.derived i e0 l) y k))) in
         (rw q at (high rows (n + i) (omega arith))) ∙ ap (convert e.code) r);
   }
@@ -258,7 +252,7 @@ module _ (source target : List Named) (convert : Conversions) (list : List Conve
   unfolding n e0
   selects rows texts a g =
       map-map (selected source call (sources_of source d) rows) (select_of list all d) (exported d)
-      ∙ map_agree (λ x. selected source call (sources_of source d) rows (select_of list all d x)) texts (exported d)
+      ∙ map_same (λ x. selected source call (sources_of source d) rows (select_of list all d x)) texts (exported d)
       (select_is rows texts a (λ x h l.
       let q : n + (x - n) ≡ x = omega arith in
       rw q at (derived_at convert texts n d.derived (x - n) g.derived (omega arith))))

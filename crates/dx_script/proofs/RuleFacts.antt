@@ -1,9 +1,9 @@
 -- What is known of rules that fit.
-use Rattle.std.proofs.Common.{◌≡◌, ℕ, suc, ◌+◌, ◌<◌, ◌≤◌, ◌⊎◌, true, false, cond, List, [], ◌∷◌, length, refl, sym, ◌∙◌, ap, subst, inl, inr, arith}
+use Rattle.std.proofs.Common.{◌≡◌, ℕ, suc, ◌+◌, ◌<◌, ◌≤◌, ◌⊎◌, true, false, List, [], ◌∷◌, length, refl, sym, ◌∙◌, ap, subst, inl, inr, arith}
 use Rattle.std.specs.Prelude.{nat_lt, flat_map}
 use Rattle.std.proofs.lemmas.List.{get_or-map, length-map}
-use Rattle.dx_ports.specs.Members.{◌∈◌, here, there, Distinct, Each}
-use Rattle.dx_ports.proofs.Members.{from_flat_map, from_map}
+use Rattle.dx_ports.specs.Members.{◌∈◌, here, there, Each}
+use Rattle.dx_ports.proofs.Members.{from_flat_map}
 use Rattle.dx_model.specs.declared.facts.Fact.{Fact}
 use Rattle.dx_model.specs.declared.rules.Cell.{Cell}
 use Rattle.dx_model.specs.declared.rules.Cell.TheVariants.{Var, Ex, Lit}
@@ -16,29 +16,16 @@ use Rattle.dx_model.specs.Solutions.{AtomFits}
 use Rattle.dx_model.proofs.Canonical.{from_variables}
 use Rattle.dx_model.specs.Fitting.{Numbered, IsRule, IsVariable, variable_in, premise_variables}
 use Rattle.dx_schema.specs.Forest.{Forest}
-use Rattle.dx_schema.specs.Tables.{TableOf, AreTables, as_numbers, model_tables, tables_of}
+use Rattle.dx_schema.specs.Tables.{TableOf, as_numbers, model_tables, tables_of}
 use Rattle.dx_schema.specs.Names.{Named, AreNamed, named_of, names_of_table}
 use Rattle.dx_funcs.specs.Offers.{IsListed, IsOffer}
-use Rattle.std.proofs.lemmas.Simd.{map-map}
 use Rattle.std.specs.Prelude.{None}
+use Rattle.dx_model.proofs.RowsExist.{from_variable}
+use Rattle.dx_schema.proofs.Whole.{are_named}
 use Rattle.dx_funcs.specs.declared.conversion.Conversion.{Conversion}
 use Rattle.dx_script.specs.Names.{table_numbered}
 use Rattle.dx_script.specs.Laws.{RulesFit}
 use Rattle.dx_script.proofs.NameFacts.{nat_lt_tells}
-
--- the variables of the premise have numbers below the first derived one
-last_below : (x n : ℕ) → x < cond (nat_lt x n) n (suc x)
-last_below x n = elim (nat_lt_tells x n) [ inl t ↦ rw t.0 t.1 | inr f ↦ rw f.0 (omega arith) ]
-
-still_below : (x y n : ℕ) → x < n → x < cond (nat_lt y n) n (suc y)
-still_below x y n h = elim (nat_lt_tells y n) [ inl t ↦ rw t.0 h | inr f ↦ let k = f.1 in rw f.0 (omega arith) ]
-
-pub below_after : (x : ℕ) (cs : List Cell) → Var x ∈ cs → x < after_cells cs
-below_after x [] m = elim m [ ]
-below_after x (c ∷ cs) (here e) = rw e (last_below x (after_cells cs))
-below_after x (Var y ∷ cs) (there m) = still_below x y (after_cells cs) (below_after x cs m)
-below_after x (Ex v ∷ cs) (there m) = below_after x cs m
-below_after x (Lit t ∷ cs) (there m) = below_after x cs m
 
 -- ---- numbers by first appearance
 
@@ -52,12 +39,6 @@ numbered_stands n (y ∷ ys) m x (inr h) l = go (numbered_stands (suc n) ys m x 
     go (inr b) t = inr (there b)
     go (inl a) (inl t) = inl t.1
     go (inl a) (inr t) = inr (here (let e = h.0 in let k = t.1 in omega (arith, a)))
-
-from_variables_in : (x : ℕ) (c : Cell) → x ∈ variable_in c → c ≡ Var x
-from_variables_in x (Var y) (here e) = ap Var e
-from_variables_in x (Var y) (there m) = elim m [ ]
-from_variables_in x (Ex v) m = elim m [ ]
-from_variables_in x (Lit t) m = elim m [ ]
 
 variable_of : (c : Cell) → IsVariable c → (x : ℕ) × (c ≡ Var x)
 variable_of (Var x) i = (x, refl)
@@ -86,13 +67,6 @@ pub record NamesFit (source target : List Named) (list : List Conversion) (R : L
   pub listed : Each R (λ d. Each d.derived (λ e. IsListed list e.code (length e.args)))
 
 -- ---- rules over two schemas
-
--- names tell the tables of a schema apart, and the columns of each table
-pub are_named : (f : Forest) → AreTables (tables_of f) → AreNamed (named_of f)
-are_named f a = record {
-  apart = subst Distinct (sym (map-map (λ (n : Named). n.name) names_of_table (tables_of f))) a.distinct_names;
-  columns_apart = λ n m. let w = from_map names_of_table (tables_of f) m in subst (λ (z : Named). Distinct z.columns) w.2 (a.each_table w.0 w.1).distinct_columns;
-}
 
 no_numbers : Table
 no_numbers = record { width = 0; determinations = []; links = []; optional = [] }
@@ -143,7 +117,7 @@ module _ (source target : List Named) (list : List Conversion) (R : List Rule) (
   pub stands : (x : ℕ) → x < after_cells (cells_of d.premise) → Var x ∈ cells_of d.premise
   stands x h = elim (numbered_stands 0 (flat_map variable_in (cells_of d.premise)) (premise_variables d) x (good.rules d member).numbered h) [
     | inl a ↦ absurd (omega (arith, a))
-    | inr b ↦ let w = from_flat_map variable_in (cells_of d.premise) b in subst (λ c. c ∈ cells_of d.premise) (from_variables_in x w.0 w.2) w.1
+    | inr b ↦ let w = from_flat_map variable_in (cells_of d.premise) b in subst (λ c. c ∈ cells_of d.premise) (from_variable x w.0 w.2) w.1
   ]
 
   pub arguments_below : (e : Derived) → e ∈ d.derived → (y : ℕ) → y ∈ e.args → y < after_cells (cells_of d.premise)

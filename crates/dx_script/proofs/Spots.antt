@@ -1,7 +1,7 @@
 -- Where the cells of a premise stand.
 use Rattle.std.proofs.Common.{◌≡◌, ℕ, zero, suc, ◌+◌, ◌<◌, Bool, true, false, cond, eqb, List, [], ◌∷◌, length, get_or, refl, sym, ◌∙◌, ap, inl, inr, arith, ◌⊎◌}
 use Rattle.std.specs.Prelude.{◌&&◌}
-use Rattle.std.proofs.lemmas.Bool.{cases_Bool, eqb-true, eq-eqb}
+use Rattle.std.proofs.lemmas.Bool.{cases_Bool, eqb-true, eq-eqb, and_parts}
 use Rattle.dx_model.specs.declared.rules.Cell.{Cell}
 use Rattle.dx_model.specs.declared.rules.Cell.TheVariants.{Var, Ex, Lit}
 use Rattle.dx_model.specs.declared.rules.Atom.{Atom}
@@ -63,12 +63,12 @@ module _ (source : List Named) where
     | inr r ↦ let w = standing_spots (suc alias) atoms x r in (w.0, in_right (spots_of_cells source alias a.table 0 a.cells) w.1, w.2)
   ]
 
-is_variable-true : (x : ℕ) (c : Cell) → is_variable x c ≡ true → c ≡ Var x
+pub is_variable-true : (x : ℕ) (c : Cell) → is_variable x c ≡ true → c ≡ Var x
 is_variable-true x (Var y) e = ap Var (sym (eqb-true x y e))
 is_variable-true x (Ex v) e = cc
 is_variable-true x (Lit t) e = cc
 
-is_variable-same : (x : ℕ) (c : Cell) → c ≡ Var x → is_variable x c ≡ true
+pub is_variable-same : (x : ℕ) (c : Cell) → c ≡ Var x → is_variable x c ≡ true
 is_variable-same x c e = rw e (eq-eqb x x refl)
 
 pub first_stands : (x : ℕ) (ss : List Spot) (s : Spot) → s ∈ ss → s.cell ≡ Var x → (first_spot x ss ∈ ss) × ((first_spot x ss).cell ≡ Var x)
@@ -99,16 +99,11 @@ from_equals all e m =
     go s (Ex v) p m = elim m [ ]
     go s (Lit t) p m = elim m [ ]
 
-both : (a b : Bool) → (a && b) ≡ true → (a ≡ true) × (b ≡ true)
-both true true e = (refl, refl)
-both true false e = cc
-both false b e = cc
-
 pub in_equals : (all : List Spot) (s : Spot) (x : ℕ) → s ∈ all → s.cell ≡ Var x
     → (((first_spot x all).alias ≡ s.alias) × ((first_spot x all).column ≡ s.column)) ⊎ (record { left = shows (first_spot x all); right = shows s } ∈ equals all)
 in_equals all s x m e =
     let f : Spot = first_spot x all in
     elim (cases_Bool (eqb f.alias s.alias && eqb f.column s.column)) [
-      | inl t ↦ let w = both _ _ t in inl (eqb-true f.alias s.alias w.0, eqb-true f.column s.column w.1)
+      | inl t ↦ let w = and_parts _ _ t in inl (eqb-true f.alias s.alias w.0, eqb-true f.column s.column w.1)
       | inr n ↦ inr (in_flat_map (λ (z : Spot). further all z z.cell) m (rw (e, n) (here refl)))
     ]

@@ -31,10 +31,11 @@ use Rattle.dx_script.specs.Meaning.{match_table, tuple_at, in_column, HasNoPartn
 use Rattle.dx_script.specs.Generated.{match_step, has_parts, out_of, plain_steps, script_with}
 use Rattle.dx_script.specs.Laws.{IsLeft}
 use Rattle.dx_ports.proofs.Members.{in_at}
+use Rattle.dx_ports.proofs.Tests.{map_same}
 use Rattle.dx_script.proofs.NameFacts.{table_number}
 use Rattle.dx_script.proofs.RuleFacts.{NamesFit, WidthsFit, conclusion_fits}
 use Rattle.dx_script.proofs.Parts.{a_match, a_keep, an_insert, match_in, keep_in, insert_in}
-use Rattle.dx_script.proofs.MatchTables.{map_agree, table_is_rows}
+use Rattle.dx_script.proofs.MatchTables.{table_is_rows}
 
 -- The rows of the rules, by their numbers.
 abbrev pub RowsAt : Conversions → List Rule → List Fact → Rows → Type 0
@@ -111,7 +112,7 @@ module _ (source target : List Named) (convert : Conversions) (list : List Conve
       let p : table_named target (table_numbered target a.table).name ≡ a.table = table_number target a.table good.target_tables (conclusion_fits source target list R d good (rule_in j h) a m).0 in
       let q : map (inserted j k t) (map (out_of d) a.cells) ≡ map (cell_value texts values) a.cells =
       map-map (inserted j k t) (out_of d) a.cells
-      ∙ map_agree (λ c. inserted j k t (out_of d c)) (cell_value texts values) a.cells (λ c n. out_cell j k d t c (in_flat_map (λ (b : Atom). b.cells) m n)) in
+      ∙ map_same (λ c. inserted j k t (out_of d c)) (cell_value texts values) a.cells (λ c n. out_cell j k d t c (in_flat_map (λ (b : Atom). b.cells) m n)) in
       (λ i. record { table = p i; row = q i })
 
   -- What the steps insert is what is left.

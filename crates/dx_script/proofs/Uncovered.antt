@@ -17,7 +17,7 @@ use Rattle.dx_model.proofs.Canonical.{in_variables, from_variables}
 use Rattle.dx_model.proofs.CoverFold.{in_uncovered, from_uncovered}
 use Rattle.dx_model.specs.Covers.{below, before, used_maps, least_cover}
 use Rattle.dx_model.specs.Covers.{HasWidths, IsKnown}
-use Rattle.dx_model.proofs.Lists.{in_filter, from_filter, in_below, from_below}
+use Rattle.dx_model.proofs.Lists.{in_filter, in_below, from_below}
 use Rattle.dx_model.proofs.Carrying.{maps_carry}
 use Rattle.dx_model.proofs.Before.{from_used, none_exactly, widths_at}
 use Rattle.dx_script.specs.declared.form.Test.{Test}
@@ -35,6 +35,7 @@ use Rattle.dx_funcs.specs.Names.{call_named}
 use Rattle.dx_script.specs.Meaning.{Means}
 use Rattle.dx_script.specs.Rewritten.{rewritten_steps}
 use Rattle.dx_ports.proofs.Members.{in_at}
+use Rattle.dx_ports.proofs.Tests.{from_filter}
 use Rattle.dx_script.proofs.RuleFacts.{NamesFit, WidthsFit, conclusion_fits}
 use Rattle.dx_script.proofs.MatchTables.{index_of}
 use Rattle.dx_script.proofs.Steps.{rows_at, column_text, script_means_left}

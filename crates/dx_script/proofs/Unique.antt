@@ -45,7 +45,7 @@ one_list (t ∷ ts) (u ∷ us) a b h =
     )) in
     cc
 
-one_by_one : (xs ys : Rows) → length xs ≡ length ys → ((r : ℕ) → r < length xs → get_or xs r [] ≡ get_or ys r []) → xs ≡ ys
+pub one_by_one : (xs ys : Rows) → length xs ≡ length ys → ((r : ℕ) → r < length xs → get_or xs r [] ≡ get_or ys r []) → xs ≡ ys
 one_by_one [] [] l h = refl
 one_by_one [] (y ∷ ys) l h = absurd (omega arith)
 one_by_one (x ∷ xs) [] l h = absurd (omega arith)

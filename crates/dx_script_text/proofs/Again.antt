@@ -1,7 +1,7 @@
 -- What is spelled is read.
 use Rattle.std.proofs.Common.{◌≡◌, ℕ, ◌≤◌, Bool, true, false, List, [], ◌∷◌, ◌++◌, Option, Some, None, Ok, refl, ap, ◌∙◌, append_assoc, arith}
 use Rattle.std.specs.Prelude.{nat_eq, nat_le}
-use Rattle.std.proofs.lemmas.Bool.{or_left, or_right}
+use Rattle.std.proofs.lemmas.Bool.{or_left, or_right, and_parts}
 use Rattle.std.proofs.lemmas.Bool.Decides.{nat_tests}
 use Rattle.dx_grammar.specs.Readers.{Reader, ◌>>=◌, give, token, next_is, either}
 use Rattle.dx_grammar.specs.Lists.{Past, past_one, Listed, list_of}
@@ -10,6 +10,7 @@ use Rattle.dx_grammar.proofs.Spelled.{Again, NotNext, many_again}
 use Rattle.dx_grammar.proofs.Lists.{past_again, past_begin, list_again}
 use Rattle.dx_grammar.proofs.Counted.{counted_again}
 use Rattle.dx_grammar.proofs.Learned.{May, AgainKnown, knowing_again}
+use Rattle.dx_grammar.proofs.Knowing.{same_if}
 use Rattle.dx_script_tokens.specs.declared.scanner.ScriptToken.{ScriptToken}
 use Rattle.dx_script_tokens.specs.declared.kinds.ScriptKind.{ScriptKind}
 use Rattle.dx_script_tokens.specs.declared.kinds.ScriptKind.TheVariants as kinds
@@ -24,8 +25,9 @@ use Rattle.dx_script_tokens.specs.Kinds.{rank}
 use Rattle.dx_script_text.specs.Grammar.{of_kind, number, number_is, is_table, is_comma, is_and}
 use Rattle.dx_script_text.specs.Reading.{declared_reader, create_reader, cell_reader, call_reader, cell_value_reader, value_reader, item_reader, comma_item, items_reader, no_items, select_reader, source_reader, comma_source, sources_reader, equal_reader, equals_reader, where_reader, match_reader, columns_reader, text_reader, test_reader, tests_reader, optional_tests, unless_reader, keep_tail_reader, keep_reader, text_out_reader, column_out_reader, skolem_tail_reader, skolem_reader, out_reader, comma_out, outs_reader, insert_end_reader, insert_tail_reader, insert_reader, table_reader, created_reader, step_reader, begins_step, script_reader, insert_step}
 use Rattle.dx_script_text.specs.Spelling.{Of, SpellsDeclared, declared_of, SpellsCreate, create_of, SpellsCell, cell_of, SpellsValue, a_cell, a_call, SpellsItem, item_of, SpellsSelect, no_columns, columns_of, SpellsSource, source_of, SpellsSources, sources_of, SpellsEqual, equal_of, SpellsWhere, no_where, where_of, SpellsMatch, match_of, SpellsTest, columns_are, text_is, SpellsUnless, unless_of, SpellsKeep, keep_of, SpellsOut, text_out_of, column_out_of, skolem_out_of, SpellsInsert, insert_of, SpellsStep, a_create, a_match, a_keep, an_insert, SpellsScript}
-use Rattle.dx_script_text.proofs.Apart.{and_true, same_if, apart_kinds, apart_number_kind, apart_kind_number}
+use Rattle.dx_script_text.proofs.Apart.{apart_kinds, apart_number_kind, apart_kind_number}
 use Rattle.dx_script_text.proofs.Follows.{comma_declared_consumes, comma_cell_consumes, and_equal_consumes, and_test_consumes, and_unless_consumes, comma_out_consumes, step_consumes}
+use Rattle.dx_script_text.proofs.Found.{eq_self}
 
 -- whatever is after it
 abbrev Any : List ScriptToken → Type 0
@@ -171,12 +173,9 @@ unless_behind (unless_of {u = u} n x o s star f t a alias c nw xw ow sw starw fw
 le_is : (n top : ℕ) → n ≤ top → nat_le n top ≡ true
 le_is n top le = grind (arith, nat_tests)
 
-eq_self : (n : ℕ) → nat_eq n n ≡ true
-eq_self n = grind (arith, nat_tests)
-
 -- a token with a number has it
 number_is_of : (p : ScriptToken → Bool) (n : ℕ) (x : ScriptToken) → has_number p number n x ≡ true → (p x ≡ true) × (x.number ≡ n)
-number_is_of p n x e = let b = and_true (p x) (nat_eq x.number n) e in (b.0, same_if x.number n b.1)
+number_is_of p n x e = let b = and_parts (p x) (nat_eq x.number n) e in (b.0, same_if x.number n b.1)
 
 keep_behind : {top : ℕ} {s : Step} {u : List ScriptToken} → SpellsKeep top s u → (rest : List ScriptToken) → keep_reader top (u ++ rest) ≡ Ok (s, rest)
 unfolding keep_reader keep_tail_reader

@@ -1,24 +1,14 @@
 -- Tokens that can't be mistaken for each other.
-use Rattle.std.proofs.Common.{◌≡◌, ℕ, Bool, true, false, ◌&&◌, ◌||◌, refl, arith}
+use Rattle.std.proofs.Common.{◌≡◌, ℕ, Bool, true, false, ◌&&◌, ◌||◌, refl}
 use Rattle.std.specs.Prelude.{nat_eq}
-use Rattle.std.proofs.lemmas.Bool.Decides.{nat_tests}
+use Rattle.std.proofs.lemmas.Bool.{and_parts}
 use Rattle.dx_grammar.specs.Numbers.{has_number}
 use Rattle.dx_grammar.proofs.Verdicts.{AreApart}
+use Rattle.dx_grammar.proofs.Knowing.{same_if}
 use Rattle.dx_script_tokens.specs.declared.scanner.ScriptToken.{ScriptToken}
 use Rattle.dx_script_tokens.specs.declared.kinds.ScriptKind.{ScriptKind}
 use Rattle.dx_script_tokens.specs.Kinds.{rank}
 use Rattle.dx_script_text.specs.Grammar.{of_kind, number}
-
-pub and_true : (a b : Bool) → (a && b) ≡ true → (a ≡ true) × (b ≡ true)
-and_true true b e = (refl, e)
-and_true false b e = absurd cc
-
-pub or_false : (a b : Bool) → (a || b) ≡ false → (a ≡ false) × (b ≡ false)
-or_false true b e = absurd cc
-or_false false b e = (refl, e)
-
-pub same_if : (n m : ℕ) → nat_eq n m ≡ true → n ≡ m
-same_if n m e = grind (arith, nat_tests)
 
 -- a token of one kind is of no other
 pub apart_kinds : (j k : ScriptKind) → nat_eq (rank j) (rank k) ≡ false → AreApart (of_kind j) (of_kind k)
@@ -26,7 +16,7 @@ apart_kinds j k ne x e = let is : rank x.kind ≡ rank j = same_if (rank x.kind)
 
 -- this number of one kind, and any of another
 pub apart_number_kind : (j : ScriptKind) (n : ℕ) (k : ScriptKind) → nat_eq (rank j) (rank k) ≡ false → AreApart (has_number (of_kind j) number n) (of_kind k)
-apart_number_kind j n k ne x e = apart_kinds j k ne x (and_true (of_kind j x) (nat_eq x.number n) e).0
+apart_number_kind j n k ne x e = apart_kinds j k ne x (and_parts (of_kind j x) (nat_eq x.number n) e).0
 
 and_left : (a b : Bool) → a ≡ false → (a && b) ≡ false
 and_left a b e = rw e refl

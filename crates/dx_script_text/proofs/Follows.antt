@@ -1,5 +1,6 @@
 -- Each reader reads its form.
 use Rattle.std.proofs.Common.{◌≡◌, ℕ, Bool, false, ◌||◌, List, [], ◌∷◌, refl}
+use Rattle.std.proofs.lemmas.Bool.{or_parts}
 use Rattle.dx_grammar.specs.Forms.{Form, nothing, one, ◌▸◌, ◌∣◌, repeated, optional}
 use Rattle.dx_grammar.specs.Lists.{listed, list_reader, past}
 use Rattle.dx_grammar.specs.Numbers.{counted, counted_reader, has_number, always, knowing}
@@ -16,7 +17,7 @@ use Rattle.dx_script_tokens.specs.declared.kinds.ScriptKind.{ScriptKind}
 use Rattle.dx_script_tokens.specs.declared.kinds.ScriptKind.TheVariants as kinds
 use Rattle.dx_script_text.specs.Grammar.{of_kind, number, match_is, keep_is, alias_is, column_is, number_is, is_table, is_comma, is_and, any, declared_column, create_rest, cell, call, value, item, items, select, source, sources, equal, where_part, match_rest, test, tests, unless, keep_tail, keep_rest, text_out, column_out, skolem_tail, skolem_out, out, insert_end, insert_tail, insert, table_rest, step, script}
 use Rattle.dx_script_text.specs.Reading.{declared_reader, create_reader, cell_reader, call_reader, cell_value_reader, value_reader, item_reader, comma_item, items_reader, no_items, select_reader, source_reader, comma_source, sources_reader, equal_reader, equals_reader, where_reader, match_reader, columns_reader, text_reader, test_reader, tests_reader, optional_tests, unless_reader, keep_tail_reader, keep_reader, text_out_reader, column_out_reader, skolem_tail_reader, skolem_reader, out_reader, comma_out, outs_reader, insert_end_reader, insert_tail_reader, insert_reader, table_reader, created_reader, step_reader, begins_step, script_reader}
-use Rattle.dx_script_text.proofs.Apart.{or_false, apart_kinds, apart_number_kind, apart_or}
+use Rattle.dx_script_text.proofs.Apart.{apart_kinds, apart_number_kind, apart_or}
 
 -- a token, whatever follows
 a : (p : ScriptToken → Bool) → IsReader Anything (one p) (token p)
@@ -88,8 +89,8 @@ value_begins : Begins alias_or_name value
 unfolding value
 value_begins =
     begins_choice alias_or_name cell call
-    (begins_wider (of_kind kinds.Alias) alias_or_name cell (λ x e. (or_false (of_kind kinds.Alias x) (of_kind kinds.Name x) e).0) cell_begins)
-    (begins_wider (of_kind kinds.Name) alias_or_name call (λ x e. (or_false (of_kind kinds.Alias x) (of_kind kinds.Name x) e).1) call_begins)
+    (begins_wider (of_kind kinds.Alias) alias_or_name cell (λ x e. (or_parts (of_kind kinds.Alias x) (of_kind kinds.Name x) e).0) cell_begins)
+    (begins_wider (of_kind kinds.Name) alias_or_name call (λ x e. (or_parts (of_kind kinds.Alias x) (of_kind kinds.Name x) e).1) call_begins)
 
 pub item_reads : (n : ℕ) → IsReader Anything (item n) (item_reader n)
 unfolding item item_reader
@@ -173,7 +174,7 @@ no_where m b more h k begins = (stops_kind kinds.And m b more h begins, stops_ki
 optional_begins : (p q : ScriptToken → Bool) (b c : Form ScriptToken) → Begins p b → Begins q c → Begins (λ x. p x || q x) (optional b ▸ c)
 optional_begins p q b c h k = record {
   some = rw (h.some, k.some) refl;
-  first = λ x e. let two = or_false (p x) (q x) e in rw (h.first x two.0, h.some, k.first x two.1) refl;
+  first = λ x e. let two = or_parts (p x) (q x) e in rw (h.first x two.0, h.some, k.first x two.1) refl;
 }
 
 where_begins : Begins (of_kind kinds.Where) where_part
@@ -306,8 +307,8 @@ column_or_skolem x = of_kind kinds.Own x || of_kind kinds.Skolem x
 later_begins : (k : ℕ) → Begins column_or_skolem (column_out ∣ skolem_out k)
 later_begins k =
     begins_choice column_or_skolem column_out (skolem_out k)
-    (begins_wider (of_kind kinds.Own) column_or_skolem column_out (λ x e. (or_false (of_kind kinds.Own x) (of_kind kinds.Skolem x) e).0) column_out_begins)
-    (begins_wider (of_kind kinds.Skolem) column_or_skolem (skolem_out k) (λ x e. (or_false (of_kind kinds.Own x) (of_kind kinds.Skolem x) e).1) (skolem_begins k))
+    (begins_wider (of_kind kinds.Own) column_or_skolem column_out (λ x e. (or_parts (of_kind kinds.Own x) (of_kind kinds.Skolem x) e).0) column_out_begins)
+    (begins_wider (of_kind kinds.Skolem) column_or_skolem (skolem_out k) (λ x e. (or_parts (of_kind kinds.Own x) (of_kind kinds.Skolem x) e).1) (skolem_begins k))
 
 pub out_knows : (top : ℕ) → IsKnower top Anything out (out_reader top)
 unfolding out out_reader
@@ -381,8 +382,8 @@ match_or_keep x = of_kind kinds.Match x || of_kind kinds.Keep x
 match_or_keep_begins : (top : ℕ) → Begins match_or_keep (match_rest top ∣ keep_rest top)
 match_or_keep_begins top =
     begins_choice match_or_keep (match_rest top) (keep_rest top)
-    (begins_wider (of_kind kinds.Match) match_or_keep (match_rest top) (λ x e. (or_false (of_kind kinds.Match x) (of_kind kinds.Keep x) e).0) (match_begins top))
-    (begins_wider (of_kind kinds.Keep) match_or_keep (keep_rest top) (λ x e. (or_false (of_kind kinds.Match x) (of_kind kinds.Keep x) e).1) (keep_begins top))
+    (begins_wider (of_kind kinds.Match) match_or_keep (match_rest top) (λ x e. (or_parts (of_kind kinds.Match x) (of_kind kinds.Keep x) e).0) (match_begins top))
+    (begins_wider (of_kind kinds.Keep) match_or_keep (keep_rest top) (λ x e. (or_parts (of_kind kinds.Match x) (of_kind kinds.Keep x) e).1) (keep_begins top))
 
 pub table_reads : (top : ℕ) → IsReader Anything (table_rest top) (table_reader top)
 unfolding table_rest table_reader
@@ -407,8 +408,8 @@ pub step_begins : (top : ℕ) → Begins begins_step (step top)
 unfolding step
 step_begins top =
     begins_choice begins_step (any kinds.Create ▸ any kinds.Table ▸ table_rest top) (insert top)
-    (begins_wider (of_kind kinds.Create) begins_step (any kinds.Create ▸ any kinds.Table ▸ table_rest top) (λ x e. (or_false (of_kind kinds.Create x) (of_kind kinds.Insert x) e).0) (begins_with (of_kind kinds.Create) _))
-    (begins_wider (of_kind kinds.Insert) begins_step (insert top) (λ x e. (or_false (of_kind kinds.Create x) (of_kind kinds.Insert x) e).1) (insert_begins top))
+    (begins_wider (of_kind kinds.Create) begins_step (any kinds.Create ▸ any kinds.Table ▸ table_rest top) (λ x e. (or_parts (of_kind kinds.Create x) (of_kind kinds.Insert x) e).0) (begins_with (of_kind kinds.Create) _))
+    (begins_wider (of_kind kinds.Insert) begins_step (insert top) (λ x e. (or_parts (of_kind kinds.Create x) (of_kind kinds.Insert x) e).1) (insert_begins top))
 
 pub step_consumes : (top : ℕ) → Consumes (step_reader top)
 step_consumes top = consumes begins_step (step top) (step_reader top) (step_reads top) (step_begins top)

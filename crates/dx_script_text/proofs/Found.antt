@@ -3,20 +3,21 @@ use Rattle.std.proofs.Common.{◌≡◌, ℕ, ◌≤◌, Bool, true, List, [], �
 use Rattle.std.specs.Prelude.{nat_eq, nat_le}
 use Rattle.std.proofs.lemmas.List.{append-nil}
 use Rattle.std.proofs.lemmas.Bool.Decides.{nat_tests}
+use Rattle.std.proofs.lemmas.Bool.{and_parts}
 use Rattle.dx_grammar.specs.Readers.{Reader, give, token, Many}
 use Rattle.dx_grammar.specs.Lists.{past, list_reader, Past, past_one, Listed, list_of}
 use Rattle.dx_grammar.specs.Numbers.{Knower, ◌then◌, always, number_token, counted_reader, knowing, numbered, has_number, may_be, Numbered}
 use Rattle.dx_grammar.proofs.Spelled.{Finds, give_finds, then_finds, last_finds, head_finds, either_finds, many_finds, finds_wider}
 use Rattle.dx_grammar.proofs.Lists.{past_finds, list_finds}
-use Rattle.dx_grammar.proofs.Counted.{counted_finds}
+use Rattle.dx_grammar.proofs.Counted.{counted_finds, le_test}
 use Rattle.dx_grammar.proofs.Learned.{Told, knowing_finds}
+use Rattle.dx_grammar.proofs.Knowing.{same_if}
 use Rattle.dx_script_tokens.specs.declared.scanner.ScriptToken.{ScriptToken}
 use Rattle.dx_script_tokens.specs.declared.kinds.ScriptKind.TheVariants as kinds
 use Rattle.dx_script.specs.declared.form.Out.{Out}
 use Rattle.dx_script_text.specs.Grammar.{of_kind, number, match_is, alias_is, column_is, number_is, is_table, is_comma, is_and}
 use Rattle.dx_script_text.specs.Reading.{declared_reader, create_reader, cell_reader, call_reader, cell_value_reader, value_reader, item_reader, comma_item, items_reader, no_items, select_reader, source_reader, comma_source, sources_reader, equal_reader, equals_reader, where_reader, match_reader, columns_reader, text_reader, test_reader, tests_reader, optional_tests, unless_reader, keep_tail_reader, keep_reader, text_out_reader, column_out_reader, skolem_tail_reader, skolem_reader, out_reader, comma_out, outs_reader, insert_end_reader, insert_tail_reader, insert_reader, table_reader, created_reader, step_reader, begins_step, script_reader, skolem_cell, insert_step}
 use Rattle.dx_script_text.specs.Spelling.{Of, SpellsDeclared, declared_of, SpellsCreate, create_of, SpellsCell, cell_of, SpellsValue, a_cell, a_call, SpellsItem, item_of, SpellsSelect, no_columns, columns_of, SpellsSource, source_of, SpellsSources, sources_of, SpellsEqual, equal_of, SpellsWhere, no_where, where_of, SpellsMatch, match_of, SpellsTest, columns_are, text_is, SpellsUnless, unless_of, SpellsKeep, keep_of, SpellsOut, text_out_of, column_out_of, skolem_out_of, SpellsInsert, insert_of, SpellsStep, a_create, a_match, a_keep, an_insert, SpellsScript}
-use Rattle.dx_script_text.proofs.Apart.{and_true, same_if}
 
 -- ---- CREATE TABLE target
 
@@ -127,11 +128,7 @@ unless_finds =
     head_finds (of_kind kinds.Match) _ _ (λ t tw. head_finds (of_kind kinds.As) _ _ (λ a aw. head_finds (of_kind kinds.Other) _ _ (λ alias lw. then_finds optional_tests _ (SpellsWhere SpellsTest) _ optional_tests_finds (λ made u h.
     head_finds (of_kind kinds.Close) _ _ (λ c cw. give_finds _ _ (unless_of n x o s star f t a alias c nw xw ow sw starw fw tw aw lw h cw))))))))))))
 
--- a token of a kind that may have a number up to the greatest has its number
-le_if : (n top : ℕ) → nat_le n top ≡ true → n ≤ top
-le_if n top e = grind (arith, nat_tests)
-
-eq_self : (n : ℕ) → nat_eq n n ≡ true
+pub eq_self : (n : ℕ) → nat_eq n n ≡ true
 eq_self n = grind (arith, nat_tests)
 
 is_numbered : (p : ScriptToken → Bool) (x : ScriptToken) → p x ≡ true → has_number p number x.number x ≡ true
@@ -141,10 +138,10 @@ keep_finds : (top : ℕ) → Finds (keep_reader top) (SpellsKeep top)
 unfolding keep_reader keep_tail_reader
 keep_finds top =
     head_finds (numbered (of_kind kinds.Keep) number top None) _ (SpellsKeep top) (λ k kw.
-    let both = and_true (of_kind kinds.Keep k) (nat_le k.number top) kw in
+    let both = and_parts (of_kind kinds.Keep k) (nat_le k.number top) kw in
     head_finds (of_kind kinds.As) _ _ (λ a aw. head_finds (of_kind kinds.Select) _ _ (λ s sw. head_finds (of_kind kinds.Star) _ _ (λ star starw. head_finds (of_kind kinds.From) _ _ (λ f fw. head_finds (match_is k.number) _ _ (λ m mw. head_finds (of_kind kinds.As) _ _ (λ b bw. head_finds (of_kind kinds.Own) _ _ (λ alias lw. head_finds (of_kind kinds.Where) _ _ (λ wh ww.
     then_finds (list_reader is_and unless_reader) _ (Listed is_and SpellsUnless) _ (list_finds is_and unless_reader SpellsUnless unless_finds) (λ made u h. head_finds (of_kind kinds.Semicolon) _ _ (λ e ew.
-    give_finds _ _ (keep_of k a s star f m b alias wh e (le_if k.number top both.1) (is_numbered (of_kind kinds.Keep) k both.0) aw sw starw fw mw bw lw ww h ew))))))))))))
+    give_finds _ _ (keep_of k a s star f m b alias wh e (le_test k.number top both.1) (is_numbered (of_kind kinds.Keep) k both.0) aw sw starw fw mw bw lw ww h ew))))))))))))
 
 -- ---- INSERT
 
@@ -172,7 +169,7 @@ number_head : {B : Type 0} (top : ℕ) (p : ScriptToken → Bool) (known : Optio
     → ((x : ScriptToken) → p x ≡ true → may_be top known x.number ≡ true → Finds (f x (Some x.number)) (λ b v. Q b (x ∷ v))) → Finds ((number_token p number top then f) known) Q
 number_head top p known f Q rest =
     then_finds (number_token p number top known) _ (λ v u. (v.1 ≡ Some v.0.number) × (numbered p number top known v.0 ≡ true) × (u ≡ v.0 ∷ [])) Q (head_finds (numbered p number top known) _ _ (λ x e. give_finds (x, Some x.number) _ (refl, e, refl)))
-    (λ v u h. let both = and_true (p v.0) (may_be top known v.0.number) h.1 in rw (h.0, h.2) (rest v.0 both.0 both.1))
+    (λ v u h. let both = and_parts (p v.0) (may_be top known v.0.number) h.1 in rw (h.0, h.2) (rest v.0 both.0 both.1))
 
 -- the number that a token has is the one that may be
 number_of : (p : ScriptToken → Bool) (x : ScriptToken) (k : ℕ) → p x ≡ true → nat_eq k x.number ≡ true → has_number p number k x ≡ true
@@ -229,7 +226,7 @@ insert_finds top =
     then_finds (always insert_end_reader (Some t.number)) _ (λ x w. (a : ScriptToken) × (m : ScriptToken) × (e : ScriptToken) × (w ≡ a ∷ m ∷ e ∷ []) × Of kinds.As a × Of kinds.Own m × Of kinds.Semicolon e) _ (last_finds insert_end_reader (λ x. (x, Some t.number)) _ _ insert_end_finds (λ x w g. g)) (λ x w g.
     give_finds (insert_step n.text t.number (of_kind kinds.Keep t) v.0, x.1) _
     (let told = h t.number may in
-    rw g.3 (insert_of i into side d n s f t g.0 g.1 g.2 (le_if t.number top told.0) iw intow sidew dw nw sw told.1 fw (is_numbered is_table t tw) g.4 g.5 g.6)))))))
+    rw g.3 (insert_of i into side d n s f t g.0 g.1 g.2 (le_test t.number top told.0) iw intow sidew dw nw sw told.1 fw (is_numbered is_table t tw) g.4 g.5 g.6)))))))
     (λ v u h. h)))))))
 
 -- ---- steps

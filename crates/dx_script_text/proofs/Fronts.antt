@@ -1,7 +1,5 @@
 -- The starts of scripts are the fronts of scripts.
-use Rattle.std.proofs.Common.{◌≡◌, ℕ, zero, suc, true, List, [], ◌++◌, length, ◌-◌, Result, Ok, Err, refl, arith}
-use Rattle.std.specs.Prelude.{nat_eq}
-use Rattle.std.proofs.lemmas.Bool.Decides.{nat_tests}
+use Rattle.std.proofs.Common.{◌≡◌, ℕ, zero, suc, List, [], ◌++◌, length, ◌-◌, Result, Ok, Err, refl}
 use Rattle.dx_grammar.specs.Forms.{one, Derives}
 use Rattle.dx_grammar.specs.Laws.{HasTokens}
 use Rattle.dx_grammar.specs.Numbers.{has_number}
@@ -20,11 +18,8 @@ use Rattle.dx_script_tokens.specs.Numbers.{greatest}
 use Rattle.dx_script_tokens.specs.Kinds.{rank}
 use Rattle.dx_script_text.specs.Texts.{form}
 use Rattle.dx_script_text.specs.Laws.{TextsAreSpelled, StartsAreSpelled}
-use Rattle.dx_script_text.proofs.Found.{script_finds}
+use Rattle.dx_script_text.proofs.Found.{script_finds, eq_self}
 use Rattle.dx_script_text.proofs.Telling.{given, tells_as, spelled_given}
-
-pub eq_self : (n : ℕ) → nat_eq n n ≡ true
-eq_self n = grind (arith, nat_tests)
 
 abbrev made : ScriptKind → ℕ → ScriptToken
 made kind n = record { place = 0; kind = kind; number = n; text = [] }

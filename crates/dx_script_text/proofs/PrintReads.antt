@@ -1,6 +1,6 @@
 -- A printed script is read again.
 use Rattle.std.proofs.Common.{◌≡◌, ℕ, ◌≤◌, Bool, true, false, List, [], ◌∷◌, ◌++◌, map, length, take, flat_map, refl, sym, ap, ◌∙◌, subst, arith, append_assoc}
-use Rattle.std.specs.Prelude.{IfOk, Result, Ok, Err, codes, decimal, nat_eq}
+use Rattle.std.specs.Prelude.{IfOk, Result, Ok, Err, codes, decimal}
 use Rattle.std.proofs.lemmas.List.{take_all}
 use Rattle.std.proofs.lemmas.Bool.Decides.{nat_tests}
 use Rattle.std.proofs.lemmas.Fmt.{decimal_digit}
@@ -33,9 +33,7 @@ use Rattle.dx_script_text.specs.Print.{parted, numbered, name_text, declared_tex
 use Rattle.dx_script_tokens.specs.Quoted.{quoted}
 use Rattle.dx_script_text.specs.Printable.{IsName, AreSome, AreCounted, IsCellRef, IsSelect, IsEqual, IsTest, IsUnless, IsOut, IsStep, IsPrintable}
 use Rattle.dx_script_text.proofs.PrintScans.{Reads, Ends, no_token, word_then, number_then, mark_then, blank_then, name_then, text_then, both_then, told_as, create_word, table_word, target_word, source_word, as_word, select_word, distinct_word, from_word, where_word, not_word, exists_word, insert_word, into_word, skolem_word, place_word, type_word, own_word, other_word, comma_gap, and_gap, list_read, numbered_read, reads_all}
-
-eq_self : (n : ℕ) → nat_eq n n ≡ true
-eq_self n = grind (arith, nat_tests)
+use Rattle.dx_script_text.proofs.Found.{eq_self}
 
 -- pieces, and what is after all of them
 flat_3 : (a b c t : List ℕ) → (a ++ (b ++ c)) ++ t ≡ a ++ (b ++ (c ++ t))

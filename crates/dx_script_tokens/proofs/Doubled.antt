@@ -1,9 +1,9 @@
 -- The bytes of a text in single quotes, one character after the other.
-use Rattle.std.proofs.Common.{append_assoc, append-nil, ◌≡◌, ◌≢◌, ◌<◌, ℕ, suc, Bool, true, false, List, [], ◌∷◌, ◌++◌, length, get_or, refl, sym, ap, ◌∙◌, arith, lit<}
-use Rattle.std.proofs.lemmas.Str.{inside_one}
+use Rattle.std.proofs.Common.{append_assoc, ◌≡◌, ◌≢◌, ◌<◌, ℕ, suc, Bool, true, false, List, [], ◌∷◌, ◌++◌, length, get_or, refl, sym, ap, ◌∙◌, arith}
 use Rattle.std.specs.Prelude.{encode_utf8, ◌==◌, if◌then◌else◌}
 use Rattle.std.proofs.lemmas.Bool.{ne_eqb}
 use Rattle.dx_script_tokens.specs.Quoted.{doubled}
+use Rattle.dx_script_tokens.proofs.Utf8.{no_quote_inside}
 
 doubled-case : (t : Bool) (b : ℕ) (d e ys : List ℕ) → d ≡ e ++ ys → (if t then 39 ∷ 39 ∷ d else b ∷ d) ≡ (if t then 39 ∷ 39 ∷ e else b ∷ e) ++ ys
 doubled-case true b d e ys h = ap (λ zs. 39 ∷ 39 ∷ zs) h
@@ -16,13 +16,6 @@ doubled-append (b ∷ xs) ys = doubled-case (b == 39) b (doubled (xs ++ ys)) (do
 pub doubled-plain : (bs : List ℕ) → ((k : ℕ) → k < length bs → get_or bs k 0 ≢ 39) → doubled bs ≡ bs
 doubled-plain [] h = refl
 doubled-plain (b ∷ bs) h = rw (ne_eqb b 39 (h 0 (omega arith))) (ap (λ (zs : List ℕ). b ∷ zs) (doubled-plain bs (λ k l. h (suc k) (omega arith))))
-
--- no byte of another character is a single quote
-no_quote_inside : (x : ℕ) → x ≢ 39 → (k : ℕ) → k < length (encode_utf8 x) → get_or (encode_utf8 x) k 0 ≢ 39
-no_quote_inside x n k l = other 39 (lit< tt) n
-  where
-    other : (d : ℕ) → d < 128 → x ≢ d → get_or (encode_utf8 x) k 0 ≢ d
-    other d small ne e = ne (inside_one x [] (encode_utf8 x) k (sym (append-nil (encode_utf8 x))) l (rw e small) ∙ e)
 
 -- a character that is no single quote stays
 pub plain_character : (x : ℕ) → x ≢ 39 → doubled (encode_utf8 x) ≡ encode_utf8 x

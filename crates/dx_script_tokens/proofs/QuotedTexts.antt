@@ -5,6 +5,7 @@ use Rattle.std.proofs.Math.Utf8.{scalar, scalars, encodes}
 use Rattle.std.proofs.lemmas.Bool.{and_parts, cases_eq, cases_lt, ne_eqb}
 use Rattle.std.proofs.lemmas.List.{length-append}
 use Rattle.std.proofs.lemmas.Str.{encode_ascii, inside_one}
+use Rattle.std.proofs.Math.Seq.{drop-append_seam}
 use Rattle.dx_tokens.specs.declared.pieces.Item.TheVariants as items
 use Rattle.dx_tokens.specs.Tokens.{item_at}
 use Rattle.dx_tokens.specs.Lexing.{IsCharacter}
@@ -15,7 +16,7 @@ use Rattle.dx_script_tokens.specs.declared.pieces.Piece.TheVariants as pieces
 use Rattle.dx_script_tokens.specs.Pieces.{text_item, text_from}
 use Rattle.dx_script_tokens.specs.Scan.{undoubled}
 use Rattle.dx_script_tokens.proofs.Passing.{text_goes_on}
-use Rattle.dx_script_tokens.proofs.Utf8.{drop_front, undoubled-plain}
+use Rattle.dx_script_tokens.proofs.Utf8.{undoubled-plain}
 use Rattle.dx_script_tokens.specs.Quoted.{doubled}
 use Rattle.dx_script_tokens.proofs.Doubled.{doubled-append, plain_character}
 
@@ -43,7 +44,7 @@ quote_doubled n more = ap (λ k. text_from 0 k more) (omega arith)
 item_passed : (n b : ℕ) (others more : List ℕ) → text_item b (others ++ more) ≡ items.Whole (1 + length others) → text_from 0 n (b ∷ (others ++ more)) ≡ text_from 0 (n + (1 + length others)) more
 item_passed n b others more e =
     let all : List ℕ = b ∷ (others ++ more) in
-    let left : drop (1 + length others) all ≡ more = ap (λ k. drop k all) (one_more (length others)) ∙ drop_front others more in
+    let left : drop (1 + length others) all ≡ more = ap (λ k. drop k all) (one_more (length others)) ∙ drop-append_seam others more in
     sym (text_goes_on n b (1 + length others) (others ++ more) all (drop (1 + length others) all) (text_from 0 n all) refl (sym e) (omega arith) (omega (arith, length-append others more)) refl refl)
     ∙ ap (text_from 0 (n + (1 + length others))) left
   where

@@ -1,10 +1,12 @@
 -- A token that is written is scanned as that token.
-use Rattle.std.proofs.Common.{◌≡◌, ℕ, suc, ◌+◌, ◌-◌, ◌≤◌, true, false, List, [], ◌∷◌, ◌++◌, length, take, refl, sym, ap, ◌∙◌, arith, append_assoc}
+use Rattle.std.proofs.Common.{◌≡◌, ℕ, suc, ◌+◌, ◌-◌, ◌≤◌, true, false, List, [], ◌∷◌, ◌++◌, length, refl, sym, ap, ◌∙◌, arith, append_assoc}
 use Rattle.std.specs.Prelude.{◌||◌, ◌==◌, decimal, Some}
 use Rattle.std.proofs.lemmas.Bool.Decides.{nat_tests}
 use Rattle.std.proofs.lemmas.List.{length-append}
+use Rattle.std.proofs.Math.Seq.{drop-append_seam, take-append_seam}
 use Rattle.dx_tokens.specs.Tokens.{is_blank, is_digit, is_word_start, is_word_byte}
-use Rattle.dx_tokens.proofs.Lexed.{AllPass, StopsAt, run_is}
+use Rattle.dx_tokens.proofs.Lexed.{AllPass, StopsAt, run_is, word_no_blank}
+use Rattle.dx_tokens.proofs.Spelled.{digit_no_blank, digit_no_start}
 use Rattle.dx_script_tokens.specs.declared.kinds.ScriptKind.{ScriptKind}
 use Rattle.dx_script_tokens.specs.declared.kinds.ScriptKind.TheVariants as kinds
 use Rattle.dx_script_tokens.specs.declared.pieces.Shape.{Shape}
@@ -15,12 +17,8 @@ use Rattle.dx_script_tokens.specs.Numbers.{greatest, numeral_of, value_of}
 use Rattle.dx_script_tokens.specs.Kinds.{numbered_word, small_word, inner_word, word_says, is_mark, mark_kind}
 use Rattle.dx_script_tokens.specs.Pieces.{text_from, piece_at}
 use Rattle.dx_script_tokens.specs.Scan.{undoubled, plain_token, token_of, with_token, scan_from}
-use Rattle.dx_script_tokens.proofs.Utf8.{but_last_end, drop_front}
+use Rattle.dx_script_tokens.proofs.Utf8.{but_last_end}
 use Rattle.dx_script_tokens.proofs.Decimal.{IsDecimal, decimal_read, number_read, numeral_read}
-
-front : (w behind : List ℕ) → take (length w) (w ++ behind) ≡ w
-front [] behind = refl
-front (b ∷ w) behind = ap (λ (u : List ℕ). b ∷ u) (front w behind)
 
 passed : (place : ℕ) (w behind : List ℕ) → scan_from (length w) place (w ++ behind) ≡ scan_from 0 (place + length w) behind
 unfolding scan_from
@@ -34,7 +32,7 @@ unfolding scan_from
 token_past shape place b w behind e =
     let less : suc (length w) - 1 ≡ length w = omega arith in
     let sum : place + 1 + length w ≡ place + suc (length w) = omega arith in
-    rw (e, front w behind)
+    rw (e, take-append_seam w behind)
     (ap (with_token (token_of place shape (b ∷ w))) (ap (λ n. scan_from n (place + 1) (w ++ behind)) less ∙ passed (place + 1) w behind ∙ ap (λ n. scan_from 0 n behind) sum))
 
 pub blank_past : (place b : ℕ) (behind : List ℕ) → is_blank b ≡ true → scan_from 0 place (b ∷ behind) ≡ scan_from 0 (place + 1) behind
@@ -42,9 +40,6 @@ unfolding scan_from piece_at
 blank_past place b behind e = rw e refl
 
 -- ---- words
-
-word_no_blank : (b : ℕ) → is_word_start b ≡ true → is_blank b ≡ false
-word_no_blank b e = grind (arith, nat_tests)
 
 word_piece : (b : ℕ) (bs rest : List ℕ) → is_word_start b ≡ true → AllPass is_word_byte bs → StopsAt is_word_byte rest → piece_at b (bs ++ rest) ≡ pieces.Token shapes.Word (suc (length bs))
 unfolding piece_at
@@ -124,12 +119,6 @@ column_word n le = numbered 99 kinds.Column n refl column_says le
 
 -- ---- numbers
 
-digit_no_blank : (b : ℕ) → is_digit b ≡ true → is_blank b ≡ false
-digit_no_blank b e = grind (arith, nat_tests)
-
-digit_no_start : (b : ℕ) → is_digit b ≡ true → is_word_start b ≡ false
-digit_no_start b e = grind (arith, nat_tests)
-
 number_piece : (n : ℕ) (ds rest : List ℕ) (d : IsDecimal n ds) → StopsAt is_digit rest → piece_at d.first (d.others ++ rest) ≡ pieces.Token shapes.Number (suc (length d.others))
 unfolding piece_at
 number_piece n ds rest d s = rw (digit_no_blank d.first d.digit, digit_no_start d.first d.digit, d.digit) (ap (λ (p : ℕ × ℕ). pieces.Token shapes.Number p.0) (number_read n ds rest d s))
@@ -156,7 +145,7 @@ unfolding piece_at
 name_piece c rest behind h =
     let flat : (rest ++ 34 ∷ []) ++ behind ≡ rest ++ 34 ∷ behind = append_assoc rest (34 ∷ []) behind in
     let size : 2 + length rest + 1 ≡ suc (suc (length (rest ++ 34 ∷ []))) = omega (arith, length-append rest (34 ∷ [])) in
-    rw (flat, h.0, run_is is_word_byte rest (34 ∷ behind) h.1 refl, drop_front rest (34 ∷ behind)) (ap (λ (n : ℕ). pieces.Token shapes.Name n) size)
+    rw (flat, h.0, run_is is_word_byte rest (34 ∷ behind) h.1 refl, drop-append_seam rest (34 ∷ behind)) (ap (λ (n : ℕ). pieces.Token shapes.Name n) size)
 
 pub name_scanned : (name behind : List ℕ) (place : ℕ) → IsNameText name
     → scan_from 0 place (34 ∷ ((name ++ 34 ∷ []) ++ behind)) ≡ with_token (record { place = place; kind = kinds.Name; number = 0; text = name }) (scan_from 0 (place + length (34 ∷ (name ++ 34 ∷ []))) behind)

@@ -1,19 +1,19 @@
 -- What names and texts say is UTF-8.
-use Rattle.std.proofs.Common.{◌≡◌, ◌≢◌, ℕ, zero, suc, ◌+◌, ◌-◌, ◌<◌, ◌≤◌, true, List, [], ◌∷◌, ◌++◌, length, take, drop, get_or, refl, sym, ap, ◌∙◌, subst, inl, inr, arith, lit<, IsUtf8, append_assoc, append-nil}
+use Rattle.std.proofs.Common.{◌≡◌, ◌≢◌, ℕ, zero, suc, ◌+◌, ◌-◌, ◌<◌, ◌≤◌, List, [], ◌∷◌, ◌++◌, length, take, drop, get_or, refl, sym, ap, ◌∙◌, subst, inl, inr, arith, lit<, IsUtf8, append_assoc, append-nil}
 use Rattle.std.specs.Prelude.{◌||◌, ◌==◌, nat_lt}
 use Rattle.std.specs.Char.{encode_utf8}
-use Rattle.std.specs.Str.{IsAscii}
 use Rattle.std.proofs.lemmas.Bool.{eqb-true, eqb-false, ne_eqb, or_cases}
 use Rattle.std.proofs.lemmas.Bool.Decides.{nat_tests}
 use Rattle.std.proofs.lemmas.List.{take-append-drop, length-drop, length-append, length-take-le}
-use Rattle.std.proofs.lemmas.Str.{IsUtf8-append, IsUtf8-nil, IsUtf8-encode, IsUtf8-from_ascii, encode_ascii, inside_one}
-use Rattle.dx_ports.specs.Members.{here, there, Each}
+use Rattle.std.proofs.lemmas.Str.{IsUtf8-append, IsUtf8-nil, IsUtf8-encode, encode_ascii, inside_one}
+use Rattle.std.proofs.Math.Seq.{drop-append_seam}
+use Rattle.dx_ports.proofs.Members.{each_cons}
 use Rattle.dx_tokens.specs.declared.pieces.Item.{Item}
 use Rattle.dx_tokens.specs.declared.pieces.Item.TheVariants as items
 use Rattle.dx_tokens.specs.Tokens.{is_blank, is_digit, is_word_start, is_word_byte, run, wide_at}
 use Rattle.dx_tokens.specs.Lexing.{IsCharacter}
 use Rattle.dx_tokens.proofs.Characters.{wide_character, wide_no_quote}
-use Rattle.dx_tokens.proofs.Forms.{taken, IsRun, prefix_split}
+use Rattle.dx_tokens.proofs.Forms.{taken, IsRun, prefix_split, word_byte_small, small_utf8}
 use Rattle.dx_script_tokens.specs.declared.pieces.Shape.{Shape}
 use Rattle.dx_script_tokens.specs.declared.pieces.Shape.TheVariants as shapes
 use Rattle.dx_script_tokens.specs.declared.pieces.Piece.{Piece}
@@ -25,14 +25,6 @@ use Rattle.dx_script_tokens.specs.Scan.{but_last, inside, undoubled, SaysUtf8}
 use Rattle.dx_script_tokens.proofs.Passing.{text_goes_on}
 
 -- ---- bytes
-
-small_utf8 : (bs : List ℕ) → Each bs (λ b. b < 128) → IsUtf8 bs
-small_utf8 bs small = IsUtf8-from_ascii bs (ascii bs small)
-  where
-    ascii : (cs : List ℕ) → Each cs (λ b. b < 128) → IsAscii cs
-    ascii [] s i = lit< tt
-    ascii (c ∷ cs) s zero = s c (here refl)
-    ascii (c ∷ cs) s (suc i) = ascii cs (λ d m. s d (there m)) i
 
 pub but_last_end : (xs : List ℕ) (d : ℕ) → but_last (xs ++ d ∷ []) ≡ xs
 but_last_end [] d = refl
@@ -56,17 +48,6 @@ inside_part (b ∷ rest) le =
 pub take_front : (front : List ℕ) (d : ℕ) (more : List ℕ) → take (suc (length front)) (front ++ d ∷ more) ≡ front ++ d ∷ []
 take_front [] d more = refl
 take_front (x ∷ front) d more = ap (λ (zs : List ℕ). x ∷ zs) (take_front front d more)
-
-pub drop_front : (front after : List ℕ) → drop (length front) (front ++ after) ≡ after
-drop_front [] after = refl
-drop_front (x ∷ front) after = drop_front front after
-
-word_byte_small : (b : ℕ) → is_word_byte b ≡ true → b < 128
-word_byte_small b e = grind (arith, nat_tests)
-
-each_cons : {X : Type 0} {P : X → Type 0} (x : X) (xs : List X) → P x → Each xs P → Each (x ∷ xs) P
-each_cons {X} {P} x xs p each y (here e) = subst P e p
-each_cons x xs p each y (there m) = each y m
 
 -- ---- names
 
@@ -113,7 +94,7 @@ name_read (c ∷ rest) shape len e =
     elim (taken (c == 35 || is_word_byte c) (name_end (2 + run is_word_byte rest) (drop (run is_word_byte rest) rest)) (pieces.Fault 1) (pieces.Token shape len) e) [
       | inl t ↦
           let small : c < 128 = elim (or_cases (c == 35) (is_word_byte c) t.0) [ inl a ↦ omega (arith, eqb-true c 35 a) | inr b ↦ word_byte_small c b ] in
-          let after : drop (run is_word_byte rest) rest ≡ r.after = ap (λ (n : ℕ). drop n rest) r.size ∙ ap (drop (length r.front)) r.splits ∙ drop_front r.front r.after in
+          let after : drop (run is_word_byte rest) rest ≡ r.after = ap (λ (n : ℕ). drop n rest) r.size ∙ ap (drop (length r.front)) r.splits ∙ drop-append_seam r.front r.after in
           name_ends c rest r (drop (run is_word_byte rest) rest) shape len small after (ap (λ (n : ℕ). name_end (2 + n) (drop (run is_word_byte rest) rest)) (sym r.size) ∙ t.1)
       | inr f ↦ absurd cc
     ]

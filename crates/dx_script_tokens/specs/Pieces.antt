@@ -57,13 +57,6 @@ piece_at b rest =
     else (if b == 39 then text_from 0 1 rest
     else pieces.Fault 0)))))
 
--- an item of a text lies in so many bytes
-abbrev pub ItemWithin : ℕ → Item → Type 0
-ItemWithin n items.Quote = 1 ≤ n
-ItemWithin n (items.Whole len) = (1 ≤ len) × (len ≤ n)
-ItemWithin n (items.Bad offset) = offset < n
-ItemWithin n items.Cut = Unit {0}
-
 -- a piece of a text lies in so many bytes
 abbrev pub PieceWithin : ℕ → Piece → Type 0
 PieceWithin n pieces.Blank = 1 ≤ n

@@ -1,7 +1,7 @@
 // What stands next in a text: a blank, a token, or a fault.
 ghost use Rattle.std.specs.Prelude.{◌≡◌, ◌+◌, ◌<◌, ◌≤◌, ◌^◌, length};
-ghost use Rattle.dx_tokens.specs.Tokens.{run, is_word_byte};
-ghost use Rattle.dx_script_tokens.specs.Pieces.{ItemWithin, PieceWithin, name_at, name_end, piece_at, quote_at, text_from, text_item};
+ghost use Rattle.dx_tokens.specs.Tokens.{run, is_word_byte, ItemWithin};
+ghost use Rattle.dx_script_tokens.specs.Pieces.{PieceWithin, name_at, name_end, piece_at, quote_at, text_from, text_item};
 
 use crate::kinds::is_mark_byte;
 use crate::numbers::number;

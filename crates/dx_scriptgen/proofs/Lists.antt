@@ -1,5 +1,5 @@
 -- Lists that grow by one item.
-use Rattle.std.proofs.Common.{◌≡◌, ℕ, zero, suc, ◌+◌, ◌-◌, ◌^◌, ◌<◌, ◌≤◌, Bool, true, false, cond, List, [], ◌∷◌, ◌++◌, refl, sym, ◌∙◌, ap, length, take, drop, get_or, arith, append_assoc, add-one, drop-cons}
+use Rattle.std.proofs.Common.{◌≡◌, ℕ, zero, suc, ◌+◌, ◌-◌, ◌^◌, ◌<◌, ◌≤◌, Bool, true, false, cond, List, [], ◌∷◌, ◌++◌, refl, sym, ◌∙◌, ap, length, take, drop, get_or, arith, append_assoc, add-one}
 use Rattle.std.specs.Prelude.{map, flat_map}
 use Rattle.std.specs.List.{filter}
 use Rattle.std.proofs.lemmas.List.{append-nil, map-append, take_more}
@@ -13,16 +13,6 @@ pub pushed : {X Y : Type 0} (f : X → Y) (xs : List X) (i : ℕ) (x : X) (start
 pushed f xs i x start ys zs h e p q =
     q ∙ (ap (λ z. z ++ f x ∷ []) p ∙ (append_assoc start (map f (take i xs)) (f x ∷ [])
     ∙ ap (λ z. start ++ z) (ap (λ z. map f (take i xs) ++ f z ∷ []) e ∙ (sym (map-append f (take i xs) (get_or xs i x ∷ [])) ∙ ap (map f) (sym (take_more xs i x h))))))
-
--- a look-up within the list doesn't rest on the default
-pub same_at : {X : Type 0} (xs : List X) (i : ℕ) (d e : X) → i < length xs → get_or xs i d ≡ get_or xs i e
-same_at [] i d e h = absurd (omega arith)
-same_at (x ∷ xs) zero d e h = refl
-same_at (x ∷ xs) (suc i) d e h = same_at xs i d e (omega arith)
-
--- the list from a place on
-pub cut_at : {X : Type 0} (xs : List X) (i : ℕ) (x : X) → i < length xs → x ≡ get_or xs i x → drop i xs ≡ x ∷ drop (i + 1) xs
-cut_at xs i x h e = rw (add-one i) (drop-cons xs i x h ∙ ap (λ z. z ∷ drop (suc i) xs) (sym e))
 
 below_more : (n : ℕ) → below (n + 1) ≡ below n ++ n ∷ []
 below_more n = rw (add-one n) refl

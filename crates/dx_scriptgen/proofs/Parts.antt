@@ -15,7 +15,7 @@ use Rattle.dx_model.specs.declared.covers.CellMap.{CellMap}
 use Rattle.dx_model.specs.declared.covers.Meeting.{Meeting}
 use Rattle.dx_model.specs.Rules.{Increase, cells_of, exported}
 use Rattle.dx_model.specs.Covers.{HasWidths, IsKnown, below, cell_maps, cell_under, choices, first_met, image_of, is_cell_map, map_of, meetings, used_maps}
-use Rattle.dx_model.proofs.Lists.{from_below, from_filter}
+use Rattle.dx_model.proofs.Lists.{from_below}
 use Rattle.dx_model.proofs.Canonical.{exported_exactly}
 use Rattle.dx_model.proofs.Before.{from_used}
 use Rattle.dx_model.proofs.Carrying.{maps_carry}

@@ -1,14 +1,15 @@
 -- What is met in a premise whose variables are numbered by first appearance.
-use Rattle.std.proofs.Common.{◌≡◌, ℕ, zero, suc, ◌+◌, ◌<◌, ◌≤◌, ◌⊎◌, Bool, true, false, cond, eqb, List, [], ◌∷◌, ◌++◌, refl, sym, ◌∙◌, ap, subst, length, get_or, arith, append_assoc, inl, inr}
+use Rattle.std.proofs.Common.{◌≡◌, ℕ, zero, suc, ◌+◌, ◌<◌, ◌≤◌, ◌⊎◌, true, false, cond, eqb, List, [], ◌∷◌, ◌++◌, refl, sym, ◌∙◌, ap, subst, length, get_or, arith, append_assoc, inl, inr}
 use Rattle.std.specs.Prelude.{map, flat_map, nat_lt, ◌&&◌}
 use Rattle.std.proofs.lemmas.List.{append-nil, length-append, length-map, get_or-map, map-append, take_more, take-append-drop}
 use Rattle.std.proofs.Common.{take, drop, add-one}
-use Rattle.dx_scriptgen.proofs.Lists.{cut_at}
 use Rattle.std.proofs.lemmas.Grind.{flat_map-append}
-use Rattle.std.proofs.lemmas.Bool.{cases_Bool, eq-eqb, ne_eqb, eqb-true}
+use Rattle.std.proofs.lemmas.Bool.{cases_Bool, eq-eqb, ne_eqb}
+use Rattle.std.proofs.Math.Bool.{and-false}
 use Rattle.dx_ports.specs.Members.{◌∈◌, here, there}
 use Rattle.dx_ports.proofs.Members.{in_left, in_right, from_append}
 use Rattle.dx_ports.proofs.Tests.{flat_map_same, map_same}
+use Rattle.dx_ports.proofs.Lists.{cut_at}
 use Rattle.dx_model.specs.declared.rules.Cell.{Cell}
 use Rattle.dx_model.specs.declared.rules.Cell.TheVariants.{Var, Ex, Lit}
 use Rattle.dx_model.specs.declared.rules.Atom.{Atom}
@@ -23,7 +24,7 @@ use Rattle.dx_script.specs.declared.form.Equal.{Equal}
 use Rattle.dx_script.specs.Names.{column_at}
 use Rattle.dx_script.specs.Generated.{Spot, spots_of_cells, spots, is_variable, first_spot, shows, equal_to, further, equals}
 use Rattle.dx_script.proofs.NameFacts.{nat_lt_tells}
-use Rattle.dx_script.proofs.Spots.{first_stands}
+use Rattle.dx_script.proofs.Spots.{first_stands, is_variable-same, is_variable-true}
 use Rattle.dx_script.proofs.Fitted.{at_below, length_map_below}
 use Rattle.dx_scriptgen.specs.declared.premise.Premise.{Premise}
 use Rattle.dx_scriptgen.specs.Premises.{met, met_cell, met_spots}
@@ -34,14 +35,6 @@ met_append (x ∷ xs) ys p = met_append xs ys (met_cell (shows x) x.cell p)
 
 -- ---- first cells
 
-variable_true : (x : ℕ) (c : Cell) → is_variable x c ≡ true → c ≡ Var x
-variable_true x (Var y) e = ap Var (sym (eqb-true x y e))
-variable_true x (Ex v) e = cc
-variable_true x (Lit t) e = cc
-
-variable_same : (x : ℕ) (c : Cell) → c ≡ Var x → is_variable x c ≡ true
-variable_same x c e = rw e (eq-eqb x x refl)
-
 -- a variable that stands in a list has its first cell there
 first_left : (x : ℕ) (xs ys : List Spot) (s : Spot) → s ∈ xs → s.cell ≡ Var x → first_spot x (xs ++ ys) ≡ first_spot x xs
 first_left x [] ys s m e = elim m [ ]
@@ -51,14 +44,14 @@ first_left x (t ∷ xs) ys s m e = elim (cases_Bool (is_variable x t.cell)) [
 ]
   where
     go : is_variable x t.cell ≡ false → s ∈ (t ∷ xs) → s ∈ xs
-    go f (here d) = let k : is_variable x t.cell ≡ true = variable_same x t.cell (ap (λ (z : Spot). z.cell) d ∙ e) in cc
+    go f (here d) = let k : is_variable x t.cell ≡ true = is_variable-same x t.cell (ap (λ (z : Spot). z.cell) d ∙ e) in cc
     go f (there k) = k
 
 -- one that stands in none of a list has its first cell after it
 first_right : (x : ℕ) (xs ys : List Spot) → ((s : Spot) → s ∈ xs → ¬ (s.cell ≡ Var x)) → first_spot x (xs ++ ys) ≡ first_spot x ys
 first_right x [] ys n = refl
 first_right x (t ∷ xs) ys n = elim (cases_Bool (is_variable x t.cell)) [
-  | inl p ↦ absurd (n t (here refl) (variable_true x t.cell p))
+  | inl p ↦ absurd (n t (here refl) (is_variable-true x t.cell p))
   | inr f ↦ rw f (first_right x xs ys (λ s m. n s (there m)))
 ]
 
@@ -89,14 +82,10 @@ equals_more done s h =
     go t (Ex v) m e = refl
     go t (Lit u) m e = refl
 
-no_and : (b : Bool) → (b && false) ≡ false
-no_and true = refl
-no_and false = refl
-
 -- a spot before a place is another than the one there
 other_place : (s t : Spot) → IsBefore t.alias t.column s → (eqb s.alias t.alias && eqb s.column t.column) ≡ false
 other_place s t (inl l) = rw (ne_eqb s.alias t.alias (λ e. omega (arith, e, l))) refl
-other_place s t (inr l) = rw (ne_eqb s.column t.column (λ e. omega (arith, e, l.1))) (no_and (eqb s.alias t.alias))
+other_place s t (inr l) = rw (ne_eqb s.column t.column (λ e. omega (arith, e, l.1))) (and-false (eqb s.alias t.alias))
 
 same_place : (s : Spot) → (eqb s.alias s.alias && eqb s.column s.column) ≡ true
 same_place s = rw (eq-eqb s.alias s.alias refl, eq-eqb s.column s.column refl) refl

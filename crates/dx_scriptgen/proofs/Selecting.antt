@@ -1,6 +1,7 @@
 -- What is selected for a variable.
 use Rattle.std.proofs.Common.{◌≡◌, ℕ, ◌+◌, ◌-◌, ◌<◌, ◌≤◌, ◌⊎◌, Bool, true, false, cond, List, [], ◌∷◌, refl, sym, ◌∙◌, ap, subst, length, get_or, arith, inl, inr}
 use Rattle.std.specs.Prelude.{map, nat_lt}
+use Rattle.std.proofs.lemmas.List.{get_or_default}
 use Rattle.dx_ports.specs.Members.{◌∈◌, Each}
 use Rattle.dx_ports.proofs.Members.{in_at, in_map}
 use Rattle.dx_ports.proofs.Tests.{map_same}
@@ -21,7 +22,6 @@ use Rattle.dx_script.specs.declared.form.Step.TheVariants.{MatchRows}
 use Rattle.dx_script.specs.Generated.{Spot, first_spot, select_of, shows}
 use Rattle.dx_script.proofs.NameFacts.{nat_lt_tells}
 use Rattle.dx_script.proofs.Fitted.{at_below, length_map_below}
-use Rattle.dx_scriptgen.proofs.Lists.{same_at}
 
 -- the first cells of the variables of a premise
 abbrev pub firsts_of : List Spot → Rule → List CellRef
@@ -47,7 +47,7 @@ call_selected list all d x place firsts name args e q h l p i n few a =
     let within : place < length d.derived = omega (arith, u, h, k, l) in
     let none : CellRef = record { alias = 0; column = [] } in
     let zero_derived : Derived = record { code = 0; args = [] } in
-    let f : e ≡ get_or d.derived (x - premise_variables d) zero_derived = i ∙ (same_at d.derived place e zero_derived within ∙ ap (λ z. get_or d.derived z zero_derived) u) in
+    let f : e ≡ get_or d.derived (x - premise_variables d) zero_derived = i ∙ (get_or_default d.derived place e zero_derived within ∙ ap (λ z. get_or d.derived z zero_derived) u) in
     let b : args ≡ map (λ y. shows (first_spot y all)) e.args =
     a none ∙ map_same (λ y. get_or firsts y none) (λ y. shows (first_spot y all)) e.args (λ y m.
     ap (λ z. get_or z y none) q ∙ at_below (λ w. shows (first_spot w all)) (premise_variables d) y none (let g = few y m in omega (arith, g, k))) in

@@ -20,8 +20,9 @@ use Rattle.dx_script.specs.declared.form.Unless.{Unless}
 use Rattle.dx_script.specs.declared.form.Step.{Step}
 use Rattle.dx_script.specs.Generated.{create_steps, has_parts, inserts_of, insert_steps, keep_step, keep_steps, match_steps, script_with}
 use Rattle.dx_script.proofs.Fitted.{at_below}
-use Rattle.dx_scriptgen.proofs.Tables.{atom_table, atom_width, no_table}
+use Rattle.dx_scriptgen.proofs.Tables.{no_table}
 use Rattle.dx_ports.proofs.Members.{in_at}
+use Rattle.dx_schema.proofs.Facts.{atom_table, atom_width}
 
 -- the steps of all kinds, one kind after the other
 pub whole_is : (S T : List Named) (list : List Conversion) (parts : List (List Unless)) (R : List Rule) (kept : List Bool) (s0 s1 s2 s3 s4 : List Step)

@@ -71,7 +71,7 @@ stops_next s t c a (stops.Refused e) m = inl m
 stops_next s t c a (stops.Failed n) m = inl m
 stops_next s t c a stops.Memory m = tt
 
-fault_of : {E : Type 0} (B C : Type 0) (old new : Told) (e : Stop E) → FailedAt {B = B} old new (Err e) → FailedAt {B = C} old new (Err e)
+pub fault_of : {E : Type 0} (B C : Type 0) (old new : Told) (e : Stop E) → FailedAt {B = B} old new (Err e) → FailedAt {B = C} old new (Err e)
 fault_of B C old new (stops.Refused e) f = tt
 fault_of B C old new (stops.Failed n) f = f
 fault_of B C old new stops.Memory f = tt

@@ -1,5 +1,5 @@
 -- Rows of numbers, and the instance that they show.
-use Rattle.std.proofs.Common.{◌≡◌, ◌∙◌, ℕ, zero, suc, ◌<◌, ◌≤◌, ◌⊎◌, List, [], ◌∷◌, Result, Ok, Err, inl, inr, refl, sym, ap, subst, arith, length, get_or, set, take, true}
+use Rattle.std.proofs.Common.{◌≡◌, ◌∙◌, ℕ, ◌<◌, ◌≤◌, List, [], ◌∷◌, Result, Ok, Err, inl, inr, refl, sym, ap, subst, arith, length, get_or, set, take, true}
 use Rattle.std.specs.Prelude.{map, OnOk, OnErr}
 use Rattle.std.specs.declared.alloc.AllocError.{AllocError}
 use Rattle.std.proofs.lemmas.List.{length-map, map_push, map-set, get_or-map, take_all}
@@ -10,7 +10,7 @@ use Rattle.dx_instance.specs.Cells.{NumberTable, with_numbers}
 use Rattle.dx_instance.specs.Numbers.{Extends}
 use Rattle.dx_instance.specs.Shown.{AreBelow, Numbered, RowsFit, shown, shown_row, shown_tables}
 use Rattle.dx_instance.specs.Stored.{AddsRow, TableRows, with_row}
-use Rattle.dx_instance.proofs.ShownFacts.{grown_below, grown_row}
+use Rattle.dx_instance.proofs.ShownFacts.{grown_below, from_set}
 use Rattle.dx_instance.proofs.StoredFacts.{adds_row}
 use Rattle.dx_tgd.specs.Gained.{Gains}
 use Rattle.dx_tgd.specs.Planned.{built}
@@ -20,33 +20,12 @@ use Rattle.dx_tgd.proofs.Gaining.{gains_added}
 pub grown_fit : (S T : List Value) (ts : List NumberTable) → Extends S T → Each ts (RowsFit (length S)) → Each ts (RowsFit (length T))
 grown_fit S T ts e h t m = record { columns = (h t m).columns; within = λ r k. grown_below S T r e ((h t m).within r k) }
 
-grown_rows : (S T : List Value) (rows : List (List ℕ)) → Extends S T → Each rows (AreBelow (length S)) → map (shown_row T) rows ≡ map (shown_row S) rows
-grown_rows S T [] e h = refl
-grown_rows S T (r ∷ rows) e h =
-    let first = grown_row S T r e (h r (here refl)) in
-    let rest = grown_rows S T rows e (λ y m. h y (there m)) in
-    cc (first, rest)
-
-pub grown_tables : (S T : List Value) (ts : List NumberTable) → Extends S T → Each ts (RowsFit (length S)) → shown_tables T ts ≡ shown_tables S ts
-grown_tables S T [] e h = refl
-grown_tables S T (t ∷ ts) e h =
-    let first : shown T t ≡ shown S t = ap (λ (rs : List (List Value)). let u : TableRows = record { width = t.width; rows = rs } in u) (grown_rows S T t.rows e (h t (here refl)).within) in
-    let rest = grown_tables S T ts e (λ y m. h y (there m)) in
-    cc (first, rest)
-
 -- tables without rows
 pub empties_fit : (ws : List ℕ) (tables : List NumberTable) (n i : ℕ) → Each ws (λ w. 1 ≤ w) → length ws ≤ i → tables ≡ map (λ (w : ℕ). let t : NumberTable = record { width = w; rows = [] } in t) (take i ws) → Each tables (RowsFit n)
 empties_fit ws tables n i some h t u m =
     let all : tables ≡ map (λ (w : ℕ). let t : NumberTable = record { width = w; rows = [] } in t) ws = rw (t, take_all i ws h) refl in
     let r = from_map (λ (w : ℕ). let t : NumberTable = record { width = w; rows = [] } in t) ws (subst (λ (l : List NumberTable). u ∈ l) all m) in
     rw (← r.2) (record { columns = some r.0 r.1; within = λ row k. elim k [ ] })
-
-from_set : (xs : List NumberTable) (i : ℕ) (y x : NumberTable) → x ∈ set xs i y → (y ≡ x) ⊎ (x ∈ xs)
-from_set [] i y x m = elim m [ ]
-from_set (z ∷ zs) zero y x (here e) = inl e
-from_set (z ∷ zs) zero y x (there m) = inr (there m)
-from_set (z ∷ zs) (suc i) y x (here e) = inr (here e)
-from_set (z ∷ zs) (suc i) y x (there m) = elim (from_set zs i y x m) [ inl e ↦ inl e | inr k ↦ inr (there k) ]
 
 with_fit : (n : ℕ) (t : NumberTable) (row : List ℕ) → RowsFit n t → AreBelow n row → RowsFit n (with_numbers t row)
 with_fit n t row f b = record {

@@ -6,8 +6,9 @@ use Rattle.std.specs.declared.cmp.Ordering.TheVariants.{Less}
 use Rattle.std.proofs.lemmas.List.{append-nil, length-append, length-map, take_more}
 use Rattle.std.proofs.Math.Nat.{div-lt_iff_lt-mul, mul-le-mul, mul-le-mul_right}
 use Rattle.dx_ports.specs.Members.{◌∈◌, ◌⊆◌, here, there, Distinct, Each}
-use Rattle.dx_ports.proofs.Members.{contains_from_in, from_map, in_at, in_map}
+use Rattle.dx_ports.proofs.Members.{contains_from_in, from_map, in_at, in_map, no_longer}
 use Rattle.std.specs.declared.alloc.AllocError.{AllocError}
+use Rattle.dx_ports.proofs.Lists.{zip_push}
 use Rattle.dx_model.specs.declared.facts.Fact.{Fact}
 use Rattle.dx_model.specs.declared.matches.Places.{Places}
 use Rattle.dx_model.specs.declared.rules.Atom.{Atom}
@@ -191,35 +192,13 @@ ordered_places convert I J S T d t u (Err e) same f up r is = tt
 
 -- ---- how many they are
 
--- a list with a member taken out has all others
-take_out : {X : Type 0} {x : X} (ys : List X) → x ∈ ys → (zs : List X) × (length ys ≡ suc (length zs)) × ((z : X) → z ∈ ys → ¬ (z ≡ x) → z ∈ zs)
-take_out [] m = elim m [ ]
-take_out {X} {x} (y ∷ ys) (here e) = (ys, refl, others)
-  where
-    others : (z : X) → z ∈ (y ∷ ys) → ¬ (z ≡ x) → z ∈ ys
-    others z (here f) d = absurd (d (sym f ∙ e))
-    others z (there n) d = n
-take_out {X} {x} (y ∷ ys) (there m) = let r = take_out ys m in (y ∷ r.0, ap suc r.1, others r.0 r.2)
-  where
-    others : (zs : List X) → ((z : X) → z ∈ ys → ¬ (z ≡ x) → z ∈ zs) → (z : X) → z ∈ (y ∷ ys) → ¬ (z ≡ x) → z ∈ (y ∷ zs)
-    others zs f z (here e) d = here e
-    others zs f z (there n) d = there (f z n d)
-
--- what has no repetitions is no longer than what has all its members
-distinct_few : {X : Type 0} (xs ys : List X) → Distinct xs → xs ⊆ ys → length xs ≤ length ys
-distinct_few [] ys d s = omega arith
-distinct_few {X} (x ∷ xs) ys d s =
-    let r = take_out ys (s x (here refl)) in
-    let i = distinct_few xs r.0 d.1 (λ y m. r.2 y (s y (there m)) (λ e. d.0 (rw e at m))) in
-    omega (arith, i, r.1)
-
 to_shown : (convert : Conversions) (I : List Fact) (d : Rule) (ts : List Tuple) (t : Tuple) → IsRows convert d I ts → IsTuple convert I d t → t ∈ ts
 to_shown convert I d ts t a q = (a.exact t).1 (q.0, record { premise = q.1.atoms; derived = q.1.derives }, q.2)
 
 -- rows of numbers are no more than the rows of their rule
 found_few : (convert : Conversions) (I : List Fact) (S : List Value) (d : Rule) (t : NumberTable) (ts : List Tuple) → AreApart S → IsFoundRule convert I S d t → IsRows convert d I ts → length t.rows ≤ length ts
 found_few convert I S d t ts p s a =
-    let few = distinct_few (map (texts_of S) t.rows) ts (distinct_texts S t.rows p s.texts s.ascend) (λ u m. to_shown convert I d ts u a ((s.exact u).0 m)) in
+    let few = no_longer (map (texts_of S) t.rows) ts (distinct_texts S t.rows p s.texts s.ascend) (λ u m. to_shown convert I d ts u a ((s.exact u).0 m)) in
     omega (arith, few, length-map t.rows (texts_of S))
 
 -- the rows of all rules have no fewer canonical cells than what is found of the first of them
@@ -296,7 +275,7 @@ passes convert I source S R ts limit left i d us k rules h is distinct each many
     n = length (cells_of d.conclusion)
 
     one : (ws : List Tuple) → IsRows convert d I ws → length us ≤ length ws
-    one ws a = distinct_few us ws distinct (λ t m. to_shown convert I d ws t a (each t m))
+    one ws a = no_longer us ws distinct (λ t m. to_shown convert I d ws t a (each t m))
 
     split : (Q : List Rule) (rows : Rows) (vs : List NumberTable) (j : ℕ) → AreFound convert I S (take j Q) vs → AreRows convert Q I rows → j < length Q → d ≡ get_or Q j d
         → canonical_cells (take j Q) (tuples_in S vs) + length us * n ≤ canonical_cells Q rows
@@ -324,21 +303,15 @@ tuples_shown convert I S d t s u m = (s.exact u).0 m
 
 -- ---- lists side by side
 
-zip_append : {X Y : Type 0} (R : X → Y → Type 0) (xs : List X) (ys : List Y) (x : X) (y : Y) → AllZip R xs ys → R x y → AllZip R (xs ++ x ∷ []) (ys ++ y ∷ [])
-zip_append R [] [] x y z r = (r, tt)
-zip_append R [] (w ∷ ys) x y z r = absurd z
-zip_append R (v ∷ xs) [] x y z r = absurd z
-zip_append R (v ∷ xs) (w ∷ ys) x y z r = (z.0, zip_append R xs ys x y z.1 r)
-
 -- one pair more
 pub zip_more : {X Y : Type 0} (R : X → Y → Type 0) (xs : List X) (ys now : List Y) (i : ℕ) (x : X) (y : Y) → i < length xs → x ≡ get_or xs i x → now ≡ ys ++ y ∷ [] → AllZip R (take i xs) ys → R x y → AllZip R (take (i + 1) xs) now
-zip_more R xs ys now i x y h is e z r = rw (e, take_more xs i x h, ← is) (zip_append R (take i xs) ys x y z r)
+zip_more R xs ys now i x y h is e z r = rw (e, take_more xs i x h, ← is) (zip_push R (take i xs) ys x y z r)
 
 -- ---- in order, within the limit
 
-reordered_few : (S T : List Value) (t u : NumberTable) → AreApart T → IsReordered S T t u → length u.rows ≤ length t.rows
+pub reordered_few : (S T : List Value) (t u : NumberTable) → AreApart T → IsReordered S T t u → length u.rows ≤ length t.rows
 reordered_few S T t u p r =
-    let few = distinct_few (map (texts_of T) u.rows) (map (texts_of S) t.rows) (distinct_texts T u.rows p r.texts r.ascend) (λ s m. (r.same s).0 m) in
+    let few = no_longer (map (texts_of T) u.rows) (map (texts_of S) t.rows) (distinct_texts T u.rows p r.texts r.ascend) (λ s m. (r.same s).0 m) in
     omega (arith, few, length-map u.rows (texts_of T), length-map t.rows (texts_of S))
 
 pub reordered_cells : (S T : List Value) (R : List Rule) (ts us : List NumberTable) → AreApart T → AllZip (IsReordered S T) ts us → canonical_cells R (tuples_in T us) ≤ canonical_cells R (tuples_in S ts)

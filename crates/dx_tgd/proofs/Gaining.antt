@@ -1,6 +1,6 @@
 -- What an instance gains, step by step.
-use Rattle.std.proofs.Common.{◌≡◌, ℕ, zero, suc, ◌+◌, ◌<◌, ◌≤◌, List, [], ◌∷◌, ◌++◌, ◌⊎◌, inl, inr, refl, sym, ◌∙◌, ap, subst, arith, length, get_or, take, length-append, eqb}
-use Rattle.std.specs.Prelude.{map, Some, slice_get}
+use Rattle.std.proofs.Common.{◌≡◌, ℕ, ◌+◌, ◌<◌, ◌≤◌, List, [], ◌∷◌, ◌++◌, ◌⊎◌, inl, inr, refl, sym, ◌∙◌, ap, subst, arith, length, get_or, take, length-append, eqb}
+use Rattle.std.specs.Prelude.{map}
 use Rattle.std.proofs.lemmas.Bool.{cases_Bool, eqb-true, eqb-false}
 use Rattle.std.proofs.lemmas.List.{take_more, map-append}
 use Rattle.dx_model.specs.declared.values.Value.{Value}
@@ -10,12 +10,13 @@ use Rattle.dx_model.specs.Values.{Rows, Tuple}
 use Rattle.dx_model.specs.Rules.{at_place, at_places, canonical}
 use Rattle.dx_ports.specs.Members.{◌∈◌, ◌⊆◌, here, there, Each}
 use Rattle.dx_ports.proofs.Members.{in_left, in_right, from_append}
+use Rattle.dx_model.proofs.Widths.{in_get}
 use Rattle.dx_instance.specs.Stored.{AddsRow, TableRows, facts, rows_of, widths, without_rows}
 use Rattle.dx_tgd.specs.Gained.{Gains}
 use Rattle.dx_tgd.specs.Placed.{FitsWidths}
 use Rattle.dx_tgd.proofs.CanonicalFacts.{places_more, rules_more}
-use Rattle.dx_tgd.proofs.Tables.{no_facts, widths_without}
-use Rattle.dx_instance.proofs.StoredFacts.{fact_from_row, row_from_fact}
+use Rattle.dx_tgd.proofs.Tables.{no_facts}
+use Rattle.dx_instance.proofs.StoredFacts.{fact_from_row, row_from_fact, widths_without}
 
 pub gains_nothing : (I : List TableRows) → Gains I I []
 gains_nothing I = record {
@@ -101,11 +102,5 @@ only_gained ws I J more e g f m = elim (g.only f m) [ inl l ↦ absurd (no_facts
 pub widths_gained : (ws : List ℕ) (I J : List TableRows) (more : List Fact) → I ≡ without_rows ws → Gains I J more → widths J ≡ ws
 widths_gained ws I J more e g = g.widths_stay ∙ (ap widths e ∙ widths_without ws)
 
--- an atom that fits tables with columns has a cell
-wide_member : (ws : List ℕ) (t w : ℕ) → slice_get ws t ≡ Some w → w ∈ ws
-wide_member [] t w e = absurd (cc)
-wide_member (x ∷ ws) zero w e = let d : x ≡ w = cc in here d
-wide_member (x ∷ ws) (suc t) w e = there (wide_member ws t w e)
-
 pub atoms_have_cells : (ws : List ℕ) (R : List Rule) → Each ws (λ w. 1 ≤ w) → Each R (FitsWidths ws) → Each R (λ d. Each d.conclusion (λ a. 1 ≤ length a.cells))
-atoms_have_cells ws R s f d m a k = s (length a.cells) (wide_member ws a.table (length a.cells) (f d m a k))
+atoms_have_cells ws R s f d m a k = s (length a.cells) (in_get ws a.table (length a.cells) (f d m a k))

@@ -1,7 +1,7 @@
 pub mod Sorting
 pub mod Numbers
 pub mod Tables
-mod RuleRows
+pub mod RuleRows
 pub mod CanonicalFacts
 pub mod Gaining
 pub mod Saying

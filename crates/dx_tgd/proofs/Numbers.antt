@@ -1,11 +1,10 @@
 -- The variables of a conclusion, in order.
-use Rattle.std.proofs.Common.{◌≡◌, ℕ, zero, suc, ◌+◌, ◌<◌, List, [], ◌∷◌, ◌++◌, refl, sym, ◌∙◌, ap, subst, arith, length, take, get_or}
+use Rattle.std.proofs.Common.{◌≡◌, ℕ, zero, suc, ◌+◌, ◌<◌, List, [], ◌∷◌, ◌++◌, refl, sym, ◌∙◌, ap, arith, length, take, get_or}
 use Rattle.std.specs.Prelude.{nat_eq}
-use Rattle.std.specs.Ordering.{nat_cmp, MatchOrdering}
-use Rattle.std.specs.Cmp.{ranks, unsigned_ties}
+use Rattle.std.specs.Ordering.{nat_cmp}
+use Rattle.std.specs.Cmp.{unsigned_ties}
 use Rattle.std.specs.List.{dedup, AllByRecursion}
 use Rattle.std.specs.List.Sorted.{IsStrictlySortedBy, IsSorted, IsPermutation}
-use Rattle.std.specs.declared.cmp.Ordering.{Ordering}
 use Rattle.std.specs.declared.cmp.Ordering.TheVariants.{Less}
 use Rattle.std.proofs.lemmas.List.{take_more}
 use Rattle.std.proofs.lemmas.List.Kept.{IsStrictlySortedBy-dedup, Contains-dedup_nat, Contains-from_dedup}
@@ -19,6 +18,7 @@ use Rattle.dx_ports.specs.Members.{◌∈◌, here, there}
 use Rattle.dx_model.specs.Rules.{Increase, cells_of, exported}
 use Rattle.dx_model.proofs.Canonical.{exported_exactly}
 use Rattle.dx_ports.proofs.Members.{contains_from_in, in_from_contains}
+use Rattle.dx_instance.proofs.KeyFacts.{from_less}
 use Rattle.dx_tgd.specs.Variables.{variables_in}
 
 pub variables_append : (cs ds : List Cell) → variables_in (cs ++ ds) ≡ variables_in cs ++ variables_in ds
@@ -107,9 +107,6 @@ no_variable before cs i c vars h e n v = v ∙ ap (λ (l : List ℕ). before ++ 
     append_nil [] = refl
     append_nil (x ∷ l) = ap (λ (m : List ℕ). x ∷ m) (append_nil l)
 
-less : (x y : ℕ) → nat_cmp x y ≡ Less → x < y
-less x y e = subst (λ (r : Ordering). MatchOrdering r (x < y) (x ≡ y) (y < x)) e (ranks x y)
-
 all_less : (x : ℕ) (xs : List ℕ) → AllByRecursion (λ y. nat_cmp x y ≡ Less) xs → (y : ℕ) → y ∈ xs → nat_cmp x y ≡ Less
 all_less x [] h y m = elim m [ ]
 all_less x (z ∷ xs) h y (here e) = rw (← e) h.0
@@ -118,7 +115,7 @@ all_less x (z ∷ xs) h y (there m) = all_less x xs h.1 y m
 up_from : (xs : List ℕ) → IsStrictlySortedBy nat_cmp xs → Increase xs
 unfolding IsStrictlySortedBy
 up_from [] h = tt
-up_from (x ∷ xs) h = ((λ y m. less x y (all_less x xs h.0 y m)), up_from xs h.1)
+up_from (x ∷ xs) h = ((λ y m. from_less x y (all_less x xs h.0 y m)), up_from xs h.1)
 
 pub sorted_is : (d : Rule) (found sorted : List ℕ) → found ≡ variables_in (cells_of d.conclusion) → IsPermutation found sorted → IsSorted nat_cmp sorted → dedup nat_eq sorted ≡ exported d
 sorted_is d found sorted e p s =

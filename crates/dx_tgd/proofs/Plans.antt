@@ -1,5 +1,5 @@
 -- Plans stay as symbols grow, and say what the conclusion says.
-use Rattle.std.proofs.Common.{◌≡◌, ◌∙◌, ℕ, zero, suc, ◌+◌, ◌-◌, ◌<◌, ◌≤◌, List, [], ◌∷◌, ◌++◌, true, inl, inr, refl, sym, ap, subst, arith, length, get_or, take, drop}
+use Rattle.std.proofs.Common.{◌≡◌, ◌∙◌, ℕ, zero, suc, ◌+◌, ◌-◌, ◌<◌, List, [], ◌∷◌, ◌++◌, inl, inr, refl, sym, ap, subst, arith, length, get_or, take, drop}
 use Rattle.std.specs.Prelude.{map, slice_index}
 use Rattle.std.specs.List.{AllZip}
 use Rattle.std.specs.declared.cmp.Ordering.TheVariants.{Less}
@@ -7,8 +7,9 @@ use Rattle.std.proofs.lemmas.Bool.{cases_lt, eq-eqb}
 use Rattle.std.proofs.lemmas.List.{length-append, length-map, get_or_append_left, get_or_default, get_or_push, get_or-map, map_push, take_more}
 use Rattle.dx_ports.specs.Members.{◌∈◌, here, there, Each}
 use Rattle.dx_ports.proofs.Members.{contains_from_in, from_map, in_at, in_flat_map}
+use Rattle.dx_ports.proofs.Lists.{zip_push, zip_grow}
 use Rattle.dx_model.specs.declared.values.Value.{Value}
-use Rattle.dx_model.specs.declared.values.Value.TheVariants.{Const, Null}
+use Rattle.dx_model.specs.declared.values.Value.TheVariants.{Const}
 use Rattle.dx_model.specs.declared.rules.Cell.{Cell}
 use Rattle.dx_model.specs.declared.rules.Cell.TheVariants.{Var, Ex, Lit}
 use Rattle.dx_model.specs.declared.rules.Atom.{Atom}
@@ -19,18 +20,14 @@ use Rattle.dx_model.proofs.Canonical.{exported_exactly}
 use Rattle.dx_model.proofs.Orders.{value_total}
 use Rattle.dx_instance.specs.Numbers.{Extends, ValuesAscend, value_of}
 use Rattle.dx_instance.specs.Shown.{shown_row}
+use Rattle.dx_instance.proofs.ShownFacts.{grown_value, longer}
 use Rattle.dx_tgd.specs.declared.planned.PlannedCell.{PlannedCell}
 use Rattle.dx_tgd.specs.declared.planned.PlannedCell.TheVariants.{Column, Fixed, Nulls}
 use Rattle.dx_tgd.specs.declared.planned.PlannedAtom.{PlannedAtom}
 use Rattle.dx_tgd.specs.Placed.{null_at}
 use Rattle.dx_tgd.specs.Planned.{AreNulls, HasNumber, IsPlanned, IsPlannedAtom, StandsAs, number_of, planned_fact}
-use Rattle.dx_joins.specs.Shown.{AreTexts, is_text, text_in, texts_of}
-
-pub longer : (S T : List Value) → Extends S T → length S ≤ length T
-longer S T e = omega (arith, ap length e.is, length-append S e.more)
-
-pub grown_value : (S T : List Value) (n : ℕ) → Extends S T → n < length S → value_of T n ≡ value_of S n
-grown_value S T n e h = ap (λ (U : List Value). value_of U n) e.is ∙ get_or_append_left S e.more (Const []) n h
+use Rattle.dx_joins.specs.Shown.{AreTexts, text_in, texts_of}
+use Rattle.dx_joins.proofs.Translating.{text_back}
 
 pub grown_stands : (S T : List Value) (n : ℕ) (v : Value) → Extends S T → StandsAs S n v → StandsAs T n v
 grown_stands S T n v e s = record { within = omega (arith, s.within, longer S T e); value = grown_value S T n e s.within ∙ s.value }
@@ -49,18 +46,6 @@ grown_plan S T i vars n (Nulls ns) (Var x) e h = absurd h
 grown_plan S T i vars n (Nulls ns) (Ex v) e h = grown_nulls S T i v n ns.items e h
 grown_plan S T i vars n (Nulls ns) (Lit t) e h = absurd h
 
-zip_by : {X Y : Type 0} (R Q : X → Y → Type 0) (xs : List X) (ys : List Y) → ((x : X) (y : Y) → R x y → Q x y) → AllZip R xs ys → AllZip Q xs ys
-zip_by R Q [] [] f h = tt
-zip_by R Q [] (y ∷ ys) f h = absurd h
-zip_by R Q (x ∷ xs) [] f h = absurd h
-zip_by R Q (x ∷ xs) (y ∷ ys) f h = (f x y h.0, zip_by R Q xs ys f h.1)
-
-zip_push : {X Y : Type 0} (R : X → Y → Type 0) (xs : List X) (ys : List Y) (x : X) (y : Y) → AllZip R xs ys → R x y → AllZip R (xs ++ x ∷ []) (ys ++ y ∷ [])
-zip_push R [] [] x y h r = (r, tt)
-zip_push R [] (w ∷ ys) x y h r = absurd h
-zip_push R (u ∷ xs) [] x y h r = absurd h
-zip_push R (u ∷ xs) (w ∷ ys) x y h r = (h.0, zip_push R xs ys x y h.1 r)
-
 -- one pair more, whose second is read at a place
 zip_more : {X Y : Type 0} (R : X → Y → Type 0) (xs : List X) (ys : List Y) (i : ℕ) (x : X) (y : Y) → i < length ys → y ≡ get_or ys i y → AllZip R xs (take i ys) → R x y → AllZip R (xs ++ x ∷ []) (take (i + 1) ys)
 zip_more {X} {Y} R xs ys i x y h e z r = rw (take_more ys i y h, ← e) (zip_push R xs (take i ys) x y z r)
@@ -69,16 +54,16 @@ zip_more {X} {Y} R xs ys i x y h e z r = rw (take_more ys i y h, ← e) (zip_pus
 pub plans_more : (S T : List Value) (i : ℕ) (vars : List ℕ) (n : ℕ) (ps : List PlannedCell) (cs : List Cell) (k : ℕ) (p : PlannedCell) (c : Cell) → k < length cs → c ≡ get_or cs k c → Extends S T
     → AllZip (IsPlanned S i vars n) ps (take k cs) → IsPlanned T i vars n p c → AllZip (IsPlanned T i vars n) (ps ++ p ∷ []) (take (k + 1) cs)
 plans_more S T i vars n ps cs k p c h e g z r =
-    zip_more (IsPlanned T i vars n) ps cs k p c h e (zip_by (IsPlanned S i vars n) (IsPlanned T i vars n) ps (take k cs) (λ q d. grown_plan S T i vars n q d g) z) r
+    zip_more (IsPlanned T i vars n) ps cs k p c h e (zip_grow (IsPlanned S i vars n) (IsPlanned T i vars n) ps (take k cs) (λ q d. grown_plan S T i vars n q d g) z) r
 
 grown_atom : (S T : List Value) (i : ℕ) (vars : List ℕ) (n : ℕ) (p : PlannedAtom) (a : Atom) → Extends S T → IsPlannedAtom S i vars n p a → IsPlannedAtom T i vars n p a
-grown_atom S T i vars n p a g h = record { table = h.table; cells = zip_by (IsPlanned S i vars n) (IsPlanned T i vars n) p.cells.items a.cells (λ q d. grown_plan S T i vars n q d g) h.cells }
+grown_atom S T i vars n p a g h = record { table = h.table; cells = zip_grow (IsPlanned S i vars n) (IsPlanned T i vars n) p.cells.items a.cells (λ q d. grown_plan S T i vars n q d g) h.cells }
 
 -- one atom more
 pub atoms_more : (S T : List Value) (i : ℕ) (vars : List ℕ) (n : ℕ) (ps : List PlannedAtom) (atoms : List Atom) (k : ℕ) (p : PlannedAtom) (a : Atom) → k < length atoms → a ≡ get_or atoms k a → Extends S T
     → AllZip (IsPlannedAtom S i vars n) ps (take k atoms) → IsPlannedAtom T i vars n p a → AllZip (IsPlannedAtom T i vars n) (ps ++ p ∷ []) (take (k + 1) atoms)
 atoms_more S T i vars n ps atoms k p a h e g z r =
-    zip_more (IsPlannedAtom T i vars n) ps atoms k p a h e (zip_by (IsPlannedAtom S i vars n) (IsPlannedAtom T i vars n) ps (take k atoms) (λ q d. grown_atom S T i vars n q d g) z) r
+    zip_more (IsPlannedAtom T i vars n) ps atoms k p a h e (zip_grow (IsPlannedAtom S i vars n) (IsPlannedAtom T i vars n) ps (take k atoms) (λ q d. grown_atom S T i vars n q d g) z) r
 
 -- one null more
 pub nulls_more : (S T : List Value) (i v k n : ℕ) (ns : List ℕ) → Extends S T → AreNulls S i v k ns → n < length T → value_of T n ≡ null_at i k v → AreNulls T i v (k + 1) (ns ++ n ∷ [])
@@ -95,13 +80,6 @@ nulls_more S T i v k n ns g h b e = record { many = omega (arith, h.many, length
 
 pub no_nulls : (S : List Value) (i v : ℕ) → AreNulls S i v 0 []
 no_nulls S i v = record { many = refl; each = λ k h. absurd (omega arith) }
-
-pub stays : (S : List Value) → Extends S S
-stays S = record { more = []; is = sym (append_none S) }
-  where
-    append_none : (xs : List Value) → xs ++ [] ≡ xs
-    append_none [] = refl
-    append_none (x ∷ xs) = ap (λ (l : List Value). x ∷ l) (append_none xs)
 
 -- where the text of a variable stands
 pub text_found : (vars : List ℕ) (t : Tuple) (i x : ℕ) → i < length vars → length t ≡ length vars → get_or vars i 0 ≡ x → text_of (drop i vars) (drop i t) x ≡ get_or t i []
@@ -124,18 +102,11 @@ last_above S n v w up l p e h x m =
 pub atoms_listed : (d : Rule) (atoms : List Atom) (vars : List ℕ) → atoms ≡ d.conclusion → vars ≡ exported d → Each atoms (λ a. (x : ℕ) → Var x ∈ a.cells → x ∈ vars)
 atoms_listed d atoms vars w v a m x k = rw v (((exported_exactly d).1 x).1 (in_flat_map (λ (z : Atom). z.cells) (subst (λ (z : List Atom). a ∈ z) w m) k))
 
-pub item_in : {X : Type 0} (xs : List X) (i : ℕ) (x : X) → i < length xs → x ≡ get_or xs i x → x ∈ xs
-item_in xs i x h e = rw e (in_at xs i x h)
-
 -- one image more
 pub maps_more : {X Y : Type 0} (f : X → Y) (xs : List X) (i : ℕ) (x : X) (ys : List Y) → i < length xs → x ≡ get_or xs i x → ys ≡ map f (take i xs) → ys ++ f x ∷ [] ≡ map f (take (i + 1) xs)
 maps_more {X} {Y} f xs i x ys h e g = rw g (sym (ap (map f) (take_more xs i x h ∙ ap (λ (z : X). take i xs ++ z ∷ []) (sym e)) ∙ map_push f (take i xs) x))
 
 -- ---- what a plan says
-
-text_back : (v : Value) → is_text v ≡ true → Const (text_in v) ≡ v
-text_back (Const t) e = refl
-text_back (Null n) e = absurd (cc e)
 
 -- what is known of a row at a place
 pub record Stands (S : List Value) (d : Rule) (places : ℕ) (row : List ℕ) (k : ℕ) : Type 0 where

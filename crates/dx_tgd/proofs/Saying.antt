@@ -1,5 +1,5 @@
 -- The texts of variables, and the row that cells say.
-use Rattle.std.proofs.Common.{◌≡◌, ℕ, zero, suc, ◌+◌, ◌<◌, ◌≤◌, List, [], ◌∷◌, ◌++◌, refl, sym, ◌∙◌, ap, arith, length, get_or, take, drop}
+use Rattle.std.proofs.Common.{◌≡◌, ℕ, zero, suc, ◌+◌, ◌<◌, List, [], ◌∷◌, ◌++◌, refl, sym, ◌∙◌, ap, arith, length, get_or, take, drop}
 use Rattle.std.specs.Prelude.{map}
 use Rattle.std.proofs.lemmas.Bool.{ne_eqb}
 use Rattle.std.proofs.lemmas.List.{take_more, map-append}
@@ -7,20 +7,8 @@ use Rattle.dx_model.specs.declared.values.Value.{Value}
 use Rattle.dx_model.specs.declared.rules.Cell.{Cell}
 use Rattle.dx_model.specs.declared.rules.Cell.TheVariants.{Var}
 use Rattle.dx_ports.proofs.Members.{in_at}
-use Rattle.dx_ports.specs.Members.{◌∈◌, here, there}
+use Rattle.dx_ports.specs.Members.{◌∈◌}
 use Rattle.dx_model.specs.Rules.{text_of}
-
--- looking for a variable
-pub skip_listed : (vars : List ℕ) (i x : ℕ) → i < length vars → ¬ (get_or vars i 0 ≡ x) → x ∈ drop i vars → x ∈ drop (i + 1) vars
-skip_listed [] i x h n m = absurd (omega arith)
-skip_listed (y ∷ ys) zero x h n m = behind m
-  where
-    behind : x ∈ (y ∷ ys) → x ∈ drop 1 (y ∷ ys)
-    behind (here e) = absurd (n e)
-    behind (there k) = k
-skip_listed (y ∷ ys) (suc i) x h n m =
-    let e : suc i + 1 ≡ suc (i + 1) = omega arith in
-    rw e (skip_listed ys i x (omega arith) n m)
 
 pub skip_same : (vars : List ℕ) (tuple : List (List ℕ)) (i x : ℕ) → i < length vars → length tuple ≡ length vars → ¬ (get_or vars i 0 ≡ x)
     → text_of (drop (i + 1) vars) (drop (i + 1) tuple) x ≡ text_of (drop i vars) (drop i tuple) x
@@ -30,12 +18,6 @@ skip_same (y ∷ ys) (t ∷ ts) zero x h l n = rw (ne_eqb x y (λ e. n (sym e)))
 skip_same (y ∷ ys) (t ∷ ts) (suc i) x h l n =
     let e : suc i + 1 ≡ suc (i + 1) = omega arith in
     rw e (skip_same ys ts i x (omega arith) (omega arith) n)
-
-pub nothing_left : (vars : List ℕ) (i x : ℕ) → length vars ≤ i → ¬ (x ∈ drop i vars)
-nothing_left [] zero x h m = elim m [ ]
-nothing_left [] (suc i) x h m = elim m [ ]
-nothing_left (y ∷ ys) zero x h m = absurd (omega arith)
-nothing_left (y ∷ ys) (suc i) x h m = nothing_left ys i x (omega arith) m
 
 -- one value more
 pub maps_more : (f : Cell → Value) (cells : List Cell) (i : ℕ) (c : Cell) (row : List Value) (v : Value) → i < length cells → c ≡ get_or cells i c

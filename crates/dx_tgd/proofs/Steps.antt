@@ -6,6 +6,7 @@ use Rattle.std.specs.declared.alloc.AllocError.{AllocError}
 use Rattle.std.proofs.lemmas.List.{length-map, get_or-map, take_all}
 use Rattle.dx_ports.specs.Members.{◌≈◌, here, there, Each}
 use Rattle.dx_ports.proofs.Members.{in_at}
+use Rattle.dx_ports.proofs.Lists.{zip_long}
 use Rattle.dx_model.specs.declared.values.Value.{Value}
 use Rattle.dx_model.specs.declared.facts.Fact.{Fact}
 use Rattle.dx_model.specs.declared.rules.Atom.{Atom}
@@ -13,40 +14,29 @@ use Rattle.dx_model.specs.declared.rules.Rule.{Rule}
 use Rattle.dx_model.specs.Values.{Rows, Tuple}
 use Rattle.dx_model.specs.Rules.{at_place, at_places, canonical, exported}
 use Rattle.dx_instance.specs.Cells.{NumberTable, numbers_at}
-use Rattle.dx_instance.specs.Numbers.{Extends, value_of}
+use Rattle.dx_instance.specs.Numbers.{Extends}
 use Rattle.dx_instance.specs.Stored.{IsSorting, TableRows, facts, rows_of, widths, without_rows}
-use Rattle.dx_instance.proofs.StoredFacts.{fact_from_row, row_from_fact}
+use Rattle.dx_instance.proofs.StoredFacts.{widths_without, sorting_facts}
 use Rattle.dx_tgd.specs.declared.planned.PlannedAtom.{PlannedAtom}
 use Rattle.dx_tgd.specs.Counting.{canonical_cells}
 use Rattle.dx_tgd.specs.Gained.{Gains, HasRoom}
 use Rattle.dx_model.specs.Fitting.{AtomFitsWidths}
 use Rattle.dx_tgd.specs.Placed.{FitsWidths}
 use Rattle.dx_tgd.specs.Planned.{CanStand, IsPlannedAtom, planned_fact}
-use Rattle.dx_joins.specs.Shown.{AreTexts, is_text, text_in, texts_of}
+use Rattle.dx_joins.specs.Shown.{AreTexts, texts_of}
+use Rattle.dx_joins.proofs.Growing.{texts_stay, texts_grow}
 use Rattle.dx_tgd.specs.Texts.{FitRule, FitRules, tuples_in}
-use Rattle.dx_tgd.proofs.Plans.{Stands, cells_stand, grown_value, longer, plan_says}
+use Rattle.dx_tgd.proofs.Plans.{Stands, cells_stand, plan_says}
 use Rattle.dx_tgd.proofs.CanonicalFacts.{few_facts, place_room, rule_room}
 use Rattle.dx_tgd.proofs.Gaining.{atoms_have_cells, gains_place, gains_rule, only_gained, widths_gained}
-use Rattle.dx_tgd.proofs.Tables.{no_rows, widths_without}
+use Rattle.dx_tgd.proofs.Tables.{no_rows}
 
 -- ---- texts stay as symbols grow
-
-pub texts_there : (S T : List Value) (row : List ℕ) → Extends S T → AreTexts S row → AreTexts T row
-texts_there S T row e h n m =
-    let k = h n m in
-    (omega (arith, k.0, longer S T e), ap is_text (grown_value S T n e k.0) ∙ k.1)
-
-texts_grown : (S T : List Value) (row : List ℕ) → Extends S T → AreTexts S row → texts_of T row ≡ texts_of S row
-texts_grown S T [] e h = refl
-texts_grown S T (n ∷ row) e h =
-    let first : text_in (value_of T n) ≡ text_in (value_of S n) = ap text_in (grown_value S T n e (h n (here refl)).0) in
-    let rest = texts_grown S T row e (λ x m. h x (there m)) in
-    cc (first, rest)
 
 pub tuples_grown : (S T : List Value) (rows : List (List ℕ)) → Extends S T → Each rows (AreTexts S) → map (texts_of T) rows ≡ map (texts_of S) rows
 tuples_grown S T [] e h = refl
 tuples_grown S T (r ∷ rows) e h =
-    let first = texts_grown S T r e (h r (here refl)) in
+    let first = texts_stay S T r e (h r (here refl)) in
     let rest = tuples_grown S T rows e (λ x m. h x (there m)) in
     cc (first, rest)
 
@@ -67,7 +57,7 @@ module _ (S T L : List Value) (i : ℕ) (d : Rule) (t : NumberTable) (n k : ℕ)
   texts_at = rw a.read (a.texts (numbers_at t.rows k) (in_at t.rows k [] a.place))
 
   stands_at : Stands T d n row k
-  stands_at = record { texts = texts_there S T row a.grows texts_at; wide = a.wide; place = omega (arith, a.place, a.count) }
+  stands_at = record { texts = texts_grow S T row a.grows texts_at; wide = a.wide; place = omega (arith, a.place, a.count) }
 
   pub tuple_at : texts_of S row ≡ get_or (map (texts_of S) t.rows) k (texts_of S row)
   tuple_at = ap (texts_of S) a.read ∙ sym (get_or-map (texts_of S) t.rows k [] (texts_of S row) a.place)
@@ -76,7 +66,7 @@ module _ (S T L : List Value) (i : ℕ) (d : Rule) (t : NumberTable) (n k : ℕ)
   pub says_at : map (planned_fact L row k) ps ≡ at_place i d k (texts_of S row)
   says_at =
       ap (λ (U : List Value). map (planned_fact U row k) ps) a.same ∙ plan_says T i d n k row ps d.conclusion stands_at a.plan
-      ∙ ap (λ (u : Tuple). at_place i d k u) (texts_grown S T row a.grows texts_at)
+      ∙ ap (λ (u : Tuple). at_place i d k u) (texts_stay S T row a.grows texts_at)
 
   one_stands : (ws : List ℕ) (p : PlannedAtom) (b : Atom) → IsPlannedAtom T i (exported d) n p b → AtomFitsWidths ws b → CanStand ws (length T) row k p
   one_stands ws p b z w =
@@ -96,17 +86,11 @@ module _ (S T L : List Value) (i : ℕ) (d : Rule) (t : NumberTable) (n k : ℕ)
   pub stand_at : (ws vs : List ℕ) → ws ≡ vs → FitsWidths vs d → Each ps (CanStand ws (length L) row k)
   stand_at ws vs e f = rw (e, a.same) (all_stand vs ps d.conclusion a.plan f)
 
-  zip_long : (qs : List PlannedAtom) (atoms : List Atom) → AllZip (IsPlannedAtom T i (exported d) n) qs atoms → length qs ≡ length atoms
-  zip_long [] [] z = refl
-  zip_long [] (b ∷ atoms) z = absurd z
-  zip_long (q ∷ qs) [] z = absurd z
-  zip_long (q ∷ qs) (b ∷ atoms) z = ap suc (zip_long qs atoms z.1)
-
   pub room_at : (I J : List TableRows) → Gains I J (at_places i d 0 (take k (map (texts_of S) t.rows))) → HasRoom I (length (at_places i d 0 (map (texts_of S) t.rows))) → HasRoom J (length ps)
   room_at I J g r u =
       let long = length-map t.rows (texts_of S) in
       let b : k < length (map (texts_of S) t.rows) = omega (arith, long, a.place) in
-      omega (arith, g.few u, r u, place_room i d (map (texts_of S) t.rows) k (texts_of S row) b tuple_at, zip_long ps d.conclusion a.plan)
+      omega (arith, g.few u, r u, place_room i d (map (texts_of S) t.rows) k (texts_of S row) b tuple_at, zip_long (IsPlannedAtom T i (exported d) n) ps d.conclusion a.plan)
 
   pub more_at : (I J K : List TableRows) → Gains I J (at_places i d 0 (take k (map (texts_of S) t.rows))) → Gains J K (map (planned_fact L row k) ps) → Gains I K (at_places i d 0 (take (k + 1) (map (texts_of S) t.rows)))
   more_at I J K g h =
@@ -114,12 +98,6 @@ module _ (S T L : List Value) (i : ℕ) (d : Rule) (t : NumberTable) (n k : ℕ)
       gains_place i d (map (texts_of S) t.rows) k (texts_of S row) (omega (arith, long, a.place)) tuple_at g (subst (λ (fs : List Fact). Gains J K fs) says_at h)
 
 -- ---- one rule
-
-pub zip_within : {X Y : Type 0} (R : X → Y → Type 0) (xs : List X) (ys : List Y) → AllZip R xs ys → length xs ≡ length ys
-zip_within R [] [] z = refl
-zip_within R [] (y ∷ ys) z = absurd z
-zip_within R (x ∷ xs) [] z = absurd z
-zip_within R (x ∷ xs) (y ∷ ys) z = ap suc (zip_within R xs ys z.1)
 
 pub zip_at : {X Y : Type 0} (R : X → Y → Type 0) (xs : List X) (ys : List Y) (i : ℕ) (x : X) (y : Y) → AllZip R xs ys → i < length xs → x ≡ get_or xs i x → y ≡ get_or ys i y → R x y
 zip_at R [] ys i x y z h e f = absurd (omega arith)
@@ -139,7 +117,7 @@ module _ (S L : List Value) (R : List Rule) (ts : List NumberTable) (i : ℕ) (d
   fit_at = zip_at (FitRule S) R ts i d t a.fit a.within a.rule a.table
 
   pub texts_of_rule : Each t.rows (AreTexts L)
-  texts_of_rule row m = texts_there S L row a.grows (fit_at.texts row m)
+  texts_of_rule row m = texts_grow S L row a.grows (fit_at.texts row m)
 
   abbrev tuples : List Tuple
   tuples = map (texts_of S) t.rows
@@ -148,7 +126,7 @@ module _ (S L : List Value) (R : List Rule) (ts : List NumberTable) (i : ℕ) (d
   same_tuples = tuples_grown S L t.rows a.grows fit_at.texts
 
   many : i < length ts
-  many = omega (arith, a.within, zip_within (FitRule S) R ts a.fit)
+  many = omega (arith, a.within, zip_long (FitRule S) R ts a.fit)
 
   within_tuples : i < length (tuples_in S ts)
   within_tuples = omega (arith, many, length-map ts (λ (u : NumberTable). map (texts_of S) u.rows))
@@ -164,7 +142,7 @@ module _ (S L : List Value) (R : List Rule) (ts : List NumberTable) (i : ℕ) (d
 
 pub all_rules : (S : List Value) (R : List Rule) (ts : List NumberTable) (i : ℕ) → FitRules S R ts → length R ≤ i → canonical 0 (take i R) (take i (tuples_in S ts)) ≡ canonical 0 R (tuples_in S ts)
 all_rules S R ts i f h =
-    let n = zip_within (FitRule S) R ts f in
+    let n = zip_long (FitRule S) R ts f in
     let l = length-map ts (λ (u : NumberTable). map (texts_of S) u.rows) in
     let one = take_all i R h in
     let two = take_all i (tuples_in S ts) (omega (arith, n, l, h)) in
@@ -187,18 +165,12 @@ few_tables ws I J more e g h =
     let l = ap length (widths_gained ws I J more e g) in
     omega (arith, h, l, length-map J (λ (t : TableRows). t.width))
 
-sorted_facts : (J K : List TableRows) → IsSorting J K → facts K ≈ facts J
-sorted_facts J K s = (
-  (λ f m. fact_from_row J f.table f.row (s.only f.table f.row (row_from_fact K f m))),
-  (λ f m. fact_from_row K f.table f.row (s.kept f.table f.row (row_from_fact J f m))),
-)
-
 pub sorted_widths : (r : Result (List TableRows) AllocError) (ws : List ℕ) (I J : List TableRows) (more : List Fact) → I ≡ without_rows ws → Gains I J more → IfOk r (IsSorting J) → IfOk r (λ K. widths K ≡ ws)
 sorted_widths (Ok K) ws I J more e g s = s.widths_stay ∙ widths_gained ws I J more e g
 sorted_widths (Err x) ws I J more e g s = tt
 
 pub sorted_all : (r : Result (List TableRows) AllocError) (ws : List ℕ) (I J : List TableRows) (more : List Fact) → I ≡ without_rows ws → Gains I J more → IfOk r (IsSorting J) → IfOk r (λ K. facts K ≈ more)
 sorted_all (Ok K) ws I J more e g s =
-    let same = sorted_facts J K s in
+    let same = sorting_facts J K s in
     ((λ f m. only_gained ws I J more e g f (same.0 f m)), (λ f m. same.1 f (g.there f m)))
 sorted_all (Err x) ws I J more e g s = tt

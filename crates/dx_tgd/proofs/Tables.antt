@@ -1,5 +1,5 @@
 -- Tables of stored instances.
-use Rattle.std.proofs.Common.{◌≡◌, ℕ, zero, suc, ◌<◌, List, [], ◌∷◌, refl, ap, subst, arith, length, Some}
+use Rattle.std.proofs.Common.{◌≡◌, ℕ, zero, suc, ◌<◌, List, [], ◌∷◌, refl, subst, arith, length, Some}
 use Rattle.std.specs.Prelude.{slice_get}
 use Rattle.dx_model.specs.declared.values.Value.{Value}
 use Rattle.dx_model.specs.declared.facts.Fact.{Fact}
@@ -21,7 +21,3 @@ no_rows (w ∷ ws) (suc t) = no_rows ws t
 
 pub no_facts : (ws : List ℕ) (f : Fact) → ¬ (f ∈ facts (without_rows ws))
 no_facts ws f m = elim (subst (λ (z : List (List Value)). f.row ∈ z) (no_rows ws f.table) (row_from_fact (without_rows ws) f m)) [ ]
-
-pub widths_without : (ws : List ℕ) → widths (without_rows ws) ≡ ws
-widths_without [] = refl
-widths_without (w ∷ ws) = ap (λ (z : List ℕ). w ∷ z) (widths_without ws)

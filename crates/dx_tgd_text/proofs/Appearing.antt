@@ -4,10 +4,11 @@ use Rattle.std.specs.Prelude.{◌||◌}
 use Rattle.std.specs.Cmp.Lexicographic.{pointwise, other_text}
 use Rattle.std.proofs.lemmas.List.{append-nil, length-append}
 use Rattle.dx_ports.specs.Members.{◌∈◌, here, there}
+use Rattle.dx_ports.proofs.Lists.{cut_at}
 use Rattle.dx_model.specs.Fitting.{Numbered}
 use Rattle.dx_schema.specs.Tables.{Text, number_of}
 use Rattle.dx_schema.specs.Faults.{is_among}
-use Rattle.dx_schema.proofs.Loops.{among_number, cut}
+use Rattle.dx_schema.proofs.Loops.{among_number}
 use Rattle.dx_schema_text.specs.declared.texts.CellText.{CellText}
 use Rattle.dx_schema_text.specs.declared.texts.CellText.TheVariants.{Name, Literal}
 use Rattle.dx_schema_text.specs.declared.texts.AtomText.{AtomText}
@@ -141,7 +142,7 @@ pub atom_step : (known names after whole : List Text) (atoms : List AtomText) (i
     → (appeared after (new_names known (text_cells (drop (i + 1) atoms))) ≡ whole) × (length after + length (text_cells (drop (i + 1) atoms)) ≤ n)
 atom_step known names after whole atoms i n atom lt is entered so_far few =
     let rest = text_cells (drop (i + 1) atoms) in
-    let all : text_cells (drop i atoms) ≡ atom.cells ++ rest = ap text_cells (cut atoms i atom lt is) in
+    let all : text_cells (drop i atoms) ≡ atom.cells ++ rest = ap text_cells (cut_at atoms i atom lt is) in
     let both : appeared names (new_names known (text_cells (drop i atoms))) ≡ appeared after (new_names known rest) =
     ap (λ cs. appeared names (new_names known cs)) all ∙ ap (appeared names) (new_names_append known atom.cells rest) ∙ appeared_append names (new_names known atom.cells) (new_names known rest)
     ∙ ap (λ ns. appeared ns (new_names known rest)) (sym entered) in

@@ -3,7 +3,7 @@ use Rattle.std.proofs.Common.{◌≡◌, ℕ, suc, ◌+◌, ◌<◌, List, [], �
 use Rattle.std.specs.Prelude.{eqb}
 use Rattle.std.proofs.lemmas.Bool.{eqb-true}
 use Rattle.std.proofs.lemmas.Bool.Decides.{nat_tests}
-use Rattle.std.proofs.lemmas.List.{get_or-map, length-append}
+use Rattle.std.proofs.lemmas.List.{get_or-map, length-append, length-map}
 use Rattle.dx_ports.specs.Members.{◌∈◌, here, there, Each}
 use Rattle.dx_ports.proofs.Members.{from_map, in_flat_map}
 use Rattle.dx_ports.proofs.Firsts.{first_none, none_of, each_none}
@@ -35,10 +35,6 @@ use Rattle.dx_tgd_text.specs.Reading.{variables_of, known_of, fresh_of, derived_
 use Rattle.dx_tgd_text.specs.Laws.{IsName, IsWhole, AreOffered, ReadRulesFit, ReadRulesAreOffered}
 use Rattle.dx_tgd_text.proofs.Appearing.{numbers_appear, among_appeared}
 
-len_map : {X Y : Type 0} (f : X → Y) (xs : List X) → length (map f xs) ≡ length xs
-len_map f [] = refl
-len_map f (x ∷ xs) = ap suc (len_map f xs)
-
 -- ---- atoms
 
 -- an atom without a fault fits
@@ -48,12 +44,12 @@ atom_fits f known fresh a h = go (is_among a.set (set_names f)) refl h
     wide : (b : Bool) → eqb (length a.cells) (length (columns_in f a.set)) ≡ b → cond b None (Some (At a.place Width)) ≡ None → is_among a.set (set_names f) ≡ true → AtomFits (model_tables f) (atom_of f known fresh a)
     wide false e k s = absurd cc
     wide true e k s =
-        let lt : set_number f a.set < length (tables_of f) = rw (← len_map (λ (t : TableOf). t.name) (tables_of f)) (among_number a.set (set_names f) s) in
+        let lt : set_number f a.set < length (tables_of f) = rw (← length-map (tables_of f) (λ (t : TableOf). t.name)) (among_number a.set (set_names f) s) in
         let width : (table_of (model_tables f) (set_number f a.set)).width ≡ length (columns_in f a.set) =
         ap (λ n. n.width) (get_or-map as_numbers (tables_of f) (set_number f a.set) (record { name = []; columns = []; keys = []; links = []; parent = None; inner = [] }) (record { width = 0; determinations = []; links = []; optional = [] }) lt) in
         record {
-          table = rw (len_map as_numbers (tables_of f)) lt;
-          width = len_map (cell_of known fresh) a.cells ∙ eqb-true (length a.cells) (length (columns_in f a.set)) e ∙ sym width;
+          table = rw (length-map (tables_of f) as_numbers) lt;
+          width = length-map a.cells (cell_of known fresh) ∙ eqb-true (length a.cells) (length (columns_in f a.set)) e ∙ sym width;
         }
 
     go : (b : Bool) → is_among a.set (set_names f) ≡ b → cond b (cond (eqb (length a.cells) (length (columns_in f a.set))) None (Some (At a.place Width))) (Some (At a.place UnknownName)) ≡ None → AtomFits (model_tables f) (atom_of f known fresh a)
@@ -75,7 +71,7 @@ cells_read f known fresh (a ∷ atoms) = ap (λ cs. map (cell_of known fresh) a.
     map_both g (x ∷ xs) ys = ap (λ zs. g x ∷ zs) (map_both g xs ys)
 
 count_cells : (f : Forest) (known fresh : List Text) (atoms : List AtomText) → length (cells_of (atoms_of f known fresh atoms)) ≡ length (text_cells atoms)
-count_cells f known fresh atoms = ap length (cells_read f known fresh atoms) ∙ len_map (cell_of known fresh) (text_cells atoms)
+count_cells f known fresh atoms = ap length (cells_read f known fresh atoms) ∙ length-map (text_cells atoms) (cell_of known fresh)
 
 -- ---- the premise
 
@@ -171,7 +167,7 @@ good_call list variables d (Some c) e h = go (eqb c.arity (length d.args)) refl 
     go : (b : Bool) → eqb c.arity (length d.args) ≡ b → cond b (args_fault variables d.call_place d.args) (Some (At d.call_place Width)) ≡ None → GoodCall list variables d
     go false s k = absurd cc
     go true s k = record {
-      offered = (c, found_listed list d.call c e, ap code_of (sym e), eqb-true c.arity (length d.args) s ∙ sym (len_map (arg_of variables) d.args));
+      offered = (c, found_listed list d.call c e, ap code_of (sym e), eqb-true c.arity (length d.args) s ∙ sym (length-map d.args (arg_of variables)));
       within = λ x m. let p = from_map (arg_of variables) d.args m in rw (← p.2) (arg_within variables d.call_place p.0 (each_none (arg_fault variables d.call_place) d.args k p.0 p.1));
     }
 
@@ -245,8 +241,8 @@ module _ (source target : Forest) (list : List Conversion) (r : RuleText) (w : I
       let p = from_map (cell_of (known_of r) (fresh_of r)) (text_cells r.conclusion) (subst (λ cs. Var x ∈ cs) (cells_read target (known_of r) (fresh_of r) r.conclusion) m) in
       let k = known_variable (known_of r) (fresh_of r) x p.0 p.2 in
       let both = length-append (variables_of r) (derived_names r.derived) in
-      let ds = len_map (λ (d : DerivedText). d.name) r.derived in
-      let es = len_map (derived_of list (variables_of r)) r.derived in
+      let ds = length-map r.derived (λ (d : DerivedText). d.name) in
+      let es = length-map r.derived (derived_of list (variables_of r)) in
       omega (arith, k, count, both, ds, es)
 
 pub read_rules_fit : ReadRulesFit
@@ -254,14 +250,14 @@ read_rules_fit source target list r w n h =
     let f = no_faults source target list r h in
     let p = count_cells source (variables_of r) [] r.premise in
     let q = count_cells target (known_of r) (fresh_of r) r.conclusion in
-    let es = len_map (derived_of list (variables_of r)) r.derived in
+    let es = length-map r.derived (derived_of list (variables_of r)) in
     record {
       rule = record {
-        some_premise = rw (len_map (atom_of source (variables_of r) []) r.premise) w.some_premise;
+        some_premise = rw (length-map r.premise (atom_of source (variables_of r) [])) w.some_premise;
         plain = plain source target list r w;
         numbered = numbered source target list r w;
         derived = λ e m. let k = from_map (derived_of list (variables_of r)) r.derived m in subst (λ d. AreWithin d.args (premise_variables (rule_of source target list r))) k.2 (subst (λ n. AreWithin (derived_of list (variables_of r) k.0).args n) (sym (count source target list r w)) (all_good list (variables_of r) (variables_of r) r.derived f.derived k.0 k.1).within);
-        some_conclusion = rw (len_map (atom_of target (known_of r) (fresh_of r)) r.conclusion) w.some_conclusion;
+        some_conclusion = rw (length-map r.conclusion (atom_of target (known_of r) (fresh_of r))) w.some_conclusion;
         known = known source target list r w;
         existentials = conclusion_numbered source target list r w;
         few_variables = omega (arith, n, p, es);

@@ -1,30 +1,16 @@
 -- The set of an atom is the first of its name.
-use Rattle.std.proofs.Common.{◌≡◌, ℕ, suc, ◌<◌, List, [], ◌∷◌, Some, None, Bool, true, false, cond, length, map, refl, sym, ap, ◌∙◌, eq-eqb}
+use Rattle.std.proofs.Common.{◌≡◌, ℕ, ◌<◌, Some, None, Bool, true, false, cond, length, refl, sym, ap, ◌∙◌, eq-eqb}
 use Rattle.std.specs.Prelude.{eqb}
 use Rattle.std.proofs.lemmas.Bool.{eqb-true}
-use Rattle.std.proofs.lemmas.List.{get_or-map}
 use Rattle.dx_ports.specs.Members.{◌∈◌}
-use Rattle.dx_ports.proofs.Members.{in_at, in_map}
 use Rattle.dx_schema.specs.Forest.{Forest}
-use Rattle.dx_schema.specs.Tables.{Text, TableOf, tables_of, table_at, AreTables}
-use Rattle.dx_schema.specs.Faults.{is_among}
+use Rattle.dx_schema.specs.Tables.{tables_of, table_at, AreTables}
 use Rattle.dx_tokens.specs.declared.faults.TextFault.TheVariants.{At}
 use Rattle.dx_tokens.specs.declared.faults.TextKind.TheVariants.{UnknownName, Width}
 use Rattle.dx_schema_text.specs.declared.texts.AtomText.{AtomText}
 use Rattle.dx_line_text.specs.Naming.{set_names, set_number, columns_in}
-use Rattle.dx_line_text.proofs.Found.{not_found, is_found, number_is}
+use Rattle.dx_line_text.proofs.Found.{not_found, set_is, set_among}
 use Rattle.dx_tgd_text.specs.Reading.{atom_fault}
-
-len_names : (ts : List TableOf) → length (map (λ (t : TableOf). t.name) ts) ≡ length ts
-len_names [] = refl
-len_names (t ∷ ts) = ap suc (len_names ts)
-
-set_is : (f : Forest) (t : ℕ) (x : Text) → AreTables (tables_of f) → t < length (tables_of f) → (table_at f t).name ≡ x → set_number f x ≡ t
-set_is f t x a lt is =
-    number_is (set_names f) t x a.distinct_names (rw (len_names (tables_of f)) lt) (get_or-map (λ (t : TableOf). t.name) (tables_of f) t _ [] lt ∙ is)
-
-set_among : (f : Forest) (t : ℕ) (x : Text) → t < length (tables_of f) → (table_at f t).name ≡ x → is_among x (set_names f) ≡ true
-set_among f t x lt is = is_found x (set_names f) (rw (← is) (in_map (λ (t : TableOf). t.name) (in_at (tables_of f) t _ lt)))
 
 -- a set that isn't there
 pub unknown_set : (f : Forest) (a : AtomText) → ¬ (a.set ∈ set_names f) → atom_fault f a ≡ Some (At a.place UnknownName)

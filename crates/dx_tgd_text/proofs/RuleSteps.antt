@@ -2,11 +2,12 @@
 use Rattle.std.proofs.Common.{◌≡◌, ◌⊎◌, inl, inr, ℕ, ◌+◌, ◌<◌, List, [], ◌∷◌, ◌++◌, Option, Some, None, length, map, take, drop, get_or, refl, sym, ap, ◌∙◌, subst}
 use Rattle.std.proofs.lemmas.List.{map-append}
 use Rattle.dx_ports.specs.Firsts.{first_of}
+use Rattle.dx_ports.proofs.Lists.{cut_at}
 use Rattle.dx_model.specs.declared.rules.Atom.{Atom}
 use Rattle.dx_model.specs.declared.rules.Derived.{Derived}
 use Rattle.dx_schema.specs.Forest.{Forest}
 use Rattle.dx_schema.specs.Tables.{Text}
-use Rattle.dx_schema.proofs.Loops.{cut, taken}
+use Rattle.dx_schema.proofs.Loops.{taken}
 use Rattle.dx_tokens.specs.declared.faults.TextFault.{TextFault}
 use Rattle.dx_tokens.specs.declared.faults.TextFault.TheVariants.{Memory}
 use Rattle.dx_schema_text.specs.declared.texts.RuleText.{RuleText}
@@ -73,5 +74,5 @@ pub loop_more : {X Y : Type 0} (f : X → Y) (fault : X → Option TextFault) (x
     → (after ≡ map f (take (i + 1) xs)) × (first_of (map fault xs) ≡ first_of (map fault (drop (i + 1) xs)))
 loop_more f fault xs i x ys after y lt is (so_far, rest) (made, none) pushed = (
   rw (pushed, so_far, made) (sym (ap (map f) (taken xs i x lt is) ∙ map-append f (take i xs) (x ∷ []))),
-  rest ∙ ap (λ zs. first_of (map fault zs)) (cut xs i x lt is) ∙ rw none refl,
+  rest ∙ ap (λ zs. first_of (map fault zs)) (cut_at xs i x lt is) ∙ rw none refl,
 )

@@ -1,1 +1,3 @@
 pub mod UsedLaws
+pub mod MarkFacts
+mod Examples

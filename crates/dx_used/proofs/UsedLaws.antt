@@ -1,7 +1,7 @@
 -- Rules see of an instance the columns that they use, and nothing else.
 use Rattle.std.proofs.Common.{◌≡◌, ℕ, zero, suc, ◌+◌, ◌≤◌, ◌⊎◌, Bool, true, false, cond, eqb, List, [], ◌∷◌, ◌++◌, inl, inr, refl, sym, ◌∙◌, ap, subst, arith}
 use Rattle.std.specs.Prelude.{map}
-use Rattle.std.proofs.lemmas.Bool.{eqb-true, eqb-false, eq-eqb, ne_eqb, cases_Bool}
+use Rattle.std.proofs.lemmas.Bool.{eqb-true, eq-eqb, ne_eqb, cases_Bool}
 use Rattle.dx_model.specs.declared.values.Value.{Value}
 use Rattle.dx_model.specs.declared.values.Value.TheVariants.{Const, Null}
 use Rattle.dx_model.specs.declared.facts.Fact.{Fact}
@@ -10,8 +10,8 @@ use Rattle.dx_model.specs.declared.rules.Cell.TheVariants.{Var, Ex, Lit}
 use Rattle.dx_model.specs.declared.rules.Atom.{Atom}
 use Rattle.dx_model.specs.declared.rules.Derived.{Derived}
 use Rattle.dx_model.specs.declared.rules.Rule.{Rule}
-use Rattle.dx_ports.specs.Members.{◌∈◌, here, there, Each}
-use Rattle.dx_ports.proofs.Members.{in_map, from_map, in_left, in_right, in_flat_map, same_sym}
+use Rattle.dx_ports.specs.Members.{◌∈◌, here, there}
+use Rattle.dx_ports.proofs.Members.{in_map, from_map, in_flat_map, same_sym}
 use Rattle.dx_ports.proofs.Tests.{map_same}
 use Rattle.dx_model.specs.Values.{Text, Tuple, Conversions}
 use Rattle.dx_model.specs.Rules.{cell_value, premise_fact, after_cells, cells_of, Derive, IsMatch, exported, IsRows, Satisfies}
@@ -153,8 +153,7 @@ idle_cell x cs t row R texts o r =
     let all = times-self x (cs ++ R) in
     let both = times-append x cs R in
     let none : times x cs ≡ 0 = omega (arith, o, all, both) in
-    let none_after : times x R ≡ 0 = omega (arith, o, all, both) in
-    (
+    let none_after : times x R ≡ 0 = omega (arith, o, all, both) in (
       new,
       both_are _ _ _ _ (ap Const (with_here r.0 x t)) (values_same new r.0 cs (λ y m. with_there r.0 x t y (other_in y m none)) ∙ r.1),
       record {
@@ -249,13 +248,12 @@ refit_atoms used J (a ∷ atoms) R texts o w =
     let stays : map (value_in r.0) a.cells ≡ map (value_in texts) a.cells =
     values_same r.0 texts a.cells (λ x m. r.2.after x (in_front a.cells R x (times-member x a.cells m))) in
     let s = refit_row marks a.cells g.0.row (cells_of atoms ++ R) r.0
-    (once_same marks a.cells _ _ (grouped a.cells (cells_of atoms) R) (o a (here refl))) (ap (blanked marks) stays ∙ g.3) in
-    (
+    (once_same marks a.cells _ _ (grouped a.cells (cells_of atoms) R) (o a (here refl))) (ap (blanked marks) stays ∙ g.3) in (
       s.0,
       (λ b m. elim m [
         | here e ↦ subst (λ c. premise_fact s.0 c ∈ J) e (said_fact J g.0 a s.0 g.1 g.2 s.1)
         | there k ↦ subst (λ f. f ∈ J) (sym (said_same s.0 r.0 (λ _. Const []) b
-          (λ x n. s.2.after x (in_front (cells_of atoms) R x (times-member x (cells_of atoms) (in_flat_map (λ (c : Atom). c.cells) k n)))))) (r.1 b k)
+            (λ x n. s.2.after x (in_front (cells_of atoms) R x (times-member x (cells_of atoms) (in_flat_map (λ (c : Atom). c.cells) k n)))))) (r.1 b k)
       ]),
       record {
         after = λ x h. s.2.after x (in_rest (cells_of atoms) R x h) ∙ r.2.after x (in_rest a.cells R x h);
@@ -287,13 +285,12 @@ module _ (convert : Conversions) (used : Marks) (d : Rule) (I J : List Fact) (on
       → (new : ℕ → Text) × IsMatch convert d J new × ((x : ℕ) → Var x ∈ cells_of d.conclusion → new x ≡ texts x)
   match_there texts m =
       let R : List Cell = cells_of d.conclusion ++ arguments d in
-      let r = refit_atoms used J d.premise R texts (λ a k. once_idle d (marks_at used a.table) a.cells (only a k)) (meets texts m) in
-      (
+      let r = refit_atoms used J d.premise R texts (λ a k. once_idle d (marks_at used a.table) a.cells (only a k)) (meets texts m) in (
         r.0,
         record {
           premise = r.1;
           derived = derive_kept convert texts r.0 (after_cells (cells_of d.premise)) d.derived (λ i h. r.2.elsewhere i (none_after i h))
-          (λ e k x n. r.2.after x (in_rest (cells_of d.conclusion) (arguments d) x (times-member x (arguments d) (in_flat_map (λ (e : Derived). map Var e.args) k (in_map Var n))))) m.derived;
+              (λ e k x n. r.2.after x (in_rest (cells_of d.conclusion) (arguments d) x (times-member x (arguments d) (in_flat_map (λ (e : Derived). map Var e.args) k (in_map Var n))))) m.derived;
         },
         λ x n. r.2.after x (in_front (cells_of d.conclusion) (arguments d) x (times-member x (cells_of d.conclusion) n)),
       )

@@ -1,1 +1,76 @@
 // The columns that rules use.
+ghost use Rattle.std.specs.Prelude.{◌≡◌, IfOk, OnOk};
+ghost use Rattle.dx_ports.specs.Members.{Each};
+ghost use Rattle.dx_model.specs.declared.rules.Rule.{Rule};
+ghost use Rattle.dx_used.specs.Used.{AreIdle, UsesOnly, mentions};
+ghost use Rattle.dx_used.specs.Counting.{Counts, KeepMarks, UsesOnlyOf};
+
+use crate::mentions::{is_idle, mentions_of};
+use dx_model::{Cell, Rule};
+use dx_ports::Items;
+use std::alloc::{AllocError, Global};
+
+// Marks each column whose cell asks something of the value there.
+fn mark_cells(cells: &[Cell], counts: &[u8], marks: &mut Vec<bool>)
+    ensures idle { (d : Rule) → Counts (mentions d) counts.now → AreIdle d marks.new.items cells.now }
+    ensures keep { KeepMarks marks.old.items marks.new.items }
+{
+    for column in 0..cells.len() {
+        if column < marks.len() && !is_idle(counts, &cells[column]) {
+            marks[column] = true;
+        }
+    }
+}
+
+// Marks the columns of a table that a rule uses.
+fn mark_rule(
+    alloc: Global,
+    rule: &Rule,
+    table: u32,
+    marks: &mut Vec<bool>,
+) -> Result<(), AllocError>
+    ensures only { OnOk result (UsesOnlyOf table marks.new.items rule.now) }
+    ensures keep { KeepMarks marks.old.items marks.new.items }
+{
+    let counts = mentions_of(alloc, rule)?;
+    for atom in rule.premise.items() {
+        if atom.table == table {
+            mark_cells(atom.cells.items(), &counts, marks);
+        }
+    }
+    Ok(())
+}
+
+// The marks of a table of so many columns.
+fn marks_of(alloc: Global, rules: &[Rule], table: u32, width: u32) -> Result<Vec<bool>, AllocError>
+    ensures { IfOk result (λ marks. Each rules.now (UsesOnlyOf table marks.items)) }
+{
+    let mut marks = vec![in alloc; false; width as usize]?;
+    for rule in rules {
+        mark_rule(alloc, rule, table, &mut marks)?;
+    }
+    Ok(marks)
+}
+
+/// For each table, of as many columns as its width says, a mark for each column: whether the rules use it. A column that is
+/// not marked has only variables that are mentioned once.
+///
+/// # Errors
+///
+/// `AllocError` if there is no memory.
+pub fn used_columns(
+    alloc: Global,
+    rules: &[Rule],
+    widths: &[u32],
+) -> Result<Vec<Items<bool>>, AllocError>
+    ensures { IfOk result (λ used. Each rules.now (UsesOnly used.items)) }
+{
+    let mut used = Vec::with_capacity(alloc, widths.len())?;
+    let mut table = 0u32;
+    for width in widths {
+        let marks = marks_of(alloc, rules, table, *width)?;
+        used.push(Items::from_vec(marks))?;
+        table = table.checked_add(1).ok_or(AllocError)?;
+    }
+    Ok(used)
+}

@@ -7,10 +7,11 @@ use Rattle.std.proofs.lemmas.List.{drop_more, take_more, append_assoc}
 use Rattle.dx_ports.specs.Members.{◌∈◌, here, there}
 use Rattle.dx_lines.specs.declared.candidate.Pick.{Pick}
 use Rattle.dx_lines.specs.Ways.{pick_cmp, put_by, put_in, ascending}
+use Rattle.dx_lines.proofs.Ascending.{from_put, from_ascending}
 use Rattle.dx_ways.specs.Laws.{Ascends}
 use Rattle.dx_ways.specs.Tried.{put_all}
 use Rattle.dx_ways.proofs.Order.{one_ascending}
-use Rattle.dx_ways.proofs.Puts.{from_put, to_put, from_ascending, to_ascending, put_ascends, ascending_ascends}
+use Rattle.dx_ways.proofs.Puts.{to_put, to_ascending, put_ascends, ascending_ascends}
 
 -- ---- where a pick belongs
 

@@ -5,17 +5,11 @@ use Rattle.std.specs.declared.cmp.Ordering.TheVariants.{Less, Equal, Greater}
 use Rattle.dx_ports.specs.Members.{◌∈◌, here, there, Each}
 use Rattle.dx_lines.specs.declared.candidate.Pick.{Pick}
 use Rattle.dx_lines.specs.Ways.{pick_cmp, put_by, put_in, ascending}
+use Rattle.dx_lines.proofs.Ascending.{from_put}
 use Rattle.dx_ways.specs.Laws.{Ascends}
 use Rattle.dx_ways.proofs.Order.{pick_total, pick_exact, above}
 
 -- ---- members
-
-from_put_by : (o : Ordering) (x y : Pick) (ys rest : List Pick) (t : Pick) → (t ∈ rest → (x ≡ t) ⊎ (t ∈ ys)) → t ∈ put_by o x y ys rest → (x ≡ t) ⊎ (t ∈ (y ∷ ys))
-from_put_by Less x y ys rest t h (here e) = inl e
-from_put_by Less x y ys rest t h (there m) = inr m
-from_put_by Equal x y ys rest t h m = inr m
-from_put_by Greater x y ys rest t h (here e) = inr (here e)
-from_put_by Greater x y ys rest t h (there m) = elim (h m) [ inl e ↦ inl e | inr n ↦ inr (there n) ]
 
 to_put_by : (o : Ordering) (x y : Pick) (ys rest : List Pick) (t : Pick) → (o ≡ Equal → x ≡ y) → ((x ≡ t) ⊎ (t ∈ ys) → t ∈ rest) → (x ≡ t) ⊎ (t ∈ (y ∷ ys)) → t ∈ put_by o x y ys rest
 to_put_by Less x y ys rest t q h (inl e) = here e
@@ -26,20 +20,10 @@ to_put_by Greater x y ys rest t q h (inl e) = there (h (inl e))
 to_put_by Greater x y ys rest t q h (inr (here e)) = here e
 to_put_by Greater x y ys rest t q h (inr (there m)) = there (h (inr m))
 
--- what is in a list after x was put in
-pub from_put : (x : Pick) (xs : List Pick) (t : Pick) → t ∈ put_in x xs → (x ≡ t) ⊎ (t ∈ xs)
-from_put x [] t (here e) = inl e
-from_put x [] t (there m) = inr m
-from_put x (y ∷ ys) t m = from_put_by (pick_cmp x y) x y ys (put_in x ys) t (from_put x ys t) m
-
 pub to_put : (x : Pick) (xs : List Pick) (t : Pick) → (x ≡ t) ⊎ (t ∈ xs) → t ∈ put_in x xs
 to_put x [] t (inl e) = here e
 to_put x [] t (inr m) = elim m [ ]
 to_put x (y ∷ ys) t h = to_put_by (pick_cmp x y) x y ys (put_in x ys) t (pick_exact x y) (to_put x ys t) h
-
-pub from_ascending : (xs : List Pick) (t : Pick) → t ∈ ascending xs → t ∈ xs
-from_ascending [] t m = m
-from_ascending (x ∷ xs) t m = elim (from_put x (ascending xs) t m) [ inl e ↦ here e | inr n ↦ there (from_ascending xs t n) ]
 
 pub to_ascending : (xs : List Pick) (t : Pick) → t ∈ xs → t ∈ ascending xs
 to_ascending [] t m = m

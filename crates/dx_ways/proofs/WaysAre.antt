@@ -11,9 +11,10 @@ use Rattle.dx_lines.specs.declared.candidate.Pick.{Pick}
 use Rattle.dx_lines.specs.Ways.{is_of, variable_in, named, choices, term_by, terms_of, pick, ways_at, line_ways, ways}
 use Rattle.dx_ways.specs.Laws.{TermBy, Chosen, IsWay, WaysAre, WaysAscend, WaysGrow}
 use Rattle.dx_ways.proofs.Order.{no_longer}
-use Rattle.dx_ways.proofs.Puts.{from_ascending, to_ascending, ascending_ascends}
+use Rattle.dx_ways.proofs.Puts.{to_ascending, ascending_ascends}
 use Rattle.dx_ways.proofs.Choosing.{first_of, from_choices, to_choices, from_term_by, to_term_by, first_chosen, seen_by}
 use Rattle.dx_ports.proofs.Tests.{from_filter, to_filter}
+use Rattle.dx_lines.proofs.Ascending.{from_ascending}
 
 -- what a line's ways are
 pub record IsLineWay (P Q : List Occurrence) (l : Line) (k : Pick) : Type 0 where

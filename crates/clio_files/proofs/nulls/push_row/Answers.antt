@@ -1,7 +1,7 @@
 use Rattle.std.proofs.Common.{take, get_or, [], ◌∷◌}
 use Rattle.dx_ports.proofs.Members.{in_at}
+use Rattle.dx_model.specs.Instances.{nulls_in}
 use Rattle.dx_instance.specs.Shown.{shown_row}
-use Rattle.clio_files.specs.Files.{nulls_in}
 use Rattle.clio_files.proofs.SheetNulls.{number_constant, number_null, pushed}
 use Rattle.clio_files.proofs.nulls.push_row.Goals as goal
 use Rattle.clio_files.proofs.nulls.push_row.Goals.{in-Null+in_ok-push, in_default}

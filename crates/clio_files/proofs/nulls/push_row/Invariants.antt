@@ -1,6 +1,6 @@
 use Rattle.std.proofs.Common.{◌≡◌, ◌++◌, take}
+use Rattle.dx_model.specs.Instances.{nulls_in}
 use Rattle.dx_instance.specs.Shown.{shown_row}
-use Rattle.clio_files.specs.Files.{nulls_in}
 use Rattle.clio_files.proofs.nulls.push_row.Given as goal
 
 abbrev pub invariant-loop-number : goal.invariant-loop-number

@@ -1,7 +1,7 @@
 use Rattle.std.proofs.Common.{◌<◌, take, flat_map, length, arith}
+use Rattle.dx_model.specs.Instances.{nulls_in}
 use Rattle.dx_instance.specs.Shown.{numbers_of_table, shown_row, shown_tables}
 use Rattle.dx_instance.specs.Stored.{rows_of}
-use Rattle.clio_files.specs.Files.{nulls_in}
 use Rattle.clio_files.proofs.SheetNulls.{place_more, pushed}
 use Rattle.clio_files.proofs.nulls.push_table.Goals as goal
 

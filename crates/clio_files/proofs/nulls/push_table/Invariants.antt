@@ -1,7 +1,7 @@
 use Rattle.std.proofs.Common.{◌≡◌, ◌++◌, take, flat_map}
+use Rattle.dx_model.specs.Instances.{nulls_in}
 use Rattle.dx_instance.specs.Shown.{shown_tables}
 use Rattle.dx_instance.specs.Stored.{rows_of}
-use Rattle.clio_files.specs.Files.{nulls_in}
 use Rattle.clio_files.proofs.nulls.push_table.Given as goal
 
 abbrev pub invariant-loop-place : goal.invariant-loop-place

@@ -3,8 +3,8 @@ use Rattle.std.specs.Prelude.{if◌then◌else◌}
 use Rattle.dx_funcs.specs.Serving.{offered}
 use Rattle.dx_instance.specs.NullMaps.{pairs_of}
 use Rattle.dx_tgd.specs.Counting.{rows_in}
+use Rattle.clio_source.specs.Source.{roots}
 use Rattle.clio_files.specs.Files.{seen}
-use Rattle.clio_files.specs.Nested.{roots}
 use Rattle.clio_files.specs.Printing.{AddsRoots}
 use Rattle.clio_files.specs.Sheets.{file_of, fold_sheet, nulls_sheet}
 use Rattle.clio_files.specs.Texts.{texts_told}

@@ -6,9 +6,10 @@ use Rattle.dx_instance.specs.Shown.{shown_tables}
 use Rattle.dx_instance.specs.Stored.{facts}
 use Rattle.dx_joins.specs.Shown.{MoreTuples}
 use Rattle.dx_schema.specs.Names.{named_of}
+use Rattle.dx_joins.proofs.Carrying.{found}
 use Rattle.dx_eval.specs.Finding.{IsFoundStep, IsFoundUpTo}
 use Rattle.dx_eval.specs.Query.{IsSelected}
-use Rattle.dx_eval.proofs.Limits.{all_found, few_cells, many_cells, match_step, matching_at, matching_fits, number_is, other_step, passes, refused_limit, start, table_found, too_many}
+use Rattle.dx_eval.proofs.Limits.{all_found, few_cells, many_cells, match_step, matching_at, matching_fits, number_is, other_step, passes, refused_limit, start, too_many}
 use Rattle.dx_eval.proofs.Tables.{match_fits_at, of_step}
 use Rattle.dx_eval.proofs.finding.found_steps.Goals.{in-MatchRows+in_ok-cells+in_ok-found+in_ok-table+in_ok-push, in_default}
 use Rattle.dx_eval.proofs.finding.found_steps.Goals as goal
@@ -68,7 +69,7 @@ loop-step-preserved g c =
           let m = match_fits_at N L c.args.steps.now c.loop-step.step-index w.in-MatchRows.rule w.in-MatchRows.select w.in-MatchRows.sources w.in-MatchRows.equal c.step-item.result c.requires.fit c.loop-step-test.true c.step-item.is w.in-MatchRows.is in
           let v = w.in-MatchRows in
           let rows = matching_at (IsFoundUpTo w.room_for-room.result N C I w.matched_rows.new.symbols w.in_ok-found.found) c.step-item.result v.rule v.select v.sources v.equal v.is w.in_ok-found.ensures.rows in
-          let stand = table_found w.in_ok-found.found w.in_ok-table.table (MoreTuples w.room_for-room.result (IsSelected N C I v.select v.sources v.equal))
+          let stand = found w.in_ok-found.found w.in_ok-table.table (MoreTuples w.room_for-room.result (IsSelected N C I v.select v.sources v.equal))
           (IsFoundStep N C I w.matched_rows.new.symbols (of_step v.select v.sources v.equal)) w.in_ok-table.ensures.ok.0 rows in
           let few = few_cells w.room_for-room.result w.in_ok-cells.cells c.loop-step.left (length w.in_ok-table.table.rows) w.room_for-room.ensures w.in_ok-table.ensures.few w.in_ok-table.ensures.ok.1 in
           let less = subst (λ (z : ℕ). length w.in_ok-table.table.rows * z ≤ c.loop-step.left) w.in_ok-cells.ensures few in

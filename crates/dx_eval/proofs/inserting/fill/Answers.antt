@@ -1,7 +1,7 @@
 use Rattle.std.proofs.Common.{◌∙◌, length}
 use Rattle.dx_ports.proofs.Loops.{each_item}
 use Rattle.dx_instance.proofs.ShownFacts.{extends_both}
-use Rattle.dx_tgd.proofs.Steps.{texts_there}
+use Rattle.dx_joins.proofs.Growing.{texts_grow}
 use Rattle.dx_eval.specs.Inserting.{OutStands}
 use Rattle.dx_eval.proofs.Inserts.{filled_more}
 use Rattle.dx_eval.proofs.inserting.fill.Goals as goal
@@ -10,7 +10,7 @@ pub number_of-requires-clause-stands : goal.number_of-requires-clause-stands
 number_of-requires-clause-stands c = each_item (OutStands (length c.args.row.now)) c.args.cells.now c.loop-cell.cell-index c.cell-item.result c.loop-cell-test.true c.cell-item.is c.requires.stand
 
 pub number_of-requires-clause-texts : goal.number_of-requires-clause-texts
-number_of-requires-clause-texts c = texts_there c.args.target.now.symbols c.loop-cell.target.symbols c.args.row.now c.loop-cell.invariant.grows c.requires.texts
+number_of-requires-clause-texts c = texts_grow c.args.target.now.symbols c.loop-cell.target.symbols c.args.row.now c.loop-cell.invariant.grows c.requires.texts
 
 pub loop-cell-preserved : goal.loop-cell-preserved
 loop-cell-preserved c =

@@ -1,15 +1,15 @@
 use Rattle.std.proofs.Common.{◌∙◌, ℕ, List, subst}
 use Rattle.std.specs.Prelude.{map}
 use Rattle.dx_model.specs.declared.values.Value.{Value}
-use Rattle.dx_instance.proofs.ShownFacts.{extends_both}
+use Rattle.dx_instance.proofs.ShownFacts.{extends_both, table_read}
 use Rattle.dx_joins.specs.Shown.{texts_of}
 use Rattle.dx_schema.specs.Names.{named_of}
+use Rattle.dx_instance.proofs.NumberFacts.{stays}
 use Rattle.dx_tgd.specs.Gained.{Gains}
 use Rattle.dx_tgd.specs.Planned.{built}
 use Rattle.dx_tgd.specs.Texts.{tuples_in}
-use Rattle.dx_tgd.proofs.Plans.{stays}
 use Rattle.dx_eval.proofs.Inserts.{all_inserted, all_texts_there, all_there, none_below, places_low, rule_more_grown}
-use Rattle.dx_eval.proofs.Partners.{table_is, texts_at}
+use Rattle.dx_eval.proofs.Partners.{texts_at}
 use Rattle.dx_eval.specs.Inserting.{facts_by}
 use Rattle.dx_eval.specs.Keeping.{Stay}
 use Rattle.dx_eval.proofs.inserting.insert_all.Goals as goal
@@ -30,7 +30,7 @@ stay_places-requires-clause-texts c =
 
 pub insert_rule-requires-clause-stand : goal.insert_rule-requires-clause-stand
 insert_rule-requires-clause-stand c =
-    let e = table_is c.args.tables.now c.loop-rule.rule c.index-tables-rule.result c.loop-rule-test.true c.index-tables-rule.is in
+    let e = table_read c.args.tables.now c.loop-rule.rule c.index-tables-rule.result c.loop-rule-test.true c.index-tables-rule.is in
     rw e (λ table kept cells m. c.requires.inserts table c.loop-rule.rule kept cells m)
 
 pub insert_rule-requires-clause-texts : goal.insert_rule-requires-clause-texts

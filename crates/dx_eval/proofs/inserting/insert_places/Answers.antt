@@ -5,11 +5,11 @@ use Rattle.dx_instance.proofs.ShownFacts.{extends_both}
 use Rattle.dx_instance.specs.Shown.{shown_row}
 use Rattle.dx_instance.specs.Stored.{TableRows, widths}
 use Rattle.dx_joins.specs.Shown.{texts_of}
+use Rattle.dx_joins.proofs.Growing.{texts_grow}
 use Rattle.dx_script.specs.Meaning.{inserted}
 use Rattle.dx_tgd.proofs.Ascending.{row_there}
 use Rattle.dx_tgd.specs.Gained.{Gains}
 use Rattle.dx_tgd.specs.Planned.{built}
-use Rattle.dx_tgd.proofs.Steps.{texts_there}
 use Rattle.dx_eval.specs.Inserting.{placed_fact}
 use Rattle.dx_eval.proofs.Inserts.{all_placed, gains_at, long_shown, long_tables, wide_as}
 use Rattle.dx_eval.proofs.inserting.insert_places.Goals as goal
@@ -22,7 +22,7 @@ fill-requires-clause-stand c = rw c.row.ensures.width c.requires.stand
 
 pub fill-requires-clause-texts : goal.fill-requires-clause-texts
 fill-requires-clause-texts c =
-    texts_there c.args.target.now.symbols c.loop-place.target.symbols c.row.result.now c.loop-place.invariant.grows
+    texts_grow c.args.target.now.symbols c.loop-place.target.symbols c.row.result.now c.loop-place.invariant.grows
     (row_there c.args.target.now.symbols c.args.rows.now.rows (get_or c.args.places.now c.loop-place.place-index 0) c.row.result.now c.requires.texts
     (c.requires.places _ (in_at c.args.places.now c.loop-place.place-index 0 c.loop-place-test.true)) c.row.ensures.row)
 

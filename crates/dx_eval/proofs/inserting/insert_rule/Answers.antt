@@ -3,12 +3,12 @@ use Rattle.std.specs.Prelude.{map}
 use Rattle.dx_instance.proofs.ShownFacts.{extends_both}
 use Rattle.dx_joins.specs.Shown.{texts_of}
 use Rattle.dx_schema.specs.Names.{named_of}
+use Rattle.dx_instance.proofs.NumberFacts.{stays}
 use Rattle.dx_script.specs.declared.form.Out.{Out}
 use Rattle.dx_script.specs.declared.form.Step.TheVariants.{InsertRows}
 use Rattle.dx_tgd.specs.Gained.{Gains}
 use Rattle.dx_tgd.specs.Planned.{built}
 use Rattle.dx_tgd.proofs.Gaining.{gains_nothing}
-use Rattle.dx_tgd.proofs.Plans.{stays}
 use Rattle.dx_eval.specs.Inserting.{facts_in, placed_fact}
 use Rattle.dx_eval.proofs.Inserts.{all_gained, all_texts_there, cells_wide, gains_insert, gains_same, insert_of_another, other_facts, step_in, table_low}
 use Rattle.dx_eval.proofs.inserting.insert_rule.Goals.{in-InsertRows+then-number-rule+in_ok-insert_places, in-InsertRows+else-number-rule, in_default}

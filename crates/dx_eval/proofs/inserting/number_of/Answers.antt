@@ -2,7 +2,7 @@ use Rattle.std.proofs.Common.{length}
 use Rattle.dx_joins.specs.Shown.{texts_of}
 use Rattle.dx_script.specs.Meaning.{inserted}
 use Rattle.dx_model.specs.declared.values.Value.TheVariants.{Const, Null}
-use Rattle.dx_tgd.proofs.Plans.{stays}
+use Rattle.dx_instance.proofs.NumberFacts.{stays}
 use Rattle.dx_eval.proofs.Inserts.{column_in, column_number_stands, literal_in, null_in, stands_is}
 use Rattle.dx_eval.proofs.inserting.number_of.Goals as goal
 

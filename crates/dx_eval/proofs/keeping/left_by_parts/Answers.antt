@@ -1,9 +1,10 @@
 use Rattle.std.proofs.Common.{ℕ, List, length, subst, take}
 use Rattle.dx_ports.proofs.Loops.{each_item}
 use Rattle.dx_instance.specs.Shown.{numbers_of_table}
+use Rattle.dx_instance.proofs.ShownFacts.{table_read}
 use Rattle.dx_script.specs.declared.form.Test.{Test}
 use Rattle.dx_eval.specs.Keeping.{LacksPartner, LacksPartners, Leaves, PartStands}
-use Rattle.dx_eval.proofs.Partners.{left_within, parts_all, parts_more, parts_none, table_is, texts_at}
+use Rattle.dx_eval.proofs.Partners.{left_within, parts_all, parts_more, parts_none, texts_at}
 use Rattle.dx_eval.proofs.keeping.left_by_parts.Goals as goal
 
 pub bounds-tables-part : goal.bounds-tables-part
@@ -14,7 +15,7 @@ loop-part-init c = parts_none c.args.symbols.now c.args.tables.now c.args.rule c
 
 pub left_by_part-requires-clause-places : goal.left_by_part-requires-clause-places
 left_by_part-requires-clause-places c =
-    let e = table_is c.args.tables.now c.args.rule c.index-tables-rule.result c.requires.rule c.index-tables-rule.is in
+    let e = table_read c.args.tables.now c.args.rule c.index-tables-rule.result c.requires.rule c.index-tables-rule.is in
     rw (c.deref.ensures.value, e) (left_within (LacksPartners c.args.symbols.now c.args.tables.now c.args.rule (take c.loop-part.part-index c.args.unless.now)) (length (numbers_of_table c.args.tables.now c.args.rule).rows) c.args.places.items
     c.loop-part.left.items c.requires.places c.loop-part.invariant)
 
@@ -29,15 +30,15 @@ left_by_part-requires-clause-other c =
 pub left_by_part-requires-clause-stand : goal.left_by_part-requires-clause-stand
 left_by_part-requires-clause-stand c =
     let s = each_item (PartStands c.args.tables.now c.args.rule) c.args.unless.now c.loop-part.part-index c.part-item.result c.loop-part-test.true c.part-item.is c.requires.stand in
-    let e = table_is c.args.tables.now c.args.rule c.index-tables-rule.result c.requires.rule c.index-tables-rule.is in
-    let d = table_is c.args.tables.now c.part-item.result.rule c.index-tables-part.result s.rule c.index-tables-part.is in
+    let e = table_read c.args.tables.now c.args.rule c.index-tables-rule.result c.requires.rule c.index-tables-rule.is in
+    let d = table_read c.args.tables.now c.part-item.result.rule c.index-tables-part.result s.rule c.index-tables-part.is in
     rw (c.items.ensures, e, d) s.tests
 
 pub loop-part-preserved : goal.loop-part-preserved
 loop-part-preserved c =
     let s = each_item (PartStands c.args.tables.now c.args.rule) c.args.unless.now c.loop-part.part-index c.part-item.result c.loop-part-test.true c.part-item.is c.requires.stand in
-    let e = table_is c.args.tables.now c.args.rule c.index-tables-rule.result c.requires.rule c.index-tables-rule.is in
-    let d = table_is c.args.tables.now c.part-item.result.rule c.index-tables-part.result s.rule c.index-tables-part.is in
+    let e = table_read c.args.tables.now c.args.rule c.index-tables-rule.result c.requires.rule c.index-tables-rule.is in
+    let d = table_read c.args.tables.now c.part-item.result.rule c.index-tables-part.result s.rule c.index-tables-part.is in
     parts_more c.args.symbols.now c.args.tables.now c.args.rule c.args.unless.now c.loop-part.part-index c.part-item.result c.index-tables-rule.result c.index-tables-part.result c.args.places.items c.loop-part.left.items c.in_ok-left.left.items
     c.loop-part-test.true c.part-item.is e d c.loop-part.invariant
     (subst (λ (ps : List ℕ). Leaves (LacksPartner c.args.symbols.now c.index-tables-rule.result.rows c.index-tables-part.result.rows c.part-item.result.tests) ps c.in_ok-left.left.items) c.deref.ensures.value

@@ -1,17 +1,18 @@
 use Rattle.std.proofs.Common.{◌∙◌, List, ap, length, subst, take}
 use Rattle.std.proofs.lemmas.List.{take_all}
 use Rattle.dx_instance.specs.Cells.{NumberTable}
+use Rattle.dx_instance.proofs.ShownFacts.{table_read}
 use Rattle.dx_script.specs.declared.form.Unless.{Unless}
 use Rattle.dx_script.specs.declared.form.Step.TheVariants.{KeepRows}
 use Rattle.dx_eval.specs.Keeping.{LacksPartners, Leaves}
 use Rattle.dx_eval.proofs.Inserts.{step_in}
-use Rattle.dx_eval.proofs.Partners.{keep_of_another, no_keep, stay_all, stay_keep, stay_other, stay_start, table_is}
+use Rattle.dx_eval.proofs.Partners.{keep_of_another, no_keep, stay_all, stay_keep, stay_other, stay_start}
 use Rattle.dx_eval.proofs.keeping.stay_places.Goals.{in-KeepRows+then-number-rule+in_ok-places-2, in-KeepRows+else-number-rule, in_default}
 use Rattle.dx_eval.proofs.keeping.stay_places.Goals as goal
 
 pub loop-step-init : goal.loop-step-init
 loop-step-init c =
-    let e = table_is c.args.tables.now c.args.rule c.index-tables-rule.result c.requires.rule c.index-tables-rule.is in
+    let e = table_read c.args.tables.now c.args.rule c.index-tables-rule.result c.requires.rule c.index-tables-rule.is in
     stay_start c.args.symbols.now c.args.tables.now c.args.rule c.count.result c.in_ok-places.places.items (c.count.ensures.count ∙ ap (λ (t : NumberTable). length t.rows) e) c.in_ok-places.ensures
 
 pub left_by_parts-requires-clause-places : goal.left_by_parts-requires-clause-places

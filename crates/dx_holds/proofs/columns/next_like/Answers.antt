@@ -1,11 +1,11 @@
 use Rattle.std.proofs.Common.{◌∙◌, ◌<◌, ◌^◌, [], arith, sym, length, get_or}
 use Rattle.std.proofs.lemmas.Bool.{true≢false}
-use Rattle.dx_ports.proofs.Members.{in_at}
+use Rattle.dx_ports.proofs.Members.{in_at, only_one}
 use Rattle.dx_model.specs.Tables.{cell, values_in}
 use Rattle.dx_instance.specs.Stored.{rows_of, table_at}
 use Rattle.dx_instance.specs.Places.{row_at, value_at}
 use Rattle.dx_instance.proofs.PlaceFacts.{none_more}
-use Rattle.dx_holds.proofs.Agreeing.{agree_at, none_on, only_one, some_column}
+use Rattle.dx_holds.proofs.Agreeing.{agree_at, none_on, some_column}
 use Rattle.dx_holds.proofs.columns.next_like.Goals as goal
 
 pub cell-value-requires-clause-column : goal.cell-value-requires-clause-column

@@ -1,6 +1,6 @@
 use Rattle.std.proofs.Common.{◌<◌, ◌∙◌, arith, length, sym}
+use Rattle.dx_ports.proofs.Members.{only_one}
 use Rattle.dx_holds.specs.Searching.{texts}
-use Rattle.dx_holds.proofs.Agreeing.{only_one}
 use Rattle.dx_holds.proofs.Narrowing.{by_column, known_value}
 use Rattle.dx_holds.proofs.matching.candidate.Goals as goal
 

@@ -1,8 +1,7 @@
 use Rattle.std.proofs.Common.{◌≡◌, get_or, rules}
-use Rattle.std.proofs.lemmas.List.{take_all}
+use Rattle.std.proofs.lemmas.List.{take_all, get_or_default}
 use Rattle.dx_ports.proofs.Loops.{each_more}
 use Rattle.dx_ports.proofs.Members.{from_map, in_at}
-use Rattle.dx_instance.proofs.StoredFacts.{other_default}
 use Rattle.dx_holds.specs.declared.matching.Found.{Found}
 use Rattle.dx_holds.proofs.matching.found_at.Goals as goal
 
@@ -17,7 +16,7 @@ returns-then-entry-variable c =
 pub loop-entry-preserved : goal.loop-entry-preserved
 loop-entry-preserved c =
     each_more (λ (b : Found). ¬ (b.variable ≡ c.args.variable)) c.args.found.now c.loop-entry.entry-index (get_or c.args.found.now c.loop-entry.entry-index blank)
-    c.loop-entry-test.true (other_default c.args.found.now c.loop-entry.entry-index blank _ c.loop-entry-test.true) c.loop-entry.invariant (λ e. let d : (get_or c.args.found.now c.loop-entry.entry-index blank).variable ≡ c.args.variable → ⊥ = search rules in d e)
+    c.loop-entry-test.true (get_or_default c.args.found.now c.loop-entry.entry-index blank _ c.loop-entry-test.true) c.loop-entry.invariant (λ e. let d : (get_or c.args.found.now c.loop-entry.entry-index blank).variable ≡ c.args.variable → ⊥ = search rules in d e)
 
 pub returns : goal.returns
 returns c = λ m. let r = from_map (λ (b : Found). b.variable) c.args.found.now m in c.loop-entry.invariant r.0 (rw (take_all c.loop-entry.entry-index c.args.found.now c.loop-entry-test.false) r.1) r.2

@@ -1,10 +1,10 @@
 use Rattle.std.proofs.Common.{◌≡◌, ◌<◌, ◌∙◌, [], subst, length, arith, vec_capacity}
+use Rattle.std.proofs.lemmas.List.{get_or_default}
 use Rattle.dx_ports.specs.Members.{◌∈◌}
 use Rattle.dx_ports.proofs.Loops.{each_item}
 use Rattle.dx_model.specs.declared.rules.Cell.{Cell}
 use Rattle.dx_model.specs.declared.values.Value.TheVariants.{Const}
 use Rattle.dx_instance.specs.Places.{row_at, value_at}
-use Rattle.dx_instance.proofs.StoredFacts.{other_default}
 use Rattle.dx_holds.specs.Searching.{texts}
 use Rattle.dx_holds.proofs.Narrowing.{in_cells, row_failed, row_more, row_whole, row_wide}
 use Rattle.dx_holds.proofs.matching.meet_row.Goals as goal
@@ -28,7 +28,7 @@ returns-then-not-meet_cell-clause-cases c =
     let l : length c.args.atom.now.cells ≡ length (row_at c.args.question.now.target.now c.args.atom.now.table c.args.place) = row_wide c.args.question.now.target.now c.args.atom.now c.args.place fits.0 fits.1 c.requires.place c.tables-wide.ensures.rows in
     row_failed (texts c.args.question.now.atoms.now c.args.question.now.tuple.now) c.args.question.now.target.now (vec_capacity c.args.found.now) c.args.atom.now.cells (row_at c.args.question.now.target.now c.args.atom.now.table c.args.place)
     c.args.found.now.items c.loop-column.found.items c.loop-column.column c.index-cells-column.result (value_at c.args.question.now.target.now c.args.atom.now.table c.args.place c.loop-column.column) l h (rw c.items-cells.ensures at c.index-cells-column.is)
-    (other_default (row_at c.args.question.now.target.now c.args.atom.now.table c.args.place) c.loop-column.column (Const []) _ (omega (arith, h, l))) c.loop-column.invariant.narrows c.meet_cell.new.found.items c.if-not-meet_cell.ensures.cases
+    (get_or_default (row_at c.args.question.now.target.now c.args.atom.now.table c.args.place) c.loop-column.column (Const []) _ (omega (arith, h, l))) c.loop-column.invariant.narrows c.meet_cell.new.found.items c.if-not-meet_cell.ensures.cases
 
 pub loop-column-preserved : goal.loop-column-preserved
 loop-column-preserved c =
@@ -39,7 +39,7 @@ loop-column-preserved c =
       capacity = c.meet_cell.ensures.capacity ∙ c.loop-column.invariant.capacity;
       narrows = row_more (texts c.args.question.now.atoms.now c.args.question.now.tuple.now) c.args.question.now.target.now (vec_capacity c.args.found.now) c.args.atom.now.cells (row_at c.args.question.now.target.now c.args.atom.now.table c.args.place)
           c.args.found.now.items c.loop-column.found.items c.loop-column.column c.index-cells-column.result (value_at c.args.question.now.target.now c.args.atom.now.table c.args.place c.loop-column.column) l h (rw c.items-cells.ensures at c.index-cells-column.is)
-          (other_default (row_at c.args.question.now.target.now c.args.atom.now.table c.args.place) c.loop-column.column (Const []) _ (omega (arith, h, l))) c.loop-column.invariant.narrows c.meet_cell.new.found.items (rw c.loop-column.invariant.capacity at c.if-not-meet_cell.ensures.cases);
+          (get_or_default (row_at c.args.question.now.target.now c.args.atom.now.table c.args.place) c.loop-column.column (Const []) _ (omega (arith, h, l))) c.loop-column.invariant.narrows c.meet_cell.new.found.items (rw c.loop-column.invariant.capacity at c.if-not-meet_cell.ensures.cases);
     }
 
 pub returns-clause-cases : goal.returns-clause-cases

@@ -1,8 +1,8 @@
 use Rattle.std.proofs.Common.{◌≡◌, ◌++◌, ◌∷◌, ◌∙◌, [], ℕ, List, ap, arith, get_or, length, length-append, subst, vec_capacity}
 use Rattle.std.specs.Prelude.{Some}
+use Rattle.std.proofs.lemmas.List.{get_or_default}
 use Rattle.dx_ports.proofs.Members.{in_at}
 use Rattle.dx_model.specs.declared.rules.Cell.TheVariants.{Ex}
-use Rattle.dx_instance.proofs.StoredFacts.{other_default}
 use Rattle.dx_holds.specs.Searching.{NoneLeft, atom_at, texts}
 use Rattle.dx_holds.proofs.Narrowing.{begins_on, cut, in_cells}
 use Rattle.dx_holds.proofs.Parts.{begins_longer, done_few, done_room, fails_after, or_else, since_longer, state_more, tried_all, tried_fail, tried_skip}
@@ -25,7 +25,7 @@ pub extend-requires : goal.extend-requires
 extend-requires t c =
     let new = rw c.as_slice-2.ensures.value at c.in-Some.ensures.1 in
     let r = done_room (texts c.args.question.now.atoms.now c.args.question.now.tuple.now) c.args.question.now.atoms.now c.args.question.now.target.now (vec_capacity c.args.found.now) c.args.found.now.items c.args.done.now.items c.in-Some.next c.requires.state c.in-Some.ensures.0 new in
-    let is : get_or c.args.question.now.atoms.now c.in-Some.next c.index-question-next.result ≡ atom_at c.args.question.now.atoms.now c.in-Some.next = other_default c.args.question.now.atoms.now c.in-Some.next c.index-question-next.result _ c.in-Some.ensures.0 in
+    let is : get_or c.args.question.now.atoms.now c.in-Some.next c.index-question-next.result ≡ atom_at c.args.question.now.atoms.now c.in-Some.next = get_or_default c.args.question.now.atoms.now c.in-Some.next c.index-question-next.result _ c.in-Some.ensures.0 in
     let met = rw (is, c.loop-place.invariant.found_capacity, c.loop-place.invariant.found_same) at c.in-Some-next_place.ensures.cases in
     let pushed = c.push_reserved.ensures.items ∙ ap (λ (l : List ℕ). l ++ c.in-Some.next ∷ []) c.loop-place.invariant.done_same in
     let longer = ap length pushed ∙ length-append c.args.done.now.items (c.in-Some.next ∷ []) in
@@ -46,7 +46,7 @@ extend-requires t c =
 
 pub extend-requires-then-extend : goal.extend-requires-then-extend
 extend-requires-then-extend t c =
-    let is : get_or c.args.question.now.atoms.now c.in-Some.next c.index-question-next.result ≡ atom_at c.args.question.now.atoms.now c.in-Some.next = other_default c.args.question.now.atoms.now c.in-Some.next c.index-question-next.result _ c.in-Some.ensures.0 in
+    let is : get_or c.args.question.now.atoms.now c.in-Some.next c.index-question-next.result ≡ atom_at c.args.question.now.atoms.now c.in-Some.next = get_or_default c.args.question.now.atoms.now c.in-Some.next c.index-question-next.result _ c.in-Some.ensures.0 in
     let new = rw c.as_slice-2.ensures.value at c.in-Some.ensures.1 in
     let r = done_room (texts c.args.question.now.atoms.now c.args.question.now.tuple.now) c.args.question.now.atoms.now c.args.question.now.target.now (vec_capacity c.args.found.now) c.args.found.now.items c.args.done.now.items c.in-Some.next c.requires.state c.in-Some.ensures.0 new in
     let met = rw (is, c.loop-place.invariant.found_capacity, c.loop-place.invariant.found_same) at c.in-Some-next_place.ensures.cases in
@@ -76,7 +76,7 @@ extend-requires-then-extend t c =
 pub returns-then-extend-clause-cases : goal.returns-then-extend-clause-cases
 returns-then-extend-clause-cases t c =
     let T : ℕ → List ℕ = texts c.args.question.now.atoms.now c.args.question.now.tuple.now in
-    let is : get_or c.args.question.now.atoms.now c.in-Some.next c.index-question-next.result ≡ atom_at c.args.question.now.atoms.now c.in-Some.next = other_default c.args.question.now.atoms.now c.in-Some.next c.index-question-next.result _ c.in-Some.ensures.0 in
+    let is : get_or c.args.question.now.atoms.now c.in-Some.next c.index-question-next.result ≡ atom_at c.args.question.now.atoms.now c.in-Some.next = get_or_default c.args.question.now.atoms.now c.in-Some.next c.index-question-next.result _ c.in-Some.ensures.0 in
     let met = rw (is, c.loop-place.invariant.found_capacity, c.loop-place.invariant.found_same) at c.in-Some-next_place.ensures.cases in
     let pushed = c.push_reserved.ensures.items ∙ ap (λ (l : List ℕ). l ++ c.in-Some.next ∷ []) c.loop-place.invariant.done_same in
     let mark : c.len-mark.result ≡ length c.args.found.now.items = c.len-mark.ensures ∙ c.args.found.now.ok.0 in
@@ -89,7 +89,7 @@ returns-then-extend-clause-cases t c =
 
 pub loop-place-preserved : goal.loop-place-preserved
 loop-place-preserved t c =
-    let is : get_or c.args.question.now.atoms.now c.in-Some.next c.index-question-next.result ≡ atom_at c.args.question.now.atoms.now c.in-Some.next = other_default c.args.question.now.atoms.now c.in-Some.next c.index-question-next.result _ c.in-Some.ensures.0 in
+    let is : get_or c.args.question.now.atoms.now c.in-Some.next c.index-question-next.result ≡ atom_at c.args.question.now.atoms.now c.in-Some.next = get_or_default c.args.question.now.atoms.now c.in-Some.next c.index-question-next.result _ c.in-Some.ensures.0 in
     let met = rw (is, c.loop-place.invariant.found_capacity, c.loop-place.invariant.found_same) at c.in-Some-next_place.ensures.cases in
     let pushed = c.push_reserved.ensures.items ∙ ap (λ (l : List ℕ). l ++ c.in-Some.next ∷ []) c.loop-place.invariant.done_same in
     let T : ℕ → List ℕ = texts c.args.question.now.atoms.now c.args.question.now.tuple.now in
@@ -107,6 +107,6 @@ pub returns-clause-cases : goal.returns-clause-cases
 returns-clause-cases t c =
     let T : ℕ → List ℕ = texts c.args.question.now.atoms.now c.args.question.now.tuple.now in
     let new = rw c.as_slice-2.ensures.value at c.in-Some.ensures.1 in
-    let is : get_or c.args.question.now.atoms.now c.in-Some.next c.index-question-next.result ≡ atom_at c.args.question.now.atoms.now c.in-Some.next = other_default c.args.question.now.atoms.now c.in-Some.next c.index-question-next.result _ c.in-Some.ensures.0 in
+    let is : get_or c.args.question.now.atoms.now c.in-Some.next c.index-question-next.result ≡ atom_at c.args.question.now.atoms.now c.in-Some.next = get_or_default c.args.question.now.atoms.now c.in-Some.next c.index-question-next.result _ c.in-Some.ensures.0 in
     let last = rw (is, c.loop-place.invariant.found_same) at c.in_default-next_place.ensures.cases in
     tried_all T c.args.question.now.atoms.now c.args.question.now.target.now c.args.found.now.items c.args.done.now.items c.in-Some.next c.loop-place.from c.in-Some.ensures.0 new c.loop-place.invariant.tried last.1

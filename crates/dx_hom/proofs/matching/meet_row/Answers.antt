@@ -1,7 +1,7 @@
 use Rattle.std.proofs.Common.{◌<◌, ◌∙◌, sym, length, arith, []}
+use Rattle.std.proofs.lemmas.List.{get_or_default}
 use Rattle.dx_model.specs.declared.values.Value.TheVariants.{Const}
 use Rattle.dx_instance.specs.Places.{row_at, value_at}
-use Rattle.dx_instance.proofs.StoredFacts.{other_default}
 use Rattle.dx_hom.proofs.Narrowing.{row_more, row_failed, room_at, row_whole}
 use Rattle.dx_hom.proofs.matching.meet_row.Goals as goal
 
@@ -15,7 +15,7 @@ meet_value-requires-clause-room c =
     let y = value_at T c.args.table c.args.place i in
     let h : i < length row = omega (arith, c.width-column-end.ensures, c.requires.width) in
     let k : i < length at = omega (arith, c.width-column-end.ensures, c.requires.wide) in
-    let there = other_default at i (Const []) y k in
+    let there = get_or_default at i (Const []) y k in
     let long = c.requires.width ∙ sym c.requires.wide in
     let done = c.loop-column.invariant.narrows in
     rw c.loop-column.invariant.room (room_at T c.args.fixed.now row at c.args.found.now.cells c.loop-column.found.cells i x y
@@ -31,7 +31,7 @@ returns-then-not-meet_value-clause-cases c =
     let y = value_at T c.args.table c.args.place i in
     let h : i < length row = omega (arith, c.width-column-end.ensures, c.requires.width) in
     let k : i < length at = omega (arith, c.width-column-end.ensures, c.requires.wide) in
-    let there = other_default at i (Const []) y k in
+    let there = get_or_default at i (Const []) y k in
     let long = c.requires.width ∙ sym c.requires.wide in
     let done = c.loop-column.invariant.narrows in
     row_failed T c.args.fixed.now row at c.args.found.now.cells c.loop-column.found.cells i x y
@@ -47,7 +47,7 @@ loop-column-preserved c =
     let y = value_at T c.args.table c.args.place i in
     let h : i < length row = omega (arith, c.width-column-end.ensures, c.requires.width) in
     let k : i < length at = omega (arith, c.width-column-end.ensures, c.requires.wide) in
-    let there = other_default at i (Const []) y k in
+    let there = get_or_default at i (Const []) y k in
     let long = c.requires.width ∙ sym c.requires.wide in
     let done = c.loop-column.invariant.narrows in
     record {

@@ -1,8 +1,8 @@
 use Rattle.std.proofs.Common.{◌≡◌, take}
 use Rattle.std.specs.Prelude.{map}
-use Rattle.dx_model.specs.Instances.{moved}
+use Rattle.dx_model.specs.Instances.{moved, nulls_in}
 use Rattle.dx_instance.specs.Places.{row_at}
-use Rattle.dx_hom.specs.Narrowing.{Narrows, nulls_in}
+use Rattle.dx_hom.specs.Narrowing.{Narrows}
 use Rattle.dx_hom.proofs.matching.meet_row.Given as goal
 
 abbrev pub invariant-loop-column : goal.invariant-loop-column

@@ -1,8 +1,8 @@
 use Rattle.std.proofs.Common.{◌≡◌, ◌<◌, ◌≤◌, ◌∙◌, [], ap, arith, length, refl}
 use Rattle.std.proofs.lemmas.Bool.{false≢true}
+use Rattle.std.proofs.lemmas.List.{get_or_default}
 use Rattle.dx_model.specs.declared.values.Value.TheVariants.{Const}
 use Rattle.dx_instance.specs.Places.{row_at}
-use Rattle.dx_instance.proofs.StoredFacts.{other_default}
 use Rattle.dx_hom.proofs.Placing.{row_wide, rows_more, rows_same}
 use Rattle.dx_hom.proofs.searching.is_row.Goals as goal
 
@@ -22,7 +22,7 @@ loop-column-preserved c =
     let h : i < length row =
     omega (arith, c.if-row-width.false, c.width.ensures, c.width-column-end.ensures, c.loop-column-test.true) in
     let l : length at ≡ length row = omega (arith, wide, c.if-row-width.false, c.width.ensures) in
-    let there = c.cell.ensures ∙ other_default at i (Const []) c.cell.result.now (omega (arith, h, l)) in
+    let there = c.cell.ensures ∙ get_or_default at i (Const []) c.cell.result.now (omega (arith, h, l)) in
     rows_more row at i c.index-row-column.result c.cell.result.now h l c.index-row-column.is there (c.is.ensures.0 c.if-not-is.false)
     c.loop-column.invariant
 

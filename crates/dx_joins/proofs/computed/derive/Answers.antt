@@ -1,12 +1,12 @@
 use Rattle.std.proofs.Common.{◌≡◌, ◌∙◌, ◌++◌, ◌∷◌, [], ◌+◌, ◌<◌, sym, ap, subst, refl, ℕ, List, take, length, true}
 use Rattle.std.specs.Prelude.{map}
 use Rattle.std.proofs.lemmas.List.{append-nil, take_all}
+use Rattle.dx_ports.proofs.Members.{item_in}
 use Rattle.dx_model.specs.declared.rules.Derived.{Derived}
 use Rattle.dx_instance.proofs.NumberFacts.{stays}
 use Rattle.dx_instance.proofs.ShownFacts.{extends_both}
 use Rattle.dx_joins.specs.Shown.{AreTexts, texts_of}
 use Rattle.dx_joins.specs.Derivations.{derived_texts}
-use Rattle.dx_joins.proofs.Loops.{item_in}
 use Rattle.dx_joins.proofs.Growing.{derive_more, texts_grow, texts_stay}
 use Rattle.dx_joins.proofs.computed.derive.Goals as goal
 

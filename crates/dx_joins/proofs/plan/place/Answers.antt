@@ -1,5 +1,6 @@
 use Rattle.std.proofs.Common.{◌≡◌, ◌∙◌, sym, ap, arith}
-use Rattle.dx_joins.proofs.Places.{is_here, nothing_left, skip_listed, skip_same}
+use Rattle.dx_ports.proofs.Lists.{skip_listed, nothing_left}
+use Rattle.dx_joins.proofs.Places.{is_here, skip_same}
 use Rattle.dx_joins.proofs.plan.place.Goals as goal
 
 pub returns-then-names-i-clause-place : goal.returns-then-names-i-clause-place

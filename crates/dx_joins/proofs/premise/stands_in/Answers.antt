@@ -2,10 +2,9 @@ use Rattle.std.proofs.Common.{refl, ◌≡◌, ◌∙◌, sym, ℕ, subst, get_o
 use Rattle.std.proofs.lemmas.Bool.{false≢true, true≢false}
 use Rattle.std.proofs.lemmas.List.{take_all, get_or_default}
 use Rattle.dx_ports.specs.Members.{◌∈◌}
-use Rattle.dx_ports.proofs.Members.{in_at, from_flat_map}
+use Rattle.dx_ports.proofs.Members.{in_at, from_flat_map, item_in}
 use Rattle.dx_ports.proofs.Loops.{each_more}
 use Rattle.dx_joins.specs.declared.pattern.Pattern.{Pattern}
-use Rattle.dx_joins.proofs.Loops.{item_in}
 use Rattle.dx_joins.proofs.Patterns.{in_pattern}
 use Rattle.dx_joins.proofs.premise.stands_in.Goals as goal
 

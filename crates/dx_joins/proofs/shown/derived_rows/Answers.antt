@@ -3,6 +3,7 @@ use Rattle.std.specs.Prelude.{map}
 use Rattle.std.specs.List.{range_with_len}
 use Rattle.std.proofs.lemmas.List.{length-map}
 use Rattle.std.specs.Prelude.{Bool}
+use Rattle.std.proofs.lemmas.List.FromFn.{length-range_with_len}
 use Rattle.dx_ports.specs.Members.{Each}
 use Rattle.dx_ports.proofs.Members.{in_at}
 use Rattle.dx_instance.specs.Cells.{numbers_at}
@@ -14,7 +15,6 @@ use Rattle.dx_joins.specs.Shown.{AreTexts}
 use Rattle.dx_joins.specs.Derivations.{DerivesTo}
 use Rattle.dx_joins.proofs.Growing.{Standing, Upto, texts_grow, upto_none, upto_more, upto_full, upto_all}
 use Rattle.dx_joins.proofs.Places.{places_within}
-use Rattle.dx_joins.proofs.Wanting.{range_length}
 use Rattle.dx_joins.proofs.shown.derived_rows.Goals as goal
 
 pub loop-place-init : goal.loop-place-init
@@ -31,7 +31,7 @@ loop-place-init g c = record {
       let names = c.deref.ensures.value ∙ c.in_ok-names.ensures in
       let at : c.in_ok-places.places.items ≡ map (place_of (wanted ++ range_with_len c.args.first (length derived))) c.args.shown.now = c.in_ok-places.ensures ∙ ap (λ (l : List ℕ). map (place_of l) c.args.shown.now) names in
       let wide : Each rows (λ (r : List ℕ). length r ≡ length wanted) = λ r m. c.count-place-end.ensures.wide r m ∙ c.requires.many in
-      upto_none g.M.Meaning.apply wanted derived c.args.first c.args.shown.now c.in_ok-places.places.items S0 rows c.requires.texts wide at c.requires.shown (range_length c.args.first (length derived))
+      upto_none g.M.Meaning.apply wanted derived c.args.first c.args.shown.now c.in_ok-places.places.items S0 rows c.requires.texts wide at c.requires.shown (length-range_with_len c.args.first (length derived))
       (length c.args.shown.now) c.args.most c.new-out.result (ap (λ (x : Collection). x.rows) c.new-out.ensures);
 }
 
@@ -53,7 +53,7 @@ derive_row-requires-clause-places g c =
     let names = c.deref.ensures.value ∙ c.in_ok-names.ensures in
     let at : c.deref-in-loop-place.result.now ≡ map (place_of (wanted ++ range_with_len c.args.first (length derived))) c.args.shown.now = c.deref-in-loop-place.ensures.value ∙ c.in_ok-places.ensures ∙ ap (λ (l : List ℕ). map (place_of l) c.args.shown.now) names in
     let wide : Each rows (λ (r : List ℕ). length r ≡ length wanted) = λ r m. c.count-place-end.ensures.wide r m ∙ c.requires.many in
-    λ i m. let h = places_within wanted (range_with_len c.args.first (length derived)) c.args.shown.now c.deref-in-loop-place.result.now c.requires.shown at i m in omega (arith, h, range_length c.args.first (length derived))
+    λ i m. let h = places_within wanted (range_with_len c.args.first (length derived)) c.args.shown.now c.deref-in-loop-place.result.now c.requires.shown at i m in omega (arith, h, length-range_with_len c.args.first (length derived))
 
 pub derive_row-requires-clause-width : goal.derive_row-requires-clause-width
 derive_row-requires-clause-width g c =
@@ -83,7 +83,7 @@ returns-then-branch-clause-rows g c =
     let wide : Each rows (λ (r : List ℕ). length r ≡ length wanted) = λ r m. c.count-place-end.ensures.wide r m ∙ c.requires.many in
     let d = subst (λ (r : List ℕ). DerivesTo g.M.Meaning.apply wanted derived c.deref-in-loop-place.result.now c.loop-place.symbols c.derive_row.new.symbols r c.in_ok-derive_row.field-0 c.loop-place.out c.derive_row.new.out) c.row.ensures.row c.in_ok-derive_row.ensures.derives in
     let inside : c.loop-place.place < length rows = omega (arith, c.loop-place-test.true, c.count-place-end.ensures.count) in
-    upto_full g.M.Meaning.apply wanted derived c.args.first c.args.shown.now c.deref-in-loop-place.result.now S0 rows c.requires.texts wide at c.requires.shown (range_length c.args.first (length derived))
+    upto_full g.M.Meaning.apply wanted derived c.args.first c.args.shown.now c.deref-in-loop-place.result.now S0 rows c.requires.texts wide at c.requires.shown (length-range_with_len c.args.first (length derived))
     c.loop-place.symbols c.derive_row.new.symbols c.loop-place.out c.derive_row.new.out c.loop-place.place c.args.most inside c.loop-place.invariant.most c.derive_row.ensures.apart c.loop-place.invariant.grows c.derive_row.ensures.grows
     (subst (λ (b : Bool). DerivesTo g.M.Meaning.apply wanted derived c.deref-in-loop-place.result.now c.loop-place.symbols c.derive_row.new.symbols (numbers_at rows c.loop-place.place) b c.loop-place.out c.derive_row.new.out) c.if-branch.true d)
     c.loop-place.invariant.standing
@@ -105,7 +105,7 @@ loop-place-preserved g c =
       apart = c.derive_row.ensures.apart;
       width = more.collects.width ∙ c.loop-place.invariant.width;
       most = more.collects.most ∙ c.loop-place.invariant.most;
-      standing = upto_more g.M.Meaning.apply wanted derived c.args.first c.args.shown.now c.deref-in-loop-place.result.now S0 rows c.requires.texts wide at c.requires.shown (range_length c.args.first (length derived))
+      standing = upto_more g.M.Meaning.apply wanted derived c.args.first c.args.shown.now c.deref-in-loop-place.result.now S0 rows c.requires.texts wide at c.requires.shown (length-range_with_len c.args.first (length derived))
           c.loop-place.symbols c.derive_row.new.symbols c.loop-place.out c.derive_row.new.out c.loop-place.place inside c.loop-place.invariant.grows c.derive_row.ensures.grows more c.loop-place.invariant.standing;
     }
 
@@ -124,6 +124,6 @@ returns-clause-rows g c =
     let names = c.deref.ensures.value ∙ c.in_ok-names.ensures in
     let at : c.in_ok-places.places.items ≡ map (place_of (wanted ++ range_with_len c.args.first (length derived))) c.args.shown.now = c.in_ok-places.ensures ∙ ap (λ (l : List ℕ). map (place_of l) c.args.shown.now) names in
     let wide : Each rows (λ (r : List ℕ). length r ≡ length wanted) = λ r m. c.count-place-end.ensures.wide r m ∙ c.requires.many in
-    upto_all g.M.Meaning.apply wanted derived c.args.first c.args.shown.now c.in_ok-places.places.items S0 rows c.requires.texts wide at c.requires.shown (range_length c.args.first (length derived))
+    upto_all g.M.Meaning.apply wanted derived c.args.first c.args.shown.now c.in_ok-places.places.items S0 rows c.requires.texts wide at c.requires.shown (length-range_with_len c.args.first (length derived))
     c.finish.result c.loop-place.symbols c.loop-place.out c.loop-place.place c.args.most (omega (arith, c.loop-place-test.false, c.count-place-end.ensures.count, c.loop-place.auto.place-end)) c.loop-place.invariant.most c.loop-place.invariant.width
     c.loop-place.invariant.apart c.loop-place.invariant.standing c.finish.ensures

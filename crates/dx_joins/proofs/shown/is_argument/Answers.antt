@@ -3,8 +3,8 @@ use Rattle.std.proofs.lemmas.Bool.{false≢true, true≢false}
 use Rattle.std.proofs.lemmas.List.{take_all}
 use Rattle.dx_ports.specs.Members.{◌∈◌}
 use Rattle.dx_ports.proofs.Loops.{each_more}
+use Rattle.dx_ports.proofs.Members.{item_in}
 use Rattle.dx_model.specs.declared.rules.Derived.{Derived}
-use Rattle.dx_joins.proofs.Loops.{item_in}
 use Rattle.dx_joins.proofs.shown.is_argument.Goals as goal
 
 pub returns-then-has : goal.returns-then-has

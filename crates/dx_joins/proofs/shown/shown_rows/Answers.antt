@@ -10,8 +10,9 @@ use Rattle.dx_instance.specs.Shown.{shown_tables}
 use Rattle.dx_joins.specs.Shown.{AreTexts, IsShown, StandFor}
 use Rattle.dx_joins.specs.Derivations.{GivenBy, IsWanted}
 use Rattle.dx_joins.proofs.Growing.{texts_grow}
-use Rattle.dx_joins.proofs.Whole.{args_wanted, fits_wanted, found_table, given_same, no_derived, none_found, result_grow, result_same, room_wanted, shown_wanted, stand_grow}
+use Rattle.dx_joins.proofs.Whole.{args_wanted, fits_wanted, given_same, no_derived, none_found, result_grow, result_same, room_wanted, shown_wanted, stand_grow}
 use Rattle.dx_joins.proofs.shown.shown_rows.Goals as goal
+use Rattle.dx_joins.proofs.Carrying.{found}
 
 pub returns-then-is_empty-clause-rows : goal.returns-then-is_empty-clause-rows
 returns-then-is_empty-clause-rows g c =
@@ -23,12 +24,12 @@ returns-then-is_empty-clause-rows g c =
 
 pub derived_rows-requires-clause-many : goal.derived_rows-requires-clause-many
 derived_rows-requires-clause-many g c =
-    let s = found_table c.in_ok-rows.field-0 c.in-Some.rows _ _ c.in-Some.is (c.in_ok-rows.ensures g.M.Meaning.apply) in
+    let s = found c.in_ok-rows.field-0 c.in-Some.rows _ _ c.in-Some.is (c.in_ok-rows.ensures g.M.Meaning.apply) in
     s.width ∙ ap length (c.deref.ensures.value ∙ sym c.deref-in-Some.ensures.value)
 
 pub derived_rows-requires-clause-texts : goal.derived_rows-requires-clause-texts
 derived_rows-requires-clause-texts g c =
-    let s = found_table c.in_ok-rows.field-0 c.in-Some.rows _ _ c.in-Some.is (c.in_ok-rows.ensures g.M.Meaning.apply) in
+    let s = found c.in_ok-rows.field-0 c.in-Some.rows _ _ c.in-Some.is (c.in_ok-rows.ensures g.M.Meaning.apply) in
     λ r m. texts_grow c.args.source.now.symbols c.args.symbols.now r c.requires.symbols (s.texts r m)
 
 pub derived_rows-requires-clause-shown : goal.derived_rows-requires-clause-shown
@@ -61,7 +62,7 @@ returns-clause-rows g c =
     let below = subst (λ (l : List ℕ). Each l (λ x. x < first)) w c.in_ok-wanted.ensures.below in
     let all = subst (λ (l : List ℕ). (x : ℕ) → x < first → IsWanted c.args.derived.now c.args.shown.now x → x ∈ l) w c.in_ok-wanted.ensures.all in
     let few = subst (λ (l : List ℕ). length l ≤ first) w c.in_ok-wanted.ensures.few in
-    let s0 = found_table c.in_ok-rows.field-0 c.in-Some.rows _ (StandFor (length c.deref.result.now) (IsShown g.M.Meaning.apply c.args.premise.now [] I c.deref.result.now) c.args.source.now.symbols) c.in-Some.is (c.in_ok-rows.ensures g.M.Meaning.apply) in
+    let s0 = found c.in_ok-rows.field-0 c.in-Some.rows _ (StandFor (length c.deref.result.now) (IsShown g.M.Meaning.apply c.args.premise.now [] I c.deref.result.now) c.args.source.now.symbols) c.in-Some.is (c.in_ok-rows.ensures g.M.Meaning.apply) in
     let s1 = subst (λ (l : List ℕ). StandFor (length l) (IsShown g.M.Meaning.apply c.args.premise.now [] I l) c.args.source.now.symbols c.in-Some.rows) (c.deref.ensures.value ∙ w) s0 in
     let s = stand_grow (length wanted) (IsShown g.M.Meaning.apply c.args.premise.now [] I wanted) c.args.source.now.symbols c.args.symbols.now c.in-Some.rows c.requires.symbols s1 in
     result_same c.derived_rows.result c.args.most (length c.args.shown.now) (GivenBy g.M.Meaning.apply wanted c.args.derived.now first c.args.shown.now c.args.symbols.now c.in-Some.rows.rows)

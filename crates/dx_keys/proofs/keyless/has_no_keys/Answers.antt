@@ -1,7 +1,9 @@
 use Rattle.std.proofs.Common.{◌≡◌, ◌<◌, ◌≤◌, [], length, arith, refl, sym, ◌∙◌}
 use Rattle.std.proofs.lemmas.Bool.{false≢true}
+use Rattle.dx_ports.proofs.Members.{each_at, each_all}
+use Rattle.dx_ports.proofs.Lists.{not_empty, is_empty}
 use Rattle.dx_schema.specs.Tables.{TableOf, tables_of}
-use Rattle.dx_keys.proofs.Unforced.{each_all, each_at, each_at_more, is_empty, not_empty}
+use Rattle.dx_keys.proofs.Unforced.{each_at_more}
 use Rattle.dx_keys.proofs.keyless.has_no_keys.Goals as goal
 
 pub returns-then-not-is_empty : goal.returns-then-not-is_empty

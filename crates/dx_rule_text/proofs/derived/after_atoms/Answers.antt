@@ -1,4 +1,4 @@
-use Rattle.dx_rule_text.proofs.Numbers.{greatest_of_three, one_atom}
+use Rattle.dx_model.proofs.Cells.{greatest_of_three, one_atom}
 use Rattle.dx_rule_text.proofs.derived.after_atoms.Goals as goal
 
 pub loop-atom-preserved : goal.loop-atom-preserved

@@ -1,13 +1,13 @@
 use Rattle.std.proofs.Common.{◌≡◌, ◌<◌, ◌∙◌, ◌++◌, ◌∷◌, [], ap, sym, subst, length, get_or}
+use Rattle.std.proofs.lemmas.List.{get_or_default}
 use Rattle.dx_ports.specs.Members.{◌∈◌}
-use Rattle.dx_ports.proofs.Members.{in_at}
+use Rattle.dx_ports.proofs.Members.{in_at, item_in}
 use Rattle.dx_model.specs.declared.rules.Rule.{Rule}
 use Rattle.dx_model.specs.Covers.{rule_at}
 use Rattle.dx_schema.specs.Names.{named_of}
 use Rattle.dx_funcs.specs.Serving.{offered}
 use Rattle.dx_script.specs.Generated.{match_step}
-use Rattle.dx_scriptgen.proofs.Lists.{map_more, same_at}
-use Rattle.dx_scriptgen.proofs.Tables.{item_in}
+use Rattle.dx_scriptgen.proofs.Lists.{map_more}
 use Rattle.dx_scriptgen.proofs.generate.push_matches.Goals as goal
 
 pub match_step-requires-clause-rule : goal.match_step-requires-clause-rule
@@ -26,4 +26,4 @@ loop-number-preserved g c =
     let d = c.index-rules-number.result in
     map_more (λ r. match_step (named_of c.args.source.now) (offered c.args.host.now) r (rule_at R r)) n c.args.steps.now c.loop-number.steps c.push.new.self c.loop-number.invariant
     (c.in_ok-push.ensures.ok
-    ∙ ap (λ z. c.loop-number.steps ++ z ∷ []) (c.in_ok-match_step.ensures ∙ ap (match_step (named_of c.args.source.now) (offered c.args.host.now) n) (c.index-rules-number.is ∙ same_at R n d _ c.loop-number-test.true)))
+    ∙ ap (λ z. c.loop-number.steps ++ z ∷ []) (c.in_ok-match_step.ensures ∙ ap (match_step (named_of c.args.source.now) (offered c.args.host.now) n) (c.index-rules-number.is ∙ get_or_default R n d _ c.loop-number-test.true)))

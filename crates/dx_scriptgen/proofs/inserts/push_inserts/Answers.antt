@@ -4,8 +4,8 @@ use Rattle.dx_model.specs.declared.rules.Atom.{Atom}
 use Rattle.dx_schema.specs.Names.{Named, named_of}
 use Rattle.dx_schema.specs.Tables.{tables_of}
 use Rattle.dx_script.specs.Generated.{insert_step}
+use Rattle.dx_script.proofs.Made.{named_at}
 use Rattle.dx_scriptgen.proofs.Lists.{pushed}
-use Rattle.dx_scriptgen.proofs.Tables.{named_at}
 use Rattle.dx_scriptgen.proofs.inserts.push_inserts.Goals as goal
 
 pub name-requires : goal.name-requires

@@ -1,15 +1,16 @@
 use Rattle.std.proofs.Common.{◌≡◌, ◌<◌, ◌∙◌, ◌++◌, ◌∷◌, [], ap, sym, subst, length, get_or, arith, refl}
+use Rattle.std.proofs.lemmas.List.{get_or_default}
 use Rattle.dx_ports.specs.Members.{◌∈◌}
-use Rattle.dx_ports.proofs.Members.{in_at}
+use Rattle.dx_ports.proofs.Members.{in_at, item_in}
 use Rattle.dx_model.specs.declared.rules.Rule.{Rule}
 use Rattle.dx_model.specs.declared.covers.CellMap.{CellMap}
 use Rattle.dx_model.specs.Rules.{exported}
 use Rattle.dx_model.specs.Covers.{rule_at, used_maps}
 use Rattle.dx_script.specs.Rewritten.{tests_of, unless_of}
 use Rattle.dx_scriptgen.specs.Parts.{tests_for}
-use Rattle.dx_scriptgen.proofs.Lists.{pushed, same_at}
+use Rattle.dx_scriptgen.proofs.Lists.{pushed}
 use Rattle.dx_scriptgen.proofs.Parts.{as_long, known_among, tests_are}
-use Rattle.dx_scriptgen.proofs.Tables.{exported_few, item_in}
+use Rattle.dx_scriptgen.proofs.Tables.{exported_few}
 use Rattle.dx_scriptgen.proofs.keeps.push_parts.Goals as goal
 use Rattle.dx_scriptgen.proofs.keeps.push_parts.Goals.{After-deref}
 
@@ -26,7 +27,7 @@ used : (c : After-deref) → c.map-item.result ∈ used_maps (rule_at c.args.rul
 used c = subst (λ z. c.map-item.result ∈ z) (maps c) (subst (λ z. z ∈ c.maps-map-items.result.now) (sym c.map-item.is) (in_at c.maps-map-items.result.now c.loop-map.map-index c.map-item.result c.loop-map-test.true))
 
 others : (c : After-deref) → c.deref.result.now ≡ exported (rule_at c.args.rules.now c.args.j)
-others c = c.deref.ensures.value ∙ (c.in_ok-others.ensures ∙ ap exported (c.index-rules-j.is ∙ same_at c.args.rules.now c.args.j c.index-rules-j.result _ c.requires.second))
+others c = c.deref.ensures.value ∙ (c.in_ok-others.ensures ∙ ap exported (c.index-rules-j.is ∙ get_or_default c.args.rules.now c.args.j c.index-rules-j.result _ c.requires.second))
 
 pub tests_of-requires-clause-known : goal.tests_of-requires-clause-known
 tests_of-requires-clause-known c = λ x m.
@@ -56,7 +57,7 @@ loop-map-preserved c =
     let within : c.loop-map.map-index < length (used_maps i j) = rw (← all) c.loop-map-test.true in
     let is : m ≡ get_or (used_maps i j) c.loop-map.map-index m = subst (λ z. m ≡ get_or z c.loop-map.map-index m) all c.map-item.is in
     let u : m ∈ used_maps i j = item_in (used_maps i j) c.loop-map.map-index m within is in
-    let o : c.deref.result.now ≡ exported j = c.deref.ensures.value ∙ (c.in_ok-others.ensures ∙ ap exported (c.index-rules-j.is ∙ same_at R c.args.j c.index-rules-j.result _ c.requires.second)) in
+    let o : c.deref.result.now ≡ exported j = c.deref.ensures.value ∙ (c.in_ok-others.ensures ∙ ap exported (c.index-rules-j.is ∙ get_or_default R c.args.j c.index-rules-j.result _ c.requires.second)) in
     let t : c.in_ok-tests_of.field-0 ≡ tests_of i j m = c.in_ok-tests_of.ensures ∙ (ap (λ z. tests_for z c.items.result.now) o ∙ (ap (tests_for (exported j)) c.items.ensures ∙ tests_are i j m u)) in
     pushed (unless_of R c.args.i c.args.j) (used_maps i j) c.loop-map.map-index m c.args.parts.now c.loop-map.parts c.push.new.self within is c.loop-map.invariant
     (c.in_ok-push.ensures.ok ∙ ap (λ z. c.loop-map.parts ++ record { rule = c.args.j; tests = z } ∷ []) t)

@@ -1,12 +1,13 @@
 use Rattle.std.proofs.Common.{◌≡◌, ◌∙◌, ◌∷◌, [], ℕ, List, ap, sym, subst, length}
 use Rattle.std.specs.Prelude.{map}
 use Rattle.std.proofs.lemmas.List.{length-map}
+use Rattle.dx_ports.proofs.Members.{item_in}
 use Rattle.dx_model.specs.declared.values.Value.{Value}
 use Rattle.dx_instance.specs.Shown.{shown_row}
 use Rattle.dx_tgd.specs.Gained.{Gains}
 use Rattle.dx_tgd.specs.Planned.{built, number_of, planned_fact}
 use Rattle.dx_tgd.proofs.Gaining.{gains_next}
-use Rattle.dx_tgd.proofs.Plans.{item_in, some_below}
+use Rattle.dx_tgd.proofs.Plans.{some_below}
 use Rattle.dx_tgd.proofs.Tables.{wide_table}
 use Rattle.dx_tgd.proofs.building.add_place.Goals as goal
 

@@ -1,15 +1,16 @@
 use Rattle.std.proofs.Common.{arith, subst, List}
+use Rattle.dx_ports.proofs.Members.{item_in}
+use Rattle.dx_ports.proofs.Lists.{zip_long}
 use Rattle.dx_model.specs.declared.facts.Fact.{Fact}
 use Rattle.dx_instance.proofs.ShownFacts.{extends_both}
 use Rattle.dx_tgd.specs.Gained.{Gains}
 use Rattle.dx_tgd.specs.Planned.{built}
 use Rattle.dx_tgd.specs.Texts.{FitRule}
-use Rattle.dx_tgd.proofs.Plans.{item_in}
-use Rattle.dx_tgd.proofs.Steps.{RulesAt, all_rules, fit_at, more_of_rule, room_of_rule, texts_of_rule, zip_within}
+use Rattle.dx_tgd.proofs.Steps.{RulesAt, all_rules, fit_at, more_of_rule, room_of_rule, texts_of_rule}
 use Rattle.dx_tgd.proofs.building.add_rules.Goals as goal
 
 pub bounds-rows-i : goal.bounds-rows-i
-bounds-rows-i c = omega (arith, c.loop-i-test.true, zip_within (FitRule c.args.target.now.symbols) c.args.rules.now c.args.rows.now c.requires.tuples)
+bounds-rows-i c = omega (arith, c.loop-i-test.true, zip_long (FitRule c.args.target.now.symbols) c.args.rules.now c.args.rows.now c.requires.tuples)
 
 pub add_rule-requires-clause-width : goal.add_rule-requires-clause-width
 add_rule-requires-clause-width c =

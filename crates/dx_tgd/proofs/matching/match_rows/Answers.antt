@@ -5,9 +5,10 @@ use Rattle.dx_instance.specs.Numbers.{AreApart, Extends}
 use Rattle.dx_instance.specs.Stored.{TableRows, facts, widths}
 use Rattle.dx_instance.proofs.NumberFacts.{stays}
 use Rattle.dx_instance.specs.Shown.{shown_tables}
+use Rattle.dx_joins.proofs.Whole.{none_found}
+use Rattle.dx_joins.proofs.Carrying.{found}
 use Rattle.dx_tgd.specs.Found.{IsFoundRule}
 use Rattle.dx_tgd.proofs.Founds.{ordered_places}
-use Rattle.dx_tgd.proofs.RuleRows.{found_rows, never_full}
 use Rattle.dx_tgd.proofs.matching.match_rows.Goals as goal
 
 pub rule_rows-requires-clause-premise : goal.rule_rows-requires-clause-premise
@@ -20,17 +21,17 @@ pub rule_rows-requires-clause-apart : goal.rule_rows-requires-clause-apart
 rule_rows-requires-clause-apart g c = subst (λ (s : List Value). AreApart s) (sym c.in_ok-symbols.ensures) c.numbers-numbers.ensures.fit.apart
 
 pub one_in_order-requires-clause-ascend : goal.one_in_order-requires-clause-ascend
-one_in_order-requires-clause-ascend g c = (found_rows c.in_ok-found.found c.in-Some.rows _ _ c.in-Some.is c.in_ok-found.ensures.rows).ascend
+one_in_order-requires-clause-ascend g c = (found c.in_ok-found.found c.in-Some.rows _ _ c.in-Some.is c.in_ok-found.ensures.rows).ascend
 
 pub one_in_order-requires-clause-texts : goal.one_in_order-requires-clause-texts
-one_in_order-requires-clause-texts g c = (found_rows c.in_ok-found.found c.in-Some.rows _ _ c.in-Some.is c.in_ok-found.ensures.rows).texts
+one_in_order-requires-clause-texts g c = (found c.in_ok-found.found c.in-Some.rows _ _ c.in-Some.is c.in_ok-found.ensures.rows).texts
 
 pub unreachable-requires : goal.unreachable-requires
-unreachable-requires g c = never_full c.in_ok-found.found _ _ c.in-None.is c.in_ok-found.ensures.rows
+unreachable-requires g c = none_found c.in_ok-found.found _ _ c.in-None.is c.in_ok-found.ensures.rows
 
 pub returns : goal.returns
 returns g c =
     let J = facts (shown_tables c.numbers-numbers.result.symbols c.numbers-numbers.result.tables) in
-    let s = found_rows c.in_ok-found.found c.in-Some.rows _ (IsFoundRule g.M.Meaning.apply J c.rule_rows.new.symbols c.args.rule.now) c.in-Some.is c.in_ok-found.ensures.rows in
+    let s = found c.in_ok-found.found c.in-Some.rows _ (IsFoundRule g.M.Meaning.apply J c.rule_rows.new.symbols c.args.rule.now) c.in-Some.is c.in_ok-found.ensures.rows in
     ordered_places g.M.Meaning.apply J (facts c.args.source.now) c.rule_rows.new.symbols c.in_ok-symbols-in-Some.symbols c.args.rule.now c.in-Some.rows c.in_ok-symbols-in-Some.rows c.places_of_rows.result
     (ap facts c.numbers-numbers.ensures.shown) s c.in_ok-symbols-in-Some.ensures.ascend c.in_ok-symbols-in-Some.ensures.same c.places_of_rows.ensures.exact

@@ -10,10 +10,10 @@ use Rattle.dx_model.specs.Fitting.{AtomsFitWidths, IsRule}
 use Rattle.dx_instance.specs.Shown.{shown_tables}
 use Rattle.dx_instance.specs.Stored.{facts, widths}
 use Rattle.dx_joins.specs.Shown.{texts_of}
+use Rattle.dx_joins.proofs.Carrying.{found}
 use Rattle.dx_tgd.specs.Found.{IsFoundRule}
 use Rattle.dx_tgd.specs.Placed.{HasCell}
 use Rattle.dx_tgd.proofs.Founds.{found_start, none_found, none_passes, passes, product_fits, so_far_more, tuples_distinct, tuples_shown}
-use Rattle.dx_tgd.proofs.RuleRows.{found_rows}
 use Rattle.dx_tgd.proofs.plain.found_rules.Goals as goal
 
 pub conclusion_cells-cells-requires : goal.conclusion_cells-cells-requires
@@ -64,7 +64,7 @@ overflow_mul-used g c =
 pub returns-then-used-left-clause-refused : goal.returns-then-used-left-clause-refused
 returns-then-used-left-clause-refused g c =
     let I = facts (shown_tables c.args.source.now.symbols c.args.source.now.tables) in
-    let s = found_rows c.in_ok-found.found c.in-Some.rows _ (IsFoundRule g.M.Meaning.apply I c.rule_rows.new.symbols c.rule-item.result) c.in-Some.is c.in_ok-found.ensures.rows in
+    let s = found c.in_ok-found.found c.in-Some.rows _ (IsFoundRule g.M.Meaning.apply I c.rule_rows.new.symbols c.rule-item.result) c.in-Some.is c.in_ok-found.ensures.rows in
     let long = length-map c.in-Some.rows.rows (texts_of c.rule_rows.new.symbols) in
     let n : c.count.result ≡ length (map (texts_of c.rule_rows.new.symbols) c.in-Some.rows.rows) = omega (arith, c.count.ensures.count, long) in
     rw c.passed-then-used-left.ensures (
@@ -78,7 +78,7 @@ returns-then-used-left-clause-refused g c =
 pub loop-rule-preserved : goal.loop-rule-preserved
 loop-rule-preserved g c =
     let I = facts (shown_tables c.args.source.now.symbols c.args.source.now.tables) in
-    let s = found_rows c.in_ok-found.found c.in-Some.rows _ (IsFoundRule g.M.Meaning.apply I c.rule_rows.new.symbols c.rule-item.result) c.in-Some.is c.in_ok-found.ensures.rows in
+    let s = found c.in_ok-found.found c.in-Some.rows _ (IsFoundRule g.M.Meaning.apply I c.rule_rows.new.symbols c.rule-item.result) c.in-Some.is c.in_ok-found.ensures.rows in
     let few = rw (c.count.ensures.count, c.conclusion_cells-cells.ensures) at c.if-used-left.false in
     rw (c.count.ensures.count, c.conclusion_cells-cells.ensures) (
     so_far_more g.M.Meaning.apply I c.args.source.now.symbols c.loop-rule.symbols c.intern_literals.new.symbols c.rule_rows.new.symbols c.args.rules.now c.loop-rule.tables.items c.push.new.self.items c.args.limit c.loop-rule.left

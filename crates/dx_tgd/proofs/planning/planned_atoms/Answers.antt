@@ -4,8 +4,9 @@ use Rattle.dx_instance.proofs.ShownFacts.{extends_both}
 use Rattle.dx_model.specs.declared.rules.Cell.{Cell}
 use Rattle.dx_model.specs.declared.rules.Cell.TheVariants.{Var}
 use Rattle.dx_ports.specs.Members.{◌∈◌}
+use Rattle.dx_ports.proofs.Members.{item_in}
 use Rattle.dx_tgd.specs.Planned.{IsPlanned}
-use Rattle.dx_tgd.proofs.Plans.{atoms_more, item_in}
+use Rattle.dx_tgd.proofs.Plans.{atoms_more}
 use Rattle.dx_tgd.proofs.planning.planned_atoms.Goals as goal
 
 pub planned_cells-requires : goal.planned_cells-requires

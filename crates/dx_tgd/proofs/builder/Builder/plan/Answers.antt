@@ -1,8 +1,9 @@
 use Rattle.std.proofs.Common.{◌∙◌, ap}
 use Rattle.dx_instance.specs.Shown.{Numbered}
+use Rattle.dx_instance.proofs.ShownFacts.{grown_fitting}
 use Rattle.dx_tgd.specs.Planned.{built}
 use Rattle.dx_tgd.proofs.Plans.{atoms_listed}
-use Rattle.dx_tgd.proofs.Built.{grown_fit, grown_tables}
+use Rattle.dx_tgd.proofs.Built.{grown_fit}
 use Rattle.dx_tgd.proofs.builder.Builder.plan.Goals as goal
 
 pub planned_atoms-requires : goal.planned_atoms-requires
@@ -13,4 +14,4 @@ invariant_of-self c = grown_fit c.self.inside.symbols c.planned_atoms.new.symbol
 
 pub returns-clause-same : goal.returns-clause-same
 returns-clause-same c =
-    grown_tables c.self.inside.symbols c.planned_atoms.new.symbols c.self.inside.tables.items c.planned_atoms.ensures.grows c.self.invariant ∙ ap (λ (b : Numbered). built b) c.self.view_is
+    grown_fitting c.self.inside.symbols c.planned_atoms.new.symbols c.self.inside.tables.items c.planned_atoms.ensures.grows c.self.invariant ∙ ap (λ (b : Numbered). built b) c.self.view_is

@@ -1,6 +1,6 @@
 use Rattle.std.proofs.Common.{arith}
 use Rattle.dx_funcs.specs.Serving.{offered}
-use Rattle.eval_tests.proofs.Accepted.{fits_of}
+use Rattle.clio_accept.proofs.Accepted.{fits_of}
 use Rattle.eval_tests.proofs.tests.runs.accepted.Goals as goal
 
 pub returns : goal.returns

@@ -1,6 +1,6 @@
 use Rattle.std.proofs.Common.{ap, ◌∙◌}
 use Rattle.dx_instance.specs.Stored.{widths}
-use Rattle.json_tests.proofs.Widths.{widths_without}
+use Rattle.dx_instance.proofs.StoredFacts.{widths_without}
 use Rattle.json_tests.proofs.tests.nested.instance_of.Goals as goal
 
 pub loop-line-init : goal.loop-line-init

@@ -1,6 +1,6 @@
 use Rattle.std.proofs.Common.{◌<◌, ◌-◌, ◌^◌, length, arith}
 use Rattle.dx_funcs.specs.Serving.{offered}
-use Rattle.script_tests.proofs.Accepted.{fits_of}
+use Rattle.clio_accept.proofs.Accepted.{fits_of}
 use Rattle.script_tests.proofs.tests.generated.accepted.Goals as goal
 
 pub returns : goal.returns

@@ -1,0 +1,24 @@
+-- How often a rule mentions its variables, counted up to two, and the marks that come of it.
+use Rattle.std.specs.Prelude.{◌≡◌, ◌<◌, ℕ, zero, suc, Bool, true, false, List, length, slice_index_or}
+use Rattle.dx_model.specs.declared.rules.Cell.{Cell}
+use Rattle.dx_model.specs.declared.rules.Rule.{Rule}
+use Rattle.dx_ports.specs.Members.{Each}
+use Rattle.dx_used.specs.Used.{AreIdle, times}
+
+-- none, one, or more
+abbrev pub up_to_two : ℕ → ℕ
+up_to_two zero = 0
+up_to_two (suc zero) = 1
+up_to_two (suc (suc n)) = 2
+
+-- under each variable for which there is a place stands how often it is among these cells, up to two
+abbrev pub Counts : List Cell → List ℕ → Type 0
+Counts cells counts = (x : ℕ) → x < length counts → slice_index_or counts x 0 ≡ up_to_two (times x cells)
+
+-- columns that are marked stay so
+abbrev pub KeepMarks : List Bool → List Bool → Type 0
+KeepMarks old new = (i : ℕ) → slice_index_or new i true ≡ false → slice_index_or old i true ≡ false
+
+-- the rule uses no other columns of the table than these
+abbrev pub UsesOnlyOf : ℕ → List Bool → Rule → Type 0
+UsesOnlyOf table marks d = Each d.premise (λ a. a.table ≡ table → AreIdle d marks a.cells)
