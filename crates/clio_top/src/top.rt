@@ -33,6 +33,7 @@ use dx_stages::{Plan, Stop, carry_out};
 use std::alloc::{AllocError, Global};
 
 // A mapping, and the exchange of the rows of its source files.
+// What is read agrees with these rows on the columns that its rules use, and so has the same exchange (proofs/SameExchange).
 fn exchange_files<I: Inputs, F, M>(
     alloc: Global,
     inputs: &mut I,
