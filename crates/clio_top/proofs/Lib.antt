@@ -2,6 +2,7 @@ pub mod Words
 pub mod Names
 pub mod Mappings
 pub mod Plans
+pub mod SameExchange
 pub mod Promised
 pub mod OverAnything
 pub mod Demos

@@ -22,7 +22,7 @@ use crate::demo::plan_demo;
 use crate::demo_inputs::DemoInputs;
 use crate::mapping::read_mapping;
 use crate::planning::{exchange_rows, plan_exchange, plan_shown};
-use crate::source::read_rows;
+use crate::source::read_used_rows;
 use clio_accept::Mapping;
 use clio_ending::{Done, Ending, Refusal, as_ending};
 use dx_exchange::{Exchange, Mode};
@@ -33,6 +33,7 @@ use dx_stages::{Plan, Stop, carry_out};
 use std::alloc::{AllocError, Global};
 
 // A mapping, and the exchange of the rows of its source files.
+// What is read agrees with these rows on the columns that its rules use, and so has the same exchange (proofs/SameExchange).
 fn exchange_files<I: Inputs, F, M>(
     alloc: Global,
     inputs: &mut I,
@@ -48,7 +49,7 @@ where
         (record { holds = I.holds inputs.new; faults = I.faults inputs.new; stopped = I.stopped inputs.new }) }
 {
     let mapping = read_mapping(alloc, inputs, host)?;
-    let rows = read_rows(alloc, inputs, &mapping.source)?;
+    let rows = read_used_rows(alloc, inputs, &mapping)?;
     let exchange = exchange_rows(alloc, &mapping, &rows, host, mode)?;
     Ok((mapping, exchange))
 }
