@@ -71,9 +71,6 @@ record IsScannedAlike (place : ℕ) (left : List ℕ) : Type 0 where
   alone : scan_from 0 place left ≡ record { lexemes = lexemes; stop = None }
   before : (more : List ℕ) → scan_from 0 place (left ++ 10 ∷ more) ≡ with_all lexemes (scan_from 0 after (10 ∷ more))
 
-unfolding scan_from
-end_scanned place = refl
-
 -- what is passed over changes nothing
 passed : (place : ℕ) (c rest left : List ℕ) → left ≡ c ++ rest → scan_from 0 place (c ++ rest) ≡ scan_from 0 (place + length c) rest
     → ((more : List ℕ) → scan_from 0 place (c ++ (rest ++ 10 ∷ more)) ≡ scan_from 0 (place + length c) (rest ++ 10 ∷ more)) → IsScannedAlike (place + length c) rest → IsScannedAlike place left
