@@ -44,10 +44,11 @@ pub fn read_map(alloc: Global, symbols: &Symbols, roots: &[u32]) -> Result<NullM
     let count = symbols.len() as u32;
     for number in 0..count {
         let root = roots[number as usize];
-        if root != number {
-            let value = copy_value(symbols.value(root as u64))?;
-            map.set(null_at(symbols, number), value)?;
+        if root == number {
+            continue;
         }
+        let value = copy_value(symbols.value(root as u64))?;
+        map.set(null_at(symbols, number), value)?;
     }
     Ok(map)
 }
