@@ -1,32 +1,25 @@
 -- What waits: numbers that were never taken, and then others.
 use Rattle.std.proofs.Common.{◌≡◌, ◌∙◌, ℕ, ◌+◌, ◌-◌, ◌<◌, List, [], ◌∷◌, ◌++◌, ◌⊎◌, inl, inr, refl, sym, ap, length, arith}
 use Rattle.std.specs.List.{range_with_len}
+use Rattle.std.proofs.lemmas.List.{append-nil, nil_from_length}
 use Rattle.dx_ports.specs.Members.{◌∈◌, ◌⊆◌, here, there, Each}
 use Rattle.dx_ports.proofs.Members.{from_append, in_left, in_right}
 use Rattle.dx_ports.proofs.Ranges.{to_range}
 use Rattle.dx_chase.specs.Work.{Adds}
 use Rattle.dx_chase.proofs.Opening.{firsts_more}
 
-nothing_more : (xs : List ℕ) → xs ++ [] ≡ xs
-nothing_more [] = refl
-nothing_more (x ∷ xs) = ap (λ z. x ∷ z) (nothing_more xs)
-
-none_of_length : (xs : List ℕ) → length xs ≡ 0 → xs ≡ []
-none_of_length [] e = refl
-none_of_length (x ∷ xs) e = absurd (omega (arith, e))
-
 -- the last of the numbers below n
 pub take_fresh : (n : ℕ) (old new : List ℕ) → 0 < n → old ≡ new ++ [] → length old ≡ 0
     → range_with_len 0 n ++ old ≡ (range_with_len 0 (n - 1) ++ new) ++ (n - 1) ∷ []
 take_fresh n old new h e l =
     let on : n ≡ (n - 1) + 1 = omega arith in
-    let a : old ≡ [] = none_of_length old l in
-    let b : new ≡ [] = sym (nothing_more new) ∙ (sym e ∙ a) in
+    let a : old ≡ [] = nil_from_length old l in
+    let b : new ≡ [] = sym (append-nil new) ∙ (sym e ∙ a) in
     ap (λ z. range_with_len 0 n ++ z) a
-    ∙ (nothing_more (range_with_len 0 n)
+    ∙ (append-nil (range_with_len 0 n)
     ∙ (ap (range_with_len 0) on
     ∙ (firsts_more (n - 1)
-    ∙ ap (λ z. z ++ (n - 1) ∷ []) (sym (nothing_more (range_with_len 0 (n - 1))) ∙ ap (λ z. range_with_len 0 (n - 1) ++ z) (sym b)))))
+    ∙ ap (λ z. z ++ (n - 1) ∷ []) (sym (append-nil (range_with_len 0 (n - 1))) ∙ ap (λ z. range_with_len 0 (n - 1) ++ z) (sym b)))))
 
 pub adds_none : (old : List ℕ) → Adds [] old old
 adds_none old = record { stays = λ i m. m; all = λ i m. elim m [ ]; either = λ i m. inl m }
