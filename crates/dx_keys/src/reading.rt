@@ -41,14 +41,14 @@ pub fn read_map(alloc: Global, symbols: &Symbols, roots: &[u32]) -> Result<NullM
     ensures { IfOk result (λ m. pairs_of m ≡ map_of symbols.now roots.now) }
 {
     let mut map = NullMap::new(alloc);
-    let mut number = symbols.len() as u32;
-    while number > 0 {
-        number -= 1;
+    let count = symbols.len() as u32;
+    for number in 0..count {
         let root = roots[number as usize];
-        if root != number {
-            let value = copy_value(symbols.value(root as u64))?;
-            map.set(null_at(symbols, number), value)?;
+        if root == number {
+            continue;
         }
+        let value = copy_value(symbols.value(root as u64))?;
+        map.set(null_at(symbols, number), value)?;
     }
     Ok(map)
 }

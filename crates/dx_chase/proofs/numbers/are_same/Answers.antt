@@ -1,4 +1,3 @@
-use Rattle.std.proofs.Common.{arith}
 use Rattle.dx_chase.proofs.Alike.{found_same}
 use Rattle.dx_chase.proofs.numbers.are_same.Goals as goal
 
