@@ -1,10 +1,14 @@
 -- Records that are printed field by field.
-use Rattle.std.specs.Prelude.{◌≡◌, ◌++◌, ◌==◌, ℕ, List, [], ◌∷◌, length, if◌then◌else◌}
-use Rattle.csv.specs.Writing.{comma, default_writer, is_blank, quote_mark, row_body}
+use Rattle.std.specs.Prelude.{◌≡◌, ◌++◌, ◌==◌, false, ℕ, List, [], ◌∷◌, length, if◌then◌else◌}
+use Rattle.csv.specs.Writing.{comma, default_writer, is_blank, needs_quotes, quote_mark, row_body}
 use Rattle.dx_csv.specs.declared.lines.Lines.{Lines}
 use Rattle.dx_csv.specs.declared.lines.OpenLine.{OpenLine}
 use Rattle.dx_csv.specs.declared.lines.OpenLine.TheVariants.{NoField, NoByte, Bytes}
 use Rattle.dx_csv.specs.Print.{lines_text}
+
+-- a field that calls for no quotes
+abbrev pub IsPlain : List ℕ → Type 0
+IsPlain field = needs_quotes default_writer field ≡ false
 
 -- what the line of these fields shows
 abbrev pub open_line : List (List ℕ) → OpenLine
