@@ -4,6 +4,7 @@ ghost use Rattle.std.specs.Fmt.{decimal};
 ghost use Rattle.dx_ports.specs.Members.{Each};
 ghost use Rattle.dx_instance.specs.NullMaps.{pairs_of};
 ghost use Rattle.dx_instance.specs.ValueText.{const_text, null_text, value_text_of};
+ghost use Rattle.dx_csv.specs.Lines.{IsPlain};
 ghost use Rattle.dx_tgd.specs.Counting.{rows_in};
 ghost use Rattle.dx_tgd.specs.Placed.{HasPlace};
 ghost use Rattle.clio_files.specs.Files.{seen};
@@ -12,6 +13,7 @@ ghost use Rattle.clio_files.specs.Sheets.{Sheet, exported_names, file_of, fold_s
 
 use crate::printed::Printed;
 use crate::records::Records;
+use dx_csv::show_null;
 use dx_instance::NullMap;
 use dx_model::{Matches, NullId, NullPair, Rule, Value};
 use dx_ports::{File, Items, Text};
@@ -32,34 +34,38 @@ fn sheet_file(alloc: Global, name: &str, records: Records) -> Result<Printed, Al
     })
 }
 
-// The record of a null and a variable.
+// The record of a null and a variable, the null by its text.
 fn push_term(
-    null: &NullId,
+    null: &[u8],
     variable: &Text,
     text: &Text,
     records: &mut Records,
 ) -> Result<(), AllocError>
+    requires { IsPlain null.now }
     ensures { (rs : List (List (List ℕ))) → AreRecords records.old rs
-        → OnOk result (AreRecords records.new (rs ++ (null_text null.now ∷ variable.now ∷ const_text text.now ∷ []) ∷ [])) }
+        → OnOk result (AreRecords records.new (rs ++ (null.now ∷ variable.now ∷ const_text text.now ∷ []) ∷ [])) }
 {
-    records.value(&Value::Null(*null))?;
+    records.plain_field(null)?;
     records.field(variable.bytes())?;
-    records.value(&Value::Const(text.copy()?))?;
+    records.constant(text)?;
     records.end()
 }
 
-// The records of one null: one for each exported variable of its rule.
+// The records of one null, which is shown as this text: one for each exported variable of its rule.
 fn push_terms(
     null: &NullId,
+    shown: &[u8],
     variables: &[Text],
     texts: &[Text],
     records: &mut Records,
 ) -> Result<(), AllocError>
+    requires shown { shown.now ≡ null_text null.now }
+    requires plain { IsPlain (null_text null.now) }
     ensures { (rs : List (List (List ℕ))) → AreRecords records.old rs
         → OnOk result (AreRecords records.new (rs ++ term_records null.now variables.now texts.now)) }
 {
     for (variable, text) in variables.iter().zip(texts) {
-        push_term(null, variable, text, records)?;
+        push_term(shown, variable, text, records)?;
     }
     Ok(())
 }
@@ -128,9 +134,17 @@ pub(crate) fn nulls_file(
     let names = all_names(alloc, rules)?;
     let mut records = Records::new(alloc);
     push_nulls_header(&mut records)?;
+    let mut shown = Vec::new(alloc);
     for null in nulls {
         let variables = names.items()[null.rule as usize].items();
-        push_terms(null, variables, texts_at(matches, null), &mut records)?;
+        show_null(null, &mut shown)?;
+        push_terms(
+            null,
+            &shown,
+            variables,
+            texts_at(matches, null),
+            &mut records,
+        )?;
     }
     sheet_file(alloc, "nulls.csv", records)
 }

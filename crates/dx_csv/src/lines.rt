@@ -113,7 +113,7 @@ impl Lines {
             → OnOk result (HavePrinted self.new records (fields ++ const_text text.now ∷ [])) }
     {
         self.begin_field(text.is_empty())?;
-        push_field(&mut self.bytes, mark_of(text), text)
+        push_constant(&mut self.bytes, text)
     }
 
     /// Ends the open record. One without fields is printed as one empty field.
@@ -160,17 +160,6 @@ impl Lines {
             }
         }
         Ok(())
-    }
-}
-
-// What stands before the text of a constant.
-fn mark_of(text: &[u8]) -> &'static [u8]
-    ensures text { result.now ++ text.now ≡ const_text text.now }
-    ensures plain { IsPlain result.now }
-{
-    match text {
-        [b'?', ..] => b"?",
-        _ => b"",
     }
 }
 
@@ -236,8 +225,19 @@ fn push_field(bytes: &mut Vec<u8>, mark: &[u8], field: &[u8]) -> Result<(), Allo
     bytes.extend_from_slice(field)
 }
 
-// The digits of a number.
+// The text of a constant.
 #[inline]
+fn push_constant(bytes: &mut Vec<u8>, text: &[u8]) -> Result<(), AllocError>
+    ensures { OnOk result (bytes.new.items ≡ bytes.old.items ++ field_text default_writer (const_text text.now)) }
+{
+    match text {
+        [b'?', ..] => push_field(bytes, b"?", text),
+        _ => push_field(bytes, b"", text),
+    }
+}
+
+// The digits of a number.
+#[inline(always)]
 #[tactic(auto, using(std::proofs::lemmas::Fmt::decimal_digit))]
 fn push_number(bytes: &mut Vec<u8>, number: u32) -> Result<(), AllocError>
     ensures { OnOk result (bytes.new.items ≡ bytes.old.items ++ decimal number) }

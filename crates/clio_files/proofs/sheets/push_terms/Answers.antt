@@ -17,12 +17,16 @@ pub loop-variable-preserved : goal.loop-variable-preserved
 loop-variable-preserved c = λ rs h.
     let rest = c.loop-variable.variable-iterator in
     let more = Zip-more rest c.next.new.self c.next.result (c.in-Some.variable, c.in-Some.text) c.in-Some.is c.next.ensures.steps in
+    let pushed = rw c.requires.shown at c.in_ok-push_term.ensures in
     terms_more c.loop-variable.records c.push_term.new.records c.args.null.now c.in-Some.variable.now c.in-Some.text.now
     (iter_rest (zip_first rest)) (iter_rest (zip_second rest)) _ _ rs _ more.0 more.1 (c.loop-variable.invariant rs h)
-    c.in_ok-push_term.ensures
+    pushed
 
 pub returns : goal.returns
 returns c = λ rs h.
     let rest = c.loop-variable.variable-iterator in
     terms_end c.loop-variable.records c.args.null.now (iter_rest (zip_first rest)) (iter_rest (zip_second rest)) rs _
     (either_empty_from_Zip rest c.next.new.self c.next.result c.in-None.is c.next.ensures.steps) (c.loop-variable.invariant rs h)
+
+pub push_term-requires : goal.push_term-requires
+push_term-requires c = rw c.requires.shown c.requires.plain
