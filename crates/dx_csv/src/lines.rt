@@ -3,7 +3,7 @@ ghost use Rattle.std.specs.Prelude.{◌≡◌, ◌++◌, ◌∷◌, ◌==◌, []
 ghost use Rattle.std.specs.Fmt.{decimal};
 ghost use Rattle.csv.specs.Writing.{default_writer, escaped, field_text, needs_quotes};
 ghost use Rattle.dx_instance.specs.ValueText.{NullFits, const_text, null_text, value_text_of};
-ghost use Rattle.dx_csv.specs.Lines.{HavePrinted, IsPlain, before_field, line_end, line_with};
+ghost use Rattle.dx_csv.specs.Lines.{HavePrinted, IsPlain, before_field, before_row, line_end, line_with};
 ghost use Rattle.dx_csv.specs.Print.{lines_text};
 
 use dx_model::{NullId, Value};
@@ -258,17 +258,32 @@ fn push_digits(bytes: &mut Vec<u8>, number: u32) -> Result<(), AllocError>
     bytes.extend_from_slice(buffer.format(number).as_bytes())
 }
 
+// The text of a null up to its row. Where its rule and its variable have one digit each, it is pushed at once.
+#[inline]
+#[tactic(auto, using(std::proofs::lemmas::Fmt::decimal_digit))]
+fn push_place(bytes: &mut Vec<u8>, rule: u32, var: u32) -> Result<(), AllocError>
+    ensures { OnOk result (bytes.new.items ≡ bytes.old.items ++ before_row rule var) }
+{
+    if rule < 10 && var < 10 {
+        let shown = [b'?', b'0' + rule as u8, b'.', b'0' + var as u8, b'.'];
+        bytes.extend_from_slice(&shown)?;
+        return Ok(());
+    }
+    bytes.push(b'?')?;
+    push_number(bytes, rule)?;
+    bytes.push(b'.')?;
+    push_number(bytes, var)?;
+    bytes.push(b'.')?;
+    Ok(())
+}
+
 // The text of a null.
 fn push_null(bytes: &mut Vec<u8>, null: &NullId) -> Result<(), AllocError>
     ensures text { OnOk result (bytes.new.items ≡ bytes.old.items ++ null_text null.now) }
     ensures fits { NullFits null.now }
 {
     let NullId { rule, var, row } = *null;
-    bytes.push(b'?')?;
-    push_number(bytes, rule)?;
-    bytes.push(b'.')?;
-    push_number(bytes, var)?;
-    bytes.push(b'.')?;
+    push_place(bytes, rule, var)?;
     push_number(bytes, row)
 }
 
