@@ -237,3 +237,11 @@ plain-stays field p = ap (λ b. if b then quoted default_writer field else field
 
 pub null-plain : (n : NullId) → NullFits n → field_text default_writer (null_text n) ≡ null_text n
 null-plain n f = plain-stays (null_text n) (null-calls n f)
+
+-- ---- a letter and a number
+
+pub numbered-byte : (b n : ℕ) → false ≡ (length (b ∷ decimal n) == 0)
+numbered-byte b n = sym (some-byte b (decimal n))
+
+pub numbered-plain : (b n : ℕ) → IsPlain (b ∷ []) → n < 2 ^ 32 → field_text default_writer (b ∷ decimal n) ≡ b ∷ decimal n
+numbered-plain b n p h = plain-stays (b ∷ decimal n) (both-plain (b ∷ []) (decimal n) p (decimal-plain n h))

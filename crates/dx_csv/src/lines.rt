@@ -1,5 +1,5 @@
 // Records as CSV, printed field by field into one buffer.
-ghost use Rattle.std.specs.Prelude.{◌≡◌, ◌++◌, ◌∷◌, ◌==◌, [], ℕ, List, OnOk, false, true, length};
+ghost use Rattle.std.specs.Prelude.{◌≡◌, ◌<◌, ◌^◌, ◌++◌, ◌∷◌, ◌==◌, [], ℕ, List, OnOk, false, true, length};
 ghost use Rattle.std.specs.Fmt.{decimal};
 ghost use Rattle.csv.specs.Writing.{default_writer, escaped, field_text, needs_quotes};
 ghost use Rattle.dx_instance.specs.ValueText.{NullFits, const_text, null_text, value_text_of};
@@ -114,6 +114,21 @@ impl Lines {
     {
         self.begin_field(text.is_empty())?;
         push_constant(&mut self.bytes, text)
+    }
+
+    /// A letter and the digits of a number as one field more of the open record.
+    ///
+    /// # Errors
+    ///
+    /// `AllocError` if there is no memory.
+    #[inline]
+    pub fn numbered(&mut self, letter: u8, number: u32) -> Result<(), AllocError>
+        requires { IsPlain (letter ∷ []) }
+        ensures { (records : List (List (List ℕ))) (fields : List (List ℕ)) → HavePrinted self.old records fields
+            → OnOk result (HavePrinted self.new records (fields ++ (letter ∷ decimal number) ∷ [])) }
+    {
+        self.begin_field(false)?;
+        push_numbered(&mut self.bytes, letter, number)
     }
 
     /// Ends the open record. One without fields is printed as one empty field.
@@ -256,6 +271,22 @@ fn push_digits(bytes: &mut Vec<u8>, number: u32) -> Result<(), AllocError>
 {
     let mut buffer = Buffer::new();
     bytes.extend_from_slice(buffer.format(number).as_bytes())
+}
+
+// A letter and the digits of a number, at once where it is one digit.
+#[inline]
+#[tactic(auto, using(std::proofs::lemmas::Fmt::decimal_digit))]
+fn push_numbered(bytes: &mut Vec<u8>, letter: u8, number: u32) -> Result<(), AllocError>
+    ensures text { OnOk result (bytes.new.items ≡ bytes.old.items ++ letter ∷ decimal number) }
+    ensures fits { number < 2 ^ 32 }
+{
+    if number < 10 {
+        let shown = [letter, b'0' + number as u8];
+        bytes.extend_from_slice(&shown)?;
+        return Ok(());
+    }
+    bytes.push(letter)?;
+    push_digits(bytes, number)
 }
 
 // The text of a null up to its row. Where its rule and its variable have one digit each, it is pushed at once.
