@@ -1,5 +1,6 @@
 // Records that are printed, and how many they are.
 ghost use Rattle.std.specs.Prelude.{◌≡◌, ◌++◌, ◌∷◌, [], ℕ, List, OnOk, length};
+ghost use Rattle.std.specs.Fmt.{decimal};
 ghost use Rattle.dx_instance.specs.ValueText.{const_text, value_text_of};
 ghost use Rattle.dx_csv.specs.Lines.{IsPlain};
 ghost use Rattle.clio_files.specs.Printing.{AreRecords, HasFields};
@@ -52,6 +53,16 @@ impl Records {
             → OnOk result (HasFields self.new records (fields ++ const_text text.now ∷ [])) }
     {
         self.lines.constant(text.bytes())
+    }
+
+    /// A letter and the digits of a number as one field more.
+    #[inline]
+    pub(crate) fn numbered(&mut self, letter: u8, number: u32) -> Result<(), AllocError>
+        requires { IsPlain (letter ∷ []) }
+        ensures { (records : List (List (List ℕ))) (fields : List (List ℕ)) → HasFields self.old records fields
+            → OnOk result (HasFields self.new records (fields ++ (letter ∷ decimal number) ∷ [])) }
+    {
+        self.lines.numbered(letter, number)
     }
 
     /// The text of a value as one field more.
