@@ -14,12 +14,13 @@ use Rattle.dx_csv.specs.Print.{lines_text}
 use Rattle.dx_instance.specs.ValueText.{const_text, null_text, value_text_of}
 use Rattle.clio_files.specs.declared.records.Records.{Records}
 use Rattle.clio_files.specs.Printing.{AreRecords}
+use Rattle.dx_model.specs.Rules.{exported}
 use Rattle.dx_model.specs.Values.{Text, Rows}
 use Rattle.dx_instance.specs.Stored.{TableRows, rows_of}
 use Rattle.dx_schema.specs.Tables.{TableOf}
 use Rattle.clio_files.specs.declared.printed.Printed.{Printed}
 use Rattle.clio_files.specs.Files.{AreTableFiles, IsTableFile, files_of, line_of, seen, summary_of}
-use Rattle.clio_files.specs.Sheets.{Sheet, Told, exported_names, file_of, fold_sheet, nulls_sheet, rule_of, term_records, texts_of}
+use Rattle.clio_files.specs.Sheets.{Sheet, Told, exported_names, file_of, fold_sheet, nulls_sheet, rule_of, term_records, texts_of, variable_text}
 
 -- ---- what is seen of printed files
 
@@ -100,9 +101,12 @@ get_map f (x ∷ xs) zero d e h = refl
 get_map f (x ∷ xs) (suc i) d e h = get_map f xs i d e (omega arith)
 
 -- the names of the exported variables of the rule of a null
-pub names_at : (R : List Rule) (n : NullId) (lists : List (List Text)) (xs : List Text) → lists ≡ map exported_names R → n.rule < length R
-    → xs ≡ get_or lists n.rule xs → xs ≡ exported_names (rule_of R n)
-names_at R n lists xs e h g = g ∙ rw e (get_map exported_names R n.rule xs (record { premise = []; derived = []; conclusion = [] }) h)
+pub names_at : (R : List Rule) (n : NullId) (lists : List (List ℕ)) (xs : List ℕ) → lists ≡ map exported R → n.rule < length R
+    → xs ≡ get_or lists n.rule xs → map variable_text xs ≡ exported_names (rule_of R n)
+names_at R n lists xs e h g =
+    let at : get_or (map exported R) n.rule xs ≡ exported (rule_of R n) =
+    get_map exported R n.rule xs (record { premise = []; derived = []; conclusion = [] }) h in
+    ap (map variable_text) (g ∙ ap (λ (l : List (List ℕ)). get_or l n.rule xs) e ∙ at)
 
 -- one null more
 pub null_lines_more : (R : List Rule) (rows : Rows) (ns : List NullId) (i : ℕ) (d : NullId) (lines : List (List Text)) → i < length ns
@@ -133,6 +137,10 @@ pub record Done (r : Records) (n : NullId) (xs ts : List Text) (rs whole : List 
   pub lines : List (List Text)
   pub printed : AreRecords r lines
   pub left : lines ++ term_records n xs ts ≡ rs ++ whole
+
+pub either_named : (xs : List ℕ) (ts : List Text) → (xs ≡ []) ⊎ (ts ≡ []) → (map variable_text xs ≡ []) ⊎ (ts ≡ [])
+either_named xs ts (inl e) = inl (ap (map variable_text) e)
+either_named xs ts (inr e) = inr e
 
 pub terms_begin : (r : Records) (n : NullId) (xs ts ys us : List Text) (rs : List (List Text)) → xs ≡ ys → ts ≡ us → AreRecords r rs
     → Done r n xs ts rs (term_records n ys us)

@@ -1,10 +1,13 @@
 // Records that are printed, and how many they are.
 ghost use Rattle.std.specs.Prelude.{◌≡◌, ◌++◌, ◌∷◌, [], ℕ, List, OnOk, length};
-ghost use Rattle.dx_instance.specs.ValueText.{value_text_of};
+ghost use Rattle.std.specs.Fmt.{decimal};
+ghost use Rattle.dx_instance.specs.ValueText.{const_text, value_text_of};
+ghost use Rattle.dx_csv.specs.Lines.{IsPlain};
 ghost use Rattle.clio_files.specs.Printing.{AreRecords, HasFields};
 
 use dx_csv::Lines;
 use dx_model::Value;
+use dx_ports::Text;
 use std::alloc::{AllocError, Global};
 
 /// Records printed into one buffer, field by field, and how many are whole.
@@ -31,6 +34,35 @@ impl Records {
             → OnOk result (HasFields self.new records (fields ++ field.now ∷ [])) }
     {
         self.lines.field(field)
+    }
+
+    /// One field more, of which the caller knows that it calls for no quotes.
+    #[inline]
+    pub(crate) fn plain_field(&mut self, field: &[u8]) -> Result<(), AllocError>
+        requires { IsPlain field.now }
+        ensures { (records : List (List (List ℕ))) (fields : List (List ℕ)) → HasFields self.old records fields
+            → OnOk result (HasFields self.new records (fields ++ field.now ∷ [])) }
+    {
+        self.lines.plain_field(field)
+    }
+
+    /// The text of a constant as one field more.
+    #[inline]
+    pub(crate) fn constant(&mut self, text: &Text) -> Result<(), AllocError>
+        ensures { (records : List (List (List ℕ))) (fields : List (List ℕ)) → HasFields self.old records fields
+            → OnOk result (HasFields self.new records (fields ++ const_text text.now ∷ [])) }
+    {
+        self.lines.constant(text.bytes())
+    }
+
+    /// A letter and the digits of a number as one field more.
+    #[inline]
+    pub(crate) fn numbered(&mut self, letter: u8, number: u32) -> Result<(), AllocError>
+        requires { IsPlain (letter ∷ []) }
+        ensures { (records : List (List (List ℕ))) (fields : List (List ℕ)) → HasFields self.old records fields
+            → OnOk result (HasFields self.new records (fields ++ (letter ∷ decimal number) ∷ [])) }
+    {
+        self.lines.numbered(letter, number)
     }
 
     /// The text of a value as one field more.

@@ -1,17 +1,19 @@
 // Files of records: what nulls stand for, and what becomes of them.
 ghost use Rattle.std.specs.Prelude.{◌≡◌, ◌<◌, ℕ, List, [], ◌∷◌, ◌++◌, IfOk, OnOk, codes, length, map, slice_index_or};
-ghost use Rattle.std.specs.Fmt.{decimal};
 ghost use Rattle.dx_ports.specs.Members.{Each};
+ghost use Rattle.dx_model.specs.Rules.{exported as exported_of};
 ghost use Rattle.dx_instance.specs.NullMaps.{pairs_of};
 ghost use Rattle.dx_instance.specs.ValueText.{const_text, null_text, value_text_of};
+ghost use Rattle.dx_csv.specs.Lines.{IsPlain};
 ghost use Rattle.dx_tgd.specs.Counting.{rows_in};
 ghost use Rattle.dx_tgd.specs.Placed.{HasPlace};
 ghost use Rattle.clio_files.specs.Files.{seen};
 ghost use Rattle.clio_files.specs.Printing.{AreRecords};
-ghost use Rattle.clio_files.specs.Sheets.{Sheet, exported_names, file_of, fold_sheet, nulls_sheet, term_records, texts_of, variable_text};
+ghost use Rattle.clio_files.specs.Sheets.{Sheet, file_of, fold_sheet, nulls_sheet, term_records, texts_of, variable_text};
 
 use crate::printed::Printed;
 use crate::records::Records;
+use dx_csv::show_null;
 use dx_instance::NullMap;
 use dx_model::{Matches, NullId, NullPair, Rule, Value};
 use dx_ports::{File, Items, Text};
@@ -32,65 +34,51 @@ fn sheet_file(alloc: Global, name: &str, records: Records) -> Result<Printed, Al
     })
 }
 
-// The record of a null and a variable.
+// The record of a null and a variable, the null by its text.
 fn push_term(
-    null: &NullId,
-    variable: &Text,
+    null: &[u8],
+    variable: u32,
     text: &Text,
     records: &mut Records,
 ) -> Result<(), AllocError>
+    requires { IsPlain null.now }
     ensures { (rs : List (List (List ℕ))) → AreRecords records.old rs
-        → OnOk result (AreRecords records.new (rs ++ (null_text null.now ∷ variable.now ∷ const_text text.now ∷ []) ∷ [])) }
+        → OnOk result (AreRecords records.new (rs ++ (null.now ∷ variable_text variable ∷ const_text text.now ∷ []) ∷ [])) }
 {
-    records.value(&Value::Null(*null))?;
-    records.field(variable.bytes())?;
-    records.value(&Value::Const(text.copy()?))?;
+    records.plain_field(null)?;
+    records.numbered(b'x', variable)?;
+    records.constant(text)?;
     records.end()
 }
 
-// The records of one null: one for each exported variable of its rule.
+// The records of one null, which is shown as this text: one for each exported variable of its rule.
 fn push_terms(
     null: &NullId,
-    variables: &[Text],
+    shown: &[u8],
+    variables: &[u32],
     texts: &[Text],
     records: &mut Records,
 ) -> Result<(), AllocError>
+    requires shown { shown.now ≡ null_text null.now }
+    requires plain { IsPlain (null_text null.now) }
     ensures { (rs : List (List (List ℕ))) → AreRecords records.old rs
-        → OnOk result (AreRecords records.new (rs ++ term_records null.now variables.now texts.now)) }
+        → OnOk result (AreRecords records.new (rs ++ term_records null.now (map variable_text variables.now) texts.now)) }
 {
     for (variable, text) in variables.iter().zip(texts) {
-        push_term(null, variable, text, records)?;
+        push_term(shown, *variable, text, records)?;
     }
     Ok(())
 }
 
-// The name of a variable.
-fn variable_name(alloc: Global, variable: u32) -> Result<Text, AllocError>
-    ensures { IfOk result (λ t. t ≡ variable_text variable) }
+// The exported variables of each rule.
+fn all_exported(alloc: Global, rules: &[Rule]) -> Result<Items<Items<u32>>, AllocError>
+    ensures { IfOk result (λ lists. lists ≡ map exported_of rules.now) }
 {
-    Text::from_string(alloc, format!(in alloc; "x{variable}")?)
-}
-
-// The names of variables.
-fn variable_names(alloc: Global, variables: &[u32]) -> Result<Items<Text>, AllocError>
-    ensures { IfOk result (λ names. names ≡ map variable_text variables.now) }
-{
-    let mut names = Items::new(alloc);
-    for variable in variables {
-        names.push(variable_name(alloc, *variable)?)?;
-    }
-    Ok(names)
-}
-
-// The names of the exported variables of each rule.
-fn all_names(alloc: Global, rules: &[Rule]) -> Result<Items<Items<Text>>, AllocError>
-    ensures { IfOk result (λ names. names ≡ map exported_names rules.now) }
-{
-    let mut names = Items::new(alloc);
+    let mut lists = Items::new(alloc);
     for rule in rules {
-        names.push(variable_names(alloc, &exported(alloc, rule)?)?)?;
+        lists.push(Items::from_vec(exported(alloc, rule)?))?;
     }
-    Ok(names)
+    Ok(lists)
 }
 
 // The texts of the place of a null.
@@ -125,12 +113,20 @@ pub(crate) fn nulls_file(
     requires places { Each nulls.now (HasPlace rules.now (rows_in matches.now)) }
     ensures { IfOk result (λ p. seen p ≡ file_of (nulls_sheet rules.now (rows_in matches.now) nulls.now)) }
 {
-    let names = all_names(alloc, rules)?;
+    let lists = all_exported(alloc, rules)?;
     let mut records = Records::new(alloc);
     push_nulls_header(&mut records)?;
+    let mut shown = Vec::new(alloc);
     for null in nulls {
-        let variables = names.items()[null.rule as usize].items();
-        push_terms(null, variables, texts_at(matches, null), &mut records)?;
+        let variables = lists.items()[null.rule as usize].items();
+        show_null(null, &mut shown)?;
+        push_terms(
+            null,
+            &shown,
+            variables,
+            texts_at(matches, null),
+            &mut records,
+        )?;
     }
     sheet_file(alloc, "nulls.csv", records)
 }

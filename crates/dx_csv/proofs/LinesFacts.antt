@@ -15,7 +15,7 @@ use Rattle.csv.specs.Writing.{default_writer, escaped, field_text, fields_text, 
 use Rattle.dx_csv.specs.declared.lines.Lines.{Lines}
 use Rattle.dx_csv.specs.declared.lines.OpenLine.TheVariants.{NoField, NoByte, Bytes}
 use Rattle.dx_csv.specs.Print.{lines_text}
-use Rattle.dx_csv.specs.Lines.{HavePrinted, before_field, line_end, line_with, open_line}
+use Rattle.dx_csv.specs.Lines.{HavePrinted, IsPlain, before_field, line_end, line_with, open_line}
 
 -- ---- one field more
 
@@ -227,8 +227,21 @@ decimal-plain n h = digits-plain (decimal n) (decimal_is_IsNumeral n (omega arit
 both-plain : (xs ys : List ℕ) → needs_quotes default_writer xs ≡ false → needs_quotes default_writer ys ≡ false → needs_quotes default_writer (xs ++ ys) ≡ false
 both-plain xs ys a b = marked-quotes xs ys a ∙ b
 
-pub null-plain : (n : NullId) → NullFits n → field_text default_writer (null_text n) ≡ null_text n
-null-plain n f =
+pub null-calls : (n : NullId) → NullFits n → IsPlain (null_text n)
+null-calls n f =
     let rest = both-plain (decimal n.var) (46 ∷ decimal n.row) (decimal-plain n.var f.var) (decimal-plain n.row f.row) in
-    let all : needs_quotes default_writer (null_text n) ≡ false = both-plain (decimal n.rule) (46 ∷ (decimal n.var ++ 46 ∷ decimal n.row)) (decimal-plain n.rule f.rule) rest in
-    ap (λ b. if b then quoted default_writer (null_text n) else null_text n) all
+    both-plain (decimal n.rule) (46 ∷ (decimal n.var ++ 46 ∷ decimal n.row)) (decimal-plain n.rule f.rule) rest
+
+pub plain-stays : (field : List ℕ) → IsPlain field → field_text default_writer field ≡ field
+plain-stays field p = ap (λ b. if b then quoted default_writer field else field) p
+
+pub null-plain : (n : NullId) → NullFits n → field_text default_writer (null_text n) ≡ null_text n
+null-plain n f = plain-stays (null_text n) (null-calls n f)
+
+-- ---- a letter and a number
+
+pub numbered-byte : (b n : ℕ) → false ≡ (length (b ∷ decimal n) == 0)
+numbered-byte b n = sym (some-byte b (decimal n))
+
+pub numbered-plain : (b n : ℕ) → IsPlain (b ∷ []) → n < 2 ^ 32 → field_text default_writer (b ∷ decimal n) ≡ b ∷ decimal n
+numbered-plain b n p h = plain-stays (b ∷ decimal n) (both-plain (b ∷ []) (decimal n) p (decimal-plain n h))

@@ -1,8 +1,8 @@
 -- The text of a table, and what it is read as.
-use Rattle.std.proofs.Common.{◌≡◌, ◌∙◌, ◌<◌, ◌≤◌, ◌+◌, ◌++◌, ◌∷◌, ◌==◌, ℕ, zero, suc, List, [], Bool, true, false, refl, sym, ap, arith, length, map, take, append_assoc, append-nil, None, inl, inr}
+use Rattle.std.proofs.Common.{◌≡◌, ◌∙◌, ◌<◌, ◌≤◌, ◌+◌, ◌++◌, ◌∷◌, ◌==◌, get_or, ℕ, zero, suc, List, [], Bool, true, false, refl, sym, ap, arith, length, map, take, append_assoc, append-nil, None, inl, inr}
 use Rattle.std.specs.Prelude.{if◌then◌else◌, ◌&&◌, slice_index_or}
 use Rattle.std.proofs.lemmas.Bool.{cases_Bool}
-use Rattle.std.proofs.lemmas.List.{take_more, map-append, length-map}
+use Rattle.std.proofs.lemmas.List.{take_more, map-append, length-map, get_or-map}
 use Rattle.csv.proofs.RoundTrip.{read-write}
 use Rattle.csv.specs.Machine.{next_record}
 use Rattle.csv.specs.Reading.{strip_bom, default_config, is_bom}
@@ -11,6 +11,9 @@ use Rattle.csv.specs.declared.parser.State.TheVariants as st
 use Rattle.dx_ports.specs.Members.{◌∈◌, here, there, Each}
 use Rattle.dx_model.specs.declared.values.Value.{Value}
 use Rattle.dx_model.specs.Values.{RowsAscend}
+use Rattle.dx_instance.specs.Cells.{NumberTable, numbers_at}
+use Rattle.dx_instance.specs.Numbers.{value_of}
+use Rattle.dx_instance.specs.Shown.{numbers_of_table, shown, shown_row, shown_tables}
 use Rattle.dx_instance.specs.Stored.{TableRows, IsSorting, rows_of, table_at, widths}
 use Rattle.dx_instance.specs.ValueText.{value_text_of}
 use Rattle.dx_csv.specs.Left.{left_from}
@@ -156,6 +159,41 @@ table-more columns rows i h =
     ap (λ (t : List (List (List ℕ))). columns ∷ t) (
     ap (map (map value_text_of)) (take_more rows i [] h) ∙ map-append (map value_text_of) (take i rows) (slice_index_or rows i [] ∷ [])
     )
+
+-- ---- rows of numbers
+
+pub shown-more : (symbols : List Value) (row : List ℕ) (i : ℕ) → i < length row
+    → map value_text_of (shown_row symbols (take (i + 1) row))
+    ≡ map value_text_of (shown_row symbols (take i row)) ++ value_text_of (value_of symbols (get_or row i 0)) ∷ []
+shown-more symbols row i h =
+    let more = ap (shown_row symbols) (take_more row i 0 h) ∙ map-append (value_of symbols) (take i row) (get_or row i 0 ∷ []) in
+    ap (map value_text_of) more ∙ map-append value_text_of (shown_row symbols (take i row)) (value_of symbols (get_or row i 0) ∷ [])
+
+rows-shown : (symbols : List Value) (ts : List NumberTable) (t : ℕ)
+    → rows_of (shown_tables symbols ts) t ≡ map (shown_row symbols) (numbers_of_table ts t).rows
+rows-shown symbols [] t = refl
+rows-shown symbols (x ∷ ts) zero = refl
+rows-shown symbols (x ∷ ts) (suc t) = rows-shown symbols ts t
+
+-- the rows of a table are those that its numbers show
+pub rows-are : (symbols : List Value) (ts : List NumberTable) (tables : List TableRows) (t : ℕ) → shown_tables symbols ts ≡ tables
+    → rows_of tables t ≡ map (shown_row symbols) (numbers_of_table ts t).rows
+rows-are symbols ts tables t e = ap (λ (us : List TableRows). rows_of us t) (sym e) ∙ rows-shown symbols ts t
+
+pub as-many-tables : (symbols : List Value) (ts : List NumberTable) (tables : List TableRows) → shown_tables symbols ts ≡ tables
+    → length ts ≡ length tables
+as-many-tables symbols ts tables e = sym (length-map ts (shown symbols)) ∙ ap (λ (us : List TableRows). length us) e
+
+-- one row of numbers more
+pub numbers-more : (columns : List (List ℕ)) (symbols : List Value) (rows : List (List Value)) (numbers : List (List ℕ)) (i : ℕ) (row : List ℕ)
+    → rows ≡ map (shown_row symbols) numbers → i < length numbers → row ≡ numbers_at numbers i
+    → table_lines columns (take i rows) ++ map value_text_of (shown_row symbols row) ∷ [] ≡ table_lines columns (take (i + 1) rows)
+numbers-more columns symbols rows numbers i row e h is =
+    let many : length rows ≡ length numbers = ap (λ (rs : List (List Value)). length rs) e ∙ length-map numbers (shown_row symbols) in
+    let at : slice_index_or rows i [] ≡ shown_row symbols row =
+    ap (λ (rs : List (List Value)). slice_index_or rs i []) e ∙ get_or-map (shown_row symbols) numbers i [] [] h
+    ∙ ap (shown_row symbols) (sym is) in
+    sym (table-more columns rows i (omega (arith, h, many)) ∙ ap (λ r. table_lines columns (take i rows) ++ map value_text_of r ∷ []) at)
 
 -- ---- a sorted instance
 pub as-many : (old new : List TableRows) → IsSorting old new → length new ≡ length old

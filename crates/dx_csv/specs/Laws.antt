@@ -8,23 +8,32 @@ use Rattle.dx_csv.specs.Table.{IsAtFault, IsTable, table_records}
 
 -- records are a table of no two lists of rows
 abbrev pub TableIsOne : Type 0
-TableIsOne = (records : List (List (List ℕ))) (columns : List (List ℕ)) (a b : List (List Value)) → IsTable records columns a → IsTable records columns b → a ≡ b
+TableIsOne =
+    (records : List (List (List ℕ))) (columns : List (List ℕ)) (a b : List (List Value))
+    → IsTable records columns a → IsTable records columns b → a ≡ b
 
 -- records have no two faults
 abbrev pub FaultIsOne : Type 0
-FaultIsOne = (records : List (List (List ℕ))) (columns : List (List ℕ)) (a b : RowKind) → IsAtFault records columns a → IsAtFault records columns b → a ≡ b
+FaultIsOne =
+    (records : List (List (List ℕ))) (columns : List (List ℕ)) (a b : RowKind)
+    → IsAtFault records columns a → IsAtFault records columns b → a ≡ b
 
 -- records are a table, or they have a fault
 abbrev pub TableOrFault : Type 0
 TableOrFault =
-    (records : List (List (List ℕ))) (columns : List (List ℕ)) → ((rows : List (List Value)) × IsTable records columns rows) ⊎ ((k : RowKind) × IsAtFault records columns k)
+    (records : List (List (List ℕ))) (columns : List (List ℕ))
+    → ((rows : List (List Value)) × IsTable records columns rows) ⊎ ((k : RowKind) × IsAtFault records columns k)
 
 -- and never both
 abbrev pub NeverBoth : Type 0
-NeverBoth = (records : List (List (List ℕ))) (columns : List (List ℕ)) (rows : List (List Value)) (k : RowKind) → IsTable records columns rows → ¬ (IsAtFault records columns k)
+NeverBoth =
+    (records : List (List (List ℕ))) (columns : List (List ℕ)) (rows : List (List Value)) (k : RowKind)
+    → IsTable records columns rows → ¬ (IsAtFault records columns k)
 
--- records with a field each, of which the first does not begin with a byte order mark, are printed as a text that is read as just these records
+-- records with a field each, of which the first does not begin with a byte order mark, are printed as a text that is read as
+-- just these records
 abbrev pub PrintedReadsBack : Type 0
 PrintedReadsBack =
-    (first : List (List ℕ)) (rest : List (List (List ℕ))) → HasNoMark first → Each (first ∷ rest) (λ (r : List (List ℕ)). 1 ≤ length r)
+    (first : List (List ℕ)) (rest : List (List (List ℕ)))
+    → HasNoMark first → Each (first ∷ rest) (λ (r : List (List ℕ)). 1 ≤ length r)
     → table_records (lines_text (first ∷ rest)) ≡ first ∷ rest

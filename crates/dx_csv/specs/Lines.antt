@@ -1,10 +1,16 @@
 -- Records that are printed field by field.
-use Rattle.std.specs.Prelude.{◌≡◌, ◌++◌, ◌==◌, ℕ, List, [], ◌∷◌, length, if◌then◌else◌}
-use Rattle.csv.specs.Writing.{comma, default_writer, is_blank, quote_mark, row_body}
+use Rattle.std.specs.Prelude.{◌≡◌, ◌++◌, ◌==◌, false, ℕ, List, [], ◌∷◌, length, if◌then◌else◌}
+use Rattle.std.specs.Fmt.{decimal}
+use Rattle.csv.specs.Writing.{comma, default_writer, is_blank, needs_quotes, quote_mark, row_body}
+use Rattle.dx_instance.specs.ValueText.{full_stop, question_mark}
 use Rattle.dx_csv.specs.declared.lines.Lines.{Lines}
 use Rattle.dx_csv.specs.declared.lines.OpenLine.{OpenLine}
 use Rattle.dx_csv.specs.declared.lines.OpenLine.TheVariants.{NoField, NoByte, Bytes}
 use Rattle.dx_csv.specs.Print.{lines_text}
+
+-- a field that calls for no quotes
+abbrev pub IsPlain : List ℕ → Type 0
+IsPlain field = needs_quotes default_writer field ≡ false
 
 -- what the line of these fields shows
 abbrev pub open_line : List (List ℕ) → OpenLine
@@ -33,3 +39,7 @@ abbrev pub line_end : OpenLine → List ℕ
 line_end NoField = quote_mark ∷ quote_mark ∷ 10 ∷ []
 line_end NoByte = quote_mark ∷ quote_mark ∷ 10 ∷ []
 line_end Bytes = 10 ∷ []
+
+-- the text of a null up to its row
+abbrev pub before_row : ℕ → ℕ → List ℕ
+before_row rule var = question_mark ∷ (decimal rule ++ full_stop ∷ (decimal var ++ full_stop ∷ []))

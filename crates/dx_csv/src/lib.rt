@@ -21,6 +21,6 @@ mod records;
 pub use fault::{RowFault, RowKind};
 pub use interning::load_into;
 pub use laws::{one_reading, printed_reads_back};
-pub use lines::Lines;
+pub use lines::{Lines, show_null};
 pub use load::load_table;
 pub use print::{print_records, print_records_bytes, print_table, print_table_bytes};

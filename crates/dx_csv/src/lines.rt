@@ -1,9 +1,9 @@
 // Records as CSV, printed field by field into one buffer.
-ghost use Rattle.std.specs.Prelude.{◌≡◌, ◌++◌, ◌∷◌, ◌==◌, [], ℕ, List, OnOk, false, length};
+ghost use Rattle.std.specs.Prelude.{◌≡◌, ◌<◌, ◌^◌, ◌++◌, ◌∷◌, ◌==◌, [], ℕ, List, OnOk, false, true, length};
 ghost use Rattle.std.specs.Fmt.{decimal};
 ghost use Rattle.csv.specs.Writing.{default_writer, escaped, field_text, needs_quotes};
 ghost use Rattle.dx_instance.specs.ValueText.{NullFits, const_text, null_text, value_text_of};
-ghost use Rattle.dx_csv.specs.Lines.{HavePrinted, before_field, line_end, line_with};
+ghost use Rattle.dx_csv.specs.Lines.{HavePrinted, IsPlain, before_field, before_row, line_end, line_with};
 ghost use Rattle.dx_csv.specs.Print.{lines_text};
 
 use dx_model::{NullId, Value};
@@ -32,13 +32,17 @@ pub struct Lines {
 }
 
 impl OpenLine {
-    // What ends the line.
-    fn ending(self) -> &'static [u8]
-        ensures { result.now ≡ line_end self }
+    // Ends the line.
+    #[inline]
+    fn push_ending(self, bytes: &mut Vec<u8>) -> Result<(), AllocError>
+        ensures { OnOk result (bytes.new.items ≡ bytes.old.items ++ line_end self) }
     {
         match self {
-            OpenLine::NoField | OpenLine::NoByte => b"\"\"\n",
-            OpenLine::Bytes => b"\n",
+            OpenLine::NoField | OpenLine::NoByte => bytes.extend_from_slice(b"\"\"\n"),
+            OpenLine::Bytes => {
+                bytes.push(b'\n')?;
+                Ok(())
+            }
         }
     }
 }
@@ -67,6 +71,22 @@ impl Lines {
         push_field(&mut self.bytes, b"", field)
     }
 
+    /// One field more of the open record, of which the caller knows that it calls for no quotes.
+    ///
+    /// # Errors
+    ///
+    /// `AllocError` if there is no memory.
+    #[inline]
+    pub fn plain_field(&mut self, field: &[u8]) -> Result<(), AllocError>
+        requires { IsPlain field.now }
+        ensures { (records : List (List (List ℕ))) (fields : List (List ℕ)) → HavePrinted self.old records fields
+            → OnOk result (HavePrinted self.new records (fields ++ field.now ∷ [])) }
+    {
+        self.begin_field(field.is_empty())?;
+        self.bytes.extend_from_slice(field)?;
+        Ok(())
+    }
+
     /// The text of a value as one field more of the open record.
     ///
     /// # Errors
@@ -82,6 +102,35 @@ impl Lines {
         }
     }
 
+    /// The text of a constant as one field more of the open record.
+    ///
+    /// # Errors
+    ///
+    /// `AllocError` if there is no memory.
+    #[inline]
+    pub fn constant(&mut self, text: &[u8]) -> Result<(), AllocError>
+        ensures { (records : List (List (List ℕ))) (fields : List (List ℕ)) → HavePrinted self.old records fields
+            → OnOk result (HavePrinted self.new records (fields ++ const_text text.now ∷ [])) }
+    {
+        self.begin_field(text.is_empty())?;
+        push_constant(&mut self.bytes, text)
+    }
+
+    /// A letter and the digits of a number as one field more of the open record.
+    ///
+    /// # Errors
+    ///
+    /// `AllocError` if there is no memory.
+    #[inline]
+    pub fn numbered(&mut self, letter: u8, number: u32) -> Result<(), AllocError>
+        requires { IsPlain (letter ∷ []) }
+        ensures { (records : List (List (List ℕ))) (fields : List (List ℕ)) → HavePrinted self.old records fields
+            → OnOk result (HavePrinted self.new records (fields ++ (letter ∷ decimal number) ∷ [])) }
+    {
+        self.begin_field(false)?;
+        push_numbered(&mut self.bytes, letter, number)
+    }
+
     /// Ends the open record. One without fields is printed as one empty field.
     ///
     /// # Errors
@@ -91,7 +140,7 @@ impl Lines {
         ensures { (records : List (List (List ℕ))) (fields : List (List ℕ)) → HavePrinted self.old records fields
             → OnOk result (HavePrinted self.new (records ++ fields ∷ []) []) }
     {
-        self.bytes.extend_from_slice(self.line.ending())?;
+        self.line.push_ending(&mut self.bytes)?;
         self.line = OpenLine::NoField;
         Ok(())
     }
@@ -101,15 +150,6 @@ impl Lines {
         ensures { (records : List (List (List ℕ))) → HavePrinted self records [] → result.items ≡ lines_text records }
     {
         self.bytes
-    }
-
-    // The text of a constant as one field more.
-    fn constant(&mut self, text: &[u8]) -> Result<(), AllocError>
-        ensures { (records : List (List (List ℕ))) (fields : List (List ℕ)) → HavePrinted self.old records fields
-            → OnOk result (HavePrinted self.new records (fields ++ const_text text.now ∷ [])) }
-    {
-        self.begin_field(text.is_empty())?;
-        push_field(&mut self.bytes, mark_of(text), text)
     }
 
     // The text of a null as one field more.
@@ -135,17 +175,6 @@ impl Lines {
             }
         }
         Ok(())
-    }
-}
-
-// What stands before the text of a constant.
-fn mark_of(text: &[u8]) -> &'static [u8]
-    ensures text { result.now ++ text.now ≡ const_text text.now }
-    ensures plain { needs_quotes default_writer result.now ≡ false }
-{
-    match text {
-        [b'?', ..] => b"?",
-        _ => b"",
     }
 }
 
@@ -184,24 +213,46 @@ fn push_mark(bytes: &mut Vec<u8>, mark: &[u8]) -> Result<(), AllocError>
     bytes.extend_from_slice(mark)
 }
 
-// A field that begins with a mark, in quotes if it calls for them.
-fn push_field(bytes: &mut Vec<u8>, mark: &[u8], field: &[u8]) -> Result<(), AllocError>
-    requires { needs_quotes default_writer mark.now ≡ false }
+// A field that begins with a mark and calls for quotes.
+#[inline(never)]
+fn push_quoted(bytes: &mut Vec<u8>, mark: &[u8], field: &[u8]) -> Result<(), AllocError>
+    requires mark { IsPlain mark.now }
+    requires field { needs_quotes default_writer field.now ≡ true }
     ensures { OnOk result (bytes.new.items ≡ bytes.old.items ++ field_text default_writer (mark.now ++ field.now)) }
 {
-    if calls_for_quotes(field) {
-        bytes.push(b'"')?;
-        push_mark(bytes, mark)?;
-        push_escaped(bytes, field)?;
-        bytes.push(b'"')?;
-    } else {
-        push_mark(bytes, mark)?;
-        bytes.extend_from_slice(field)?;
-    }
+    bytes.push(b'"')?;
+    push_mark(bytes, mark)?;
+    push_escaped(bytes, field)?;
+    bytes.push(b'"')?;
     Ok(())
 }
 
+// A field that begins with a mark, in quotes if it calls for them.
+#[inline]
+fn push_field(bytes: &mut Vec<u8>, mark: &[u8], field: &[u8]) -> Result<(), AllocError>
+    requires { IsPlain mark.now }
+    ensures { OnOk result (bytes.new.items ≡ bytes.old.items ++ field_text default_writer (mark.now ++ field.now)) }
+{
+    if calls_for_quotes(field) {
+        return push_quoted(bytes, mark, field);
+    }
+    push_mark(bytes, mark)?;
+    bytes.extend_from_slice(field)
+}
+
+// The text of a constant.
+#[inline]
+fn push_constant(bytes: &mut Vec<u8>, text: &[u8]) -> Result<(), AllocError>
+    ensures { OnOk result (bytes.new.items ≡ bytes.old.items ++ field_text default_writer (const_text text.now)) }
+{
+    match text {
+        [b'?', ..] => push_field(bytes, b"?", text),
+        _ => push_field(bytes, b"", text),
+    }
+}
+
 // The digits of a number.
+#[inline(always)]
 #[tactic(auto, using(std::proofs::lemmas::Fmt::decimal_digit))]
 fn push_number(bytes: &mut Vec<u8>, number: u32) -> Result<(), AllocError>
     ensures { OnOk result (bytes.new.items ≡ bytes.old.items ++ decimal number) }
@@ -210,8 +261,51 @@ fn push_number(bytes: &mut Vec<u8>, number: u32) -> Result<(), AllocError>
         bytes.push(b'0' + number as u8)?;
         return Ok(());
     }
+    push_digits(bytes, number)
+}
+
+// The digits of a number, however many.
+#[inline(never)]
+fn push_digits(bytes: &mut Vec<u8>, number: u32) -> Result<(), AllocError>
+    ensures { OnOk result (bytes.new.items ≡ bytes.old.items ++ decimal number) }
+{
     let mut buffer = Buffer::new();
     bytes.extend_from_slice(buffer.format(number).as_bytes())
+}
+
+// A letter and the digits of a number, at once where it is one digit.
+#[inline]
+#[tactic(auto, using(std::proofs::lemmas::Fmt::decimal_digit))]
+fn push_numbered(bytes: &mut Vec<u8>, letter: u8, number: u32) -> Result<(), AllocError>
+    ensures text { OnOk result (bytes.new.items ≡ bytes.old.items ++ letter ∷ decimal number) }
+    ensures fits { number < 2 ^ 32 }
+{
+    if number < 10 {
+        let shown = [letter, b'0' + number as u8];
+        bytes.extend_from_slice(&shown)?;
+        return Ok(());
+    }
+    bytes.push(letter)?;
+    push_digits(bytes, number)
+}
+
+// The text of a null up to its row. Where its rule and its variable have one digit each, it is pushed at once.
+#[inline]
+#[tactic(auto, using(std::proofs::lemmas::Fmt::decimal_digit))]
+fn push_place(bytes: &mut Vec<u8>, rule: u32, var: u32) -> Result<(), AllocError>
+    ensures { OnOk result (bytes.new.items ≡ bytes.old.items ++ before_row rule var) }
+{
+    if rule < 10 && var < 10 {
+        let shown = [b'?', b'0' + rule as u8, b'.', b'0' + var as u8, b'.'];
+        bytes.extend_from_slice(&shown)?;
+        return Ok(());
+    }
+    bytes.push(b'?')?;
+    push_number(bytes, rule)?;
+    bytes.push(b'.')?;
+    push_number(bytes, var)?;
+    bytes.push(b'.')?;
+    Ok(())
 }
 
 // The text of a null.
@@ -220,10 +314,19 @@ fn push_null(bytes: &mut Vec<u8>, null: &NullId) -> Result<(), AllocError>
     ensures fits { NullFits null.now }
 {
     let NullId { rule, var, row } = *null;
-    bytes.push(b'?')?;
-    push_number(bytes, rule)?;
-    bytes.push(b'.')?;
-    push_number(bytes, var)?;
-    bytes.push(b'.')?;
+    push_place(bytes, rule, var)?;
     push_number(bytes, row)
+}
+
+/// Shows a null: its text in the place of what stands in the buffer. As a field it calls for no quotes.
+///
+/// # Errors
+///
+/// `AllocError` if there is no memory.
+pub fn show_null(null: &NullId, shown: &mut Vec<u8>) -> Result<(), AllocError>
+    ensures text { OnOk result (shown.new.items ≡ null_text null.now) }
+    ensures plain { IsPlain (null_text null.now) }
+{
+    shown.clear();
+    push_null(shown, null)
 }

@@ -1,7 +1,6 @@
 // The text of records and of tables.
 ghost use Rattle.std.specs.Prelude.{◌≡◌, ◌<◌, ◌++◌, ◌∷◌, [], ℕ, List, IfOk, OnOk, length, map};
-ghost use Rattle.dx_ports.specs.Members.{Each};
-ghost use Rattle.dx_instance.specs.Places.{row_at};
+ghost use Rattle.dx_instance.specs.Shown.{AreBelow, shown_row};
 ghost use Rattle.dx_instance.specs.Stored.{rows_of, table_at};
 ghost use Rattle.dx_model.specs.Values.{RowsAscend};
 ghost use Rattle.dx_instance.specs.ValueText.{value_text_of};
@@ -9,7 +8,7 @@ ghost use Rattle.dx_csv.specs.Lines.{HavePrinted};
 ghost use Rattle.dx_csv.specs.Print.{HasNoMark, IsTableText, lines_text, table_lines};
 
 use crate::lines::Lines;
-use dx_instance::Instance;
+use dx_instance::{Instance, Numbers};
 use dx_ports::{Items, Text};
 use std::alloc::{AllocError, Global};
 
@@ -24,21 +23,14 @@ fn print_record(lines: &mut Lines, fields: &[Text]) -> Result<(), AllocError>
     lines.end()
 }
 
-// Prints a row as one record more.
-fn print_row(
-    lines: &mut Lines,
-    instance: &Instance,
-    table: u32,
-    place: u32,
-) -> Result<(), AllocError>
-    requires table { table < length instance.now }
-    requires place { place < length (rows_of instance.now table) }
-    requires width { length (row_at instance.now table place) ≡ (table_at instance.now table).width }
+// Prints a row of numbers as one record more, the texts of the values under them.
+fn print_row(lines: &mut Lines, numbers: &Numbers, row: &[u32]) -> Result<(), AllocError>
+    requires { AreBelow (length numbers.now.symbols) row.now }
     ensures { (records : List (List (List ℕ))) → HavePrinted lines.old records []
-        → OnOk result (HavePrinted lines.new (records ++ map value_text_of (row_at instance.now table place) ∷ []) []) }
+        → OnOk result (HavePrinted lines.new (records ++ map value_text_of (shown_row numbers.now.symbols row.now) ∷ []) []) }
 {
-    for column in 0..instance.width(table) {
-        lines.value(instance.cell(table, place, column))?;
+    for number in row {
+        lines.value(numbers.value(*number))?;
     }
     lines.end()
 }
@@ -88,14 +80,14 @@ fn lines_of(
     instance: &Instance,
     table: u32,
 ) -> Result<Vec<u8>, AllocError>
-    requires table { table < length instance.now }
-    requires widths { Each (rows_of instance.now table) (λ r. length r ≡ (table_at instance.now table).width) }
+    requires { table < length instance.now }
     ensures { IfOk result (λ bytes. bytes.items ≡ lines_text (table_lines columns.now (rows_of instance.now table))) }
 {
+    let numbers = instance.numbers();
     let mut lines = Lines::new(alloc);
     print_record(&mut lines, columns)?;
-    for place in 0..instance.count(table) {
-        print_row(&mut lines, instance, table, place)?;
+    for place in 0..numbers.count(table) {
+        print_row(&mut lines, &numbers, numbers.row(table, place))?;
     }
     Ok(lines.into_bytes())
 }

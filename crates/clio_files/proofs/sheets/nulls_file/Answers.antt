@@ -1,11 +1,11 @@
-use Rattle.std.proofs.Common.{◌∙◌, get_or, refl, subst, take}
+use Rattle.std.proofs.Common.{◌∙◌, ap, get_or, map, refl, subst, take}
 use Rattle.std.specs.Prelude.{codes}
 use Rattle.std.proofs.lemmas.List.{length-map, take_all}
 use Rattle.dx_ports.proofs.Members.{in_at}
 use Rattle.dx_model.specs.declared.values.NullId.{NullId}
 use Rattle.dx_tgd.specs.Counting.{rows_in}
 use Rattle.clio_files.specs.Printing.{AreRecords}
-use Rattle.clio_files.specs.Sheets.{nulls_sheet}
+use Rattle.clio_files.specs.Sheets.{nulls_sheet, variable_text}
 use Rattle.clio_files.proofs.SheetLists.{names_at, lines_of, null_lines_more, sheet_told}
 use Rattle.clio_files.proofs.sheets.nulls_file.Goals as goal
 
@@ -13,7 +13,7 @@ pub bounds-items-null : goal.bounds-items-null
 bounds-items-null c =
     let p =
     c.requires.places _ (in_at c.args.nulls.now c.loop-null.null-index (record { rule = 0; var = 0; row = 0 }) c.loop-null-test.true) in
-    rw (c.items.ensures, c.in_ok-names.ensures, length-map) p.rule
+    rw (c.items.ensures, c.in_ok-lists.ensures, length-map) p.rule
 
 pub texts_at-requires-clause-rule : goal.texts_at-requires-clause-rule
 texts_at-requires-clause-rule c =
@@ -36,9 +36,9 @@ loop-null-preserved c =
     let rows = rows_in c.args.matches.now in
     let null : NullId = get_or c.args.nulls.now i (record { rule = 0; var = 0; row = 0 }) in
     let p = c.requires.places _ (in_at c.args.nulls.now i (record { rule = 0; var = 0; row = 0 }) c.loop-null-test.true) in
-    let same = c.items.ensures ∙ c.in_ok-names.ensures in
+    let same = c.items.ensures ∙ c.in_ok-lists.ensures in
     let xs =
-    c.items-variables.ensures
+    ap (map variable_text) c.items-variables.ensures
     ∙ names_at c.args.rules.now null c.items.result.now c.index-items-null.result same p.rule c.index-items-null.is in
     let lines = lines_of (nulls_sheet c.args.rules.now rows (take i c.args.nulls.now)) in
     let pushed = rw (xs, c.texts_at.ensures) at (c.in_ok-push_terms.ensures lines c.loop-null.invariant) in

@@ -2,11 +2,8 @@ use Rattle.std.proofs.Common.{◌≡◌}
 use Rattle.std.proofs.lemmas.Result.{IfOk-weaker}
 use Rattle.dx_instance.specs.Stored.{rows_of}
 use Rattle.dx_csv.specs.Print.{IsTableText, lines_text, table_lines}
-use Rattle.dx_csv.proofs.TableTextFacts.{rows-wide, same-text}
+use Rattle.dx_csv.proofs.TableTextFacts.{same-text}
 use Rattle.dx_csv.proofs.print.print_ascending.Goals as goal
-
-pub lines_of-requires-clause-widths : goal.lines_of-requires-clause-widths
-lines_of-requires-clause-widths c = rows-wide c.args.instance.now c.args.table c.requires.table c.tables.ensures.rows
 
 pub returns : goal.returns
 returns c =

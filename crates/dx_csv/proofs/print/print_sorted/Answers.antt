@@ -2,7 +2,7 @@ use Rattle.std.proofs.Common.{◌≡◌, arith}
 use Rattle.std.proofs.lemmas.Result.{IfOk-weaker}
 use Rattle.dx_instance.specs.Stored.{rows_of}
 use Rattle.dx_csv.specs.Print.{IsTableText, lines_text, table_lines}
-use Rattle.dx_csv.proofs.TableTextFacts.{table-text, as-many, rows-wide}
+use Rattle.dx_csv.proofs.TableTextFacts.{table-text, as-many}
 use Rattle.dx_csv.proofs.print.print_sorted.Goals as goal
 
 pub prove-unreachable-requires : goal.prove-unreachable-requires
@@ -13,8 +13,3 @@ returns c = record {
   text = IfOk-weaker c.lines_of.result (λ t. t.items ≡ lines_text (table_lines c.args.columns.now (rows_of c.in_ok-sorted.sorted c.args.table))) (λ t. IsTableText c.args.columns.now (rows_of c.args.instance.now c.args.table) t.items)
       (λ t. table-text c.args.columns.now c.args.instance.now c.in_ok-sorted.sorted c.args.table t.items c.requires.table c.requires.width c.requires.no_mark c.in_ok-sorted.ensures c.tables.ensures.widths c.tables.ensures.rows) c.lines_of.ensures;
 }
-
-pub lines_of-requires-clause-widths : goal.lines_of-requires-clause-widths
-lines_of-requires-clause-widths c =
-    let many = as-many c.args.instance.now c.in_ok-sorted.sorted c.in_ok-sorted.ensures in
-    rows-wide c.in_ok-sorted.sorted c.args.table (omega (arith, many, c.requires.table)) c.tables.ensures.rows

@@ -1,4 +1,4 @@
-use Rattle.std.proofs.Common.{◌++◌, ◌∙◌, ap}
+use Rattle.std.proofs.Common.{◌∙◌}
 use Rattle.std.proofs.lemmas.Result.{on_ok_weaker}
 use Rattle.csv.specs.Writing.{default_writer, field_text}
 use Rattle.dx_instance.specs.ValueText.{const_text}
@@ -11,4 +11,4 @@ returns c records fields h =
     let old = c.args.self.now in
     let value = const_text c.args.text.now in
     let line = c.in_ok-begin_field.ensures.line value (c.is_empty.ensures ∙ const-byte c.args.text.now) in
-    on_ok_weaker c.push_field.result (λ e. field-printed old _ value (pushed-after old.bytes.items (before_field old.line) (field_text default_writer value) _ _ c.in_ok-begin_field.ensures.bytes (e ∙ ap (λ t. c.begin_field.new.self.bytes.items ++ field_text default_writer t) c.mark_of.ensures.text)) line records fields h) c.push_field.ensures
+    on_ok_weaker c.push_constant.result (λ e. field-printed old _ value (pushed-after old.bytes.items (before_field old.line) (field_text default_writer value) _ _ c.in_ok-begin_field.ensures.bytes e) line records fields h) c.push_constant.ensures
