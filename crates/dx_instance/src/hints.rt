@@ -15,7 +15,7 @@ fn null_hint(null: &NullId) -> u64 {
     NULLS | rule | var | u64::from(null.row)
 }
 
-/// A number that mostly compares as the value, of which `key` compares as the first bytes if it is a constant.
+/// A number that mostly compares as the value, of which `key` compares as the first eight bytes if it is a constant.
 pub(crate) fn hint_of(key: u64, value: &Value) -> u64
     ensures constant { (text : List ℕ) → value.now ≡ Const text → result ≡ key }
 {

@@ -39,7 +39,7 @@ fn first_bytes(text: &[u8]) -> u64
     key
 }
 
-/// A number that compares as the first bytes of a value's text. Nulls come last.
+/// A number that compares as the first eight bytes of a value's text. Nulls come last.
 pub(crate) fn key_of(value: &Value) -> u64
     ensures key { result ≡ value_key value.now }
     ensures small { IsSmallValue value.now }
