@@ -99,32 +99,35 @@ keyed_more at key Small keys new i k l n e s a = rw n (record {
     last : get_or (keys ++ (k, i) ∷ []) i (0, 0) ≡ (k, i)
     last = get_or_push keys (k, i) (0, 0) i l
 
+-- numbers that never fall where the items rise, in front of the items
+pub numbers_first : {X : Type 0} (cmp : X → X → Ordering) → IsTotalOrder cmp → ((x y : X) → cmp x y ≡ Equal → x ≡ y) → (x y : X) (k l : ℕ)
+    → (cmp x y ≡ Less → k ≤ l) → (cmp y x ≡ Less → l ≤ k) → (x ≡ y → k ≡ l) → ordering_then (nat_cmp k l) (cmp x y) ≡ cmp x y
+numbers_first cmp total exact x y k l up down level = by (cmp x y) refl
+  where
+    by : (o : Ordering) → cmp x y ≡ o → ordering_then (nat_cmp k l) (cmp x y) ≡ cmp x y
+    by Less e =
+        let m = up e in
+        elim (cases_lt k l) [
+          | inl h ↦ rw (nat_less k l h) (sym e)
+          | inr h ↦ let s : k ≡ l = omega (arith, m, h) in rw (s, nat_self l) refl
+        ]
+    by Equal e = let s = level (exact x y e) in rw (s, nat_self l) refl
+    by Greater e =
+        let m = down (total.antisymm y x ∙ ap ordering_reverse e) in
+        elim (cases_lt l k) [
+          | inl h ↦ let g = nat_cmp_total.antisymm k l ∙ ap ordering_reverse (nat_less l k h) in rw g (sym e)
+          | inr h ↦ let s : k ≡ l = omega (arith, m, h) in rw (s, nat_self l) refl
+        ]
+
 module _ {X : Type 0} (cmp : X → X → Ordering) (total : IsTotalOrder cmp) (exact : (x y : X) → cmp x y ≡ Equal → x ≡ y) (at : ℕ → X) (key : X → ℕ) (Small : X → Type 0)
     (up : (x y : X) → Small x → Small y → cmp x y ≡ Less → key x ≤ key y) where
   pub by_key_total : IsTotalOrder (by_key cmp at)
   by_key_total = then_total (on_total (λ (k : ℕ × ℕ). k.0) nat_cmp_total) (on_total (λ (k : ℕ × ℕ). at k.1) total)
 
   tells : (a b : ℕ × ℕ) → IsKeyOf at key Small a → IsKeyOf at key Small b → by_key cmp at a b ≡ cmp (at a.1) (at b.1)
-  tells a b p q = by (cmp (at a.1) (at b.1)) refl
-    where
-      by : (o : Ordering) → cmp (at a.1) (at b.1) ≡ o → by_key cmp at a b ≡ cmp (at a.1) (at b.1)
-      by Less e =
-          let l = up (at a.1) (at b.1) p.small q.small e in
-          elim (cases_lt a.0 b.0) [
-            | inl h ↦ rw (nat_less a.0 b.0 h) (sym e)
-            | inr h ↦ let s : a.0 ≡ b.0 = omega (arith, l, p.key_is, q.key_is) in rw (s, nat_self b.0) refl
-          ]
-      by Equal e =
-          let same = exact (at a.1) (at b.1) e in
-          let s : a.0 ≡ b.0 = p.key_is ∙ ap key same ∙ sym q.key_is in
-          rw (s, nat_self b.0) refl
-      by Greater e =
-          let back = total.antisymm (at b.1) (at a.1) ∙ ap ordering_reverse e in
-          let l = up (at b.1) (at a.1) q.small p.small back in
-          elim (cases_lt b.0 a.0) [
-            | inl h ↦ let g = nat_cmp_total.antisymm a.0 b.0 ∙ ap ordering_reverse (nat_less b.0 a.0 h) in rw g (sym e)
-            | inr h ↦ let s : a.0 ≡ b.0 = omega (arith, l, p.key_is, q.key_is) in rw (s, nat_self b.0) refl
-          ]
+  tells a b p q = numbers_first cmp total exact (at a.1) (at b.1) a.0 b.0
+      (λ e. let l = up (at a.1) (at b.1) p.small q.small e in omega (arith, l, p.key_is, q.key_is))
+      (λ e. let l = up (at b.1) (at a.1) q.small p.small e in omega (arith, l, p.key_is, q.key_is)) (λ e. p.key_is ∙ ap key e ∙ sym q.key_is)
 
   -- places that are sorted by their keys are sorted by their items
   pub keys_sorted : (ks : List (ℕ × ℕ)) → All (IsKeyOf at key Small) ks → IsSortedBy (λ a b. is_lt (by_key cmp at a b)) ks → IsSortedBy (λ p q. is_lt (cmp (at p) (at q))) (places_of ks)

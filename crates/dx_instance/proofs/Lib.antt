@@ -19,3 +19,4 @@ pub mod AfterFacts
 pub mod IndexFacts
 pub mod PartFacts
 pub mod HalfFacts
+pub mod TieFacts

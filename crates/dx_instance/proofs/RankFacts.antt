@@ -1,11 +1,10 @@
 -- Numbers in the order of their values: each old number has a rank.
-use Rattle.std.proofs.Common.{◌≡◌, ◌∙◌, ◌+◌, ◌<◌, ◌≤◌, ◌∷◌, ◌⊎◌, ℕ, zero, suc, List, [], Bool, false, refl, sym, ap, subst, arith, length, get_or, set, map, inl, inr, All, Contains, IsPermutation, IsSortedBy}
+use Rattle.std.proofs.Common.{◌≡◌, ◌∙◌, ◌+◌, ◌<◌, ◌≤◌, ◌∷◌, ◌⊎◌, ℕ, zero, suc, List, [], false, refl, sym, ap, subst, arith, length, get_or, set, map, inl, inr, All, Contains, IsPermutation, IsSortedBy}
 use Rattle.std.specs.List.{AllByRecursion, IsDistinct}
 use Rattle.std.specs.Ordering.{is_lt, ordering_reverse}
 use Rattle.std.specs.declared.cmp.Ordering.{Ordering}
 use Rattle.std.specs.declared.cmp.Ordering.TheVariants.{Less, Equal, Greater}
 use Rattle.std.proofs.lemmas.Bool.{cases_Bool, cases_lt, true≢false}
-use Rattle.std.specs.Cmp.{IsTotalOrder}
 use Rattle.std.proofs.lemmas.List.{ext_get_or, length-map, get_or-map, get_or-set_same, get_or-set_other, get_or_default}
 use Rattle.std.proofs.lemmas.List.Kept.{AllPairs-cons}
 use Rattle.std.proofs.lemmas.List.MinMax.{ranks_by}
@@ -18,11 +17,12 @@ use Rattle.dx_model.proofs.Orders.{value_total, value_exact}
 use Rattle.dx_ports.specs.Members.{Each, ◌∈◌}
 use Rattle.dx_ports.proofs.Members.{contains_from_in, in_from_contains}
 use Rattle.dx_instance.specs.Numbers.{AreApart, ValuesAscend, IsOrdering, value_of}
-use Rattle.dx_instance.specs.Keys.{AreSorted, IsSmallValue, ValuesAreKeyed, places_of, value_key}
+use Rattle.dx_instance.specs.Keys.{AreSeconds, AreSorted, IsSmallValue, ValuesAreKeyed, places_of, value_key}
 use Rattle.dx_instance.specs.Ranks.{AreRanked}
 use Rattle.dx_instance.proofs.Equal.{value_eq, value_eq-Decides}
 use Rattle.dx_instance.proofs.NumberFacts.{value_same, self_equal}
-use Rattle.dx_instance.proofs.KeyFacts.{IsKeyOf, by_key, by_key_total, keys_sorted, rises}
+use Rattle.dx_instance.proofs.KeyFacts.{IsKeyOf, keys_sorted, rises}
+use Rattle.dx_instance.proofs.TieFacts.{number_ties_lt, ties_sorted}
 
 pub number_read : (ps : List (ℕ × ℕ)) (i : ℕ) (d : ℕ × ℕ) → i < length ps → (get_or ps i d).1 ≡ get_or (places_of ps) i 0
 number_read ps i d h = sym (get_or-map (λ (p : ℕ × ℕ). p.1) ps i d 0 h)
@@ -90,16 +90,10 @@ ascend_apart xs up i j d h k e =
     cc (rw e at l, s)
 
 value_rises : (x y : Value) → IsSmallValue x → IsSmallValue y → value_cmp x y ≡ Less → value_key x ≤ value_key y
-value_rises (Const t) (Const u) a b h = rises 256 16 0 t u a.0 h
+value_rises (Const t) (Const u) a b h = rises 256 8 0 t u a.0 h
 value_rises (Const t) (Null n) a b h = omega (arith, a.1)
 value_rises (Null m) (Const u) a b h = absurd (cc h)
 value_rises (Null m) (Null n) a b h = omega arith
-
-abbrev pub number_key_lt : List Value → Value → (ℕ × ℕ) → (ℕ × ℕ) → Bool
-number_key_lt S blank a b = is_lt (by_key value_cmp (λ n. get_or S n blank) a b)
-
-pub number_key_total : (S : List Value) (blank : Value) → IsTotalOrder (by_key value_cmp (λ n. get_or S n blank))
-number_key_total S blank = by_key_total value_cmp value_total value_exact (λ n. get_or S n blank) value_key IsSmallValue value_rises
 
 less_value : (x y : Value) → is_lt (value_cmp y x) ≡ false → ¬ (x ≡ y) → value_cmp x y ≡ Less
 less_value x y f n = by (value_cmp x y) refl
@@ -110,8 +104,9 @@ less_value x y f n = by (value_cmp x y) refl
     by Greater e = let t = value_total.antisymm y x ∙ ap ordering_reverse e in absurd (true≢false (rw t at f))
 
 -- what a sort of the keyed numbers comes to
-pub sorted_numbers : (S : List Value) (blank : Value) (ks qs : List (ℕ × ℕ)) → AreApart S → ValuesAreKeyed S ks (length S) → IsPermutation ks qs → IsSortedBy (number_key_lt S blank) qs → AreSorted S (places_of qs)
-sorted_numbers S blank ks qs a keyed p s = record { many = many; within = λ k h. small k 0 h; all = all; ascend = ascend }
+pub sorted_numbers : (S : List Value) (seconds : List ℕ) (blank : Value) (ks qs : List (ℕ × ℕ)) → AreApart S → ValuesAreKeyed S ks (length S) → AreSeconds S seconds (length S) → IsPermutation ks qs
+    → IsSortedBy (number_ties_lt S seconds blank) qs → AreSorted S (places_of qs)
+sorted_numbers S seconds blank ks qs a keyed second p s = record { many = many; within = λ k h. small k 0 h; all = all; ascend = ascend }
   where
     at : ℕ → Value
     at n = get_or S n blank
@@ -152,8 +147,17 @@ sorted_numbers S blank ks qs a keyed p s = record { many = many; within = λ k h
         let v : at (get_or ks k d).1 ≡ value_of S k = ap at place ∙ get_or_default S k blank (Const []) b in
         record { key_is = ap (λ (q : ℕ × ℕ). q.0) same ∙ one.key_is ∙ ap value_key (sym v); small = subst IsSmallValue (sym v) one.small }
 
+    each_moved : All (IsKeyOf at value_key IsSmallValue) qs
+    each_moved = All-permutation (IsKeyOf at value_key IsSmallValue) ks qs p each
+
+    below : All (λ (k : ℕ × ℕ). k.1 < length S) qs
+    below k d h =
+        let n = number_read qs k d h in
+        let b = small k 0 (omega (arith, h, length-map qs (λ (q : ℕ × ℕ). q.1))) in
+        omega (arith, n, b)
+
     up : IsSortedBy (λ x y. is_lt (value_cmp (at x) (at y))) (places_of qs)
-    up = keys_sorted value_cmp value_total value_exact at value_key IsSmallValue value_rises qs (All-permutation (IsKeyOf at value_key IsSmallValue) ks qs p each) s
+    up = keys_sorted value_cmp value_total value_exact at value_key IsSmallValue value_rises qs each_moved (ties_sorted S seconds blank qs second below each_moved s)
 
     whole : map (value_of S) (places_of ks) ≡ S
     whole = ext_get_or (Const []) (map (value_of S) (places_of ks)) S (length-map (places_of ks) (value_of S) ∙ first_many)

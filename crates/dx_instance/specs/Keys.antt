@@ -1,7 +1,10 @@
 -- Numbers that compare as the first items of a list: lists are sorted by these first.
-use Rattle.std.specs.Prelude.{◌≡◌, ℕ, zero, suc, ◌+◌, ◌-◌, ◌*◌, ◌^◌, ◌<◌, ◌≤◌, List, [], ◌∷◌, length, map, slice_index, slice_index_or}
+use Rattle.std.specs.Prelude.{◌≡◌, ℕ, zero, suc, ◌+◌, ◌-◌, ◌*◌, ◌^◌, ◌<◌, ◌≤◌, List, [], ◌∷◌, drop, length, map, slice_index, slice_index_or}
+use Rattle.std.specs.Ordering.{nat_cmp, ordering_then}
+use Rattle.std.specs.declared.cmp.Ordering.{Ordering}
 use Rattle.dx_model.specs.declared.values.Value.{Value}
 use Rattle.dx_model.specs.declared.values.Value.TheVariants.{Const, Null}
+use Rattle.dx_model.specs.Values.{value_cmp}
 use Rattle.dx_ports.specs.Members.{◌∈◌}
 use Rattle.dx_instance.specs.Cells.{numbers_at}
 use Rattle.dx_instance.specs.Numbers.{ValuesAscend, value_of}
@@ -25,14 +28,37 @@ pub record HasRoom (b n : ℕ) : Type 0 where
   pub some : 0 < b
   pub fits : b ^ n ≤ 2 ^ 64
 
--- the first sixteen bytes of a constant in one; nulls come last
+-- the first eight bytes of a constant in one; nulls come last
 abbrev pub value_key : Value → ℕ
-value_key (Const t) = packed 256 16 0 t
-value_key (Null n) = 2 ^ 128 - 1
+value_key (Const t) = packed 256 8 0 t
+value_key (Null n) = 2 ^ 64 - 1
 
 abbrev pub IsSmallValue : Value → Type 0
-IsSmallValue (Const t) = AreSmall 256 16 t × (packed 256 16 0 t < 2 ^ 128)
+IsSmallValue (Const t) = AreSmall 256 8 t × (packed 256 8 0 t < 2 ^ 64)
 IsSmallValue (Null n) = Unit {0}
+
+-- the next eight bytes of a constant in one
+abbrev pub second_key : Value → ℕ
+second_key (Const t) = packed 256 8 0 (drop 8 t)
+second_key (Null n) = 2 ^ 64 - 1
+
+abbrev pub IsSmallSecond : Value → Type 0
+IsSmallSecond (Const t) = AreSmall 256 8 (drop 8 t) × (packed 256 8 0 (drop 8 t) < 2 ^ 64)
+IsSmallSecond (Null n) = Unit {0}
+
+pub record IsSecondOf (v : Value) (k : ℕ) : Type 0 where
+  pub key_is : k ≡ second_key v
+  pub small : IsSmallSecond v
+
+-- the second keys of the first n values
+pub record AreSeconds (symbols : List Value) (seconds : List ℕ) (n : ℕ) : Type 0 where
+  pub many : length seconds ≡ n
+  pub all : (k : ℕ) → k < n → IsSecondOf (value_of symbols k) (slice_index seconds k)
+
+-- how the values at two places compare, by their second keys first
+abbrev pub tie_cmp : List Value → List ℕ → Value → ℕ → ℕ → Ordering
+tie_cmp symbols seconds blank m n =
+    ordering_then (nat_cmp (slice_index seconds m) (slice_index seconds n)) (value_cmp (slice_index_or symbols m blank) (slice_index_or symbols n blank))
 
 -- the key of the item at a place, and the place
 pub record IsKeyed {X : Type 0} (at : ℕ → X) (key : X → ℕ) (Small : X → Type 0) (p : ℕ) (k : ℕ × ℕ) : Type 0 where

@@ -32,7 +32,7 @@ pub(crate) fn hint_of(key: u64, value: &Value) -> u64
 /// `AllocError` if there is no memory.
 pub(crate) fn hints_of(
     alloc: Global,
-    keys: &[(u128, u32)],
+    keys: &[(u64, u32)],
     values: &[Value],
 ) -> Result<Vec<u64>, AllocError>
     requires { length values.now ≡ length keys.now }
@@ -40,7 +40,7 @@ pub(crate) fn hints_of(
 {
     let mut hints = Vec::with_capacity(alloc, keys.len())?;
     for (key, value) in keys.iter().zip(values) {
-        hints.push(hint_of((key.0 >> 64) as u64, value))?;
+        hints.push(hint_of(key.0, value))?;
     }
     Ok(hints)
 }

@@ -1,7 +1,7 @@
 // Values put in order, their texts in one buffer.
 ghost use Rattle.std.specs.Prelude.{◌≡◌, ◌≤◌, ◌+◌, ◌<◌, ◌^◌, ℕ, IfOk, OnOk, length, map, slice_index, slice_index_or, string_bytes, take, drop, ◌++◌};
 ghost use Rattle.dx_ports.specs.Members.{Each};
-ghost use Rattle.dx_instance.specs.Keys.{AreSmall, AreSorted, IsSmallValue, ValuesAreKeyed, packed, places_of, value_key};
+ghost use Rattle.dx_instance.specs.Keys.{AreSeconds, AreSmall, AreSorted, IsSmallSecond, IsSmallValue, ValuesAreKeyed, packed, places_of, second_key, tie_cmp, value_key};
 ghost use Rattle.dx_instance.specs.Numbers.{AreApart, IsOrdering, value_of};
 ghost use Rattle.dx_instance.specs.Ranks.{AreRanked, joined_texts, text_of};
 
@@ -12,9 +12,6 @@ use dx_ports::Text;
 use std::alloc::{AllocError, Global};
 use std::cmp::Ordering;
 use std::rc::Rc;
-
-// What the first eight bytes of sixteen count for.
-const TWO_TO_64: u128 = 18_446_744_073_709_551_616;
 
 /// Values in order, and the place of each number that they had before.
 #[derive(Drop)]
@@ -42,46 +39,54 @@ fn first_bytes(text: &[u8]) -> u64
     key
 }
 
-// The bytes of a text after its first eight.
-fn later_bytes(text: &[u8]) -> &[u8]
-    ensures { result.now ≡ drop 8 text.now }
-{
-    if text.len() > 8 { &text[8..] } else { &[] }
-}
-
-// A number that compares as the first sixteen bytes of a text.
-fn first_sixteen(text: &[u8]) -> u128
-    ensures key { result ≡ packed 256 16 0 text.now }
-    ensures small { AreSmall 256 16 text.now }
-{
-    let first = first_bytes(text);
-    let second = first_bytes(later_bytes(text));
-    first as u128 * TWO_TO_64 + second as u128
-}
-
-// A number that compares as the first sixteen bytes of a value's text. Nulls come last.
-fn key_of(value: &Value) -> u128
+/// A number that compares as the first eight bytes of a value's text. Nulls come last.
+pub(crate) fn key_of(value: &Value) -> u64
     ensures key { result ≡ value_key value.now }
     ensures small { IsSmallValue value.now }
 {
     match value {
-        Value::Const(text) => first_sixteen(text.bytes()),
-        Value::Null(_) => u128::MAX,
+        Value::Const(text) => first_bytes(text.bytes()),
+        Value::Null(_) => u64::MAX,
     }
 }
 
-/// A number that compares as the first eight bytes of a value's text.
-pub(crate) fn short_key_of(value: &Value) -> u64
-    ensures { result ≡ packed 256 8 0 (text_of value.now) }
+// A number that compares as the bytes of a text from the ninth to the sixteenth.
+fn second_bytes(text: &[u8]) -> u64
+    ensures key { result ≡ packed 256 8 0 (drop 8 text.now) }
+    ensures small { AreSmall 256 8 (drop 8 text.now) }
+{
+    if text.len() > 8 {
+        first_bytes(&text[8..])
+    } else {
+        0
+    }
+}
+
+// A second number for the values of one key: it compares as the next eight bytes of their texts.
+fn second_key_of(value: &Value) -> u64
+    ensures key { result ≡ second_key value.now }
+    ensures small { IsSmallSecond value.now }
 {
     match value {
-        Value::Const(text) => first_bytes(text.bytes()),
-        Value::Null(_) => 0,
+        Value::Const(text) => second_bytes(text.bytes()),
+        Value::Null(_) => u64::MAX,
     }
+}
+
+// The second key of each number.
+fn second_keys(alloc: Global, symbols: &Symbols) -> Result<Vec<u64>, AllocError>
+    ensures { IfOk result (λ seconds. AreSeconds symbols.now seconds.items (length symbols.now)) }
+{
+    let count = symbols.len();
+    let mut seconds = Vec::with_capacity(alloc, count as usize)?;
+    for number in 0..count {
+        seconds.push(second_key_of(symbols.value(number)))?;
+    }
+    Ok(seconds)
 }
 
 // Each number, with a key that compares as the first bytes of its value.
-fn keyed_numbers(alloc: Global, symbols: &Symbols) -> Result<Vec<(u128, u32)>, AllocError>
+fn keyed_numbers(alloc: Global, symbols: &Symbols) -> Result<Vec<(u64, u32)>, AllocError>
     ensures keyed { IfOk result (λ keys. ValuesAreKeyed symbols.now keys.items (length symbols.now)) }
     ensures apart { AreApart symbols.now }
     ensures few { length symbols.now < 2 ^ 32 }
@@ -105,8 +110,30 @@ fn value_or<'a>(symbols: &'a Symbols, number: u32, blank: &'a Value) -> &'a Valu
     }
 }
 
+// The second key of a number, and 0 if there is none.
+fn second_or_zero(seconds: &[u64], number: u32) -> u64
+    ensures { result ≡ slice_index seconds.now number }
+{
+    let place = number as usize;
+    if place < seconds.len() {
+        seconds[place]
+    } else {
+        0
+    }
+}
+
+// How the values under two numbers compare, by their second keys first.
+fn compare_ties(symbols: &Symbols, seconds: &[u64], blank: &Value, a: u32, b: u32) -> Ordering
+    ensures { result ≡ tie_cmp symbols.now seconds.now blank.now a b }
+{
+    match second_or_zero(seconds, a).cmp(&second_or_zero(seconds, b)) {
+        Ordering::Equal => value_or(symbols, a, blank).order(value_or(symbols, b, blank)),
+        other => other,
+    }
+}
+
 // The numbers in the order of their values, with their keys.
-fn numbers_in_order(alloc: Global, symbols: &Symbols) -> Result<Vec<(u128, u32)>, AllocError>
+fn numbers_in_order(alloc: Global, symbols: &Symbols) -> Result<Vec<(u64, u32)>, AllocError>
     ensures sorted { IfOk result (λ keys. AreSorted symbols.now (places_of keys.items)) }
     ensures few { length symbols.now < 2 ^ 32 }
 {
@@ -116,15 +143,16 @@ fn numbers_in_order(alloc: Global, symbols: &Symbols) -> Result<Vec<(u128, u32)>
         row: 0,
     });
     let mut keys = keyed_numbers(alloc, symbols)?;
+    let seconds = second_keys(alloc, symbols)?;
     keys.sort_unstable_by(|a, b| match a.0.cmp(&b.0) {
-        Ordering::Equal => value_or(symbols, a.1, &blank).order(value_or(symbols, b.1, &blank)),
+        Ordering::Equal => compare_ties(symbols, &seconds, &blank, a.1, b.1),
         other => other,
     });
     Ok(keys)
 }
 
 // The place of each number.
-fn ranks_of(alloc: Global, keys: &[(u128, u32)]) -> Result<Vec<u32>, AllocError>
+fn ranks_of(alloc: Global, keys: &[(u64, u32)]) -> Result<Vec<u32>, AllocError>
     requires few { length keys.now < 2 ^ 32 }
     requires within { (k : ℕ) → k < length keys.now → slice_index (places_of keys.now) k < length keys.now }
     ensures many { IfOk result (λ ranks. length ranks.items ≡ length keys.now) }
@@ -151,7 +179,7 @@ fn push_text(buffer: &mut String, value: &Value) -> Result<(), AllocError>
 fn texts_in_order(
     alloc: Global,
     symbols: &Symbols,
-    keys: &[(u128, u32)],
+    keys: &[(u64, u32)],
 ) -> Result<String, AllocError>
     requires { Each (places_of keys.now) (λ n. n < length symbols.now) }
     ensures { IfOk result (λ buffer. string_bytes buffer ≡ joined_texts (map (value_of symbols.now) (places_of keys.now))) }
@@ -193,7 +221,7 @@ fn value_in(buffer: &Rc<String>, start: usize, value: &Value) -> Result<Value, A
 fn values_in(
     alloc: Global,
     symbols: &Symbols,
-    keys: &[(u128, u32)],
+    keys: &[(u64, u32)],
     buffer: &Rc<String>,
 ) -> Result<Vec<Value>, AllocError>
     requires below { Each (places_of keys.now) (λ n. n < length symbols.now) }
@@ -215,7 +243,7 @@ fn values_in(
 fn copies_in_order(
     alloc: Global,
     symbols: &Symbols,
-    keys: &[(u128, u32)],
+    keys: &[(u64, u32)],
 ) -> Result<Vec<Value>, AllocError>
     requires { Each (places_of keys.now) (λ n. n < length symbols.now) }
     ensures { IfOk result (λ values. values.items ≡ map (value_of symbols.now) (places_of keys.now)) }
@@ -232,7 +260,7 @@ fn copies_in_order(
 fn values_in_order(
     alloc: Global,
     symbols: &Symbols,
-    keys: &[(u128, u32)],
+    keys: &[(u64, u32)],
 ) -> Result<Vec<Value>, AllocError>
     requires { Each (places_of keys.now) (λ n. n < length symbols.now) }
     ensures { IfOk result (λ values. values.items ≡ map (value_of symbols.now) (places_of keys.now)) }

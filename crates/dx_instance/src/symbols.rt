@@ -7,7 +7,7 @@ ghost use Rattle.dx_ports.specs.Members.{Each, ◌∈◌};
 ghost use Rattle.dx_instance.specs.Numbers.{AreApart, Extends, IsNumberOf, IsOrdering, ValuesAscend, value_of};
 
 use crate::hints::hint_of;
-use crate::ordering::{Ordered, in_order, short_key_of};
+use crate::ordering::{Ordered, in_order, key_of};
 use dx_model::{Value, copy_value};
 use indexmap::IndexSet;
 use std::alloc::{AllocError, Global};
@@ -98,7 +98,7 @@ impl Symbols {
         if self.hints.is_empty() {
             return None;
         }
-        let hint = hint_of(short_key_of(value), value);
+        let hint = hint_of(key_of(value), value);
         let Ok(number) = self.hints.as_slice().binary_search(&hint) else {
             return None;
         };
