@@ -1,4 +1,4 @@
-use Rattle.std.proofs.Common.{◌≡◌, ◌≤◌, ◌<◌, ◌∙◌, [], ap, List, length, sym, subst, arith, take_all}
+use Rattle.std.proofs.Common.{◌≡◌, ◌≤◌, ◌<◌, ◌∙◌, [], ap, List, length, subst, arith, take_all}
 use Rattle.std.proofs.lemmas.List.{length-map}
 use Rattle.dx_model.specs.declared.values.Value.{Value}
 use Rattle.dx_instance.specs.Shown.{numbers_of_table, shown_row}
