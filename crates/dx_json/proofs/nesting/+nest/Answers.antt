@@ -157,5 +157,5 @@ write_source-returns-in-Inner t c =
     let within : at < length ts = omega (arith, fits.0, level_long ts, ap level_length c.items.ensures) in
     let there : tree_in sets at ≡ s = ap (λ f. tree_in f at) (sym c.items.ensures) ∙ tree_there ts at s within ∙ sym c.index-items-at.is in
     let same : array (objects_below I s c.in-Inner.below c.cell-id.result.now) ≡ source_data I sets row c.args.source.now =
-        ap (λ id. array (objects_below I s c.in-Inner.below id)) c.cell-id.ensures ∙ ap (λ t. array (objects_below I t c.in-Inner.below (cell row 0))) (sym there) ∙ sym (ap (source_data I sets row) c.in-Inner.is) in
+    ap (λ id. array (objects_below I s c.in-Inner.below id)) c.cell-id.ensures ∙ ap (λ t. array (objects_below I t c.in-Inner.below (cell row 0))) (sym there) ∙ sym (ap (source_data I sets row) c.in-Inner.is) in
     subst (λ d. OnOk c.write_objects.result (WroteValue c.args.out.now c.write_objects.new.out d)) same c.write_objects.ensures
