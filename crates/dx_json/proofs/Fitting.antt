@@ -1,5 +1,5 @@
 -- The sets below a root, and that what is said of it fits their tables.
-use Rattle.std.proofs.Common.{◌≡◌, ℕ, suc, ◌+◌, ◌<◌, List, [], ◌∷◌, ◌++◌, Option, Some, None, Bool, true, false, length, map, get_or, refl, sym, ap, ◌∙◌, subst, arith, inl, inr}
+use Rattle.std.proofs.Common.{◌≡◌, ℕ, zero, suc, ◌+◌, ◌-◌, ◌<◌, ◌≤◌, List, [], ◌∷◌, ◌++◌, Option, Some, None, Bool, true, false, length, map, get_or, refl, sym, ap, ◌∙◌, subst, arith, inl, inr}
 use Rattle.std.specs.Prelude.{⊤, if◌then◌else◌}
 use Rattle.std.specs.Fmt.{decimal}
 use Rattle.std.proofs.lemmas.List.{get_or-map, length-map}
@@ -19,7 +19,8 @@ use Rattle.dx_json.specs.declared.place.Place.{Place}
 use Rattle.dx_json.specs.Said.{Said, says, wrong_shape, wrong_number, unknown_member, Reading, constant, no_integer, no_constant, below, column_faults, constants, id_of, is_known, items_say, item_says, member_says, object_says, reading_faults, row_of, sets_say, unknown_members, up_cell}
 use Rattle.dx_json.specs.Documents.{document_says, tree_says}
 use Rattle.dx_json.specs.Laws.{FactsFit}
-use Rattle.dx_json.specs.Nesting.{up_column}
+use Rattle.dx_json.specs.Nesting.{own_from}
+use Rattle.dx_json.specs.Orders.{HasColumns}
 use Rattle.dx_json.specs.Standing.{Stand}
 
 -- ---- the sets of a schema
@@ -71,16 +72,31 @@ stored_width I f s e m =
     let theirs : get_or (schema_widths f) s.number 0 ≡ length (table_at f s.number).columns = get_or-map (λ (t : TableOf). length t.columns) (tables_of f) s.number _ 0 t.0 in
     (lt, sym mine ∙ ap (λ ws. get_or ws s.number 0) e ∙ theirs ∙ ap (λ (t : TableOf). length t.columns) t.1)
 
-up_within : (l : Label) (n p : ℕ) (i : Forest) → up_column i < length (columns_of (record { label = l; number = n; parent = Some p; inner = i }))
-up_within l n p none = omega arith
-up_within l n p (set m i r) = omega arith
+inner_long : (l : Label) (n p : ℕ) (i : Forest) → own_from i true + length l.columns ≡ length (columns_of (record { label = l; number = n; parent = Some p; inner = i }))
+inner_long l n p none = omega arith
+inner_long l n p (set m i r) = omega arith
 
 stand : (I : List TableRows) (f : Forest) (p n : ℕ) (g : Forest) → widths I ≡ schema_widths f → Within f (Some p) n g → Stand I n g
 stand I f p n none e w = tt
 stand I f p n (set l i r) e w =
     let h = stored_width I f (record { label = l; number = n; parent = Some p; inner = i }) e (w _ (here refl)) in
-    let u = up_within l n p i in
+    let u = inner_long l n p i in
     (h.0, omega (arith, h.1, u), stand I f n (suc n) i e (within_set f (Some p) n l i r w), stand I f p (suc (n + count i)) r e (within_rest f (Some p) n l i r w))
+
+own_within : (l : Label) (n : ℕ) (parent : Option ℕ) (i : Forest) → own_from i false + length l.columns ≤ length (columns_of (record { label = l; number = n; parent = parent; inner = i }))
+own_within l n None none = omega arith
+own_within l n None (set m i r) = omega arith
+own_within l n (Some p) none = omega arith
+own_within l n (Some p) (set m i r) = omega arith
+
+-- a root's table has its columns
+pub root_columns : (I J : List TableRows) (f : Forest) (t : ℕ) (tree : Tree) → widths I ≡ schema_widths f → t < length (tables_of f) → tree ≡ tree_at f t → J ≡ I → HasColumns J t tree
+root_columns I J f t tree e lt is j =
+    let s = set_at f t in
+    let wide = stored_width I f s e (set_in f t lt) in
+    let number = set_number f t lt in
+    let own = own_within s.label s.number s.parent s.inner in
+    rw (j, is) (omega (arith, own, wide.1, ap (λ k. (stored_at I k).width) number))
 
 -- the tables of a root's inner sets are there
 pub sets_stand : (I J : List TableRows) (f : Forest) (t next : ℕ) (tree : Tree) (inner : Forest) → widths I ≡ schema_widths f → t < length (tables_of f) → tree ≡ tree_at f t → J ≡ I → inner ≡ tree.inner → next ≡ suc t

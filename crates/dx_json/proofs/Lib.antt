@@ -8,3 +8,5 @@ pub mod OneReading
 pub mod Fitting
 pub mod Nested
 pub mod OneText
+pub mod Ordered
+pub mod Tokens

@@ -7,3 +7,6 @@ pub mod Documents
 pub mod Nesting
 pub mod Laws
 pub mod Standing
+pub mod Orders
+pub mod Wrote
+pub mod Reads

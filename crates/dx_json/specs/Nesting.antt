@@ -44,6 +44,10 @@ with_sets I (set l inner rest) table id ms =
     with_sets I rest (suc (table + count inner)) id
     (put l.name (array (objects (object_of l inner (with_sets I inner (suc table)) true) (rows_below I table inner id))) ms)
 
+-- the objects of the rows of an inner set's table that are below this `#id`
+abbrev pub objects_below : List TableRows → Tree → ℕ → Value → Items
+objects_below I t table id = objects (object_of t.label t.inner (with_sets I t.inner (suc table)) true) (rows_below I table t.inner id)
+
 -- an object for each row of a root, whose table has this number
 abbrev pub root_objects : List TableRows → Tree → ℕ → Items
 root_objects I t root = objects (object_of t.label t.inner (with_sets I t.inner (suc root)) false) (rows_of I root)

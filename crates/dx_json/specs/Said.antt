@@ -1,12 +1,12 @@
 -- What a document says of a set: facts, and faults, in the order in which they are met.
-use Rattle.std.specs.Prelude.{ℕ, suc, ◌+◌, List, [], ◌∷◌, ◌++◌, codes, Option, Some, None, Bool, true, false, ◌||◌, if◌then◌else◌}
+use Rattle.std.specs.Prelude.{◌≡◌, ℕ, suc, map, ◌+◌, List, [], ◌∷◌, ◌++◌, codes, Option, Some, None, Bool, true, false, ◌||◌, if◌then◌else◌}
 use Rattle.std.specs.Fmt.{decimal, signed_decimal}
 use Rattle.serde_json.specs.Data.{Num, unsigned, negative, float, Data, null, boolean, number, string, array, object, Items, no_items, item, Members, no_members, member}
 use Rattle.serde_json.specs.Find.{get_member}
 use Rattle.dx_model.specs.declared.values.Value.{Value}
 use Rattle.dx_model.specs.declared.values.Value.TheVariants.{Const}
 use Rattle.dx_model.specs.declared.facts.Fact.{Fact}
-use Rattle.dx_schema.specs.Forest.{Label, Forest, none, set}
+use Rattle.dx_schema.specs.Forest.{Label, Forest, Tree, none, set}
 use Rattle.dx_schema.specs.Faults.{is_among, names_in}
 use Rattle.dx_schema.specs.Tables.{Text, count, where_has_inner}
 use Rattle.dx_json.specs.declared.place.Place.{Place}
@@ -74,6 +74,14 @@ abbrev pub constants : List Text → Members → List Value
 constants [] ms = []
 constants (c ∷ cs) ms = Const (text_of (reading_of (get_member c ms))) ∷ constants cs ms
 
+-- what an object's member of a column's name says
+abbrev pub column_reading : Text → Members → Reading
+column_reading column ms = reading_of (get_member column ms)
+
+-- a reading at this path has no fault, and is this constant
+abbrev pub IsConstant : Text → Reading → Text → Type 0
+IsConstant path reading text = (reading_faults path reading ≡ []) × (text ≡ text_of reading)
+
 -- ---- members that the schema doesn't have
 
 -- a member is a column or an inner set
@@ -99,6 +107,10 @@ up_cell (Some up) = Const up ∷ []
 -- the row of an object: its `#id` if there are inner sets, `#up` below an object, then its columns
 abbrev pub row_of : Label → Forest → Option Text → Text → Members → List Value
 row_of l inner up id ms = where_has_inner inner (Const id) ++ (up_cell up ++ constants l.columns ms)
+
+-- an object's columns at this path have no fault, and these are the constants of its row
+abbrev pub IsRow : Text → Tree → Option Text → Text → Members → List Text → Type 0
+IsRow path t up id ms texts = (column_faults path t.label.columns ms ≡ []) × (map Const texts ≡ row_of t.label t.inner up id ms)
 
 -- what the k-th object of a list says: its unknown members, the faults of its columns, its row, and what its inner sets say
 abbrev pub object_says : Label → Forest → (Place → Members → List Said) → Place → ℕ → Members → List Said
@@ -140,3 +152,25 @@ sets_say none at ms = []
 sets_say (set l inner rest) at ms =
     member_says l inner (sets_say inner) (record { table = at.table; up = at.up; path = below at.path l.name }) (get_member l.name ms) ++
     sets_say rest (record { table = suc (at.table + count inner); up = at.up; path = at.path }) ms
+
+-- ---- the same of a set with its inner sets
+
+-- its objects, as the items of an array from the k-th on
+abbrev pub items_said : Tree → Place → ℕ → Items → List Said
+items_said t at k ds = items_say t.label t.inner (sets_say t.inner) at k ds
+
+-- the k-th item of an array
+abbrev pub item_said : Tree → Place → ℕ → Data → List Said
+item_said t at k d = item_says t.label t.inner (sets_say t.inner) at k d
+
+-- the k-th object of a list
+abbrev pub object_said : Tree → Place → ℕ → Members → List Said
+object_said t at k ms = object_says t.label t.inner (sets_say t.inner) at k ms
+
+-- its member
+abbrev pub member_said : Tree → Place → Option Data → List Said
+member_said t at o = member_says t.label t.inner (sets_say t.inner) at o
+
+-- the facts that come to these are what is said
+abbrev pub Adds : List Fact → List Fact → List Said → Type 0
+Adds old new said = map says new ≡ map says old ++ said

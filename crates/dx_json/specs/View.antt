@@ -1,5 +1,5 @@
 -- The data that a tree stands for.
-use Rattle.std.specs.Prelude.{ℕ, List, [], ◌∷◌, map}
+use Rattle.std.specs.Prelude.{ℕ, List, [], ◌∷◌, map, Option, option_map}
 use Rattle.std.specs.Borrow.{Bor}
 use Rattle.serde_json.specs.Data.{Data, null, boolean, number, string, array, object, Items, Members, no_members, member}
 use Rattle.serde_json.specs.View.{items_of, number_view}
@@ -21,6 +21,10 @@ view_step (Json-F.Object v) = object (members_of v.items)
 
 abbrev pub view : Json → Data
 view = fold-Json Data view_step
+
+-- the data of a value that is lent, if there is one
+abbrev pub lent_view : Option (Bor Json) → Option Data
+lent_view o = option_map (λ v. view v.now) o
 
 abbrev pub items_view : List Json → Items
 items_view vs = items_of (map view vs)

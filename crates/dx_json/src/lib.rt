@@ -15,6 +15,7 @@ mod laws;
 mod members;
 mod nesting;
 mod numbers;
+mod orders;
 mod place;
 mod reading;
 mod shredding;

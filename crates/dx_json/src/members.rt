@@ -1,10 +1,9 @@
 // The members of one object.
-ghost use Rattle.std.specs.Prelude.{◌≡◌, ◌<◌, [], List, IfOk, IfErr, OnOk, Some, map, option_map};
-ghost use Rattle.dx_model.specs.declared.values.Value.TheVariants.{Const};
+ghost use Rattle.std.specs.Prelude.{◌≡◌, ◌<◌, [], List, IfOk, IfErr, OnOk};
 ghost use Rattle.serde_json.specs.Find.{get_member};
-ghost use Rattle.dx_json.specs.View.{view, members_view};
+ghost use Rattle.dx_json.specs.View.{lent_view, view, members_view};
 ghost use Rattle.dx_json.specs.Documents.{Fails};
-ghost use Rattle.dx_json.specs.Said.{below, column_faults, id_of as id_at, is_known, reading_faults, reading_of, row_of as row_at, text_of, unknown_members};
+ghost use Rattle.dx_json.specs.Said.{IsConstant, IsRow, below, column_faults, column_reading, data_reading, id_of as id_at, is_known, reading_faults, unknown_members};
 
 use crate::fault::{JsonFault, JsonKind};
 use crate::tree::Json;
@@ -14,7 +13,7 @@ use std::alloc::{AllocError, Global};
 
 /// The member of this name.
 pub fn member_of<'v, 'a>(members: &'v [(&'a str, Json<'a>)], name: &str) -> Option<&'v Json<'a>>
-    ensures { option_map (λ v. view v.now) result ≡ get_member name.now (members_view members.now) }
+    ensures { lent_view result ≡ get_member name.now (members_view members.now) }
 {
     for member in members {
         if member.0 == name {
@@ -84,8 +83,8 @@ fn constant_in(
     column: &Text,
     value: &Json<'_>,
 ) -> Result<Text, JsonFault>
-    ensures ok { IfOk result (λ x. (reading_faults (below path.now column.now) (reading_of (Some (view value.now))) ≡ []) × (x ≡ text_of (reading_of (Some (view value.now))))) }
-    ensures fault { IfErr result (Fails (reading_faults (below path.now column.now) (reading_of (Some (view value.now))))) }
+    ensures ok { IfOk result (IsConstant (below path.now column.now) (data_reading (view value.now))) }
+    ensures fault { IfErr result (Fails (reading_faults (below path.now column.now) (data_reading (view value.now)))) }
 {
     match value {
         Json::Null => Ok(Text::from_str(alloc, "")?),
@@ -116,8 +115,8 @@ fn cell_of<'a>(
     column: &Text,
     members: &[(&'a str, Json<'a>)],
 ) -> Result<Text, JsonFault>
-    ensures ok { IfOk result (λ x. (reading_faults (below path.now column.now) (reading_of (get_member column.now (members_view members.now))) ≡ []) × (x ≡ text_of (reading_of (get_member column.now (members_view members.now))))) }
-    ensures fault { IfErr result (Fails (reading_faults (below path.now column.now) (reading_of (get_member column.now (members_view members.now))))) }
+    ensures ok { IfOk result (IsConstant (below path.now column.now) (column_reading column.now (members_view members.now))) }
+    ensures fault { IfErr result (Fails (reading_faults (below path.now column.now) (column_reading column.now (members_view members.now)))) }
 {
     match member_of(members, column.as_str()) {
         None => Ok(Text::from_str(alloc, "")?),
@@ -134,7 +133,7 @@ pub fn row_of<'a>(
     path: &Text,
     members: &[(&'a str, Json<'a>)],
 ) -> Result<Vec<Text>, JsonFault>
-    ensures ok { IfOk result (λ x. (column_faults path.now tree.now.label.columns (members_view members.now) ≡ []) × (map Const x.items ≡ row_at tree.now.label tree.now.inner up.now id.now (members_view members.now))) }
+    ensures ok { IfOk result (λ x. IsRow path.now tree.now up.now id.now (members_view members.now) x.items) }
     ensures fault { IfErr result (Fails (column_faults path.now tree.now.label.columns (members_view members.now))) }
 {
     let mut row = Vec::new(alloc);

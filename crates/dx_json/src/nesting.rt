@@ -1,17 +1,20 @@
 // Rows as a document.
-ghost use Rattle.std.specs.Prelude.{◌≡◌, ◌+◌, ◌<◌, ◌^◌, [], ◌∷◌, ◌++◌, length, nat_lt, suc, drop, string_bytes, true, IfOk, OnOk};
-ghost use Rattle.serde_json.specs.View.{items_view, members_view};
-ghost use Rattle.serde_json.specs.Written.{comma_if};
+ghost use Rattle.std.specs.Prelude.{◌≡◌, ◌+◌, ◌<◌, ◌^◌, [], ◌∷◌, length, suc, string_bytes, IfOk, OnOk};
+ghost use Rattle.serde_json.specs.Data.{array, object, string};
 ghost use Rattle.dx_schema.specs.Tables.{count, schema_widths, tables_of, tree_at};
 ghost use Rattle.dx_instance.specs.Places.{IsFirstWith, row_at};
 ghost use Rattle.dx_instance.specs.Stored.{rows_of, table_at, widths};
-ghost use Rattle.dx_json.specs.Nesting.{IsNestedText, nested_text, object_of as object_at, objects, own_from, root_objects, rows_below, up_column, with_columns, with_sets};
+ghost use Rattle.dx_instance.specs.ValueText.{starts_with_question_mark, value_text_of};
+ghost use Rattle.dx_json.specs.Nesting.{IsNestedText, nested_text, objects_below, root_objects, up_column};
+ghost use Rattle.dx_json.specs.Orders.{Fit, HasColumns, IsReady, IsReadyRoot, SourceFits, all_slots, object_in, slots_of, source_data};
 ghost use Rattle.dx_json.specs.Standing.{Stand};
+ghost use Rattle.dx_json.specs.Wrote.{WroteValue};
 
-use dx_instance::{Instance, Row, Value, value_text};
-use dx_ports::{Items, Text};
+use crate::orders::{Order, Source, root_orders};
+use dx_instance::{Instance, Value, value_text};
+use dx_ports::Text;
 use dx_schema::{Schema, SetTree, Trees};
-use serde_json::{Map, Value as Json};
+use json::Writer;
 use std::alloc::{AllocError, Global};
 use std::slice;
 
@@ -82,67 +85,27 @@ fn index_sets(instance: &mut Instance, sets: &Trees, first: u32) -> Result<(), A
     Ok(())
 }
 
-// Puts the columns with the texts of their values.
-fn put_columns(
-    alloc: Global,
-    columns: &Items<Text>,
-    cells: &[Value],
-    members: &mut Map<String, Json>,
-) -> Result<(), AllocError>
-    ensures { OnOk result (members_view members.new.entries ≡ with_columns columns.now cells.now (members_view members.old.entries)) }
+// Whether the text of a constant begins with `?`.
+fn starts_with_mark(text: &Text) -> bool
+    ensures { result ≡ starts_with_question_mark text.now }
 {
-    for (column, cell) in columns.items().iter().zip(cells) {
-        let text = value_text(alloc, cell)?;
-        let value = Json::String(String::from_str(alloc, text.as_str())?);
-        serde_json::put(members, alloc, column.as_str(), value)?;
+    match text.bytes() {
+        [b'?', ..] => true,
+        _ => false,
     }
-    Ok(())
 }
 
-// The cells of the declared columns.
-fn own_cells<'v>(tree: &SetTree, is_inner: bool, row: &'v Row) -> &'v [Value]
-    ensures { result.now ≡ drop (own_from tree.now.inner is_inner) row.now }
+// Writes the text of a value.
+fn write_value(alloc: Global, value: &Value, out: &mut Writer) -> Result<(), AllocError>
+    ensures { OnOk result (WroteValue out.old out.new (string (value_text_of value.now))) }
 {
-    let mut from = column_up(tree) as usize;
-    if is_inner {
-        from += 1;
+    match value {
+        Value::Const(text) if !starts_with_mark(text) => out.string(text.as_str()),
+        _ => {
+            let text = value_text(alloc, value)?;
+            out.string(text.as_str())
+        }
     }
-    row.items().get(from..).unwrap_or(&[])
-}
-
-// The text of the objects of a root's rows. Each object is gone when the next is made.
-fn text_of_root(
-    alloc: Global,
-    instance: &Instance,
-    tree: &SetTree,
-    root: u32,
-) -> Result<String, AllocError>
-    requires table { root < length instance.now }
-    requires width { 0 < (table_at instance.now root).width }
-    requires stand { Stand instance.now (suc root) tree.now.inner }
-    requires few { count tree.now.inner < 64 }
-    requires room { root + suc (count tree.now.inner) < 2 ^ 32 }
-    ensures { IfOk result (λ text. string_bytes text ≡ nested_text instance.now tree.now root) }
-{
-    let mut text = String::from_str(alloc, "[")?;
-    for place in 0..instance.count(root) {
-        push_comma_after(place, &mut text)?;
-        let members = object_of(alloc, instance, tree, root, place, false)?;
-        let object = Json::Object(members).to_string(alloc)?;
-        text.push_str(object.as_str())?;
-    }
-    text.push_str("]\n")?;
-    Ok(text)
-}
-
-// Puts a comma after so many objects, if there are any.
-fn push_comma_after(objects: u32, text: &mut String) -> Result<(), AllocError>
-    ensures { OnOk result (string_bytes text.new ≡ string_bytes text.old ++ comma_if (nat_lt 0 objects)) }
-{
-    if objects > 0 {
-        text.push_str(",")?;
-    }
-    Ok(())
 }
 
 // The least place from `from` on whose row has this value in the column. In rows that ascend it is most often the first.
@@ -158,81 +121,158 @@ fn next_with(instance: &Instance, table: u32, column: u32, value: &Value, from: 
     instance.with_columns(table, &columns, slice::from_ref(value), from)
 }
 
-// The objects of the rows of an inner set's table that are below this `#id`.
+// Writes the objects of the rows of an inner set's table that are below this `#id`.
 #[cycle(nest)]
-fn objects_below(
+fn write_objects(
     alloc: Global,
     instance: &Instance,
+    orders: &[Order],
     tree: &SetTree,
     table: u32,
     id: &Value,
-) -> Result<Vec<Json>, AllocError>
-    requires table { table < length instance.now }
-    requires column { up_column tree.now.inner < (table_at instance.now table).width }
-    requires stand { Stand instance.now (suc table) tree.now.inner }
-    requires few { count tree.now.inner < 64 }
-    requires room { table + suc (count tree.now.inner) < 2 ^ 32 }
-    ensures { IfOk result (λ v. items_view v.items ≡ objects (object_at tree.now.label tree.now.inner (with_sets instance.now tree.now.inner (suc table)) true) (rows_below instance.now table tree.now.inner id.now)) }
+    out: &mut Writer,
+) -> Result<(), AllocError>
+    requires ready { IsReady instance.now (all_slots orders.now) table tree.now }
+    ensures { OnOk result (WroteValue out.old out.new (array (objects_below instance.now tree.now table id.now))) }
 {
     prove!(table < instance.tables());
+    let order = &orders[table as usize];
     let column = column_up(tree);
-    let mut objects = Vec::new(alloc);
+    out.begin_array()?;
     let mut next = 0;
     while let Some(place) = next_with(instance, table, column, id, next) {
-        let members = object_of(alloc, instance, tree, table, place, true)?;
-        objects.push(Json::Object(members))?;
+        write_object(
+            alloc,
+            instance,
+            orders,
+            &tree.inner,
+            order,
+            table,
+            place,
+            out,
+        )?;
         next = place + 1;
     }
-    Ok(objects)
+    out.end_array()
 }
 
-// The object of a row.
+// Writes the object of a row.
 #[cycle(nest)]
-fn object_of(
+fn write_object(
     alloc: Global,
     instance: &Instance,
-    tree: &SetTree,
+    orders: &[Order],
+    sets: &Trees,
+    order: &Order,
     table: u32,
     place: u32,
-    is_inner: bool,
-) -> Result<Map<String, Json>, AllocError>
+    out: &mut Writer,
+) -> Result<(), AllocError>
     requires table { table < length instance.now }
     requires place { place < length (rows_of instance.now table) }
     requires width { 0 < (table_at instance.now table).width }
-    requires stand { Stand instance.now (suc table) tree.now.inner }
-    requires few { count tree.now.inner < 64 }
-    requires room { table + suc (count tree.now.inner) < 2 ^ 32 }
-    ensures { IfOk result (λ m. members_view m.entries ≡ object_at tree.now.label tree.now.inner (with_sets instance.now tree.now.inner (suc table)) is_inner (row_at instance.now table place)) }
+    requires fit { Fit instance.now (all_slots orders.now) (table_at instance.now table).width sets.now (slots_of order.now.entries) }
+    ensures { OnOk result (WroteValue out.old out.new (object (object_in instance.now sets.now (row_at instance.now table place) order.now))) }
 {
-    let row = instance.row_copy(table, place)?;
-    let mut members = Map::new(alloc);
-    let cells = own_cells(tree, is_inner, &row);
-    put_columns(alloc, &tree.columns, cells, &mut members)?;
-    let id = instance.cell(table, place, 0);
-    put_sets(alloc, instance, &tree.inner, table + 1, id, &mut members)?;
-    Ok(members)
+    out.begin_object()?;
+    for (name, source) in order.iter() {
+        out.key(name.as_str())?;
+        write_source(alloc, instance, orders, sets, source, table, place, out)?;
+    }
+    out.end_object()
 }
 
-// Puts a member for each inner set, of which the first has this table.
+// Writes the value of a member of the object of a row.
 #[cycle(nest)]
-fn put_sets(
+fn write_source(
     alloc: Global,
     instance: &Instance,
+    orders: &[Order],
     sets: &Trees,
-    first: u32,
-    id: &Value,
-    members: &mut Map<String, Json>,
+    source: &Source,
+    table: u32,
+    place: u32,
+    out: &mut Writer,
 ) -> Result<(), AllocError>
-    requires stand { Stand instance.now first sets.now }
-    requires few { count sets.now < 64 }
-    requires room { first + count sets.now < 2 ^ 32 }
-    ensures { OnOk result (members_view members.new.entries ≡ with_sets instance.now sets.now first id.now (members_view members.old.entries)) }
+    requires table { table < length instance.now }
+    requires place { place < length (rows_of instance.now table) }
+    requires width { 0 < (table_at instance.now table).width }
+    requires fits { SourceFits instance.now (all_slots orders.now) (table_at instance.now table).width sets.now source.now }
+    ensures { OnOk result (WroteValue out.old out.new (source_data instance.now sets.now (row_at instance.now table place) source.now)) }
 {
-    let mut table = first;
-    for inner in sets.items() {
-        let objects = objects_below(alloc, instance, inner, table, id)?;
-        serde_json::put(members, alloc, inner.name.as_str(), Json::Array(objects))?;
-        table += 1 + inner.inner.count();
+    match *source {
+        Source::Cell(column) => write_value(alloc, instance.cell(table, place, column), out),
+        Source::Inner(at, below) => {
+            let inner = &sets.items()[at];
+            let id = instance.cell(table, place, 0);
+            write_objects(alloc, instance, orders, inner, below, id, out)
+        }
     }
-    Ok(())
+}
+
+// Writes the objects of a root's rows.
+fn write_root(
+    alloc: Global,
+    instance: &Instance,
+    orders: &[Order],
+    tree: &SetTree,
+    root: u32,
+    out: &mut Writer,
+) -> Result<(), AllocError>
+    requires table { root < length instance.now }
+    requires width { 0 < (table_at instance.now root).width }
+    requires columns { HasColumns instance.now root tree.now }
+    requires ready { IsReadyRoot instance.now (all_slots orders.now) root tree.now }
+    ensures { OnOk result (WroteValue out.old out.new (array (root_objects instance.now tree.now root))) }
+{
+    prove!(root < instance.tables());
+    let order = &orders[root as usize];
+    out.begin_array()?;
+    for place in 0..instance.count(root) {
+        write_object(
+            alloc,
+            instance,
+            orders,
+            &tree.inner,
+            order,
+            root,
+            place,
+            out,
+        )?;
+    }
+    out.end_array()
+}
+
+// The string of bytes that are one.
+fn string_of(bytes: Vec<u8>) -> Result<String, AllocError>
+    ensures { IfOk result (λ text. string_bytes text ≡ bytes.items) }
+{
+    match String::from_utf8(bytes) {
+        Ok(text) => Ok(text),
+        // A writer writes UTF-8, and so does a line feed after it.
+        Err(_) => Err(AllocError),
+    }
+}
+
+// The text of the objects of a root's rows.
+fn text_of_root(
+    alloc: Global,
+    instance: &Instance,
+    tree: &SetTree,
+    root: u32,
+) -> Result<String, AllocError>
+    requires table { root < length instance.now }
+    requires width { 0 < (table_at instance.now root).width }
+    requires columns { HasColumns instance.now root tree.now }
+    requires stand { Stand instance.now (suc root) tree.now.inner }
+    requires few { count tree.now.inner < 64 }
+    requires room { root + suc (count tree.now.inner) < 2 ^ 32 }
+    ensures { IfOk result (λ text. string_bytes text ≡ nested_text instance.now tree.now root) }
+{
+    let orders = root_orders(alloc, instance, tree, root)?;
+    let mut out = Writer::new(Vec::new(alloc));
+    write_root(alloc, instance, &orders, tree, root, &mut out)?;
+    let mut bytes = out.into_inner();
+    bytes.push(b'\n')?;
+    string_of(bytes)
 }

@@ -1,10 +1,8 @@
 // The tree of a document's bytes.
 ghost use Rattle.std.specs.Prelude.{◌≡◌, ◌<◌, ◌≤◌, ◌∷◌, length, None, Some, IfOk, IfErr, OnOk, Err, IsUtf8};
-ghost use Rattle.json.specs.Json.{items, members, value};
 ghost use Rattle.json.specs.Reads.{token_of};
-ghost use Rattle.serde_json.specs.Data.{no_members};
-ghost use Rattle.serde_json.specs.Read.{converted, of_items, of_json, of_members};
 ghost use Rattle.dx_json.specs.Documents.{without_mark};
+ghost use Rattle.dx_json.specs.Reads.{items_read, members_read, value_read};
 ghost use Rattle.dx_json.specs.View.{items_view, members_view, view};
 
 use crate::fault::{JsonFault, JsonKind};
@@ -75,9 +73,9 @@ pub fn text_of(bytes: &[u8]) -> Result<&str, JsonFault>
 /// The next value.
 #[cycle(read)]
 pub fn read<'a>(alloc: Global, reader: &mut Reader<'a>, depth: usize) -> Result<Json<'a>, Unread>
-    ensures ok { IfOk result (λ v. converted of_json (value depth reader.old) ≡ Some (view v, reader.new)) }
+    ensures ok { IfOk result (λ v. value_read depth reader.old ≡ Some (view v, reader.new)) }
     ensures shorter { OnOk result (length reader.new < length reader.old) }
-    ensures refused { result ≡ Err Unread.NotJson → converted of_json (value depth reader.old) ≡ None }
+    ensures refused { result ≡ Err Unread.NotJson → value_read depth reader.old ≡ None }
 {
     let token = reader.next().ok_or(Unread::NotJson)?;
     read_from(alloc, token, reader, depth)
@@ -91,9 +89,9 @@ pub fn read_from<'a>(
     reader: &mut Reader<'a>,
     depth: usize,
 ) -> Result<Json<'a>, Unread>
-    ensures ok { IfOk result (λ v. converted of_json (value depth (token_of token.entry ∷ reader.old)) ≡ Some (view v, reader.new)) }
+    ensures ok { IfOk result (λ v. value_read depth (token_of token.entry ∷ reader.old) ≡ Some (view v, reader.new)) }
     ensures shorter { OnOk result (length reader.new ≤ length reader.old) }
-    ensures refused { result ≡ Err Unread.NotJson → converted of_json (value depth (token_of token.entry ∷ reader.old)) ≡ None }
+    ensures refused { result ≡ Err Unread.NotJson → value_read depth (token_of token.entry ∷ reader.old) ≡ None }
 {
     match token {
         Token::String(text) => Ok(Json::String(text)),
@@ -126,9 +124,9 @@ fn read_items<'a>(
     reader: &mut Reader<'a>,
     depth: usize,
 ) -> Result<Vec<Json<'a>>, Unread>
-    ensures ok { IfOk result (λ v. converted of_items (items (value depth) (length reader.old) reader.old) ≡ Some (items_view v.items, reader.new)) }
+    ensures ok { IfOk result (λ v. items_read depth reader.old ≡ Some (items_view v.items, reader.new)) }
     ensures shorter { OnOk result (length reader.new < length reader.old) }
-    ensures refused { result ≡ Err Unread.NotJson → converted of_items (items (value depth) (length reader.old) reader.old) ≡ None }
+    ensures refused { result ≡ Err Unread.NotJson → items_read depth reader.old ≡ None }
 {
     let mut found = Vec::new(alloc);
     'items: while !reader.take_end_array() {
@@ -145,9 +143,9 @@ fn read_members<'a>(
     reader: &mut Reader<'a>,
     depth: usize,
 ) -> Result<Vec<(&'a str, Json<'a>)>, Unread>
-    ensures ok { IfOk result (λ v. converted (λ ms. of_members ms no_members) (members (value depth) (length reader.old) reader.old) ≡ Some (members_view v.items, reader.new)) }
+    ensures ok { IfOk result (λ v. members_read depth reader.old ≡ Some (members_view v.items, reader.new)) }
     ensures shorter { OnOk result (length reader.new < length reader.old) }
-    ensures refused { result ≡ Err Unread.NotJson → converted (λ ms. of_members ms no_members) (members (value depth) (length reader.old) reader.old) ≡ None }
+    ensures refused { result ≡ Err Unread.NotJson → members_read depth reader.old ≡ None }
 {
     let mut found = BTreeMap::new(alloc);
     'members: while let Some(name) = reader.next_key()? {

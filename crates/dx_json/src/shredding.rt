@@ -1,14 +1,14 @@
 // The facts of a document.
-ghost use Rattle.std.specs.Prelude.{◌≡◌, ◌+◌, ◌<◌, ◌^◌, ◌++◌, List, length, suc, map, option_map, Some, None, IfOk, IfErr, OnOk, Err};
+ghost use Rattle.std.specs.Prelude.{◌≡◌, ◌+◌, ◌<◌, ◌^◌, ◌++◌, List, length, suc, map, Some, None, IfOk, IfErr, OnOk, Err};
 ghost use Rattle.std.specs.Fmt.{decimal};
-ghost use Rattle.json.specs.Json.{items, value};
 ghost use Rattle.serde_json.specs.Data.{Data, Items};
-ghost use Rattle.serde_json.specs.Read.{converted, max_depth, of_items, of_json, read as read_text};
+ghost use Rattle.serde_json.specs.Read.{max_depth, read as read_text};
 ghost use Rattle.dx_model.specs.declared.facts.Fact.{Fact};
 ghost use Rattle.dx_model.specs.Tables.{IsInstance};
 ghost use Rattle.dx_schema.specs.Tables.{count, model_tables, table_at, tables_of};
-ghost use Rattle.dx_json.specs.View.{view, items_view, members_view};
-ghost use Rattle.dx_json.specs.Said.{Said, below, item_says, items_say, member_says, object_says, says, sets_say};
+ghost use Rattle.dx_json.specs.Reads.{items_read, value_read};
+ghost use Rattle.dx_json.specs.View.{view, items_view, lent_view, members_view};
+ghost use Rattle.dx_json.specs.Said.{Adds, Said, below, item_said, items_said, member_said, object_said, says, sets_say};
 ghost use Rattle.dx_json.specs.Documents.{Fails, HasFault, Refuses, SaysFacts, Tells, tree_says};
 
 use crate::facts::{FactList, Facts};
@@ -84,8 +84,8 @@ fn push_document(
 ) -> Result<Option<JsonKind>, Unread>
     requires table { table < 2 ^ 31 }
     requires few { count tree.now.inner < 64 }
-    ensures ok { IfOk result (λ met. (d : Data) × (converted of_json (value max_depth reader.old) ≡ Some (d, reader.new)) × Tells met out.old out.new (tree_says tree.now table d)) }
-    ensures refused { result ≡ Err Unread.NotJson → converted of_json (value max_depth reader.old) ≡ None }
+    ensures ok { IfOk result (λ met. (d : Data) × (value_read max_depth reader.old ≡ Some (d, reader.new)) × Tells met out.old out.new (tree_says tree.now table d)) }
+    ensures refused { result ≡ Err Unread.NotJson → value_read max_depth reader.old ≡ None }
 {
     let at = Place {
         table,
@@ -111,9 +111,9 @@ fn push_array(
 ) -> Result<Option<JsonKind>, Unread>
     requires room { at.now.table + suc (count tree.now.inner) < 2 ^ 32 }
     requires few { count tree.now.inner < 64 }
-    ensures ok { IfOk result (λ met. (ds : Items) × (converted of_items (items (value 126) (length reader.old) reader.old) ≡ Some (ds, reader.new))
-        × Tells met out.old out.new (items_say tree.now.label tree.now.inner (sets_say tree.now.inner) at.now 0 ds)) }
-    ensures refused { result ≡ Err Unread.NotJson → converted of_items (items (value 126) (length reader.old) reader.old) ≡ None }
+    ensures ok { IfOk result (λ met. (ds : Items) × (items_read 126 reader.old ≡ Some (ds, reader.new))
+        × Tells met out.old out.new (items_said tree.now at.now 0 ds)) }
+    ensures refused { result ≡ Err Unread.NotJson → items_read 126 reader.old ≡ None }
 {
     let mut met = None;
     let mut place = 0usize;
@@ -138,7 +138,7 @@ fn push_next(
     requires room { at.now.table + suc (count tree.now.inner) < 2 ^ 32 }
     requires few { count tree.now.inner < 64 }
     ensures { IfOk result (λ now. (old : List Fact) (before : List Said) → Tells met old out.old before
-        → Tells now old out.new (before ++ item_says tree.now.label tree.now.inner (sets_say tree.now.inner) at.now k (view item.now))) }
+        → Tells now old out.new (before ++ item_said tree.now at.now k (view item.now))) }
 {
     if met.is_some() {
         return Ok(met);
@@ -161,8 +161,8 @@ fn push_items(
 ) -> Result<(), JsonFault>
     requires room { at.now.table + suc (count tree.now.inner) < 2 ^ 32 }
     requires few { count tree.now.inner < 64 }
-    ensures ok { OnOk result (map says out.new ≡ map says out.old ++ items_say tree.now.label tree.now.inner (sets_say tree.now.inner) at.now 0 (items_view items.now)) }
-    ensures fault { IfErr result (Fails (items_say tree.now.label tree.now.inner (sets_say tree.now.inner) at.now 0 (items_view items.now))) }
+    ensures ok { OnOk result (Adds out.old out.new (items_said tree.now at.now 0 (items_view items.now))) }
+    ensures fault { IfErr result (Fails (items_said tree.now at.now 0 (items_view items.now))) }
 {
     for (k, item) in items.iter().enumerate() {
         push_item(alloc, tree, at, k, item, out)?;
@@ -182,8 +182,8 @@ fn push_item(
 ) -> Result<(), JsonFault>
     requires room { at.now.table + suc (count tree.now.inner) < 2 ^ 32 }
     requires few { count tree.now.inner < 64 }
-    ensures ok { OnOk result (map says out.new ≡ map says out.old ++ item_says tree.now.label tree.now.inner (sets_say tree.now.inner) at.now k (view item.now)) }
-    ensures fault { IfErr result (Fails (item_says tree.now.label tree.now.inner (sets_say tree.now.inner) at.now k (view item.now))) }
+    ensures ok { OnOk result (Adds out.old out.new (item_said tree.now at.now k (view item.now))) }
+    ensures fault { IfErr result (Fails (item_said tree.now at.now k (view item.now))) }
 {
     let position = k.to_string(alloc)?;
     let path = path_below(alloc, &at.path, position.as_str())?;
@@ -207,8 +207,8 @@ fn push_object<'a>(
     requires room { at.now.table + suc (count tree.now.inner) < 2 ^ 32 }
     requires few { count tree.now.inner < 64 }
     requires path { path ≡ below at.now.path (decimal k) }
-    ensures ok { OnOk result (map says out.new ≡ map says out.old ++ object_says tree.now.label tree.now.inner (sets_say tree.now.inner) at.now k (members_view members.now)) }
-    ensures fault { IfErr result (Fails (object_says tree.now.label tree.now.inner (sets_say tree.now.inner) at.now k (members_view members.now))) }
+    ensures ok { OnOk result (Adds out.old out.new (object_said tree.now at.now k (members_view members.now))) }
+    ensures fault { IfErr result (Fails (object_said tree.now at.now k (members_view members.now))) }
 {
     check_members(alloc, tree, &path, members)?;
     let id = id_of(alloc, &at.up, k)?;
@@ -233,8 +233,8 @@ fn push_member(
 ) -> Result<(), JsonFault>
     requires room { at.now.table + suc (count tree.now.inner) < 2 ^ 32 }
     requires few { count tree.now.inner < 64 }
-    ensures ok { OnOk result (map says out.new ≡ map says out.old ++ member_says tree.now.label tree.now.inner (sets_say tree.now.inner) at.now (option_map (λ v. view v.now) member.entry)) }
-    ensures fault { IfErr result (Fails (member_says tree.now.label tree.now.inner (sets_say tree.now.inner) at.now (option_map (λ v. view v.now) member.entry))) }
+    ensures ok { OnOk result (Adds out.old out.new (member_said tree.now at.now (lent_view member.entry))) }
+    ensures fault { IfErr result (Fails (member_said tree.now at.now (lent_view member.entry))) }
 {
     match member {
         None | Some(Json::Null) => Ok(()),
@@ -254,7 +254,7 @@ fn push_sets<'a>(
 ) -> Result<(), JsonFault>
     requires room { at.now.table + count sets.now < 2 ^ 32 }
     requires few { count sets.now < 64 }
-    ensures ok { OnOk result (map says out.new ≡ map says out.old ++ sets_say sets.now at.now (members_view members.now)) }
+    ensures ok { OnOk result (Adds out.old out.new (sets_say sets.now at.now (members_view members.now))) }
     ensures fault { IfErr result (Fails (sets_say sets.now at.now (members_view members.now))) }
 {
     let mut table = at.table;

@@ -4,7 +4,7 @@ use Rattle.dx_ports.proofs.Members.{in_at}
 use Rattle.dx_schema.specs.Tables.{tree_at}
 use Rattle.dx_instance.specs.Stored.{table_at}
 use Rattle.dx_json.specs.Nesting.{nested_text}
-use Rattle.dx_json.proofs.Fitting.{sets_stand}
+use Rattle.dx_json.proofs.Fitting.{root_columns, sets_stand}
 use Rattle.dx_json.proofs.nesting.nest_sorted.Goals as goal
 
 pub index_sets-requires-clause-stand : goal.index_sets-requires-clause-stand
@@ -18,6 +18,9 @@ text_of_root-requires-clause-width c =
     let within : c.args.root < length I = omega (arith, c.if-prove-2.false, c.tables-2.ensures.number) in
     let wide : 1 ≤ (table_at I c.args.root).width = c.tables-2.ensures.widths (table_at I c.args.root) (in_at I c.args.root _ within) in
     rw c.index_sets.ensures (omega (arith, wide))
+
+pub text_of_root-requires-clause-columns : goal.text_of_root-requires-clause-columns
+text_of_root-requires-clause-columns c = root_columns c.args.instance.now _ c.args.schema.now c.args.root c.tree-tree.result.now c.requires.widths c.requires.root c.tree-tree.ensures.tree c.index_sets.ensures
 
 pub text_of_root-requires-clause-stand : goal.text_of_root-requires-clause-stand
 text_of_root-requires-clause-stand c =
