@@ -86,6 +86,7 @@ impl Texts {
         self.start = end;
         Ok(text)
     }
+
     /// Goes past the next text, of which nothing is made.
     pub(crate) fn skip(&mut self)
         requires { 1 ≤ length self.old }
