@@ -173,8 +173,12 @@ is_stored f said of = record { widths_are = stored_widths (schema_widths f) 0 sa
         let lt : x.table < length (schema_widths f) = omega (arith, of x m, length-map (tables_of f) (λ (t : TableOf). length t.columns)) in
         fact_from_row (stored (schema_widths f) 0 said) x.table x.row (stored_kept (schema_widths f) 0 said x.table lt x.row (subst (λ k. x.row ∈ rows_among said k) e (row_among said x m)))
 
+-- facts of the schema's tables have an instance
+pub some_stored : (f : Forest) (said : List Fact) → AreOf f said → (I : List TableRows) × IsStored f said I
+some_stored f said of = (stored (schema_widths f) 0 said, is_stored f said of)
+
 storing_decided : (f : Forest) → IsDecided Same (IsOf f) (storing f)
-storing_decided f = notions_decided Same (IsOf f) (λ r e. ⊥) (λ r I. IsStored f r.facts I) (λ r d e g x y. absurd x) (λ r I e g x y. y) (λ r g. inl (_, is_stored f r.facts g))
+storing_decided f = notions_decided Same (IsOf f) (λ r e. ⊥) (λ r I. IsStored f r.facts I) (λ r d e g x y. absurd x) (λ r I e g x y. y) (λ r g. inl (some_stored f r.facts g))
 
 -- ---- all roots
 

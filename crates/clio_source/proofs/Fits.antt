@@ -6,7 +6,7 @@ use Rattle.std.proofs.lemmas.List.{get_or-append_right, get_or-map, get_or-take,
 use Rattle.std.proofs.lemmas.Option.{slice_get-get_or}
 use Rattle.std.proofs.lemmas.List.Sums.{sum_by-cons, sum_by_more, sum_by_more_le}
 use Rattle.dx_ports.specs.Members.{◌∈◌, ◌≈◌, here, there, Each}
-use Rattle.dx_ports.proofs.Members.{from_append, in_at, same_append, same_equal, same_members, same_trans}
+use Rattle.dx_ports.proofs.Members.{from_append, in_at, same_equal, same_members, same_sym, same_trans}
 use Rattle.dx_model.specs.declared.values.Value.{Value}
 use Rattle.dx_model.specs.declared.facts.Fact.{Fact}
 use Rattle.dx_model.specs.Tables.{IsInstance, Table}
@@ -19,7 +19,9 @@ use Rattle.dx_schema.specs.Forest.{Forest}
 use Rattle.dx_schema.specs.Tables.{TableOf, AreTables, as_numbers, model_tables, schema_widths, table_at, tables_of}
 use Rattle.dx_schema.proofs.Whole.{widths_more}
 use Rattle.clio_source.specs.declared.reading.Reading.{Reading}
-use Rattle.clio_source.specs.Source.{IsStored, Read, as_facts, at_start, cells_in, source_cells}
+use Rattle.dx_used.specs.Used.{Agree, Marks, blanked, fact_blanked, marks_at}
+use Rattle.dx_used.proofs.Blanking.{agree_append, agree_same, blanked_twice}
+use Rattle.clio_source.specs.Source.{Read, as_facts, at_start, cells_in, source_cells}
 use Rattle.clio_source.specs.Fitting.{AddsEmpty, AddsFacts, CanTake, Holds, ReadFits, rows_shown}
 use Rattle.clio_source.proofs.Numbers.{facts_of_one, facts_with_empty, still_fit}
 
@@ -35,8 +37,8 @@ fit_start f r e c = record {
   few = omega (arith, c);
 }
 
-pub holds_start : (r : Reading) → r.tables.items ≡ [] → r.bytes_left ≡ at_start.bytes_left → r.cells_left ≡ at_start.cells_left → Holds r at_start
-holds_start r e b c = record { facts_are = same_equal (ap (λ ts. facts (shown_tables r.symbols ts)) e); bytes = b; cells = c }
+pub holds_start : (used : Marks) (r : Reading) → r.tables.items ≡ [] → r.bytes_left ≡ at_start.bytes_left → r.cells_left ≡ at_start.cells_left → Holds used r at_start
+holds_start used r e b c = record { agree = agree_same used (same_equal (sym (ap (λ ts. facts (shown_tables r.symbols ts)) e))); bytes = b; cells = c }
 
 -- ---- a table more
 
@@ -62,12 +64,25 @@ fit_more f n before after t fit h x e wide some below cells = record {
       | inr b ↦ last u b
     ]
 
--- its rows are the facts that were read
-pub holds_more : (f : Forest) (n : ℕ) (before after : Reading) (t : NumberTable) (q : Read) → ReadFits f n before → Holds before q → n < length (tables_of f) → Extends before.symbols after.symbols
-    → after.tables.items ≡ before.tables.items ++ t ∷ [] → facts (shown_tables after.symbols after.tables.items) ≈ (q.facts ++ as_facts n (rows_shown after.symbols t))
-holds_more f n before after t q fit h lt x e =
-    same_trans (same_equal (facts_of_one before.symbols after.symbols before.tables.items after.tables.items t n x fit.below e (many_tables f n before (omega arith) fit)))
-    (same_append h.facts_are (same_members (as_facts n (rows_shown after.symbols t))))
+-- rows that are blank in the columns that are not used agree with the whole rows
+facts_blanked : (used : Marks) (n : ℕ) (whole : List (List Value)) → map (fact_blanked used) (as_facts n whole) ≡ map (fact_blanked used) (as_facts n (map (blanked (marks_at used n)) whole))
+facts_blanked used n [] = refl
+facts_blanked used n (row ∷ whole) =
+    let same = sym (blanked_twice (marks_at used n) row) in
+    let rest = facts_blanked used n whole in
+    (λ i. record { table = n; row = same i } ∷ rest i)
+
+rows_agree : (used : Marks) (n : ℕ) (whole rows : List (List Value)) → rows ≡ map (blanked (marks_at used n)) whole → Agree used (as_facts n whole) (as_facts n rows)
+rows_agree used n whole rows e = same_equal (facts_blanked used n whole ∙ ap (λ rs. map (fact_blanked used) (as_facts n rs)) (sym e))
+
+-- its rows agree with the facts that were read
+pub holds_more : (used : Marks) (f : Forest) (n : ℕ) (before after : Reading) (t : NumberTable) (whole : List (List Value)) (q : Read) → ReadFits f n before → Holds used before q → n < length (tables_of f) → Extends before.symbols after.symbols
+    → after.tables.items ≡ before.tables.items ++ t ∷ [] → rows_shown after.symbols t ≡ map (blanked (marks_at used n)) whole → Agree used (q.facts ++ as_facts n whole) (facts (shown_tables after.symbols after.tables.items))
+holds_more used f n before after t whole q fit h lt x e rows =
+    let old = facts (shown_tables before.symbols before.tables.items) in
+    let more = as_facts n (rows_shown after.symbols t) in
+    same_trans (agree_append used q.facts old (as_facts n whole) more h.agree (rows_agree used n whole (rows_shown after.symbols t) rows))
+    (agree_same used (same_equal (sym (facts_of_one before.symbols after.symbols before.tables.items after.tables.items t n x fit.below e (many_tables f n before (omega arith) fit)))))
 
 -- ---- the tables of a root and its inner sets
 
@@ -133,12 +148,15 @@ fit_empty S f last old new a b u m = elim (from_append old (subst (λ ts. u ∈ 
   | inr n ↦ record { columns = a.some u n; within = λ r i. elim (subst (λ rs. r ∈ rs) (a.empty u n) i) [ ] }
 ]
 
-pub holds_document : (f : Forest) (last : ℕ) (before after : Reading) (between : List NumberTable) (said : List Fact) (q : Read) → Holds before q → AddsEmpty f last before.tables.items between
-    → AddsFacts before.symbols after.symbols between after.tables.items said → facts (shown_tables after.symbols after.tables.items) ≈ (q.facts ++ said)
-holds_document f last before after between said q h a p =
+-- the facts of a document are read whole
+pub holds_document : (used : Marks) (f : Forest) (last : ℕ) (before after : Reading) (between : List NumberTable) (said : List Fact) (q : Read) → Holds used before q → AddsEmpty f last before.tables.items between
+    → AddsFacts before.symbols after.symbols between after.tables.items said → Agree used (q.facts ++ said) (facts (shown_tables after.symbols after.tables.items))
+holds_document used f last before after between said q h a p =
     let same : facts (shown_tables before.symbols between) ≡ facts (shown_tables before.symbols before.tables.items) =
     ap (λ ts. facts (shown_tables before.symbols ts)) a.is ∙ facts_with_empty before.symbols before.tables.items a.more a.empty in
-    same_trans p.shown (same_append (same_trans (same_equal same) h.facts_are) (same_members said))
+    let old = facts (shown_tables before.symbols between) in
+    let agree : Agree used q.facts old = same_trans h.agree (agree_same used (same_equal (sym same))) in
+    same_trans (agree_append used q.facts old said said agree (agree_same used (same_members said))) (agree_same used (same_sym p.shown))
 
 -- ---- cells
 
@@ -199,9 +217,8 @@ shown_widths : (S : List Value) (ts : List NumberTable) → widths (shown_tables
 shown_widths S [] = refl
 shown_widths S (t ∷ ts) = ap (λ ws. t.width ∷ ws) (shown_widths S ts)
 
-pub is_stored : (f : Forest) (r : Reading) (q : Read) (I : List TableRows) → ReadFits f (length (tables_of f)) r → Holds r q → IsSorting (shown_tables r.symbols r.tables.items) I → IsStored f q.facts I
-is_stored f r q I fit h s = record {
-  widths_are = s.widths_stay ∙ shown_widths r.symbols r.tables.items ∙ all_wide f r fit;
-  ascend = s.ascend;
-  exact = same_trans (sorting_facts (shown_tables r.symbols r.tables.items) I s) h.facts_are;
-}
+pub sorted_wide : (f : Forest) (r : Reading) (J : List TableRows) → ReadFits f (length (tables_of f)) r → IsSorting (shown_tables r.symbols r.tables.items) J → widths J ≡ schema_widths f
+sorted_wide f r J fit s = s.widths_stay ∙ shown_widths r.symbols r.tables.items ∙ all_wide f r fit
+
+pub sorted_agree : (used : Marks) (r : Reading) (q : Read) (J : List TableRows) → Holds used r q → IsSorting (shown_tables r.symbols r.tables.items) J → Agree used q.facts (facts J)
+sorted_agree used r q J h s = same_trans h.agree (agree_same used (same_sym (sorting_facts (shown_tables r.symbols r.tables.items) J s)))

@@ -5,3 +5,4 @@ pub mod Fits
 pub mod Passed
 pub mod Runs
 pub mod Decided
+pub mod Whole

@@ -12,6 +12,7 @@ use Rattle.dx_stages.specs.declared.stop.Stop.{Stop}
 use Rattle.dx_stages.specs.declared.stop.Stop.TheVariants as stops
 use Rattle.dx_stages.specs.Stages.{Stage}
 use Rattle.dx_stages.specs.Running.{Gives, Ran, Told}
+use Rattle.dx_used.specs.Used.{Agree, Marks}
 use Rattle.clio_source.specs.declared.reading.Reading.{Reading}
 use Rattle.clio_source.specs.declared.fault.RowsFault.{RowsFault}
 use Rattle.clio_source.specs.declared.fault.SourceRefusal.{SourceRefusal}
@@ -28,21 +29,21 @@ pub record ReadFits (f : Forest) (n : ℕ) (r : Reading) : Type 0 where
   pub below : Each r.tables.items (RowsFit (length r.symbols))
   pub few : r.cells_left ≤ source_cells
 
--- the tables have the facts that were read
-pub record Holds (r : Reading) (q : Read) : Type 0 where
-  pub facts_are : facts (shown_tables r.symbols r.tables.items) ≈ q.facts
+-- on the used columns the tables agree with the facts that were read
+pub record Holds (used : Marks) (r : Reading) (q : Read) : Type 0 where
+  pub agree : Agree used q.facts (facts (shown_tables r.symbols r.tables.items))
   pub bytes : r.bytes_left ≡ q.bytes_left
   pub cells : r.cells_left ≡ q.cells_left
 
--- the stage ran so, and the tables have what it passes
-abbrev pub RanTo : {A : Type 0} → Stage SourceRefusal A Read → A → Result Reading (Stop SourceRefusal) → Told → Told → Type 0
-RanTo s a (Ok r) old new = (q : Read) × Holds r q × Ran s a (Ok q) old new
-RanTo s a (Err e) old new = Ran s a (Err e) old new
+-- the stage ran so, and the tables agree with what it passes
+abbrev pub RanTo : {A : Type 0} → Marks → Stage SourceRefusal A Read → A → Result Reading (Stop SourceRefusal) → Told → Told → Type 0
+RanTo used s a (Ok r) old new = (q : Read) × Holds used r q × Ran s a (Ok q) old new
+RanTo used s a (Err e) old new = Ran s a (Err e) old new
 
--- the stage gives it in every world, and the tables have it
-abbrev pub GivesTo : {A : Type 0} → Stage SourceRefusal A Read → A → Result Reading (Stop SourceRefusal) → Type 0
-GivesTo s a (Ok r) = (q : Read) × Holds r q × Gives s a (Ok q)
-GivesTo s a (Err e) = Gives s a (Err e)
+-- the stage gives it in every world, and the tables agree with it
+abbrev pub GivesTo : {A : Type 0} → Marks → Stage SourceRefusal A Read → A → Result Reading (Stop SourceRefusal) → Type 0
+GivesTo used s a (Ok r) = (q : Read) × Holds used r q × Gives s a (Ok q)
+GivesTo used s a (Err e) = Gives s a (Err e)
 
 -- why the facts of a file's bytes were not read
 abbrev pub NotRead : Form → Forest → ℕ → List ℕ → List ℕ → Stop SourceRefusal → Type 0

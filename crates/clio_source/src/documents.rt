@@ -5,6 +5,7 @@ ghost use Rattle.dx_model.specs.Tables.{IsInstance};
 ghost use Rattle.dx_instance.specs.Numbers.{Extends};
 ghost use Rattle.dx_instance.specs.Shown.{RowsFit, Shows};
 ghost use Rattle.dx_json.specs.Documents.{SaysFacts};
+ghost use Rattle.dx_used.specs.Used.{Marks};
 ghost use Rattle.dx_schema.specs.Tables.{count, model_tables, schema_widths, table_at, tables_of, tree_at};
 ghost use Rattle.clio_source.specs.Source.{Read, cells_in, loading, named_by, nested};
 ghost use Rattle.clio_source.specs.Fitting.{AddsEmpty, AddsFacts, CanTake, GivesTo, Holds, NotRead, ReadFits};
@@ -125,7 +126,7 @@ pub(crate) fn load_document(
     requires file { file ≡ named_by nested (table_at schema.now root).name }
     requires fit { ReadFits schema.now root before }
     ensures fit { IfOk result (ReadFits schema.now (root + 1 + count (tree_at schema.now root).inner)) }
-    ensures read { (q : Read) → Holds before q → GivesTo (loading nested schema.now root) (q, bytes.now) result }
+    ensures read { (used : Marks) (q : Read) → Holds used before q → GivesTo used (loading nested schema.now root) (q, bytes.now) result }
 {
     let Reading {
         mut symbols,

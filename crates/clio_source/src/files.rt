@@ -1,7 +1,7 @@
 // The files of a schema's roots.
 ghost use Rattle.std.specs.Prelude.{◌≡◌, ◌+◌, ◌<◌, ◌≤◌, length, None, IfOk};
 ghost use Rattle.dx_schema.specs.Tables.{count, table_at, tables_of, tree_at};
-ghost use Rattle.dx_stages.specs.Running.{Ran};
+ghost use Rattle.clio_source.specs.Agreeing.{RanAgreeing};
 ghost use Rattle.clio_source.specs.Source.{Read, at_start, file_at, files_stages, reading, source_stages};
 ghost use Rattle.clio_source.specs.Fitting.{Holds, RanTo, ReadFits};
 
@@ -11,7 +11,7 @@ use crate::names::{file_name, json_file_name};
 use crate::reading::{Reading, at_start, too_many_bytes};
 use crate::tables::load_table;
 use dx_instance::Instance;
-use dx_ports::{Inputs, Text};
+use dx_ports::{Inputs, Items, Text};
 use dx_schema::Schema;
 use dx_stages::{Stop, fetch};
 use std::alloc::{AllocError, Global};
@@ -34,13 +34,14 @@ fn read_root<I: Inputs>(
     inputs: &mut I,
     schema: &Schema,
     root: u32,
+    used: &[Items<bool>],
     before: Reading,
 ) -> Result<Reading, Stop<SourceRefusal>>
     requires root { root < length (tables_of schema.now) }
     requires parent { (table_at schema.now root).parent ≡ None }
     requires fit { ReadFits schema.now root before }
     ensures fit { IfOk result (ReadFits schema.now (root + 1 + count (tree_at schema.now root).inner)) }
-    ensures read { (q : Read) → Holds before q → RanTo (reading schema.now root) q result
+    ensures read { (q : Read) → Holds used.now before q → RanTo used.now (reading schema.now root) q result
         (record { holds = I.holds inputs.old; faults = I.faults inputs.old; stopped = I.stopped inputs.old })
         (record { holds = I.holds inputs.new; faults = I.faults inputs.new; stopped = I.stopped inputs.new }) }
 {
@@ -58,7 +59,7 @@ fn read_root<I: Inputs>(
         too_many_bytes(),
     )?;
     if schema.tree(root).inner.is_empty() {
-        load_table(alloc, before, schema, root, bytes.items(), name)
+        load_table(alloc, before, schema, root, used, bytes.items(), name)
     } else {
         load_document(alloc, before, schema, root, bytes.items(), name)
     }
@@ -69,10 +70,11 @@ fn read_files<I: Inputs>(
     alloc: Global,
     inputs: &mut I,
     schema: &Schema,
+    used: &[Items<bool>],
 ) -> Result<Reading, Stop<SourceRefusal>>
     ensures fit { IfOk result (ReadFits schema.now (length (tables_of schema.now))) }
     ensures few { length (tables_of schema.now) ≤ 64 }
-    ensures read { RanTo (files_stages schema.now) at_start result
+    ensures read { RanTo used.now (files_stages schema.now) at_start result
         (record { holds = I.holds inputs.old; faults = I.faults inputs.old; stopped = I.stopped inputs.old })
         (record { holds = I.holds inputs.new; faults = I.faults inputs.new; stopped = I.stopped inputs.new }) }
 {
@@ -80,13 +82,17 @@ fn read_files<I: Inputs>(
     let mut so_far = at_start(alloc);
     let mut root = 0;
     for tree in schema.trees() {
-        so_far = read_root(alloc, inputs, schema, root, so_far)?;
+        so_far = read_root(alloc, inputs, schema, root, used, so_far)?;
         root += 1 + tree.inner.count();
     }
     Ok(so_far)
 }
 
 /// The source that the files of a schema's roots hold: of a root without inner sets a table, of another a document.
+///
+/// The marks say for each table which of its columns are used; a column without a mark is. Of a table's other columns
+/// nothing is kept: their constants are the empty one. Documents are read whole. So there is one source that the files
+/// hold, and the instance agrees with it on the used columns.
 ///
 /// # Errors
 ///
@@ -97,11 +103,12 @@ pub fn read_source<I: Inputs>(
     alloc: Global,
     inputs: &mut I,
     schema: &Schema,
+    used: &[Items<bool>],
 ) -> Result<Instance, Stop<SourceRefusal>>
-    ensures { Ran source_stages schema.now result
+    ensures { RanAgreeing used.now source_stages schema.now result
         (record { holds = I.holds inputs.old; faults = I.faults inputs.old; stopped = I.stopped inputs.old })
         (record { holds = I.holds inputs.new; faults = I.faults inputs.new; stopped = I.stopped inputs.new }) }
 {
-    let reading = read_files(alloc, inputs, schema)?;
+    let reading = read_files(alloc, inputs, schema, used)?;
     Ok(Instance::from_rows(alloc, reading.symbols, reading.tables)?)
 }

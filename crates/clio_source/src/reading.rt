@@ -3,6 +3,7 @@ ghost use Rattle.std.specs.Prelude.{◌≡◌};
 ghost use Rattle.dx_schema.specs.Forest.{Forest};
 ghost use Rattle.clio_source.specs.Source.{at_start, too_many_bytes, too_many_cells};
 ghost use Rattle.clio_source.specs.Fitting.{Holds, ReadFits};
+ghost use Rattle.dx_used.specs.Used.{Marks};
 
 use crate::fault::SourceRefusal;
 use dx_instance::{Rows, Symbols};
@@ -23,7 +24,7 @@ pub(crate) struct Reading {
 /// Nothing was read.
 pub(crate) fn at_start(alloc: Global) -> Reading
     ensures fit { (f : Forest) → ReadFits f 0 result }
-    ensures holds { Holds result at_start }
+    ensures holds { (used : Marks) → Holds used result at_start }
 {
     Reading {
         symbols: Symbols::new(alloc),

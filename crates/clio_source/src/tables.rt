@@ -3,7 +3,9 @@ ghost use Rattle.std.specs.Prelude.{◌≡◌, ◌+◌, ◌*◌, ◌-◌, ◌≤
 ghost use Rattle.dx_ports.specs.Members.{Each};
 ghost use Rattle.dx_instance.specs.Numbers.{Extends};
 ghost use Rattle.dx_instance.specs.Shown.{AreBelow};
-ghost use Rattle.dx_csv.specs.Table.{IsTable, table_records};
+ghost use Rattle.dx_used.specs.Used.{marks_at};
+ghost use Rattle.dx_csv.specs.Blanks.{IsTableUsed};
+ghost use Rattle.dx_csv.specs.Table.{table_records};
 ghost use Rattle.dx_schema.specs.Tables.{table_at, tables_of};
 ghost use Rattle.clio_source.specs.Source.{Read, flat, loading, named_by};
 ghost use Rattle.clio_source.specs.Fitting.{GivesTo, Holds, NotRead, ReadFits, rows_shown};
@@ -12,10 +14,20 @@ use crate::fault::{RowsFault, SourceRefusal};
 use crate::reading::{Reading, too_many_cells};
 use dx_csv::{RowFault, load_into};
 use dx_instance::{Rows, Symbols};
-use dx_ports::Text;
+use dx_ports::{Items, Text};
 use dx_schema::Schema;
 use dx_stages::Stop;
 use std::alloc::Global;
+
+// The marks of a table.
+fn marks_of(used: &[Items<bool>], table: u32) -> &[bool]
+    ensures { result.now ≡ marks_at used.now table }
+{
+    match used.get(table as usize) {
+        Some(marks) => marks.items(),
+        None => &[],
+    }
+}
 
 // The rows of a file's bytes.
 fn rows_of_bytes(
@@ -23,17 +35,18 @@ fn rows_of_bytes(
     bytes: &[u8],
     schema: &Schema,
     root: u32,
+    used: &[bool],
     file: Text,
     symbols: &mut Symbols,
 ) -> Result<Rows, Stop<SourceRefusal>>
     requires { root < length (tables_of schema.now) }
-    ensures rows { IfOk result (λ rows. IsTable (table_records bytes.now) (table_at schema.now root).columns (rows_shown symbols.new rows)) }
+    ensures rows { IfOk result (λ rows. IsTableUsed used.now (table_records bytes.now) (table_at schema.now root).columns (rows_shown symbols.new rows)) }
     ensures width { IfOk result (λ rows. rows.width ≡ length (table_at schema.now root).columns) }
     ensures below { IfOk result (λ rows. Each rows.rows (AreBelow (length symbols.new))) }
     ensures grows { Extends symbols.old symbols.new }
     ensures fault { IfErr result (NotRead flat schema.now root bytes.now file) }
 {
-    match load_into(alloc, bytes, schema.columns(root), symbols) {
+    match load_into(alloc, bytes, schema.columns(root), used, symbols) {
         Ok(rows) => Ok(rows),
         Err(RowFault::Bad(kind)) => Err(Stop::Refused(SourceRefusal::Rows {
             file,
@@ -51,12 +64,14 @@ fn cells_after(left: u64, rows: u32, width: u32) -> Option<u64>
     left.checked_sub(cells)
 }
 
-/// Reads a flat root from the bytes of its table, after what was read before it.
+/// Reads a flat root from the bytes of its table, after what was read before it. Of columns that are not used nothing is
+/// kept.
 pub(crate) fn load_table(
     alloc: Global,
     before: Reading,
     schema: &Schema,
     root: u32,
+    used: &[Items<bool>],
     bytes: &[u8],
     file: Text,
 ) -> Result<Reading, Stop<SourceRefusal>>
@@ -64,7 +79,7 @@ pub(crate) fn load_table(
     requires file { file ≡ named_by flat (table_at schema.now root).name }
     requires fit { ReadFits schema.now root before }
     ensures fit { IfOk result (ReadFits schema.now (root + 1)) }
-    ensures read { (q : Read) → Holds before q → GivesTo (loading flat schema.now root) (q, bytes.now) result }
+    ensures read { (q : Read) → Holds used.now before q → GivesTo used.now (loading flat schema.now root) (q, bytes.now) result }
 {
     let Reading {
         mut symbols,
@@ -72,7 +87,8 @@ pub(crate) fn load_table(
         bytes_left,
         cells_left,
     } = before;
-    let rows = rows_of_bytes(alloc, bytes, schema, root, file, &mut symbols)?;
+    let marks = marks_of(used, root);
+    let rows = rows_of_bytes(alloc, bytes, schema, root, marks, file, &mut symbols)?;
     let Some(cells_left) = cells_after(cells_left, rows.count(), schema.width(root)) else {
         return Err(Stop::Refused(too_many_cells()));
     };

@@ -1,8 +1,9 @@
 -- Texts that become numbers.
 use Rattle.std.proofs.Common.{◌≡◌, ◌++◌, ◌∷◌, ◌+◌, ◌-◌, ◌*◌, ◌<◌, ◌≤◌, ◌∙◌, ℕ, suc, List, [], refl, sym, ap, subst, arith, length, take, drop, get_or, map, append_assoc, append-nil, inl, inr}
-use Rattle.std.specs.Prelude.{All}
+use Rattle.std.specs.Prelude.{All, Bool}
 use Rattle.std.proofs.Math.Seq.{drop-append_seam, take-append_seam}
 use Rattle.std.proofs.lemmas.List.{drop_more, get_or-map, length-append, length-drop, length-map, map-append, take-map}
+use Rattle.std.proofs.lemmas.Simd.{map-map}
 use Rattle.std.proofs.lemmas.List.Elements.{All-head, All-tail}
 use Rattle.dx_ports.specs.Members.{◌∈◌, here, there, Each}
 use Rattle.dx_ports.proofs.Members.{from_append}
@@ -13,60 +14,37 @@ use Rattle.dx_instance.specs.Numbers.{Extends, value_of}
 use Rattle.dx_instance.specs.Shown.{AreBelow, Shows, shown_row}
 use Rattle.dx_instance.proofs.ShownFacts.{grown_below, grown_row, interned_more}
 use Rattle.dx_csv.specs.Fields.{AreFields, flat, records_in}
-use Rattle.dx_csv.specs.Table.{IsTable, IsWhole, constants}
+use Rattle.dx_used.specs.Used.{blanked}
+use Rattle.dx_csv.specs.Blanks.{IsTableUsed, constants_used}
+use Rattle.dx_csv.specs.Table.{IsWhole, constants}
 
 -- ---- one text more
 
-first-same : (x y : List ℕ) (xs ys : List (List ℕ)) → x ∷ xs ≡ y ∷ ys → x ≡ y
-first-same x y xs ys e = cc e
-
-rest-same : (x y : List ℕ) (xs ys : List (List ℕ)) → x ∷ xs ≡ y ∷ ys → xs ≡ ys
-rest-same x y xs ys e = cc e
-
-pub record Stepped (texts : List (List ℕ)) (i : ℕ) (rest : List (List ℕ)) (symbols : List Value) (numbers : List ℕ) : Type 0 where
-  pub left : rest ≡ drop (i + 1) texts
-  pub shows : Shows symbols numbers (take (i + 1) (constants texts))
-
-pub text-interned : (texts : List (List ℕ)) (i : ℕ) (t : List ℕ) (old rest : List (List ℕ)) (S S' : List Value) (numbers more : List ℕ) (n : ℕ) → i < length texts
-    → old ≡ drop i texts → old ≡ t ∷ rest → Shows S numbers (take i (constants texts)) → Extends S S' → n < length S' → value_of S' n ≡ Const t → more ≡ numbers ++ n ∷ []
-    → Stepped texts i rest S' more
-text-interned texts i t old rest S S' numbers more n h l o s g b v m =
-    let cut : t ∷ rest ≡ get_or texts i t ∷ drop (i + 1) texts = sym o ∙ l ∙ drop_more texts i t h in
-    let value : Const t ≡ get_or (constants texts) i (Const t) = ap Const (first-same t (get_or texts i t) rest (drop (i + 1) texts) cut) ∙ sym (get_or-map Const texts i t (Const t) h) in
-    let size = length-map texts Const in
-    record {
-      left = rest-same t (get_or texts i t) rest (drop (i + 1) texts) cut;
-      shows = interned_more S S S' numbers more (constants texts) i n (Const t) (omega (arith, size, h)) value s g b v m;
-    }
-
-pub none-shown : (S : List Value) (texts : List (List ℕ)) (numbers : List ℕ) → numbers ≡ [] → Shows S numbers (take 0 (constants texts))
-none-shown S texts numbers e = record { is = rw e refl; within = rw e (λ x m. elim m [ ]) }
-
-pub all-shown : (S : List Value) (texts : List (List ℕ)) (numbers : List ℕ) (i width : ℕ) → i ≡ width → Shows S numbers (take i (constants texts)) → Shows S numbers (constants (take width texts))
-all-shown S texts numbers i width e s = subst (Shows S numbers) (ap (λ n. take n (constants texts)) e ∙ take-map Const width texts) s
+pub none-shown : (S values : List Value) (numbers : List ℕ) → numbers ≡ [] → Shows S numbers (take 0 values)
+none-shown S values numbers e = record { is = rw e refl; within = rw e (λ x m. elim m [ ]) }
 
 pub some-left : (texts left : List (List ℕ)) (i width : ℕ) → left ≡ drop i texts → i < width → width ≤ length texts → 1 ≤ length left
 some-left texts left i width e h w = let size = length-drop i texts in let s = ap length e in omega (arith, size, s, h, w)
 
 -- ---- one row more
 
-pub record RowsGrow (all : List (List Value)) (count i width : ℕ) (new : List (List ℕ)) (S : List Value) (rows : List (List ℕ)) : Type 0 where
-  pub shown : all ≡ map (shown_row S) rows ++ map constants (records_in (count - i) width new)
+pub record RowsGrow (used : List Bool) (all : List (List Value)) (count i width : ℕ) (new : List (List ℕ)) (S : List Value) (rows : List (List ℕ)) : Type 0 where
+  pub shown : all ≡ map (shown_row S) rows ++ map (constants_used used) (records_in (count - i) width new)
   pub size : length new ≡ (count - i) * width
   pub many : length rows ≡ i
   pub below : Each rows (AreBelow (length S))
 
-pub row-room : (all : List (List Value)) (count i width : ℕ) (old : List (List ℕ)) (S : List Value) (rows : List (List ℕ)) → i < count → RowsGrow all count i width old S rows → width ≤ length old
-row-room all count i width old S rows h g =
+pub row-room : (used : List Bool) (all : List (List Value)) (count i width : ℕ) (old : List (List ℕ)) (S : List Value) (rows : List (List ℕ)) → i < count → RowsGrow used all count i width old S rows → width ≤ length old
+row-room used all count i width old S rows h g =
     let k = count - (i + 1) in
     let e : count - i ≡ suc k = omega (arith, h) in
     let s : length old ≡ suc k * width = g.size ∙ ap (λ m. m * width) e in
     omega (arith, s)
 
-pub row-interned : (all : List (List Value)) (count i width : ℕ) (old new : List (List ℕ)) (S S' : List Value) (rows : List (List ℕ)) (numbers : List ℕ) → i < count
-    → RowsGrow all count i width old S rows → new ≡ drop width old → Shows S' numbers (constants (take width old)) → Extends S S'
-    → RowsGrow all count (i + 1) width new S' (rows ++ numbers ∷ [])
-row-interned all count i width old new S S' rows numbers h g l s e =
+pub row-interned : (used : List Bool) (all : List (List Value)) (count i width : ℕ) (old new : List (List ℕ)) (S S' : List Value) (rows : List (List ℕ)) (numbers : List ℕ) → i < count
+    → RowsGrow used all count i width old S rows → new ≡ drop width old → Shows S' numbers (constants_used used (take width old)) → Extends S S'
+    → RowsGrow used all count (i + 1) width new S' (rows ++ numbers ∷ [])
+row-interned used all count i width old new S S' rows numbers h g l s e =
     let k = count - (i + 1) in
     let left : count - i ≡ suc k = omega (arith, h) in
     let before : length old ≡ suc k * width = g.size ∙ ap (λ m. m * width) left in
@@ -75,12 +53,12 @@ row-interned all count i width old new S S' rows numbers h g l s e =
     record {
       shown =
           g.shown
-          ∙ ap (λ m. map (shown_row S) rows ++ map constants (records_in m width old)) left
-          ∙ ap (λ (x : List (List Value)). x ++ (constants (take width old) ∷ map constants (records_in k width (drop width old)))) same
-          ∙ ap (λ (v : List Value). map (shown_row S') rows ++ (v ∷ map constants (records_in k width (drop width old)))) (sym s.is)
-          ∙ ap (λ (x : List (List ℕ)). map (shown_row S') rows ++ (shown_row S' numbers ∷ map constants (records_in k width x))) (sym l)
-          ∙ sym (append_assoc (map (shown_row S') rows) (shown_row S' numbers ∷ []) (map constants (records_in k width new)))
-          ∙ ap (λ (x : List (List Value)). x ++ map constants (records_in k width new)) (sym (map-append (shown_row S') rows (numbers ∷ [])));
+          ∙ ap (λ m. map (shown_row S) rows ++ map (constants_used used) (records_in m width old)) left
+          ∙ ap (λ (x : List (List Value)). x ++ (constants_used used (take width old) ∷ map (constants_used used) (records_in k width (drop width old)))) same
+          ∙ ap (λ (v : List Value). map (shown_row S') rows ++ (v ∷ map (constants_used used) (records_in k width (drop width old)))) (sym s.is)
+          ∙ ap (λ (x : List (List ℕ)). map (shown_row S') rows ++ (shown_row S' numbers ∷ map (constants_used used) (records_in k width x))) (sym l)
+          ∙ sym (append_assoc (map (shown_row S') rows) (shown_row S' numbers ∷ []) (map (constants_used used) (records_in k width new)))
+          ∙ ap (λ (x : List (List Value)). x ++ map (constants_used used) (records_in k width new)) (sym (map-append (shown_row S') rows (numbers ∷ [])));
       size = ap length l ∙ cut ∙ shorter k before;
       many = omega (arith, g.many, length-append rows (numbers ∷ []));
       below = λ r m. elim (from_append rows m) [ inl a ↦ grown_below S S' r e (g.below r a) | inr b ↦ last r b ];
@@ -93,21 +71,21 @@ row-interned all count i width old new S S' rows numbers h g l s e =
     last r (here q) = subst (AreBelow (length S')) q s.within
     last r (there d) = elim d [ ]
 
-pub rows-start : (count width : ℕ) (texts : List (List ℕ)) (S : List Value) (rows : List (List ℕ)) → length texts ≡ count * width → rows ≡ []
-    → RowsGrow (map constants (records_in count width texts)) count 0 width texts S rows
-rows-start count width texts S rows e n =
+pub rows-start : (used : List Bool) (count width : ℕ) (texts : List (List ℕ)) (S : List Value) (rows : List (List ℕ)) → length texts ≡ count * width → rows ≡ []
+    → RowsGrow used (map (constants_used used) (records_in count width texts)) count 0 width texts S rows
+rows-start used count width texts S rows e n =
     let all : count ≡ count - 0 = omega arith in
     record {
-      shown = rw n (ap (λ m. map constants (records_in m width texts)) all);
+      shown = rw n (ap (λ m. map (constants_used used) (records_in m width texts)) all);
       size = e ∙ ap (λ m. m * width) all;
       many = rw n refl;
       below = rw n (λ r m. elim m [ ]);
     }
 
-pub rows-end : (all : List (List Value)) (count i width : ℕ) (left : List (List ℕ)) (S : List Value) (rows : List (List ℕ)) → count ≤ i → RowsGrow all count i width left S rows → map (shown_row S) rows ≡ all
-rows-end all count i width left S rows h g =
+pub rows-end : (used : List Bool) (all : List (List Value)) (count i width : ℕ) (left : List (List ℕ)) (S : List Value) (rows : List (List ℕ)) → count ≤ i → RowsGrow used all count i width left S rows → map (shown_row S) rows ≡ all
+rows-end used all count i width left S rows h g =
     let none : count - i ≡ 0 = omega (arith, h) in
-    sym (g.shown ∙ ap (λ m. map (shown_row S) rows ++ map constants (records_in m width left)) none ∙ append-nil (map (shown_row S) rows))
+    sym (g.shown ∙ ap (λ m. map (shown_row S) rows ++ map (constants_used used) (records_in m width left)) none ∙ append-nil (map (shown_row S) rows))
 
 -- ---- the records of a table
 
@@ -131,16 +109,15 @@ pub fields-many : (records : List (List (List ℕ))) (columns texts : List (List
 fields-many records columns texts count width w f =
     ap length f.is ∙ flat-size columns f.under f.whole ∙ ap (λ n. n * length columns) (sym f.many) ∙ ap (λ n. count * n) (sym w)
 
-pub fields-table : (records : List (List (List ℕ))) (columns texts : List (List ℕ)) (count width : ℕ) (rows : List (List Value)) → width ≡ length columns → AreFields records columns texts count
-    → rows ≡ map constants (records_in count width texts) → IsTable records columns rows
-fields-table records columns texts count width rows w f e = record {
-  under = f.under;
-  header = f.header;
-  whole = f.whole;
-  values =
-      e
-      ∙ ap (λ n. map constants (records_in n width texts)) f.many
-      ∙ ap (λ n. map constants (records_in (length f.under) n texts)) w
-      ∙ ap (λ (t : List (List ℕ)). map constants (records_in (length f.under) (length columns) t)) f.is
-      ∙ ap (map constants) (flat-records columns f.under f.whole);
-}
+pub fields-table : (used : List Bool) (records : List (List (List ℕ))) (columns texts : List (List ℕ)) (count width : ℕ) (rows : List (List Value)) → width ≡ length columns → AreFields records columns texts count
+    → rows ≡ map (constants_used used) (records_in count width texts) → IsTableUsed used records columns rows
+fields-table used records columns texts count width rows w f e = (
+  map constants f.under,
+  record { under = f.under; header = f.header; whole = f.whole; values = refl },
+  e
+      ∙ ap (λ n. map (constants_used used) (records_in n width texts)) f.many
+      ∙ ap (λ n. map (constants_used used) (records_in (length f.under) n texts)) w
+      ∙ ap (λ (t : List (List ℕ)). map (constants_used used) (records_in (length f.under) (length columns) t)) f.is
+      ∙ ap (map (constants_used used)) (flat-records columns f.under f.whole)
+      ∙ sym (map-map (blanked used) constants f.under),
+)

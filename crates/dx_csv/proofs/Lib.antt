@@ -6,3 +6,4 @@ pub mod Decided
 pub mod LinesFacts
 pub mod FieldFacts
 pub mod InternFacts
+pub mod BlankFacts

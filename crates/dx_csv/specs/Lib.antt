@@ -4,3 +4,4 @@ pub mod Print
 pub mod Laws
 pub mod Lines
 pub mod Fields
+pub mod Blanks

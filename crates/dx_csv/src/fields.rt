@@ -1,5 +1,5 @@
 // Fields one after the other in one buffer, and the texts that share it.
-ghost use Rattle.std.specs.Prelude.{◌≡◌, ◌≤◌, ◌++◌, ◌∷◌, [], ℕ, List, IfOk, OnOk, length};
+ghost use Rattle.std.specs.Prelude.{◌≡◌, ◌≤◌, ◌++◌, ◌∷◌, [], ℕ, List, IfOk, OnOk, drop, length};
 ghost use Rattle.dx_csv.specs.Fields.{HaveFields, fields_in};
 
 use dx_ports::Text;
@@ -85,5 +85,15 @@ impl Texts {
         self.place += 1;
         self.start = end;
         Ok(text)
+    }
+
+    /// Goes past the next text, of which nothing is made.
+    pub(crate) fn skip(&mut self)
+        requires { 1 ≤ length self.old }
+        ensures { self.new ≡ drop 1 self.old }
+    {
+        let end = self.ends[self.place];
+        self.place += 1;
+        self.start = end;
     }
 }

@@ -1,3 +1,4 @@
 pub mod UsedLaws
 pub mod MarkFacts
+pub mod Blanking
 mod Examples

@@ -19,9 +19,9 @@ cells_after-requires c =
     facts_fit c.args.bytes.now c.args.schema.now c.args.root c.in_ok-facts.facts c.requires.root c.requires.parent c.in_ok-facts.ensures.facts
 
 pub returns-in_default-clause-read : goal.returns-in_default-clause-read
-returns-in_default-clause-read c = λ q h.
-    subst (λ (e : SourceRefusal). GivesTo (loading nested c.args.schema.now c.args.root) (q, c.args.bytes.now) (Err (stops.Refused e))) (sym c.too_many_cells.ensures)
-    (no_cells_left nested c.args.schema.now c.args.root c.args.before.cells_left q c.args.bytes.now c.in_ok-facts.facts c.in_ok-facts.ensures.facts h.cells c.in_default.ensures)
+returns-in_default-clause-read c = λ used q h.
+    subst (λ (e : SourceRefusal). GivesTo used (loading nested c.args.schema.now c.args.root) (q, c.args.bytes.now) (Err (stops.Refused e))) (sym c.too_many_cells.ensures)
+    (no_cells_left used nested c.args.schema.now c.args.root c.args.before.cells_left q c.args.bytes.now c.in_ok-facts.facts c.in_ok-facts.ensures.facts h.cells c.in_default.ensures)
 
 pub push_tables-requires-clause-last : goal.push_tables-requires-clause-last
 push_tables-requires-clause-last c =
@@ -55,9 +55,9 @@ push_facts-requires-clause-few c =
     omega (arith, cells, c.in-Some.ensures.1, c.requires.fit.few)
 
 pub returns-clause-read : goal.returns-clause-read
-returns-clause-read c = λ q h.
+returns-clause-read c = λ used q h.
     let f = c.args.schema.now in
     let after : Reading = record { symbols = c.push_facts.new.symbols; tables = c.push_facts.new.tables; bytes_left = c.saturating_sub.result; cells_left = c.in-Some.cells_left } in
-    loaded nested f c.args.root c.args.before.cells_left q after c.args.bytes.now c.in_ok-facts.facts c.in_ok-facts.ensures.facts h.cells c.in-Some.ensures.1
-    (holds_document f (c.args.root + 1 + c.count.result) c.args.before after c.push_tables.new.tables.items c.in_ok-facts.facts q h c.in_ok-push_tables.ensures c.in_ok-push_facts.ensures)
+    loaded used nested f c.args.root c.args.before.cells_left q after c.args.bytes.now c.in_ok-facts.facts c.in_ok-facts.ensures.facts h.cells c.in-Some.ensures.1
+    (holds_document used f (c.args.root + 1 + c.count.result) c.args.before after c.push_tables.new.tables.items c.in_ok-facts.facts q h c.in_ok-push_tables.ensures c.in_ok-push_facts.ensures)
     (c.saturating_sub.ensures ∙ ap (λ n. n - length c.args.bytes.now) h.bytes) c.in-Some.ensures.0

@@ -11,7 +11,7 @@ pub loop-tree-init : goal.loop-tree-init
 loop-tree-init g c = record {
   root = refl;
   fit = c.at_start-so_far.ensures.fit c.args.schema.now;
-  read = none_read c.args.schema.now c.at_start-so_far.result _ c.at_start-so_far.ensures.holds;
+  read = none_read c.args.used.now c.args.schema.now c.at_start-so_far.result _ (c.at_start-so_far.ensures.holds c.args.used.now);
 }
 
 pub read_root-requires-clause-root : goal.read_root-requires-clause-root
@@ -26,8 +26,8 @@ pub returns-in_err-so_far-clause-read : goal.returns-in_err-so_far-clause-read
 returns-in_err-so_far-clause-read g c =
     let ts = c.trees-tree-items.result.now in
     let p = err_from_is_err_and c.from_residual.result c.from_residual.ensures.1 in
-    rw (p.1, p.2) (ended c.args.schema.now ts (c.loop-tree.tree-index + 1) c.in_err-so_far.field-0.0 _ _ c.trees-tree-items.ensures
-    (one_more c.args.schema.now ts c.loop-tree.tree-index c.tree-item.result c.loop-tree.root c.loop-tree.so_far (Err c.in_err-so_far.field-0.0) _ _ _
+    rw (p.1, p.2) (ended c.args.used.now c.args.schema.now ts (c.loop-tree.tree-index + 1) c.in_err-so_far.field-0.0 _ _ c.trees-tree-items.ensures
+    (one_more c.args.used.now c.args.schema.now ts c.loop-tree.tree-index c.tree-item.result c.loop-tree.root c.loop-tree.so_far (Err c.in_err-so_far.field-0.0) _ _ _
     c.tables.ensures.facts c.trees-tree-items.ensures c.loop-tree-test.true c.tree-item.is c.loop-tree.invariant.root c.loop-tree.invariant.read c.in_err-so_far.ensures.read))
 
 pub count-requires : goal.count-requires
@@ -54,7 +54,7 @@ loop-tree-preserved g c =
     let next = ap (λ (k : ℕ). c.loop-tree.root + (1 + k)) same in record {
       root = next ∙ n.1;
       fit = subst (λ (k : ℕ). ReadFits f k c.in_ok-so_far.so_far) (n.0 ∙ sym next) c.in_ok-so_far.ensures.fit;
-      read = one_more f ts c.loop-tree.tree-index c.tree-item.result c.loop-tree.root c.loop-tree.so_far (Ok c.in_ok-so_far.so_far) _ _ _
+      read = one_more c.args.used.now f ts c.loop-tree.tree-index c.tree-item.result c.loop-tree.root c.loop-tree.so_far (Ok c.in_ok-so_far.so_far) _ _ _
           c.tables.ensures.facts c.trees-tree-items.ensures c.loop-tree-test.true c.tree-item.is c.loop-tree.invariant.root c.loop-tree.invariant.read c.in_ok-so_far.ensures.read;
     }
 
@@ -65,4 +65,4 @@ returns-clause-fit g c =
 
 pub returns-clause-read : goal.returns-clause-read
 returns-clause-read g c =
-    all_read c.args.schema.now c.trees-tree-items.result.now c.loop-tree.tree-index c.loop-tree.so_far _ _ c.trees-tree-items.ensures c.loop-tree-test.false c.loop-tree.invariant.read
+    all_read c.args.used.now c.args.schema.now c.trees-tree-items.result.now c.loop-tree.tree-index c.loop-tree.so_far _ _ c.trees-tree-items.ensures c.loop-tree-test.false c.loop-tree.invariant.read

@@ -12,7 +12,7 @@ invariant-loop-tree g l =
     record {
       root : l.root ≡ count (forest_of (take l.tree-index l.tree-items));
       fit : ReadFits l.schema l.root l.so_far;
-      read : RanTo (each (reading l.schema) (first_roots l.tree-items l.tree-index)) at_start (Ok l.so_far)
+      read : RanTo l.used (each (reading l.schema) (first_roots l.tree-items l.tree-index)) at_start (Ok l.so_far)
           (record { holds = g.I.Inputs.holds l.initial.inputs; faults = g.I.Inputs.faults l.initial.inputs; stopped = g.I.Inputs.stopped l.initial.inputs })
           (record { holds = g.I.Inputs.holds l.inputs; faults = g.I.Inputs.faults l.inputs; stopped = g.I.Inputs.stopped l.inputs });
     }

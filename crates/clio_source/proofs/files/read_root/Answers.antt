@@ -9,17 +9,17 @@ use Rattle.clio_source.proofs.files.read_root.Goals as goal
 pub returns-in_err-bytes-clause-read : goal.returns-in_err-bytes-clause-read
 returns-in_err-bytes-clause-read g c = λ q h.
     let p = err_from_is_err_and c.from_residual-in_err-bytes.result c.from_residual-in_err-bytes.ensures.1 in
-    rw (p.1, p.2) (stopped c.args.schema.now c.args.root c.args.before.bytes_left c.in_ok-copy-2.field-0 c.in_ok-copy.field-0 c.too_many_bytes.result q c.in_err-bytes.field-0.0 _ _
+    rw (p.1, p.2) (stopped c.args.used.now c.args.schema.now c.args.root c.args.before.bytes_left c.in_ok-copy-2.field-0 c.in_ok-copy.field-0 c.too_many_bytes.result q c.in_err-bytes.field-0.0 _ _
     (c.in_ok-copy-2.ensures ∙ c.in_ok-name.ensures) (c.in_ok-copy.ensures ∙ c.in_ok-name.ensures) h.bytes c.too_many_bytes.ensures c.in_err-bytes.ensures)
 
 pub returns-then-is_empty-clause-read : goal.returns-then-is_empty-clause-read
 returns-then-is_empty-clause-read g c = λ q h.
     let formed = is_flat c.behind-schema.inside.inner (sym c.is_empty.ensures ∙ c.if-is_empty.true) ∙ ap (λ (t : Tree). form_of t.inner) (c.behind-schema.view_is ∙ c.tree.ensures.tree) in
-    passed c.args.schema.now c.args.root c.args.before.bytes_left flat c.in_ok-copy-2.field-0 c.in_ok-copy.field-0 c.in_ok-bytes.bytes c.items.result.now c.too_many_bytes.result q c.load_table.result _ _
+    passed c.args.used.now c.args.schema.now c.args.root c.args.before.bytes_left flat c.in_ok-copy-2.field-0 c.in_ok-copy.field-0 c.in_ok-bytes.bytes c.items.result.now c.too_many_bytes.result q c.load_table.result _ _
     (c.in_ok-copy-2.ensures ∙ c.in_ok-name.ensures) (c.in_ok-copy.ensures ∙ c.in_ok-name.ensures) h.bytes c.too_many_bytes.ensures c.items.ensures formed c.in_ok-bytes.ensures (c.load_table.ensures.read q h)
 
 pub returns-clause-read : goal.returns-clause-read
 returns-clause-read g c = λ q h.
     let formed = is_nested c.behind-schema.inside.inner (sym c.is_empty.ensures ∙ c.if-is_empty.false) ∙ ap (λ (t : Tree). form_of t.inner) (c.behind-schema.view_is ∙ c.tree.ensures.tree) in
-    passed c.args.schema.now c.args.root c.args.before.bytes_left nested c.in_ok-copy-2.field-0 c.in_ok-copy.field-0 c.in_ok-bytes.bytes c.items-else-is_empty.result.now c.too_many_bytes.result q c.load_document.result _ _
-    (c.in_ok-copy-2.ensures ∙ c.in_ok-name.ensures) (c.in_ok-copy.ensures ∙ c.in_ok-name.ensures) h.bytes c.too_many_bytes.ensures c.items-else-is_empty.ensures formed c.in_ok-bytes.ensures (c.load_document.ensures.read q h)
+    passed c.args.used.now c.args.schema.now c.args.root c.args.before.bytes_left nested c.in_ok-copy-2.field-0 c.in_ok-copy.field-0 c.in_ok-bytes.bytes c.items-else-is_empty.result.now c.too_many_bytes.result q c.load_document.result _ _
+    (c.in_ok-copy-2.ensures ∙ c.in_ok-name.ensures) (c.in_ok-copy.ensures ∙ c.in_ok-name.ensures) h.bytes c.too_many_bytes.ensures c.items-else-is_empty.ensures formed c.in_ok-bytes.ensures (c.load_document.ensures.read c.args.used.now q h)

@@ -1,15 +1,18 @@
-use Rattle.std.proofs.Common.{Ok}
+use Rattle.std.proofs.Common.{Err}
 use Rattle.std.proofs.lemmas.Result.{err_from_is_err_and}
-use Rattle.clio_source.proofs.Fits.{is_stored}
-use Rattle.clio_source.proofs.Runs.{source_had, source_stops}
+use Rattle.clio_source.proofs.Fits.{sorted_agree, sorted_wide}
+use Rattle.clio_source.proofs.Whole.{source_agrees, source_stops}
 use Rattle.clio_source.proofs.files.read_source.Goals as goal
 
 pub returns-in_err-reading : goal.returns-in_err-reading
 returns-in_err-reading g c =
     let p = err_from_is_err_and c.from_residual.result c.from_residual.ensures.1 in
-    rw (p.1, p.2) (source_stops c.args.schema.now c.in_err-reading.field-0.0 _ _ c.in_err-reading.ensures.read)
+    rw (p.1, p.2) (source_stops c.args.used.now c.args.schema.now c.in_err-reading.field-0.0 _ _ c.in_err-reading.ensures.read)
 
 pub returns : goal.returns
 returns g c =
-    source_had c.args.schema.now c.in_ok-reading.reading (Ok c.in_ok-from_rows.field-0) _ _ c.in_ok-reading.ensures.read
-    (λ q h w. is_stored c.args.schema.now c.in_ok-reading.reading q c.in_ok-from_rows.field-0 c.in_ok-reading.ensures.fit h c.in_ok-from_rows.ensures)
+    let f = c.args.schema.now in
+    let r = c.in_ok-reading.reading in
+    let J = c.in_ok-from_rows.field-0 in
+    source_agrees c.args.used.now f r J _ _ c.in_ok-reading.ensures.read (λ q h. sorted_agree c.args.used.now r q J h c.in_ok-from_rows.ensures)
+    (sorted_wide f r J c.in_ok-reading.ensures.fit c.in_ok-from_rows.ensures)

@@ -10,5 +10,5 @@ intern_rows-requires c =
 
 pub returns-clause-rows : goal.returns-clause-rows
 returns-clause-rows c =
-    fields-table (table_records c.args.bytes.now) c.args.columns.now c.in_ok-texts.texts c.in_ok-texts.count (length c.args.columns.now) (map (shown_row c.intern_rows.new.symbols) c.in_ok-rows.rows.rows)
+    fields-table c.args.used.now (table_records c.args.bytes.now) c.args.columns.now c.in_ok-texts.texts c.in_ok-texts.count (length c.args.columns.now) (map (shown_row c.intern_rows.new.symbols) c.in_ok-rows.rows.rows)
     refl c.in_ok-texts.ensures.rows c.in_ok-rows.ensures.shown
