@@ -221,15 +221,16 @@ all_rules_fit list m R a narrow r e i = (all_good list m R a narrow r e i).fits
 pub checked : {E A B : Type 0} (refused : A → E → Type 0) (fits : A → Type 0) (t : Stage E A B) (c : World) (a : A) (x : B) → (next (checking refused fits) t).passes c a x → fits a × t.passes c a x
 checked refused fits t c a x p = (p.1.0, subst (λ v. t.passes c v x) p.1.1 p.2)
 
--- the rules are the pruned ones of those of the lines and the closed hand-written ones, which are few
-record IsTaken (list : List Conversion) (m : MappingText) (P : List Rule) : Type 0 where
-  named : lines_fault m.source m.target list m.lines ≡ None
-  limits : limit_of list m.source m.target m.lines ≡ None
-  written : rules_fault m.source m.target list m.rules ≡ None
-  all : List Rule
-  are : AreRulesOf list m.source m.target m.lines m.rules all
-  few : length all ≤ 256
-  left : IsLeft all P
+-- the rules are what is left of those of the lines and the closed hand-written ones, which are few and pass no limit of pruning
+pub record IsTaken (list : List Conversion) (m : MappingText) (P : List Rule) : Type 0 where
+  pub named : lines_fault m.source m.target list m.lines ≡ None
+  pub limits : limit_of list m.source m.target m.lines ≡ None
+  pub written : rules_fault m.source m.target list m.rules ≡ None
+  pub all : List Rule
+  pub are : AreRulesOf list m.source m.target m.lines m.rules all
+  pub few : length all ≤ 256
+  pub within : ¬ (PassesTest frozen_cells all)
+  pub left : IsLeft all P
 
 pub is_taken : (list : List Conversion) (c : World) (m : MappingText) (P : List Rule) → (taking list).passes c (between_of m) P → IsTaken list m P
 is_taken list c m P p =
@@ -242,7 +243,7 @@ is_taken list c m P p =
     let R = four.1.0 in
     let five = checked RulesRefused (λ R. length R ≤ 256) (next frozen_count pruning) c R P four.1.2 in
     let six = checked FrozenRefused (λ R. ¬ (PassesTest frozen_cells R)) pruning c R P five.1 in
-    record { named = two.0; written = three.0; limits = four.0; all = R; are = four.1.1; few = five.0; left = six.1 }
+    record { named = two.0; written = three.0; limits = four.0; all = R; are = four.1.1; few = five.0; within = six.0; left = six.1 }
 
 pub accepted_fits : AcceptedFits
 accepted_fits list c text M small (m, says, p) =

@@ -32,21 +32,9 @@ use Rattle.clio_accept.specs.Mapping.{NoneReserved, AreRulesOf, IsNarrowClosing,
 use Rattle.clio_accept.specs.Accepting.{limits, closing}
 use Rattle.clio_accept.specs.Accepting.{accepting, said_rules, target_names, target_sets, with_rules}
 use Rattle.clio_accept.specs.Laws.{MappingFits}
-use Rattle.clio_accept.proofs.Accepted.{accepted_fits, is_taken, checked}
+use Rattle.clio_accept.proofs.Accepted.{IsTaken, accepted_fits, is_taken, checked}
 use Rattle.clio_accept.proofs.Closed.{closed_of}
 use Rattle.clio_rule_laws.specs.Laws.{AreShownAgain, ShownRulesAreReadAgain}
-
--- ---- what the stages have checked
-
--- the rules are what is left of those of the lines and the closed hand-written ones, where no word is at fault
-pub record IsTaken (list : List Conversion) (m : MappingText) (P : List Rule) : Type 0 where
-  pub named : lines_fault m.source m.target list m.lines ≡ None
-  pub written : rules_fault m.source m.target list m.rules ≡ None
-  pub limits : limit_of list m.source m.target m.lines ≡ None
-  pub all : List Rule
-  pub are : AreRulesOf list m.source m.target m.lines m.rules all
-  pub few : ¬ (PassesTest frozen_cells all)
-  pub left : IsLeft all P
 
 -- ---- the rules
 

@@ -42,7 +42,8 @@ use Rattle.clio_accept.proofs.Accepted.{IsRead, accepted_fits, all_rules_fit}
 use Rattle.clio_accept.proofs.Closed.{closed_of}
 use Rattle.clio_accept.proofs.Few.{few_at}
 use Rattle.clio_rule_laws.specs.Laws.{AreShownAgain, ShownIsAccepted, rule_lines}
-use Rattle.clio_rule_laws.proofs.Shown.{IsTaken, is_accepted, shown_rules_are_read_again}
+use Rattle.clio_accept.proofs.Accepted.{IsTaken}
+use Rattle.clio_rule_laws.proofs.Shown.{is_accepted, shown_rules_are_read_again}
 use Rattle.clio_rule_laws.proofs.Pruned.{no_test_passes, pruned_again}
 
 -- ---- no lines pass no limit
@@ -140,7 +141,7 @@ accepted_again list c text sets m P small says source target names t fit shown =
     let said = read_back.with_rules (sides m.source m.target) shown.said in
     let b = between_of said in
     let limit : limit_of list m.source m.target [] ≡ None = none_passed (lines_of m.source m.target list m.lines) (model_tables m.source) (model_tables m.target) t.limits in
-    let left : leaving.passes c P P = (P, (fit.few, refl), (P, (no_test_passes frozen_cells t.all P rules t.left t.few, refl), pruned_again t.all P t.left)) in
+    let left : leaving.passes c P P = (P, (fit.few, refl), (P, (no_test_passes frozen_cells t.all P rules t.left t.within, refl), pruned_again t.all P t.left)) in
     let closed : (next (closing list) leaving).passes c b P = (P, taken_again list m P shown.said t fit.closed few shown.same, left) in
     let again : (taking list).passes c b P = (b, (omega arith, refl), (b, (refl, refl), (b, (shown.no_fault, refl), (b, (limit, refl), closed)))) in
     (said, shown.is_text, (said, (source, refl), (said, (target, refl), (said, (names, refl), (P, again, refl)))))
