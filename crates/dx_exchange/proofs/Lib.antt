@@ -1,5 +1,4 @@
 pub mod Lists
-pub mod Testing
 pub mod Fitting
 pub mod Listing
 pub mod Nulls

@@ -15,10 +15,10 @@ use Rattle.dx_model.specs.declared.values.Value.TheVariants.{Const, Null}
 use Rattle.dx_model.specs.declared.facts.NullPair.{NullPair}
 use Rattle.dx_model.specs.Tables.{cell}
 use Rattle.dx_model.specs.Values.{null_cmp}
-use Rattle.dx_model.proofs.Maps.{same_null-true}
 use Rattle.dx_model.proofs.Orders.{null_total}
 use Rattle.dx_instance.specs.NullMaps.{ByNull, is_itself, pairs_of, with_value}
 use Rattle.dx_instance.specs.Numbers.{ValuesAscend}
+use Rattle.dx_instance.proofs.AfterFacts.{itself}
 use Rattle.dx_instance.proofs.NullFacts.{pair_of}
 use Rattle.dx_instance.proofs.ShownFacts.{number_same}
 use Rattle.dx_chase.specs.Joins.{at}
@@ -76,10 +76,6 @@ map_kept S roots i m h r M = record {
 
 pub map_whole : (S : List Value) (roots : List ℕ) (i : ℕ) (m : ByNull) → length S ≤ i → MapTo S roots i m → pairs_of m ≡ map_of S roots
 map_whole S roots i m h M = sym (nothing_more (pairs_of m)) ∙ (ap (λ z. pairs_of m ++ pairs_from S roots i z) (sym (drop_all i S h)) ∙ M.whole)
-
-itself : (k : NullId) (v : Value) → is_itself k v ≡ true → v ≡ Null k
-itself k (Const t) e = absurd (cc e)
-itself k (Null m) e = ap Null (same_null-true m k e)
 
 put_after : (k : NullId) (v : Value) (es : List (NullId × Value)) → ((p : NullPair) → p ∈ map pair_of es → null_cmp k p.null ≡ Greater) → put null_cmp k v es ≡ es ++ (k, v) ∷ []
 put_after k v [] h = refl

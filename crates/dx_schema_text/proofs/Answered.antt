@@ -1,7 +1,8 @@
 -- What is answered of a text is what it says, or its first fault, and the other way round.
-use Rattle.std.proofs.Common.{◌≡◌, ◌⊎◌, ℕ, zero, suc, ◌-◌, ◌<◌, ◌≤◌, Bool, true, false, List, [], ◌++◌, length, take, get_or, Result, Ok, Err, Option, Some, None, refl, sym, ap, ◌∙◌, subst, arith, inl, inr}
+use Rattle.std.proofs.Common.{◌≡◌, ◌⊎◌, ℕ, zero, suc, ◌-◌, ◌<◌, ◌≤◌, Bool, true, false, List, [], ◌++◌, length, take, Result, Ok, Err, Option, Some, None, refl, sym, ap, ◌∙◌, subst, arith, inl, inr}
 use Rattle.std.specs.Prelude.{IfOk, IfErr}
-use Rattle.std.proofs.lemmas.List.{append-nil, take_all, get_or_default}
+use Rattle.std.proofs.lemmas.List.{append-nil}
+use Rattle.std.proofs.lemmas.Option.{none-some, same_Some}
 use Rattle.dx_tokens.specs.declared.tokenizer.TokenKind.TheVariants.{Word}
 use Rattle.dx_tokens.specs.declared.scanner.Lexeme.{Lexeme}
 use Rattle.dx_tokens.specs.declared.scanner.Stop.{Stop}
@@ -11,12 +12,13 @@ use Rattle.dx_tokens.specs.declared.faults.TextKind.{TextKind}
 use Rattle.dx_tokens.specs.declared.faults.TextKind.TheVariants.{Character, Expected, Ended, UnknownName, Width, Unsafe}
 use Rattle.dx_tokens.specs.Scan.{scan_of}
 use Rattle.dx_tokens.proofs.StopKinds.{stop_kind}
-use Rattle.dx_grammar.specs.Forms.{Form, Derives, Starts, IsFirstFault}
+use Rattle.dx_grammar.specs.Forms.{Derives, Starts, IsFirstFault}
 use Rattle.dx_grammar.specs.Readers.{whole, Tells}
-use Rattle.dx_grammar.proofs.Told.{start_take, fault_is_one}
+use Rattle.dx_grammar.proofs.Told.{start_take}
 use Rattle.dx_grammar.proofs.Exact.{whole_start}
 use Rattle.dx_grammar.proofs.Spelled.{NotNext, whole_again, whole_finds}
 use Rattle.dx_grammar.proofs.Counted.{not_le_test, le_test}
+use Rattle.dx_grammar.proofs.Faults.{same_ok, same_err, stands, unexpected_at, never_both, one_unexpected, one_told, never_stopped}
 use Rattle.dx_schema_text.specs.declared.texts.MappingText.{MappingText}
 use Rattle.dx_schema_text.specs.Reading.{begins_item, mapping_reader}
 use Rattle.dx_schema_text.specs.Spelling.{SpellsMapping}
@@ -41,30 +43,13 @@ mapping_read text m says =
     let read : whole (mapping_reader deepest) xs ≡ Ok m = whole_again (mapping_reader deepest) (SpellsMapping deepest) (NotNext begins_item) (mapping_again deepest) refl m xs says.spelled in
     told_read (length text) (fault_in (scan_of text).stop) (judged_tokens text) m (ap fault_in says.no_stop) (ap (whole (mapping_reader deepest)) all ∙ read)
 
-abbrev value_in : MappingText → Result MappingText TextFault → MappingText
-value_in d (Ok m) = m
-value_in d (Err f) = d
-
-abbrev fault_value : TextFault → Result MappingText TextFault → TextFault
-fault_value d (Ok m) = d
-fault_value d (Err f) = f
-
-abbrev answered : MappingText → Result MappingText TextFault
-answered m = Ok m
-
 abbrev refused : TextFault → Result MappingText TextFault
 refused f = Err f
-
-same_value : (n m : MappingText) → answered n ≡ answered m → n ≡ m
-same_value n m e = ap (value_in n) e
-
-same_fault : (f g : TextFault) → refused f ≡ refused g → f ≡ g
-same_fault f g e = ap (fault_value f) e
 
 ok_told : (end : ℕ) (stop : Option (ℕ × TextKind)) (xs : List Lexeme) (r d : Result MappingText ℕ) (m : MappingText) → told end stop xs r d ≡ Ok m → (stop ≡ None) × (r ≡ Ok m)
 ok_told end stop xs (Err zero) d m e = absurd cc
 ok_told end stop xs (Err (suc left)) d m e = absurd cc
-ok_told end None xs (Ok n) d m e = (refl, ap (λ v. Ok v) (same_value n m e))
+ok_told end None xs (Ok n) d m e = (refl, ap (λ v. Ok v) (same_ok n m e))
 ok_told end (Some p) xs (Ok n) d m e = absurd cc
 
 ok_read : (text : List ℕ) (m : MappingText) → read_text text ≡ Ok m → ((scan_of text).stop ≡ None) × (whole (mapping_reader deepest) (judged_tokens text) ≡ Ok m)
@@ -80,31 +65,6 @@ text_mapping text m e =
     record { no_stop = t.0; spelled = subst (SpellsMapping deepest m) all (whole_finds (mapping_reader deepest) (SpellsMapping deepest) (mapping_finds deepest) (judged_tokens text) m t.1) }
 
 -- ---- a fault
-
-abbrev some_of : Stop → Option Stop
-some_of s = Some s
-
-some_none : (s : Stop) → ¬ (some_of s ≡ None)
-some_none s e = cc
-
-abbrev pair_place : Option (ℕ × TextKind) → ℕ
-pair_place None = 0
-pair_place (Some p) = p.0
-
-abbrev pair_kind : Option (ℕ × TextKind) → TextKind
-pair_kind None = Character
-pair_kind (Some p) = p.1
-
-some_stop : (o : Option Stop) (p : ℕ × TextKind) → fault_in o ≡ Some p → (s : Stop) × (o ≡ Some s) × (p.0 ≡ s.place) × (p.1 ≡ s.kind)
-some_stop None p e = absurd cc
-some_stop (Some s) p e = (s, refl, ap (λ o. pair_place o) (sym e), ap (λ o. pair_kind o) (sym e))
-
-le_same : (n : ℕ) → n ≤ n
-le_same n = omega arith
-
--- the tokens up to a token, of tokens that are a start
-stands : (f : Form Lexeme) (xs : List Lexeme) (k : ℕ) → k ≤ length xs → Starts f xs → Starts f (take k xs)
-stands f xs k le s = start_take f k (length xs) xs le (subst (Starts f) (sym (take_all (length xs) xs (le_same (length xs)))) s)
 
 -- whether the tokens up to the first that can't stand, with so many left, could stand one level deeper
 deeper : (xs : List Lexeme) (left : ℕ) (d : Result MappingText ℕ) → suc left ≤ length xs → Tells deeper_form xs d → stops_by (suc left) d ≡ false → Starts deeper_form (take (suc (length xs - suc left)) xs)
@@ -126,43 +86,34 @@ blank_token = record { place = 0; kind = Word; text = [] }
 
 abbrev first_unexpected : (text : List ℕ) (left : ℕ) → suc left ≤ length (judged_tokens text) → IsFirstFault form (judged_tokens text) (length (judged_tokens text) - suc left) → IsUnexpected text (place_of (judged_tokens text) (length (judged_tokens text) - suc left))
 first_unexpected text left le first =
-    let xs = judged_tokens text in
-    let k = length xs - suc left in
-    record { number = k; first = first; token = get_or xs k blank_token; is = get_or_default xs k blank_token (get_or xs k blank_token) first.inside; at = refl }
+    unexpected_at form (λ (x : Lexeme). x.place) (judged_tokens text) (length (judged_tokens text) - suc left) blank_token first
 
 unexpected_fault : (text : List ℕ) (left : ℕ) (b : Bool) (d : Result MappingText ℕ) → stops_by (suc left) d ≡ b → suc left ≤ length (judged_tokens text) → IsFirstFault form (judged_tokens text) (length (judged_tokens text) - suc left) → Tells deeper_form (judged_tokens text) d
     → IsTextFault text (unexpected (judged_tokens text) (suc left) b)
 unexpected_fault text left true d is le first h = (first_unexpected text left le first, not_deeper (judged_tokens text) left d le h is)
 unexpected_fault text left false d is le first h = (first_unexpected text left le first, deeper (judged_tokens text) left d le h is)
 
-kind_fault : (text : List ℕ) (place : ℕ) (kind : TextKind) (c : TextKind) → kind ≡ c → c ≡ Character → IsStopped text place c → IsTextFault text (At place kind)
-kind_fault text place kind c is e s = rw (is, e) (subst (IsStopped text place) e s)
+fault_kind : (o : Option Stop) (p : ℕ × TextKind) → ((s : Stop) → o ≡ Some s → (s.kind ≡ Character) ⊎ (s.kind ≡ Ended)) → fault_in o ≡ Some p → (p.1 ≡ Character) ⊎ (p.1 ≡ Ended)
+fault_kind None p h e = absurd (none-some p e)
+fault_kind (Some s) p h e = subst (λ (q : ℕ × TextKind). (q.1 ≡ Character) ⊎ (q.1 ≡ Ended)) (same_Some (s.place, s.kind) p e) (h s refl)
 
-kind_end : (text : List ℕ) (place : ℕ) (kind : TextKind) (c : TextKind) → kind ≡ c → c ≡ Ended → IsStopped text place c → IsTextFault text (At place kind)
-kind_end text place kind c is e s = rw (is, e) (subst (IsStopped text place) e s)
+kind_fault : (text : List ℕ) (place : ℕ) (kind : TextKind) → (kind ≡ Character) ⊎ (kind ≡ Ended) → IsStopped text place kind → IsTextFault text (At place kind)
+kind_fault text place kind (inl e) s = subst (λ k. IsTextFault text (At place k)) (sym e) (subst (IsStopped text place) e s)
+kind_fault text place kind (inr e) s = subst (λ k. IsTextFault text (At place k)) (sym e) (subst (IsStopped text place) e s)
 
 -- a token fault, where all tokens can stand
 stopped_fault : (text : List ℕ) (p : ℕ × TextKind) → Starts form (judged_tokens text) → fault_in (scan_of text).stop ≡ Some p → IsTextFault text (At p.0 p.1)
-stopped_fault text p s e =
-    let t = some_stop (scan_of text).stop p e in
-    let stopped : (kind : TextKind) → kind ≡ t.0.kind → IsStopped text p.0 kind = λ kind is. record { all_stand = s; why = inl (t.0, t.1, t.2, is) } in
-    elim (stop_kind text t.0 t.1) [
-      | inl c ↦ kind_fault text p.0 p.1 Character (t.3 ∙ c) refl (stopped Character (sym c))
-      | inr c ↦ kind_end text p.0 p.1 Ended (t.3 ∙ c) refl (stopped Ended (sym c))
-    ]
-
-end_fault : (text : List ℕ) → fault_in (scan_of text).stop ≡ None → Starts form (judged_tokens text) → ¬ (Derives form (judged_tokens text)) → IsTextFault text (At (length text) Ended)
-end_fault text e s n = record { all_stand = s; why = inr (no_fault (scan_of text).stop e, refl, refl, n) }
+stopped_fault text p s e = kind_fault text p.0 p.1 (fault_kind (scan_of text).stop p (stop_kind text) e) (record { all_stand = s; why = inl e })
 
 open_fault : (text : List ℕ) (stop : Option (ℕ × TextKind)) → fault_in (scan_of text).stop ≡ stop → Starts form (judged_tokens text) → ¬ (Derives form (judged_tokens text)) → IsTextFault text (stop_fault (length text) stop)
-open_fault text None e s n = end_fault text e s n
+open_fault text None e s n = record { all_stand = s; why = inr (e, refl, refl, n) }
 open_fault text (Some p) e s n = stopped_fault text p s e
 
 err_told : (text : List ℕ) (stop : Option (ℕ × TextKind)) (r d : Result MappingText ℕ) (e : TextFault) → fault_in (scan_of text).stop ≡ stop → Tells form (judged_tokens text) r → Tells deeper_form (judged_tokens text) d
     → told (length text) stop (judged_tokens text) r d ≡ Err e → IsTextFault text e
-err_told text stop (Err zero) d e is h k told = subst (IsTextFault text) (same_fault _ e told) (open_fault text stop is h.0 h.1)
-err_told text stop (Err (suc left)) d e is h k told = subst (IsTextFault text) (same_fault _ e told) (unexpected_fault text left (stops_by (suc left) d) d refl h.0 h.1 k)
-err_told text (Some p) (Ok m) d e is h k told = subst (IsTextFault text) (same_fault _ e told) (stopped_fault text p (whole_start form (judged_tokens text) h) is)
+err_told text stop (Err zero) d e is h k told = subst (IsTextFault text) (same_err _ e told) (open_fault text stop is h.0 h.1)
+err_told text stop (Err (suc left)) d e is h k told = subst (IsTextFault text) (same_err _ e told) (unexpected_fault text left (stops_by (suc left) d) d refl h.0 h.1 k)
+err_told text (Some p) (Ok m) d e is h k told = subst (IsTextFault text) (same_err _ e told) (stopped_fault text p (whole_start form (judged_tokens text) h) is)
 err_told text None (Ok m) d e is h k told = absurd cc
 
 pub text_fault : (text : List ℕ) (e : TextFault) → read_text text ≡ Err e → IsTextFault text e
@@ -188,50 +139,19 @@ seen text (At place Unsafe) h = absurd h
 seen text (TooDeep place) h = inl (place, h.0, inr (refl, h.1))
 seen text Memory h = absurd h
 
--- the tokens up to one that can't stand are no start, where all can stand
-never_both : (text : List ℕ) (place : ℕ) (u : IsUnexpected text place) → ¬ (Starts form (judged_tokens text))
-never_both text place u s = u.first.here (stands form (judged_tokens text) (suc u.number) u.first.inside s)
-
-one_place : (text : List ℕ) (p q : ℕ) (u : IsUnexpected text p) (v : IsUnexpected text q) → (u.number ≡ v.number) × (p ≡ q)
-one_place text p q u v =
-    let xs = judged_tokens text in
-    let n : u.number ≡ v.number = fault_is_one form xs u.number v.number u.first v.first in
-    let same : u.token ≡ v.token = u.is ∙ ap (λ k. get_or xs k u.token) n ∙ get_or_default xs v.number u.token v.token v.first.inside ∙ sym v.is in
-    (n, u.at ∙ ap (λ (x : Lexeme). x.place) same ∙ sym v.at)
-
 token_same : (text : List ℕ) (e f : TextFault) → AtToken text e → AtToken text f → e ≡ f
-token_same text e f (p, u, inl a) (q, v, inl b) = let o = one_place text p q u v in a.0 ∙ ap (λ k. At k Expected) o.1 ∙ sym b.0
-token_same text e f (p, u, inl a) (q, v, inr b) = let o = one_place text p q u v in absurd (a.1 (subst (StandsDeeper text) (sym o.0) b.1))
-token_same text e f (p, u, inr a) (q, v, inl b) = let o = one_place text p q u v in absurd (b.1 (subst (StandsDeeper text) o.0 a.1))
-token_same text e f (p, u, inr a) (q, v, inr b) = let o = one_place text p q u v in a.0 ∙ ap (λ k. TooDeep k) o.1 ∙ sym b.0
-
-abbrev stop_in : Stop → Option Stop → Stop
-stop_in d None = d
-stop_in d (Some s) = s
-
-one_stop : (s t : Stop) (o : Option Stop) → o ≡ Some s → o ≡ Some t → s ≡ t
-one_stop s t o a b = ap (stop_in s) (sym a ∙ b)
-
-stop_same : (text : List ℕ) (p q : ℕ) (k l : TextKind) → IsStopped text p k → IsStopped text q l → (p ≡ q) × (k ≡ l)
-stop_same text p q k l a b = whys a.why b.why where
-  whys : ((s : Stop) × ((scan_of text).stop ≡ Some s) × (p ≡ s.place) × (k ≡ s.kind)) ⊎ (((scan_of text).stop ≡ None) × (p ≡ length text) × (k ≡ Ended) × ¬ (Derives form (judged_tokens text)))
-      → ((s : Stop) × ((scan_of text).stop ≡ Some s) × (q ≡ s.place) × (l ≡ s.kind)) ⊎ (((scan_of text).stop ≡ None) × (q ≡ length text) × (l ≡ Ended) × ¬ (Derives form (judged_tokens text)))
-      → (p ≡ q) × (k ≡ l)
-  whys (inl x) (inl y) = let e = one_stop x.0 y.0 (scan_of text).stop x.1 y.1 in (x.2 ∙ ap (λ (s : Stop). s.place) e ∙ sym y.2, x.3 ∙ ap (λ (s : Stop). s.kind) e ∙ sym y.3)
-  whys (inl x) (inr y) = absurd (some_none x.0 (sym x.1 ∙ y.0))
-  whys (inr x) (inl y) = absurd (some_none y.0 (sym y.1 ∙ x.0))
-  whys (inr x) (inr y) = (x.1 ∙ sym y.1, x.2 ∙ sym y.2)
-
-stops_same : (text : List ℕ) (e f : TextFault) → AtStop text e → AtStop text f → e ≡ f
-stops_same text e f (p, k, a, x) (q, l, b, y) = let o = stop_same text p q k l a b in x ∙ ap (λ i. At i k) o.0 ∙ ap (λ i. At q i) o.1 ∙ sym y
+token_same text e f (p, u, inl a) (q, v, inl b) = let o = one_unexpected u v in a.0 ∙ ap (λ k. At k Expected) o.1 ∙ sym b.0
+token_same text e f (p, u, inl a) (q, v, inr b) = let o = one_unexpected u v in absurd (a.1 (subst (StandsDeeper text) (sym o.0) b.1))
+token_same text e f (p, u, inr a) (q, v, inl b) = let o = one_unexpected u v in absurd (b.1 (subst (StandsDeeper text) o.0 a.1))
+token_same text e f (p, u, inr a) (q, v, inr b) = let o = one_unexpected u v in a.0 ∙ ap (λ k. TooDeep k) o.1 ∙ sym b.0
 
 pub one_fault : (text : List ℕ) (e f : TextFault) → IsTextFault text e → IsTextFault text f → e ≡ f
 one_fault text e f a b = both (seen text e a) (seen text f b) where
   both : AtToken text e ⊎ AtStop text e → AtToken text f ⊎ AtStop text f → e ≡ f
   both (inl x) (inl y) = token_same text e f x y
-  both (inl x) (inr y) = absurd (never_both text x.0 x.1 y.2.all_stand)
-  both (inr x) (inl y) = absurd (never_both text y.0 y.1 x.2.all_stand)
-  both (inr x) (inr y) = stops_same text e f x y
+  both (inl x) (inr y) = absurd (never_both x.1 y.2.all_stand)
+  both (inr x) (inl y) = absurd (never_both y.1 x.2.all_stand)
+  both (inr x) (inr y) = one_told (λ place kind. At place kind) x.2 x.3 y.2 y.3
 
 -- a text that says a mapping has no fault
 no_fault_said : (text : List ℕ) (m : MappingText) (e : TextFault) → read_text text ≡ Ok m → ¬ (IsTextFault text e)
@@ -240,11 +160,8 @@ no_fault_said text m e r h = against (seen text e h) where
   all = subst (Tells form (judged_tokens text)) (ok_read text m r).1 (mapping_tells deepest (judged_tokens text))
 
   against : ¬ (AtToken text e ⊎ AtStop text e)
-  against (inl x) = never_both text x.0 x.1 (whole_start form (judged_tokens text) all)
-  against (inr x) = stopped x.2.why where
-    stopped : ¬ (((s : Stop) × ((scan_of text).stop ≡ Some s) × (x.0 ≡ s.place) × (x.1 ≡ s.kind)) ⊎ (((scan_of text).stop ≡ None) × (x.0 ≡ length text) × (x.1 ≡ Ended) × ¬ (Derives form (judged_tokens text))))
-    stopped (inl y) = some_none y.0 (sym y.1 ∙ (ok_read text m r).0)
-    stopped (inr y) = y.3 all
+  against (inl x) = never_both x.1 (whole_start form (judged_tokens text) all)
+  against (inr x) = never_stopped (ap fault_in (ok_read text m r).0) all x.2
 
 pub fault_read : (text : List ℕ) (e : TextFault) → IsTextFault text e → read_text text ≡ Err e
 fault_read text e h = answer (read_text text) refl where
@@ -255,7 +172,7 @@ fault_read text e h = answer (read_text text) refl where
 -- ---- a text says one thing
 
 pub one_mapping : (text : List ℕ) (m n : MappingText) → IsMappingText text m → IsMappingText text n → m ≡ n
-one_mapping text m n p q = same_value m n (sym (mapping_read text m p) ∙ mapping_read text n q)
+one_mapping text m n p q = same_ok m n (sym (mapping_read text m p) ∙ mapping_read text n q)
 
 pub never_said_and_faulty : (text : List ℕ) (m : MappingText) (e : TextFault) → IsMappingText text m → ¬ (IsTextFault text e)
 never_said_and_faulty text m e says = no_fault_said text m e (mapping_read text m says)

@@ -1,11 +1,10 @@
 -- Tokens that can't be mistaken for each other.
-use Rattle.std.proofs.Common.{◌≡◌, ℕ, Bool, true, false, ◌||◌, List, refl, sym}
+use Rattle.std.proofs.Common.{◌≡◌, ℕ, true, false, List, refl, sym}
 use Rattle.std.specs.Prelude.{nat_eq}
 use Rattle.std.specs.Cmp.Lexicographic.{pointwise, same_text}
 use Rattle.std.proofs.lemmas.Bool.{and_parts}
 use Rattle.dx_tokens.specs.declared.tokenizer.TokenKind.{TokenKind}
 use Rattle.dx_tokens.specs.declared.tokenizer.TokenKind.TheVariants.{Word, Number, Str, Mark}
-use Rattle.dx_tokens.specs.declared.scanner.Lexeme.{Lexeme}
 use Rattle.dx_grammar.proofs.Verdicts.{AreApart}
 use Rattle.dx_schema_text.specs.Grammar.{is_word_kind, is_string_kind, is_mark_kind, is_word, is_string, word_is, mark_is}
 
@@ -56,13 +55,3 @@ apart_any_word_string x e = word_no_string x.kind e
 
 pub apart_string_any_word : AreApart is_string is_word
 apart_string_any_word x e = string_no_word x.kind e
-
--- where the next token may pass one of two tests
-pub apart_or : (p q r : Lexeme → Bool) → AreApart p q → AreApart p r → AreApart p (λ x. q x || r x)
-apart_or p q r h k x e = rw (h x e, k x e) refl
-
-pub or_apart : (p q r : Lexeme → Bool) → AreApart p r → AreApart q r → AreApart (λ x. p x || q x) r
-or_apart p q r h k x e = or_case (p x) (q x) (h x) (k x) e where
-  or_case : (a b : Bool) → (a ≡ true → r x ≡ false) → (b ≡ true → r x ≡ false) → (a || b) ≡ true → r x ≡ false
-  or_case true b f g e = f refl
-  or_case false b f g e = g e

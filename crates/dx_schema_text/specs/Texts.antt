@@ -8,7 +8,8 @@ use Rattle.dx_tokens.specs.declared.tokenizer.TokenKind.TheVariants.{Word}
 use Rattle.dx_tokens.specs.declared.scanner.Lexeme.{Lexeme}
 use Rattle.dx_tokens.specs.declared.scanner.Stop.{Stop}
 use Rattle.dx_tokens.specs.Scan.{scan_of}
-use Rattle.dx_grammar.specs.Forms.{Form, Derives, Starts, IsFirstFault}
+use Rattle.dx_grammar.specs.Forms.{Form, Starts}
+use Rattle.dx_grammar.specs.Faults.{IsUnexpectedAt, IsStoppedAt}
 use Rattle.dx_grammar.specs.Readers.{whole}
 use Rattle.dx_schema_text.specs.declared.texts.MappingText.{MappingText}
 use Rattle.dx_schema_text.specs.Grammar.{mapping}
@@ -44,23 +45,22 @@ pub record IsMappingText (text : List ℕ) (m : MappingText) : Type 0 where
   pub no_stop : (scan_of text).stop ≡ None
   pub spelled : SpellsMapping deepest m (scan_of text).lexemes
 
+-- the place and the kind of a token fault
+abbrev pub fault_in : Option Stop → Option (ℕ × TextKind)
+fault_in None = None
+fault_in (Some s) = Some (s.place, s.kind)
+
 -- The token that stands at this place is the first that can't stand.
-pub record IsUnexpected (text : List ℕ) (place : ℕ) : Type 0 where
-  pub number : ℕ
-  pub first : IsFirstFault form (judged_tokens text) number
-  pub token : Lexeme
-  pub is : token ≡ slice_index_or (judged_tokens text) number token
-  pub at : place ≡ token.place
+abbrev pub IsUnexpected : List ℕ → ℕ → Type 0
+IsUnexpected text place = IsUnexpectedAt form (λ (x : Lexeme). x.place) (judged_tokens text) place
 
 -- The token could stand if sets might be nested one level deeper.
 abbrev pub StandsDeeper : List ℕ → ℕ → Type 0
 StandsDeeper text number = Starts deeper_form (take (suc number) (judged_tokens text))
 
 -- All tokens can stand, and the text stops at a token fault or ends too early.
-pub record IsStopped (text : List ℕ) (place : ℕ) (kind : TextKind) : Type 0 where
-  pub all_stand : Starts form (judged_tokens text)
-  pub why : ((s : Stop) × ((scan_of text).stop ≡ Some s) × (place ≡ s.place) × (kind ≡ s.kind))
-      ⊎ (((scan_of text).stop ≡ None) × (place ≡ length text) × (kind ≡ Ended) × ¬ (Derives form (judged_tokens text)))
+abbrev pub IsStopped : List ℕ → ℕ → TextKind → Type 0
+IsStopped text place kind = IsStoppedAt form (judged_tokens text) (fault_in (scan_of text).stop) (length text) Ended place kind
 
 -- The first fault of a text.
 abbrev pub IsTextFault : List ℕ → TextFault → Type 0
@@ -72,11 +72,6 @@ IsTextFault text (TooDeep place) = (u : IsUnexpected text place) × StandsDeeper
 IsTextFault text Memory = ⊥
 
 -- ---- the answer, as it is computed: the tokens are read with 15 levels of inner sets, and where one can't stand, with 16
-
--- the place and the kind of a token fault
-abbrev pub fault_in : Option Stop → Option (ℕ × TextKind)
-fault_in None = None
-fault_in (Some s) = Some (s.place, s.kind)
 
 -- whether a reader stops at the token with which so many are left, or before it
 abbrev pub stops_by : {A : Type 0} → ℕ → Result A ℕ → Bool

@@ -1,16 +1,21 @@
--- The scripts of small rules, computed.
-use Rattle.std.proofs.Common.{◌≡◌, false, List, [], ◌∷◌, refl}
+-- The scripts of small rules, computed, and steps that don't fit.
+use Rattle.std.proofs.Common.{◌≡◌, true, false, List, [], ◌∷◌, refl, arith}
 use Rattle.dx_model.specs.declared.rules.Cell.TheVariants.{Var, Ex, Lit}
 use Rattle.dx_model.specs.declared.rules.Rule.{Rule}
 use Rattle.std.specs.Prelude.{codes}
 use Rattle.dx_schema.specs.Names.{Named}
 use Rattle.dx_funcs.specs.declared.conversion.Conversion.{Conversion}
-use Rattle.dx_script.specs.declared.form.Step.TheVariants.{Create, MatchRows, InsertRows}
+use Rattle.dx_script.specs.declared.form.Step.{Step}
+use Rattle.dx_script.specs.declared.form.Step.TheVariants.{Create, MatchRows, KeepRows, InsertRows}
+use Rattle.dx_script.specs.declared.form.Out.{Out}
 use Rattle.dx_script.specs.declared.form.Select.TheVariants.{Cell as Shown, Call}
 use Rattle.dx_script.specs.declared.form.Out.TheVariants.{Column, Literal, Skolem}
 use Rattle.dx_script.specs.declared.form.Test.TheVariants.{Columns}
-use Rattle.dx_script.specs.Generated.{plain_steps}
-use Rattle.dx_script.specs.Rewritten.{unless_parts}
+use Rattle.dx_script.specs.declared.form.Unless.{Unless}
+use Rattle.dx_ports.specs.Members.{◌∈◌, here, there}
+use Rattle.dx_script.specs.Fits.{CellFits, FitsScript, HasColumn, InsertFits, KeepFits, MatchFits, ReadsKept, SelectFits, TestFits, UnlessFits}
+use Rattle.dx_script.specs.Generated.{equals, plain_steps, spots}
+use Rattle.dx_script.specs.Rewritten.{rewritten_steps, unless_parts}
 
 -- tables of two columns
 source : List Named
@@ -56,3 +61,102 @@ parts = refl
 no_parts : unless_parts (narrow ∷ wide ∷ []) 1 ≡ []
 unfolding narrow wide
 no_parts = refl
+
+-- each further cell of a variable is equal to its first one: A(x0, x0), A(x0, x1)
+thrice : Rule
+thrice = record {
+  premise = record { table = 0; cells = Var 0 ∷ Var 0 ∷ [] } ∷ record { table = 0; cells = Var 0 ∷ Var 1 ∷ [] } ∷ [];
+  derived = [];
+  conclusion = record { table = 0; cells = Var 0 ∷ Var 1 ∷ [] } ∷ [];
+}
+
+to_the_first : equals (spots source 0 thrice.premise)
+    ≡ record { left = record { alias = 0; column = codes "a" }; right = record { alias = 0; column = codes "b" } }
+    ∷ record { left = record { alias = 0; column = codes "a" }; right = record { alias = 1; column = codes "a" } }
+    ∷ []
+unfolding source thrice
+to_the_first = refl
+
+-- T(y0, x1) is not kept either where T(x0, x1) has a tuple with the same second column: match steps, keep steps and insert steps
+-- each come in the order of the rules
+other : Rule
+other = record { premise = record { table = 0; cells = Var 0 ∷ Var 1 ∷ [] } ∷ []; derived = []; conclusion = record { table = 0; cells = Ex 0 ∷ Var 1 ∷ [] } ∷ [] }
+
+rewritten : rewritten_steps source target list (narrow ∷ other ∷ wide ∷ [])
+    ≡ Create (codes "T") (codes "c" ∷ codes "d" ∷ [])
+    ∷ MatchRows 0 (Shown (record { alias = 0; column = codes "a" }) ∷ []) (codes "A" ∷ []) []
+    ∷ MatchRows 1 (Shown (record { alias = 0; column = codes "b" }) ∷ []) (codes "A" ∷ []) []
+    ∷ MatchRows 2 (Shown (record { alias = 0; column = codes "a" }) ∷ Shown (record { alias = 0; column = codes "b" }) ∷ []) (codes "A" ∷ []) []
+    ∷ KeepRows 0 (record { rule = 2; tests = Columns 0 0 ∷ [] } ∷ [])
+    ∷ KeepRows 1 (record { rule = 2; tests = Columns 1 0 ∷ [] } ∷ [])
+    ∷ InsertRows (codes "T") 0 true (Column 0 ∷ Skolem 0 ∷ [])
+    ∷ InsertRows (codes "T") 1 true (Skolem 0 ∷ Column 0 ∷ [])
+    ∷ InsertRows (codes "T") 2 false (Column 0 ∷ Column 1 ∷ [])
+    ∷ []
+unfolding source target list narrow other wide
+rewritten = refl
+
+-- ---- what doesn't fit
+
+-- a script that creates no table, where the target has one
+no_table_is_created : ¬ FitsScript source target list []
+unfolding target
+no_table_is_created h = absurd (cc h.creates)
+
+-- a cell of an alias that is not there, or of another column
+no_alias : ¬ CellFits source (codes "A" ∷ []) (record { alias = 1; column = codes "a" })
+no_alias h = omega (arith, h.alias)
+
+no_column : ¬ CellFits source (codes "A" ∷ []) (record { alias = 0; column = codes "c" })
+unfolding source
+no_column h = elim h.column [ here e ↦ absurd (cc e) | there m ↦ elim m [ here e ↦ absurd (cc e) | there n ↦ elim n [ ] ] ]
+
+-- a conversion of no cell that takes one
+too_few_cells : ¬ SelectFits source list (codes "A" ∷ []) (Call (codes "f") [])
+unfolding list
+too_few_cells h = omega (arith, h.0)
+
+-- the match table of rule 0, of one column, and its target table
+before : List Step
+before = Create (codes "T") (codes "c" ∷ codes "d" ∷ []) ∷ MatchRows 0 (Shown (record { alias = 0; column = codes "a" }) ∷ []) (codes "A" ∷ []) [] ∷ []
+
+-- a number of a rule that comes again, or too early
+number_again : ¬ MatchFits source list before 0 [] [] []
+unfolding before
+number_again h = omega (arith, h.number)
+
+number_left_out : ¬ MatchFits source list before 2 [] [] []
+unfolding before
+number_left_out h = omega (arith, h.number)
+
+-- a test of a column that is not there
+no_own_column : ¬ TestFits before 0 0 (Columns 0 1)
+unfolding before
+no_own_column h = omega (arith, h.1.1)
+
+-- a partner of a table that is not there
+no_partner : ¬ UnlessFits before 0 (record { rule = 1; tests = [] })
+unfolding before
+no_partner h = omega (arith, h.rule)
+
+-- a keep table without a match table, or a second one
+kept_too_early : (unless : List Unless) → ¬ KeepFits [] 0 unless
+kept_too_early unless h = omega (arith, h.rule)
+
+kept_again : (unless : List Unless) → ¬ KeepFits (KeepRows 0 unless ∷ []) 0 unless
+kept_again unless h = h.one (here refl)
+
+-- an insert into a table that is not created yet, of too few cells, of a keep table that comes later, and of the match table
+-- where tuples are kept
+not_created : (cells : List Out) → ¬ InsertFits target before [] (codes "T") 0 false cells
+not_created cells h = elim h.made [ ]
+
+too_few_columns : ¬ InsertFits target before before (codes "T") 0 false (Column 0 ∷ [])
+unfolding target before
+too_few_columns h = omega (arith, h.width)
+
+kept_later : (steps : List Step) → ¬ ReadsKept steps [] 0 true
+kept_later steps h = elim h [ ]
+
+all_where_some_are_kept : (unless : List Unless) → ¬ ReadsKept (KeepRows 0 unless ∷ []) [] 0 false
+all_where_some_are_kept unless h = h (here refl)

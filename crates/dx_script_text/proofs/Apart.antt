@@ -1,5 +1,5 @@
 -- Tokens that can't be mistaken for each other.
-use Rattle.std.proofs.Common.{◌≡◌, ℕ, Bool, true, false, ◌&&◌, ◌||◌, refl}
+use Rattle.std.proofs.Common.{◌≡◌, ℕ, Bool, true, false, ◌&&◌, refl}
 use Rattle.std.specs.Prelude.{nat_eq}
 use Rattle.std.proofs.lemmas.Bool.{and_parts}
 use Rattle.dx_grammar.specs.Numbers.{has_number}
@@ -26,13 +26,3 @@ apart_kind_number j k n ne x e = and_left (of_kind k x) (nat_eq x.number n) (apa
 
 pub apart_numbers : (j : ScriptKind) (n : ℕ) (k : ScriptKind) (m : ℕ) → nat_eq (rank j) (rank k) ≡ false → AreApart (has_number (of_kind j) number n) (has_number (of_kind k) number m)
 apart_numbers j n k m ne x e = and_left (of_kind k x) (nat_eq x.number m) (apart_number_kind j n k ne x e)
-
--- where the next token may pass one of two tests
-pub apart_or : (p q r : ScriptToken → Bool) → AreApart p q → AreApart p r → AreApart p (λ x. q x || r x)
-apart_or p q r h k x e = rw (h x e, k x e) refl
-
-pub or_apart : (p q r : ScriptToken → Bool) → AreApart p r → AreApart q r → AreApart (λ x. p x || q x) r
-or_apart p q r h k x e = or_case (p x) (q x) (h x) (k x) e where
-  or_case : (a b : Bool) → (a ≡ true → r x ≡ false) → (b ≡ true → r x ≡ false) → (a || b) ≡ true → r x ≡ false
-  or_case true b f g e = f refl
-  or_case false b f g e = g e

@@ -6,7 +6,7 @@ use Rattle.dx_grammar.specs.Lists.{listed, list_reader, past}
 use Rattle.dx_grammar.specs.Numbers.{counted, counted_reader, has_number, always, knowing}
 use Rattle.dx_grammar.specs.Readers.{give, token}
 use Rattle.dx_grammar.proofs.Verdicts.{ends, IsReader, Anything, Stops, Begins, AreApart}
-use Rattle.dx_grammar.proofs.Combined.{one_reads, nothing_reads, then_reads, then_any, last_reads, either_reads, many_reads, begins_one, begins_both, begins_choice, begins_wider, stops_at, stops_past, consumes}
+use Rattle.dx_grammar.proofs.Combined.{one_reads, nothing_reads, then_reads, then_any, last_reads, either_reads, many_reads, begins_one, begins_both, begins_choice, begins_wider, stops_at, stops_past, consumes, apart_or}
 use Rattle.dx_grammar.proofs.Lists.{past_begins, past_reads, past_consumes, list_reads}
 use Rattle.dx_grammar.proofs.Counted.{counted_reads}
 use Rattle.dx_grammar.proofs.Learned.{ConsumesKnown}
@@ -17,7 +17,7 @@ use Rattle.dx_script_tokens.specs.declared.kinds.ScriptKind.{ScriptKind}
 use Rattle.dx_script_tokens.specs.declared.kinds.ScriptKind.TheVariants as kinds
 use Rattle.dx_script_text.specs.Grammar.{of_kind, number, match_is, keep_is, alias_is, column_is, number_is, is_table, is_comma, is_and, any, declared_column, create_rest, cell, call, value, item, items, select, source, sources, equal, where_part, match_rest, test, tests, unless, keep_tail, keep_rest, text_out, column_out, skolem_tail, skolem_out, out, insert_end, insert_tail, insert, table_rest, step, script}
 use Rattle.dx_script_text.specs.Reading.{declared_reader, create_reader, cell_reader, call_reader, cell_value_reader, value_reader, item_reader, comma_item, items_reader, no_items, select_reader, source_reader, comma_source, sources_reader, equal_reader, equals_reader, where_reader, match_reader, columns_reader, text_reader, test_reader, tests_reader, optional_tests, unless_reader, keep_tail_reader, keep_reader, text_out_reader, column_out_reader, skolem_tail_reader, skolem_reader, out_reader, comma_out, outs_reader, insert_end_reader, insert_tail_reader, insert_reader, table_reader, created_reader, step_reader, begins_step, script_reader}
-use Rattle.dx_script_text.proofs.Apart.{apart_kinds, apart_number_kind, apart_or}
+use Rattle.dx_script_text.proofs.Apart.{apart_kinds, apart_number_kind}
 
 -- a token, whatever follows
 a : (p : ScriptToken → Bool) → IsReader Anything (one p) (token p)

@@ -10,3 +10,4 @@ pub mod Answered
 pub mod Fronts
 pub mod PrintScans
 pub mod PrintReads
+mod ReadExamples

@@ -1,10 +1,15 @@
--- Worked values of printed scripts.
-use Rattle.std.proofs.Common.{◌≡◌, [], ◌∷◌, refl}
+-- Worked values of printed scripts, and a printable one.
+use Rattle.std.proofs.Common.{◌≡◌, [], ◌∷◌, refl, arith}
 use Rattle.std.specs.Prelude.{codes, true}
 use Rattle.std.specs.Fmt.{digits}
 use Rattle.dx_script.specs.declared.form.Select.TheVariants as selected
 use Rattle.dx_script.specs.declared.form.Test.TheVariants as tested
 use Rattle.dx_script.specs.declared.form.Out.TheVariants as outs
+use Rattle.dx_script.specs.declared.form.Step.TheVariants as steps
+use Rattle.dx_ports.specs.Members.{Each}
+use Rattle.dx_ports.proofs.Members.{each_cons}
+use Rattle.dx_tokens.specs.Tokens.{is_word_byte}
+use Rattle.dx_script_text.specs.Printable.{IsCellRef, IsEqual, IsName, IsOut, IsPrintable, IsSelect, IsStep, IsTest, IsUnless}
 use Rattle.dx_script_text.specs.Print.{create_text, match_text, keep_text, insert_text}
 
 created : create_text (codes "unit") (codes "#id" ∷ codes "uname" ∷ []) ≡ codes "CREATE TABLE target.\"unit\" (\"#id\" TEXT, \"uname\" TEXT);\n"
@@ -30,3 +35,48 @@ kept = refl
 inserted : insert_text (codes "unit") 1 true (outs.Skolem 0 ∷ outs.Column 0 ∷ outs.Literal (codes "main") ∷ []) ≡ codes "INSERT INTO target.\"unit\" SELECT SKOLEM(1, 0, m.place), m.c0, 'main' FROM k1 AS m;\n"
 unfolding digits
 inserted = refl
+
+-- ---- which scripts can be printed so that they are read again
+
+no_item : {X : Type 0} (P : X → Type 0) → Each [] P
+no_item P x m = elim m [ ]
+
+one_item : {X : Type 0} (P : X → Type 0) (x : X) → P x → Each (x ∷ []) P
+one_item P x p = each_cons x [] p (no_item P)
+
+hash : IsName (codes "#t")
+hash = (refl, one_item (λ b. is_word_byte b ≡ true) 116 refl)
+
+letter : IsName (codes "a")
+letter = (refl, no_item (λ b. is_word_byte b ≡ true))
+
+-- a name has a character, and no blank
+no_character : ¬ IsName []
+no_character h = h
+
+no_blank : ¬ IsName (codes " a")
+no_blank h = absurd (cc h.0)
+
+cell_is : IsCellRef (record { alias = 4294967295; column = codes "a" })
+cell_is = (omega arith, letter)
+
+create_step : IsStep (steps.Create (codes "#t") (codes "a" ∷ []))
+create_step = (hash, ((λ e. cc), one_item IsName (codes "a") letter))
+
+-- a target table without columns can't be
+no_columns : ¬ IsStep (steps.Create (codes "#t") [])
+no_columns h = h.1.0 refl
+
+match_step : IsStep (steps.MatchRows 4294967295 (selected.Cell (record { alias = 4294967295; column = codes "a" }) ∷ []) (codes "a" ∷ []) [])
+match_step = (omega arith, (one_item IsSelect (selected.Cell (record { alias = 4294967295; column = codes "a" })) cell_is, omega arith), (((λ e. cc), one_item IsName (codes "a") letter), omega arith), no_item IsEqual)
+
+keep_step : IsStep (steps.KeepRows 4294967295 (record { rule = 0; tests = tested.Columns 4294967295 10 ∷ [] } ∷ []))
+keep_step = (omega arith, ((λ e. cc), one_item IsUnless (record { rule = 0; tests = tested.Columns 4294967295 10 ∷ [] }) (omega arith, one_item IsTest (tested.Columns 4294967295 10) (omega arith, omega arith))))
+
+insert_step : IsStep (steps.InsertRows (codes "#t") 4294967295 true (outs.Skolem 4294967295 ∷ []))
+insert_step = (hash, omega arith, ((λ e. cc), one_item IsOut (outs.Skolem 4294967295) (omega arith)))
+
+printable : IsPrintable (record { steps = steps.Create (codes "#t") (codes "a" ∷ []) ∷ steps.InsertRows (codes "#t") 4294967295 true (outs.Skolem 4294967295 ∷ []) ∷ [] })
+printable =
+    each_cons (steps.Create (codes "#t") (codes "a" ∷ [])) (steps.InsertRows (codes "#t") 4294967295 true (outs.Skolem 4294967295 ∷ []) ∷ []) create_step
+    (one_item IsStep (steps.InsertRows (codes "#t") 4294967295 true (outs.Skolem 4294967295 ∷ [])) insert_step)

@@ -9,7 +9,8 @@ use Rattle.dx_script_tokens.specs.declared.scanner.ScriptStop.{ScriptStop}
 use Rattle.dx_script_tokens.specs.declared.kinds.ScriptKind.TheVariants as kinds
 use Rattle.dx_script_tokens.specs.Numbers.{greatest}
 use Rattle.dx_script_tokens.specs.Scan.{scan_of, plain_token}
-use Rattle.dx_grammar.specs.Forms.{Form, Derives, Starts, IsFirstFault}
+use Rattle.dx_grammar.specs.Forms.{Form}
+use Rattle.dx_grammar.specs.Faults.{IsUnexpectedAt, IsStoppedAt}
 use Rattle.dx_grammar.specs.Readers.{whole}
 use Rattle.dx_script.specs.declared.form.Step.{Step}
 use Rattle.dx_script.specs.declared.form.Script.{Script}
@@ -38,19 +39,18 @@ pub record IsScriptText (text : List ℕ) (s : Script) : Type 0 where
   pub no_stop : (scan_of text).stop ≡ None
   pub spelled : SpellsScript greatest s.steps (scan_of text).tokens
 
+-- the place and the kind of a token fault
+abbrev pub fault_in : Option ScriptStop → Option (ℕ × TextKind)
+fault_in None = None
+fault_in (Some s) = Some (s.place, s.kind)
+
 -- The token that stands at this place is the first that can't stand.
-pub record IsUnexpected (text : List ℕ) (place : ℕ) : Type 0 where
-  pub number : ℕ
-  pub first : IsFirstFault form (judged_tokens text) number
-  pub token : ScriptToken
-  pub is : token ≡ slice_index_or (judged_tokens text) number token
-  pub at : place ≡ token.place
+abbrev pub IsUnexpected : List ℕ → ℕ → Type 0
+IsUnexpected text place = IsUnexpectedAt form (λ (x : ScriptToken). x.place) (judged_tokens text) place
 
 -- All tokens can stand, and the text stops at a token fault or ends too early.
-pub record IsStopped (text : List ℕ) (place : ℕ) (kind : TextKind) : Type 0 where
-  pub all_stand : Starts form (judged_tokens text)
-  pub why : ((s : ScriptStop) × ((scan_of text).stop ≡ Some s) × (place ≡ s.place) × (kind ≡ s.kind))
-      ⊎ (((scan_of text).stop ≡ None) × (place ≡ length text) × (kind ≡ Ended) × ¬ (Derives form (judged_tokens text)))
+abbrev pub IsStopped : List ℕ → ℕ → TextKind → Type 0
+IsStopped text place kind = IsStoppedAt form (judged_tokens text) (fault_in (scan_of text).stop) (length text) Ended place kind
 
 -- The first fault of a text.
 abbrev pub IsTextFault : List ℕ → TextFault → Type 0
@@ -62,11 +62,6 @@ IsTextFault text (TooDeep place) = ⊥
 IsTextFault text Memory = ⊥
 
 -- ---- the answer, as it is computed
-
--- the place and the kind of a token fault
-abbrev pub fault_in : Option ScriptStop → Option (ℕ × TextKind)
-fault_in None = None
-fault_in (Some s) = Some (s.place, s.kind)
 
 -- the place of a token
 abbrev pub place_of : List ScriptToken → ℕ → ℕ

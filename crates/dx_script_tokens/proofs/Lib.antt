@@ -6,3 +6,5 @@ pub mod Decimal
 pub mod Standing
 pub mod Doubled
 pub mod QuotedTexts
+pub mod Ranks
+mod Examples

@@ -1,5 +1,5 @@
 // The kinds of tokens, and marks.
-ghost use Rattle.std.specs.Prelude.{◌≡◌, nat_eq};
+ghost use Rattle.std.specs.Prelude.{◌≡◌, ◌↔◌, IsTrue, nat_eq};
 ghost use Rattle.dx_script_tokens.specs.Kinds.{is_mark, mark_kind, rank};
 
 /// Which token it is.
@@ -98,7 +98,8 @@ impl ScriptKind {
 
     /// Whether two kinds are one.
     pub fn is(self, other: ScriptKind) -> bool
-        ensures { result ≡ nat_eq (rank self) (rank other) }
+        ensures value { result ≡ nat_eq (rank self) (rank other) }
+        ensures same { IsTrue result ↔ (self ≡ other) }
     {
         self.rank() == other.rank()
     }

@@ -1,0 +1,81 @@
+-- Small texts that are read as scripts, and first faults of others, computed.
+use Rattle.std.proofs.Common.{◌≡◌, ℕ, true, List, [], ◌∷◌, Result, Ok, Err, codes, refl}
+use Rattle.dx_tokens.specs.declared.faults.TextFault.{TextFault}
+use Rattle.dx_tokens.specs.declared.faults.TextFault.TheVariants.{At}
+use Rattle.dx_tokens.specs.declared.faults.TextKind.TheVariants.{Character, Expected, Ended}
+use Rattle.dx_grammar.specs.Readers.{many}
+use Rattle.dx_grammar.specs.Numbers.{counted_reader, knowing, knowing_within}
+use Rattle.dx_script_tokens.specs.Numbers.{more_digits, numeral_of}
+use Rattle.dx_script_tokens.specs.Kinds.{numbered_word, small_word, inner_word, word_says}
+use Rattle.dx_script_tokens.specs.Pieces.{text_item, text_from, piece_at}
+use Rattle.dx_script_tokens.specs.Scan.{scan_from}
+use Rattle.dx_script.specs.declared.form.Test.TheVariants as tested
+use Rattle.dx_script.specs.declared.form.Out.TheVariants as outs
+use Rattle.dx_script.specs.declared.form.Step.TheVariants as steps
+use Rattle.dx_script.specs.declared.form.Script.{Script}
+use Rattle.dx_script_text.specs.Reading.{call_reader, cell_reader, cell_value_reader, column_out_reader, columns_reader, comma_item, comma_out, comma_source, create_reader, created_reader, declared_reader, equal_reader, equals_reader, insert_end_reader, insert_reader, insert_tail_reader, item_reader, items_reader, keep_reader, keep_tail_reader, match_reader, no_items, optional_tests, out_reader, outs_reader, script_reader, select_reader, skolem_reader, skolem_tail_reader, source_reader, sources_reader, step_reader, table_reader, test_reader, tests_reader, text_out_reader, text_reader, unless_reader, value_reader, where_reader}
+use Rattle.dx_script_text.specs.Texts.{told_of, read_text}
+
+-- what is read of a text
+read : List ℕ → Result Script TextFault
+unfolding told_of scan_from piece_at text_from text_item word_says inner_word small_word numbered_word numeral_of more_digits many knowing knowing_within counted_reader script_reader step_reader created_reader table_reader create_reader declared_reader match_reader select_reader no_items items_reader comma_item item_reader value_reader cell_value_reader call_reader cell_reader sources_reader comma_source source_reader where_reader equals_reader equal_reader keep_reader keep_tail_reader unless_reader optional_tests tests_reader test_reader columns_reader text_reader insert_reader insert_tail_reader outs_reader comma_out out_reader skolem_reader skolem_tail_reader text_out_reader column_out_reader insert_end_reader
+read text = read_text text
+
+-- a step of each kind
+created : read (codes "CREATE TABLE target.\"t\"(\"a\" TEXT);") ≡ Ok (record { steps = steps.Create (codes "t") (codes "a" ∷ []) ∷ [] })
+unfolding read
+created = refl
+
+matched : read (codes "CREATE TABLE m2 AS SELECT DISTINCT 1 FROM source.\"s\" AS a0;") ≡ Ok (record { steps = steps.MatchRows 2 [] (codes "s" ∷ []) [] ∷ [] })
+unfolding read
+matched = refl
+
+kept : read (codes "CREATE TABLE k0 AS SELECT * FROM m0 AS m WHERE NOT EXISTS (SELECT * FROM m1 AS n WHERE n.c2 = m.c0);") ≡ Ok (record { steps = steps.KeepRows 0 (record { rule = 1; tests = tested.Columns 2 0 ∷ [] } ∷ []) ∷ [] })
+unfolding read
+kept = refl
+
+inserted : read (codes "INSERT INTO target.\"t\" SELECT SKOLEM(3, 1, m.place), m.c0 FROM k3 AS m;") ≡ Ok (record { steps = steps.InsertRows (codes "t") 3 true (outs.Skolem 1 ∷ outs.Column 0 ∷ []) ∷ [] })
+unfolding read
+inserted = refl
+
+-- columns and aliases are numbered from 0 without a gap
+columns_begin_at_0 : read (codes "CREATE TABLE m0 AS SELECT DISTINCT a0.\"x\" AS c1") ≡ Err (At 45 Expected)
+unfolding read
+columns_begin_at_0 = refl
+
+aliases_go_on : read (codes "CREATE TABLE m0 AS SELECT DISTINCT 1 FROM source.\"s\" AS a0, source.\"s\" AS a2") ≡ Err (At 74 Expected)
+unfolding read
+aliases_go_on = refl
+
+-- a step speaks of one rule
+kept_of_its_rule : read (codes "CREATE TABLE k0 AS SELECT * FROM m1") ≡ Err (At 33 Expected)
+unfolding read
+kept_of_its_rule = refl
+
+inserted_of_its_rule : read (codes "INSERT INTO target.\"t\" SELECT SKOLEM(0, 1, m.place) FROM m1 AS m;") ≡ Err (At 57 Expected)
+unfolding read
+inserted_of_its_rule = refl
+
+-- a keep step has partners
+no_partners : read (codes "CREATE TABLE k0 AS SELECT * FROM m0 AS m;") ≡ Err (At 40 Expected)
+unfolding read
+no_partners = refl
+
+-- the end of the text, also within a name that could stand
+ends_early : read (codes "CREATE TABLE") ≡ Err (At 12 Ended)
+unfolding read
+ends_early = refl
+
+ends_in_a_name : read (codes "CREATE TABLE target.\"t") ≡ Err (At 22 Ended)
+unfolding read
+ends_in_a_name = refl
+
+-- a name that is begun where none can stand is told at its begin
+name_cannot_stand : read (codes "CREATE \"t") ≡ Err (At 7 Expected)
+unfolding read
+name_cannot_stand = refl
+
+-- a byte that begins no token
+no_character : read (codes "CREATE -") ≡ Err (At 7 Character)
+unfolding read
+no_character = refl
