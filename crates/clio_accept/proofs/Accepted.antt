@@ -20,7 +20,7 @@ use Rattle.dx_logical.specs.declared.relation.Occurrence.{Occurrence}
 use Rattle.dx_logical.specs.Laws.{IsUnfolding}
 use Rattle.dx_logical.specs.Unfolding.{unfolding_of}
 use Rattle.dx_schema.proofs.Whole.{links_fit}
-use Rattle.dx_logical.proofs.Facts.{unfoldings_are}
+use Rattle.dx_logical.proofs.Unfoldings.{unfoldings_are}
 use Rattle.dx_line_text.specs.Naming.{lines_fault, lines_of, IsOffered, IsOfferedFrom}
 use Rattle.dx_line_text.proofs.Fits.{lines_fit, lines_offered}
 use Rattle.dx_tgd_text.specs.Reading.{IsNarrow, rules_fault}

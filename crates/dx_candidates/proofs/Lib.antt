@@ -10,3 +10,5 @@ pub mod Tree
 pub mod Decide
 pub mod Listed
 pub mod FirstOnes
+pub mod Picked
+pub mod CandidatesAre

@@ -6,7 +6,7 @@ use Rattle.dx_model.specs.Tables.{Table, table_of, AreWithin}
 use Rattle.dx_logical.specs.declared.relation.Occurrence.{Occurrence}
 use Rattle.dx_logical.specs.declared.relation.Relation.{Relation}
 use Rattle.dx_logical.specs.Unfolding.{unfolding_of, sub}
-use Rattle.dx_logical.proofs.Facts.{unfoldings_are}
+use Rattle.dx_logical.proofs.Unfoldings.{unfoldings_are}
 use Rattle.dx_lines.specs.declared.line.Line.{Line}
 use Rattle.dx_lines.specs.Candidates.{upto}
 use Rattle.dx_lines.specs.Limits.{LineFits}

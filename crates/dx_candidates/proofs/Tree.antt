@@ -11,7 +11,8 @@ use Rattle.dx_logical.specs.declared.relation.Occurrence.{Occurrence}
 use Rattle.dx_logical.specs.declared.relation.Relation.{Relation}
 use Rattle.dx_logical.specs.Unfolding.{Follows, none, along, all_links, joined, items_at, row_of, continued, alone, unfolding_of, sub}
 use Rattle.dx_logical.specs.Laws.{occurrence_at, IsUnfolding, ComesFrom, itself, after, IsSubtree}
-use Rattle.dx_logical.proofs.Facts.{extends_joined, last_joined, unfoldings_are}
+use Rattle.dx_logical.proofs.Facts.{extends_joined, last_joined}
+use Rattle.dx_logical.proofs.Unfoldings.{unfoldings_are}
 use Rattle.dx_logical.proofs.Subtrees.{subtrees_are, comes_further}
 use Rattle.dx_candidates.proofs.Readable.{place_in}
 

@@ -18,5 +18,5 @@ mod parts;
 mod relations;
 
 pub use fault::CandFault;
-pub use laws::greatest_parts_decide;
+pub use laws::{candidates_are, candidates_ascend, greatest_parts_decide};
 pub use listing::{candidates, kept};

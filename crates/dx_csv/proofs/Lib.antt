@@ -7,3 +7,4 @@ pub mod LinesFacts
 pub mod FieldFacts
 pub mod InternFacts
 pub mod BlankFacts
+pub mod TextsDiffer

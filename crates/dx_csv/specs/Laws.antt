@@ -2,8 +2,9 @@
 use Rattle.std.specs.Prelude.{◌≡◌, ◌⊎◌, ◌≤◌, ◌∷◌, ℕ, List, length}
 use Rattle.dx_model.specs.declared.values.Value.{Value}
 use Rattle.dx_csv.specs.declared.fault.RowKind.{RowKind}
-use Rattle.dx_ports.specs.Members.{Each}
-use Rattle.dx_csv.specs.Print.{HasNoMark, lines_text}
+use Rattle.dx_ports.specs.Members.{◌≈◌, Each}
+use Rattle.dx_instance.specs.ValueText.{ValueFits}
+use Rattle.dx_csv.specs.Print.{HasNoMark, IsTableText, lines_text}
 use Rattle.dx_csv.specs.Table.{IsAtFault, IsTable, table_records}
 
 -- records are a table of no two lists of rows
@@ -37,3 +38,10 @@ PrintedReadsBack =
     (first : List (List ℕ)) (rest : List (List (List ℕ)))
     → HasNoMark first → Each (first ∷ rest) (λ (r : List (List ℕ)). 1 ≤ length r)
     → table_records (lines_text (first ∷ rest)) ≡ first ∷ rest
+
+-- tables with the same columns and the same text have the same rows, where the values fit
+abbrev pub TableTextsDiffer : Type 0
+TableTextsDiffer =
+    (columns : List (List ℕ)) (rows others : List (List Value)) (text : List ℕ)
+    → Each rows (λ (r : List Value). Each r ValueFits) → Each others (λ (r : List Value). Each r ValueFits)
+    → IsTableText columns rows text → IsTableText columns others text → rows ≈ others

@@ -1,5 +1,5 @@
-// The laws of reading. The definitions alone carry them: no body computes anything.
-ghost use Rattle.dx_csv.specs.Laws.{FaultIsOne, NeverBoth, PrintedReadsBack, TableIsOne, TableOrFault};
+// The laws of reading and of printing. The definitions alone carry them: no body computes anything.
+ghost use Rattle.dx_csv.specs.Laws.{FaultIsOne, NeverBoth, PrintedReadsBack, TableIsOne, TableOrFault, TableTextsDiffer};
 
 /// Records are a table of one list of rows, or have one fault, and never both.
 pub fn one_reading()
@@ -12,4 +12,9 @@ pub fn one_reading()
 /// What `print_records` prints of records with a field each is read as these records.
 pub fn printed_reads_back()
     ensures { PrintedReadsBack }
+{}
+
+/// Tables with the same columns and different rows have different texts.
+pub fn table_texts_differ()
+    ensures { TableTextsDiffer }
 {}

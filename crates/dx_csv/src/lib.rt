@@ -7,7 +7,7 @@
 //! of the columns and of the rows, ascending, and `print_records` those that it is given (specs/Print), both by `Lines`,
 //! which prints field by field into one buffer of bytes (specs/Lines). A printed table is read as the same records, and the
 //! law `printed_reads_back` says when other printed records are. The law `one_reading`: records are a table of one list of
-//! rows or have one fault, and never both.
+//! rows or have one fault, and never both. The law `table_texts_differ`: no text is that of two tables with other rows.
 #![tactic(auto)]
 
 mod fault;
@@ -21,7 +21,7 @@ mod records;
 
 pub use fault::{RowFault, RowKind};
 pub use interning::load_into;
-pub use laws::{one_reading, printed_reads_back};
+pub use laws::{one_reading, printed_reads_back, table_texts_differ};
 pub use lines::{Lines, show_null};
 pub use load::load_table;
 pub use print::{print_records, print_records_bytes, print_table, print_table_bytes};

@@ -20,3 +20,4 @@ pub mod IndexFacts
 pub mod PartFacts
 pub mod HalfFacts
 pub mod TieFacts
+pub mod NoTexts

@@ -1,5 +1,5 @@
 -- The laws of instances, null maps and value texts. Each is the clause of a public function with an empty body.
-use Rattle.std.specs.Prelude.{◌≡◌, ℕ, List, length, map}
+use Rattle.std.specs.Prelude.{◌≡◌, ◌↔◌, ℕ, List, length, map}
 use Rattle.dx_model.specs.declared.values.NullId.{NullId}
 use Rattle.dx_model.specs.declared.values.Value.{Value}
 use Rattle.dx_model.specs.Instances.{given}
@@ -8,7 +8,7 @@ use Rattle.dx_model.specs.Values.{FactsAscend, RowsAscend}
 use Rattle.dx_ports.specs.Members.{Each}
 use Rattle.dx_instance.specs.NullMaps.{ByNull, becomes, pairs_of}
 use Rattle.dx_instance.specs.Stored.{TableRows, facts, rows_of, widths}
-use Rattle.dx_instance.specs.ValueText.{ValueFits, value_text_of}
+use Rattle.dx_instance.specs.ValueText.{IsNoValueText, ValueFits, value_text_of}
 
 -- the pairs of a null map give what the map gives
 abbrev pub PairsGive : Type 0
@@ -27,3 +27,7 @@ FactsFit =
 -- two values with the same text are one
 abbrev pub ValueTextsDiffer : Type 0
 ValueTextsDiffer = (v w : Value) → ValueFits v → ValueFits w → value_text_of v ≡ value_text_of w → v ≡ w
+
+-- a text is no value's exactly if it begins with `?`, after which come no other `?` and no three numerals
+abbrev pub NoValueTexts : Type 0
+NoValueTexts = (text : List ℕ) → ((v : Value) → ValueFits v → ¬ (value_text_of v ≡ text)) ↔ IsNoValueText text

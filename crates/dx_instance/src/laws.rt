@@ -1,5 +1,5 @@
 // The laws of instances, null maps and value texts. The definitions alone carry them: no body computes anything.
-ghost use Rattle.dx_instance.specs.Laws.{FactsFit, PairsGive, SortedFactsAscend, ValueTextsDiffer};
+ghost use Rattle.dx_instance.specs.Laws.{FactsFit, NoValueTexts, PairsGive, SortedFactsAscend, ValueTextsDiffer};
 
 /// The pairs of a null map give what the map gives.
 pub fn pairs_give()
@@ -19,4 +19,9 @@ pub fn facts_fit()
 /// Two values with the same text are one.
 pub fn value_texts_differ()
     ensures { ValueTextsDiffer }
+{}
+
+/// A text is no value's exactly if it begins with `?`, after which come no other `?` and no three numerals.
+pub fn no_value_texts()
+    ensures { NoValueTexts }
 {}

@@ -11,7 +11,7 @@
 //! `count_with` find rows by values (specs/Places). A `NullMap` is a finite map of nulls of which none is listed with itself
 //! (specs/NullMaps); a null that is not listed stays. `value_text` gives exactly the text of specs/ValueText, and
 //! `value_read` reads it back. specs/Laws has the laws: facts of sorted tables ascend and fit a schema with their widths, the
-//! pairs of a null map give what it gives, and no two values have one text.
+//! pairs of a null map give what it gives, and no two values have one text; which texts no value has.
 #![tactic(auto)]
 
 mod cells;
@@ -31,7 +31,7 @@ mod value_texts;
 pub use cells::Rows;
 pub use dx_model::{Fact, NullId, NullPair, Row, Value, copy_value};
 pub use instance::Instance;
-pub use laws::{facts_fit, pairs_give, sorted_facts_ascend, value_texts_differ};
+pub use laws::{facts_fit, no_value_texts, pairs_give, sorted_facts_ascend, value_texts_differ};
 pub use null_map::NullMap;
 pub use numbers::Numbers;
 pub use ordering::Ordered;

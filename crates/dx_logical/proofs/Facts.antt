@@ -16,7 +16,7 @@ use Rattle.dx_logical.specs.declared.relation.Relation.{Relation}
 use Rattle.dx_logical.specs.Filled.{given, fresh_below, filled}
 use Rattle.dx_logical.specs.Unfolding.{Follows, none, along, each_link, all_links, joined, items_at, row_of, continued, nothing, alone, unfolding_of}
 use Rattle.dx_model.specs.Fitting.{Numbered}
-use Rattle.dx_logical.specs.Laws.{occurrence_at, link_at, IsOccurrence, AreOccurrences, IsAlong, AreAlongLinks, shared_columns, IsFresh, AreFresh, HasOneRoot, FollowOnce, variables_of, UnfoldingsAre}
+use Rattle.dx_logical.specs.Laws.{occurrence_at, link_at, IsOccurrence, AreOccurrences, IsAlong, AreAlongLinks, shared_columns, IsFresh, AreFresh, HasOneRoot, FollowOnce, FollowInOrder, variables_of}
 use Rattle.dx_logical.proofs.Fresh.{filled_length, one_fresh}
 
 -- ---- rows
@@ -403,7 +403,7 @@ well schema t p vs r (along k l below beside) fits a t_in h e_t e_vs ok =
     well schema t p vs next beside fits a.3 t_in (omega (arith, far.longer)) (ap (λ (o : Occurrence). o.table) (far.same p h) ∙ e_t) (ap (λ (o : Occurrence). o.variables) (far.same p h) ∙ e_vs) ok_next
 
 -- from occurrence n of table t one follows along each link from number k on
-abbrev FollowFrom : List Table → Relation → ℕ → ℕ → ℕ → Type 0
+abbrev pub FollowFrom : List Table → Relation → ℕ → ℕ → ℕ → Type 0
 FollowFrom schema r n t k = (j : ℕ) → k ≤ j → j < length (table_of schema t).links → (q : ℕ) × IsAlong r n j (link_at schema t j) q
 
 follow_lift : (schema : List Table) (r s : Relation) (n t k : ℕ) → Extends r s → n < length r.occurrences → FollowFrom schema r n t k → FollowFrom schema s n t k
@@ -488,10 +488,11 @@ AreOld r s p = (q m : ℕ) → q < length s.occurrences → (occurrence_at s q).
 record IsOnce (r s : Relation) (p : ℕ) : Type 0 where
   pub root : HasOneRoot s
   pub once : FollowOnce s
+  pub order : FollowInOrder s
   pub before : AreBefore s
   pub old : AreOld r s p
 
-same_parent : (o : Option ℕ) (p m : ℕ) → o ≡ Some p → o ≡ Some m → p ≡ m
+pub same_parent : (o : Option ℕ) (p m : ℕ) → o ≡ Some p → o ≡ Some m → p ≡ m
 same_parent o p m a b = let e : Some p ≡ Some m = sym a ∙ b in cc
 
 -- a relation with one occurrence more, which follows from number p along link number k
@@ -551,6 +552,29 @@ once_more r s p k m below once u q n h i e_q e_n e = elim (last_or_old r s q m.o
   ]
 ]
 
+order_more : (r s : Relation) (p k : ℕ) → IsMore r s p k → AreBelow r p k → FollowInOrder r → FollowInOrder s
+order_more r s p k m below order u q n h i e_q e_n l = elim (last_or_old r s q m.one h) [
+  | inl a ↦ elim (last_or_old r s n m.one i) [
+    | inl b ↦
+        let x = old_link r s p k q m a in
+        let y = old_link r s p k n m b in
+        order u q n a b (old_parent r s p k q (Some u) m a e_q) (old_parent r s p k n (Some u) m b e_n) (omega (arith, l, x, y))
+    | inr g ↦ omega (arith, a, g)
+  ]
+  | inr f ↦ elim (last_or_old r s n m.one i) [
+    | inl b ↦
+        let d : p ≡ u = same_parent (occurrence_at s q).parent p u (last_parent r s p k q m f) e_q in
+        let c = below n b (rw d (old_parent r s p k n (Some u) m b e_n)) in
+        let x = last_link r s p k q m f in
+        let y = old_link r s p k n m b in
+        absurd (omega (arith, l, c, x, y))
+    | inr g ↦
+        let x = last_link r s p k q m f in
+        let y = last_link r s p k n m g in
+        absurd (omega (arith, l, x, y))
+  ]
+]
+
 -- nothing follows from the new one yet
 none_from_new : (r s : Relation) (p k : ℕ) → IsMore r s p k → AreBefore s → AreBelow s (length r.occurrences) 0
 none_from_new r s p k m before q h e = absurd (let b = before q (length r.occurrences) h e in let one = m.one in omega arith)
@@ -601,10 +625,10 @@ is_more r t w columns shared p k =
     }
 
 goes_once : (schema : List Table) (p k : ℕ) (vs : List ℕ) (r : Relation) (f : Follows) (ls : List Link) → AreAllLinks schema f k ls → p < length r.occurrences
-    → HasOneRoot r → FollowOnce r → AreBefore r → AreBelow r p k → IsOnce r (continued schema p vs r f) p
-goes_once schema p k vs r none ls a p_in root once before below = record { root = root; once = once; before = before; old = λ q m h e n_in. inr h }
-goes_once schema p k vs r (along j l below_it beside) [] a p_in root once before below = absurd a
-goes_once schema p k vs r (along j l below_it beside) (l' ∷ ls) a p_in root once before below =
+    → HasOneRoot r → FollowOnce r → FollowInOrder r → AreBefore r → AreBelow r p k → IsOnce r (continued schema p vs r f) p
+goes_once schema p k vs r none ls a p_in root once order before below = record { root = root; once = once; order = order; before = before; old = λ q m h e n_in. inr h }
+goes_once schema p k vs r (along j l below_it beside) [] a p_in root once order before below = absurd a
+goes_once schema p k vs r (along j l below_it beside) (l' ∷ ls) a p_in root once order before below =
     let w = (table_of schema l.table).width in
     let shared = items_at l.from vs in
     let row = row_of r.variables l.to shared w in
@@ -616,30 +640,31 @@ goes_once schema p k vs r (along j l below_it beside) (l' ∷ ls) a p_in root on
     let x = extends schema (length r.occurrences) row new below_it in
     let longer = x.longer in
     let inner = goes_once schema (length r.occurrences) 0 row new below_it (table_of schema l.table).links a.2 (omega arith)
-    (root_more r new p k m root) (once_more r new p k m below once) before_new (none_from_new r new p k m before_new) in
-    let outer = goes_once schema p (suc k) vs next beside ls a.3 (omega arith) inner.root inner.once inner.before (below_next r new next p k m p_in below x inner.old) in
+    (root_more r new p k m root) (once_more r new p k m below once) (order_more r new p k m below order) before_new (none_from_new r new p k m before_new) in
+    let outer = goes_once schema p (suc k) vs next beside ls a.3 (omega arith) inner.root inner.once inner.order inner.before (below_next r new next p k m p_in below x inner.old) in
     record {
       root = outer.root;
       once = outer.once;
+      order = outer.order;
       before = outer.before;
       old = old_far r new next (continued schema p vs next beside) p k m p_in x (extends schema p vs next beside) inner.old outer.old;
     }
 
 -- an occurrence alone, and what follows from it
 pub alone_once : (schema : List Table) (t : ℕ) (vs : List ℕ) (f : Follows) (ls : List Link) → AreAllLinks schema f 0 ls
-    → HasOneRoot (continued schema 0 vs (alone schema t) f) × FollowOnce (continued schema 0 vs (alone schema t) f)
+    → HasOneRoot (continued schema 0 vs (alone schema t) f) × FollowOnce (continued schema 0 vs (alone schema t) f) × FollowInOrder (continued schema 0 vs (alone schema t) f)
 alone_once schema t vs f ls a =
     let whole = goes_once schema 0 0 vs (alone schema t) f ls a (omega arith)
-    (λ q h e. omega arith) (λ p q n h i e_q e_n e. omega arith)
+    (λ q h e. omega arith) (λ p q n h i e_q e_n e. omega arith) (λ p q n h i e_q e_n e. absurd (no_parent q p h e_q))
     (λ q p h e. absurd (no_parent q p h e)) (λ q h e. absurd (no_parent q 0 h e)) in
-    (whole.root, whole.once)
+    (whole.root, whole.once, whole.order)
   where
     no_parent : (q p : ℕ) → q < length (alone schema t).occurrences → (occurrence_at (alone schema t) q).parent ≡ Some p → ⊥
     no_parent q p h e = let z : q ≡ 0 = omega arith in let f : None ≡ Some p = rw z at e in cc
 
--- ---- the unfolding
+-- ---- an occurrence alone
 
-well_alone : (schema : List Table) (t : ℕ) → t < length schema → IsWell schema (alone schema t)
+pub well_alone : (schema : List Table) (t : ℕ) → t < length schema → IsWell schema (alone schema t)
 well_alone schema t h = record {
   occurrences = λ n m. let e : 0 ≡ n = omega arith in subst (λ (i : ℕ). IsOccurrence schema (alone schema t).variables i (occurrence_at (alone schema t) i)) e
       (record { table = h; width = filled_length (λ (v : ℕ). v) 0 [] [] (table_of schema t).width; variables = row_within 0 [] [] (table_of schema t).width (λ x k. elim k [ ]); parent = tt });
@@ -653,28 +678,3 @@ well_alone schema t h = record {
   where
     no_parent : (p q : ℕ) → 0 ≡ q → (occurrence_at (alone schema t) q).parent ≡ Some p → ⊥
     no_parent p q d e = let f : None ≡ Some p = rw (← d) at e in cc
-
-pub unfoldings_are : UnfoldingsAre
-unfoldings_are schema t fits a h =
-    let row = row_of 0 [] [] (table_of schema t).width in
-    let f = all_links schema (length schema) t in
-    let x = extends schema 0 row (alone schema t) f in
-    let ok = well schema t 0 row (alone schema t) f fits (all_links_are schema (length schema) t) h (omega arith) refl refl (well_alone schema t h) in
-    let all = all_follow schema t 0 0 row (alone schema t) f (table_of schema t).links fits (all_links_all schema t a h) refl h (omega arith) refl refl in
-    let root : (occurrence_at (unfolding_of schema t) 0).table ≡ t = ap (λ (o : Occurrence). o.table) (x.same 0 (omega arith)) in
-    let single = alone_once schema t row f (table_of schema t).links (all_links_all schema t a h) in
-    let first : FollowFrom schema (unfolding_of schema t) 0 (occurrence_at (unfolding_of schema t) 0).table 0 = subst (λ (u : ℕ). FollowFrom schema (unfolding_of schema t) 0 u 0) (sym root) all.0 in
-    record {
-      some = omega (arith, x.longer);
-      root = root;
-      one_root = single.0;
-      occurrences = ok.occurrences;
-      along_links = ok.along_links;
-      fresh = ok.fresh;
-      numbered = ok.numbered;
-      once = single.1;
-      each_link = λ p k p_in m. elim (cases_lt 0 p) [
-        | inl l ↦ all.1 p (omega arith) p_in k (omega arith) m
-        | inr g ↦ let e : 0 ≡ p = omega arith in subst (λ (i : ℕ). FollowFrom schema (unfolding_of schema t) i (occurrence_at (unfolding_of schema t) i).table 0) e first k (omega arith) m
-      ];
-    }

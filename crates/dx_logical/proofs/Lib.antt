@@ -5,3 +5,5 @@ pub mod Whole
 pub mod Examples
 pub mod Subtrees
 pub mod Served
+pub mod Unfoldings
+pub mod OneUnfolding

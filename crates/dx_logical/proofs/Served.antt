@@ -8,10 +8,10 @@ use Rattle.dx_logical.specs.declared.relation.Occurrence.{Occurrence}
 use Rattle.dx_logical.specs.declared.relation.Relation.{Relation}
 use Rattle.dx_logical.specs.Unfolding.{items_at}
 use Rattle.dx_logical.specs.Laws.{occurrence_at, HasEachLink, AreServed, UnfoldingsServe}
-use Rattle.dx_logical.proofs.Facts.{unfoldings_are}
+use Rattle.dx_logical.proofs.Unfoldings.{unfoldings_are}
 
 -- a member has a place
-at_place : {X : Type 0} {x : X} {xs : List X} (d : X) → x ∈ xs → (i : ℕ) × (i < length xs) × (get_or xs i d ≡ x)
+pub at_place : {X : Type 0} {x : X} {xs : List X} (d : X) → x ∈ xs → (i : ℕ) × (i < length xs) × (get_or xs i d ≡ x)
 at_place d (here e) = (0, omega arith, e)
 at_place d (there m) = let r = at_place d m in (suc r.0, omega (arith, r.1), r.2)
 

@@ -96,7 +96,7 @@ nested_alone schema t = (
     no_parent : (p q : ℕ) → 0 ≡ q → (occurrence_at (alone schema t) q).parent ≡ Some p → ⊥
     no_parent p q d e = let f : None ≡ Some p = rw (← d) at e in cc
 
-nested_unfolding : (schema : List Table) (t : ℕ) → IsNested (unfolding_of schema t)
+pub nested_unfolding : (schema : List Table) (t : ℕ) → IsNested (unfolding_of schema t)
 nested_unfolding schema t =
     let a = nested_alone schema t in
     (nested schema 0 (row_of 0 [] [] (table_of schema t).width) (alone schema t) (all_links schema (length schema) t) a.0 a.1 (omega arith)).0

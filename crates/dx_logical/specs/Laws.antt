@@ -59,6 +59,21 @@ FollowOnce r =
     (p q n : ℕ) → q < length r.occurrences → n < length r.occurrences → (occurrence_at r q).parent ≡ Some p → (occurrence_at r n).parent ≡ Some p
     → (occurrence_at r q).link ≡ (occurrence_at r n).link → q ≡ n
 
+-- of two that follow from one, that along the earlier link stands first
+abbrev pub FollowInOrder : Relation → Type 0
+FollowInOrder r =
+    (p q n : ℕ) → q < length r.occurrences → n < length r.occurrences → (occurrence_at r q).parent ≡ Some p → (occurrence_at r n).parent ≡ Some p
+    → (occurrence_at r q).link < (occurrence_at r n).link → q < n
+
+-- occurrence number q is number p, or follows from one that comes from p
+pub data ComesFrom (r : Relation) (p : ℕ) : ℕ → Type 0 where
+  itself : ComesFrom r p p
+  after : {m q : ℕ} → (occurrence_at r q).parent ≡ Some m → ComesFrom r p m → ComesFrom r p q
+
+-- what stands between an occurrence and one that follows from it comes from it
+abbrev pub AreNested : Relation → Type 0
+AreNested r = (p q n : ℕ) → q < length r.occurrences → (occurrence_at r q).parent ≡ Some p → p < n → n ≤ q → ComesFrom r p n
+
 -- each link of each of these occurrences is served by one of them
 abbrev pub AreServed : List Table → List Occurrence → Type 0
 AreServed schema os =
@@ -89,18 +104,16 @@ AreFresh schema r =
 pub record IsUnfolding (schema : List Table) (t : ℕ) (r : Relation) : Type 0 where
   pub some : 0 < length r.occurrences
   pub root : (occurrence_at r 0).table ≡ t
+  pub root_link : (occurrence_at r 0).link ≡ 0
   pub one_root : HasOneRoot r
   pub occurrences : AreOccurrences schema r
   pub along_links : AreAlongLinks schema r
   pub each_link : HasEachLink schema r
   pub once : FollowOnce r
+  pub in_order : FollowInOrder r
+  pub nested : AreNested r
   pub fresh : AreFresh schema r
   pub numbered : Numbered 0 (variables_of r) r.variables
-
--- occurrence number q is number p, or follows from one that comes from p
-pub data ComesFrom (r : Relation) (p : ℕ) : ℕ → Type 0 where
-  itself : ComesFrom r p p
-  after : {m q : ℕ} → (occurrence_at r q).parent ≡ Some m → ComesFrom r p m → ComesFrom r p q
 
 -- s has the occurrences that come from number p, which stand together from p on
 pub record IsSubtree (r : Relation) (p : ℕ) (s : List Occurrence) : Type 0 where
@@ -124,6 +137,10 @@ FollowsEachLink =
 -- from each occurrence of an unfolding one follows along each link of its table, and what follows from it follows so
 abbrev pub UnfoldingsAre : Type 0
 UnfoldingsAre = (schema : List Table) (t : ℕ) → LinksFit schema → IsAcyclic schema → t < length schema → IsUnfolding schema t (unfolding_of schema t)
+
+-- and there is one alone of which this holds
+abbrev pub OneUnfolding : Type 0
+OneUnfolding = (schema : List Table) (t : ℕ) (r s : Relation) → IsUnfolding schema t r → IsUnfolding schema t s → r ≡ s
 
 -- the subtree at an occurrence of an unfolding has those that come from it, and no others
 abbrev pub SubtreesAre : Type 0

@@ -97,7 +97,7 @@ ref_behind (ref_of {u = u} {v = v} k o c arrow s p d e kw ow names cw aw sw pw m
     let all : (u ++ c ∷ arrow ∷ s ∷ p ∷ (v ++ d ∷ e ∷ [])) ++ rest ≡ u ++ c ∷ arrow ∷ s ∷ p ∷ (v ++ d ∷ e ∷ rest) = append_assoc u (c ∷ arrow ∷ s ∷ p ∷ (v ++ d ∷ e ∷ [])) rest ∙ ap (λ ys. u ++ c ∷ arrow ∷ s ∷ p ∷ ys) tail in
     rw (all, kw, ow, words_behind names (c ∷ arrow ∷ s ∷ p ∷ (v ++ d ∷ e ∷ rest)) (no_comma (codes ")") c refl cw), cw, aw, sw, pw, words_behind more (d ∷ e ∷ rest) (no_comma (codes ")") d refl dw), dw, ew) refl
 
-head_behind : {name : List ℕ} {columns : List (List ℕ)} {a : List Lexeme} → SpellsHead name columns a → (rest : List Lexeme) → set_head_reader (a ++ rest) ≡ Ok ((name, columns), rest)
+pub head_behind : {name : List ℕ} {columns : List (List ℕ)} {a : List Lexeme} → SpellsHead name columns a → (rest : List Lexeme) → set_head_reader (a ++ rest) ≡ Ok ((name, columns), rest)
 unfolding set_head_reader
 head_behind (head_of {u = u} k n o e kw nw ow names ew) rest =
     rw (append_assoc u (e ∷ []) rest, kw, nw, ow, words_behind names (e ∷ rest) (no_comma (codes ";") e refl ew), ew) refl
@@ -200,7 +200,7 @@ mutual
       ∙ many_on (begins_clause levels) (clause_reader levels) (clause_consumes levels) (u ++ (v ++ rest)) (v ++ rest) c (next_true (begins_clause levels) u f.1 (v ++ rest) f.0 f.2 f.3) (clause_behind h (v ++ rest))
       ∙ ap (with_front (c ∷ [])) (clauses_behind more rest stop)
 
-  clause_behind : {levels : ℕ} {c : Clause} {a : List Lexeme} → SpellsClause levels c a → (rest : List Lexeme) → clause_reader levels (a ++ rest) ≡ Ok (c, rest)
+  pub clause_behind : {levels : ℕ} {c : Clause} {a : List Lexeme} → SpellsClause levels c a → (rest : List Lexeme) → clause_reader levels (a ++ rest) ≡ Ok (c, rest)
   clause_behind {levels = zero} (a_key h) rest = last_clause_key h rest
   clause_behind {levels = suc levels} (a_key h) rest = with_key h (set_reader levels) rest
   clause_behind {levels = zero} (a_ref h) rest = last_clause_ref h rest
@@ -347,7 +347,7 @@ set_begin levels t a h = set_first h
 sets_again : (levels : ℕ) → Again (many (word_is (codes "set")) (set_reader levels)) (Many (SpellsSet levels)) (NotNext (word_is (codes "set")))
 sets_again levels = many_again (word_is (codes "set")) (set_reader levels) (SpellsSet levels) (set_consumes levels) (record { begin = set_begin levels }) (record { again = λ t a rest h ok. set_behind h rest })
 
-side_behind : {name : List ℕ} {levels : ℕ} {f : Forest} {a : List Lexeme} → SpellsSide name levels f a → (rest : List Lexeme) → side_reader name levels (a ++ rest) ≡ Ok (f, rest)
+pub side_behind : {name : List ℕ} {levels : ℕ} {f : Forest} {a : List Lexeme} → SpellsSide name levels f a → (rest : List Lexeme) → side_reader name levels (a ++ rest) ≡ Ok (f, rest)
 unfolding side_reader
 side_behind {levels = levels} (side_of {trees = trees} {u = u} k o c kw ow h cw) rest =
     rw (append_assoc u (c ∷ []) rest, kw, ow, (sets_again levels).again trees u (c ∷ rest) h (apart_mark_word (codes "}") (codes "set") c cw), cw) refl

@@ -106,7 +106,7 @@ clause_with_reads inner r reads begins =
     (begins_wider (word_is (codes "set")) ref_or_set inner (λ x e. (or_parts (word_is (codes "ref") x) (word_is (codes "set") x) e).1) begins))
     (apart_or (word_is (codes "key")) (word_is (codes "ref")) (word_is (codes "set")) (apart_words (codes "key") (codes "ref") refl) (apart_words (codes "key") (codes "set") refl)))
 
-set_head_reads : IsReader Anything set_head set_head_reader
+pub set_head_reads : IsReader Anything set_head set_head_reader
 unfolding set_head set_head_reader
 set_head_reads =
     then_any Anything _ _ _ _ (a (word_is (codes "set"))) (λ keyword'.

@@ -45,17 +45,17 @@ ref_finds =
     then_finds words_reader _ (Parted SpellsName) _ words_finds (λ vs v g. head_finds (mark_is (codes ")")) _ _ (λ d dw. head_finds (mark_is (codes ";")) _ _ (λ e ew.
     give_finds _ _ (ref_of k o c arrow s p d e kw ow h cw aw sw pw g dw ew)))))))))))
 
-set_head_finds : Finds set_head_reader (λ h u. SpellsHead h.0 h.1 u)
+pub set_head_finds : Finds set_head_reader (λ h u. SpellsHead h.0 h.1 u)
 unfolding set_head_reader
 set_head_finds =
     head_finds (word_is (codes "set")) _ _ (λ k kw. head_finds is_word _ _ (λ n nw. head_finds (mark_is (codes "{")) _ _ (λ o ow. then_finds words_reader _ (Parted SpellsName) _ words_finds (λ ws u h.
     head_finds (mark_is (codes ";")) _ _ (λ e ew. give_finds _ _ (head_of k n o e kw nw ow h ew))))))
 
-clauses_of : (levels : ℕ) {cs : List Clause} {u : List Lexeme} → Many (SpellsClause levels) cs u → SpellsClauses levels cs u
+pub clauses_of : (levels : ℕ) {cs : List Clause} {u : List Lexeme} → Many (SpellsClause levels) cs u → SpellsClauses levels cs u
 clauses_of levels no_more = no_clause
 clauses_of levels (one_more h m) = clause_first h (clauses_of levels m)
 
-last_clause_finds : Finds last_clause_reader (SpellsClause 0)
+pub last_clause_finds : Finds last_clause_reader (SpellsClause 0)
 unfolding last_clause_reader
 last_clause_finds =
     either_finds (word_is (codes "key")) _ _ (SpellsClause 0) (last_finds key_reader key_clause SpellsKey (SpellsClause 0) key_finds (λ k u h. a_key h)) (last_finds ref_reader ref_clause SpellsRef (SpellsClause 0) ref_finds (λ r u h. a_ref h))
@@ -73,7 +73,7 @@ set_of_finds levels one =
     then_finds (many (begins_clause levels) (clause_reader levels)) _ (Many (SpellsClause levels)) _ (many_finds (begins_clause levels) (clause_reader levels) (SpellsClause levels) one) (λ cs v m.
     head_finds (mark_is (codes "}")) _ _ (λ c cw. give_finds _ _ (set_of c h (clauses_of levels m) cw))))
 
-clause_finds : (levels : ℕ) → Finds (clause_reader levels) (SpellsClause levels)
+pub clause_finds : (levels : ℕ) → Finds (clause_reader levels) (SpellsClause levels)
 unfolding clause_reader
 clause_finds zero = last_clause_finds
 clause_finds (suc levels) = clause_with_finds levels (set_reader levels) (set_of_finds levels (clause_finds levels))
@@ -192,7 +192,7 @@ unfolding item_reader
 item_finds =
     either_finds (word_is (codes "line")) _ _ SpellsItem (last_finds line_reader line_item SpellsLine SpellsItem line_finds (λ l u h. a_line h)) (last_finds rule_reader rule_item SpellsRule SpellsItem rule_finds (λ r u h. a_rule h))
 
-side_finds : (name : List ℕ) (levels : ℕ) → Finds (side_reader name levels) (SpellsSide name levels)
+pub side_finds : (name : List ℕ) (levels : ℕ) → Finds (side_reader name levels) (SpellsSide name levels)
 unfolding side_reader
 side_finds name levels =
     head_finds (word_is name) _ (SpellsSide name levels) (λ k kw. head_finds (mark_is (codes "{")) _ _ (λ o ow. then_finds (many (word_is (codes "set")) (set_reader levels)) _ (Many (SpellsSet levels)) _ (many_finds (word_is (codes "set")) (set_reader levels) (SpellsSet levels) (set_finds levels)) (λ trees u m.

@@ -12,3 +12,6 @@ pub mod PrintReads
 pub mod PrintExamples
 pub mod SpelledWords
 pub mod FewRules
+pub mod Fronts
+pub mod Deeper
+pub mod Standing

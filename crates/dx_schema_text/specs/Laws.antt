@@ -1,9 +1,14 @@
 -- What holds of every text.
-use Rattle.std.specs.Prelude.{◌≡◌, ◌⊎◌, ℕ, List, length}
+use Rattle.std.specs.Prelude.{◌≡◌, ◌⊎◌, ◌↔◌, ℕ, List, length}
+use Rattle.dx_grammar.specs.Forms.{Derives}
+use Rattle.dx_grammar.specs.Laws.{StartsAreFronts}
 use Rattle.dx_schema.specs.Bounds.{RulesBelow}
 use Rattle.dx_tokens.specs.declared.faults.TextFault.{TextFault}
+use Rattle.dx_tokens.specs.declared.faults.TextFault.TheVariants.{TooDeep}
+use Rattle.dx_tokens.specs.declared.scanner.Lexeme.{Lexeme}
 use Rattle.dx_schema_text.specs.declared.texts.MappingText.{MappingText}
-use Rattle.dx_schema_text.specs.Texts.{IsMappingText, IsTextFault}
+use Rattle.dx_schema_text.specs.Spelling.{SpellsMapping}
+use Rattle.dx_schema_text.specs.Texts.{deepest, form, deeper_form, IsMappingText, IsUnexpected, IsSetTooDeep, IsTextFault}
 use Rattle.dx_schema_text.specs.Print.{AreWritable}
 
 -- a text says at most one mapping, and it has at most one first fault
@@ -19,6 +24,18 @@ MappingOrFault = (text : List ℕ) → ((m : MappingText) × IsMappingText text 
 
 abbrev pub NeverBoth : Type 0
 NeverBoth = (text : List ℕ) (m : MappingText) (e : TextFault) → IsMappingText text m → ¬ (IsTextFault text e)
+
+-- tokens spell a mapping exactly if they are a text of the form
+abbrev pub SpelledAreTexts : Type 0
+SpelledAreTexts = (xs : List Lexeme) → ((m : MappingText) × SpellsMapping deepest m xs) ↔ Derives form xs
+
+-- tokens can stand exactly if they go on to a text, with 16 levels of sets and with 17
+abbrev pub StandingGoesOn : Type 0
+StandingGoesOn = StartsAreFronts form × StartsAreFronts deeper_form
+
+-- a text is too deep exactly if the first token that can't stand is the word `set` of a set at depth 17
+abbrev pub TooDeepAreSets : Type 0
+TooDeepAreSets = (text : List ℕ) (place : ℕ) → IsTextFault text (TooDeep place) ↔ ((u : IsUnexpected text place) × IsSetTooDeep text u.number)
 
 -- the sets that a text says are written again as they are
 abbrev pub SaidIsWritable : Type 0

@@ -10,11 +10,13 @@ use Rattle.dx_tokens.specs.declared.scanner.Stop.{Stop}
 use Rattle.dx_tokens.specs.Scan.{scan_of}
 use Rattle.dx_grammar.specs.Forms.{Form, Starts}
 use Rattle.dx_grammar.specs.Faults.{IsUnexpectedAt, IsStoppedAt}
-use Rattle.dx_grammar.specs.Readers.{whole}
+use Rattle.dx_grammar.specs.Readers.{Many, whole}
+use Rattle.dx_schema.specs.Forest.{Forest, Tree}
+use Rattle.dx_schema_text.specs.declared.clauses.Clause.{Clause}
 use Rattle.dx_schema_text.specs.declared.texts.MappingText.{MappingText}
-use Rattle.dx_schema_text.specs.Grammar.{mapping}
+use Rattle.dx_schema_text.specs.Grammar.{mapping, number_is}
 use Rattle.dx_schema_text.specs.Reading.{mapping_reader}
-use Rattle.dx_schema_text.specs.Spelling.{SpellsMapping}
+use Rattle.dx_schema_text.specs.Spelling.{IsKeyword, IsMark, SpellsHead, SpellsSet, SpellsClauses, SpellsSide, SpellsMapping}
 
 -- a set stands at depth 16 at most: a root has 15 levels of inner sets
 abbrev pub deepest : ℕ
@@ -57,6 +59,31 @@ IsUnexpected text place = IsUnexpectedAt form (λ (x : Lexeme). x.place) (judged
 -- The token could stand if sets might be nested one level deeper.
 abbrev pub StandsDeeper : List ℕ → ℕ → Type 0
 StandsDeeper text number = Starts deeper_form (take (suc number) (judged_tokens text))
+
+-- So many sets are open after these tokens, which begin with the word `set` of the outermost: of each stand the head and whole
+-- clauses there, with as many levels of inner sets as it has room for.
+pub data OpenSets : ℕ → List Lexeme → Type 0 where
+  one_set : {name : List ℕ} {columns : List (List ℕ)} {cs : List Clause} {u v : List Lexeme} → SpellsHead name columns u → SpellsClauses 0 cs v → OpenSets 1 (u ++ v)
+  and_inner : {n : ℕ} {name : List ℕ} {columns : List (List ℕ)} {cs : List Clause} {u v w : List Lexeme} → SpellsHead name columns u → SpellsClauses n cs v → OpenSets n w → OpenSets (suc n) (u ++ (v ++ w))
+
+-- A side is open after these tokens: its name, an opening brace, whole sets, and so many open ones.
+pub data OpenSide : List ℕ → ℕ → List Lexeme → Type 0 where
+  open_side : {name : List ℕ} {n : ℕ} {trees : List Tree} {u w : List Lexeme} (k o : Lexeme) → IsKeyword name k → IsMark (codes "{") o → Many (SpellsSet deepest) trees u → OpenSets n w → OpenSide name n (k ∷ o ∷ (u ++ w))
+
+-- So many sets of a mapping are open after these tokens.
+pub data OpenMapping : ℕ → List Lexeme → Type 0 where
+  in_source : {n : ℕ} {u : List Lexeme} (k v e : Lexeme) → IsKeyword (codes "mapping") k → number_is (codes "1") v ≡ true → IsMark (codes ";") e → OpenSide (codes "source") n u → OpenMapping n (k ∷ v ∷ e ∷ u)
+  in_target : {n : ℕ} {from : Forest} {u w : List Lexeme} (k v e : Lexeme) → IsKeyword (codes "mapping") k → number_is (codes "1") v ≡ true → IsMark (codes ";") e → SpellsSide (codes "source") deepest from u → OpenSide (codes "target") n w → OpenMapping n (k ∷ v ∷ e ∷ (u ++ w))
+
+-- The token of this number is the word `set` of a set at depth 17: 16 sets are open before it.
+pub record IsSetTooDeep (text : List ℕ) (number : ℕ) : Type 0 where
+  pub front : List Lexeme
+  pub token : Lexeme
+  pub back : List Lexeme
+  pub are : judged_tokens text ≡ front ++ token ∷ back
+  pub at : number ≡ length front
+  pub word : IsKeyword (codes "set") token
+  pub inside : OpenMapping 16 front
 
 -- All tokens can stand, and the text stops at a token fault or ends too early.
 abbrev pub IsStopped : List ℕ → ℕ → TextKind → Type 0

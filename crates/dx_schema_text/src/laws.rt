@@ -1,5 +1,5 @@
 // The laws of mapping texts. The definitions alone carry them: no body computes anything.
-ghost use Rattle.dx_schema_text.specs.Laws.{MappingOrFault, NeverBoth, OneFault, OneMapping, SaidIsWritable, TextsHaveFewRules};
+ghost use Rattle.dx_schema_text.specs.Laws.{MappingOrFault, NeverBoth, OneFault, OneMapping, SaidIsWritable, SpelledAreTexts, StandingGoesOn, TextsHaveFewRules, TooDeepAreSets};
 
 /// A text says one mapping, or it has one first fault.
 pub fn a_text_says_one_thing()
@@ -7,6 +7,17 @@ pub fn a_text_says_one_thing()
     ensures fault { OneFault }
     ensures either { MappingOrFault }
     ensures never_both { NeverBoth }
+{}
+
+/// The tokens that spell a mapping are exactly the texts of the form, and those that can stand are the fronts of texts.
+pub fn texts_are_spelled()
+    ensures spelled { SpelledAreTexts }
+    ensures fronts { StandingGoesOn }
+{}
+
+/// A text is too deep exactly if the first token that can't stand is the word `set` of a set at depth 17.
+pub fn too_deep_are_sets()
+    ensures { TooDeepAreSets }
 {}
 
 /// The sets that a text says can be printed and are read again.

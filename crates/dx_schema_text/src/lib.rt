@@ -18,7 +18,10 @@ mod texts;
 
 pub use dx_schema::{KeyDecl, RefDecl, SetTree, Trees};
 pub use dx_tokens::{TextFault, TextKind, Token, TokenKind, tokens};
-pub use laws::{a_text_says_one_thing, texts_have_few_rules, what_is_said_is_writable};
+pub use laws::{
+    a_text_says_one_thing, texts_are_spelled, texts_have_few_rules, too_deep_are_sets,
+    what_is_said_is_writable,
+};
 pub use print::print_trees;
 pub use read::read_mapping;
 pub use texts::{

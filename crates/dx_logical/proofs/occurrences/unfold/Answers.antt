@@ -5,7 +5,7 @@ use Rattle.dx_logical.specs.Unfolding.{nothing, unfolding_of}
 use Rattle.dx_logical.specs.Laws.{IsUnfolding}
 use Rattle.dx_logical.proofs.Continued.{small_by, unfolds_by}
 use Rattle.dx_schema.proofs.Whole.{links_fit}
-use Rattle.dx_logical.proofs.Facts.{unfoldings_are}
+use Rattle.dx_logical.proofs.Unfoldings.{unfoldings_are}
 use Rattle.dx_logical.proofs.Fresh.{filled_length}
 use Rattle.dx_logical.proofs.occurrences.unfold.Goals as goal
 

@@ -1,0 +1,292 @@
+-- Where one level of sets more makes a difference: at the word `set` of a set in the deepest one.
+use Rattle.std.proofs.Common.{◌≡◌, ◌⊎◌, ℕ, zero, suc, ◌+◌, ◌-◌, ◌≤◌, Bool, true, false, ◌||◌, cond, List, [], ◌∷◌, ◌++◌, length, take, get_or, Result, Ok, Err, refl, sym, ap, ◌∙◌, subst, append_assoc, arith, inl, inr}
+use Rattle.std.specs.Prelude.{codes}
+use Rattle.std.proofs.lemmas.Bool.{cases_Bool}
+use Rattle.std.proofs.lemmas.List.{append-nil, length-append, take_all}
+use Rattle.dx_tokens.specs.declared.scanner.Lexeme.{Lexeme}
+use Rattle.dx_grammar.specs.Forms.{Starts, IsFirstFault}
+use Rattle.dx_grammar.specs.Readers.{Reader, passed, ◌>>=◌, give, token, next_is, either, many_within, many, whole_of, whole, Many, no_more, one_more, Tells}
+use Rattle.dx_grammar.proofs.Exact.{whole_start}
+use Rattle.dx_grammar.proofs.Told.{start_take, fault_is_one}
+use Rattle.dx_grammar.proofs.Spelled.{Found, Finds, many_finds}
+use Rattle.dx_schema.specs.Forest.{Tree, Forest, forest_of}
+use Rattle.dx_schema_text.specs.declared.clauses.Clause.{Clause}
+use Rattle.dx_schema_text.specs.declared.texts.MappingText.{MappingText}
+use Rattle.dx_schema_text.specs.Grammar.{word_is, number_is, mark_is}
+use Rattle.dx_schema_text.specs.Reading.{key_reader, ref_reader, key_clause, ref_clause, set_clause, tree_of, begins_clause, last_clause_reader, clause_reader_with, set_head_reader, set_reader_of, clause_reader, set_reader, begins_item, item_reader, side_reader, mapping_text, mapping_reader}
+use Rattle.dx_schema_text.specs.Spelling.{IsKeyword, IsMark, SpellsHead, SpellsSet, SpellsClause, SpellsSide}
+use Rattle.dx_schema_text.specs.Texts.{deepest, form, deeper_form, judged_tokens, IsUnexpected, StandsDeeper, OpenSets, one_set, and_inner, OpenSide, open_side, OpenMapping, in_source, in_target, IsSetTooDeep}
+use Rattle.dx_schema_text.proofs.Apart.{apart_word_mark}
+use Rattle.dx_schema_text.proofs.Found.{set_head_finds, last_clause_finds, clause_finds, clauses_of, set_finds, side_finds}
+use Rattle.dx_schema_text.proofs.Telling.{mapping_tells}
+
+-- ---- two readers that differ at a word `set` alone
+
+-- the reader stops at a token that is the word `set`, after tokens with S
+abbrev Cut : {A : Type 0} → (List Lexeme → Type 0) → List Lexeme → Result (A × List Lexeme) ℕ → Type 0
+Cut S xs (Ok p) = ⊥
+Cut S xs (Err left) = (front : List Lexeme) × (x : Lexeme) × (back : List Lexeme) × (xs ≡ front ++ x ∷ back) × (left ≡ suc (length back)) × IsKeyword (codes "set") x × S front
+
+-- the second answers as the first, or the first stops so
+pub record Alike {A : Type 0} (r q : Reader Lexeme A) (S : List Lexeme → Type 0) : Type 0 where
+  pub alike : (xs : List Lexeme) → (q xs ≡ r xs) ⊎ Cut S xs (r xs)
+
+abbrev Never : List Lexeme → Type 0
+Never front = ⊥
+
+same_alike : {A : Type 0} (r : Reader Lexeme A) (S : List Lexeme → Type 0) → Alike r r S
+same_alike r S = record { alike = λ xs. inl refl }
+
+cut_moved : {B : Type 0} (u ys xs : List Lexeme) (r : Result (B × List Lexeme) ℕ) (S T : List Lexeme → Type 0) → xs ≡ u ++ ys → ((front : List Lexeme) → S front → T (u ++ front)) → Cut S ys r → Cut T xs r
+cut_moved u ys xs (Ok p) S T e h c = absurd c
+cut_moved u ys xs (Err left) S T e h c = (u ++ c.0, c.1, c.2, e ∙ (ap (λ t. u ++ t) c.3 ∙ sym (append_assoc u c.0 (c.1 ∷ c.2))), c.4, c.5, h c.0 c.6)
+
+cut_as : (A B : Type 0) (xs : List Lexeme) (left : ℕ) (S T : List Lexeme → Type 0) → ((front : List Lexeme) → S front → T front) → Cut {A = A} S xs (Err left) → Cut {A = B} T xs (Err left)
+cut_as A B xs left S T h c = (c.0, c.1, c.2, c.3, c.4, c.5, h c.0 c.6)
+
+then_cases : {A B : Type 0} (xs : List Lexeme) (rr qq : Result (A × List Lexeme) ℕ) (f g : A → Reader Lexeme B) (R : A → List Lexeme → Type 0) (S T : List Lexeme → Type 0)
+    → (qq ≡ rr) ⊎ Cut S xs rr → Found R xs rr → ((front : List Lexeme) → S front → T front) → ((a : A) (u : List Lexeme) → R a u → Alike (f a) (g a) (λ front. T (u ++ front)))
+    → (passed qq g ≡ passed rr f) ⊎ Cut T xs (passed rr f)
+then_cases xs (Ok p) qq f g R S T (inl e) h w rest = elim ((rest p.0 h.0 h.2).alike p.1) [
+  | inl s ↦ inl (ap (λ r. passed r g) e ∙ s)
+  | inr c ↦ inr (cut_moved h.0 p.1 xs (f p.0 p.1) (λ front. T (h.0 ++ front)) T h.1 (λ front t. t) c)
+]
+then_cases xs (Ok p) qq f g R S T (inr c) h w rest = absurd c
+then_cases xs (Err left) qq f g R S T (inl e) h w rest = inl (ap (λ r. passed r g) e)
+then_cases {A = A} {B = B} xs (Err left) qq f g R S T (inr c) h w rest = inr (cut_as A B xs left S T w c)
+
+then_alike : {A B : Type 0} (r q : Reader Lexeme A) (f g : A → Reader Lexeme B) (R : A → List Lexeme → Type 0) (S T : List Lexeme → Type 0)
+    → Alike r q S → Finds r R → ((front : List Lexeme) → S front → T front) → ((a : A) (u : List Lexeme) → R a u → Alike (f a) (g a) (λ front. T (u ++ front)))
+    → Alike (r >>= f) (q >>= g) T
+then_alike r q f g R S T one finds w rest = record { alike = λ xs. then_cases xs (r xs) (q xs) f g R S T (one.alike xs) (finds.found xs) w rest }
+
+-- the same first reader
+after_alike : {A B : Type 0} (r : Reader Lexeme A) (f g : A → Reader Lexeme B) (R : A → List Lexeme → Type 0) (T : List Lexeme → Type 0)
+    → Finds r R → ((a : A) (u : List Lexeme) → R a u → Alike (f a) (g a) (λ front. T (u ++ front))) → Alike (r >>= f) (r >>= g) T
+after_alike r f g R T finds rest = then_alike r r f g R Never T (same_alike r Never) finds (λ front n. absurd n) rest
+
+-- the same last readers, of whatever was read
+map_cases : {A B : Type 0} (xs : List Lexeme) (rr qq : Result (A × List Lexeme) ℕ) (f : A → Reader Lexeme B) (S : List Lexeme → Type 0) → (qq ≡ rr) ⊎ Cut S xs rr → (passed qq f ≡ passed rr f) ⊎ Cut S xs (passed rr f)
+map_cases xs rr qq f S (inl e) = inl (ap (λ r. passed r f) e)
+map_cases xs (Ok p) qq f S (inr c) = absurd c
+map_cases {A = A} {B = B} xs (Err left) qq f S (inr c) = inr (cut_as A B xs left S S (λ front t. t) c)
+
+before_alike : {A B : Type 0} (r q : Reader Lexeme A) (f : A → Reader Lexeme B) (S : List Lexeme → Type 0) → Alike r q S → Alike (r >>= f) (q >>= f) S
+before_alike r q f S one = record { alike = λ xs. map_cases xs (r xs) (q xs) f S (one.alike xs) }
+
+head_by : {B : Type 0} (p : Lexeme → Bool) (f g : Lexeme → Reader Lexeme B) (T : List Lexeme → Type 0) (x : Lexeme) (xs : List Lexeme) (b : Bool) (left : ℕ) → (b ≡ true → Alike (f x) (g x) (λ front. T (x ∷ front)))
+    → (passed (cond b (Ok (x, xs)) (Err left)) g ≡ passed (cond b (Ok (x, xs)) (Err left)) f) ⊎ Cut T (x ∷ xs) (passed (cond b (Ok (x, xs)) (Err left)) f)
+head_by p f g T x xs true left rest = elim ((rest refl).alike xs) [
+  | inl s ↦ inl s
+  | inr c ↦ inr (cut_moved (x ∷ []) xs (x ∷ xs) (f x xs) (λ front. T (x ∷ front)) T refl (λ front t. t) c)
+]
+head_by p f g T x xs false left rest = inl refl
+
+-- the same token first
+head_alike : {B : Type 0} (p : Lexeme → Bool) (f g : Lexeme → Reader Lexeme B) (T : List Lexeme → Type 0) → ((x : Lexeme) → p x ≡ true → Alike (f x) (g x) (λ front. T (x ∷ front))) → Alike (token p >>= f) (token p >>= g) T
+head_alike p f g T rest = record { alike = at }
+  where
+    at : (xs : List Lexeme) → ((token p >>= g) xs ≡ (token p >>= f) xs) ⊎ Cut T xs ((token p >>= f) xs)
+    at [] = inl refl
+    at (x ∷ xs) = head_by p f g T x xs (p x) (1 + length xs) (rest x)
+
+either_by : {A : Type 0} (b : Bool) (xs : List Lexeme) (r q s t : Result (A × List Lexeme) ℕ) (T : List Lexeme → Type 0) → (q ≡ r) ⊎ Cut T xs r → (t ≡ s) ⊎ Cut T xs s → (cond b q t ≡ cond b r s) ⊎ Cut T xs (cond b r s)
+either_by true xs r q s t T h k = h
+either_by false xs r q s t T h k = k
+
+either_alike : {A : Type 0} (p : Lexeme → Bool) (r q s t : Reader Lexeme A) (T : List Lexeme → Type 0) → Alike r q T → Alike s t T → Alike (either p r s) (either p q t) T
+either_alike p r q s t T one other = record { alike = λ xs. either_by (next_is p xs) xs (r xs) (q xs) (s xs) (t xs) T (one.alike xs) (other.alike xs) }
+
+-- whole values before tokens with S
+pub record After {A : Type 0} (R : A → List Lexeme → Type 0) (S : List Lexeme → Type 0) (front : List Lexeme) : Type 0 where
+  pub values : List A
+  pub before : List Lexeme
+  pub rest : List Lexeme
+  pub are : front ≡ before ++ rest
+  pub read : Many R values before
+  pub has : S rest
+
+module _ {A : Type 0} (p : Lexeme → Bool) (r q : Reader Lexeme A) (R : A → List Lexeme → Type 0) (S : List Lexeme → Type 0) (finds : Finds r R) (one : Alike r q S) where
+  within_by : (n : ℕ) (xs : List Lexeme) (b : Bool) → Alike (many_within p r n) (many_within p q n) (After R S)
+      → (cond b ((q >>= λ a. many_within p q n >>= λ others. give (a ∷ others)) xs) (Ok ([], xs)) ≡ cond b ((r >>= λ a. many_within p r n >>= λ others. give (a ∷ others)) xs) (Ok ([], xs)))
+      ⊎ Cut (After R S) xs (cond b ((r >>= λ a. many_within p r n >>= λ others. give (a ∷ others)) xs) (Ok ([], xs)))
+  within_by n xs true rest =
+      (then_alike r q (λ a. many_within p r n >>= λ others. give (a ∷ others)) (λ a. many_within p q n >>= λ others. give (a ∷ others)) R S (After R S) one finds
+        (λ front s. record { values = []; before = []; rest = front; are = refl; read = no_more; has = s })
+        (λ a u h. record { alike = λ ys. elim (map_cases ys (many_within p r n ys) (many_within p q n ys) (λ others. give (a ∷ others)) (After R S) (rest.alike ys)) [
+          | inl e ↦ inl e
+          | inr c ↦ inr (cut_moved [] ys ys (passed (many_within p r n ys) (λ others. give (a ∷ others))) (After R S) (λ front. After R S (u ++ front)) refl (λ front t. longer a u h front t) c)
+        ] })).alike xs
+    where
+      longer : (a : A) (u : List Lexeme) → R a u → (front : List Lexeme) → After R S front → After R S (u ++ front)
+      longer a u h front t = record {
+        values = a ∷ t.values;
+        before = u ++ t.before;
+        rest = t.rest;
+        are = ap (λ v. u ++ v) t.are ∙ sym (append_assoc u t.before t.rest);
+        read = one_more h t.read;
+        has = t.has;
+      }
+  within_by n xs false rest = inl refl
+
+  within_alike : (n : ℕ) → Alike (many_within p r n) (many_within p q n) (After R S)
+  within_alike zero = record { alike = λ xs. inl refl }
+  within_alike (suc n) = record { alike = λ xs. within_by n xs (next_is p xs) (within_alike n) }
+
+  many_alike : Alike (many p r) (many p q) (After R S)
+  unfolding many
+  many_alike = record { alike = λ xs. (within_alike (length xs)).alike xs }
+
+-- ---- the deepest set
+
+-- the closing brace, and the tree
+abbrev closed : (List Clause → Tree) → List Clause → Reader Lexeme Tree
+closed h cs = token (mark_is (codes "}")) >>= λ closing. give (h cs)
+
+abbrev no_level : ℕ → Reader Lexeme (List Clause)
+no_level n = many_within (begins_clause 0) (clause_reader 0) n
+
+abbrev a_level : ℕ → Reader Lexeme (List Clause)
+a_level n = many_within (begins_clause 1) (clause_reader 1) n
+
+-- whole clauses
+abbrev Clauses : List Lexeme → Type 0
+Clauses front = (cs : List Clause) × Many (SpellsClause 0) cs front
+
+-- first one clause and then more are read, and then h
+joined_as : (a : Clause) (h : List Clause → Tree) (rr : Result (List Clause × List Lexeme) ℕ) → passed (passed rr (λ others. give (a ∷ others))) (closed h) ≡ passed rr (closed (λ cs. h (a ∷ cs)))
+joined_as a h (Ok p) = refl
+joined_as a h (Err left) = refl
+
+-- a clause that both read
+clause_by : (n : ℕ) (h : List Clause → Tree) (xs : List Lexeme) (rr qq : Result (Clause × List Lexeme) ℕ) → qq ≡ rr → Found (SpellsClause 0) xs rr
+    → ((k : List Clause → Tree) (ys : List Lexeme) → (passed (a_level n ys) (closed k) ≡ passed (no_level n ys) (closed k)) ⊎ Cut Clauses ys (passed (no_level n ys) (closed k)))
+    → (passed (passed qq (λ a. a_level n >>= λ others. give (a ∷ others))) (closed h) ≡ passed (passed rr (λ a. no_level n >>= λ others. give (a ∷ others))) (closed h))
+    ⊎ Cut Clauses xs (passed (passed rr (λ a. no_level n >>= λ others. give (a ∷ others))) (closed h))
+clause_by n h xs (Ok p) qq e f more = elim (more (λ cs. h (p.0 ∷ cs)) p.1) [
+  | inl s ↦ inl (ap (λ r. passed (passed r (λ a. a_level n >>= λ others. give (a ∷ others))) (closed h)) e ∙ (joined_as p.0 h (a_level n p.1) ∙ (s ∙ sym (joined_as p.0 h (no_level n p.1)))))
+  | inr c ↦ inr (subst (Cut Clauses xs) (sym (joined_as p.0 h (no_level n p.1)))
+      (cut_moved f.0 p.1 xs (passed (no_level n p.1) (closed (λ cs. h (p.0 ∷ cs)))) Clauses Clauses f.1 (λ front t. (p.0 ∷ t.0, one_more f.2 t.1)) c))
+]
+clause_by n h xs (Err left) qq e f more = inl (ap (λ r. passed (passed r (λ a. a_level n >>= λ others. give (a ∷ others))) (closed h)) e)
+
+key_same : (x : Lexeme) (xs : List Lexeme) → word_is (codes "key") x ≡ true → clause_reader 1 (x ∷ xs) ≡ clause_reader 0 (x ∷ xs)
+unfolding clause_reader last_clause_reader clause_reader_with
+key_same x xs e = rw e refl
+
+ref_same : (x : Lexeme) (xs : List Lexeme) → word_is (codes "key") x ≡ false → word_is (codes "ref") x ≡ true → clause_reader 1 (x ∷ xs) ≡ clause_reader 0 (x ∷ xs)
+unfolding clause_reader last_clause_reader clause_reader_with
+ref_same x xs e f = rw (e, f) refl
+
+no_level_finds : Finds (clause_reader 0) (SpellsClause 0)
+no_level_finds = clause_finds 0
+
+loop : (n : ℕ) (h : List Clause → Tree) (xs : List Lexeme) → (passed (a_level n xs) (closed h) ≡ passed (no_level n xs) (closed h)) ⊎ Cut Clauses xs (passed (no_level n xs) (closed h))
+loop zero h xs = inl refl
+loop (suc n) h [] = inl refl
+loop (suc n) h (x ∷ xs) = elim (cases_Bool (word_is (codes "key") x)) [
+  | inl k ↦ rw k (clause_by n h (x ∷ xs) (clause_reader 0 (x ∷ xs)) (clause_reader 1 (x ∷ xs)) (key_same x xs k) (no_level_finds.found (x ∷ xs)) (loop n))
+  | inr k ↦ elim (cases_Bool (word_is (codes "ref") x)) [
+    | inl r ↦ rw (k, r) (clause_by n h (x ∷ xs) (clause_reader 0 (x ∷ xs)) (clause_reader 1 (x ∷ xs)) (ref_same x xs k r) (no_level_finds.found (x ∷ xs)) (loop n))
+    | inr r ↦ elim (cases_Bool (word_is (codes "set") x)) [
+      | inl s ↦ let m = apart_word_mark (codes "set") (codes "}") x s in inr (rw (k, r, m) ([], x, xs, refl, omega arith, s, ([], no_more)))
+      | inr s ↦ inl (rw (k, r, s) refl)
+    ]
+  ]
+]
+
+-- ---- sets by their levels
+
+deepest_alike : Alike (set_reader 0) (set_reader 1) (OpenSets 1)
+unfolding set_reader_of many
+deepest_alike =
+    after_alike set_head_reader _ _ (λ head u. SpellsHead head.0 head.1 u) (OpenSets 1) set_head_finds (λ head u h. record { alike = λ xs. elim (loop (length xs) (tree_of head.0 head.1) xs) [
+      | inl e ↦ inl e
+      | inr c ↦ inr (cut_moved [] xs xs _ Clauses (λ front. OpenSets 1 (u ++ front)) refl (λ front t. one_set h (clauses_of 0 t.1)) c)
+    ] })
+
+clause_alike : (levels : ℕ) → Alike (set_reader levels) (set_reader (suc levels)) (OpenSets (suc levels)) → Alike (clause_reader (suc levels)) (clause_reader (suc (suc levels))) (OpenSets (suc levels))
+unfolding clause_reader clause_reader_with
+clause_alike levels inner =
+    either_alike (word_is (codes "key")) _ _ _ _ (OpenSets (suc levels)) (same_alike (key_reader >>= λ k. give (key_clause k)) (OpenSets (suc levels)))
+      (either_alike (word_is (codes "ref")) _ _ _ _ (OpenSets (suc levels)) (same_alike (ref_reader >>= λ r. give (ref_clause r)) (OpenSets (suc levels)))
+        (before_alike (set_reader levels) (set_reader (suc levels)) (λ t. give (set_clause t)) (OpenSets (suc levels)) inner))
+
+-- a set whose clauses may have inner sets
+with_inner : (l : ℕ) → Alike (clause_reader (suc l)) (clause_reader (suc (suc l))) (OpenSets (suc l)) → Alike (set_reader (suc l)) (set_reader (suc (suc l))) (OpenSets (suc (suc l)))
+unfolding set_reader_of
+with_inner l one =
+    after_alike set_head_reader _ _ (λ head u. SpellsHead head.0 head.1 u) (OpenSets (suc (suc l))) set_head_finds (λ head u h.
+      then_alike (many (begins_clause (suc l)) (clause_reader (suc l))) (many (begins_clause (suc (suc l))) (clause_reader (suc (suc l)))) _ _ (Many (SpellsClause (suc l))) (After (SpellsClause (suc l)) (OpenSets (suc l))) (λ front. OpenSets (suc (suc l)) (u ++ front))
+        (many_alike (begins_clause (suc l)) (clause_reader (suc l)) (clause_reader (suc (suc l))) (SpellsClause (suc l)) (OpenSets (suc l)) (clause_finds (suc l)) one)
+        (many_finds (begins_clause (suc l)) (clause_reader (suc l)) (SpellsClause (suc l)) (clause_finds (suc l)))
+        (λ front t. subst (λ v. OpenSets (suc (suc l)) (u ++ v)) (sym t.are) (and_inner h (clauses_of (suc l) t.read) t.has))
+        (λ cs v m. same_alike _ _))
+
+set_alike : (levels : ℕ) → Alike (set_reader levels) (set_reader (suc levels)) (OpenSets (suc levels))
+set_alike zero = deepest_alike
+set_alike (suc levels) = with_inner levels (clause_alike levels (set_alike levels))
+
+-- ---- sides and mappings
+
+side_alike : (name : List ℕ) → Alike (side_reader name deepest) (side_reader name 16) (OpenSide name 16)
+unfolding side_reader
+side_alike name =
+    head_alike (word_is name) _ _ (OpenSide name 16) (λ k kw. head_alike (mark_is (codes "{")) _ _ (λ front. OpenSide name 16 (k ∷ front)) (λ o ow.
+      then_alike (many (word_is (codes "set")) (set_reader deepest)) (many (word_is (codes "set")) (set_reader 16)) _ _ (Many (SpellsSet deepest)) (After (SpellsSet deepest) (OpenSets 16)) (λ front. OpenSide name 16 (k ∷ o ∷ front))
+        (many_alike (word_is (codes "set")) (set_reader deepest) (set_reader 16) (SpellsSet deepest) (OpenSets 16) (set_finds deepest) (set_alike deepest))
+        (many_finds (word_is (codes "set")) (set_reader deepest) (SpellsSet deepest) (set_finds deepest))
+        (λ front t. subst (λ v. OpenSide name 16 (k ∷ o ∷ v)) (sym t.are) (open_side k o kw ow t.read t.has))
+        (λ trees u m. same_alike _ _)))
+
+mapping_alike : Alike (mapping_reader deepest) (mapping_reader 16) (OpenMapping 16)
+unfolding mapping_reader
+mapping_alike =
+    head_alike (word_is (codes "mapping")) _ _ (OpenMapping 16) (λ k kw. head_alike (number_is (codes "1")) _ _ (λ front. OpenMapping 16 (k ∷ front)) (λ n nw. head_alike (mark_is (codes ";")) _ _ (λ front. OpenMapping 16 (k ∷ n ∷ front)) (λ e ew.
+      then_alike (side_reader (codes "source") deepest) (side_reader (codes "source") 16) _ _ (SpellsSide (codes "source") deepest) (OpenSide (codes "source") 16) (λ front. OpenMapping 16 (k ∷ n ∷ e ∷ front))
+        (side_alike (codes "source")) (side_finds (codes "source") deepest) (λ front t. in_source k n e kw nw ew t)
+        (λ from u h. before_alike (side_reader (codes "target") deepest) (side_reader (codes "target") 16) _ (λ front. OpenMapping 16 (k ∷ n ∷ e ∷ (u ++ front)))
+          (record { alike = λ xs. elim ((side_alike (codes "target")).alike xs) [
+            | inl s ↦ inl s
+            | inr c ↦ inr (cut_moved [] xs xs (side_reader (codes "target") deepest xs) (OpenSide (codes "target") 16) (λ front. OpenMapping 16 (k ∷ n ∷ e ∷ (u ++ front))) refl (λ front t. in_target k n e kw nw ew h t) c)
+          ] })))))
+
+-- ---- the fault
+
+le_same : (n : ℕ) → n ≤ n
+le_same n = omega arith
+
+not_all : (text : List ℕ) (place : ℕ) (u : IsUnexpected text place) → ¬ (Starts form (judged_tokens text))
+not_all text place u s =
+    let xs = judged_tokens text in
+    u.first.here (start_take form (suc u.number) (length xs) xs u.first.inside (subst (Starts form) (sym (take_all (length xs) xs (le_same (length xs)))) s))
+
+-- the readers don't answer the same
+never_same : (text : List ℕ) (place : ℕ) (u : IsUnexpected text place) → StandsDeeper text u.number → (r : Result MappingText ℕ) → Tells form (judged_tokens text) r → Tells deeper_form (judged_tokens text) r → ⊥
+never_same text place u d (Ok m) t k = not_all text place u (whole_start form (judged_tokens text) t)
+never_same text place u d (Err zero) t k = not_all text place u t.0
+never_same text place u d (Err (suc left)) t k =
+    let xs = judged_tokens text in
+    let n = fault_is_one form xs (length xs - suc left) u.number t.1 u.first in
+    k.1.here (subst (λ i. Starts deeper_form (take (suc i) xs)) (sym n) d)
+
+set_there : (text : List ℕ) (place : ℕ) (u : IsUnexpected text place) (rr : Result (MappingText × List Lexeme) ℕ) → Tells form (judged_tokens text) (whole_of rr) → Cut (OpenMapping 16) (judged_tokens text) rr → IsSetTooDeep text u.number
+set_there text place u (Ok p) t c = absurd c
+set_there text place u (Err left) t c =
+    let xs = judged_tokens text in
+    let front = c.0 in
+    let x = c.1 in
+    let back = c.2 in
+    let h = subst (λ (l : ℕ). Tells form xs (whole_of {X = Lexeme} {A = MappingText} (Err l))) c.4 t in
+    let size : length xs ≡ length front + suc (length back) = ap length c.3 ∙ length-append front (x ∷ back) in
+    let n : u.number ≡ length front = sym (fault_is_one form xs (length xs - suc (length back)) u.number h.1 u.first) ∙ omega (arith, size) in
+    record { front = front; token = x; back = back; are = c.3; at = n; word = c.5; inside = c.6 }
+
+pub deeper_at_set : (text : List ℕ) (place : ℕ) (u : IsUnexpected text place) → StandsDeeper text u.number → IsSetTooDeep text u.number
+deeper_at_set text place u d =
+    let xs = judged_tokens text in
+    let t = mapping_tells deepest xs in
+    elim (mapping_alike.alike xs) [
+      | inl s ↦ absurd (never_same text place u d (whole (mapping_reader deepest) xs) t (subst (Tells deeper_form xs) (ap (λ r. whole_of r) s) (mapping_tells 16 xs)))
+      | inr c ↦ set_there text place u (mapping_reader deepest xs) t c
+    ]
