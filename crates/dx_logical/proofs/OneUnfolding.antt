@@ -205,9 +205,9 @@ cut_at r n c n_in c_in =
     let vs = (occurrence_at r n).variables in
     let rest = flat_map f (drop (n + 1) r.occurrences) in
     let whole : r.occurrences ≡ take n r.occurrences ++ (occurrence_at r n ∷ drop (n + 1) r.occurrences) =
-      sym (take-append-drop n r.occurrences) ∙ ap (λ os. take n r.occurrences ++ os) (drop_more r.occurrences n nowhere n_in) in
+    sym (take-append-drop n r.occurrences) ∙ ap (λ os. take n r.occurrences ++ os) (drop_more r.occurrences n nowhere n_in) in
     let row : vs ≡ take c vs ++ (slice_index vs c ∷ drop (c + 1) vs) =
-      sym (take-append-drop c vs) ∙ ap (λ xs. take c vs ++ xs) (drop_more vs c 0 c_in) in
+    sym (take-append-drop c vs) ∙ ap (λ xs. take c vs ++ xs) (drop_more vs c 0 c_in) in
     let a : variables_of r ≡ earlier r n ++ (vs ++ rest) = ap (flat_map f) whole ∙ flat_map-append f (take n r.occurrences) (occurrence_at r n ∷ drop (n + 1) r.occurrences) in
     let b : vs ++ rest ≡ take c vs ++ (slice_index vs c ∷ (drop (c + 1) vs ++ rest)) = ap (λ xs. xs ++ rest) row ∙ append_assoc (take c vs) (slice_index vs c ∷ drop (c + 1) vs) rest in
     (drop (c + 1) vs ++ rest, a ∙ (ap (λ xs. earlier r n ++ xs) b ∙ sym (append_assoc (earlier r n) (take c vs) (slice_index vs c ∷ (drop (c + 1) vs ++ rest)))))
@@ -259,7 +259,7 @@ module _ (schema : List Table) (t : ℕ) (r s : Relation) (a : IsUnfolding schem
       let i = is_next 0 k.0 (slice_index rs c) (earlier r n ++ take c rs) k.1 (omega arith) k.2 (fresh_above r n c n_r c_r f) in
       let j = is_next 0 l.0 (slice_index ss c) (earlier s n ++ take c ss) l.1 (omega arith) l.2 (fresh_above s n c n_s c_s g) in
       let front : earlier r n ++ take c rs ≡ earlier s n ++ take c ss =
-        ap (λ os. flat_map (λ (o : Occurrence). o.variables) os ++ take c rs) (takes_same r s n (omega (arith, n_r)) (omega (arith, n_s)) same) ∙ ap (λ xs. earlier s n ++ xs) e in
+      ap (λ os. flat_map (λ (o : Occurrence). o.variables) os ++ take c rs) (takes_same r s n (omega (arith, n_r)) (omega (arith, n_s)) same) ∙ ap (λ xs. earlier s n ++ xs) e in
       let one = one_number 0 k.0 l.0 (earlier s n ++ take c ss) (subst (λ xs. Numbered 0 xs k.0) front k.1) l.1 in
       i ∙ (one ∙ sym j)
 
@@ -304,8 +304,8 @@ module _ (schema : List Table) (t : ℕ) (r s : Relation) (a : IsUnfolding schem
       let of_r : shared_columns schema r (occurrence_at r 0).link (occurrence_at r 0).parent ≡ [] = ap (shared_columns schema r (occurrence_at r 0).link) (no_parent r a) in
       let of_s : shared_columns schema s (occurrence_at s 0).link (occurrence_at s 0).parent ≡ [] = ap (shared_columns schema s (occurrence_at s 0).link) (no_parent s b) in
       made_same (occurrence_at r 0) (occurrence_at s 0) table
-        (rows_same schema t r s a b 0 a.some b.some (λ m l. absurd (omega (arith, l))) [] of_r of_s table (λ c m. elim m [ ]))
-        (no_parent r a ∙ sym (no_parent s b)) (a.root_link ∙ sym b.root_link)
+      (rows_same schema t r s a b 0 a.some b.some (λ m l. absurd (omega (arith, l))) [] of_r of_s table (λ c m. elim m [ ]))
+      (no_parent r a ∙ sym (no_parent s b)) (a.root_link ∙ sym b.root_link)
 
   next_same : (n : ℕ) → 0 < n → n < length r.occurrences → n < length s.occurrences → Before r s n → occurrence_at r n ≡ occurrence_at s n
   next_same n some n_r n_s same =
@@ -319,13 +319,13 @@ module _ (schema : List Table) (t : ℕ) (r s : Relation) (a : IsUnfolding schem
       let table : (occurrence_at r n).table ≡ (occurrence_at s n).table = here.table ∙ sym there.table in
       let of_r : shared_columns schema r (occurrence_at r n).link (occurrence_at r n).parent ≡ l.to = ap (shared_columns schema r (occurrence_at r n).link) here.parent ∙ ap (λ k. shared_columns schema r k (Some x.parent)) here.link in
       let of_s : shared_columns schema s (occurrence_at s n).link (occurrence_at s n).parent ≡ l.to =
-        ap (shared_columns schema s (occurrence_at s n).link) there.parent ∙ (ap (λ k. shared_columns schema s k (Some x.parent)) there.link
-        ∙ ap (λ (o : Occurrence). (link_at schema o.table x.link).to) (sym up)) in
+      ap (shared_columns schema s (occurrence_at s n).link) there.parent ∙ (ap (λ k. shared_columns schema s k (Some x.parent)) there.link
+      ∙ ap (λ (o : Occurrence). (link_at schema o.table x.link).to) (sym up)) in
       let shared : map (λ k. slice_index (occurrence_at r n).variables k) l.to ≡ map (λ k. slice_index (occurrence_at s n).variables k) l.to =
-        here.shared ∙ (ap (λ (o : Occurrence). map (λ k. slice_index o.variables k) l.from) up ∙ sym there.shared) in
+      here.shared ∙ (ap (λ (o : Occurrence). map (λ k. slice_index o.variables k) l.from) up ∙ sym there.shared) in
       made_same (occurrence_at r n) (occurrence_at s n) table
-        (rows_same schema t r s a b n n_r n_s same l.to of_r of_s table (λ c m. map_agrees (λ k. slice_index (occurrence_at r n).variables k) (λ k. slice_index (occurrence_at s n).variables k) shared m))
-        (here.parent ∙ sym there.parent) (here.link ∙ sym there.link)
+      (rows_same schema t r s a b n n_r n_s same l.to of_r of_s table (λ c m. map_agrees (λ k. slice_index (occurrence_at r n).variables k) (λ k. slice_index (occurrence_at s n).variables k) shared m))
+      (here.parent ∙ sym there.parent) (here.link ∙ sym there.link)
 
   all_same : (n : ℕ) → n ≤ length r.occurrences → n ≤ length s.occurrences → Before r s n
   all_same zero h k m l = absurd (omega (arith, l))

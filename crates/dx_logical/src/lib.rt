@@ -13,8 +13,6 @@ mod relation;
 mod rows;
 
 pub use fault::WideFault;
-pub use laws::{
-    follows_each_link, one_unfolding, subtrees_are, unfoldings_are, unfoldings_serve,
-};
+pub use laws::{follows_each_link, one_unfolding, subtrees_are, unfoldings_are, unfoldings_serve};
 pub use occurrences::unfold;
 pub use relation::{Occurrence, Relation};

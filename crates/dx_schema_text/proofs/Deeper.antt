@@ -112,11 +112,13 @@ module _ {A : Type 0} (p : Lexeme → Bool) (r q : Reader Lexeme A) (R : A → L
       ⊎ Cut (After R S) xs (cond b ((r >>= λ a. many_within p r n >>= λ others. give (a ∷ others)) xs) (Ok ([], xs)))
   within_by n xs true rest =
       (then_alike r q (λ a. many_within p r n >>= λ others. give (a ∷ others)) (λ a. many_within p q n >>= λ others. give (a ∷ others)) R S (After R S) one finds
-        (λ front s. record { values = []; before = []; rest = front; are = refl; read = no_more; has = s })
-        (λ a u h. record { alike = λ ys. elim (map_cases ys (many_within p r n ys) (many_within p q n ys) (λ others. give (a ∷ others)) (After R S) (rest.alike ys)) [
+      (λ front s. record { values = []; before = []; rest = front; are = refl; read = no_more; has = s })
+      (λ a u h. record {
+        alike = λ ys. elim (map_cases ys (many_within p r n ys) (many_within p q n ys) (λ others. give (a ∷ others)) (After R S) (rest.alike ys)) [
           | inl e ↦ inl e
           | inr c ↦ inr (cut_moved [] ys ys (passed (many_within p r n ys) (λ others. give (a ∷ others))) (After R S) (λ front. After R S (u ++ front)) refl (λ front t. longer a u h front t) c)
-        ] })).alike xs
+        ];
+      })).alike xs
     where
       longer : (a : A) (u : List Lexeme) → R a u → (front : List Lexeme) → After R S front → After R S (u ++ front)
       longer a u h front t = record {
@@ -200,28 +202,30 @@ loop (suc n) h (x ∷ xs) = elim (cases_Bool (word_is (codes "key") x)) [
 deepest_alike : Alike (set_reader 0) (set_reader 1) (OpenSets 1)
 unfolding set_reader_of many
 deepest_alike =
-    after_alike set_head_reader _ _ (λ head u. SpellsHead head.0 head.1 u) (OpenSets 1) set_head_finds (λ head u h. record { alike = λ xs. elim (loop (length xs) (tree_of head.0 head.1) xs) [
-      | inl e ↦ inl e
-      | inr c ↦ inr (cut_moved [] xs xs _ Clauses (λ front. OpenSets 1 (u ++ front)) refl (λ front t. one_set h (clauses_of 0 t.1)) c)
-    ] })
+    after_alike set_head_reader _ _ (λ head u. SpellsHead head.0 head.1 u) (OpenSets 1) set_head_finds (λ head u h. record {
+      alike = λ xs. elim (loop (length xs) (tree_of head.0 head.1) xs) [
+        | inl e ↦ inl e
+        | inr c ↦ inr (cut_moved [] xs xs _ Clauses (λ front. OpenSets 1 (u ++ front)) refl (λ front t. one_set h (clauses_of 0 t.1)) c)
+      ];
+    })
 
 clause_alike : (levels : ℕ) → Alike (set_reader levels) (set_reader (suc levels)) (OpenSets (suc levels)) → Alike (clause_reader (suc levels)) (clause_reader (suc (suc levels))) (OpenSets (suc levels))
 unfolding clause_reader clause_reader_with
 clause_alike levels inner =
     either_alike (word_is (codes "key")) _ _ _ _ (OpenSets (suc levels)) (same_alike (key_reader >>= λ k. give (key_clause k)) (OpenSets (suc levels)))
-      (either_alike (word_is (codes "ref")) _ _ _ _ (OpenSets (suc levels)) (same_alike (ref_reader >>= λ r. give (ref_clause r)) (OpenSets (suc levels)))
-        (before_alike (set_reader levels) (set_reader (suc levels)) (λ t. give (set_clause t)) (OpenSets (suc levels)) inner))
+    (either_alike (word_is (codes "ref")) _ _ _ _ (OpenSets (suc levels)) (same_alike (ref_reader >>= λ r. give (ref_clause r)) (OpenSets (suc levels)))
+    (before_alike (set_reader levels) (set_reader (suc levels)) (λ t. give (set_clause t)) (OpenSets (suc levels)) inner))
 
 -- a set whose clauses may have inner sets
 with_inner : (l : ℕ) → Alike (clause_reader (suc l)) (clause_reader (suc (suc l))) (OpenSets (suc l)) → Alike (set_reader (suc l)) (set_reader (suc (suc l))) (OpenSets (suc (suc l)))
 unfolding set_reader_of
 with_inner l one =
     after_alike set_head_reader _ _ (λ head u. SpellsHead head.0 head.1 u) (OpenSets (suc (suc l))) set_head_finds (λ head u h.
-      then_alike (many (begins_clause (suc l)) (clause_reader (suc l))) (many (begins_clause (suc (suc l))) (clause_reader (suc (suc l)))) _ _ (Many (SpellsClause (suc l))) (After (SpellsClause (suc l)) (OpenSets (suc l))) (λ front. OpenSets (suc (suc l)) (u ++ front))
-        (many_alike (begins_clause (suc l)) (clause_reader (suc l)) (clause_reader (suc (suc l))) (SpellsClause (suc l)) (OpenSets (suc l)) (clause_finds (suc l)) one)
-        (many_finds (begins_clause (suc l)) (clause_reader (suc l)) (SpellsClause (suc l)) (clause_finds (suc l)))
-        (λ front t. subst (λ v. OpenSets (suc (suc l)) (u ++ v)) (sym t.are) (and_inner h (clauses_of (suc l) t.read) t.has))
-        (λ cs v m. same_alike _ _))
+    then_alike (many (begins_clause (suc l)) (clause_reader (suc l))) (many (begins_clause (suc (suc l))) (clause_reader (suc (suc l)))) _ _ (Many (SpellsClause (suc l))) (After (SpellsClause (suc l)) (OpenSets (suc l))) (λ front. OpenSets (suc (suc l)) (u ++ front))
+    (many_alike (begins_clause (suc l)) (clause_reader (suc l)) (clause_reader (suc (suc l))) (SpellsClause (suc l)) (OpenSets (suc l)) (clause_finds (suc l)) one)
+    (many_finds (begins_clause (suc l)) (clause_reader (suc l)) (SpellsClause (suc l)) (clause_finds (suc l)))
+    (λ front t. subst (λ v. OpenSets (suc (suc l)) (u ++ v)) (sym t.are) (and_inner h (clauses_of (suc l) t.read) t.has))
+    (λ cs v m. same_alike _ _))
 
 set_alike : (levels : ℕ) → Alike (set_reader levels) (set_reader (suc levels)) (OpenSets (suc levels))
 set_alike zero = deepest_alike
@@ -233,23 +237,25 @@ side_alike : (name : List ℕ) → Alike (side_reader name deepest) (side_reader
 unfolding side_reader
 side_alike name =
     head_alike (word_is name) _ _ (OpenSide name 16) (λ k kw. head_alike (mark_is (codes "{")) _ _ (λ front. OpenSide name 16 (k ∷ front)) (λ o ow.
-      then_alike (many (word_is (codes "set")) (set_reader deepest)) (many (word_is (codes "set")) (set_reader 16)) _ _ (Many (SpellsSet deepest)) (After (SpellsSet deepest) (OpenSets 16)) (λ front. OpenSide name 16 (k ∷ o ∷ front))
-        (many_alike (word_is (codes "set")) (set_reader deepest) (set_reader 16) (SpellsSet deepest) (OpenSets 16) (set_finds deepest) (set_alike deepest))
-        (many_finds (word_is (codes "set")) (set_reader deepest) (SpellsSet deepest) (set_finds deepest))
-        (λ front t. subst (λ v. OpenSide name 16 (k ∷ o ∷ v)) (sym t.are) (open_side k o kw ow t.read t.has))
-        (λ trees u m. same_alike _ _)))
+    then_alike (many (word_is (codes "set")) (set_reader deepest)) (many (word_is (codes "set")) (set_reader 16)) _ _ (Many (SpellsSet deepest)) (After (SpellsSet deepest) (OpenSets 16)) (λ front. OpenSide name 16 (k ∷ o ∷ front))
+    (many_alike (word_is (codes "set")) (set_reader deepest) (set_reader 16) (SpellsSet deepest) (OpenSets 16) (set_finds deepest) (set_alike deepest))
+    (many_finds (word_is (codes "set")) (set_reader deepest) (SpellsSet deepest) (set_finds deepest))
+    (λ front t. subst (λ v. OpenSide name 16 (k ∷ o ∷ v)) (sym t.are) (open_side k o kw ow t.read t.has))
+    (λ trees u m. same_alike _ _)))
 
 mapping_alike : Alike (mapping_reader deepest) (mapping_reader 16) (OpenMapping 16)
 unfolding mapping_reader
 mapping_alike =
     head_alike (word_is (codes "mapping")) _ _ (OpenMapping 16) (λ k kw. head_alike (number_is (codes "1")) _ _ (λ front. OpenMapping 16 (k ∷ front)) (λ n nw. head_alike (mark_is (codes ";")) _ _ (λ front. OpenMapping 16 (k ∷ n ∷ front)) (λ e ew.
-      then_alike (side_reader (codes "source") deepest) (side_reader (codes "source") 16) _ _ (SpellsSide (codes "source") deepest) (OpenSide (codes "source") 16) (λ front. OpenMapping 16 (k ∷ n ∷ e ∷ front))
-        (side_alike (codes "source")) (side_finds (codes "source") deepest) (λ front t. in_source k n e kw nw ew t)
-        (λ from u h. before_alike (side_reader (codes "target") deepest) (side_reader (codes "target") 16) _ (λ front. OpenMapping 16 (k ∷ n ∷ e ∷ (u ++ front)))
-          (record { alike = λ xs. elim ((side_alike (codes "target")).alike xs) [
-            | inl s ↦ inl s
-            | inr c ↦ inr (cut_moved [] xs xs (side_reader (codes "target") deepest xs) (OpenSide (codes "target") 16) (λ front. OpenMapping 16 (k ∷ n ∷ e ∷ (u ++ front))) refl (λ front t. in_target k n e kw nw ew h t) c)
-          ] })))))
+    then_alike (side_reader (codes "source") deepest) (side_reader (codes "source") 16) _ _ (SpellsSide (codes "source") deepest) (OpenSide (codes "source") 16) (λ front. OpenMapping 16 (k ∷ n ∷ e ∷ front))
+    (side_alike (codes "source")) (side_finds (codes "source") deepest) (λ front t. in_source k n e kw nw ew t)
+    (λ from u h. before_alike (side_reader (codes "target") deepest) (side_reader (codes "target") 16) _ (λ front. OpenMapping 16 (k ∷ n ∷ e ∷ (u ++ front)))
+    (record {
+      alike = λ xs. elim ((side_alike (codes "target")).alike xs) [
+        | inl s ↦ inl s
+        | inr c ↦ inr (cut_moved [] xs xs (side_reader (codes "target") deepest xs) (OpenSide (codes "target") 16) (λ front. OpenMapping 16 (k ∷ n ∷ e ∷ (u ++ front))) refl (λ front t. in_target k n e kw nw ew h t) c)
+      ];
+    })))))
 
 -- ---- the fault
 

@@ -90,7 +90,7 @@ source_tokens : HasTokens source
 unfolding source behind_word places
 source_tokens =
     s & (w & (((made Mark (codes "."), refl) & w)
-      & ((made Mark (codes "("), refl) & (place_tokens & ((made Mark (codes ","), refl) & place_tokens)) & (made Mark (codes ")"), refl))))
+    & ((made Mark (codes "("), refl) & (place_tokens & ((made Mark (codes ","), refl) & place_tokens)) & (made Mark (codes ")"), refl))))
 
 line_tokens : HasTokens line
 unfolding line

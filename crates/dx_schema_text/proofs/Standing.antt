@@ -88,20 +88,20 @@ open_starts (one_set {u = u} {v = v} h cs) x e =
     subst (Starts (set 1)) (sym (append_assoc u v (x ∷ []))) (set_starts 1 h (v ++ x ∷ []) (clauses_start cs (x ∷ []) (inner_starts 0 (x ∷ []) (word_starts 0 x e))))
 open_starts (and_inner {n = n} {u = u} {v = v} {w = w} h cs o) x e =
     subst (Starts (set (suc n))) (sym (append_assoc u (v ++ w) (x ∷ []) ∙ ap (λ ys. u ++ ys) (append_assoc v w (x ∷ []))))
-      (set_starts (suc n) h (v ++ (w ++ x ∷ [])) (clauses_start cs (w ++ x ∷ []) (inner_starts n (w ++ x ∷ []) (open_starts o x e))))
+    (set_starts (suc n) h (v ++ (w ++ x ∷ [])) (clauses_start cs (w ++ x ∷ []) (inner_starts n (w ++ x ∷ []) (open_starts o x e))))
 
 side_starts : {name : List ℕ} {front : List Lexeme} → OpenSide name 16 front → (x : Lexeme) → IsKeyword (codes "set") x → Starts (side name 16) (front ++ x ∷ [])
 unfolding side
 side_starts {name = name} (open_side {u = u} {w = w} k o kw ow m s) x e =
     subst (λ ys. Starts (side name 16) (k ∷ o ∷ ys)) (sym (append_assoc u w (x ∷ [])))
-      (in_second (is_one kw) (in_second (is_one ow) (in_first (sets_start (sets_wider m) (w ++ x ∷ []) (open_starts s x e)))))
+    (in_second (is_one kw) (in_second (is_one ow) (in_first (sets_start (sets_wider m) (w ++ x ∷ []) (open_starts s x e)))))
 
 mapping_starts : {front : List Lexeme} → OpenMapping 16 front → (x : Lexeme) → IsKeyword (codes "set") x → Starts deeper_form (front ++ x ∷ [])
 unfolding mapping
 mapping_starts (in_source k v t kw vw tw s) x e = in_second (is_one kw) (in_second (is_one vw) (in_second (is_one tw) (in_first (side_starts s x e))))
 mapping_starts (in_target {u = u} {w = w} k v t kw vw tw h s) x e =
     subst (λ ys. Starts deeper_form (k ∷ v ∷ t ∷ ys)) (sym (append_assoc u w (x ∷ [])))
-      (in_second (is_one kw) (in_second (is_one vw) (in_second (is_one tw) (in_second (side_text (side_wider h)) (in_first (side_starts s x e))))))
+    (in_second (is_one kw) (in_second (is_one vw) (in_second (is_one tw) (in_second (side_text (side_wider h)) (in_first (side_starts s x e))))))
 
 -- ---- exactly there
 
@@ -112,7 +112,7 @@ taken (y ∷ front) x back = ap (λ ys. y ∷ ys) (taken front x back)
 set_stands_deeper : (text : List ℕ) (number : ℕ) → IsSetTooDeep text number → StandsDeeper text number
 set_stands_deeper text number s =
     let e : take (suc number) (judged_tokens text) ≡ s.front ++ s.token ∷ [] =
-      ap (λ n. take (suc n) (judged_tokens text)) s.at ∙ (ap (take (suc (length s.front))) s.are ∙ taken s.front s.token s.back) in
+    ap (λ n. take (suc n) (judged_tokens text)) s.at ∙ (ap (take (suc (length s.front))) s.are ∙ taken s.front s.token s.back) in
     subst (Starts deeper_form) (sym e) (mapping_starts s.inside s.token s.word)
 
 pub too_deep_are_sets : TooDeepAreSets
