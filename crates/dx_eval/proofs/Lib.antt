@@ -12,3 +12,4 @@ mod Limits
 mod Partners
 mod Inserts
 mod Running
+mod Examples

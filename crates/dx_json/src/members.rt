@@ -116,7 +116,8 @@ fn cell_of<'a>(
     members: &[(&'a str, Json<'a>)],
 ) -> Result<Text, JsonFault>
     ensures ok { IfOk result (IsConstant (below path.now column.now) (column_reading column.now (members_view members.now))) }
-    ensures fault { IfErr result (Fails (reading_faults (below path.now column.now) (column_reading column.now (members_view members.now)))) }
+    ensures fault { IfErr result (Fails
+        (reading_faults (below path.now column.now) (column_reading column.now (members_view members.now)))) }
 {
     match member_of(members, column.as_str()) {
         None => Ok(Text::from_str(alloc, "")?),

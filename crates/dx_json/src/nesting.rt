@@ -172,7 +172,8 @@ fn write_object(
     requires place { place < length (rows_of instance.now table) }
     requires width { 0 < (table_at instance.now table).width }
     requires fit { Fit instance.now (all_slots orders.now) (table_at instance.now table).width sets.now (slots_of order.now.entries) }
-    ensures { OnOk result (WroteValue out.old out.new (object (object_in instance.now sets.now (row_at instance.now table place) order.now))) }
+    ensures { OnOk result (WroteValue out.old out.new
+        (object (object_in instance.now sets.now (row_at instance.now table place) order.now))) }
 {
     out.begin_object()?;
     for (name, source) in order.iter() {

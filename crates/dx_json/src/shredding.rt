@@ -84,7 +84,8 @@ fn push_document(
 ) -> Result<Option<JsonKind>, Unread>
     requires table { table < 2 ^ 31 }
     requires few { count tree.now.inner < 64 }
-    ensures ok { IfOk result (λ met. (d : Data) × (value_read max_depth reader.old ≡ Some (d, reader.new)) × Tells met out.old out.new (tree_says tree.now table d)) }
+    ensures ok { IfOk result (λ met. (d : Data) × (value_read max_depth reader.old ≡ Some (d, reader.new))
+        × Tells met out.old out.new (tree_says tree.now table d)) }
     ensures refused { result ≡ Err Unread.NotJson → value_read max_depth reader.old ≡ None }
 {
     let at = Place {

@@ -8,7 +8,6 @@ use Rattle.dx_ports.proofs.Tests.{map_same}
 use Rattle.dx_model.specs.declared.rules.Derived.{Derived}
 use Rattle.dx_model.specs.declared.rules.Rule.{Rule}
 use Rattle.dx_model.specs.Values.{Text}
-use Rattle.dx_model.specs.Covers.{below}
 use Rattle.dx_model.specs.Fitting.{premise_variables}
 use Rattle.dx_funcs.specs.declared.conversion.Conversion.{Conversion}
 use Rattle.dx_funcs.specs.Names.{conversion_name}
@@ -20,12 +19,9 @@ use Rattle.dx_script.specs.declared.form.Equal.{Equal}
 use Rattle.dx_script.specs.declared.form.Step.{Step}
 use Rattle.dx_script.specs.declared.form.Step.TheVariants.{MatchRows}
 use Rattle.dx_script.specs.Generated.{Spot, first_spot, select_of, shows}
+use Rattle.dx_scriptgen.specs.Selecting.{firsts_of}
 use Rattle.dx_script.proofs.NameFacts.{nat_lt_tells}
 use Rattle.dx_script.proofs.Fitted.{at_below, length_map_below}
-
--- the first cells of the variables of a premise
-abbrev pub firsts_of : List Spot → Rule → List CellRef
-firsts_of all d = map (λ y. shows (first_spot y all)) (below (premise_variables d))
 
 pub cell_selected : (list : List Conversion) (all : List Spot) (d : Rule) (x : ℕ) (firsts : List CellRef) (copy here : CellRef) → firsts ≡ firsts_of all d → x < length firsts → here ≡ get_or firsts x here → copy ≡ here
     → Shown copy ≡ select_of list all d x

@@ -1,2 +1,4 @@
 pub mod Parts
+pub mod Selecting
+pub mod Steps
 pub mod Premises

@@ -2,8 +2,10 @@
 use Rattle.std.specs.Prelude.{ℕ, cond, nat_lt, List, [], ◌∷◌, ◌++◌, length, slice_index_or}
 use Rattle.dx_model.specs.declared.rules.Cell.{Cell}
 use Rattle.dx_model.specs.declared.rules.Cell.TheVariants.{Var, Ex, Lit}
+use Rattle.dx_model.specs.declared.rules.Atom.{Atom}
+use Rattle.dx_schema.specs.Names.{Named}
 use Rattle.dx_script.specs.declared.form.CellRef.{CellRef}
-use Rattle.dx_script.specs.Generated.{Spot, shows}
+use Rattle.dx_script.specs.Generated.{Spot, shows, spots_of_cells}
 use Rattle.dx_scriptgen.specs.declared.premise.Premise.{Premise}
 
 -- one cell more of variable x: its first one, or equal to that one
@@ -23,3 +25,7 @@ met_cell c (Lit t) p = p
 abbrev pub met_spots : List Spot → Premise → Premise
 met_spots [] p = p
 met_spots (s ∷ ss) p = met_spots ss (met_cell (shows s) s.cell p)
+
+-- the cells of the atom of an alias
+abbrev pub met_atom : List Named → ℕ → Atom → Premise → Premise
+met_atom source alias a p = met_spots (spots_of_cells source alias a.table 0 a.cells) p

@@ -1,12 +1,12 @@
 // The scripts of rules.
-ghost use Rattle.std.specs.Prelude.{◌≡◌, ◌↔◌, ◌<◌, ◌-◌, ◌^◌, ◌++◌, [], IfOk, OnOk, List, length, map, slice_index_or, flat_map, false};
+ghost use Rattle.std.specs.Prelude.{◌≡◌, ◌↔◌, ◌<◌, ◌-◌, ◌^◌, ◌++◌, [], IfOk, OnOk, List, length, map};
 ghost use Rattle.dx_ports.specs.Members.{◌⊆◌, Each};
 ghost use Rattle.dx_model.specs.declared.facts.Fact.{Fact};
 ghost use Rattle.dx_model.specs.Values.{Rows};
 ghost use Rattle.dx_model.specs.Tables.{IsInstance};
 ghost use Rattle.dx_model.specs.Solutions.{AtomFits};
 ghost use Rattle.dx_model.specs.Rules.{AreRows, canonical};
-ghost use Rattle.dx_model.specs.Covers.{below, least_cover, rule_at, uncovered};
+ghost use Rattle.dx_model.specs.Covers.{below, least_cover, uncovered};
 ghost use Rattle.dx_model.specs.Fitting.{IsRule, RuleFits};
 ghost use Rattle.dx_schema.specs.Tables.{model_tables};
 ghost use Rattle.dx_schema.specs.Names.{named_of};
@@ -15,8 +15,9 @@ ghost use Rattle.dx_funcs.specs.Offers.{IsListed};
 ghost use Rattle.dx_funcs.specs.Serving.{offered};
 ghost use Rattle.dx_script.specs.Meaning.{Means};
 ghost use Rattle.dx_script.specs.Fits.{FitsScript};
-ghost use Rattle.dx_script.specs.Generated.{create_steps, has_parts, inserts_of, keep_step, match_steps, plain_steps, script_with};
+ghost use Rattle.dx_script.specs.Generated.{create_steps, has_parts, match_steps, plain_steps, script_with};
 ghost use Rattle.dx_script.specs.Rewritten.{rewritten_steps};
+ghost use Rattle.dx_scriptgen.specs.Steps.{inserts_by, keeps_by, parts_in};
 
 use crate::copies::copy_texts;
 use crate::inserts::push_inserts;
@@ -66,7 +67,7 @@ fn push_matches<F: Fn(u32, &Items<Text>) -> Result<Text, AllocError>, M: Meaning
 /// Adds a keep step for each rule that has parts.
 fn push_keeps(steps: &mut Items<Step>, parts: Vec<Items<Unless>>) -> Result<(), AllocError>
     requires few { length parts.items < 4294967296 }
-    ensures { OnOk result (steps.new ≡ steps.old ++ flat_map (λ r. keep_step r (slice_index_or parts.items r [])) (below (length parts.items))) }
+    ensures { OnOk result (steps.new ≡ steps.old ++ keeps_by parts.items) }
 {
     for (number, unless) in parts.into_iter().enumerate() {
         if unless.len() > 0 {
@@ -102,7 +103,7 @@ fn push_all_inserts(
     requires conclusions { Each rules.now (λ d. Each d.conclusion (AtomFits (model_tables target.now))) }
     requires one { length kept.now ≡ length rules.now }
     requires few { length rules.now < 4294967296 }
-    ensures { OnOk result (steps.new ≡ steps.old ++ flat_map (λ r. inserts_of (named_of target.now) (slice_index_or kept.now r false) r (rule_at rules.now r)) (below (length rules.now))) }
+    ensures { OnOk result (steps.new ≡ steps.old ++ inserts_by (named_of target.now) kept.now rules.now) }
 {
     for number in 0..rules.len() {
         let rule = &rules[number];
@@ -134,7 +135,8 @@ fn script_of<F: Fn(u32, &Items<Text>) -> Result<Text, AllocError>, M: Meaning>(
     requires listed { Each rules.now (λ d. Each d.derived (λ e. IsListed (offered host.now) e.code (length e.args))) }
     requires one { length parts.items ≡ length rules.now }
     requires few { length rules.now < 4294967296 }
-    ensures { IfOk result (λ s. s.steps ≡ script_with (named_of source.now) (named_of target.now) (offered host.now) (λ r. slice_index_or parts.items r []) rules.now) }
+    ensures { IfOk result (λ s. s.steps
+        ≡ script_with (named_of source.now) (named_of target.now) (offered host.now) (parts_in parts.items) rules.now) }
 {
     let mut steps = Items::new(alloc);
     push_creates(alloc, &mut steps, target)?;

@@ -10,8 +10,8 @@ ghost use Rattle.dx_funcs.specs.Serving.{offered};
 ghost use Rattle.dx_model.specs.declared.rules.Atom.{Atom as AtomValue};
 ghost use Rattle.dx_model.specs.Solutions.{AtomFits};
 ghost use Rattle.dx_script.specs.Names.{table_numbered};
-ghost use Rattle.dx_script.specs.Generated.{Spot, first_spot, match_step as match_of, select_of as select_for, shows};
-ghost use Rattle.dx_model.specs.Covers.{below};
+ghost use Rattle.dx_script.specs.Generated.{Spot, match_step as match_of, select_of as select_for};
+ghost use Rattle.dx_scriptgen.specs.Selecting.{firsts_of};
 
 use crate::copies::{cells_at, copy_cell};
 use crate::premise::Premise;
@@ -35,7 +35,8 @@ fn select_of<F: Fn(u32, &Items<Text>) -> Result<Text, AllocError>, M: Meaning>(
     requires known { variable < premise_variables rule.now + length rule.now.derived }
     requires arguments { Each rule.now.derived (λ e. Each e.args (λ y. y < premise_variables rule.now)) }
     requires listed { Each rule.now.derived (λ e. IsListed (offered host.now) e.code (length e.args)) }
-    ensures { IfOk result (λ s. (all : List Spot) → firsts.now ≡ map (λ y. shows (first_spot y all)) (below (premise_variables rule.now)) → s ≡ select_for (offered host.now) all rule.now variable) }
+    ensures { IfOk result (λ s. (all : List Spot) → firsts.now ≡ firsts_of all rule.now
+        → s ≡ select_for (offered host.now) all rule.now variable) }
 {
     if (variable as usize) < firsts.len() {
         return Ok(Select::Cell(copy_cell(&firsts[variable as usize])?));
@@ -69,7 +70,7 @@ fn selects<F: Fn(u32, &Items<Text>) -> Result<Text, AllocError>, M: Meaning>(
     requires rule { IsRule rule.now }
     requires firsts { length firsts.now ≡ premise_variables rule.now }
     requires listed { Each rule.now.derived (λ e. IsListed (offered host.now) e.code (length e.args)) }
-    ensures { IfOk result (λ ss. (all : List Spot) → firsts.now ≡ map (λ y. shows (first_spot y all)) (below (premise_variables rule.now))
+    ensures { IfOk result (λ ss. (all : List Spot) → firsts.now ≡ firsts_of all rule.now
         → ss ≡ map (select_for (offered host.now) all rule.now) (exported_of rule.now)) }
 {
     let variables = exported(alloc, rule)?;

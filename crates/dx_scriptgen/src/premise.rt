@@ -4,8 +4,8 @@ ghost use Rattle.dx_ports.specs.Members.{Each};
 ghost use Rattle.dx_model.specs.Rules.{cells_of};
 ghost use Rattle.dx_schema.specs.Tables.{table_at, tables_of};
 ghost use Rattle.dx_schema.specs.Names.{named_of};
-ghost use Rattle.dx_script.specs.Generated.{spots, spots_of_cells};
-ghost use Rattle.dx_scriptgen.specs.Premises.{met as met_of, met_spots};
+ghost use Rattle.dx_script.specs.Generated.{spots};
+ghost use Rattle.dx_scriptgen.specs.Premises.{met as met_of, met_atom, met_spots};
 
 use crate::copies::copy_cell;
 use dx_model::{Atom, Cell};
@@ -40,7 +40,7 @@ impl Premise {
         requires table { atom.now.table < length (tables_of source.now) }
         requires width { length atom.now.cells ≡ length (table_at source.now atom.now.table).columns }
         ensures some { 1 ≤ length atom.now.cells }
-        ensures met { OnOk result (self.new ≡ met_spots (spots_of_cells (named_of source.now) alias atom.now.table 0 atom.now.cells) self.old) }
+        ensures met { OnOk result (self.new ≡ met_atom (named_of source.now) alias atom.now self.old) }
     {
         let cells = atom.cells.items();
         for column in 0..source.width(atom.table) {
