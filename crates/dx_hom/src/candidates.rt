@@ -9,12 +9,16 @@ ghost use Rattle.dx_hom.specs.Orders.{fact_in};
 ghost use Rattle.dx_hom.specs.Searching.{FitsIn, IsAhead, IsKnown};
 
 use crate::bindings::Bindings;
+use crate::failures::Failures;
 use dx_instance::Instance;
 use dx_model::{Fact, Value};
 use std::slice::from_ref;
 
 /// How many of the facts that are left are looked at for the one that is moved next.
 const LOOKED_AT: usize = 8;
+
+/// How many of them if many facts failed.
+const LOOKED_AT_WIDELY: usize = 64;
 
 /// Up to how many candidates are counted. If more facts than this are left, candidates are counted for the first step alone.
 const FEW: u32 = 16;
@@ -224,11 +228,51 @@ fn first_fact(
     }
 }
 
+// The first of the next facts with which the fewest places agree, of those of which a null was found; of several the one that
+// failed most.
+fn most_pressing(
+    found: &Bindings,
+    into: &Instance,
+    failures: &Failures,
+    from: &[Fact],
+    order: &[usize],
+    start: usize,
+) -> usize
+    requires start { start < length order.now }
+    requires fits { (f : FactRow) → f ∈ from.now → FitsIn into.now f }
+    requires cells { Each found.now.cells (IsCell into.now) }
+    requires within { Each order.now (λ i. i < length from.now) }
+    ensures after { start ≤ result }
+    ensures within { result < length order.now }
+{
+    let mut best = start;
+    let mut fewest = FEW + 1;
+    let mut most = 0;
+    for place in start..order.len() {
+        if fewest == 0 || place - start == LOOKED_AT_WIDELY {
+            break;
+        }
+        let fact = fact_at_turn(from, order, place);
+        if !is_linked(found, fact) {
+            continue;
+        }
+        let count = count_to(found, into, fact, fewest + 1);
+        let failed = failures.of(order[place]);
+        if count < fewest || (count == fewest && failed > most) {
+            best = place;
+            fewest = count;
+            most = failed;
+        }
+    }
+    best
+}
+
 /// The place in the order of the fact that is best moved next: one of which a null was found, with few candidates. Which of
 /// the facts that are left it is, is a matter of time alone.
 pub(crate) fn next_fact(
     found: &Bindings,
     into: &Instance,
+    failures: &Failures,
     from: &[Fact],
     order: &[usize],
     start: usize,
@@ -248,6 +292,9 @@ pub(crate) fn next_fact(
         return first_fact(found, into, from, order, start);
     }
     let first = first_linked(found, from, order, start);
+    if failures.are_many(start) {
+        return most_pressing(found, into, failures, from, order, first);
+    }
     if left > FEW as usize {
         return first;
     }

@@ -13,6 +13,7 @@ ghost use Rattle.dx_hom.specs.View.{fact_at};
 
 use crate::bindings::Bindings;
 use crate::candidates::{candidate, fact_at_turn, next_fact};
+use crate::failures::Failures;
 use crate::gone::Gone;
 use crate::matching::meet_row;
 use dx_instance::{Instance, NullMap};
@@ -26,11 +27,12 @@ pub(crate) struct Step {
     pub before: usize,
 }
 
-/// The steps of a search, and the order in which it moves the facts, by their places.
+/// The steps of a search, the order in which it moves the facts, by their places, and which facts had no place.
 #[derive(Drop)]
 pub(crate) struct Stack {
     pub steps: Vec<Step>,
     pub order: Vec<usize>,
+    pub failures: Failures,
 }
 
 impl Stack {
@@ -45,7 +47,12 @@ impl Stack {
     {
         let steps = Vec::with_capacity(alloc, facts)?;
         let order = Vec::with_capacity(alloc, facts)?;
-        Ok(Stack { steps, order })
+        let failures = Failures::reserve(alloc, facts)?;
+        Ok(Stack {
+            steps,
+            order,
+            failures,
+        })
     }
 
     // No steps, and the facts as they stand.
@@ -58,8 +65,20 @@ impl Stack {
     {
         self.steps.clear();
         self.order.clear();
+        self.failures.clear();
         for place in 0..facts {
             self.order.push_reserved(place);
+        }
+    }
+
+    // Notes that the fact whose turn was had no place, after the last step was taken back.
+    fn note_failure(&mut self, facts: usize)
+        ensures steps { self.new.steps ≡ self.old.steps }
+        ensures order { self.new.order ≡ self.old.order }
+    {
+        let turn = self.steps.len() + 1;
+        if let Some(fact) = self.order.get(turn) {
+            self.failures.note(*fact, facts);
         }
     }
 }
@@ -156,7 +175,7 @@ fn choose(stack: &mut Stack, found: &Bindings, into: &Instance, from: &[Fact])
 {
     let start = stack.steps.len();
     if start < stack.order.len() {
-        let next = next_fact(found, into, from, &stack.order, start);
+        let next = next_fact(found, into, &stack.failures, from, &stack.order, start);
         stack.order.swap(start, next);
     }
 }
@@ -196,6 +215,7 @@ pub(crate) fn search(
             None => match stack.steps.pop() {
                 None => return false,
                 Some(step) => {
+                    stack.note_failure(from.len());
                     found.truncate(step.before);
                     next = step.place + 1;
                 }

@@ -1,0 +1,9 @@
+use Rattle.std.proofs.Common.{◌≤◌, ◌<◌, length}
+use Rattle.dx_hom.proofs.candidates.most_pressing.Given as goal
+
+abbrev pub invariant-loop-place : goal.invariant-loop-place
+invariant-loop-place l = record {
+  after : l.start ≤ l.best;
+  within : l.best < length l.order;
+  few : l.fewest ≤ 17;
+}
