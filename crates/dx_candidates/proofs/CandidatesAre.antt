@@ -1,5 +1,5 @@
 -- What candidates are, and their order.
-use Rattle.std.proofs.Common.{◌≡◌, ℕ, zero, suc, ◌<◌, List, [], ◌∷◌, ◌++◌, inl, inr, refl, sym, ◌∙◌, ap, subst, arith}
+use Rattle.std.proofs.Common.{◌≡◌, ℕ, zero, suc, ◌+◌, ◌<◌, List, [], ◌∷◌, ◌++◌, inl, inr, refl, sym, ◌∙◌, ap, subst, arith}
 use Rattle.std.specs.Prelude.{map, flat_map, length}
 use Rattle.std.specs.List.{range_with_len}
 use Rattle.std.specs.Cmp.{tied_itself}
@@ -69,10 +69,10 @@ candidates_are lines source target c = (are_from lines source target c, are_to l
 
 -- ---- lists that ascend, one after the other
 
-append_ascends : {X : Type 0} (R : X → X → Type 0) (as bs : List X) → Ascends R as → Ascends R bs → Each as (λ a. Each bs (R a)) → Ascends R (as ++ bs)
-append_ascends R [] bs p q h = q
-append_ascends R (a ∷ as) bs p q h =
-    ((λ b m. elim (from_append as m) [ inl n ↦ p.0 b n | inr n ↦ h a (here refl) b n ]), append_ascends R as bs p.1 q (λ x n. h x (there n)))
+append_ascends : {X : Type 0} (R : X → X → Type 0) (xs ys : List X) → Ascends R xs → Ascends R ys → Each xs (λ a. Each ys (R a)) → Ascends R (xs ++ ys)
+append_ascends R [] ys p q h = q
+append_ascends R (a ∷ xs) ys p q h =
+    ((λ b m. elim (from_append xs m) [ inl n ↦ p.0 b n | inr n ↦ h a (here refl) b n ]), append_ascends R xs ys p.1 q (λ x n. h x (there n)))
 
 map_ascends : {X Y : Type 0} (B : X → X → Type 0) (R : Y → Y → Type 0) (f : X → Y) (xs : List X) → ((x y : X) → B x y → R (f x) (f y)) → Ascends B xs → Ascends R (map f xs)
 map_ascends B R f [] h a = tt
@@ -100,13 +100,11 @@ Below c d = candidate_cmp c d ≡ Less
 headed_below : (k : Pick) (js ks : List Pick) → PicksBelow js ks → PicksBelow (k ∷ js) (k ∷ ks)
 headed_below k js ks h = let e : pick_cmp k k ≡ Equal = tied_itself pick_total k in rw e h
 
-combinations_ascend : (gs : List (List Pick)) → AreGroups gs → Ascends PicksBelow (combinations gs)
-combinations_ascend [] a = ((λ y m. elim m [ ]), tt)
-combinations_ascend (g ∷ gs) a =
-    flat_ascends (λ (j k : Pick). pick_cmp j k ≡ Less) PicksBelow (headed (combinations gs)) g a.0.up each cross
+with_group : (g : List Pick) (gs : List (List Pick)) → Up g → Ascends PicksBelow (combinations gs) → Ascends PicksBelow (combinations (g ∷ gs))
+with_group g gs up rest = flat_ascends (λ (j k : Pick). pick_cmp j k ≡ Less) PicksBelow (headed (combinations gs)) g up each cross
   where
     each : (k : Pick) → k ∈ g → Ascends PicksBelow (headed (combinations gs) k)
-    each k m = map_ascends PicksBelow PicksBelow (λ (ks : List Pick). k ∷ ks) (combinations gs) (headed_below k) (combinations_ascend gs a.1)
+    each k m = map_ascends PicksBelow PicksBelow (λ (ks : List Pick). k ∷ ks) (combinations gs) (headed_below k) rest
 
     cross : (j k : Pick) → pick_cmp j k ≡ Less → Each (headed (combinations gs) j) (λ c. Each (headed (combinations gs) k) (PicksBelow c))
     cross j k l c m d n =
@@ -114,6 +112,10 @@ combinations_ascend (g ∷ gs) a =
         let q = from_map (λ (ks : List Pick). k ∷ ks) (combinations gs) n in
         let h : PicksBelow (j ∷ p.0) (k ∷ q.0) = rw l refl in
         subst (λ x. PicksBelow x d) p.2 (subst (PicksBelow (j ∷ p.0)) q.2 h)
+
+combinations_ascend : (gs : List (List Pick)) → AreGroups gs → Ascends PicksBelow (combinations gs)
+combinations_ascend [] a = ((λ y m. elim m [ ]), tt)
+combinations_ascend (g ∷ gs) a = with_group g gs a.0.up (combinations_ascend gs a.1)
 
 picks_ascend : (found : List Pick) → Up found → Ascends PicksBelow (all_picks found)
 picks_ascend [] a = tt

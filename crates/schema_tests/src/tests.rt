@@ -1,4 +1,5 @@
 // Tests of calls over sets.
+mod cases;
 mod closings;
 mod schema_faults;
 mod schemas;

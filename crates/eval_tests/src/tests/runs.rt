@@ -20,95 +20,89 @@ use dx_scriptgen::{plain_script, rewritten_script};
 use std::alloc::{AllocError, Global};
 use std::test::Fail;
 
-/// A mapping, the rows of its source, and how many cells its rules make for all of their matches.
-/// Then what its scripts make: first the matches of each rule, then the facts.
-#[derive(Clone, Copy)]
-struct Case {
-    mapping: &'static str,
-    rows: &'static str,
-    cells: u64,
-    plain: &'static str,
-    rewritten: &'static str,
-}
+/// Mappings with an empty line between each two. After each, parted by `==`: the rows of its source, how many cells its rules
+/// make for all of their matches, and what its plain and its rewritten script make: first the matches of each rule, then the
+/// facts. `none` stands for no line.
+const CASES: &str = "// a null for each name
+mapping 1; source { set emp { name; } } target { set person { name, phone; } }
+line emp.name -> person.name;
+==
+0|ann
+0|bob
+==
+4
+==
+m0|ann
+m0|bob
+0|ann|?0.0.0
+0|bob|?0.0.1
+==
+the same
 
-const CASES: [Case; 11] = [
-    // a null for each name
-    Case {
-        mapping: "mapping 1; source { set emp { name; } } target { set person { name, phone; } }
-line emp.name -> person.name;",
-        rows: "0|ann
-0|bob",
-        cells: 4,
-        plain: "m0|ann
-m0|bob
-0|ann|?0.0.0
-0|bob|?0.0.1
-",
-        rewritten: "m0|ann
-m0|bob
-0|ann|?0.0.0
-0|bob|?0.0.1
-",
-    },
-    // no row makes no cell
-    Case {
-        mapping: "mapping 1; source { set emp { name; } } target { set person { name, phone; } }
-line emp.name -> person.name;",
-        rows: "",
-        cells: 0,
-        plain: "",
-        rewritten: "",
-    },
-    // a constant that has the text of a null
-    Case {
-        mapping: "mapping 1; source { set emp { name; } } target { set person { name, phone; } }
-line emp.name -> person.name;",
-        rows: "0|??0.0.0",
-        cells: 2,
-        plain: "m0|?0.0.0
+// no row makes no cell
+mapping 1; source { set emp { name; } } target { set person { name, phone; } }
+line emp.name -> person.name;
+==
+none
+==
+0
+==
+none
+==
+the same
+
+// a constant that has the text of a null
+mapping 1; source { set emp { name; } } target { set person { name, phone; } }
+line emp.name -> person.name;
+==
+0|??0.0.0
+==
+2
+==
+m0|?0.0.0
 0|??0.0.0|?0.0.0
-",
-        rewritten: "m0|?0.0.0
-0|??0.0.0|?0.0.0
-",
-    },
-    // where nothing is exported all rows are one match
-    Case {
-        mapping: "mapping 1; source { set emp { name; } } target { set site { code; } }
-rule emp(x) -> site(\"main\");",
-        rows: "0|ann
-0|bob",
-        cells: 1,
-        plain: "m0
-0|main
-",
-        rewritten: "m0
-0|main
-",
-    },
-    // a match is what a conversion gives
-    Case {
-        mapping: "mapping 1; source { set emp { name; } } target { set person { name; } }
-line trim(emp.name) -> person.name;",
-        rows: "0| ann 
-0|ann",
-        cells: 1,
-        plain: "m0|ann
+==
+the same
+
+// where nothing is exported all rows are one match
+mapping 1; source { set emp { name; } } target { set site { code; } }
+rule emp(x) -> site(\"main\");
+==
 0|ann
-",
-        rewritten: "m0|ann
+0|bob
+==
+1
+==
+m0
+0|main
+==
+the same
+
+// a match is what a conversion gives
+mapping 1; source { set emp { name; } } target { set person { name; } }
+line trim(emp.name) -> person.name;
+==
+0| ann 
 0|ann
-",
-    },
-    // keys change nothing
-    Case {
-        mapping: "mapping 1; source { set a { x, v; } }
+==
+1
+==
+m0|ann
+0|ann
+==
+the same
+
+// keys change nothing
+mapping 1; source { set a { x, v; } }
 target { set p { id, g; key (id); } set q { g, h; key (g); } set r { h, v; key (h); } }
-rule a(x, v) -> p(x, g), q(g, h), r(h, v);",
-        rows: "0|1|bob
-0|1|ann",
-        cells: 12,
-        plain: "m0|1|ann
+rule a(x, v) -> p(x, g), q(g, h), r(h, v);
+==
+0|1|bob
+0|1|ann
+==
+12
+==
+m0|1|ann
 m0|1|bob
 0|1|?0.0.0
 0|1|?0.0.1
@@ -116,20 +110,11 @@ m0|1|bob
 1|?0.0.1|?0.1.1
 2|?0.1.0|ann
 2|?0.1.1|bob
-",
-        rewritten: "m0|1|ann
-m0|1|bob
-0|1|?0.0.0
-0|1|?0.0.1
-1|?0.0.0|?0.1.0
-1|?0.0.1|?0.1.1
-2|?0.1.0|ann
-2|?0.1.1|bob
-",
-    },
-    // a unit of staff is a unit already
-    Case {
-        mapping: "mapping 1;
+==
+the same
+
+// a unit of staff is a unit already
+mapping 1;
 source {
   set emp { name, dept; ref (dept) -> dept (dname); }
   set dept { dname; }
@@ -138,12 +123,15 @@ target {
   set unit { uname; key (uname); set staff { sname; } }
 }
 line emp.name -> staff.sname;
-line dept.dname -> unit.uname;",
-        rows: "0|ann|toys
+line dept.dname -> unit.uname;
+==
+0|ann|toys
 0|bob|toys
-1|toys",
-        cells: 10,
-        plain: "m0|ann|toys
+1|toys
+==
+10
+==
+m0|ann|toys
 m0|bob|toys
 m1|toys
 0|?0.0.0|toys
@@ -151,93 +139,91 @@ m1|toys
 0|?1.0.0|toys
 1|?0.0.0|ann
 1|?0.0.1|bob
-",
-        rewritten: "m0|ann|toys
+==
+m0|ann|toys
 m0|bob|toys
 m1|toys
 0|?0.0.0|toys
 0|?0.0.1|toys
 1|?0.0.0|ann
 1|?0.0.1|bob
-",
-    },
-    // a person with a number is a person already
-    Case {
-        mapping: "mapping 1; source { set emp { name; } set phone { name, num; } } target { set person { name, num; } }
+
+// a person with a number is a person already
+mapping 1; source { set emp { name; } set phone { name, num; } } target { set person { name, num; } }
 line emp.name -> person.name;
 line phone.name -> person.name;
-line phone.num -> person.num;",
-        rows: "0|ann
-1|ann|555",
-        cells: 4,
-        plain: "m0|ann
+line phone.num -> person.num;
+==
+0|ann
+1|ann|555
+==
+4
+==
+m0|ann
 m1|ann|555
 0|ann|555
 0|ann|?0.0.0
-",
-        rewritten: "m0|ann
+==
+m0|ann
 m1|ann|555
 0|ann|555
-",
-    },
-    // of two rules that cover each other the second alone is subtracted
-    Case {
-        mapping: "mapping 1; source { set a { x; } set b { x; } } target { set p { x, y; } }
+
+// of two rules that cover each other the second alone is subtracted
+mapping 1; source { set a { x; } set b { x; } } target { set p { x, y; } }
 rule a(x) -> p(x, y);
-rule b(x) -> p(x, y);",
-        rows: "0|1
+rule b(x) -> p(x, y);
+==
+0|1
 1|1
-1|2",
-        cells: 6,
-        plain: "m0|1
+1|2
+==
+6
+==
+m0|1
 m1|1
 m1|2
 0|1|?0.0.0
 0|1|?1.0.0
 0|2|?1.0.1
-",
-        rewritten: "m0|1
+==
+m0|1
 m1|1
 m1|2
 0|1|?0.0.0
 0|2|?1.0.1
-",
-    },
-    // a place is not covered by two rules, each of which has one of its atoms
-    Case {
-        mapping: "mapping 1; source { set a { x; } set b { x, y; } set c { y; } } target { set p { x, y; } set q { y; } }
+
+// a place is not covered by two rules, each of which has one of its atoms
+mapping 1; source { set a { x; } set b { x, y; } set c { y; } } target { set p { x, y; } set q { y; } }
 rule a(x) -> p(x, y), q(y);
 rule b(x, y) -> p(x, y);
-rule c(y) -> q(y);",
-        rows: "0|1
+rule c(y) -> q(y);
+==
+0|1
 1|1|2
-2|2",
-        cells: 6,
-        plain: "m0|1
+2|2
+==
+6
+==
+m0|1
 m1|1|2
 m2|2
 0|1|2
 0|1|?0.0.0
 1|2
 1|?0.0.0
-",
-        rewritten: "m0|1
-m1|1|2
-m2|2
-0|1|2
-0|1|?0.0.0
-1|2
-1|?0.0.0
-",
-    },
-    // two facts of one match
-    Case {
-        mapping: "mapping 1; source { set a { x; } } target { set n { x; } set e { u, v; } }
-rule a(x) -> n(x), e(u, v), e(v, u);",
-        rows: "0|1
-0|2",
-        cells: 10,
-        plain: "m0|1
+==
+the same
+
+// two facts of one match
+mapping 1; source { set a { x; } } target { set n { x; } set e { u, v; } }
+rule a(x) -> n(x), e(u, v), e(v, u);
+==
+0|1
+0|2
+==
+10
+==
+m0|1
 m0|2
 0|1
 0|2
@@ -245,18 +231,42 @@ m0|2
 1|?0.0.1|?0.1.1
 1|?0.1.0|?0.0.0
 1|?0.1.1|?0.0.1
-",
-        rewritten: "m0|1
-m0|2
-0|1
-0|2
-1|?0.0.0|?0.1.0
-1|?0.0.1|?0.1.1
-1|?0.1.0|?0.0.0
-1|?0.1.1|?0.0.1
-",
-    },
-];
+==
+the same";
+
+/// What stands in a part of a case.
+fn part(text: &str) -> &str {
+    if text == "none" { "" } else { text }
+}
+
+/// One of the cases.
+#[derive(Clone, Copy)]
+struct Case<'a> {
+    mapping: &'a str,
+    rows: &'a str,
+    cells: u64,
+    plain: &'a str,
+    rewritten: &'a str,
+}
+
+fn case_of(text: &str) -> Option<Case<'_>> {
+    let mut parts = text.split("\n==\n");
+    let mapping = parts.next()?;
+    let rows = part(parts.next()?);
+    let cells = parts.next()?.parse::<u64>().ok()?;
+    let plain = part(parts.next()?);
+    let rewritten = match parts.next()? {
+        "the same" => plain,
+        other => part(other),
+    };
+    Some(Case {
+        mapping,
+        rows,
+        cells,
+        plain,
+        rewritten,
+    })
+}
 
 /// The mapping of a text, whose rules fit.
 fn accepted<F: Fn(u32, &Items<Text>) -> Result<Text, AllocError>, M: Meaning>(
@@ -388,18 +398,18 @@ fn is_exact<F: Fn(u32, &Items<Text>) -> Result<Text, AllocError>, M: Meaning>(
 {
     let made = outcome(alloc, script, source, rows, target, host, cells)?;
     if cells == 0 {
-        return Ok(made.as_str() == lines);
+        return Ok(made.as_str().trim_end() == lines);
     }
     let fewer = cells - 1;
     let refused = outcome(alloc, script, source, rows, target, host, fewer)?;
     let refusal = format!(in alloc; "TargetCells {fewer}")?;
-    Ok(made.as_str() == lines && refused.as_str() == refusal.as_str())
+    Ok(made.as_str().trim_end() == lines && refused.as_str() == refusal.as_str())
 }
 
 /// Whether both scripts of a mapping make what they are to make.
 fn passes<F: Fn(u32, &Items<Text>) -> Result<Text, AllocError>, M: Meaning>(
     alloc: Global,
-    case: &Case,
+    case: &Case<'_>,
     host: &Host<F, M>,
 ) -> Result<bool, AcceptFault>
     requires { Serves F.Fn M.apply host.now }
@@ -420,23 +430,26 @@ fn passes<F: Fn(u32, &Items<Text>) -> Result<Text, AllocError>, M: Meaning>(
     )
 }
 
-/// The number of the first case that comes out otherwise, or how many there are.
-fn first_failing(alloc: Global, all: &[Case]) -> Result<usize, AcceptFault> {
+/// How many cases come out as they are to before one that doesn't.
+fn passing(alloc: Global, all: &str) -> Result<usize, AcceptFault> {
     let function = |code: u32, args: &Items<Text>| -> Result<Text, AllocError>
         requires { IsListed shipped_conversions code (length args.now) }
         ensures { IfOk result (λ t. t ≡ shipped_apply code args.entry.now) }
     { convert(alloc, code, args) };
     let host: Host<_, Shipped> = Host::build(shipped_list(alloc)?, function);
-    for (number, one) in all.iter().enumerate() {
-        if !passes(alloc, one, &host)? {
+    for (number, text) in all.split("\n\n").enumerate() {
+        let Some(case) = case_of(text) else {
+            return Ok(number);
+        };
+        if !passes(alloc, &case, &host)? {
             return Ok(number);
         }
     }
-    Ok(all.len())
+    Ok(all.split("\n\n").count())
 }
 
 #[test]
 fn scripts_make_this_within_the_limit(rt: HostRuntime) -> Result<(), Fail> {
-    assert_eq!(rt; first_failing(rt.alloc(), &CASES)?, CASES.len());
+    assert_eq!(rt; passing(rt.alloc(), CASES)?, 11);
     Ok(())
 }

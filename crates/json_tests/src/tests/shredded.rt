@@ -15,137 +15,32 @@ shop name
   box label
  clerk name";
 
-/// A document, and what it says of a root: a line of facts, each a table and its constants, or a fault and its path.
-#[derive(Clone, Copy)]
-struct Case {
-    sets: &'static str,
-    root: u32,
-    document: &'static [u8],
-    said: &'static str,
-}
+/// Documents about clubs, and after `=>` what each says: a line of facts, each a table and its constants, or a fault and its
+/// path.
+const DOCUMENTS: &str =
+    "[{\"cname\":\"A\",\"member\":[]},{\"cname\":null,\"member\":[{\"mname\":\"x\",\"age\":7}]}] => 0|#0|A 0|#1| 1|#1|x|7 
+[{\"cname\":\"A\",\"member\":[]},{\"cname\":null,\"member\":[{\"mname\":\"x\",\"age\":7.5}]}] => number /1/member/0/age
+[{\"x\":1}] => unknown /0/x
+[{ => no JSON
+{} => shape 
+[1] => shape /0
+[{\"member\":3}] => shape /0/member
+[{\"cname\":1.5,\"x\":0}] => unknown /0/x
+[{\"cname\":18446744073709551615}] => 0|#0|18446744073709551615 
+[{\"cname\":18446744073709551616}] => number /0/cname
+[{\"cname\":-3,\"member\":null},{\"cname\":true},{\"cname\":false}] => 0|#0|-3 0|#1|true 0|#2|false 
+[{\"cname\":[]}] => shape /0/cname
+[{\"z\":1,\"b\":2,\"cname\":{}},7] => unknown /0/b
+[{\"cname\":\"?0.0.0\",\"cname\":\"B\"}] => 0|#0|B 
+[{\"#id\":\"#0\"}] => unknown /0/#id
+\u{FEFF}[] => 
+\u{FEFF}\u{FEFF}[] => no JSON";
 
-const CASES: [Case; 20] = [
-    Case {
-        sets: CLUBS,
-        root: 0,
-        document: b"[{\"cname\":\"A\",\"member\":[]},{\"cname\":null,\"member\":[{\"mname\":\"x\",\"age\":7}]}]",
-        said: "0|#0|A 0|#1| 1|#1|x|7 ",
-    },
-    Case {
-        sets: CLUBS,
-        root: 0,
-        document: b"[{\"cname\":\"A\",\"member\":[]},{\"cname\":null,\"member\":[{\"mname\":\"x\",\"age\":7.5}]}]",
-        said: "number /1/member/0/age",
-    },
-    Case {
-        sets: CLUBS,
-        root: 0,
-        document: b"[{\"x\":1}]",
-        said: "unknown /0/x",
-    },
-    Case {
-        sets: CLUBS,
-        root: 0,
-        document: b"[{",
-        said: "no JSON",
-    },
-    Case {
-        sets: CLUBS,
-        root: 0,
-        document: b"{}",
-        said: "shape ",
-    },
-    Case {
-        sets: CLUBS,
-        root: 0,
-        document: b"[1]",
-        said: "shape /0",
-    },
-    Case {
-        sets: CLUBS,
-        root: 0,
-        document: b"[{\"member\":3}]",
-        said: "shape /0/member",
-    },
-    Case {
-        sets: CLUBS,
-        root: 0,
-        document: b"[{\"cname\":1.5,\"x\":0}]",
-        said: "unknown /0/x",
-    },
-    Case {
-        sets: CLUBS,
-        root: 0,
-        document: b"[{\"cname\":18446744073709551615}]",
-        said: "0|#0|18446744073709551615 ",
-    },
-    Case {
-        sets: CLUBS,
-        root: 0,
-        document: b"[{\"cname\":18446744073709551616}]",
-        said: "number /0/cname",
-    },
-    Case {
-        sets: CLUBS,
-        root: 0,
-        document: b"[{\"cname\":-3,\"member\":null},{\"cname\":true},{\"cname\":false}]",
-        said: "0|#0|-3 0|#1|true 0|#2|false ",
-    },
-    Case {
-        sets: CLUBS,
-        root: 0,
-        document: b"[{\"cname\":[]}]",
-        said: "shape /0/cname",
-    },
-    Case {
-        sets: CLUBS,
-        root: 0,
-        document: b"[{\"z\":1,\"b\":2,\"cname\":{}},7]",
-        said: "unknown /0/b",
-    },
-    Case {
-        sets: CLUBS,
-        root: 0,
-        document: b"[{\"cname\":\"?0.0.0\",\"cname\":\"B\"}]",
-        said: "0|#0|B ",
-    },
-    Case {
-        sets: CLUBS,
-        root: 0,
-        document: b"[{\"#id\":\"#0\"}]",
-        said: "unknown /0/#id",
-    },
-    Case {
-        sets: CLUBS,
-        root: 0,
-        document: b"\xEF\xBB\xBF[]",
-        said: "",
-    },
-    Case {
-        sets: CLUBS,
-        root: 0,
-        document: b"\xEF\xBB\xBF\xEF\xBB\xBF[]",
-        said: "no JSON",
-    },
-    Case {
-        sets: CLUBS,
-        root: 0,
-        document: b"[\"\xFF\"]",
-        said: "no JSON",
-    },
-    Case {
-        sets: SHOPS,
-        root: 0,
-        document: b"[{\"name\":\"a\"},{\"name\":\"a\"}]",
-        said: "0|a 0|a ",
-    },
-    Case {
-        sets: SHOPS,
-        root: 1,
-        document: b"[{\"clerk\":[{\"name\":\"c\"}],\"shelf\":[{\"no\":0,\"box\":[{\"label\":\"l\"},{\"label\":\"m\"}]},{\"no\":1}]},{\"name\":\"s\"}]",
-        said: "1|#0| 2|#0.0|#0|0 3|#0.0|l 3|#0.0|m 2|#0.1|#0|1 4|#0|c 1|#1|s ",
-    },
-];
+/// Documents about the towns of `SHOPS` and about its shops.
+const TOWNS: &str = "[{\"name\":\"a\"},{\"name\":\"a\"}]";
+
+const ALL_SHOPS: &str =
+    "[{\"clerk\":[{\"name\":\"c\"}],\"shelf\":[{\"no\":0,\"box\":[{\"label\":\"l\"},{\"label\":\"m\"}]},{\"no\":1}]},{\"name\":\"s\"}]";
 
 fn listed(alloc: Global, facts: &Facts) -> Result<String, AllocError> {
     let mut line = String::new(alloc);
@@ -163,13 +58,14 @@ fn listed(alloc: Global, facts: &Facts) -> Result<String, AllocError> {
     Ok(line)
 }
 
-fn told(alloc: Global, case: &Case) -> Result<String, AllocError> {
-    let schema = schema(alloc, case.sets)?;
-    if case.root >= schema.tables() {
+/// What a document says of a root of these sets.
+fn told(alloc: Global, sets: &str, root: u32, document: &[u8]) -> Result<String, AllocError> {
+    let schema = schema(alloc, sets)?;
+    if root >= schema.tables() {
         return String::from_str(alloc, "no such root");
     }
     let mut scratch = Scratch::new(alloc);
-    match shred(alloc, case.document, &mut scratch, &schema, case.root) {
+    match shred(alloc, document, &mut scratch, &schema, root) {
         Ok(facts) => listed(alloc, &facts),
         Err(JsonFault::Memory) => String::from_str(alloc, "out of memory"),
         Err(JsonFault::Bad(JsonKind::NotJson)) => String::from_str(alloc, "no JSON"),
@@ -179,18 +75,28 @@ fn told(alloc: Global, case: &Case) -> Result<String, AllocError> {
     }
 }
 
-/// The number of the first case that comes out otherwise, or how many cases there are.
-fn first_failing(alloc: Global) -> Result<usize, AllocError> {
-    for (number, case) in CASES.iter().enumerate() {
-        if told(alloc, case)?.as_str() != case.said {
-            return Ok(number);
-        }
+#[test]
+fn documents_say_facts_or_a_fault(rt: HostRuntime) -> Result<(), Fail> {
+    let alloc = rt.alloc();
+    for line in DOCUMENTS.lines() {
+        let (document, said) = line.split_once(" => ").unwrap_or(("", ""));
+        assert_eq!(rt; told(alloc, CLUBS, 0, document.as_bytes())?.as_str(), said);
     }
-    Ok(CASES.len())
+    assert_eq!(rt; DOCUMENTS.lines().count(), 17);
+    assert_eq!(rt; told(alloc, CLUBS, 0, b"[\"\xFF\"]")?.as_str(), "no JSON");
+    Ok(())
 }
 
 #[test]
-fn documents_say_facts_or_a_fault(rt: HostRuntime) -> Result<(), Fail> {
-    assert_eq!(rt; first_failing(rt.alloc())?, CASES.len());
+fn inner_sets_say_facts_too(rt: HostRuntime) -> Result<(), Fail> {
+    let alloc = rt.alloc();
+    assert_eq!(rt;
+        told(alloc, SHOPS, 0, TOWNS.as_bytes())?.as_str(),
+        "0|a 0|a "
+    );
+    assert_eq!(rt;
+        told(alloc, SHOPS, 1, ALL_SHOPS.as_bytes())?.as_str(),
+        "1|#0| 2|#0.0|#0|0 3|#0.0|l 3|#0.0|m 2|#0.1|#0|1 4|#0|c 1|#1|s "
+    );
     Ok(())
 }

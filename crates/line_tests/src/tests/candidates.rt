@@ -108,48 +108,42 @@ fn of_text(alloc: Global, text: &str) -> Result<String, AllocError> {
     }
 }
 
-/// A mapping text, its candidates, and how many of them are kept.
-const LISTED: [(&str, &str); 6] = [
-    (
-        "mapping 1; source { set emp { name, dept; ref (dept) -> dept (dname); } set dept { dname; } } \
-target { set unit { uname; key (uname); set staff { sname; } } } \
-line emp.name -> staff.sname; line dept.dname -> unit.uname;",
-        "[0 0: 1=1][0 1: 1=0 2=1][1 0: 1=0][1 1: 2=0] 2",
-    ),
-    (
-        "mapping 1; source { set trip { no, start, goal; ref (start) -> city (code); ref (goal) -> city (code); } \
-set city { code, label; } } target { set visit { a, b; } } \
-line city.label -> visit.a; line city.label -> visit.b;",
-        "[0 0: 0=3 1=3][0 0: 0=3 1=4][0 0: 0=4 1=3][0 0: 0=4 1=4][1 0: 0=1 1=1] 3",
-    ),
-    (
-        "mapping 1; source { set emp { name, dept; ref (dept) -> dept (dname); } set dept { dname; } } \
-target { set person { name; } } line pair(emp.name, dept.dname) -> person.name;",
-        "[0 0: 0=2( 0 1 )] 1",
-    ),
-    // a variable comes before a conversion
-    (
-        "mapping 1; source { set emp { name; } } target { set person { name; } } \
-line trim(emp.name) -> person.name; line emp.name -> person.name;",
-        "[0 0: 0=0][0 0: 0=0( 0 )] 2",
-    ),
-    // a conversion of two columns of one set that stands twice takes both from one of them
-    (
-        "mapping 1; source { set trip { no, start, goal; ref (start) -> city (code); ref (goal) -> city (code); } \
-set city { code, label; } } target { set visit { a; } } line pair(city.code, city.label) -> visit.a;",
-        "[0 0: 0=2( 1 3 )][0 0: 0=2( 2 4 )][1 0: 0=2( 0 1 )] 1",
-    ),
-    (
-        "mapping 1; source { set emp { name; } } target { set person { name; } } line emp.nam -> person.name;",
-        "no lines",
-    ),
-];
+/// Mapping texts, with an empty line between each two, and after `=>` the candidates, and how many of them are kept.
+const LISTED: &str =
+    "mapping 1; source { set emp { name, dept; ref (dept) -> dept (dname); } set dept { dname; } }
+target { set unit { uname; key (uname); set staff { sname; } } }
+line emp.name -> staff.sname; line dept.dname -> unit.uname;
+=> [0 0: 1=1][0 1: 1=0 2=1][1 0: 1=0][1 1: 2=0] 2
+
+mapping 1; source { set trip { no, start, goal; ref (start) -> city (code); ref (goal) -> city (code); }
+set city { code, label; } } target { set visit { a, b; } }
+line city.label -> visit.a; line city.label -> visit.b;
+=> [0 0: 0=3 1=3][0 0: 0=3 1=4][0 0: 0=4 1=3][0 0: 0=4 1=4][1 0: 0=1 1=1] 3
+
+mapping 1; source { set emp { name, dept; ref (dept) -> dept (dname); } set dept { dname; } }
+target { set person { name; } } line pair(emp.name, dept.dname) -> person.name;
+=> [0 0: 0=2( 0 1 )] 1
+
+// a variable comes before a conversion
+mapping 1; source { set emp { name; } } target { set person { name; } }
+line trim(emp.name) -> person.name; line emp.name -> person.name;
+=> [0 0: 0=0][0 0: 0=0( 0 )] 2
+
+// a conversion of two columns of one set that stands twice takes both from one of them
+mapping 1; source { set trip { no, start, goal; ref (start) -> city (code); ref (goal) -> city (code); }
+set city { code, label; } } target { set visit { a; } } line pair(city.code, city.label) -> visit.a;
+=> [0 0: 0=2( 1 3 )][0 0: 0=2( 2 4 )][1 0: 0=2( 0 1 )] 1
+
+mapping 1; source { set emp { name; } } target { set person { name; } } line emp.nam -> person.name;
+=> no lines";
 
 #[test]
 fn lines_have_these_candidates(rt: HostRuntime) -> Result<(), Fail> {
     let alloc = rt.alloc();
-    for (text, want) in &LISTED {
-        assert_eq!(rt; of_text(alloc, *text)?.as_str(), *want);
+    for case in LISTED.split("\n\n") {
+        let (text, want) = case.split_once("\n=> ").unwrap_or(("", ""));
+        assert_eq!(rt; of_text(alloc, text)?.as_str(), want);
     }
+    assert_eq!(rt; LISTED.split("\n\n").count(), 6);
     Ok(())
 }

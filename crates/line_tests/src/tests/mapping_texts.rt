@@ -8,212 +8,124 @@ use dx_tokens::scan;
 use std::alloc::{AllocError, Global};
 use std::test::Fail;
 
-/// A text with its first fault.
+/// Texts, each with the place and the kind of its first fault after `=>`.
+const FAULTS: &str = "# tokens
+ => 0 Ended
+mappin => 0 Expected
+mapping 9; => 8 Expected
+mapping 1; $ => 11 Character
+mapping 1; source { => 19 Ended
+mapping 1;source{set emp{name}} => 29 Expected
+mapping 1;source{set emp{na => 27 Ended
+mapping 1; target => 11 Expected
+mapping 11; => 8 Expected
+mapping 1; source { set 1a => 24 Expected
+mapping 1; source { set a { ; } } => 28 Expected
+mapping 1; source { } target { } } => 33 Expected
+mapping 1; $ mapping => 11 Character
+mapping 1; mapping $ => 11 Expected
+# strings, where one can stand
+mapping 1; source { } target { } line \" => 39 Ended
+mapping 1; source { } target { } line \"a\\ => 41 Ended
+mapping 1; source { } target { } line \"a\\n\" => 41 Character
+mapping 1; source { } target { } line \"a\x1F\" => 40 Character
+# strings, where none can stand
+mapping 1; source { \"a => 20 Expected
+# arrows and comments
+mapping 1; source { } target { } line a.x - => 43 Ended
+mapping 1; source { } target { } line a.x -  => 42 Character
+mapping 1; source { } target { } line a.x / => 43 Ended
+mapping 1; source { } target { } line a.x /* => 42 Character
+mapping 1; source { - => 20 Expected
+mapping 1; source { -  => 20 Character
+mapping 1; source { / => 21 Ended";
+
+/// Bytes with their first fault.
 #[derive(Clone, Copy)]
 struct Faulty {
-    text: &'static [u8],
-    place: u64,
-    kind: TextKind,
+    bytes: &'static [u8],
+    fault: &'static str,
 }
 
-const FAULTS: [Faulty; 36] = [
-    // tokens
+const BYTES: [Faulty; 10] = [
     Faulty {
-        text: b"",
-        place: 0,
-        kind: TextKind::Ended,
+        bytes: b"mapping 1; source { } target { } line \"\xC3",
+        fault: "40 Ended",
     },
     Faulty {
-        text: b"mappin",
-        place: 0,
-        kind: TextKind::Expected,
+        bytes: b"mapping 1; source { } target { } line \"\xE2\x82",
+        fault: "41 Ended",
     },
     Faulty {
-        text: b"mapping 9;",
-        place: 8,
-        kind: TextKind::Expected,
+        bytes: b"mapping 1; source { } target { } line \"\xF0\x9F\x98",
+        fault: "42 Ended",
     },
     Faulty {
-        text: b"mapping 1; $",
-        place: 11,
-        kind: TextKind::Character,
+        bytes: b"mapping 1; source { } target { } line \"\xC3a\"",
+        fault: "39 Character",
     },
     Faulty {
-        text: b"mapping 1; source {",
-        place: 19,
-        kind: TextKind::Ended,
+        bytes: b"mapping 1; source { } target { } line \"\xC0\x80\"",
+        fault: "39 Character",
     },
     Faulty {
-        text: b"mapping 1;source{set emp{name}}",
-        place: 29,
-        kind: TextKind::Expected,
+        bytes: b"mapping 1; source { } target { } line \"\xED\xA0\x80\"",
+        fault: "39 Character",
     },
     Faulty {
-        text: b"mapping 1;source{set emp{na",
-        place: 27,
-        kind: TextKind::Ended,
+        bytes: b"mapping 1; source { } target { } line \"\xF4\x90\x80\x80\"",
+        fault: "39 Character",
     },
     Faulty {
-        text: b"mapping 1; target",
-        place: 11,
-        kind: TextKind::Expected,
+        bytes: b"mapping 1; source { } target { } line \"\xFF\"",
+        fault: "39 Character",
     },
     Faulty {
-        text: b"mapping 11;",
-        place: 8,
-        kind: TextKind::Expected,
+        bytes: b"mapping 1; source { \"\xFF\"",
+        fault: "20 Expected",
     },
     Faulty {
-        text: b"mapping 1; source { set 1a",
-        place: 24,
-        kind: TextKind::Expected,
-    },
-    Faulty {
-        text: b"mapping 1; source { set a { ; } }",
-        place: 28,
-        kind: TextKind::Expected,
-    },
-    Faulty {
-        text: b"mapping 1; source { } target { } }",
-        place: 33,
-        kind: TextKind::Expected,
-    },
-    Faulty {
-        text: b"mapping 1; $ mapping",
-        place: 11,
-        kind: TextKind::Character,
-    },
-    Faulty {
-        text: b"mapping 1; mapping $",
-        place: 11,
-        kind: TextKind::Expected,
-    },
-    // strings, where one can stand
-    Faulty {
-        text: b"mapping 1; source { } target { } line \"",
-        place: 39,
-        kind: TextKind::Ended,
-    },
-    Faulty {
-        text: b"mapping 1; source { } target { } line \"a\\",
-        place: 41,
-        kind: TextKind::Ended,
-    },
-    Faulty {
-        text: b"mapping 1; source { } target { } line \"a\\n\"",
-        place: 41,
-        kind: TextKind::Character,
-    },
-    Faulty {
-        text: b"mapping 1; source { } target { } line \"a\x1F\"",
-        place: 40,
-        kind: TextKind::Character,
-    },
-    Faulty {
-        text: b"mapping 1; source { } target { } line \"\xC3",
-        place: 40,
-        kind: TextKind::Ended,
-    },
-    Faulty {
-        text: b"mapping 1; source { } target { } line \"\xE2\x82",
-        place: 41,
-        kind: TextKind::Ended,
-    },
-    Faulty {
-        text: b"mapping 1; source { } target { } line \"\xF0\x9F\x98",
-        place: 42,
-        kind: TextKind::Ended,
-    },
-    Faulty {
-        text: b"mapping 1; source { } target { } line \"\xC3a\"",
-        place: 39,
-        kind: TextKind::Character,
-    },
-    Faulty {
-        text: b"mapping 1; source { } target { } line \"\xC0\x80\"",
-        place: 39,
-        kind: TextKind::Character,
-    },
-    Faulty {
-        text: b"mapping 1; source { } target { } line \"\xED\xA0\x80\"",
-        place: 39,
-        kind: TextKind::Character,
-    },
-    Faulty {
-        text: b"mapping 1; source { } target { } line \"\xF4\x90\x80\x80\"",
-        place: 39,
-        kind: TextKind::Character,
-    },
-    Faulty {
-        text: b"mapping 1; source { } target { } line \"\xFF\"",
-        place: 39,
-        kind: TextKind::Character,
-    },
-    // strings, where none can stand
-    Faulty {
-        text: b"mapping 1; source { \"a",
-        place: 20,
-        kind: TextKind::Expected,
-    },
-    Faulty {
-        text: b"mapping 1; source { \"\xFF\"",
-        place: 20,
-        kind: TextKind::Expected,
-    },
-    Faulty {
-        text: b"mapping 1; source { \"\xC3",
-        place: 20,
-        kind: TextKind::Expected,
-    },
-    // arrows and comments
-    Faulty {
-        text: b"mapping 1; source { } target { } line a.x -",
-        place: 43,
-        kind: TextKind::Ended,
-    },
-    Faulty {
-        text: b"mapping 1; source { } target { } line a.x - ",
-        place: 42,
-        kind: TextKind::Character,
-    },
-    Faulty {
-        text: b"mapping 1; source { } target { } line a.x /",
-        place: 43,
-        kind: TextKind::Ended,
-    },
-    Faulty {
-        text: b"mapping 1; source { } target { } line a.x /*",
-        place: 42,
-        kind: TextKind::Character,
-    },
-    Faulty {
-        text: b"mapping 1; source { -",
-        place: 20,
-        kind: TextKind::Expected,
-    },
-    Faulty {
-        text: b"mapping 1; source { - ",
-        place: 20,
-        kind: TextKind::Character,
-    },
-    Faulty {
-        text: b"mapping 1; source { /",
-        place: 21,
-        kind: TextKind::Ended,
+        bytes: b"mapping 1; source { \"\xC3",
+        fault: "20 Expected",
     },
 ];
+
+/// The place and the kind of the first fault of a text.
+fn told(alloc: Global, bytes: &[u8]) -> Result<String, AllocError> {
+    match read_mapping(alloc, bytes) {
+        Ok(_) => String::from_str(alloc, "none"),
+        Err(TextFault::At { place, kind }) => format!(in alloc; "{place} {}", word(kind)),
+        Err(TextFault::TooDeep { place }) => format!(in alloc; "{place} TooDeep"),
+        Err(TextFault::Memory) => Err(AllocError),
+    }
+}
+
+/// The name of a kind of faults.
+fn word(kind: TextKind) -> &'static str {
+    match kind {
+        TextKind::Character => "Character",
+        TextKind::Expected => "Expected",
+        TextKind::Ended => "Ended",
+        _ => "another",
+    }
+}
 
 #[test]
 fn a_faulty_text_has_this_first_fault(rt: HostRuntime) -> Result<(), Fail> {
     let alloc = rt.alloc();
-    for (number, faulty) in FAULTS.iter().enumerate() {
-        let told = read_mapping(alloc, faulty.text).err();
-        let wanted = Some(TextFault::At {
-            place: faulty.place,
-            kind: faulty.kind,
-        });
-        let first = if told == wanted { FAULTS.len() } else { number };
-        assert_eq!(rt; first, FAULTS.len());
+    for line in FAULTS.lines().filter(|line| !line.starts_with("# ")) {
+        let (text, fault) = line.split_once(" => ").unwrap_or(("", ""));
+        assert_eq!(rt; told(alloc, text.as_bytes())?.as_str(), fault);
+    }
+    assert_eq!(rt; FAULTS.lines().count(), 30);
+    Ok(())
+}
+
+#[test]
+fn faulty_bytes_have_this_first_fault(rt: HostRuntime) -> Result<(), Fail> {
+    let alloc = rt.alloc();
+    for faulty in &BYTES {
+        assert_eq!(rt; told(alloc, faulty.bytes)?.as_str(), faulty.fault);
     }
     Ok(())
 }

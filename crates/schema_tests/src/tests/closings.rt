@@ -1,4 +1,5 @@
 // Closings of conclusions along the links of the target.
+use crate::tests::cases::parts;
 use crate::tests::schemas::trees;
 use dx_closing::{CloseFault, can_be_closed, close};
 use dx_model::{Atom, Cell, Rule};
@@ -88,59 +89,85 @@ fn closed(alloc: Global, sets: &str, line: &str) -> Result<String, AllocError> {
     }
 }
 
-/// Sets, a conclusion, and its closing.
-const CLOSED: [(&str, &str, &str); 11] = [
-    ("unit uname\n staff sname", "t1 y0 x0", "t1 y0 x0, t0 y0 y1"),
-    // what is served stays
-    (
-        "unit uname\n staff sname",
-        "t1 y0 x0, t0 y0 x1",
-        "t1 y0 x0, t0 y0 x1",
-    ),
-    (
-        "unit uname\n staff sname",
-        "t0 y0 x0, t1 y1 x1",
-        "t0 y0 x0, t1 y1 x1, t0 y1 y2",
-    ),
-    // two links to one set
-    (
-        "trip no start goal; ref start -> city code; ref goal -> city code\ncity code label",
-        "t0 x0 y0 y1",
-        "t0 x0 y0 y1, t1 y0 y2, t1 y1 y3",
-    ),
-    (
-        "trip no start goal; ref start -> city code; ref goal -> city code\ncity code label",
-        "t0 x0 y0 y0",
-        "t0 x0 y0 y0, t1 y0 y1",
-    ),
-    (
-        "trip no start goal; ref start -> city code; ref goal -> city code\ncity code label",
-        "t0 x0 Rome Pisa",
-        "t0 x0 Rome Pisa, t1 Rome y0, t1 Pisa y1",
-    ),
-    // a link of two columns, in another order, and links of what was appended
-    (
-        "a x y; ref x y -> b v u\nb u v w; ref w -> c z\nc z",
-        "t0 x0 x1",
-        "t0 x0 x1, t1 x1 x0 y0, t2 y0",
-    ),
-    // a cell too few, a table too many, a number that is not the next
-    ("unit uname\n staff sname", "t1 y0", "does not fit"),
-    ("unit uname\n staff sname", "t2 y0 x0", "does not fit"),
-    ("unit uname\n staff sname", "t1 y1 x0", "does not fit"),
-    (
-        "unit uname\n staff sname",
-        "t1 y0 x0, t1 y2 x0",
-        "does not fit",
-    ),
-];
+/// Sets, a conclusion after `|`, and its closing.
+const CLOSED: &str = "unit uname
+ staff sname
+| t1 y0 x0
+=> t1 y0 x0, t0 y0 y1
+
+# what is served stays
+unit uname
+ staff sname
+| t1 y0 x0, t0 y0 x1
+=> t1 y0 x0, t0 y0 x1
+
+unit uname
+ staff sname
+| t0 y0 x0, t1 y1 x1
+=> t0 y0 x0, t1 y1 x1, t0 y1 y2
+
+# two links to one set
+trip no start goal; ref start -> city code; ref goal -> city code
+city code label
+| t0 x0 y0 y1
+=> t0 x0 y0 y1, t1 y0 y2, t1 y1 y3
+
+trip no start goal; ref start -> city code; ref goal -> city code
+city code label
+| t0 x0 y0 y0
+=> t0 x0 y0 y0, t1 y0 y1
+
+trip no start goal; ref start -> city code; ref goal -> city code
+city code label
+| t0 x0 Rome Pisa
+=> t0 x0 Rome Pisa, t1 Rome y0, t1 Pisa y1
+
+# a link of two columns, in another order, and links of what was appended
+a x y; ref x y -> b v u
+b u v w; ref w -> c z
+c z
+| t0 x0 x1
+=> t0 x0 x1, t1 x1 x0 y0, t2 y0
+
+# a cell too few, a table too many, a number that is not the next
+unit uname
+ staff sname
+| t1 y0
+=> does not fit
+
+unit uname
+ staff sname
+| t2 y0 x0
+=> does not fit
+
+unit uname
+ staff sname
+| t1 y1 x0
+=> does not fit
+
+unit uname
+ staff sname
+| t1 y0 x0, t1 y2 x0
+=> does not fit";
+
+/// Whether a conclusion has the closing that it is to have.
+fn closes_so(alloc: Global, case: &str) -> Result<bool, AllocError> {
+    let Some((given, want)) = parts(case) else {
+        return Ok(false);
+    };
+    match given.split_once("\n| ") {
+        Some((sets, line)) => Ok(closed(alloc, sets, line)?.as_str() == want),
+        None => Ok(false),
+    }
+}
 
 #[test]
 fn conclusions_are_closed(rt: HostRuntime) -> Result<(), Fail> {
     let alloc = rt.alloc();
-    for (sets, line, want) in &CLOSED {
-        assert_eq!(rt; closed(alloc, *sets, *line)?.as_str(), *want);
+    for case in CLOSED.split("\n\n") {
+        assert!(rt; closes_so(alloc, case)?, "{case}");
     }
+    assert_eq!(rt; CLOSED.split("\n\n").count(), 11);
     Ok(())
 }
 

@@ -3,6 +3,7 @@ ghost use Rattle.std.specs.Prelude.{◌<◌, length, IfOk};
 ghost use Rattle.dx_schema.specs.Tables.{tables_of};
 ghost use Rattle.dx_schema.specs.Bounds.{HasFewRules};
 
+use crate::tests::cases::parts;
 use dx_ports::{Count, Items, Text};
 use dx_schema::{KeyDecl, RefDecl, Schema, SchemaFault, SchemaKind, SetTree, Trees};
 use std::alloc::{AllocError, Global};
@@ -395,112 +396,89 @@ fn there_may_be_so_many_sets_and_levels(rt: HostRuntime) -> Result<(), Fail> {
     Ok(())
 }
 
-/// Sets, of which one has so many columns `c0`, `c1` and on after the first text.
-#[derive(Clone, Copy)]
-struct Wide {
-    head: &'static str,
-    columns: u32,
-    rest: &'static str,
-    outcome: &'static str,
+/// Sets, and what comes of them: ` *64*` stands for the columns `c0` to `c63`.
+const WIDE: &str = "a *64*
+=> built
+
+a *65*
+=> Columns 64
+
+# with `#id`
+a *63*
+ b x
+=> built
+
+a *64*
+ b x
+=> Columns 64
+
+# with `#up`
+a x
+ b *63*
+=> built
+
+a x
+ b *64*
+=> Columns 64
+
+# with both
+a x
+ b *62*
+  c x
+=> built
+
+a x
+ b *63*
+  c x
+=> Columns 64
+
+# after the set's name, before the names within, set by set, and before keys
+a x
+a *65*
+=> DoubleName a
+
+a c0 *64*
+=> Columns 64
+
+a x x
+b *65*
+=> DoubleName x
+
+a *65*
+b
+=> Columns 64
+
+a x; key z
+b *65*
+=> Columns 64";
+
+/// Sets with the columns that `*` and a number stand for.
+fn widened(alloc: Global, sets: &str) -> Result<String, AllocError> {
+    let mut parts = sets.split(" *");
+    let head = parts.next().unwrap_or("");
+    let (number, rest) = parts
+        .next()
+        .and_then(|tail| tail.split_once("*"))
+        .unwrap_or(("", ""));
+    let mut lines = wide_line(alloc, head, number.parse::<u32>().unwrap_or(0))?;
+    lines.push_str(rest)?;
+    Ok(lines)
 }
 
-const WIDE: [Wide; 13] = [
-    Wide {
-        head: "a",
-        columns: 64,
-        rest: "",
-        outcome: "built",
-    },
-    Wide {
-        head: "a",
-        columns: 65,
-        rest: "",
-        outcome: "Columns 64",
-    },
-    // with `#id`
-    Wide {
-        head: "a",
-        columns: 63,
-        rest: "\n b x",
-        outcome: "built",
-    },
-    Wide {
-        head: "a",
-        columns: 64,
-        rest: "\n b x",
-        outcome: "Columns 64",
-    },
-    // with `#up`
-    Wide {
-        head: "a x\n b",
-        columns: 63,
-        rest: "",
-        outcome: "built",
-    },
-    Wide {
-        head: "a x\n b",
-        columns: 64,
-        rest: "",
-        outcome: "Columns 64",
-    },
-    // with both
-    Wide {
-        head: "a x\n b",
-        columns: 62,
-        rest: "\n  c x",
-        outcome: "built",
-    },
-    Wide {
-        head: "a x\n b",
-        columns: 63,
-        rest: "\n  c x",
-        outcome: "Columns 64",
-    },
-    // after the set's name, before the names within, set by set, and before keys
-    Wide {
-        head: "a x\na",
-        columns: 65,
-        rest: "",
-        outcome: "DoubleName a",
-    },
-    Wide {
-        head: "a c0",
-        columns: 64,
-        rest: "",
-        outcome: "Columns 64",
-    },
-    Wide {
-        head: "a x x\nb",
-        columns: 65,
-        rest: "",
-        outcome: "DoubleName x",
-    },
-    Wide {
-        head: "a",
-        columns: 65,
-        rest: "\nb",
-        outcome: "Columns 64",
-    },
-    Wide {
-        head: "a x; key z\nb",
-        columns: 65,
-        rest: "",
-        outcome: "Columns 64",
-    },
-];
-
-/// Whether sets of which one is wide come out as they should.
-fn wide_comes_out(alloc: Global, case: &Wide) -> Result<bool, AllocError> {
-    let mut sets = wide_line(alloc, case.head, case.columns)?;
-    sets.push_str(case.rest)?;
-    comes_out(alloc, sets.as_str(), case.outcome)
+/// Whether sets of which one is wide come out as they are to.
+fn wide_comes_out(alloc: Global, case: &str) -> Result<bool, AllocError> {
+    match parts(case) {
+        Some((sets, outcome)) => comes_out(alloc, widened(alloc, sets)?.as_str(), outcome),
+        None => Ok(false),
+    }
 }
 
 #[test]
 fn a_table_may_have_so_many_columns(rt: HostRuntime) -> Result<(), Fail> {
     let alloc = rt.alloc();
-    for (number, case) in WIDE.iter().enumerate() {
-        assert!(rt; wide_comes_out(alloc, case)?, "case {number}");
+    for case in WIDE.split("\n\n") {
+        assert!(rt; wide_comes_out(alloc, case)?, "{case}");
     }
+    assert_eq!(rt; WIDE.split("\n\n").count(), 13);
     Ok(())
 }

@@ -1,4 +1,5 @@
 // Unfoldings: small ones as they are, and how many occurrences there may be.
+use crate::tests::cases::parts;
 use crate::tests::schemas::trees;
 use dx_logical::{Relation, WideFault, unfold};
 use dx_schema::Schema;
@@ -18,57 +19,49 @@ fn told(alloc: Global, relation: &Relation) -> Result<String, AllocError> {
     Ok(line)
 }
 
-/// Sets as lines, of which one is unfolded, and its occurrences.
-#[derive(Clone, Copy)]
-struct Unfolded {
-    sets: &'static str,
-    table: u32,
-    line: &'static str,
-}
+/// Sets as lines, the number of that which is unfolded after `|`, and its occurrences.
+const UNFOLDED: &str = "emp name dept; ref dept -> dept dname
+dept dname
+| 0
+=> [0: 0 1][1: 1]
 
-const UNFOLDED: [Unfolded; 8] = [
-    Unfolded {
-        sets: "emp name dept; ref dept -> dept dname\ndept dname",
-        table: 0,
-        line: "[0: 0 1][1: 1]",
-    },
-    Unfolded {
-        sets: "emp name dept; ref dept -> dept dname\ndept dname",
-        table: 1,
-        line: "[1: 0]",
-    },
-    Unfolded {
-        sets: "unit uname\n staff sname",
-        table: 1,
-        line: "[1: 0 1][0: 0 2]",
-    },
-    Unfolded {
-        sets: "unit uname place\n staff sid sname phone",
-        table: 1,
-        line: "[1: 0 1 2 3][0: 0 4 5]",
-    },
-    Unfolded {
-        sets: "member mid club; ref club -> club cid\nclub cid cname",
-        table: 0,
-        line: "[0: 0 1][1: 1 2]",
-    },
-    Unfolded {
-        sets: "trip no start goal; ref start -> city code; ref goal -> city code\ncity code label",
-        table: 0,
-        line: "[0: 0 1 2][1: 1 3][1: 2 4]",
-    },
-    Unfolded {
-        sets: "dept dname city\nemp eid name dname; ref dname -> dept dname\nphone eid num; ref eid -> emp eid",
-        table: 2,
-        line: "[2: 0 1][1: 0 2 3][0: 3 4]",
-    },
-    // a ref of two columns, in another order, and a ref after `#up`
-    Unfolded {
-        sets: "a x\n b y z; ref z y -> c u w\nc u v w",
-        table: 1,
-        line: "[1: 0 1 2][0: 0 3][2: 2 4 1]",
-    },
-];
+emp name dept; ref dept -> dept dname
+dept dname
+| 1
+=> [1: 0]
+
+unit uname
+ staff sname
+| 1
+=> [1: 0 1][0: 0 2]
+
+unit uname place
+ staff sid sname phone
+| 1
+=> [1: 0 1 2 3][0: 0 4 5]
+
+member mid club; ref club -> club cid
+club cid cname
+| 0
+=> [0: 0 1][1: 1 2]
+
+trip no start goal; ref start -> city code; ref goal -> city code
+city code label
+| 0
+=> [0: 0 1 2][1: 1 3][1: 2 4]
+
+dept dname city
+emp eid name dname; ref dname -> dept dname
+phone eid num; ref eid -> emp eid
+| 2
+=> [2: 0 1][1: 0 2 3][0: 3 4]
+
+# a ref of two columns, in another order, and a ref after `#up`
+a x
+ b y z; ref z y -> c u w
+c u v w
+| 1
+=> [1: 0 1 2][0: 0 3][2: 2 4 1]";
 
 /// Whether a set of these is unfolded so, or in words, why it isn't.
 fn unfolds_so(alloc: Global, sets: &str, table: u32, line: &str) -> Result<bool, AllocError> {
@@ -86,15 +79,27 @@ fn unfolds_so(alloc: Global, sets: &str, table: u32, line: &str) -> Result<bool,
     }
 }
 
+/// Whether a set is unfolded as it is to be.
+fn is_unfolded_so(alloc: Global, case: &str) -> Result<bool, AllocError> {
+    let Some((given, line)) = parts(case) else {
+        return Ok(false);
+    };
+    let Some((sets, number)) = given.split_once("\n| ") else {
+        return Ok(false);
+    };
+    match number.parse::<u32>() {
+        Ok(table) => unfolds_so(alloc, sets, table, line),
+        Err(_) => Ok(false),
+    }
+}
+
 #[test]
 fn sets_are_unfolded(rt: HostRuntime) -> Result<(), Fail> {
     let alloc = rt.alloc();
-    for (number, want) in UNFOLDED.iter().enumerate() {
-        assert!(rt;
-            unfolds_so(alloc, want.sets, want.table, want.line)?,
-            "case {number}"
-        );
+    for case in UNFOLDED.split("\n\n") {
+        assert!(rt; is_unfolded_so(alloc, case)?, "{case}");
     }
+    assert_eq!(rt; UNFOLDED.split("\n\n").count(), 8);
     Ok(())
 }
 
