@@ -1,7 +1,10 @@
 -- The faults of the layers below, as limits.
-use Rattle.std.specs.Prelude.{◌≡◌, ◌⊎◌, Bool, true}
+use Rattle.std.specs.Prelude.{◌≡◌, ◌⊎◌, Bool, true, List, Some}
 use Rattle.dx_ports.specs.declared.file.Limit.{Limit}
 use Rattle.dx_ports.specs.declared.file.Count.TheVariants.{Occurrences, Ways, Candidates}
+use Rattle.dx_model.specs.Tables.{Table}
+use Rattle.dx_lines.specs.declared.line.Line.{Line}
+use Rattle.dx_lines.specs.Limits.{passed}
 use Rattle.dx_logical.specs.declared.fault.WideFault.{WideFault}
 use Rattle.dx_logical.specs.declared.fault.WideFault.TheVariants as wide
 use Rattle.dx_ways.specs.declared.fault.WaysFault.{WaysFault}
@@ -30,6 +33,10 @@ wide_fault wide.Memory = Memory
 abbrev pub ways_fault : WaysFault → CandFault
 ways_fault many.TooMany = TooMany ways_limit
 ways_fault many.Memory = Memory
+
+-- a fault is want of memory, or the first limit that these lines pass between two schemas
+abbrev pub IsFaultOf : List Line → List Table → List Table → CandFault → Type 0
+IsFaultOf lines source target e = (e ≡ Memory) ⊎ ((l : Limit) × (passed lines source target ≡ Some l) × (e ≡ TooMany l))
 
 -- a fault is want of memory, or this limit, which is passed
 abbrev pub IsFault : Limit → Bool → CandFault → Type 0

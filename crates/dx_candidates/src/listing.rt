@@ -1,14 +1,14 @@
 // Candidates, and the rules of those that are kept.
-ghost use Rattle.std.specs.Prelude.{◌≡◌, ◌≤◌, ◌<◌, ◌++◌, ◌⊎◌, None, Some, IfOk, IfErr, OnOk, flat_map, length};
+ghost use Rattle.std.specs.Prelude.{◌≡◌, ◌≤◌, ◌<◌, ◌++◌, None, IfOk, IfErr, OnOk, flat_map, length};
 ghost use Rattle.dx_ports.specs.Members.{Each};
-ghost use Rattle.dx_ports.specs.declared.file.Limit.{Limit as LimitRow};
 ghost use Rattle.dx_schema.specs.Tables.{model_tables};
 ghost use Rattle.dx_model.specs.Tables.{AreWithin};
 ghost use Rattle.dx_lines.specs.Candidates.{candidates_of};
 ghost use Rattle.dx_lines.specs.Limits.{LineFits, passed};
 ghost use Rattle.dx_lines.specs.Reading.{IsRead, IsReached};
 ghost use Rattle.dx_lines.specs.Rules.{kept_rules};
-ghost use Rattle.dx_candidates.specs.declared.fault.CandFault.TheVariants.{Memory, TooMany};
+ghost use Rattle.dx_candidates.specs.declared.fault.CandFault.TheVariants.{Memory};
+ghost use Rattle.dx_candidates.specs.Faults.{IsFaultOf};
 ghost use Rattle.dx_candidates.specs.Listing.{IsPlan, IsReady, rules_between, rules_of_pair};
 ghost use Rattle.dx_candidates.specs.Pairs.{IsPair, candidates_in, ways_between};
 
@@ -48,7 +48,7 @@ fn prepare(
     requires fit { Each lines.now (LineFits (model_tables source.now) (model_tables target.now)) }
     ensures plan { IfOk result (IsPlan lines.now (model_tables source.now) (model_tables target.now)) }
     ensures passed_none { OnOk result (passed lines.now (model_tables source.now) (model_tables target.now) ≡ None) }
-    ensures fault { IfErr result (λ e. (e ≡ Memory) ⊎ ((l : LimitRow) × (passed lines.now (model_tables source.now) (model_tables target.now) ≡ Some l) × (e ≡ TooMany l))) }
+    ensures fault { IfErr result (IsFaultOf lines.now (model_tables source.now) (model_tables target.now)) }
 {
     let sources = unfold_all(alloc, source)?;
     let targets = unfold_all(alloc, target)?;
@@ -95,7 +95,7 @@ pub fn candidates(
     requires fit { Each lines.now (LineFits (model_tables source.now) (model_tables target.now)) }
     ensures candidates { IfOk result (λ v. v.items ≡ candidates_of lines.now (model_tables source.now) (model_tables target.now)) }
     ensures passed_none { OnOk result (passed lines.now (model_tables source.now) (model_tables target.now) ≡ None) }
-    ensures fault { IfErr result (λ e. (e ≡ Memory) ⊎ ((l : LimitRow) × (passed lines.now (model_tables source.now) (model_tables target.now) ≡ Some l) × (e ≡ TooMany l))) }
+    ensures fault { IfErr result (IsFaultOf lines.now (model_tables source.now) (model_tables target.now)) }
 {
     let lines = distinct_lines(alloc, lines)?;
     let plan = prepare(alloc, &lines, source, target)?;
@@ -181,7 +181,7 @@ pub fn kept(
     requires fit { Each lines.now (LineFits (model_tables source.now) (model_tables target.now)) }
     ensures rules { IfOk result (λ v. v.items ≡ kept_rules lines.now (model_tables source.now) (model_tables target.now)) }
     ensures passed_none { OnOk result (passed lines.now (model_tables source.now) (model_tables target.now) ≡ None) }
-    ensures fault { IfErr result (λ e. (e ≡ Memory) ⊎ ((l : LimitRow) × (passed lines.now (model_tables source.now) (model_tables target.now) ≡ Some l) × (e ≡ TooMany l))) }
+    ensures fault { IfErr result (IsFaultOf lines.now (model_tables source.now) (model_tables target.now)) }
 {
     let lines = distinct_lines(alloc, lines)?;
     let plan = prepare(alloc, &lines, source, target)?;

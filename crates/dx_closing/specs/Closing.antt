@@ -60,10 +60,14 @@ abbrev pub through_atom : List Table → Growing → Option Atom → Growing
 through_atom schema C None = C
 through_atom schema C (Some a) = through_links schema a.cells C (table_of schema a.table).links
 
+-- going through the links of the atom at a place, if there is one
+abbrev pub through_place : List Table → Growing → ℕ → Growing
+through_place schema C n = through_atom schema C (slice_get C.atoms n)
+
 -- going through the first n atoms, those included that are appended on the way
 abbrev pub gone : List Table → Growing → ℕ → Growing
 gone schema C zero = C
-gone schema C (suc n) = through_atom schema (gone schema C n) (slice_get (gone schema C n).atoms n)
+gone schema C (suc n) = through_place schema (gone schema C n) n
 
 -- ---- existential variables
 

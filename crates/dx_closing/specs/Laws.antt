@@ -1,5 +1,5 @@
 -- What holds of closings.
-use Rattle.std.specs.Prelude.{◌≡◌, ◌≤◌, ◌*◌, ◌++◌, List, length}
+use Rattle.std.specs.Prelude.{◌≡◌, ◌<◌, ◌≤◌, ◌*◌, ◌++◌, List, length}
 use Rattle.dx_ports.specs.Members.{Each}
 use Rattle.dx_model.specs.declared.rules.Atom.{Atom}
 use Rattle.dx_model.specs.declared.rules.Rule.{Rule}
@@ -14,6 +14,10 @@ pub record IsRoomy (schema : List Table) (C : Growing) : Type 0 where
   pub fit : Each C.atoms (AtomFits schema)
   pub few : length C.atoms ≤ 64
   pub next : C.next ≤ 64 * length C.atoms
+
+-- more atoms than a closing may have
+abbrev pub IsWide : Growing → Type 0
+IsWide C = 64 < length C.atoms
 
 -- ---- laws
 

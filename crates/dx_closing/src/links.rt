@@ -1,5 +1,5 @@
 // The links of an atom, and the atoms that serve them.
-ghost use Rattle.std.specs.Prelude.{◌≡◌, ◌≤◌, ◌<◌, ◌*◌, IfErr, OnOk, length, slice_get};
+ghost use Rattle.std.specs.Prelude.{◌≡◌, ◌≤◌, ◌<◌, ◌*◌, IfErr, OnOk, length};
 ghost use Rattle.std.specs.List.{list_any};
 ghost use Rattle.dx_ports.specs.Members.{Each};
 ghost use Rattle.dx_model.specs.Solutions.{AtomFits};
@@ -7,8 +7,8 @@ ghost use Rattle.dx_model.specs.Tables.{AreWithin, table_of};
 ghost use Rattle.dx_schema.specs.Tables.{AreTables, model_tables, tables_of};
 ghost use Rattle.dx_schema.specs.Links.{LinkFits};
 ghost use Rattle.dx_closing.specs.declared.fault.CloseFault.TheVariants.{TooWide};
-ghost use Rattle.dx_closing.specs.Closing.{serves, supplied, through_atom, through_link, through_links};
-ghost use Rattle.dx_closing.specs.Laws.{IsRoomy};
+ghost use Rattle.dx_closing.specs.Closing.{serves, supplied, through_link, through_links, through_place};
+ghost use Rattle.dx_closing.specs.Laws.{IsRoomy, IsWide};
 
 use crate::cells::{chosen_cells, copy_row, filled_cells, has_chosen};
 use crate::fault::CloseFault;
@@ -83,7 +83,7 @@ fn follow_link(
     requires roomy { IsRoomy (model_tables target.now) growing.old }
     ensures exact { OnOk result (growing.new ≡ through_link (model_tables target.now) row.now growing.old link.now) }
     ensures roomy { OnOk result (IsRoomy (model_tables target.now) growing.new) }
-    ensures wide { IfErr result (λ e. e ≡ TooWide → 64 < length (through_link (model_tables target.now) row.now growing.old link.now).atoms) }
+    ensures wide { IfErr result (λ e. e ≡ TooWide → IsWide (through_link (model_tables target.now) row.now growing.old link.now)) }
 {
     let cells = chosen_cells(alloc, link.from.items(), row)?;
     if is_served(target, growing.atoms.items(), link, cells.as_slice()) {
@@ -105,7 +105,7 @@ fn follow_links(
     requires roomy { IsRoomy (model_tables target.now) growing.old }
     ensures exact { OnOk result (growing.new ≡ through_links (model_tables target.now) row.now growing.old links.now) }
     ensures roomy { OnOk result (IsRoomy (model_tables target.now) growing.new) }
-    ensures wide { IfErr result (λ e. e ≡ TooWide → 64 < length (through_links (model_tables target.now) row.now growing.old links.now).atoms) }
+    ensures wide { IfErr result (λ e. e ≡ TooWide → IsWide (through_links (model_tables target.now) row.now growing.old links.now)) }
 {
     for link in links {
         follow_link(alloc, target, row, growing, link)?;
@@ -123,9 +123,9 @@ pub fn follow_atom(
     requires tables { AreTables (tables_of target.now) }
     requires place { place < length growing.old.atoms }
     requires roomy { IsRoomy (model_tables target.now) growing.old }
-    ensures exact { OnOk result (growing.new ≡ through_atom (model_tables target.now) growing.old (slice_get growing.old.atoms place)) }
+    ensures exact { OnOk result (growing.new ≡ through_place (model_tables target.now) growing.old place) }
     ensures roomy { OnOk result (IsRoomy (model_tables target.now) growing.new) }
-    ensures wide { IfErr result (λ e. e ≡ TooWide → 64 < length (through_atom (model_tables target.now) growing.old (slice_get growing.old.atoms place)).atoms) }
+    ensures wide { IfErr result (λ e. e ≡ TooWide → IsWide (through_place (model_tables target.now) growing.old place)) }
 {
     let atom = &growing.atoms.items()[place];
     let row = copy_row(alloc, atom.cells.items())?;

@@ -121,6 +121,10 @@ pub record IsSubtree (r : Relation) (p : ℕ) (s : List Occurrence) : Type 0 whe
   pub items : (i : ℕ) → i < length s → slice_index_or s i (record { table = 0; variables = []; parent = None; link = 0 }) ≡ occurrence_at r (p + i)
   pub exact : (q : ℕ) → q < length r.occurrences → ComesFrom r p q ↔ ((p ≤ q) × (q < p + length s))
 
+-- more occurrences than an unfolding may have
+abbrev pub IsWide : Relation → Type 0
+IsWide r = 64 < length r.occurrences
+
 -- at most 64 occurrences, and at most 64 variables for each
 pub record IsSmall (r : Relation) : Type 0 where
   pub occurrences : length r.occurrences ≤ 64

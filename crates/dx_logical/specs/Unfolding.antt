@@ -55,6 +55,10 @@ continued schema p vs r none = r
 continued schema p vs r (along k l below beside) =
     continued schema p vs (continued schema (length r.occurrences) (row_along schema l vs r) (joined_along schema p vs r k l) below) beside
 
+-- the relation, and what follows from its occurrence number p of table t, which has the variables vs, at most n links deep
+abbrev pub followed : List Table → ℕ → ℕ → ℕ → List ℕ → Relation → Relation
+followed schema n t p vs r = continued schema p vs r (all_links schema n t)
+
 -- no occurrence
 abbrev pub nothing : Relation
 nothing = record { occurrences = []; variables = 0 }

@@ -3,8 +3,8 @@ ghost use Rattle.std.specs.Prelude.{◌≡◌, ◌≤◌, ◌<◌, ◌*◌, IfOk
 ghost use Rattle.dx_schema.specs.Tables.{AreTables, model_tables, table_at, tables_of};
 ghost use Rattle.dx_logical.specs.declared.fault.WideFault.TheVariants.{TooWide};
 ghost use Rattle.dx_model.specs.Tables.{AreWithin};
-ghost use Rattle.dx_logical.specs.Unfolding.{all_links, continued, joined_along, row_along, unfolding_of};
-ghost use Rattle.dx_logical.specs.Laws.{IsSmall, IsUnfolding};
+ghost use Rattle.dx_logical.specs.Unfolding.{followed, joined_along, row_along, unfolding_of};
+ghost use Rattle.dx_logical.specs.Laws.{IsSmall, IsUnfolding, IsWide};
 
 use crate::fault::WideFault;
 use crate::relation::{Occurrence, Relation};
@@ -62,9 +62,9 @@ fn follow(
     requires table { table < length (tables_of schema.now) }
     requires own { length own.now ≡ length (table_at schema.now table).columns }
     requires small { IsSmall relation.old }
-    ensures all { OnOk result (relation.new ≡ continued (model_tables schema.now) place own.now relation.old (all_links (model_tables schema.now) depth table)) }
+    ensures all { OnOk result (relation.new ≡ followed (model_tables schema.now) depth table place own.now relation.old) }
     ensures small { OnOk result (IsSmall relation.new) }
-    ensures wide { IfErr result (λ e. e ≡ TooWide → 64 < length (continued (model_tables schema.now) place own.now relation.old (all_links (model_tables schema.now) depth table)).occurrences) }
+    ensures wide { IfErr result (λ e. e ≡ TooWide → IsWide (followed (model_tables schema.now) depth table place own.now relation.old)) }
 {
     if depth == 0 {
         return Ok(());

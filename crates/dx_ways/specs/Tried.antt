@@ -1,5 +1,6 @@
 -- What is tried to find the ways of a line: each choice among occurrences that are unlike each other.
-use Rattle.std.specs.Prelude.{ℕ, Bool, not, cond, ◌&&◌, ◌||◌, eqb, Option, Some, None, List, [], ◌∷◌, ◌++◌, map, flat_map}
+use Rattle.std.specs.Prelude.{ℕ, ◌<◌, Bool, not, cond, ◌&&◌, ◌||◌, eqb, Option, Some, None, List, [], ◌∷◌, ◌++◌, length, map, flat_map}
+use Rattle.std.specs.Borrow.{Bor}
 use Rattle.std.specs.List.{filter, list_any, list_all}
 use Rattle.dx_logical.specs.declared.relation.Occurrence.{Occurrence}
 use Rattle.dx_lines.specs.declared.line.Place.{Place}
@@ -7,6 +8,14 @@ use Rattle.dx_lines.specs.declared.line.Origin.{Origin}
 use Rattle.dx_lines.specs.declared.term.Term.{Term}
 use Rattle.dx_lines.specs.declared.candidate.Pick.{Pick}
 use Rattle.dx_lines.specs.Ways.{is_of, variable_in, with_table, term_by, pick, put_in}
+
+-- what stands behind references
+abbrev pub behind : {X : Type 0} → List (Bor X) → List X
+behind rs = map (λ r. r.now) rs
+
+-- more picks than are accepted
+abbrev pub AreTooMany : List Pick → Type 0
+AreTooMany picks = 64 < length picks
 
 -- the list with all these put in, one after another
 abbrev pub put_all : List Pick → List Pick → List Pick

@@ -2,7 +2,7 @@
 ghost use Rattle.std.specs.Prelude.{◌≡◌, ◌≤◌, ◌<◌, ◌∷◌, List, IfOk, IfErr, OnOk, insert, length, map};
 ghost use Rattle.dx_ways.specs.declared.fault.WaysFault.TheVariants.{TooMany};
 ghost use Rattle.dx_lines.specs.Ways.{pick, put_in};
-ghost use Rattle.dx_ways.specs.Tried.{picks_by, put_all, tried};
+ghost use Rattle.dx_ways.specs.Tried.{AreTooMany, behind, picks_by, put_all, tried};
 
 use crate::fault::WaysFault;
 use crate::picks::{copy_term, pick_order};
@@ -66,7 +66,7 @@ fn add_term(
     requires { length found.old.items ≤ 64 }
     ensures all { OnOk result (found.new.items ≡ put_all found.old.items (map (λ y. pick y term.now) variables.now)) }
     ensures few { OnOk result (length found.new.items ≤ 64) }
-    ensures many { IfErr result (λ e. e ≡ TooMany → 64 < length (put_all found.old.items (map (λ y. pick y term.now) variables.now))) }
+    ensures many { IfErr result (λ e. e ≡ TooMany → AreTooMany (put_all found.old.items (map (λ y. pick y term.now) variables.now))) }
 {
     for variable in variables {
         let pick = Pick {
@@ -87,9 +87,10 @@ fn add_picks(
     found: &mut Vec<Pick>,
 ) -> Result<(), WaysFault>
     requires { length found.old.items ≤ 64 }
-    ensures all { OnOk result (found.new.items ≡ put_all found.old.items (picks_by source.now variables.now (map (λ r. r.now) choice.now))) }
+    ensures all { OnOk result (found.new.items ≡ put_all found.old.items (picks_by source.now variables.now (behind choice.now))) }
     ensures few { OnOk result (length found.new.items ≤ 64) }
-    ensures many { IfErr result (λ e. e ≡ TooMany → 64 < length (put_all found.old.items (picks_by source.now variables.now (map (λ r. r.now) choice.now)))) }
+    ensures many { IfErr result (λ e. e ≡ TooMany
+        → AreTooMany (put_all found.old.items (picks_by source.now variables.now (behind choice.now)))) }
 {
     match term_of(alloc, source, choice)? {
         None => Ok(()),
@@ -103,7 +104,7 @@ fn with_occurrence<'a>(
     occurrence: &'a Occurrence,
     choice: &[&'a Occurrence],
 ) -> Result<Vec<&'a Occurrence>, AllocError>
-    ensures { IfOk result (λ os. map (λ r. r.now) os.items ≡ occurrence.now ∷ map (λ r. r.now) choice.now) }
+    ensures { IfOk result (λ os. behind os.items ≡ occurrence.now ∷ behind choice.now) }
 {
     let mut more = Vec::new(alloc);
     more.push(occurrence)?;
@@ -123,9 +124,11 @@ pub fn add_tried<'a>(
     found: &mut Vec<Pick>,
 ) -> Result<(), WaysFault>
     requires { length found.old.items ≤ 64 }
-    ensures all { OnOk result (found.new.items ≡ put_all found.old.items (tried source.now variables.now (map (λ r. r.now) among.now) places.now (map (λ r. r.now) choice.now))) }
+    ensures all { OnOk result (found.new.items
+        ≡ put_all found.old.items (tried source.now variables.now (behind among.now) places.now (behind choice.now))) }
     ensures few { OnOk result (length found.new.items ≤ 64) }
-    ensures many { IfErr result (λ e. e ≡ TooMany → 64 < length (put_all found.old.items (tried source.now variables.now (map (λ r. r.now) among.now) places.now (map (λ r. r.now) choice.now)))) }
+    ensures many { IfErr result (λ e. e ≡ TooMany
+        → AreTooMany (put_all found.old.items (tried source.now variables.now (behind among.now) places.now (behind choice.now)))) }
 {
     let Some((first, rest)) = places.split_first() else {
         return add_picks(alloc, source, variables, choice, found);
