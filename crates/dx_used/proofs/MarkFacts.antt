@@ -1,18 +1,22 @@
 -- Counted mentions, and marks.
-use Rattle.std.proofs.Common.{◌≡◌, ℕ, zero, suc, ◌+◌, ◌<◌, ◌≤◌, ◌⊎◌, Bool, true, false, List, [], ◌∷◌, ◌++◌, inl, inr, refl, sym, ◌∙◌, ap, subst, arith, length, take, get_or, append_assoc, append-nil}
+use Rattle.std.proofs.Common.{◌≡◌, ℕ, zero, suc, ◌+◌, ◌-◌, ◌^◌, ◌<◌, ◌≤◌, ◌⊎◌, Bool, true, false, List, [], ◌∷◌, ◌++◌, inl, inr, refl, sym, ◌∙◌, ap, subst, arith, length, min, take, get_or, append_assoc, append-nil}
 use Rattle.std.specs.Prelude.{map, flat_map, slice_set, replicate}
-use Rattle.std.proofs.lemmas.Bool.{cases_order, eq-eqb, ne_eqb}
-use Rattle.std.proofs.lemmas.List.{take_more, get_or-set_same, get_or-set_other, length-set, map-append, take_all}
+use Rattle.std.proofs.lemmas.Bool.{cases_Bool, cases_order, eq-eqb, ne_eqb}
+use Rattle.std.proofs.lemmas.List.{take_more, get_or-set_same, get_or-set_other, length-append, length-set, map-append, take_all}
+use Rattle.std.proofs.lemmas.List.Concat.{flat_map-append}
 use Rattle.dx_ports.specs.Members.{◌∈◌, here, there, Each}
-use Rattle.dx_ports.proofs.Members.{from_append}
+use Rattle.dx_ports.proofs.Members.{from_append, in_flat_map, item_in}
 use Rattle.dx_model.specs.declared.rules.Cell.{Cell}
 use Rattle.dx_model.specs.declared.rules.Cell.TheVariants.{Var, Ex, Lit}
 use Rattle.dx_model.specs.declared.rules.Atom.{Atom}
 use Rattle.dx_model.specs.declared.rules.Derived.{Derived}
 use Rattle.dx_model.specs.declared.rules.Rule.{Rule}
 use Rattle.dx_model.specs.Rules.{cells_of}
-use Rattle.dx_used.specs.Used.{times, mentions, IsIdle, AreIdle, UsesOnly, marks_at}
-use Rattle.dx_used.specs.Counting.{up_to_two, Counts, KeepMarks, UsesOnlyOf}
+use Rattle.dx_model.specs.Fitting.{IsRule, premise_variables, variable_in}
+use Rattle.dx_model.proofs.Frozen.{few_in_cells, few_numbered}
+use Rattle.dx_model.proofs.RowsExist.{below_after}
+use Rattle.dx_used.specs.Used.{times, mentions, IsIdle, AreIdle, Asks, IsUsedBy, IsUsed, HaveWidths, AreExact, UsesOnly, Marks, marks_at}
+use Rattle.dx_used.specs.Counting.{up_to_two, Counts, HasPlace, KeepMarks, UsesOnlyOf, AreNewWhere, AreUsed}
 use Rattle.dx_used.proofs.UsedLaws.{times-append}
 
 -- ---- counts
@@ -45,7 +49,7 @@ same_or x v = elim (cases_order x v) [
   | inr o ↦ elim o [ inl k ↦ inr (λ e. omega (arith, e, k)) | inr k ↦ inr (λ e. omega (arith, e, k)) ]
 ]
 
-counted_set : (cells : List Cell) (counts : List ℕ) (v : ℕ) → Counts cells counts → v < length counts → get_or counts v 0 < 2
+pub counted_set : (cells : List Cell) (counts : List ℕ) (v : ℕ) → Counts cells counts → v < length counts → get_or counts v 0 < 2
     → Counts (cells ++ Var v ∷ []) (slice_set counts v (get_or counts v 0 + 1))
 counted_set cells counts v h k l x b = elim (same_or x v) [
   | inl e ↦ subst (λ y. get_or (slice_set counts v (get_or counts v 0 + 1)) y 0 ≡ up_to_two (times y (cells ++ Var v ∷ []))) (sym e) at_v
@@ -58,7 +62,7 @@ counted_set cells counts v h k l x b = elim (same_or x v) [
         get_or-set_same counts v (get_or counts v 0 + 1) 0 k
         ∙ (ap (λ n. n + 1) c ∙ (sym (next_count (times v cells) (subst (λ n. n < 2) c l)) ∙ ap up_to_two (sym (one_more cells v))))
 
-counted_full : (cells : List Cell) (counts : List ℕ) (v : ℕ) → Counts cells counts → 2 ≤ get_or counts v 0 → Counts (cells ++ Var v ∷ []) counts
+pub counted_full : (cells : List Cell) (counts : List ℕ) (v : ℕ) → Counts cells counts → 2 ≤ get_or counts v 0 → Counts (cells ++ Var v ∷ []) counts
 counted_full cells counts v h l x b = elim (same_or x v) [
   | inl e ↦ subst (λ y. get_or counts y 0 ≡ up_to_two (times y (cells ++ Var v ∷ []))) (sym e) (at_v (subst (λ y. y < length counts) e b))
   | inr n ↦ h x b ∙ ap up_to_two (sym (no_more cells v x n))
@@ -137,21 +141,48 @@ zero_counts n counts e x h = ap (λ xs. get_or xs x 0) e ∙ zeros n x
     zeros (suc n) zero = refl
     zeros (suc n) (suc x) = zeros n x
 
--- the count that was read
-read_at : (xs : List ℕ) (i r : ℕ) → i < length xs → r ≡ get_or xs i r → get_or xs i 0 ≡ r
-read_at [] i r h e = absurd (omega (arith, h))
-read_at (x ∷ xs) zero r h e = sym e
-read_at (x ∷ xs) (suc i) r h e = read_at xs i r (omega (arith, h)) e
+-- ---- how many cells there are
 
-pub counted_set_at : (cells : List Cell) (counts : List ℕ) (v r t : ℕ) → Counts cells counts → v < length counts → r ≡ get_or counts v r → t ≡ get_or counts v t → t < 2
-    → Counts (cells ++ Var v ∷ []) (slice_set counts v (r + 1))
-counted_set_at cells counts v r t h k e f l =
-    let a = read_at counts v r k e in
-    let b = read_at counts v t k f in
-    subst (λ n. Counts (cells ++ Var v ∷ []) (slice_set counts v (n + 1))) a (counted_set cells counts v h k (omega (arith, b, l)))
+pub cells_more : (atoms : List Atom) (i : ℕ) (a : Atom) (count many new : ℕ) → i < length atoms → a ≡ get_or atoms i a → many ≡ length a.cells
+    → count ≡ min (length (cells_of (take i atoms))) (2 ^ 64 - 1) → new ≡ min (count + many) (2 ^ 64 - 1) → new ≡ min (length (cells_of (take (i + 1) atoms))) (2 ^ 64 - 1)
+cells_more atoms i a count many new h e l c n =
+    let t : take (i + 1) atoms ≡ take i atoms ++ a ∷ [] = take_more atoms i a h ∙ ap (λ b. take i atoms ++ b ∷ []) (sym e) in
+    let k : cells_of (take (i + 1) atoms) ≡ cells_of (take i atoms) ++ cells_of (a ∷ []) = ap cells_of t ∙ flat_map-append (λ (b : Atom). b.cells) (take i atoms) (a ∷ []) in
+    let s : length (cells_of (take (i + 1) atoms)) ≡ length (cells_of (take i atoms)) + length (cells_of (a ∷ [])) = ap length k ∙ length-append (cells_of (take i atoms)) (cells_of (a ∷ [])) in
+    let o : length (cells_of (a ∷ [])) ≡ length a.cells = ap length (append-nil a.cells) in
+    omega (arith, l, c, n, s, o)
 
-pub counted_full_at : (cells : List Cell) (counts : List ℕ) (v t : ℕ) → Counts cells counts → v < length counts → t ≡ get_or counts v t → 2 ≤ t → Counts (cells ++ Var v ∷ []) counts
-counted_full_at cells counts v t h k f l = let b = read_at counts v t k f in counted_full cells counts v h (omega (arith, b, l))
+pub all_cells : (atoms : List Atom) (i count : ℕ) → length atoms ≤ i → count ≡ min (length (cells_of (take i atoms))) (2 ^ 64 - 1) → count ≡ min (length (cells_of atoms)) (2 ^ 64 - 1)
+all_cells atoms i count h c = c ∙ ap (λ bs. min (length (cells_of bs)) (2 ^ 64 - 1)) (take_all i atoms h)
+
+-- the variables of a rule have places, since they are numbered by first appearance
+pub have_places : (d : Rule) (a : Atom) (places : ℕ) → IsRule d → a ∈ d.premise → places ≡ min (length (cells_of d.premise)) (2 ^ 64 - 1) → Each a.cells (HasPlace places)
+have_places d a places r m e c k x p =
+    let b : x < premise_variables d = below_after x (cells_of d.premise) (subst (λ (z : Cell). z ∈ cells_of d.premise) p (in_flat_map (λ (z : Atom). z.cells) m k)) in
+    let f = few_numbered 0 (premise_variables d) (flat_map variable_in (cells_of d.premise)) r.numbered in
+    let g = few_in_cells (cells_of d.premise) in
+    let w = r.few_variables in
+    omega (arith, b, f, g, e, w)
+
+-- ---- cells that ask something
+
+-- what is no variable asks something
+pub asks_other : (d : Rule) (c : Cell) → ((x : ℕ) → ¬ (c ≡ Var x)) → ¬ IsIdle d c
+asks_other d c n i = n i.0 i.1
+
+pub asks_in : (d : Rule) (cells : List Cell) (i : ℕ) (c : Cell) → i < length cells → c ≡ get_or cells i c → ¬ IsIdle d c → Asks d cells i
+asks_in d [] i c h e n = absurd (omega (arith, h))
+asks_in d (x ∷ cells) zero c h e n = subst (λ (b : Cell). ¬ IsIdle d b) e n
+asks_in d (x ∷ cells) (suc i) c h e n = asks_in d cells i c (omega (arith, h)) e n
+
+-- what asks something stands in no column without a mark
+asks_not : (d : Rule) (marks : List Bool) (cells : List Cell) (i : ℕ) → i < length marks → get_or marks i false ≡ false → AreIdle d marks cells → ¬ Asks d cells i
+asks_not d [] cells i l e a w = absurd (omega (arith, l))
+asks_not d (u ∷ marks) [] i l e a w = w
+asks_not d (true ∷ marks) (c ∷ cells) zero l e a w = absurd (cc e)
+asks_not d (false ∷ marks) (c ∷ cells) zero l e a w = w a.0
+asks_not d (true ∷ marks) (c ∷ cells) (suc i) l e a w = asks_not d marks cells i (omega (arith, l)) e a w
+asks_not d (false ∷ marks) (c ∷ cells) (suc i) l e a w = asks_not d marks cells i (omega (arith, l)) e a.1 w
 
 -- ---- marks
 
@@ -296,3 +327,88 @@ all_tables rules used all d m a k = elim (order a.table (length used)) [
     none [] t h = refl
     none (u ∷ us) zero h = absurd (omega (arith, h))
     none (u ∷ us) (suc t) h = none us t (omega (arith, h))
+
+-- ---- marks that are new
+
+pub new_none : (P : ℕ → Type 0) (marks : List Bool) → AreNewWhere P marks marks
+new_none P marks i e = inl e
+
+pub new_one : (P : ℕ → Type 0) (old marks : List Bool) (n : ℕ) → P n → AreNewWhere P old marks → AreNewWhere P old (slice_set marks n true)
+new_one P old marks n p h i e = elim (same_or i n) [
+  | inl k ↦ inr (subst P (sym k) p)
+  | inr o ↦ h i (sym (get_or-set_other marks n i true false o) ∙ e)
+]
+
+pub new_trans : (P : ℕ → Type 0) (a b c : List Bool) → AreNewWhere P a b → AreNewWhere P b c → AreNewWhere P a c
+new_trans P a b c k l i e = elim (l i e) [ inl m ↦ k i m | inr p ↦ inr p ]
+
+-- those of an atom's cells are those of its rule
+pub new_by_atom : (d : Rule) (table : ℕ) (atoms : List Atom) (i : ℕ) (a : Atom) (counts lent : List ℕ) (given : List Cell) (old new : List Bool)
+    → atoms ≡ d.premise → i < length atoms → a ≡ get_or atoms i a → a.table ≡ table → lent ≡ counts → given ≡ a.cells
+    → Counts (mentions d) counts → length counts ≡ min (length (cells_of d.premise)) (2 ^ 64 - 1) → IsRule d
+    → ((e : Rule) → Counts (mentions e) lent → Each given (HasPlace (length lent)) → AreNewWhere (Asks e given) old new) → AreNewWhere (IsUsedBy d table) old new
+new_by_atom d table atoms i a counts lent given old new s h e t l g k n r f j b =
+    let m : a ∈ d.premise = subst (λ bs. a ∈ bs) s (item_in atoms i a h e) in
+    let p : Each a.cells (HasPlace (length lent)) = have_places d a (length lent) r m (ap length l ∙ n) in
+    let q : AreNewWhere (Asks d given) old new = f d (subst (λ ns. Counts (mentions d) ns) (sym l) k) (subst (λ cs. Each cs (HasPlace (length lent))) (sym g) p) in
+    elim (q j b) [ inl o ↦ inl o | inr w ↦ inr (a, m, t, subst (λ cs. Asks d cs j) g w) ]
+
+pub none_marked : (rules : List Rule) (table n : ℕ) (marks : List Bool) → (◌≡◌ {A = List Bool} marks (replicate n false)) → AreUsed rules table marks
+none_marked rules table n marks e i k = true_false (sym k ∙ (ap (λ ms. get_or ms i false) e ∙ all_false n i))
+  where
+    all_false : (n i : ℕ) → ◌≡◌ {A = Bool} (get_or (replicate n false) i false) false
+    all_false zero i = refl
+    all_false (suc n) zero = refl
+    all_false (suc n) (suc i) = all_false n i
+
+-- a rule more, as a loop gives it
+pub used_more : (rules : List Rule) (table i : ℕ) (d : Rule) (old new : List Bool) → i < length rules → d ≡ get_or rules i d → Each rules IsRule
+    → AreUsed rules table old → (IsRule d → AreNewWhere (IsUsedBy d table) old new) → AreUsed rules table new
+used_more rules table i d old new h e r all n j k =
+    let m : d ∈ rules = item_in rules i d h e in
+    elim (n (r d m) j k) [ inl o ↦ all j o | inr w ↦ inr_used m w ]
+  where
+    inr_used : d ∈ rules → IsUsedBy d table j → IsUsed rules table j
+    inr_used m w = (d, m, w)
+
+-- ---- marks of one table more
+
+marks_or : (us : Marks) (marks : List Bool) (t : ℕ) → (marks_at (us ++ marks ∷ []) t ≡ marks_at us t) ⊎ ((t ≡ length us) × (marks_at (us ++ marks ∷ []) t ≡ marks))
+marks_or [] marks zero = inr (refl, refl)
+marks_or [] marks (suc t) = inl refl
+marks_or (u ∷ us) marks zero = inl refl
+marks_or (u ∷ us) marks (suc t) = elim (marks_or us marks t) [ inl e ↦ inl e | inr e ↦ inr (ap suc e.0, e.1) ]
+
+pub tables_used : (rules : List Rule) (used : Marks) (table : ℕ) (marks : List Bool) (new : Marks) → length used ≡ table → new ≡ used ++ marks ∷ []
+    → ((t : ℕ) → AreUsed rules t (marks_at used t)) → AreUsed rules table marks → (t : ℕ) → AreUsed rules t (marks_at new t)
+tables_used rules used table marks new s e all last t = elim (marks_or used marks t) [
+  | inl k ↦ subst (AreUsed rules t) (sym (ap (λ us. marks_at us t) e ∙ k)) (all t)
+  | inr k ↦ subst (AreUsed rules t) (sym (ap (λ us. marks_at us t) e ∙ k.1)) (subst (λ u. AreUsed rules u marks) (sym (k.0 ∙ s)) last)
+]
+
+pub width_more : (widths : List ℕ) (used : Marks) (i : ℕ) (marks : List Bool) (new : Marks) → i < length widths → new ≡ used ++ marks ∷ [] → length marks ≡ get_or widths i 0
+    → HaveWidths (take i widths) used → HaveWidths (take (i + 1) widths) new
+width_more widths used i marks new h e l w =
+    ap (map (λ (ms : List Bool). length ms)) e ∙ (map-append (λ (ms : List Bool). length ms) used (marks ∷ [])
+    ∙ (ap (λ ns. ns ++ length marks ∷ []) w ∙ (ap (λ n. take i widths ++ n ∷ []) l ∙ sym (take_more widths i 0 h))))
+
+pub all_widths : (widths : List ℕ) (i : ℕ) (used : Marks) → length widths ≤ i → HaveWidths (take i widths) used → HaveWidths widths used
+all_widths widths i used h w = w ∙ take_all i widths h
+
+-- a mark says exactly whether some rule uses its column
+pub exact_marks : (rules : List Rule) (used : Marks) → Each rules (UsesOnly used) → ((t : ℕ) → AreUsed rules t (marks_at used t)) → AreExact rules used
+exact_marks rules used only all table column h = (all table column, marked)
+  where
+    marked : IsUsed rules table column → get_or (marks_at used table) column false ≡ true
+    marked w = elim (cases_Bool (get_or (marks_at used table) column false)) [
+      | inl t ↦ t
+      | inr f ↦ absurd (
+          asks_not w.0 (marks_at used table) w.2.0.cells column h f
+          (subst (λ t. AreIdle w.0 (marks_at used t) w.2.0.cells) w.2.2 (only w.0 w.1 w.2.0 w.2.1)) w.2.3)
+    ]
+
+pub none_used : (rules : List Rule) (used : Marks) (t : ℕ) → used ≡ [] → AreUsed rules t (marks_at used t)
+none_used rules used t e i k = true_false (sym k ∙ ap (λ (us : Marks). get_or (marks_at us t) i false) e)
+
+pub none_wide : (widths : List ℕ) (used : Marks) → used ≡ [] → HaveWidths (take 0 widths) used
+none_wide widths used e = ap (map (λ (ms : List Bool). length ms)) e

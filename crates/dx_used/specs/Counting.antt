@@ -1,9 +1,10 @@
 -- How often a rule mentions its variables, counted up to two, and the marks that come of it.
-use Rattle.std.specs.Prelude.{◌≡◌, ◌<◌, ℕ, zero, suc, Bool, true, false, List, length, slice_index_or}
+use Rattle.std.specs.Prelude.{◌≡◌, ◌<◌, ◌⊎◌, ℕ, zero, suc, Bool, true, false, List, length, slice_index_or}
 use Rattle.dx_model.specs.declared.rules.Cell.{Cell}
+use Rattle.dx_model.specs.declared.rules.Cell.TheVariants.{Var}
 use Rattle.dx_model.specs.declared.rules.Rule.{Rule}
 use Rattle.dx_ports.specs.Members.{Each}
-use Rattle.dx_used.specs.Used.{AreIdle, times}
+use Rattle.dx_used.specs.Used.{AreIdle, IsUsed, times}
 
 -- none, one, or more
 abbrev pub up_to_two : ℕ → ℕ
@@ -15,6 +16,10 @@ up_to_two (suc (suc n)) = 2
 abbrev pub Counts : List Cell → List ℕ → Type 0
 Counts cells counts = (x : ℕ) → x < length counts → slice_index_or counts x 0 ≡ up_to_two (times x cells)
 
+-- a cell, if it is a variable, has one of so many places
+abbrev pub HasPlace : ℕ → Cell → Type 0
+HasPlace places c = (x : ℕ) → c ≡ Var x → x < places
+
 -- columns that are marked stay so
 abbrev pub KeepMarks : List Bool → List Bool → Type 0
 KeepMarks old new = (i : ℕ) → slice_index_or new i true ≡ false → slice_index_or old i true ≡ false
@@ -22,3 +27,11 @@ KeepMarks old new = (i : ℕ) → slice_index_or new i true ≡ false → slice_
 -- the rule uses no other columns of the table than these
 abbrev pub UsesOnlyOf : ℕ → List Bool → Rule → Type 0
 UsesOnlyOf table marks d = Each d.premise (λ a. a.table ≡ table → AreIdle d marks a.cells)
+
+-- a column that is marked was so before, or has this property
+abbrev pub AreNewWhere : (ℕ → Type 0) → List Bool → List Bool → Type 0
+AreNewWhere P old new = (i : ℕ) → slice_index_or new i false ≡ true → (slice_index_or old i false ≡ true) ⊎ P i
+
+-- each marked column of the table is used by some rule
+abbrev pub AreUsed : List Rule → ℕ → List Bool → Type 0
+AreUsed R table marks = (i : ℕ) → slice_index_or marks i false ≡ true → IsUsed R table i

@@ -1,13 +1,14 @@
 -- Which columns of the source rules use, and instances that agree on these columns.
-use Rattle.std.specs.Prelude.{◌≡◌, ℕ, suc, Bool, true, false, cond, eqb, List, [], ◌∷◌, ◌++◌, map, flat_map, slice_index_or}
+use Rattle.std.specs.Prelude.{◌≡◌, ◌<◌, ◌↔◌, ℕ, zero, suc, Bool, true, false, cond, eqb, List, [], ◌∷◌, ◌++◌, length, map, flat_map, slice_index_or}
 use Rattle.dx_model.specs.declared.values.Value.{Value}
 use Rattle.dx_model.specs.declared.values.Value.TheVariants.{Const, Null}
 use Rattle.dx_model.specs.declared.facts.Fact.{Fact}
 use Rattle.dx_model.specs.declared.rules.Cell.{Cell}
 use Rattle.dx_model.specs.declared.rules.Cell.TheVariants.{Var, Ex, Lit}
+use Rattle.dx_model.specs.declared.rules.Atom.{Atom}
 use Rattle.dx_model.specs.declared.rules.Derived.{Derived}
 use Rattle.dx_model.specs.declared.rules.Rule.{Rule}
-use Rattle.dx_ports.specs.Members.{◌≈◌, Each}
+use Rattle.dx_ports.specs.Members.{◌∈◌, ◌≈◌, Each}
 use Rattle.dx_model.specs.Rules.{cells_of}
 
 -- how often a variable stands among cells
@@ -47,6 +48,30 @@ marks_at used table = slice_index_or used table []
 -- the rule uses no other columns than these
 abbrev pub UsesOnly : Marks → Rule → Type 0
 UsesOnly used d = Each d.premise (λ a. AreIdle d (marks_at used a.table) a.cells)
+
+-- of these cells of a rule, that in a column asks something of the value there: it is not idle
+abbrev pub Asks : Rule → List Cell → ℕ → Type 0
+Asks d [] column = ⊥
+Asks d (c ∷ cells) zero = ¬ IsIdle d c
+Asks d (c ∷ cells) (suc column) = Asks d cells column
+
+-- a column of a table is used by a rule: an atom of its premise, over the table, has there a cell that asks something
+abbrev pub IsUsedBy : Rule → ℕ → ℕ → Type 0
+IsUsedBy d table column = (a : Atom) × (a ∈ d.premise) × (a.table ≡ table) × Asks d a.cells column
+
+-- a column of a table is used by some rule
+abbrev pub IsUsed : List Rule → ℕ → ℕ → Type 0
+IsUsed R table column = (d : Rule) × (d ∈ R) × IsUsedBy d table column
+
+-- for each table of these widths a mark for each column
+abbrev pub HaveWidths : List ℕ → Marks → Type 0
+HaveWidths widths used = map (λ (marks : List Bool). length marks) used ≡ widths
+
+-- each mark says exactly whether some rule uses its column
+abbrev pub AreExact : List Rule → Marks → Type 0
+AreExact R used =
+    (table column : ℕ) → column < length (marks_at used table)
+    → (slice_index_or (marks_at used table) column false ≡ true) ↔ IsUsed R table column
 
 -- a value that does not count: of a constant nothing is left but that it is one
 abbrev pub blank : Value → Value

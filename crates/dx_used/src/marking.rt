@@ -1,9 +1,10 @@
 // The columns that rules use.
-ghost use Rattle.std.specs.Prelude.{◌≡◌, IfOk, OnOk};
+ghost use Rattle.std.specs.Prelude.{◌≡◌, IfOk, OnOk, length};
 ghost use Rattle.dx_ports.specs.Members.{Each};
 ghost use Rattle.dx_model.specs.declared.rules.Rule.{Rule};
-ghost use Rattle.dx_used.specs.Used.{AreIdle, UsesOnly, mentions};
-ghost use Rattle.dx_used.specs.Counting.{Counts, KeepMarks, UsesOnlyOf};
+ghost use Rattle.dx_model.specs.Fitting.{IsRule};
+ghost use Rattle.dx_used.specs.Used.{AreExact, AreIdle, Asks, HaveWidths, IsUsedBy, UsesOnly, mentions};
+ghost use Rattle.dx_used.specs.Counting.{AreNewWhere, AreUsed, Counts, HasPlace, KeepMarks, UsesOnlyOf};
 
 use crate::mentions::{is_idle, mentions_of};
 use dx_model::{Cell, Rule};
@@ -11,9 +12,11 @@ use dx_ports::Items;
 use std::alloc::{AllocError, Global};
 
 // Marks each column whose cell asks something of the value there.
-fn mark_cells(cells: &[Cell], counts: &[u8], marks: &mut Vec<bool>)
-    ensures idle { (d : Rule) → Counts (mentions d) counts.now → AreIdle d marks.new.items cells.now }
-    ensures keep { KeepMarks marks.old.items marks.new.items }
+fn mark_cells(cells: &[Cell], counts: &[u8], marks: &mut [bool])
+    ensures idle { (d : Rule) → Counts (mentions d) counts.now → AreIdle d marks.new cells.now }
+    ensures asks { (d : Rule) → Counts (mentions d) counts.now → Each cells.now (HasPlace (length counts.now))
+        → AreNewWhere (Asks d cells.now) marks.old marks.new }
+    ensures keep { KeepMarks marks.old marks.new }
 {
     for column in 0..cells.len() {
         if column < marks.len() && !is_idle(counts, &cells[column]) {
@@ -23,14 +26,10 @@ fn mark_cells(cells: &[Cell], counts: &[u8], marks: &mut Vec<bool>)
 }
 
 // Marks the columns of a table that a rule uses.
-fn mark_rule(
-    alloc: Global,
-    rule: &Rule,
-    table: u32,
-    marks: &mut Vec<bool>,
-) -> Result<(), AllocError>
-    ensures only { OnOk result (UsesOnlyOf table marks.new.items rule.now) }
-    ensures keep { KeepMarks marks.old.items marks.new.items }
+fn mark_rule(alloc: Global, rule: &Rule, table: u32, marks: &mut [bool]) -> Result<(), AllocError>
+    ensures only { OnOk result (UsesOnlyOf table marks.new rule.now) }
+    ensures used { OnOk result (IsRule rule.now → AreNewWhere (IsUsedBy rule.now table) marks.old marks.new) }
+    ensures keep { KeepMarks marks.old marks.new }
 {
     let counts = mentions_of(alloc, rule)?;
     for atom in rule.premise.items() {
@@ -43,7 +42,9 @@ fn mark_rule(
 
 // The marks of a table of so many columns.
 fn marks_of(alloc: Global, rules: &[Rule], table: u32, width: u32) -> Result<Vec<bool>, AllocError>
-    ensures { IfOk result (λ marks. Each rules.now (UsesOnlyOf table marks.items)) }
+    ensures width { IfOk result (λ marks. length marks.items ≡ width) }
+    ensures only { IfOk result (λ marks. Each rules.now (UsesOnlyOf table marks.items)) }
+    ensures used { IfOk result (λ marks. Each rules.now IsRule → AreUsed rules.now table marks.items) }
 {
     let mut marks = vec![in alloc; false; width as usize]?;
     for rule in rules {
@@ -53,7 +54,8 @@ fn marks_of(alloc: Global, rules: &[Rule], table: u32, width: u32) -> Result<Vec
 }
 
 /// For each table, of as many columns as its width says, a mark for each column: whether the rules use it. A column that is
-/// not marked has only variables that are mentioned once.
+/// not marked has only variables that are mentioned once. Where the variables of each rule are numbered by first appearance, a
+/// column is marked exactly if some rule has another cell there.
 ///
 /// # Errors
 ///
@@ -63,7 +65,9 @@ pub fn used_columns(
     rules: &[Rule],
     widths: &[u32],
 ) -> Result<Vec<Items<bool>>, AllocError>
-    ensures { IfOk result (λ used. Each rules.now (UsesOnly used.items)) }
+    ensures widths { IfOk result (λ used. HaveWidths widths.now used.items) }
+    ensures only { IfOk result (λ used. Each rules.now (UsesOnly used.items)) }
+    ensures exact { IfOk result (λ used. Each rules.now IsRule → AreExact rules.now used.items) }
 {
     let mut used = Vec::with_capacity(alloc, widths.len())?;
     let mut table = 0u32;

@@ -13,4 +13,4 @@ returns-in_err-used g c =
     rw (p.1, p.2) (none_read c.args.mapping.now.rules c.args.mapping.now.source _)
 
 pub returns : goal.returns
-returns g c = (c.in_ok-used.used.items, rw c.items.ensures at c.in_ok-used.ensures, rw c.deref-2.ensures.value at c.read_rows.ensures)
+returns g c = (c.in_ok-used.used.items, rw c.items.ensures at c.in_ok-used.ensures.only, rw c.deref-2.ensures.value at c.read_rows.ensures)

@@ -1,11 +1,13 @@
 use Rattle.std.proofs.Common.{◌≡◌, take}
 use Rattle.dx_ports.specs.Members.{Each}
-use Rattle.dx_used.specs.Used.{AreIdle}
-use Rattle.dx_used.specs.Counting.{KeepMarks}
+use Rattle.dx_model.specs.Fitting.{IsRule}
+use Rattle.dx_used.specs.Used.{AreIdle, IsUsedBy}
+use Rattle.dx_used.specs.Counting.{AreNewWhere, KeepMarks}
 use Rattle.dx_used.proofs.marking.mark_rule.Given as goal
 
 abbrev pub invariant-loop-atom : goal.invariant-loop-atom
 invariant-loop-atom l = record {
-  only : Each (take l.atom-index l.rule.premise) (λ a. a.table ≡ l.table → AreIdle l.rule l.marks.items a.cells);
-  keep : KeepMarks l.initial.marks.items l.marks.items;
+  only : Each (take l.atom-index l.rule.premise) (λ a. a.table ≡ l.table → AreIdle l.rule l.marks a.cells);
+  used : IsRule l.rule → AreNewWhere (IsUsedBy l.rule l.table) l.initial.marks l.marks;
+  keep : KeepMarks l.initial.marks l.marks;
 }

@@ -1,7 +1,12 @@
-use Rattle.std.proofs.Common.{take}
+use Rattle.std.proofs.Common.{◌≡◌, length, take}
 use Rattle.dx_ports.specs.Members.{Each}
-use Rattle.dx_used.specs.Counting.{UsesOnlyOf}
+use Rattle.dx_model.specs.Fitting.{IsRule}
+use Rattle.dx_used.specs.Counting.{AreUsed, UsesOnlyOf}
 use Rattle.dx_used.proofs.marking.marks_of.Given as goal
 
 abbrev pub invariant-loop-rule : goal.invariant-loop-rule
-invariant-loop-rule l = Each (take l.rule-index l.rules) (UsesOnlyOf l.table l.marks.items)
+invariant-loop-rule l = record {
+  width : length l.marks.items ≡ l.width;
+  only : Each (take l.rule-index l.rules) (UsesOnlyOf l.table l.marks.items);
+  used : Each l.rules IsRule → AreUsed l.rules l.table l.marks.items;
+}

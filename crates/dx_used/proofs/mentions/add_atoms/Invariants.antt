@@ -5,4 +5,4 @@ use Rattle.dx_used.specs.Counting.{Counts}
 use Rattle.dx_used.proofs.mentions.add_atoms.Given as goal
 
 abbrev pub invariant-loop-atom : goal.invariant-loop-atom
-invariant-loop-atom l = (before : List Cell) → Counts before l.initial.counts.items → Counts (before ++ cells_of (take l.atom-index l.atoms)) l.counts.items
+invariant-loop-atom l = (before : List Cell) → Counts before l.initial.counts → Counts (before ++ cells_of (take l.atom-index l.atoms)) l.counts

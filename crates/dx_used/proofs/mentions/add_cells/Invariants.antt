@@ -4,4 +4,4 @@ use Rattle.dx_used.specs.Counting.{Counts}
 use Rattle.dx_used.proofs.mentions.add_cells.Given as goal
 
 abbrev pub invariant-loop-cell : goal.invariant-loop-cell
-invariant-loop-cell l = (before : List Cell) → Counts before l.initial.counts.items → Counts (before ++ take l.cell-index l.cells) l.counts.items
+invariant-loop-cell l = (before : List Cell) → Counts before l.initial.counts → Counts (before ++ take l.cell-index l.cells) l.counts

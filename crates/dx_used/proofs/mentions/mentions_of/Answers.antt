@@ -1,12 +1,17 @@
-use Rattle.std.proofs.Common.{[], ◌++◌}
-use Rattle.dx_model.specs.Rules.{cells_of}
-use Rattle.dx_used.proofs.MarkFacts.{counted_rule, zero_counts}
+use Rattle.std.proofs.Common.{◌≡◌, ◌∙◌, ap, arith, length}
+use Rattle.std.proofs.lemmas.List.{length-replicate, with_items_is}
+use Rattle.dx_used.proofs.MarkFacts.{zero_counts}
 use Rattle.dx_used.proofs.mentions.mentions_of.Goals as goal
 
-pub returns : goal.returns
-returns c =
+pub returns-clause-counts : goal.returns-clause-counts
+returns-clause-counts c =
+    let n : length c.add_rule.new.counts ≡ c.in_ok-counts.counts.len = omega (arith, ap length c.deref_mut.ensures.value) in
     let none = zero_counts c.cells_in.result c.in_ok-counts.counts.items (c.in_ok-counts.ensures.items_if_clones_equal (λ y e. e)) in
-    let premise = c.add_atoms.ensures.counts [] none in
-    let both = c.add_atoms-2.ensures.counts ([] ++ cells_of c.items-2.result.now) premise in
-    counted_rule c.args.rule.now c.items-2.result.now c.items-3.result.now c.items-4.result.now c.add_arguments.new.counts.items c.items-2.ensures c.items-3.ensures c.items-4.ensures
-    (c.add_arguments.ensures.counts (([] ++ cells_of c.items-2.result.now) ++ cells_of c.items-3.result.now) both)
+    rw (with_items_is c.in_ok-counts.counts c.add_rule.new.counts n) (c.add_rule.ensures.counts (rw c.deref_mut.ensures.value none))
+
+pub returns-clause-places : goal.returns-clause-places
+returns-clause-places c =
+    let n : length c.add_rule.new.counts ≡ c.in_ok-counts.counts.len = omega (arith, ap length c.deref_mut.ensures.value) in
+    let many = ap length (c.in_ok-counts.ensures.items_if_clones_equal (λ y e. e)) ∙ length-replicate c.cells_in.result 0 in
+    let cells = rw c.items.ensures at c.cells_in.ensures in
+    rw (with_items_is c.in_ok-counts.counts c.add_rule.new.counts n) (c.add_rule.auto.counts ∙ (ap length c.deref_mut.ensures.value ∙ (many ∙ cells)))
