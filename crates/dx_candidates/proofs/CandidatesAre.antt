@@ -60,9 +60,9 @@ are_to : (lines : List Line) (source target : List Table) (c : Candidate) → Is
 are_to lines source target c w =
     let f = pair_candidates lines source target in
     let p = to_all_picks (pair_ways lines source target c.source c.target) c.picks (ways_up lines source target c.source c.target)
-      (record { some = w.some; one_each = w.one_each; are_ways = w.are_ways; none_missing = w.none_missing }) in
+    (record { some = w.some; one_each = w.one_each; are_ways = w.are_ways; none_missing = w.none_missing }) in
     in_flat_map (λ (s : ℕ). flat_map (f s) (upto (length target))) (in_upto (length source) c.source w.is_source)
-      (in_flat_map (f c.source) (in_upto (length target) c.target w.is_target) (in_map (candidate c.source c.target) p))
+    (in_flat_map (f c.source) (in_upto (length target) c.target w.is_target) (in_map (candidate c.source c.target) p))
 
 pub candidates_are : CandidatesAre
 candidates_are lines source target c = (are_from lines source target c, are_to lines source target c)
@@ -83,7 +83,7 @@ flat_ascends : {X Y : Type 0} (B : X → X → Type 0) (R : Y → Y → Type 0) 
 flat_ascends B R f [] a each cross = tt
 flat_ascends B R f (x ∷ xs) a each cross =
     append_ascends R (f x) (flat_map f xs) (each x (here refl)) (flat_ascends B R f xs a.1 (λ y n. each y (there n)) cross)
-      (λ c m d n. let r = from_flat_map f xs n in cross x r.0 (a.0 r.0 r.1) c m d r.2)
+    (λ c m d n. let r = from_flat_map f xs n in cross x r.0 (a.0 r.0 r.1) c m d r.2)
 
 range_ascends : (a n : ℕ) → Ascends (λ (x y : ℕ). x < y) (range_with_len a n)
 range_ascends a zero = tt
@@ -152,7 +152,7 @@ module _ (lines : List Line) (source target : List Table) where
   pair_ascends : (s t : ℕ) → Ascends Below (of_pair s t)
   pair_ascends s t =
       map_ascends PicksBelow Below (candidate s t) (all_picks (pair_ways lines source target s t)) (by_picks s t)
-        (picks_ascend (pair_ways lines source target s t) (ways_up lines source target s t))
+      (picks_ascend (pair_ways lines source target s t) (ways_up lines source target s t))
 
   source_ascends : (s : ℕ) → Ascends Below (of_source s)
   source_ascends s = flat_ascends (λ (x y : ℕ). x < y) Below (of_pair s) (upto (length target)) (range_ascends 0 (length target)) (λ t n. pair_ascends s t) cross
