@@ -187,7 +187,7 @@ ran_become_stop {E} {A} {B} {C} R s a e old new x = record {
 -- what memory could not make of a result
 pub ran_become_none : {E A B C : Type 0} (R : A → B → C → Type 0) (s : Stage E A B) (a : A) (b : B) (old new : Told) → Ran s a (Ok b) old new
     → Ran (become R s) a (Err stops.Memory) old new
-ran_become_none R s a b old new x = ran_become_stop R s a stops.Memory old new (ran_memory s a (Ok b) old new x)
+ran_become_none R s a b old new x = ran_become_stop R s a stops.Memory old new (ran_memory s a b old new x)
 
 -- ---- showing
 
@@ -205,7 +205,7 @@ shown P mode M p old new is x =
 pub shown_none : (P : Program) (mode : Mode) (M : Mapping) (old new : Told) → Ran (mapping_stages P) (tt {0}) (Ok M) old new
     → Ran (show_stages P mode) (tt {0}) (Err stops.Memory) old new
 shown_none P mode M old new x =
-    ran_memory (show_stages P mode) (tt {0}) (Ok (shown_plan P mode M)) old new (shown P mode M (shown_plan P mode M) old new refl x)
+    ran_memory (show_stages P mode) (tt {0}) (shown_plan P mode M) old new (shown P mode M (shown_plan P mode M) old new refl x)
 
 -- ---- the rows
 

@@ -46,10 +46,10 @@ gives_meets s a (Err (stops.Failed n)) g c = absurd g
 gives_meets s a (Err stops.Memory) g c = tt
 
 gives_no_fault : {E A B : Type 0} (s : Stage E A B) (a : A) (r : Result B (Stop E)) (told : Told) → Gives s a r → FailedAt told told r
-gives_no_fault s a (Ok b) told g = tt
-gives_no_fault s a (Err (stops.Refused e)) told g = tt
+gives_no_fault s a (Ok b) told g = refl
+gives_no_fault s a (Err (stops.Refused e)) told g = refl
 gives_no_fault s a (Err (stops.Failed n)) told g = absurd g
-gives_no_fault s a (Err stops.Memory) told g = tt
+gives_no_fault s a (Err stops.Memory) told g = refl
 
 -- no file is read
 pub ran_value : {E A B : Type 0} (s : Stage E A B) (a : A) (r : Result B (Stop E)) (told : Told) → Gives s a r → Ran s a r told told
@@ -72,9 +72,9 @@ stops_next s t c a (stops.Failed n) m = inl m
 stops_next s t c a stops.Memory m = tt
 
 pub fault_of : {E : Type 0} (B C : Type 0) (old new : Told) (e : Stop E) → FailedAt {B = B} old new (Err e) → FailedAt {B = C} old new (Err e)
-fault_of B C old new (stops.Refused e) f = tt
+fault_of B C old new (stops.Refused e) f = f
 fault_of B C old new (stops.Failed n) f = f
-fault_of B C old new stops.Memory f = tt
+fault_of B C old new stops.Memory f = f
 
 -- the first stage stops
 pub ran_stop : {E A B C : Type 0} (s : Stage E A B) (t : Stage E B C) (a : A) (e : Stop E) (old new : Told) → Ran s a (Err e) old new → Ran (next s t) a (Err e) old new
@@ -97,14 +97,11 @@ meets_next s t c a b (Err (stops.Refused e)) p m = inr (b, p, m)
 meets_next s t c a b (Err (stops.Failed n)) p m = inr (b, p, m)
 meets_next s t c a b (Err stops.Memory) p m = tt
 
-rose_since : {x y z : ℕ} → x ≤ y → Rose y z → Rose x z
-rose_since below rose = omega (arith, below, rose)
-
-fault_since : {E C : Type 0} (old mid new : Told) (r : Result C (Stop E)) → old.faults ≤ mid.faults → FailedAt mid new r → FailedAt old new r
-fault_since old mid new (Ok x) below f = tt
-fault_since old mid new (Err (stops.Refused e)) below f = tt
-fault_since old mid new (Err (stops.Failed n)) below f = (rose_since below f.0, f.1)
-fault_since old mid new (Err stops.Memory) below f = tt
+fault_since : {E C : Type 0} (old mid new : Told) (r : Result C (Stop E)) → mid.faults ≡ old.faults → FailedAt mid new r → FailedAt old new r
+fault_since old mid new (Ok x) same f = f ∙ same
+fault_since old mid new (Err (stops.Refused e)) same f = f ∙ same
+fault_since old mid new (Err (stops.Failed n)) same f = (subst (λ (k : ℕ). Rose k new.faults) same f.0, f.1)
+fault_since old mid new (Err stops.Memory) same f = f ∙ same
 
 -- the first stage passes, and the second is computed on what it passes
 pub ran_next : {E A B C : Type 0} (s : Stage E A B) (t : Stage E B C) (a : A) (b : B) (r : Result C (Stop E)) (old mid new : Told) → AreApart s t
@@ -112,7 +109,7 @@ pub ran_next : {E A B C : Type 0} (s : Stage E A B) (t : Stage E B C) (a : A) (b
 ran_next {E} {A} {B} {C} s t a b r old mid new apart x y = record {
   kept = y.kept ∙ x.kept;
   counted = omega (arith, x.counted, y.counted);
-  failed = fault_since old mid new r x.counted y.failed;
+  failed = fault_since old mid new r x.failed y.failed;
   finds = record {
     found = x.finds.found ++ y.finds.found;
     told = told_both old.holds x.finds.found y.finds.found x.finds.told later;
@@ -227,7 +224,7 @@ ran_over f s a r old new x = ran_alike s (over f s) (f a) a r r old new (λ c n 
     meets_over f s a (Err stops.Memory) c m = tt
 
 pub ran_into : {E A B C : Type 0} (f : A → B → C) (s : Stage E A B) (a : A) (b : B) (old new : Told) → Ran s a (Ok b) old new → Ran (into f s) a (Ok (f a b)) old new
-ran_into f s a b old new x = ran_alike s (into f s) a a (Ok b) (Ok (f a b)) old new (λ c n h. h) (λ c m. (b, m, refl)) (λ h. tt) x
+ran_into f s a b old new x = ran_alike s (into f s) a a (Ok b) (Ok (f a b)) old new (λ c n h. h) (λ c m. (b, m, refl)) (λ h. h) x
 
 pub ran_into_stop : {E A B C : Type 0} (f : A → B → C) (s : Stage E A B) (a : A) (e : Stop E) (old new : Told) → Ran s a (Err e) old new → Ran (into f s) a (Err e) old new
 ran_into_stop {E} {A} {B} {C} f s a e old new x = ran_alike s (into f s) a a (Err e) (Err e) old new (λ c n h. h) (meets_into f s a e) (fault_of B C old new e) x
@@ -301,8 +298,8 @@ answer_refuses memory f s a r e k is other k_is h = of (subst (Answers memory s 
     of (inr r) = λ c. (e, r c, k_is)
 
 -- where memory runs out in the end, there is no reason to give
-pub ran_memory : {E A B : Type 0} (s : Stage E A B) (a : A) (r : Result B (Stop E)) (old new : Told) → Ran s a r old new → Ran s a (Err stops.Memory) old new
-ran_memory s a r old new x = ran_alike s s a a r (Err stops.Memory) old new (λ c n h. h) (λ c m. tt) (λ h. tt) x
+pub ran_memory : {E A B : Type 0} (s : Stage E A B) (a : A) (b : B) (old new : Told) → Ran s a (Ok b) old new → Ran s a (Err stops.Memory) old new
+ran_memory s a b old new x = ran_alike s s a a (Ok b) (Err stops.Memory) old new (λ c n h. h) (λ c m. tt) (λ h. h) x
 
 -- ---- calls with a word of their own for want of memory
 
@@ -341,15 +338,15 @@ ran_saying {E} {F} {A} {B} f s a r q old new is x =
     meets_said (Err stops.Memory) c m = tt
 
     failed_said : (r : Result B (Stop E)) → FailedAt old new r → FailedAt old new (said f r)
-    failed_said (Ok b) h = tt
-    failed_said (Err (stops.Refused e)) h = tt
+    failed_said (Ok b) h = h
+    failed_said (Err (stops.Refused e)) h = h
     failed_said (Err (stops.Failed n)) h = h
-    failed_said (Err stops.Memory) h = tt
+    failed_said (Err stops.Memory) h = h
 
 -- ---- what is passed becomes one of these
 
 pub ran_become : {E A B C : Type 0} (R : A → B → C → Type 0) (s : Stage E A B) (a : A) (b : B) (x : C) (old new : Told) → R a b x → Ran s a (Ok b) old new → Ran (become R s) a (Ok x) old new
-ran_become R s a b x old new h ran = ran_alike s (become R s) a a (Ok b) (Ok x) old new (λ c n k. k) (λ c m. (b, m, h)) (λ k. tt) ran
+ran_become R s a b x old new h ran = ran_alike s (become R s) a a (Ok b) (Ok x) old new (λ c n k. k) (λ c m. (b, m, h)) (λ k. k) ran
 
 pub gives_become : {E A B C : Type 0} (R : A → B → C → Type 0) (s : Stage E A B) (a : A) (b : B) (x : C) → R a b x → Gives s a (Ok b) → Gives (become R s) a (Ok x)
 gives_become R s a b x h g = λ c. (b, g c, h)

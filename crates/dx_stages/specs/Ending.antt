@@ -51,6 +51,11 @@ abbrev pub StoppedBy : List Entry → List ℕ → Written → Written → Write
 StoppedBy files text old new (write_stops.Failed count) = WroteFirst files text count old new
 StoppedBy files text old new write_stops.OutOfMemory = (count : ℕ) × WroteFirst files text count old new
 
+-- a write fault was counted where one is told, and else none
+abbrev pub CountedAt : ℕ → ℕ → WriteStop → Type 0
+CountedAt old new (write_stops.Failed count) = Rose old new
+CountedAt old new write_stops.OutOfMemory = new ≡ old
+
 -- ---- how a run ends
 
 -- In a world, of what it was given: why it ended so, and what it leaves.
@@ -61,13 +66,13 @@ Ends {A} {D} {R} s c a old new (endeds.ReadFault n) = s.asks c a n × (new ≡ o
 Ends {A} {D} {R} s c a old new (endeds.WriteFault count) = (p : Planned D) × s.passes c a p × WroteFirst p.files p.text count old new
 Ends {A} {D} {R} s c a old new endeds.Memory = (new ≡ old) ⊎ ((p : Planned D) × s.passes c a p × ((count : ℕ) × WroteFirst p.files p.text count old new))
 
--- a fault is answered where one was counted
+-- a fault is answered exactly where one was counted
 abbrev pub Counts : {D R : Type 0} → Told → Told → ℕ → ℕ → Ended D R → Type 0
-Counts old new writes writes' (endeds.Done d) = Unit {0}
-Counts old new writes writes' (endeds.Refused e) = Unit {0}
-Counts old new writes writes' (endeds.ReadFault n) = Rose old.faults new.faults × IfSome new.stopped (λ k. k ≡ n)
-Counts old new writes writes' (endeds.WriteFault count) = Rose writes writes'
-Counts old new writes writes' endeds.Memory = Unit {0}
+Counts old new writes writes' (endeds.Done d) = (new.faults ≡ old.faults) × (writes' ≡ writes)
+Counts old new writes writes' (endeds.Refused e) = (new.faults ≡ old.faults) × (writes' ≡ writes)
+Counts old new writes writes' (endeds.ReadFault n) = Rose old.faults new.faults × IfSome new.stopped (λ k. k ≡ n) × (writes' ≡ writes)
+Counts old new writes writes' (endeds.WriteFault count) = (new.faults ≡ old.faults) × Rose writes writes'
+Counts old new writes writes' endeds.Memory = (new.faults ≡ old.faults) × (writes' ≡ writes)
 
 -- an ending that nothing which is given or held rules out
 abbrev pub IsOutside : {D R : Type 0} → Ended D R → Type 0
@@ -94,9 +99,9 @@ pub record Runs {A D R : Type 0} (Alike : R → R → Type 0) (s : Stage R A (Pl
 
 -- how a plan was carried out
 pub data Carried {D R : Type 0} (r : Result (Planned D) (Stop R)) (before after : Written) (writes writes' : ℕ) (e : Ended D R) : Type 0 where
-  done_all : (p : Planned D) → r ≡ Ok p → e ≡ endeds.Done p.done → WroteAll p.files p.text before after → Carried r before after writes writes' e
+  done_all : (p : Planned D) → r ≡ Ok p → e ≡ endeds.Done p.done → WroteAll p.files p.text before after → writes' ≡ writes → Carried r before after writes writes' e
   done_some : (p : Planned D) (count : ℕ) → r ≡ Ok p → e ≡ endeds.WriteFault count → WroteFirst p.files p.text count before after → Rose writes writes' → Carried r before after writes writes' e
-  out_of_memory : (p : Planned D) (count : ℕ) → r ≡ Ok p → e ≡ endeds.Memory → WroteFirst p.files p.text count before after → Carried r before after writes writes' e
-  was_refused : (k : R) → r ≡ Err (stops.Refused k) → e ≡ endeds.Refused k → after ≡ before → Carried r before after writes writes' e
-  was_failed : (n : List ℕ) → r ≡ Err (stops.Failed n) → e ≡ endeds.ReadFault n → after ≡ before → Carried r before after writes writes' e
-  had_none : r ≡ Err stops.Memory → e ≡ endeds.Memory → after ≡ before → Carried r before after writes writes' e
+  out_of_memory : (p : Planned D) (count : ℕ) → r ≡ Ok p → e ≡ endeds.Memory → WroteFirst p.files p.text count before after → writes' ≡ writes → Carried r before after writes writes' e
+  was_refused : (k : R) → r ≡ Err (stops.Refused k) → e ≡ endeds.Refused k → after ≡ before → writes' ≡ writes → Carried r before after writes writes' e
+  was_failed : (n : List ℕ) → r ≡ Err (stops.Failed n) → e ≡ endeds.ReadFault n → after ≡ before → writes' ≡ writes → Carried r before after writes writes' e
+  had_none : r ≡ Err stops.Memory → e ≡ endeds.Memory → after ≡ before → writes' ≡ writes → Carried r before after writes writes' e

@@ -27,12 +27,12 @@ pub record Told : Type 0 where
   pub faults : ℕ
   pub stopped : Option (List ℕ)
 
--- a read failed at this name
+-- a read failed at this name, and else none failed
 abbrev pub FailedAt : {E B : Type 0} → Told → Told → Result B (Stop E) → Type 0
-FailedAt old new (Ok b) = Unit {0}
-FailedAt old new (Err (stops.Refused e)) = Unit {0}
+FailedAt old new (Ok b) = new.faults ≡ old.faults
+FailedAt old new (Err (stops.Refused e)) = new.faults ≡ old.faults
 FailedAt old new (Err (stops.Failed n)) = Rose old.faults new.faults × IfSome new.stopped (λ k. k ≡ n)
-FailedAt old new (Err stops.Memory) = Unit {0}
+FailedAt old new (Err stops.Memory) = new.faults ≡ old.faults
 
 -- These files were found under names that the stage asks for, each once; in each world in which they are so the result is the stage's.
 pub record Finds {E A B : Type 0} (s : Stage E A B) (holds : Option Held) (a : A) (r : Result B (Stop E)) : Type 0 where
@@ -42,7 +42,7 @@ pub record Finds {E A B : Type 0} (s : Stage E A B) (holds : Option Held) (a : A
   pub asked : (c : World) → Agrees c found → (n : List ℕ) → Has n found → s.asks c a n
   pub meets : (c : World) → Agrees c found → Meets s c a r
 
--- the inputs hold what they held, and a fault is answered where one was counted
+-- the inputs hold what they held, and a fault is answered exactly where one was counted
 pub record Ran {E A B : Type 0} (s : Stage E A B) (a : A) (r : Result B (Stop E)) (old new : Told) : Type 0 where
   pub kept : new.holds ≡ old.holds
   pub counted : old.faults ≤ new.faults
