@@ -1,5 +1,5 @@
 -- The scripts of small rules, computed, and steps that don't fit.
-use Rattle.std.proofs.Common.{◌≡◌, true, false, List, [], ◌∷◌, refl, arith}
+use Rattle.std.proofs.Common.{◌≡◌, ℕ, ◌<◌, true, false, List, [], ◌∷◌, get_or, refl, sym, ap, ◌∙◌, arith}
 use Rattle.dx_model.specs.declared.rules.Cell.TheVariants.{Var, Ex, Lit}
 use Rattle.dx_model.specs.declared.rules.Rule.{Rule}
 use Rattle.std.specs.Prelude.{codes}
@@ -12,8 +12,8 @@ use Rattle.dx_script.specs.declared.form.Select.TheVariants.{Cell as Shown, Call
 use Rattle.dx_script.specs.declared.form.Out.TheVariants.{Column, Literal, Skolem}
 use Rattle.dx_script.specs.declared.form.Test.TheVariants.{Columns}
 use Rattle.dx_script.specs.declared.form.Unless.{Unless}
-use Rattle.dx_ports.specs.Members.{◌∈◌, here, there}
-use Rattle.dx_script.specs.Fits.{CellFits, FitsScript, HasColumn, InsertFits, KeepFits, MatchFits, ReadsKept, SelectFits, TestFits, UnlessFits}
+use Rattle.dx_ports.specs.Members.{here, there}
+use Rattle.dx_script.specs.Fits.{CellFits, FitsScript, InsertFits, KeepFits, MatchFits, ReadsKept, SelectFits, TestFits, UnlessFits}
 use Rattle.dx_script.specs.Generated.{equals, plain_steps, spots}
 use Rattle.dx_script.specs.Rewritten.{rewritten_steps, unless_parts}
 
@@ -107,9 +107,14 @@ no_table_is_created h = absurd (cc h.creates)
 no_alias : ¬ CellFits source (codes "A" ∷ []) (record { alias = 1; column = codes "a" })
 no_alias h = omega (arith, h.alias)
 
+other_name : (name : List ℕ) (first : ℕ) → name ≡ codes "c" → get_or name 0 0 ≡ first → first < 99 → ⊥
+other_name name first e f less =
+    let h : first ≡ 99 = sym f ∙ ap (λ (t : List ℕ). get_or t 0 0) e in
+    omega (arith, h)
+
 no_column : ¬ CellFits source (codes "A" ∷ []) (record { alias = 0; column = codes "c" })
 unfolding source
-no_column h = elim h.column [ here e ↦ absurd (cc e) | there m ↦ elim m [ here e ↦ absurd (cc e) | there n ↦ elim n [ ] ] ]
+no_column h = elim h.column [ here e ↦ other_name (codes "a") 97 e refl (omega arith) | there m ↦ elim m [ here e ↦ other_name (codes "b") 98 e refl (omega arith) | there n ↦ elim n [ ] ] ]
 
 -- a conversion of no cell that takes one
 too_few_cells : ¬ SelectFits source list (codes "A" ∷ []) (Call (codes "f") [])
@@ -155,8 +160,8 @@ too_few_columns : ¬ InsertFits target before before (codes "T") 0 false (Column
 unfolding target before
 too_few_columns h = omega (arith, h.width)
 
-kept_later : (steps : List Step) → ¬ ReadsKept steps [] 0 true
-kept_later steps h = elim h [ ]
+kept_later : (later : List Step) → ¬ ReadsKept later [] 0 true
+kept_later later h = elim h [ ]
 
 all_where_some_are_kept : (unless : List Unless) → ¬ ReadsKept (KeepRows 0 unless ∷ []) [] 0 false
 all_where_some_are_kept unless h = h (here refl)

@@ -1,11 +1,10 @@
 -- Tokens that can't be mistaken for each other.
-use Rattle.std.proofs.Common.{◌≡◌, ℕ, Bool, true, false, ◌&&◌, refl}
+use Rattle.std.proofs.Common.{◌≡◌, ℕ, Bool, false, ◌&&◌, refl}
 use Rattle.std.specs.Prelude.{nat_eq}
 use Rattle.std.proofs.lemmas.Bool.{and_parts}
 use Rattle.dx_grammar.specs.Numbers.{has_number}
 use Rattle.dx_grammar.proofs.Verdicts.{AreApart}
 use Rattle.dx_grammar.proofs.Knowing.{same_if}
-use Rattle.dx_script_tokens.specs.declared.scanner.ScriptToken.{ScriptToken}
 use Rattle.dx_script_tokens.specs.declared.kinds.ScriptKind.{ScriptKind}
 use Rattle.dx_script_tokens.specs.Kinds.{rank}
 use Rattle.dx_script_text.specs.Grammar.{of_kind, number}
