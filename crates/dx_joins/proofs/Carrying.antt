@@ -5,12 +5,12 @@ use Rattle.std.specs.declared.alloc.AllocError.{AllocError}
 use Rattle.std.proofs.lemmas.List.{length-append, drop_more}
 use Rattle.dx_ports.specs.Members.{◌∈◌, ◌⊆◌, here, there, Each, Distinct}
 use Rattle.dx_ports.proofs.Members.{in_left, in_right, from_append}
-use Rattle.dx_instance.specs.Cells.{NumberTable, NumbersAscend}
+use Rattle.dx_instance.specs.Cells.{NumberTable}
 use Rattle.dx_instance.specs.Shown.{numbers_of_table}
 use Rattle.dx_joins.specs.declared.pattern.Pattern.{Pattern}
 use Rattle.dx_joins.specs.declared.premise.Partial.{Partial}
 use Rattle.dx_joins.specs.declared.plan.Plan.{Plan}
-use Rattle.dx_joins.specs.Collecting.{Collection, Collects, Gains, MoreThan}
+use Rattle.dx_joins.specs.Collecting.{AreThose, Collection, Collects, Gains, MoreThan}
 use Rattle.dx_joins.specs.Joining.{AreMarked, Joined, Says, Tells, variables_of}
 use Rattle.dx_joins.specs.Planning.{Carries, IsNeeded, IsTold, Pairs, PairsWith, StepsTo, Told}
 use Rattle.dx_joins.proofs.Collections.{more_same}
@@ -34,19 +34,19 @@ step_full start most P Q e n s m =
     subst (λ (k : ℕ). MoreThan k Q) e (more_same start.most (λ t. (t ∈ start.rows) ⊎ P t) Q (λ t h. elim h [ inl l ↦ nothing (rw n at l) | inr p ↦ s t p ]) m)
 
 pub step_done : (result : Result (Option NumberTable) AllocError) (start new : Collection) (most width : ℕ) (P Q : List ℕ → Type 0) → start.most ≡ most → start.width ≡ width → start.rows ≡ [] → ((t : List ℕ) → P t ↔ Q t) → Gains start new P
-    → IfOk result (λ o. MatchOption o (MoreThan new.most (λ t. t ∈ new.rows)) (λ r. (r.width ≡ new.width) × NumbersAscend r.rows × ((t : List ℕ) → (t ∈ r.rows) ↔ (t ∈ new.rows)) × (length r.rows ≤ new.most)))
-    → IfOk result (λ o. MatchOption o (MoreThan most Q) (λ r. (r.width ≡ width) × NumbersAscend r.rows × ((t : List ℕ) → (t ∈ r.rows) ↔ Q t)))
+    → IfOk result (λ o. MatchOption o (MoreThan new.most (λ t. t ∈ new.rows)) (λ r. AreThose new.width (λ t. t ∈ new.rows) r × (length r.rows ≤ new.most)))
+    → IfOk result (λ o. MatchOption o (MoreThan most Q) (AreThose width Q))
 step_done (Err e) start new most width P Q a b n s g k = tt
 step_done (Ok None) start new most width P Q a b n s g k =
     subst (λ (m : ℕ). MoreThan m Q) (g.most ∙ a) (more_same new.most (λ t. t ∈ new.rows) Q (λ t h. elim ((g.exact t).0 h) [ inl l ↦ nothing (rw n at l) | inr p ↦ (s t).0 p ]) k)
-step_done (Ok (Some r)) start new most width P Q a b n s g k = (
-  k.0 ∙ g.width ∙ b,
-  k.1,
-  λ t. (
-    (λ m. elim ((g.exact t).0 ((k.2 t).0 m)) [ inl l ↦ nothing (rw n at l) | inr p ↦ (s t).0 p ]),
-    (λ q. (k.2 t).1 ((g.exact t).1 (inr ((s t).1 q)))),
-  ),
-)
+step_done (Ok (Some r)) start new most width P Q a b n s g k = record {
+  width = k.0.width ∙ g.width ∙ b;
+  ascend = k.0.ascend;
+  exact = λ t. (
+    (λ m. elim ((g.exact t).0 ((k.0.exact t).0 m)) [ inl l ↦ nothing (rw n at l) | inr p ↦ (s t).0 p ]),
+    (λ q. (k.0.exact t).1 ((g.exact t).1 (inr ((s t).1 q)))),
+  );
+}
 
 shared_there : (T : List NumberTable) (marks : List Bool) (done later : List Pattern) (wanted : List ℕ) (p : Pattern) (q : Partial) → Carries T marks done (p ∷ later) wanted q
     → (x : ℕ) → x ∈ variables_of done → x ∈ p.variables.items → x ∈ q.variables.items
@@ -119,11 +119,11 @@ module _ (T : List NumberTable) (marks : List Bool) (patterns : List Pattern) (i
   room s = let r = split_length patterns i p h e in omega (arith, r, c.few, s)
 
 pub told_from : (T : List NumberTable) (marks : List Bool) (patterns : List Pattern) (shown : List ℕ) (most : ℕ) (Q : List ℕ → Type 0) (result : Result (Option NumberTable) AllocError) → ((t : List ℕ) → Q t ↔ IsTold T marks patterns shown t)
-    → IfOk result (λ o. MatchOption o (MoreThan most Q) (λ r. (r.width ≡ length shown) × NumbersAscend r.rows × ((t : List ℕ) → (t ∈ r.rows) ↔ Q t)))
+    → IfOk result (λ o. MatchOption o (MoreThan most Q) (AreThose (length shown) Q))
     → IfOk result (λ o. MatchOption o (MoreThan most (IsTold T marks patterns shown)) (λ r. Told T marks patterns shown r))
 told_from T marks patterns shown most Q (Err e) s k = tt
 told_from T marks patterns shown most Q (Ok None) s k = more_same most Q (IsTold T marks patterns shown) (λ t. (s t).0) k
-told_from T marks patterns shown most Q (Ok (Some r)) s k = record { width = k.0; ascend = k.1; exact = λ t. ((λ m. (s t).0 ((k.2 t).0 m)), (λ q. (k.2 t).1 ((s t).1 q))) }
+told_from T marks patterns shown most Q (Ok (Some r)) s k = record { width = k.width; ascend = k.ascend; exact = λ t. ((λ m. (s t).0 ((k.exact t).0 m)), (λ q. (k.exact t).1 ((s t).1 q))) }
 
 pub some_length : (ps : List Pattern) → ¬ (ps ≡ []) → 0 < length ps
 some_length [] n = absurd (n refl)

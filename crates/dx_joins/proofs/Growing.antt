@@ -18,7 +18,7 @@ use Rattle.dx_model.specs.Rules.{text_of}
 use Rattle.dx_instance.specs.Numbers.{AreApart, Extends, value_of}
 use Rattle.dx_instance.specs.Cells.{NumberTable, NumbersAscend, numbers_at}
 use Rattle.dx_instance.proofs.ShownFacts.{grown_value, longer}
-use Rattle.dx_joins.specs.Collecting.{Collection, Collects, Gains, MoreThan}
+use Rattle.dx_joins.specs.Collecting.{AreThose, Collection, Collects, Gains, MoreThan}
 use Rattle.dx_joins.specs.Planning.{place_of}
 use Rattle.dx_joins.specs.Shown.{AreTexts, MoreTuples, StandFor, is_text, text_in, texts_of}
 use Rattle.dx_joins.specs.Derivations.{DerivesTo, GivenBy, derived_texts, given_to}
@@ -147,7 +147,7 @@ module _ (convert : Conversions) (wanted : List ℕ) (derived : List Derived) (f
       (λ t p. (numbers_at rows p.0, in_at rows p.0 [] (omega (arith, p.1, h)), p.2)) (numbers_at rows q, in_at rows q [] h, is) st
 
   pub upto_all : (result : Result (Option NumberTable) AllocError) (S : List Value) (out : Collection) (q most : ℕ) → q ≡ length rows → out.most ≡ most → out.width ≡ length shown → AreApart S → Standing S out (First q)
-      → IfOk result (λ o. MatchOption o (MoreThan out.most (λ t. t ∈ out.rows)) (λ r. (r.width ≡ out.width) × NumbersAscend r.rows × ((t : List ℕ) → (t ∈ r.rows) ↔ (t ∈ out.rows)) × (length r.rows ≤ out.most)))
+      → IfOk result (λ o. MatchOption o (MoreThan out.most (λ t. t ∈ out.rows)) (λ r. AreThose out.width (λ t. t ∈ out.rows) r × (length r.rows ≤ out.most)))
       → IfOk result (λ o. MatchOption o (MoreTuples most Whole) (StandFor (length shown) Whole S))
   upto_all (Err x) S out q most h m w apart st k = tt
   upto_all (Ok None) S out q most h m w apart st k =
@@ -165,18 +165,18 @@ module _ (convert : Conversions) (wanted : List ℕ) (derived : List Derived) (f
       whole : (q : ℕ) → q ≡ length rows → (t : Tuple) → First q t → Whole t
       whole q h t p = (numbers_at rows p.0, in_at rows p.0 [] (omega (arith, p.1, h)), p.2)
   upto_all (Ok (Some r)) S out q most h m w apart st k = record {
-    width = k.0 ∙ w;
-    ascend = k.1;
-    texts = λ x i. st.texts x ((k.2 x).0 i);
+    width = k.0.width ∙ w;
+    ascend = k.0.ascend;
+    texts = λ x i. st.texts x ((k.0.exact x).0 i);
     exact = λ t. (
       (λ i. let z = from_map (texts_of S) r.rows i in
-          let p = (st.exact t).0 (subst (λ (u : Tuple). u ∈ map (texts_of S) out.rows) z.2 (in_map (texts_of S) ((k.2 z.0).0 z.1))) in
+          let p = (st.exact t).0 (subst (λ (u : Tuple). u ∈ map (texts_of S) out.rows) z.2 (in_map (texts_of S) ((k.0.exact z.0).0 z.1))) in
           (numbers_at rows p.0, in_at rows p.0 [] (omega (arith, p.1, h)), p.2)),
       (λ g. let a = contains_from_in g.1 in
           let at_row : numbers_at rows a.0 ≡ g.0 = get_or_default rows a.0 [] g.0 a.1 ∙ a.2 in
           let p : First q t = (a.0, omega (arith, a.1, h), g.2 ∙ ap (λ (x : List ℕ). given_to convert wanted derived first shown (texts_of S0 x)) (sym at_row)) in
           let z = from_map (texts_of S) out.rows ((st.exact t).1 p) in
-          subst (λ (u : Tuple). u ∈ map (texts_of S) r.rows) z.2 (in_map (texts_of S) ((k.2 z.0).1 z.1))),
+          subst (λ (u : Tuple). u ∈ map (texts_of S) r.rows) z.2 (in_map (texts_of S) ((k.0.exact z.0).1 z.1))),
     );
   }
 

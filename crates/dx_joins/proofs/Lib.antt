@@ -4,6 +4,7 @@ pub mod Carrying
 mod Collections
 mod Derived
 pub mod Growing
+mod Knowing
 mod Linking
 mod Loops
 mod Pairing

@@ -1,7 +1,7 @@
 -- Rows that are collected, up to a number.
 use Rattle.std.specs.Prelude.{◌≡◌, ◌↔◌, ◌⊎◌, ◌<◌, ◌≤◌, ◌^◌, ℕ, Bool, MatchBool, List, length, take}
 use Rattle.dx_ports.specs.Members.{◌∈◌, Each}
-use Rattle.dx_instance.specs.Cells.{NumbersAscend}
+use Rattle.dx_instance.specs.Cells.{NumberTable, NumbersAscend}
 
 -- rows of one width, of which no more than so many distinct ones are wanted
 pub record Collection : Type 0 where
@@ -22,6 +22,12 @@ pub record MoreThan (most : ℕ) (P : List ℕ → Type 0) : Type 0 where
   pub each : Each some P
   pub more : most < length some
   pub few : length some < 2 ^ 32
+
+-- the rows are those that have P, ascending and each once
+pub record AreThose (columns : ℕ) (P : List ℕ → Type 0) (t : NumberTable) : Type 0 where
+  pub width : t.width ≡ columns
+  pub ascend : NumbersAscend t.rows
+  pub exact : (r : List ℕ) → (r ∈ t.rows) ↔ P r
 
 -- there are more rows than are wanted, or else the collection gains those that have P
 abbrev pub Collects : Bool → Collection → Collection → (List ℕ → Type 0) → Type 0

@@ -9,9 +9,17 @@ use Rattle.dx_model.specs.declared.rules.Derived.{Derived}
 use Rattle.dx_model.specs.Values.{Conversions, Text, Tuple}
 use Rattle.dx_model.specs.Rules.{text_of}
 
+-- the text of a derived variable, if these variables have the texts of a tuple
+abbrev pub derived_text : Conversions → List ℕ → Derived → Tuple → Text
+derived_text convert names e t = convert e.code (map (text_of names t) e.args)
+
 -- the texts of derived variables, if these variables have the texts of a tuple
 abbrev pub derived_texts : Conversions → List ℕ → List Derived → Tuple → Tuple
-derived_texts convert names derived t = map (λ (e : Derived). convert e.code (map (text_of names t) e.args)) derived
+derived_texts convert names derived t = map (λ (e : Derived). derived_text convert names e t) derived
+
+-- a tuple, and after it the texts of derived variables
+abbrev pub with_derived : Conversions → List ℕ → List Derived → Tuple → Tuple
+with_derived convert names derived t = t ++ derived_texts convert names derived t
 
 -- the variable is an argument of a derived variable, or is shown
 abbrev pub IsWanted : List Derived → List ℕ → ℕ → Type 0
@@ -19,7 +27,7 @@ IsWanted derived shown x = (x ∈ shown) ⊎ ((e : Derived) × (e ∈ derived) �
 
 -- what a tuple and its derived variables, which are numbered from `first` on, give to the shown variables
 abbrev pub given_to : Conversions → List ℕ → List Derived → ℕ → List ℕ → Tuple → Tuple
-given_to convert wanted derived first shown u = map (text_of (wanted ++ range_with_len first (length derived)) (u ++ derived_texts convert wanted derived u)) shown
+given_to convert wanted derived first shown u = map (text_of (wanted ++ range_with_len first (length derived)) (with_derived convert wanted derived u)) shown
 
 -- one of the rows gives t
 abbrev pub GivenBy : Conversions → List ℕ → List Derived → ℕ → List ℕ → List Value → List (List ℕ) → Tuple → Type 0
@@ -29,5 +37,5 @@ GivenBy convert wanted derived first shown symbols rows t = (r : List ℕ) × (r
 pub record DerivesTo (convert : Conversions) (wanted : List ℕ) (derived : List Derived) (places : List ℕ) (old new : List Value) (row : List ℕ) (full : Bool) (before after : Collection) : Type 0 where
   pub got : List ℕ
   pub texts : AreTexts new got
-  pub shown : texts_of new got ≡ map (λ i. slice_index_or (texts_of old row ++ derived_texts convert wanted derived (texts_of old row)) i []) places
+  pub shown : texts_of new got ≡ map (λ i. slice_index_or (with_derived convert wanted derived (texts_of old row)) i []) places
   pub collects : Collects full before after (λ t. t ≡ got)

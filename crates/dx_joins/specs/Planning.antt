@@ -3,9 +3,10 @@ use Rattle.std.specs.Prelude.{◌≡◌, ◌↔◌, ◌⊎◌, ◌<◌, ◌≤�
 use Rattle.dx_ports.specs.Members.{◌∈◌, ◌⊆◌, Distinct, Each}
 use Rattle.dx_joins.specs.declared.plan.Plan.{Plan}
 use Rattle.dx_joins.specs.declared.pattern.Pattern.{Pattern}
-use Rattle.dx_instance.specs.Cells.{NumberTable, NumbersAscend}
+use Rattle.dx_instance.specs.Cells.{NumberTable}
 use Rattle.dx_instance.specs.Shown.{numbers_of_table}
 use Rattle.dx_joins.specs.declared.premise.Partial.{Partial}
+use Rattle.dx_joins.specs.Collecting.{AreThose}
 use Rattle.dx_joins.specs.Joining.{AreMarked, Joined, Says, Tells, variables_of}
 
 -- the place where x stands first
@@ -32,6 +33,14 @@ pub record Pairs (p : Plan) (marks : List Bool) (r s t : List ℕ) : Type 0 wher
 abbrev pub PairsWith : Plan → List Bool → List (List ℕ) → List ℕ → List ℕ → Type 0
 PairsWith p marks rows r t = (s : List ℕ) × (s ∈ rows) × Pairs p marks r s t
 
+-- t comes of r and a row of the table
+abbrev pub PairsIn : Plan → List Bool → List NumberTable → ℕ → List ℕ → List ℕ → Type 0
+PairsIn p marks tables table r t = PairsWith p marks (numbers_of_table tables table).rows r t
+
+-- t comes of one of the rows and a row of the table
+abbrev pub PairsOf : Plan → List Bool → List NumberTable → ℕ → List (List ℕ) → List ℕ → Type 0
+PairsOf p marks tables table rows t = (r : List ℕ) × (r ∈ rows) × PairsIn p marks tables table r t
+
 -- a later pattern has the variable, or it is wanted in the end
 abbrev pub IsNeeded : List Pattern → List ℕ → ℕ → Type 0
 IsNeeded later wanted x = (x ∈ variables_of later) ⊎ (x ∈ wanted)
@@ -54,15 +63,18 @@ pub record Carries (tables : List NumberTable) (marks : List Bool) (done later :
   pub wide : p.rows.width ≡ length p.variables.items
   pub few : length p.variables.items ≤ length (variables_of done)
 
+-- with one pattern more done, the new partial matches are those of the patterns that are done
+abbrev pub CarriesOn : List NumberTable → List Bool → Pattern → List Pattern → List ℕ → Partial → Partial → Type 0
+CarriesOn tables marks pattern later wanted old new =
+    (done : List Pattern) → Carries tables marks done (pattern ∷ later) wanted old → Carries tables marks (done ++ pattern ∷ []) later wanted new
+
 -- a match of the patterns gives t to the variables
 abbrev pub IsTold : List NumberTable → List Bool → List Pattern → List ℕ → List ℕ → Type 0
 IsTold tables marks patterns shown t = (numbers : ℕ → ℕ) × Says tables marks patterns numbers × (t ≡ map numbers shown)
 
 -- the rows are what the matches of the patterns give to the variables
-pub record Told (tables : List NumberTable) (marks : List Bool) (patterns : List Pattern) (shown : List ℕ) (t : NumberTable) : Type 0 where
-  pub width : t.width ≡ length shown
-  pub ascend : NumbersAscend t.rows
-  pub exact : (r : List ℕ) → (r ∈ t.rows) ↔ IsTold tables marks patterns shown r
+abbrev pub Told : List NumberTable → List Bool → List Pattern → List ℕ → NumberTable → Type 0
+Told tables marks patterns shown t = AreThose (length shown) (IsTold tables marks patterns shown) t
 
 -- x is added to distinct numbers, if it is not there
 pub record AddsOnce (old new : List ℕ) (x : ℕ) : Type 0 where

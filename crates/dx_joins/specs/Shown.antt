@@ -13,6 +13,8 @@ use Rattle.dx_model.specs.Rules.{Derive, after_cells, cells_of, premise_fact}
 use Rattle.dx_model.specs.Fitting.{AtomsFitWidths, IsVariable, variable_in}
 use Rattle.dx_instance.specs.Numbers.{value_of}
 use Rattle.dx_instance.specs.Cells.{NumberTable, NumbersAscend}
+use Rattle.dx_instance.specs.Shown.{Numbered, shown_tables}
+use Rattle.dx_instance.specs.Stored.{facts}
 use Rattle.dx_joins.specs.declared.pattern.Pattern.{Pattern}
 
 -- the text of a value, which a null lacks
@@ -56,6 +58,10 @@ pub record MoreTuples (most : ℕ) (P : Tuple → Type 0) : Type 0 where
   pub each : Each tuples P
   pub more : most < length tuples
   pub few : length tuples < 2 ^ 32
+
+-- the facts that tables of numbers show
+abbrev pub facts_in : Numbered → List Fact
+facts_in source = facts (shown_tables source.symbols source.tables)
 
 -- what is asked of a premise, derived variables and the variables to be shown: the premise has variables alone, of which each
 -- one below their number stands there; conversions take variables of the premise; and no other variables are shown

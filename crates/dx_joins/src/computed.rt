@@ -10,7 +10,7 @@ ghost use Rattle.dx_funcs.specs.Serving.{Serves, offered};
 ghost use Rattle.dx_instance.specs.Numbers.{AreApart, Extends, value_of};
 ghost use Rattle.dx_instance.specs.Shown.{AreBelow};
 ghost use Rattle.dx_joins.specs.Shown.{AreTexts, text_in, texts_of};
-ghost use Rattle.dx_joins.specs.Derivations.{derived_texts};
+ghost use Rattle.dx_joins.specs.Derivations.{derived_text, with_derived};
 
 use crate::plan::place;
 use dx_funcs::{Host, Meaning};
@@ -68,7 +68,8 @@ fn derived_number<F: Fn(u32, &Items<Text>) -> Result<Text, AllocError>, M: Meani
     ensures grows { Extends symbols.old symbols.new }
     ensures apart { AreApart symbols.new }
     ensures within { IfOk result (λ n. n < length symbols.new) }
-    ensures value { IfOk result (λ n. value_of symbols.new n ≡ Const (M.apply derived.now.code (map (text_of names.now (texts_of symbols.old row.now)) derived.now.args))) }
+    ensures value { IfOk result (λ n. value_of symbols.new n
+        ≡ Const (derived_text M.apply names.now derived.now (texts_of symbols.old row.now))) }
 {
     let args = texts_for(alloc, names, row, derived.args.items(), symbols)?;
     let text = host.call(derived.code, &args)?;
@@ -95,7 +96,8 @@ pub(crate) fn derive<F: Fn(u32, &Items<Text>) -> Result<Text, AllocError>, M: Me
     ensures grows { Extends symbols.old symbols.new }
     ensures apart { AreApart symbols.new }
     ensures texts { OnOk result (AreTexts symbols.new buffer.new.items) }
-    ensures shown { OnOk result (texts_of symbols.new buffer.new.items ≡ texts_of symbols.old row.now ++ derived_texts M.apply names.now derived.now (texts_of symbols.old row.now)) }
+    ensures shown { OnOk result (texts_of symbols.new buffer.new.items
+        ≡ with_derived M.apply names.now derived.now (texts_of symbols.old row.now)) }
 {
     buffer.clear();
     buffer.extend_from_slice(row)?;

@@ -4,7 +4,7 @@ ghost use Rattle.dx_ports.specs.Members.{◌∈◌, Each};
 ghost use Rattle.dx_instance.specs.Shown.{AreBelow, numbers_of_table};
 ghost use Rattle.dx_joins.specs.Collecting.{Collects};
 ghost use Rattle.dx_joins.specs.Looking.{IsIndex, keys_of, numbers_in};
-ghost use Rattle.dx_joins.specs.Planning.{IsPlan, Pairs, PairsWith};
+ghost use Rattle.dx_joins.specs.Planning.{IsPlan, Pairs, PairsIn, PairsOf};
 
 use crate::collected::Collected;
 use crate::index::{Index, key_at};
@@ -31,7 +31,7 @@ fn join_row(
     requires left { length left.now ≡ length plan.now.left.items }
     requires right { (numbers_of_table source.now.tables table).width ≡ length plan.now.right.items }
     requires width { out.old.width ≡ length plan.now.kept.items }
-    ensures { IfOk result (λ full. Collects full out.old out.new (PairsWith plan.now marks.now (numbers_of_table source.now.tables table).rows left.now)) }
+    ensures { IfOk result (λ full. Collects full out.old out.new (PairsIn plan.now marks.now source.now.tables table left.now)) }
 {
     let count = source.count(table);
     let mut place = index.first(key_at(left, &plan.by_left));
@@ -61,7 +61,7 @@ fn join_all(
     requires left { length left.now ≡ length plan.now.left.items }
     requires right { (numbers_of_table source.now.tables table).width ≡ length plan.now.right.items }
     requires width { out.old.width ≡ length plan.now.kept.items }
-    ensures { IfOk result (λ full. Collects full out.old out.new (PairsWith plan.now marks.now (numbers_of_table source.now.tables table).rows left.now)) }
+    ensures { IfOk result (λ full. Collects full out.old out.new (PairsIn plan.now marks.now source.now.tables table left.now)) }
 {
     for place in 0..source.count(table) {
         let right = source.row(table, place);
@@ -88,8 +88,7 @@ fn join_indexed(
     requires left { rows.now.width ≡ length plan.now.left.items }
     requires right { (numbers_of_table source.now.tables table).width ≡ length plan.now.right.items }
     requires width { out.old.width ≡ length plan.now.kept.items }
-    ensures { IfOk result (λ full. Collects full out.old out.new
-        (λ t. (r : List ℕ) × (r ∈ rows.now.rows) × PairsWith plan.now marks.now (numbers_of_table source.now.tables table).rows r t)) }
+    ensures { IfOk result (λ full. Collects full out.old out.new (PairsOf plan.now marks.now source.now.tables table rows.now.rows)) }
 {
     let index = Index::build(alloc, source, table, &plan.by_right)?;
     let mut buffer = Vec::new(alloc);
@@ -118,8 +117,7 @@ fn join_crossed(
     requires left { rows.now.width ≡ length plan.now.left.items }
     requires right { (numbers_of_table source.now.tables table).width ≡ length plan.now.right.items }
     requires width { out.old.width ≡ length plan.now.kept.items }
-    ensures { IfOk result (λ full. Collects full out.old out.new
-        (λ t. (r : List ℕ) × (r ∈ rows.now.rows) × PairsWith plan.now marks.now (numbers_of_table source.now.tables table).rows r t)) }
+    ensures { IfOk result (λ full. Collects full out.old out.new (PairsOf plan.now marks.now source.now.tables table rows.now.rows)) }
 {
     let mut buffer = Vec::new(alloc);
     for place in 0..rows.count() {
@@ -147,8 +145,7 @@ pub(crate) fn join(
     requires left { rows.now.width ≡ length plan.now.left.items }
     requires right { (numbers_of_table source.now.tables table).width ≡ length plan.now.right.items }
     requires width { out.old.width ≡ length plan.now.kept.items }
-    ensures { IfOk result (λ full. Collects full out.old out.new
-        (λ t. (r : List ℕ) × (r ∈ rows.now.rows) × PairsWith plan.now marks.now (numbers_of_table source.now.tables table).rows r t)) }
+    ensures { IfOk result (λ full. Collects full out.old out.new (PairsOf plan.now marks.now source.now.tables table rows.now.rows)) }
 {
     if plan.by_right.is_empty() {
         join_crossed(alloc, plan, marks, source, table, rows, out)

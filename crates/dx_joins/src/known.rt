@@ -1,4 +1,9 @@
 // Which variables are known.
+ghost use Rattle.std.specs.Prelude.{◌↔◌, ◌<◌, ◌≤◌, ◌∷◌, [], ℕ, IfOk, IsTrue};
+ghost use Rattle.dx_ports.specs.Members.{Each};
+ghost use Rattle.dx_joins.specs.Joining.{variables_of};
+ghost use Rattle.dx_joins.specs.Knowing.{HasPlaces, IsKnown, IsMet, NowKnown};
+
 use crate::pattern::Pattern;
 use std::alloc::{AllocError, Global};
 
@@ -8,43 +13,83 @@ pub(crate) struct Known {
     marks: Vec<bool>,
 }
 
-// One more than the greatest variable of the patterns.
-fn after_all(patterns: &[Pattern]) -> usize {
-    let mut after = 0;
-    for pattern in patterns {
-        for variable in &pattern.variables {
-            after = after.max((*variable as usize).saturating_add(1));
-        }
+// The greater of two numbers.
+fn greater(a: usize, b: usize) -> usize
+    ensures first { a ≤ result }
+    ensures second { b ≤ result }
+{
+    if a < b { b } else { a }
+}
+
+// A number above these variables, and no less than another.
+fn above(least: usize, variables: &[u32]) -> usize
+    ensures least { least ≤ result }
+    ensures above { Each variables.now (λ x. x < result) }
+{
+    let mut above = least;
+    for variable in variables {
+        above = greater(above, *variable as usize + 1);
     }
-    after
+    above
+}
+
+// A number above all variables of the patterns.
+fn above_all(patterns: &[Pattern]) -> usize
+    ensures { Each (variables_of patterns.now) (λ x. x < result) }
+{
+    let mut all = 0;
+    for pattern in patterns {
+        all = above(all, &pattern.variables);
+    }
+    all
 }
 
 impl Known {
     /// None of the patterns' variables.
-    pub(crate) fn none(alloc: Global, patterns: &[Pattern]) -> Result<Known, AllocError> {
-        let mut marks = Vec::new(alloc);
-        for _variable in 0..after_all(patterns) {
-            marks.push(false)?;
-        }
+    pub(crate) fn none(alloc: Global, patterns: &[Pattern]) -> Result<Known, AllocError>
+        ensures none { IfOk result (λ known. (x : ℕ) → ¬ (IsKnown known x)) }
+        ensures places { IfOk result (λ known. HasPlaces known (variables_of patterns.now)) }
+    {
+        let marks = vec![in alloc; false; above_all(patterns)]?;
         Ok(Known { marks })
     }
 
+    // Whether the variable is known.
+    fn has(&self, variable: u32) -> bool
+        ensures { IsTrue result ↔ IsKnown self.now variable }
+    {
+        let place = variable as usize;
+        place < self.marks.len() && self.marks[place]
+    }
+
     /// Whether a variable of the pattern is known.
-    pub(crate) fn meets(&self, pattern: &Pattern) -> bool {
+    pub(crate) fn meets(&self, pattern: &Pattern) -> bool
+        ensures { IsTrue result ↔ IsMet self.now pattern.now }
+    {
         for variable in &pattern.variables {
-            if let Some(true) = self.marks.get(*variable as usize) {
+            if self.has(*variable) {
                 return true;
             }
         }
         false
     }
 
+    // Now the variable is known too, if there is a place for it.
+    fn mark(&mut self, variable: u32)
+        ensures { NowKnown self.old self.new (variable ∷ []) }
+    {
+        let place = variable as usize;
+        if place < self.marks.len() {
+            self.marks[place] = true;
+        }
+    }
+
     /// Now those of the pattern are known too.
-    pub(crate) fn add(&mut self, pattern: &Pattern) {
+    pub(crate) fn add(&mut self, pattern: &Pattern)
+        ensures { NowKnown self.old self.new pattern.now.variables.items }
+    {
         for variable in &pattern.variables {
-            if let Some(mark) = self.marks.get_mut(*variable as usize) {
-                *mark = true;
-            }
+            self.mark(*variable);
         }
     }
 }

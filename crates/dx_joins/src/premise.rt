@@ -1,12 +1,10 @@
 // The join of a premise, pattern by pattern.
 ghost use Rattle.std.specs.Prelude.{◌≡◌, ◌↔◌, ◌⊎◌, ◌<◌, ◌≤◌, ◌+◌, ◌-◌, ◌^◌, ◌++◌, ◌∷◌, [], ℕ, List, IfOk, OnOk, IsTrue, MatchOption, length, map};
 ghost use Rattle.dx_ports.specs.Members.{◌∈◌, ◌⊆◌, Distinct, Each};
-ghost use Rattle.dx_instance.specs.Cells.{NumbersAscend};
 ghost use Rattle.dx_instance.specs.Shown.{numbers_of_table};
-ghost use Rattle.dx_joins.specs.declared.pattern.Pattern.{Pattern as AnyPattern};
-ghost use Rattle.dx_joins.specs.Collecting.{MoreThan};
+ghost use Rattle.dx_joins.specs.Collecting.{AreThose, MoreThan};
 ghost use Rattle.dx_joins.specs.Joining.{Says, variables_of};
-ghost use Rattle.dx_joins.specs.Planning.{AddsOnce, Carries, FitPattern, IsNeeded, IsTold, StepsTo, Told};
+ghost use Rattle.dx_joins.specs.Planning.{AddsOnce, CarriesOn, FitPattern, IsNeeded, IsTold, StepsTo, Told};
 
 use crate::collected::Collected;
 use crate::join::join;
@@ -95,7 +93,7 @@ fn step(
     requires marks { length marks.now ≡ length source.now.symbols }
     ensures { IfOk result (λ o. MatchOption o
         (MoreThan most (StepsTo source.now.tables marks.now partial.now pattern.now kept.now))
-        (λ r. (r.width ≡ length kept.now) × NumbersAscend r.rows × ((t : List ℕ) → (t ∈ r.rows) ↔ StepsTo source.now.tables marks.now partial.now pattern.now kept.now t))) }
+        (AreThose (length kept.now) (StepsTo source.now.tables marks.now partial.now pattern.now kept.now))) }
 {
     let plan = Plan::build(alloc, &partial.variables, &pattern.variables, kept)?;
     let mut out = Collected::new(alloc, kept.len() as u32, most);
@@ -128,8 +126,7 @@ fn next(
     requires few { length partial.now.variables.items + length pattern.now.variables.items < 2 ^ 32 }
     requires fits { FitPattern source.now.tables pattern.now }
     requires marks { length marks.now ≡ length source.now.symbols }
-    ensures { IfOk result (λ p. (done : List AnyPattern) → Carries source.now.tables marks.now done (pattern.now ∷ later.now) wanted.now partial.now
-        → Carries source.now.tables marks.now (done ++ pattern.now ∷ []) later.now wanted.now p) }
+    ensures { IfOk result (CarriesOn source.now.tables marks.now pattern.now later.now wanted.now partial.now) }
 {
     let names = joined(alloc, &partial.variables, &pattern.variables)?;
     let kept = needed(alloc, &names, later, wanted)?;

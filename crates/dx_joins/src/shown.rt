@@ -7,10 +7,10 @@ ghost use Rattle.dx_model.specs.Rules.{after_cells, cells_of};
 ghost use Rattle.dx_funcs.specs.Offers.{IsListed};
 ghost use Rattle.dx_funcs.specs.Serving.{Serves, offered};
 ghost use Rattle.dx_instance.specs.Numbers.{AreApart, Extends};
-ghost use Rattle.dx_instance.specs.Stored.{facts, widths};
+ghost use Rattle.dx_instance.specs.Stored.{widths};
 ghost use Rattle.dx_instance.specs.Shown.{shown_tables};
 ghost use Rattle.dx_joins.specs.Collecting.{Collection};
-ghost use Rattle.dx_joins.specs.Shown.{AreTexts, FitsMatching, IsShown, MoreTuples, StandFor};
+ghost use Rattle.dx_joins.specs.Shown.{AreTexts, FitsMatching, IsShown, MoreTuples, StandFor, facts_in};
 ghost use Rattle.dx_joins.specs.Derivations.{DerivesTo, GivenBy, IsWanted};
 
 use crate::collected::Collected;
@@ -127,7 +127,8 @@ fn derive_row<F: Fn(u32, &Items<Text>) -> Result<Text, AllocError>, M: Meaning>(
     requires width { out.old.width ≡ length places.now }
     ensures grows { Extends symbols.old symbols.new }
     ensures apart { AreApart symbols.new }
-    ensures derives { IfOk result (λ full. DerivesTo M.apply wanted.now derived.now places.now symbols.old symbols.new row.now full out.old out.new) }
+    ensures derives { IfOk result (λ full.
+        DerivesTo M.apply wanted.now derived.now places.now symbols.old symbols.new row.now full out.old out.new) }
 {
     let mut buffer = Vec::new(alloc);
     let mut gathered = Vec::new(alloc);
@@ -208,8 +209,8 @@ pub fn shown_rows<F: Fn(u32, &Items<Text>) -> Result<Text, AllocError>, M: Meani
     ensures grows { Extends symbols.old symbols.new }
     ensures apart { AreApart symbols.new }
     ensures rows { IfOk result (λ o. MatchOption o
-        (MoreTuples most (IsShown M.apply premise.now derived.now (facts (shown_tables source.now.symbols source.now.tables)) shown.now))
-        (StandFor (length shown.now) (IsShown M.apply premise.now derived.now (facts (shown_tables source.now.symbols source.now.tables)) shown.now) symbols.new)) }
+        (MoreTuples most (IsShown M.apply premise.now derived.now (facts_in source.now) shown.now))
+        (StandFor (length shown.now) (IsShown M.apply premise.now derived.now (facts_in source.now) shown.now) symbols.new)) }
 {
     if derived.is_empty() {
         return premise_shown(alloc, premise, shown, source, most);

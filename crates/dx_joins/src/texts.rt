@@ -5,9 +5,9 @@ ghost use Rattle.dx_model.specs.Values.{Conversions};
 ghost use Rattle.dx_model.specs.Rules.{after_cells, cells_of};
 ghost use Rattle.dx_model.specs.Fitting.{variable_in};
 ghost use Rattle.dx_model.specs.declared.rules.Cell.TheVariants.{Var};
-ghost use Rattle.dx_instance.specs.Stored.{facts, widths};
+ghost use Rattle.dx_instance.specs.Stored.{widths};
 ghost use Rattle.dx_instance.specs.Shown.{PartsFit, shown_tables};
-ghost use Rattle.dx_joins.specs.Shown.{ArePatterns, FitsMatching, IsPattern, IsShown, MoreTuples, StandFor, is_text};
+ghost use Rattle.dx_joins.specs.Shown.{ArePatterns, FitsMatching, IsPattern, IsShown, MoreTuples, StandFor, facts_in, is_text};
 
 use crate::order::ordered_rows;
 use crate::pattern::Pattern;
@@ -81,8 +81,8 @@ pub(crate) fn premise_shown(
 ) -> Result<Option<Rows>, AllocError>
     requires fits { FitsMatching (widths (shown_tables source.now.symbols source.now.tables)) premise.now [] shown.now }
     ensures { (convert : Conversions) → IfOk result (λ o. MatchOption o
-        (MoreTuples most (IsShown convert premise.now [] (facts (shown_tables source.now.symbols source.now.tables)) shown.now))
-        (StandFor (length shown.now) (IsShown convert premise.now [] (facts (shown_tables source.now.symbols source.now.tables)) shown.now) source.now.symbols)) }
+        (MoreTuples most (IsShown convert premise.now [] (facts_in source.now) shown.now))
+        (StandFor (length shown.now) (IsShown convert premise.now [] (facts_in source.now) shown.now) source.now.symbols)) }
 {
     let patterns = patterns_of(alloc, premise)?;
     let marks = marks_of(alloc, source)?;

@@ -1,9 +1,8 @@
 use Rattle.std.proofs.Common.{refl, ◌≡◌, ◌∙◌, ◌<◌, ◌↔◌, ◌++◌, sym, ap, subst, arith, List, ℕ, length}
 use Rattle.std.proofs.lemmas.List.{length-append}
 use Rattle.dx_ports.specs.Members.{◌∈◌, ◌⊆◌}
-use Rattle.dx_instance.specs.Cells.{NumberTable, NumbersAscend}
 use Rattle.dx_joins.specs.declared.pattern.Pattern.{Pattern}
-use Rattle.dx_joins.specs.Collecting.{MoreThan}
+use Rattle.dx_joins.specs.Collecting.{AreThose, MoreThan}
 use Rattle.dx_joins.specs.Planning.{Carries, IsNeeded, StepsTo}
 use Rattle.dx_joins.proofs.Carrying.{carry_more, found, never}
 use Rattle.dx_joins.proofs.premise.next.Goals as goal
@@ -30,7 +29,7 @@ returns c = λ done k.
     let names = c.deref-3.ensures.value ∙ c.in_ok-names.ensures in
     let kept = c.in_ok-kept.ensures in
     let onto = c.deref-4.ensures.value in
-    let is = found c.in_ok-rows.field-0 c.in-Some.rows _ (λ (r : NumberTable). (r.width ≡ length c.deref-4.result.now) × NumbersAscend r.rows × ((t : List ℕ) → (t ∈ r.rows) ↔ StepsTo c.args.source.now.tables c.args.marks.now c.args.partial.now c.args.pattern.now c.deref-4.result.now t)) c.in-Some.is c.in_ok-rows.ensures in
-    let same = subst (λ (l : List ℕ). (t : List ℕ) → (t ∈ c.in-Some.rows.rows) ↔ StepsTo c.args.source.now.tables c.args.marks.now c.args.partial.now c.args.pattern.now l t) onto is.2 in
+    let is = found c.in_ok-rows.field-0 c.in-Some.rows _ (AreThose (length c.deref-4.result.now) (StepsTo c.args.source.now.tables c.args.marks.now c.args.partial.now c.args.pattern.now c.deref-4.result.now)) c.in-Some.is c.in_ok-rows.ensures in
+    let same = subst (λ (l : List ℕ). (t : List ℕ) → (t ∈ c.in-Some.rows.rows) ↔ StepsTo c.args.source.now.tables c.args.marks.now c.args.partial.now c.args.pattern.now l t) onto is.exact in
     carry_more c.args.source.now.tables c.args.marks.now done c.args.later.now c.args.wanted.now c.deref-3.result.now c.args.pattern.now c.args.partial.now (record { variables = c.in_ok-kept.kept; rows = c.in-Some.rows })
-    (names ∙ (ap (λ (l : List ℕ). l ++ c.deref-2.result.now) c.deref.ensures.value ∙ ap (λ (l : List ℕ). c.args.partial.now.variables.items ++ l) c.deref-2.ensures.value)) kept.some kept.all kept.once kept.few (is.0 ∙ ap length onto) same k
+    (names ∙ (ap (λ (l : List ℕ). l ++ c.deref-2.result.now) c.deref.ensures.value ∙ ap (λ (l : List ℕ). c.args.partial.now.variables.items ++ l) c.deref-2.ensures.value)) kept.some kept.all kept.once kept.few (is.width ∙ ap length onto) same k
