@@ -21,3 +21,4 @@ pub mod PartFacts
 pub mod HalfFacts
 pub mod TieFacts
 pub mod NoTexts
+pub mod ShortFacts

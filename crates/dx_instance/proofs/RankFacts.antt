@@ -17,7 +17,7 @@ use Rattle.dx_model.proofs.Orders.{value_total, value_exact}
 use Rattle.dx_ports.specs.Members.{Each, ◌∈◌}
 use Rattle.dx_ports.proofs.Members.{contains_from_in, in_from_contains}
 use Rattle.dx_instance.specs.Numbers.{AreApart, ValuesAscend, IsOrdering, value_of}
-use Rattle.dx_instance.specs.Keys.{AreSeconds, AreSorted, IsSmallValue, ValuesAreKeyed, places_of, value_key}
+use Rattle.dx_instance.specs.Keys.{AreSeconds, AreSorted, IsKeyed, IsSmallValue, NumbersAreKeyed, ValuesAreKeyed, places_of, value_key}
 use Rattle.dx_instance.specs.Ranks.{AreRanked}
 use Rattle.dx_instance.proofs.Equal.{value_eq, value_eq-Decides}
 use Rattle.dx_instance.proofs.NumberFacts.{value_same, self_equal}
@@ -195,3 +195,13 @@ each_below S ns s n m =
     let b = s.within c.0 c.1 in
     let e = get_or_default ns c.0 0 n c.1 ∙ c.2 in
     omega (arith, b, e)
+
+-- a sort keeps the keys of the numbers
+pub keys_moved : (S : List Value) (ks qs : List (ℕ × ℕ)) → ValuesAreKeyed S ks (length S) → IsPermutation ks qs → NumbersAreKeyed S qs
+keys_moved S ks qs keyed p k h = All-permutation (λ (q : ℕ × ℕ). IsKeyed (value_of S) value_key IsSmallValue q.1 q) ks qs p each k (0, 0) h
+  where
+    each : All (λ (q : ℕ × ℕ). IsKeyed (value_of S) value_key IsSmallValue q.1 q) ks
+    each i d b =
+        let one = keyed.all i (omega (arith, b, keyed.many)) in
+        let same = get_or_default ks i d (0, 0) b in
+        rw same (record { key_is = one.key_is ∙ ap (λ (n : ℕ). value_key (value_of S n)) (sym one.place_is); place_is = refl; small = subst (λ (n : ℕ). IsSmallValue (value_of S n)) (sym one.place_is) one.small })

@@ -78,6 +78,10 @@ RowsAreKeyed b n rows keys many = AreKeyed (numbers_at rows) (packed b n 0) (Are
 abbrev pub ValuesAreKeyed : List Value → List (ℕ × ℕ) → ℕ → Type 0
 ValuesAreKeyed symbols keys n = AreKeyed (value_of symbols) value_key IsSmallValue keys n
 
+-- the numbers of these keys have values of which they are the keys
+abbrev pub NumbersAreKeyed : List Value → List (ℕ × ℕ) → Type 0
+NumbersAreKeyed symbols keys = (k : ℕ) → k < length keys → IsKeyed (value_of symbols) value_key IsSmallValue (slice_index_or keys k (0, 0)).1 (slice_index_or keys k (0, 0))
+
 -- all numbers in the order of their values
 pub record AreSorted (symbols : List Value) (numbers : List ℕ) : Type 0 where
   pub many : length numbers ≡ length symbols

@@ -1,9 +1,11 @@
 // Values put in order, their texts in one buffer.
-ghost use Rattle.std.specs.Prelude.{◌≡◌, ◌≤◌, ◌+◌, ◌<◌, ◌^◌, ℕ, IfOk, OnOk, length, map, slice_index, slice_index_or, string_bytes, take, drop, ◌++◌};
+ghost use Rattle.std.specs.Prelude.{◌≡◌, ◌≤◌, ◌-◌, ◌<◌, ◌^◌, ℕ, IfOk, IsUtf8, OnOk, length, map, slice_index, slice_index_or, string_bytes, take, drop, ◌++◌};
+ghost use Rattle.std.specs.Int.{to_be_bytes, w64};
+ghost use Rattle.dx_model.specs.declared.values.Value.TheVariants.{Const};
 ghost use Rattle.dx_ports.specs.Members.{Each};
-ghost use Rattle.dx_instance.specs.Keys.{AreSeconds, AreSmall, AreSorted, IsSmallSecond, IsSmallValue, ValuesAreKeyed, packed, places_of, second_key, tie_cmp, value_key};
+ghost use Rattle.dx_instance.specs.Keys.{AreSeconds, AreSmall, AreSorted, IsSmallSecond, IsSmallValue, NumbersAreKeyed, ValuesAreKeyed, packed, places_of, second_key, tie_cmp, value_key};
 ghost use Rattle.dx_instance.specs.Numbers.{AreApart, IsOrdering, value_of};
-ghost use Rattle.dx_instance.specs.Ranks.{AreRanked, joined_texts, text_of};
+ghost use Rattle.dx_instance.specs.Ranks.{AreEnds, AreRanked, LiesIn, joined_texts, text_of};
 
 use crate::hints::hints_of;
 use crate::symbols::Symbols;
@@ -135,6 +137,7 @@ fn compare_ties(symbols: &Symbols, seconds: &[u64], blank: &Value, a: u32, b: u3
 // The numbers in the order of their values, with their keys.
 fn numbers_in_order(alloc: Global, symbols: &Symbols) -> Result<Vec<(u64, u32)>, AllocError>
     ensures sorted { IfOk result (λ keys. AreSorted symbols.now (places_of keys.items)) }
+    ensures keyed { IfOk result (λ keys. NumbersAreKeyed symbols.now keys.items) }
     ensures few { length symbols.now < 2 ^ 32 }
 {
     let blank = Value::Null(NullId {
@@ -165,76 +168,121 @@ fn ranks_of(alloc: Global, keys: &[(u64, u32)]) -> Result<Vec<u32>, AllocError>
     Ok(ranks)
 }
 
-// Puts the text of a value at the end of a buffer. A null has none.
-fn push_text(buffer: &mut String, value: &Value) -> Result<(), AllocError>
-    ensures { OnOk result (string_bytes buffer.new ≡ string_bytes buffer.old ++ text_of value.now) }
+// Puts the first bytes of a key at the end of a buffer, as many as the length says.
+fn push_short(buffer: &mut String, key: u64, length: usize) -> Result<(), AllocError>
+    requires { length ≤ 8 }
+    ensures { OnOk result (string_bytes buffer.new ≡ string_bytes buffer.old ++ take length (to_be_bytes w64 key)) }
 {
-    if let Value::Const(text) = value {
-        buffer.push_str(text.as_str())?;
+    let bytes = key.to_be_bytes();
+    match str::from_utf8(&bytes[..length]) {
+        Ok(short) => buffer.push_str(short),
+        // The bytes are those of a text and so UTF-8: the branch spares a proof of it.
+        Err(_) => Err(AllocError),
     }
-    Ok(())
 }
 
-// The texts of the values under these numbers, one after the other.
+// Puts a text at the end of a buffer. A short one is taken from its key and not read: where texts lie in another order,
+// to come to their bytes takes most of the time.
+fn push_constant(buffer: &mut String, text: &Text, key: u64) -> Result<(), AllocError>
+    requires key { key ≡ packed 256 8 0 text.now }
+    requires small { AreSmall 256 8 text.now }
+    ensures pushed { OnOk result (string_bytes buffer.new ≡ string_bytes buffer.old ++ text.now) }
+    ensures utf8 { IsUtf8 text.now }
+{
+    let length = text.bytes().len();
+    if length <= 8 {
+        return push_short(buffer, key, length);
+    }
+    buffer.push_str(text.as_str())
+}
+
+// Puts the text of a value with this key at the end of a buffer. A null has none.
+fn push_text(buffer: &mut String, value: &Value, key: u64) -> Result<(), AllocError>
+    requires key { key ≡ value_key value.now }
+    requires small { IsSmallValue value.now }
+    ensures pushed { OnOk result (string_bytes buffer.new ≡ string_bytes buffer.old ++ text_of value.now) }
+    ensures utf8 { IsUtf8 (text_of value.now) }
+{
+    match value {
+        Value::Const(text) => push_constant(buffer, text, key),
+        Value::Null(_) => Ok(()),
+    }
+}
+
+// The texts of the values under these numbers, one after the other, and where each ends.
 fn texts_in_order(
     alloc: Global,
     symbols: &Symbols,
     keys: &[(u64, u32)],
-) -> Result<String, AllocError>
-    requires { Each (places_of keys.now) (λ n. n < length symbols.now) }
-    ensures { IfOk result (λ buffer. string_bytes buffer ≡ joined_texts (map (value_of symbols.now) (places_of keys.now))) }
+) -> Result<(String, Vec<usize>), AllocError>
+    requires below { Each (places_of keys.now) (λ n. n < length symbols.now) }
+    requires keyed { NumbersAreKeyed symbols.now keys.now }
+    ensures texts { IfOk result (λ t. string_bytes t.0 ≡ joined_texts (map (value_of symbols.now) (places_of keys.now))) }
+    ensures ends { IfOk result (λ t. AreEnds symbols.now keys.now t.1.items (length keys.now)) }
 {
     let mut buffer = String::new(alloc);
+    let mut ends = Vec::with_capacity(alloc, keys.len())?;
     for key in keys {
-        push_text(&mut buffer, symbols.value(key.1 as u64))?;
+        push_text(&mut buffer, symbols.value(key.1 as u64), key.0)?;
+        ends.push(buffer.len())?;
     }
-    Ok(buffer)
+    Ok((buffer, ends))
 }
 
-// How many bytes the text of a value has.
-fn text_length(value: &Value) -> usize
-    ensures { result ≡ length (text_of value.now) }
-{
-    match value {
-        Value::Const(text) => text.bytes().len(),
-        Value::Null(_) => 0,
-    }
-}
-
-// The value whose text stands in the buffer from `start` on.
-fn value_in(buffer: &Rc<String>, start: usize, value: &Value) -> Result<Value, AllocError>
+// The constant whose text lies in the buffer.
+fn constant_in(buffer: &Rc<String>, start: usize, end: usize) -> Result<Value, AllocError>
     requires few { length (string_bytes buffer.now.value) < 2 ^ 32 }
-    requires within { start + length (text_of value.now) ≤ length (string_bytes buffer.now.value) }
-    requires text { take (length (text_of value.now)) (drop start (string_bytes buffer.now.value)) ≡ text_of value.now }
-    ensures { IfOk result (λ v. v ≡ value.now) }
+    requires order { start ≤ end }
+    requires within { end ≤ length (string_bytes buffer.now.value) }
+    requires utf8 { IsUtf8 (take (end - start) (drop start (string_bytes buffer.now.value))) }
+    ensures { IfOk result (λ v. v ≡ Const (take (end - start) (drop start (string_bytes buffer.now.value)))) }
 {
-    match value {
-        Value::Const(text) => {
-            let end = start + text.bytes().len();
-            Ok(Value::Const(Text::part(buffer, start as u32, end as u32)?))
-        }
+    let text = Text::part(buffer, start as u32, end as u32)?;
+    Ok(Value::Const(text))
+}
+
+// The value under a number, its text in the buffer. The old value is looked at only if it has no bytes: it may be a null.
+fn value_in(
+    symbols: &Symbols,
+    number: u32,
+    buffer: &Rc<String>,
+    start: usize,
+    end: usize,
+) -> Result<Value, AllocError>
+    requires below { number < length symbols.now }
+    requires few { length (string_bytes buffer.now.value) < 2 ^ 32 }
+    requires lies { LiesIn (string_bytes buffer.now.value) start end (text_of (value_of symbols.now number)) }
+    ensures { IfOk result (λ v. v ≡ value_of symbols.now number) }
+{
+    if start < end {
+        return constant_in(buffer, start, end);
+    }
+    match symbols.value(number as u64) {
+        Value::Const(_) => constant_in(buffer, start, end),
         Value::Null(null) => Ok(Value::Null(*null)),
     }
 }
 
-// The values under these numbers, their texts in this buffer.
+// The values under these numbers, their texts in this buffer, where they end at these places.
 fn values_in(
     alloc: Global,
     symbols: &Symbols,
     keys: &[(u64, u32)],
     buffer: &Rc<String>,
+    ends: &[usize],
 ) -> Result<Vec<Value>, AllocError>
     requires below { Each (places_of keys.now) (λ n. n < length symbols.now) }
     requires few { length (string_bytes buffer.now.value) < 2 ^ 32 }
     requires texts { string_bytes buffer.now.value ≡ joined_texts (map (value_of symbols.now) (places_of keys.now)) }
+    requires ends { AreEnds symbols.now keys.now ends.now (length keys.now) }
     ensures { IfOk result (λ values. values.items ≡ map (value_of symbols.now) (places_of keys.now)) }
 {
     let mut values = Vec::with_capacity(alloc, keys.len())?;
     let mut start = 0usize;
-    for key in keys {
-        let value = symbols.value(key.1 as u64);
-        values.push(value_in(buffer, start, value)?)?;
-        start += text_length(value);
+    for i in 0..keys.len() {
+        let end = ends[i];
+        values.push(value_in(symbols, keys[i].1, buffer, start, end)?)?;
+        start = end;
     }
     Ok(values)
 }
@@ -262,17 +310,18 @@ fn values_in_order(
     symbols: &Symbols,
     keys: &[(u64, u32)],
 ) -> Result<Vec<Value>, AllocError>
-    requires { Each (places_of keys.now) (λ n. n < length symbols.now) }
+    requires below { Each (places_of keys.now) (λ n. n < length symbols.now) }
+    requires keyed { NumbersAreKeyed symbols.now keys.now }
     ensures { IfOk result (λ values. values.items ≡ map (value_of symbols.now) (places_of keys.now)) }
 {
-    let texts = texts_in_order(alloc, symbols, keys)?;
+    let (texts, ends) = texts_in_order(alloc, symbols, keys)?;
     if texts.len() >= 4_294_967_296 {
         return copies_in_order(alloc, symbols, keys);
     }
     let Ok(buffer) = Rc::new(alloc, texts) else {
         return Err(AllocError);
     };
-    values_in(alloc, symbols, keys, &buffer)
+    values_in(alloc, symbols, keys, &buffer, &ends)
 }
 
 /// All values in order, and the place of each number there.

@@ -16,8 +16,11 @@ ranks_of-requires-clause-within c =
     let s = c.in_ok-keys.ensures.sorted in
     rw c.deref.ensures.value (λ k h. let n = length-map c.in_ok-keys.keys.items (λ (q : ℕ × ℕ). q.1) in let b = s.within k (omega (arith, n, h)) in omega (arith, b, s.many, n))
 
-pub values_in_order-requires : goal.values_in_order-requires
-values_in_order-requires c = rw c.deref-2.ensures.value (each_below c.args.symbols.now (places_of c.in_ok-keys.keys.items) c.in_ok-keys.ensures.sorted)
+pub values_in_order-requires-clause-keyed : goal.values_in_order-requires-clause-keyed
+values_in_order-requires-clause-keyed c = rw c.deref-2.ensures.value c.in_ok-keys.ensures.keyed
+
+pub values_in_order-requires-clause-below : goal.values_in_order-requires-clause-below
+values_in_order-requires-clause-below c = rw c.deref-2.ensures.value (each_below c.args.symbols.now (places_of c.in_ok-keys.keys.items) c.in_ok-keys.ensures.sorted)
 
 pub from_ordered-requires-clause-ascend : goal.from_ordered-requires-clause-ascend
 from_ordered-requires-clause-ascend c =

@@ -4,7 +4,7 @@ use Rattle.std.proofs.lemmas.Fn.{always_returns_same}
 use Rattle.std.proofs.lemmas.List.MinMax.{ranks_by}
 use Rattle.dx_model.specs.declared.values.Value.{Value}
 use Rattle.dx_model.specs.declared.values.Value.TheVariants.{Null}
-use Rattle.dx_instance.proofs.RankFacts.{sorted_numbers}
+use Rattle.dx_instance.proofs.RankFacts.{keys_moved, sorted_numbers}
 use Rattle.dx_instance.proofs.TieFacts.{number_ties_lt, number_ties_total}
 use Rattle.dx_instance.proofs.ordering.numbers_in_order.Goals as goal
 
@@ -15,3 +15,6 @@ returns-clause-sorted c =
     let seconds = c.in_ok-seconds.seconds.items in
     sorted_numbers S seconds blank c.in_ok-keys.keys.items c.sort_unstable_by.new.self.items c.keyed_numbers.ensures.apart c.in_ok-keys.ensures.keyed c.in_ok-seconds.ensures c.sort_unstable_by.ensures.permutation
     (c.sort_unstable_by.ensures.sorted (number_ties_lt S seconds blank) (ranks_by (number_ties_total S seconds blank) (λ k. k)) (always_returns_same _ (λ a r. is_lt r ≡ number_ties_lt S seconds blank a.0.now a.1.0.now) _ (λ a r f k. search rules)))
+
+pub returns-clause-keyed : goal.returns-clause-keyed
+returns-clause-keyed c = keys_moved c.args.symbols.now c.in_ok-keys.keys.items c.sort_unstable_by.new.self.items c.in_ok-keys.ensures.keyed c.sort_unstable_by.ensures.permutation

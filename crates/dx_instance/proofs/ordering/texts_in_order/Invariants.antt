@@ -1,7 +1,10 @@
-use Rattle.std.proofs.Common.{◌≡◌, take, string_bytes}
-use Rattle.dx_instance.specs.Ranks.{joined_texts}
-use Rattle.dx_instance.proofs.JoinFacts.{values_at}
+use Rattle.std.proofs.Common.{◌≡◌, ◌≤◌, length, string_bytes}
+use Rattle.dx_instance.specs.Ranks.{AreEnds, texts_before}
 use Rattle.dx_instance.proofs.ordering.texts_in_order.Given as goal
 
 abbrev pub invariant-loop-key : goal.invariant-loop-key
-invariant-loop-key l = string_bytes l.buffer ≡ joined_texts (values_at l.symbols (take l.key-index l.keys))
+invariant-loop-key l = record {
+  texts : string_bytes l.buffer ≡ texts_before l.symbols l.keys l.key-index;
+  ends : AreEnds l.symbols l.keys l.ends.items l.key-index;
+  bound : l.key-index ≤ length l.keys;
+}
