@@ -10,4 +10,3 @@ pub mod Nested
 pub mod OneText
 pub mod Ordered
 pub mod Tokens
-mod Examples
