@@ -117,163 +117,99 @@ const SETS: &str = "a x y; key x; key y x; ref y x -> d u v
  e t
 d u v; key v";
 
-/// What is looked up of a table.
-#[derive(Clone, Copy)]
-struct Found {
-    name: &'static str,
-    columns: &'static [&'static str],
-    keys: &'static [&'static [u32]],
-    links: &'static [Way],
-    parent: Option<u32>,
-    inner: &'static [u32],
+/// The tables of these sets: the columns of each; its keys; its links, from columns to a table and its columns; the table in
+/// which it lies; its inner tables. All but the columns are numbers.
+const TABLES: &str = "a: #id x y; key 0; key 1; key 2 1; ref 2 1 -> 4: 0 1; inner 1 3
+b: #id #up z; key 0; key 1 2; ref 1 -> 0: 0; in 0; inner 2
+c: #up w; ref 0 -> 1: 0; ref 1 -> 4: 1; in 1
+e: #up t; ref 0 -> 0: 0; in 0
+d: u v; key 1
+";
+
+fn push_numbers(alloc: Global, line: &mut String, numbers: &[u32]) -> Result<(), AllocError> {
+    for number in numbers {
+        line.push_str(format!(in alloc; " {number}")?.as_str())?;
+    }
+    Ok(())
 }
 
-/// A link.
-#[derive(Clone, Copy)]
-struct Way {
-    from: &'static [u32],
-    table: u32,
-    to: &'static [u32],
-}
-
-const TABLES: [Found; 5] = [
-    Found {
-        name: "a",
-        columns: &["#id", "x", "y"],
-        keys: &[&[0], &[1], &[2, 1]],
-        links: &[Way {
-            from: &[2, 1],
-            table: 4,
-            to: &[0, 1],
-        }],
-        parent: None,
-        inner: &[1, 3],
-    },
-    Found {
-        name: "b",
-        columns: &["#id", "#up", "z"],
-        keys: &[&[0], &[1, 2]],
-        links: &[Way {
-            from: &[1],
-            table: 0,
-            to: &[0],
-        }],
-        parent: Some(0),
-        inner: &[2],
-    },
-    Found {
-        name: "c",
-        columns: &["#up", "w"],
-        keys: &[],
-        links: &[
-            Way {
-                from: &[0],
-                table: 1,
-                to: &[0],
-            },
-            Way {
-                from: &[1],
-                table: 4,
-                to: &[1],
-            },
-        ],
-        parent: Some(1),
-        inner: &[],
-    },
-    Found {
-        name: "e",
-        columns: &["#up", "t"],
-        keys: &[],
-        links: &[Way {
-            from: &[0],
-            table: 0,
-            to: &[0],
-        }],
-        parent: Some(0),
-        inner: &[],
-    },
-    Found {
-        name: "d",
-        columns: &["u", "v"],
-        keys: &[&[1]],
-        links: &[],
-        parent: None,
-        inner: &[],
-    },
-];
-
-/// Whether a table has these columns, by their numbers and by their names.
-fn has_columns(
+fn push_keys(
     alloc: Global,
+    line: &mut String,
     schema: &Schema,
     table: u32,
-    names: &[&str],
-) -> Result<bool, AllocError>
+) -> Result<(), AllocError>
     requires { table < length (tables_of schema.now) }
 {
-    if schema.width(table) as usize != names.len() {
-        return Ok(false);
+    for key in schema.keys_of(table) {
+        line.push_str("; key")?;
+        push_numbers(alloc, line, key.columns.items())?;
     }
+    Ok(())
+}
+
+fn push_links(
+    alloc: Global,
+    line: &mut String,
+    schema: &Schema,
+    table: u32,
+) -> Result<(), AllocError>
+    requires { table < length (tables_of schema.now) }
+{
+    for link in schema.links_of(table) {
+        line.push_str("; ref")?;
+        push_numbers(alloc, line, link.from.items())?;
+        line.push_str(format!(in alloc; " -> {}:", link.table)?.as_str())?;
+        push_numbers(alloc, line, link.to.items())?;
+    }
+    Ok(())
+}
+
+/// A table in a line, as above.
+fn told_table(alloc: Global, schema: &Schema, table: u32) -> Result<String, AllocError>
+    requires { table < length (tables_of schema.now) }
+{
+    let mut line = format!(in alloc; "{}:", schema.name(table))?;
     for column in 0..schema.width(table) {
-        let name = names[column as usize];
-        let text = Text::from_str(alloc, name)?;
-        if schema.column_name(table, column).as_str() != name
-            || schema.column_named(table, &text) != Some(column)
-        {
-            return Ok(false);
+        line.push_str(format!(in alloc; " {}", schema.column_name(table, column))?.as_str())?;
+    }
+    push_keys(alloc, &mut line, schema, table)?;
+    push_links(alloc, &mut line, schema, table)?;
+    if let Some(outer) = schema.parent(table) {
+        line.push_str(format!(in alloc; "; in {outer}")?.as_str())?;
+    }
+    if !schema.inner(table).is_empty() {
+        line.push_str("; inner")?;
+        push_numbers(alloc, &mut line, schema.inner(table))?;
+    }
+    Ok(line)
+}
+
+/// Whether a table and its columns are found by their names, and it has `#id` exactly if it has inner tables.
+fn is_found(schema: &Schema, table: u32) -> bool
+    requires { table < length (tables_of schema.now) }
+{
+    for column in 0..schema.width(table) {
+        let name = schema.column_name(table, column);
+        if schema.column_named(table, name) != Some(column) {
+            return false;
         }
     }
-    Ok(true)
-}
-
-/// Whether a table has these keys.
-fn has_keys(schema: &Schema, table: u32, keys: &[&[u32]]) -> bool
-    requires { table < length (tables_of schema.now) }
-{
-    let found = schema.keys_of(table);
-    found.len() == keys.len()
-        && found
-            .iter()
-            .zip(keys)
-            .all(|(key, columns)| key.columns.items() == *columns)
-}
-
-/// Whether a table has these links.
-fn has_links(schema: &Schema, table: u32, ways: &[Way]) -> bool
-    requires { table < length (tables_of schema.now) }
-{
-    let found = schema.links_of(table);
-    found.len() == ways.len()
-        && found.iter().zip(ways).all(|(link, way)| {
-            link.from.items() == way.from && link.table == way.table && link.to.items() == way.to
-        })
-}
-
-/// Whether a table is as it is wanted.
-fn is_found(alloc: Global, schema: &Schema, table: u32, want: &Found) -> Result<bool, AllocError>
-    requires { table < length (tables_of schema.now) }
-{
-    let name = Text::from_str(alloc, want.name)?;
-    Ok(
-        schema.name(table).is(&name)
-            && schema.table_named(&name) == Some(table)
-            && has_columns(alloc, schema, table, want.columns)?
-            && has_keys(schema, table, want.keys)
-            && has_links(schema, table, want.links)
-            && schema.parent(table) == want.parent
-            && schema.inner(table) == want.inner
-            && schema.has_id(table) == !want.inner.is_empty(),
-    )
+    schema.table_named(schema.name(table)) == Some(table)
+        && schema.has_id(table) == !schema.inner(table).is_empty()
 }
 
 #[test]
 fn sets_have_these_tables(rt: HostRuntime) -> Result<(), Fail> {
     let alloc = rt.alloc();
     let schema = Schema::build(alloc, trees(alloc, SETS)?)?;
-    assert_eq!(rt; schema.tables() as usize, TABLES.len());
+    let mut told = String::new(alloc);
     for table in 0..schema.tables() {
-        assert!(rt; is_found(alloc, &schema, table, &TABLES[table as usize])?);
+        told.push_str(told_table(alloc, &schema, table)?.as_str())?;
+        told.push('\n')?;
+        assert!(rt; is_found(&schema, table));
     }
+    assert_eq!(rt; told.as_str(), TABLES);
     let unknown = Text::from_str(alloc, "x")?;
     assert_eq!(rt; schema.table_named(&unknown), None);
     assert_eq!(rt; schema.trees().len(), 2);
@@ -312,87 +248,39 @@ fn row(alloc: Global, sets: u32) -> Result<String, AllocError> {
     Ok(lines)
 }
 
-/// So many sets in one another, then so many beside one another, then the rest.
-#[derive(Clone, Copy)]
-struct Many {
-    levels: u32,
-    sets: u32,
-    rest: &'static str,
-    outcome: &'static str,
-}
+/// So many sets in one another, then so many beside one another, then the rest, where `|` parts lines; and what comes of them.
+const MANY: &str = "0 0 => built
+0 64 => built
+0 65 => Tables 64
+16 48 => built
+16 49 => Tables 64
+17 0 => Depth 16
+# too many sets before too many levels, and both before names
+17 48 => Tables 64
+17 0 d0 x => Depth 16
+0 63 s0 x|s0 x => Tables 64";
 
-const MANY: [Many; 9] = [
-    Many {
-        levels: 0,
-        sets: 0,
-        rest: "",
-        outcome: "built",
-    },
-    Many {
-        levels: 0,
-        sets: 64,
-        rest: "",
-        outcome: "built",
-    },
-    Many {
-        levels: 0,
-        sets: 65,
-        rest: "",
-        outcome: "Tables 64",
-    },
-    Many {
-        levels: 16,
-        sets: 48,
-        rest: "",
-        outcome: "built",
-    },
-    Many {
-        levels: 16,
-        sets: 49,
-        rest: "",
-        outcome: "Tables 64",
-    },
-    Many {
-        levels: 17,
-        sets: 0,
-        rest: "",
-        outcome: "Depth 16",
-    },
-    // too many sets before too many levels, and both before names
-    Many {
-        levels: 17,
-        sets: 48,
-        rest: "",
-        outcome: "Tables 64",
-    },
-    Many {
-        levels: 17,
-        sets: 0,
-        rest: "d0 x",
-        outcome: "Depth 16",
-    },
-    Many {
-        levels: 0,
-        sets: 63,
-        rest: "s0 x\ns0 x",
-        outcome: "Tables 64",
-    },
-];
-
-/// Whether many sets come out as they should.
-fn many_come_out(alloc: Global, many: &Many) -> Result<bool, AllocError> {
-    let mut sets = chain(alloc, many.levels)?;
-    sets.push_str(row(alloc, many.sets)?.as_str())?;
-    sets.push_str(many.rest)?;
-    comes_out(alloc, sets.as_str(), many.outcome)
+/// Whether many sets come out as they are to.
+fn many_come_out(alloc: Global, line: &str) -> Result<bool, AllocError> {
+    let (given, outcome) = line.split_once(" => ").unwrap_or(("", ""));
+    let (levels, given) = given.split_once(" ").unwrap_or(("", ""));
+    let (count, rest) = given.split_once(" ").unwrap_or((given, ""));
+    let mut sets = chain(alloc, levels.parse::<u32>().unwrap_or(0))?;
+    sets.push_str(row(alloc, count.parse::<u32>().unwrap_or(0))?.as_str())?;
+    for line in rest.split("|") {
+        sets.push_str(line)?;
+        sets.push('\n')?;
+    }
+    comes_out(alloc, sets.as_str().trim_end(), outcome)
 }
 
 #[test]
 fn there_may_be_so_many_sets_and_levels(rt: HostRuntime) -> Result<(), Fail> {
     let alloc = rt.alloc();
-    for (number, many) in MANY.iter().enumerate() {
-        assert!(rt; many_come_out(alloc, many)?, "case {number}");
+    for line in MANY.lines().filter(|line| !line.starts_with("# ")) {
+        assert!(rt; many_come_out(alloc, line)?, "{line}");
     }
+    assert_eq!(rt; MANY.lines().count(), 10);
     Ok(())
 }
 

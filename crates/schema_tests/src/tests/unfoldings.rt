@@ -104,66 +104,24 @@ fn sets_are_unfolded(rt: HostRuntime) -> Result<(), Fail> {
 }
 
 /// So many sets, each with so many refs to the next, and how many occurrences the first has.
-#[derive(Clone, Copy)]
-struct Linked {
-    sets: u32,
-    refs: u32,
-    /// None where there are too many.
-    occurrences: Option<u32>,
-}
+const LINKED: &str = "1 1 => 1
+64 1 => 64
+6 2 => 63
+7 2 => too many
+# one set with many refs
+2 63 => 64
+2 64 => too many
+# far too many, and refused at once
+64 2 => too many
+64 64 => too many";
 
-const LINKED: [Linked; 8] = [
-    Linked {
-        sets: 1,
-        refs: 1,
-        occurrences: Some(1),
-    },
-    Linked {
-        sets: 64,
-        refs: 1,
-        occurrences: Some(64),
-    },
-    Linked {
-        sets: 6,
-        refs: 2,
-        occurrences: Some(63),
-    },
-    Linked {
-        sets: 7,
-        refs: 2,
-        occurrences: None,
-    },
-    // one set with many refs
-    Linked {
-        sets: 2,
-        refs: 63,
-        occurrences: Some(64),
-    },
-    Linked {
-        sets: 2,
-        refs: 64,
-        occurrences: None,
-    },
-    // far too many, and refused at once
-    Linked {
-        sets: 64,
-        refs: 2,
-        occurrences: None,
-    },
-    Linked {
-        sets: 64,
-        refs: 64,
-        occurrences: None,
-    },
-];
-
-/// The lines of these sets.
-fn lines_of(alloc: Global, linked: &Linked) -> Result<String, AllocError> {
+/// The lines of so many sets with so many refs.
+fn lines_of(alloc: Global, sets: u32, refs: u32) -> Result<String, AllocError> {
     let mut lines = String::new(alloc);
-    for set in 0..linked.sets {
+    for set in 0..sets {
         lines.push_str(format!(in alloc; "s{set} x")?.as_str())?;
-        if u64::from(set) + 1 < u64::from(linked.sets) {
-            for _ in 0..linked.refs {
+        if u64::from(set) + 1 < u64::from(sets) {
+            for _ in 0..refs {
                 let next = u64::from(set) + 1;
                 lines.push_str(format!(in alloc; "; ref x -> s{next} x")?.as_str())?;
             }
@@ -173,31 +131,36 @@ fn lines_of(alloc: Global, linked: &Linked) -> Result<String, AllocError> {
     Ok(lines)
 }
 
-/// Whether the first of these sets is unfolded to so many occurrences, all with one variable.
-fn is_as_wide(alloc: Global, linked: &Linked) -> Result<bool, AllocError> {
-    let lines = lines_of(alloc, linked)?;
+/// How many occurrences the first of so many sets has, all with one variable.
+fn told_width(alloc: Global, sets: u32, refs: u32) -> Result<String, AllocError> {
+    let lines = lines_of(alloc, sets, refs)?;
     let schema = match Schema::build(alloc, trees(alloc, lines.as_str())?) {
         Ok(schema) => schema,
-        Err(_) => return Ok(false),
+        Err(_) => return String::from_str(alloc, "no schema"),
     };
     if schema.tables() == 0 {
-        return Ok(false);
+        return String::from_str(alloc, "no table");
     }
     match unfold(alloc, &schema, 0) {
-        Ok(relation) => Ok(
-            relation.variables == 1
-                && linked.occurrences.map(u64::from) == Some(relation.occurrences.len()),
-        ),
-        Err(WideFault::TooWide) => Ok(linked.occurrences.is_none()),
-        Err(WideFault::Memory) => Ok(false),
+        Ok(relation) if relation.variables == 1 => {
+            format!(in alloc; "{}", relation.occurrences.len())
+        }
+        Ok(_) => String::from_str(alloc, "more variables"),
+        Err(WideFault::TooWide) => String::from_str(alloc, "too many"),
+        Err(WideFault::Memory) => Err(AllocError),
     }
 }
 
 #[test]
 fn there_may_be_64_occurrences(rt: HostRuntime) -> Result<(), Fail> {
     let alloc = rt.alloc();
-    for (number, linked) in LINKED.iter().enumerate() {
-        assert!(rt; is_as_wide(alloc, linked)?, "case {number}");
+    for line in LINKED.lines().filter(|line| !line.starts_with("# ")) {
+        let (given, want) = line.split_once(" => ").unwrap_or(("", ""));
+        let (sets, refs) = given.split_once(" ").unwrap_or(("", ""));
+        let sets = sets.parse::<u32>().unwrap_or(0);
+        let refs = refs.parse::<u32>().unwrap_or(0);
+        assert_eq!(rt; told_width(alloc, sets, refs)?.as_str(), want);
     }
+    assert_eq!(rt; LINKED.lines().count(), 10);
     Ok(())
 }
