@@ -1,9 +1,9 @@
 -- Fields in a buffer.
-use Rattle.std.proofs.Common.{◌≡◌, ◌++◌, ◌∷◌, ◌+◌, ◌-◌, ◌<◌, ◌≤◌, ◌∙◌, ℕ, List, [], refl, sym, ap, subst, arith, length, take, drop, get_or, IsUtf8, string_bytes}
+use Rattle.std.proofs.Common.{◌≡◌, ◌++◌, ◌∷◌, ◌+◌, ◌-◌, ◌<◌, ◌≤◌, ◌∙◌, ℕ, List, [], refl, sym, ap, arith, length, take, drop, get_or, IsUtf8, string_bytes}
 use Rattle.std.proofs.Math.Seq.{drop-append_seam}
-use Rattle.std.proofs.lemmas.List.{drop_more, length-append, length-drop}
-use Rattle.csv.specs.Records.{AllText, Rising, cut_from, last_end}
-use Rattle.csv.proofs.RecordFacts.{cut-end, cut-length, cut-more, last-append, rising-end, rising-first, rising-more, text-more}
+use Rattle.std.proofs.lemmas.List.{get_or_default, length-append}
+use Rattle.csv.specs.Records.{AllText, Rising, cut_from, last_end, prev}
+use Rattle.csv.proofs.RecordFacts.{cut-end, cut-length, cut-more, field-bounds, field-cut, field-get, last-append, prev-next, rising-end, rising-more, text-more, text-of}
 use Rattle.dx_csv.specs.declared.fields.Fields.{Fields}
 use Rattle.dx_csv.specs.Fields.{HaveFields}
 
@@ -43,50 +43,38 @@ field-pushed old new field end t e n u fields h =
       text = text-more fields field h.text u;
     }
 
--- ---- the next text
+-- ---- the text at a place
 
-pub record Next (start : ℕ) (ends : List ℕ) (place end : ℕ) (bytes : List ℕ) : Type 0 where
+pub record TextIn (place start end : ℕ) (bytes : List ℕ) (texts : List (List ℕ)) : Type 0 where
   pub order : start ≤ end
   pub within : end ≤ length bytes
-  pub text : IsUtf8 (take (end - start) (drop start bytes))
-  pub rising : Rising end (drop (place + 1) ends) (length bytes)
-  pub texts : AllText (cut_from end (drop (place + 1) ends) bytes)
-  pub is : cut_from start (drop place ends) bytes ≡ take (end - start) (drop start bytes) ∷ cut_from end (drop (place + 1) ends) bytes
+  pub utf8 : IsUtf8 (take (end - start) (drop start bytes))
+  pub is : take (end - start) (drop start bytes) ≡ get_or texts place []
 
-record First (start end : ℕ) (ends bytes : List ℕ) : Type 0 where
-  order : start ≤ end
-  within : end ≤ length bytes
-  text : IsUtf8 (take (end - start) (drop start bytes))
-  rising : Rising end ends (length bytes)
-  texts : AllText (cut_from end ends bytes)
-  is : cut_from start (end ∷ ends) bytes ≡ take (end - start) (drop start bytes) ∷ cut_from end ends bytes
+-- a text starts where the one before it ends
+pub start-is : (ends : List ℕ) (place : ℕ) → place < length ends → ¬ (place ≡ 0) → get_or ends (place - 1) 0 ≡ prev 0 ends place
+start-is ends place h n =
+    let s : place - 1 + 1 ≡ place = omega (arith, n) in
+    sym (prev-next 0 ends (place - 1) 0 (omega (arith, s, h))) ∙ ap (λ (p : ℕ). prev 0 ends p) s
 
-first-of : (start end : ℕ) (ends bytes : List ℕ) → Rising start (end ∷ ends) (length bytes) → AllText (cut_from start (end ∷ ends) bytes) → First start end ends bytes
-unfolding Rising AllText cut_from
-first-of start end ends bytes r t = record {
-  order = r.0;
-  within = rising-first end ends (length bytes) r.1;
-  text = t.0;
-  rising = r.1;
-  texts = t.1;
-  is = refl;
-}
+-- a text is there only where a place is
+pub place-within : (ends : List ℕ) (place : ℕ) (bytes : List ℕ) (texts : List (List ℕ)) → cut_from 0 ends bytes ≡ texts → place < length texts → place < length ends
+place-within ends place bytes texts v h =
+    let many = cut-length 0 ends bytes in
+    omega (arith, many, ap length v, h)
 
-pub next-of : (start : ℕ) (ends : List ℕ) (place end : ℕ) (bytes : List ℕ) → place < length ends → end ≡ get_or ends place end
-    → Rising start (drop place ends) (length bytes) → AllText (cut_from start (drop place ends) bytes) → Next start ends place end bytes
-next-of start ends place end bytes h e r t =
-    let cut : drop place ends ≡ end ∷ drop (place + 1) ends = drop_more ends place end h ∙ ap (λ x. x ∷ drop (place + 1) ends) (sym e) in
-    let f = first-of start end (drop (place + 1) ends) bytes (rw cut at r) (rw cut at t) in
-    record { order = f.order; within = f.within; text = f.text; rising = f.rising; texts = f.texts; is = ap (λ (l : List ℕ). cut_from start l bytes) cut ∙ f.is }
-
--- a field is left only where a place is left
-pub place-left : (start : ℕ) (ends : List ℕ) (place : ℕ) (bytes : List ℕ) → 1 ≤ length (cut_from start (drop place ends) bytes) → place < length ends
-place-left start ends place bytes h =
-    let many = cut-length start (drop place ends) bytes in
-    let size = length-drop place ends in
-    omega (arith, many, size, h)
-
-pub next-in : (start : ℕ) (ends : List ℕ) (place end : ℕ) (bytes : List ℕ) (now : List (List ℕ)) → cut_from start (drop place ends) bytes ≡ now → 1 ≤ length now → end ≡ get_or ends place end
-    → Rising start (drop place ends) (length bytes) × AllText (cut_from start (drop place ends) bytes) → Next start ends place end bytes
-next-in start ends place end bytes now v h e i =
-    next-of start ends place end bytes (place-left start ends place bytes (subst (λ (l : List (List ℕ)). 1 ≤ length l) (sym v) h)) e i.0 i.1
+pub text-in : (ends : List ℕ) (place start end : ℕ) (bytes : List ℕ) (texts : List (List ℕ)) → cut_from 0 ends bytes ≡ texts → place < length texts → start ≡ prev 0 ends place → end ≡ get_or ends place end
+    → Rising 0 ends (length bytes) × AllText (cut_from 0 ends bytes) → TextIn place start end bytes texts
+text-in ends place start end bytes texts v h s read i =
+    let p = place-within ends place bytes texts v h in
+    let e : end ≡ get_or ends place 0 = read ∙ get_or_default ends place end 0 p in
+    let bounds = field-bounds 0 ends (length bytes) place i.0 p in
+    let low = bounds.0 in
+    let high = bounds.1 in
+    let cut = field-cut 0 ends bytes place p in
+    record {
+      order = omega (arith, low, s, e);
+      within = omega (arith, high, e);
+      utf8 = rw (s, e) (text-of (cut_from 0 ends bytes) place _ i.1 cut);
+      is = rw (s, e, ← v) (sym (field-get (cut_from 0 ends bytes) place _ cut));
+    }

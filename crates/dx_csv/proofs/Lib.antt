@@ -6,5 +6,6 @@ pub mod Decided
 pub mod LinesFacts
 pub mod FieldFacts
 pub mod InternFacts
+mod ColumnFacts
 pub mod BlankFacts
 pub mod TextsDiffer

@@ -1,5 +1,6 @@
 // Fields one after the other in one buffer, and the texts that share it.
-ghost use Rattle.std.specs.Prelude.{◌≡◌, ◌≤◌, ◌++◌, ◌∷◌, [], ℕ, List, IfOk, OnOk, drop, length};
+ghost use Rattle.std.specs.Prelude.{◌≡◌, ◌<◌, ◌++◌, ◌∷◌, [], ℕ, List, IfOk, OnOk, length, slice_index_or};
+ghost use Rattle.csv.specs.Records.{prev};
 ghost use Rattle.dx_csv.specs.Fields.{HaveFields, fields_in};
 
 use dx_ports::Text;
@@ -45,55 +46,56 @@ impl Fields {
             Ok(buffer) => Ok(Texts {
                 buffer,
                 ends: self.ends,
-                place: 0,
-                start: 0,
             }),
             Err(_) => Err(AllocError),
         }
     }
 }
 
-/// Texts that are handed out one after the other. A contract sees the list of those that are left.
+/// Texts that share a buffer. A contract sees their list.
 #[derive(Drop)]
 pub(crate) struct Texts {
     buffer: Rc<String>,
     ends: Vec<u32>,
-    place: usize,
-    start: u32,
 }
 
 impl Model for Texts {
-    ghost use Rattle.std.specs.Prelude.{ℕ, List, drop, length, string_bytes};
+    ghost use Rattle.std.specs.Prelude.{ℕ, List, length, string_bytes};
     ghost use Rattle.csv.specs.Records.{AllText, Rising, cut_from};
 
     ghost Value = { List (List ℕ) };
 
-    ghost view = { λ t. cut_from t.start (drop t.place t.ends.items) (string_bytes t.buffer.value) };
+    ghost view = { λ t. cut_from 0 t.ends.items (string_bytes t.buffer.value) };
 
-    ghost invariant = { λ t. Rising t.start (drop t.place t.ends.items) (length (string_bytes t.buffer.value))
-        × AllText (cut_from t.start (drop t.place t.ends.items) (string_bytes t.buffer.value)) };
+    ghost invariant = { λ t. Rising 0 t.ends.items (length (string_bytes t.buffer.value))
+        × AllText (cut_from 0 t.ends.items (string_bytes t.buffer.value)) };
+}
+
+// Where the text at a place starts: where the one before it ends.
+fn start_of(ends: &[u32], place: usize) -> u32
+    requires { place < length ends.now }
+    ensures { result ≡ prev 0 ends.now place }
+{
+    if place == 0 {
+        return 0;
+    }
+    ends[place - 1]
 }
 
 impl Texts {
-    /// The next text. After an error it is still to come.
-    pub(crate) fn next(&mut self) -> Result<Text, AllocError>
-        requires { 1 ≤ length self.old }
-        ensures { IfOk result (λ t. self.old ≡ t ∷ self.new) }
+    /// How many texts there are.
+    pub(crate) fn len(&self) -> usize
+        ensures { result ≡ length self.now }
     {
-        let end = self.ends[self.place];
-        let text = Text::part(&self.buffer, self.start, end)?;
-        self.place += 1;
-        self.start = end;
-        Ok(text)
+        self.ends.len()
     }
 
-    /// Goes past the next text, of which nothing is made.
-    pub(crate) fn skip(&mut self)
-        requires { 1 ≤ length self.old }
-        ensures { self.new ≡ drop 1 self.old }
+    /// The text at a place.
+    pub(crate) fn at(&self, place: usize) -> Result<Text, AllocError>
+        requires { place < length self.now }
+        ensures { IfOk result (λ t. t ≡ slice_index_or self.now place []) }
     {
-        let end = self.ends[self.place];
-        self.place += 1;
-        self.start = end;
+        let end = self.ends[place];
+        Text::part(&self.buffer, start_of(&self.ends, place), end)
     }
 }

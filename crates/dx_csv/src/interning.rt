@@ -1,10 +1,9 @@
 // The fields of a table as rows of numbers.
-ghost use Rattle.std.specs.Prelude.{◌≡◌, ◌≤◌, ◌*◌, ◌<◌, ◌^◌, ◌-◌, ℕ, List, [], IfOk, IfErr, OnOk, Some, cond, drop, false, length, map, slice_index_or, take};
+ghost use Rattle.std.specs.Prelude.{◌≡◌, ◌*◌, ◌+◌, ◌<◌, ◌^◌, ◌-◌, IfOk, IfErr, OnOk, length, map};
 ghost use Rattle.dx_ports.specs.Members.{Each};
-ghost use Rattle.dx_model.specs.declared.values.Value.TheVariants.{Const};
-ghost use Rattle.dx_instance.specs.Numbers.{Extends, IsNumberOf};
-ghost use Rattle.dx_instance.specs.Shown.{AreBelow, Shows, shown_row};
-ghost use Rattle.dx_csv.specs.Blanks.{HasBlank, IsBlank, IsTableUsed, constants_used, is_used};
+ghost use Rattle.dx_instance.specs.Numbers.{Extends};
+ghost use Rattle.dx_instance.specs.Shown.{AreBelow, shown_row};
+ghost use Rattle.dx_csv.specs.Blanks.{AreNumbered, AreSettled, HasBlank, IsTableUsed, OthersStay, constants_used, is_used};
 ghost use Rattle.dx_csv.specs.Fields.{records_in};
 ghost use Rattle.dx_csv.specs.Table.{HasFault, table_records};
 
@@ -15,6 +14,9 @@ use dx_instance::{Rows, Symbols};
 use dx_model::Value;
 use dx_ports::Text;
 use std::alloc::{AllocError, Global};
+
+// After so many rows it is seen whether each row of a column brings a new value.
+const SAMPLE: usize = 4096;
 
 // Whether a column is used.
 fn is_used(used: &[bool], column: u32) -> bool
@@ -38,74 +40,96 @@ fn intern_blank(alloc: Global, used: &[bool], symbols: &mut Symbols) -> Result<u
     Ok(0)
 }
 
-// The number of the next text's constant; in a column that is not used, that of the empty one.
-fn intern_next(
-    texts: &mut Texts,
-    used: bool,
-    blank: u32,
-    symbols: &mut Symbols,
-) -> Result<u32, AllocError>
-    requires some { 1 ≤ length texts.old }
-    requires blank { used ≡ false → IsBlank symbols.old blank }
-    ensures taken { OnOk result (texts.new ≡ drop 1 texts.old) }
-    ensures number { IfOk result (λ n. IsNumberOf symbols.new (cond used (Const (slice_index_or texts.old 0 [])) (Const [])) (Some n)) }
-    ensures grows { Extends symbols.old symbols.new }
+// After the first rows of a column: if each of them brought a new value, makes room for as many as there are rows to come.
+fn make_room(row: usize, count: usize, before: u64, symbols: &mut Symbols)
+    ensures { symbols.new ≡ symbols.old }
 {
-    if !used {
-        texts.skip();
-        return Ok(blank);
+    if row == SAMPLE && symbols.len().saturating_sub(before) == SAMPLE as u64 {
+        symbols.make_room(count.saturating_sub(row) as u64);
     }
-    let text = texts.next()?;
-    let number = symbols.intern(Value::Const(text))?;
-    Ok(number as u32)
 }
 
-// The numbers of the constants of the next texts, in place of what `numbers` has.
-fn intern_row(
-    texts: &mut Texts,
-    width: u32,
-    used: &[bool],
-    blank: u32,
+// Puts the numbers of a column's texts into its cells.
+fn intern_column(
+    texts: &Texts,
+    column: usize,
+    width: usize,
+    count: usize,
     symbols: &mut Symbols,
-    numbers: &mut Vec<u32>,
+    cells: &mut Vec<u32>,
 ) -> Result<(), AllocError>
-    requires width { width ≤ length texts.old }
-    requires blank { HasBlank used.now symbols.old blank }
-    ensures taken { OnOk result (texts.new ≡ drop width texts.old) }
-    ensures shows { OnOk result (Shows symbols.new numbers.new.items (constants_used used.now (take width texts.old))) }
+    requires column { column < width }
+    requires texts { length texts.now ≡ count * width }
+    requires cells { length cells.old.items ≡ count * width }
+    ensures size { length cells.new.items ≡ length cells.old.items }
+    ensures numbered { OnOk result (AreNumbered symbols.new texts.now width column cells.new.items count) }
+    ensures others { OnOk result (OthersStay width column cells.old.items cells.new.items) }
     ensures grows { Extends symbols.old symbols.new }
 {
-    numbers.clear();
-    for column in 0..width {
-        let number = intern_next(texts, is_used(used, column), blank, symbols)?;
-        numbers.push(number)?;
+    let before = symbols.len();
+    for row in 0..count {
+        make_room(row, count, before, symbols);
+        let place = row * width + column;
+        let number = symbols.intern(Value::Const(texts.at(place)?))?;
+        cells[place] = number as u32;
     }
     Ok(())
 }
 
-// The rows of so many records, each of so many texts.
+// The same, unless the column is not used: its cells stay.
+fn settle_column(
+    texts: &Texts,
+    column: u32,
+    width: u32,
+    count: u32,
+    used: &[bool],
+    symbols: &mut Symbols,
+    cells: &mut Vec<u32>,
+) -> Result<(), AllocError>
+    requires column { column < width }
+    requires texts { length texts.now ≡ count * width }
+    requires cells { length cells.old.items ≡ count * width }
+    requires settled { AreSettled used.now symbols.old texts.now width count cells.old.items (column + 1) }
+    ensures size { length cells.new.items ≡ length cells.old.items }
+    ensures settled { OnOk result (AreSettled used.now symbols.new texts.now width count cells.new.items column) }
+    ensures grows { Extends symbols.old symbols.new }
+{
+    if !is_used(used, column) {
+        return Ok(());
+    }
+    intern_column(
+        texts,
+        column as usize,
+        width as usize,
+        count as usize,
+        symbols,
+        cells,
+    )
+}
+
+// The rows of so many records, each of so many texts. Their numbers are found column by column, from the last one on: the
+// first columns are mostly those whose values are all different, and as long as there are few values they are found fast.
 fn intern_rows(
     alloc: Global,
-    texts: &mut Texts,
+    texts: &Texts,
     count: u32,
     width: u32,
     used: &[bool],
     symbols: &mut Symbols,
 ) -> Result<Rows, AllocError>
-    requires { length texts.old ≡ count * width }
-    ensures shown { IfOk result (λ rows. map (shown_row symbols.new) rows.rows ≡ map (constants_used used.now) (records_in count width texts.old)) }
+    requires { length texts.now ≡ count * width }
+    ensures shown { IfOk result (λ rows. map (shown_row symbols.new) rows.rows ≡ map (constants_used used.now) (records_in count width texts.now)) }
     ensures below { IfOk result (λ rows. Each rows.rows (AreBelow (length symbols.new))) }
     ensures width { IfOk result (λ rows. rows.width ≡ width) }
     ensures grows { Extends symbols.old symbols.new }
 {
     let blank = intern_blank(alloc, used, symbols)?;
-    let mut rows = Rows::new(alloc, width);
-    let mut numbers = Vec::new(alloc);
-    for _ in 0..count {
-        intern_row(texts, width, used, blank, symbols, &mut numbers)?;
-        rows.push(&numbers)?;
+    let mut cells = vec![in alloc; blank; texts.len()]?;
+    for settled in 0..width {
+        let column = width - 1 - settled;
+        settle_column(texts, column, width, count, used, symbols, &mut cells)?;
     }
-    Ok(rows)
+    Ok(Rows::of_cells(width, count, cells))
 }
 
 /// Reads the rows of a table as `load_table` does, with the same faults, and gives each constant its number: those that
@@ -132,8 +156,8 @@ pub fn load_into(
     ensures fault { IfErr result (HasFault (table_records bytes.now) columns.now) }
     ensures grows { Extends symbols.old symbols.new }
 {
-    let (mut texts, count) = read_fields(alloc, bytes, columns)?;
+    let (texts, count) = read_fields(alloc, bytes, columns)?;
     let width = columns.len() as u32;
-    let rows = intern_rows(alloc, &mut texts, count, width, used, symbols)?;
+    let rows = intern_rows(alloc, &texts, count, width, used, symbols)?;
     Ok(rows)
 }

@@ -1,9 +1,9 @@
 // Rows of numbers, one after the other.
-ghost use Rattle.std.specs.Prelude.{◌≡◌, ◌<◌, ◌≤◌, ◌-◌, ◌^◌, ℕ, List, [], ◌∷◌, ◌++◌, IfOk, OnOk, OnErr, IsTrue, ◌↔◌, length, slice_index};
+ghost use Rattle.std.specs.Prelude.{◌≡◌, ◌<◌, ◌≤◌, ◌-◌, ◌*◌, ◌^◌, ℕ, List, [], ◌∷◌, ◌++◌, IfOk, OnOk, OnErr, IsTrue, ◌↔◌, length, slice_index};
 ghost use Rattle.std.specs.Bool.{OnTrue};
 ghost use Rattle.dx_ports.specs.Members.{Each};
 ghost use Rattle.dx_instance.specs.Chains.{AreChains};
-ghost use Rattle.dx_instance.specs.Cells.{AreInOrder, IsOrderOf, NumbersAscend, numbers_at, with_numbers};
+ghost use Rattle.dx_instance.specs.Cells.{AreInOrder, IsOrderOf, NumbersAscend, numbers_at, rows_in, with_numbers};
 ghost use Rattle.dx_instance.specs.Keys.{HasRoom, RowsAreKeyed, places_of};
 ghost use Rattle.dx_instance.specs.Shown.{AreBelow, renumbered};
 
@@ -41,6 +41,18 @@ impl Rows {
             width,
             count: 0,
             cells: Vec::new(alloc),
+        }
+    }
+
+    /// Rows whose cells are these, row by row.
+    pub fn of_cells(width: u32, count: u32, cells: Vec<u32>) -> Rows
+        requires { length cells.items ≡ count * width }
+        ensures { result ≡ record { width = width; rows = rows_in count width cells.items } }
+    {
+        Rows {
+            width,
+            count,
+            cells,
         }
     }
 

@@ -60,6 +60,14 @@ impl Symbols {
         }
     }
 
+    /// Makes room for so many more values, so that they go in without the places of the others being found anew. If there
+    /// is no memory for it, no room is made. The values stay as they are.
+    pub fn make_room(&mut self, more: u64)
+        ensures { self.new ≡ self.old }
+    {
+        let _ = self.later.reserve(more as usize);
+    }
+
     /// How many values there are.
     pub fn len(&self) -> u64
         ensures len { result ≡ length self.now }

@@ -43,7 +43,7 @@ no_more cells v x n =
     let b : times x (Var v ∷ []) ≡ 0 = rw (ne_eqb x v n) refl in
     omega (arith, a, b)
 
-same_or : (x v : ℕ) → (x ≡ v) ⊎ (¬ (x ≡ v))
+pub same_or : (x v : ℕ) → (x ≡ v) ⊎ (¬ (x ≡ v))
 same_or x v = elim (cases_order x v) [
   | inl e ↦ inl e
   | inr o ↦ elim o [ inl k ↦ inr (λ e. omega (arith, e, k)) | inr k ↦ inr (λ e. omega (arith, e, k)) ]

@@ -1,38 +1,49 @@
-use Rattle.std.proofs.Common.{◌+◌, ◌∙◌, ap, length, map, subst, sym}
+use Rattle.std.proofs.Common.{◌≡◌, ◌-◌, ◌+◌, ◌∙◌, ap, arith, length, subst}
+use Rattle.std.proofs.lemmas.List.{length-replicate}
 use Rattle.dx_instance.proofs.NumberFacts.{stays}
 use Rattle.dx_instance.proofs.ShownFacts.{extends_both}
-use Rattle.dx_instance.specs.Cells.{with_numbers}
-use Rattle.dx_csv.specs.Blanks.{constants_used}
-use Rattle.dx_csv.specs.Fields.{records_in}
-use Rattle.dx_csv.proofs.BlankFacts.{blank_kept, row-wide}
-use Rattle.dx_csv.proofs.InternFacts.{RowsGrow, row-interned, row-room, rows-start}
+use Rattle.dx_csv.specs.Blanks.{AreSettled}
+use Rattle.dx_csv.proofs.ColumnFacts.{all_settled, rows_below, rows_shown, settled_none}
 use Rattle.dx_csv.proofs.interning.intern_rows.Goals as goal
 
-pub loop-init : goal.loop-init
-loop-init c = record {
-  rows = rows-start c.args.used.now c.args.count c.args.width c.args.texts.now c.intern_blank.new.symbols _ c.requires (ap (λ t. t.rows) c.new-rows.ensures);
-  width = ap (λ t. t.width) c.new-rows.ensures;
-  grows = stays c.intern_blank.new.symbols;
-}
-
-pub intern_row-requires-clause-blank : goal.intern_row-requires-clause-blank
-intern_row-requires-clause-blank c = λ some. blank_kept c.intern_blank.new.symbols c.loop.symbols c.in_ok-blank.blank c.loop.invariant.grows (c.in_ok-blank.ensures.blank some)
-
-pub loop-preserved : goal.loop-preserved
-loop-preserved c =
-    let used = c.args.used.now in
-    let all = map (constants_used used) (records_in c.args.count c.args.width c.args.texts.now) in
-    let grown = row-interned used all c.args.count c.loop.counter c.args.width c.loop.texts c.intern_row.new.texts c.loop.symbols c.intern_row.new.symbols c.loop.rows.rows c.intern_row.new.numbers.items
-    c.loop-test.true c.loop.invariant.rows c.in_ok-intern_row.ensures.taken c.in_ok-intern_row.ensures.shows c.in_ok-intern_row.ensures.grows in
-    let pushed = c.in_ok-push.ensures.ok ∙ ap (with_numbers c.loop.rows) c.deref.ensures.value in
+pub loop-settled-init : goal.loop-settled-init
+loop-settled-init c =
+    let blank = c.in_ok-cells.ensures.items_if_clones_equal (λ y e. e) in
+    let all : c.args.width ≡ c.args.width - 0 = omega arith in
     record {
-      rows = subst (RowsGrow used all c.args.count (c.loop.counter + 1) c.args.width c.intern_row.new.texts c.intern_row.new.symbols) (sym (ap (λ t. t.rows) pushed)) grown;
-      width = ap (λ t. t.width) pushed ∙ c.loop.invariant.width;
-      grows = extends_both _ _ _ c.loop.invariant.grows c.in_ok-intern_row.ensures.grows;
+      size = ap length blank ∙ length-replicate c.len.result c.in_ok-blank.blank ∙ c.len.ensures;
+      settled = subst (AreSettled c.args.used.now c.intern_blank.new.symbols c.args.texts.now c.args.width c.args.count c.in_ok-cells.cells.items) all
+          (settled_none c.args.used.now c.intern_blank.new.symbols c.args.texts.now c.args.width c.args.count c.len.result c.in_ok-blank.blank c.in_ok-cells.cells.items blank (c.len.ensures ∙ c.requires) c.in_ok-blank.ensures.blank);
+      grows = stays c.intern_blank.new.symbols;
     }
 
-pub push-requires-clause-width : goal.push-requires-clause-width
-push-requires-clause-width c =
+pub loop-settled-preserved : goal.loop-settled-preserved
+loop-settled-preserved c =
+    let next : c.args.width - 1 - c.loop-settled.settled ≡ c.args.width - (c.loop-settled.settled + 1) = omega arith in
+    record {
+      size = c.in_ok-settle_column.ensures.size ∙ c.loop-settled.invariant.size;
+      settled = subst (AreSettled c.args.used.now c.settle_column.new.symbols c.args.texts.now c.args.width c.args.count c.settle_column.new.cells.items) next c.in_ok-settle_column.ensures.settled;
+      grows = extends_both _ _ _ c.loop-settled.invariant.grows c.in_ok-settle_column.ensures.grows;
+    }
+
+pub returns-clause-shown : goal.returns-clause-shown
+returns-clause-shown c =
     let used = c.args.used.now in
-    let room = row-room used _ c.args.count c.loop.counter c.args.width c.loop.texts c.loop.symbols c.loop.rows.rows c.loop-test.true c.loop.invariant.rows in
-    ap length c.deref.ensures.value ∙ row-wide used c.intern_row.new.symbols c.loop.texts c.intern_row.new.numbers.items c.args.width c.in_ok-intern_row.ensures.shows room ∙ sym c.loop.invariant.width
+    let S = c.loop-settled.symbols in
+    let texts = c.args.texts.now in
+    let w = c.args.width in
+    let cells = c.loop-settled.cells.items in
+    let none : w - c.loop-settled.settled ≡ 0 = omega (arith, c.loop-settled-test.false) in
+    let all = all_settled used S texts w c.args.count (w - c.loop-settled.settled) cells none c.loop-settled.invariant.settled in
+    rw c.of_cells.ensures (rows_shown used S w c.args.count texts cells c.requires (c.loop-settled.invariant.size ∙ c.requires) all)
+
+pub returns-clause-below : goal.returns-clause-below
+returns-clause-below c =
+    let used = c.args.used.now in
+    let S = c.loop-settled.symbols in
+    let texts = c.args.texts.now in
+    let w = c.args.width in
+    let cells = c.loop-settled.cells.items in
+    let none : w - c.loop-settled.settled ≡ 0 = omega (arith, c.loop-settled-test.false) in
+    let all = all_settled used S texts w c.args.count (w - c.loop-settled.settled) cells none c.loop-settled.invariant.settled in
+    rw c.of_cells.ensures (rows_below used S w c.args.count texts cells (c.loop-settled.invariant.size ∙ c.requires) all)
