@@ -3,3 +3,5 @@ pub mod Numbers
 pub mod Searching
 pub mod Memory
 pub mod Covering
+pub mod Choosing
+pub mod Examples

@@ -9,6 +9,7 @@ ghost use Rattle.dx_cover.specs.Search.{AreAllSeen, MeetInWidths, found_after, h
 ghost use Rattle.dx_cover.specs.States.{IsSearch, IsTrueFor, last};
 
 use crate::cells::{copy_cell, is_same_cell};
+use crate::partners::have_partners;
 use crate::states::{Search, is_known, make_state, remember};
 use crate::variables::{existentials, exported};
 use dx_model::{Atom, Cell, CellMap, Meeting, Rule};
@@ -297,6 +298,9 @@ pub(crate) fn extend(
         Outlook::NoMap => return Ok(false),
         Outlook::NothingNew => return Ok(true),
         Outlook::Open => {}
+    }
+    if !have_partners(rest, others, bound.as_slice()) {
+        return Ok(false);
     }
     match rest.split_first() {
         None => {

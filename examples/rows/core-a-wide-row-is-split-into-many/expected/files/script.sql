@@ -1,0 +1,11 @@
+CREATE TABLE target."phone" ("id" TEXT, "number" TEXT);
+CREATE TABLE target."card" ("id" TEXT, "home" TEXT, "work" TEXT, "mobile" TEXT, "fax" TEXT, "office" TEXT, "other" TEXT, "spare" TEXT);
+CREATE TABLE m0 AS SELECT DISTINCT a0."id" AS c0, a0."home" AS c1, a0."work" AS c2, a0."mobile" AS c3, a0."fax" AS c4, a0."office" AS c5, a0."other" AS c6, a0."spare" AS c7 FROM source."person" AS a0;
+INSERT INTO target."phone" SELECT m.c0, m.c1 FROM m0 AS m;
+INSERT INTO target."phone" SELECT m.c0, m.c2 FROM m0 AS m;
+INSERT INTO target."phone" SELECT m.c0, m.c3 FROM m0 AS m;
+INSERT INTO target."phone" SELECT m.c0, m.c4 FROM m0 AS m;
+INSERT INTO target."phone" SELECT m.c0, m.c5 FROM m0 AS m;
+INSERT INTO target."phone" SELECT m.c0, m.c6 FROM m0 AS m;
+INSERT INTO target."phone" SELECT m.c0, m.c7 FROM m0 AS m;
+INSERT INTO target."card" SELECT m.c0, m.c1, m.c2, m.c3, m.c4, m.c5, m.c6, m.c7 FROM m0 AS m;
