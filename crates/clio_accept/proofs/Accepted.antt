@@ -53,9 +53,9 @@ use Rattle.dx_implies.proofs.Pruned.{left_implies}
 use Rattle.clio_accept.specs.Mapping.{SourceRefused, TargetRefused, NameRefused, LinesRefused, NamingRefused, WritingRefused}
 use Rattle.clio_accept.specs.Mapping.{LimitRefused, RulesRefused, FrozenRefused, frozen_cells}
 use Rattle.clio_accept.specs.Mapping.{NoneReserved, AreRulesOf, rules_of, limit_of, written_of}
-use Rattle.clio_accept.specs.Accepting.{between_of, limits, naming, writing, closing, leaving, accepting}
+use Rattle.clio_accept.specs.Accepting.{between_of, limits, naming, writing, closing, leaving, accepting, accepting_said}
 use Rattle.clio_accept.specs.Accepting.{frozen_count, pruning, said_rules, taking, target_names, target_sets}
-use Rattle.clio_accept.specs.Laws.{AcceptedFits, MappingFits}
+use Rattle.clio_accept.specs.Laws.{AcceptedFits, AcceptedNamesAreFree, MappingFits}
 use Rattle.clio_accept.proofs.Few.{few_variables}
 use Rattle.clio_accept.proofs.Closed.{closed_fits, closed_is_closed, closed_of}
 use Rattle.clio_accept.specs.declared.fault.AcceptFault.{AcceptFault}
@@ -245,30 +245,42 @@ is_taken list c m P p =
     let six = checked FrozenRefused (λ R. ¬ (PassesTest frozen_cells R)) pruning c R P five.1 in
     record { named = two.0; written = three.0; limits = four.0; all = R; are = four.1.1; few = five.0; within = six.0; left = six.1 }
 
-pub accepted_fits : AcceptedFits
-accepted_fits list c text M small (m, says, p) =
+-- what a text says passed: its sides, the names of its target sets, and its rules
+record HasPassed (list : List Conversion) (c : World) (m : MappingText) (M : Mapping) : Type 0 where
+  pub source : IsFaultless m.source
+  pub target : IsFaultless m.target
+  pub names : NoneReserved m.target
+  pub rules : (said_rules list).passes c m M
+
+has_passed : (list : List Conversion) (c : World) (m : MappingText) (M : Mapping) → (accepting_said list).passes c m M → HasPassed list c m M
+has_passed list c m M p =
     let one = checked (λ m. SourceRefused m.source) (λ m. IsFaultless m.source) (next target_sets (next target_names (said_rules list))) c m M p in
     let two = checked (λ m. TargetRefused m.target) (λ m. IsFaultless m.target) (next target_names (said_rules list)) c m M one.1 in
     let three = checked (λ m. NameRefused m.target) (λ m. NoneReserved m.target) (said_rules list) c m M two.1 in
-    let t = is_taken list c m three.1.0 three.1.1 in
+    record { source = one.0; target = two.0; names = three.0; rules = three.1 }
+
+pub accepted_fits : AcceptedFits
+accepted_fits list c text M small (m, says, p) =
+    let s = has_passed list c m M p in
+    let t = is_taken list c m s.rules.0 s.rules.1 in
     let rules = texts_have_whole_rules text m says in
     let a : IsRead list m = record {
-      source = one.0;
-      target = two.0;
+      source = s.source;
+      target = s.target;
       named = t.named;
       limits = t.limits;
       written = t.written;
       whole = λ r i. (rules r i).0;
     } in
     let narrow : Each m.rules IsNarrow = λ r i. let few = (rules r i).1 in omega (arith, few, small) in
-    let part = left_implies t.all three.1.0 t.left in
+    let part = left_implies t.all s.rules.0 t.left in
     let shorter = part.1 in
     let many = t.few in
-    let good : Each three.1.0 (IsGood list m) = λ d i. all_good list m t.all a narrow t.are d (part.0 d i) in
+    let good : Each s.rules.0 (IsGood list m) = λ d i. all_good list m t.all a narrow t.are d (part.0 d i) in
     let words = said_is_writable text m says in
-    subst (MappingFits list) (sym three.1.2) (record {
-      source = one.0;
-      target = two.0;
+    subst (MappingFits list) (sym s.rules.2) (record {
+      source = s.source;
+      target = s.target;
       source_names = words.0.named;
       target_names = words.1.named;
       few = omega (arith, shorter, many);
@@ -278,6 +290,16 @@ accepted_fits list c text M small (m, says, p) =
       conclusions = λ d i. (good d i).conclusion;
       listed = λ d i. (good d i).listed;
     })
+
+pub none_reserved : AcceptedNamesAreFree
+none_reserved list c text M (m, says, p) =
+    let s = has_passed list c m M p in
+    subst (λ (N : Mapping). NoneReserved N.target) (sym s.rules.2) s.names
+
+pub faultless_target : (list : List Conversion) (c : World) (text : List ℕ) (M : Mapping) → (accepting list).passes c text M → IsFaultless M.target
+faultless_target list c text M (m, says, p) =
+    let s = has_passed list c m M p in
+    subst (λ (N : Mapping). IsFaultless N.target) (sym s.rules.2) s.target
 
 -- nothing is outside
 nowhere : World

@@ -6,3 +6,4 @@ pub mod Closed
 pub mod Accepted
 pub mod Ruled
 pub mod Silent
+mod Examples

@@ -13,6 +13,7 @@ use Rattle.dx_stages.specs.Worlds.{World}
 use Rattle.dx_stages.specs.Laws.{IsDecided, PassesOne}
 use Rattle.clio_accept.specs.declared.mapping.Mapping.{Mapping}
 use Rattle.clio_accept.specs.Accepting.{accepting}
+use Rattle.clio_accept.specs.Mapping.{NoneReserved}
 
 -- Both schemas are faultless and their names are words; at most 256 rules are left; each fits the schemas, is closed under the
 -- links of the target, and has conversions of the list alone, each of as many arguments as it takes.
@@ -41,3 +42,8 @@ abbrev pub AcceptedFits : Type 0
 AcceptedFits =
     (list : List Conversion) (c : World) (text : List ℕ) (M : Mapping) → length text < 2 ^ 32 - 1 → (accepting list).passes c text M
     → MappingFits list M
+
+-- no target set of an accepted mapping has a reserved name
+abbrev pub AcceptedNamesAreFree : Type 0
+AcceptedNamesAreFree =
+    (list : List Conversion) (c : World) (text : List ℕ) (M : Mapping) → (accepting list).passes c text M → NoneReserved M.target

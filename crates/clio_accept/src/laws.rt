@@ -1,5 +1,5 @@
 // The laws of accepted mappings. The definitions alone carry them: no body computes anything.
-ghost use Rattle.clio_accept.specs.Laws.{AcceptedFits, AcceptedOrRefused, OneMapping};
+ghost use Rattle.clio_accept.specs.Laws.{AcceptedFits, AcceptedNamesAreFree, AcceptedOrRefused, OneMapping};
 
 /// A text is accepted with one mapping or refused for one reason, and never both.
 pub fn a_text_is_accepted_or_refused()
@@ -10,4 +10,9 @@ pub fn a_text_is_accepted_or_refused()
 /// An accepted mapping has two schemas, and rules that fit them.
 pub fn an_accepted_mapping_fits()
     ensures { AcceptedFits }
+{}
+
+/// No target set of an accepted mapping is named `nulls` or `fold`, as files of clio's own are.
+pub fn accepted_names_are_free()
+    ensures { AcceptedNamesAreFree }
 {}

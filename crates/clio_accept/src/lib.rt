@@ -15,5 +15,5 @@ mod mapping;
 
 pub use accepting::accept;
 pub use fault::{AcceptFault, MapFault};
-pub use laws::{a_text_is_accepted_or_refused, an_accepted_mapping_fits};
+pub use laws::{a_text_is_accepted_or_refused, accepted_names_are_free, an_accepted_mapping_fits};
 pub use mapping::Mapping;

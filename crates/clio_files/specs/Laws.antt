@@ -1,11 +1,11 @@
 -- What holds of the files.
-use Rattle.std.specs.Prelude.{Bool, List, ◌≤◌, length}
-use Rattle.dx_ports.specs.Members.{Each}
+use Rattle.std.specs.Prelude.{◌≡◌, Bool, ℕ, List, ◌<◌, ◌≤◌, codes, length, map}
+use Rattle.dx_ports.specs.Members.{Distinct, Each}
 use Rattle.dx_model.specs.declared.rules.Rule.{Rule}
 use Rattle.dx_funcs.specs.declared.conversion.Conversion.{Conversion}
 use Rattle.dx_instance.specs.Stored.{facts}
 use Rattle.dx_schema.specs.Forest.{Forest}
-use Rattle.dx_schema.specs.Tables.{AreTables, tables_of}
+use Rattle.dx_schema.specs.Tables.{AreTables, table_at, tables_of}
 use Rattle.dx_exchange.specs.declared.mode.Mode.{Mode}
 use Rattle.dx_exchange.specs.declared.result.Exchange.{Exchange}
 use Rattle.clio_files.specs.Files.{AreFiles, FitsFiles}
@@ -17,3 +17,20 @@ FilesExist =
     (source target : Forest) (list : List Conversion) (mode : Mode) (nested : Bool) (R : List Rule) (e : Exchange)
     → FitsFiles R target e → AreTables (tables_of target) → Each (facts e.target) (λ f. 1 ≤ length f.row)
     → (files : List Told) × AreFiles source target list mode nested R e files
+
+-- an exchange has no two lists of files
+abbrev pub FilesAreOne : Type 0
+FilesAreOne =
+    (source target : Forest) (list : List Conversion) (mode : Mode) (nested : Bool) (R : List Rule) (e : Exchange) (files others : List Told)
+    → AreFiles source target list mode nested R e files → AreFiles source target list mode nested R e others → files ≡ others
+
+-- the name is none of those of the two files about nulls
+abbrev pub IsFree : List ℕ → Type 0
+IsFree name = (¬ (name ≡ codes "nulls")) × (¬ (name ≡ codes "fold"))
+
+-- no two files have one name, if all tables have free names
+abbrev pub NamesAreApart : Type 0
+NamesAreApart =
+    (source target : Forest) (list : List Conversion) (mode : Mode) (nested : Bool) (R : List Rule) (e : Exchange) (files : List Told)
+    → AreTables (tables_of target) → ((t : ℕ) → t < length (tables_of target) → IsFree (table_at target t).name)
+    → AreFiles source target list mode nested R e files → Distinct (map (λ (f : Told). f.name) files)

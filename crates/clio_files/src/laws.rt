@@ -1,7 +1,17 @@
-// The law of the files. The definitions alone carry it: no body computes anything.
-ghost use Rattle.clio_files.specs.Laws.{FilesExist};
+// The laws of the files. The definitions alone carry them: no body computes anything.
+ghost use Rattle.clio_files.specs.Laws.{FilesAreOne, FilesExist, NamesAreApart};
 
 /// An exchange that fits its schema has files.
 pub fn an_exchange_has_files()
     ensures { FilesExist }
+{}
+
+/// An exchange has one list of files: no file more or less, and no other names, bytes or counts.
+pub fn files_are_one()
+    ensures { FilesAreOne }
+{}
+
+/// No two files have one name, if no table of the target is named `nulls` or `fold`.
+pub fn names_are_apart()
+    ensures { NamesAreApart }
 {}

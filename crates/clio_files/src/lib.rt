@@ -18,7 +18,7 @@ mod summaries;
 mod tables;
 mod texts;
 
-pub use laws::an_exchange_has_files;
+pub use laws::{an_exchange_has_files, files_are_one, names_are_apart};
 pub use nulls::nulls_of;
 pub use printed::Printed;
 pub use printing::print_files;

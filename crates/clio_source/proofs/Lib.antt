@@ -6,3 +6,5 @@ pub mod Passed
 pub mod Runs
 pub mod Decided
 pub mod Whole
+pub mod Unmarked
+mod Examples

@@ -214,7 +214,7 @@ distinct_at (x ∷ xs) (suc i) (suc j) d lt within e = distinct_at xs i j d.1 (o
 abbrev pub names_in : List TableOf → List (List ℕ)
 names_in ts = map (λ (t : TableOf). t.name) ts
 
-names_differ : (f : Forest) (u v : ℕ) → Distinct (names_in (tables_of f)) → u < v → v < length (tables_of f) → ¬ ((table_at f u).name ≡ (table_at f v).name)
+pub names_differ : (f : Forest) (u v : ℕ) → Distinct (names_in (tables_of f)) → u < v → v < length (tables_of f) → ¬ ((table_at f u).name ≡ (table_at f v).name)
 names_differ f u v d lt within e =
     let name = λ (t : TableOf). t.name in
     let v_in : v < length (names_in (tables_of f)) = omega (arith, length-map (tables_of f) name) in

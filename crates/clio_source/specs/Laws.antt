@@ -1,10 +1,13 @@
 -- What holds of the source of files.
-use Rattle.std.specs.Prelude.{◌≡◌, ◌<◌, ◌↔◌, ℕ, None, length}
-use Rattle.dx_ports.specs.Members.{◌∈◌}
+use Rattle.std.specs.Prelude.{◌≡◌, ◌<◌, ◌↔◌, ℕ, List, [], None, Ok, length}
+use Rattle.dx_ports.specs.Members.{◌∈◌, ◌≈◌}
+use Rattle.dx_instance.specs.Stored.{TableRows, facts}
 use Rattle.dx_schema.specs.Forest.{Forest}
 use Rattle.dx_schema.specs.Inner.{AreAscending}
 use Rattle.dx_schema.specs.Tables.{table_at, tables_of}
 use Rattle.dx_stages.specs.Laws.{IsDecided, PassesOne}
+use Rattle.dx_stages.specs.Running.{Ran, Told}
+use Rattle.clio_source.specs.Agreeing.{RanAgreeing}
 use Rattle.clio_source.specs.Source.{roots, source_stages}
 
 -- files say at most one source
@@ -22,3 +25,9 @@ pub record AreRoots (f : Forest) : Type 0 where
 
 abbrev pub RootsHaveNoParent : Type 0
 RootsHaveNoParent = (f : Forest) → AreRoots f
+
+-- if no column has a mark, what is read has just the facts of what the stages pass
+abbrev pub AllIsRead : Type 0
+AllIsRead =
+    (f : Forest) (J : List TableRows) (old new : Told) → RanAgreeing [] source_stages f (Ok J) old new
+    → (I : List TableRows) × (facts I ≈ facts J) × Ran source_stages f (Ok I) old new

@@ -19,5 +19,5 @@ mod tables;
 
 pub use fault::{RowsFault, SourceRefusal};
 pub use files::read_source;
-pub use laws::{files_are_read_or_refused, roots_have_no_parent};
+pub use laws::{all_is_read_without_marks, files_are_read_or_refused, roots_have_no_parent};
 pub use names::{file_name, json_file_name};

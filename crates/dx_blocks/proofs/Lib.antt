@@ -7,3 +7,4 @@ pub mod Placing
 pub mod Filling
 pub mod BlockParts
 pub mod BlockLaws
+pub mod Examples

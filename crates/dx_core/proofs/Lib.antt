@@ -14,3 +14,4 @@ pub mod Standing
 pub mod Tried
 pub mod Unhit
 pub mod Whole
+mod Examples

@@ -1,5 +1,5 @@
 // Searches for places of all facts of a block.
-ghost use Rattle.std.specs.Prelude.{◌≡◌, ◌↔◌, IfOk, IsTrue};
+ghost use Rattle.std.specs.Prelude.{◌≡◌, ◌↔◌, ◌≤◌, IfOk, IsTrue, length};
 ghost use Rattle.std.specs.Bool.{OnTrue};
 ghost use Rattle.std.specs.FinMap as finite;
 ghost use Rattle.std.specs.Option.{option_copied};
@@ -17,7 +17,9 @@ use std::alloc::{AllocError, Global};
 const SMALL: usize = 8;
 
 /// Whether the block has few facts.
-pub(crate) fn is_small(block: &Block) -> bool {
+pub(crate) fn is_small(block: &Block) -> bool
+    ensures { IsTrue result ↔ (length block.now.facts ≤ 8) }
+{
     block.facts.items().len() <= SMALL
 }
 

@@ -5,3 +5,4 @@ pub mod CoverFacts
 pub mod Numbers
 pub mod FoldFacts
 pub mod Uncovering
+pub mod Examples

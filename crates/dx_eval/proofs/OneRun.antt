@@ -1,5 +1,6 @@
 -- A script has one run.
-use Rattle.std.proofs.Common.{◌≡◌, ◌≤◌, List, length, subst, arith}
+use Rattle.std.proofs.Common.{◌≡◌, ◌≤◌, List, length, refl, subst, inl, inr, arith}
+use Rattle.std.proofs.lemmas.Bool.{cases_lt}
 use Rattle.dx_model.specs.declared.facts.Fact.{Fact}
 use Rattle.dx_model.specs.Values.{Text, Tuple, Rows}
 use Rattle.dx_schema.specs.Names.{Named}
@@ -8,7 +9,7 @@ use Rattle.dx_script.specs.Meaning.{match_table}
 use Rattle.dx_script.proofs.Steps.{at_most}
 use Rattle.dx_script.proofs.Unique.{meaning_is_unique, one_list, one_by_one}
 use Rattle.dx_eval.specs.Evaluating.{AreMatchTables, script_cells, tuples_of}
-use Rattle.dx_eval.specs.Laws.{MadeOrTooMany, RunsAgree, TablesOfMeaning}
+use Rattle.dx_eval.specs.Laws.{MadeOrPassed, MadeOrTooMany, RunsAgree, TablesOfMeaning}
 
 module _ (source : List Named) (call : Text → Tuple → Text) (steps : List Step) (I : List Fact) where
   below : (tables others : Rows) → AreMatchTables source call steps I tables → AreMatchTables source call steps I others → length tables ≤ length others
@@ -40,3 +41,15 @@ made_or_too_many source target call steps I limit m e p q =
     let more = q.more in
     let within : script_cells steps q.tables ≤ limit = subst (λ z. script_cells steps z ≤ limit) same p.within in
     omega arith
+
+pub made_or_passed : MadeOrPassed
+made_or_passed source target call steps I limit m means wide =
+    elim (cases_lt limit (script_cells steps (tuples_of m.matches))) [
+      | inl more ↦ inr (record {
+        tables = tuples_of m.matches;
+        are = record { matches = means.matches; no_more = means.no_more };
+        more = more;
+        fault = refl;
+      })
+      | inr few ↦ inl (record { means = means; within = omega (arith, few); wide = wide })
+    ]

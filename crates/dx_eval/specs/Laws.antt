@@ -1,14 +1,16 @@
 -- What holds of runs of scripts.
-use Rattle.std.specs.Prelude.{◌≡◌, ℕ, List}
+use Rattle.std.specs.Prelude.{◌≡◌, ◌⊎◌, ℕ, List, length, map}
 use Rattle.dx_ports.specs.Members.{◌≈◌}
+use Rattle.dx_ports.specs.declared.file.Count.TheVariants.{TargetCells}
 use Rattle.dx_model.specs.declared.facts.Fact.{Fact}
 use Rattle.dx_model.specs.Values.{Text, Tuple, Rows}
 use Rattle.dx_schema.specs.Names.{Named}
-use Rattle.dx_instance.specs.Stored.{facts}
+use Rattle.dx_instance.specs.Stored.{facts, widths}
 use Rattle.dx_script.specs.declared.form.Step.{Step}
 use Rattle.dx_script.specs.Meaning.{Means}
 use Rattle.dx_eval.specs.declared.made.Made.{Made}
 use Rattle.dx_eval.specs.declared.fault.EvalFault.{EvalFault}
+use Rattle.dx_eval.specs.declared.fault.EvalFault.TheVariants.{Limit}
 use Rattle.dx_eval.specs.Evaluating.{AreMatchTables, IsMade, PassesLimit, tuples_of}
 
 -- two runs of a script on the same rows have the same matches and the same facts
@@ -23,6 +25,15 @@ abbrev pub MadeOrTooMany : Type 0
 MadeOrTooMany =
     (source target : List Named) (call : Text → Tuple → Text) (steps : List Step) (I : List Fact) (limit : ℕ)
     (m : Made) (e : EvalFault) → IsMade source target call steps I limit m → ¬ (PassesLimit source call steps I limit e)
+
+-- what a script means is made within the limit, or the script passes the limit, and this is the fault
+abbrev pub MadeOrPassed : Type 0
+MadeOrPassed =
+    (source target : List Named) (call : Text → Tuple → Text) (steps : List Step) (I : List Fact) (limit : ℕ) (m : Made)
+    → Means source target call steps I (tuples_of m.matches) (facts m.instance)
+    → widths m.instance ≡ map (λ (t : Named). length t.columns) target
+    → IsMade source target call steps I limit m
+    ⊎ PassesLimit source call steps I limit (Limit (record { what = TargetCells; number = limit }))
 
 -- the match tables of a script are those of its meaning
 abbrev pub TablesOfMeaning : Type 0

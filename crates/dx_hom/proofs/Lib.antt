@@ -7,3 +7,4 @@ pub mod Steps
 pub mod Turns
 pub mod Placing
 pub mod Marks
+mod Examples

@@ -1,4 +1,6 @@
 // Which facts had no place in a search: a matter of time alone.
+ghost use Rattle.std.specs.Prelude.{◌≡◌, ◌↔◌, ◌<◌, ◌/◌, IfOk, IsTrue, replicate, slice_index_or};
+
 use std::alloc::{AllocError, Global};
 
 /// Up to how many failures a search takes the next fact without a wide look.
@@ -20,18 +22,26 @@ impl Failures {
     /// # Errors
     ///
     /// `AllocError` if there is no memory.
-    pub(crate) fn reserve(alloc: Global, facts: usize) -> Result<Failures, AllocError> {
+    pub(crate) fn reserve(alloc: Global, facts: usize) -> Result<Failures, AllocError>
+        ensures all { IfOk result (λ f. f.all ≡ 0) }
+        ensures each { IfOk result (λ f. f.each.items ≡ replicate facts 0) }
+    {
         let each = vec![in alloc; 0u32; facts]?;
         Ok(Failures { all: 0, each })
     }
 
     /// None yet.
-    pub(crate) fn clear(&mut self) {
+    pub(crate) fn clear(&mut self)
+        ensures all { self.new.all ≡ 0 }
+        ensures each { self.new.each ≡ self.old.each }
+    {
         self.all = 0;
     }
 
     /// How often the fact at this place had no place.
-    pub(crate) fn of(&self, fact: usize) -> u32 {
+    pub(crate) fn of(&self, fact: usize) -> u32
+        ensures { result ≡ slice_index_or self.now.each.items fact 0 }
+    {
         match self.each.get(fact) {
             None => 0,
             Some(count) => *count,
@@ -39,7 +49,9 @@ impl Failures {
     }
 
     /// Whether there are many, if so many facts are moved.
-    pub(crate) fn are_many(&self, moved: usize) -> bool {
+    pub(crate) fn are_many(&self, moved: usize) -> bool
+        ensures { IsTrue result ↔ ((32 < self.now.all) × (moved < self.now.all / 4)) }
+    {
         self.all > FEW_FAILURES && self.all / TIMES > moved
     }
 

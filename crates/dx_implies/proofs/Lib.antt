@@ -4,3 +4,4 @@ pub mod Near
 pub mod Pruned
 pub mod Premises
 pub mod Answered
+pub mod Examples

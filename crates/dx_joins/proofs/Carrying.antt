@@ -1,6 +1,6 @@
 -- Partial matches, pattern by pattern.
 use Rattle.std.proofs.Common.{◌≡◌, ◌↔◌, ◌⊎◌, ◌∙◌, ◌<◌, ◌≤◌, ◌+◌, ◌++◌, ◌∷◌, ◌^◌, ℕ, List, [], Bool, true, false, refl, sym, ap, subst, arith, length, get_or, take, drop, inl, inr, Result, Ok, Err, Option, None, Some}
-use Rattle.std.specs.Prelude.{map, IfOk, MatchOption}
+use Rattle.std.specs.Prelude.{map, IfOk, IfSome, MatchOption}
 use Rattle.std.specs.declared.alloc.AllocError.{AllocError}
 use Rattle.std.proofs.lemmas.List.{length-append, drop_more}
 use Rattle.dx_ports.specs.Members.{◌∈◌, ◌⊆◌, here, there, Each, Distinct}
@@ -47,6 +47,13 @@ step_done (Ok (Some r)) start new most width P Q a b n s g k = record {
     (λ q. (k.0.exact t).1 ((g.exact t).1 (inr ((s t).1 q)))),
   );
 }
+
+-- no more rows than are wanted
+pub few_rows : (result : Result (Option NumberTable) AllocError) (most bound : ℕ) (P : Type 0) (Q : NumberTable → Type 0) → most ≡ bound
+    → IfOk result (λ o. MatchOption o P (λ r. Q r × (length r.rows ≤ most))) → IfOk result (λ o. IfSome o (λ r. length r.rows ≤ bound))
+few_rows (Err e) most bound P Q is k = tt
+few_rows (Ok None) most bound P Q is k = tt
+few_rows (Ok (Some r)) most bound P Q is k = let l = k.1 in omega (arith, l, is)
 
 shared_there : (T : List NumberTable) (marks : List Bool) (done later : List Pattern) (wanted : List ℕ) (p : Pattern) (q : Partial) → Carries T marks done (p ∷ later) wanted q
     → (x : ℕ) → x ∈ variables_of done → x ∈ p.variables.items → x ∈ q.variables.items

@@ -1,5 +1,5 @@
 // The order in which patterns are joined.
-ghost use Rattle.std.specs.Prelude.{◌≡◌, ◌↔◌, ◌<◌, ◌≤◌, ◌^◌, [], IfOk, IsPermutation, List, MatchOption, length, ℕ};
+ghost use Rattle.std.specs.Prelude.{◌≡◌, ◌↔◌, ◌<◌, ◌≤◌, ◌^◌, [], IfOk, IfSome, IsPermutation, List, MatchOption, length, ℕ};
 ghost use Rattle.dx_ports.specs.Members.{◌∈◌, ◌⊆◌, Each};
 ghost use Rattle.dx_joins.specs.Collecting.{MoreThan};
 ghost use Rattle.dx_joins.specs.Joining.{variables_of};
@@ -80,9 +80,10 @@ pub(crate) fn ordered_rows(
     requires shown { shown.now ⊆ variables_of patterns.items }
     requires wide { length shown.now < 2 ^ 32 }
     requires marks { length marks.now ≡ length source.now.symbols }
-    ensures { IfOk result (λ o. MatchOption o
+    ensures rows { IfOk result (λ o. MatchOption o
         (MoreThan most (IsTold source.now.tables marks.now patterns.items shown.now))
         (λ r. Told source.now.tables marks.now patterns.items shown.now r)) }
+    ensures within { IfOk result (λ o. IfSome o (λ r. length r.rows ≤ most)) }
 {
     let ordered = in_order(alloc, patterns, source)?;
     premise_rows(alloc, &ordered, shown, marks, source, most)

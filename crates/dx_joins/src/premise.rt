@@ -1,5 +1,5 @@
 // The join of a premise, pattern by pattern.
-ghost use Rattle.std.specs.Prelude.{◌≡◌, ◌↔◌, ◌⊎◌, ◌<◌, ◌≤◌, ◌+◌, ◌-◌, ◌^◌, ◌++◌, ◌∷◌, [], ℕ, List, IfOk, OnOk, IsTrue, MatchOption, length, map};
+ghost use Rattle.std.specs.Prelude.{◌≡◌, ◌↔◌, ◌⊎◌, ◌<◌, ◌≤◌, ◌+◌, ◌-◌, ◌^◌, ◌++◌, ◌∷◌, [], ℕ, List, IfOk, IfSome, OnOk, IsTrue, MatchOption, length, map};
 ghost use Rattle.dx_ports.specs.Members.{◌∈◌, ◌⊆◌, Distinct, Each};
 ghost use Rattle.dx_instance.specs.Shown.{numbers_of_table};
 ghost use Rattle.dx_joins.specs.Collecting.{AreThose, MoreThan};
@@ -91,9 +91,10 @@ fn step(
     requires few { length kept.now < 2 ^ 32 }
     requires fits { FitPattern source.now.tables pattern.now }
     requires marks { length marks.now ≡ length source.now.symbols }
-    ensures { IfOk result (λ o. MatchOption o
+    ensures rows { IfOk result (λ o. MatchOption o
         (MoreThan most (StepsTo source.now.tables marks.now partial.now pattern.now kept.now))
         (AreThose (length kept.now) (StepsTo source.now.tables marks.now partial.now pattern.now kept.now))) }
+    ensures within { IfOk result (λ o. IfSome o (λ r. length r.rows ≤ most)) }
 {
     let plan = Plan::build(alloc, &partial.variables, &pattern.variables, kept)?;
     let mut out = Collected::new(alloc, kept.len() as u32, most);
@@ -173,9 +174,10 @@ pub(crate) fn premise_rows(
     requires shown { shown.now ⊆ variables_of patterns.now }
     requires wide { length shown.now < 2 ^ 32 }
     requires marks { length marks.now ≡ length source.now.symbols }
-    ensures { IfOk result (λ o. MatchOption o
+    ensures rows { IfOk result (λ o. MatchOption o
         (MoreThan most (IsTold source.now.tables marks.now patterns.now shown.now))
         (λ r. Told source.now.tables marks.now patterns.now shown.now r)) }
+    ensures within { IfOk result (λ o. IfSome o (λ r. length r.rows ≤ most)) }
 {
     let last = patterns.len() - 1;
     let mut partial = start(alloc)?;

@@ -1,5 +1,5 @@
 // What the matches of a premise and derived variables give to any variables.
-ghost use Rattle.std.specs.Prelude.{◌≡◌, ◌↔◌, ◌⊎◌, ◌<◌, ◌≤◌, ◌+◌, ◌-◌, ◌^◌, ◌++◌, ◌∷◌, [], ℕ, List, IfOk, OnOk, IsTrue, MatchOption, length, map, max};
+ghost use Rattle.std.specs.Prelude.{◌≡◌, ◌↔◌, ◌⊎◌, ◌<◌, ◌≤◌, ◌+◌, ◌-◌, ◌^◌, ◌++◌, ◌∷◌, [], ℕ, List, IfOk, IfSome, OnOk, IsTrue, MatchOption, length, map, max};
 ghost use Rattle.std.specs.List.{range_with_len};
 ghost use Rattle.dx_ports.specs.Members.{◌∈◌, ◌⊆◌, Distinct, Each};
 ghost use Rattle.dx_model.specs.declared.rules.Derived.{Derived as AnyDerived};
@@ -163,6 +163,7 @@ fn derived_rows<F: Fn(u32, &Items<Text>) -> Result<Text, AllocError>, M: Meaning
     ensures rows { IfOk result (λ o. MatchOption o
         (MoreTuples most (GivenBy M.apply wanted.now derived.now first shown.now symbols.old rows.now.rows))
         (StandFor (length shown.now) (GivenBy M.apply wanted.now derived.now first shown.now symbols.old rows.now.rows) symbols.new)) }
+    ensures within { IfOk result (λ o. IfSome o (λ r. length r.rows ≤ most)) }
 {
     let names = names_of(alloc, wanted, first, derived.len() as u32)?;
     let places = places(alloc, &names, shown)?;
@@ -211,6 +212,7 @@ pub fn shown_rows<F: Fn(u32, &Items<Text>) -> Result<Text, AllocError>, M: Meani
     ensures rows { IfOk result (λ o. MatchOption o
         (MoreTuples most (IsShown M.apply premise.now derived.now (facts_in source.now) shown.now))
         (StandFor (length shown.now) (IsShown M.apply premise.now derived.now (facts_in source.now) shown.now) symbols.new)) }
+    ensures within { IfOk result (λ o. IfSome o (λ r. length r.rows ≤ most)) }
 {
     if derived.is_empty() {
         return premise_shown(alloc, premise, shown, source, most);

@@ -1,5 +1,5 @@
 // Premises as patterns, and numbers that stand for texts.
-ghost use Rattle.std.specs.Prelude.{◌≡◌, ◌↔◌, ◌<◌, ◌≤◌, ◌+◌, ◌-◌, ◌^◌, [], ℕ, List, IfOk, OnOk, IsTrue, MatchOption, length, map, flat_map};
+ghost use Rattle.std.specs.Prelude.{◌≡◌, ◌↔◌, ◌<◌, ◌≤◌, ◌+◌, ◌-◌, ◌^◌, [], ℕ, List, IfOk, IfSome, OnOk, IsTrue, MatchOption, length, map, flat_map};
 ghost use Rattle.dx_ports.specs.Members.{◌∈◌, Each};
 ghost use Rattle.dx_model.specs.Values.{Conversions};
 ghost use Rattle.dx_model.specs.Rules.{after_cells, cells_of};
@@ -80,9 +80,10 @@ pub(crate) fn premise_shown(
     most: u64,
 ) -> Result<Option<Rows>, AllocError>
     requires fits { FitsMatching (widths (shown_tables source.now.symbols source.now.tables)) premise.now [] shown.now }
-    ensures { (convert : Conversions) → IfOk result (λ o. MatchOption o
+    ensures rows { (convert : Conversions) → IfOk result (λ o. MatchOption o
         (MoreTuples most (IsShown convert premise.now [] (facts_in source.now) shown.now))
         (StandFor (length shown.now) (IsShown convert premise.now [] (facts_in source.now) shown.now) source.now.symbols)) }
+    ensures within { IfOk result (λ o. IfSome o (λ r. length r.rows ≤ most)) }
 {
     let patterns = patterns_of(alloc, premise)?;
     let marks = marks_of(alloc, source)?;

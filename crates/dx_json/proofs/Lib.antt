@@ -10,3 +10,4 @@ pub mod Nested
 pub mod OneText
 pub mod Ordered
 pub mod Tokens
+pub mod Examples

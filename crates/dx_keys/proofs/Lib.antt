@@ -15,3 +15,4 @@ pub mod NumberTables
 pub mod RootMaps
 pub mod Answering
 mod Unforced
+mod Examples

@@ -15,3 +15,5 @@ pub mod Said
 pub mod LineRules
 pub mod Closings
 pub mod Examples
+pub mod ReadExamples
+pub mod ReadRules

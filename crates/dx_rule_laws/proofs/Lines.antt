@@ -90,7 +90,7 @@ table_named f t w lt =
     let among = from_map (table_in (sets_of f)) (sets_of f) (in_at (tables_of f) t _ lt) in
     subst (λ table. lexing.IsWord table.name) among.2 (sets_named None 0 f w.named among.0 among.1)
 
-tables_named : (source target : Forest) (d : Rule) → AreWritable source → AreWritable target → RuleFits (model_tables source) (model_tables target) d → HasNamedTables source target d
+pub tables_named : (source target : Forest) (d : Rule) → AreWritable source → AreWritable target → RuleFits (model_tables source) (model_tables target) d → HasNamedTables source target d
 tables_named source target d from to fits = record {
   premise = λ a m. table_named source a.table from (atom_table source a (fits.premise a m));
   conclusion = λ a m. table_named target a.table to (atom_table target a (fits.conclusion a m));

@@ -61,9 +61,28 @@ SaidRulesAreReadAgain =
     → Each m.rules IsNarrow → rules_fault m.source m.target list m.rules ≡ None
     → AreReadBehind m list (rules_of m.source m.target list m.rules) (text ++ (codes "\n" ++ rules_text m.source m.target list (rules_of m.source m.target list m.rules)))
 
+-- and those rules can be printed
+abbrev pub SaidRulesArePrintable : Type 0
+SaidRulesArePrintable =
+    (text : Text) (m : MappingText) (list : List Conversion) → IsMappingText text m → AreTables (tables_of m.source) → AreTables (tables_of m.target) → IsOffer list
+    → Each m.rules IsNarrow → rules_fault m.source m.target list m.rules ≡ None
+    → Each (rules_of m.source m.target list m.rules) (IsPrintable m.source m.target list)
+
 -- a text says at most one rule, and is read as at most one
 abbrev pub OneRuleText : Type 0
 OneRuleText = (text : Text) (r s : RuleText) → IsRuleText text r → IsRuleText text s → r ≡ s
 
 abbrev pub OneRule : Type 0
 OneRule = (source target : Forest) (list : List Conversion) (d e : Rule) (text : Text) → IsReadAs source target list d text → IsReadAs source target list e text → d ≡ e
+
+-- after a mapping it is read as one list of rules at most
+abbrev pub OneListBehind : Type 0
+OneListBehind = (m : MappingText) (list : List Conversion) (ds es : List Rule) (text : Text) → AreReadBehind m list ds text → AreReadBehind m list es text → ds ≡ es
+
+-- a rule that a text is read as has listed conversions alone
+abbrev pub ReadIsOffered : Type 0
+ReadIsOffered = (source target : Forest) (list : List Conversion) (d : Rule) (text : Text) → IsReadAs source target list d text → AreOffered list d
+
+-- and so has each that is read after a mapping
+abbrev pub ReadBehindIsOffered : Type 0
+ReadBehindIsOffered = (m : MappingText) (list : List Conversion) (ds : List Rule) (text : Text) → AreReadBehind m list ds text → Each ds (AreOffered list)

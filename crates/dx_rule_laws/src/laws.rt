@@ -1,5 +1,5 @@
 // The laws of printed rules. The definitions alone carry them: no body computes anything.
-ghost use Rattle.dx_rule_laws.specs.Laws.{ClosingsAreWritable, LineRulesAreWritable, OneRule, OneRuleText, PrintedLinesAreRead, PrintedRulesAreRead, PrintedRulesDiffer, SaidRulesAreReadAgain, SaidRulesAreWritable};
+ghost use Rattle.dx_rule_laws.specs.Laws.{ClosingsAreWritable, LineRulesAreWritable, OneListBehind, OneRule, OneRuleText, PrintedLinesAreRead, PrintedRulesAreRead, PrintedRulesDiffer, ReadBehindIsOffered, ReadIsOffered, SaidRulesArePrintable, SaidRulesAreReadAgain, SaidRulesAreWritable};
 
 /// The text of a rule that can be printed is read as the same rule, and no two such rules have one text.
 pub fn a_printed_rule_is_read()
@@ -25,8 +25,20 @@ pub fn rules_that_are_said_are_read_again()
     ensures { SaidRulesAreReadAgain }
 {}
 
-/// A text says one rule at most, and is read as one at most.
+/// The rules that a mapping text says without a fault can be printed.
+pub fn rules_that_are_said_can_be_printed()
+    ensures { SaidRulesArePrintable }
+{}
+
+/// A text says one rule at most, and is read as one at most, and after a mapping as one list of rules.
 pub fn a_text_says_one_rule()
     ensures text { OneRuleText }
     ensures rule { OneRule }
+    ensures behind { OneListBehind }
+{}
+
+/// Rules that a text is read as have listed conversions alone, with as many arguments as they take.
+pub fn rules_that_are_read_are_offered()
+    ensures rule { ReadIsOffered }
+    ensures behind { ReadBehindIsOffered }
 {}

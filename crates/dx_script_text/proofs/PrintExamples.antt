@@ -1,7 +1,11 @@
 -- Worked values of printed scripts, and a printable one.
-use Rattle.std.proofs.Common.{◌≡◌, [], ◌∷◌, refl, arith}
-use Rattle.std.specs.Prelude.{codes, true}
+use Rattle.std.proofs.Common.{◌≡◌, ℕ, List, [], ◌∷◌, length, refl, arith}
+use Rattle.std.specs.Prelude.{Bool, IsUtf8, codes, false, true}
 use Rattle.std.specs.Fmt.{digits}
+use Rattle.dx_script.specs.declared.form.Select.{Select}
+use Rattle.dx_script.specs.declared.form.Equal.{Equal}
+use Rattle.dx_script.specs.declared.form.Unless.{Unless}
+use Rattle.dx_script.specs.declared.form.Out.{Out}
 use Rattle.dx_script.specs.declared.form.Select.TheVariants as selected
 use Rattle.dx_script.specs.declared.form.Test.TheVariants as tested
 use Rattle.dx_script.specs.declared.form.Out.TheVariants as outs
@@ -9,7 +13,7 @@ use Rattle.dx_script.specs.declared.form.Step.TheVariants as steps
 use Rattle.dx_ports.specs.Members.{Each}
 use Rattle.dx_ports.proofs.Members.{each_cons}
 use Rattle.dx_tokens.specs.Tokens.{is_word_byte}
-use Rattle.dx_script_text.specs.Printable.{IsCellRef, IsEqual, IsName, IsOut, IsPrintable, IsSelect, IsStep, IsTest, IsUnless}
+use Rattle.dx_script_text.specs.Printable.{AreCounted, AreSome, IsCellRef, IsEqual, IsName, IsOut, IsPrintable, IsSelect, IsSmall, IsStep, IsTest, IsUnless}
 use Rattle.dx_script_text.specs.Print.{create_text, match_text, keep_text, insert_text}
 
 created : create_text (codes "unit") (codes "#id" ∷ codes "uname" ∷ []) ≡ codes "CREATE TABLE target.\"unit\" (\"#id\" TEXT, \"uname\" TEXT);\n"
@@ -80,3 +84,49 @@ printable : IsPrintable (record { steps = steps.Create (codes "#t") (codes "a" �
 printable =
     each_cons (steps.Create (codes "#t") (codes "a" ∷ [])) (steps.InsertRows (codes "#t") 4294967295 true (outs.Skolem 4294967295 ∷ []) ∷ []) create_step
     (one_item IsStep (steps.InsertRows (codes "#t") 4294967295 true (outs.Skolem 4294967295 ∷ [])) insert_step)
+
+-- a conversion of cells, an equality, and each kind of test and of value
+call_is : IsSelect (selected.Call (codes "#t") (record { alias = 4294967295; column = codes "a" } ∷ []))
+call_is = (hash, ((λ e. cc), one_item IsCellRef (record { alias = 4294967295; column = codes "a" }) cell_is))
+
+no_arguments : ¬ IsSelect (selected.Call (codes "#t") [])
+no_arguments h = h.1.0 refl
+
+equal_is : IsEqual (record { left = record { alias = 4294967295; column = codes "a" }; right = record { alias = 4294967295; column = codes "a" } })
+equal_is = (cell_is, cell_is)
+
+text_test : (text : List ℕ) → IsUtf8 text → IsTest (tested.Literal 4294967295 text)
+text_test text u = (omega arith, u)
+
+no_tests : IsUnless (record { rule = 4294967295; tests = [] })
+no_tests = (omega arith, no_item IsTest)
+
+text_out : (text : List ℕ) → IsUtf8 text → IsOut (outs.Literal text)
+text_out text u = u
+
+column_out : IsOut (outs.Column 4294967295)
+column_out = omega arith
+
+-- a step of any of these; as many columns and aliases as there are numbers
+any_match : (select : List Select) (sources : List (List ℕ)) (equal : List Equal) → Each select IsSelect → length select ≡ 4294967296
+    → AreSome IsName sources → length sources ≡ 4294967296 → Each equal IsEqual → IsStep (steps.MatchRows 0 select sources equal)
+any_match select sources equal s n t m e = (omega arith, (s, omega (arith, n)), (t, omega (arith, m)), e)
+
+any_keep : (unless : List Unless) → AreSome IsUnless unless → IsStep (steps.KeepRows 0 unless)
+any_keep unless u = (omega arith, u)
+
+any_insert : (kept : Bool) (cells : List Out) → AreSome IsOut cells → IsStep (steps.InsertRows (codes "a") 0 kept cells)
+any_insert kept cells c = (letter, omega arith, c)
+
+-- what is not
+one_too_great : ¬ IsSmall 4294967296
+one_too_great h = omega (arith, h)
+
+one_too_many : (names : List (List ℕ)) → length names ≡ 4294967297 → ¬ AreCounted names
+one_too_many names e h = omega (arith, e, h)
+
+no_partners : ¬ IsStep (steps.KeepRows 0 [])
+no_partners h = h.1.0 refl
+
+no_values : ¬ IsStep (steps.InsertRows (codes "a") 0 false [])
+no_values h = h.2.0 refl

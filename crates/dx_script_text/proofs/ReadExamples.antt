@@ -1,7 +1,7 @@
 -- Small texts that are read as scripts, and first faults of others, computed.
-use Rattle.std.proofs.Common.{◌≡◌, ℕ, true, List, [], ◌∷◌, Result, Ok, Err, codes, refl}
+use Rattle.std.proofs.Common.{◌≡◌, ℕ, true, List, [], ◌∷◌, Result, Ok, Err, codes, refl, ap, inl, inr, arith}
 use Rattle.dx_tokens.specs.declared.faults.TextFault.{TextFault}
-use Rattle.dx_tokens.specs.declared.faults.TextFault.TheVariants.{At}
+use Rattle.dx_tokens.specs.declared.faults.TextFault.TheVariants.{At, TooDeep, Memory}
 use Rattle.dx_tokens.specs.declared.faults.TextKind.TheVariants.{Character, Expected, Ended}
 use Rattle.dx_grammar.specs.Readers.{many}
 use Rattle.dx_grammar.specs.Numbers.{counted_reader, knowing, knowing_within}
@@ -14,7 +14,8 @@ use Rattle.dx_script.specs.declared.form.Out.TheVariants as outs
 use Rattle.dx_script.specs.declared.form.Step.TheVariants as steps
 use Rattle.dx_script.specs.declared.form.Script.{Script}
 use Rattle.dx_script_text.specs.Reading.{call_reader, cell_reader, cell_value_reader, column_out_reader, columns_reader, comma_item, comma_out, comma_source, create_reader, created_reader, declared_reader, equal_reader, equals_reader, insert_end_reader, insert_reader, insert_tail_reader, item_reader, items_reader, keep_reader, keep_tail_reader, match_reader, no_items, optional_tests, out_reader, outs_reader, script_reader, select_reader, skolem_reader, skolem_tail_reader, source_reader, sources_reader, step_reader, table_reader, test_reader, tests_reader, text_out_reader, text_reader, unless_reader, value_reader, where_reader}
-use Rattle.dx_script_text.specs.Texts.{told_of, read_text}
+use Rattle.dx_script_text.specs.Texts.{told_of, read_text, IsToldFault, Reads}
+use Rattle.dx_script_text.proofs.Answered.{never_said_and_faulty, text_script}
 
 -- what is read of a text
 read : List ℕ → Result Script TextFault
@@ -75,7 +76,71 @@ name_cannot_stand : read (codes "CREATE \"t") ≡ Err (At 7 Expected)
 unfolding read
 name_cannot_stand = refl
 
+-- the empty text says the script without steps
+no_steps : read [] ≡ Ok (record { steps = [] })
+unfolding read
+no_steps = refl
+
+-- a match step has DISTINCT, and 1 alone for no columns
+no_distinct : read (codes "CREATE TABLE m0 AS SELECT 1") ≡ Err (At 26 Expected)
+unfolding read
+no_distinct = refl
+
+another_digit : read (codes "CREATE TABLE m0 AS SELECT DISTINCT 0") ≡ Err (At 35 Expected)
+unfolding read
+another_digit = refl
+
+-- no step makes or fills a table of the source
+a_source_is_created : read (codes "CREATE TABLE source") ≡ Err (At 13 Expected)
+unfolding read
+a_source_is_created = refl
+
+a_source_is_filled : read (codes "INSERT INTO source") ≡ Err (At 12 Expected)
+unfolding read
+a_source_is_filled = refl
+
+-- a target table has columns
+no_columns : read (codes "CREATE TABLE target.\"t\"()") ≡ Err (At 24 Expected)
+unfolding read
+no_columns = refl
+
+-- partners are tuples of match tables, and what is put in is of the own tuple
+a_kept_partner : read (codes "CREATE TABLE k0 AS SELECT * FROM m0 AS m WHERE NOT EXISTS (SELECT * FROM k1") ≡ Err (At 73 Expected)
+unfolding read
+a_kept_partner = refl
+
+the_own_first : read (codes "CREATE TABLE k0 AS SELECT * FROM m0 AS m WHERE NOT EXISTS (SELECT * FROM m1 AS n WHERE m.c0 = n") ≡ Err (At 94 Expected)
+unfolding read
+the_own_first = refl
+
+of_a_partner : read (codes "INSERT INTO target.\"t\" SELECT n") ≡ Err (At 30 Expected)
+unfolding read
+of_a_partner = refl
+
 -- a byte that begins no token
 no_character : read (codes "CREATE -") ≡ Err (At 7 Character)
 unfolding read
 no_character = refl
+
+-- ---- what may be answered
+
+-- a script is not answered where another, or a fault, is the text's, and no fault where it is another
+a_fault_for_a_script : (s : Script) (e : TextFault) → ¬ Reads (Ok s) (Err e)
+a_fault_for_a_script s e h = absurd (cc h)
+
+a_script_for_a_fault : (s : Script) → ¬ Reads (Err (At 0 Ended)) (Ok s)
+a_script_for_a_fault s h = absurd (cc h)
+
+another_place : ¬ Reads (Err (At 0 Ended)) (Err (At 1 Ended))
+another_place h = omega (arith, ap place_in h) where
+  place_in : Result Script TextFault → ℕ
+  place_in (Ok s) = 0
+  place_in (Err (At place kind)) = place
+  place_in (Err (TooDeep place)) = 0
+  place_in (Err Memory) = 0
+
+-- of a text without a fault want of memory alone is told
+told_of_nothing : (e : TextFault) → IsToldFault [] e → e ≡ Memory
+unfolding read
+told_of_nothing e (inl m) = m
+told_of_nothing e (inr f) = absurd (never_said_and_faulty [] (record { steps = [] }) e (text_script [] (record { steps = [] }) no_steps) f)

@@ -1,18 +1,18 @@
 -- A rule from employees to persons: read by numbers, and refused at the first word that is at fault.
 use Rattle.std.proofs.Common.{◌≡◌, ℕ, List, [], ◌∷◌, Option, Some, None, codes, refl}
-use Rattle.dx_model.specs.declared.rules.Cell.TheVariants.{Var, Ex}
+use Rattle.dx_model.specs.declared.rules.Cell.TheVariants.{Var, Ex, Lit}
 use Rattle.dx_schema.specs.Forest.{Forest, none, set}
 use Rattle.dx_schema.specs.Tables.{Text}
 use Rattle.dx_tokens.specs.declared.faults.TextFault.{TextFault}
 use Rattle.dx_tokens.specs.declared.faults.TextFault.TheVariants.{At}
-use Rattle.dx_tokens.specs.declared.faults.TextKind.TheVariants.{Width, Unsafe}
+use Rattle.dx_tokens.specs.declared.faults.TextKind.TheVariants.{UnknownName, Width, Unsafe}
 use Rattle.dx_schema_text.specs.declared.texts.CellText.{CellText}
 use Rattle.dx_schema_text.specs.declared.texts.CellText.TheVariants.{Name, Literal}
 use Rattle.dx_schema_text.specs.declared.texts.AtomText.{AtomText}
 use Rattle.dx_schema_text.specs.declared.texts.DerivedText.{DerivedText}
 use Rattle.dx_schema_text.specs.declared.texts.RuleText.{RuleText}
 use Rattle.dx_funcs.specs.declared.conversion.Conversion.{Conversion}
-use Rattle.dx_tgd_text.specs.Reading.{rule_fault, rule_of}
+use Rattle.dx_tgd_text.specs.Reading.{rule_fault, rule_of, rules_fault}
 
 -- employees with a name and a place, persons with a name and a telephone
 abbrev employees : Forest
@@ -79,3 +79,47 @@ unknown_argument = refl
 
 derived_argument : fault (rule (x ∷ y ∷ []) (pair (x ∷ y ∷ []) ∷ derived (codes "v") 30 (x ∷ named (codes "z") 37 ∷ []) ∷ []) []) ≡ Some (At 37 Unsafe)
 derived_argument = refl
+
+-- the existential variables by first appearance, each once; a literal as it is
+existentials : (rule_of employees persons offer (rule (x ∷ y ∷ []) [] (named (codes "w") 47 ∷ named (codes "v") 49 ∷ []))).conclusion ≡ record { table = 0; cells = Ex 0 ∷ Ex 1 ∷ [] } ∷ []
+existentials = refl
+
+one_existential : (rule_of employees persons offer (rule (x ∷ y ∷ []) [] (named (codes "w") 47 ∷ named (codes "w") 49 ∷ []))).conclusion ≡ record { table = 0; cells = Ex 0 ∷ Ex 0 ∷ [] } ∷ []
+one_existential = refl
+
+literal : (rule_of employees persons offer (rule (x ∷ y ∷ []) [] (Literal (codes "w") ∷ y ∷ []))).conclusion ≡ record { table = 0; cells = Lit (codes "w") ∷ Var 1 ∷ [] } ∷ []
+literal = refl
+
+-- derived variables in their order
+two_derived :
+    (rule_of employees persons offer (rule (x ∷ y ∷ []) (pair (x ∷ y ∷ []) ∷ derived (codes "v") 30 (y ∷ x ∷ []) ∷ []) (named (codes "v") 47 ∷ named (codes "z") 49 ∷ []))).conclusion
+    ≡ record { table = 0; cells = Var 3 ∷ Var 2 ∷ [] } ∷ []
+two_derived = refl
+
+-- a set that isn't there, before its width
+unknown_set : fault (record { premise = atom (codes "boss") 5 (x ∷ []) ∷ []; derived = []; conclusion = [] }) ≡ Some (At 5 UnknownName)
+unknown_set = refl
+
+-- a set of the source is none of the target
+source_set : fault (record { premise = atom (codes "emp") 5 (x ∷ y ∷ []) ∷ []; derived = []; conclusion = atom (codes "emp") 40 (x ∷ y ∷ []) ∷ [] }) ≡ Some (At 40 UnknownName)
+source_set = refl
+
+-- a conversion that isn't listed, before its width
+unknown_conversion : fault (rule (x ∷ y ∷ []) (record { name = codes "z"; place = 16; call = codes "trim"; call_place = 20; args = x ∷ [] } ∷ []) []) ≡ Some (At 20 UnknownName)
+unknown_conversion = refl
+
+-- another number of arguments, before the arguments
+other_arity : fault (rule (x ∷ y ∷ []) (pair (named (codes "v") 27 ∷ []) ∷ []) []) ≡ Some (At 20 Width)
+other_arity = refl
+
+-- a literal as an argument is told at the conversion
+literal_argument : fault (rule (x ∷ y ∷ []) (pair (x ∷ Literal (codes "t") ∷ []) ∷ []) []) ≡ Some (At 20 Unsafe)
+literal_argument = refl
+
+-- a name that is derived twice
+derived_twice : fault (rule (x ∷ y ∷ []) (pair (x ∷ y ∷ []) ∷ derived (codes "z") 30 [] ∷ []) []) ≡ Some (At 30 Unsafe)
+derived_twice = refl
+
+-- of rules the first that is at fault
+first_rule : rules_fault employees persons offer (rule (x ∷ y ∷ []) [] (x ∷ y ∷ []) ∷ rule (x ∷ y ∷ []) [] (x ∷ []) ∷ rule (x ∷ []) [] [] ∷ []) ≡ Some (At 40 Width)
+first_rule = refl

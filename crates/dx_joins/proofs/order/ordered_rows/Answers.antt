@@ -18,7 +18,10 @@ pub premise_rows-requires-clause-shown : goal.premise_rows-requires-clause-shown
 premise_rows-requires-clause-shown c =
     rw c.deref.ensures.value (shown_in c.args.patterns.items c.in_ok-ordered.ordered.items c.args.shown.now c.in_ok-ordered.ensures c.requires.shown)
 
-pub returns : goal.returns
-returns c =
+pub returns-clause-rows : goal.returns-clause-rows
+returns-clause-rows c =
     reordered_result c.args.source.now.tables c.args.marks.now c.args.patterns.items c.in_ok-ordered.ordered.items c.args.shown.now c.args.most
-    c.premise_rows.result c.in_ok-ordered.ensures (rw c.deref.ensures.value at c.premise_rows.ensures)
+    c.premise_rows.result c.in_ok-ordered.ensures (rw c.deref.ensures.value at c.premise_rows.ensures.rows)
+
+pub returns-clause-within : goal.returns-clause-within
+returns-clause-within c = c.premise_rows.ensures.within

@@ -50,12 +50,15 @@ step-requires-clause-fits c =
     let n = some_length ps c.requires.some in
     c.requires.fit _ (item_in ps (length ps - 1) c.index-patterns-last.result (omega (arith, n)) c.index-patterns-last.is)
 
-pub returns : goal.returns
-returns c =
+pub returns-clause-rows : goal.returns-clause-rows
+returns-clause-rows c =
     let ps = c.args.patterns.now in
     let i = c.loop-i.i in
     let n = some_length ps c.requires.some in
     let e : length ps - 1 ≡ i = omega (arith, c.loop-i-test.false, c.loop-i.auto.i-end) in
     let is = c.index-patterns-last.is ∙ ap (λ (k : ℕ). get_or ps k c.index-patterns-last.result) e in
     told_from c.args.source.now.tables c.args.marks.now ps c.args.shown.now c.args.most (StepsTo c.args.source.now.tables c.args.marks.now c.loop-i.partial c.index-patterns-last.result c.args.shown.now) c.step.result
-    (last_told c.args.source.now.tables c.args.marks.now ps i c.index-patterns-last.result c.args.shown.now c.loop-i.partial (omega (arith, e, n)) (omega (arith, e)) is c.loop-i.invariant c.requires.shown) c.step.ensures
+    (last_told c.args.source.now.tables c.args.marks.now ps i c.index-patterns-last.result c.args.shown.now c.loop-i.partial (omega (arith, e, n)) (omega (arith, e)) is c.loop-i.invariant c.requires.shown) c.step.ensures.rows
+
+pub returns-clause-within : goal.returns-clause-within
+returns-clause-within c = c.step.ensures.within

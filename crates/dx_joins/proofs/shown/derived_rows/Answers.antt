@@ -4,15 +4,16 @@ use Rattle.std.specs.List.{range_with_len}
 use Rattle.std.proofs.lemmas.List.{length-map}
 use Rattle.std.specs.Prelude.{Bool}
 use Rattle.std.proofs.lemmas.List.FromFn.{length-range_with_len}
-use Rattle.dx_ports.specs.Members.{Each}
+use Rattle.dx_ports.specs.Members.{◌∈◌, Each}
 use Rattle.dx_ports.proofs.Members.{in_at}
 use Rattle.dx_instance.specs.Cells.{numbers_at}
 use Rattle.dx_instance.proofs.NumberFacts.{stays}
 use Rattle.dx_instance.proofs.ShownFacts.{extends_both}
-use Rattle.dx_joins.specs.Collecting.{Collection, Collects}
+use Rattle.dx_joins.specs.Collecting.{AreThose, Collection, Collects, MoreThan}
 use Rattle.dx_joins.specs.Planning.{place_of}
 use Rattle.dx_joins.specs.Shown.{AreTexts}
 use Rattle.dx_joins.specs.Derivations.{DerivesTo}
+use Rattle.dx_joins.proofs.Carrying.{few_rows}
 use Rattle.dx_joins.proofs.Growing.{Standing, Upto, texts_grow, upto_none, upto_more, upto_full, upto_all}
 use Rattle.dx_joins.proofs.Places.{places_within}
 use Rattle.dx_joins.proofs.shown.derived_rows.Goals as goal
@@ -127,3 +128,8 @@ returns-clause-rows g c =
     upto_all g.M.Meaning.apply wanted derived c.args.first c.args.shown.now c.in_ok-places.places.items S0 rows c.requires.texts wide at c.requires.shown (length-range_with_len c.args.first (length derived))
     c.finish.result c.loop-place.symbols c.loop-place.out c.loop-place.place c.args.most (omega (arith, c.loop-place-test.false, c.count-place-end.ensures.count, c.loop-place.auto.place-end)) c.loop-place.invariant.most c.loop-place.invariant.width
     c.loop-place.invariant.apart c.loop-place.invariant.standing c.finish.ensures
+
+pub returns-clause-within : goal.returns-clause-within
+returns-clause-within g c =
+    few_rows c.finish.result c.loop-place.out.most c.args.most (MoreThan c.loop-place.out.most (λ t. t ∈ c.loop-place.out.rows)) (AreThose c.loop-place.out.width (λ t. t ∈ c.loop-place.out.rows))
+    c.loop-place.invariant.most c.finish.ensures

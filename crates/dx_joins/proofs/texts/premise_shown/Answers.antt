@@ -21,9 +21,12 @@ ordered_rows-requires-clause-shown c = (all_known c.args.premise.now c.in_ok-pat
 pub ordered_rows-requires-clause-marks : goal.ordered_rows-requires-clause-marks
 ordered_rows-requires-clause-marks c = ap length (c.deref.ensures.value ∙ c.in_ok-marks.ensures.marks) ∙ length-map c.args.source.now.symbols is_text
 
-pub returns : goal.returns
-returns c = λ convert.
+pub returns-clause-rows : goal.returns-clause-rows
+returns-clause-rows c = λ convert.
     let ps = c.in_ok-patterns.patterns.items in
     let known = all_known c.args.premise.now ps c.args.shown.now c.in_ok-patterns.ensures c.requires.fits.numbered c.requires.fits.known in
     result_shown c.args.source.now.symbols c.args.source.now.tables c.marks_of.ensures.fit c.args.premise.now ps c.args.shown.now c.requires.fits.plain c.in_ok-patterns.ensures known convert c.deref.result.now c.args.most c.ordered_rows.result
-    (c.deref.ensures.value ∙ c.in_ok-marks.ensures.marks) c.ordered_rows.ensures
+    (c.deref.ensures.value ∙ c.in_ok-marks.ensures.marks) c.ordered_rows.ensures.rows
+
+pub returns-clause-within : goal.returns-clause-within
+returns-clause-within c = c.ordered_rows.ensures.within

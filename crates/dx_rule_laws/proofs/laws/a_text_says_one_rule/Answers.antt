@@ -1,3 +1,4 @@
+use Rattle.dx_rule_laws.proofs.ReadRules.{one_list_behind}
 use Rattle.dx_rule_laws.proofs.OneRule.{one_rule, one_rule_text}
 use Rattle.dx_rule_laws.proofs.laws.a_text_says_one_rule.Goals as goal
 
@@ -6,3 +7,6 @@ returns-clause-text c = one_rule_text
 
 pub returns-clause-rule : goal.returns-clause-rule
 returns-clause-rule c = one_rule
+
+pub returns-clause-behind : goal.returns-clause-behind
+returns-clause-behind c = one_list_behind

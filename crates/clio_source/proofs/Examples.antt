@@ -1,0 +1,49 @@
+-- Departments with their employees, and cities: the files of their roots, and the cells of their facts.
+use Rattle.std.proofs.Common.{◌≡◌, ℕ, List, [], ◌∷◌, codes, refl}
+use Rattle.std.specs.Prelude.{Ok, Err}
+use Rattle.dx_model.specs.declared.values.Value.TheVariants.{Const}
+use Rattle.dx_model.specs.declared.facts.Fact.{Fact}
+use Rattle.dx_schema.specs.Forest.{Forest, none, set}
+use Rattle.clio_source.specs.Source.{Read, cells_in, file_at, roots, too_many_cells, with_facts}
+
+abbrev depts : Forest
+depts =
+    set (record { name = codes "dept"; columns = codes "name" ∷ []; keys = []; refs = [] })
+    (set (record { name = codes "emp"; columns = codes "name" ∷ codes "phone" ∷ []; keys = []; refs = [] }) none none)
+    (set (record { name = codes "city"; columns = codes "name" ∷ []; keys = []; refs = [] }) none none)
+
+-- an inner set is no root
+the_roots : roots depts ≡ 0 ∷ 2 ∷ []
+the_roots = refl
+
+-- a root with inner sets is a document, one without is a table
+first_file : file_at depts 0 ≡ codes "dept.json"
+first_file = refl
+
+second_file : file_at depts 2 ≡ codes "city.csv"
+second_file = refl
+
+-- cs with two employees
+abbrev said : List Fact
+said =
+    record { table = 0; row = Const (codes "0") ∷ Const (codes "cs") ∷ [] }
+    ∷ record { table = 1; row = Const (codes "0") ∷ Const (codes "ann") ∷ Const (codes "1") ∷ [] }
+    ∷ record { table = 1; row = Const (codes "0") ∷ Const (codes "bob") ∷ Const (codes "2") ∷ [] }
+    ∷ []
+
+-- `#id` and a name, and twice `#up`, a name and a phone
+eight_cells : cells_in depts said ≡ 8
+eight_cells = refl
+
+one_cell : cells_in depts (record { table = 2; row = Const (codes "rome") ∷ [] } ∷ []) ≡ 1
+one_cell = refl
+
+abbrev before : ℕ → Read
+before cells = record { facts = record { table = 2; row = [] } ∷ []; bytes_left = 5; cells_left = cells }
+
+-- as many as are left may come, and one more may not
+they_fit : with_facts depts (before 8, said) ≡ Ok (record { facts = record { table = 2; row = [] } ∷ said; bytes_left = 5; cells_left = 0 })
+they_fit = refl
+
+one_too_many : with_facts depts (before 7, said) ≡ Err too_many_cells
+one_too_many = refl

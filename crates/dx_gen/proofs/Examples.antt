@@ -1,0 +1,35 @@
+-- The demo files of few employees, and the records of later ones, computed.
+use Rattle.std.proofs.Common.{◌≡◌, ℕ, [], ◌∷◌, codes, refl}
+use Rattle.std.specs.Fmt.{digits}
+use Rattle.dx_gen.specs.Demo.{demo, dept_text, emp_text, phone_text, emp_record, phone_record, mapping_text}
+
+-- ten departments, of which the odd ones have a town
+departments : dept_text ≡ codes "dname,city\nd0,\nd1,Town 1\nd2,\nd3,Town 3\nd4,\nd5,Town 5\nd6,\nd7,Town 7\nd8,\nd9,Town 9\n"
+unfolding digits
+departments = refl
+
+-- employees from 0 on
+employees : emp_text 3 ≡ codes "eid,name,dname\ne0,\"Name, 0\",d0\ne1,\"Name, 1\",d1\ne2,\"Name, 2\",d2\n"
+unfolding digits
+employees = refl
+
+-- each fourth has a telephone
+telephones : phone_text 9 ≡ codes "eid,num\ne0,555-0\ne4,555-4\ne8,555-8\n"
+unfolding digits
+telephones = refl
+
+-- after 50 employees the names come again, after 10 the departments
+fiftieth : emp_record 50 ≡ codes "e50,\"Name, 0\",d0\n"
+unfolding digits
+fiftieth = refl
+
+later : emp_record 99999 ≡ codes "e99999,\"Name, 49\",d9\n"
+unfolding digits
+later = refl
+
+none_later : phone_record 99999 ≡ []
+none_later = refl
+
+-- the files in their order
+files : (n : ℕ) → demo n ≡ (codes "mapping.clio", mapping_text) ∷ (codes "dept.csv", dept_text) ∷ (codes "emp.csv", emp_text n) ∷ (codes "phone.csv", phone_text n) ∷ []
+files n = refl
