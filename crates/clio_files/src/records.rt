@@ -28,6 +28,14 @@ impl Records {
         }
     }
 
+    /// Makes room for so many bytes more. What is printed stays.
+    pub(crate) fn make_room(&mut self, more: usize)
+        ensures { (records : List (List (List ℕ))) (fields : List (List ℕ)) → HasFields self.old records fields
+            → HasFields self.new records fields }
+    {
+        self.lines.make_room(more);
+    }
+
     /// One field more of the record that is being printed.
     pub(crate) fn field(&mut self, field: &[u8]) -> Result<(), AllocError>
         ensures { (records : List (List (List ℕ))) (fields : List (List ℕ)) → HasFields self.old records fields

@@ -20,6 +20,9 @@ use dx_ports::{File, Items, Text};
 use dx_tgd::exported;
 use std::alloc::{AllocError, Global};
 
+// How many bytes the records of a null mostly take.
+const USUAL_BYTES: usize = 64;
+
 // The file of a sheet, of which the header is the first of the records.
 fn sheet_file(alloc: Global, name: &str, records: Records) -> Result<Printed, AllocError>
     ensures { IfOk result (λ p. (s : Sheet) → name.now ≡ s.name → AreRecords records (s.header ∷ s.records) → seen p ≡ file_of s) }
@@ -115,6 +118,7 @@ pub(crate) fn nulls_file(
 {
     let lists = all_exported(alloc, rules)?;
     let mut records = Records::new(alloc);
+    records.make_room(nulls.len().saturating_mul(USUAL_BYTES));
     push_nulls_header(&mut records)?;
     let mut shown = Vec::new(alloc);
     for null in nulls {

@@ -58,6 +58,15 @@ impl Lines {
         }
     }
 
+    /// Makes room for so many bytes more, so that they go in without the others being moved. If there is no memory for it,
+    /// no room is made. What is printed stays.
+    pub fn make_room(&mut self, more: usize)
+        ensures { (records : List (List (List ℕ))) (fields : List (List ℕ)) → HavePrinted self.old records fields
+            → HavePrinted self.new records fields }
+    {
+        let _ = self.bytes.reserve(more);
+    }
+
     /// One field more of the open record.
     ///
     /// # Errors

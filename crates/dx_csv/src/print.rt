@@ -12,6 +12,9 @@ use dx_instance::{Instance, Numbers};
 use dx_ports::{Items, Text};
 use std::alloc::{AllocError, Global};
 
+// How many bytes a field of a table mostly takes.
+const USUAL_BYTES: usize = 8;
+
 // Prints one record more.
 fn print_record(lines: &mut Lines, fields: &[Text]) -> Result<(), AllocError>
     ensures { (records : List (List (List ℕ))) → HavePrinted lines.old records []
@@ -85,6 +88,8 @@ fn lines_of(
 {
     let numbers = instance.numbers();
     let mut lines = Lines::new(alloc);
+    let cells = (numbers.count(table) as usize).saturating_mul(columns.len());
+    lines.make_room(cells.saturating_mul(USUAL_BYTES));
     print_record(&mut lines, columns)?;
     for place in 0..numbers.count(table) {
         print_row(&mut lines, &numbers, numbers.row(table, place))?;

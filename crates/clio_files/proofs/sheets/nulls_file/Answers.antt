@@ -1,4 +1,4 @@
-use Rattle.std.proofs.Common.{◌∙◌, ap, get_or, map, refl, subst, take}
+use Rattle.std.proofs.Common.{[], ◌∙◌, ap, get_or, map, refl, subst, take}
 use Rattle.std.specs.Prelude.{codes}
 use Rattle.std.proofs.lemmas.List.{length-map, take_all}
 use Rattle.dx_ports.proofs.Members.{in_at}
@@ -28,7 +28,7 @@ texts_at-requires-clause-place c =
     p.place
 
 pub loop-null-init : goal.loop-null-init
-loop-null-init c = c.in_ok-push_nulls_header.ensures c.new-records.ensures
+loop-null-init c = c.in_ok-push_nulls_header.ensures (c.make_room.ensures [] [] c.new-records.ensures)
 
 pub loop-null-preserved : goal.loop-null-preserved
 loop-null-preserved c =

@@ -9,7 +9,7 @@ use Rattle.dx_csv.proofs.TableTextFacts.{as-many-tables, numbers-more, rows-are}
 use Rattle.dx_csv.proofs.print.lines_of.Goals as goal
 
 pub loop-place-init : goal.loop-place-init
-loop-place-init c = c.in_ok-print_record.ensures [] c.new-lines.ensures
+loop-place-init c = c.in_ok-print_record.ensures [] (c.make_room.ensures [] [] c.new-lines.ensures)
 
 pub count-place-end-requires : goal.count-place-end-requires
 count-place-end-requires c =
