@@ -1,12 +1,12 @@
 -- Rows of numbers that lie one after the other.
-use Rattle.std.proofs.Common.{◌≡◌, ◌∙◌, ◌+◌, ◌*◌, ◌<◌, ◌≤◌, ◌-◌, ◌++◌, ◌∷◌, ℕ, zero, suc, List, [], refl, sym, ap, subst, arith, length, get_or, take, drop, map, inl, inr, add-one, not, false}
+use Rattle.std.proofs.Common.{◌≡◌, ◌∙◌, ◌+◌, ◌*◌, ◌<◌, ◌≤◌, ◌-◌, ◌++◌, ◌∷◌, ℕ, zero, suc, List, [], refl, sym, ap, subst, arith, length, get_or, take, drop, map, inl, inr, add-one, below_more, not, false, set}
 use Rattle.std.specs.Bool.{◌==◌}
 use Rattle.std.specs.Ordering.{ordering_index}
 use Rattle.std.specs.declared.cmp.Ordering.{Ordering}
 use Rattle.std.specs.declared.cmp.Ordering.TheVariants.{Less, Equal, Greater}
 use Rattle.std.proofs.lemmas.Bool.{cases_lt}
 use Rattle.std.proofs.lemmas.Cmp.{nat_list_cmp_total}
-use Rattle.std.proofs.lemmas.List.{length-drop, length-take-le, get_or-take, get_or-drop, get_or_default, take-map, drop-map, take_more, drop-drop, take_all, take-append-le, drop-append-le, nil_from_length}
+use Rattle.std.proofs.lemmas.List.{ext_get_or, get_or-map, get_or-set_other, get_or-set_same, length-map, length-set, length-drop, length-take-le, get_or-take, get_or-drop, get_or_default, take-map, drop-map, take_more, drop-drop, take_all, take-append-le, drop-append-le, nil_from_length}
 use Rattle.std.proofs.lemmas.List.Quantifiers.{all_pairs_push}
 use Rattle.dx_ports.specs.Members.{◌∈◌, here, there, Each}
 use Rattle.dx_ports.proofs.Members.{from_append, in_at}
@@ -104,6 +104,23 @@ pub renumbered_is : (t : NumberTable) (n w : ℕ) (cells ranks : List ℕ) → �
     → ◌≡◌ {A = NumberTable} (record { width = w; rows = rows_in n w (map (λ (x : ℕ). get_or ranks x 0) cells) }) (renumbered ranks t)
 renumbered_is t n w cells ranks v =
     rw (← v) (ap (λ (rs : List (List ℕ)). let u : NumberTable = record { width = w; rows = rs } in u) (rows_map (λ (x : ℕ). get_or ranks x 0) n w cells))
+
+-- the first n cells are replaced, the others are as they were
+pub record AreReplaced (f : ℕ → ℕ) (cells new : List ℕ) (n : ℕ) : Type 0 where
+  pub many : length new ≡ length cells
+  pub done : (k : ℕ) → k < n → get_or new k 0 ≡ f (get_or cells k 0)
+  pub left : (k : ℕ) → n ≤ k → get_or new k 0 ≡ get_or cells k 0
+
+pub replaced_more : (f : ℕ → ℕ) (cells new : List ℕ) (i x : ℕ) → i < length new → x ≡ f (get_or new i 0) → AreReplaced f cells new i → AreReplaced f cells (set new i x) (i + 1)
+replaced_more f cells new i x h e a = record {
+  many = length-set new i x ∙ a.many;
+  done = below_more _ _ (λ k b. get_or-set_other new i k x 0 (λ q. omega (arith, b, q)) ∙ a.done k b) (get_or-set_same new i x 0 h ∙ e ∙ ap f (a.left i (omega arith)));
+  left = λ k b. get_or-set_other new i k x 0 (λ q. omega (arith, b, q)) ∙ a.left k (omega (arith, b));
+}
+
+pub replaced_all : (f : ℕ → ℕ) (cells new : List ℕ) (n : ℕ) → length cells ≤ n → AreReplaced f cells new n → new ≡ map f cells
+replaced_all f cells new n h a =
+    ext_get_or 0 new (map f cells) (a.many ∙ sym (length-map cells f)) (λ k b. a.done k (omega (arith, b, h, a.many)) ∙ sym (get_or-map f cells k 0 0 (omega (arith, b, a.many))))
 
 pub ascends_first : (rows : List (List ℕ)) → NumbersAscend (take 1 rows)
 ascends_first [] i j d h k = absurd (omega arith)

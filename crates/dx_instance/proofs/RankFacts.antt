@@ -17,7 +17,7 @@ use Rattle.dx_model.proofs.Orders.{value_total, value_exact}
 use Rattle.dx_ports.specs.Members.{Each, ◌∈◌}
 use Rattle.dx_ports.proofs.Members.{contains_from_in, in_from_contains}
 use Rattle.dx_instance.specs.Numbers.{AreApart, ValuesAscend, IsOrdering, value_of}
-use Rattle.dx_instance.specs.Keys.{AreSeconds, AreSorted, IsKeyed, IsSmallValue, NumbersAreKeyed, ValuesAreKeyed, places_of, value_key}
+use Rattle.dx_instance.specs.Keys.{AreSecondsOrNone, AreSorted, IsKeyed, IsSmallValue, NumbersAreKeyed, ValuesAreKeyed, places_of, value_key}
 use Rattle.dx_instance.specs.Ranks.{AreRanked}
 use Rattle.dx_instance.proofs.Equal.{value_eq, value_eq-Decides}
 use Rattle.dx_instance.proofs.NumberFacts.{value_same, self_equal}
@@ -104,7 +104,7 @@ less_value x y f n = by (value_cmp x y) refl
     by Greater e = let t = value_total.antisymm y x ∙ ap ordering_reverse e in absurd (true≢false (rw t at f))
 
 -- what a sort of the keyed numbers comes to
-pub sorted_numbers : (S : List Value) (seconds : List ℕ) (blank : Value) (ks qs : List (ℕ × ℕ)) → AreApart S → ValuesAreKeyed S ks (length S) → AreSeconds S seconds (length S) → IsPermutation ks qs
+pub sorted_numbers : (S : List Value) (seconds : List ℕ) (blank : Value) (ks qs : List (ℕ × ℕ)) → AreApart S → ValuesAreKeyed S ks (length S) → AreSecondsOrNone S seconds → IsPermutation ks qs
     → IsSortedBy (number_ties_lt S seconds blank) qs → AreSorted S (places_of qs)
 sorted_numbers S seconds blank ks qs a keyed second p s = record { many = many; within = λ k h. small k 0 h; all = all; ascend = ascend }
   where

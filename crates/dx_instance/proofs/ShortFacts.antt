@@ -1,8 +1,13 @@
 -- Texts of at most eight bytes, which their keys tell.
-use Rattle.std.proofs.Common.{◌≡◌, ◌∙◌, ◌+◌, ◌*◌, ◌^◌, ◌<◌, ◌≤◌, ◌∷◌, ℕ, zero, suc, List, [], refl, sym, ap, arith, length, get_or, take}
+use Rattle.std.proofs.Common.{◌≡◌, ◌∙◌, ◌+◌, ◌*◌, ◌^◌, ◌<◌, ◌≤◌, ◌∷◌, ◌++◌, ℕ, zero, suc, List, [], refl, sym, ap, arith, length, get_or, take, below_more}
 use Rattle.std.specs.Int.{from_be_bytes, to_be_bytes, w64}
 use Rattle.std.proofs.lemmas.Nat.{be_bytes_8}
-use Rattle.dx_instance.specs.Keys.{AreSmall, packed}
+use Rattle.std.proofs.lemmas.List.{get_or_append_left, get_or_push, length_push}
+use Rattle.dx_model.specs.declared.values.Value.{Value}
+use Rattle.dx_model.specs.declared.values.Value.TheVariants.{Const, Null}
+use Rattle.dx_instance.specs.Keys.{AreSmall, IsSmallValue, packed, value_key}
+use Rattle.dx_instance.specs.Numbers.{value_of}
+use Rattle.dx_instance.specs.Ranks.{AreLengths, IsShortLength, text_of}
 
 -- the first n numbers of a list, with zeros after a shorter one
 abbrev padded : ℕ → List ℕ → List ℕ
@@ -51,3 +56,14 @@ short_text t key n l h s e =
     let small : length t ≤ 8 = omega (arith, l, h) in
     let bytes = be_bytes_8 (padded 8 t) key (padded_long 8 t) (padded_small 256 8 t (omega arith) s) (e ∙ sym (padded_packed 256 8 0 t) ∙ as_bytes (padded 8 t) (padded_long 8 t)) in
     ap (λ (m : ℕ). take m (to_be_bytes w64 key)) l ∙ ap (λ (b : List ℕ). take (length t) b) bytes ∙ padded_take 8 t small
+
+pub short_value : (v : Value) (key n : ℕ) → IsShortLength v n → n ≤ 8 → IsSmallValue v → key ≡ value_key v → take n (to_be_bytes w64 key) ≡ text_of v
+short_value (Const t) key n l h s e = short_text t key n (l.many h) h s.0 e
+short_value (Null m) key n l h s e = let none : n ≡ 0 = l.many h in rw none refl
+
+-- one length more
+pub lengths_more : (S : List Value) (lengths new : List ℕ) (i n : ℕ) → new ≡ lengths ++ n ∷ [] → IsShortLength (value_of S i) n → AreLengths S lengths i → AreLengths S new (i + 1)
+lengths_more S lengths new i n e l a = rw e (record {
+  many = length_push lengths n ∙ ap (λ (m : ℕ). m + 1) a.many;
+  all = below_more _ _ (λ j h. let g = get_or_append_left lengths (n ∷ []) 0 j (omega (arith, h, a.many)) in rw g (a.all j h)) (let g = get_or_push lengths n 0 i a.many in rw g l);
+})

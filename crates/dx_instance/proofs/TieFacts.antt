@@ -12,7 +12,7 @@ use Rattle.dx_model.specs.declared.values.Value.{Value}
 use Rattle.dx_model.specs.declared.values.Value.TheVariants.{Const, Null}
 use Rattle.dx_model.specs.Values.{value_cmp}
 use Rattle.dx_model.proofs.Orders.{value_total, value_exact}
-use Rattle.dx_instance.specs.Keys.{AreSeconds, IsSecondOf, IsSmallSecond, IsSmallValue, second_key, tie_cmp, value_key}
+use Rattle.dx_instance.specs.Keys.{AreSeconds, AreSecondsOrNone, IsSecondOf, IsSmallSecond, IsSmallValue, second_key, tie_cmp, value_key}
 use Rattle.dx_instance.specs.Numbers.{value_of}
 use Rattle.dx_instance.proofs.HalfFacts.{halves, small_halves}
 use Rattle.dx_ports.proofs.Ranges.{nat_less}
@@ -53,26 +53,31 @@ number_ties_total S seconds blank =
     then_total (on_total (λ (k : ℕ × ℕ). k.0) nat_cmp_total) (then_total (on_total (λ (k : ℕ × ℕ). slice_index seconds k.1) nat_cmp_total) (on_total (λ (k : ℕ × ℕ). get_or S k.1 blank) value_total))
 
 module _ (S : List Value) (seconds : List ℕ) (blank : Value) where
-  ties_tell : (a b : ℕ × ℕ) → IsKeyOf (λ n. get_or S n blank) value_key IsSmallValue a → IsKeyOf (λ n. get_or S n blank) value_key IsSmallValue b → IsSecondOf (get_or S a.1 blank) (slice_index seconds a.1)
-      → IsSecondOf (get_or S b.1 blank) (slice_index seconds b.1) → number_ties S seconds blank a b ≡ by_key value_cmp (λ n. get_or S n blank) a b
-  ties_tell a b p q r s = elim (cases_lt a.0 b.0) [
+  second_at : AreSeconds S seconds (length S) → (n : ℕ) → n < length S → IsSecondOf (get_or S n blank) (slice_index seconds n)
+  second_at a n h = subst (λ (v : Value). IsSecondOf v (slice_index seconds n)) (sym (get_or_default S n blank (Const []) h)) (a.all n h)
+
+  second_tells : AreSecondsOrNone S seconds → (m n : ℕ) → m < length S → n < length S → IsSmallValue (get_or S m blank) → IsSmallValue (get_or S n blank) → value_key (get_or S m blank) ≡ value_key (get_or S n blank)
+      → tie_cmp S seconds blank m n ≡ value_cmp (get_or S m blank) (get_or S n blank)
+  second_tells (inl none) m n b c p q e = rw none refl
+  second_tells (inr a) m n b c p q e = seconds_tell (get_or S m blank) (get_or S n blank) (slice_index seconds m) (slice_index seconds n) p q (second_at a m b) (second_at a n c) e
+
+  ties_tell : AreSecondsOrNone S seconds → (a b : ℕ × ℕ) → a.1 < length S → b.1 < length S → IsKeyOf (λ n. get_or S n blank) value_key IsSmallValue a → IsKeyOf (λ n. get_or S n blank) value_key IsSmallValue b
+      → number_ties S seconds blank a b ≡ by_key value_cmp (λ n. get_or S n blank) a b
+  ties_tell s a b m n p q = elim (cases_lt a.0 b.0) [
     | inl h ↦ let l = nat_less a.0 b.0 h in rw l refl
     | inr h ↦ elim (cases_lt b.0 a.0) [
       | inl k ↦ let g : nat_cmp a.0 b.0 ≡ Greater = nat_cmp_total.antisymm a.0 b.0 ∙ ap ordering_reverse (nat_less b.0 a.0 k) in rw g refl
       | inr k ↦
           let same : a.0 ≡ b.0 = omega (arith, h, k) in
-          let t = seconds_tell (get_or S a.1 blank) (get_or S b.1 blank) (slice_index seconds a.1) (slice_index seconds b.1) p.small q.small r s (sym p.key_is ∙ same ∙ q.key_is) in
+          let t = second_tells s a.1 b.1 m n p.small q.small (sym p.key_is ∙ same ∙ q.key_is) in
           ap (λ (o : Ordering). ordering_then (nat_cmp a.0 b.0) o) t
     ]
   ]
 
-  second_at : AreSeconds S seconds (length S) → (n : ℕ) → n < length S → IsSecondOf (get_or S n blank) (slice_index seconds n)
-  second_at a n h = subst (λ (v : Value). IsSecondOf v (slice_index seconds n)) (sym (get_or_default S n blank (Const []) h)) (a.all n h)
-
   -- what is sorted by both keys is sorted by the first
-  pub ties_sorted : (ks : List (ℕ × ℕ)) → AreSeconds S seconds (length S) → All (λ (k : ℕ × ℕ). k.1 < length S) ks → All (IsKeyOf (λ n. get_or S n blank) value_key IsSmallValue) ks
+  pub ties_sorted : (ks : List (ℕ × ℕ)) → AreSecondsOrNone S seconds → All (λ (k : ℕ × ℕ). k.1 < length S) ks → All (IsKeyOf (λ n. get_or S n blank) value_key IsSmallValue) ks
       → IsSortedBy (number_ties_lt S seconds blank) ks → IsSortedBy (λ a b. is_lt (by_key value_cmp (λ n. get_or S n blank) a b)) ks
   ties_sorted ks a small each s k d low h =
       let hb : k < length ks = omega (arith, h) in
-      let t = ties_tell (get_or ks (k + 1) d) (get_or ks k d) (each (k + 1) d h) (each k d hb) (second_at a _ (small (k + 1) d h)) (second_at a _ (small k d hb)) in
+      let t = ties_tell a (get_or ks (k + 1) d) (get_or ks k d) (small (k + 1) d h) (small k d hb) (each (k + 1) d h) (each k d hb) in
       ap is_lt (sym t) ∙ s k d low h

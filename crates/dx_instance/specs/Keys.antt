@@ -1,5 +1,5 @@
 -- Numbers that compare as the first items of a list: lists are sorted by these first.
-use Rattle.std.specs.Prelude.{◌≡◌, ℕ, zero, suc, ◌+◌, ◌-◌, ◌*◌, ◌^◌, ◌<◌, ◌≤◌, List, [], ◌∷◌, drop, length, map, slice_index, slice_index_or}
+use Rattle.std.specs.Prelude.{◌≡◌, ℕ, zero, suc, ◌+◌, ◌-◌, ◌*◌, ◌^◌, ◌<◌, ◌≤◌, ◌⊎◌, List, [], ◌∷◌, drop, length, map, slice_index, slice_index_or}
 use Rattle.std.specs.Ordering.{nat_cmp, ordering_then}
 use Rattle.std.specs.declared.cmp.Ordering.{Ordering}
 use Rattle.dx_model.specs.declared.values.Value.{Value}
@@ -54,6 +54,10 @@ pub record IsSecondOf (v : Value) (k : ℕ) : Type 0 where
 pub record AreSeconds (symbols : List Value) (seconds : List ℕ) (n : ℕ) : Type 0 where
   pub many : length seconds ≡ n
   pub all : (k : ℕ) → k < n → IsSecondOf (value_of symbols k) (slice_index seconds k)
+
+-- the second keys of all values, or none at all: then values are compared in their place
+abbrev pub AreSecondsOrNone : List Value → List ℕ → Type 0
+AreSecondsOrNone symbols seconds = (seconds ≡ []) ⊎ AreSeconds symbols seconds (length symbols)
 
 -- how the values at two places compare, by their second keys first
 abbrev pub tie_cmp : List Value → List ℕ → Value → ℕ → ℕ → Ordering

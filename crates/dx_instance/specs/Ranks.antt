@@ -15,6 +15,16 @@ abbrev pub text_of : Value → List ℕ
 text_of (Const t) = t
 text_of (Null n) = []
 
+-- how many bytes the text of a value has, if the number is at most eight; the text is UTF-8
+pub record IsShortLength (v : Value) (n : ℕ) : Type 0 where
+  pub many : n ≤ 8 → n ≡ length (text_of v)
+  pub utf8 : IsUtf8 (text_of v)
+
+-- the short lengths of the texts of the first n values
+pub record AreLengths (symbols : List Value) (lengths : List ℕ) (n : ℕ) : Type 0 where
+  pub many : length lengths ≡ n
+  pub all : (k : ℕ) → k < n → IsShortLength (value_of symbols k) (slice_index lengths k)
+
 abbrev pub joined_texts : List Value → List ℕ
 joined_texts [] = []
 joined_texts (v ∷ vs) = text_of v ++ joined_texts vs

@@ -44,6 +44,17 @@ impl Rows {
         }
     }
 
+    // No rows, with room for so many cells.
+    fn with_room(alloc: Global, width: u32, cells: usize) -> Result<Rows, AllocError>
+        ensures { IfOk result (λ r. r ≡ record { width = width; rows = [] }) }
+    {
+        Ok(Rows {
+            width,
+            count: 0,
+            cells: Vec::with_capacity(alloc, cells)?,
+        })
+    }
+
     /// Rows whose cells are these, row by row.
     pub fn of_cells(width: u32, count: u32, cells: Vec<u32>) -> Rows
         requires { length cells.items ≡ count * width }
@@ -178,7 +189,7 @@ impl Rows {
         ensures { IfOk result (λ r. IsOrderOf self.now r) }
     {
         let places = self.places_in_order(alloc)?;
-        let mut rows = Rows::new(alloc, self.width);
+        let mut rows = Rows::with_room(alloc, self.width, self.cells.len())?;
         for i in 0..self.count {
             let row = self.row(places[i as usize].1);
             if !rows.ends_with(row) {
@@ -226,11 +237,27 @@ impl Rows {
         })
     }
 
+    /// The same as `renumbered`, of rows that are given away, in their own memory.
+    pub(crate) fn into_renumbered(self, ranks: &[u32]) -> Rows
+        requires { Each self.rows (AreBelow (length ranks.now)) }
+        ensures { result ≡ renumbered ranks.now self }
+    {
+        let mut cells = self.cells;
+        for i in 0..cells.len() {
+            cells[i] = ranks[cells[i] as usize];
+        }
+        Rows {
+            width: self.width,
+            count: self.count,
+            cells,
+        }
+    }
+
     /// A copy.
     pub(crate) fn copy(&self, alloc: Global) -> Result<Rows, AllocError>
         ensures { IfOk result (λ r. r ≡ self.now) }
     {
-        let mut cells = Vec::new(alloc);
+        let mut cells = Vec::with_capacity(alloc, self.cells.len())?;
         cells.extend_from_slice(&self.cells)?;
         Ok(Rows {
             width: self.width,

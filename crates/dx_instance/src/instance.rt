@@ -69,7 +69,7 @@ fn interned_all(
     ensures apart { AreApart symbols.new }
     ensures few { length symbols.new < 2 ^ 32 }
 {
-    let mut numbers = Vec::new(alloc);
+    let mut numbers = Vec::with_capacity(alloc, values.len())?;
     for value in values {
         numbers.push(interned(symbols, value)?)?;
     }
@@ -89,7 +89,7 @@ fn images_of(
     ensures apart { AreApart into.new }
     ensures few { length into.new < 2 ^ 32 }
 {
-    let mut images = Vec::new(alloc);
+    let mut images = Vec::with_capacity(alloc, symbols.len() as usize)?;
     for number in 0..symbols.len() {
         images.push(interned(into, map.image(symbols.value(number)))?)?;
     }
@@ -104,7 +104,7 @@ fn of_ordered(alloc: Global, symbols: Symbols, tables: Vec<Rows>) -> Result<Inst
     ensures { IfOk result (IsSorting (shown_tables symbols tables.items)) }
 {
     let _few = symbols.len();
-    let mut ordered = Vec::new(alloc);
+    let mut ordered = Vec::with_capacity(alloc, tables.len())?;
     for rows in tables {
         ordered.push(Table::from_rows(alloc, rows)?)?;
     }
@@ -120,9 +120,9 @@ fn all_renumbered(alloc: Global, tables: Vec<Rows>, ranks: &[u32]) -> Result<Vec
     requires { Each tables.items (RowsFit (length ranks.now)) }
     ensures { IfOk result (λ all. all.items ≡ map (renumbered ranks.now) tables.items) }
 {
-    let mut all = Vec::new(alloc);
+    let mut all = Vec::with_capacity(alloc, tables.len())?;
     for rows in tables {
-        all.push(rows.renumbered(alloc, ranks)?)?;
+        all.push(rows.into_renumbered(ranks))?;
     }
     Ok(all)
 }
@@ -132,7 +132,7 @@ fn row_images(alloc: Global, tables: &[Table], images: &[u32]) -> Result<Vec<Row
     requires { Each tables.now (NumbersFit (length images.now)) }
     ensures { IfOk result (λ all. all.items ≡ map (renumbered images.now) tables.now) }
 {
-    let mut all = Vec::new(alloc);
+    let mut all = Vec::with_capacity(alloc, tables.len())?;
     for table in tables {
         all.push(table.renumbered(alloc, images)?)?;
     }
@@ -143,7 +143,7 @@ fn row_images(alloc: Global, tables: &[Table], images: &[u32]) -> Result<Vec<Row
 fn row_copies(alloc: Global, tables: &[Table]) -> Result<Vec<Rows>, AllocError>
     ensures { IfOk result (λ all. all.items ≡ tables.now) }
 {
-    let mut all = Vec::new(alloc);
+    let mut all = Vec::with_capacity(alloc, tables.len())?;
     for table in tables {
         all.push(table.rows_copy(alloc)?)?;
     }
@@ -154,7 +154,7 @@ fn row_copies(alloc: Global, tables: &[Table]) -> Result<Vec<Rows>, AllocError>
 fn rows_alone(alloc: Global, tables: Vec<Table>) -> Result<Vec<Rows>, AllocError>
     ensures { IfOk result (λ all. all.items ≡ tables.items) }
 {
-    let mut all = Vec::new(alloc);
+    let mut all = Vec::with_capacity(alloc, tables.len())?;
     for table in tables {
         all.push(table.into_rows())?;
     }

@@ -3,9 +3,9 @@ ghost use Rattle.std.specs.Prelude.{◌≡◌, ◌≤◌, ◌-◌, ◌<◌, ◌^
 ghost use Rattle.std.specs.Int.{to_be_bytes, w64};
 ghost use Rattle.dx_model.specs.declared.values.Value.TheVariants.{Const};
 ghost use Rattle.dx_ports.specs.Members.{Each};
-ghost use Rattle.dx_instance.specs.Keys.{AreSeconds, AreSmall, AreSorted, IsSmallSecond, IsSmallValue, NumbersAreKeyed, ValuesAreKeyed, packed, places_of, second_key, tie_cmp, value_key};
+ghost use Rattle.dx_instance.specs.Keys.{AreSeconds, AreSecondsOrNone, AreSmall, AreSorted, IsSmallSecond, IsSmallValue, NumbersAreKeyed, ValuesAreKeyed, packed, places_of, second_key, tie_cmp, value_key};
 ghost use Rattle.dx_instance.specs.Numbers.{AreApart, IsOrdering, value_of};
-ghost use Rattle.dx_instance.specs.Ranks.{AreEnds, AreRanked, LiesIn, joined_texts, text_of};
+ghost use Rattle.dx_instance.specs.Ranks.{AreEnds, AreLengths, AreRanked, IsShortLength, LiesIn, joined_texts, text_of};
 
 use crate::hints::hints_of;
 use crate::symbols::Symbols;
@@ -87,6 +87,51 @@ fn second_keys(alloc: Global, symbols: &Symbols) -> Result<Vec<u64>, AllocError>
     Ok(seconds)
 }
 
+// Whether some text has bytes after the eighth.
+fn any_long(lengths: &[u8]) -> bool {
+    for length in lengths {
+        if *length > 8 {
+            return true;
+        }
+    }
+    false
+}
+
+// The second key of each number, or none at all if no text has a second one: then values are compared at once.
+fn seconds_if_long(alloc: Global, symbols: &Symbols, lengths: &[u8]) -> Result<Vec<u64>, AllocError>
+    ensures { IfOk result (λ seconds. AreSecondsOrNone symbols.now seconds.items) }
+{
+    if !any_long(lengths) {
+        return Ok(Vec::new(alloc));
+    }
+    second_keys(alloc, symbols)
+}
+
+// How many bytes the text of a value has, and 9 if it has more than eight. A null has none.
+fn short_length(value: &Value) -> u8
+    ensures { IsShortLength value.now result }
+{
+    match value {
+        Value::Const(text) => {
+            let length = text.bytes().len();
+            if length <= 8 { length as u8 } else { 9 }
+        }
+        Value::Null(_) => 0,
+    }
+}
+
+// The lengths of the texts of all numbers, as far as they are short.
+fn lengths_of(alloc: Global, symbols: &Symbols) -> Result<Vec<u8>, AllocError>
+    ensures { IfOk result (λ lengths. AreLengths symbols.now lengths.items (length symbols.now)) }
+{
+    let count = symbols.len();
+    let mut lengths = Vec::with_capacity(alloc, count as usize)?;
+    for number in 0..count {
+        lengths.push(short_length(symbols.value(number)))?;
+    }
+    Ok(lengths)
+}
+
 // Each number, with a key that compares as the first bytes of its value.
 fn keyed_numbers(alloc: Global, symbols: &Symbols) -> Result<Vec<(u64, u32)>, AllocError>
     ensures keyed { IfOk result (λ keys. ValuesAreKeyed symbols.now keys.items (length symbols.now)) }
@@ -135,7 +180,11 @@ fn compare_ties(symbols: &Symbols, seconds: &[u64], blank: &Value, a: u32, b: u3
 }
 
 // The numbers in the order of their values, with their keys.
-fn numbers_in_order(alloc: Global, symbols: &Symbols) -> Result<Vec<(u64, u32)>, AllocError>
+fn numbers_in_order(
+    alloc: Global,
+    symbols: &Symbols,
+    lengths: &[u8],
+) -> Result<Vec<(u64, u32)>, AllocError>
     ensures sorted { IfOk result (λ keys. AreSorted symbols.now (places_of keys.items)) }
     ensures keyed { IfOk result (λ keys. NumbersAreKeyed symbols.now keys.items) }
     ensures few { length symbols.now < 2 ^ 32 }
@@ -146,7 +195,7 @@ fn numbers_in_order(alloc: Global, symbols: &Symbols) -> Result<Vec<(u64, u32)>,
         row: 0,
     });
     let mut keys = keyed_numbers(alloc, symbols)?;
-    let seconds = second_keys(alloc, symbols)?;
+    let seconds = seconds_if_long(alloc, symbols, lengths)?;
     keys.sort_unstable_by(|a, b| match a.0.cmp(&b.0) {
         Ordering::Equal => compare_ties(symbols, &seconds, &blank, a.1, b.1),
         other => other,
@@ -181,32 +230,37 @@ fn push_short(buffer: &mut String, key: u64, length: usize) -> Result<(), AllocE
     }
 }
 
-// Puts a text at the end of a buffer. A short one is taken from its key and not read: where texts lie in another order,
-// to come to their bytes takes most of the time.
-fn push_constant(buffer: &mut String, text: &Text, key: u64) -> Result<(), AllocError>
-    requires key { key ≡ packed 256 8 0 text.now }
-    requires small { AreSmall 256 8 text.now }
-    ensures pushed { OnOk result (string_bytes buffer.new ≡ string_bytes buffer.old ++ text.now) }
-    ensures utf8 { IsUtf8 text.now }
+// Puts the text of the value under a number at the end of a buffer. A short one is taken from its key, and the value is not
+// looked at: where values lie in another order, to come to them takes most of the time.
+fn push_text(
+    buffer: &mut String,
+    symbols: &Symbols,
+    number: u32,
+    key: u64,
+    size: u8,
+) -> Result<(), AllocError>
+    requires below { number < length symbols.now }
+    requires key { key ≡ value_key (value_of symbols.now number) }
+    requires small { IsSmallValue (value_of symbols.now number) }
+    requires size { IsShortLength (value_of symbols.now number) size }
+    ensures { OnOk result (string_bytes buffer.new ≡ string_bytes buffer.old ++ text_of (value_of symbols.now number)) }
 {
-    let length = text.bytes().len();
-    if length <= 8 {
-        return push_short(buffer, key, length);
+    if size <= 8 {
+        return push_short(buffer, key, size as usize);
     }
-    buffer.push_str(text.as_str())
-}
-
-// Puts the text of a value with this key at the end of a buffer. A null has none.
-fn push_text(buffer: &mut String, value: &Value, key: u64) -> Result<(), AllocError>
-    requires key { key ≡ value_key value.now }
-    requires small { IsSmallValue value.now }
-    ensures pushed { OnOk result (string_bytes buffer.new ≡ string_bytes buffer.old ++ text_of value.now) }
-    ensures utf8 { IsUtf8 (text_of value.now) }
-{
-    match value {
-        Value::Const(text) => push_constant(buffer, text, key),
+    match symbols.value(number as u64) {
+        Value::Const(text) => buffer.push_str(text.as_str()),
         Value::Null(_) => Ok(()),
     }
+}
+
+// How many bytes the texts have together, each counted as nine at most.
+fn room_for(lengths: &[u8]) -> usize {
+    let mut room = 0usize;
+    for length in lengths {
+        room = room.saturating_add(usize::from(*length));
+    }
+    room
 }
 
 // The texts of the values under these numbers, one after the other, and where each ends.
@@ -214,16 +268,19 @@ fn texts_in_order(
     alloc: Global,
     symbols: &Symbols,
     keys: &[(u64, u32)],
+    lengths: &[u8],
 ) -> Result<(String, Vec<usize>), AllocError>
     requires below { Each (places_of keys.now) (λ n. n < length symbols.now) }
     requires keyed { NumbersAreKeyed symbols.now keys.now }
+    requires lengths { AreLengths symbols.now lengths.now (length symbols.now) }
     ensures texts { IfOk result (λ t. string_bytes t.0 ≡ joined_texts (map (value_of symbols.now) (places_of keys.now))) }
     ensures ends { IfOk result (λ t. AreEnds symbols.now keys.now t.1.items (length keys.now)) }
 {
-    let mut buffer = String::new(alloc);
+    let mut buffer = String::with_capacity(alloc, room_for(lengths))?;
     let mut ends = Vec::with_capacity(alloc, keys.len())?;
     for key in keys {
-        push_text(&mut buffer, symbols.value(key.1 as u64), key.0)?;
+        let size = lengths[key.1 as usize];
+        push_text(&mut buffer, symbols, key.1, key.0, size)?;
         ends.push(buffer.len())?;
     }
     Ok((buffer, ends))
@@ -309,12 +366,14 @@ fn values_in_order(
     alloc: Global,
     symbols: &Symbols,
     keys: &[(u64, u32)],
+    lengths: &[u8],
 ) -> Result<Vec<Value>, AllocError>
     requires below { Each (places_of keys.now) (λ n. n < length symbols.now) }
     requires keyed { NumbersAreKeyed symbols.now keys.now }
+    requires lengths { AreLengths symbols.now lengths.now (length symbols.now) }
     ensures { IfOk result (λ values. values.items ≡ map (value_of symbols.now) (places_of keys.now)) }
 {
-    let (texts, ends) = texts_in_order(alloc, symbols, keys)?;
+    let (texts, ends) = texts_in_order(alloc, symbols, keys, lengths)?;
     if texts.len() >= 4_294_967_296 {
         return copies_in_order(alloc, symbols, keys);
     }
@@ -332,9 +391,10 @@ fn values_in_order(
 pub(crate) fn in_order(alloc: Global, symbols: &Symbols) -> Result<Ordered, AllocError>
     ensures { IfOk result (λ o. IsOrdering symbols.now o.symbols o.ranks.items) }
 {
-    let keys = numbers_in_order(alloc, symbols)?;
+    let lengths = lengths_of(alloc, symbols)?;
+    let keys = numbers_in_order(alloc, symbols, &lengths)?;
     let ranks = ranks_of(alloc, &keys)?;
-    let values = values_in_order(alloc, symbols, &keys)?;
+    let values = values_in_order(alloc, symbols, &keys, &lengths)?;
     let hints = hints_of(alloc, &keys, &values)?;
     Ok(Ordered {
         symbols: Symbols::from_ordered(alloc, values, hints),

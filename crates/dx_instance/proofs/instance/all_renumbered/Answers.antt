@@ -6,11 +6,11 @@ use Rattle.dx_instance.specs.Shown.{renumbered}
 use Rattle.dx_instance.proofs.SortFacts.{image_more}
 use Rattle.dx_instance.proofs.instance.all_renumbered.Goals as goal
 
-pub renumbered-requires : goal.renumbered-requires
-renumbered-requires c = (c.loop-rows.invariant.fit _ (subst (λ (l : List NumberTable). c.in-Some.rows ∈ l) (sym c.in-Some.ensures.steps.0) (here refl))).within
+pub into_renumbered-requires : goal.into_renumbered-requires
+into_renumbered-requires c = (c.loop-rows.invariant.fit _ (subst (λ (l : List NumberTable). c.in-Some.rows ∈ l) (sym c.in-Some.ensures.steps.0) (here refl))).within
 
 pub loop-rows-preserved : goal.loop-rows-preserved
 loop-rows-preserved c = record {
-  all = image_more (renumbered c.args.ranks.now) c.loop-rows.all.items c.push.new.self.items _ _ _ c.in-Some.rows c.in_ok-renumbered.field-0 c.in-Some.ensures.steps.0 c.in_ok-push.ensures.items c.in_ok-renumbered.ensures c.loop-rows.invariant.all;
+  all = image_more (renumbered c.args.ranks.now) c.loop-rows.all.items c.push.new.self.items _ _ _ c.in-Some.rows c.into_renumbered.result c.in-Some.ensures.steps.0 c.in_ok-push.ensures.items c.into_renumbered.ensures c.loop-rows.invariant.all;
   fit = λ t m. c.loop-rows.invariant.fit t (subst (λ (l : List NumberTable). t ∈ l) (sym c.in-Some.ensures.steps.0) (there m));
 }
