@@ -26,22 +26,10 @@ use Rattle.dx_blocks.proofs.Sorting.{nulls_ascend, nulls_same}
 
 -- ---- the nulls of rows
 
-pub nulls_more : (row : List Value) (i : ℕ) (v : Value) → i < length row → v ≡ get_or row i v
-    → nulls_in (take (i + 1) row) ≡ nulls_in (take i row) ++ null_in v
-nulls_more row i v h e =
-    ap nulls_in (take_more row i v h) ∙ (flat_map-append null_in (take i row) (get_or row i v ∷ [])
-    ∙ ap (λ z. nulls_in (take i row) ++ z) (append-nil (null_in (get_or row i v)) ∙ ap null_in (sym e)))
-
-in_row : (n : NullId) (vs : List Value) → Null n ∈ vs → n ∈ nulls_in vs
-in_row n vs m = in_flat_map null_in m (here refl)
-
 null_is : (n : NullId) (v : Value) → n ∈ null_in v → v ≡ Null n
 null_is n (Const t) m = elim m [ ]
 null_is n (Null k) (here e) = ap Null e
 null_is n (Null k) (there m) = elim m [ ]
-
-from_row : (n : NullId) (vs : List Value) → n ∈ nulls_in vs → Null n ∈ vs
-from_row n vs m = let w = from_flat_map null_in vs m in subst (λ v. v ∈ vs) (null_is n w.0 w.2) w.1
 
 pub values_more : (A : List Fact) (i : ℕ) (f : Fact) → i < length A → f ≡ get_or A i f
     → values (take (i + 1) A) ≡ values (take i A) ++ f.row
@@ -55,8 +43,8 @@ nulls_are A ls ms ns e moved sorted filtered =
     let same = nulls_same ls ms ns moved filtered in record {
       ascend = nulls_ascend ms ns sorted filtered;
       exactly = λ n. (
-        (λ m. from_row n (values A) (subst (λ xs. n ∈ xs) e (same.0 n m))),
-        (λ m. same.1 n (subst (λ xs. n ∈ xs) (sym e) (in_row n (values A) m))),
+        (λ m. let w = from_flat_map null_in (values A) (subst (λ xs. n ∈ xs) e (same.0 n m)) in subst (λ v. v ∈ values A) (null_is n w.0 w.2) w.1),
+        (λ m. same.1 n (subst (λ xs. n ∈ xs) (sym e) (in_flat_map null_in m (here refl)))),
       );
     }
 

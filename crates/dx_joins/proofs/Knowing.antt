@@ -1,7 +1,7 @@
 -- Marks of variables that are known.
-use Rattle.std.proofs.Common.{◌≡◌, ◌∙◌, ◌<◌, ◌≤◌, ◌⊎◌, ◌+◌, ◌++◌, ◌∷◌, ℕ, zero, suc, List, [], Bool, true, false, inl, inr, refl, sym, ap, subst, arith, length, get_or, take}
+use Rattle.std.proofs.Common.{◌≡◌, ◌∙◌, ◌<◌, ◌≤◌, ◌⊎◌, ◌+◌, ◌++◌, ◌∷◌, ℕ, List, [], Bool, true, false, inl, inr, refl, sym, ap, subst, arith, length, get_or, take}
 use Rattle.std.specs.Prelude.{slice_set}
-use Rattle.std.proofs.lemmas.Bool.{cases_order}
+use Rattle.std.proofs.lemmas.Bool.{cases_eq}
 use Rattle.std.proofs.lemmas.List.{get_or-set_same, get_or-set_other, length-set, take_more}
 use Rattle.dx_ports.specs.Members.{◌∈◌, Each, here, there}
 use Rattle.dx_ports.proofs.Members.{in_left, in_right, from_append}
@@ -14,24 +14,18 @@ use Rattle.dx_joins.proofs.Patterns.{variables_more}
 abbrev Marked : List Bool → ℕ → Type 0
 Marked ms x = get_or ms x false ≡ true
 
-same_or : (x v : ℕ) → (x ≡ v) ⊎ (¬ (x ≡ v))
-same_or x v = elim (cases_order x v) [
-  | inl e ↦ inl e
-  | inr o ↦ elim o [ inl k ↦ inr (λ e. omega (arith, e, k)) | inr k ↦ inr (λ e. omega (arith, e, k)) ]
-]
-
 -- a mark more
 pub mark_there : (ms : List Bool) (v : ℕ) → v < length ms → Marked (slice_set ms v true) v
 mark_there ms v h = get_or-set_same ms v true false h
 
 pub mark_stays : (ms : List Bool) (v x : ℕ) → v < length ms → Marked ms x → Marked (slice_set ms v true) x
-mark_stays ms v x h m = elim (same_or x v) [
+mark_stays ms v x h m = elim (cases_eq x v) [
   | inl e ↦ subst (λ y. Marked (slice_set ms v true) y) (sym e) (mark_there ms v h)
   | inr n ↦ get_or-set_other ms v x true false n ∙ m
 ]
 
 pub mark_only : (ms : List Bool) (v x : ℕ) → Marked (slice_set ms v true) x → Marked ms x ⊎ (x ≡ v)
-mark_only ms v x m = elim (same_or x v) [ inl e ↦ inr e | inr n ↦ inl (sym (get_or-set_other ms v x true false n) ∙ m) ]
+mark_only ms v x m = elim (cases_eq x v) [ inl e ↦ inr e | inr n ↦ inl (sym (get_or-set_other ms v x true false n) ∙ m) ]
 
 last : (v x : ℕ) → x ∈ (v ∷ []) → v ≡ x
 last v x (here e) = e

@@ -60,12 +60,9 @@ they_differ w = elim (w.0 (fact_blanked ((true ∷ false ∷ []) ∷ []) (of [] 
 
 -- ---- columns that are used
 
-same_number : (x y : ℕ) → Var x ≡ Var y → x ≡ y
-same_number x y e = cc e
-
 -- what is mentioned another number of times is not idle
 not_idle : (d : Rule) (x n : ℕ) → times x (mentions d) ≡ n → ¬ (n ≡ 1) → ¬ IsIdle d (Var x)
-not_idle d x n e o i = o (sym e ∙ (ap (λ y. times y (mentions d)) (same_number x i.0 i.1) ∙ i.2))
+not_idle d x n e o i = let same : x ≡ i.0 = cc i.1 in o (sym e ∙ (ap (λ y. times y (mentions d)) same ∙ i.2))
 
 a_literal_asks : (t : List ℕ) → Asks rule (Var 1 ∷ Lit t ∷ []) 1
 a_literal_asks t i = absurd (cc (i.1))

@@ -1,11 +1,12 @@
 -- Counted mentions, and marks.
 use Rattle.std.proofs.Common.{◌≡◌, ℕ, zero, suc, ◌+◌, ◌-◌, ◌^◌, ◌<◌, ◌≤◌, ◌⊎◌, Bool, true, false, List, [], ◌∷◌, ◌++◌, inl, inr, refl, sym, ◌∙◌, ap, subst, arith, length, min, take, get_or, append_assoc, append-nil}
 use Rattle.std.specs.Prelude.{map, flat_map, slice_set, replicate}
-use Rattle.std.proofs.lemmas.Bool.{cases_Bool, cases_order, eq-eqb, ne_eqb}
+use Rattle.std.proofs.lemmas.Bool.{cases_Bool, cases_eq, cases_order, eq-eqb, ne_eqb}
 use Rattle.std.proofs.lemmas.List.{take_more, get_or-set_same, get_or-set_other, length-append, length-set, map-append, take_all}
 use Rattle.std.proofs.lemmas.List.Concat.{flat_map-append}
 use Rattle.dx_ports.specs.Members.{◌∈◌, here, there, Each}
-use Rattle.dx_ports.proofs.Members.{from_append, in_flat_map, item_in}
+use Rattle.dx_ports.proofs.Loops.{each_more}
+use Rattle.dx_ports.proofs.Members.{in_flat_map, item_in}
 use Rattle.dx_model.specs.declared.rules.Cell.{Cell}
 use Rattle.dx_model.specs.declared.rules.Cell.TheVariants.{Var, Ex, Lit}
 use Rattle.dx_model.specs.declared.rules.Atom.{Atom}
@@ -43,15 +44,9 @@ no_more cells v x n =
     let b : times x (Var v ∷ []) ≡ 0 = rw (ne_eqb x v n) refl in
     omega (arith, a, b)
 
-pub same_or : (x v : ℕ) → (x ≡ v) ⊎ (¬ (x ≡ v))
-same_or x v = elim (cases_order x v) [
-  | inl e ↦ inl e
-  | inr o ↦ elim o [ inl k ↦ inr (λ e. omega (arith, e, k)) | inr k ↦ inr (λ e. omega (arith, e, k)) ]
-]
-
 pub counted_set : (cells : List Cell) (counts : List ℕ) (v : ℕ) → Counts cells counts → v < length counts → get_or counts v 0 < 2
     → Counts (cells ++ Var v ∷ []) (slice_set counts v (get_or counts v 0 + 1))
-counted_set cells counts v h k l x b = elim (same_or x v) [
+counted_set cells counts v h k l x b = elim (cases_eq x v) [
   | inl e ↦ subst (λ y. get_or (slice_set counts v (get_or counts v 0 + 1)) y 0 ≡ up_to_two (times y (cells ++ Var v ∷ []))) (sym e) at_v
   | inr n ↦ get_or-set_other counts v x (get_or counts v 0 + 1) 0 n ∙ (h x (subst (λ m. x < m) (length-set counts v (get_or counts v 0 + 1)) b) ∙ ap up_to_two (sym (no_more cells v x n)))
 ]
@@ -63,7 +58,7 @@ counted_set cells counts v h k l x b = elim (same_or x v) [
         ∙ (ap (λ n. n + 1) c ∙ (sym (next_count (times v cells) (subst (λ n. n < 2) c l)) ∙ ap up_to_two (sym (one_more cells v))))
 
 pub counted_full : (cells : List Cell) (counts : List ℕ) (v : ℕ) → Counts cells counts → 2 ≤ get_or counts v 0 → Counts (cells ++ Var v ∷ []) counts
-counted_full cells counts v h l x b = elim (same_or x v) [
+counted_full cells counts v h l x b = elim (cases_eq x v) [
   | inl e ↦ subst (λ y. get_or counts y 0 ≡ up_to_two (times y (cells ++ Var v ∷ []))) (sym e) (at_v (subst (λ y. y < length counts) e b))
   | inr n ↦ h x b ∙ ap up_to_two (sym (no_more cells v x n))
 ]
@@ -214,7 +209,7 @@ idle_item d cells i c h e k = subst (IsIdle d) (e ∙ same_default cells i c (Li
 -- a column is marked
 pub mark_one : (d : Rule) (cells : List Cell) (marks : List Bool) (n : ℕ) → n < length marks → ((i : ℕ) → i < n → get_or marks i true ≡ false → IsIdle d (get_or cells i (Lit [])))
     → (i : ℕ) → i < n + 1 → get_or (slice_set marks n true) i true ≡ false → IsIdle d (get_or cells i (Lit []))
-mark_one d cells marks n l h i b e = elim (same_or i n) [
+mark_one d cells marks n l h i b e = elim (cases_eq i n) [
   | inl k ↦ true_false (sym (get_or-set_same marks n true true l) ∙ subst (λ j. get_or (slice_set marks n true) j true ≡ false) k e)
   | inr o ↦ h i (below_but i n b o) (sym (get_or-set_other marks n i true true o) ∙ e)
 ]
@@ -222,7 +217,7 @@ mark_one d cells marks n l h i b e = elim (same_or i n) [
 -- a column is left as it is
 pub mark_none : (d : Rule) (cells : List Cell) (marks : List Bool) (n : ℕ) → (get_or marks n true ≡ false → IsIdle d (get_or cells n (Lit [])))
     → ((i : ℕ) → i < n → get_or marks i true ≡ false → IsIdle d (get_or cells i (Lit []))) → (i : ℕ) → i < n + 1 → get_or marks i true ≡ false → IsIdle d (get_or cells i (Lit []))
-mark_none d cells marks n at_n h i b e = elim (same_or i n) [
+mark_none d cells marks n at_n h i b e = elim (cases_eq i n) [
   | inl k ↦ subst (λ j. IsIdle d (get_or cells j (Lit []))) (sym k) (at_n (subst (λ j. get_or marks j true ≡ false) k e))
   | inr o ↦ h i (below_but i n b o) e
 ]
@@ -237,7 +232,7 @@ pub keep_trans : (a b c : List Bool) → KeepMarks a b → KeepMarks b c → Kee
 keep_trans a b c k l i e = k i (l i e)
 
 pub keep_set : (marks : List Bool) (n : ℕ) → n < length marks → KeepMarks marks (slice_set marks n true)
-keep_set marks n h i e = elim (same_or i n) [
+keep_set marks n h i e = elim (cases_eq i n) [
   | inl k ↦ true_false (sym (get_or-set_same marks n true true h) ∙ subst (λ j. get_or (slice_set marks n true) j true ≡ false) k e)
   | inr o ↦ sym (get_or-set_other marks n i true true o) ∙ e
 ]
@@ -259,29 +254,18 @@ atoms_kept : (table : ℕ) (old new : List Bool) (d : Rule) (atoms : List Atom) 
     → Each atoms (λ a. a.table ≡ table → AreIdle d new a.cells)
 atoms_kept table old new d atoms k u a m e = idle_kept d old new a.cells k (u a m e)
 
--- one item more has it
-each_more : {X : Type 0} (P : X → Type 0) (xs : List X) (i : ℕ) (d : X) → i < length xs → Each (take i xs) P → P (get_or xs i d) → Each (take (i + 1) xs) P
-each_more {X} P xs i d h all p x m = elim (from_append (take i xs) (subst (λ ys. x ∈ ys) (take_more xs i d h) m)) [
-  | inl l ↦ all x l
-  | inr r ↦ last r
-]
-  where
-    last : x ∈ (get_or xs i d ∷ []) → P x
-    last (here e) = subst P e p
-    last (there n) = elim n [ ]
-
 -- a rule more, or an atom more, as a loop gives it
 pub rule_more : (table : ℕ) (rules : List Rule) (old new : List Bool) (i : ℕ) (d : Rule) → i < length rules → d ≡ get_or rules i d → Each (take i rules) (UsesOnlyOf table old) → KeepMarks old new
     → UsesOnlyOf table new d → Each (take (i + 1) rules) (UsesOnlyOf table new)
 rule_more table rules old new i d h e all k u =
-    each_more (UsesOnlyOf table new) rules i d h (λ r m. only_kept table old new r k (all r m)) (subst (UsesOnlyOf table new) e u)
+    each_more (UsesOnlyOf table new) rules i d h e (λ r m. only_kept table old new r k (all r m)) u
 
 pub atom_more : (table : ℕ) (d : Rule) (atoms : List Atom) (old new : List Bool) (i : ℕ) (a : Atom) → atoms ≡ d.premise → i < length atoms → a ≡ get_or atoms i a
     → Each (take i d.premise) (λ b. b.table ≡ table → AreIdle d old b.cells) → KeepMarks old new → (a.table ≡ table → AreIdle d new a.cells)
     → Each (take (i + 1) d.premise) (λ b. b.table ≡ table → AreIdle d new b.cells)
 atom_more table d atoms old new i a s h e all k u =
-    each_more (λ b. b.table ≡ table → AreIdle d new b.cells) d.premise i a (subst (λ bs. i < length bs) s h) (atoms_kept table old new d (take i d.premise) k all)
-    (subst (λ (b : Atom). b.table ≡ table → AreIdle d new b.cells) (subst (λ bs. a ≡ get_or bs i a) s e) u)
+    each_more (λ b. b.table ≡ table → AreIdle d new b.cells) d.premise i a (subst (λ bs. i < length bs) s h) (subst (λ bs. a ≡ get_or bs i a) s e)
+    (atoms_kept table old new d (take i d.premise) k all) u
 
 -- what is lent is what it is lent of
 pub idle_lent : (d : Rule) (marks : List Bool) (counts lent : List ℕ) (cells given : List Cell) → lent ≡ counts → given ≡ cells → Counts (mentions d) counts
@@ -294,7 +278,7 @@ no_change marks i e = e
 pub tables_more : (rules : List Rule) (used : List (List Bool)) (table n : ℕ) (marks : List Bool) (new : List (List Bool)) → length used ≡ table → new ≡ used ++ marks ∷ []
     → ((t : ℕ) → t < table → Each rules (UsesOnlyOf t (marks_at used t))) → Each rules (UsesOnlyOf table marks) → n ≡ table + 1
     → (t : ℕ) → t < n → Each rules (UsesOnlyOf t (marks_at new t))
-tables_more rules used table n marks new s e all last k t h = elim (same_or t table) [
+tables_more rules used table n marks new s e all last k t h = elim (cases_eq t table) [
   | inl i ↦ subst (λ ms. Each rules (UsesOnlyOf t ms)) (sym (ap (λ us. marks_at us t) e ∙ at_end used t (s ∙ sym i))) (subst (λ u. Each rules (UsesOnlyOf u marks)) (sym i) last)
   | inr o ↦ let b : t < table = below o in subst (λ ms. Each rules (UsesOnlyOf t ms)) (sym (ap (λ us. marks_at us t) e ∙ before_end used t (subst (λ m. t < m) (sym s) b))) (all t b)
 ]
@@ -334,7 +318,7 @@ pub new_none : (P : ℕ → Type 0) (marks : List Bool) → AreNewWhere P marks 
 new_none P marks i e = inl e
 
 pub new_one : (P : ℕ → Type 0) (old marks : List Bool) (n : ℕ) → P n → AreNewWhere P old marks → AreNewWhere P old (slice_set marks n true)
-new_one P old marks n p h i e = elim (same_or i n) [
+new_one P old marks n p h i e = elim (cases_eq i n) [
   | inl k ↦ inr (subst P (sym k) p)
   | inr o ↦ h i (sym (get_or-set_other marks n i true false o) ∙ e)
 ]
