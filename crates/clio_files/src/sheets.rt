@@ -91,7 +91,7 @@ fn texts_at<'a>(matches: &'a Matches, null: &NullId) -> &'a [Text]
     ensures { result.now ≡ texts_of (rows_in matches.now) null.now }
 {
     let places = &matches.rules.items()[null.rule as usize];
-    places.tuples.items()[null.row as usize].items()
+    places.tuples.tuple(null.row as usize)
 }
 
 // The header of what nulls stand for.

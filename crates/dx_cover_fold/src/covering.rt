@@ -72,7 +72,7 @@ fn by_map(
     ensures finds { IfOk result (λ v. (C : List Cover) → FindsAmong rules.now (rows_of matches.now) i C known.now
         → FindsAmong rules.now (rows_of matches.now) i (C ++ places_by (rows_of matches.now) j map.now) v.items) }
 {
-    let tuples = matches.rules.items()[j as usize].tuples.items();
+    let tuples = &matches.rules.items()[j as usize].tuples;
     if tuples.len() > u32::MAX as usize {
         return Err(AllocError);
     }
@@ -128,7 +128,7 @@ fn own_of(alloc: Global, rules: &[Rule], matches: &Matches, i: u32) -> Result<Ve
     ensures own { IfOk result (λ v. AreOwn rules.now (rows_of matches.now) i v.items) }
     ensures few { IfOk result (λ v. length v.items < 2 ^ 32) }
 {
-    let tuples = matches.rules.items()[i as usize].tuples.items();
+    let tuples = &matches.rules.items()[i as usize].tuples;
     if tuples.len() > u32::MAX as usize {
         return Err(AllocError);
     }
@@ -136,7 +136,7 @@ fn own_of(alloc: Global, rules: &[Rule], matches: &Matches, i: u32) -> Result<Ve
     let cells = as_cells(alloc, &variables)?;
     let mut own = Vec::new(alloc);
     for row in 0..tuples.len() {
-        let tuple = tuples[row].items();
+        let tuple = tuples.tuple(row);
         own.push(cells_said(alloc, &variables, tuple, i, row as u32, &cells)?)?;
     }
     Ok(own)
@@ -168,7 +168,7 @@ pub(crate) fn least_covers(
     requires one { length matches.now.rules ≡ length rules.now }
     ensures { IfOk result (λ v. AreLeast rules.now (rows_of matches.now) i v.items) }
 {
-    let tuples = matches.rules.items()[i as usize].tuples.items();
+    let tuples = &matches.rules.items()[i as usize].tuples;
     let mut found = none_known(alloc, tuples.len())?;
     for j in 0..rules.len() {
         if covers.before(j as u32, i) {

@@ -77,8 +77,8 @@ fn value_given(
         None => &other,
     };
     let variables = variables[found.rule as usize].items();
-    let tuples = matches.rules.items()[found.rule as usize].tuples.items();
-    let tuple = tuples[found.row as usize].items();
+    let tuples = &matches.rules.items()[found.rule as usize].tuples;
+    let tuple = tuples.tuple(found.row as usize);
     value_said(alloc, variables, tuple, found.rule, found.row, cell)
 }
 

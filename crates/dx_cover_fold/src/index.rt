@@ -6,7 +6,7 @@ ghost use Rattle.dx_model.specs.Values.{row_cmp};
 ghost use Rattle.dx_cover_fold.specs.Found.{Indexes};
 
 use crate::rows_said::cells_said;
-use dx_model::{Cell, Row, Tuple};
+use dx_model::{Cell, Row, Tuples};
 use std::alloc::{AllocError, Global};
 use std::collections::HashMap;
 
@@ -25,7 +25,7 @@ impl Index {
     pub(crate) fn build(
         alloc: Global,
         variables: &[u32],
-        tuples: &[Tuple],
+        tuples: &Tuples,
         rule: u32,
         cells: &[Cell],
     ) -> Result<Index, AllocError>
@@ -34,7 +34,7 @@ impl Index {
     {
         let mut places = HashMap::new(alloc);
         for place in 0..tuples.len() {
-            let tuple = tuples[place].items();
+            let tuple = tuples.tuple(place);
             let row = cells_said(alloc, variables, tuple, rule, place as u32, cells)?;
             if places.get(&row).is_none() {
                 places.insert(row, place as u32)?;

@@ -23,7 +23,6 @@ mod matching;
 mod names;
 mod query;
 mod run;
-mod texts;
 mod variables;
 
 pub use fault::EvalFault;

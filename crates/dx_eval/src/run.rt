@@ -16,12 +16,12 @@ use crate::finding::found_steps;
 use crate::found::Found;
 use crate::inserting::insert_all;
 use crate::made::Made;
-use crate::texts::matches_of;
 use dx_funcs::{Host, Meaning};
 use dx_instance::Instance;
 use dx_ports::{Items, Text};
 use dx_schema::Schema;
 use dx_script::Script;
+use dx_tgd::matches_of;
 use std::alloc::{AllocError, Global};
 
 /// What a script makes of the rows of a source: exactly the matches and the facts that it means, in tables whose rows ascend.

@@ -119,10 +119,10 @@ pub fn satisfied(rule: &Rule, places: &Places, target: &Instance, room: &mut Roo
     ensures value { IsTrue result ↔ PlacesSatisfied rule.now places.now.tuples (facts target.now) }
 {
     let atoms = rule.conclusion.items();
-    for tuple in places.tuples.items() {
+    for place in 0..places.tuples.len() {
         let question = Question {
             atoms,
-            tuple: tuple.items(),
+            tuple: places.tuples.tuple(place),
             target,
         };
         if !completes(&question, &mut room.found, &mut room.done) {

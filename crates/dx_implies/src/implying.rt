@@ -19,7 +19,7 @@ use crate::refusing::told_as_frozen;
 use dx_funcs::Host;
 use dx_holds::{Room, satisfied};
 use dx_instance::Instance;
-use dx_model::{Places, Rule};
+use dx_model::{Places, Rule, Tuples};
 use dx_ports::{Items, Text};
 use dx_schema::Schema;
 use dx_tgd::{CanonFault, canonical_plain};
@@ -38,9 +38,9 @@ fn has_conclusion(
     ensures { IfOk result (λ b. IsTrue b ↔ ((values : ℕ → AnyValue) × Each rule.now.conclusion (λ a. said (frozen_text prefix.now) values a ∈ facts instance.now))) }
 {
     let conclusion = frozen_rule_of(alloc, rule, prefix)?;
-    let mut tuples = Items::new(alloc);
-    tuples.push(Items::new(alloc))?;
-    let place = Places { tuples };
+    let place = Places {
+        tuples: Tuples::of_texts(0, 1, Vec::new(alloc)),
+    };
     let mut room = Room::reserve(alloc, from_ref(&conclusion))?;
     Ok(satisfied(&conclusion, &place, instance, &mut room))
 }

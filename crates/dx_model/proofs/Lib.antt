@@ -25,3 +25,4 @@ pub mod ByMembers
 pub mod Deciding
 mod CoverExamples
 pub mod Cells
+pub mod TupleFacts

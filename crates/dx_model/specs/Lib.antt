@@ -8,4 +8,5 @@ pub mod Chase
 pub mod Covers
 pub mod Blocks
 pub mod Following
+pub mod Tuples
 pub mod Laws

@@ -1,13 +1,14 @@
 //! The book of definitions: the types of data exchange, its notions and their laws.
 //!
-//! Read specs/ in this order: `Values`, `Instances`, `Tables`, `Rules`, `Solutions` (rules, matches, solutions), `Fitting`
-//! (rules that fit two schemas, or the widths of tables), `Chase` (forced values, key steps, clashes), `Covers` (cell maps,
-//! covered places, the uncovered part and the cover fold), `Blocks` (connected nulls, closed parts, needed facts, reducts),
-//! `Following` (when a rule follows from others, pruned lists, frozen premises), `Laws`. Each law is the clause of a public
-//! function with an empty body (src/laws.rt): the rows of a rule exist and are one; the canonical instance has exactly what
-//! the rules say at their places; what is left of its uncovered part after the forced map and a reduction to a core is a
-//! universal solution if keys hold in it; a list of rules has at most one pruned list. The calls of `Value`, `Row` and `Fact`
-//! compare, copy and grow, exactly as the notions say.
+//! Read specs/ in this order: `Values`, `Instances`, `Tables`, `Rules`, `Solutions` (rules, matches, solutions),
+//! `Fitting` (rules that fit two schemas, or the widths of tables), `Chase` (forced values, key steps, clashes), `Covers`
+//! (cell maps, covered places, the uncovered part and the cover fold), `Blocks` (connected nulls, closed parts, needed
+//! facts, reducts), `Following` (when a rule follows from others, pruned lists, frozen premises), `Tuples` (tuples whose
+//! texts lie one after the other), `Laws`. Each law is the clause of a public function with an empty body (src/laws.rt):
+//! the rows of a rule exist and are one; the canonical instance has exactly what the rules say at their places; what is
+//! left of its uncovered part after the forced map and a reduction to a core is a universal solution if keys hold in it;
+//! a list of rules has at most one pruned list. The calls of `Value`, `Row` and `Fact` compare, copy and grow, exactly as
+//! the notions say.
 #![tactic(auto)]
 
 mod covers;
@@ -17,6 +18,7 @@ mod matches;
 mod row;
 mod rules;
 mod tables;
+mod tuples;
 mod values;
 
 pub use covers::{CellMap, Cover, Meeting};
@@ -32,8 +34,9 @@ pub use laws::{
     reduced_is_universal, reduct_of_reduct, rows_of_all_rules, spare_one, take_out,
     widths_of_atoms,
 };
-pub use matches::{Matches, Places, Tuple};
+pub use matches::{Matches, Places};
 pub use row::Row;
 pub use rules::{Atom, Cell, Derived, Rule};
 pub use tables::{Key, Link};
+pub use tuples::Tuples;
 pub use values::{NullId, Value, copy_value};

@@ -10,4 +10,5 @@ pub mod Plans
 pub mod Built
 pub mod Steps
 pub mod Ascending
+pub mod Copied
 pub mod Founds

@@ -6,8 +6,9 @@
 //! for each match, pass a limit, before memory is spent on them. All are the notions of `dx_model`'s specs/Rules.
 //! The law `nulls_have_places`: each null of the canonical instance names a rule and a place that are there.
 //!
-//! Matches are rows of numbers from beginning to end (`found`); each text is copied once, for the tuple that is answered.
-//! The other calls on rules are named here too: closing a rule, printing it, and whether an instance satisfies rules, keys and links.
+//! Matches are rows of numbers from beginning to end (`found`); each text is copied once, for the tuple that is answered
+//! (`matches_of`). The other calls on rules are named here too: closing a rule, printing it, and whether an instance satisfies
+//! rules, keys and links.
 #![tactic(auto)]
 
 mod builder;
@@ -32,4 +33,5 @@ pub use laws::nulls_have_places;
 pub use made::Made;
 pub use matching::match_rows;
 pub use plain::canonical_plain;
+pub use texts::matches_of;
 pub use variables::exported;

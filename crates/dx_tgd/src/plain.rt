@@ -12,7 +12,6 @@ ghost use Rattle.dx_instance.specs.Numbers.{AreApart, Extends};
 ghost use Rattle.dx_instance.specs.Shown.{shown_tables};
 ghost use Rattle.dx_instance.specs.Stored.{facts, rows_of, widths};
 ghost use Rattle.dx_schema.specs.Tables.{schema_widths};
-ghost use Rattle.dx_joins.specs.Shown.{AreTexts};
 ghost use Rattle.dx_tgd.specs.Counting.{canonical_cells, rows_in};
 ghost use Rattle.dx_tgd.specs.Found.{AreFound, IsRefusal};
 ghost use Rattle.dx_tgd.specs.Placed.{HasCell};
@@ -24,10 +23,10 @@ use crate::fault::CanonFault;
 use crate::found::Found;
 use crate::made::Made;
 use crate::matching::rule_rows;
-use crate::texts::places_of_rows;
+use crate::texts::matches_of;
 use dx_funcs::{Host, Meaning};
-use dx_instance::{Instance, Numbers, Rows, Symbols, Value};
-use dx_model::{Cell, Matches, Rule};
+use dx_instance::{Instance, Numbers, Symbols, Value};
+use dx_model::{Cell, Rule};
 use dx_ports::{Count, Items, Limit, Text};
 use dx_schema::Schema;
 use std::alloc::{AllocError, Global};
@@ -104,18 +103,6 @@ fn found_rules<F: Fn(u32, &Items<Text>) -> Result<Text, AllocError>, M: Meaning>
         tables.push(rows)?;
     }
     Ok(Found { symbols, tables })
-}
-
-// The tuples for which the rows of each rule stand.
-fn matches_of(alloc: Global, tables: &[Rows], symbols: &Symbols) -> Result<Matches, AllocError>
-    requires texts { Each tables.now (λ t. Each t.rows (AreTexts symbols.now)) }
-    ensures { IfOk result (λ m. rows_in m ≡ tuples_in symbols.now tables.now) }
-{
-    let mut rules = Items::new(alloc);
-    for rows in tables {
-        rules.push(places_of_rows(alloc, rows, symbols)?)?;
-    }
-    Ok(Matches { rules })
 }
 
 /// The rows of each rule, and the canonical instance: exactly the facts that the conclusions say of them, in tables

@@ -1,13 +1,15 @@
 // The texts for which rows of numbers stand.
-ghost use Rattle.std.specs.Prelude.{◌≡◌, ℕ, IfOk, map};
+ghost use Rattle.std.specs.Prelude.{◌≡◌, ◌++◌, ℕ, IfOk, OnOk, map};
 ghost use Rattle.dx_ports.specs.Members.{Each};
 ghost use Rattle.dx_model.specs.Rules.{Ascend};
 ghost use Rattle.dx_instance.specs.Cells.{NumbersAscend};
 ghost use Rattle.dx_instance.specs.Numbers.{ValuesAscend};
 ghost use Rattle.dx_joins.specs.Shown.{AreTexts, text_in, texts_of};
+ghost use Rattle.dx_tgd.specs.Counting.{rows_in};
+ghost use Rattle.dx_tgd.specs.Texts.{tuples_in};
 
 use dx_instance::{Rows, Symbols, Value};
-use dx_model::{Places, Tuple};
+use dx_model::{Matches, Places, Tuples};
 use dx_ports::{Items, Text};
 use std::alloc::{AllocError, Global};
 
@@ -21,16 +23,20 @@ fn text_copy(alloc: Global, value: &Value) -> Result<Text, AllocError>
     }
 }
 
-// The tuple for which a row stands.
-fn tuple_of(alloc: Global, row: &[u32], symbols: &Symbols) -> Result<Tuple, AllocError>
+// Adds copies of the texts for which a row stands.
+fn push_texts(
+    alloc: Global,
+    row: &[u32],
+    symbols: &Symbols,
+    texts: &mut Vec<Text>,
+) -> Result<(), AllocError>
     requires { AreTexts symbols.now row.now }
-    ensures { IfOk result (λ t. t ≡ texts_of symbols.now row.now) }
+    ensures { OnOk result (texts.new.items ≡ texts.old.items ++ texts_of symbols.now row.now) }
 {
-    let mut texts = Vec::with_capacity(alloc, row.len())?;
     for number in row {
         texts.push(text_copy(alloc, symbols.value(*number as u64))?)?;
     }
-    Ok(Items::from_vec(texts))
+    Ok(())
 }
 
 /// The tuples for which the rows stand, in order. If the symbols and the rows ascend, so do the tuples.
@@ -43,11 +49,29 @@ pub fn places_of_rows(alloc: Global, rows: &Rows, symbols: &Symbols) -> Result<P
     ensures exact { IfOk result (λ p. p.tuples ≡ map (texts_of symbols.now) rows.now.rows) }
     ensures ascend { IfOk result (λ p. ValuesAscend symbols.now → NumbersAscend rows.now.rows → Ascend p.tuples) }
 {
-    let mut tuples = Vec::with_capacity(alloc, rows.count() as usize)?;
+    let width = rows.width() as usize;
+    let count = rows.count() as usize;
+    let mut texts = Vec::with_capacity(alloc, count * width)?;
     for place in 0..rows.count() {
-        tuples.push(tuple_of(alloc, rows.row(place), symbols)?)?;
+        push_texts(alloc, rows.row(place), symbols, &mut texts)?;
     }
     Ok(Places {
-        tuples: Items::from_vec(tuples),
+        tuples: Tuples::of_texts(width, count, texts),
     })
+}
+
+/// The tuples for which the rows of each table stand.
+///
+/// # Errors
+///
+/// `AllocError` if there is no memory.
+pub fn matches_of(alloc: Global, tables: &[Rows], symbols: &Symbols) -> Result<Matches, AllocError>
+    requires texts { Each tables.now (λ t. Each t.rows (AreTexts symbols.now)) }
+    ensures { IfOk result (λ m. rows_in m ≡ tuples_in symbols.now tables.now) }
+{
+    let mut rules = Items::new(alloc);
+    for rows in tables {
+        rules.push(places_of_rows(alloc, rows, symbols)?)?;
+    }
+    Ok(Matches { rules })
 }

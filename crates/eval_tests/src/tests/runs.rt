@@ -320,9 +320,9 @@ fn instance_of(alloc: Global, schema: &Schema, rows: &str) -> Result<Instance, A
 /// A line for each match, with the number of its rule.
 fn add_matches(alloc: Global, lines: &mut String, made: &Made) -> Result<(), AllocError> {
     for (rule, places) in made.matches.rules.items().iter().enumerate() {
-        for tuple in places.tuples.items() {
+        for place in 0..places.tuples.len() {
             lines.push_str(format!(in alloc; "m{rule}")?.as_str())?;
-            for text in tuple.items() {
+            for text in places.tuples.tuple(place) {
                 lines.push_str("|")?;
                 lines.push_str(text.as_str())?;
             }

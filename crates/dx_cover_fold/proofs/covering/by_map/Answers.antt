@@ -1,4 +1,4 @@
-use Rattle.std.proofs.Common.{length, arith, refl, sym, ◌∙◌, ap}
+use Rattle.std.proofs.Common.{length, get_or, arith, refl, sym, ◌∙◌, ap}
 use Rattle.dx_model.specs.Rules.{exported}
 use Rattle.dx_cover_fold.specs.Matched.{rows_of}
 use Rattle.dx_cover_fold.proofs.CoverFacts.{map_more, rule_is, tuples_are}
@@ -8,8 +8,9 @@ pub returns-clause-finds : goal.returns-clause-finds
 returns-clause-finds c = λ C h.
     let d = rule_is c.args.rules.now c.args.i c.index-rules-i.result c.requires.from c.index-rules-i.is in
     let e = rule_is c.args.rules.now c.args.j c.index-rules-j.result c.requires.to c.index-rules-j.is in
-    let t = tuples_are c.args.matches.now c.args.j c.items.result.now c.index-items-j.result c.items-tuples.result.now c.items.ensures (omega (arith, c.requires.one, c.requires.to)) c.items-tuples.ensures in
-    map_more c.args.rules.now (rows_of c.args.matches.now) c.args.i c.args.j c.args.map.now c.args.number (length c.args.known.now) c.in_ok-index.index c.items-tuples.result.now c.in_ok-variables.variables.items
+    let ts = (get_or c.items.result.now c.args.j c.index-items-j.result).tuples in
+    let t = tuples_are c.args.matches.now c.args.j c.items.result.now c.index-items-j.result ts c.items.ensures (omega (arith, c.requires.one, c.requires.to)) refl in
+    map_more c.args.rules.now (rows_of c.args.matches.now) c.args.i c.args.j c.args.map.now c.args.number (length c.args.known.now) c.in_ok-index.index ts c.in_ok-variables.variables.items
     c.in_ok-others.others.items c.in_ok-cells.cells.items c.args.own.now c.args.known.now c.in_ok-or_firsts.field-0.items C t (c.in_ok-variables.ensures ∙ ap exported (sym d)) (c.in_ok-others.ensures ∙ ap exported (sym e))
     (rw (c.deref.ensures.value, c.items-2.ensures) at c.in_ok-cells.ensures) c.requires.number refl c.requires.many (rw (c.deref-2.ensures.value, c.deref-3.ensures.value) at c.in_ok-index.ensures) c.requires.own
     c.in_ok-or_firsts.ensures h

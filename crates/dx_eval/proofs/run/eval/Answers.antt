@@ -56,7 +56,7 @@ matches_of-requires g c =
     let S = c.in_ok-symbols.field-0.symbols in
     let ts = c.in_ok-symbols.field-0.tables.items in
     let found = found_reordered N C I T S (matchings R) us ts c.in_ok-symbols.ensures.same c.in_ok-found.ensures.found in
-    rw c.deref.ensures.value (found_texts N C I S (matchings R) ts found)
+    record { texts = rw c.deref.ensures.value (found_texts N C I S (matchings R) ts found) }
 
 pub insert_all-requires-clause-texts : goal.insert_all-requires-clause-texts
 insert_all-requires-clause-texts g c =

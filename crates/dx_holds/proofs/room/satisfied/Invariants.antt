@@ -7,11 +7,11 @@ use Rattle.dx_instance.specs.Stored.{facts}
 use Rattle.dx_holds.specs.Searching.{texts}
 use Rattle.dx_holds.proofs.room.satisfied.Given as goal
 
-abbrev pub invariant-loop-tuple : goal.invariant-loop-tuple
-invariant-loop-tuple l = record {
+abbrev pub invariant-loop-place : goal.invariant-loop-place
+invariant-loop-place l = record {
   found : l.room-inside.existentials ≤ vec_capacity l.room-inside.found;
   done : l.room-inside.atoms ≤ vec_capacity l.room-inside.done;
   atoms : l.room-inside.atoms ≡ l.fn.room.atoms;
   existentials : l.room-inside.existentials ≡ l.fn.room.existentials;
-  held : Each (take {A = Tuple} l.tuple-index l.places.tuples) (λ t. (values : ℕ → Value) × Each l.rule.conclusion (λ a. said (texts l.rule.conclusion t) values a ∈ facts l.target));
+  held : Each (take {A = Tuple} l.place l.places.tuples) (λ t. (values : ℕ → Value) × Each l.rule.conclusion (λ a. said (texts l.rule.conclusion t) values a ∈ facts l.target));
 }

@@ -1,7 +1,5 @@
-use Rattle.std.proofs.Common.{◌≡◌, take}
-use Rattle.std.specs.Prelude.{map}
-use Rattle.dx_joins.specs.Shown.{texts_of}
+use Rattle.dx_tgd.proofs.Copied.{AreCopied}
 use Rattle.dx_tgd.proofs.texts.places_of_rows.Given as goal
 
 abbrev pub invariant-loop-place : goal.invariant-loop-place
-invariant-loop-place l = l.tuples.items ≡ map (texts_of l.symbols) (take l.place l.rows.rows)
+invariant-loop-place l = AreCopied l.symbols l.rows l.place l.texts.items

@@ -1,5 +1,4 @@
 use Rattle.std.proofs.Common.{[], get_or, sym, ◌∙◌, ap}
-use Rattle.std.proofs.lemmas.List.{get_or_default}
 use Rattle.dx_instance.proofs.Equal.{row_eq}
 use Rattle.dx_cover_fold.specs.Found.{row_said}
 use Rattle.dx_cover_fold.proofs.IndexFacts.{absent, indexed_kept, indexed_put, present}
@@ -9,8 +8,7 @@ use Rattle.dx_cover_fold.proofs.index.Index.build.Goals.{then-is_none+in_ok-inse
 
 pub loop-place-preserved : goal.loop-place-preserved
 loop-place-preserved c =
-    let t = c.items-tuple.ensures ∙ c.index-tuples-place.is ∙ get_or_default c.args.tuples.now c.loop-place.place c.index-tuples-place.result [] c.loop-place-test.true in
-    let r = ap (λ z. row_said c.args.variables.now z c.args.rule c.loop-place.place c.args.cells.now) (sym t) ∙ sym c.in_ok-row.ensures in
+    let r = ap (λ z. row_said c.args.variables.now z c.args.rule c.loop-place.place c.args.cells.now) (sym c.tuple-tuple.ensures) ∙ sym c.in_ok-row.ensures in
     elim c.if-is_none.branch [
       | then-is_none+in_ok-insert w ↦
           rw w.places-is (indexed_put row_eq rows_same (λ k. row_said c.args.variables.now (get_or c.args.tuples.now k []) c.args.rule k c.args.cells.now) c.loop-place.places.entries w.insert.new.self.entries c.loop-place.place

@@ -2,7 +2,7 @@ use Rattle.dx_ports.specs.Members.{Each}
 use Rattle.dx_ports.proofs.Loops.{each_item}
 use Rattle.dx_instance.specs.Cells.{NumberTable}
 use Rattle.dx_joins.specs.Shown.{AreTexts}
-use Rattle.dx_tgd.proofs.plain.matches_of.Goals as goal
+use Rattle.dx_tgd.proofs.texts.matches_of.Goals as goal
 
 pub places_of_rows-requires : goal.places_of_rows-requires
 places_of_rows-requires c =

@@ -1,9 +1,0 @@
-use Rattle.dx_ports.specs.Members.{Each}
-use Rattle.dx_ports.proofs.Loops.{each_item}
-use Rattle.dx_instance.specs.Cells.{NumberTable}
-use Rattle.dx_joins.specs.Shown.{AreTexts}
-use Rattle.dx_eval.proofs.texts.matches_of.Goals as goal
-
-pub places_of-requires : goal.places_of-requires
-places_of-requires c =
-    each_item (λ (t : NumberTable). Each t.rows (AreTexts c.args.symbols.now)) c.args.tables.now c.loop-rows.rows-index c.rows-item.result c.loop-rows-test.true c.rows-item.is c.requires

@@ -1,6 +1,0 @@
-use Rattle.std.proofs.Common.{◌≡◌, take}
-use Rattle.dx_joins.specs.Shown.{texts_of}
-use Rattle.dx_eval.proofs.texts.tuple_of.Given as goal
-
-abbrev pub invariant-loop-number : goal.invariant-loop-number
-invariant-loop-number l = l.texts.items ≡ texts_of l.symbols (take l.number-index l.row)
