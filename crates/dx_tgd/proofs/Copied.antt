@@ -17,7 +17,7 @@ pub record AreCopied (S : List Value) (t : NumberTable) (k : ℕ) (texts : List 
 
 -- no row
 pub copied_none : (S : List Value) (t : NumberTable) (texts : List Text) → texts ≡ [] → AreCopied S t 0 texts
-copied_none S t texts e = record { within = omega arith; long = ap length e; are = refl }
+copied_none S t texts e = record { within = omega arith; long = rw e (omega arith); are = refl }
 
 -- one row more
 pub copied_more : (S : List Value) (t : NumberTable) (k : ℕ) (row : List ℕ) (texts new : List Text) → k < length t.rows → row ≡ numbers_at t.rows k → length row ≡ t.width → AreCopied S t k texts

@@ -9,7 +9,7 @@ pub push_texts-requires : goal.push_texts-requires
 push_texts-requires c = row_there c.args.symbols.now c.args.rows.now.rows c.loop-place.place c.row.result.now c.requires (rw (← c.count-place-end.ensures.count) c.loop-place-test.true) c.row.ensures.row
 
 pub loop-place-init : goal.loop-place-init
-loop-place-init c = copied_none c.args.symbols.now c.args.rows.now c.in_ok-texts.texts.items cc
+loop-place-init c = copied_none c.args.symbols.now c.args.rows.now c.in_ok-texts.texts.items c.in_ok-texts.ensures.items
 
 pub loop-place-preserved : goal.loop-place-preserved
 loop-place-preserved c =
