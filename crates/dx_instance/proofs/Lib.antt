@@ -22,3 +22,4 @@ pub mod HalfFacts
 pub mod TieFacts
 pub mod NoTexts
 pub mod ShortFacts
+pub mod LayerFacts

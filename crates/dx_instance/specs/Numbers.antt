@@ -1,5 +1,5 @@
 -- Values under numbers: the number of a value is its place in a list of distinct values.
-use Rattle.std.specs.Prelude.{◌≡◌, ℕ, ◌<◌, List, [], ◌++◌, length, slice_index, slice_index_or, Option, MatchOption}
+use Rattle.std.specs.Prelude.{◌≡◌, ℕ, ◌<◌, List, [], ◌++◌, length, slice_index, slice_index_or, Option, None, Some, MatchOption}
 use Rattle.std.specs.List.{AllPairs}
 use Rattle.dx_ports.specs.Members.{◌∈◌}
 use Rattle.std.specs.declared.cmp.Ordering.TheVariants.{Less}
@@ -18,6 +18,11 @@ AreApart symbols = AllPairs (λ v w. ¬ (v ≡ w)) symbols
 -- each value is below all that follow, so numbers compare as their values
 abbrev pub ValuesAscend : List Value → Type 0
 ValuesAscend symbols = AllPairs (λ v w. value_cmp v w ≡ Less) symbols
+
+-- the values of a block, if there is one
+abbrev pub values_if : {B : Type 0} → Option B → (B → List Value) → List Value
+values_if None values = []
+values_if (Some b) values = values b
 
 -- the new list begins with the old one: no number changes its value
 pub record Extends (old new : List Value) : Type 0 where

@@ -20,6 +20,7 @@ mod column_index;
 mod hints;
 mod instance;
 mod laws;
+mod layer;
 mod null_map;
 mod numbers;
 mod ordering;

@@ -8,6 +8,7 @@ ghost use Rattle.dx_instance.specs.Numbers.{AreApart, IsOrdering, value_of};
 ghost use Rattle.dx_instance.specs.Ranks.{AreEnds, AreLengths, AreRanked, IsShortLength, LiesIn, joined_texts, text_of};
 
 use crate::hints::hints_of;
+use crate::layer::Layer;
 use crate::symbols::Symbols;
 use dx_model::{NullId, Value, copy_value};
 use dx_ports::Text;
@@ -396,8 +397,9 @@ pub(crate) fn in_order(alloc: Global, symbols: &Symbols) -> Result<Ordered, Allo
     let ranks = ranks_of(alloc, &keys)?;
     let values = values_in_order(alloc, symbols, &keys, &lengths)?;
     let hints = hints_of(alloc, &keys, &values)?;
+    let ordered = Layer::new(alloc, values, hints)?;
     Ok(Ordered {
-        symbols: Symbols::from_ordered(alloc, values, hints),
+        symbols: Symbols::from_ordered(alloc, ordered),
         ranks,
     })
 }

@@ -7,6 +7,7 @@ ghost use Rattle.dx_ports.specs.Members.{Each, ◌∈◌};
 ghost use Rattle.dx_instance.specs.Numbers.{AreApart, Extends, IsNumberOf, IsOrdering, ValuesAscend, value_of};
 
 use crate::hints::hint_of;
+use crate::layer::Layer;
 use crate::ordering::{Ordered, in_order, key_of};
 use dx_model::{Value, copy_value};
 use indexmap::IndexSet;
@@ -14,11 +15,12 @@ use std::alloc::{AllocError, Global};
 use std::marker::Model;
 
 /// Distinct values, each under a number. A contract sees the list of the values. The first of them are in order and
-/// are found by binary search, at once by their hints or else by themselves; those after them by their hashes.
+/// are found by binary search, at once by their hints or else by themselves; those after them by their hashes. Copies
+/// share the layer in which values were put in order; values that came after it, each above all others, are on their own.
 #[derive(Drop)]
 pub struct Symbols {
-    ordered: Vec<Value>,
-    hints: Vec<u64>,
+    ordered: Layer,
+    greater: Vec<Value>,
     later: IndexSet<Value>,
 }
 
@@ -29,9 +31,11 @@ impl Model for Symbols {
 
     ghost Value = { List Cell };
 
-    ghost view = { λ s. s.ordered.items ++ s.later.keys };
+    ghost view = { λ s. s.ordered ++ s.greater.items ++ s.later.keys };
 
-    ghost invariant = { λ s. ValuesAscend s.ordered.items × AreApart (s.ordered.items ++ s.later.keys) × (length (s.ordered.items ++ s.later.keys) < 2 ^ 32) };
+    ghost invariant = { λ s. ValuesAscend (s.ordered ++ s.greater.items)
+        × AreApart (s.ordered ++ s.greater.items ++ s.later.keys)
+        × (length (s.ordered ++ s.greater.items ++ s.later.keys) < 2 ^ 32) };
 }
 
 // The number of a value among values in order. While a source is read there are none.
@@ -48,14 +52,29 @@ fn number_in(ordered: &[Value], value: &Value) -> Option<usize>
     }
 }
 
+// The number of a value among values in order, which lie in two parts.
+fn number_among(first: &[Value], second: &[Value], value: &Value) -> Option<usize>
+    requires ascend { ValuesAscend (first.now ++ second.now) }
+    requires few { length (first.now ++ second.now) < 2 ^ 32 }
+    ensures { IsNumberOf (first.now ++ second.now) value.now result }
+{
+    if let Some(number) = number_in(first, value) {
+        return Some(number);
+    }
+    match number_in(second, value) {
+        Some(number) => Some(first.len() + number),
+        None => None,
+    }
+}
+
 impl Symbols {
     /// No values.
     pub fn new(alloc: Global) -> Symbols
         ensures { result ≡ [] }
     {
         Symbols {
-            ordered: Vec::new(alloc),
-            hints: Vec::new(alloc),
+            ordered: Layer::empty(),
+            greater: Vec::new(alloc),
             later: IndexSet::new(alloc),
         }
     }
@@ -76,7 +95,7 @@ impl Symbols {
         ensures apart { AreApart self.now }
         ensures few { length self.now < 2 ^ 32 }
     {
-        (self.ordered.len() + self.later.len()) as u64
+        (self.ordered.values().len() + self.greater.len() + self.later.len()) as u64
     }
 
     /// Whether all values are known to be in order.
@@ -92,10 +111,15 @@ impl Symbols {
         ensures { result.now ≡ value_of self.now symbol }
     {
         let number = symbol as usize;
-        if number < self.ordered.len() {
-            &self.ordered[number]
+        let ordered = self.ordered.values();
+        if number < ordered.len() {
+            return &ordered[number];
+        }
+        let rest = number - ordered.len();
+        if rest < self.greater.len() {
+            &self.greater[rest]
         } else {
-            &self.later.as_slice()[number - self.ordered.len()]
+            &self.later.as_slice()[rest - self.greater.len()]
         }
     }
 
@@ -103,14 +127,16 @@ impl Symbols {
     fn hinted(&self, value: &Value) -> Option<usize>
         ensures { IfSome result (λ number. IsNumberOf self.now value.now (Some number)) }
     {
-        if self.hints.is_empty() {
+        let hints = self.ordered.hints();
+        if hints.is_empty() {
             return None;
         }
         let hint = hint_of(key_of(value), value);
-        let Ok(number) = self.hints.as_slice().binary_search(&hint) else {
+        let Ok(number) = hints.binary_search(&hint) else {
             return None;
         };
-        if number < self.ordered.len() && self.ordered[number].is(value) {
+        let ordered = self.ordered.values();
+        if number < ordered.len() && ordered[number].is(value) {
             Some(number)
         } else {
             None
@@ -124,10 +150,11 @@ impl Symbols {
         if let Some(number) = self.hinted(value) {
             return Some(number as u64);
         }
-        match number_in(&self.ordered, value) {
+        let ordered = self.ordered.values();
+        match number_among(ordered, &self.greater, value) {
             Some(number) => Some(number as u64),
             None => match self.later.get_index_of(value) {
-                Some(number) => Some((self.ordered.len() + number) as u64),
+                Some(number) => Some((ordered.len() + self.greater.len() + number) as u64),
                 None => None,
             },
         }
@@ -148,14 +175,16 @@ impl Symbols {
         ensures apart { AreApart self.new }
         ensures few { length self.new < 2 ^ 32 }
     {
-        if let Some(number) = number_in(&self.ordered, &value) {
+        let ordered = self.ordered.values();
+        if let Some(number) = number_among(ordered, &self.greater, &value) {
             return Ok(number as u64);
         }
-        if self.ordered.len() + self.later.len() >= 4_294_967_295 {
+        let before = ordered.len() + self.greater.len();
+        if before + self.later.len() >= 4_294_967_295 {
             return Err(AllocError);
         }
         let (number, _) = self.later.insert_full(value)?;
-        Ok((self.ordered.len() + number) as u64)
+        Ok((before + number) as u64)
     }
 
     /// One value more, which is above all others. It goes last, so that values in order stay in order.
@@ -171,27 +200,27 @@ impl Symbols {
         ensures err { OnErr result (self.new ≡ self.old) }
         ensures few { length self.new < 2 ^ 32 }
     {
-        let number = self.ordered.len() + self.later.len();
+        let number = self.ordered.values().len() + self.greater.len() + self.later.len();
         if number >= 4_294_967_295 {
             return Err(AllocError);
         }
         if self.later.is_empty() {
-            self.ordered.push(value)?;
+            self.greater.push(value)?;
         } else {
             self.later.insert_full(value)?;
         }
         Ok(number as u64)
     }
 
-    /// Symbols of these values, which are in order, with their hints.
-    pub(crate) fn from_ordered(alloc: Global, values: Vec<Value>, hints: Vec<u64>) -> Symbols
-        requires ascend { ValuesAscend values.items }
-        requires few { length values.items < 2 ^ 32 }
-        ensures { result ≡ values.items }
+    /// Symbols of these values, which are in order.
+    pub(crate) fn from_ordered(alloc: Global, values: Layer) -> Symbols
+        requires { length values < 2 ^ 32 }
+        ensures { result ≡ values }
     {
+        let _ascend = values.values();
         Symbols {
             ordered: values,
-            hints,
+            greater: Vec::new(alloc),
             later: IndexSet::new(alloc),
         }
     }
@@ -207,7 +236,7 @@ impl Symbols {
         in_order(alloc, &self)
     }
 
-    /// A copy: the same values under the same numbers.
+    /// A copy: the same values under the same numbers. What was put in order is shared and not copied.
     ///
     /// # Errors
     ///
@@ -216,18 +245,11 @@ impl Symbols {
         ensures { IfOk result (λ s. s ≡ self.now) }
     {
         Ok(Symbols {
-            ordered: copies_of(alloc, &self.ordered)?,
-            hints: copied(alloc, &self.hints)?,
+            ordered: self.ordered.copy()?,
+            greater: copies_of(alloc, &self.greater)?,
             later: set_of(alloc, self.later.as_slice())?,
         })
     }
-}
-
-// A copy of hints.
-fn copied(alloc: Global, hints: &[u64]) -> Result<Vec<u64>, AllocError> {
-    let mut copy = Vec::with_capacity(alloc, hints.len())?;
-    copy.extend_from_slice(hints)?;
-    Ok(copy)
 }
 
 // Copies of values.

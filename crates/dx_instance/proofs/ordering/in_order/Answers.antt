@@ -22,16 +22,16 @@ values_in_order-requires-clause-keyed c = rw c.deref-3.ensures.value c.in_ok-key
 pub values_in_order-requires-clause-below : goal.values_in_order-requires-clause-below
 values_in_order-requires-clause-below c = rw c.deref-3.ensures.value (each_below c.args.symbols.now (places_of c.in_ok-keys.keys.items) c.in_ok-keys.ensures.sorted)
 
-pub from_ordered-requires-clause-ascend : goal.from_ordered-requires-clause-ascend
-from_ordered-requires-clause-ascend c =
+pub new-requires : goal.new-requires
+new-requires c =
     let all = rw c.deref-3.ensures.value at c.in_ok-values.ensures in
     rw all c.in_ok-keys.ensures.sorted.ascend
 
-pub from_ordered-requires-clause-few : goal.from_ordered-requires-clause-few
-from_ordered-requires-clause-few c =
+pub from_ordered-requires : goal.from_ordered-requires
+from_ordered-requires c =
     let s = c.in_ok-keys.ensures.sorted in
     let all = rw c.deref-3.ensures.value at c.in_ok-values.ensures in
-    omega (arith, ap length all, length-map (places_of c.in_ok-keys.keys.items) (value_of c.args.symbols.now), s.many, c.numbers_in_order.ensures.few)
+    omega (arith, ap length c.in_ok-ordered.ensures, ap length all, length-map (places_of c.in_ok-keys.keys.items) (value_of c.args.symbols.now), s.many, c.numbers_in_order.ensures.few)
 
 pub returns : goal.returns
 returns c =
@@ -40,4 +40,4 @@ returns c =
     let n = length-map c.in_ok-keys.keys.items (λ (q : ℕ × ℕ). q.1) in
     let ranked : AreRanked (places_of c.in_ok-keys.keys.items) c.in_ok-ranks.ranks.items (length (places_of c.in_ok-keys.keys.items)) = rw n (rw c.deref-2.ensures.value at c.in_ok-ranks.ensures.ranked) in
     let many : length c.in_ok-ranks.ranks.items ≡ length (places_of c.in_ok-keys.keys.items) = (rw c.deref-2.ensures.value at c.in_ok-ranks.ensures.many) ∙ sym n in
-    rw (c.from_ordered.ensures, all) (ordering c.args.symbols.now (places_of c.in_ok-keys.keys.items) c.in_ok-ranks.ranks.items s many ranked)
+    rw (c.from_ordered.ensures, c.in_ok-ordered.ensures, all) (ordering c.args.symbols.now (places_of c.in_ok-keys.keys.items) c.in_ok-ranks.ranks.items s many ranked)
