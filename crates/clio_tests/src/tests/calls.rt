@@ -3,16 +3,15 @@ ghost use Rattle.std.specs.Prelude.{◌≡◌, IfOk, length};
 ghost use Rattle.dx_funcs.specs.Offers.{IsListed};
 ghost use Rattle.dx_funcs.specs.Shipped.{shipped_apply, shipped_conversions};
 
-use crate::tests::PEOPLE;
+use crate::tests::faults::PEOPLE;
 use clio_top::accept;
 use dx_csv::{load_table, print_records};
 use dx_funcs::{Host, Shipped, convert, shipped_list};
 use dx_instance::{copy_value, value_read, value_text};
-use dx_model::{NullId, Value};
 use dx_ports::{
     FetchFault, File, Inputs, Items, MemInputs, MemOutputs, Outputs, PutFault, Text, TextMade,
 };
-use dx_schema_text::{TextFault, TextKind, TokenKind, tokens};
+use dx_schema_text::{TextFault, TextKind, tokens};
 use std::alloc::{AllocError, Global};
 use std::test::Fail;
 
@@ -73,40 +72,35 @@ fn outputs_in_memory_count_puts_and_says_together(rt: HostRuntime) -> Result<(),
     Ok(())
 }
 
-#[test]
-fn tokens_have_their_places(rt: HostRuntime) -> Result<(), Fail> {
-    let alloc = rt.alloc();
-    let found = tokens(alloc, b"a1 -> \"x\\\"\" 07 // end")?;
-    let kinds = [
-        TokenKind::Word,
-        TokenKind::Mark,
-        TokenKind::Str,
-        TokenKind::Number,
-    ];
-    let starts = [0, 3, 6, 12];
-    assert_eq!(rt; found.len(), 4);
-    for ((token, kind), start) in found.iter().zip(&kinds).zip(&starts) {
-        assert_eq!(rt; token.kind, *kind);
-        assert_eq!(rt; token.start, *start);
+/// The tokens of a text, or their first fault.
+fn tokens_told(alloc: Global, text: &str) -> Result<String, AllocError> {
+    match tokens(alloc, text.as_bytes()) {
+        Ok(found) => format!(in alloc; "{:?}", found.as_slice()),
+        Err(fault) => format!(in alloc; "{fault:?}"),
     }
-    Ok(())
 }
 
-/// Whether a text has this first token fault.
-fn has_fault(alloc: Global, text: &[u8], place: u64, kind: TextKind) -> bool {
-    tokens(alloc, text).err() == Some(TextFault::At { place, kind })
-}
+const TOKENS: &str = "a1 -> \"x\\\"\" 07 // end => [Token { start: 0, end: 2, kind: Word }, \
+Token { start: 3, end: 5, kind: Mark }, Token { start: 6, end: 11, kind: Str }, Token { start: 12, end: 14, kind: Number }]
+a # => At { place: 2, kind: Character }
+a /b => At { place: 2, kind: Character }
+a / => At { place: 3, kind: Ended }
+a - b => At { place: 2, kind: Character }
+\"ab => At { place: 3, kind: Ended }
+\"a\\n\" => At { place: 3, kind: Character }";
 
 #[test]
-fn faults_of_tokens_have_their_places(rt: HostRuntime) -> Result<(), Fail> {
+fn tokens_and_their_faults_have_places(rt: HostRuntime) -> Result<(), Fail> {
     let alloc = rt.alloc();
-    assert!(rt; has_fault(alloc, b"a #", 2, TextKind::Character));
-    assert!(rt; has_fault(alloc, b"a /b", 2, TextKind::Character));
-    assert!(rt; has_fault(alloc, b"a /", 3, TextKind::Ended));
-    assert!(rt; has_fault(alloc, b"a - b", 2, TextKind::Character));
-    assert!(rt; has_fault(alloc, b"\"ab", 3, TextKind::Ended));
-    assert!(rt; has_fault(alloc, b"\"a\\n\"", 3, TextKind::Character));
-    assert!(rt; has_fault(alloc, b"\"\xC3", 2, TextKind::Ended));
+    for line in TOKENS.lines() {
+        let (text, wanted) = line.split_once(" => ").unwrap_or(("", ""));
+        assert_eq!(rt; tokens_told(alloc, text)?.as_str(), wanted);
+    }
+    let cut = Some(TextFault::At {
+        place: 2,
+        kind: TextKind::Ended,
+    });
+    assert_eq!(rt; tokens(alloc, b"\"\xC3").err(), cut);
     Ok(())
 }
 
@@ -127,29 +121,30 @@ fn a_mapping_text_is_accepted(rt: HostRuntime) -> Result<(), Fail> {
     Ok(())
 }
 
-/// Whether this text is read as a value.
-fn is_read(alloc: Global, text: &str) -> Result<bool, AllocError> {
-    Ok(value_read(alloc, &Text::from_str(alloc, text)?)?.is_some())
+/// What a text is read as, and the text of its copy.
+fn value_told(alloc: Global, text: &str) -> Result<String, AllocError> {
+    match value_read(alloc, &Text::from_str(alloc, text)?)? {
+        Some(value) => format!(in alloc; "{value:?} {}", value_text(alloc, &copy_value(&value)?)?),
+        None => String::from_str(alloc, "none"),
+    }
 }
+
+const VALUES: &str = "?0.10.4294967295 => Null(NullId { rule: 0, var: 10, row: 4294967295 }) ?0.10.4294967295
+??0.0.0 => Const(\"?0.0.0\") ??0.0.0
+ => Const(\"\") 
+?0.0.0 => Null(NullId { rule: 0, var: 0, row: 0 }) ?0.0.0
+a? => Const(\"a?\") a?
+? => none
+?0.0 => none
+?0.0.00 => none
+?0.0.4294967296 => none";
 
 #[test]
 fn values_and_their_texts(rt: HostRuntime) -> Result<(), Fail> {
     let alloc = rt.alloc();
-    let null = Value::Null(NullId {
-        rule: 0,
-        var: 10,
-        row: 4_294_967_295,
-    });
-    let text = value_text(alloc, &null)?;
-    assert_eq!(rt; text.as_str(), "?0.10.4294967295");
-    assert!(rt; copy_value(&null)?.is(&null));
-    let read = value_read(alloc, &text)?;
-    assert!(rt; read.is_some_and(|found| found.is(&null)));
-    for text in ["??0.0.0", "?0.0.0", "", "a?"] {
-        assert!(rt; is_read(alloc, text)?);
-    }
-    for text in ["?", "?0.0", "?0.0.00", "?0.0.4294967296"] {
-        assert!(rt; !is_read(alloc, text)?);
+    for line in VALUES.lines() {
+        let (text, wanted) = line.split_once(" => ").unwrap_or(("", ""));
+        assert_eq!(rt; value_told(alloc, text)?.as_str(), wanted);
     }
     Ok(())
 }

@@ -1,4 +1,0 @@
-// Tests of calls over texts and lines.
-mod candidates;
-mod conversions;
-mod mapping_texts;

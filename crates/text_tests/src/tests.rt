@@ -1,0 +1,4 @@
+// Tests of calls over texts.
+mod hosts;
+mod mapping_texts;
+mod sets;
