@@ -14,28 +14,30 @@ impl Meaning for First {
     ghost apply = { λ _ texts. slice_index_or texts 0 [] };
 }
 
-/// The text that the conversion of a name makes of two texts or of one. None if no conversion of this name takes so many.
+fn texts(alloc: Global, words: &[&str]) -> Result<Items<Text>, AllocError> {
+    let mut made = Items::new(alloc);
+    for word in words {
+        made.push(Text::from_str(alloc, *word)?)?;
+    }
+    Ok(made)
+}
+
+/// The text that the conversion of a name makes of texts. None if no conversion of this name takes so many.
 fn answer<F: Fn(u32, &Items<Text>) -> Result<Text, AllocError>, M: Meaning>(
-    alloc: Global,
     host: &Host<F, M>,
-    name: &str,
-    has_two: bool,
+    name: &Text,
+    args: &Items<Text>,
 ) -> Result<Option<Text>, AllocError>
     requires { Serves F.Fn M.apply host.now }
 {
-    let mut args = Items::new(alloc);
-    args.push(Text::from_str(alloc, "a")?)?;
-    if has_two {
-        args.push(Text::from_str(alloc, "b")?)?;
-    }
-    let Some(found) = host.find(&Text::from_str(alloc, name)?) else {
+    let Some(found) = host.find(name) else {
         return Ok(None);
     };
     let conversion = host.by_code(found.code);
     if args.len() != u64::from(conversion.arity) {
         return Ok(None);
     }
-    Ok(Some(host.call(conversion.code, &args)?))
+    Ok(Some(host.call(conversion.code, args)?))
 }
 
 /// What a host answers that has one conversion of two texts.
@@ -51,9 +53,14 @@ fn answers(alloc: Global) -> Result<String, AllocError> {
         ensures { IfOk result (λ t. t ≡ slice_index_or args.entry.now 0 []) }
     { args.items()[0].copy() };
     let host: Host<_, First> = Host::build(list, function);
-    let two = answer(alloc, &host, "first", true)?;
-    let one = answer(alloc, &host, "first", false)?;
-    let unknown = answer(alloc, &host, "trim", false)?;
+    let name = Text::from_str(alloc, "first")?;
+    let two = answer(&host, &name, &texts(alloc, &["a", "b"])?)?;
+    let one = answer(&host, &name, &texts(alloc, &["a"])?)?;
+    let unknown = answer(
+        &host,
+        &Text::from_str(alloc, "trim")?,
+        &texts(alloc, &["a"])?,
+    )?;
     format!(in alloc; "{two:?} {one:?} {unknown:?}")
 }
 

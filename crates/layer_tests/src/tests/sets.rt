@@ -73,8 +73,8 @@ fn trees(alloc: Global, text: &str) -> Result<Trees, AllocError>
     }
 }
 
-/// What comes of sets.
-fn outcome(alloc: Global, text: &str) -> Result<String, AllocError> {
+/// Whether sets are built, or what is wrong with them.
+pub fn built(alloc: Global, text: &str) -> Result<String, AllocError> {
     match Schema::build(alloc, trees(alloc, text)?) {
         Ok(_) => String::from_str(alloc, "built"),
         Err(fault) => format!(in alloc; "{fault:?}"),
@@ -83,57 +83,107 @@ fn outcome(alloc: Global, text: &str) -> Result<String, AllocError> {
 
 /// Sets with one fault and with two, of which the first in the order of the checks is told: no columns; columns named `#id` and `#up`;
 /// keys and refs of no column; too many sets, and too many levels, before names.
-const SETS: &str = "a => Bad(NoColumn(\"a\"))
-a / b x => Bad(NoColumn(\"a\"))
-a x / b / c z => Bad(NoColumn(\"b\"))
-a #id => Bad(DoubleName(\"#id\"))
-a #up => Bad(DoubleName(\"#up\"))
-a x / #id y => Bad(DoubleName(\"#id\"))
-a x / #up y => Bad(DoubleName(\"#up\"))
-a x; key => Bad(BadLink(\"a\"))
-a x; key #id / b y => Bad(UnknownName(\"#id\"))
-a x / b y; key #up => Bad(UnknownName(\"#up\"))
-a x; ref -> b y | b y => Bad(BadLink(\"a\"))
-a x; ref x -> b | b y => Bad(BadLink(\"a\"))
-a x | c z / b y; ref #up -> c z => Bad(UnknownName(\"#up\"))
-a x | c z; ref z -> b #up / b y => Bad(UnknownName(\"#up\"))
-a x | a => Bad(DoubleName(\"a\"))
-a / b y | b z => Bad(NoColumn(\"a\"))
-a x x | b => Bad(DoubleName(\"x\"))
-a x | c z z / b => Bad(NoColumn(\"b\"))
-a x x / b => Bad(DoubleName(\"x\"))
-a x; key z | b => Bad(NoColumn(\"b\"))
-a x; key z; key => Bad(UnknownName(\"z\"))
-a x; key; key z => Bad(BadLink(\"a\"))
-a x; ref x -> c y | b y; key => Bad(UnknownName(\"c\"))
-a x | c z; key x / b y; key => Bad(BadLink(\"b\"))
-a x; ref z -> c => Bad(BadLink(\"a\"))
-a x; ref x -> a x | b y; key => Bad(BadLink(\"b\"))
-#id x => built
-a x / a x / a x / a x / a x / a x / a x / a x / a x / a x / a x / a x / a x / a x / a x / a x / a x => TooMany(Limit { \
+pub const SETS: &str = "a
+=> Bad(NoColumn(\"a\"))
+
+a / b x
+=> Bad(NoColumn(\"a\"))
+
+a x / b / c z
+=> Bad(NoColumn(\"b\"))
+
+a #id
+=> Bad(DoubleName(\"#id\"))
+
+a #up
+=> Bad(DoubleName(\"#up\"))
+
+a x / #id y
+=> Bad(DoubleName(\"#id\"))
+
+a x / #up y
+=> Bad(DoubleName(\"#up\"))
+
+a x; key
+=> Bad(BadLink(\"a\"))
+
+a x; key #id / b y
+=> Bad(UnknownName(\"#id\"))
+
+a x / b y; key #up
+=> Bad(UnknownName(\"#up\"))
+
+a x; ref -> b y | b y
+=> Bad(BadLink(\"a\"))
+
+a x; ref x -> b | b y
+=> Bad(BadLink(\"a\"))
+
+a x | c z / b y; ref #up -> c z
+=> Bad(UnknownName(\"#up\"))
+
+a x | c z; ref z -> b #up / b y
+=> Bad(UnknownName(\"#up\"))
+
+a x | a
+=> Bad(DoubleName(\"a\"))
+
+a / b y | b z
+=> Bad(NoColumn(\"a\"))
+
+a x x | b
+=> Bad(DoubleName(\"x\"))
+
+a x | c z z / b
+=> Bad(NoColumn(\"b\"))
+
+a x x / b
+=> Bad(DoubleName(\"x\"))
+
+a x; key z | b
+=> Bad(NoColumn(\"b\"))
+
+a x; key z; key
+=> Bad(UnknownName(\"z\"))
+
+a x; key; key z
+=> Bad(BadLink(\"a\"))
+
+a x; ref x -> c y | b y; key
+=> Bad(UnknownName(\"c\"))
+
+a x | c z; key x / b y; key
+=> Bad(BadLink(\"b\"))
+
+a x; ref z -> c
+=> Bad(BadLink(\"a\"))
+
+a x; ref x -> a x | b y; key
+=> Bad(BadLink(\"b\"))
+
+#id x
+=> built
+
+a x / a x / a x / a x / a x / a x / a x / a x / a x / a x / a x / a x / a x / a x / a x / a x / a x
+=> TooMany(Limit { \
 what: Depth, number: 16 })
-a x | a x / a x / a x / a x / a x / a x / a x / a x / a x / a x / a x / a x / a x / a x / a x / a x / a x => \
+
+a x | a x / a x / a x / a x / a x / a x / a x / a x / a x / a x / a x / a x / a x / a x / a x / a x / a x
+=> \
 TooMany(Limit { what: Depth, number: 16 })
+
 a x | a x | a x | a x | a x | a x | a x | a x | a x | a x | a x | a x | a x | a x | a x | a x | a x | a x | a x | a x \
 | a x | a x | a x | a x | a x | a x | a x | a x | a x | a x | a x | a x | a x | a x | a x | a x | a x | a x | a x | a \
 x | a x | a x | a x | a x | a x | a x | a x | a x | a x / a x / a x / a x / a x / a x / a x / a x / a x / a x / a x / \
-a x / a x / a x / a x / a x / a x => TooMany(Limit { what: Tables, number: 64 })";
+a x / a x / a x / a x / a x / a x
+=> TooMany(Limit { what: Tables, number: 64 })";
 
-#[test]
-fn sets_are_built_or_refused(rt: HostRuntime) -> Result<(), Fail> {
-    let alloc = rt.alloc();
-    for line in SETS.lines() {
-        let (sets, wanted) = line.split_once(" => ").unwrap_or(("", ""));
-        assert_eq!(rt; outcome(alloc, sets)?.as_str(), wanted);
-    }
-    assert_eq!(rt; SETS.lines().count(), 30);
-    Ok(())
-}
+const NESTED: &str =
+    "a x y; key x; key y x; ref y x -> d u v | d u v; key v / b z; key z | e t / c w; ref w -> d v";
 
-const NESTED: &str = "a x y; key x; key y x; ref y x -> d u v | d u v; key v / b z; key z | e t / c w; ref w -> d v";
-
-/// The tables of these sets: the columns of each; its keys; its links; the table in which it lies; its inner tables.
-const TABLES: &str = "a [\"#id\", \"x\", \"y\"] [Key { columns: Items { items: [0] } }, Key { columns: Items { items: [1] } }, Key { \
+/// The tables of these sets: the columns of each; its keys; its links; the table in which it lies; its inner tables. Last, how many roots there are.
+const TABLES: &str =
+    "a [\"#id\", \"x\", \"y\"] [Key { columns: Items { items: [0] } }, Key { columns: Items { items: [1] } }, Key { \
 columns: Items { items: [2, 1] } }] [Link { from: Items { items: [2, 1] }, table: 4, to: Items { items: [0, 1] } }] \
 None [1, 3]
 b [\"#id\", \"#up\", \"z\"] [Key { columns: Items { items: [0] } }, Key { columns: Items { items: [1, 2] } }] [Link { \
@@ -150,60 +200,74 @@ fn told(alloc: Global, schema: &Schema, table: u32) -> Result<String, AllocError
 {
     format!(in alloc;
         "{} {:?} {:?} {:?} {:?} {:?}\n",
-        schema.name(table), schema.columns(table), schema.keys_of(table), schema.links_of(table),
-        schema.parent(table), schema.inner(table)
+        schema.name(table),
+        schema.columns(table),
+        schema.keys_of(table),
+        schema.links_of(table),
+        schema.parent(table),
+        schema.inner(table)
     )
 }
 
-#[test]
-fn sets_have_these_tables(rt: HostRuntime) -> Result<(), Fail> {
-    let alloc = rt.alloc();
-    let schema = Schema::build(alloc, trees(alloc, NESTED)?)?;
+/// The tables of sets, and how many roots there are.
+fn tables(alloc: Global, text: &str) -> Result<String, AllocError> {
+    let Ok(schema) = Schema::build(alloc, trees(alloc, text)?) else {
+        return Err(AllocError);
+    };
     let mut all = String::new(alloc);
     for table in 0..schema.tables() {
         all.push_str(told(alloc, &schema, table)?.as_str())?;
     }
-    assert_eq!(rt; all.as_str(), TABLES);
-    assert_eq!(rt; schema.trees().len(), 2);
+    all.push_str(format!(in alloc; "{}", schema.trees().len())?.as_str())?;
+    Ok(all)
+}
+
+#[test]
+fn sets_have_these_tables(rt: HostRuntime) -> Result<(), Fail> {
+    assert_eq!(rt; tables(rt.alloc(), NESTED)?.as_str(), TABLES);
     Ok(())
 }
 
-/// An atom of this table, with this existential variable, and a variable besides if there are two cells.
-fn atom(alloc: Global, table: u32, null: u32, has_two: bool) -> Result<Atom, AllocError> {
+/// Conclusions over `unit uname / staff sname`, an atom in a line: its table, the number of its existential variable, and a word for
+/// each further cell. Then whether they fit: as they are to be; a cell too few; a table too many; a number that is not the next, at first
+/// and later.
+pub const CONCLUSIONS: &str = "1 0 x
+1 1 x
+=> true
+
+1 0
+=> false
+
+2 0 x
+=> false
+
+1 1 x
+=> false
+
+1 0 x
+1 2 x
+=> false";
+
+fn atom(alloc: Global, line: &str) -> Result<Atom, AllocError> {
+    let mut words = line.split(' ');
+    let table = words.next().unwrap_or("").parse::<u32>().unwrap_or(0);
+    let null = words.next().unwrap_or("").parse::<u32>().unwrap_or(0);
     let mut cells = Items::new(alloc);
     cells.push(Cell::Ex(null))?;
-    if has_two {
+    for _ in words {
         cells.push(Cell::Var(0))?;
     }
     Ok(Atom { table, cells })
 }
 
-/// Whether a conclusion of one atom or two can be closed.
-fn closes(
-    alloc: Global,
-    target: &Schema,
-    first: Atom,
-    second: Option<Atom>,
-) -> Result<bool, AllocError> {
+/// Whether a conclusion can be closed.
+pub fn closes(alloc: Global, text: &str) -> Result<String, AllocError> {
     let mut conclusion = Items::new(alloc);
-    conclusion.push(first)?;
-    if let Some(second) = second {
-        conclusion.push(second)?;
+    for line in text.lines() {
+        conclusion.push(atom(alloc, line)?)?;
     }
-    Ok(can_be_closed(conclusion.items(), target))
-}
-
-#[test]
-fn conclusions_that_do_not_fit_are_not_closed(rt: HostRuntime) -> Result<(), Fail> {
-    let alloc = rt.alloc();
-    let units = Schema::build(alloc, trees(alloc, "unit uname / staff sname")?)?;
-    let staff = atom(alloc, 1, 1, true)?;
-    assert!(rt; closes(alloc, &units, atom(alloc, 1, 0, true)?, Some(staff))?);
-    // a cell too few, a table too many, a number that is not the next, also after another atom
-    assert!(rt; !closes(alloc, &units, atom(alloc, 1, 0, false)?, None)?);
-    assert!(rt; !closes(alloc, &units, atom(alloc, 2, 0, true)?, None)?);
-    assert!(rt; !closes(alloc, &units, atom(alloc, 1, 1, true)?, None)?);
-    let staff = atom(alloc, 1, 2, true)?;
-    assert!(rt; !closes(alloc, &units, atom(alloc, 1, 0, true)?, Some(staff))?);
-    Ok(())
+    match Schema::build(alloc, trees(alloc, "unit uname / staff sname")?) {
+        Ok(units) => format!(in alloc; "{}", can_be_closed(conclusion.items(), &units)),
+        Err(_) => Err(AllocError),
+    }
 }

@@ -1,22 +1,46 @@
-// Schemas out of mapping texts, and rows out of lines.
+// Values and their texts, and rows out of lines.
 ghost use Rattle.std.specs.Prelude.{◌≡◌, IfOk};
 ghost use Rattle.dx_instance.specs.Stored.{widths};
 ghost use Rattle.dx_schema.specs.Tables.{schema_widths};
 
-use dx_instance::{Instance, Row, value_read};
+use dx_instance::{Instance, Row, copy_value, value_read, value_text};
 use dx_ports::Text;
 use dx_schema::Schema;
-use dx_schema_text::read_mapping;
 use std::alloc::{AllocError, Global};
 
-/// The target of a mapping text.
-pub fn target_of(alloc: Global, text: &str) -> Result<Schema, AllocError> {
-    match read_mapping(alloc, text.as_bytes()) {
-        Ok(said) if said.target.has_few_rules() => match Schema::build(alloc, said.target) {
-            Ok(target) => Ok(target),
-            Err(_) => Err(AllocError),
-        },
-        _ => Err(AllocError),
+/// Texts with the values as which they are read, and the texts of these.
+pub const VALUES: &str = "?0.10.4294967295
+=> Null(NullId { rule: 0, var: 10, row: 4294967295 }) ?0.10.4294967295
+
+??0.0.0
+=> Const(\"?0.0.0\") ??0.0.0
+
+
+=> Const(\"\") 
+
+?0.0.0
+=> Null(NullId { rule: 0, var: 0, row: 0 }) ?0.0.0
+
+a?
+=> Const(\"a?\") a?
+
+?
+=> none
+
+?0.0
+=> none
+
+?0.0.00
+=> none
+
+?0.0.4294967296
+=> none";
+
+/// The value of a text, and the text of its copy.
+pub fn read(alloc: Global, text: &str) -> Result<String, AllocError> {
+    match value_read(alloc, &Text::from_str(alloc, text)?)? {
+        Some(value) => format!(in alloc; "{value:?} {}", value_text(alloc, &copy_value(&value)?)?),
+        None => String::from_str(alloc, "none"),
     }
 }
 

@@ -1,0 +1,2 @@
+// Tests of calls over lines.
+mod candidates;

@@ -1,4 +1,0 @@
-// Tests of calls over texts.
-mod hosts;
-mod mapping_texts;
-mod sets;
