@@ -1,10 +1,6 @@
-// What the tests share: runs over files in memory, and tables of cases.
+// What the tests share: runs over files in memory.
 mod calls;
-mod examples;
 mod faults;
-mod limits;
-mod refusals;
-mod rule_limits;
 mod rules;
 
 ghost use Rattle.std.specs.Prelude.{◌≡◌, IfOk, length};
@@ -15,25 +11,11 @@ use clio_top::{message, run};
 use dx_funcs::{Host, Shipped, convert, shipped_list};
 use dx_ports::{File, Items, MemInputs, MemOutputs, Text};
 use std::alloc::{AllocError, Global};
-use std::test::Fail;
 
 /// The mapping of most tests: a name goes over, and a phone has no line.
 const PEOPLE: &str =
     "mapping 1; source { set emp { name; } } target { set person { name, phone; } } \
 line emp.name -> person.name;";
-
-/// A mapping text with one data file, and all that `exchange` answers and writes.
-#[derive(Clone, Copy)]
-struct Case {
-    mapping: &'static str,
-    file: &'static str,
-    data: &'static [u8],
-    status: u8,
-    message: &'static str,
-    /// Each file that is put: a line `== NAME`, and then its text.
-    files: &'static str,
-    said: &'static str,
-}
 
 /// How a run ended, and what it left.
 #[derive(Drop)]
@@ -114,7 +96,7 @@ fn show(alloc: Global, mapping: &str, writes: Vec<u64>) -> Result<Outcome, Alloc
     run_word(alloc, "show", files, Vec::new(alloc), writes)
 }
 
-/// All files that were put, as a case has them.
+/// All files that were put, each a line `== NAME` and its text.
 fn put_files(alloc: Global, outputs: &MemOutputs) -> Result<Vec<u8>, AllocError> {
     let mut all = Vec::new(alloc);
     for file in outputs.files() {
@@ -142,28 +124,4 @@ fn ends_so(
             && put.as_slice() == files.as_bytes()
             && outcome.outputs.said() == said.as_bytes(),
     )
-}
-
-/// Whether a case ends and leaves what it says.
-fn passes(alloc: Global, case: &Case) -> Result<bool, AllocError> {
-    let files = two_files(alloc, case.mapping, case.file, case.data)?;
-    let outcome = exchange(alloc, files, Vec::new(alloc), Vec::new(alloc))?;
-    ends_so(
-        alloc,
-        &outcome,
-        case.status,
-        case.message,
-        case.files,
-        case.said,
-    )
-}
-
-/// The number of the first case that does not pass, or how many cases there are.
-fn first_failing(alloc: Global, cases: &[Case]) -> Result<usize, AllocError> {
-    for (number, case) in cases.iter().enumerate() {
-        if !passes(alloc, case)? {
-            return Ok(number);
-        }
-    }
-    Ok(cases.len())
 }

@@ -1,6 +1,6 @@
-//! Tests of mapping texts and of lines: what is read, the first fault of what is not, candidates and conversions.
+//! Tests of lines: their candidates, of which a run of the program shows only those that are kept.
 //!
-//! Each is a table of constants and one small function. What is wanted is worked out from the definitions, never taken
+//! They are a table of constants and one small function. What is wanted is worked out from the definitions, never taken
 //! from what the program answers.
 #![tactic(auto)]
 

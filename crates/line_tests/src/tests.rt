@@ -1,4 +1,2 @@
-// Tests of calls over texts and lines.
+// Tests of calls over lines.
 mod candidates;
-mod conversions;
-mod mapping_texts;

@@ -5,110 +5,10 @@ ghost use Rattle.dx_funcs.specs.Shipped.{shipped_apply, shipped_conversions};
 
 use crate::tests::PEOPLE;
 use clio_top::accept;
-use dx_csv::{load_table, print_records};
 use dx_funcs::{Host, Shipped, convert, shipped_list};
-use dx_instance::{copy_value, value_read, value_text};
-use dx_model::{NullId, Value};
-use dx_ports::{
-    FetchFault, File, Inputs, Items, MemInputs, MemOutputs, Outputs, PutFault, Text, TextMade,
-};
-use dx_schema_text::{TextFault, TextKind, TokenKind, tokens};
-use std::alloc::{AllocError, Global};
+use dx_ports::{Items, Text};
+use std::alloc::AllocError;
 use std::test::Fail;
-
-fn texts(alloc: Global, words: &[&str]) -> Result<Vec<Text>, AllocError> {
-    let mut made = Vec::new(alloc);
-    for word in words {
-        made.push(Text::from_str(alloc, *word)?)?;
-    }
-    Ok(made)
-}
-
-#[test]
-fn texts_are_made_of_utf8_alone(rt: HostRuntime) -> Result<(), Fail> {
-    let alloc = rt.alloc();
-    let text = Text::from_bytes(alloc, "żółw".as_bytes())?;
-    assert!(rt; text.is(&text.copy()?));
-    assert_eq!(rt;
-        Text::from_bytes(alloc, b"\xFF").err(),
-        Some(TextMade::NotUtf8)
-    );
-    Ok(())
-}
-
-#[test]
-fn inputs_in_memory_hold_the_first_of_equal_names(rt: HostRuntime) -> Result<(), Fail> {
-    let alloc = rt.alloc();
-    let a = Text::from_str(alloc, "a")?;
-    let mut files = Vec::new(alloc);
-    for bytes in [b"one", b"two"] {
-        files.push(File {
-            name: a.copy()?,
-            bytes: bytes.to_vec(alloc)?,
-        })?;
-    }
-    let mut inputs = MemInputs::new(files, vec![in alloc; 2]?);
-    let mut into = Vec::new(alloc);
-    assert_eq!(rt; inputs.fetch(&a, 3, &mut into), Ok(()));
-    assert_eq!(rt; into.as_slice(), b"one".as_slice());
-    assert_eq!(rt; inputs.fetch(&a, 2, &mut into), Err(FetchFault::Long));
-    assert_eq!(rt; inputs.fetch(&a, 3, &mut into), Err(FetchFault::Failed));
-    assert!(rt; into.is_empty());
-    let b = Text::from_str(alloc, "b")?;
-    assert_eq!(rt; inputs.fetch(&b, 3, &mut into), Err(FetchFault::Absent));
-    Ok(())
-}
-
-#[test]
-fn outputs_in_memory_count_puts_and_says_together(rt: HostRuntime) -> Result<(), Fail> {
-    let alloc = rt.alloc();
-    let mut outputs = MemOutputs::new(alloc, vec![in alloc; 1, 3]?);
-    let a = Text::from_str(alloc, "a")?;
-    assert_eq!(rt; outputs.put(&a, b"one"), Ok(()));
-    assert_eq!(rt; outputs.put(&a, b"two"), Err(PutFault::Failed));
-    assert_eq!(rt; outputs.say(b"hello"), Ok(()));
-    assert_eq!(rt; outputs.say(b"again"), Err(PutFault::Failed));
-    assert_eq!(rt; outputs.files().len(), 1);
-    assert_eq!(rt; outputs.said(), b"hello".as_slice());
-    Ok(())
-}
-
-#[test]
-fn tokens_have_their_places(rt: HostRuntime) -> Result<(), Fail> {
-    let alloc = rt.alloc();
-    let found = tokens(alloc, b"a1 -> \"x\\\"\" 07 // end")?;
-    let kinds = [
-        TokenKind::Word,
-        TokenKind::Mark,
-        TokenKind::Str,
-        TokenKind::Number,
-    ];
-    let starts = [0, 3, 6, 12];
-    assert_eq!(rt; found.len(), 4);
-    for ((token, kind), start) in found.iter().zip(&kinds).zip(&starts) {
-        assert_eq!(rt; token.kind, *kind);
-        assert_eq!(rt; token.start, *start);
-    }
-    Ok(())
-}
-
-/// Whether a text has this first token fault.
-fn has_fault(alloc: Global, text: &[u8], place: u64, kind: TextKind) -> bool {
-    tokens(alloc, text).err() == Some(TextFault::At { place, kind })
-}
-
-#[test]
-fn faults_of_tokens_have_their_places(rt: HostRuntime) -> Result<(), Fail> {
-    let alloc = rt.alloc();
-    assert!(rt; has_fault(alloc, b"a #", 2, TextKind::Character));
-    assert!(rt; has_fault(alloc, b"a /b", 2, TextKind::Character));
-    assert!(rt; has_fault(alloc, b"a /", 3, TextKind::Ended));
-    assert!(rt; has_fault(alloc, b"a - b", 2, TextKind::Character));
-    assert!(rt; has_fault(alloc, b"\"ab", 3, TextKind::Ended));
-    assert!(rt; has_fault(alloc, b"\"a\\n\"", 3, TextKind::Character));
-    assert!(rt; has_fault(alloc, b"\"\xC3", 2, TextKind::Ended));
-    Ok(())
-}
 
 #[test]
 fn a_mapping_text_is_accepted(rt: HostRuntime) -> Result<(), Fail> {
@@ -124,47 +24,5 @@ fn a_mapping_text_is_accepted(rt: HostRuntime) -> Result<(), Fail> {
     assert_eq!(rt; mapping.target.table_named(&person), Some(0));
     assert_eq!(rt; mapping.target.table_named(&emp), None);
     assert_eq!(rt; mapping.rules.len(), 1);
-    Ok(())
-}
-
-/// Whether this text is read as a value.
-fn is_read(alloc: Global, text: &str) -> Result<bool, AllocError> {
-    Ok(value_read(alloc, &Text::from_str(alloc, text)?)?.is_some())
-}
-
-#[test]
-fn values_and_their_texts(rt: HostRuntime) -> Result<(), Fail> {
-    let alloc = rt.alloc();
-    let null = Value::Null(NullId {
-        rule: 0,
-        var: 10,
-        row: 4_294_967_295,
-    });
-    let text = value_text(alloc, &null)?;
-    assert_eq!(rt; text.as_str(), "?0.10.4294967295");
-    assert!(rt; copy_value(&null)?.is(&null));
-    let read = value_read(alloc, &text)?;
-    assert!(rt; read.is_some_and(|found| found.is(&null)));
-    for text in ["??0.0.0", "?0.0.0", "", "a?"] {
-        assert!(rt; is_read(alloc, text)?);
-    }
-    for text in ["?", "?0.0", "?0.0.00", "?0.0.4294967296"] {
-        assert!(rt; !is_read(alloc, text)?);
-    }
-    Ok(())
-}
-
-#[test]
-fn records_are_read_and_printed(rt: HostRuntime) -> Result<(), Fail> {
-    let alloc = rt.alloc();
-    let columns = texts(alloc, &["x", "y"])?;
-    assert_eq!(rt; columns.len(), 2);
-    let rows = load_table(alloc, b"x,y\n1,\"a, b\"\n", &columns)?;
-    assert_eq!(rt; rows.len(), 1);
-    let mut records = Vec::new(alloc);
-    records.push(Items::from_vec(texts(alloc, &["x", "a, b"])?))?;
-    records.push(Items::from_vec(texts(alloc, &["\"", ""])?))?;
-    let printed = print_records(alloc, &records)?;
-    assert_eq!(rt; printed.as_str(), "x,\"a, b\"\n\"\"\"\",\n");
     Ok(())
 }

@@ -1,4 +1,0 @@
-// Tests of calls over documents.
-mod nested;
-mod sets;
-mod shredded;

@@ -1,0 +1,273 @@
+// Sets that no text can say: without columns, with empty lists, with names of columns that clio adds, nested too deeply.
+ghost use Rattle.std.specs.Prelude.{◌<◌, length, IfOk};
+ghost use Rattle.dx_schema.specs.Tables.{tables_of};
+ghost use Rattle.dx_schema.specs.Bounds.{HasFewRules};
+
+use dx_closing::can_be_closed;
+use dx_model::{Atom, Cell};
+use dx_ports::{Items, Text};
+use dx_schema::{KeyDecl, RefDecl, Schema, SetTree, Trees};
+use std::alloc::{AllocError, Global};
+use std::test::Fail;
+
+/// The first word of a text, and the others.
+fn words(alloc: Global, text: &str) -> Result<(Text, Items<Text>), AllocError> {
+    let mut words = text.split(' ');
+    let name = Text::from_str(alloc, words.next().unwrap_or(""))?;
+    let mut others = Items::new(alloc);
+    for word in words {
+        others.push(Text::from_str(alloc, word)?)?;
+    }
+    Ok((name, others))
+}
+
+/// A set without its inner sets: `a x y; key x; ref y -> b z` has two columns, a key and a ref.
+fn tree(alloc: Global, text: &str) -> Result<SetTree, AllocError> {
+    let mut parts = text.split("; ");
+    let (name, columns) = words(alloc, parts.next().unwrap_or(""))?;
+    let mut tree = SetTree::new(alloc, name, columns);
+    for part in parts {
+        match part.split_once(" -> ") {
+            None => tree.keys.push(KeyDecl {
+                columns: words(alloc, part)?.1,
+            })?,
+            Some((from, to)) => {
+                let (set, referred) = words(alloc, to)?;
+                tree.refs.push(RefDecl {
+                    columns: words(alloc, from)?.1,
+                    set,
+                    referred,
+                })?;
+            }
+        }
+    }
+    Ok(tree)
+}
+
+/// Sets beside one another with ` | ` between them, the first with these inner sets.
+fn level(alloc: Global, text: &str, inner: Trees) -> Result<Trees, AllocError> {
+    let mut sets = text.split(" | ");
+    let mut first = tree(alloc, sets.next().unwrap_or(""))?;
+    first.inner = inner;
+    let mut level = Trees::new(alloc);
+    level.push(first)?;
+    for set in sets {
+        level.push(tree(alloc, set)?)?;
+    }
+    Ok(level)
+}
+
+/// Sets level by level with ` / ` between them, from the roots on. Each level lies in the first set of the level before.
+fn trees(alloc: Global, text: &str) -> Result<Trees, AllocError>
+    ensures { IfOk result HasFewRules }
+{
+    let mut made = Trees::new(alloc);
+    for sets in text.rsplit(" / ") {
+        made = level(alloc, sets, made)?;
+    }
+    // No text of a test has more.
+    if made.has_few_rules() {
+        Ok(made)
+    } else {
+        Err(AllocError)
+    }
+}
+
+/// Whether sets are built, or what is wrong with them.
+pub fn built(alloc: Global, text: &str) -> Result<String, AllocError> {
+    match Schema::build(alloc, trees(alloc, text)?) {
+        Ok(_) => String::from_str(alloc, "built"),
+        Err(fault) => format!(in alloc; "{fault:?}"),
+    }
+}
+
+/// Sets with one fault and with two, of which the first in the order of the checks is told: no columns; columns named `#id` and `#up`;
+/// keys and refs of no column; too many sets, and too many levels, before names.
+pub const SETS: &str = "a
+=> Bad(NoColumn(\"a\"))
+
+a / b x
+=> Bad(NoColumn(\"a\"))
+
+a x / b / c z
+=> Bad(NoColumn(\"b\"))
+
+a #id
+=> Bad(DoubleName(\"#id\"))
+
+a #up
+=> Bad(DoubleName(\"#up\"))
+
+a x / #id y
+=> Bad(DoubleName(\"#id\"))
+
+a x / #up y
+=> Bad(DoubleName(\"#up\"))
+
+a x; key
+=> Bad(BadLink(\"a\"))
+
+a x; key #id / b y
+=> Bad(UnknownName(\"#id\"))
+
+a x / b y; key #up
+=> Bad(UnknownName(\"#up\"))
+
+a x; ref -> b y | b y
+=> Bad(BadLink(\"a\"))
+
+a x; ref x -> b | b y
+=> Bad(BadLink(\"a\"))
+
+a x | c z / b y; ref #up -> c z
+=> Bad(UnknownName(\"#up\"))
+
+a x | c z; ref z -> b #up / b y
+=> Bad(UnknownName(\"#up\"))
+
+a x | a
+=> Bad(DoubleName(\"a\"))
+
+a / b y | b z
+=> Bad(NoColumn(\"a\"))
+
+a x x | b
+=> Bad(DoubleName(\"x\"))
+
+a x | c z z / b
+=> Bad(NoColumn(\"b\"))
+
+a x x / b
+=> Bad(DoubleName(\"x\"))
+
+a x; key z | b
+=> Bad(NoColumn(\"b\"))
+
+a x; key z; key
+=> Bad(UnknownName(\"z\"))
+
+a x; key; key z
+=> Bad(BadLink(\"a\"))
+
+a x; ref x -> c y | b y; key
+=> Bad(UnknownName(\"c\"))
+
+a x | c z; key x / b y; key
+=> Bad(BadLink(\"b\"))
+
+a x; ref z -> c
+=> Bad(BadLink(\"a\"))
+
+a x; ref x -> a x | b y; key
+=> Bad(BadLink(\"b\"))
+
+#id x
+=> built
+
+a x / a x / a x / a x / a x / a x / a x / a x / a x / a x / a x / a x / a x / a x / a x / a x / a x
+=> TooMany(Limit { \
+what: Depth, number: 16 })
+
+a x | a x / a x / a x / a x / a x / a x / a x / a x / a x / a x / a x / a x / a x / a x / a x / a x / a x
+=> \
+TooMany(Limit { what: Depth, number: 16 })
+
+a x | a x | a x | a x | a x | a x | a x | a x | a x | a x | a x | a x | a x | a x | a x | a x | a x | a x | a x | a x \
+| a x | a x | a x | a x | a x | a x | a x | a x | a x | a x | a x | a x | a x | a x | a x | a x | a x | a x | a x | a \
+x | a x | a x | a x | a x | a x | a x | a x | a x | a x / a x / a x / a x / a x / a x / a x / a x / a x / a x / a x / \
+a x / a x / a x / a x / a x / a x
+=> TooMany(Limit { what: Tables, number: 64 })";
+
+const NESTED: &str =
+    "a x y; key x; key y x; ref y x -> d u v | d u v; key v / b z; key z | e t / c w; ref w -> d v";
+
+/// The tables of these sets: the columns of each; its keys; its links; the table in which it lies; its inner tables. Last, how many roots there are.
+const TABLES: &str =
+    "a [\"#id\", \"x\", \"y\"] [Key { columns: Items { items: [0] } }, Key { columns: Items { items: [1] } }, Key { \
+columns: Items { items: [2, 1] } }] [Link { from: Items { items: [2, 1] }, table: 4, to: Items { items: [0, 1] } }] \
+None [1, 3]
+b [\"#id\", \"#up\", \"z\"] [Key { columns: Items { items: [0] } }, Key { columns: Items { items: [1, 2] } }] [Link { \
+from: Items { items: [1] }, table: 0, to: Items { items: [0] } }] Some(0) [2]
+c [\"#up\", \"w\"] [] [Link { from: Items { items: [0] }, table: 1, to: Items { items: [0] } }, Link { from: Items { \
+items: [1] }, table: 4, to: Items { items: [1] } }] Some(1) []
+e [\"#up\", \"t\"] [] [Link { from: Items { items: [0] }, table: 0, to: Items { items: [0] } }] Some(0) []
+d [\"u\", \"v\"] [Key { columns: Items { items: [1] } }] [] None []
+";
+
+/// A table in a line, as above.
+fn told(alloc: Global, schema: &Schema, table: u32) -> Result<String, AllocError>
+    requires { table < length (tables_of schema.now) }
+{
+    format!(in alloc;
+        "{} {:?} {:?} {:?} {:?} {:?}\n",
+        schema.name(table),
+        schema.columns(table),
+        schema.keys_of(table),
+        schema.links_of(table),
+        schema.parent(table),
+        schema.inner(table)
+    )
+}
+
+/// The tables of sets, and how many roots there are.
+fn tables(alloc: Global, text: &str) -> Result<String, AllocError> {
+    let Ok(schema) = Schema::build(alloc, trees(alloc, text)?) else {
+        return Err(AllocError);
+    };
+    let mut all = String::new(alloc);
+    for table in 0..schema.tables() {
+        all.push_str(told(alloc, &schema, table)?.as_str())?;
+    }
+    all.push_str(format!(in alloc; "{}", schema.trees().len())?.as_str())?;
+    Ok(all)
+}
+
+#[test]
+fn sets_have_these_tables(rt: HostRuntime) -> Result<(), Fail> {
+    assert_eq!(rt; tables(rt.alloc(), NESTED)?.as_str(), TABLES);
+    Ok(())
+}
+
+/// Conclusions over `unit uname / staff sname`, an atom in a line: its table, the number of its existential variable, and a word for
+/// each further cell. Then whether they fit: as they are to be; a cell too few; a table too many; a number that is not the next, at first
+/// and later.
+pub const CONCLUSIONS: &str = "1 0 x
+1 1 x
+=> true
+
+1 0
+=> false
+
+2 0 x
+=> false
+
+1 1 x
+=> false
+
+1 0 x
+1 2 x
+=> false";
+
+fn atom(alloc: Global, line: &str) -> Result<Atom, AllocError> {
+    let mut words = line.split(' ');
+    let table = words.next().unwrap_or("").parse::<u32>().unwrap_or(0);
+    let null = words.next().unwrap_or("").parse::<u32>().unwrap_or(0);
+    let mut cells = Items::new(alloc);
+    cells.push(Cell::Ex(null))?;
+    for _ in words {
+        cells.push(Cell::Var(0))?;
+    }
+    Ok(Atom { table, cells })
+}
+
+/// Whether a conclusion can be closed.
+pub fn closes(alloc: Global, text: &str) -> Result<String, AllocError> {
+    let mut conclusion = Items::new(alloc);
+    for line in text.lines() {
+        conclusion.push(atom(alloc, line)?)?;
+    }
+    match Schema::build(alloc, trees(alloc, "unit uname / staff sname")?) {
+        Ok(units) => format!(in alloc; "{}", can_be_closed(conclusion.items(), &units)),
+        Err(_) => Err(AllocError),
+    }
+}

@@ -1,6 +1,0 @@
-use Rattle.dx_ports.proofs.Members.{in_map}
-use Rattle.dx_funcs.specs.declared.conversion.Conversion.{Conversion}
-use Rattle.line_tests.proofs.tests.conversions.answer.Goals as goal
-
-pub by_code-conversion-requires : goal.by_code-conversion-requires
-by_code-conversion-requires g c = in_map (λ (x : Conversion). x.code) c.in-Some.ensures.listed.0

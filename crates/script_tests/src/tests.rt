@@ -1,3 +1,0 @@
-// Tests of scripts.
-mod generated;
-mod texts;
