@@ -2,7 +2,7 @@
 use Rattle.std.proofs.Common.{◌≡◌, ◌∙◌, ◌⊎◌, ◌+◌, ◌*◌, ◌%◌, ◌<◌, ◌≤◌, ◌∷◌, ℕ, zero, suc, List, [], Bool, true, false, refl, sym, ap, subst, arith, length, take, drop, get_or, set, map, replicate, inl, inr, Some, Result, Ok, Err}
 use Rattle.std.specs.Prelude.{OnOk, cond}
 use Rattle.std.proofs.Math.Nat.{mul-le-mul_right}
-use Rattle.std.proofs.lemmas.Bool.{cases_lt}
+use Rattle.std.proofs.lemmas.Bool.{cases_eq, cases_lt}
 use Rattle.std.proofs.lemmas.Nat.{mod-mul-add, mul-add-lt}
 use Rattle.std.proofs.lemmas.List.{ext_get_or, get_or-drop, get_or-map, get_or-replicate, get_or-set_other, get_or-set_same, get_or-take, length-drop, length-map, length-take-le}
 use Rattle.dx_ports.specs.Members.{Each, here, there}
@@ -14,7 +14,6 @@ use Rattle.dx_instance.specs.Numbers.{Extends, IsNumberOf, value_of}
 use Rattle.dx_instance.specs.Shown.{AreBelow, shown_row}
 use Rattle.dx_instance.proofs.ShownFacts.{grown_value, longer}
 use Rattle.dx_used.proofs.Blanking.{blanked_length}
-use Rattle.dx_used.proofs.MarkFacts.{same_or}
 use Rattle.dx_csv.specs.Blanks.{AreNumbered, AreSettled, HasBlank, OthersStay, constants_used, is_used}
 use Rattle.dx_csv.specs.Fields.{records_in}
 use Rattle.dx_csv.specs.Table.{constants}
@@ -56,7 +55,7 @@ others_more w c i n first old new h e o r d k m = rw e (get_or-set_other old (i 
 
 pub settled_used : (used : List Bool) (S T : List Value) (texts : List (List ℕ)) (w count c : ℕ) (old new : List ℕ) → is_used used c ≡ true → Extends S T → AreNumbered T texts w c new count → OthersStay w c old new
     → AreSettled used S texts w count old (c + 1) → AreSettled used T texts w count new c
-settled_used used S T texts w count c old new u g a o s r d hr hd either = elim (same_or d c) [
+settled_used used S T texts w count c old new u g a o s r d hr hd either = elim (cases_eq d c) [
   | inl e ↦ rw (e, u) (a r hr)
   | inr n ↦ rw (o r d hd n) (number_kept S T _ _ g (s r d hr hd (later n either)))
 ]
@@ -69,7 +68,7 @@ pub settled_unused : (used : List Bool) (S : List Value) (texts : List (List ℕ
 settled_unused used S texts w count c cells f s r d hr hd either = s r d hr hd (later either)
   where
     later : (c ≤ d) ⊎ (is_used used d ≡ false) → (c + 1 ≤ d) ⊎ (is_used used d ≡ false)
-    later (inl l) = elim (same_or d c) [ inl e ↦ inr (rw e f) | inr n ↦ inl (omega (arith, n, l)) ]
+    later (inl l) = elim (cases_eq d c) [ inl e ↦ inr (rw e f) | inr n ↦ inl (omega (arith, n, l)) ]
     later (inr g) = inr g
 
 -- at first all cells are blank
