@@ -1,12 +1,14 @@
 -- How a row of a table of partial matches and a row of a pattern's table are put together.
 use Rattle.std.specs.Prelude.{◌≡◌, ◌↔◌, ◌⊎◌, ◌<◌, ◌≤◌, ◌+◌, ℕ, suc, cond, eqb, Bool, List, [], ◌∷◌, ◌++◌, length, map, slice_index}
 use Rattle.dx_ports.specs.Members.{◌∈◌, ◌⊆◌, Distinct, Each}
+use Rattle.dx_joins.specs.declared.index.Index.{Index}
 use Rattle.dx_joins.specs.declared.plan.Plan.{Plan}
 use Rattle.dx_joins.specs.declared.pattern.Pattern.{Pattern}
 use Rattle.dx_instance.specs.Cells.{NumberTable}
 use Rattle.dx_instance.specs.Shown.{numbers_of_table}
 use Rattle.dx_joins.specs.declared.premise.Partial.{Partial}
 use Rattle.dx_joins.specs.Collecting.{AreThose}
+use Rattle.dx_joins.specs.Looking.{IsIndex, keys_of}
 use Rattle.dx_joins.specs.Joining.{AreMarked, Joined, Says, Tells, variables_of}
 
 -- the place where x stands first
@@ -40,6 +42,10 @@ PairsIn p marks tables table r t = PairsWith p marks (numbers_of_table tables ta
 -- t comes of one of the rows and a row of the table
 abbrev pub PairsOf : Plan → List Bool → List NumberTable → ℕ → List (List ℕ) → List ℕ → Type 0
 PairsOf p marks tables table rows t = (r : List ℕ) × (r ∈ rows) × PairsIn p marks tables table r t
+
+-- the index is that of a table's rows by the columns on the right that are joined
+abbrev pub IndexesTable : Plan → List NumberTable → ℕ → Index → Type 0
+IndexesTable p tables table index = IsIndex index (keys_of p.by_right.items (numbers_of_table tables table).rows)
 
 -- a later pattern has the variable, or it is wanted in the end
 abbrev pub IsNeeded : List Pattern → List ℕ → ℕ → Type 0

@@ -1,10 +1,9 @@
 // A join of partial matches with the rows of a pattern's table.
-ghost use Rattle.std.specs.Prelude.{◌≡◌, ◌↔◌, ◌<◌, ◌+◌, ◌++◌, ℕ, List, IfOk, OnOk, IsTrue, length, map, slice_index};
+ghost use Rattle.std.specs.Prelude.{◌≡◌, ◌↔◌, ◌<◌, ◌+◌, ◌++◌, ℕ, List, IfOk, IfSome, OnOk, IsTrue, length, map, slice_index};
 ghost use Rattle.dx_ports.specs.Members.{◌∈◌, Each};
 ghost use Rattle.dx_instance.specs.Shown.{AreBelow, numbers_of_table};
 ghost use Rattle.dx_joins.specs.Collecting.{Collects};
-ghost use Rattle.dx_joins.specs.Looking.{IsIndex, keys_of, numbers_in};
-ghost use Rattle.dx_joins.specs.Planning.{IsPlan, Pairs, PairsIn, PairsOf};
+ghost use Rattle.dx_joins.specs.Planning.{IndexesTable, IsPlan, PairsIn, PairsOf};
 
 use crate::collected::Collected;
 use crate::index::{Index, key_at};
@@ -26,7 +25,7 @@ fn join_row(
 ) -> Result<bool, AllocError>
     requires plan { IsPlan plan.now }
     requires table { table < length source.now.tables }
-    requires index { IsIndex index.now (keys_of plan.now.by_right.items (numbers_of_table source.now.tables table).rows) }
+    requires index { IndexesTable plan.now source.now.tables table index.now }
     requires marks { length marks.now ≡ length source.now.symbols }
     requires left { length left.now ≡ length plan.now.left.items }
     requires right { (numbers_of_table source.now.tables table).width ≡ length plan.now.right.items }
@@ -72,61 +71,48 @@ fn join_all(
     Ok(false)
 }
 
-// Collects what comes of each row and the rows of the table by an index.
-fn join_indexed(
+// The index of the table by the columns that are joined, if there are any.
+fn index_of(
     alloc: Global,
     plan: &Plan,
-    marks: &[bool],
     source: &Numbers,
     table: u32,
-    rows: &Rows,
-    out: &mut Collected,
-) -> Result<bool, AllocError>
+) -> Result<Option<Index>, AllocError>
     requires plan { IsPlan plan.now }
     requires table { table < length source.now.tables }
-    requires marks { length marks.now ≡ length source.now.symbols }
-    requires left { rows.now.width ≡ length plan.now.left.items }
     requires right { (numbers_of_table source.now.tables table).width ≡ length plan.now.right.items }
-    requires width { out.old.width ≡ length plan.now.kept.items }
-    ensures { IfOk result (λ full. Collects full out.old out.new (PairsOf plan.now marks.now source.now.tables table rows.now.rows)) }
+    ensures { IfOk result (λ index. IfSome index (IndexesTable plan.now source.now.tables table)) }
 {
-    let index = Index::build(alloc, source, table, &plan.by_right)?;
-    let mut buffer = Vec::new(alloc);
-    for place in 0..rows.count() {
-        let left = rows.row(place);
-        if join_row(plan, marks, source, table, &index, left, &mut buffer, out)? {
-            return Ok(true);
-        }
+    if plan.by_right.is_empty() {
+        return Ok(None);
     }
-    Ok(false)
+    Ok(Some(Index::build(alloc, source, table, &plan.by_right)?))
 }
 
-// Collects what comes of each row and each row of the table.
-fn join_crossed(
-    alloc: Global,
+// Collects what comes of a row and the rows of the table: those that the index tells, or all of them if there is none.
+fn join_left(
     plan: &Plan,
     marks: &[bool],
     source: &Numbers,
     table: u32,
-    rows: &Rows,
+    index: &Option<Index>,
+    left: &[u32],
+    buffer: &mut Vec<u32>,
     out: &mut Collected,
 ) -> Result<bool, AllocError>
     requires plan { IsPlan plan.now }
     requires table { table < length source.now.tables }
+    requires index { IfSome index.now (IndexesTable plan.now source.now.tables table) }
     requires marks { length marks.now ≡ length source.now.symbols }
-    requires left { rows.now.width ≡ length plan.now.left.items }
+    requires left { length left.now ≡ length plan.now.left.items }
     requires right { (numbers_of_table source.now.tables table).width ≡ length plan.now.right.items }
     requires width { out.old.width ≡ length plan.now.kept.items }
-    ensures { IfOk result (λ full. Collects full out.old out.new (PairsOf plan.now marks.now source.now.tables table rows.now.rows)) }
+    ensures { IfOk result (λ full. Collects full out.old out.new (PairsIn plan.now marks.now source.now.tables table left.now)) }
 {
-    let mut buffer = Vec::new(alloc);
-    for place in 0..rows.count() {
-        let left = rows.row(place);
-        if join_all(plan, marks, source, table, left, &mut buffer, out)? {
-            return Ok(true);
-        }
+    match index {
+        None => join_all(plan, marks, source, table, left, buffer, out),
+        Some(index) => join_row(plan, marks, source, table, index, left, buffer, out),
     }
-    Ok(false)
 }
 
 /// Collects what comes of each row and the rows of the table. Answers whether there are more rows than are wanted.
@@ -147,9 +133,14 @@ pub(crate) fn join(
     requires width { out.old.width ≡ length plan.now.kept.items }
     ensures { IfOk result (λ full. Collects full out.old out.new (PairsOf plan.now marks.now source.now.tables table rows.now.rows)) }
 {
-    if plan.by_right.is_empty() {
-        join_crossed(alloc, plan, marks, source, table, rows, out)
-    } else {
-        join_indexed(alloc, plan, marks, source, table, rows, out)
+    let made = index_of(alloc, plan, source, table)?;
+    let index = &made;
+    let mut buffer = Vec::new(alloc);
+    for place in 0..rows.count() {
+        let left = rows.row(place);
+        if join_left(plan, marks, source, table, index, left, &mut buffer, out)? {
+            return Ok(true);
+        }
     }
+    Ok(false)
 }

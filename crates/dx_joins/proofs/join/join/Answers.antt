@@ -4,21 +4,21 @@ use Rattle.dx_instance.specs.Shown.{numbers_of_table}
 use Rattle.dx_joins.specs.Collecting.{Collects, Gains, MoreThan}
 use Rattle.dx_joins.specs.Planning.{PairsWith}
 use Rattle.dx_joins.proofs.ByPlace.{by_none, by_more, by_full, by_all}
-use Rattle.dx_joins.proofs.join.join_crossed.Goals as goal
+use Rattle.dx_joins.proofs.join.join.Goals as goal
 
 pub returns-then-branch : goal.returns-then-branch
 returns-then-branch c =
     let E : List ℕ → List ℕ → Type 0 = λ r t. PairsWith c.args.plan.now c.args.marks.now (numbers_of_table c.args.source.now.tables c.args.table).rows r t in
-    let full : MoreThan c.loop-place.out.most (λ t. (t ∈ c.loop-place.out.rows) ⊎ E c.row-left.result.now t) = rw c.if-branch.true at c.in_ok-join_all.ensures in
+    let full : MoreThan c.loop-place.out.most (λ t. (t ∈ c.loop-place.out.rows) ⊎ E c.row-left.result.now t) = rw c.if-branch.true at c.in_ok-join_left.ensures in
     by_full E c.args.rows.now.rows c.args.out.now c.loop-place.out c.loop-place.place (omega (arith, c.loop-place-test.true, c.count-place-end.ensures.count)) c.loop-place.invariant
     (subst (λ (r : List ℕ). MoreThan c.loop-place.out.most (λ t. (t ∈ c.loop-place.out.rows) ⊎ E r t)) c.row-left.ensures.row full)
 
 pub loop-place-preserved : goal.loop-place-preserved
 loop-place-preserved c =
     let E : List ℕ → List ℕ → Type 0 = λ r t. PairsWith c.args.plan.now c.args.marks.now (numbers_of_table c.args.source.now.tables c.args.table).rows r t in
-    let more : Gains c.loop-place.out c.join_all.new.out (E c.row-left.result.now) = rw c.if-branch.false at c.in_ok-join_all.ensures in
-    by_more E c.args.rows.now.rows c.args.out.now c.loop-place.out c.join_all.new.out c.loop-place.place c.loop-place.invariant
-    (subst (λ (r : List ℕ). Gains c.loop-place.out c.join_all.new.out (E r)) c.row-left.ensures.row more)
+    let more : Gains c.loop-place.out c.join_left.new.out (E c.row-left.result.now) = rw c.if-branch.false at c.in_ok-join_left.ensures in
+    by_more E c.args.rows.now.rows c.args.out.now c.loop-place.out c.join_left.new.out c.loop-place.place c.loop-place.invariant
+    (subst (λ (r : List ℕ). Gains c.loop-place.out c.join_left.new.out (E r)) c.row-left.ensures.row more)
 
 pub returns : goal.returns
 returns c =
