@@ -1,5 +1,6 @@
 pub mod CoreParts
 pub mod Cores
+pub mod Held
 pub mod Kept
 pub mod Listed
 pub mod Mapped

@@ -1,7 +1,8 @@
 // Facts in an order in which each but the first shares a null with one shortly before it, where it can. A search that goes by
 // this order finds out early that a null can't go somewhere.
-ghost use Rattle.std.specs.Prelude.{◌≡◌, ◌<◌, ◌≤◌, IfOk, OnOk, length};
+ghost use Rattle.std.specs.Prelude.{◌≡◌, ◌<◌, ◌≤◌, ℕ, IfOk, OnOk, length};
 ghost use Rattle.dx_ports.specs.Members.{◌∈◌, ◌⊆◌, ◌≈◌};
+ghost use Rattle.dx_core.specs.Holding.{AddsPlaces, HoldsAt, SharesAt, holder_in};
 ghost use Rattle.dx_core.specs.Near.{AreAllPlaces, AreSeen};
 
 use crate::copies::copies_of;
@@ -27,7 +28,11 @@ fn push_new(place: usize, seen: &mut [bool], order: &mut Vec<usize>) -> Result<b
 }
 
 // Where the holders of this null end.
-fn holders_end(holders: &[Holder], null: NullId, start: usize) -> usize {
+fn holders_end(holders: &[Holder], null: NullId, start: usize) -> usize
+    ensures within { result ≤ length holders.now }
+    ensures own { (i : ℕ) → start ≤ i → i < result → (holder_in holders.now i).null ≡ null }
+    ensures end { result < length holders.now → ¬ ((holder_in holders.now result).null ≡ null) }
+{
     for at in start..holders.len() {
         if holders[at].null != null {
             return at;
@@ -42,16 +47,16 @@ fn push_holders_of(
     holders: &[Holder],
     met: &mut [bool],
     coming: &mut Vec<usize>,
-) -> Result<(), AllocError> {
+) -> Result<(), AllocError>
+    ensures { OnOk result (AddsPlaces (HoldsAt holders.now null) coming.old.items coming.new.items) }
+{
     let start = first_holder(holders, null);
     if start >= met.len() || met[start] {
         return Ok(());
     }
     met[start] = true;
     for at in (start..holders_end(holders, null, start)).rev() {
-        if at < holders.len() {
-            coming.push(holders[at].place)?;
-        }
+        coming.push(holders[at].place)?;
     }
     Ok(())
 }
@@ -62,7 +67,9 @@ fn push_row_holders(
     holders: &[Holder],
     met: &mut [bool],
     coming: &mut Vec<usize>,
-) -> Result<(), AllocError> {
+) -> Result<(), AllocError>
+    ensures { OnOk result (AddsPlaces (SharesAt holders.now row.now) coming.old.items coming.new.items) }
+{
     for value in row {
         if let Value::Null(null) = value {
             push_holders_of(*null, holders, met, coming)?;
