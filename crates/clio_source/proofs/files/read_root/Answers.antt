@@ -23,3 +23,8 @@ returns-clause-read g c = λ q h.
     let formed = is_nested c.behind-schema.inside.inner (sym c.is_empty.ensures ∙ c.if-is_empty.false) ∙ ap (λ (t : Tree). form_of t.inner) (c.behind-schema.view_is ∙ c.tree.ensures.tree) in
     passed c.args.used.now c.args.schema.now c.args.root c.args.before.bytes_left nested c.in_ok-copy-2.field-0 c.in_ok-copy.field-0 c.in_ok-bytes.bytes c.items-else-is_empty.result.now c.too_many_bytes.result q c.load_document.result _ _
     (c.in_ok-copy-2.ensures ∙ c.in_ok-name.ensures) (c.in_ok-copy.ensures ∙ c.in_ok-name.ensures) h.bytes c.too_many_bytes.ensures c.items-else-is_empty.ensures formed c.in_ok-bytes.ensures (c.load_document.ensures.read c.args.used.now q h)
+
+pub returns-clause-blank : goal.returns-clause-blank
+returns-clause-blank g c = λ h.
+    let formed = is_nested c.behind-schema.inside.inner (sym c.is_empty.ensures ∙ c.if-is_empty.false) ∙ ap (λ (t : Tree). form_of t.inner) (c.behind-schema.view_is ∙ c.tree.ensures.tree) in
+    c.load_document.ensures.blank c.args.used.now formed h
