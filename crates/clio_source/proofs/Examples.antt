@@ -1,9 +1,11 @@
 -- Departments with their employees, and cities: the files of their roots, and the cells of their facts.
 use Rattle.std.proofs.Common.{◌≡◌, ℕ, List, [], ◌∷◌, codes, refl}
 use Rattle.std.specs.Prelude.{Ok, Err}
+use Rattle.dx_ports.specs.Members.{here, there}
 use Rattle.dx_model.specs.declared.values.Value.TheVariants.{Const}
 use Rattle.dx_model.specs.declared.facts.Fact.{Fact}
 use Rattle.dx_schema.specs.Forest.{Forest, none, set}
+use Rattle.clio_source.specs.Agreeing.{IsFlatRoot}
 use Rattle.clio_source.specs.Source.{Read, cells_in, file_at, roots, too_many_cells, with_facts}
 
 abbrev depts : Forest
@@ -22,6 +24,13 @@ first_file = refl
 
 second_file : file_at depts 2 ≡ codes "city.csv"
 second_file = refl
+
+-- so the cities are those of a flat root, and the departments are not
+flat_cities : IsFlatRoot depts 2
+flat_cities = (there (here refl), refl)
+
+nested_departments : ¬ (IsFlatRoot depts 0)
+nested_departments h = absurd (cc h.1)
 
 -- cs with two employees
 abbrev said : List Fact

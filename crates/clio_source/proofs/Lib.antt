@@ -2,6 +2,7 @@ pub mod Roots
 pub mod Ranges
 pub mod Numbers
 pub mod Fits
+pub mod Blank
 pub mod Passed
 pub mod Runs
 pub mod Decided

@@ -1,14 +1,25 @@
 -- What is read if only some columns count.
-use Rattle.std.specs.Prelude.{◌≡◌, List, Result, Ok, Err}
+use Rattle.std.specs.Prelude.{◌≡◌, ℕ, List, Result, Ok, Err}
+use Rattle.dx_ports.specs.Members.{◌∈◌, Each}
+use Rattle.dx_model.specs.declared.facts.Fact.{Fact}
 use Rattle.dx_instance.specs.Stored.{TableRows, facts, widths}
 use Rattle.dx_schema.specs.Forest.{Forest}
 use Rattle.dx_stages.specs.declared.stop.Stop.{Stop}
 use Rattle.dx_stages.specs.Stages.{Stage}
 use Rattle.dx_stages.specs.Running.{Ran, Told}
-use Rattle.dx_used.specs.Used.{Agree, Marks}
+use Rattle.dx_used.specs.Used.{Agree, Marks, fact_blanked}
+use Rattle.clio_source.specs.Source.{flat, form_at, roots}
 
 -- the stage ran so and passes an instance, with which the one that was read agrees on the used columns
 abbrev pub RanAgreeing : {E : Type 0} → Marks → Stage E Forest (List TableRows) → Forest → Result (List TableRows) (Stop E) → Told → Told → Type 0
 RanAgreeing used s f (Ok J) old new =
     (I : List TableRows) × Agree used (facts I) (facts J) × (widths I ≡ widths J) × Ran s f (Ok I) old new
 RanAgreeing used s f (Err e) old new = Ran s f (Err e) old new
+
+-- the table of a flat root, whose file is a table
+abbrev pub IsFlatRoot : Forest → ℕ → Type 0
+IsFlatRoot f table = (table ∈ roots f) × (flat ≡ form_at f table)
+
+-- in the columns of flat roots that are not used the facts have nothing but the empty constant
+abbrev pub AreBlank : Marks → Forest → List Fact → Type 0
+AreBlank used f facts = Each facts (λ (fact : Fact). IsFlatRoot f fact.table → fact_blanked used fact ≡ fact)

@@ -18,6 +18,7 @@ use Rattle.clio_source.specs.declared.fault.RowsFault.{RowsFault}
 use Rattle.clio_source.specs.declared.fault.SourceRefusal.{SourceRefusal}
 use Rattle.clio_source.specs.declared.fault.SourceRefusal.TheVariants as refusals
 use Rattle.clio_source.specs.Source.{Form, HaveFault, Read, source_cells}
+use Rattle.clio_source.specs.Agreeing.{AreBlank}
 
 -- the rows that numbers of symbols show
 abbrev pub rows_shown : List Value → NumberTable → List (List Value)
@@ -34,6 +35,10 @@ pub record Holds (used : Marks) (r : Reading) (q : Read) : Type 0 where
   pub agree : Agree used q.facts (facts (shown_tables r.symbols r.tables.items))
   pub bytes : r.bytes_left ≡ q.bytes_left
   pub cells : r.cells_left ≡ q.cells_left
+
+-- nothing stands in the columns of flat roots that are not used
+abbrev pub IsBlank : Marks → Forest → Reading → Type 0
+IsBlank used f r = AreBlank used f (facts (shown_tables r.symbols r.tables.items))
 
 -- the stage ran so, and the tables agree with what it passes
 abbrev pub RanTo : {A : Type 0} → Marks → Stage SourceRefusal A Read → A → Result Reading (Stop SourceRefusal) → Told → Told → Type 0

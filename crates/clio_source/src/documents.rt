@@ -7,8 +7,8 @@ ghost use Rattle.dx_instance.specs.Shown.{RowsFit, Shows};
 ghost use Rattle.dx_json.specs.Documents.{SaysFacts};
 ghost use Rattle.dx_used.specs.Used.{Marks};
 ghost use Rattle.dx_schema.specs.Tables.{count, model_tables, schema_widths, table_at, tables_of, tree_at};
-ghost use Rattle.clio_source.specs.Source.{Read, cells_in, loading, named_by, nested};
-ghost use Rattle.clio_source.specs.Fitting.{AddsEmpty, AddsFacts, CanTake, GivesTo, Holds, NotRead, ReadFits};
+ghost use Rattle.clio_source.specs.Source.{Read, cells_in, form_at, loading, named_by, nested};
+ghost use Rattle.clio_source.specs.Fitting.{AddsEmpty, AddsFacts, CanTake, GivesTo, Holds, IsBlank, NotRead, ReadFits};
 
 use crate::fault::{RowsFault, SourceRefusal};
 use crate::reading::{Reading, too_many_cells};
@@ -127,6 +127,8 @@ pub(crate) fn load_document(
     requires fit { ReadFits schema.now root before }
     ensures fit { IfOk result (ReadFits schema.now (root + 1 + count (tree_at schema.now root).inner)) }
     ensures read { (used : Marks) (q : Read) → Holds used before q → GivesTo used (loading nested schema.now root) (q, bytes.now) result }
+    ensures blank { (used : Marks) → nested ≡ form_at schema.now root → IsBlank used schema.now before
+        → IfOk result (IsBlank used schema.now) }
 {
     let Reading {
         mut symbols,

@@ -1,9 +1,10 @@
 // The files of a schema's roots.
 ghost use Rattle.std.specs.Prelude.{◌≡◌, ◌+◌, ◌<◌, ◌≤◌, length, None, IfOk};
 ghost use Rattle.dx_schema.specs.Tables.{count, table_at, tables_of, tree_at};
-ghost use Rattle.clio_source.specs.Agreeing.{RanAgreeing};
+ghost use Rattle.dx_instance.specs.Stored.{facts};
+ghost use Rattle.clio_source.specs.Agreeing.{AreBlank, RanAgreeing};
 ghost use Rattle.clio_source.specs.Source.{Read, at_start, file_at, files_stages, reading, source_stages};
-ghost use Rattle.clio_source.specs.Fitting.{Holds, RanTo, ReadFits};
+ghost use Rattle.clio_source.specs.Fitting.{Holds, IsBlank, RanTo, ReadFits};
 
 use crate::documents::load_document;
 use crate::fault::{RowsFault, SourceRefusal};
@@ -41,6 +42,7 @@ fn read_root<I: Inputs>(
     requires parent { (table_at schema.now root).parent ≡ None }
     requires fit { ReadFits schema.now root before }
     ensures fit { IfOk result (ReadFits schema.now (root + 1 + count (tree_at schema.now root).inner)) }
+    ensures blank { IsBlank used.now schema.now before → IfOk result (IsBlank used.now schema.now) }
     ensures read { (q : Read) → Holds used.now before q → RanTo used.now (reading schema.now root) q result
         (record { holds = I.holds inputs.old; faults = I.faults inputs.old; stopped = I.stopped inputs.old })
         (record { holds = I.holds inputs.new; faults = I.faults inputs.new; stopped = I.stopped inputs.new }) }
@@ -73,6 +75,7 @@ fn read_files<I: Inputs>(
     used: &[Items<bool>],
 ) -> Result<Reading, Stop<SourceRefusal>>
     ensures fit { IfOk result (ReadFits schema.now (length (tables_of schema.now))) }
+    ensures blank { IfOk result (IsBlank used.now schema.now) }
     ensures few { length (tables_of schema.now) ≤ 64 }
     ensures read { RanTo used.now (files_stages schema.now) at_start result
         (record { holds = I.holds inputs.old; faults = I.faults inputs.old; stopped = I.stopped inputs.old })
@@ -105,9 +108,10 @@ pub fn read_source<I: Inputs>(
     schema: &Schema,
     used: &[Items<bool>],
 ) -> Result<Instance, Stop<SourceRefusal>>
-    ensures { RanAgreeing used.now source_stages schema.now result
+    ensures read { RanAgreeing used.now source_stages schema.now result
         (record { holds = I.holds inputs.old; faults = I.faults inputs.old; stopped = I.stopped inputs.old })
         (record { holds = I.holds inputs.new; faults = I.faults inputs.new; stopped = I.stopped inputs.new }) }
+    ensures blank { IfOk result (λ J. AreBlank used.now schema.now (facts J)) }
 {
     let reading = read_files(alloc, inputs, schema, used)?;
     Ok(Instance::from_rows(alloc, reading.symbols, reading.tables)?)

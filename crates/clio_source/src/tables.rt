@@ -8,7 +8,7 @@ ghost use Rattle.dx_csv.specs.Blanks.{IsTableUsed};
 ghost use Rattle.dx_csv.specs.Table.{table_records};
 ghost use Rattle.dx_schema.specs.Tables.{table_at, tables_of};
 ghost use Rattle.clio_source.specs.Source.{Read, flat, loading, named_by};
-ghost use Rattle.clio_source.specs.Fitting.{GivesTo, Holds, NotRead, ReadFits, rows_shown};
+ghost use Rattle.clio_source.specs.Fitting.{GivesTo, Holds, IsBlank, NotRead, ReadFits, rows_shown};
 
 use crate::fault::{RowsFault, SourceRefusal};
 use crate::reading::{Reading, too_many_cells};
@@ -80,6 +80,7 @@ pub(crate) fn load_table(
     requires fit { ReadFits schema.now root before }
     ensures fit { IfOk result (ReadFits schema.now (root + 1)) }
     ensures read { (q : Read) → Holds used.now before q → GivesTo used.now (loading flat schema.now root) (q, bytes.now) result }
+    ensures blank { IsBlank used.now schema.now before → IfOk result (IsBlank used.now schema.now) }
 {
     let Reading {
         mut symbols,

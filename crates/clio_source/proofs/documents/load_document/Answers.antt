@@ -8,6 +8,7 @@ use Rattle.clio_source.specs.declared.fault.SourceRefusal.{SourceRefusal}
 use Rattle.clio_source.specs.declared.reading.Reading.{Reading}
 use Rattle.clio_source.specs.Source.{loading, nested}
 use Rattle.clio_source.specs.Fitting.{GivesTo}
+use Rattle.clio_source.proofs.Blank.{blank_document}
 use Rattle.clio_source.proofs.Fits.{can_take, few_facts, fit_empty, holds_document, many_tables}
 use Rattle.clio_source.proofs.Ranges.{between}
 use Rattle.clio_source.proofs.Roots.{end_within}
@@ -61,3 +62,13 @@ returns-clause-read c = λ used q h.
     loaded used nested f c.args.root c.args.before.cells_left q after c.args.bytes.now c.in_ok-facts.facts c.in_ok-facts.ensures.facts h.cells c.in-Some.ensures.1
     (holds_document used f (c.args.root + 1 + c.count.result) c.args.before after c.push_tables.new.tables.items c.in_ok-facts.facts q h c.in_ok-push_tables.ensures c.in_ok-push_facts.ensures)
     (c.saturating_sub.ensures ∙ ap (λ n. n - length c.args.bytes.now) h.bytes) c.in-Some.ensures.0
+
+pub returns-clause-blank : goal.returns-clause-blank
+returns-clause-blank c = λ used formed h.
+    let f = c.args.schema.now in
+    let last = c.args.root + 1 + c.count.result in
+    let same = ap (λ (t : Tree). count t.inner) (c.behind-schema.view_is ∙ c.tree.ensures.tree) in
+    let end : last ≡ c.args.root + 1 + count (tree_at f c.args.root).inner = omega (arith, c.count.ensures, same) in
+    let after : Reading = record { symbols = c.push_facts.new.symbols; tables = c.push_facts.new.tables; bytes_left = c.saturating_sub.result; cells_left = c.in-Some.cells_left } in
+    blank_document used f c.args.root last c.args.before after c.push_tables.new.tables.items c.in_ok-facts.facts c.requires.root c.requires.parent formed end c.in_ok-push_tables.ensures c.in_ok-push_facts.ensures
+    (between f c.args.root last c.args.bytes.now c.in_ok-facts.facts (omega (arith, end)) c.in_ok-facts.ensures.facts) h

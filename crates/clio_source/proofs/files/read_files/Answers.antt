@@ -11,6 +11,7 @@ pub loop-tree-init : goal.loop-tree-init
 loop-tree-init g c = record {
   root = refl;
   fit = c.at_start-so_far.ensures.fit c.args.schema.now;
+  blank = c.at_start-so_far.ensures.blank c.args.used.now c.args.schema.now;
   read = none_read c.args.used.now c.args.schema.now c.at_start-so_far.result _ (c.at_start-so_far.ensures.holds c.args.used.now);
 }
 
@@ -54,6 +55,7 @@ loop-tree-preserved g c =
     let next = ap (λ (k : ℕ). c.loop-tree.root + (1 + k)) same in record {
       root = next ∙ n.1;
       fit = subst (λ (k : ℕ). ReadFits f k c.in_ok-so_far.so_far) (n.0 ∙ sym next) c.in_ok-so_far.ensures.fit;
+      blank = c.in_ok-so_far.ensures.blank c.loop-tree.invariant.blank;
       read = one_more c.args.used.now f ts c.loop-tree.tree-index c.tree-item.result c.loop-tree.root c.loop-tree.so_far (Ok c.in_ok-so_far.so_far) _ _ _
           c.tables.ensures.facts c.trees-tree-items.ensures c.loop-tree-test.true c.tree-item.is c.loop-tree.invariant.root c.loop-tree.invariant.read c.in_ok-so_far.ensures.read;
     }

@@ -11,6 +11,7 @@ use Rattle.clio_source.specs.declared.reading.Reading.{Reading}
 use Rattle.clio_source.specs.Source.{as_facts, cells_in, flat, loading}
 use Rattle.dx_used.specs.Used.{blanked}
 use Rattle.clio_source.specs.Fitting.{GivesTo, rows_shown}
+use Rattle.clio_source.proofs.Blank.{blank_more}
 use Rattle.clio_source.proofs.Fits.{cells_of_rows, fit_more, holds_more}
 use Rattle.clio_source.proofs.Runs.{loaded, no_cells_left}
 use Rattle.clio_source.proofs.tables.load_table.Goals as goal
@@ -51,3 +52,10 @@ returns-clause-read c = λ q h.
     (subst (λ (marks : List Bool). rows_shown c.rows_of_bytes.new.symbols c.in_ok-rows.rows ≡ map (blanked marks) read.0) c.marks_of-marks.ensures read.2))
     (c.saturating_sub.ensures ∙ ap (λ n. n - length c.args.bytes.now) h.bytes)
     (c.in-Some.ensures.0 ∙ ap (λ n. left - n) same)
+
+pub returns-clause-blank : goal.returns-clause-blank
+returns-clause-blank c = λ h.
+    let read = c.in_ok-rows.ensures.rows in
+    let after : Reading = record { symbols = c.rows_of_bytes.new.symbols; tables = c.push.new.self; bytes_left = c.saturating_sub.result; cells_left = c.in-Some.cells_left } in
+    blank_more c.args.used.now c.args.schema.now c.args.root c.args.before after c.in_ok-rows.rows read.0 c.requires.fit c.requires.root c.in_ok-rows.ensures.grows c.in_ok-push.ensures.items
+    (subst (λ (marks : List Bool). rows_shown c.rows_of_bytes.new.symbols c.in_ok-rows.rows ≡ map (blanked marks) read.0) c.marks_of-marks.ensures read.2) h

@@ -10,22 +10,22 @@ returns-in-Err-Refused-Rows g c =
     let file = c.in-Err-Refused-Rows.file in
     let fault = c.in-Err-Refused-Rows.fault in
     no_rows c.args.used.now c.args.schema.now c.read_source.result (stops.Refused (source_refusals.Rows file fault)) (stops.Refused (refusals.Rows file fault)) _ _
-    (c.in-Err-Refused-Rows.is ∙ ap Err (c.in-Err-Refused-Rows.field-0-is ∙ ap stops.Refused c.in-Err-Refused-Rows.field-0-0-is)) refl c.read_source.ensures
+    (c.in-Err-Refused-Rows.is ∙ ap Err (c.in-Err-Refused-Rows.field-0-is ∙ ap stops.Refused c.in-Err-Refused-Rows.field-0-0-is)) refl c.read_source.ensures.read
 
 pub returns-in-Err-Refused-Limit : goal.returns-in-Err-Refused-Limit
 returns-in-Err-Refused-Limit g c =
     let limit = c.in-Err-Refused-Limit.limit in
     no_rows c.args.used.now c.args.schema.now c.read_source.result (stops.Refused (source_refusals.Limit limit)) (stops.Refused (refusals.Limit limit)) _ _
-    (c.in-Err-Refused-Limit.is ∙ ap Err (c.in-Err-Refused-Limit.field-0-is ∙ ap stops.Refused c.in-Err-Refused-Limit.field-0-0-is)) refl c.read_source.ensures
+    (c.in-Err-Refused-Limit.is ∙ ap Err (c.in-Err-Refused-Limit.field-0-is ∙ ap stops.Refused c.in-Err-Refused-Limit.field-0-0-is)) refl c.read_source.ensures.read
 
 pub returns-in-Err-Failed : goal.returns-in-Err-Failed
 returns-in-Err-Failed g c =
     let file = c.in-Err-Failed.file in
-    no_rows c.args.used.now c.args.schema.now c.read_source.result (stops.Failed file) (stops.Failed file) _ _ (c.in-Err-Failed.is ∙ ap Err c.in-Err-Failed.field-0-is) refl c.read_source.ensures
+    no_rows c.args.used.now c.args.schema.now c.read_source.result (stops.Failed file) (stops.Failed file) _ _ (c.in-Err-Failed.is ∙ ap Err c.in-Err-Failed.field-0-is) refl c.read_source.ensures.read
 
 pub returns-in-Err-Memory : goal.returns-in-Err-Memory
 returns-in-Err-Memory g c =
-    no_rows c.args.used.now c.args.schema.now c.read_source.result stops.Memory stops.Memory _ _ (c.in-Err-Memory.is ∙ ap Err c.in-Err-Memory.field-0-is) refl c.read_source.ensures
+    no_rows c.args.used.now c.args.schema.now c.read_source.result stops.Memory stops.Memory _ _ (c.in-Err-Memory.is ∙ ap Err c.in-Err-Memory.field-0-is) refl c.read_source.ensures.read
 
 pub returns-in-Ok : goal.returns-in-Ok
-returns-in-Ok g c = rows_agree c.args.used.now c.args.schema.now c.read_source.result c.in-Ok.rows _ _ c.in-Ok.is c.read_source.ensures
+returns-in-Ok g c = rows_agree c.args.used.now c.args.schema.now c.read_source.result c.in-Ok.rows _ _ c.in-Ok.is c.read_source.ensures.read
