@@ -3,7 +3,7 @@ ghost use Rattle.std.specs.Prelude.{◌≡◌, IfOk, length};
 ghost use Rattle.dx_funcs.specs.Offers.{IsListed};
 ghost use Rattle.dx_funcs.specs.Shipped.{shipped_apply, shipped_conversions};
 
-use crate::tests::PEOPLE;
+use crate::tests::faults::PEOPLE;
 use clio_top::accept;
 use dx_funcs::{Host, Shipped, convert, shipped_list};
 use dx_ports::{Items, Text};

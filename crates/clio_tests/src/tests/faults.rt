@@ -1,67 +1,153 @@
-// Faults outside: each read and each write fails in turn.
-use crate::tests::{Outcome, PEOPLE, ends_so, exchange, two_files};
-use clio_top::{Ending, message};
+// Faults outside: each read, each write and each saying fails in turn.
+ghost use Rattle.std.specs.Prelude.{◌≡◌, IfOk, length};
+ghost use Rattle.dx_funcs.specs.Offers.{IsListed};
+ghost use Rattle.dx_funcs.specs.Shipped.{shipped_apply, shipped_conversions};
+
+use clio_top::{Ending, message, run};
+use dx_funcs::{Host, Shipped, convert, shipped_list};
+use dx_ports::{File, Items, MemInputs, MemOutputs, Text};
 use std::alloc::{AllocError, Global};
 use std::test::Fail;
 
-/// The run of most tests on one row, where one read or one write fails.
-fn failing(alloc: Global, read: Option<u64>, write: Option<u64>) -> Result<Outcome, AllocError> {
-    let mut reads = Vec::new(alloc);
-    if let Some(number) = read {
-        reads.push(number)?;
+/// A mapping: a name goes over, and a phone has no line.
+pub const PEOPLE: &str =
+    "mapping 1; source { set emp { name; } } target { set person { name, phone; } } \
+line emp.name -> person.name;";
+
+/// How a run ended, and what it left.
+#[derive(Drop)]
+struct Outcome {
+    status: u8,
+    message: Text,
+    outputs: MemOutputs,
+}
+
+fn file(alloc: Global, name: &str, bytes: &[u8]) -> Result<File, AllocError> {
+    Ok(File {
+        name: Text::from_str(alloc, name)?,
+        bytes: bytes.to_vec(alloc)?,
+    })
+}
+
+/// Runs a command of one word on a mapping and a row, where these calls of the inputs and of the outputs fail.
+fn outcome_of(
+    alloc: Global,
+    word: &str,
+    reads: Vec<u64>,
+    writes: Vec<u64>,
+) -> Result<Outcome, AllocError> {
+    let conversions = |code: u32, args: &Items<Text>| -> Result<Text, AllocError>
+        requires { IsListed shipped_conversions code (length args.now) }
+        ensures { IfOk result (λ t. t ≡ shipped_apply code args.entry.now) }
+    { convert(alloc, code, args) };
+    let host: Host<_, Shipped> = Host::build(shipped_list(alloc)?, conversions);
+    let mut files = Vec::new(alloc);
+    files.push(file(alloc, "mapping.clio", PEOPLE.as_bytes())?)?;
+    files.push(file(alloc, "emp.csv", b"name\nann\n")?)?;
+    let mut words = Vec::new(alloc);
+    words.push(Text::from_str(alloc, word)?)?;
+    let mut outputs = MemOutputs::new(alloc, writes);
+    let ending = run(
+        alloc,
+        &words,
+        &mut MemInputs::new(files, reads),
+        &mut outputs,
+        &host,
+    );
+    Ok(Outcome {
+        status: ending.status(),
+        message: message(alloc, &ending)?,
+        outputs,
+    })
+}
+
+/// All files that were put, each a line `== NAME` and its text, and what was said.
+fn left(alloc: Global, outputs: &MemOutputs) -> Result<Vec<u8>, AllocError> {
+    let mut all = Vec::new(alloc);
+    for file in outputs.files() {
+        all.extend_from_slice(b"== ")?;
+        all.extend_from_slice(file.name.bytes())?;
+        all.extend_from_slice(b"\n")?;
+        all.extend_from_slice(file.bytes.as_slice())?;
     }
-    let mut writes = Vec::new(alloc);
-    if let Some(number) = write {
-        writes.push(number)?;
-    }
-    let files = two_files(alloc, PEOPLE, "emp.csv", b"name\nann\n")?;
-    exchange(alloc, files, reads, writes)
+    all.extend_from_slice(outputs.said())?;
+    Ok(all)
+}
+
+/// Whether a run of `exchange` ended and left what is wanted.
+fn ends_so(
+    alloc: Global,
+    reads: Vec<u64>,
+    writes: Vec<u64>,
+    status: u8,
+    text: &str,
+    files: &str,
+) -> Result<bool, AllocError> {
+    let outcome = outcome_of(alloc, "exchange", reads, writes)?;
+    Ok(
+        outcome.status == status
+            && outcome.message.as_str() == text
+            && left(alloc, &outcome.outputs)?.as_slice() == files.as_bytes(),
+    )
 }
 
 #[test]
 fn each_read_can_fail(rt: HostRuntime) -> Result<(), Fail> {
     let alloc = rt.alloc();
-    let mapping = failing(alloc, Some(0), None)?;
-    assert!(rt; ends_so(alloc, &mapping, 7, "read fault: mapping.clio", "", "")?);
-    let table = failing(alloc, Some(1), None)?;
-    assert!(rt; ends_so(alloc, &table, 7, "read fault: emp.csv", "", "")?);
+    let text = "read fault: mapping.clio";
+    assert!(rt; ends_so(alloc, vec![in alloc; 0]?, Vec::new(alloc), 7, text, "")?);
+    let text = "read fault: emp.csv";
+    assert!(rt; ends_so(alloc, vec![in alloc; 1]?, Vec::new(alloc), 7, text, "")?);
     Ok(())
 }
 
-/// The files in their order.
-const FILES: [&str; 5] = [
+/// The files in their order, and what is said.
+const FILES: [&str; 6] = [
     "== rules.txt\nrule emp(x0) -> person(x0, y0);\n",
     "== script.sql\nCREATE TABLE target.\"person\" (\"name\" TEXT, \"phone\" TEXT);\nCREATE TABLE m0 AS SELECT DISTINCT a0.\"name\" AS c0 FROM source.\"emp\" AS a0;\nINSERT INTO target.\"person\" SELECT m.c0, SKOLEM(0, 0, m.place) FROM m0 AS m;\n",
     "== person.csv\nname,phone\nann,?0.0.0\n",
     "== nulls.csv\nnull,variable,value\n?0.0.0,x0,ann\n",
     "== fold.csv\nnull,value\n",
+    "rules.txt 1\nscript.sql 3\nperson.csv 1\nnulls.csv 1\nfold.csv 0\n",
 ];
 
-const WRITE_FAULTS: [&str; 6] = [
-    "write fault: 0 files written",
-    "write fault: 1 files written",
-    "write fault: 2 files written",
-    "write fault: 3 files written",
-    "write fault: 4 files written",
-    "write fault: 5 files written",
-];
-
-/// Whether the call of the outputs with this number, failing, leaves the files before it, and has this message.
-fn leaves_the_files_before(alloc: Global, number: usize, text: &str) -> Result<bool, AllocError> {
-    let outcome = failing(alloc, None, Some(number as u64))?;
-    let mut left = String::new(alloc);
+/// Whether the call of the outputs with this number, failing, leaves the files before it. The last number is of no call.
+fn leaves_the_files_before(alloc: Global, number: usize) -> Result<bool, AllocError> {
+    let mut files = String::new(alloc);
     for file in FILES.iter().take(number) {
-        left.push_str(*file)?;
+        files.push_str(*file)?;
     }
-    ends_so(alloc, &outcome, 8, text, left.as_str(), "")
+    let writes = vec![in alloc; number as u64]?;
+    if number == 6 {
+        return ends_so(alloc, Vec::new(alloc), writes, 0, "", files.as_str());
+    }
+    let text = format!(in alloc; "write fault: {number} files written")?;
+    ends_so(
+        alloc,
+        Vec::new(alloc),
+        writes,
+        8,
+        text.as_str(),
+        files.as_str(),
+    )
 }
 
 #[test]
 fn each_write_can_fail(rt: HostRuntime) -> Result<(), Fail> {
     let alloc = rt.alloc();
-    for (number, text) in WRITE_FAULTS.iter().enumerate() {
-        assert!(rt; leaves_the_files_before(alloc, number, *text)?);
+    for number in 0..7 {
+        assert!(rt; leaves_the_files_before(alloc, number)?);
     }
+    Ok(())
+}
+
+#[test]
+fn saying_rules_can_fail(rt: HostRuntime) -> Result<(), Fail> {
+    let alloc = rt.alloc();
+    let outcome = outcome_of(alloc, "show", Vec::new(alloc), vec![in alloc; 0]?)?;
+    assert_eq!(rt; outcome.status, 8);
+    assert_eq!(rt; outcome.message.as_str(), "write fault: 0 files written");
+    assert!(rt; left(alloc, &outcome.outputs)?.is_empty());
     Ok(())
 }
 

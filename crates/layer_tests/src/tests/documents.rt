@@ -26,10 +26,13 @@ fn target_of(alloc: Global, text: &str) -> Result<Schema, AllocError>
     if !target.has_few_rules() {
         return Err(AllocError);
     }
-    match Schema::build(alloc, target) {
-        Ok(target) if target.tables() > 0 => Ok(target),
-        _ => Err(AllocError),
+    let Ok(target) = Schema::build(alloc, target) else {
+        return Err(AllocError);
+    };
+    if target.tables() == 0 {
+        return Err(AllocError);
     }
+    Ok(target)
 }
 
 /// Target sets with rows, and the document that they make.

@@ -15,11 +15,11 @@ impl Meaning for First {
 }
 
 fn texts(alloc: Global, words: &[&str]) -> Result<Items<Text>, AllocError> {
-    let mut made = Items::new(alloc);
+    let mut made = Vec::new(alloc);
     for word in words {
         made.push(Text::from_str(alloc, *word)?)?;
     }
-    Ok(made)
+    Ok(Items::from_vec(made))
 }
 
 /// The text that the conversion of a name makes of texts. None if no conversion of this name takes so many.

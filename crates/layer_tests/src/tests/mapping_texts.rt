@@ -25,7 +25,7 @@ line a.x -> t.u;
 rule a(p, q), c(p) where r = f(p, q) -> t(r, \"\"), t(q, n);
 line \"q\\\"\\\\ aé€😀\" -> t.v;
 line trim(a.x, c.z)->t.u;
-=> [LineText { source: Column(PlaceText { set: \"a\", set_place: 151, column: \"x\", column_place: 153 }), target: \
+=> 1 [LineText { source: Column(PlaceText { set: \"a\", set_place: 151, column: \"x\", column_place: 153 }), target: \
 PlaceText { set: \"t\", set_place: 158, column: \"u\", column_place: 160 } }, LineText { source: Literal(\"q\\\"\\\\ \
 aé€😀\"), target: PlaceText { set: \"t\", set_place: 249, column: \"v\", column_place: 251 } }, LineText { source: Call \
 { name: \"trim\", place: 259, args: Items { items: [PlaceText { set: \"a\", set_place: 264, column: \"x\", \
@@ -43,10 +43,15 @@ mapping 1; source { set a { x; set a { x; set a { x; set a { x; set a { x; set a
 set a { x; set a { x; set a { x; set a { x; set a { x; set a { x; set a { x; set a { x; set a { x; set a { x;
 => TooDeep { place: 196 }";
 
-/// The lines and the rules of a mapping text, or its fault.
+/// The version, the lines and the rules of a mapping text, or its fault.
 pub fn read(alloc: Global, text: &str) -> Result<String, AllocError> {
     match read_mapping(alloc, text.as_bytes()) {
-        Ok(said) => format!(in alloc; "{:?} {:?}", said.lines.items(), said.rules.items()),
+        Ok(said) => format!(in alloc;
+            "{} {:?} {:?}",
+            said.version,
+            said.lines.items(),
+            said.rules.items()
+        ),
         Err(fault) => format!(in alloc; "{fault:?}"),
     }
 }

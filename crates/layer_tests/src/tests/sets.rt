@@ -14,11 +14,11 @@ use std::test::Fail;
 fn words(alloc: Global, text: &str) -> Result<(Text, Items<Text>), AllocError> {
     let mut words = text.split(' ');
     let name = Text::from_str(alloc, words.next().unwrap_or(""))?;
-    let mut others = Items::new(alloc);
+    let mut others = Vec::new(alloc);
     for word in words {
         others.push(Text::from_str(alloc, word)?)?;
     }
-    Ok((name, others))
+    Ok((name, Items::from_vec(others)))
 }
 
 /// A set without its inner sets: `a x y; key x; ref y -> b z` has two columns, a key and a ref.
@@ -82,7 +82,7 @@ pub fn built(alloc: Global, text: &str) -> Result<String, AllocError> {
 }
 
 /// Sets with one fault and with two, of which the first in the order of the checks is told: no columns; columns named `#id` and `#up`;
-/// keys and refs of no column; too many sets, and too many levels, before names.
+/// keys and refs of no column; too many sets, and too many levels, before names; too many columns before a set without.
 pub const SETS: &str = "a
 => Bad(NoColumn(\"a\"))
 
@@ -176,36 +176,43 @@ a x | a x | a x | a x | a x | a x | a x | a x | a x | a x | a x | a x | a x | a 
 | a x | a x | a x | a x | a x | a x | a x | a x | a x | a x | a x | a x | a x | a x | a x | a x | a x | a x | a x | a \
 x | a x | a x | a x | a x | a x | a x | a x | a x | a x / a x / a x / a x / a x / a x / a x / a x / a x / a x / a x / \
 a x / a x / a x / a x / a x / a x
-=> TooMany(Limit { what: Tables, number: 64 })";
+=> TooMany(Limit { what: Tables, number: 64 })
+
+a c0 c1 c2 c3 c4 c5 c6 c7 c8 c9 c10 c11 c12 c13 c14 c15 c16 c17 c18 c19 c20 c21 c22 c23 c24 c25 c26 c27 c28 c29 c30 \
+c31 c32 c33 c34 c35 c36 c37 c38 c39 c40 c41 c42 c43 c44 c45 c46 c47 c48 c49 c50 c51 c52 c53 c54 c55 c56 c57 c58 c59 \
+c60 c61 c62 c63 c64 | b
+=> TooMany(Limit { what: Columns, number: 64 })";
 
 const NESTED: &str =
     "a x y; key x; key y x; ref y x -> d u v | d u v; key v / b z; key z | e t / c w; ref w -> d v";
 
-/// The tables of these sets: the columns of each; its keys; its links; the table in which it lies; its inner tables. Last, how many roots there are.
+/// The tables of these sets: the columns of each; its keys; its links; the table in which it lies; its inner tables;
+/// whether it has `#id`. Last, how many roots there are.
 const TABLES: &str =
     "a [\"#id\", \"x\", \"y\"] [Key { columns: Items { items: [0] } }, Key { columns: Items { items: [1] } }, Key { \
 columns: Items { items: [2, 1] } }] [Link { from: Items { items: [2, 1] }, table: 4, to: Items { items: [0, 1] } }] \
-None [1, 3]
+None [1, 3] true
 b [\"#id\", \"#up\", \"z\"] [Key { columns: Items { items: [0] } }, Key { columns: Items { items: [1, 2] } }] [Link { \
-from: Items { items: [1] }, table: 0, to: Items { items: [0] } }] Some(0) [2]
+from: Items { items: [1] }, table: 0, to: Items { items: [0] } }] Some(0) [2] true
 c [\"#up\", \"w\"] [] [Link { from: Items { items: [0] }, table: 1, to: Items { items: [0] } }, Link { from: Items { \
-items: [1] }, table: 4, to: Items { items: [1] } }] Some(1) []
-e [\"#up\", \"t\"] [] [Link { from: Items { items: [0] }, table: 0, to: Items { items: [0] } }] Some(0) []
-d [\"u\", \"v\"] [Key { columns: Items { items: [1] } }] [] None []
-";
+items: [1] }, table: 4, to: Items { items: [1] } }] Some(1) [] false
+e [\"#up\", \"t\"] [] [Link { from: Items { items: [0] }, table: 0, to: Items { items: [0] } }] Some(0) [] false
+d [\"u\", \"v\"] [Key { columns: Items { items: [1] } }] [] None [] false
+2";
 
 /// A table in a line, as above.
 fn told(alloc: Global, schema: &Schema, table: u32) -> Result<String, AllocError>
     requires { table < length (tables_of schema.now) }
 {
     format!(in alloc;
-        "{} {:?} {:?} {:?} {:?} {:?}\n",
+        "{} {:?} {:?} {:?} {:?} {:?} {}\n",
         schema.name(table),
         schema.columns(table),
         schema.keys_of(table),
         schema.links_of(table),
         schema.parent(table),
-        schema.inner(table)
+        schema.inner(table),
+        schema.has_id(table)
     )
 }
 

@@ -1,0 +1,133 @@
+// The candidates of lines, by the numbers of what they name, and how many of them are kept.
+ghost use Rattle.std.specs.Prelude.{◌≡◌, IfOk, length};
+ghost use Rattle.dx_ports.specs.Members.{Each};
+ghost use Rattle.dx_schema.specs.Tables.{model_tables};
+ghost use Rattle.dx_lines.specs.Limits.{LineFits};
+ghost use Rattle.dx_funcs.specs.Offers.{IsListed};
+ghost use Rattle.dx_funcs.specs.Shipped.{shipped_apply, shipped_conversions};
+
+use dx_candidates::{candidates, kept};
+use dx_funcs::{Host, Shipped, convert, shipped_list};
+use dx_line_text::read_lines;
+use dx_lines::Line;
+use dx_ports::{Items, Text};
+use dx_schema::Schema;
+use dx_schema_text::{LineText, MappingText, read_mapping};
+use std::alloc::{AllocError, Global};
+use std::test::Fail;
+
+/// The candidates of lines, and how many are kept. None if there are none to be had.
+fn answered(
+    alloc: Global,
+    lines: &[Line],
+    source: &Schema,
+    target: &Schema,
+) -> Result<String, AllocError>
+    requires { Each lines.now (LineFits (model_tables source.now) (model_tables target.now)) }
+{
+    match (
+        candidates(alloc, lines, source, target),
+        kept(alloc, lines, source, target),
+    ) {
+        (Ok(all), Ok(rules)) => format!(in alloc; "{all:?} {}", rules.len()),
+        _ => Err(AllocError),
+    }
+}
+
+/// The same of lines by names, with the conversions that come with the program.
+fn of_lines(
+    alloc: Global,
+    lines: &[LineText],
+    source: &Schema,
+    target: &Schema,
+) -> Result<String, AllocError> {
+    let conversions = |code: u32, args: &Items<Text>| -> Result<Text, AllocError>
+        requires { IsListed shipped_conversions code (length args.now) }
+        ensures { IfOk result (λ t. t ≡ shipped_apply code args.entry.now) }
+    { convert(alloc, code, args) };
+    let host: Host<_, Shipped> = Host::build(shipped_list(alloc)?, conversions);
+    match read_lines(alloc, lines, source, target, &host) {
+        Ok(lines) => answered(alloc, lines.items(), source, target),
+        Err(_) => String::from_str(alloc, "no lines"),
+    }
+}
+
+/// The same of a mapping text.
+fn listed(alloc: Global, text: &str) -> Result<String, AllocError> {
+    let Ok(said) = read_mapping(alloc, text.as_bytes()) else {
+        return Err(AllocError);
+    };
+    let MappingText {
+        version: _,
+        source,
+        target,
+        lines,
+        rules: _,
+    } = said;
+    if !source.has_few_rules() || !target.has_few_rules() {
+        return Err(AllocError);
+    }
+    match (Schema::build(alloc, source), Schema::build(alloc, target)) {
+        (Ok(source), Ok(target)) => of_lines(alloc, lines.items(), &source, &target),
+        _ => Err(AllocError),
+    }
+}
+
+/// Mapping texts, with an empty line between each two, and after `=>` the candidates, and how many of them are kept.
+const LISTED: &str =
+    "mapping 1; source { set emp { name, dept; ref (dept) -> dept (dname); } set dept { dname; } }
+target { set unit { uname; key (uname); set staff { sname; } } }
+line emp.name -> staff.sname; line dept.dname -> unit.uname;
+=> [Candidate { source: 0, target: 0, picks: Items { items: [Pick { variable: 1, term: Var(1) }] } }, Candidate { source: \
+0, target: 1, picks: Items { items: [Pick { variable: 1, term: Var(0) }, Pick { variable: 2, term: Var(1) }] } }, \
+Candidate { source: 1, target: 0, picks: Items { items: [Pick { variable: 1, term: Var(0) }] } }, Candidate { source: \
+1, target: 1, picks: Items { items: [Pick { variable: 2, term: Var(0) }] } }] 2
+
+mapping 1; source { set trip { no, start, goal; ref (start) -> city (code); ref (goal) -> city (code); }
+set city { code, label; } } target { set visit { a, b; } }
+line city.label -> visit.a; line city.label -> visit.b;
+=> [Candidate { source: 0, target: 0, picks: Items { items: [Pick { variable: 0, term: Var(3) }, Pick { variable: 1, \
+term: Var(3) }] } }, Candidate { source: 0, target: 0, picks: Items { items: [Pick { variable: 0, term: Var(3) }, Pick \
+{ variable: 1, term: Var(4) }] } }, Candidate { source: 0, target: 0, picks: Items { items: [Pick { variable: 0, term: \
+Var(4) }, Pick { variable: 1, term: Var(3) }] } }, Candidate { source: 0, target: 0, picks: Items { items: [Pick { \
+variable: 0, term: Var(4) }, Pick { variable: 1, term: Var(4) }] } }, Candidate { source: 1, target: 0, picks: Items { \
+items: [Pick { variable: 0, term: Var(1) }, Pick { variable: 1, term: Var(1) }] } }] 3
+
+mapping 1; source { set emp { name, dept; ref (dept) -> dept (dname); } set dept { dname; } }
+target { set person { name; } } line pair(emp.name, dept.dname) -> person.name;
+=> [Candidate { source: 0, target: 0, picks: Items { items: [Pick { variable: 0, term: Call { code: 2, args: Items { \
+items: [0, 1] } } }] } }] 1
+
+// a variable comes before a conversion
+mapping 1; source { set emp { name; } } target { set person { name; } }
+line trim(emp.name) -> person.name; line emp.name -> person.name;
+=> [Candidate { source: 0, target: 0, picks: Items { items: [Pick { variable: 0, term: Var(0) }] } }, Candidate { source: \
+0, target: 0, picks: Items { items: [Pick { variable: 0, term: Call { code: 0, args: Items { items: [0] } } }] } }] 2
+
+// a conversion of two columns of one set that stands twice takes both from one of them
+mapping 1; source { set trip { no, start, goal; ref (start) -> city (code); ref (goal) -> city (code); }
+set city { code, label; } } target { set visit { a; } } line pair(city.code, city.label) -> visit.a;
+=> [Candidate { source: 0, target: 0, picks: Items { items: [Pick { variable: 0, term: Call { code: 2, args: Items { \
+items: [1, 3] } } }] } }, Candidate { source: 0, target: 0, picks: Items { items: [Pick { variable: 0, term: Call { \
+code: 2, args: Items { items: [2, 4] } } }] } }, Candidate { source: 1, target: 0, picks: Items { items: [Pick { \
+variable: 0, term: Call { code: 2, args: Items { items: [0, 1] } } }] } }] 1
+
+mapping 1; source { set emp { name; } } target { set person { name; } } line emp.nam -> person.name;
+=> no lines";
+
+/// How many cases come out as they are to before one that doesn't.
+fn passing(alloc: Global) -> Result<usize, AllocError> {
+    for (number, case) in LISTED.split("\n\n").enumerate() {
+        let (text, wanted) = case.split_once("\n=> ").unwrap_or(("", ""));
+        if listed(alloc, text)?.as_str() != wanted {
+            return Ok(number);
+        }
+    }
+    Ok(LISTED.split("\n\n").count())
+}
+
+#[test]
+fn lines_have_these_candidates(rt: HostRuntime) -> Result<(), Fail> {
+    assert_eq!(rt; passing(rt.alloc())?, 6);
+    Ok(())
+}

@@ -1,2 +1,0 @@
-// Tests of runs of scripts.
-mod runs;

@@ -1,2 +1,0 @@
-// Tests of calls over lines.
-mod candidates;
