@@ -2,5 +2,3 @@
 mod calls;
 mod candidates;
 mod faults;
-mod rows;
-mod runs;

@@ -1,7 +1,7 @@
 use Rattle.std.proofs.Common.{arith}
 use Rattle.dx_funcs.specs.Serving.{offered}
 use Rattle.clio_accept.proofs.Accepted.{fits_of}
-use Rattle.clio_tests.proofs.tests.runs.accepted.Goals as goal
+use Rattle.eval_tests.proofs.tests.runs.accepted.Goals as goal
 
 pub returns : goal.returns
 returns g c = fits_of (offered c.args.host.now) c.as_bytes-bytes.result.now c.accept.result (omega arith) c.accept.ensures

@@ -9,12 +9,11 @@ ghost use Rattle.dx_schema.specs.Tables.{schema_widths};
 ghost use Rattle.dx_script.specs.Fits.{FitsScript};
 ghost use Rattle.clio_accept.specs.Laws.{MappingFits};
 
-use crate::tests::rows::instance_of;
 use clio_accept::{AcceptFault, Mapping, accept};
-use dx_eval::eval;
+use dx_eval::{EvalFault, Made, eval};
 use dx_funcs::{Host, Meaning, Shipped, convert, shipped_list};
-use dx_instance::Instance;
-use dx_ports::{Items, Text};
+use dx_instance::{Instance, Row, value_read, value_text};
+use dx_ports::{Count, Items, Limit, Text};
 use dx_schema::Schema;
 use dx_script::Script;
 use dx_scriptgen::{plain_script, rewritten_script};
@@ -22,7 +21,8 @@ use std::alloc::{AllocError, Global};
 use std::test::Fail;
 
 /// Mappings with an empty line between each two. After each, parted by `==`: the rows of its source, how many cells its rules
-/// make for all of their matches, the matches, and the facts that its plain and its rewritten script make of them.
+/// make for all of their matches, and what its plain and its rewritten script make: first the matches of each rule, then the
+/// facts. `none` stands for no line.
 const CASES: &str = "// a null for each name
 mapping 1; source { set emp { name; } } target { set person { name, phone; } }
 line emp.name -> person.name;
@@ -32,8 +32,8 @@ line emp.name -> person.name;
 ==
 4
 ==
-Matches { rules: Items { items: [Places { tuples: Tuples { width: 1, count: 2, texts: [\"ann\", \"bob\"] } }] } }
-==
+m0|ann
+m0|bob
 0|ann|?0.0.0
 0|bob|?0.0.1
 ==
@@ -47,8 +47,6 @@ none
 ==
 0
 ==
-Matches { rules: Items { items: [Places { tuples: Tuples { width: 1, count: 0, texts: [] } }] } }
-==
 none
 ==
 the same
@@ -61,8 +59,7 @@ line emp.name -> person.name;
 ==
 2
 ==
-Matches { rules: Items { items: [Places { tuples: Tuples { width: 1, count: 1, texts: [\"?0.0.0\"] } }] } }
-==
+m0|?0.0.0
 0|??0.0.0|?0.0.0
 ==
 the same
@@ -76,8 +73,7 @@ rule emp(x) -> site(\"main\");
 ==
 1
 ==
-Matches { rules: Items { items: [Places { tuples: Tuples { width: 0, count: 1, texts: [] } }] } }
-==
+m0
 0|main
 ==
 the same
@@ -91,8 +87,7 @@ line trim(emp.name) -> person.name;
 ==
 1
 ==
-Matches { rules: Items { items: [Places { tuples: Tuples { width: 1, count: 1, texts: [\"ann\"] } }] } }
-==
+m0|ann
 0|ann
 ==
 the same
@@ -107,9 +102,8 @@ rule a(x, v) -> p(x, g), q(g, h), r(h, v);
 ==
 12
 ==
-Matches { rules: Items { items: [Places { tuples: Tuples { width: 2, count: 2, texts: [\"1\", \"ann\", \"1\", \"bob\"] \
-} }] } }
-==
+m0|1|ann
+m0|1|bob
 0|1|?0.0.0
 0|1|?0.0.1
 1|?0.0.0|?0.1.0
@@ -137,15 +131,18 @@ line dept.dname -> unit.uname;
 ==
 10
 ==
-Matches { rules: Items { items: [Places { tuples: Tuples { width: 2, count: 2, texts: [\"ann\", \"toys\", \"bob\", \
-\"toys\"] } }, Places { tuples: Tuples { width: 1, count: 1, texts: [\"toys\"] } }] } }
-==
+m0|ann|toys
+m0|bob|toys
+m1|toys
 0|?0.0.0|toys
 0|?0.0.1|toys
 0|?1.0.0|toys
 1|?0.0.0|ann
 1|?0.0.1|bob
 ==
+m0|ann|toys
+m0|bob|toys
+m1|toys
 0|?0.0.0|toys
 0|?0.0.1|toys
 1|?0.0.0|ann
@@ -162,12 +159,13 @@ line phone.num -> person.num;
 ==
 4
 ==
-Matches { rules: Items { items: [Places { tuples: Tuples { width: 1, count: 1, texts: [\"ann\"] } }, Places { tuples: \
-Tuples { width: 2, count: 1, texts: [\"ann\", \"555\"] } }] } }
-==
+m0|ann
+m1|ann|555
 0|ann|555
 0|ann|?0.0.0
 ==
+m0|ann
+m1|ann|555
 0|ann|555
 
 // of two rules that cover each other the second alone is subtracted
@@ -181,13 +179,16 @@ rule b(x) -> p(x, y);
 ==
 6
 ==
-Matches { rules: Items { items: [Places { tuples: Tuples { width: 1, count: 1, texts: [\"1\"] } }, Places { tuples: \
-Tuples { width: 1, count: 2, texts: [\"1\", \"2\"] } }] } }
-==
+m0|1
+m1|1
+m1|2
 0|1|?0.0.0
 0|1|?1.0.0
 0|2|?1.0.1
 ==
+m0|1
+m1|1
+m1|2
 0|1|?0.0.0
 0|2|?1.0.1
 
@@ -203,10 +204,9 @@ rule c(y) -> q(y);
 ==
 6
 ==
-Matches { rules: Items { items: [Places { tuples: Tuples { width: 1, count: 1, texts: [\"1\"] } }, Places { tuples: \
-Tuples { width: 2, count: 1, texts: [\"1\", \"2\"] } }, Places { tuples: Tuples { width: 1, count: 1, texts: [\"2\"] } \
-}] } }
-==
+m0|1
+m1|1|2
+m2|2
 0|1|2
 0|1|?0.0.0
 1|2
@@ -223,8 +223,8 @@ rule a(x) -> n(x), e(u, v), e(v, u);
 ==
 10
 ==
-Matches { rules: Items { items: [Places { tuples: Tuples { width: 1, count: 2, texts: [\"1\", \"2\"] } }] } }
-==
+m0|1
+m0|2
 0|1
 0|2
 1|?0.0.0|?0.1.0
@@ -233,6 +233,40 @@ Matches { rules: Items { items: [Places { tuples: Tuples { width: 1, count: 2, t
 1|?0.1.1|?0.0.1
 ==
 the same";
+
+/// What stands in a part of a case.
+fn part(text: &str) -> &str {
+    if text == "none" { "" } else { text }
+}
+
+/// One of the cases.
+#[derive(Clone, Copy)]
+struct Case<'a> {
+    mapping: &'a str,
+    rows: &'a str,
+    cells: u64,
+    plain: &'a str,
+    rewritten: &'a str,
+}
+
+fn case_of(text: &str) -> Option<Case<'_>> {
+    let mut parts = text.split("\n==\n");
+    let mapping = parts.next()?;
+    let rows = part(parts.next()?);
+    let cells = parts.next()?.parse::<u64>().ok()?;
+    let plain = part(parts.next()?);
+    let rewritten = match parts.next()? {
+        "the same" => plain,
+        other => part(other),
+    };
+    Some(Case {
+        mapping,
+        rows,
+        cells,
+        plain,
+        rewritten,
+    })
+}
 
 /// The mapping of a text, whose rules fit.
 fn accepted<F: Fn(u32, &Items<Text>) -> Result<Text, AllocError>, M: Meaning>(
@@ -249,7 +283,76 @@ fn accepted<F: Fn(u32, &Items<Text>) -> Result<Text, AllocError>, M: Meaning>(
     accept(alloc, bytes, host)
 }
 
-/// What a run of a script makes with this limit: the matches, and whether the facts are these; or its fault.
+/// Adds the row of a line, if it is as wide as its table.
+fn add_line(alloc: Global, instance: &mut Instance, line: &str) -> Result<(), AllocError>
+    ensures { widths instance.new ≡ widths instance.old }
+{
+    let mut cells = line.split('|');
+    let Ok(table) = cells.next().unwrap_or("").parse::<u32>() else {
+        return Ok(());
+    };
+    let mut row = Row::new(alloc);
+    for cell in cells {
+        if let Some(value) = value_read(alloc, &Text::from_str(alloc, cell)?)? {
+            row.push(value)?;
+        }
+    }
+    if table >= instance.tables()
+        || row.len() != u64::from(instance.width(table))
+        || instance.count(table) >= 1000
+    {
+        return Ok(());
+    }
+    instance.add(table, row)?;
+    Ok(())
+}
+
+fn instance_of(alloc: Global, schema: &Schema, rows: &str) -> Result<Instance, AllocError>
+    ensures { IfOk result (λ I. widths I ≡ schema_widths schema.now) }
+{
+    let mut instance = Instance::new(alloc, schema.widths(alloc)?)?;
+    for line in rows.lines() {
+        add_line(alloc, &mut instance, line)?;
+    }
+    Ok(instance)
+}
+
+/// A line for each match, with the number of its rule.
+fn add_matches(alloc: Global, lines: &mut String, made: &Made) -> Result<(), AllocError> {
+    for (rule, places) in made.matches.rules.items().iter().enumerate() {
+        for place in 0..places.tuples.len() {
+            lines.push_str(format!(in alloc; "m{rule}")?.as_str())?;
+            for text in places.tuples.tuple(place) {
+                lines.push_str("|")?;
+                lines.push_str(text.as_str())?;
+            }
+            lines.push_str("\n")?;
+        }
+    }
+    Ok(())
+}
+
+/// A line for each fact, with the number of its table.
+fn add_facts(alloc: Global, lines: &mut String, instance: &Instance) -> Result<(), AllocError> {
+    for fact in instance.facts()?.as_slice() {
+        lines.push_str(format!(in alloc; "{}", fact.table)?.as_str())?;
+        for value in fact.row.items() {
+            lines.push_str("|")?;
+            lines.push_str(value_text(alloc, value)?.as_str())?;
+        }
+        lines.push_str("\n")?;
+    }
+    Ok(())
+}
+
+fn made_lines(alloc: Global, made: &Made) -> Result<String, AllocError> {
+    let mut lines = String::new(alloc);
+    add_matches(alloc, &mut lines, made)?;
+    add_facts(alloc, &mut lines, &made.instance)?;
+    Ok(lines)
+}
+
+/// What a run of a script makes with this limit, or the limit that it passes.
 fn outcome<F: Fn(u32, &Items<Text>) -> Result<Text, AllocError>, M: Meaning>(
     alloc: Global,
     script: &Script,
@@ -258,23 +361,27 @@ fn outcome<F: Fn(u32, &Items<Text>) -> Result<Text, AllocError>, M: Meaning>(
     target: &Schema,
     host: &Host<F, M>,
     limit: u64,
-    facts: &str,
 ) -> Result<String, AllocError>
     requires serves { Serves F.Fn M.apply host.now }
     requires fits { FitsScript (named_of source.now) (named_of target.now) (offered host.now) script.now.steps }
     requires widths { widths rows.now ≡ schema_widths source.now }
 {
-    let wanted = instance_of(alloc, target, facts)?.facts()?;
     match eval(alloc, script, source, rows, target, host, limit) {
-        Ok(made) if made.instance.facts()?.as_slice() == wanted.as_slice() => {
-            format!(in alloc; "{:?}", made.matches)
-        }
-        Ok(_) => String::from_str(alloc, "other facts"),
-        Err(fault) => format!(in alloc; "{fault:?}"),
+        Ok(made) => made_lines(alloc, &made),
+        Err(
+            EvalFault::Limit(
+                Limit {
+                    what: Count::TargetCells,
+                    number,
+                },
+            ),
+        ) => format!(in alloc; "TargetCells {number}"),
+        Err(EvalFault::Limit(_)) => format!(in alloc; "another limit"),
+        Err(EvalFault::Memory) => Err(AllocError),
     }
 }
 
-/// Whether a script makes these matches and facts if so many cells are the limit, and is refused if one fewer is.
+/// Whether a script makes these lines where so many cells are the limit, and is refused where one fewer is.
 fn is_exact<F: Fn(u32, &Items<Text>) -> Result<Text, AllocError>, M: Meaning>(
     alloc: Global,
     script: &Script,
@@ -283,72 +390,66 @@ fn is_exact<F: Fn(u32, &Items<Text>) -> Result<Text, AllocError>, M: Meaning>(
     target: &Schema,
     host: &Host<F, M>,
     cells: u64,
-    matches: &str,
-    facts: &str,
+    lines: &str,
 ) -> Result<bool, AllocError>
     requires serves { Serves F.Fn M.apply host.now }
     requires fits { FitsScript (named_of source.now) (named_of target.now) (offered host.now) script.now.steps }
     requires widths { widths rows.now ≡ schema_widths source.now }
 {
-    let made = outcome(alloc, script, source, rows, target, host, cells, facts)?;
+    let made = outcome(alloc, script, source, rows, target, host, cells)?;
     if cells == 0 {
-        return Ok(made.as_str() == matches);
+        return Ok(made.as_str().trim_end() == lines);
     }
     let fewer = cells - 1;
-    let refused = outcome(alloc, script, source, rows, target, host, fewer, facts)?;
-    let refusal = format!(in alloc; "Limit(Limit {{ what: TargetCells, number: {fewer} }})")?;
-    Ok(made.as_str() == matches && refused.as_str() == refusal.as_str())
+    let refused = outcome(alloc, script, source, rows, target, host, fewer)?;
+    let refusal = format!(in alloc; "TargetCells {fewer}")?;
+    Ok(made.as_str().trim_end() == lines && refused.as_str() == refusal.as_str())
 }
 
 /// Whether both scripts of a mapping make what they are to make.
 fn passes<F: Fn(u32, &Items<Text>) -> Result<Text, AllocError>, M: Meaning>(
     alloc: Global,
-    case: &str,
+    case: &Case<'_>,
     host: &Host<F, M>,
 ) -> Result<bool, AcceptFault>
     requires { Serves F.Fn M.apply host.now }
 {
-    let mut parts = case.split("\n==\n");
     let Mapping {
         source,
         target,
         rules,
-    } = accepted(alloc, parts.next().unwrap_or(""), host)?;
+    } = accepted(alloc, case.mapping, host)?;
     let rules = rules.items();
-    let rows = instance_of(alloc, &source, parts.next().unwrap_or(""))?;
-    let cells = parts.next().unwrap_or("").parse::<u64>().unwrap_or(0);
-    let matches = parts.next().unwrap_or("");
-    let facts = parts.next().unwrap_or("");
-    let left = match parts.next() {
-        Some("the same") => facts,
-        other => other.unwrap_or(""),
-    };
+    let rows = instance_of(alloc, &source, case.rows)?;
     let plain = plain_script(alloc, rules, &source, &target, host)?;
     let rewritten = rewritten_script(alloc, rules, &source, &target, host)?;
-    let (s, t) = (&source, &target);
+    let (s, t, cells) = (&source, &target, case.cells);
     Ok(
-        is_exact(alloc, &plain, s, &rows, t, host, cells, matches, facts)?
-            && is_exact(alloc, &rewritten, s, &rows, t, host, cells, matches, left)?,
+        is_exact(alloc, &plain, s, &rows, t, host, cells, case.plain)?
+            && is_exact(alloc, &rewritten, s, &rows, t, host, cells, case.rewritten)?,
     )
 }
 
 /// How many cases come out as they are to before one that doesn't.
-fn passing(alloc: Global) -> Result<usize, AcceptFault> {
+fn passing(alloc: Global, all: &str) -> Result<usize, AcceptFault> {
     let function = |code: u32, args: &Items<Text>| -> Result<Text, AllocError>
         requires { IsListed shipped_conversions code (length args.now) }
         ensures { IfOk result (λ t. t ≡ shipped_apply code args.entry.now) }
     { convert(alloc, code, args) };
     let host: Host<_, Shipped> = Host::build(shipped_list(alloc)?, function);
-    for (number, case) in CASES.split("\n\n").enumerate() {
-        if !passes(alloc, case, &host)? {
+    for (number, text) in all.split("\n\n").enumerate() {
+        let Some(case) = case_of(text) else {
+            return Ok(number);
+        };
+        if !passes(alloc, &case, &host)? {
             return Ok(number);
         }
     }
-    Ok(CASES.split("\n\n").count())
+    Ok(all.split("\n\n").count())
 }
 
 #[test]
 fn scripts_make_this_within_the_limit(rt: HostRuntime) -> Result<(), Fail> {
-    assert_eq!(rt; passing(rt.alloc())?, 11);
+    assert_eq!(rt; passing(rt.alloc(), CASES)?, 11);
     Ok(())
 }

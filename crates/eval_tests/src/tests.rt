@@ -1,0 +1,2 @@
+// Tests of runs of scripts.
+mod runs;
