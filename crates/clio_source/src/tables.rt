@@ -40,7 +40,8 @@ fn rows_of_bytes(
     symbols: &mut Symbols,
 ) -> Result<Rows, Stop<SourceRefusal>>
     requires { root < length (tables_of schema.now) }
-    ensures rows { IfOk result (λ rows. IsTableUsed used.now (table_records bytes.now) (table_at schema.now root).columns (rows_shown symbols.new rows)) }
+    ensures rows { IfOk result (λ rows. IsTableUsed used.now (table_records bytes.now) (table_at schema.now root).columns
+        (rows_shown symbols.new rows)) }
     ensures width { IfOk result (λ rows. rows.width ≡ length (table_at schema.now root).columns) }
     ensures below { IfOk result (λ rows. Each rows.rows (AreBelow (length symbols.new))) }
     ensures grows { Extends symbols.old symbols.new }

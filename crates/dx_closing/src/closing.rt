@@ -29,7 +29,8 @@ pub fn close(alloc: Global, rule: Rule, target: &Schema) -> Result<Rule, CloseFa
     ensures narrow { IfOk result (λ e. length e.conclusion ≤ 64) }
     ensures closed { IfOk result (λ e. IsClosed (model_tables target.now) e) }
     ensures numbered { IfOk result (λ e. AreNumbered e.conclusion) }
-    ensures wide { IfErr result (λ e. e ≡ TooWide → (E : List AtomRow) → IsClosing (model_tables target.now) rule.conclusion E → 64 < length E) }
+    ensures wide { IfErr result (λ e. e ≡ TooWide
+        → (E : List AtomRow) → IsClosing (model_tables target.now) rule.conclusion E → 64 < length E) }
 {
     let Rule {
         premise,

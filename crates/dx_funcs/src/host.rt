@@ -38,7 +38,8 @@ impl<F: Fn(u32, &Items<Text>) -> Result<Text, AllocError>, M: Meaning> Host<F, M
 
     /// The conversion of this name. None if none is listed.
     pub fn find(&self, name: &Text) -> Option<&Conversion>
-        ensures found { MatchOption result (first_named (offered self.now) name.now ≡ None) (λ c. first_named (offered self.now) name.now ≡ Some c.now) }
+        ensures found { MatchOption result (first_named (offered self.now) name.now ≡ None)
+            (λ c. first_named (offered self.now) name.now ≡ Some c.now) }
         ensures listed { IfSome result (λ c. (c.now ∈ offered self.now) × (c.now.name ≡ name.now)) }
     {
         for conversion in self.list.items() {

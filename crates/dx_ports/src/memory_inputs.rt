@@ -70,17 +70,21 @@ impl Inputs for MemInputs {
         ensures absent { IfSome (⟦<MemInputs as Inputs>⟧.holds self.old) (λ m. IsErrOf result FetchFault.Absent → get m name.now ≡ None) }
         ensures long { IfSome (⟦<MemInputs as Inputs>⟧.holds self.old) (λ m. IsErrOf result FetchFault.Long
             → IsSomeAnd (get m name.now) (λ bytes. limit < length bytes)) }
-        ensures failed { IsErrOf result FetchFault.Failed → Rose (⟦<MemInputs as Inputs>⟧.faults self.old) (⟦<MemInputs as Inputs>⟧.faults self.new) }
+        ensures failed { IsErrOf result FetchFault.Failed
+            → Rose (⟦<MemInputs as Inputs>⟧.faults self.old) (⟦<MemInputs as Inputs>⟧.faults self.new) }
         ensures named { IsErrOf result FetchFault.Failed → IfSome (⟦<MemInputs as Inputs>⟧.stopped self.new) (λ n. n ≡ name.now) }
-        ensures steady { ¬ (IsErrOf result FetchFault.Failed) → ⟦<MemInputs as Inputs>⟧.faults self.new ≡ ⟦<MemInputs as Inputs>⟧.faults self.old }
-        ensures stays { ¬ (IsErrOf result FetchFault.Failed) → ⟦<MemInputs as Inputs>⟧.stopped self.new ≡ ⟦<MemInputs as Inputs>⟧.stopped self.old }
+        ensures steady { ¬ (IsErrOf result FetchFault.Failed)
+            → ⟦<MemInputs as Inputs>⟧.faults self.new ≡ ⟦<MemInputs as Inputs>⟧.faults self.old }
+        ensures stays { ¬ (IsErrOf result FetchFault.Failed)
+            → ⟦<MemInputs as Inputs>⟧.stopped self.new ≡ ⟦<MemInputs as Inputs>⟧.stopped self.old }
 
         // What the trait leaves open: which calls fail, and that each of them counts one fault.
         ensures only_these { IsErrOf result FetchFault.Failed → Contains (failing_calls self.old) (next_call self.old) }
         ensures these { Contains (failing_calls self.old) (next_call self.old)
             → IsErrOf result FetchFault.Failed ⊎ IsErrOf result FetchFault.Memory }
         ensures tells { IsErrOf result FetchFault.Failed → ⟦<MemInputs as Inputs>⟧.stopped self.new ≡ Some name.now }
-        ensures raised { IsErrOf result FetchFault.Failed → ⟦<MemInputs as Inputs>⟧.faults self.new ≡ min (⟦<MemInputs as Inputs>⟧.faults self.old + 1) (2 ^ 64 - 1) }
+        ensures raised { IsErrOf result FetchFault.Failed
+            → ⟦<MemInputs as Inputs>⟧.faults self.new ≡ min (⟦<MemInputs as Inputs>⟧.faults self.old + 1) (2 ^ 64 - 1) }
         ensures number { next_call self.new ≡ min (next_call self.old + 1) (2 ^ 64 - 1) }
         ensures same_numbers { failing_calls self.new ≡ failing_calls self.old }
     {

@@ -84,17 +84,21 @@ impl Outputs for MemOutputs {
     ghost faults = { λ m. m.faults };
 
     fn put(&mut self, name: &Text, bytes: &[u8]) -> Result<(), PutFault>
-        ensures put { OnOk result (⟦<MemOutputs as Outputs>⟧.files self.new ≡ appended (⟦<MemOutputs as Outputs>⟧.files self.old) ((name.now, bytes.now) ∷ [])) }
+        ensures put { OnOk result (⟦<MemOutputs as Outputs>⟧.files self.new
+            ≡ appended (⟦<MemOutputs as Outputs>⟧.files self.old) ((name.now, bytes.now) ∷ [])) }
         ensures refused { OnErr result (⟦<MemOutputs as Outputs>⟧.files self.new ≡ ⟦<MemOutputs as Outputs>⟧.files self.old) }
         ensures said { ⟦<MemOutputs as Outputs>⟧.said self.new ≡ ⟦<MemOutputs as Outputs>⟧.said self.old }
         ensures counted { ⟦<MemOutputs as Outputs>⟧.faults self.old ≤ ⟦<MemOutputs as Outputs>⟧.faults self.new }
-        ensures failed { IsErrOf result PutFault.Failed → Rose (⟦<MemOutputs as Outputs>⟧.faults self.old) (⟦<MemOutputs as Outputs>⟧.faults self.new) }
-        ensures steady { ¬ (IsErrOf result PutFault.Failed) → ⟦<MemOutputs as Outputs>⟧.faults self.new ≡ ⟦<MemOutputs as Outputs>⟧.faults self.old }
+        ensures failed { IsErrOf result PutFault.Failed
+            → Rose (⟦<MemOutputs as Outputs>⟧.faults self.old) (⟦<MemOutputs as Outputs>⟧.faults self.new) }
+        ensures steady { ¬ (IsErrOf result PutFault.Failed)
+            → ⟦<MemOutputs as Outputs>⟧.faults self.new ≡ ⟦<MemOutputs as Outputs>⟧.faults self.old }
 
         // What the trait leaves open: which calls fail, and that each of them counts one fault.
         ensures only_these { IsErrOf result PutFault.Failed → Contains (failing_writes self.old) (next_write self.old) }
         ensures these { Contains (failing_writes self.old) (next_write self.old) → IsErrOf result PutFault.Failed }
-        ensures raised { IsErrOf result PutFault.Failed → ⟦<MemOutputs as Outputs>⟧.faults self.new ≡ min (⟦<MemOutputs as Outputs>⟧.faults self.old + 1) (2 ^ 64 - 1) }
+        ensures raised { IsErrOf result PutFault.Failed
+            → ⟦<MemOutputs as Outputs>⟧.faults self.new ≡ min (⟦<MemOutputs as Outputs>⟧.faults self.old + 1) (2 ^ 64 - 1) }
         ensures number { next_write self.new ≡ min (next_write self.old + 1) (2 ^ 64 - 1) }
         ensures same_numbers { failing_writes self.new ≡ failing_writes self.old }
     {
@@ -110,18 +114,23 @@ impl Outputs for MemOutputs {
     }
 
     fn say(&mut self, bytes: &[u8]) -> Result<(), PutFault>
-        ensures said { OnOk result (⟦<MemOutputs as Outputs>⟧.said self.new ≡ appended (⟦<MemOutputs as Outputs>⟧.said self.old) bytes.now) }
+        ensures said { OnOk result (⟦<MemOutputs as Outputs>⟧.said self.new
+            ≡ appended (⟦<MemOutputs as Outputs>⟧.said self.old) bytes.now) }
         ensures nothing { OnErr result (⟦<MemOutputs as Outputs>⟧.said self.new ≡ ⟦<MemOutputs as Outputs>⟧.said self.old) }
-        ensures refused { OnErr result (GrewByPrefix (⟦<MemOutputs as Outputs>⟧.said self.old) bytes.now (⟦<MemOutputs as Outputs>⟧.said self.new)) }
+        ensures refused { OnErr result (GrewByPrefix (⟦<MemOutputs as Outputs>⟧.said self.old) bytes.now
+            (⟦<MemOutputs as Outputs>⟧.said self.new)) }
         ensures files { ⟦<MemOutputs as Outputs>⟧.files self.new ≡ ⟦<MemOutputs as Outputs>⟧.files self.old }
         ensures counted { ⟦<MemOutputs as Outputs>⟧.faults self.old ≤ ⟦<MemOutputs as Outputs>⟧.faults self.new }
-        ensures failed { IsErrOf result PutFault.Failed → Rose (⟦<MemOutputs as Outputs>⟧.faults self.old) (⟦<MemOutputs as Outputs>⟧.faults self.new) }
-        ensures steady { ¬ (IsErrOf result PutFault.Failed) → ⟦<MemOutputs as Outputs>⟧.faults self.new ≡ ⟦<MemOutputs as Outputs>⟧.faults self.old }
+        ensures failed { IsErrOf result PutFault.Failed
+            → Rose (⟦<MemOutputs as Outputs>⟧.faults self.old) (⟦<MemOutputs as Outputs>⟧.faults self.new) }
+        ensures steady { ¬ (IsErrOf result PutFault.Failed)
+            → ⟦<MemOutputs as Outputs>⟧.faults self.new ≡ ⟦<MemOutputs as Outputs>⟧.faults self.old }
 
         // What the trait leaves open: which calls fail, and that each of them counts one fault.
         ensures only_these { IsErrOf result PutFault.Failed → Contains (failing_writes self.old) (next_write self.old) }
         ensures these { Contains (failing_writes self.old) (next_write self.old) → IsErrOf result PutFault.Failed }
-        ensures raised { IsErrOf result PutFault.Failed → ⟦<MemOutputs as Outputs>⟧.faults self.new ≡ min (⟦<MemOutputs as Outputs>⟧.faults self.old + 1) (2 ^ 64 - 1) }
+        ensures raised { IsErrOf result PutFault.Failed
+            → ⟦<MemOutputs as Outputs>⟧.faults self.new ≡ min (⟦<MemOutputs as Outputs>⟧.faults self.old + 1) (2 ^ 64 - 1) }
         ensures number { next_write self.new ≡ min (next_write self.old + 1) (2 ^ 64 - 1) }
         ensures same_numbers { failing_writes self.new ≡ failing_writes self.old }
     {

@@ -68,7 +68,8 @@ fn push_derived<F: Fn(u32, &Items<Text>) -> Result<Text, AllocError>, M: Meaning
     out: &mut String,
 ) -> Result<(), AllocError>
     requires { derived.now.code ∈ map (λ c. c.code) (offered host.now) }
-    ensures { OnOk result (string_bytes out.new ≡ string_bytes out.old ++ derived_text (conversion_name (offered host.now)) number derived.now) }
+    ensures { OnOk result (string_bytes out.new
+        ≡ string_bytes out.old ++ derived_text (conversion_name (offered host.now)) number derived.now) }
 {
     push_variable(number, out)?;
     out.push_str(" = ")?;
@@ -88,7 +89,8 @@ pub fn push_where<F: Fn(u32, &Items<Text>) -> Result<Text, AllocError>, M: Meani
 ) -> Result<(), AllocError>
     requires listed { AreListed (offered host.now) derived.now }
     requires first { first ≤ 2 ^ 32 }
-    ensures { OnOk result (string_bytes out.new ≡ string_bytes out.old ++ where_text (conversion_name (offered host.now)) first derived.now) }
+    ensures { OnOk result (string_bytes out.new
+        ≡ string_bytes out.old ++ where_text (conversion_name (offered host.now)) first derived.now) }
 {
     let Some((variable, others)) = derived.split_first() else {
         return Ok(());

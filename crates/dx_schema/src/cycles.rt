@@ -110,7 +110,8 @@ fn edges_made(alloc: Global, tables: &[Table]) -> Result<Vec<Edge>, AllocError>
 /// The first table from which links lead back to it.
 pub fn cycle_in(alloc: Global, tables: &[Table]) -> Result<Option<u32>, AllocError>
     requires { AreTables tables.now }
-    ensures { IfOk result (λ found. MatchOption found (IsAcyclic (map as_numbers tables.now)) (λ t. IsFirstCycle (map as_numbers tables.now) t)) }
+    ensures { IfOk result (λ found. MatchOption found (IsAcyclic (map as_numbers tables.now))
+        (λ t. IsFirstCycle (map as_numbers tables.now) t)) }
 {
     let edges = edges_made(alloc, tables)?;
     first_cycle(alloc, tables.len() as u32, &edges)

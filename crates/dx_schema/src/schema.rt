@@ -162,7 +162,8 @@ impl Schema {
     /// The column of this name. None if there is none.
     pub fn column_named(&self, table: u32, name: &Text) -> Option<u32>
         requires { table < length (tables_of self.now) }
-        ensures some { IfSome result (λ c. (c < length (table_at self.now table).columns) × (slice_index_or (table_at self.now table).columns c [] ≡ name.now)) }
+        ensures some { IfSome result (λ c. (c < length (table_at self.now table).columns)
+            × (slice_index_or (table_at self.now table).columns c [] ≡ name.now)) }
         ensures none { IsSome result ↔ (name.now ∈ (table_at self.now table).columns) }
     {
         number_in(self.columns(table), name)
