@@ -1,28 +1,15 @@
 // The files of a demo as what a run reads from.
 ghost use Rattle.std.specs.Prelude.{◌≡◌, ◌≤◌, ◌<◌, [], length, None, Some, OnOk, OnErr, IfSome, IsErrOf, IsSomeAnd};
-ghost use Rattle.std.specs.Option.{option_copied};
 ghost use Rattle.std.specs.FinMap.{get};
 ghost use Rattle.dx_ports.specs.Entries.{held_by};
 ghost use Rattle.dx_ports.specs.Faults.{Rose};
 
-use dx_ports::{FetchFault, File, Inputs, Text};
+use dx_ports::{FetchFault, File, Inputs, Text, bytes_named};
 
 /// Files in memory, of which no read ever fails.
 #[derive(Drop)]
 pub(crate) struct DemoInputs {
     pub files: Vec<File>,
-}
-
-// The bytes of the first file of this name.
-fn bytes_named<'a>(files: &'a [File], name: &Text) -> Option<&'a [u8]>
-    ensures { option_copied result ≡ get (held_by files.now) name.now }
-{
-    for file in files {
-        if file.name == *name {
-            return Some(file.bytes.as_slice());
-        }
-    }
-    None
 }
 
 impl Inputs for DemoInputs {

@@ -18,7 +18,7 @@ mod text;
 pub use file::{Count, File, Limit};
 pub use inputs::{FetchFault, Inputs};
 pub use items::Items;
-pub use memory_inputs::MemInputs;
+pub use memory_inputs::{MemInputs, bytes_named};
 pub use memory_outputs::MemOutputs;
 pub use outputs::{Outputs, PutFault};
 pub use text::{Text, TextMade};

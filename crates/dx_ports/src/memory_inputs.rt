@@ -40,8 +40,8 @@ impl MemInputs {
     }
 }
 
-// The bytes of the first file of this name.
-fn bytes_named<'a>(files: &'a [File], name: &Text) -> Option<&'a [u8]>
+/// The bytes of the first file of this name. None if there is none.
+pub fn bytes_named<'a>(files: &'a [File], name: &Text) -> Option<&'a [u8]>
     ensures { option_copied result ≡ get (held_by files.now) name.now }
 {
     for file in files {
