@@ -115,6 +115,12 @@ left-next s xs p b e =
     let w = goes s xs p b e in
     rw (add-one, e) (ap (λ (t : List (List (List ℕ))). p.0 ∷ t) (same-records (length xs) (length p.2 + 1) p.1 p.2 w.between (omega (arith, w.shorter)) (omega arith)))
 
+-- a line feed between two records is passed over
+pub left-feed : (xs : List ℕ) → left_from st.StartRecord (10 ∷ xs) ≡ left_from st.StartRecord xs
+unfolding records_from next_record
+left-feed xs =
+    rw (add-one, add-one) (same-records (suc (suc (length xs))) (suc (length xs)) st.StartRecord xs refl (omega arith) (omega arith))
+
 pub left-none : (s : State) (xs : List ℕ) → next_record default_config s [] [] xs ≡ None → left_from s xs ≡ []
 unfolding records_from
 left-none s xs e = rw (add-one, e) refl

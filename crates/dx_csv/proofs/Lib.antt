@@ -9,3 +9,4 @@ pub mod InternFacts
 mod ColumnFacts
 pub mod BlankFacts
 pub mod TextsDiffer
+pub mod PlainFacts

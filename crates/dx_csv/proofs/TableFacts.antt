@@ -94,7 +94,7 @@ pub collected-start : (records : List (List (List ℕ))) (columns : List (List �
     → Collected records columns fields left 1
 collected-start records columns fields left e h = record { under = []; header = e; whole = All-nil (IsWhole columns); have = h; count = refl }
 
-flat-more : (under : List (List (List ℕ))) (fields : List (List ℕ)) → flat (under ++ fields ∷ []) ≡ flat under ++ fields
+pub flat-more : (under : List (List (List ℕ))) (fields : List (List ℕ)) → flat (under ++ fields ∷ []) ≡ flat under ++ fields
 flat-more [] fields = append-nil fields
 flat-more (u ∷ under) fields = ap (λ (l : List (List ℕ)). u ++ l) (flat-more under fields) ∙ sym (append_assoc u (flat under) fields)
 

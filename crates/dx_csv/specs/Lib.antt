@@ -1,4 +1,5 @@
 pub mod Left
+pub mod Plain
 pub mod Table
 pub mod Print
 pub mod Laws

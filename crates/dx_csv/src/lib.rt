@@ -16,6 +16,7 @@ mod interning;
 mod laws;
 mod lines;
 mod load;
+mod plain;
 mod print;
 mod records;
 

@@ -6,6 +6,7 @@ ghost use Rattle.dx_csv.specs.Table.{FirstDifference, HasFault, IsTable, constan
 
 use crate::fault::{RowFault, RowKind};
 use crate::fields::{Fields, Texts};
+use crate::plain::plain_fields;
 use crate::records::Records;
 use csv::ByteRecord;
 use dx_model::{Row, Value};
@@ -99,7 +100,8 @@ fn push_record(fields: &mut Fields, given: &ByteRecord) -> Result<bool, AllocErr
     Ok(true)
 }
 
-/// The texts of a table's fields under the header, record by record, and how many records there are.
+/// The texts of a table's fields under the header, record by record, and how many records there are. Those of a table
+/// without quotes are read straight from its bytes.
 pub(crate) fn read_fields(
     alloc: Global,
     bytes: &[u8],
@@ -110,6 +112,9 @@ pub(crate) fn read_fields(
     ensures fault { IfErr result (HasFault (table_records bytes.now) columns.now) }
 {
     let mut records = records_under(alloc, bytes, columns)?;
+    if let Some((fields, count)) = plain_fields(alloc, bytes, columns.len())? {
+        return Ok(read_texts(alloc, fields, count)?);
+    }
     let mut record = ByteRecord::new(alloc);
     let mut fields = Fields::new(alloc);
     for number in 1..u64::MAX {
