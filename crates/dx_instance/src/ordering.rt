@@ -121,30 +121,23 @@ fn short_length(value: &Value) -> u8
     }
 }
 
-// The lengths of the texts of all numbers, as far as they are short.
-fn lengths_of(alloc: Global, symbols: &Symbols) -> Result<Vec<u8>, AllocError>
-    ensures { IfOk result (λ lengths. AreLengths symbols.now lengths.items (length symbols.now)) }
-{
-    let count = symbols.len();
-    let mut lengths = Vec::with_capacity(alloc, count as usize)?;
-    for number in 0..count {
-        lengths.push(short_length(symbols.value(number)))?;
-    }
-    Ok(lengths)
-}
-
-// Each number, with a key that compares as the first bytes of its value.
-fn keyed_numbers(alloc: Global, symbols: &Symbols) -> Result<Vec<(u64, u32)>, AllocError>
-    ensures keyed { IfOk result (λ keys. ValuesAreKeyed symbols.now keys.items (length symbols.now)) }
+// Each number, with a key that compares as the first bytes of its value, and the lengths of all texts, as far as they are
+// short. Both are read in one walk, since the texts may lie far apart.
+fn keyed_numbers(alloc: Global, symbols: &Symbols) -> Result<(Vec<(u64, u32)>, Vec<u8>), AllocError>
+    ensures keyed { IfOk result (λ r. ValuesAreKeyed symbols.now r.0.items (length symbols.now)) }
+    ensures lengths { IfOk result (λ r. AreLengths symbols.now r.1.items (length symbols.now)) }
     ensures apart { AreApart symbols.now }
     ensures few { length symbols.now < 2 ^ 32 }
 {
     let count = symbols.len();
     let mut keys = Vec::with_capacity(alloc, count as usize)?;
+    let mut lengths = Vec::with_capacity(alloc, count as usize)?;
     for number in 0..count {
-        keys.push((key_of(symbols.value(number)), number as u32))?;
+        let value = symbols.value(number);
+        keys.push((key_of(value), number as u32))?;
+        lengths.push(short_length(value))?;
     }
-    Ok(keys)
+    Ok((keys, lengths))
 }
 
 // The value under a number, and `blank` if there is none.
@@ -184,18 +177,20 @@ fn compare_ties(symbols: &Symbols, seconds: &[u64], blank: &Value, a: u32, b: u3
 fn numbers_in_order(
     alloc: Global,
     symbols: &Symbols,
+    keys: Vec<(u64, u32)>,
     lengths: &[u8],
 ) -> Result<Vec<(u64, u32)>, AllocError>
+    requires keyed { ValuesAreKeyed symbols.now keys.items (length symbols.now) }
+    requires apart { AreApart symbols.now }
     ensures sorted { IfOk result (λ keys. AreSorted symbols.now (places_of keys.items)) }
     ensures keyed { IfOk result (λ keys. NumbersAreKeyed symbols.now keys.items) }
-    ensures few { length symbols.now < 2 ^ 32 }
 {
     let blank = Value::Null(NullId {
         rule: 0,
         var: 0,
         row: 0,
     });
-    let mut keys = keyed_numbers(alloc, symbols)?;
+    let mut keys = keys;
     let seconds = seconds_if_long(alloc, symbols, lengths)?;
     keys.sort_unstable_by(|a, b| match a.0.cmp(&b.0) {
         Ordering::Equal => compare_ties(symbols, &seconds, &blank, a.1, b.1),
@@ -392,8 +387,8 @@ fn values_in_order(
 pub(crate) fn in_order(alloc: Global, symbols: &Symbols) -> Result<Ordered, AllocError>
     ensures { IfOk result (λ o. IsOrdering symbols.now o.symbols o.ranks.items) }
 {
-    let lengths = lengths_of(alloc, symbols)?;
-    let keys = numbers_in_order(alloc, symbols, &lengths)?;
+    let (unsorted, lengths) = keyed_numbers(alloc, symbols)?;
+    let keys = numbers_in_order(alloc, symbols, unsorted, &lengths)?;
     let ranks = ranks_of(alloc, &keys)?;
     let values = values_in_order(alloc, symbols, &keys, &lengths)?;
     let hints = hints_of(alloc, &keys, &values)?;
