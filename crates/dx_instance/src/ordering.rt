@@ -1,5 +1,5 @@
 // Values put in order, their texts in one buffer.
-ghost use Rattle.std.specs.Prelude.{◌≡◌, ◌≤◌, ◌-◌, ◌<◌, ◌^◌, ℕ, IfOk, IsUtf8, OnOk, length, map, slice_index, slice_index_or, string_bytes, take, drop, ◌++◌};
+ghost use Rattle.std.specs.Prelude.{◌≡◌, ◌≤◌, ◌-◌, ◌<◌, ◌^◌, ℕ, IfOk, IfSome, IsUtf8, OnOk, length, map, slice_index, slice_index_or, string_bytes, take, drop, ◌++◌};
 ghost use Rattle.std.specs.Int.{to_be_bytes, w64};
 ghost use Rattle.dx_model.specs.declared.values.Value.TheVariants.{Const};
 ghost use Rattle.dx_ports.specs.Members.{Each};
@@ -259,38 +259,41 @@ fn room_for(lengths: &[u8]) -> usize {
     room
 }
 
-// The texts of the values under these numbers, one after the other, and where each ends.
+// The texts of the values under these numbers, one after the other, and where each ends. None if they have 2^32 bytes or
+// more.
 fn texts_in_order(
     alloc: Global,
     symbols: &Symbols,
     keys: &[(u64, u32)],
     lengths: &[u8],
-) -> Result<(String, Vec<usize>), AllocError>
+) -> Result<Option<(String, Vec<u32>)>, AllocError>
     requires below { Each (places_of keys.now) (λ n. n < length symbols.now) }
     requires keyed { NumbersAreKeyed symbols.now keys.now }
     requires lengths { AreLengths symbols.now lengths.now (length symbols.now) }
-    ensures texts { IfOk result (λ t. string_bytes t.0 ≡ joined_texts (map (value_of symbols.now) (places_of keys.now))) }
-    ensures ends { IfOk result (λ t. AreEnds symbols.now keys.now t.1.items (length keys.now)) }
+    ensures texts { IfOk result (λ o. IfSome o (λ t. string_bytes t.0 ≡ joined_texts (map (value_of symbols.now) (places_of keys.now)))) }
+    ensures ends { IfOk result (λ o. IfSome o (λ t. AreEnds symbols.now keys.now t.1.items (length keys.now))) }
 {
     let mut buffer = String::with_capacity(alloc, room_for(lengths))?;
     let mut ends = Vec::with_capacity(alloc, keys.len())?;
     for key in keys {
         let size = lengths[key.1 as usize];
         push_text(&mut buffer, symbols, key.1, key.0, size)?;
-        ends.push(buffer.len())?;
+        let Ok(end) = u32::try_from(buffer.len()) else {
+            return Ok(None);
+        };
+        ends.push(end)?;
     }
-    Ok((buffer, ends))
+    Ok(Some((buffer, ends)))
 }
 
 // The constant whose text lies in the buffer.
-fn constant_in(buffer: &Rc<String>, start: usize, end: usize) -> Result<Value, AllocError>
-    requires few { length (string_bytes buffer.now.value) < 2 ^ 32 }
+fn constant_in(buffer: &Rc<String>, start: u32, end: u32) -> Result<Value, AllocError>
     requires order { start ≤ end }
     requires within { end ≤ length (string_bytes buffer.now.value) }
     requires utf8 { IsUtf8 (take (end - start) (drop start (string_bytes buffer.now.value))) }
     ensures { IfOk result (λ v. v ≡ Const (take (end - start) (drop start (string_bytes buffer.now.value)))) }
 {
-    let text = Text::part(buffer, start as u32, end as u32)?;
+    let text = Text::part(buffer, start, end)?;
     Ok(Value::Const(text))
 }
 
@@ -299,11 +302,10 @@ fn value_in(
     symbols: &Symbols,
     number: u32,
     buffer: &Rc<String>,
-    start: usize,
-    end: usize,
+    start: u32,
+    end: u32,
 ) -> Result<Value, AllocError>
     requires below { number < length symbols.now }
-    requires few { length (string_bytes buffer.now.value) < 2 ^ 32 }
     requires lies { LiesIn (string_bytes buffer.now.value) start end (text_of (value_of symbols.now number)) }
     ensures { IfOk result (λ v. v ≡ value_of symbols.now number) }
 {
@@ -322,16 +324,15 @@ fn values_in(
     symbols: &Symbols,
     keys: &[(u64, u32)],
     buffer: &Rc<String>,
-    ends: &[usize],
+    ends: &[u32],
 ) -> Result<Vec<Value>, AllocError>
     requires below { Each (places_of keys.now) (λ n. n < length symbols.now) }
-    requires few { length (string_bytes buffer.now.value) < 2 ^ 32 }
     requires texts { string_bytes buffer.now.value ≡ joined_texts (map (value_of symbols.now) (places_of keys.now)) }
     requires ends { AreEnds symbols.now keys.now ends.now (length keys.now) }
     ensures { IfOk result (λ values. values.items ≡ map (value_of symbols.now) (places_of keys.now)) }
 {
     let mut values = Vec::with_capacity(alloc, keys.len())?;
-    let mut start = 0usize;
+    let mut start = 0u32;
     for i in 0..keys.len() {
         let end = ends[i];
         values.push(value_in(symbols, keys[i].1, buffer, start, end)?)?;
@@ -369,10 +370,9 @@ fn values_in_order(
     requires lengths { AreLengths symbols.now lengths.now (length symbols.now) }
     ensures { IfOk result (λ values. values.items ≡ map (value_of symbols.now) (places_of keys.now)) }
 {
-    let (texts, ends) = texts_in_order(alloc, symbols, keys, lengths)?;
-    if texts.len() >= 4_294_967_296 {
+    let Some((texts, ends)) = texts_in_order(alloc, symbols, keys, lengths)? else {
         return copies_in_order(alloc, symbols, keys);
-    }
+    };
     let Ok(buffer) = Rc::new(alloc, texts) else {
         return Err(AllocError);
     };
