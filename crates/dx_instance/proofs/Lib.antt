@@ -23,3 +23,4 @@ pub mod TieFacts
 pub mod NoTexts
 pub mod ShortFacts
 pub mod LayerFacts
+pub mod RowKeyFacts

@@ -1,5 +1,5 @@
 -- Numbers that compare as the first items of a list: lists are sorted by these first.
-use Rattle.std.specs.Prelude.{◌≡◌, ℕ, zero, suc, ◌+◌, ◌-◌, ◌*◌, ◌^◌, ◌<◌, ◌≤◌, ◌⊎◌, List, [], ◌∷◌, drop, length, map, slice_index, slice_index_or}
+use Rattle.std.specs.Prelude.{◌≡◌, ℕ, zero, suc, ◌+◌, ◌-◌, ◌*◌, ◌/◌, ◌%◌, ◌^◌, ◌<◌, ◌≤◌, ◌⊎◌, List, [], ◌∷◌, drop, length, map, slice_index, slice_index_or}
 use Rattle.std.specs.Ordering.{nat_cmp, ordering_then}
 use Rattle.std.specs.declared.cmp.Ordering.{Ordering}
 use Rattle.dx_model.specs.declared.values.Value.{Value}
@@ -27,6 +27,17 @@ places_of keys = map (λ (k : ℕ × ℕ). k.1) keys
 pub record HasRoom (b n : ℕ) : Type 0 where
   pub some : 0 < b
   pub fits : b ^ n ≤ 2 ^ 64
+
+-- n numbers of so many bits each have room in 64 bits
+pub record HasBits (bits n : ℕ) : Type 0 where
+  pub some : 0 < bits
+  pub short : bits ≤ 32
+  pub fits : bits * n ≤ 64
+
+-- the n numbers of so many bits each that make a number
+abbrev pub unpacked : ℕ → ℕ → ℕ → List ℕ
+unpacked bits zero key = []
+unpacked bits (suc n) key = key / 2 ^ (bits * n) % 2 ^ bits ∷ unpacked bits n key
 
 -- the first eight bytes of a constant in one; nulls come last
 abbrev pub value_key : Value → ℕ

@@ -1,14 +1,14 @@
 // Rows of numbers, one after the other.
-ghost use Rattle.std.specs.Prelude.{◌≡◌, ◌<◌, ◌≤◌, ◌-◌, ◌*◌, ◌^◌, ℕ, List, [], ◌∷◌, ◌++◌, IfOk, OnOk, OnErr, IsTrue, ◌↔◌, length, slice_index};
+ghost use Rattle.std.specs.Prelude.{◌≡◌, ◌<◌, ◌≤◌, ◌-◌, ◌*◌, ◌^◌, ℕ, List, [], ◌∷◌, ◌++◌, IfOk, OnOk, OnErr, IsTrue, ◌↔◌, length, map, slice_index};
 ghost use Rattle.std.specs.Bool.{OnTrue};
 ghost use Rattle.dx_ports.specs.Members.{Each};
 ghost use Rattle.dx_instance.specs.Chains.{AreChains};
 ghost use Rattle.dx_instance.specs.Cells.{AreInOrder, IsOrderOf, NumbersAscend, numbers_at, rows_in, with_numbers};
-ghost use Rattle.dx_instance.specs.Keys.{HasRoom, RowsAreKeyed, places_of};
+ghost use Rattle.dx_instance.specs.Keys.{HasBits, HasRoom, RowsAreKeyed, packed, places_of, unpacked};
 ghost use Rattle.dx_instance.specs.Shown.{AreBelow, renumbered};
 
 use crate::chains::Chains;
-use crate::packing::Packing;
+use crate::packing::{Packing, RowPacking};
 use std::alloc::{AllocError, Global};
 use std::cmp::{Ordering, max};
 use std::marker::Model;
@@ -184,8 +184,8 @@ impl Rows {
         count > 0 && self.row(count - 1) == row
     }
 
-    /// The same rows in order, each once.
-    pub fn in_order(&self, alloc: Global) -> Result<Rows, AllocError>
+    // The same rows in order, each once, by their places.
+    fn in_order_by_places(&self, alloc: Global) -> Result<Rows, AllocError>
         ensures { IfOk result (λ r. IsOrderOf self.now r) }
     {
         let places = self.places_in_order(alloc)?;
@@ -197,6 +197,66 @@ impl Rows {
             }
         }
         Ok(rows)
+    }
+
+    // Each row as one number.
+    fn packed_rows(&self, alloc: Global, packing: RowPacking) -> Result<Vec<u64>, AllocError>
+        requires room { HasBits packing.bits packing.width }
+        requires below { Each self.now.rows (AreBelow (2 ^ packing.bits)) }
+        ensures keys { IfOk result (λ keys. keys.items ≡ map (packed (2 ^ packing.bits) packing.width 0) self.now.rows) }
+        ensures few { IfOk result (λ keys. length keys.items < 2 ^ 32) }
+
+        // What holds of all rows.
+        ensures wide { IfOk result (λ keys. Each self.now.rows (λ r. length r ≡ self.now.width)) }
+    {
+        let mut keys = Vec::with_capacity(alloc, self.count as usize)?;
+        for place in 0..self.count {
+            keys.push(packing.key_of(self.row(place)))?;
+        }
+        Ok(keys)
+    }
+
+    // The rows that these numbers are.
+    fn unpacked_rows(
+        &self,
+        alloc: Global,
+        packing: RowPacking,
+        keys: &[u64],
+    ) -> Result<Rows, AllocError>
+        requires room { HasBits packing.bits packing.width }
+        requires few { length keys.now < 2 ^ 32 }
+        requires width { packing.width ≡ self.now.width }
+        ensures { IfOk result (λ r. r ≡ record { width = self.now.width; rows = map (unpacked packing.bits packing.width) keys.now }) }
+    {
+        let mut cells = Vec::with_capacity(alloc, self.cells.len())?;
+        for key in keys {
+            packing.push_row(&mut cells, *key)?;
+        }
+        Ok(Rows::of_cells(self.width, keys.len() as u32, cells))
+    }
+
+    // The same rows in order, each once. Each row is one number while they are sorted, so that no row is looked up by its place.
+    fn in_order_by_keys(&self, alloc: Global, packing: RowPacking) -> Result<Rows, AllocError>
+        requires room { HasBits packing.bits packing.width }
+        requires width { packing.width ≡ self.now.width }
+        requires below { Each self.now.rows (AreBelow (2 ^ packing.bits)) }
+        ensures { IfOk result (λ r. IsOrderOf self.now r) }
+    {
+        let mut keys = self.packed_rows(alloc, packing)?;
+        keys.sort_unstable();
+        keys.dedup();
+        self.unpacked_rows(alloc, packing, &keys)
+    }
+
+    /// The same rows in order, each once.
+    #[tactic(auto, using(crate::proofs::RowKeyFacts::each_below))]
+    pub fn in_order(&self, alloc: Global) -> Result<Rows, AllocError>
+        ensures { IfOk result (λ r. IsOrderOf self.now r) }
+    {
+        match RowPacking::below(self.bound(), self.width) {
+            Some(packing) => self.in_order_by_keys(alloc, packing),
+            None => self.in_order_by_places(alloc),
+        }
     }
 
     // Whether each row is below the next.

@@ -1,5 +1,5 @@
 // Values put in order, their texts in one buffer.
-ghost use Rattle.std.specs.Prelude.{◌≡◌, ◌≤◌, ◌-◌, ◌<◌, ◌^◌, ℕ, IfOk, IsUtf8, OnOk, length, map, slice_index, slice_index_or, string_bytes, take, drop, ◌++◌};
+ghost use Rattle.std.specs.Prelude.{◌≡◌, ◌≤◌, ◌-◌, ◌<◌, ◌^◌, ℕ, IfOk, IfSome, IsUtf8, OnOk, length, map, slice_index, slice_index_or, string_bytes, take, drop, ◌++◌};
 ghost use Rattle.std.specs.Int.{to_be_bytes, w64};
 ghost use Rattle.dx_model.specs.declared.values.Value.TheVariants.{Const};
 ghost use Rattle.dx_ports.specs.Members.{Each};
@@ -121,30 +121,23 @@ fn short_length(value: &Value) -> u8
     }
 }
 
-// The lengths of the texts of all numbers, as far as they are short.
-fn lengths_of(alloc: Global, symbols: &Symbols) -> Result<Vec<u8>, AllocError>
-    ensures { IfOk result (λ lengths. AreLengths symbols.now lengths.items (length symbols.now)) }
-{
-    let count = symbols.len();
-    let mut lengths = Vec::with_capacity(alloc, count as usize)?;
-    for number in 0..count {
-        lengths.push(short_length(symbols.value(number)))?;
-    }
-    Ok(lengths)
-}
-
-// Each number, with a key that compares as the first bytes of its value.
-fn keyed_numbers(alloc: Global, symbols: &Symbols) -> Result<Vec<(u64, u32)>, AllocError>
-    ensures keyed { IfOk result (λ keys. ValuesAreKeyed symbols.now keys.items (length symbols.now)) }
+// Each number, with a key that compares as the first bytes of its value, and the lengths of all texts, as far as they are
+// short. Both are read in one walk, since the texts may lie far apart.
+fn keyed_numbers(alloc: Global, symbols: &Symbols) -> Result<(Vec<(u64, u32)>, Vec<u8>), AllocError>
+    ensures keyed { IfOk result (λ r. ValuesAreKeyed symbols.now r.0.items (length symbols.now)) }
+    ensures lengths { IfOk result (λ r. AreLengths symbols.now r.1.items (length symbols.now)) }
     ensures apart { AreApart symbols.now }
     ensures few { length symbols.now < 2 ^ 32 }
 {
     let count = symbols.len();
     let mut keys = Vec::with_capacity(alloc, count as usize)?;
+    let mut lengths = Vec::with_capacity(alloc, count as usize)?;
     for number in 0..count {
-        keys.push((key_of(symbols.value(number)), number as u32))?;
+        let value = symbols.value(number);
+        keys.push((key_of(value), number as u32))?;
+        lengths.push(short_length(value))?;
     }
-    Ok(keys)
+    Ok((keys, lengths))
 }
 
 // The value under a number, and `blank` if there is none.
@@ -184,18 +177,20 @@ fn compare_ties(symbols: &Symbols, seconds: &[u64], blank: &Value, a: u32, b: u3
 fn numbers_in_order(
     alloc: Global,
     symbols: &Symbols,
+    keys: Vec<(u64, u32)>,
     lengths: &[u8],
 ) -> Result<Vec<(u64, u32)>, AllocError>
+    requires keyed { ValuesAreKeyed symbols.now keys.items (length symbols.now) }
+    requires apart { AreApart symbols.now }
     ensures sorted { IfOk result (λ keys. AreSorted symbols.now (places_of keys.items)) }
     ensures keyed { IfOk result (λ keys. NumbersAreKeyed symbols.now keys.items) }
-    ensures few { length symbols.now < 2 ^ 32 }
 {
     let blank = Value::Null(NullId {
         rule: 0,
         var: 0,
         row: 0,
     });
-    let mut keys = keyed_numbers(alloc, symbols)?;
+    let mut keys = keys;
     let seconds = seconds_if_long(alloc, symbols, lengths)?;
     keys.sort_unstable_by(|a, b| match a.0.cmp(&b.0) {
         Ordering::Equal => compare_ties(symbols, &seconds, &blank, a.1, b.1),
@@ -264,38 +259,41 @@ fn room_for(lengths: &[u8]) -> usize {
     room
 }
 
-// The texts of the values under these numbers, one after the other, and where each ends.
+// The texts of the values under these numbers, one after the other, and where each ends. None if they have 2^32 bytes or
+// more.
 fn texts_in_order(
     alloc: Global,
     symbols: &Symbols,
     keys: &[(u64, u32)],
     lengths: &[u8],
-) -> Result<(String, Vec<usize>), AllocError>
+) -> Result<Option<(String, Vec<u32>)>, AllocError>
     requires below { Each (places_of keys.now) (λ n. n < length symbols.now) }
     requires keyed { NumbersAreKeyed symbols.now keys.now }
     requires lengths { AreLengths symbols.now lengths.now (length symbols.now) }
-    ensures texts { IfOk result (λ t. string_bytes t.0 ≡ joined_texts (map (value_of symbols.now) (places_of keys.now))) }
-    ensures ends { IfOk result (λ t. AreEnds symbols.now keys.now t.1.items (length keys.now)) }
+    ensures texts { IfOk result (λ o. IfSome o (λ t. string_bytes t.0 ≡ joined_texts (map (value_of symbols.now) (places_of keys.now)))) }
+    ensures ends { IfOk result (λ o. IfSome o (λ t. AreEnds symbols.now keys.now t.1.items (length keys.now))) }
 {
     let mut buffer = String::with_capacity(alloc, room_for(lengths))?;
     let mut ends = Vec::with_capacity(alloc, keys.len())?;
     for key in keys {
         let size = lengths[key.1 as usize];
         push_text(&mut buffer, symbols, key.1, key.0, size)?;
-        ends.push(buffer.len())?;
+        let Ok(end) = u32::try_from(buffer.len()) else {
+            return Ok(None);
+        };
+        ends.push(end)?;
     }
-    Ok((buffer, ends))
+    Ok(Some((buffer, ends)))
 }
 
 // The constant whose text lies in the buffer.
-fn constant_in(buffer: &Rc<String>, start: usize, end: usize) -> Result<Value, AllocError>
-    requires few { length (string_bytes buffer.now.value) < 2 ^ 32 }
+fn constant_in(buffer: &Rc<String>, start: u32, end: u32) -> Result<Value, AllocError>
     requires order { start ≤ end }
     requires within { end ≤ length (string_bytes buffer.now.value) }
     requires utf8 { IsUtf8 (take (end - start) (drop start (string_bytes buffer.now.value))) }
     ensures { IfOk result (λ v. v ≡ Const (take (end - start) (drop start (string_bytes buffer.now.value)))) }
 {
-    let text = Text::part(buffer, start as u32, end as u32)?;
+    let text = Text::part(buffer, start, end)?;
     Ok(Value::Const(text))
 }
 
@@ -304,11 +302,10 @@ fn value_in(
     symbols: &Symbols,
     number: u32,
     buffer: &Rc<String>,
-    start: usize,
-    end: usize,
+    start: u32,
+    end: u32,
 ) -> Result<Value, AllocError>
     requires below { number < length symbols.now }
-    requires few { length (string_bytes buffer.now.value) < 2 ^ 32 }
     requires lies { LiesIn (string_bytes buffer.now.value) start end (text_of (value_of symbols.now number)) }
     ensures { IfOk result (λ v. v ≡ value_of symbols.now number) }
 {
@@ -327,16 +324,15 @@ fn values_in(
     symbols: &Symbols,
     keys: &[(u64, u32)],
     buffer: &Rc<String>,
-    ends: &[usize],
+    ends: &[u32],
 ) -> Result<Vec<Value>, AllocError>
     requires below { Each (places_of keys.now) (λ n. n < length symbols.now) }
-    requires few { length (string_bytes buffer.now.value) < 2 ^ 32 }
     requires texts { string_bytes buffer.now.value ≡ joined_texts (map (value_of symbols.now) (places_of keys.now)) }
     requires ends { AreEnds symbols.now keys.now ends.now (length keys.now) }
     ensures { IfOk result (λ values. values.items ≡ map (value_of symbols.now) (places_of keys.now)) }
 {
     let mut values = Vec::with_capacity(alloc, keys.len())?;
-    let mut start = 0usize;
+    let mut start = 0u32;
     for i in 0..keys.len() {
         let end = ends[i];
         values.push(value_in(symbols, keys[i].1, buffer, start, end)?)?;
@@ -374,10 +370,9 @@ fn values_in_order(
     requires lengths { AreLengths symbols.now lengths.now (length symbols.now) }
     ensures { IfOk result (λ values. values.items ≡ map (value_of symbols.now) (places_of keys.now)) }
 {
-    let (texts, ends) = texts_in_order(alloc, symbols, keys, lengths)?;
-    if texts.len() >= 4_294_967_296 {
+    let Some((texts, ends)) = texts_in_order(alloc, symbols, keys, lengths)? else {
         return copies_in_order(alloc, symbols, keys);
-    }
+    };
     let Ok(buffer) = Rc::new(alloc, texts) else {
         return Err(AllocError);
     };
@@ -392,8 +387,8 @@ fn values_in_order(
 pub(crate) fn in_order(alloc: Global, symbols: &Symbols) -> Result<Ordered, AllocError>
     ensures { IfOk result (λ o. IsOrdering symbols.now o.symbols o.ranks.items) }
 {
-    let lengths = lengths_of(alloc, symbols)?;
-    let keys = numbers_in_order(alloc, symbols, &lengths)?;
+    let (unsorted, lengths) = keyed_numbers(alloc, symbols)?;
+    let keys = numbers_in_order(alloc, symbols, unsorted, &lengths)?;
     let ranks = ranks_of(alloc, &keys)?;
     let values = values_in_order(alloc, symbols, &keys, &lengths)?;
     let hints = hints_of(alloc, &keys, &values)?;

@@ -1,7 +1,9 @@
 // The first numbers of a row as one number.
-ghost use Rattle.std.specs.Prelude.{◌≡◌, ◌<◌, ◌≤◌, ◌^◌, slice_index};
-ghost use Rattle.dx_instance.specs.Keys.{AreSmall, HasRoom, packed};
+ghost use Rattle.std.specs.Prelude.{◌≡◌, ◌<◌, ◌≤◌, ◌^◌, ◌++◌, IfSome, OnOk, slice_index};
+ghost use Rattle.dx_instance.specs.Keys.{AreSmall, HasBits, HasRoom, packed, unpacked};
 ghost use Rattle.dx_instance.specs.Shown.{AreBelow};
+
+use std::alloc::AllocError;
 
 /// How the first numbers of a row make one number, by which rows are sorted first: as so many digits to this base.
 #[derive(Clone, Copy)]
@@ -39,6 +41,57 @@ impl Packing {
             key = key * self.base + number_or_zero(row, i) as u64;
         }
         key
+    }
+}
+
+/// How all numbers of a row make one number, from which the row can be read again: each takes so many bits.
+#[derive(Clone, Copy)]
+pub(crate) struct RowPacking {
+    bits: u32,
+    width: u32,
+}
+
+impl RowPacking {
+    /// For rows of so many numbers below the bound. None if 64 bits have no room for them.
+    pub(crate) fn below(bound: u64, width: u32) -> Option<RowPacking>
+        ensures width { IfSome result (λ p. p.width ≡ width) }
+        ensures wide { IfSome result (λ p. bound ≤ 2 ^ p.bits) }
+        ensures room { IfSome result (λ p. HasBits p.bits p.width) }
+    {
+        if width == 0 || width > 64 {
+            return None;
+        }
+        let bits = if width == 1 { 32 } else { 64 / width };
+        if bound > 1u64 << bits {
+            return None;
+        }
+        Some(RowPacking { bits, width })
+    }
+
+    /// The row as one number. It compares as the row.
+    pub(crate) fn key_of(self, row: &[u32]) -> u64
+        requires room { HasBits self.bits self.width }
+        requires below { AreBelow (2 ^ self.bits) row.now }
+        ensures { result ≡ packed (2 ^ self.bits) self.width 0 row.now }
+    {
+        let packing = Packing {
+            base: 1u64 << self.bits,
+            digits: self.width as usize,
+        };
+        packing.key_of(row)
+    }
+
+    /// Puts the numbers of the row that has this key at the end of some cells.
+    pub(crate) fn push_row(self, cells: &mut Vec<u32>, key: u64) -> Result<(), AllocError>
+        requires { HasBits self.bits self.width }
+        ensures { OnOk result (cells.new.items ≡ cells.old.items ++ unpacked self.bits self.width key) }
+    {
+        let mask = (1u64 << self.bits) - 1;
+        for i in 0..self.width {
+            let shift = self.bits * (self.width - 1 - i);
+            cells.push(((key >> shift) & mask) as u32)?;
+        }
+        Ok(())
     }
 }
 

@@ -9,7 +9,7 @@ use Rattle.dx_instance.proofs.ordering.in_order.Goals as goal
 pub ranks_of-requires-clause-few : goal.ranks_of-requires-clause-few
 ranks_of-requires-clause-few c =
     let s = c.in_ok-keys.ensures.sorted in
-    omega (arith, s.many, c.numbers_in_order.ensures.few, ap length c.deref-2.ensures.value, length-map c.in_ok-keys.keys.items (λ (k : ℕ × ℕ). k.1))
+    omega (arith, s.many, c.keyed_numbers.ensures.few, ap length c.deref-2.ensures.value, length-map c.in_ok-keys.keys.items (λ (k : ℕ × ℕ). k.1))
 
 pub ranks_of-requires-clause-within : goal.ranks_of-requires-clause-within
 ranks_of-requires-clause-within c =
@@ -31,7 +31,7 @@ pub from_ordered-requires : goal.from_ordered-requires
 from_ordered-requires c =
     let s = c.in_ok-keys.ensures.sorted in
     let all = rw c.deref-3.ensures.value at c.in_ok-values.ensures in
-    omega (arith, ap length c.in_ok-ordered.ensures, ap length all, length-map (places_of c.in_ok-keys.keys.items) (value_of c.args.symbols.now), s.many, c.numbers_in_order.ensures.few)
+    omega (arith, ap length c.in_ok-ordered.ensures, ap length all, length-map (places_of c.in_ok-keys.keys.items) (value_of c.args.symbols.now), s.many, c.keyed_numbers.ensures.few)
 
 pub returns : goal.returns
 returns c =

@@ -13,8 +13,8 @@ returns-clause-sorted c =
     let S = c.args.symbols.now in
     let blank : Value = Null (record { rule = 0; var = 0; row = 0 }) in
     let seconds = c.in_ok-seconds.seconds.items in
-    sorted_numbers S seconds blank c.in_ok-keys.keys.items c.sort_unstable_by.new.self.items c.keyed_numbers.ensures.apart c.in_ok-keys.ensures.keyed c.in_ok-seconds.ensures c.sort_unstable_by.ensures.permutation
+    sorted_numbers S seconds blank c.args.keys.items c.sort_unstable_by.new.self.items c.requires.apart c.requires.keyed c.in_ok-seconds.ensures c.sort_unstable_by.ensures.permutation
     (c.sort_unstable_by.ensures.sorted (number_ties_lt S seconds blank) (ranks_by (number_ties_total S seconds blank) (λ k. k)) (always_returns_same _ (λ a r. is_lt r ≡ number_ties_lt S seconds blank a.0.now a.1.0.now) _ (λ a r f k. search rules)))
 
 pub returns-clause-keyed : goal.returns-clause-keyed
-returns-clause-keyed c = keys_moved c.args.symbols.now c.in_ok-keys.keys.items c.sort_unstable_by.new.self.items c.in_ok-keys.ensures.keyed c.sort_unstable_by.ensures.permutation
+returns-clause-keyed c = keys_moved c.args.symbols.now c.args.keys.items c.sort_unstable_by.new.self.items c.requires.keyed c.sort_unstable_by.ensures.permutation

@@ -31,7 +31,7 @@ loop-key-preserved c =
     let utf8 = (c.requires.lengths.all (key_at keys i).1 (key_below _ keys i c.requires.below c.loop-key-test.true)).utf8 in
     record {
       texts = texts;
-      ends = ends_more S keys c.loop-key.ends.items c.push.new.self.items i c.len.result c.in_ok-push.ensures.items (c.len.ensures ∙ c.push_text.new.buffer.bytes.ok.0 ∙ ap length texts) utf8 c.loop-key.invariant.ends;
+      ends = ends_more S keys c.loop-key.ends.items c.push.new.self.items i c.in-Ok.end c.in_ok-push.ensures.items (c.in-Ok.ensures.1 ∙ c.len.ensures ∙ c.push_text.new.buffer.bytes.ok.0 ∙ ap length texts) utf8 c.loop-key.invariant.ends;
       bound = omega (arith, c.loop-key-test.true);
     }
 

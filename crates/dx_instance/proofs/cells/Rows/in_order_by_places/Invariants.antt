@@ -1,7 +1,7 @@
 use Rattle.std.proofs.Common.{◌≡◌}
 use Rattle.dx_instance.specs.Keys.{places_of}
 use Rattle.dx_instance.proofs.OrderFacts.{Gathered}
-use Rattle.dx_instance.proofs.cells.Rows.in_order.Given as goal
+use Rattle.dx_instance.proofs.cells.Rows.in_order_by_places.Given as goal
 
 abbrev pub invariant-loop-i : goal.invariant-loop-i
 invariant-loop-i l = record {

@@ -6,8 +6,8 @@ use Rattle.dx_instance.specs.Keys.{places_of}
 use Rattle.dx_instance.proofs.CellFacts.{length_rows}
 use Rattle.dx_instance.proofs.KeyFacts.{place_read}
 use Rattle.dx_instance.proofs.OrderFacts.{gathered_same, gathered_more, gathered_all}
-use Rattle.dx_instance.proofs.cells.Rows.in_order.Goals as goal
-use Rattle.dx_instance.proofs.cells.Rows.in_order.Goals.{then-not-ends_with+in_ok-push, else-not-ends_with}
+use Rattle.dx_instance.proofs.cells.Rows.in_order_by_places.Goals as goal
+use Rattle.dx_instance.proofs.cells.Rows.in_order_by_places.Goals.{then-not-ends_with+in_ok-push, else-not-ends_with}
 
 pub index-requires : goal.index-requires
 index-requires c =
