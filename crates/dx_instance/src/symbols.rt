@@ -39,6 +39,7 @@ impl Model for Symbols {
 }
 
 // The number of a value among values in order. While a source is read there are none.
+#[inline]
 fn number_in(ordered: &[Value], value: &Value) -> Option<usize>
     requires { ValuesAscend ordered.now }
     ensures { IsNumberOf ordered.now value.now result }
