@@ -3,8 +3,7 @@ use Rattle.std.proofs.Common.{◌≡◌, ◌∙◌, ℕ, zero, suc, List, [], �
 use Rattle.std.specs.Prelude.{map}
 use Rattle.std.specs.FinMap as finite
 use Rattle.std.proofs.lemmas.List.{nil_from_length}
-use Rattle.dx_ports.specs.Members.{◌∈◌, ◌⊆◌, ◌≈◌, here, there, Each}
-use Rattle.dx_ports.proofs.Members.{from_map, in_map}
+use Rattle.dx_ports.specs.Members.{◌≈◌, here, there, Each}
 use Rattle.dx_model.specs.declared.values.NullId.{NullId}
 use Rattle.dx_model.specs.declared.values.Value.{Value}
 use Rattle.dx_model.specs.declared.values.Value.TheVariants.{Const, Null}
