@@ -1,10 +1,9 @@
 -- Without keys nothing is forced.
-use Rattle.std.proofs.Common.{◌≡◌, ◌∙◌, ℕ, zero, suc, ◌<◌, List, [], ◌∷◌, refl, sym, ap, subst, inl, inr, length, get_or, take}
-use Rattle.std.specs.Prelude.{◌+◌, map}
+use Rattle.std.proofs.Common.{◌≡◌, ◌∙◌, ℕ, zero, suc, List, [], ◌∷◌, refl, sym, ap, subst, length}
+use Rattle.std.specs.Prelude.{map}
 use Rattle.std.specs.FinMap as finite
-use Rattle.std.proofs.lemmas.List.{take_more, nil_from_length}
-use Rattle.dx_ports.specs.Members.{◌∈◌, ◌⊆◌, ◌≈◌, here, there, Each}
-use Rattle.dx_ports.proofs.Members.{from_append, from_map, in_map}
+use Rattle.std.proofs.lemmas.List.{nil_from_length}
+use Rattle.dx_ports.specs.Members.{◌≈◌, here, there, Each}
 use Rattle.dx_model.specs.declared.values.NullId.{NullId}
 use Rattle.dx_model.specs.declared.values.Value.{Value}
 use Rattle.dx_model.specs.declared.values.Value.TheVariants.{Const, Null}
@@ -66,12 +65,3 @@ no_determinations (t ∷ ts) h (suc n) = no_determinations ts (λ u m. h u (ther
 pub keyless_is_keyed : (f : Forest) (I : List TableRows) → widths I ≡ schema_widths f → Each I (λ (t : TableRows). Each t.rows (λ (row : List Value). length row ≡ t.width)) → Each (tables_of f) (λ t. t.keys ≡ [])
     → IsKeyed (model_tables f) (facts I)
 keyless_is_keyed f I w l none = record { fits = facts_fit (model_tables f) I (w ∙ widths_agree f) l; keys = no_keys_hold (model_tables f) (facts I) (λ g m. no_determinations (tables_of f) none g.table) }
-
--- ---- tests of tables, one by one
-
-pub each_at_more : {X : Type 0} (P : X → Type 0) (xs : List X) (i : ℕ) (d : X) → i < length xs → Each (take i xs) P → P (get_or xs i d) → Each (take (i + 1) xs) P
-each_at_more {X} P xs i d h e p y m = elim (from_append (take i xs) (rw (take_more xs i d h) at m)) [ inl l ↦ e y l | inr r ↦ last r ]
-  where
-    last : y ∈ (get_or xs i d ∷ []) → P y
-    last (here k) = subst P k p
-    last (there n) = elim n [ ]

@@ -7,9 +7,11 @@ use Rattle.dx_tokens.specs.declared.tokenizer.TokenKind.TheVariants.{Word}
 use Rattle.dx_tokens.specs.declared.scanner.Lexeme.{Lexeme}
 use Rattle.dx_tokens.specs.declared.scanner.Stop.{Stop}
 use Rattle.dx_tokens.specs.declared.faults.TextFault.{TextFault}
-use Rattle.dx_tokens.specs.declared.faults.TextFault.TheVariants.{At, TooDeep, Memory}
+use Rattle.dx_tokens.specs.declared.faults.TextFault.TheVariants.{At}
 use Rattle.dx_tokens.specs.declared.faults.TextKind.{TextKind}
-use Rattle.dx_tokens.specs.declared.faults.TextKind.TheVariants.{Character, Expected, Ended, UnknownName, Width, Unsafe}
+use Rattle.dx_tokens.specs.declared.faults.TextKind.TheVariants.{Character, Ended}
+use Rattle.dx_tokens.specs.Judged.{Reads}
+use Rattle.dx_tokens.proofs.Judged.{AreApart, one_fault_by, never_faulty, stop_is_fault, said_or_faulty, fault_answered, reads_ok, reads_err}
 use Rattle.dx_tokens.specs.Scan.{scan_of}
 use Rattle.dx_tokens.proofs.StopKinds.{stop_kind}
 use Rattle.dx_grammar.specs.Forms.{Derives, Starts, IsFirstFault}
@@ -22,7 +24,7 @@ use Rattle.dx_grammar.proofs.Faults.{same_ok, same_err, stands, unexpected_at, n
 use Rattle.dx_schema_text.specs.declared.texts.MappingText.{MappingText}
 use Rattle.dx_schema_text.specs.Reading.{begins_item, mapping_reader}
 use Rattle.dx_schema_text.specs.Spelling.{SpellsMapping}
-use Rattle.dx_schema_text.specs.Texts.{deepest, form, deeper_form, begun_in, judged_tokens, IsMappingText, IsUnexpected, StandsDeeper, IsStopped, IsTextFault, fault_in, stops_by, place_of, unexpected, stop_fault, told, told_of, read_text, Reads, IsToldFault}
+use Rattle.dx_schema_text.specs.Texts.{deepest, form, deeper_form, begun_in, judged_tokens, IsMappingText, IsUnexpected, StandsDeeper, StandsNowhere, StandsTooDeep, IsStopped, IsTextFault, fault_in, stops_by, place_of, unexpected, told, told_of, read_text, IsToldFault}
 use Rattle.dx_schema_text.proofs.Found.{mapping_finds}
 use Rattle.dx_schema_text.proofs.Again.{mapping_again}
 use Rattle.dx_schema_text.proofs.Telling.{mapping_tells, told_read}
@@ -42,9 +44,6 @@ mapping_read text m says =
     let all : judged_tokens text ≡ xs = none_begun (scan_of text).stop xs says.no_stop in
     let read : whole (mapping_reader deepest) xs ≡ Ok m = whole_again (mapping_reader deepest) (SpellsMapping deepest) (NotNext begins_item) (mapping_again deepest) refl m xs says.spelled in
     told_read (length text) (fault_in (scan_of text).stop) (judged_tokens text) m (ap fault_in says.no_stop) (ap (whole (mapping_reader deepest)) all ∙ read)
-
-abbrev refused : TextFault → Result MappingText TextFault
-refused f = Err f
 
 ok_told : (end : ℕ) (stop : Option (ℕ × TextKind)) (xs : List Lexeme) (r d : Result MappingText ℕ) (m : MappingText) → told end stop xs r d ≡ Ok m → (stop ≡ None) × (r ≡ Ok m)
 ok_told end stop xs (Err zero) d m e = absurd cc
@@ -97,23 +96,15 @@ fault_kind : (o : Option Stop) (p : ℕ × TextKind) → ((s : Stop) → o ≡ S
 fault_kind None p h e = absurd (none-some p e)
 fault_kind (Some s) p h e = subst (λ (q : ℕ × TextKind). (q.1 ≡ Character) ⊎ (q.1 ≡ Ended)) (same_Some (s.place, s.kind) p e) (h s refl)
 
-kind_fault : (text : List ℕ) (place : ℕ) (kind : TextKind) → (kind ≡ Character) ⊎ (kind ≡ Ended) → IsStopped text place kind → IsTextFault text (At place kind)
-kind_fault text place kind (inl e) s = subst (λ k. IsTextFault text (At place k)) (sym e) (subst (IsStopped text place) e s)
-kind_fault text place kind (inr e) s = subst (λ k. IsTextFault text (At place k)) (sym e) (subst (IsStopped text place) e s)
-
--- a token fault, where all tokens can stand
-stopped_fault : (text : List ℕ) (p : ℕ × TextKind) → Starts form (judged_tokens text) → fault_in (scan_of text).stop ≡ Some p → IsTextFault text (At p.0 p.1)
-stopped_fault text p s e = kind_fault text p.0 p.1 (fault_kind (scan_of text).stop p (stop_kind text) e) (record { all_stand = s; why = inl e })
-
-open_fault : (text : List ℕ) (stop : Option (ℕ × TextKind)) → fault_in (scan_of text).stop ≡ stop → Starts form (judged_tokens text) → ¬ (Derives form (judged_tokens text)) → IsTextFault text (stop_fault (length text) stop)
-open_fault text None e s n = record { all_stand = s; why = inr (e, refl, refl, n) }
-open_fault text (Some p) e s n = stopped_fault text p s e
-
 err_told : (text : List ℕ) (stop : Option (ℕ × TextKind)) (r d : Result MappingText ℕ) (e : TextFault) → fault_in (scan_of text).stop ≡ stop → Tells form (judged_tokens text) r → Tells deeper_form (judged_tokens text) d
     → told (length text) stop (judged_tokens text) r d ≡ Err e → IsTextFault text e
-err_told text stop (Err zero) d e is h k told = subst (IsTextFault text) (same_err _ e told) (open_fault text stop is h.0 h.1)
+err_told text stop (Err zero) d e is h k told = subst (IsTextFault text) (same_err _ e told) (stop_is_fault (StandsNowhere text) (StandsTooDeep text) (IsStopped text) (length text) stop
+    (λ p n. (fault_kind (scan_of text).stop p (stop_kind text) (is ∙ n), record { all_stand = h.0; why = inl (is ∙ n) }))
+    (λ n. record { all_stand = h.0; why = inr (is ∙ n, refl, refl, h.1) }))
 err_told text stop (Err (suc left)) d e is h k told = subst (IsTextFault text) (same_err _ e told) (unexpected_fault text left (stops_by (suc left) d) d refl h.0 h.1 k)
-err_told text (Some p) (Ok m) d e is h k told = subst (IsTextFault text) (same_err _ e told) (stopped_fault text p (whole_start form (judged_tokens text) h) is)
+err_told text (Some p) (Ok m) d e is h k told = subst (IsTextFault text) (same_err _ e told) (stop_is_fault (StandsNowhere text) (StandsTooDeep text) (IsStopped text) (length text) (Some p)
+    (λ q n. (fault_kind (scan_of text).stop q (stop_kind text) (is ∙ n), record { all_stand = whole_start form (judged_tokens text) h; why = inl (is ∙ n) }))
+    (λ n. absurd (none-some p (sym n))))
 err_told text None (Ok m) d e is h k told = absurd cc
 
 pub text_fault : (text : List ℕ) (e : TextFault) → read_text text ≡ Err e → IsTextFault text e
@@ -122,52 +113,28 @@ text_fault text e told = err_told text (fault_in (scan_of text).stop) (whole (ma
 
 -- ---- there is one fault, and none where a mapping is said
 
--- a fault at a token, or a stop after all tokens
-abbrev AtToken : List ℕ → TextFault → Type 0
-AtToken text e = (place : ℕ) × (u : IsUnexpected text place) × (((e ≡ At place Expected) × ¬ (StandsDeeper text u.number)) ⊎ ((e ≡ TooDeep place) × StandsDeeper text u.number))
+at_token : (text : List ℕ) (place : ℕ) → StandsNowhere text place ⊎ StandsTooDeep text place → IsUnexpected text place
+at_token text place (inl x) = x.0
+at_token text place (inr x) = x.0
 
-abbrev AtStop : List ℕ → TextFault → Type 0
-AtStop text e = (place : ℕ) × (kind : TextKind) × IsStopped text place kind × (e ≡ At place kind)
-
-seen : (text : List ℕ) (e : TextFault) → IsTextFault text e → AtToken text e ⊎ AtStop text e
-seen text (At place Character) h = inr (place, Character, h, refl)
-seen text (At place Expected) h = inl (place, h.0, inl (refl, h.1))
-seen text (At place Ended) h = inr (place, Ended, h, refl)
-seen text (At place UnknownName) h = absurd h
-seen text (At place Width) h = absurd h
-seen text (At place Unsafe) h = absurd h
-seen text (TooDeep place) h = inl (place, h.0, inr (refl, h.1))
-seen text Memory h = absurd h
-
-token_same : (text : List ℕ) (e f : TextFault) → AtToken text e → AtToken text f → e ≡ f
-token_same text e f (p, u, inl a) (q, v, inl b) = let o = one_unexpected u v in a.0 ∙ ap (λ k. At k Expected) o.1 ∙ sym b.0
-token_same text e f (p, u, inl a) (q, v, inr b) = let o = one_unexpected u v in absurd (a.1 (subst (StandsDeeper text) (sym o.0) b.1))
-token_same text e f (p, u, inr a) (q, v, inl b) = let o = one_unexpected u v in absurd (b.1 (subst (StandsDeeper text) o.0 a.1))
-token_same text e f (p, u, inr a) (q, v, inr b) = let o = one_unexpected u v in a.0 ∙ ap (λ k. TooDeep k) o.1 ∙ sym b.0
+are_apart : (text : List ℕ) → AreApart (StandsNowhere text) (StandsTooDeep text) (IsStopped text)
+are_apart text = record {
+  unexpected = λ p q x y. (one_unexpected x.0 y.0).1;
+  deeper = λ p q x y. (one_unexpected x.0 y.0).1;
+  stopped = λ p q k l x y. one_told (λ place kind. At place kind) x refl y refl;
+  not_both = λ p q x y. x.1 (subst (StandsDeeper text) (sym (one_unexpected x.0 y.0).0) y.1);
+  not_stopped = λ p q k x y. never_both (at_token text p x) y.all_stand;
+}
 
 pub one_fault : (text : List ℕ) (e f : TextFault) → IsTextFault text e → IsTextFault text f → e ≡ f
-one_fault text e f a b = both (seen text e a) (seen text f b) where
-  both : AtToken text e ⊎ AtStop text e → AtToken text f ⊎ AtStop text f → e ≡ f
-  both (inl x) (inl y) = token_same text e f x y
-  both (inl x) (inr y) = absurd (never_both x.1 y.2.all_stand)
-  both (inr x) (inl y) = absurd (never_both y.1 x.2.all_stand)
-  both (inr x) (inr y) = one_told (λ place kind. At place kind) x.2 x.3 y.2 y.3
+one_fault text e f a b = one_fault_by (StandsNowhere text) (StandsTooDeep text) (IsStopped text) (are_apart text) e f a b
 
 -- a text that says a mapping has no fault
 no_fault_said : (text : List ℕ) (m : MappingText) (e : TextFault) → read_text text ≡ Ok m → ¬ (IsTextFault text e)
-no_fault_said text m e r h = against (seen text e h) where
-  all : Derives form (judged_tokens text)
-  all = subst (Tells form (judged_tokens text)) (ok_read text m r).1 (mapping_tells deepest (judged_tokens text))
-
-  against : ¬ (AtToken text e ⊎ AtStop text e)
-  against (inl x) = never_both x.1 (whole_start form (judged_tokens text) all)
-  against (inr x) = never_stopped (ap fault_in (ok_read text m r).0) all x.2
-
-pub fault_read : (text : List ℕ) (e : TextFault) → IsTextFault text e → read_text text ≡ Err e
-fault_read text e h = answer (read_text text) refl where
-  answer : (r : Result MappingText TextFault) → read_text text ≡ r → read_text text ≡ Err e
-  answer (Ok m) is = absurd (no_fault_said text m e is h)
-  answer (Err f) is = is ∙ ap refused (one_fault text f e (text_fault text f is) h)
+no_fault_said text m e r h =
+    let all : Derives form (judged_tokens text) = subst (Tells form (judged_tokens text)) (ok_read text m r).1 (mapping_tells deepest (judged_tokens text)) in
+    never_faulty (StandsNowhere text) (StandsTooDeep text) (IsStopped text) (λ p x. never_both (at_token text p x) (whole_start form (judged_tokens text) all))
+    (λ p k x. never_stopped (ap fault_in (ok_read text m r).0) all x) e h
 
 -- ---- a text says one thing
 
@@ -178,25 +145,18 @@ pub never_said_and_faulty : (text : List ℕ) (m : MappingText) (e : TextFault) 
 never_said_and_faulty text m e says = no_fault_said text m e (mapping_read text m says)
 
 pub mapping_or_fault : (text : List ℕ) → ((m : MappingText) × IsMappingText text m) ⊎ ((e : TextFault) × IsTextFault text e)
-mapping_or_fault text = answer (read_text text) refl where
-  answer : (r : Result MappingText TextFault) → read_text text ≡ r → ((m : MappingText) × IsMappingText text m) ⊎ ((e : TextFault) × IsTextFault text e)
-  answer (Ok m) is = inl (m, text_mapping text m is)
-  answer (Err e) is = inr (e, text_fault text e is)
+mapping_or_fault text = said_or_faulty (IsMappingText text) (IsTextFault text) (read_text text) (text_mapping text) (text_fault text)
 
 -- ---- the clauses of the call
 
 pub reads_mapping : (text : List ℕ) (r : Result MappingText TextFault) → Reads r (read_text text) → IfOk r (IsMappingText text)
-reads_mapping text (Ok m) h = text_mapping text m h
-reads_mapping text (Err e) h = tt
+reads_mapping text r h = reads_ok (IsMappingText text) r (read_text text) h (text_mapping text)
 
 pub reads_mapping_only : (text : List ℕ) (r : Result MappingText TextFault) → Reads r (read_text text) → (m : MappingText) → IsMappingText text m → Reads r (Ok m)
 reads_mapping_only text r h m says = subst (Reads r) (mapping_read text m says) h
 
 pub reads_told : (text : List ℕ) (r : Result MappingText TextFault) → Reads r (read_text text) → IfErr r (IsToldFault text)
-reads_told text (Ok m) h = tt
-reads_told text (Err Memory) h = inl refl
-reads_told text (Err (At place kind)) h = inr (text_fault text (At place kind) h)
-reads_told text (Err (TooDeep place)) h = inr (text_fault text (TooDeep place) h)
+reads_told text r h = reads_err (IsTextFault text) r (read_text text) h (text_fault text)
 
 pub reads_fault_only : (text : List ℕ) (r : Result MappingText TextFault) → Reads r (read_text text) → (e : TextFault) → IsTextFault text e → Reads r (Err e)
-reads_fault_only text r h e fault = subst (Reads r) (fault_read text e fault) h
+reads_fault_only text r h e fault = subst (Reads r) (fault_answered (IsTextFault text) (read_text text) (one_fault text) (text_fault text) (λ m is f. no_fault_said text m f is) e fault) h

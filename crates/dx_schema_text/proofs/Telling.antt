@@ -3,8 +3,10 @@ use Rattle.std.proofs.Common.{◌≡◌, ◌⊎◌, ℕ, zero, suc, ◌<◌, ◌
 use Rattle.std.specs.Prelude.{codes}
 use Rattle.dx_tokens.specs.declared.scanner.Lexeme.{Lexeme}
 use Rattle.dx_tokens.specs.declared.faults.TextFault.{TextFault}
-use Rattle.dx_tokens.specs.declared.faults.TextFault.TheVariants.{At, TooDeep, Memory}
+use Rattle.dx_tokens.specs.declared.faults.TextFault.TheVariants.{At, Memory}
 use Rattle.dx_tokens.specs.declared.faults.TextKind.{TextKind}
+use Rattle.dx_tokens.specs.Judged.{stop_fault, Reads}
+use Rattle.dx_tokens.proofs.Judged.{reads_fault}
 use Rattle.dx_grammar.specs.Readers.{whole, Tells}
 use Rattle.dx_grammar.proofs.Told.{answers}
 use Rattle.dx_grammar.proofs.Combined.{stops_end}
@@ -12,7 +14,7 @@ use Rattle.dx_grammar.proofs.Verdicts.{Stops}
 use Rattle.dx_schema_text.specs.declared.texts.MappingText.{MappingText}
 use Rattle.dx_schema_text.specs.Grammar.{mapping}
 use Rattle.dx_schema_text.specs.Reading.{begins_item, mapping_reader}
-use Rattle.dx_schema_text.specs.Texts.{deepest, stop_fault, stops_by, unexpected, told_of, Reads}
+use Rattle.dx_schema_text.specs.Texts.{deepest, stops_by, unexpected, told_of}
 use Rattle.dx_schema_text.proofs.Follows.{mapping_reads}
 
 -- what the answer of the reader says of tokens
@@ -25,11 +27,6 @@ tells_err levels xs r e = subst (Tells (mapping (codes "1") levels) xs) e (mappi
 pub left_inside : (levels : ℕ) (xs : List Lexeme) (left : ℕ) → 0 < left → whole (mapping_reader levels) xs ≡ Err left → left ≤ length xs
 left_inside levels xs zero some e = absurd (omega arith)
 left_inside levels xs (suc left) some e = (tells_err levels xs (Err (suc left)) e).0
-
-pub reads_fault : (f : TextFault) (given : Result MappingText TextFault) → given ≡ Err f → Reads (Err f) given
-reads_fault Memory given e = tt
-reads_fault (At place kind) given e = e
-reads_fault (TooDeep place) given e = e
 
 pub told_read : (end : ℕ) (stop : Option (ℕ × TextKind)) (xs : List Lexeme) (m : MappingText) → stop ≡ None → whole (mapping_reader deepest) xs ≡ Ok m → told_of end stop xs ≡ Ok m
 unfolding told_of

@@ -3,10 +3,11 @@ use Rattle.std.specs.Prelude.{◌≡◌, ◌⊎◌, ℕ, zero, suc, ◌-◌, Lis
 use Rattle.dx_tokens.specs.declared.faults.TextFault.{TextFault}
 use Rattle.dx_tokens.specs.declared.faults.TextFault.TheVariants.{At, TooDeep, Memory}
 use Rattle.dx_tokens.specs.declared.faults.TextKind.{TextKind}
-use Rattle.dx_tokens.specs.declared.faults.TextKind.TheVariants.{Character, Expected, Ended}
+use Rattle.dx_tokens.specs.declared.faults.TextKind.TheVariants.{Expected, Ended}
 use Rattle.dx_tokens.specs.declared.tokenizer.TokenKind.TheVariants.{Word}
 use Rattle.dx_tokens.specs.declared.scanner.Lexeme.{Lexeme}
 use Rattle.dx_tokens.specs.declared.scanner.Stop.{Stop}
+use Rattle.dx_tokens.specs.Judged.{IsFaultBy, stop_fault, Reads}
 use Rattle.dx_tokens.specs.Scan.{scan_of}
 use Rattle.dx_grammar.specs.Forms.{Form, Starts}
 use Rattle.dx_grammar.specs.Faults.{IsUnexpectedAt, IsStoppedAt}
@@ -60,6 +61,14 @@ IsUnexpected text place = IsUnexpectedAt form (λ (x : Lexeme). x.place) (judged
 abbrev pub StandsDeeper : List ℕ → ℕ → Type 0
 StandsDeeper text number = Starts deeper_form (take (suc number) (judged_tokens text))
 
+-- The token at this place is the first that can't stand, and it couldn't one level deeper either.
+abbrev pub StandsNowhere : List ℕ → ℕ → Type 0
+StandsNowhere text place = (u : IsUnexpected text place) × ¬ (StandsDeeper text u.number)
+
+-- The token at this place is the first that can't stand, and it could one level deeper.
+abbrev pub StandsTooDeep : List ℕ → ℕ → Type 0
+StandsTooDeep text place = (u : IsUnexpected text place) × StandsDeeper text u.number
+
 -- So many sets are open after these tokens, which begin with the word `set` of the outermost: of each stand the head and whole
 -- clauses there, with as many levels of inner sets as it has room for.
 pub data OpenSets : ℕ → List Lexeme → Type 0 where
@@ -91,12 +100,7 @@ IsStopped text place kind = IsStoppedAt form (judged_tokens text) (fault_in (sca
 
 -- The first fault of a text.
 abbrev pub IsTextFault : List ℕ → TextFault → Type 0
-IsTextFault text (At place Expected) = (u : IsUnexpected text place) × ¬ (StandsDeeper text u.number)
-IsTextFault text (At place Character) = IsStopped text place Character
-IsTextFault text (At place Ended) = IsStopped text place Ended
-IsTextFault text (At place other) = ⊥
-IsTextFault text (TooDeep place) = (u : IsUnexpected text place) × StandsDeeper text u.number
-IsTextFault text Memory = ⊥
+IsTextFault text e = IsFaultBy (StandsNowhere text) (StandsTooDeep text) (IsStopped text) e
 
 -- ---- the answer, as it is computed: the tokens are read with 15 levels of inner sets, and where one can't stand, with 16
 
@@ -114,11 +118,6 @@ abbrev pub unexpected : List Lexeme → ℕ → Bool → TextFault
 unexpected xs left true = At (place_of xs (length xs - left)) Expected
 unexpected xs left false = TooDeep (place_of xs (length xs - left))
 
--- the fault where all tokens can stand and more are wanted: the token fault, or that the text ends
-abbrev pub stop_fault : ℕ → Option (ℕ × TextKind) → TextFault
-stop_fault end (Some p) = At p.0 p.1
-stop_fault end None = At end Ended
-
 -- what is answered of tokens, where the text has so many bytes and its tokens stop so
 abbrev pub told : ℕ → Option (ℕ × TextKind) → List Lexeme → Result MappingText ℕ → Result MappingText ℕ → Result MappingText TextFault
 told end stop xs (Err zero) deeper = Err (stop_fault end stop)
@@ -133,13 +132,6 @@ told_of end stop xs = told end stop xs (whole (mapping_reader deepest) xs) (whol
 -- what is answered of a text
 abbrev pub read_text : List ℕ → Result MappingText TextFault
 read_text text = told_of (length text) (fault_in (scan_of text).stop) (judged_tokens text)
-
--- a call answers so, unless memory ran out
-abbrev pub Reads : Result MappingText TextFault → Result MappingText TextFault → Type 0
-Reads (Ok m) given = given ≡ Ok m
-Reads (Err Memory) given = Unit {0}
-Reads (Err (At place kind)) given = given ≡ Err (At place kind)
-Reads (Err (TooDeep place)) given = given ≡ Err (TooDeep place)
 
 -- a fault that is told is the text's first, unless memory ran out
 abbrev pub IsToldFault : List ℕ → TextFault → Type 0

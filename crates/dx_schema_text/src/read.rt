@@ -2,7 +2,8 @@
 ghost use Rattle.std.specs.Prelude.{◌≡◌, ◌⊎◌, ◌++◌, ◌<◌, ◌≤◌, ℕ, length, IfOk, IfErr};
 ghost use Rattle.dx_grammar.specs.Readers.{whole};
 ghost use Rattle.dx_schema_text.specs.Reading.{mapping_reader};
-ghost use Rattle.dx_schema_text.specs.Texts.{begun_in, fault_in, stop_fault, stops_by, unexpected, told_of, read_text, Reads, IsMappingText, IsToldFault, AnswersMapping, AnswersFault};
+ghost use Rattle.dx_schema_text.specs.Texts.{begun_in, fault_in, stops_by, unexpected, told_of, read_text, IsMappingText, IsToldFault, AnswersMapping, AnswersFault};
+ghost use Rattle.dx_tokens.specs.Judged.{Reads};
 ghost use Rattle.dx_tokens.specs.declared.faults.TextFault.TheVariants.{Memory};
 
 use crate::mapping::whole_mapping;
@@ -50,19 +51,6 @@ fn fault_at(alloc: Global, tokens: &[Lexeme], left: usize) -> TextFault
     }
 }
 
-// The fault where all tokens can stand and more are wanted.
-fn stop_of(end: u64, stop: Option<(u64, TextKind)>) -> TextFault
-    ensures { result ≡ stop_fault end stop }
-{
-    match stop {
-        Some((place, kind)) => TextFault::At { place, kind },
-        None => TextFault::At {
-            place: end,
-            kind: TextKind::Ended,
-        },
-    }
-}
-
 // The mapping that the tokens say, where the text has so many bytes and its tokens stop so.
 fn mapping_of(
     alloc: Global,
@@ -78,7 +66,7 @@ fn mapping_of(
             Some((place, kind)) => Err(TextFault::At { place, kind }),
         },
         Err(ReadError::Memory) => Err(TextFault::Memory),
-        Err(ReadError::Left(0)) => Err(stop_of(end, stop)),
+        Err(ReadError::Left(0)) => Err(TextFault::at_stop(end, stop)),
         Err(ReadError::Left(left)) => Err(fault_at(alloc, tokens, left)),
     }
 }

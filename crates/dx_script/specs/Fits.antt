@@ -70,12 +70,16 @@ abbrev pub SelectFits : List Named → List Conversion → List Text → Select 
 SelectFits source list sources (Cell cell) = CellFits source sources cell
 SelectFits source list sources (Call name args) = TakesTexts list name (length args) × Each args (CellFits source sources)
 
+-- both cells that are to be equal fit
+abbrev pub EqualFits : List Named → List Text → Equal → Type 0
+EqualFits source sources equal = CellFits source sources equal.left × CellFits source sources equal.right
+
 -- the step of a match table comes as the numbers of rules do, and has names of source tables, columns and conversions alone
 pub record MatchFits (source : List Named) (list : List Conversion) (before : List Step) (r : ℕ) (select : List Select) (sources : List Text) (equal : List Equal) : Type 0 where
   pub number : r ≡ length (match_widths before)
   pub sources_named : Each sources (λ name. name ∈ table_names source)
   pub selected : Each select (SelectFits source list sources)
-  pub equal_cells : Each equal (λ (e : Equal). CellFits source sources e.left × CellFits source sources e.right)
+  pub equal_cells : Each equal (EqualFits source sources)
 
 -- a test reads columns of the match table of rule r, and of that of rule other
 abbrev pub TestFits : List Step → ℕ → ℕ → Test → Type 0

@@ -1,5 +1,5 @@
 -- Tables and columns by their names.
-use Rattle.std.specs.Prelude.{ℕ, List, [], map, slice_index_or}
+use Rattle.std.specs.Prelude.{◌≡◌, ◌<◌, ℕ, List, [], length, map, slice_index_or}
 use Rattle.dx_model.specs.Values.{Text}
 use Rattle.dx_schema.specs.Tables.{number_of}
 use Rattle.dx_schema.specs.Names.{Named}
@@ -7,6 +7,10 @@ use Rattle.dx_schema.specs.Names.{Named}
 -- the table with a number
 abbrev pub table_numbered : List Named → ℕ → Named
 table_numbered tables t = slice_index_or tables t (record { name = []; columns = [] })
+
+-- it is the table of this number
+abbrev pub IsTableAt : List Named → ℕ → Named → Type 0
+IsTableAt tables t table = (t < length tables) × (table_numbered tables t ≡ table)
 
 -- the names of tables
 abbrev pub table_names : List Named → List Text

@@ -1,9 +1,9 @@
 // Whether a script fits two schemas and a list of conversions.
-ghost use Rattle.std.specs.Prelude.{◌≡◌, ◌↔◌, ◌<◌, IsTrue, length, map};
+ghost use Rattle.std.specs.Prelude.{◌≡◌, ◌↔◌, IsTrue, map};
 ghost use Rattle.dx_ports.specs.Members.{◌∈◌};
 ghost use Rattle.dx_schema.specs.Names.{Named, named_of};
 ghost use Rattle.dx_funcs.specs.Serving.{offered};
-ghost use Rattle.dx_script.specs.Names.{table_numbered};
+ghost use Rattle.dx_script.specs.Names.{IsTableAt};
 ghost use Rattle.dx_script.specs.Fits.{FitsScript, InsertFits, KeepFits, MatchFits, ReadsKept, StepFits, created, kept_rules};
 
 use crate::before::{is_created, is_kept, match_count, match_width, through_keeps};
@@ -16,7 +16,7 @@ use std::alloc::AllocError;
 
 /// Whether the table with a number has this name and these columns.
 fn is_table_at(target: &Schema, number: u32, name: &Text, columns: &[Text]) -> bool
-    ensures { IsTrue result ↔ ((number < length (named_of target.now)) × (table_numbered (named_of target.now) number ≡ record { name = name.now; columns = columns.now })) }
+    ensures { IsTrue result ↔ IsTableAt (named_of target.now) number (record { name = name.now; columns = columns.now }) }
 {
     if number >= target.tables() {
         return false;

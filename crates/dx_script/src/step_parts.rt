@@ -4,9 +4,8 @@ ghost use Rattle.dx_ports.specs.Members.{◌∈◌, Each};
 ghost use Rattle.dx_schema.specs.Names.{named_of};
 ghost use Rattle.dx_funcs.specs.Names.{TakesTexts};
 ghost use Rattle.dx_funcs.specs.Serving.{offered};
-ghost use Rattle.dx_script.specs.declared.form.Equal.{Equal as AnyEqual};
 ghost use Rattle.dx_script.specs.Names.{table_names, table_named, table_numbered};
-ghost use Rattle.dx_script.specs.Fits.{CellFits, HasColumn, OutFits, SelectFits, TestFits, UnlessFits, match_widths};
+ghost use Rattle.dx_script.specs.Fits.{CellFits, EqualFits, HasColumn, OutFits, SelectFits, TestFits, UnlessFits, match_widths};
 
 use crate::before::match_width;
 use crate::form::{CellRef, Equal, Out, Select, Step, Test, Unless};
@@ -128,14 +127,14 @@ pub(crate) fn selects_fit<F: Fn(u32, &Items<Text>) -> Result<Text, AllocError>, 
 
 /// Whether two cells that are to be equal fit.
 fn equal_fits(source: &Schema, sources: &[Text], equal: &Equal) -> bool
-    ensures { IsTrue result ↔ (CellFits (named_of source.now) sources.now equal.now.left × CellFits (named_of source.now) sources.now equal.now.right) }
+    ensures { IsTrue result ↔ EqualFits (named_of source.now) sources.now equal.now }
 {
     cell_fits(source, sources, &equal.left) && cell_fits(source, sources, &equal.right)
 }
 
 /// Whether the cells of all equalities fit.
 pub(crate) fn equals_fit(source: &Schema, sources: &[Text], equals: &[Equal]) -> bool
-    ensures { IsTrue result ↔ Each equals.now (λ (e : AnyEqual). CellFits (named_of source.now) sources.now e.left × CellFits (named_of source.now) sources.now e.right) }
+    ensures { IsTrue result ↔ Each equals.now (EqualFits (named_of source.now) sources.now) }
 {
     for equal in equals {
         if !equal_fits(source, sources, equal) {

@@ -14,7 +14,8 @@ use Rattle.dx_script.specs.declared.form.Out.TheVariants as outs
 use Rattle.dx_script.specs.declared.form.Step.TheVariants as steps
 use Rattle.dx_script.specs.declared.form.Script.{Script}
 use Rattle.dx_script_text.specs.Reading.{call_reader, cell_reader, cell_value_reader, column_out_reader, columns_reader, comma_item, comma_out, comma_source, create_reader, created_reader, declared_reader, equal_reader, equals_reader, insert_end_reader, insert_reader, insert_tail_reader, item_reader, items_reader, keep_reader, keep_tail_reader, match_reader, no_items, optional_tests, out_reader, outs_reader, script_reader, select_reader, skolem_reader, skolem_tail_reader, source_reader, sources_reader, step_reader, table_reader, test_reader, tests_reader, text_out_reader, text_reader, unless_reader, value_reader, where_reader}
-use Rattle.dx_script_text.specs.Texts.{told_of, read_text, IsToldFault, Reads}
+use Rattle.dx_tokens.specs.Judged.{Reads}
+use Rattle.dx_script_text.specs.Texts.{told_of, read_text, IsToldFault}
 use Rattle.dx_script_text.proofs.Answered.{never_said_and_faulty, text_script}
 
 -- what is read of a text
@@ -131,7 +132,7 @@ a_fault_for_a_script s e h = absurd (cc h)
 a_script_for_a_fault : (s : Script) → ¬ Reads (Err (At 0 Ended)) (Ok s)
 a_script_for_a_fault s h = absurd (cc h)
 
-another_place : ¬ Reads (Err (At 0 Ended)) (Err (At 1 Ended))
+another_place : ¬ Reads {V = Script} (Err (At 0 Ended)) (Err (At 1 Ended))
 another_place h = omega (arith, ap place_in h) where
   place_in : Result Script TextFault → ℕ
   place_in (Ok s) = 0

@@ -1,21 +1,22 @@
 -- What the answer of the reader says of tokens.
 use Rattle.std.proofs.Common.{◌≡◌, ℕ, zero, suc, ◌-◌, ◌<◌, ◌≤◌, List, length, Result, Ok, Err, Option, Some, None, refl, subst, arith}
 use Rattle.dx_tokens.specs.declared.faults.TextFault.{TextFault}
-use Rattle.dx_tokens.specs.declared.faults.TextFault.TheVariants.{At, TooDeep, Memory}
+use Rattle.dx_tokens.specs.declared.faults.TextFault.TheVariants.{At}
 use Rattle.dx_tokens.specs.declared.faults.TextKind.{TextKind}
 use Rattle.dx_tokens.specs.declared.faults.TextKind.TheVariants.{Expected}
 use Rattle.dx_script_tokens.specs.declared.scanner.ScriptToken.{ScriptToken}
 use Rattle.dx_script_tokens.specs.Numbers.{greatest}
+use Rattle.dx_tokens.specs.Judged.{stop_fault, Reads}
+use Rattle.dx_tokens.proofs.Judged.{reads_fault}
 use Rattle.dx_grammar.specs.Readers.{whole, Tells}
 use Rattle.dx_grammar.proofs.Told.{answers}
 use Rattle.dx_grammar.proofs.Combined.{stops_end}
 use Rattle.dx_grammar.proofs.Verdicts.{Stops}
 use Rattle.dx_grammar.proofs.Spelled.{NotNext, whole_again}
 use Rattle.dx_script.specs.declared.form.Step.{Step}
-use Rattle.dx_script.specs.declared.form.Script.{Script}
 use Rattle.dx_script_text.specs.Reading.{begins_step, script_reader}
 use Rattle.dx_script_text.specs.Spelling.{SpellsScript}
-use Rattle.dx_script_text.specs.Texts.{form, place_of, stop_fault, told_of, Reads}
+use Rattle.dx_script_text.specs.Texts.{form, place_of, told_of}
 use Rattle.dx_script_text.proofs.Follows.{script_reads}
 use Rattle.dx_script_text.proofs.Again.{script_again}
 
@@ -35,11 +36,6 @@ spelled_given xs s h = whole_again (script_reader greatest) (SpellsScript greate
 pub left_inside : (xs : List ScriptToken) (left : ℕ) → 0 < left → given xs ≡ Err left → left ≤ length xs
 left_inside xs zero some e = absurd (omega arith)
 left_inside xs (suc left) some e = (tells_as xs (Err (suc left)) e).0
-
-reads_fault : (f : TextFault) (answer : Result Script TextFault) → answer ≡ Err f → Reads (Err f) answer
-reads_fault Memory answer e = tt
-reads_fault (At place kind) answer e = e
-reads_fault (TooDeep place) answer e = e
 
 pub told_read : (end : ℕ) (stop : Option (ℕ × TextKind)) (xs : List ScriptToken) (s : List Step) → stop ≡ None → given xs ≡ Ok s → told_of end stop xs ≡ Ok (record { steps = s })
 unfolding told_of

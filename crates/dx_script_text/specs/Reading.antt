@@ -1,6 +1,6 @@
 -- What the forms of scripts say: a reader for each.
-use Rattle.std.specs.Prelude.{ℕ, Bool, ◌||◌, List, [], ◌∷◌}
-use Rattle.dx_grammar.specs.Readers.{Reader, ◌>>=◌, give, token, either, many}
+use Rattle.std.specs.Prelude.{ℕ, ◌-◌, Bool, ◌||◌, List, [], ◌∷◌, length}
+use Rattle.dx_grammar.specs.Readers.{Reader, ◌>>=◌, give, token, either, many, with_front}
 use Rattle.dx_grammar.specs.Lists.{past, list_reader}
 use Rattle.dx_grammar.specs.Numbers.{counted_reader, Knower, ◌then◌, giving, always, number_token, choosing, knowing, with_number, unknowing}
 use Rattle.dx_script_tokens.specs.declared.scanner.ScriptToken.{ScriptToken}
@@ -55,6 +55,12 @@ text_cell t = outs.Literal t
 
 abbrev pub skolem_cell : ℕ → Out
 skolem_cell v = outs.Skolem v
+
+-- ---- numbered lists
+
+-- all of these, and those that follow, each after a comma and with the next number
+abbrev pub and_counted : {A : Type 0} → (ℕ → Reader ScriptToken A) → List A → Reader ScriptToken (List A)
+and_counted next all tokens = with_front all (counted_reader is_comma next (4294967296 - length all) (length all) tokens)
 
 -- ---- CREATE TABLE target
 

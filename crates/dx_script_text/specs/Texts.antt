@@ -1,9 +1,10 @@
 -- What a text says, and its first fault.
 use Rattle.std.specs.Prelude.{◌≡◌, ◌⊎◌, ℕ, zero, suc, ◌-◌, List, [], ◌∷◌, ◌++◌, length, Option, Some, None, Result, Ok, Err, slice_index_or}
 use Rattle.dx_tokens.specs.declared.faults.TextFault.{TextFault}
-use Rattle.dx_tokens.specs.declared.faults.TextFault.TheVariants.{At, TooDeep, Memory}
+use Rattle.dx_tokens.specs.declared.faults.TextFault.TheVariants.{At, Memory}
 use Rattle.dx_tokens.specs.declared.faults.TextKind.{TextKind}
-use Rattle.dx_tokens.specs.declared.faults.TextKind.TheVariants.{Character, Expected, Ended}
+use Rattle.dx_tokens.specs.declared.faults.TextKind.TheVariants.{Expected, Ended}
+use Rattle.dx_tokens.specs.Judged.{IsFaultBy, stop_fault, Reads}
 use Rattle.dx_script_tokens.specs.declared.scanner.ScriptToken.{ScriptToken}
 use Rattle.dx_script_tokens.specs.declared.scanner.ScriptStop.{ScriptStop}
 use Rattle.dx_script_tokens.specs.declared.kinds.ScriptKind.TheVariants as kinds
@@ -54,23 +55,13 @@ IsStopped text place kind = IsStoppedAt form (judged_tokens text) (fault_in (sca
 
 -- The first fault of a text.
 abbrev pub IsTextFault : List ℕ → TextFault → Type 0
-IsTextFault text (At place Expected) = IsUnexpected text place
-IsTextFault text (At place Character) = IsStopped text place Character
-IsTextFault text (At place Ended) = IsStopped text place Ended
-IsTextFault text (At place other) = ⊥
-IsTextFault text (TooDeep place) = ⊥
-IsTextFault text Memory = ⊥
+IsTextFault text e = IsFaultBy (IsUnexpected text) (λ place. ⊥) (IsStopped text) e
 
 -- ---- the answer, as it is computed
 
 -- the place of a token
 abbrev pub place_of : List ScriptToken → ℕ → ℕ
 place_of xs k = (slice_index_or xs k (plain_token 0 kinds.Word 0)).place
-
--- the fault where all tokens can stand and more are wanted: the token fault, or that the text ends
-abbrev pub stop_fault : ℕ → Option (ℕ × TextKind) → TextFault
-stop_fault end (Some p) = At p.0 p.1
-stop_fault end None = At end Ended
 
 -- what is answered of tokens, if the text has so many bytes and its tokens stop so
 abbrev pub told : ℕ → Option (ℕ × TextKind) → List ScriptToken → Result (List Step) ℕ → Result Script TextFault
@@ -86,13 +77,6 @@ told_of end stop xs = told end stop xs (whole (script_reader greatest) xs)
 -- what is answered of a text
 abbrev pub read_text : List ℕ → Result Script TextFault
 read_text text = told_of (length text) (fault_in (scan_of text).stop) (judged_tokens text)
-
--- a call answers so, unless memory ran out
-abbrev pub Reads : Result Script TextFault → Result Script TextFault → Type 0
-Reads (Ok s) given = given ≡ Ok s
-Reads (Err Memory) given = Unit {0}
-Reads (Err (At place kind)) given = given ≡ Err (At place kind)
-Reads (Err (TooDeep place)) given = given ≡ Err (TooDeep place)
 
 -- a fault that is told is the text's first, unless memory ran out
 abbrev pub IsToldFault : List ℕ → TextFault → Type 0

@@ -1,11 +1,9 @@
 // Steps that match a rule.
-ghost use Rattle.std.specs.Prelude.{◌≡◌, ◌-◌, ◌∷◌, [], ◌≤◌, length};
 ghost use Rattle.dx_grammar.specs.Readers.{many, with_front, Gives};
 ghost use Rattle.dx_grammar.specs.Lists.{past, list_reader};
-ghost use Rattle.dx_grammar.specs.Numbers.{counted_reader};
 ghost use Rattle.dx_script_text.specs.Grammar.{is_comma, is_and};
 ghost use Rattle.dx_script_tokens.specs.Numbers.{greatest};
-ghost use Rattle.dx_script_text.specs.Reading.{cell_reader, call_reader, cell_value_reader, value_reader, item_reader, comma_item, items_reader, no_items, select_reader, source_reader, comma_source, sources_reader, equal_reader, equals_reader, where_reader, match_reader};
+ghost use Rattle.dx_script_text.specs.Reading.{cell_reader, call_reader, cell_value_reader, value_reader, item_reader, comma_item, items_reader, no_items, select_reader, source_reader, comma_source, sources_reader, and_counted, equal_reader, equals_reader, where_reader, match_reader};
 
 use crate::tokens::{any_of, next_counts, next_has, next_of, that};
 use dx_grammar::ReadError;
@@ -130,7 +128,7 @@ fn more_items(
     all: Items<Select>,
     tokens: &[ScriptToken],
 ) -> Result<(Items<Select>, &[ScriptToken]), ReadError>
-    ensures { Gives (λ x. (x.0, x.1.now)) result (with_front all (counted_reader is_comma comma_item (4294967296 - length all) (length all) tokens.now)) }
+    ensures { Gives (λ x. (x.0, x.1.now)) result (and_counted comma_item all tokens.now) }
 {
     let mut all = all;
     let mut rest = tokens;
@@ -205,7 +203,7 @@ fn more_sources(
     all: Items<Text>,
     tokens: &[ScriptToken],
 ) -> Result<(Items<Text>, &[ScriptToken]), ReadError>
-    ensures { Gives (λ x. (x.0, x.1.now)) result (with_front all (counted_reader is_comma comma_source (4294967296 - length all) (length all) tokens.now)) }
+    ensures { Gives (λ x. (x.0, x.1.now)) result (and_counted comma_source all tokens.now) }
 {
     let mut all = all;
     let mut rest = tokens;

@@ -1,10 +1,11 @@
 // A script's text, read with its first fault.
 ghost use Rattle.std.specs.Prelude.{◌≡◌, ◌++◌, ◌-◌, ◌<◌, ◌≤◌, length, IfOk, IfErr};
 ghost use Rattle.dx_grammar.specs.Readers.{many, next_is, whole, Gives};
+ghost use Rattle.dx_tokens.specs.Judged.{Reads};
 ghost use Rattle.dx_tokens.specs.declared.faults.TextFault.TheVariants.{At};
 ghost use Rattle.dx_tokens.specs.declared.faults.TextKind.TheVariants.{Expected};
 ghost use Rattle.dx_script_tokens.specs.Numbers.{greatest};
-ghost use Rattle.dx_script_text.specs.Texts.{begun_in, fault_in, place_of, stop_fault, told_of, read_text, Reads, IsScriptText, IsToldFault, AnswersScript, AnswersFault};
+ghost use Rattle.dx_script_text.specs.Texts.{begun_in, fault_in, place_of, told_of, read_text, IsScriptText, IsToldFault, AnswersScript, AnswersFault};
 ghost use Rattle.dx_script_text.specs.Reading.{table_reader, created_reader, step_reader, begins_step, script_reader};
 
 use crate::creates::create;
@@ -111,19 +112,6 @@ fn fault_at(tokens: &[ScriptToken], left: usize) -> TextFault
     }
 }
 
-// The fault where all tokens can stand and more are wanted.
-fn stop_of(end: u64, stop: Option<(u64, TextKind)>) -> TextFault
-    ensures { result ≡ stop_fault end stop }
-{
-    match stop {
-        Some((place, kind)) => TextFault::At { place, kind },
-        None => TextFault::At {
-            place: end,
-            kind: TextKind::Ended,
-        },
-    }
-}
-
 // The script that the tokens say, if the text has so many bytes and its tokens stop so.
 fn script_of(
     alloc: Global,
@@ -139,7 +127,7 @@ fn script_of(
             Some((place, kind)) => Err(TextFault::At { place, kind }),
         },
         Err(ReadError::Memory) => Err(TextFault::Memory),
-        Err(ReadError::Left(0)) => Err(stop_of(end, stop)),
+        Err(ReadError::Left(0)) => Err(TextFault::at_stop(end, stop)),
         Err(ReadError::Left(left)) => Err(fault_at(tokens, left)),
     }
 }

@@ -20,7 +20,7 @@ pub returns-in-Err-Left-eq0 : goal.returns-in-Err-Left-eq0
 returns-in-Err-Left-eq0 c =
     let none : c.in-Err-Left-eq0.field-0-0 ≡ 0 = omega arith in
     let read : whole (mapping_reader 15) c.args.tokens.now ≡ Err c.in-Err-Left-eq0.field-0-0 = rw c.in-Err-Left-eq0.field-0-is at c.in-Err-Left-eq0.ensures in
-    told_open c.args.end c.args.stop c.args.tokens.now c.stop_of.result (read ∙ ap (λ n. Err n) none) c.stop_of.ensures
+    told_open c.args.end c.args.stop c.args.tokens.now c.at_stop.result (read ∙ ap (λ n. Err n) none) c.at_stop.ensures
 
 pub returns-in-Err-Left : goal.returns-in-Err-Left
 returns-in-Err-Left c =
