@@ -59,10 +59,6 @@ last_is : (x y : ℕ) → y ∈ (x ∷ []) → x ≡ y
 last_is x y (here e) = e
 last_is x y (there m) = elim m [ ]
 
--- no number was seen yet
-pub marks_none : (first : ℕ) (marks : List Bool) → ((k : ℕ) → k < length marks → get_or marks k false ≡ false) → AreMarks first [] marks
-marks_none first marks none k h = ((λ e. absurd (false≢true (sym (none k h) ∙ e))), (λ m. elim m [ ]))
-
 -- a number before the first one has no mark
 mark_before : (first x : ℕ) (seen : List ℕ) (marks : List Bool) → x < first → AreMarks first seen marks
     → AreMarks first (seen ++ x ∷ []) marks

@@ -58,13 +58,16 @@ fn mark_table(target: &Numbers, table: u32, first: u32, marks: &mut Vec<bool>)
     }
 }
 
-// A mark for each number from `first` on: whether it stands in a table.
+// A mark for each number from `first` on: whether it stands in a table. If there are none, no table is read.
 fn marks_of(alloc: Global, target: &Numbers, first: u32) -> Result<Vec<bool>, AllocError>
     requires { first ≤ length target.now.symbols }
     ensures many { IfOk result (λ marks. first + length marks.items ≡ length target.now.symbols) }
     ensures marked { IfOk result (λ marks. AreMarks first (numbers_in target.now.tables) marks.items) }
 {
     let mut marks = vec![in alloc; false; (target.len() - first) as usize]?;
+    if marks.is_empty() {
+        return Ok(marks);
+    }
     for table in 0..target.tables() {
         mark_table(target, table, first, &mut marks);
     }
