@@ -1,4 +1,5 @@
 pub mod SheetNulls
+pub mod MarkFacts
 pub mod SheetLists
 pub mod TextFiles
 pub mod RootFiles

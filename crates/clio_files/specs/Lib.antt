@@ -1,4 +1,5 @@
 pub mod Sheets
+pub mod Marks
 pub mod Texts
 pub mod Nested
 pub mod Files

@@ -8,6 +8,7 @@
 #![tactic(auto)]
 
 mod laws;
+mod marks;
 mod nested;
 mod nulls;
 mod printed;

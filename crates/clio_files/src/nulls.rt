@@ -1,12 +1,13 @@
 // The nulls of an instance.
 ghost use Rattle.std.specs.Prelude.{◌≡◌, ◌↔◌, ◌<◌, ◌++◌, IfOk, OnOk, length, flat_map};
 ghost use Rattle.dx_ports.specs.Members.{◌∈◌};
-ghost use Rattle.dx_model.specs.Instances.{values, nulls_in};
+ghost use Rattle.dx_model.specs.Instances.{nulls_in};
 ghost use Rattle.dx_model.specs.Values.{NullsAscend};
 ghost use Rattle.dx_instance.specs.Shown.{AreBelow, shown_row, shown_tables};
 ghost use Rattle.dx_instance.specs.Stored.{facts, rows_of};
 ghost use Rattle.clio_files.specs.Sheets.{AreNulls};
 
+use crate::marks::nulls_by_marks;
 use dx_instance::{Instance, Numbers};
 use dx_model::{NullId, Value};
 use std::alloc::{AllocError, Global};
@@ -47,6 +48,17 @@ fn ascending(nulls: Vec<NullId>) -> Result<Vec<NullId>, AllocError>
     Ok(sorted)
 }
 
+// The nulls of tables of numbers, from a list of all of them: for symbols that are not in order.
+fn nulls_by_list(alloc: Global, target: &Numbers) -> Result<Vec<NullId>, AllocError>
+    ensures { IfOk result (λ ns. AreNulls (facts (shown_tables target.now.symbols target.now.tables)) ns.items) }
+{
+    let mut nulls = Vec::new(alloc);
+    for table in 0..target.tables() {
+        push_table(target, table, &mut nulls)?;
+    }
+    ascending(nulls)
+}
+
 /// The nulls of an instance, ascending, each once.
 ///
 /// # Errors
@@ -56,9 +68,9 @@ pub fn nulls_of(alloc: Global, target: &Instance) -> Result<Vec<NullId>, AllocEr
     ensures { IfOk result (λ ns. AreNulls (facts target.now) ns.items) }
 {
     let numbers = target.numbers();
-    let mut nulls = Vec::new(alloc);
-    for table in 0..numbers.tables() {
-        push_table(&numbers, table, &mut nulls)?;
+    if numbers.is_ordered() {
+        nulls_by_marks(alloc, &numbers)
+    } else {
+        nulls_by_list(alloc, &numbers)
     }
-    ascending(nulls)
 }
