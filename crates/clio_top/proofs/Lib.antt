@@ -10,3 +10,4 @@ pub mod Ranges
 pub mod Clashes
 pub mod Endings
 pub mod Headline
+pub mod OwnNames

@@ -1,5 +1,6 @@
 -- What a finished exchange and a clash come to: the sentence at the top of docs/ASSURANCE.md, of a run. And laws of its stages.
-use Rattle.std.specs.Prelude.{◌≡◌, ◌⊎◌, ◌≤◌, ℕ, List, codes, length, Some, Bool}
+use Rattle.std.specs.Prelude.{◌≡◌, ◌⊎◌, ◌≤◌, ℕ, List, codes, length, map, Some, Bool}
+use Rattle.dx_ports.specs.Members.{Distinct}
 use Rattle.dx_model.specs.declared.facts.Fact.{Fact}
 use Rattle.dx_model.specs.Rules.{AreRows}
 use Rattle.dx_model.specs.Values.{Rows}
@@ -117,3 +118,9 @@ abbrev pub AskedInOrder : Type 0
 AskedInOrder =
     (P : Program) (c : World) (words : List Word) (n : List ℕ) → (run_stages P).asks c words n
     → (n ≡ codes "mapping.clio") ⊎ ((M : Mapping) × (mapping_stages P).passes c (tt {0}) M)
+
+-- no two files that an exchange writes have one name: each stands as it was put
+abbrev pub FilesHaveOwnNames : Type 0
+FilesHaveOwnNames =
+    (P : Program) (mode : Mode) (nested : Bool) (c : World) (e : Exchange) (before after : Written)
+    → (d : IsDoneIn P mode nested c e before after) → Distinct (map (λ (f : Told). f.name) d.files)

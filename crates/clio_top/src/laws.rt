@@ -1,5 +1,5 @@
 // The laws of a run. The definitions alone carry them: no body computes anything.
-ghost use Rattle.clio_top.specs.Promises.{AskedInOrder, ClashesAreOfTexts, DemosAreOfTheirFiles, ExchangesAreOfTexts, NoSolutionIsAClash, RefusedOrPlanned};
+ghost use Rattle.clio_top.specs.Promises.{AskedInOrder, ClashesAreOfTexts, DemosAreOfTheirFiles, ExchangesAreOfTexts, FilesHaveOwnNames, NoSolutionIsAClash, RefusedOrPlanned};
 
 /// There is one reason to refuse a run, or a plan, and never both.
 pub fn refused_or_planned()
@@ -18,4 +18,9 @@ pub fn over_anything()
 pub fn clash_exactly_without_solution()
     ensures clash { ClashesAreOfTexts }
     ensures none { NoSolutionIsAClash }
+{}
+
+/// No two files that an exchange writes have one name.
+pub fn files_have_own_names()
+    ensures { FilesHaveOwnNames }
 {}

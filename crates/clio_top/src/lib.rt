@@ -20,5 +20,7 @@ mod top;
 pub use clio_accept::{AcceptFault, MapFault, Mapping, accept};
 pub use clio_ending::{Done, Ending, message};
 pub use clio_source::RowsFault;
-pub use laws::{clash_exactly_without_solution, over_anything, refused_or_planned};
+pub use laws::{
+    clash_exactly_without_solution, files_have_own_names, over_anything, refused_or_planned,
+};
 pub use top::run;
