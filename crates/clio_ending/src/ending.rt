@@ -53,7 +53,7 @@ pub enum Ending {
 }
 
 /// Why a run is refused. Each is an ending by the same name.
-#[derive(Debug, Drop)]
+#[derive(Drop)]
 pub enum Refusal {
     Usage,
     Clash {

@@ -4,7 +4,7 @@ use dx_json::JsonKind;
 use dx_ports::{Limit, Text};
 
 /// What is wrong with a source file.
-#[derive(Debug, Drop)]
+#[derive(Drop)]
 pub enum RowsFault {
     /// There is no such file.
     Absent,
@@ -15,7 +15,7 @@ pub enum RowsFault {
 }
 
 /// Why the source is refused.
-#[derive(Debug, Drop)]
+#[derive(Drop)]
 pub enum SourceRefusal {
     /// What is wrong with this file, the first at fault.
     Rows { file: Text, fault: RowsFault },

@@ -7,7 +7,7 @@ use dx_exchange::Mode;
 use dx_ports::Text;
 
 /// What a run is asked to do.
-#[derive(Clone, Copy, Debug, PartialEq, Eq)]
+#[derive(Clone, Copy, PartialEq, Eq)]
 pub(crate) enum Command {
     /// To exchange the data, and to write documents too if `nested`.
     Exchanging { mode: Mode, nested: bool },

@@ -31,7 +31,7 @@ use std::alloc::{AllocError, Global};
 const MOST: usize = 1024;
 
 /// The unfoldings of the tables of two schemas, and the pairs of tables that have a way.
-#[derive(Debug, Drop)]
+#[derive(Drop)]
 struct Plan {
     sources: Items<Relation>,
     targets: Items<Relation>,

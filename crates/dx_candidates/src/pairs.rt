@@ -13,7 +13,7 @@ use dx_ways::ways;
 use std::alloc::Global;
 
 /// A source table and a target table, and the ways between their unfoldings.
-#[derive(Debug, Drop)]
+#[derive(Drop)]
 pub(crate) struct Pair {
     pub source: u32,
     pub target: u32,

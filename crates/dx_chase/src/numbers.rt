@@ -13,7 +13,7 @@ use std::hash::{Hash, Hasher};
 use std::marker::Model;
 
 /// Numbers. A contract sees the list of them. Up to six need no memory of their own.
-#[derive(Debug, Drop)]
+#[derive(Drop)]
 pub struct NumberList {
     numbers: SmallVec<u32, 6>,
 }

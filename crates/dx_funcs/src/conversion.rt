@@ -2,7 +2,7 @@
 use dx_ports::Text;
 
 /// A conversion: its name, its code, and of how many texts it makes one.
-#[derive(Debug, Drop)]
+#[derive(Drop)]
 pub struct Conversion {
     pub name: Text,
     pub code: u32,

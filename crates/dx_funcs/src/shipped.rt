@@ -10,7 +10,7 @@ use dx_ports::{Items, Text};
 use std::alloc::{AllocError, Global};
 
 /// What the conversions that come with the program mean.
-#[derive(Clone, Copy, Debug)]
+#[derive(Clone, Copy)]
 pub struct Shipped;
 
 impl Meaning for Shipped {

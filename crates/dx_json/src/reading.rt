@@ -16,7 +16,7 @@ use std::collections::BTreeMap;
 pub const MAX_DEPTH: usize = 127;
 
 /// Why a text gave no tree.
-#[derive(Clone, Copy, Debug, PartialEq, Eq)]
+#[derive(Clone, Copy, PartialEq, Eq)]
 pub enum Unread {
     NotJson,
     Memory,

@@ -6,7 +6,7 @@ use dx_ports::Text;
 use std::marker::Model;
 
 /// Tuples of one width. A contract sees the list of the tuples, each the list of its texts.
-#[derive(Debug, Drop)]
+#[derive(Drop)]
 pub struct Tuples {
     width: usize,
     count: usize,

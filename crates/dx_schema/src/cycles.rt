@@ -9,7 +9,7 @@ use dx_model::Link;
 use std::alloc::{AllocError, Global};
 
 /// A link from the table with one number to that with another.
-#[derive(Clone, Copy, Debug, PartialEq, Eq)]
+#[derive(Clone, Copy, PartialEq, Eq)]
 pub struct Edge {
     pub from: u32,
     pub to: u32,

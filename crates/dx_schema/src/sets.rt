@@ -13,13 +13,13 @@ use std::marker::Model;
 const TOO_MANY: u64 = 4_294_967_294;
 
 /// Columns of a set on which no two of its rows agree.
-#[derive(Debug, Drop)]
+#[derive(Drop)]
 pub struct KeyDecl {
     pub columns: Items<Text>,
 }
 
 /// Columns of a set that refer to columns of a set.
-#[derive(Debug, Drop)]
+#[derive(Drop)]
 pub struct RefDecl {
     pub columns: Items<Text>,
     pub set: Text,

@@ -13,7 +13,7 @@ use dx_ports::{Items, Text};
 use std::alloc::{AllocError, Global};
 
 /// A table: a name, the names of its columns, and its keys and links by the numbers of columns and tables.
-#[derive(Debug, Drop)]
+#[derive(Drop)]
 pub struct Table {
     pub name: Text,
     pub columns: Items<Text>,

@@ -16,7 +16,7 @@ use dx_tokens::Lexeme;
 use std::alloc::{AllocError, Global};
 
 /// What stands after the two sides of a mapping.
-#[derive(Debug, Drop)]
+#[derive(Drop)]
 pub enum ItemText {
     Line(LineText),
     Rule(RuleText),

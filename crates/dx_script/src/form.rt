@@ -2,21 +2,21 @@
 use dx_ports::{Items, Text};
 
 /// A cell of a source row, by the alias of the row and the name of its column.
-#[derive(Debug, Drop)]
+#[derive(Drop)]
 pub struct CellRef {
     pub alias: u32,
     pub column: Text,
 }
 
 /// What stands in a column of a match table: a cell, or a conversion of cells.
-#[derive(Debug, Drop)]
+#[derive(Drop)]
 pub enum Select {
     Cell(CellRef),
     Call { name: Text, args: Items<CellRef> },
 }
 
 /// Two cells that have one text.
-#[derive(Debug, Drop)]
+#[derive(Drop)]
 pub struct Equal {
     pub left: CellRef,
     pub right: CellRef,
@@ -24,21 +24,21 @@ pub struct Equal {
 
 /// What makes a tuple of another match table a partner of a tuple: columns of both that have one text, or a column of
 /// its own that has a given text.
-#[derive(Debug, Drop)]
+#[derive(Drop)]
 pub enum Test {
     Columns { other: u32, own: u32 },
     Literal { own: u32, text: Text },
 }
 
 /// The partners in the match table of a rule: the tuples that make all tests true.
-#[derive(Debug, Drop)]
+#[derive(Drop)]
 pub struct Unless {
     pub rule: u32,
     pub tests: Items<Test>,
 }
 
 /// What an insert puts into a column: the text of a match column, a literal, or the null of an existential variable.
-#[derive(Debug, Drop)]
+#[derive(Drop)]
 pub enum Out {
     Column(u32),
     Literal(Text),
@@ -46,7 +46,7 @@ pub enum Out {
 }
 
 /// One step. The match table and the keep table of a rule have its number.
-#[derive(Debug, Drop)]
+#[derive(Drop)]
 pub enum Step {
     /// A table of the target.
     Create {
@@ -75,7 +75,7 @@ pub enum Step {
 }
 
 /// A list of steps, in the order in which they run.
-#[derive(Debug, Drop)]
+#[derive(Drop)]
 pub struct Script {
     pub steps: Items<Step>,
 }

@@ -3,7 +3,7 @@ ghost use Rattle.std.specs.Prelude.{◌≡◌, ◌↔◌, IsTrue, nat_eq};
 ghost use Rattle.dx_script_tokens.specs.Kinds.{is_mark, mark_kind, rank};
 
 /// Which token it is.
-#[derive(Clone, Copy, Debug)]
+#[derive(Clone, Copy)]
 pub enum ScriptKind {
     // Words that stand for themselves.
     Create,

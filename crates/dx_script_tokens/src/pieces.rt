@@ -8,7 +8,7 @@ use crate::numbers::number;
 use dx_tokens::{Item, continues_word, is_blank_byte, is_digit_byte, starts_word, wide_item};
 
 /// The form of a token.
-#[derive(Clone, Copy, Debug)]
+#[derive(Clone, Copy)]
 pub(crate) enum Shape {
     Word,
     Number,
@@ -18,7 +18,7 @@ pub(crate) enum Shape {
 }
 
 /// What stands next in a text.
-#[derive(Clone, Copy, Debug)]
+#[derive(Clone, Copy)]
 pub(crate) enum Piece {
     /// A blank.
     Blank,

@@ -11,7 +11,7 @@ use dx_tokens::TextKind;
 use std::alloc::{AllocError, Global};
 
 /// A token with what it says. A place counts the bytes before it.
-#[derive(Debug, Drop)]
+#[derive(Drop)]
 pub struct ScriptToken {
     pub place: u64,
     pub kind: ScriptKind,
@@ -22,7 +22,7 @@ pub struct ScriptToken {
 }
 
 /// The first fault of the tokens of a text.
-#[derive(Debug, Drop)]
+#[derive(Drop)]
 pub struct ScriptStop {
     pub place: u64,
     pub kind: TextKind,
@@ -31,7 +31,7 @@ pub struct ScriptStop {
 }
 
 /// The tokens of a text up to its first fault, and that fault.
-#[derive(Debug, Drop)]
+#[derive(Drop)]
 pub struct ScriptScan {
     pub tokens: Items<ScriptToken>,
     pub stop: Option<ScriptStop>,

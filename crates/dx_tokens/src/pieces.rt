@@ -9,7 +9,7 @@ use crate::bytes::{
 };
 
 /// What stands next inside a string.
-#[derive(Clone, Copy, Debug, PartialEq, Eq)]
+#[derive(Clone, Copy, PartialEq, Eq)]
 pub enum Item {
     /// The quotation mark that ends the string.
     Quote,
@@ -22,7 +22,7 @@ pub enum Item {
 }
 
 /// What stands next in a text.
-#[derive(Clone, Copy, Debug, PartialEq, Eq)]
+#[derive(Clone, Copy, PartialEq, Eq)]
 pub(crate) enum Piece {
     /// A blank or a comment. The number is its length in bytes.
     Blank(usize),
