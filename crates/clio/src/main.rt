@@ -1,9 +1,8 @@
 //! The program: it reads `./NAME`, writes `./out/NAME`, and says to standard output.
 //!
-//! `main` gives the top call `run` of `clio_top` the words of the command line, the folder, and the shipped conversions, says
-//! the message of an ending that is not `Done` to standard error, and ends with its status. The two adapters meet the
-//! clauses of `Inputs` and `Outputs` and tell nothing of what the folder holds; that they read and write its files as they
-//! are is tested. If there is no memory for the words or the conversions, nothing is printed, and the status is 9.
+//! `main` gives the top call `run` of `clio_top` the words of the command line, the working folder (`clio_folder`), and the shipped
+//! conversions, says the message of an ending that is not `Done` to standard error, and ends with its status. If there is no memory
+//! for the words or the conversions, nothing is printed, and the status is 9.
 #![tactic(auto)]
 
 ghost use Rattle.std.specs.Prelude.{◌≡◌, IfOk, length};
@@ -12,14 +11,10 @@ ghost use Rattle.clio_ending.specs.Ending.{status_of};
 ghost use Rattle.dx_funcs.specs.Offers.{IsListed};
 ghost use Rattle.dx_funcs.specs.Shipped.{shipped_apply, shipped_conversions};
 
-mod folder_inputs;
-mod folder_outputs;
-
+use clio_folder::{FolderInputs, FolderOutputs};
 use clio_top::{Ending, message, run};
 use dx_funcs::{Host, Shipped, convert, shipped_list};
 use dx_ports::{Items, Text};
-use folder_inputs::FolderInputs;
-use folder_outputs::FolderOutputs;
 use std::alloc::AllocError;
 use std::process::ExitCode;
 use std::rt::Env;
@@ -80,6 +75,3 @@ fn main(rt: HostRuntime) -> ExitCode {
     let ending = run(alloc, &words, &mut inputs, &mut outputs, &host);
     ended(&rt, &ending)
 }
-
-#[cfg(test)]
-mod tests;

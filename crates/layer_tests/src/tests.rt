@@ -7,8 +7,18 @@ mod scripts;
 mod sets;
 mod values;
 
+use dx_ports::Text;
 use std::alloc::{AllocError, Global};
 use std::test::Fail;
+
+/// The words of a text.
+fn words(alloc: Global, text: &str) -> Result<Vec<Text>, AllocError> {
+    let mut words = Vec::new(alloc);
+    for word in text.split(' ') {
+        words.push(Text::from_str(alloc, word)?)?;
+    }
+    Ok(words)
+}
 
 /// What is called with the text of a case.
 #[derive(Clone, Copy)]

@@ -7,16 +7,46 @@ ghost use Rattle.dx_funcs.specs.Offers.{IsListed};
 ghost use Rattle.dx_funcs.specs.Shipped.{shipped_apply, shipped_conversions};
 
 use dx_candidates::{candidates, kept};
-use dx_funcs::{Host, Shipped, convert, shipped_list};
+use dx_funcs::{Host, Meaning, Shipped, convert, shipped_list};
 use dx_line_text::read_lines;
 use dx_lines::Line;
 use dx_ports::{Items, Text};
-use dx_schema::Schema;
+use dx_schema::{Schema, Trees};
 use dx_schema_text::{LineText, MappingText, read_mapping};
 use std::alloc::{AllocError, Global};
 use std::test::Fail;
 
-/// The candidates of lines, and how many are kept. None if there are none to be had.
+/// The candidates of lines, in words.
+fn all_candidates(
+    alloc: Global,
+    lines: &[Line],
+    source: &Schema,
+    target: &Schema,
+) -> Result<String, AllocError>
+    requires { Each lines.now (LineFits (model_tables source.now) (model_tables target.now)) }
+{
+    match candidates(alloc, lines, source, target) {
+        Ok(all) => format!(in alloc; "{all:?}"),
+        Err(_) => Err(AllocError),
+    }
+}
+
+/// How many of them are kept.
+fn count_kept(
+    alloc: Global,
+    lines: &[Line],
+    source: &Schema,
+    target: &Schema,
+) -> Result<usize, AllocError>
+    requires { Each lines.now (LineFits (model_tables source.now) (model_tables target.now)) }
+{
+    match kept(alloc, lines, source, target) {
+        Ok(rules) => Ok(rules.len() as usize),
+        Err(_) => Err(AllocError),
+    }
+}
+
+/// The candidates of lines, and how many are kept.
 fn answered(
     alloc: Global,
     lines: &[Line],
@@ -25,16 +55,26 @@ fn answered(
 ) -> Result<String, AllocError>
     requires { Each lines.now (LineFits (model_tables source.now) (model_tables target.now)) }
 {
-    match (
-        candidates(alloc, lines, source, target),
-        kept(alloc, lines, source, target),
-    ) {
-        (Ok(all), Ok(rules)) => format!(in alloc; "{all:?} {}", rules.len()),
-        _ => Err(AllocError),
+    let count = count_kept(alloc, lines, source, target)?;
+    let all = all_candidates(alloc, lines, source, target)?;
+    format!(in alloc; "{all} {count}")
+}
+
+/// The same of lines by names, with the conversions of a host.
+fn answered_by<F: Fn(u32, &Items<Text>) -> Result<Text, AllocError>, M: Meaning>(
+    alloc: Global,
+    lines: &[LineText],
+    source: &Schema,
+    target: &Schema,
+    host: &Host<F, M>,
+) -> Result<String, AllocError> {
+    match read_lines(alloc, lines, source, target, host) {
+        Ok(lines) => answered(alloc, lines.items(), source, target),
+        Err(_) => String::from_str(alloc, "no lines"),
     }
 }
 
-/// The same of lines by names, with the conversions that come with the program.
+/// The same with the conversions that come with the program.
 fn of_lines(
     alloc: Global,
     lines: &[LineText],
@@ -46,30 +86,39 @@ fn of_lines(
         ensures { IfOk result (λ t. t ≡ shipped_apply code args.entry.now) }
     { convert(alloc, code, args) };
     let host: Host<_, Shipped> = Host::build(shipped_list(alloc)?, conversions);
-    match read_lines(alloc, lines, source, target, &host) {
-        Ok(lines) => answered(alloc, lines.items(), source, target),
-        Err(_) => String::from_str(alloc, "no lines"),
+    answered_by(alloc, lines, source, target, &host)
+}
+
+/// The schema of some sets.
+fn schema(alloc: Global, sets: Trees) -> Result<Schema, AllocError> {
+    if !sets.has_few_rules() {
+        return Err(AllocError);
+    }
+    match Schema::build(alloc, sets) {
+        Ok(schema) => Ok(schema),
+        Err(_) => Err(AllocError),
     }
 }
 
-/// The same of a mapping text.
-fn listed(alloc: Global, text: &str) -> Result<String, AllocError> {
-    let Ok(said) = read_mapping(alloc, text.as_bytes()) else {
-        return Err(AllocError);
-    };
+/// The same of what a mapping text says.
+fn said(alloc: Global, mapping: MappingText) -> Result<String, AllocError> {
     let MappingText {
         version: _,
         source,
         target,
         lines,
         rules: _,
-    } = said;
-    if !source.has_few_rules() || !target.has_few_rules() {
-        return Err(AllocError);
-    }
-    match (Schema::build(alloc, source), Schema::build(alloc, target)) {
-        (Ok(source), Ok(target)) => of_lines(alloc, lines.items(), &source, &target),
-        _ => Err(AllocError),
+    } = mapping;
+    let source = schema(alloc, source)?;
+    let target = schema(alloc, target)?;
+    of_lines(alloc, lines.items(), &source, &target)
+}
+
+/// The same of a mapping text.
+fn listed(alloc: Global, text: &str) -> Result<String, AllocError> {
+    match read_mapping(alloc, text.as_bytes()) {
+        Ok(mapping) => said(alloc, mapping),
+        Err(_) => Err(AllocError),
     }
 }
 

@@ -1,10 +1,11 @@
 // Faults outside: each read, each write and each saying fails in turn.
 ghost use Rattle.std.specs.Prelude.{◌≡◌, IfOk, length};
 ghost use Rattle.dx_funcs.specs.Offers.{IsListed};
+ghost use Rattle.dx_funcs.specs.Serving.{Serves};
 ghost use Rattle.dx_funcs.specs.Shipped.{shipped_apply, shipped_conversions};
 
 use clio_top::{Ending, message, run};
-use dx_funcs::{Host, Shipped, convert, shipped_list};
+use dx_funcs::{Host, Meaning, Shipped, convert, shipped_list};
 use dx_ports::{File, Items, MemInputs, MemOutputs, Text};
 use std::alloc::{AllocError, Global};
 use std::test::Fail;
@@ -23,58 +24,86 @@ struct Outcome {
 }
 
 fn file(alloc: Global, name: &str, bytes: &[u8]) -> Result<File, AllocError> {
-    Ok(File {
-        name: Text::from_str(alloc, name)?,
-        bytes: bytes.to_vec(alloc)?,
-    })
+    let name = Text::from_str(alloc, name)?;
+    let bytes = bytes.to_vec(alloc)?;
+    Ok(File { name, bytes })
 }
 
-/// Runs a command of one word on a mapping and a row, where these calls of the inputs and of the outputs fail.
+/// A mapping and a row.
+fn files(alloc: Global) -> Result<Vec<File>, AllocError> {
+    let mut files = Vec::new(alloc);
+    files.push(file(alloc, "mapping.clio", PEOPLE.as_bytes())?)?;
+    files.push(file(alloc, "emp.csv", b"name\nann\n")?)?;
+    Ok(files)
+}
+
+/// Runs a command of one word on these files, where these calls of the inputs fail.
+fn ending_of<F: Fn(u32, &Items<Text>) -> Result<Text, AllocError>, M: Meaning>(
+    alloc: Global,
+    word: &str,
+    reads: Vec<u64>,
+    outputs: &mut MemOutputs,
+    host: &Host<F, M>,
+) -> Result<Ending, AllocError>
+    requires { Serves F.Fn M.apply host.now }
+{
+    let mut words = Vec::new(alloc);
+    words.push(Text::from_str(alloc, word)?)?;
+    let mut inputs = MemInputs::new(files(alloc)?, reads);
+    Ok(run(alloc, &words, &mut inputs, outputs, host))
+}
+
+/// The same with the conversions that come with the program.
+fn ending(
+    alloc: Global,
+    word: &str,
+    reads: Vec<u64>,
+    outputs: &mut MemOutputs,
+) -> Result<Ending, AllocError> {
+    let conversions = |code: u32, args: &Items<Text>| -> Result<Text, AllocError>
+        requires { IsListed shipped_conversions code (length args.now) }
+        ensures { IfOk result (λ t. t ≡ shipped_apply code args.entry.now) }
+    { convert(alloc, code, args) };
+    let host: Host<_, Shipped> = Host::build(shipped_list(alloc)?, conversions);
+    ending_of(alloc, word, reads, outputs, &host)
+}
+
+/// How it ended and what it left, where these calls of the inputs and of the outputs fail.
 fn outcome_of(
     alloc: Global,
     word: &str,
     reads: Vec<u64>,
     writes: Vec<u64>,
 ) -> Result<Outcome, AllocError> {
-    let conversions = |code: u32, args: &Items<Text>| -> Result<Text, AllocError>
-        requires { IsListed shipped_conversions code (length args.now) }
-        ensures { IfOk result (λ t. t ≡ shipped_apply code args.entry.now) }
-    { convert(alloc, code, args) };
-    let host: Host<_, Shipped> = Host::build(shipped_list(alloc)?, conversions);
-    let mut files = Vec::new(alloc);
-    files.push(file(alloc, "mapping.clio", PEOPLE.as_bytes())?)?;
-    files.push(file(alloc, "emp.csv", b"name\nann\n")?)?;
-    let mut words = Vec::new(alloc);
-    words.push(Text::from_str(alloc, word)?)?;
     let mut outputs = MemOutputs::new(alloc, writes);
-    let ending = run(
-        alloc,
-        &words,
-        &mut MemInputs::new(files, reads),
-        &mut outputs,
-        &host,
-    );
+    let ending = ending(alloc, word, reads, &mut outputs)?;
+    let message = message(alloc, &ending)?;
     Ok(Outcome {
         status: ending.status(),
-        message: message(alloc, &ending)?,
+        message,
         outputs,
     })
 }
 
-/// All files that were put, each a line `== NAME` and its text, and what was said.
+/// Adds a line `== NAME` and the text of a file.
+fn add_file(all: &mut Vec<u8>, file: &File) -> Result<(), AllocError> {
+    all.extend_from_slice(b"== ")?;
+    all.extend_from_slice(file.name.bytes())?;
+    all.extend_from_slice(b"\n")?;
+    all.extend_from_slice(file.bytes.as_slice())
+}
+
+/// All files that were put, and what was said.
 fn left(alloc: Global, outputs: &MemOutputs) -> Result<Vec<u8>, AllocError> {
     let mut all = Vec::new(alloc);
     for file in outputs.files() {
-        all.extend_from_slice(b"== ")?;
-        all.extend_from_slice(file.name.bytes())?;
-        all.extend_from_slice(b"\n")?;
-        all.extend_from_slice(file.bytes.as_slice())?;
+        add_file(&mut all, file)?;
     }
     all.extend_from_slice(outputs.said())?;
     Ok(all)
 }
 
-/// Whether a run of `exchange` ended and left what is wanted.
+/// Whether a run of `exchange` ended and left what is wanted, where these calls of the inputs and of the outputs fail.
 fn ends_so(
     alloc: Global,
     reads: Vec<u64>,
@@ -84,20 +113,22 @@ fn ends_so(
     files: &str,
 ) -> Result<bool, AllocError> {
     let outcome = outcome_of(alloc, "exchange", reads, writes)?;
-    Ok(
-        outcome.status == status
-            && outcome.message.as_str() == text
-            && left(alloc, &outcome.outputs)?.as_slice() == files.as_bytes(),
-    )
+    let left = left(alloc, &outcome.outputs)?;
+    Ok(outcome.status == status
+        && outcome.message.as_str() == text
+        && left.as_slice() == files.as_bytes())
+}
+
+/// Whether the read with this number, failing, leaves nothing and is told so.
+fn read_fails(alloc: Global, number: u64, text: &str) -> Result<bool, AllocError> {
+    let reads = vec![in alloc; number]?;
+    ends_so(alloc, reads, Vec::new(alloc), 7, text, "")
 }
 
 #[test]
 fn each_read_can_fail(rt: HostRuntime) -> Result<(), Fail> {
-    let alloc = rt.alloc();
-    let text = "read fault: mapping.clio";
-    assert!(rt; ends_so(alloc, vec![in alloc; 0]?, Vec::new(alloc), 7, text, "")?);
-    let text = "read fault: emp.csv";
-    assert!(rt; ends_so(alloc, vec![in alloc; 1]?, Vec::new(alloc), 7, text, "")?);
+    assert!(rt; read_fails(rt.alloc(), 0, "read fault: mapping.clio")?);
+    assert!(rt; read_fails(rt.alloc(), 1, "read fault: emp.csv")?);
     Ok(())
 }
 
@@ -111,25 +142,24 @@ const FILES: [&str; 6] = [
     "rules.txt 1\nscript.sql 3\nperson.csv 1\nnulls.csv 1\nfold.csv 0\n",
 ];
 
-/// Whether the call of the outputs with this number, failing, leaves the files before it. The last number is of no call.
-fn leaves_the_files_before(alloc: Global, number: usize) -> Result<bool, AllocError> {
+/// The first files in their order, so many, and after them what is said.
+fn first_files(alloc: Global, number: usize) -> Result<String, AllocError> {
     let mut files = String::new(alloc);
     for file in FILES.iter().take(number) {
         files.push_str(*file)?;
     }
+    Ok(files)
+}
+
+/// Whether the call of the outputs with this number, failing, leaves the files before it. The last number is of no call.
+fn leaves_the_files_before(alloc: Global, number: usize) -> Result<bool, AllocError> {
+    let files = first_files(alloc, number)?;
     let writes = vec![in alloc; number as u64]?;
     if number == 6 {
         return ends_so(alloc, Vec::new(alloc), writes, 0, "", files.as_str());
     }
     let text = format!(in alloc; "write fault: {number} files written")?;
-    ends_so(
-        alloc,
-        Vec::new(alloc),
-        writes,
-        8,
-        text.as_str(),
-        files.as_str(),
-    )
+    ends_so(alloc, Vec::new(alloc), writes, 8, text.as_str(), files.as_str())
 }
 
 #[test]
@@ -141,13 +171,18 @@ fn each_write_can_fail(rt: HostRuntime) -> Result<(), Fail> {
     Ok(())
 }
 
+/// Whether a run of `show` whose saying fails is told so, and leaves nothing.
+fn saying_fails(alloc: Global) -> Result<bool, AllocError> {
+    let outcome = outcome_of(alloc, "show", Vec::new(alloc), vec![in alloc; 0]?)?;
+    let left = left(alloc, &outcome.outputs)?;
+    Ok(outcome.status == 8
+        && outcome.message.as_str() == "write fault: 0 files written"
+        && left.is_empty())
+}
+
 #[test]
 fn saying_rules_can_fail(rt: HostRuntime) -> Result<(), Fail> {
-    let alloc = rt.alloc();
-    let outcome = outcome_of(alloc, "show", Vec::new(alloc), vec![in alloc; 0]?)?;
-    assert_eq!(rt; outcome.status, 8);
-    assert_eq!(rt; outcome.message.as_str(), "write fault: 0 files written");
-    assert!(rt; left(alloc, &outcome.outputs)?.is_empty());
+    assert!(rt; saying_fails(rt.alloc())?);
     Ok(())
 }
 

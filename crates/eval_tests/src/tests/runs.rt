@@ -12,7 +12,7 @@ ghost use Rattle.clio_accept.specs.Laws.{MappingFits};
 use clio_accept::{AcceptFault, Mapping, accept};
 use dx_eval::{EvalFault, Made, eval};
 use dx_funcs::{Host, Meaning, Shipped, convert, shipped_list};
-use dx_instance::{Instance, Row, value_read, value_text};
+use dx_instance::{Fact, Instance, Row, value_read, value_text};
 use dx_ports::{Count, Items, Limit, Text};
 use dx_schema::Schema;
 use dx_script::Script;
@@ -283,20 +283,21 @@ fn accepted<F: Fn(u32, &Items<Text>) -> Result<Text, AllocError>, M: Meaning>(
     accept(alloc, bytes, host)
 }
 
-/// Adds the row of a line, if it is as wide as its table.
-fn add_line(alloc: Global, instance: &mut Instance, line: &str) -> Result<(), AllocError>
-    ensures { widths instance.new ≡ widths instance.old }
-{
-    let mut cells = line.split('|');
-    let Ok(table) = cells.next().unwrap_or("").parse::<u32>() else {
-        return Ok(());
-    };
+/// The row of the texts of its values with `|` between them.
+fn row(alloc: Global, cells: &str) -> Result<Row, AllocError> {
     let mut row = Row::new(alloc);
-    for cell in cells {
+    for cell in cells.split('|') {
         if let Some(value) = value_read(alloc, &Text::from_str(alloc, cell)?)? {
             row.push(value)?;
         }
     }
+    Ok(row)
+}
+
+/// Adds a row, if it is as wide as the table of this number.
+fn add_row(instance: &mut Instance, table: u32, row: Row) -> Result<(), AllocError>
+    ensures { widths instance.new ≡ widths instance.old }
+{
     if table >= instance.tables()
         || row.len() != u64::from(instance.width(table))
         || instance.count(table) >= 1000
@@ -305,6 +306,17 @@ fn add_line(alloc: Global, instance: &mut Instance, line: &str) -> Result<(), Al
     }
     instance.add(table, row)?;
     Ok(())
+}
+
+/// Adds the row of a line, if it is as wide as its table.
+fn add_line(alloc: Global, instance: &mut Instance, line: &str) -> Result<(), AllocError>
+    ensures { widths instance.new ≡ widths instance.old }
+{
+    let (table, cells) = line.split_once("|").unwrap_or(("", ""));
+    match table.parse::<u32>() {
+        Ok(table) => add_row(instance, table, row(alloc, cells)?),
+        Err(_) => Ok(()),
+    }
 }
 
 fn instance_of(alloc: Global, schema: &Schema, rows: &str) -> Result<Instance, AllocError>
@@ -317,30 +329,46 @@ fn instance_of(alloc: Global, schema: &Schema, rows: &str) -> Result<Instance, A
     Ok(instance)
 }
 
+/// Adds a line for a match of the rule with this number.
+fn add_match(
+    alloc: Global,
+    lines: &mut String,
+    rule: usize,
+    tuple: &[Text],
+) -> Result<(), AllocError> {
+    lines.push_str(format!(in alloc; "m{rule}")?.as_str())?;
+    for text in tuple {
+        lines.push_str("|")?;
+        lines.push_str(text.as_str())?;
+    }
+    lines.push_str("\n")
+}
+
 /// A line for each match, with the number of its rule.
 fn add_matches(alloc: Global, lines: &mut String, made: &Made) -> Result<(), AllocError> {
     for (rule, places) in made.matches.rules.items().iter().enumerate() {
         for place in 0..places.tuples.len() {
-            lines.push_str(format!(in alloc; "m{rule}")?.as_str())?;
-            for text in places.tuples.tuple(place) {
-                lines.push_str("|")?;
-                lines.push_str(text.as_str())?;
-            }
-            lines.push_str("\n")?;
+            add_match(alloc, lines, rule, places.tuples.tuple(place))?;
         }
     }
     Ok(())
 }
 
+/// Adds a line for a fact, with the number of its table.
+fn add_fact(alloc: Global, lines: &mut String, fact: &Fact) -> Result<(), AllocError> {
+    lines.push_str(format!(in alloc; "{}", fact.table)?.as_str())?;
+    for value in fact.row.items() {
+        lines.push_str("|")?;
+        lines.push_str(value_text(alloc, value)?.as_str())?;
+    }
+    lines.push_str("\n")
+}
+
 /// A line for each fact, with the number of its table.
 fn add_facts(alloc: Global, lines: &mut String, instance: &Instance) -> Result<(), AllocError> {
-    for fact in instance.facts()?.as_slice() {
-        lines.push_str(format!(in alloc; "{}", fact.table)?.as_str())?;
-        for value in fact.row.items() {
-            lines.push_str("|")?;
-            lines.push_str(value_text(alloc, value)?.as_str())?;
-        }
-        lines.push_str("\n")?;
+    let facts = instance.facts()?;
+    for fact in facts.as_slice() {
+        add_fact(alloc, lines, fact)?;
     }
     Ok(())
 }
@@ -352,21 +380,9 @@ fn made_lines(alloc: Global, made: &Made) -> Result<String, AllocError> {
     Ok(lines)
 }
 
-/// What a run of a script makes with this limit, or the limit that it passes.
-fn outcome<F: Fn(u32, &Items<Text>) -> Result<Text, AllocError>, M: Meaning>(
-    alloc: Global,
-    script: &Script,
-    source: &Schema,
-    rows: &Instance,
-    target: &Schema,
-    host: &Host<F, M>,
-    limit: u64,
-) -> Result<String, AllocError>
-    requires serves { Serves F.Fn M.apply host.now }
-    requires fits { FitsScript (named_of source.now) (named_of target.now) (offered host.now) script.now.steps }
-    requires widths { widths rows.now ≡ schema_widths source.now }
-{
-    match eval(alloc, script, source, rows, target, host, limit) {
+/// What a run of a script made, or the limit that it passes.
+fn told(alloc: Global, made: Result<Made, EvalFault>) -> Result<String, AllocError> {
+    match made {
         Ok(made) => made_lines(alloc, &made),
         Err(
             EvalFault::Limit(
@@ -376,34 +392,68 @@ fn outcome<F: Fn(u32, &Items<Text>) -> Result<Text, AllocError>, M: Meaning>(
                 },
             ),
         ) => format!(in alloc; "TargetCells {number}"),
-        Err(EvalFault::Limit(_)) => format!(in alloc; "another limit"),
+        Err(EvalFault::Limit(_)) => String::from_str(alloc, "another limit"),
         Err(EvalFault::Memory) => Err(AllocError),
     }
 }
 
-/// Whether a script makes these lines where so many cells are the limit, and is refused where one fewer is.
+/// Whether a script makes these lines if so many cells are the limit, and is refused if one fewer is.
 fn is_exact<F: Fn(u32, &Items<Text>) -> Result<Text, AllocError>, M: Meaning>(
     alloc: Global,
     script: &Script,
-    source: &Schema,
+    mapping: &Mapping,
     rows: &Instance,
-    target: &Schema,
     host: &Host<F, M>,
     cells: u64,
     lines: &str,
 ) -> Result<bool, AllocError>
     requires serves { Serves F.Fn M.apply host.now }
-    requires fits { FitsScript (named_of source.now) (named_of target.now) (offered host.now) script.now.steps }
-    requires widths { widths rows.now ≡ schema_widths source.now }
+    requires fits { FitsScript (named_of mapping.now.source) (named_of mapping.now.target) (offered host.now) script.now.steps }
+    requires widths { widths rows.now ≡ schema_widths mapping.now.source }
 {
-    let made = outcome(alloc, script, source, rows, target, host, cells)?;
+    let (source, target) = (&mapping.source, &mapping.target);
+    let made = told(alloc, eval(alloc, script, source, rows, target, host, cells))?;
     if cells == 0 {
         return Ok(made.as_str().trim_end() == lines);
     }
     let fewer = cells - 1;
-    let refused = outcome(alloc, script, source, rows, target, host, fewer)?;
+    let refused = told(alloc, eval(alloc, script, source, rows, target, host, fewer))?;
     let refusal = format!(in alloc; "TargetCells {fewer}")?;
     Ok(made.as_str().trim_end() == lines && refused.as_str() == refusal.as_str())
+}
+
+/// Whether the plain script of a mapping makes what it is to make.
+fn plain_passes<F: Fn(u32, &Items<Text>) -> Result<Text, AllocError>, M: Meaning>(
+    alloc: Global,
+    case: &Case<'_>,
+    mapping: &Mapping,
+    rows: &Instance,
+    host: &Host<F, M>,
+) -> Result<bool, AllocError>
+    requires serves { Serves F.Fn M.apply host.now }
+    requires fits { MappingFits (offered host.now) mapping.now }
+    requires widths { widths rows.now ≡ schema_widths mapping.now.source }
+{
+    let rules = mapping.rules.items();
+    let script = plain_script(alloc, rules, &mapping.source, &mapping.target, host)?;
+    is_exact(alloc, &script, mapping, rows, host, case.cells, case.plain)
+}
+
+/// Whether the rewritten one does.
+fn rewritten_passes<F: Fn(u32, &Items<Text>) -> Result<Text, AllocError>, M: Meaning>(
+    alloc: Global,
+    case: &Case<'_>,
+    mapping: &Mapping,
+    rows: &Instance,
+    host: &Host<F, M>,
+) -> Result<bool, AllocError>
+    requires serves { Serves F.Fn M.apply host.now }
+    requires fits { MappingFits (offered host.now) mapping.now }
+    requires widths { widths rows.now ≡ schema_widths mapping.now.source }
+{
+    let rules = mapping.rules.items();
+    let script = rewritten_script(alloc, rules, &mapping.source, &mapping.target, host)?;
+    is_exact(alloc, &script, mapping, rows, host, case.cells, case.rewritten)
 }
 
 /// Whether both scripts of a mapping make what they are to make.
@@ -414,38 +464,39 @@ fn passes<F: Fn(u32, &Items<Text>) -> Result<Text, AllocError>, M: Meaning>(
 ) -> Result<bool, AcceptFault>
     requires { Serves F.Fn M.apply host.now }
 {
-    let Mapping {
-        source,
-        target,
-        rules,
-    } = accepted(alloc, case.mapping, host)?;
-    let rules = rules.items();
-    let rows = instance_of(alloc, &source, case.rows)?;
-    let plain = plain_script(alloc, rules, &source, &target, host)?;
-    let rewritten = rewritten_script(alloc, rules, &source, &target, host)?;
-    let (s, t, cells) = (&source, &target, case.cells);
-    Ok(
-        is_exact(alloc, &plain, s, &rows, t, host, cells, case.plain)?
-            && is_exact(alloc, &rewritten, s, &rows, t, host, cells, case.rewritten)?,
-    )
+    let mapping = accepted(alloc, case.mapping, host)?;
+    let rows = instance_of(alloc, &mapping.source, case.rows)?;
+    Ok(plain_passes(alloc, case, &mapping, &rows, host)?
+        && rewritten_passes(alloc, case, &mapping, &rows, host)?)
 }
 
 /// How many cases come out as they are to before one that doesn't.
+fn passing_by<F: Fn(u32, &Items<Text>) -> Result<Text, AllocError>, M: Meaning>(
+    alloc: Global,
+    all: &str,
+    host: &Host<F, M>,
+) -> Result<usize, AcceptFault>
+    requires { Serves F.Fn M.apply host.now }
+{
+    for (number, text) in all.split("\n\n").enumerate() {
+        let Some(case) = case_of(text) else {
+            return Ok(number);
+        };
+        if !passes(alloc, &case, host)? {
+            return Ok(number);
+        }
+    }
+    Ok(all.split("\n\n").count())
+}
+
+/// The same with the conversions that come with the program.
 fn passing(alloc: Global, all: &str) -> Result<usize, AcceptFault> {
     let function = |code: u32, args: &Items<Text>| -> Result<Text, AllocError>
         requires { IsListed shipped_conversions code (length args.now) }
         ensures { IfOk result (λ t. t ≡ shipped_apply code args.entry.now) }
     { convert(alloc, code, args) };
     let host: Host<_, Shipped> = Host::build(shipped_list(alloc)?, function);
-    for (number, text) in all.split("\n\n").enumerate() {
-        let Some(case) = case_of(text) else {
-            return Ok(number);
-        };
-        if !passes(alloc, &case, &host)? {
-            return Ok(number);
-        }
-    }
-    Ok(all.split("\n\n").count())
+    passing_by(alloc, all, &host)
 }
 
 #[test]

@@ -3,36 +3,32 @@ ghost use Rattle.std.specs.Prelude.{◌<◌, IfOk, length};
 ghost use Rattle.dx_schema.specs.Tables.{tables_of};
 
 use crate::tests::values::instance_of;
-use dx_json::{nest, shred};
-use dx_schema::Schema;
-use dx_schema_text::{MappingText, read_mapping};
+use dx_json::{Facts, nest, shred};
+use dx_schema::{Schema, Trees};
+use dx_schema_text::read_mapping;
 use json::Scratch;
 use std::alloc::{AllocError, Global};
+
+/// The target sets of a mapping text.
+fn trees_of(alloc: Global, text: &str) -> Result<Trees, AllocError> {
+    match read_mapping(alloc, text.as_bytes()) {
+        Ok(said) => Ok(said.target),
+        Err(_) => Err(AllocError),
+    }
+}
 
 /// The target of a mapping text, which has a set.
 fn target_of(alloc: Global, text: &str) -> Result<Schema, AllocError>
     ensures { IfOk result (λ s. 0 < length (tables_of s)) }
 {
-    let Ok(said) = read_mapping(alloc, text.as_bytes()) else {
-        return Err(AllocError);
-    };
-    let MappingText {
-        version: _,
-        source: _,
-        target,
-        lines: _,
-        rules: _,
-    } = said;
-    if !target.has_few_rules() {
+    let trees = trees_of(alloc, text)?;
+    if !trees.has_few_rules() {
         return Err(AllocError);
     }
-    let Ok(target) = Schema::build(alloc, target) else {
-        return Err(AllocError);
-    };
-    if target.tables() == 0 {
-        return Err(AllocError);
+    match Schema::build(alloc, trees) {
+        Ok(target) if target.tables() != 0 => Ok(target),
+        _ => Err(AllocError),
     }
-    Ok(target)
 }
 
 /// Target sets with rows, and the document that they make.
@@ -59,7 +55,8 @@ mapping 1; source { } target { set shop { name; set shelf { no; set box { label;
 pub fn nested(alloc: Global, text: &str) -> Result<String, AllocError> {
     let (mapping, rows) = text.split_once("\n==\n").unwrap_or(("", ""));
     let target = target_of(alloc, mapping)?;
-    let document = nest(alloc, &instance_of(alloc, &target, rows)?, &target, 0)?;
+    let instance = instance_of(alloc, &target, rows)?;
+    let document = nest(alloc, &instance, &target, 0)?;
     String::from_str(alloc, document.as_str().trim_end())
 }
 
@@ -69,21 +66,30 @@ pub const DOCUMENTS: &str = "mapping 1; source { } target { set town { name; } }
 [{\"name\":\"a\"},{\"name\":\"a\"}]
 => Fact { table: 0, row: Row { values: [Const(\"a\")] } } Fact { table: 0, row: Row { values: [Const(\"a\")] } } ";
 
+/// Facts one after the other.
+fn listed(alloc: Global, facts: &Facts) -> Result<String, AllocError> {
+    let mut told = String::new(alloc);
+    for place in 0..facts.len() {
+        let fact = facts.fact(alloc, place)?;
+        told.push_str(format!(in alloc; "{fact:?} ")?.as_str())?;
+    }
+    Ok(told)
+}
+
+/// The facts that a document says of the first set of a schema.
+fn facts_of(alloc: Global, document: &str, target: &Schema) -> Result<String, AllocError>
+    requires { 0 < length (tables_of target.now) }
+{
+    let mut scratch = Scratch::new(alloc);
+    match shred(alloc, document.as_bytes(), &mut scratch, target, 0) {
+        Ok(facts) => listed(alloc, &facts),
+        Err(_) => Err(AllocError),
+    }
+}
+
 /// The facts that a document says of the first set.
 pub fn said(alloc: Global, text: &str) -> Result<String, AllocError> {
     let (mapping, document) = text.split_once("\n==\n").unwrap_or(("", ""));
     let target = target_of(alloc, mapping)?;
-    let mut told = String::new(alloc);
-    if let Ok(facts) = shred(
-        alloc,
-        document.as_bytes(),
-        &mut Scratch::new(alloc),
-        &target,
-        0,
-    ) {
-        for place in 0..facts.len() {
-            told.push_str(format!(in alloc; "{:?} ", facts.fact(alloc, place)?)?.as_str())?;
-        }
-    }
-    Ok(told)
+    facts_of(alloc, document, &target)
 }

@@ -2,6 +2,7 @@
 ghost use Rattle.std.specs.Prelude.{◌≡◌, [], IfOk, length, slice_index_or};
 ghost use Rattle.dx_funcs.specs.Serving.{Serves};
 
+use crate::tests::words;
 use dx_funcs::{Conversion, Host, Meaning};
 use dx_ports::{Items, Text};
 use std::alloc::{AllocError, Global};
@@ -12,14 +13,6 @@ struct First;
 
 impl Meaning for First {
     ghost apply = { λ _ texts. slice_index_or texts 0 [] };
-}
-
-fn texts(alloc: Global, words: &[&str]) -> Result<Items<Text>, AllocError> {
-    let mut made = Vec::new(alloc);
-    for word in words {
-        made.push(Text::from_str(alloc, *word)?)?;
-    }
-    Ok(Items::from_vec(made))
 }
 
 /// The text that the conversion of a name makes of texts. None if no conversion of this name takes so many.
@@ -40,7 +33,36 @@ fn answer<F: Fn(u32, &Items<Text>) -> Result<Text, AllocError>, M: Meaning>(
     Ok(Some(host.call(conversion.code, args)?))
 }
 
-/// What a host answers that has one conversion of two texts.
+/// What a host answers to a line: the name of a conversion, and its texts.
+fn told<F: Fn(u32, &Items<Text>) -> Result<Text, AllocError>, M: Meaning>(
+    alloc: Global,
+    host: &Host<F, M>,
+    line: &str,
+) -> Result<String, AllocError>
+    requires { Serves F.Fn M.apply host.now }
+{
+    let (name, texts) = line.split_once(" ").unwrap_or(("", ""));
+    let name = Text::from_str(alloc, name)?;
+    let texts = Items::from_vec(words(alloc, texts)?);
+    format!(in alloc; "{:?} ", answer(host, &name, &texts)?)
+}
+
+/// The same of some lines.
+fn all_told<F: Fn(u32, &Items<Text>) -> Result<Text, AllocError>, M: Meaning>(
+    alloc: Global,
+    host: &Host<F, M>,
+    lines: &str,
+) -> Result<String, AllocError>
+    requires { Serves F.Fn M.apply host.now }
+{
+    let mut all = String::new(alloc);
+    for line in lines.lines() {
+        all.push_str(told(alloc, host, line)?.as_str())?;
+    }
+    Ok(all)
+}
+
+/// What a host answers that has one conversion of two texts: of two texts, of one, and under a name that it hasn't.
 fn answers(alloc: Global) -> Result<String, AllocError> {
     let mut list = Items::new(alloc);
     list.push(Conversion {
@@ -53,19 +75,11 @@ fn answers(alloc: Global) -> Result<String, AllocError> {
         ensures { IfOk result (λ t. t ≡ slice_index_or args.entry.now 0 []) }
     { args.items()[0].copy() };
     let host: Host<_, First> = Host::build(list, function);
-    let name = Text::from_str(alloc, "first")?;
-    let two = answer(&host, &name, &texts(alloc, &["a", "b"])?)?;
-    let one = answer(&host, &name, &texts(alloc, &["a"])?)?;
-    let unknown = answer(
-        &host,
-        &Text::from_str(alloc, "trim")?,
-        &texts(alloc, &["a"])?,
-    )?;
-    format!(in alloc; "{two:?} {one:?} {unknown:?}")
+    all_told(alloc, &host, "first a b\nfirst a\ntrim a")
 }
 
 #[test]
 fn a_host_answers_by_its_closure(rt: HostRuntime) -> Result<(), Fail> {
-    assert_eq!(rt; answers(rt.alloc())?.as_str(), "Some(\"a\") None None");
+    assert_eq!(rt; answers(rt.alloc())?.as_str(), "Some(\"a\") None None ");
     Ok(())
 }

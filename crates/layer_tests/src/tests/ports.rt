@@ -1,23 +1,38 @@
 // Texts, the fakes of files, and records.
+use crate::tests::words;
 use dx_csv::{load_table, print_records};
-use dx_ports::{File, Inputs, Items, MemInputs, MemOutputs, Outputs, Text};
+use dx_ports::{File, Inputs, Items, MemInputs, MemOutputs, Outputs, PutFault, Text};
 use dx_schema_text::tokens;
 use std::alloc::{AllocError, Global};
 use std::test::Fail;
 
-fn utf8(alloc: Global) -> Result<String, AllocError> {
-    let text = Text::from_str(alloc, "żółw")?;
-    let made = Text::from_bytes(alloc, text.bytes());
-    let copied = text.is(&text.copy()?);
-    let refused = Text::from_bytes(alloc, b"\xFF");
-    let cut = tokens(alloc, b"\"\xC3");
-    format!(in alloc; "{made:?} {copied} {refused:?} {:?}", cut.err())
+/// Whether a text and its copy are equal, as one that is made of its bytes is.
+fn copied(alloc: Global, text: &str) -> Result<bool, AllocError> {
+    let text = Text::from_str(alloc, text)?;
+    let copy = text.copy()?;
+    match Text::from_bytes(alloc, text.bytes()) {
+        Ok(made) => Ok(made.is(&copy)),
+        Err(_) => Ok(false),
+    }
+}
+
+#[test]
+fn texts_are_copied_and_made_of_their_bytes(rt: HostRuntime) -> Result<(), Fail> {
+    assert!(rt; copied(rt.alloc(), "żółw")?);
+    Ok(())
+}
+
+/// What is told of a text of these bytes, and of their tokens.
+fn refused(alloc: Global, bytes: &[u8]) -> Result<String, AllocError> {
+    let text = Text::from_bytes(alloc, bytes).err();
+    let tokens = tokens(alloc, bytes).err();
+    format!(in alloc; "{text:?} {tokens:?}")
 }
 
 #[test]
 fn texts_are_made_of_utf8_alone(rt: HostRuntime) -> Result<(), Fail> {
-    let wanted = "Ok(\"żółw\") true Err(NotUtf8) Some(At { place: 2, kind: Ended })";
-    assert_eq!(rt; utf8(rt.alloc())?.as_str(), wanted);
+    let wanted = "Some(NotUtf8) Some(At { place: 2, kind: Ended })";
+    assert_eq!(rt; refused(rt.alloc(), b"\"\xC3")?.as_str(), wanted);
     Ok(())
 }
 
@@ -33,14 +48,27 @@ fn files(alloc: Global) -> Result<Vec<File>, AllocError> {
     Ok(files)
 }
 
+/// What is answered to a fetch, and what is in the buffer then.
+fn fetched_once(
+    alloc: Global,
+    inputs: &mut MemInputs,
+    name: &str,
+    limit: u64,
+    into: &mut Vec<u8>,
+) -> Result<String, AllocError> {
+    let name = Text::from_str(alloc, name)?;
+    let answer = inputs.fetch(&name, limit, into);
+    format!(in alloc; "{answer:?} {into:?} ")
+}
+
 /// What is fetched of files in memory, of which the third fetch fails.
 fn fetched(alloc: Global) -> Result<String, AllocError> {
     let mut inputs = MemInputs::new(files(alloc)?, vec![in alloc; 2]?);
     let mut into = Vec::new(alloc);
     let mut told = String::new(alloc);
     for (name, limit) in [("a", 3), ("a", 2), ("a", 3), ("b", 3)] {
-        let answer = inputs.fetch(&Text::from_str(alloc, name)?, limit, &mut into);
-        told.push_str(format!(in alloc; "{answer:?} {into:?} ")?.as_str())?;
+        let answer = fetched_once(alloc, &mut inputs, name, limit, &mut into)?;
+        told.push_str(answer.as_str())?;
     }
     Ok(told)
 }
@@ -52,35 +80,30 @@ fn inputs_in_memory_hold_the_first_of_equal_names(rt: HostRuntime) -> Result<(),
     Ok(())
 }
 
+/// What is answered to two puts of a file and two sayings.
+fn answers(outputs: &mut MemOutputs, name: &Text) -> [Result<(), PutFault>; 4] {
+    [
+        outputs.put(name, b"1"),
+        outputs.put(name, b"2"),
+        outputs.say(b"3"),
+        outputs.say(b"4"),
+    ]
+}
+
 /// What is put and said, of which the second call and the fourth fail.
 fn put(alloc: Global) -> Result<String, AllocError> {
     let mut outputs = MemOutputs::new(alloc, vec![in alloc; 1, 3]?);
-    let a = Text::from_str(alloc, "a")?;
-    let first = outputs.put(&a, b"1");
-    let second = outputs.put(&a, b"2");
-    let third = outputs.say(b"3");
-    let fourth = outputs.say(b"4");
-    format!(in alloc;
-        "{first:?} {second:?} {third:?} {fourth:?} {:?} {:?}",
-        outputs.files(),
-        outputs.said()
-    )
+    let name = Text::from_str(alloc, "a")?;
+    let answers = answers(&mut outputs, &name);
+    format!(in alloc; "{answers:?} {:?} {:?}", outputs.files(), outputs.said())
 }
 
 #[test]
 fn outputs_in_memory_count_puts_and_says_together(rt: HostRuntime) -> Result<(), Fail> {
-    let wanted = "Ok(()) Err(Failed) Ok(()) Err(Failed) [File { name: \"a\", bytes: [49] }] [51]";
+    let wanted =
+        "[Ok(()), Err(Failed), Ok(()), Err(Failed)] [File { name: \"a\", bytes: [49] }] [51]";
     assert_eq!(rt; put(rt.alloc())?.as_str(), wanted);
     Ok(())
-}
-
-/// The words of a text.
-fn words(alloc: Global, text: &str) -> Result<Vec<Text>, AllocError> {
-    let mut words = Vec::new(alloc);
-    for word in text.split(' ') {
-        words.push(Text::from_str(alloc, word)?)?;
-    }
-    Ok(words)
 }
 
 /// How many rows a file has under the columns `x` and `y`.
@@ -95,11 +118,12 @@ fn loaded(alloc: Global, bytes: &[u8]) -> Result<String, AllocError> {
     }
 }
 
-/// Two records as they are printed.
-fn printed(alloc: Global) -> Result<Text, AllocError> {
+/// A record of the words of each text, as they are printed.
+fn printed(alloc: Global, texts: &[&str]) -> Result<Text, AllocError> {
     let mut records = Vec::new(alloc);
-    records.push(Items::from_vec(words(alloc, "x a,b")?))?;
-    records.push(Items::from_vec(words(alloc, "\" ")?))?;
+    for text in texts {
+        records.push(Items::from_vec(words(alloc, *text)?))?;
+    }
     print_records(alloc, &records)
 }
 
@@ -108,6 +132,7 @@ fn records_are_read_and_printed(rt: HostRuntime) -> Result<(), Fail> {
     let alloc = rt.alloc();
     let wanted = "[Row { values: [Const(\"1\"), Const(\"a, b\")] }]";
     assert_eq!(rt; loaded(alloc, b"x,y\n1,\"a, b\"\n")?.as_str(), wanted);
-    assert_eq!(rt; printed(alloc)?.as_str(), "x,\"a,b\"\n\"\"\"\",\n");
+    let text = printed(alloc, &["x a,b", "\" "])?;
+    assert_eq!(rt; text.as_str(), "x,\"a,b\"\n\"\"\"\",\n");
     Ok(())
 }

@@ -10,37 +10,63 @@ use dx_schema::{KeyDecl, RefDecl, Schema, SetTree, Trees};
 use std::alloc::{AllocError, Global};
 use std::test::Fail;
 
+/// The words of a text but for the first.
+fn list(alloc: Global, text: &str) -> Result<Items<Text>, AllocError> {
+    let mut words = Vec::new(alloc);
+    for word in text.split(' ').skip(1) {
+        words.push(Text::from_str(alloc, word)?)?;
+    }
+    Ok(Items::from_vec(words))
+}
+
 /// The first word of a text, and the others.
 fn words(alloc: Global, text: &str) -> Result<(Text, Items<Text>), AllocError> {
-    let mut words = text.split(' ');
-    let name = Text::from_str(alloc, words.next().unwrap_or(""))?;
-    let mut others = Vec::new(alloc);
-    for word in words {
-        others.push(Text::from_str(alloc, word)?)?;
+    let first = text.split(' ').next().unwrap_or("");
+    let first = Text::from_str(alloc, first)?;
+    Ok((first, list(alloc, text)?))
+}
+
+/// A key of these columns.
+fn key(alloc: Global, columns: &str) -> Result<KeyDecl, AllocError> {
+    let columns = list(alloc, columns)?;
+    Ok(KeyDecl { columns })
+}
+
+/// A ref of these columns to a set and its columns.
+fn reference(alloc: Global, columns: &str, referred: &str) -> Result<RefDecl, AllocError> {
+    let columns = list(alloc, columns)?;
+    let (set, referred) = words(alloc, referred)?;
+    Ok(RefDecl {
+        columns,
+        set,
+        referred,
+    })
+}
+
+/// Adds a key, or with an arrow a ref.
+fn add_part(alloc: Global, tree: &mut SetTree, part: &str) -> Result<(), AllocError> {
+    match part.split_once(" -> ") {
+        None => tree.keys.push(key(alloc, part)?),
+        Some((from, to)) => tree.refs.push(reference(alloc, from, to)?),
     }
-    Ok((name, Items::from_vec(others)))
+}
+
+/// Adds keys and refs with `; ` between them.
+fn add_parts(alloc: Global, tree: &mut SetTree, parts: &str) -> Result<(), AllocError> {
+    for part in parts.split("; ") {
+        if !part.is_empty() {
+            add_part(alloc, tree, part)?;
+        }
+    }
+    Ok(())
 }
 
 /// A set without its inner sets: `a x y; key x; ref y -> b z` has two columns, a key and a ref.
 fn tree(alloc: Global, text: &str) -> Result<SetTree, AllocError> {
-    let mut parts = text.split("; ");
-    let (name, columns) = words(alloc, parts.next().unwrap_or(""))?;
+    let (columns, parts) = text.split_once("; ").unwrap_or((text, ""));
+    let (name, columns) = words(alloc, columns)?;
     let mut tree = SetTree::new(alloc, name, columns);
-    for part in parts {
-        match part.split_once(" -> ") {
-            None => tree.keys.push(KeyDecl {
-                columns: words(alloc, part)?.1,
-            })?,
-            Some((from, to)) => {
-                let (set, referred) = words(alloc, to)?;
-                tree.refs.push(RefDecl {
-                    columns: words(alloc, from)?.1,
-                    set,
-                    referred,
-                })?;
-            }
-        }
-    }
+    add_parts(alloc, &mut tree, parts)?;
     Ok(tree)
 }
 
@@ -216,14 +242,19 @@ fn told(alloc: Global, schema: &Schema, table: u32) -> Result<String, AllocError
     )
 }
 
-/// The tables of sets, and how many roots there are.
-fn tables(alloc: Global, text: &str) -> Result<String, AllocError> {
-    let Ok(schema) = Schema::build(alloc, trees(alloc, text)?) else {
-        return Err(AllocError);
-    };
+/// The schema of sets that make one.
+fn schema(alloc: Global, text: &str) -> Result<Schema, AllocError> {
+    match Schema::build(alloc, trees(alloc, text)?) {
+        Ok(schema) => Ok(schema),
+        Err(_) => Err(AllocError),
+    }
+}
+
+/// The tables of a schema, and how many roots there are.
+fn tables(alloc: Global, schema: &Schema) -> Result<String, AllocError> {
     let mut all = String::new(alloc);
     for table in 0..schema.tables() {
-        all.push_str(told(alloc, &schema, table)?.as_str())?;
+        all.push_str(told(alloc, schema, table)?.as_str())?;
     }
     all.push_str(format!(in alloc; "{}", schema.trees().len())?.as_str())?;
     Ok(all)
@@ -231,7 +262,8 @@ fn tables(alloc: Global, text: &str) -> Result<String, AllocError> {
 
 #[test]
 fn sets_have_these_tables(rt: HostRuntime) -> Result<(), Fail> {
-    assert_eq!(rt; tables(rt.alloc(), NESTED)?.as_str(), TABLES);
+    let schema = schema(rt.alloc(), NESTED)?;
+    assert_eq!(rt; tables(rt.alloc(), &schema)?.as_str(), TABLES);
     Ok(())
 }
 
@@ -255,10 +287,14 @@ pub const CONCLUSIONS: &str = "1 0 x
 1 2 x
 => false";
 
+/// A number of a line, 0 if there is none.
+fn number(word: Option<&str>) -> u32 {
+    word.unwrap_or("").parse::<u32>().unwrap_or(0)
+}
+
 fn atom(alloc: Global, line: &str) -> Result<Atom, AllocError> {
     let mut words = line.split(' ');
-    let table = words.next().unwrap_or("").parse::<u32>().unwrap_or(0);
-    let null = words.next().unwrap_or("").parse::<u32>().unwrap_or(0);
+    let (table, null) = (number(words.next()), number(words.next()));
     let mut cells = Items::new(alloc);
     cells.push(Cell::Ex(null))?;
     for _ in words {
@@ -267,14 +303,17 @@ fn atom(alloc: Global, line: &str) -> Result<Atom, AllocError> {
     Ok(Atom { table, cells })
 }
 
+fn atoms(alloc: Global, lines: &str) -> Result<Items<Atom>, AllocError> {
+    let mut atoms = Items::new(alloc);
+    for line in lines.lines() {
+        atoms.push(atom(alloc, line)?)?;
+    }
+    Ok(atoms)
+}
+
 /// Whether a conclusion can be closed.
 pub fn closes(alloc: Global, text: &str) -> Result<String, AllocError> {
-    let mut conclusion = Items::new(alloc);
-    for line in text.lines() {
-        conclusion.push(atom(alloc, line)?)?;
-    }
-    match Schema::build(alloc, trees(alloc, "unit uname / staff sname")?) {
-        Ok(units) => format!(in alloc; "{}", can_be_closed(conclusion.items(), &units)),
-        Err(_) => Err(AllocError),
-    }
+    let units = schema(alloc, "unit uname / staff sname")?;
+    let conclusion = atoms(alloc, text)?;
+    format!(in alloc; "{}", can_be_closed(conclusion.items(), &units))
 }

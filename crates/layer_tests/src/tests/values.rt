@@ -3,7 +3,7 @@ ghost use Rattle.std.specs.Prelude.{◌≡◌, IfOk};
 ghost use Rattle.dx_instance.specs.Stored.{widths};
 ghost use Rattle.dx_schema.specs.Tables.{schema_widths};
 
-use dx_instance::{Instance, Row, copy_value, value_read, value_text};
+use dx_instance::{Instance, Row, Value, copy_value, value_read, value_text};
 use dx_ports::Text;
 use dx_schema::Schema;
 use std::alloc::{AllocError, Global};
@@ -36,28 +36,36 @@ a?
 ?0.0.4294967296
 => none";
 
+/// A value, and the text of its copy.
+fn told(alloc: Global, value: &Value) -> Result<String, AllocError> {
+    let copy = copy_value(value)?;
+    format!(in alloc; "{value:?} {}", value_text(alloc, &copy)?)
+}
+
 /// The value of a text, and the text of its copy.
 pub fn read(alloc: Global, text: &str) -> Result<String, AllocError> {
-    match value_read(alloc, &Text::from_str(alloc, text)?)? {
-        Some(value) => format!(in alloc; "{value:?} {}", value_text(alloc, &copy_value(&value)?)?),
+    let text = Text::from_str(alloc, text)?;
+    match value_read(alloc, &text)? {
+        Some(value) => told(alloc, &value),
         None => String::from_str(alloc, "none"),
     }
 }
 
-/// Adds the row of a line, if it is as wide as its table.
-fn add_line(alloc: Global, instance: &mut Instance, line: &str) -> Result<(), AllocError>
-    ensures { widths instance.new ≡ widths instance.old }
-{
-    let mut cells = line.split('|');
-    let Ok(table) = cells.next().unwrap_or("").parse::<u32>() else {
-        return Ok(());
-    };
+/// The row of the texts of its values with `|` between them.
+fn row(alloc: Global, cells: &str) -> Result<Row, AllocError> {
     let mut row = Row::new(alloc);
-    for cell in cells {
+    for cell in cells.split('|') {
         if let Some(value) = value_read(alloc, &Text::from_str(alloc, cell)?)? {
             row.push(value)?;
         }
     }
+    Ok(row)
+}
+
+/// Adds a row, if it is as wide as the table of this number.
+fn add_row(instance: &mut Instance, table: u32, row: Row) -> Result<(), AllocError>
+    ensures { widths instance.new ≡ widths instance.old }
+{
     if table >= instance.tables()
         || row.len() != u64::from(instance.width(table))
         || instance.count(table) >= 1000
@@ -66,6 +74,17 @@ fn add_line(alloc: Global, instance: &mut Instance, line: &str) -> Result<(), Al
     }
     instance.add(table, row)?;
     Ok(())
+}
+
+/// Adds the row of a line, if it is as wide as its table.
+fn add_line(alloc: Global, instance: &mut Instance, line: &str) -> Result<(), AllocError>
+    ensures { widths instance.new ≡ widths instance.old }
+{
+    let (table, cells) = line.split_once("|").unwrap_or(("", ""));
+    match table.parse::<u32>() {
+        Ok(table) => add_row(instance, table, row(alloc, cells)?),
+        Err(_) => Ok(()),
+    }
 }
 
 /// The rows of lines, each the number of a table and the texts of its values with `|` between them.
