@@ -100,21 +100,15 @@ fn push_record(fields: &mut Fields, given: &ByteRecord) -> Result<bool, AllocErr
     Ok(true)
 }
 
-/// The texts of a table's fields under the header, record by record, and how many records there are. Those of a table
-/// without quotes are read straight from its bytes.
-pub(crate) fn read_fields(
+// The texts of the fields of the records that are left, and how many records there are.
+fn fields_under(
     alloc: Global,
-    bytes: &[u8],
+    records: &mut Records,
     columns: &[Text],
 ) -> Result<(Texts, u32), RowFault>
-    requires { length columns.now < 2 ^ 32 - 1 }
-    ensures rows { IfOk result (λ read. AreFields (table_records bytes.now) columns.now read.0 read.1) }
-    ensures fault { IfErr result (HasFault (table_records bytes.now) columns.now) }
+    ensures rows { IfOk result (λ read. AreFields (columns.now ∷ records.old) columns.now read.0 read.1) }
+    ensures fault { IfErr result (HasFault (columns.now ∷ records.old) columns.now) }
 {
-    let mut records = records_under(alloc, bytes, columns)?;
-    if let Some((fields, count)) = plain_fields(alloc, bytes, columns.len())? {
-        return Ok(read_texts(alloc, fields, count)?);
-    }
     let mut record = ByteRecord::new(alloc);
     let mut fields = Fields::new(alloc);
     for number in 1..u64::MAX {
@@ -132,6 +126,24 @@ pub(crate) fn read_fields(
     Err(RowFault::Memory)
 }
 
+/// The texts of a table's fields under the header, record by record, and how many records there are. Those of a table
+/// without quotes are read straight from its bytes.
+pub(crate) fn read_fields(
+    alloc: Global,
+    bytes: &[u8],
+    columns: &[Text],
+) -> Result<(Texts, u32), RowFault>
+    requires { length columns.now < 2 ^ 32 - 1 }
+    ensures rows { IfOk result (λ read. AreFields (table_records bytes.now) columns.now read.0 read.1) }
+    ensures fault { IfErr result (HasFault (table_records bytes.now) columns.now) }
+{
+    let mut records = records_under(alloc, bytes, columns)?;
+    match plain_fields(alloc, bytes, columns.len())? {
+        Some((fields, count)) => Ok(read_texts(alloc, fields, count)?),
+        None => fields_under(alloc, &mut records, columns),
+    }
+}
+
 // The fields as texts, and the number of records as it is stored.
 fn read_texts(alloc: Global, fields: Fields, count: u64) -> Result<(Texts, u32), AllocError>
     requires { HaveFields fields (fields_in fields) }
@@ -145,19 +157,15 @@ fn read_texts(alloc: Global, fields: Fields, count: u64) -> Result<(Texts, u32),
     Ok((texts, count))
 }
 
-/// Reads the rows of a table: a record of the columns, and then for each row a record of the texts of its constants.
-///
-/// The first record at fault is told; of one record, the number of its fields before its texts.
-///
-/// # Errors
-///
-/// `Bad` with the fault of the first record at fault. `Memory` if there is no memory.
-pub fn load_table(alloc: Global, bytes: &[u8], columns: &[Text]) -> Result<Vec<Row>, RowFault>
-    requires { length columns.now < 2 ^ 32 - 1 }
-    ensures rows { IfOk result (λ rows. IsTable (table_records bytes.now) columns.now rows.items) }
-    ensures fault { IfErr result (HasFault (table_records bytes.now) columns.now) }
+// The rows of the records that are left.
+fn rows_under(
+    alloc: Global,
+    records: &mut Records,
+    columns: &[Text],
+) -> Result<Vec<Row>, RowFault>
+    ensures rows { IfOk result (λ rows. IsTable (columns.now ∷ records.old) columns.now rows.items) }
+    ensures fault { IfErr result (HasFault (columns.now ∷ records.old) columns.now) }
 {
-    let mut records = records_under(alloc, bytes, columns)?;
     let mut record = ByteRecord::new(alloc);
     let mut rows = Vec::new(alloc);
     for number in 1..u64::MAX {
@@ -174,4 +182,20 @@ pub fn load_table(alloc: Global, bytes: &[u8], columns: &[Text]) -> Result<Vec<R
     }
     // No bytes hold so many records: the loop has a bound so that the number of a record is a `u64`.
     Err(RowFault::Memory)
+}
+
+/// Reads the rows of a table: a record of the columns, and then for each row a record of the texts of its constants.
+///
+/// The first record at fault is told; of one record, the number of its fields before its texts.
+///
+/// # Errors
+///
+/// `Bad` with the fault of the first record at fault. `Memory` if there is no memory.
+pub fn load_table(alloc: Global, bytes: &[u8], columns: &[Text]) -> Result<Vec<Row>, RowFault>
+    requires { length columns.now < 2 ^ 32 - 1 }
+    ensures rows { IfOk result (λ rows. IsTable (table_records bytes.now) columns.now rows.items) }
+    ensures fault { IfErr result (HasFault (table_records bytes.now) columns.now) }
+{
+    let mut records = records_under(alloc, bytes, columns)?;
+    rows_under(alloc, &mut records, columns)
 }

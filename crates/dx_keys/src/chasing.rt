@@ -1,8 +1,12 @@
 // The key chase of an instance.
-ghost use Rattle.std.specs.Prelude.{◌≡◌, IfErr, IfOk};
+ghost use Rattle.std.specs.Prelude.{◌≡◌, IfErr, IfOk, map};
 ghost use Rattle.dx_schema.specs.Tables.{model_tables, schema_widths};
-ghost use Rattle.dx_instance.specs.Stored.{widths};
+ghost use Rattle.dx_instance.specs.NullMaps.{pairs_of};
+ghost use Rattle.dx_instance.specs.Numbers.{ValuesAscend};
+ghost use Rattle.dx_instance.specs.Shown.{PartsFit, renumbered, shown_tables};
+ghost use Rattle.dx_instance.specs.Stored.{IsSorting, widths};
 ghost use Rattle.dx_keys.specs.Answers.{IsChased, IsFaultOf};
+ghost use Rattle.dx_keys.specs.Numbers.{AreRoots, map_of};
 
 use crate::answers::Chased;
 use crate::clashes::read_clash;
@@ -14,35 +18,48 @@ use crate::tables::number_tables;
 use dx_chase::chase_rows;
 use dx_instance::Instance;
 use dx_schema::Schema;
-use std::alloc::Global;
+use std::alloc::{AllocError, Global};
 
-// The chase by the numbers of values.
-fn chase_numbers(alloc: Global, instance: Instance, schema: &Schema) -> Result<Chased, ChaseFault>
-    requires { widths instance ≡ schema_widths schema.now }
-    ensures ok { IfOk result (IsChased (model_tables schema.now) instance) }
-    ensures fault { IfErr result (IsFaultOf (model_tables schema.now) instance) }
+// What the roots of numbers say of an instance: what becomes of its nulls, and of it.
+fn read_chased(alloc: Global, numbering: Numbering, roots: &[u32]) -> Result<Chased, AllocError>
+    requires ascend { ValuesAscend numbering.symbols }
+    requires roots { AreRoots numbering.symbols roots.now }
+    requires fit { PartsFit numbering.symbols numbering.tables.items }
+    ensures map { IfOk result (λ c. pairs_of c.map ≡ map_of numbering.symbols roots.now) }
+    ensures image { IfOk result (λ c. IsSorting (shown_tables numbering.symbols (map (renumbered roots.now) numbering.tables.items)) c.instance) }
 {
-    let _instance_tables = instance.tables();
     let Numbering {
         symbols,
-        constants,
+        constants: _,
         tables,
-    } = number(alloc, &instance)?;
+    } = numbering;
+    let map = read_map(alloc, &symbols, roots)?;
+    let instance = read_image(alloc, symbols, roots, &tables)?;
+    Ok(Chased { instance, map })
+}
+
+// The chase by the numbers of values.
+fn chase_numbers(alloc: Global, instance: &Instance, schema: &Schema) -> Result<Chased, ChaseFault>
+    requires { widths instance.now ≡ schema_widths schema.now }
+    ensures ok { IfOk result (IsChased (model_tables schema.now) instance.now) }
+    ensures fault { IfErr result (IsFaultOf (model_tables schema.now) instance.now) }
+{
+    let _instance_tables = instance.tables();
+    let numbering = number(alloc, instance)?;
     let _schema_tables = schema.tables();
-    let rows = number_tables(alloc, schema, &tables)?;
-    let count = symbols.len() as u32;
-    let found = chase_rows(alloc, &rows, count, constants)?;
+    let rows = number_tables(alloc, schema, &numbering.tables)?;
+    let count = numbering.symbols.len() as u32;
+    let found = chase_rows(alloc, &rows, count, numbering.constants)?;
     match found.chased.clash {
         Some(place) => {
-            let clash = read_clash(alloc, &symbols, &rows, &found, place)?;
+            let clash = read_clash(alloc, &numbering.symbols, &rows, &found, place)?;
             Err(ChaseFault::Clash(clash))
         }
-        None => {
-            let roots = found.chased.roots.items();
-            let map = read_map(alloc, &symbols, roots)?;
-            let instance = read_image(alloc, symbols, roots, &tables)?;
-            Ok(Chased { instance, map })
-        }
+        None => Ok(read_chased(
+            alloc,
+            numbering,
+            found.chased.roots.items(),
+        )?),
     }
 }
 
@@ -58,7 +75,7 @@ pub fn chase(alloc: Global, instance: Instance, schema: &Schema) -> Result<Chase
     ensures fault { IfErr result (IsFaultOf (model_tables schema.now) instance) }
 {
     if !has_no_keys(schema) {
-        return chase_numbers(alloc, instance, schema);
+        return chase_numbers(alloc, &instance, schema);
     }
     let _tables = instance.tables();
     Ok(unchanged(alloc, instance)?)

@@ -1,9 +1,9 @@
-use Rattle.std.proofs.Common.{◌≡◌, length, arith}
+use Rattle.std.proofs.Common.{◌≡◌, ◌∷◌, length, arith}
 use Rattle.csv.specs.Records.{fields_of}
 use Rattle.dx_csv.specs.Fields.{flat}
-use Rattle.dx_csv.specs.Table.{IsWhole, table_records}
+use Rattle.dx_csv.specs.Table.{IsWhole}
 use Rattle.dx_csv.proofs.TableFacts.{collected-more}
-use Rattle.dx_csv.proofs.load.read_fields.Goals as goal
+use Rattle.dx_csv.proofs.load.fields_under.Goals as goal
 
 pub loop-number-preserved : goal.loop-number-preserved
 loop-number-preserved c =
@@ -11,5 +11,5 @@ loop-number-preserved c =
     let fields = fields_of c.next.new.row in
     let width : length fields ≡ length c.args.columns.now = omega arith in
     let whole : IsWhole c.args.columns.now fields = record { width = width; text = c.in_ok-push_record.ensures.text c.if-not-branch-2.false } in
-    collected-more (table_records c.args.bytes.now) c.args.columns.now c.loop-number.fields c.push_record.new.fields c.loop-number.records c.next.new.self c.loop-number.number fields
+    collected-more (c.args.columns.now ∷ c.args.records.now) c.args.columns.now c.loop-number.fields c.push_record.new.fields c.loop-number.records c.next.new.self c.loop-number.number fields
     c.loop-number.invariant left whole (c.in_ok-push_record.ensures.pushed (flat c.loop-number.invariant.under) c.loop-number.invariant.have c.if-not-branch-2.false)
