@@ -1,6 +1,7 @@
 // The reduction to a core.
-ghost use Rattle.std.specs.Prelude.{◌≡◌, IfOk, OnOk};
+ghost use Rattle.std.specs.Prelude.{◌≡◌, List, IfOk, OnOk};
 ghost use Rattle.dx_ports.specs.Members.{Each};
+ghost use Rattle.dx_instance.specs.Stored.{IsSorting, TableRows};
 ghost use Rattle.dx_core.specs.Reducing.{IsReduction};
 ghost use Rattle.dx_core.specs.Sparing.{HasRoom};
 
@@ -41,6 +42,21 @@ fn room_for(alloc: Global, blocks: &[Block]) -> Result<Search, AllocError>
     }
 }
 
+// The reduction of an instance that has the same facts as this one, whose columns have indexes.
+fn reduce_sorted(alloc: Global, sorted: &Instance) -> Result<Reduced, AllocError>
+    ensures { (I : List TableRows) → IsSorting I sorted.now → IfOk result (IsReduction I) }
+{
+    let blocks = blocks(alloc, sorted)?;
+    let mut search = room_for(alloc, &blocks)?;
+    let mut gone = Gone::none_of(alloc, sorted)?;
+    let changed = spare_blocks(alloc, &mut search, blocks, sorted, &mut gone)?;
+    let map = map_into(alloc, &mut search, &changed, sorted, &gone)?;
+    Ok(Reduced {
+        instance: instance_left(alloc, sorted, &gone)?,
+        map,
+    })
+}
+
 /// The reduction of an instance: a part of it that is its image under the map, and a core.
 ///
 /// # Errors
@@ -51,13 +67,5 @@ pub fn reduce(alloc: Global, instance: Instance) -> Result<Reduced, AllocError>
 {
     let mut sorted = instance.into_sorted()?;
     index_all(&mut sorted)?;
-    let blocks = blocks(alloc, &sorted)?;
-    let mut search = room_for(alloc, &blocks)?;
-    let mut gone = Gone::none_of(alloc, &sorted)?;
-    let changed = spare_blocks(alloc, &mut search, blocks, &sorted, &mut gone)?;
-    let map = map_into(alloc, &mut search, &changed, &sorted, &gone)?;
-    Ok(Reduced {
-        instance: instance_left(alloc, &sorted, &gone)?,
-        map,
-    })
+    reduce_sorted(alloc, &sorted)
 }

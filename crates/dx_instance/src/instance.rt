@@ -1,9 +1,11 @@
 // Instances: for each table a width and distinct rows, whose values stand as numbers.
 ghost use Rattle.std.specs.Prelude.{◌≡◌, ◌↔◌, ◌<◌, ◌≤◌, ◌-◌, ◌^◌, ℕ, List, length, map, count_by, Some, slice_get, slice_index_or, IsTrue, IfOk, OnOk, OnErr, IfSome, IfNone, MatchBool, MatchOption};
 ghost use Rattle.std.specs.Bool.{OnTrue};
+ghost use Rattle.std.specs.List.{AllZip};
 ghost use Rattle.dx_ports.specs.Members.{Distinct, Each, ◌∈◌};
 ghost use Rattle.dx_model.specs.Values.{RowsAscend};
 ghost use Rattle.dx_instance.specs.Stored.{AddsRow, IsSorting, facts, rows_of, table_at, without_rows};
+ghost use Rattle.dx_instance.specs.Cells.{IsPut};
 ghost use Rattle.dx_instance.specs.Images.{AreImages, IsImage};
 ghost use Rattle.dx_instance.specs.Numbers.{AreApart, Extends, ValuesAscend, value_of};
 ghost use Rattle.dx_instance.specs.Shown.{AreBelow, NumbersFit, PartsFit, RowsFit, Shows, renumbered, shown_row, shown_tables};
@@ -96,6 +98,17 @@ fn images_of(
     Ok(images)
 }
 
+// Tables of rows, which are put in order.
+fn put_all(alloc: Global, tables: Vec<Rows>) -> Result<Vec<Table>, AllocError>
+    ensures { IfOk result (λ all. AllZip IsPut tables.items all.items) }
+{
+    let mut all = Vec::with_capacity(alloc, tables.len())?;
+    for rows in tables {
+        all.push(Table::from_rows(alloc, rows)?)?;
+    }
+    Ok(all)
+}
+
 // An instance of rows whose symbols are in order.
 fn of_ordered(alloc: Global, symbols: Symbols, tables: Vec<Rows>) -> Result<Instance, AllocError>
     requires ascend { ValuesAscend symbols }
@@ -104,14 +117,11 @@ fn of_ordered(alloc: Global, symbols: Symbols, tables: Vec<Rows>) -> Result<Inst
     ensures { IfOk result (IsSorting (shown_tables symbols tables.items)) }
 {
     let _few = symbols.len();
-    let mut ordered = Vec::with_capacity(alloc, tables.len())?;
-    for rows in tables {
-        ordered.push(Table::from_rows(alloc, rows)?)?;
-    }
+    let tables = put_all(alloc, tables)?;
     Ok(Instance {
         alloc,
         symbols,
-        tables: ordered,
+        tables,
     })
 }
 
