@@ -17,6 +17,14 @@ loop-settled-init c =
       grows = stays c.intern_blank.new.symbols;
     }
 
+pub settle_column-requires-clause-settled : goal.settle_column-requires-clause-settled
+settle_column-requires-clause-settled c =
+    let first : c.args.width - c.loop-settled.settled ≡ c.args.width - 1 - c.loop-settled.settled + 1 = omega (arith, c.loop-settled-test.true) in
+    subst (AreSettled c.args.used.now c.loop-settled.symbols c.args.texts.now c.args.width c.args.count c.loop-settled.cells.items) first c.loop-settled.invariant.settled
+
+pub settle_column-requires-clause-cells : goal.settle_column-requires-clause-cells
+settle_column-requires-clause-cells c = c.loop-settled.invariant.size ∙ c.requires
+
 pub loop-settled-preserved : goal.loop-settled-preserved
 loop-settled-preserved c =
     let next : c.args.width - 1 - c.loop-settled.settled ≡ c.args.width - (c.loop-settled.settled + 1) = omega arith in
