@@ -9,15 +9,16 @@ ghost use Rattle.std.specs.Prelude.{◌≡◌, IfOk, length};
 ghost use Rattle.std.specs.Process.{exit_status};
 ghost use Rattle.clio_ending.specs.Ending.{status_of};
 ghost use Rattle.dx_funcs.specs.Offers.{IsListed};
+ghost use Rattle.dx_funcs.specs.Serving.{Serves};
 ghost use Rattle.dx_funcs.specs.Shipped.{shipped_apply, shipped_conversions};
 
 use clio_folder::{FolderInputs, FolderOutputs};
 use clio_top::{Ending, message, run};
-use dx_funcs::{Host, Shipped, convert, shipped_list};
+use dx_funcs::{Host, Meaning, Shipped, convert, shipped_list};
 use dx_ports::{Items, Text};
 use std::alloc::AllocError;
 use std::process::ExitCode;
-use std::rt::Env;
+use std::rt::{Env, Files};
 use std::{env, io};
 
 // The words after the program's name. Where one of them is no text, the list is the empty word alone, which no
@@ -57,6 +58,20 @@ fn no_memory() -> ExitCode
     ExitCode::from(Ending::Memory.status())
 }
 
+// A run of these words in the working folder, and its status.
+fn run_here<F: Fn(u32, &Items<Text>) -> Result<Text, AllocError>, M: Meaning>(
+    rt: &(impl Files + Print + Eprint + AllocGlobal),
+    words: &Vec<Text>,
+    host: &Host<F, M>,
+) -> ExitCode
+    requires { Serves F.Fn M.apply host.now }
+{
+    let mut inputs = FolderInputs::new(rt);
+    let mut outputs = FolderOutputs::new(rt);
+    let ending = run(rt.alloc(), words, &mut inputs, &mut outputs, host);
+    ended(rt, &ending)
+}
+
 fn main(rt: HostRuntime) -> ExitCode {
     let Ok(words) = words(&rt) else {
         return no_memory();
@@ -70,8 +85,5 @@ fn main(rt: HostRuntime) -> ExitCode {
         ensures { IfOk result (λ t. t ≡ shipped_apply code args.entry.now) }
     { convert(alloc, code, args) };
     let host: Host<_, Shipped> = Host::build(list, conversions);
-    let mut inputs = FolderInputs::new(&rt);
-    let mut outputs = FolderOutputs::new(&rt);
-    let ending = run(alloc, &words, &mut inputs, &mut outputs, &host);
-    ended(&rt, &ending)
+    run_here(&rt, &words, &host)
 }

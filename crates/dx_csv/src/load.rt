@@ -158,11 +158,7 @@ fn read_texts(alloc: Global, fields: Fields, count: u64) -> Result<(Texts, u32),
 }
 
 // The rows of the records that are left.
-fn rows_under(
-    alloc: Global,
-    records: &mut Records,
-    columns: &[Text],
-) -> Result<Vec<Row>, RowFault>
+fn rows_under(alloc: Global, records: &mut Records, columns: &[Text]) -> Result<Vec<Row>, RowFault>
     ensures rows { IfOk result (λ rows. IsTable (columns.now ∷ records.old) columns.now rows.items) }
     ensures fault { IfErr result (HasFault (columns.now ∷ records.old) columns.now) }
 {

@@ -55,11 +55,7 @@ fn chase_numbers(alloc: Global, instance: &Instance, schema: &Schema) -> Result<
             let clash = read_clash(alloc, &numbering.symbols, &rows, &found, place)?;
             Err(ChaseFault::Clash(clash))
         }
-        None => Ok(read_chased(
-            alloc,
-            numbering,
-            found.chased.roots.items(),
-        )?),
+        None => Ok(read_chased(alloc, numbering, found.chased.roots.items())?),
     }
 }
 

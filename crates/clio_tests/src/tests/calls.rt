@@ -18,9 +18,11 @@ fn is_accepted<F: Fn(u32, &Items<Text>) -> Result<Text, AllocError>, M: Meaning>
     let mapping = accept(alloc, PEOPLE.as_bytes(), host)?;
     let person = Text::from_str(alloc, "person")?;
     let emp = Text::from_str(alloc, "emp")?;
-    Ok(mapping.target.table_named(&person) == Some(0)
-        && mapping.target.table_named(&emp) == None
-        && mapping.rules.len() == 1)
+    Ok(
+        mapping.target.table_named(&person) == Some(0)
+            && mapping.target.table_named(&emp) == None
+            && mapping.rules.len() == 1,
+    )
 }
 
 #[test]

@@ -114,9 +114,11 @@ fn ends_so(
 ) -> Result<bool, AllocError> {
     let outcome = outcome_of(alloc, "exchange", reads, writes)?;
     let left = left(alloc, &outcome.outputs)?;
-    Ok(outcome.status == status
-        && outcome.message.as_str() == text
-        && left.as_slice() == files.as_bytes())
+    Ok(
+        outcome.status == status
+            && outcome.message.as_str() == text
+            && left.as_slice() == files.as_bytes(),
+    )
 }
 
 /// Whether the read with this number, failing, leaves nothing and is told so.
@@ -159,7 +161,14 @@ fn leaves_the_files_before(alloc: Global, number: usize) -> Result<bool, AllocEr
         return ends_so(alloc, Vec::new(alloc), writes, 0, "", files.as_str());
     }
     let text = format!(in alloc; "write fault: {number} files written")?;
-    ends_so(alloc, Vec::new(alloc), writes, 8, text.as_str(), files.as_str())
+    ends_so(
+        alloc,
+        Vec::new(alloc),
+        writes,
+        8,
+        text.as_str(),
+        files.as_str(),
+    )
 }
 
 #[test]
@@ -175,9 +184,11 @@ fn each_write_can_fail(rt: HostRuntime) -> Result<(), Fail> {
 fn saying_fails(alloc: Global) -> Result<bool, AllocError> {
     let outcome = outcome_of(alloc, "show", Vec::new(alloc), vec![in alloc; 0]?)?;
     let left = left(alloc, &outcome.outputs)?;
-    Ok(outcome.status == 8
-        && outcome.message.as_str() == "write fault: 0 files written"
-        && left.is_empty())
+    Ok(
+        outcome.status == 8
+            && outcome.message.as_str() == "write fault: 0 files written"
+            && left.is_empty(),
+    )
 }
 
 #[test]

@@ -412,12 +412,18 @@ fn is_exact<F: Fn(u32, &Items<Text>) -> Result<Text, AllocError>, M: Meaning>(
     requires widths { widths rows.now ≡ schema_widths mapping.now.source }
 {
     let (source, target) = (&mapping.source, &mapping.target);
-    let made = told(alloc, eval(alloc, script, source, rows, target, host, cells))?;
+    let made = told(
+        alloc,
+        eval(alloc, script, source, rows, target, host, cells),
+    )?;
     if cells == 0 {
         return Ok(made.as_str().trim_end() == lines);
     }
     let fewer = cells - 1;
-    let refused = told(alloc, eval(alloc, script, source, rows, target, host, fewer))?;
+    let refused = told(
+        alloc,
+        eval(alloc, script, source, rows, target, host, fewer),
+    )?;
     let refusal = format!(in alloc; "TargetCells {fewer}")?;
     Ok(made.as_str().trim_end() == lines && refused.as_str() == refusal.as_str())
 }
@@ -453,7 +459,15 @@ fn rewritten_passes<F: Fn(u32, &Items<Text>) -> Result<Text, AllocError>, M: Mea
 {
     let rules = mapping.rules.items();
     let script = rewritten_script(alloc, rules, &mapping.source, &mapping.target, host)?;
-    is_exact(alloc, &script, mapping, rows, host, case.cells, case.rewritten)
+    is_exact(
+        alloc,
+        &script,
+        mapping,
+        rows,
+        host,
+        case.cells,
+        case.rewritten,
+    )
 }
 
 /// Whether both scripts of a mapping make what they are to make.
@@ -466,8 +480,10 @@ fn passes<F: Fn(u32, &Items<Text>) -> Result<Text, AllocError>, M: Meaning>(
 {
     let mapping = accepted(alloc, case.mapping, host)?;
     let rows = instance_of(alloc, &mapping.source, case.rows)?;
-    Ok(plain_passes(alloc, case, &mapping, &rows, host)?
-        && rewritten_passes(alloc, case, &mapping, &rows, host)?)
+    Ok(
+        plain_passes(alloc, case, &mapping, &rows, host)?
+            && rewritten_passes(alloc, case, &mapping, &rows, host)?,
+    )
 }
 
 /// How many cases come out as they are to before one that doesn't.
