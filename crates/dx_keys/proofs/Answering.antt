@@ -12,7 +12,7 @@ use Rattle.dx_model.specs.declared.values.Value.{Value}
 use Rattle.dx_model.specs.declared.values.Value.TheVariants.{Const, Null}
 use Rattle.dx_model.specs.declared.facts.Fact.{Fact}
 use Rattle.dx_model.specs.declared.facts.NullPair.{NullPair}
-use Rattle.dx_model.specs.Tables.{Determination, DeterminationsFit, FactFits, IsInstance, Table, cell, table_of}
+use Rattle.dx_model.specs.Tables.{Determination, FactFits, IsInstance, Table, cell, table_of}
 use Rattle.dx_model.specs.Instances.{given, image, moved}
 use Rattle.dx_model.specs.Values.{row_cmp, value_cmp}
 use Rattle.dx_model.specs.Chase.{after, IsClashAt}
@@ -40,7 +40,7 @@ use Rattle.dx_chase.specs.Rows.{AreBelow, AreRowDemands, ColumnsFit, InRows, col
 use Rattle.dx_keys.specs.declared.answers.Clash.{Clash}
 use Rattle.dx_keys.specs.declared.numbering.Numbering.{Numbering}
 use Rattle.dx_keys.specs.Answers.{IsChased, IsClash, determination_at, fact_in}
-use Rattle.dx_keys.specs.Numbers.{AreRoots, AreTablesIn, AreValues, CanRead, IsNumbering, IsRead, determination_of, map_of, row_read}
+use Rattle.dx_keys.specs.Numbers.{AreRoots, AreTablesIn, AreValues, CanRead, IsNumbering, IsRead, Numbered, determination_of, map_of, row_read}
 use Rattle.dx_keys.proofs.Demanding.{AreTablesOf, IsRowChase, IsRowClash, IsRowMap, determination_in, fact_of}
 use Rattle.dx_keys.proofs.Whole.{row_chase}
 use Rattle.dx_keys.proofs.EndsAnswered.{clash_turned}
@@ -208,13 +208,6 @@ module _ (schema : List Table) (I : List TableRows) (S : List Value) (ts : List 
         }
 
 -- ---- what stands when the rows are chased, and after it
-
-pub record Numbered (f : Forest) (I : List TableRows) (n : Numbering) (rows : List NumberTable) : Type 0 where
-  pub widths_are : widths I ≡ schema_widths f
-  pub wide : Each I (λ (t : TableRows). Each t.rows (λ (row : List Value). length row ≡ t.width))
-  pub determined : DeterminationsFit (model_tables f)
-  pub numbering : IsNumbering I n
-  pub listed : AreTablesIn (model_tables f) n.tables.items rows
 
 pub record Done (n : Numbering) (rows : List NumberTable) (c : RowsChased) : Type 0 where
   pub demands : AreRowDemands rows c.demands

@@ -6,11 +6,13 @@ use Rattle.dx_model.specs.declared.values.NullId.{NullId}
 use Rattle.dx_model.specs.declared.values.Value.{Value}
 use Rattle.dx_model.specs.declared.values.Value.TheVariants.{Const, Null}
 use Rattle.dx_model.specs.declared.facts.NullPair.{NullPair}
-use Rattle.dx_model.specs.Tables.{Determination, Table, cell, table_of}
+use Rattle.dx_model.specs.Tables.{Determination, DeterminationsFit, Table, cell, table_of}
 use Rattle.dx_model.specs.Values.{Text, row_cmp, value_cmp}
+use Rattle.dx_schema.specs.Forest.{Forest}
+use Rattle.dx_schema.specs.Tables.{model_tables, schema_widths}
 use Rattle.dx_instance.specs.Cells.{NumberTable as TableOfNumbers}
 use Rattle.dx_instance.specs.Shown.{PartsFit, numbers_of_table, shown_tables}
-use Rattle.dx_instance.specs.Stored.{TableRows}
+use Rattle.dx_instance.specs.Stored.{TableRows, widths}
 use Rattle.dx_chase.specs.declared.demands.Demand.{Demand}
 use Rattle.dx_chase.specs.declared.demands.Step.{Step}
 use Rattle.dx_chase.specs.declared.demands.ClashAt.{ClashAt}
@@ -95,3 +97,11 @@ pub record IsRead (S : List Value) (tables : List NumberTable) (c : RowsChased) 
   pub rows_are : ((k.left ≡ row_read S tables c.chased.roots (demand_at c.demands p.one)) × (k.right ≡ row_read S tables c.chased.roots (demand_at c.demands p.other)))
       ⊎ ((k.left ≡ row_read S tables c.chased.roots (demand_at c.demands p.other)) × (k.right ≡ row_read S tables c.chased.roots (demand_at c.demands p.one)))
   pub in_order : ¬ (row_cmp k.left k.right ≡ Greater)
+
+-- an instance of a schema under numbers, and its rows by these, with what its keys determine
+pub record Numbered (f : Forest) (I : List TableRows) (n : Numbering) (rows : List NumberTable) : Type 0 where
+  pub widths_are : widths I ≡ schema_widths f
+  pub wide : Each I (λ (t : TableRows). Each t.rows (λ (row : List Value). length row ≡ t.width))
+  pub determined : DeterminationsFit (model_tables f)
+  pub numbering : IsNumbering I n
+  pub listed : AreTablesIn (model_tables f) n.tables.items rows

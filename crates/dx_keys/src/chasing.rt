@@ -1,12 +1,13 @@
 // The key chase of an instance.
-ghost use Rattle.std.specs.Prelude.{◌≡◌, IfErr, IfOk, map};
+ghost use Rattle.std.specs.Prelude.{◌≡◌, List, IfErr, IfOk, map};
+ghost use Rattle.dx_schema.specs.Forest.{Forest};
 ghost use Rattle.dx_schema.specs.Tables.{model_tables, schema_widths};
 ghost use Rattle.dx_instance.specs.NullMaps.{pairs_of};
 ghost use Rattle.dx_instance.specs.Numbers.{ValuesAscend};
 ghost use Rattle.dx_instance.specs.Shown.{PartsFit, renumbered, shown_tables};
-ghost use Rattle.dx_instance.specs.Stored.{IsSorting, widths};
+ghost use Rattle.dx_instance.specs.Stored.{IsSorting, TableRows, widths};
 ghost use Rattle.dx_keys.specs.Answers.{IsChased, IsFaultOf};
-ghost use Rattle.dx_keys.specs.Numbers.{AreRoots, map_of};
+ghost use Rattle.dx_keys.specs.Numbers.{AreRoots, Numbered, map_of};
 
 use crate::answers::Chased;
 use crate::clashes::read_clash;
@@ -15,7 +16,7 @@ use crate::keyless::{has_no_keys, unchanged};
 use crate::numbering::{Numbering, number};
 use crate::reading::{read_image, read_map};
 use crate::tables::number_tables;
-use dx_chase::chase_rows;
+use dx_chase::{NumberTable, chase_rows};
 use dx_instance::Instance;
 use dx_schema::Schema;
 use std::alloc::{AllocError, Global};
@@ -38,6 +39,28 @@ fn read_chased(alloc: Global, numbering: Numbering, roots: &[u32]) -> Result<Cha
     Ok(Chased { instance, map })
 }
 
+// What the chase of an instance answers, by the numbers of its values and its rows of these.
+fn chase_numbered(
+    alloc: Global,
+    numbering: Numbering,
+    rows: &[NumberTable],
+) -> Result<Chased, ChaseFault>
+    requires { (schema : Forest) × (I : List TableRows) × Numbered schema I numbering rows.now }
+    ensures ok { (schema : Forest) (I : List TableRows) → Numbered schema I numbering rows.now → IfOk result (IsChased (model_tables schema) I) }
+    ensures fault { (schema : Forest) (I : List TableRows) → Numbered schema I numbering rows.now
+        → IfErr result (IsFaultOf (model_tables schema) I) }
+{
+    let count = numbering.symbols.len() as u32;
+    let found = chase_rows(alloc, rows, count, numbering.constants)?;
+    match found.chased.clash {
+        Some(place) => {
+            let clash = read_clash(alloc, &numbering.symbols, rows, &found, place)?;
+            Err(ChaseFault::Clash(clash))
+        }
+        None => Ok(read_chased(alloc, numbering, found.chased.roots.items())?),
+    }
+}
+
 // The chase by the numbers of values.
 fn chase_numbers(alloc: Global, instance: &Instance, schema: &Schema) -> Result<Chased, ChaseFault>
     requires { widths instance.now ≡ schema_widths schema.now }
@@ -48,15 +71,7 @@ fn chase_numbers(alloc: Global, instance: &Instance, schema: &Schema) -> Result<
     let numbering = number(alloc, instance)?;
     let _schema_tables = schema.tables();
     let rows = number_tables(alloc, schema, &numbering.tables)?;
-    let count = numbering.symbols.len() as u32;
-    let found = chase_rows(alloc, &rows, count, numbering.constants)?;
-    match found.chased.clash {
-        Some(place) => {
-            let clash = read_clash(alloc, &numbering.symbols, &rows, &found, place)?;
-            Err(ChaseFault::Clash(clash))
-        }
-        None => Ok(read_chased(alloc, numbering, found.chased.roots.items())?),
-    }
+    chase_numbered(alloc, numbering, &rows)
 }
 
 /// Lets nulls of an instance become other values of it, as its keys ask: a null becomes the constant that it has to be equal
