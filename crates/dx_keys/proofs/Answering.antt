@@ -12,7 +12,7 @@ use Rattle.dx_model.specs.declared.values.Value.{Value}
 use Rattle.dx_model.specs.declared.values.Value.TheVariants.{Const, Null}
 use Rattle.dx_model.specs.declared.facts.Fact.{Fact}
 use Rattle.dx_model.specs.declared.facts.NullPair.{NullPair}
-use Rattle.dx_model.specs.Tables.{Determination, FactFits, IsInstance, Table, cell, table_of}
+use Rattle.dx_model.specs.Tables.{Determination, DeterminationsFit, FactFits, IsInstance, Table, cell, table_of}
 use Rattle.dx_model.specs.Instances.{given, image, moved}
 use Rattle.dx_model.specs.Values.{row_cmp, value_cmp}
 use Rattle.dx_model.specs.Chase.{after, IsClashAt}
@@ -20,7 +20,7 @@ use Rattle.dx_model.proofs.ByMembers.{keys_by_members}
 use Rattle.dx_model.proofs.Closed.{image_fits}
 use Rattle.dx_model.proofs.Orders.{slice_exact, value_exact, value_total}
 use Rattle.dx_schema.specs.Forest.{Forest}
-use Rattle.dx_schema.specs.Tables.{model_tables, schema_widths}
+use Rattle.dx_schema.specs.Tables.{model_tables}
 use Rattle.dx_schema.proofs.Whole.{widths_agree}
 use Rattle.dx_instance.specs.Cells.{NumberTable as TableOfNumbers}
 use Rattle.dx_instance.specs.Images.{IsImage}
@@ -40,7 +40,7 @@ use Rattle.dx_chase.specs.Rows.{AreBelow, AreRowDemands, ColumnsFit, InRows, col
 use Rattle.dx_keys.specs.declared.answers.Clash.{Clash}
 use Rattle.dx_keys.specs.declared.numbering.Numbering.{Numbering}
 use Rattle.dx_keys.specs.Answers.{IsChased, IsClash, determination_at, fact_in}
-use Rattle.dx_keys.specs.Numbers.{AreRoots, AreTablesIn, AreValues, CanRead, IsNumbering, IsRead, Numbered, determination_of, map_of, row_read}
+use Rattle.dx_keys.specs.Numbers.{AreRoots, AreTablesIn, AreValues, CanRead, IsRead, Numbered, determination_of, map_of, row_read}
 use Rattle.dx_keys.proofs.Demanding.{AreTablesOf, IsRowChase, IsRowClash, IsRowMap, determination_in, fact_of}
 use Rattle.dx_keys.proofs.Whole.{row_chase}
 use Rattle.dx_keys.proofs.EndsAnswered.{clash_turned}
