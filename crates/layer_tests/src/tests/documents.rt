@@ -17,18 +17,26 @@ fn trees_of(alloc: Global, text: &str) -> Result<Trees, AllocError> {
     }
 }
 
-/// The target of a mapping text, which has a set.
-fn target_of(alloc: Global, text: &str) -> Result<Schema, AllocError>
-    ensures { IfOk result (λ s. 0 < length (tables_of s)) }
-{
-    let trees = trees_of(alloc, text)?;
+/// The schema of some sets.
+fn schema_of(alloc: Global, trees: Trees) -> Result<Schema, AllocError> {
     if !trees.has_few_rules() {
         return Err(AllocError);
     }
     match Schema::build(alloc, trees) {
-        Ok(target) if target.tables() != 0 => Ok(target),
-        _ => Err(AllocError),
+        Ok(schema) => Ok(schema),
+        Err(_) => Err(AllocError),
     }
+}
+
+/// The target of a mapping text, which has a set.
+fn target_of(alloc: Global, text: &str) -> Result<Schema, AllocError>
+    ensures { IfOk result (λ s. 0 < length (tables_of s)) }
+{
+    let target = schema_of(alloc, trees_of(alloc, text)?)?;
+    if target.tables() == 0 {
+        return Err(AllocError);
+    }
+    Ok(target)
 }
 
 /// Target sets with rows, and the document that they make.
