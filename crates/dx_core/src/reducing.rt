@@ -1,8 +1,11 @@
 // The reduction to a core.
-ghost use Rattle.std.specs.Prelude.{◌≡◌, List, IfOk, OnOk};
+ghost use Rattle.std.specs.Prelude.{◌≡◌, ℕ, List, IfOk, OnOk};
 ghost use Rattle.dx_ports.specs.Members.{Each};
-ghost use Rattle.dx_instance.specs.Stored.{IsSorting, TableRows};
-ghost use Rattle.dx_core.specs.Reducing.{IsReduction};
+ghost use Rattle.dx_model.specs.Values.{RowsAscend};
+ghost use Rattle.dx_instance.specs.Stored.{IsSorting, TableRows, facts, rows_of};
+ghost use Rattle.dx_blocks.specs.Blocks.{AreBlocks};
+ghost use Rattle.dx_hom.specs.View.{all_there};
+ghost use Rattle.dx_core.specs.Reducing.{IsFolding, IsReduction};
 ghost use Rattle.dx_core.specs.Sparing.{HasRoom};
 
 use crate::leaving::instance_left;
@@ -11,7 +14,7 @@ use crate::reduced::Reduced;
 use crate::sparing::spare_blocks;
 use dx_blocks::{Block, blocks};
 use dx_hom::{Gone, Search};
-use dx_instance::Instance;
+use dx_instance::{Instance, NullMap};
 use std::alloc::{AllocError, Global};
 
 // Makes an index of each column.
@@ -42,19 +45,45 @@ fn room_for(alloc: Global, blocks: &[Block]) -> Result<Search, AllocError>
     }
 }
 
-// The reduction of an instance that has the same facts as this one, whose columns have indexes.
-fn reduce_sorted(alloc: Global, sorted: &Instance) -> Result<Reduced, AllocError>
-    ensures { (I : List TableRows) → IsSorting I sorted.now → IfOk result (IsReduction I) }
+// Takes facts out until a core is left, and gives a map that moves the facts of the instance into it.
+fn fold_blocks(
+    alloc: Global,
+    search: &mut Search,
+    blocks: Vec<Block>,
+    sorted: &Instance,
+    gone: &mut Gone,
+) -> Result<NullMap, AllocError>
+    requires ascend { (t : ℕ) → RowsAscend (rows_of sorted.now t) }
+    requires blocks { AreBlocks (facts sorted.now) blocks.items }
+    requires room { Each blocks.items (HasRoom search.old) }
+    requires whole { gone.old ≡ all_there sorted.now }
+    ensures { IfOk result (IsFolding sorted.now gone.new) }
+{
+    let changed = spare_blocks(alloc, search, blocks, sorted, gone)?;
+    let map = map_into(alloc, search, &changed, sorted, gone)?;
+    Ok(map)
+}
+
+// The same, for all blocks of the instance.
+fn fold(alloc: Global, sorted: &Instance, gone: &mut Gone) -> Result<NullMap, AllocError>
+    requires ascend { (t : ℕ) → RowsAscend (rows_of sorted.now t) }
+    requires whole { gone.old ≡ all_there sorted.now }
+    ensures { IfOk result (IsFolding sorted.now gone.new) }
 {
     let blocks = blocks(alloc, sorted)?;
     let mut search = room_for(alloc, &blocks)?;
+    fold_blocks(alloc, &mut search, blocks, sorted, gone)
+}
+
+// The reduction of an instance that has the same facts as this one, whose columns have indexes.
+fn reduce_sorted(alloc: Global, sorted: &Instance) -> Result<Reduced, AllocError>
+    requires { (t : ℕ) → RowsAscend (rows_of sorted.now t) }
+    ensures { (I : List TableRows) → IsSorting I sorted.now → IfOk result (IsReduction I) }
+{
     let mut gone = Gone::none_of(alloc, sorted)?;
-    let changed = spare_blocks(alloc, &mut search, blocks, sorted, &mut gone)?;
-    let map = map_into(alloc, &mut search, &changed, sorted, &gone)?;
-    Ok(Reduced {
-        instance: instance_left(alloc, sorted, &gone)?,
-        map,
-    })
+    let map = fold(alloc, sorted, &mut gone)?;
+    let instance = instance_left(alloc, sorted, &gone)?;
+    Ok(Reduced { instance, map })
 }
 
 /// The reduction of an instance: a part of it that is its image under the map, and a core.

@@ -1,16 +1,16 @@
 ghost use Rattle.std.specs.Prelude.{◌≡◌, ◌<◌, ◌≤◌, ℕ, ◌&&◌, ◌++◌, IfOk, IsTrue, OnOk, false, List, [], ◌∷◌, length, map};
-ghost use Rattle.std.specs.List.{list_all};
+ghost use Rattle.std.specs.List.{list_all, list_any};
 ghost use Rattle.dx_model.specs.declared.rules.Atom.{Atom as AtomValue};
 ghost use Rattle.dx_model.specs.declared.rules.Cell.TheVariants.{Var as VarCell, Ex as ExCell};
 ghost use Rattle.dx_model.specs.Rules.{cells_of, exported};
 ghost use Rattle.dx_model.specs.Covers.{after_existential, below, first_met, is_cell_map, map_of, may_meet, meet, same_cell, same_cells, used_maps};
 ghost use Rattle.dx_model.specs.Fitting.{AgreeInWidths, IsRule};
 ghost use Rattle.dx_cover.specs.Search.{AreAllSeen, MeetInWidths, found_after, has_met_in, maps_under, seen};
-ghost use Rattle.dx_cover.specs.States.{IsSearch, IsTrueFor, last};
+ghost use Rattle.dx_cover.specs.States.{IsSearch, IsTrueFor, last, same_state, state_of};
 
 use crate::cells::{copy_cell, is_same_cell};
 use crate::partners::have_partners;
-use crate::states::{Search, is_known, make_state, remember};
+use crate::states::{Search, State, is_known, make_state, remember};
 use crate::variables::{existentials, exported};
 use dx_model::{Atom, Cell, CellMap, Meeting, Rule};
 use dx_ports::Items;
@@ -81,6 +81,16 @@ pub(crate) fn is_seen(found: &[CellMap], map: &CellMap) -> bool
     false
 }
 
+// The meeting of two cells.
+fn meeting_of(alloc: Global, cell: &Cell, met: &Cell) -> Result<Meeting, AllocError>
+    ensures { IfOk result (λ m. m ≡ record { cell = cell.now; met = met.now }) }
+{
+    Ok(Meeting {
+        cell: copy_cell(alloc, cell)?,
+        met: copy_cell(alloc, met)?,
+    })
+}
+
 /// Adds the meetings of two rows of cells.
 pub(crate) fn add_meetings(
     alloc: Global,
@@ -92,9 +102,7 @@ pub(crate) fn add_meetings(
     ensures { OnOk result (bound.new.items ≡ bound.old.items ++ meet cells.now others.now) }
 {
     for i in 0..cells.len() {
-        let cell = copy_cell(alloc, &cells[i])?;
-        let met = copy_cell(alloc, &others[i])?;
-        bound.push(Meeting { cell, met })?;
+        bound.push(meeting_of(alloc, &cells[i], &others[i])?)?;
     }
     Ok(())
 }
@@ -183,6 +191,24 @@ pub(crate) fn add_map(found: &mut Vec<CellMap>, map: CellMap) -> Result<(), Allo
     Ok(())
 }
 
+// Adds the cell map that these meetings make, where none agrees with it on the exported variables.
+fn add_map_made(
+    alloc: Global,
+    rule: &Rule,
+    variables: &Variables,
+    meetings: &[Meeting],
+    found: &mut Vec<CellMap>,
+) -> Result<(), AllocError>
+    requires exported { variables.now.exported.items ≡ exported rule.now }
+    requires existential { variables.now.existential ≡ after_existential (cells_of rule.now.conclusion) }
+    requires few { length found.old.items ≤ 15 }
+    ensures { OnOk result (found.new.items ≡ found_after found.old.items (map_of rule.now meetings.now ∷ [])) }
+{
+    let map = map_made(alloc, rule, variables, meetings)?;
+    add_map(found, map)?;
+    Ok(())
+}
+
 /// Whether a cell has met one.
 pub(crate) fn has_met(cell: &Cell, meetings: &[Meeting]) -> bool
     ensures { result ≡ has_met_in meetings.now cell.now }
@@ -236,6 +262,20 @@ pub(crate) enum Outlook {
     Open,
 }
 
+// Whether the state that has met these cells and has the rest before it is one of these.
+fn is_remembered(
+    alloc: Global,
+    with_exported: bool,
+    rest: &[Atom],
+    bound: &[Meeting],
+    states: &[State],
+) -> Result<bool, AllocError>
+    ensures { IfOk result (λ b. b ≡ list_any (same_state (state_of with_exported rest.now bound.now)) states.now) }
+{
+    let state = make_state(alloc, with_exported, rest, bound)?;
+    Ok(is_known(&state, states))
+}
+
 /// What is known of the cell maps that begin with these meetings.
 pub(crate) fn look_ahead(
     alloc: Global,
@@ -260,12 +300,12 @@ pub(crate) fn look_ahead(
     if is_done(alloc, rule, variables, bound, search.found.as_slice())? {
         return Ok(Outlook::NothingNew);
     }
-    let ending = make_state(alloc, false, rest, bound)?;
-    if is_known(&ending, search.dead.as_slice()) {
+    let is_dead = is_remembered(alloc, false, rest, bound, search.dead.as_slice())?;
+    if is_dead {
         return Ok(Outlook::NoMap);
     }
-    let state = make_state(alloc, true, rest, bound)?;
-    if is_known(&state, search.gone.as_slice()) {
+    let is_gone = is_remembered(alloc, true, rest, bound, search.gone.as_slice())?;
+    if is_gone {
         return Ok(Outlook::NothingNew);
     }
     Ok(Outlook::Open)
@@ -304,8 +344,7 @@ pub(crate) fn extend(
     }
     match rest.split_first() {
         None => {
-            let map = map_made(alloc, rule, variables, bound.as_slice())?;
-            add_map(&mut search.found, map)?;
+            add_map_made(alloc, rule, variables, bound.as_slice(), &mut search.found)?;
             Ok(true)
         }
         Some((first, after)) => {
