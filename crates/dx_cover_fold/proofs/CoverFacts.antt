@@ -1,13 +1,14 @@
 -- What covers the places of a rule, map by map.
 use Rattle.std.proofs.Common.{◌≡◌, ℕ, zero, suc, ◌+◌, ◌<◌, ◌≤◌, true, false, List, [], ◌∷◌, ◌++◌, Option, None, length, get_or, take, refl, sym, ◌∙◌, ap, add-one, arith, below_more, append_assoc}
-use Rattle.std.specs.Prelude.{map, flat_map}
+use Rattle.std.specs.Prelude.{Err, IfOk, Ok, Result, flat_map, map}
+use Rattle.std.specs.declared.alloc.AllocError.{AllocError}
 use Rattle.std.specs.Option.{option_map, option_or}
 use Rattle.std.specs.List.{filter, find}
 use Rattle.std.specs.BTreeMap.{is_at}
 use Rattle.std.specs.Map.{lookup}
 use Rattle.std.proofs.lemmas.List.Folds.{find-append}
 use Rattle.std.proofs.lemmas.List.Elements.{filter-append}
-use Rattle.std.proofs.lemmas.List.{append-nil, get_or_append_left, get_or_push, get_or_default, get_or-map, length_push, take_more}
+use Rattle.std.proofs.lemmas.List.{append-nil, get_or_append_left, get_or_push, get_or_default, get_or-map, length_push, map_push, take_more}
 use Rattle.std.proofs.lemmas.Grind.{flat_map-append}
 use Rattle.dx_model.specs.declared.matches.Places.{Places}
 use Rattle.dx_model.specs.declared.matches.Matches.{Matches}
@@ -151,3 +152,13 @@ few_taken (suc n) (x ∷ xs) = let h = few_taken n xs in omega arith
 -- at most 16 cell maps are used
 pub few_maps : (a b : Rule) → length (used_maps a b) ≤ 16
 few_maps a b = few_taken 16 _
+
+-- an index by lists is one by the same lists
+pub indexes_same : (r : Result Index AllocError) (variables others : List ℕ) (tuples : List Tuple) (rule : ℕ) (cells images : List Cell) → variables ≡ others → cells ≡ images
+    → IfOk r (Indexes variables tuples rule cells) → IfOk r (Indexes others tuples rule images)
+indexes_same (Ok index) variables others tuples rule cells images v c h = rw (← v, ← c) h
+indexes_same (Err e) variables others tuples rule cells images v c h = tt
+
+-- the images of one number more
+pub mapped_more : {Y : Type 0} (f : ℕ → Y) (xs : List ℕ) (i : ℕ) (old new : List Y) → i < length xs → old ≡ map f (take i xs) → new ≡ old ++ f (get_or xs i 0) ∷ [] → new ≡ map f (take (i + 1) xs)
+mapped_more {Y} f xs i old new h e p = p ∙ ap (λ (l : List Y). l ++ f (get_or xs i 0) ∷ []) e ∙ sym (map_push f (take i xs) (get_or xs i 0)) ∙ ap (map f) (sym (take_more xs i 0 h))

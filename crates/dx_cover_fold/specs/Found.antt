@@ -13,13 +13,21 @@ use Rattle.dx_model.specs.declared.covers.CellMap.{CellMap}
 use Rattle.dx_model.specs.declared.covers.Cover.{Cover}
 use Rattle.dx_model.specs.Rules.{cell_value, exported, text_of}
 use Rattle.dx_model.specs.Values.{Rows, Tuple, row_cmp}
-use Rattle.dx_model.specs.Covers.{agrees, below, least_cover, rule_at, used_maps, value_at}
+use Rattle.dx_model.specs.Covers.{agrees, below, image_of, least_cover, rule_at, used_maps, value_at}
 use Rattle.dx_cover_fold.specs.declared.found.Found.{Found}
 use Rattle.dx_cover_fold.specs.declared.index.Index.{Index}
 
 -- the row that cells say, with the texts of the variables, at a place of a rule
 abbrev pub row_said : List ℕ → Tuple → ℕ → ℕ → List Cell → List Value
 row_said variables t rule row cells = map (cell_value (text_of variables t) (λ v. Null (record { rule = rule; var = v; row = row }))) cells
+
+-- the images of a rule's exported variables under a cell map
+abbrev pub images_by : Rule → CellMap → List Cell
+images_by d m = map (image_of (exported d) m.exported) (exported d)
+
+-- a rule's exported variables as cells
+abbrev pub variable_cells : Rule → List Cell
+variable_cells d = map Var (exported d)
 
 -- the index has for each row of values the first place at which the cells say it
 abbrev pub Indexes : List ℕ → List Tuple → ℕ → List Cell → Index → Type 0

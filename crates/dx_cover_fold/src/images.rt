@@ -2,8 +2,10 @@
 ghost use Rattle.std.specs.Prelude.{◌≡◌, IfOk, map};
 ghost use Rattle.dx_model.specs.declared.rules.Cell.TheVariants.{Var as VarCell};
 ghost use Rattle.dx_model.specs.Covers.{image_of};
+ghost use Rattle.dx_cover_fold.specs.Found.{images_by};
 
-use dx_model::Cell;
+use dx_cover::exported;
+use dx_model::{Cell, CellMap, Rule};
 use std::alloc::{AllocError, Global};
 
 /// A copy of a cell.
@@ -30,11 +32,7 @@ fn image_in(variables: &[u32], images: &[Cell], variable: u32) -> Result<Cell, A
 }
 
 /// The cells that a list of images gives for each variable of a list.
-pub(crate) fn images_in(
-    alloc: Global,
-    variables: &[u32],
-    images: &[Cell],
-) -> Result<Vec<Cell>, AllocError>
+fn images_in(alloc: Global, variables: &[u32], images: &[Cell]) -> Result<Vec<Cell>, AllocError>
     ensures { IfOk result (λ v. v.items ≡ map (image_of variables.now images.now) variables.now) }
 {
     let mut cells = Vec::new(alloc);
@@ -42,6 +40,18 @@ pub(crate) fn images_in(
         cells.push(image_in(variables, images, *variable)?)?;
     }
     Ok(cells)
+}
+
+/// The images of a rule's exported variables under a cell map.
+pub(crate) fn images_of(
+    alloc: Global,
+    rule: &Rule,
+    cell_map: &CellMap,
+) -> Result<Vec<Cell>, AllocError>
+    ensures { IfOk result (λ v. v.items ≡ images_by rule.now cell_map.now) }
+{
+    let variables = exported(alloc, rule)?;
+    images_in(alloc, &variables, cell_map.exported.items())
 }
 
 /// The variables as cells.

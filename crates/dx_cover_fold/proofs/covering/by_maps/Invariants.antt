@@ -4,7 +4,7 @@ use Rattle.dx_model.specs.declared.covers.Cover.{Cover}
 use Rattle.dx_model.specs.Covers.{places_by}
 use Rattle.dx_cover_fold.specs.Found.{FindsAmong}
 use Rattle.dx_cover_fold.specs.Matched.{rows_of}
-use Rattle.dx_cover_fold.proofs.covering.by_rule.Given as goal
+use Rattle.dx_cover_fold.proofs.covering.by_maps.Given as goal
 
 -- for each place the first of the choices so far is found
 pub record SoFar (P : List Cover → Type 0) (Q : List Cover → Type 0) : Type 0 where
