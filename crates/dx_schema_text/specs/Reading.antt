@@ -50,8 +50,8 @@ key_reader = do
   give (record { columns = columns })
 
 -- a ref of these columns to these columns of a set
-abbrev pub ref_of : List (List ℕ) → List ℕ → List (List ℕ) → RefDecl
-ref_of columns referred_set referred = record { columns = columns; set = referred_set; referred = referred }
+abbrev pub reference_of : List (List ℕ) → List ℕ → List (List ℕ) → RefDecl
+reference_of columns referred_set referred = record { columns = columns; set = referred_set; referred = referred }
 
 -- what a ref's columns refer to: a set, and columns of it
 unfoldable pub referred_reader : List (List ℕ) → Reader Lexeme RefDecl
@@ -61,7 +61,7 @@ referred_reader columns = do
   referred ← words_reader
   closing ← token (mark_is (codes ")"))
   ending ← token (mark_is (codes ";"))
-  give (ref_of columns referred_set.text referred)
+  give (reference_of columns referred_set.text referred)
 
 -- a ref: its columns, the set that it refers to, and the referred columns
 unfoldable pub ref_reader : Reader Lexeme RefDecl

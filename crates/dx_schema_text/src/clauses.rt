@@ -1,7 +1,7 @@
 // Sets with their clauses.
 ghost use Rattle.std.specs.Prelude.{◌≡◌, ℕ, List, codes, IfOk};
 ghost use Rattle.dx_grammar.specs.Readers.{passed, give, next_is, many, Gives};
-ghost use Rattle.dx_schema_text.specs.Reading.{key_reader, ref_of, referred_reader, ref_reader, key_clause, ref_clause, set_clause, begins_clause, last_clause_reader, clause_reader_with, clause_reader, set_head_reader, set_reader, tree_of};
+ghost use Rattle.dx_schema_text.specs.Reading.{key_reader, reference_of, referred_reader, ref_reader, key_clause, ref_clause, set_clause, begins_clause, last_clause_reader, clause_reader_with, clause_reader, set_head_reader, set_reader, tree_of};
 
 use crate::lexemes::{keyword, mark, names, next_is_keyword, word};
 use dx_grammar::ReadError;
@@ -33,7 +33,7 @@ fn key(alloc: Global, tokens: &[Lexeme]) -> Result<(KeyDecl, &[Lexeme]), ReadErr
 // The set that a ref's columns refer to, and the columns there.
 #[tactic(auto, unfolding(crate::specs::Reading::referred_reader))]
 fn referred(alloc: Global, tokens: &[Lexeme]) -> Result<(Text, Items<Text>, &[Lexeme]), ReadError>
-    ensures { (columns : List (List ℕ)) → Gives (λ x. (ref_of columns x.0 x.1, x.2.now)) result (referred_reader columns tokens.now) }
+    ensures { (columns : List (List ℕ)) → Gives (λ x. (reference_of columns x.0 x.1, x.2.now)) result (referred_reader columns tokens.now) }
 {
     let (set, rest) = word(tokens)?;
     let (_, rest) = mark(rest, b"(")?;
