@@ -4,7 +4,7 @@ ghost use Rattle.dx_ports.specs.Members.{Each};
 ghost use Rattle.dx_model.specs.Tables.{IsInstance};
 ghost use Rattle.dx_instance.specs.Numbers.{Extends};
 ghost use Rattle.dx_instance.specs.Shown.{RowsFit, Shows};
-ghost use Rattle.dx_json.specs.Documents.{SaysFacts};
+ghost use Rattle.dx_json.specs.Documents.{HasFault, SaysFacts};
 ghost use Rattle.dx_used.specs.Used.{Marks};
 ghost use Rattle.dx_schema.specs.Tables.{count, model_tables, schema_widths, table_at, tables_of, tree_at};
 ghost use Rattle.clio_source.specs.Source.{Read, cells_in, form_at, loading, named_by, nested};
@@ -20,11 +20,20 @@ use dx_stages::Stop;
 use json::Scratch;
 use std::alloc::{AllocError, Global};
 
+// The facts that bytes say of a root.
+fn facts_said(alloc: Global, bytes: &[u8], schema: &Schema, root: u32) -> Result<Facts, JsonFault>
+    requires { root < length (tables_of schema.now) }
+    ensures facts { IfOk result (λ facts. SaysFacts bytes.now schema.now root facts) }
+    ensures fault { IfErr result (HasFault bytes.now schema.now root) }
+{
+    let mut scratch = Scratch::new(alloc);
+    shred(alloc, bytes, &mut scratch, schema, root)
+}
+
 // The facts of a file's bytes.
 fn facts_of_bytes(
     alloc: Global,
     bytes: &[u8],
-    scratch: &mut Scratch,
     schema: &Schema,
     root: u32,
     file: Text,
@@ -33,7 +42,7 @@ fn facts_of_bytes(
     ensures facts { IfOk result (λ facts. SaysFacts bytes.now schema.now root facts) }
     ensures fault { IfErr result (NotRead nested schema.now root bytes.now file) }
 {
-    match shred(alloc, bytes, scratch, schema, root) {
+    match facts_said(alloc, bytes, schema, root) {
         Ok(facts) => Ok(facts),
         Err(JsonFault::Bad(kind)) => Err(Stop::Refused(SourceRefusal::Rows {
             file,
@@ -130,25 +139,22 @@ pub(crate) fn load_document(
     ensures blank { (used : Marks) → nested ≡ form_at schema.now root → IsBlank used schema.now before
         → IfOk result (IsBlank used schema.now) }
 {
-    let Reading {
-        mut symbols,
-        mut tables,
-        bytes_left,
-        cells_left,
-    } = before;
-    let mut scratch = Scratch::new(alloc);
-    let facts = facts_of_bytes(alloc, bytes, &mut scratch, schema, root, file)?;
-    let Some(cells_left) = cells_after(cells_left, schema, &facts) else {
+    let mut reading = before;
+    let facts = facts_of_bytes(alloc, bytes, schema, root, file)?;
+    let Some(cells_left) = cells_after(reading.cells_left, schema, &facts) else {
         return Err(Stop::Refused(too_many_cells()));
     };
     prove!(schema.tables() <= 64);
     let end = root + 1 + schema.tree(root).inner.count();
-    push_tables(alloc, schema, root, end, &mut tables)?;
-    push_facts(alloc, root, &facts, &mut symbols, &mut tables)?;
-    Ok(Reading {
-        symbols,
-        tables,
-        bytes_left: bytes_left.saturating_sub(bytes.len() as u64),
-        cells_left,
-    })
+    push_tables(alloc, schema, root, end, &mut reading.tables)?;
+    push_facts(
+        alloc,
+        root,
+        &facts,
+        &mut reading.symbols,
+        &mut reading.tables,
+    )?;
+    reading.bytes_left = reading.bytes_left.saturating_sub(bytes.len() as u64);
+    reading.cells_left = cells_left;
+    Ok(reading)
 }

@@ -83,22 +83,15 @@ pub(crate) fn load_table(
     ensures read { (q : Read) → Holds used.now before q → GivesTo used.now (loading flat schema.now root) (q, bytes.now) result }
     ensures blank { IsBlank used.now schema.now before → IfOk result (IsBlank used.now schema.now) }
 {
-    let Reading {
-        mut symbols,
-        mut tables,
-        bytes_left,
-        cells_left,
-    } = before;
+    let mut reading = before;
     let marks = marks_of(used, root);
-    let rows = rows_of_bytes(alloc, bytes, schema, root, marks, file, &mut symbols)?;
-    let Some(cells_left) = cells_after(cells_left, rows.count(), schema.width(root)) else {
+    let symbols = &mut reading.symbols;
+    let rows = rows_of_bytes(alloc, bytes, schema, root, marks, file, symbols)?;
+    let Some(cells_left) = cells_after(reading.cells_left, rows.count(), schema.width(root)) else {
         return Err(Stop::Refused(too_many_cells()));
     };
-    tables.push(rows)?;
-    Ok(Reading {
-        symbols,
-        tables,
-        bytes_left: bytes_left.saturating_sub(bytes.len() as u64),
-        cells_left,
-    })
+    reading.tables.push(rows)?;
+    reading.bytes_left = reading.bytes_left.saturating_sub(bytes.len() as u64);
+    reading.cells_left = cells_left;
+    Ok(reading)
 }

@@ -156,8 +156,8 @@ pub fn load_into(
     ensures fault { IfErr result (HasFault (table_records bytes.now) columns.now) }
     ensures grows { Extends symbols.old symbols.new }
 {
-    let (texts, count) = read_fields(alloc, bytes, columns)?;
+    let read = read_fields(alloc, bytes, columns)?;
     let width = columns.len() as u32;
-    let rows = intern_rows(alloc, &texts, count, width, used, symbols)?;
+    let rows = intern_rows(alloc, &read.0, read.1, width, used, symbols)?;
     Ok(rows)
 }

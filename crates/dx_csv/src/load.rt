@@ -1,5 +1,5 @@
 // A table of constants, read from its bytes.
-ghost use Rattle.std.specs.Prelude.{◌≡◌, ◌<◌, ◌-◌, ◌^◌, ◌↔◌, ◌++◌, ◌∷◌, ℕ, List, length, true, false, IsTrue, IfOk, IfErr, IfSome, MatchOption};
+ghost use Rattle.std.specs.Prelude.{◌≡◌, ◌<◌, ◌-◌, ◌^◌, ◌↔◌, ◌++◌, ◌∷◌, ℕ, List, length, true, false, IsTrue, IfOk, IfErr, IfSome, OnOk, MatchOption};
 ghost use Rattle.csv.specs.Records.{fields_of, AllText};
 ghost use Rattle.dx_csv.specs.Fields.{AreFields, HaveFields, fields_in};
 ghost use Rattle.dx_csv.specs.Table.{FirstDifference, HasFault, IsTable, constants, table_records};
@@ -39,6 +39,22 @@ fn first_difference(given: &ByteRecord, columns: &[Text]) -> Option<u32>
     }
 }
 
+// Reads the header, which is the columns.
+fn read_header(alloc: Global, records: &mut Records, columns: &[Text]) -> Result<(), RowFault>
+    requires { length columns.now < 2 ^ 32 - 1 }
+    ensures header { OnOk result (records.old ≡ columns.now ∷ records.new) }
+    ensures fault { IfErr result (HasFault records.old columns.now) }
+{
+    let mut header = ByteRecord::new(alloc);
+    if !records.next(&mut header)? {
+        return Err(RowFault::Bad(RowKind::NoHeader));
+    }
+    match first_difference(&header, columns) {
+        Some(place) => Err(RowFault::Bad(RowKind::Header(place))),
+        None => Ok(()),
+    }
+}
+
 // The records under the header, which is the columns.
 fn records_under<'a>(
     alloc: Global,
@@ -50,14 +66,8 @@ fn records_under<'a>(
     ensures fault { IfErr result (HasFault (table_records bytes.now) columns.now) }
 {
     let mut records = Records::new(alloc, bytes);
-    let mut header = ByteRecord::new(alloc);
-    if !records.next(&mut header)? {
-        return Err(RowFault::Bad(RowKind::NoHeader));
-    }
-    match first_difference(&header, columns) {
-        Some(place) => Err(RowFault::Bad(RowKind::Header(place))),
-        None => Ok(records),
-    }
+    read_header(alloc, &mut records, columns)?;
+    Ok(records)
 }
 
 // The row of a record's fields, if each is a text.

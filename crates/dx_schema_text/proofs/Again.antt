@@ -20,7 +20,7 @@ use Rattle.dx_schema_text.specs.declared.texts.RuleText.{RuleText}
 use Rattle.dx_schema_text.specs.declared.texts.MappingText.{MappingText}
 use Rattle.dx_schema_text.specs.declared.mapping.ItemText.{ItemText}
 use Rattle.dx_schema_text.specs.Grammar.{is_word, word_is, mark_is}
-use Rattle.dx_schema_text.specs.Reading.{comma_word, words_reader, key_reader, ref_reader, key_clause, ref_clause, set_clause, begins_clause, last_clause_reader, clause_reader_with, set_head_reader, set_reader_of, clause_reader, set_reader, tree_of, place_reader, comma_place, places_reader, string_reader, column_reader, call_reader, named_reader, source_reader, line_reader, name_reader, literal_reader, cell_reader, comma_cell, cells_reader, atom_reader, comma_atom, atoms_reader, derived_reader, comma_derived, where_reader, optional_where, rule_reader, line_item, rule_item, begins_item, item_reader, side_reader, mapping_reader}
+use Rattle.dx_schema_text.specs.Reading.{comma_word, words_reader, key_reader, referred_reader, ref_reader, key_clause, ref_clause, set_clause, begins_clause, last_clause_reader, clause_reader_with, set_head_reader, set_reader_of, clause_reader, set_reader, tree_of, place_reader, comma_place, places_reader, string_reader, column_reader, call_reader, named_reader, source_reader, line_reader, name_reader, literal_reader, cell_reader, comma_cell, cells_reader, atom_reader, comma_atom, atoms_reader, derived_reader, comma_derived, where_reader, optional_where, rule_reader, line_item, rule_item, begins_item, item_reader, side_reader, mapping_reader}
 use Rattle.dx_schema_text.specs.Spelling.{IsMark, IsKeyword, Comma, comma_then, Parted, parted, SpellsName, name_of, SpellsKey, key_of, SpellsRef, ref_of, SpellsHead, head_of, SpellsSet, set_of, SpellsClauses, no_clause, clause_first, SpellsClause, a_key, a_ref, a_set, SpellsPlace, place_of, SpellsSource, a_literal, a_column, a_call, SpellsLine, line_of, SpellsCell, a_name, a_text, SpellsAtom, atom_of, SpellsDerived, derived_of, SpellsWhere, no_where, where_of, SpellsRule, rule_of, SpellsItem, a_line, a_rule, SpellsSide, side_of, SpellsMapping, mapping_of}
 use Rattle.dx_schema_text.proofs.Apart.{apart_marks, apart_words, apart_mark_word, apart_word_mark, apart_any_word_string, apart_string_any_word}
 use Rattle.dx_schema_text.proofs.Follows.{comma_word_consumes, comma_place_consumes, comma_cell_consumes, comma_atom_consumes, comma_derived_consumes, clause_consumes, set_consumes, item_consumes}
@@ -91,7 +91,7 @@ key_behind (key_of {u = u} k o c e kw ow names cw ew) rest =
     rw (append_assoc u (c ∷ e ∷ []) rest, kw, ow, words_behind names (c ∷ e ∷ rest) (no_comma (codes ")") c refl cw), cw, ew) refl
 
 ref_behind : {r : RefDecl} {a : List Lexeme} → SpellsRef r a → (rest : List Lexeme) → ref_reader (a ++ rest) ≡ Ok (r, rest)
-unfolding ref_reader
+unfolding ref_reader referred_reader
 ref_behind (ref_of {u = u} {v = v} k o c arrow s p d e kw ow names cw aw sw pw more dw ew) rest =
     let tail : (v ++ d ∷ e ∷ []) ++ rest ≡ v ++ d ∷ e ∷ rest = append_assoc v (d ∷ e ∷ []) rest in
     let all : (u ++ c ∷ arrow ∷ s ∷ p ∷ (v ++ d ∷ e ∷ [])) ++ rest ≡ u ++ c ∷ arrow ∷ s ∷ p ∷ (v ++ d ∷ e ∷ rest) = append_assoc u (c ∷ arrow ∷ s ∷ p ∷ (v ++ d ∷ e ∷ [])) rest ∙ ap (λ ys. u ++ c ∷ arrow ∷ s ∷ p ∷ ys) tail in

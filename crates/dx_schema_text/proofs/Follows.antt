@@ -11,7 +11,7 @@ use Rattle.dx_grammar.proofs.Loops.{Consumes}
 use Rattle.dx_schema.specs.Forest.{Tree}
 use Rattle.dx_schema_text.specs.declared.clauses.Clause.{Clause}
 use Rattle.dx_schema_text.specs.Grammar.{is_word, is_string, word_is, number_is, mark_is, word, string, mark, words, key, ref, set_head, set_of, last_clause, clause_with, clause, set, place, places, behind_word, source, line, cell, cells, atom, atoms, derived, where_part, rule, item, side, mapping}
-use Rattle.dx_schema_text.specs.Reading.{comma_word, words_reader, key_reader, ref_reader, key_clause, ref_clause, set_clause, begins_clause, last_clause_reader, clause_reader_with, set_head_reader, set_reader_of, clause_reader, set_reader, place_reader, comma_place, places_reader, string_reader, column_reader, call_reader, named_reader, source_reader, line_reader, name_reader, literal_reader, cell_reader, comma_cell, cells_reader, atom_reader, comma_atom, atoms_reader, derived_reader, comma_derived, where_reader, optional_where, rule_reader, line_item, rule_item, begins_item, item_reader, side_reader, mapping_reader}
+use Rattle.dx_schema_text.specs.Reading.{comma_word, words_reader, key_reader, referred_reader, ref_reader, key_clause, ref_clause, set_clause, begins_clause, last_clause_reader, clause_reader_with, set_head_reader, set_reader_of, clause_reader, set_reader, place_reader, comma_place, places_reader, string_reader, column_reader, call_reader, named_reader, source_reader, line_reader, name_reader, literal_reader, cell_reader, comma_cell, cells_reader, atom_reader, comma_atom, atoms_reader, derived_reader, comma_derived, where_reader, optional_where, rule_reader, line_item, rule_item, begins_item, item_reader, side_reader, mapping_reader}
 use Rattle.dx_schema_text.proofs.Apart.{apart_marks, apart_words, apart_mark_word, apart_word_mark, apart_any_word_string, apart_string_any_word}
 
 abbrev comma : Lexeme → Bool
@@ -69,7 +69,7 @@ key_reads =
     (λ more ok. comma_stops (codes ")") _ more (apart_marks (codes ",") (codes ")") refl) (begins_with (mark_is (codes ")")) _))))
 
 pub ref_reads : IsReader Anything ref ref_reader
-unfolding ref ref_reader
+unfolding ref ref_reader referred_reader
 ref_reads =
     then_any Anything _ _ _ _ (a (word_is (codes "ref"))) (λ keyword'.
     then_any Anything _ _ _ _ (a (mark_is (codes "("))) (λ opening.

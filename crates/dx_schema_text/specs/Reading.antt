@@ -49,6 +49,20 @@ key_reader = do
   ending ← token (mark_is (codes ";"))
   give (record { columns = columns })
 
+-- a ref of these columns to these columns of a set
+abbrev pub reference_of : List (List ℕ) → List ℕ → List (List ℕ) → RefDecl
+reference_of columns referred_set referred = record { columns = columns; set = referred_set; referred = referred }
+
+-- what a ref's columns refer to: a set, and columns of it
+unfoldable pub referred_reader : List (List ℕ) → Reader Lexeme RefDecl
+referred_reader columns = do
+  referred_set ← token is_word
+  opening ← token (mark_is (codes "("))
+  referred ← words_reader
+  closing ← token (mark_is (codes ")"))
+  ending ← token (mark_is (codes ";"))
+  give (reference_of columns referred_set.text referred)
+
 -- a ref: its columns, the set that it refers to, and the referred columns
 unfoldable pub ref_reader : Reader Lexeme RefDecl
 ref_reader = do
@@ -57,12 +71,7 @@ ref_reader = do
   columns ← words_reader
   closing ← token (mark_is (codes ")"))
   arrow ← token (mark_is (codes "->"))
-  referred_set ← token is_word
-  opening ← token (mark_is (codes "("))
-  referred ← words_reader
-  closing ← token (mark_is (codes ")"))
-  ending ← token (mark_is (codes ";"))
-  give (record { columns = columns; set = referred_set.text; referred = referred })
+  referred_reader columns
 
 -- a key, a ref and an inner set, each as a clause
 abbrev pub key_clause : KeyDecl → Clause

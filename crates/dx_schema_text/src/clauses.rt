@@ -1,7 +1,7 @@
 // Sets with their clauses.
-ghost use Rattle.std.specs.Prelude.{◌≡◌, codes, IfOk};
+ghost use Rattle.std.specs.Prelude.{◌≡◌, ℕ, List, codes, IfOk};
 ghost use Rattle.dx_grammar.specs.Readers.{passed, give, next_is, many, Gives};
-ghost use Rattle.dx_schema_text.specs.Reading.{key_reader, ref_reader, key_clause, ref_clause, set_clause, begins_clause, last_clause_reader, clause_reader_with, clause_reader, set_head_reader, set_reader, tree_of};
+ghost use Rattle.dx_schema_text.specs.Reading.{key_reader, reference_of, referred_reader, ref_reader, key_clause, ref_clause, set_clause, begins_clause, last_clause_reader, clause_reader_with, clause_reader, set_head_reader, set_reader, tree_of};
 
 use crate::lexemes::{keyword, mark, names, next_is_keyword, word};
 use dx_grammar::ReadError;
@@ -30,6 +30,19 @@ fn key(alloc: Global, tokens: &[Lexeme]) -> Result<(KeyDecl, &[Lexeme]), ReadErr
     Ok((KeyDecl { columns }, rest))
 }
 
+// The set that a ref's columns refer to, and the columns there.
+#[tactic(auto, unfolding(crate::specs::Reading::referred_reader))]
+fn referred(alloc: Global, tokens: &[Lexeme]) -> Result<(Text, Items<Text>, &[Lexeme]), ReadError>
+    ensures { (columns : List (List ℕ)) → Gives (λ x. (reference_of columns x.0 x.1, x.2.now)) result (referred_reader columns tokens.now) }
+{
+    let (set, rest) = word(tokens)?;
+    let (_, rest) = mark(rest, b"(")?;
+    let (referred, rest) = names(alloc, rest)?;
+    let (_, rest) = mark(rest, b")")?;
+    let (_, rest) = mark(rest, b";")?;
+    Ok((set.text.copy()?, referred, rest))
+}
+
 #[tactic(auto, unfolding(crate::specs::Reading::ref_reader))]
 fn reference(alloc: Global, tokens: &[Lexeme]) -> Result<(RefDecl, &[Lexeme]), ReadError>
     ensures { Gives (λ x. (x.0, x.1.now)) result (ref_reader tokens.now) }
@@ -39,14 +52,10 @@ fn reference(alloc: Global, tokens: &[Lexeme]) -> Result<(RefDecl, &[Lexeme]), R
     let (columns, rest) = names(alloc, rest)?;
     let (_, rest) = mark(rest, b")")?;
     let (_, rest) = mark(rest, b"->")?;
-    let (set, rest) = word(rest)?;
-    let (_, rest) = mark(rest, b"(")?;
-    let (referred, rest) = names(alloc, rest)?;
-    let (_, rest) = mark(rest, b")")?;
-    let (_, rest) = mark(rest, b";")?;
+    let (set, referred, rest) = referred(alloc, rest)?;
     let reference = RefDecl {
         columns,
-        set: set.text.copy()?,
+        set,
         referred,
     };
     Ok((reference, rest))

@@ -30,12 +30,12 @@ push_tables-requires-clause-last c =
     omega (arith, end_within c.args.schema.now c.args.root c.requires.root, c.count.ensures, same)
 
 -- the table after those of the root
-ends : (c : goal.After-tables-2-1) → c.args.root + 1 + c.count.result ≡ c.args.root + 1 + count (tree_at c.args.schema.now c.args.root).inner
+ends : (c : goal.After-push_facts-arg-2-1) → c.args.root + 1 + c.count.result ≡ c.args.root + 1 + count (tree_at c.args.schema.now c.args.root).inner
 ends c =
     let same = ap (λ (t : Tree). count t.inner) (c.behind-schema.view_is ∙ c.tree.ensures.tree) in
     omega (arith, c.count.ensures, same)
 
-fits : (c : goal.After-tables-2-1) → IsInstance (model_tables c.args.schema.now) c.in_ok-facts.facts
+fits : (c : goal.After-push_facts-arg-2-1) → IsInstance (model_tables c.args.schema.now) c.in_ok-facts.facts
 fits c = facts_fit c.args.bytes.now c.args.schema.now c.args.root c.in_ok-facts.facts c.requires.root c.requires.parent c.in_ok-facts.ensures.facts
 
 pub push_facts-requires-clause-fit : goal.push_facts-requires-clause-fit
