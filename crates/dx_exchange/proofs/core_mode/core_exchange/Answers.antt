@@ -39,7 +39,7 @@ returns c = λ convert a mode rules schema k world.
     let I = c.in_ok-uncovered.uncovered in
     let folds = subst (λ (R : List Rule). IsCoverFold R (rows_in M.matches) f) (sym rules) c.in_ok-cover_map.ensures in
     let chased = subst (λ (s : List Table). IsChased s I c.in_ok-chased.chased) (sym schema) c.in_ok-chased.ensures.ok in
-    computed_made convert a M f I c.in_ok-chased.chased c.in_ok-left.field-0.0 c.in_ok-left.field-0.1 (record {
+    computed_made convert a M f I c.in_ok-chased.chased c.in_ok-left.left c.in_ok-left.fold (record {
       mode = mode;
       canonical = k;
       folds = folds;
