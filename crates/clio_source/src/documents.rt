@@ -1,9 +1,10 @@
 // A nested root: its file is a document.
-ghost use Rattle.std.specs.Prelude.{◌≡◌, ◌+◌, ◌-◌, ◌≤◌, ◌<◌, ◌^◌, length, map, take, None, IfOk, IfErr, OnOk, MatchOption};
+ghost use Rattle.std.specs.Prelude.{◌≡◌, ◌+◌, ◌-◌, ◌≤◌, ◌<◌, ◌^◌, length, map, slice_set, take, None, IfOk, IfErr, OnOk, MatchOption};
 ghost use Rattle.dx_ports.specs.Members.{Each};
 ghost use Rattle.dx_model.specs.Tables.{IsInstance};
 ghost use Rattle.dx_instance.specs.Numbers.{Extends};
-ghost use Rattle.dx_instance.specs.Shown.{RowsFit, Shows};
+ghost use Rattle.dx_instance.specs.Cells.{with_numbers};
+ghost use Rattle.dx_instance.specs.Shown.{RowsFit, Shows, numbers_of_table};
 ghost use Rattle.dx_json.specs.Documents.{HasFault, SaysFacts};
 ghost use Rattle.dx_used.specs.Used.{Marks};
 ghost use Rattle.dx_schema.specs.Tables.{count, model_tables, schema_widths, table_at, tables_of, tree_at};
@@ -12,7 +13,7 @@ ghost use Rattle.clio_source.specs.Fitting.{AddsEmpty, AddsFacts, CanTake, Gives
 
 use crate::fault::{RowsFault, SourceRefusal};
 use crate::reading::{Reading, too_many_cells};
-use dx_instance::{Row, Rows, Symbols, copy_value};
+use dx_instance::{Fact, Row, Rows, Symbols, copy_value};
 use dx_json::{Facts, JsonFault, shred};
 use dx_ports::Text;
 use dx_schema::Schema;
@@ -99,6 +100,26 @@ fn intern_row(row: &Row, symbols: &mut Symbols, numbers: &mut Vec<u32>) -> Resul
     Ok(())
 }
 
+// Puts the numbers of a fact's row, in place of what `numbers` has, into its table.
+fn push_fact(
+    fact: &Fact,
+    symbols: &mut Symbols,
+    numbers: &mut Vec<u32>,
+    tables: &mut Vec<Rows>,
+) -> Result<(), AllocError>
+    requires table { fact.now.table < length tables.old.items }
+    requires width { length fact.now.row ≡ (numbers_of_table tables.old.items fact.now.table).width }
+    requires room { length (numbers_of_table tables.old.items fact.now.table).rows < 2 ^ 32 - 1 }
+    ensures shows { OnOk result (Shows symbols.new numbers.new.items fact.now.row) }
+    ensures put { OnOk result (tables.new.items ≡ slice_set tables.old.items fact.now.table
+        (with_numbers (numbers_of_table tables.old.items fact.now.table) numbers.new.items)) }
+    ensures grows { Extends symbols.old symbols.new }
+{
+    intern_row(&fact.row, symbols, numbers)?;
+    tables[fact.table as usize].push(numbers)?;
+    Ok(())
+}
+
 // The facts as rows of their tables, which have none yet.
 fn push_facts(
     alloc: Global,
@@ -115,8 +136,7 @@ fn push_facts(
     let mut numbers = Vec::new(alloc);
     for place in 0..facts.len() {
         let fact = facts.fact(alloc, place)?;
-        intern_row(&fact.row, symbols, &mut numbers)?;
-        tables[fact.table as usize].push(&numbers)?;
+        push_fact(&fact, symbols, &mut numbers, tables)?;
     }
     Ok(())
 }
