@@ -8,8 +8,8 @@ ghost use Rattle.dx_instance.specs.Shown.{RowsFit, Shows, numbers_of_table};
 ghost use Rattle.dx_json.specs.Documents.{HasFault, SaysFacts};
 ghost use Rattle.dx_used.specs.Used.{Marks};
 ghost use Rattle.dx_schema.specs.Tables.{count, model_tables, schema_widths, table_at, tables_of, tree_at};
-ghost use Rattle.clio_source.specs.Source.{Read, cells_in, form_at, loading, named_by, nested};
-ghost use Rattle.clio_source.specs.Fitting.{AddsEmpty, AddsFacts, CanTake, GivesTo, Holds, IsBlank, NotRead, ReadFits};
+ghost use Rattle.clio_source.specs.Source.{Read, cells_in, form_at, loading, named_by, nested, source_cells};
+ghost use Rattle.clio_source.specs.Fitting.{AddsEmpty, AddsFacts, AddsRoot, CanTake, GivesTo, Holds, IsBlank, NotRead, ReadFits};
 
 use crate::fault::{RowsFault, SourceRefusal};
 use crate::reading::{Reading, too_many_cells};
@@ -141,6 +141,31 @@ fn push_facts(
     Ok(())
 }
 
+// The tables of a root and its inner sets, after those of the roots before it, and then its facts.
+fn add_root(
+    alloc: Global,
+    schema: &Schema,
+    root: u32,
+    facts: &Facts,
+    symbols: &mut Symbols,
+    tables: &mut Vec<Rows>,
+) -> Result<(), AllocError>
+    requires root { root < length (tables_of schema.now) }
+    requires widths { map (λ t. t.width) tables.old.items ≡ take root (schema_widths schema.now) }
+    requires below { Each tables.old.items (RowsFit (length symbols.old)) }
+    requires fit { IsInstance (model_tables schema.now) facts.now }
+    requires within { Each facts.now (λ fact. (root ≤ fact.table) × (fact.table < root + 1 + count (tree_at schema.now root).inner)) }
+    requires cells { cells_in schema.now facts.now ≤ source_cells }
+    ensures { OnOk result (AddsRoot schema.now (root + 1 + count (tree_at schema.now root).inner)
+        symbols.old symbols.new tables.old.items tables.new.items facts.now) }
+{
+    prove!(schema.tables() <= 64);
+    let end = root + 1 + schema.tree(root).inner.count();
+    push_tables(alloc, schema, root, end, tables)?;
+    push_facts(alloc, root, facts, symbols, tables)?;
+    Ok(())
+}
+
 /// Reads a nested root from the bytes of its document, after what was read before it.
 pub(crate) fn load_document(
     alloc: Global,
@@ -164,11 +189,9 @@ pub(crate) fn load_document(
     let Some(cells_left) = cells_after(reading.cells_left, schema, &facts) else {
         return Err(Stop::Refused(too_many_cells()));
     };
-    prove!(schema.tables() <= 64);
-    let end = root + 1 + schema.tree(root).inner.count();
-    push_tables(alloc, schema, root, end, &mut reading.tables)?;
-    push_facts(
+    add_root(
         alloc,
+        schema,
         root,
         &facts,
         &mut reading.symbols,
