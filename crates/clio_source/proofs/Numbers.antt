@@ -7,7 +7,7 @@ use Rattle.dx_ports.proofs.Members.{from_append, in_at, in_left, in_right, same_
 use Rattle.dx_model.specs.declared.values.Value.{Value}
 use Rattle.dx_model.specs.declared.facts.Fact.{Fact}
 use Rattle.dx_instance.specs.Cells.{NumberTable, with_numbers}
-use Rattle.dx_instance.specs.Numbers.{Extends, value_of}
+use Rattle.dx_instance.specs.Numbers.{Extends}
 use Rattle.dx_instance.specs.Shown.{AreBelow, RowsFit, Shows, numbers_of_table, shown, shown_row, shown_tables}
 use Rattle.dx_instance.specs.Stored.{AddsRow, TableRows, facts, facts_from, rows_of, widths}
 use Rattle.dx_instance.proofs.ShownFacts.{grown_below, grown_rows, grown_fitting, from_set, table_read}
@@ -138,7 +138,7 @@ adds_numbers S T ts now j t numbers row x b lt at is shows =
 abbrev width_of : NumberTable → ℕ
 width_of t = t.width
 
-abbrev no_numbers : NumberTable
+abbrev pub no_numbers : NumberTable
 no_numbers = record { width = 0; rows = [] }
 
 -- the first k facts are rows of their tables
@@ -162,11 +162,11 @@ many_same ts now e = sym (length-map now width_of) ∙ ap length e ∙ length-ma
 width_at : (ts : List NumberTable) (j : ℕ) → j < length ts → get_or (map width_of ts) j 0 ≡ (numbers_of_table ts j).width
 width_at ts j lt = get_or-map width_of ts j no_numbers 0 lt
 
--- what is asked of the next row
-pub record IsNext (ts now : List NumberTable) (t : NumberTable) (fact : Fact) (numbers : List ℕ) : Type 0 where
+-- what is asked of the next fact
+pub record IsNext (now : List NumberTable) (fact : Fact) : Type 0 where
   pub table : fact.table < length now
-  pub width : length numbers ≡ t.width
-  pub room : length t.rows < 2 ^ 32 - 1
+  pub width : length fact.row ≡ (numbers_of_table now fact.table).width
+  pub room : length (numbers_of_table now fact.table).rows < 2 ^ 32 - 1
 
 pub table_there : (S T : List Value) (ts now : List NumberTable) (first : ℕ) (said : List Fact) (k : ℕ) (fact : Fact) → ArePut S T ts now first said k → CanTake ts first said → k < length said → fact ≡ get_or said k fact
     → (first ≤ fact.table) × (fact.table < length now)
@@ -175,18 +175,16 @@ table_there S T ts now first said k fact p c lt at =
     let w = c.within fact m in
     (omega (arith, w), omega (arith, w, many_same ts now p.widths))
 
-pub is_next : (S T U : List Value) (ts now : List NumberTable) (first : ℕ) (said : List Fact) (k : ℕ) (fact : Fact) (t : NumberTable) (numbers : List ℕ) → ArePut S T ts now first said k → CanTake ts first said
-    → k < length said → fact ≡ get_or said k fact → length said < 2 ^ 32 - 1 → t ≡ get_or now fact.table t → Shows U numbers fact.row → IsNext ts now t fact numbers
-is_next S T U ts now first said k fact t numbers p c lt at few read shows =
+pub is_next : (S T : List Value) (ts now : List NumberTable) (first : ℕ) (said : List Fact) (k : ℕ) (fact : Fact) → ArePut S T ts now first said k → CanTake ts first said
+    → k < length said → fact ≡ get_or said k fact → length said < 2 ^ 32 - 1 → IsNext now fact
+is_next S T ts now first said k fact p c lt at few =
     let m : fact ∈ said = subst (λ (x : Fact). x ∈ said) (sym at) (in_at said k fact lt) in
     let w = table_there S T ts now first said k fact p c lt at in
     let old : fact.table < length ts = omega (arith, w, many_same ts now p.widths) in
-    let is = table_read now fact.table t w.1 read in
-    let rows = p.few fact.table w.0 in
-    let wide = sym (width_at ts fact.table old) ∙ ap (λ ws. get_or ws fact.table 0) (sym p.widths) ∙ width_at now fact.table w.1 ∙ sym (ap width_of is) in record {
+    let rows = p.few fact.table w.0 in record {
       table = w.1;
-      width = sym (length-map numbers (value_of U)) ∙ ap length shows.is ∙ c.wide fact m ∙ wide;
-      room = omega (arith, few, lt, rows, ap (λ (u : NumberTable). length u.rows) is);
+      width = c.wide fact m ∙ sym (width_at ts fact.table old) ∙ ap (λ ws. get_or ws fact.table 0) (sym p.widths) ∙ width_at now fact.table w.1;
+      room = omega (arith, few, lt, rows);
     }
 
 widths_put : (ts : List NumberTable) (j : ℕ) (t u : NumberTable) → t ≡ get_or ts j t → j < length ts → u.width ≡ t.width → map width_of (set ts j u) ≡ map width_of ts

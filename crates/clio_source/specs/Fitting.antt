@@ -77,3 +77,9 @@ pub record AddsFacts (S T : List Value) (old new : List NumberTable) (said : Lis
   pub shown : facts (shown_tables T new) ≈ (facts (shown_tables S old) ++ said)
   pub widths : map (λ (t : NumberTable). t.width) new ≡ map (λ (t : NumberTable). t.width) old
   pub below : Each new (RowsFit (length T))
+
+-- empty tables of a root came, up to the table of a schema with this number, and then these facts
+pub record AddsRoot (f : Forest) (last : ℕ) (S T : List Value) (old new : List NumberTable) (said : List Fact) : Type 0 where
+  pub between : List NumberTable
+  pub empty : AddsEmpty f last old between
+  pub put : AddsFacts S T between new said

@@ -1,18 +1,19 @@
 // A nested root: its file is a document.
-ghost use Rattle.std.specs.Prelude.{◌≡◌, ◌+◌, ◌-◌, ◌≤◌, ◌<◌, ◌^◌, length, map, take, None, IfOk, IfErr, OnOk, MatchOption};
+ghost use Rattle.std.specs.Prelude.{◌≡◌, ◌+◌, ◌-◌, ◌≤◌, ◌<◌, ◌^◌, length, map, slice_set, take, None, IfOk, IfErr, OnOk, MatchOption};
 ghost use Rattle.dx_ports.specs.Members.{Each};
 ghost use Rattle.dx_model.specs.Tables.{IsInstance};
 ghost use Rattle.dx_instance.specs.Numbers.{Extends};
-ghost use Rattle.dx_instance.specs.Shown.{RowsFit, Shows};
+ghost use Rattle.dx_instance.specs.Cells.{with_numbers};
+ghost use Rattle.dx_instance.specs.Shown.{RowsFit, Shows, numbers_of_table};
 ghost use Rattle.dx_json.specs.Documents.{HasFault, SaysFacts};
 ghost use Rattle.dx_used.specs.Used.{Marks};
 ghost use Rattle.dx_schema.specs.Tables.{count, model_tables, schema_widths, table_at, tables_of, tree_at};
-ghost use Rattle.clio_source.specs.Source.{Read, cells_in, form_at, loading, named_by, nested};
-ghost use Rattle.clio_source.specs.Fitting.{AddsEmpty, AddsFacts, CanTake, GivesTo, Holds, IsBlank, NotRead, ReadFits};
+ghost use Rattle.clio_source.specs.Source.{Read, cells_in, form_at, loading, named_by, nested, source_cells};
+ghost use Rattle.clio_source.specs.Fitting.{AddsEmpty, AddsFacts, AddsRoot, CanTake, GivesTo, Holds, IsBlank, NotRead, ReadFits};
 
 use crate::fault::{RowsFault, SourceRefusal};
 use crate::reading::{Reading, too_many_cells};
-use dx_instance::{Row, Rows, Symbols, copy_value};
+use dx_instance::{Fact, Row, Rows, Symbols, copy_value};
 use dx_json::{Facts, JsonFault, shred};
 use dx_ports::Text;
 use dx_schema::Schema;
@@ -99,6 +100,26 @@ fn intern_row(row: &Row, symbols: &mut Symbols, numbers: &mut Vec<u32>) -> Resul
     Ok(())
 }
 
+// Puts the numbers of a fact's row, in place of what `numbers` has, into its table.
+fn push_fact(
+    fact: &Fact,
+    symbols: &mut Symbols,
+    numbers: &mut Vec<u32>,
+    tables: &mut Vec<Rows>,
+) -> Result<(), AllocError>
+    requires table { fact.now.table < length tables.old.items }
+    requires width { length fact.now.row ≡ (numbers_of_table tables.old.items fact.now.table).width }
+    requires room { length (numbers_of_table tables.old.items fact.now.table).rows < 2 ^ 32 - 1 }
+    ensures shows { OnOk result (Shows symbols.new numbers.new.items fact.now.row) }
+    ensures put { OnOk result (tables.new.items ≡ slice_set tables.old.items fact.now.table
+        (with_numbers (numbers_of_table tables.old.items fact.now.table) numbers.new.items)) }
+    ensures grows { Extends symbols.old symbols.new }
+{
+    intern_row(&fact.row, symbols, numbers)?;
+    tables[fact.table as usize].push(numbers)?;
+    Ok(())
+}
+
 // The facts as rows of their tables, which have none yet.
 fn push_facts(
     alloc: Global,
@@ -115,9 +136,33 @@ fn push_facts(
     let mut numbers = Vec::new(alloc);
     for place in 0..facts.len() {
         let fact = facts.fact(alloc, place)?;
-        intern_row(&fact.row, symbols, &mut numbers)?;
-        tables[fact.table as usize].push(&numbers)?;
+        push_fact(&fact, symbols, &mut numbers, tables)?;
     }
+    Ok(())
+}
+
+// The tables of a root and its inner sets, after those of the roots before it, and then its facts.
+fn add_root(
+    alloc: Global,
+    schema: &Schema,
+    root: u32,
+    facts: &Facts,
+    symbols: &mut Symbols,
+    tables: &mut Vec<Rows>,
+) -> Result<(), AllocError>
+    requires root { root < length (tables_of schema.now) }
+    requires widths { map (λ t. t.width) tables.old.items ≡ take root (schema_widths schema.now) }
+    requires below { Each tables.old.items (RowsFit (length symbols.old)) }
+    requires fit { IsInstance (model_tables schema.now) facts.now }
+    requires within { Each facts.now (λ fact. (root ≤ fact.table) × (fact.table < root + 1 + count (tree_at schema.now root).inner)) }
+    requires cells { cells_in schema.now facts.now ≤ source_cells }
+    ensures { OnOk result (AddsRoot schema.now (root + 1 + count (tree_at schema.now root).inner)
+        symbols.old symbols.new tables.old.items tables.new.items facts.now) }
+{
+    prove!(schema.tables() <= 64);
+    let end = root + 1 + schema.tree(root).inner.count();
+    push_tables(alloc, schema, root, end, tables)?;
+    push_facts(alloc, root, facts, symbols, tables)?;
     Ok(())
 }
 
@@ -144,11 +189,9 @@ pub(crate) fn load_document(
     let Some(cells_left) = cells_after(reading.cells_left, schema, &facts) else {
         return Err(Stop::Refused(too_many_cells()));
     };
-    prove!(schema.tables() <= 64);
-    let end = root + 1 + schema.tree(root).inner.count();
-    push_tables(alloc, schema, root, end, &mut reading.tables)?;
-    push_facts(
+    add_root(
         alloc,
+        schema,
         root,
         &facts,
         &mut reading.symbols,

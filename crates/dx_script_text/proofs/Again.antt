@@ -23,7 +23,7 @@ use Rattle.dx_script.specs.declared.form.Step.{Step}
 use Rattle.dx_script.specs.declared.form.Out.{Out}
 use Rattle.dx_script_tokens.specs.Kinds.{rank}
 use Rattle.dx_script_text.specs.Grammar.{of_kind, number, number_is, is_table, is_comma, is_and}
-use Rattle.dx_script_text.specs.Reading.{declared_reader, create_reader, cell_reader, call_reader, cell_value_reader, value_reader, item_reader, comma_item, items_reader, no_items, select_reader, source_reader, comma_source, sources_reader, equal_reader, equals_reader, where_reader, match_reader, columns_reader, text_reader, test_reader, tests_reader, optional_tests, unless_reader, keep_tail_reader, keep_reader, text_out_reader, column_out_reader, skolem_tail_reader, skolem_reader, out_reader, comma_out, outs_reader, insert_end_reader, insert_tail_reader, insert_reader, table_reader, created_reader, step_reader, begins_step, script_reader, insert_step}
+use Rattle.dx_script_text.specs.Reading.{declared_reader, create_reader, cell_reader, call_reader, cell_value_reader, value_reader, item_reader, comma_item, items_reader, no_items, select_reader, source_reader, comma_source, sources_reader, equal_reader, equals_reader, where_reader, matched_reader, match_reader, columns_reader, text_reader, test_reader, tests_reader, optional_tests, unless_reader, keep_tail_reader, keep_reader, text_out_reader, column_out_reader, skolem_tail_reader, skolem_reader, out_reader, comma_out, outs_reader, insert_end_reader, insert_tail_reader, insert_reader, table_reader, created_reader, step_reader, begins_step, script_reader, insert_step}
 use Rattle.dx_script_text.specs.Spelling.{Of, SpellsDeclared, declared_of, SpellsCreate, create_of, SpellsCell, cell_of, SpellsValue, a_cell, a_call, SpellsItem, item_of, SpellsSelect, no_columns, columns_of, SpellsSource, source_of, SpellsSources, sources_of, SpellsEqual, equal_of, SpellsWhere, no_where, where_of, SpellsMatch, match_of, SpellsTest, columns_are, text_is, SpellsUnless, unless_of, SpellsKeep, keep_of, SpellsOut, text_out_of, column_out_of, skolem_out_of, SpellsInsert, insert_of, SpellsStep, a_create, a_match, a_keep, an_insert, SpellsScript}
 use Rattle.dx_script_text.proofs.Apart.{apart_kinds, apart_number_kind, apart_kind_number}
 use Rattle.dx_script_text.proofs.Follows.{comma_declared_consumes, comma_cell_consumes, and_equal_consumes, and_test_consumes, and_unless_consumes, comma_out_consumes, step_consumes}
@@ -141,7 +141,7 @@ where_behind (where_of {items = items} {u = u} k kw h) rest stop =
     rw (kw, all) refl
 
 match_behind : {top : ℕ} {s : Step} {u : List ScriptToken} → SpellsMatch top s u → (rest : List ScriptToken) → match_reader top (u ++ rest) ≡ Ok (s, rest)
-unfolding match_reader
+unfolding match_reader matched_reader
 match_behind (match_of {u = u} {v = v} {w = z} m a s d f e mw aw sw dw h fw g k ew) rest =
     let tail : (z ++ e ∷ []) ++ rest ≡ z ++ e ∷ rest = append_assoc z (e ∷ []) rest in
     let middle : (v ++ (z ++ e ∷ [])) ++ rest ≡ v ++ (z ++ e ∷ rest) = append_assoc v (z ++ e ∷ []) rest ∙ ap (λ ys. v ++ ys) tail in

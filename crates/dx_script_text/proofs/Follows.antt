@@ -16,7 +16,7 @@ use Rattle.dx_script_tokens.specs.declared.scanner.ScriptToken.{ScriptToken}
 use Rattle.dx_script_tokens.specs.declared.kinds.ScriptKind.{ScriptKind}
 use Rattle.dx_script_tokens.specs.declared.kinds.ScriptKind.TheVariants as kinds
 use Rattle.dx_script_text.specs.Grammar.{of_kind, number, match_is, keep_is, alias_is, column_is, number_is, is_table, is_comma, is_and, any, declared_column, create_rest, cell, call, value, item, items, select, source, sources, equal, where_part, match_rest, test, tests, unless, keep_tail, keep_rest, text_out, column_out, skolem_tail, skolem_out, out, insert_end, insert_tail, insert, table_rest, step, script}
-use Rattle.dx_script_text.specs.Reading.{declared_reader, create_reader, cell_reader, call_reader, cell_value_reader, value_reader, item_reader, comma_item, items_reader, no_items, select_reader, source_reader, comma_source, sources_reader, equal_reader, equals_reader, where_reader, match_reader, columns_reader, text_reader, test_reader, tests_reader, optional_tests, unless_reader, keep_tail_reader, keep_reader, text_out_reader, column_out_reader, skolem_tail_reader, skolem_reader, out_reader, comma_out, outs_reader, insert_end_reader, insert_tail_reader, insert_reader, table_reader, created_reader, step_reader, begins_step, script_reader}
+use Rattle.dx_script_text.specs.Reading.{declared_reader, create_reader, cell_reader, call_reader, cell_value_reader, value_reader, item_reader, comma_item, items_reader, no_items, select_reader, source_reader, comma_source, sources_reader, equal_reader, equals_reader, where_reader, matched_reader, match_reader, columns_reader, text_reader, test_reader, tests_reader, optional_tests, unless_reader, keep_tail_reader, keep_reader, text_out_reader, column_out_reader, skolem_tail_reader, skolem_reader, out_reader, comma_out, outs_reader, insert_end_reader, insert_tail_reader, insert_reader, table_reader, created_reader, step_reader, begins_step, script_reader}
 use Rattle.dx_script_text.proofs.Apart.{apart_kinds, apart_number_kind}
 
 -- a token, whatever follows
@@ -187,7 +187,7 @@ sources_stop more =
     (apart_or is_comma (of_kind kinds.Where) (of_kind kinds.Semicolon) (apart_kinds kinds.Comma kinds.Where refl) (apart_kinds kinds.Comma kinds.Semicolon refl))
 
 pub match_reads : (top : ℕ) → IsReader Anything (match_rest top) (match_reader top)
-unfolding match_rest match_reader
+unfolding match_rest match_reader matched_reader
 match_reads top =
     then_any Anything _ _ _ _ (a (of_kind kinds.Match)) (λ m.
     then_any Anything _ _ _ _ (a (of_kind kinds.As)) (λ as_word.

@@ -16,7 +16,7 @@ use Rattle.dx_script_tokens.specs.declared.scanner.ScriptToken.{ScriptToken}
 use Rattle.dx_script_tokens.specs.declared.kinds.ScriptKind.TheVariants as kinds
 use Rattle.dx_script.specs.declared.form.Out.{Out}
 use Rattle.dx_script_text.specs.Grammar.{of_kind, number, match_is, alias_is, column_is, number_is, is_table, is_comma, is_and}
-use Rattle.dx_script_text.specs.Reading.{declared_reader, create_reader, cell_reader, call_reader, cell_value_reader, value_reader, item_reader, comma_item, items_reader, no_items, select_reader, source_reader, comma_source, sources_reader, equal_reader, equals_reader, where_reader, match_reader, columns_reader, text_reader, test_reader, tests_reader, optional_tests, unless_reader, keep_tail_reader, keep_reader, text_out_reader, column_out_reader, skolem_tail_reader, skolem_reader, out_reader, comma_out, outs_reader, insert_end_reader, insert_tail_reader, insert_reader, table_reader, created_reader, step_reader, begins_step, script_reader, skolem_cell, insert_step}
+use Rattle.dx_script_text.specs.Reading.{declared_reader, create_reader, cell_reader, call_reader, cell_value_reader, value_reader, item_reader, comma_item, items_reader, no_items, select_reader, source_reader, comma_source, sources_reader, equal_reader, equals_reader, where_reader, matched_reader, match_reader, columns_reader, text_reader, test_reader, tests_reader, optional_tests, unless_reader, keep_tail_reader, keep_reader, text_out_reader, column_out_reader, skolem_tail_reader, skolem_reader, out_reader, comma_out, outs_reader, insert_end_reader, insert_tail_reader, insert_reader, table_reader, created_reader, step_reader, begins_step, script_reader, skolem_cell, insert_step}
 use Rattle.dx_script_text.specs.Spelling.{Of, SpellsDeclared, declared_of, SpellsCreate, create_of, SpellsCell, cell_of, SpellsValue, a_cell, a_call, SpellsItem, item_of, SpellsSelect, no_columns, columns_of, SpellsSource, source_of, SpellsSources, sources_of, SpellsEqual, equal_of, SpellsWhere, no_where, where_of, SpellsMatch, match_of, SpellsTest, columns_are, text_is, SpellsUnless, unless_of, SpellsKeep, keep_of, SpellsOut, text_out_of, column_out_of, skolem_out_of, SpellsInsert, insert_of, SpellsStep, a_create, a_match, a_keep, an_insert, SpellsScript}
 
 -- ---- CREATE TABLE target
@@ -99,7 +99,7 @@ unfolding where_reader equals_reader
 optional_where_finds = either_finds (of_kind kinds.Where) _ (give []) (SpellsWhere SpellsEqual) (where_finds equal_reader SpellsEqual equal_finds) (give_finds [] (SpellsWhere SpellsEqual) no_where)
 
 match_finds : (top : ℕ) → Finds (match_reader top) (SpellsMatch top)
-unfolding match_reader
+unfolding match_reader matched_reader
 match_finds top =
     head_finds (of_kind kinds.Match) _ (SpellsMatch top) (λ m mw. head_finds (of_kind kinds.As) _ _ (λ a aw. head_finds (of_kind kinds.Select) _ _ (λ s sw. head_finds (of_kind kinds.Distinct) _ _ (λ d dw.
     then_finds (select_reader top) _ (SpellsSelect top) _ (select_finds top) (λ chosen u h. head_finds (of_kind kinds.From) _ _ (λ f fw.

@@ -161,6 +161,13 @@ equals_reader = past (of_kind kinds.Where) (list_reader is_and equal_reader)
 unfoldable pub where_reader : Reader ScriptToken (List Equal)
 where_reader = either (of_kind kinds.Where) equals_reader (give [])
 
+unfoldable pub matched_reader : ℕ → ℕ → List Select → Reader ScriptToken Step
+matched_reader top r select = do
+  sources ← sources_reader top
+  equal ← where_reader
+  ending ← token (of_kind kinds.Semicolon)
+  give (match_step r select sources equal)
+
 unfoldable pub match_reader : ℕ → Reader ScriptToken Step
 match_reader top = do
   table ← token (of_kind kinds.Match)
@@ -169,10 +176,7 @@ match_reader top = do
   distinct ← token (of_kind kinds.Distinct)
   select ← select_reader top
   from_word ← token (of_kind kinds.From)
-  sources ← sources_reader top
-  equal ← where_reader
-  ending ← token (of_kind kinds.Semicolon)
-  give (match_step table.number select sources equal)
+  matched_reader top table.number select
 
 -- ---- CREATE TABLE k<r>
 

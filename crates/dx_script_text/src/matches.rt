@@ -1,9 +1,11 @@
 // Steps that match a rule.
+ghost use Rattle.std.specs.Prelude.{ℕ, List};
+ghost use Rattle.dx_script.specs.declared.form.Select.{Select as Chosen};
 ghost use Rattle.dx_grammar.specs.Readers.{many, with_front, Gives};
 ghost use Rattle.dx_grammar.specs.Lists.{past, list_reader};
 ghost use Rattle.dx_script_text.specs.Grammar.{is_comma, is_and};
 ghost use Rattle.dx_script_tokens.specs.Numbers.{greatest};
-ghost use Rattle.dx_script_text.specs.Reading.{cell_reader, call_reader, cell_value_reader, value_reader, item_reader, comma_item, items_reader, no_items, select_reader, source_reader, comma_source, sources_reader, and_counted, equal_reader, equals_reader, where_reader, match_reader};
+ghost use Rattle.dx_script_text.specs.Reading.{cell_reader, call_reader, cell_value_reader, value_reader, item_reader, comma_item, items_reader, no_items, select_reader, source_reader, comma_source, sources_reader, and_counted, equal_reader, equals_reader, where_reader, match_step, matched_reader, match_reader};
 
 use crate::tokens::{any_of, next_counts, next_has, next_of, that};
 use dx_grammar::ReadError;
@@ -290,6 +292,21 @@ fn where_part(
     }
 }
 
+// The sources of a match, and the cells of them that are equal.
+#[tactic(auto, unfolding(crate::specs::Reading::matched_reader))]
+fn matched(
+    alloc: Global,
+    tokens: &[ScriptToken],
+) -> Result<(Items<Text>, Items<Equal>, &[ScriptToken]), ReadError>
+    ensures { (r : ℕ) (select : List Chosen)
+        → Gives (λ x. (match_step r select x.0 x.1, x.2.now)) result (matched_reader greatest r select tokens.now) }
+{
+    let (sources, rest) = sources(alloc, tokens)?;
+    let (equal, rest) = where_part(alloc, rest)?;
+    let (_, rest) = any_of(rest, ScriptKind::Semicolon)?;
+    Ok((sources, equal, rest))
+}
+
 /// What stands after `ScriptKind::Create ScriptKind::Table` where a rule is matched.
 #[tactic(auto, unfolding(crate::specs::Reading::match_reader))]
 pub(crate) fn match_rows(
@@ -304,9 +321,7 @@ pub(crate) fn match_rows(
     let (_, rest) = any_of(rest, ScriptKind::Distinct)?;
     let (select, rest) = select(alloc, rest)?;
     let (_, rest) = any_of(rest, ScriptKind::From)?;
-    let (sources, rest) = sources(alloc, rest)?;
-    let (equal, rest) = where_part(alloc, rest)?;
-    let (_, rest) = any_of(rest, ScriptKind::Semicolon)?;
+    let (sources, equal, rest) = matched(alloc, rest)?;
     let step = Step::MatchRows {
         rule: table.number,
         select,
