@@ -14,7 +14,7 @@ use Rattle.dx_joins.proofs.Carrying.{found}
 use Rattle.dx_tgd.specs.Found.{IsFoundRule}
 use Rattle.dx_tgd.specs.Placed.{HasCell}
 use Rattle.dx_tgd.proofs.Founds.{found_start, none_found, none_passes, passes, product_fits, so_far_more, tuples_distinct, tuples_shown}
-use Rattle.dx_tgd.proofs.plain.found_rules.Goals as goal
+use Rattle.dx_tgd.proofs.plain.find_rules.Goals as goal
 
 pub conclusion_cells-cells-requires : goal.conclusion_cells-cells-requires
 conclusion_cells-cells-requires g c =
@@ -35,7 +35,7 @@ rule_rows-requires-clause-premise g c =
 
 pub loop-rule-init : goal.loop-rule-init
 loop-rule-init g c =
-    found_start g.M.Meaning.apply (facts (shown_tables c.args.source.now.symbols c.args.source.now.tables)) c.args.source.now.symbols c.in_ok-symbols.symbols c.new-tables.result.items c.args.limit c.in_ok-symbols.ensures c.new-tables.ensures.items c.requires.apart
+    found_start g.M.Meaning.apply (facts (shown_tables c.args.source.now.symbols c.args.source.now.tables)) c.args.source.now.symbols c.args.symbols.now c.args.tables.now.items c.args.limit c.requires.symbols c.requires.none c.requires.apart
 
 pub nonzero_div-left : goal.nonzero_div-left
 nonzero_div-left g c =
