@@ -1,6 +1,6 @@
 // The match tables of a script, within a limit on the cells that are inserted.
 ghost use Rattle.std.specs.Prelude.{◌≡◌, ◌↔◌, ◌<◌, ◌≤◌, ◌*◌, ◌^◌, ℕ};
-ghost use Rattle.std.specs.Prelude.{IfOk, IfErr, MatchOption, Some, length};
+ghost use Rattle.std.specs.Prelude.{IfOk, IfErr, MatchOption, OnOk, Some, [], length};
 ghost use Rattle.dx_ports.specs.declared.file.Count.TheVariants.{TargetCells};
 ghost use Rattle.dx_ports.specs.Members.{Each};
 ghost use Rattle.dx_funcs.specs.Names.{call_named};
@@ -134,6 +134,43 @@ fn matched_rows<F: Fn(u32, &Items<Text>) -> Result<Text, AllocError>, M: Meaning
     }
 }
 
+// Adds the tuples of each match step, as rows of numbers. A step may have as many as the limit leaves room for.
+fn find_steps<F: Fn(u32, &Items<Text>) -> Result<Text, AllocError>, M: Meaning>(
+    alloc: Global,
+    steps: &[Step],
+    source: &Schema,
+    rows: &Numbers,
+    symbols: &mut Symbols,
+    tables: &mut Vec<Rows>,
+    host: &Host<F, M>,
+    limit: u64,
+) -> Result<(), EvalFault>
+    requires serves { Serves F.Fn M.apply host.now }
+    requires widths { widths (shown_tables rows.now.symbols rows.now.tables) ≡ schema_widths source.now }
+    requires fit { MatchesFit (named_of source.now) (offered host.now) steps.now }
+    requires apart { AreApart rows.now.symbols }
+    requires symbols { symbols.old ≡ rows.now.symbols }
+    requires none { tables.old.items ≡ [] }
+    ensures found { OnOk result (AreFoundSteps (named_of source.now) (call_named M.apply (offered host.now))
+        (facts (shown_tables rows.now.symbols rows.now.tables)) symbols.new (matchings steps.now) tables.new.items) }
+    ensures within { OnOk result (script_cells steps.now (tuples_in symbols.new tables.new.items) ≤ limit) }
+    ensures refused { IfErr result (IsRefusal (named_of source.now) (call_named M.apply (offered host.now)) steps.now
+        (facts (shown_tables rows.now.symbols rows.now.tables)) limit) }
+{
+    let mut left = limit;
+    for step in steps {
+        if let Step::MatchRows { rule, .. } = step {
+            let cells = rule_cells(steps, *rule)?;
+            let room = room_for(left, cells);
+            let found = matched_rows(alloc, source, rows, host, step, symbols, room)?;
+            let table = within(found, room, limit)?;
+            left -= table.count() as u64 * cells;
+            tables.push(table)?;
+        }
+    }
+    Ok(())
+}
+
 /// The tuples of each match step, as rows of numbers. A step may have as many as the limit leaves room for.
 ///
 /// # Errors
@@ -159,16 +196,15 @@ pub(crate) fn found_steps<F: Fn(u32, &Items<Text>) -> Result<Text, AllocError>, 
 {
     let mut symbols = rows.copy_symbols(alloc)?;
     let mut tables = Vec::new(alloc);
-    let mut left = limit;
-    for step in steps {
-        if let Step::MatchRows { rule, .. } = step {
-            let cells = rule_cells(steps, *rule)?;
-            let room = room_for(left, cells);
-            let found = matched_rows(alloc, source, rows, host, step, &mut symbols, room)?;
-            let table = within(found, room, limit)?;
-            left -= table.count() as u64 * cells;
-            tables.push(table)?;
-        }
-    }
+    find_steps(
+        alloc,
+        steps,
+        source,
+        rows,
+        &mut symbols,
+        &mut tables,
+        host,
+        limit,
+    )?;
     Ok(Found { symbols, tables })
 }

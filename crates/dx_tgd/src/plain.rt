@@ -1,5 +1,5 @@
 // The canonical instance, by the plain way: the matches of each rule, and what its conclusion says of them.
-ghost use Rattle.std.specs.Prelude.{◌≡◌, ◌<◌, ◌≤◌, ◌-◌, ◌^◌, ℕ, IfOk, IfErr, length};
+ghost use Rattle.std.specs.Prelude.{◌≡◌, ◌<◌, ◌≤◌, ◌-◌, ◌^◌, [], ℕ, IfOk, IfErr, OnOk, length};
 ghost use Rattle.dx_ports.specs.Members.{◌≈◌, Each};
 ghost use Rattle.dx_ports.specs.declared.file.Count.TheVariants.{TargetCells};
 ghost use Rattle.dx_tgd.specs.declared.fault.CanonFault.TheVariants.{Limit as Refused};
@@ -25,7 +25,7 @@ use crate::made::Made;
 use crate::matching::rule_rows;
 use crate::texts::matches_of;
 use dx_funcs::{Host, Meaning};
-use dx_instance::{Instance, Numbers, Symbols, Value};
+use dx_instance::{Instance, Numbers, Rows, Symbols, Value};
 use dx_model::{Cell, Rule};
 use dx_ports::{Count, Items, Limit, Text};
 use dx_schema::Schema;
@@ -67,7 +67,47 @@ fn passed(limit: u64) -> CanonFault
     })
 }
 
-// The matches of each rule, as rows of numbers. A rule may have as many as the limit leaves room for.
+// Adds the matches of each rule, as rows of numbers. A rule may have as many as the limit leaves room for.
+fn find_rules<F: Fn(u32, &Items<Text>) -> Result<Text, AllocError>, M: Meaning>(
+    alloc: Global,
+    rules: &[Rule],
+    source: &Numbers,
+    symbols: &mut Symbols,
+    tables: &mut Vec<Rows>,
+    host: &Host<F, M>,
+    limit: u64,
+) -> Result<(), CanonFault>
+    requires serves { Serves F.Fn M.apply host.now }
+    requires listed { Each rules.now (λ d. Each d.derived (λ e. IsListed (offered host.now) e.code (length e.args))) }
+    requires rules { Each rules.now IsRule }
+    requires premises { Each rules.now (λ d. AtomsFitWidths (widths (shown_tables source.now.symbols source.now.tables)) d.premise) }
+    requires cells { Each rules.now HasCell }
+    requires apart { AreApart source.now.symbols }
+    requires symbols { symbols.old ≡ source.now.symbols }
+    requires none { tables.old.items ≡ [] }
+    ensures found { OnOk result (AreFound M.apply (facts (shown_tables source.now.symbols source.now.tables)) symbols.new rules.now tables.new.items) }
+    ensures within { OnOk result (canonical_cells rules.now (tuples_in symbols.new tables.new.items) ≤ limit) }
+    ensures refused { IfErr result (IsRefusal M.apply rules.now (facts (shown_tables source.now.symbols source.now.tables)) limit) }
+{
+    let mut left = limit;
+    for rule in rules {
+        let cells = conclusion_cells(rule);
+        intern_literals(rule, symbols)?;
+        let found = rule_rows(alloc, rule, source, symbols, host, left / cells)?;
+        let Some(rows) = found else {
+            return Err(passed(limit));
+        };
+        let used = rows.count() as u64 * cells;
+        if used > left {
+            return Err(passed(limit));
+        }
+        left -= used;
+        tables.push(rows)?;
+    }
+    Ok(())
+}
+
+// The matches of each rule, as rows of numbers.
 fn found_rules<F: Fn(u32, &Items<Text>) -> Result<Text, AllocError>, M: Meaning>(
     alloc: Global,
     rules: &[Rule],
@@ -87,21 +127,7 @@ fn found_rules<F: Fn(u32, &Items<Text>) -> Result<Text, AllocError>, M: Meaning>
 {
     let mut symbols = source.copy_symbols(alloc)?;
     let mut tables = Vec::new(alloc);
-    let mut left = limit;
-    for rule in rules {
-        let cells = conclusion_cells(rule);
-        intern_literals(rule, &mut symbols)?;
-        let found = rule_rows(alloc, rule, source, &mut symbols, host, left / cells)?;
-        let Some(rows) = found else {
-            return Err(passed(limit));
-        };
-        let used = rows.count() as u64 * cells;
-        if used > left {
-            return Err(passed(limit));
-        }
-        left -= used;
-        tables.push(rows)?;
-    }
+    find_rules(alloc, rules, source, &mut symbols, &mut tables, host, limit)?;
     Ok(Found { symbols, tables })
 }
 

@@ -4,7 +4,7 @@ use Rattle.std.specs.List.{range_with_len}
 use Rattle.std.proofs.lemmas.List.{length-map}
 use Rattle.std.specs.Prelude.{Bool}
 use Rattle.std.proofs.lemmas.List.FromFn.{length-range_with_len}
-use Rattle.dx_ports.specs.Members.{◌∈◌, Each}
+use Rattle.dx_ports.specs.Members.{◌∈◌, ◌⊆◌, Each}
 use Rattle.dx_ports.proofs.Members.{in_at}
 use Rattle.dx_instance.specs.Cells.{numbers_at}
 use Rattle.dx_instance.proofs.NumberFacts.{stays}
@@ -35,6 +35,22 @@ loop-place-init g c = record {
       upto_none g.M.Meaning.apply wanted derived c.args.first c.args.shown.now c.in_ok-places.places.items S0 rows c.requires.texts wide at c.requires.shown (length-range_with_len c.args.first (length derived))
       (length c.args.shown.now) c.args.most c.new-out.result (ap (λ (x : Collection). x.rows) c.new-out.ensures);
 }
+
+pub places-requires : goal.places-requires
+places-requires g c = subst (λ (l : List ℕ). c.args.shown.now ⊆ l) (sym (c.deref.ensures.value ∙ c.in_ok-names.ensures)) c.requires.shown
+
+pub derive_row-requires-clause-many : goal.derive_row-requires-clause-many
+derive_row-requires-clause-many g c =
+    let rows = c.args.rows.now.rows in
+    let row = numbers_at rows c.loop-place.place in
+    let wide = c.count-place-end.ensures.wide row (in_at rows c.loop-place.place [] (omega (arith, c.loop-place-test.true, c.count-place-end.ensures.count))) in
+    ap length c.row.ensures.row ∙ wide ∙ c.requires.many
+
+pub derive_row-requires-clause-known : goal.derive_row-requires-clause-known
+derive_row-requires-clause-known g c = c.requires.known
+
+pub derive_row-requires-clause-listed : goal.derive_row-requires-clause-listed
+derive_row-requires-clause-listed g c = c.requires.listed
 
 pub derive_row-requires-clause-texts : goal.derive_row-requires-clause-texts
 derive_row-requires-clause-texts g c =

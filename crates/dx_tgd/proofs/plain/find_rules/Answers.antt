@@ -1,6 +1,6 @@
-use Rattle.std.proofs.Common.{◌≡◌, ◌<◌, ◌/◌, ◌*◌, ℕ, arith, length, refl, subst}
+use Rattle.std.proofs.Common.{◌≡◌, ◌<◌, ◌≤◌, ◌/◌, ◌*◌, ℕ, List, arith, length, refl, subst}
 use Rattle.std.specs.Prelude.{map}
-use Rattle.std.proofs.lemmas.List.{length-map}
+use Rattle.std.proofs.lemmas.List.{length-map, take_all}
 use Rattle.dx_ports.specs.Members.{Each}
 use Rattle.dx_ports.proofs.Loops.{each_item}
 use Rattle.dx_funcs.specs.Offers.{IsListed}
@@ -9,12 +9,15 @@ use Rattle.dx_model.specs.declared.rules.Rule.{Rule}
 use Rattle.dx_model.specs.Fitting.{AtomsFitWidths, IsRule}
 use Rattle.dx_instance.specs.Shown.{shown_tables}
 use Rattle.dx_instance.specs.Stored.{facts, widths}
+use Rattle.dx_instance.proofs.ShownFacts.{extends_both}
 use Rattle.dx_joins.specs.Shown.{texts_of}
 use Rattle.dx_joins.proofs.Carrying.{found}
-use Rattle.dx_tgd.specs.Found.{IsFoundRule}
+use Rattle.dx_tgd.specs.Counting.{canonical_cells}
+use Rattle.dx_tgd.specs.Found.{AreFound, IsFoundRule}
 use Rattle.dx_tgd.specs.Placed.{HasCell}
+use Rattle.dx_tgd.specs.Texts.{tuples_in}
 use Rattle.dx_tgd.proofs.Founds.{found_start, none_found, none_passes, passes, product_fits, so_far_more, tuples_distinct, tuples_shown}
-use Rattle.dx_tgd.proofs.plain.found_rules.Goals as goal
+use Rattle.dx_tgd.proofs.plain.find_rules.Goals as goal
 
 pub conclusion_cells-cells-requires : goal.conclusion_cells-cells-requires
 conclusion_cells-cells-requires g c =
@@ -33,9 +36,22 @@ pub rule_rows-requires-clause-premise : goal.rule_rows-requires-clause-premise
 rule_rows-requires-clause-premise g c =
     each_item (λ (d : Rule). AtomsFitWidths (widths (shown_tables c.args.source.now.symbols c.args.source.now.tables)) d.premise) c.args.rules.now c.loop-rule.rule-index c.rule-item.result c.loop-rule-test.true c.rule-item.is c.requires.premises
 
+pub rule_rows-requires-clause-symbols : goal.rule_rows-requires-clause-symbols
+rule_rows-requires-clause-symbols g c = extends_both c.args.source.now.symbols c.loop-rule.symbols c.intern_literals.new.symbols c.loop-rule.invariant.grows c.in_ok-intern_literals.ensures.grows
+
+pub returns-clause-found : goal.returns-clause-found
+returns-clause-found g c =
+    let I = facts (shown_tables c.args.source.now.symbols c.args.source.now.tables) in
+    subst (λ (R : List Rule). AreFound g.M.Meaning.apply I c.loop-rule.symbols R c.loop-rule.tables.items) (take_all c.loop-rule.rule-index c.args.rules.now (omega (arith, c.loop-rule-test.false))) c.loop-rule.invariant.found
+
+pub returns-clause-within : goal.returns-clause-within
+returns-clause-within g c =
+    let cells = c.loop-rule.invariant.cells in
+    subst (λ (R : List Rule). canonical_cells R (tuples_in c.loop-rule.symbols c.loop-rule.tables.items) ≤ c.args.limit) (take_all c.loop-rule.rule-index c.args.rules.now (omega (arith, c.loop-rule-test.false))) (omega (arith, cells))
+
 pub loop-rule-init : goal.loop-rule-init
 loop-rule-init g c =
-    found_start g.M.Meaning.apply (facts (shown_tables c.args.source.now.symbols c.args.source.now.tables)) c.args.source.now.symbols c.in_ok-symbols.symbols c.new-tables.result.items c.args.limit c.in_ok-symbols.ensures c.new-tables.ensures.items c.requires.apart
+    found_start g.M.Meaning.apply (facts (shown_tables c.args.source.now.symbols c.args.source.now.tables)) c.args.source.now.symbols c.args.symbols.now c.args.tables.now.items c.args.limit c.requires.symbols c.requires.none c.requires.apart
 
 pub nonzero_div-left : goal.nonzero_div-left
 nonzero_div-left g c =

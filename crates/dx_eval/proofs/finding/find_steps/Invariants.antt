@@ -5,7 +5,7 @@ use Rattle.dx_instance.specs.Shown.{shown_tables}
 use Rattle.dx_instance.specs.Stored.{facts}
 use Rattle.dx_schema.specs.Names.{named_of}
 use Rattle.dx_eval.specs.Finding.{FoundSoFar, matchings}
-use Rattle.dx_eval.proofs.finding.found_steps.Given as goal
+use Rattle.dx_eval.proofs.finding.find_steps.Given as goal
 
 -- what is found of the steps so far
 abbrev pub invariant-loop-step : goal.invariant-loop-step

@@ -11,14 +11,14 @@ use Rattle.dx_eval.specs.Finding.{IsFoundStep, IsFoundUpTo}
 use Rattle.dx_eval.specs.Query.{IsSelected}
 use Rattle.dx_eval.proofs.Limits.{all_found, few_cells, many_cells, match_step, matching_at, matching_fits, number_is, other_step, passes, refused_limit, start, too_many}
 use Rattle.dx_eval.proofs.Tables.{match_fits_at, of_step}
-use Rattle.dx_eval.proofs.finding.found_steps.Goals.{in-MatchRows+in_ok-cells+in_ok-found+in_ok-table+in_ok-push, in_default}
-use Rattle.dx_eval.proofs.finding.found_steps.Goals as goal
+use Rattle.dx_eval.proofs.finding.find_steps.Goals.{in-MatchRows+in_ok-cells+in_ok-found+in_ok-table+in_ok-push, in_default}
+use Rattle.dx_eval.proofs.finding.find_steps.Goals as goal
 
 pub loop-step-init : goal.loop-step-init
 loop-step-init g c =
     let N = named_of c.args.source.now in
     let I = facts (shown_tables c.args.rows.now.symbols c.args.rows.now.tables) in
-    start N (call_named g.M.Meaning.apply (offered c.args.host.now)) I c.args.steps.now c.args.rows.now.symbols c.in_ok-symbols.symbols c.new-tables.result.items c.args.limit c.in_ok-symbols.ensures c.new-tables.ensures.items c.requires.apart
+    start N (call_named g.M.Meaning.apply (offered c.args.host.now)) I c.args.steps.now c.args.rows.now.symbols c.args.symbols.now c.args.tables.now.items c.args.limit c.requires.symbols c.requires.none c.requires.apart
 
 pub matched_rows-requires-clause-fit : goal.matched_rows-requires-clause-fit
 matched_rows-requires-clause-fit g c =
