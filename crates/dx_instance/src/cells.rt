@@ -55,6 +55,15 @@ impl Rows {
         })
     }
 
+    /// Makes room for so many more rows, so that they go in without the others being moved. If there is no memory for it,
+    /// no room is made. The rows stay as they are.
+    pub fn make_room(&mut self, more: u32)
+        ensures { self.new ≡ self.old }
+    {
+        let cells = (more as usize).saturating_mul(self.width as usize);
+        let _ = self.cells.reserve(cells);
+    }
+
     /// Rows whose cells are these, row by row.
     pub fn of_cells(width: u32, count: u32, cells: Vec<u32>) -> Rows
         requires { length cells.items ≡ count * width }

@@ -214,22 +214,18 @@ fn ranks_of(alloc: Global, keys: &[(u64, u32)]) -> Result<Vec<u32>, AllocError>
 }
 
 // Puts the first bytes of a key at the end of a buffer, as many as the length says.
-fn push_short(buffer: &mut String, key: u64, length: usize) -> Result<(), AllocError>
+fn push_short(buffer: &mut Vec<u8>, key: u64, length: usize) -> Result<(), AllocError>
     requires { length ≤ 8 }
-    ensures { OnOk result (string_bytes buffer.new ≡ string_bytes buffer.old ++ take length (to_be_bytes w64 key)) }
+    ensures { OnOk result (buffer.new.items ≡ buffer.old.items ++ take length (to_be_bytes w64 key)) }
 {
     let bytes = key.to_be_bytes();
-    match str::from_utf8(&bytes[..length]) {
-        Ok(short) => buffer.push_str(short),
-        // The bytes are those of a text and so UTF-8: the branch spares a proof of it.
-        Err(_) => Err(AllocError),
-    }
+    buffer.extend_from_slice(&bytes[..length])
 }
 
 // Puts the text of the value under a number at the end of a buffer. A short one is taken from its key, and the value is not
 // looked at: where values lie in another order, to come to them takes most of the time.
 fn push_text(
-    buffer: &mut String,
+    buffer: &mut Vec<u8>,
     symbols: &Symbols,
     number: u32,
     key: u64,
@@ -239,13 +235,13 @@ fn push_text(
     requires key { key ≡ value_key (value_of symbols.now number) }
     requires small { IsSmallValue (value_of symbols.now number) }
     requires size { IsShortLength (value_of symbols.now number) size }
-    ensures { OnOk result (string_bytes buffer.new ≡ string_bytes buffer.old ++ text_of (value_of symbols.now number)) }
+    ensures { OnOk result (buffer.new.items ≡ buffer.old.items ++ text_of (value_of symbols.now number)) }
 {
     if size <= 8 {
         return push_short(buffer, key, size as usize);
     }
     match symbols.value(number as u64) {
-        Value::Const(text) => buffer.push_str(text.as_str()),
+        Value::Const(text) => buffer.extend_from_slice(text.bytes()),
         Value::Null(_) => Ok(()),
     }
 }
@@ -259,21 +255,21 @@ fn room_for(lengths: &[u8]) -> usize {
     room
 }
 
-// The texts of the values under these numbers, one after the other, and where each ends. None if they have 2^32 bytes or
-// more.
+// The bytes of the texts of the values under these numbers, one after the other, and where each text ends. None if they are 2^32
+// bytes or more.
 fn texts_in_order(
     alloc: Global,
     symbols: &Symbols,
     keys: &[(u64, u32)],
     lengths: &[u8],
-) -> Result<Option<(String, Vec<u32>)>, AllocError>
+) -> Result<Option<(Vec<u8>, Vec<u32>)>, AllocError>
     requires below { Each (places_of keys.now) (λ n. n < length symbols.now) }
     requires keyed { NumbersAreKeyed symbols.now keys.now }
     requires lengths { AreLengths symbols.now lengths.now (length symbols.now) }
-    ensures texts { IfOk result (λ o. IfSome o (λ t. string_bytes t.0 ≡ joined_texts (map (value_of symbols.now) (places_of keys.now)))) }
+    ensures texts { IfOk result (λ o. IfSome o (λ t. t.0.items ≡ joined_texts (map (value_of symbols.now) (places_of keys.now)))) }
     ensures ends { IfOk result (λ o. IfSome o (λ t. AreEnds symbols.now keys.now t.1.items (length keys.now))) }
 {
-    let mut buffer = String::with_capacity(alloc, room_for(lengths))?;
+    let mut buffer = Vec::with_capacity(alloc, room_for(lengths))?;
     let mut ends = Vec::with_capacity(alloc, keys.len())?;
     for key in keys {
         let size = lengths[key.1 as usize];
@@ -357,6 +353,20 @@ fn copies_in_order(
     Ok(values)
 }
 
+// The bytes of texts as a buffer that its parts share.
+fn shared(alloc: Global, bytes: Vec<u8>) -> Result<Rc<String>, AllocError>
+    ensures { IfOk result (λ buffer. string_bytes buffer.value ≡ bytes.items) }
+{
+    let Ok(texts) = String::from_utf8(bytes) else {
+        // The bytes are those of texts and so UTF-8: the branch spares a proof of it.
+        return Err(AllocError);
+    };
+    match Rc::new(alloc, texts) {
+        Ok(buffer) => Ok(buffer),
+        Err(_) => Err(AllocError),
+    }
+}
+
 // The values under these numbers. Their texts lie in one new buffer in this order, if they have fewer than 2^32 bytes
 // together.
 fn values_in_order(
@@ -370,12 +380,10 @@ fn values_in_order(
     requires lengths { AreLengths symbols.now lengths.now (length symbols.now) }
     ensures { IfOk result (λ values. values.items ≡ map (value_of symbols.now) (places_of keys.now)) }
 {
-    let Some((texts, ends)) = texts_in_order(alloc, symbols, keys, lengths)? else {
+    let Some((bytes, ends)) = texts_in_order(alloc, symbols, keys, lengths)? else {
         return copies_in_order(alloc, symbols, keys);
     };
-    let Ok(buffer) = Rc::new(alloc, texts) else {
-        return Err(AllocError);
-    };
+    let buffer = shared(alloc, bytes)?;
     values_in(alloc, symbols, keys, &buffer, &ends)
 }
 

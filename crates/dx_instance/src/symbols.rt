@@ -80,12 +80,17 @@ impl Symbols {
         }
     }
 
-    /// Makes room for so many more values, so that they go in without the places of the others being found anew. If there
-    /// is no memory for it, no room is made. The values stay as they are.
+    /// Makes room for so many more values, so that they go in without the others being moved or their places being found
+    /// anew: after values in order for greater ones, else for any. If there is no memory for it, no room is made. The values
+    /// stay as they are.
     pub fn make_room(&mut self, more: u64)
         ensures { self.new ≡ self.old }
     {
-        let _ = self.later.reserve(more as usize);
+        if self.later.is_empty() && !self.ordered.values().is_empty() {
+            let _ = self.greater.reserve(more as usize);
+        } else {
+            let _ = self.later.reserve(more as usize);
+        }
     }
 
     /// How many values there are.

@@ -1,4 +1,4 @@
-use Rattle.std.proofs.Common.{◌≡◌, ◌++◌, List, ℕ, string_bytes, subst}
+use Rattle.std.proofs.Common.{◌≡◌, ◌++◌, List, ℕ, subst}
 use Rattle.std.specs.Prelude.{OnOk}
 use Rattle.dx_instance.specs.Numbers.{value_of}
 use Rattle.dx_instance.proofs.ShortFacts.{short_value}
@@ -7,4 +7,4 @@ use Rattle.dx_instance.proofs.ordering.push_text.Goals as goal
 pub returns-then-size-le8 : goal.returns-then-size-le8
 returns-then-size-le8 c =
     let t = short_value (value_of c.args.symbols.now c.args.number) c.args.key c.args.size c.requires.size c.if-size-le8.true c.requires.small c.requires.key in
-    subst (λ (b : List ℕ). OnOk c.push_short.result (string_bytes c.push_short.new.buffer ≡ string_bytes c.args.buffer.now ++ b)) t c.push_short.ensures
+    subst (λ (b : List ℕ). OnOk c.push_short.result (c.push_short.new.buffer.items ≡ c.args.buffer.now.items ++ b)) t c.push_short.ensures

@@ -1,4 +1,4 @@
-use Rattle.std.proofs.Common.{◌≡◌, ◌∙◌, ap, arith, length, List, ℕ, refl, string_bytes}
+use Rattle.std.proofs.Common.{◌≡◌, ◌∙◌, ap, arith, length, List, ℕ, refl}
 use Rattle.std.proofs.lemmas.List.{take_all}
 use Rattle.dx_instance.specs.Numbers.{value_of}
 use Rattle.dx_instance.specs.Ranks.{joined_texts}
@@ -27,11 +27,11 @@ loop-key-preserved c =
     let S = c.args.symbols.now in
     let keys = c.args.keys.now in
     let i = c.loop-key.key-index in
-    let texts = text_more S keys i (value_of S (key_at keys i).1) (string_bytes c.loop-key.buffer) (string_bytes c.push_text.new.buffer) c.loop-key-test.true refl c.loop-key.invariant.texts c.in_ok-push_text.ensures in
+    let texts = text_more S keys i (value_of S (key_at keys i).1) c.loop-key.buffer.items c.push_text.new.buffer.items c.loop-key-test.true refl c.loop-key.invariant.texts c.in_ok-push_text.ensures in
     let utf8 = (c.requires.lengths.all (key_at keys i).1 (key_below _ keys i c.requires.below c.loop-key-test.true)).utf8 in
     record {
       texts = texts;
-      ends = ends_more S keys c.loop-key.ends.items c.push.new.self.items i c.in-Ok.end c.in_ok-push.ensures.items (c.in-Ok.ensures.1 ∙ c.len.ensures ∙ c.push_text.new.buffer.bytes.ok.0 ∙ ap length texts) utf8 c.loop-key.invariant.ends;
+      ends = ends_more S keys c.loop-key.ends.items c.push.new.self.items i c.in-Ok.end c.in_ok-push.ensures.items (c.in-Ok.ensures.1 ∙ c.len.ensures ∙ c.push_text.new.buffer.ok.0 ∙ ap length texts) utf8 c.loop-key.invariant.ends;
       bound = omega (arith, c.loop-key-test.true);
     }
 
