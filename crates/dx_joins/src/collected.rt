@@ -88,15 +88,17 @@ fn in_order(alloc: Global, rows: Rows, ascending: u32) -> Result<Rows, AllocErro
 }
 
 impl Collected {
-    /// No rows.
-    pub(crate) fn new(alloc: Global, width: u32, most: u64) -> Collected
+    /// No rows, with room for so many. If there is no memory for it, no room is made.
+    pub(crate) fn new(alloc: Global, width: u32, most: u64, room: u32) -> Collected
         ensures { result ≡ record { width = width; most = most; rows = [] } }
     {
+        let mut rows = Rows::new(alloc, width);
+        rows.make_room(room);
         Collected {
             alloc,
             most,
             ascending: 0,
-            rows: Rows::new(alloc, width),
+            rows,
         }
     }
 

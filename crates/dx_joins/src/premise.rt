@@ -97,7 +97,8 @@ fn step(
     ensures within { IfOk result (λ o. IfSome o (λ r. length r.rows ≤ most)) }
 {
     let plan = Plan::build(alloc, &partial.variables, &pattern.variables, kept)?;
-    let mut out = Collected::new(alloc, kept.len() as u32, most);
+    let room = source.count(pattern.table);
+    let mut out = Collected::new(alloc, kept.len() as u32, most, room);
     if join(
         alloc,
         &plan,

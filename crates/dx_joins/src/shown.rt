@@ -167,7 +167,7 @@ fn derived_rows<F: Fn(u32, &Items<Text>) -> Result<Text, AllocError>, M: Meaning
 {
     let names = names_of(alloc, wanted, first, derived.len() as u32)?;
     let places = places(alloc, &names, shown)?;
-    let mut out = Collected::new(alloc, shown.len() as u32, most);
+    let mut out = Collected::new(alloc, shown.len() as u32, most, rows.count());
     for place in 0..rows.count() {
         if derive_row(
             alloc,
