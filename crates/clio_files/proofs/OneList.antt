@@ -19,7 +19,6 @@ use Rattle.dx_json.proofs.OneText.{text_is_one}
 use Rattle.dx_exchange.specs.declared.mode.Mode.{Mode}
 use Rattle.dx_exchange.specs.declared.result.Exchange.{Exchange}
 use Rattle.dx_instance.specs.NullMaps.{pairs_of}
-use Rattle.dx_tgd.specs.Counting.{rows_in}
 use Rattle.clio_source.specs.Source.{roots}
 use Rattle.clio_files.specs.Files.{AreFiles, AreTableFiles, IsTableFile}
 use Rattle.clio_files.specs.Laws.{FilesAreOne}
@@ -82,7 +81,7 @@ root_files_are_one target T (r ∷ rs) (f ∷ fs) (g ∷ gs) p q =
 abbrev listed : Forest → Forest → List Conversion → Mode → List Rule → Exchange → List Told → List NullId → List Told → List Told
 listed source target list mode R e tables nulls documents =
     texts_told source target list mode R
-    ++ (tables ++ file_of (nulls_sheet R (rows_in e.matches) nulls) ∷ file_of (fold_sheet (pairs_of e.fold)) ∷ documents)
+    ++ (tables ++ file_of (nulls_sheet R e.matches nulls) ∷ file_of (fold_sheet (pairs_of e.fold)) ∷ documents)
 
 pub one_list_of_files : FilesAreOne
 one_list_of_files source target list mode nested R e files others p q =

@@ -9,7 +9,6 @@ use Rattle.dx_instance.specs.Stored.{TableRows}
 use Rattle.dx_schema.specs.Forest.{Forest}
 use Rattle.dx_schema.specs.Inner.{AreAscending}
 use Rattle.dx_schema.specs.Tables.{TableOf, table_at, tables_of}
-use Rattle.dx_tgd.specs.Counting.{rows_in}
 use Rattle.clio_source.specs.Source.{csv_name, json_name, roots}
 use Rattle.clio_source.proofs.Roots.{is_root, names_differ, no_parent}
 use Rattle.clio_files.specs.Files.{AreTableFiles}
@@ -168,7 +167,7 @@ pub names_are_apart : NamesAreApart
 names_are_apart source target list mode nested R e files tables free p =
     let ts = tables_of target in
     let rs = if nested then roots target else [] in
-    let about = file_of (nulls_sheet R (rows_in e.matches) p.nulls) in
+    let about = file_of (nulls_sheet R e.matches p.nulls) in
     let folded = file_of (fold_sheet (pairs_of e.fold)) in
     let first = table_names 0 ts e.target p.tables p.tables_are in
     let documents = root_names target e.target rs p.documents p.documents_are in

@@ -1,10 +1,11 @@
 -- Files, records and tables, one by one.
-use Rattle.std.proofs.Common.{◌≡◌, ℕ, zero, suc, ◌+◌, ◌-◌, ◌<◌, ◌≤◌, List, [], ◌∷◌, ◌++◌, ◌⊎◌, inl, inr, refl, sym, ap, ◌∙◌, subst, arith}
+use Rattle.std.proofs.Common.{◌≡◌, ℕ, zero, suc, ◌+◌, ◌-◌, ◌<◌, ◌≤◌, List, [], ◌∷◌, ◌++◌, refl, sym, ap, ◌∙◌, subst, arith}
 use Rattle.std.proofs.Common.{Result, Ok, Err, length, get_or, take, map, flat_map, append_assoc}
 use Rattle.std.specs.Prelude.{IfOk}
 use Rattle.std.specs.declared.alloc.AllocError.{AllocError}
 use Rattle.std.proofs.lemmas.Grind.{flat_map-append}
-use Rattle.std.proofs.lemmas.List.{append-nil, map-append, take_more, take_all}
+use Rattle.std.proofs.lemmas.List.{append-nil, length-map, map-append, take_more, take_all}
+use Rattle.dx_ports.proofs.Members.{in_at}
 use Rattle.dx_ports.specs.declared.file.File.{File}
 use Rattle.dx_ports.specs.Entries.{entry_of, entries_of}
 use Rattle.dx_model.specs.declared.values.NullId.{NullId}
@@ -18,6 +19,7 @@ use Rattle.dx_model.specs.Rules.{exported}
 use Rattle.dx_model.specs.Values.{Text, Rows}
 use Rattle.dx_instance.specs.Stored.{TableRows, rows_of}
 use Rattle.dx_schema.specs.Tables.{TableOf}
+use Rattle.dx_tgd.specs.Placed.{FitTuples, HasPlace}
 use Rattle.clio_files.specs.declared.printed.Printed.{Printed}
 use Rattle.clio_files.specs.Files.{AreTableFiles, IsTableFile, files_of, line_of, seen, summary_of}
 use Rattle.clio_files.specs.Sheets.{Sheet, Told, exported_names, file_of, fold_sheet, nulls_sheet, rule_of, term_records, texts_of, variable_text}
@@ -69,7 +71,7 @@ are_more n (u ∷ ts) T (g ∷ fs) t f h k =
     let e : n + length (u ∷ ts) ≡ suc n + length ts = omega arith in
     (h.0, are_more (suc n) ts T fs t f h.1 (subst (λ m. IsTableFile t (rows_of T m) f) e k))
 
-pub length_take : (ts : List TableOf) (i : ℕ) → i < length ts → length (take i ts) ≡ i
+pub length_take : {X : Type 0} (ts : List X) (i : ℕ) → i < length ts → length (take i ts) ≡ i
 length_take [] i h = absurd (omega (arith, h))
 length_take (t ∷ ts) zero h = refl
 length_take (t ∷ ts) (suc i) h = ap suc (length_take ts i (omega (arith, h)))
@@ -100,13 +102,13 @@ get_map f [] i d e h = absurd (omega arith)
 get_map f (x ∷ xs) zero d e h = refl
 get_map f (x ∷ xs) (suc i) d e h = get_map f xs i d e (omega arith)
 
--- the names of the exported variables of the rule of a null
-pub names_at : (R : List Rule) (n : NullId) (lists : List (List ℕ)) (xs : List ℕ) → lists ≡ map exported R → n.rule < length R
-    → xs ≡ get_or lists n.rule xs → map variable_text xs ≡ exported_names (rule_of R n)
-names_at R n lists xs e h g =
+-- the exported variables of the rule of a null
+pub variables_at : (R : List Rule) (n : NullId) (lists : List (List ℕ)) (xs : List ℕ) → lists ≡ map exported R → n.rule < length R
+    → xs ≡ get_or lists n.rule xs → xs ≡ exported (rule_of R n)
+variables_at R n lists xs e h g =
     let at : get_or (map exported R) n.rule xs ≡ exported (rule_of R n) =
     get_map exported R n.rule xs (record { premise = []; derived = []; conclusion = [] }) h in
-    ap (map variable_text) (g ∙ ap (λ (l : List (List ℕ)). get_or l n.rule xs) e ∙ at)
+    g ∙ ap (λ (l : List (List ℕ)). get_or l n.rule xs) e ∙ at
 
 -- one null more
 pub null_lines_more : (R : List Rule) (rows : Rows) (ns : List NullId) (i : ℕ) (d : NullId) (lines : List (List Text)) → i < length ns
@@ -127,48 +129,44 @@ pub same_told : (R Q : List Rule) (rows : Rows) (ns ms : List NullId) (p : Print
 same_told R Q rows ns ms p e d h =
     h ∙ ap (λ (S : List Rule). file_of (nulls_sheet S rows ms)) e ∙ ap (λ (ls : List NullId). file_of (nulls_sheet R rows ls)) d
 
--- where no variable or no text is left, there are no records more
-terms_none : (n : NullId) (xs : List Text) → term_records n xs [] ≡ []
-terms_none n [] = refl
-terms_none n (x ∷ xs) = refl
+-- the record of one variable more
+term_append : (n : NullId) (ys : List Text) (y : Text) (ts : List Text) → length ys < length ts
+    → term_records n (ys ++ y ∷ []) ts
+    ≡ term_records n ys ts ++ (null_text n ∷ y ∷ const_text (get_or ts (length ys) []) ∷ []) ∷ []
+term_append n [] y [] h = absurd (omega (arith, h))
+term_append n [] y (t ∷ ts) h = refl
+term_append n (z ∷ ys) y [] h = absurd (omega (arith, h))
+term_append n (z ∷ ys) y (t ∷ ts) h =
+    ap (λ (l : List (List Text)). (null_text n ∷ z ∷ const_text t ∷ []) ∷ l) (term_append n ys y ts (omega (arith, h)))
 
--- after these records, those of what is left are all of the null
-pub record Done (r : Records) (n : NullId) (xs ts : List Text) (rs whole : List (List Text)) : Type 0 where
-  pub lines : List (List Text)
-  pub printed : AreRecords r lines
-  pub left : lines ++ term_records n xs ts ≡ rs ++ whole
+pub terms_more : (n : NullId) (xs : List ℕ) (ts : List Text) (rs : List (List Text)) (i d : ℕ) → i < length xs → length ts ≡ length xs
+    → (rs ++ term_records n (map variable_text (take i xs)) ts)
+    ++ (null_text n ∷ variable_text (get_or xs i d) ∷ const_text (get_or ts i []) ∷ []) ∷ []
+    ≡ rs ++ term_records n (map variable_text (take (i + 1) xs)) ts
+terms_more n xs ts rs i d h e =
+    let ys = map variable_text (take i xs) in
+    let y = variable_text (get_or xs i d) in
+    let record_at = λ (k : ℕ). null_text n ∷ y ∷ const_text (get_or ts k []) ∷ [] in
+    let many : length ys ≡ i = length-map (take i xs) variable_text ∙ length_take xs i h in
+    let names : map variable_text (take (i + 1) xs) ≡ ys ++ y ∷ [] =
+    ap (map variable_text) (take_more xs i d h) ∙ map-append variable_text (take i xs) (get_or xs i d ∷ []) in
+    let one : term_records n (map variable_text (take (i + 1) xs)) ts ≡ term_records n ys ts ++ record_at i ∷ [] =
+    ap (λ (l : List Text). term_records n l ts) names
+    ∙ (term_append n ys y ts (omega (arith, many, h, e)) ∙ ap (λ (k : ℕ). term_records n ys ts ++ record_at k ∷ []) many) in
+    append_assoc rs (term_records n ys ts) (record_at i ∷ []) ∙ ap (λ (l : List (List Text)). rs ++ l) (sym one)
 
-pub either_named : (xs : List ℕ) (ts : List Text) → (xs ≡ []) ⊎ (ts ≡ []) → (map variable_text xs ≡ []) ⊎ (ts ≡ [])
-either_named xs ts (inl e) = inl (ap (map variable_text) e)
-either_named xs ts (inr e) = inr e
-
-pub terms_begin : (r : Records) (n : NullId) (xs ts ys us : List Text) (rs : List (List Text)) → xs ≡ ys → ts ≡ us → AreRecords r rs
-    → Done r n xs ts rs (term_records n ys us)
-terms_begin r n xs ts ys us rs e f h =
-    record { lines = rs; printed = h; left = ap (λ vs. rs ++ term_records n vs ts) e ∙ ap (λ vs. rs ++ term_records n ys vs) f }
-
--- one record more
-pub terms_more : (r s : Records) (n : NullId) (x t : Text) (xs ts ys us : List Text) (rs whole : List (List Text)) → xs ≡ x ∷ ys
-    → ts ≡ t ∷ us → Done r n xs ts rs whole
-    → ((lines : List (List Text)) → AreRecords r lines → AreRecords s (lines ++ (null_text n ∷ x ∷ const_text t ∷ []) ∷ []))
-    → Done s n ys us rs whole
-terms_more r s n x t xs ts ys us rs whole e f d push = record {
-  lines = d.lines ++ (null_text n ∷ x ∷ const_text t ∷ []) ∷ [];
-  printed = push d.lines d.printed;
-  left = append_assoc d.lines ((null_text n ∷ x ∷ const_text t ∷ []) ∷ []) (term_records n ys us)
-      ∙ subst (λ vs. d.lines ++ term_records n vs (t ∷ us) ≡ rs ++ whole) e
-      (subst (λ vs. d.lines ++ term_records n xs vs ≡ rs ++ whole) f d.left);
-}
-
-pub terms_end : (r : Records) (n : NullId) (xs ts : List Text) (rs whole : List (List Text)) → (xs ≡ []) ⊎ (ts ≡ [])
-    → Done r n xs ts rs whole → AreRecords r (rs ++ whole)
-terms_end r n xs ts rs whole (inl e) d =
-    let same : d.lines ++ [] ≡ rs ++ whole = subst (λ vs. d.lines ++ term_records n vs ts ≡ rs ++ whole) e d.left in
-    subst (AreRecords r) (sym (append-nil d.lines) ∙ same) d.printed
-terms_end r n xs ts rs whole (inr e) d =
-    let same : d.lines ++ [] ≡ rs ++ whole =
-    ap (λ v. d.lines ++ v) (sym (terms_none n xs)) ∙ subst (λ vs. d.lines ++ term_records n xs vs ≡ rs ++ whole) e d.left in
-    subst (AreRecords r) (sym (append-nil d.lines) ∙ same) d.printed
+-- the tuple of the place of a null has a text for each exported variable of its rule
+pub tuple_long : (R : List Rule) (rows : Rows) (n : NullId) → FitTuples R rows → length rows ≡ length R → HasPlace R rows n
+    → length (texts_of rows n) ≡ length (exported (rule_of R n))
+tuple_long R rows n fit one p = at R rows n.rule fit one p.rule p.place
+  where
+    at : (R : List Rule) (rows : Rows) (i : ℕ) → FitTuples R rows → length rows ≡ length R → i < length R
+        → n.row < length (get_or rows i [])
+        → length (get_or (get_or rows i []) n.row []) ≡ length (exported (get_or R i (record { premise = []; derived = []; conclusion = [] })))
+    at [] rows i fit one h p = absurd (omega (arith, h))
+    at (d ∷ R) [] i fit one h p = absurd (omega (arith, one))
+    at (d ∷ R) (ts ∷ rows) zero fit one h p = fit.0 _ (in_at ts n.row [] p)
+    at (d ∷ R) (ts ∷ rows) (suc i) fit one h p = at R rows i fit.1 (omega (arith, one)) (omega (arith, h)) p
 
 -- one pair of the fold more
 pub fold_more : (pairs : List NullPair) (i : ℕ) (p : NullPair) → i < length pairs → p ≡ get_or pairs i p

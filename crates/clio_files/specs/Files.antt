@@ -16,7 +16,6 @@ use Rattle.dx_schema.specs.Forest.{Forest}
 use Rattle.dx_schema.specs.Tables.{TableOf, schema_widths, tables_of}
 use Rattle.dx_csv.specs.Print.{HasNoMark, IsTableText}
 use Rattle.dx_funcs.specs.declared.conversion.Conversion.{Conversion}
-use Rattle.dx_tgd.specs.Counting.{rows_in}
 use Rattle.dx_tgd.specs.Placed.{FitTuples, HasPlace}
 use Rattle.dx_exchange.specs.declared.mode.Mode.{Mode}
 use Rattle.dx_exchange.specs.declared.result.Exchange.{Exchange}
@@ -50,7 +49,7 @@ pub record AreFiles (source target : Forest) (list : List Conversion) (mode : Mo
   pub documents : List Told
   pub documents_are : AreRootFiles target e.target (if nested then roots target else []) documents
   pub is : files ≡ texts_told source target list mode R
-      ++ (tables ++ file_of (nulls_sheet R (rows_in e.matches) nulls) ∷ file_of (fold_sheet (pairs_of e.fold)) ∷ documents)
+      ++ (tables ++ file_of (nulls_sheet R e.matches nulls) ∷ file_of (fold_sheet (pairs_of e.fold)) ∷ documents)
 
 -- the files by names and bytes
 abbrev pub files_of : List Told → List Entry
@@ -73,9 +72,9 @@ contents_of files = flat_map (λ (f : Told). f.bytes) files
 pub record FitsFiles (R : List Rule) (target : Forest) (e : Exchange) : Type 0 where
   pub widths_are : widths e.target ≡ schema_widths target
   pub no_marks : Each (tables_of target) (λ (t : TableOf). HasNoMark t.columns)
-  pub places : (n : NullId) → Null n ∈ values (facts e.target) → HasPlace R (rows_in e.matches) n
-  pub tuples : FitTuples R (rows_in e.matches)
-  pub one_each : length e.matches.rules ≡ length R
+  pub places : (n : NullId) → Null n ∈ values (facts e.target) → HasPlace R e.matches n
+  pub tuples : FitTuples R e.matches
+  pub one_each : length e.matches ≡ length R
 
 -- ---- what the code has
 

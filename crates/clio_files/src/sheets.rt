@@ -5,8 +5,7 @@ ghost use Rattle.dx_model.specs.Rules.{exported as exported_of};
 ghost use Rattle.dx_instance.specs.NullMaps.{pairs_of};
 ghost use Rattle.dx_instance.specs.ValueText.{const_text, null_text, value_text_of};
 ghost use Rattle.dx_csv.specs.Lines.{IsPlain};
-ghost use Rattle.dx_tgd.specs.Counting.{rows_in};
-ghost use Rattle.dx_tgd.specs.Placed.{HasPlace};
+ghost use Rattle.dx_tgd.specs.Placed.{FitTuples, HasPlace};
 ghost use Rattle.clio_files.specs.Files.{seen};
 ghost use Rattle.clio_files.specs.Printing.{AreRecords};
 ghost use Rattle.clio_files.specs.Sheets.{Sheet, file_of, fold_sheet, nulls_sheet, term_records, texts_of, variable_text};
@@ -15,13 +14,13 @@ use crate::printed::Printed;
 use crate::records::Records;
 use dx_csv::show_null;
 use dx_instance::NullMap;
-use dx_model::{Matches, NullId, NullPair, Rule, Value};
+use dx_model::{NullId, NullPair, Rule, Value};
 use dx_ports::{File, Items, Text};
-use dx_tgd::exported;
+use dx_tgd::{RuleMatches, Tuple, exported};
 use std::alloc::{AllocError, Global};
 
-// How many bytes the records of a null mostly take.
-const USUAL_BYTES: usize = 64;
+// How many bytes a record of a null and a variable mostly takes at most. What is not filled costs no memory.
+const USUAL_BYTES: usize = 32;
 
 // The file of a sheet, of which the header is the first of the records.
 fn sheet_file(alloc: Global, name: &str, records: Records) -> Result<Printed, AllocError>
@@ -59,16 +58,17 @@ fn push_terms(
     null: &NullId,
     shown: &[u8],
     variables: &[u32],
-    texts: &[Text],
+    tuple: &Tuple,
     records: &mut Records,
 ) -> Result<(), AllocError>
     requires shown { shown.now ≡ null_text null.now }
     requires plain { IsPlain (null_text null.now) }
+    requires wide { length tuple.now ≡ length variables.now }
     ensures { (rs : List (List (List ℕ))) → AreRecords records.old rs
-        → OnOk result (AreRecords records.new (rs ++ term_records null.now (map variable_text variables.now) texts.now)) }
+        → OnOk result (AreRecords records.new (rs ++ term_records null.now (map variable_text variables.now) tuple.now)) }
 {
-    for (variable, text) in variables.iter().zip(texts) {
-        push_term(shown, *variable, text, records)?;
+    for column in 0..variables.len() {
+        push_term(shown, variables[column], tuple.text(column), records)?;
     }
     Ok(())
 }
@@ -84,14 +84,13 @@ fn all_exported(alloc: Global, rules: &[Rule]) -> Result<Items<Items<u32>>, Allo
     Ok(lists)
 }
 
-// The texts of the place of a null.
-fn texts_at<'a>(matches: &'a Matches, null: &NullId) -> &'a [Text]
-    requires rule { null.now.rule < length matches.now.rules }
-    requires place { null.now.row < length (slice_index_or (rows_in matches.now) null.now.rule []) }
-    ensures { result.now ≡ texts_of (rows_in matches.now) null.now }
-{
-    let places = &matches.rules.items()[null.rule as usize];
-    places.tuples.tuple(null.row as usize)
+// How many bytes the records of nulls of these rules mostly take at most.
+fn usual_bytes(lists: &[Items<u32>], nulls: &[NullId]) -> usize {
+    let mut widest = 0usize;
+    for variables in lists {
+        widest = widest.max(variables.len());
+    }
+    nulls.len().saturating_mul(widest).saturating_mul(USUAL_BYTES)
 }
 
 // The header of what nulls stand for.
@@ -109,28 +108,24 @@ fn push_nulls_header(records: &mut Records) -> Result<(), AllocError>
 pub(crate) fn nulls_file(
     alloc: Global,
     rules: &[Rule],
-    matches: &Matches,
+    matches: &RuleMatches,
     nulls: &[NullId],
 ) -> Result<Printed, AllocError>
-    requires one_each { length matches.now.rules ≡ length rules.now }
-    requires places { Each nulls.now (HasPlace rules.now (rows_in matches.now)) }
-    ensures { IfOk result (λ p. seen p ≡ file_of (nulls_sheet rules.now (rows_in matches.now) nulls.now)) }
+    requires one_each { length matches.now ≡ length rules.now }
+    requires tuples { FitTuples rules.now matches.now }
+    requires places { Each nulls.now (HasPlace rules.now matches.now) }
+    ensures { IfOk result (λ p. seen p ≡ file_of (nulls_sheet rules.now matches.now nulls.now)) }
 {
     let lists = all_exported(alloc, rules)?;
     let mut records = Records::new(alloc);
-    records.make_room(nulls.len().saturating_mul(USUAL_BYTES));
+    records.make_room(usual_bytes(lists.items(), nulls));
     push_nulls_header(&mut records)?;
     let mut shown = Vec::new(alloc);
     for null in nulls {
         let variables = lists.items()[null.rule as usize].items();
+        let tuple = matches.tuple(null.rule, null.row);
         show_null(null, &mut shown)?;
-        push_terms(
-            null,
-            &shown,
-            variables,
-            texts_at(matches, null),
-            &mut records,
-        )?;
+        push_terms(null, &shown, variables, &tuple, &mut records)?;
     }
     sheet_file(alloc, "nulls.csv", records)
 }

@@ -1,7 +1,6 @@
 -- From the stages of a command to what it writes.
 use Rattle.std.proofs.Common.{◌≡◌, ℕ, zero, suc, ◌<◌, ◌≤◌, List, [], ◌∷◌, length, refl, sym, ◌∙◌, ap, subst, inl, inr, Result, Ok, Err, Option, None, Some, arith}
 use Rattle.std.specs.Prelude.{◌==◌, map}
-use Rattle.std.proofs.lemmas.List.{length-map}
 use Rattle.std.proofs.lemmas.Bool.{cases_Bool, eqb-true}
 use Rattle.csv.specs.Reading.{strip_bom}
 use Rattle.dx_ports.specs.Members.{Each, here, there}
@@ -16,7 +15,6 @@ use Rattle.dx_schema.proofs.Valid.{are_tables}
 use Rattle.dx_schema_text.specs.Print.{AreNamed, AreNames}
 use Rattle.dx_tokens.specs.Lexing.{IsWord}
 use Rattle.dx_csv.specs.Print.{HasNoMark}
-use Rattle.dx_tgd.specs.Counting.{rows_in}
 use Rattle.dx_tgd.proofs.CanonicalFacts.{nulls_have_places}
 use Rattle.dx_exchange.specs.declared.mode.Mode.{Mode}
 use Rattle.dx_exchange.specs.declared.result.Exchange.{Exchange}
@@ -98,10 +96,10 @@ files_fit P mode M I e h x = record {
   widths_are = x.widths_are ∙ model_widths M.target;
   no_marks = no_marks M.target h.target_names;
   places = λ n m.
-      let w = from_flat_map (λ (f : Fact). f.row) (canonical 0 M.rules (rows_in e.matches)) (x.nulls n m) in
-      nulls_have_places M.rules (rows_in e.matches) w.0 n w.1 w.2;
-  tuples = fit_tuples P.apply M.rules (facts I) (rows_in e.matches) x.matches;
-  one_each = sym (length-map e.matches.rules (λ p. p.tuples)) ∙ one_each P.apply M.rules (facts I) (rows_in e.matches) x.matches;
+      let w = from_flat_map (λ (f : Fact). f.row) (canonical 0 M.rules e.matches) (x.nulls n m) in
+      nulls_have_places M.rules e.matches w.0 n w.1 w.2;
+  tuples = fit_tuples P.apply M.rules (facts I) e.matches x.matches;
+  one_each = one_each P.apply M.rules (facts I) e.matches x.matches;
 }
 
 -- each fact of the target has a value

@@ -5,7 +5,6 @@ use Rattle.dx_model.specs.declared.rules.Rule.{Rule}
 use Rattle.dx_instance.specs.Stored.{TableRows, facts, widths}
 use Rattle.dx_schema.specs.Forest.{Forest}
 use Rattle.dx_schema.specs.Tables.{model_tables, schema_widths}
-use Rattle.dx_tgd.specs.Counting.{rows_in}
 use Rattle.dx_used.specs.Used.{Agree, Marks, UsesOnly}
 use Rattle.dx_used.proofs.UsedLaws.{same_rows, same_solutions, same_universal}
 use Rattle.dx_exchange.specs.declared.mode.Mode.{Mode}
@@ -32,7 +31,7 @@ use Rattle.clio_top.proofs.Plans.{rows_said, rows_widths}
 made_for : (P : Program) (mode : Mode) (M : Mapping) (used : Marks) (I J : List TableRows) (e : Exchange) → Each M.rules (UsesOnly used)
     → Agree used (facts I) (facts J) → IsExchange P.apply (asked mode (M, J)) e → IsExchange P.apply (asked mode (M, I)) e
 made_for P mode M used I J e uses agree x = record {
-  matches = same_rows P.apply used M.rules (facts J) (facts I) (rows_in e.matches) uses (agree.1, agree.0) x.matches;
+  matches = same_rows P.apply used M.rules (facts J) (facts I) e.matches uses (agree.1, agree.0) x.matches;
   within = x.within;
   universal = same_universal P.apply used M.rules (model_tables M.target) (facts J) (facts I) (facts e.target) uses (agree.1, agree.0) x.universal;
   null_map = x.null_map;

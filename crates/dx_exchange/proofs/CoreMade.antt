@@ -26,7 +26,7 @@ use Rattle.dx_instance.specs.NullMaps.{ByNull, pairs_of}
 use Rattle.dx_instance.specs.Stored.{TableRows, facts, rows_of, widths}
 use Rattle.dx_instance.proofs.AfterFacts.{pairs_give}
 use Rattle.dx_tgd.specs.declared.made.Made.{Made}
-use Rattle.dx_tgd.specs.Counting.{canonical_cells, rows_in}
+use Rattle.dx_tgd.specs.Counting.{canonical_cells}
 use Rattle.dx_keys.specs.declared.answers.Chased.{Chased}
 use Rattle.dx_keys.specs.Answers.{IsChased}
 use Rattle.dx_cover_fold.specs.Folding.{IsCoverFold}
@@ -49,23 +49,23 @@ have_widths schema R closed d m a n = ((closed d m).fits a n).width
 pub record CoreOf (convert : Conversions) (a : Asked) (e : Exchange) (key_map rest : List NullPair) : Type 0 where
   pub mode : a.mode ≡ Core
   pub closed : Each a.rules (IsClosed a.schema)
-  pub matches : AreRows convert a.rules a.rows (rows_in e.matches)
-  pub within : canonical_cells a.rules (rows_in e.matches) ≤ a.limit
-  pub forced : IsForcedMap a.schema (uncovered_part a.rules (rows_in e.matches)) key_map
-  pub keys : KeysHold a.schema (image key_map (uncovered_part a.rules (rows_in e.matches)))
-  pub inside : facts e.target ⊆ image key_map (uncovered_part a.rules (rows_in e.matches))
-  pub onto : image rest (image key_map (uncovered_part a.rules (rows_in e.matches))) ≈ facts e.target
+  pub matches : AreRows convert a.rules a.rows e.matches
+  pub within : canonical_cells a.rules e.matches ≤ a.limit
+  pub forced : IsForcedMap a.schema (uncovered_part a.rules e.matches) key_map
+  pub keys : KeysHold a.schema (image key_map (uncovered_part a.rules e.matches))
+  pub inside : facts e.target ⊆ image key_map (uncovered_part a.rules e.matches)
+  pub onto : image rest (image key_map (uncovered_part a.rules e.matches)) ≈ facts e.target
   pub core : IsCore (facts e.target)
   pub null_map : IsNullMap (pairs_of e.fold)
-  pub listed : Each (pairs_of e.fold) (λ p. Null p.null ∈ values (canonical 0 a.rules (rows_in e.matches)))
-  pub gives : (n : NullId) → Null n ∈ values (canonical 0 a.rules (rows_in e.matches))
-      → given (pairs_of e.fold) n ≡ moved (given rest) (moved (given key_map) (cover_fold a.rules (rows_in e.matches) n))
+  pub listed : Each (pairs_of e.fold) (λ p. Null p.null ∈ values (canonical 0 a.rules e.matches))
+  pub gives : (n : NullId) → Null n ∈ values (canonical 0 a.rules e.matches)
+      → given (pairs_of e.fold) n ≡ moved (given rest) (moved (given key_map) (cover_fold a.rules e.matches n))
   pub widths_are : widths e.target ≡ map (λ (t : Table). t.width) a.schema
   pub ascend : (t : ℕ) → RowsAscend (rows_of e.target t)
 
 module _ (convert : Conversions) (a : Asked) (e : Exchange) (m r : List NullPair) (k : CoreOf convert a e m r) where
   abbrev rows : Rows
-  rows = rows_in e.matches
+  rows = e.matches
 
   -- the canonical instance, its uncovered part, and the image of that
   abbrev C : List Fact
@@ -126,15 +126,15 @@ core_made convert a e m r k = record {
   matches = k.matches;
   within = k.within;
   universal =
-      least_core_universal convert a.rules a.schema a.rows (facts e.target) (rows_in e.matches) m k.matches k.closed k.forced k.keys
+      least_core_universal convert a.rules a.schema a.rows (facts e.target) e.matches m k.matches k.closed k.forced k.keys
       (record { inside = k.inside; moves = (given r, (λ f h. k.onto.0 _ (in_map (fact_moved (given r)) h))) }) k.core;
   null_map = k.null_map;
   listed = k.listed;
   folded = folded convert a e m r k;
-  by_mode = subst (λ (x : Mode). IsOfMode x a.schema a.rules (rows_in e.matches) (pairs_of e.fold) (facts e.target)) (sym k.mode)
+  by_mode = subst (λ (x : Mode). IsOfMode x a.schema a.rules e.matches (pairs_of e.fold) (facts e.target)) (sym k.mode)
       (core_mode convert a e m r k);
-  nulls = λ n h. whole convert a e m r k n (forced_image_stays a.schema (uncovered_part a.rules (rows_in e.matches)) m n k.forced
-      (values_part (facts e.target) (image m (uncovered_part a.rules (rows_in e.matches))) k.inside (Null n) h));
+  nulls = λ n h. whole convert a e m r k n (forced_image_stays a.schema (uncovered_part a.rules e.matches) m n k.forced
+      (values_part (facts e.target) (image m (uncovered_part a.rules e.matches)) k.inside (Null n) h));
   widths_are = k.widths_are;
   ascend = k.ascend;
 }
@@ -146,7 +146,7 @@ pub record Computed (convert : Conversions) (a : Asked) (M : Made) (f : ByNull) 
     (fold : ByNull) : Type 0 where
   pub mode : a.mode ≡ Core
   pub canonical : IsCanonical convert a M
-  pub folds : IsCoverFold a.rules (rows_in M.matches) f
+  pub folds : IsCoverFold a.rules M.matches f
   pub imaged : IsImage f M.instance I
   pub chased : IsChased a.schema I c
   pub reduced : IsReduction c.instance r
@@ -155,27 +155,27 @@ pub record Computed (convert : Conversions) (a : Asked) (M : Made) (f : ByNull) 
 
 -- the image under the cover fold is the uncovered part
 pub uncovered_image : (convert : Conversions) (a : Asked) (M : Made) (f : ByNull) (I : List TableRows) → IsCanonical convert a M
-    → IsCoverFold a.rules (rows_in M.matches) f → IsImage f M.instance I
-    → facts I ≈ uncovered_part a.rules (rows_in M.matches)
+    → IsCoverFold a.rules M.matches f → IsImage f M.instance I
+    → facts I ≈ uncovered_part a.rules M.matches
 uncovered_image convert a M f I k folds imaged =
     same_trans (same_sym imaged.is)
-    (same_trans (image_by_members (pairs_of f) (facts M.instance) (canonical 0 a.rules (rows_in M.matches)) k.facts_are)
-    (fold_uncovers (λ t. (table_of a.schema t).width) a.rules (rows_in M.matches) f (have_widths a.schema a.rules k.closed)
-    (one_each convert a.rules a.rows (rows_in M.matches) k.matches) folds))
+    (same_trans (image_by_members (pairs_of f) (facts M.instance) (canonical 0 a.rules M.matches) k.facts_are)
+    (fold_uncovers (λ t. (table_of a.schema t).width) a.rules M.matches f (have_widths a.schema a.rules k.closed)
+    (one_each convert a.rules a.rows M.matches k.matches) folds))
 
 -- in core mode it is what the mode's script means
 pub core_part : (convert : Conversions) (a : Asked) (M : Made) (f : ByNull) (I : List TableRows) → a.mode ≡ Core → IsCanonical convert a M
-    → IsCoverFold a.rules (rows_in M.matches) f → IsImage f M.instance I → facts I ⊆ meant a.mode a.rules (rows_in M.matches)
+    → IsCoverFold a.rules M.matches f → IsImage f M.instance I → facts I ⊆ meant a.mode a.rules M.matches
 core_part convert a M f I core k folds imaged =
-    subst (λ (x : Mode). facts I ⊆ meant x a.rules (rows_in M.matches)) (sym core) (uncovered_image convert a M f I k folds imaged).0
+    subst (λ (x : Mode). facts I ⊆ meant x a.rules M.matches) (sym core) (uncovered_image convert a M f I k folds imaged).0
 
 module _ (convert : Conversions) (a : Asked) (M : Made) (f : ByNull) (I : List TableRows) (c : Chased) (r : Reduced)
     (fold : ByNull) (k : Computed convert a M f I c r fold) where
   abbrev all : List Fact
-  all = canonical 0 a.rules (rows_in M.matches)
+  all = canonical 0 a.rules M.matches
 
   abbrev part : List Fact
-  part = uncovered_part a.rules (rows_in M.matches)
+  part = uncovered_part a.rules M.matches
 
   uncovered_is : facts I ≈ part
   uncovered_is = uncovered_image convert a M f I k.canonical k.folds k.imaged
@@ -187,14 +187,14 @@ module _ (convert : Conversions) (a : Asked) (M : Made) (f : ByNull) (I : List T
   image_is = same_trans (image_by_members (pairs_of c.map) part (facts I) (same_sym uncovered_is)) k.chased.imaged.is
 
   stands_in_all : (n : NullId) → Null n ∈ values part → Null n ∈ values all
-  stands_in_all n h = values_part part all (uncovered_is_part (least_cover a.rules (rows_in M.matches)) a.rules (rows_in M.matches))
+  stands_in_all n h = values_part part all (uncovered_is_part (least_cover a.rules M.matches) a.rules M.matches)
       (Null n) h
 
   -- a null that does not stand in the canonical instance stays under each
   stays : (n : NullId) → ¬ (Null n ∈ values all) → given (pairs_of fold) n ≡ Null n
   stays n none =
       let a1 : given (pairs_of f) n ≡ Null n = pairs_give f n ∙ k.folds.stays n
-      (λ p. none (null_in a.rules (rows_in M.matches) n k.canonical.rules p)) in
+      (λ p. none (null_in a.rules M.matches n k.canonical.rules p)) in
       let a2 : given (pairs_of c.map) n ≡ Null n = unlisted (pairs_of c.map) n
       (λ p h e. none (stands_in_all n (subst (λ (j : NullId). Null j ∈ values part) e (forced_is.here_alone p h)))) in
       let a3 : given (pairs_of r.map) n ≡ Null n = unlisted (pairs_of r.map) n
@@ -225,7 +225,7 @@ module _ (convert : Conversions) (a : Asked) (M : Made) (f : ByNull) (I : List T
     null_map = k.null_map;
     listed = stands_listed;
     gives = λ n h. k.joined n ∙ ap (λ (v : Value). moved (given (pairs_of r.map)) (moved (given (pairs_of c.map)) v))
-        (fold_gives a.rules (rows_in M.matches) f n k.folds h);
+        (fold_gives a.rules M.matches f n k.folds h);
     widths_are = k.reduced.widths_stay ∙ k.chased.imaged.widths_stay ∙ k.imaged.widths_stay ∙ k.canonical.widths_are;
     ascend = k.reduced.ascend k.chased.imaged.ascend;
   }

@@ -6,7 +6,6 @@ use Rattle.dx_ports.specs.Members.{◌∈◌, ◌⊆◌, ◌≈◌, Each}
 use Rattle.dx_ports.proofs.Members.{from_map, same_sym, same_trans}
 use Rattle.dx_model.specs.declared.facts.Fact.{Fact}
 use Rattle.dx_model.specs.declared.facts.NullPair.{NullPair}
-use Rattle.dx_model.specs.declared.matches.Matches.{Matches}
 use Rattle.dx_model.specs.declared.values.NullId.{NullId}
 use Rattle.dx_model.specs.declared.values.Value.{Value}
 use Rattle.dx_model.specs.declared.values.Value.TheVariants.{Null}
@@ -16,13 +15,13 @@ use Rattle.dx_model.specs.Instances.{IsCore, IsNullMap, fact_moved, given, image
 use Rattle.dx_model.specs.Rules.{AreRows, canonical}
 use Rattle.dx_model.specs.Solutions.{IsClosed}
 use Rattle.dx_model.specs.Tables.{FactFits, IsInstance, KeysHold, Table}
-use Rattle.dx_model.specs.Values.{Conversions}
+use Rattle.dx_model.specs.Values.{Conversions, Rows}
 use Rattle.dx_model.proofs.ByMembers.{core_by_members, forced_map_by_members, image_by_members, keys_by_members, uncovered_is_part}
 use Rattle.dx_model.proofs.Closed.{canonical_fits_closed}
 use Rattle.dx_model.proofs.Maps as maps
 use Rattle.dx_instance.specs.NullMaps.{ByNull, pairs_of}
 use Rattle.dx_instance.specs.Stored.{facts}
-use Rattle.dx_tgd.specs.Counting.{canonical_cells, rows_in}
+use Rattle.dx_tgd.specs.Counting.{canonical_cells}
 use Rattle.dx_exchange.specs.declared.mode.Mode.TheVariants.{Plain, Core}
 use Rattle.dx_exchange.specs.declared.result.Exchange.{Exchange}
 use Rattle.dx_exchange.specs.Exchanging.{Asked, IsExchange}
@@ -35,7 +34,7 @@ abbrev widths_of : Asked → List ℕ
 widths_of a = map (λ (t : Table). t.width) a.schema
 
 -- the exchange with this fold and a target of these facts
-abbrev exchange_of : Asked → Matches → ByNull → List Fact → Exchange
+abbrev exchange_of : Asked → Rows → ByNull → List Fact → Exchange
 exchange_of a M fold T = record { matches = M; fold = fold; target = placed 0 (widths_of a) T }
 
 forced_listing : (schema : List Table) (A : List Fact) (m : List NullPair) → IsForcedMap schema A m
@@ -57,15 +56,15 @@ moved_fits schema m A fits f h =
 
 -- ---- in plain mode
 
-pub plain_exists : (convert : Conversions) (a : Asked) (M : Matches) (m : List NullPair) → a.mode ≡ Plain
-    → Each a.rules (IsClosed a.schema) → AreRows convert a.rules a.rows (rows_in M)
-    → canonical_cells a.rules (rows_in M) ≤ a.limit → IsForcedMap a.schema (canonical 0 a.rules (rows_in M)) m
-    → KeysHold a.schema (image m (canonical 0 a.rules (rows_in M))) → (x : Exchange) × IsExchange convert a x
+pub plain_exists : (convert : Conversions) (a : Asked) (M : Rows) (m : List NullPair) → a.mode ≡ Plain
+    → Each a.rules (IsClosed a.schema) → AreRows convert a.rules a.rows M
+    → canonical_cells a.rules M ≤ a.limit → IsForcedMap a.schema (canonical 0 a.rules M) m
+    → KeysHold a.schema (image m (canonical 0 a.rules M)) → (x : Exchange) × IsExchange convert a x
 plain_exists convert a M m plain closed are few forced keys =
     let ws = widths_of a in
-    let C = canonical 0 a.rules (rows_in M) in
+    let C = canonical 0 a.rules M in
     let I = placed 0 ws C in
-    let fits = (canonical_fits_closed a.schema a.rules (rows_in M) closed).0 in
+    let fits = (canonical_fits_closed a.schema a.rules M closed).0 in
     let same : facts I ≈ C = placed_facts a.schema C fits in
     let image_fits = moved_fits a.schema m C fits in
     let there : facts (placed 0 ws (image m C)) ≈ image m C = placed_facts a.schema (image m C) image_fits in
@@ -96,20 +95,20 @@ plain_exists convert a M m plain closed are few forced keys =
 -- ---- in core mode
 
 -- the core of the image of the uncovered part under its forced map
-pub core_exists : (convert : Conversions) (a : Asked) (M : Matches) (m h : List NullPair) (T : List Fact) → a.mode ≡ Core
-    → Each a.rules (IsClosed a.schema) → AreRows convert a.rules a.rows (rows_in M)
-    → canonical_cells a.rules (rows_in M) ≤ a.limit → IsForcedMap a.schema (uncovered_part a.rules (rows_in M)) m
-    → KeysHold a.schema (image m (uncovered_part a.rules (rows_in M)))
-    → T ⊆ image m (uncovered_part a.rules (rows_in M)) → image h (image m (uncovered_part a.rules (rows_in M))) ≈ T → IsCore T
+pub core_exists : (convert : Conversions) (a : Asked) (M : Rows) (m h : List NullPair) (T : List Fact) → a.mode ≡ Core
+    → Each a.rules (IsClosed a.schema) → AreRows convert a.rules a.rows M
+    → canonical_cells a.rules M ≤ a.limit → IsForcedMap a.schema (uncovered_part a.rules M) m
+    → KeysHold a.schema (image m (uncovered_part a.rules M))
+    → T ⊆ image m (uncovered_part a.rules M) → image h (image m (uncovered_part a.rules M)) ≈ T → IsCore T
     → (x : Exchange) × IsExchange convert a x
 core_exists convert a M m h T mode closed are few forced keys inside onto core =
     let ws = widths_of a in
-    let C = canonical 0 a.rules (rows_in M) in
-    let U = uncovered_part a.rules (rows_in M) in
-    let fits : IsInstance a.schema U = λ f l. (canonical_fits_closed a.schema a.rules (rows_in M) closed).0 f
-    (uncovered_is_part (least_cover a.rules (rows_in M)) a.rules (rows_in M) f l) in
+    let C = canonical 0 a.rules M in
+    let U = uncovered_part a.rules M in
+    let fits : IsInstance a.schema U = λ f l. (canonical_fits_closed a.schema a.rules M closed).0 f
+    (uncovered_is_part (least_cover a.rules M) a.rules M f l) in
     let there : facts (placed 0 ws T) ≈ T = placed_facts a.schema T (λ f l. moved_fits a.schema m U fits f (inside f l)) in
-    let g : NullId → Value = λ n. moved (given h) (moved (given m) (cover_fold a.rules (rows_in M) n)) in
+    let g : NullId → Value = λ n. moved (given h) (moved (given m) (cover_fold a.rules M n)) in
     let F = maps.listing g (values C) in
     let d = maps.is_null_map g (values C) in (
       exchange_of a M (listing F) T,

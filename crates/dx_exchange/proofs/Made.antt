@@ -27,7 +27,7 @@ use Rattle.dx_keys.specs.declared.answers.Chased.{Chased}
 use Rattle.dx_keys.specs.Answers.{IsChased, IsClash, IsFaultOf, determination_at, fact_in}
 use Rattle.dx_stages.specs.Worlds.{World}
 use Rattle.dx_tgd.specs.declared.made.Made.{Made as MadeTgd}
-use Rattle.dx_tgd.specs.Counting.{canonical_cells, rows_in}
+use Rattle.dx_tgd.specs.Counting.{canonical_cells}
 use Rattle.dx_exchange.specs.declared.mode.Mode.{Mode}
 use Rattle.dx_exchange.specs.declared.mode.Mode.TheVariants.{Plain, Core}
 use Rattle.dx_exchange.specs.declared.result.Exchange.{Exchange}
@@ -40,9 +40,9 @@ use Rattle.dx_exchange.specs.Parts.{IsCanonical}
 pub record MadeOf (convert : Conversions) (a : Asked) (I : List TableRows) (e : Exchange) : Type 0 where
   pub mode : a.mode ≡ Plain
   pub closed : Each a.rules (IsClosed a.schema)
-  pub matches : AreRows convert a.rules a.rows (rows_in e.matches)
-  pub within : canonical_cells a.rules (rows_in e.matches) ≤ a.limit
-  pub same : facts I ≈ canonical 0 a.rules (rows_in e.matches)
+  pub matches : AreRows convert a.rules a.rows e.matches
+  pub within : canonical_cells a.rules e.matches ≤ a.limit
+  pub same : facts I ≈ canonical 0 a.rules e.matches
   pub wide : widths I ≡ map (λ (t : Table). t.width) a.schema
   pub forced : IsForcedMap a.schema (facts I) (pairs_of e.fold)
   pub imaged : IsImage e.fold I e.target
@@ -50,7 +50,7 @@ pub record MadeOf (convert : Conversions) (a : Asked) (I : List TableRows) (e : 
 
 pub made : (convert : Conversions) (a : Asked) (I : List TableRows) (e : Exchange) → MadeOf convert a I e → IsExchange convert a e
 made convert a I e k =
-    let C = canonical 0 a.rules (rows_in e.matches) in
+    let C = canonical 0 a.rules e.matches in
     let m = pairs_of e.fold in
     let forced : IsForcedMap a.schema C m = forced_map_by_members a.schema (facts I) C m k.same k.forced in
     let folded : image m C ≈ facts e.target = same_trans (image_by_members m C (facts I) (same_sym k.same)) k.imaged.is in
@@ -58,11 +58,11 @@ made convert a I e k =
       matches = k.matches;
       within = k.within;
       universal = universal_by_members convert a.rules a.schema a.rows (image m C) (facts e.target) folded
-          (chased_universal convert a.rules a.schema a.rows (rows_in e.matches) m k.matches k.closed forced keys);
+          (chased_universal convert a.rules a.schema a.rows e.matches m k.matches k.closed forced keys);
       null_map = forced.null_map;
       listed = forced.here_alone;
       folded = folded;
-      by_mode = subst (λ (x : Mode). IsOfMode x a.schema a.rules (rows_in e.matches) m (facts e.target)) (sym k.mode) forced;
+      by_mode = subst (λ (x : Mode). IsOfMode x a.schema a.rules e.matches m (facts e.target)) (sym k.mode) forced;
       nulls = λ n h. forced_image_stays a.schema C m n forced (values_part (facts e.target) (image m C) folded.1 (Null n) h);
       widths_are = k.imaged.widths_stay ∙ k.wide;
       ascend = k.imaged.ascend;
@@ -159,13 +159,13 @@ has_clash convert a rows A c are few s k =
 
 -- in plain mode the stored canonical instance is such a part
 pub plain_part : (convert : Conversions) (a : Asked) (M : MadeTgd) → a.mode ≡ Plain → IsCanonical convert a M
-    → facts M.instance ⊆ meant a.mode a.rules (rows_in M.matches)
-plain_part convert a M plain k = subst (λ (x : Mode). facts M.instance ⊆ meant x a.rules (rows_in M.matches)) (sym plain) k.facts_are.0
+    → facts M.instance ⊆ meant a.mode a.rules M.matches
+plain_part convert a M plain k = subst (λ (x : Mode). facts M.instance ⊆ meant x a.rules M.matches) (sym plain) k.facts_are.0
 
 -- a fault of the chase of an instance with the facts of what the mode's script means is one of the exchange
 pub chase_refused : (convert : Conversions) (a : Asked) (M : MadeTgd) (I : List TableRows) (f : ChaseFault) → IsCanonical convert a M
-    → facts I ⊆ meant a.mode a.rules (rows_in M.matches) → IsFaultOf a.schema I f
+    → facts I ⊆ meant a.mode a.rules M.matches → IsFaultOf a.schema I f
     → (of_chase f ≡ faults.Memory) ⊎ (World → HasNone convert a (of_chase f))
 chase_refused convert a M I (chase.Clash c) k s fault = inr
-    (λ world. has_clash convert a (rows_in M.matches) (facts I) c k.matches k.within s fault)
+    (λ world. has_clash convert a M.matches (facts I) c k.matches k.within s fault)
 chase_refused convert a M I chase.Memory k s fault = inl refl

@@ -19,7 +19,7 @@ use Rattle.dx_model.specs.Covers.{cover_fold, uncovered_part}
 use Rattle.dx_model.specs.Solutions.{IsClosed, IsSolution, IsUniversal}
 use Rattle.dx_instance.specs.NullMaps.{pairs_of}
 use Rattle.dx_instance.specs.Stored.{facts, rows_of, widths}
-use Rattle.dx_tgd.specs.Counting.{canonical_cells, rows_in}
+use Rattle.dx_tgd.specs.Counting.{canonical_cells}
 use Rattle.dx_stages.specs.Stages.{Stage, notions}
 use Rattle.dx_exchange.specs.declared.mode.Mode.{Mode}
 use Rattle.dx_exchange.specs.declared.mode.Mode.TheVariants.{Plain, Core}
@@ -64,14 +64,14 @@ IsOfMode Core schema R rows fold target = IsCoreMode schema R rows fold target
 -- The exchange: the matches are the rows of each rule, within the limit; the target is a universal solution; the fold sends the
 -- canonical instance onto it, as the mode asks; each null of the target is one of the canonical instance; rows ascend.
 pub record IsExchange (convert : Conversions) (a : Asked) (e : Exchange) : Type 0 where
-  pub matches : AreRows convert a.rules a.rows (rows_in e.matches)
-  pub within : canonical_cells a.rules (rows_in e.matches) ≤ a.limit
+  pub matches : AreRows convert a.rules a.rows e.matches
+  pub within : canonical_cells a.rules e.matches ≤ a.limit
   pub universal : IsUniversal convert a.rules a.schema a.rows (facts e.target)
   pub null_map : IsNullMap (pairs_of e.fold)
-  pub listed : Each (pairs_of e.fold) (λ p. Null p.null ∈ values (canonical 0 a.rules (rows_in e.matches)))
-  pub folded : image (pairs_of e.fold) (canonical 0 a.rules (rows_in e.matches)) ≈ facts e.target
-  pub by_mode : IsOfMode a.mode a.schema a.rules (rows_in e.matches) (pairs_of e.fold) (facts e.target)
-  pub nulls : (n : NullId) → Null n ∈ values (facts e.target) → Null n ∈ values (canonical 0 a.rules (rows_in e.matches))
+  pub listed : Each (pairs_of e.fold) (λ p. Null p.null ∈ values (canonical 0 a.rules e.matches))
+  pub folded : image (pairs_of e.fold) (canonical 0 a.rules e.matches) ≈ facts e.target
+  pub by_mode : IsOfMode a.mode a.schema a.rules e.matches (pairs_of e.fold) (facts e.target)
+  pub nulls : (n : NullId) → Null n ∈ values (facts e.target) → Null n ∈ values (canonical 0 a.rules e.matches)
   pub widths_are : widths e.target ≡ map (λ (t : Table). t.width) a.schema
   pub ascend : (t : ℕ) → RowsAscend (rows_of e.target t)
 

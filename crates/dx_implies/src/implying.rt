@@ -1,14 +1,16 @@
 // Whether a rule follows from others.
-ghost use Rattle.std.specs.Prelude.{◌≡◌, ◌↔◌, ◌<◌, ◌-◌, ◌^◌, ◌∷◌, [], ℕ, IfErr, IfOk, IsTrue, OnOk, length};
-ghost use Rattle.dx_ports.specs.Members.{◌∈◌, Each};
+ghost use Rattle.std.specs.Prelude.{◌≡◌, ◌↔◌, ◌<◌, ◌≤◌, ◌-◌, ◌^◌, ◌∷◌, [], ℕ, IfErr, IfOk, IsTrue, OnOk, length};
+ghost use Rattle.dx_ports.specs.Members.{◌∈◌, ◌≈◌, Each};
 ghost use Rattle.dx_model.specs.declared.values.Value.{Value as AnyValue};
 ghost use Rattle.dx_model.specs.declared.rules.Rule.{Rule as RuleOf};
-ghost use Rattle.dx_model.specs.Fitting.{AtomsFitWidths, RuleFits};
+ghost use Rattle.dx_model.specs.Fitting.{AtomsFitWidths, IsRule, RuleFits};
 ghost use Rattle.dx_model.specs.Following.{Follows, IsClean, frozen_text, underived};
-ghost use Rattle.dx_model.specs.Rules.{said};
+ghost use Rattle.dx_model.specs.Rules.{AreRows, canonical, said};
 ghost use Rattle.dx_model.specs.Values.{Conversions};
-ghost use Rattle.dx_schema.specs.Tables.{model_tables};
+ghost use Rattle.dx_schema.specs.Tables.{model_tables, schema_widths};
 ghost use Rattle.dx_instance.specs.Stored.{facts, widths};
+ghost use Rattle.dx_tgd.specs.Counting.{canonical_cells};
+ghost use Rattle.dx_tgd.specs.Found.{IsRefusal as IsTooLarge};
 ghost use Rattle.dx_implies.specs.Frozen.{IsRefusal, PassesFrozen};
 
 use crate::freezing::{frozen_rule_of, frozen_with};
@@ -22,7 +24,7 @@ use dx_instance::Instance;
 use dx_model::{Places, Rule, Tuples};
 use dx_ports::{Items, Text};
 use dx_schema::Schema;
-use dx_tgd::{CanonFault, canonical_plain};
+use dx_tgd::{CanonFault, Made, canonical_plain};
 use std::alloc::{AllocError, Global};
 use std::slice::from_ref;
 
@@ -45,6 +47,33 @@ fn has_conclusion(
     Ok(satisfied(&conclusion, &place, instance, &mut room))
 }
 
+/// What rules without derived variables make of a frozen premise.
+fn made_of(
+    alloc: Global,
+    rules: &[Rule],
+    premise: &Instance,
+    target: &Schema,
+    limit: u64,
+) -> Result<Made, CanonFault>
+    requires plain { Each rules.now (λ d. Each d.derived (λ e. ⊥)) }
+    requires rules { Each rules.now IsRule }
+    requires few { length rules.now < 2 ^ 32 - 1 }
+    requires premises { Each rules.now (λ d. AtomsFitWidths (widths premise.now) d.premise) }
+    requires conclusions { Each rules.now (λ d. AtomsFitWidths (schema_widths target.now) d.conclusion) }
+    requires limit { limit < 2 ^ 32 - 1 }
+    ensures matches { IfOk result (λ m. AreRows (λ _ _. []) rules.now (facts premise.now) m.matches) }
+    ensures within { IfOk result (λ m. canonical_cells rules.now m.matches ≤ limit) }
+    ensures facts { IfOk result (λ m. facts m.instance ≈ canonical 0 rules.now m.matches) }
+    ensures widths { IfOk result (λ m. widths m.instance ≡ schema_widths target.now) }
+    ensures refused { IfErr result (IsTooLarge (λ _ _. []) rules.now (facts premise.now) limit) }
+{
+    let host: Host<_, NoConversions> = Host::build(
+        Items::new(alloc),
+        |_code: u32, _texts: &Items<Text>| Err(AllocError),
+    );
+    canonical_plain(alloc, rules, premise, &host, target, limit)
+}
+
 /// Whether the rule follows from those of the others that have no derived variables. The prefix is one with which no literal
 /// begins.
 pub(crate) fn follows(
@@ -65,13 +94,9 @@ pub(crate) fn follows(
     ensures within { OnOk result (¬ (PassesFrozen limit (underived others.now) rule.now)) }
     ensures refused { IfErr result (IsRefusal limit (PassesFrozen limit (underived others.now) rule.now)) }
 {
-    let host: Host<_, NoConversions> = Host::build(
-        Items::new(alloc),
-        |_code: u32, _texts: &Items<Text>| Err(AllocError),
-    );
     let premise = frozen_with(alloc, rule, prefix, source)?;
     let near = near_rules(alloc, others, &premise)?;
-    match canonical_plain(alloc, near.as_slice(), &premise, &host, target, limit) {
+    match made_of(alloc, near.as_slice(), &premise, target, limit) {
         Ok(made) => Ok(has_conclusion(alloc, rule, prefix, &made.instance)?),
         Err(fault) => Err(told_as_frozen(fault)),
     }

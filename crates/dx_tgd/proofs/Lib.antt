@@ -4,6 +4,7 @@ pub mod Tables
 pub mod RuleRows
 pub mod CanonicalFacts
 pub mod Gaining
+pub mod Lending
 pub mod Saying
 mod Cells
 pub mod Plans

@@ -6,9 +6,9 @@
 //! for each match, pass a limit, before memory is spent on them. All are the notions of `dx_model`'s specs/Rules.
 //! The law `nulls_have_places`: each null of the canonical instance names a rule and a place that are there.
 //!
-//! Matches are rows of numbers from beginning to end (`found`); each text is copied once, for the tuple that is answered
-//! (`matches_of`). The other calls on rules are named here too: closing a rule, printing it, and whether an instance satisfies
-//! rules, keys and links.
+//! Matches are rows of numbers from beginning to end (`found`, `RuleMatches`); a `Tuple` lends the texts for which such a row
+//! stands, and `matches_of` copies them. The other calls on rules are named here too: closing a rule, printing it, and whether
+//! an instance satisfies rules, keys and links.
 #![tactic(auto)]
 
 mod builder;
@@ -22,7 +22,9 @@ mod matching;
 mod plain;
 mod planned;
 mod planning;
+mod rule_matches;
 mod texts;
+mod tuple;
 mod variables;
 
 pub use dx_closing::{CloseFault, close};
@@ -33,5 +35,7 @@ pub use laws::nulls_have_places;
 pub use made::Made;
 pub use matching::match_rows;
 pub use plain::canonical_plain;
+pub use rule_matches::RuleMatches;
 pub use texts::matches_of;
+pub use tuple::Tuple;
 pub use variables::exported;

@@ -1,6 +1,6 @@
 // What rules make of source rows.
+use crate::rule_matches::RuleMatches;
 use dx_instance::Instance;
-use dx_model::Matches;
 
 /// What rules make of source rows.
 #[derive(Drop)]
@@ -8,5 +8,5 @@ pub struct Made {
     /// The facts.
     pub instance: Instance,
     /// The rows of each rule.
-    pub matches: Matches,
+    pub matches: RuleMatches,
 }

@@ -12,7 +12,7 @@ ghost use Rattle.dx_instance.specs.Numbers.{AreApart, Extends};
 ghost use Rattle.dx_instance.specs.Shown.{shown_tables};
 ghost use Rattle.dx_instance.specs.Stored.{facts, rows_of, widths};
 ghost use Rattle.dx_schema.specs.Tables.{schema_widths};
-ghost use Rattle.dx_tgd.specs.Counting.{canonical_cells, rows_in};
+ghost use Rattle.dx_tgd.specs.Counting.{canonical_cells};
 ghost use Rattle.dx_tgd.specs.Found.{AreFound, IsRefusal};
 ghost use Rattle.dx_tgd.specs.Placed.{HasCell};
 ghost use Rattle.dx_tgd.specs.Texts.{tuples_in};
@@ -23,7 +23,7 @@ use crate::fault::CanonFault;
 use crate::found::Found;
 use crate::made::Made;
 use crate::matching::rule_rows;
-use crate::texts::matches_of;
+use crate::rule_matches::RuleMatches;
 use dx_funcs::{Host, Meaning};
 use dx_instance::{Instance, Numbers, Rows, Symbols, Value};
 use dx_model::{Cell, Rule};
@@ -152,17 +152,20 @@ pub fn canonical_plain<F: Fn(u32, &Items<Text>) -> Result<Text, AllocError>, M: 
     requires premises { Each rules.now (λ d. AtomsFitWidths (widths source.now) d.premise) }
     requires conclusions { Each rules.now (λ d. AtomsFitWidths (schema_widths target.now) d.conclusion) }
     requires limit { limit < 2 ^ 32 - 1 }
-    ensures matches { IfOk result (λ m. AreRows M.apply rules.now (facts source.now) (rows_in m.matches)) }
-    ensures within { IfOk result (λ m. canonical_cells rules.now (rows_in m.matches) ≤ limit) }
-    ensures facts { IfOk result (λ m. facts m.instance ≈ canonical 0 rules.now (rows_in m.matches)) }
+    ensures matches { IfOk result (λ m. AreRows M.apply rules.now (facts source.now) m.matches) }
+    ensures within { IfOk result (λ m. canonical_cells rules.now m.matches ≤ limit) }
+    ensures facts { IfOk result (λ m. facts m.instance ≈ canonical 0 rules.now m.matches) }
     ensures widths { IfOk result (λ m. widths m.instance ≡ schema_widths target.now) }
     ensures ascend { IfOk result (λ m. (t : ℕ) → RowsAscend (rows_of m.instance t)) }
     ensures refused { IfErr result (IsRefusal M.apply rules.now (facts source.now) limit) }
 {
     let columns = target.widths(alloc)?;
     let found = found_rules(alloc, rules, &source.numbers(), host, limit)?;
-    let Found { symbols, tables } = found.in_order(alloc)?;
-    let matches = matches_of(alloc, &tables, &symbols)?;
-    let instance = canonical_of_rows(alloc, rules, &tables, symbols, &columns)?;
-    Ok(Made { instance, matches })
+    let ordered = found.in_order(alloc)?;
+    let symbols = ordered.symbols.copy(alloc)?;
+    let instance = canonical_of_rows(alloc, rules, &ordered.tables, symbols, &columns)?;
+    Ok(Made {
+        instance,
+        matches: RuleMatches::new(ordered.symbols, ordered.tables),
+    })
 }

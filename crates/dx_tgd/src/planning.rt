@@ -57,6 +57,7 @@ fn null_numbers(
     ensures grows { Extends symbols.old symbols.new }
 {
     let mut numbers = Vec::with_capacity(alloc, places as usize)?;
+    symbols.make_room(u64::from(places));
     for place in 0..places {
         let null = NullId {
             rule,

@@ -2,7 +2,6 @@ use Rattle.std.proofs.Common.{[], map, refl}
 use Rattle.std.specs.Prelude.{if◌then◌else◌}
 use Rattle.dx_funcs.specs.Serving.{offered}
 use Rattle.dx_instance.specs.NullMaps.{pairs_of}
-use Rattle.dx_tgd.specs.Counting.{rows_in}
 use Rattle.clio_source.specs.Source.{roots}
 use Rattle.clio_files.specs.Files.{seen}
 use Rattle.clio_files.specs.Printing.{AddsRoots}
@@ -20,7 +19,7 @@ returns g c =
     let target = c.args.target.now in
     let nested = c.args.nested in
     let texts = texts_told c.args.source.now target (offered c.args.host.now) c.args.mode c.args.rules.now in
-    let nulls = file_of (nulls_sheet c.args.rules.now (rows_in e.matches) c.in_ok-nulls.nulls.items) in
+    let nulls = file_of (nulls_sheet c.args.rules.now e.matches c.in_ok-nulls.nulls.items) in
     let fold = file_of (fold_sheet (pairs_of e.fold)) in
     let added = c.in_ok-push_tables.ensures in
     let before = map seen c.push-2.new.self.items in

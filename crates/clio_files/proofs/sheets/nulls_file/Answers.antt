@@ -3,7 +3,6 @@ use Rattle.std.specs.Prelude.{codes}
 use Rattle.std.proofs.lemmas.List.{length-map, take_all}
 use Rattle.dx_ports.proofs.Members.{in_at}
 use Rattle.dx_model.specs.declared.values.NullId.{NullId}
-use Rattle.dx_tgd.specs.Counting.{rows_in}
 use Rattle.clio_files.specs.Printing.{AreRecords}
 use Rattle.clio_files.specs.Sheets.{nulls_sheet, variable_text}
 use Rattle.clio_files.proofs.SheetLists.{names_at, lines_of, null_lines_more, sheet_told}
@@ -33,7 +32,7 @@ loop-null-init c = c.in_ok-push_nulls_header.ensures (c.make_room.ensures [] [] 
 pub loop-null-preserved : goal.loop-null-preserved
 loop-null-preserved c =
     let i = c.loop-null.null-index in
-    let rows = rows_in c.args.matches.now in
+    let rows = c.args.matches.now in
     let null : NullId = get_or c.args.nulls.now i (record { rule = 0; var = 0; row = 0 }) in
     let p = c.requires.places _ (in_at c.args.nulls.now i (record { rule = 0; var = 0; row = 0 }) c.loop-null-test.true) in
     let same = c.items.ensures ∙ c.in_ok-lists.ensures in
@@ -48,7 +47,7 @@ loop-null-preserved c =
 
 pub returns : goal.returns
 returns c =
-    let rows = rows_in c.args.matches.now in
+    let rows = c.args.matches.now in
     let all = take_all c.loop-null.null-index c.args.nulls.now c.loop-null-test.false in
     sheet_told c.sheet_file.result (codes "nulls.csv") c.loop-null.records (nulls_sheet c.args.rules.now rows c.args.nulls.now)
     c.sheet_file.ensures refl

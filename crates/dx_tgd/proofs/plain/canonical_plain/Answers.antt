@@ -1,8 +1,9 @@
-use Rattle.std.proofs.Common.{◌≡◌, ◌∙◌, ◌≤◌, List, ap, arith, subst, sym}
-use Rattle.dx_ports.specs.Members.{Each}
+use Rattle.std.proofs.Common.{◌∙◌, ◌≤◌, List, ap, arith, subst, sym}
+use Rattle.dx_ports.specs.Members.{◌≈◌, Each}
 use Rattle.dx_model.specs.declared.rules.Rule.{Rule}
+use Rattle.dx_model.specs.declared.values.Value.{Value}
 use Rattle.dx_model.specs.Fitting.{AtomsFitWidths}
-use Rattle.dx_model.specs.Rules.{AreRows}
+use Rattle.dx_model.specs.Rules.{AreRows, canonical}
 use Rattle.dx_model.specs.Values.{Rows}
 use Rattle.dx_instance.specs.Shown.{shown_tables}
 use Rattle.dx_instance.specs.Stored.{TableRows, facts, widths}
@@ -30,13 +31,13 @@ pub in_order-requires-clause-texts : goal.in_order-requires-clause-texts
 in_order-requires-clause-texts g c =
     found_texts g.M.Meaning.apply (facts (shown_tables c.numbers.result.symbols c.numbers.result.tables)) c.in_ok-found.found.symbols c.args.rules.now c.in_ok-found.found.tables.items c.in_ok-found.ensures.found
 
-pub matches_of-requires : goal.matches_of-requires
-matches_of-requires g c =
+pub new-requires : goal.new-requires
+new-requires g c =
     let I = facts (shown_tables c.numbers.result.symbols c.numbers.result.tables) in
-    let S = c.in_ok-symbols.field-0.symbols in
-    let ts = c.in_ok-symbols.field-0.tables.items in
-    let found = found_reordered g.M.Meaning.apply I c.in_ok-found.found.symbols S c.args.rules.now c.in_ok-found.found.tables.items ts c.in_ok-symbols.ensures.same c.in_ok-found.ensures.found in
-    record { texts = rw c.deref.ensures.value (found_texts g.M.Meaning.apply I S c.args.rules.now ts found) }
+    let S = c.in_ok-ordered.ordered.symbols in
+    let ts = c.in_ok-ordered.ordered.tables.items in
+    let found = found_reordered g.M.Meaning.apply I c.in_ok-found.found.symbols S c.args.rules.now c.in_ok-found.found.tables.items ts c.in_ok-ordered.ensures.same c.in_ok-found.ensures.found in
+    found_texts g.M.Meaning.apply I S c.args.rules.now ts found
 
 pub canonical_of_rows-requires-clause-cells : goal.canonical_of_rows-requires-clause-cells
 canonical_of_rows-requires-clause-cells g c = have_cells (schema_widths c.args.target.now) c.args.rules.now (λ w m. (c.widths.ensures.within w m).0) c.requires.rules c.requires.conclusions
@@ -44,34 +45,40 @@ canonical_of_rows-requires-clause-cells g c = have_cells (schema_widths c.args.t
 pub canonical_of_rows-requires-clause-tuples : goal.canonical_of_rows-requires-clause-tuples
 canonical_of_rows-requires-clause-tuples g c =
     let I = facts (shown_tables c.numbers.result.symbols c.numbers.result.tables) in
-    let S = c.in_ok-symbols.field-0.symbols in
-    let ts = c.in_ok-symbols.field-0.tables.items in
-    let found = found_reordered g.M.Meaning.apply I c.in_ok-found.found.symbols S c.args.rules.now c.in_ok-found.found.tables.items ts c.in_ok-symbols.ensures.same c.in_ok-found.ensures.found in
-    rw c.deref-2.ensures.value (found_fit g.M.Meaning.apply I S c.args.rules.now ts found)
+    let S = c.in_ok-ordered.ordered.symbols in
+    let ts = c.in_ok-ordered.ordered.tables.items in
+    let found = found_reordered g.M.Meaning.apply I c.in_ok-found.found.symbols S c.args.rules.now c.in_ok-found.found.tables.items ts c.in_ok-ordered.ensures.same c.in_ok-found.ensures.found in
+    rw (c.in_ok-symbols.ensures, c.deref.ensures.value) (found_fit g.M.Meaning.apply I S c.args.rules.now ts found)
 
 pub canonical_of_rows-requires-clause-limit : goal.canonical_of_rows-requires-clause-limit
 canonical_of_rows-requires-clause-limit g c =
-    let S = c.in_ok-symbols.field-0.symbols in
-    let few = reordered_cells c.in_ok-found.found.symbols S c.args.rules.now c.in_ok-found.found.tables.items c.in_ok-symbols.field-0.tables.items (ascend_apart S c.in_ok-symbols.ensures.ascend) c.in_ok-symbols.ensures.same in
+    let S = c.in_ok-ordered.ordered.symbols in
+    let few = reordered_cells c.in_ok-found.found.symbols S c.args.rules.now c.in_ok-found.found.tables.items c.in_ok-ordered.ordered.tables.items (ascend_apart S c.in_ok-ordered.ensures.ascend) c.in_ok-ordered.ensures.same in
     let within = c.in_ok-found.ensures.within in
     let limit = c.requires.limit in
-    rw c.deref-2.ensures.value (omega (arith, few, within, limit))
+    rw (c.in_ok-symbols.ensures, c.deref.ensures.value) (omega (arith, few, within, limit))
 
 pub returns-clause-matches : goal.returns-clause-matches
 returns-clause-matches g c =
     let I = facts (shown_tables c.numbers.result.symbols c.numbers.result.tables) in
-    let S = c.in_ok-symbols.field-0.symbols in
-    let ts = c.in_ok-symbols.field-0.tables.items in
-    let found = found_reordered g.M.Meaning.apply I c.in_ok-found.found.symbols S c.args.rules.now c.in_ok-found.found.tables.items ts c.in_ok-symbols.ensures.same c.in_ok-found.ensures.found in
-    let rows = all_rule_rows g.M.Meaning.apply I S c.args.rules.now ts c.in_ok-symbols.ensures.ascend found in
+    let S = c.in_ok-ordered.ordered.symbols in
+    let ts = c.in_ok-ordered.ordered.tables.items in
+    let found = found_reordered g.M.Meaning.apply I c.in_ok-found.found.symbols S c.args.rules.now c.in_ok-found.found.tables.items ts c.in_ok-ordered.ensures.same c.in_ok-found.ensures.found in
+    let rows = all_rule_rows g.M.Meaning.apply I S c.args.rules.now ts c.in_ok-ordered.ensures.ascend found in
     let here = subst (λ (J : List TableRows). AreRows g.M.Meaning.apply c.args.rules.now (facts J) (tuples_in S ts)) c.numbers.ensures.shown rows in
-    subst (λ (rs : Rows). AreRows g.M.Meaning.apply c.args.rules.now (facts c.args.source.now) rs) (sym (c.in_ok-matches.ensures ∙ ap (tuples_in S) c.deref.ensures.value)) here
+    subst (λ (rs : Rows). AreRows g.M.Meaning.apply c.args.rules.now (facts c.args.source.now) rs) (sym c.new.ensures) here
 
 pub returns-clause-within : goal.returns-clause-within
 returns-clause-within g c =
-    let S = c.in_ok-symbols.field-0.symbols in
-    let ts = c.in_ok-symbols.field-0.tables.items in
-    let few = reordered_cells c.in_ok-found.found.symbols S c.args.rules.now c.in_ok-found.found.tables.items ts (ascend_apart S c.in_ok-symbols.ensures.ascend) c.in_ok-symbols.ensures.same in
+    let S = c.in_ok-ordered.ordered.symbols in
+    let ts = c.in_ok-ordered.ordered.tables.items in
+    let few = reordered_cells c.in_ok-found.found.symbols S c.args.rules.now c.in_ok-found.found.tables.items ts (ascend_apart S c.in_ok-ordered.ensures.ascend) c.in_ok-ordered.ensures.same in
     let within = c.in_ok-found.ensures.within in
     let all : canonical_cells c.args.rules.now (tuples_in S ts) ≤ c.args.limit = omega (arith, few, within) in
-    subst (λ (rs : Rows). canonical_cells c.args.rules.now rs ≤ c.args.limit) (sym (c.in_ok-matches.ensures ∙ ap (tuples_in S) c.deref.ensures.value)) all
+    subst (λ (rs : Rows). canonical_cells c.args.rules.now rs ≤ c.args.limit) (sym c.new.ensures) all
+
+pub returns-clause-facts : goal.returns-clause-facts
+returns-clause-facts g c =
+    let S = c.in_ok-ordered.ordered.symbols in
+    let same = ap (λ (z : List Value). tuples_in z c.deref.result.now) c.in_ok-symbols.ensures ∙ (ap (tuples_in S) c.deref.ensures.value ∙ sym c.new.ensures) in
+    subst (λ (rs : Rows). facts c.in_ok-instance.instance ≈ canonical 0 c.args.rules.now rs) same c.in_ok-instance.ensures.facts

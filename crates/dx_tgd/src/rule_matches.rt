@@ -1,0 +1,64 @@
+// The matches of rules, kept as rows of numbers.
+ghost use Rattle.std.specs.Prelude.{◌≡◌, ◌<◌, [], IfOk, length, slice_index_or};
+ghost use Rattle.dx_ports.specs.Members.{Each};
+ghost use Rattle.dx_joins.specs.Shown.{AreTexts};
+ghost use Rattle.dx_tgd.specs.Counting.{rows_in};
+ghost use Rattle.dx_tgd.specs.Texts.{tuples_in};
+
+use crate::texts::matches_of;
+use crate::tuple::Tuple;
+use dx_instance::{Rows, Symbols};
+use dx_model::Matches;
+use std::alloc::{AllocError, Global};
+use std::marker::Model;
+
+/// The exported tuples of each rule, kept as rows of numbers. A contract sees the list of the tuples of each rule. The place of a
+/// tuple is its number in the list of its rule.
+#[derive(Drop)]
+pub struct RuleMatches {
+    symbols: Symbols,
+    tables: Vec<Rows>,
+}
+
+impl Model for RuleMatches {
+    ghost use Rattle.dx_ports.specs.Members.{Each};
+    ghost use Rattle.dx_model.specs.Values.{Rows};
+    ghost use Rattle.dx_joins.specs.Shown.{AreTexts};
+    ghost use Rattle.dx_tgd.specs.Texts.{tuples_in};
+
+    ghost Value = { Rows };
+
+    ghost view = { λ m. tuples_in m.symbols m.tables.items };
+
+    ghost invariant = { λ m. Each m.tables.items (λ t. Each t.rows (AreTexts m.symbols)) };
+}
+
+impl RuleMatches {
+    /// The tuples for which the rows of each table stand.
+    pub(crate) fn new(symbols: Symbols, tables: Vec<Rows>) -> RuleMatches
+        requires { Each tables.items (λ t. Each t.rows (AreTexts symbols)) }
+        ensures { result ≡ tuples_in symbols tables.items }
+    {
+        RuleMatches { symbols, tables }
+    }
+
+    /// The tuple at a place of a rule, lent.
+    pub fn tuple(&self, rule: u32, place: u32) -> Tuple<'_>
+        requires rule { rule < length self.now }
+        requires place { place < length (slice_index_or self.now rule []) }
+        ensures { result ≡ slice_index_or (slice_index_or self.now rule []) place [] }
+    {
+        Tuple::new(&self.symbols, self.tables[rule as usize].row(place))
+    }
+
+    /// The same tuples as texts.
+    ///
+    /// # Errors
+    ///
+    /// `AllocError` if there is no memory.
+    pub fn texts(&self, alloc: Global) -> Result<Matches, AllocError>
+        ensures { IfOk result (λ m. rows_in m ≡ self.now) }
+    {
+        matches_of(alloc, &self.tables, &self.symbols)
+    }
+}
