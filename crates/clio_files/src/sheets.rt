@@ -88,9 +88,12 @@ fn all_exported(alloc: Global, rules: &[Rule]) -> Result<Items<Items<u32>>, Allo
 fn usual_bytes(lists: &[Items<u32>], nulls: &[NullId]) -> usize {
     let mut widest = 0usize;
     for variables in lists {
-        widest = widest.max(variables.len());
+        widest = widest.max(variables.items().len());
     }
-    nulls.len().saturating_mul(widest).saturating_mul(USUAL_BYTES)
+    nulls
+        .len()
+        .saturating_mul(widest)
+        .saturating_mul(USUAL_BYTES)
 }
 
 // The header of what nulls stand for.

@@ -1,5 +1,5 @@
-use Rattle.std.proofs.Common.{◌++◌, ap, sym, subst, map, take}
-use Rattle.std.proofs.lemmas.List.{append-nil}
+use Rattle.std.proofs.Common.{◌++◌, List, ℕ, sym, subst, map, take}
+use Rattle.std.proofs.lemmas.List.{append-nil, take_all}
 use Rattle.clio_files.specs.Printing.{AreRecords}
 use Rattle.clio_files.specs.Sheets.{term_records, variable_text}
 use Rattle.clio_files.proofs.SheetLists.{terms_more}
@@ -17,7 +17,11 @@ loop-column-preserved c = λ rs h.
     (terms_more n c.args.variables.now c.args.tuple.now rs c.loop-column.column 0 c.loop-column-test.true c.requires.wide) pushed
 
 pub returns : goal.returns
-returns c = c.loop-column.invariant
+returns c = λ rs h.
+    let n = c.args.null.now in
+    let all = take_all c.loop-column.column c.args.variables.now c.loop-column-test.false in
+    subst (λ (xs : List ℕ). AreRecords c.loop-column.records (rs ++ term_records n (map variable_text xs) c.args.tuple.now)) all
+    (c.loop-column.invariant rs h)
 
 pub push_term-requires : goal.push_term-requires
 push_term-requires c = rw c.requires.shown c.requires.plain
