@@ -20,6 +20,7 @@ use Rattle.dx_model.specs.Values.{Text, Rows}
 use Rattle.dx_instance.specs.Stored.{TableRows, rows_of}
 use Rattle.dx_schema.specs.Tables.{TableOf}
 use Rattle.dx_tgd.specs.Placed.{FitTuples, HasPlace}
+use Rattle.dx_tgd.proofs.Lending.{get_map}
 use Rattle.clio_files.specs.declared.printed.Printed.{Printed}
 use Rattle.clio_files.specs.Files.{AreTableFiles, IsTableFile, files_of, line_of, seen, summary_of}
 use Rattle.clio_files.specs.Sheets.{Sheet, Told, exported_names, file_of, fold_sheet, nulls_sheet, rule_of, term_records, texts_of, variable_text}
@@ -95,12 +96,6 @@ sheet_is s records name bytes count n h b c =
 -- the header of a sheet, and its records
 abbrev pub lines_of : Sheet → List (List Text)
 lines_of s = s.header ∷ s.records
-
--- an element of a mapped list
-get_map : {X Y : Type 0} (f : X → Y) (xs : List X) (i : ℕ) (d : Y) (e : X) → i < length xs → get_or (map f xs) i d ≡ f (get_or xs i e)
-get_map f [] i d e h = absurd (omega arith)
-get_map f (x ∷ xs) zero d e h = refl
-get_map f (x ∷ xs) (suc i) d e h = get_map f xs i d e (omega arith)
 
 -- the exported variables of the rule of a null
 pub variables_at : (R : List Rule) (n : NullId) (lists : List (List ℕ)) (xs : List ℕ) → lists ≡ map exported R → n.rule < length R

@@ -163,7 +163,9 @@ fn second_or_zero(seconds: &[u64], number: u32) -> u64
     }
 }
 
-// How the values under two numbers compare, by their second keys first.
+// How the values under two numbers compare, by their second keys first. Few keys tie, so it stands apart: what is left of a
+// comparison is small, and the sort takes it in without a call.
+#[inline(never)]
 fn compare_ties(symbols: &Symbols, seconds: &[u64], blank: &Value, a: u32, b: u32) -> Ordering
     ensures { result ≡ tie_cmp symbols.now seconds.now blank.now a b }
 {

@@ -38,8 +38,20 @@ impl Model for Symbols {
         × (length (s.ordered ++ s.greater.items ++ s.later.keys) < 2 ^ 32) };
 }
 
-// The number of a value among values in order. While a source is read there are none.
-#[inline]
+// The number of a value among values in order, by binary search.
+#[inline(never)]
+fn searched(ordered: &[Value], value: &Value) -> Option<usize>
+    requires { ValuesAscend ordered.now }
+    ensures { IsNumberOf ordered.now value.now result }
+{
+    match ordered.binary_search(value) {
+        Ok(number) => Some(number),
+        Err(_) => None,
+    }
+}
+
+// The number of a value among values in order. While a source is read there are none, and this is seen without a call.
+#[inline(always)]
 fn number_in(ordered: &[Value], value: &Value) -> Option<usize>
     requires { ValuesAscend ordered.now }
     ensures { IsNumberOf ordered.now value.now result }
@@ -47,13 +59,11 @@ fn number_in(ordered: &[Value], value: &Value) -> Option<usize>
     if ordered.is_empty() {
         return None;
     }
-    match ordered.binary_search(value) {
-        Ok(number) => Some(number),
-        Err(_) => None,
-    }
+    searched(ordered, value)
 }
 
 // The number of a value among values in order, which lie in two parts.
+#[inline(always)]
 fn number_among(first: &[Value], second: &[Value], value: &Value) -> Option<usize>
     requires ascend { ValuesAscend (first.now ++ second.now) }
     requires few { length (first.now ++ second.now) < 2 ^ 32 }

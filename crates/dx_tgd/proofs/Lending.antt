@@ -14,7 +14,7 @@ use Rattle.dx_joins.specs.Shown.{AreTexts, is_text, text_in, texts_of}
 use Rattle.dx_tgd.specs.Texts.{tuples_in}
 
 -- an element of a mapped list
-get_map : {X Y : Type 0} (f : X → Y) (xs : List X) (i : ℕ) (d : Y) (e : X) → i < length xs → get_or (map f xs) i d ≡ f (get_or xs i e)
+pub get_map : {X Y : Type 0} (f : X → Y) (xs : List X) (i : ℕ) (d : Y) (e : X) → i < length xs → get_or (map f xs) i d ≡ f (get_or xs i e)
 get_map f [] i d e h = absurd (omega (arith, h))
 get_map f (x ∷ xs) zero d e h = refl
 get_map f (x ∷ xs) (suc i) d e h = get_map f xs i d e (omega (arith, h))
