@@ -13,7 +13,7 @@ ghost use Rattle.clio_source.specs.Fitting.{AddsEmpty, AddsFacts, AddsRoot, CanT
 
 use crate::fault::{RowsFault, SourceRefusal};
 use crate::reading::{Reading, too_many_cells};
-use dx_instance::{Fact, Row, Rows, Symbols, copy_value};
+use dx_instance::{Fact, Gathered, Row, Rows, copy_value};
 use dx_json::{Facts, JsonFault, shred};
 use dx_ports::Text;
 use dx_schema::Schema;
@@ -87,14 +87,14 @@ fn push_tables(
     Ok(())
 }
 
-// The numbers of a row's values, in place of what `numbers` has.
-fn intern_row(row: &Row, symbols: &mut Symbols, numbers: &mut Vec<u32>) -> Result<(), AllocError>
+// Numbers of a row's values, in place of what `numbers` has.
+fn intern_row(row: &Row, symbols: &mut Gathered, numbers: &mut Vec<u32>) -> Result<(), AllocError>
     ensures shows { OnOk result (Shows symbols.new numbers.new.items row.now) }
     ensures grows { Extends symbols.old symbols.new }
 {
     numbers.clear();
     for value in row.items() {
-        let number = symbols.intern(copy_value(value)?)?;
+        let number = symbols.put(copy_value(value)?)?;
         numbers.push(number as u32)?;
     }
     Ok(())
@@ -103,7 +103,7 @@ fn intern_row(row: &Row, symbols: &mut Symbols, numbers: &mut Vec<u32>) -> Resul
 // Puts the numbers of a fact's row, in place of what `numbers` has, into its table.
 fn push_fact(
     fact: &Fact,
-    symbols: &mut Symbols,
+    symbols: &mut Gathered,
     numbers: &mut Vec<u32>,
     tables: &mut Vec<Rows>,
 ) -> Result<(), AllocError>
@@ -125,7 +125,7 @@ fn push_facts(
     alloc: Global,
     root: u32,
     facts: &Facts,
-    symbols: &mut Symbols,
+    symbols: &mut Gathered,
     tables: &mut Vec<Rows>,
 ) -> Result<(), AllocError>
     requires fit { CanTake tables.old.items root facts.now }
@@ -147,7 +147,7 @@ fn add_root(
     schema: &Schema,
     root: u32,
     facts: &Facts,
-    symbols: &mut Symbols,
+    symbols: &mut Gathered,
     tables: &mut Vec<Rows>,
 ) -> Result<(), AllocError>
     requires root { root < length (tables_of schema.now) }

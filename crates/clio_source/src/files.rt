@@ -114,5 +114,5 @@ pub fn read_source<I: Inputs>(
     ensures blank { IfOk result (λ J. AreBlank used.now schema.now (facts J)) }
 {
     let reading = read_files(alloc, inputs, schema, used)?;
-    Ok(Instance::from_rows(alloc, reading.symbols, reading.tables)?)
+    Ok(Instance::from_gathered(alloc, reading.symbols, reading.tables)?)
 }

@@ -6,7 +6,7 @@ ghost use Rattle.clio_source.specs.Fitting.{Holds, IsBlank, ReadFits};
 ghost use Rattle.dx_used.specs.Used.{Marks};
 
 use crate::fault::SourceRefusal;
-use dx_instance::{Rows, Symbols};
+use dx_instance::{Gathered, Rows};
 use dx_ports::limits::{DATA_BYTES, SOURCE_CELLS};
 use dx_ports::{Count, Limit};
 use dx_stages::Stop;
@@ -15,7 +15,7 @@ use std::alloc::Global;
 /// The rows of the tables that were come to, as numbers of symbols, and how many bytes and cells may still come.
 #[derive(Drop)]
 pub(crate) struct Reading {
-    pub symbols: Symbols,
+    pub symbols: Gathered,
     pub tables: Vec<Rows>,
     pub bytes_left: u64,
     pub cells_left: u64,
@@ -28,7 +28,7 @@ pub(crate) fn at_start(alloc: Global) -> Reading
     ensures blank { (used : Marks) (f : Forest) → IsBlank used f result }
 {
     Reading {
-        symbols: Symbols::new(alloc),
+        symbols: Gathered::new(alloc),
         tables: Vec::new(alloc),
         bytes_left: DATA_BYTES,
         cells_left: SOURCE_CELLS,

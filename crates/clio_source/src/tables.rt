@@ -13,7 +13,7 @@ ghost use Rattle.clio_source.specs.Fitting.{GivesTo, Holds, IsBlank, NotRead, Re
 use crate::fault::{RowsFault, SourceRefusal};
 use crate::reading::{Reading, too_many_cells};
 use dx_csv::{RowFault, load_into};
-use dx_instance::{Rows, Symbols};
+use dx_instance::{Gathered, Rows};
 use dx_ports::{Items, Text};
 use dx_schema::Schema;
 use dx_stages::Stop;
@@ -37,7 +37,7 @@ fn rows_of_bytes(
     root: u32,
     used: &[bool],
     file: Text,
-    symbols: &mut Symbols,
+    symbols: &mut Gathered,
 ) -> Result<Rows, Stop<SourceRefusal>>
     requires { root < length (tables_of schema.now) }
     ensures rows { IfOk result (λ rows. IsTableUsed used.now (table_records bytes.now) (table_at schema.now root).columns

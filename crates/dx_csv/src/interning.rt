@@ -1,7 +1,8 @@
 // The fields of a table as rows of numbers.
 ghost use Rattle.std.specs.Prelude.{◌≡◌, ◌*◌, ◌+◌, ◌<◌, ◌^◌, ◌-◌, IfOk, IfErr, OnOk, length, map};
 ghost use Rattle.dx_ports.specs.Members.{Each};
-ghost use Rattle.dx_instance.specs.Numbers.{Extends};
+ghost use Rattle.dx_instance.specs.Numbers.{Extends, value_of};
+ghost use Rattle.dx_model.specs.declared.values.Value.TheVariants.{Const};
 ghost use Rattle.dx_instance.specs.Shown.{AreBelow, shown_row};
 ghost use Rattle.dx_csv.specs.Blanks.{AreNumbered, AreSettled, HasBlank, IsTableUsed, OthersStay, constants_used, is_used};
 ghost use Rattle.dx_csv.specs.Fields.{records_in};
@@ -10,13 +11,11 @@ ghost use Rattle.dx_csv.specs.Table.{HasFault, table_records};
 use crate::fault::RowFault;
 use crate::fields::Texts;
 use crate::load::read_fields;
-use dx_instance::{Rows, Symbols};
+use crate::repeats::Repeats;
+use dx_instance::{Gathered, Rows};
 use dx_model::Value;
 use dx_ports::Text;
 use std::alloc::{AllocError, Global};
-
-// After so many rows it is seen whether each row of a column brings a new value.
-const SAMPLE: usize = 4096;
 
 // Whether a column is used.
 fn is_used(used: &[bool], column: u32) -> bool
@@ -29,33 +28,37 @@ fn is_used(used: &[bool], column: u32) -> bool
 }
 
 // The number of the empty constant, if some column is not used.
-fn intern_blank(alloc: Global, used: &[bool], symbols: &mut Symbols) -> Result<u32, AllocError>
+fn intern_blank(alloc: Global, used: &[bool], symbols: &mut Gathered) -> Result<u32, AllocError>
     ensures blank { IfOk result (HasBlank used.now symbols.new) }
     ensures grows { Extends symbols.old symbols.new }
 {
     if used.contains(&false) {
-        let number = symbols.intern(Value::Const(Text::from_str(alloc, "")?))?;
+        let number = symbols.put(Value::Const(Text::from_str(alloc, "")?))?;
         return Ok(number as u32);
     }
     Ok(0)
 }
 
-// After the first rows of a column: if each of them brought a new value, makes room for as many as there are rows to come.
-fn make_room(row: usize, count: usize, before: u64, symbols: &mut Symbols)
-    ensures { symbols.new ≡ symbols.old }
+// A number for the constant of a text: one that it has, if it is looked for and remembered, and else a new one.
+fn number_for(text: Text, looks: bool, symbols: &mut Gathered) -> Result<u32, AllocError>
+    ensures within { IfOk result (λ n. n < length symbols.new) }
+    ensures number { IfOk result (λ n. value_of symbols.new n ≡ Const text) }
+    ensures grows { Extends symbols.old symbols.new }
 {
-    if row == SAMPLE && symbols.len().saturating_sub(before) == SAMPLE as u64 {
-        symbols.make_room(count.saturating_sub(row) as u64);
+    let value = Value::Const(text);
+    if looks {
+        return Ok(symbols.put(value)? as u32);
     }
+    Ok(symbols.push(value)? as u32)
 }
 
-// Puts the numbers of a column's texts into its cells.
+// Puts numbers of a column's texts into its cells. Texts that come often are looked for.
 fn intern_column(
     texts: &Texts,
     column: usize,
     width: usize,
     count: usize,
-    symbols: &mut Symbols,
+    symbols: &mut Gathered,
     cells: &mut Vec<u32>,
 ) -> Result<(), AllocError>
     requires column { column < width }
@@ -66,12 +69,15 @@ fn intern_column(
     ensures others { OnOk result (OthersStay width column cells.old.items cells.new.items) }
     ensures grows { Extends symbols.old symbols.new }
 {
-    let before = symbols.len();
+    let mut repeats = Repeats::new();
     for row in 0..count {
-        make_room(row, count, before, symbols);
         let place = row * width + column;
-        let number = symbols.intern(Value::Const(texts.at(place)?))?;
-        cells[place] = number as u32;
+        let before = symbols.len();
+        let text = texts.at(place)?;
+        let looks = repeats.are_likely(row, &text);
+        let number = number_for(text, looks, symbols)?;
+        repeats.note(u64::from(number) < before);
+        cells[place] = number;
     }
     Ok(())
 }
@@ -83,7 +89,7 @@ fn settle_column(
     width: u32,
     count: u32,
     used: &[bool],
-    symbols: &mut Symbols,
+    symbols: &mut Gathered,
     cells: &mut Vec<u32>,
 ) -> Result<(), AllocError>
     requires column { column < width }
@@ -108,14 +114,14 @@ fn settle_column(
 }
 
 // The rows of so many records, each of so many texts. Their numbers are found column by column, from the last one on: the
-// first columns are mostly those whose values are all different, and as long as there are few values they are found fast.
+// first columns are mostly those whose values are all different, and come when those of the others are remembered.
 fn intern_rows(
     alloc: Global,
     texts: &Texts,
     count: u32,
     width: u32,
     used: &[bool],
-    symbols: &mut Symbols,
+    symbols: &mut Gathered,
 ) -> Result<Rows, AllocError>
     requires { length texts.now ≡ count * width }
     ensures shown { IfOk result (λ rows. map (shown_row symbols.new) rows.rows ≡ map (constants_used used.now) (records_in count width texts.now)) }
@@ -132,7 +138,7 @@ fn intern_rows(
     Ok(Rows::of_cells(width, count, cells))
 }
 
-/// Reads the rows of a table as `load_table` does, with the same faults, and gives each constant its number: those that
+/// Reads the rows of a table as `load_table` does, with the same faults, and gives each constant a number: those that
 /// are new go last among the symbols, and all others keep their numbers. The constants of a table share one buffer.
 ///
 /// The marks say which columns are used; a column without a mark is. Of a constant in another column nothing is kept: it
@@ -147,7 +153,7 @@ pub fn load_into(
     bytes: &[u8],
     columns: &[Text],
     used: &[bool],
-    symbols: &mut Symbols,
+    symbols: &mut Gathered,
 ) -> Result<Rows, RowFault>
     requires { length columns.now < 2 ^ 32 - 1 }
     ensures rows { IfOk result (λ rows. IsTableUsed used.now (table_records bytes.now) columns.now (map (shown_row symbols.new) rows.rows)) }

@@ -19,6 +19,7 @@ mod load;
 mod plain;
 mod print;
 mod records;
+mod repeats;
 
 pub use fault::{RowFault, RowKind};
 pub use interning::load_into;

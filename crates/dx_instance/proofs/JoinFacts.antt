@@ -1,5 +1,5 @@
 -- The texts of values one after the other.
-use Rattle.std.proofs.Common.{◌≡◌, ◌∙◌, ◌+◌, ◌-◌, ◌<◌, ◌≤◌, ◌++◌, ◌∷◌, ℕ, List, [], refl, sym, ap, arith, length, get_or, take, drop, map, below_more}
+use Rattle.std.proofs.Common.{◌≡◌, ◌∙◌, ◌+◌, ◌-◌, ◌<◌, ◌++◌, ◌∷◌, ℕ, List, [], refl, sym, ap, arith, length, get_or, take, drop, map, below_more}
 use Rattle.std.specs.Prelude.{IsUtf8}
 use Rattle.std.proofs.lemmas.List.{append_assoc, append-nil, length-append, drop_more, get_or_append_left, get_or_push, length_push, map_more, map-append, length-map, take-append-drop}
 use Rattle.std.proofs.Math.Seq.{drop-append_seam, take-append_seam}

@@ -18,7 +18,8 @@ pub mod LawFacts
 pub mod AfterFacts
 pub mod IndexFacts
 pub mod PartFacts
-pub mod HalfFacts
+pub mod FirstFacts
+mod HalfFacts
 pub mod TieFacts
 pub mod NoTexts
 pub mod ShortFacts

@@ -1,7 +1,7 @@
 -- Values under numbers: the number of a value is its place in a list of distinct values.
-use Rattle.std.specs.Prelude.{◌≡◌, ℕ, ◌<◌, List, [], ◌++◌, length, slice_index, slice_index_or, Option, None, Some, MatchOption}
+use Rattle.std.specs.Prelude.{◌≡◌, ℕ, ◌<◌, ◌≤◌, List, [], ◌++◌, length, slice_index, slice_index_or, Option, None, Some, MatchOption}
 use Rattle.std.specs.List.{AllPairs}
-use Rattle.dx_ports.specs.Members.{◌∈◌}
+use Rattle.dx_ports.specs.Members.{◌∈◌, ◌⊆◌}
 use Rattle.std.specs.declared.cmp.Ordering.TheVariants.{Less}
 use Rattle.dx_model.specs.declared.values.Value.{Value}
 use Rattle.dx_model.specs.declared.values.Value.TheVariants.{Const}
@@ -29,12 +29,13 @@ pub record Extends (old new : List Value) : Type 0 where
   pub more : List Value
   pub is : new ≡ old ++ more
 
--- all old values in order, each old number n as ranks[n]
+-- the distinct old values in order, each old number n as ranks[n]
 pub record IsOrdering (old new : List Value) (ranks : List ℕ) : Type 0 where
   pub ascend : ValuesAscend new
-  pub many : length new ≡ length old
+  pub fewer : length new ≤ length old
+  pub only : new ⊆ old
   pub ranked : length ranks ≡ length old
-  pub within : (n : ℕ) → n < length old → slice_index ranks n < length old
+  pub within : (n : ℕ) → n < length old → slice_index ranks n < length new
   pub at : (n : ℕ) → n < length old → value_of new (slice_index ranks n) ≡ value_of old n
 
 -- the number of a value, if it has one

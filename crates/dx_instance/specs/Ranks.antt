@@ -2,22 +2,56 @@
 use Rattle.std.specs.Prelude.{◌≡◌, ℕ, ◌+◌, ◌-◌, ◌<◌, ◌≤◌, List, [], ◌∷◌, ◌++◌, IsUtf8, drop, length, map, slice_index, slice_index_or, take}
 use Rattle.dx_model.specs.declared.values.Value.{Value}
 use Rattle.dx_model.specs.declared.values.Value.TheVariants.{Const, Null}
-use Rattle.dx_instance.specs.Keys.{places_of}
-use Rattle.dx_instance.specs.Numbers.{value_of}
+use Rattle.dx_ports.specs.Members.{Each}
+use Rattle.dx_instance.specs.Keys.{AreSecondsOrNone, NumbersAreKeyed, places_of}
+use Rattle.dx_instance.specs.Numbers.{ValuesAscend, value_of}
 
--- each of the first i numbers is ranked by a place below i at which it stands
-abbrev pub AreRanked : List ℕ → List ℕ → ℕ → Type 0
-AreRanked numbers ranks i =
-    (k : ℕ) → k < i → (slice_index ranks (slice_index numbers k) < i) × (slice_index numbers (slice_index ranks (slice_index numbers k)) ≡ slice_index numbers k)
+-- a number is ranked by a place at which a key of its value stands
+pub record HasRank (symbols : List Value) (firsts : List (ℕ × ℕ)) (ranks : List ℕ) (n : ℕ) : Type 0 where
+  pub within : slice_index ranks n < length firsts
+  pub is : value_of symbols (slice_index (places_of firsts) (slice_index ranks n)) ≡ value_of symbols n
+
+-- keys of distinct values in order
+pub record AreAscending (symbols : List Value) (firsts : List (ℕ × ℕ)) : Type 0 where
+  pub ascend : ValuesAscend (map (value_of symbols) (places_of firsts))
+  pub below : Each (places_of firsts) (λ n. n < length symbols)
+  pub keyed : NumbersAreKeyed symbols firsts
+
+-- the first keys of each value among i numbers, and the ranks of these numbers: the last number has the last value
+pub record AreFirsts (symbols : List Value) (numbers : List ℕ) (firsts : List (ℕ × ℕ)) (ranks : List ℕ) (i : ℕ) : Type 0 where
+  pub fewer : length firsts ≤ i
+  pub many : length ranks ≡ length symbols
+  pub keys : AreAscending symbols firsts
+  pub last : 0 < i → (0 < length firsts) × (value_of symbols (slice_index (places_of firsts) (length firsts - 1)) ≡ value_of symbols (slice_index numbers (i - 1)))
+  pub ranked : (k : ℕ) → k < i → HasRank symbols firsts ranks (slice_index numbers k)
+
+-- the keys of the distinct values in order, and the rank of each number
+pub record AreDistinct (symbols : List Value) (firsts : List (ℕ × ℕ)) (ranks : List ℕ) : Type 0 where
+  pub fewer : length firsts ≤ length symbols
+  pub many : length ranks ≡ length symbols
+  pub keys : AreAscending symbols firsts
+  pub ranked : (n : ℕ) → n < length symbols → HasRank symbols firsts ranks n
 
 -- the text of a constant; a null has none
 abbrev pub text_of : Value → List ℕ
 text_of (Const t) = t
 text_of (Null n) = []
 
--- how many bytes the text of a value has, if the number is at most eight; the text is UTF-8
+-- the text of a constant has n bytes
+abbrev pub HasBytes : Value → ℕ → Type 0
+HasBytes (Const t) n = n ≡ length t
+HasBytes (Null m) n = ⊥
+
+-- a text has more than eight bytes, or there is none
+abbrev pub IsLong : Value → Type 0
+IsLong (Const t) = 8 < length t
+IsLong (Null m) = Unit {0}
+
+-- how many bytes the text of a value has, and 9 if it has more than eight or there is none; the text is UTF-8
 pub record IsShortLength (v : Value) (n : ℕ) : Type 0 where
-  pub many : n ≤ 8 → n ≡ length (text_of v)
+  pub most : n ≤ 9
+  pub short : n ≤ 8 → HasBytes v n
+  pub long : 8 < n → IsLong v
   pub utf8 : IsUtf8 (text_of v)
 
 -- the short lengths of the texts of the first n values
@@ -45,3 +79,8 @@ pub record LiesIn (buffer : List ℕ) (start end : ℕ) (text : List ℕ) : Type
   pub within : end ≤ length buffer
   pub is : take (end - start) (drop start buffer) ≡ text
   pub utf8 : IsUtf8 text
+
+-- the short lengths of the texts of values, and their second keys or none at all
+pub record AreTied (symbols : List Value) (lengths seconds : List ℕ) : Type 0 where
+  pub lengths_are : AreLengths symbols lengths (length symbols)
+  pub seconds_are : AreSecondsOrNone symbols seconds

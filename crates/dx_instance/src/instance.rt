@@ -1,5 +1,5 @@
 // Instances: for each table a width and distinct rows, whose values stand as numbers.
-ghost use Rattle.std.specs.Prelude.{◌≡◌, ◌↔◌, ◌<◌, ◌≤◌, ◌-◌, ◌^◌, ℕ, List, length, map, count_by, Some, slice_get, slice_index_or, IsTrue, IfOk, OnOk, OnErr, IfSome, IfNone, MatchBool, MatchOption};
+ghost use Rattle.std.specs.Prelude.{◌≡◌, ◌↔◌, ◌<◌, ◌≤◌, ◌-◌, ◌^◌, ℕ, List, length, map, count_by, Some, slice_get, slice_index, slice_index_or, IsTrue, IfOk, OnOk, OnErr, IfSome, IfNone, MatchBool, MatchOption};
 ghost use Rattle.std.specs.Bool.{OnTrue};
 ghost use Rattle.std.specs.List.{AllZip};
 ghost use Rattle.dx_ports.specs.Members.{Distinct, Each, ◌∈◌};
@@ -12,6 +12,7 @@ ghost use Rattle.dx_instance.specs.Shown.{AreBelow, NumbersFit, PartsFit, RowsFi
 ghost use Rattle.dx_instance.specs.Places.{HasValues, IsFirstWith, row_at, rows_with, value_at};
 
 use crate::cells::Rows;
+use crate::gathered::Gathered;
 use crate::null_map::NullMap;
 use crate::numbers::Numbers;
 use crate::ordering::Ordered;
@@ -135,6 +136,19 @@ fn all_renumbered(alloc: Global, tables: Vec<Rows>, ranks: &[u32]) -> Result<Vec
         all.push(rows.into_renumbered(ranks))?;
     }
     Ok(all)
+}
+
+// An instance of rows with ranks in place of their numbers.
+fn of_ranks(alloc: Global, ordered: Ordered, tables: Vec<Rows>) -> Result<Instance, AllocError>
+    requires ascend { ValuesAscend ordered.symbols }
+    requires within { (n : ℕ) → n < length ordered.ranks.items → slice_index ordered.ranks.items n < length ordered.symbols }
+    requires fit { Each tables.items (RowsFit (length ordered.ranks.items)) }
+    requires few { length tables.items < 2 ^ 32 - 1 }
+    ensures { IfOk result (IsSorting (shown_tables ordered.symbols (map (renumbered ordered.ranks.items) tables.items))) }
+{
+    let Ordered { symbols, ranks } = ordered;
+    let ranked = all_renumbered(alloc, tables, &ranks)?;
+    of_ordered(alloc, symbols, ranked)
 }
 
 // The rows of tables with other numbers.
@@ -407,9 +421,24 @@ impl Instance {
         if symbols.is_ordered() {
             return of_ordered(alloc, symbols, tables);
         }
-        let Ordered { symbols, ranks } = symbols.into_order(alloc)?;
-        let ranked = all_renumbered(alloc, tables, &ranks)?;
-        of_ordered(alloc, symbols, ranked)
+        of_ranks(alloc, symbols.into_order(alloc)?, tables)
+    }
+
+    /// The same of values as they were read.
+    ///
+    /// # Errors
+    ///
+    /// `AllocError` if there is no memory.
+    pub fn from_gathered(
+        alloc: Global,
+        values: Gathered,
+        tables: Vec<Rows>,
+    ) -> Result<Instance, AllocError>
+        requires fit { Each tables.items (RowsFit (length values)) }
+        requires few { length tables.items < 2 ^ 32 - 1 }
+        ensures { IfOk result (IsSorting (shown_tables values tables.items)) }
+    {
+        of_ranks(alloc, values.into_order(alloc)?, tables)
     }
 
     /// An instance with the same facts, the rows of each table ascending.

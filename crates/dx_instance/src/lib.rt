@@ -6,8 +6,9 @@
 //! symbols are in order numbers compare as their values. So rows are sorted, looked up and joined by numbers, which
 //! `Numbers` lends; no contract needs them.
 //!
-//! An instance grows row by row (`add`), or is made in bulk of `Rows` of numbers (`from_rows`); then the rows of each table
-//! ascend. `sorted` gives the same rows ascending, `map_by` the image under a null map (specs/Images), `with_columns` and
+//! An instance grows row by row (`add`), or is made in bulk of `Rows` of numbers: of those of symbols (`from_rows`), or of
+//! values as they are read, where one value may have several numbers (`Gathered`, `from_gathered`). Then the rows of each
+//! table ascend. `sorted` gives the same rows ascending, `map_by` the image under a null map (specs/Images), `with_columns` and
 //! `count_with` find rows by values (specs/Places). A `NullMap` is a finite map of nulls of which none is listed with itself
 //! (specs/NullMaps); a null that is not listed stays. `value_text` gives exactly the text of specs/ValueText, and
 //! `value_read` reads it back. specs/Laws has the laws: facts of sorted tables ascend and fit a schema with their widths, the
@@ -17,6 +18,7 @@
 mod cells;
 mod chains;
 mod column_index;
+mod gathered;
 mod hints;
 mod instance;
 mod laws;
@@ -27,10 +29,13 @@ mod ordering;
 mod packing;
 mod symbols;
 mod table;
+mod ties;
 mod value_texts;
+mod values;
 
 pub use cells::Rows;
 pub use dx_model::{Fact, NullId, NullPair, Row, Value, copy_value};
+pub use gathered::Gathered;
 pub use instance::Instance;
 pub use laws::{facts_fit, no_value_texts, pairs_give, sorted_facts_ascend, value_texts_differ};
 pub use null_map::NullMap;

@@ -1,22 +1,23 @@
 // Values put in order, their texts in one buffer.
-ghost use Rattle.std.specs.Prelude.{◌≡◌, ◌≤◌, ◌-◌, ◌<◌, ◌^◌, ℕ, IfOk, IfSome, IsUtf8, OnOk, length, map, slice_index, slice_index_or, string_bytes, take, drop, ◌++◌};
+ghost use Rattle.std.specs.Prelude.{◌≡◌, ◌≤◌, ◌-◌, ◌<◌, ◌^◌, ℕ, IfOk, IfSome, IsUtf8, OnOk, length, map, slice_index, string_bytes, take, drop, ◌++◌};
 ghost use Rattle.std.specs.Int.{to_be_bytes, w64};
 ghost use Rattle.dx_model.specs.declared.values.Value.TheVariants.{Const};
 ghost use Rattle.dx_ports.specs.Members.{Each};
-ghost use Rattle.dx_instance.specs.Keys.{AreSeconds, AreSecondsOrNone, AreSmall, AreSorted, IsSmallSecond, IsSmallValue, NumbersAreKeyed, ValuesAreKeyed, packed, places_of, second_key, tie_cmp, value_key};
-ghost use Rattle.dx_instance.specs.Numbers.{AreApart, IsOrdering, value_of};
-ghost use Rattle.dx_instance.specs.Ranks.{AreEnds, AreLengths, AreRanked, IsShortLength, LiesIn, joined_texts, text_of};
+ghost use Rattle.dx_instance.specs.Keys.{AreSmall, IsSmallSecond, IsSmallValue, NumbersAreKeyed, ValuesAreKeyed, packed, places_of, second_key, value_key};
+ghost use Rattle.dx_instance.specs.Numbers.{IsOrdering, value_of};
+ghost use Rattle.dx_instance.specs.Ranks.{AreDistinct, AreEnds, AreLengths, IsShortLength, LiesIn, joined_texts, text_of};
 
 use crate::hints::hints_of;
 use crate::layer::Layer;
 use crate::symbols::Symbols;
-use dx_model::{NullId, Value, copy_value};
+use crate::ties::Ties;
+use crate::values::Values;
+use dx_model::{Value, copy_value};
 use dx_ports::Text;
 use std::alloc::{AllocError, Global};
-use std::cmp::Ordering;
 use std::rc::Rc;
 
-/// Values in order, and the place of each number that they had before.
+/// Distinct values in order, and the place of each number that they had before.
 #[derive(Drop)]
 pub struct Ordered {
     pub symbols: Symbols,
@@ -66,7 +67,7 @@ fn second_bytes(text: &[u8]) -> u64
 }
 
 // A second number for the values of one key: it compares as the next eight bytes of their texts.
-fn second_key_of(value: &Value) -> u64
+pub(crate) fn second_key_of(value: &Value) -> u64
     ensures key { result ≡ second_key value.now }
     ensures small { IsSmallSecond value.now }
 {
@@ -76,39 +77,7 @@ fn second_key_of(value: &Value) -> u64
     }
 }
 
-// The second key of each number.
-fn second_keys(alloc: Global, symbols: &Symbols) -> Result<Vec<u64>, AllocError>
-    ensures { IfOk result (λ seconds. AreSeconds symbols.now seconds.items (length symbols.now)) }
-{
-    let count = symbols.len();
-    let mut seconds = Vec::with_capacity(alloc, count as usize)?;
-    for number in 0..count {
-        seconds.push(second_key_of(symbols.value(number)))?;
-    }
-    Ok(seconds)
-}
-
-// Whether some text has bytes after the eighth.
-fn any_long(lengths: &[u8]) -> bool {
-    for length in lengths {
-        if *length > 8 {
-            return true;
-        }
-    }
-    false
-}
-
-// The second key of each number, or none at all if no text has a second one: then values are compared at once.
-fn seconds_if_long(alloc: Global, symbols: &Symbols, lengths: &[u8]) -> Result<Vec<u64>, AllocError>
-    ensures { IfOk result (λ seconds. AreSecondsOrNone symbols.now seconds.items) }
-{
-    if !any_long(lengths) {
-        return Ok(Vec::new(alloc));
-    }
-    second_keys(alloc, symbols)
-}
-
-// How many bytes the text of a value has, and 9 if it has more than eight. A null has none.
+// How many bytes the text of a value has, and 9 if it has more than eight or there is none.
 fn short_length(value: &Value) -> u8
     ensures { IsShortLength value.now result }
 {
@@ -117,16 +86,15 @@ fn short_length(value: &Value) -> u8
             let length = text.bytes().len();
             if length <= 8 { length as u8 } else { 9 }
         }
-        Value::Null(_) => 0,
+        Value::Null(_) => 9,
     }
 }
 
 // Each number, with a key that compares as the first bytes of its value, and the lengths of all texts, as far as they are
 // short. Both are read in one walk, since the texts may lie far apart.
-fn keyed_numbers(alloc: Global, symbols: &Symbols) -> Result<(Vec<(u64, u32)>, Vec<u8>), AllocError>
+fn keyed_numbers(alloc: Global, symbols: &Values) -> Result<(Vec<(u64, u32)>, Vec<u8>), AllocError>
     ensures keyed { IfOk result (λ r. ValuesAreKeyed symbols.now r.0.items (length symbols.now)) }
     ensures lengths { IfOk result (λ r. AreLengths symbols.now r.1.items (length symbols.now)) }
-    ensures apart { AreApart symbols.now }
     ensures few { length symbols.now < 2 ^ 32 }
 {
     let count = symbols.len();
@@ -140,79 +108,21 @@ fn keyed_numbers(alloc: Global, symbols: &Symbols) -> Result<(Vec<(u64, u32)>, V
     Ok((keys, lengths))
 }
 
-// The value under a number, and `blank` if there is none.
-fn value_or<'a>(symbols: &'a Symbols, number: u32, blank: &'a Value) -> &'a Value
-    ensures { result.now ≡ slice_index_or symbols.now number blank.now }
-{
-    if (number as u64) < symbols.len() {
-        symbols.value(number as u64)
-    } else {
-        blank
-    }
-}
-
-// The second key of a number, and 0 if there is none.
-fn second_or_zero(seconds: &[u64], number: u32) -> u64
-    ensures { result ≡ slice_index seconds.now number }
-{
-    let place = number as usize;
-    if place < seconds.len() {
-        seconds[place]
-    } else {
-        0
-    }
-}
-
-// How the values under two numbers compare, by their second keys first. Few keys tie, so it stands apart: what is left of a
-// comparison is small, and the sort takes it in without a call.
-#[inline(never)]
-fn compare_ties(symbols: &Symbols, seconds: &[u64], blank: &Value, a: u32, b: u32) -> Ordering
-    ensures { result ≡ tie_cmp symbols.now seconds.now blank.now a b }
-{
-    match second_or_zero(seconds, a).cmp(&second_or_zero(seconds, b)) {
-        Ordering::Equal => value_or(symbols, a, blank).order(value_or(symbols, b, blank)),
-        other => other,
-    }
-}
-
-// The numbers in the order of their values, with their keys.
-fn numbers_in_order(
+// The keys of the distinct values in order, and the place of each number's value among them.
+fn distinct_in_order(
     alloc: Global,
-    symbols: &Symbols,
-    keys: Vec<(u64, u32)>,
+    symbols: &Values,
     lengths: &[u8],
-) -> Result<Vec<(u64, u32)>, AllocError>
+    keys: Vec<(u64, u32)>,
+) -> Result<(Vec<(u64, u32)>, Vec<u32>), AllocError>
+    requires few { length symbols.now < 2 ^ 32 }
     requires keyed { ValuesAreKeyed symbols.now keys.items (length symbols.now) }
-    requires apart { AreApart symbols.now }
-    ensures sorted { IfOk result (λ keys. AreSorted symbols.now (places_of keys.items)) }
-    ensures keyed { IfOk result (λ keys. NumbersAreKeyed symbols.now keys.items) }
+    requires lengths { AreLengths symbols.now lengths.now (length symbols.now) }
+    ensures { IfOk result (λ r. AreDistinct symbols.now r.0.items r.1.items) }
 {
-    let blank = Value::Null(NullId {
-        rule: 0,
-        var: 0,
-        row: 0,
-    });
-    let mut keys = keys;
-    let seconds = seconds_if_long(alloc, symbols, lengths)?;
-    keys.sort_unstable_by(|a, b| match a.0.cmp(&b.0) {
-        Ordering::Equal => compare_ties(symbols, &seconds, &blank, a.1, b.1),
-        other => other,
-    });
-    Ok(keys)
-}
-
-// The place of each number.
-fn ranks_of(alloc: Global, keys: &[(u64, u32)]) -> Result<Vec<u32>, AllocError>
-    requires few { length keys.now < 2 ^ 32 }
-    requires within { (k : ℕ) → k < length keys.now → slice_index (places_of keys.now) k < length keys.now }
-    ensures many { IfOk result (λ ranks. length ranks.items ≡ length keys.now) }
-    ensures ranked { IfOk result (λ ranks. AreRanked (places_of keys.now) ranks.items (length keys.now)) }
-{
-    let mut ranks = vec![in alloc; 0u32; keys.len()]?;
-    for i in 0..keys.len() {
-        ranks[keys[i].1 as usize] = i as u32;
-    }
-    Ok(ranks)
+    let ties = Ties::new(alloc, symbols, lengths)?;
+    let keys = ties.in_order(keys);
+    ties.firsts_of(alloc, &keys)
 }
 
 // Puts the first bytes of a key at the end of a buffer, as many as the length says.
@@ -228,7 +138,7 @@ fn push_short(buffer: &mut Vec<u8>, key: u64, length: usize) -> Result<(), Alloc
 // looked at: where values lie in another order, to come to them takes most of the time.
 fn push_text(
     buffer: &mut Vec<u8>,
-    symbols: &Symbols,
+    symbols: &Values,
     number: u32,
     key: u64,
     size: u8,
@@ -261,7 +171,7 @@ fn room_for(lengths: &[u8]) -> usize {
 // bytes or more.
 fn texts_in_order(
     alloc: Global,
-    symbols: &Symbols,
+    symbols: &Values,
     keys: &[(u64, u32)],
     lengths: &[u8],
 ) -> Result<Option<(Vec<u8>, Vec<u32>)>, AllocError>
@@ -297,7 +207,7 @@ fn constant_in(buffer: &Rc<String>, start: u32, end: u32) -> Result<Value, Alloc
 
 // The value under a number, its text in the buffer. The old value is looked at only if it has no bytes: it may be a null.
 fn value_in(
-    symbols: &Symbols,
+    symbols: &Values,
     number: u32,
     buffer: &Rc<String>,
     start: u32,
@@ -319,7 +229,7 @@ fn value_in(
 // The values under these numbers, their texts in this buffer, where they end at these places.
 fn values_in(
     alloc: Global,
-    symbols: &Symbols,
+    symbols: &Values,
     keys: &[(u64, u32)],
     buffer: &Rc<String>,
     ends: &[u32],
@@ -342,7 +252,7 @@ fn values_in(
 // Copies of the values under these numbers.
 fn copies_in_order(
     alloc: Global,
-    symbols: &Symbols,
+    symbols: &Values,
     keys: &[(u64, u32)],
 ) -> Result<Vec<Value>, AllocError>
     requires { Each (places_of keys.now) (λ n. n < length symbols.now) }
@@ -373,7 +283,7 @@ fn shared(alloc: Global, bytes: Vec<u8>) -> Result<Rc<String>, AllocError>
 // together.
 fn values_in_order(
     alloc: Global,
-    symbols: &Symbols,
+    symbols: &Values,
     keys: &[(u64, u32)],
     lengths: &[u8],
 ) -> Result<Vec<Value>, AllocError>
@@ -389,17 +299,16 @@ fn values_in_order(
     values_in(alloc, symbols, keys, &buffer, &ends)
 }
 
-/// All values in order, and the place of each number there.
+/// The distinct values in order, and the place of each number there.
 ///
 /// # Errors
 ///
 /// `AllocError` if there is no memory.
-pub(crate) fn in_order(alloc: Global, symbols: &Symbols) -> Result<Ordered, AllocError>
+pub(crate) fn in_order(alloc: Global, symbols: &Values) -> Result<Ordered, AllocError>
     ensures { IfOk result (λ o. IsOrdering symbols.now o.symbols o.ranks.items) }
 {
     let (unsorted, lengths) = keyed_numbers(alloc, symbols)?;
-    let keys = numbers_in_order(alloc, symbols, unsorted, &lengths)?;
-    let ranks = ranks_of(alloc, &keys)?;
+    let (keys, ranks) = distinct_in_order(alloc, symbols, &lengths, unsorted)?;
     let values = values_in_order(alloc, symbols, &keys, &lengths)?;
     let hints = hints_of(alloc, &keys, &values)?;
     let ordered = Layer::new(alloc, values, hints)?;

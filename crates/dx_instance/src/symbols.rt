@@ -9,6 +9,7 @@ ghost use Rattle.dx_instance.specs.Numbers.{AreApart, Extends, IsNumberOf, IsOrd
 use crate::hints::hint_of;
 use crate::layer::Layer;
 use crate::ordering::{Ordered, in_order, key_of};
+use crate::values::Values;
 use dx_model::{Value, copy_value};
 use indexmap::IndexSet;
 use std::alloc::{AllocError, Global};
@@ -114,6 +115,18 @@ impl Symbols {
         (self.ordered.values().len() + self.greater.len() + self.later.len()) as u64
     }
 
+    // The values, lent.
+    #[inline(always)]
+    fn lent(&self) -> Values<'_>
+        ensures { result ≡ self.now }
+    {
+        Values {
+            first: self.ordered.values(),
+            second: &self.greater,
+            third: self.later.as_slice(),
+        }
+    }
+
     /// Whether all values are known to be in order.
     pub fn is_ordered(&self) -> bool
         ensures { OnTrue result (ValuesAscend self.now) }
@@ -126,17 +139,7 @@ impl Symbols {
         requires { symbol < length self.now }
         ensures { result.now ≡ value_of self.now symbol }
     {
-        let number = symbol as usize;
-        let ordered = self.ordered.values();
-        if number < ordered.len() {
-            return &ordered[number];
-        }
-        let rest = number - ordered.len();
-        if rest < self.greater.len() {
-            &self.greater[rest]
-        } else {
-            &self.later.as_slice()[rest - self.greater.len()]
-        }
+        self.lent().value(symbol)
     }
 
     // The number of the value, if the hints tell it at once.
@@ -249,7 +252,7 @@ impl Symbols {
     pub fn into_order(self, alloc: Global) -> Result<Ordered, AllocError>
         ensures { IfOk result (λ o. IsOrdering self o.symbols o.ranks.items) }
     {
-        in_order(alloc, &self)
+        in_order(alloc, &self.lent())
     }
 
     /// A copy: the same values under the same numbers. What was put in order is shared and not copied.

@@ -26,7 +26,8 @@ use Rattle.dx_keys.specs.Numbers.{AreValues}
 pub same_order : (S T : List Value) (ranks : List ℕ) (n : ℕ) → ValuesAscend S → T ≡ S → n ≡ length S → ranks ≡ range_with_len 0 n → IsOrdering S T ranks
 same_order S T ranks n up e m r = rw (e, r, m) (record {
   ascend = up;
-  many = refl;
+  fewer = omega arith;
+  only = λ v m. m;
   ranked = length-range_with_len 0 (length S);
   within = λ n h. rw (at_first (length S) n h) h;
   at = λ n h. ap (value_of S) (at_first (length S) n h);
@@ -118,9 +119,9 @@ pub ranked_parts : (I : List TableRows) (S T : List Value) (ranks : List ℕ) (t
     → Each I (λ (t : TableRows). Each t.rows (λ (r : List Value). length r ≡ t.width)) → Each I (λ (t : TableRows). Distinct t.rows) → Each I (λ (t : TableRows). length t.rows < 2 ^ 32)
     → (shown_tables T us ≡ I) × PartsFit T us
 ranked_parts I S T ranks ts us o P e s w d l =
-    let below : (x : ℕ) → x < length S → at ranks x < length T = λ x h. let k = o.within x h in let m = o.many in omega arith in
+    let below : (x : ℕ) → x < length S → at ranks x < length T = λ x h. let k = o.within x h in omega (arith, k) in
     let fit = images_fit (length T) (length S) ranks ts below (parts_rows S ts P) in
     let is = ranks_show S T ranks ts o (parts_rows S ts P) ∙ s in
     let few : length (map (renumbered ranks) ts) < 2 ^ 32 - 1 = (let m = length-map ts (renumbered ranks) in let f = P.few in omega arith) in
-    let small : length T < 2 ^ 32 = (let m = o.many in let f = P.small in omega arith) in
+    let small : length T < 2 ^ 32 = (let m = o.fewer in let f = P.small in omega (arith, m, f)) in
     rw e (is, parts_of T (map (renumbered ranks) ts) I o.ascend small fit is few w d l)

@@ -90,7 +90,7 @@ ranked_row S T ranks (n ∷ row) o h =
     (texts k same rest.0, cc (first, tail))
   where
     texts : (n < length S) × (is_text (value_of S n) ≡ true) → value_of T (slice_index ranks n) ≡ value_of S n → AreTexts T (map (slice_index ranks) row) → AreTexts T (slice_index ranks n ∷ map (slice_index ranks) row)
-    texts k same rest m (here e) = rw (← e) (omega (arith, o.within n k.0, o.many), ap is_text same ∙ k.1)
+    texts k same rest m (here e) = rw (← e) (o.within n k.0, ap is_text same ∙ k.1)
     texts k same rest m (there q) = rest m q
 
 ranked_rows : (S T : List Value) (ranks : List ℕ) (rows : List (List ℕ)) → IsOrdering S T ranks → Each rows (AreTexts S)

@@ -25,6 +25,7 @@ fn words(alloc: Global, text: &str) -> Result<Vec<Text>, AllocError> {
 enum Kind {
     Closes,
     Document,
+    Gathered,
     Nested,
     Printed,
     Scan,
@@ -40,6 +41,7 @@ fn answer(alloc: Global, kind: Kind, text: &str) -> Result<String, AllocError> {
     match kind {
         Kind::Closes => sets::closes(alloc, text),
         Kind::Document => documents::said(alloc, text),
+        Kind::Gathered => values::ranked(alloc, text),
         Kind::Nested => documents::nested(alloc, text),
         Kind::Printed => mapping_texts::printed(alloc, text),
         Kind::Scan => mapping_texts::scanned(alloc, text),
@@ -114,6 +116,12 @@ fn scripts_are_read_and_printed(rt: HostRuntime) -> Result<(), Fail> {
 #[test]
 fn values_and_their_texts(rt: HostRuntime) -> Result<(), Fail> {
     assert_eq!(rt; passing(rt.alloc(), Kind::Value, values::VALUES)?, 9);
+    Ok(())
+}
+
+#[test]
+fn equal_values_get_one_rank(rt: HostRuntime) -> Result<(), Fail> {
+    assert_eq!(rt; passing(rt.alloc(), Kind::Gathered, values::GATHERED)?, 5);
     Ok(())
 }
 

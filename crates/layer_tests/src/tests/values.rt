@@ -3,7 +3,9 @@ ghost use Rattle.std.specs.Prelude.{◌≡◌, IfOk};
 ghost use Rattle.dx_instance.specs.Stored.{widths};
 ghost use Rattle.dx_schema.specs.Tables.{schema_widths};
 
-use dx_instance::{Instance, Row, Value, copy_value, value_read, value_text};
+use dx_instance::{
+    Gathered, Instance, Ordered, Row, Symbols, Value, copy_value, value_read, value_text,
+};
 use dx_ports::Text;
 use dx_schema::Schema;
 use std::alloc::{AllocError, Global};
@@ -35,6 +37,63 @@ a?
 
 ?0.0.4294967296
 => none";
+
+/// Values as they are read, with `|` between them; then the rank of each, and the distinct values in order.
+pub const GATHERED: &str = "b|a|b|?0.0.0|a|aa|longer than eight|longer than eight|b
+=> 2 0 2 4 0 1 3 3 2 = a|aa|b|longer than eight|?0.0.0|
+
+a\0|a|a\0\0|a\0
+=> 1 0 2 1 = a|a\0|a\0\0|
+
+12345678|123456789|12345678|1234567|12345678\0|123456789
+=> 1 3 1 0 2 3 = 1234567|12345678|12345678\0|123456789|
+
+one text of many|one text of more|one text of many|one text of man
+=> 1 2 1 0 = one text of man|one text of many|one text of more|
+
+?0.0.1|?0.0.0|?0.0.1
+=> 1 0 1 = ?0.0.0|?0.0.1|";
+
+/// The values of texts with `|` between them, each second one taken as new, and the number of each.
+fn gathered(alloc: Global, cells: &str) -> Result<(Gathered, Vec<u64>), AllocError> {
+    let mut values = Gathered::new(alloc);
+    let mut numbers = Vec::new(alloc);
+    for (place, cell) in cells.split('|').enumerate() {
+        if let Some(value) = value_read(alloc, &Text::from_str(alloc, cell)?)? {
+            if place % 2 == 0 {
+                numbers.push(values.put(value)?)?;
+            } else {
+                numbers.push(values.push(value)?)?;
+            }
+        }
+    }
+    Ok((values, numbers))
+}
+
+/// The texts of symbols, each with `|` after it.
+fn texts(alloc: Global, symbols: &Symbols) -> Result<String, AllocError> {
+    let mut told = String::new(alloc);
+    for number in 0..symbols.len() {
+        told.push_str(value_text(alloc, symbols.value(number))?.as_str())?;
+        told.push_str("|")?;
+    }
+    Ok(told)
+}
+
+/// The ranks of values that are put in order, and the values.
+pub fn ranked(alloc: Global, cells: &str) -> Result<String, AllocError> {
+    let (values, numbers) = gathered(alloc, cells)?;
+    let Ordered { symbols, ranks } = values.into_order(alloc)?;
+    let mut told = String::new(alloc);
+    for number in &numbers {
+        if let Some(rank) = ranks.get(*number as usize) {
+            told.push_str(format!(in alloc; "{rank} ")?.as_str())?;
+        }
+    }
+    told.push_str("= ")?;
+    told.push_str(texts(alloc, &symbols)?.as_str())?;
+    Ok(told)
+}
 
 /// A value, and the text of its copy.
 fn told(alloc: Global, value: &Value) -> Result<String, AllocError> {

@@ -14,9 +14,9 @@ pub returns-clause-read : goal.returns-clause-read
 returns-clause-read g c =
     let f = c.args.schema.now in
     let r = c.in_ok-reading.reading in
-    let J = c.in_ok-from_rows.field-0 in
-    source_agrees c.args.used.now f r J _ _ c.in_ok-reading.ensures.read (λ q h. sorted_agree c.args.used.now r q J h c.in_ok-from_rows.ensures)
-    (sorted_wide f r J c.in_ok-reading.ensures.fit c.in_ok-from_rows.ensures)
+    let J = c.in_ok-from_gathered.field-0 in
+    source_agrees c.args.used.now f r J _ _ c.in_ok-reading.ensures.read (λ q h. sorted_agree c.args.used.now r q J h c.in_ok-from_gathered.ensures)
+    (sorted_wide f r J c.in_ok-reading.ensures.fit c.in_ok-from_gathered.ensures)
 
 pub returns-clause-blank : goal.returns-clause-blank
-returns-clause-blank g c = blank_sorted c.args.used.now c.args.schema.now c.in_ok-reading.reading c.in_ok-from_rows.field-0 c.in_ok-from_rows.ensures c.in_ok-reading.ensures.blank
+returns-clause-blank g c = blank_sorted c.args.used.now c.args.schema.now c.in_ok-reading.reading c.in_ok-from_gathered.field-0 c.in_ok-from_gathered.ensures c.in_ok-reading.ensures.blank

@@ -18,11 +18,11 @@ loop-row-preserved c =
     let i = c.loop-row.row in
     let t = mul-add-lt i w k c.args.count c.loop-row-test.true c.requires.column in
     let b : i * w + k < length c.loop-row.cells.items = omega (arith, t, c.loop-row.invariant.size, c.requires.cells) in
-    let g = rw c.make_room.ensures at c.in_ok-number.ensures.grows in
+    let g = c.in_ok-number.ensures.grows in
     record {
       size = length-set c.loop-row.cells.items (i * w + k) c.in_ok-number.number ∙ c.loop-row.invariant.size;
-      numbered = column_more c.loop-row.symbols c.intern.new.self texts w k i c.in_ok-number.number c.loop-row.cells.items _ c.requires.column b refl g
-          (c.in_ok-number.ensures.within, c.in_ok-number.ensures.number ∙ ap Const c.in_ok-at.ensures) c.loop-row.invariant.numbered;
+      numbered = column_more c.loop-row.symbols c.number_for.new.symbols texts w k i c.in_ok-number.number c.loop-row.cells.items _ c.requires.column b refl g
+          (c.in_ok-number.ensures.within, c.in_ok-number.ensures.number ∙ ap Const c.in_ok-text.ensures) c.loop-row.invariant.numbered;
       others = others_more w k i c.in_ok-number.number c.args.cells.now.items c.loop-row.cells.items _ c.requires.column refl c.loop-row.invariant.others;
       grows = extends_both _ _ _ c.loop-row.invariant.grows g;
     }

@@ -1,6 +1,6 @@
 use Rattle.std.proofs.Common.{◌≡◌, arith, length}
 use Rattle.dx_instance.proofs.TieFacts.{seconds_more}
-use Rattle.dx_instance.proofs.ordering.second_keys.Goals as goal
+use Rattle.dx_instance.proofs.ties.second_keys.Goals as goal
 
 pub loop-number-preserved : goal.loop-number-preserved
 loop-number-preserved c =
