@@ -5,7 +5,7 @@
 //! for the words or the conversions, nothing is printed, and the status is 9.
 #![tactic(auto)]
 
-ghost use Rattle.std.specs.Prelude.{◌≡◌, IfOk, length};
+ghost use Rattle.std.specs.Prelude.{◌≡◌, [], IfOk, length};
 ghost use Rattle.std.specs.Process.{exit_status};
 ghost use Rattle.clio_ending.specs.Ending.{status_of};
 ghost use Rattle.dx_funcs.specs.Offers.{IsListed};
@@ -16,10 +16,22 @@ use clio_folder::{FolderInputs, FolderOutputs};
 use clio_top::{Ending, message, run};
 use dx_funcs::{Host, Meaning, Shipped, convert, shipped_list};
 use dx_ports::{Items, Text};
-use std::alloc::AllocError;
+use std::alloc::{AllocError, Global};
 use std::process::ExitCode;
 use std::rt::{Env, Files};
 use std::{env, io};
+
+// So many bytes are taken at first, and given back. The C library maps a block afresh if it is greater than each that it
+// mapped before and got back; all others come from the memory that it has. So what is given back later is used again.
+const FIRST_BLOCK: usize = 12 << 20;
+
+// A block of so many bytes, of which none is used.
+#[inline(never)]
+fn first_block(alloc: Global) -> Result<Vec<u8>, AllocError>
+    ensures { IfOk result (λ block. block.items ≡ []) }
+{
+    Vec::with_capacity(alloc, FIRST_BLOCK)
+}
 
 // The words after the program's name. Where one of them is no text, the list is the empty word alone, which no
 // command has.
@@ -73,10 +85,11 @@ fn run_here<F: Fn(u32, &Items<Text>) -> Result<Text, AllocError>, M: Meaning>(
 }
 
 fn main(rt: HostRuntime) -> ExitCode {
+    let alloc = rt.alloc();
+    let _ = first_block(alloc);
     let Ok(words) = words(&rt) else {
         return no_memory();
     };
-    let alloc = rt.alloc();
     let Ok(list) = shipped_list(alloc) else {
         return no_memory();
     };
