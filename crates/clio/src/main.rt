@@ -23,7 +23,7 @@ use std::{env, io};
 
 // So many bytes are taken at first, and given back. The C library maps a block afresh if it is greater than each that it
 // mapped before and got back; all others come from the memory that it has. So what is given back later is used again.
-const FIRST_BLOCK: usize = 12 << 20;
+const FIRST_BLOCK: usize = 24 << 20;
 
 // A block of so many bytes, of which none is used.
 #[inline(never)]
