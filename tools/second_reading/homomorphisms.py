@@ -105,13 +105,13 @@ def agrees(row, onto):
                for value, other in zip(row, onto))
 
 
-def homomorphism(facts, into, steps=30000):
+def homomorphism(facts, into, steps=60000):
     """Values for the nulls of `facts` that send each of them to a fact of `into`, or None."""
     lists = Lists.of(facts, into, steps)
     return lists.map() if lists.cut(facts) and lists.solve() else None
 
 
-def smaller_image(facts, steps=30000):
+def smaller_image(facts, steps=60000):
     """What sends the facts into themselves without one of them, or None for a core."""
     facts = ascending(facts)
     lists = Lists.of(facts, facts, steps)
@@ -136,6 +136,24 @@ def core_of(facts):
         if smaller is None:
             return facts
         facts = {Fact(fact.table, tuple(smaller.get(value, value) for value in fact.row)) for fact in facts}
+
+
+def largest_block(facts):
+    """How many facts the largest block has: of those that hang together by nulls."""
+    holders, left, largest = {}, {fact for fact in facts if nulls_of([fact])}, 0
+    for fact in left:
+        for null in nulls_of([fact]):
+            holders.setdefault(null, []).append(fact)
+    while left:
+        reached, size = [left.pop()], 0
+        while reached:
+            size += 1
+            for null in nulls_of([reached.pop()]):
+                fresh = left.intersection(holders[null])
+                left -= fresh
+                reached.extend(fresh)
+        largest = max(largest, size)
+    return largest
 
 
 def follows(rule, others):
