@@ -4,7 +4,7 @@ import re
 from chase import Chase
 from covers import CoveredPlaces, Covers
 from files import csv_records, csv_text, fold_text, moved, nested_text, nulls_text, rows_of, table_text
-from homomorphisms import is_core
+from homomorphisms import core_of, homomorphism, is_core, largest_block
 from refusals import Limit
 from matches import canonical, facts_of, places_of
 from rules import printed
@@ -92,6 +92,7 @@ class CaseCheck:
         fold = self.read_fold(run)
         whole_fold = lambda value: fold.get(value, value)
         same(image(self.canonical, whole_fold), target, "the fold's image of the canonical instance")
+        same(set(fold) & nulls_of(target), set(), "nulls that the fold lists and that stand in the target")
         if core:
             self.check_core(chase, target, whole_fold)
         else:
@@ -130,17 +131,23 @@ class CaseCheck:
         """The pairs of the fold's file, which lists nulls of the canonical instance alone, none of which stays."""
         pairs = {read_value(null): read_value(value) for null, value in csv_records(run.files["fold.csv"])[1:]}
         holds(set(pairs) <= nulls_of(self.canonical), "the fold lists a null that isn't there")
-        same(pairs, moved(pairs.items()), "the fold lists a null that stays")
+        same(pairs, moved(pairs.items()), "the fold lists a null that it doesn't move")
         return pairs
 
     def check_core(self, chase, target, whole_fold):
         """In core mode the target is a core inside the chased uncovered part, and the fold passes through both."""
-        holds(target <= chase.instance(), "the core is no part of the chased uncovered part")
+        chased = chase.instance()
+        holds(target <= chased, "the core is no part of the chased uncovered part")
         holds(is_core(target), "the target in core mode is no core")
         for null in nulls_of(self.canonical):
             through = whole_fold(chase.value(self.covered.fold(null)))
             same(whole_fold(null), through, "the fold in core mode at %s" % (null,))
-        self.count("reduced", len(target) < len(chase.instance()))
+        own = core_of(chased)
+        for number, table in enumerate(self.target):
+            same(len(rows_of(target, number)), len(rows_of(own, number)), "how many rows of table %s a core has" % table.name)
+        holds(homomorphism(own, target) is not None and homomorphism(target, own) is not None, "the cores aren't alike")
+        self.count("reduced", len(target) < len(chased))
+        self.count("blocks of 20 facts", largest_block(chased) >= 20)
 
     def check_texts(self, run, core, nested, target, fold):
         """All files byte by byte, their names and the summary."""

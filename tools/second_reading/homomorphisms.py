@@ -1,60 +1,159 @@
-"""Homomorphisms by plain trial, and what is asked of them: cores, rules that follow from others, pruning."""
+"""Homomorphisms, and what is asked of them: cores, rules that follow from others, pruning.
+
+For each fact there is a list of the facts to which it can still go, and for each null the values that it can still take. These are cut
+until each value of each null has a fact for it in the list of each fact that has the null; then a fact with several left is sent to one
+after the other. Facts that share no null with several values left are looked at by themselves.
+"""
 from refusals import Steps
 from matches import canonical, places_of
 from rules import LITERAL, VARIABLE
 from values import Constant, Fact, Null, ascending, nulls_of
 
 
-def homomorphism(facts, into, steps=30000):
+class Lists:
+    """Where facts can still go, and what their nulls can still become."""
+
+    def __init__(self, goals, values, holders, budget):
+        self.goals, self.values, self.holders, self.budget = goals, values, holders, budget
+
+    @classmethod
+    def of(cls, facts, into, steps):
+        """All goals of each fact that agree with it."""
+        rows, holders = {}, {}
+        for fact in into:
+            rows.setdefault(fact.table, []).append(fact)
+        for fact in facts:
+            for null in nulls_of([fact]):
+                holders.setdefault(null, []).append(fact)
+        goals = {fact: [goal for goal in rows.get(fact.table, ()) if agrees(fact.row, goal.row)] for fact in facts}
+        return cls(goals, {}, holders, Steps(steps))
+
+    def with_goals(self, goals):
+        """The same with other goals of some facts; what no list has now is cut later."""
+        return Lists({**self.goals, **goals}, dict(self.values), self.holders, self.budget)
+
+    def without(self, goal):
+        """The same where no fact can go to this one."""
+        return self.with_goals({fact: [one for one in goals if one != goal]
+                                for fact, goals in self.goals.items() if goal in goals})
+
+    def cut(self, facts):
+        """Cuts the lists, beginning with these facts; false where a fact can go nowhere."""
+        left = dict.fromkeys(facts)
+        while left:
+            fact = next(iter(left))
+            del left[fact]
+            self.budget.take()
+            goals = [goal for goal in self.goals[fact] if self.allows(fact, goal)]
+            self.goals[fact] = goals
+            if not goals:
+                return False
+            for column, value in enumerate(fact.row):
+                if isinstance(value, Null):
+                    taken = {goal.row[column] for goal in goals}
+                    before = self.values.get(value)
+                    after = taken if before is None else before & taken
+                    if after != before:
+                        self.values[value] = after
+                        left.update(dict.fromkeys(self.holders[value]))
+        return True
+
+    def allows(self, fact, goal):
+        """Whether each null of the fact can become what it would be there."""
+        return all(value not in self.values or other in self.values[value]
+                   for value, other in zip(fact.row, goal.row) if isinstance(value, Null))
+
+    def parts(self):
+        """The facts with several goals, in parts that share no null with several values."""
+        left = dict.fromkeys(fact for fact, goals in self.goals.items() if len(goals) > 1)
+        while left:
+            part, reached = [], [next(iter(left))]
+            del left[reached[0]]
+            while reached:
+                part.append(reached.pop())
+                for null in nulls_of(part[-1:]):
+                    if len(self.values[null]) > 1:
+                        for other in self.holders[null]:
+                            if other in left:
+                                del left[other]
+                                reached.append(other)
+            yield part
+
+    def solve(self):
+        """Sends each fact to one goal after the lists were cut; false where there is no way."""
+        return all(self.solve_part(part) for part in list(self.parts()))
+
+    def solve_part(self, part):
+        fact = min(part, key=lambda one: len(self.goals[one]))
+        for goal in self.goals[fact]:
+            tried = self.with_goals({fact: [goal]})
+            if tried.cut([fact]) and tried.solve():
+                self.goals.update(tried.goals)
+                self.values.update(tried.values)
+                return True
+        return False
+
+    def map(self):
+        """What each null becomes, once each fact has one goal."""
+        return {null: next(iter(values)) for null, values in self.values.items()}
+
+
+def agrees(row, onto):
+    """Whether a row's constants, and values that stand in it twice, are so in another."""
+    known = {}
+    return all(known.setdefault(value, other) == other if isinstance(value, Null) else value == other
+               for value, other in zip(row, onto))
+
+
+def homomorphism(facts, into, steps=60000):
     """Values for the nulls of `facts` that send each of them to a fact of `into`, or None."""
-    rows = {}
-    for fact in into:
-        rows.setdefault(fact.table, []).append(fact.row)
-    order, budget = easiest_first(facts), Steps(steps)
-
-    def search(place, known):
-        if place == len(order):
-            return known
-        fact = order[place]
-        for row in rows.get(fact.table, ()):
-            budget.take()
-            longer = extended(known, fact.row, row)
-            if longer is not None:
-                whole = search(place + 1, longer)
-                if whole is not None:
-                    return whole
-        return None
-
-    return search(0, {})
+    lists = Lists.of(facts, into, steps)
+    return lists.map() if lists.cut(facts) and lists.solve() else None
 
 
-def easiest_first(facts):
-    """The facts in an order in which each has as few nulls as may be that the facts before it don't have."""
-    left, order, known = {fact: nulls_of([fact]) for fact in facts}, [], set()
-    while left:
-        fact = min(left, key=lambda one: len(left[one] - known))
-        known |= left.pop(fact)
-        order.append(fact)
-    return order
-
-
-def extended(known, row, onto):
-    """The values of `known` with those that send `row` to `onto`, or None where they disagree."""
-    longer = dict(known)
-    for value, other in zip(row, onto):
-        if isinstance(value, Null):
-            if longer.setdefault(value, other) != other:
-                return None
-        elif value != other:
-            return None
-    return longer
+def smaller_image(facts, steps=60000):
+    """What sends the facts into themselves without one of them, or None for a core."""
+    facts = ascending(facts)
+    lists = Lists.of(facts, facts, steps)
+    lists.cut(facts)
+    for fact in facts:
+        if lists.goals[fact] != [fact]:  # what can go nowhere else is never left out
+            tried = lists.without(fact)
+            if tried.cut([one for one in facts if fact in lists.goals[one]]) and tried.solve():
+                return tried.map()
+    return None
 
 
 def is_core(facts):
     """Whether no homomorphism sends the facts into themselves without some fact."""
-    facts = ascending(facts)
-    moving = [fact for fact in facts if nulls_of([fact])]
-    return all(homomorphism(moving, [other for other in facts if other != fact]) is None for fact in moving)
+    return smaller_image(facts) is None
+
+
+def core_of(facts):
+    """Some core of the facts: the image of an image and so on, as long as one is smaller."""
+    while True:
+        smaller = smaller_image(facts)
+        if smaller is None:
+            return facts
+        facts = {Fact(fact.table, tuple(smaller.get(value, value) for value in fact.row)) for fact in facts}
+
+
+def largest_block(facts):
+    """How many facts the largest block has: of those that hang together by nulls."""
+    holders, left, largest = {}, {fact for fact in facts if nulls_of([fact])}, 0
+    for fact in left:
+        for null in nulls_of([fact]):
+            holders.setdefault(null, []).append(fact)
+    while left:
+        reached, size = [left.pop()], 0
+        while reached:
+            size += 1
+            for null in nulls_of([reached.pop()]):
+                fresh = left.intersection(holders[null])
+                left -= fresh
+                reached.extend(fresh)
+        largest = max(largest, size)
+    return largest
 
 
 def follows(rule, others):

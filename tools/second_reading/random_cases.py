@@ -3,6 +3,7 @@ import json
 from dataclasses import dataclass
 
 from files import csv_text
+from keyed_cases import keyed_case
 from lines import Column, Line
 from mapping import Mapping
 from matches import CONVERSIONS
@@ -194,7 +195,9 @@ class Source:
 
 
 def random_case(random, kind):
-    """A case of one of the kinds `rules`, `lines` and `mixed`."""
+    """A case of one of the kinds `rules`, `lines`, `mixed` and `keyed`."""
+    if kind == "keyed":
+        return keyed_case(random, Case)
     most = 5 if kind == "lines" else 4
     source_trees, target_trees = random_trees(random, "s", most), random_trees(random, "t", most)
     if kind == "lines" and random.random() < .01:

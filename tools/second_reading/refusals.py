@@ -30,7 +30,7 @@ class Limit(Refusal):
 
 
 class TooLong(Exception):
-    """This reading gives a case up, since a search by plain trial takes too many steps."""
+    """This reading gives a case up, since a search takes too many steps."""
 
 
 class Unsure(Exception):

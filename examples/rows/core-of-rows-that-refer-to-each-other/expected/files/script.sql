@@ -1,0 +1,12 @@
+CREATE TABLE target."area" ("aid" TEXT, "label" TEXT);
+CREATE TABLE target."src" ("sid" TEXT, "sname" TEXT);
+CREATE TABLE target."node" ("nid" TEXT, "name" TEXT, "area" TEXT, "src" TEXT);
+CREATE TABLE target."link" ("a" TEXT, "b" TEXT);
+CREATE TABLE m0 AS SELECT DISTINCT a0."p" AS c0, a0."o" AS c1 FROM source."dep" AS a0;
+INSERT INTO target."link" SELECT SKOLEM(0, 0, m.place), SKOLEM(0, 1, m.place) FROM m0 AS m;
+INSERT INTO target."node" SELECT SKOLEM(0, 0, m.place), m.c0, SKOLEM(0, 2, m.place), SKOLEM(0, 3, m.place) FROM m0 AS m;
+INSERT INTO target."node" SELECT SKOLEM(0, 1, m.place), m.c1, SKOLEM(0, 4, m.place), SKOLEM(0, 5, m.place) FROM m0 AS m;
+INSERT INTO target."area" SELECT SKOLEM(0, 2, m.place), SKOLEM(0, 6, m.place) FROM m0 AS m;
+INSERT INTO target."src" SELECT SKOLEM(0, 3, m.place), SKOLEM(0, 7, m.place) FROM m0 AS m;
+INSERT INTO target."area" SELECT SKOLEM(0, 4, m.place), SKOLEM(0, 8, m.place) FROM m0 AS m;
+INSERT INTO target."src" SELECT SKOLEM(0, 5, m.place), SKOLEM(0, 9, m.place) FROM m0 AS m;
