@@ -1,5 +1,5 @@
 -- The scan of a text is of its tokens and its first fault.
-use Rattle.std.proofs.Common.{inl, inr, ◌≡◌, ◌⊎◌, ℕ, zero, suc, ◌+◌, ◌-◌, ◌≤◌, List, [], ◌∷◌, ◌++◌, length, Some, None, refl, sym, ap, ◌∙◌, arith, append-nil, append_assoc}
+use Rattle.std.proofs.Common.{inl, inr, ◌≡◌, ℕ, zero, suc, ◌+◌, ◌-◌, ◌≤◌, List, [], ◌∷◌, ◌++◌, length, Some, None, refl, sym, ap, ◌∙◌, arith, append-nil, append_assoc}
 use Rattle.std.specs.Prelude.{map, slice_range}
 use Rattle.std.proofs.lemmas.List.{drop_at, take_at, length-append, length_push}
 use Rattle.dx_tokens.specs.declared.faults.TextKind.{TextKind}
@@ -8,9 +8,8 @@ use Rattle.dx_script_tokens.specs.declared.pieces.Shape.{Shape}
 use Rattle.dx_script_tokens.specs.declared.pieces.Piece.TheVariants as pieces
 use Rattle.dx_script_tokens.specs.declared.scanner.ScriptToken.{ScriptToken}
 use Rattle.dx_script_tokens.specs.declared.scanner.ScriptStop.{ScriptStop}
-use Rattle.dx_script_tokens.specs.Pieces.{piece_at}
 use Rattle.dx_script_tokens.specs.Scan.{scan_from, stopped, token_of, with_token, with_tokens}
-use Rattle.dx_script_tokens.specs.Lexing.{IsTokenText, Span, Lexes, nothing, blank, token, IsLexed, IsFaulty, IsFirstTokenFault, IsTokensOrFault, token_said, begun_of, LexedIsScanned, FaultyIsScanned}
+use Rattle.dx_script_tokens.specs.Lexing.{IsTokenText, Span, Lexes, nothing, blank, token, IsFaulty, IsTokensOrFault, token_said, begun_of, LexedIsScanned, FaultyIsScanned}
 use Rattle.dx_script_tokens.proofs.Standing.{blank_past, token_past}
 use Rattle.dx_script_tokens.proofs.Meanings as means
 use Rattle.dx_script_tokens.proofs.Meanings.{StopsBehind, PieceMeans, piece_means, FaultyPiece, faulty_piece, none_left, token_first, token_piece, longest, longest_stops, stops_ends}

@@ -1,5 +1,5 @@
 -- What a piece of a text means.
-use Rattle.std.proofs.Common.{◌≡◌, ◌≢◌, ◌⊎◌, ℕ, suc, ◌+◌, ◌≤◌, Bool, true, false, List, [], ◌∷◌, ◌++◌, length, take, drop, refl, sym, ap, ◌∙◌, subst, inl, inr, arith, append_assoc, append-nil}
+use Rattle.std.proofs.Common.{◌≡◌, ◌≢◌, ℕ, suc, ◌+◌, ◌≤◌, Bool, true, false, List, [], ◌∷◌, ◌++◌, length, take, drop, refl, sym, ap, ◌∙◌, subst, inl, inr, arith, append_assoc, append-nil}
 use Rattle.std.specs.Prelude.{IsUtf8, ◌||◌, ◌==◌, decimal}
 use Rattle.std.specs.Char.{IsScalar, encode_utf8}
 use Rattle.std.specs.List.{prefix_len}
@@ -8,12 +8,11 @@ use Rattle.std.proofs.lemmas.Bool.Decides.{nat_tests}
 use Rattle.std.proofs.lemmas.List.{length_push, length-append, take-append-drop, length-take-le}
 use Rattle.std.proofs.lemmas.List.Folds.{length-prefix_len}
 use Rattle.std.proofs.Math.Seq.{drop-append_seam}
-use Rattle.dx_ports.specs.Members.{here, there, Each}
 use Rattle.dx_tokens.specs.declared.faults.TextKind.{TextKind}
-use Rattle.dx_tokens.specs.declared.faults.TextKind.TheVariants.{Character, Ended, Expected, UnknownName, Width, Unsafe}
+use Rattle.dx_tokens.specs.declared.faults.TextKind.TheVariants.{Character, Ended}
 use Rattle.dx_tokens.specs.Tokens.{is_blank, is_digit, is_word_start, is_word_byte, run}
 use Rattle.dx_tokens.specs.Lexing.{IsWord}
-use Rattle.dx_tokens.proofs.Forms.{IsRun, prefix_split}
+use Rattle.dx_tokens.proofs.Forms.{prefix_split}
 use Rattle.dx_tokens.proofs.Lexed.{AllPass, StopsAt, run_is}
 use Rattle.dx_tokens.proofs.Skips.{each_push}
 use Rattle.dx_tokens.proofs.Spelled.{all_from}
@@ -23,8 +22,8 @@ use Rattle.dx_script_tokens.specs.declared.pieces.Piece.TheVariants as pieces
 use Rattle.dx_script_tokens.specs.Numbers.{number_at}
 use Rattle.dx_script_tokens.specs.Kinds.{is_mark}
 use Rattle.dx_script_tokens.specs.Pieces.{name_at, piece_at, text_from}
-use Rattle.dx_script_tokens.specs.Quoted.{doubled, quoted}
-use Rattle.dx_script_tokens.specs.Lexing.{IsNumber, IsNameText, IsName, IsText, IsMark, IsTokenText, IsLongest, Ends, BeginsNothing, IsNameFront, can_follow, IsNoCharacter, IsFaulty, no_token, bad_name, cut_name, bad_text, cut_text}
+use Rattle.dx_script_tokens.specs.Quoted.{doubled}
+use Rattle.dx_script_tokens.specs.Lexing.{IsNameText, IsTokenText, IsLongest, Ends, BeginsNothing, IsNameFront, can_follow, IsNoCharacter, IsFaulty, no_token, bad_name, cut_name, bad_text, cut_text}
 use Rattle.dx_script_tokens.proofs.Decimal.{decimal_read}
 use Rattle.dx_script_tokens.proofs.Numerals.{number_form, number_front}
 use Rattle.dx_script_tokens.proofs.QuotedTexts.{is_quote, quote_doubled, quote_ends, quoted_read, text_passed}

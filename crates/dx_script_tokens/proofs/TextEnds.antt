@@ -1,23 +1,21 @@
 -- How a text in single quotes ends: whole, cut, or with a byte that can't stand there.
-use Rattle.std.proofs.Common.{◌≡◌, ◌≢◌, ◌⊎◌, ℕ, zero, suc, ◌+◌, ◌-◌, ◌<◌, ◌≤◌, true, false, List, [], ◌∷◌, ◌++◌, length, take, drop, refl, sym, ap, ◌∙◌, subst, inl, inr, arith, lit<, append_assoc, append-nil, IsUtf8}
-use Rattle.std.specs.Prelude.{encode_utf8, nat_lt, ◌==◌}
+use Rattle.std.proofs.Common.{◌≡◌, ◌≢◌, ◌⊎◌, ℕ, zero, suc, ◌+◌, ◌<◌, ◌≤◌, List, [], ◌∷◌, ◌++◌, length, take, drop, refl, sym, ap, ◌∙◌, subst, inl, inr, arith, lit<, append_assoc, append-nil, IsUtf8}
+use Rattle.std.specs.Prelude.{encode_utf8}
 use Rattle.std.specs.Char.{IsScalar}
 use Rattle.std.proofs.lemmas.Bool.{cases_eq, cases_lt, ne_eqb}
 use Rattle.std.proofs.lemmas.Bool.Decides.{nat_tests}
-use Rattle.std.proofs.lemmas.List.{take-append-drop, length-drop, length-append, length-take-le}
+use Rattle.std.proofs.lemmas.List.{take-append-drop, length-drop, length-append}
 use Rattle.std.proofs.lemmas.Str.{IsUtf8-append, IsUtf8-nil, IsUtf8-encode, encode_ascii, inside_one}
 use Rattle.dx_tokens.specs.declared.pieces.Item.{Item}
 use Rattle.dx_tokens.specs.declared.pieces.Item.TheVariants as items
-use Rattle.dx_tokens.specs.Tokens.{item_at, wide_at}
+use Rattle.dx_tokens.specs.Tokens.{item_at}
 use Rattle.dx_tokens.specs.Lexing.{IsCharacter, bad_byte}
-use Rattle.dx_tokens.proofs.Characters.{wide_no_quote}
 use Rattle.dx_tokens.proofs.Encoded.{character_item}
-use Rattle.dx_tokens.proofs.Forms.{item_quote, item_whole, taken}
+use Rattle.dx_tokens.proofs.Forms.{item_quote, item_whole}
 use Rattle.dx_tokens.proofs.Lexed.{StopsAt}
 use Rattle.dx_tokens.proofs.Unfinished.{item_bad, item_cut}
-use Rattle.dx_script_tokens.specs.declared.pieces.Shape.TheVariants as shapes
 use Rattle.dx_script_tokens.specs.declared.pieces.Piece.TheVariants as pieces
-use Rattle.dx_script_tokens.specs.Pieces.{quote_at, text_item, text_from}
+use Rattle.dx_script_tokens.specs.Pieces.{text_item, text_from}
 use Rattle.dx_script_tokens.specs.Quoted.{doubled}
 use Rattle.dx_script_tokens.specs.Lexing.{IsNoCharacter}
 use Rattle.dx_script_tokens.proofs.Doubled.{doubled-append, plain_character}
