@@ -86,7 +86,7 @@ no_marks f h t m =
 -- ---- the exchange
 
 pub rules_fit : (P : Program) (M : Mapping) → MappingFits P.list M → Fits P.list M.rules (model_tables M.source) (model_tables M.target)
-rules_fit P M h = record { few = h.few; listed = h.listed; fit = h.fit; closed = h.closed }
+rules_fit P M h = let few = h.few in record { few = omega (arith, few); listed = h.listed; fit = h.fit; closed = h.closed }
 
 pub texts_fit : (P : Program) (M : Mapping) → MappingFits P.list M → FitTexts M.source M.target P.list M.rules
 texts_fit P M h = let few = h.few in record { few = omega (arith, few); fit = h.fit; listed = h.listed }

@@ -1,9 +1,10 @@
 // The text of sets.
 ghost use Rattle.std.specs.Prelude.{◌≡◌, ◌++◌, [], IfOk, OnOk, flat_map, string_bytes};
+ghost use Rattle.dx_schema.specs.Forest.{forest_of};
 ghost use Rattle.dx_schema_text.specs.Print.{AreWritable, IsReadAgain, front_lines, group, head_lines, key_line, last_line, names_text, printed, ref_line, wider};
 
 use dx_ports::Text;
-use dx_schema::{KeyDecl, RefDecl, SetTree, Trees};
+use dx_schema::{KeyDecl, RefDecl, SetTree};
 use std::alloc::{AllocError, Global};
 
 // Names, parted by a comma and a space.
@@ -122,15 +123,15 @@ fn push_last(margin: &Text, out: &mut String) -> Result<(), AllocError>
 fn push_sets(
     alloc: Global,
     margin: &Text,
-    trees: &Trees,
+    trees: &[SetTree],
     out: &mut String,
 ) -> Result<(), AllocError>
-    ensures { OnOk result (string_bytes out.new ≡ string_bytes out.old ++ printed margin.now trees.now) }
+    ensures { OnOk result (string_bytes out.new ≡ string_bytes out.old ++ printed margin.now (forest_of trees.now)) }
 {
     let wide = wider(alloc, margin)?;
-    for tree in trees.items() {
+    for tree in trees {
         push_front(margin, &wide, tree, out)?;
-        push_sets(alloc, &wide, &tree.inner, out)?;
+        push_sets(alloc, &wide, tree.inner.items(), out)?;
         push_last(margin, out)?;
     }
     Ok(())
@@ -142,9 +143,9 @@ fn push_sets(
 /// # Errors
 ///
 /// `AllocError` if there is no memory.
-pub fn print_trees(alloc: Global, trees: &Trees) -> Result<Text, AllocError>
-    ensures text { IfOk result (λ t. t ≡ printed [] trees.now) }
-    ensures read_again { IfOk result (λ t. AreWritable trees.now → IsReadAgain trees.now t) }
+pub fn print_trees(alloc: Global, trees: &[SetTree]) -> Result<Text, AllocError>
+    ensures text { IfOk result (λ t. t ≡ printed [] (forest_of trees.now)) }
+    ensures read_again { IfOk result (λ t. AreWritable (forest_of trees.now) → IsReadAgain (forest_of trees.now) t) }
 {
     let margin = Text::from_str(alloc, "")?;
     let mut out = String::new(alloc);
