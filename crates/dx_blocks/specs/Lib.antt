@@ -4,3 +4,4 @@ pub mod Forest
 pub mod Labels
 pub mod Laws
 pub mod Numbered
+pub mod NullRows
