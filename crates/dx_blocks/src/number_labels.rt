@@ -4,7 +4,7 @@ ghost use Rattle.dx_ports.specs.Members.{◌∈◌, Each};
 ghost use Rattle.dx_blocks.specs.Forest.{Falls};
 ghost use Rattle.dx_blocks.specs.Labels.{AreLabels, JoinsAll, JoinsRow};
 ghost use Rattle.dx_blocks.specs.Numbered.{IsRow, fact_of};
-ghost use Rattle.dx_blocks.specs.NullRows.{AreNullRows, IsFirstNull, facts_of, nulls_from, numbers_of};
+ghost use Rattle.dx_blocks.specs.NullRows.{IsFirstNull, facts_of, nulls_from, numbers_of};
 
 use crate::forest::{flatten, join, singles};
 use crate::null_rows::null_in;
