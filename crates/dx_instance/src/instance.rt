@@ -2,8 +2,8 @@
 ghost use Rattle.std.specs.Prelude.{◌≡◌, ◌↔◌, ◌<◌, ◌≤◌, ◌-◌, ◌^◌, ℕ, List, length, map, count_by, Some, slice_get, slice_index, slice_index_or, IsTrue, IfOk, OnOk, OnErr, IfSome, IfNone, MatchBool, MatchOption};
 ghost use Rattle.std.specs.Bool.{OnTrue};
 ghost use Rattle.std.specs.List.{AllZip};
-ghost use Rattle.dx_ports.specs.Members.{Distinct, Each, ◌∈◌};
-ghost use Rattle.dx_model.specs.Values.{RowsAscend};
+ghost use Rattle.dx_ports.specs.Members.{Distinct, Each, ◌∈◌, ◌≈◌};
+ghost use Rattle.dx_model.specs.Values.{FactsAscend, RowsAscend};
 ghost use Rattle.dx_instance.specs.Stored.{AddsRow, IsSorting, facts, rows_of, table_at, without_rows};
 ghost use Rattle.dx_instance.specs.Cells.{IsPut};
 ghost use Rattle.dx_instance.specs.Images.{AreImages, IsImage};
@@ -12,6 +12,7 @@ ghost use Rattle.dx_instance.specs.Shown.{AreBelow, NumbersFit, PartsFit, RowsFi
 ghost use Rattle.dx_instance.specs.Places.{HasValues, IsFirstWith, row_at, rows_with, value_at};
 
 use crate::cells::Rows;
+use crate::fact_order::facts_in_order;
 use crate::gathered::Gathered;
 use crate::null_map::NullMap;
 use crate::numbers::Numbers;
@@ -368,12 +369,20 @@ impl Instance {
         count
     }
 
-    /// The facts: table by table, the rows as they stand. If the rows of each table ascend, so do the facts.
-    ///
-    /// # Errors
-    ///
-    /// `AllocError` if there is no memory.
-    pub fn facts(&self) -> Result<Vec<Fact>, AllocError>
+    // Whether the rows of each table are known to ascend.
+    fn all_ascend(&self) -> bool
+        ensures { OnTrue result ((t : ℕ) → RowsAscend (rows_of self.now t)) }
+    {
+        for table in 0..self.tables() {
+            if !self.is_ascending(table) {
+                return false;
+            }
+        }
+        true
+    }
+
+    // The facts: table by table, the rows as they stand.
+    fn stored_facts(&self) -> Result<Vec<Fact>, AllocError>
         ensures { IfOk result (λ v. v.items ≡ facts self.now) }
     {
         let mut all = Vec::new(self.alloc);
@@ -384,6 +393,22 @@ impl Instance {
             }
         }
         Ok(all)
+    }
+
+    /// The facts, ascending, each once. They are sorted only if the rows of some table are not known to ascend.
+    ///
+    /// # Errors
+    ///
+    /// `AllocError` if there is no memory.
+    pub fn facts(&self) -> Result<Vec<Fact>, AllocError>
+        ensures ascend { IfOk result (λ v. FactsAscend v.items) }
+        ensures same { IfOk result (λ v. v.items ≈ facts self.now) }
+    {
+        let all = self.stored_facts()?;
+        if self.all_ascend() {
+            return Ok(all);
+        }
+        Ok(facts_in_order(all))
     }
 
     /// A copy of a row.

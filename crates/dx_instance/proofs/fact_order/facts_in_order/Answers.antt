@@ -1,5 +1,5 @@
-use Rattle.dx_blocks.proofs.Sorting.{facts_ascend, facts_same}
-use Rattle.dx_blocks.proofs.finding.in_order.Goals as goal
+use Rattle.dx_instance.proofs.Sorting.{facts_ascend, facts_same}
+use Rattle.dx_instance.proofs.fact_order.facts_in_order.Goals as goal
 
 pub returns-clause-ascend : goal.returns-clause-ascend
 returns-clause-ascend c =
