@@ -27,4 +27,3 @@ pub mod LayerFacts
 pub mod RowKeyFacts
 pub mod Sorting
 pub mod NullOrderFacts
-pub mod ImageFacts
