@@ -366,6 +366,15 @@ impl Instance {
         self.tables[table as usize].index(self.alloc, column)
     }
 
+    /// Which of these columns to go by: the first that has an index, and else the first. It takes no memory.
+    pub fn indexed_among(&self, table: u32, columns: &[u32]) -> usize
+        requires table { table < length self.now }
+        requires some { 0 < length columns.now }
+        ensures { result < length columns.now }
+    {
+        self.tables[table as usize].indexed_among(columns)
+    }
+
     /// The least place from `from` on whose row has these values in these columns. It goes by the first of the columns
     /// that has an index, or else through the rows. It takes no memory.
     pub fn with_columns(
