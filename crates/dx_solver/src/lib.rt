@@ -3,8 +3,19 @@
 #![tactic(auto)]
 
 mod atom;
+mod choosing;
+mod cutting;
+mod domain;
+mod forward;
+mod judging;
+mod linked;
+mod node;
+mod question;
+mod rows;
 mod solving;
+mod spreading;
 mod taken;
+mod values;
 
 pub use atom::{PatternAtom, Term, Terms};
 pub use solving::solve;
