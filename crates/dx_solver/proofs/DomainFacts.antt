@@ -1,5 +1,5 @@
 -- Domains of variables.
-use Rattle.std.proofs.Common.{◌≡◌, ◌∙◌, ℕ, zero, suc, ◌+◌, ◌*◌, ◌-◌, ◌<◌, ◌≤◌, ◌^◌, List, [], ◌∷◌, ◌++◌, refl, sym, ap, arith, inl, inr, subst}
+use Rattle.std.proofs.Common.{◌≡◌, ℕ, ◌+◌, ◌*◌, ◌-◌, ◌<◌, ◌≤◌, ◌^◌, List, [], ◌∷◌, ◌++◌, refl, sym, ap, arith, inl, inr, subst}
 use Rattle.std.proofs.Common.{length, get_or}
 use Rattle.std.proofs.Math.ListN.{set}
 use Rattle.std.proofs.Math.Nat.{one-le-pow, pow-le-pow_right}
@@ -7,9 +7,8 @@ use Rattle.std.proofs.lemmas.Bool.{cases_eq, cases_lt}
 use Rattle.std.proofs.lemmas.List.{get_or-set_same, get_or-set_other, get_or_append_left, get_or_push, get_or_past, length-append}
 use Rattle.std.proofs.lemmas.List.Sums.{sum_by-set}
 use Rattle.std.proofs.lemmas.Grind.{pow_more}
-use Rattle.dx_ports.specs.Members.{◌∈◌, here, there}
 use Rattle.dx_solver.specs.declared.domain.Domain.{Domain}
-use Rattle.dx_solver.specs.declared.domain.Domain.TheVariants.{Any, One, Many}
+use Rattle.dx_solver.specs.declared.domain.Domain.TheVariants.{Any}
 use Rattle.dx_solver.specs.declared.node.Node.{Node}
 use Rattle.dx_solver.specs.Domains.{Has, Keeps, size, weight, worth}
 

@@ -1,6 +1,6 @@
 -- Nodes that are still to be looked at.
-use Rattle.std.proofs.Common.{◌≡◌, ◌∙◌, ℕ, ◌+◌, ◌<◌, ◌≤◌, ◌^◌, Bool, true, List, [], ◌∷◌, ◌++◌, refl, sym, ap, arith, inl, inr, subst}
-use Rattle.std.proofs.Common.{length, get_or, Result, Ok, Err}
+use Rattle.std.proofs.Common.{◌≡◌, ◌∙◌, ℕ, ◌<◌, ◌≤◌, ◌^◌, List, [], ◌∷◌, ◌++◌, refl, sym, arith, inl, inr, subst}
+use Rattle.std.proofs.Common.{length, Result, Ok, Err}
 use Rattle.std.specs.Prelude.{Option, Some, None, MatchOption, IfOk}
 use Rattle.std.proofs.Math.Nat.{one-le-pow}
 use Rattle.std.proofs.lemmas.List.{append-nil}

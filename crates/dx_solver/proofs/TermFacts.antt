@@ -1,6 +1,6 @@
 -- Answers, and what is left of variables.
-use Rattle.std.proofs.Common.{◌≡◌, ◌∙◌, ℕ, ◌+◌, ◌<◌, ◌≤◌, ◌^◌, Bool, List, [], ◌∷◌, ◌++◌, refl, sym, ap, arith, inl, inr, subst}
-use Rattle.std.proofs.Common.{length, get_or, take}
+use Rattle.std.proofs.Common.{◌≡◌, ◌∙◌, ℕ, ◌<◌, ◌≤◌, ◌^◌, Bool, List, [], ◌∷◌, refl, sym, ap, inl, inr, subst}
+use Rattle.std.proofs.Common.{length, get_or}
 use Rattle.std.specs.Prelude.{map, Option, Some, None}
 use Rattle.std.proofs.lemmas.Bool.{cases_lt}
 use Rattle.std.proofs.lemmas.List.{get_or_default, get_or_past}
@@ -13,7 +13,7 @@ use Rattle.dx_solver.specs.declared.atom.Term.{Term}
 use Rattle.dx_solver.specs.declared.atom.Term.TheVariants.{Number, Variable}
 use Rattle.dx_solver.specs.declared.atom.PatternAtom.{PatternAtom}
 use Rattle.dx_solver.specs.declared.domain.Domain.{Domain}
-use Rattle.dx_solver.specs.declared.domain.Domain.TheVariants.{Any, One, Many}
+use Rattle.dx_solver.specs.declared.domain.Domain.TheVariants.{Any}
 use Rattle.dx_solver.specs.Domains.{Has, IsBound, IsFree, IsImage, atom_at, IsLeft, Keeps, choices, size, term_at}
 use Rattle.dx_solver.specs.Questions.{FitsAtom, Solves, Stands, answered, number_under, row_under}
 use Rattle.dx_solver.proofs.RowFacts.{column_of}

@@ -6,7 +6,7 @@ use Rattle.dx_instance.specs.Cells.{NumberTable, numbers_at}
 use Rattle.dx_instance.specs.Indexes.{number_in}
 use Rattle.dx_instance.specs.Shown.{numbers_of_table}
 use Rattle.dx_solver.specs.Marks.{is_out}
-use Rattle.dx_solver.specs.Questions.{Stands, row_under}
+use Rattle.dx_solver.specs.Questions.{row_under}
 use Rattle.dx_solver.specs.declared.atom.Term.{Term}
 use Rattle.dx_solver.specs.declared.atom.Term.TheVariants.{Number, Variable}
 use Rattle.dx_solver.specs.declared.atom.PatternAtom.{PatternAtom}

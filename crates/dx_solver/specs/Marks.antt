@@ -1,5 +1,5 @@
 -- Rows that are taken out of tables.
-use Rattle.std.specs.Prelude.{ℕ, Bool, true, false, List, [], length, map, replicate, slice_index_or, slice_set}
+use Rattle.std.specs.Prelude.{ℕ, Bool, false, List, [], length, map, replicate, slice_index_or, slice_set}
 use Rattle.dx_instance.specs.Cells.{NumberTable}
 
 -- whether the row at a place is taken out

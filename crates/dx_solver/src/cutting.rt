@@ -14,7 +14,7 @@ use crate::question::Question;
 use crate::rows::{candidates, numbers_in, variable_at};
 use std::alloc::{AllocError, Global};
 
-/// Gives a variable a domain, if that is smaller than the one that it has. Says whether it was.
+// Gives a variable a domain, if that is smaller than the one that it has. Says whether it was.
 fn narrow(domains: &mut Vec<Domain>, variable: u32, domain: Domain) -> bool
     requires { variable < length domains.old.items }
     ensures kept { (a : ℕ → ℕ) → Keeps domains.old.items a → Has domain (a variable) → Keeps domains.new.items a }
@@ -30,7 +30,7 @@ fn narrow(domains: &mut Vec<Domain>, variable: u32, domain: Domain) -> bool
     true
 }
 
-/// Whether a list of so many numbers is worth its memory: what is known is to be made shorter, and the rest is to be short.
+// Whether a list of so many numbers is worth its memory: what is known is to be made shorter, and the rest is to be short.
 fn is_wanted(domain: &Domain, count: usize, longest: usize) -> bool {
     match domain {
         Domain::Any => count <= longest,
@@ -39,7 +39,7 @@ fn is_wanted(domain: &Domain, count: usize, longest: usize) -> bool {
     }
 }
 
-/// Cuts the domain of the variable in a column of an atom to the numbers that stand there at these places.
+// Cuts the domain of the variable in a column of an atom to the numbers that stand there at these places.
 fn cut_column(
     alloc: Global,
     question: &Question<'_, '_>,

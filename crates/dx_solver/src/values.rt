@@ -48,7 +48,7 @@ impl Values {
         self.list.binary_search(&number).is_ok()
     }
 
-    /// The numbers from a place on.
+    /// A copy.
     ///
     /// # Errors
     ///

@@ -1,4 +1,4 @@
-use Rattle.std.proofs.Common.{◌≡◌, ◌∙◌, ◌<◌, ◌^◌, ap, arith, get_or, length, subst, sym}
+use Rattle.std.proofs.Common.{arith, length}
 use Rattle.dx_ports.specs.Members.{Each}
 use Rattle.dx_ports.proofs.Members.{item_in}
 use Rattle.dx_solver.specs.Questions.{Stands}

@@ -1,7 +1,7 @@
-use Rattle.std.proofs.Common.{◌≡◌, ◌∙◌, ◌<◌, ◌^◌, ap, arith, get_or, length, sym}
+use Rattle.std.proofs.Common.{◌∙◌, ◌^◌, ap, arith, sym}
 use Rattle.std.proofs.lemmas.List.{get_or_default}
 use Rattle.dx_solver.specs.declared.domain.Domain.{Domain}
-use Rattle.dx_solver.specs.declared.domain.Domain.TheVariants.{Any, One, Many}
+use Rattle.dx_solver.specs.declared.domain.Domain.TheVariants.{Any}
 use Rattle.dx_solver.specs.Domains.{size}
 use Rattle.dx_solver.specs.Questions.{Stands}
 use Rattle.dx_solver.proofs.SearchFacts.{ok_weaken, weaken}

@@ -1,5 +1,4 @@
-use Rattle.std.proofs.Common.{◌≡◌, ◌∙◌, ◌<◌, ◌≤◌, ◌^◌, ℕ, arith, length, refl, subst, sym}
-use Rattle.dx_ports.specs.Members.{◌∈◌}
+use Rattle.std.proofs.Common.{◌≡◌, ◌∙◌, ℕ, arith, length, refl, subst, sym}
 use Rattle.dx_ports.proofs.Members.{contains_from_in}
 use Rattle.dx_solver.specs.Questions.{FitsAtom}
 use Rattle.dx_solver.proofs.RowFacts.{image_of}

@@ -1,6 +1,4 @@
-use Rattle.std.proofs.Common.{◌≡◌, ◌<◌, arith, length}
-use Rattle.dx_solver.specs.declared.atom.Term.TheVariants.{Variable}
-use Rattle.dx_solver.specs.Domains.{term_at}
+use Rattle.std.proofs.Common.{arith, length}
 use Rattle.dx_solver.proofs.TermFacts.{value_in, variable_below}
 use Rattle.dx_solver.proofs.cutting.cut_column.Goals as goal
 

@@ -1,7 +1,6 @@
-use Rattle.std.proofs.Common.{◌≡◌, ◌∙◌, ◌<◌, ◌≤◌, ◌^◌, ◌∷◌, [], ap, arith, length, refl}
-use Rattle.dx_ports.specs.Members.{◌∈◌, here, there}
+use Rattle.std.proofs.Common.{◌∙◌, ◌^◌, ◌∷◌, [], ap, arith, length, refl}
+use Rattle.dx_ports.specs.Members.{here}
 use Rattle.std.proofs.lemmas.List.{length-map}
-use Rattle.dx_solver.specs.declared.node.Node.{Node}
 use Rattle.dx_solver.specs.declared.domain.Domain.{Domain}
 use Rattle.dx_solver.specs.Domains.{size}
 use Rattle.dx_solver.proofs.DomainFacts.{worth_one}

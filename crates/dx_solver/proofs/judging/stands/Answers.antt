@@ -1,9 +1,9 @@
-use Rattle.std.proofs.Common.{◌∙◌, ◌<◌, ◌≤◌, ℕ, arith, sym, refl, length}
+use Rattle.std.proofs.Common.{◌∙◌, arith, sym, length}
 use Rattle.std.proofs.lemmas.Bool.{false≢true}
 use Rattle.dx_instance.specs.Shown.{numbers_of_table}
 use Rattle.dx_solver.specs.Domains.{HasKey, IsImage}
 use Rattle.dx_solver.specs.Questions.{answered}
-use Rattle.dx_solver.proofs.RowFacts.{has_key, image_of, no_more, no_to, stands_at}
+use Rattle.dx_solver.proofs.RowFacts.{has_key, image_of, no_more, no_to}
 use Rattle.dx_solver.proofs.judging.stands.Goals as goal
 
 pub loop-place-preserved : goal.loop-place-preserved

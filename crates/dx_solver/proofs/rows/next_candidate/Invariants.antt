@@ -1,4 +1,4 @@
-use Rattle.std.proofs.Common.{◌≤◌, ◌<◌, ◌-◌}
+use Rattle.std.proofs.Common.{◌≤◌, ◌-◌}
 use Rattle.dx_solver.specs.Domains.{NoImage}
 use Rattle.dx_solver.proofs.rows.next_candidate.Given as goal
 

@@ -1,4 +1,4 @@
-use Rattle.std.proofs.Common.{◌≡◌, ◌<◌, ◌∙◌, arith, get_or, length, sym}
+use Rattle.std.proofs.Common.{◌<◌, ◌∙◌, arith, get_or, length, sym}
 use Rattle.std.proofs.lemmas.Bool.{eq-eqb}
 use Rattle.dx_solver.specs.declared.atom.Term.TheVariants.{Number}
 use Rattle.dx_solver.specs.Questions.{number_under}

@@ -1,4 +1,4 @@
-use Rattle.std.proofs.Common.{◌≡◌, ◌∙◌, ◌++◌, ◌∷◌, [], ap, arith, length}
+use Rattle.std.proofs.Common.{ap, arith, length}
 use Rattle.std.proofs.lemmas.List.{length-append}
 use Rattle.dx_solver.proofs.DomainFacts.{keeps_push}
 use Rattle.dx_solver.proofs.solving.known_domains.Goals as goal

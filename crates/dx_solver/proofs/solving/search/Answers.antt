@@ -1,5 +1,4 @@
-use Rattle.std.proofs.Common.{◌≡◌, ◌∙◌, ◌<◌, ◌++◌, ◌∷◌, [], List, arith, length, refl, subst, sym}
-use Rattle.dx_ports.specs.Members.{Each}
+use Rattle.std.proofs.Common.{◌≡◌, ◌∙◌, ◌<◌, List, arith, length, refl, subst, sym}
 use Rattle.dx_solver.specs.declared.node.Node.{Node}
 use Rattle.dx_solver.specs.Domains.{worth}
 use Rattle.dx_solver.specs.Questions.{Solves}

@@ -1,4 +1,3 @@
-use Rattle.std.proofs.Common.{◌≡◌, ◌∙◌, sym}
 use Rattle.dx_solver.proofs.SearchFacts.{ok_match}
 use Rattle.dx_solver.proofs.solving.solve.Goals as goal
 

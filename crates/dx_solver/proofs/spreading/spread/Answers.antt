@@ -1,4 +1,4 @@
-use Rattle.std.proofs.Common.{◌≡◌, ◌∙◌, ◌<◌, ◌≤◌, ◌^◌, ℕ, arith, length, refl, subst, sym}
+use Rattle.std.proofs.Common.{◌∙◌, ℕ, arith, subst, sym}
 use Rattle.std.proofs.lemmas.Bool.{false≢true}
 use Rattle.dx_ports.proofs.Members.{item_in}
 use Rattle.dx_solver.specs.Questions.{FitsAtom}
