@@ -1,0 +1,135 @@
+// Cutting what variables can still become by the rows that an atom can be.
+ghost use Rattle.std.specs.Prelude.{◌≡◌, ◌<◌, ◌≤◌, ◌^◌, ℕ, IfOk, length, true, slice_index_or};
+ghost use Rattle.dx_ports.specs.Members.{◌∈◌, Each};
+ghost use Rattle.dx_instance.specs.Shown.{numbers_of_table};
+ghost use Rattle.dx_solver.specs.Domains.{Has, IsBranched, IsImage, Keeps, size, term_at, weight};
+ghost use Rattle.dx_solver.specs.Questions.{FitsAtom, Stands};
+ghost use Rattle.dx_solver.specs.declared.domain.Domain.TheVariants.{Any};
+ghost use Rattle.dx_solver.specs.declared.atom.Term.TheVariants.{Variable};
+
+use crate::atom::PatternAtom;
+use crate::domain::Domain;
+use crate::node::Node;
+use crate::question::Question;
+use crate::rows::{candidates, numbers_in, variable_at};
+use std::alloc::{AllocError, Global};
+
+// Gives a variable a domain, if that is smaller than the one that it has. Says whether it was.
+fn narrow(domains: &mut Vec<Domain>, variable: u32, domain: Domain) -> bool
+    requires { variable < length domains.old.items }
+    ensures kept { (a : ℕ → ℕ) → Keeps domains.old.items a → Has domain (a variable) → Keeps domains.new.items a }
+    ensures many { length domains.new.items ≡ length domains.old.items }
+    ensures lighter { weight (2 ^ 32) domains.new.items ≤ weight (2 ^ 32) domains.old.items }
+    ensures less { size (2 ^ 32) domain < size (2 ^ 32) (slice_index_or domains.old.items variable Any)
+        → weight (2 ^ 32) domains.new.items < weight (2 ^ 32) domains.old.items }
+{
+    if domain.size() >= domains[variable as usize].size() {
+        return false;
+    }
+    domains[variable as usize] = domain;
+    true
+}
+
+// Whether a list of so many numbers is worth its memory: what is known is to be made shorter, and the rest is to be short.
+fn is_wanted(domain: &Domain, count: usize, longest: usize) -> bool {
+    match domain {
+        Domain::Any => count <= longest,
+        Domain::One(_) => false,
+        Domain::Many(_) => true,
+    }
+}
+
+// Cuts the domain of the variable in a column of an atom to the numbers that stand there at these places.
+fn cut_column(
+    alloc: Global,
+    question: &Question<'_, '_>,
+    domains: &mut Vec<Domain>,
+    atom: &PatternAtom,
+    column: u32,
+    places: &[u32],
+    longest: usize,
+    changed: &mut Vec<u32>,
+) -> Result<(), AllocError>
+    requires fits { FitsAtom question.now.numbers.now.tables (length domains.old.items) atom.now }
+    requires column { column < length atom.now.terms }
+    requires within { Each places.now (λ p. p < length (numbers_of_table question.now.numbers.now.tables atom.now.table).rows) }
+    ensures kept { IfOk result (λ _. (a : ℕ → ℕ) (p : ℕ) → Keeps domains.old.items a → p ∈ places.now
+        → IsImage question.now.numbers.now.tables question.now.taken.now a atom.now p → Keeps domains.new.items a) }
+    ensures many { IfOk result (λ _. length domains.new.items ≡ length domains.old.items) }
+    ensures lighter { IfOk result (λ _. weight (2 ^ 32) domains.new.items ≤ weight (2 ^ 32) domains.old.items) }
+{
+    if let Some(variable) = variable_at(atom.terms.items(), column as usize) {
+        if is_wanted(&domains[variable as usize], places.len(), longest) {
+            let numbers = numbers_in(alloc, question.numbers, atom.table, column, places)?;
+            let domain = Domain::of(numbers);
+            if narrow(domains, variable, domain) {
+                changed.push(variable)?;
+            }
+        }
+    }
+    Ok(())
+}
+
+/// Cuts the domains of an atom's variables to the numbers that they have in rows that the atom can be. Says whether there is
+/// such a row, and adds the variables that changed to a list.
+///
+/// # Errors
+///
+/// `AllocError` if there is no memory.
+pub(crate) fn cut(
+    alloc: Global,
+    question: &Question<'_, '_>,
+    domains: &mut Vec<Domain>,
+    atom: &PatternAtom,
+    longest: usize,
+    changed: &mut Vec<u32>,
+) -> Result<bool, AllocError>
+    requires { FitsAtom question.now.numbers.now.tables (length domains.old.items) atom.now }
+    ensures kept { IfOk result (λ alive. (a : ℕ → ℕ) → Keeps domains.old.items a
+        → Stands question.now.numbers.now.tables question.now.taken.now a atom.now → (alive ≡ true) × Keeps domains.new.items a) }
+    ensures many { IfOk result (λ _. length domains.new.items ≡ length domains.old.items) }
+    ensures lighter { IfOk result (λ _. weight (2 ^ 32) domains.new.items ≤ weight (2 ^ 32) domains.old.items) }
+{
+    let places = candidates(alloc, question, domains.as_slice(), atom)?;
+    let rows = places.as_slice();
+    if rows.len() == 0 {
+        return Ok(false);
+    }
+    for column in 0..question.numbers.width(atom.table) {
+        cut_column(
+            alloc, question, domains, atom, column, rows, longest, changed,
+        )?;
+    }
+    Ok(true)
+}
+
+/// A node in which a variable that could be anything has the numbers that it has in rows that an atom with it can be.
+///
+/// # Errors
+///
+/// `AllocError` if there is no memory.
+pub(crate) fn list(
+    alloc: Global,
+    question: &Question<'_, '_>,
+    node: &Node,
+    atom: &PatternAtom,
+    column: usize,
+    variable: u32,
+    nodes: &mut Vec<Node>,
+) -> Result<(), AllocError>
+    requires fits { FitsAtom question.now.numbers.now.tables (length node.now.domains.items) atom.now }
+    requires column { column < length atom.now.terms }
+    requires variable { term_at atom.now.terms column ≡ Variable variable }
+    requires unknown { slice_index_or node.now.domains.items variable Any ≡ Any }
+    ensures { IfOk result (λ _. IsBranched (λ a. Stands question.now.numbers.now.tables question.now.taken.now a atom.now)
+        node.now nodes.old.items nodes.new.items) }
+{
+    let places = candidates(alloc, question, node.domains.as_slice(), atom)?;
+    let _wide = question.numbers.width(atom.table);
+    let rows = places.as_slice();
+    let numbers = numbers_in(alloc, question.numbers, atom.table, column as u32, rows)?;
+    let domain = Domain::of(numbers);
+    let listed = node.with(alloc, variable, domain)?;
+    nodes.push(listed)?;
+    Ok(())
+}

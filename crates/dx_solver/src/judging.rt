@@ -1,0 +1,143 @@
+// Whether numbers for the variables are an answer.
+ghost use Rattle.std.specs.Prelude.{◌≡◌, ◌↔◌, ◌<◌, ℕ, IfOk, IfSome, IsTrue, MatchOption, None, length, map, slice_index_or};
+ghost use Rattle.dx_ports.specs.Members.{Each};
+ghost use Rattle.dx_instance.specs.Shown.{numbers_of_table};
+ghost use Rattle.dx_solver.specs.Domains.{IsImage, IsLeft, term_at};
+ghost use Rattle.dx_solver.specs.Questions.{FitsAtom, Stands, answered, number_under};
+ghost use Rattle.dx_solver.specs.declared.domain.Domain.TheVariants.{Any};
+
+use crate::atom::{PatternAtom, Term};
+use crate::domain::Domain;
+use crate::question::Question;
+use crate::rows::{Key, next_place};
+use std::alloc::{AllocError, Global};
+
+// The number that a variable has if at most one is left.
+fn number_left(known: Option<u32>, domain: &Domain) -> u32
+    ensures { IsLeft known domain.now result }
+{
+    if let Some(number) = known {
+        return number;
+    }
+    match domain {
+        Domain::Any => 0,
+        Domain::One(number) => *number,
+        Domain::Many(values) => match values.items().first() {
+            Some(number) => *number,
+            None => 0,
+        },
+    }
+}
+
+// The number of a term.
+fn number_at(xs: &[u32], term: Term) -> u32
+    ensures { result ≡ number_under (answered xs.now) term }
+{
+    match term {
+        Term::Number(number) => number,
+        Term::Variable(variable) => match xs.get(variable as usize) {
+            None => 0,
+            Some(number) => *number,
+        },
+    }
+}
+
+// Whether these terms become this row.
+fn is_row(xs: &[u32], terms: &[Term], row: &[u32]) -> bool
+    requires { length terms.now ≡ length row.now }
+    ensures { IsTrue result ↔ (row.now ≡ map (number_under (answered xs.now)) terms.now) }
+{
+    for column in 0..row.len() {
+        if number_at(xs, terms[column]) != row[column] {
+            return false;
+        }
+    }
+    true
+}
+
+// Whether the row at a place is not taken out, and is what the atom becomes.
+fn is_image(question: &Question<'_, '_>, xs: &[u32], atom: &PatternAtom, place: u32) -> bool
+    requires table { atom.now.table < length question.now.numbers.now.tables }
+    requires width { length atom.now.terms ≡ (numbers_of_table question.now.numbers.now.tables atom.now.table).width }
+    requires place { place < length (numbers_of_table question.now.numbers.now.tables atom.now.table).rows }
+    ensures { IsTrue result
+        ↔ IsImage question.now.numbers.now.tables question.now.taken.now (answered xs.now) atom.now place }
+{
+    if question.taken.has(atom.table, place) {
+        return false;
+    }
+    let row = question.numbers.row(atom.table, place);
+    is_row(xs, atom.terms.items(), row)
+}
+
+// The number in the first column, by which rows are looked up.
+fn first_key(xs: &[u32], terms: &[Term]) -> Option<Key>
+    ensures { IfSome result (λ k. (k.column < length terms.now)
+        × (number_under (answered xs.now) (term_at terms.now k.column) ≡ k.number)) }
+{
+    match terms.first() {
+        None => None,
+        Some(term) => Some(Key {
+            column: 0,
+            number: number_at(xs, *term),
+        }),
+    }
+}
+
+// Whether the atom becomes a row that is not taken out.
+fn stands(question: &Question<'_, '_>, xs: &[u32], atom: &PatternAtom) -> bool
+    requires table { atom.now.table < length question.now.numbers.now.tables }
+    requires width { length atom.now.terms ≡ (numbers_of_table question.now.numbers.now.tables atom.now.table).width }
+    ensures { IsTrue result ↔ Stands question.now.numbers.now.tables question.now.taken.now (answered xs.now) atom.now }
+{
+    let numbers = question.numbers;
+    let count = numbers.count(atom.table);
+    let key = first_key(xs, atom.terms.items());
+    let mut next = 0;
+    while let Some(place) = next_place(numbers, atom.table, key, next) {
+        if is_image(question, xs, atom, place) {
+            return true;
+        }
+        next = place + 1;
+    }
+    let _ = count;
+    false
+}
+
+/// Whether each atom becomes such a row.
+pub(crate) fn all_stand(question: &Question<'_, '_>, xs: &[u32]) -> bool
+    requires { Each question.now.atoms.now (FitsAtom question.now.numbers.now.tables (length question.now.known.now)) }
+    ensures { IsTrue result
+        ↔ Each question.now.atoms.now (Stands question.now.numbers.now.tables question.now.taken.now (answered xs.now)) }
+{
+    let atoms = question.atoms;
+    for atom in atoms {
+        if !stands(question, xs, atom) {
+            return false;
+        }
+    }
+    true
+}
+
+/// For each variable the number that is known, or the one that is left of it.
+///
+/// # Errors
+///
+/// `AllocError` if there is no memory.
+pub(crate) fn numbers_left(
+    alloc: Global,
+    question: &Question<'_, '_>,
+    domains: &[Domain],
+) -> Result<Vec<u32>, AllocError>
+    requires { length domains.now ≡ length question.now.known.now }
+    ensures many { IfOk result (λ xs. length xs.items ≡ length question.now.known.now) }
+    ensures left { IfOk result (λ xs. (v : ℕ) → v < length question.now.known.now
+        → IsLeft (slice_index_or question.now.known.now v None) (slice_index_or domains.now v Any) (answered xs.items v)) }
+{
+    let known = question.known;
+    let mut all = Vec::with_capacity(alloc, known.len())?;
+    for variable in 0..known.len() {
+        all.push(number_left(known[variable], &domains[variable]))?;
+    }
+    Ok(all)
+}

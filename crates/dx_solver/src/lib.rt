@@ -1,0 +1,22 @@
+//! A solver for questions of the kind "can these atoms be rows that are there": numbers for variables are sought, so that each
+//! atom becomes a row of its table that is not taken out (specs/Questions).
+#![tactic(auto)]
+
+mod atom;
+mod choosing;
+mod cutting;
+mod domain;
+mod forward;
+mod judging;
+mod linked;
+mod node;
+mod question;
+mod rows;
+mod solving;
+mod spreading;
+mod taken;
+mod values;
+
+pub use atom::{PatternAtom, Term, Terms};
+pub use solving::solve;
+pub use taken::Taken;

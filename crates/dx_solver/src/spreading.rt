@@ -1,0 +1,190 @@
+// Cutting until nothing changes.
+ghost use Rattle.std.specs.Prelude.{◌≡◌, ◌≤◌, ◌^◌, ℕ, IfOk, length, true};
+ghost use Rattle.dx_ports.specs.Members.{Each};
+ghost use Rattle.dx_solver.specs.Domains.{Keeps, weight};
+ghost use Rattle.dx_solver.specs.Questions.{FitsAtom, Stands};
+
+use crate::atom::{PatternAtom, Term};
+use crate::cutting::cut;
+use crate::domain::Domain;
+use crate::question::Question;
+use std::alloc::{AllocError, Global};
+
+/// A work list: atoms that are to be looked at again, for each variable the atoms that it stands in, how often the atoms of a
+/// variable could be no row, and how long lists may be that are begun. All of it is a matter of time and memory alone.
+#[derive(Drop)]
+pub(crate) struct Agenda {
+    waiting: Vec<usize>,
+    is_waiting: Vec<bool>,
+    atoms_of: Vec<Vec<usize>>,
+    longest: usize,
+}
+
+/// How many numbers all lists together may have.
+const ROOM: usize = 4_000_000;
+
+impl Agenda {
+    /// Nothing to be done yet.
+    ///
+    /// # Errors
+    ///
+    /// `AllocError` if there is no memory.
+    pub(crate) fn new(
+        alloc: Global,
+        atoms: &[PatternAtom],
+        variables: usize,
+    ) -> Result<Agenda, AllocError> {
+        let mut atoms_of = Vec::with_capacity(alloc, variables)?;
+        for _ in 0..variables {
+            atoms_of.push(Vec::new(alloc))?;
+        }
+        for place in 0..atoms.len() {
+            note_atom(&mut atoms_of, atoms[place].terms.items(), place)?;
+        }
+        Ok(Agenda {
+            waiting: Vec::new(alloc),
+            is_waiting: vec![in alloc; false; atoms.len()]?,
+            atoms_of,
+            longest: ROOM / variables.max(1),
+        })
+    }
+
+    // An atom more to be looked at.
+    fn add(&mut self, atom: usize) -> Result<(), AllocError> {
+        if let Some(waits) = self.is_waiting.get_mut(atom) {
+            if !*waits {
+                *waits = true;
+                self.waiting.push(atom)?;
+            }
+        }
+        Ok(())
+    }
+
+    // The atoms of a variable.
+    fn add_atoms_of(&mut self, variable: u32) -> Result<(), AllocError> {
+        for place in 0..self.count_of(variable) {
+            if let Some(atom) = self.atom_of(variable, place) {
+                self.add(atom)?;
+            }
+        }
+        Ok(())
+    }
+
+    // In how many atoms a variable stands.
+    fn count_of(&self, variable: u32) -> usize {
+        match self.atoms_of.get(variable as usize) {
+            None => 0,
+            Some(atoms) => atoms.len(),
+        }
+    }
+
+    // One of the atoms that a variable stands in.
+    fn atom_of(&self, variable: u32, place: usize) -> Option<usize> {
+        match self.atoms_of.get(variable as usize) {
+            None => None,
+            Some(atoms) => atoms.get(place).copied(),
+        }
+    }
+
+    // Nothing to be done.
+    fn clear(&mut self) {
+        for _ in 0..self.waiting.len() {
+            self.next();
+        }
+    }
+
+    // The atoms of a variable are to be looked at, or all.
+    fn begin(&mut self, changed: Option<u32>, atoms: usize) -> Result<(), AllocError> {
+        if let Some(variable) = changed {
+            return self.add_atoms_of(variable);
+        }
+        for atom in 0..atoms {
+            self.add(atom)?;
+        }
+        Ok(())
+    }
+
+    // The next atom to be looked at.
+    fn next(&mut self) -> Option<usize> {
+        let atom = self.waiting.pop()?;
+        if let Some(waits) = self.is_waiting.get_mut(atom) {
+            *waits = false;
+        }
+        Some(atom)
+    }
+}
+
+// Notes that the atom at a place has the variables among these terms.
+fn note_atom(
+    atoms_of: &mut Vec<Vec<usize>>,
+    terms: &[Term],
+    place: usize,
+) -> Result<(), AllocError> {
+    for term in terms {
+        if let Term::Variable(variable) = term {
+            if let Some(atoms) = atoms_of.get_mut(*variable as usize) {
+                atoms.push(place)?;
+            }
+        }
+    }
+    Ok(())
+}
+
+// Cuts by one atom. The atoms of the variables that changed are to be looked at again.
+fn spread_one(
+    alloc: Global,
+    question: &Question<'_, '_>,
+    agenda: &mut Agenda,
+    domains: &mut Vec<Domain>,
+    atom: &PatternAtom,
+) -> Result<bool, AllocError>
+    requires { FitsAtom question.now.numbers.now.tables (length domains.old.items) atom.now }
+    ensures kept { IfOk result (λ alive. (a : ℕ → ℕ) → Keeps domains.old.items a
+        → Stands question.now.numbers.now.tables question.now.taken.now a atom.now → (alive ≡ true) × Keeps domains.new.items a) }
+    ensures many { IfOk result (λ _. length domains.new.items ≡ length domains.old.items) }
+    ensures lighter { IfOk result (λ _. weight (2 ^ 32) domains.new.items ≤ weight (2 ^ 32) domains.old.items) }
+{
+    let mut changed = Vec::new(alloc);
+    let alive = cut(alloc, question, domains, atom, agenda.longest, &mut changed)?;
+    for variable in &changed {
+        agenda.add_atoms_of(*variable)?;
+    }
+    Ok(alive)
+}
+
+/// Cuts until nothing changes. Says whether each atom can be a row.
+///
+/// # Errors
+///
+/// `AllocError` if there is no memory.
+pub(crate) fn spread(
+    alloc: Global,
+    question: &Question<'_, '_>,
+    agenda: &mut Agenda,
+    domains: &mut Vec<Domain>,
+    changed: Option<u32>,
+) -> Result<bool, AllocError>
+    requires { Each question.now.atoms.now (FitsAtom question.now.numbers.now.tables (length domains.old.items)) }
+    ensures kept { IfOk result (λ alive. (a : ℕ → ℕ) → Keeps domains.old.items a
+        → Each question.now.atoms.now (Stands question.now.numbers.now.tables question.now.taken.now a)
+        → (alive ≡ true) × Keeps domains.new.items a) }
+    ensures many { IfOk result (λ _. length domains.new.items ≡ length domains.old.items) }
+    ensures lighter { IfOk result (λ _. weight (2 ^ 32) domains.new.items ≤ weight (2 ^ 32) domains.old.items) }
+{
+    let atoms = question.atoms;
+    agenda.begin(changed, atoms.len())?;
+    for _ in 0..u64::MAX {
+        let Some(place) = agenda.next() else {
+            return Ok(true);
+        };
+        if place >= atoms.len() {
+            return Ok(true);
+        }
+        let alive = spread_one(alloc, question, agenda, domains, &atoms[place])?;
+        if !alive {
+            agenda.clear();
+            return Ok(false);
+        }
+    }
+    Ok(true)
+}
