@@ -1,15 +1,14 @@
 -- A conclusion in an instance of values, and its atoms of numbers among rows of numbers.
-use Rattle.std.proofs.Common.{◌≡◌, ◌↔◌, ◌∙◌, ℕ, zero, suc, ◌<◌, Bool, true, false, cond, inl, inr, List, [], ◌∷◌, length, get_or, refl, sym, ap, subst, arith}
-use Rattle.std.specs.Prelude.{IsTrue, MatchOption, None, Option, Some, map}
+use Rattle.std.proofs.Common.{◌≡◌, ◌↔◌, ◌∙◌, ℕ, zero, suc, ◌+◌, ◌<◌, ◌++◌, take, Bool, true, false, cond, inl, inr, List, [], ◌∷◌, length, get_or, refl, sym, ap, subst, arith, Result, Ok, Err}
+use Rattle.std.specs.Prelude.{IfOk, IsTrue, MatchOption, None, Option, Some, map, replicate, is_some}
 use Rattle.std.specs.List.{AllZip}
-use Rattle.std.specs.Option.{is_some}
 use Rattle.std.proofs.lemmas.Bool.{cases_Bool, true≢false}
-use Rattle.std.proofs.lemmas.List.{length-map, length_all_zip}
+use Rattle.std.proofs.lemmas.List.{length-map, take_more}
+use Rattle.std.specs.declared.alloc.AllocError.{AllocError}
 use Rattle.dx_ports.specs.Members.{◌∈◌, here, there, Each}
 use Rattle.dx_ports.proofs.Members.{from_flat_map, from_map, in_at, in_map}
 use Rattle.dx_model.specs.declared.values.Value.{Value}
 use Rattle.dx_model.specs.declared.values.Value.TheVariants.{Const}
-use Rattle.dx_model.specs.declared.facts.Fact.{Fact}
 use Rattle.dx_model.specs.declared.rules.Cell.{Cell}
 use Rattle.dx_model.specs.declared.rules.Cell.TheVariants.{Var, Ex, Lit}
 use Rattle.dx_model.specs.declared.rules.Atom.{Atom}
@@ -23,18 +22,18 @@ use Rattle.dx_instance.specs.Numbers.{AreApart, value_of}
 use Rattle.dx_instance.specs.Shown.{AreBelow, PartsFit, numbers_of_table, shown, shown_row, shown_tables}
 use Rattle.dx_instance.specs.Stored.{TableRows, facts, rows_of, table_at, widths}
 use Rattle.dx_instance.proofs.NumberFacts.{there_at}
-use Rattle.dx_instance.proofs.ShownFacts.{fits_in, is_shown, number_same, numbers_below}
+use Rattle.dx_instance.proofs.ShownFacts.{is_shown, number_same}
 use Rattle.dx_instance.proofs.StoredFacts.{fact_from_row, fact_table, row_from_fact}
 use Rattle.dx_tgd.proofs.Tables.{wide_table}
 use Rattle.dx_solver.specs.declared.atom.Term.{Term}
-use Rattle.dx_solver.specs.declared.atom.Term.TheVariants.{Number, Variable}
+use Rattle.dx_solver.specs.declared.atom.Term.TheVariants.{Variable}
 use Rattle.dx_solver.specs.declared.atom.PatternAtom.{PatternAtom}
-use Rattle.dx_solver.specs.Questions.{Stands, number_under, row_under}
-use Rattle.dx_implies.specs.Asking.{HasNowhere, IsNowhere, IsWide, SaysAtom, SaysCell, SaysText}
+use Rattle.dx_solver.specs.Questions.{Solves, Stands, number_under, row_under}
+use Rattle.dx_implies.specs.Asking.{HasNowhere, IsNowhere, IsWide, SaysAtom, SaysCell}
 
 -- ---- the number of a value
 
-number_of : List Value → Value → ℕ
+abbrev number_of : List Value → Value → ℕ
 number_of [] v = zero
 number_of (s ∷ S) v = cond (same_value s v) zero (suc (number_of S v))
 
@@ -113,25 +112,25 @@ row_place [] r m = elim m [ ]
 row_place (x ∷ rows) r (here e) = (zero, omega arith, e)
 row_place (x ∷ rows) r (there m) = let w = row_place rows r m in (suc w.0, omega (arith, w.1), w.2)
 
+-- an item doesn't depend on what stands for one that is not there
+pub same_default : {X : Type 0} (us : List X) (k : ℕ) (d e : X) → k < length us → get_or us k d ≡ get_or us k e
+same_default [] k d e l = absurd (omega (arith, l))
+same_default (u ∷ us) zero d e l = refl
+same_default (u ∷ us) (suc k) d e l = same_default us k d e (omega (arith, l))
+
 -- ---- tables
 
 module _ (S : List Value) (ts : List NumberTable) (fit : PartsFit S ts) (freeze : ℕ → Text) where
-  I : List TableRows
+  abbrev I : List TableRows
   I = shown_tables S ts
 
   rows_shown : (t : ℕ) → t < length ts → rows_of I t ≡ map (shown_row S) (numbers_of_table ts t).rows
-  rows_shown t h = ap (λ (u : TableRows). u.rows) (is_shown S ts t (numbers_of_table ts t) h (table_is t h))
-    where
-      table_is : (t : ℕ) → t < length ts → numbers_of_table ts t ≡ get_or ts t (numbers_of_table ts t)
-      table_is t h = same_default ts t (record { width = 0; rows = [] }) (numbers_of_table ts t) h
-
-      same_default : (us : List NumberTable) (k : ℕ) (d e : NumberTable) → k < length us → get_or us k d ≡ get_or us k e
-      same_default [] k d e l = absurd (omega (arith, l))
-      same_default (u ∷ us) zero d e l = refl
-      same_default (u ∷ us) (suc k) d e l = same_default us k d e (omega (arith, l))
+  rows_shown t h =
+      ap (λ (u : TableRows). u.rows)
+      (is_shown S ts t (numbers_of_table ts t) h (same_default ts t (record { width = 0; rows = [] }) (numbers_of_table ts t) h))
 
   table_there : (t : ℕ) → t < length I → t < length ts
-  table_there t h = omega (arith, h, length-map ts (shown S))
+  table_there t h = let l : length I ≡ length ts = length-map ts (shown S) in subst (λ (n : ℕ). t < n) l h
 
   below : (t : ℕ) (r : List ℕ) → t < length ts → r ∈ (numbers_of_table ts t).rows → AreBelow (length S) r
   below t r h m = (fit.each (numbers_of_table ts t) (in_at ts t (record { width = 0; rows = [] }) h)).within r m
@@ -193,13 +192,13 @@ module _ (S : List Value) (ts : List NumberTable) (fit : PartsFit S ts) (freeze 
         length_zip R (x ∷ xs) [] z = absurd z
         length_zip R (x ∷ xs) (y ∷ ys) z = ap suc (length_zip R xs ys z.1)
 
-        wide_shown : (t : ℕ) → t < length ts → (table_at I t).width ≡ (numbers_of_table ts t).width
-        wide_shown t h = shown_width ts t h
-
         shown_width : (us : List NumberTable) (k : ℕ) → k < length us → (table_at (shown_tables S us) k).width ≡ (numbers_of_table us k).width
         shown_width [] k l = absurd (omega (arith, l))
         shown_width (u ∷ us) zero l = refl
         shown_width (u ∷ us) (suc k) l = shown_width us k (omega (arith, l))
+
+        wide_shown : (t : ℕ) → t < length ts → (table_at I t).width ≡ (numbers_of_table ts t).width
+        wide_shown t h = shown_width ts t h
 
     pub all_stand : (all : List PatternAtom) → AllZip (SaysAtom S freeze) atoms all
         → ((values : ℕ → Value) × Each atoms (λ a. said freeze values a ∈ facts I)) ↔ ((f : ℕ → ℕ) × Each all (Stands ts [] f))
@@ -215,3 +214,81 @@ module _ (S : List Value) (ts : List NumberTable) (fit : PartsFit S ts) (freeze 
             atom_said w.0 a p.0 (table_there a.table (wide_table I a.table (length a.cells) (wide a m)).0) p.2 (w.1 p.0 p.1),
       )),
     )
+
+pub same_variable : (v w : ℕ) → ◌≡◌ {A = Term} (Variable v) (Variable w) → v ≡ w
+same_variable v w e = cc
+
+pub none_left : {X : Type 0} (A : Type 0) (B : X → Type 0) (o : Option X) → MatchOption o A B → ((x : X) → ¬ (o ≡ Some x)) → A
+none_left A B None m n = m
+none_left A B (Some x) m n = absurd (n x refl)
+
+pub some_left : {X : Type 0} (A : Type 0) (B : X → Type 0) (o : Option X) (x : X) → o ≡ Some x → MatchOption o A B → B x
+some_left {X} A B o x e m = subst (λ (p : Option X). MatchOption p A B) e m
+
+-- one item more of each
+pub zip_more : {X Y : Type 0} (R : X → Y → Type 0) (xs : List X) (ys : List Y) (i : ℕ) (x : X) (y : Y) → i < length xs → x ≡ get_or xs i x
+    → AllZip R (take i xs) ys → R x y → AllZip R (take (i + 1) xs) (ys ++ y ∷ [])
+zip_more {X} {Y} R xs ys i x y h e z r =
+    subst (λ (l : List X). AllZip R l (ys ++ y ∷ [])) (ap (λ (w : X). take i xs ++ w ∷ []) e ∙ sym (take_more xs i x h)) (push (take i xs) ys z)
+  where
+    push : (us : List X) (vs : List Y) → AllZip R us vs → AllZip R (us ++ x ∷ []) (vs ++ y ∷ [])
+    push [] [] z = (r, tt)
+    push [] (v ∷ vs) z = absurd z
+    push (u ∷ us) [] z = absurd z
+    push (u ∷ us) (v ∷ vs) z = (z.0, push us vs z.1)
+
+-- ---- what the solver answers
+
+abbrev nothing : Option ℕ
+nothing = None
+
+none_known : (n v : ℕ) → get_or (replicate n nothing) v nothing ≡ nothing
+none_known zero v = refl
+none_known (suc n) zero = refl
+none_known (suc n) (suc v) = none_known n v
+
+no_number : (n : ℕ) → ◌≡◌ {A = Option ℕ} None (Some n) → ⊥
+no_number n e = cc
+
+pub answer_stands : {X : Type 0} (answered_by : X → ℕ → ℕ) (ts : List NumberTable) (out : List (List Bool)) (atoms : List PatternAtom) (known : List (Option ℕ)) (n : ℕ)
+    (o : Option X) (b : Bool) → out ≡ [] → known ≡ replicate n nothing
+    → MatchOption o ((a : ℕ → ℕ) → ¬ (Solves ts out atoms known a)) (λ xs. Solves ts out atoms known (answered_by xs)) → b ≡ is_some o
+    → IsTrue b ↔ ((a : ℕ → ℕ) × Each atoms (Stands ts [] a))
+answer_stands f ts out atoms known n None b e k m d = (
+  (λ y. absurd (true≢false (sym y ∙ d))),
+  (λ w. absurd (m w.0 (record {
+    stands = subst (λ (z : List (List Bool)). Each atoms (Stands ts z w.0)) (sym e) w.1;
+    keeps = λ v x h. absurd (no_number x (sym (ap (λ (l : List (Option ℕ)). get_or l v nothing) k ∙ none_known n v) ∙ h));
+  }))),
+)
+answer_stands f ts out atoms known n (Some xs) b e k m d = (
+  (λ y. (f xs, subst (λ (z : List (List Bool)). Each atoms (Stands ts z (f xs))) e m.stands)),
+  (λ w. d),
+)
+
+pub none_of : {X : Type 0} (A : Type 0) (B : X → Type 0) (o : Option X) → o ≡ None → MatchOption o A B → A
+none_of {X} A B o e m = subst (λ (p : Option X). MatchOption p A B) e m
+
+-- ---- whether a conclusion stands in an instance
+
+module _ (S : List Value) (ts : List NumberTable) (fit : PartsFit S ts) (freeze : ℕ → Text) (J : List TableRows) (atoms : List Atom) (shows : shown_tables S ts ≡ J)
+    (wide : AtomsFitWidths (widths J) atoms) where
+  abbrev Said : List TableRows → Type 0
+  Said K = (values : ℕ → Value) × Each atoms (λ a. said freeze values a ∈ facts K)
+
+  wide_shown : AtomsFitWidths (widths (shown_tables S ts)) atoms
+  wide_shown = subst (λ (K : List TableRows). AtomsFitWidths (widths K) atoms) (sym shows) wide
+
+  pub told_none : HasNowhere S freeze (cells_of atoms) → IsTrue false ↔ Said J
+  told_none n = (
+    (λ y. absurd (true≢false (sym y))),
+    (λ w. absurd (none_stand S ts fit freeze atoms wide_shown n (subst Said (sym shows) w))),
+  )
+
+  pub told_some : (all given : List PatternAtom) (r : Result Bool AllocError) → given ≡ all → AllZip (SaysAtom S freeze) atoms all
+      → IfOk r (λ b. IsTrue b ↔ ((a : ℕ → ℕ) × Each given (Stands ts [] a))) → IfOk r (λ b. IsTrue b ↔ Said J)
+  told_some all given (Ok b) e z h =
+      let k : IsTrue b ↔ ((a : ℕ → ℕ) × Each all (Stands ts [] a)) = subst (λ (ps : List PatternAtom). IsTrue b ↔ ((a : ℕ → ℕ) × Each ps (Stands ts [] a))) e h in
+      let s = all_stand S ts fit freeze atoms wide_shown all z in
+      ((λ y. subst Said shows (s.1 (k.0 y))), (λ w. k.1 (s.0 (subst Said (sym shows) w))))
+  told_some all given (Err x) e z h = tt

@@ -1,5 +1,5 @@
 -- The conclusion of a rule as atoms of numbers, in which its existential variables stand.
-use Rattle.std.specs.Prelude.{◌≡◌, ℕ, ◌<◌, List, Option, MatchOption, length}
+use Rattle.std.specs.Prelude.{◌≡◌, ℕ, ◌<◌, List, length}
 use Rattle.std.specs.List.{AllZip}
 use Rattle.dx_ports.specs.Members.{◌∈◌}
 use Rattle.dx_model.specs.declared.values.Value.{Value}

@@ -1,5 +1,5 @@
 // The conclusion of a rule as a question: whether its atoms are rows of an instance.
-ghost use Rattle.std.specs.Prelude.{◌≡◌, ◌<◌, ℕ, IfOk, MatchOption};
+ghost use Rattle.std.specs.Prelude.{◌≡◌, ◌<◌, ◌≤◌, ℕ, IfOk, MatchOption};
 ghost use Rattle.std.specs.List.{AllZip};
 ghost use Rattle.dx_ports.specs.Members.{◌∈◌, Each};
 ghost use Rattle.dx_model.specs.Following.{frozen_text as frozen_text_of};
@@ -39,10 +39,7 @@ fn term_of(
 {
     match cell {
         Cell::Ex(variable) => Ok(Some(Term::Variable(*variable))),
-        Cell::Var(variable) => Ok(number_term(
-            frozen_text(alloc, prefix, *variable)?,
-            numbers,
-        )),
+        Cell::Var(variable) => Ok(number_term(frozen_text(alloc, prefix, *variable)?, numbers)),
         Cell::Lit(text) => Ok(number_term(text.copy()?, numbers)),
     }
 }
@@ -90,6 +87,14 @@ pub(crate) fn atoms_of(
     Ok(Some(all))
 }
 
+/// The greater of two numbers.
+fn greater(a: usize, b: usize) -> usize
+    ensures first { a ≤ result }
+    ensures second { b ≤ result }
+{
+    if a < b { b } else { a }
+}
+
 /// The greater of a number and those after the variables of an atom.
 fn above_terms(terms: &[Term], least: usize) -> usize
     ensures least { least ≤ result }
@@ -98,7 +103,7 @@ fn above_terms(terms: &[Term], least: usize) -> usize
     let mut above = least;
     for term in terms {
         if let Term::Variable(variable) = term {
-            above = above.max(*variable as usize + 1);
+            above = greater(above, *variable as usize + 1);
         }
     }
     above

@@ -1,5 +1,5 @@
 // Whether a rule follows from others.
-ghost use Rattle.std.specs.Prelude.{◌≡◌, ◌↔◌, ◌<◌, ◌≤◌, ◌-◌, ◌^◌, ◌∷◌, [], ℕ, IfErr, IfOk, IsTrue, OnOk, length};
+ghost use Rattle.std.specs.Prelude.{◌≡◌, ◌↔◌, ◌<◌, ◌≤◌, ◌-◌, ◌^◌, ◌∷◌, [], ℕ, IfErr, IfOk, IsTrue, None, OnOk, length, replicate};
 ghost use Rattle.dx_ports.specs.Members.{◌∈◌, ◌≈◌, Each};
 ghost use Rattle.dx_model.specs.declared.values.Value.{Value as AnyValue};
 ghost use Rattle.dx_model.specs.declared.rules.Rule.{Rule as RuleOf};
@@ -31,6 +31,18 @@ use dx_tgd::{CanonFault, Made, canonical_plain};
 use std::alloc::{AllocError, Global};
 use std::slice::from_ref;
 
+/// No number for so many variables.
+#[tactic(auto, using(std::proofs::lemmas::List::replicate_more))]
+fn nothing_known(alloc: Global, count: usize) -> Result<Vec<Option<u32>>, AllocError>
+    ensures { IfOk result (λ known. known.items ≡ replicate count None) }
+{
+    let mut known = Vec::with_capacity(alloc, count)?;
+    for _ in 0..count {
+        known.push(None)?;
+    }
+    Ok(known)
+}
+
 /// Whether atoms of numbers can be rows of the instance, with some numbers for their variables.
 fn can_stand(
     alloc: Global,
@@ -40,7 +52,7 @@ fn can_stand(
     requires { Each atoms.now (IsWide numbers.now.tables) }
     ensures { IfOk result (λ b. IsTrue b ↔ ((a : ℕ → ℕ) × Each atoms.now (Stands numbers.now.tables [] a))) }
 {
-    let known = vec![in alloc; None; above_atoms(atoms)]?;
+    let known = nothing_known(alloc, above_atoms(atoms))?;
     let taken = Taken::none(alloc);
     let answer = solve(alloc, numbers, &taken, atoms, &known)?;
     Ok(answer.is_some())
