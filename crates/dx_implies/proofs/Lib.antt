@@ -4,4 +4,5 @@ pub mod Near
 pub mod Pruned
 pub mod Premises
 pub mod Answered
+mod Asked
 pub mod Examples

@@ -1,5 +1,5 @@
 // Whether a rule follows from others.
-ghost use Rattle.std.specs.Prelude.{◌≡◌, ◌↔◌, ◌<◌, ◌≤◌, ◌-◌, ◌^◌, ◌∷◌, [], ℕ, IfErr, IfOk, IsTrue, OnOk, length};
+ghost use Rattle.std.specs.Prelude.{◌≡◌, ◌↔◌, ◌<◌, ◌≤◌, ◌-◌, ◌^◌, ◌∷◌, [], ℕ, IfErr, IfOk, IsTrue, None, OnOk, length, replicate};
 ghost use Rattle.dx_ports.specs.Members.{◌∈◌, ◌≈◌, Each};
 ghost use Rattle.dx_model.specs.declared.values.Value.{Value as AnyValue};
 ghost use Rattle.dx_model.specs.declared.rules.Rule.{Rule as RuleOf};
@@ -9,24 +9,54 @@ ghost use Rattle.dx_model.specs.Rules.{AreRows, canonical, said};
 ghost use Rattle.dx_model.specs.Values.{Conversions};
 ghost use Rattle.dx_schema.specs.Tables.{model_tables, schema_widths};
 ghost use Rattle.dx_instance.specs.Stored.{facts, widths};
+ghost use Rattle.dx_solver.specs.Questions.{Stands};
 ghost use Rattle.dx_tgd.specs.Counting.{canonical_cells};
 ghost use Rattle.dx_tgd.specs.Found.{IsRefusal as IsTooLarge};
+ghost use Rattle.dx_implies.specs.Asking.{IsWide};
 ghost use Rattle.dx_implies.specs.Frozen.{IsRefusal, PassesFrozen};
 
-use crate::freezing::{frozen_rule_of, frozen_with};
+use crate::asking::{above_atoms, atoms_of};
+use crate::freezing::frozen_with;
 use crate::host::NoConversions;
 use crate::nearby::near_rules;
 use crate::prefixes::{marks, marks_in};
 use crate::refusing::told_as_frozen;
 use dx_funcs::Host;
-use dx_holds::{Room, satisfied};
-use dx_instance::Instance;
-use dx_model::{Places, Rule, Tuples};
+use dx_instance::{Instance, Numbers};
+use dx_model::Rule;
 use dx_ports::{Items, Text};
 use dx_schema::Schema;
+use dx_solver::{PatternAtom, Taken, solve};
 use dx_tgd::{CanonFault, Made, canonical_plain};
 use std::alloc::{AllocError, Global};
 use std::slice::from_ref;
+
+/// No number for so many variables.
+#[tactic(auto, using(std::proofs::lemmas::List::replicate_more))]
+fn nothing_known(alloc: Global, count: usize) -> Result<Vec<Option<u32>>, AllocError>
+    ensures { IfOk result (λ known. known.items ≡ replicate count None) }
+{
+    let mut known = Vec::with_capacity(alloc, count)?;
+    for _ in 0..count {
+        known.push(None)?;
+    }
+    Ok(known)
+}
+
+/// Whether atoms of numbers can be rows of the instance, with some numbers for their variables.
+fn can_stand(
+    alloc: Global,
+    numbers: &Numbers<'_>,
+    atoms: &[PatternAtom],
+) -> Result<bool, AllocError>
+    requires { Each atoms.now (IsWide numbers.now.tables) }
+    ensures { IfOk result (λ b. IsTrue b ↔ ((a : ℕ → ℕ) × Each atoms.now (Stands numbers.now.tables [] a))) }
+{
+    let known = nothing_known(alloc, above_atoms(atoms))?;
+    let taken = Taken::none(alloc);
+    let answer = solve(alloc, numbers, &taken, atoms, &known)?;
+    Ok(answer.is_some())
+}
 
 /// Whether the conclusion of the rule stands in the instance, with the texts of its variables and some values of its
 /// existential variables.
@@ -39,12 +69,38 @@ fn has_conclusion(
     requires { AtomsFitWidths (widths instance.now) rule.now.conclusion }
     ensures { IfOk result (λ b. IsTrue b ↔ ((values : ℕ → AnyValue) × Each rule.now.conclusion (λ a. said (frozen_text prefix.now) values a ∈ facts instance.now))) }
 {
-    let conclusion = frozen_rule_of(alloc, rule, prefix)?;
-    let place = Places {
-        tuples: Tuples::of_texts(0, 1, Vec::new(alloc)),
-    };
-    let mut room = Room::reserve(alloc, from_ref(&conclusion))?;
-    Ok(satisfied(&conclusion, &place, instance, &mut room))
+    let numbers = instance.numbers();
+    match atoms_of(alloc, rule.conclusion.items(), prefix, &numbers)? {
+        None => Ok(false),
+        Some(atoms) => can_stand(alloc, &numbers, &atoms),
+    }
+}
+
+/// Makes an index of each column.
+fn index_all(instance: &mut Instance) -> Result<(), AllocError>
+    ensures { OnOk result (instance.new ≡ instance.old) }
+{
+    for table in 0..instance.tables() {
+        for column in 0..instance.width(table) {
+            instance.index(table, column)?;
+        }
+    }
+    Ok(())
+}
+
+/// The same of an instance that is given away: it gets an index of each column.
+fn stands_in(
+    alloc: Global,
+    rule: &Rule,
+    prefix: &Text,
+    instance: Instance,
+) -> Result<bool, AllocError>
+    requires { AtomsFitWidths (widths instance) rule.now.conclusion }
+    ensures { IfOk result (λ b. IsTrue b ↔ ((values : ℕ → AnyValue) × Each rule.now.conclusion (λ a. said (frozen_text prefix.now) values a ∈ facts instance))) }
+{
+    let mut indexed = instance;
+    index_all(&mut indexed)?;
+    has_conclusion(alloc, rule, prefix, &indexed)
 }
 
 /// What rules without derived variables make of a frozen premise.
@@ -97,7 +153,7 @@ pub(crate) fn follows(
     let premise = frozen_with(alloc, rule, prefix, source)?;
     let near = near_rules(alloc, others, &premise)?;
     match made_of(alloc, near.as_slice(), &premise, target, limit) {
-        Ok(made) => Ok(has_conclusion(alloc, rule, prefix, &made.instance)?),
+        Ok(made) => Ok(stands_in(alloc, rule, prefix, made.instance)?),
         Err(fault) => Err(told_as_frozen(fault)),
     }
 }

@@ -8,6 +8,7 @@
 //! laws: each list has exactly one pruned list, unless it passes the limit; what the cells are does not depend on the texts.
 #![tactic(auto)]
 
+mod asking;
 mod copying;
 mod freezing;
 mod host;
