@@ -14,7 +14,7 @@ use Rattle.dx_model.proofs.Deciding.{none_derived}
 use Rattle.dx_schema.specs.Forest.{Forest}
 use Rattle.dx_schema.specs.Faults.{is_among}
 use Rattle.dx_schema.specs.Links.{IsFaultless}
-use Rattle.dx_schema.specs.Tables.{TableOf, model_tables, tables_of}
+use Rattle.dx_schema.specs.Tables.{TableOf, model_tables, tables_of, no_table}
 use Rattle.dx_schema.proofs.Valid.{are_tables}
 use Rattle.dx_schema_text.specs.declared.texts.AtomText.{AtomText}
 use Rattle.dx_schema_text.specs.declared.texts.MappingText.{MappingText}
@@ -35,7 +35,7 @@ use Rattle.clio_accept.proofs.LineRules.{AreRead}
 use Rattle.clio_accept.proofs.Closed.{closed_fits, closed_of}
 
 -- a table has at most 64 columns, and what is none has none
-table_few : (ts : List TableOf) (t : ℕ) → Each ts (λ t. length t.columns ≤ 64) → length (slice_index_or ts t (record { name = []; columns = []; keys = []; links = []; parent = None; inner = [] })).columns ≤ 64
+table_few : (ts : List TableOf) (t : ℕ) → Each ts (λ t. length t.columns ≤ 64) → length (slice_index_or ts t no_table).columns ≤ 64
 table_few [] t h = omega arith
 table_few (u ∷ ts) zero h = h u (here refl)
 table_few (u ∷ ts) (suc t) h = table_few ts t (λ v m. h v (there m))

@@ -79,11 +79,12 @@ module _ (c d : Clash) (table other : List ℕ) (key others : List (List ℕ)) (
 
 towns : Forest
 towns =
-    set (record { name = codes "person"; columns = codes "name" ∷ codes "mail" ∷ []; keys = record { columns = codes "mail" ∷ [] } ∷ []; refs = [] }) none
+    set (record { name = codes "person"; columns = codes "name" ∷ codes "mail" ∷ []; keys = record { columns = codes "mail" ∷ [] } ∷ []; deps = []; refs = [] }) none
     (set (record {
       name = codes "town";
       columns = codes "name" ∷ codes "zip" ∷ codes "land" ∷ [];
       keys = record { columns = codes "zip" ∷ [] } ∷ record { columns = codes "name" ∷ codes "land" ∷ [] } ∷ [];
+      deps = [];
       refs = [];
     }) none none)
 

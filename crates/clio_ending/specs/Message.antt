@@ -32,6 +32,7 @@ count_text counts.Tables = codes "tables"
 count_text counts.Columns = codes "columns"
 count_text counts.Depth = codes "depth"
 count_text counts.Lines = codes "lines"
+count_text counts.Variants = codes "variants"
 count_text counts.Occurrences = codes "occurrences"
 count_text counts.Ways = codes "ways"
 count_text counts.Candidates = codes "candidates"
@@ -39,6 +40,10 @@ count_text counts.Rules = codes "rules"
 count_text counts.SourceCells = codes "source cells"
 count_text counts.TargetCells = codes "target cells"
 count_text counts.FrozenCells = codes "frozen cells"
+count_text counts.QueryBytes = codes "query bytes"
+count_text counts.QueryAtoms = codes "query atoms"
+count_text counts.AnswerCells = codes "answer cells"
+count_text counts.GivenCells = codes "given cells"
 
 -- what is wrong at a place of the mapping text
 abbrev pub text_kind_text : TextKind → Text

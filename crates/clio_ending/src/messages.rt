@@ -27,6 +27,7 @@ fn count_text(count: Count) -> &'static str
         Count::Columns => "columns",
         Count::Depth => "depth",
         Count::Lines => "lines",
+        Count::Variants => "variants",
         Count::Occurrences => "occurrences",
         Count::Ways => "ways",
         Count::Candidates => "candidates",
@@ -34,6 +35,10 @@ fn count_text(count: Count) -> &'static str
         Count::SourceCells => "source cells",
         Count::TargetCells => "target cells",
         Count::FrozenCells => "frozen cells",
+        Count::QueryBytes => "query bytes",
+        Count::QueryAtoms => "query atoms",
+        Count::AnswerCells => "answer cells",
+        Count::GivenCells => "given cells",
     }
 }
 

@@ -8,7 +8,7 @@ use Rattle.dx_instance.specs.NullMaps.{pairs_of}
 use Rattle.dx_instance.specs.Stored.{TableRows}
 use Rattle.dx_schema.specs.Forest.{Forest}
 use Rattle.dx_schema.specs.Inner.{AreAscending}
-use Rattle.dx_schema.specs.Tables.{TableOf, table_at, tables_of}
+use Rattle.dx_schema.specs.Tables.{TableOf, table_at, tables_of, no_table}
 use Rattle.clio_source.specs.Source.{csv_name, json_name, roots}
 use Rattle.clio_source.proofs.Roots.{is_root, names_differ, no_parent}
 use Rattle.clio_files.specs.Files.{AreTableFiles}
@@ -32,9 +32,6 @@ abbrev json_of : Forest → ℕ → Name
 json_of target root = json_name (table_at target root).name
 
 -- ---- tables by their numbers
-
-abbrev no_table : TableOf
-no_table = record { name = []; columns = []; keys = []; links = []; parent = None; inner = [] }
 
 at_place : (ts : List TableOf) (x : TableOf) → x ∈ ts → (i : ℕ) × (i < length ts) × (get_or ts i no_table ≡ x)
 at_place [] x m = elim m [ ]

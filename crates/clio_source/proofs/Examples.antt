@@ -4,15 +4,15 @@ use Rattle.std.specs.Prelude.{Ok, Err}
 use Rattle.dx_ports.specs.Members.{here, there}
 use Rattle.dx_model.specs.declared.values.Value.TheVariants.{Const}
 use Rattle.dx_model.specs.declared.facts.Fact.{Fact}
-use Rattle.dx_schema.specs.Forest.{Forest, none, set}
+use Rattle.dx_schema.specs.Forest.{Forest, none, set, bare}
 use Rattle.clio_source.specs.Agreeing.{IsFlatRoot}
 use Rattle.clio_source.specs.Source.{Read, cells_in, file_at, roots, too_many_cells, with_facts}
 
 abbrev depts : Forest
 depts =
-    set (record { name = codes "dept"; columns = codes "name" ∷ []; keys = []; refs = [] })
-    (set (record { name = codes "emp"; columns = codes "name" ∷ codes "phone" ∷ []; keys = []; refs = [] }) none none)
-    (set (record { name = codes "city"; columns = codes "name" ∷ []; keys = []; refs = [] }) none none)
+    set (bare (codes "dept") (codes "name" ∷ []))
+    (set (bare (codes "emp") (codes "name" ∷ codes "phone" ∷ [])) none none)
+    (set (bare (codes "city") (codes "name" ∷ [])) none none)
 
 -- an inner set is no root
 the_roots : roots depts ≡ 0 ∷ 2 ∷ []

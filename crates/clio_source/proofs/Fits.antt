@@ -16,7 +16,7 @@ use Rattle.dx_instance.specs.Shown.{AreBelow, RowsFit, numbers_of_table, shown_t
 use Rattle.dx_instance.specs.Stored.{IsSorting, TableRows, facts, widths}
 use Rattle.dx_instance.proofs.StoredFacts.{sorting_facts}
 use Rattle.dx_schema.specs.Forest.{Forest}
-use Rattle.dx_schema.specs.Tables.{TableOf, AreTables, as_numbers, model_tables, schema_widths, table_at, tables_of}
+use Rattle.dx_schema.specs.Tables.{TableOf, AreTables, as_numbers, model_tables, schema_widths, table_at, tables_of, no_table}
 use Rattle.dx_schema.proofs.Whole.{widths_more}
 use Rattle.clio_source.specs.declared.reading.Reading.{Reading}
 use Rattle.dx_used.specs.Used.{Agree, Marks, blanked, fact_blanked, marks_at}
@@ -106,9 +106,6 @@ empty_more f n width old now after t a lt wide some is e = record {
 
 abbrev no_numbers : NumberTable
 no_numbers = record { width = 0; rows = [] }
-
-abbrev no_table : TableOf
-no_table = record { name = []; columns = []; keys = []; links = []; parent = None; inner = [] }
 
 abbrev no_width : Table
 no_width = record { width = 0; determinations = []; links = []; optional = [] }

@@ -29,6 +29,7 @@ use Rattle.clio_top.specs.Running.{Filled, Program, asked, exchanges, mapping_st
 use Rattle.clio_top.specs.Demo.{demo_world}
 use Rattle.clio_top.specs.Commands.{stages_of}
 use Rattle.clio_top.specs.Promises.{ClashesAreOfTexts, HasNoSolutionIn, IsClashIn, IsClashOf, NoSolutionIsAClash}
+use Rattle.clio_top.specs.Completing.{DemoIsAClash}
 use Rattle.clio_top.proofs.Mappings.{is_small}
 use Rattle.clio_top.proofs.OverAnything.{said}
 use Rattle.clio_top.proofs.Plans.{rules_fit}
@@ -93,8 +94,17 @@ clash_of P mode p target k table key column (exchange_faults.Clash d) h is = sub
 clash_of P mode p target k table key column (exchange_faults.Limit l) h is = absurd (true≢false (ap is_clash is))
 clash_of P mode p target k table key column exchange_faults.Memory h is = absurd h
 
+-- it is told with the names of the target
+named_of : (P : Program) (mode : Mode) (p : Filled) (target : Forest) (k : Clash) (table : List ℕ) (key : List (List ℕ)) (column : List ℕ) (fault : ExFault)
+    → HasNone P.apply (asked mode p) fault → refusals.Clash k table key column ≡ exchange_refusal target fault
+    → refusals.Clash k table key column ≡ named_clash target k
+unfolding clash_in is_clash
+named_of P mode p target k table key column (exchange_faults.Clash d) h is = is ∙ ap (named_clash target) (sym (same_Some k d (ap clash_in is)))
+named_of P mode p target k table key column (exchange_faults.Limit l) h is = absurd (true≢false (ap is_clash is))
+named_of P mode p target k table key column exchange_faults.Memory h is = absurd h
+
 exchange_clashes : (P : Program) (mode : Mode) (c : World) (k : Clash) (table : List ℕ) (key : List (List ℕ)) (column : List ℕ)
-    → (exchanges P mode).refuses c (tt {0}) (refusals.Clash k table key column) → IsClashIn P mode c k
+    → (exchanges P mode).refuses c (tt {0}) (refusals.Clash k table key column) → IsClashIn P mode c k table key column
 unfolding is_clash
 exchange_clashes P mode c k table key column (inl m) = absurd (true≢false (mapping_never P c (refusals.Clash k table key column) m))
 exchange_clashes P mode c k table key column (inr (M, (text, there, accepted), inl r)) =
@@ -107,10 +117,11 @@ exchange_clashes P mode c k table key column (inr (M, (text, there, accepted), i
   rows = I;
   source = source;
   clash = subst (λ (r : Filled). HasClash P.apply (asked mode r) k) pair_is (clash_of P mode pair pair.0.target k table key column fault none is);
+  named = subst (λ (r : Filled). refusals.Clash k table key column ≡ named_clash r.0.target k) pair_is (named_of P mode pair pair.0.target k table key column fault none is);
 }
 
 clashing_by : (P : Program) (c : World) (words : List (List ℕ)) (d : Command) (k : Clash) (table : List ℕ) (key : List (List ℕ)) (column : List ℕ)
-    → says words ≡ Some d → (stages_of P d).refuses c (tt {0}) (refusals.Clash k table key column) → IsClashOf P c words k
+    → says words ≡ Some d → (stages_of P d).refuses c (tt {0}) (refusals.Clash k table key column) → IsClashOf P c words k table key column
 unfolding is_clash
 clashing_by P c words (Exchanging mode nested) k table key column w r = inl (mode, nested, w, exchange_clashes P mode c k table key column r)
 clashing_by P c words (Showing mode) k table key column w r = absurd (true≢false (mapping_never P c (refusals.Clash k table key column) r))
@@ -138,17 +149,20 @@ clash_there P mode c h =
     of (inr (exchange_faults.Limit l, x)) = let few = h.within x.rows x.are in let many = x.many in absurd (omega (arith, few, many))
     of (inr (exchange_faults.Memory, x)) = absurd x
 
+-- so the exchange is refused
+exchange_refused : (P : Program) (mode : Mode) (c : World) (h : HasNoSolutionIn P c)
+    → (k : Clash) × (exchanges P mode).refuses c (tt {0}) (named_clash h.mapping.target k)
+exchange_refused P mode c h =
+    let k = clash_there P mode c h in (
+      k.0,
+      inr (h.mapping, (h.text, (h.held, h.few), h.accepted), inr ((h.mapping, h.rows), (h.rows, h.source, refl), (exchange_faults.Clash k.0, k.1, refl))),
+    )
+
 pub no_solution : NoSolutionIsAClash
 no_solution P c words mode nested w h =
-    let k = clash_there P mode c h in
-    let named = named_clash h.mapping.target k.0 in (
-      k.0,
-      _,
-      _,
-      _,
-      inr (
-        Exchanging mode nested,
-        ap or_usage w,
-        inr (h.mapping, (h.text, (h.held, h.few), h.accepted), inr ((h.mapping, h.rows), (h.rows, h.source, refl), (exchange_faults.Clash k.0, k.1, refl))),
-      ),
-    )
+    let r = exchange_refused P mode c h in (r.0, _, _, _, inr (Exchanging mode nested, ap or_usage w, r.1))
+
+-- and so is that of a demo, whatever is outside
+pub demo_clashes : DemoIsAClash
+demo_clashes P c words number mode w h =
+    let r = exchange_refused P mode (demo_world number) h in (r.0, _, _, _, inr (Demonstrating number mode, ap or_usage w, r.1))

@@ -7,7 +7,7 @@ use Rattle.std.proofs.lemmas.List.{append-nil, append_assoc, take_all}
 use Rattle.dx_ports.specs.Entries.{Held}
 use Rattle.dx_instance.specs.Stored.{TableRows, rows_of}
 use Rattle.dx_schema.specs.Forest.{Forest}
-use Rattle.dx_schema.specs.Tables.{TableOf, table_at, tables_of}
+use Rattle.dx_schema.specs.Tables.{TableOf, table_at, tables_of, no_table}
 use Rattle.dx_stages.specs.declared.stop.Stop.{Stop}
 use Rattle.dx_stages.specs.declared.stop.Stop.TheVariants as stops
 use Rattle.dx_stages.specs.Worlds.{Agrees, Found, IsTold, World}
@@ -74,7 +74,7 @@ pub counted : (k : ℕ) (f : Forest) (target : List TableRows) (before middle af
     → middle ≡ before ++ counts_text 0 (take k (tables_of f)) target → after ≡ middle ++ line
     → after ≡ before ++ counts_text 0 (take (k + 1) (tables_of f)) target
 counted k f target before middle after name line count h named many is so grown =
-    counts_more k (tables_of f) (record { name = []; columns = []; keys = []; links = []; parent = None; inner = [] }) target before after line h
+    counts_more k (tables_of f) no_table target before after line h
     (is ∙ ap (λ n. n ++ (codes " " ++ (decimal count ++ codes "\n"))) named
     ∙ ap (λ m. (table_at f k).name ++ (codes " " ++ (decimal m ++ codes "\n"))) many)
     (grown ∙ ap (λ m. m ++ line) so)

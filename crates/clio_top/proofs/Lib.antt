@@ -11,3 +11,8 @@ pub mod Clashes
 pub mod Endings
 pub mod Headline
 pub mod OwnNames
+pub mod Asking
+pub mod Reasons
+pub mod Completing
+pub mod Leaving
+pub mod Examples

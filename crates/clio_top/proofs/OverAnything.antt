@@ -1,6 +1,11 @@
 -- What was done was of texts, whether or not the inputs tell what they hold.
-use Rattle.std.proofs.Common.{◌≡◌, ◌⊎◌, ℕ, List, refl, sym, ◌∙◌, ap, subst, inl, inr, Option, Some, None, Ok}
-use Rattle.std.specs.Prelude.{Bool, codes}
+use Rattle.std.proofs.Common.{◌≡◌, ℕ, List, [], length, refl, sym, ◌∙◌, ap, subst, Option, Some, None, Ok, true, false}
+use Rattle.std.specs.Prelude.{Bool}
+use Rattle.std.proofs.lemmas.Bool.{true≢false}
+use Rattle.std.proofs.lemmas.List.{append-nil}
+use Rattle.dx_ports.specs.Entries.{appended}
+use Rattle.dx_model.specs.declared.values.NullId.{NullId}
+use Rattle.dx_instance.specs.Stored.{facts}
 use Rattle.dx_exchange.specs.declared.mode.Mode.{Mode}
 use Rattle.dx_exchange.specs.declared.result.Exchange.{Exchange}
 use Rattle.dx_exchange.specs.Exchanging.{IsExchange}
@@ -8,21 +13,20 @@ use Rattle.dx_stages.specs.Worlds.{World}
 use Rattle.dx_stages.specs.Ending.{Planned, WroteAll, Written}
 use Rattle.clio_accept.specs.declared.mapping.Mapping.{Mapping}
 use Rattle.clio_files.specs.Files.{AreFiles, files_of, summary_of}
-use Rattle.clio_files.specs.Sheets.{Told}
+use Rattle.clio_files.specs.Sheets.{AreNulls, Told}
 use Rattle.clio_ending.specs.declared.ending.Done.{Done}
 use Rattle.clio_ending.specs.declared.ending.Done.TheVariants.{Demo, Exchanged, Shown}
 use Rattle.clio_top.specs.declared.command.Command.{Command}
 use Rattle.clio_top.specs.declared.command.Command.TheVariants.{Demonstrating, Exchanging, Showing}
 use Rattle.clio_top.specs.Words.{or_usage, says}
-use Rattle.clio_top.specs.Running.{Filled, Program, asked, exchanges, mapping_stages}
-use Rattle.clio_top.specs.Demo.{demo_world}
+use Rattle.clio_top.specs.Running.{Filled, Program, asked, exchanges, shown_plan}
+use Rattle.clio_top.specs.Demo.{demo_text, demo_world}
 use Rattle.clio_top.specs.Commands.{stages_of}
-use Rattle.clio_top.specs.Promises.{AskedInOrder, DemosAreOfTheirFiles, ExchangesAreOfTexts, IsDone, IsDoneIn, IsExchangeIn}
-use Rattle.clio_top.proofs.Names.{mapping_asks}
+use Rattle.clio_top.specs.Promises.{DemosAreOfTheirFiles, ExchangesAreOfTexts, IsDemo, IsDemoIn, IsDone, IsDoneIn, IsExchangeIn, IsShown, SaidAlone, ShownAreOfTexts}
 
 -- ---- an exchange in a world
 
-in_world : (P : Program) (mode : Mode) (c : World) (q : Mapping × Exchange) → (exchanges P mode).passes c (tt {0}) q → IsExchangeIn P mode c q.1
+abbrev pub in_world : (P : Program) (mode : Mode) (c : World) (q : Mapping × Exchange) → (exchanges P mode).passes c (tt {0}) q → IsExchangeIn P mode c q.1
 in_world P mode c q (M, (text, there, accepted), (pair, (I, source, pair_is), (x, exchange, q_is))) = record {
   text = text;
   held = there.0;
@@ -64,7 +68,6 @@ done_with : (P : Program) (mode : Mode) (nested : Bool) (c : World) (q : Mapping
     → (exchanges P mode).passes c (tt {0}) q → AreFiles q.0.source q.0.target P.list mode nested q.0.rules q.1 files
     → p ≡ record { done = Exchanged q.1; files = files_of files; text = summary_of files } → WroteAll p.files p.text before after
     → IsDoneIn P mode nested c q.1 before after
-unfolding in_world
 done_with P mode nested c q files p before after (M, m, (pair, r, (x, exchange, q_is))) are plan wrote =
     let passed : (exchanges P mode).passes c (tt {0}) q = (M, m, (pair, r, (x, exchange, q_is))) in
     let same : q.0 ≡ M = ap (λ (t : Mapping × Exchange). t.0) q_is ∙ ap (λ (t : Filled). t.0) r.2 in
@@ -90,34 +93,74 @@ exchanging_by P c words (Demonstrating number mode) p e before after w (q, x, (n
 pub of_texts : ExchangesAreOfTexts
 of_texts P c words before after e (p, (k, w, passed), is, wrote) = exchanging_by P c words k p e before after (said words k w) passed is wrote
 
-Demos : Program → List (List ℕ) → Exchange → Type 0
-Demos P words e = (number : ℕ) × (mode : Mode) × (says words ≡ Some (Demonstrating number mode)) × IsExchangeIn P mode (demo_world number) e
+-- ---- what is said alone
 
-demo_by : (P : Program) (c : World) (words : List (List ℕ)) (k : Command) (p : Planned Done) (e : Exchange) → says words ≡ Some k
-    → (stages_of P k).passes c (tt {0}) p → p.done ≡ Demo e → Demos P words e
-unfolding Demos demo_of
-demo_by P c words (Exchanging mode nested) p e w (q, x, (files, are, plan)) is =
+appended_none : {A : Type 0} (o : Option (List A)) → appended o [] ≡ o
+appended_none None = refl
+appended_none (Some xs) = ap Some (append-nil xs)
+
+said_alone : (text : List ℕ) (before after : Written) → WroteAll [] text before after → SaidAlone text before after
+said_alone text before after w = record { files = w.put ∙ appended_none before.files; said = w.said }
+
+-- ---- a mapping that is shown
+
+is_shown : Done → Bool
+is_shown (Exchanged e) = false
+is_shown Shown = true
+is_shown (Demo e) = false
+
+showing_by : (P : Program) (c : World) (words : List (List ℕ)) (k : Command) (p : Planned Done) (before after : Written) → says words ≡ Some k
+    → (stages_of P k).passes c (tt {0}) p → p.done ≡ Shown → WroteAll p.files p.text before after → IsShown P c words before after
+unfolding is_shown
+showing_by P c words (Exchanging mode nested) p before after w (q, x, (files, are, plan)) is wrote =
+    absurd (true≢false (sym (ap is_shown is) ∙ ap (λ (r : Planned Done). is_shown r.done) plan))
+showing_by P c words (Showing mode) p before after w (M, (text, there, accepted), plan) is wrote = (
+  mode,
+  w,
+  record {
+    text = text;
+    held = there.0;
+    mapping = M;
+    accepted = accepted;
+    said = said_alone (shown_plan P mode M).text before after (subst (λ (t : Planned Done). WroteAll t.files t.text before after) plan wrote);
+  },
+)
+showing_by P c words (Demonstrating number mode) p before after w (q, x, (ns, are, plan)) is wrote =
+    absurd (true≢false (sym (ap is_shown is) ∙ ap (λ (r : Planned Done). is_shown r.done) plan))
+
+pub of_shown : ShownAreOfTexts
+of_shown P c words before after (p, (k, w, passed), is, wrote) = showing_by P c words k p before after (said words k w) passed is wrote
+
+-- ---- a demo
+
+-- what was said of a demo's exchange
+demo_with : (P : Program) (number : ℕ) (mode : Mode) (q : Mapping × Exchange) (nulls : List NullId) (p : Planned Done) (before after : Written)
+    → (exchanges P mode).passes (demo_world number) (tt {0}) q → AreNulls (facts q.1.target) nulls
+    → p ≡ record { done = Demo q.1; files = []; text = demo_text number q.0 q.1.target (length nulls) } → WroteAll p.files p.text before after
+    → IsDemoIn P number mode q.1 before after
+demo_with P number mode q nulls p before after (M, m, (pair, r, (x, exchange, q_is))) are plan wrote =
+    let passed : (exchanges P mode).passes (demo_world number) (tt {0}) q = (M, m, (pair, r, (x, exchange, q_is))) in
+    let same : q.0 ≡ M = ap (λ (t : Mapping × Exchange). t.0) q_is ∙ ap (λ (t : Filled). t.0) r.2 in
+    record {
+      exchange = in_world P mode (demo_world number) q passed;
+      nulls = nulls;
+      nulls_are = are;
+      said = subst (λ (N : Mapping). SaidAlone (demo_text number N q.1.target (length nulls)) before after) same
+          (said_alone (demo_text number q.0 q.1.target (length nulls)) before after
+          (subst (λ (t : Planned Done). WroteAll t.files t.text before after) plan wrote));
+    }
+
+demo_by : (P : Program) (c : World) (words : List (List ℕ)) (k : Command) (p : Planned Done) (e : Exchange) (before after : Written) → says words ≡ Some k
+    → (stages_of P k).passes c (tt {0}) p → p.done ≡ Demo e → WroteAll p.files p.text before after → IsDemo P words e before after
+unfolding demo_of
+demo_by P c words (Exchanging mode nested) p e before after w (q, x, (files, are, plan)) is wrote =
     absurd (none_some e (sym (ap (λ (r : Planned Done). demo_of r.done) plan) ∙ ap demo_of is))
-demo_by P c words (Showing mode) p e w (M, m, plan) is =
+demo_by P c words (Showing mode) p e before after w (M, m, plan) is wrote =
     absurd (none_some e (sym (ap (λ (r : Planned Done). demo_of r.done) plan) ∙ ap demo_of is))
-demo_by P c words (Demonstrating number mode) p e w (q, x, (ns, are, plan)) is =
+demo_by P c words (Demonstrating number mode) p e before after w (q, x, (ns, are, plan)) is wrote =
     let d = ap (λ (r : Planned Done). demo_of r.done) plan in
     let same : q.1 ≡ e = one_some q.1 e (sym d ∙ ap demo_of is) in
-    (number, mode, w, subst (IsExchangeIn P mode (demo_world number)) same (in_world P mode (demo_world number) q x))
+    (number, mode, w, subst (λ (d : Exchange). IsDemoIn P number mode d before after) same (demo_with P number mode q ns p before after x are plan wrote))
 
 pub of_demos : DemosAreOfTheirFiles
-unfolding Demos
-of_demos P c words before after e (p, (k, w, passed), is, wrote) = demo_by P c words k p e (said words k w) passed is
-
--- ---- what is asked for
-
-asked_by : (P : Program) (c : World) (k : Command) (n : List ℕ) → (stages_of P k).asks c (tt {0}) n
-    → (n ≡ codes "mapping.clio") ⊎ ((M : Mapping) × (mapping_stages P).passes c (tt {0}) M)
-asked_by P c (Exchanging mode nested) n (inl h) = inl (mapping_asks P c tt n h)
-asked_by P c (Exchanging mode nested) n (inr (M, m, h)) = inr (M, m)
-asked_by P c (Showing mode) n h = inl (mapping_asks P c tt n h)
-asked_by P c (Demonstrating number mode) n h = absurd h
-
-pub in_order : AskedInOrder
-in_order P c words n (inl h) = absurd h
-in_order P c words n (inr (k, w, h)) = asked_by P c k n h
+of_demos P c words before after e (p, (k, w, passed), is, wrote) = demo_by P c words k p e before after (said words k w) passed is wrote

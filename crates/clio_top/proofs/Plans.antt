@@ -1,13 +1,17 @@
 -- From the stages of a command to what it writes.
-use Rattle.std.proofs.Common.{◌≡◌, ℕ, zero, suc, ◌<◌, ◌≤◌, List, [], ◌∷◌, length, refl, sym, ◌∙◌, ap, subst, inl, inr, Result, Ok, Err, Option, None, Some, arith}
+use Rattle.std.proofs.Common.{◌≡◌, ℕ, zero, suc, ◌<◌, ◌≤◌, List, [], ◌∷◌, length, get_or, refl, sym, ◌∙◌, ap, subst, inl, inr, Result, Ok, Err, Option, None, Some, arith}
 use Rattle.std.specs.Prelude.{◌==◌, map}
 use Rattle.std.proofs.lemmas.Bool.{cases_Bool, eqb-true}
 use Rattle.csv.specs.Reading.{strip_bom}
 use Rattle.dx_ports.specs.Members.{Each, here, there}
-use Rattle.dx_ports.proofs.Members.{from_append, from_flat_map, from_map}
+use Rattle.dx_ports.proofs.Members.{from_append, from_flat_map, from_map, in_at}
 use Rattle.dx_model.specs.declared.facts.Fact.{Fact}
+use Rattle.dx_model.specs.declared.rules.Rule.{Rule}
+use Rattle.dx_model.specs.declared.values.NullId.{NullId}
 use Rattle.dx_model.specs.Tables.{table_of}
-use Rattle.dx_model.specs.Rules.{canonical}
+use Rattle.dx_model.specs.Rules.{canonical, exported}
+use Rattle.dx_model.specs.Values.{Rows}
+use Rattle.dx_tgd.specs.Placed.{FitTuples, HasPlace}
 use Rattle.dx_instance.specs.Stored.{TableRows, facts, widths}
 use Rattle.dx_schema.specs.Forest.{Forest, none, set}
 use Rattle.dx_schema.specs.Tables.{Placed, TableOf, as_numbers, columns_of, model_tables, placed, schema_widths, sets_of, table_in, tables_of}
@@ -47,7 +51,7 @@ use Rattle.clio_top.proofs.Words.{not_in_word}
 
 -- ---- no table's text begins with a byte order mark
 
-word_unmarked : (w : List ℕ) → IsWord w → strip_bom w ≡ w
+pub word_unmarked : (w : List ℕ) → IsWord w → strip_bom w ≡ w
 unfolding strip_bom
 word_unmarked [] h = refl
 word_unmarked (a ∷ []) h = refl
@@ -86,7 +90,7 @@ no_marks f h t m =
 -- ---- the exchange
 
 pub rules_fit : (P : Program) (M : Mapping) → MappingFits P.list M → Fits P.list M.rules (model_tables M.source) (model_tables M.target)
-rules_fit P M h = record { few = h.few; listed = h.listed; fit = h.fit; closed = h.closed }
+rules_fit P M h = let few = h.few in record { few = omega (arith, few); listed = h.listed; fit = h.fit; closed = h.closed }
 
 pub texts_fit : (P : Program) (M : Mapping) → MappingFits P.list M → FitTexts M.source M.target P.list M.rules
 texts_fit P M h = let few = h.few in record { few = omega (arith, few); fit = h.fit; listed = h.listed }

@@ -148,7 +148,7 @@ files_ready P mode M e h = files_fit P mode M h.rows e h.fits h.exchange
 pub widths_ready : (P : Program) (mode : Mode) (M : Mapping) (e : Exchange) → IsMade P mode M e → widths e.target ≡ schema_widths M.target
 widths_ready P mode M e h = (files_ready P mode M e h).widths_are
 
-plan_exists : (P : Program) (mode : Mode) (nested : Bool) (M : Mapping) (e : Exchange) → IsMade P mode M e
+pub plan_exists : (P : Program) (mode : Mode) (nested : Bool) (M : Mapping) (e : Exchange) → IsMade P mode M e
     → (plan : Planned Done) × IsPlanOf P mode nested M e plan
 plan_exists P mode nested M e h =
     let fs = files_exist M.source M.target P.list mode nested M.rules e (files_fit P mode M h.rows e h.fits h.exchange)
@@ -171,7 +171,7 @@ inside_decided Alike Given w s d = record {
   either = λ c a g. d.either w a g;
 }
 
-demo_exists : (P : Program) (number : ℕ) (M : Mapping) (e : Exchange) → (plan : Planned Done) × IsDemoPlan number M e plan
+pub demo_exists : (P : Program) (number : ℕ) (M : Mapping) (e : Exchange) → (plan : Planned Done) × IsDemoPlan number M e plan
 demo_exists P number M e = let ns = nulls_exist (facts e.target) in (_, (ns.0, ns.1, refl))
 
 demo_decided : (P : Program) (number : ℕ) (mode : Mode) → IsDecided AreAlike Any (demo_stages P number mode)

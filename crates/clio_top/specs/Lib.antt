@@ -3,3 +3,5 @@ pub mod Running
 pub mod Demo
 pub mod Commands
 pub mod Promises
+pub mod Completing
+pub mod Leaving

@@ -1,14 +1,19 @@
 // The laws of a run. The definitions alone carry them: no body computes anything.
-ghost use Rattle.clio_top.specs.Promises.{AskedInOrder, ClashesAreOfTexts, DemosAreOfTheirFiles, ExchangesAreOfTexts, FilesHaveOwnNames, NoSolutionIsAClash, RefusedOrPlanned};
+ghost use Rattle.clio_top.specs.Promises.{AskedInOrder, ClashesAreOfTexts, DemosAreOfTheirFiles, ExchangesAreOfTexts};
+ghost use Rattle.clio_top.specs.Promises.{FilesHaveOwnNames, MemoryIsNoReason, NoSolutionIsAClash, RefusedOrPlanned};
+ghost use Rattle.clio_top.specs.Promises.{ShownAreOfTexts, UsageIsOfWords};
+ghost use Rattle.clio_top.specs.Completing.{DemoIsAClash, DemoIsPlanned, MappingIsShown, SmallIsPlanned, SolutionIsPlanned};
 
 /// There is one reason to refuse a run, or a plan, and never both.
 pub fn refused_or_planned()
     ensures { RefusedOrPlanned }
 {}
 
-/// What a run that is done was made of, and which files it asks for, whether or not the inputs tell what they hold.
+/// What a run that is done was made of, and which files it asks for, whether or not the inputs tell what they hold: an exchange for
+/// the mapping text and then, if that is accepted, for the source files in order; to show for the mapping text alone; a demo for none.
 pub fn over_anything()
     ensures exchange { ExchangesAreOfTexts }
+    ensures shown { ShownAreOfTexts }
     ensures demo { DemosAreOfTheirFiles }
     ensures asked { AskedInOrder }
 {}
@@ -18,6 +23,26 @@ pub fn over_anything()
 pub fn clash_exactly_without_solution()
     ensures clash { ClashesAreOfTexts }
     ensures none { NoSolutionIsAClash }
+{}
+
+/// If there is a solution within the limits, an exchange is planned; an accepted mapping is shown; and so is the exchange of a demo's
+/// files planned, or there is a clash.
+pub fn planned_if_there_is_something()
+    ensures exchange { SolutionIsPlanned }
+    ensures shown { MappingIsShown }
+    ensures demo { DemoIsPlanned }
+    ensures demo_clash { DemoIsAClash }
+{}
+
+/// There is a world in which an exchange is planned in each mode: a mapping of employees to persons, and two employees.
+pub fn an_exchange_is_planned()
+    ensures { SmallIsPlanned }
+{}
+
+/// A run is refused with `Usage` exactly if its words say no command. Want of memory is no reason to refuse.
+pub fn usage_is_of_words()
+    ensures usage { UsageIsOfWords }
+    ensures memory { MemoryIsNoReason }
 {}
 
 /// No two files that an exchange writes have one name.

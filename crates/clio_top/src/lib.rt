@@ -3,8 +3,9 @@
 //! `run` does what the words say: it shows the rules of a mapping and their script, exchanges data under it, or exchanges the
 //! files of a demo. Its contract is a record (dx_stages, specs/Ending, `Runs`) of one row of stages (specs/Commands, `run_stages`):
 //! there is a look-up from names to bytes, which is what the inputs hold if they tell, in which the run ended so for its reason, and
-//! it left what it had to. Two clauses more say what a finished exchange and a clash come to (specs/Promises). Endings and their
-//! messages are those of `clio_ending`.
+//! it left what it had to. More clauses say what a finished exchange, a mapping that is shown, a demo and a clash come to
+//! (specs/Promises), what a run leaves that is not done (specs/Leaving), and what comes if nothing outside fails (specs/Completing).
+//! Endings and their messages are those of `clio_ending`.
 #![tactic(auto)]
 
 mod command;
@@ -21,6 +22,7 @@ pub use clio_accept::{AcceptFault, MapFault, Mapping, accept};
 pub use clio_ending::{Done, Ending, message};
 pub use clio_source::RowsFault;
 pub use laws::{
-    clash_exactly_without_solution, files_have_own_names, over_anything, refused_or_planned,
+    an_exchange_is_planned, clash_exactly_without_solution, files_have_own_names, over_anything,
+    planned_if_there_is_something, refused_or_planned, usage_is_of_words,
 };
 pub use top::run;

@@ -1,5 +1,8 @@
 // The top call.
-ghost use Rattle.std.specs.Prelude.{◌≡◌, ◌≤◌, ℕ, List};
+ghost use Rattle.std.specs.Prelude.{◌≡◌, ◌≤◌, ℕ, List, Some};
+ghost use Rattle.std.specs.FinMap.{get};
+ghost use Rattle.dx_ports.specs.Entries.{Held};
+ghost use Rattle.dx_ports.specs.Faults.{Rose};
 ghost use Rattle.dx_funcs.specs.Serving.{Serves, offered};
 ghost use Rattle.dx_exchange.specs.declared.result.Exchange.{Exchange as ExchangeOf};
 ghost use Rattle.dx_keys.specs.declared.answers.Clash.{Clash as ClashOf};
@@ -8,14 +11,16 @@ ghost use Rattle.dx_stages.specs.Worlds.{IsOf, World};
 ghost use Rattle.dx_stages.specs.Ending.{Runs, planned};
 ghost use Rattle.dx_stages.specs.declared.plan.Ended.{Ended as EndedOf};
 ghost use Rattle.clio_ending.specs.declared.ending.Done.{Done as DoneOf};
-ghost use Rattle.clio_ending.specs.declared.ending.Done.TheVariants.{Exchanged};
+ghost use Rattle.clio_ending.specs.declared.ending.Done.TheVariants.{Demo, Exchanged, Shown};
 ghost use Rattle.clio_ending.specs.declared.ending.Ending.TheVariants.{Clash as ClashEnding, Done as DoneEnding};
 ghost use Rattle.clio_ending.specs.declared.ending.Refusal.{Refusal as RefusalOf};
 ghost use Rattle.clio_ending.specs.Ending.{AreAlike, ending_of};
 ghost use Rattle.clio_top.specs.Running.{exchange_stages, exchanges, program, show_stages};
 ghost use Rattle.clio_top.specs.Demo.{demo_stages};
 ghost use Rattle.clio_top.specs.Commands.{IsInRange, run_stages, stages_of};
-ghost use Rattle.clio_top.specs.Promises.{IsClashOf, IsDone};
+ghost use Rattle.clio_top.specs.Promises.{IsClashOf, IsDemo, IsDone, IsShown};
+ghost use Rattle.clio_top.specs.Completing.{Completes, CompletesDemo};
+ghost use Rattle.clio_top.specs.Leaving.{Leaves};
 
 use crate::command::{Command, command_of};
 use crate::demo::plan_demo;
@@ -166,8 +171,12 @@ where
 ///
 /// There is a world, a look-up from names to bytes, which is what the inputs hold if they tell. After `Done(Exchanged(e))`, `e` is
 /// the exchange of the mapping text and of the source files there, and exactly its files and its summary were written (specs/Promises,
-/// `IsDone`). After `Clash`, these have no solution (`IsClashOf`). In general the stages of the words (`run_stages`) give this ending
-/// there, and what was written is what they allow.
+/// `IsDone`). After `Done(Shown)` the rules of the mapping text there and their script were said, and no file was put (`IsShown`); after
+/// `Done(Demo(e))` the summary of `e`, the exchange of the demo's own files (`IsDemo`). After `Clash`, these have no solution
+/// (`IsClashOf`). What another ending leaves says `Leaves` of specs/Leaving: after `WriteFault` the first files of the list, and after all
+/// of them a prefix of the text; after `Memory` nothing, or the same; else nothing. If no call outside failed and the inputs tell, what
+/// there is a solution for is done, and what there is none for is a clash, or memory ran out (specs/Completing). In general the
+/// stages of the words (`run_stages`) give this ending there, and what was written is what they allow.
 pub fn run<I: Inputs, O: Outputs, F, M>(
     alloc: Global,
     words: &Vec<Text>,
@@ -182,8 +191,23 @@ where
     ensures exchanged { (e : ExchangeOf) → result ≡ DoneEnding (Exchanged e) → (c : World) × IsOf (I.holds inputs.old) c
         × IsDone (program (offered host.now) M.apply) c words.now.items e
         (record { files = O.files outputs.old; said = O.said outputs.old }) (record { files = O.files outputs.new; said = O.said outputs.new }) }
+    ensures shown { result ≡ DoneEnding Shown → (c : World) × IsOf (I.holds inputs.old) c
+        × IsShown (program (offered host.now) M.apply) c words.now.items
+        (record { files = O.files outputs.old; said = O.said outputs.old }) (record { files = O.files outputs.new; said = O.said outputs.new }) }
+    ensures demo { (e : ExchangeOf) → result ≡ DoneEnding (Demo e)
+        → IsDemo (program (offered host.now) M.apply) words.now.items e
+        (record { files = O.files outputs.old; said = O.said outputs.old }) (record { files = O.files outputs.new; said = O.said outputs.new }) }
     ensures clash { (k : ClashOf) (table : List ℕ) (key : List (List ℕ)) (column : List ℕ) → result ≡ ClashEnding k table key column
-        → (c : World) × IsOf (I.holds inputs.old) c × IsClashOf (program (offered host.now) M.apply) c words.now.items k }
+        → (c : World) × IsOf (I.holds inputs.old) c
+        × IsClashOf (program (offered host.now) M.apply) c words.now.items k table key column }
+    ensures left { (c : World) × IsOf (I.holds inputs.old) c × Leaves (program (offered host.now) M.apply) c words.now.items
+        (record { files = O.files outputs.old; said = O.said outputs.old }) (record { files = O.files outputs.new; said = O.said outputs.new })
+        result }
+    ensures complete { (m : Held) → I.holds inputs.old ≡ Some m → ¬ (Rose (I.faults inputs.old) (I.faults inputs.new))
+        → ¬ (Rose (O.faults outputs.old) (O.faults outputs.new))
+        → Completes (program (offered host.now) M.apply) (λ n. get m n) words.now.items result }
+    ensures complete_demo { ¬ (Rose (O.faults outputs.old) (O.faults outputs.new))
+        → CompletesDemo (program (offered host.now) M.apply) words.now.items result }
     ensures runs { (e : EndedOf DoneOf RefusalOf) × (result ≡ ending_of e)
         × Runs AreAlike (run_stages (program (offered host.now) M.apply)) words.now.items e
         (record { holds = I.holds inputs.old; faults = I.faults inputs.old; stopped = I.stopped inputs.old })

@@ -53,7 +53,7 @@ pub blocks_are : (r : Result (Vec Block Global) AllocError) (A F : List Fact) (n
     (bs rest : List Block) (n : ℕ) → F ≈ A → AreNulls F ns → AreLabels F ns labels → AreFilled ns labels ns F bs → length bs ≡ n
     → IfOk r (λ v. v.items ≡ filter has_nulls (take n (bs ++ rest))) → IfOk r (λ v. AreBlocks A v.items)
 blocks_are (Ok v) A F ns labels bs rest n s a g f l e =
-    rw (e ∙ ap (filter has_nulls) (take_at bs rest n l)) (blocks_by_members F A (filter has_nulls bs) s (filled_are F ns labels bs a g f))
+    rw (e ∙ ap (filter has_nulls) (take_at bs rest n l)) (blocks_by_members F A (filter has_nulls bs) s (filled_are F ns ns labels bs a.ascend (λ m. (a.exactly m).1) a.exactly g f))
 blocks_are (Err x) A F ns labels bs rest n s a g f l e = tt
 
 -- ---- one list

@@ -1,6 +1,7 @@
 -- Blocks that are filled are the blocks of their facts.
 use Rattle.std.proofs.Common.{◌≡◌, ℕ, suc, ◌<◌, true, List, [], ◌∷◌, inl, inr, refl, sym, ◌∙◌, ap, subst, arith}
 use Rattle.std.proofs.Common.{nat_lt, length, get_or, map}
+use Rattle.std.specs.Prelude.{◌↔◌}
 use Rattle.std.specs.List.{filter}
 use Rattle.std.specs.declared.cmp.Ordering.{Ordering}
 use Rattle.std.specs.declared.cmp.Ordering.TheVariants.{Less, Equal, Greater}
@@ -18,9 +19,12 @@ use Rattle.std.specs.Ordering.{ordering_reverse}
 use Rattle.dx_ports.proofs.Tests.{from_filter}
 use Rattle.dx_blocks.specs.declared.block.Block.{Block}
 use Rattle.dx_blocks.specs.Blocks.{AreBlocks, IsBlockOf, least}
-use Rattle.dx_blocks.specs.Nulls.{AreNulls, null_at}
+use Rattle.dx_model.specs.Blocks.{Connected}
+use Rattle.dx_blocks.specs.Nulls.{null_at}
 use Rattle.dx_blocks.specs.Labels.{AreFilled, AreLabels, block_at, has_nulls}
 use Rattle.dx_blocks.proofs.NullLists.{ascends_at, place_there, not_less}
+use Rattle.dx_blocks.proofs.Connections.{connected_there}
+use Rattle.dx_blocks.proofs.Labelling.{Knows}
 
 abbrev no_null : NullId
 no_null = record { rule = 0; var = 0; row = 0 }
@@ -48,13 +52,13 @@ not_apart m n a b = by_order (null_cmp m n) refl
 
 -- ---- filled blocks
 
-module _ (A : List Fact) (ns : List NullId) (labels : List ℕ) (bs : List Block) (a : AreNulls A ns) (g : AreLabels A ns labels)
-    (f : AreFilled ns labels ns A bs) where
+module _ (A : List Fact) (ns some : List NullId) (labels : List ℕ) (bs : List Block) (up : NullsAscend ns) (known : Knows A ns)
+    (a : (n : NullId) → (n ∈ some) ↔ (Null n ∈ values A)) (g : AreLabels A ns labels) (f : AreFilled ns labels some A bs) where
   abbrev at : List ℕ → ℕ → ℕ
   at xs k = get_or xs k 0
 
   listed : (m : NullId) → Null m ∈ values A → (k : ℕ) × (k < length ns) × (null_at ns k ≡ m)
-  listed m v = place_there ns m ((a.exactly m).1 v)
+  listed m v = place_there ns m (known m v)
 
   -- a block with a null has the label of its place, and the null of that place as its least
   module _ (k : ℕ) (h : k < length ns) (m : NullId) (i : m ∈ (block_at bs k).nulls) where
@@ -62,7 +66,11 @@ module _ (A : List Fact) (ns : List NullId) (labels : List ℕ) (bs : List Block
     own = let w = ((f.nulls k h).1 m).0 i in let e = g.itself w.1.place w.1.within in ap (at labels) (sym w.1.labelled) ∙ (e ∙ w.1.labelled)
 
     has_own : null_at ns k ∈ (block_at bs k).nulls
-    has_own = ((f.nulls k h).1 (null_at ns k)).1 (in_at ns k _ h, record { place = k; within = h; is = refl; labelled = own })
+    has_own =
+        let w = ((f.nulls k h).1 m).0 i in
+        let c : Connected A (null_at ns k) m = rw w.1.is at ((g.exactly k w.1.place h w.1.within).0 (own ∙ sym w.1.labelled)) in
+        let v = connected_there c ((a m).0 w.0) in
+        ((f.nulls k h).1 (null_at ns k)).1 ((a (null_at ns k)).1 v, record { place = k; within = h; is = refl; labelled = own })
 
     -- its nulls are not before that of its place
     after_own : (n : NullId) → n ∈ (block_at bs k).nulls → ¬ (null_cmp n (null_at ns k) ≡ Less)
@@ -74,7 +82,7 @@ module _ (A : List Fact) (ns : List NullId) (labels : List ℕ) (bs : List Block
           | inr o ↦ elim o [
             | inl u ↦ (let e = w.1.labelled in absurd (omega arith))
             | inr u ↦
-                let up = ascends_at (λ m n. null_cmp m n ≡ Less) ns a.ascend k w.1.place no_null u w.1.within in
+                let up = ascends_at (λ m n. null_cmp m n ≡ Less) ns up k w.1.place no_null u w.1.within in
                 not_less n (null_total.trans n (null_at ns k) n l (rw w.1.is at up))
           ]
         ]
@@ -89,11 +97,11 @@ module _ (A : List Fact) (ns : List NullId) (labels : List ℕ) (bs : List Block
       nulls = λ n. (
         (λ j.
             let w = ((f.nulls k h).1 n).0 j in
-            ((a.exactly n).0 w.0, rw w.1.is at ((g.exactly k w.1.place h w.1.within).0 (own ∙ sym w.1.labelled)))),
+            ((a n).0 w.0, rw w.1.is at ((g.exactly k w.1.place h w.1.within).0 (own ∙ sym w.1.labelled)))),
         (λ v.
             let p = listed n v.0 in
             let e = (g.exactly k p.0 h p.1).1 (rw p.2 v.1) in
-            ((f.nulls k h).1 n).1 ((a.exactly n).1 v.0, record { place = p.0; within = p.1; is = p.2; labelled = sym e ∙ own })),
+            ((f.nulls k h).1 n).1 ((a n).1 v.0, record { place = p.0; within = p.1; is = p.2; labelled = sym e ∙ own })),
       );
       facts = λ e. (
         (λ j.
@@ -115,9 +123,9 @@ any : (ns : List NullId) → nat_lt 0 (length ns) ≡ true → get_or ns 0 (reco
 any [] e = absurd (omega (arith, ltb-true 0 0 e))
 any (n ∷ ns) e = here refl
 
-some : (ns : List NullId) (n : NullId) → n ∈ ns → nat_lt 0 (length ns) ≡ true
-some [] n m = elim m [ ]
-some (x ∷ ns) n m = lt-ltb 0 (length (x ∷ ns)) (omega arith)
+there_is : (ns : List NullId) (n : NullId) → n ∈ ns → nat_lt 0 (length ns) ≡ true
+there_is [] n m = elim m [ ]
+there_is (x ∷ ns) n m = lt-ltb 0 (length (x ∷ ns)) (omega arith)
 
 block_there : (bs : List Block) (b : Block) → b ∈ bs → (k : ℕ) × (k < length bs) × (block_at bs k ≡ b)
 block_there [] b m = elim m [ ]
@@ -146,18 +154,18 @@ leasts_ascend (c ∷ bs) up = elim (cases_Bool (has_nulls c)) [
   | inr f ↦ rw f (leasts_ascend bs (λ i j h k. up (suc i) (suc j) (omega arith) (omega arith)))
 ]
 
-module _ (A : List Fact) (ns : List NullId) (labels : List ℕ) (bs : List Block) (a : AreNulls A ns) (g : AreLabels A ns labels)
-    (f : AreFilled ns labels ns A bs) where
+module _ (A : List Fact) (ns some : List NullId) (labels : List ℕ) (bs : List Block) (up : NullsAscend ns) (known : Knows A ns)
+    (a : (n : NullId) → (n ∈ some) ↔ (Null n ∈ values A)) (g : AreLabels A ns labels) (f : AreFilled ns labels some A bs) where
   least_here : (k : ℕ) → k < length bs → has_nulls (block_at bs k) ≡ true → least (block_at bs k) ≡ null_at ns k
-  least_here k h t = least_is A ns labels bs a g f k (rw (← f.many) h) (least (block_at bs k)) (any (block_at bs k).nulls t)
+  least_here k h t = least_is A ns some labels bs up known a g f k (rw (← f.many) h) (least (block_at bs k)) (any (block_at bs k).nulls t)
 
   pub filled_are : AreBlocks A (filter has_nulls bs)
-  filled_are = record { each = each; all = all; ascend = leasts_ascend bs up }
+  filled_are = record { each = each; all = all; ascend = leasts_ascend bs rise }
     where
-      up : LeastsAscend bs
-      up i j h k s t =
+      rise : LeastsAscend bs
+      rise i j h k s t =
           rw (least_here i (omega arith) s, least_here j k t)
-          (ascends_at (λ m n. null_cmp m n ≡ Less) ns a.ascend i j _ h (rw (← f.many) k))
+          (ascends_at (λ m n. null_cmp m n ≡ Less) ns up i j _ h (rw (← f.many) k))
 
       each : Each (filter has_nulls bs) (λ b. (least b ∈ b.nulls) × IsBlockOf A (least b) b)
       each b m =
@@ -165,15 +173,15 @@ module _ (A : List Fact) (ns : List NullId) (labels : List ℕ) (bs : List Block
           let k = block_there bs b v.0 in
           let t : has_nulls (block_at bs k.0) ≡ true = ap has_nulls k.2 ∙ v.1 in
           let i = any (block_at bs k.0).nulls t in
-          let o = of_own A ns labels bs a g f k.0 (rw (← f.many) k.1) _ i in
+          let o = of_own A ns some labels bs up known a g f k.0 (rw (← f.many) k.1) _ i in
           subst (λ (c : Block). (least c ∈ c.nulls) × IsBlockOf A (least c) c) k.2
           (i, rw (least_here k.0 k.1 t) o)
 
       all : (n : NullId) → Null n ∈ values A → (b : Block) × (b ∈ filter has_nulls bs) × (n ∈ b.nulls)
       all n v =
-          let p = place_there ns n ((a.exactly n).1 v) in
+          let p = place_there ns n (known n v) in
           let k = get_or labels p.0 0 in
           let low = g.least p.0 p.1 in
           let h : k < length ns = omega (arith, p.1) in
-          let i = ((f.nulls k h).1 n).1 ((a.exactly n).1 v, record { place = p.0; within = p.1; is = p.2; labelled = refl }) in
-          (block_at bs k, in_filter has_nulls bs (some (block_at bs k).nulls n i) (in_at bs k _ (rw f.many h)), i)
+          let i = ((f.nulls k h).1 n).1 ((a n).1 v, record { place = p.0; within = p.1; is = p.2; labelled = refl }) in
+          (block_at bs k, in_filter has_nulls bs (there_is (block_at bs k).nulls n i) (in_at bs k _ (rw f.many h)), i)

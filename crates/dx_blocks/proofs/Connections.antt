@@ -1,9 +1,11 @@
 -- Connected nulls.
 use Rattle.std.proofs.Common.{◌≡◌, List, subst}
 use Rattle.dx_ports.specs.Members.{◌∈◌, ◌⊆◌}
+use Rattle.dx_ports.proofs.Members.{in_flat_map}
 use Rattle.dx_model.specs.declared.values.NullId.{NullId}
 use Rattle.dx_model.specs.declared.values.Value.TheVariants.{Null}
 use Rattle.dx_model.specs.declared.facts.Fact.{Fact}
+use Rattle.dx_model.specs.Instances.{values}
 use Rattle.dx_model.specs.Blocks.{Connected, itself, onward}
 
 module _ {A : List Fact} where
@@ -26,3 +28,8 @@ connected_more s (onward f b i x y) = onward f (connected_more s b) (s f i) x y
 
 pub connected_same : {A : List Fact} {n m : NullId} → n ≡ m → Connected A n m
 connected_same {A} {n} {m} e = subst (Connected A n) e itself
+
+-- what is connected with a null that stands there stands there too
+pub connected_there : {A : List Fact} {n m : NullId} → Connected A n m → Null m ∈ values A → Null n ∈ values A
+connected_there itself v = v
+connected_there (onward f b i x y) v = connected_there b (in_flat_map (λ (g : Fact). g.row) i x)

@@ -4,11 +4,11 @@ use Rattle.std.proofs.Common.{length, get_or, set, take, replicate, length-set, 
 use Rattle.std.proofs.lemmas.Bool.{cases_eq}
 use Rattle.dx_ports.proofs.Members.{in_right}
 use Rattle.std.proofs.lemmas.List.{take_more, take_all, length-replicate, get_or-replicate, get_or_read}
-use Rattle.dx_ports.specs.Members.{◌∈◌, here}
+use Rattle.dx_ports.specs.Members.{◌∈◌, here, Each}
 use Rattle.dx_model.specs.declared.values.NullId.{NullId}
 use Rattle.dx_model.specs.declared.values.Value.TheVariants.{Null}
 use Rattle.dx_model.specs.declared.facts.Fact.{Fact}
-use Rattle.dx_model.specs.Values.{FactsAscend, null_cmp, fact_cmp}
+use Rattle.dx_model.specs.Values.{FactsAscend, NullsAscend, null_cmp, fact_cmp}
 use Rattle.std.specs.declared.cmp.Ordering.TheVariants.{Less}
 use Rattle.dx_blocks.specs.declared.block.Block.{Block}
 use Rattle.dx_blocks.specs.Nulls.{AreNulls, StandsIn, null_at}
@@ -71,32 +71,39 @@ module _ (bs : List Block) (l : ℕ) (b : Block) (h : l < length bs) where
 
 -- ---- one null more
 
-pub null_filled : (A : List Fact) (ns : List NullId) (labels : List ℕ) (bs : List Block) (i : ℕ) (b : Block)
-    → AreNulls A ns → AreLabels A ns labels → i < length ns → AreFilled ns labels (take i ns) [] bs
+pub null_put : (A held : List Fact) (ns some : List NullId) (labels : List ℕ) (bs : List Block) (i : ℕ) (b : Block)
+    → NullsAscend ns → AreLabels A ns labels → i < length ns → AreFilled ns labels some held bs → Each some (λ y. NullLess y (null_at ns i))
     → b.nulls ≡ nulls_at bs (at labels i) ++ null_at ns i ∷ [] → b.facts ≡ facts_at bs (at labels i)
-    → AreFilled ns labels (take (i + 1) ns) [] (set bs (at labels i) b)
-null_filled A ns labels bs i b a g h f en ef = record {
+    → AreFilled ns labels (some ++ null_at ns i ∷ []) held (set bs (at labels i) b)
+null_put A held ns some labels bs i b up g h f after en ef = record {
   many = length-set bs l b ∙ f.many;
-  nulls = rw (take_more ns i none h)
-      (placed_more NullLess (HasLabel ns labels) (nulls_at bs) (nulls_at (set bs l b)) (length ns) l (take i ns) (null_at ns i)
-      f.nulls (record { place = i; within = h; is = refl; labelled = refl }) only (ascends_take NullLess ns i none h a.ascend)
+  nulls =
+      placed_more NullLess (HasLabel ns labels) (nulls_at bs) (nulls_at (set bs l b)) (length ns) l some (null_at ns i)
+      f.nulls (record { place = i; within = h; is = refl; labelled = refl }) only after
       (λ k e. ap (λ (c : Block). c.nulls) (changed bs l b inside k e) ∙ (en ∙ ap (λ z. nulls_at bs z ++ null_at ns i ∷ []) (sym e)))
-      (λ k n. ap (λ (c : Block). c.nulls) (kept bs l b inside k n)));
-  facts = placed_as FactLess (HoldsLabel ns labels) (facts_at bs) (facts_at (set bs l b)) (length ns) []
+      (λ k n. ap (λ (c : Block). c.nulls) (kept bs l b inside k n));
+  facts = placed_as FactLess (HoldsLabel ns labels) (facts_at bs) (facts_at (set bs l b)) (length ns) held
       (λ k m. facts_stay bs l b inside ef k) f.facts;
 }
   where
     l : ℕ
     l = at labels i
 
-    none : NullId
-    none = record { rule = 0; var = 0; row = 0 }
-
     inside : l < length bs
     inside = let e = f.many in let w = g.least i h in omega arith
 
     only : (k : ℕ) → HasLabel ns labels k (null_at ns i) → k ≡ l
-    only k w = sym w.labelled ∙ ap (at labels) (place_is_one ns a.ascend w.place i w.within h w.is)
+    only k w = sym w.labelled ∙ ap (at labels) (place_is_one ns up w.place i w.within h w.is)
+
+pub null_filled : (A : List Fact) (ns : List NullId) (labels : List ℕ) (bs : List Block) (i : ℕ) (b : Block)
+    → AreNulls A ns → AreLabels A ns labels → i < length ns → AreFilled ns labels (take i ns) [] bs
+    → b.nulls ≡ nulls_at bs (at labels i) ++ null_at ns i ∷ [] → b.facts ≡ facts_at bs (at labels i)
+    → AreFilled ns labels (take (i + 1) ns) [] (set bs (at labels i) b)
+null_filled A ns labels bs i b a g h f en ef = rw (take_more ns i none h)
+    (null_put A [] ns (take i ns) labels bs i b a.ascend g h f (ascends_take NullLess ns i none h a.ascend) en ef)
+  where
+    none : NullId
+    none = record { rule = 0; var = 0; row = 0 }
 
 pub nulls_filled : (ns : List NullId) (labels : List ℕ) (bs : List Block) (i : ℕ) → length ns ≤ i → AreFilled ns labels (take i ns) [] bs
     → AreFilled ns labels ns [] bs
@@ -111,14 +118,14 @@ one_label A ns labels f p k g m s w =
     let v = w.2 in
     sym v.labelled ∙ (g.exactly v.place p v.within s.within).1 (connected_by f m (rw v.is w.1) s.there)
 
-module _ (A : List Fact) (ns : List NullId) (labels : List ℕ) (bs : List Block) (done rest : List Fact) (f : Fact)
-    (e : done ++ f ∷ rest ≡ A) (x : AreFilled ns labels ns done bs) where
+module _ (A : List Fact) (ns some : List NullId) (labels : List ℕ) (bs : List Block) (done rest : List Fact) (f : Fact)
+    (e : done ++ f ∷ rest ≡ A) (x : AreFilled ns labels some done bs) where
   pub fact_filled : (p : ℕ) (b : Block) → AreLabels A ns labels → FactsAscend A → StandsIn ns f.row p
       → b.facts ≡ facts_at bs (at labels p) ++ f ∷ [] → b.nulls ≡ nulls_at bs (at labels p)
-      → AreFilled ns labels ns (done ++ f ∷ []) (set bs (at labels p) b)
+      → AreFilled ns labels some (done ++ f ∷ []) (set bs (at labels p) b)
   fact_filled p b g up s ef en = record {
     many = length-set bs l b ∙ x.many;
-    nulls = placed_as NullLess (HasLabel ns labels) (nulls_at bs) (nulls_at (set bs l b)) (length ns) ns
+    nulls = placed_as NullLess (HasLabel ns labels) (nulls_at bs) (nulls_at (set bs l b)) (length ns) some
         (λ k m. nulls_stay bs l b inside en k) x.nulls;
     facts = placed_more FactLess (HoldsLabel ns labels) (facts_at bs) (facts_at (set bs l b)) (length ns) l done f
         x.facts (null_at ns p, s.there, record { place = p; within = s.within; is = refl; labelled = refl })
@@ -134,7 +141,7 @@ module _ (A : List Fact) (ns : List NullId) (labels : List ℕ) (bs : List Block
       inside : l < length bs
       inside = let q = x.many in let w = g.least p s.within in let i = s.within in omega arith
 
-  pub fact_passed : ((n : NullId) → ¬ (Null n ∈ f.row)) → AreFilled ns labels ns (done ++ f ∷ []) bs
+  pub fact_passed : ((n : NullId) → ¬ (Null n ∈ f.row)) → AreFilled ns labels some (done ++ f ∷ []) bs
   fact_passed none = record {
     many = x.many;
     nulls = x.nulls;
@@ -159,7 +166,7 @@ module _ (A : List Fact) (ns : List NullId) (labels : List ℕ) (bs : List Block
   is_there = rw (← split) (in_right i.0 (here refl))
 
   pub step_passed : ((n : NullId) → ¬ (Null n ∈ f.row)) → FilledTo ns labels start next bs
-  step_passed none = (i.0 ++ f ∷ [], after, fact_passed A ns labels bs i.0 next f split i.2 none)
+  step_passed none = (i.0 ++ f ∷ [], after, fact_passed A ns ns labels bs i.0 next f split i.2 none)
 
   pub step_filled : (p : ℕ) (b r : Block) → AreLabels A ns labels → FactsAscend A → StandsIn ns f.row p → r ≡ get_or bs (at labels p) r
       → b.facts ≡ (get_or bs (at labels p) r).facts ++ f ∷ [] → b.nulls ≡ (get_or bs (at labels p) r).nulls
@@ -167,7 +174,7 @@ module _ (A : List Fact) (ns : List NullId) (labels : List ℕ) (bs : List Block
   step_filled p b r l up st e ef en = (
     i.0 ++ f ∷ [],
     after,
-    fact_filled A ns labels bs i.0 next f split i.2 p b l up st (ef ∙ ap (λ (c : Block). c.facts ++ f ∷ []) same)
+    fact_filled A ns ns labels bs i.0 next f split i.2 p b l up st (ef ∙ ap (λ (c : Block). c.facts ++ f ∷ []) same)
         (en ∙ ap (λ (c : Block). c.nulls) same),
   )
     where

@@ -12,6 +12,7 @@ use Rattle.dx_model.specs.declared.values.Value.{Value}
 use Rattle.dx_model.specs.declared.values.Value.TheVariants.{Null}
 use Rattle.dx_model.specs.declared.facts.Fact.{Fact}
 use Rattle.dx_model.specs.Values.{NullsAscend}
+use Rattle.dx_model.specs.Instances.{values}
 use Rattle.dx_model.specs.Blocks.{Connected, itself, onward}
 use Rattle.dx_blocks.specs.Nulls.{AreNulls, StandsIn, null_at}
 use Rattle.dx_blocks.specs.Forest.{Falls, Respects, AreTied, AreSameTrees, IsJoin, IsFlat}
@@ -22,6 +23,10 @@ use Rattle.dx_blocks.proofs.Trees.{at_singles}
 
 abbrev at : List ℕ → ℕ → ℕ
 at xs k = get_or xs k 0
+
+-- each null of A is listed
+abbrev pub Knows : List Fact → List NullId → Type 0
+Knows A ns = (n : NullId) → Null n ∈ values A → n ∈ ns
 
 -- ---- a row
 
@@ -155,7 +160,7 @@ single_trees_tied A ns P n e k h =
     connected_same (ap (null_at ns) (sym (rw e (at_singles n k (rw (e, length-range_with_len 0 n) at h)))))
 
 -- flat trees in which the nulls of each fact are one
-module _ (A : List Fact) (ns : List NullId) (a : AreNulls A ns) (R : List ℕ) (many : length R ≡ length ns)
+module _ (A : List Fact) (ns : List NullId) (up : NullsAscend ns) (knows : Knows A ns) (R : List ℕ) (many : length R ≡ length ns)
     (flat : IsFlat R) (tied : AreTied A ns R) (one : (f : Fact) → f ∈ A → AreOne ns R f.row) where
   -- the trees give their own labels
   own_labels : Respects R (at R)
@@ -168,21 +173,21 @@ module _ (A : List Fact) (ns : List NullId) (a : AreNulls A ns) (R : List ℕ) (
 
   from_connected : {n m : NullId} → Connected A n m → (p q : ℕ) → p < length ns → q < length ns
       → null_at ns p ≡ n → null_at ns q ≡ m → at R p ≡ at R q
-  from_connected itself p q h k d e = ap (at R) (place_is_one ns a.ascend p q h k (d ∙ sym e))
+  from_connected itself p q h k d e = ap (at R) (place_is_one ns up p q h k (d ∙ sym e))
   from_connected (onward {m = m} f c i x y) p q h k d e =
-      let w = place_there ns m ((a.exactly m).1 (in_flat_map (λ (g : Fact). g.row) i x)) in
+      let w = place_there ns m (knows m (in_flat_map (λ (g : Fact). g.row) i x)) in
       from_connected c p w.0 h w.1 d w.2
       ∙ one f i (at R) own_labels w.0 q (record { within = w.1; there = rw w.2 x }) (record { within = k; there = rw e y })
 
-pub labels_are : (A : List Fact) (ns : List NullId) (P Q R : List ℕ) → AreNulls A ns → P ≡ range_with_len 0 (length ns) → JoinsAll A ns P Q
+pub labels_are : (A : List Fact) (ns : List NullId) (P Q R : List ℕ) → NullsAscend ns → Knows A ns → P ≡ range_with_len 0 (length ns) → JoinsAll A ns P Q
     → AreSameTrees Q R → IsFlat R → AreLabels A ns R
-labels_are A ns P Q R a e j s flat = record {
+labels_are A ns P Q R up knows e j s flat = record {
   many = many;
   least = λ k h. s.falls k (rw many h);
   itself = λ k h. flat k (rw many h);
   exactly = λ p q h k. (
-    to_connected A ns a R many flat tied one p q h k,
-    (λ c. from_connected A ns a R many flat tied one c p q h k refl refl),
+    to_connected A ns up knows R many flat tied one p q h k,
+    (λ c. from_connected A ns up knows R many flat tied one c p q h k refl refl),
   );
 }
   where
@@ -196,11 +201,11 @@ labels_are A ns P Q R a e j s flat = record {
     one f m c r p q u w = j.one f m c ((s.respects c).1 r) p q u w
 
 -- the same, as the lists are written back
-pub labels_written : (A : List Fact) (ns : List NullId) (P J Q R rest more : List ℕ) (n : ℕ) → AreNulls A ns → length ns ≡ n
+pub labels_written : (A : List Fact) (ns : List NullId) (P J Q R rest more : List ℕ) (n : ℕ) → NullsAscend ns → Knows A ns → length ns ≡ n
     → P ≡ range_with_len 0 (length ns) → JoinsAll A ns P J → Q ≡ take n (J ++ rest) → AreSameTrees Q R → IsFlat R
     → AreLabels A ns (take n (R ++ more))
-labels_written A ns P J Q R rest more n a l e j q s flat =
+labels_written A ns P J Q R rest more n up knows l e j q s flat =
     let joined : length J ≡ n = j.many ∙ (single_trees_many P (length ns) e ∙ l) in
     let is : Q ≡ J = q ∙ take_at J rest n joined in
     let made : length R ≡ n = s.many ∙ (ap length is ∙ joined) in
-    rw (take_at R more n made) (labels_are A ns P Q R a e (rw is j) s flat)
+    rw (take_at R more n made) (labels_are A ns P Q R up knows e (rw is j) s flat)

@@ -7,4 +7,8 @@ pub mod Placing
 pub mod Filling
 pub mod BlockParts
 pub mod BlockLaws
+pub mod NullRowFacts
+pub mod NumberLabelling
+pub mod NumberBlocks
+pub mod NumberFilling
 pub mod Examples

@@ -17,7 +17,7 @@ at xs k = get_or xs k 0
 pub singles_more : (n : ℕ) → range_with_len 0 (n + 1) ≡ range_with_len 0 n ++ n ∷ []
 singles_more n = range_more 0 n ∙ ap (λ z. range_with_len 0 n ++ z ∷ []) (omega arith)
 
-at_range : (a n k : ℕ) → k < n → at (range_with_len a n) k ≡ a + k
+pub at_range : (a n k : ℕ) → k < n → at (range_with_len a n) k ≡ a + k
 at_range a zero k h = absurd (omega arith)
 at_range a (suc n) zero h = omega arith
 at_range a (suc n) (suc k) h = at_range (a + 1) n k (omega arith) ∙ omega arith

@@ -3,3 +3,5 @@ pub mod Nulls
 pub mod Forest
 pub mod Labels
 pub mod Laws
+pub mod Numbered
+pub mod NullRows

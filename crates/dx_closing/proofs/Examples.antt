@@ -1,11 +1,11 @@
 -- Closings of small conclusions.
-use Rattle.std.proofs.Common.{List, [], ◌∷◌, ℕ, refl}
+use Rattle.std.proofs.Common.{List, [], ◌∷◌, ℕ, refl, false}
 use Rattle.dx_model.specs.declared.rules.Cell.{Cell}
 use Rattle.dx_model.specs.declared.rules.Cell.TheVariants.{Var, Ex, Lit}
 use Rattle.dx_model.specs.declared.rules.Atom.{Atom}
 use Rattle.dx_model.specs.declared.tables.Link.{Link}
 use Rattle.dx_model.specs.Tables.{Table}
-use Rattle.dx_schema.specs.Forest.{Forest, none, set}
+use Rattle.dx_schema.specs.Forest.{Forest, none, set, bare}
 use Rattle.dx_schema.specs.Tables.{Text, model_tables}
 use Rattle.dx_closing.specs.Closing.{IsClosing}
 
@@ -25,7 +25,7 @@ atom t cells = record { table = t; cells = cells }
 
 -- unit(#id, b) with the inner set staff(#up, a)
 abbrev units : Forest
-units = set (record { name = a; columns = b ∷ []; keys = []; refs = [] }) (set (record { name = b; columns = a ∷ []; keys = []; refs = [] }) none none) none
+units = set (bare a (b ∷ [])) (set (bare b (a ∷ [])) none none) none
 
 abbrev unit : Cell → Cell → Atom
 unit id name = atom 0 (id ∷ name ∷ [])
@@ -58,8 +58,8 @@ nothing-stays = refl
 -- trip(a, b, c) with refs from b and from c to a of city(a, b)
 abbrev trips : Forest
 trips =
-    set (record { name = a; columns = a ∷ b ∷ c ∷ []; keys = []; refs = record { columns = b ∷ []; set = b; referred = a ∷ [] } ∷ record { columns = c ∷ []; set = b; referred = a ∷ [] } ∷ [] }) none
-    (set (record { name = b; columns = a ∷ b ∷ []; keys = []; refs = [] }) none none)
+    set (record { name = a; columns = a ∷ b ∷ c ∷ []; keys = []; deps = []; refs = record { columns = b ∷ []; set = b; referred = a ∷ []; optional = false } ∷ record { columns = c ∷ []; set = b; referred = a ∷ []; optional = false } ∷ [] }) none
+    (set (bare b (a ∷ b ∷ [])) none none)
 
 abbrev trip : Cell → Cell → Cell → Atom
 trip number start goal = atom 0 (number ∷ start ∷ goal ∷ [])

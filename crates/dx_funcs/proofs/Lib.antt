@@ -1,5 +1,6 @@
 pub mod Examples
 pub mod Offered
+pub mod Judged
 pub mod Named
 pub mod Trims
 pub mod Digits

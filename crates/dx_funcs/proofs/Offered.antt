@@ -70,7 +70,7 @@ distinct_three {X} a b c ba ca cb = (first, (second, (third, tt)))
     third h = elim h [ ]
 
 -- texts that begin with different bytes differ
-apart : (a b : List ℕ) → ¬ (get_or a 0 0 ≡ get_or b 0 0) → ¬ (a ≡ b)
+pub apart : (a b : List ℕ) → ¬ (get_or a 0 0 ≡ get_or b 0 0) → ¬ (a ≡ b)
 apart a b differs e = differs (ap (λ l. get_or l 0 0) e)
 
 abbrev HasArity : Conversion → Type 0

@@ -1,7 +1,9 @@
--- The conversions that come with the program, and what they give.
-use Rattle.std.specs.Prelude.{ℕ, List, [], ◌∷◌, ◌++◌, ◌==◌, codes, filter, if◌then◌else◌, reverse}
+-- The conversions and the row tests that come with the program, and what they give.
+use Rattle.std.specs.Prelude.{ℕ, Bool, true, false, ◌&&◌, List, [], ◌∷◌, ◌++◌, ◌==◌, codes, filter, if◌then◌else◌, reverse}
+use Rattle.std.specs.List.{list_all}
 use Rattle.std.specs.Char.{is_ascii_digit}
 use Rattle.dx_funcs.specs.declared.conversion.Conversion.{Conversion}
+use Rattle.dx_funcs.specs.declared.row_test.RowTest.{RowTest}
 
 -- a text, by its bytes
 abbrev pub Text : Type 0
@@ -46,3 +48,22 @@ shipped_conversions =
     ∷ record { name = codes "digits"; code = 1; arity = 1 }
     ∷ record { name = codes "pair"; code = 2; arity = 2 }
     ∷ []
+
+-- ---- row tests
+
+-- the text isn't empty
+abbrev pub is_filled : Text → Bool
+is_filled [] = false
+is_filled (b ∷ bs) = true
+
+-- the text isn't empty, and each of its bytes is `0` to `9`
+abbrev pub is_numeric : Text → Bool
+is_numeric text = is_filled text && list_all is_ascii_digit text
+
+-- what passes: 0 asks for a text that isn't empty, 1 for digits; nothing passes any other code
+abbrev pub shipped_passes : ℕ → Text → Bool
+shipped_passes code text = if code == 0 then is_filled text else if code == 1 then is_numeric text else false
+
+-- the row tests that come with the program, in order
+abbrev pub shipped_row_tests : List RowTest
+shipped_row_tests = record { name = codes "filled"; code = 0 } ∷ record { name = codes "numeric"; code = 1 } ∷ []

@@ -1,6 +1,8 @@
-// What each shipped conversion does to its texts.
+// What each shipped conversion does to its texts, and what each shipped row test asks of one.
 ghost use Rattle.std.specs.Prelude.{◌≡◌, IfOk};
-ghost use Rattle.dx_funcs.specs.Shipped.{digits_of, paired, trimmed};
+ghost use Rattle.std.specs.List.{list_all};
+ghost use Rattle.std.specs.Char.{is_ascii_digit};
+ghost use Rattle.dx_funcs.specs.Shipped.{digits_of, is_filled, is_numeric, paired, trimmed};
 
 use dx_ports::Text;
 use std::alloc::{AllocError, Global};
@@ -32,4 +34,30 @@ pub fn pair(alloc: Global, first: &Text, second: &Text) -> Result<Text, AllocErr
 {
     let joined = format!(in alloc; "{} {}", first.as_str(), second.as_str())?;
     Text::from_string(alloc, joined)
+}
+
+/// Whether the text isn't empty.
+pub fn is_filled(text: &Text) -> bool
+    ensures { result ≡ is_filled text.now }
+{
+    !text.bytes().is_empty()
+}
+
+// Whether each byte of the text is a digit.
+fn has_digits_alone(text: &Text) -> bool
+    ensures { result ≡ list_all is_ascii_digit text.now }
+{
+    for byte in text.bytes() {
+        if !byte.is_ascii_digit() {
+            return false;
+        }
+    }
+    true
+}
+
+/// Whether the text isn't empty and has digits alone.
+pub fn is_numeric(text: &Text) -> bool
+    ensures { result ≡ is_numeric text.now }
+{
+    is_filled(text) && has_digits_alone(text)
 }

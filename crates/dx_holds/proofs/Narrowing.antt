@@ -1,6 +1,6 @@
 -- Cells that say what a search found.
 use Rattle.std.proofs.Common.{◌≡◌, ◌∙◌, ℕ, ◌+◌, ◌<◌, ◌≤◌, List, [], ◌∷◌, ◌++◌, inl, inr, refl, sym, ap, subst, arith, length, get_or, take, append_assoc}
-use Rattle.std.specs.Prelude.{map, ◌↔◌, Bool, true, false, IsTrue, MatchBool, MatchOption, Option, None, Some}
+use Rattle.std.specs.Prelude.{map, ◌↔◌, Bool, true, false, IsTrue, MatchBool, MatchOption, IfSome, Option, None, Some}
 use Rattle.std.specs.List.{range_with_len}
 use Rattle.std.proofs.lemmas.Bool.{cases_eq, cases_lt, false≢true}
 use Rattle.std.proofs.lemmas.List.{take_more, map-append, take_all, take-map, length-append, length-map, append-nil, same_from_push, get_or-map}
@@ -186,6 +186,11 @@ by_none T I found a n (Some q) k = (k.0, k.1, λ p values l b w d. k.2 p l b ref
 
 pub known_value : (T : ℕ → Text) (I : List TableRows) (found : List Found) (x : Cell) (v : ℕ) (b : Found) → x ≡ Ex v → b ∈ found → b.variable ≡ v → (values : ℕ → Value) → Gives I found values → cell_value T values x ≡ value_of I b
 known_value T I found x v b e m d values w = ap (cell_value T values) e ∙ (ap values (sym d) ∙ w b m)
+
+-- what holds of the one value that there may be
+pub some_known : (o : Option Value) (w : Value) (P : Value → Type 0) → IfSome o (λ v. v ≡ w) → P w → IfSome o P
+some_known None w P h p = tt
+some_known (Some v) w P h p = subst P (sym h) p
 
 -- a cell of an atom is one of the cells
 pub in_cells : (A : List Atom) (a : Atom) (c : Cell) → a ∈ A → c ∈ a.cells → c ∈ cells_of A

@@ -12,7 +12,7 @@ use Rattle.dx_model.specs.declared.tables.Key.{Key}
 use Rattle.dx_model.specs.declared.tables.Link.{Link}
 use Rattle.dx_model.specs.Tables.{Determination, KeysHold, LinksHold, RowsFit, Table, cell, key_of, table_of, values_in}
 use Rattle.dx_schema.specs.Forest.{Forest}
-use Rattle.dx_schema.specs.Tables.{AreTables, TableOf, as_numbers, model_tables, schema_widths, tables_of}
+use Rattle.dx_schema.specs.Tables.{AreTables, TableOf, as_numbers, model_tables, no_table, schema_widths, tables_of}
 use Rattle.dx_schema.specs.Tables.{table_at as schema_table}
 use Rattle.dx_instance.specs.Stored.{TableRows, facts, rows_of, table_at, widths}
 use Rattle.dx_instance.specs.Places.{row_at}
@@ -20,9 +20,6 @@ use Rattle.dx_instance.proofs.StoredFacts.{fact_from_row, fact_table, row_from_f
 use Rattle.dx_holds.specs.Columns.{LinkFits, RowsDiffer, RowsLead}
 
 -- ---- tables of the schema
-
-abbrev no_table : TableOf
-no_table = record { name = []; columns = []; keys = []; links = []; parent = None; inner = [] }
 
 abbrev no_numbers : Table
 no_numbers = record { width = 0; determinations = []; links = []; optional = [] }
@@ -152,4 +149,4 @@ link_fits f I t link e tables h m =
 pub key_fits : (f : Forest) (I : List TableRows) (t : ℕ) (key : Key) → widths I ≡ schema_widths f → AreTables (tables_of f) → t < length I → key ∈ (schema_table f t).keys → (c : ℕ) → c ∈ key.columns → c < (table_at I t).width
 key_fits f I t key e tables h m =
     let k : t < length (tables_of f) = omega (arith, h, as_many f I e) in
-    rw (as_wide f I t e h) ((tables.each_table (schema_table f t) (in_at (tables_of f) t no_table k)).keys key m).0
+    rw (as_wide f I t e h) ((tables.each_table (schema_table f t) (in_at (tables_of f) t no_table k)).keys key m).within

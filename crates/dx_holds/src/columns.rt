@@ -38,7 +38,7 @@ fn agrees(instance: &Instance, row: &Seen, table: u32, columns: &[u32], place: u
 }
 
 /// The least place from `from` on whose row has in these columns what the row that was seen has in its own. It goes by
-/// the first of the columns.
+/// the first of the columns that has an index, and else by the first.
 pub(crate) fn next_like(
     instance: &Instance,
     row: &Seen,
@@ -58,12 +58,13 @@ pub(crate) fn next_like(
     if columns.is_empty() {
         return instance.with_columns(table, &[], &[], from);
     }
+    let at = instance.indexed_among(table, columns);
     let seen = row.columns;
-    let value = instance.cell(row.table, row.place, seen[0]);
+    let value = instance.cell(row.table, row.place, seen[at]);
     let mut next = from;
     while let Some(place) = instance.with_columns(
         table,
-        from_ref(&columns[0]),
+        from_ref(&columns[at]),
         from_ref(value),
         next,
     ) {

@@ -47,7 +47,7 @@ fn table_keys_hold(schema: &Schema, instance: &Instance, table: u32) -> bool
 }
 
 /// Whether the keys of a schema hold in an instance: two rows of a table that agree on the columns of a key are one. It takes
-/// no memory. An index of the first column of each key makes it fast.
+/// no memory. An index of a column of each key makes it fast, if few rows have a value of it in common.
 pub fn keys_hold(schema: &Schema, instance: &Instance) -> bool
     requires { widths instance.now ≡ schema_widths schema.now }
     ensures { IsTrue result ↔ KeysHold (model_tables schema.now) (facts instance.now) }

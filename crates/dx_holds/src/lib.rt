@@ -2,14 +2,14 @@
 //!
 //! `keys_hold` and `links_hold` are true exactly if the facts of an instance satisfy the keys, or the links, of its schema
 //! (`KeysHold`, `LinksHold` of `dx_model`'s specs/Tables). Rows are looked for by the first column of a key, or of those that
-//! a link leads to: with indexes of these columns they need not go through all rows for each row.
+//! a link leads to, that has an index: with it they need not go through all rows for each row.
 //!
 //! `satisfied` is true exactly if each tuple of a rule's places has values for the existential variables with which all of the
 //! conclusion is in the target (`PlacesSatisfied` of specs/Rules). It searches in a `Room` that was reserved for rules before
 //! (specs/Rooms): existential variables get cells of the target as values, atom by atom (specs/Searching). After an atom the
 //! atoms that share a variable with it come next, and once they are done their values stay: so parts of a conclusion that share
-//! no variable, or none but known ones, are tried one after the other and never in all combinations. Rows are looked for by an
-//! existential variable that is known; an index of its column serves here too.
+//! no variable, or none but known ones, are tried one after the other and never in all combinations. Rows are looked for by the
+//! first cell that is known: a text, or an existential variable that has a value; an index of its column serves here too.
 #![tactic(auto)]
 
 mod columns;

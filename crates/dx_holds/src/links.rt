@@ -48,7 +48,7 @@ fn table_links_hold(schema: &Schema, instance: &Instance, table: u32) -> bool
 }
 
 /// Whether the links of a schema hold in an instance: each row has the rows that its links name. It takes no memory. An
-/// index of the first column that each link leads to makes it fast.
+/// index of a column that each link leads to makes it fast, if few rows have a value of it in common.
 pub fn links_hold(schema: &Schema, instance: &Instance) -> bool
     requires { widths instance.now ≡ schema_widths schema.now }
     ensures { IsTrue result ↔ LinksHold (model_tables schema.now) (facts instance.now) }

@@ -2,16 +2,17 @@
 ghost use Rattle.std.specs.Prelude.{◌≡◌, ◌↔◌, ◌<◌, ◌+◌, ◌^◌, ℕ, IsTrue, IfSome, MatchOption, length, vec_capacity};
 ghost use Rattle.dx_ports.specs.Members.{◌∈◌};
 ghost use Rattle.dx_model.specs.declared.values.Value.{Value as AnyValue};
+ghost use Rattle.dx_model.specs.declared.values.Value.TheVariants.{Const};
 ghost use Rattle.dx_model.specs.declared.rules.Cell.TheVariants.{Ex, Var};
 ghost use Rattle.dx_model.specs.Rules.{cells_of};
 ghost use Rattle.dx_instance.specs.Stored.{rows_of, table_at};
 ghost use Rattle.dx_instance.specs.Places.{value_at};
-ghost use Rattle.dx_holds.specs.Searching.{AreFound, IsCell, names};
+ghost use Rattle.dx_holds.specs.Searching.{AreFound, Gives, IsCell, names};
 ghost use Rattle.dx_holds.specs.Questions.{FindsRow, HasValue, IsAnswerable, IsNextPlace, NowhereFrom, SaysRow, Settles, TakesValue};
 
 use crate::texts::text_for;
 use dx_instance::Instance;
-use dx_model::{Atom, Cell, Value};
+use dx_model::{Atom, Cell, Value, copy_value};
 use dx_ports::Text;
 use std::slice::from_ref;
 
@@ -42,6 +43,26 @@ pub(crate) fn found_at(found: &[Found], variable: u32) -> Option<Found>
         }
     }
     None
+}
+
+/// A copy of the value, which takes no memory. None if its text has too many owners.
+fn shared(value: &Value) -> Option<Value>
+    ensures { IfSome result (λ v. v ≡ value.now) }
+{
+    match copy_value(value) {
+        Ok(copy) => Some(copy),
+        Err(_) => None,
+    }
+}
+
+/// The text as a value, which takes no memory. None if it has too many owners.
+fn shared_text(text: &Text) -> Option<Value>
+    ensures { IfSome result (λ v. v ≡ Const text.now) }
+{
+    match text.copy() {
+        Ok(copy) => Some(Value::Const(copy)),
+        Err(_) => None,
+    }
 }
 
 /// Whether a variable or a literal has this value. An existential variable has none.
@@ -134,6 +155,26 @@ fn meet_row(question: &Question, found: &mut Vec<Found>, atom: &Atom, place: u32
     true
 }
 
+/// The value of a cell, if it is known: its text, or the value of an existential variable that was found. It takes no memory.
+/// None too if a text has too many owners.
+fn known_value(question: &Question, found: &[Found], cell: &Cell) -> Option<Value>
+    requires asked { IsAnswerable question.now }
+    requires known { (x : ℕ) → cell.now ≡ Var x → Var x ∈ cells_of question.now.atoms.now }
+    requires good { (n : ℕ) × AreFound question.now.target.now n found.now }
+    ensures { IfSome result (λ v. (values : ℕ → AnyValue) → Gives question.now.target.now found.now values
+        → HasValue question.now cell.now v values) }
+{
+    let target = question.target;
+    match cell {
+        Cell::Ex(variable) => match found_at(found, *variable) {
+            Some(entry) => shared(target.cell(entry.table, entry.place, entry.column)),
+            None => None,
+        },
+        Cell::Var(x) => shared_text(text_for(question.atoms, question.tuple, *x)),
+        Cell::Lit(text) => shared_text(text),
+    }
+}
+
 /// The least place from `from` on whose row agrees with the atom in the first column that is known.
 fn candidate(question: &Question, found: &[Found], atom: &Atom, from: u32) -> Option<u32>
     requires asked { IsAnswerable question.now }
@@ -144,11 +185,8 @@ fn candidate(question: &Question, found: &[Found], atom: &Atom, from: u32) -> Op
     let target = question.target;
     let cells = atom.cells.items();
     for column in 0..target.width(atom.table) {
-        if let Cell::Ex(variable) = &cells[column as usize] {
-            if let Some(entry) = found_at(found, *variable) {
-                let value = target.cell(entry.table, entry.place, entry.column);
-                return target.with_columns(atom.table, from_ref(&column), from_ref(value), from);
-            }
+        if let Some(value) = known_value(question, found, &cells[column as usize]) {
+            return target.with_columns(atom.table, from_ref(&column), from_ref(&value), from);
         }
     }
     target.with_columns(atom.table, &[], &[], from)

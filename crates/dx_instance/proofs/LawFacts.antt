@@ -1,7 +1,8 @@
 -- Facts of tables: their order, and their widths.
-use Rattle.std.proofs.Common.{◌≡◌, ◌∙◌, ◌<◌, ◌++◌, ◌∷◌, ℕ, suc, List, [], refl, sym, ap, subst, arith, length, get_or, map, inl, inr}
+use Rattle.std.proofs.Common.{◌≡◌, ◌∙◌, ◌<◌, ◌≤◌, ◌++◌, ◌∷◌, ℕ, suc, List, [], refl, sym, ap, subst, arith, length, get_or, map, inl, inr}
 use Rattle.std.specs.declared.cmp.Ordering.TheVariants.{Less}
-use Rattle.std.proofs.lemmas.List.{length-map, get_or-map}
+use Rattle.std.proofs.lemmas.Bool.{cases_lt}
+use Rattle.std.proofs.lemmas.List.{length-map, get_or-map, get_or_past}
 use Rattle.dx_model.specs.declared.values.Value.{Value}
 use Rattle.dx_model.specs.declared.facts.Fact.{Fact}
 use Rattle.dx_model.specs.Tables.{IsInstance, Table}
@@ -42,6 +43,10 @@ ascend_from n (t ∷ ts) up = append_ascends (map (fact_in n) t.rows) (facts_fro
 
 pub sorted_facts : (I : List TableRows) → ((t : ℕ) → RowsAscend (rows_of I t)) → FactsAscend (facts I)
 sorted_facts I up = ascend_from 0 I up
+
+-- tables that stand there ascend, and the others have no rows
+pub all_of : (I : List TableRows) (n : ℕ) → length I ≤ n → ((t : ℕ) → t < n → RowsAscend (rows_of I t)) → (t : ℕ) → RowsAscend (rows_of I t)
+all_of I n h up t = elim (cases_lt t n) [ inl l ↦ up t l | inr l ↦ subst (λ (u : TableRows). RowsAscend u.rows) (sym (get_or_past I t (record { width = 0; rows = [] }) (omega (arith, h, l)))) tt ]
 
 pub facts_fit : (schema : List Table) (I : List TableRows) → widths I ≡ map (λ (t : Table). t.width) schema → Each I (λ t. Each t.rows (λ (row : List Value). length row ≡ t.width)) → IsInstance schema (facts I)
 facts_fit schema I e wide f m =

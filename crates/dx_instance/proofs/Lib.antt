@@ -25,3 +25,5 @@ pub mod NoTexts
 pub mod ShortFacts
 pub mod LayerFacts
 pub mod RowKeyFacts
+pub mod Sorting
+pub mod NullOrderFacts

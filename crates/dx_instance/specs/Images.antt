@@ -14,6 +14,11 @@ pub record AreImages (m : ByNull) (S T : List Value) (images : List ℕ) (i : �
   pub within : (n : ℕ) → n < i → slice_index images n < length T
   pub at : (n : ℕ) → n < i → value_of T (slice_index images n) ≡ moved (becomes m) (value_of S n)
 
+-- the number of what the value under a number becomes
+pub record IsImageNumber (m : ByNull) (S : List Value) (n k : ℕ) : Type 0 where
+  pub within : k < length S
+  pub is : value_of S k ≡ moved (becomes m) (value_of S n)
+
 -- the same widths, ascending rows, and as facts the image under the map
 pub record IsImage (m : ByNull) (old new : List TableRows) : Type 0 where
   pub widths_stay : widths new ≡ widths old

@@ -3,8 +3,9 @@ use Rattle.std.specs.Prelude.{◌≡◌, ℕ, ◌<◌, ◌≤◌, List, [], ◌+
 use Rattle.std.specs.List.{AllPairs}
 use Rattle.dx_ports.specs.Members.{◌∈◌, ◌⊆◌}
 use Rattle.std.specs.declared.cmp.Ordering.TheVariants.{Less}
+use Rattle.dx_model.specs.declared.values.NullId.{NullId}
 use Rattle.dx_model.specs.declared.values.Value.{Value}
-use Rattle.dx_model.specs.declared.values.Value.TheVariants.{Const}
+use Rattle.dx_model.specs.declared.values.Value.TheVariants.{Const, Null}
 use Rattle.dx_model.specs.Values.{value_cmp}
 
 -- the value under a number
@@ -18,6 +19,14 @@ AreApart symbols = AllPairs (λ v w. ¬ (v ≡ w)) symbols
 -- each value is below all that follow, so numbers compare as their values
 abbrev pub ValuesAscend : List Value → Type 0
 ValuesAscend symbols = AllPairs (λ v w. value_cmp v w ≡ Less) symbols
+
+-- a constant, whatever its text
+abbrev pub IsConstant : Value → Type 0
+IsConstant v = (text : List ℕ) × (v ≡ Const text)
+
+-- a null, whichever it is
+abbrev pub IsSomeNull : Value → Type 0
+IsSomeNull v = (n : NullId) × (v ≡ Null n)
 
 -- the values of a block, if there is one
 abbrev pub values_if : {B : Type 0} → Option B → (B → List Value) → List Value

@@ -2,16 +2,17 @@
 ghost use Rattle.std.specs.Prelude.{◌≡◌, ◌↔◌, ◌<◌, ◌≤◌, ◌-◌, ◌^◌, ℕ, List, length, map, count_by, Some, slice_get, slice_index, slice_index_or, IsTrue, IfOk, OnOk, OnErr, IfSome, IfNone, MatchBool, MatchOption};
 ghost use Rattle.std.specs.Bool.{OnTrue};
 ghost use Rattle.std.specs.List.{AllZip};
-ghost use Rattle.dx_ports.specs.Members.{Distinct, Each, ◌∈◌};
-ghost use Rattle.dx_model.specs.Values.{RowsAscend};
+ghost use Rattle.dx_ports.specs.Members.{Distinct, Each, ◌∈◌, ◌≈◌};
+ghost use Rattle.dx_model.specs.Values.{FactsAscend, RowsAscend};
 ghost use Rattle.dx_instance.specs.Stored.{AddsRow, IsSorting, facts, rows_of, table_at, without_rows};
 ghost use Rattle.dx_instance.specs.Cells.{IsPut};
-ghost use Rattle.dx_instance.specs.Images.{AreImages, IsImage};
+ghost use Rattle.dx_instance.specs.Images.{AreImages, IsImage, IsImageNumber};
 ghost use Rattle.dx_instance.specs.Numbers.{AreApart, Extends, ValuesAscend, value_of};
 ghost use Rattle.dx_instance.specs.Shown.{AreBelow, NumbersFit, PartsFit, RowsFit, Shows, renumbered, shown_row, shown_tables};
 ghost use Rattle.dx_instance.specs.Places.{HasValues, IsFirstWith, row_at, rows_with, value_at};
 
 use crate::cells::Rows;
+use crate::fact_order::facts_in_order;
 use crate::gathered::Gathered;
 use crate::null_map::NullMap;
 use crate::numbers::Numbers;
@@ -99,6 +100,38 @@ fn images_of(
     Ok(images)
 }
 
+// The number of what the value under a number becomes, if it has one. Constants, and nulls that stay, keep theirs.
+fn image_number(symbols: &Symbols, map: &NullMap, number: u64) -> Option<u64>
+    requires { number < length symbols.now }
+    ensures { IfSome result (IsImageNumber map.now symbols.now number) }
+{
+    match symbols.value(number) {
+        Value::Const(_) => Some(number),
+        Value::Null(null) => match map.get(null) {
+            Some(value) => symbols.find(value),
+            None => Some(number),
+        },
+    }
+}
+
+// The number of what each value becomes, if each has one among the same symbols.
+fn images_among(
+    alloc: Global,
+    symbols: &Symbols,
+    map: &NullMap,
+) -> Result<Option<Vec<u32>>, AllocError>
+    ensures { IfOk result (λ o. IfSome o (λ images. AreImages map.now symbols.now symbols.now images.items (length symbols.now))) }
+{
+    let mut images = Vec::with_capacity(alloc, symbols.len() as usize)?;
+    for number in 0..symbols.len() {
+        let Some(image) = image_number(symbols, map, number) else {
+            return Ok(None);
+        };
+        images.push(image as u32)?;
+    }
+    Ok(Some(images))
+}
+
 // Tables of rows, which are put in order.
 fn put_all(alloc: Global, tables: Vec<Rows>) -> Result<Vec<Table>, AllocError>
     ensures { IfOk result (λ all. AllZip IsPut tables.items all.items) }
@@ -161,6 +194,22 @@ fn row_images(alloc: Global, tables: &[Table], images: &[u32]) -> Result<Vec<Row
         all.push(table.renumbered(alloc, images)?)?;
     }
     Ok(all)
+}
+
+// The instance with other numbers of the same symbols in place of each number. Rows that still ascend are not sorted.
+fn image_by(
+    alloc: Global,
+    symbols: &Symbols,
+    tables: &[Table],
+    images: &[u32],
+) -> Result<Instance, AllocError>
+    requires fit { PartsFit symbols.now tables.now }
+    requires long { length images.now ≡ length symbols.now }
+    requires within { (n : ℕ) → n < length symbols.now → slice_index images.now n < length symbols.now }
+    ensures { IfOk result (IsSorting (shown_tables symbols.now (map (renumbered images.now) tables.now))) }
+{
+    let rows = row_images(alloc, tables, images)?;
+    Instance::from_rows(alloc, symbols.copy(alloc)?, rows)
 }
 
 // Copies of the rows of tables.
@@ -317,6 +366,15 @@ impl Instance {
         self.tables[table as usize].index(self.alloc, column)
     }
 
+    /// Which of these columns to go by: the first that has an index, and else the first. It takes no memory.
+    pub fn indexed_among(&self, table: u32, columns: &[u32]) -> usize
+        requires table { table < length self.now }
+        requires some { 0 < length columns.now }
+        ensures { result < length columns.now }
+    {
+        self.tables[table as usize].indexed_among(columns)
+    }
+
     /// The least place from `from` on whose row has these values in these columns. It goes by the first of the columns
     /// that has an index, or else through the rows. It takes no memory.
     pub fn with_columns(
@@ -368,12 +426,20 @@ impl Instance {
         count
     }
 
-    /// The facts: table by table, the rows as they stand. If the rows of each table ascend, so do the facts.
-    ///
-    /// # Errors
-    ///
-    /// `AllocError` if there is no memory.
-    pub fn facts(&self) -> Result<Vec<Fact>, AllocError>
+    // Whether the rows of each table are known to ascend.
+    fn all_ascend(&self) -> bool
+        ensures { OnTrue result ((t : ℕ) → RowsAscend (rows_of self.now t)) }
+    {
+        for table in 0..self.tables() {
+            if !self.is_ascending(table) {
+                return false;
+            }
+        }
+        true
+    }
+
+    // The facts: table by table, the rows as they stand.
+    fn stored_facts(&self) -> Result<Vec<Fact>, AllocError>
         ensures { IfOk result (λ v. v.items ≡ facts self.now) }
     {
         let mut all = Vec::new(self.alloc);
@@ -384,6 +450,22 @@ impl Instance {
             }
         }
         Ok(all)
+    }
+
+    /// The facts, ascending, each once. They are sorted only if the rows of some table are not known to ascend.
+    ///
+    /// # Errors
+    ///
+    /// `AllocError` if there is no memory.
+    pub fn facts(&self) -> Result<Vec<Fact>, AllocError>
+        ensures ascend { IfOk result (λ v. FactsAscend v.items) }
+        ensures same { IfOk result (λ v. v.items ≈ facts self.now) }
+    {
+        let all = self.stored_facts()?;
+        if self.all_ascend() {
+            return Ok(all);
+        }
+        Ok(facts_in_order(all))
     }
 
     /// A copy of a row.
@@ -479,7 +561,18 @@ impl Instance {
         self.symbols.is_ordered() && self.tables[table as usize].is_ascending()
     }
 
-    /// The image under the map. The rows of each table ascend.
+    // The image with symbols of its own.
+    fn map_anew(&self, map: &NullMap) -> Result<Instance, AllocError>
+        ensures { IfOk result (IsImage map.now self.now) }
+    {
+        let mut symbols = Symbols::new(self.alloc);
+        let images = images_of(self.alloc, &self.symbols, map, &mut symbols)?;
+        let tables = row_images(self.alloc, &self.tables, &images)?;
+        Instance::from_rows(self.alloc, symbols, tables)
+    }
+
+    /// The image under the map. The rows of each table ascend. Mostly what each value becomes stands in the instance already:
+    /// then the values are shared with it.
     ///
     /// # Errors
     ///
@@ -487,10 +580,11 @@ impl Instance {
     pub fn map_by(&self, map: &NullMap) -> Result<Instance, AllocError>
         ensures { IfOk result (IsImage map.now self.now) }
     {
-        let mut symbols = Symbols::new(self.alloc);
-        let images = images_of(self.alloc, &self.symbols, map, &mut symbols)?;
-        let tables = row_images(self.alloc, &self.tables, &images)?;
-        Instance::from_rows(self.alloc, symbols, tables)
+        let found = images_among(self.alloc, &self.symbols, map)?;
+        let Some(images) = found else {
+            return self.map_anew(map);
+        };
+        image_by(self.alloc, &self.symbols, &self.tables, &images)
     }
 
     /// Whether the row is in the table. It takes no memory.

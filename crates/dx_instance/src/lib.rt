@@ -18,6 +18,7 @@
 mod cells;
 mod chains;
 mod column_index;
+mod fact_order;
 mod gathered;
 mod hints;
 mod instance;

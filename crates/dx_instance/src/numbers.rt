@@ -1,8 +1,9 @@
 // An instance seen as tables of numbers.
-ghost use Rattle.std.specs.Prelude.{◌≡◌, ◌<◌, IfOk, length};
+ghost use Rattle.std.specs.Prelude.{◌≡◌, ◌<◌, ◌≤◌, ℕ, IfOk, length};
 ghost use Rattle.std.specs.Bool.{OnTrue};
-ghost use Rattle.dx_instance.specs.Cells.{numbers_at};
-ghost use Rattle.dx_instance.specs.Numbers.{IsNumberOf, ValuesAscend, value_of};
+ghost use Rattle.dx_instance.specs.Cells.{IsPlaceOf, numbers_at};
+ghost use Rattle.dx_instance.specs.Indexes.{IsNext};
+ghost use Rattle.dx_instance.specs.Numbers.{IsConstant, IsNumberOf, IsSomeNull, ValuesAscend, value_of};
 ghost use Rattle.dx_instance.specs.Shown.{AreBelow, PartsFit, numbers_of_table};
 
 use crate::symbols::Symbols;
@@ -74,6 +75,16 @@ impl<'a> Numbers<'a> {
         }
     }
 
+    /// If the symbols are in order, the number of the first null: all smaller numbers are those of constants, and it and all
+    /// greater ones those of nulls. If there are no nulls, how many symbols there are.
+    pub fn first_null(&self) -> u32
+        ensures within { result ≤ length self.now.symbols }
+        ensures constants { ValuesAscend self.now.symbols → (n : ℕ) → n < result → IsConstant (value_of self.now.symbols n) }
+        ensures nulls { ValuesAscend self.now.symbols → (n : ℕ) → result ≤ n → n < length self.now.symbols → IsSomeNull (value_of self.now.symbols n) }
+    {
+        self.symbols.first_null() as u32
+    }
+
     /// How many tables there are.
     pub fn tables(&self) -> u32
         ensures { result ≡ length self.now.tables }
@@ -107,6 +118,31 @@ impl<'a> Numbers<'a> {
     {
         let tables = self.tables;
         tables[table as usize].row(place)
+    }
+
+    /// The place of a row, if it is there.
+    pub fn find_row(&self, table: u32, row: &[u32]) -> Option<u32>
+        requires { table < length self.now.tables }
+        ensures { IsPlaceOf (numbers_of_table self.now.tables table).rows (numbers_of_table self.now.tables table).rows row.now result }
+    {
+        self.tables[table as usize].find(row)
+    }
+
+    /// Whether the column has an index, so that `next_with` need not go through the rows.
+    pub fn has_index(&self, table: u32, column: u32) -> bool
+        requires { table < length self.now.tables }
+    {
+        self.tables[table as usize].has_index(column)
+    }
+
+    /// The least place from `from` on whose row has this number in this column. It goes by the index of the column, if it
+    /// has one, or else through the rows. It takes no memory.
+    pub fn next_with(&self, table: u32, column: u32, number: u32, from: u32) -> Option<u32>
+        requires table { table < length self.now.tables }
+        requires column { column < (numbers_of_table self.now.tables table).width }
+        ensures { IsNext (numbers_of_table self.now.tables table).rows column number from result }
+    {
+        self.tables[table as usize].next_with(column, number, from)
     }
 
     /// A copy of the symbols.

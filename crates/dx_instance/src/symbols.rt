@@ -1,10 +1,10 @@
 // Values under numbers.
-ghost use Rattle.std.specs.Prelude.{◌≡◌, ◌<◌, ◌^◌, ℕ, [], ◌∷◌, ◌++◌, IfOk, IfSome, OnOk, OnErr, Some, length, slice_index};
+ghost use Rattle.std.specs.Prelude.{◌≡◌, ◌<◌, ◌≤◌, ◌^◌, ℕ, [], ◌∷◌, ◌++◌, IfOk, IfSome, OnOk, OnErr, Some, length, slice_index};
 ghost use Rattle.std.specs.Bool.{OnTrue};
 ghost use Rattle.std.specs.declared.cmp.Ordering.TheVariants.{Less};
 ghost use Rattle.dx_model.specs.Values.{value_cmp};
 ghost use Rattle.dx_ports.specs.Members.{Each, ◌∈◌};
-ghost use Rattle.dx_instance.specs.Numbers.{AreApart, Extends, IsNumberOf, IsOrdering, ValuesAscend, value_of};
+ghost use Rattle.dx_instance.specs.Numbers.{AreApart, Extends, IsConstant, IsNumberOf, IsOrdering, IsSomeNull, ValuesAscend, value_of};
 
 use crate::hints::hint_of;
 use crate::layer::Layer;
@@ -140,6 +140,25 @@ impl Symbols {
         ensures { result.now ≡ value_of self.now symbol }
     {
         self.lent().value(symbol)
+    }
+
+    /// If all values are in order, the number of the first null: constants come before nulls. Without nulls, how many
+    /// values there are.
+    pub fn first_null(&self) -> u64
+        ensures within { result ≤ length self.now }
+        ensures constants { ValuesAscend self.now → (n : ℕ) → n < result → IsConstant (value_of self.now n) }
+        ensures nulls { ValuesAscend self.now → (n : ℕ) → result ≤ n → n < length self.now → IsSomeNull (value_of self.now n) }
+    {
+        let mut low = 0u64;
+        let mut high = self.len();
+        while low < high {
+            let middle = low + (high - low) / 2;
+            match self.value(middle) {
+                Value::Const(_) => low = middle + 1,
+                Value::Null(_) => high = middle,
+            }
+        }
+        low
     }
 
     // The number of the value, if the hints tell it at once.

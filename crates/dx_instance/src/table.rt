@@ -248,6 +248,11 @@ impl Table {
         Ok(())
     }
 
+    /// Whether the column has an index.
+    pub fn has_index(&self, column: u32) -> bool {
+        index_of(&self.indexes, column).is_some()
+    }
+
     /// The place of the first of these columns that has an index, and else 0.
     pub fn indexed_among(&self, columns: &[u32]) -> usize
         requires { 0 < length columns.now }

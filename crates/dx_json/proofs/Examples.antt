@@ -7,7 +7,7 @@ use Rattle.serde_json.specs.Data.{Data, unsigned, float, null, boolean, number, 
 use Rattle.dx_model.specs.declared.values.NullId.{NullId}
 use Rattle.dx_model.specs.declared.values.Value.TheVariants.{Const, Null}
 use Rattle.dx_model.specs.declared.facts.Fact.{Fact}
-use Rattle.dx_schema.specs.Forest.{Forest, Label, Tree, none, set}
+use Rattle.dx_schema.specs.Forest.{Forest, Label, Tree, none, set, bare}
 use Rattle.dx_schema.specs.Tables.{Text}
 use Rattle.dx_instance.specs.Stored.{TableRows}
 use Rattle.dx_json.specs.declared.fault.JsonKind.TheVariants as kind
@@ -16,7 +16,7 @@ use Rattle.dx_json.specs.Documents.{document_says, first_fault, tree_says, witho
 use Rattle.dx_json.specs.Nesting.{nested_text, root_objects}
 
 abbrev label : Text → List Text → Label
-label name columns = record { name = name; columns = columns; keys = []; refs = [] }
+label name columns = bare name columns
 
 -- clubs with their members
 abbrev club : Tree

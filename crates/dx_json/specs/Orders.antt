@@ -7,7 +7,7 @@ use Rattle.std.specs.Cmp.Lexicographic.{slice_cmp}
 use Rattle.serde_json.specs.Data.{Data, string, array, Members, no_members, member}
 use Rattle.dx_model.specs.declared.values.Value.{Value}
 use Rattle.dx_model.specs.Tables.{cell}
-use Rattle.dx_schema.specs.Forest.{Label, Forest, Tree, none, set}
+use Rattle.dx_schema.specs.Forest.{Label, Forest, Tree, none, set, bare}
 use Rattle.dx_schema.specs.Tables.{Text, count}
 use Rattle.dx_instance.specs.Stored.{TableRows, table_at}
 use Rattle.dx_instance.specs.ValueText.{value_text_of}
@@ -53,7 +53,7 @@ orders_of (set l inner rest) table = order_of l inner true table ∷ (orders_of 
 
 -- the set at a place of a level
 abbrev pub tree_in : Forest → ℕ → Tree
-tree_in none k = record { label = record { name = []; columns = []; keys = []; refs = [] }; inner = none }
+tree_in none k = record { label = bare [] []; inner = none }
 tree_in (set l inner rest) zero = record { label = l; inner = inner }
 tree_in (set l inner rest) (suc k) = tree_in rest k
 

@@ -1,6 +1,6 @@
 -- Employees and persons: lines with names that are there, and with names that aren't.
 use Rattle.std.proofs.Common.{◌≡◌, ℕ, List, [], ◌∷◌, Option, Some, None, codes, refl}
-use Rattle.dx_schema.specs.Forest.{Forest, none, set}
+use Rattle.dx_schema.specs.Forest.{Forest, none, set, bare}
 use Rattle.dx_schema.specs.Tables.{Text}
 use Rattle.dx_tokens.specs.declared.faults.TextFault.{TextFault}
 use Rattle.dx_tokens.specs.declared.faults.TextFault.TheVariants.{At}
@@ -14,7 +14,7 @@ use Rattle.dx_line_text.specs.Naming.{lines_fault, lines_of}
 
 -- a set of one level, with one column
 abbrev flat : Text → Text → Forest → Forest
-flat name column rest = set (record { name = name; columns = column ∷ []; keys = []; refs = [] }) none rest
+flat name column rest = set (bare name (column ∷ [])) none rest
 
 -- offices and employees
 abbrev employees : Forest

@@ -7,7 +7,7 @@ use Rattle.dx_ports.specs.Members.{here, there, Each}
 use Rattle.dx_ports.proofs.Members.{from_map}
 use Rattle.dx_model.specs.Tables.{table_of}
 use Rattle.dx_schema.specs.Forest.{Forest}
-use Rattle.dx_schema.specs.Tables.{TableOf, tables_of, table_at, as_numbers, model_tables}
+use Rattle.dx_schema.specs.Tables.{TableOf, tables_of, table_at, as_numbers, model_tables, no_table}
 use Rattle.dx_schema.specs.Faults.{is_among}
 use Rattle.dx_schema.proofs.Loops.{among_number}
 use Rattle.dx_tokens.specs.declared.faults.TextFault.TheVariants.{At}
@@ -33,7 +33,7 @@ is_column f p set_there column_there =
     let t = set_number f p.set in
     let lt : t < length (tables_of f) = rw (← length-map (tables_of f) (λ (t : TableOf). t.name)) (among_number p.set (set_names f) set_there) in
     let width : (table_of (model_tables f) t).width ≡ length (table_at f t).columns =
-    ap (λ n. n.width) (get_or-map as_numbers (tables_of f) t (record { name = []; columns = []; keys = []; links = []; parent = None; inner = [] }) (record { width = 0; determinations = []; links = []; optional = [] }) lt) in
+    ap (λ n. n.width) (get_or-map as_numbers (tables_of f) t no_table (record { width = 0; determinations = []; links = []; optional = [] }) lt) in
     record {
       table = rw (length-map (tables_of f) as_numbers) lt;
       column = rw width (among_number p.column (columns_in f p.set) column_there);

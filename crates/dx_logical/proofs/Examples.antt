@@ -1,9 +1,9 @@
 -- Unfoldings of small schemas, and a subtree.
-use Rattle.std.proofs.Common.{◌≡◌, ℕ, Some, None, List, [], ◌∷◌, refl, length}
+use Rattle.std.proofs.Common.{◌≡◌, ℕ, Some, None, List, [], ◌∷◌, refl, length, false}
 use Rattle.std.specs.Prelude.{map}
 use Rattle.dx_model.specs.declared.tables.Link.{Link}
 use Rattle.dx_model.specs.Tables.{Table}
-use Rattle.dx_schema.specs.Forest.{Forest, none, set}
+use Rattle.dx_schema.specs.Forest.{Forest, none, set, bare}
 use Rattle.dx_schema.specs.Tables.{Text, model_tables}
 use Rattle.dx_logical.specs.declared.relation.Occurrence.{Occurrence}
 use Rattle.dx_logical.specs.Unfolding.{unfolding_of, sub}
@@ -30,8 +30,8 @@ c = 99 ∷ []
 -- emp(a, b) with a ref from b to a of dept(a)
 abbrev employees : Forest
 employees =
-    set (record { name = a; columns = a ∷ b ∷ []; keys = []; refs = record { columns = b ∷ []; set = b; referred = a ∷ [] } ∷ [] }) none
-    (set (record { name = b; columns = a ∷ []; keys = []; refs = [] }) none none)
+    set (record { name = a; columns = a ∷ b ∷ []; keys = []; deps = []; refs = record { columns = b ∷ []; set = b; referred = a ∷ []; optional = false } ∷ [] }) none
+    (set (bare b (a ∷ [])) none none)
 
 -- emp(0, 1), dept(1)
 employees-unfolded : unfolded_from (model_tables employees) 0 ≡ (0, 0 ∷ 1 ∷ []) ∷ (1, 1 ∷ []) ∷ []
@@ -50,7 +50,7 @@ departments-unfolded = refl
 
 -- unit(#id, b) with the inner set staff(#up, a)
 abbrev units : Forest
-units = set (record { name = a; columns = b ∷ []; keys = []; refs = [] }) (set (record { name = b; columns = a ∷ []; keys = []; refs = [] }) none none) none
+units = set (bare a (b ∷ [])) (set (bare b (a ∷ [])) none none) none
 
 -- staff(0, 1), unit(0, 2)
 staff-unfolded : unfolded_from (model_tables units) 1 ≡ (1, 0 ∷ 1 ∷ []) ∷ (0, 0 ∷ 2 ∷ []) ∷ []
@@ -59,8 +59,8 @@ staff-unfolded = refl
 -- trip(a, b, c) with refs from b and from c to a of city(a, b)
 abbrev trips : Forest
 trips =
-    set (record { name = a; columns = a ∷ b ∷ c ∷ []; keys = []; refs = record { columns = b ∷ []; set = b; referred = a ∷ [] } ∷ record { columns = c ∷ []; set = b; referred = a ∷ [] } ∷ [] }) none
-    (set (record { name = b; columns = a ∷ b ∷ []; keys = []; refs = [] }) none none)
+    set (record { name = a; columns = a ∷ b ∷ c ∷ []; keys = []; deps = []; refs = record { columns = b ∷ []; set = b; referred = a ∷ []; optional = false } ∷ record { columns = c ∷ []; set = b; referred = a ∷ []; optional = false } ∷ [] }) none
+    (set (bare b (a ∷ b ∷ [])) none none)
 
 -- trip(0, 1, 2), city(1, 3), city(2, 4)
 trips-unfolded : unfolded_from (model_tables trips) 0 ≡ (0, 0 ∷ 1 ∷ 2 ∷ []) ∷ (1, 1 ∷ 3 ∷ []) ∷ (1, 2 ∷ 4 ∷ []) ∷ []

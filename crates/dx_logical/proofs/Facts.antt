@@ -5,7 +5,7 @@ use Rattle.std.proofs.lemmas.Bool.{cases_lt, cond_both, cond-true, cond-false, e
 use Rattle.std.proofs.lemmas.List.{drop_more, drop_all, length_push, get_or_push, get_or_append_left, length-map, length-drop, append-nil}
 use Rattle.std.proofs.lemmas.List.Concat.{flat_map-append}
 use Rattle.dx_ports.specs.Members.{◌∈◌, here, there, Distinct, Each}
-use Rattle.dx_ports.proofs.Members.{in_at, from_map, from_append}
+use Rattle.dx_ports.proofs.Members.{in_at, in_left, from_map, from_append}
 use Rattle.dx_model.specs.declared.tables.Link.{Link}
 use Rattle.dx_model.specs.Tables.{Table, table_of, AreWithin}
 use Rattle.dx_schema.specs.Links.{IsAcyclic, GoesOn, stop, on, LinkFits, LinksFit}
@@ -173,7 +173,7 @@ along_lift r s p k q l x h a = record {
 -- the links of a table fit
 fit_at : (schema : List Table) (t k : ℕ) (l : Link) → LinksFit schema → t < length schema → k < length (table_of schema t).links → link_at schema t k ≡ l
     → LinkFits schema (table_of schema t).width l
-fit_at schema t k l fits h m e = fits (table_of schema t) (in_at schema t _ h) l (rw (← e) (in_at (table_of schema t).links k _ m))
+fit_at schema t k l fits h m e = fits (table_of schema t) (in_at schema t _ h) l (in_left (table_of schema t).optional (rw (← e) (in_at (table_of schema t).links k _ m)))
 
 -- the new occurrence follows along the link
 along_joined : (schema : List Table) (r : Relation) (p k : ℕ) (l : Link) (vs : List ℕ) (width : ℕ) → LinkFits schema width l → p < length r.occurrences → (occurrence_at r p).variables ≡ vs
@@ -377,7 +377,7 @@ each_link_all schema below k (l ∷ ls) h = (refl, refl, h l (here refl), each_l
 -- where no way is as long as the tree is deep, it has all links
 deep_enough : (schema : List Table) (n t : ℕ) → ¬ (GoesOn schema n t) → AreAllLinks schema (all_links schema n t) 0 (table_of schema t).links
 deep_enough schema zero t h = absurd (h stop)
-deep_enough schema (suc n) t h = each_link_all schema (all_links schema n) 0 (table_of schema t).links (λ l m. deep_enough schema n l.table (λ way. h (on l m way)))
+deep_enough schema (suc n) t h = each_link_all schema (all_links schema n) 0 (table_of schema t).links (λ l m. deep_enough schema n l.table (λ way. h (on l (in_left (table_of schema t).optional m) way)))
 
 pub all_links_all : (schema : List Table) (t : ℕ) → IsAcyclic schema → t < length schema → AreAllLinks schema (all_links schema (length schema) t) 0 (table_of schema t).links
 all_links_all schema t a h = deep_enough schema (length schema) t (λ way. let l = links_end schema (length schema) t a h way in absurd (omega arith))

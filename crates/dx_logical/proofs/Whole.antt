@@ -1,6 +1,7 @@
 -- As many levels of links as there are tables are enough.
 use Rattle.std.proofs.Common.{◌≡◌, ℕ, zero, suc, List, [], ◌∷◌, sym, refl, ◌∙◌, length}
 use Rattle.dx_ports.specs.Members.{◌∈◌, here, there}
+use Rattle.dx_ports.proofs.Members.{in_left}
 use Rattle.dx_model.specs.declared.tables.Link.{Link}
 use Rattle.dx_model.specs.Tables.{Table, table_of}
 use Rattle.dx_schema.proofs.Levels.{level, IsLocal, settles}
@@ -23,6 +24,6 @@ links_level schema (suc n) t = each_same (all_links schema n) (level (λ u. none
 
 pub follows_each_link : FollowsEachLink
 follows_each_link schema t a w =
-    let by_links : IsLocal schema (one_level schema) = λ f g u h. each_same f g 0 (table_of schema u).links h in
+    let by_links : IsLocal schema (one_level schema) = λ f g u h. each_same f g 0 (table_of schema u).links (λ l i. h l (in_left (table_of schema u).optional i)) in
     let e = settles schema a (λ u. none) (one_level schema) by_links t w in
     links_level schema (length schema) t ∙ (sym e ∙ sym (links_level schema (suc (length schema)) t))

@@ -2,10 +2,10 @@
 use Rattle.std.proofs.Common.{◌≡◌, true, false, [], ◌∷◌, codes, refl}
 use Rattle.dx_model.specs.declared.rules.Cell.TheVariants.{Var, Ex}
 use Rattle.dx_model.specs.declared.rules.Rule.{Rule}
-use Rattle.dx_model.specs.Covers.{before, used_maps, least_cover, uncovered, folded}
+use Rattle.dx_model.specs.Covers.{before, cover_fold, used_maps, least_cover, uncovered, folded}
 use Rattle.dx_model.specs.Rules.{canonical}
 use Rattle.dx_model.specs.Values.{Rows}
-use Rattle.dx_model.specs.declared.values.Value.TheVariants.{Const}
+use Rattle.dx_model.specs.declared.values.Value.TheVariants.{Const, Null}
 
 -- T(x0, y0) and T(x0, x1): the first has one cell map to the second, and the second none to the first
 narrow : Rule
@@ -52,6 +52,19 @@ one_is_left = refl
 null_folds : folded (narrow ∷ wide ∷ []) ann_twice (least_cover (narrow ∷ wide ∷ []) ann_twice) 3 (record { rule = 0; var = 0; row = 0 }) ≡ Const (codes "1")
 unfolding narrow wide ann_twice
 null_folds = refl
+
+-- nulls of no place stay: of a place that is not there, of a second variable, and of a rule that is not there
+no_place_stays : cover_fold (narrow ∷ wide ∷ []) ann_twice (record { rule = 0; var = 0; row = 1 }) ≡ Null (record { rule = 0; var = 0; row = 1 })
+unfolding narrow wide ann_twice
+no_place_stays = refl
+
+no_variable_stays : cover_fold (narrow ∷ wide ∷ []) ann_twice (record { rule = 0; var = 1; row = 0 }) ≡ Null (record { rule = 0; var = 1; row = 0 })
+unfolding narrow wide ann_twice
+no_variable_stays = refl
+
+no_rule_stays : cover_fold (narrow ∷ wide ∷ []) ann_twice (record { rule = 2; var = 0; row = 0 }) ≡ Null (record { rule = 2; var = 0; row = 0 })
+unfolding narrow wide ann_twice
+no_rule_stays = refl
 
 -- where it has other texts, nothing is covered
 ann_and_bob : Rows

@@ -243,6 +243,12 @@ folded R rows cover (suc m) n = elim (cover n.rule n.row) [
 abbrev pub uncovered_part : List Rule → Rows → List Fact
 uncovered_part R rows = uncovered (least_cover R rows) 0 R rows
 
--- the cover fold
+-- whether the null is that of an existential variable of a rule, at one of its places
+abbrev pub is_of_place : List Rule → Rows → NullId → Bool
+is_of_place R rows n =
+    nat_lt n.rule (length R) && (nat_lt n.rule (length rows)
+    && (nat_lt n.row (length (slice_index_or rows n.rule [])) && nat_lt n.var (after_existential (cells_of (rule_at R n.rule).conclusion))))
+
+-- the cover fold: it folds the nulls of places, and all others stay
 abbrev pub cover_fold : List Rule → Rows → NullId → Value
-cover_fold R rows = folded R rows (least_cover R rows) (suc (length R))
+cover_fold R rows n = cond (is_of_place R rows n) (folded R rows (least_cover R rows) (suc (length R)) n) (Null n)

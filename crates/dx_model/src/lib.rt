@@ -37,6 +37,6 @@ pub use laws::{
 pub use matches::{Matches, Places};
 pub use row::Row;
 pub use rules::{Atom, Cell, Derived, Rule};
-pub use tables::{Key, Link};
+pub use tables::{Dep, Key, Link};
 pub use tuples::Tuples;
 pub use values::{NullId, Value, copy_value};

@@ -23,6 +23,8 @@ pub enum Count {
     Depth,
     /// Lines of a mapping.
     Lines,
+    /// Variants of the tables of a schema.
+    Variants,
     /// Occurrences of an unfolding.
     Occurrences,
     /// Ways between a source table and a target table.
@@ -37,6 +39,14 @@ pub enum Count {
     TargetCells,
     /// Cells that are made to test whether rules follow from others.
     FrozenCells,
+    /// Bytes of the text of a query.
+    QueryBytes,
+    /// Atoms of a part of a query.
+    QueryAtoms,
+    /// Cells of the rows that answer a query.
+    AnswerCells,
+    /// Cells of all rows that are given to be judged.
+    GivenCells,
 }
 
 /// A limit that was passed: what was counted, and the greatest number that is accepted.

@@ -1,5 +1,5 @@
 // Outputs in memory, which can be made to fail.
-ghost use Rattle.std.specs.Prelude.{◌≡◌, ℕ, [], ◌∷◌, Some, OnOk, OnErr, IsErrOf, IsTrue, Contains, min, ◌↔◌, ◌+◌, ◌-◌, ◌^◌, ◌≤◌};
+ghost use Rattle.std.specs.Prelude.{◌≡◌, ℕ, [], ◌∷◌, Some, OnOk, OnErr, IsErrOf, IsTrue, Contains, min, take, ◌↔◌, ◌⊎◌, ◌+◌, ◌-◌, ◌^◌, ◌≤◌, ◌<◌};
 ghost use Rattle.dx_ports.specs.Entries.{entries_of, appended, GrewByPrefix};
 ghost use Rattle.std.specs.Bool.{OnTrue, MatchBool};
 ghost use Rattle.dx_ports.specs.Faults.{Rose};
@@ -14,12 +14,13 @@ pub struct MemOutputs {
     files: Vec<File>,
     said: Vec<u8>,
     fails: Vec<u64>,
+    keep: u64,
     calls: u64,
     faults: u64,
 }
 
 impl MemOutputs {
-    ghost use Rattle.dx_ports.specs.MemOutputs.{next_write, failing_writes};
+    ghost use Rattle.dx_ports.specs.MemOutputs.{next_write, failing_writes, kept_front};
 
     /// Outputs with no files. The calls of `put` and `say` with these numbers fail, counted together from 0.
     pub fn new(alloc: Global, fails: Vec<u64>) -> MemOutputs
@@ -28,12 +29,26 @@ impl MemOutputs {
         ensures faults { ⟦<MemOutputs as Outputs>⟧.faults result ≡ 0 }
         ensures calls { next_write result ≡ 0 }
         ensures fails { failing_writes result ≡ fails.items }
+        ensures keep { kept_front result ≡ 0 }
+    {
+        MemOutputs::cutting(alloc, fails, 0)
+    }
+
+    /// Outputs as those of `new`, of which a `say` that fails says the first `keep` bytes, or all if there are fewer.
+    pub fn cutting(alloc: Global, fails: Vec<u64>, keep: u64) -> MemOutputs
+        ensures files { ⟦<MemOutputs as Outputs>⟧.files result ≡ Some [] }
+        ensures said { ⟦<MemOutputs as Outputs>⟧.said result ≡ Some [] }
+        ensures faults { ⟦<MemOutputs as Outputs>⟧.faults result ≡ 0 }
+        ensures calls { next_write result ≡ 0 }
+        ensures fails { failing_writes result ≡ fails.items }
+        ensures keep { kept_front result ≡ keep }
     {
         MemOutputs {
             alloc,
             files: Vec::new(alloc),
             said: Vec::new(alloc),
             fails,
+            keep,
             calls: 0,
             faults: 0,
         }
@@ -61,6 +76,7 @@ impl MemOutputs {
         ensures once { MatchBool result (self.new.faults ≡ min (self.old.faults + 1) (2 ^ 64 - 1)) (self.new.faults ≡ self.old.faults) }
         ensures rises { self.old.faults ≤ self.new.faults }
         ensures fails { self.new.fails ≡ self.old.fails }
+        ensures keep { self.new.keep ≡ self.old.keep }
         ensures files { self.new.files ≡ self.old.files }
         ensures said { self.new.said ≡ self.old.said }
     {
@@ -72,10 +88,27 @@ impl MemOutputs {
         }
         fails
     }
+
+    // What the next call says of these bytes: all, or their front if it fails.
+    fn heard<'a>(&self, bytes: &'a [u8]) -> &'a [u8]
+        ensures cut { Contains self.now.fails.items self.now.calls → result.now ≡ take self.now.keep bytes.now }
+        ensures whole { ¬ (Contains self.now.fails.items self.now.calls) → result.now ≡ bytes.now }
+    {
+        if !self.fails.contains(&self.calls) {
+            return bytes;
+        }
+        let room = bytes.len();
+        let end = if self.keep < room as u64 {
+            self.keep as usize
+        } else {
+            room
+        };
+        &bytes[..end]
+    }
 }
 
 impl Outputs for MemOutputs {
-    ghost use Rattle.dx_ports.specs.MemOutputs.{next_write, failing_writes};
+    ghost use Rattle.dx_ports.specs.MemOutputs.{next_write, failing_writes, kept_front};
 
     ghost files = { λ m. Some (entries_of m.files.items) };
 
@@ -101,6 +134,7 @@ impl Outputs for MemOutputs {
             → ⟦<MemOutputs as Outputs>⟧.faults self.new ≡ min (⟦<MemOutputs as Outputs>⟧.faults self.old + 1) (2 ^ 64 - 1) }
         ensures number { next_write self.new ≡ min (next_write self.old + 1) (2 ^ 64 - 1) }
         ensures same_numbers { failing_writes self.new ≡ failing_writes self.old }
+        ensures same_front { kept_front self.new ≡ kept_front self.old }
     {
         if self.fails_now() {
             return Err(PutFault::Failed);
@@ -116,7 +150,10 @@ impl Outputs for MemOutputs {
     fn say(&mut self, bytes: &[u8]) -> Result<(), PutFault>
         ensures said { OnOk result (⟦<MemOutputs as Outputs>⟧.said self.new
             ≡ appended (⟦<MemOutputs as Outputs>⟧.said self.old) bytes.now) }
-        ensures nothing { OnErr result (⟦<MemOutputs as Outputs>⟧.said self.new ≡ ⟦<MemOutputs as Outputs>⟧.said self.old) }
+        ensures nothing { IsErrOf result PutFault.Memory
+            → ⟦<MemOutputs as Outputs>⟧.said self.new ≡ ⟦<MemOutputs as Outputs>⟧.said self.old }
+        ensures cut { IsErrOf result PutFault.Failed → ⟦<MemOutputs as Outputs>⟧.said self.new
+            ≡ appended (⟦<MemOutputs as Outputs>⟧.said self.old) (take (kept_front self.old) bytes.now) }
         ensures refused { OnErr result (GrewByPrefix (⟦<MemOutputs as Outputs>⟧.said self.old) bytes.now
             (⟦<MemOutputs as Outputs>⟧.said self.new)) }
         ensures files { ⟦<MemOutputs as Outputs>⟧.files self.new ≡ ⟦<MemOutputs as Outputs>⟧.files self.old }
@@ -126,18 +163,23 @@ impl Outputs for MemOutputs {
         ensures steady { ¬ (IsErrOf result PutFault.Failed)
             → ⟦<MemOutputs as Outputs>⟧.faults self.new ≡ ⟦<MemOutputs as Outputs>⟧.faults self.old }
 
-        // What the trait leaves open: which calls fail, and that each of them counts one fault.
+        // What the trait leaves open: which calls fail, and that each of them counts one fault. A call for which there
+        // is no room changes nothing, and one that says nothing needs none.
         ensures only_these { IsErrOf result PutFault.Failed → Contains (failing_writes self.old) (next_write self.old) }
-        ensures these { Contains (failing_writes self.old) (next_write self.old) → IsErrOf result PutFault.Failed }
+        ensures these { Contains (failing_writes self.old) (next_write self.old)
+            → IsErrOf result PutFault.Failed ⊎ (IsErrOf result PutFault.Memory × (0 < kept_front self.old)) }
         ensures raised { IsErrOf result PutFault.Failed
             → ⟦<MemOutputs as Outputs>⟧.faults self.new ≡ min (⟦<MemOutputs as Outputs>⟧.faults self.old + 1) (2 ^ 64 - 1) }
-        ensures number { next_write self.new ≡ min (next_write self.old + 1) (2 ^ 64 - 1) }
+        ensures number { ¬ (IsErrOf result PutFault.Memory) → next_write self.new ≡ min (next_write self.old + 1) (2 ^ 64 - 1) }
+        ensures uncounted { IsErrOf result PutFault.Memory → next_write self.new ≡ next_write self.old }
         ensures same_numbers { failing_writes self.new ≡ failing_writes self.old }
+        ensures same_front { kept_front self.new ≡ kept_front self.old }
     {
+        let heard = self.heard(bytes);
+        self.said.extend_from_slice(heard)?;
         if self.fails_now() {
             return Err(PutFault::Failed);
         }
-        self.said.extend_from_slice(bytes)?;
         Ok(())
     }
 }

@@ -5,7 +5,7 @@ use Rattle.dx_model.specs.declared.rules.Cell.{Cell}
 use Rattle.dx_model.specs.declared.rules.Cell.TheVariants.{Var, Ex, Lit}
 use Rattle.dx_model.specs.declared.rules.Derived.{Derived}
 use Rattle.dx_model.specs.declared.rules.Rule.{Rule}
-use Rattle.dx_schema.specs.Forest.{Forest, none, set}
+use Rattle.dx_schema.specs.Forest.{Forest, none, set, bare}
 use Rattle.dx_tokens.specs.declared.tokenizer.TokenKind.TheVariants.{Str}
 use Rattle.dx_tokens.specs.declared.faults.TextKind.TheVariants.{Character}
 use Rattle.dx_tokens.specs.Tokens.{wide_at, item_at, string_from, piece_at}
@@ -19,14 +19,14 @@ use Rattle.dx_tgd_text.specs.Reading.{rule_of}
 
 -- employees with a name and a place, persons with a name and a telephone
 abbrev employees : Forest
-employees = set (record { name = codes "emp"; columns = codes "name" ∷ codes "place" ∷ []; keys = []; refs = [] }) none none
+employees = set (bare (codes "emp") (codes "name" ∷ codes "place" ∷ [])) none none
 
 abbrev persons : Forest
-persons = set (record { name = codes "person"; columns = codes "name" ∷ codes "phone" ∷ []; keys = []; refs = [] }) none none
+persons = set (bare (codes "person") (codes "name" ∷ codes "phone" ∷ [])) none none
 
 -- employees twice, which is no schema
 abbrev twice : Forest
-twice = set (record { name = codes "emp"; columns = codes "name" ∷ codes "place" ∷ []; keys = []; refs = [] }) none employees
+twice = set (bare (codes "emp") (codes "name" ∷ codes "place" ∷ [])) none employees
 
 -- two conversions of one name, which is no offer
 abbrev doubled : List Conversion

@@ -2,7 +2,7 @@
 use Rattle.std.proofs.Common.{◌≡◌, ℕ, List, [], ◌∷◌, Option, Some, None, codes, refl, sym, ap, subst}
 use Rattle.dx_model.specs.declared.rules.Cell.TheVariants.{Var, Ex}
 use Rattle.dx_model.specs.declared.rules.Rule.{Rule}
-use Rattle.dx_schema.specs.Forest.{Forest, none, set}
+use Rattle.dx_schema.specs.Forest.{Forest, none, set, bare}
 use Rattle.dx_tokens.specs.declared.tokenizer.TokenKind.TheVariants.{Word, Mark}
 use Rattle.dx_tokens.specs.declared.faults.TextFault.TheVariants.{At}
 use Rattle.dx_tokens.specs.declared.faults.TextKind.TheVariants.{Character, UnknownName}
@@ -22,10 +22,10 @@ use Rattle.dx_rule_laws.proofs.OneRule.{one_rule_text}
 
 -- employees with a name and a place, persons with a name and a telephone
 abbrev employees : Forest
-employees = set (record { name = codes "emp"; columns = codes "name" ∷ codes "place" ∷ []; keys = []; refs = [] }) none none
+employees = set (bare (codes "emp") (codes "name" ∷ codes "place" ∷ [])) none none
 
 abbrev persons : Forest
-persons = set (record { name = codes "person"; columns = codes "name" ∷ codes "phone" ∷ []; keys = []; refs = [] }) none none
+persons = set (bare (codes "person") (codes "name" ∷ codes "phone" ∷ [])) none none
 
 abbrev word : ℕ → Text → Lexeme
 word place text = record { place = place; kind = Word; text = text }

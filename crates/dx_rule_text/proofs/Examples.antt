@@ -1,26 +1,26 @@
 -- Worked values of printed rules.
-use Rattle.std.proofs.Common.{◌≡◌, [], ◌∷◌, refl}
+use Rattle.std.proofs.Common.{◌≡◌, [], ◌∷◌, refl, false}
 use Rattle.std.specs.Prelude.{codes}
 use Rattle.std.specs.Fmt.{digits}
 use Rattle.dx_model.specs.declared.rules.Cell.TheVariants.{Var, Ex, Lit}
 use Rattle.dx_model.specs.declared.rules.Rule.{Rule}
-use Rattle.dx_schema.specs.Forest.{Forest, none, set}
+use Rattle.dx_schema.specs.Forest.{Forest, none, set, bare}
 use Rattle.dx_funcs.specs.Shipped.{shipped_conversions}
 use Rattle.dx_rule_text.specs.Printed.{rule_text, rules_text}
 
 -- employees and their departments
 abbrev source : Forest
 source =
-    set (record { name = codes "emp"; columns = codes "name" ∷ codes "dept" ∷ []; keys = []; refs = record { columns = codes "dept" ∷ []; set = codes "dept"; referred = codes "dname" ∷ [] } ∷ [] }) none
-    (set (record { name = codes "dept"; columns = codes "dname" ∷ []; keys = []; refs = [] }) none none)
+    set (record { name = codes "emp"; columns = codes "name" ∷ codes "dept" ∷ []; keys = []; deps = []; refs = record { columns = codes "dept" ∷ []; set = codes "dept"; referred = codes "dname" ∷ []; optional = false } ∷ [] }) none
+    (set (bare (codes "dept") (codes "dname" ∷ [])) none none)
 
 -- units, and the staff of each
 abbrev target : Forest
-target = set (record { name = codes "unit"; columns = codes "uname" ∷ []; keys = []; refs = [] }) (set (record { name = codes "staff"; columns = codes "sname" ∷ []; keys = []; refs = [] }) none none) none
+target = set (bare (codes "unit") (codes "uname" ∷ [])) (set (bare (codes "staff") (codes "sname" ∷ [])) none none) none
 
 -- persons
 abbrev persons : Forest
-persons = set (record { name = codes "person"; columns = codes "name" ∷ codes "town" ∷ []; keys = []; refs = [] }) none none
+persons = set (bare (codes "person") (codes "name" ∷ codes "town" ∷ [])) none none
 
 -- an existential variable
 with_existential :

@@ -2,7 +2,9 @@
 use Rattle.std.proofs.Common.{◌≡◌, ℕ, ◌+◌, ◌<◌, ◌≤◌, List, [], ◌∷◌, Option, Some, None, Bool, true, false, not, is_some, append_assoc, length, map, refl, sym, ap, ◌∙◌, subst, arith, inl, inr, get_or, ◌++◌, take, codes}
 use Rattle.std.specs.Prelude.{IsTrue, nat_lt}
 use Rattle.std.proofs.lemmas.Bool.{le-ltb, lt-ltb, cases_lt, false≢true}
-use Rattle.std.proofs.lemmas.List.{get_or_default, get_or-map, take_all, map-append, length-map}
+use Rattle.std.specs.List.{filter}
+use Rattle.std.proofs.lemmas.List.{get_or_default, get_or-map, take_all, take_more, map-append, length-map, append-nil}
+use Rattle.std.proofs.lemmas.List.Elements.{filter-append}
 use Rattle.std.proofs.Math.ListN.{get_or-eq_default}
 use Rattle.std.proofs.lemmas.Simd.{map-map}
 use Rattle.dx_ports.specs.declared.file.Count.TheVariants.{Tables, Depth}
@@ -15,7 +17,7 @@ use Rattle.dx_schema.specs.declared.fault.SchemaFault.{SchemaFault}
 use Rattle.dx_schema.specs.declared.fault.SchemaFault.TheVariants.{Bad, TooMany}
 use Rattle.dx_schema.specs.declared.fault.SchemaKind.TheVariants.{CyclicLinks}
 use Rattle.dx_schema.specs.Forest.{Forest, none, set, has_sets}
-use Rattle.dx_schema.specs.Tables.{Text, TableOf, Placed, count, sets_of, names_of, columns_of, key_named, keys_in, where_has_inner, where_inner, table_in, tables_of, table_at, as_numbers, AreTables}
+use Rattle.dx_schema.specs.Tables.{Text, TableOf, Placed, count, sets_of, names_of, columns_of, key_named, keys_in, where_has_inner, where_inner, table_in, tables_of, table_at, no_table, as_numbers, AreTables}
 use Rattle.dx_ports.specs.Firsts.{first_of}
 use Rattle.dx_schema.specs.Faults.{depth, sets_fault, rules_fault, form_fault}
 use Rattle.dx_schema.specs.Links.{IsAcyclic, IsFirstCycle, IsFaultless, IsFirstFault}
@@ -81,8 +83,7 @@ pub cycle_fault : (f : Forest) (tables : List TableOf) (t : ℕ) (table : TableO
     → table ≡ get_or tables t table → name ≡ table.name → IsFirstFault f (Bad (CyclicLinks name))
 cycle_fault f tables t table name e none_so h is named =
     let lt : t < length tables = cycle_within tables t h in
-    let d : TableOf = record { name = []; columns = []; keys = []; links = []; parent = None; inner = [] } in
-    let at : name ≡ (table_at f t).name = named ∙ ap (λ (x : TableOf). x.name) (is ∙ get_or_default tables t table d lt ∙ ap (λ (ts : List TableOf). get_or ts t d) e) in
+    let at : name ≡ (table_at f t).name = named ∙ ap (λ (x : TableOf). x.name) (is ∙ get_or_default tables t table no_table lt ∙ ap (λ (ts : List TableOf). get_or ts t no_table) e) in
     inr (none_so, (t, subst (λ (ts : List TableOf). IsFirstCycle (map as_numbers ts) t) e h, ap (λ n. Bad (CyclicLinks n)) at))
 
 -- ---- tables of sets
@@ -143,3 +144,12 @@ with_up (Some p) x e = refl
 pub no_up : {X : Type 0} (p : Option ℕ) (x : X) → is_some p ≡ false → where_inner p x ≡ []
 no_up None x e = refl
 no_up (Some p) x e = absurd cc
+
+-- ---- links
+
+-- what a test leaves of one more
+pub one_more_kept : {X : Type 0} (p : X → Bool) (xs : List X) (i : ℕ) (x : X) → i < length xs → x ≡ get_or xs i x → p x ≡ true → filter p (take (i + 1) xs) ≡ filter p (take i xs) ++ x ∷ []
+one_more_kept p xs i x lt is t = rw (take_more xs i x lt, ← is, filter-append p (take i xs) (x ∷ []), t) refl
+
+pub one_more_left : {X : Type 0} (p : X → Bool) (xs : List X) (i : ℕ) (x : X) → i < length xs → x ≡ get_or xs i x → p x ≡ false → filter p (take (i + 1) xs) ≡ filter p (take i xs)
+one_more_left p xs i x lt is t = rw (take_more xs i x lt, ← is, filter-append p (take i xs) (x ∷ []), t) (append-nil (filter p (take i xs)))

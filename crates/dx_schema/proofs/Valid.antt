@@ -1,25 +1,29 @@
 -- Sets with no fault make tables as every schema has them.
 use Rattle.std.proofs.Common.{◌≡◌, ℕ, zero, suc, ◌+◌, ◌<◌, ◌≤◌, List, [], ◌∷◌, ◌++◌, Option, Some, None, Bool, true, false, not, cond, length, map, get_or, refl, sym, ap, ◌∙◌, subst, arith, inl, inr, length-append, nat_eq, codes}
 use Rattle.std.specs.Prelude.{◌||◌, ◌⊎◌, eqb}
+use Rattle.std.specs.List.{filter}
 use Rattle.std.specs.Cmp.Lexicographic.{pointwise, same_text, other_text}
 use Rattle.std.proofs.lemmas.Bool.{false≢true, true≢false, ltb-false, eqb-true}
 use Rattle.std.proofs.lemmas.List.{get_or_append_left, get_or-append-add, get_or-map, length-map}
 use Rattle.dx_ports.specs.Members.{Distinct, here, there, ◌∈◌, ◌⊆◌}
-use Rattle.dx_ports.proofs.Members.{from_map, in_left, in_right, from_append}
+use Rattle.dx_ports.proofs.Members.{from_map, in_map, in_left, in_right, from_append}
 use Rattle.dx_model.specs.declared.tables.Key.{Key}
+use Rattle.dx_model.specs.declared.tables.Dep.{Dep}
 use Rattle.dx_model.specs.declared.tables.Link.{Link}
 use Rattle.dx_model.specs.Tables.{AreWithin}
 use Rattle.dx_schema.specs.declared.fault.SchemaFault.{SchemaFault}
 use Rattle.dx_schema.specs.declared.fault.SchemaFault.TheVariants.{Bad}
 use Rattle.dx_schema.specs.declared.fault.SchemaKind.TheVariants.{DoubleName, UnknownName, BadLink}
 use Rattle.dx_schema.specs.declared.sets.KeyDecl.{KeyDecl}
+use Rattle.dx_schema.specs.declared.sets.DepDecl.{DepDecl}
 use Rattle.dx_schema.specs.declared.sets.RefDecl.{RefDecl}
 use Rattle.dx_schema.specs.Forest.{Label, Forest, none, set, has_sets}
-use Rattle.dx_schema.specs.Tables.{Text, TableOf, Placed, placed, sets_of, names_of, count, where_has_inner, where_inner, columns_of, columns_at, number_of, numbers_of, key_named, keys_in, link_of, link_up, links_in, table_in, tables_of, IsLink, IsTable, AreTables}
+use Rattle.dx_schema.specs.Tables.{Text, TableOf, Placed, placed, sets_of, names_of, count, where_has_inner, where_inner, columns_of, columns_at, number_of, numbers_of, key_named, keys_in, link_of, link_up, links_in, table_in, tables_of, IsLink, IsTable, AreTables, AreColumns, IsDep, dep_named, deps_in}
 use Rattle.dx_ports.specs.Firsts.{first_of}
-use Rattle.dx_schema.specs.Faults.{fault_if, is_among, names_in, twice_in, names_within, set_fault, sets_fault, columns_fault, key_fault, declared_at, ref_fault, rules_fault, form_fault}
+use Rattle.dx_schema.specs.Faults.{fault_if, is_among, names_in, twice_in, names_within, set_fault, sets_fault, columns_fault, key_fault, dep_fault, declared_at, ref_fault, rules_fault, form_fault}
 use Rattle.dx_schema.proofs.Preorder.{length_placed}
 use Rattle.dx_schema.proofs.Loops.{among_number}
+use Rattle.dx_ports.proofs.Tests.{from_filter}
 use Rattle.dx_ports.proofs.Firsts.{first_none, none_of, two_none, each_none}
 
 -- ---- no fault
@@ -31,6 +35,15 @@ if_none false e h = refl
 not_none : (b : Bool) (e : SchemaFault) → fault_if (not b) e ≡ None → b ≡ true
 not_none true e h = refl
 not_none false e h = absurd cc
+
+-- a list that isn't empty
+not_empty : {X : Type 0} (xs : List X) → eqb (length xs) 0 ≡ false → 1 ≤ length xs
+not_empty [] e = absurd cc
+not_empty (x ∷ xs) e = omega arith
+
+neither : (a b : Bool) → (a || b) ≡ false → (a ≡ false) × (b ≡ false)
+neither true b h = absurd (true≢false h)
+neither false b h = (refl, h)
 
 -- ---- names
 
@@ -219,7 +232,7 @@ parent_of p n (set l i r) s (there m) =
       ]
     ]
 
--- ---- keys
+-- ---- keys and dependencies
 
 -- a set without a fault of its own
 record IsSound (s : Placed) : Type 0 where
@@ -240,57 +253,93 @@ sound_of before s h =
       no_up = λ m. o.3.1.0 (in_left (names_in s.inner) m);
     }
 
--- names of columns, each once
-abbrev AreColumns : Placed → List Text → Type 0
-AreColumns s names = (names ⊆ columns_of s) × Distinct names
+-- names of columns, at least one, and each once
+abbrev AreNames : Placed → List Text → Type 0
+AreNames s names = (1 ≤ length names) × (names ⊆ columns_of s) × Distinct names
 
-alone : (s : Placed) (x : Text) → x ∈ columns_of s → AreColumns s (x ∷ [])
-alone s x m = (λ y n. one y n, ((λ n. elim n [ ]), tt))
+alone : (s : Placed) (x : Text) → x ∈ columns_of s → AreNames s (x ∷ [])
+alone s x m = (omega arith, (λ y n. one y n), ((λ n. elim n [ ]), tt))
   where
     one : (y : Text) → y ∈ (x ∷ []) → y ∈ columns_of s
     one y (here e) = rw (← e) m
     one y (there n) = elim n [ ]
 
 -- declared columns, of an inner set with `#up` in front
-with_up : (s : Placed) (names : List Text) → IsSound s → (names ⊆ s.label.columns) → Distinct names → AreColumns s (where_inner s.parent up_name ++ names)
-with_up s names sound inside d = go s.parent refl
+with_up : (s : Placed) (names : List Text) → IsSound s → 1 ≤ length names → (names ⊆ s.label.columns) → Distinct names → AreNames s (where_inner s.parent up_name ++ names)
+with_up s names sound some inside d = go s.parent refl
   where
     at : (p : ℕ) → s.parent ≡ Some p → (x : Text) → x ∈ (up_name ∷ names) → x ∈ columns_of s
     at p e x (here k) = rw (← k) (up_inside s p e)
     at p e x (there m) = declared_inside s x (inside x m)
 
-    go : (p : Option ℕ) → s.parent ≡ p → AreColumns s (where_inner p up_name ++ names)
-    go None e = (λ x m. declared_inside s x (inside x m), d)
-    go (Some p) e = (at p e, ((λ m. sound.no_up (inside up_name m)), d))
+    go : (p : Option ℕ) → s.parent ≡ p → AreNames s (where_inner p up_name ++ names)
+    go None e = (some, (λ x m. declared_inside s x (inside x m)), d)
+    go (Some p) e = (omega arith, at p e, ((λ m. sound.no_up (inside up_name m)), d))
 
-key_fits : (s : Placed) (names : List Text) → AreColumns s names → AreWithin (key_named s names).columns (length (columns_of s)) × Distinct (key_named s names).columns
-key_fits s names h = numbers_fit (columns_of s) names h.0 h.1
+columns_fit : (s : Placed) (names : List Text) → AreNames s names → AreColumns (length (columns_of s)) (numbers_of names (columns_of s))
+columns_fit s names h =
+    let n = numbers_fit (columns_of s) names h.1 h.2 in
+    record { some = omega (arith, h.0, length-map names (λ x. number_of x (columns_of s))); within = n.0; distinct = n.1 }
 
 -- the columns of a key without a fault
-key_columns : (s : Placed) (k : KeyDecl) → key_fault s k ≡ None → AreNew [] k.columns × (k.columns ⊆ s.label.columns)
-key_columns s k h = columns_none_new s.label.columns [] k.columns (two_none (fault_if (eqb (length k.columns) 0) (Bad (BadLink s.label.name))) (columns_fault s.label.columns [] k.columns) h).1
+key_columns : (s : Placed) (k : KeyDecl) → key_fault s k ≡ None → (1 ≤ length k.columns) × AreNew [] k.columns × (k.columns ⊆ s.label.columns)
+key_columns s k h =
+    let r = two_none (fault_if (eqb (length k.columns) 0) (Bad (BadLink s.label.name))) (columns_fault s.label.columns [] k.columns) h in
+    let c = columns_none_new s.label.columns [] k.columns r.1 in
+    (not_empty k.columns (if_none _ _ r.0), c.0, c.1)
 
-keys_fit : (s : Placed) → IsSound s → first_of (map (key_fault s) s.label.keys) ≡ None → (k : Key) → k ∈ keys_in s → AreWithin k.columns (length (columns_of s)) × Distinct k.columns
+keys_fit : (s : Placed) → IsSound s → first_of (map (key_fault s) s.label.keys) ≡ None → (k : Key) → k ∈ keys_in s → AreColumns (length (columns_of s)) k.columns
 keys_fit s sound h k m =
     let r = from_map (key_named s) (where_has_inner s.inner (id_name ∷ []) ++ map (λ (d : KeyDecl). where_inner s.parent up_name ++ d.columns) s.label.keys) {y = k} m in
-    subst (λ (y : Key). AreWithin y.columns (length (columns_of s)) × Distinct y.columns) r.2 (key_fits s r.0 (elim (from_append (where_has_inner s.inner (id_name ∷ [])) r.1) [
+    subst (λ (y : Key). AreColumns (length (columns_of s)) y.columns) r.2 (columns_fit s r.0 (elim (from_append (where_has_inner s.inner (id_name ∷ [])) r.1) [
       | inl a ↦ first s.inner refl r.0 a
       | inr b ↦ declared r.0 b
     ]))
   where
-    only : (x : List Text) → id_name ∈ columns_of s → x ∈ ((id_name ∷ []) ∷ []) → AreColumns s x
+    only : (x : List Text) → id_name ∈ columns_of s → x ∈ ((id_name ∷ []) ∷ []) → AreNames s x
     only x i (here e) = rw (← e) (alone s id_name i)
     only x i (there n) = elim n [ ]
 
-    first : (i : Forest) → s.inner ≡ i → (x : List Text) → x ∈ where_has_inner i (id_name ∷ []) → AreColumns s x
+    first : (i : Forest) → s.inner ≡ i → (x : List Text) → x ∈ where_has_inner i (id_name ∷ []) → AreNames s x
     first none e x a = elim a [ ]
     first (set l j r) e x a = only x (id_inside s (ap has_sets e)) a
 
-    declared : (x : List Text) → x ∈ map (λ (d : KeyDecl). where_inner s.parent up_name ++ d.columns) s.label.keys → AreColumns s x
+    declared : (x : List Text) → x ∈ map (λ (d : KeyDecl). where_inner s.parent up_name ++ d.columns) s.label.keys → AreNames s x
     declared x b =
         let d = from_map (λ (d : KeyDecl). where_inner s.parent up_name ++ d.columns) s.label.keys {y = x} b in
         let f = key_columns s d.0 (each_none (key_fault s) s.label.keys h d.0 d.1) in
-        subst (AreColumns s) d.2 (with_up s d.0.columns sound f.1 f.0.0)
+        subst (AreNames s) d.2 (with_up s d.0.columns sound f.0 f.2 f.1.0)
+
+-- the columns of a dependency without a fault, on both sides
+record IsNamedDep (s : Placed) (d : DepDecl) : Type 0 where
+  some_columns : 1 ≤ length d.columns
+  some_decided : 1 ≤ length d.decides
+  columns : AreNew [] d.columns × (d.columns ⊆ s.label.columns)
+  decides : AreNew [] d.decides × (d.decides ⊆ s.label.columns)
+
+dep_columns : (s : Placed) (d : DepDecl) → dep_fault s d ≡ None → IsNamedDep s d
+dep_columns s d h =
+    let f1 = fault_if (eqb (length d.columns) 0 || eqb (length d.decides) 0) (Bad (BadLink s.label.name)) in
+    let f2 = columns_fault s.label.columns [] d.columns in
+    let f3 = columns_fault s.label.columns [] d.decides in
+    let a = first_none f1 (f2 ∷ f3 ∷ []) h in
+    let b = two_none f2 f3 a.1 in
+    let some = neither (eqb (length d.columns) 0) (eqb (length d.decides) 0) (if_none _ _ a.0) in
+    record {
+      some_columns = not_empty d.columns some.0;
+      some_decided = not_empty d.decides some.1;
+      columns = columns_none_new s.label.columns [] d.columns b.0;
+      decides = columns_none_new s.label.columns [] d.decides b.1;
+    }
+
+deps_fit : (s : Placed) → IsSound s → first_of (map (dep_fault s) s.label.deps) ≡ None → (d : Dep) → d ∈ deps_in s → IsDep (length (columns_of s)) d
+deps_fit s sound h d m =
+    let r = from_map (dep_named s) s.label.deps {y = d} m in
+    let f = dep_columns s r.0 (each_none (dep_fault s) s.label.deps h r.0 r.1) in
+    subst (IsDep (length (columns_of s))) r.2 (record {
+      columns = columns_fit s (where_inner s.parent up_name ++ r.0.columns) (with_up s r.0.columns sound f.some_columns f.columns.1 f.columns.0.0);
+      decides = columns_fit s r.0.decides (f.some_decided, (λ x n. declared_inside s x (f.decides.1 x n)), f.decides.0.0);
+    })
 
 -- ---- links
 
@@ -313,17 +362,18 @@ declared_at-is sets t d lt = get_or-map (λ (s : Placed). s.label.columns) sets 
 record IsNamedLink (sets : List Placed) (s : Placed) (t : ℕ) (mine theirs : List Text) : Type 0 where
   table : t < length sets
   same_length : length mine ≡ length theirs
-  own : AreColumns s mine
+  own : AreNames s mine
   inside : theirs ⊆ columns_at sets t
   distinct : Distinct theirs
 
 link_fits : (sets : List Placed) (s : Placed) (t : ℕ) (own referred : List Text) → IsNamedLink sets s t own referred
     → IsLink (map (table_in sets) sets) (length (columns_of s)) (record { from = numbers_of own (columns_of s); table = t; to = numbers_of referred (columns_at sets t) })
 link_fits sets s t own referred h =
-    let a = numbers_fit (columns_of s) own h.own.0 h.own.1 in
+    let a = numbers_fit (columns_of s) own h.own.1 h.own.2 in
     let b = numbers_fit (columns_at sets t) referred h.inside h.distinct in
     record {
       table = rw (length-map sets (table_in sets)) h.table;
+      some = omega (arith, h.own.0, length-map own (λ x. number_of x (columns_of s)));
       same_length = length-map own (λ x. number_of x (columns_of s)) ∙ h.same_length ∙ sym (length-map referred (λ x. number_of x (columns_at sets t)));
       from = a.0;
       to = rw (columns_are sets sets) b.0;
@@ -344,6 +394,7 @@ ref_fits sets s r h =
     let b = first_none f2 (f3 ∷ f4 ∷ f5 ∷ []) a.1 in
     let c = first_none f3 (f4 ∷ f5 ∷ []) b.1 in
     let d = first_none f4 (f5 ∷ []) c.1 in
+    let some = not_empty r.columns (neither (eqb (length r.columns) 0) (eqb (length r.referred) 0) (if_none _ _ a.0)).0 in
     let own = columns_none_new s.label.columns [] r.columns b.0 in
     let there_is : is_among r.set (names_of sets) ≡ true = not_none (is_among r.set (names_of sets)) (Bad (UnknownName r.set)) c.0 in
     let lt : t < length sets = omega (arith, among_number r.set (names_of sets) there_is, length-map sets (λ (q : Placed). q.label.name)) in
@@ -351,7 +402,7 @@ ref_fits sets s r h =
     record {
       table = lt;
       same_length = eqb-true (length r.columns) (length r.referred) (not_none (eqb (length r.columns) (length r.referred)) (Bad (BadLink s.label.name)) (none_of f5 d.1));
-      own = (λ x m. declared_inside s x (own.1 x m), own.0.0);
+      own = (some, (λ x m. declared_inside s x (own.1 x m)), own.0.0);
       inside = λ x m. rw (columns_at-is sets t s lt) (declared_inside (get_or sets t s) x (rw (← declared_at-is sets t s lt) (to.1 x m)));
       distinct = to.0.0;
     }
@@ -362,12 +413,27 @@ up_fits sets s p e lt h = record {
   table = lt;
   same_length = refl;
   own = alone s up_name (up_inside s p e);
-  inside = λ x m. rw (columns_at-is sets p s lt) ((alone (get_or sets p s) id_name (id_inside (get_or sets p s) h)).0 x m);
+  inside = λ x m. rw (columns_at-is sets p s lt) ((alone (get_or sets p s) id_name (id_inside (get_or sets p s) h)).1 x m);
   distinct = ((λ n. elim n [ ]), tt);
 }
 
+-- the links of a set's table and its optional ones are of its refs
+abbrev every_ref : List Placed → Placed → List Link
+every_ref sets s = link_up sets s s.parent ++ map (link_of sets s) s.label.refs
+
+of_some_refs : (sets : List Placed) (s : Placed) (p : RefDecl → Bool) (l : Link) → l ∈ map (link_of sets s) (filter p s.label.refs) → l ∈ every_ref sets s
+of_some_refs sets s p l m =
+    let r = from_map (link_of sets s) (filter p s.label.refs) {y = l} m in
+    in_right (link_up sets s s.parent) (subst (λ (x : Link). x ∈ map (link_of sets s) s.label.refs) r.2 (in_map (link_of sets s) (from_filter p s.label.refs r.1).0))
+
+of_links : (sets : List Placed) (s : Placed) (l : Link) → l ∈ links_in sets s → l ∈ every_ref sets s
+of_links sets s l n = elim (from_append (link_up sets s s.parent) n) [
+  | inl a ↦ in_left (map (link_of sets s) s.label.refs) a
+  | inr b ↦ of_some_refs sets s (λ r. not r.optional) l b
+]
+
 links_fit : (f : Forest) (s : Placed) → s ∈ sets_of f → first_of (map (ref_fault (sets_of f) s) s.label.refs) ≡ None
-    → (l : Link) → l ∈ links_in (sets_of f) s → IsLink (map (table_in (sets_of f)) (sets_of f)) (length (columns_of s)) l
+    → (l : Link) → l ∈ every_ref (sets_of f) s → IsLink (map (table_in (sets_of f)) (sets_of f)) (length (columns_of s)) l
 links_fit f s m h l n =
     elim (from_append (link_up (sets_of f) s s.parent) n) [
       | inl a ↦ up s.parent refl a
@@ -395,8 +461,15 @@ links_fit f s m h l n =
 
 -- ---- the whole
 
-rules_none : (sets : List Placed) (s : Placed) → rules_fault sets s ≡ None → (first_of (map (key_fault s) s.label.keys) ≡ None) × (first_of (map (ref_fault sets s) s.label.refs) ≡ None)
-rules_none sets s h = two_none (first_of (map (key_fault s) s.label.keys)) (first_of (map (ref_fault sets s) s.label.refs)) h
+rules_none : (sets : List Placed) (s : Placed) → rules_fault sets s ≡ None
+    → (first_of (map (key_fault s) s.label.keys) ≡ None) × (first_of (map (dep_fault s) s.label.deps) ≡ None) × (first_of (map (ref_fault sets s) s.label.refs) ≡ None)
+rules_none sets s h =
+    let keys = first_of (map (key_fault s) s.label.keys) in
+    let deps = first_of (map (dep_fault s) s.label.deps) in
+    let refs = first_of (map (ref_fault sets s) s.label.refs) in
+    let a = first_none keys (deps ∷ refs ∷ []) h in
+    let b = two_none deps refs a.1 in
+    (a.0, b.0, b.1)
 
 -- sets without a fault of form make tables as every schema has them
 pub are_tables : (f : Forest) → form_fault f ≡ None → AreTables (tables_of f)
@@ -424,5 +497,7 @@ are_tables f h =
           few_columns = sound.few_columns;
           distinct_columns = sound.columns;
           keys = keys_fit q.0 sound r.0;
-          links = links_fit f q.0 q.1 r.1;
+          deps = deps_fit q.0 sound r.1;
+          links = λ l n. links_fit f q.0 q.1 r.2 l (of_links (sets_of f) q.0 l n);
+          optional = λ l n. links_fit f q.0 q.1 r.2 l (of_some_refs (sets_of f) q.0 (λ d. d.optional) l n);
         })

@@ -1,10 +1,11 @@
 -- Sets with their inner sets.
 use Rattle.std.specs.Prelude.{◌≡◌, ℕ, Bool, true, false, ◌+◌, ◌≤◌, List, [], ◌∷◌, ◌++◌, Option, Some, None, refl}
-use Rattle.std.specs.Coded.{Coded, code_by, coded×, coded_ℕ, coded_list, coded_option}
+use Rattle.std.specs.Coded.{Coded, code_by, coded×, coded_ℕ, coded_bool, coded_list, coded_option}
 use Rattle.std.proofs.Common.{ap, ◌∙◌, sym, arith, append_assoc}
 use Rattle.std.proofs.lemmas.List.{append-nil}
 use denote.Param.Weighed.{most}
 use Rattle.dx_schema.specs.declared.sets.KeyDecl.{KeyDecl}
+use Rattle.dx_schema.specs.declared.sets.DepDecl.{DepDecl}
 use Rattle.dx_schema.specs.declared.sets.RefDecl.{RefDecl}
 
 -- a set without its inner sets
@@ -12,7 +13,12 @@ pub record Label : Type 0 where
   pub name : List ℕ
   pub columns : List (List ℕ)
   pub keys : List KeyDecl
+  pub deps : List DepDecl
   pub refs : List RefDecl
+
+-- a set with this name and these columns, and nothing else
+abbrev pub bare : List ℕ → List (List ℕ) → Label
+bare name columns = record { name = name; columns = columns; keys = []; deps = []; refs = [] }
 
 -- the sets of one level in order, each with its inner sets
 pub data Forest : Type 0 where
@@ -21,19 +27,24 @@ pub data Forest : Type 0 where
 
 -- ---- codes
 
--- names, keys, refs and sets without their inner sets, each told by lists and numbers
+-- names, keys, dependencies, refs and sets without their inner sets, each told by lists and numbers
 abbrev pub texts_code : Coded (List (List ℕ))
 texts_code = coded_list (coded_list coded_ℕ)
 
 abbrev pub key_code : Coded KeyDecl
 key_code = code_by (List (List ℕ)) texts_code (λ k. k.columns) (λ p. record { columns = p }) (λ _. refl)
 
+abbrev pub dep_code : Coded DepDecl
+dep_code = code_by (List (List ℕ) × List (List ℕ)) (coded× texts_code texts_code) (λ d. (d.columns, d.decides)) (λ p. record { columns = p.0; decides = p.1 }) (λ _. refl)
+
 abbrev pub ref_code : Coded RefDecl
-ref_code = code_by (List (List ℕ) × (List ℕ × List (List ℕ))) (coded× texts_code (coded× (coded_list coded_ℕ) texts_code)) (λ r. (r.columns, (r.set, r.referred))) (λ p. record { columns = p.0; set = p.1.0; referred = p.1.1 }) (λ _. refl)
+ref_code = code_by ((List (List ℕ) × List ℕ) × (List (List ℕ) × Bool)) (coded× (coded× texts_code (coded_list coded_ℕ)) (coded× texts_code coded_bool))
+    (λ r. ((r.columns, r.set), (r.referred, r.optional))) (λ p. record { columns = p.0.0; set = p.0.1; referred = p.1.0; optional = p.1.1 }) (λ _. refl)
 
 abbrev pub label_code : Coded Label
-label_code = code_by ((List ℕ × List (List ℕ)) × (List KeyDecl × List RefDecl)) (coded× (coded× (coded_list coded_ℕ) texts_code) (coded× (coded_list key_code) (coded_list ref_code)))
-    (λ l. ((l.name, l.columns), (l.keys, l.refs))) (λ p. record { name = p.0.0; columns = p.0.1; keys = p.1.0; refs = p.1.1 }) (λ _. refl)
+label_code = code_by ((List ℕ × List (List ℕ)) × (List KeyDecl × (List DepDecl × List RefDecl)))
+    (coded× (coded× (coded_list coded_ℕ) texts_code) (coded× (coded_list key_code) (coded× (coded_list dep_code) (coded_list ref_code))))
+    (λ l. ((l.name, l.columns), (l.keys, (l.deps, l.refs)))) (λ p. record { name = p.0.0; columns = p.0.1; keys = p.1.0; deps = p.1.1.0; refs = p.1.1.1 }) (λ _. refl)
 
 -- a forest as a list: each set, then its inner sets, then the sets after it; `None` where a level ends
 abbrev pub listed : Forest → List (Option Label)

@@ -1,15 +1,18 @@
 -- The tables of a schema.
-use Rattle.std.specs.Prelude.{◌≡◌, ℕ, suc, ◌+◌, ◌<◌, ◌≤◌, List, [], ◌∷◌, ◌++◌, Option, Some, None, length, map, cond, nat_eq, codes, slice_index_or}
+use Rattle.std.specs.Prelude.{◌≡◌, ℕ, suc, ◌+◌, ◌<◌, ◌≤◌, List, [], ◌∷◌, ◌++◌, Option, Some, None, length, map, cond, not, nat_eq, codes, slice_index_or}
+use Rattle.std.specs.List.{filter}
 use Rattle.std.specs.Cmp.Lexicographic.{pointwise}
 use Rattle.dx_ports.specs.Members.{Distinct, Each}
 use Rattle.dx_model.specs.declared.tables.Key.{Key}
+use Rattle.dx_model.specs.declared.tables.Dep.{Dep}
 use Rattle.dx_model.specs.declared.tables.Link.{Link}
 use Rattle.dx_model.specs.Tables.{AreWithin, key_of}
 use Rattle.dx_model.specs.Tables.{Table as Numbers}
 use Rattle.dx_schema.specs.declared.sets.KeyDecl.{KeyDecl}
+use Rattle.dx_schema.specs.declared.sets.DepDecl.{DepDecl}
 use Rattle.dx_schema.specs.declared.sets.RefDecl.{RefDecl}
 use Rattle.dx_schema.specs.declared.tables.Table.{Table}
-use Rattle.dx_schema.specs.Forest.{Label, Forest, Tree, none, set}
+use Rattle.dx_schema.specs.Forest.{Label, Forest, Tree, bare, none, set}
 
 -- a text, by its bytes
 abbrev pub Text : Type 0
@@ -78,7 +81,7 @@ number_of x (y ∷ ys) = cond (pointwise nat_eq y x) 0 (suc (number_of x ys))
 abbrev pub numbers_of : List Text → List Text → List ℕ
 numbers_of names columns = map (λ x. number_of x columns) names
 
--- ---- keys and links
+-- ---- keys, dependencies and links
 
 -- a key by the names of its columns
 abbrev pub key_named : Placed → List Text → Key
@@ -88,6 +91,18 @@ key_named s names = record { columns = numbers_of names (columns_of s) }
 abbrev pub keys_in : Placed → List Key
 keys_in s =
     map (key_named s) (where_has_inner s.inner (codes "#id" ∷ []) ++ map (λ (k : KeyDecl). where_inner s.parent (codes "#up") ++ k.columns) s.label.keys)
+
+-- a dependency by the names of its columns, of an inner set with `#up` in front of those on the left
+abbrev pub dep_named : Placed → DepDecl → Dep
+dep_named s d =
+    record {
+      columns = numbers_of (where_inner s.parent (codes "#up") ++ d.columns) (columns_of s);
+      decides = numbers_of d.decides (columns_of s);
+    }
+
+-- the dependencies of a set's table: each declared one
+abbrev pub deps_in : Placed → List Dep
+deps_in s = map (dep_named s) s.label.deps
 
 -- the names of sets
 abbrev pub names_of : List Placed → List Text
@@ -109,27 +124,43 @@ link_up sets s None = []
 link_up sets s (Some p) =
     record { from = numbers_of (codes "#up" ∷ []) (columns_of s); table = p; to = numbers_of (codes "#id" ∷ []) (columns_at sets p) } ∷ []
 
--- the links of a set's table: that of `#up` to `#id` where it has that column, then each ref
+-- the refs that aren't optional, in order
+abbrev pub firm_refs : List RefDecl → List RefDecl
+firm_refs refs = filter (λ r. not r.optional) refs
+
+-- the optional refs, in order
+abbrev pub optional_refs : List RefDecl → List RefDecl
+optional_refs refs = filter (λ r. r.optional) refs
+
+-- the links of a set's table: that of `#up` to `#id` where it has that column, then each ref that isn't optional
 abbrev pub links_in : List Placed → Placed → List Link
-links_in sets s = link_up sets s s.parent ++ map (link_of sets s) s.label.refs
+links_in sets s = link_up sets s s.parent ++ map (link_of sets s) (firm_refs s.label.refs)
+
+-- the optional links of a set's table: each optional ref
+abbrev pub optional_in : List Placed → Placed → List Link
+optional_in sets s = map (link_of sets s) (optional_refs s.label.refs)
 
 -- ---- tables
 
 -- a set as a table, among the sets of its schema
 abbrev pub table_in : List Placed → Placed → TableOf
-table_in sets s = record { name = s.label.name; columns = columns_of s; keys = keys_in s; links = links_in sets s; parent = s.parent; inner = numbers_in (suc s.number) s.inner }
+table_in sets s = record { name = s.label.name; columns = columns_of s; keys = keys_in s; deps = deps_in s; links = links_in sets s; optional = optional_in sets s; parent = s.parent; inner = numbers_in (suc s.number) s.inner }
 
 -- the tables of a schema: its sets in preorder
 abbrev pub tables_of : Forest → List TableOf
 tables_of f = map (table_in (sets_of f)) (sets_of f)
 
+-- what stands at a number that no table has: a table without a column
+abbrev pub no_table : TableOf
+no_table = record { name = []; columns = []; keys = []; deps = []; links = []; optional = []; parent = None; inner = [] }
+
 -- the table with a number
 abbrev pub table_at : Forest → ℕ → TableOf
-table_at f t = slice_index_or (tables_of f) t (record { name = []; columns = []; keys = []; links = []; parent = None; inner = [] })
+table_at f t = slice_index_or (tables_of f) t no_table
 
--- a table as numbers: its width, what its keys determine, and its links
+-- a table as numbers: its width, what its keys determine, its links and its optional links
 abbrev pub as_numbers : TableOf → Numbers
-as_numbers t = record { width = length t.columns; determinations = map (λ (k : Key). key_of (length t.columns) k.columns) t.keys; links = t.links; optional = [] }
+as_numbers t = record { width = length t.columns; determinations = map (λ (k : Key). key_of (length t.columns) k.columns) t.keys; links = t.links; optional = t.optional }
 
 -- the widths of a schema's tables
 abbrev pub schema_widths : Forest → List ℕ
@@ -137,7 +168,7 @@ schema_widths f = map (λ (t : TableOf). length t.columns) (tables_of f)
 
 -- what stands at a number that no set has
 abbrev pub nowhere : Placed
-nowhere = record { label = record { name = []; columns = []; keys = []; refs = [] }; number = 0; parent = None; inner = none }
+nowhere = record { label = bare [] []; number = 0; parent = None; inner = none }
 
 -- the set with a number, with its inner sets
 abbrev pub tree_at : Forest → ℕ → Tree
@@ -149,9 +180,21 @@ model_tables f = map as_numbers (tables_of f)
 
 -- ---- what holds of each schema
 
--- a link goes from distinct columns of its table to as many distinct columns of a table
+-- at least one column, each of those of a table with this width, and none twice
+pub record AreColumns (width : ℕ) (columns : List ℕ) : Type 0 where
+  pub some : 1 ≤ length columns
+  pub within : AreWithin columns width
+  pub distinct : Distinct columns
+
+-- a dependency has columns of its table on both sides
+pub record IsDep (width : ℕ) (d : Dep) : Type 0 where
+  pub columns : AreColumns width d.columns
+  pub decides : AreColumns width d.decides
+
+-- a link goes from at least one column of its table, each other than the others, to as many columns of a table
 pub record IsLink (tables : List TableOf) (width : ℕ) (link : Link) : Type 0 where
   pub table : link.table < length tables
+  pub some : 1 ≤ length link.from
   pub same_length : length link.from ≡ length link.to
   pub from : AreWithin link.from width
   pub to : AreWithin link.to (length (slice_index_or (map (λ (t : TableOf). t.columns) tables) link.table []))
@@ -163,8 +206,10 @@ pub record IsTable (tables : List TableOf) (t : TableOf) : Type 0 where
   pub some_column : 1 ≤ length t.columns
   pub few_columns : length t.columns ≤ 64
   pub distinct_columns : Distinct t.columns
-  pub keys : Each t.keys (λ k. AreWithin k.columns (length t.columns) × Distinct k.columns)
+  pub keys : Each t.keys (λ k. AreColumns (length t.columns) k.columns)
+  pub deps : Each t.deps (IsDep (length t.columns))
   pub links : Each t.links (IsLink tables (length t.columns))
+  pub optional : Each t.optional (IsLink tables (length t.columns))
 
 -- what holds of the tables of each schema
 pub record AreTables (tables : List TableOf) : Type 0 where

@@ -1,11 +1,11 @@
 // A schema: sets, and the tables that they make.
 ghost use Rattle.std.specs.Prelude.{◌≡◌, ◌<◌, ◌≤◌, ◌↔◌, ◌⊎◌, [], length, map, IfOk, IfErr, OnOk, IfSome, IsSome, IsTrue, slice_index_or};
 ghost use Rattle.dx_ports.specs.Members.{◌∈◌, Each};
-ghost use Rattle.dx_model.specs.Tables.{DeterminationsFit};
+ghost use Rattle.dx_model.specs.Tables.{DeterminationsFit, table_of};
 ghost use Rattle.dx_schema.specs.Forest.{forest_of};
-ghost use Rattle.dx_schema.specs.Tables.{count, tables_of, table_at, tree_at, model_tables, number_of, schema_widths, AreTables};
+ghost use Rattle.dx_schema.specs.Tables.{count, tables_of, table_at, tree_at, model_tables, number_of, schema_widths, AreTables, IsLink};
 ghost use Rattle.dx_schema.specs.Bounds.{HasFewRules, HasNumbers};
-ghost use Rattle.dx_schema.specs.Links.{IsAcyclic, IsFaultless, IsFirstFault};
+ghost use Rattle.dx_schema.specs.Links.{every_link, IsAcyclic, IsFaultless, IsFirstFault};
 ghost use Rattle.dx_schema.specs.declared.fault.SchemaFault.TheVariants.{Memory};
 
 use crate::build::checked_tables;
@@ -13,7 +13,7 @@ use crate::fault::SchemaFault;
 use crate::nodes::tree_numbered;
 use crate::sets::{SetTree, Trees};
 use crate::tables::Table;
-use dx_model::{Key, Link};
+use dx_model::{Dep, Key, Link};
 use dx_ports::Text;
 use std::alloc::{AllocError, Global};
 use std::marker::Model;
@@ -67,10 +67,10 @@ impl Schema {
     /// 2. Set by set, an inner set after its outer one: its name is that of an earlier set (`DoubleName`); it has no
     ///    column (`NoColumn`); its table has more than 64 columns (`TooMany`); a name stands twice among `#id`, `#up`,
     ///    its columns and its inner sets (`DoubleName`).
-    /// 3. Set by set, each key and then each ref: a list is empty (`BadLink`); a column isn't one of the set
-    ///    (`UnknownName`), or stands twice (`DoubleName`); the set that is referred to isn't there (`UnknownName`); a
-    ///    referred column isn't one of that set (`UnknownName`), or stands twice (`DoubleName`); the two lists have
-    ///    different length (`BadLink`).
+    /// 3. Set by set, each key, then each dependency and then each ref: a list is empty (`BadLink`); a column isn't one
+    ///    of the set (`UnknownName`), or stands twice in its list (`DoubleName`), of a dependency the left list first;
+    ///    the set that is referred to isn't there (`UnknownName`); a referred column isn't one of that set
+    ///    (`UnknownName`), or stands twice (`DoubleName`); the two lists of a ref have different length (`BadLink`).
     /// 4. Links lead from a set back to it (`CyclicLinks`).
     pub fn build(alloc: Global, trees: Trees) -> Result<Schema, SchemaFault>
         requires few { HasFewRules trees }
@@ -177,12 +177,54 @@ impl Schema {
         self.tables[table as usize].keys.items()
     }
 
+    /// The dependencies of a table.
+    pub fn deps_of(&self, table: u32) -> &[Dep]
+        requires { table < length (tables_of self.now) }
+        ensures { result.now ≡ (table_at self.now table).deps }
+    {
+        self.tables[table as usize].deps.items()
+    }
+
     /// The links of a table.
     pub fn links_of(&self, table: u32) -> &[Link]
         requires { table < length (tables_of self.now) }
         ensures { result.now ≡ (table_at self.now table).links }
     {
         self.tables[table as usize].links.items()
+    }
+
+    /// The optional links of a table.
+    pub fn optional_links_of(&self, table: u32) -> &[Link]
+        requires { table < length (tables_of self.now) }
+        ensures { result.now ≡ (table_at self.now table).optional }
+    {
+        self.tables[table as usize].optional.items()
+    }
+
+    /// How many links a table has, optional ones too.
+    pub fn count_links(&self, table: u32) -> u32
+        requires { table < length (tables_of self.now) }
+        ensures { result ≡ length (every_link (table_of (model_tables self.now) table)) }
+    {
+        let own = &self.tables[table as usize];
+        (own.links.len() + own.optional.len()) as u32
+    }
+
+    /// A link of a table by its number, where optional links come after the others.
+    pub fn link(&self, table: u32, number: u32) -> &Link
+        requires table { table < length (tables_of self.now) }
+        requires number { number < length (every_link (table_of (model_tables self.now) table)) }
+        ensures link { result.now ≡ slice_index_or (every_link (table_of (model_tables self.now) table)) number (record { from = []; table = 0; to = [] }) }
+        ensures is { IsLink (tables_of self.now) (length (table_at self.now table).columns) result.now }
+    {
+        let own = &self.tables[table as usize];
+        let links = own.links.items();
+        let place = number as usize;
+        if place < links.len() {
+            &links[place]
+        } else {
+            &own.optional.items()[place - links.len()]
+        }
     }
 
     /// The table of the set that a table's set is an inner set of. None for a set of the top level.

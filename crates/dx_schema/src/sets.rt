@@ -1,7 +1,7 @@
 // Sets as they are declared, each with its inner sets.
 ghost use Rattle.std.specs.Prelude.{◌≡◌, ◌≤◌, ◌↔◌, [], OnOk, OnErr, IsTrue, not};
 ghost use Rattle.dx_schema.specs.Bounds.{HasFewRules};
-ghost use Rattle.dx_schema.specs.Forest.{forest_of, followed_by, has_sets, none, set};
+ghost use Rattle.dx_schema.specs.Forest.{bare, forest_of, followed_by, has_sets, none, set};
 ghost use Rattle.dx_schema.specs.Tables.{count};
 
 use crate::nodes::count_sets;
@@ -9,7 +9,8 @@ use dx_ports::{Items, Text};
 use std::alloc::{AllocError, Global};
 use std::marker::Model;
 
-// With so many keys a table may have one that has no number of 32 bits: it may have one key more than its set.
+// With so many keys and dependencies, or refs, a table may have one that has no number of 32 bits: it may have one key
+// and one link more than its set.
 const TOO_MANY: u64 = 4_294_967_294;
 
 /// Columns of a set on which no two of its rows agree.
@@ -18,12 +19,21 @@ pub struct KeyDecl {
     pub columns: Items<Text>,
 }
 
-/// Columns of a set that refer to columns of a set.
+/// Columns of a set that determine others: two of its rows that agree on `columns` agree on `decides`.
+#[derive(Drop)]
+pub struct DepDecl {
+    pub columns: Items<Text>,
+    pub decides: Items<Text>,
+}
+
+/// Columns of a set that refer to columns of a set. Of an optional one no instance needs to have the row that it refers
+/// to.
 #[derive(Drop)]
 pub struct RefDecl {
     pub columns: Items<Text>,
     pub set: Text,
     pub referred: Items<Text>,
+    pub optional: bool,
 }
 
 /// A set with its inner sets. A contract sees it as its label, which is all but the inner sets, and these.
@@ -33,6 +43,7 @@ pub struct SetTree {
     pub name: Text,
     pub columns: Items<Text>,
     pub keys: Items<KeyDecl>,
+    pub deps: Items<DepDecl>,
     pub refs: Items<RefDecl>,
     pub inner: Trees,
 }
@@ -52,7 +63,10 @@ impl Model for SetTree {
 
     ghost coded = { tree_code };
 
-    ghost view = { λ a. record { label = record { name = a.name; columns = a.columns; keys = a.keys; refs = a.refs }; inner = a.inner } };
+    ghost view = { λ a. record {
+      label = record { name = a.name; columns = a.columns; keys = a.keys; deps = a.deps; refs = a.refs };
+      inner = a.inner;
+    } };
 
     ghost size = { tree_size };
 
@@ -75,14 +89,15 @@ impl Model for Trees {
 }
 
 impl SetTree {
-    /// A set with these columns, without keys, refs and inner sets. It takes no memory.
+    /// A set with these columns, without keys, dependencies, refs and inner sets. It takes no memory.
     pub fn new(alloc: Global, name: Text, columns: Items<Text>) -> SetTree
-        ensures { result ≡ record { label = record { name = name; columns = columns; keys = []; refs = [] }; inner = none } }
+        ensures { result ≡ record { label = bare name columns; inner = none } }
     {
         SetTree {
             name,
             columns,
             keys: Items::new(alloc),
+            deps: Items::new(alloc),
             refs: Items::new(alloc),
             inner: Trees::new(alloc),
         }
@@ -127,12 +142,14 @@ impl Trees {
         count_sets(self)
     }
 
-    /// Whether each set, inner sets included, has at most 4,294,967,293 keys and as many refs, as `Schema::build` asks.
+    /// Whether each set, inner sets included, has at most 4,294,967,293 keys and dependencies together, and as many refs,
+    /// as `Schema::build` asks.
     pub fn has_few_rules(&self) -> bool
         ensures { IsTrue result ↔ HasFewRules self.now }
     {
         for tree in self.items() {
-            if tree.keys.len() >= TOO_MANY || tree.refs.len() >= TOO_MANY {
+            let determinations = tree.keys.len().saturating_add(tree.deps.len());
+            if determinations >= TOO_MANY || tree.refs.len() >= TOO_MANY {
                 return false;
             }
             if !tree.inner.has_few_rules() {

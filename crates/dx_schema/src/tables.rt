@@ -1,24 +1,27 @@
 // Sets as tables.
-ghost use Rattle.std.specs.Prelude.{◌≡◌, ◌<◌, ◌≤◌, ◌+◌, ◌++◌, [], ◌∷◌, length, map, codes, IfOk, slice_index_or};
+ghost use Rattle.std.specs.Prelude.{◌≡◌, ◌<◌, ◌≤◌, ◌+◌, ◌++◌, [], ◌∷◌, length, map, codes, IfOk, OnOk, slice_index_or};
 ghost use Rattle.dx_ports.specs.Members.{Each};
-ghost use Rattle.dx_schema.specs.Tables.{columns_of, count, names_of, numbers_of, where_inner, where_has_inner, key_named, keys_in, links_in, table_in};
+ghost use Rattle.dx_schema.specs.Tables.{columns_of, count, names_of, numbers_of, where_inner, where_has_inner, columns_at, firm_refs, key_named, keys_in, dep_named, deps_in, link_of, link_up, links_in, optional_in, table_in};
 ghost use Rattle.dx_schema.specs.Nodes.{seen};
 
 use crate::checks::columns_made;
 use crate::names::{copies, number_among, numbers_among};
 use crate::nodes::{Node, numbers_made};
-use crate::sets::KeyDecl;
-use dx_model::{Key, Link};
+use crate::sets::{DepDecl, KeyDecl, RefDecl};
+use dx_model::{Dep, Key, Link};
 use dx_ports::{Items, Text};
 use std::alloc::{AllocError, Global};
 
-/// A table: a name, the names of its columns, and its keys and links by the numbers of columns and tables.
+/// A table: a name, the names of its columns, and its keys, dependencies and links by the numbers of columns and tables.
 #[derive(Drop)]
 pub struct Table {
     pub name: Text,
     pub columns: Items<Text>,
     pub keys: Items<Key>,
+    pub deps: Items<Dep>,
     pub links: Items<Link>,
+    /// The links that an instance may leave open.
+    pub optional: Items<Link>,
     /// The table of the set that the set is an inner set of.
     pub parent: Option<u32>,
     /// The tables of the set's inner sets, in order.
@@ -35,15 +38,15 @@ fn number_alone(alloc: Global, all: &[Text], name: &str) -> Result<Items<u32>, A
     Ok(out)
 }
 
-// The names of a key's columns, of an inner set with `#up` in front.
-fn key_names(alloc: Global, node: &Node, key: &KeyDecl) -> Result<Items<Text>, AllocError>
-    ensures { IfOk result (λ names. names ≡ where_inner node.now.parent (codes "#up") ++ key.now.columns) }
+// The names of a key's columns, or of those that a dependency has on the left, of an inner set with `#up` in front.
+fn key_names(alloc: Global, node: &Node, columns: &[Text]) -> Result<Items<Text>, AllocError>
+    ensures { IfOk result (λ names. names ≡ where_inner node.now.parent (codes "#up") ++ columns.now) }
 {
     let mut names = Items::new(alloc);
     if node.parent.is_some() {
         names.push(Text::from_str(alloc, "#up")?)?;
     }
-    for column in key.columns.items() {
+    for column in columns {
         names.push(column.copy()?)?;
     }
     Ok(names)
@@ -73,11 +76,37 @@ fn keys_made(alloc: Global, node: &Node, own: &[Text]) -> Result<Items<Key>, All
     let tree = node.tree;
     let mut keys = keys_begun(alloc, node, own)?;
     for key in tree.keys.items() {
-        let names = key_names(alloc, node, key)?;
+        let names = key_names(alloc, node, key.columns.items())?;
         let columns = numbers_among(alloc, own, names.items())?;
         keys.push(Key { columns })?;
     }
     Ok(keys)
+}
+
+// A dependency of a set's table.
+fn dep_made(alloc: Global, node: &Node, own: &[Text], dep: &DepDecl) -> Result<Dep, AllocError>
+    requires columns { own.now ≡ columns_of (seen node.now) }
+    requires few { length own.now ≤ 64 }
+    ensures { IfOk result (λ d. d ≡ dep_named (seen node.now) dep.now) }
+{
+    let names = key_names(alloc, node, dep.columns.items())?;
+    let columns = numbers_among(alloc, own, names.items())?;
+    let decides = numbers_among(alloc, own, dep.decides.items())?;
+    Ok(Dep { columns, decides })
+}
+
+// The dependencies of a set's table.
+fn deps_made(alloc: Global, node: &Node, own: &[Text]) -> Result<Items<Dep>, AllocError>
+    requires columns { own.now ≡ columns_of (seen node.now) }
+    requires few { length own.now ≤ 64 }
+    ensures { IfOk result (λ deps. deps ≡ deps_in (seen node.now)) }
+{
+    let tree = node.tree;
+    let mut deps = Items::new(alloc);
+    for dep in tree.deps.items() {
+        deps.push(dep_made(alloc, node, own, dep)?)?;
+    }
+    Ok(deps)
 }
 
 // The columns of the set with a number, of no set none.
@@ -88,6 +117,54 @@ fn columns_numbered(columns: &[Items<Text>], number: u32) -> &[Text]
         Some(names) => names.items(),
         None => &[],
     }
+}
+
+// The link of a ref.
+fn link_made(
+    alloc: Global,
+    names: &[Text],
+    columns: &[Items<Text>],
+    sets: &[Node],
+    node: &Node,
+    own: &[Text],
+    link: &RefDecl,
+) -> Result<Link, AllocError>
+    requires names { names.now ≡ names_of (map seen sets.now) }
+    requires few_names { length names.now ≤ 64 }
+    requires columns { columns.now ≡ map columns_of (map seen sets.now) }
+    requires few { Each columns.now (λ c. length c ≤ 64) }
+    requires own { own.now ≡ columns_of (seen node.now) }
+    requires few_own { length own.now ≤ 64 }
+    ensures { IfOk result (λ l. l ≡ link_of (map seen sets.now) (seen node.now) link.now) }
+{
+    let table = number_among(names, &link.set);
+    let from = numbers_among(alloc, own, link.columns.items())?;
+    let referred = columns_numbered(columns, table);
+    let to = numbers_among(alloc, referred, link.referred.items())?;
+    Ok(Link { from, table, to })
+}
+
+// The link of an inner set to the set that it is in.
+fn links_begun(
+    alloc: Global,
+    columns: &[Items<Text>],
+    sets: &[Node],
+    node: &Node,
+    own: &[Text],
+) -> Result<Items<Link>, AllocError>
+    requires columns { columns.now ≡ map columns_of (map seen sets.now) }
+    requires few { Each columns.now (λ c. length c ≤ 64) }
+    requires own { own.now ≡ columns_of (seen node.now) }
+    requires few_own { length own.now ≤ 64 }
+    ensures { IfOk result (λ links. links ≡ link_up (map seen sets.now) (seen node.now) (seen node.now).parent) }
+{
+    let mut links = Items::new(alloc);
+    if let Some(table) = node.parent {
+        let from = number_alone(alloc, own, "#up")?;
+        let to = number_alone(alloc, columns_numbered(columns, table), "#id")?;
+        links.push(Link { from, table, to })?;
+    }
+    Ok(links)
 }
 
 // The links of a set's table.
@@ -108,18 +185,38 @@ fn links_made(
     ensures { IfOk result (λ links. links ≡ links_in (map seen sets.now) (seen node.now)) }
 {
     let tree = node.tree;
-    let mut links = Items::new(alloc);
-    if let Some(table) = node.parent {
-        let from = number_alone(alloc, own, "#up")?;
-        let to = number_alone(alloc, columns_numbered(columns, table), "#id")?;
-        links.push(Link { from, table, to })?;
-    }
+    let mut links = links_begun(alloc, columns, sets, node, own)?;
     for link in tree.refs.items() {
-        let table = number_among(names, &link.set);
-        let from = numbers_among(alloc, own, link.columns.items())?;
-        let referred = columns_numbered(columns, table);
-        let to = numbers_among(alloc, referred, link.referred.items())?;
-        links.push(Link { from, table, to })?;
+        if !link.optional {
+            links.push(link_made(alloc, names, columns, sets, node, own, link)?)?;
+        }
+    }
+    Ok(links)
+}
+
+// The optional links of a set's table.
+fn optional_made(
+    alloc: Global,
+    names: &[Text],
+    columns: &[Items<Text>],
+    sets: &[Node],
+    node: &Node,
+    own: &[Text],
+) -> Result<Items<Link>, AllocError>
+    requires names { names.now ≡ names_of (map seen sets.now) }
+    requires few_names { length names.now ≤ 64 }
+    requires columns { columns.now ≡ map columns_of (map seen sets.now) }
+    requires few { Each columns.now (λ c. length c ≤ 64) }
+    requires own { own.now ≡ columns_of (seen node.now) }
+    requires few_own { length own.now ≤ 64 }
+    ensures { IfOk result (λ links. links ≡ optional_in (map seen sets.now) (seen node.now)) }
+{
+    let tree = node.tree;
+    let mut links = Items::new(alloc);
+    for link in tree.refs.items() {
+        if link.optional {
+            links.push(link_made(alloc, names, columns, sets, node, own, link)?)?;
+        }
     }
     Ok(links)
 }
@@ -147,7 +244,9 @@ fn table_made(
         name: tree.name.copy()?,
         columns: copies(alloc, own)?,
         keys: keys_made(alloc, node, own)?,
+        deps: deps_made(alloc, node, own)?,
         links: links_made(alloc, names, columns, sets, node, own)?,
+        optional: optional_made(alloc, names, columns, sets, node, own)?,
         parent: node.parent,
         inner: numbers_made(alloc, node.number + 1, &tree.inner)?,
     })

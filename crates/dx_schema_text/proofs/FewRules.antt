@@ -21,7 +21,7 @@ ref_some (ref_of k o c arrow s p d e a b f g h i j l m n) = omega arith
 
 mutual
   -- a set has fewer keys and refs than tokens, and so has each of its inner sets
-  set_few : {levels : ℕ} {t : Tree} {xs : List Lexeme} (n : ℕ) → length xs ≤ n → SpellsSet levels t xs → (length t.label.keys < n) × (length t.label.refs < n) × RulesBelow n t.inner
+  set_few : {levels : ℕ} {t : Tree} {xs : List Lexeme} (n : ℕ) → length xs ≤ n → SpellsSet levels t xs → (length t.label.keys + length t.label.deps < n) × (length t.label.refs < n) × RulesBelow n t.inner
   set_few n le (set_of {u = u} {v = v} c head clauses closing) =
       let all : length u + (length v + 1) ≤ n = omega (arith, le, length-append u (v ++ c ∷ []), length-append v (c ∷ [])) in
       let r = clauses_few n (omega (arith, all)) clauses in

@@ -10,6 +10,7 @@ pub mod Printing
 pub mod PrintScans
 pub mod PrintReads
 pub mod PrintExamples
+mod VersionOne
 pub mod SpelledWords
 pub mod FewRules
 pub mod Fronts

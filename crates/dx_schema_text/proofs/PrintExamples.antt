@@ -1,21 +1,22 @@
 -- Worked values of printed sets.
-use Rattle.std.proofs.Common.{◌≡◌, [], ◌∷◌, refl, arith}
+use Rattle.std.proofs.Common.{◌≡◌, true, false, [], ◌∷◌, refl, arith}
 use Rattle.std.specs.Prelude.{codes}
 use Rattle.dx_ports.proofs.Members.{each_cons}
-use Rattle.dx_schema.specs.Forest.{Label, none, set}
-use Rattle.dx_schema_text.specs.Print.{printed, IsNamed, AreWritable}
+use Rattle.dx_schema.specs.Forest.{Label, bare, none, set}
+use Rattle.dx_schema_text.specs.Print.{printed, IsNamed, IsOfVersionOne, AreWritable}
 use Rattle.dx_schema_text.proofs.PrintScans.{a_word}
 use Rattle.dx_schema_text.proofs.SpelledWords.{each_none}
 
 abbrev staff : Label
-staff = record { name = codes "staff"; columns = codes "sname" ∷ []; keys = []; refs = [] }
+staff = bare (codes "staff") (codes "sname" ∷ [])
 
 abbrev unit : Label
 unit = record {
   name = codes "unit";
   columns = codes "uname" ∷ codes "place" ∷ [];
   keys = record { columns = codes "uname" ∷ [] } ∷ [];
-  refs = record { columns = codes "place" ∷ []; set = codes "town"; referred = codes "tname" ∷ codes "land" ∷ [] } ∷ [];
+  deps = [];
+  refs = record { columns = codes "place" ∷ []; set = codes "town"; referred = codes "tname" ∷ codes "land" ∷ []; optional = false } ∷ [];
 }
 
 no_sets : printed [] none ≡ []
@@ -35,5 +36,24 @@ unit_named = record {
   refs = each_cons _ _ (record { columns = (a_word (codes "place") refl, each_none _); refers = a_word (codes "town") refl; referred = (a_word (codes "tname") refl, each_cons _ _ (a_word (codes "land") refl) (each_none _)) }) (each_none _);
 }
 
+-- an address whose zip determines its town, and whose town may be told elsewhere
+abbrev address : Label
+address = record {
+  name = codes "addr";
+  columns = codes "town" ∷ codes "zip" ∷ [];
+  keys = [];
+  deps = record { columns = codes "zip" ∷ []; decides = codes "town" ∷ [] } ∷ [];
+  refs = record { columns = codes "town" ∷ []; set = codes "town"; referred = codes "tname" ∷ []; optional = true } ∷ [];
+}
+
+later_versions : printed [] (set address none none) ≡ codes "set addr {\n  town, zip;\n  dep (zip) -> (town);\n  ref (town) -> town (tname) optional;\n}\n"
+later_versions = refl
+
+staff_of_version_one : IsOfVersionOne staff
+staff_of_version_one = record { deps = refl; refs = each_none _ }
+
+unit_of_version_one : IsOfVersionOne unit
+unit_of_version_one = record { deps = refl; refs = each_cons _ _ refl (each_none _) }
+
 two_levels_are_writable : AreWritable (set unit (set staff none none) (set staff none none))
-two_levels_are_writable = record { named = (unit_named, (staff_named, tt, tt), (staff_named, tt, tt)); levels = omega arith }
+two_levels_are_writable = record { named = (unit_named, (staff_named, tt, tt), (staff_named, tt, tt)); version = (unit_of_version_one, (staff_of_version_one, tt, tt), (staff_of_version_one, tt, tt)); levels = omega arith }

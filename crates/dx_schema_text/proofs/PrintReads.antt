@@ -1,5 +1,5 @@
 -- Printed sets are read again.
-use Rattle.std.proofs.Common.{◌≡◌, ℕ, zero, suc, ◌≤◌, true, List, [], ◌∷◌, ◌++◌, map, refl, sym, ap, ◌∙◌, subst, append_assoc, arith}
+use Rattle.std.proofs.Common.{◌≡◌, ℕ, zero, suc, ◌≤◌, Bool, true, false, List, [], ◌∷◌, ◌++◌, map, refl, sym, ap, ◌∙◌, subst, append_assoc, arith}
 use Rattle.std.specs.Prelude.{IsTrue, codes}
 use Rattle.std.specs.List.{flat_map}
 use Rattle.std.proofs.lemmas.List.{append-nil}
@@ -10,15 +10,16 @@ use Rattle.dx_tokens.specs.Tokens.{is_blank, is_digit}
 use Rattle.dx_tokens.specs.Lexing as lexing
 use Rattle.dx_grammar.specs.Readers.{Many, no_more, one_more}
 use Rattle.dx_schema.specs.declared.sets.KeyDecl.{KeyDecl}
+use Rattle.dx_schema.specs.declared.sets.DepDecl.{DepDecl}
 use Rattle.dx_schema.specs.declared.sets.RefDecl.{RefDecl}
 use Rattle.dx_schema.specs.Forest.{Label, Forest, none, set, Tree, forest_of}
 use Rattle.dx_schema.specs.Faults.{depth}
 use Rattle.dx_schema_text.specs.declared.clauses.Clause.{Clause}
-use Rattle.dx_schema_text.specs.Reading.{key_clause, ref_clause, set_clause, keys_among, refs_among, sets_among, tree_of}
+use Rattle.dx_schema_text.specs.Reading.{reference_of, key_clause, ref_clause, set_clause, keys_among, refs_among, sets_among, tree_of}
 use Rattle.dx_schema_text.specs.Grammar.{word_is}
 use Rattle.dx_schema_text.specs.Spelling.{IsMark, IsWord, Comma, comma_then, Parted, parted, SpellsName, name_of, SpellsKey, key_of, SpellsRef, ref_of, SpellsHead, head_of, SpellsSet, set_of, SpellsClauses, no_clause, clause_first, a_key, a_ref, a_set, SpellsSide, side_of, SpellsMapping, mapping_of}
 use Rattle.dx_schema_text.specs.Texts.{deepest, IsMappingText}
-use Rattle.dx_schema_text.specs.Print.{names_text, wider, key_line, ref_line, head_lines, front_lines, last_line, printed, AreNames, IsNamedRef, IsNamed, AreNamed, AreWritable, sides_text, sides, IsReadAgain}
+use Rattle.dx_schema_text.specs.Print.{names_text, wider, key_line, dep_line, ref_line, head_lines, front_lines, last_line, printed, AreNames, IsNamedRef, IsNamed, AreNamed, IsOfVersionOne, AreOfVersionOne, AreWritable, sides_text, sides, IsReadAgain}
 use Rattle.dx_schema_text.proofs.PrintScans.{Reads, EndsWord, lexeme, no_token, token_then, word_then, mark_then, blanks_then, both_then, told_as, each_passes, a_word, each_append, reads_all}
 
 abbrev AreBlank : List ℕ → Type 0
@@ -74,13 +75,20 @@ key_read margin k place tail blank named =
     (blanks_then _ (codes "\n") tail tail _ (each_passes is_blank (codes "\n") refl)
     (no_token _ _ tail (key_of _ _ _ _ refl refl h refl refl))))))))))
 
+-- a ref that isn't optional
+abbrev firm : RefDecl → RefDecl
+firm r = reference_of r.columns r.set r.referred
+
+firm_is : (r : RefDecl) → r.optional ≡ false → firm r ≡ r
+firm_is r e = ap (λ (b : Bool). record { columns = r.columns; set = r.set; referred = r.referred; optional = b }) (sym e)
+
 ref_flat : (margin : List ℕ) (r : RefDecl) (tail : List ℕ)
-    → ref_line margin r ++ tail ≡ margin ++ (codes "ref (" ++ (names_text r.columns ++ (codes ") -> " ++ (r.set ++ (codes " (" ++ (names_text r.referred ++ (codes ");\n" ++ tail)))))))
+    → ref_line margin (firm r) ++ tail ≡ margin ++ (codes "ref (" ++ (names_text r.columns ++ (codes ") -> " ++ (r.set ++ (codes " (" ++ (names_text r.referred ++ (codes ");\n" ++ tail)))))))
 ref_flat margin r tail = simp append_assoc
 
-ref_read : (margin : List ℕ) (r : RefDecl) (place : ℕ) (tail : List ℕ) → AreBlank margin → IsNamedRef r → Reads (SpellsRef r) place (ref_line margin r ++ tail) tail
-ref_read margin r place tail blank named =
-    subst (λ (text : List ℕ). Reads (SpellsRef r) place text tail) (sym (ref_flat margin r tail))
+firm_read : (margin : List ℕ) (r : RefDecl) (place : ℕ) (tail : List ℕ) → AreBlank margin → IsNamedRef r → Reads (SpellsRef (firm r)) place (ref_line margin (firm r) ++ tail) tail
+firm_read margin r place tail blank named =
+    subst (λ (text : List ℕ). Reads (SpellsRef (firm r)) place text tail) (sym (ref_flat margin r tail))
     (blanks_then _ margin _ tail place blank
     (word_then _ (codes "ref") _ tail _ (a_word (codes "ref") refl) refl
     (blanks_then _ (codes " ") _ tail _ (each_passes is_blank (codes " ") refl)
@@ -99,6 +107,10 @@ ref_read margin r place tail blank named =
     (blanks_then _ (codes "\n") tail tail _ (each_passes is_blank (codes "\n") refl)
     (no_token _ _ tail (ref_of _ _ _ _ _ _ _ _ refl refl h refl refl refl refl g refl refl))))))))))))))))))
 
+ref_read : (margin : List ℕ) (r : RefDecl) (place : ℕ) (tail : List ℕ) → AreBlank margin → IsNamedRef r → r.optional ≡ false → Reads (SpellsRef r) place (ref_line margin r ++ tail) tail
+ref_read margin r place tail blank named e =
+    subst (λ (q : RefDecl). Reads (SpellsRef q) place (ref_line margin q ++ tail) tail) (firm_is r e) (firm_read margin r place tail blank named)
+
 -- keys before other clauses, and refs
 keys_read : (levels : ℕ) (margin : List ℕ) (ks : List KeyDecl) (cs : List Clause) (tail more : List ℕ) → AreBlank margin → Each ks (λ k. AreNames k.columns) → ((p : ℕ) → Reads (SpellsClauses levels cs) p tail more)
     → (place : ℕ) → Reads (SpellsClauses levels (map key_clause ks ++ cs)) place (flat_map (key_line margin) ks ++ tail) more
@@ -108,13 +120,14 @@ keys_read levels margin (k ∷ ks) cs tail more blank each on place =
     (both_then (SpellsKey k) _ _ _ more place (key_read margin k place _ blank (each k (here refl))) (λ u after h.
     told_as (SpellsClauses levels (map key_clause ks ++ cs)) _ _ more after (keys_read levels margin ks cs tail more blank (λ x m. each x (there m)) on after) (λ v c. clause_first (a_key h) c)))
 
-refs_read : (levels : ℕ) (margin : List ℕ) (rs : List RefDecl) (cs : List Clause) (tail more : List ℕ) → AreBlank margin → Each rs IsNamedRef → ((p : ℕ) → Reads (SpellsClauses levels cs) p tail more)
+refs_read : (levels : ℕ) (margin : List ℕ) (rs : List RefDecl) (cs : List Clause) (tail more : List ℕ) → AreBlank margin → Each rs IsNamedRef → Each rs (λ r. r.optional ≡ false)
+    → ((p : ℕ) → Reads (SpellsClauses levels cs) p tail more)
     → (place : ℕ) → Reads (SpellsClauses levels (map ref_clause rs ++ cs)) place (flat_map (ref_line margin) rs ++ tail) more
-refs_read levels margin [] cs tail more blank each on place = on place
-refs_read levels margin (r ∷ rs) cs tail more blank each on place =
+refs_read levels margin [] cs tail more blank each all_firm on place = on place
+refs_read levels margin (r ∷ rs) cs tail more blank each all_firm on place =
     subst (λ (text : List ℕ). Reads (SpellsClauses levels (map ref_clause (r ∷ rs) ++ cs)) place text more) (sym (append_assoc (ref_line margin r) (flat_map (ref_line margin) rs) tail))
-    (both_then (SpellsRef r) _ _ _ more place (ref_read margin r place _ blank (each r (here refl))) (λ u after h.
-    told_as (SpellsClauses levels (map ref_clause rs ++ cs)) _ _ more after (refs_read levels margin rs cs tail more blank (λ x m. each x (there m)) on after) (λ v c. clause_first (a_ref h) c)))
+    (both_then (SpellsRef r) _ _ _ more place (ref_read margin r place _ blank (each r (here refl)) (all_firm r (here refl))) (λ u after h.
+    told_as (SpellsClauses levels (map ref_clause rs ++ cs)) _ _ more after (refs_read levels margin rs cs tail more blank (λ x m. each x (there m)) (λ x m. all_firm x (there m)) on after) (λ v c. clause_first (a_ref h) c)))
 
 -- ---- the clauses of a set
 
@@ -161,15 +174,16 @@ sets_of_sets : (f : Forest) → sets_among (set_clauses f) ≡ f
 sets_of_sets none = refl
 sets_of_sets (set l i r) = ap (λ f. set l i f) (sets_of_sets r)
 
-tree_is : (l : Label) (inner : Forest) → tree_of l.name l.columns (clauses_of l inner) ≡ record { label = l; inner = inner }
-tree_is l inner =
+tree_is : (l : Label) (inner : Forest) → l.deps ≡ [] → tree_of l.name l.columns (clauses_of l inner) ≡ record { label = l; inner = inner }
+tree_is l inner no_deps =
     let rest = map ref_clause l.refs ++ set_clauses inner in
     let ks : keys_among (clauses_of l inner) ≡ l.keys = keys_of_keys l.keys rest ∙ ap (λ xs. l.keys ++ xs) (keys_of_refs l.refs (set_clauses inner) ∙ keys_of_sets inner) ∙ append-nil l.keys in
     let rs : refs_among (clauses_of l inner) ≡ l.refs = refs_of_keys l.keys rest ∙ refs_of_refs l.refs (set_clauses inner) ∙ ap (λ xs. l.refs ++ xs) (refs_of_sets inner) ∙ append-nil l.refs in
     let ss : sets_among (clauses_of l inner) ≡ inner = sets_of_keys l.keys rest ∙ sets_of_refs l.refs (set_clauses inner) ∙ sets_of_sets inner in
-    ap (λ (k : List KeyDecl). record { label = record { name = l.name; columns = l.columns; keys = k; refs = refs_among (clauses_of l inner) }; inner = sets_among (clauses_of l inner) }) ks
-    ∙ ap (λ (r : List RefDecl). record { label = record { name = l.name; columns = l.columns; keys = l.keys; refs = r }; inner = sets_among (clauses_of l inner) }) rs
-    ∙ ap (λ (f : Forest). record { label = l; inner = f }) ss
+    ap (λ (k : List KeyDecl). record { label = record { name = l.name; columns = l.columns; keys = k; deps = []; refs = refs_among (clauses_of l inner) }; inner = sets_among (clauses_of l inner) }) ks
+    ∙ ap (λ (r : List RefDecl). record { label = record { name = l.name; columns = l.columns; keys = l.keys; deps = []; refs = r }; inner = sets_among (clauses_of l inner) }) rs
+    ∙ ap (λ (f : Forest). record { label = record { name = l.name; columns = l.columns; keys = l.keys; deps = []; refs = l.refs }; inner = f }) ss
+    ∙ ap (λ (d : List DepDecl). record { label = record { name = l.name; columns = l.columns; keys = l.keys; deps = d; refs = l.refs }; inner = inner }) (sym no_deps)
 
 -- ---- sets
 
@@ -196,33 +210,34 @@ head_read margin l place tail blank named =
     (blanks_then _ (codes "\n") tail tail _ (each_passes is_blank (codes "\n") refl)
     (no_token _ _ tail (head_of _ _ _ _ refl refl refl h refl)))))))))))))
 
-front_flat : (margin : List ℕ) (l : Label) (tail : List ℕ)
+front_flat : (margin : List ℕ) (l : Label) (tail : List ℕ) → l.deps ≡ []
     → front_lines margin l ++ tail ≡ head_lines margin l ++ (flat_map (key_line (wider margin)) l.keys ++ (flat_map (ref_line (wider margin)) l.refs ++ tail))
-front_flat margin l tail =
-    append_assoc (head_lines margin l) (flat_map (key_line (wider margin)) l.keys ++ flat_map (ref_line (wider margin)) l.refs) tail
+front_flat margin l tail no_deps =
+    ap (λ (ds : List DepDecl). (head_lines margin l ++ (flat_map (key_line (wider margin)) l.keys ++ (flat_map (dep_line (wider margin)) ds ++ flat_map (ref_line (wider margin)) l.refs))) ++ tail) no_deps
+    ∙ append_assoc (head_lines margin l) (flat_map (key_line (wider margin)) l.keys ++ flat_map (ref_line (wider margin)) l.refs) tail
     ∙ ap (λ (xs : List ℕ). head_lines margin l ++ xs) (append_assoc (flat_map (key_line (wider margin)) l.keys) (flat_map (ref_line (wider margin)) l.refs) tail)
 
 -- the inner sets of a set as its clauses
 abbrev InnerRead : ℕ → List ℕ → Forest → Type 0
 InnerRead levels margin f = (place : ℕ) (tail : List ℕ) → Reads (SpellsClauses levels (set_clauses f)) place (printed margin f ++ tail) tail
 
-set_closed : (levels : ℕ) (l : Label) (inner : Forest) (u v : List Lexeme) (c : Lexeme) → SpellsHead l.name l.columns u → SpellsClauses levels (clauses_of l inner) v → IsMark (codes "}") c
+set_closed : (levels : ℕ) (l : Label) (inner : Forest) (u v : List Lexeme) (c : Lexeme) → l.deps ≡ [] → SpellsHead l.name l.columns u → SpellsClauses levels (clauses_of l inner) v → IsMark (codes "}") c
     → SpellsSet levels (record { label = l; inner = inner }) (u ++ (v ++ c ∷ []))
-set_closed levels l inner u v c head clauses closing = subst (λ (t : Tree). SpellsSet levels t (u ++ (v ++ c ∷ []))) (tree_is l inner) (set_of c head clauses closing)
+set_closed levels l inner u v c no_deps head clauses closing = subst (λ (t : Tree). SpellsSet levels t (u ++ (v ++ c ∷ []))) (tree_is l inner no_deps) (set_of c head clauses closing)
 
-set_read : (levels : ℕ) (margin : List ℕ) (l : Label) (inner : Forest) (place : ℕ) (more : List ℕ) → AreBlank margin → IsNamed l → InnerRead levels (wider margin) inner
+set_read : (levels : ℕ) (margin : List ℕ) (l : Label) (inner : Forest) (place : ℕ) (more : List ℕ) → AreBlank margin → IsNamed l → IsOfVersionOne l → InnerRead levels (wider margin) inner
     → Reads (SpellsSet levels (record { label = l; inner = inner })) place (front_lines margin l ++ (printed (wider margin) inner ++ (last_line margin ++ more))) more
-set_read levels margin l inner place more blank named on =
-    subst (λ (text : List ℕ). Reads (SpellsSet levels (record { label = l; inner = inner })) place text more) (sym (front_flat margin l (printed (wider margin) inner ++ (last_line margin ++ more))))
+set_read levels margin l inner place more blank named first on =
+    subst (λ (text : List ℕ). Reads (SpellsSet levels (record { label = l; inner = inner })) place text more) (sym (front_flat margin l (printed (wider margin) inner ++ (last_line margin ++ more)) first.deps))
     (both_then (SpellsHead l.name l.columns) _ _ _ more place (head_read margin l place _ blank named) (λ u after h.
     both_then (SpellsClauses levels (clauses_of l inner)) _ _ (last_line margin ++ more) more after
     (keys_read levels (wider margin) l.keys (map ref_clause l.refs ++ set_clauses inner) _ (last_line margin ++ more) (wider_blank margin blank) named.keys
-    (refs_read levels (wider margin) l.refs (set_clauses inner) _ (last_line margin ++ more) (wider_blank margin blank) named.refs (λ p. on p (last_line margin ++ more))) after) (λ v behind c.
+    (refs_read levels (wider margin) l.refs (set_clauses inner) _ (last_line margin ++ more) (wider_blank margin blank) named.refs first.refs (λ p. on p (last_line margin ++ more))) after) (λ v behind c.
     subst (λ (text : List ℕ). Reads (λ w. SpellsSet levels (record { label = l; inner = inner }) (u ++ (v ++ w))) behind text more) (sym (append_assoc margin (codes "}\n") more))
     (blanks_then _ margin _ more _ blank
     (mark_then _ (codes "}") _ more _ refl
     (blanks_then _ (codes "\n") more more _ (each_passes is_blank (codes "\n") refl)
-    (no_token _ _ more (set_closed levels l inner u v _ h c refl))))))))
+    (no_token _ _ more (set_closed levels l inner u v _ first.deps h c refl))))))))
 
 level_flat : (margin : List ℕ) (l : Label) (inner rest : Forest) (tail : List ℕ)
     → printed margin (set l inner rest) ++ tail ≡ front_lines margin l ++ (printed (wider margin) inner ++ (last_line margin ++ (printed margin rest ++ tail)))
@@ -230,14 +245,14 @@ level_flat margin l inner rest tail =
     append_assoc (front_lines margin l) _ tail ∙ ap (λ (xs : List ℕ). front_lines margin l ++ xs) (append_assoc (printed (wider margin) inner) _ tail
     ∙ ap (λ (xs : List ℕ). printed (wider margin) inner ++ xs) (append_assoc (last_line margin) (printed margin rest) tail))
 
-inner_read : (f : Forest) (levels : ℕ) (margin : List ℕ) → AreBlank margin → AreNamed f → depth f ≤ levels → InnerRead levels margin f
-inner_read none levels margin blank named deep place tail = no_token _ place tail no_clause
-inner_read (set l i r) zero margin blank named deep place tail = absurd (omega arith)
-inner_read (set l i r) (suc n) margin blank named deep place tail =
+inner_read : (f : Forest) (levels : ℕ) (margin : List ℕ) → AreBlank margin → AreNamed f → AreOfVersionOne f → depth f ≤ levels → InnerRead levels margin f
+inner_read none levels margin blank named first deep place tail = no_token _ place tail no_clause
+inner_read (set l i r) zero margin blank named first deep place tail = absurd (omega arith)
+inner_read (set l i r) (suc n) margin blank named first deep place tail =
     subst (λ (text : List ℕ). Reads (SpellsClauses (suc n) (set_clauses (set l i r))) place text tail) (sym (level_flat margin l i r tail))
     (both_then (SpellsSet n (record { label = l; inner = i })) _ _ (printed margin r ++ tail) tail place
-    (set_read n margin l i place (printed margin r ++ tail) blank named.0 (inner_read i n (wider margin) (wider_blank margin blank) named.1 (omega arith))) (λ u after h.
-    told_as (SpellsClauses (suc n) (set_clauses r)) _ _ tail after (inner_read r (suc n) margin blank named.2 (omega arith) after tail) (λ v c. clause_first (a_set h) c)))
+    (set_read n margin l i place (printed margin r ++ tail) blank named.0 first.0 (inner_read i n (wider margin) (wider_blank margin blank) named.1 first.1 (omega arith))) (λ u after h.
+    told_as (SpellsClauses (suc n) (set_clauses r)) _ _ tail after (inner_read r (suc n) margin blank named.2 first.2 (omega arith) after tail) (λ v c. clause_first (a_set h) c)))
 
 -- ---- sides
 
@@ -249,13 +264,13 @@ forest_is : (f : Forest) → forest_of (trees_of f) ≡ f
 forest_is none = refl
 forest_is (set l i r) = ap (λ f. set l i f) (forest_is r)
 
-sets_read : (f : Forest) (levels : ℕ) (margin : List ℕ) → AreBlank margin → AreNamed f → depth f ≤ suc levels → (place : ℕ) (tail : List ℕ) → Reads (Many (SpellsSet levels) (trees_of f)) place (printed margin f ++ tail) tail
-sets_read none levels margin blank named deep place tail = no_token _ place tail no_more
-sets_read (set l i r) n margin blank named deep place tail =
+sets_read : (f : Forest) (levels : ℕ) (margin : List ℕ) → AreBlank margin → AreNamed f → AreOfVersionOne f → depth f ≤ suc levels → (place : ℕ) (tail : List ℕ) → Reads (Many (SpellsSet levels) (trees_of f)) place (printed margin f ++ tail) tail
+sets_read none levels margin blank named first deep place tail = no_token _ place tail no_more
+sets_read (set l i r) n margin blank named first deep place tail =
     subst (λ (text : List ℕ). Reads (Many (SpellsSet n) (trees_of (set l i r))) place text tail) (sym (level_flat margin l i r tail))
     (both_then (SpellsSet n (record { label = l; inner = i })) _ _ (printed margin r ++ tail) tail place
-    (set_read n margin l i place (printed margin r ++ tail) blank named.0 (inner_read i n (wider margin) (wider_blank margin blank) named.1 (omega arith))) (λ u after h.
-    told_as (Many (SpellsSet n) (trees_of r)) _ _ tail after (sets_read r n margin blank named.2 (omega arith) after tail) (λ v c. one_more h c)))
+    (set_read n margin l i place (printed margin r ++ tail) blank named.0 first.0 (inner_read i n (wider margin) (wider_blank margin blank) named.1 first.1 (omega arith))) (λ u after h.
+    told_as (Many (SpellsSet n) (trees_of r)) _ _ tail after (sets_read r n margin blank named.2 first.2 (omega arith) after tail) (λ v c. one_more h c)))
 
 side_closed : (name : List ℕ) (f : Forest) (k o c : Lexeme) (u : List Lexeme) → word_is name k ≡ true → IsMark (codes "{") o → Many (SpellsSet deepest) (trees_of f) u → IsMark (codes "}") c
     → SpellsSide name deepest f (k ∷ o ∷ (u ++ c ∷ []))
@@ -268,7 +283,7 @@ side_read name f place more word is w =
     (blanks_then _ (codes " ") _ more _ (each_passes is_blank (codes " ") refl)
     (mark_then _ (codes "{") _ more _ refl
     (blanks_then _ (codes "\n") _ more _ (each_passes is_blank (codes "\n") refl)
-    (both_then (Many (SpellsSet deepest) (trees_of f)) _ _ _ more _ (sets_read f deepest [] (each_passes is_blank [] refl) w.named w.levels _ (codes "}\n" ++ more)) (λ u after h.
+    (both_then (Many (SpellsSet deepest) (trees_of f)) _ _ _ more _ (sets_read f deepest [] (each_passes is_blank [] refl) w.named w.version w.levels _ (codes "}\n" ++ more)) (λ u after h.
     mark_then _ (codes "}") _ more _ refl
     (blanks_then _ (codes "\n") more more _ (each_passes is_blank (codes "\n") refl)
     (no_token _ _ more (side_closed name f _ _ _ u is refl h refl))))))))

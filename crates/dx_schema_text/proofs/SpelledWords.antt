@@ -18,6 +18,7 @@ use Rattle.dx_schema_text.specs.Grammar.{is_word_kind}
 use Rattle.dx_schema_text.specs.Reading.{keys_among, refs_among, sets_among}
 use Rattle.dx_schema_text.specs.Spelling.{IsWord as IsWordToken, Comma, comma_then, Parted, parted, SpellsName, name_of, SpellsKey, key_of, SpellsRef, ref_of, SpellsHead, head_of, SpellsSet, set_of, SpellsClauses, no_clause, clause_first, SpellsClause, a_key, a_ref, a_set, SpellsSide, side_of, SpellsMapping, mapping_of}
 use Rattle.dx_schema_text.specs.Texts.{IsMappingText}
+use Rattle.dx_schema_text.proofs.VersionOne.{mapping_of_version_one}
 use Rattle.dx_schema_text.specs.Print.{AreNames, IsNamedRef, IsNamed, AreNamed, AreWritable}
 
 -- a token that can stand for a word is one
@@ -108,4 +109,5 @@ mapping_right (mapping_of {u = u} {v = v} {w = w} k n e kw nw ew from to items) 
 pub said_is_writable : (text : List ℕ) (m : MappingText) → IsMappingText text m → AreWritable m.source × AreWritable m.target
 said_is_writable text m says =
     let r = mapping_right says.spelled (words_are_words text) in
-    (record { named = r.0.0; levels = r.0.1 }, record { named = r.1.0; levels = r.1.1 })
+    let v = mapping_of_version_one says.spelled in
+    (record { named = r.0.0; version = v.0; levels = r.0.1 }, record { named = r.1.0; version = v.1; levels = r.1.1 })

@@ -41,6 +41,6 @@ TooDeepAreSets = (text : List ℕ) (place : ℕ) → IsTextFault text (TooDeep p
 abbrev pub SaidIsWritable : Type 0
 SaidIsWritable = (text : List ℕ) (m : MappingText) → IsMappingText text m → AreWritable m.source × AreWritable m.target
 
--- each set that a text says has fewer keys, and fewer refs, than the text has bytes
+-- each set that a text says has fewer keys and dependencies together, and fewer refs, than the text has bytes
 abbrev pub TextsHaveFewRules : Type 0
 TextsHaveFewRules = (text : List ℕ) (m : MappingText) → IsMappingText text m → RulesBelow (length text) m.source × RulesBelow (length text) m.target

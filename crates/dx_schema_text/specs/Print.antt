@@ -1,9 +1,10 @@
 -- The text of sets, as a mapping text has them.
-use Rattle.std.specs.Prelude.{ℕ, ◌≤◌, List, [], ◌∷◌, ◌++◌, codes}
+use Rattle.std.specs.Prelude.{◌≡◌, ℕ, ◌≤◌, Bool, true, false, List, [], ◌∷◌, ◌++◌, codes}
 use Rattle.std.specs.List.{flat_map}
 use Rattle.dx_ports.specs.Members.{Each}
 use Rattle.dx_tokens.specs.Lexing.{IsWord}
 use Rattle.dx_schema.specs.declared.sets.KeyDecl.{KeyDecl}
+use Rattle.dx_schema.specs.declared.sets.DepDecl.{DepDecl}
 use Rattle.dx_schema.specs.declared.sets.RefDecl.{RefDecl}
 use Rattle.dx_schema.specs.Forest.{Label, Forest, none, set}
 use Rattle.dx_schema.specs.Faults.{depth}
@@ -23,20 +24,31 @@ wider margin = margin ++ codes "  "
 abbrev pub group : List ℕ → List (List ℕ) → List ℕ
 group word names = word ++ (codes " (" ++ (names_text names ++ codes ")"))
 
--- the line of a key, of a ref
+-- what an optional ref has before its semicolon
+abbrev pub optional_text : Bool → List ℕ
+optional_text true = codes " optional"
+optional_text false = []
+
+-- the line of a key, of a dependency, of a ref
 abbrev pub key_line : List ℕ → KeyDecl → List ℕ
 key_line margin k = margin ++ (group (codes "key") k.columns ++ codes ";\n")
 
+abbrev pub dep_line : List ℕ → DepDecl → List ℕ
+dep_line margin d = margin ++ (group (codes "dep") d.columns ++ (group (codes " ->") d.decides ++ codes ";\n"))
+
 abbrev pub ref_line : List ℕ → RefDecl → List ℕ
-ref_line margin r = margin ++ (group (codes "ref") r.columns ++ (codes " -> " ++ (group r.set r.referred ++ codes ";\n")))
+ref_line margin r =
+    margin ++ (group (codes "ref") r.columns ++ (codes " -> " ++ (group r.set r.referred ++ (optional_text r.optional ++ codes ";\n"))))
 
 -- the name of a set, and its columns
 abbrev pub head_lines : List ℕ → Label → List ℕ
 head_lines margin l = margin ++ (codes "set " ++ (l.name ++ (codes " {\n" ++ (wider margin ++ (names_text l.columns ++ codes ";\n")))))
 
--- a set up to its inner sets: its columns, its keys and its refs
+-- a set up to its inner sets: its columns, its keys, its dependencies and its refs
 abbrev pub front_lines : List ℕ → Label → List ℕ
-front_lines margin l = head_lines margin l ++ (flat_map (key_line (wider margin)) l.keys ++ flat_map (ref_line (wider margin)) l.refs)
+front_lines margin l =
+    head_lines margin l
+    ++ (flat_map (key_line (wider margin)) l.keys ++ (flat_map (dep_line (wider margin)) l.deps ++ flat_map (ref_line (wider margin)) l.refs))
 
 -- the line that ends a set
 abbrev pub last_line : List ℕ → List ℕ
@@ -72,9 +84,20 @@ abbrev pub AreNamed : Forest → Type 0
 AreNamed none = Unit {0}
 AreNamed (set l inner rest) = IsNamed l × AreNamed inner × AreNamed rest
 
--- every name is a word, no list of names is empty, and there are no more than 16 levels of sets
+-- a mapping text of version 1 can say the set: it has no dependencies, and none of its refs is optional
+pub record IsOfVersionOne (l : Label) : Type 0 where
+  pub deps : l.deps ≡ []
+  pub refs : Each l.refs (λ r. r.optional ≡ false)
+
+-- the same of all sets
+abbrev pub AreOfVersionOne : Forest → Type 0
+AreOfVersionOne none = Unit {0}
+AreOfVersionOne (set l inner rest) = IsOfVersionOne l × AreOfVersionOne inner × AreOfVersionOne rest
+
+-- every name is a word, no list of names is empty, a text of version 1 can say the sets, and there are no more than 16 levels of them
 pub record AreWritable (f : Forest) : Type 0 where
   pub named : AreNamed f
+  pub version : AreOfVersionOne f
   pub levels : depth f ≤ 16
 
 -- a mapping with sides of these texts, and without lines and rules

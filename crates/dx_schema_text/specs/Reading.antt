@@ -49,9 +49,9 @@ key_reader = do
   ending ← token (mark_is (codes ";"))
   give (record { columns = columns })
 
--- a ref of these columns to these columns of a set
+-- a ref of these columns to these columns of a set, which isn't optional
 abbrev pub reference_of : List (List ℕ) → List ℕ → List (List ℕ) → RefDecl
-reference_of columns referred_set referred = record { columns = columns; set = referred_set; referred = referred }
+reference_of columns referred_set referred = record { columns = columns; set = referred_set; referred = referred; optional = false }
 
 -- what a ref's columns refer to: a set, and columns of it
 unfoldable pub referred_reader : List (List ℕ) → Reader Lexeme RefDecl
@@ -102,9 +102,9 @@ sets_among (clauses.Key k ∷ cs) = sets_among cs
 sets_among (clauses.Ref r ∷ cs) = sets_among cs
 sets_among (clauses.Set t ∷ cs) = set t.label t.inner (sets_among cs)
 
--- a set with this name, these columns and these clauses
+-- a set with this name, these columns and these clauses, none of which says a dependency
 abbrev pub tree_of : List ℕ → List (List ℕ) → List Clause → Tree
-tree_of name columns cs = record { label = record { name = name; columns = columns; keys = keys_among cs; refs = refs_among cs }; inner = sets_among cs }
+tree_of name columns cs = record { label = record { name = name; columns = columns; keys = keys_among cs; deps = []; refs = refs_among cs }; inner = sets_among cs }
 
 -- a clause begins with "key" or "ref", and where inner sets may stand with "set"
 abbrev pub begins_clause : ℕ → Lexeme → Bool

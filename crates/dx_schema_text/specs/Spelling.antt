@@ -16,7 +16,7 @@ use Rattle.dx_schema_text.specs.declared.texts.MappingText.{MappingText}
 use Rattle.dx_schema_text.specs.declared.clauses.Clause.{Clause}
 use Rattle.dx_schema_text.specs.declared.mapping.ItemText.{ItemText}
 use Rattle.dx_schema_text.specs.Grammar.{is_word, is_string, word_is, number_is, mark_is}
-use Rattle.dx_schema_text.specs.Reading.{key_clause, ref_clause, set_clause, tree_of, place_text, literal_source, column_source, call_source, name_cell, literal_cell, line_item, rule_item, mapping_text}
+use Rattle.dx_schema_text.specs.Reading.{reference_of, key_clause, ref_clause, set_clause, tree_of, place_text, literal_source, column_source, call_source, name_cell, literal_cell, line_item, rule_item, mapping_text}
 
 -- the token is this mark, this word
 abbrev pub IsMark : List ℕ → Lexeme → Type 0
@@ -54,7 +54,7 @@ pub data SpellsKey : KeyDecl → List Lexeme → Type 0 where
 pub data SpellsRef : RefDecl → List Lexeme → Type 0 where
   ref_of : {columns referred : List (List ℕ)} {u v : List Lexeme} (k o c arrow s p d e : Lexeme) → IsKeyword (codes "ref") k → IsMark (codes "(") o → Parted SpellsName columns u → IsMark (codes ")") c → IsMark (codes "->") arrow
       → IsWord s → IsMark (codes "(") p → Parted SpellsName referred v → IsMark (codes ")") d → IsMark (codes ";") e
-      → SpellsRef (record { columns = columns; set = s.text; referred = referred }) (k ∷ o ∷ (u ++ c ∷ arrow ∷ s ∷ p ∷ (v ++ d ∷ e ∷ [])))
+      → SpellsRef (reference_of columns s.text referred) (k ∷ o ∷ (u ++ c ∷ arrow ∷ s ∷ p ∷ (v ++ d ∷ e ∷ [])))
 
 -- the name and the columns of a set
 pub data SpellsHead : List ℕ → List (List ℕ) → List Lexeme → Type 0 where

@@ -57,6 +57,7 @@ fn reference(alloc: Global, tokens: &[Lexeme]) -> Result<(RefDecl, &[Lexeme]), R
         columns,
         set,
         referred,
+        optional: false,
     };
     Ok((reference, rest))
 }
@@ -70,7 +71,7 @@ fn next_is_clause(tokens: &[Lexeme], levels: u32) -> bool
         || (levels > 0 && next_is_keyword(tokens, b"set"))
 }
 
-// A set of this name with these columns and clauses.
+// A set of this name with these columns and clauses. No clause says a dependency.
 fn tree_made(
     alloc: Global,
     name: Text,
@@ -93,6 +94,7 @@ fn tree_made(
         name,
         columns,
         keys,
+        deps: Items::new(alloc),
         refs,
         inner,
     })

@@ -25,7 +25,7 @@ pub fn what_is_said_is_writable()
     ensures { SaidIsWritable }
 {}
 
-/// Each set that a text says has fewer keys, and fewer refs, than the text has bytes.
+/// Each set that a text says has fewer keys and dependencies together, and fewer refs, than the text has bytes.
 pub fn texts_have_few_rules()
     ensures { TextsHaveFewRules }
 {}

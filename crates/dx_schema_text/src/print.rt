@@ -1,9 +1,10 @@
 // The text of sets.
 ghost use Rattle.std.specs.Prelude.{◌≡◌, ◌++◌, [], IfOk, OnOk, flat_map, string_bytes};
-ghost use Rattle.dx_schema_text.specs.Print.{AreWritable, IsReadAgain, front_lines, group, head_lines, key_line, last_line, names_text, printed, ref_line, wider};
+ghost use Rattle.dx_schema.specs.Forest.{forest_of};
+ghost use Rattle.dx_schema_text.specs.Print.{AreWritable, IsReadAgain, front_lines, group, head_lines, dep_line, key_line, last_line, names_text, optional_text, printed, ref_line, wider};
 
 use dx_ports::Text;
-use dx_schema::{KeyDecl, RefDecl, SetTree, Trees};
+use dx_schema::{DepDecl, KeyDecl, RefDecl, SetTree};
 use std::alloc::{AllocError, Global};
 
 // Names, parted by a comma and a space.
@@ -41,6 +42,25 @@ fn push_key(margin: &str, key: &KeyDecl, out: &mut String) -> Result<(), AllocEr
     Ok(())
 }
 
+fn push_dep(margin: &str, dep: &DepDecl, out: &mut String) -> Result<(), AllocError>
+    ensures { OnOk result (string_bytes out.new ≡ string_bytes out.old ++ dep_line margin.now dep.now) }
+{
+    out.push_str(margin)?;
+    push_group("dep", dep.columns.items(), out)?;
+    push_group(" ->", dep.decides.items(), out)?;
+    out.push_str(";\n")?;
+    Ok(())
+}
+
+fn push_optional(optional: bool, out: &mut String) -> Result<(), AllocError>
+    ensures { OnOk result (string_bytes out.new ≡ string_bytes out.old ++ optional_text optional) }
+{
+    if optional {
+        out.push_str(" optional")?;
+    }
+    Ok(())
+}
+
 fn push_ref(margin: &str, reference: &RefDecl, out: &mut String) -> Result<(), AllocError>
     ensures { OnOk result (string_bytes out.new ≡ string_bytes out.old ++ ref_line margin.now reference.now) }
 {
@@ -48,6 +68,7 @@ fn push_ref(margin: &str, reference: &RefDecl, out: &mut String) -> Result<(), A
     push_group("ref", reference.columns.items(), out)?;
     out.push_str(" -> ")?;
     push_group(reference.set.as_str(), reference.referred.items(), out)?;
+    push_optional(reference.optional, out)?;
     out.push_str(";\n")?;
     Ok(())
 }
@@ -57,6 +78,15 @@ fn push_keys(margin: &str, keys: &[KeyDecl], out: &mut String) -> Result<(), All
 {
     for key in keys {
         push_key(margin, key, out)?;
+    }
+    Ok(())
+}
+
+fn push_deps(margin: &str, deps: &[DepDecl], out: &mut String) -> Result<(), AllocError>
+    ensures { OnOk result (string_bytes out.new ≡ string_bytes out.old ++ flat_map (dep_line margin.now) deps.now) }
+{
+    for dep in deps {
+        push_dep(margin, dep, out)?;
     }
     Ok(())
 }
@@ -106,6 +136,7 @@ fn push_front(
 {
     push_head(margin.as_str(), wide.as_str(), tree, out)?;
     push_keys(wide.as_str(), tree.keys.items(), out)?;
+    push_deps(wide.as_str(), tree.deps.items(), out)?;
     push_refs(wide.as_str(), tree.refs.items(), out)?;
     Ok(())
 }
@@ -122,29 +153,30 @@ fn push_last(margin: &Text, out: &mut String) -> Result<(), AllocError>
 fn push_sets(
     alloc: Global,
     margin: &Text,
-    trees: &Trees,
+    trees: &[SetTree],
     out: &mut String,
 ) -> Result<(), AllocError>
-    ensures { OnOk result (string_bytes out.new ≡ string_bytes out.old ++ printed margin.now trees.now) }
+    ensures { OnOk result (string_bytes out.new ≡ string_bytes out.old ++ printed margin.now (forest_of trees.now)) }
 {
     let wide = wider(alloc, margin)?;
-    for tree in trees.items() {
+    for tree in trees {
         push_front(margin, &wide, tree, out)?;
-        push_sets(alloc, &wide, &tree.inner, out)?;
+        push_sets(alloc, &wide, tree.inner.items(), out)?;
         push_last(margin, out)?;
     }
     Ok(())
 }
 
-/// Prints sets as a mapping text has them. Where each name is a word, no list of names is empty and no set is more than
-/// 16 levels deep, the text, as a side of a mapping text, is read as these sets.
+/// Prints sets as a mapping text has them. If each name is a word, no list of names is empty, no set is more than 16
+/// levels deep, no set has a dependency and no ref is optional, the text, as a side of a mapping text, is read as these
+/// sets.
 ///
 /// # Errors
 ///
 /// `AllocError` if there is no memory.
-pub fn print_trees(alloc: Global, trees: &Trees) -> Result<Text, AllocError>
-    ensures text { IfOk result (λ t. t ≡ printed [] trees.now) }
-    ensures read_again { IfOk result (λ t. AreWritable trees.now → IsReadAgain trees.now t) }
+pub fn print_trees(alloc: Global, trees: &[SetTree]) -> Result<Text, AllocError>
+    ensures text { IfOk result (λ t. t ≡ printed [] (forest_of trees.now)) }
+    ensures read_again { IfOk result (λ t. AreWritable (forest_of trees.now) → IsReadAgain (forest_of trees.now) t) }
 {
     let margin = Text::from_str(alloc, "")?;
     let mut out = String::new(alloc);

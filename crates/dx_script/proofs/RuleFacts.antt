@@ -16,7 +16,7 @@ use Rattle.dx_model.specs.Solutions.{AtomFits}
 use Rattle.dx_model.proofs.Canonical.{from_variables}
 use Rattle.dx_model.specs.Fitting.{Numbered, IsRule, IsVariable, variable_in, premise_variables}
 use Rattle.dx_schema.specs.Forest.{Forest}
-use Rattle.dx_schema.specs.Tables.{TableOf, as_numbers, model_tables, tables_of}
+use Rattle.dx_schema.specs.Tables.{TableOf, as_numbers, model_tables, tables_of, no_table}
 use Rattle.dx_schema.specs.Names.{Named, AreNamed, named_of, names_of_table}
 use Rattle.dx_funcs.specs.Offers.{IsListed, IsOffer}
 use Rattle.std.specs.Prelude.{None}
@@ -78,7 +78,7 @@ same_width f t h =
     ∙ sym (ap (λ (z : Named). length z.columns) (get_or-map names_of_table (tables_of f) t table_zero (record { name = []; columns = [] }) h))
   where
     table_zero : TableOf
-    table_zero = record { name = []; columns = []; keys = []; links = []; parent = None; inner = [] }
+    table_zero = no_table
 
 atom_is_wide : (f : Forest) (a : Atom) → AtomFits (model_tables f) a → AtomIsWide (named_of f) a
 atom_is_wide f a w =

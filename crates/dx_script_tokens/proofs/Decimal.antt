@@ -27,7 +27,7 @@ more_case (Some w) value m len rest ys e h =
     pair_is p x y a b = ap (λ (n : ℕ). (n, p.1)) a ∙ ap (λ (n : ℕ). (x, n)) b
 
 -- digits that were all taken, and what is after them
-more_append : (value m : ℕ) (rest ys : List ℕ) → more_digits value rest ≡ (length rest, m) → more_digits value (rest ++ ys) ≡ past (length rest) (more_digits m ys)
+pub more_append : (value m : ℕ) (rest ys : List ℕ) → more_digits value rest ≡ (length rest, m) → more_digits value (rest ++ ys) ≡ past (length rest) (more_digits m ys)
 unfolding more_digits
 more_append value m [] ys e =
     let same : value ≡ m = ap (λ (p : ℕ × ℕ). p.1) e in

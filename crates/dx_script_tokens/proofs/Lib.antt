@@ -7,4 +7,8 @@ pub mod Standing
 pub mod Doubled
 pub mod QuotedTexts
 pub mod Ranks
+pub mod Numerals
+pub mod TextEnds
+pub mod Meanings
+pub mod Lexings
 mod Examples

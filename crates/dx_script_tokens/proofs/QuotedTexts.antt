@@ -31,12 +31,12 @@ undoubled-doubled (b ∷ bs) = go (undoubled-doubled bs) (cases_eq b 39) where
   go rest (inl e) = rw e (ap (λ (zs : List ℕ). 39 ∷ zs) rest)
   go rest (inr n) = rw (ne_eqb b 39 n) (undoubled-plain b (doubled bs) n ∙ ap (λ (zs : List ℕ). b ∷ zs) rest)
 
-quote_ends : (n : ℕ) (tail : List ℕ) → StopsAt is_quote tail → text_from 0 n (39 ∷ tail) ≡ pieces.Token shapes.Text (n + 1)
+pub quote_ends : (n : ℕ) (tail : List ℕ) → StopsAt is_quote tail → text_from 0 n (39 ∷ tail) ≡ pieces.Token shapes.Text (n + 1)
 unfolding text_from text_item
 quote_ends n [] s = refl
 quote_ends n (c ∷ tail) s = rw s refl
 
-quote_doubled : (n : ℕ) (more : List ℕ) → text_from 0 n (39 ∷ 39 ∷ more) ≡ text_from 0 (n + 2) more
+pub quote_doubled : (n : ℕ) (more : List ℕ) → text_from 0 n (39 ∷ 39 ∷ more) ≡ text_from 0 (n + 2) more
 unfolding text_from text_item
 quote_doubled n more = ap (λ k. text_from 0 k more) (omega arith)
 
@@ -51,16 +51,16 @@ item_passed n b others more e =
     one_more : (k : ℕ) → 1 + k ≡ suc k
     one_more k = omega arith
 
-small_item : (b : ℕ) (rest : List ℕ) → b ≢ 39 → b < 128 → text_item b rest ≡ items.Whole 1
+pub small_item : (b : ℕ) (rest : List ℕ) → b ≢ 39 → b < 128 → text_item b rest ≡ items.Whole 1
 unfolding text_item
 small_item b rest n l = rw (ne_eqb b 39 n, lt-ltb b 128 l) refl
 
-wide_is : (b : ℕ) (rest : List ℕ) → 128 ≤ b → text_item b rest ≡ item_at b rest
+pub wide_is : (b : ℕ) (rest : List ℕ) → 128 ≤ b → text_item b rest ≡ item_at b rest
 unfolding text_item item_at
 wide_is b rest h = rw (ne_eqb b 39 (λ e. omega (arith, e)), le-ltb b 128 h, ne_eqb b 34 (λ e. omega (arith, e)), ne_eqb b 92 (λ e. omega (arith, e)), le-ltb b 32 (omega arith)) refl
 
 -- a character other than a single quote goes on after its bytes
-character_passed : (n x : ℕ) (more : List ℕ) → scalar x ≡ true → x ≢ 39 → text_from 0 n (encode_utf8 x ++ more) ≡ text_from 0 (n + length (encode_utf8 x)) more
+pub character_passed : (n x : ℕ) (more : List ℕ) → scalar x ≡ true → x ≢ 39 → text_from 0 n (encode_utf8 x ++ more) ≡ text_from 0 (n + length (encode_utf8 x)) more
 character_passed n x more ok ne = go (cases_lt x 128) where
   go : (x < 128) ⊎ (128 ≤ x) → text_from 0 n (encode_utf8 x ++ more) ≡ text_from 0 (n + length (encode_utf8 x)) more
   go (inl small) = rw (encode_ascii x small) (item_passed n x [] more (small_item x more ne small))
@@ -77,24 +77,30 @@ character_passed n x more ok ne = go (cases_lt x 128) where
           let same : x ≡ b = inside_one x [] (b ∷ others) 0 (sym e ∙ sym (append-nil (encode_utf8 x))) (rw e (omega arith)) l in
           omega (arith, big, same)
 
-characters_read : (cs : List ℕ) → scalars cs ≡ true → (n : ℕ) (tail : List ℕ) → StopsAt is_quote tail → text_from 0 n (doubled (encodes cs) ++ 39 ∷ tail) ≡ pieces.Token shapes.Text (n + suc (length (doubled (encodes cs))))
-characters_read [] ok n tail s = quote_ends n tail s
-characters_read (x ∷ xs) ok n tail s =
+-- characters are read one after the other
+characters_passed : (cs : List ℕ) → scalars cs ≡ true → (n : ℕ) (more : List ℕ) → text_from 0 n (doubled (encodes cs) ++ more) ≡ text_from 0 (n + length (doubled (encodes cs))) more
+characters_passed [] ok n more = ap (λ k. text_from 0 k more) (omega arith)
+characters_passed (x ∷ xs) ok n more =
     let p = and_parts (scalar x) (scalars xs) ok in
     let rest : List ℕ = doubled (encodes xs) in
-    let parts : doubled (encode_utf8 x ++ encodes xs) ++ 39 ∷ tail ≡ doubled (encode_utf8 x) ++ (rest ++ 39 ∷ tail) = ap (λ (zs : List ℕ). zs ++ 39 ∷ tail) (doubled-append (encode_utf8 x) (encodes xs)) ∙ append_assoc (doubled (encode_utf8 x)) rest (39 ∷ tail) in
-    let first : text_from 0 n (doubled (encode_utf8 x) ++ (rest ++ 39 ∷ tail)) ≡ text_from 0 (n + length (doubled (encode_utf8 x))) (rest ++ 39 ∷ tail) = one (rest ++ 39 ∷ tail) p.0 (cases_eq x 39) in
-    let size : n + length (doubled (encode_utf8 x)) + suc (length rest) ≡ n + suc (length (doubled (encode_utf8 x ++ encodes xs))) =
+    let parts : doubled (encode_utf8 x ++ encodes xs) ++ more ≡ doubled (encode_utf8 x) ++ (rest ++ more) = ap (λ (zs : List ℕ). zs ++ more) (doubled-append (encode_utf8 x) (encodes xs)) ∙ append_assoc (doubled (encode_utf8 x)) rest more in
+    let first : text_from 0 n (doubled (encode_utf8 x) ++ (rest ++ more)) ≡ text_from 0 (n + length (doubled (encode_utf8 x))) (rest ++ more) = one (rest ++ more) p.0 (cases_eq x 39) in
+    let size : n + length (doubled (encode_utf8 x)) + length rest ≡ n + length (doubled (encode_utf8 x ++ encodes xs)) =
     omega (arith, ap length (doubled-append (encode_utf8 x) (encodes xs)), length-append (doubled (encode_utf8 x)) rest) in
-    ap (text_from 0 n) parts ∙ first ∙ characters_read xs p.1 (n + length (doubled (encode_utf8 x))) tail s ∙ ap (λ k. pieces.Token shapes.Text k) size
+    ap (text_from 0 n) parts ∙ first ∙ characters_passed xs p.1 (n + length (doubled (encode_utf8 x))) more ∙ ap (λ k. text_from 0 k more) size
   where
-    one : (more : List ℕ) → scalar x ≡ true → (x ≡ 39) ⊎ (x ≢ 39) → text_from 0 n (doubled (encode_utf8 x) ++ more) ≡ text_from 0 (n + length (doubled (encode_utf8 x))) more
-    one more ok' (inl e) =
+    one : (after : List ℕ) → scalar x ≡ true → (x ≡ 39) ⊎ (x ≢ 39) → text_from 0 n (doubled (encode_utf8 x) ++ after) ≡ text_from 0 (n + length (doubled (encode_utf8 x))) after
+    one after ok' (inl e) =
         let two : doubled (encode_utf8 x) ≡ 39 ∷ 39 ∷ [] = ap doubled (ap encode_utf8 e ∙ encode_ascii 39 (omega arith)) in
-        rw two (quote_doubled n more)
-    one more ok' (inr ne) = rw (plain_character x ne) (character_passed n x more ok' ne)
+        rw two (quote_doubled n after)
+    one after ok' (inr ne) = rw (plain_character x ne) (character_passed n x after ok' ne)
+
+-- the bytes of a text with doubled quotes are passed over
+pub text_passed : (t : List ℕ) → IsUtf8 t → (n : ℕ) (more : List ℕ) → text_from 0 n (doubled t ++ more) ≡ text_from 0 (n + length (doubled t)) more
+text_passed t u n more =
+    ap (λ (w : List ℕ). text_from 0 n (doubled w ++ more)) (sym u.1.1) ∙ characters_passed u.0 u.1.0 n more ∙ ap (λ (w : List ℕ). text_from 0 (n + length (doubled w)) more) u.1.1
 
 -- the bytes of a text with doubled quotes, up to the quote that ends it
 pub quoted_read : (t : List ℕ) → IsUtf8 t → (tail : List ℕ) → StopsAt is_quote tail → text_from 0 1 (doubled t ++ 39 ∷ tail) ≡ pieces.Token shapes.Text (1 + suc (length (doubled t)))
 quoted_read t u tail s =
-    ap (λ (w : List ℕ). text_from 0 1 (doubled w ++ 39 ∷ tail)) (sym u.1.1) ∙ characters_read u.0 u.1.0 1 tail s ∙ ap (λ (w : List ℕ). pieces.Token shapes.Text (1 + suc (length (doubled w)))) u.1.1
+    text_passed t u 1 (39 ∷ tail) ∙ quote_ends (1 + length (doubled t)) tail s ∙ ap (λ (k : ℕ). pieces.Token shapes.Text k) (omega arith)

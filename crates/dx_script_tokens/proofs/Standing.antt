@@ -41,7 +41,7 @@ blank_past place b behind e = rw e refl
 
 -- ---- words
 
-word_piece : (b : ℕ) (bs rest : List ℕ) → is_word_start b ≡ true → AllPass is_word_byte bs → StopsAt is_word_byte rest → piece_at b (bs ++ rest) ≡ pieces.Token shapes.Word (suc (length bs))
+pub word_piece : (b : ℕ) (bs rest : List ℕ) → is_word_start b ≡ true → AllPass is_word_byte bs → StopsAt is_word_byte rest → piece_at b (bs ++ rest) ≡ pieces.Token shapes.Word (suc (length bs))
 unfolding piece_at
 word_piece b bs rest e h s =
     let size : 1 + length bs ≡ suc (length bs) = omega arith in
@@ -140,7 +140,7 @@ abbrev pub IsNameText : List ℕ → Type 0
 IsNameText [] = ⊥
 IsNameText (c ∷ rest) = ((c == 35 || is_word_byte c) ≡ true) × AllPass is_word_byte rest
 
-name_piece : (c : ℕ) (rest behind : List ℕ) → IsNameText (c ∷ rest) → piece_at 34 (((c ∷ rest) ++ 34 ∷ []) ++ behind) ≡ pieces.Token shapes.Name (suc (length ((c ∷ rest) ++ 34 ∷ [])))
+pub name_piece : (c : ℕ) (rest behind : List ℕ) → IsNameText (c ∷ rest) → piece_at 34 (((c ∷ rest) ++ 34 ∷ []) ++ behind) ≡ pieces.Token shapes.Name (suc (length ((c ∷ rest) ++ 34 ∷ [])))
 unfolding piece_at
 name_piece c rest behind h =
     let flat : (rest ++ 34 ∷ []) ++ behind ≡ rest ++ 34 ∷ behind = append_assoc rest (34 ∷ []) behind in
@@ -154,7 +154,7 @@ name_scanned (c ∷ rest) behind place h =
     let said : token_of place shapes.Name (34 ∷ ((c ∷ rest) ++ 34 ∷ [])) ≡ record { place = place; kind = kinds.Name; number = 0; text = c ∷ rest } = ap (λ (x : List ℕ). record { place = place; kind = kinds.Name; number = 0; text = x }) (but_last_end (c ∷ rest) 34) in
     token_past shapes.Name place 34 ((c ∷ rest) ++ 34 ∷ []) behind (name_piece c rest behind h) ∙ ap (λ (t : ScriptToken). with_token t (scan_from 0 (place + length (34 ∷ ((c ∷ rest) ++ 34 ∷ []))) behind)) said
 
-text_piece : (bs : List ℕ) (len : ℕ) → text_from 0 1 bs ≡ pieces.Token shapes.Text len → piece_at 39 bs ≡ pieces.Token shapes.Text len
+pub text_piece : (bs : List ℕ) (len : ℕ) → text_from 0 1 bs ≡ pieces.Token shapes.Text len → piece_at 39 bs ≡ pieces.Token shapes.Text len
 unfolding piece_at
 text_piece bs len e = e
 
@@ -169,7 +169,7 @@ text_scanned w said behind place read is =
     let text : token_of place shapes.Text (39 ∷ (w ++ 39 ∷ [])) ≡ record { place = place; kind = kinds.Text; number = 0; text = said } = ap (λ (x : List ℕ). record { place = place; kind = kinds.Text; number = 0; text = x }) (ap undoubled (but_last_end w 39) ∙ is) in
     token_past shapes.Text place 39 (w ++ 39 ∷ []) behind piece ∙ ap (λ (t : ScriptToken). with_token t (scan_from 0 (place + length (39 ∷ (w ++ 39 ∷ []))) behind)) text
 
-mark_piece : (b : ℕ) (rest : List ℕ) → is_mark b ≡ true → piece_at b rest ≡ pieces.Token shapes.Mark 1
+pub mark_piece : (b : ℕ) (rest : List ℕ) → is_mark b ≡ true → piece_at b rest ≡ pieces.Token shapes.Mark 1
 unfolding piece_at
 mark_piece b rest e = rw (no_blank b e, no_start b e, no_digit b e, e) refl
   where

@@ -3,3 +3,4 @@ pub mod Kinds
 pub mod Pieces
 pub mod Scan
 pub mod Quoted
+pub mod Lexing

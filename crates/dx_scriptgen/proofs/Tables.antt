@@ -9,11 +9,8 @@ use Rattle.dx_model.specs.Rules.{exported, cells_of}
 use Rattle.dx_model.specs.Fitting.{IsRule}
 use Rattle.dx_model.proofs.Cells.{variables_few}
 use Rattle.dx_schema.specs.Forest.{Forest}
-use Rattle.dx_schema.specs.Tables.{TableOf, table_at, tables_of}
+use Rattle.dx_schema.specs.Tables.{TableOf, table_at, tables_of, no_table}
 use Rattle.dx_schema.specs.Names.{Named, named_of, names_of_table}
-
-abbrev pub no_table : TableOf
-no_table = record { name = []; columns = []; keys = []; links = []; parent = None; inner = [] }
 
 pub named_item : (f : Forest) (t : ℕ) (d : Named) → t < length (tables_of f) → names_of_table (table_at f t) ≡ get_or (named_of f) t d
 named_item f t d h = sym (get_or-map names_of_table (tables_of f) t no_table d h)

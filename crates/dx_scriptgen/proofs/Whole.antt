@@ -20,7 +20,7 @@ use Rattle.dx_script.specs.declared.form.Unless.{Unless}
 use Rattle.dx_script.specs.declared.form.Step.{Step}
 use Rattle.dx_script.specs.Generated.{create_steps, has_parts, inserts_of, insert_steps, keep_step, keep_steps, match_steps, script_with}
 use Rattle.dx_script.proofs.Fitted.{at_below}
-use Rattle.dx_scriptgen.proofs.Tables.{no_table}
+use Rattle.dx_schema.specs.Tables.{no_table}
 use Rattle.dx_ports.proofs.Members.{in_at}
 use Rattle.dx_schema.proofs.Facts.{atom_table, atom_width}
 

@@ -46,6 +46,10 @@ rule_within S tables rows i e h =
     let m = length-map tables (λ (t : NumberTable). map (texts_of S) t.rows) in
     omega (arith, h, n, m)
 
+pub rules_counted : (S : List Value) (tables : List NumberTable) (rows : Rows) → tuples_in S tables ≡ rows → length tables ≡ length rows
+rules_counted S tables rows e =
+    sym (length-map tables (λ (t : NumberTable). map (texts_of S) t.rows)) ∙ ap length e
+
 -- the tuples of a rule are those of its table
 tuples_at : (S : List Value) (tables : List NumberTable) (rows : Rows) (i : ℕ) (t : NumberTable) → tuples_in S tables ≡ rows
     → i < length tables → t ≡ get_or tables i t → get_or rows i [] ≡ map (texts_of S) t.rows
@@ -53,6 +57,11 @@ tuples_at S tables rows i t e h k =
     ap (λ r. get_or r i []) (sym e)
     ∙ (get_map (λ (u : NumberTable). map (texts_of S) u.rows) tables i [] t h
     ∙ ap (λ (u : NumberTable). map (texts_of S) u.rows) (sym k))
+
+pub places_counted : (S : List Value) (tables : List NumberTable) (rows : Rows) (i : ℕ) (t : NumberTable) → tuples_in S tables ≡ rows
+    → i < length tables → t ≡ get_or tables i t → length t.rows ≡ length (get_or rows i [])
+places_counted S tables rows i t e h k =
+    sym (length-map t.rows (texts_of S)) ∙ ap length (sym (tuples_at S tables rows i t e h k))
 
 pub place_within : (S : List Value) (tables : List NumberTable) (rows : Rows) (i p : ℕ) (t : NumberTable) → tuples_in S tables ≡ rows
     → i < length tables → t ≡ get_or tables i t → p < length (get_or rows i []) → p < length t.rows

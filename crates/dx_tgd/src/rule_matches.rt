@@ -1,5 +1,5 @@
 // The matches of rules, kept as rows of numbers.
-ghost use Rattle.std.specs.Prelude.{◌≡◌, ◌<◌, [], IfOk, length, slice_index_or};
+ghost use Rattle.std.specs.Prelude.{◌≡◌, ◌<◌, ◌^◌, [], IfOk, length, slice_index_or};
 ghost use Rattle.dx_ports.specs.Members.{Each};
 ghost use Rattle.dx_joins.specs.Shown.{AreTexts};
 ghost use Rattle.dx_tgd.specs.Counting.{rows_in};
@@ -21,6 +21,7 @@ pub struct RuleMatches {
 }
 
 impl Model for RuleMatches {
+    ghost use Rattle.std.specs.Prelude.{◌<◌, ◌^◌, length};
     ghost use Rattle.dx_ports.specs.Members.{Each};
     ghost use Rattle.dx_model.specs.Values.{Rows};
     ghost use Rattle.dx_joins.specs.Shown.{AreTexts};
@@ -30,16 +31,32 @@ impl Model for RuleMatches {
 
     ghost view = { λ m. tuples_in m.symbols m.tables.items };
 
-    ghost invariant = { λ m. Each m.tables.items (λ t. Each t.rows (AreTexts m.symbols)) };
+    ghost invariant = { λ m. (length m.tables.items < 2 ^ 32) × Each m.tables.items (λ t. Each t.rows (AreTexts m.symbols)) };
 }
 
 impl RuleMatches {
     /// The tuples for which the rows of each table stand.
     pub(crate) fn new(symbols: Symbols, tables: Vec<Rows>) -> RuleMatches
-        requires { Each tables.items (λ t. Each t.rows (AreTexts symbols)) }
+        requires few { length tables.items < 2 ^ 32 }
+        requires texts { Each tables.items (λ t. Each t.rows (AreTexts symbols)) }
         ensures { result ≡ tuples_in symbols tables.items }
     {
         RuleMatches { symbols, tables }
+    }
+
+    /// How many rules there are.
+    pub fn rules(&self) -> u32
+        ensures { result ≡ length self.now }
+    {
+        self.tables.len() as u32
+    }
+
+    /// How many places a rule has.
+    pub fn places(&self, rule: u32) -> u32
+        requires { rule < length self.now }
+        ensures { result ≡ length (slice_index_or self.now rule []) }
+    {
+        self.tables[rule as usize].count()
     }
 
     /// The tuple at a place of a rule, lent.

@@ -1,7 +1,7 @@
 -- A rule from employees to persons: read by numbers, and refused at the first word that is at fault.
 use Rattle.std.proofs.Common.{◌≡◌, ℕ, List, [], ◌∷◌, Option, Some, None, codes, refl}
 use Rattle.dx_model.specs.declared.rules.Cell.TheVariants.{Var, Ex, Lit}
-use Rattle.dx_schema.specs.Forest.{Forest, none, set}
+use Rattle.dx_schema.specs.Forest.{Forest, none, set, bare}
 use Rattle.dx_schema.specs.Tables.{Text}
 use Rattle.dx_tokens.specs.declared.faults.TextFault.{TextFault}
 use Rattle.dx_tokens.specs.declared.faults.TextFault.TheVariants.{At}
@@ -16,10 +16,10 @@ use Rattle.dx_tgd_text.specs.Reading.{rule_fault, rule_of, rules_fault}
 
 -- employees with a name and a place, persons with a name and a telephone
 abbrev employees : Forest
-employees = set (record { name = codes "emp"; columns = codes "name" ∷ codes "place" ∷ []; keys = []; refs = [] }) none none
+employees = set (bare (codes "emp") (codes "name" ∷ codes "place" ∷ [])) none none
 
 abbrev persons : Forest
-persons = set (record { name = codes "person"; columns = codes "name" ∷ codes "phone" ∷ []; keys = []; refs = [] }) none none
+persons = set (bare (codes "person") (codes "name" ∷ codes "phone" ∷ [])) none none
 
 -- one conversion, of two texts
 abbrev offer : List Conversion

@@ -15,7 +15,7 @@ use Rattle.dx_model.specs.Rules.{after_cell, after_cells, cells_of, existential_
 use Rattle.dx_model.specs.Solutions.{AtomFits}
 use Rattle.dx_model.specs.Fitting.{Numbered, IsVariable, variable_in, premise_variables, RuleFits}
 use Rattle.dx_schema.specs.Forest.{Forest}
-use Rattle.dx_schema.specs.Tables.{Text, TableOf, tables_of, as_numbers, model_tables, number_of}
+use Rattle.dx_schema.specs.Tables.{Text, TableOf, tables_of, as_numbers, model_tables, number_of, no_table}
 use Rattle.dx_schema.specs.Faults.{is_among}
 use Rattle.dx_schema.proofs.Loops.{among_number}
 use Rattle.dx_tokens.specs.declared.faults.TextFault.TheVariants.{At}
@@ -46,7 +46,7 @@ atom_fits f known fresh a h = go (is_among a.set (set_names f)) refl h
     wide true e k s =
         let lt : set_number f a.set < length (tables_of f) = rw (← length-map (tables_of f) (λ (t : TableOf). t.name)) (among_number a.set (set_names f) s) in
         let width : (table_of (model_tables f) (set_number f a.set)).width ≡ length (columns_in f a.set) =
-        ap (λ n. n.width) (get_or-map as_numbers (tables_of f) (set_number f a.set) (record { name = []; columns = []; keys = []; links = []; parent = None; inner = [] }) (record { width = 0; determinations = []; links = []; optional = [] }) lt) in
+        ap (λ n. n.width) (get_or-map as_numbers (tables_of f) (set_number f a.set) no_table (record { width = 0; determinations = []; links = []; optional = [] }) lt) in
         record {
           table = rw (length-map (tables_of f) as_numbers) lt;
           width = length-map a.cells (cell_of known fresh) ∙ eqb-true (length a.cells) (length (columns_in f a.set)) e ∙ sym width;

@@ -171,8 +171,8 @@ pub fn printed(alloc: Global, text: &str) -> Result<String, AllocError> {
     let Ok(said) = read_mapping(alloc, text.as_bytes()) else {
         return Err(AllocError);
     };
-    let source = print_trees(alloc, &said.source)?;
-    let target = print_trees(alloc, &said.target)?;
+    let source = print_trees(alloc, said.source.items())?;
+    let target = print_trees(alloc, said.target.items())?;
     format!(in alloc; "mapping 1;\nsource {{\n{source}}}\ntarget {{\n{target}}}")
 }
 

@@ -106,6 +106,20 @@ fn outputs_in_memory_count_puts_and_says_together(rt: HostRuntime) -> Result<(),
     Ok(())
 }
 
+/// What is said by three calls, of which the first and the last fail but for two bytes.
+fn cut(alloc: Global) -> Result<String, AllocError> {
+    let mut outputs = MemOutputs::cutting(alloc, vec![in alloc; 0, 2]?, 2);
+    let answers = [outputs.say(b"123"), outputs.say(b"456"), outputs.say(b"7")];
+    format!(in alloc; "{answers:?} {:?}", outputs.said())
+}
+
+#[test]
+fn outputs_in_memory_cut_what_is_said(rt: HostRuntime) -> Result<(), Fail> {
+    let wanted = "[Err(Failed), Ok(()), Err(Failed)] [49, 50, 52, 53, 54, 55]";
+    assert_eq!(rt; cut(rt.alloc())?.as_str(), wanted);
+    Ok(())
+}
+
 /// How many rows a file has under the columns `x` and `y`.
 fn loaded(alloc: Global, bytes: &[u8]) -> Result<String, AllocError> {
     let columns = words(alloc, "x y")?;

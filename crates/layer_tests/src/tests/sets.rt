@@ -6,7 +6,7 @@ ghost use Rattle.dx_schema.specs.Bounds.{HasFewRules};
 use dx_closing::can_be_closed;
 use dx_model::{Atom, Cell};
 use dx_ports::{Items, Text};
-use dx_schema::{KeyDecl, RefDecl, Schema, SetTree, Trees};
+use dx_schema::{DepDecl, KeyDecl, RefDecl, Schema, SetTree, Trees};
 use std::alloc::{AllocError, Global};
 use std::test::Fail;
 
@@ -32,26 +32,38 @@ fn key(alloc: Global, columns: &str) -> Result<KeyDecl, AllocError> {
     Ok(KeyDecl { columns })
 }
 
-/// A ref of these columns to a set and its columns.
+/// A dependency of these columns, which determine the others.
+fn dependency(alloc: Global, columns: &str, decides: &str) -> Result<DepDecl, AllocError> {
+    let columns = list(alloc, columns)?;
+    let decides = list(alloc, decides)?;
+    Ok(DepDecl { columns, decides })
+}
+
+/// A ref of these columns to a set and its columns, which is optional if it begins so.
 fn reference(alloc: Global, columns: &str, referred: &str) -> Result<RefDecl, AllocError> {
+    let optional = columns.starts_with("optional");
     let columns = list(alloc, columns)?;
     let (set, referred) = words(alloc, referred)?;
     Ok(RefDecl {
         columns,
         set,
         referred,
+        optional,
     })
 }
 
-/// Adds a key, or with an arrow a ref.
+/// Adds a key, with a colon a dependency, or with an arrow a ref.
 fn add_part(alloc: Global, tree: &mut SetTree, part: &str) -> Result<(), AllocError> {
+    if let Some((columns, decides)) = part.split_once(" : ") {
+        return tree.deps.push(dependency(alloc, columns, decides)?);
+    }
     match part.split_once(" -> ") {
         None => tree.keys.push(key(alloc, part)?),
         Some((from, to)) => tree.refs.push(reference(alloc, from, to)?),
     }
 }
 
-/// Adds keys and refs with `; ` between them.
+/// Adds keys, dependencies and refs with `; ` between them.
 fn add_parts(alloc: Global, tree: &mut SetTree, parts: &str) -> Result<(), AllocError> {
     for part in parts.split("; ") {
         if !part.is_empty() {
@@ -189,6 +201,42 @@ a x; ref x -> a x | b y; key
 
 #id x
 => built
+
+a x y; dep : to y
+=> Bad(BadLink(\"a\"))
+
+a x y; dep x : to
+=> Bad(BadLink(\"a\"))
+
+a x; dep z : to x
+=> Bad(UnknownName(\"z\"))
+
+a x; dep x : to z
+=> Bad(UnknownName(\"z\"))
+
+a x y; dep x y x : to z
+=> Bad(DoubleName(\"x\"))
+
+a x y; dep x : to y y
+=> Bad(DoubleName(\"y\"))
+
+a x / b y; dep #up : to y
+=> Bad(UnknownName(\"#up\"))
+
+a x; ref x -> c x; dep z : to x; key y
+=> Bad(UnknownName(\"y\"))
+
+a x; ref x -> c x; dep z : to x
+=> Bad(UnknownName(\"z\"))
+
+a x y; dep x : to x y; dep y : to x
+=> built
+
+a x; optional x -> b z | b y
+=> Bad(UnknownName(\"z\"))
+
+a x; optional x -> b y | b y; ref y -> a x
+=> Bad(CyclicLinks(\"a\"))
 
 a x / a x / a x / a x / a x / a x / a x / a x / a x / a x / a x / a x / a x / a x / a x / a x / a x
 => TooMany(Limit { \

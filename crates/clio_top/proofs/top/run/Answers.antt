@@ -4,7 +4,8 @@ use Rattle.dx_stages.proofs.Carrying.{carried_runs}
 use Rattle.clio_ending.specs.Ending.{AreAlike}
 use Rattle.clio_top.specs.Commands.{run_stages}
 use Rattle.clio_top.specs.Running.{Program, program}
-use Rattle.clio_top.proofs.Headline.{clashed, exchanged}
+use Rattle.clio_top.proofs.Completing.{completes, completes_demo}
+use Rattle.clio_top.proofs.Headline.{clashed, demo, exchanged, left, shown}
 use Rattle.clio_top.proofs.Promised.{run_decided}
 use Rattle.clio_top.proofs.top.run.Goals as goal
 
@@ -26,3 +27,37 @@ pub returns-clause-runs : goal.returns-clause-runs
 returns-clause-runs g c =
     let P : Program = program (offered c.args.host.now) g.M.Meaning.apply in
     (c.carry_out.result, c.as_ending.ensures, carried_runs AreAlike Any (run_stages P) (run_decided P) _ tt _ _ _ _ _ _ _ c.carry_out.result (rw c.deref.ensures.value at c.plan_words-plan.ensures) c.carry_out.ensures)
+
+pub returns-clause-shown : goal.returns-clause-shown
+returns-clause-shown g c h =
+    let P : Program = program (offered c.args.host.now) g.M.Meaning.apply in
+    shown P _ _ c.carry_out.result _ _ _ _ _ _ c.as_ending.ensures
+    (carried_runs AreAlike Any (run_stages P) (run_decided P) _ tt _ _ _ _ _ _ _ c.carry_out.result (rw c.deref.ensures.value at c.plan_words-plan.ensures) c.carry_out.ensures)
+    h
+
+pub returns-clause-demo : goal.returns-clause-demo
+returns-clause-demo g c x h =
+    let P : Program = program (offered c.args.host.now) g.M.Meaning.apply in
+    demo P _ _ c.carry_out.result _ _ _ _ _ _ c.as_ending.ensures
+    (carried_runs AreAlike Any (run_stages P) (run_decided P) _ tt _ _ _ _ _ _ _ c.carry_out.result (rw c.deref.ensures.value at c.plan_words-plan.ensures) c.carry_out.ensures)
+    x h
+
+pub returns-clause-left : goal.returns-clause-left
+returns-clause-left g c =
+    let P : Program = program (offered c.args.host.now) g.M.Meaning.apply in
+    left P _ _ c.carry_out.result _ _ _ _ _ _ c.as_ending.ensures
+    (carried_runs AreAlike Any (run_stages P) (run_decided P) _ tt _ _ _ _ _ _ _ c.carry_out.result (rw c.deref.ensures.value at c.plan_words-plan.ensures) c.carry_out.ensures)
+
+pub returns-clause-complete : goal.returns-clause-complete
+returns-clause-complete g c m holds reads written =
+    let P : Program = program (offered c.args.host.now) g.M.Meaning.apply in
+    completes P _ _ c.carry_out.result _ _ _ _ _ _ c.as_ending.ensures
+    (carried_runs AreAlike Any (run_stages P) (run_decided P) _ tt _ _ _ _ _ _ _ c.carry_out.result (rw c.deref.ensures.value at c.plan_words-plan.ensures) c.carry_out.ensures)
+    m holds reads written
+
+pub returns-clause-complete_demo : goal.returns-clause-complete_demo
+returns-clause-complete_demo g c written =
+    let P : Program = program (offered c.args.host.now) g.M.Meaning.apply in
+    completes_demo P _ _ c.carry_out.result _ _ _ _ _ _ c.as_ending.ensures
+    (carried_runs AreAlike Any (run_stages P) (run_decided P) _ tt _ _ _ _ _ _ _ c.carry_out.result (rw c.deref.ensures.value at c.plan_words-plan.ensures) c.carry_out.ensures)
+    written

@@ -1,15 +1,13 @@
-use Rattle.std.proofs.Common.{◌∙◌, List, subst}
-use Rattle.dx_ports.specs.Members.{◌≈◌}
-use Rattle.dx_model.specs.declared.facts.Fact.{Fact}
+use Rattle.std.proofs.Common.{◌∙◌}
 use Rattle.dx_instance.specs.Stored.{facts}
 use Rattle.dx_blocks.proofs.BlockLaws.{blocks_are}
 use Rattle.dx_blocks.proofs.finding.blocks.Goals as goal
 
 pub returns : goal.returns
 returns c =
-    blocks_are c.with_nulls.result (facts c.args.instance.now) c.in_order-facts.result.items c.in_ok-nulls.nulls.items
+    blocks_are c.with_nulls.result (facts c.args.instance.now) c.in_ok-facts.facts.items c.in_ok-nulls.nulls.items
     c.in_ok-labels.labels.items c.place_facts.new.blocks _ c.in_ok-blocks.blocks.len
-    (subst (λ (A : List Fact). c.in_order-facts.result.items ≈ A) c.in_ok-facts.ensures c.in_order-facts.ensures.same)
+    c.in_ok-facts.ensures.same
     (rw c.deref.ensures.value at c.in_ok-nulls.ensures)
     (rw (c.deref-2.ensures.value, c.deref-3.ensures.value) at c.in_ok-labels.ensures)
     (rw (c.deref-7.ensures.value, c.deref-8.ensures.value) at c.in_ok-place_facts.ensures)

@@ -13,7 +13,8 @@ join_all-requires-clause-falls c =
 pub returns : goal.returns
 returns c =
     labels_written c.args.facts.now c.args.nulls.now c.deref_mut.result.now c.join_all.new.parents
-    c.deref_mut-2.result.now c.flatten.new.parents _ _ c.in_ok-labels.labels.len c.requires
+    c.deref_mut-2.result.now c.flatten.new.parents _ _ c.in_ok-labels.labels.len c.requires.ascend
+    (λ m. (c.requires.exactly m).1)
     (sym (c.in_ok-labels.labels.ok.0 ∙ single_trees_many c.in_ok-labels.labels.items (length c.args.nulls.now) c.in_ok-labels.ensures))
     (c.deref_mut.ensures.value ∙ c.in_ok-labels.ensures) c.join_all.ensures c.deref_mut-2.ensures.value
     c.flatten.ensures.trees c.flatten.ensures.flat

@@ -10,22 +10,22 @@ use Rattle.dx_holds.proofs.columns.next_like.Goals as goal
 
 pub cell-value-requires-clause-column : goal.cell-value-requires-clause-column
 cell-value-requires-clause-column c =
-    let h = some_column c.args.columns.now c.is_empty.result c.is_empty.ensures c.if-is_empty.false in
-    c.requires.seen_columns _ (in_at c.args.row.now.columns.now 0 0 (omega (arith, c.requires.lengths, h)))
+    c.requires.seen_columns _ (in_at c.args.row.now.columns.now c.indexed_among-at.result 0 (omega (arith, c.requires.lengths, c.indexed_among-at.ensures)))
+
+pub indexed_among-at-requires-clause-some : goal.indexed_among-at-requires-clause-some
+indexed_among-at-requires-clause-some c = some_column c.args.columns.now c.is_empty.result c.is_empty.ensures c.if-is_empty.false
 
 pub with_columns-requires-in-loop-place-clause-columns : goal.with_columns-requires-in-loop-place-clause-columns
 with_columns-requires-in-loop-place-clause-columns c = λ k m.
-    let h = some_column c.args.columns.now c.is_empty.result c.is_empty.ensures c.if-is_empty.false in
-    only_one _ (get_or c.args.columns.now 0 0) k (rw c.from_ref.ensures.value at m) (c.requires.columns _ (in_at c.args.columns.now 0 0 h))
+    only_one _ (get_or c.args.columns.now c.indexed_among-at.result 0) k (rw c.from_ref.ensures.value at m) (c.requires.columns _ (in_at c.args.columns.now c.indexed_among-at.result 0 c.indexed_among-at.ensures))
 
 pub returns-then-agrees : goal.returns-then-agrees
 returns-then-agrees c =
-    let h = some_column c.args.columns.now c.is_empty.result c.is_empty.ensures c.if-is_empty.false in
     let next = rw (c.from_ref.ensures.value, c.from_ref-in-loop-place.ensures.value) at c.in-Some.ensures in (
       omega (arith, c.loop-place.invariant.later, next.0),
       next.1,
-      none_on c.args.instance.now c.args.table c.args.columns.now (values_in c.args.row.now.columns.now (row_at c.args.instance.now c.args.row.now.table c.args.row.now.place)) c.args.from c.loop-place.next c.in-Some.place (get_or c.args.columns.now 0 0) c.cell-value.result.now
-          (λ p q. agree_at (value_at c.args.instance.now c.args.table p) (cell (row_at c.args.instance.now c.args.row.now.table c.args.row.now.place)) c.args.columns.now c.args.row.now.columns.now 0 h c.requires.lengths q ∙ sym c.cell-value.ensures)
+      none_on c.args.instance.now c.args.table c.args.columns.now (values_in c.args.row.now.columns.now (row_at c.args.instance.now c.args.row.now.table c.args.row.now.place)) c.args.from c.loop-place.next c.in-Some.place (get_or c.args.columns.now c.indexed_among-at.result 0) c.cell-value.result.now
+          (λ p q. agree_at (value_at c.args.instance.now c.args.table p) (cell (row_at c.args.instance.now c.args.row.now.table c.args.row.now.place)) c.args.columns.now c.args.row.now.columns.now c.indexed_among-at.result c.indexed_among-at.ensures c.requires.lengths q ∙ sym c.cell-value.ensures)
           c.loop-place.invariant.none next.2,
       c.agrees.ensures.0 c.if-agrees.true,
     )
@@ -37,21 +37,19 @@ overflow_add-next c =
 
 pub loop-place-preserved : goal.loop-place-preserved
 loop-place-preserved c =
-    let h = some_column c.args.columns.now c.is_empty.result c.is_empty.ensures c.if-is_empty.false in
     let next = rw (c.from_ref.ensures.value, c.from_ref-in-loop-place.ensures.value) at c.in-Some.ensures in
     record {
       later = omega (arith, c.loop-place.invariant.later, next.0);
       none = none_more c.args.instance.now c.args.table c.args.columns.now (values_in c.args.row.now.columns.now (row_at c.args.instance.now c.args.row.now.table c.args.row.now.place)) c.args.from c.in-Some.place
-          (none_on c.args.instance.now c.args.table c.args.columns.now (values_in c.args.row.now.columns.now (row_at c.args.instance.now c.args.row.now.table c.args.row.now.place)) c.args.from c.loop-place.next c.in-Some.place (get_or c.args.columns.now 0 0) c.cell-value.result.now
-          (λ p q. agree_at (value_at c.args.instance.now c.args.table p) (cell (row_at c.args.instance.now c.args.row.now.table c.args.row.now.place)) c.args.columns.now c.args.row.now.columns.now 0 h c.requires.lengths q ∙ sym c.cell-value.ensures)
+          (none_on c.args.instance.now c.args.table c.args.columns.now (values_in c.args.row.now.columns.now (row_at c.args.instance.now c.args.row.now.table c.args.row.now.place)) c.args.from c.loop-place.next c.in-Some.place (get_or c.args.columns.now c.indexed_among-at.result 0) c.cell-value.result.now
+          (λ p q. agree_at (value_at c.args.instance.now c.args.table p) (cell (row_at c.args.instance.now c.args.row.now.table c.args.row.now.place)) c.args.columns.now c.args.row.now.columns.now c.indexed_among-at.result c.indexed_among-at.ensures c.requires.lengths q ∙ sym c.cell-value.ensures)
           c.loop-place.invariant.none next.2)
           (λ q. true≢false (sym (c.agrees.ensures.1 q) ∙ c.if-agrees.false));
     }
 
 pub returns : goal.returns
 returns c =
-    let h = some_column c.args.columns.now c.is_empty.result c.is_empty.ensures c.if-is_empty.false in
     let last = rw (c.in_default.is, c.from_ref.ensures.value, c.from_ref-in-loop-place.ensures.value) at c.with_columns-in-loop-place.ensures in
-    none_on c.args.instance.now c.args.table c.args.columns.now (values_in c.args.row.now.columns.now (row_at c.args.instance.now c.args.row.now.table c.args.row.now.place)) c.args.from c.loop-place.next (length (rows_of c.args.instance.now c.args.table)) (get_or c.args.columns.now 0 0) c.cell-value.result.now
-    (λ p q. agree_at (value_at c.args.instance.now c.args.table p) (cell (row_at c.args.instance.now c.args.row.now.table c.args.row.now.place)) c.args.columns.now c.args.row.now.columns.now 0 h c.requires.lengths q ∙ sym c.cell-value.ensures)
+    none_on c.args.instance.now c.args.table c.args.columns.now (values_in c.args.row.now.columns.now (row_at c.args.instance.now c.args.row.now.table c.args.row.now.place)) c.args.from c.loop-place.next (length (rows_of c.args.instance.now c.args.table)) (get_or c.args.columns.now c.indexed_among-at.result 0) c.cell-value.result.now
+    (λ p q. agree_at (value_at c.args.instance.now c.args.table p) (cell (row_at c.args.instance.now c.args.row.now.table c.args.row.now.place)) c.args.columns.now c.args.row.now.columns.now c.indexed_among-at.result c.indexed_among-at.ensures c.requires.lengths q ∙ sym c.cell-value.ensures)
     c.loop-place.invariant.none last

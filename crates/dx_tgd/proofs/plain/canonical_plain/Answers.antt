@@ -1,4 +1,5 @@
 use Rattle.std.proofs.Common.{◌∙◌, ◌≤◌, List, ap, arith, subst, sym}
+use Rattle.std.proofs.lemmas.Slice.Zip.{AllZip-long}
 use Rattle.dx_ports.specs.Members.{◌≈◌, Each}
 use Rattle.dx_model.specs.declared.rules.Rule.{Rule}
 use Rattle.dx_model.specs.declared.values.Value.{Value}
@@ -10,6 +11,7 @@ use Rattle.dx_instance.specs.Stored.{TableRows, facts, widths}
 use Rattle.dx_instance.proofs.RankFacts.{ascend_apart}
 use Rattle.dx_schema.specs.Tables.{schema_widths}
 use Rattle.dx_tgd.specs.Counting.{canonical_cells}
+use Rattle.dx_tgd.specs.Found.{IsFoundRule, IsReordered}
 use Rattle.dx_tgd.specs.Texts.{tuples_in}
 use Rattle.dx_tgd.proofs.Founds.{all_rule_rows, found_ascend, found_fit, found_reordered, found_texts, have_cells, reordered_cells}
 use Rattle.dx_tgd.proofs.plain.canonical_plain.Goals as goal
@@ -31,8 +33,16 @@ pub in_order-requires-clause-texts : goal.in_order-requires-clause-texts
 in_order-requires-clause-texts g c =
     found_texts g.M.Meaning.apply (facts (shown_tables c.numbers.result.symbols c.numbers.result.tables)) c.in_ok-found.found.symbols c.args.rules.now c.in_ok-found.found.tables.items c.in_ok-found.ensures.found
 
-pub new-requires : goal.new-requires
-new-requires g c =
+pub new-requires-clause-few : goal.new-requires-clause-few
+new-requires-clause-few g c =
+    let I = facts (shown_tables c.numbers.result.symbols c.numbers.result.tables) in
+    let found = AllZip-long (IsFoundRule g.M.Meaning.apply I c.in_ok-found.found.symbols) c.args.rules.now c.in_ok-found.found.tables.items c.in_ok-found.ensures.found in
+    let same = AllZip-long (IsReordered c.in_ok-found.found.symbols c.in_ok-ordered.ordered.symbols) c.in_ok-found.found.tables.items c.in_ok-ordered.ordered.tables.items c.in_ok-ordered.ensures.same in
+    let few = c.requires.few in
+    omega (arith, found, same, few)
+
+pub new-requires-clause-texts : goal.new-requires-clause-texts
+new-requires-clause-texts g c =
     let I = facts (shown_tables c.numbers.result.symbols c.numbers.result.tables) in
     let S = c.in_ok-ordered.ordered.symbols in
     let ts = c.in_ok-ordered.ordered.tables.items in

@@ -6,7 +6,7 @@ use Rattle.dx_tgd.specs.Texts.{tuples_in}
 use Rattle.dx_tgd.proofs.rule_matches.RuleMatches.texts.Goals as goal
 
 pub matches_of-requires : goal.matches_of-requires
-matches_of-requires c = record { texts = rw c.deref.ensures.value c.self.invariant }
+matches_of-requires c = record { texts = rw c.deref.ensures.value c.self.invariant.1 }
 
 pub returns : goal.returns
 returns c =

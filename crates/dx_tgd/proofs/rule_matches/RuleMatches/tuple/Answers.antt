@@ -14,7 +14,7 @@ new-requires c =
     let t = c.index.result.now in
     let rule = rule_within S ts c.args.self.now c.args.rule c.self.view_is c.requires.rule in
     let place = place_within S ts c.args.self.now c.args.rule c.args.place t c.self.view_is rule c.index.ensures c.requires.place in
-    let each = each_item (λ (u : NumberTable). Each u.rows (AreTexts S)) ts c.args.rule t rule c.index.ensures c.self.invariant in
+    let each = each_item (λ (u : NumberTable). Each u.rows (AreTexts S)) ts c.args.rule t rule c.index.ensures c.self.invariant.1 in
     row_there S t.rows c.args.place c.row.result.now each place c.row.ensures.row
 
 pub returns : goal.returns

@@ -1,0 +1,89 @@
+-- Which files a run asks for.
+use Rattle.std.proofs.Common.{◌≡◌, ℕ, List, [], ◌∷◌, ◌++◌, refl, sym, ap, subst, inl, inr, Some}
+use Rattle.dx_schema.specs.Forest.{Forest}
+use Rattle.dx_stages.specs.Worlds.{World}
+use Rattle.dx_stages.specs.Stages.{Stage, each}
+use Rattle.clio_source.specs.Source.{at_start, file_at, reading, roots, source_stages}
+use Rattle.clio_source.proofs.Roots.{asks_own}
+use Rattle.clio_top.specs.declared.command.Command.{Command}
+use Rattle.clio_top.specs.declared.command.Command.TheVariants.{Demonstrating, Exchanging, Showing}
+use Rattle.clio_top.specs.Words.{or_usage, says}
+use Rattle.clio_top.specs.Running.{Program}
+use Rattle.clio_top.specs.Commands.{run_stages, stages_of}
+use Rattle.clio_top.specs.Promises.{AskedInOrder, AsksFor, IsNextFile}
+use Rattle.clio_top.proofs.Names.{mapping_asks}
+use Rattle.clio_top.proofs.OverAnything.{said}
+
+-- ---- stages in a row
+
+-- the one that asks, after those that passed
+record AsksAt {E X S : Type 0} (f : X → Stage E S S) (xs : List X) (c : World) (a : S) (n : List ℕ) : Type 0 where
+  before : List X
+  one : X
+  after : List X
+  split : xs ≡ before ++ one ∷ after
+  given : S
+  passed : (each f before).passes c a given
+  asks : (f one).asks c given n
+
+one_asks : {E X S : Type 0} (f : X → Stage E S S) (xs : List X) (c : World) (a : S) (n : List ℕ) → (each f xs).asks c a n → AsksAt f xs c a n
+one_asks f [] c a n h = absurd h
+one_asks f (x ∷ xs) c a n (inl h) = record { before = []; one = x; after = xs; split = refl; given = a; passed = refl; asks = h }
+one_asks f (x ∷ xs) c a n (inr (b, p, h)) =
+    let r = one_asks f xs c b n h in record {
+      before = x ∷ r.before;
+      one = r.one;
+      after = r.after;
+      split = ap (λ l. x ∷ l) r.split;
+      given = r.given;
+      passed = (b, p, r.passed);
+      asks = r.asks;
+    }
+
+asks_after : {E X S : Type 0} (f : X → Stage E S S) (before : List X) (one : X) (after : List X) (c : World) (a b : S) (n : List ℕ)
+    → (each f before).passes c a b → (f one).asks c b n → (each f (before ++ one ∷ after)).asks c a n
+asks_after f [] one after c a b n is h = inl (subst (λ s. (f one).asks c s n) is h)
+asks_after f (x ∷ before) one after c a b n (d, p, passed) h = inr (d, p, asks_after f before one after c d b n passed h)
+
+-- ---- the source
+
+next_file : (c : World) (f : Forest) (n : List ℕ) → source_stages.asks c f n → IsNextFile c f n
+next_file c f n (inl h) =
+    let r = one_asks (reading f) (roots f) c at_start n h in record {
+      before = r.before;
+      root = r.one;
+      after = r.after;
+      roots_are = r.split;
+      read = r.given;
+      passed = r.passed;
+      is = asks_own f r.one c r.given n r.asks;
+    }
+next_file c f n (inr h) = absurd h.2
+
+asks_next : (c : World) (f : Forest) (n : List ℕ) → IsNextFile c f n → source_stages.asks c f n
+asks_next c f n h =
+    inl (subst (λ xs. (each (reading f) xs).asks c at_start n) (sym h.roots_are)
+    (asks_after (reading f) h.before h.root h.after c at_start h.read n h.passed (inl h.is)))
+
+-- ---- the commands
+
+asked_by : (P : Program) (c : World) (k : Command) (n : List ℕ) → (stages_of P k).asks c (tt {0}) n → AsksFor P c k n
+asked_by P c (Exchanging mode nested) n (inl h) = inl (mapping_asks P c tt n h)
+asked_by P c (Exchanging mode nested) n (inr (M, m, inl h)) = inr (M, m, next_file c M.source n h)
+asked_by P c (Exchanging mode nested) n (inr (M, m, inr h)) = absurd h.2
+asked_by P c (Showing mode) n h = mapping_asks P c tt n h
+asked_by P c (Demonstrating number mode) n h = h
+
+asks_it : (P : Program) (c : World) (k : Command) (n : List ℕ) → AsksFor P c k n → (stages_of P k).asks c (tt {0}) n
+asks_it P c (Exchanging mode nested) n (inl h) = inl (inl h)
+asks_it P c (Exchanging mode nested) n (inr (M, m, h)) = inr (M, m, inl (asks_next c M.source n h))
+asks_it P c (Showing mode) n h = inl h
+asks_it P c (Demonstrating number mode) n h = h
+
+asked_of : (P : Program) (c : World) (words : List (List ℕ)) (n : List ℕ) → (run_stages P).asks c words n
+    → (k : Command) × (says words ≡ Some k) × AsksFor P c k n
+asked_of P c words n (inl h) = absurd h
+asked_of P c words n (inr (k, w, h)) = (k, said words k w, asked_by P c k n h)
+
+pub in_order : AskedInOrder
+in_order P c words n = (asked_of P c words n, λ h. inr (h.0, ap or_usage h.1, asks_it P c h.0 n h.2))

@@ -1,0 +1,226 @@
+-- What a run answers if nothing outside fails.
+use Rattle.std.proofs.Common.{◌≡◌, ◌⊎◌, ℕ, List, refl, sym, ◌∙◌, ap, subst, inl, inr, Option, Some, Ok, Bool, arith}
+use Rattle.std.specs.FinMap.{get}
+use Rattle.std.proofs.lemmas.Option.{same_Some}
+use Rattle.dx_ports.specs.Entries.{Held}
+use Rattle.dx_ports.specs.Faults.{Rose}
+use Rattle.dx_keys.specs.declared.answers.Clash.{Clash}
+use Rattle.dx_model.specs.Values.{Text}
+use Rattle.dx_instance.specs.Stored.{facts}
+use Rattle.dx_schema.specs.Tables.{model_tables}
+use Rattle.dx_exchange.specs.declared.mode.Mode.{Mode}
+use Rattle.dx_exchange.specs.declared.result.Exchange.{Exchange}
+use Rattle.dx_exchange.specs.declared.fault.ExFault.{ExFault}
+use Rattle.dx_exchange.specs.declared.fault.ExFault.TheVariants as exchange_faults
+use Rattle.dx_exchange.specs.Exchanging.{HasNone, IsExchange}
+use Rattle.dx_exchange.proofs.Decided.{exchange_or_none}
+use Rattle.dx_stages.specs.declared.plan.Ended.{Ended}
+use Rattle.dx_stages.specs.declared.plan.Ended.TheVariants as endeds
+use Rattle.dx_stages.specs.Ending.{Counts, Ends, IsOutside, IsRefusedAs, Planned, Runs, Written}
+use Rattle.dx_stages.specs.Running.{Told}
+use Rattle.dx_stages.specs.Worlds.{IsOf, World}
+use Rattle.clio_accept.specs.declared.mapping.Mapping.{Mapping}
+use Rattle.clio_accept.proofs.Accepted.{accepted_fits}
+use Rattle.clio_ending.specs.declared.ending.Done.{Done}
+use Rattle.clio_ending.specs.declared.ending.Done.TheVariants as dones
+use Rattle.clio_ending.specs.declared.ending.Ending.{Ending}
+use Rattle.clio_ending.specs.declared.ending.Ending.TheVariants as endings
+use Rattle.clio_ending.specs.declared.ending.Refusal.{Refusal}
+use Rattle.clio_ending.specs.declared.ending.Refusal.TheVariants as refusals
+use Rattle.clio_ending.specs.Ending.{AreAlike, ending_of}
+use Rattle.clio_top.specs.declared.command.Command.{Command}
+use Rattle.clio_top.specs.declared.command.Command.TheVariants.{Demonstrating, Exchanging, Showing}
+use Rattle.clio_top.specs.Words.{or_usage, says}
+use Rattle.clio_top.specs.Running.{Program, asked, exchanges}
+use Rattle.clio_top.specs.Demo.{demo_world}
+use Rattle.clio_top.specs.Commands.{run_stages, stages_of}
+use Rattle.clio_top.specs.Promises.{AsksFor, HasNoSolutionIn}
+use Rattle.clio_top.specs.Completing.{AnswersClash, Completes, CompletesDemo, DemoIsPlanned, HasMappingIn, HasSolutionIn, IsClashing, IsPlanned, MappingIsShown, OrMemory, SolutionIsPlanned}
+use Rattle.clio_top.proofs.Asking.{in_order}
+use Rattle.clio_top.proofs.Clashes.{demo_clashes, no_solution}
+use Rattle.clio_top.proofs.Mappings.{is_small}
+use Rattle.clio_top.proofs.OverAnything.{said}
+use Rattle.clio_top.proofs.Plans.{rules_fit}
+use Rattle.clio_top.proofs.Promised.{demo_exists, plan_exists}
+
+-- ---- an exchange with a solution
+
+-- the exchange of what has a solution
+exchange_there : (P : Program) (mode : Mode) (c : World) (h : HasSolutionIn P c)
+    → (e : Exchange) × IsExchange P.apply (asked mode (h.mapping, h.rows)) e
+exchange_there P mode c h =
+    let fits = accepted_fits P.list c h.text h.mapping (is_small h.text h.few) h.accepted in
+    let d = exchange_or_none P.apply P.list (model_tables h.mapping.source) in
+    of (d.either c (asked mode (h.mapping, h.rows)) (rules_fit P h.mapping fits))
+  where
+    of : ((e : Exchange) × IsExchange P.apply (asked mode (h.mapping, h.rows)) e) ⊎ ((f : ExFault) × HasNone P.apply (asked mode (h.mapping, h.rows)) f)
+        → (e : Exchange) × IsExchange P.apply (asked mode (h.mapping, h.rows)) e
+    of (inl x) = x
+    of (inr (exchange_faults.Clash k, x)) = absurd (x.no_solution h.solution h.solves)
+    of (inr (exchange_faults.Limit l, x)) = let few = h.within x.rows x.are in let many = x.many in absurd (omega (arith, few, many))
+    of (inr (exchange_faults.Memory, x)) = absurd x
+
+-- so its exchange is passed on, beside its mapping
+exchange_passed : (P : Program) (mode : Mode) (c : World) (h : HasSolutionIn P c) (e : Exchange)
+    → IsExchange P.apply (asked mode (h.mapping, h.rows)) e → (exchanges P mode).passes c (tt {0}) (h.mapping, e)
+exchange_passed P mode c h e x = (h.mapping, (h.text, (h.held, h.few), h.accepted), ((h.mapping, h.rows), (h.rows, h.source, refl), (e, x, refl)))
+
+pub planned : SolutionIsPlanned
+planned P c words mode nested w h =
+    let x = exchange_there P mode c h in
+    let fits = accepted_fits P.list c h.text h.mapping (is_small h.text h.few) h.accepted in
+    let plan = plan_exists P mode nested h.mapping x.0 (record { fits = fits; rows = h.rows; exchange = x.1 }) in
+    let passed = exchange_passed P mode c h x.0 x.1 in
+    (x.0, (plan.0, (Exchanging mode nested, ap or_usage w, ((h.mapping, x.0), passed, plan.1)), ap (λ (p : Planned Done). p.done) plan.1.2))
+
+pub shown : MappingIsShown
+shown P c words mode w h = (_, (Showing mode, ap or_usage w, (h.mapping, (h.text, (h.held, h.few), h.accepted), refl)), refl)
+
+pub demo_planned : DemoIsPlanned
+demo_planned P c words number mode w h =
+    let x = exchange_there P mode (demo_world number) h in
+    let plan = demo_exists P number h.mapping x.0 in
+    let passed = exchange_passed P mode (demo_world number) h x.0 x.1 in
+    (x.0, (plan.0, (Demonstrating number mode, ap or_usage w, ((h.mapping, x.0), passed, plan.1)), ap (λ (p : Planned Done). p.done) plan.1.2))
+
+-- ---- what is done tells the command
+
+-- what a command that is done has done
+abbrev HasDone : Command → Done → Type 0
+HasDone (Exchanging mode nested) d = (e : Exchange) × (d ≡ dones.Exchanged e)
+HasDone (Showing mode) d = d ≡ dones.Shown
+HasDone (Demonstrating number mode) d = (e : Exchange) × (d ≡ dones.Demo e)
+
+has_done : (P : Program) (c : World) (k : Command) (p : Planned Done) → (stages_of P k).passes c (tt {0}) p → HasDone k p.done
+has_done P c (Exchanging mode nested) p (q, x, (files, are, plan)) = (q.1, ap (λ (r : Planned Done). r.done) plan)
+has_done P c (Showing mode) p (M, m, plan) = ap (λ (r : Planned Done). r.done) plan
+has_done P c (Demonstrating number mode) p (q, x, (ns, are, plan)) = (q.1, ap (λ (r : Planned Done). r.done) plan)
+
+-- the words say one command
+one_command : (words : List (List ℕ)) (k d : Command) → says words ≡ Some k → or_usage (says words) ≡ Ok d → d ≡ k
+one_command words k d w o = sym (same_Some k d (sym w ∙ said words d o))
+
+done_as_said : (P : Program) (c : World) (words : List (List ℕ)) (k : Command) (p : Planned Done) → says words ≡ Some k
+    → (run_stages P).passes c words p → HasDone k p.done
+done_as_said P c words k p w (d, o, passed) = subst (λ (v : Command). HasDone v p.done) (one_command words k d w o) (has_done P c d p passed)
+
+-- ---- a run during which nothing failed
+
+-- the reads did not fail, or there are none
+abbrev CalmReads : Program → World → List (List ℕ) → Told → Told → Type 0
+CalmReads P c words old new = (n : List ℕ) → (run_stages P).asks c words n → ¬ (Rose old.faults new.faults)
+
+-- with a plan it is done, or memory ran out
+plan_done : (P : Program) (words : List (List ℕ)) (e : Ended Done Refusal) (old new : Told) (before after : Written) (writes writes' : ℕ)
+    → (runs : Runs AreAlike (run_stages P) words e old new before after writes writes') → CalmReads P runs.world words old new → ¬ (Rose writes writes')
+    → (p : Planned Done) → (run_stages P).passes runs.world words p
+    → ((q : Planned Done) × (run_stages P).passes runs.world words q × (e ≡ endeds.Done q.done)) ⊎ (e ≡ endeds.Memory)
+plan_done P words e old new before after writes writes' runs reads written p passed = of e runs.ends runs.counts (runs.complete p passed)
+  where
+    of : (e : Ended Done Refusal) → Ends (run_stages P) runs.world words before after e → Counts old new writes writes' e → ((r : Refusal) → ¬ (e ≡ endeds.Refused r))
+        → ((q : Planned Done) × (run_stages P).passes runs.world words q × (e ≡ endeds.Done q.done)) ⊎ (e ≡ endeds.Memory)
+    of (endeds.Done d) (q, h, is, wrote) counts never = inl (q, h, ap (λ x. endeds.Done x) (sym is))
+    of (endeds.Refused r) ends counts never = absurd (never r refl)
+    of (endeds.ReadFault n) ends counts never = absurd (reads n ends.0 counts.0)
+    of (endeds.WriteFault count) ends counts never = absurd (written counts.1)
+    of endeds.Memory ends counts never = inr refl
+
+-- with a reason to refuse it is refused so, or memory ran out
+reason_told : (P : Program) (words : List (List ℕ)) (e : Ended Done Refusal) (old new : Told) (before after : Written) (writes writes' : ℕ)
+    → (runs : Runs AreAlike (run_stages P) words e old new before after writes writes') → CalmReads P runs.world words old new
+    → (r : Refusal) → (run_stages P).refuses runs.world words r → IsRefusedAs AreAlike r e ⊎ (e ≡ endeds.Memory)
+reason_told P words e old new before after writes writes' runs reads r refused = of e runs.ends runs.counts (runs.exact r refused)
+  where
+    of : (e : Ended Done Refusal) → Ends (run_stages P) runs.world words before after e → Counts old new writes writes' e → IsRefusedAs AreAlike r e ⊎ IsOutside e
+        → IsRefusedAs AreAlike r e ⊎ (e ≡ endeds.Memory)
+    of e ends counts (inl h) = inl h
+    of (endeds.Done d) ends counts (inr h) = absurd h
+    of (endeds.Refused k) ends counts (inr h) = absurd h
+    of (endeds.ReadFault n) ends counts (inr h) = absurd (reads n ends.0 counts.0)
+    of (endeds.WriteFault count) ends counts (inr h) = absurd h
+    of endeds.Memory ends counts (inr h) = inr refl
+
+-- ---- answers
+
+-- what was done is answered
+answered : (P : Program) (c : World) (words : List (List ℕ)) (r : Ending) (e : Ended Done Refusal) (k : Command) → r ≡ ending_of e → says words ≡ Some k
+    → ((q : Planned Done) × (run_stages P).passes c words q × (e ≡ endeds.Done q.done)) ⊎ (e ≡ endeds.Memory)
+    → OrMemory r ((d : Done) × HasDone k d × (r ≡ endings.Done d))
+answered P c words r e k is w (inl (q, passed, done)) = inl (q.done, done_as_said P c words k q w passed, is ∙ ap ending_of done)
+answered P c words r e k is w (inr none) = inr (is ∙ ap ending_of none)
+
+exchange_answered : (r : Ending) (mode : Mode) (nested : Bool) → OrMemory r ((d : Done) × HasDone (Exchanging mode nested) d × (r ≡ endings.Done d))
+    → OrMemory r ((e : Exchange) × (r ≡ endings.Done (dones.Exchanged e)))
+exchange_answered r mode nested (inl (d, (e, d_is), is)) = inl (e, is ∙ ap (λ x. endings.Done x) d_is)
+exchange_answered r mode nested (inr none) = inr none
+
+shown_answered : (r : Ending) (mode : Mode) → OrMemory r ((d : Done) × HasDone (Showing mode) d × (r ≡ endings.Done d))
+    → OrMemory r (r ≡ endings.Done dones.Shown)
+shown_answered r mode (inl (d, d_is, is)) = inl (is ∙ ap (λ x. endings.Done x) d_is)
+shown_answered r mode (inr none) = inr none
+
+demo_answered : (r : Ending) (number : ℕ) (mode : Mode) → OrMemory r ((d : Done) × HasDone (Demonstrating number mode) d × (r ≡ endings.Done d))
+    → OrMemory r ((e : Exchange) × (r ≡ endings.Done (dones.Demo e)))
+demo_answered r number mode (inl (d, (e, d_is), is)) = inl (e, is ∙ ap (λ x. endings.Done x) d_is)
+demo_answered r number mode (inr none) = inr none
+
+-- a refusal that is like a clash is one
+alike_clash : (f : Refusal) (k : Clash) (table : Text) (key : List Text) (column : Text) → AreAlike f (refusals.Clash k table key column)
+    → (d : Clash) × (t : Text) × (l : List Text) × (n : Text) × (f ≡ refusals.Clash d t l n)
+alike_clash refusals.Usage k table key column h = (k, table, key, column, h)
+alike_clash (refusals.Clash d t l n) k table key column h = (d, t, l, n, refl)
+alike_clash (refusals.Mapping fault) k table key column h = (k, table, key, column, h)
+alike_clash (refusals.Rows file fault) k table key column h = (k, table, key, column, h)
+alike_clash (refusals.Limit limit) k table key column h = (k, table, key, column, h)
+
+clash_answered : (r : Ending) (e : Ended Done Refusal) (k : Clash) (table : Text) (key : List Text) (column : Text) → r ≡ ending_of e
+    → IsRefusedAs AreAlike (refusals.Clash k table key column) e ⊎ (e ≡ endeds.Memory) → OrMemory r (AnswersClash r)
+clash_answered r e k table key column is (inl (f, e_is, alike)) =
+    let h = alike_clash f k table key column alike in
+    inl (h.0, h.1, h.2, h.3, is ∙ ap ending_of (e_is ∙ ap (λ x. endeds.Refused x) h.4))
+clash_answered r e k table key column is (inr none) = inr (is ∙ ap ending_of none)
+
+-- ---- over files that are told
+
+one_world : (m : Held) (holds : Option Held) (c : World) → holds ≡ Some m → IsOf holds c → c ≡ (λ n. get m n)
+one_world m holds c is of = let h = subst (λ o. IsOf o c) is of in λ i n. h n i
+
+pub completes : (P : Program) (words : List (List ℕ)) (r : Ending) (e : Ended Done Refusal) (old new : Told) (before after : Written) (writes writes' : ℕ)
+    → r ≡ ending_of e → Runs AreAlike (run_stages P) words e old new before after writes writes' → (m : Held) → old.holds ≡ Some m
+    → ¬ (Rose old.faults new.faults) → ¬ (Rose writes writes') → Completes P (λ n. get m n) words r
+completes P words r e old new before after writes writes' is runs m holds reads written =
+    let same = sym (one_world m old.holds runs.world holds runs.held) in record {
+      exchanged = λ mode nested w h.
+          let p = planned P runs.world words mode nested w (subst (HasSolutionIn P) same h) in
+          exchange_answered r mode nested (answered P runs.world words r e (Exchanging mode nested) is w
+          (plan_done P words e old new before after writes writes' runs (λ n a. reads) written p.1.0 p.1.1));
+      clash = λ mode nested w h.
+          let k = no_solution P runs.world words mode nested w (subst (HasNoSolutionIn P) same h) in
+          clash_answered r e k.0 k.1 k.2 k.3 is (reason_told P words e old new before after writes writes' runs (λ n a. reads) (refusals.Clash k.0 k.1 k.2 k.3) k.4);
+      shown = λ mode w h.
+          let p = shown P runs.world words mode w (subst (HasMappingIn P) same h) in
+          shown_answered r mode (answered P runs.world words r e (Showing mode) is w
+          (plan_done P words e old new before after writes writes' runs (λ n a. reads) written p.0 p.1));
+    }
+
+-- ---- over the files of a demo
+
+-- a demo asks for no file
+asks_none : (P : Program) (c : World) (words : List (List ℕ)) (number : ℕ) (mode : Mode) (n : List ℕ) → says words ≡ Some (Demonstrating number mode)
+    → ¬ ((run_stages P).asks c words n)
+asks_none P c words number mode n w a =
+    let k = (in_order P c words n).0 a in
+    subst (λ (v : Command). AsksFor P c v n) (sym (same_Some (Demonstrating number mode) k.0 (sym w ∙ k.1))) k.2
+
+pub completes_demo : (P : Program) (words : List (List ℕ)) (r : Ending) (e : Ended Done Refusal) (old new : Told) (before after : Written) (writes writes' : ℕ)
+    → r ≡ ending_of e → Runs AreAlike (run_stages P) words e old new before after writes writes' → ¬ (Rose writes writes') → CompletesDemo P words r
+completes_demo P words r e old new before after writes writes' is runs written = record {
+  demo = λ number mode w h.
+      let p = demo_planned P runs.world words number mode w h in
+      demo_answered r number mode (answered P runs.world words r e (Demonstrating number mode) is w
+      (plan_done P words e old new before after writes writes' runs (λ n a. absurd (asks_none P runs.world words number mode n w a)) written p.1.0 p.1.1));
+  clash = λ number mode w h.
+      let k = demo_clashes P runs.world words number mode w h in
+      clash_answered r e k.0 k.1 k.2 k.3 is
+      (reason_told P words e old new before after writes writes' runs (λ n a. absurd (asks_none P runs.world words number mode n w a)) (refusals.Clash k.0 k.1 k.2 k.3) k.4);
+}

@@ -1,0 +1,133 @@
+-- What a run answers if nothing outside fails: what is asked for, as far as there is such a thing, or want of memory.
+use Rattle.std.specs.Prelude.{◌≡◌, ◌⊎◌, ◌≤◌, ℕ, List, [], ◌∷◌, codes, length, Some, Bool}
+use Rattle.std.specs.FinMap.{from_entries, get}
+use Rattle.dx_ports.specs.Entries.{Entry, Held}
+use Rattle.dx_model.specs.declared.facts.Fact.{Fact}
+use Rattle.dx_model.specs.Rules.{AreRows}
+use Rattle.dx_model.specs.Values.{Rows, Text}
+use Rattle.dx_model.specs.Solutions.{IsSolution}
+use Rattle.dx_schema.specs.Tables.{model_tables}
+use Rattle.dx_tgd.specs.Counting.{canonical_cells}
+use Rattle.dx_keys.specs.declared.answers.Clash.{Clash}
+use Rattle.dx_instance.specs.Stored.{TableRows, facts}
+use Rattle.dx_exchange.specs.declared.mode.Mode.{Mode}
+use Rattle.dx_exchange.specs.declared.result.Exchange.{Exchange}
+use Rattle.dx_stages.specs.Worlds.{World}
+use Rattle.dx_stages.specs.Ending.{Planned}
+use Rattle.clio_accept.specs.declared.mapping.Mapping.{Mapping}
+use Rattle.clio_accept.specs.Accepting.{accepting}
+use Rattle.clio_source.specs.Source.{source_stages}
+use Rattle.clio_ending.specs.declared.ending.Done.{Done}
+use Rattle.clio_ending.specs.declared.ending.Done.TheVariants.{Demo, Exchanged, Shown}
+use Rattle.clio_ending.specs.declared.ending.Ending.{Ending}
+use Rattle.clio_ending.specs.declared.ending.Ending.TheVariants as endings
+use Rattle.clio_ending.specs.declared.ending.Refusal.TheVariants as refusals
+use Rattle.clio_top.specs.declared.command.Command.TheVariants.{Demonstrating, Exchanging, Showing}
+use Rattle.clio_top.specs.Words.{Word, says}
+use Rattle.clio_top.specs.Running.{Program, target_cells, text_bytes}
+use Rattle.clio_top.specs.Demo.{demo_world}
+use Rattle.clio_top.specs.Commands.{run_stages}
+use Rattle.clio_top.specs.Promises.{HasNoSolutionIn}
+
+-- ---- what there is in a world
+
+-- a mapping text that is accepted
+pub record HasMappingIn (P : Program) (c : World) : Type 0 where
+  pub text : List ℕ
+  pub held : c (codes "mapping.clio") ≡ Some text
+  pub few : length text ≤ text_bytes
+  pub mapping : Mapping
+  pub accepted : (accepting P.list).passes c text mapping
+
+-- an accepted mapping text and the source of files in a world, within the limit on canonical cells, with a solution
+pub record HasSolutionIn (P : Program) (c : World) : Type 0 where
+  pub text : List ℕ
+  pub held : c (codes "mapping.clio") ≡ Some text
+  pub few : length text ≤ text_bytes
+  pub mapping : Mapping
+  pub accepted : (accepting P.list).passes c text mapping
+  pub rows : List TableRows
+  pub source : source_stages.passes c mapping.source rows
+  pub within : (matches : Rows) → AreRows P.apply mapping.rules (facts rows) matches → canonical_cells mapping.rules matches ≤ target_cells
+  pub solution : List Fact
+  pub solves : IsSolution P.apply mapping.rules (model_tables mapping.target) (facts rows) solution
+
+-- ---- the stages
+
+-- there is a plan to do this
+abbrev pub IsPlanned : Program → World → List Word → Done → Type 0
+IsPlanned P c words d = (plan : Planned Done) × (run_stages P).passes c words plan × (plan.done ≡ d)
+
+-- there is a clash
+abbrev pub IsClashing : Program → World → List Word → Type 0
+IsClashing P c words =
+    (k : Clash) × (table : Text) × (key : List Text) × (column : Text) × (run_stages P).refuses c words (refusals.Clash k table key column)
+
+-- if there is a solution, an exchange of it is planned
+abbrev pub SolutionIsPlanned : Type 0
+SolutionIsPlanned =
+    (P : Program) (c : World) (words : List Word) (mode : Mode) (nested : Bool) → says words ≡ Some (Exchanging mode nested)
+    → HasSolutionIn P c → (e : Exchange) × IsPlanned P c words (Exchanged e)
+
+-- an accepted mapping is shown
+abbrev pub MappingIsShown : Type 0
+MappingIsShown =
+    (P : Program) (c : World) (words : List Word) (mode : Mode) → says words ≡ Some (Showing mode)
+    → HasMappingIn P c → IsPlanned P c words Shown
+
+-- if the files of a demo have a solution, its exchange is planned, whatever is outside; and if they have none, there is a clash
+abbrev pub DemoIsPlanned : Type 0
+DemoIsPlanned =
+    (P : Program) (c : World) (words : List Word) (number : ℕ) (mode : Mode) → says words ≡ Some (Demonstrating number mode)
+    → HasSolutionIn P (demo_world number) → (e : Exchange) × IsPlanned P c words (Demo e)
+
+abbrev pub DemoIsAClash : Type 0
+DemoIsAClash =
+    (P : Program) (c : World) (words : List Word) (number : ℕ) (mode : Mode) → says words ≡ Some (Demonstrating number mode)
+    → HasNoSolutionIn P (demo_world number) → IsClashing P c words
+
+-- ---- the answers
+
+-- this, or want of memory
+abbrev pub OrMemory : Ending → Type 0 → Type 0
+OrMemory r A = A ⊎ (r ≡ endings.Memory)
+
+-- a clash is answered
+abbrev pub AnswersClash : Ending → Type 0
+AnswersClash r = (k : Clash) × (table : Text) × (key : List Text) × (column : Text) × (r ≡ endings.Clash k table key column)
+
+-- over files that are told, if no read and no write failed
+pub record Completes (P : Program) (c : World) (words : List Word) (r : Ending) : Type 0 where
+  pub exchanged : (mode : Mode) (nested : Bool) → says words ≡ Some (Exchanging mode nested) → HasSolutionIn P c
+      → OrMemory r ((e : Exchange) × (r ≡ endings.Done (Exchanged e)))
+  pub clash : (mode : Mode) (nested : Bool) → says words ≡ Some (Exchanging mode nested) → HasNoSolutionIn P c → OrMemory r (AnswersClash r)
+  pub shown : (mode : Mode) → says words ≡ Some (Showing mode) → HasMappingIn P c → OrMemory r (r ≡ endings.Done Shown)
+
+-- over the files of a demo, whatever is outside, if no write failed
+pub record CompletesDemo (P : Program) (words : List Word) (r : Ending) : Type 0 where
+  pub demo : (number : ℕ) (mode : Mode) → says words ≡ Some (Demonstrating number mode) → HasSolutionIn P (demo_world number)
+      → OrMemory r ((e : Exchange) × (r ≡ endings.Done (Demo e)))
+  pub clash : (number : ℕ) (mode : Mode) → says words ≡ Some (Demonstrating number mode) → HasNoSolutionIn P (demo_world number)
+      → OrMemory r (AnswersClash r)
+
+-- ---- a small world in which there is something to exchange
+
+-- a mapping that makes persons of employees by their names, and the table of two employees
+abbrev pub small_entries : List Entry
+small_entries =
+    (codes "mapping.clio", codes "mapping 1; source { set emp { name; } } target { set person { name, phone; } } line emp.name -> person.name;")
+    ∷ (codes "emp.csv", codes "name\nann\nbob\n")
+    ∷ []
+
+abbrev pub small_held : Held
+small_held = from_entries small_entries
+
+abbrev pub small_world : World
+small_world n = get small_held n
+
+-- there an exchange is planned in each mode, whatever conversions the program lists
+abbrev pub SmallIsPlanned : Type 0
+SmallIsPlanned =
+    (P : Program)
+    → ((e : Exchange) × IsPlanned P small_world (codes "exchange" ∷ []) (Exchanged e))
+    × ((e : Exchange) × IsPlanned P small_world (codes "exchange" ∷ codes "--core" ∷ []) (Exchanged e))

@@ -1,0 +1,10 @@
+// The law of tokens. The definitions alone carry it: no body computes anything.
+ghost use Rattle.std.specs.Prelude.{List, ℕ};
+ghost use Rattle.dx_script_tokens.specs.Lexing.{FaultyIsScanned, IsTokensOrFault, LexedIsScanned};
+
+/// The scan of a text has exactly the tokens that the text has, or those before its first fault, and that fault.
+pub fn scan_is_of_the_text()
+    ensures either { (text : List ℕ) → IsTokensOrFault text }
+    ensures tokens { (text : List ℕ) → LexedIsScanned text }
+    ensures fault { (text : List ℕ) → FaultyIsScanned text }
+{}
