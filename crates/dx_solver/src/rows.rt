@@ -3,7 +3,7 @@ ghost use Rattle.std.specs.Prelude.{◌≡◌, ◌<◌, ◌≤◌, ◌^◌, ℕ,
 ghost use Rattle.std.specs.Bool.{OnTrue};
 ghost use Rattle.dx_ports.specs.Members.{◌∈◌, Each};
 ghost use Rattle.dx_instance.specs.Cells.{numbers_at};
-ghost use Rattle.dx_instance.specs.Indexes.{IsNext, number_in};
+ghost use Rattle.dx_instance.specs.Indexes.{number_in};
 ghost use Rattle.dx_instance.specs.Shown.{numbers_of_table};
 ghost use Rattle.dx_solver.specs.Domains.{IsImage, IsNextImage, IsNextPlace, Keeps, choices, term_at};
 ghost use Rattle.dx_solver.specs.Questions.{FitsAtom, number_under};
@@ -147,7 +147,7 @@ pub(crate) fn next_place(
     ensures { IsNextPlace (numbers_of_table numbers.now.tables table).rows key from result }
 {
     match key {
-        Some(key) => next_with(numbers, table, key.column, key.number, from),
+        Some(key) => numbers.next_with(table, key.column, key.number, from),
         None => {
             if from < numbers.count(table) {
                 return Some(from);
@@ -155,20 +155,6 @@ pub(crate) fn next_place(
             None
         }
     }
-}
-
-// The least place from `from` on whose row has this number in this column.
-fn next_with(numbers: &Numbers<'_>, table: u32, column: u32, number: u32, from: u32) -> Option<u32>
-    requires table { table < length numbers.now.tables }
-    requires column { column < (numbers_of_table numbers.now.tables table).width }
-    ensures { IsNext (numbers_of_table numbers.now.tables table).rows column number from result }
-{
-    for place in from..numbers.count(table) {
-        if numbers.row(table, place)[column as usize] == number {
-            return Some(place);
-        }
-    }
-    None
 }
 
 // Whether the row at a place can be what the atom becomes.
