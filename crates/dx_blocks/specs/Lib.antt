@@ -3,3 +3,4 @@ pub mod Nulls
 pub mod Forest
 pub mod Labels
 pub mod Laws
+pub mod Numbered
