@@ -1,6 +1,6 @@
 -- Questions to the solver, and what they tell of facts.
-use Rattle.std.proofs.Common.{◌≡◌, ◌∙◌, ℕ, ◌+◌, ◌<◌, Bool, true, false, List, [], ◌∷◌, inl, inr, refl, sym, ap, subst, arith, length, get_or, map}
-use Rattle.std.specs.Prelude.{Option, Some, None}
+use Rattle.std.proofs.Common.{◌≡◌, ◌∙◌, ℕ, zero, suc, ◌+◌, ◌<◌, ◌^◌, Bool, true, false, List, [], ◌∷◌, inl, inr, refl, sym, ap, subst, arith, length, get_or, map}
+use Rattle.std.specs.Prelude.{MatchOption, IfSome, Option, Some, None}
 use Rattle.std.specs.List.{AllZip}
 use Rattle.std.proofs.lemmas.List.{get_or_default, length-map}
 use Rattle.std.proofs.lemmas.Slice.Zip.{AllZip-long}
@@ -30,8 +30,8 @@ use Rattle.dx_rigid.specs.Rigid.{IsRigid}
 use Rattle.dx_core.specs.Asking.{AreAtoms, Ascend, Avoids, IsAtomOf, IsKnown, IsTermOf, MovesOff, numbers_of, pairs_by}
 use Rattle.dx_core.specs.Left.{HasMarks, fact_at, left_of, shown_by}
 use Rattle.dx_core.specs.Sparing.{IsTried}
-use Rattle.dx_core.proofs.Marked.{from_left, marked_inside, marked_kept, marked_out, one_place, to_left}
-use Rattle.dx_core.proofs.Terms.{answer_of, is_given, null_same, number_is, number_in, stays, terms_become, terms_given, terms_within}
+use Rattle.dx_core.proofs.Marked.{from_left, marked_inside, marked_kept, marked_out, one_place, put_back, to_left}
+use Rattle.dx_core.proofs.Terms.{answer_of, ascend_few, is_given, null_same, number_is, number_in, stays, terms_become, terms_given, terms_within}
 use Rattle.dx_core.proofs.Tried.{its_null}
 
 abbrev no_numbers : NumberTable
@@ -129,6 +129,23 @@ module _ (N : Numbered) (fit : PartsFit N.symbols N.tables) where
         let f : fact_moved g (fact_of N at) ≡ fact_of N to = λ i. record { table = at.table; row = e i } in
         rw f (fact_left out to there (rw (← is.table) s.2))
 
+  -- ---- marks
+
+  pub mark_table : (out : List (List Bool)) (at : At) → HasMarks (shown_by N) out → IsRow N at → at.table < length out
+  mark_table out at has r = omega (arith, has.tables, (row_within at r).0)
+
+  pub mark_place : (out : List (List Bool)) (at : At) → HasMarks (shown_by N) out → IsRow N at → at.place < length (get_or out at.table [])
+  mark_place out at has r = omega (arith, has.places at.table (row_within at r).0, (row_within at r).1)
+
+  pub back_again : (out : List (List Bool)) (at : At) → HasMarks (shown_by N) out → IsRow N at → is_out out at.table at.place ≡ false
+      → with_mark (with_mark out at.table at.place true) at.table at.place false ≡ out
+  back_again out at has r e = put_back (shown_by N) out at.table at.place has (row_within at r).0 (row_within at r).1 e
+
+  pub few_nulls : (b : NumberBlock) → IsTried N b → length b.nulls < 2 ^ 32
+  few_nulls b t =
+      let k = ascend_few b.nulls (length N.symbols) t.ascend (λ x m. (t.numbers.nulls x m).within) in
+      omega (arith, k, fit.small)
+
 -- ---- questions about rows of a block
 
 module _ (N : Numbered) (fit : PartsFit N.symbols N.tables) (b : NumberBlock) (t : IsTried N b) where
@@ -158,14 +175,14 @@ module _ (N : Numbered) (fit : PartsFit N.symbols N.tables) (b : NumberBlock) (t
 
     module _ (at : At) (in_block : at ∈ b.rows) (are : AreAtoms N b.nulls out rows atoms)
         (kept : IsKnown N (left_of N out) b.nulls known) where
-      there : IsRow N at
-      there = t.numbers.rows at in_block
+      own_row : IsRow N at
+      own_row = t.numbers.rows at in_block
 
       without : List (List Bool)
       without = with_mark out at.table at.place true
 
       within : (at.table < length (shown_by N)) × (at.place < length (rows_of (shown_by N) at.table))
-      within = row_within N fit at there
+      within = row_within N fit at own_row
 
       pub none_avoids : ((a : ℕ → ℕ) → ¬ (Solves N.tables (with_mark out at.table at.place true) atoms known a))
           → ¬ (Avoids (left_of N out) (map (fact_of N) rows) (fact_of N at))
@@ -209,3 +226,12 @@ module _ (N : Numbered) (fit : PartsFit N.symbols N.tables) (b : NumberBlock) (t
             λ d. marked_out (shown_by N) out at.table at.place has within.0 within.1 (distinct_rows N fit)
                 (subst (λ (f : Fact). f ∈ left_of N (with_mark out at.table at.place true)) d i),
           )
+
+      pub told : {V : Type 0} (items : V → List ℕ) (o : Option V) → length known ≡ length b.nulls
+          → MatchOption o ((a : ℕ → ℕ) → ¬ (Solves N.tables (with_mark out at.table at.place true) atoms known a))
+          (λ v. Solves N.tables (with_mark out at.table at.place true) atoms known (answered (items v)))
+          → IfSome o (λ v. length (items v) ≡ length known)
+          → MatchOption o (¬ (Avoids (left_of N out) (map (fact_of N) rows) (fact_of N at)))
+          (λ v. MovesOff (given (pairs_by N b.nulls (items v))) (left_of N out) (map (fact_of N) rows) (fact_of N at))
+      told items None same e l = none_avoids e
+      told items (Some v) same e l = some_moves (items v) (l ∙ same) e

@@ -1,6 +1,6 @@
 -- What the answer for all rows of a block tells.
 use Rattle.std.proofs.Common.{◌≡◌, ◌∙◌, ℕ, zero, suc, ◌+◌, ◌<◌, Bool, true, false, List, [], ◌∷◌, inl, inr, refl, sym, ap, subst, arith, length, get_or, map}
-use Rattle.std.specs.Prelude.{Option, Some, None}
+use Rattle.std.specs.Prelude.{IfSome, MatchOption, Option, Some, None}
 use Rattle.std.proofs.lemmas.Bool.{cases_order}
 use Rattle.std.proofs.lemmas.List.{get_or_default}
 use Rattle.dx_ports.specs.Members.{◌∈◌, Each}
@@ -11,6 +11,7 @@ use Rattle.dx_model.specs.declared.values.Value.TheVariants.{Null}
 use Rattle.dx_model.specs.declared.facts.Fact.{Fact}
 use Rattle.dx_model.specs.Instances.{Moves, fact_moved, given, values}
 use Rattle.dx_model.specs.Blocks.{IsReduct}
+use Rattle.dx_instance.specs.Cells.{numbers_at}
 use Rattle.dx_instance.specs.Numbers.{value_of}
 use Rattle.dx_instance.specs.Places.{row_at}
 use Rattle.dx_instance.specs.Shown.{Numbered, PartsFit, numbers_of_table}
@@ -22,12 +23,13 @@ use Rattle.dx_blocks.specs.Blocks.{least}
 use Rattle.dx_blocks.specs.Numbered.{IsRow, fact_of, null_under, shown_block}
 use Rattle.dx_solver.specs.declared.atom.PatternAtom.{PatternAtom}
 use Rattle.dx_solver.specs.declared.atom.Term.TheVariants.{Variable}
-use Rattle.dx_solver.specs.Questions.{Solves, answered, number_under}
+use Rattle.dx_solver.specs.Questions.{Solves, answered, number_under, row_under}
 use Rattle.dx_core.specs.Asking.{AreAtoms, Ascend, numbers_of, pairs_by}
 use Rattle.dx_core.specs.Left.{left_of, shown_by}
 use Rattle.dx_core.specs.Sparing.{IsTried}
 use Rattle.dx_core.proofs.Asked.{atom_moves, atom_stands, fact_there, others_stay, row_below, row_is}
 use Rattle.dx_core.proofs.Terms.{answer_of, has_variable}
+use Rattle.dx_core.proofs.Spared.{on_none}
 use Rattle.dx_core.proofs.Tried.{its_fact}
 
 -- ascending numbers at different places differ
@@ -87,9 +89,11 @@ module _ (N : Numbered) (fit : PartsFit N.symbols N.tables) (b : NumberBlock) (t
         let p = s.stands a.0 a.1 in
         let to : At = record { table = w.0.table; place = p.0 } in
         let row = t.numbers.rows w.0 w.1 in
-        let there : IsRow N to = record { table = row.table; place = rw (← a.2.table) p.1 } in
+        let there : IsRow N to = record { table = row.table; place = subst (λ (t : ℕ). p.0 < length (numbers_of_table N.tables t).rows) a.2.table p.1 } in
         let i : get_or xs u.0 0 ∈ map (number_under (answered xs)) a.0.terms = in_map (number_under (answered xs)) u.1 in
-        let j : get_or xs u.0 0 ∈ numbers_of N to = rw (← a.2.table, p.3) i in
+        let d : numbers_of N to ≡ row_under (answered xs) a.0 =
+        ap (λ (t : ℕ). numbers_at (numbers_of_table N.tables t).rows p.0) (sym a.2.table) ∙ p.3 in
+        let j : get_or xs u.0 0 ∈ numbers_of N to = subst (λ (row : List ℕ). get_or xs u.0 0 ∈ row) (sym d) i in
         subst (λ (k : ℕ). get_or xs k 0 < length N.symbols) same (row_below N fit to there (get_or xs u.0 0) j)
 
     pub found_within : Each xs (λ x. x < length N.symbols)
@@ -97,3 +101,30 @@ module _ (N : Numbered) (fit : PartsFit N.symbols N.tables) (b : NumberBlock) (t
         let c = contains_from_in m in
         let e : get_or xs c.0 0 ≡ x = get_or_default xs c.0 0 x c.1 ∙ c.2 in
         subst (λ (k : ℕ). k < length N.symbols) e (at_variable c.0 (omega (arith, c.1, long)))
+
+  -- ---- what an answer tells
+
+  module _ {V : Type 0} (items : V → List ℕ) (o : Option V)
+      (exact : MatchOption o ((a : ℕ → ℕ) → ¬ (Solves N.tables out atoms known a)) (λ v. Solves N.tables out atoms known (answered (items v)))) where
+    pub some_found : IsReduct (facts (shown_by N)) (left_of N out) → ((v n : ℕ) → ¬ (get_or known v None ≡ Some n)) → ¬ (o ≡ None)
+    some_found r none e = let f = found r none in on_none o e exact f.0 f.1
+
+    module _ (long : IfSome o (λ v. length (items v) ≡ length known)) (same : length known ≡ length b.nulls) where
+      pub within_found : IfSome o (λ v. Each (items v) (λ x. x < length N.symbols))
+      within_found = by o exact long
+        where
+          by : (o : Option V)
+              → MatchOption o ((a : ℕ → ℕ) → ¬ (Solves N.tables out atoms known a)) (λ v. Solves N.tables out atoms known (answered (items v)))
+              → IfSome o (λ v. length (items v) ≡ length known) → IfSome o (λ v. Each (items v) (λ x. x < length N.symbols))
+          by None q l = tt
+          by (Some v) q l = found_within (items v) (l ∙ same) q
+
+      pub moves_found : IfSome o (λ v. Moves (given (pairs_by N b.nulls (items v))) (map (fact_of N) b.rows) (left_of N out))
+      moves_found = by o exact long
+        where
+          by : (o : Option V)
+              → MatchOption o ((a : ℕ → ℕ) → ¬ (Solves N.tables out atoms known a)) (λ v. Solves N.tables out atoms known (answered (items v)))
+              → IfSome o (λ v. length (items v) ≡ length known)
+              → IfSome o (λ v. Moves (given (pairs_by N b.nulls (items v))) (map (fact_of N) b.rows) (left_of N out))
+          by None q l = tt
+          by (Some v) q l = found_moves (items v) (l ∙ same) q

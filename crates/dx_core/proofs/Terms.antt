@@ -2,7 +2,13 @@
 use Rattle.std.proofs.Common.{◌≡◌, ◌∙◌, ℕ, zero, suc, ◌+◌, ◌<◌, ◌≤◌, ◌⊎◌, List, [], ◌∷◌, inl, inr, refl, sym, ap, arith, length, get_or, map, cond}
 use Rattle.std.specs.Prelude.{true, false}
 use Rattle.std.specs.List.{AllZip, AllPairs}
-use Rattle.std.proofs.lemmas.Bool.{cases_Bool, cases_eq}
+use Rattle.std.specs.List.Sorted.{IsNonDecreasingBy, IsPartitionPoint}
+use Rattle.std.specs.Ordering.{is_lt, nat_cmp, ordering_index, ordering_reverse}
+use Rattle.std.specs.declared.cmp.Ordering.TheVariants.{Less, Equal, Greater}
+use Rattle.std.proofs.lemmas.Cmp.{nat_cmp_total}
+use Rattle.std.proofs.lemmas.List.Sorted.{searchable_from_sorted}
+use Rattle.dx_ports.proofs.Ranges.{nat_less, nat_self}
+use Rattle.std.proofs.lemmas.Bool.{cases_Bool, cases_eq, cases_order}
 use Rattle.std.proofs.lemmas.List.{get_or_default}
 use Rattle.dx_ports.specs.Members.{◌∈◌, Each, here, there}
 use Rattle.dx_ports.proofs.Members.{contains_from_in, in_at}
@@ -62,6 +68,34 @@ rises ns up i j h k = elim (cases_eq i j) [
   | inl e ↦ omega (arith, ap (λ x. get_or ns x 0) e)
   | inr d ↦ let l = up i j 0 (omega arith) k in omega (arith, l)
 ]
+
+searchable : (ns : List ℕ) (x : ℕ) → Ascend ns → IsNonDecreasingBy (λ y. ordering_index (nat_cmp y x)) ns
+searchable ns x up = searchable_from_sorted nat_cmp_total (λ y. y) ns x (λ k d l h.
+    let less = up k (k + 1) d (omega arith) h in
+    ap is_lt (nat_cmp_total.antisymm (get_or ns (k + 1) d) (get_or ns k d)
+    ∙ ap ordering_reverse (nat_less (get_or ns k d) (get_or ns (k + 1) d) less)))
+
+-- what is not found is not there
+pub not_found : (ns : List ℕ) (x i : ℕ) → Ascend ns
+    → (IsNonDecreasingBy (λ y. ordering_index (nat_cmp y x)) ns
+    → IsPartitionPoint (λ y. nat_cmp y x ≡ Less) (λ y. nat_cmp y x ≡ Greater) ns i) → ¬ (x ∈ ns)
+not_found ns x i up p m =
+    let w = contains_from_in m in
+    let e : get_or ns w.0 0 ≡ x = get_or_default ns w.0 0 x w.1 ∙ w.2 in
+    let split = p (searchable ns x up) in
+    elim (cases_order w.0 i) [
+      | inl d ↦ above (rw e at (split.1 w.0 0 (omega arith) w.1))
+      | inr o ↦ elim o [
+        | inl l ↦ below (rw e at (split.0 w.0 0 (omega arith) l))
+        | inr l ↦ above (rw e at (split.1 w.0 0 (omega arith) w.1))
+      ]
+    ]
+  where
+    above : nat_cmp x x ≡ Greater → ⊥
+    above q = let s = nat_self x in cc (q, s)
+
+    below : nat_cmp x x ≡ Less → ⊥
+    below q = let s = nat_self x in cc (q, s)
 
 -- ---- a map of nulls gives numbers for variables
 

@@ -1,5 +1,5 @@
 // Rows of a block as atoms: a variable for each null of the block.
-ghost use Rattle.std.specs.Prelude.{◌≡◌, ◌<◌, [], false, IfOk, length};
+ghost use Rattle.std.specs.Prelude.{◌≡◌, ◌<◌, ◌^◌, IfOk, None, length, replicate};
 ghost use Rattle.dx_ports.specs.Members.{Each};
 ghost use Rattle.dx_blocks.specs.Numbered.{IsRow};
 ghost use Rattle.dx_solver.specs.Questions.{FitsAtom};
@@ -62,6 +62,7 @@ pub(crate) fn atoms_of(
     ensures atoms { IfOk result (λ atoms. AreAtoms numbers.now nulls.now taken.now rows.now atoms.items) }
     ensures fit { IfOk result (λ atoms. Each atoms.items (FitsAtom numbers.now.tables (length nulls.now))) }
 {
+    let _fit = numbers.len();
     let mut atoms = Vec::new(alloc);
     for at in rows {
         if !taken.has(at.table, at.place) {
@@ -69,4 +70,20 @@ pub(crate) fn atoms_of(
         }
     }
     Ok(atoms)
+}
+
+/// Nothing known of so many variables.
+///
+/// # Errors
+///
+/// `AllocError` if there is no memory.
+#[tactic(auto, using(std::proofs::lemmas::List::replicate_more))]
+pub(crate) fn nothing_known(alloc: Global, count: usize) -> Result<Vec<Option<u32>>, AllocError>
+    ensures { IfOk result (λ known. known.items ≡ replicate count None) }
+{
+    let mut known = Vec::with_capacity(alloc, count)?;
+    for _ in 0..count {
+        known.push(None)?;
+    }
+    Ok(known)
 }
