@@ -29,7 +29,6 @@ use Rattle.dx_core.specs.Left.{left_of, shown_by}
 use Rattle.dx_core.specs.Sparing.{IsTried}
 use Rattle.dx_core.proofs.Asked.{atom_moves, atom_stands, fact_there, others_stay, row_below, row_is}
 use Rattle.dx_core.proofs.Terms.{answer_of, has_variable}
-use Rattle.dx_core.proofs.Spared.{on_none}
 use Rattle.dx_core.proofs.Tried.{its_fact}
 
 -- ascending numbers at different places differ
@@ -107,7 +106,12 @@ module _ (N : Numbered) (fit : PartsFit N.symbols N.tables) (b : NumberBlock) (t
   module _ {V : Type 0} (items : V → List ℕ) (o : Option V)
       (exact : MatchOption o ((a : ℕ → ℕ) → ¬ (Solves N.tables out atoms known a)) (λ v. Solves N.tables out atoms known (answered (items v)))) where
     pub some_found : IsReduct (facts (shown_by N)) (left_of N out) → ((v n : ℕ) → ¬ (get_or known v None ≡ Some n)) → ¬ (o ≡ None)
-    some_found r none e = let f = found r none in on_none o e exact f.0 f.1
+    some_found r none e = by o e exact
+      where
+        by : (o : Option V) → o ≡ None
+            → MatchOption o ((a : ℕ → ℕ) → ¬ (Solves N.tables out atoms known a)) (λ v. Solves N.tables out atoms known (answered (items v))) → ⊥
+        by None e q = let f = found r none in q f.0 f.1
+        by (Some v) e q = absurd (cc e)
 
     module _ (long : IfSome o (λ v. length (items v) ≡ length known)) (same : length known ≡ length b.nulls) where
       pub within_found : IfSome o (λ v. Each (items v) (λ x. x < length N.symbols))

@@ -4,7 +4,7 @@ use Rattle.dx_model.proofs.Reduction.{reduct_itself}
 use Rattle.dx_blocks.specs.Numbered.{fact_of}
 use Rattle.dx_core.specs.Left.{left_of}
 use Rattle.dx_core.proofs.Asked.{mark_place, mark_table, row_left}
-use Rattle.dx_core.proofs.Spared.{gone_needed, known_stays, none_needed, nulls_kept, on_none, on_some, one_less, only_row, others_left, same_avoids, same_moves}
+use Rattle.dx_core.proofs.Spared.{gone_needed, known_stays, none_needed, nulls_kept, none_told, one_less, only_row, others_left, same_avoids, same_moves, some_told}
 use Rattle.dx_core.proofs.sparing.Reduction.spare_row.Goals as goal
 
 pub returns-then-has-clause-reduct : goal.returns-then-has-clause-reduct
@@ -49,7 +49,8 @@ returns-in-None-together-clause-needed c =
     let s = c.args.self.now in
     let none = same_avoids s.numbers c.ask.new.self.numbers s.taken c.ask.new.self.taken c.args.block.now.rows c.args.at
     c.in_ok-alone.ensures.numbers c.in_ok-alone.ensures.taken
-    (on_none c.in_ok-together.together c.in-None-together.is (rw c.items-rows.ensures at c.in_ok-together.ensures.exact)) in
+    (none_told c.ask.new.self.numbers _ _ _ c.args.block.now.nulls (λ v. v.items) c.in_ok-together.together c.in-None-together.is
+    (rw c.items-rows.ensures at c.in_ok-together.ensures.exact)) in
     rw (c.in_ok-together.ensures.taken, c.in_ok-alone.ensures.taken)
     (none_needed (left_of s.numbers s.taken) (map (fact_of s.numbers) c.args.block.now.rows) (fact_of s.numbers c.args.at) none)
 
@@ -68,13 +69,13 @@ take_out-requires-clause-place c =
 pub returns-clause-reduct : goal.returns-clause-reduct
 returns-clause-reduct c =
     let s = c.args.self.now in
-    let moves = same_moves s.numbers c.ask.new.self.numbers c.args.block.now.nulls c.in-Some-together._answer.items s.taken
+    let moves = same_moves s.numbers c.ask.new.self.numbers c.args.block.now.nulls _ s.taken
     c.ask.new.self.taken c.args.block.now.rows c.args.at c.in_ok-alone.ensures.numbers c.in_ok-alone.ensures.taken
-    (on_some c.in_ok-together.together c.in-Some-together._answer c.in-Some-together.is
+    (some_told c.ask.new.self.numbers _ _ _ c.args.block.now.nulls (λ v. v.items) c.in_ok-together.together _ c.in-Some.is
     (rw c.items-rows.ensures at c.in_ok-together.ensures.exact)) in
     rw (c.take_out.ensures, c.in_ok-together.ensures.taken, c.in_ok-alone.ensures.taken)
     (one_less s.numbers c.len-fit.ensures.fit c.args.block.now c.requires.block s.taken s.marks c.args.at c.requires.at
-    c.in-Some-together._answer.items moves)
+    _ moves)
 
 pub returns-clause-needed : goal.returns-clause-needed
 returns-clause-needed c =
@@ -85,14 +86,14 @@ returns-clause-needed c =
 pub returns-clause-known : goal.returns-clause-known
 returns-clause-known c =
     let s = c.args.self.now in
-    let moves = same_moves s.numbers c.ask.new.self.numbers c.args.block.now.nulls c.in-Some-together._answer.items s.taken
+    let moves = same_moves s.numbers c.ask.new.self.numbers c.args.block.now.nulls _ s.taken
     c.ask.new.self.taken c.args.block.now.rows c.args.at c.in_ok-alone.ensures.numbers c.in_ok-alone.ensures.taken
-    (on_some c.in_ok-together.together c.in-Some-together._answer c.in-Some-together.is
+    (some_told c.ask.new.self.numbers _ _ _ c.args.block.now.nulls (λ v. v.items) c.in_ok-together.together _ c.in-Some.is
     (rw c.items-rows.ensures at c.in_ok-together.ensures.exact)) in
     rw (c.take_out.ensures, c.in_ok-together.ensures.taken, c.in_ok-alone.ensures.taken)
     (known_stays s.numbers (left_of s.numbers s.taken) _ c.args.block.now.nulls c.args.known.now.items
     (one_less s.numbers c.len-fit.ensures.fit c.args.block.now c.requires.block s.taken s.marks c.args.at c.requires.at
-    c.in-Some-together._answer.items moves) c.requires.known)
+    _ moves) c.requires.known)
 
 pub returns-clause-others : goal.returns-clause-others
 returns-clause-others c =
