@@ -1,18 +1,16 @@
 -- Questions to the solver, and what they tell of facts.
-use Rattle.std.proofs.Common.{◌≡◌, ◌∙◌, ℕ, zero, suc, ◌+◌, ◌<◌, ◌^◌, Bool, true, false, List, [], ◌∷◌, inl, inr, refl, sym, ap, subst, arith, length, get_or, map}
+use Rattle.std.proofs.Common.{◌≡◌, ◌∙◌, ℕ, zero, suc, ◌<◌, ◌^◌, Bool, true, false, List, [], ◌∷◌, refl, sym, ap, subst, arith, length, get_or, map}
 use Rattle.std.specs.Prelude.{MatchOption, IfSome, Option, Some, None}
-use Rattle.std.specs.List.{AllZip}
 use Rattle.std.proofs.lemmas.List.{get_or_default, length-map}
 use Rattle.std.proofs.lemmas.Slice.Zip.{AllZip-long}
-use Rattle.dx_ports.specs.Members.{◌∈◌, ◌⊆◌, Distinct, Each, here, there}
+use Rattle.dx_ports.specs.Members.{◌∈◌, Distinct, Each}
 use Rattle.dx_ports.proofs.Members.{from_map, in_at, in_map}
 use Rattle.dx_model.specs.declared.values.NullId.{NullId}
 use Rattle.dx_model.specs.declared.values.Value.{Value}
 use Rattle.dx_model.specs.declared.values.Value.TheVariants.{Const, Null}
 use Rattle.dx_model.specs.declared.facts.Fact.{Fact}
-use Rattle.dx_model.specs.Instances.{Moves, fact_moved, given, moved}
-use Rattle.dx_model.specs.Blocks.{IsReduct}
-use Rattle.dx_instance.specs.Cells.{NumberTable, numbers_at}
+use Rattle.dx_model.specs.Instances.{fact_moved, given, moved}
+use Rattle.dx_instance.specs.Cells.{NumberTable}
 use Rattle.dx_instance.specs.Numbers.{value_of}
 use Rattle.dx_instance.specs.Places.{row_at}
 use Rattle.dx_instance.specs.Shown.{AreBelow, Numbered, NumbersFit, PartsFit, numbers_of_table, shown, shown_row}
@@ -21,17 +19,16 @@ use Rattle.dx_instance.proofs.ShownFacts.{all_fit, is_shown, number_same, row_sh
 use Rattle.dx_instance.proofs.StoredFacts.{fact_from_row}
 use Rattle.dx_blocks.specs.declared.numbered.At.{At}
 use Rattle.dx_blocks.specs.declared.numbered.NumberBlock.{NumberBlock}
-use Rattle.dx_blocks.specs.Blocks.{IsBlockOf, least}
+use Rattle.dx_blocks.specs.Blocks.{least}
 use Rattle.dx_blocks.specs.Numbered.{IsNullNumber, IsRow, fact_of, null_under, shown_block}
 use Rattle.dx_solver.specs.declared.atom.PatternAtom.{PatternAtom}
 use Rattle.dx_solver.specs.Marks.{is_out, with_mark}
 use Rattle.dx_solver.specs.Questions.{FitsAtom, Solves, Stands, answered, row_under}
-use Rattle.dx_rigid.specs.Rigid.{IsRigid}
 use Rattle.dx_core.specs.Asking.{AreAtoms, Ascend, Avoids, IsAtomOf, IsKnown, IsTermOf, MovesOff, numbers_of, pairs_by}
-use Rattle.dx_core.specs.Left.{HasMarks, fact_at, left_of, shown_by}
+use Rattle.dx_core.specs.Left.{HasMarks, left_of, shown_by}
 use Rattle.dx_core.specs.Sparing.{IsTried}
 use Rattle.dx_core.proofs.Marked.{from_left, marked_inside, marked_kept, marked_out, one_place, put_back, to_left}
-use Rattle.dx_core.proofs.Terms.{answer_of, ascend_few, is_given, null_same, number_is, number_in, stays, terms_become, terms_given, terms_within}
+use Rattle.dx_core.proofs.Terms.{answer_of, ascend_few, number_is, number_in, terms_become, terms_given, terms_within}
 use Rattle.dx_core.proofs.Tried.{its_null}
 
 abbrev no_numbers : NumberTable
@@ -220,8 +217,7 @@ module _ (N : Numbered) (fit : PartsFit N.symbols N.tables) (b : NumberBlock) (t
           let i : fact_moved g e ∈ left_of N (with_mark out at.table at.place true) =
           subst (λ (f : Fact). fact_moved g f ∈ left_of N (with_mark out at.table at.place true)) w.2
           (atom_moves N fit b.nulls w.0 a.0 a.2 (its_row w.0 w.1) (with_mark out at.table at.place true) xs t.numbers.nulls t.ascend long
-          (s.stands a.0 a.1)) in
-          (
+          (s.stands a.0 a.1)) in (
             marked_inside (shown_by N) out at.table at.place has within.0 within.1 (fact_moved g e) i,
             λ d. marked_out (shown_by N) out at.table at.place has within.0 within.1 (distinct_rows N fit)
                 (subst (λ (f : Fact). f ∈ left_of N (with_mark out at.table at.place true)) d i),

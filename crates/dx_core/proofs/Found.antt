@@ -1,15 +1,13 @@
 -- What the answer for all rows of a block tells.
-use Rattle.std.proofs.Common.{◌≡◌, ◌∙◌, ℕ, zero, suc, ◌+◌, ◌<◌, Bool, true, false, List, [], ◌∷◌, inl, inr, refl, sym, ap, subst, arith, length, get_or, map}
+use Rattle.std.proofs.Common.{◌≡◌, ◌∙◌, ℕ, ◌<◌, Bool, List, [], inl, inr, refl, sym, ap, subst, arith, length, get_or, map}
 use Rattle.std.specs.Prelude.{IfSome, MatchOption, Option, Some, None}
 use Rattle.std.proofs.lemmas.Bool.{cases_order}
 use Rattle.std.proofs.lemmas.List.{get_or_default}
 use Rattle.dx_ports.specs.Members.{◌∈◌, Each}
 use Rattle.dx_ports.proofs.Members.{contains_from_in, from_flat_map, from_map, in_at, in_map}
-use Rattle.dx_model.specs.declared.values.NullId.{NullId}
-use Rattle.dx_model.specs.declared.values.Value.{Value}
 use Rattle.dx_model.specs.declared.values.Value.TheVariants.{Null}
 use Rattle.dx_model.specs.declared.facts.Fact.{Fact}
-use Rattle.dx_model.specs.Instances.{Moves, fact_moved, given, values}
+use Rattle.dx_model.specs.Instances.{Moves, fact_moved, given}
 use Rattle.dx_model.specs.Blocks.{IsReduct}
 use Rattle.dx_instance.specs.Cells.{numbers_at}
 use Rattle.dx_instance.specs.Numbers.{value_of}
@@ -22,7 +20,6 @@ use Rattle.dx_blocks.specs.declared.numbered.NumberBlock.{NumberBlock}
 use Rattle.dx_blocks.specs.Blocks.{least}
 use Rattle.dx_blocks.specs.Numbered.{IsRow, fact_of, null_under, shown_block}
 use Rattle.dx_solver.specs.declared.atom.PatternAtom.{PatternAtom}
-use Rattle.dx_solver.specs.declared.atom.Term.TheVariants.{Variable}
 use Rattle.dx_solver.specs.Questions.{Solves, answered, number_under, row_under}
 use Rattle.dx_core.specs.Asking.{AreAtoms, Ascend, numbers_of, pairs_by}
 use Rattle.dx_core.specs.Left.{left_of, shown_by}
@@ -45,14 +42,17 @@ module _ (N : Numbered) (fit : PartsFit N.symbols N.tables) (b : NumberBlock) (t
     (atoms : List PatternAtom) (are : AreAtoms N b.nulls [] b.rows atoms) (known : List (Option ℕ)) where
   pub found : IsReduct (facts (shown_by N)) (left_of N out) → ((v n : ℕ) → ¬ (get_or known v None ≡ Some n))
       → (a : ℕ → ℕ) × Solves N.tables out atoms known a
-  found r none = (answer_of N.symbols r.moves.0 b.nulls, record {
-    stands = λ atom m.
-        let w = are.only atom m in
-        let row = t.numbers.rows w.0 w.1 in
-        atom_stands N fit b.nulls w.0 atom w.2 row out r.moves.0 (others_stay N fit b t r.moves.0 w.0 w.1)
-        (r.moves.1 (fact_of N w.0) (fact_there N fit w.0 row));
-    keeps = λ v n e. absurd (none v n e);
-  })
+  found r none = (
+    answer_of N.symbols r.moves.0 b.nulls,
+    record {
+      stands = λ atom m.
+          let w = are.only atom m in
+          let row = t.numbers.rows w.0 w.1 in
+          atom_stands N fit b.nulls w.0 atom w.2 row out r.moves.0 (others_stay N fit b t r.moves.0 w.0 w.1)
+          (r.moves.1 (fact_of N w.0) (fact_there N fit w.0 row));
+      keeps = λ v n e. absurd (none v n e);
+    },
+  )
 
   module _ (xs : List ℕ) (long : length xs ≡ length b.nulls) (s : Solves N.tables out atoms known (answered xs)) where
     pub found_moves : Moves (given (pairs_by N b.nulls xs)) (map (fact_of N) b.rows) (left_of N out)

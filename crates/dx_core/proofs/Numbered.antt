@@ -1,30 +1,26 @@
 -- Order among values is order among their numbers.
-use Rattle.std.proofs.Common.{◌≡◌, ◌∙◌, ℕ, zero, suc, ◌+◌, ◌<◌, List, [], ◌∷◌, inl, inr, refl, sym, ap, arith, length, get_or, map}
+use Rattle.std.proofs.Common.{◌≡◌, ◌∙◌, ℕ, zero, suc, ◌<◌, List, [], ◌∷◌, inl, inr, refl, sym, ap, arith, length, get_or, map}
 use Rattle.std.specs.List.{AllPairs}
-use Rattle.std.specs.Ordering.{nat_cmp, is_lt}
+use Rattle.std.specs.Ordering.{nat_cmp}
 use Rattle.std.specs.Cmp.Lexicographic.{slice_cmp}
-use Rattle.std.specs.declared.cmp.Ordering.{Ordering}
-use Rattle.std.specs.declared.cmp.Ordering.TheVariants.{Less, Equal, Greater}
+use Rattle.std.specs.declared.cmp.Ordering.TheVariants.{Less}
 use Rattle.std.proofs.lemmas.Bool.{cases_lt, cases_eq}
-use Rattle.std.proofs.lemmas.List.{get_or-map, get_or_default}
 use Rattle.std.proofs.lemmas.Cmp.{nat_cmp_total}
-use Rattle.dx_ports.specs.Members.{◌∈◌, Each, here, there}
+use Rattle.dx_ports.specs.Members.{Each, here, there}
 use Rattle.dx_ports.proofs.Members.{in_at, in_map}
 use Rattle.dx_ports.proofs.Ranges.{nat_self, nat_less}
 use Rattle.dx_model.specs.declared.values.Value.{Value}
 use Rattle.dx_model.specs.declared.values.Value.TheVariants.{Null}
-use Rattle.dx_model.specs.Values.{Ascends, NullsAscend, RowsAscend, null_cmp, row_cmp, value_cmp}
+use Rattle.dx_model.specs.Values.{Ascends, NullsAscend, RowsAscend, null_cmp, value_cmp}
 use Rattle.dx_instance.specs.Cells.{NumberTable, NumbersAscend}
 use Rattle.dx_instance.specs.Numbers.{ValuesAscend, value_of}
-use Rattle.dx_instance.specs.Shown.{AreBelow, Numbered, PartsFit, numbers_of_table, shown, shown_row, shown_tables}
+use Rattle.dx_instance.specs.Shown.{AreBelow, Numbered, PartsFit, shown_row}
 use Rattle.dx_instance.specs.Stored.{TableRows, facts, rows_of}
 use Rattle.dx_instance.proofs.ShownFacts.{is_shown, number_less, row_less}
 use Rattle.dx_ports.proofs.Members.{contains_from_in}
 use Rattle.dx_blocks.specs.Blocks.{AreBlocks}
-use Rattle.dx_blocks.specs.declared.block.Block.{Block}
 use Rattle.dx_blocks.specs.declared.numbered.NumberBlock.{NumberBlock}
 use Rattle.dx_blocks.specs.Numbered.{IsNullNumber, IsOfNumbers, null_under, shown_block}
-use Rattle.dx_core.specs.Asking.{Ascend}
 use Rattle.dx_core.specs.Left.{shown_by}
 use Rattle.dx_core.specs.Sparing.{IsTried}
 

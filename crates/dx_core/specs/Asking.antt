@@ -3,10 +3,9 @@ use Rattle.std.specs.Prelude.{◌≡◌, ◌<◌, ℕ, Bool, false, List, [], �
 use Rattle.std.specs.List.{AllZip, AllPairs}
 use Rattle.dx_model.specs.declared.values.NullId.{NullId}
 use Rattle.dx_model.specs.declared.values.Value.{Value}
-use Rattle.dx_model.specs.declared.values.Value.TheVariants.{Null}
 use Rattle.dx_model.specs.declared.facts.Fact.{Fact}
 use Rattle.dx_model.specs.declared.facts.NullPair.{NullPair}
-use Rattle.dx_model.specs.Instances.{Moves, fact_moved, given}
+use Rattle.dx_model.specs.Instances.{Moves, fact_moved}
 use Rattle.dx_ports.specs.Members.{◌∈◌, Each}
 use Rattle.dx_instance.specs.Cells.{numbers_at}
 use Rattle.dx_instance.specs.Numbers.{value_of}

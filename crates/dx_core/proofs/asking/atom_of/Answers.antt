@@ -1,5 +1,5 @@
 use Rattle.std.proofs.Common.{refl}
-use Rattle.dx_core.specs.Asking.{IsTermOf, numbers_of}
+use Rattle.dx_core.specs.Asking.{numbers_of}
 use Rattle.dx_core.proofs.Atoms.{term_more, terms_end, terms_start}
 use Rattle.dx_core.proofs.asking.atom_of.Goals as goal
 

@@ -1,4 +1,4 @@
-use Rattle.std.proofs.Common.{◌∙◌, Bool, List, ap, true, false}
+use Rattle.std.proofs.Common.{◌∙◌, Bool, List, ap, false}
 use Rattle.dx_solver.specs.Marks.{with_mark}
 use Rattle.dx_core.proofs.Asked.{back_again, few_nulls, mark_place, mark_table, told}
 use Rattle.dx_core.proofs.sparing.Reduction.ask.Goals as goal

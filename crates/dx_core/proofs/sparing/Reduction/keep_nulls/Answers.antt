@@ -1,4 +1,4 @@
-use Rattle.std.proofs.Common.{◌≡◌, ◌∙◌, Some, get_or, refl}
+use Rattle.std.proofs.Common.{◌≡◌, ◌∙◌, Some, get_or}
 use Rattle.std.proofs.Math.ListN.{length-set}
 use Rattle.dx_ports.proofs.Members.{in_at}
 use Rattle.dx_core.proofs.Spared.{is_at, known_more}

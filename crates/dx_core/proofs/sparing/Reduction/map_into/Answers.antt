@@ -1,4 +1,4 @@
-use Rattle.std.proofs.Common.{◌≡◌, ◌∙◌, ◌+◌, ◌∷◌, ℕ, List, ap, drop, map, refl, subst, sym}
+use Rattle.std.proofs.Common.{◌≡◌, ◌+◌, ℕ, List, drop, map, refl, subst}
 use Rattle.std.specs.Prelude.{IfSome, None, Option, Some}
 use Rattle.dx_ports.proofs.Loops.{each_item}
 use Rattle.dx_ports.proofs.Members.{from_map}
@@ -7,13 +7,11 @@ use Rattle.dx_model.specs.declared.facts.Fact.{Fact}
 use Rattle.dx_instance.specs.Shown.{Numbered}
 use Rattle.dx_instance.specs.NullMaps.{becomes}
 use Rattle.dx_model.specs.Instances.{Moves, given}
-use Rattle.dx_blocks.specs.declared.block.Block.{Block}
-use Rattle.dx_blocks.specs.declared.numbered.NumberBlock.{NumberBlock}
 use Rattle.dx_blocks.specs.Numbered.{fact_of, null_under, shown_block}
 use Rattle.dx_core.specs.Asking.{pairs_by}
 use Rattle.dx_core.specs.Left.{left_of, shown_by}
 use Rattle.dx_core.specs.Sparing.{IsTried}
-use Rattle.dx_core.proofs.Mapped.{IsMapped, mapped_listed, mapped_more, mapped_moves, mapped_null_map, mapped_start, next_shown, none_shown}
+use Rattle.dx_core.proofs.Mapped.{mapped_listed, mapped_more, mapped_moves, mapped_null_map, mapped_start, next_shown, none_shown}
 use Rattle.dx_core.proofs.sparing.Reduction.map_into.Goals as goal
 use Rattle.dx_core.proofs.sparing.Reduction.map_into.Goals.{in-Some+in_ok-give_all, in_default}
 

@@ -4,11 +4,10 @@ use Rattle.dx_ports.specs.Members.{Each}
 use Rattle.dx_model.proofs.Reduction.{reduct_of_reduct}
 use Rattle.dx_instance.specs.Shown.{Numbered}
 use Rattle.dx_instance.specs.Stored.{facts}
-use Rattle.dx_blocks.specs.declared.block.Block.{Block}
 use Rattle.dx_blocks.specs.declared.numbered.NumberBlock.{NumberBlock}
 use Rattle.dx_blocks.specs.Numbered.{shown_block}
 use Rattle.dx_core.specs.Left.{left_of, shown_by}
-use Rattle.dx_core.specs.Sparing.{IsLeftOrIn, IsTried}
+use Rattle.dx_core.specs.Sparing.{IsLeftOrIn}
 use Rattle.dx_core.proofs.Passed.{all_to_try, core_left, each_more, last_in, needed_more, none_left, others_in, rest_more}
 use Rattle.dx_core.proofs.sparing.Reduction.spare_blocks.Goals as goal
 

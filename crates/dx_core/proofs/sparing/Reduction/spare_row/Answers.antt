@@ -37,8 +37,8 @@ returns-in-None-clause-known c =
     let keeps = rw (c.in_ok-alone.ensures.numbers, c.items-nulls.ensures) at c.keep_nulls.ensures in
     rw c.in_ok-alone.ensures.taken
     (keeps (left_of s.numbers s.taken) (λ x i j.
-        nulls_kept s.numbers c.len-fit.ensures.fit c.args.at (c.requires.block.numbers.rows c.args.at c.requires.at)
-        (left_of s.numbers s.taken) none x i (c.requires.block.numbers.nulls x j)) c.requires.known)
+    nulls_kept s.numbers c.len-fit.ensures.fit c.args.at (c.requires.block.numbers.rows c.args.at c.requires.at)
+    (left_of s.numbers s.taken) none x i (c.requires.block.numbers.nulls x j)) c.requires.known)
 
 pub returns-in-None-together-clause-reduct : goal.returns-in-None-together-clause-reduct
 returns-in-None-together-clause-reduct c =
