@@ -37,7 +37,8 @@ pub record IsAtomOf (N : Numbered) (nulls : List ℕ) (at : At) (atom : PatternA
   pub terms : AllZip (IsTermOf nulls) (numbers_of N at) atom.terms
 
 -- the atoms of those of the rows that are not taken out
-pub record AreAtoms (N : Numbered) (nulls : List ℕ) (out : List (List Bool)) (rows : List At) (atoms : List PatternAtom) : Type 0 where
+pub record AreAtoms (N : Numbered) (nulls : List ℕ) (out : List (List Bool)) (rows : List At) (atoms : List PatternAtom)
+    : Type 0 where
   pub only : Each atoms (λ atom. (at : At) × (at ∈ rows) × IsAtomOf N nulls at atom × (is_out out at.table at.place ≡ false))
   pub all : Each rows (λ at. is_out out at.table at.place ≡ false → (atom : PatternAtom) × (atom ∈ atoms) × IsAtomOf N nulls at atom)
 

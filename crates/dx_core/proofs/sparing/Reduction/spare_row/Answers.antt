@@ -4,7 +4,7 @@ use Rattle.dx_model.proofs.Reduction.{reduct_itself}
 use Rattle.dx_blocks.specs.Numbered.{fact_of}
 use Rattle.dx_core.specs.Left.{left_of}
 use Rattle.dx_core.proofs.Asked.{mark_place, mark_table, row_left}
-use Rattle.dx_core.proofs.Spared.{gone_needed, known_stays, none_needed, nulls_kept, none_told, one_less, only_row, others_left, same_avoids, same_moves, some_told}
+use Rattle.dx_core.proofs.Spared.{alone_same, gone_needed, known_stays, none_needed, nulls_kept, none_told, one_less, only_row, others_left, same_avoids, same_moves, some_told}
 use Rattle.dx_core.proofs.sparing.Reduction.spare_row.Goals as goal
 
 pub returns-then-has-clause-reduct : goal.returns-then-has-clause-reduct
@@ -40,6 +40,12 @@ returns-in-None-clause-known c =
     nulls_kept s.numbers c.len-fit.ensures.fit c.args.at (c.requires.block.numbers.rows c.args.at c.requires.at)
     (left_of s.numbers s.taken) none x i (c.requires.block.numbers.nulls x j)) c.requires.known)
 
+pub ask_all-requires-clause-alone : goal.ask_all-requires-clause-alone
+ask_all-requires-clause-alone c =
+    let s = c.args.self.now in
+    alone_same s.numbers c.ask.new.self.numbers s.taken c.ask.new.self.taken c.args.block.now.nulls (λ v. v.items) c.in_ok-alone.alone c.args.at
+    c.in_ok-alone.ensures.numbers c.in_ok-alone.ensures.taken (rw c.from_ref.ensures.value at c.in_ok-alone.ensures.exact)
+
 pub returns-in-None-together-clause-reduct : goal.returns-in-None-together-clause-reduct
 returns-in-None-together-clause-reduct c =
     rw (c.in_ok-together.ensures.taken, c.in_ok-alone.ensures.taken) (reduct_itself (left_of c.args.self.now.numbers c.args.self.now.taken))
@@ -50,7 +56,7 @@ returns-in-None-together-clause-needed c =
     let none = same_avoids s.numbers c.ask.new.self.numbers s.taken c.ask.new.self.taken c.args.block.now.rows c.args.at
     c.in_ok-alone.ensures.numbers c.in_ok-alone.ensures.taken
     (none_told c.ask.new.self.numbers _ _ _ c.args.block.now.nulls (λ v. v.items) c.in_ok-together.together c.in-None-together.is
-    (rw c.items-rows.ensures at c.in_ok-together.ensures.exact)) in
+    c.in_ok-together.ensures.exact) in
     rw (c.in_ok-together.ensures.taken, c.in_ok-alone.ensures.taken)
     (none_needed (left_of s.numbers s.taken) (map (fact_of s.numbers) c.args.block.now.rows) (fact_of s.numbers c.args.at) none)
 
@@ -66,37 +72,37 @@ take_out-requires-clause-place c =
     rw (c.in_ok-together.ensures.taken, c.in_ok-alone.ensures.taken)
     (mark_place s.numbers c.len-fit.ensures.fit s.taken c.args.at s.marks (c.requires.block.numbers.rows c.args.at c.requires.at))
 
-pub returns-clause-reduct : goal.returns-clause-reduct
-returns-clause-reduct c =
+pub returns-in-Some-clause-reduct : goal.returns-in-Some-clause-reduct
+returns-in-Some-clause-reduct c =
     let s = c.args.self.now in
     let moves = same_moves s.numbers c.ask.new.self.numbers c.args.block.now.nulls _ s.taken
     c.ask.new.self.taken c.args.block.now.rows c.args.at c.in_ok-alone.ensures.numbers c.in_ok-alone.ensures.taken
     (some_told c.ask.new.self.numbers _ _ _ c.args.block.now.nulls (λ v. v.items) c.in_ok-together.together _ c.in-Some.is
-    (rw c.items-rows.ensures at c.in_ok-together.ensures.exact)) in
+    c.in_ok-together.ensures.exact) in
     rw (c.take_out.ensures, c.in_ok-together.ensures.taken, c.in_ok-alone.ensures.taken)
     (one_less s.numbers c.len-fit.ensures.fit c.args.block.now c.requires.block s.taken s.marks c.args.at c.requires.at
     _ moves)
 
-pub returns-clause-needed : goal.returns-clause-needed
-returns-clause-needed c =
+pub returns-in-Some-clause-needed : goal.returns-in-Some-clause-needed
+returns-in-Some-clause-needed c =
     let s = c.args.self.now in
     rw (c.take_out.ensures, c.in_ok-together.ensures.taken, c.in_ok-alone.ensures.taken)
     (gone_needed s.numbers c.len-fit.ensures.fit c.args.block.now c.requires.block s.taken s.marks c.args.at c.requires.at)
 
-pub returns-clause-known : goal.returns-clause-known
-returns-clause-known c =
+pub returns-in-Some-clause-known : goal.returns-in-Some-clause-known
+returns-in-Some-clause-known c =
     let s = c.args.self.now in
     let moves = same_moves s.numbers c.ask.new.self.numbers c.args.block.now.nulls _ s.taken
     c.ask.new.self.taken c.args.block.now.rows c.args.at c.in_ok-alone.ensures.numbers c.in_ok-alone.ensures.taken
     (some_told c.ask.new.self.numbers _ _ _ c.args.block.now.nulls (λ v. v.items) c.in_ok-together.together _ c.in-Some.is
-    (rw c.items-rows.ensures at c.in_ok-together.ensures.exact)) in
+    c.in_ok-together.ensures.exact) in
     rw (c.take_out.ensures, c.in_ok-together.ensures.taken, c.in_ok-alone.ensures.taken)
     (known_stays s.numbers (left_of s.numbers s.taken) _ c.args.block.now.nulls c.args.known.now.items
     (one_less s.numbers c.len-fit.ensures.fit c.args.block.now c.requires.block s.taken s.marks c.args.at c.requires.at
     _ moves) c.requires.known)
 
-pub returns-clause-others : goal.returns-clause-others
-returns-clause-others c =
+pub returns-in-Some-clause-others : goal.returns-in-Some-clause-others
+returns-in-Some-clause-others c =
     let s = c.args.self.now in
     rw (c.take_out.ensures, c.in_ok-together.ensures.taken, c.in_ok-alone.ensures.taken)
     (others_left s.numbers c.len-fit.ensures.fit c.args.block.now c.requires.block s.taken s.marks c.args.at c.requires.at)
