@@ -1,0 +1,7 @@
+use Rattle.std.proofs.Common.{take}
+use Rattle.std.specs.List.{AllZip}
+use Rattle.dx_core.specs.Asking.{IsTermOf, numbers_of}
+use Rattle.dx_core.proofs.asking.atom_of.Given as goal
+
+abbrev pub invariant-loop-number : goal.invariant-loop-number
+invariant-loop-number l = AllZip (IsTermOf l.nulls) (take l.number-index (numbers_of l.numbers l.at)) l.terms
