@@ -5,7 +5,6 @@ use Rattle.std.specs.Prelude.{IfOk}
 use Rattle.std.specs.declared.alloc.AllocError.{AllocError}
 use Rattle.std.proofs.lemmas.Grind.{flat_map-append}
 use Rattle.std.proofs.lemmas.List.{append-nil, length-map, map-append, take_more, take_all}
-use Rattle.dx_ports.proofs.Members.{in_at}
 use Rattle.dx_ports.specs.declared.file.File.{File}
 use Rattle.dx_ports.specs.Entries.{entry_of, entries_of}
 use Rattle.dx_model.specs.declared.values.NullId.{NullId}
@@ -19,7 +18,6 @@ use Rattle.dx_model.specs.Rules.{exported}
 use Rattle.dx_model.specs.Values.{Text, Rows}
 use Rattle.dx_instance.specs.Stored.{TableRows, rows_of}
 use Rattle.dx_schema.specs.Tables.{TableOf}
-use Rattle.dx_tgd.specs.Placed.{FitTuples, HasPlace}
 use Rattle.dx_tgd.proofs.Lending.{get_map}
 use Rattle.clio_files.specs.declared.printed.Printed.{Printed}
 use Rattle.clio_files.specs.Files.{AreTableFiles, IsTableFile, files_of, line_of, seen, summary_of}
@@ -150,18 +148,11 @@ terms_more n xs ts rs i d h e =
     ∙ (term_append n ys y ts (omega (arith, many, h, e)) ∙ ap (λ (k : ℕ). term_records n ys ts ++ record_at k ∷ []) many) in
     append_assoc rs (term_records n ys ts) (record_at i ∷ []) ∙ ap (λ (l : List (List Text)). rs ++ l) (sym one)
 
--- the tuple of the place of a null has a text for each exported variable of its rule
-pub tuple_long : (R : List Rule) (rows : Rows) (n : NullId) → FitTuples R rows → length rows ≡ length R → HasPlace R rows n
-    → length (texts_of rows n) ≡ length (exported (rule_of R n))
-tuple_long R rows n fit one p = at R rows n.rule fit one p.rule p.place
-  where
-    at : (R : List Rule) (rows : Rows) (i : ℕ) → FitTuples R rows → length rows ≡ length R → i < length R
-        → n.row < length (get_or rows i [])
-        → length (get_or (get_or rows i []) n.row []) ≡ length (exported (get_or R i (record { premise = []; derived = []; conclusion = [] })))
-    at [] rows i fit one h p = absurd (omega (arith, h))
-    at (d ∷ R) [] i fit one h p = absurd (omega (arith, one))
-    at (d ∷ R) (ts ∷ rows) zero fit one h p = fit.0 _ (in_at ts n.row [] p)
-    at (d ∷ R) (ts ∷ rows) (suc i) fit one h p = at R rows i fit.1 (omega (arith, one)) (omega (arith, h)) p
+-- a rule with a place has a list of tuples
+pub has_list : (rows : Rows) (i k : ℕ) → k < length (get_or rows i []) → i < length rows
+has_list [] i k h = absurd (omega (arith, h))
+has_list (ts ∷ rows) zero k h = omega arith
+has_list (ts ∷ rows) (suc i) k h = let r = has_list rows i k h in omega (arith, r)
 
 -- one pair of the fold more
 pub fold_more : (pairs : List NullPair) (i : ℕ) (p : NullPair) → i < length pairs → p ≡ get_or pairs i p

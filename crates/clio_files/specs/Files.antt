@@ -16,13 +16,12 @@ use Rattle.dx_schema.specs.Forest.{Forest}
 use Rattle.dx_schema.specs.Tables.{TableOf, schema_widths, tables_of}
 use Rattle.dx_csv.specs.Print.{HasNoMark, IsTableText}
 use Rattle.dx_funcs.specs.declared.conversion.Conversion.{Conversion}
-use Rattle.dx_tgd.specs.Placed.{FitTuples, HasPlace}
 use Rattle.dx_exchange.specs.declared.mode.Mode.{Mode}
 use Rattle.dx_exchange.specs.declared.result.Exchange.{Exchange}
 use Rattle.clio_source.specs.Source.{csv_name, roots}
 use Rattle.clio_files.specs.declared.printed.Printed.{Printed}
 use Rattle.clio_files.specs.Nested.{AreRootFiles}
-use Rattle.clio_files.specs.Sheets.{AreNulls, Told, file_of, fold_sheet, nulls_sheet}
+use Rattle.clio_files.specs.Sheets.{AreNulls, HasTexts, Told, file_of, fold_sheet, nulls_sheet}
 use Rattle.clio_files.specs.Texts.{texts_told}
 
 -- the file of a table: its text, with as many records as it has rows
@@ -68,13 +67,11 @@ abbrev pub contents_of : List Told → Text
 contents_of files = flat_map (λ (f : Told). f.bytes) files
 
 -- The target has the tables of its schema; no table's text begins with a byte order mark; and for each null of the target the
--- matches have its place, with a text for each exported variable of its rule.
+-- matches have its place, with as many texts as its rule has exported variables.
 pub record FitsFiles (R : List Rule) (target : Forest) (e : Exchange) : Type 0 where
   pub widths_are : widths e.target ≡ schema_widths target
   pub no_marks : Each (tables_of target) (λ (t : TableOf). HasNoMark t.columns)
-  pub places : (n : NullId) → Null n ∈ values (facts e.target) → HasPlace R e.matches n
-  pub tuples : FitTuples R e.matches
-  pub one_each : length e.matches ≡ length R
+  pub places : (n : NullId) → Null n ∈ values (facts e.target) → HasTexts R e.matches n
 
 -- ---- what the code has
 

@@ -1,5 +1,5 @@
 -- Files of records: what nulls stand for, and what becomes of them.
-use Rattle.std.specs.Prelude.{◌↔◌, ℕ, List, [], ◌∷◌, ◌++◌, length, map, codes, slice_index_or}
+use Rattle.std.specs.Prelude.{◌≡◌, ◌↔◌, ℕ, List, [], ◌∷◌, ◌++◌, length, map, codes, slice_index_or}
 use Rattle.std.specs.List.{flat_map}
 use Rattle.std.specs.Fmt.{decimal}
 use Rattle.dx_ports.specs.Members.{◌∈◌}
@@ -12,6 +12,7 @@ use Rattle.dx_model.specs.Values.{NullsAscend, Rows, Text, Tuple}
 use Rattle.dx_model.specs.Instances.{values}
 use Rattle.dx_model.specs.Rules.{exported}
 use Rattle.dx_instance.specs.ValueText.{const_text, null_text, value_text_of}
+use Rattle.dx_tgd.specs.Placed.{HasPlace}
 use Rattle.dx_csv.specs.Print.{lines_text}
 
 -- a file as it is told of: its name, its bytes and its count
@@ -50,6 +51,11 @@ rule_of R n = slice_index_or R n.rule (record { premise = []; derived = []; conc
 
 abbrev pub texts_of : Rows → NullId → Tuple
 texts_of rows n = slice_index_or (slice_index_or rows n.rule []) n.row []
+
+-- the null names a rule and a place of it, and at this place there is a text for each exported variable of the rule
+pub record HasTexts (R : List Rule) (rows : Rows) (n : NullId) : Type 0 where
+  pub place : HasPlace R rows n
+  pub wide : length (texts_of rows n) ≡ length (exported (rule_of R n))
 
 -- what each null stands for: its rule and variable are in its name, and these are the exported values of its place
 abbrev pub nulls_sheet : List Rule → Rows → List NullId → Sheet

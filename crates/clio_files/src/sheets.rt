@@ -5,10 +5,9 @@ ghost use Rattle.dx_model.specs.Rules.{exported as exported_of};
 ghost use Rattle.dx_instance.specs.NullMaps.{pairs_of};
 ghost use Rattle.dx_instance.specs.ValueText.{const_text, null_text, value_text_of};
 ghost use Rattle.dx_csv.specs.Lines.{IsPlain};
-ghost use Rattle.dx_tgd.specs.Placed.{FitTuples, HasPlace};
 ghost use Rattle.clio_files.specs.Files.{seen};
 ghost use Rattle.clio_files.specs.Printing.{AreRecords};
-ghost use Rattle.clio_files.specs.Sheets.{Sheet, file_of, fold_sheet, nulls_sheet, term_records, texts_of, variable_text};
+ghost use Rattle.clio_files.specs.Sheets.{HasTexts, Sheet, file_of, fold_sheet, nulls_sheet, term_records, texts_of, variable_text};
 
 use crate::printed::Printed;
 use crate::records::Records;
@@ -114,9 +113,7 @@ pub(crate) fn nulls_file(
     matches: &RuleMatches,
     nulls: &[NullId],
 ) -> Result<Printed, AllocError>
-    requires one_each { length matches.now ≡ length rules.now }
-    requires tuples { FitTuples rules.now matches.now }
-    requires places { Each nulls.now (HasPlace rules.now matches.now) }
+    requires { Each nulls.now (HasTexts rules.now matches.now) }
     ensures { IfOk result (λ p. seen p ≡ file_of (nulls_sheet rules.now matches.now nulls.now)) }
 {
     let lists = all_exported(alloc, rules)?;

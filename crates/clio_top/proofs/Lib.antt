@@ -15,4 +15,5 @@ pub mod Asking
 pub mod Reasons
 pub mod Completing
 pub mod Leaving
+pub mod Writing
 pub mod Examples

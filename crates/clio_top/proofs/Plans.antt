@@ -37,6 +37,7 @@ use Rattle.clio_accept.specs.Laws.{MappingFits}
 use Rattle.clio_source.specs.declared.fault.SourceRefusal.{SourceRefusal}
 use Rattle.clio_source.specs.Source.{source_stages}
 use Rattle.clio_files.specs.Files.{FitsFiles}
+use Rattle.clio_files.specs.Sheets.{rule_of, texts_of}
 use Rattle.clio_files.specs.Texts.{FitTexts}
 use Rattle.clio_top.specs.declared.command.Command.{Command}
 use Rattle.clio_ending.specs.declared.ending.Done.{Done}
@@ -95,15 +96,31 @@ rules_fit P M h = let few = h.few in record { few = omega (arith, few); listed =
 pub texts_fit : (P : Program) (M : Mapping) → MappingFits P.list M → FitTexts M.source M.target P.list M.rules
 texts_fit P M h = let few = h.few in record { few = omega (arith, few); fit = h.fit; listed = h.listed }
 
+-- the tuple of the place of a null has a text for each exported variable of its rule
+tuple_long : (R : List Rule) (rows : Rows) (n : NullId) → FitTuples R rows → length rows ≡ length R → HasPlace R rows n
+    → length (texts_of rows n) ≡ length (exported (rule_of R n))
+tuple_long R rows n fit one p = at R rows n.rule fit one p.rule p.place
+  where
+    at : (R : List Rule) (rows : Rows) (i : ℕ) → FitTuples R rows → length rows ≡ length R → i < length R
+        → n.row < length (get_or rows i [])
+        → length (get_or (get_or rows i []) n.row []) ≡ length (exported (get_or R i (record { premise = []; derived = []; conclusion = [] })))
+    at [] rows i fit one h p = absurd (omega (arith, h))
+    at (d ∷ R) [] i fit one h p = absurd (omega (arith, one))
+    at (d ∷ R) (ts ∷ rows) zero fit one h p = fit.0 _ (in_at ts n.row [] p)
+    at (d ∷ R) (ts ∷ rows) (suc i) fit one h p = at R rows i fit.1 (omega (arith, one)) (omega (arith, h)) p
+
 pub files_fit : (P : Program) (mode : Mode) (M : Mapping) (I : List TableRows) (e : Exchange) → MappingFits P.list M → IsExchange P.apply (asked mode (M, I)) e → FitsFiles M.rules M.target e
 files_fit P mode M I e h x = record {
   widths_are = x.widths_are ∙ model_widths M.target;
   no_marks = no_marks M.target h.target_names;
   places = λ n m.
       let w = from_flat_map (λ (f : Fact). f.row) (canonical 0 M.rules e.matches) (x.nulls n m) in
-      nulls_have_places M.rules e.matches w.0 n w.1 w.2;
-  tuples = fit_tuples P.apply M.rules (facts I) e.matches x.matches;
-  one_each = one_each P.apply M.rules (facts I) e.matches x.matches;
+      let p = nulls_have_places M.rules e.matches w.0 n w.1 w.2 in
+      let fit = fit_tuples P.apply M.rules (facts I) e.matches x.matches in
+      let one = one_each P.apply M.rules (facts I) e.matches x.matches in record {
+        place = p;
+        wide = tuple_long M.rules e.matches n fit one p;
+      };
 }
 
 -- each fact of the target has a value

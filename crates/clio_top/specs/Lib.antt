@@ -5,3 +5,4 @@ pub mod Commands
 pub mod Promises
 pub mod Completing
 pub mod Leaving
+pub mod FilesOf

@@ -3,6 +3,7 @@ ghost use Rattle.clio_top.specs.Promises.{AskedInOrder, ClashesAreOfTexts, Demos
 ghost use Rattle.clio_top.specs.Promises.{FilesHaveOwnNames, MemoryIsNoReason, NoSolutionIsAClash, RefusedOrPlanned};
 ghost use Rattle.clio_top.specs.Promises.{ShownAreOfTexts, UsageIsOfWords};
 ghost use Rattle.clio_top.specs.Completing.{DemoIsAClash, DemoIsPlanned, MappingIsShown, SmallIsPlanned, SolutionIsPlanned};
+ghost use Rattle.clio_top.specs.FilesOf.{ExchangesCanBeWritten};
 
 /// There is one reason to refuse a run, or a plan, and never both.
 pub fn refused_or_planned()
@@ -43,6 +44,11 @@ pub fn an_exchange_is_planned()
 pub fn usage_is_of_words()
     ensures usage { UsageIsOfWords }
     ensures memory { MemoryIsNoReason }
+{}
+
+/// The call `files` takes the exchange of any rows under a mapping that fits, as each accepted one does.
+pub fn exchanges_can_be_written()
+    ensures { ExchangesCanBeWritten }
 {}
 
 /// No two files that an exchange writes have one name.

@@ -5,12 +5,13 @@
 //! there is a look-up from names to bytes, which is what the inputs hold if they tell, in which the run ended so for its reason, and
 //! it left what it had to. More clauses say what a finished exchange, a mapping that is shown, a demo and a clash come to
 //! (specs/Promises), what a run leaves that is not done (specs/Leaving), and what comes if nothing outside fails (specs/Completing).
-//! Endings and their messages are those of `clio_ending`.
+//! `files` makes the files of an exchange alone (specs/FilesOf). Endings and their messages are those of `clio_ending`.
 #![tactic(auto)]
 
 mod command;
 mod demo;
 mod demo_inputs;
+mod file_list;
 mod laws;
 mod mapping;
 mod numeral;
@@ -21,8 +22,10 @@ mod top;
 pub use clio_accept::{AcceptFault, MapFault, Mapping, accept};
 pub use clio_ending::{Done, Ending, message};
 pub use clio_source::RowsFault;
+pub use file_list::files;
 pub use laws::{
-    an_exchange_is_planned, clash_exactly_without_solution, files_have_own_names, over_anything,
-    planned_if_there_is_something, refused_or_planned, usage_is_of_words,
+    an_exchange_is_planned, clash_exactly_without_solution, exchanges_can_be_written,
+    files_have_own_names, over_anything, planned_if_there_is_something, refused_or_planned,
+    usage_is_of_words,
 };
 pub use top::run;

@@ -190,19 +190,22 @@ where
     requires serves { Serves F.Fn M.apply host.now }
     ensures exchanged { (e : ExchangeOf) → result ≡ DoneEnding (Exchanged e) → (c : World) × IsOf (I.holds inputs.old) c
         × IsDone (program (offered host.now) M.apply) c words.now.items e
-        (record { files = O.files outputs.old; said = O.said outputs.old }) (record { files = O.files outputs.new; said = O.said outputs.new }) }
+        (record { files = O.files outputs.old; said = O.said outputs.old })
+        (record { files = O.files outputs.new; said = O.said outputs.new }) }
     ensures shown { result ≡ DoneEnding Shown → (c : World) × IsOf (I.holds inputs.old) c
         × IsShown (program (offered host.now) M.apply) c words.now.items
-        (record { files = O.files outputs.old; said = O.said outputs.old }) (record { files = O.files outputs.new; said = O.said outputs.new }) }
+        (record { files = O.files outputs.old; said = O.said outputs.old })
+        (record { files = O.files outputs.new; said = O.said outputs.new }) }
     ensures demo { (e : ExchangeOf) → result ≡ DoneEnding (Demo e)
         → IsDemo (program (offered host.now) M.apply) words.now.items e
-        (record { files = O.files outputs.old; said = O.said outputs.old }) (record { files = O.files outputs.new; said = O.said outputs.new }) }
+        (record { files = O.files outputs.old; said = O.said outputs.old })
+        (record { files = O.files outputs.new; said = O.said outputs.new }) }
     ensures clash { (k : ClashOf) (table : List ℕ) (key : List (List ℕ)) (column : List ℕ) → result ≡ ClashEnding k table key column
         → (c : World) × IsOf (I.holds inputs.old) c
         × IsClashOf (program (offered host.now) M.apply) c words.now.items k table key column }
     ensures left { (c : World) × IsOf (I.holds inputs.old) c × Leaves (program (offered host.now) M.apply) c words.now.items
-        (record { files = O.files outputs.old; said = O.said outputs.old }) (record { files = O.files outputs.new; said = O.said outputs.new })
-        result }
+        (record { files = O.files outputs.old; said = O.said outputs.old })
+        (record { files = O.files outputs.new; said = O.said outputs.new }) result }
     ensures complete { (m : Held) → I.holds inputs.old ≡ Some m → ¬ (Rose (I.faults inputs.old) (I.faults inputs.new))
         → ¬ (Rose (O.faults outputs.old) (O.faults outputs.new))
         → Completes (program (offered host.now) M.apply) (λ n. get m n) words.now.items result }

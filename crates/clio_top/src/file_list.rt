@@ -1,0 +1,44 @@
+// The files of an exchange.
+ghost use Rattle.std.specs.Prelude.{◌≡◌, IfOk};
+ghost use Rattle.dx_funcs.specs.Serving.{offered};
+ghost use Rattle.dx_instance.specs.Stored.{widths};
+ghost use Rattle.dx_ports.specs.Entries.{entries_of};
+ghost use Rattle.dx_schema.specs.Tables.{schema_widths};
+ghost use Rattle.clio_files.specs.Texts.{FitTexts};
+ghost use Rattle.clio_top.specs.FilesOf.{AreFilesOf, HaveColumnNames, NullsHaveTexts};
+
+use clio_accept::Mapping;
+use clio_files::{into_files, print_files};
+use dx_exchange::{Exchange, Mode};
+use dx_funcs::{Host, Meaning};
+use dx_ports::{File, Items, Text};
+use std::alloc::{AllocError, Global};
+
+/// The files that `exchange` puts, in order: `rules.txt`, `script.sql` in this mode, a table for each target table, `nulls.csv`,
+/// `fold.csv`, and with `nested` a document for each target root.
+///
+/// # Errors
+///
+/// Out of memory.
+pub fn files<F, M>(
+    alloc: Global,
+    mapping: &Mapping,
+    exchange: &Exchange,
+    mode: Mode,
+    nested: bool,
+    host: &Host<F, M>,
+) -> Result<Vec<File>, AllocError>
+where
+    F: Fn(u32, &Items<Text>) -> Result<Text, AllocError>,
+    M: Meaning,
+    requires rules { FitTexts mapping.now.source mapping.now.target (offered host.now) mapping.now.rules }
+    requires names { HaveColumnNames mapping.now.target }
+    requires widths { widths exchange.now.target ≡ schema_widths mapping.now.target }
+    requires nulls { NullsHaveTexts mapping.now exchange.now }
+    ensures { IfOk result (λ fs. AreFilesOf (offered host.now) mode nested mapping.now exchange.now (entries_of fs.items)) }
+{
+    let rules = mapping.rules.items();
+    let Mapping { source, target, .. } = mapping;
+    let printed = print_files(alloc, rules, source, target, exchange, host, mode, nested)?;
+    into_files(alloc, printed)
+}
