@@ -29,11 +29,11 @@ fn file(alloc: Global, name: &str, bytes: &[u8]) -> Result<File, AllocError> {
     Ok(File { name, bytes })
 }
 
-/// A mapping and a row.
+/// A mapping and two rows.
 fn files(alloc: Global) -> Result<Vec<File>, AllocError> {
     let mut files = Vec::new(alloc);
     files.push(file(alloc, "mapping.clio", PEOPLE.as_bytes())?)?;
-    files.push(file(alloc, "emp.csv", b"name\nann\n")?)?;
+    files.push(file(alloc, "emp.csv", b"name\nann\nbob\n")?)?;
     Ok(files)
 }
 
@@ -138,10 +138,10 @@ fn each_read_can_fail(rt: HostRuntime) -> Result<(), Fail> {
 const FILES: [&str; 6] = [
     "== rules.txt\nrule emp(x0) -> person(x0, y0);\n",
     "== script.sql\nCREATE TABLE target.\"person\" (\"name\" TEXT, \"phone\" TEXT);\nCREATE TABLE m0 AS SELECT DISTINCT a0.\"name\" AS c0 FROM source.\"emp\" AS a0;\nINSERT INTO target.\"person\" SELECT m.c0, SKOLEM(0, 0, m.place) FROM m0 AS m;\n",
-    "== person.csv\nname,phone\nann,?0.0.0\n",
-    "== nulls.csv\nnull,variable,value\n?0.0.0,x0,ann\n",
+    "== person.csv\nname,phone\nann,?0.0.0\nbob,?0.0.1\n",
+    "== nulls.csv\nnull,variable,value\n?0.0.0,x0,ann\n?0.0.1,x0,bob\n",
     "== fold.csv\nnull,value\n",
-    "rules.txt 1\nscript.sql 3\nperson.csv 1\nnulls.csv 1\nfold.csv 0\n",
+    "rules.txt 1\nscript.sql 3\nperson.csv 2\nnulls.csv 2\nfold.csv 0\n",
 ];
 
 /// The first files in their order, so many, and after them what is said.
@@ -177,6 +177,27 @@ fn each_write_can_fail(rt: HostRuntime) -> Result<(), Fail> {
     for number in 0..7 {
         assert!(rt; leaves_the_files_before(alloc, number)?);
     }
+    Ok(())
+}
+
+/// Whether a run whose summary is cut after seven bytes is told so, and leaves all files and these.
+fn leaves_a_part(alloc: Global) -> Result<bool, AllocError> {
+    let mut outputs = MemOutputs::cutting(alloc, vec![in alloc; 5]?, 7);
+    let ending = ending(alloc, "exchange", Vec::new(alloc), &mut outputs)?;
+    let message = message(alloc, &ending)?;
+    let mut files = first_files(alloc, 5)?;
+    files.push_str("rules.t")?;
+    let left = left(alloc, &outputs)?;
+    Ok(
+        ending.status() == 8
+            && message.as_str() == "write fault: 5 files written"
+            && left.as_slice() == files.as_bytes(),
+    )
+}
+
+#[test]
+fn a_part_of_the_summary_can_be_said(rt: HostRuntime) -> Result<(), Fail> {
+    assert!(rt; leaves_a_part(rt.alloc())?);
     Ok(())
 }
 
