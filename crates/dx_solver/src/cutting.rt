@@ -7,7 +7,7 @@ ghost use Rattle.dx_solver.specs.Questions.{FitsAtom, Stands};
 ghost use Rattle.dx_solver.specs.declared.domain.Domain.TheVariants.{Any};
 ghost use Rattle.dx_solver.specs.declared.atom.Term.TheVariants.{Variable};
 
-use crate::atom::PatternAtom;
+use crate::atom::{PatternAtom, Term};
 use crate::domain::Domain;
 use crate::node::Node;
 use crate::question::Question;
@@ -70,6 +70,49 @@ fn cut_column(
     Ok(())
 }
 
+/// Up to how many rows a table is gone through for an atom of which no number is known, though one of its variables has a list.
+const NARROW: u32 = 64;
+
+/// Whether one number is left of a term.
+pub(crate) fn is_known(domains: &[Domain], term: Term) -> bool {
+    match term {
+        Term::Number(_) => true,
+        Term::Variable(variable) => match domains.get(variable as usize) {
+            Some(Domain::One(_)) => true,
+            _ => false,
+        },
+    }
+}
+
+// Whether a term has a list of numbers.
+fn has_list(domains: &[Domain], term: Term) -> bool {
+    match term {
+        Term::Number(_) => false,
+        Term::Variable(variable) => match domains.get(variable as usize) {
+            Some(Domain::Many(_)) => true,
+            _ => false,
+        },
+    }
+}
+
+// Whether the atom waits: to find its rows takes a look at each row of a large table, and one of its variables has a list, so that
+// a number is tried first.
+fn waits(question: &Question<'_, '_>, domains: &[Domain], atom: &PatternAtom) -> bool
+    requires { atom.now.table < length question.now.numbers.now.tables }
+{
+    if question.numbers.count(atom.table) <= NARROW {
+        return false;
+    }
+    let mut is_listed = false;
+    for term in atom.terms.items() {
+        if is_known(domains, *term) {
+            return false;
+        }
+        is_listed = is_listed || has_list(domains, *term);
+    }
+    is_listed
+}
+
 /// Cuts the domains of an atom's variables to the numbers that they have in rows that the atom can be. Says whether there is
 /// such a row, and adds the variables that changed to a list.
 ///
@@ -90,6 +133,9 @@ pub(crate) fn cut(
     ensures many { IfOk result (λ _. length domains.new.items ≡ length domains.old.items) }
     ensures lighter { IfOk result (λ _. weight (2 ^ 32) domains.new.items ≤ weight (2 ^ 32) domains.old.items) }
 {
+    if waits(question, domains.as_slice(), atom) {
+        return Ok(true);
+    }
     let places = candidates(alloc, question, domains.as_slice(), atom)?;
     let rows = places.as_slice();
     if rows.len() == 0 {

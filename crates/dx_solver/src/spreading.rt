@@ -5,7 +5,7 @@ ghost use Rattle.dx_solver.specs.Domains.{Keeps, weight};
 ghost use Rattle.dx_solver.specs.Questions.{FitsAtom, Stands};
 
 use crate::atom::{PatternAtom, Term};
-use crate::cutting::cut;
+use crate::cutting::{cut, is_known};
 use crate::domain::Domain;
 use crate::question::Question;
 use std::alloc::{AllocError, Global};
@@ -93,15 +93,33 @@ impl Agenda {
         }
     }
 
-    // The atoms of a variable are to be looked at, or all.
-    fn begin(&mut self, changed: Option<u32>, atoms: usize) -> Result<(), AllocError> {
+    // The atoms with a term of which one number is left, or those without.
+    fn add_all(
+        &mut self,
+        atoms: &[PatternAtom],
+        domains: &[Domain],
+        known: bool,
+    ) -> Result<(), AllocError> {
+        for place in 0..atoms.len() {
+            if has_known(domains, atoms[place].terms.items()) == known {
+                self.add(place)?;
+            }
+        }
+        Ok(())
+    }
+
+    // The atoms of a variable are to be looked at, or all: those of which something is known come first.
+    fn begin(
+        &mut self,
+        changed: Option<u32>,
+        atoms: &[PatternAtom],
+        domains: &[Domain],
+    ) -> Result<(), AllocError> {
         if let Some(variable) = changed {
             return self.add_atoms_of(variable);
         }
-        for atom in 0..atoms {
-            self.add(atom)?;
-        }
-        Ok(())
+        self.add_all(atoms, domains, false)?;
+        self.add_all(atoms, domains, true)
     }
 
     // The next atom to be looked at.
@@ -112,6 +130,16 @@ impl Agenda {
         }
         Some(atom)
     }
+}
+
+// Whether one number is left of one of the terms.
+fn has_known(domains: &[Domain], terms: &[Term]) -> bool {
+    for term in terms {
+        if is_known(domains, *term) {
+            return true;
+        }
+    }
+    false
 }
 
 // Notes that the atom at a place has the variables among these terms.
@@ -172,7 +200,7 @@ pub(crate) fn spread(
     ensures lighter { IfOk result (λ _. weight (2 ^ 32) domains.new.items ≤ weight (2 ^ 32) domains.old.items) }
 {
     let atoms = question.atoms;
-    agenda.begin(changed, atoms.len())?;
+    agenda.begin(changed, atoms, domains.as_slice())?;
     for _ in 0..u64::MAX {
         let Some(place) = agenda.next() else {
             return Ok(true);

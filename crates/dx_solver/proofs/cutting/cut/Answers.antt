@@ -7,7 +7,7 @@ use Rattle.dx_solver.proofs.cutting.cut.Goals as goal
 pub returns-then-rows-eq0-clause-kept : goal.returns-then-rows-eq0-clause-kept
 returns-then-rows-eq0-clause-kept c = λ a k s.
     let i = image_of c.args.question.now.numbers.now.tables c.args.question.now.taken.now a c.args.atom.now s in
-    let m = c.in_ok-places.ensures.all a (rw c.as_slice.ensures.value k) s.0 i in
+    let m = c.in_ok-places.ensures.all a (rw c.as_slice-2.ensures.value k) s.0 i in
     let at = contains_from_in m in
     let none : length c.as_slice-rows.result.now ≡ 0 = omega arith in
     let same = c.as_slice-rows.ensures.value in
@@ -28,5 +28,5 @@ loop-column-preserved c = record {
 pub returns-clause-kept : goal.returns-clause-kept
 returns-clause-kept c = λ a k s.
     let i = image_of c.args.question.now.numbers.now.tables c.args.question.now.taken.now a c.args.atom.now s in
-    let m = c.in_ok-places.ensures.all a (rw c.as_slice.ensures.value k) s.0 i in
+    let m = c.in_ok-places.ensures.all a (rw c.as_slice-2.ensures.value k) s.0 i in
     (refl, c.loop-column.invariant.kept a s.0 k (rw c.as_slice-rows.ensures.value m) i)
