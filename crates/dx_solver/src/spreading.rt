@@ -9,14 +9,18 @@ use crate::cutting::cut;
 use crate::domain::Domain;
 use crate::question::Question;
 use std::alloc::{AllocError, Global};
+use std::mem::swap;
 
-/// A work list: atoms that are to be looked at again, for each variable the atoms that it stands in, how often the atoms of a
-/// variable could be no row, and how long lists may be that are begun. All of it is a matter of time and memory alone.
+/// A work list: atoms that are to be looked at again, those that came last after all others; for each variable the atoms that it
+/// stands in and how often one of them could be no row; and how long lists may be that are begun. All of it is a matter of time
+/// and memory alone.
 #[derive(Drop)]
 pub(crate) struct Agenda {
     waiting: Vec<usize>,
+    later: Vec<usize>,
     is_waiting: Vec<bool>,
     atoms_of: Vec<Vec<usize>>,
+    failures: Vec<u32>,
     longest: usize,
 }
 
@@ -43,8 +47,10 @@ impl Agenda {
         }
         Ok(Agenda {
             waiting: Vec::new(alloc),
+            later: Vec::new(alloc),
             is_waiting: vec![in alloc; false; atoms.len()]?,
             atoms_of,
+            failures: vec![in alloc; 0; variables]?,
             longest: ROOM / variables.max(1),
         })
     }
@@ -54,7 +60,7 @@ impl Agenda {
         if let Some(waits) = self.is_waiting.get_mut(atom) {
             if !*waits {
                 *waits = true;
-                self.waiting.push(atom)?;
+                self.later.push(atom)?;
             }
         }
         Ok(())
@@ -86,10 +92,28 @@ impl Agenda {
         }
     }
 
+    /// For each variable, how often an atom with it could be no row.
+    pub(crate) fn failures(&self) -> &[u32] {
+        &self.failures
+    }
+
+    // An atom with these terms could be no row.
+    fn blame(&mut self, terms: &[Term]) {
+        for term in terms {
+            if let Term::Variable(variable) = term {
+                if let Some(count) = self.failures.get_mut(*variable as usize) {
+                    *count = count.saturating_add(1);
+                }
+            }
+        }
+    }
+
     // Nothing to be done.
     fn clear(&mut self) {
-        for _ in 0..self.waiting.len() {
-            self.next();
+        for _ in 0..self.is_waiting.len() {
+            if let None = self.next() {
+                return;
+            }
         }
     }
 
@@ -106,6 +130,9 @@ impl Agenda {
 
     // The next atom to be looked at.
     fn next(&mut self) -> Option<usize> {
+        if self.waiting.len() == 0 {
+            swap(&mut self.waiting, &mut self.later);
+        }
         let atom = self.waiting.pop()?;
         if let Some(waits) = self.is_waiting.get_mut(atom) {
             *waits = false;
@@ -182,6 +209,7 @@ pub(crate) fn spread(
         }
         let alive = spread_one(alloc, question, agenda, domains, &atoms[place])?;
         if !alive {
+            agenda.blame(atoms[place].terms.items());
             agenda.clear();
             return Ok(false);
         }
