@@ -143,7 +143,7 @@ fn is_hopeless(question: &Question<'_, '_>, domains: &[Domain]) -> bool
 }
 
 /// Up to how many atoms a plain search is tried first.
-const FEW: usize = 1000;
+const FEW: usize = 100_000;
 
 // What a plain search with few steps finds, if it does.
 fn guess(alloc: Global, question: &Question<'_, '_>) -> Result<Option<Vec<u32>>, AllocError>

@@ -76,6 +76,18 @@ impl Agenda {
         Ok(())
     }
 
+    // The atoms of a variable but one.
+    fn add_others_of(&mut self, variable: u32, one: usize) -> Result<(), AllocError> {
+        for place in 0..self.count_of(variable) {
+            if let Some(atom) = self.atom_of(variable, place) {
+                if atom != one {
+                    self.add(atom)?;
+                }
+            }
+        }
+        Ok(())
+    }
+
     // In how many atoms a variable stands.
     fn count_of(&self, variable: u32) -> usize {
         match self.atoms_of.get(variable as usize) {
@@ -157,13 +169,14 @@ fn note_atom(
     Ok(())
 }
 
-// Cuts by one atom. The atoms of the variables that changed are to be looked at again.
+// Cuts by one atom. The other atoms of the variables that changed are to be looked at again.
 fn spread_one(
     alloc: Global,
     question: &Question<'_, '_>,
     agenda: &mut Agenda,
     domains: &mut Vec<Domain>,
     atom: &PatternAtom,
+    place: usize,
 ) -> Result<bool, AllocError>
     requires { FitsAtom question.now.numbers.now.tables (length domains.old.items) atom.now }
     ensures kept { IfOk result (λ alive. (a : ℕ → ℕ) → Keeps domains.old.items a
@@ -174,7 +187,7 @@ fn spread_one(
     let mut changed = Vec::new(alloc);
     let alive = cut(alloc, question, domains, atom, agenda.longest, &mut changed)?;
     for variable in &changed {
-        agenda.add_atoms_of(*variable)?;
+        agenda.add_others_of(*variable, place)?;
     }
     Ok(alive)
 }
@@ -207,7 +220,7 @@ pub(crate) fn spread(
         if place >= atoms.len() {
             return Ok(true);
         }
-        let alive = spread_one(alloc, question, agenda, domains, &atoms[place])?;
+        let alive = spread_one(alloc, question, agenda, domains, &atoms[place], place)?;
         if !alive {
             agenda.blame(atoms[place].terms.items());
             agenda.clear();
