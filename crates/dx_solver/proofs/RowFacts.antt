@@ -5,7 +5,7 @@ use Rattle.std.specs.Prelude.{map, Bool, Option, Some, None, IfSome}
 use Rattle.std.proofs.lemmas.Bool.{cases_lt, cases_eq}
 use Rattle.std.proofs.lemmas.List.{get_or-map, take_all}
 use Rattle.dx_ports.specs.Members.{◌∈◌, Each, here, there}
-use Rattle.dx_ports.proofs.Members.{from_append}
+use Rattle.dx_ports.proofs.Members.{from_append, in_at}
 use Rattle.dx_instance.specs.Cells.{NumberTable, numbers_at}
 use Rattle.dx_instance.specs.Shown.{numbers_of_table}
 use Rattle.dx_solver.specs.declared.atom.Term.{Term}
@@ -14,7 +14,7 @@ use Rattle.dx_solver.specs.declared.atom.PatternAtom.{PatternAtom}
 use Rattle.dx_solver.specs.declared.domain.Domain.{Domain}
 use Rattle.dx_solver.specs.declared.rows.Key.{Key}
 use Rattle.dx_solver.specs.Domains.{HasKey, IsImage, Keeps, term_at}
-use Rattle.dx_solver.specs.Questions.{Stands, number_under}
+use Rattle.dx_solver.specs.Questions.{Stands, number_under, row_under}
 
 -- the number in a column of what terms become
 pub column_of : (f : Term → ℕ) (terms : List Term) (row : List ℕ) (c : ℕ) (d : Term) → c < length terms → row ≡ map f terms
@@ -87,3 +87,10 @@ pub key_for : (ds : List Domain) (terms : List Term) (a : ℕ → ℕ) (key : Op
     → Keeps ds a → IfSome key (λ k. (k.column < length terms) × (number_under a (term_at terms k.column) ≡ k.number))
 key_for ds terms a None h k = tt
 key_for ds terms a (Some x) h k = (h.0, h.1 a k)
+
+-- an atom does not stand if what it becomes is no row
+pub none_stands : (T : List NumberTable) (out : List (List Bool)) (a : ℕ → ℕ) (atom : PatternAtom) (row : List ℕ)
+    → row ≡ row_under a atom → ¬ (row ∈ (numbers_of_table T atom.table).rows) → ¬ (Stands T out a atom)
+none_stands T out a atom row e none s =
+    let rows = (numbers_of_table T atom.table).rows in
+    none (subst (λ (r : List ℕ). r ∈ rows) (s.3 ∙ sym e) (in_at rows s.0 [] s.1))

@@ -55,77 +55,97 @@ fn free_column(domains: &[Domain], terms: &[Term]) -> Option<usize>
     None
 }
 
-// The first column from `best` on of a term that has the fewest numbers left, of those that have two or more.
-fn least_column(domains: &[Domain], terms: &[Term], free: usize) -> usize
+// What it costs to try a term: the numbers that it can still have, over how often an atom with it could be no row.
+fn cost_of(domains: &[Domain], failures: &[u32], term: Term) -> u64 {
+    let failed = match term {
+        Term::Number(_) => 0,
+        Term::Variable(variable) => match failures.get(variable as usize) {
+            None => 0,
+            Some(count) => *count,
+        },
+    };
+    choices_of(domains, term).saturating_mul(1 << 20) / (failed as u64 + 1)
+}
+
+// The first column from `free` on of a term of the least cost, of those that have two numbers or more left.
+fn least_column(domains: &[Domain], failures: &[u32], terms: &[Term], free: usize) -> usize
     requires within { free < length terms.now }
     requires free { 1 < choices domains.now (term_at terms.now free) }
     ensures within { result < length terms.now }
     ensures free { 1 < choices domains.now (term_at terms.now result) }
 {
     let mut best = free;
-    let mut fewest = choices_of(domains, terms[free]);
+    let mut least = cost_of(domains, failures, terms[free]);
     for column in free..terms.len() {
         let count = choices_of(domains, terms[column]);
-        if count > 1 && count < fewest {
+        let cost = cost_of(domains, failures, terms[column]);
+        if count > 1 && cost < least {
             best = column;
-            fewest = count;
+            least = cost;
         }
     }
     best
 }
 
-// A term that has the fewest numbers left, of those in an atom that have two or more.
-fn choose_in(domains: &[Domain], atom: &PatternAtom) -> Option<usize>
+// A term of the least cost, of those in an atom that have two numbers or more left.
+fn choose_in(domains: &[Domain], failures: &[u32], atom: &PatternAtom) -> Option<usize>
     ensures { MatchOption result (IsBound domains.now atom.now)
         (λ c. (c < length atom.now.terms) × (1 < choices domains.now (term_at atom.now.terms c))) }
 {
     match free_column(domains, atom.terms.items()) {
         None => None,
-        Some(free) => Some(least_column(domains, atom.terms.items(), free)),
+        Some(free) => Some(least_column(domains, failures, atom.terms.items(), free)),
     }
 }
 
 // The first atom with such a term.
-fn first_choice(domains: &[Domain], atoms: &[PatternAtom]) -> Option<Choice>
+fn first_choice(domains: &[Domain], failures: &[u32], atoms: &[PatternAtom]) -> Option<Choice>
     ensures { MatchOption result (Each atoms.now (IsBound domains.now)) (λ c. IsFree atoms.now domains.now c.atom c.column) }
 {
     for atom in 0..atoms.len() {
-        if let Some(column) = choose_in(domains, &atoms[atom]) {
+        if let Some(column) = choose_in(domains, failures, &atoms[atom]) {
             return Some(Choice { atom, column });
         }
     }
     None
 }
 
-// The first choice of the fewest numbers, from this one on.
-fn least_choice(domains: &[Domain], atoms: &[PatternAtom], first: Choice) -> Choice
+// The first choice of the least cost, from this one on.
+fn least_choice(
+    domains: &[Domain],
+    failures: &[u32],
+    atoms: &[PatternAtom],
+    first: Choice,
+) -> Choice
     requires { IsFree atoms.now domains.now first.atom first.column }
     ensures { IsFree atoms.now domains.now result.atom result.column }
 {
     let mut best = first;
-    let mut fewest = choices_of(domains, atoms[first.atom].terms.items()[first.column]);
+    let mut least = cost_of(
+        domains,
+        failures,
+        atoms[first.atom].terms.items()[first.column],
+    );
     for atom in first.atom..atoms.len() {
-        if fewest == 2 {
-            return best;
-        }
-        if let Some(column) = choose_in(domains, &atoms[atom]) {
-            let count = choices_of(domains, atoms[atom].terms.items()[column]);
-            if count < fewest {
+        if let Some(column) = choose_in(domains, failures, &atoms[atom]) {
+            let cost = cost_of(domains, failures, atoms[atom].terms.items()[column]);
+            if cost < least {
                 best = Choice { atom, column };
-                fewest = count;
+                least = cost;
             }
         }
     }
     best
 }
 
-/// The first term that has the fewest numbers left, of those that have two or more.
-pub(crate) fn choose(domains: &[Domain], atoms: &[PatternAtom]) -> Option<Choice>
+/// A term that has two numbers or more left: the first with the fewest numbers for each time that an atom with its variable
+/// could be no row.
+pub(crate) fn choose(domains: &[Domain], failures: &[u32], atoms: &[PatternAtom]) -> Option<Choice>
     ensures { MatchOption result (Each atoms.now (IsBound domains.now)) (λ c. IsFree atoms.now domains.now c.atom c.column) }
 {
-    match first_choice(domains, atoms) {
+    match first_choice(domains, failures, atoms) {
         None => None,
-        Some(first) => Some(least_choice(domains, atoms, first)),
+        Some(first) => Some(least_choice(domains, failures, atoms, first)),
     }
 }
 

@@ -84,8 +84,8 @@ fn first_key(xs: &[u32], terms: &[Term]) -> Option<Key>
     }
 }
 
-// Whether the atom becomes a row that is not taken out.
-fn stands(question: &Question<'_, '_>, xs: &[u32], atom: &PatternAtom) -> bool
+// Whether the atom becomes a row that is not taken out, where rows are looked at one by one.
+fn stands_among(question: &Question<'_, '_>, xs: &[u32], atom: &PatternAtom) -> bool
     requires table { atom.now.table < length question.now.numbers.now.tables }
     requires width { length atom.now.terms ≡ (numbers_of_table question.now.numbers.now.tables atom.now.table).width }
     ensures { IsTrue result ↔ Stands question.now.numbers.now.tables question.now.taken.now (answered xs.now) atom.now }
@@ -104,19 +104,63 @@ fn stands(question: &Question<'_, '_>, xs: &[u32], atom: &PatternAtom) -> bool
     false
 }
 
+// The row that terms become.
+fn row_of(alloc: Global, xs: &[u32], terms: &[Term]) -> Result<Vec<u32>, AllocError>
+    ensures { IfOk result (λ row. row.items ≡ map (number_under (answered xs.now)) terms.now) }
+{
+    let mut row = Vec::with_capacity(alloc, terms.len())?;
+    for term in terms {
+        row.push(number_at(xs, *term))?;
+    }
+    Ok(row)
+}
+
+// Whether the atom becomes a row that is not taken out. The same row can be there a second time if it is.
+fn stands(
+    alloc: Global,
+    question: &Question<'_, '_>,
+    xs: &[u32],
+    atom: &PatternAtom,
+) -> Result<bool, AllocError>
+    requires table { atom.now.table < length question.now.numbers.now.tables }
+    requires width { length atom.now.terms ≡ (numbers_of_table question.now.numbers.now.tables atom.now.table).width }
+    ensures { IfOk result (λ b. IsTrue b
+        ↔ Stands question.now.numbers.now.tables question.now.taken.now (answered xs.now) atom.now) }
+{
+    let row = row_of(alloc, xs, atom.terms.items())?;
+    match question.numbers.find_row(atom.table, row.as_slice()) {
+        None => Ok(false),
+        Some(place) => {
+            if !question.taken.has(atom.table, place) {
+                return Ok(true);
+            }
+            Ok(stands_among(question, xs, atom))
+        }
+    }
+}
+
 /// Whether each atom becomes such a row.
-pub(crate) fn all_stand(question: &Question<'_, '_>, xs: &[u32]) -> bool
+///
+/// # Errors
+///
+/// `AllocError` if there is no memory.
+pub(crate) fn all_stand(
+    alloc: Global,
+    question: &Question<'_, '_>,
+    xs: &[u32],
+) -> Result<bool, AllocError>
     requires { Each question.now.atoms.now (FitsAtom question.now.numbers.now.tables (length question.now.known.now)) }
-    ensures { IsTrue result
-        ↔ Each question.now.atoms.now (Stands question.now.numbers.now.tables question.now.taken.now (answered xs.now)) }
+    ensures { IfOk result (λ b. IsTrue b
+        ↔ Each question.now.atoms.now (Stands question.now.numbers.now.tables question.now.taken.now (answered xs.now))) }
 {
     let atoms = question.atoms;
     for atom in atoms {
-        if !stands(question, xs, atom) {
-            return false;
+        let is_there = stands(alloc, question, xs, atom)?;
+        if !is_there {
+            return Ok(false);
         }
     }
-    true
+    Ok(true)
 }
 
 /// For each variable the number that is known, or the one that is left of it.

@@ -49,7 +49,7 @@ fn number_of(domains: &[Domain], term: Term) -> Option<u32>
 }
 
 // The first column whose number is known.
-fn key_of(domains: &[Domain], terms: &[Term], width: u32) -> Option<Key>
+fn known_key(domains: &[Domain], terms: &[Term], width: u32) -> Option<Key>
     requires { width ≡ length terms.now }
     ensures { IfSome result (λ k. (k.column < length terms.now)
         × ((a : ℕ → ℕ) → Keeps domains.now a → number_under a (term_at terms.now k.column) ≡ k.number)) }
@@ -60,6 +60,48 @@ fn key_of(domains: &[Domain], terms: &[Term], width: u32) -> Option<Key>
         }
     }
     None
+}
+
+// The first column with an index whose number is known.
+fn indexed_key(
+    numbers: &Numbers<'_>,
+    table: u32,
+    domains: &[Domain],
+    terms: &[Term],
+    width: u32,
+) -> Option<Key>
+    requires table { table < length numbers.now.tables }
+    requires width { width ≡ length terms.now }
+    ensures { IfSome result (λ k. (k.column < length terms.now)
+        × ((a : ℕ → ℕ) → Keeps domains.now a → number_under a (term_at terms.now k.column) ≡ k.number)) }
+{
+    for column in 0..width {
+        if let Some(number) = number_of(domains, terms[column as usize]) {
+            if numbers.has_index(table, column) {
+                return Some(Key { column, number });
+            }
+        }
+    }
+    None
+}
+
+// A column whose number is known, one with an index if there is one.
+fn key_of(
+    numbers: &Numbers<'_>,
+    table: u32,
+    domains: &[Domain],
+    terms: &[Term],
+    width: u32,
+) -> Option<Key>
+    requires table { table < length numbers.now.tables }
+    requires width { width ≡ length terms.now }
+    ensures { IfSome result (λ k. (k.column < length terms.now)
+        × ((a : ℕ → ℕ) → Keeps domains.now a → number_under a (term_at terms.now k.column) ≡ k.number)) }
+{
+    match indexed_key(numbers, table, domains, terms, width) {
+        Some(key) => Some(key),
+        None => known_key(domains, terms, width),
+    }
 }
 
 // Whether a term may have the number.
@@ -187,7 +229,9 @@ pub(crate) fn next_candidate(
     ensures { IsNextImage question.now.numbers.now.tables question.now.taken.now domains.now atom.now from result }
 {
     let numbers = question.numbers;
-    let key = key_of(domains, atom.terms.items(), numbers.width(atom.table));
+    let terms = atom.terms.items();
+    let width = numbers.width(atom.table);
+    let key = key_of(numbers, atom.table, domains, terms, width);
     let count = numbers.count(atom.table);
     let mut next = from;
     while let Some(place) = next_place(numbers, atom.table, key, next) {

@@ -35,7 +35,8 @@ fn answer_at(
         (answered xs.items))) }
 {
     let xs = numbers_left(alloc, question, domains)?;
-    if all_stand(question, &xs) {
+    let is_answer = all_stand(alloc, question, &xs)?;
+    if is_answer {
         return Ok(Some(xs));
     }
     Ok(None)
@@ -64,7 +65,7 @@ fn expand(
         return Ok(None);
     }
     let left = cut.domains.as_slice();
-    match choose(left, question.atoms) {
+    match choose(left, agenda.failures(), question.atoms) {
         None => answer_at(alloc, question, left),
         Some(choice) => {
             split(alloc, question, &cut, choice, nodes)?;
@@ -142,7 +143,7 @@ fn is_hopeless(question: &Question<'_, '_>, domains: &[Domain]) -> bool
 }
 
 /// Up to how many atoms a plain search is tried first.
-const FEW: usize = 1000;
+const FEW: usize = 100_000;
 
 // What a plain search with few steps finds, if it does.
 fn guess(alloc: Global, question: &Question<'_, '_>) -> Result<Option<Vec<u32>>, AllocError>
@@ -156,7 +157,7 @@ fn guess(alloc: Global, question: &Question<'_, '_>) -> Result<Option<Vec<u32>>,
         return Ok(None);
     }
     let mut domains = known_domains(alloc, question.known)?;
-    let order = linked_order(alloc, question.atoms, question.known.len())?;
+    let order = linked_order(alloc, question.atoms, question.known)?;
     if !place_all(alloc, question, &mut domains, &order, 16 + 4 * count)? {
         return Ok(None);
     }

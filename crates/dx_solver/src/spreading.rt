@@ -9,14 +9,18 @@ use crate::cutting::{cut, is_known};
 use crate::domain::Domain;
 use crate::question::Question;
 use std::alloc::{AllocError, Global};
+use std::mem::swap;
 
-/// A work list: atoms that are to be looked at again, for each variable the atoms that it stands in, how often the atoms of a
-/// variable could be no row, and how long lists may be that are begun. All of it is a matter of time and memory alone.
+/// A work list: atoms that are to be looked at again, those that came last after all others; for each variable the atoms that it
+/// stands in and how often one of them could be no row; and how long lists may be that are begun. All of it is a matter of time
+/// and memory alone.
 #[derive(Drop)]
 pub(crate) struct Agenda {
     waiting: Vec<usize>,
+    later: Vec<usize>,
     is_waiting: Vec<bool>,
     atoms_of: Vec<Vec<usize>>,
+    failures: Vec<u32>,
     longest: usize,
 }
 
@@ -43,8 +47,10 @@ impl Agenda {
         }
         Ok(Agenda {
             waiting: Vec::new(alloc),
+            later: Vec::new(alloc),
             is_waiting: vec![in alloc; false; atoms.len()]?,
             atoms_of,
+            failures: vec![in alloc; 0; variables]?,
             longest: ROOM / variables.max(1),
         })
     }
@@ -54,7 +60,7 @@ impl Agenda {
         if let Some(waits) = self.is_waiting.get_mut(atom) {
             if !*waits {
                 *waits = true;
-                self.waiting.push(atom)?;
+                self.later.push(atom)?;
             }
         }
         Ok(())
@@ -65,6 +71,18 @@ impl Agenda {
         for place in 0..self.count_of(variable) {
             if let Some(atom) = self.atom_of(variable, place) {
                 self.add(atom)?;
+            }
+        }
+        Ok(())
+    }
+
+    // The atoms of a variable but one.
+    fn add_others_of(&mut self, variable: u32, one: usize) -> Result<(), AllocError> {
+        for place in 0..self.count_of(variable) {
+            if let Some(atom) = self.atom_of(variable, place) {
+                if atom != one {
+                    self.add(atom)?;
+                }
             }
         }
         Ok(())
@@ -86,10 +104,28 @@ impl Agenda {
         }
     }
 
+    /// For each variable, how often an atom with it could be no row.
+    pub(crate) fn failures(&self) -> &[u32] {
+        &self.failures
+    }
+
+    // An atom with these terms could be no row.
+    fn blame(&mut self, terms: &[Term]) {
+        for term in terms {
+            if let Term::Variable(variable) = term {
+                if let Some(count) = self.failures.get_mut(*variable as usize) {
+                    *count = count.saturating_add(1);
+                }
+            }
+        }
+    }
+
     // Nothing to be done.
     fn clear(&mut self) {
-        for _ in 0..self.waiting.len() {
-            self.next();
+        for _ in 0..self.is_waiting.len() {
+            if let None = self.next() {
+                return;
+            }
         }
     }
 
@@ -124,6 +160,9 @@ impl Agenda {
 
     // The next atom to be looked at.
     fn next(&mut self) -> Option<usize> {
+        if self.waiting.len() == 0 {
+            swap(&mut self.waiting, &mut self.later);
+        }
         let atom = self.waiting.pop()?;
         if let Some(waits) = self.is_waiting.get_mut(atom) {
             *waits = false;
@@ -158,13 +197,14 @@ fn note_atom(
     Ok(())
 }
 
-// Cuts by one atom. The atoms of the variables that changed are to be looked at again.
+// Cuts by one atom. The other atoms of the variables that changed are to be looked at again.
 fn spread_one(
     alloc: Global,
     question: &Question<'_, '_>,
     agenda: &mut Agenda,
     domains: &mut Vec<Domain>,
     atom: &PatternAtom,
+    place: usize,
 ) -> Result<bool, AllocError>
     requires { FitsAtom question.now.numbers.now.tables (length domains.old.items) atom.now }
     ensures kept { IfOk result (λ alive. (a : ℕ → ℕ) → Keeps domains.old.items a
@@ -175,7 +215,7 @@ fn spread_one(
     let mut changed = Vec::new(alloc);
     let alive = cut(alloc, question, domains, atom, agenda.longest, &mut changed)?;
     for variable in &changed {
-        agenda.add_atoms_of(*variable)?;
+        agenda.add_others_of(*variable, place)?;
     }
     Ok(alive)
 }
@@ -208,8 +248,9 @@ pub(crate) fn spread(
         if place >= atoms.len() {
             return Ok(true);
         }
-        let alive = spread_one(alloc, question, agenda, domains, &atoms[place])?;
+        let alive = spread_one(alloc, question, agenda, domains, &atoms[place], place)?;
         if !alive {
+            agenda.blame(atoms[place].terms.items());
             agenda.clear();
             return Ok(false);
         }

@@ -16,12 +16,12 @@ stands-requires-clause-width c =
     let i = c.loop-atom.atom-index in
     (c.requires c.atom-item.result (item_in atoms i c.atom-item.result (omega arith) c.atom-item.is)).width
 
-pub returns-then-not-stands : goal.returns-then-not-stands
-returns-then-not-stands c =
+pub returns-then-not-is_there : goal.returns-then-not-is_there
+returns-then-not-is_there c =
     let atoms = c.args.question.now.atoms.now in
     let P = Stands c.args.question.now.numbers.now.tables c.args.question.now.taken.now (answered c.args.xs.now) in
     let h : c.loop-atom.atom-index < length atoms = omega arith in
-    not_so c.if-not-stands.true c.stands.ensures (each_item P atoms c.loop-atom.atom-index c.atom-item.result h c.atom-item.is)
+    not_so c.if-not-is_there.true c.in_ok-is_there.ensures (each_item P atoms c.loop-atom.atom-index c.atom-item.result h c.atom-item.is)
 
 pub loop-atom-preserved : goal.loop-atom-preserved
 loop-atom-preserved c =
@@ -29,7 +29,7 @@ loop-atom-preserved c =
     let P = Stands c.args.question.now.numbers.now.tables c.args.question.now.taken.now (answered c.args.xs.now) in
     let h : c.loop-atom.atom-index < length atoms = omega arith in
     each_more P atoms c.loop-atom.atom-index c.atom-item.result h c.atom-item.is c.loop-atom.invariant
-    (c.stands.ensures.0 c.if-not-stands.false)
+    (c.in_ok-is_there.ensures.0 c.if-not-is_there.false)
 
 pub returns : goal.returns
 returns c =

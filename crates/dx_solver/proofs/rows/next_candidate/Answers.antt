@@ -13,7 +13,7 @@ loop-place-preserved c =
     let atom = c.args.atom.now in
     let key = c.key_of-key.result in
     let place = c.in-Some.ensures in
-    let has = rw c.items.ensures at c.key_of-key.ensures in
+    let has = rw c.items-terms.ensures at c.key_of-key.ensures in
     record {
       after = omega (arith, place.0, c.loop-place.invariant.after);
       none = λ f k. no_more (IsImage T out f atom) (HasKey (numbers_of_table T atom.table).rows key) c.args.from c.loop-place.next
@@ -30,7 +30,7 @@ returns-then-is_candidate c =
     let atom = c.args.atom.now in
     let key = c.key_of-key.result in
     let place = c.in-Some.ensures in
-    let has = rw c.items.ensures at c.key_of-key.ensures in (
+    let has = rw c.items-terms.ensures at c.key_of-key.ensures in (
       omega (arith, place.0, c.loop-place.invariant.after),
       place.1,
       (λ f k. no_to (IsImage T out f atom) (HasKey (numbers_of_table T atom.table).rows key) c.args.from c.loop-place.next
@@ -46,7 +46,7 @@ returns c =
     let atom = c.args.atom.now in
     let key = c.key_of-key.result in
     let none = rw c.in_default.is at c.next_place.ensures in
-    let has = rw c.items.ensures at c.key_of-key.ensures in
+    let has = rw c.items-terms.ensures at c.key_of-key.ensures in
     λ f k. no_to (IsImage T out f atom) (HasKey (numbers_of_table T atom.table).rows key) c.args.from c.loop-place.next
     (length (numbers_of_table T atom.table).rows) (c.loop-place.invariant.none f k)
     (λ p i. has_key T out f atom key p (key_for ds atom.terms f key has k) i) none

@@ -5,7 +5,7 @@ use Rattle.dx_solver.proofs.solving.answer_at.Goals as goal
 
 pub returns-clause-exact : goal.returns-clause-exact
 returns-clause-exact c =
-    let all = rw c.deref.ensures.value at c.all_stand.ensures in
+    let all = rw c.deref.ensures.value at c.in_ok-is_answer.ensures in
     λ bound a k. none_left c.args.question.now.numbers.now.tables c.args.question.now.taken.now c.args.question.now.atoms.now
     c.args.question.now.known.now c.args.domains.now c.in_ok-xs.xs.items c.in_ok-xs.ensures.left c.requires.fits bound
-    (λ s. absurd (false≢true (sym c.if-all_stand.false ∙ all.1 s))) a k
+    (λ s. absurd (false≢true (sym c.if-is_answer.false ∙ all.1 s))) a k

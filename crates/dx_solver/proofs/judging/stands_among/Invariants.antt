@@ -1,7 +1,7 @@
 use Rattle.std.proofs.Common.{◌≤◌, ◌<◌, ◌-◌, ℕ}
 use Rattle.dx_solver.specs.Domains.{IsImage}
 use Rattle.dx_solver.specs.Questions.{answered}
-use Rattle.dx_solver.proofs.judging.stands.Given as goal
+use Rattle.dx_solver.proofs.judging.stands_among.Given as goal
 
 abbrev pub decreases-loop-place : goal.decreases-loop-place
 decreases-loop-place l = l.count - l.next
