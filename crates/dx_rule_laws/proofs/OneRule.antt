@@ -21,7 +21,7 @@ use Rattle.dx_rule_laws.proofs.CanBeWritten.{printed_rules_are_read}
 use Rattle.dx_rule_laws.proofs.Lines.{mapping_more}
 
 no_sets : AreWritable none
-no_sets = record { named = tt; levels = omega arith }
+no_sets = record { named = tt; version = tt; levels = omega arith }
 
 -- a mapping without sets, lines and rules
 abbrev bare : MappingText
