@@ -30,9 +30,6 @@ at_column g S (x ∷ xs) (y ∷ ys) (suc i) h k e =
     at_column g S xs ys i (omega (arith, h)) (omega (arith, k)) d
 
 module _ (N : Numbered) (fit : PartsFit N.symbols N.tables) (from to : At) (r : IsRow N from) (q : IsRow N to) where
-  pub other_table : (T : List Fact) → ¬ (from.table ≡ to.table) → NeverMoves T (fact_of N from) (fact_of N to)
-  other_table T k g moves e = k (ap (λ (f : Fact). f.table) e)
-
   pub as_wide : from.table ≡ to.table → length (numbers_of N from) ≡ length (numbers_of N to)
   as_wide e = row_wide N fit from r ∙ (ap (λ (t : ℕ). (numbers_of_table N.tables t).width) e ∙ sym (row_wide N fit to q))
 
@@ -86,3 +83,6 @@ kept_null N T nulls known x v n null e i d k =
     let r : IsRigid T (null_under N x) = subst (λ (j : ℕ). IsRigid T (null_under N j)) q w.1 in
     let u : value_of N.symbols x ≡ Null (null_under N x) = e ∙ ap Null (sym (ap as_null e)) in
     subst (λ (y : Value). IsKept T y) (sym u) r
+
+pub other_table : (N : Numbered) (from to : At) → ¬ (from.table ≡ to.table) → (T : List Fact) → NeverMoves T (fact_of N from) (fact_of N to)
+other_table N from to k T g moves e = k (ap (λ (f : Fact). f.table) e)

@@ -70,6 +70,7 @@ fn never_becomes(
 }
 
 /// Whether this shows that no endomorphism moves one row to another.
+#[tactic(auto, using(crate::proofs::NeverMoved::other_table))]
 pub(crate) fn never_moves(
     numbers: &Numbers<'_>,
     nulls: &[u32],

@@ -1,14 +1,12 @@
 use Rattle.std.proofs.Common.{arith, length, ap, get_or}
 use Rattle.dx_ports.proofs.Members.{in_at}
 use Rattle.dx_core.specs.Asking.{numbers_of}
-use Rattle.dx_core.proofs.Asked.{row_below}
 use Rattle.dx_core.proofs.NeverMoved.{as_wide, other_number}
 use Rattle.dx_core.proofs.apart.never_becomes.Goals as goal
 
 pub is_kept_off-requires : goal.is_kept_off-requires
 is_kept_off-requires c =
-    let m = in_at c.row-old_row.result.now c.loop-column.column 0 c.loop-column-test.true in
-    row_below c.args.numbers.now c.len-fit.ensures.fit c.args.from c.requires.from _ (rw c.row-old_row.ensures.row at m)
+    c.row-old_row.ensures.below _ (in_at c.row-old_row.result.now c.loop-column.column 0 c.loop-column-test.true)
 
 pub returns-then-is_kept_off : goal.returns-then-is_kept_off
 returns-then-is_kept_off c = λ e T k.

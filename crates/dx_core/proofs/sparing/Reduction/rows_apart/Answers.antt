@@ -17,7 +17,7 @@ loop-row-preserved c =
     let m = c.requires.rows _ (in_at c.args.rows.now c.loop-row.row-index d c.loop-row-test.true) in
     elim c.if-never_moves.branch [
       | then-never_moves+in_ok-push-2 w ↦ rw w.only-is (one_more_apart s.numbers (left_of s.numbers s.taken) c.args.block.now.rows
-          c.loop-row.only.items w.push-2.new.self.items c.args.at _
+          c.loop-row.only.items w.push-then-never_moves.new.self.items c.args.at _
           (record { row = m; apart = inr (c.never_moves.ensures w.if-never_moves.true _ (rw c.items-nulls.ensures c.requires.known)) })
           w.in_ok-push-2.ensures.items c.loop-row.invariant)
       | else-never_moves w ↦ rw w.only-is c.loop-row.invariant
