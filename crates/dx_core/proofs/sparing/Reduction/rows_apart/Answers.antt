@@ -1,4 +1,4 @@
-use Rattle.std.proofs.Common.{inl, inr, refl}
+use Rattle.std.proofs.Common.{inr}
 use Rattle.dx_ports.proofs.Members.{in_at}
 use Rattle.dx_blocks.specs.declared.numbered.At.{At}
 use Rattle.dx_core.specs.Left.{left_of}

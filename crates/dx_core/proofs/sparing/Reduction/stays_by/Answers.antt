@@ -1,5 +1,3 @@
-use Rattle.std.proofs.Common.{◌∷◌, []}
-use Rattle.dx_blocks.specs.Numbered.{fact_of}
 use Rattle.dx_core.specs.Left.{left_of}
 use Rattle.dx_core.proofs.NeverMoved.{apart_avoids}
 use Rattle.dx_core.proofs.Near.{told_none}
