@@ -1,4 +1,5 @@
 use Rattle.std.proofs.Common.{◌∙◌, ap, length, sym}
+use Rattle.dx_core.proofs.Near.{answer_same}
 use Rattle.dx_core.proofs.Spared.{one_row}
 use Rattle.dx_core.proofs.sparing.Reduction.ask_all.Goals as goal
 
@@ -8,4 +9,7 @@ returns-then-rows-eq1-clause-exact c =
     c.requires.alone
 
 pub returns-clause-exact : goal.returns-clause-exact
-returns-clause-exact c = rw c.items-rows.ensures at c.ask.ensures.exact
+returns-clause-exact c =
+    let s = c.args.self.now in
+    answer_same s.numbers c.is_held.new.self.numbers s.taken c.is_held.new.self.taken c.args.block.now.nulls (λ v. v.items)
+    c.in_ok-together.together c.args.block.now.rows c.args.at c.is_held.ensures.numbers c.in_ok-is_held.ensures.taken (rw c.items-rows.ensures at c.in_ok-together.ensures.exact)

@@ -4,7 +4,7 @@ use Rattle.dx_model.proofs.Reduction.{reduct_itself}
 use Rattle.dx_blocks.specs.Numbered.{fact_of}
 use Rattle.dx_core.specs.Left.{left_of}
 use Rattle.dx_core.proofs.Asked.{mark_place, mark_table, row_left}
-use Rattle.dx_core.proofs.Spared.{alone_same, gone_needed, known_stays, none_needed, nulls_kept, none_told, one_less, only_row, others_left, same_avoids, same_moves, some_told}
+use Rattle.dx_core.proofs.Spared.{alone_same, gone_needed, known_stays, none_needed, nulls_kept, none_told, one_less, others_left, same_avoids, same_moves, some_told}
 use Rattle.dx_core.proofs.sparing.Reduction.spare_row.Goals as goal
 
 pub returns-then-has-clause-reduct : goal.returns-then-has-clause-reduct
@@ -16,9 +16,6 @@ returns-then-has-clause-needed c = λ m.
     let l = row_left s.numbers c.len-fit.ensures.fit s.taken c.args.at (c.requires.block.numbers.rows c.args.at c.requires.at) m in
     absurd (true≢false (sym c.if-has.true ∙ (c.has.ensures ∙ l)))
 
-pub ask-requires-clause-rows : goal.ask-requires-clause-rows
-ask-requires-clause-rows c = only_row c.args.block.now.rows c.args.at c.requires.at c.from_ref.result.now c.from_ref.ensures.value
-
 pub returns-in-None-clause-reduct : goal.returns-in-None-clause-reduct
 returns-in-None-clause-reduct c =
     rw c.in_ok-alone.ensures.taken (reduct_itself (left_of c.args.self.now.numbers c.args.self.now.taken))
@@ -26,14 +23,14 @@ returns-in-None-clause-reduct c =
 pub returns-in-None-clause-needed : goal.returns-in-None-clause-needed
 returns-in-None-clause-needed c =
     let s = c.args.self.now in
-    let none = rw (c.in-None.is, c.from_ref.ensures.value) at c.in_ok-alone.ensures.exact in
+    let none = rw c.in-None.is at c.in_ok-alone.ensures.exact in
     rw c.in_ok-alone.ensures.taken
     (none_needed (left_of s.numbers s.taken) (fact_of s.numbers c.args.at ∷ []) (fact_of s.numbers c.args.at) none)
 
 pub returns-in-None-clause-known : goal.returns-in-None-clause-known
 returns-in-None-clause-known c =
     let s = c.args.self.now in
-    let none = rw (c.in-None.is, c.from_ref.ensures.value) at c.in_ok-alone.ensures.exact in
+    let none = rw c.in-None.is at c.in_ok-alone.ensures.exact in
     let keeps = rw (c.in_ok-alone.ensures.numbers, c.items-nulls.ensures) at c.keep_nulls.ensures in
     rw c.in_ok-alone.ensures.taken
     (keeps (left_of s.numbers s.taken) (λ x i j.
@@ -43,8 +40,8 @@ returns-in-None-clause-known c =
 pub ask_all-requires-clause-alone : goal.ask_all-requires-clause-alone
 ask_all-requires-clause-alone c =
     let s = c.args.self.now in
-    alone_same s.numbers c.ask.new.self.numbers s.taken c.ask.new.self.taken c.args.block.now.nulls (λ v. v.items) c.in_ok-alone.alone c.args.at
-    c.in_ok-alone.ensures.numbers c.in_ok-alone.ensures.taken (rw c.from_ref.ensures.value at c.in_ok-alone.ensures.exact)
+    alone_same s.numbers c.ask_alone.new.self.numbers s.taken c.ask_alone.new.self.taken c.args.block.now.nulls (λ v. v.items) c.in_ok-alone.alone c.args.at
+    c.in_ok-alone.ensures.numbers c.in_ok-alone.ensures.taken c.in_ok-alone.ensures.exact
 
 pub returns-in-None-together-clause-reduct : goal.returns-in-None-together-clause-reduct
 returns-in-None-together-clause-reduct c =
@@ -53,9 +50,9 @@ returns-in-None-together-clause-reduct c =
 pub returns-in-None-together-clause-needed : goal.returns-in-None-together-clause-needed
 returns-in-None-together-clause-needed c =
     let s = c.args.self.now in
-    let none = same_avoids s.numbers c.ask.new.self.numbers s.taken c.ask.new.self.taken c.args.block.now.rows c.args.at
+    let none = same_avoids s.numbers c.ask_alone.new.self.numbers s.taken c.ask_alone.new.self.taken c.args.block.now.rows c.args.at
     c.in_ok-alone.ensures.numbers c.in_ok-alone.ensures.taken
-    (none_told c.ask.new.self.numbers _ _ _ c.args.block.now.nulls (λ v. v.items) c.in_ok-together.together c.in-None-together.is
+    (none_told c.ask_alone.new.self.numbers _ _ _ c.args.block.now.nulls (λ v. v.items) c.in_ok-together.together c.in-None-together.is
     c.in_ok-together.ensures.exact) in
     rw (c.in_ok-together.ensures.taken, c.in_ok-alone.ensures.taken)
     (none_needed (left_of s.numbers s.taken) (map (fact_of s.numbers) c.args.block.now.rows) (fact_of s.numbers c.args.at) none)
@@ -75,9 +72,9 @@ take_out-requires-clause-place c =
 pub returns-in-Some-clause-reduct : goal.returns-in-Some-clause-reduct
 returns-in-Some-clause-reduct c =
     let s = c.args.self.now in
-    let moves = same_moves s.numbers c.ask.new.self.numbers c.args.block.now.nulls _ s.taken
-    c.ask.new.self.taken c.args.block.now.rows c.args.at c.in_ok-alone.ensures.numbers c.in_ok-alone.ensures.taken
-    (some_told c.ask.new.self.numbers _ _ _ c.args.block.now.nulls (λ v. v.items) c.in_ok-together.together _ c.in-Some.is
+    let moves = same_moves s.numbers c.ask_alone.new.self.numbers c.args.block.now.nulls _ s.taken
+    c.ask_alone.new.self.taken c.args.block.now.rows c.args.at c.in_ok-alone.ensures.numbers c.in_ok-alone.ensures.taken
+    (some_told c.ask_alone.new.self.numbers _ _ _ c.args.block.now.nulls (λ v. v.items) c.in_ok-together.together _ c.in-Some.is
     c.in_ok-together.ensures.exact) in
     rw (c.take_out.ensures, c.in_ok-together.ensures.taken, c.in_ok-alone.ensures.taken)
     (one_less s.numbers c.len-fit.ensures.fit c.args.block.now c.requires.block s.taken s.marks c.args.at c.requires.at
@@ -92,9 +89,9 @@ returns-in-Some-clause-needed c =
 pub returns-in-Some-clause-known : goal.returns-in-Some-clause-known
 returns-in-Some-clause-known c =
     let s = c.args.self.now in
-    let moves = same_moves s.numbers c.ask.new.self.numbers c.args.block.now.nulls _ s.taken
-    c.ask.new.self.taken c.args.block.now.rows c.args.at c.in_ok-alone.ensures.numbers c.in_ok-alone.ensures.taken
-    (some_told c.ask.new.self.numbers _ _ _ c.args.block.now.nulls (λ v. v.items) c.in_ok-together.together _ c.in-Some.is
+    let moves = same_moves s.numbers c.ask_alone.new.self.numbers c.args.block.now.nulls _ s.taken
+    c.ask_alone.new.self.taken c.args.block.now.rows c.args.at c.in_ok-alone.ensures.numbers c.in_ok-alone.ensures.taken
+    (some_told c.ask_alone.new.self.numbers _ _ _ c.args.block.now.nulls (λ v. v.items) c.in_ok-together.together _ c.in-Some.is
     c.in_ok-together.ensures.exact) in
     rw (c.take_out.ensures, c.in_ok-together.ensures.taken, c.in_ok-alone.ensures.taken)
     (known_stays s.numbers (left_of s.numbers s.taken) _ c.args.block.now.nulls c.args.known.now.items
