@@ -20,7 +20,8 @@ use Rattle.dx_ports.specs.Members.{◌∈◌, here, there, Each}
 use Rattle.dx_ports.proofs.Members.{from_flat_map, from_map, in_at, in_flat_map, in_map}
 use Rattle.dx_schema.specs.Forest.{Forest}
 use Rattle.dx_model.specs.Tables.{Table}
-use Rattle.dx_schema.specs.Tables.{TableOf, as_numbers, model_tables, schema_widths, tables_of, no_table}
+use Rattle.dx_schema.specs.Tables.{TableOf, as_numbers, model_tables, schema_widths, tables_of}
+use Rattle.dx_schema.specs.Tables.{no_table as nothing_there}
 use Rattle.dx_schema.specs.Names.{Named, named_of, names_of_table}
 use Rattle.dx_funcs.specs.declared.conversion.Conversion.{Conversion}
 use Rattle.dx_funcs.specs.Names.{call_named, first_named}
@@ -175,7 +176,7 @@ named_long f = length-map (named_of f) (λ (t : Named). t.name) ∙ length-map (
 -- the width of a table that has a name
 pub width_at : (f : Forest) (t : ℕ) → t < length (tables_of f) → get_or (schema_widths f) t 0 ≡ length (table_numbered (named_of f) t).columns
 width_at f t h =
-    let d : TableOf = no_table in
+    let d : TableOf = nothing_there in
     get_or-map (λ (z : TableOf). length z.columns) (tables_of f) t d 0 h ∙ ap (λ (z : Named). length z.columns) (sym (get_or-map names_of_table (tables_of f) t d no_table h))
 
 wide_atom : (f : Forest) (name : Text) → name ∈ table_names (named_of f) → slice_get (schema_widths f) (table_named (named_of f) name) ≡ Some (length (table_numbered (named_of f) (table_named (named_of f) name)).columns)
