@@ -28,7 +28,7 @@ use Rattle.dx_model.specs.Values.{Conversions, Rows, RowsAscend, Text, Tuple, ro
 use Rattle.dx_model.proofs.RowsExist.{one_rows}
 use Rattle.dx_instance.specs.Stored.{TableRows, facts, rows_of}
 use Rattle.dx_schema.specs.Forest.{Forest, Tree, none, set}
-use Rattle.dx_schema.specs.Links.{IsAcyclic, IsFaultless, Leads, directly, further}
+use Rattle.dx_schema.specs.Links.{IsAcyclic, IsFaultless, Leads, directly, every_link, further}
 use Rattle.dx_schema.specs.Tables.{model_tables, table_at, tables_of}
 use Rattle.dx_grammar.specs.Readers.{no_more, one_more}
 use Rattle.dx_tokens.specs.declared.tokenizer.TokenKind.TheVariants.{Mark, Number, Word}
@@ -202,10 +202,10 @@ scanned = refl
 -- ---- what they say
 
 abbrev emps : Forest
-emps = set (record { name = codes "emp"; columns = codes "name" ∷ []; keys = []; refs = [] }) none none
+emps = set (record { name = codes "emp"; columns = codes "name" ∷ []; keys = []; deps = []; refs = [] }) none none
 
 abbrev persons : Forest
-persons = set (record { name = codes "person"; columns = codes "name" ∷ codes "phone" ∷ []; keys = []; refs = [] }) none none
+persons = set (record { name = codes "person"; columns = codes "name" ∷ codes "phone" ∷ []; keys = []; deps = []; refs = [] }) none none
 
 abbrev line : LineText
 line = record { source = sources.Column (place_text t24 t26); target = place_text t28 t30 }
@@ -263,23 +263,27 @@ is_text = record {
 not_in : (l : Link) (ls : List Link) → ls ≡ [] → ¬ (l ∈ ls)
 not_in l ls e m = elim (subst (λ ks. l ∈ ks) e m) [ ]
 
-no_links : (f : Forest) → ((t : ℕ) → (table_of (model_tables f) t).links ≡ []) → IsAcyclic (model_tables f)
+no_links : (f : Forest) → ((t : ℕ) → every_link (table_of (model_tables f) t) ≡ []) → IsAcyclic (model_tables f)
 no_links f empty = record {
   no_cycle = λ t h. never t t h;
-  within = λ t l m. absurd (not_in l (table_of (model_tables f) t).links (empty t) m);
+  within = λ t l m. absurd (not_in l (every_link (table_of (model_tables f) t)) (empty t) m);
 }
   where
     never : (t u : ℕ) → ¬ (Leads (model_tables f) t u)
-    never t u (directly l m) = not_in l (table_of (model_tables f) t).links (empty t) m
-    never t u (further {u = v} l h m) = not_in l (table_of (model_tables f) v).links (empty v) m
+    never t u (directly l m) = not_in l (every_link (table_of (model_tables f) t)) (empty t) m
+    never t u (further {u = v} l h m) = not_in l (every_link (table_of (model_tables f) v)) (empty v) m
 
-emp_links : (t : ℕ) → (table_of (model_tables emps) t).links ≡ []
+emp_links : (t : ℕ) → every_link (table_of (model_tables emps) t) ≡ []
 emp_links zero = refl
 emp_links (suc t) = refl
 
-person_links : (t : ℕ) → (table_of (model_tables persons) t).links ≡ []
+person_links : (t : ℕ) → every_link (table_of (model_tables persons) t) ≡ []
 person_links zero = refl
 person_links (suc t) = refl
+
+person_firm_links : (t : ℕ) → (table_of (model_tables persons) t).links ≡ []
+person_firm_links zero = refl
+person_firm_links (suc t) = refl
 
 person_determinations : (t : ℕ) → (table_of (model_tables persons) t).determinations ≡ []
 person_determinations zero = refl
@@ -518,7 +522,7 @@ solves convert = record {
   fits = λ f m. fits f m;
   rules = λ d m. each_rule d m;
   keys = λ a m b k same. no_determination a.table a.row b.row;
-  links = λ a m l k. absurd (not_in l (table_of (model_tables persons) a.table).links (person_links a.table) k);
+  links = λ a m l k. absurd (not_in l (table_of (model_tables persons) a.table).links (person_firm_links a.table) k);
 }
   where
     fits : (f : Fact) → f ∈ solution → FactFits (model_tables persons) f
