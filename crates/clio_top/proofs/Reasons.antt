@@ -10,9 +10,10 @@ use Rattle.dx_schema.specs.declared.fault.SchemaKind.{SchemaKind}
 use Rattle.dx_schema.specs.declared.fault.SchemaKind.TheVariants as schema_kinds
 use Rattle.dx_ports.specs.declared.file.Count.TheVariants.{Columns, Depth, Tables}
 use Rattle.dx_ports.specs.declared.file.Limit.{Limit}
+use Rattle.dx_schema.specs.declared.sets.DepDecl.{DepDecl}
 use Rattle.dx_schema.specs.declared.sets.KeyDecl.{KeyDecl}
 use Rattle.dx_schema.specs.declared.sets.RefDecl.{RefDecl}
-use Rattle.dx_schema.specs.Faults.{columns_fault, declared_at, depth, fault_if, form_fault, is_among, key_fault, names_within, ref_fault, rules_fault, set_fault, sets_fault, size_fault, twice_in}
+use Rattle.dx_schema.specs.Faults.{columns_fault, declared_at, depth, fault_if, form_fault, is_among, dep_fault, key_fault, names_within, ref_fault, rules_fault, set_fault, sets_fault, size_fault, twice_in}
 use Rattle.dx_schema.specs.Forest.{Forest}
 use Rattle.dx_schema.specs.Links.{IsFirstFault}
 use Rattle.dx_schema.specs.Tables.{Placed, columns_of, count, names_of, number_of, sets_of}
@@ -180,10 +181,27 @@ ref_lacks sets s r =
       ),
     )
 
+dep_lacks : (s : Placed) (d : DepDecl) → Lacks no_room (dep_fault s d)
+dep_lacks s d =
+    all_lack no_room
+    (fault_if (eqb (length d.columns) 0 || eqb (length d.decides) 0) (schema_faults.Bad (schema_kinds.BadLink s.label.name))
+    ∷ columns_fault s.label.columns [] d.columns
+    ∷ columns_fault s.label.columns [] d.decides
+    ∷ []) (
+      if_bad (eqb (length d.columns) 0 || eqb (length d.decides) 0) (schema_kinds.BadLink s.label.name),
+      (columns_lack s.label.columns [] d.columns, (columns_lack s.label.columns [] d.decides, tt)),
+    )
+
 rules_lack : (sets : List Placed) (s : Placed) → Lacks no_room (rules_fault sets s)
 rules_lack sets s =
-    all_lack no_room (first_of (map (key_fault s) s.label.keys) ∷ first_of (map (ref_fault sets s) s.label.refs) ∷ [])
-    (each_lacks no_room (key_fault s) s.label.keys (key_lacks s), (each_lacks no_room (ref_fault sets s) s.label.refs (ref_lacks sets s), tt))
+    all_lack no_room
+    (first_of (map (key_fault s) s.label.keys) ∷ first_of (map (dep_fault s) s.label.deps) ∷ first_of (map (ref_fault sets s) s.label.refs) ∷ []) (
+      each_lacks no_room (key_fault s) s.label.keys (key_lacks s),
+      (
+        each_lacks no_room (dep_fault s) s.label.deps (dep_lacks s),
+        (each_lacks no_room (ref_fault sets s) s.label.refs (ref_lacks sets s), tt),
+      ),
+    )
 
 form_lacks : (f : Forest) → Lacks no_room (form_fault f)
 form_lacks f =
