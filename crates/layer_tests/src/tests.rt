@@ -67,7 +67,7 @@ fn passing(alloc: Global, kind: Kind, cases: &str) -> Result<usize, AllocError> 
 
 #[test]
 fn sets_are_built_or_refused(rt: HostRuntime) -> Result<(), Fail> {
-    assert_eq!(rt; passing(rt.alloc(), Kind::Sets, sets::SETS)?, 31);
+    assert_eq!(rt; passing(rt.alloc(), Kind::Sets, sets::SETS)?, 43);
     Ok(())
 }
 
