@@ -70,7 +70,7 @@ fn cut_column(
     Ok(())
 }
 
-/// Up to how many rows a table is gone through for an atom of which no number is known, though one of its variables has a list.
+/// Up to how many rows a table is gone through for an atom of which no number is known, though some variable has a list.
 const NARROW: u32 = 64;
 
 /// Whether one number is left of a term.
@@ -84,33 +84,30 @@ pub(crate) fn is_known(domains: &[Domain], term: Term) -> bool {
     }
 }
 
-// Whether a term has a list of numbers.
-fn has_list(domains: &[Domain], term: Term) -> bool {
-    match term {
-        Term::Number(_) => false,
-        Term::Variable(variable) => match domains.get(variable as usize) {
-            Some(Domain::Many(_)) => true,
-            _ => false,
-        },
+// Whether some variable has a list of numbers.
+fn is_listed(domains: &[Domain]) -> bool {
+    for domain in domains {
+        if let Domain::Many(_) = domain {
+            return true;
+        }
     }
+    false
 }
 
-// Whether the atom waits: to find its rows takes a look at each row of a large table, and one of its variables has a list, so that
-// a number is tried first.
+// Whether the atom waits: to find its rows takes a look at each row of a large table, and some variable has a list, so that a
+// number of that is tried first.
 fn waits(question: &Question<'_, '_>, domains: &[Domain], atom: &PatternAtom) -> bool
     requires { atom.now.table < length question.now.numbers.now.tables }
 {
     if question.numbers.count(atom.table) <= NARROW {
         return false;
     }
-    let mut is_listed = false;
     for term in atom.terms.items() {
         if is_known(domains, *term) {
             return false;
         }
-        is_listed = is_listed || has_list(domains, *term);
     }
-    is_listed
+    is_listed(domains)
 }
 
 /// Cuts the domains of an atom's variables to the numbers that they have in rows that the atom can be. Says whether there is

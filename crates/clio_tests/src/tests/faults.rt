@@ -180,27 +180,6 @@ fn each_write_can_fail(rt: HostRuntime) -> Result<(), Fail> {
     Ok(())
 }
 
-/// Whether a run whose summary is cut after seven bytes is told so, and leaves all files and these.
-fn leaves_a_part(alloc: Global) -> Result<bool, AllocError> {
-    let mut outputs = MemOutputs::cutting(alloc, vec![in alloc; 5]?, 7);
-    let ending = ending(alloc, "exchange", Vec::new(alloc), &mut outputs)?;
-    let message = message(alloc, &ending)?;
-    let mut files = first_files(alloc, 5)?;
-    files.push_str("rules.t")?;
-    let left = left(alloc, &outputs)?;
-    Ok(
-        ending.status() == 8
-            && message.as_str() == "write fault: 5 files written"
-            && left.as_slice() == files.as_bytes(),
-    )
-}
-
-#[test]
-fn a_part_of_the_summary_can_be_said(rt: HostRuntime) -> Result<(), Fail> {
-    assert!(rt; leaves_a_part(rt.alloc())?);
-    Ok(())
-}
-
 /// Whether a run of `show` whose saying fails is told so, and leaves nothing.
 fn saying_fails(alloc: Global) -> Result<bool, AllocError> {
     let outcome = outcome_of(alloc, "show", Vec::new(alloc), vec![in alloc; 0]?)?;
