@@ -158,7 +158,7 @@ fn guess(alloc: Global, question: &Question<'_, '_>) -> Result<Option<Vec<u32>>,
     }
     let mut domains = known_domains(alloc, question.known)?;
     let order = linked_order(alloc, question.atoms, question.known)?;
-    if !place_all(alloc, question, &mut domains, &order, 16 + 4 * count)? {
+    if !place_all(alloc, question, &mut domains, &order, 1_000 + 4 * count)? {
         return Ok(None);
     }
     answer_at(alloc, question, &domains)
