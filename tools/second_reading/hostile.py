@@ -10,7 +10,7 @@ from refusals import (DATA_BYTES, MAPPING, READ_FAULT, ROWS, TEXT_BYTES, WRITE_F
                       TooLong, Unsure)
 from sources import document_facts, table_rows
 
-COUNTS = ("text bytes|data bytes|tables|columns|depth|lines|occurrences|ways|candidates|rules|source cells|"
+COUNTS = ("text bytes|data bytes|tables|columns|depth|lines|variants|occurrences|ways|candidates|rules|source cells|"
           "target cells|frozen cells")
 USAGE = "usage: clio show [--core] | clio exchange [--core] [--nested] | clio demo N [--core]"
 STRING = r'"(?:[^"\\]|\\.)*"'
@@ -91,7 +91,7 @@ def folder_instance(folder, mapping):
             facts = [(number, row) for row in table_rows(content, table.columns, file)]
         for place, row in facts:
             instance.setdefault(place, set()).add(row)
-    return instance
+    return mapping.passing(instance)
 
 
 class HostileCheck:

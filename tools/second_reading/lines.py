@@ -1,9 +1,9 @@
-"""Rules from lines: unfoldings, ways, candidates, kept candidates and the rules that they become."""
+"""Rules from lines: the unfoldings of tables, ways, candidates, kept candidates and the rules that they become."""
 import itertools
 from dataclasses import dataclass
 from typing import NamedTuple, Optional
 
-from refusals import CANDIDATES, OCCURRENCES, WAYS, Limit
+from refusals import CANDIDATES, OCCURRENCES, VARIANTS, WAYS, Limit, TooLong
 from matches import CONVERSIONS
 from rules import EXISTENTIAL, LITERAL, VARIABLE, Atom, Cell, Derived, Rule, numbered
 
@@ -30,6 +30,7 @@ class Occurrence(NamedTuple):
     table: int
     variables: tuple
     parent: Optional[int]
+    is_optional: bool = False  # whether an optional link led here
 
 
 class Term(NamedTuple):
@@ -39,32 +40,80 @@ class Term(NamedTuple):
     arguments: tuple = ()
 
 
-def unfolding(tables, table):
-    """The occurrences that follow from a table along its links, in preorder."""
+def number_of_choices(tables, table):
+    """How many ways there are to follow the links of a table: each, and nothing or one way for each optional one."""
+    number = 1
+    for link in tables[table].links:
+        number *= number_of_choices(tables, link.table)
+    for link in tables[table].optional_links:
+        number *= 1 + number_of_choices(tables, link.table)
+    return number
+
+
+def largest(tables, table):
+    """The number of occurrences if every link is followed."""
+    return 1 + sum(largest(tables, link.table) for link in tables[table].every_link())
+
+
+def choices_of(tables, table):
+    """For each way to follow the links of a table: for each link the way that is followed behind it, or None."""
+    behind = [list(choices_of(tables, link.table)) for link in tables[table].links]
+    behind += [[None] + list(choices_of(tables, link.table)) for link in tables[table].optional_links]
+    return itertools.product(*behind)
+
+
+def unfolding(tables, table, choice):
+    """The occurrences that follow from a table along the chosen links, in preorder."""
     occurrences, fresh = [], itertools.count()
 
-    def visit(number, given, parent):
+    def visit(number, chosen, given, parent, is_optional):
         place = len(occurrences)
-        if place == OCCURRENCES:
-            raise Limit("occurrences", OCCURRENCES)
         columns = range(len(tables[number].columns))
         variables = tuple(given[column] if column in given else next(fresh) for column in columns)
-        occurrences.append(Occurrence(number, variables, parent))
-        for link in tables[number].links:
-            shared = {there: variables[here] for here, there in zip(link.own, link.referred)}
-            visit(link.table, shared, place)
+        occurrences.append(Occurrence(number, variables, parent, is_optional))
+        for position, (link, behind) in enumerate(zip(tables[number].every_link(), chosen)):
+            if behind is not None:
+                shared = {there: variables[here] for here, there in zip(link.own, link.referred)}
+                visit(link.table, behind, shared, place, position >= len(tables[number].links))
 
-    visit(table, {}, None)
+    visit(table, choice, {}, None, False)
     return occurrences
 
 
-def subtree(occurrences, top):
-    """The places of an occurrence and of all that follow from it."""
-    inside = {top}
+def variants_of(tables):
+    """For each table its unfoldings. Their number is looked at before they are made, table by table."""
+    variants, counted = [], 0
+    for table in range(len(tables)):
+        counted += number_of_choices(tables, table)
+        if counted > VARIANTS:
+            raise Limit("variants", VARIANTS)
+        if largest(tables, table) > OCCURRENCES:
+            raise Limit("occurrences", OCCURRENCES)
+        variants.append([unfolding(tables, table, choice) for choice in choices_of(tables, table)])
+    return variants
+
+
+def parts_at(occurrences, top):
+    """The sets of places that an occurrence and what follows from it give if some optional ones, with all behind them, are left out."""
+    parts = [frozenset([top])]
     for place, occurrence in enumerate(occurrences):
-        if occurrence.parent in inside:
-            inside.add(place)
-    return sorted(inside)
+        if occurrence.parent == top:
+            below = parts_at(occurrences, place) + [frozenset()] * occurrence.is_optional
+            parts = [one | other for one in parts for other in below]
+            if len(parts) > 3000:
+                raise TooLong()
+    return parts
+
+
+def greatest_proper_parts(occurrences):
+    """The parts that aren't the whole and lie in no other such part; in a greater part each line has more ways."""
+    parts = {part for top in range(len(occurrences)) for part in parts_at(occurrences, top)}
+    proper = sorted((part for part in parts if len(part) < len(occurrences)), key=len, reverse=True)
+    greatest = []
+    for part in proper:
+        if not any(part < other for other in greatest):
+            greatest.append(part)
+    return [[occurrences[place] for place in sorted(part)] for part in greatest]
 
 
 def terms_of(line, source):
@@ -116,18 +165,13 @@ def number_of_candidates(ways):
 
 
 def smaller_ways(lines, source, target):
-    """The ways of each pair of subtrees that leaves something out."""
-    smaller = []
-    for top in range(len(source)):
-        part = [source[place] for place in subtree(source, top)]
-        for other in range(len(target)):
-            if (top, other) != (0, 0):
-                smaller.append(ways_of(lines, part, [target[place] for place in subtree(target, other)]))
-    return smaller
+    """The ways of each greatest pair of parts that leaves something out of one side."""
+    return ([ways_of(lines, part, target) for part in greatest_proper_parts(source)]
+            + [ways_of(lines, source, part) for part in greatest_proper_parts(target)])
 
 
 def is_dropped(picks, smaller):
-    """Whether each pick is also a way of one pair of smaller subtrees."""
+    """Whether each pick is also a way of one pair of smaller parts."""
     return any(all(term in ways.get(variable, ()) for variable, term in picks.items()) for ways in smaller)
 
 
@@ -166,9 +210,8 @@ def rule_of(picks, literals, source, target):
 
 
 def rules_of_lines(lines, source, target):
-    """The rules of the kept candidates of all pairs of a source and a target table, in order."""
-    sources = [unfolding(source, number) for number in range(len(source))]
-    targets = [unfolding(target, number) for number in range(len(target))]
+    """The rules of the kept candidates of all pairs of an unfolding of a source and one of a target table, in order."""
+    sources, targets = sum(variants_of(source), []), sum(variants_of(target), [])
     pairs = [(one, other, ways_of(lines, one, other)) for one in sources for other in targets]
     if any(sum(map(len, ways.values())) > WAYS for _, _, ways in pairs):
         raise Limit("ways", WAYS)

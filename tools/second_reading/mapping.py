@@ -1,25 +1,43 @@
 """A mapping: two schemas, lines and hand-written rules, and the rule list that it defines."""
 from dataclasses import dataclass, field
+from typing import NamedTuple
 
 from homomorphisms import pruned
 from refusals import OCCURRENCES, RULES, Limit, TooLong
-from lines import rules_of_lines
+from lines import Column, rules_of_lines
+from matches import TESTS
 from rules import closed
 from schema import tables_of
 
 READABLE_RULES = 30  # more rules than these take a search by plain trial too long
 
 
+class Condition(NamedTuple):
+    """A condition: a source column, and the name of the test that its texts have to pass."""
+    column: Column
+    test: str
+
+
 @dataclass
 class Mapping:
-    """Two schemas as set trees, lines, and rules as they were written by hand."""
+    """Two schemas as set trees, lines, conditions, and rules as they were written by hand."""
     source_trees: list
     target_trees: list
     lines: list = field(default_factory=list)
     rules: list = field(default_factory=list)
+    conditions: list = field(default_factory=list)
+    version: int = 1
 
     def __post_init__(self):
         self.source, self.target = tables_of(self.source_trees), tables_of(self.target_trees)
+
+    def passing(self, instance):
+        """The rows of a source instance that pass every condition on their table."""
+        def passes(number, row):
+            return all(TESTS[condition.test](row[condition.column.column]) for condition in self.conditions
+                       if condition.column.table == number)
+
+        return {number: {row for row in rows if passes(number, row)} for number, rows in instance.items()}
 
     def rule_list(self):
         """The rules of the lines, then the closed hand-written rules, pruned; and how many they were before."""

@@ -31,6 +31,12 @@ class LineText(NamedTuple):
     target: PlaceText
 
 
+class OnlyText(NamedTuple):
+    """A condition as it is written: a column and the name of a test."""
+    place: PlaceText
+    test: Token
+
+
 class CallText(NamedTuple):
     """An atom or the call of a conversion as it is written."""
     name: Token
@@ -129,7 +135,7 @@ class Reader:
     """Reads the grammar from left to right; each step names all tokens that can stand next."""
 
     def __init__(self, text):
-        self.text, self.place = text, 0
+        self.text, self.place, self.version = text, 0, 1
 
     def is_at_end(self):
         return blanks_end(self.text, self.place) == len(self.text)
@@ -157,20 +163,21 @@ class Reader:
         return parts, end
 
     def mapping(self):
-        """A whole text: two lists of set trees, the lines and the rules."""
-        for one in ('"mapping"', '"1"', ";", '"source"', "{"):
+        """A whole text: two lists of set trees, the lines, the conditions and the rules."""
+        self.take('"mapping"')
+        self.version = int(self.take('"1"', '"2"').text)
+        for one in (";", '"source"', "{"):
             self.take(one)
         source = self.sets()
         for one in ('"target"', "{"):
             self.take(one)
         target = self.sets()
-        lines, rules = [], []
+        items = {"line": [], "only": [], "rule": []}
+        words = ('"line"', '"rule"') if self.version == 1 else ('"line"', '"rule"', '"only"')
         while not self.is_at_end():
-            if self.take('"line"', '"rule"').text == "line":
-                lines.append(self.line())
-            else:
-                rules.append(self.rule())
-        return source, target, lines, rules
+            word = self.take(*words).text
+            items[word].append({"line": self.line, "only": self.only, "rule": self.rule}[word]())
+        return source, target, items["line"], items["only"], items["rule"]
 
     def sets(self):
         trees = []
@@ -203,6 +210,10 @@ class Reader:
             else:
                 self.take("->")
                 tree.references.append(Reference(columns, self.take("word").text, self.words()))
+                if self.version > 1 and self.take(";", '"optional"').kind == "word":
+                    tree.references[-1].optional = True
+                elif self.version > 1:
+                    continue
             self.take(";")
 
     def column(self, set_name=None):
@@ -227,6 +238,12 @@ class Reader:
         target = self.column()
         self.take(";")
         return LineText(literal, conversion, columns, target)
+
+    def only(self):
+        """A condition after the word `only`."""
+        condition = OnlyText(self.column(), self.take("word"))
+        self.take(";")
+        return condition
 
     def call(self, *kinds):
         """A name with cells in parentheses."""

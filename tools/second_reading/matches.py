@@ -16,6 +16,10 @@ CONVERSIONS = [  # in the order of their codes
     Conversion("digits", 1, lambda text: "".join(c for c in text if c in "0123456789")),
     Conversion("pair", 2, lambda first, second: first + " " + second),
 ]
+TESTS = {
+    "filled": lambda text: text != "",
+    "numeric": lambda text: text != "" and all(character in "0123456789" for character in text),
+}
 NAMED = {conversion.name: conversion for conversion in CONVERSIONS}
 
 

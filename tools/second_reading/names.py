@@ -1,8 +1,8 @@
 """From a mapping text to a mapping: what is wrong with its names, or the mapping that it defines."""
 from lines import Column, Line
-from mapping import Mapping
+from mapping import Condition, Mapping
 from mapping_text import Reader, fault
-from matches import NAMED
+from matches import NAMED, TESTS
 from refusals import COLUMNS, LINES, MAPPING, TABLES, Limit, Refusal
 from rules import EXISTENTIAL, LITERAL, VARIABLE, Atom, Cell, Derived, Rule
 from schema import preorder, tables_of
@@ -61,7 +61,7 @@ def leads_back(tables, start):
     """Whether links lead from a table back to it."""
     seen, left = set(), [start]
     while left:
-        for link in tables[left.pop()].links:
+        for link in tables[left.pop()].every_link():
             if link.table == start:
                 return True
             if link.table not in seen:
@@ -101,6 +101,14 @@ def line_of(text, mapping):
     columns = tuple(column_of(place, mapping.source) for place in text.columns)
     target = column_of(text.target, mapping.target)
     return Line(target, columns, text.conversion and text.conversion.text, text.literal and text.literal.text)
+
+
+def condition_of(text, mapping):
+    """A condition: its set, its column, then its test."""
+    column = column_of(text.place, mapping.source)
+    if text.test.text not in TESTS:
+        raise fault("unknown name", text.test.start)
+    return Condition(column, text.test.text)
 
 
 def atom_table(call, tables):
@@ -149,15 +157,17 @@ def conclusion_of(text, mapping, names):
 
 def read_mapping(text):
     """The mapping of a text, or its first fault up to the names of its rules."""
-    source, target, lines, rules = Reader(text).mapping()
+    reader = Reader(text)
+    source, target, lines, conditions, rules = reader.mapping()
     check_schema(source, "source")
     check_schema(target, "target")
     for tree in preorder(target):
         if tree.name in ("nulls", "fold"):
             raise Refusal(MAPPING, "mapping: target: reserved name %s" % tree.name)
-    if len(lines) > LINES:
+    if len(lines) + len(conditions) > LINES:
         raise Limit("lines", LINES)
-    mapping = Mapping(source, target)
+    mapping = Mapping(source, target, version=reader.version)
     mapping.lines = [line_of(line, mapping) for line in lines]
+    mapping.conditions = [condition_of(condition, mapping) for condition in conditions]
     mapping.rules = [rule_of(rule, mapping) for rule in rules]
     return mapping

@@ -5,8 +5,8 @@ from dataclasses import dataclass
 from files import csv_text
 from keyed_cases import keyed_case
 from lines import Column, Line
-from mapping import Mapping
-from matches import CONVERSIONS
+from mapping import Condition, Mapping
+from matches import CONVERSIONS, TESTS
 from rules import EXISTENTIAL, LITERAL, VARIABLE, Atom, Cell, Derived, Rule
 from schema import Reference, SetTree, is_acyclic, preorder, tables_of
 from spelling import mapping_tokens, spelled
@@ -24,8 +24,8 @@ class Case:
     files: dict
 
 
-def random_trees(random, prefix, most):
-    """Set trees of one to `most` sets, with nesting, keys and refs whose links make no circle."""
+def random_trees(random, prefix, most, optional=0):
+    """Set trees of one to `most` sets, with nesting, keys and refs whose links make no circle; of the refs this part is optional."""
     odd = random.sample(SET_NAMES, len(SET_NAMES)) if random.random() < .1 else []
     number, names = random.randint(1, most), odd + ["%s%d" % (prefix, place) for place in range(most)]
     trees, sets = [], []
@@ -39,6 +39,8 @@ def random_trees(random, prefix, most):
     for tree in preorder(trees):
         for _ in range(random.choice([0, 0, 0, 1, 1, 2])):
             add_reference(random, trees, tree)
+        for reference in tree.references:
+            reference.optional = optional > 0 and random.random() < optional
     return trees
 
 
@@ -115,6 +117,11 @@ def random_column(random, tables):
     table = random.randrange(len(tables))
     name = random.choice(tables[table].tree.columns)
     return Column(table, tables[table].columns.index(name))
+
+
+def random_condition(random, source):
+    """A condition on any column that is declared."""
+    return Condition(random_column(random, source), random.choice(list(TESTS)))
 
 
 class Source:
@@ -195,17 +202,20 @@ class Source:
 
 
 def random_case(random, kind):
-    """A case of one of the kinds `rules`, `lines`, `mixed` and `keyed`."""
+    """A case of one of the kinds `rules`, `lines`, `mixed`, `keyed` and `optional`."""
     if kind == "keyed":
         return keyed_case(random, Case)
-    most = 5 if kind == "lines" else 4
-    source_trees, target_trees = random_trees(random, "s", most), random_trees(random, "t", most)
+    most, optional = 5 if kind == "lines" else 4, .6 if kind == "optional" else 0
+    source_trees, target_trees = (random_trees(random, prefix, most, optional) for prefix in "st")
     if kind == "lines" and random.random() < .01:
         source_trees = chain_of_sets(random, "s")
     if kind == "lines" and random.random() < .01:
         target_trees = chain_of_sets(random, "t")
     mapping = Mapping(source_trees, target_trees)
-    if kind != "lines":
+    if kind == "optional":
+        mapping.version = 2
+        mapping.conditions = [random_condition(random, mapping.source) for _ in range(random.choice([0, 0, 1, 1, 2, 3]))]
+    if kind not in ("lines", "optional") or (kind == "optional" and random.random() < .3):
         mapping.rules = [random_rule(random, mapping.source, mapping.target) for _ in range(random.randint(1, 4))]
         if random.random() < .3:
             mapping.rules.append(random.choice(mapping.rules))
@@ -213,4 +223,4 @@ def random_case(random, kind):
         mapping.lines = [random_line(random, mapping.source, mapping.target) for _ in range(random.randint(1, 8))]
     source = Source(random, source_trees)
     source.files["mapping.clio"] = spelled(mapping_tokens(mapping, random), random)
-    return Case(mapping, source.instance, source.files)
+    return Case(mapping, mapping.passing(source.instance), source.files)

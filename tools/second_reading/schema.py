@@ -9,6 +9,7 @@ class Reference:
     own: list
     name: str
     referred: list
+    optional: bool = False
 
 
 @dataclass
@@ -38,6 +39,11 @@ class Table:
     inner: list = field(default_factory=list)
     keys: list = field(default_factory=list)
     links: list = field(default_factory=list)
+    optional_links: list = field(default_factory=list)
+
+    def every_link(self):
+        """The links, then the optional ones."""
+        return self.links + self.optional_links
 
     def numbers(self, names):
         return tuple(self.columns.index(name) for name in names)
@@ -68,6 +74,7 @@ def tables_of(trees):
     for table in tables:
         table.keys = keys_of(table)
         table.links = links_of(table, tables)
+        table.optional_links = refs_of(table, tables, True)
     return tables
 
 
@@ -79,11 +86,19 @@ def keys_of(table):
 
 
 def links_of(table, tables):
-    """The links of a table: `#up` to the parent's `#id`, then the refs."""
+    """The links of a table: `#up` to the parent's `#id`, then the refs that aren't optional."""
     links = []
     if table.parent is not None:
         links.append(Link(table.numbers(["#up"]), table.parent, tables[table.parent].numbers(["#id"])))
+    return links + refs_of(table, tables, False)
+
+
+def refs_of(table, tables, optional):
+    """The refs of a table that are optional, or those that aren't."""
+    links = []
     for reference in table.tree.references:
+        if reference.optional != optional:
+            continue
         number = next(n for n, other in enumerate(tables) if other.name == reference.name)
         links.append(Link(table.numbers(reference.own), number, tables[number].numbers(reference.referred)))
     return links
@@ -99,7 +114,7 @@ def is_acyclic(tables):
         if number in finished:
             return False
         open_now.add(number)
-        back = any(leads_back(link.table) for link in tables[number].links)
+        back = any(leads_back(link.table) for link in tables[number].every_link())
         open_now.remove(number)
         finished.add(number)
         return back

@@ -21,8 +21,8 @@ def joined(parts):
 def set_tokens(tree, random):
     """A set; its keys, refs and inner sets stand in any order, but each of these three lists in its own."""
     keys = [["key", "("] + listed(key) + [")", ";"] for key in tree.keys]
-    references = [["ref", "("] + listed(one.own) + [")", "->", one.name, "("] + listed(one.referred) + [")", ";"]
-                  for one in tree.references]
+    references = [["ref", "("] + listed(one.own) + [")", "->", one.name, "("] + listed(one.referred) + [")"]
+                  + ["optional"] * one.optional + [";"] for one in tree.references]
     inner = [set_tokens(one, random) for one in tree.inner]
     clauses = shuffled([keys, references, inner], random)
     return ["set", tree.name, "{"] + listed(tree.columns) + [";"] + sum(clauses, []) + ["}"]
@@ -54,6 +54,11 @@ def line_tokens(line, mapping):
     else:
         source = columns[0]
     return ["line"] + source + ["->"] + column_tokens(mapping.target, line.target) + [";"]
+
+
+def condition_tokens(condition, mapping):
+    """A condition."""
+    return ["only"] + column_tokens(mapping.source, condition.column) + [condition.test, ";"]
 
 
 def rule_tokens(rule, mapping, names):
@@ -89,12 +94,13 @@ def variable_names(rule, random):
 
 def mapping_tokens(mapping, random):
     """A whole mapping text."""
-    tokens = ["mapping", "1", ";"]
+    tokens = ["mapping", str(mapping.version), ";"]
     for side, trees in (("source", mapping.source_trees), ("target", mapping.target_trees)):
         tokens += [side, "{"] + sum([set_tokens(tree, random) for tree in trees], []) + ["}"]
     lines = [line_tokens(line, mapping) for line in mapping.lines]
     rules = [rule_tokens(rule, mapping, variable_names(rule, random)) for rule in mapping.rules]
-    return tokens + sum(shuffled([lines, rules], random), [])
+    conditions = [condition_tokens(condition, mapping) for condition in mapping.conditions]
+    return tokens + sum(shuffled([lines, conditions, rules], random), [])
 
 
 BLANKS = ["\n", "\t", "\r\n", "  ", " // a comment; \"\n", "//\n", " //-> \u00fc\n"]

@@ -68,14 +68,13 @@ fn ending(
     ending_of(alloc, word, reads, outputs, &host)
 }
 
-/// How it ended and what it left, where these calls of the inputs and of the outputs fail.
+/// How it ended and what it left in the outputs, where these calls of the inputs fail.
 fn outcome_of(
     alloc: Global,
     word: &str,
     reads: Vec<u64>,
-    writes: Vec<u64>,
+    mut outputs: MemOutputs,
 ) -> Result<Outcome, AllocError> {
-    let mut outputs = MemOutputs::new(alloc, writes);
     let ending = ending(alloc, word, reads, &mut outputs)?;
     let message = message(alloc, &ending)?;
     Ok(Outcome {
@@ -103,16 +102,16 @@ fn left(alloc: Global, outputs: &MemOutputs) -> Result<Vec<u8>, AllocError> {
     Ok(all)
 }
 
-/// Whether a run of `exchange` ended and left what is wanted, where these calls of the inputs and of the outputs fail.
+/// Whether a run of `exchange` ended and left what is wanted in the outputs, where these calls of the inputs fail.
 fn ends_so(
     alloc: Global,
     reads: Vec<u64>,
-    writes: Vec<u64>,
+    outputs: MemOutputs,
     status: u8,
     text: &str,
     files: &str,
 ) -> Result<bool, AllocError> {
-    let outcome = outcome_of(alloc, "exchange", reads, writes)?;
+    let outcome = outcome_of(alloc, "exchange", reads, outputs)?;
     let left = left(alloc, &outcome.outputs)?;
     Ok(
         outcome.status == status
@@ -124,7 +123,8 @@ fn ends_so(
 /// Whether the read with this number, failing, leaves nothing and is told so.
 fn read_fails(alloc: Global, number: u64, text: &str) -> Result<bool, AllocError> {
     let reads = vec![in alloc; number]?;
-    ends_so(alloc, reads, Vec::new(alloc), 7, text, "")
+    let outputs = MemOutputs::new(alloc, Vec::new(alloc));
+    ends_so(alloc, reads, outputs, 7, text, "")
 }
 
 #[test]
@@ -156,15 +156,15 @@ fn first_files(alloc: Global, number: usize) -> Result<String, AllocError> {
 /// Whether the call of the outputs with this number, failing, leaves the files before it. The last number is of no call.
 fn leaves_the_files_before(alloc: Global, number: usize) -> Result<bool, AllocError> {
     let files = first_files(alloc, number)?;
-    let writes = vec![in alloc; number as u64]?;
+    let outputs = MemOutputs::new(alloc, vec![in alloc; number as u64]?);
     if number == 6 {
-        return ends_so(alloc, Vec::new(alloc), writes, 0, "", files.as_str());
+        return ends_so(alloc, Vec::new(alloc), outputs, 0, "", files.as_str());
     }
     let text = format!(in alloc; "write fault: {number} files written")?;
     ends_so(
         alloc,
         Vec::new(alloc),
-        writes,
+        outputs,
         8,
         text.as_str(),
         files.as_str(),
@@ -180,9 +180,31 @@ fn each_write_can_fail(rt: HostRuntime) -> Result<(), Fail> {
     Ok(())
 }
 
+/// Whether a run whose summary is cut after seven bytes is told so, and leaves all files and these bytes.
+fn leaves_a_part(alloc: Global) -> Result<bool, AllocError> {
+    let mut files = first_files(alloc, 5)?;
+    files.push_str("rules.t")?;
+    let outputs = MemOutputs::cutting(alloc, vec![in alloc; 5]?, 7);
+    ends_so(
+        alloc,
+        Vec::new(alloc),
+        outputs,
+        8,
+        "write fault: 5 files written",
+        files.as_str(),
+    )
+}
+
+#[test]
+fn a_part_of_the_summary_can_be_said(rt: HostRuntime) -> Result<(), Fail> {
+    assert!(rt; leaves_a_part(rt.alloc())?);
+    Ok(())
+}
+
 /// Whether a run of `show` whose saying fails is told so, and leaves nothing.
 fn saying_fails(alloc: Global) -> Result<bool, AllocError> {
-    let outcome = outcome_of(alloc, "show", Vec::new(alloc), vec![in alloc; 0]?)?;
+    let outputs = MemOutputs::new(alloc, vec![in alloc; 0]?);
+    let outcome = outcome_of(alloc, "show", Vec::new(alloc), outputs)?;
     let left = left(alloc, &outcome.outputs)?;
     Ok(
         outcome.status == 8
