@@ -1,9 +1,9 @@
-"""The key chase: keys make values equal until they hold, or two constants clash."""
+"""The chase: keys and dependencies make values equal until they hold, or two constants clash."""
 from values import Null, image, value_order
 
 
 class Chase:
-    """The classes of values that the keys of a schema force to be equal in some facts."""
+    """The classes of values that the keys and dependencies of a schema force to be equal in some facts."""
 
     def __init__(self, facts, tables):
         self.facts, self.tables, self.replaced, self.clash = facts, tables, {}, False
@@ -21,22 +21,22 @@ class Chase:
         return image(self.facts, self.value)
 
     def step(self):
-        """Makes all rows equal that agree on a key now; answers whether something changed."""
+        """Makes rows that agree on the left of a determination now agree on its right; answers whether something changed."""
         changed = False
         facts = self.instance()
         for number, table in enumerate(self.tables):
             rows = [fact.row for fact in facts if fact.table == number]
-            for key in table.keys:
+            for left, right in table.determinations():
                 first = {}
                 for row in rows:
-                    agreed = tuple(row[column] for column in key)
-                    changed |= self.make_equal(first.setdefault(agreed, row), row)
+                    agreed = tuple(row[column] for column in left)
+                    changed |= self.make_equal(first.setdefault(agreed, row), row, right)
         return changed
 
-    def make_equal(self, row, other):
-        """Puts the values of two rows, column by column, into one class; two constants are a clash."""
+    def make_equal(self, row, other, columns):
+        """Puts the values of two rows in these columns into one class each; two constants are a clash."""
         changed = False
-        for one, two in zip(row, other):
+        for one, two in ((row[column], other[column]) for column in columns):
             least, greatest = sorted((self.value(one), self.value(two)), key=value_order)
             if least == greatest:
                 continue

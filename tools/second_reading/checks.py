@@ -102,7 +102,7 @@ class CaseCheck:
         self.check_texts(run, core, nested, target, fold)
 
     def check_clash(self, run, chase):
-        """A clash names a key of the target and two texts, and nothing is written."""
+        """A clash names the left columns of a key or dependency of the target and two texts, and nothing is written."""
         same((run.status, run.said, run.files), (3, "", {}), "status of a clash")
         string = r'("(?:[^"\\]|\\.)*")'
         form = r"clash: table (\w+), key \(([#\w, ]+)\): %s and %s in column ([#\w]+)\n" % (string, string)
@@ -110,9 +110,10 @@ class CaseCheck:
         holds(told, "message of a clash: " + run.told)
         table = next((table for table in self.target if table.name == told[1]), None)
         holds(table, "no such table: " + run.told)
-        keys = [[table.columns[column] for column in key] for key in table.keys]
-        holds(told[2].split(", ") in keys, "no such key: " + run.told)
-        holds(told[5] in table.columns and told[5] not in told[2].split(", "), "no such column: " + run.told)
+        names = lambda columns: [table.columns[column] for column in columns]
+        rights = [names(right) for left, right in table.determinations() if names(left) == told[2].split(", ")]
+        holds(rights, "no such key: " + run.told)
+        holds(any(told[5] in right for right in rights) and told[5] not in told[2].split(", "), "no such column: " + run.told)
         holds(told[3] != told[4], "a clash of one text: " + run.told)
 
     def read_target(self, run):

@@ -4,8 +4,9 @@ import re
 from typing import NamedTuple, Optional
 
 from refusals import DEPTH, MAPPING, Limit, Refusal
-from schema import Reference, SetTree
+from schema import Dependency, Reference, SetTree
 
+VERSIONS = 2  # the versions of the mapping text that the program reads
 WORD, NUMBER = re.compile(rb"[A-Za-z_][A-Za-z0-9_]*"), re.compile(rb"[0-9]+")
 
 
@@ -165,7 +166,7 @@ class Reader:
     def mapping(self):
         """A whole text: two lists of set trees, the lines, the conditions and the rules."""
         self.take('"mapping"')
-        self.version = int(self.take('"1"', '"2"').text)
+        self.version = int(self.take(*['"%d"' % version for version in range(1, VERSIONS + 1)]).text)
         for one in (";", '"source"', "{"):
             self.take(one)
         source = self.sets()
@@ -196,7 +197,7 @@ class Reader:
         self.take("{")
         tree.columns = [token.text for token in self.listed(lambda: self.take("word"), ";")[0]]
         while True:
-            clause = self.take('"key"', '"ref"', '"set"', "}")
+            clause = self.take('"key"', '"ref"', '"set"', "}", *['"dep"'] * (self.version > 2))
             if clause.kind == "}":
                 return tree
             if clause.text == "set":
@@ -207,6 +208,9 @@ class Reader:
             columns = self.words()
             if clause.text == "key":
                 tree.keys.append(columns)
+            elif clause.text == "dep":
+                self.take("->")
+                tree.dependencies.append(Dependency(columns, self.words()))
             else:
                 self.take("->")
                 tree.references.append(Reference(columns, self.take("word").text, self.words()))

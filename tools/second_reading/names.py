@@ -21,6 +21,9 @@ def check_schema(trees, side):
     for tree in sets:
         for key in tree.keys:
             check_columns(key, tree.columns, refuse)
+        for dependency in tree.dependencies:
+            check_columns(dependency.left, tree.columns, refuse)
+            check_columns(dependency.right, tree.columns, refuse)
         for reference in tree.references:
             check_columns(reference.own, tree.columns, refuse)
             if reference.name not in columns:

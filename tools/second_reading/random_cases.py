@@ -8,7 +8,7 @@ from lines import Column, Line
 from mapping import Condition, Mapping
 from matches import CONVERSIONS, TESTS
 from rules import EXISTENTIAL, LITERAL, VARIABLE, Atom, Cell, Derived, Rule
-from schema import Reference, SetTree, is_acyclic, preorder, tables_of
+from schema import Dependency, Reference, SetTree, is_acyclic, preorder, tables_of
 from spelling import mapping_tokens, spelled
 
 TEXTS = ["a", "b", "c", "", " a", "1", "?0.0.0", "a,b", 'say "b"', "two\nlines", "\u00fc", "a ", "?", "\x010", "d' 7\r"]
@@ -119,6 +119,13 @@ def random_column(random, tables):
     return Column(table, tables[table].columns.index(name))
 
 
+def add_dependencies(random, tree):
+    """Gives a set up to three dependencies."""
+    columns = lambda: random.sample(tree.columns, random.randint(1, len(tree.columns)))
+    while random.random() < .6 and len(tree.dependencies) < 3:
+        tree.dependencies.append(Dependency(columns(), columns()))
+
+
 def random_condition(random, source):
     """A condition on any column that is declared."""
     return Condition(random_column(random, source), random.choice(list(TESTS)))
@@ -202,7 +209,7 @@ class Source:
 
 
 def random_case(random, kind):
-    """A case of one of the kinds `rules`, `lines`, `mixed`, `keyed` and `optional`."""
+    """A case of one of the kinds `rules`, `lines`, `mixed`, `keyed`, `optional` and `dependent`."""
     if kind == "keyed":
         return keyed_case(random, Case)
     most, optional = 5 if kind == "lines" else 4, .6 if kind == "optional" else 0
@@ -212,6 +219,10 @@ def random_case(random, kind):
     if kind == "lines" and random.random() < .01:
         target_trees = chain_of_sets(random, "t")
     mapping = Mapping(source_trees, target_trees)
+    if kind == "dependent":
+        mapping.version = 3
+        for tree in preorder(source_trees + target_trees):
+            add_dependencies(random, tree)
     if kind == "optional":
         mapping.version = 2
         mapping.conditions = [random_condition(random, mapping.source) for _ in range(random.choice([0, 0, 1, 1, 2, 3]))]

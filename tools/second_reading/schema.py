@@ -12,14 +12,21 @@ class Reference:
     optional: bool = False
 
 
+class Dependency(NamedTuple):
+    """A functional dependency: rows that agree on the left columns agree on the right ones."""
+    left: list
+    right: list
+
+
 @dataclass
 class SetTree:
-    """A set has a name, columns, keys, refs and inner sets."""
+    """A set has a name, columns, keys, refs, inner sets and dependencies."""
     name: str
     columns: list
     keys: list = field(default_factory=list)
     references: list = field(default_factory=list)
     inner: list = field(default_factory=list)
+    dependencies: list = field(default_factory=list)
 
 
 class Link(NamedTuple):
@@ -44,6 +51,13 @@ class Table:
     def every_link(self):
         """The links, then the optional ones."""
         return self.links + self.optional_links
+
+    def determinations(self):
+        """What rows agree on, and on what they then have to agree: for each key all columns, then the dependencies."""
+        up = ["#up"] if self.parent is not None else []
+        every = tuple(range(len(self.columns)))
+        return [(key, every) for key in self.keys] + [(self.numbers(up + one.left), self.numbers(one.right))
+                                                      for one in self.tree.dependencies]
 
     def numbers(self, names):
         return tuple(self.columns.index(name) for name in names)

@@ -21,10 +21,12 @@ def joined(parts):
 def set_tokens(tree, random):
     """A set; its keys, refs and inner sets stand in any order, but each of these three lists in its own."""
     keys = [["key", "("] + listed(key) + [")", ";"] for key in tree.keys]
+    dependencies = [["dep", "("] + listed(one.left) + [")", "->", "("] + listed(one.right) + [")", ";"]
+                    for one in tree.dependencies]
     references = [["ref", "("] + listed(one.own) + [")", "->", one.name, "("] + listed(one.referred) + [")"]
                   + ["optional"] * one.optional + [";"] for one in tree.references]
     inner = [set_tokens(one, random) for one in tree.inner]
-    clauses = shuffled([keys, references, inner], random)
+    clauses = shuffled([keys, dependencies, references, inner], random)
     return ["set", tree.name, "{"] + listed(tree.columns) + [";"] + sum(clauses, []) + ["}"]
 
 
