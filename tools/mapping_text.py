@@ -1,21 +1,31 @@
-"""The sets that a mapping text declares, for the tools beside this file.
+"""The sets and conditions that a mapping text declares, for the tools beside this file.
 
 It reads texts that clio accepts; of others it says only that they are none (`clio show` says what is wrong).
 """
 import re
+from typing import NamedTuple
 
 TOKEN = re.compile(r"[ \t\r\n]+|//[^\n]*|(?P<token>[A-Za-z_][A-Za-z0-9_]*|[0-9]+|\"(?:[^\"\\]|\\[\"\\])*\"|->|[{}(),;.=])")
 
 
+class Condition(NamedTuple):
+    """A test that the texts of a source column have to pass."""
+    set: str
+    column: str
+    test: str
+
+
 class Set:
-    """A set as a table: its columns with #id and #up, its keys, and its links to other tables."""
+    """A set as a table: its columns with #id and #up, its keys and dependencies, and its links to other tables."""
 
     def __init__(self, name, parent):
         self.name = name
         self.parent = parent
         self.declared = []
         self.declared_keys = []
+        self.declared_dependencies = []  # the columns that decide, and those that they decide
         self.refs = []  # columns, the other set's name, its columns
+        self.optional_refs = []
         self.inner = []
 
     @property
@@ -27,6 +37,11 @@ class Set:
     def keys(self):
         up = ["#up"] if self.parent else []
         return ([["#id"]] if self.inner else []) + [up + key for key in self.declared_keys]
+
+    @property
+    def dependencies(self):
+        up = ["#up"] if self.parent else []
+        return [(up + left, right) for left, right in self.declared_dependencies]
 
     @property
     def links(self):
@@ -65,7 +80,7 @@ class Reader:
         tables.append(made)
         self.take("{")
         made.declared = self.words()
-        while (word := self.take("key", "ref", "set", "}")) != "}":
+        while (word := self.take("key", "dep", "ref", "set", "}")) != "}":
             if word == "set":
                 made.inner.append(self.one_set(made, tables))
                 continue
@@ -73,13 +88,39 @@ class Reader:
             columns = self.words()
             if word == "key":
                 made.declared_keys.append(columns)
-            else:
+                self.take(";")
+            elif word == "dep":
                 self.take("->")
-                other = self.take()
                 self.take("(")
-                made.refs.append((columns, other, self.words()))
-            self.take(";")
+                made.declared_dependencies.append((columns, self.words()))
+                self.take(";")
+            else:
+                self.ref(made, columns)
         return made
+
+    def ref(self, made, columns):
+        """Reads on after the columns of a ref."""
+        self.take("->")
+        other = self.take()
+        self.take("(")
+        reference = (columns, other, self.words())
+        if self.take(";", "optional") == ";":
+            made.refs.append(reference)
+        else:
+            made.optional_refs.append(reference)
+            self.take(";")
+
+    def conditions(self):
+        """The conditions among the lines and rules."""
+        found = []
+        while self.next < len(self.tokens):
+            if self.take("line", "rule", "only") == "only":
+                name = self.take()
+                self.take(".")
+                found.append(Condition(name, self.take(), self.take()))
+            while self.take() != ";":
+                pass
+        return found
 
     def side(self, name):
         self.take(name)
@@ -90,13 +131,22 @@ class Reader:
         return tables
 
 
+class Mapping:
+    """The tables of the source and those of the target, each side in preorder, and the conditions."""
+
+    def __init__(self, text):
+        reader = Reader(text)
+        reader.take("mapping")
+        reader.take()
+        reader.take(";")
+        self.source, self.target = reader.side("source"), reader.side("target")
+        self.conditions = reader.conditions()
+
+
 def read_sets(text):
     """The tables of the source and those of the target, each side in preorder."""
-    reader = Reader(text)
-    reader.take("mapping")
-    reader.take()
-    reader.take(";")
-    return {"source": reader.side("source"), "target": reader.side("target")}
+    mapping = Mapping(text)
+    return {"source": mapping.source, "target": mapping.target}
 
 
 def in_order_of_links(tables):

@@ -1,0 +1,119 @@
+"""Database engines: how each is spoken to, and the few words in which their SQL differs."""
+import csv
+import io
+import sqlite3
+import subprocess
+
+
+class EngineError(Exception):
+    """The engine refused a statement."""
+
+
+class Engine:
+    """What all engines have in common. Work tables have plain names; `source` and `target` are schemas."""
+
+    def column(self, sql):
+        """The first column of the rows of a query, as texts."""
+        return [row[0] for row in self.rows(sql)]
+
+    def number(self, sql):
+        return int(self.column(sql)[0])
+
+    def make(self, table, query, index=()):
+        """Makes a work table anew."""
+        self.run(f"DROP TABLE IF EXISTS {table}")
+        self.run(f"CREATE TABLE {table} AS {query}")
+        if index:
+            self.run(f"CREATE INDEX {table}_by ON {table} ({', '.join(index)})")
+        self.ready(table)
+
+    def ready(self, table):
+        """Tells the engine that a table has its rows."""
+
+    def null(self, rule, variable, place):
+        """A null as the chase holds it: an `n`, and numbers of one length, so that nulls are ordered as bytes."""
+        return f"'n{rule:05}.{variable:05}.' || {self.padded(place)}"
+
+
+class Sqlite(Engine):
+    """SQLite, by Python's own module; the source is one file, the target another."""
+    before = ""
+
+    def __init__(self, source, target):
+        self.base = sqlite3.connect("", isolation_level=None)
+        self.base.execute("ATTACH ? AS source", (source,))
+        self.base.execute("ATTACH ? AS target", (target,))
+        self.base.create_function("clio_digits", 1, lambda text: "".join(c for c in text if c in "0123456789"), deterministic=True)
+
+    def run(self, sql):
+        try:
+            self.base.execute(sql)
+        except sqlite3.Error as error:
+            raise EngineError(f"{error}\n{sql}") from None
+
+    def rows(self, sql):
+        try:
+            return self.base.execute(sql).fetchall()
+        except sqlite3.Error as error:
+            raise EngineError(f"{error}\n{sql}") from None
+
+    def bytes(self, expression):
+        return expression
+
+    def least(self, cells):
+        """The least of some cells that isn't NULL."""
+        return f"(SELECT min(column1) FROM (VALUES {', '.join(f'({cell})' for cell in cells)}))"
+
+    def padded(self, number):
+        return f"printf('%010d', {number})"
+
+    conversions = {"trim": "trim({0}, ' ')", "digits": "clio_digits({0})", "pair": "{0} || ' ' || {1}"}
+    tests = {"filled": "{0} <> ''", "numeric": "({0} <> '' AND {0} NOT GLOB '*[^0-9]*')"}
+
+
+class Postgres(Engine):
+    """PostgreSQL, by a `psql` that runs as long as the tool does."""
+    MARK = "-- clio-sql: done --"
+
+    def __init__(self, connection):
+        words = ["psql", "-X", "-q", "--csv", "-t", "-v", "ON_ERROR_STOP=1", *([connection] if connection else [])]
+        self.psql = subprocess.Popen(words, stdin=subprocess.PIPE, stdout=subprocess.PIPE, stderr=subprocess.PIPE,
+                                     text=True, encoding="utf-8", newline="")
+        self.run("SET client_min_messages = warning; SET client_encoding = 'UTF8'; SET standard_conforming_strings = on;"
+                 "DROP SCHEMA IF EXISTS clio CASCADE; CREATE SCHEMA clio; CREATE SCHEMA IF NOT EXISTS target;"
+                 "SET search_path = clio")
+
+    def asked(self, sql):
+        """What psql prints for a statement."""
+        try:
+            self.psql.stdin.write(f"{sql};\n\\echo {self.MARK}\n")
+            self.psql.stdin.flush()
+        except BrokenPipeError:
+            pass
+        printed = []
+        for line in self.psql.stdout:
+            if line.rstrip("\n") == self.MARK:
+                return "".join(printed)
+            printed.append(line)
+        raise EngineError(self.psql.stderr.read().strip() or "psql has ended")
+
+    def run(self, sql):
+        self.asked(sql)
+
+    def rows(self, sql):
+        return list(csv.reader(io.StringIO(self.asked(sql), newline="")))
+
+    def ready(self, table):
+        self.run(f"ANALYZE {table}")
+
+    def bytes(self, expression):
+        return f'{expression} COLLATE "C"'
+
+    def least(self, cells):
+        return f"LEAST({', '.join(cells)})"
+
+    def padded(self, number):
+        return f"lpad(({number})::text, 10, '0')"
+
+    conversions = {"trim": "btrim({0}, ' ')", "digits": "regexp_replace({0}, '[^0123456789]', '', 'g')", "pair": "{0} || ' ' || {1}"}
+    tests = {"filled": "{0} <> ''", "numeric": "{0} ~ '^[0123456789]+$'"}
