@@ -77,8 +77,7 @@ class Postgres(Engine):
 
     def __init__(self, connection):
         words = ["psql", "-X", "-q", "--csv", "-t", "-v", "ON_ERROR_STOP=1", *([connection] if connection else [])]
-        self.psql = subprocess.Popen(words, stdin=subprocess.PIPE, stdout=subprocess.PIPE, stderr=subprocess.PIPE,
-                                     text=True, encoding="utf-8", newline="")
+        self.psql = subprocess.Popen(words, stdin=subprocess.PIPE, stdout=subprocess.PIPE, stderr=subprocess.PIPE)
         self.run("SET client_min_messages = warning; SET client_encoding = 'UTF8'; SET standard_conforming_strings = on;"
                  "DROP SCHEMA IF EXISTS clio CASCADE; CREATE SCHEMA clio; CREATE SCHEMA IF NOT EXISTS target;"
                  "SET search_path = clio")
@@ -86,16 +85,16 @@ class Postgres(Engine):
     def asked(self, sql):
         """What psql prints for a statement."""
         try:
-            self.psql.stdin.write(f"{sql};\n\\echo {self.MARK}\n")
+            self.psql.stdin.write(f"{sql};\n\\echo {self.MARK}\n".encode())
             self.psql.stdin.flush()
         except BrokenPipeError:
             pass
         printed = []
         for line in self.psql.stdout:
-            if line.rstrip("\n") == self.MARK:
-                return "".join(printed)
+            if line.rstrip(b"\n") == self.MARK.encode():
+                return b"".join(printed).decode()
             printed.append(line)
-        raise EngineError(self.psql.stderr.read().strip() or "psql has ended")
+        raise EngineError(self.psql.stderr.read().decode().strip() or "psql has ended")
 
     def run(self, sql):
         self.asked(sql)
