@@ -36,6 +36,11 @@ def records(content):
     return _numbered(io.StringIO(content.decode("utf-8", "surrogateescape"), newline=""))
 
 
+def ends_open(content):
+    """Whether a quote is never closed: what is put behind the bytes is then no record of its own."""
+    return sum(1 for _ in records(content + b"\nz")) == sum(1 for _ in records(content))
+
+
 def text(field):
     """The text of a field; a field whose bytes aren't UTF-8 is refused."""
     if field.isascii():
