@@ -1,7 +1,7 @@
 """From a mapping text to a mapping: what is wrong with its names, or the mapping that it defines."""
 from lines import Column, Line
+from grammar import Reader, fault
 from mapping import Condition, Mapping
-from mapping_text import Reader, fault
 from matches import NAMED, TESTS
 from refusals import COLUMNS, LINES, MAPPING, TABLES, Limit, Refusal
 from rules import EXISTENTIAL, LITERAL, VARIABLE, Atom, Cell, Derived, Rule
@@ -11,7 +11,7 @@ from schema import preorder, tables_of
 def check_schema(trees, side):
     """The first fault of a schema: of its sets, then of their keys and refs, then of its links."""
     def refuse(kind, name):
-        raise Refusal(MAPPING, "mapping: %s: %s %s" % (side, kind, name))
+        raise Refusal(MAPPING, "mapping: %s: %s %s" % (side, kind, name), name)
 
     sets = list(preorder(trees))
     if len(sets) > TABLES:

@@ -18,9 +18,9 @@ MAPPING, ROWS, LIMIT, READ_FAULT, WRITE_FAULT = 4, 5, 6, 7, 8  # statuses
 class Refusal(Exception):
     """The program must end with this status and this message."""
 
-    def __init__(self, status, message):
+    def __init__(self, status, message, name=None):
         super().__init__(message)
-        self.status, self.message = status, message
+        self.status, self.message, self.name = status, message, name
 
 
 class Limit(Refusal):

@@ -1,0 +1,80 @@
+"""JSON documents as clio reads them, for the tools beside this file.
+
+A document is an array of objects, one for each row of a root set. A column is a text, an integer of 64 bits, true, false, null or missing;
+an inner set is an array of objects, null or missing. All else is refused with its path.
+"""
+import json
+
+from clio_tool import Refused
+
+MARK = b"\xef\xbb\xbf"
+
+
+class Integer(str):
+    """An integer of a document, by its digits."""
+
+
+class Fraction(str):
+    """A number with a fraction or an exponent, as it is written."""
+
+
+def _no_constant(name):
+    raise ValueError(f"{name} is no value of JSON")
+
+
+def parse(content, place):
+    """The value of a document; numbers stay as they are written. `place` names it in a refusal."""
+    try:
+        return json.loads(content.removeprefix(MARK).decode("utf-8"), parse_int=Integer, parse_float=Fraction, parse_constant=_no_constant)
+    except (ValueError, RecursionError) as error:
+        raise Refused(f"{place}: not JSON: {error}") from None
+
+
+def scalar(value, path):
+    """The text of a column, as clio takes it."""
+    if value is None:
+        return ""
+    if isinstance(value, bool):
+        return "true" if value else "false"
+    if isinstance(value, Fraction) or (isinstance(value, Integer) and not _fits(value)):
+        raise Refused(f"number at {path}: {value} is no integer of 64 bits")
+    if not isinstance(value, str):
+        raise Refused(f"wrong shape at {path}: a column is a single value")
+    try:
+        value.encode("utf-8")
+    except UnicodeEncodeError:
+        raise Refused(f"a text at {path} has half of a surrogate pair") from None
+    return str(value)
+
+
+def _fits(digits):
+    return digits != "-0" and len(digits) <= 20 and -(2**63) <= int(digits) < 2**64
+
+
+def rows(content, root, path):
+    """The rows of a document by the names of their sets, each with its `#id` and `#up`."""
+    found = {}
+    try:
+        _objects(root, parse(content, path), ("", "", None), found)
+    except Refused as why:
+        raise Refused(str(why) if str(why).startswith(f"{path}:") else f"{path}: {why}") from None
+    return found
+
+
+def _objects(table, array, above, found):
+    """Puts the rows of an array of objects, and of the arrays inside them, to those that were found."""
+    path, name, up = above
+    if not isinstance(array, list) and (array is not None or not path):
+        raise Refused(f"wrong shape at {path}: an array of objects must stand there")
+    members = set(table.declared) | {inner.name for inner in table.inner}
+    for place, one in enumerate(array or []):
+        here = f"{path}/{place}"
+        if not isinstance(one, dict):
+            raise Refused(f"wrong shape at {here}: an object must stand there")
+        if unknown := sorted(set(one) - members):
+            raise Refused(f"unknown member at {here}/{unknown[0]}")
+        own = ([f"#{name}{place}"] if table.inner else []) + ([] if up is None else [up])
+        cells = [scalar(one.get(column), f"{here}/{column}") for column in table.declared]
+        found.setdefault(table.name, []).append(own + cells)
+        for inner in table.inner:
+            _objects(inner, one.get(inner.name), (f"{here}/{inner.name}", f"{name}{place}.", f"#{name}{place}"), found)

@@ -1,0 +1,27 @@
+"""What the tools beside this file have in common: how they refuse, how they print, and the name of the tool in each message."""
+import os
+import sys
+
+
+class Refused(Exception):
+    """Something that a tool can't carry; the text says what, where and why."""
+
+
+def remark(name, text):
+    """A remark on standard error, which changes no status."""
+    print(f"{name}: {text}", file=sys.stderr)
+
+
+def run(name, main):
+    """Runs a tool on its words; what it refuses ends with a message and status 2."""
+    sys.stdout.reconfigure(encoding="utf-8", errors="strict", newline="\n")
+    sys.stderr.reconfigure(encoding="utf-8", errors="backslashreplace")
+    try:
+        main(sys.argv[1:])
+        sys.stdout.flush()
+    except BrokenPipeError:  # what reads the output has ended, and says why itself
+        os.dup2(os.open(os.devnull, os.O_WRONLY), sys.stdout.fileno())
+        sys.exit(1)
+    except (Refused, OSError) as why:
+        print(f"{name}: {why}", file=sys.stderr)
+        sys.exit(2)

@@ -1,0 +1,89 @@
+"""The matches of a rule in the source, with the rows that each match is made of."""
+from matches import NAMED
+
+KEPT = 3  # matches that are kept of one tuple of exported texts
+MOST_STEPS = 20_000_000
+
+
+class TooMany(Exception):
+    """A search takes too many steps."""
+
+
+class Step:
+    """One atom of a premise: which columns are known when it is looked at, and which variables it gives."""
+
+    def __init__(self, place, atom, known, rows):
+        self.place, self.rows = place, rows
+        self.bound = [(column, variable) for column, variable in enumerate(atom.cells) if variable in known]
+        self.new, self.equal = {}, []
+        for column, variable in enumerate(atom.cells):
+            if variable in known:
+                continue
+            if variable in self.new:
+                self.equal.append((self.new[variable], column))
+            else:
+                self.new[variable] = column
+        self.index = None
+
+    def candidates(self, values):
+        """The numbers of the rows that have the known values in the known columns."""
+        if self.index is None:
+            self.index = {}
+            for number, row in enumerate(self.rows):
+                if all(row[one] == row[other] for one, other in self.equal):
+                    self.index.setdefault(tuple([row[column] for column, _ in self.bound]), []).append(number)
+        return self.index.get(tuple([values[variable] for _, variable in self.bound]), ())
+
+
+def steps_of(rule, source):
+    """The atoms of a premise in an order in which each, if it can, shares a variable with those before it."""
+    left, known, steps = list(enumerate(rule.premise)), set(), []
+    while left:
+        chosen = max(left, key=lambda one: (len(known.intersection(one[1].cells)), -one[0]))
+        left.remove(chosen)
+        steps.append(Step(chosen[0], chosen[1], known, source.rows[chosen[1].table].rows))
+        known = known.union(chosen[1].cells)
+    return steps
+
+
+class Matches:
+    """For each tuple of exported texts of a rule: how many matches give it, and the source rows of the first of them."""
+
+    def __init__(self, rule, source, most=MOST_STEPS, most_tuples=None):
+        self.rule, self.steps, self.left, self.most_tuples = rule, steps_of(rule, source), most, most_tuples
+        self.exported, self.first = rule.exported(), rule.premise_variables()
+        self.values = [None] * (self.first + len(rule.derived))
+        self.chosen = [None] * len(rule.premise)
+        self.found, self.number = {}, 0
+        self.extend(0)
+
+    def extend(self, depth):
+        """Chooses rows for the atoms from this one on."""
+        if depth == len(self.steps):
+            self.keep()
+            return
+        step = self.steps[depth]
+        for number in step.candidates(self.values):
+            self.left -= 1
+            if self.left < 0:
+                raise TooMany()
+            row = step.rows[number]
+            for variable, column in step.new.items():
+                self.values[variable] = row[column]
+            self.chosen[step.place] = number
+            self.extend(depth + 1)
+
+    def keep(self):
+        """Takes down a whole match."""
+        for number, derived in enumerate(self.rule.derived, self.first):
+            self.values[number] = NAMED[derived.conversion].apply(*[self.values[one] for one in derived.arguments])
+        self.number += 1
+        kept = self.found.setdefault(tuple([self.values[variable] for variable in self.exported]), [])
+        if len(kept) < KEPT:
+            kept.append(tuple(self.chosen))
+        if self.most_tuples is not None and len(self.found) > self.most_tuples:
+            raise TooMany()
+
+    def places(self):
+        """The tuples in ascending order: a tuple's place is its position."""
+        return sorted(self.found)

@@ -1,0 +1,142 @@
+"""The key chase: what keys make equal, and all that they can't make equal.
+
+A constant is a text, a null is a tuple of rule, variable and place. Two texts are never made one, so the chase goes on after a clash.
+"""
+from collections import deque
+from typing import NamedTuple
+
+from rules import EXISTENTIAL, VARIABLE
+
+
+class Origin(NamedTuple):
+    """Where a row is from: a rule, one of its tuples, and an atom of its conclusion."""
+    rule: int
+    tuple: tuple
+    atom: int
+
+
+class KeyStep(NamedTuple):
+    """A null was replaced by a value, since two rows of a table agree on a key."""
+    value: object
+    table: int
+    key: int
+    rows: tuple
+
+
+class Clash(NamedTuple):
+    """Rows of a table that agree on a key and have different texts in a column: for each text the numbers of its rows."""
+    table: int
+    key: int
+    agreed: tuple
+    column: int
+    texts: dict
+
+
+class Canonical:
+    """The rows that the rules ask for, before keys: for each table its different rows, and the first origins of each."""
+
+    def __init__(self, rules, matches, tables, kept=3):
+        self.rows = [[] for _ in tables]
+        self.origins = [[] for _ in tables]
+        numbers = [{} for _ in tables]
+        for number, rule in enumerate(rules):
+            for place, texts in enumerate(matches[number].places()):
+                values = dict(zip(matches[number].exported, texts))
+                for position, atom in enumerate(rule.conclusion):
+                    row = tuple([cell_value(cell, values, number, place) for cell in atom.cells])
+                    here = numbers[atom.table].setdefault(row, len(numbers[atom.table]))
+                    if here == len(self.rows[atom.table]):
+                        self.rows[atom.table].append(row)
+                        self.origins[atom.table].append([])
+                    if len(self.origins[atom.table][here]) < kept:
+                        self.origins[atom.table][here].append(Origin(number, texts, position))
+
+
+def cell_value(cell, values, rule, place):
+    """The value of a cell of a conclusion at a place of its rule."""
+    if cell.kind == VARIABLE:
+        return values[cell.content]
+    return (rule, cell.content, place) if cell.kind == EXISTENTIAL else cell.content
+
+
+class KeyChase:
+    """Makes rows equal that agree on a key, until nothing changes."""
+
+    def __init__(self, rows, tables):
+        self.rows, self.tables = rows, tables
+        self.replaced, self.steps, self.met = {}, {}, {}
+        self.holders, self.indexes = {}, {}
+        self.work = deque((table, row) for table, listed in enumerate(rows) for row in range(len(listed)))
+        for table, row in self.work:
+            for value in rows[table][row]:
+                if isinstance(value, tuple):
+                    self.holders.setdefault(value, []).append((table, row))
+        while self.work:
+            self.look(*self.work.popleft())
+
+    def value(self, value):
+        """The value that stands now in the place of a value."""
+        last = value
+        while last in self.replaced:
+            last = self.replaced[last]
+        while value != last:
+            self.replaced[value], value = last, self.replaced[value]
+        return last
+
+    def agreed(self, table, key, row):
+        """The values of a row in the columns of a key, as they are now."""
+        return tuple([self.value(self.rows[table][row][column]) for column in self.tables[table].keys[key]])
+
+    def look(self, table, row):
+        """Compares a row with the first row that agrees with it on a key."""
+        for key in range(len(self.tables[table].keys)):
+            index = self.indexes.setdefault((table, key), {})
+            other = index.setdefault(self.agreed(table, key, row), row)
+            if other != row:
+                for column in range(len(self.rows[table][row])):
+                    self.make_equal(table, key, (other, row), column)
+
+    def make_equal(self, table, key, pair, column):
+        """Makes the values of two rows in a column equal, if one of them is a null."""
+        one, two = [self.value(self.rows[table][row][column]) for row in pair]
+        if one == two:
+            return
+        least, greatest = (one, two) if order(one) < order(two) else (two, one)
+        if not isinstance(greatest, tuple):
+            self.met.setdefault((table, key), []).append(pair)
+            return
+        self.replaced[greatest] = least
+        self.steps[greatest] = KeyStep(least, table, key, pair)
+        moved = self.holders.pop(greatest, [])
+        self.work.extend(moved)
+        if isinstance(least, tuple):
+            self.holders.setdefault(least, []).extend(moved)
+
+    def clashes(self):
+        """All clashes that are left at the end, ordered by table, key, the values of the key and the column."""
+        found = []
+        for (table, key), pairs in sorted(self.met.items()):
+            groups = {self.agreed(table, key, pair[1]): [] for pair in pairs}
+            for row in range(len(self.rows[table])):
+                agreed = self.agreed(table, key, row)
+                if agreed in groups:
+                    groups[agreed].append(row)
+            for agreed, rows in sorted(groups.items(), key=lambda one: [order(value) for value in one[0]]):
+                found += self.of_group(table, key, agreed, rows)
+        return found
+
+    def of_group(self, table, key, agreed, rows):
+        """The clashes among rows that agree on a key."""
+        for column in range(len(self.tables[table].columns)):
+            texts = {}
+            for row in rows:
+                value = self.value(self.rows[table][row][column])
+                if not isinstance(value, tuple):
+                    texts.setdefault(value, []).append(row)
+            if len(texts) > 1:
+                yield Clash(table, key, agreed, column, dict(sorted(texts.items())))
+
+
+def order(value):
+    """Texts come before nulls."""
+    return (1, value) if isinstance(value, tuple) else (0, value)

@@ -1,0 +1,57 @@
+"""How texts are shown on a terminal: quoted, without control characters, and cut if they are long."""
+import unicodedata
+
+LONGEST = 60
+
+
+def visible(text):
+    """The text with each character that a terminal doesn't show written as an escape; a byte that is no UTF-8 as \\xNN."""
+    return "".join(character if character.isprintable() else escape(character) for character in text)
+
+
+def escape(character):
+    """A character written as an escape."""
+    number = ord(character)
+    if 0xdc80 <= number <= 0xdcff:
+        return f"\\x{number - 0xdc00:02x}"
+    return character.encode("unicode_escape", "replace").decode() if number < 0xd800 or number > 0xdfff else f"\\u{number:04x}"
+
+
+def shown(text, longest=LONGEST):
+    """A text in quotes."""
+    made = visible(text[:longest].replace("\\", "\\\\").replace('"', '\\"'))
+    return f'"{made}"' + (f".. ({len(text)} characters)" if len(text) > longest else "")
+
+
+def listed(names, most=24):
+    """Names with commas between them, the first ones if they are many."""
+    names = list(names)
+    more = f", and {len(names) - most} more" if len(names) > most else ""
+    return ", ".join(visible(name[:LONGEST]) for name in names[:most]) + more
+
+
+def amount(number, one, many=None):
+    """A number with its word: 1 row, 2 rows."""
+    return f"{number:,} {one if number == 1 else many or one + 's'}"
+
+
+def width(text):
+    """How many columns of a terminal a text takes."""
+    return sum(0 if unicodedata.combining(character) else 1 + (unicodedata.east_asian_width(character) in "WF") for character in text)
+
+
+def with_caret(content, start, length=1):
+    """Line and column of a byte of some bytes, and that line with carets under the bytes that begin there."""
+    begin = max(content.rfind(b"\n", 0, start), content.rfind(b"\r", 0, start)) + 1
+    ends = [end for end in (content.find(b"\n", start), content.find(b"\r", start)) if end >= 0]
+    end = min(ends, default=len(content))
+    number = content.count(b"\n", 0, begin) + content.count(b"\r", 0, begin) - content.count(b"\r\n", 0, begin) + 1
+    decoded = [part.decode("utf-8", "surrogateescape") for part in
+               (content[begin:start], content[start:min(start + length, end)], content[start:end])]
+    before, marked, after = decoded
+    first = ".. " if len(before) > 80 else ""
+    before_shown = first + visible(before[-80:])
+    carets = "^" * max(width(visible(marked[:60])), 1)
+    yield f"line {number}, column {len(before) + 1}:"
+    yield "    " + before_shown + visible(after[:80]) + (" .." if len(after) > 80 else "")
+    yield "    " + " " * width(before_shown) + carets

@@ -1,0 +1,80 @@
+"""The source files as rows that know where they are from."""
+import json
+import pathlib
+
+from clio_csv import MARK, records, text
+from sources import Walk
+
+from .said import shown, visible
+
+
+class WalkWithPaths(Walk):
+    """Walks a document and takes down for each fact the path of its object."""
+
+    def __init__(self, tables, file):
+        super().__init__(tables, file)
+        self.paths = {}
+
+    def object(self, number, value, path, identity, up):
+        place = len(self.facts)
+        super().object(number, value, path, identity, up)
+        self.paths[place] = path
+
+
+class Rows:
+    """The different rows of a table in the order of the file, the place of each, and how many records repeat one."""
+
+    def __init__(self):
+        self.rows, self.places, self.numbers, self.repeats, self.records = [], [], {}, 0, 0
+
+    def add(self, row, place):
+        self.records += 1
+        if self.numbers.setdefault(row, len(self.rows)) < len(self.rows):
+            self.repeats += 1
+            return
+        self.rows.append(row)
+        self.places.append(place)
+
+
+class Source:
+    """The rows of each table of the source, read from the files of the current folder."""
+
+    def __init__(self, tables):
+        self.tables = tables
+        self.rows = [Rows() for _ in tables]
+        for number, table in enumerate(tables):
+            if table.parent is None:
+                self.read(number, table)
+
+    def read(self, number, table):
+        """Reads the file of a root."""
+        content = pathlib.Path(file_of(table)).read_bytes()
+        if table.inner:
+            walk = WalkWithPaths(self.tables, file_of(table))
+            walk.objects(number, json.loads(content.removeprefix(MARK)), "", "#", None)
+            for place, (inner, row) in enumerate(walk.facts):
+                self.rows[inner].add(row, walk.paths[place])
+            return
+        entries = records(content)
+        next(entries)
+        for place, (line, fields) in enumerate(entries, 1):
+            self.rows[number].add(tuple([text(field) for field in fields]), (place, line))
+
+    def root(self, number):
+        """The root of a table."""
+        while self.tables[number].parent is not None:
+            number = self.tables[number].parent
+        return self.tables[number]
+
+    def shown_row(self, number, row):
+        """A row with its file and its place there."""
+        table, place = self.tables[number], self.rows[number].places[row]
+        where = f"{file_of(self.root(number))}{place}" if isinstance(place, str) else f"{file_of(table)}, line {place[1]} (record {place[0]})"
+        cells = [f"{visible(name)} = {shown(value, 40)}" for name, value in zip(table.columns, self.rows[number].rows[row])
+                 if not name.startswith("#")]
+        return f"{where}: " + ", ".join(cells[:8]) + (", .." if len(cells) > 8 else "")
+
+
+def file_of(table):
+    """The file of a root."""
+    return table.name + (".json" if table.inner else ".csv")

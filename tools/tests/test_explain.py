@@ -1,0 +1,172 @@
+"""clio-explain: what it passes on is clio's, what it says is what each case wants, and its chase is tried against clio.
+
+    python3 tests/test_explain.py large    at clio's limits, some minutes
+"""
+import contextlib
+import os
+import pathlib
+import random
+import subprocess
+import sys
+import tempfile
+import unittest
+
+from explain_cases import CASES, LARGE_CASES
+from trial import PROGRAM, TOOLS
+
+from clio_csv import ends_open, records
+from explain.clashes import FORM, Clashes, plain
+from explain.endings import explained
+from explain.program import mapping_of
+from random_cases import random_case
+
+WHOLE = 9  # of so many cases one is tried by the tool itself, the others by the part that explains
+RANDOM = {"rules": 12, "lines": 8, "mixed": 10, "keyed": 10}
+
+
+def run(command):
+    """Runs a command in the current folder."""
+    return subprocess.run(command, stdin=subprocess.DEVNULL, capture_output=True, check=False)
+
+
+def make(files):
+    """Writes the files of a case; None is a folder, a text that begins with -> a link."""
+    for name, content in files.items():
+        path = pathlib.Path(name)
+        path.parent.mkdir(exist_ok=True)
+        content = content() if callable(content) else content
+        if content is None:
+            path.mkdir()
+        elif isinstance(content, str) and content.startswith("->"):
+            path.symlink_to(content[2:])
+        else:
+            path.write_bytes(content.encode() if isinstance(content, str) else content)
+
+
+def value_text(value):
+    """A value of the chase as clio writes it."""
+    return "?%d.%d.%d" % value if isinstance(value, tuple) else "?" + value if value.startswith("?") else value
+
+
+class Explain(unittest.TestCase):
+    """Runs with the program on the path, each case in a folder of its own."""
+
+    def setUp(self):
+        kept = tempfile.TemporaryDirectory()
+        self.addCleanup(kept.cleanup)
+        os.symlink(PROGRAM, os.path.join(kept.name, "clio"))
+        before = os.environ["PATH"]
+        os.environ["PATH"] = kept.name + os.pathsep + before
+        self.addCleanup(os.environ.__setitem__, "PATH", before)
+
+    @contextlib.contextmanager
+    def there(self, files):
+        """A new folder with files is the current one."""
+        before = os.getcwd()
+        with tempfile.TemporaryDirectory() as name:
+            os.chdir(name)
+            try:
+                make(files)
+                yield
+            finally:
+                os.chdir(before)
+
+    def try_case(self, case, is_whole):
+        """The wanted words in this order; if asked for, by the tool itself."""
+        with self.subTest(case.name), self.there(case.files):
+            own = run(["clio", *case.words])
+            self.assertEqual(own.returncode, case.status, own.stderr[:500])
+            if is_whole:
+                text = self.passed_on(case, own)
+            else:
+                message = own.stderr.decode("utf-8", "surrogateescape").removesuffix("\n")
+                text = "".join(line + "\n" for line in explained(own.returncode, message, list(case.words)))
+            place = 0
+            for wanted in case.wanted:
+                place = text.find(wanted, place)
+                self.assertGreaterEqual(place, 0, f"`{wanted}` is not said in its place:\n{text[:3000]}")
+            self.assertTrue(all(one.isprintable() or one == "\n" for one in text), text[:3000])
+
+    def passed_on(self, case, own):
+        """What clio-explain says after clio's message; all else must be as clio has it."""
+        told = run([sys.executable, TOOLS / "clio-explain", *case.words])
+        self.assertEqual((own.returncode, own.stdout), (told.returncode, told.stdout))
+        self.assertTrue(told.stderr.startswith(own.stderr))
+        text = told.stderr[len(own.stderr) :].decode()
+        self.assertNotIn("no more can be said", text)
+        return text.replace("\n  ", "\n").removeprefix("  ")
+
+    def test_cases(self):
+        for place, case in enumerate(CASES):
+            self.try_case(case, place % WHOLE == 0)
+
+    def test_output_is_closed(self):
+        with self.there(CASES[-1].files):
+            told = subprocess.run(f"'{sys.executable}' '{TOOLS / 'clio-explain'}' exchange >&-", shell=True, capture_output=True, check=False)
+            self.assertEqual(told.returncode, 8)
+            self.assertIn(b"all 5 files are written; what is printed could not be\n  standard output is closed", told.stderr)
+
+    def test_failure_to_explain(self):
+        """A mapping of a later version is passed on; what can't be read isn't explained."""
+        with self.there({"mapping.clio": "mapping 2;"}):
+            self.assertEqual(run([sys.executable, TOOLS / "clio-explain", "show"]).returncode, run(["clio", "show"]).returncode)
+
+    def test_open_quotes(self):
+        for content, wanted in [(b'x\n"a', True), (b'x\n"a"', False), (b'x\n"a""', True), (b'x\na"', False), (b'x\n"a\n\n', True), (b"", False), (b'"a"b"', False)]:
+            self.assertEqual(ends_open(content), wanted, content)
+
+    def test_random(self):
+        counts = {0: 0, 3: 0}
+        for kind, most in RANDOM.items():
+            for number in range(most):
+                case = random_case(random.Random(f"explain {kind} {number}"), kind)
+                with self.subTest(f"{kind} {number}"), self.there(case.files):
+                    self.try_random(counts)
+        self.assertGreaterEqual(min(counts.values()), 3, counts)
+
+    def try_random(self, counts):
+        """A clash exactly if clio ends with 3, and else the same target."""
+        ended = run(["clio", "exchange"])
+        if ended.returncode not in counts:
+            return
+        mapping, printed = mapping_of(pathlib.Path("mapping.clio").read_bytes())
+        found = Clashes(mapping, printed)
+        self.assertEqual(bool(found.clashes), ended.returncode == 3)
+        counts[ended.returncode] += 1
+        if found.clashes:
+            self.try_clash(found, ended.stderr.decode()[:-1])
+        else:
+            self.try_target(found)
+
+    def try_clash(self, found, message):
+        """The clash that clio tells is the first that is listed."""
+        told, first = FORM.fullmatch(message), found.ordered(message)[0]
+        self.assertEqual(found.names(first), (told[1], told[2].split(", "), told[5]))
+        self.assertLessEqual({plain(told[3]), plain(told[4])}, set(first.texts))
+        self.assertTrue(all(line.isprintable() for line in found.lines(message)))
+
+    def try_target(self, found):
+        """The rows after the chase are those that clio wrote."""
+        for number, table in enumerate(found.mapping.target):
+            made = {tuple(value_text(found.chase.value(value)) for value in row) for row in found.canonical.rows[number]}
+            written = list(records(pathlib.Path("out", table.name + ".csv").read_bytes()))[1:]
+            self.assertEqual(made, {tuple(fields) for _, fields in written})
+
+
+class Large(Explain):
+    """The cases at clio's limits."""
+
+    def test_cases(self):
+        for case in LARGE_CASES:
+            self.try_case(case, True)
+
+
+def load_tests(loader, _tests, _pattern):
+    """The cases at the limits are left out unless they are asked for."""
+    return loader.loadTestsFromTestCase(Explain)
+
+
+if __name__ == "__main__":
+    if sys.argv[1:] == ["large"]:
+        sys.exit(not unittest.TextTestRunner(verbosity=2).run(Large("test_cases")).wasSuccessful())
+    unittest.main()
