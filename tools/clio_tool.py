@@ -1,10 +1,24 @@
 """What the tools beside this file have in common: how they refuse, how they print, and the name of the tool in each message."""
 import os
+import pathlib
+import shutil
+import subprocess
 import sys
 
 
 class Refused(Exception):
     """Something that a tool can't carry; the text says what, where and why."""
+
+
+def program():
+    """The path of clio: the one on the path, or else the one that tools/program names."""
+    found = shutil.which("clio")
+    if found:
+        return found
+    ended = subprocess.run([pathlib.Path(__file__).parent / "program"], stdout=subprocess.PIPE, stderr=subprocess.DEVNULL, check=False)
+    if ended.returncode:
+        raise Refused("clio is not on the path, and no program was built")
+    return os.fsdecode(ended.stdout).strip()
 
 
 def remark(name, text):

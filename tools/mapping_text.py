@@ -8,6 +8,12 @@ from typing import NamedTuple
 TOKEN = re.compile(r"[ \t\r\n]+|//[^\n]*|(?P<token>[A-Za-z_][A-Za-z0-9_]*|[0-9]+|\"(?:[^\"\\]|\\[\"\\])*\"|->|[{}(),;.=])")
 
 
+TESTS = {
+    "filled": lambda text: text != "",
+    "numeric": lambda text: re.fullmatch("[0-9]+", text) is not None,
+}
+
+
 class Condition(NamedTuple):
     """A test that the texts of a source column have to pass."""
     set: str
@@ -141,6 +147,11 @@ class Mapping:
         reader.take(";")
         self.source, self.target = reader.side("source"), reader.side("target")
         self.conditions = reader.conditions()
+
+    def passing(self, table, rows):
+        """Those of a source table's rows that pass all conditions on it."""
+        tests = [(table.columns.index(one.column), TESTS[one.test]) for one in self.conditions if one.set == table.name]
+        return (row for row in rows if all(test(row[place]) for place, test in tests))
 
 
 def read_sets(text):

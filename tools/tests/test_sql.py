@@ -1,0 +1,82 @@
+"""clio-sql: what it makes in SQLite, against another reading of the rules, keys and dependencies. tools/check has PostgreSQL."""
+import os
+import random
+import sqlite3
+import sys
+import unittest
+
+from trial import PROGRAM, TOOLS, Trial
+
+sys.path.insert(0, str(TOOLS / "second_reading"))
+from chase import Chase
+from covers import Covers, CoveredPlaces
+from files import moved, nulls_text, rows_of
+from homomorphisms import is_core
+from matches import canonical, facts_of, places_of
+from random_cases import random_case
+from refusals import Limit, TooLong
+from values import nulls_of, value_text
+
+RANDOM = {"rules": 2, "lines": 2, "mixed": 2, "keyed": 4}
+
+
+class Random(Trial):
+    def setUp(self):
+        super().setUp()
+        (self.folder / "bin").mkdir()
+        os.symlink(PROGRAM, self.folder / "bin" / "clio")
+        path = os.environ["PATH"]
+        self.addCleanup(os.environ.__setitem__, "PATH", path)
+        os.environ["PATH"] = f"{self.folder / 'bin'}:{path}"
+
+    def test_random_mappings(self):
+        for kind, count in RANDOM.items():
+            for number in range(count):
+                with self.subTest(kind=kind, number=number):
+                    self.try_case(random_case(random.Random(f"sql {kind} {number}"), kind))
+
+    def try_case(self, case):
+        """Both modes of one case."""
+        try:
+            rules, _ = case.mapping.rule_list()
+        except (Limit, TooLong):
+            return
+        self.file("mapping.clio", case.files["mapping.clio"])
+        self.load(case)
+        places = places_of(rules, case.instance)
+        self.compare(case, rules, places, canonical(places), [])
+        self.compare(case, rules, places, facts_of(CoveredPlaces(Covers(rules), places).uncovered()), ["--core"])
+
+    def load(self, case):
+        """The source as a database."""
+        (self.folder / "source.db").unlink(missing_ok=True)
+        with sqlite3.connect(self.folder / "source.db") as base:
+            for number, table in enumerate(case.mapping.source):
+                base.execute('CREATE TABLE "%s" (%s)' % (table.name, ", ".join(f'"{column}" TEXT' for column in table.columns)))
+                marks = ", ".join("?" * len(table.columns))
+                base.executemany(f'INSERT INTO "{table.name}" VALUES ({marks})', case.instance.get(number, ()))
+        base.close()
+
+    def compare(self, case, rules, places, facts, words):
+        """The target, its nulls and the fold of the facts."""
+        chase = Chase(facts, case.mapping.target)
+        status, out, said = self.tool("clio-sql", "sqlite", *words, "source.db", "target.db")
+        if chase.clash:
+            self.assertEqual((status, out), (3, ""), said)
+            return
+        self.assertEqual(status, 0, said)
+        target = chase.instance()
+        base = sqlite3.connect(self.folder / "target.db")
+        for number, table in enumerate(case.mapping.target):
+            wanted = [tuple(map(value_text, row)) for row in rows_of(target, number)]
+            self.assertEqual(sorted(base.execute(f'SELECT * FROM "{table.name}"')), sorted(wanted))
+        fold = moved((null, chase.value(null)) for null in nulls_of(facts))
+        self.assertEqual(sorted(base.execute("SELECT * FROM fold")), sorted((value_text(null), value_text(value)) for null, value in fold.items()))
+        self.assertEqual(base.execute("SELECT count(*) FROM nulls").fetchone()[0], nulls_text(target, rules, places)[1])
+        base.close()
+        if words and "a core" in said:
+            self.assertTrue(is_core(target))
+
+
+if __name__ == "__main__":
+    unittest.main()
