@@ -19,7 +19,7 @@ class Clashes:
 
     def __init__(self, mapping, printed):
         self.mapping, self.printed = mapping, printed
-        self.source = Source(mapping.source)
+        self.source = Source(mapping)
         matches = [Matches(rule, self.source) for rule in mapping.rules]
         self.canonical = Canonical(mapping.rules, matches, mapping.target)
         self.matches = matches

@@ -3,7 +3,7 @@ import difflib
 import os
 import re
 
-from matches import NAMED
+from matches import NAMED, TESTS
 from names import check_schema
 from refusals import Limit, Refusal
 from schema import tables_of
@@ -97,12 +97,25 @@ def of_name(place, text):
             elif one.column.start == place:
                 table = next(table for table in tables[side] if table.name == one.set.text)
                 yield from close_ones(f"the columns of {table.name}", one.column.text, table.tree.columns)
+    for condition in text.conditions:
+        yield from of_condition(place, condition, tables["source"])
     for rule in text.rules:
         for side, atoms in ("source", rule.premise), ("target", rule.conclusion):
             for atom in atoms:
                 if atom.name.start == place:
                     yield from of_atom(atom, side, tables)
         yield from of_derived(rule, place)
+
+
+def of_condition(place, condition, tables):
+    """A condition whose set, column or test isn't there."""
+    if condition.place.set.start == place:
+        yield from close_ones("the sets of the source", condition.place.set.text, [table.name for table in tables])
+    elif condition.place.column.start == place:
+        table = next(table for table in tables if table.name == condition.place.set.text)
+        yield from close_ones(f"the columns of {table.name}", condition.place.column.text, table.tree.columns)
+    elif condition.test.start == place:
+        yield from close_ones("the tests", condition.test.text, TESTS)
 
 
 def of_set(name, side, tables):
@@ -226,7 +239,7 @@ def circle(tables, name):
     before, left = {}, [start]
     while left:
         number = left.pop(0)
-        for link in tables[number].links:
+        for link in tables[number].every_link():
             if link.table not in before:
                 before[link.table] = (number, link)
                 left.append(link.table)

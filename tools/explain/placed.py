@@ -34,10 +34,10 @@ class MappingText:
 
     def __init__(self, content):
         self.content, self.refusal = content, None
-        self.source, self.target, self.lines, self.rules = [], [], [], []
+        self.source, self.target, self.lines, self.conditions, self.rules = [], [], [], [], []
         self.reader = PlacedReader(content)
         try:
-            self.source, self.target, self.lines, self.rules = self.reader.mapping()
+            self.source, self.target, self.lines, self.conditions, self.rules = self.reader.mapping()
         except Refusal as refusal:
             self.refusal = refusal
 

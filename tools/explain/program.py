@@ -32,6 +32,7 @@ def mapping_of(content):
         return None, []
     try:
         mapping = read_mapping(content[:MappingText(content).reader.sets_end] + b"\n" + b"".join(printed))
+        mapping.conditions = read_mapping(content).conditions
     except Refusal:
         return None, []
     return mapping, [line.decode().strip() for line in printed]

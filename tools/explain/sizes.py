@@ -1,9 +1,10 @@
 """Which size passed a limit, how large it is, and what to do."""
+import itertools
 import os
 import pathlib
 
 from clio_csv import records
-from lines import number_of_candidates, rules_of_lines, unfolding, ways_of
+from lines import number_of_candidates, number_of_choices, rules_of_lines, variants_of, ways_of
 from names import read_mapping
 from refusals import OCCURRENCES, WAYS, Limit
 from rules import closed
@@ -22,6 +23,7 @@ CURES = {
     "data bytes": DATA, "source cells": DATA, "target cells": DATA,
     "tables": "split the mapping: one run takes 64 sets a side", "columns": "split the set in two that share a key, or leave columns out of the file",
     "depth": "flatten the document", "lines": "split the mapping, or write rules: a rule fills a whole row",
+    "variants": "make refs optional only where rows without a match are wanted, or write rules in the place of lines",
     "occurrences": "leave out refs that no line needs, or write rules in the place of lines",
     "ways": "draw fewer lines between these two sets, or write rules in their place",
     "candidates": "write rules in the place of lines between these sets, or leave out one of two refs to one set",
@@ -33,7 +35,7 @@ CURES = {
 def explain(message, content):
     """The lines that explain a message `limit: COUNT N`."""
     count, _, number = message.removeprefix("limit: ").rpartition(" ")
-    parts = {"text bytes": text_bytes, "tables": tables, "columns": columns, "depth": depth, "lines": lines, "occurrences": occurrences,
+    parts = {"text bytes": text_bytes, "tables": tables, "columns": columns, "depth": depth, "lines": lines, "variants": variants, "occurrences": occurrences,
              "ways": ways, "candidates": candidates, "rules": rules, "data bytes": data_bytes, "source cells": source_cells,
              "target cells": target_cells, "frozen cells": frozen_cells}
     if count not in CURES:
@@ -71,13 +73,24 @@ def depth(text, number):
 
 
 def lines(text, number):
-    yield f"the mapping has {amount(len(text.lines), 'line')}; {number} are allowed"
+    conditions = f" and {amount(len(text.conditions), 'condition')}" if text.conditions else ""
+    yield f"the mapping has {amount(len(text.lines), 'line')}{conditions}; {number} are allowed"
+
+
+def variants(text, number):
+    """The ways to follow the optional refs of each side, where they are too many."""
+    for side, trees in ("source", text.source), ("target", text.target):
+        tables_ = tables_of(trees)
+        ways = sorted(((number_of_choices(tables_, place), table.name) for place, table in enumerate(tables_)), reverse=True)
+        if sum(count for count, _ in ways) > number:
+            yield (f"the refs of the {side} can be followed or not in {sum(count for count, _ in ways):,} ways; {number} are allowed: "
+                   + ", ".join(f"{name} ({count:,})" for count, name in ways[:5]))
 
 
 def unfolded(tables_, number, known):
     """How many tables follow from one along its links, with itself."""
     if number not in known:
-        known[number] = 1 + sum(unfolded(tables_, link.table, known) for link in tables_[number].links)
+        known[number] = 1 + sum(unfolded(tables_, link.table, known) for link in tables_[number].every_link())
     return known[number]
 
 
@@ -90,7 +103,7 @@ def occurrences(text, number):
             if unfolded(tables_, place, known) > number and text.lines:
                 found = True
                 yield (f"from {table.name} of the {side} follow {known[place]:,} tables along refs, itself among them; {number} are allowed: "
-                       + ", ".join(f"{tables_[link.table].name} ({known[link.table]:,})" for link in table.links))
+                       + ", ".join(f"{tables_[link.table].name} ({known[link.table]:,})" for link in table.every_link()))
     if not found:
         mapping = read_mapping(text.content)
         for place, rule in enumerate(mapping.rules):
@@ -107,13 +120,12 @@ def occurrences(text, number):
 
 
 def pairs_of(text):
-    """The pairs of a source and a target table with their ways."""
+    """The pairs of a source and a target table, each in all ways to follow its refs, with the values that lines give."""
     mapping = read_mapping(text.content)
-    sources = [unfolding(mapping.source, number) for number in range(len(mapping.source))]
-    targets = [unfolding(mapping.target, number) for number in range(len(mapping.target))]
-    for one, source in enumerate(sources):
-        for other, target in enumerate(targets):
-            yield mapping.source[one].name, mapping.target[other].name, ways_of(mapping.lines, source, target)
+    for one, sources in enumerate(variants_of(mapping.source)):
+        for other, targets in enumerate(variants_of(mapping.target)):
+            for source, target in itertools.product(sources, targets):
+                yield mapping.source[one].name, mapping.target[other].name, ways_of(mapping.lines, source, target)
 
 
 def ways(text, number):
@@ -181,7 +193,7 @@ def target_cells(text, number):
     mapping, printed = mapping_of(text.content)
     if mapping is None:
         return
-    source, total = Source(mapping.source), 0
+    source, total = Source(mapping), 0
     for place, rule in enumerate(mapping.rules):
         cells = len(rule.conclusion_cells())
         try:

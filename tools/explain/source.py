@@ -37,12 +37,12 @@ class Rows:
 
 
 class Source:
-    """The rows of each table of the source, read from the files of the current folder."""
+    """The rows of each table of a mapping's source that pass its conditions, read from the files of the current folder."""
 
-    def __init__(self, tables):
-        self.tables = tables
-        self.rows = [Rows() for _ in tables]
-        for number, table in enumerate(tables):
+    def __init__(self, mapping):
+        self.tables, self.mapping = mapping.source, mapping
+        self.rows = [Rows() for _ in self.tables]
+        for number, table in enumerate(self.tables):
             if table.parent is None:
                 self.read(number, table)
 
@@ -53,12 +53,17 @@ class Source:
             walk = WalkWithPaths(self.tables, file_of(table))
             walk.objects(number, json.loads(content.removeprefix(MARK)), "", "#", None)
             for place, (inner, row) in enumerate(walk.facts):
-                self.rows[inner].add(row, walk.paths[place])
+                self.add(inner, row, walk.paths[place])
             return
         entries = records(content)
         next(entries)
         for place, (line, fields) in enumerate(entries, 1):
-            self.rows[number].add(tuple([text(field) for field in fields]), (place, line))
+            self.add(number, tuple([text(field) for field in fields]), (place, line))
+
+    def add(self, number, row, place):
+        """A row of a table, if it passes."""
+        if self.mapping.passes(number, row):
+            self.rows[number].add(row, place)
 
     def root(self, number):
         """The root of a table."""

@@ -92,7 +92,7 @@ class Traps:
                 content = pathlib.Path(file_of(table)).read_bytes()
                 if b'"' in content and ends_open(content):
                     yield f"a quote of {file_of(table)} is never closed: its last field runs to the end of the file"
-        source = Source(self.source)
+        source = Source(self.mapping)
         for number, table in enumerate(self.source):
             rows = source.rows[number]
             if rows.repeats:

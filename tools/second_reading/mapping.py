@@ -31,13 +31,14 @@ class Mapping:
     def __post_init__(self):
         self.source, self.target = tables_of(self.source_trees), tables_of(self.target_trees)
 
-    def passing(self, instance):
-        """The rows of a source instance that pass every condition on their table."""
-        def passes(number, row):
-            return all(TESTS[condition.test](row[condition.column.column]) for condition in self.conditions
-                       if condition.column.table == number)
+    def passes(self, number, row):
+        """Whether a row of a source table passes every condition on the table."""
+        return all(TESTS[condition.test](row[condition.column.column]) for condition in self.conditions
+                   if condition.column.table == number)
 
-        return {number: {row for row in rows if passes(number, row)} for number, rows in instance.items()}
+    def passing(self, instance):
+        """The rows of a source instance that pass."""
+        return {number: {row for row in rows if self.passes(number, row)} for number, rows in instance.items()}
 
     def rule_list(self):
         """The rules of the lines, then the closed hand-written rules, pruned; and how many they were before."""
