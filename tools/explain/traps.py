@@ -156,7 +156,7 @@ class Traps:
 
     def cure(self, link):
         if self.is_used(link):
-            return "a rule without the ref's set takes them too"
+            return "make the ref optional, and they are taken too"
         return "no line uses the ref: leave it out"
 
     def became_one(self, number, rule, matches):

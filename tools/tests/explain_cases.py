@@ -152,7 +152,7 @@ TRAPS = [
           "ref (dept) -> dept (dname) of emp: rows of emp without a match there are dropped, 2 of 3; no line uses the ref", "emp.csv, line 3 (record 2)"]),
     Case("the same, shown", {"mapping.clio": DEPT}, 0, ["ref (dept) -> dept (dname) of emp: no line uses it"], ("show",)),
     Case("a ref that lines use", {"mapping.clio": DEPT + "line dept.city -> person.town;", "emp.csv": "name,dept\nbob,books\n", "dept.csv": "dname,city\n"}, 0,
-         ["dropped, 1 of 1", "a rule without the ref's set takes them too"]),
+         ["dropped, 1 of 1", "make the ref optional"]),
     Case("a set twice", {"mapping.clio": "mapping 1; source { set flight { from, to; } } target { set stop { name; }"
                          "set leg { start, goal; ref (start) -> stop (name); ref (goal) -> stop (name); } } line flight.from -> stop.name;"}, 0,
          ["rule 0 has stop twice on its right"], ("show",)),
