@@ -22,10 +22,22 @@ def _no_constant(name):
     raise ValueError(f"{name} is no value of JSON")
 
 
-def parse(content, place):
-    """The value of a document; numbers stay as they are written. `place` names it in a refusal."""
+def _once(pairs):
+    """An object none of whose members stands twice."""
+    made = dict(pairs)
+    if len(made) < len(pairs):
+        raise ValueError("an object has a member twice: " + next(name for name, _ in pairs if [one for one, _ in pairs].count(name) > 1))
+    return made
+
+
+def parse(content, place, twice=True):
+    """The value of a document; numbers stay as they are written. `place` names it in a refusal.
+
+    If a member of an object stands twice, the last one counts, as for clio; or, without `twice`, it is refused.
+    """
+    hooks = {"parse_int": Integer, "parse_float": Fraction, "parse_constant": _no_constant, "object_pairs_hook": None if twice else _once}
     try:
-        return json.loads(content.removeprefix(MARK).decode("utf-8"), parse_int=Integer, parse_float=Fraction, parse_constant=_no_constant)
+        return json.loads(content.removeprefix(MARK).decode("utf-8"), **hooks)
     except (ValueError, RecursionError) as error:
         raise Refused(f"{place}: not JSON: {error}") from None
 
