@@ -73,7 +73,7 @@ class Terms:
             mapping, printed = mapping_of(pathlib.Path("mapping.clio").read_bytes())
             if printed != rules:
                 raise Refused(f"out/rules.txt has other rules than mapping.clio: {AGAIN}")
-            self.mapping, self.source = mapping, Source(mapping.source)
+            self.mapping, self.source = mapping, Source(mapping)
         except (OSError, ValueError, StopIteration) as error:
             raise Refused(f"the source files can't be read again: {error}: {AGAIN}") from None
 
