@@ -22,7 +22,8 @@ class Script(Trial):
 
     def test_refusals(self):
         long = "n" * 64
-        for script, why in [("DROP TABLE x;", "no step of a script"), (f'CREATE TABLE target."{long}" ("x" TEXT);', "after 63 letters"), ("rule a(x0) -> t(x0);", "no step")]:
+        cut = f'CREATE TABLE target."{long}" ("x" TEXT);'
+        for script, why in [("DROP TABLE x;", "no step of a script"), (cut, "after 63 letters"), ("rule a(x0) -> t(x0);", "no step")]:
             self.refused("clio-script-to-postgres", text=script + "\n", why=why)
         self.refused("clio-script-to-postgres", "script.sql", why="usage")
 
