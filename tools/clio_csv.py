@@ -17,9 +17,9 @@ class NotText(ValueError):
     """A field isn't UTF-8."""
 
 
-def _numbered(lines, delimiter=","):
+def _numbered(lines, delimiter=",", strict=False):
     """The records of an opened text, each as the line on which it begins (from 1) and its fields."""
-    reader = csv.reader(lines, delimiter=delimiter)
+    reader = csv.reader(lines, delimiter=delimiter, strict=strict)
     line = 1
     for fields in reader:
         if fields:
@@ -51,19 +51,23 @@ def text(field):
         raise NotText(str(error)) from None
 
 
-def read_records(path, delimiter=","):
-    """The records of a file, the header first, each as a list of texts; one that is no UTF-8 is refused by its number."""
+def read_records(path, delimiter=",", strict=False):
+    """The records of a file, the header first, each as a list of texts; one that is no UTF-8 is refused by its number.
+
+    If strict, so are a quote that is never closed, and text between a closing quote and the end of its field.
+    """
     with open(path, newline="", encoding="utf-8-sig", errors="surrogateescape") as file:
-        number = 0
+        number = line = 0
         try:
-            for number, (line, fields) in enumerate(_numbered(file, delimiter)):
+            for number, (line, fields) in enumerate(_numbered(file, delimiter, strict)):
                 if not "".join(fields).isascii():
                     fields = [text(field) for field in fields]
                 yield fields
         except NotText:
             raise Refused(f"{path}: record {number}, at line {line}, is not UTF-8") from None
-        except csv.Error as error:  # Python before 3.11 takes no byte 0
-            raise Refused(f"{path}: record {number + 1}: {error}") from None
+        except csv.Error as error:
+            why = "a quote is never closed" if "end of data" in str(error) else "text stands after a closing quote" if strict else error
+            raise Refused(f"{path}: the record after line {line}: {why}") from None
 
 
 def read_table(path, columns):
@@ -83,6 +87,9 @@ def read_table(path, columns):
 def record_text(fields):
     """A record as clio writes it, with its line feed."""
     alone = len(fields) == 1
+    line = ",".join(fields)
+    if not alone and line.count(",") == len(fields) - 1 and not any(mark in line for mark in '"\n\r'):
+        return line + "\n"
     return ",".join(field_text(field, alone) for field in fields) + "\n"
 
 

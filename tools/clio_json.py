@@ -4,6 +4,7 @@ A document is an array of objects, one for each row of a root set. A column is a
 an inner set is an array of objects, null or missing. All else is refused with its path.
 """
 import json
+import re
 
 from clio_tool import Refused
 
@@ -22,12 +23,42 @@ def _no_constant(name):
     raise ValueError(f"{name} is no value of JSON")
 
 
-def parse(content, place):
-    """The value of a document; numbers stay as they are written. `place` names it in a refusal."""
+def _once(pairs):
+    """An object none of whose members stands twice."""
+    made = {}
+    for name, value in pairs:
+        if name in made:
+            raise Refused(f"an object has a member twice: {name}")
+        made[name] = value
+    return made
+
+
+def _halves(value):
+    """The first half of a surrogate pair in the texts of a value."""
+    pending = [value]
+    while pending:
+        one = pending.pop()
+        if isinstance(one, str) and (found := re.search("[\ud800-\udfff]", one)):
+            return f"\\u{ord(found[0]):04x}"
+        pending += [*one.keys(), *one.values()] if isinstance(one, dict) else one if isinstance(one, list) else []
+    return None
+
+
+def parse(content, place, twice=True):
+    """The value of a document; numbers stay as they are written. `place` names it in a refusal.
+
+    If a member of an object stands twice, the last one counts, as for clio; or, without `twice`, it is refused.
+    """
+    hooks = {"parse_int": Integer, "parse_float": Fraction, "parse_constant": _no_constant, "object_pairs_hook": None if twice else _once}
     try:
-        return json.loads(content.removeprefix(MARK).decode("utf-8"), parse_int=Integer, parse_float=Fraction, parse_constant=_no_constant)
+        value = json.loads(content.removeprefix(MARK).decode("utf-8"), **hooks)
     except (ValueError, RecursionError) as error:
         raise Refused(f"{place}: not JSON: {error}") from None
+    except Refused as why:
+        raise Refused(f"{place}: {why}") from None
+    if re.search(rb"\\u[dD][89a-fA-F]", content) and (half := _halves(value)):
+        raise Refused(f"{place}: not JSON: a text has half of a surrogate pair, {half}")
+    return value
 
 
 def scalar(value, path):
@@ -40,10 +71,6 @@ def scalar(value, path):
         raise Refused(f"number at {path}: {value} is no integer of 64 bits")
     if not isinstance(value, str):
         raise Refused(f"wrong shape at {path}: a column is a single value")
-    try:
-        value.encode("utf-8")
-    except UnicodeEncodeError:
-        raise Refused(f"a text at {path} has half of a surrogate pair") from None
     return str(value)
 
 

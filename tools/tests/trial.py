@@ -32,7 +32,7 @@ class Trial(unittest.TestCase):
 
     def tool(self, name, *words, text=""):
         """A tool's status, what it prints, and what it says on standard error."""
-        done = subprocess.run([sys.executable, TOOLS / name, *words], cwd=self.folder, input=text.encode(), capture_output=True, check=False, timeout=60)
+        done = subprocess.run([sys.executable, "-B", TOOLS / name, *words], cwd=self.folder, input=text.encode(), capture_output=True, check=False, timeout=60)
         return done.returncode, done.stdout.decode(), done.stderr.decode()
 
     def printed(self, name, *words, text=""):
