@@ -87,6 +87,9 @@ def read_table(path, columns):
 def record_text(fields):
     """A record as clio writes it, with its line feed."""
     alone = len(fields) == 1
+    line = ",".join(fields)
+    if not alone and line.count(",") == len(fields) - 1 and not any(mark in line for mark in '"\n\r'):
+        return line + "\n"
     return ",".join(field_text(field, alone) for field in fields) + "\n"
 
 

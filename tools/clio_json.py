@@ -4,6 +4,7 @@ A document is an array of objects, one for each row of a root set. A column is a
 an inner set is an array of objects, null or missing. All else is refused with its path.
 """
 import json
+import re
 
 from clio_tool import Refused
 
@@ -24,10 +25,23 @@ def _no_constant(name):
 
 def _once(pairs):
     """An object none of whose members stands twice."""
-    made = dict(pairs)
-    if len(made) < len(pairs):
-        raise ValueError("an object has a member twice: " + next(name for name, _ in pairs if [one for one, _ in pairs].count(name) > 1))
+    made = {}
+    for name, value in pairs:
+        if name in made:
+            raise Refused(f"an object has a member twice: {name}")
+        made[name] = value
     return made
+
+
+def _halves(value):
+    """The first half of a surrogate pair in the texts of a value."""
+    pending = [value]
+    while pending:
+        one = pending.pop()
+        if isinstance(one, str) and (found := re.search("[\ud800-\udfff]", one)):
+            return f"\\u{ord(found[0]):04x}"
+        pending += [*one.keys(), *one.values()] if isinstance(one, dict) else one if isinstance(one, list) else []
+    return None
 
 
 def parse(content, place, twice=True):
@@ -37,9 +51,14 @@ def parse(content, place, twice=True):
     """
     hooks = {"parse_int": Integer, "parse_float": Fraction, "parse_constant": _no_constant, "object_pairs_hook": None if twice else _once}
     try:
-        return json.loads(content.removeprefix(MARK).decode("utf-8"), **hooks)
+        value = json.loads(content.removeprefix(MARK).decode("utf-8"), **hooks)
     except (ValueError, RecursionError) as error:
         raise Refused(f"{place}: not JSON: {error}") from None
+    except Refused as why:
+        raise Refused(f"{place}: {why}") from None
+    if re.search(rb"\\u[dD][89a-fA-F]", content) and (half := _halves(value)):
+        raise Refused(f"{place}: not JSON: a text has half of a surrogate pair, {half}")
+    return value
 
 
 def scalar(value, path):
@@ -52,10 +71,6 @@ def scalar(value, path):
         raise Refused(f"number at {path}: {value} is no integer of 64 bits")
     if not isinstance(value, str):
         raise Refused(f"wrong shape at {path}: a column is a single value")
-    try:
-        value.encode("utf-8")
-    except UnicodeEncodeError:
-        raise Refused(f"a text at {path} has half of a surrogate pair") from None
     return str(value)
 
 

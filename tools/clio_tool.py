@@ -21,9 +21,14 @@ def program():
     return os.fsdecode(ended.stdout).strip()
 
 
+def harmless(text):
+    """A text with nothing in it that a terminal would take as a command."""
+    return "".join(sign if sign.isprintable() or sign in "\n\t" else f"\\u{ord(sign):04x}" for sign in text)
+
+
 def remark(name, text):
     """A remark on standard error, which changes no status."""
-    print(f"{name}: {text}", file=sys.stderr)
+    print(harmless(f"{name}: {text}"), file=sys.stderr)
 
 
 def run(name, main):
@@ -37,5 +42,8 @@ def run(name, main):
         os.dup2(os.open(os.devnull, os.O_WRONLY), sys.stdout.fileno())
         sys.exit(1)
     except (Refused, OSError) as why:
-        print(f"{name}: {why}", file=sys.stderr)
+        remark(name, why)
+        sys.exit(2)
+    except MemoryError:
+        remark(name, "out of memory")
         sys.exit(2)

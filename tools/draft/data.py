@@ -57,7 +57,8 @@ class Written:
         self.cells += count * len(order)
         for column, null, empty in zip(columns, nulls, empties):
             if null and empty:
-                self.remark(f"{table.word}.{column.word}: {null} NULL and {empty} empty texts are both written as the empty text")
+                both = f"NULL, which stands there {times(null)}, and the empty text, {times(empty)}"
+                self.remark(f"{table.word}.{column.word}: {both}, are both written as the empty text")
 
     def document(self, table, objects):
         """Writes the objects of a set with inner ones as a document; what is not there is the empty text."""
@@ -76,7 +77,12 @@ class Written:
             there = set(tuples(self.folder, ref.other, referred))
             missing = sum(1 for row in tuples(self.folder, table, own) if row not in there)
             if missing:
-                self.remark(f"{table.word}: {missing} rows have no match in {ref.other.word} by ({', '.join(own)}): lines along the ref drop them")
+                rows = "1 row has" if missing == 1 else f"{missing} rows have"
+                self.remark(f"{table.word}: {rows} no match in {ref.other.word} by ({', '.join(own)}): lines along the ref drop them")
+
+
+def times(count):
+    return "once" if count == 1 else f"{count} times"
 
 
 def tuples(folder, table, words):

@@ -7,6 +7,7 @@ from schema import tables_of
 
 from . import clashes, document_faults, mapping_faults, sizes, system_faults, table_faults, traps
 from .placed import MappingText
+from .said import visible
 from .source import file_of
 
 COMMANDS = ("show", "exchange", "demo")
@@ -26,16 +27,16 @@ def usage(words):
         yield "there is no command: show, exchange or demo"
         return
     if words[0] not in COMMANDS:
-        yield f"`{words[0]}` is no command: show, exchange or demo" + (
+        yield f"`{visible(words[0][:60])}` is no command: show, exchange or demo" + (
             "; the manual is man clio" if words[0] in ("help", "--help", "-h") else "")
         return
     numbers = [word for word in words[1:] if re.fullmatch("[1-9][0-9]{0,4}|100000", word)]
     known = {"--core"} | ({"--nested"} if words[0] == "exchange" else set())
     for place, word in enumerate(words[1:], 1):
         if word in words[1:place]:
-            yield f"`{word}` is there twice"
+            yield f"`{visible(word)}` is there twice"
         elif word not in known and not (words[0] == "demo" and word in numbers):
-            yield f"`{word}` is no word that {words[0]} takes; it takes {', '.join(sorted(known))}" + (
+            yield f"`{visible(word[:60])}` is no word that {words[0]} takes; it takes {', '.join(sorted(known))}" + (
                 " and a number from 1 to 100000" if words[0] == "demo" else "")
     if words[0] == "demo" and len(numbers) != 1:
         yield "demo takes one number from 1 to 100000, without a sign or a zero in front"

@@ -126,6 +126,7 @@ WRITES = [
     Case("a word twice", {}, 2, ["`--core` is there twice"], ("exchange", "--core", "--core")),
     Case("a number with a zero", {}, 2, ["`007` is no word", "from 1 to 100000"], ("demo", "007")),
     Case("a word of another command", {}, 2, ["`--nested` is no word that show takes"], ("show", "--nested")),
+    Case("control characters in a word", {}, 2, ["`\\x1b[31m` is no command"], ("\x1b[31m",)),
     Case("a demo", {}, 0, [], ("demo", "5")),
 ]
 CLASHES = [
@@ -171,7 +172,7 @@ WIDE = "mapping 1; source { set a { x; } } target { set b { x; } } line a.x -> b
 LARGE_CASES = [
     limit("source cells", WIDE, "4,000,001 cells", files={"a.csv": lambda: "x\n" + "a\n" * 4_000_001}, words=("exchange",)),
     limit("data bytes", WIDE, "67,108,865 bytes", files={"a.csv": lambda: "x\n" + "a" * 67_108_862 + "\n"}, words=("exchange",)),
-    limit("target cells", WIDE.replace("set b { x; }", "set b { x, y; }"), "more than 4,000,000 cells",
+    limit("target cells", WIDE.replace("set b { x; }", "set b { x, y; }"), "2,000,001 matches of 2 cells", "4,000,002 cells",
           files={"a.csv": lambda: "x\n" + "".join(f"{n}\n" for n in range(2_000_001))}, words=("exchange",)),
     Case("4,000,000 cells", {"mapping.clio": WIDE, "a.csv": lambda: "x\n" + "a\n" * 4_000_000}, 0, ["of 4,000,000 rows, 3,999,999 repeat"]),
     Case("4,000,000 different cells", {"mapping.clio": WIDE, "a.csv": lambda: "x\n" + "".join(f"{n}\n" for n in range(4_000_000))}, 0, []),

@@ -110,7 +110,7 @@ class Sqlite(Draft):
         values = [None, "", "7", 7, -(2**63), 0.1 + 0.2, 1e300, 12.0]
         self.base("CREATE TABLE v (x, y)", [("INSERT INTO v VALUES (?, ?)", (value, "k")) for value in values])
         _, _, said = self.tool("clio-draft", "sqlite", "old.db", "--data", "data")
-        self.assertIn("v.x: 1 NULL and 1 empty texts are both written", said)
+        self.assertIn("v.x: NULL, which stands there once, and the empty text, once, are both written", said)
         cells = [row[0] for row in clio_csv.read_table(self.folder / "data/v.csv", ["x", "y"])]
         self.assertEqual(cells, ["", "", "7", "7", "-9223372036854775808", "0.30000000000000004", "1e+300", "12.0"])
 
@@ -179,12 +179,14 @@ class Documents(Draft):
         self.refused("clio-draft", "json", "log.json", why="log.json: line 2: not JSON")
 
     def test_nested(self):
-        document = [{"the name": "Ada", "tags": ["x", "y"], "address": {"city": "Bonn", "lines": [{"no": 1.5}]}, "odd": 1, "items": []}, {"odd": [1], "items": None}]
+        ada = {"the name": "Ada", "tags": ["x", "y"], "address": {"city": "Bonn", "lines": [{"no": 1.5}]}, "odd": 1, "items": []}
+        document = [ada, {"odd": [1], "items": None}]
         self.file("in/club.json", json.dumps(document))
         text = self.drafted("json", "in/club.json")
         self.assertIn("// odd is left out: it is array or value", text)
         written = json.loads((self.folder / "club.json").read_text())
-        self.assertEqual(written[0], {"the_name": "Ada", "tags": [{"value": "x"}, {"value": "y"}], "address_lines": [{"no": "1.5"}], "address_city": "Bonn", "items": []})
+        tags = [{"value": "x"}, {"value": "y"}]
+        self.assertEqual(written[0], {"the_name": "Ada", "tags": tags, "address_lines": [{"no": "1.5"}], "address_city": "Bonn", "items": []})
         self.refused("clio-draft", "json", "in/club.json", "--data", "in", why="is read itself")
 
     def test_roots(self):
@@ -196,7 +198,8 @@ class Documents(Draft):
 
     def test_refusals(self):
         deep = "[" * 100_000
-        for content, why in [("", "not JSON"), ("7", "a single value"), ("[1]", "no object"), ('[{"a": "\\ud800"}]', "half of a surrogate pair"), ('[{"a": NaN}]', "not JSON"),
+        for content, why in [("", "not JSON"), ("7", "a single value"), ("[1]", "no object"), ('[{"a": "\\ud800"}]', "half of a surrogate pair"),
+                             ('[{"a": NaN}]', "not JSON"),
                              ('[{"a": 1, "a": 2}]', "member twice: a"), (b'[{"a": "\xff"}]', "not JSON"), (deep, "not JSON")]:
             self.file("a.json", content)
             self.refused("clio-draft", "json", "a.json", "--data", "data", why=why)
