@@ -42,6 +42,7 @@ class Source:
     def __init__(self, mapping):
         self.tables, self.mapping = mapping.source, mapping
         self.rows = [Rows() for _ in self.tables]
+        self.failing = [0] * len(self.tables)  # how many records of each table don't pass
         for number, table in enumerate(self.tables):
             if table.parent is None:
                 self.read(number, table)
@@ -64,6 +65,8 @@ class Source:
         """A row of a table, if it passes."""
         if self.mapping.passes(number, row):
             self.rows[number].add(row, place)
+        else:
+            self.failing[number] += 1
 
     def root(self, number):
         """The root of a table."""

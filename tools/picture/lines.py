@@ -91,11 +91,11 @@ class Refs:
         self.refs = []
         for number in order:
             table = tables[number]
-            for link in table.links[table.parent is not None:]:
+            for link in table.every_link()[table.parent is not None:]:
                 own = [places[number, column] for column in link.own]
                 there = [places[link.table, column] for column in link.referred]
                 title = (f"ref ({', '.join(table.columns[column] for column in link.own)}) -> {tables[link.table].name} "
-                         f"({', '.join(tables[link.table].columns[column] for column in link.referred)}) of {table.name}")
+                         f"({', '.join(tables[link.table].columns[column] for column in link.referred)}) of {table.name}{', optional' * (link in table.optional_links)}")
                 self.refs.append((own, there, title))
         self.lanes = self.in_lanes()
 

@@ -63,7 +63,8 @@ class SourceFigures:
     """One table of the source: its records, those that repeat another, the rows that some rule used, and why others weren't."""
 
     def __init__(self, number, source, rules, matches):
-        self.table, self.rows = source.tables[number], source.rows[number]
+        self.table, self.rows, self.failing = source.tables[number], source.rows[number], source.failing[number]
+        self.conditions = [condition for condition in source.mapping.conditions if condition.column.table == number]
         self.used = bytearray(len(self.rows.rows))
         self.by_rule = {}
         for rule, found in enumerate(matches):
@@ -139,7 +140,7 @@ class Figures:
         if read(pathlib.Path("out", "rules.txt")).decode().splitlines() != self.printed:
             raise Refused(f"out/rules.txt has other rules than mapping.clio: {AGAIN}")
         try:
-            source = Source(self.mapping.source)
+            source = Source(self.mapping)
         except (OSError, ValueError, StopIteration) as error:
             raise Refused(f"the source files can't be read: {error}") from None
         self.fold = dict(read_table("out/fold.csv", ["null", "value"]))

@@ -26,10 +26,19 @@ def head(figures, name):
 def source(figures, written):
     """For each table of the source what was used and what wasn't."""
     yield "<h2 id=source>Source</h2>"
-    lines = [[one.table.name, one.rows.records, one.rows.repeats, len(one.rows.rows), sum(one.used), len(one.not_used)] for one in figures.source]
-    sums = ["all"] + [sum(line[place] for line in lines) for place in range(1, 6)]
-    yield table(["set", "#records", "#repeat another", "#different rows", "#used by a rule", "#used by none"], lines, sums)
-    yield paragraph("Records = those that repeat another + different rows; different rows = used + not used.", "soft")
+    lines = [[one.table.name, one.rows.records + one.failing, one.failing, one.rows.repeats, len(one.rows.rows), sum(one.used), len(one.not_used)]
+             for one in figures.source]
+    sums = ["all"] + [sum(line[place] for line in lines) for place in range(1, 7)]
+    names = ["set", "#records", "#don't pass", "#repeat another", "#different rows", "#used by a rule", "#used by none"]
+    has_conditions = any(one.conditions for one in figures.source)
+    shown = [place for place in range(7) if has_conditions or place != 2]
+    part = lambda line: [line[place] for place in shown]
+    yield table(part(names), [part(line) for line in lines], part(sums))
+    without = "those that don't pass a condition + " if has_conditions else ""
+    yield paragraph(f"Records = {without}those that repeat another + different rows; different rows = used + not used.", "soft")
+    for one in figures.source:
+        for column, test in one.conditions:
+            yield paragraph(f"Of {code(one.table.name)} only rows whose {code(one.table.columns[column.column])} is {code(test)}.")
     for number, one in enumerate(figures.source):
         if one.unused_columns or one.not_used:
             yield f"<h3>{escaped(one.table.name)}</h3>"

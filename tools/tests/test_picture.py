@@ -29,7 +29,7 @@ rule a(p, q, p), set(q, q) where t = digits(q) -> b(i, "</svg>", t, n), inner(i,
 def drawn(content):
     """The picture of a mapping text, as a tree of XML."""
     content = content.encode()
-    return tree.fromstring(Picture(read_mapping(content), Reader(content).mapping()[3], "a <name>").drawn())
+    return tree.fromstring(Picture(read_mapping(content), Reader(content).mapping()[-1], "a <name>").drawn())
 
 
 def titles(picture, kind):
