@@ -6,7 +6,7 @@ use Rattle.clio_source.specs.declared.fault.SourceRefusal.{SourceRefusal}
 use Rattle.clio_source.specs.declared.fault.SourceRefusal.TheVariants as source_refusals
 use Rattle.dx_model.specs.Values.{Text}
 use Rattle.dx_schema.specs.Forest.{Forest}
-use Rattle.dx_schema.specs.Tables.{table_at}
+use Rattle.dx_schema.specs.Tables.{determinations_of, table_at}
 use Rattle.dx_rule_text.specs.Printed.{table_name}
 use Rattle.dx_keys.specs.declared.answers.Clash.{Clash}
 use Rattle.dx_exchange.specs.declared.fault.ExFault.{ExFault}
@@ -34,13 +34,13 @@ source_refusal (source_refusals.Limit limit) = refusals.Limit limit
 abbrev pub column_text : Forest → ℕ → ℕ → Text
 column_text schema t c = slice_index_or (table_at schema t).columns c []
 
--- the columns of a key of a table
-abbrev pub key_columns : Forest → ℕ → ℕ → List ℕ
-key_columns schema t k = (slice_index_or (table_at schema t).keys k (record { columns = [] })).columns
+-- the columns on the left of a determination of a table: a key, or a dependency after the keys
+abbrev pub left_columns : Forest → ℕ → ℕ → List ℕ
+left_columns schema t k = (slice_index_or (determinations_of (table_at schema t)) k (record { left = []; right = [] })).left
 
--- the clash with the names of its table, of its key's columns and of its column in the target
+-- the clash with the names of its table, of the columns on the left of its determination and of its column in the target
 abbrev pub named_clash : Forest → Clash → Refusal
-named_clash target c = refusals.Clash c (table_name target c.table) (map (column_text target c.table) (key_columns target c.table c.key)) (column_text target c.table c.column)
+named_clash target c = refusals.Clash c (table_name target c.table) (map (column_text target c.table) (left_columns target c.table c.key)) (column_text target c.table c.column)
 
 -- a fault of the exchange into this target; want of memory is none
 abbrev pub exchange_refusal : Forest → ExFault → Refusal

@@ -2,7 +2,7 @@
 ghost use Rattle.std.specs.Prelude.{◌≡◌, ◌++◌, [], IfOk, OnOk, codes, map, slice_index_or, string_bytes};
 ghost use Rattle.dx_rule_text.specs.Printed.{separated, table_name as table_text};
 ghost use Rattle.dx_tokens.specs.Quoted.{quoted};
-ghost use Rattle.clio_ending.specs.Ending.{column_text, key_columns, named_clash};
+ghost use Rattle.clio_ending.specs.Ending.{column_text, left_columns, named_clash};
 ghost use Rattle.clio_ending.specs.Message.{clash_text, text_in};
 
 use crate::ending::Refusal;
@@ -35,15 +35,20 @@ fn column_named(alloc: Global, schema: &Schema, table: u32, column: u32) -> Resu
     }
 }
 
-// The columns of a key, and none if there is no such key.
-fn key_of(schema: &Schema, table: u32, key: u32) -> &[u32]
-    ensures { result.now ≡ key_columns schema.now table key }
+// The columns on the left of a determination, and none if there is no such determination. Dependencies come after keys.
+fn left_of(schema: &Schema, table: u32, number: u32) -> &[u32]
+    ensures { result.now ≡ left_columns schema.now table number }
 {
     if table >= schema.tables() {
         return &[];
     }
-    match schema.keys_of(table).get(key as usize) {
-        Some(key) => key.columns.items(),
+    let keys = schema.keys_of(table);
+    let place = number as usize;
+    if place < keys.len() {
+        return keys[place].columns.items();
+    }
+    match schema.deps_of(table).get(place - keys.len()) {
+        Some(dep) => dep.columns.items(),
         None => &[],
     }
 }
@@ -73,7 +78,7 @@ pub fn named_clash(alloc: Global, clash: Clash, target: &Schema) -> Result<Refus
     ensures { IfOk result (λ r. r ≡ named_clash target.now clash) }
 {
     let table = table_named(alloc, target, clash.table)?;
-    let columns = key_of(target, clash.table, clash.key);
+    let columns = left_of(target, clash.table, clash.key);
     let key = columns_named(alloc, target, clash.table, columns)?;
     let column = column_named(alloc, target, clash.table, clash.column)?;
     Ok(Refusal::Clash {

@@ -8,7 +8,7 @@ use Rattle.dx_model.specs.declared.tables.Link.{Link}
 use Rattle.dx_model.specs.Tables.{values_in}
 use Rattle.dx_instance.specs.Stored.{TableRows, rows_of}
 use Rattle.dx_instance.specs.Places.{HasValues, IsFirstWith, NoneWith, row_at, value_at}
-use Rattle.dx_holds.specs.Columns.{Agrees, RowsDiffer, RowsLead}
+use Rattle.dx_holds.specs.Columns.{Agrees, RowsLead}
 
 -- ---- column by column
 
@@ -35,24 +35,6 @@ pub none_on : (I : List TableRows) (t : ℕ) (columns : List ℕ) (values : List
 none_on I t columns values a m b c x one old none p g k q = elim (cases_lt p m) [ inl l ↦ old p g l q | inr l ↦ none p l k (ap (λ (v : Value). v ∷ []) (one p q)) ]
 
 -- ---- all rows
-
--- the first n rows agree with none that follow
-abbrev pub DifferBelow : List TableRows → ℕ → List ℕ → ℕ → Type 0
-DifferBelow I t columns n = (p q : ℕ) → p < n → p < q → q < length (rows_of I t) → ¬ (Agrees I t p columns t columns q)
-
-pub differ_more : (I : List TableRows) (t n : ℕ) (columns : List ℕ) (o : Option ℕ) → is_some o ≡ false → IsFirstWith I t columns (values_in columns (row_at I t n)) (n + 1) o → DifferBelow I t columns n → DifferBelow I t columns (n + 1)
-differ_more I t n columns (Some x) e m old p q h b r = absurd (true≢false e)
-differ_more I t n columns None e m old p q h b r = elim (cases_lt p n) [
-  | inl l ↦ old p q l b r
-  | inr l ↦ let s : n ≡ p = omega (arith, h, l) in subst (λ (k : ℕ). ¬ (Agrees I t k columns t columns q)) s (m q (omega (arith, s, b)) r)
-]
-
-pub differ_all : (I : List TableRows) (t n : ℕ) (columns : List ℕ) → length (rows_of I t) ≤ n → DifferBelow I t columns n → RowsDiffer I t columns
-differ_all I t n columns h old p q b r = old p q (omega (arith, h, b, r)) b r
-
-pub not_differ : (I : List TableRows) (t n : ℕ) (columns : List ℕ) (o : Option ℕ) → is_some o ≡ true → IsFirstWith I t columns (values_in columns (row_at I t n)) (n + 1) o → ¬ (RowsDiffer I t columns)
-not_differ I t n columns None e m d = false≢true e
-not_differ I t n columns (Some q) e m d = d n q (omega (arith, m.0)) m.1 m.3
 
 -- the first n rows have the rows that the link names
 abbrev pub LeadBelow : List TableRows → ℕ → Link → ℕ → Type 0

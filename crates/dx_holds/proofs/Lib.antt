@@ -1,4 +1,5 @@
 pub mod Agreeing
+pub mod Determining
 pub mod Tables
 pub mod Least
 pub mod Walking

@@ -1,23 +1,24 @@
 -- The facts of an instance by the places of rows, and the tables of its schema.
 use Rattle.std.proofs.Common.{◌≡◌, ◌∙◌, ℕ, zero, suc, ◌+◌, ◌<◌, ◌≤◌, List, [], ◌∷◌, inl, inr, refl, sym, ap, subst, arith, length, get_or, drop, drop-cons}
-use Rattle.std.specs.Prelude.{map, None}
+use Rattle.std.specs.Prelude.{map}
 use Rattle.std.specs.List.{range_with_len}
 use Rattle.std.proofs.lemmas.Bool.{cases_lt}
 use Rattle.std.proofs.lemmas.List.{length-map, get_or-map, get_or_default}
 use Rattle.dx_ports.specs.Members.{◌∈◌, Distinct, Each}
-use Rattle.dx_ports.proofs.Members.{in_at, in_map, from_map, contains_from_in}
+use Rattle.dx_ports.proofs.Members.{in_at, in_left, in_map, in_right, from_append, from_map, contains_from_in}
 use Rattle.dx_model.specs.declared.values.Value.{Value}
 use Rattle.dx_model.specs.declared.values.Value.TheVariants.{Const}
 use Rattle.dx_model.specs.declared.tables.Key.{Key}
+use Rattle.dx_model.specs.declared.tables.Dep.{Dep}
 use Rattle.dx_model.specs.declared.tables.Link.{Link}
 use Rattle.dx_model.specs.Tables.{Determination, KeysHold, LinksHold, RowsFit, Table, cell, key_of, table_of, values_in}
 use Rattle.dx_schema.specs.Forest.{Forest}
-use Rattle.dx_schema.specs.Tables.{AreTables, TableOf, as_numbers, model_tables, no_table, schema_widths, tables_of}
+use Rattle.dx_schema.specs.Tables.{AreTables, TableOf, as_numbers, dep_of, determinations_of, key_determinations, model_tables, no_table, schema_widths, tables_of}
 use Rattle.dx_schema.specs.Tables.{table_at as schema_table}
 use Rattle.dx_instance.specs.Stored.{TableRows, facts, rows_of, table_at, widths}
 use Rattle.dx_instance.specs.Places.{row_at}
 use Rattle.dx_instance.proofs.StoredFacts.{fact_from_row, fact_table, row_from_fact}
-use Rattle.dx_holds.specs.Columns.{LinkFits, RowsDiffer, RowsLead}
+use Rattle.dx_holds.specs.Columns.{LinkFits, RowsDetermine, RowsDiffer, RowsLead, TableHolds}
 
 -- ---- tables of the schema
 
@@ -64,17 +65,33 @@ apart (r ∷ rows) p zero d h b e = absurd (omega arith)
 apart (r ∷ rows) zero (suc q) d h b e = d.0 (rw e (in_at rows q [] (omega arith)))
 apart (r ∷ rows) (suc p) (suc q) d h b e = apart rows p q d.1 (omega arith) (omega arith) e
 
--- ---- keys
+-- ---- keys and dependencies
 
--- the keys of a table hold
-abbrev pub TableKeys : Forest → List TableRows → ℕ → Type 0
-TableKeys f I t = Each (schema_table f t).keys (λ (k : Key). RowsDiffer I t k.columns)
-
-abbrev AreWide : List TableRows → Type 0
+abbrev pub AreWide : List TableRows → Type 0
 AreWide I = Each I (λ t. Each t.rows (λ (r : List Value). length r ≡ t.width))
 
-abbrev AreDistinct : List TableRows → Type 0
+abbrev pub AreDistinct : List TableRows → Type 0
 AreDistinct I = Each I (λ t. Distinct t.rows)
+
+-- the determination of a key of a table
+abbrev key_in : TableOf → Key → Determination
+key_in t k = key_of (length t.columns) k.columns
+
+determined : (I : List TableRows) (t : ℕ) (left right : List ℕ) (a b : List Value) → RowsDetermine I t left right → a ∈ rows_of I t → b ∈ rows_of I t → RowsFit a b (record { left = left; right = right })
+determined I t left right a b d m n e =
+    let p = place_of I t a m in
+    let q = place_of I t b n in
+    let pl : values_in left (row_at I t p.0) ≡ values_in left a = ap (values_in left) p.2 in
+    let ql : values_in left (row_at I t q.0) ≡ values_in left b = ap (values_in left) q.2 in
+    let pr : values_in right (row_at I t p.0) ≡ values_in right a = ap (values_in right) p.2 in
+    let qr : values_in right (row_at I t q.0) ≡ values_in right b = ap (values_in right) q.2 in
+    elim (cases_lt p.0 q.0) [
+      | inl l ↦ let r = d p.0 q.0 l q.1 (ql ∙ (sym e ∙ sym pl)) in sym pr ∙ (sym r ∙ qr)
+      | inr l ↦ elim (cases_lt q.0 p.0) [
+        | inl k ↦ let r = d q.0 p.0 k p.1 (pl ∙ (e ∙ sym ql)) in sym pr ∙ (r ∙ qr)
+        | inr k ↦ let s : p.0 ≡ q.0 = omega (arith, l, k) in sym pr ∙ (ap (λ (x : ℕ). values_in right (row_at I t x)) s ∙ qr)
+      ]
+    ]
 
 same_rows : (I : List TableRows) (t : ℕ) (columns : List ℕ) (a b : List Value) → RowsDiffer I t columns → a ∈ rows_of I t → b ∈ rows_of I t → values_in columns a ≡ values_in columns b → a ≡ b
 same_rows I t columns a b d m n e =
@@ -90,26 +107,50 @@ same_rows I t columns a b d m n e =
       ]
     ]
 
-pub keys_hold_all : (f : Forest) (I : List TableRows) (n : ℕ) → widths I ≡ schema_widths f → length I ≤ n → ((t : ℕ) → t < n → TableKeys f I t) → KeysHold (model_tables f) (facts I)
+-- rows of a table in which keys and dependencies hold fit each determination
+rows_fit : (table : TableOf) (I : List TableRows) (t : ℕ) (a b : List Value) → TableHolds I t table → a ∈ rows_of I t → b ∈ rows_of I t → Each (determinations_of table) (RowsFit a b)
+rows_fit table I t a b holds m n d k = elim (from_append (key_determinations table) k) [
+  | inl i ↦
+      let key = from_map (key_in table) table.keys {y = d} i in
+      subst (RowsFit a b) key.2 (λ e. ap (values_in (range_with_len 0 (length table.columns))) (same_rows I t key.0.columns a b (holds.0 key.0 key.1) m n e))
+  | inr i ↦
+      let dep = from_map dep_of table.deps {y = d} i in
+      subst (RowsFit a b) dep.2 (determined I t dep.0.columns dep.0.decides a b (holds.1 dep.0 dep.1) m n)
+]
+
+pub keys_hold_all : (f : Forest) (I : List TableRows) (n : ℕ) → widths I ≡ schema_widths f → length I ≤ n → ((t : ℕ) → t < n → TableHolds I t (schema_table f t)) → KeysHold (model_tables f) (facts I)
 keys_hold_all f I n e h all a m b o same d k =
     let u = fact_table I a m in
-    let there = rw (numbers_at f a.table (omega (arith, u, as_many f I e))) at k in
-    let key = from_map (λ (x : Key). key_of (length (schema_table f a.table).columns) x.columns) (schema_table f a.table).keys {y = d} there in
-    subst (λ (x : Determination). RowsFit a.row b.row x) key.2
-    (λ q. ap (values_in (range_with_len 0 (length (schema_table f a.table).columns))) (same_rows I a.table key.0.columns a.row b.row (all a.table (omega (arith, u, h)) key.0 key.1) (row_from_fact I a m) (subst (λ (t : ℕ). b.row ∈ rows_of I t) (sym same) (row_from_fact I b o)) q))
+    let there : d ∈ determinations_of (schema_table f a.table) = rw (numbers_at f a.table (omega (arith, u, as_many f I e))) at k in
+    rows_fit (schema_table f a.table) I a.table a.row b.row (all a.table (omega (arith, u, h))) (row_from_fact I a m) (subst (λ (t : ℕ). b.row ∈ rows_of I t) (sym same) (row_from_fact I b o)) d there
 
-pub table_keys : (f : Forest) (I : List TableRows) (t : ℕ) → widths I ≡ schema_widths f → AreWide I → AreDistinct I → t < length I → KeysHold (model_tables f) (facts I) → TableKeys f I t
-table_keys f I t e wide distinct h hold k m p q b r agree =
-    let w : ℕ = length (schema_table f t).columns in
-    let at_p : p < length (rows_of I t) = omega (arith, b, r) in
-    let row_p = in_at (rows_of I t) p [] at_p in
-    let row_q = in_at (rows_of I t) q [] r in
-    let there : key_of w k.columns ∈ (table_of (model_tables f) t).determinations = rw (numbers_at f t (omega (arith, h, as_many f I e))) (in_map (λ (x : Key). key_of (length (schema_table f t).columns) x.columns) m) in
-    let right = hold (record { table = t; row = row_at I t p }) (fact_from_row I t (row_at I t p) row_p) (record { table = t; row = row_at I t q }) (fact_from_row I t (row_at I t q) row_q) refl (key_of w k.columns) there (sym agree) in
-    let mine = wide (table_at I t) (in_at I t no_rows h) in
-    let wp : 0 + w ≡ length (row_at I t p) = omega (arith, as_wide f I t e h, mine (row_at I t p) row_p) in
-    let wq : 0 + w ≡ length (row_at I t q) = omega (arith, as_wide f I t e h, mine (row_at I t q) row_q) in
-    apart (rows_of I t) p q (distinct (table_at I t) (in_at I t no_rows h)) b r (sym (values_from w 0 (row_at I t p) wp) ∙ (right ∙ values_from w 0 (row_at I t q) wq))
+-- ---- what follows from keys that hold
+
+module _ (f : Forest) (I : List TableRows) (t : ℕ) (e : widths I ≡ schema_widths f) (h : t < length I) (hold : KeysHold (model_tables f) (facts I)) where
+  -- rows at two places fit each determination of the table
+  places_fit : (p q : ℕ) → p < q → q < length (rows_of I t) → Each (determinations_of (schema_table f t)) (RowsFit (row_at I t p) (row_at I t q))
+  places_fit p q b r d m =
+      let row_p = in_at (rows_of I t) p [] (omega (arith, b, r)) in
+      let row_q = in_at (rows_of I t) q [] r in
+      let there : d ∈ (table_of (model_tables f) t).determinations = rw (numbers_at f t (omega (arith, h, as_many f I e))) m in
+      hold (record { table = t; row = row_at I t p }) (fact_from_row I t (row_at I t p) row_p) (record { table = t; row = row_at I t q }) (fact_from_row I t (row_at I t q) row_q) refl d there
+
+  rows_determine : (d : Dep) → d ∈ (schema_table f t).deps → RowsDetermine I t d.columns d.decides
+  rows_determine d m p q b r agree = sym (places_fit p q b r (dep_of d) (in_right (key_determinations (schema_table f t)) (in_map dep_of m)) (sym agree))
+
+  rows_differ : AreWide I → AreDistinct I → (k : Key) → k ∈ (schema_table f t).keys → RowsDiffer I t k.columns
+  rows_differ wide distinct k m p q b r agree =
+      let w : ℕ = length (schema_table f t).columns in
+      let row_p = in_at (rows_of I t) p [] (omega (arith, b, r)) in
+      let row_q = in_at (rows_of I t) q [] r in
+      let right = places_fit p q b r (key_of w k.columns) (in_left (map dep_of (schema_table f t).deps) (in_map (key_in (schema_table f t)) m)) (sym agree) in
+      let mine = wide (table_at I t) (in_at I t no_rows h) in
+      let wp : 0 + w ≡ length (row_at I t p) = omega (arith, as_wide f I t e h, mine (row_at I t p) row_p) in
+      let wq : 0 + w ≡ length (row_at I t q) = omega (arith, as_wide f I t e h, mine (row_at I t q) row_q) in
+      apart (rows_of I t) p q (distinct (table_at I t) (in_at I t no_rows h)) b r (sym (values_from w 0 (row_at I t p) wp) ∙ (right ∙ values_from w 0 (row_at I t q) wq))
+
+pub table_holds : (f : Forest) (I : List TableRows) (t : ℕ) → widths I ≡ schema_widths f → AreWide I → AreDistinct I → t < length I → KeysHold (model_tables f) (facts I) → TableHolds I t (schema_table f t)
+table_holds f I t e wide distinct h hold = (rows_differ f I t e h hold wide distinct, rows_determine f I t e h hold)
 
 -- ---- links
 
@@ -150,3 +191,11 @@ pub key_fits : (f : Forest) (I : List TableRows) (t : ℕ) (key : Key) → width
 key_fits f I t key e tables h m =
     let k : t < length (tables_of f) = omega (arith, h, as_many f I e) in
     rw (as_wide f I t e h) ((tables.each_table (schema_table f t) (in_at (tables_of f) t no_table k)).keys key m).within
+
+-- the columns of a dependency are columns of the table
+pub dep_fits : (f : Forest) (I : List TableRows) (t : ℕ) (dep : Dep) → widths I ≡ schema_widths f → AreTables (tables_of f) → t < length I → dep ∈ (schema_table f t).deps
+    → ((c : ℕ) → c ∈ dep.columns → c < (table_at I t).width) × ((c : ℕ) → c ∈ dep.decides → c < (table_at I t).width)
+dep_fits f I t dep e tables h m =
+    let k : t < length (tables_of f) = omega (arith, h, as_many f I e) in
+    let is = (tables.each_table (schema_table f t) (in_at (tables_of f) t no_table k)).deps dep m in
+    rw (as_wide f I t e h) (is.columns.within, is.decides.within)

@@ -17,7 +17,13 @@ pub(crate) struct Seen<'a> {
 }
 
 /// Whether the row at a place has in these columns what the row that was seen has in its own.
-fn agrees(instance: &Instance, row: &Seen, table: u32, columns: &[u32], place: u32) -> bool
+pub(crate) fn agrees(
+    instance: &Instance,
+    row: &Seen,
+    table: u32,
+    columns: &[u32],
+    place: u32,
+) -> bool
     requires seen_table { row.now.table < length instance.now }
     requires seen_place { row.now.place < length (rows_of instance.now row.now.table) }
     requires seen_columns { (c : ℕ) → c ∈ row.now.columns.now → c < (table_at instance.now row.now.table).width }

@@ -1,15 +1,33 @@
-// Whether keys hold.
+// Whether keys and dependencies hold.
 ghost use Rattle.std.specs.Prelude.{◌≡◌, ◌↔◌, ◌<◌, ℕ, IsTrue, length};
 ghost use Rattle.dx_ports.specs.Members.{◌∈◌, Each};
 ghost use Rattle.dx_model.specs.Tables.{KeysHold};
 ghost use Rattle.dx_schema.specs.Tables.{model_tables, schema_widths, tables_of};
 ghost use Rattle.dx_schema.specs.Tables.{table_at as schema_table};
 ghost use Rattle.dx_instance.specs.Stored.{facts, rows_of, table_at, widths};
-ghost use Rattle.dx_holds.specs.Columns.{RowsDiffer};
+ghost use Rattle.dx_holds.specs.Columns.{IsFirstLike, RowsDetermine, RowsDiffer, TableHolds};
 
-use crate::columns::{Seen, next_like};
+use crate::columns::{Seen, agrees, next_like};
 use dx_instance::Instance;
 use dx_schema::Schema;
+
+/// The least place whose row has in these columns what the row at a place has.
+fn first_like(instance: &Instance, table: u32, columns: &[u32], place: u32) -> u32
+    requires table { table < length instance.now }
+    requires columns { (c : ℕ) → c ∈ columns.now → c < (table_at instance.now table).width }
+    requires place { place < length (rows_of instance.now table) }
+    ensures { IsFirstLike instance.now table columns.now place result }
+{
+    let row = Seen {
+        table,
+        place,
+        columns,
+    };
+    match next_like(instance, &row, table, columns, 0) {
+        Some(first) => first,
+        None => unreachable!(),
+    }
+}
 
 /// Whether no two rows of the table have the same values in these columns.
 fn differ_in(instance: &Instance, table: u32, columns: &[u32]) -> bool
@@ -17,14 +35,30 @@ fn differ_in(instance: &Instance, table: u32, columns: &[u32]) -> bool
     requires columns { (c : ℕ) → c ∈ columns.now → c < (table_at instance.now table).width }
     ensures { IsTrue result ↔ RowsDiffer instance.now table columns.now }
 {
-    let _few = instance.tables();
     for place in 0..instance.count(table) {
-        let row = Seen {
+        let first = first_like(instance, table, columns, place);
+        if first != place {
+            return false;
+        }
+    }
+    true
+}
+
+/// Whether rows of the table that have the same values in the columns on the left have the same in those on the right. Each
+/// row is compared with the first that has its values on the left.
+fn determine(instance: &Instance, table: u32, left: &[u32], right: &[u32]) -> bool
+    requires table { table < length instance.now }
+    requires left { (c : ℕ) → c ∈ left.now → c < (table_at instance.now table).width }
+    requires right { (c : ℕ) → c ∈ right.now → c < (table_at instance.now table).width }
+    ensures { IsTrue result ↔ RowsDetermine instance.now table left.now right.now }
+{
+    for place in 0..instance.count(table) {
+        let first = Seen {
             table,
-            place,
-            columns,
+            place: first_like(instance, table, left, place),
+            columns: right,
         };
-        if next_like(instance, &row, table, columns, place + 1).is_some() {
+        if !agrees(instance, &first, table, right, place) {
             return false;
         }
     }
@@ -46,14 +80,39 @@ fn table_keys_hold(schema: &Schema, instance: &Instance, table: u32) -> bool
     true
 }
 
-/// Whether the keys of a schema hold in an instance: two rows of a table that agree on the columns of a key are one. It takes
-/// no memory. An index of a column of each key makes it fast, if few rows have a value of it in common.
+/// Whether the dependencies of one table hold.
+fn table_deps_hold(schema: &Schema, instance: &Instance, table: u32) -> bool
+    requires widths { widths instance.now ≡ schema_widths schema.now }
+    requires table { table < length instance.now }
+    ensures { IsTrue result ↔ Each (schema_table schema.now table).deps (λ d. RowsDetermine instance.now table d.columns d.decides) }
+{
+    let _fits = schema.tables();
+    for dep in schema.deps_of(table) {
+        if !determine(instance, table, dep.columns.items(), dep.decides.items()) {
+            return false;
+        }
+    }
+    true
+}
+
+/// Whether the keys and the dependencies of one table hold.
+fn table_holds(schema: &Schema, instance: &Instance, table: u32) -> bool
+    requires widths { widths instance.now ≡ schema_widths schema.now }
+    requires table { table < length instance.now }
+    ensures { IsTrue result ↔ TableHolds instance.now table (schema_table schema.now table) }
+{
+    table_keys_hold(schema, instance, table) && table_deps_hold(schema, instance, table)
+}
+
+/// Whether the keys and the dependencies of a schema hold in an instance: two rows of a table that agree on the columns of a
+/// key are one, and two that agree on the left of a dependency agree on its right. It takes no memory. An index of a column of
+/// each key, and of the left of each dependency, makes it fast, if few rows have a value of it in common.
 pub fn keys_hold(schema: &Schema, instance: &Instance) -> bool
     requires { widths instance.now ≡ schema_widths schema.now }
     ensures { IsTrue result ↔ KeysHold (model_tables schema.now) (facts instance.now) }
 {
     for table in 0..instance.tables() {
-        if !table_keys_hold(schema, instance, table) {
+        if !table_holds(schema, instance, table) {
             return false;
         }
     }

@@ -1,8 +1,9 @@
-//! Whether an instance satisfies keys, links and rules. None of these calls takes memory.
+//! Whether an instance satisfies keys, dependencies, links and rules. None of these calls takes memory.
 //!
-//! `keys_hold` and `links_hold` are true exactly if the facts of an instance satisfy the keys, or the links, of its schema
-//! (`KeysHold`, `LinksHold` of `dx_model`'s specs/Tables). Rows are looked for by the first column of a key, or of those that
-//! a link leads to, that has an index: with it they need not go through all rows for each row.
+//! `keys_hold` and `links_hold` are true exactly if the facts of an instance satisfy the keys and the dependencies, or the
+//! links, of its schema (`KeysHold`, `LinksHold` of `dx_model`'s specs/Tables). Rows are looked for by the first column of a
+//! key, of a dependency's left, or of those that a link leads to, that has an index: with it they need not go through all rows
+//! for each row.
 //!
 //! `satisfied` is true exactly if each tuple of a rule's places has values for the existential variables with which all of the
 //! conclusion is in the target (`PlacesSatisfied` of specs/Rules). It searches in a `Room` that was reserved for rules before

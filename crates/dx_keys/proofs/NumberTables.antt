@@ -2,20 +2,18 @@
 use Rattle.std.proofs.Common.{◌≡◌, ◌∙◌, ℕ, ◌+◌, ◌<◌, List, [], ◌∷◌, ◌++◌, inl, inr, sym, ap, length, map, arith}
 use Rattle.std.proofs.lemmas.Bool.{cases_lt}
 use Rattle.std.proofs.lemmas.List.{get_or-map, get_or_append_left, get_or_push, length-append}
-use Rattle.dx_model.specs.declared.tables.Key.{Key}
-use Rattle.dx_model.specs.Tables.{Table as Numbers, key_of, table_of}
+use Rattle.dx_model.specs.Tables.{Table as Numbers, table_of}
 use Rattle.dx_schema.specs.Forest.{Forest}
-use Rattle.dx_schema.specs.Tables.{as_numbers, model_tables, table_at as table_in, tables_of}
+use Rattle.dx_schema.specs.Tables.{as_numbers, determinations_of, model_tables, table_at as table_in, tables_of}
 use Rattle.dx_instance.specs.Cells.{NumberTable as TableOfNumbers}
 use Rattle.dx_instance.specs.Shown.{numbers_of_table}
 use Rattle.dx_chase.specs.declared.rows.NumberTable.{NumberTable}
 use Rattle.dx_chase.specs.Rows.{table_at}
 use Rattle.dx_keys.specs.Numbers.{AreTablesIn, determination_of}
 
--- the determinations of a table of a schema are its keys
-pub keys_determine : (f : Forest) (t : ℕ) → t < length (tables_of f)
-    → map (λ (k : Key). key_of (length (table_in f t).columns) k.columns) (table_in f t).keys ≡ (table_of (model_tables f) t).determinations
-keys_determine f t h = sym (ap (λ (x : Numbers). x.determinations) (get_or-map as_numbers (tables_of f) t _ _ h))
+-- the determinations of a table of a schema, by its keys and its dependencies
+pub determinations_are : (f : Forest) (t : ℕ) → t < length (tables_of f) → determinations_of (table_in f t) ≡ (table_of (model_tables f) t).determinations
+determinations_are f t h = sym (ap (λ (x : Numbers). x.determinations) (get_or-map as_numbers (tables_of f) t _ _ h))
 
 -- the first n tables
 pub record AreFirst (schema : List Numbers) (rows : List TableOfNumbers) (n : ℕ) (tables : List NumberTable) : Type 0 where

@@ -12,7 +12,7 @@ ghost use Rattle.dx_keys.specs.Numbers.{AreRoots, Numbered, map_of};
 use crate::answers::Chased;
 use crate::clashes::read_clash;
 use crate::fault::ChaseFault;
-use crate::keyless::{has_no_keys, unchanged};
+use crate::keyless::{has_no_determinations, unchanged};
 use crate::numbering::{Numbering, number};
 use crate::reading::{read_image, read_map};
 use crate::tables::number_tables;
@@ -85,7 +85,7 @@ pub fn chase(alloc: Global, instance: Instance, schema: &Schema) -> Result<Chase
     ensures ok { IfOk result (IsChased (model_tables schema.now) instance) }
     ensures fault { IfErr result (IsFaultOf (model_tables schema.now) instance) }
 {
-    if !has_no_keys(schema) {
+    if !has_no_determinations(schema) {
         return chase_numbers(alloc, &instance, schema);
     }
     let _tables = instance.tables();

@@ -1,7 +1,7 @@
-// What is made of an instance if no table has a key: nothing changes.
-ghost use Rattle.std.specs.Prelude.{◌≡◌, ◌↔◌, [], List, IfOk, IsTrue};
+// What is made of an instance if no table has a key or a dependency: nothing changes.
+ghost use Rattle.std.specs.Prelude.{◌≡◌, ◌<◌, ◌↔◌, [], List, IfOk, IsTrue, length};
 ghost use Rattle.dx_ports.specs.Members.{Each};
-ghost use Rattle.dx_schema.specs.Tables.{tables_of};
+ghost use Rattle.dx_schema.specs.Tables.{determinations_of, table_at, tables_of};
 ghost use Rattle.dx_model.specs.Tables.{IsKeyed, Table as ModelTable};
 ghost use Rattle.dx_instance.specs.Stored.{facts};
 ghost use Rattle.dx_keys.specs.Answers.{IsChased};
@@ -11,12 +11,20 @@ use dx_instance::{Instance, NullMap};
 use dx_schema::Schema;
 use std::alloc::{AllocError, Global};
 
-/// Whether no table has a key.
-pub(crate) fn has_no_keys(schema: &Schema) -> bool
-    ensures { IsTrue result ↔ Each (tables_of schema.now) (λ t. t.keys ≡ []) }
+/// Whether a table has neither a key nor a dependency.
+fn is_free(schema: &Schema, table: u32) -> bool
+    requires { table < length (tables_of schema.now) }
+    ensures { IsTrue result ↔ (determinations_of (table_at schema.now table) ≡ []) }
+{
+    schema.keys_of(table).is_empty() && schema.deps_of(table).is_empty()
+}
+
+/// Whether no table has a key or a dependency.
+pub(crate) fn has_no_determinations(schema: &Schema) -> bool
+    ensures { IsTrue result ↔ Each (tables_of schema.now) (λ t. determinations_of t ≡ []) }
 {
     for table in 0..schema.tables() {
-        if !schema.keys_of(table).is_empty() {
+        if !is_free(schema, table) {
             return false;
         }
     }

@@ -2,7 +2,7 @@
 //!
 //! `chase` gives the forced map of an instance and its image under that map, in which keys hold; or a clash, if nothing in
 //! which keys hold receives the instance (specs/Answers). It numbers the values in ascending order (`numbering`), lists what
-//! determines what in each table (`tables`: the one place that knows of keys), lets `dx_chase` join the numbers, and reads
+//! determines what in each table (`tables`: the one place that knows of keys and dependencies), lets `dx_chase` join the numbers, and reads
 //! values again (`reading`, `clashes`). Laws: what the chase makes of an instance receives it (specs/Laws), and every chase ends, with
 //! the forced map or with a clash (specs/Ends).
 #![tactic(auto)]

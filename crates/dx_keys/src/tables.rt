@@ -1,7 +1,7 @@
 // Tables of numbers with what determines what in them.
 ghost use Rattle.std.specs.Prelude.{◌≡◌, ◌<◌, IfOk, length, map};
 ghost use Rattle.dx_model.specs.Tables.{table_of};
-ghost use Rattle.dx_schema.specs.Tables.{model_tables, tables_of};
+ghost use Rattle.dx_schema.specs.Tables.{key_determinations, model_tables, table_at, tables_of};
 ghost use Rattle.dx_keys.specs.Numbers.{AreTablesIn, determination_of};
 
 use crate::numbering::counted;
@@ -20,7 +20,23 @@ fn copied(alloc: Global, numbers: &[u32]) -> Result<Items<u32>, AllocError>
     Ok(Items::from_vec(copy))
 }
 
-/// The determinations of a table: each key determines all columns.
+// What the keys of a table determine: each determines all columns.
+fn keys_as_columns(alloc: Global, schema: &Schema, table: u32) -> Result<Items<Columns>, AllocError>
+    requires { table < length (tables_of schema.now) }
+    ensures { IfOk result (λ all. map determination_of all ≡ key_determinations (table_at schema.now table)) }
+{
+    let width = schema.width(table);
+    let mut all = Items::new(alloc);
+    for key in schema.keys_of(table) {
+        all.push(Columns {
+            left: copied(alloc, key.columns.items())?,
+            right: Items::from_vec(counted(alloc, width)?),
+        })?;
+    }
+    Ok(all)
+}
+
+/// The determinations of a table: its keys, each of which determines all columns, and then its dependencies.
 ///
 /// # Errors
 ///
@@ -33,12 +49,11 @@ pub fn determinations(
     requires { table < length (tables_of schema.now) }
     ensures { IfOk result (λ all. map determination_of all ≡ (table_of (model_tables schema.now) table).determinations) }
 {
-    let width = schema.width(table);
-    let mut all = Items::new(alloc);
-    for key in schema.keys_of(table) {
+    let mut all = keys_as_columns(alloc, schema, table)?;
+    for dep in schema.deps_of(table) {
         all.push(Columns {
-            left: copied(alloc, key.columns.items())?,
-            right: Items::from_vec(counted(alloc, width)?),
+            left: copied(alloc, dep.columns.items())?,
+            right: copied(alloc, dep.decides.items())?,
         })?;
     }
     Ok(all)

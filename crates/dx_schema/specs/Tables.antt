@@ -6,7 +6,7 @@ use Rattle.dx_ports.specs.Members.{Distinct, Each}
 use Rattle.dx_model.specs.declared.tables.Key.{Key}
 use Rattle.dx_model.specs.declared.tables.Dep.{Dep}
 use Rattle.dx_model.specs.declared.tables.Link.{Link}
-use Rattle.dx_model.specs.Tables.{AreWithin, key_of}
+use Rattle.dx_model.specs.Tables.{AreWithin, Determination, key_of}
 use Rattle.dx_model.specs.Tables.{Table as Numbers}
 use Rattle.dx_schema.specs.declared.sets.KeyDecl.{KeyDecl}
 use Rattle.dx_schema.specs.declared.sets.DepDecl.{DepDecl}
@@ -158,9 +158,21 @@ no_table = record { name = []; columns = []; keys = []; deps = []; links = []; o
 abbrev pub table_at : Forest → ℕ → TableOf
 table_at f t = slice_index_or (tables_of f) t no_table
 
--- a table as numbers: its width, what its keys determine, its links and its optional links
+-- a dependency: its columns determine those that it decides
+abbrev pub dep_of : Dep → Determination
+dep_of d = record { left = d.columns; right = d.decides }
+
+-- what the keys of a table determine: each determines all columns
+abbrev pub key_determinations : TableOf → List Determination
+key_determinations t = map (λ (k : Key). key_of (length t.columns) k.columns) t.keys
+
+-- the determinations of a table: its keys, and then its dependencies
+abbrev pub determinations_of : TableOf → List Determination
+determinations_of t = key_determinations t ++ map dep_of t.deps
+
+-- a table as numbers: its width, its determinations, its links and its optional links
 abbrev pub as_numbers : TableOf → Numbers
-as_numbers t = record { width = length t.columns; determinations = map (λ (k : Key). key_of (length t.columns) k.columns) t.keys; links = t.links; optional = t.optional }
+as_numbers t = record { width = length t.columns; determinations = determinations_of t; links = t.links; optional = t.optional }
 
 -- the widths of a schema's tables
 abbrev pub schema_widths : Forest → List ℕ

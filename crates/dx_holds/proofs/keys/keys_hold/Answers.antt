@@ -1,16 +1,16 @@
 use Rattle.std.proofs.Common.{◌<◌, ◌≤◌, length, arith, below_more, refl}
 use Rattle.dx_ports.proofs.Loops.{not_so}
-use Rattle.dx_holds.proofs.Tables.{keys_hold_all, table_keys}
+use Rattle.dx_holds.proofs.Tables.{keys_hold_all, table_holds}
 use Rattle.dx_holds.proofs.keys.keys_hold.Goals as goal
 
-pub returns-then-not-table_keys_hold : goal.returns-then-not-table_keys_hold
-returns-then-not-table_keys_hold c =
+pub returns-then-not-table_holds : goal.returns-then-not-table_holds
+returns-then-not-table_holds c =
     let h : c.loop-table.table < length c.args.instance.now = omega (arith, c.tables-table-end.ensures.number, c.loop-table-test.true) in
-    not_so c.if-not-table_keys_hold.true c.table_keys_hold.ensures
-    (table_keys c.args.schema.now c.args.instance.now c.loop-table.table c.requires c.tables-table-end.ensures.rows c.tables-table-end.ensures.distinct h)
+    not_so c.if-not-table_holds.true c.table_holds.ensures
+    (table_holds c.args.schema.now c.args.instance.now c.loop-table.table c.requires c.tables-table-end.ensures.rows c.tables-table-end.ensures.distinct h)
 
 pub loop-table-preserved : goal.loop-table-preserved
-loop-table-preserved c = below_more _ _ c.loop-table.invariant (c.table_keys_hold.ensures.0 c.if-not-table_keys_hold.false)
+loop-table-preserved c = below_more _ _ c.loop-table.invariant (c.table_holds.ensures.0 c.if-not-table_holds.false)
 
 pub returns : goal.returns
 returns c =

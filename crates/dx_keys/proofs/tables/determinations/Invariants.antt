@@ -1,8 +1,7 @@
-use Rattle.std.proofs.Common.{◌≡◌, map, take}
-use Rattle.dx_model.specs.declared.tables.Key.{Key}
-use Rattle.dx_model.specs.Tables.{key_of}
+use Rattle.std.proofs.Common.{◌≡◌, ◌++◌, map, take}
+use Rattle.dx_schema.specs.Tables.{dep_of, key_determinations, table_at}
 use Rattle.dx_keys.specs.Numbers.{determination_of}
 use Rattle.dx_keys.proofs.tables.determinations.Given as goal
 
-abbrev pub invariant-loop-key : goal.invariant-loop-key
-invariant-loop-key l = map determination_of l.all ≡ map (λ (k : Key). key_of l.width k.columns) (take l.key-index l.key-items)
+abbrev pub invariant-loop-dep : goal.invariant-loop-dep
+invariant-loop-dep l = map determination_of l.all ≡ key_determinations (table_at l.schema l.table) ++ map dep_of (take l.dep-index l.dep-items)
