@@ -26,3 +26,4 @@ pub mod Deciding
 mod CoverExamples
 pub mod Cells
 pub mod TupleFacts
+pub mod Exactly

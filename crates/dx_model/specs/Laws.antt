@@ -44,6 +44,14 @@ CanonicalMapsInto =
     (convert : Conversions) (R : List Rule) (I K : List Fact) (rows : Rows)
     → AreRows convert R I rows → Each R (λ d. Satisfies convert d I K) → MapsInto (canonical 0 R rows) K
 
+-- the canonical instance satisfies its rules
+abbrev pub CanonicalSatisfies : Type 0
+CanonicalSatisfies = (convert : Conversions) (R : List Rule) (I : List Fact) (rows : Rows) → AreRows convert R I rows → SatisfyAll convert R I (canonical 0 R rows)
+
+-- an instance that has all of one that satisfies rules satisfies them
+abbrev pub MoreSatisfies : Type 0
+MoreSatisfies = (convert : Conversions) (R : List Rule) (I A B : List Fact) → A ⊆ B → SatisfyAll convert R I A → SatisfyAll convert R I B
+
 -- a key step makes equal what is forced equal
 abbrev pub StepsAreForced : Type 0
 StepsAreForced =
@@ -146,6 +154,16 @@ abbrev pub CoverFoldUncovers : Type 0
 CoverFoldUncovers =
     (width : ℕ → ℕ) (R : List Rule) (rows : Rows) → Each R (HasWidths width) → length rows ≡ length R
     → map (fact_moved (cover_fold R rows)) (canonical 0 R rows) ≈ uncovered_part R rows
+
+-- of closed rules, if keys hold in the image of the canonical instance under its forced map: a solution is universal exactly if it
+-- maps into that image
+abbrev pub UniversalExactly : Type 0
+UniversalExactly =
+    (convert : Conversions) (R : List Rule) (schema : List Table) (I K : List Fact) (rows : Rows) (m : List NullPair)
+    → AreRows convert R I rows → Each R (IsClosed schema)
+    → IsForcedMap schema (canonical 0 R rows) m → KeysHold schema (image m (canonical 0 R rows))
+    → IsSolution convert R schema I K
+    → IsUniversal convert R schema I K ↔ MapsInto K (image m (canonical 0 R rows))
 
 -- what is left of the uncovered part of closed rules after its forced map and a retraction is universal, if keys hold
 abbrev pub ReducedIsUniversal : Type 0

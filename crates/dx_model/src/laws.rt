@@ -1,5 +1,5 @@
 // The laws of the book. The definitions alone carry them: no body computes anything.
-ghost use Rattle.dx_model.specs.Laws.{BeforeIsOrder, BlockIsClosed, BlockServes, CanonicalAre, CanonicalFits, CanonicalIsUniversal, CanonicalMapsInto, CanonicalMovesInto, ChasedIsUniversal, ClashAfterSteps, ClashMeansNone, CoreByMembers, CoreIsUniversal, CoreOfNeeded, CoverFoldUncovers, ExportedExactly, FactorsThroughForced, FitsByWidths, FoldsOntoUncovered, FollowsByFrozen, FollowsByPrefix, FollowsInSchemas, FollowsIsDecided, ForcedBefore, ForcedImageStays, ForcedMapByMembers, ForcedMapIsOne, FrozenFits, GroundNeeded, ImageByMembers, ImpliesEach, KeepIt, KeyedMapIsEmpty, KeysByMembers, LeastCoreIsUniversal, LeastCoversFall, MapExactly, MapsCarry, MapsCompose, MapsJoin, MovesFollow, NeededStays, NoKeysHold, NoSolution, NoneExactly, NoneReceivesByMembers, OneAscending, OnePruned, OneRows, OntoCore, PartTells, PartsJoin, PrunedExists, PrunedImplies, ReducedIsUniversal, ReductByMembers, ReductOfReduct, RowsByMembers, RowsExist, RowsOfAll, RowsOfAllByMembers, RowsOfAllExist, RulesHaveWidths, SaidByMoves, SatisfiedByRows, SpareOne, StepsAreForced, TakeOut, UncoveredAre, UncoveredIsPart, UniversalByMembers, WidthsAgree};
+ghost use Rattle.dx_model.specs.Laws.{BeforeIsOrder, BlockIsClosed, BlockServes, CanonicalAre, CanonicalFits, CanonicalIsUniversal, CanonicalMapsInto, CanonicalMovesInto, CanonicalSatisfies, ChasedIsUniversal, ClashAfterSteps, ClashMeansNone, CoreByMembers, CoreIsUniversal, CoreOfNeeded, CoverFoldUncovers, ExportedExactly, FactorsThroughForced, FitsByWidths, FoldsOntoUncovered, FollowsByFrozen, FollowsByPrefix, FollowsInSchemas, FollowsIsDecided, ForcedBefore, ForcedImageStays, ForcedMapByMembers, ForcedMapIsOne, FrozenFits, GroundNeeded, ImageByMembers, ImpliesEach, KeepIt, KeyedMapIsEmpty, KeysByMembers, LeastCoreIsUniversal, LeastCoversFall, MapExactly, MapsCarry, MapsCompose, MapsJoin, MoreSatisfies, MovesFollow, NeededStays, NoKeysHold, NoSolution, NoneExactly, NoneReceivesByMembers, OneAscending, OnePruned, OneRows, OntoCore, PartTells, PartsJoin, PrunedExists, PrunedImplies, ReducedIsUniversal, ReductByMembers, ReductOfReduct, RowsByMembers, RowsExist, RowsOfAll, RowsOfAllByMembers, RowsOfAllExist, RulesHaveWidths, SaidByMoves, SatisfiedByRows, SpareOne, StepsAreForced, TakeOut, UncoveredAre, UncoveredIsPart, UniversalByMembers, UniversalExactly, WidthsAgree};
 
 /// The exported variables ascend, and are exactly those that stand in the conclusion.
 pub fn exported_exactly()
@@ -16,6 +16,12 @@ pub fn canonical_maps_into()
     ensures { CanonicalMapsInto }
 {}
 
+/// The canonical instance satisfies its rules, and so does each instance that has all of it.
+pub fn canonical_satisfies()
+    ensures itself { CanonicalSatisfies }
+    ensures more { MoreSatisfies }
+{}
+
 /// The canonical instance of closed rules is an instance in which links hold.
 pub fn canonical_fits()
     ensures { CanonicalFits }
@@ -29,6 +35,11 @@ pub fn factors_through_forced()
 /// The canonical instance after its forced map is universal, if keys hold in it.
 pub fn chased_is_universal()
     ensures { ChasedIsUniversal }
+{}
+
+/// A solution is universal exactly if it maps into the image of the canonical instance under its forced map.
+pub fn universal_exactly()
+    ensures { UniversalExactly }
 {}
 
 /// Key steps are forced, and so is what is forced after them; a clash means that no instance serves.

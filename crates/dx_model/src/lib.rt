@@ -25,14 +25,14 @@ pub use covers::{CellMap, Cover, Meeting};
 pub use facts::{Fact, NullPair, are_same};
 pub use laws::{
     atoms_move, before_is_order, block_is_closed, block_serves, canonical_fits,
-    canonical_is_universal, canonical_maps_into, canonical_moves_into, cell_maps_carry,
-    chased_is_universal, core_is_universal, core_of_needed, cover_fold_uncovers, exported_exactly,
-    factors_through_forced, folds_onto_uncovered, follows_by_frozen, forced_map_is_one,
-    ground_needed, keep_it, key_steps, keyed_instances, least_core_is_universal, least_covers,
-    maps_join, members_are, members_count, needed_stays, no_solution, nulls_stay,
+    canonical_is_universal, canonical_maps_into, canonical_moves_into, canonical_satisfies,
+    cell_maps_carry, chased_is_universal, core_is_universal, core_of_needed, cover_fold_uncovers,
+    exported_exactly, factors_through_forced, folds_onto_uncovered, follows_by_frozen,
+    forced_map_is_one, ground_needed, keep_it, key_steps, keyed_instances, least_core_is_universal,
+    least_covers, maps_join, members_are, members_count, needed_stays, no_solution, nulls_stay,
     one_ascending_list, one_list_of_rows, one_pruned_list, onto_core, part_tells, parts_join,
     reduced_is_universal, reduct_of_reduct, rows_of_all_rules, spare_one, take_out,
-    widths_of_atoms,
+    universal_exactly, widths_of_atoms,
 };
 pub use matches::{Matches, Places};
 pub use row::Row;
