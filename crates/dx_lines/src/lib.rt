@@ -11,5 +11,5 @@ mod line;
 mod term;
 
 pub use candidate::{Candidate, Pick};
-pub use line::{Line, Origin, Place};
+pub use line::{Condition, Line, Origin, Place};
 pub use term::Term;
