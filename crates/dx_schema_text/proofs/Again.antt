@@ -17,14 +17,15 @@ use Rattle.dx_schema_text.specs.declared.texts.CellText.{CellText}
 use Rattle.dx_schema_text.specs.declared.texts.AtomText.{AtomText}
 use Rattle.dx_schema_text.specs.declared.texts.DerivedText.{DerivedText}
 use Rattle.dx_schema_text.specs.declared.texts.RuleText.{RuleText}
+use Rattle.dx_schema_text.specs.declared.texts.OnlyText.{OnlyText}
 use Rattle.dx_schema_text.specs.declared.texts.MappingText.{MappingText}
 use Rattle.dx_schema_text.specs.declared.mapping.ItemText.{ItemText}
-use Rattle.dx_schema_text.specs.Grammar.{is_word, word_is, mark_is}
-use Rattle.dx_schema_text.specs.Reading.{comma_word, words_reader, key_reader, referred_reader, ref_reader, key_clause, ref_clause, set_clause, begins_clause, last_clause_reader, clause_reader_with, set_head_reader, set_reader_of, clause_reader, set_reader, tree_of, place_reader, comma_place, places_reader, string_reader, column_reader, call_reader, named_reader, source_reader, line_reader, name_reader, literal_reader, cell_reader, comma_cell, cells_reader, atom_reader, comma_atom, atoms_reader, derived_reader, comma_derived, where_reader, optional_where, rule_reader, line_item, rule_item, begins_item, item_reader, side_reader, mapping_reader}
-use Rattle.dx_schema_text.specs.Spelling.{IsMark, IsKeyword, Comma, comma_then, Parted, parted, SpellsName, name_of, SpellsKey, key_of, SpellsRef, ref_of, SpellsHead, head_of, SpellsSet, set_of, SpellsClauses, no_clause, clause_first, SpellsClause, a_key, a_ref, a_set, SpellsPlace, place_of, SpellsSource, a_literal, a_column, a_call, SpellsLine, line_of, SpellsCell, a_name, a_text, SpellsAtom, atom_of, SpellsDerived, derived_of, SpellsWhere, no_where, where_of, SpellsRule, rule_of, SpellsItem, a_line, a_rule, SpellsSide, side_of, SpellsMapping, mapping_of}
-use Rattle.dx_schema_text.proofs.Apart.{apart_marks, apart_words, apart_mark_word, apart_word_mark, apart_any_word_string, apart_string_any_word}
+use Rattle.dx_schema_text.specs.Grammar.{is_word, word_is, number_is, mark_is, since_two}
+use Rattle.dx_schema_text.specs.Reading.{comma_word, words_reader, key_reader, optional_reader, referred_reader, ref_reader, key_clause, ref_clause, set_clause, begins_clause, last_clause_reader, clause_reader_with, set_head_reader, set_reader_of, clause_reader, set_reader, tree_of, place_reader, comma_place, places_reader, string_reader, column_reader, call_reader, named_reader, source_reader, line_reader, name_reader, literal_reader, cell_reader, comma_cell, cells_reader, atom_reader, comma_atom, atoms_reader, derived_reader, comma_derived, where_reader, optional_where, rule_reader, only_reader, line_item, rule_item, only_item, begins_item, item_reader, side_reader, body_reader, mapping_text, mapping_reader}
+use Rattle.dx_schema_text.specs.Spelling.{IsMark, IsKeyword, Comma, comma_then, Parted, parted, SpellsName, name_of, SpellsKey, key_of, SpellsOptional, not_optional, is_optional, SpellsRef, ref_of, SpellsHead, head_of, SpellsSet, set_of, SpellsClauses, no_clause, clause_first, SpellsClause, a_key, a_ref, a_set, SpellsPlace, place_of, SpellsSource, a_literal, a_column, a_call, SpellsLine, line_of, SpellsCell, a_name, a_text, SpellsAtom, atom_of, SpellsDerived, derived_of, SpellsWhere, no_where, where_of, SpellsRule, rule_of, SpellsOnly, only_of, SpellsItem, a_line, a_rule, a_condition, SpellsSide, side_of, IsVersion, version_one, version_two, SpellsMapping, mapping_of}
+use Rattle.dx_schema_text.proofs.Apart.{apart_marks, apart_numbers, apart_words, apart_mark_word, apart_word_mark, apart_any_word_string, apart_string_any_word}
 use Rattle.dx_schema_text.proofs.Follows.{comma_word_consumes, comma_place_consumes, comma_cell_consumes, comma_atom_consumes, comma_derived_consumes, clause_consumes, set_consumes, item_consumes}
-use Rattle.std.proofs.lemmas.Bool.{or_left, or_right}
+use Rattle.std.proofs.lemmas.Bool.{or_left, or_right, or_parts}
 
 abbrev comma : Lexeme → Bool
 comma = mark_is (codes ",")
@@ -90,12 +91,32 @@ unfolding key_reader
 key_behind (key_of {u = u} k o c e kw ow names cw ew) rest =
     rw (append_assoc u (c ∷ e ∷ []) rest, kw, ow, words_behind names (c ∷ e ∷ rest) (no_comma (codes ")") c refl cw), cw, ew) refl
 
-ref_behind : {r : RefDecl} {a : List Lexeme} → SpellsRef r a → (rest : List Lexeme) → ref_reader (a ++ rest) ≡ Ok (r, rest)
+optional_behind : {optionals b : Bool} {w : List Lexeme} → SpellsOptional optionals b w → (e : Lexeme) (rest : List Lexeme) → IsMark (codes ";") e → optional_reader optionals (w ++ e ∷ rest) ≡ Ok (b, e ∷ rest)
+unfolding optional_reader
+optional_behind {optionals = false} not_optional e rest ew = refl
+optional_behind {optionals = true} not_optional e rest ew = rw (apart_mark_word (codes ";") (codes "optional") e ew) refl
+optional_behind (is_optional k kw) e rest ew = rw kw refl
+
+ref_behind : {optionals : Bool} {r : RefDecl} {a : List Lexeme} → SpellsRef optionals r a → (rest : List Lexeme) → ref_reader optionals (a ++ rest) ≡ Ok (r, rest)
 unfolding ref_reader referred_reader
-ref_behind (ref_of {u = u} {v = v} k o c arrow s p d e kw ow names cw aw sw pw more dw ew) rest =
-    let tail : (v ++ d ∷ e ∷ []) ++ rest ≡ v ++ d ∷ e ∷ rest = append_assoc v (d ∷ e ∷ []) rest in
-    let all : (u ++ c ∷ arrow ∷ s ∷ p ∷ (v ++ d ∷ e ∷ [])) ++ rest ≡ u ++ c ∷ arrow ∷ s ∷ p ∷ (v ++ d ∷ e ∷ rest) = append_assoc u (c ∷ arrow ∷ s ∷ p ∷ (v ++ d ∷ e ∷ [])) rest ∙ ap (λ ys. u ++ c ∷ arrow ∷ s ∷ p ∷ ys) tail in
-    rw (all, kw, ow, words_behind names (c ∷ arrow ∷ s ∷ p ∷ (v ++ d ∷ e ∷ rest)) (no_comma (codes ")") c refl cw), cw, aw, sw, pw, words_behind more (d ∷ e ∷ rest) (no_comma (codes ")") d refl dw), dw, ew) refl
+ref_behind (ref_of {u = u} {v = v} {w = w} k o c arrow s p d e kw ow names cw aw sw pw more dw is ew) rest =
+    let last : (w ++ e ∷ []) ++ rest ≡ w ++ e ∷ rest = append_assoc w (e ∷ []) rest in
+    let tail : (v ++ d ∷ (w ++ e ∷ [])) ++ rest ≡ v ++ d ∷ (w ++ e ∷ rest) = append_assoc v (d ∷ (w ++ e ∷ [])) rest ∙ ap (λ ys. v ++ d ∷ ys) last in
+    let all : (u ++ c ∷ arrow ∷ s ∷ p ∷ (v ++ d ∷ (w ++ e ∷ []))) ++ rest ≡ u ++ c ∷ arrow ∷ s ∷ p ∷ (v ++ d ∷ (w ++ e ∷ rest)) = append_assoc u (c ∷ arrow ∷ s ∷ p ∷ (v ++ d ∷ (w ++ e ∷ []))) rest ∙ ap (λ ys. u ++ c ∷ arrow ∷ s ∷ p ∷ ys) tail in
+    rw (
+      all,
+      kw,
+      ow,
+      words_behind names (c ∷ arrow ∷ s ∷ p ∷ (v ++ d ∷ (w ++ e ∷ rest))) (no_comma (codes ")") c refl cw),
+      cw,
+      aw,
+      sw,
+      pw,
+      words_behind more (d ∷ (w ++ e ∷ rest)) (no_comma (codes ")") d refl dw),
+      dw,
+      optional_behind is e rest ew,
+      ew,
+    ) refl
 
 pub head_behind : {name : List ℕ} {columns : List (List ℕ)} {a : List Lexeme} → SpellsHead name columns a → (rest : List Lexeme) → set_head_reader (a ++ rest) ≡ Ok ((name, columns), rest)
 unfolding set_head_reader
@@ -105,13 +126,13 @@ head_behind (head_of {u = u} k n o e kw nw ow names ew) rest =
 key_first : {k : KeyDecl} {a : List Lexeme} → SpellsKey k a → (x : Lexeme) × (v : List Lexeme) × (a ≡ x ∷ v) × IsKeyword (codes "key") x
 key_first (key_of {u = u} k o c e kw ow names cw ew) = (k, o ∷ (u ++ c ∷ e ∷ []), refl, kw)
 
-ref_first : {r : RefDecl} {a : List Lexeme} → SpellsRef r a → (x : Lexeme) × (v : List Lexeme) × (a ≡ x ∷ v) × IsKeyword (codes "ref") x
-ref_first (ref_of {u = u} {v = v} k o c arrow s p d e kw ow names cw aw sw pw more dw ew) = (k, o ∷ (u ++ c ∷ arrow ∷ s ∷ p ∷ (v ++ d ∷ e ∷ [])), refl, kw)
+ref_first : {optionals : Bool} {r : RefDecl} {a : List Lexeme} → SpellsRef optionals r a → (x : Lexeme) × (v : List Lexeme) × (a ≡ x ∷ v) × IsKeyword (codes "ref") x
+ref_first (ref_of {u = u} {v = v} {w = w} k o c arrow s p d e kw ow names cw aw sw pw more dw is ew) = (k, o ∷ (u ++ c ∷ arrow ∷ s ∷ p ∷ (v ++ d ∷ (w ++ e ∷ []))), refl, kw)
 
 head_first : {name : List ℕ} {columns : List (List ℕ)} {a : List Lexeme} → SpellsHead name columns a → (x : Lexeme) × (v : List Lexeme) × (a ≡ x ∷ v) × IsKeyword (codes "set") x
 head_first (head_of {u = u} k n o e kw nw ow names ew) = (k, n ∷ o ∷ (u ++ e ∷ []), refl, kw)
 
-set_first : {levels : ℕ} {t : Tree} {a : List Lexeme} → SpellsSet levels t a → (x : Lexeme) × (v : List Lexeme) × (a ≡ x ∷ v) × IsKeyword (codes "set") x
+set_first : {version levels : ℕ} {t : Tree} {a : List Lexeme} → SpellsSet version levels t a → (x : Lexeme) × (v : List Lexeme) × (a ≡ x ∷ v) × IsKeyword (codes "set") x
 set_first (set_of {u = u} {v = v} c head cs cw) = let h = head_first head in (h.0, h.1 ++ (v ++ c ∷ []), ap (λ ys. ys ++ (v ++ c ∷ [])) h.2, h.3)
 
 -- a test of the token that comes next
@@ -121,91 +142,91 @@ next_true p a v rest x e t = rw e t
 next_false : (p : Lexeme → Bool) (a v rest : List Lexeme) (x : Lexeme) → a ≡ x ∷ v → p x ≡ false → next_is p (a ++ rest) ≡ false
 next_false p a v rest x e t = rw e t
 
-first_clause : {levels : ℕ} {c : Clause} {a : List Lexeme} → SpellsClause levels c a → (x : Lexeme) × (v : List Lexeme) × (a ≡ x ∷ v) × (begins_clause levels x ≡ true)
-first_clause {levels = zero} (a_key h) = let f = key_first h in (f.0, f.1, f.2, or_left (word_is (codes "key") f.0) (word_is (codes "ref") f.0) f.3)
-first_clause {levels = suc levels} (a_key h) = let f = key_first h in (f.0, f.1, f.2, or_left (word_is (codes "key") f.0) (word_is (codes "ref") f.0 || word_is (codes "set") f.0) f.3)
-first_clause {levels = zero} (a_ref h) = let f = ref_first h in (f.0, f.1, f.2, or_right (word_is (codes "key") f.0) (word_is (codes "ref") f.0) f.3)
-first_clause {levels = suc levels} (a_ref h) = let f = ref_first h in (f.0, f.1, f.2, or_right (word_is (codes "key") f.0) (word_is (codes "ref") f.0 || word_is (codes "set") f.0) (or_left (word_is (codes "ref") f.0) (word_is (codes "set") f.0) f.3))
-first_clause {levels = suc levels} (a_set h) = let f = set_first h in (f.0, f.1, f.2, or_right (word_is (codes "key") f.0) (word_is (codes "ref") f.0 || word_is (codes "set") f.0) (or_right (word_is (codes "ref") f.0) (word_is (codes "set") f.0) f.3))
+first_clause : {version levels : ℕ} {c : Clause} {a : List Lexeme} → SpellsClause version levels c a → (x : Lexeme) × (v : List Lexeme) × (a ≡ x ∷ v) × (begins_clause levels x ≡ true)
+first_clause {version = version} {levels = zero} (a_key h) = let f = key_first h in (f.0, f.1, f.2, or_left (word_is (codes "key") f.0) (word_is (codes "ref") f.0) f.3)
+first_clause {version = version} {levels = suc levels} (a_key h) = let f = key_first h in (f.0, f.1, f.2, or_left (word_is (codes "key") f.0) (word_is (codes "ref") f.0 || word_is (codes "set") f.0) f.3)
+first_clause {version = version} {levels = zero} (a_ref h) = let f = ref_first h in (f.0, f.1, f.2, or_right (word_is (codes "key") f.0) (word_is (codes "ref") f.0) f.3)
+first_clause {version = version} {levels = suc levels} (a_ref h) = let f = ref_first h in (f.0, f.1, f.2, or_right (word_is (codes "key") f.0) (word_is (codes "ref") f.0 || word_is (codes "set") f.0) (or_left (word_is (codes "ref") f.0) (word_is (codes "set") f.0) f.3))
+first_clause {version = version} {levels = suc levels} (a_set h) = let f = set_first h in (f.0, f.1, f.2, or_right (word_is (codes "key") f.0) (word_is (codes "ref") f.0 || word_is (codes "set") f.0) (or_right (word_is (codes "ref") f.0) (word_is (codes "set") f.0) f.3))
 
 abbrev read_key : Reader Lexeme Clause
 read_key = key_reader >>= λ k. give (key_clause k)
 
-abbrev read_ref : Reader Lexeme Clause
-read_ref = ref_reader >>= λ r. give (ref_clause r)
+abbrev read_ref : ℕ → Reader Lexeme Clause
+read_ref version = ref_reader (since_two version) >>= λ r. give (ref_clause r)
 
 abbrev read_set : Reader Lexeme Tree → Reader Lexeme Clause
 read_set inner = inner >>= λ t. give (set_clause t)
 
-abbrev read_ref_or_set : Reader Lexeme Tree → Reader Lexeme Clause
-read_ref_or_set inner = either (word_is (codes "ref")) read_ref (read_set inner)
+abbrev read_ref_or_set : ℕ → Reader Lexeme Tree → Reader Lexeme Clause
+read_ref_or_set version inner = either (word_is (codes "ref")) (read_ref version) (read_set inner)
 
 key_clause_behind : {k : KeyDecl} {a : List Lexeme} → SpellsKey k a → (rest : List Lexeme) → (key_reader >>= λ v. give (key_clause v)) (a ++ rest) ≡ Ok (key_clause k, rest)
 key_clause_behind {k = k} {a = a} h rest = last_again key_reader key_clause (a ++ rest) rest k (key_behind h rest)
 
-ref_clause_behind : {r : RefDecl} {a : List Lexeme} → SpellsRef r a → (rest : List Lexeme) → (ref_reader >>= λ v. give (ref_clause v)) (a ++ rest) ≡ Ok (ref_clause r, rest)
-ref_clause_behind {r = r} {a = a} h rest = last_again ref_reader ref_clause (a ++ rest) rest r (ref_behind h rest)
+ref_clause_behind : (version : ℕ) {r : RefDecl} {a : List Lexeme} → SpellsRef (since_two version) r a → (rest : List Lexeme) → read_ref version (a ++ rest) ≡ Ok (ref_clause r, rest)
+ref_clause_behind version {r = r} {a = a} h rest = last_again (ref_reader (since_two version)) ref_clause (a ++ rest) rest r (ref_behind h rest)
 
-ref_no_key : {r : RefDecl} {a : List Lexeme} → SpellsRef r a → (rest : List Lexeme) → next_is (word_is (codes "key")) (a ++ rest) ≡ false
+ref_no_key : {optionals : Bool} {r : RefDecl} {a : List Lexeme} → SpellsRef optionals r a → (rest : List Lexeme) → next_is (word_is (codes "key")) (a ++ rest) ≡ false
 ref_no_key {a = a} h rest = let f = ref_first h in next_false (word_is (codes "key")) a f.1 rest f.0 f.2 (apart_words (codes "ref") (codes "key") refl f.0 f.3)
 
-last_clause_key : {k : KeyDecl} {a : List Lexeme} → SpellsKey k a → (rest : List Lexeme) → last_clause_reader (a ++ rest) ≡ Ok (key_clause k, rest)
+last_clause_key : (version : ℕ) {k : KeyDecl} {a : List Lexeme} → SpellsKey k a → (rest : List Lexeme) → last_clause_reader version (a ++ rest) ≡ Ok (key_clause k, rest)
 unfolding last_clause_reader
-last_clause_key {a = a} h rest = let f = key_first h in either_left (word_is (codes "key")) read_key read_ref (a ++ rest) (next_true (word_is (codes "key")) a f.1 rest f.0 f.2 f.3) ∙ key_clause_behind h rest
+last_clause_key version {a = a} h rest = let f = key_first h in either_left (word_is (codes "key")) read_key (read_ref version) (a ++ rest) (next_true (word_is (codes "key")) a f.1 rest f.0 f.2 f.3) ∙ key_clause_behind h rest
 
-last_clause_ref : {r : RefDecl} {a : List Lexeme} → SpellsRef r a → (rest : List Lexeme) → last_clause_reader (a ++ rest) ≡ Ok (ref_clause r, rest)
+last_clause_ref : (version : ℕ) {r : RefDecl} {a : List Lexeme} → SpellsRef (since_two version) r a → (rest : List Lexeme) → last_clause_reader version (a ++ rest) ≡ Ok (ref_clause r, rest)
 unfolding last_clause_reader
-last_clause_ref {a = a} h rest = either_right (word_is (codes "key")) read_key read_ref (a ++ rest) (ref_no_key h rest) ∙ ref_clause_behind h rest
+last_clause_ref version {a = a} h rest = either_right (word_is (codes "key")) read_key (read_ref version) (a ++ rest) (ref_no_key h rest) ∙ ref_clause_behind version h rest
 
-with_key : {k : KeyDecl} {a : List Lexeme} → SpellsKey k a → (inner : Reader Lexeme Tree) (rest : List Lexeme) → clause_reader_with inner (a ++ rest) ≡ Ok (key_clause k, rest)
+with_key : (version : ℕ) {k : KeyDecl} {a : List Lexeme} → SpellsKey k a → (inner : Reader Lexeme Tree) (rest : List Lexeme) → clause_reader_with version inner (a ++ rest) ≡ Ok (key_clause k, rest)
 unfolding clause_reader_with
-with_key {a = a} h inner rest = let f = key_first h in either_left (word_is (codes "key")) read_key (read_ref_or_set inner) (a ++ rest) (next_true (word_is (codes "key")) a f.1 rest f.0 f.2 f.3) ∙ key_clause_behind h rest
+with_key version {a = a} h inner rest = let f = key_first h in either_left (word_is (codes "key")) read_key (read_ref_or_set version inner) (a ++ rest) (next_true (word_is (codes "key")) a f.1 rest f.0 f.2 f.3) ∙ key_clause_behind h rest
 
-with_ref : {r : RefDecl} {a : List Lexeme} → SpellsRef r a → (inner : Reader Lexeme Tree) (rest : List Lexeme) → clause_reader_with inner (a ++ rest) ≡ Ok (ref_clause r, rest)
+with_ref : (version : ℕ) {r : RefDecl} {a : List Lexeme} → SpellsRef (since_two version) r a → (inner : Reader Lexeme Tree) (rest : List Lexeme) → clause_reader_with version inner (a ++ rest) ≡ Ok (ref_clause r, rest)
 unfolding clause_reader_with
-with_ref {a = a} h inner rest =
+with_ref version {a = a} h inner rest =
     let f = ref_first h in
-    either_right (word_is (codes "key")) read_key (read_ref_or_set inner) (a ++ rest) (ref_no_key h rest) ∙ either_left (word_is (codes "ref")) read_ref (read_set inner) (a ++ rest) (next_true (word_is (codes "ref")) a f.1 rest f.0 f.2 f.3) ∙ ref_clause_behind h rest
+    either_right (word_is (codes "key")) read_key (read_ref_or_set version inner) (a ++ rest) (ref_no_key h rest) ∙ either_left (word_is (codes "ref")) (read_ref version) (read_set inner) (a ++ rest) (next_true (word_is (codes "ref")) a f.1 rest f.0 f.2 f.3) ∙ ref_clause_behind version h rest
 
-with_set : {levels : ℕ} {t : Tree} {a : List Lexeme} → SpellsSet levels t a → (inner : Reader Lexeme Tree) (rest : List Lexeme) → inner (a ++ rest) ≡ Ok (t, rest) → clause_reader_with inner (a ++ rest) ≡ Ok (set_clause t, rest)
+with_set : {version levels : ℕ} {t : Tree} {a : List Lexeme} → SpellsSet version levels t a → (inner : Reader Lexeme Tree) (rest : List Lexeme) → inner (a ++ rest) ≡ Ok (t, rest) → clause_reader_with version inner (a ++ rest) ≡ Ok (set_clause t, rest)
 unfolding clause_reader_with
-with_set {t = t} {a = a} h inner rest read =
+with_set {version = version} {t = t} {a = a} h inner rest read =
     let f = set_first h in
-    either_right (word_is (codes "key")) read_key (read_ref_or_set inner) (a ++ rest) (next_false (word_is (codes "key")) a f.1 rest f.0 f.2 (apart_words (codes "set") (codes "key") refl f.0 f.3))
-    ∙ either_right (word_is (codes "ref")) read_ref (read_set inner) (a ++ rest) (next_false (word_is (codes "ref")) a f.1 rest f.0 f.2 (apart_words (codes "set") (codes "ref") refl f.0 f.3))
+    either_right (word_is (codes "key")) read_key (read_ref_or_set version inner) (a ++ rest) (next_false (word_is (codes "key")) a f.1 rest f.0 f.2 (apart_words (codes "set") (codes "key") refl f.0 f.3))
+    ∙ either_right (word_is (codes "ref")) (read_ref version) (read_set inner) (a ++ rest) (next_false (word_is (codes "ref")) a f.1 rest f.0 f.2 (apart_words (codes "set") (codes "ref") refl f.0 f.3))
     ∙ last_again inner set_clause (a ++ rest) rest t read
 
 closing_stops : (levels : ℕ) (c : Lexeme) (rest : List Lexeme) → IsMark (codes "}") c → NotNext (begins_clause levels) (c ∷ rest)
 closing_stops zero c rest cw = rw (apart_mark_word (codes "}") (codes "key") c cw, apart_mark_word (codes "}") (codes "ref") c cw) refl
 closing_stops (suc levels) c rest cw = rw (apart_mark_word (codes "}") (codes "key") c cw, apart_mark_word (codes "}") (codes "ref") c cw, apart_mark_word (codes "}") (codes "set") c cw) refl
 
-set_made : (levels : ℕ) (name : List ℕ) (columns : List (List ℕ)) (cs : List Clause) (c : Lexeme) (xs after rest : List Lexeme) → set_head_reader xs ≡ Ok ((name, columns), after) → many (begins_clause levels) (clause_reader levels) after ≡ Ok (cs, c ∷ rest) → IsMark (codes "}") c
-    → set_reader levels xs ≡ Ok (tree_of name columns cs, rest)
+set_made : (version levels : ℕ) (name : List ℕ) (columns : List (List ℕ)) (cs : List Clause) (c : Lexeme) (xs after rest : List Lexeme) → set_head_reader xs ≡ Ok ((name, columns), after) → many (begins_clause levels) (clause_reader version levels) after ≡ Ok (cs, c ∷ rest) → IsMark (codes "}") c
+    → set_reader version levels xs ≡ Ok (tree_of name columns cs, rest)
 unfolding set_reader_of
-set_made levels name columns cs c xs after rest e f cw = rw (e, f, cw) refl
+set_made version levels name columns cs c xs after rest e f cw = rw (e, f, cw) refl
 
 mutual
   unfolding clause_reader
 
-  pub set_behind : {levels : ℕ} {t : Tree} {a : List Lexeme} → SpellsSet levels t a → (rest : List Lexeme) → set_reader levels (a ++ rest) ≡ Ok (t, rest)
-  set_behind {levels = levels} (set_of {name = name} {columns = columns} {cs = cs} {u = u} {v = v} c head clauses cw) rest =
+  pub set_behind : {version levels : ℕ} {t : Tree} {a : List Lexeme} → SpellsSet version levels t a → (rest : List Lexeme) → set_reader version levels (a ++ rest) ≡ Ok (t, rest)
+  set_behind {version = version} {levels = levels} (set_of {name = name} {columns = columns} {cs = cs} {u = u} {v = v} c head clauses cw) rest =
       let all : (u ++ (v ++ c ∷ [])) ++ rest ≡ u ++ (v ++ c ∷ rest) = append_assoc u (v ++ c ∷ []) rest ∙ ap (λ ys. u ++ ys) (append_assoc v (c ∷ []) rest) in
-      ap (set_reader levels) all ∙ set_made levels name columns cs c (u ++ (v ++ c ∷ rest)) (v ++ c ∷ rest) rest (head_behind head (v ++ c ∷ rest)) (clauses_behind clauses (c ∷ rest) (closing_stops levels c rest cw)) cw
+      ap (set_reader version levels) all ∙ set_made version levels name columns cs c (u ++ (v ++ c ∷ rest)) (v ++ c ∷ rest) rest (head_behind head (v ++ c ∷ rest)) (clauses_behind clauses (c ∷ rest) (closing_stops levels c rest cw)) cw
 
-  clauses_behind : {levels : ℕ} {cs : List Clause} {a : List Lexeme} → SpellsClauses levels cs a → (rest : List Lexeme) → NotNext (begins_clause levels) rest → many (begins_clause levels) (clause_reader levels) (a ++ rest) ≡ Ok (cs, rest)
-  clauses_behind {levels = levels} no_clause rest stop = many_stops (begins_clause levels) (clause_reader levels) (clause_consumes levels) rest stop
-  clauses_behind {levels = levels} (clause_first {c = c} {cs = cs} {u = u} {v = v} h more) rest stop =
+  clauses_behind : {version levels : ℕ} {cs : List Clause} {a : List Lexeme} → SpellsClauses version levels cs a → (rest : List Lexeme) → NotNext (begins_clause levels) rest → many (begins_clause levels) (clause_reader version levels) (a ++ rest) ≡ Ok (cs, rest)
+  clauses_behind {version = version} {levels = levels} no_clause rest stop = many_stops (begins_clause levels) (clause_reader version levels) (clause_consumes version levels) rest stop
+  clauses_behind {version = version} {levels = levels} (clause_first {c = c} {cs = cs} {u = u} {v = v} h more) rest stop =
       let f = first_clause h in
-      ap (many (begins_clause levels) (clause_reader levels)) (append_assoc u v rest)
-      ∙ many_on (begins_clause levels) (clause_reader levels) (clause_consumes levels) (u ++ (v ++ rest)) (v ++ rest) c (next_true (begins_clause levels) u f.1 (v ++ rest) f.0 f.2 f.3) (clause_behind h (v ++ rest))
+      ap (many (begins_clause levels) (clause_reader version levels)) (append_assoc u v rest)
+      ∙ many_on (begins_clause levels) (clause_reader version levels) (clause_consumes version levels) (u ++ (v ++ rest)) (v ++ rest) c (next_true (begins_clause levels) u f.1 (v ++ rest) f.0 f.2 f.3) (clause_behind h (v ++ rest))
       ∙ ap (with_front (c ∷ [])) (clauses_behind more rest stop)
 
-  pub clause_behind : {levels : ℕ} {c : Clause} {a : List Lexeme} → SpellsClause levels c a → (rest : List Lexeme) → clause_reader levels (a ++ rest) ≡ Ok (c, rest)
-  clause_behind {levels = zero} (a_key h) rest = last_clause_key h rest
-  clause_behind {levels = suc levels} (a_key h) rest = with_key h (set_reader levels) rest
-  clause_behind {levels = zero} (a_ref h) rest = last_clause_ref h rest
-  clause_behind {levels = suc levels} (a_ref h) rest = with_ref h (set_reader levels) rest
-  clause_behind {levels = suc levels} (a_set h) rest = with_set h (set_reader levels) rest (set_behind h rest)
+  pub clause_behind : {version levels : ℕ} {c : Clause} {a : List Lexeme} → SpellsClause version levels c a → (rest : List Lexeme) → clause_reader version levels (a ++ rest) ≡ Ok (c, rest)
+  clause_behind {version = version} {levels = zero} (a_key h) rest = last_clause_key version h rest
+  clause_behind {version = version} {levels = suc levels} (a_key h) rest = with_key version h (set_reader version levels) rest
+  clause_behind {version = version} {levels = zero} (a_ref h) rest = last_clause_ref version h rest
+  clause_behind {version = version} {levels = suc levels} (a_ref h) rest = with_ref version h (set_reader version levels) rest
+  clause_behind {version = version} {levels = suc levels} (a_set h) rest = with_set h (set_reader version levels) rest (set_behind h rest)
 
 -- ---- lines
 
@@ -311,6 +332,13 @@ rule_behind (rule_of {premise = premise} {conclusion = conclusion} {u = u} {v = 
       ew,
     ) refl
 
+-- ---- conditions
+
+only_behind : {o : OnlyText} {a : List Lexeme} → SpellsOnly o a → (rest : List Lexeme) → only_reader (a ++ rest) ≡ Ok (o, rest)
+unfolding only_reader
+only_behind (only_of {u = u} k t e kw column tw ew) rest =
+    rw (append_assoc u (t ∷ e ∷ []) rest, kw, place_behind column (t ∷ e ∷ rest), tw, ew) refl
+
 -- ---- mappings
 
 line_first : {l : LineText} {a : List Lexeme} → SpellsLine l a → (x : Lexeme) × (v : List Lexeme) × (a ≡ x ∷ v) × IsKeyword (codes "line") x
@@ -319,9 +347,18 @@ line_first (line_of {u = u} {v = v} k arrow e kw from aw to ew) = (k, u ++ arrow
 rule_first : {r : RuleText} {a : List Lexeme} → SpellsRule r a → (x : Lexeme) × (v : List Lexeme) × (a ≡ x ∷ v) × IsKeyword (codes "rule") x
 rule_first (rule_of {u = u} {v = v} {w = w} k arrow e kw p d aw q ew) = (k, u ++ (v ++ arrow ∷ (w ++ e ∷ [])), refl, kw)
 
-item_first : {i : ItemText} {a : List Lexeme} → SpellsItem i a → (x : Lexeme) × (v : List Lexeme) × (a ≡ x ∷ v) × (begins_item x ≡ true)
-item_first (a_line h) = let f = line_first h in (f.0, f.1, f.2, or_left (word_is (codes "line") f.0) (word_is (codes "rule") f.0) f.3)
-item_first (a_rule h) = let f = rule_first h in (f.0, f.1, f.2, or_right (word_is (codes "line") f.0) (word_is (codes "rule") f.0) f.3)
+only_first : {o : OnlyText} {a : List Lexeme} → SpellsOnly o a → (x : Lexeme) × (v : List Lexeme) × (a ≡ x ∷ v) × IsKeyword (codes "only") x
+only_first (only_of {u = u} k t e kw column tw ew) = (k, u ++ t ∷ e ∷ [], refl, kw)
+
+abbrev rule_or_only : Lexeme → Bool
+rule_or_only x = word_is (codes "rule") x || word_is (codes "only") x
+
+item_first : {conditions : Bool} {i : ItemText} {a : List Lexeme} → SpellsItem conditions i a → (x : Lexeme) × (v : List Lexeme) × (a ≡ x ∷ v) × (begins_item conditions x ≡ true)
+item_first {conditions = false} (a_line h) = let f = line_first h in (f.0, f.1, f.2, or_left (word_is (codes "line") f.0) (word_is (codes "rule") f.0) f.3)
+item_first {conditions = true} (a_line h) = let f = line_first h in (f.0, f.1, f.2, or_left (word_is (codes "line") f.0) (rule_or_only f.0) f.3)
+item_first {conditions = false} (a_rule h) = let f = rule_first h in (f.0, f.1, f.2, or_right (word_is (codes "line") f.0) (word_is (codes "rule") f.0) f.3)
+item_first {conditions = true} (a_rule h) = let f = rule_first h in (f.0, f.1, f.2, or_right (word_is (codes "line") f.0) (rule_or_only f.0) (or_left (word_is (codes "rule") f.0) (word_is (codes "only") f.0) f.3))
+item_first (a_condition h) = let f = only_first h in (f.0, f.1, f.2, or_right (word_is (codes "line") f.0) (rule_or_only f.0) (or_right (word_is (codes "rule") f.0) (word_is (codes "only") f.0) f.3))
 
 abbrev read_line : Reader Lexeme ItemText
 read_line = line_reader >>= λ l. give (line_item l)
@@ -329,34 +366,80 @@ read_line = line_reader >>= λ l. give (line_item l)
 abbrev read_rule : Reader Lexeme ItemText
 read_rule = rule_reader >>= λ r. give (rule_item r)
 
-item_behind : {i : ItemText} {a : List Lexeme} → SpellsItem i a → (rest : List Lexeme) → item_reader (a ++ rest) ≡ Ok (i, rest)
-unfolding item_reader
-item_behind {a = a} (a_line {l = l} h) rest =
+abbrev read_only : Reader Lexeme ItemText
+read_only = only_reader >>= λ o. give (only_item o)
+
+abbrev read_rule_or_only : Reader Lexeme ItemText
+read_rule_or_only = either (word_is (codes "rule")) read_rule read_only
+
+line_read : {l : LineText} {a : List Lexeme} (other : Reader Lexeme ItemText) → SpellsLine l a → (rest : List Lexeme) → either (word_is (codes "line")) read_line other (a ++ rest) ≡ Ok (line_item l, rest)
+line_read {l = l} {a = a} other h rest =
     let f = line_first h in
-    either_left (word_is (codes "line")) read_line read_rule (a ++ rest) (next_true (word_is (codes "line")) a f.1 rest f.0 f.2 f.3) ∙ last_again line_reader line_item (a ++ rest) rest l (line_behind h rest)
-item_behind {a = a} (a_rule {r = r} h) rest =
+    either_left (word_is (codes "line")) read_line other (a ++ rest) (next_true (word_is (codes "line")) a f.1 rest f.0 f.2 f.3) ∙ last_again line_reader line_item (a ++ rest) rest l (line_behind h rest)
+
+rule_read : {r : RuleText} {a : List Lexeme} → SpellsRule r a → (rest : List Lexeme) → read_rule (a ++ rest) ≡ Ok (rule_item r, rest)
+rule_read {r = r} {a = a} h rest = last_again rule_reader rule_item (a ++ rest) rest r (rule_behind h rest)
+
+-- the word that an item begins with is another
+next_other : (v w : List ℕ) (a : List Lexeme) → pointwise nat_eq v w ≡ false → ((x : Lexeme) × (u : List Lexeme) × (a ≡ x ∷ u) × IsKeyword v x) → (rest : List Lexeme) → next_is (word_is w) (a ++ rest) ≡ false
+next_other v w a ne f rest = next_false (word_is w) a f.1 rest f.0 f.2 (apart_words v w ne f.0 f.3)
+
+item_behind : {conditions : Bool} {i : ItemText} {a : List Lexeme} → SpellsItem conditions i a → (rest : List Lexeme) → item_reader conditions (a ++ rest) ≡ Ok (i, rest)
+unfolding item_reader
+item_behind {conditions = false} (a_line h) rest = line_read read_rule h rest
+item_behind {conditions = true} (a_line h) rest = line_read read_rule_or_only h rest
+item_behind {conditions = false} {a = a} (a_rule h) rest = either_right (word_is (codes "line")) read_line read_rule (a ++ rest) (next_other (codes "rule") (codes "line") a refl (rule_first h) rest) ∙ rule_read h rest
+item_behind {conditions = true} {a = a} (a_rule h) rest =
     let f = rule_first h in
-    either_right (word_is (codes "line")) read_line read_rule (a ++ rest) (next_false (word_is (codes "line")) a f.1 rest f.0 f.2 (apart_words (codes "rule") (codes "line") refl f.0 f.3)) ∙ last_again rule_reader rule_item (a ++ rest) rest r (rule_behind h rest)
+    either_right (word_is (codes "line")) read_line read_rule_or_only (a ++ rest) (next_other (codes "rule") (codes "line") a refl f rest)
+    ∙ either_left (word_is (codes "rule")) read_rule read_only (a ++ rest) (next_true (word_is (codes "rule")) a f.1 rest f.0 f.2 f.3) ∙ rule_read h rest
+item_behind {a = a} (a_condition {o = o} h) rest =
+    let f = only_first h in
+    either_right (word_is (codes "line")) read_line read_rule_or_only (a ++ rest) (next_other (codes "only") (codes "line") a refl f rest)
+    ∙ either_right (word_is (codes "rule")) read_rule read_only (a ++ rest) (next_other (codes "only") (codes "rule") a refl f rest) ∙ last_again only_reader only_item (a ++ rest) rest o (only_behind h rest)
 
-items_again : Again (many begins_item item_reader) (Many SpellsItem) (NotNext begins_item)
-items_again = many_again begins_item item_reader SpellsItem item_consumes (record { begin = λ i a h. item_first h }) (record { again = λ i a rest h ok. item_behind h rest })
+items_again : (conditions : Bool) → Again (many (begins_item conditions) (item_reader conditions)) (Many (SpellsItem conditions)) (NotNext (begins_item conditions))
+items_again conditions = many_again (begins_item conditions) (item_reader conditions) (SpellsItem conditions) (item_consumes conditions) (record { begin = λ i a h. item_first h }) (record { again = λ i a rest h ok. item_behind h rest })
 
-set_begin : (levels : ℕ) (t : Tree) (a : List Lexeme) → SpellsSet levels t a → (x : Lexeme) × (v : List Lexeme) × (a ≡ x ∷ v) × (word_is (codes "set") x ≡ true)
-set_begin levels t a h = set_first h
+set_begin : (version levels : ℕ) (t : Tree) (a : List Lexeme) → SpellsSet version levels t a → (x : Lexeme) × (v : List Lexeme) × (a ≡ x ∷ v) × (word_is (codes "set") x ≡ true)
+set_begin version levels t a h = set_first h
 
-sets_again : (levels : ℕ) → Again (many (word_is (codes "set")) (set_reader levels)) (Many (SpellsSet levels)) (NotNext (word_is (codes "set")))
-sets_again levels = many_again (word_is (codes "set")) (set_reader levels) (SpellsSet levels) (set_consumes levels) (record { begin = set_begin levels }) (record { again = λ t a rest h ok. set_behind h rest })
+sets_again : (version levels : ℕ) → Again (many (word_is (codes "set")) (set_reader version levels)) (Many (SpellsSet version levels)) (NotNext (word_is (codes "set")))
+sets_again version levels = many_again (word_is (codes "set")) (set_reader version levels) (SpellsSet version levels) (set_consumes version levels) (record { begin = set_begin version levels }) (record { again = λ t a rest h ok. set_behind h rest })
 
-pub side_behind : {name : List ℕ} {levels : ℕ} {f : Forest} {a : List Lexeme} → SpellsSide name levels f a → (rest : List Lexeme) → side_reader name levels (a ++ rest) ≡ Ok (f, rest)
+pub side_behind : {version : ℕ} {name : List ℕ} {levels : ℕ} {f : Forest} {a : List Lexeme} → SpellsSide version name levels f a → (rest : List Lexeme) → side_reader version name levels (a ++ rest) ≡ Ok (f, rest)
 unfolding side_reader
-side_behind {levels = levels} (side_of {trees = trees} {u = u} k o c kw ow h cw) rest =
-    rw (append_assoc u (c ∷ []) rest, kw, ow, (sets_again levels).again trees u (c ∷ rest) h (apart_mark_word (codes "}") (codes "set") c cw), cw) refl
+side_behind {version = version} {levels = levels} (side_of {trees = trees} {u = u} k o c kw ow h cw) rest =
+    rw (append_assoc u (c ∷ []) rest, kw, ow, (sets_again version levels).again trees u (c ∷ rest) h (apart_mark_word (codes "}") (codes "set") c cw), cw) refl
 
-mapping_behind : {levels : ℕ} {m : MappingText} {a : List Lexeme} → SpellsMapping levels m a → (rest : List Lexeme) → NotNext begins_item rest → mapping_reader levels (a ++ rest) ≡ Ok (m, rest)
+-- no item comes next, not even one of a later version
+abbrev pub NoItemNext : List Lexeme → Type 0
+NoItemNext = NotNext (begins_item true)
+
+fewer_begin : (conditions : Bool) (rest : List Lexeme) → NoItemNext rest → NotNext (begins_item conditions) rest
+fewer_begin true rest h = h
+fewer_begin false [] h = refl
+fewer_begin false (x ∷ rest) h =
+    let two = or_parts (word_is (codes "line") x) (rule_or_only x) h in
+    rw (two.0, (or_parts (word_is (codes "rule") x) (word_is (codes "only") x) two.1).0) refl
+
+body_behind : {version levels : ℕ} {from to : Forest} {items : List ItemText} {u v w : List Lexeme} (e : Lexeme) → IsMark (codes ";") e → SpellsSide version (codes "source") levels from u → SpellsSide version (codes "target") levels to v
+    → Many (SpellsItem (since_two version)) items w → (rest : List Lexeme) → NoItemNext rest → body_reader version levels (e ∷ (u ++ (v ++ (w ++ rest)))) ≡ Ok (mapping_text version from to items, rest)
+unfolding body_reader
+body_behind {version = version} {items = items} {v = v} {w = w} e ew from to h rest stop =
+    rw (ew, side_behind from (v ++ (w ++ rest)), side_behind to (w ++ rest), (items_again (since_two version)).again items w rest h (fewer_begin (since_two version) rest stop)) refl
+
+-- the number of a version tells which body is read
+version_read : {version : ℕ} {n : Lexeme} → IsVersion version n → (levels : ℕ) (xs : List Lexeme)
+    → either (number_is (codes "1")) (token (number_is (codes "1")) >>= λ number. body_reader 1 levels) (token (number_is (codes "2")) >>= λ number. body_reader 2 levels) (n ∷ xs) ≡ body_reader version levels xs
+version_read (version_one nw) levels xs = rw nw refl
+version_read (version_two {n = n} nw) levels xs = rw (apart_numbers (codes "2") (codes "1") refl n nw, nw) refl
+
+mapping_behind : {levels : ℕ} {m : MappingText} {a : List Lexeme} → SpellsMapping levels m a → (rest : List Lexeme) → NoItemNext rest → mapping_reader levels (a ++ rest) ≡ Ok (m, rest)
 unfolding mapping_reader
-mapping_behind (mapping_of {rest = items} {u = u} {v = v} {w = w} k n e kw nw ew from to h) rest stop =
+mapping_behind {levels = levels} (mapping_of {u = u} {v = v} {w = w} k n e kw nw ew from to h) rest stop =
     let all : (u ++ (v ++ w)) ++ rest ≡ u ++ (v ++ (w ++ rest)) = append_assoc u (v ++ w) rest ∙ ap (λ ys. u ++ ys) (append_assoc v w rest) in
-    rw (all, kw, nw, ew, side_behind from (v ++ (w ++ rest)), side_behind to (w ++ rest), items_again.again items w rest h stop) refl
+    rw (all, kw) (version_read nw levels (e ∷ (u ++ (v ++ (w ++ rest)))) ∙ body_behind e ew from to h rest stop)
 
-pub mapping_again : (levels : ℕ) → Again (mapping_reader levels) (SpellsMapping levels) (NotNext begins_item)
+pub mapping_again : (levels : ℕ) → Again (mapping_reader levels) (SpellsMapping levels) NoItemNext
 mapping_again levels = record { again = λ m a rest h stop. mapping_behind h rest stop }

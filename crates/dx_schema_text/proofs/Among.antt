@@ -8,9 +8,10 @@ use Rattle.dx_schema_text.specs.declared.clauses.Clause.{Clause}
 use Rattle.dx_schema_text.specs.declared.clauses.Clause.TheVariants as clauses
 use Rattle.dx_schema_text.specs.declared.texts.LineText.{LineText}
 use Rattle.dx_schema_text.specs.declared.texts.RuleText.{RuleText}
+use Rattle.dx_schema_text.specs.declared.texts.OnlyText.{OnlyText}
 use Rattle.dx_schema_text.specs.declared.mapping.ItemText.{ItemText}
 use Rattle.dx_schema_text.specs.declared.mapping.ItemText.TheVariants as items
-use Rattle.dx_schema_text.specs.Reading.{keys_among, refs_among, sets_among, lines_among, rules_among}
+use Rattle.dx_schema_text.specs.Reading.{keys_among, refs_among, sets_among, lines_among, conditions_among, rules_among}
 
 pub keys_among-append : (cs ds : List Clause) → keys_among (cs ++ ds) ≡ keys_among cs ++ keys_among ds
 keys_among-append [] ds = refl
@@ -34,11 +35,19 @@ pub lines_among-append : (is js : List ItemText) → lines_among (is ++ js) ≡ 
 lines_among-append [] js = refl
 lines_among-append (items.Line l ∷ is) js = ap (λ ls. l ∷ ls) (lines_among-append is js)
 lines_among-append (items.Rule r ∷ is) js = lines_among-append is js
+lines_among-append (items.Only o ∷ is) js = lines_among-append is js
+
+pub conditions_among-append : (is js : List ItemText) → conditions_among (is ++ js) ≡ conditions_among is ++ conditions_among js
+conditions_among-append [] js = refl
+conditions_among-append (items.Line l ∷ is) js = conditions_among-append is js
+conditions_among-append (items.Rule r ∷ is) js = conditions_among-append is js
+conditions_among-append (items.Only o ∷ is) js = ap (λ os. o ∷ os) (conditions_among-append is js)
 
 pub rules_among-append : (is js : List ItemText) → rules_among (is ++ js) ≡ rules_among is ++ rules_among js
 rules_among-append [] js = refl
 rules_among-append (items.Line l ∷ is) js = rules_among-append is js
 rules_among-append (items.Rule r ∷ is) js = ap (λ rs. r ∷ rs) (rules_among-append is js)
+rules_among-append (items.Only o ∷ is) js = rules_among-append is js
 
 followed_by-none : (f : Forest) → followed_by f none ≡ f
 followed_by-none none = refl
@@ -71,13 +80,29 @@ pub sets_push : (cs : List Clause) (c : Clause) (tree : Tree) (keys : List KeyDe
 sets_push cs c tree keys refs sets more is pushed k r s =
     rw is (among-append cs (clauses.Set tree ∷ []) keys keys refs refs sets more k r s (sym (append-nil keys)) (sym (append-nil refs)) pushed)
 
--- the same of items
-pub lines_push : (is : List ItemText) (i : ItemText) (line : LineText) (lines more : List LineText) (rules : List RuleText) → i ≡ items.Line line → more ≡ lines ++ line ∷ [] → lines ≡ lines_among is → rules ≡ rules_among is
-    → (more ≡ lines_among (is ++ i ∷ [])) × (rules ≡ rules_among (is ++ i ∷ []))
-lines_push is i line lines more rules e pushed k r =
-    rw e (pushed ∙ ap (λ ls. ls ++ line ∷ []) k ∙ sym (lines_among-append is (items.Line line ∷ [])), r ∙ sym (append-nil (rules_among is)) ∙ sym (rules_among-append is (items.Line line ∷ [])))
+-- what is among items, told of those that were seen
+abbrev pub AmongItems : List ItemText → List LineText → List OnlyText → List RuleText → Type 0
+AmongItems is lines conditions rules = (lines ≡ lines_among is) × (conditions ≡ conditions_among is) × (rules ≡ rules_among is)
 
-pub rules_push : (is : List ItemText) (i : ItemText) (rule : RuleText) (lines : List LineText) (rules more : List RuleText) → i ≡ items.Rule rule → more ≡ rules ++ rule ∷ [] → lines ≡ lines_among is → rules ≡ rules_among is
-    → (lines ≡ lines_among (is ++ i ∷ [])) × (more ≡ rules_among (is ++ i ∷ []))
-rules_push is i rule lines rules more e pushed k r =
-    rw e (k ∙ sym (append-nil (lines_among is)) ∙ sym (lines_among-append is (items.Rule rule ∷ [])), pushed ∙ ap (λ rs. rs ++ rule ∷ []) r ∙ sym (rules_among-append is (items.Rule rule ∷ [])))
+items-append : (is js : List ItemText) (lines more_lines : List LineText) (conditions more_conditions : List OnlyText) (rules more_rules : List RuleText) → AmongItems is lines conditions rules
+    → more_lines ≡ lines ++ lines_among js → more_conditions ≡ conditions ++ conditions_among js → more_rules ≡ rules ++ rules_among js → AmongItems (is ++ js) more_lines more_conditions more_rules
+items-append is js lines more_lines conditions more_conditions rules more_rules seen l o r = (
+  l ∙ ap (λ ls. ls ++ lines_among js) seen.0 ∙ sym (lines_among-append is js),
+  o ∙ ap (λ os. os ++ conditions_among js) seen.1 ∙ sym (conditions_among-append is js),
+  r ∙ ap (λ rs. rs ++ rules_among js) seen.2 ∙ sym (rules_among-append is js),
+)
+
+pub lines_push : (is : List ItemText) (i : ItemText) (line : LineText) (lines more : List LineText) (conditions : List OnlyText) (rules : List RuleText) → i ≡ items.Line line → more ≡ lines ++ line ∷ [] → AmongItems is lines conditions rules
+    → AmongItems (is ++ i ∷ []) more conditions rules
+lines_push is i line lines more conditions rules e pushed seen =
+    rw e (items-append is (items.Line line ∷ []) lines more conditions conditions rules rules seen pushed (sym (append-nil conditions)) (sym (append-nil rules)))
+
+pub conditions_push : (is : List ItemText) (i : ItemText) (only : OnlyText) (lines : List LineText) (conditions more : List OnlyText) (rules : List RuleText) → i ≡ items.Only only → more ≡ conditions ++ only ∷ [] → AmongItems is lines conditions rules
+    → AmongItems (is ++ i ∷ []) lines more rules
+conditions_push is i only lines conditions more rules e pushed seen =
+    rw e (items-append is (items.Only only ∷ []) lines lines conditions more rules rules seen (sym (append-nil lines)) pushed (sym (append-nil rules)))
+
+pub rules_push : (is : List ItemText) (i : ItemText) (rule : RuleText) (lines : List LineText) (conditions : List OnlyText) (rules more : List RuleText) → i ≡ items.Rule rule → more ≡ rules ++ rule ∷ [] → AmongItems is lines conditions rules
+    → AmongItems (is ++ i ∷ []) lines conditions more
+rules_push is i rule lines conditions rules more e pushed seen =
+    rw e (items-append is (items.Rule rule ∷ []) lines lines conditions conditions rules more seen (sym (append-nil lines)) (sym (append-nil conditions)) pushed)

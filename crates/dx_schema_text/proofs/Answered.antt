@@ -18,15 +18,15 @@ use Rattle.dx_grammar.specs.Forms.{Derives, Starts, IsFirstFault}
 use Rattle.dx_grammar.specs.Readers.{whole, Tells}
 use Rattle.dx_grammar.proofs.Told.{start_take}
 use Rattle.dx_grammar.proofs.Exact.{whole_start}
-use Rattle.dx_grammar.proofs.Spelled.{NotNext, whole_again, whole_finds}
+use Rattle.dx_grammar.proofs.Spelled.{whole_again, whole_finds}
 use Rattle.dx_grammar.proofs.Counted.{not_le_test, le_test}
 use Rattle.dx_grammar.proofs.Faults.{same_ok, same_err, stands, unexpected_at, never_both, one_unexpected, one_told, never_stopped}
 use Rattle.dx_schema_text.specs.declared.texts.MappingText.{MappingText}
-use Rattle.dx_schema_text.specs.Reading.{begins_item, mapping_reader}
+use Rattle.dx_schema_text.specs.Reading.{mapping_reader}
 use Rattle.dx_schema_text.specs.Spelling.{SpellsMapping}
 use Rattle.dx_schema_text.specs.Texts.{deepest, form, deeper_form, begun_in, judged_tokens, IsMappingText, IsUnexpected, StandsDeeper, StandsNowhere, StandsTooDeep, IsStopped, IsTextFault, fault_in, stops_by, place_of, unexpected, told, told_of, read_text, IsToldFault}
 use Rattle.dx_schema_text.proofs.Found.{mapping_finds}
-use Rattle.dx_schema_text.proofs.Again.{mapping_again}
+use Rattle.dx_schema_text.proofs.Again.{NoItemNext, mapping_again}
 use Rattle.dx_schema_text.proofs.Telling.{mapping_tells, told_read}
 
 -- ---- a mapping
@@ -42,7 +42,7 @@ pub mapping_read : (text : List ℕ) (m : MappingText) → IsMappingText text m 
 mapping_read text m says =
     let xs = (scan_of text).lexemes in
     let all : judged_tokens text ≡ xs = none_begun (scan_of text).stop xs says.no_stop in
-    let read : whole (mapping_reader deepest) xs ≡ Ok m = whole_again (mapping_reader deepest) (SpellsMapping deepest) (NotNext begins_item) (mapping_again deepest) refl m xs says.spelled in
+    let read : whole (mapping_reader deepest) xs ≡ Ok m = whole_again (mapping_reader deepest) (SpellsMapping deepest) NoItemNext (mapping_again deepest) refl m xs says.spelled in
     told_read (length text) (fault_in (scan_of text).stop) (judged_tokens text) m (ap fault_in says.no_stop) (ap (whole (mapping_reader deepest)) all ∙ read)
 
 ok_told : (end : ℕ) (stop : Option (ℕ × TextKind)) (xs : List Lexeme) (r d : Result MappingText ℕ) (m : MappingText) → told end stop xs r d ≡ Ok m → (stop ≡ None) × (r ≡ Ok m)

@@ -12,9 +12,9 @@ use Rattle.dx_grammar.proofs.Spelled.{Found, Finds, many_finds}
 use Rattle.dx_schema.specs.Forest.{Tree, Forest, forest_of}
 use Rattle.dx_schema_text.specs.declared.clauses.Clause.{Clause}
 use Rattle.dx_schema_text.specs.declared.texts.MappingText.{MappingText}
-use Rattle.dx_schema_text.specs.Grammar.{word_is, number_is, mark_is}
-use Rattle.dx_schema_text.specs.Reading.{key_reader, ref_reader, key_clause, ref_clause, set_clause, tree_of, begins_clause, last_clause_reader, clause_reader_with, set_head_reader, set_reader_of, clause_reader, set_reader, begins_item, item_reader, side_reader, mapping_text, mapping_reader}
-use Rattle.dx_schema_text.specs.Spelling.{IsKeyword, IsMark, SpellsHead, SpellsSet, SpellsClause, SpellsSide}
+use Rattle.dx_schema_text.specs.Grammar.{word_is, number_is, mark_is, since_two}
+use Rattle.dx_schema_text.specs.Reading.{key_reader, ref_reader, key_clause, ref_clause, set_clause, tree_of, begins_clause, last_clause_reader, clause_reader_with, set_head_reader, set_reader_of, clause_reader, set_reader, side_reader, body_reader, mapping_reader}
+use Rattle.dx_schema_text.specs.Spelling.{IsKeyword, IsMark, IsVersion, version_one, version_two, SpellsHead, SpellsSet, SpellsClause, SpellsSide}
 use Rattle.dx_schema_text.specs.Texts.{deepest, form, deeper_form, judged_tokens, IsUnexpected, StandsDeeper, OpenSets, one_set, and_inner, OpenSide, open_side, OpenMapping, in_source, in_target, IsSetTooDeep}
 use Rattle.dx_schema_text.proofs.Apart.{apart_word_mark}
 use Rattle.dx_schema_text.proofs.Found.{set_head_finds, last_clause_finds, clause_finds, clauses_of, set_finds, side_finds}
@@ -145,15 +145,15 @@ module _ {A : Type 0} (p : Lexeme → Bool) (r q : Reader Lexeme A) (R : A → L
 abbrev closed : (List Clause → Tree) → List Clause → Reader Lexeme Tree
 closed h cs = token (mark_is (codes "}")) >>= λ closing. give (h cs)
 
-abbrev no_level : ℕ → Reader Lexeme (List Clause)
-no_level n = many_within (begins_clause 0) (clause_reader 0) n
+abbrev no_level : ℕ → ℕ → Reader Lexeme (List Clause)
+no_level version n = many_within (begins_clause 0) (clause_reader version 0) n
 
-abbrev a_level : ℕ → Reader Lexeme (List Clause)
-a_level n = many_within (begins_clause 1) (clause_reader 1) n
+abbrev a_level : ℕ → ℕ → Reader Lexeme (List Clause)
+a_level version n = many_within (begins_clause 1) (clause_reader version 1) n
 
 -- whole clauses
-abbrev Clauses : List Lexeme → Type 0
-Clauses front = (cs : List Clause) × Many (SpellsClause 0) cs front
+abbrev Clauses : ℕ → List Lexeme → Type 0
+Clauses version front = (cs : List Clause) × Many (SpellsClause version 0) cs front
 
 -- first one clause and then more are read, and then h
 joined_as : (a : Clause) (h : List Clause → Tree) (rr : Result (List Clause × List Lexeme) ℕ) → passed (passed rr (λ others. give (a ∷ others))) (closed h) ≡ passed rr (closed (λ cs. h (a ∷ cs)))
@@ -161,35 +161,35 @@ joined_as a h (Ok p) = refl
 joined_as a h (Err left) = refl
 
 -- a clause that both read
-clause_by : (n : ℕ) (h : List Clause → Tree) (xs : List Lexeme) (rr qq : Result (Clause × List Lexeme) ℕ) → qq ≡ rr → Found (SpellsClause 0) xs rr
-    → ((k : List Clause → Tree) (ys : List Lexeme) → (passed (a_level n ys) (closed k) ≡ passed (no_level n ys) (closed k)) ⊎ Cut Clauses ys (passed (no_level n ys) (closed k)))
-    → (passed (passed qq (λ a. a_level n >>= λ others. give (a ∷ others))) (closed h) ≡ passed (passed rr (λ a. no_level n >>= λ others. give (a ∷ others))) (closed h))
-    ⊎ Cut Clauses xs (passed (passed rr (λ a. no_level n >>= λ others. give (a ∷ others))) (closed h))
-clause_by n h xs (Ok p) qq e f more = elim (more (λ cs. h (p.0 ∷ cs)) p.1) [
-  | inl s ↦ inl (ap (λ r. passed (passed r (λ a. a_level n >>= λ others. give (a ∷ others))) (closed h)) e ∙ (joined_as p.0 h (a_level n p.1) ∙ (s ∙ sym (joined_as p.0 h (no_level n p.1)))))
-  | inr c ↦ inr (subst (Cut Clauses xs) (sym (joined_as p.0 h (no_level n p.1)))
-      (cut_moved f.0 p.1 xs (passed (no_level n p.1) (closed (λ cs. h (p.0 ∷ cs)))) Clauses Clauses f.1 (λ front t. (p.0 ∷ t.0, one_more f.2 t.1)) c))
+clause_by : (version n : ℕ) (h : List Clause → Tree) (xs : List Lexeme) (rr qq : Result (Clause × List Lexeme) ℕ) → qq ≡ rr → Found (SpellsClause version 0) xs rr
+    → ((k : List Clause → Tree) (ys : List Lexeme) → (passed (a_level version n ys) (closed k) ≡ passed (no_level version n ys) (closed k)) ⊎ Cut (Clauses version) ys (passed (no_level version n ys) (closed k)))
+    → (passed (passed qq (λ a. a_level version n >>= λ others. give (a ∷ others))) (closed h) ≡ passed (passed rr (λ a. no_level version n >>= λ others. give (a ∷ others))) (closed h))
+    ⊎ Cut (Clauses version) xs (passed (passed rr (λ a. no_level version n >>= λ others. give (a ∷ others))) (closed h))
+clause_by version n h xs (Ok p) qq e f more = elim (more (λ cs. h (p.0 ∷ cs)) p.1) [
+  | inl s ↦ inl (ap (λ r. passed (passed r (λ a. a_level version n >>= λ others. give (a ∷ others))) (closed h)) e ∙ (joined_as p.0 h (a_level version n p.1) ∙ (s ∙ sym (joined_as p.0 h (no_level version n p.1)))))
+  | inr c ↦ inr (subst (Cut (Clauses version) xs) (sym (joined_as p.0 h (no_level version n p.1)))
+      (cut_moved f.0 p.1 xs (passed (no_level version n p.1) (closed (λ cs. h (p.0 ∷ cs)))) (Clauses version) (Clauses version) f.1 (λ front t. (p.0 ∷ t.0, one_more f.2 t.1)) c))
 ]
-clause_by n h xs (Err left) qq e f more = inl (ap (λ r. passed (passed r (λ a. a_level n >>= λ others. give (a ∷ others))) (closed h)) e)
+clause_by version n h xs (Err left) qq e f more = inl (ap (λ r. passed (passed r (λ a. a_level version n >>= λ others. give (a ∷ others))) (closed h)) e)
 
-key_same : (x : Lexeme) (xs : List Lexeme) → word_is (codes "key") x ≡ true → clause_reader 1 (x ∷ xs) ≡ clause_reader 0 (x ∷ xs)
+key_same : (version : ℕ) (x : Lexeme) (xs : List Lexeme) → word_is (codes "key") x ≡ true → clause_reader version 1 (x ∷ xs) ≡ clause_reader version 0 (x ∷ xs)
 unfolding clause_reader last_clause_reader clause_reader_with
-key_same x xs e = rw e refl
+key_same version x xs e = rw e refl
 
-ref_same : (x : Lexeme) (xs : List Lexeme) → word_is (codes "key") x ≡ false → word_is (codes "ref") x ≡ true → clause_reader 1 (x ∷ xs) ≡ clause_reader 0 (x ∷ xs)
+ref_same : (version : ℕ) (x : Lexeme) (xs : List Lexeme) → word_is (codes "key") x ≡ false → word_is (codes "ref") x ≡ true → clause_reader version 1 (x ∷ xs) ≡ clause_reader version 0 (x ∷ xs)
 unfolding clause_reader last_clause_reader clause_reader_with
-ref_same x xs e f = rw (e, f) refl
+ref_same version x xs e f = rw (e, f) refl
 
-no_level_finds : Finds (clause_reader 0) (SpellsClause 0)
-no_level_finds = clause_finds 0
+no_level_finds : (version : ℕ) → Finds (clause_reader version 0) (SpellsClause version 0)
+no_level_finds version = clause_finds version 0
 
-loop : (n : ℕ) (h : List Clause → Tree) (xs : List Lexeme) → (passed (a_level n xs) (closed h) ≡ passed (no_level n xs) (closed h)) ⊎ Cut Clauses xs (passed (no_level n xs) (closed h))
-loop zero h xs = inl refl
-loop (suc n) h [] = inl refl
-loop (suc n) h (x ∷ xs) = elim (cases_Bool (word_is (codes "key") x)) [
-  | inl k ↦ rw k (clause_by n h (x ∷ xs) (clause_reader 0 (x ∷ xs)) (clause_reader 1 (x ∷ xs)) (key_same x xs k) (no_level_finds.found (x ∷ xs)) (loop n))
+loop : (version n : ℕ) (h : List Clause → Tree) (xs : List Lexeme) → (passed (a_level version n xs) (closed h) ≡ passed (no_level version n xs) (closed h)) ⊎ Cut (Clauses version) xs (passed (no_level version n xs) (closed h))
+loop version zero h xs = inl refl
+loop version (suc n) h [] = inl refl
+loop version (suc n) h (x ∷ xs) = elim (cases_Bool (word_is (codes "key") x)) [
+  | inl k ↦ rw k (clause_by version n h (x ∷ xs) (clause_reader version 0 (x ∷ xs)) (clause_reader version 1 (x ∷ xs)) (key_same version x xs k) ((no_level_finds version).found (x ∷ xs)) (loop version n))
   | inr k ↦ elim (cases_Bool (word_is (codes "ref") x)) [
-    | inl r ↦ rw (k, r) (clause_by n h (x ∷ xs) (clause_reader 0 (x ∷ xs)) (clause_reader 1 (x ∷ xs)) (ref_same x xs k r) (no_level_finds.found (x ∷ xs)) (loop n))
+    | inl r ↦ rw (k, r) (clause_by version n h (x ∷ xs) (clause_reader version 0 (x ∷ xs)) (clause_reader version 1 (x ∷ xs)) (ref_same version x xs k r) ((no_level_finds version).found (x ∷ xs)) (loop version n))
     | inr r ↦ elim (cases_Bool (word_is (codes "set") x)) [
       | inl s ↦ let m = apart_word_mark (codes "set") (codes "}") x s in inr (rw (k, r, m) ([], x, xs, refl, omega arith, s, ([], no_more)))
       | inr s ↦ inl (rw (k, r, s) refl)
@@ -199,63 +199,71 @@ loop (suc n) h (x ∷ xs) = elim (cases_Bool (word_is (codes "key") x)) [
 
 -- ---- sets by their levels
 
-deepest_alike : Alike (set_reader 0) (set_reader 1) (OpenSets 1)
+deepest_alike : (version : ℕ) → Alike (set_reader version 0) (set_reader version 1) (OpenSets version 1)
 unfolding set_reader_of many
-deepest_alike =
-    after_alike set_head_reader _ _ (λ head u. SpellsHead head.0 head.1 u) (OpenSets 1) set_head_finds (λ head u h. record {
-      alike = λ xs. elim (loop (length xs) (tree_of head.0 head.1) xs) [
+deepest_alike version =
+    after_alike set_head_reader _ _ (λ head u. SpellsHead head.0 head.1 u) (OpenSets version 1) set_head_finds (λ head u h. record {
+      alike = λ xs. elim (loop version (length xs) (tree_of head.0 head.1) xs) [
         | inl e ↦ inl e
-        | inr c ↦ inr (cut_moved [] xs xs _ Clauses (λ front. OpenSets 1 (u ++ front)) refl (λ front t. one_set h (clauses_of 0 t.1)) c)
+        | inr c ↦ inr (cut_moved [] xs xs _ (Clauses version) (λ front. OpenSets version 1 (u ++ front)) refl (λ front t. one_set h (clauses_of version 0 t.1)) c)
       ];
     })
 
-clause_alike : (levels : ℕ) → Alike (set_reader levels) (set_reader (suc levels)) (OpenSets (suc levels)) → Alike (clause_reader (suc levels)) (clause_reader (suc (suc levels))) (OpenSets (suc levels))
+clause_alike : (version levels : ℕ) → Alike (set_reader version levels) (set_reader version (suc levels)) (OpenSets version (suc levels)) → Alike (clause_reader version (suc levels)) (clause_reader version (suc (suc levels))) (OpenSets version (suc levels))
 unfolding clause_reader clause_reader_with
-clause_alike levels inner =
-    either_alike (word_is (codes "key")) _ _ _ _ (OpenSets (suc levels)) (same_alike (key_reader >>= λ k. give (key_clause k)) (OpenSets (suc levels)))
-    (either_alike (word_is (codes "ref")) _ _ _ _ (OpenSets (suc levels)) (same_alike (ref_reader >>= λ r. give (ref_clause r)) (OpenSets (suc levels)))
-    (before_alike (set_reader levels) (set_reader (suc levels)) (λ t. give (set_clause t)) (OpenSets (suc levels)) inner))
+clause_alike version levels inner =
+    either_alike (word_is (codes "key")) _ _ _ _ (OpenSets version (suc levels)) (same_alike (key_reader >>= λ k. give (key_clause k)) (OpenSets version (suc levels)))
+    (either_alike (word_is (codes "ref")) _ _ _ _ (OpenSets version (suc levels)) (same_alike (ref_reader (since_two version) >>= λ r. give (ref_clause r)) (OpenSets version (suc levels)))
+    (before_alike (set_reader version levels) (set_reader version (suc levels)) (λ t. give (set_clause t)) (OpenSets version (suc levels)) inner))
 
 -- a set whose clauses may have inner sets
-with_inner : (l : ℕ) → Alike (clause_reader (suc l)) (clause_reader (suc (suc l))) (OpenSets (suc l)) → Alike (set_reader (suc l)) (set_reader (suc (suc l))) (OpenSets (suc (suc l)))
+with_inner : (version l : ℕ) → Alike (clause_reader version (suc l)) (clause_reader version (suc (suc l))) (OpenSets version (suc l)) → Alike (set_reader version (suc l)) (set_reader version (suc (suc l))) (OpenSets version (suc (suc l)))
 unfolding set_reader_of
-with_inner l one =
-    after_alike set_head_reader _ _ (λ head u. SpellsHead head.0 head.1 u) (OpenSets (suc (suc l))) set_head_finds (λ head u h.
-    then_alike (many (begins_clause (suc l)) (clause_reader (suc l))) (many (begins_clause (suc (suc l))) (clause_reader (suc (suc l)))) _ _ (Many (SpellsClause (suc l))) (After (SpellsClause (suc l)) (OpenSets (suc l))) (λ front. OpenSets (suc (suc l)) (u ++ front))
-    (many_alike (begins_clause (suc l)) (clause_reader (suc l)) (clause_reader (suc (suc l))) (SpellsClause (suc l)) (OpenSets (suc l)) (clause_finds (suc l)) one)
-    (many_finds (begins_clause (suc l)) (clause_reader (suc l)) (SpellsClause (suc l)) (clause_finds (suc l)))
-    (λ front t. subst (λ v. OpenSets (suc (suc l)) (u ++ v)) (sym t.are) (and_inner h (clauses_of (suc l) t.read) t.has))
+with_inner version l one =
+    after_alike set_head_reader _ _ (λ head u. SpellsHead head.0 head.1 u) (OpenSets version (suc (suc l))) set_head_finds (λ head u h.
+    then_alike (many (begins_clause (suc l)) (clause_reader version (suc l))) (many (begins_clause (suc (suc l))) (clause_reader version (suc (suc l)))) _ _ (Many (SpellsClause version (suc l))) (After (SpellsClause version (suc l)) (OpenSets version (suc l))) (λ front. OpenSets version (suc (suc l)) (u ++ front))
+    (many_alike (begins_clause (suc l)) (clause_reader version (suc l)) (clause_reader version (suc (suc l))) (SpellsClause version (suc l)) (OpenSets version (suc l)) (clause_finds version (suc l)) one)
+    (many_finds (begins_clause (suc l)) (clause_reader version (suc l)) (SpellsClause version (suc l)) (clause_finds version (suc l)))
+    (λ front t. subst (λ v. OpenSets version (suc (suc l)) (u ++ v)) (sym t.are) (and_inner h (clauses_of version (suc l) t.read) t.has))
     (λ cs v m. same_alike _ _))
 
-set_alike : (levels : ℕ) → Alike (set_reader levels) (set_reader (suc levels)) (OpenSets (suc levels))
-set_alike zero = deepest_alike
-set_alike (suc levels) = with_inner levels (clause_alike levels (set_alike levels))
+set_alike : (version levels : ℕ) → Alike (set_reader version levels) (set_reader version (suc levels)) (OpenSets version (suc levels))
+set_alike version zero = deepest_alike version
+set_alike version (suc levels) = with_inner version levels (clause_alike version levels (set_alike version levels))
 
 -- ---- sides and mappings
 
-side_alike : (name : List ℕ) → Alike (side_reader name deepest) (side_reader name 16) (OpenSide name 16)
+side_alike : (version : ℕ) (name : List ℕ) → Alike (side_reader version name deepest) (side_reader version name 16) (OpenSide version name 16)
 unfolding side_reader
-side_alike name =
-    head_alike (word_is name) _ _ (OpenSide name 16) (λ k kw. head_alike (mark_is (codes "{")) _ _ (λ front. OpenSide name 16 (k ∷ front)) (λ o ow.
-    then_alike (many (word_is (codes "set")) (set_reader deepest)) (many (word_is (codes "set")) (set_reader 16)) _ _ (Many (SpellsSet deepest)) (After (SpellsSet deepest) (OpenSets 16)) (λ front. OpenSide name 16 (k ∷ o ∷ front))
-    (many_alike (word_is (codes "set")) (set_reader deepest) (set_reader 16) (SpellsSet deepest) (OpenSets 16) (set_finds deepest) (set_alike deepest))
-    (many_finds (word_is (codes "set")) (set_reader deepest) (SpellsSet deepest) (set_finds deepest))
-    (λ front t. subst (λ v. OpenSide name 16 (k ∷ o ∷ v)) (sym t.are) (open_side k o kw ow t.read t.has))
+side_alike version name =
+    head_alike (word_is name) _ _ (OpenSide version name 16) (λ k kw. head_alike (mark_is (codes "{")) _ _ (λ front. OpenSide version name 16 (k ∷ front)) (λ o ow.
+    then_alike (many (word_is (codes "set")) (set_reader version deepest)) (many (word_is (codes "set")) (set_reader version 16)) _ _ (Many (SpellsSet version deepest)) (After (SpellsSet version deepest) (OpenSets version 16)) (λ front. OpenSide version name 16 (k ∷ o ∷ front))
+    (many_alike (word_is (codes "set")) (set_reader version deepest) (set_reader version 16) (SpellsSet version deepest) (OpenSets version 16) (set_finds version deepest) (set_alike version deepest))
+    (many_finds (word_is (codes "set")) (set_reader version deepest) (SpellsSet version deepest) (set_finds version deepest))
+    (λ front t. subst (λ v. OpenSide version name 16 (k ∷ o ∷ v)) (sym t.are) (open_side k o kw ow t.read t.has))
     (λ trees u m. same_alike _ _)))
+
+body_alike : (version : ℕ) (k n : Lexeme) → IsKeyword (codes "mapping") k → IsVersion version n → Alike (body_reader version deepest) (body_reader version 16) (λ front. OpenMapping 16 (k ∷ n ∷ front))
+unfolding body_reader
+body_alike version k n kw nw =
+    head_alike (mark_is (codes ";")) _ _ (λ front. OpenMapping 16 (k ∷ n ∷ front)) (λ e ew.
+    then_alike (side_reader version (codes "source") deepest) (side_reader version (codes "source") 16) _ _ (SpellsSide version (codes "source") deepest) (OpenSide version (codes "source") 16) (λ front. OpenMapping 16 (k ∷ n ∷ e ∷ front))
+    (side_alike version (codes "source")) (side_finds version (codes "source") deepest) (λ front t. in_source k n e kw nw ew t)
+    (λ from u h. before_alike (side_reader version (codes "target") deepest) (side_reader version (codes "target") 16) _ (λ front. OpenMapping 16 (k ∷ n ∷ e ∷ (u ++ front)))
+    (record {
+      alike = λ xs. elim ((side_alike version (codes "target")).alike xs) [
+        | inl s ↦ inl s
+        | inr c ↦ inr (cut_moved [] xs xs (side_reader version (codes "target") deepest xs) (OpenSide version (codes "target") 16) (λ front. OpenMapping 16 (k ∷ n ∷ e ∷ (u ++ front))) refl (λ front t. in_target k n e kw nw ew h t) c)
+      ];
+    })))
 
 mapping_alike : Alike (mapping_reader deepest) (mapping_reader 16) (OpenMapping 16)
 unfolding mapping_reader
 mapping_alike =
-    head_alike (word_is (codes "mapping")) _ _ (OpenMapping 16) (λ k kw. head_alike (number_is (codes "1")) _ _ (λ front. OpenMapping 16 (k ∷ front)) (λ n nw. head_alike (mark_is (codes ";")) _ _ (λ front. OpenMapping 16 (k ∷ n ∷ front)) (λ e ew.
-    then_alike (side_reader (codes "source") deepest) (side_reader (codes "source") 16) _ _ (SpellsSide (codes "source") deepest) (OpenSide (codes "source") 16) (λ front. OpenMapping 16 (k ∷ n ∷ e ∷ front))
-    (side_alike (codes "source")) (side_finds (codes "source") deepest) (λ front t. in_source k n e kw nw ew t)
-    (λ from u h. before_alike (side_reader (codes "target") deepest) (side_reader (codes "target") 16) _ (λ front. OpenMapping 16 (k ∷ n ∷ e ∷ (u ++ front)))
-    (record {
-      alike = λ xs. elim ((side_alike (codes "target")).alike xs) [
-        | inl s ↦ inl s
-        | inr c ↦ inr (cut_moved [] xs xs (side_reader (codes "target") deepest xs) (OpenSide (codes "target") 16) (λ front. OpenMapping 16 (k ∷ n ∷ e ∷ (u ++ front))) refl (λ front t. in_target k n e kw nw ew h t) c)
-      ];
-    })))))
+    head_alike (word_is (codes "mapping")) _ _ (OpenMapping 16) (λ k kw.
+    either_alike (number_is (codes "1")) _ _ _ _ (λ front. OpenMapping 16 (k ∷ front))
+    (head_alike (number_is (codes "1")) _ _ (λ front. OpenMapping 16 (k ∷ front)) (λ n nw. body_alike 1 k n kw (version_one nw)))
+    (head_alike (number_is (codes "2")) _ _ (λ front. OpenMapping 16 (k ∷ front)) (λ n nw. body_alike 2 k n kw (version_two nw))))
 
 -- ---- the fault
 

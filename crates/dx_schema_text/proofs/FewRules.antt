@@ -1,5 +1,5 @@
 -- A set has fewer keys and refs than its text has tokens, and these are no more than the text has bytes.
-use Rattle.std.proofs.Common.{ℕ, ◌+◌, ◌<◌, ◌≤◌, List, [], ◌∷◌, ◌++◌, length, arith, length-append}
+use Rattle.std.proofs.Common.{ℕ, ◌+◌, ◌<◌, ◌≤◌, Bool, List, [], ◌∷◌, ◌++◌, length, arith, length-append}
 use Rattle.dx_tokens.specs.declared.scanner.Lexeme.{Lexeme}
 use Rattle.dx_tokens.proofs.Few.{lexemes_few}
 use Rattle.dx_grammar.specs.Readers.{Many, no_more, one_more}
@@ -16,18 +16,18 @@ use Rattle.dx_schema_text.specs.Laws.{TextsHaveFewRules}
 key_some : {k : KeyDecl} {xs : List Lexeme} → SpellsKey k xs → 1 ≤ length xs
 key_some (key_of k o c e a b d f g) = omega arith
 
-ref_some : {r : RefDecl} {xs : List Lexeme} → SpellsRef r xs → 1 ≤ length xs
-ref_some (ref_of k o c arrow s p d e a b f g h i j l m n) = omega arith
+ref_some : {optionals : Bool} {r : RefDecl} {xs : List Lexeme} → SpellsRef optionals r xs → 1 ≤ length xs
+ref_some (ref_of k o c arrow s p d e a b f g h i j l m q n) = omega arith
 
 mutual
   -- a set has fewer keys and refs than tokens, and so has each of its inner sets
-  set_few : {levels : ℕ} {t : Tree} {xs : List Lexeme} (n : ℕ) → length xs ≤ n → SpellsSet levels t xs → (length t.label.keys + length t.label.deps < n) × (length t.label.refs < n) × RulesBelow n t.inner
+  set_few : {version levels : ℕ} {t : Tree} {xs : List Lexeme} (n : ℕ) → length xs ≤ n → SpellsSet version levels t xs → (length t.label.keys + length t.label.deps < n) × (length t.label.refs < n) × RulesBelow n t.inner
   set_few n le (set_of {u = u} {v = v} c head clauses closing) =
       let all : length u + (length v + 1) ≤ n = omega (arith, le, length-append u (v ++ c ∷ []), length-append v (c ∷ [])) in
       let r = clauses_few n (omega (arith, all)) clauses in
       (omega (arith, all, r.0), omega (arith, all, r.1), r.2)
 
-  clauses_few : {levels : ℕ} {cs : List Clause} {xs : List Lexeme} (n : ℕ) → length xs ≤ n → SpellsClauses levels cs xs
+  clauses_few : {version levels : ℕ} {cs : List Clause} {xs : List Lexeme} (n : ℕ) → length xs ≤ n → SpellsClauses version levels cs xs
       → (length (keys_among cs) ≤ length xs) × (length (refs_among cs) ≤ length xs) × RulesBelow n (sets_among cs)
   clauses_few n le no_clause = (omega arith, omega arith, tt)
   clauses_few n le (clause_first {u = u} {v = v} (a_key key) rest) =
@@ -43,13 +43,13 @@ mutual
       let s = set_few n (omega (arith, le, length-append u v)) set in
       (omega (arith, r.0, length-append u v), omega (arith, r.1, length-append u v), (s.0, s.1, s.2, r.2))
 
-sets_few : {levels : ℕ} {ts : List Tree} {xs : List Lexeme} (n : ℕ) → length xs ≤ n → Many (SpellsSet levels) ts xs → RulesBelow n (forest_of ts)
+sets_few : {version levels : ℕ} {ts : List Tree} {xs : List Lexeme} (n : ℕ) → length xs ≤ n → Many (SpellsSet version levels) ts xs → RulesBelow n (forest_of ts)
 sets_few n le no_more = tt
 sets_few n le (one_more {u = u} {v = v} set rest) =
     let s = set_few n (omega (arith, le, length-append u v)) set in
     (s.0, s.1, s.2, sets_few n (omega (arith, le, length-append u v)) rest)
 
-side_few : {name : List ℕ} {levels : ℕ} {f : Forest} {xs : List Lexeme} (n : ℕ) → length xs ≤ n → SpellsSide name levels f xs → RulesBelow n f
+side_few : {version : ℕ} {name : List ℕ} {levels : ℕ} {f : Forest} {xs : List Lexeme} (n : ℕ) → length xs ≤ n → SpellsSide version name levels f xs → RulesBelow n f
 side_few n le (side_of {u = u} k o c keyword opening sets closing) = sets_few n (omega (arith, le, length-append u (c ∷ []))) sets
 
 mapping_few : {levels : ℕ} {m : MappingText} {xs : List Lexeme} (n : ℕ) → length xs ≤ n → SpellsMapping levels m xs → RulesBelow n m.source × RulesBelow n m.target

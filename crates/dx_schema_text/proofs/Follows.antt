@@ -1,18 +1,18 @@
 -- Each reader reads its form.
-use Rattle.std.proofs.Common.{◌≡◌, ℕ, zero, suc, Bool, true, false, ◌||◌, List, ◌∷◌, refl}
+use Rattle.std.proofs.Common.{◌≡◌, ℕ, zero, suc, Bool, true, false, ◌||◌, List, ◌∷◌, refl, inl, inr}
 use Rattle.std.specs.Prelude.{codes}
-use Rattle.std.proofs.lemmas.Bool.{or_parts}
+use Rattle.std.proofs.lemmas.Bool.{or_parts, or_cases, or_left, or_right}
 use Rattle.dx_tokens.specs.declared.scanner.Lexeme.{Lexeme}
 use Rattle.dx_grammar.specs.Forms.{Form, nothing, one, ◌▸◌, ◌∣◌, repeated, optional}
-use Rattle.dx_grammar.specs.Readers.{Reader, give, token, either, many}
+use Rattle.dx_grammar.specs.Readers.{Reader, ◌>>=◌, give, token, either, many}
 use Rattle.dx_grammar.proofs.Verdicts.{IsReader, Anything, Stops, Begins, AreApart}
-use Rattle.dx_grammar.proofs.Combined.{one_reads, nothing_reads, then_reads, then_any, last_reads, either_reads, many_reads, begins_one, begins_both, begins_choice, begins_wider, stops_at, stops_past, consumes, apart_or, or_apart}
+use Rattle.dx_grammar.proofs.Combined.{one_reads, nothing_reads, then_reads, then_any, last_reads, weaker, either_reads, many_reads, begins_one, begins_both, begins_choice, begins_wider, stops_at, stops_past, consumes, apart_or, or_apart}
 use Rattle.dx_grammar.proofs.Loops.{Consumes}
 use Rattle.dx_schema.specs.Forest.{Tree}
 use Rattle.dx_schema_text.specs.declared.clauses.Clause.{Clause}
-use Rattle.dx_schema_text.specs.Grammar.{is_word, is_string, word_is, number_is, mark_is, word, string, mark, words, key, ref, set_head, set_of, last_clause, clause_with, clause, set, place, places, behind_word, source, line, cell, cells, atom, atoms, derived, where_part, rule, item, side, mapping}
-use Rattle.dx_schema_text.specs.Reading.{comma_word, words_reader, key_reader, referred_reader, ref_reader, key_clause, ref_clause, set_clause, begins_clause, last_clause_reader, clause_reader_with, set_head_reader, set_reader_of, clause_reader, set_reader, place_reader, comma_place, places_reader, string_reader, column_reader, call_reader, named_reader, source_reader, line_reader, name_reader, literal_reader, cell_reader, comma_cell, cells_reader, atom_reader, comma_atom, atoms_reader, derived_reader, comma_derived, where_reader, optional_where, rule_reader, line_item, rule_item, begins_item, item_reader, side_reader, mapping_reader}
-use Rattle.dx_schema_text.proofs.Apart.{apart_marks, apart_words, apart_mark_word, apart_word_mark, apart_any_word_string, apart_string_any_word}
+use Rattle.dx_schema_text.specs.Grammar.{is_word, is_string, word_is, number_is, mark_is, since_two, word, string, keyword, mark, words, key, optional_word, ref, set_head, set_of, last_clause, clause_with, clause, set, place, places, behind_word, source, line, cell, cells, atom, atoms, derived, where_part, rule, only, item, side, body, mapping}
+use Rattle.dx_schema_text.specs.Reading.{comma_word, words_reader, key_reader, optional_reader, referred_reader, ref_reader, key_clause, ref_clause, set_clause, begins_clause, last_clause_reader, clause_reader_with, set_head_reader, set_reader_of, clause_reader, set_reader, place_reader, comma_place, places_reader, string_reader, column_reader, call_reader, named_reader, source_reader, line_reader, name_reader, literal_reader, cell_reader, comma_cell, cells_reader, atom_reader, comma_atom, atoms_reader, derived_reader, comma_derived, where_reader, optional_where, rule_reader, only_reader, line_item, rule_item, only_item, begins_item, item_reader, side_reader, body_reader, mapping_reader}
+use Rattle.dx_schema_text.proofs.Apart.{apart_marks, apart_numbers, apart_words, apart_mark_word, apart_word_mark, apart_any_word_string, apart_string_any_word}
 
 abbrev comma : Lexeme → Bool
 comma = mark_is (codes ",")
@@ -50,9 +50,20 @@ pub key_begins : Begins (word_is (codes "key")) key
 unfolding key
 key_begins = begins_with (word_is (codes "key")) _
 
-pub ref_begins : Begins (word_is (codes "ref")) ref
+abbrev says_optional : Lexeme → Bool
+says_optional = word_is (codes "optional")
+
+optional_reads : (optionals : Bool) → IsReader (Stops says_optional) (optional_word optionals) (optional_reader optionals)
+unfolding optional_word optional_reader
+optional_reads false = nothing_reads (Stops says_optional) false
+optional_reads true =
+    either_reads (Stops says_optional) says_optional (keyword (codes "optional")) nothing _ (give false) (last_reads (Stops says_optional) (keyword (codes "optional")) (token says_optional) (λ k. true) (one_reads (Stops says_optional) says_optional))
+    (nothing_reads (Stops says_optional) false) (begins_one says_optional)
+    (λ more ok. stops_past says_optional nothing more (λ x e. refl) ok)
+
+pub ref_begins : (optionals : Bool) → Begins (word_is (codes "ref")) (ref optionals)
 unfolding ref
-ref_begins = begins_with (word_is (codes "ref")) _
+ref_begins optionals = begins_with (word_is (codes "ref")) _
 
 pub set_of_begins : (inner : Form Lexeme) → Begins (word_is (codes "set")) (set_of inner)
 unfolding set_of set_head
@@ -68,9 +79,9 @@ key_reads =
     last_reads Anything (mark (codes ";")) (token (mark_is (codes ";"))) _ (a (mark_is (codes ";")))))
     (λ more ok. comma_stops (codes ")") _ more (apart_marks (codes ",") (codes ")") refl) (begins_with (mark_is (codes ")")) _))))
 
-pub ref_reads : IsReader Anything ref ref_reader
+pub ref_reads : (optionals : Bool) → IsReader Anything (ref optionals) (ref_reader optionals)
 unfolding ref ref_reader referred_reader
-ref_reads =
+ref_reads optionals =
     then_any Anything _ _ _ _ (a (word_is (codes "ref"))) (λ keyword'.
     then_any Anything _ _ _ _ (a (mark_is (codes "("))) (λ opening.
     then_reads Anything (Stops comma) words _ words_reader _ words_reads (λ columns.
@@ -78,31 +89,35 @@ ref_reads =
     then_any Anything _ _ _ _ (a (mark_is (codes "->"))) (λ arrow.
     then_any Anything _ _ _ _ (a is_word) (λ referred_set.
     then_any Anything _ _ _ _ (a (mark_is (codes "("))) (λ second.
-    then_reads Anything (Stops comma) words (mark (codes ")") ▸ mark (codes ";")) words_reader _ words_reads (λ referred.
+    then_reads Anything (Stops comma) words _ words_reader _ words_reads (λ referred.
     then_any Anything _ _ _ _ (a (mark_is (codes ")"))) (λ closed.
-    last_reads Anything (mark (codes ";")) (token (mark_is (codes ";"))) _ (a (mark_is (codes ";")))))
+    then_reads Anything (Stops says_optional) (optional_word optionals) (mark (codes ";")) (optional_reader optionals) _ (optional_reads optionals) (λ is_optional.
+    last_reads Anything (mark (codes ";")) (token (mark_is (codes ";"))) _ (a (mark_is (codes ";"))))
+    (λ more ok. stops_at says_optional (mark_is (codes ";")) (mark (codes ";")) more (begins_one (mark_is (codes ";"))) (apart_word_mark (codes "optional") (codes ";")))))
     (λ more ok. comma_stops (codes ")") _ more (apart_marks (codes ",") (codes ")") refl) (begins_with (mark_is (codes ")")) _)))))))
     (λ more ok. comma_stops (codes ")") _ more (apart_marks (codes ",") (codes ")") refl) (begins_with (mark_is (codes ")")) _))))
 
-pub last_clause_reads : IsReader Anything last_clause last_clause_reader
+pub last_clause_reads : (version : ℕ) → IsReader Anything (last_clause version) (last_clause_reader version)
 unfolding last_clause last_clause_reader
-last_clause_reads =
-    either_reads Anything (word_is (codes "key")) key ref _ _ (last_reads Anything key key_reader key_clause key_reads) (last_reads Anything ref ref_reader ref_clause ref_reads) key_begins
-    (λ more ok. stops_at (word_is (codes "key")) (word_is (codes "ref")) ref more ref_begins (apart_words (codes "key") (codes "ref") refl))
+last_clause_reads version =
+    let b = since_two version in
+    either_reads Anything (word_is (codes "key")) key (ref b) _ _ (last_reads Anything key key_reader key_clause key_reads) (last_reads Anything (ref b) (ref_reader b) ref_clause (ref_reads b)) key_begins
+    (λ more ok. stops_at (word_is (codes "key")) (word_is (codes "ref")) (ref b) more (ref_begins b) (apart_words (codes "key") (codes "ref") refl))
 
 abbrev ref_or_set : Lexeme → Bool
 ref_or_set x = word_is (codes "ref") x || word_is (codes "set") x
 
-pub clause_with_reads : (inner : Form Lexeme) (r : Reader Lexeme Tree) → IsReader Anything inner r → Begins (word_is (codes "set")) inner → IsReader Anything (clause_with inner) (clause_reader_with r)
+pub clause_with_reads : (version : ℕ) (inner : Form Lexeme) (r : Reader Lexeme Tree) → IsReader Anything inner r → Begins (word_is (codes "set")) inner → IsReader Anything (clause_with version inner) (clause_reader_with version r)
 unfolding clause_with clause_reader_with
-clause_with_reads inner r reads begins =
-    either_reads Anything (word_is (codes "key")) key (ref ∣ inner) _ _ (last_reads Anything key key_reader key_clause key_reads)
-    (either_reads Anything (word_is (codes "ref")) ref inner _ _ (last_reads Anything ref ref_reader ref_clause ref_reads) (last_reads Anything inner r set_clause reads) ref_begins
+clause_with_reads version inner r reads begins =
+    let b = since_two version in
+    either_reads Anything (word_is (codes "key")) key (ref b ∣ inner) _ _ (last_reads Anything key key_reader key_clause key_reads)
+    (either_reads Anything (word_is (codes "ref")) (ref b) inner _ _ (last_reads Anything (ref b) (ref_reader b) ref_clause (ref_reads b)) (last_reads Anything inner r set_clause reads) (ref_begins b)
     (λ more ok. stops_at (word_is (codes "ref")) (word_is (codes "set")) inner more begins (apart_words (codes "ref") (codes "set") refl)))
     key_begins
-    (λ more ok. stops_at (word_is (codes "key")) ref_or_set (ref ∣ inner) more
-    (begins_choice ref_or_set ref inner
-    (begins_wider (word_is (codes "ref")) ref_or_set ref (λ x e. (or_parts (word_is (codes "ref") x) (word_is (codes "set") x) e).0) ref_begins)
+    (λ more ok. stops_at (word_is (codes "key")) ref_or_set (ref b ∣ inner) more
+    (begins_choice ref_or_set (ref b) inner
+    (begins_wider (word_is (codes "ref")) ref_or_set (ref b) (λ x e. (or_parts (word_is (codes "ref") x) (word_is (codes "set") x) e).0) (ref_begins b))
     (begins_wider (word_is (codes "set")) ref_or_set inner (λ x e. (or_parts (word_is (codes "ref") x) (word_is (codes "set") x) e).1) begins))
     (apart_or (word_is (codes "key")) (word_is (codes "ref")) (word_is (codes "set")) (apart_words (codes "key") (codes "ref") refl) (apart_words (codes "key") (codes "set") refl)))
 
@@ -124,27 +139,28 @@ set_of_reads begins inner r reads first apart =
     last_reads Anything (mark (codes "}")) (token (mark_is (codes "}"))) _ (a (mark_is (codes "}"))))
     (λ more ok. stops_at begins (mark_is (codes "}")) (mark (codes "}")) more (begins_one (mark_is (codes "}"))) apart))
 
-last_clause_begins : Begins (begins_clause 0) last_clause
+last_clause_begins : (version : ℕ) → Begins (begins_clause 0) (last_clause version)
 unfolding last_clause
-last_clause_begins =
-    begins_choice (begins_clause 0) key ref
+last_clause_begins version =
+    begins_choice (begins_clause 0) key (ref (since_two version))
     (begins_wider (word_is (codes "key")) (begins_clause 0) key (λ x e. (or_parts (word_is (codes "key") x) (word_is (codes "ref") x) e).0) key_begins)
-    (begins_wider (word_is (codes "ref")) (begins_clause 0) ref (λ x e. (or_parts (word_is (codes "key") x) (word_is (codes "ref") x) e).1) ref_begins)
+    (begins_wider (word_is (codes "ref")) (begins_clause 0) (ref (since_two version)) (λ x e. (or_parts (word_is (codes "key") x) (word_is (codes "ref") x) e).1) (ref_begins (since_two version)))
 
-clause_with_begins : (levels : ℕ) (inner : Form Lexeme) → Begins (word_is (codes "set")) inner → Begins (begins_clause (suc levels)) (clause_with inner)
+clause_with_begins : (version levels : ℕ) (inner : Form Lexeme) → Begins (word_is (codes "set")) inner → Begins (begins_clause (suc levels)) (clause_with version inner)
 unfolding clause_with
-clause_with_begins levels inner begins =
+clause_with_begins version levels inner begins =
+    let b = since_two version in
     let two : (x : Lexeme) → begins_clause (suc levels) x ≡ false → ref_or_set x ≡ false = λ x e. (or_parts (word_is (codes "key") x) (ref_or_set x) e).1 in
-    begins_choice (begins_clause (suc levels)) key (ref ∣ inner)
+    begins_choice (begins_clause (suc levels)) key (ref b ∣ inner)
     (begins_wider (word_is (codes "key")) (begins_clause (suc levels)) key (λ x e. (or_parts (word_is (codes "key") x) (ref_or_set x) e).0) key_begins)
-    (begins_choice (begins_clause (suc levels)) ref inner
-    (begins_wider (word_is (codes "ref")) (begins_clause (suc levels)) ref (λ x e. (or_parts (word_is (codes "ref") x) (word_is (codes "set") x) (two x e)).0) ref_begins)
+    (begins_choice (begins_clause (suc levels)) (ref b) inner
+    (begins_wider (word_is (codes "ref")) (begins_clause (suc levels)) (ref b) (λ x e. (or_parts (word_is (codes "ref") x) (word_is (codes "set") x) (two x e)).0) (ref_begins b))
     (begins_wider (word_is (codes "set")) (begins_clause (suc levels)) inner (λ x e. (or_parts (word_is (codes "ref") x) (word_is (codes "set") x) (two x e)).1) begins))
 
-pub clause_begins : (levels : ℕ) → Begins (begins_clause levels) (clause levels)
+pub clause_begins : (version levels : ℕ) → Begins (begins_clause levels) (clause version levels)
 unfolding clause
-clause_begins zero = last_clause_begins
-clause_begins (suc levels) = clause_with_begins levels (set_of (clause levels)) (set_of_begins (clause levels))
+clause_begins version zero = last_clause_begins version
+clause_begins version (suc levels) = clause_with_begins version levels (set_of (clause version levels)) (set_of_begins (clause version levels))
 
 clause_apart : (levels : ℕ) → AreApart (begins_clause levels) (mark_is (codes "}"))
 clause_apart zero = or_apart (word_is (codes "key")) (word_is (codes "ref")) (mark_is (codes "}")) (apart_word_mark (codes "key") (codes "}")) (apart_word_mark (codes "ref") (codes "}"))
@@ -152,21 +168,21 @@ clause_apart (suc levels) =
     or_apart (word_is (codes "key")) ref_or_set (mark_is (codes "}")) (apart_word_mark (codes "key") (codes "}"))
     (or_apart (word_is (codes "ref")) (word_is (codes "set")) (mark_is (codes "}")) (apart_word_mark (codes "ref") (codes "}")) (apart_word_mark (codes "set") (codes "}")))
 
-pub clause_reads : (levels : ℕ) → IsReader Anything (clause levels) (clause_reader levels)
+pub clause_reads : (version levels : ℕ) → IsReader Anything (clause version levels) (clause_reader version levels)
 unfolding clause clause_reader
-clause_reads zero = last_clause_reads
-clause_reads (suc levels) =
-    clause_with_reads (set_of (clause levels)) (set_reader_of (begins_clause levels) (clause_reader levels))
-    (set_of_reads (begins_clause levels) (clause levels) (clause_reader levels) (clause_reads levels) (clause_begins levels) (clause_apart levels)) (set_of_begins (clause levels))
+clause_reads version zero = last_clause_reads version
+clause_reads version (suc levels) =
+    clause_with_reads version (set_of (clause version levels)) (set_reader_of (begins_clause levels) (clause_reader version levels))
+    (set_of_reads (begins_clause levels) (clause version levels) (clause_reader version levels) (clause_reads version levels) (clause_begins version levels) (clause_apart levels)) (set_of_begins (clause version levels))
 
-pub clause_consumes : (levels : ℕ) → Consumes (clause_reader levels)
-clause_consumes levels = consumes (begins_clause levels) (clause levels) (clause_reader levels) (clause_reads levels) (clause_begins levels)
+pub clause_consumes : (version levels : ℕ) → Consumes (clause_reader version levels)
+clause_consumes version levels = consumes (begins_clause levels) (clause version levels) (clause_reader version levels) (clause_reads version levels) (clause_begins version levels)
 
-pub set_reads : (levels : ℕ) → IsReader Anything (set levels) (set_reader levels)
-set_reads levels = set_of_reads (begins_clause levels) (clause levels) (clause_reader levels) (clause_reads levels) (clause_begins levels) (clause_apart levels)
+pub set_reads : (version levels : ℕ) → IsReader Anything (set version levels) (set_reader version levels)
+set_reads version levels = set_of_reads (begins_clause levels) (clause version levels) (clause_reader version levels) (clause_reads version levels) (clause_begins version levels) (clause_apart levels)
 
-pub set_consumes : (levels : ℕ) → Consumes (set_reader levels)
-set_consumes levels = consumes (word_is (codes "set")) (set levels) (set_reader levels) (set_reads levels) (set_of_begins (clause levels))
+pub set_consumes : (version levels : ℕ) → Consumes (set_reader version levels)
+set_consumes version levels = consumes (word_is (codes "set")) (set version levels) (set_reader version levels) (set_reads version levels) (set_of_begins (clause version levels))
 
 -- ---- lines
 
@@ -370,38 +386,96 @@ rule_begins : Begins (word_is (codes "rule")) rule
 unfolding rule
 rule_begins = begins_with (word_is (codes "rule")) _
 
-pub item_begins : Begins begins_item item
-unfolding item
-item_begins =
-    begins_choice begins_item line rule
-    (begins_wider (word_is (codes "line")) begins_item line (λ x e. (or_parts (word_is (codes "line") x) (word_is (codes "rule") x) e).0) line_begins)
-    (begins_wider (word_is (codes "rule")) begins_item rule (λ x e. (or_parts (word_is (codes "line") x) (word_is (codes "rule") x) e).1) rule_begins)
+only_begins : Begins (word_is (codes "only")) only
+unfolding only
+only_begins = begins_with (word_is (codes "only")) _
 
-pub item_reads : IsReader Anything item item_reader
+only_reads : IsReader Anything only only_reader
+unfolding only only_reader
+only_reads =
+    then_any Anything _ _ _ _ (a (word_is (codes "only"))) (λ keyword'.
+    then_any Anything place _ place_reader _ place_reads (λ column.
+    then_any Anything _ _ _ _ (a is_word) (λ test.
+    last_reads Anything (mark (codes ";")) (token (mark_is (codes ";"))) _ (a (mark_is (codes ";"))))))
+
+abbrev rule_or_only : Lexeme → Bool
+rule_or_only x = word_is (codes "rule") x || word_is (codes "only") x
+
+rule_or_only_begins : Begins rule_or_only (rule ∣ only)
+rule_or_only_begins =
+    begins_choice rule_or_only rule only
+    (begins_wider (word_is (codes "rule")) rule_or_only rule (λ x e. (or_parts (word_is (codes "rule") x) (word_is (codes "only") x) e).0) rule_begins)
+    (begins_wider (word_is (codes "only")) rule_or_only only (λ x e. (or_parts (word_is (codes "rule") x) (word_is (codes "only") x) e).1) only_begins)
+
+pub item_begins : (conditions : Bool) → Begins (begins_item conditions) (item conditions)
+unfolding item
+item_begins false =
+    begins_choice (begins_item false) line rule
+    (begins_wider (word_is (codes "line")) (begins_item false) line (λ x e. (or_parts (word_is (codes "line") x) (word_is (codes "rule") x) e).0) line_begins)
+    (begins_wider (word_is (codes "rule")) (begins_item false) rule (λ x e. (or_parts (word_is (codes "line") x) (word_is (codes "rule") x) e).1) rule_begins)
+item_begins true =
+    begins_choice (begins_item true) line (rule ∣ only)
+    (begins_wider (word_is (codes "line")) (begins_item true) line (λ x e. (or_parts (word_is (codes "line") x) (rule_or_only x) e).0) line_begins)
+    (begins_wider rule_or_only (begins_item true) (rule ∣ only) (λ x e. (or_parts (word_is (codes "line") x) (rule_or_only x) e).1) rule_or_only_begins)
+
+pub item_reads : (conditions : Bool) → IsReader Anything (item conditions) (item_reader conditions)
 unfolding item item_reader
-item_reads =
+item_reads false =
     either_reads Anything (word_is (codes "line")) line rule _ _ (last_reads Anything line line_reader line_item line_reads) (last_reads Anything rule rule_reader rule_item rule_reads) line_begins
     (λ more ok. stops_at (word_is (codes "line")) (word_is (codes "rule")) rule more rule_begins (apart_words (codes "line") (codes "rule") refl))
+item_reads true =
+    either_reads Anything (word_is (codes "line")) line (rule ∣ only) _ _ (last_reads Anything line line_reader line_item line_reads)
+    (either_reads Anything (word_is (codes "rule")) rule only _ _ (last_reads Anything rule rule_reader rule_item rule_reads) (last_reads Anything only only_reader only_item only_reads) rule_begins
+    (λ more ok. stops_at (word_is (codes "rule")) (word_is (codes "only")) only more only_begins (apart_words (codes "rule") (codes "only") refl)))
+    line_begins
+    (λ more ok. stops_at (word_is (codes "line")) rule_or_only (rule ∣ only) more rule_or_only_begins
+    (apart_or (word_is (codes "line")) (word_is (codes "rule")) (word_is (codes "only")) (apart_words (codes "line") (codes "rule") refl) (apart_words (codes "line") (codes "only") refl)))
 
-pub item_consumes : Consumes item_reader
-item_consumes = consumes begins_item item item_reader item_reads item_begins
+pub item_consumes : (conditions : Bool) → Consumes (item_reader conditions)
+item_consumes conditions = consumes (begins_item conditions) (item conditions) (item_reader conditions) (item_reads conditions) (item_begins conditions)
 
-pub side_reads : (name : List ℕ) (levels : ℕ) → IsReader Anything (side name levels) (side_reader name levels)
+pub side_reads : (version : ℕ) (name : List ℕ) (levels : ℕ) → IsReader Anything (side version name levels) (side_reader version name levels)
 unfolding side side_reader
-side_reads name levels =
+side_reads version name levels =
     then_any Anything _ _ _ _ (a (word_is name)) (λ keyword'.
     then_any Anything _ _ _ _ (a (mark_is (codes "{"))) (λ opening.
-    then_reads Anything (Stops (word_is (codes "set"))) (repeated (set levels)) (mark (codes "}")) (many (word_is (codes "set")) (set_reader levels)) _
-    (many_reads (word_is (codes "set")) (set levels) (set_reader levels) (set_reads levels) (set_of_begins (clause levels))) (λ trees.
+    then_reads Anything (Stops (word_is (codes "set"))) (repeated (set version levels)) (mark (codes "}")) (many (word_is (codes "set")) (set_reader version levels)) _
+    (many_reads (word_is (codes "set")) (set version levels) (set_reader version levels) (set_reads version levels) (set_of_begins (clause version levels))) (λ trees.
     last_reads Anything (mark (codes "}")) (token (mark_is (codes "}"))) _ (a (mark_is (codes "}"))))
     (λ more ok. stops_at (word_is (codes "set")) (mark_is (codes "}")) (mark (codes "}")) more (begins_one (mark_is (codes "}"))) (apart_word_mark (codes "set") (codes "}")))))
 
-pub mapping_reads : (levels : ℕ) → IsReader (Stops begins_item) (mapping (codes "1") levels) (mapping_reader levels)
+-- what begins an item of a text without conditions begins one of a text with them
+fewer_begin : (conditions : Bool) (x : Lexeme) → begins_item conditions x ≡ true → begins_item true x ≡ true
+fewer_begin false x e = elim (or_cases (word_is (codes "line") x) (word_is (codes "rule") x) e) [
+  | inl l ↦ or_left (word_is (codes "line") x) (rule_or_only x) l
+  | inr r ↦ or_right (word_is (codes "line") x) (rule_or_only x) (or_left (word_is (codes "rule") x) (word_is (codes "only") x) r)
+]
+fewer_begin true x e = e
+
+-- no item begins what follows, not even one of a later version
+abbrev pub NoItem : List (Form Lexeme) → Type 0
+NoItem more = Stops (begins_item true) more
+
+items_read : (conditions : Bool) → IsReader NoItem (repeated (item conditions)) (many (begins_item conditions) (item_reader conditions))
+items_read conditions =
+    weaker NoItem (Stops (begins_item conditions)) (repeated (item conditions)) (many (begins_item conditions) (item_reader conditions)) (λ more ok x e. ok x (fewer_begin conditions x e))
+    (many_reads (begins_item conditions) (item conditions) (item_reader conditions) (item_reads conditions) (item_begins conditions))
+
+body_reads : (version levels : ℕ) → IsReader NoItem (body version levels) (body_reader version levels)
+unfolding body body_reader
+body_reads version levels =
+    then_any NoItem _ _ _ _ (a (mark_is (codes ";"))) (λ ending.
+    then_any NoItem _ _ (side_reader version (codes "source") levels) _ (side_reads version (codes "source") levels) (λ from.
+    then_any NoItem _ _ (side_reader version (codes "target") levels) _ (side_reads version (codes "target") levels) (λ to.
+    last_reads NoItem (repeated (item (since_two version))) (many (begins_item (since_two version)) (item_reader (since_two version))) _ (items_read (since_two version)))))
+
+-- the number of a version, and what stands after it
+numbered_reads : (number : List ℕ) (version levels : ℕ) → IsReader NoItem (one (number_is number) ▸ body version levels) (token (number_is number) >>= λ n. body_reader version levels)
+numbered_reads number version levels = then_any NoItem _ _ _ _ (a (number_is number)) (λ n. body_reads version levels)
+
+pub mapping_reads : (levels : ℕ) → IsReader NoItem (mapping levels) (mapping_reader levels)
 unfolding mapping mapping_reader
 mapping_reads levels =
-    then_any (Stops begins_item) _ _ _ _ (a (word_is (codes "mapping"))) (λ keyword'.
-    then_any (Stops begins_item) _ _ _ _ (a (number_is (codes "1"))) (λ version.
-    then_any (Stops begins_item) _ _ _ _ (a (mark_is (codes ";"))) (λ ending.
-    then_any (Stops begins_item) _ _ (side_reader (codes "source") levels) _ (side_reads (codes "source") levels) (λ from.
-    then_any (Stops begins_item) _ _ (side_reader (codes "target") levels) _ (side_reads (codes "target") levels) (λ to.
-    last_reads (Stops begins_item) (repeated item) (many begins_item item_reader) _ (many_reads begins_item item item_reader item_reads item_begins))))))
+    then_any NoItem _ _ _ _ (a (word_is (codes "mapping"))) (λ keyword'.
+    either_reads NoItem (number_is (codes "1")) _ _ _ _ (numbered_reads (codes "1") 1 levels) (numbered_reads (codes "2") 2 levels) (begins_with (number_is (codes "1")) (body 1 levels))
+    (λ more ok. stops_at (number_is (codes "1")) (number_is (codes "2")) _ more (begins_with (number_is (codes "2")) (body 2 levels)) (apart_numbers (codes "1") (codes "2") refl)))

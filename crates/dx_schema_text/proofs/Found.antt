@@ -6,9 +6,9 @@ use Rattle.dx_grammar.specs.Readers.{Reader, ◌>>=◌, give, token, many, Many,
 use Rattle.dx_grammar.proofs.Spelled.{Finds, give_finds, then_finds, last_finds, head_finds, either_finds, many_finds, finds_wider}
 use Rattle.dx_schema.specs.Forest.{Tree}
 use Rattle.dx_schema_text.specs.declared.clauses.Clause.{Clause}
-use Rattle.dx_schema_text.specs.Grammar.{is_word, is_string, word_is, number_is, mark_is}
-use Rattle.dx_schema_text.specs.Reading.{comma_word, words_reader, key_reader, referred_reader, ref_reader, key_clause, ref_clause, set_clause, begins_clause, last_clause_reader, clause_reader_with, set_head_reader, set_reader_of, clause_reader, set_reader, place_reader, comma_place, places_reader, string_reader, column_reader, call_reader, named_reader, source_reader, line_reader, name_reader, literal_reader, cell_reader, comma_cell, cells_reader, atom_reader, comma_atom, atoms_reader, derived_reader, comma_derived, where_reader, optional_where, rule_reader, line_item, rule_item, begins_item, item_reader, side_reader, mapping_reader}
-use Rattle.dx_schema_text.specs.Spelling.{IsWord, Comma, comma_then, Parted, parted, SpellsName, name_of, SpellsKey, key_of, SpellsRef, ref_of, SpellsHead, head_of, SpellsSet, set_of, SpellsClauses, no_clause, clause_first, SpellsClause, a_key, a_ref, a_set, SpellsPlace, place_of, SpellsSource, a_literal, a_column, a_call, SpellsLine, line_of, SpellsCell, a_name, a_text, SpellsAtom, atom_of, SpellsDerived, derived_of, SpellsWhere, no_where, where_of, SpellsRule, rule_of, SpellsItem, a_line, a_rule, SpellsSide, side_of, SpellsMapping, mapping_of}
+use Rattle.dx_schema_text.specs.Grammar.{is_word, is_string, word_is, number_is, mark_is, since_two}
+use Rattle.dx_schema_text.specs.Reading.{comma_word, words_reader, key_reader, optional_reader, referred_reader, ref_reader, key_clause, ref_clause, set_clause, begins_clause, last_clause_reader, clause_reader_with, set_head_reader, set_reader_of, clause_reader, set_reader, place_reader, comma_place, places_reader, string_reader, column_reader, call_reader, named_reader, source_reader, line_reader, name_reader, literal_reader, cell_reader, comma_cell, cells_reader, atom_reader, comma_atom, atoms_reader, derived_reader, comma_derived, where_reader, optional_where, rule_reader, only_reader, line_item, rule_item, only_item, begins_item, item_reader, side_reader, body_reader, mapping_reader}
+use Rattle.dx_schema_text.specs.Spelling.{IsWord, IsKeyword, Comma, comma_then, Parted, parted, SpellsName, name_of, SpellsKey, key_of, SpellsOptional, not_optional, is_optional, SpellsRef, ref_of, SpellsHead, head_of, SpellsSet, set_of, SpellsClauses, no_clause, clause_first, SpellsClause, a_key, a_ref, a_set, SpellsPlace, place_of, SpellsSource, a_literal, a_column, a_call, SpellsLine, line_of, SpellsCell, a_name, a_text, SpellsAtom, atom_of, SpellsDerived, derived_of, SpellsWhere, no_where, where_of, SpellsRule, rule_of, SpellsOnly, only_of, SpellsItem, a_line, a_rule, a_condition, SpellsSide, side_of, IsVersion, version_one, version_two, SpellsMapping, mapping_of}
 
 -- a comma, and what another reader reads
 comma_finds : {A : Type 0} (r : Reader Lexeme A) (R : A → List Lexeme → Type 0) → Finds r R → Finds (token (mark_is (codes ",")) >>= λ c. r) (Comma R)
@@ -37,13 +37,19 @@ key_finds =
     head_finds (word_is (codes "key")) _ SpellsKey (λ k kw. head_finds (mark_is (codes "(")) _ _ (λ o ow. then_finds words_reader _ (Parted SpellsName) _ words_finds (λ ws u h.
     head_finds (mark_is (codes ")")) _ _ (λ c cw. head_finds (mark_is (codes ";")) _ _ (λ e ew. give_finds _ _ (key_of k o c e kw ow h cw ew))))))
 
-ref_finds : Finds ref_reader SpellsRef
+optional_finds : (optionals : Bool) → Finds (optional_reader optionals) (SpellsOptional optionals)
+unfolding optional_reader
+optional_finds false = give_finds false (SpellsOptional false) not_optional
+optional_finds true =
+    either_finds (word_is (codes "optional")) _ _ (SpellsOptional true) (head_finds (word_is (codes "optional")) _ (SpellsOptional true) (λ k kw. give_finds true _ (is_optional k kw))) (give_finds false (SpellsOptional true) not_optional)
+
+ref_finds : (optionals : Bool) → Finds (ref_reader optionals) (SpellsRef optionals)
 unfolding ref_reader referred_reader
-ref_finds =
-    head_finds (word_is (codes "ref")) _ SpellsRef (λ k kw. head_finds (mark_is (codes "(")) _ _ (λ o ow. then_finds words_reader _ (Parted SpellsName) _ words_finds (λ ws u h.
+ref_finds optionals =
+    head_finds (word_is (codes "ref")) _ (SpellsRef optionals) (λ k kw. head_finds (mark_is (codes "(")) _ _ (λ o ow. then_finds words_reader _ (Parted SpellsName) _ words_finds (λ ws u h.
     head_finds (mark_is (codes ")")) _ _ (λ c cw. head_finds (mark_is (codes "->")) _ _ (λ arrow aw. head_finds is_word _ _ (λ s sw. head_finds (mark_is (codes "(")) _ _ (λ p pw.
-    then_finds words_reader _ (Parted SpellsName) _ words_finds (λ vs v g. head_finds (mark_is (codes ")")) _ _ (λ d dw. head_finds (mark_is (codes ";")) _ _ (λ e ew.
-    give_finds _ _ (ref_of k o c arrow s p d e kw ow h cw aw sw pw g dw ew)))))))))))
+    then_finds words_reader _ (Parted SpellsName) _ words_finds (λ vs v g. head_finds (mark_is (codes ")")) _ _ (λ d dw. then_finds (optional_reader optionals) _ (SpellsOptional optionals) _ (optional_finds optionals) (λ b w f. head_finds (mark_is (codes ";")) _ _ (λ e ew.
+    give_finds _ _ (ref_of k o c arrow s p d e kw ow h cw aw sw pw g dw f ew))))))))))))
 
 pub set_head_finds : Finds set_head_reader (λ h u. SpellsHead h.0 h.1 u)
 unfolding set_head_reader
@@ -51,35 +57,35 @@ set_head_finds =
     head_finds (word_is (codes "set")) _ _ (λ k kw. head_finds is_word _ _ (λ n nw. head_finds (mark_is (codes "{")) _ _ (λ o ow. then_finds words_reader _ (Parted SpellsName) _ words_finds (λ ws u h.
     head_finds (mark_is (codes ";")) _ _ (λ e ew. give_finds _ _ (head_of k n o e kw nw ow h ew))))))
 
-pub clauses_of : (levels : ℕ) {cs : List Clause} {u : List Lexeme} → Many (SpellsClause levels) cs u → SpellsClauses levels cs u
-clauses_of levels no_more = no_clause
-clauses_of levels (one_more h m) = clause_first h (clauses_of levels m)
+pub clauses_of : (version levels : ℕ) {cs : List Clause} {u : List Lexeme} → Many (SpellsClause version levels) cs u → SpellsClauses version levels cs u
+clauses_of version levels no_more = no_clause
+clauses_of version levels (one_more h m) = clause_first h (clauses_of version levels m)
 
-pub last_clause_finds : Finds last_clause_reader (SpellsClause 0)
+pub last_clause_finds : (version : ℕ) → Finds (last_clause_reader version) (SpellsClause version 0)
 unfolding last_clause_reader
-last_clause_finds =
-    either_finds (word_is (codes "key")) _ _ (SpellsClause 0) (last_finds key_reader key_clause SpellsKey (SpellsClause 0) key_finds (λ k u h. a_key h)) (last_finds ref_reader ref_clause SpellsRef (SpellsClause 0) ref_finds (λ r u h. a_ref h))
+last_clause_finds version =
+    either_finds (word_is (codes "key")) _ _ (SpellsClause version 0) (last_finds key_reader key_clause SpellsKey (SpellsClause version 0) key_finds (λ k u h. a_key h)) (last_finds (ref_reader (since_two version)) ref_clause (SpellsRef (since_two version)) (SpellsClause version 0) (ref_finds (since_two version)) (λ r u h. a_ref h))
 
-clause_with_finds : (levels : ℕ) (r : Reader Lexeme Tree) → Finds r (SpellsSet levels) → Finds (clause_reader_with r) (SpellsClause (suc levels))
+clause_with_finds : (version levels : ℕ) (r : Reader Lexeme Tree) → Finds r (SpellsSet version levels) → Finds (clause_reader_with version r) (SpellsClause version (suc levels))
 unfolding clause_reader_with
-clause_with_finds levels r one =
-    either_finds (word_is (codes "key")) _ _ (SpellsClause (suc levels)) (last_finds key_reader key_clause SpellsKey (SpellsClause (suc levels)) key_finds (λ k u h. a_key h))
-    (either_finds (word_is (codes "ref")) _ _ (SpellsClause (suc levels)) (last_finds ref_reader ref_clause SpellsRef (SpellsClause (suc levels)) ref_finds (λ r u h. a_ref h)) (last_finds r set_clause (SpellsSet levels) (SpellsClause (suc levels)) one (λ t u h. a_set h)))
+clause_with_finds version levels r one =
+    either_finds (word_is (codes "key")) _ _ (SpellsClause version (suc levels)) (last_finds key_reader key_clause SpellsKey (SpellsClause version (suc levels)) key_finds (λ k u h. a_key h))
+    (either_finds (word_is (codes "ref")) _ _ (SpellsClause version (suc levels)) (last_finds (ref_reader (since_two version)) ref_clause (SpellsRef (since_two version)) (SpellsClause version (suc levels)) (ref_finds (since_two version)) (λ r u h. a_ref h)) (last_finds r set_clause (SpellsSet version levels) (SpellsClause version (suc levels)) one (λ t u h. a_set h)))
 
-set_of_finds : (levels : ℕ) → Finds (clause_reader levels) (SpellsClause levels) → Finds (set_reader levels) (SpellsSet levels)
+set_of_finds : (version levels : ℕ) → Finds (clause_reader version levels) (SpellsClause version levels) → Finds (set_reader version levels) (SpellsSet version levels)
 unfolding set_reader_of
-set_of_finds levels one =
-    then_finds set_head_reader _ (λ h u. SpellsHead h.0 h.1 u) (SpellsSet levels) set_head_finds (λ head u h.
-    then_finds (many (begins_clause levels) (clause_reader levels)) _ (Many (SpellsClause levels)) _ (many_finds (begins_clause levels) (clause_reader levels) (SpellsClause levels) one) (λ cs v m.
-    head_finds (mark_is (codes "}")) _ _ (λ c cw. give_finds _ _ (set_of c h (clauses_of levels m) cw))))
+set_of_finds version levels one =
+    then_finds set_head_reader _ (λ h u. SpellsHead h.0 h.1 u) (SpellsSet version levels) set_head_finds (λ head u h.
+    then_finds (many (begins_clause levels) (clause_reader version levels)) _ (Many (SpellsClause version levels)) _ (many_finds (begins_clause levels) (clause_reader version levels) (SpellsClause version levels) one) (λ cs v m.
+    head_finds (mark_is (codes "}")) _ _ (λ c cw. give_finds _ _ (set_of c h (clauses_of version levels m) cw))))
 
-pub clause_finds : (levels : ℕ) → Finds (clause_reader levels) (SpellsClause levels)
+pub clause_finds : (version levels : ℕ) → Finds (clause_reader version levels) (SpellsClause version levels)
 unfolding clause_reader
-clause_finds zero = last_clause_finds
-clause_finds (suc levels) = clause_with_finds levels (set_reader levels) (set_of_finds levels (clause_finds levels))
+clause_finds version zero = last_clause_finds version
+clause_finds version (suc levels) = clause_with_finds version levels (set_reader version levels) (set_of_finds version levels (clause_finds version levels))
 
-pub set_finds : (levels : ℕ) → Finds (set_reader levels) (SpellsSet levels)
-set_finds levels = set_of_finds levels (clause_finds levels)
+pub set_finds : (version levels : ℕ) → Finds (set_reader version levels) (SpellsSet version levels)
+set_finds version levels = set_of_finds version levels (clause_finds version levels)
 
 -- ---- lines
 
@@ -185,23 +191,47 @@ rule_finds =
     then_finds optional_where _ SpellsWhere _ optional_where_finds (λ ds v g. head_finds (mark_is (codes "->")) _ _ (λ arrow aw.
     then_finds (atoms_reader true) _ (Parted (SpellsAtom true)) _ (atoms_finds true) (λ conclusion w f. head_finds (mark_is (codes ";")) _ _ (λ e ew. give_finds _ _ (rule_of k arrow e kw h g aw f ew)))))))
 
+-- ---- conditions
+
+only_finds : Finds only_reader SpellsOnly
+unfolding only_reader
+only_finds =
+    head_finds (word_is (codes "only")) _ SpellsOnly (λ k kw. then_finds place_reader _ SpellsPlace _ place_finds (λ p u h. head_finds is_word _ _ (λ t tw. head_finds (mark_is (codes ";")) _ _ (λ e ew. give_finds _ _ (only_of k t e kw h tw ew)))))
+
 -- ---- mappings
 
-item_finds : Finds item_reader SpellsItem
-unfolding item_reader
-item_finds =
-    either_finds (word_is (codes "line")) _ _ SpellsItem (last_finds line_reader line_item SpellsLine SpellsItem line_finds (λ l u h. a_line h)) (last_finds rule_reader rule_item SpellsRule SpellsItem rule_finds (λ r u h. a_rule h))
+line_item_finds : (conditions : Bool) → Finds (line_reader >>= λ l. give (line_item l)) (SpellsItem conditions)
+line_item_finds conditions = last_finds line_reader line_item SpellsLine (SpellsItem conditions) line_finds (λ l u h. a_line h)
 
-pub side_finds : (name : List ℕ) (levels : ℕ) → Finds (side_reader name levels) (SpellsSide name levels)
+rule_item_finds : (conditions : Bool) → Finds (rule_reader >>= λ r. give (rule_item r)) (SpellsItem conditions)
+rule_item_finds conditions = last_finds rule_reader rule_item SpellsRule (SpellsItem conditions) rule_finds (λ r u h. a_rule h)
+
+item_finds : (conditions : Bool) → Finds (item_reader conditions) (SpellsItem conditions)
+unfolding item_reader
+item_finds false = either_finds (word_is (codes "line")) _ _ (SpellsItem false) (line_item_finds false) (rule_item_finds false)
+item_finds true =
+    either_finds (word_is (codes "line")) _ _ (SpellsItem true) (line_item_finds true)
+    (either_finds (word_is (codes "rule")) _ _ (SpellsItem true) (rule_item_finds true) (last_finds only_reader only_item SpellsOnly (SpellsItem true) only_finds (λ o u h. a_condition h)))
+
+pub side_finds : (version : ℕ) (name : List ℕ) (levels : ℕ) → Finds (side_reader version name levels) (SpellsSide version name levels)
 unfolding side_reader
-side_finds name levels =
-    head_finds (word_is name) _ (SpellsSide name levels) (λ k kw. head_finds (mark_is (codes "{")) _ _ (λ o ow. then_finds (many (word_is (codes "set")) (set_reader levels)) _ (Many (SpellsSet levels)) _ (many_finds (word_is (codes "set")) (set_reader levels) (SpellsSet levels) (set_finds levels)) (λ trees u m.
+side_finds version name levels =
+    head_finds (word_is name) _ (SpellsSide version name levels) (λ k kw. head_finds (mark_is (codes "{")) _ _ (λ o ow. then_finds (many (word_is (codes "set")) (set_reader version levels)) _ (Many (SpellsSet version levels)) _ (many_finds (word_is (codes "set")) (set_reader version levels) (SpellsSet version levels) (set_finds version levels)) (λ trees u m.
     head_finds (mark_is (codes "}")) _ _ (λ c cw. give_finds _ _ (side_of k o c kw ow m cw)))))
+
+body_finds : (version levels : ℕ) (k n : Lexeme) → IsKeyword (codes "mapping") k → IsVersion version n → Finds (body_reader version levels) (λ m w. SpellsMapping levels m (k ∷ n ∷ w))
+unfolding body_reader
+body_finds version levels k n kw nw =
+    head_finds (mark_is (codes ";")) _ _ (λ e ew.
+    then_finds (side_reader version (codes "source") levels) _ (SpellsSide version (codes "source") levels) _ (side_finds version (codes "source") levels) (λ from u h.
+    then_finds (side_reader version (codes "target") levels) _ (SpellsSide version (codes "target") levels) _ (side_finds version (codes "target") levels) (λ to v g.
+    last_finds (many (begins_item (since_two version)) (item_reader (since_two version))) _ (Many (SpellsItem (since_two version))) _
+    (many_finds (begins_item (since_two version)) (item_reader (since_two version)) (SpellsItem (since_two version)) (item_finds (since_two version))) (λ rest w m. mapping_of k n e kw nw ew h g m))))
 
 pub mapping_finds : (levels : ℕ) → Finds (mapping_reader levels) (SpellsMapping levels)
 unfolding mapping_reader
 mapping_finds levels =
-    head_finds (word_is (codes "mapping")) _ (SpellsMapping levels) (λ k kw. head_finds (number_is (codes "1")) _ _ (λ n nw. head_finds (mark_is (codes ";")) _ _ (λ e ew.
-    then_finds (side_reader (codes "source") levels) _ (SpellsSide (codes "source") levels) _ (side_finds (codes "source") levels) (λ from u h.
-    then_finds (side_reader (codes "target") levels) _ (SpellsSide (codes "target") levels) _ (side_finds (codes "target") levels) (λ to v g.
-    last_finds (many begins_item item_reader) _ (Many SpellsItem) _ (many_finds begins_item item_reader SpellsItem item_finds) (λ rest w m. mapping_of k n e kw nw ew h g m))))))
+    head_finds (word_is (codes "mapping")) _ (SpellsMapping levels) (λ k kw.
+    either_finds (number_is (codes "1")) _ _ (λ m w. SpellsMapping levels m (k ∷ w))
+    (head_finds (number_is (codes "1")) _ _ (λ n nw. body_finds 1 levels k n kw (version_one nw)))
+    (head_finds (number_is (codes "2")) _ _ (λ n nw. body_finds 2 levels k n kw (version_two nw))))

@@ -11,15 +11,15 @@ use Rattle.dx_grammar.specs.Readers.{whole, Tells}
 use Rattle.dx_grammar.proofs.Exact.{whole_start}
 use Rattle.dx_grammar.proofs.Told.{start_take}
 use Rattle.dx_grammar.proofs.Fronts.{starts_fronts}
-use Rattle.dx_grammar.proofs.Spelled.{NotNext, whole_again, whole_finds}
+use Rattle.dx_grammar.proofs.Spelled.{whole_again, whole_finds}
 use Rattle.dx_schema_text.specs.declared.texts.MappingText.{MappingText}
-use Rattle.dx_schema_text.specs.Grammar.{word, string, words, key, ref, set_head, set_of, last_clause, clause_with, clause, set, place, places, behind_word, source, line, cell, cells, atom, atoms, derived, where_part, rule, item, side, mapping}
-use Rattle.dx_schema_text.specs.Reading.{begins_item, mapping_reader}
+use Rattle.dx_schema_text.specs.Grammar.{word, string, since_two, words, key, optional_word, ref, set_head, set_of, last_clause, clause_with, clause, set, place, places, behind_word, source, line, cell, cells, atom, atoms, derived, where_part, rule, only, item, side, body, mapping}
+use Rattle.dx_schema_text.specs.Reading.{mapping_reader}
 use Rattle.dx_schema_text.specs.Spelling.{SpellsMapping}
 use Rattle.dx_schema_text.specs.Texts.{deepest, form, deeper_form}
 use Rattle.dx_schema_text.specs.Laws.{SpelledAreTexts, StandingGoesOn}
 use Rattle.dx_schema_text.proofs.Found.{mapping_finds}
-use Rattle.dx_schema_text.proofs.Again.{mapping_again}
+use Rattle.dx_schema_text.proofs.Again.{NoItemNext, mapping_again}
 use Rattle.dx_schema_text.proofs.Telling.{mapping_tells}
 
 -- ---- what spells a mapping is a text
@@ -28,7 +28,7 @@ le_same : (n : ℕ) → n ≤ n
 le_same n = omega arith
 
 to_text : (xs : List Lexeme) → ((m : MappingText) × SpellsMapping deepest m xs) → Derives form xs
-to_text xs s = subst (Tells form xs) (whole_again (mapping_reader deepest) (SpellsMapping deepest) (NotNext begins_item) (mapping_again deepest) refl s.0 xs s.1) (mapping_tells deepest xs)
+to_text xs s = subst (Tells form xs) (whole_again (mapping_reader deepest) (SpellsMapping deepest) NoItemNext (mapping_again deepest) refl s.0 xs s.1) (mapping_tells deepest xs)
 
 to_spelled : (xs : List Lexeme) → Derives form xs → (m : MappingText) × SpellsMapping deepest m xs
 to_spelled xs d = answer (whole (mapping_reader deepest) xs) refl (mapping_tells deepest xs)
@@ -67,20 +67,25 @@ key_tokens : HasTokens key
 unfolding key
 key_tokens = (made Word (codes "key"), refl) & (made Mark (codes "("), refl) & words_tokens & (made Mark (codes ")"), refl) & (made Mark (codes ";"), refl)
 
-ref_tokens : HasTokens ref
+optional_tokens : (optionals : Bool) → HasTokens (optional_word optionals)
+unfolding optional_word
+optional_tokens false = tt
+optional_tokens true = (made Word (codes "optional"), refl) & tt
+
+ref_tokens : (optionals : Bool) → HasTokens (ref optionals)
 unfolding ref
-ref_tokens =
+ref_tokens optionals =
     (made Word (codes "ref"), refl) & (made Mark (codes "("), refl) & words_tokens & (made Mark (codes ")"), refl) & (made Mark (codes "->"), refl)
-    & w & (made Mark (codes "("), refl) & words_tokens & (made Mark (codes ")"), refl) & (made Mark (codes ";"), refl)
+    & w & (made Mark (codes "("), refl) & words_tokens & (made Mark (codes ")"), refl) & optional_tokens optionals & (made Mark (codes ";"), refl)
 
-set_tokens : (levels : ℕ) → HasTokens (clause levels) → HasTokens (set levels)
+set_tokens : (version levels : ℕ) → HasTokens (clause version levels) → HasTokens (set version levels)
 unfolding set_of set_head
-set_tokens levels c = ((made Word (codes "set"), refl) & w & (made Mark (codes "{"), refl) & words_tokens & (made Mark (codes ";"), refl)) & c & (made Mark (codes "}"), refl)
+set_tokens version levels c = ((made Word (codes "set"), refl) & w & (made Mark (codes "{"), refl) & words_tokens & (made Mark (codes ";"), refl)) & c & (made Mark (codes "}"), refl)
 
-clause_tokens : (levels : ℕ) → HasTokens (clause levels)
+clause_tokens : (version levels : ℕ) → HasTokens (clause version levels)
 unfolding clause last_clause clause_with
-clause_tokens zero = key_tokens & ref_tokens
-clause_tokens (suc levels) = key_tokens & ref_tokens & set_tokens levels (clause_tokens levels)
+clause_tokens version zero = key_tokens & ref_tokens (since_two version)
+clause_tokens version (suc levels) = key_tokens & ref_tokens (since_two version) & set_tokens version levels (clause_tokens version levels)
 
 place_tokens : HasTokens place
 unfolding place
@@ -125,18 +130,27 @@ rule_tokens : HasTokens rule
 unfolding rule
 rule_tokens = (made Word (codes "rule"), refl) & atoms_tokens false & (where_tokens & tt) & (made Mark (codes "->"), refl) & atoms_tokens true & (made Mark (codes ";"), refl)
 
-item_tokens : HasTokens item
-unfolding item
-item_tokens = line_tokens & rule_tokens
+only_tokens : HasTokens only
+unfolding only
+only_tokens = (made Word (codes "only"), refl) & place_tokens & w & (made Mark (codes ";"), refl)
 
-mapping_tokens : (levels : ℕ) → HasTokens (mapping (codes "1") levels)
-unfolding mapping side
-mapping_tokens levels =
-    let sets = set_tokens levels (clause_tokens levels) in
-    (made Word (codes "mapping"), refl) & (made Number (codes "1"), refl) & (made Mark (codes ";"), refl)
+item_tokens : (conditions : Bool) → HasTokens (item conditions)
+unfolding item
+item_tokens false = line_tokens & rule_tokens
+item_tokens true = line_tokens & rule_tokens & only_tokens
+
+body_tokens : (version levels : ℕ) → HasTokens (body version levels)
+unfolding body side
+body_tokens version levels =
+    let sets = set_tokens version levels (clause_tokens version levels) in
+    (made Mark (codes ";"), refl)
     & ((made Word (codes "source"), refl) & (made Mark (codes "{"), refl) & sets & (made Mark (codes "}"), refl))
     & ((made Word (codes "target"), refl) & (made Mark (codes "{"), refl) & sets & (made Mark (codes "}"), refl))
-    & item_tokens
+    & item_tokens (since_two version)
+
+mapping_tokens : (levels : ℕ) → HasTokens (mapping levels)
+unfolding mapping
+mapping_tokens levels = (made Word (codes "mapping"), refl) & (((made Number (codes "1"), refl) & body_tokens 1 levels) & ((made Number (codes "2"), refl) & body_tokens 2 levels))
 
 pub standing_goes_on : StandingGoesOn
 standing_goes_on = (starts_fronts form (mapping_tokens deepest), starts_fronts deeper_form (mapping_tokens 16))

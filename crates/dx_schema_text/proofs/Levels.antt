@@ -10,34 +10,34 @@ use Rattle.dx_schema_text.specs.declared.clauses.Clause.{Clause}
 use Rattle.dx_schema_text.specs.Grammar.{mark_is}
 use Rattle.dx_schema_text.specs.Reading.{last_clause_reader, clause_reader_with, clause_reader, begins_clause, set_head_reader, set_reader_of, set_reader, tree_of}
 
-pub no_level : (levels : ℕ) (xs : List Lexeme) → levels ≡ 0 → last_clause_reader xs ≡ clause_reader levels xs
+pub no_level : (version levels : ℕ) (xs : List Lexeme) → levels ≡ 0 → last_clause_reader version xs ≡ clause_reader version levels xs
 unfolding clause_reader
-no_level levels xs e = rw e refl
+no_level version levels xs e = rw e refl
 
-pub one_level : (levels : ℕ) (xs : List Lexeme) → 0 < levels → clause_reader_with (set_reader (levels - 1)) xs ≡ clause_reader levels xs
+pub one_level : (version levels : ℕ) (xs : List Lexeme) → 0 < levels → clause_reader_with version (set_reader version (levels - 1)) xs ≡ clause_reader version levels xs
 unfolding clause_reader
-one_level zero xs lt = absurd (omega arith)
-one_level (suc levels) xs lt = let e : suc levels - 1 ≡ levels = omega arith in rw e refl
+one_level version zero xs lt = absurd (omega arith)
+one_level version (suc levels) xs lt = let e : suc levels - 1 ≡ levels = omega arith in rw e refl
 
 -- ---- a set after its head
 
-abbrev clauses_in : ℕ → Reader Lexeme (List Clause)
-clauses_in levels = many (begins_clause levels) (clause_reader levels)
+abbrev clauses_in : ℕ → ℕ → Reader Lexeme (List Clause)
+clauses_in version levels = many (begins_clause levels) (clause_reader version levels)
 
-set_begun : (levels : ℕ) (xs rest : List Lexeme) (name : List ℕ) (columns : List (List ℕ)) → set_head_reader xs ≡ Ok ((name, columns), rest)
-    → set_reader levels xs ≡ (clauses_in levels >>= λ cs. token (mark_is (codes "}")) >>= λ closing. give (tree_of name columns cs)) rest
+set_begun : (version levels : ℕ) (xs rest : List Lexeme) (name : List ℕ) (columns : List (List ℕ)) → set_head_reader xs ≡ Ok ((name, columns), rest)
+    → set_reader version levels xs ≡ (clauses_in version levels >>= λ cs. token (mark_is (codes "}")) >>= λ closing. give (tree_of name columns cs)) rest
 unfolding set_reader_of
-set_begun levels xs rest name columns e = rw e refl
+set_begun version levels xs rest name columns e = rw e refl
 
-pub clauses_fail : (error : ReadError) (levels : ℕ) (xs rest : List Lexeme) (name : List ℕ) (columns : List (List ℕ)) → set_head_reader xs ≡ Ok ((name, columns), rest) → Fails error (clauses_in levels rest) → Fails error (set_reader levels xs)
-clauses_fail errors.Memory levels xs rest name columns e h = tt
-clauses_fail (errors.Left n) levels xs rest name columns e h = set_begun levels xs rest name columns e ∙ rw h refl
+pub clauses_fail : (error : ReadError) (version levels : ℕ) (xs rest : List Lexeme) (name : List ℕ) (columns : List (List ℕ)) → set_head_reader xs ≡ Ok ((name, columns), rest) → Fails error (clauses_in version levels rest) → Fails error (set_reader version levels xs)
+clauses_fail errors.Memory version levels xs rest name columns e h = tt
+clauses_fail (errors.Left n) version levels xs rest name columns e h = set_begun version levels xs rest name columns e ∙ rw h refl
 
-pub closing_fails : (error : ReadError) (levels : ℕ) (xs rest after : List Lexeme) (name : List ℕ) (columns : List (List ℕ)) (cs : List Clause) → set_head_reader xs ≡ Ok ((name, columns), rest) → clauses_in levels rest ≡ Ok (cs, after)
-    → Fails error (token (mark_is (codes "}")) after) → Fails error (set_reader levels xs)
-closing_fails errors.Memory levels xs rest after name columns cs e f h = tt
-closing_fails (errors.Left n) levels xs rest after name columns cs e f h = set_begun levels xs rest name columns e ∙ rw (f, h) refl
+pub closing_fails : (error : ReadError) (version levels : ℕ) (xs rest after : List Lexeme) (name : List ℕ) (columns : List (List ℕ)) (cs : List Clause) → set_head_reader xs ≡ Ok ((name, columns), rest) → clauses_in version levels rest ≡ Ok (cs, after)
+    → Fails error (token (mark_is (codes "}")) after) → Fails error (set_reader version levels xs)
+closing_fails errors.Memory version levels xs rest after name columns cs e f h = tt
+closing_fails (errors.Left n) version levels xs rest after name columns cs e f h = set_begun version levels xs rest name columns e ∙ rw (f, h) refl
 
-pub set_is : (levels : ℕ) (xs rest after behind : List Lexeme) (name : List ℕ) (columns : List (List ℕ)) (cs : List Clause) (closing : Lexeme) (t : Tree) → set_head_reader xs ≡ Ok ((name, columns), rest) → clauses_in levels rest ≡ Ok (cs, after)
-    → token (mark_is (codes "}")) after ≡ Ok (closing, behind) → t ≡ tree_of name columns cs → set_reader levels xs ≡ Ok (t, behind)
-set_is levels xs rest after behind name columns cs closing t e f h is = set_begun levels xs rest name columns e ∙ rw (f, h, is) refl
+pub set_is : (version levels : ℕ) (xs rest after behind : List Lexeme) (name : List ℕ) (columns : List (List ℕ)) (cs : List Clause) (closing : Lexeme) (t : Tree) → set_head_reader xs ≡ Ok ((name, columns), rest) → clauses_in version levels rest ≡ Ok (cs, after)
+    → token (mark_is (codes "}")) after ≡ Ok (closing, behind) → t ≡ tree_of name columns cs → set_reader version levels xs ≡ Ok (t, behind)
+set_is version levels xs rest after behind name columns cs closing t e f h is = set_begun version levels xs rest name columns e ∙ rw (f, h, is) refl

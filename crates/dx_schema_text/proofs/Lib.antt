@@ -10,7 +10,7 @@ pub mod Printing
 pub mod PrintScans
 pub mod PrintReads
 pub mod PrintExamples
-mod VersionOne
+pub mod Versions
 pub mod SpelledWords
 pub mod FewRules
 pub mod Fronts

@@ -1,9 +1,10 @@
 -- Worked values of printed sets.
 use Rattle.std.proofs.Common.{◌≡◌, true, false, [], ◌∷◌, refl, arith}
 use Rattle.std.specs.Prelude.{codes}
+use Rattle.dx_ports.specs.Members.{here}
 use Rattle.dx_ports.proofs.Members.{each_cons}
 use Rattle.dx_schema.specs.Forest.{Label, bare, none, set}
-use Rattle.dx_schema_text.specs.Print.{printed, IsNamed, IsOfVersionOne, AreWritable}
+use Rattle.dx_schema_text.specs.Print.{printed, IsNamed, IsOfVersion, AreWritable}
 use Rattle.dx_schema_text.proofs.PrintScans.{a_word}
 use Rattle.dx_schema_text.proofs.SpelledWords.{each_none}
 
@@ -49,11 +50,30 @@ address = record {
 later_versions : printed [] (set address none none) ≡ codes "set addr {\n  town, zip;\n  dep (zip) -> (town);\n  ref (town) -> town (tname) optional;\n}\n"
 later_versions = refl
 
-staff_of_version_one : IsOfVersionOne staff
+staff_of_version_one : IsOfVersion 1 staff
 staff_of_version_one = record { deps = refl; refs = each_none _ }
 
-unit_of_version_one : IsOfVersionOne unit
-unit_of_version_one = record { deps = refl; refs = each_cons _ _ refl (each_none _) }
+unit_of_version_one : IsOfVersion 1 unit
+unit_of_version_one = record { deps = refl; refs = each_cons _ _ (λ e. absurd cc) (each_none _) }
 
-two_levels_are_writable : AreWritable (set unit (set staff none none) (set staff none none))
-two_levels_are_writable = record { named = (unit_named, (staff_named, tt, tt), (staff_named, tt, tt)); version = (unit_of_version_one, (staff_of_version_one, tt, tt), (staff_of_version_one, tt, tt)); levels = omega arith }
+two_levels_are_writable : AreWritable 1 (set unit (set staff none none) (set staff none none))
+two_levels_are_writable = record { named = (unit_named, (staff_named, tt, tt), (staff_named, tt, tt)); sayable = (unit_of_version_one, (staff_of_version_one, tt, tt), (staff_of_version_one, tt, tt)); levels = omega arith }
+
+-- a set whose ref may lead nowhere: version 2 says it, and version 1 doesn't
+abbrev order : Label
+order = record {
+  name = codes "order";
+  columns = codes "number" ∷ codes "customer" ∷ [];
+  keys = [];
+  deps = [];
+  refs = record { columns = codes "customer" ∷ []; set = codes "customer"; referred = codes "name" ∷ []; optional = true } ∷ [];
+}
+
+order_of_version_two : IsOfVersion 2 order
+order_of_version_two = record { deps = refl; refs = each_cons _ _ (λ e. refl) (each_none _) }
+
+no_order_of_version_one : ¬ (IsOfVersion 1 order)
+no_order_of_version_one o = let no : false ≡ true = o.refs _ (here refl) refl in absurd (never no)
+  where
+    never : false ≡ true → ⊥
+    never e = absurd cc

@@ -15,11 +15,11 @@ use Rattle.dx_schema.specs.declared.sets.RefDecl.{RefDecl}
 use Rattle.dx_schema.specs.Forest.{Label, Forest, none, set, Tree, forest_of}
 use Rattle.dx_schema.specs.Faults.{depth}
 use Rattle.dx_schema_text.specs.declared.clauses.Clause.{Clause}
-use Rattle.dx_schema_text.specs.Reading.{reference_of, key_clause, ref_clause, set_clause, keys_among, refs_among, sets_among, tree_of}
-use Rattle.dx_schema_text.specs.Grammar.{word_is}
-use Rattle.dx_schema_text.specs.Spelling.{IsMark, IsWord, Comma, comma_then, Parted, parted, SpellsName, name_of, SpellsKey, key_of, SpellsRef, ref_of, SpellsHead, head_of, SpellsSet, set_of, SpellsClauses, no_clause, clause_first, a_key, a_ref, a_set, SpellsSide, side_of, SpellsMapping, mapping_of}
+use Rattle.dx_schema_text.specs.Reading.{key_clause, ref_clause, set_clause, keys_among, refs_among, sets_among, tree_of}
+use Rattle.dx_schema_text.specs.Grammar.{word_is, since_two}
+use Rattle.dx_schema_text.specs.Spelling.{IsMark, IsWord, Comma, comma_then, Parted, parted, SpellsName, name_of, SpellsKey, key_of, SpellsOptional, not_optional, is_optional, SpellsRef, ref_of, SpellsHead, head_of, SpellsSet, set_of, SpellsClauses, no_clause, clause_first, a_key, a_ref, a_set, SpellsSide, side_of, IsVersion, version_one, version_two, SpellsMapping, mapping_of}
 use Rattle.dx_schema_text.specs.Texts.{deepest, IsMappingText}
-use Rattle.dx_schema_text.specs.Print.{names_text, wider, key_line, dep_line, ref_line, head_lines, front_lines, last_line, printed, AreNames, IsNamedRef, IsNamed, AreNamed, IsOfVersionOne, AreOfVersionOne, AreWritable, sides_text, sides, IsReadAgain}
+use Rattle.dx_schema_text.specs.Print.{names_text, optional_text, wider, key_line, dep_line, ref_line, head_lines, front_lines, last_line, printed, AreNames, IsNamedRef, IsNamed, AreNamed, IsOfVersion, AreOfVersion, AreWritable, IsKnown, the_first, the_second, digit_of, sides_text, sides, IsReadAgain}
 use Rattle.dx_schema_text.proofs.PrintScans.{Reads, EndsWord, lexeme, no_token, token_then, word_then, mark_then, blanks_then, both_then, told_as, each_passes, a_word, each_append, reads_all}
 
 abbrev AreBlank : List ℕ → Type 0
@@ -75,25 +75,37 @@ key_read margin k place tail blank named =
     (blanks_then _ (codes "\n") tail tail _ (each_passes is_blank (codes "\n") refl)
     (no_token _ _ tail (key_of _ _ _ _ refl refl h refl refl))))))))))
 
--- a ref that isn't optional
-abbrev firm : RefDecl → RefDecl
-firm r = reference_of r.columns r.set r.referred
+no_optional : ¬ (false ≡ true)
+no_optional e = absurd cc
 
-firm_is : (r : RefDecl) → r.optional ≡ false → firm r ≡ r
-firm_is r e = ap (λ (b : Bool). record { columns = r.columns; set = r.set; referred = r.referred; optional = b }) (sym e)
+-- the end of a ref, after its last bracket
+optional_end : (b : Bool) (optionals : Bool) (place : ℕ) (tail : List ℕ) → (b ≡ true → optionals ≡ true) → (R : List Lexeme → Type 0) → ((w : List Lexeme) (e : Lexeme) → SpellsOptional optionals b w → IsMark (codes ";") e → R (w ++ e ∷ []))
+    → Reads R place (optional_text b ++ (codes ";\n" ++ tail)) tail
+optional_end false optionals place tail sayable R made =
+    mark_then _ (codes ";") _ tail _ refl
+    (blanks_then _ (codes "\n") tail tail _ (each_passes is_blank (codes "\n") refl)
+    (no_token _ _ tail (made [] _ not_optional refl)))
+optional_end true true place tail sayable R made =
+    blanks_then _ (codes " ") _ tail _ (each_passes is_blank (codes " ") refl)
+    (word_then _ (codes "optional") _ tail _ (a_word (codes "optional") refl) refl
+    (mark_then _ (codes ";") _ tail _ refl
+    (blanks_then _ (codes "\n") tail tail _ (each_passes is_blank (codes "\n") refl)
+    (no_token _ _ tail (made (_ ∷ []) _ (is_optional _ refl) refl)))))
+optional_end true false place tail sayable R made = absurd (no_optional (sayable refl))
 
 ref_flat : (margin : List ℕ) (r : RefDecl) (tail : List ℕ)
-    → ref_line margin (firm r) ++ tail ≡ margin ++ (codes "ref (" ++ (names_text r.columns ++ (codes ") -> " ++ (r.set ++ (codes " (" ++ (names_text r.referred ++ (codes ");\n" ++ tail)))))))
+    → ref_line margin r ++ tail ≡ margin ++ (codes "ref (" ++ (names_text r.columns ++ (codes ") -> " ++ (r.set ++ (codes " (" ++ (names_text r.referred ++ (codes ")" ++ (optional_text r.optional ++ (codes ";\n" ++ tail)))))))))
 ref_flat margin r tail = simp append_assoc
 
-firm_read : (margin : List ℕ) (r : RefDecl) (place : ℕ) (tail : List ℕ) → AreBlank margin → IsNamedRef r → Reads (SpellsRef (firm r)) place (ref_line margin (firm r) ++ tail) tail
-firm_read margin r place tail blank named =
-    subst (λ (text : List ℕ). Reads (SpellsRef (firm r)) place text tail) (sym (ref_flat margin r tail))
+ref_read : (margin : List ℕ) (r : RefDecl) (optionals : Bool) (place : ℕ) (tail : List ℕ) → AreBlank margin → IsNamedRef r → (r.optional ≡ true → optionals ≡ true) → Reads (SpellsRef optionals r) place (ref_line margin r ++ tail) tail
+ref_read margin r optionals place tail blank named sayable =
+    let end = optional_text r.optional ++ (codes ";\n" ++ tail) in
+    subst (λ (text : List ℕ). Reads (SpellsRef optionals r) place text tail) (sym (ref_flat margin r tail))
     (blanks_then _ margin _ tail place blank
     (word_then _ (codes "ref") _ tail _ (a_word (codes "ref") refl) refl
     (blanks_then _ (codes " ") _ tail _ (each_passes is_blank (codes " ") refl)
     (mark_then _ (codes "(") _ tail _ refl
-    (both_then (Parted SpellsName r.columns) _ _ _ tail _ (names_read r.columns _ (codes ") -> " ++ (r.set ++ (codes " (" ++ (names_text r.referred ++ (codes ");\n" ++ tail))))) named.columns refl) (λ u after h.
+    (both_then (Parted SpellsName r.columns) _ _ _ tail _ (names_read r.columns _ (codes ") -> " ++ (r.set ++ (codes " (" ++ (names_text r.referred ++ (codes ")" ++ end))))) named.columns refl) (λ u after h.
     mark_then _ (codes ")") _ tail _ refl
     (blanks_then _ (codes " ") _ tail _ (each_passes is_blank (codes " ") refl)
     (mark_then _ (codes "->") _ tail _ refl
@@ -101,33 +113,27 @@ firm_read margin r place tail blank named =
     (word_then _ r.set _ tail _ named.refers refl
     (blanks_then _ (codes " ") _ tail _ (each_passes is_blank (codes " ") refl)
     (mark_then _ (codes "(") _ tail _ refl
-    (both_then (Parted SpellsName r.referred) _ _ _ tail _ (names_read r.referred _ (codes ");\n" ++ tail) named.referred refl) (λ v behind g.
+    (both_then (Parted SpellsName r.referred) _ _ _ tail _ (names_read r.referred _ (codes ")" ++ end) named.referred refl) (λ v behind g.
     mark_then _ (codes ")") _ tail _ refl
-    (mark_then _ (codes ";") _ tail _ refl
-    (blanks_then _ (codes "\n") tail tail _ (each_passes is_blank (codes "\n") refl)
-    (no_token _ _ tail (ref_of _ _ _ _ _ _ _ _ refl refl h refl refl refl refl g refl refl))))))))))))))))))
-
-ref_read : (margin : List ℕ) (r : RefDecl) (place : ℕ) (tail : List ℕ) → AreBlank margin → IsNamedRef r → r.optional ≡ false → Reads (SpellsRef r) place (ref_line margin r ++ tail) tail
-ref_read margin r place tail blank named e =
-    subst (λ (q : RefDecl). Reads (SpellsRef q) place (ref_line margin q ++ tail) tail) (firm_is r e) (firm_read margin r place tail blank named)
+    (optional_end r.optional optionals _ tail sayable _ (λ w e is ew. ref_of _ _ _ _ _ _ _ _ refl refl h refl refl refl refl g refl is ew))))))))))))))))
 
 -- keys before other clauses, and refs
-keys_read : (levels : ℕ) (margin : List ℕ) (ks : List KeyDecl) (cs : List Clause) (tail more : List ℕ) → AreBlank margin → Each ks (λ k. AreNames k.columns) → ((p : ℕ) → Reads (SpellsClauses levels cs) p tail more)
-    → (place : ℕ) → Reads (SpellsClauses levels (map key_clause ks ++ cs)) place (flat_map (key_line margin) ks ++ tail) more
-keys_read levels margin [] cs tail more blank each on place = on place
-keys_read levels margin (k ∷ ks) cs tail more blank each on place =
-    subst (λ (text : List ℕ). Reads (SpellsClauses levels (map key_clause (k ∷ ks) ++ cs)) place text more) (sym (append_assoc (key_line margin k) (flat_map (key_line margin) ks) tail))
+keys_read : (version levels : ℕ) (margin : List ℕ) (ks : List KeyDecl) (cs : List Clause) (tail more : List ℕ) → AreBlank margin → Each ks (λ k. AreNames k.columns) → ((p : ℕ) → Reads (SpellsClauses version levels cs) p tail more)
+    → (place : ℕ) → Reads (SpellsClauses version levels (map key_clause ks ++ cs)) place (flat_map (key_line margin) ks ++ tail) more
+keys_read version levels margin [] cs tail more blank each on place = on place
+keys_read version levels margin (k ∷ ks) cs tail more blank each on place =
+    subst (λ (text : List ℕ). Reads (SpellsClauses version levels (map key_clause (k ∷ ks) ++ cs)) place text more) (sym (append_assoc (key_line margin k) (flat_map (key_line margin) ks) tail))
     (both_then (SpellsKey k) _ _ _ more place (key_read margin k place _ blank (each k (here refl))) (λ u after h.
-    told_as (SpellsClauses levels (map key_clause ks ++ cs)) _ _ more after (keys_read levels margin ks cs tail more blank (λ x m. each x (there m)) on after) (λ v c. clause_first (a_key h) c)))
+    told_as (SpellsClauses version levels (map key_clause ks ++ cs)) _ _ more after (keys_read version levels margin ks cs tail more blank (λ x m. each x (there m)) on after) (λ v c. clause_first (a_key h) c)))
 
-refs_read : (levels : ℕ) (margin : List ℕ) (rs : List RefDecl) (cs : List Clause) (tail more : List ℕ) → AreBlank margin → Each rs IsNamedRef → Each rs (λ r. r.optional ≡ false)
-    → ((p : ℕ) → Reads (SpellsClauses levels cs) p tail more)
-    → (place : ℕ) → Reads (SpellsClauses levels (map ref_clause rs ++ cs)) place (flat_map (ref_line margin) rs ++ tail) more
-refs_read levels margin [] cs tail more blank each all_firm on place = on place
-refs_read levels margin (r ∷ rs) cs tail more blank each all_firm on place =
-    subst (λ (text : List ℕ). Reads (SpellsClauses levels (map ref_clause (r ∷ rs) ++ cs)) place text more) (sym (append_assoc (ref_line margin r) (flat_map (ref_line margin) rs) tail))
-    (both_then (SpellsRef r) _ _ _ more place (ref_read margin r place _ blank (each r (here refl)) (all_firm r (here refl))) (λ u after h.
-    told_as (SpellsClauses levels (map ref_clause rs ++ cs)) _ _ more after (refs_read levels margin rs cs tail more blank (λ x m. each x (there m)) (λ x m. all_firm x (there m)) on after) (λ v c. clause_first (a_ref h) c)))
+refs_read : (version levels : ℕ) (margin : List ℕ) (rs : List RefDecl) (cs : List Clause) (tail more : List ℕ) → AreBlank margin → Each rs IsNamedRef → Each rs (λ r. r.optional ≡ true → since_two version ≡ true)
+    → ((p : ℕ) → Reads (SpellsClauses version levels cs) p tail more)
+    → (place : ℕ) → Reads (SpellsClauses version levels (map ref_clause rs ++ cs)) place (flat_map (ref_line margin) rs ++ tail) more
+refs_read version levels margin [] cs tail more blank each sayable on place = on place
+refs_read version levels margin (r ∷ rs) cs tail more blank each sayable on place =
+    subst (λ (text : List ℕ). Reads (SpellsClauses version levels (map ref_clause (r ∷ rs) ++ cs)) place text more) (sym (append_assoc (ref_line margin r) (flat_map (ref_line margin) rs) tail))
+    (both_then (SpellsRef (since_two version) r) _ _ _ more place (ref_read margin r (since_two version) place _ blank (each r (here refl)) (sayable r (here refl))) (λ u after h.
+    told_as (SpellsClauses version levels (map ref_clause rs ++ cs)) _ _ more after (refs_read version levels margin rs cs tail more blank (λ x m. each x (there m)) (λ x m. sayable x (there m)) on after) (λ v c. clause_first (a_ref h) c)))
 
 -- ---- the clauses of a set
 
@@ -218,26 +224,26 @@ front_flat margin l tail no_deps =
     ∙ ap (λ (xs : List ℕ). head_lines margin l ++ xs) (append_assoc (flat_map (key_line (wider margin)) l.keys) (flat_map (ref_line (wider margin)) l.refs) tail)
 
 -- the inner sets of a set as its clauses
-abbrev InnerRead : ℕ → List ℕ → Forest → Type 0
-InnerRead levels margin f = (place : ℕ) (tail : List ℕ) → Reads (SpellsClauses levels (set_clauses f)) place (printed margin f ++ tail) tail
+abbrev InnerRead : ℕ → ℕ → List ℕ → Forest → Type 0
+InnerRead version levels margin f = (place : ℕ) (tail : List ℕ) → Reads (SpellsClauses version levels (set_clauses f)) place (printed margin f ++ tail) tail
 
-set_closed : (levels : ℕ) (l : Label) (inner : Forest) (u v : List Lexeme) (c : Lexeme) → l.deps ≡ [] → SpellsHead l.name l.columns u → SpellsClauses levels (clauses_of l inner) v → IsMark (codes "}") c
-    → SpellsSet levels (record { label = l; inner = inner }) (u ++ (v ++ c ∷ []))
-set_closed levels l inner u v c no_deps head clauses closing = subst (λ (t : Tree). SpellsSet levels t (u ++ (v ++ c ∷ []))) (tree_is l inner no_deps) (set_of c head clauses closing)
+set_closed : (version levels : ℕ) (l : Label) (inner : Forest) (u v : List Lexeme) (c : Lexeme) → l.deps ≡ [] → SpellsHead l.name l.columns u → SpellsClauses version levels (clauses_of l inner) v → IsMark (codes "}") c
+    → SpellsSet version levels (record { label = l; inner = inner }) (u ++ (v ++ c ∷ []))
+set_closed version levels l inner u v c no_deps head clauses closing = subst (λ (t : Tree). SpellsSet version levels t (u ++ (v ++ c ∷ []))) (tree_is l inner no_deps) (set_of c head clauses closing)
 
-set_read : (levels : ℕ) (margin : List ℕ) (l : Label) (inner : Forest) (place : ℕ) (more : List ℕ) → AreBlank margin → IsNamed l → IsOfVersionOne l → InnerRead levels (wider margin) inner
-    → Reads (SpellsSet levels (record { label = l; inner = inner })) place (front_lines margin l ++ (printed (wider margin) inner ++ (last_line margin ++ more))) more
-set_read levels margin l inner place more blank named first on =
-    subst (λ (text : List ℕ). Reads (SpellsSet levels (record { label = l; inner = inner })) place text more) (sym (front_flat margin l (printed (wider margin) inner ++ (last_line margin ++ more)) first.deps))
+set_read : (version levels : ℕ) (margin : List ℕ) (l : Label) (inner : Forest) (place : ℕ) (more : List ℕ) → AreBlank margin → IsNamed l → IsOfVersion version l → InnerRead version levels (wider margin) inner
+    → Reads (SpellsSet version levels (record { label = l; inner = inner })) place (front_lines margin l ++ (printed (wider margin) inner ++ (last_line margin ++ more))) more
+set_read version levels margin l inner place more blank named first on =
+    subst (λ (text : List ℕ). Reads (SpellsSet version levels (record { label = l; inner = inner })) place text more) (sym (front_flat margin l (printed (wider margin) inner ++ (last_line margin ++ more)) first.deps))
     (both_then (SpellsHead l.name l.columns) _ _ _ more place (head_read margin l place _ blank named) (λ u after h.
-    both_then (SpellsClauses levels (clauses_of l inner)) _ _ (last_line margin ++ more) more after
-    (keys_read levels (wider margin) l.keys (map ref_clause l.refs ++ set_clauses inner) _ (last_line margin ++ more) (wider_blank margin blank) named.keys
-    (refs_read levels (wider margin) l.refs (set_clauses inner) _ (last_line margin ++ more) (wider_blank margin blank) named.refs first.refs (λ p. on p (last_line margin ++ more))) after) (λ v behind c.
-    subst (λ (text : List ℕ). Reads (λ w. SpellsSet levels (record { label = l; inner = inner }) (u ++ (v ++ w))) behind text more) (sym (append_assoc margin (codes "}\n") more))
+    both_then (SpellsClauses version levels (clauses_of l inner)) _ _ (last_line margin ++ more) more after
+    (keys_read version levels (wider margin) l.keys (map ref_clause l.refs ++ set_clauses inner) _ (last_line margin ++ more) (wider_blank margin blank) named.keys
+    (refs_read version levels (wider margin) l.refs (set_clauses inner) _ (last_line margin ++ more) (wider_blank margin blank) named.refs first.refs (λ p. on p (last_line margin ++ more))) after) (λ v behind c.
+    subst (λ (text : List ℕ). Reads (λ w. SpellsSet version levels (record { label = l; inner = inner }) (u ++ (v ++ w))) behind text more) (sym (append_assoc margin (codes "}\n") more))
     (blanks_then _ margin _ more _ blank
     (mark_then _ (codes "}") _ more _ refl
     (blanks_then _ (codes "\n") more more _ (each_passes is_blank (codes "\n") refl)
-    (no_token _ _ more (set_closed levels l inner u v _ first.deps h c refl))))))))
+    (no_token _ _ more (set_closed version levels l inner u v _ first.deps h c refl))))))))
 
 level_flat : (margin : List ℕ) (l : Label) (inner rest : Forest) (tail : List ℕ)
     → printed margin (set l inner rest) ++ tail ≡ front_lines margin l ++ (printed (wider margin) inner ++ (last_line margin ++ (printed margin rest ++ tail)))
@@ -245,14 +251,14 @@ level_flat margin l inner rest tail =
     append_assoc (front_lines margin l) _ tail ∙ ap (λ (xs : List ℕ). front_lines margin l ++ xs) (append_assoc (printed (wider margin) inner) _ tail
     ∙ ap (λ (xs : List ℕ). printed (wider margin) inner ++ xs) (append_assoc (last_line margin) (printed margin rest) tail))
 
-inner_read : (f : Forest) (levels : ℕ) (margin : List ℕ) → AreBlank margin → AreNamed f → AreOfVersionOne f → depth f ≤ levels → InnerRead levels margin f
-inner_read none levels margin blank named first deep place tail = no_token _ place tail no_clause
-inner_read (set l i r) zero margin blank named first deep place tail = absurd (omega arith)
-inner_read (set l i r) (suc n) margin blank named first deep place tail =
-    subst (λ (text : List ℕ). Reads (SpellsClauses (suc n) (set_clauses (set l i r))) place text tail) (sym (level_flat margin l i r tail))
-    (both_then (SpellsSet n (record { label = l; inner = i })) _ _ (printed margin r ++ tail) tail place
-    (set_read n margin l i place (printed margin r ++ tail) blank named.0 first.0 (inner_read i n (wider margin) (wider_blank margin blank) named.1 first.1 (omega arith))) (λ u after h.
-    told_as (SpellsClauses (suc n) (set_clauses r)) _ _ tail after (inner_read r (suc n) margin blank named.2 first.2 (omega arith) after tail) (λ v c. clause_first (a_set h) c)))
+inner_read : (version : ℕ) (f : Forest) (levels : ℕ) (margin : List ℕ) → AreBlank margin → AreNamed f → AreOfVersion version f → depth f ≤ levels → InnerRead version levels margin f
+inner_read version none levels margin blank named first deep place tail = no_token _ place tail no_clause
+inner_read version (set l i r) zero margin blank named first deep place tail = absurd (omega arith)
+inner_read version (set l i r) (suc n) margin blank named first deep place tail =
+    subst (λ (text : List ℕ). Reads (SpellsClauses version (suc n) (set_clauses (set l i r))) place text tail) (sym (level_flat margin l i r tail))
+    (both_then (SpellsSet version n (record { label = l; inner = i })) _ _ (printed margin r ++ tail) tail place
+    (set_read version n margin l i place (printed margin r ++ tail) blank named.0 first.0 (inner_read version i n (wider margin) (wider_blank margin blank) named.1 first.1 (omega arith))) (λ u after h.
+    told_as (SpellsClauses version (suc n) (set_clauses r)) _ _ tail after (inner_read version r (suc n) margin blank named.2 first.2 (omega arith) after tail) (λ v c. clause_first (a_set h) c)))
 
 -- ---- sides
 
@@ -264,48 +270,57 @@ forest_is : (f : Forest) → forest_of (trees_of f) ≡ f
 forest_is none = refl
 forest_is (set l i r) = ap (λ f. set l i f) (forest_is r)
 
-sets_read : (f : Forest) (levels : ℕ) (margin : List ℕ) → AreBlank margin → AreNamed f → AreOfVersionOne f → depth f ≤ suc levels → (place : ℕ) (tail : List ℕ) → Reads (Many (SpellsSet levels) (trees_of f)) place (printed margin f ++ tail) tail
-sets_read none levels margin blank named first deep place tail = no_token _ place tail no_more
-sets_read (set l i r) n margin blank named first deep place tail =
-    subst (λ (text : List ℕ). Reads (Many (SpellsSet n) (trees_of (set l i r))) place text tail) (sym (level_flat margin l i r tail))
-    (both_then (SpellsSet n (record { label = l; inner = i })) _ _ (printed margin r ++ tail) tail place
-    (set_read n margin l i place (printed margin r ++ tail) blank named.0 first.0 (inner_read i n (wider margin) (wider_blank margin blank) named.1 first.1 (omega arith))) (λ u after h.
-    told_as (Many (SpellsSet n) (trees_of r)) _ _ tail after (sets_read r n margin blank named.2 first.2 (omega arith) after tail) (λ v c. one_more h c)))
+sets_read : (version : ℕ) (f : Forest) (levels : ℕ) (margin : List ℕ) → AreBlank margin → AreNamed f → AreOfVersion version f → depth f ≤ suc levels → (place : ℕ) (tail : List ℕ) → Reads (Many (SpellsSet version levels) (trees_of f)) place (printed margin f ++ tail) tail
+sets_read version none levels margin blank named first deep place tail = no_token _ place tail no_more
+sets_read version (set l i r) n margin blank named first deep place tail =
+    subst (λ (text : List ℕ). Reads (Many (SpellsSet version n) (trees_of (set l i r))) place text tail) (sym (level_flat margin l i r tail))
+    (both_then (SpellsSet version n (record { label = l; inner = i })) _ _ (printed margin r ++ tail) tail place
+    (set_read version n margin l i place (printed margin r ++ tail) blank named.0 first.0 (inner_read version i n (wider margin) (wider_blank margin blank) named.1 first.1 (omega arith))) (λ u after h.
+    told_as (Many (SpellsSet version n) (trees_of r)) _ _ tail after (sets_read version r n margin blank named.2 first.2 (omega arith) after tail) (λ v c. one_more h c)))
 
-side_closed : (name : List ℕ) (f : Forest) (k o c : Lexeme) (u : List Lexeme) → word_is name k ≡ true → IsMark (codes "{") o → Many (SpellsSet deepest) (trees_of f) u → IsMark (codes "}") c
-    → SpellsSide name deepest f (k ∷ o ∷ (u ++ c ∷ []))
-side_closed name f k o c u word opening sets closing = subst (λ (g : Forest). SpellsSide name deepest g (k ∷ o ∷ (u ++ c ∷ []))) (forest_is f) (side_of k o c word opening sets closing)
+side_closed : (version : ℕ) (name : List ℕ) (f : Forest) (k o c : Lexeme) (u : List Lexeme) → word_is name k ≡ true → IsMark (codes "{") o → Many (SpellsSet version deepest) (trees_of f) u → IsMark (codes "}") c
+    → SpellsSide version name deepest f (k ∷ o ∷ (u ++ c ∷ []))
+side_closed version name f k o c u word opening sets closing = subst (λ (g : Forest). SpellsSide version name deepest g (k ∷ o ∷ (u ++ c ∷ []))) (forest_is f) (side_of k o c word opening sets closing)
 
-side_read : (name : List ℕ) (f : Forest) (place : ℕ) (more : List ℕ) → lexing.IsWord name → word_is name (lexeme 0 Word name) ≡ true → AreWritable f
-    → Reads (SpellsSide name deepest f) place (name ++ (codes " {\n" ++ (printed [] f ++ (codes "}\n" ++ more)))) more
-side_read name f place more word is w =
+side_read : (version : ℕ) (name : List ℕ) (f : Forest) (place : ℕ) (more : List ℕ) → lexing.IsWord name → word_is name (lexeme 0 Word name) ≡ true → AreWritable version f
+    → Reads (SpellsSide version name deepest f) place (name ++ (codes " {\n" ++ (printed [] f ++ (codes "}\n" ++ more)))) more
+side_read version name f place more word is w =
     word_then _ name _ more _ word refl
     (blanks_then _ (codes " ") _ more _ (each_passes is_blank (codes " ") refl)
     (mark_then _ (codes "{") _ more _ refl
     (blanks_then _ (codes "\n") _ more _ (each_passes is_blank (codes "\n") refl)
-    (both_then (Many (SpellsSet deepest) (trees_of f)) _ _ _ more _ (sets_read f deepest [] (each_passes is_blank [] refl) w.named w.version w.levels _ (codes "}\n" ++ more)) (λ u after h.
+    (both_then (Many (SpellsSet version deepest) (trees_of f)) _ _ _ more _ (sets_read version f deepest [] (each_passes is_blank [] refl) w.named w.sayable w.levels _ (codes "}\n" ++ more)) (λ u after h.
     mark_then _ (codes "}") _ more _ refl
     (blanks_then _ (codes "\n") more more _ (each_passes is_blank (codes "\n") refl)
-    (no_token _ _ more (side_closed name f _ _ _ u is refl h refl))))))))
+    (no_token _ _ more (side_closed version name f _ _ _ u is refl h refl))))))))
 
-mapping_read : (from to : Forest) → AreWritable from → AreWritable to → Reads (SpellsMapping deepest (sides from to)) 0 (sides_text (printed [] from) (printed [] to)) []
-mapping_read from to f t =
+-- the digit of a version is a number, and it tells the version
+digit_text : {version : ℕ} → IsKnown version → lexing.IsTokenText Number (digit_of version)
+digit_text the_first = (refl, each_passes is_digit [] refl)
+digit_text the_second = (refl, each_passes is_digit [] refl)
+
+digit_tells : {version : ℕ} → IsKnown version → (place : ℕ) → IsVersion version (lexeme place Number (digit_of version))
+digit_tells the_first place = version_one refl
+digit_tells the_second place = version_two refl
+
+mapping_read : (version : ℕ) (from to : Forest) → IsKnown version → AreWritable version from → AreWritable version to → Reads (SpellsMapping deepest (sides version from to)) 0 (sides_text version (printed [] from) (printed [] to)) []
+mapping_read version from to known f t =
     word_then _ (codes "mapping") _ [] 0 (a_word (codes "mapping") refl) refl
     (blanks_then _ (codes " ") _ [] _ (each_passes is_blank (codes " ") refl)
-    (token_then _ Number (codes "1") _ [] _ (refl, each_passes is_digit [] refl) refl
+    (token_then _ Number (digit_of version) _ [] _ (digit_text known) refl
     (mark_then _ (codes ";") _ [] _ refl
     (blanks_then _ (codes "\n") _ [] _ (each_passes is_blank (codes "\n") refl)
-    (both_then (SpellsSide (codes "source") deepest from) _ _ _ [] _ (side_read (codes "source") from _ (codes "target {\n" ++ (printed [] to ++ codes "}\n")) (a_word (codes "source") refl) refl f) (λ u after h.
-    both_then (SpellsSide (codes "target") deepest to) _ _ [] [] _ (side_read (codes "target") to _ [] (a_word (codes "target") refl) refl t) (λ v behind g.
-    no_token _ _ [] (mapping_of _ _ _ refl refl refl h g no_more))))))))
+    (both_then (SpellsSide version (codes "source") deepest from) _ _ _ [] _ (side_read version (codes "source") from _ (codes "target {\n" ++ (printed [] to ++ codes "}\n")) (a_word (codes "source") refl) refl f) (λ u after h.
+    both_then (SpellsSide version (codes "target") deepest to) _ _ [] [] _ (side_read version (codes "target") to _ [] (a_word (codes "target") refl) refl t) (λ v behind g.
+    no_token _ _ [] (mapping_of _ _ _ refl (digit_tells known _) refl h g no_more))))))))
 
-pub mapping_of_sides : (from to : Forest) → AreWritable from → AreWritable to → IsMappingText (sides_text (printed [] from) (printed [] to)) (sides from to)
-mapping_of_sides from to f t = let r = reads_all (SpellsMapping deepest (sides from to)) _ (mapping_read from to f t) in record { no_stop = r.no_stop; spelled = r.has }
+pub mapping_of_sides : (version : ℕ) (from to : Forest) → IsKnown version → AreWritable version from → AreWritable version to → IsMappingText (sides_text version (printed [] from) (printed [] to)) (sides version from to)
+mapping_of_sides version from to known f t = let r = reads_all (SpellsMapping deepest (sides version from to)) _ (mapping_read version from to known f t) in record { no_stop = r.no_stop; spelled = r.has }
 
-pub read_again : (trees : Forest) (text : List ℕ) → text ≡ printed [] trees → AreWritable trees → IsReadAgain trees text
-read_again trees text is w = record {
-  source = λ others o. rw is (mapping_of_sides trees others w o);
-  target = λ others o. rw is (mapping_of_sides others trees o w);
+pub read_again : (version : ℕ) (trees : Forest) (text : List ℕ) → text ≡ printed [] trees → IsKnown version → AreWritable version trees → IsReadAgain version trees text
+read_again version trees text is known w = record {
+  source = λ others o. rw is (mapping_of_sides version trees others known w o);
+  target = λ others o. rw is (mapping_of_sides version others trees known o w);
 }
 
 -- what is printed at once

@@ -1,5 +1,5 @@
 -- The names of sets that are read are words, each list of them has one, and no set is too deep.
-use Rattle.std.proofs.Common.{◌≡◌, ℕ, suc, ◌≤◌, true, List, [], ◌∷◌, ◌++◌, refl, arith}
+use Rattle.std.proofs.Common.{◌≡◌, ℕ, suc, ◌≤◌, Bool, true, List, [], ◌∷◌, ◌++◌, refl, arith}
 use Rattle.dx_ports.specs.Members.{Each}
 use Rattle.dx_ports.proofs.Members.{each_cons}
 use Rattle.dx_tokens.specs.declared.tokenizer.TokenKind.{TokenKind}
@@ -18,7 +18,7 @@ use Rattle.dx_schema_text.specs.Grammar.{is_word_kind}
 use Rattle.dx_schema_text.specs.Reading.{keys_among, refs_among, sets_among}
 use Rattle.dx_schema_text.specs.Spelling.{IsWord as IsWordToken, Comma, comma_then, Parted, parted, SpellsName, name_of, SpellsKey, key_of, SpellsRef, ref_of, SpellsHead, head_of, SpellsSet, set_of, SpellsClauses, no_clause, clause_first, SpellsClause, a_key, a_ref, a_set, SpellsSide, side_of, SpellsMapping, mapping_of}
 use Rattle.dx_schema_text.specs.Texts.{IsMappingText}
-use Rattle.dx_schema_text.proofs.VersionOne.{mapping_of_version_one}
+use Rattle.dx_schema_text.proofs.Versions.{said_sayable}
 use Rattle.dx_schema_text.specs.Print.{AreNames, IsNamedRef, IsNamed, AreNamed, AreWritable}
 
 -- a token that can stand for a word is one
@@ -62,10 +62,11 @@ names_right (parted {u = u} {v = v} n m) h = (name_right n (right_front u v h), 
 key_right : {k : KeyDecl} {a : List Lexeme} → SpellsKey k a → WordsAreRight a → AreNames k.columns
 key_right (key_of {u = u} k o c e kw ow names cw ew) h = names_right names (right_front u (c ∷ e ∷ []) h.1.1)
 
-ref_right : {r : RefDecl} {a : List Lexeme} → SpellsRef r a → WordsAreRight a → IsNamedRef r
-ref_right (ref_of {u = u} {v = v} k o c arrow s p d e kw ow names cw aw sw pw more dw ew) h =
-    let back = right_back u (c ∷ arrow ∷ s ∷ p ∷ (v ++ d ∷ e ∷ [])) h.1.1 in
-    record { columns = names_right names (right_front u (c ∷ arrow ∷ s ∷ p ∷ (v ++ d ∷ e ∷ [])) h.1.1); refers = word_right s sw back.1.1.0; referred = names_right more (right_front v (d ∷ e ∷ []) back.1.1.1.1) }
+ref_right : {optionals : Bool} {r : RefDecl} {a : List Lexeme} → SpellsRef optionals r a → WordsAreRight a → IsNamedRef r
+ref_right (ref_of {u = u} {v = v} {w = w} k o c arrow s p d e kw ow names cw aw sw pw more dw is ew) h =
+    let tail = d ∷ (w ++ e ∷ []) in
+    let back = right_back u (c ∷ arrow ∷ s ∷ p ∷ (v ++ tail)) h.1.1 in
+    record { columns = names_right names (right_front u (c ∷ arrow ∷ s ∷ p ∷ (v ++ tail)) h.1.1); refers = word_right s sw back.1.1.0; referred = names_right more (right_front v tail back.1.1.1.1) }
 
 head_right : {name : List ℕ} {columns : List (List ℕ)} {a : List Lexeme} → SpellsHead name columns a → WordsAreRight a → IsWord name × AreNames columns
 head_right (head_of {u = u} k n o e kw nw ow names ew) h = (word_right n nw h.1.0, names_right names (right_front u (e ∷ []) h.1.1.1))
@@ -75,29 +76,29 @@ abbrev AreRight : ℕ → List Clause → Type 0
 AreRight levels cs = Each (keys_among cs) (λ (k : KeyDecl). AreNames k.columns) × Each (refs_among cs) IsNamedRef × AreNamed (sets_among cs) × (depth (sets_among cs) ≤ levels)
 
 mutual
-  set_right : {levels : ℕ} {t : Tree} {a : List Lexeme} → SpellsSet levels t a → WordsAreRight a → IsNamed t.label × AreNamed t.inner × (depth t.inner ≤ levels)
+  set_right : {version levels : ℕ} {t : Tree} {a : List Lexeme} → SpellsSet version levels t a → WordsAreRight a → IsNamed t.label × AreNamed t.inner × (depth t.inner ≤ levels)
   set_right (set_of {u = u} {v = v} c head cs cw) h =
       let front = head_right head (right_front u (v ++ c ∷ []) h) in
       let inside = clauses_right cs (right_front v (c ∷ []) (right_back u (v ++ c ∷ []) h)) in
       (record { name = front.0; columns = front.1; keys = inside.0; refs = inside.1 }, inside.2, inside.3)
 
-  clauses_right : {levels : ℕ} {cs : List Clause} {a : List Lexeme} → SpellsClauses levels cs a → WordsAreRight a → AreRight levels cs
+  clauses_right : {version levels : ℕ} {cs : List Clause} {a : List Lexeme} → SpellsClauses version levels cs a → WordsAreRight a → AreRight levels cs
   clauses_right no_clause h = (each_none _, each_none _, tt, omega arith)
   clauses_right (clause_first {cs = cs} {u = u} {v = v} c more) h = clause_right c cs (right_front u v h) (clauses_right more (right_back u v h))
 
-  clause_right : {levels : ℕ} {c : Clause} {u : List Lexeme} → SpellsClause levels c u → (cs : List Clause) → WordsAreRight u → AreRight levels cs → AreRight levels (c ∷ cs)
+  clause_right : {version levels : ℕ} {c : Clause} {u : List Lexeme} → SpellsClause version levels c u → (cs : List Clause) → WordsAreRight u → AreRight levels cs → AreRight levels (c ∷ cs)
   clause_right (a_key {k = k} s) cs h rest = (each_cons k (keys_among cs) (key_right s h) rest.0, rest.1, rest.2, rest.3)
   clause_right (a_ref {r = r} s) cs h rest = (rest.0, each_cons r (refs_among cs) (ref_right s h) rest.1, rest.2, rest.3)
   clause_right (a_set {t = t} s) cs h rest = let one = set_right s h in (rest.0, rest.1, (one.0, one.1, rest.2), omega (arith, one.2, rest.3))
 
-trees_right : {levels : ℕ} {trees : List Tree} {u : List Lexeme} → Many (SpellsSet levels) trees u → WordsAreRight u → AreNamed (forest_of trees) × (depth (forest_of trees) ≤ suc levels)
+trees_right : {version levels : ℕ} {trees : List Tree} {u : List Lexeme} → Many (SpellsSet version levels) trees u → WordsAreRight u → AreNamed (forest_of trees) × (depth (forest_of trees) ≤ suc levels)
 trees_right no_more h = (tt, omega arith)
 trees_right (one_more {u = u} {v = v} s m) h =
     let one = set_right s (right_front u v h) in
     let rest = trees_right m (right_back u v h) in
     ((one.0, one.1, rest.0), omega (arith, one.2, rest.1))
 
-side_right : {name : List ℕ} {levels : ℕ} {f : Forest} {a : List Lexeme} → SpellsSide name levels f a → WordsAreRight a → AreNamed f × (depth f ≤ suc levels)
+side_right : {version : ℕ} {name : List ℕ} {levels : ℕ} {f : Forest} {a : List Lexeme} → SpellsSide version name levels f a → WordsAreRight a → AreNamed f × (depth f ≤ suc levels)
 side_right (side_of {u = u} k o c kw ow m cw) h = trees_right m (right_front u (c ∷ []) h.1.1)
 
 mapping_right : {levels : ℕ} {m : MappingText} {a : List Lexeme} → SpellsMapping levels m a → WordsAreRight a → (AreNamed m.source × (depth m.source ≤ suc levels)) × (AreNamed m.target × (depth m.target ≤ suc levels))
@@ -106,8 +107,8 @@ mapping_right (mapping_of {u = u} {v = v} {w = w} k n e kw nw ew from to items) 
     (side_right from (right_front u (v ++ w) h.1.1.1), side_right to (right_front v w back))
 
 -- the sets that a text says are written again as they are
-pub said_is_writable : (text : List ℕ) (m : MappingText) → IsMappingText text m → AreWritable m.source × AreWritable m.target
+pub said_is_writable : (text : List ℕ) (m : MappingText) → IsMappingText text m → AreWritable m.version m.source × AreWritable m.version m.target
 said_is_writable text m says =
     let r = mapping_right says.spelled (words_are_words text) in
-    let v = mapping_of_version_one says.spelled in
-    (record { named = r.0.0; version = v.0; levels = r.0.1 }, record { named = r.1.0; version = v.1; levels = r.1.1 })
+    let v = said_sayable says.spelled in
+    (record { named = r.0.0; sayable = v.0; levels = r.0.1 }, record { named = r.1.0; sayable = v.1; levels = r.1.1 })

@@ -1,5 +1,5 @@
 -- What is told of tokens.
-use Rattle.std.proofs.Common.{◌≡◌, ◌⊎◌, ℕ, zero, suc, ◌<◌, ◌≤◌, List, length, Result, Ok, Err, Option, Some, None, refl, sym, ap, ◌∙◌, subst, arith, inl, inr}
+use Rattle.std.proofs.Common.{◌≡◌, ◌⊎◌, ℕ, zero, suc, ◌<◌, ◌≤◌, List, length, Result, Ok, Err, Option, Some, None, true, refl, sym, ap, ◌∙◌, subst, arith, inl, inr}
 use Rattle.std.specs.Prelude.{codes}
 use Rattle.dx_tokens.specs.declared.scanner.Lexeme.{Lexeme}
 use Rattle.dx_tokens.specs.declared.faults.TextFault.{TextFault}
@@ -10,19 +10,18 @@ use Rattle.dx_tokens.proofs.Judged.{reads_fault}
 use Rattle.dx_grammar.specs.Readers.{whole, Tells}
 use Rattle.dx_grammar.proofs.Told.{answers}
 use Rattle.dx_grammar.proofs.Combined.{stops_end}
-use Rattle.dx_grammar.proofs.Verdicts.{Stops}
 use Rattle.dx_schema_text.specs.declared.texts.MappingText.{MappingText}
 use Rattle.dx_schema_text.specs.Grammar.{mapping}
 use Rattle.dx_schema_text.specs.Reading.{begins_item, mapping_reader}
 use Rattle.dx_schema_text.specs.Texts.{deepest, stops_by, unexpected, told_of}
-use Rattle.dx_schema_text.proofs.Follows.{mapping_reads}
+use Rattle.dx_schema_text.proofs.Follows.{NoItem, mapping_reads}
 
 -- what the answer of the reader says of tokens
-pub mapping_tells : (levels : ℕ) (xs : List Lexeme) → Tells (mapping (codes "1") levels) xs (whole (mapping_reader levels) xs)
-mapping_tells levels xs = answers (Stops begins_item) (mapping (codes "1") levels) (mapping_reader levels) (mapping_reads levels) (stops_end begins_item) xs
+pub mapping_tells : (levels : ℕ) (xs : List Lexeme) → Tells (mapping levels) xs (whole (mapping_reader levels) xs)
+mapping_tells levels xs = answers NoItem (mapping levels) (mapping_reader levels) (mapping_reads levels) (stops_end (begins_item true)) xs
 
-tells_err : (levels : ℕ) (xs : List Lexeme) (r : Result MappingText ℕ) → whole (mapping_reader levels) xs ≡ r → Tells (mapping (codes "1") levels) xs r
-tells_err levels xs r e = subst (Tells (mapping (codes "1") levels) xs) e (mapping_tells levels xs)
+tells_err : (levels : ℕ) (xs : List Lexeme) (r : Result MappingText ℕ) → whole (mapping_reader levels) xs ≡ r → Tells (mapping levels) xs r
+tells_err levels xs r e = subst (Tells (mapping levels) xs) e (mapping_tells levels xs)
 
 pub left_inside : (levels : ℕ) (xs : List Lexeme) (left : ℕ) → 0 < left → whole (mapping_reader levels) xs ≡ Err left → left ≤ length xs
 left_inside levels xs zero some e = absurd (omega arith)

@@ -1,10 +1,10 @@
 -- The grammar of mapping texts, over tokens with their texts.
-use Rattle.std.specs.Prelude.{ℕ, zero, suc, Bool, true, false, ◌&&◌, List, codes, nat_eq}
+use Rattle.std.specs.Prelude.{ℕ, zero, suc, Bool, true, false, ◌&&◌, List, codes, nat_eq, nat_le}
 use Rattle.std.specs.Cmp.Lexicographic.{pointwise}
 use Rattle.dx_tokens.specs.declared.tokenizer.TokenKind.{TokenKind}
 use Rattle.dx_tokens.specs.declared.tokenizer.TokenKind.TheVariants.{Word, Number, Str, Mark}
 use Rattle.dx_tokens.specs.declared.scanner.Lexeme.{Lexeme}
-use Rattle.dx_grammar.specs.Forms.{Form, one, ◌▸◌, ◌∣◌, repeated, optional}
+use Rattle.dx_grammar.specs.Forms.{Form, nothing, one, ◌▸◌, ◌∣◌, repeated, optional}
 
 -- ---- tokens
 
@@ -50,6 +50,12 @@ number_is n x = is_number_kind x.kind && pointwise nat_eq x.text n
 abbrev pub mark_is : List ℕ → Lexeme → Bool
 mark_is m x = is_mark_kind x.kind && pointwise nat_eq x.text m
 
+-- ---- versions
+
+-- what came with version 2 stands in this version
+abbrev pub since_two : ℕ → Bool
+since_two version = nat_le 2 version
+
 -- ---- forms
 
 -- any word, any string, this word, this mark
@@ -73,9 +79,15 @@ words = word ▸ repeated (mark (codes ",") ▸ word)
 unfoldable pub key : Form Lexeme
 key = keyword (codes "key") ▸ mark (codes "(") ▸ words ▸ mark (codes ")") ▸ mark (codes ";")
 
--- "ref" "(" words ")" "->" word "(" words ")" ";"
-unfoldable pub ref : Form Lexeme
-ref = keyword (codes "ref") ▸ mark (codes "(") ▸ words ▸ mark (codes ")") ▸ mark (codes "->") ▸ word ▸ mark (codes "(") ▸ words ▸ mark (codes ")") ▸ mark (codes ";")
+-- [ "optional" ], if refs may be optional
+unfoldable pub optional_word : Bool → Form Lexeme
+optional_word false = nothing
+optional_word true = optional (keyword (codes "optional"))
+
+-- "ref" "(" words ")" "->" word "(" words ")" optional_word ";"
+unfoldable pub ref : Bool → Form Lexeme
+ref optionals =
+    keyword (codes "ref") ▸ mark (codes "(") ▸ words ▸ mark (codes ")") ▸ mark (codes "->") ▸ word ▸ mark (codes "(") ▸ words ▸ mark (codes ")") ▸ optional_word optionals ▸ mark (codes ";")
 
 -- "set" word "{" words ";"
 unfoldable pub set_head : Form Lexeme
@@ -86,21 +98,21 @@ unfoldable pub set_of : Form Lexeme → Form Lexeme
 set_of clause = set_head ▸ repeated clause ▸ mark (codes "}")
 
 -- key | ref, in a set that has no inner sets
-unfoldable pub last_clause : Form Lexeme
-last_clause = key ∣ ref
+unfoldable pub last_clause : ℕ → Form Lexeme
+last_clause version = key ∣ ref (since_two version)
 
 -- key | ref | set
-unfoldable pub clause_with : Form Lexeme → Form Lexeme
-clause_with inner = key ∣ ref ∣ inner
+unfoldable pub clause_with : ℕ → Form Lexeme → Form Lexeme
+clause_with version inner = key ∣ ref (since_two version) ∣ inner
 
--- a clause of a set with so many levels of inner sets, at most
-unfoldable pub clause : ℕ → Form Lexeme
-clause zero = last_clause
-clause (suc levels) = clause_with (set_of (clause levels))
+-- a clause of a set with so many levels of inner sets, at most, in a text of this version
+unfoldable pub clause : ℕ → ℕ → Form Lexeme
+clause version zero = last_clause version
+clause version (suc levels) = clause_with version (set_of (clause version levels))
 
 -- a set with so many levels of inner sets, at most
-abbrev pub set : ℕ → Form Lexeme
-set levels = set_of (clause levels)
+abbrev pub set : ℕ → ℕ → Form Lexeme
+set version levels = set_of (clause version levels)
 
 -- word "." word
 unfoldable pub place : Form Lexeme
@@ -152,16 +164,24 @@ where_part = keyword (codes "where") ▸ derived ▸ repeated (mark (codes ",") 
 unfoldable pub rule : Form Lexeme
 rule = keyword (codes "rule") ▸ atoms false ▸ optional where_part ▸ mark (codes "->") ▸ atoms true ▸ mark (codes ";")
 
--- line | rule
-unfoldable pub item : Form Lexeme
-item = line ∣ rule
+-- "only" place word ";"
+unfoldable pub only : Form Lexeme
+only = keyword (codes "only") ▸ place ▸ word ▸ mark (codes ";")
+
+-- line | rule, and if conditions may stand, line | rule | only
+unfoldable pub item : Bool → Form Lexeme
+item false = line ∣ rule
+item true = line ∣ rule ∣ only
 
 -- "source" or "target", and "{" { set } "}"
-unfoldable pub side : List ℕ → ℕ → Form Lexeme
-side name levels = keyword name ▸ mark (codes "{") ▸ repeated (set levels) ▸ mark (codes "}")
+unfoldable pub side : ℕ → List ℕ → ℕ → Form Lexeme
+side version name levels = keyword name ▸ mark (codes "{") ▸ repeated (set version levels) ▸ mark (codes "}")
 
--- "mapping" version ";" source-side target-side { item }
+-- ";" source-side target-side { item }
+unfoldable pub body : ℕ → ℕ → Form Lexeme
+body version levels = mark (codes ";") ▸ side version (codes "source") levels ▸ side version (codes "target") levels ▸ repeated (item (since_two version))
+
+-- "mapping", and "1" with a body of version 1 or "2" with one of version 2,
 -- where sets have so many levels of inner sets, at most
-unfoldable pub mapping : List ℕ → ℕ → Form Lexeme
-mapping version levels =
-    keyword (codes "mapping") ▸ one (number_is version) ▸ mark (codes ";") ▸ side (codes "source") levels ▸ side (codes "target") levels ▸ repeated item
+unfoldable pub mapping : ℕ → Form Lexeme
+mapping levels = keyword (codes "mapping") ▸ ((one (number_is (codes "1")) ▸ body 1 levels) ∣ (one (number_is (codes "2")) ▸ body 2 levels))

@@ -1,5 +1,5 @@
 -- What holds of every text.
-use Rattle.std.specs.Prelude.{◌≡◌, ◌⊎◌, ◌↔◌, ℕ, List, length}
+use Rattle.std.specs.Prelude.{◌≡◌, ◌⊎◌, ◌↔◌, ℕ, false, List, [], length}
 use Rattle.dx_grammar.specs.Forms.{Derives}
 use Rattle.dx_grammar.specs.Laws.{StartsAreFronts}
 use Rattle.dx_schema.specs.Bounds.{RulesBelow}
@@ -9,7 +9,8 @@ use Rattle.dx_tokens.specs.declared.scanner.Lexeme.{Lexeme}
 use Rattle.dx_schema_text.specs.declared.texts.MappingText.{MappingText}
 use Rattle.dx_schema_text.specs.Spelling.{SpellsMapping}
 use Rattle.dx_schema_text.specs.Texts.{deepest, form, deeper_form, IsMappingText, IsUnexpected, IsSetTooDeep, IsTextFault}
-use Rattle.dx_schema_text.specs.Print.{AreWritable}
+use Rattle.dx_schema_text.specs.Grammar.{since_two}
+use Rattle.dx_schema_text.specs.Print.{AreWritable, IsKnown}
 
 -- a text says at most one mapping, and it has at most one first fault
 abbrev pub OneMapping : Type 0
@@ -37,9 +38,13 @@ StandingGoesOn = StartsAreFronts form × StartsAreFronts deeper_form
 abbrev pub TooDeepAreSets : Type 0
 TooDeepAreSets = (text : List ℕ) (place : ℕ) → IsTextFault text (TooDeep place) ↔ ((u : IsUnexpected text place) × IsSetTooDeep text u.number)
 
--- the sets that a text says are written again as they are
+-- the sets that a text says are written again as they are, in a text of its version
 abbrev pub SaidIsWritable : Type 0
-SaidIsWritable = (text : List ℕ) (m : MappingText) → IsMappingText text m → AreWritable m.source × AreWritable m.target
+SaidIsWritable = (text : List ℕ) (m : MappingText) → IsMappingText text m → AreWritable m.version m.source × AreWritable m.version m.target
+
+-- a text is of version 1 or 2, and before version 2 it says no conditions
+abbrev pub SaidIsOfVersion : Type 0
+SaidIsOfVersion = (text : List ℕ) (m : MappingText) → IsMappingText text m → IsKnown m.version × (since_two m.version ≡ false → m.conditions ≡ [])
 
 -- each set that a text says has fewer keys and dependencies together, and fewer refs, than the text has bytes
 abbrev pub TextsHaveFewRules : Type 0

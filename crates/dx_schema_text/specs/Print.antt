@@ -1,5 +1,5 @@
 -- The text of sets, as a mapping text has them.
-use Rattle.std.specs.Prelude.{◌≡◌, ℕ, ◌≤◌, Bool, true, false, List, [], ◌∷◌, ◌++◌, codes}
+use Rattle.std.specs.Prelude.{◌≡◌, ℕ, ◌≤◌, ◌+◌, Bool, true, false, List, [], ◌∷◌, ◌++◌, codes}
 use Rattle.std.specs.List.{flat_map}
 use Rattle.dx_ports.specs.Members.{Each}
 use Rattle.dx_tokens.specs.Lexing.{IsWord}
@@ -9,6 +9,7 @@ use Rattle.dx_schema.specs.declared.sets.RefDecl.{RefDecl}
 use Rattle.dx_schema.specs.Forest.{Label, Forest, none, set}
 use Rattle.dx_schema.specs.Faults.{depth}
 use Rattle.dx_schema_text.specs.declared.texts.MappingText.{MappingText}
+use Rattle.dx_schema_text.specs.Grammar.{since_two}
 use Rattle.dx_schema_text.specs.Texts.{IsMappingText}
 
 -- names, parted by a comma and a space
@@ -84,31 +85,40 @@ abbrev pub AreNamed : Forest → Type 0
 AreNamed none = Unit {0}
 AreNamed (set l inner rest) = IsNamed l × AreNamed inner × AreNamed rest
 
--- a mapping text of version 1 can say the set: it has no dependencies, and none of its refs is optional
-pub record IsOfVersionOne (l : Label) : Type 0 where
+-- a mapping text of this version can say the set: it has no dependencies, and an optional ref alone from version 2 on
+pub record IsOfVersion (version : ℕ) (l : Label) : Type 0 where
   pub deps : l.deps ≡ []
-  pub refs : Each l.refs (λ r. r.optional ≡ false)
+  pub refs : Each l.refs (λ r. r.optional ≡ true → since_two version ≡ true)
 
 -- the same of all sets
-abbrev pub AreOfVersionOne : Forest → Type 0
-AreOfVersionOne none = Unit {0}
-AreOfVersionOne (set l inner rest) = IsOfVersionOne l × AreOfVersionOne inner × AreOfVersionOne rest
+abbrev pub AreOfVersion : ℕ → Forest → Type 0
+AreOfVersion version none = Unit {0}
+AreOfVersion version (set l inner rest) = IsOfVersion version l × AreOfVersion version inner × AreOfVersion version rest
 
--- every name is a word, no list of names is empty, a text of version 1 can say the sets, and there are no more than 16 levels of them
-pub record AreWritable (f : Forest) : Type 0 where
+-- every name is a word, no list of names is empty, a text of this version can say the sets, and there are no more than 16 levels of them
+pub record AreWritable (version : ℕ) (f : Forest) : Type 0 where
   pub named : AreNamed f
-  pub version : AreOfVersionOne f
+  pub sayable : AreOfVersion version f
   pub levels : depth f ≤ 16
 
--- a mapping with sides of these texts, and without lines and rules
-abbrev pub sides_text : List ℕ → List ℕ → List ℕ
-sides_text from to = codes "mapping 1;\nsource {\n" ++ (from ++ (codes "}\ntarget {\n" ++ (to ++ codes "}\n")))
+-- a version that a text may have
+pub data IsKnown : ℕ → Type 0 where
+  the_first : IsKnown 1
+  the_second : IsKnown 2
+
+-- the digit of a version
+abbrev pub digit_of : ℕ → List ℕ
+digit_of version = (48 + version) ∷ []
+
+-- a mapping of this version with sides of these texts, and without lines, conditions and rules
+abbrev pub sides_text : ℕ → List ℕ → List ℕ → List ℕ
+sides_text version from to = codes "mapping " ++ (digit_of version ++ (codes ";\nsource {\n" ++ (from ++ (codes "}\ntarget {\n" ++ (to ++ codes "}\n")))))
 
 -- what that text says
-abbrev pub sides : Forest → Forest → MappingText
-sides from to = record { version = 1; source = from; target = to; lines = []; rules = [] }
+abbrev pub sides : ℕ → Forest → Forest → MappingText
+sides version from to = record { version = version; source = from; target = to; lines = []; conditions = []; rules = [] }
 
--- the text is that of the sets: where it stands as a side of a mapping, and other sets are printed as the other side, the mapping is read with these sets
-pub record IsReadAgain (trees : Forest) (text : List ℕ) : Type 0 where
-  pub source : (others : Forest) → AreWritable others → IsMappingText (sides_text text (printed [] others)) (sides trees others)
-  pub target : (others : Forest) → AreWritable others → IsMappingText (sides_text (printed [] others) text) (sides others trees)
+-- the text is that of the sets: where it stands as a side of a mapping of this version, and other sets are printed as the other side, the mapping is read with these sets
+pub record IsReadAgain (version : ℕ) (trees : Forest) (text : List ℕ) : Type 0 where
+  pub source : (others : Forest) → AreWritable version others → IsMappingText (sides_text version text (printed [] others)) (sides version trees others)
+  pub target : (others : Forest) → AreWritable version others → IsMappingText (sides_text version (printed [] others) text) (sides version others trees)

@@ -14,12 +14,13 @@ use Rattle.dx_schema_text.specs.declared.texts.CellText.TheVariants as cells
 use Rattle.dx_schema_text.specs.declared.texts.AtomText.{AtomText}
 use Rattle.dx_schema_text.specs.declared.texts.DerivedText.{DerivedText}
 use Rattle.dx_schema_text.specs.declared.texts.RuleText.{RuleText}
+use Rattle.dx_schema_text.specs.declared.texts.OnlyText.{OnlyText}
 use Rattle.dx_schema_text.specs.declared.texts.MappingText.{MappingText}
 use Rattle.dx_schema_text.specs.declared.clauses.Clause.{Clause}
 use Rattle.dx_schema_text.specs.declared.clauses.Clause.TheVariants as clauses
 use Rattle.dx_schema_text.specs.declared.mapping.ItemText.{ItemText}
 use Rattle.dx_schema_text.specs.declared.mapping.ItemText.TheVariants as items
-use Rattle.dx_schema_text.specs.Grammar.{is_word, is_string, word_is, number_is, mark_is}
+use Rattle.dx_schema_text.specs.Grammar.{is_word, is_string, word_is, number_is, mark_is, since_two}
 
 -- ---- names
 
@@ -49,29 +50,35 @@ key_reader = do
   ending ← token (mark_is (codes ";"))
   give (record { columns = columns })
 
--- a ref of these columns to these columns of a set, which isn't optional
-abbrev pub reference_of : List (List ℕ) → List ℕ → List (List ℕ) → RefDecl
-reference_of columns referred_set referred = record { columns = columns; set = referred_set; referred = referred; optional = false }
+-- a ref of these columns to these columns of a set, which may be optional
+abbrev pub reference_of : List (List ℕ) → List ℕ → List (List ℕ) → Bool → RefDecl
+reference_of columns referred_set referred is_optional = record { columns = columns; set = referred_set; referred = referred; optional = is_optional }
 
--- what a ref's columns refer to: a set, and columns of it
-unfoldable pub referred_reader : List (List ℕ) → Reader Lexeme RefDecl
-referred_reader columns = do
+-- whether the word `optional` stands here, if refs may be optional
+unfoldable pub optional_reader : Bool → Reader Lexeme Bool
+optional_reader false = give false
+optional_reader true = either (word_is (codes "optional")) (token (word_is (codes "optional")) >>= λ keyword. give true) (give false)
+
+-- what a ref's columns refer to: a set, and columns of it; and whether the ref is optional
+unfoldable pub referred_reader : Bool → List (List ℕ) → Reader Lexeme RefDecl
+referred_reader optionals columns = do
   referred_set ← token is_word
   opening ← token (mark_is (codes "("))
   referred ← words_reader
   closing ← token (mark_is (codes ")"))
+  is_optional ← optional_reader optionals
   ending ← token (mark_is (codes ";"))
-  give (reference_of columns referred_set.text referred)
+  give (reference_of columns referred_set.text referred is_optional)
 
--- a ref: its columns, the set that it refers to, and the referred columns
-unfoldable pub ref_reader : Reader Lexeme RefDecl
-ref_reader = do
+-- a ref: its columns, the set that it refers to, the referred columns, and whether it is optional
+unfoldable pub ref_reader : Bool → Reader Lexeme RefDecl
+ref_reader optionals = do
   keyword ← token (word_is (codes "ref"))
   opening ← token (mark_is (codes "("))
   columns ← words_reader
   closing ← token (mark_is (codes ")"))
   arrow ← token (mark_is (codes "->"))
-  referred_reader columns
+  referred_reader optionals columns
 
 -- a key, a ref and an inner set, each as a clause
 abbrev pub key_clause : KeyDecl → Clause
@@ -112,12 +119,13 @@ begins_clause zero x = word_is (codes "key") x || word_is (codes "ref") x
 begins_clause (suc levels) x = word_is (codes "key") x || (word_is (codes "ref") x || word_is (codes "set") x)
 
 -- a key or a ref, in a set that has no inner sets
-unfoldable pub last_clause_reader : Reader Lexeme Clause
-last_clause_reader = either (word_is (codes "key")) (key_reader >>= λ k. give (key_clause k)) (ref_reader >>= λ r. give (ref_clause r))
+unfoldable pub last_clause_reader : ℕ → Reader Lexeme Clause
+last_clause_reader version = either (word_is (codes "key")) (key_reader >>= λ k. give (key_clause k)) (ref_reader (since_two version) >>= λ r. give (ref_clause r))
 
 -- a key, a ref or an inner set
-unfoldable pub clause_reader_with : Reader Lexeme Tree → Reader Lexeme Clause
-clause_reader_with inner = either (word_is (codes "key")) (key_reader >>= λ k. give (key_clause k)) (either (word_is (codes "ref")) (ref_reader >>= λ r. give (ref_clause r)) (inner >>= λ t. give (set_clause t)))
+unfoldable pub clause_reader_with : ℕ → Reader Lexeme Tree → Reader Lexeme Clause
+clause_reader_with version inner =
+    either (word_is (codes "key")) (key_reader >>= λ k. give (key_clause k)) (either (word_is (codes "ref")) (ref_reader (since_two version) >>= λ r. give (ref_clause r)) (inner >>= λ t. give (set_clause t)))
 
 -- the name and the columns of a set
 unfoldable pub set_head_reader : Reader Lexeme (List ℕ × List (List ℕ))
@@ -137,14 +145,14 @@ set_reader_of begins clause = do
   closing ← token (mark_is (codes "}"))
   give (tree_of head.0 head.1 cs)
 
--- a clause of a set with so many levels of inner sets, at most
-unfoldable pub clause_reader : ℕ → Reader Lexeme Clause
-clause_reader zero = last_clause_reader
-clause_reader (suc levels) = clause_reader_with (set_reader_of (begins_clause levels) (clause_reader levels))
+-- a clause of a set with so many levels of inner sets, at most, in a text of this version
+unfoldable pub clause_reader : ℕ → ℕ → Reader Lexeme Clause
+clause_reader version zero = last_clause_reader version
+clause_reader version (suc levels) = clause_reader_with version (set_reader_of (begins_clause levels) (clause_reader version levels))
 
 -- a set with so many levels of inner sets, at most
-abbrev pub set_reader : ℕ → Reader Lexeme Tree
-set_reader levels = set_reader_of (begins_clause levels) (clause_reader levels)
+abbrev pub set_reader : ℕ → ℕ → Reader Lexeme Tree
+set_reader version levels = set_reader_of (begins_clause levels) (clause_reader version levels)
 
 -- ---- lines
 
@@ -324,54 +332,82 @@ rule_reader = do
   ending ← token (mark_is (codes ";"))
   give (record { premise = premise; derived = derived; conclusion = conclusion })
 
+-- ---- conditions
+
+-- a condition: its column, and the test that the column's texts must pass
+unfoldable pub only_reader : Reader Lexeme OnlyText
+only_reader = do
+  keyword ← token (word_is (codes "only"))
+  column ← place_reader
+  test ← token is_word
+  ending ← token (mark_is (codes ";"))
+  give (record { place = column; test = test.text; test_place = test.place })
+
 -- ---- mappings
 
--- a line and a rule, each as an item of a mapping
+-- a line, a rule and a condition, each as an item of a mapping
 abbrev pub line_item : LineText → ItemText
 line_item l = items.Line l
 
 abbrev pub rule_item : RuleText → ItemText
 rule_item r = items.Rule r
 
--- an item begins with "line" or "rule"
-abbrev pub begins_item : Lexeme → Bool
-begins_item x = word_is (codes "line") x || word_is (codes "rule") x
+abbrev pub only_item : OnlyText → ItemText
+only_item o = items.Only o
 
--- a line or a rule
-unfoldable pub item_reader : Reader Lexeme ItemText
-item_reader = either (word_is (codes "line")) (line_reader >>= λ l. give (line_item l)) (rule_reader >>= λ r. give (rule_item r))
+-- an item begins with "line" or "rule", or if conditions may stand with "only"
+abbrev pub begins_item : Bool → Lexeme → Bool
+begins_item false x = word_is (codes "line") x || word_is (codes "rule") x
+begins_item true x = word_is (codes "line") x || (word_is (codes "rule") x || word_is (codes "only") x)
 
--- the lines and the rules among items
+-- a line or a rule, or if conditions may stand a condition
+unfoldable pub item_reader : Bool → Reader Lexeme ItemText
+item_reader false = either (word_is (codes "line")) (line_reader >>= λ l. give (line_item l)) (rule_reader >>= λ r. give (rule_item r))
+item_reader true = either (word_is (codes "line")) (line_reader >>= λ l. give (line_item l)) (either (word_is (codes "rule")) (rule_reader >>= λ r. give (rule_item r)) (only_reader >>= λ o. give (only_item o)))
+
+-- the lines, the conditions and the rules among items
 abbrev pub lines_among : List ItemText → List LineText
 lines_among [] = []
 lines_among (items.Line l ∷ rest) = l ∷ lines_among rest
 lines_among (items.Rule r ∷ rest) = lines_among rest
+lines_among (items.Only o ∷ rest) = lines_among rest
+
+abbrev pub conditions_among : List ItemText → List OnlyText
+conditions_among [] = []
+conditions_among (items.Line l ∷ rest) = conditions_among rest
+conditions_among (items.Rule r ∷ rest) = conditions_among rest
+conditions_among (items.Only o ∷ rest) = o ∷ conditions_among rest
 
 abbrev pub rules_among : List ItemText → List RuleText
 rules_among [] = []
 rules_among (items.Line l ∷ rest) = rules_among rest
 rules_among (items.Rule r ∷ rest) = r ∷ rules_among rest
+rules_among (items.Only o ∷ rest) = rules_among rest
 
 -- "source" or "target", and sets in braces
-unfoldable pub side_reader : List ℕ → ℕ → Reader Lexeme Forest
-side_reader name levels = do
+unfoldable pub side_reader : ℕ → List ℕ → ℕ → Reader Lexeme Forest
+side_reader version name levels = do
   keyword ← token (word_is name)
   opening ← token (mark_is (codes "{"))
-  trees ← many (word_is (codes "set")) (set_reader levels)
+  trees ← many (word_is (codes "set")) (set_reader version levels)
   closing ← token (mark_is (codes "}"))
   give (forest_of trees)
 
--- the mapping of these sides and items
-abbrev pub mapping_text : Forest → Forest → List ItemText → MappingText
-mapping_text from to rest = record { version = 1; source = from; target = to; lines = lines_among rest; rules = rules_among rest }
+-- the mapping of this version, of these sides and items
+abbrev pub mapping_text : ℕ → Forest → Forest → List ItemText → MappingText
+mapping_text version from to rest = record { version = version; source = from; target = to; lines = lines_among rest; conditions = conditions_among rest; rules = rules_among rest }
 
--- a mapping of version 1 whose sets have so many levels of inner sets, at most
+-- what stands after the number of a version, where sets have so many levels of inner sets, at most
+unfoldable pub body_reader : ℕ → ℕ → Reader Lexeme MappingText
+body_reader version levels = do
+  ending ← token (mark_is (codes ";"))
+  from ← side_reader version (codes "source") levels
+  to ← side_reader version (codes "target") levels
+  rest ← many (begins_item (since_two version)) (item_reader (since_two version))
+  give (mapping_text version from to rest)
+
+-- a mapping of version 1 or 2 whose sets have so many levels of inner sets, at most
 unfoldable pub mapping_reader : ℕ → Reader Lexeme MappingText
 mapping_reader levels = do
   keyword ← token (word_is (codes "mapping"))
-  version ← token (number_is (codes "1"))
-  ending ← token (mark_is (codes ";"))
-  from ← side_reader (codes "source") levels
-  to ← side_reader (codes "target") levels
-  rest ← many begins_item item_reader
-  give (mapping_text from to rest)
+  either (number_is (codes "1")) (token (number_is (codes "1")) >>= λ number. body_reader 1 levels) (token (number_is (codes "2")) >>= λ number. body_reader 2 levels)

@@ -12,11 +12,12 @@ use Rattle.dx_schema_text.specs.declared.texts.CellText.{CellText}
 use Rattle.dx_schema_text.specs.declared.texts.AtomText.{AtomText}
 use Rattle.dx_schema_text.specs.declared.texts.DerivedText.{DerivedText}
 use Rattle.dx_schema_text.specs.declared.texts.RuleText.{RuleText}
+use Rattle.dx_schema_text.specs.declared.texts.OnlyText.{OnlyText}
 use Rattle.dx_schema_text.specs.declared.texts.MappingText.{MappingText}
 use Rattle.dx_schema_text.specs.declared.clauses.Clause.{Clause}
 use Rattle.dx_schema_text.specs.declared.mapping.ItemText.{ItemText}
-use Rattle.dx_schema_text.specs.Grammar.{is_word, is_string, word_is, number_is, mark_is}
-use Rattle.dx_schema_text.specs.Reading.{reference_of, key_clause, ref_clause, set_clause, tree_of, place_text, literal_source, column_source, call_source, name_cell, literal_cell, line_item, rule_item, mapping_text}
+use Rattle.dx_schema_text.specs.Grammar.{is_word, is_string, word_is, number_is, mark_is, since_two}
+use Rattle.dx_schema_text.specs.Reading.{reference_of, key_clause, ref_clause, set_clause, tree_of, place_text, literal_source, column_source, call_source, name_cell, literal_cell, line_item, rule_item, only_item, mapping_text}
 
 -- the token is this mark, this word
 abbrev pub IsMark : List ℕ → Lexeme → Type 0
@@ -51,10 +52,15 @@ pub data SpellsKey : KeyDecl → List Lexeme → Type 0 where
   key_of : {columns : List (List ℕ)} {u : List Lexeme} (k o c e : Lexeme) → IsKeyword (codes "key") k → IsMark (codes "(") o → Parted SpellsName columns u → IsMark (codes ")") c → IsMark (codes ";") e
       → SpellsKey (record { columns = columns }) (k ∷ o ∷ (u ++ c ∷ e ∷ []))
 
-pub data SpellsRef : RefDecl → List Lexeme → Type 0 where
-  ref_of : {columns referred : List (List ℕ)} {u v : List Lexeme} (k o c arrow s p d e : Lexeme) → IsKeyword (codes "ref") k → IsMark (codes "(") o → Parted SpellsName columns u → IsMark (codes ")") c → IsMark (codes "->") arrow
-      → IsWord s → IsMark (codes "(") p → Parted SpellsName referred v → IsMark (codes ")") d → IsMark (codes ";") e
-      → SpellsRef (reference_of columns s.text referred) (k ∷ o ∷ (u ++ c ∷ arrow ∷ s ∷ p ∷ (v ++ d ∷ e ∷ [])))
+-- tokens spell whether a ref is optional: the word says so, where refs may be optional
+pub data SpellsOptional : Bool → Bool → List Lexeme → Type 0 where
+  not_optional : {optionals : Bool} → SpellsOptional optionals false []
+  is_optional : (k : Lexeme) → IsKeyword (codes "optional") k → SpellsOptional true true (k ∷ [])
+
+pub data SpellsRef : Bool → RefDecl → List Lexeme → Type 0 where
+  ref_of : {optionals b : Bool} {columns referred : List (List ℕ)} {u v w : List Lexeme} (k o c arrow s p d e : Lexeme) → IsKeyword (codes "ref") k → IsMark (codes "(") o → Parted SpellsName columns u → IsMark (codes ")") c → IsMark (codes "->") arrow
+      → IsWord s → IsMark (codes "(") p → Parted SpellsName referred v → IsMark (codes ")") d → SpellsOptional optionals b w → IsMark (codes ";") e
+      → SpellsRef optionals (reference_of columns s.text referred b) (k ∷ o ∷ (u ++ c ∷ arrow ∷ s ∷ p ∷ (v ++ d ∷ (w ++ e ∷ []))))
 
 -- the name and the columns of a set
 pub data SpellsHead : List ℕ → List (List ℕ) → List Lexeme → Type 0 where
@@ -62,21 +68,21 @@ pub data SpellsHead : List ℕ → List (List ℕ) → List Lexeme → Type 0 wh
       → SpellsHead n.text columns (k ∷ n ∷ o ∷ (u ++ e ∷ []))
 
 mutual
-  -- a set with so many levels of inner sets, at most
-  pub data SpellsSet : ℕ → Tree → List Lexeme → Type 0 where
-    set_of : {levels : ℕ} {name : List ℕ} {columns : List (List ℕ)} {cs : List Clause} {u v : List Lexeme} (c : Lexeme) → SpellsHead name columns u → SpellsClauses levels cs v → IsMark (codes "}") c
-        → SpellsSet levels (tree_of name columns cs) (u ++ (v ++ c ∷ []))
+  -- a set with so many levels of inner sets, at most, in a text of this version
+  pub data SpellsSet : ℕ → ℕ → Tree → List Lexeme → Type 0 where
+    set_of : {version levels : ℕ} {name : List ℕ} {columns : List (List ℕ)} {cs : List Clause} {u v : List Lexeme} (c : Lexeme) → SpellsHead name columns u → SpellsClauses version levels cs v → IsMark (codes "}") c
+        → SpellsSet version levels (tree_of name columns cs) (u ++ (v ++ c ∷ []))
 
   -- clauses in any order
-  pub data SpellsClauses : ℕ → List Clause → List Lexeme → Type 0 where
-    no_clause : {levels : ℕ} → SpellsClauses levels [] []
-    clause_first : {levels : ℕ} {c : Clause} {cs : List Clause} {u v : List Lexeme} → SpellsClause levels c u → SpellsClauses levels cs v → SpellsClauses levels (c ∷ cs) (u ++ v)
+  pub data SpellsClauses : ℕ → ℕ → List Clause → List Lexeme → Type 0 where
+    no_clause : {version levels : ℕ} → SpellsClauses version levels [] []
+    clause_first : {version levels : ℕ} {c : Clause} {cs : List Clause} {u v : List Lexeme} → SpellsClause version levels c u → SpellsClauses version levels cs v → SpellsClauses version levels (c ∷ cs) (u ++ v)
 
   -- a key, a ref, or where inner sets may stand, an inner set
-  pub data SpellsClause : ℕ → Clause → List Lexeme → Type 0 where
-    a_key : {levels : ℕ} {k : KeyDecl} {u : List Lexeme} → SpellsKey k u → SpellsClause levels (key_clause k) u
-    a_ref : {levels : ℕ} {r : RefDecl} {u : List Lexeme} → SpellsRef r u → SpellsClause levels (ref_clause r) u
-    a_set : {levels : ℕ} {t : Tree} {u : List Lexeme} → SpellsSet levels t u → SpellsClause (suc levels) (set_clause t) u
+  pub data SpellsClause : ℕ → ℕ → Clause → List Lexeme → Type 0 where
+    a_key : {version levels : ℕ} {k : KeyDecl} {u : List Lexeme} → SpellsKey k u → SpellsClause version levels (key_clause k) u
+    a_ref : {version levels : ℕ} {r : RefDecl} {u : List Lexeme} → SpellsRef (since_two version) r u → SpellsClause version levels (ref_clause r) u
+    a_set : {version levels : ℕ} {t : Tree} {u : List Lexeme} → SpellsSet version levels t u → SpellsClause version (suc levels) (set_clause t) u
 
 -- ---- lines
 
@@ -122,20 +128,33 @@ pub data SpellsRule : RuleText → List Lexeme → Type 0 where
   rule_of : {premise conclusion : List AtomText} {ds : List DerivedText} {u v w : List Lexeme} (k arrow e : Lexeme) → IsKeyword (codes "rule") k → Parted (SpellsAtom false) premise u → SpellsWhere ds v → IsMark (codes "->") arrow → Parted (SpellsAtom true) conclusion w → IsMark (codes ";") e
       → SpellsRule (record { premise = premise; derived = ds; conclusion = conclusion }) (k ∷ (u ++ (v ++ arrow ∷ (w ++ e ∷ []))))
 
+-- ---- conditions
+
+-- tokens spell a condition
+pub data SpellsOnly : OnlyText → List Lexeme → Type 0 where
+  only_of : {p : PlaceText} {u : List Lexeme} (k t e : Lexeme) → IsKeyword (codes "only") k → SpellsPlace p u → IsWord t → IsMark (codes ";") e
+      → SpellsOnly (record { place = p; test = t.text; test_place = t.place }) (k ∷ (u ++ t ∷ e ∷ []))
+
 -- ---- mappings
 
--- tokens spell a line or a rule
-pub data SpellsItem : ItemText → List Lexeme → Type 0 where
-  a_line : {l : LineText} {u : List Lexeme} → SpellsLine l u → SpellsItem (line_item l) u
-  a_rule : {r : RuleText} {u : List Lexeme} → SpellsRule r u → SpellsItem (rule_item r) u
+-- tokens spell a line or a rule, or if conditions may stand a condition
+pub data SpellsItem : Bool → ItemText → List Lexeme → Type 0 where
+  a_line : {conditions : Bool} {l : LineText} {u : List Lexeme} → SpellsLine l u → SpellsItem conditions (line_item l) u
+  a_rule : {conditions : Bool} {r : RuleText} {u : List Lexeme} → SpellsRule r u → SpellsItem conditions (rule_item r) u
+  a_condition : {o : OnlyText} {u : List Lexeme} → SpellsOnly o u → SpellsItem true (only_item o) u
 
 -- tokens spell the sets of a side, after its name
-pub data SpellsSide : List ℕ → ℕ → Forest → List Lexeme → Type 0 where
-  side_of : {name : List ℕ} {levels : ℕ} {trees : List Tree} {u : List Lexeme} (k o c : Lexeme) → IsKeyword name k → IsMark (codes "{") o → Many (SpellsSet levels) trees u → IsMark (codes "}") c
-      → SpellsSide name levels (forest_of trees) (k ∷ o ∷ (u ++ c ∷ []))
+pub data SpellsSide : ℕ → List ℕ → ℕ → Forest → List Lexeme → Type 0 where
+  side_of : {version : ℕ} {name : List ℕ} {levels : ℕ} {trees : List Tree} {u : List Lexeme} (k o c : Lexeme) → IsKeyword name k → IsMark (codes "{") o → Many (SpellsSet version levels) trees u → IsMark (codes "}") c
+      → SpellsSide version name levels (forest_of trees) (k ∷ o ∷ (u ++ c ∷ []))
+
+-- the token is the number of a version, which is 1 or 2
+pub data IsVersion : ℕ → Lexeme → Type 0 where
+  version_one : {n : Lexeme} → number_is (codes "1") n ≡ true → IsVersion 1 n
+  version_two : {n : Lexeme} → number_is (codes "2") n ≡ true → IsVersion 2 n
 
 -- a mapping whose sets have so many levels of inner sets, at most
 pub data SpellsMapping : ℕ → MappingText → List Lexeme → Type 0 where
-  mapping_of : {levels : ℕ} {from to : Forest} {rest : List ItemText} {u v w : List Lexeme} (k n e : Lexeme) → IsKeyword (codes "mapping") k → number_is (codes "1") n ≡ true → IsMark (codes ";") e
-      → SpellsSide (codes "source") levels from u → SpellsSide (codes "target") levels to v → Many SpellsItem rest w
-      → SpellsMapping levels (mapping_text from to rest) (k ∷ n ∷ e ∷ (u ++ (v ++ w)))
+  mapping_of : {version levels : ℕ} {from to : Forest} {rest : List ItemText} {u v w : List Lexeme} (k n e : Lexeme) → IsKeyword (codes "mapping") k → IsVersion version n → IsMark (codes ";") e
+      → SpellsSide version (codes "source") levels from u → SpellsSide version (codes "target") levels to v → Many (SpellsItem (since_two version)) rest w
+      → SpellsMapping levels (mapping_text version from to rest) (k ∷ n ∷ e ∷ (u ++ (v ++ w)))

@@ -15,21 +15,21 @@ use Rattle.dx_grammar.specs.Readers.{Many, whole}
 use Rattle.dx_schema.specs.Forest.{Forest, Tree}
 use Rattle.dx_schema_text.specs.declared.clauses.Clause.{Clause}
 use Rattle.dx_schema_text.specs.declared.texts.MappingText.{MappingText}
-use Rattle.dx_schema_text.specs.Grammar.{mapping, number_is}
+use Rattle.dx_schema_text.specs.Grammar.{mapping}
 use Rattle.dx_schema_text.specs.Reading.{mapping_reader}
-use Rattle.dx_schema_text.specs.Spelling.{IsKeyword, IsMark, SpellsHead, SpellsSet, SpellsClauses, SpellsSide, SpellsMapping}
+use Rattle.dx_schema_text.specs.Spelling.{IsKeyword, IsMark, IsVersion, SpellsHead, SpellsSet, SpellsClauses, SpellsSide, SpellsMapping}
 
 -- a set stands at depth 16 at most: a root has 15 levels of inner sets
 abbrev pub deepest : ℕ
 deepest = 15
 
--- the form of a mapping text of version 1
+-- the form of a mapping text
 abbrev pub form : Form Lexeme
-form = mapping (codes "1") deepest
+form = mapping deepest
 
 -- the same where sets may be nested one level deeper
 abbrev pub deeper_form : Form Lexeme
-deeper_form = mapping (codes "1") 16
+deeper_form = mapping 16
 
 -- what was begun where the tokens stop
 abbrev pub begun_in : Option Stop → List Lexeme
@@ -71,18 +71,20 @@ StandsTooDeep text place = (u : IsUnexpected text place) × StandsDeeper text u.
 
 -- So many sets are open after these tokens, which begin with the word `set` of the outermost: of each stand the head and whole
 -- clauses there, with as many levels of inner sets as it has room for.
-pub data OpenSets : ℕ → List Lexeme → Type 0 where
-  one_set : {name : List ℕ} {columns : List (List ℕ)} {cs : List Clause} {u v : List Lexeme} → SpellsHead name columns u → SpellsClauses 0 cs v → OpenSets 1 (u ++ v)
-  and_inner : {n : ℕ} {name : List ℕ} {columns : List (List ℕ)} {cs : List Clause} {u v w : List Lexeme} → SpellsHead name columns u → SpellsClauses n cs v → OpenSets n w → OpenSets (suc n) (u ++ (v ++ w))
+pub data OpenSets : ℕ → ℕ → List Lexeme → Type 0 where
+  one_set : {version : ℕ} {name : List ℕ} {columns : List (List ℕ)} {cs : List Clause} {u v : List Lexeme} → SpellsHead name columns u → SpellsClauses version 0 cs v → OpenSets version 1 (u ++ v)
+  and_inner : {version n : ℕ} {name : List ℕ} {columns : List (List ℕ)} {cs : List Clause} {u v w : List Lexeme} → SpellsHead name columns u → SpellsClauses version n cs v → OpenSets version n w → OpenSets version (suc n) (u ++ (v ++ w))
 
 -- A side is open after these tokens: its name, an opening brace, whole sets, and so many open ones.
-pub data OpenSide : List ℕ → ℕ → List Lexeme → Type 0 where
-  open_side : {name : List ℕ} {n : ℕ} {trees : List Tree} {u w : List Lexeme} (k o : Lexeme) → IsKeyword name k → IsMark (codes "{") o → Many (SpellsSet deepest) trees u → OpenSets n w → OpenSide name n (k ∷ o ∷ (u ++ w))
+pub data OpenSide : ℕ → List ℕ → ℕ → List Lexeme → Type 0 where
+  open_side : {version : ℕ} {name : List ℕ} {n : ℕ} {trees : List Tree} {u w : List Lexeme} (k o : Lexeme) → IsKeyword name k → IsMark (codes "{") o → Many (SpellsSet version deepest) trees u → OpenSets version n w
+      → OpenSide version name n (k ∷ o ∷ (u ++ w))
 
 -- So many sets of a mapping are open after these tokens.
 pub data OpenMapping : ℕ → List Lexeme → Type 0 where
-  in_source : {n : ℕ} {u : List Lexeme} (k v e : Lexeme) → IsKeyword (codes "mapping") k → number_is (codes "1") v ≡ true → IsMark (codes ";") e → OpenSide (codes "source") n u → OpenMapping n (k ∷ v ∷ e ∷ u)
-  in_target : {n : ℕ} {from : Forest} {u w : List Lexeme} (k v e : Lexeme) → IsKeyword (codes "mapping") k → number_is (codes "1") v ≡ true → IsMark (codes ";") e → SpellsSide (codes "source") deepest from u → OpenSide (codes "target") n w → OpenMapping n (k ∷ v ∷ e ∷ (u ++ w))
+  in_source : {version n : ℕ} {u : List Lexeme} (k v e : Lexeme) → IsKeyword (codes "mapping") k → IsVersion version v → IsMark (codes ";") e → OpenSide version (codes "source") n u → OpenMapping n (k ∷ v ∷ e ∷ u)
+  in_target : {version n : ℕ} {from : Forest} {u w : List Lexeme} (k v e : Lexeme) → IsKeyword (codes "mapping") k → IsVersion version v → IsMark (codes ";") e → SpellsSide version (codes "source") deepest from u
+      → OpenSide version (codes "target") n w → OpenMapping n (k ∷ v ∷ e ∷ (u ++ w))
 
 -- The token of this number is the word `set` of a set at depth 17: 16 sets are open before it.
 pub record IsSetTooDeep (text : List ℕ) (number : ℕ) : Type 0 where

@@ -1,7 +1,8 @@
 // Sets with their clauses.
 ghost use Rattle.std.specs.Prelude.{◌≡◌, ℕ, List, codes, IfOk};
 ghost use Rattle.dx_grammar.specs.Readers.{passed, give, next_is, many, Gives};
-ghost use Rattle.dx_schema_text.specs.Reading.{key_reader, reference_of, referred_reader, ref_reader, key_clause, ref_clause, set_clause, begins_clause, last_clause_reader, clause_reader_with, clause_reader, set_head_reader, set_reader, tree_of};
+ghost use Rattle.dx_schema_text.specs.Grammar.{since_two};
+ghost use Rattle.dx_schema_text.specs.Reading.{key_reader, reference_of, optional_reader, referred_reader, ref_reader, key_clause, ref_clause, set_clause, begins_clause, last_clause_reader, clause_reader_with, clause_reader, set_head_reader, set_reader, tree_of};
 
 use crate::lexemes::{keyword, mark, names, next_is_keyword, word};
 use dx_grammar::ReadError;
@@ -30,34 +31,56 @@ fn key(alloc: Global, tokens: &[Lexeme]) -> Result<(KeyDecl, &[Lexeme]), ReadErr
     Ok((KeyDecl { columns }, rest))
 }
 
-// The set that a ref's columns refer to, and the columns there.
+// Whether the word `optional` comes next, if refs may be optional.
+#[tactic(auto, unfolding(crate::specs::Reading::optional_reader))]
+fn optional(optionals: bool, tokens: &[Lexeme]) -> Result<(bool, &[Lexeme]), ReadError>
+    ensures { Gives (λ x. (x.0, x.1.now)) result (optional_reader optionals tokens.now) }
+{
+    if optionals && next_is_keyword(tokens, b"optional") {
+        let (_, rest) = keyword(tokens, b"optional")?;
+        Ok((true, rest))
+    } else {
+        Ok((false, tokens))
+    }
+}
+
+// The set that a ref's columns refer to, the columns there, and whether the ref is optional.
 #[tactic(auto, unfolding(crate::specs::Reading::referred_reader))]
-fn referred(alloc: Global, tokens: &[Lexeme]) -> Result<(Text, Items<Text>, &[Lexeme]), ReadError>
-    ensures { (columns : List (List ℕ)) → Gives (λ x. (reference_of columns x.0 x.1, x.2.now)) result (referred_reader columns tokens.now) }
+fn referred(
+    alloc: Global,
+    optionals: bool,
+    tokens: &[Lexeme],
+) -> Result<(Text, Items<Text>, bool, &[Lexeme]), ReadError>
+    ensures { (columns : List (List ℕ)) → Gives (λ x. (reference_of columns x.0 x.1 x.2, x.3.now)) result (referred_reader optionals columns tokens.now) }
 {
     let (set, rest) = word(tokens)?;
     let (_, rest) = mark(rest, b"(")?;
     let (referred, rest) = names(alloc, rest)?;
     let (_, rest) = mark(rest, b")")?;
+    let (is_optional, rest) = optional(optionals, rest)?;
     let (_, rest) = mark(rest, b";")?;
-    Ok((set.text.copy()?, referred, rest))
+    Ok((set.text.copy()?, referred, is_optional, rest))
 }
 
 #[tactic(auto, unfolding(crate::specs::Reading::ref_reader))]
-fn reference(alloc: Global, tokens: &[Lexeme]) -> Result<(RefDecl, &[Lexeme]), ReadError>
-    ensures { Gives (λ x. (x.0, x.1.now)) result (ref_reader tokens.now) }
+fn reference(
+    alloc: Global,
+    optionals: bool,
+    tokens: &[Lexeme],
+) -> Result<(RefDecl, &[Lexeme]), ReadError>
+    ensures { Gives (λ x. (x.0, x.1.now)) result (ref_reader optionals tokens.now) }
 {
     let (_, rest) = keyword(tokens, b"ref")?;
     let (_, rest) = mark(rest, b"(")?;
     let (columns, rest) = names(alloc, rest)?;
     let (_, rest) = mark(rest, b")")?;
     let (_, rest) = mark(rest, b"->")?;
-    let (set, referred, rest) = referred(alloc, rest)?;
+    let (set, referred, optional, rest) = referred(alloc, optionals, rest)?;
     let reference = RefDecl {
         columns,
         set,
         referred,
-        optional: false,
+        optional,
     };
     Ok((reference, rest))
 }
@@ -107,34 +130,43 @@ fn key_among(alloc: Global, tokens: &[Lexeme]) -> Result<(Clause, &[Lexeme]), Re
     Ok((Clause::Key(key), rest))
 }
 
-fn ref_among(alloc: Global, tokens: &[Lexeme]) -> Result<(Clause, &[Lexeme]), ReadError>
-    ensures { Gives (λ x. (x.0, x.1.now)) result (passed (ref_reader tokens.now) (λ r. give (ref_clause r))) }
+fn ref_among(
+    alloc: Global,
+    version: u32,
+    tokens: &[Lexeme],
+) -> Result<(Clause, &[Lexeme]), ReadError>
+    ensures { Gives (λ x. (x.0, x.1.now)) result (passed (ref_reader (since_two version) tokens.now) (λ r. give (ref_clause r))) }
 {
-    let (reference, rest) = reference(alloc, tokens)?;
+    let (reference, rest) = reference(alloc, version >= 2, tokens)?;
     Ok((Clause::Ref(reference), rest))
 }
 
 // A clause where no inner set may stand.
 #[tactic(auto, unfolding(crate::specs::Reading::last_clause_reader))]
-fn last_clause(alloc: Global, tokens: &[Lexeme]) -> Result<(Clause, &[Lexeme]), ReadError>
-    ensures { Gives (λ x. (x.0, x.1.now)) result (last_clause_reader tokens.now) }
+fn last_clause(
+    alloc: Global,
+    version: u32,
+    tokens: &[Lexeme],
+) -> Result<(Clause, &[Lexeme]), ReadError>
+    ensures { Gives (λ x. (x.0, x.1.now)) result (last_clause_reader version tokens.now) }
 {
     if next_is_keyword(tokens, b"key") {
         key_among(alloc, tokens)
     } else {
-        ref_among(alloc, tokens)
+        ref_among(alloc, version, tokens)
     }
 }
 
 #[cycle(sets)]
 fn set_among(
     alloc: Global,
+    version: u32,
     levels: u32,
     tokens: &[Lexeme],
 ) -> Result<(Clause, &[Lexeme]), ReadError>
-    ensures { Gives (λ x. (x.0, x.1.now)) result (passed (set_reader levels tokens.now) (λ t. give (set_clause t))) }
+    ensures { Gives (λ x. (x.0, x.1.now)) result (passed (set_reader version levels tokens.now) (λ t. give (set_clause t))) }
 {
-    let (tree, rest) = set(alloc, levels, tokens)?;
+    let (tree, rest) = set(alloc, version, levels, tokens)?;
     Ok((Clause::Set(tree), rest))
 }
 
@@ -143,47 +175,50 @@ fn set_among(
 #[tactic(auto, unfolding(crate::specs::Reading::clause_reader_with))]
 fn clause_with(
     alloc: Global,
+    version: u32,
     levels: u32,
     tokens: &[Lexeme],
 ) -> Result<(Clause, &[Lexeme]), ReadError>
-    ensures { Gives (λ x. (x.0, x.1.now)) result (clause_reader_with (set_reader levels) tokens.now) }
+    ensures { Gives (λ x. (x.0, x.1.now)) result (clause_reader_with version (set_reader version levels) tokens.now) }
 {
     if next_is_keyword(tokens, b"key") {
         key_among(alloc, tokens)
     } else if next_is_keyword(tokens, b"ref") {
-        ref_among(alloc, tokens)
+        ref_among(alloc, version, tokens)
     } else {
-        set_among(alloc, levels, tokens)
+        set_among(alloc, version, levels, tokens)
     }
 }
 
 #[cycle(sets)]
 fn one_clause(
     alloc: Global,
+    version: u32,
     levels: u32,
     tokens: &[Lexeme],
 ) -> Result<(Clause, &[Lexeme]), ReadError>
-    ensures { Gives (λ x. (x.0, x.1.now)) result (clause_reader levels tokens.now) }
+    ensures { Gives (λ x. (x.0, x.1.now)) result (clause_reader version levels tokens.now) }
 {
     if levels == 0 {
-        last_clause(alloc, tokens)
+        last_clause(alloc, version, tokens)
     } else {
-        clause_with(alloc, levels - 1, tokens)
+        clause_with(alloc, version, levels - 1, tokens)
     }
 }
 
 #[cycle(sets)]
 fn clauses(
     alloc: Global,
+    version: u32,
     levels: u32,
     tokens: &[Lexeme],
 ) -> Result<(Items<Clause>, &[Lexeme]), ReadError>
-    ensures { Gives (λ x. (x.0, x.1.now)) result (many (begins_clause levels) (clause_reader levels) tokens.now) }
+    ensures { Gives (λ x. (x.0, x.1.now)) result (many (begins_clause levels) (clause_reader version levels) tokens.now) }
 {
     let mut clauses = Items::new(alloc);
     let mut rest = tokens;
     'clauses: while next_is_clause(rest, levels) {
-        let (next, after) = one_clause(alloc, levels, rest)?;
+        let (next, after) = one_clause(alloc, version, levels, rest)?;
         clauses.push(next)?;
         rest = after;
     }
@@ -203,18 +238,19 @@ fn set_head(alloc: Global, tokens: &[Lexeme]) -> Result<(Text, Items<Text>, &[Le
     Ok((name.text.copy()?, columns, rest))
 }
 
-/// A set with so many levels of inner sets, at most.
+/// A set with so many levels of inner sets, at most, in a text of this version.
 #[cycle(sets)]
 #[tactic(auto, unfolding(crate::specs::Reading::set_reader_of))]
 pub(crate) fn set(
     alloc: Global,
+    version: u32,
     levels: u32,
     tokens: &[Lexeme],
 ) -> Result<(SetTree, &[Lexeme]), ReadError>
-    ensures { Gives (λ x. (x.0, x.1.now)) result (set_reader levels tokens.now) }
+    ensures { Gives (λ x. (x.0, x.1.now)) result (set_reader version levels tokens.now) }
 {
     let (name, columns, rest) = set_head(alloc, tokens)?;
-    let (clauses, rest) = clauses(alloc, levels, rest)?;
+    let (clauses, rest) = clauses(alloc, version, levels, rest)?;
     let (_, rest) = mark(rest, b"}")?;
     Ok((tree_made(alloc, name, columns, clauses)?, rest))
 }

@@ -1,5 +1,5 @@
 // The laws of mapping texts. The definitions alone carry them: no body computes anything.
-ghost use Rattle.dx_schema_text.specs.Laws.{MappingOrFault, NeverBoth, OneFault, OneMapping, SaidIsWritable, SpelledAreTexts, StandingGoesOn, TextsHaveFewRules, TooDeepAreSets};
+ghost use Rattle.dx_schema_text.specs.Laws.{MappingOrFault, NeverBoth, OneFault, OneMapping, SaidIsOfVersion, SaidIsWritable, SpelledAreTexts, StandingGoesOn, TextsHaveFewRules, TooDeepAreSets};
 
 /// A text says one mapping, or it has one first fault.
 pub fn a_text_says_one_thing()
@@ -20,7 +20,12 @@ pub fn too_deep_are_sets()
     ensures { TooDeepAreSets }
 {}
 
-/// The sets that a text says can be printed and are read again.
+/// A text is of version 1 or 2. Before version 2 it says no conditions.
+pub fn what_is_said_is_of_its_version()
+    ensures { SaidIsOfVersion }
+{}
+
+/// The sets that a text says can be printed and are read again in a text of the same version.
 pub fn what_is_said_is_writable()
     ensures { SaidIsWritable }
 {}

@@ -69,6 +69,16 @@ pub(crate) fn next_is_mark(tokens: &[Lexeme], mark: &[u8]) -> bool
     }
 }
 
+/// Whether this number comes next.
+pub(crate) fn next_is_number(tokens: &[Lexeme], number: &[u8]) -> bool
+    ensures { result ≡ next_is (number_is number.now) tokens.now }
+{
+    match tokens.split_first() {
+        Some((first, _)) => is_number(first, number),
+        None => false,
+    }
+}
+
 /// Whether this word comes next.
 pub(crate) fn next_is_keyword(tokens: &[Lexeme], word: &[u8]) -> bool
     ensures { result ≡ next_is (word_is word.now) tokens.now }

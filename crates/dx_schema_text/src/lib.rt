@@ -20,10 +20,11 @@ pub use dx_schema::{KeyDecl, RefDecl, SetTree, Trees};
 pub use dx_tokens::{TextFault, TextKind, Token, TokenKind, tokens};
 pub use laws::{
     a_text_says_one_thing, texts_are_spelled, texts_have_few_rules, too_deep_are_sets,
-    what_is_said_is_writable,
+    what_is_said_is_of_its_version, what_is_said_is_writable,
 };
 pub use print::print_trees;
 pub use read::read_mapping;
 pub use texts::{
-    AtomText, CellText, DerivedText, LineText, MappingText, PlaceText, RuleText, SourceText,
+    AtomText, CellText, DerivedText, LineText, MappingText, OnlyText, PlaceText, RuleText,
+    SourceText,
 };

@@ -1,11 +1,11 @@
-// Lines from sources to places of the target.
+// Lines from sources to places of the target, and conditions on columns of the source.
 ghost use Rattle.std.specs.Prelude.{◌≡◌, codes};
 ghost use Rattle.dx_grammar.specs.Readers.{many, with_front, Gives};
 ghost use Rattle.dx_schema_text.specs.Grammar.{mark_is};
-ghost use Rattle.dx_schema_text.specs.Reading.{place_reader, comma_place, places_reader, string_reader, column_reader, call_reader, named_reader, source_reader, line_reader};
+ghost use Rattle.dx_schema_text.specs.Reading.{place_reader, comma_place, places_reader, string_reader, column_reader, call_reader, named_reader, source_reader, line_reader, only_reader};
 
 use crate::lexemes::{keyword, mark, next_is_mark, next_is_string, string, word};
-use crate::texts::{LineText, PlaceText, SourceText};
+use crate::texts::{LineText, OnlyText, PlaceText, SourceText};
 use dx_grammar::ReadError;
 use dx_ports::Items;
 use dx_tokens::Lexeme;
@@ -140,4 +140,21 @@ pub(crate) fn line(alloc: Global, tokens: &[Lexeme]) -> Result<(LineText, &[Lexe
     let (target, rest) = place(rest)?;
     let (_, rest) = mark(rest, b";")?;
     Ok((LineText { source, target }, rest))
+}
+
+/// A condition, and what is left after it.
+#[tactic(auto, unfolding(crate::specs::Reading::only_reader))]
+pub(crate) fn only(tokens: &[Lexeme]) -> Result<(OnlyText, &[Lexeme]), ReadError>
+    ensures { Gives (λ x. (x.0, x.1.now)) result (only_reader tokens.now) }
+{
+    let (_, rest) = keyword(tokens, b"only")?;
+    let (place, rest) = place(rest)?;
+    let (test, rest) = word(rest)?;
+    let (_, rest) = mark(rest, b";")?;
+    let condition = OnlyText {
+        place,
+        test: test.text.copy()?,
+        test_place: test.place,
+    };
+    Ok((condition, rest))
 }

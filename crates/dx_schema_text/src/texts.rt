@@ -85,10 +85,21 @@ pub struct RuleText {
     pub conclusion: Items<AtomText>,
 }
 
+/// A condition: the rows whose text in the column doesn't pass the test are left out.
+#[derive(Debug, Drop)]
+pub struct OnlyText {
+    /// The column.
+    pub place: PlaceText,
+    /// The test's name.
+    pub test: Text,
+    /// Where the test's name stands.
+    pub test_place: u64,
+}
+
 /// All that a mapping text says.
 #[derive(Drop)]
 pub struct MappingText {
-    /// The version of the grammar of mapping texts, which is 1.
+    /// The version of the grammar of mapping texts, which is 1 or 2.
     pub version: u32,
     /// The sets of the source.
     pub source: Trees,
@@ -96,6 +107,8 @@ pub struct MappingText {
     pub target: Trees,
     /// The lines in order.
     pub lines: Items<LineText>,
+    /// The conditions in order. There are none before version 2.
+    pub conditions: Items<OnlyText>,
     /// The hand-written rules in order.
     pub rules: Items<RuleText>,
 }

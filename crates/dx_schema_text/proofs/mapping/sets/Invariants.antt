@@ -6,7 +6,7 @@ use Rattle.dx_schema_text.specs.Reading.{set_reader}
 use Rattle.dx_schema_text.proofs.mapping.sets.Given as goal
 
 abbrev pub invariant-sets : goal.invariant-sets
-invariant-sets l = with_front l.sets (many (word_is (codes "set")) (set_reader l.levels) l.rest) ≡ many (word_is (codes "set")) (set_reader l.levels) l.fn.tokens
+invariant-sets l = with_front l.sets (many (word_is (codes "set")) (set_reader l.version l.levels) l.rest) ≡ many (word_is (codes "set")) (set_reader l.version l.levels) l.fn.tokens
 
 abbrev pub decreases-sets : goal.decreases-sets
 decreases-sets l = length l.rest
