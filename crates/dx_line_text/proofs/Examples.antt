@@ -1,4 +1,4 @@
--- Employees and persons: lines with names that are there, and with names that aren't.
+-- Employees and persons: lines and conditions with names that are there, and with names that aren't.
 use Rattle.std.proofs.Common.{◌≡◌, ℕ, List, [], ◌∷◌, Option, Some, None, codes, refl}
 use Rattle.dx_schema.specs.Forest.{Forest, none, set, bare}
 use Rattle.dx_schema.specs.Tables.{Text}
@@ -10,7 +10,10 @@ use Rattle.dx_schema_text.specs.declared.texts.SourceText.TheVariants as sources
 use Rattle.dx_schema_text.specs.declared.texts.LineText.{LineText}
 use Rattle.dx_funcs.specs.declared.conversion.Conversion.{Conversion}
 use Rattle.dx_lines.specs.declared.line.Origin.TheVariants as origins
+use Rattle.dx_schema_text.specs.declared.texts.OnlyText.{OnlyText}
+use Rattle.dx_funcs.specs.declared.row_test.RowTest.{RowTest}
 use Rattle.dx_line_text.specs.Naming.{lines_fault, lines_of}
+use Rattle.dx_line_text.specs.Conditions.{conditions_fault, conditions_of}
 
 -- a set of one level, with one column
 abbrev flat : Text → Text → Forest → Forest
@@ -103,3 +106,32 @@ literal = refl
 -- the first line's fault is the lines' fault
 first_line : fault (line no_column ∷ line no_set ∷ []) ≡ Some (At 9 UnknownName)
 first_line = refl
+
+-- ---- conditions
+
+-- two row tests
+abbrev row_tests : List RowTest
+row_tests = record { name = codes "filled"; code = 4 } ∷ record { name = codes "numeric"; code = 7 } ∷ []
+
+abbrev condition : PlaceText → Text → OnlyText
+condition p test = record { place = p; test = test; test_place = 14 }
+
+abbrev conditions_at_fault : List OnlyText → Option TextFault
+conditions_at_fault os = conditions_fault employees row_tests os
+
+-- names that are there, by their numbers and codes
+conditions_read : conditions_at_fault (condition name (codes "numeric") ∷ condition name (codes "filled") ∷ []) ≡ None
+conditions_read = refl
+
+conditions_numbers : conditions_of employees row_tests (condition name (codes "numeric") ∷ []) ≡ record { place = record { table = 1; column = 0 }; code = 7 } ∷ []
+conditions_numbers = refl
+
+-- of a condition first its set is at fault, then its column, then its test
+condition_set_first : conditions_at_fault (condition neither (codes "full") ∷ []) ≡ Some (At 5 UnknownName)
+condition_set_first = refl
+
+condition_column_then : conditions_at_fault (condition no_column (codes "full") ∷ []) ≡ Some (At 9 UnknownName)
+condition_column_then = refl
+
+condition_test_last : conditions_at_fault (condition name (codes "full") ∷ []) ≡ Some (At 14 UnknownName)
+condition_test_last = refl

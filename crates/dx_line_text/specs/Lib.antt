@@ -1,3 +1,4 @@
 pub mod Answers
 pub mod Naming
+pub mod Conditions
 pub mod Laws
