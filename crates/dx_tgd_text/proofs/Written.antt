@@ -12,7 +12,7 @@ use Rattle.dx_schema_text.specs.declared.texts.RuleText.{RuleText}
 use Rattle.dx_schema_text.specs.declared.texts.MappingText.{MappingText}
 use Rattle.dx_schema_text.specs.declared.mapping.ItemText.{ItemText}
 use Rattle.dx_schema_text.specs.Reading.{rules_among}
-use Rattle.dx_schema_text.specs.Spelling.{Comma, comma_then, Parted, parted, SpellsCell, a_name, a_text, SpellsAtom, atom_of, SpellsDerived, derived_of, SpellsWhere, no_where, where_of, SpellsRule, rule_of, SpellsItem, a_line, a_rule, SpellsMapping, mapping_of}
+use Rattle.dx_schema_text.specs.Spelling.{Comma, comma_then, Parted, parted, SpellsCell, a_name, a_text, SpellsAtom, atom_of, SpellsDerived, derived_of, SpellsWhere, no_where, where_of, SpellsRule, rule_of, SpellsItem, a_line, a_rule, a_condition, SpellsMapping, mapping_of}
 use Rattle.dx_tgd_text.specs.Numbering.{text_cells}
 use Rattle.dx_tgd_text.specs.Reading.{size_of}
 use Rattle.dx_tgd_text.specs.Laws.{IsName, IsWhole, TextsHaveWholeRules}
@@ -129,10 +129,11 @@ IsGood n r = IsWhole r × (size_of r ≤ n)
 more_good : (n k : ℕ) → n ≤ k → (rs : List RuleText) → Each rs (IsGood n) → Each rs (IsGood k)
 more_good n k le rs h r m = let g = h r m in let few = g.1 in (g.0, omega (arith, le, few))
 
-items_good : (n : ℕ) (rest : List ItemText) (xs : List Lexeme) → length xs ≤ n → Many SpellsItem rest xs → Each (rules_among rest) (IsGood n)
-items_good n _ _ le no_more r m = elim m [ ]
-items_good n _ _ le (one_more {others = others} {u = u} {v = v} (a_line line) rest) r m = items_good n others v (omega (arith, le, length-append u v)) rest r m
-items_good n _ _ le (one_more {others = others} {u = u} {v = v} (a_rule {r = s} rule) rest) r m = go (items_good n others v (omega (arith, le, length-append u v)) rest) m
+items_good : (conditions : Bool) (n : ℕ) (rest : List ItemText) (xs : List Lexeme) → length xs ≤ n → Many (SpellsItem conditions) rest xs → Each (rules_among rest) (IsGood n)
+items_good _ n _ _ le no_more r m = elim m [ ]
+items_good _ n _ _ le (one_more {others = others} {u = u} {v = v} (a_line line) rest) r m = items_good _ n others v (omega (arith, le, length-append u v)) rest r m
+items_good _ n _ _ le (one_more {others = others} {u = u} {v = v} (a_condition only) rest) r m = items_good _ n others v (omega (arith, le, length-append u v)) rest r m
+items_good _ n _ _ le (one_more {others = others} {u = u} {v = v} (a_rule {r = s} rule) rest) r m = go (items_good _ n others v (omega (arith, le, length-append u v)) rest) m
   where
     go : Each (rules_among others) (IsGood n) → r ∈ (s ∷ rules_among others) → IsGood n r
     go more (here e) = let g = rule_whole s u rule in let few = g.1 in subst (IsGood n) e (g.0, omega (arith, le, few, length-append u v))
@@ -140,7 +141,7 @@ items_good n _ _ le (one_more {others = others} {u = u} {v = v} (a_rule {r = s} 
 
 mapping_good : (levels n : ℕ) (m : MappingText) (xs : List Lexeme) → length xs ≤ n → SpellsMapping levels m xs → Each m.rules (IsGood n)
 mapping_good levels n _ _ le (mapping_of {rest = rest} {u = u} {v = v} {w = w} k v1 e keyword version ending from to items) =
-    items_good n rest w (omega (arith, le, length-append u (v ++ w), length-append v w)) items
+    items_good _ n rest w (omega (arith, le, length-append u (v ++ w), length-append v w)) items
 
 pub texts_have_whole_rules : TextsHaveWholeRules
 texts_have_whole_rules text m h = mapping_good _ (length text) m _ (lexemes_few text) h.spelled
