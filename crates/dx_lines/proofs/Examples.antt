@@ -15,7 +15,10 @@ use Rattle.dx_lines.specs.declared.candidate.Candidate.{Candidate}
 use Rattle.dx_lines.specs.declared.candidate.Pick.{Pick}
 use Rattle.dx_lines.specs.declared.term.Term.{Term}
 use Rattle.dx_lines.specs.declared.term.Term.TheVariants.{Var as Variable, Call}
-use Rattle.dx_lines.specs.Candidates.{pair_ways, candidates_of}
+use Rattle.dx_lines.specs.Ways.{ways}
+use Rattle.dx_lines.specs.Candidates.{candidates_of}
+use Rattle.dx_lines.specs.Parts.{parts, part_of}
+use Rattle.dx_logical.specs.Unfolding.{variant_of}
 use Rattle.dx_lines.specs.Kept.{kept_candidates}
 use Rattle.dx_lines.specs.Rules.{kept_rules}
 use Rattle.dx_lines.specs.Limits.{passed, IsColumn, LineFits}
@@ -90,7 +93,7 @@ abbrev trip_lines : List Line
 trip_lines = from_column 1 1 0 0 ∷ from_column 1 1 0 1 ∷ []
 
 -- four ways, and four candidates of the pair of trip and visit, and one of city and visit
-trip_ways : length (pair_ways trip_lines trips visits 0 0) ≡ 4
+trip_ways : length (ways trip_lines (variant_of trips 0 0).occurrences (variant_of visits 0 0).occurrences) ≡ 4
 trip_ways = refl
 
 trip_candidates : tables_of (candidates_of trip_lines trips visits) ≡ (0, 0) ∷ (0, 0) ∷ (0, 0) ∷ (0, 0) ∷ (1, 0) ∷ []
@@ -302,6 +305,78 @@ occurrences_first = refl
 
 ways_first : passed (from_each 33 0 ++ from_each 33 1) (table 33 [] ∷ []) (table 2 [] ∷ []) ≡ Some (record { what = counts.Ways; number = 64 })
 ways_first = refl
+
+-- ---- optional links
+
+abbrev open_table : ℕ → List Link → Table
+open_table w ls = record { width = w; determinations = []; links = []; optional = ls }
+
+-- emp(name, dept) with an optional link to dept(dname, city)
+abbrev open_company : List Table
+open_company = open_table 2 (link 1 1 0 ∷ []) ∷ table 2 [] ∷ []
+
+-- staff(sname, place)
+abbrev places : List Table
+places = table 2 [] ∷ []
+
+-- emp.name to staff.sname, dept.city to staff.place
+abbrev place_lines : List Line
+place_lines = from_column 0 0 0 0 ∷ from_column 1 1 0 1 ∷ []
+
+-- emp(x0, x1) -> staff(x0, y0), and emp(x0, x1), dept(x1, x2) -> staff(x0, x2), and dept(x0, x1) -> staff(y0, x1)
+open_rules : kept_rules place_lines open_company places ≡
+    rule (atom 0 (Var 0 ∷ Var 1 ∷ []) ∷ []) (atom 0 (Var 0 ∷ Ex 0 ∷ []) ∷ [])
+    ∷ rule (atom 0 (Var 0 ∷ Var 1 ∷ []) ∷ atom 1 (Var 1 ∷ Var 2 ∷ []) ∷ []) (atom 0 (Var 0 ∷ Var 2 ∷ []) ∷ [])
+    ∷ rule (atom 1 (Var 0 ∷ Var 1 ∷ []) ∷ []) (atom 0 (Ex 0 ∷ Var 1 ∷ []) ∷ [])
+    ∷ []
+open_rules = refl
+
+-- where the link isn't optional, the last two
+firm_rules : kept_rules place_lines (table 2 (link 1 1 0 ∷ []) ∷ table 2 [] ∷ []) places ≡
+    rule (atom 0 (Var 0 ∷ Var 1 ∷ []) ∷ atom 1 (Var 1 ∷ Var 2 ∷ []) ∷ []) (atom 0 (Var 0 ∷ Var 2 ∷ []) ∷ [])
+    ∷ rule (atom 1 (Var 0 ∷ Var 1 ∷ []) ∷ []) (atom 0 (Ex 0 ∷ Var 1 ∷ []) ∷ [])
+    ∷ []
+firm_rules = refl
+
+variants_named : map {B = ℕ × ℕ × ℕ × ℕ} (λ (c : Candidate). (c.source, c.source_variant, c.target, c.target_variant)) (candidates_of place_lines open_company places) ≡
+    (0, 0, 0, 0) ∷ (0, 1, 0, 0) ∷ (1, 0, 0, 0) ∷ []
+variants_named = refl
+
+-- with a line of the employee alone, what the department adds nothing to is dropped
+one_line_rules : kept_rules (from_column 0 0 0 0 ∷ []) open_company places ≡ rule (atom 0 (Var 0 ∷ Var 1 ∷ []) ∷ []) (atom 0 (Var 0 ∷ Ex 0 ∷ []) ∷ []) ∷ []
+one_line_rules = refl
+
+-- the parts of the employee with the department: the whole, the employee alone, the department
+open_parts : map (λ a. map (λ (o : Occurrence). o.table) (part_of (variant_of open_company 0 1).occurrences a)) (parts open_company (variant_of open_company 0 1).occurrences) ≡
+    (0 ∷ 1 ∷ []) ∷ (0 ∷ []) ∷ (1 ∷ []) ∷ []
+open_parts = refl
+
+-- in the target: person(name, club) with an optional link to club(cname): a person alone, and with the club
+open_targets : kept_rules (from_column 0 0 0 0 ∷ from_column 0 1 1 0 ∷ []) (table 2 [] ∷ []) (open_table 2 (link 1 1 0 ∷ []) ∷ table 1 [] ∷ []) ≡
+    rule (atom 0 (Var 0 ∷ Var 1 ∷ []) ∷ []) (atom 0 (Var 0 ∷ Ex 0 ∷ []) ∷ [])
+    ∷ rule (atom 0 (Var 0 ∷ Var 1 ∷ []) ∷ []) (atom 0 (Var 0 ∷ Var 1 ∷ []) ∷ atom 1 (Var 1 ∷ []) ∷ [])
+    ∷ rule (atom 0 (Var 0 ∷ Var 1 ∷ []) ∷ []) (atom 1 (Var 1 ∷ []) ∷ [])
+    ∷ []
+open_targets = refl
+
+-- a set with n columns, each an optional ref to a set of its own with one column
+abbrev open_links : ℕ → List Link
+open_links zero = []
+open_links (suc n) = open_links n ++ link n (suc n) 0 ∷ []
+
+abbrev many_of : ℕ → List Table → List Table
+many_of zero ts = ts
+many_of (suc n) ts = many_of n (table 1 [] ∷ ts)
+
+abbrev star : ℕ → List Table
+star n = open_table n (open_links n) ∷ many_of n []
+
+-- 128 and 7 variants are accepted, 256 and 8 are not
+seven_open : passed [] (star 7) one ≡ None
+seven_open = refl
+
+eight_open : passed [] (star 8) one ≡ Some (record { what = counts.Variants; number = 256 })
+eight_open = refl
 
 -- ---- lines that fit, and that can be read
 

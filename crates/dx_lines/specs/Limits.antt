@@ -1,29 +1,49 @@
 -- The limits of lines between two schemas.
-use Rattle.std.specs.Prelude.{◌<◌, Bool, cond, ◌||◌, nat_lt, Option, Some, None, List, length}
+use Rattle.std.specs.Prelude.{ℕ, suc, ◌<◌, Bool, cond, nat_lt, Option, Some, None, List, [], ◌∷◌, ◌++◌, map, flat_map, length}
 use Rattle.std.specs.List.{list_any}
 use Rattle.dx_ports.specs.declared.file.Limit.{Limit}
-use Rattle.dx_ports.specs.declared.file.Count.TheVariants.{Occurrences, Ways, Candidates}
+use Rattle.dx_ports.specs.declared.file.Count.TheVariants.{Variants, Occurrences, Ways, Candidates}
 use Rattle.dx_ports.specs.Members.{Each}
 use Rattle.dx_model.specs.Tables.{Table, table_of}
 use Rattle.dx_lines.specs.declared.line.Place.{Place}
 use Rattle.dx_lines.specs.declared.line.Line.{Line}
-use Rattle.dx_logical.specs.Unfolding.{unfolding_of}
+use Rattle.dx_logical.specs.declared.relation.Relation.{Relation}
+use Rattle.dx_logical.specs.Unfolding.{variants_of}
 use Rattle.dx_lines.specs.Ways.{named}
-use Rattle.dx_lines.specs.Candidates.{upto, pair_ways, candidates_of}
+use Rattle.dx_lines.specs.Candidates.{upto, all_variants, pair_ways, candidates_of}
 
--- a table unfolds to more than 64 occurrences
-abbrev pub is_wide : List Table → Bool
-is_wide schema = list_any (λ t. nat_lt 64 (length (unfolding_of schema t).occurrences)) (upto (length schema))
+-- the first of these, or else what is found otherwise
+abbrev pub first_or : List (Option Limit) → Option Limit → Option Limit
+first_or [] rest = rest
+first_or (None ∷ more) rest = first_or more rest
+first_or (Some l ∷ more) rest = Some l
 
--- a source table and a target table have more than 64 ways
+-- the variants of the tables up to number t, summed
+abbrev pub count_upto : List Table → ℕ → ℕ
+count_upto schema t = length (flat_map (variants_of schema) (upto (suc t)))
+
+-- an unfolding has more than 64 occurrences
+abbrev pub is_wide : Relation → Bool
+is_wide r = nat_lt 64 (length r.occurrences)
+
+-- the first limit that is passed at table t: variants, then occurrences
+abbrev pub passed_at : List Table → ℕ → Option Limit
+passed_at schema t =
+    cond (nat_lt 256 (count_upto schema t)) (Some (record { what = Variants; number = 256 }))
+    (cond (list_any is_wide (variants_of schema t)) (Some (record { what = Occurrences; number = 64 })) None)
+
+-- what is passed at each table of a schema
+abbrev pub passed_by : List Table → List (Option Limit)
+passed_by schema = map (passed_at schema) (upto (length schema))
+
+-- a variant of a source table and one of a target table have more than 64 ways
 abbrev pub has_many_ways : List Line → List Table → List Table → Bool
-has_many_ways lines source target =
-    list_any (λ s. list_any (λ t. nat_lt 64 (length (pair_ways lines source target s t))) (upto (length target))) (upto (length source))
+has_many_ways lines source target = list_any (λ s. list_any (λ t. nat_lt 64 (length (pair_ways lines s t))) (all_variants target)) (all_variants source)
 
--- the first limit that is passed: occurrences, then ways, then candidates
+-- the first limit that is passed: those of the source's tables, then those of the target's, then ways, then candidates
 abbrev pub passed : List Line → List Table → List Table → Option Limit
 passed lines source target =
-    cond (is_wide source || is_wide target) (Some (record { what = Occurrences; number = 64 }))
+    first_or (passed_by source ++ passed_by target)
     (cond (has_many_ways lines source target) (Some (record { what = Ways; number = 64 }))
     (cond (nat_lt 1024 (length (candidates_of lines source target))) (Some (record { what = Candidates; number = 1024 })) None))
 

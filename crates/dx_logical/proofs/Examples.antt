@@ -6,7 +6,8 @@ use Rattle.dx_model.specs.Tables.{Table}
 use Rattle.dx_schema.specs.Forest.{Forest, none, set, bare}
 use Rattle.dx_schema.specs.Tables.{Text, model_tables}
 use Rattle.dx_logical.specs.declared.relation.Occurrence.{Occurrence}
-use Rattle.dx_logical.specs.Unfolding.{unfolding_of, sub}
+use Rattle.dx_logical.specs.declared.relation.Relation.{Relation}
+use Rattle.dx_logical.specs.Unfolding.{variants_of, unfolding_of, sub}
 use Rattle.dx_logical.specs.Laws.{variables_of}
 
 -- tables with their variables
@@ -113,3 +114,46 @@ five = refl
 -- variables are numbered by first appearance
 trips-variables : variables_of (unfolding_of (model_tables trips) 0) ≡ 0 ∷ 1 ∷ 2 ∷ 1 ∷ 3 ∷ 2 ∷ 4 ∷ []
 trips-variables = refl
+
+-- ---- optional links
+
+abbrev with_optional : ℕ → List Link → List Link → Table
+with_optional width links optional = record { width = width; determinations = []; links = links; optional = optional }
+
+abbrev variants_from : List Table → ℕ → List (List (ℕ × List ℕ))
+variants_from schema t = map (λ (r : Relation). atoms r.occurrences) (variants_of schema t)
+
+-- emp(name, dept) with an optional link to dept(dname, city): the employee alone, and with the department
+open_department : variants_from (with_optional 2 [] (link 1 1 0 ∷ []) ∷ table 2 [] ∷ []) 0 ≡
+    ((0, 0 ∷ 1 ∷ []) ∷ [])
+    ∷ ((0, 0 ∷ 1 ∷ []) ∷ (1, 1 ∷ 2 ∷ []) ∷ [])
+    ∷ []
+open_department = refl
+
+-- two optional links: the first varies slowest, nothing before something
+two_open : variants_from (with_optional 2 [] (link 0 1 0 ∷ link 1 2 0 ∷ []) ∷ table 1 [] ∷ table 1 [] ∷ []) 0 ≡
+    ((0, 0 ∷ 1 ∷ []) ∷ [])
+    ∷ ((0, 0 ∷ 1 ∷ []) ∷ (2, 1 ∷ []) ∷ [])
+    ∷ ((0, 0 ∷ 1 ∷ []) ∷ (1, 0 ∷ []) ∷ [])
+    ∷ ((0, 0 ∷ 1 ∷ []) ∷ (1, 0 ∷ []) ∷ (2, 1 ∷ []) ∷ [])
+    ∷ []
+two_open = refl
+
+-- a link to a table that has an optional one: its choices vary slower than those of the optional links after it
+behind_a_link : variants_from (with_optional 2 (link 0 1 0 ∷ []) (link 1 2 0 ∷ []) ∷ with_optional 1 [] (link 0 2 0 ∷ []) ∷ table 1 [] ∷ []) 0 ≡
+    ((0, 0 ∷ 1 ∷ []) ∷ (1, 0 ∷ []) ∷ [])
+    ∷ ((0, 0 ∷ 1 ∷ []) ∷ (1, 0 ∷ []) ∷ (2, 1 ∷ []) ∷ [])
+    ∷ ((0, 0 ∷ 1 ∷ []) ∷ (1, 0 ∷ []) ∷ (2, 0 ∷ []) ∷ [])
+    ∷ ((0, 0 ∷ 1 ∷ []) ∷ (1, 0 ∷ []) ∷ (2, 0 ∷ []) ∷ (2, 1 ∷ []) ∷ [])
+    ∷ []
+behind_a_link = refl
+
+-- an optional link has its number after those of the links
+numbers_of_links :
+    map (λ (r : Relation). map (λ (o : Occurrence). o.link) r.occurrences) (variants_of (with_optional 2 (link 0 1 0 ∷ []) (link 1 1 0 ∷ []) ∷ table 1 [] ∷ []) 0)
+    ≡ (0 ∷ 0 ∷ []) ∷ (0 ∷ 0 ∷ 1 ∷ []) ∷ []
+numbers_of_links = refl
+
+-- each optional link doubles the list
+eight_open : length (variants_of (with_optional 8 [] (link 0 1 0 ∷ link 1 1 0 ∷ link 2 1 0 ∷ link 3 1 0 ∷ link 4 1 0 ∷ link 5 1 0 ∷ link 6 1 0 ∷ link 7 1 0 ∷ []) ∷ table 1 [] ∷ []) 0) ≡ 256
+eight_open = refl
