@@ -1,13 +1,16 @@
 -- Used columns: a(x0, x1, x2), b(x2) -> p(x0) asks nothing of the second column of a, and uses all others; a(x0, x1, x2) -> p(x1)
 -- uses the second alone.
-use Rattle.std.proofs.Common.{◌≡◌, ℕ, true, false, List, [], ◌∷◌, refl, sym, ◌∙◌, ap, subst, arith}
+use Rattle.std.proofs.Common.{◌≡◌, ℕ, true, false, List, [], ◌∷◌, refl, sym, ◌∙◌, ap, subst, arith, inl, inr}
 use Rattle.dx_ports.specs.Members.{here, there}
 use Rattle.dx_model.specs.declared.values.Value.TheVariants.{Const}
 use Rattle.dx_model.specs.declared.facts.Fact.{Fact}
 use Rattle.dx_model.specs.declared.rules.Cell.TheVariants.{Var, Lit}
 use Rattle.dx_model.specs.declared.rules.Atom.{Atom}
 use Rattle.dx_model.specs.declared.rules.Rule.{Rule}
-use Rattle.dx_used.specs.Used.{times, mentions, IsIdle, AreIdle, Agree, Asks, IsUsedBy, IsUsed, HaveWidths, AreExact, blanked, fact_blanked}
+use Rattle.dx_lines.specs.declared.line.Condition.{Condition}
+use Rattle.dx_used.specs.Used.{times, mentions, IsIdle, AreIdle, Agree, Asks, IsUsedBy, IsUsed, HaveWidths, blanked, fact_blanked}
+use Rattle.dx_used.specs.Named.{AreExact, IsNamed, ReadNamed}
+use Rattle.dx_used.specs.Passing.{Passes, passing}
 
 abbrev first : Atom
 first = record { table = 0; cells = Var 0 ∷ Var 1 ∷ Var 2 ∷ [] }
@@ -115,8 +118,38 @@ no_table_is_left_out e = absurd (cc e)
 no_column_is_left_out : ¬ HaveWidths (3 ∷ 1 ∷ []) ((true ∷ false ∷ []) ∷ (true ∷ []) ∷ [])
 no_column_is_left_out e = absurd (cc e)
 
-a_mark_too_few : ¬ AreExact (rule ∷ other ∷ []) ((true ∷ false ∷ true ∷ []) ∷ (true ∷ []) ∷ [])
-a_mark_too_few e = absurd (cc ((e 0 1 (omega arith)).1 used_by_the_last))
+a_mark_too_few : ¬ AreExact (rule ∷ other ∷ []) [] ((true ∷ false ∷ true ∷ []) ∷ (true ∷ []) ∷ [])
+a_mark_too_few e = absurd (cc ((e 0 1 (omega arith)).1 (inl used_by_the_last)))
 
-a_mark_too_many : ¬ AreExact (rule ∷ []) ((true ∷ true ∷ true ∷ []) ∷ (true ∷ []) ∷ [])
-a_mark_too_many e = used_by_none ((e 0 1 (omega arith)).0 refl)
+a_mark_too_many : ¬ AreExact (rule ∷ []) [] ((true ∷ true ∷ true ∷ []) ∷ (true ∷ []) ∷ [])
+a_mark_too_many e = elim ((e 0 1 (omega arith)).0 refl) [ inl u ↦ used_by_none u | inr n ↦ elim n.1 [ ] ]
+
+-- ---- conditions
+
+-- the second column must be filled
+abbrev filled : Condition
+filled = record { place = record { table = 0; column = 1 }; code = 0 }
+
+abbrev tests : Passes
+tests code [] = false
+tests code (b ∷ bs) = true
+
+-- it is read, though no rule uses it
+named_though_not_used : IsNamed (filled ∷ []) 0 1
+named_though_not_used = (filled, here refl, refl, refl)
+
+a_named_column_without_mark : ¬ ReadNamed ((true ∷ false ∷ []) ∷ []) (filled ∷ [])
+a_named_column_without_mark r = absurd (cc (r filled (here refl)))
+
+a_named_mark_too_few : ¬ AreExact (rule ∷ []) (filled ∷ []) ((true ∷ false ∷ true ∷ []) ∷ (true ∷ []) ∷ [])
+a_named_mark_too_few e = absurd (cc ((e 0 1 (omega arith)).1 (inr named_though_not_used)))
+
+-- the rows that are filled there pass, and rows of other tables
+filled_rows_pass : (a : List ℕ) → passing tests (filled ∷ []) (of a [] ∷ of a (1 ∷ []) ∷ record { table = 1; row = Const [] ∷ Const [] ∷ [] } ∷ [])
+    ≡ of a (1 ∷ []) ∷ record { table = 1; row = Const [] ∷ Const [] ∷ [] } ∷ []
+filled_rows_pass a = refl
+
+-- each of the conditions is asked for, and the first column too
+both_are_asked : passing tests (filled ∷ record { place = record { table = 0; column = 0 }; code = 0 } ∷ []) (of [] (1 ∷ []) ∷ of (2 ∷ []) (1 ∷ []) ∷ of (2 ∷ []) [] ∷ [])
+    ≡ of (2 ∷ []) (1 ∷ []) ∷ []
+both_are_asked = refl

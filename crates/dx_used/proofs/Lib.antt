@@ -1,4 +1,6 @@
 pub mod UsedLaws
 pub mod MarkFacts
+pub mod NamedFacts
+pub mod PassingLaws
 pub mod Blanking
 mod Examples

@@ -4,7 +4,7 @@ use Rattle.std.specs.Prelude.{map, flat_map, slice_set, replicate}
 use Rattle.std.proofs.lemmas.Bool.{cases_Bool, cases_eq, cases_order, eq-eqb, ne_eqb}
 use Rattle.std.proofs.lemmas.List.{take_more, get_or-set_same, get_or-set_other, length-append, length-set, map-append, take_all}
 use Rattle.std.proofs.lemmas.List.Concat.{flat_map-append}
-use Rattle.dx_ports.specs.Members.{◌∈◌, here, there, Each}
+use Rattle.dx_ports.specs.Members.{◌∈◌, Each}
 use Rattle.dx_ports.proofs.Loops.{each_more}
 use Rattle.dx_ports.proofs.Members.{in_flat_map, item_in}
 use Rattle.dx_model.specs.declared.rules.Cell.{Cell}
@@ -16,7 +16,7 @@ use Rattle.dx_model.specs.Rules.{cells_of}
 use Rattle.dx_model.specs.Fitting.{IsRule, premise_variables, variable_in}
 use Rattle.dx_model.proofs.Frozen.{few_in_cells, few_numbered}
 use Rattle.dx_model.proofs.RowsExist.{below_after}
-use Rattle.dx_used.specs.Used.{times, mentions, IsIdle, AreIdle, Asks, IsUsedBy, IsUsed, HaveWidths, AreExact, UsesOnly, Marks, marks_at}
+use Rattle.dx_used.specs.Used.{times, mentions, IsIdle, AreIdle, Asks, IsUsedBy, IsUsed, HaveWidths, UsesOnly, Marks, marks_at}
 use Rattle.dx_used.specs.Counting.{up_to_two, Counts, HasPlace, KeepMarks, UsesOnlyOf, AreNewWhere, AreUsed}
 use Rattle.dx_used.proofs.UsedLaws.{times-append}
 
@@ -181,7 +181,7 @@ asks_not d (false ∷ marks) (c ∷ cells) (suc i) l e a w = asks_not d marks ce
 
 -- ---- marks
 
-true_false : {P : Type 0} → true ≡ false → P
+pub true_false : {P : Type 0} → true ≡ false → P
 true_false e = absurd (cc e)
 
 below_but : (i n : ℕ) → i < n + 1 → ¬ (i ≡ n) → i < n
@@ -247,7 +247,7 @@ idle_kept d (true ∷ old) (true ∷ new) (c ∷ cells) k a = idle_kept d old ne
 idle_kept d (false ∷ old) (true ∷ new) (c ∷ cells) k a = idle_kept d old new cells (λ i e. k (suc i) e) a.1
 idle_kept d (false ∷ old) (false ∷ new) (c ∷ cells) k a = (a.0, idle_kept d old new cells (λ i e. k (suc i) e) a.1)
 
-only_kept : (table : ℕ) (old new : List Bool) (d : Rule) → KeepMarks old new → UsesOnlyOf table old d → UsesOnlyOf table new d
+pub only_kept : (table : ℕ) (old new : List Bool) (d : Rule) → KeepMarks old new → UsesOnlyOf table old d → UsesOnlyOf table new d
 only_kept table old new d k u a m e = idle_kept d old new a.cells k (u a m e)
 
 atoms_kept : (table : ℕ) (old new : List Bool) (d : Rule) (atoms : List Atom) → KeepMarks old new → Each atoms (λ a. a.table ≡ table → AreIdle d old a.cells)
@@ -275,12 +275,13 @@ idle_lent d marks counts lent cells given l g c h = subst (λ cs. AreIdle d mark
 pub no_change : (marks : List Bool) → KeepMarks marks marks
 no_change marks i e = e
 
-pub tables_more : (rules : List Rule) (used : List (List Bool)) (table n : ℕ) (marks : List Bool) (new : List (List Bool)) → length used ≡ table → new ≡ used ++ marks ∷ []
-    → ((t : ℕ) → t < table → Each rules (UsesOnlyOf t (marks_at used t))) → Each rules (UsesOnlyOf table marks) → n ≡ table + 1
-    → (t : ℕ) → t < n → Each rules (UsesOnlyOf t (marks_at new t))
-tables_more rules used table n marks new s e all last k t h = elim (cases_eq t table) [
-  | inl i ↦ subst (λ ms. Each rules (UsesOnlyOf t ms)) (sym (ap (λ us. marks_at us t) e ∙ at_end used t (s ∙ sym i))) (subst (λ u. Each rules (UsesOnlyOf u marks)) (sym i) last)
-  | inr o ↦ let b : t < table = below o in subst (λ ms. Each rules (UsesOnlyOf t ms)) (sym (ap (λ us. marks_at us t) e ∙ before_end used t (subst (λ m. t < m) (sym s) b))) (all t b)
+-- what holds of the marks of each table so far and of those of one table more
+pub tables_more : (P : ℕ → List Bool → Type 0) (used : List (List Bool)) (table n : ℕ) (marks : List Bool) (new : List (List Bool)) → length used ≡ table → new ≡ used ++ marks ∷ []
+    → ((t : ℕ) → t < table → P t (marks_at used t)) → P table marks → n ≡ table + 1
+    → (t : ℕ) → t < n → P t (marks_at new t)
+tables_more P used table n marks new s e all last k t h = elim (cases_eq t table) [
+  | inl i ↦ subst (λ ms. P t ms) (sym (ap (λ us. marks_at us t) e ∙ at_end used t (s ∙ sym i))) (subst (λ u. P u marks) (sym i) last)
+  | inr o ↦ let b : t < table = below o in subst (λ ms. P t ms) (sym (ap (λ us. marks_at us t) e ∙ before_end used t (subst (λ m. t < m) (sym s) b))) (all t b)
 ]
   where
     below : ¬ (t ≡ table) → t < table
@@ -297,20 +298,21 @@ tables_more rules used table n marks new s e all last k t h = elim (cases_eq t t
     before_end (u ∷ us) zero h = refl
     before_end (u ∷ us) (suc t) h = before_end us t (omega (arith, h))
 
+-- a table without marks
+pub none_there : (us : List (List Bool)) (t : ℕ) → length us ≤ t → marks_at us t ≡ []
+none_there [] t h = refl
+none_there (u ∷ us) zero h = absurd (omega (arith, h))
+none_there (u ∷ us) (suc t) h = none_there us t (omega (arith, h))
+
+pub order : (x y : ℕ) → (x < y) ⊎ (y ≤ x)
+order x y = elim (cases_order x y) [ inl e ↦ inr (omega (arith, e)) | inr o ↦ elim o [ inl l ↦ inl l | inr g ↦ inr (omega (arith, g)) ] ]
+
 -- all tables that have marks, and those that have none
 pub all_tables : (rules : List Rule) (used : List (List Bool)) → ((t : ℕ) → t < length used → Each rules (UsesOnlyOf t (marks_at used t))) → Each rules (UsesOnly used)
 all_tables rules used all d m a k = elim (order a.table (length used)) [
   | inl b ↦ all a.table b d m a k refl
-  | inr o ↦ subst (λ ms. AreIdle d ms a.cells) (sym (none used a.table o)) tt
+  | inr o ↦ subst (λ ms. AreIdle d ms a.cells) (sym (none_there used a.table o)) tt
 ]
-  where
-    order : (x y : ℕ) → (x < y) ⊎ (y ≤ x)
-    order x y = elim (cases_order x y) [ inl e ↦ inr (omega (arith, e)) | inr o ↦ elim o [ inl l ↦ inl l | inr g ↦ inr (omega (arith, g)) ] ]
-
-    none : (us : List (List Bool)) (t : ℕ) → length us ≤ t → marks_at us t ≡ []
-    none [] t h = refl
-    none (u ∷ us) zero h = absurd (omega (arith, h))
-    none (u ∷ us) (suc t) h = none us t (omega (arith, h))
 
 -- ---- marks that are new
 
@@ -363,11 +365,11 @@ marks_or [] marks (suc t) = inl refl
 marks_or (u ∷ us) marks zero = inl refl
 marks_or (u ∷ us) marks (suc t) = elim (marks_or us marks t) [ inl e ↦ inl e | inr e ↦ inr (ap suc e.0, e.1) ]
 
-pub tables_used : (rules : List Rule) (used : Marks) (table : ℕ) (marks : List Bool) (new : Marks) → length used ≡ table → new ≡ used ++ marks ∷ []
-    → ((t : ℕ) → AreUsed rules t (marks_at used t)) → AreUsed rules table marks → (t : ℕ) → AreUsed rules t (marks_at new t)
-tables_used rules used table marks new s e all last t = elim (marks_or used marks t) [
-  | inl k ↦ subst (AreUsed rules t) (sym (ap (λ us. marks_at us t) e ∙ k)) (all t)
-  | inr k ↦ subst (AreUsed rules t) (sym (ap (λ us. marks_at us t) e ∙ k.1)) (subst (λ u. AreUsed rules u marks) (sym (k.0 ∙ s)) last)
+pub tables_read : (P : ℕ → List Bool → Type 0) (used : Marks) (table : ℕ) (marks : List Bool) (new : Marks) → length used ≡ table → new ≡ used ++ marks ∷ []
+    → ((t : ℕ) → P t (marks_at used t)) → P table marks → (t : ℕ) → P t (marks_at new t)
+tables_read P used table marks new s e all last t = elim (marks_or used marks t) [
+  | inl k ↦ subst (P t) (sym (ap (λ us. marks_at us t) e ∙ k)) (all t)
+  | inr k ↦ subst (P t) (sym (ap (λ us. marks_at us t) e ∙ k.1)) (subst (λ u. P u marks) (sym (k.0 ∙ s)) last)
 ]
 
 pub width_more : (widths : List ℕ) (used : Marks) (i : ℕ) (marks : List Bool) (new : Marks) → i < length widths → new ≡ used ++ marks ∷ [] → length marks ≡ get_or widths i 0
@@ -379,20 +381,15 @@ width_more widths used i marks new h e l w =
 pub all_widths : (widths : List ℕ) (i : ℕ) (used : Marks) → length widths ≤ i → HaveWidths (take i widths) used → HaveWidths widths used
 all_widths widths i used h w = w ∙ take_all i widths h
 
--- a mark says exactly whether some rule uses its column
-pub exact_marks : (rules : List Rule) (used : Marks) → Each rules (UsesOnly used) → ((t : ℕ) → AreUsed rules t (marks_at used t)) → AreExact rules used
-exact_marks rules used only all table column h = (all table column, marked)
-  where
-    marked : IsUsed rules table column → get_or (marks_at used table) column false ≡ true
-    marked w = elim (cases_Bool (get_or (marks_at used table) column false)) [
-      | inl t ↦ t
-      | inr f ↦ absurd (
-          asks_not w.0 (marks_at used table) w.2.0.cells column h f
-          (subst (λ t. AreIdle w.0 (marks_at used t) w.2.0.cells) w.2.2 (only w.0 w.1 w.2.0 w.2.1)) w.2.3)
-    ]
-
-pub none_used : (rules : List Rule) (used : Marks) (t : ℕ) → used ≡ [] → AreUsed rules t (marks_at used t)
-none_used rules used t e i k = true_false (sym k ∙ ap (λ (us : Marks). get_or (marks_at us t) i false) e)
+-- a column that some rule uses is marked
+pub used_marked : (rules : List Rule) (used : Marks) → Each rules (UsesOnly used) → (table column : ℕ) → column < length (marks_at used table)
+    → IsUsed rules table column → get_or (marks_at used table) column false ≡ true
+used_marked rules used only table column h w = elim (cases_Bool (get_or (marks_at used table) column false)) [
+  | inl t ↦ t
+  | inr f ↦ absurd (
+      asks_not w.0 (marks_at used table) w.2.0.cells column h f
+      (subst (λ t. AreIdle w.0 (marks_at used t) w.2.0.cells) w.2.2 (only w.0 w.1 w.2.0 w.2.1)) w.2.3)
+]
 
 pub none_wide : (widths : List ℕ) (used : Marks) → used ≡ [] → HaveWidths (take 0 widths) used
 none_wide widths used e = ap (map (λ (ms : List Bool). length ms)) e

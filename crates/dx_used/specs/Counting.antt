@@ -4,7 +4,9 @@ use Rattle.dx_model.specs.declared.rules.Cell.{Cell}
 use Rattle.dx_model.specs.declared.rules.Cell.TheVariants.{Var}
 use Rattle.dx_model.specs.declared.rules.Rule.{Rule}
 use Rattle.dx_ports.specs.Members.{Each}
+use Rattle.dx_lines.specs.declared.line.Condition.{Condition}
 use Rattle.dx_used.specs.Used.{AreIdle, IsUsed, times}
+use Rattle.dx_used.specs.Named.{IsRead}
 
 -- none, one, or more
 abbrev pub up_to_two : ℕ → ℕ
@@ -35,3 +37,11 @@ AreNewWhere P old new = (i : ℕ) → slice_index_or new i false ≡ true → (s
 -- each marked column of the table is used by some rule
 abbrev pub AreUsed : List Rule → ℕ → List Bool → Type 0
 AreUsed R table marks = (i : ℕ) → slice_index_or marks i false ≡ true → IsUsed R table i
+
+-- each marked column of the table is read
+abbrev pub AreRead : List Rule → List Condition → ℕ → List Bool → Type 0
+AreRead R conditions table marks = (i : ℕ) → slice_index_or marks i false ≡ true → IsRead R conditions table i
+
+-- the column that a condition names, if it is one of this table, is marked, or has no mark
+abbrev pub ReadsNamed : ℕ → List Bool → Condition → Type 0
+ReadsNamed table marks c = c.place.table ≡ table → slice_index_or marks c.place.column true ≡ true

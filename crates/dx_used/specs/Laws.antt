@@ -7,7 +7,10 @@ use Rattle.dx_model.specs.Values.{Conversions, Rows}
 use Rattle.dx_model.specs.Rules.{AreRows, Satisfies}
 use Rattle.dx_model.specs.Solutions.{IsSolution, IsUniversal}
 use Rattle.dx_model.specs.Tables.{Table}
+use Rattle.dx_lines.specs.declared.line.Condition.{Condition}
 use Rattle.dx_used.specs.Used.{Agree, Marks, UsesOnly}
+use Rattle.dx_used.specs.Named.{ReadNamed}
+use Rattle.dx_used.specs.Passing.{Passes, passing}
 
 -- instances that agree on the used columns have the same rows of each rule
 abbrev pub SameRows : Type 0
@@ -32,3 +35,9 @@ abbrev pub SameUniversal : Type 0
 SameUniversal =
     (convert : Conversions) (used : Marks) (R : List Rule) (schema : List Table) (I J K : List Fact)
     → Each R (UsesOnly used) → Agree used I J → IsUniversal convert R schema I K → IsUniversal convert R schema J K
+
+-- of instances that agree the rows that pass agree, if the columns that the conditions name are read
+abbrev pub SamePassing : Type 0
+SamePassing =
+    (passes : Passes) (used : Marks) (conditions : List Condition) (I J : List Fact)
+    → ReadNamed used conditions → Agree used I J → Agree used (passing passes conditions I) (passing passes conditions J)

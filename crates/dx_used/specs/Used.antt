@@ -1,5 +1,5 @@
 -- Which columns of the source rules use, and instances that agree on these columns.
-use Rattle.std.specs.Prelude.{◌≡◌, ◌<◌, ◌↔◌, ℕ, zero, suc, Bool, true, false, cond, eqb, List, [], ◌∷◌, ◌++◌, length, map, flat_map, slice_index_or}
+use Rattle.std.specs.Prelude.{◌≡◌, ℕ, zero, suc, Bool, true, false, cond, eqb, List, [], ◌∷◌, ◌++◌, length, map, flat_map, slice_index_or}
 use Rattle.dx_model.specs.declared.values.Value.{Value}
 use Rattle.dx_model.specs.declared.values.Value.TheVariants.{Const, Null}
 use Rattle.dx_model.specs.declared.facts.Fact.{Fact}
@@ -66,12 +66,6 @@ IsUsed R table column = (d : Rule) × (d ∈ R) × IsUsedBy d table column
 -- for each table of these widths a mark for each column
 abbrev pub HaveWidths : List ℕ → Marks → Type 0
 HaveWidths widths used = map (λ (marks : List Bool). length marks) used ≡ widths
-
--- each mark says exactly whether some rule uses its column
-abbrev pub AreExact : List Rule → Marks → Type 0
-AreExact R used =
-    (table column : ℕ) → column < length (marks_at used table)
-    → (slice_index_or (marks_at used table) column false ≡ true) ↔ IsUsed R table column
 
 -- a value that does not count: of a constant nothing is left but that it is one
 abbrev pub blank : Value → Value

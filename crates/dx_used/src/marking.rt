@@ -1,12 +1,14 @@
-// The columns that rules use.
-ghost use Rattle.std.specs.Prelude.{◌≡◌, IfOk, OnOk, length};
+// The columns that rules use or conditions name.
+ghost use Rattle.std.specs.Prelude.{◌≡◌, true, IfOk, OnOk, length, slice_index_or};
 ghost use Rattle.dx_ports.specs.Members.{Each};
 ghost use Rattle.dx_model.specs.declared.rules.Rule.{Rule};
 ghost use Rattle.dx_model.specs.Fitting.{IsRule};
-ghost use Rattle.dx_used.specs.Used.{AreExact, AreIdle, Asks, HaveWidths, IsUsedBy, UsesOnly, mentions};
-ghost use Rattle.dx_used.specs.Counting.{AreNewWhere, AreUsed, Counts, HasPlace, KeepMarks, UsesOnlyOf};
+ghost use Rattle.dx_used.specs.Used.{AreIdle, Asks, HaveWidths, IsUsedBy, UsesOnly, mentions};
+ghost use Rattle.dx_used.specs.Named.{AreExact, IsNamed, ReadNamed};
+ghost use Rattle.dx_used.specs.Counting.{AreNewWhere, AreRead, AreUsed, Counts, HasPlace, KeepMarks, ReadsNamed, UsesOnlyOf};
 
 use crate::mentions::{is_idle, mentions_of};
+use dx_lines::Condition;
 use dx_model::{Cell, Rule};
 use dx_ports::Items;
 use std::alloc::{AllocError, Global};
@@ -40,8 +42,13 @@ fn mark_rule(alloc: Global, rule: &Rule, table: u32, marks: &mut [bool]) -> Resu
     Ok(())
 }
 
-// The marks of a table of so many columns.
-fn marks_of(alloc: Global, rules: &[Rule], table: u32, width: u32) -> Result<Vec<bool>, AllocError>
+// The marks of a table of so many columns, by the rules alone.
+fn marks_by_rules(
+    alloc: Global,
+    rules: &[Rule],
+    table: u32,
+    width: u32,
+) -> Result<Vec<bool>, AllocError>
     ensures width { IfOk result (λ marks. length marks.items ≡ width) }
     ensures only { IfOk result (λ marks. Each rules.now (UsesOnlyOf table marks.items)) }
     ensures used { IfOk result (λ marks. Each rules.now IsRule → AreUsed rules.now table marks.items) }
@@ -53,9 +60,52 @@ fn marks_of(alloc: Global, rules: &[Rule], table: u32, width: u32) -> Result<Vec
     Ok(marks)
 }
 
-/// For each table, of as many columns as its width says, a mark for each column: whether the rules use it. A column that is
-/// not marked has only variables that are mentioned once. Where the variables of each rule are numbered by first appearance, a
-/// column is marked exactly if some rule has another cell there.
+// Marks a column, if there is a mark for it.
+fn mark_column(column: u32, marks: &mut [bool])
+    ensures marked { slice_index_or marks.new column true ≡ true }
+    ensures new { AreNewWhere (λ i. i ≡ column) marks.old marks.new }
+    ensures keep { KeepMarks marks.old marks.new }
+{
+    let place = column as usize;
+    if place < marks.len() {
+        marks[place] = true;
+    }
+}
+
+// Marks the columns of a table that conditions name.
+fn mark_named(conditions: &[Condition], table: u32, marks: &mut [bool])
+    ensures named { Each conditions.now (ReadsNamed table marks.new) }
+    ensures new { AreNewWhere (IsNamed conditions.now table) marks.old marks.new }
+    ensures keep { KeepMarks marks.old marks.new }
+{
+    for condition in conditions {
+        if condition.place.table == table {
+            mark_column(condition.place.column, marks);
+        }
+    }
+}
+
+// The marks of a table of so many columns.
+fn marks_of(
+    alloc: Global,
+    rules: &[Rule],
+    conditions: &[Condition],
+    table: u32,
+    width: u32,
+) -> Result<Vec<bool>, AllocError>
+    ensures width { IfOk result (λ marks. length marks.items ≡ width) }
+    ensures only { IfOk result (λ marks. Each rules.now (UsesOnlyOf table marks.items)) }
+    ensures named { IfOk result (λ marks. Each conditions.now (ReadsNamed table marks.items)) }
+    ensures read { IfOk result (λ marks. Each rules.now IsRule → AreRead rules.now conditions.now table marks.items) }
+{
+    let mut marks = marks_by_rules(alloc, rules, table, width)?;
+    mark_named(conditions, table, &mut marks);
+    Ok(marks)
+}
+
+/// For each table, of as many columns as its width says, a mark for each column: whether it is read, since the rules use it or
+/// a condition names it. A column that is not marked has only variables that are mentioned once. Where the variables of each
+/// rule are numbered by first appearance, a column is marked exactly if some rule has another cell there, or a condition names it.
 ///
 /// # Errors
 ///
@@ -63,16 +113,18 @@ fn marks_of(alloc: Global, rules: &[Rule], table: u32, width: u32) -> Result<Vec
 pub fn used_columns(
     alloc: Global,
     rules: &[Rule],
+    conditions: &[Condition],
     widths: &[u32],
 ) -> Result<Vec<Items<bool>>, AllocError>
     ensures widths { IfOk result (λ used. HaveWidths widths.now used.items) }
     ensures only { IfOk result (λ used. Each rules.now (UsesOnly used.items)) }
-    ensures exact { IfOk result (λ used. Each rules.now IsRule → AreExact rules.now used.items) }
+    ensures named { IfOk result (λ used. ReadNamed used.items conditions.now) }
+    ensures exact { IfOk result (λ used. Each rules.now IsRule → AreExact rules.now conditions.now used.items) }
 {
     let mut used = Vec::with_capacity(alloc, widths.len())?;
     let mut table = 0u32;
     for width in widths {
-        let marks = marks_of(alloc, rules, table, *width)?;
+        let marks = marks_of(alloc, rules, conditions, table, *width)?;
         used.push(Items::from_vec(marks))?;
         table = table.checked_add(1).ok_or(AllocError)?;
     }

@@ -1,6 +1,9 @@
 use Rattle.std.proofs.Common.{◌∙◌, ap, arith, ◌++◌, ◌∷◌, [], length}
 use Rattle.std.proofs.lemmas.Grind.{common_steps}
-use Rattle.dx_used.proofs.MarkFacts.{all_tables, all_widths, exact_marks, none_used, none_wide, tables_more, tables_used, width_more}
+use Rattle.dx_ports.specs.Members.{Each}
+use Rattle.dx_used.specs.Counting.{AreRead, ReadsNamed, UsesOnlyOf}
+use Rattle.dx_used.proofs.MarkFacts.{all_tables, all_widths, none_wide, tables_more, tables_read, width_more}
+use Rattle.dx_used.proofs.NamedFacts.{all_named, exact_marks, none_read}
 use Rattle.dx_used.proofs.marking.used_columns.Goals as goal
 
 pub loop-width-init : goal.loop-width-init
@@ -10,7 +13,8 @@ loop-width-init c =
       many = ap length e;
       widths = none_wide c.args.widths.now c.in_ok-used.used.items e;
       only = λ t h. absurd (omega (arith, h));
-      used = λ r t. none_used c.args.rules.now c.in_ok-used.used.items t e;
+      named = λ t h. absurd (omega (arith, h));
+      read = λ r t. none_read c.args.rules.now c.args.conditions.now c.in_ok-used.used.items t e;
     }
 
 pub loop-width-preserved : goal.loop-width-preserved
@@ -20,17 +24,23 @@ loop-width-preserved c =
       many = grind (arith, common_steps);
       widths = width_more c.args.widths.now c.loop-width.used.items c.loop-width.width-index c.in_ok-marks.marks.items c.push.new.self.items c.loop-width-test.true e
           c.in_ok-marks.ensures.width c.loop-width.invariant.widths;
-      only = tables_more c.args.rules.now c.loop-width.used.items c.loop-width.table _ c.in_ok-marks.marks.items c.push.new.self.items c.loop-width.invariant.many e
+      only = tables_more (λ t ms. Each c.args.rules.now (UsesOnlyOf t ms)) c.loop-width.used.items c.loop-width.table _ c.in_ok-marks.marks.items c.push.new.self.items c.loop-width.invariant.many e
           c.loop-width.invariant.only c.in_ok-marks.ensures.only (grind (arith, common_steps));
-      used = λ r. tables_used c.args.rules.now c.loop-width.used.items c.loop-width.table c.in_ok-marks.marks.items c.push.new.self.items c.loop-width.invariant.many e
-          (c.loop-width.invariant.used r) (c.in_ok-marks.ensures.used r);
+      named = tables_more (λ t ms. Each c.args.conditions.now (ReadsNamed t ms)) c.loop-width.used.items c.loop-width.table _ c.in_ok-marks.marks.items c.push.new.self.items c.loop-width.invariant.many e
+          c.loop-width.invariant.named c.in_ok-marks.ensures.named (grind (arith, common_steps));
+      read = λ r. tables_read (AreRead c.args.rules.now c.args.conditions.now) c.loop-width.used.items c.loop-width.table c.in_ok-marks.marks.items c.push.new.self.items c.loop-width.invariant.many e
+          (c.loop-width.invariant.read r) (c.in_ok-marks.ensures.read r);
     }
 
 pub returns-clause-widths : goal.returns-clause-widths
 returns-clause-widths c = all_widths c.args.widths.now c.loop-width.width-index c.loop-width.used.items c.loop-width-test.false c.loop-width.invariant.widths
 
+pub returns-clause-named : goal.returns-clause-named
+returns-clause-named c = all_named c.args.conditions.now c.loop-width.used.items (λ t b. c.loop-width.invariant.named t (omega (arith, b, c.loop-width.invariant.many)))
+
 pub returns-clause-exact : goal.returns-clause-exact
 returns-clause-exact c = λ r.
-    exact_marks c.args.rules.now c.loop-width.used.items
+    exact_marks c.args.rules.now c.args.conditions.now c.loop-width.used.items
     (all_tables c.args.rules.now c.loop-width.used.items (λ t b. c.loop-width.invariant.only t (omega (arith, b, c.loop-width.invariant.many))))
-    (c.loop-width.invariant.used r)
+    (all_named c.args.conditions.now c.loop-width.used.items (λ t b. c.loop-width.invariant.named t (omega (arith, b, c.loop-width.invariant.many))))
+    (c.loop-width.invariant.read r)

@@ -2,7 +2,7 @@ use Rattle.std.proofs.Common.{◌≡◌, length, take}
 use Rattle.dx_ports.specs.Members.{Each}
 use Rattle.dx_model.specs.Fitting.{IsRule}
 use Rattle.dx_used.specs.Counting.{AreUsed, UsesOnlyOf}
-use Rattle.dx_used.proofs.marking.marks_of.Given as goal
+use Rattle.dx_used.proofs.marking.marks_by_rules.Given as goal
 
 abbrev pub invariant-loop-rule : goal.invariant-loop-rule
 invariant-loop-rule l = record {
