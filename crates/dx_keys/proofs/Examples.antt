@@ -1,15 +1,13 @@
 -- What a chase answers, on small values: a table with three keys, its first column, both columns and its second column, stands after
 -- one without keys. It has more keys than there are tables.
-use Rattle.std.proofs.Common.{◌≡◌, ℕ, zero, suc, ◌<◌, List, [], ◌∷◌, codes, refl, sym, ◌∙◌, ap, subst, arith}
-use Rattle.dx_ports.specs.Members.{◌∈◌, here, there}
-use Rattle.dx_model.specs.declared.values.NullId.{NullId}
+use Rattle.std.proofs.Common.{◌≡◌, ℕ, List, [], ◌∷◌, codes, refl, ap, arith}
+use Rattle.dx_ports.specs.Members.{here, there}
 use Rattle.dx_model.specs.declared.values.Value.{Value}
-use Rattle.dx_model.specs.declared.values.Value.TheVariants.{Const, Null}
+use Rattle.dx_model.specs.declared.values.Value.TheVariants.{Const}
 use Rattle.dx_model.specs.declared.facts.Fact.{Fact}
 use Rattle.dx_model.specs.declared.facts.NullPair.{NullPair}
 use Rattle.dx_model.specs.Tables.{IsKeyed, Table, key_of}
 use Rattle.dx_model.specs.Instances.{IsHomomorphism}
-use Rattle.dx_model.specs.Chase.{IsClashAt, NoneReceives}
 use Rattle.dx_instance.specs.NullMaps.{ByNull}
 use Rattle.dx_instance.specs.Stored.{TableRows, facts}
 use Rattle.dx_keys.specs.declared.answers.Clash.{Clash}

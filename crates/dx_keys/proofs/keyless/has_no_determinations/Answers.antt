@@ -1,4 +1,4 @@
-use Rattle.std.proofs.Common.{◌≡◌, ◌<◌, ◌≤◌, [], length, arith, refl, sym, ◌∙◌}
+use Rattle.std.proofs.Common.{◌≡◌, ◌<◌, ◌≤◌, [], length, arith, refl}
 use Rattle.std.proofs.lemmas.List.{get_or_default}
 use Rattle.dx_ports.proofs.Loops.{each_more, not_so}
 use Rattle.dx_ports.proofs.Members.{each_at, each_all}
