@@ -1,16 +1,20 @@
 -- The faults of the layers below, as limits.
-use Rattle.std.specs.Prelude.{◌≡◌, ◌⊎◌, Bool, true, List, Some}
+use Rattle.std.specs.Prelude.{◌≡◌, ◌⊎◌, Bool, true, List, Option, None, Some}
 use Rattle.dx_ports.specs.declared.file.Limit.{Limit}
-use Rattle.dx_ports.specs.declared.file.Count.TheVariants.{Occurrences, Ways, Candidates}
+use Rattle.dx_ports.specs.declared.file.Count.TheVariants.{Variants, Occurrences, Ways, Candidates}
 use Rattle.dx_model.specs.Tables.{Table}
 use Rattle.dx_lines.specs.declared.line.Line.{Line}
-use Rattle.dx_lines.specs.Limits.{passed}
-use Rattle.dx_logical.specs.declared.fault.WideFault.{WideFault}
-use Rattle.dx_logical.specs.declared.fault.WideFault.TheVariants as wide
+use Rattle.dx_lines.specs.Limits.{first_or, passed_by, passed}
+use Rattle.dx_logical.specs.declared.fault.ManyFault.{ManyFault}
+use Rattle.dx_logical.specs.declared.fault.ManyFault.TheVariants as unfolded
 use Rattle.dx_ways.specs.declared.fault.WaysFault.{WaysFault}
 use Rattle.dx_ways.specs.declared.fault.WaysFault.TheVariants as many
 use Rattle.dx_candidates.specs.declared.fault.CandFault.{CandFault}
 use Rattle.dx_candidates.specs.declared.fault.CandFault.TheVariants.{TooMany, Memory}
+
+-- at most 256 variants
+abbrev pub variants_limit : Limit
+variants_limit = record { what = Variants; number = 256 }
 
 -- at most 64 occurrences
 abbrev pub occurrences_limit : Limit
@@ -24,10 +28,19 @@ ways_limit = record { what = Ways; number = 64 }
 abbrev pub candidates_limit : Limit
 candidates_limit = record { what = Candidates; number = 1024 }
 
--- a fault of an unfolding, as a fault of candidates
-abbrev pub wide_fault : WideFault → CandFault
-wide_fault wide.TooWide = TooMany occurrences_limit
-wide_fault wide.Memory = Memory
+-- a fault of unfoldings, as a fault of candidates
+abbrev pub many_fault : ManyFault → CandFault
+many_fault unfolded.TooMany = TooMany variants_limit
+many_fault unfolded.TooWide = TooMany occurrences_limit
+many_fault unfolded.Memory = Memory
+
+-- the first limit that the variants of a schema pass
+abbrev pub schema_limit : List Table → Option Limit
+schema_limit schema = first_or (passed_by schema) None
+
+-- a fault is want of memory, or this limit
+abbrev pub IsFirst : Option Limit → CandFault → Type 0
+IsFirst first e = (e ≡ Memory) ⊎ ((l : Limit) × (first ≡ Some l) × (e ≡ TooMany l))
 
 -- a fault of ways, as a fault of candidates
 abbrev pub ways_fault : WaysFault → CandFault

@@ -1,5 +1,5 @@
 // Why candidates aren't listed.
-use dx_logical::WideFault;
+use dx_logical::ManyFault;
 use dx_ports::{Count, Limit};
 use dx_ways::WaysFault;
 use std::alloc::AllocError;
@@ -25,19 +25,23 @@ impl From<AllocError> for CandFault {
     }
 }
 
-impl From<WideFault> for CandFault {
+impl From<ManyFault> for CandFault {
     ghost use Rattle.std.specs.Prelude.{◌≡◌};
-    ghost use Rattle.dx_candidates.specs.Faults.{wide_fault};
+    ghost use Rattle.dx_candidates.specs.Faults.{many_fault};
 
-    ghost from_gives = { λ w e. e ≡ wide_fault w };
+    ghost from_gives = { λ m e. e ≡ many_fault m };
 
-    fn from(fault: WideFault) -> Self {
+    fn from(fault: ManyFault) -> Self {
         match fault {
-            WideFault::TooWide => CandFault::TooMany(Limit {
+            ManyFault::TooMany => CandFault::TooMany(Limit {
+                what: Count::Variants,
+                number: 256,
+            }),
+            ManyFault::TooWide => CandFault::TooMany(Limit {
                 what: Count::Occurrences,
                 number: 64,
             }),
-            WideFault::Memory => CandFault::Memory,
+            ManyFault::Memory => CandFault::Memory,
         }
     }
 }
