@@ -27,3 +27,4 @@ pub mod LayerFacts
 pub mod RowKeyFacts
 pub mod Sorting
 pub mod NullOrderFacts
+pub mod PartsFacts

@@ -11,3 +11,4 @@ pub mod Images
 pub mod Keys
 pub mod Laws
 pub mod Indexes
+pub mod Firsts

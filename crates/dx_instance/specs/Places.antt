@@ -1,8 +1,8 @@
 -- Rows and values by their places, and places whose rows have some values in some columns.
-use Rattle.std.specs.Prelude.{◌≡◌, ℕ, ◌<◌, ◌≤◌, List, [], map, slice_index_or, count_by, length, Option, MatchOption}
+use Rattle.std.specs.Prelude.{◌≡◌, ℕ, ◌<◌, ◌≤◌, List, [], map, slice_index, slice_index_or, count_by, length, Option, Some, MatchOption}
 use Rattle.dx_model.specs.declared.values.Value.{Value}
 use Rattle.dx_model.specs.Covers.{same_value}
-use Rattle.dx_model.specs.Tables.{cell}
+use Rattle.dx_model.specs.Tables.{cell, values_in}
 use Rattle.dx_instance.specs.Stored.{TableRows, rows_of}
 
 -- the row at a place of a table
@@ -30,3 +30,8 @@ IsFirstWith I t columns values a o =
 -- how many rows of a table have this value in this column
 abbrev pub rows_with : List TableRows → ℕ → ℕ → Value → ℕ
 rows_with I t column value = count_by (λ row. same_value (cell row column) value) (rows_of I t)
+
+-- for each place of a table the least whose row has in these columns what the row at the place has
+pub record AreFirsts (I : List TableRows) (t : ℕ) (columns places : List ℕ) : Type 0 where
+  pub many : length places ≡ length (rows_of I t)
+  pub each : (p : ℕ) → p < length (rows_of I t) → IsFirstWith I t columns (values_in columns (row_at I t p)) 0 (Some (slice_index places p))

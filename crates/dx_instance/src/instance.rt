@@ -9,10 +9,11 @@ ghost use Rattle.dx_instance.specs.Cells.{IsPut};
 ghost use Rattle.dx_instance.specs.Images.{AreImages, IsImage, IsImageNumber};
 ghost use Rattle.dx_instance.specs.Numbers.{AreApart, Extends, ValuesAscend, value_of};
 ghost use Rattle.dx_instance.specs.Shown.{AreBelow, NumbersFit, PartsFit, RowsFit, Shows, renumbered, shown_row, shown_tables};
-ghost use Rattle.dx_instance.specs.Places.{HasValues, IsFirstWith, row_at, rows_with, value_at};
+ghost use Rattle.dx_instance.specs.Places.{AreFirsts, HasValues, IsFirstWith, row_at, rows_with, value_at};
 
 use crate::cells::Rows;
 use crate::fact_order::facts_in_order;
+use crate::firsts::first_places;
 use crate::gathered::Gathered;
 use crate::null_map::NullMap;
 use crate::numbers::Numbers;
@@ -405,6 +406,23 @@ impl Instance {
             next = place + 1;
         }
         None
+    }
+
+    /// For each row of a table the place of the first that has its values in these columns. It goes once through the rows,
+    /// whatever stands in them.
+    ///
+    /// # Errors
+    ///
+    /// `AllocError` if there is no memory.
+    pub fn firsts(&self, table: u32, columns: &[u32]) -> Result<Vec<u32>, AllocError>
+        requires table { table < length self.now }
+        requires columns { (c : ℕ) → c ∈ columns.now → c < (table_at self.now table).width }
+        requires few { length columns.now < 2 ^ 32 }
+        ensures { IfOk result (λ places. AreFirsts self.now table columns.now places.items) }
+    {
+        let rows = &self.tables[table as usize];
+        let places = first_places(self.alloc, rows, columns)?;
+        Ok(places)
     }
 
     /// How many rows have this value in this column. It takes no memory.

@@ -8,8 +8,8 @@
 //!
 //! An instance grows row by row (`add`), or is made in bulk of `Rows` of numbers: of those of symbols (`from_rows`), or of
 //! values as they are read, where one value may have several numbers (`Gathered`, `from_gathered`). Then the rows of each
-//! table ascend. `sorted` gives the same rows ascending, `map_by` the image under a null map (specs/Images), `with_columns` and
-//! `count_with` find rows by values (specs/Places). A `NullMap` is a finite map of nulls of which none is listed with itself
+//! table ascend. `sorted` gives the same rows ascending, `map_by` the image under a null map (specs/Images), `with_columns`,
+//! `count_with` and `firsts` find rows by values (specs/Places). A `NullMap` is a finite map of nulls of which none is listed with itself
 //! (specs/NullMaps); a null that is not listed stays. `value_text` gives exactly the text of specs/ValueText, and
 //! `value_read` reads it back. specs/Laws has the laws: facts of sorted tables ascend and fit a schema with their widths, the
 //! pairs of a null map give what it gives, and no two values have one text; which texts no value has.
@@ -19,6 +19,7 @@ mod cells;
 mod chains;
 mod column_index;
 mod fact_order;
+mod firsts;
 mod gathered;
 mod hints;
 mod instance;

@@ -1,0 +1,5 @@
+use Rattle.dx_ports.proofs.Members.{in_at}
+use Rattle.dx_instance.proofs.firsts.part_of.Goals as goal
+
+pub bounds-row-column : goal.bounds-row-column
+bounds-row-column c = c.requires _ (in_at c.args.columns.now c.loop-column.column-index 0 c.loop-column-test.true)
