@@ -19,7 +19,7 @@ use Rattle.dx_schema_text.specs.declared.texts.LineText.{LineText}
 use Rattle.dx_schema_text.specs.declared.texts.MappingText.{MappingText}
 use Rattle.dx_schema_text.specs.declared.mapping.ItemText.{ItemText}
 use Rattle.dx_schema_text.specs.Reading.{lines_among}
-use Rattle.dx_schema_text.specs.Spelling.{SpellsSource, a_literal, a_column, a_call, SpellsLine, line_of, SpellsItem, a_line, a_rule, SpellsMapping, mapping_of}
+use Rattle.dx_schema_text.specs.Spelling.{SpellsSource, a_literal, a_column, a_call, SpellsLine, line_of, SpellsItem, a_line, a_rule, a_condition, SpellsMapping, mapping_of}
 use Rattle.dx_schema_text.proofs.SpelledWords.{kind_word}
 use Rattle.dx_logical.specs.declared.relation.Occurrence.{Occurrence}
 use Rattle.dx_logical.specs.declared.relation.Relation.{Relation}
@@ -61,14 +61,15 @@ source_right _ _ (a_call n o c word opening args closing) h = (h n (here refl)).
 line_right : (l : LineText) (u : List Lexeme) → SpellsLine l u → AreRight u → IsRightSource l.source
 line_right _ _ (line_of {from = from} {u = u} {v = v} k arrow e keyword source is target ending) h = source_right from u source (λ x m. h x (there (in_left (arrow ∷ (v ++ e ∷ [])) m)))
 
-items_right : (rest : List ItemText) (xs : List Lexeme) → Many SpellsItem rest xs → AreRight xs → Each (lines_among rest) (λ l. IsRightSource l.source)
-items_right _ _ no_more h l m = elim m [ ]
-items_right _ _ (one_more {u = u} {v = v} (a_line {l = k} line) rest) h l (here e) = subst (λ (j : LineText). IsRightSource j.source) e (line_right k u line (λ x i. h x (in_left v i)))
-items_right _ _ (one_more {others = others} {u = u} {v = v} (a_line line) rest) h l (there m) = items_right others v rest (λ x i. h x (in_right u i)) l m
-items_right _ _ (one_more {others = others} {u = u} {v = v} (a_rule rule) rest) h l m = items_right others v rest (λ x i. h x (in_right u i)) l m
+items_right : (conditions : Bool) (rest : List ItemText) (xs : List Lexeme) → Many (SpellsItem conditions) rest xs → AreRight xs → Each (lines_among rest) (λ l. IsRightSource l.source)
+items_right _ _ _ no_more h l m = elim m [ ]
+items_right _ _ _ (one_more {u = u} {v = v} (a_line {l = k} line) rest) h l (here e) = subst (λ (j : LineText). IsRightSource j.source) e (line_right k u line (λ x i. h x (in_left v i)))
+items_right _ _ _ (one_more {others = others} {u = u} {v = v} (a_line line) rest) h l (there m) = items_right _ others v rest (λ x i. h x (in_right u i)) l m
+items_right _ _ _ (one_more {others = others} {u = u} {v = v} (a_rule rule) rest) h l m = items_right _ others v rest (λ x i. h x (in_right u i)) l m
+items_right _ _ _ (one_more {others = others} {u = u} {v = v} (a_condition only) rest) h l m = items_right _ others v rest (λ x i. h x (in_right u i)) l m
 
 mapping_right : (levels : ℕ) (m : MappingText) (xs : List Lexeme) → SpellsMapping levels m xs → AreRight xs → Each m.lines (λ l. IsRightSource l.source)
-mapping_right levels _ _ (mapping_of {rest = rest} {u = u} {v = v} {w = w} k n e keyword version ending from to items) h = items_right rest w items (λ x m. h x (there (there (there (in_right u (in_right v m))))))
+mapping_right levels _ _ (mapping_of {rest = rest} {u = u} {v = v} {w = w} k n e keyword version ending from to items) h = items_right _ rest w items (λ x m. h x (there (there (there (in_right u (in_right v m))))))
 
 -- ---- lines by numbers
 

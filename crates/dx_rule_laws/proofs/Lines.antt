@@ -1,5 +1,5 @@
 -- Lines of printed rules are read as rules of the mapping after whose text they stand.
-use Rattle.std.proofs.Common.{◌≡◌, ℕ, suc, ◌+◌, ◌<◌, List, [], ◌∷◌, ◌++◌, Option, None, Some, inl, inr, map, length, refl, sym, ap, ◌∙◌, subst, append_assoc}
+use Rattle.std.proofs.Common.{◌≡◌, ℕ, suc, ◌+◌, ◌<◌, Bool, List, [], ◌∷◌, ◌++◌, Option, None, Some, inl, inr, map, length, refl, sym, ap, ◌∙◌, subst, append_assoc}
 use Rattle.std.specs.Prelude.{codes}
 use Rattle.std.proofs.lemmas.List.{append-nil}
 use Rattle.dx_ports.specs.Members.{here, there, Each}
@@ -18,13 +18,15 @@ use Rattle.dx_tokens.specs.declared.faults.TextFault.{TextFault}
 use Rattle.dx_grammar.specs.Readers.{Many, no_more, one_more}
 use Rattle.dx_schema_text.specs.declared.texts.LineText.{LineText}
 use Rattle.dx_schema_text.specs.declared.texts.RuleText.{RuleText}
+use Rattle.dx_schema_text.specs.declared.texts.OnlyText.{OnlyText}
 use Rattle.dx_schema_text.specs.declared.texts.MappingText.{MappingText}
 use Rattle.dx_schema_text.specs.declared.mapping.ItemText.{ItemText}
 use Rattle.dx_schema_text.specs.declared.mapping.ItemText.TheVariants as items
-use Rattle.dx_schema_text.specs.Reading.{lines_among, rules_among, rule_item, mapping_text}
+use Rattle.dx_schema_text.specs.Reading.{lines_among, conditions_among, rules_among, rule_item, mapping_text}
+use Rattle.dx_schema_text.specs.Grammar.{since_two}
 use Rattle.dx_schema_text.specs.Spelling.{SpellsRule, SpellsItem, a_rule, SpellsMapping, mapping_of}
 use Rattle.dx_schema_text.specs.Texts.{deepest}
-use Rattle.dx_schema_text.specs.Print.{AreNamed, AreWritable}
+use Rattle.dx_schema_text.specs.Print.{AreNamed}
 use Rattle.dx_schema_text.proofs.PrintScans.{Reads, ReadsAll, no_token, blanks_then, both_then, told_as, each_passes, reads_all}
 use Rattle.dx_schema_text.proofs.SpelledWords.{said_is_writable}
 use Rattle.dx_funcs.specs.declared.conversion.Conversion.{Conversion}
@@ -47,32 +49,43 @@ lines_more [] [] = refl
 lines_more [] (r ∷ rules) = lines_more [] rules
 lines_more (items.Line l ∷ some) rules = ap (λ (ls : List LineText). l ∷ ls) (lines_more some rules)
 lines_more (items.Rule r ∷ some) rules = lines_more some rules
+lines_more (items.Only o ∷ some) rules = lines_more some rules
+
+conditions_more : (some : List ItemText) (rules : List RuleText) → conditions_among (some ++ map rule_item rules) ≡ conditions_among some
+conditions_more [] [] = refl
+conditions_more [] (r ∷ rules) = conditions_more [] rules
+conditions_more (items.Line l ∷ some) rules = conditions_more some rules
+conditions_more (items.Rule r ∷ some) rules = conditions_more some rules
+conditions_more (items.Only o ∷ some) rules = ap (λ (os : List OnlyText). o ∷ os) (conditions_more some rules)
 
 rules_more : (some : List ItemText) (rules : List RuleText) → rules_among (some ++ map rule_item rules) ≡ rules_among some ++ rules
 rules_more [] [] = refl
 rules_more [] (r ∷ rules) = ap (λ (rs : List RuleText). r ∷ rs) (rules_more [] rules)
 rules_more (items.Line l ∷ some) rules = rules_more some rules
 rules_more (items.Rule r ∷ some) rules = ap (λ (rs : List RuleText). r ∷ rs) (rules_more some rules)
+rules_more (items.Only o ∷ some) rules = rules_more some rules
 
-rule_items : (rules : List RuleText) (xs : List Lexeme) → Many SpellsRule rules xs → Many SpellsItem (map rule_item rules) xs
-rule_items _ _ no_more = no_more
-rule_items _ _ (one_more {others = others} {v = v} rule rest) = one_more (a_rule rule) (rule_items others v rest)
+rule_items : (conditions : Bool) (rules : List RuleText) (xs : List Lexeme) → Many SpellsRule rules xs → Many (SpellsItem conditions) (map rule_item rules) xs
+rule_items conditions _ _ no_more = no_more
+rule_items conditions _ _ (one_more {others = others} {v = v} rule rest) = one_more (a_rule rule) (rule_items conditions others v rest)
 
-items_more : (some others : List ItemText) (xs ys : List Lexeme) → Many SpellsItem some xs → Many SpellsItem others ys → Many SpellsItem (some ++ others) (xs ++ ys)
-items_more _ others _ ys no_more behind = behind
-items_more _ others _ ys (one_more {a = a} {others = more} {u = u} {v = v} item rest) behind =
-    subst (Many SpellsItem (a ∷ (more ++ others))) (sym (append_assoc u v ys)) (one_more item (items_more more others v ys rest behind))
+items_more : (conditions : Bool) (some others : List ItemText) (xs ys : List Lexeme) → Many (SpellsItem conditions) some xs → Many (SpellsItem conditions) others ys → Many (SpellsItem conditions) (some ++ others) (xs ++ ys)
+items_more conditions _ others _ ys no_more behind = behind
+items_more conditions _ others _ ys (one_more {a = a} {others = more} {u = u} {v = v} item rest) behind =
+    subst (Many (SpellsItem conditions) (a ∷ (more ++ others))) (sym (append_assoc u v ys)) (one_more item (items_more conditions more others v ys rest behind))
 
 -- tokens of rules after those of a mapping
 pub mapping_more : (levels : ℕ) (m : MappingText) (xs : List Lexeme) → SpellsMapping levels m xs → (rules : List RuleText) (ys : List Lexeme) → Many SpellsRule rules ys → SpellsMapping levels (with_rules m rules) (xs ++ ys)
-mapping_more levels _ _ (mapping_of {from = from} {to = to} {rest = rest} {u = u} {v = v} {w = w} k n e keyword version ending source target some) rules ys behind =
-    let all : mapping_text from to (rest ++ map rule_item rules) ≡ with_rules (mapping_text from to rest) rules =
-    ap (λ (ls : List LineText). record { version = 1; source = from; target = to; lines = ls; rules = rules_among (rest ++ map rule_item rules) }) (lines_more rest rules)
-    ∙ ap (λ (rs : List RuleText). record { version = 1; source = from; target = to; lines = lines_among rest; rules = rs }) (rules_more rest rules) in
+mapping_more levels _ _ (mapping_of {version = version} {from = from} {to = to} {rest = rest} {u = u} {v = v} {w = w} k n e keyword number ending source target some) rules ys behind =
+    let more = rest ++ map rule_item rules in
+    let all : mapping_text version from to more ≡ with_rules (mapping_text version from to rest) rules =
+    ap (λ (ls : List LineText). record { version = version; source = from; target = to; lines = ls; conditions = conditions_among more; rules = rules_among more }) (lines_more rest rules)
+    ∙ ap (λ (os : List OnlyText). record { version = version; source = from; target = to; lines = lines_among rest; conditions = os; rules = rules_among more }) (conditions_more rest rules)
+    ∙ ap (λ (rs : List RuleText). record { version = version; source = from; target = to; lines = lines_among rest; conditions = conditions_among rest; rules = rs }) (rules_more rest rules) in
     let tokens : u ++ (v ++ (w ++ ys)) ≡ (u ++ (v ++ w)) ++ ys = sym (append_assoc u (v ++ w) ys ∙ ap (λ (zs : List Lexeme). u ++ zs) (append_assoc v w ys)) in
-    subst (λ (zs : List Lexeme). SpellsMapping levels (with_rules (mapping_text from to rest) rules) (k ∷ n ∷ e ∷ zs)) tokens
+    subst (λ (zs : List Lexeme). SpellsMapping levels (with_rules (mapping_text version from to rest) rules) (k ∷ n ∷ e ∷ zs)) tokens
     (subst (λ (m : MappingText). SpellsMapping levels m (k ∷ n ∷ e ∷ (u ++ (v ++ (w ++ ys))))) all
-    (mapping_of k n e keyword version ending source target (items_more rest (map rule_item rules) w ys some (rule_items rules ys behind))))
+    (mapping_of k n e keyword number ending source target (items_more (since_two version) rest (map rule_item rules) w ys some (rule_items (since_two version) rules ys behind))))
 
 -- ---- the names of sets
 
@@ -85,12 +98,12 @@ sets_named parent n (set l inner rest) named s (there m) =
       | inr k ↦ sets_named parent (suc (n + count inner)) rest named.2 s k
     ]
 
-table_named : (f : Forest) (t : ℕ) → AreWritable f → t < length (tables_of f) → lexing.IsWord (table_name f t)
-table_named f t w lt =
+table_named : (f : Forest) (t : ℕ) → AreNamed f → t < length (tables_of f) → lexing.IsWord (table_name f t)
+table_named f t named lt =
     let among = from_map (table_in (sets_of f)) (sets_of f) (in_at (tables_of f) t _ lt) in
-    subst (λ table. lexing.IsWord table.name) among.2 (sets_named None 0 f w.named among.0 among.1)
+    subst (λ table. lexing.IsWord table.name) among.2 (sets_named None 0 f named among.0 among.1)
 
-pub tables_named : (source target : Forest) (d : Rule) → AreWritable source → AreWritable target → RuleFits (model_tables source) (model_tables target) d → HasNamedTables source target d
+pub tables_named : (source target : Forest) (d : Rule) → AreNamed source → AreNamed target → RuleFits (model_tables source) (model_tables target) d → HasNamedTables source target d
 tables_named source target d from to fits = record {
   premise = λ a m. table_named source a.table from (atom_table source a (fits.premise a m));
   conclusion = λ a m. table_named target a.table to (atom_table target a (fits.conclusion a m));
@@ -143,7 +156,7 @@ printed_lines_are_read text m list ds says from to offer fits offered writable =
     let can : Each ds (CanBeRule m.source m.target list) = λ d i. can_be_written m.source m.target list d from to offer (record {
       fits = fits d i;
       offered = offered d i;
-      named = tables_named m.source m.target d named.0 named.1 (fits d i);
+      named = tables_named m.source m.target d named.0.named named.1.named (fits d i);
       writable = writable d i;
     }) in
     let lines = rules_text m.source m.target list ds in

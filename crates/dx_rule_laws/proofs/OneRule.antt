@@ -3,15 +3,15 @@ use Rattle.std.proofs.Common.{◌≡◌, ℕ, List, [], ◌∷◌, ◌++◌, Res
 use Rattle.dx_tokens.specs.declared.scanner.Lexeme.{Lexeme}
 use Rattle.dx_tokens.specs.Scan.{scan_of}
 use Rattle.dx_grammar.specs.Readers.{no_more, one_more, whole}
-use Rattle.dx_grammar.proofs.Spelled.{NotNext, whole_again}
+use Rattle.dx_grammar.proofs.Spelled.{whole_again}
 use Rattle.dx_schema.specs.Forest.{none}
 use Rattle.dx_schema_text.specs.declared.texts.RuleText.{RuleText}
 use Rattle.dx_schema_text.specs.declared.texts.MappingText.{MappingText}
-use Rattle.dx_schema_text.specs.Reading.{begins_item, mapping_reader}
+use Rattle.dx_schema_text.specs.Reading.{mapping_reader}
 use Rattle.dx_schema_text.specs.Spelling.{SpellsRule, SpellsMapping}
 use Rattle.dx_schema_text.specs.Texts.{deepest, IsMappingText}
-use Rattle.dx_schema_text.specs.Print.{AreWritable, printed, sides_text, sides}
-use Rattle.dx_schema_text.proofs.Again.{mapping_again}
+use Rattle.dx_schema_text.specs.Print.{AreWritable, the_first, printed, sides_text, sides}
+use Rattle.dx_schema_text.proofs.Again.{NoItemNext, mapping_again}
 use Rattle.dx_schema_text.proofs.PrintReads.{mapping_of_sides}
 use Rattle.dx_rule_text.specs.Printed.{rule_text}
 use Rattle.dx_tgd_text.specs.Reading.{rule_of}
@@ -20,23 +20,23 @@ use Rattle.dx_rule_laws.specs.Laws.{OneRuleText, OneRule, PrintedRulesDiffer}
 use Rattle.dx_rule_laws.proofs.CanBeWritten.{printed_rules_are_read}
 use Rattle.dx_rule_laws.proofs.Lines.{mapping_more}
 
-no_sets : AreWritable none
-no_sets = record { named = tt; version = tt; levels = omega arith }
+no_sets : AreWritable 1 none
+no_sets = record { named = tt; sayable = tt; levels = omega arith }
 
--- a mapping without sets, lines and rules
+-- a mapping without sets, lines, conditions and rules
 abbrev bare : MappingText
-bare = sides none none
+bare = sides 1 none none
 
-bare_text : IsMappingText (sides_text (printed [] none) (printed [] none)) bare
-bare_text = mapping_of_sides none none no_sets no_sets
+bare_text : IsMappingText (sides_text 1 (printed [] none) (printed [] none)) bare
+bare_text = mapping_of_sides 1 none none the_first no_sets no_sets
 
 abbrev bare_tokens : List Lexeme
-bare_tokens = (scan_of (sides_text (printed [] none) (printed [] none))).lexemes
+bare_tokens = (scan_of (sides_text 1 (printed [] none) (printed [] none))).lexemes
 
 -- the tokens of a rule after those of that mapping
 behind_bare : (r : RuleText) (xs : List Lexeme) → SpellsRule r xs → whole (mapping_reader deepest) (bare_tokens ++ (xs ++ [])) ≡ Ok (with_rules bare (r ∷ []))
 behind_bare r xs spells =
-    whole_again (mapping_reader deepest) (SpellsMapping deepest) (NotNext begins_item) (mapping_again deepest) refl (with_rules bare (r ∷ [])) (bare_tokens ++ (xs ++ []))
+    whole_again (mapping_reader deepest) (SpellsMapping deepest) NoItemNext (mapping_again deepest) refl (with_rules bare (r ∷ [])) (bare_tokens ++ (xs ++ []))
     (mapping_more deepest bare bare_tokens bare_text.spelled (r ∷ []) (xs ++ []) (one_more spells no_more))
 
 same_mapping : (m n : MappingText) → ◌≡◌ {A = Result MappingText ℕ} (Ok m) (Ok n) → m ≡ n

@@ -39,6 +39,6 @@ said_rules_are_printable text m list says from to offer narrow no_fault d k =
     record {
       fits = fits;
       offered = all_offered m.source m.target list m.rules ds refl no_fault d k;
-      named = tables_named m.source m.target d named.0 named.1 fits;
+      named = tables_named m.source m.target d named.0.named named.1.named fits;
       writable = subst (IsWritable list) r.2 (said_rules_are_writable text m list r.0 says offer r.1 (each_none (rule_fault m.source m.target list) m.rules no_fault r.0 r.1));
     }

@@ -28,7 +28,7 @@ use Rattle.dx_schema_text.specs.declared.texts.MappingText.{MappingText}
 use Rattle.dx_schema_text.specs.declared.mapping.ItemText.{ItemText}
 use Rattle.dx_schema_text.specs.Grammar.{is_string_kind}
 use Rattle.dx_schema_text.specs.Reading.{rules_among}
-use Rattle.dx_schema_text.specs.Spelling.{Comma, comma_then, Parted, parted, SpellsCell, a_name, a_text, SpellsAtom, atom_of, SpellsDerived, derived_of, SpellsWhere, no_where, where_of, SpellsRule, rule_of, SpellsItem, a_line, a_rule, SpellsMapping, mapping_of}
+use Rattle.dx_schema_text.specs.Spelling.{Comma, comma_then, Parted, parted, SpellsCell, a_name, a_text, SpellsAtom, atom_of, SpellsDerived, derived_of, SpellsWhere, no_where, where_of, SpellsRule, rule_of, SpellsItem, a_line, a_rule, a_condition, SpellsMapping, mapping_of}
 use Rattle.dx_schema_text.proofs.SpelledWords.{kind_word}
 use Rattle.dx_funcs.specs.declared.conversion.Conversion.{Conversion}
 use Rattle.dx_funcs.specs.Names.{first_named, conversion_name}
@@ -97,14 +97,15 @@ rule_right _ _ (rule_of {conclusion = conclusion} {ds = ds} {u = u} {v = v} {w =
   literals = parted_so (SpellsAtom true) (λ a. Each a.cells IsRightCell) (atom_right true) conclusion w some (λ x m. h x (there (in_right u (in_right v (there (in_left (e ∷ []) m))))));
 }
 
-items_right : (rest : List ItemText) (xs : List Lexeme) → Many SpellsItem rest xs → AreRight xs → Each (rules_among rest) IsRightRule
-items_right _ _ no_more h r m = elim m [ ]
-items_right _ _ (one_more {others = others} {u = u} {v = v} (a_line line) rest) h r m = items_right others v rest (λ x k. h x (in_right u k)) r m
-items_right _ _ (one_more {u = u} {v = v} (a_rule {r = s} rule) rest) h r (here e) = subst IsRightRule e (rule_right s u rule (λ x k. h x (in_left v k)))
-items_right _ _ (one_more {others = others} {u = u} {v = v} (a_rule {r = s} rule) rest) h r (there k) = items_right others v rest (λ x i. h x (in_right u i)) r k
+items_right : (conditions : Bool) (rest : List ItemText) (xs : List Lexeme) → Many (SpellsItem conditions) rest xs → AreRight xs → Each (rules_among rest) IsRightRule
+items_right _ _ _ no_more h r m = elim m [ ]
+items_right _ _ _ (one_more {others = others} {u = u} {v = v} (a_line line) rest) h r m = items_right _ others v rest (λ x k. h x (in_right u k)) r m
+items_right _ _ _ (one_more {others = others} {u = u} {v = v} (a_condition only) rest) h r m = items_right _ others v rest (λ x k. h x (in_right u k)) r m
+items_right _ _ _ (one_more {u = u} {v = v} (a_rule {r = s} rule) rest) h r (here e) = subst IsRightRule e (rule_right s u rule (λ x k. h x (in_left v k)))
+items_right _ _ _ (one_more {others = others} {u = u} {v = v} (a_rule {r = s} rule) rest) h r (there k) = items_right _ others v rest (λ x i. h x (in_right u i)) r k
 
 mapping_right : (levels : ℕ) (m : MappingText) (xs : List Lexeme) → SpellsMapping levels m xs → AreRight xs → Each m.rules IsRightRule
-mapping_right levels _ _ (mapping_of {rest = rest} {u = u} {v = v} {w = w} k n e keyword version ending from to items) h = items_right rest w items (λ x m. h x (there (there (there (in_right u (in_right v m))))))
+mapping_right levels _ _ (mapping_of {rest = rest} {u = u} {v = v} {w = w} k n e keyword version ending from to items) h = items_right _ rest w items (λ x m. h x (there (there (there (in_right u (in_right v m))))))
 
 -- ---- literals
 
