@@ -1,5 +1,5 @@
 -- What holds of an accepted mapping.
-use Rattle.std.proofs.Common.{◌≡◌, ◌≤◌, ℕ, ◌<◌, List, [], length, None, refl, sym, ◌∙◌, subst, ap, arith, get_or, inl, inr, ◌-◌, ◌^◌, Result, Ok, Err}
+use Rattle.std.proofs.Common.{◌≡◌, ◌≤◌, ℕ, ◌+◌, ◌<◌, List, [], length, None, refl, sym, ◌∙◌, subst, ap, arith, get_or, inl, inr, ◌-◌, ◌^◌, Result, Ok, Err}
 use Rattle.std.specs.Prelude.{map, flat_map, IfOk}
 use Rattle.std.proofs.lemmas.List.{length-map, get_or_default}
 use Rattle.dx_ports.specs.Members.{◌∈◌, here, there, Each}
@@ -16,13 +16,16 @@ use Rattle.dx_schema.proofs.Valid.{are_tables}
 use Rattle.dx_schema_text.specs.declared.texts.MappingText.{MappingText}
 use Rattle.dx_schema_text.proofs.SpelledWords.{said_is_writable}
 use Rattle.dx_funcs.specs.declared.conversion.Conversion.{Conversion}
+use Rattle.dx_funcs.specs.declared.row_test.RowTest.{RowTest}
 use Rattle.dx_logical.specs.declared.relation.Occurrence.{Occurrence}
 use Rattle.dx_logical.specs.Laws.{IsUnfolding}
 use Rattle.dx_logical.specs.Unfolding.{unfolding_of}
 use Rattle.dx_schema.proofs.Whole.{links_fit}
 use Rattle.dx_logical.proofs.Unfoldings.{unfoldings_are}
 use Rattle.dx_line_text.specs.Naming.{lines_fault, lines_of, IsOffered, IsOfferedFrom}
+use Rattle.dx_line_text.specs.Conditions.{conditions_fault, conditions_of}
 use Rattle.dx_line_text.proofs.Fits.{lines_fit, lines_offered}
+use Rattle.dx_line_text.proofs.RowTests.{conditions_fit, conditions_tested}
 use Rattle.dx_tgd_text.specs.Reading.{IsNarrow, rules_fault}
 use Rattle.dx_tgd_text.specs.Laws.{IsWhole}
 use Rattle.dx_tgd_text.proofs.Fits.{all_fit, all_offered}
@@ -50,10 +53,10 @@ use Rattle.dx_lines.proofs.Conversions.{from_conversions}
 use Rattle.dx_rule_text.proofs.Printing.{atoms_of}
 use Rattle.dx_implies.specs.Pruning.{IsLeft, PassesTest}
 use Rattle.dx_implies.proofs.Pruned.{left_implies}
-use Rattle.clio_accept.specs.Mapping.{SourceRefused, TargetRefused, NameRefused, LinesRefused, NamingRefused, WritingRefused}
+use Rattle.clio_accept.specs.Mapping.{SourceRefused, TargetRefused, NameRefused, LinesRefused, NamingRefused, TestingRefused, WritingRefused}
 use Rattle.clio_accept.specs.Mapping.{LimitRefused, RulesRefused, FrozenRefused, frozen_cells}
 use Rattle.clio_accept.specs.Mapping.{NoneReserved, AreRulesOf, rules_of, limit_of, written_of}
-use Rattle.clio_accept.specs.Accepting.{between_of, limits, naming, writing, closing, leaving, accepting, accepting_said}
+use Rattle.clio_accept.specs.Accepting.{between_of, limits, naming, testing, writing, closing, leaving, accepting, accepting_said}
 use Rattle.clio_accept.specs.Accepting.{frozen_count, pruning, said_rules, taking, target_names, target_sets}
 use Rattle.clio_accept.specs.Laws.{AcceptedFits, AcceptedNamesAreFree, MappingFits}
 use Rattle.clio_accept.proofs.Few.{few_variables}
@@ -222,8 +225,9 @@ pub checked : {E A B : Type 0} (refused : A → E → Type 0) (fits : A → Type
 checked refused fits t c a x p = (p.1.0, subst (λ v. t.passes c v x) p.1.1 p.2)
 
 -- the rules are what is left of those of the lines and the closed hand-written ones, which are few and pass no limit of pruning
-pub record IsTaken (list : List Conversion) (m : MappingText) (P : List Rule) : Type 0 where
+pub record IsTaken (list : List Conversion) (tests : List RowTest) (m : MappingText) (P : List Rule) : Type 0 where
   pub named : lines_fault m.source m.target list m.lines ≡ None
+  pub tested : conditions_fault m.source tests m.conditions ≡ None
   pub limits : limit_of list m.source m.target m.lines ≡ None
   pub written : rules_fault m.source m.target list m.rules ≡ None
   pub all : List Rule
@@ -232,37 +236,38 @@ pub record IsTaken (list : List Conversion) (m : MappingText) (P : List Rule) : 
   pub within : ¬ (PassesTest frozen_cells all)
   pub left : IsLeft all P
 
-pub is_taken : (list : List Conversion) (c : World) (m : MappingText) (P : List Rule) → (taking list).passes c (between_of m) P → IsTaken list m P
-is_taken list c m P p =
+pub is_taken : (list : List Conversion) (tests : List RowTest) (c : World) (m : MappingText) (P : List Rule) → (taking list tests).passes c (between_of m) P → IsTaken list tests m P
+is_taken list tests c m P p =
     let b = between_of m in
     let rest = next (writing list) (next (limits list) (next (closing list) leaving)) in
-    let one = checked (λ b. LinesRefused b.lines) (λ b. length b.lines ≤ 512) (next (naming list) rest) c b P p in
-    let two = checked (λ b. NamingRefused list b.source b.target b.lines) (λ b. lines_fault b.source b.target list b.lines ≡ None) rest c b P one.1 in
-    let three = checked (λ b. WritingRefused list b.source b.target b.by_hand) (λ b. rules_fault b.source b.target list b.by_hand ≡ None) (next (limits list) (next (closing list) leaving)) c b P two.1 in
+    let one = checked (λ b. LinesRefused b.lines b.conditions) (λ b. length b.lines + length b.conditions ≤ 512) (next (naming list) (next (testing tests) rest)) c b P p in
+    let two = checked (λ b. NamingRefused list b.source b.target b.lines) (λ b. lines_fault b.source b.target list b.lines ≡ None) (next (testing tests) rest) c b P one.1 in
+    let test = checked (λ b. TestingRefused tests b.source b.conditions) (λ b. conditions_fault b.source tests b.conditions ≡ None) rest c b P two.1 in
+    let three = checked (λ b. WritingRefused list b.source b.target b.by_hand) (λ b. rules_fault b.source b.target list b.by_hand ≡ None) (next (limits list) (next (closing list) leaving)) c b P test.1 in
     let four = checked (λ b. LimitRefused list b.source b.target b.lines) (λ b. limit_of list b.source b.target b.lines ≡ None) (next (closing list) leaving) c b P three.1 in
     let R = four.1.0 in
     let five = checked RulesRefused (λ R. length R ≤ 256) (next frozen_count pruning) c R P four.1.2 in
     let six = checked FrozenRefused (λ R. ¬ (PassesTest frozen_cells R)) pruning c R P five.1 in
-    record { named = two.0; written = three.0; limits = four.0; all = R; are = four.1.1; few = five.0; within = six.0; left = six.1 }
+    record { named = two.0; tested = test.0; written = three.0; limits = four.0; all = R; are = four.1.1; few = five.0; within = six.0; left = six.1 }
 
 -- what a text says passed: its sides, the names of its target sets, and its rules
-record HasPassed (list : List Conversion) (c : World) (m : MappingText) (M : Mapping) : Type 0 where
+record HasPassed (list : List Conversion) (tests : List RowTest) (c : World) (m : MappingText) (M : Mapping) : Type 0 where
   pub source : IsFaultless m.source
   pub target : IsFaultless m.target
   pub names : NoneReserved m.target
-  pub rules : (said_rules list).passes c m M
+  pub rules : (said_rules list tests).passes c m M
 
-has_passed : (list : List Conversion) (c : World) (m : MappingText) (M : Mapping) → (accepting_said list).passes c m M → HasPassed list c m M
-has_passed list c m M p =
-    let one = checked (λ m. SourceRefused m.source) (λ m. IsFaultless m.source) (next target_sets (next target_names (said_rules list))) c m M p in
-    let two = checked (λ m. TargetRefused m.target) (λ m. IsFaultless m.target) (next target_names (said_rules list)) c m M one.1 in
-    let three = checked (λ m. NameRefused m.target) (λ m. NoneReserved m.target) (said_rules list) c m M two.1 in
+has_passed : (list : List Conversion) (tests : List RowTest) (c : World) (m : MappingText) (M : Mapping) → (accepting_said list tests).passes c m M → HasPassed list tests c m M
+has_passed list tests c m M p =
+    let one = checked (λ m. SourceRefused m.source) (λ m. IsFaultless m.source) (next target_sets (next target_names (said_rules list tests))) c m M p in
+    let two = checked (λ m. TargetRefused m.target) (λ m. IsFaultless m.target) (next target_names (said_rules list tests)) c m M one.1 in
+    let three = checked (λ m. NameRefused m.target) (λ m. NoneReserved m.target) (said_rules list tests) c m M two.1 in
     record { source = one.0; target = two.0; names = three.0; rules = three.1 }
 
 pub accepted_fits : AcceptedFits
-accepted_fits list c text M small (m, says, p) =
-    let s = has_passed list c m M p in
-    let t = is_taken list c m s.rules.0 s.rules.1 in
+accepted_fits list tests c text M small (m, says, p) =
+    let s = has_passed list tests c m M p in
+    let t = is_taken list tests c m s.rules.0 s.rules.1 in
     let rules = texts_have_whole_rules text m says in
     let a : IsRead list m = record {
       source = s.source;
@@ -278,11 +283,13 @@ accepted_fits list c text M small (m, says, p) =
     let many = t.few in
     let good : Each s.rules.0 (IsGood list m) = λ d i. all_good list m t.all a narrow t.are d (part.0 d i) in
     let words = said_is_writable text m says in
-    subst (MappingFits list) (sym s.rules.2) (record {
+    subst (MappingFits list tests) (sym s.rules.2) (record {
       source = s.source;
       target = s.target;
       source_names = words.0.named;
       target_names = words.1.named;
+      columns = conditions_fit m.source tests m.conditions (conditions_of m.source tests m.conditions) refl t.tested;
+      tested = conditions_tested m.source tests m.conditions (conditions_of m.source tests m.conditions) refl t.tested;
       few = omega (arith, shorter, many);
       fit = λ d i. (good d i).fits;
       closed = λ d i. (good d i).closed;
@@ -292,13 +299,13 @@ accepted_fits list c text M small (m, says, p) =
     })
 
 pub none_reserved : AcceptedNamesAreFree
-none_reserved list c text M (m, says, p) =
-    let s = has_passed list c m M p in
+none_reserved list tests c text M (m, says, p) =
+    let s = has_passed list tests c m M p in
     subst (λ (N : Mapping). NoneReserved N.target) (sym s.rules.2) s.names
 
-pub faultless_target : (list : List Conversion) (c : World) (text : List ℕ) (M : Mapping) → (accepting list).passes c text M → IsFaultless M.target
-faultless_target list c text M (m, says, p) =
-    let s = has_passed list c m M p in
+pub faultless_target : (list : List Conversion) (tests : List RowTest) (c : World) (text : List ℕ) (M : Mapping) → (accepting list tests).passes c text M → IsFaultless M.target
+faultless_target list tests c text M (m, says, p) =
+    let s = has_passed list tests c m M p in
     subst (λ (N : Mapping). IsFaultless N.target) (sym s.rules.2) s.target
 
 -- nothing is outside
@@ -306,6 +313,6 @@ nowhere : World
 nowhere = λ name. None
 
 -- a mapping that is accepted fits
-pub fits_of : (list : List Conversion) (text : List ℕ) (r : Result Mapping AcceptFault) → length text < 2 ^ 32 - 1 → Answers Memory (accepting list) text r → IfOk r (MappingFits list)
-fits_of list text (Ok m) small a = accepted_fits list nowhere text m small (a nowhere)
-fits_of list text (Err e) small a = tt
+pub fits_of : (list : List Conversion) (tests : List RowTest) (text : List ℕ) (r : Result Mapping AcceptFault) → length text < 2 ^ 32 - 1 → Answers Memory (accepting list tests) text r → IfOk r (MappingFits list tests)
+fits_of list tests text (Ok m) small a = accepted_fits list tests nowhere text m small (a nowhere)
+fits_of list tests text (Err e) small a = tt

@@ -1,5 +1,5 @@
 -- A text is accepted with one mapping, or refused for one reason, and never both.
-use Rattle.std.proofs.Common.{◌≡◌, ◌⊎◌, ℕ, zero, suc, ◌<◌, ◌≤◌, List, ◌++◌, Some, None, length, refl, sym, ◌∙◌, ap, false, subst, inl, inr, codes, arith, nat_eq}
+use Rattle.std.proofs.Common.{◌≡◌, ◌⊎◌, ℕ, zero, suc, ◌+◌, ◌<◌, ◌≤◌, List, ◌++◌, Some, None, length, refl, sym, ◌∙◌, ap, false, subst, inl, inr, codes, arith, nat_eq}
 use Rattle.std.specs.Prelude.{Option}
 use Rattle.std.specs.Cmp.Lexicographic.{pointwise, bytes_decides}
 use Rattle.std.proofs.lemmas.Bool.{cases_lt, cases_eq, cases_Bool, true≢false}
@@ -18,13 +18,16 @@ use Rattle.dx_schema.specs.Links.{IsFaultless}
 use Rattle.dx_schema.proofs.Deciding.{faultless_or_fault}
 use Rattle.dx_schema.proofs.OneFault.{one_first_fault, faultless_have_none}
 use Rattle.dx_schema_text.specs.declared.texts.LineText.{LineText}
+use Rattle.dx_schema_text.specs.declared.texts.OnlyText.{OnlyText}
 use Rattle.dx_schema_text.specs.declared.texts.RuleText.{RuleText}
 use Rattle.dx_model.specs.declared.rules.Rule.{Rule}
 use Rattle.dx_schema_text.specs.declared.texts.MappingText.{MappingText}
 use Rattle.dx_schema_text.specs.Texts.{IsMappingText, IsTextFault}
 use Rattle.dx_schema_text.proofs.Answered.{mapping_or_fault, one_mapping, one_fault, never_said_and_faulty}
 use Rattle.dx_funcs.specs.declared.conversion.Conversion.{Conversion}
+use Rattle.dx_funcs.specs.declared.row_test.RowTest.{RowTest}
 use Rattle.dx_line_text.specs.Naming.{lines_fault}
+use Rattle.dx_line_text.specs.Conditions.{conditions_fault}
 use Rattle.dx_tgd_text.specs.Reading.{rules_fault}
 use Rattle.dx_stages.specs.Stages.{Stage, next, over, notions, checking}
 use Rattle.dx_stages.specs.Laws.{PassesOne, IsDecided, Leads}
@@ -33,12 +36,12 @@ use Rattle.clio_accept.specs.declared.fault.AcceptFault.{AcceptFault}
 use Rattle.clio_accept.specs.declared.fault.AcceptFault.TheVariants as faults
 use Rattle.clio_accept.specs.declared.fault.MapFault.TheVariants as map_faults
 use Rattle.clio_accept.specs.Mapping.{IsReserved, NoneReserved, IsFirstReserved, AreRulesOf, TooWide, rules_of, written_of, limit_of, text_refusal, source_refusal, target_refusal}
-use Rattle.clio_accept.specs.Mapping.{SourceRefused, TargetRefused, NameRefused, LinesRefused, NamingRefused, WritingRefused}
+use Rattle.clio_accept.specs.Mapping.{SourceRefused, TargetRefused, NameRefused, LinesRefused, NamingRefused, TestingRefused, WritingRefused}
 use Rattle.clio_accept.specs.Mapping.{LimitRefused, WidthRefused, RulesRefused, FrozenRefused, frozen_cells}
 use Rattle.clio_accept.proofs.Closed.{one_closed, never_closed, closed_or_wide}
 use Rattle.clio_accept.proofs.Ruled.{are_rules, saying_all}
-use Rattle.clio_accept.specs.Accepting.{Between, line_count, naming, writing, limits, closing, rule_count, frozen_count, pruning, leaving, taking}
-use Rattle.clio_accept.specs.Accepting.{source_sets, target_sets, target_names, between_of, with_rules, said_rules, accepting_said, said_by, accepting}
+use Rattle.clio_accept.specs.Accepting.{Between, line_count, naming, testing, writing, limits, closing, rule_count, frozen_count, pruning, leaving, taking, with_rules, mapping_of}
+use Rattle.clio_accept.specs.Accepting.{source_sets, target_sets, target_names, between_of, said_rules, accepting_said, said_by, accepting}
 
 abbrev Same : AcceptFault → AcceptFault → Type 0
 Same d e = d ≡ e
@@ -84,8 +87,8 @@ no_name f e none a = none a.1.table a.1.within (at_table f a.0 a.1)
 
 -- ---- lines
 
-no_lines : (lines : List LineText) (e : AcceptFault) → length lines ≤ 512 → ¬ (LinesRefused lines e)
-no_lines lines e few a = let many = a.0 in omega (arith, few, many)
+no_lines : (lines : List LineText) (conditions : List OnlyText) (e : AcceptFault) → length lines + length conditions ≤ 512 → ¬ (LinesRefused lines conditions e)
+no_lines lines conditions e few a = let many = a.0 in omega (arith, few, many)
 
 no_naming : (list : List Conversion) (source target : Forest) (lines : List LineText) (e : AcceptFault) → lines_fault source target list lines ≡ None → ¬ (NamingRefused list source target lines e)
 no_naming list source target lines e none a = let some = a.1 in cc
@@ -95,6 +98,12 @@ same_some o x y a b = cc
 
 one_naming : (list : List Conversion) (source target : Forest) (lines : List LineText) (d e : AcceptFault) → NamingRefused list source target lines d → NamingRefused list source target lines e → d ≡ e
 one_naming list source target lines d e a b = a.2 ∙ ap text_refusal (same_some (lines_fault source target list lines) a.0 b.0 a.1 b.1) ∙ sym b.2
+
+no_testing : (tests : List RowTest) (source : Forest) (conditions : List OnlyText) (e : AcceptFault) → conditions_fault source tests conditions ≡ None → ¬ (TestingRefused tests source conditions e)
+no_testing tests source conditions e none a = let some = a.1 in cc
+
+one_testing : (tests : List RowTest) (source : Forest) (conditions : List OnlyText) (d e : AcceptFault) → TestingRefused tests source conditions d → TestingRefused tests source conditions e → d ≡ e
+one_testing tests source conditions d e a b = a.2 ∙ ap text_refusal (same_some (conditions_fault source tests conditions) a.0 b.0 a.1 b.1) ∙ sym b.2
 
 no_limit : (list : List Conversion) (source target : Forest) (lines : List LineText) (e : AcceptFault) → limit_of list source target lines ≡ None → ¬ (LimitRefused list source target lines e)
 no_limit list source target lines e none a = let some = a.1 in cc
@@ -168,10 +177,10 @@ check refused fits one never either = checking_decided Same Any refused fits one
 -- ---- lines
 
 line_count_decided : IsDecided Same Any line_count
-line_count_decided = check (λ b. LinesRefused b.lines) (λ b. length b.lines ≤ 512) (λ b d e p q. p.1 ∙ sym q.1) (λ b e. no_lines b.lines e) either
+line_count_decided = check (λ b. LinesRefused b.lines b.conditions) (λ b. length b.lines + length b.conditions ≤ 512) (λ b d e p q. p.1 ∙ sym q.1) (λ b e. no_lines b.lines b.conditions e) either
   where
-    either : (b : Between) → (length b.lines ≤ 512) ⊎ ((e : AcceptFault) × LinesRefused b.lines e)
-    either b = elim (cases_lt 512 (length b.lines)) [
+    either : (b : Between) → (length b.lines + length b.conditions ≤ 512) ⊎ ((e : AcceptFault) × LinesRefused b.lines b.conditions e)
+    either b = elim (cases_lt 512 (length b.lines + length b.conditions)) [
       | inl many ↦ inr (faults.Limit (record { what = Lines; number = 512 }), (many, refl))
       | inr few ↦ inl few
     ]
@@ -182,6 +191,16 @@ naming_decided list = check (λ b. NamingRefused list b.source b.target b.lines)
   where
     either : (b : Between) → (lines_fault b.source b.target list b.lines ≡ None) ⊎ ((e : AcceptFault) × NamingRefused list b.source b.target b.lines e)
     either b = elim (none_or_some (lines_fault b.source b.target list b.lines)) [
+      | inl none ↦ inl none
+      | inr k ↦ inr (text_refusal k.0, (k.0, k.1, refl))
+    ]
+
+testing_decided : (tests : List RowTest) → IsDecided Same Any (testing tests)
+testing_decided tests = check (λ b. TestingRefused tests b.source b.conditions) (λ b. conditions_fault b.source tests b.conditions ≡ None)
+    (λ b. one_testing tests b.source b.conditions) (λ b. no_testing tests b.source b.conditions) either
+  where
+    either : (b : Between) → (conditions_fault b.source tests b.conditions ≡ None) ⊎ ((e : AcceptFault) × TestingRefused tests b.source b.conditions e)
+    either b = elim (none_or_some (conditions_fault b.source tests b.conditions)) [
       | inl none ↦ inl none
       | inr k ↦ inr (text_refusal k.0, (k.0, k.1, refl))
     ]
@@ -229,10 +248,13 @@ rule_count_decided = check RulesRefused (λ R. length R ≤ 256) (λ R d e p q. 
     ]
 
 line_count_one : PassesOne line_count
-line_count_one = checking_one (λ b. LinesRefused b.lines) (λ b. length b.lines ≤ 512)
+line_count_one = checking_one (λ b. LinesRefused b.lines b.conditions) (λ b. length b.lines + length b.conditions ≤ 512)
 
 naming_one : (list : List Conversion) → PassesOne (naming list)
 naming_one list = checking_one (λ b. NamingRefused list b.source b.target b.lines) (λ b. lines_fault b.source b.target list b.lines ≡ None)
+
+testing_one : (tests : List RowTest) → PassesOne (testing tests)
+testing_one tests = checking_one (λ b. TestingRefused tests b.source b.conditions) (λ b. conditions_fault b.source tests b.conditions ≡ None)
 
 limits_one : (list : List Conversion) → PassesOne (limits list)
 limits_one list = checking_one (λ b. LimitRefused list b.source b.target b.lines) (λ b. limit_of list b.source b.target b.lines ≡ None)
@@ -292,45 +314,51 @@ abbrev IsSound : Between → Type 0
 IsSound b = (Each b.by_hand IsWhole × IsFaultless b.source) × IsFaultless b.target
 
 abbrev IsCounted : Between → Type 0
-IsCounted b = IsSound b × (length b.lines ≤ 512)
+IsCounted b = IsSound b × (length b.lines + length b.conditions ≤ 512)
 
 abbrev IsNamed : List Conversion → Between → Type 0
 IsNamed list b = IsCounted b × (lines_fault b.source b.target list b.lines ≡ None)
 
-abbrev IsWritten : List Conversion → Between → Type 0
-IsWritten list b = IsNamed list b × (rules_fault b.source b.target list b.by_hand ≡ None)
+abbrev IsTestable : List Conversion → List RowTest → Between → Type 0
+IsTestable list tests b = IsNamed list b × (conditions_fault b.source tests b.conditions ≡ None)
 
-abbrev IsLimited : List Conversion → Between → Type 0
-IsLimited list b = IsWritten list b × (limit_of list b.source b.target b.lines ≡ None)
+abbrev IsWritten : List Conversion → List RowTest → Between → Type 0
+IsWritten list tests b = IsTestable list tests b × (rules_fault b.source b.target list b.by_hand ≡ None)
 
-closing_leads : (list : List Conversion) → Leads (IsLimited list) AreRules (closing list)
-closing_leads list c b R g are = are_rules list (saying_all b) R (record {
-  source = g.0.0.0.0.0.1;
-  target = g.0.0.0.0.1;
-  named = g.0.0.1;
+abbrev IsLimited : List Conversion → List RowTest → Between → Type 0
+IsLimited list tests b = IsWritten list tests b × (limit_of list b.source b.target b.lines ≡ None)
+
+closing_leads : (list : List Conversion) (tests : List RowTest) → Leads (IsLimited list tests) AreRules (closing list)
+closing_leads list tests c b R g are = are_rules list (saying_all b) R (record {
+  source = g.0.0.0.0.0.0.1;
+  target = g.0.0.0.0.0.1;
+  named = g.0.0.0.1;
   limits = g.1;
   written = g.0.1;
-  whole = g.0.0.0.0.0.0;
+  whole = g.0.0.0.0.0.0.0;
 }) are
 
-taking_one : (list : List Conversion) → PassesOne (taking list)
-taking_one list =
-    next_one line_count (next (naming list) (next (writing list) (next (limits list) (next (closing list) leaving)))) line_count_one
-    (next_one (naming list) (next (writing list) (next (limits list) (next (closing list) leaving))) (naming_one list)
+taking_one : (list : List Conversion) (tests : List RowTest) → PassesOne (taking list tests)
+taking_one list tests =
+    next_one line_count (next (naming list) (next (testing tests) (next (writing list) (next (limits list) (next (closing list) leaving))))) line_count_one
+    (next_one (naming list) (next (testing tests) (next (writing list) (next (limits list) (next (closing list) leaving)))) (naming_one list)
+    (next_one (testing tests) (next (writing list) (next (limits list) (next (closing list) leaving))) (testing_one tests)
     (next_one (writing list) (next (limits list) (next (closing list) leaving)) (writing_one list)
-    (next_one (limits list) (next (closing list) leaving) (limits_one list) (next_one (closing list) leaving (closing_one list) leaving_one))))
+    (next_one (limits list) (next (closing list) leaving) (limits_one list) (next_one (closing list) leaving (closing_one list) leaving_one)))))
 
-taking_decided : (list : List Conversion) → IsDecided Same IsSound (taking list)
-taking_decided list =
-    after IsSound IsCounted line_count (next (naming list) (next (writing list) (next (limits list) (next (closing list) leaving)))) line_count_one
-    (keeps IsSound (λ b. LinesRefused b.lines) (λ b. length b.lines ≤ 512)) line_count_decided
-    (after IsCounted (IsNamed list) (naming list) (next (writing list) (next (limits list) (next (closing list) leaving))) (naming_one list)
+taking_decided : (list : List Conversion) (tests : List RowTest) → IsDecided Same IsSound (taking list tests)
+taking_decided list tests =
+    after IsSound IsCounted line_count (next (naming list) (next (testing tests) (next (writing list) (next (limits list) (next (closing list) leaving))))) line_count_one
+    (keeps IsSound (λ b. LinesRefused b.lines b.conditions) (λ b. length b.lines + length b.conditions ≤ 512)) line_count_decided
+    (after IsCounted (IsNamed list) (naming list) (next (testing tests) (next (writing list) (next (limits list) (next (closing list) leaving)))) (naming_one list)
     (keeps IsCounted (λ b. NamingRefused list b.source b.target b.lines) (λ b. lines_fault b.source b.target list b.lines ≡ None)) (naming_decided list)
-    (after (IsNamed list) (IsWritten list) (writing list) (next (limits list) (next (closing list) leaving)) (writing_one list)
-    (keeps (IsNamed list) (λ b. WritingRefused list b.source b.target b.by_hand) (λ b. rules_fault b.source b.target list b.by_hand ≡ None)) (writing_decided list)
-    (after (IsWritten list) (IsLimited list) (limits list) (next (closing list) leaving) (limits_one list)
-    (keeps (IsWritten list) (λ b. LimitRefused list b.source b.target b.lines) (λ b. limit_of list b.source b.target b.lines ≡ None)) (limits_decided list)
-    (after (IsLimited list) AreRules (closing list) leaving (closing_one list) (closing_leads list) (closing_decided list) leaving_decided))))
+    (after (IsNamed list) (IsTestable list tests) (testing tests) (next (writing list) (next (limits list) (next (closing list) leaving))) (testing_one tests)
+    (keeps (IsNamed list) (λ b. TestingRefused tests b.source b.conditions) (λ b. conditions_fault b.source tests b.conditions ≡ None)) (testing_decided tests)
+    (after (IsTestable list tests) (IsWritten list tests) (writing list) (next (limits list) (next (closing list) leaving)) (writing_one list)
+    (keeps (IsTestable list tests) (λ b. WritingRefused list b.source b.target b.by_hand) (λ b. rules_fault b.source b.target list b.by_hand ≡ None)) (writing_decided list)
+    (after (IsWritten list tests) (IsLimited list tests) (limits list) (next (closing list) leaving) (limits_one list)
+    (keeps (IsWritten list tests) (λ b. LimitRefused list b.source b.target b.lines) (λ b. limit_of list b.source b.target b.lines ≡ None)) (limits_decided list)
+    (after (IsLimited list tests) AreRules (closing list) leaving (closing_one list) (closing_leads list tests) (closing_decided list) leaving_decided)))))
 
 -- ---- what a text says
 
@@ -370,13 +398,13 @@ target_one = checking_one (λ m. TargetRefused m.target) (λ m. IsFaultless m.ta
 names_one : PassesOne target_names
 names_one = checking_one (λ m. NameRefused m.target) (λ m. NoneReserved m.target)
 
-said_rules_one : (list : List Conversion) → PassesOne (said_rules list)
-said_rules_one list = into_one with_rules (over between_of (taking list)) (over_one between_of (taking list) (taking_one list))
+said_rules_one : (list : List Conversion) (tests : List RowTest) → PassesOne (said_rules list tests)
+said_rules_one list tests = over_one between_of (mapping_of list tests) (into_one (with_rules tests) (taking list tests) (taking_one list tests))
 
-said_one : (list : List Conversion) → PassesOne (accepting_said list)
-said_one list =
-    next_one source_sets (next target_sets (next target_names (said_rules list))) source_one
-    (next_one target_sets (next target_names (said_rules list)) target_one (next_one target_names (said_rules list) names_one (said_rules_one list)))
+said_one : (list : List Conversion) (tests : List RowTest) → PassesOne (accepting_said list tests)
+said_one list tests =
+    next_one source_sets (next target_sets (next target_names (said_rules list tests))) source_one
+    (next_one target_sets (next target_names (said_rules list tests)) target_one (next_one target_names (said_rules list tests) names_one (said_rules_one list tests)))
 
 -- the hand-written rules are whole
 abbrev IsWholeText : MappingText → Type 0
@@ -388,13 +416,13 @@ HasSource m = IsWholeText m × IsFaultless m.source
 abbrev HasTarget : MappingText → Type 0
 HasTarget m = HasSource m × IsFaultless m.target
 
-said_decided : (list : List Conversion) → IsDecided Same IsWholeText (accepting_said list)
-said_decided list =
-    after IsWholeText HasSource source_sets (next target_sets (next target_names (said_rules list))) source_one
+said_decided : (list : List Conversion) (tests : List RowTest) → IsDecided Same IsWholeText (accepting_said list tests)
+said_decided list tests =
+    after IsWholeText HasSource source_sets (next target_sets (next target_names (said_rules list tests))) source_one
     (keeps IsWholeText (λ m. SourceRefused m.source) (λ m. IsFaultless m.source)) source_decided
-    (after HasSource HasTarget target_sets (next target_names (said_rules list)) target_one (keeps HasSource (λ m. TargetRefused m.target) (λ m. IsFaultless m.target)) target_decided
-    (after HasTarget HasTarget target_names (said_rules list) names_one (stays HasTarget (λ m. NameRefused m.target) (λ m. NoneReserved m.target)) names_decided
-    (into_decided Same HasTarget with_rules (over between_of (taking list)) (over_decided Same HasTarget IsSound between_of (taking list) (λ m g. g) (taking_decided list)))))
+    (after HasSource HasTarget target_sets (next target_names (said_rules list tests)) target_one (keeps HasSource (λ m. TargetRefused m.target) (λ m. IsFaultless m.target)) target_decided
+    (after HasTarget HasTarget target_names (said_rules list tests) names_one (stays HasTarget (λ m. NameRefused m.target) (λ m. NoneReserved m.target)) names_decided
+    (over_decided Same HasTarget IsSound between_of (mapping_of list tests) (λ m g. g) (into_decided Same IsSound (with_rules tests) (taking list tests) (taking_decided list tests)))))
 
 -- ---- a text
 
@@ -409,8 +437,8 @@ said_by_decided =
 said_by_leads : Leads Any IsWholeText said_by
 said_by_leads c text m g says r i = (texts_have_whole_rules text m says r i).0
 
-pub accepting_one : (list : List Conversion) → PassesOne (accepting list)
-accepting_one list = next_one said_by (accepting_said list) said_by_one (said_one list)
+pub accepting_one : (list : List Conversion) (tests : List RowTest) → PassesOne (accepting list tests)
+accepting_one list tests = next_one said_by (accepting_said list tests) said_by_one (said_one list tests)
 
-pub accepting_decided : (list : List Conversion) → IsDecided (λ e f. e ≡ f) (λ text. Unit {0}) (accepting list)
-accepting_decided list = after Any IsWholeText said_by (accepting_said list) said_by_one said_by_leads said_by_decided (said_decided list)
+pub accepting_decided : (list : List Conversion) (tests : List RowTest) → IsDecided (λ e f. e ≡ f) (λ text. Unit {0}) (accepting list tests)
+accepting_decided list tests = after Any IsWholeText said_by (accepting_said list tests) said_by_one said_by_leads said_by_decided (said_decided list tests)

@@ -1,5 +1,5 @@
 -- From the answers of the steps of lines and hand-written rules to that of their rules.
-use Rattle.std.proofs.Common.{◌≡◌, ◌⊎◌, ◌<◌, ◌≤◌, List, ◌++◌, length, Some, None, refl, inl, inr, ap, ◌∙◌, subst, Ok, Err}
+use Rattle.std.proofs.Common.{◌≡◌, ◌⊎◌, ◌+◌, ◌<◌, ◌≤◌, List, ◌++◌, length, Some, None, refl, inl, inr, ap, ◌∙◌, subst, Ok, Err}
 use Rattle.dx_ports.specs.declared.file.Limit.{Limit}
 use Rattle.dx_ports.specs.declared.file.Count.TheVariants as counts
 use Rattle.dx_model.specs.declared.rules.Rule.{Rule}
@@ -7,9 +7,12 @@ use Rattle.dx_schema.specs.Tables.{model_tables}
 use Rattle.dx_tokens.specs.declared.faults.TextFault.{TextFault}
 use Rattle.dx_tokens.specs.declared.faults.TextFault.TheVariants as text_faults
 use Rattle.dx_funcs.specs.declared.conversion.Conversion.{Conversion}
+use Rattle.dx_funcs.specs.declared.row_test.RowTest.{RowTest}
 use Rattle.dx_candidates.specs.declared.fault.CandFault.{CandFault}
 use Rattle.dx_candidates.specs.declared.fault.CandFault.TheVariants as cand_faults
+use Rattle.dx_lines.specs.declared.line.Condition.{Condition}
 use Rattle.dx_line_text.specs.Naming.{lines_fault}
+use Rattle.dx_line_text.specs.Conditions.{conditions_fault, conditions_of}
 use Rattle.dx_tgd_text.specs.Reading.{rules_fault}
 use Rattle.dx_stages.specs.Running.{Answers}
 use Rattle.clio_accept.specs.declared.fault.AcceptFault.{AcceptFault}
@@ -18,41 +21,52 @@ use Rattle.dx_tgd.specs.declared.fault.CanonFault.{CanonFault}
 use Rattle.dx_tgd.specs.declared.fault.CanonFault.TheVariants as canon_faults
 use Rattle.dx_implies.specs.Frozen.{IsRefusal}
 use Rattle.dx_implies.specs.Pruning.{IsLeft, PassesTest}
-use Rattle.clio_accept.specs.Mapping.{AreClosings, AreRulesOf, WidthRefused, frozen_cells, frozen_refusal, limit_of, limit_refusal}
+use Rattle.clio_accept.specs.Mapping.{AreClosings, AreRulesOf, LinesRefused, WidthRefused, frozen_cells, frozen_refusal, limit_of, limit_refusal}
 use Rattle.clio_accept.specs.Mapping.{rules_of, text_refusal, written_of}
-use Rattle.clio_accept.specs.Accepting.{Between, taking}
+use Rattle.clio_accept.specs.Accepting.{Between, mapping_of}
+
+-- there are too many lines and conditions
+pub lines_stop : (list : List Conversion) (tests : List RowTest) (b : Between) (e : AcceptFault) → LinesRefused b.lines b.conditions e → Answers faults.Memory (mapping_of list tests) b (Err e)
+lines_stop list tests b e h = inr (λ c. inl h)
 
 -- a word of the lines names nothing
-pub naming_stops : (list : List Conversion) (b : Between) (f : TextFault) → length b.lines ≤ 512 → (f ≡ text_faults.Memory) ⊎ (lines_fault b.source b.target list b.lines ≡ Some f)
-    → Answers faults.Memory (taking list) b (Err (text_refusal f))
-naming_stops list b f few (inl is) = inl (ap text_refusal is)
-naming_stops list b f few (inr h) = inr (λ c. inr (b, (few, refl), inl (f, h, refl)))
+pub naming_stops : (list : List Conversion) (tests : List RowTest) (b : Between) (f : TextFault) → length b.lines + length b.conditions ≤ 512 → (f ≡ text_faults.Memory) ⊎ (lines_fault b.source b.target list b.lines ≡ Some f)
+    → Answers faults.Memory (mapping_of list tests) b (Err (text_refusal f))
+naming_stops list tests b f few (inl is) = inl (ap text_refusal is)
+naming_stops list tests b f few (inr h) = inr (λ c. inr (b, (few, refl), inl (f, h, refl)))
+
+-- a word of the conditions names nothing
+pub testing_stops : (list : List Conversion) (tests : List RowTest) (b : Between) (f : TextFault) → length b.lines + length b.conditions ≤ 512 → lines_fault b.source b.target list b.lines ≡ None
+    → (f ≡ text_faults.Memory) ⊎ (conditions_fault b.source tests b.conditions ≡ Some f) → Answers faults.Memory (mapping_of list tests) b (Err (text_refusal f))
+testing_stops list tests b f few named (inl is) = inl (ap text_refusal is)
+testing_stops list tests b f few named (inr h) = inr (λ c. inr (b, (few, refl), inr (b, (named, refl), inl (f, h, refl))))
 
 -- a hand-written rule has a fault
-pub writing_stops : (list : List Conversion) (b : Between) (f : TextFault) → length b.lines ≤ 512 → lines_fault b.source b.target list b.lines ≡ None
-    → (f ≡ text_faults.Memory) ⊎ (rules_fault b.source b.target list b.by_hand ≡ Some f) → Answers faults.Memory (taking list) b (Err (text_refusal f))
-writing_stops list b f few named (inl is) = inl (ap text_refusal is)
-writing_stops list b f few named (inr h) = inr (λ c. inr (b, (few, refl), inr (b, (named, refl), inl (f, h, refl))))
+pub writing_stops : (list : List Conversion) (tests : List RowTest) (b : Between) (f : TextFault) → length b.lines + length b.conditions ≤ 512 → lines_fault b.source b.target list b.lines ≡ None
+    → conditions_fault b.source tests b.conditions ≡ None → (f ≡ text_faults.Memory) ⊎ (rules_fault b.source b.target list b.by_hand ≡ Some f) → Answers faults.Memory (mapping_of list tests) b (Err (text_refusal f))
+writing_stops list tests b f few named tested (inl is) = inl (ap text_refusal is)
+writing_stops list tests b f few named tested (inr h) = inr (λ c. inr (b, (few, refl), inr (b, (named, refl), inr (b, (tested, refl), inl (f, h, refl)))))
 
--- what is known of lines and hand-written rules without a fault
-pub record AreRead (list : List Conversion) (b : Between) : Type 0 where
-  pub few : length b.lines ≤ 512
+-- what is known of lines, conditions and hand-written rules without a fault
+pub record AreRead (list : List Conversion) (tests : List RowTest) (b : Between) : Type 0 where
+  pub few : length b.lines + length b.conditions ≤ 512
   pub named : lines_fault b.source b.target list b.lines ≡ None
+  pub tested : conditions_fault b.source tests b.conditions ≡ None
   pub written : rules_fault b.source b.target list b.by_hand ≡ None
 
 -- the lines pass a limit
-pub limit_stops : (list : List Conversion) (b : Between) (f : CandFault) → AreRead list b
-    → (f ≡ cand_faults.Memory) ⊎ ((l : Limit) × (limit_of list b.source b.target b.lines ≡ Some l) × (f ≡ cand_faults.TooMany l)) → Answers faults.Memory (taking list) b (Err (limit_refusal f))
-limit_stops list b f r (inl is) = inl (ap limit_refusal is)
-limit_stops list b f r (inr (l, h, is)) =
-    inr (λ c. inr (b, (r.few, refl), inr (b, (r.named, refl), inr (b, (r.written, refl), inl (l, h, ap limit_refusal is)))))
+pub limit_stops : (list : List Conversion) (tests : List RowTest) (b : Between) (f : CandFault) → AreRead list tests b
+    → (f ≡ cand_faults.Memory) ⊎ ((l : Limit) × (limit_of list b.source b.target b.lines ≡ Some l) × (f ≡ cand_faults.TooMany l)) → Answers faults.Memory (mapping_of list tests) b (Err (limit_refusal f))
+limit_stops list tests b f r (inl is) = inl (ap limit_refusal is)
+limit_stops list tests b f r (inr (l, h, is)) =
+    inr (λ c. inr (b, (r.few, refl), inr (b, (r.named, refl), inr (b, (r.tested, refl), inr (b, (r.written, refl), inl (l, h, ap limit_refusal is))))))
 
 -- a hand-written rule is too wide
-pub width_stops : (list : List Conversion) (b : Between) (written : List Rule) (e : AcceptFault) → AreRead list b → limit_of list b.source b.target b.lines ≡ None → written ≡ written_of list b.source b.target b.by_hand
-    → (e ≡ faults.Memory) ⊎ WidthRefused (model_tables b.target) written e → Answers faults.Memory (taking list) b (Err e)
-width_stops list b written e r limits are (inl is) = inl is
-width_stops list b written e r limits are (inr h) =
-    inr (λ c. inr (b, (r.few, refl), inr (b, (r.named, refl), inr (b, (r.written, refl), inr (b, (limits, refl), inl (subst (λ ds. WidthRefused (model_tables b.target) ds e) are h))))))
+pub width_stops : (list : List Conversion) (tests : List RowTest) (b : Between) (written : List Rule) (e : AcceptFault) → AreRead list tests b → limit_of list b.source b.target b.lines ≡ None → written ≡ written_of list b.source b.target b.by_hand
+    → (e ≡ faults.Memory) ⊎ WidthRefused (model_tables b.target) written e → Answers faults.Memory (mapping_of list tests) b (Err e)
+width_stops list tests b written e r limits are (inl is) = inl is
+width_stops list tests b written e r limits are (inr h) =
+    inr (λ c. inr (b, (r.few, refl), inr (b, (r.named, refl), inr (b, (r.tested, refl), inr (b, (r.written, refl), inr (b, (limits, refl), inl (subst (λ ds. WidthRefused (model_tables b.target) ds e) are h)))))))
 
 -- all rules, of which those of lines stand in front
 pub all_rules : (list : List Conversion) (b : Between) (written kept closed R : List Rule) → written ≡ written_of list b.source b.target b.by_hand → kept ≡ rules_of list b.source b.target b.lines
@@ -64,20 +78,21 @@ all_rules list b written kept closed R are is closings both = record {
 }
 
 -- the rules are too many
-pub count_stops : (list : List Conversion) (b : Between) (R : List Rule) → AreRead list b → limit_of list b.source b.target b.lines ≡ None → AreRulesOf list b.source b.target b.lines b.by_hand R
-    → 256 < length R → Answers faults.Memory (taking list) b (Err (faults.Limit (record { what = counts.Rules; number = 256 })))
-count_stops list b R r limits are many =
-    inr (λ c. inr (b, (r.few, refl), inr (b, (r.named, refl), inr (b, (r.written, refl), inr (b, (limits, refl), inr (R, are, inl (many, refl)))))))
+pub count_stops : (list : List Conversion) (tests : List RowTest) (b : Between) (R : List Rule) → AreRead list tests b → limit_of list b.source b.target b.lines ≡ None → AreRulesOf list b.source b.target b.lines b.by_hand R
+    → 256 < length R → Answers faults.Memory (mapping_of list tests) b (Err (faults.Limit (record { what = counts.Rules; number = 256 })))
+count_stops list tests b R r limits are many =
+    inr (λ c. inr (b, (r.few, refl), inr (b, (r.named, refl), inr (b, (r.tested, refl), inr (b, (r.written, refl), inr (b, (limits, refl), inr (R, are, inl (many, refl))))))))
 
 -- a test of pruning passes the limit
-pub frozen_stops : (list : List Conversion) (b : Between) (R : List Rule) (f : CanonFault) → AreRead list b → limit_of list b.source b.target b.lines ≡ None
-    → AreRulesOf list b.source b.target b.lines b.by_hand R → length R ≤ 256 → IsRefusal frozen_cells (PassesTest frozen_cells R) f → Answers faults.Memory (taking list) b (Err (frozen_refusal f))
-frozen_stops list b R canon_faults.Memory r limits are few h = inl refl
-frozen_stops list b R (canon_faults.Limit l) r limits are few h =
-    inr (λ c. inr (b, (r.few, refl), inr (b, (r.named, refl), inr (b, (r.written, refl), inr (b, (limits, refl), inr (R, are, inr (R, (few, refl), inl (h.1, ap faults.Limit h.0))))))))
+pub frozen_stops : (list : List Conversion) (tests : List RowTest) (b : Between) (R : List Rule) (f : CanonFault) → AreRead list tests b → limit_of list b.source b.target b.lines ≡ None
+    → AreRulesOf list b.source b.target b.lines b.by_hand R → length R ≤ 256 → IsRefusal frozen_cells (PassesTest frozen_cells R) f → Answers faults.Memory (mapping_of list tests) b (Err (frozen_refusal f))
+frozen_stops list tests b R canon_faults.Memory r limits are few h = inl refl
+frozen_stops list tests b R (canon_faults.Limit l) r limits are few h =
+    inr (λ c. inr (b, (r.few, refl), inr (b, (r.named, refl), inr (b, (r.tested, refl), inr (b, (r.written, refl), inr (b, (limits, refl), inr (R, are, inr (R, (few, refl), inl (h.1, ap faults.Limit h.0)))))))))
 
 -- the pruned rules are taken
-pub rules_taken : (list : List Conversion) (b : Between) (R P : List Rule) → AreRead list b → limit_of list b.source b.target b.lines ≡ None → AreRulesOf list b.source b.target b.lines b.by_hand R
-    → length R ≤ 256 → ¬ (PassesTest frozen_cells R) → IsLeft R P → Answers faults.Memory (taking list) b (Ok P)
-rules_taken list b R P r limits are few none left =
-    λ c. (b, (r.few, refl), (b, (r.named, refl), (b, (r.written, refl), (b, (limits, refl), (R, are, (R, (few, refl), (R, (none, refl), left)))))))
+pub rules_taken : (list : List Conversion) (tests : List RowTest) (b : Between) (R P : List Rule) (conditions : List Condition) → AreRead list tests b → limit_of list b.source b.target b.lines ≡ None → AreRulesOf list b.source b.target b.lines b.by_hand R
+    → length R ≤ 256 → ¬ (PassesTest frozen_cells R) → IsLeft R P → conditions ≡ conditions_of b.source tests b.conditions
+    → Answers faults.Memory (mapping_of list tests) b (Ok (record { source = b.source; target = b.target; conditions = conditions; rules = P }))
+rules_taken list tests b R P conditions r limits are few none left read =
+    λ c. (P, (b, (r.few, refl), (b, (r.named, refl), (b, (r.tested, refl), (b, (r.written, refl), (b, (limits, refl), (R, are, (R, (few, refl), (R, (none, refl), left)))))))), ap (λ cs. record { source = b.source; target = b.target; conditions = cs; rules = P }) read)

@@ -22,6 +22,7 @@ use Rattle.dx_schema_text.specs.declared.texts.RuleText.{RuleText}
 use Rattle.dx_tokens.specs.declared.faults.TextFault.TheVariants.{At}
 use Rattle.dx_tokens.specs.declared.faults.TextKind.TheVariants.{UnknownName, Width}
 use Rattle.dx_funcs.specs.declared.conversion.Conversion.{Conversion}
+use Rattle.dx_funcs.specs.declared.row_test.RowTest.{RowTest}
 use Rattle.dx_line_text.specs.Naming.{columns_in, set_names, set_number}
 use Rattle.dx_closing.proofs.Growth.{closing_keeps}
 use Rattle.dx_tgd_text.specs.Laws.{IsWhole}
@@ -103,10 +104,10 @@ are_rules list m R a r e i =
 
 -- a text that says this
 abbrev pub saying_all : Between → MappingText
-saying_all b = record { version = 1; source = b.source; target = b.target; lines = b.lines; rules = b.by_hand }
+saying_all b = record { version = 2; source = b.source; target = b.target; lines = b.lines; conditions = b.conditions; rules = b.by_hand }
 
 -- the rules of lines and the closed hand-written ones fit
-pub between_fit : (list : List Conversion) (b : Between) (R : List Rule) → IsFaultless b.source → IsFaultless b.target → AreRead list b → limit_of list b.source b.target b.lines ≡ None
+pub between_fit : (list : List Conversion) (tests : List RowTest) (b : Between) (R : List Rule) → IsFaultless b.source → IsFaultless b.target → AreRead list tests b → limit_of list b.source b.target b.lines ≡ None
     → Each b.by_hand IsWhole → Each b.by_hand IsNarrow → AreRulesOf list b.source b.target b.lines b.by_hand R → Each R (RuleFits (model_tables b.source) (model_tables b.target))
-between_fit list b R ok fine r limits whole thin are =
+between_fit list tests b R ok fine r limits whole thin are =
     all_rules_fit list (saying_all b) R (record { source = ok; target = fine; named = r.named; limits = limits; written = r.written; whole = whole }) thin are

@@ -1,40 +1,48 @@
 -- Accepting a text, one stage after the other.
-use Rattle.std.specs.Prelude.{◌≡◌, ◌≤◌, ℕ, List, None, length}
+use Rattle.std.specs.Prelude.{◌≡◌, ◌≤◌, ◌+◌, ℕ, List, None, length}
 use Rattle.dx_model.specs.declared.rules.Rule.{Rule}
 use Rattle.dx_schema.specs.Forest.{Forest}
 use Rattle.dx_schema.specs.Tables.{model_tables}
 use Rattle.dx_schema.specs.Links.{IsFaultless}
 use Rattle.dx_schema_text.specs.declared.texts.LineText.{LineText}
+use Rattle.dx_schema_text.specs.declared.texts.OnlyText.{OnlyText}
 use Rattle.dx_schema_text.specs.declared.texts.RuleText.{RuleText}
 use Rattle.dx_schema_text.specs.declared.texts.MappingText.{MappingText}
 use Rattle.dx_schema_text.specs.Texts.{IsMappingText, IsTextFault}
 use Rattle.dx_funcs.specs.declared.conversion.Conversion.{Conversion}
+use Rattle.dx_funcs.specs.declared.row_test.RowTest.{RowTest}
 use Rattle.dx_line_text.specs.Naming.{lines_fault}
+use Rattle.dx_line_text.specs.Conditions.{conditions_fault, conditions_of}
 use Rattle.dx_tgd_text.specs.Reading.{rules_fault}
 use Rattle.dx_implies.specs.Pruning.{IsLeft, PassesTest}
 use Rattle.dx_stages.specs.Stages.{Stage, next, over, into, saying, checking, notions}
 use Rattle.clio_accept.specs.declared.mapping.Mapping.{Mapping}
 use Rattle.clio_accept.specs.declared.fault.AcceptFault.{AcceptFault}
-use Rattle.clio_accept.specs.Mapping.{SourceRefused, TargetRefused, NameRefused, LinesRefused, NamingRefused, WritingRefused}
+use Rattle.clio_accept.specs.Mapping.{SourceRefused, TargetRefused, NameRefused, LinesRefused, NamingRefused, TestingRefused, WritingRefused}
 use Rattle.clio_accept.specs.Mapping.{LimitRefused, WidthRefused, RulesRefused, FrozenRefused, frozen_cells}
 use Rattle.clio_accept.specs.Mapping.{NoneReserved, AreRulesOf, written_of, limit_of, text_refusal}
 
 -- ---- rules
 
--- lines and hand-written rules, and the two schemas that they stand between
+-- lines, conditions and hand-written rules, and the two schemas that they stand between
 pub record Between : Type 0 where
   pub source : Forest
   pub target : Forest
   pub lines : List LineText
+  pub conditions : List OnlyText
   pub by_hand : List RuleText
 
--- at most 512 lines
+-- at most 512 lines and conditions together
 abbrev pub line_count : Stage AcceptFault Between Between
-line_count = checking (λ b. LinesRefused b.lines) (λ b. length b.lines ≤ 512)
+line_count = checking (λ b. LinesRefused b.lines b.conditions) (λ b. length b.lines + length b.conditions ≤ 512)
 
 -- the words of the lines name what there is
 abbrev pub naming : List Conversion → Stage AcceptFault Between Between
 naming list = checking (λ b. NamingRefused list b.source b.target b.lines) (λ b. lines_fault b.source b.target list b.lines ≡ None)
+
+-- the words of the conditions name what there is
+abbrev pub testing : List RowTest → Stage AcceptFault Between Between
+testing tests = checking (λ b. TestingRefused tests b.source b.conditions) (λ b. conditions_fault b.source tests b.conditions ≡ None)
 
 -- the hand-written rules have no fault
 abbrev pub writing : List Conversion → Stage AcceptFault Between Between
@@ -66,8 +74,15 @@ pruning = notions (λ R e. ⊥) IsLeft
 abbrev pub leaving : Stage AcceptFault (List Rule) (List Rule)
 leaving = next rule_count (next frozen_count pruning)
 
-abbrev pub taking : List Conversion → Stage AcceptFault Between (List Rule)
-taking list = next line_count (next (naming list) (next (writing list) (next (limits list) (next (closing list) leaving))))
+abbrev pub taking : List Conversion → List RowTest → Stage AcceptFault Between (List Rule)
+taking list tests = next line_count (next (naming list) (next (testing tests) (next (writing list) (next (limits list) (next (closing list) leaving)))))
+
+-- the two schemas with the conditions and these rules
+abbrev pub with_rules : List RowTest → Between → List Rule → Mapping
+with_rules tests b R = record { source = b.source; target = b.target; conditions = conditions_of b.source tests b.conditions; rules = R }
+
+abbrev pub mapping_of : List Conversion → List RowTest → Stage AcceptFault Between Mapping
+mapping_of list tests = into (with_rules tests) (taking list tests)
 
 -- ---- the mapping of what a text says
 
@@ -82,19 +97,15 @@ target_sets = checking (λ m. TargetRefused m.target) (λ m. IsFaultless m.targe
 abbrev pub target_names : Stage AcceptFault MappingText MappingText
 target_names = checking (λ m. NameRefused m.target) (λ m. NoneReserved m.target)
 
--- the lines and rules of what a text says
+-- the lines, conditions and rules of what a text says
 abbrev pub between_of : MappingText → Between
-between_of m = record { source = m.source; target = m.target; lines = m.lines; by_hand = m.rules }
+between_of m = record { source = m.source; target = m.target; lines = m.lines; conditions = m.conditions; by_hand = m.rules }
 
--- the two schemas with these rules
-abbrev pub with_rules : MappingText → List Rule → Mapping
-with_rules m R = record { source = m.source; target = m.target; rules = R }
+abbrev pub said_rules : List Conversion → List RowTest → Stage AcceptFault MappingText Mapping
+said_rules list tests = over between_of (mapping_of list tests)
 
-abbrev pub said_rules : List Conversion → Stage AcceptFault MappingText Mapping
-said_rules list = into with_rules (over between_of (taking list))
-
-abbrev pub accepting_said : List Conversion → Stage AcceptFault MappingText Mapping
-accepting_said list = next source_sets (next target_sets (next target_names (said_rules list)))
+abbrev pub accepting_said : List Conversion → List RowTest → Stage AcceptFault MappingText Mapping
+accepting_said list tests = next source_sets (next target_sets (next target_names (said_rules list tests)))
 
 -- ---- the mapping of a text
 
@@ -102,5 +113,5 @@ accepting_said list = next source_sets (next target_sets (next target_names (sai
 abbrev pub said_by : Stage AcceptFault (List ℕ) MappingText
 said_by = saying text_refusal (notions IsTextFault IsMappingText)
 
-abbrev pub accepting : List Conversion → Stage AcceptFault (List ℕ) Mapping
-accepting list = next said_by (accepting_said list)
+abbrev pub accepting : List Conversion → List RowTest → Stage AcceptFault (List ℕ) Mapping
+accepting list tests = next said_by (accepting_said list tests)

@@ -6,8 +6,11 @@ use Rattle.dx_schema.specs.Links.{IsFaultless}
 use Rattle.dx_schema_text.specs.Print.{AreNamed}
 use Rattle.dx_model.specs.Solutions.{IsClosed}
 use Rattle.dx_funcs.specs.declared.conversion.Conversion.{Conversion}
+use Rattle.dx_funcs.specs.declared.row_test.RowTest.{RowTest}
 use Rattle.dx_model.specs.Fitting.{RuleFits}
 use Rattle.dx_funcs.specs.Offers.{IsListed}
+use Rattle.dx_lines.specs.Limits.{IsColumn}
+use Rattle.dx_line_text.specs.Conditions.{IsTested}
 use Rattle.dx_rule_text.specs.Printed.{AreAtomsOf}
 use Rattle.dx_stages.specs.Worlds.{World}
 use Rattle.dx_stages.specs.Laws.{IsDecided, PassesOne}
@@ -15,13 +18,15 @@ use Rattle.clio_accept.specs.declared.mapping.Mapping.{Mapping}
 use Rattle.clio_accept.specs.Accepting.{accepting}
 use Rattle.clio_accept.specs.Mapping.{NoneReserved}
 
--- Both schemas are faultless and their names are words; at most 256 rules are left; each fits the schemas, is closed under the
+-- Both schemas are faultless and their names are words; each condition is about a column of the source and has a listed row test; at most 256 rules are left; each fits the schemas, is closed under the
 -- links of the target, and has conversions of the list alone, each of as many arguments as it takes.
-pub record MappingFits (list : List Conversion) (M : Mapping) : Type 0 where
+pub record MappingFits (list : List Conversion) (tests : List RowTest) (M : Mapping) : Type 0 where
   pub source : IsFaultless M.source
   pub target : IsFaultless M.target
   pub source_names : AreNamed M.source
   pub target_names : AreNamed M.target
+  pub columns : Each M.conditions (λ c. IsColumn (model_tables M.source) c.place)
+  pub tested : Each M.conditions (IsTested tests)
   pub few : length M.rules ≤ 256
   pub fit : Each M.rules (RuleFits (model_tables M.source) (model_tables M.target))
   pub closed : Each M.rules (IsClosed (model_tables M.target))
@@ -31,19 +36,19 @@ pub record MappingFits (list : List Conversion) (M : Mapping) : Type 0 where
 
 -- a text has at most one mapping
 abbrev pub OneMapping : Type 0
-OneMapping = (list : List Conversion) → PassesOne (accepting list)
+OneMapping = (list : List Conversion) (tests : List RowTest) → PassesOne (accepting list tests)
 
 -- a text is accepted or refused for one reason, and never both
 abbrev pub AcceptedOrRefused : Type 0
-AcceptedOrRefused = (list : List Conversion) → IsDecided (λ e f. e ≡ f) (λ text. Unit {0}) (accepting list)
+AcceptedOrRefused = (list : List Conversion) (tests : List RowTest) → IsDecided (λ e f. e ≡ f) (λ text. Unit {0}) (accepting list tests)
 
--- an accepted mapping has two schemas, and rules that fit them, of a text of fewer than 4,294,967,295 bytes
+-- an accepted mapping has two schemas, and conditions and rules that fit them, of a text of fewer than 4,294,967,295 bytes
 abbrev pub AcceptedFits : Type 0
 AcceptedFits =
-    (list : List Conversion) (c : World) (text : List ℕ) (M : Mapping) → length text < 2 ^ 32 - 1 → (accepting list).passes c text M
-    → MappingFits list M
+    (list : List Conversion) (tests : List RowTest) (c : World) (text : List ℕ) (M : Mapping) → length text < 2 ^ 32 - 1 → (accepting list tests).passes c text M
+    → MappingFits list tests M
 
 -- no target set of an accepted mapping has a reserved name
 abbrev pub AcceptedNamesAreFree : Type 0
 AcceptedNamesAreFree =
-    (list : List Conversion) (c : World) (text : List ℕ) (M : Mapping) → (accepting list).passes c text M → NoneReserved M.target
+    (list : List Conversion) (tests : List RowTest) (c : World) (text : List ℕ) (M : Mapping) → (accepting list tests).passes c text M → NoneReserved M.target

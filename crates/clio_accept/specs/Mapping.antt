@@ -1,5 +1,5 @@
 -- What a text is refused for, and the mapping of what it says.
-use Rattle.std.specs.Prelude.{◌≡◌, ◌⊎◌, ℕ, ◌<◌, ◌≤◌, List, [], ◌∷◌, ◌++◌, Option, Some, length, codes}
+use Rattle.std.specs.Prelude.{◌≡◌, ◌⊎◌, ℕ, ◌+◌, ◌<◌, ◌≤◌, List, [], ◌∷◌, ◌++◌, Option, Some, length, codes}
 use Rattle.dx_ports.specs.declared.file.Count.TheVariants.{Depth, FrozenCells, Lines, Occurrences, Rules}
 use Rattle.dx_ports.specs.declared.file.Limit.{Limit}
 use Rattle.dx_ports.specs.Members.{◌∈◌}
@@ -18,9 +18,12 @@ use Rattle.dx_schema.specs.Forest.{Forest}
 use Rattle.dx_schema.specs.Tables.{tables_of, table_at, model_tables}
 use Rattle.dx_schema.specs.Links.{IsFirstFault}
 use Rattle.dx_schema_text.specs.declared.texts.LineText.{LineText}
+use Rattle.dx_schema_text.specs.declared.texts.OnlyText.{OnlyText}
 use Rattle.dx_schema_text.specs.declared.texts.RuleText.{RuleText}
 use Rattle.dx_funcs.specs.declared.conversion.Conversion.{Conversion}
+use Rattle.dx_funcs.specs.declared.row_test.RowTest.{RowTest}
 use Rattle.dx_line_text.specs.Naming.{lines_fault, lines_of}
+use Rattle.dx_line_text.specs.Conditions.{conditions_fault}
 use Rattle.dx_closing.specs.Closing.{IsClosing, IsClosingOf}
 use Rattle.dx_lines.specs.Rules.{kept_rules}
 use Rattle.dx_lines.specs.Limits.{passed}
@@ -129,13 +132,17 @@ TargetRefused f e = (k : SchemaFault) × IsFirstFault f k × (e ≡ target_refus
 abbrev pub NameRefused : Forest → AcceptFault → Type 0
 NameRefused f e = (name : List ℕ) × IsFirstReserved f name × (e ≡ faults.Mapping (map_faults.Reserved name))
 
--- there are too many lines
-abbrev pub LinesRefused : List LineText → AcceptFault → Type 0
-LinesRefused lines e = (512 < length lines) × (e ≡ faults.Limit (record { what = Lines; number = 512 }))
+-- there are too many lines and conditions
+abbrev pub LinesRefused : List LineText → List OnlyText → AcceptFault → Type 0
+LinesRefused lines conditions e = (512 < length lines + length conditions) × (e ≡ faults.Limit (record { what = Lines; number = 512 }))
 
 -- a word of a line names nothing, or a conversion has another number of arguments
 abbrev pub NamingRefused : List Conversion → Forest → Forest → List LineText → AcceptFault → Type 0
 NamingRefused list source target lines e = (k : TextFault) × (lines_fault source target list lines ≡ Some k) × (e ≡ text_refusal k)
+
+-- a word of a condition names nothing
+abbrev pub TestingRefused : List RowTest → Forest → List OnlyText → AcceptFault → Type 0
+TestingRefused tests source conditions e = (k : TextFault) × (conditions_fault source tests conditions ≡ Some k) × (e ≡ text_refusal k)
 
 -- a hand-written rule has a fault
 abbrev pub WritingRefused : List Conversion → Forest → Forest → List RuleText → AcceptFault → Type 0

@@ -3,6 +3,7 @@ ghost use Rattle.std.specs.Prelude.{◌≡◌, ◌⊎◌, ◌↔◌, ◌<◌, �
 ghost use Rattle.dx_ports.specs.Members.{Each};
 ghost use Rattle.dx_schema.specs.Bounds.{HasFewRules};
 ghost use Rattle.dx_schema.specs.Links.{IsFaultless};
+ghost use Rattle.dx_funcs.specs.Judging.{tested};
 ghost use Rattle.dx_funcs.specs.Serving.{offered};
 ghost use Rattle.dx_stages.specs.Running.{Answers};
 ghost use Rattle.dx_tgd_text.specs.Laws.{IsWhole};
@@ -12,9 +13,9 @@ ghost use Rattle.clio_accept.specs.Mapping.{IsFirstReserved, IsReserved, NoneRes
 ghost use Rattle.clio_accept.specs.declared.fault.AcceptFault.TheVariants.{Memory};
 
 use crate::fault::{AcceptFault, MapFault};
-use crate::lines::rules_between;
+use crate::lines::mapping_between;
 use crate::mapping::Mapping;
-use dx_funcs::{Host, Meaning};
+use dx_funcs::{Host, Meaning, Tests};
 use dx_ports::{Items, Text};
 use dx_schema::{Schema, SchemaFault, Trees};
 use dx_schema_text::{MappingText, read_mapping};
@@ -71,25 +72,28 @@ fn reserved_in(target: &Schema) -> Result<Option<Text>, AllocError>
 }
 
 // The mapping of what a text says.
-fn accept_said<F, M>(
+fn accept_said<F, P, M>(
     alloc: Global,
     said: MappingText,
     host: &Host<F, M>,
+    tests: &Tests<P, M>,
 ) -> Result<Mapping, AcceptFault>
 where
     F: Fn(u32, &Items<Text>) -> Result<Text, AllocError>,
+    P: Fn(u32, &Text) -> Result<bool, AllocError>,
     M: Meaning,
     requires source { HasFewRules said.source }
     requires target { HasFewRules said.target }
     requires whole { Each said.rules IsWhole }
     requires narrow { Each said.rules IsNarrow }
-    ensures { Answers AcceptFault.Memory (accepting_said (offered host.now)) said result }
+    ensures { Answers AcceptFault.Memory (accepting_said (offered host.now) (tested tests.now)) said result }
 {
     let MappingText {
         version: _,
         source,
         target,
         lines,
+        conditions,
         rules,
     } = said;
     let source = source_of(alloc, source)?;
@@ -97,32 +101,43 @@ where
     if let Some(name) = reserved_in(&target)? {
         return Err(AcceptFault::Mapping(MapFault::Reserved(name)));
     }
-    let rules = rules_between(alloc, lines.items(), rules.items(), &source, &target, host)?;
-    Ok(Mapping {
+    mapping_between(
+        alloc,
+        lines.items(),
+        conditions.items(),
+        rules.items(),
         source,
         target,
-        rules,
-    })
+        host,
+        tests,
+    )
 }
 
-/// The mapping that a text defines: its two schemas, and what pruning leaves of the rules that its lines stand for and its closed
-/// hand-written rules.
+/// The mapping that a text defines: its two schemas, its conditions, and what pruning leaves of the rules that its lines stand
+/// for and its closed hand-written rules.
 ///
 /// # Errors
 ///
 /// In this order: the first fault of the text, of the source sets, of the target sets; the first target set with a name
-/// that is taken; more than 512 lines; the first word of the lines that names nothing, or conversion with another number
-/// of arguments; the first fault of the hand-written rules; the limits of lines (64 occurrences of an unfolding, 64 ways
+/// that is taken; more than 512 lines and conditions together; the first word of the lines that names nothing, or conversion
+/// with another number of arguments; the first word of the conditions that names nothing; the first fault of the
+/// hand-written rules; the limits of lines (64 occurrences of an unfolding, 64 ways
 /// between two tables, 1,024 candidates); a hand-written rule whose premise or closed conclusion has more than 64 atoms;
 /// more than 256 rules; a rule that pruning tests, on whose frozen premise the others make more than 4,000,000 canonical
 /// cells. `Memory` may come at any point.
-pub fn accept<F, M>(alloc: Global, text: &[u8], host: &Host<F, M>) -> Result<Mapping, AcceptFault>
+pub fn accept<F, P, M>(
+    alloc: Global,
+    text: &[u8],
+    host: &Host<F, M>,
+    tests: &Tests<P, M>,
+) -> Result<Mapping, AcceptFault>
 where
     F: Fn(u32, &Items<Text>) -> Result<Text, AllocError>,
+    P: Fn(u32, &Text) -> Result<bool, AllocError>,
     M: Meaning,
     requires { length text.now < 2 ^ 32 - 1 }
-    ensures { Answers AcceptFault.Memory (accepting (offered host.now)) text.now result }
+    ensures { Answers AcceptFault.Memory (accepting (offered host.now) (tested tests.now)) text.now result }
 {
     let said = read_mapping(alloc, text)?;
-    accept_said(alloc, said, host)
+    accept_said(alloc, said, host, tests)
 }

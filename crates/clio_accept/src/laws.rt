@@ -7,7 +7,7 @@ pub fn a_text_is_accepted_or_refused()
     ensures refused { AcceptedOrRefused }
 {}
 
-/// An accepted mapping has two schemas, and rules that fit them.
+/// An accepted mapping has two schemas, and conditions and rules that fit them.
 pub fn an_accepted_mapping_fits()
     ensures { AcceptedFits }
 {}

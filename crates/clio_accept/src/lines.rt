@@ -1,30 +1,32 @@
-// The rules of a mapping's lines, and its hand-written rules, without those that follow from the others.
-ghost use Rattle.std.specs.Prelude.{◌≡◌, ◌⊎◌, ◌++◌, List, Some, None, IfOk, IfErr, OnOk, MatchResult};
+// The conditions of a mapping, the rules of its lines, and its hand-written rules, without those that follow from the others.
+ghost use Rattle.std.specs.Prelude.{◌≡◌, ◌⊎◌, ◌+◌, ◌++◌, ◌≤◌, List, length, Some, None, IfOk, IfErr, OnOk, MatchResult};
 ghost use Rattle.dx_ports.specs.Members.{Each};
 ghost use Rattle.dx_model.specs.declared.rules.Rule.{Rule as RuleOf};
 ghost use Rattle.dx_model.specs.Fitting.{AreNumbered};
 ghost use Rattle.dx_model.specs.Solutions.{AtomFits};
 ghost use Rattle.dx_schema.specs.Links.{IsFaultless};
 ghost use Rattle.dx_schema.specs.Tables.{model_tables};
+ghost use Rattle.dx_funcs.specs.Judging.{tested};
 ghost use Rattle.dx_funcs.specs.Serving.{offered};
 ghost use Rattle.dx_stages.specs.Running.{Answers};
 ghost use Rattle.dx_tgd_text.specs.Laws.{IsWhole};
 ghost use Rattle.dx_tgd_text.specs.Reading.{IsNarrow};
-ghost use Rattle.clio_accept.specs.Accepting.{taking};
-ghost use Rattle.clio_accept.specs.Mapping.{AreClosings, IsNarrowClosing, IsTooWide, TooWide, WidthRefused};
+ghost use Rattle.clio_accept.specs.Accepting.{mapping_of};
+ghost use Rattle.clio_accept.specs.Mapping.{AreClosings, IsNarrowClosing, IsTooWide, LinesRefused, TooWide, WidthRefused};
 ghost use Rattle.clio_accept.specs.declared.fault.AcceptFault.TheVariants.{Memory};
 
 use crate::fault::AcceptFault;
+use crate::mapping::Mapping;
 use dx_candidates::kept;
 use dx_closing::{CloseFault, close};
-use dx_funcs::{Host, Meaning};
+use dx_funcs::{Host, Meaning, Tests};
 use dx_implies::prune;
-use dx_line_text::read_lines;
+use dx_line_text::{read_conditions, read_lines};
 use dx_model::Rule;
 use dx_ports::limits::{FROZEN_CELLS, LINES, OCCURRENCES, RULES};
 use dx_ports::{Count, Items, Limit, Text};
 use dx_schema::Schema;
-use dx_schema_text::{LineText, RuleText};
+use dx_schema_text::{LineText, OnlyText, RuleText};
 use dx_tgd_text::read_rules;
 use std::alloc::{AllocError, Global};
 
@@ -68,41 +70,61 @@ fn push_closed(
     Ok(())
 }
 
-/// What pruning leaves of the rules that lines between two schemas stand for, and after them the closed hand-written rules.
-pub(crate) fn rules_between<F, M>(
-    alloc: Global,
-    lines: &[LineText],
-    by_hand: &[RuleText],
-    source: &Schema,
-    target: &Schema,
-    host: &Host<F, M>,
-) -> Result<Items<Rule>, AcceptFault>
-where
-    F: Fn(u32, &Items<Text>) -> Result<Text, AllocError>,
-    M: Meaning,
-    requires source { IsFaultless source.now }
-    requires target { IsFaultless target.now }
-    requires whole { Each by_hand.now IsWhole }
-    requires narrow { Each by_hand.now IsNarrow }
-    ensures { Answers AcceptFault.Memory (taking (offered host.now))
-        (record { source = source.now; target = target.now; lines = lines.now; by_hand = by_hand.now }) result }
+// Refused are more than 512 lines and conditions together.
+fn count_lines(lines: &[LineText], conditions: &[OnlyText]) -> Result<(), AcceptFault>
+    ensures few { OnOk result (length lines.now + length conditions.now ≤ 512) }
+    ensures many { IfErr result (LinesRefused lines.now conditions.now) }
 {
-    if lines.len() as u64 > LINES {
+    let lines = lines.len() as u64;
+    if lines > LINES || conditions.len() as u64 > LINES - lines {
         return Err(AcceptFault::Limit(Limit {
             what: Count::Lines,
             number: LINES,
         }));
     }
-    let lines = read_lines(alloc, lines, source, target, host)?;
-    let written = read_rules(alloc, by_hand, source, target, host)?;
-    let mut rules = kept(alloc, lines.items(), source, target)?;
-    push_closed(alloc, written, target, &mut rules)?;
+    Ok(())
+}
+
+/// The mapping between two schemas: the conditions, and what pruning leaves of the rules that the lines stand for and of the
+/// closed hand-written rules after them.
+pub(crate) fn mapping_between<F, P, M>(
+    alloc: Global,
+    lines: &[LineText],
+    conditions: &[OnlyText],
+    by_hand: &[RuleText],
+    source: Schema,
+    target: Schema,
+    host: &Host<F, M>,
+    tests: &Tests<P, M>,
+) -> Result<Mapping, AcceptFault>
+where
+    F: Fn(u32, &Items<Text>) -> Result<Text, AllocError>,
+    P: Fn(u32, &Text) -> Result<bool, AllocError>,
+    M: Meaning,
+    requires source { IsFaultless source }
+    requires target { IsFaultless target }
+    requires whole { Each by_hand.now IsWhole }
+    requires narrow { Each by_hand.now IsNarrow }
+    ensures { Answers AcceptFault.Memory (mapping_of (offered host.now) (tested tests.now))
+        (record { source = source; target = target; lines = lines.now; conditions = conditions.now; by_hand = by_hand.now }) result }
+{
+    count_lines(lines, conditions)?;
+    let lines = read_lines(alloc, lines, &source, &target, host)?;
+    let conditions = read_conditions(alloc, conditions, &source, tests)?;
+    let written = read_rules(alloc, by_hand, &source, &target, host)?;
+    let mut rules = kept(alloc, lines.items(), &source, &target)?;
+    push_closed(alloc, written, &target, &mut rules)?;
     if rules.len() as u64 > RULES {
         return Err(AcceptFault::Limit(Limit {
             what: Count::Rules,
             number: RULES,
         }));
     }
-    let left = prune(alloc, rules, source, target, FROZEN_CELLS)?;
-    Ok(Items::from_vec(left))
+    let left = prune(alloc, rules, &source, &target, FROZEN_CELLS)?;
+    Ok(Mapping {
+        source,
+        target,
+        conditions,
+        rules: Items::from_vec(left),
+    })
 }

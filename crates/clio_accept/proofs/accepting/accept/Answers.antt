@@ -1,4 +1,5 @@
 use Rattle.std.proofs.Common.{arith}
+use Rattle.dx_funcs.specs.Judging.{tested}
 use Rattle.dx_funcs.specs.Serving.{offered}
 use Rattle.dx_stages.specs.Running.{Answers}
 use Rattle.dx_stages.proofs.Running.{answers_next, as_error}
@@ -13,8 +14,9 @@ use Rattle.clio_accept.proofs.accepting.accept.Goals as goal
 pub returns-in_err-said : goal.returns-in_err-said
 returns-in_err-said g c =
     let list = offered c.args.host.now in
+    let tests = tested c.args.tests.now in
     let fault = c.in_err-said.field-0.0 in
-    as_error _ (text_refusal fault) (Answers Memory (accepting list) c.args.text.now) c.from_residual.ensures.1 (by_text list c.args.text.now fault c.in_err-said.ensures.fault)
+    as_error _ (text_refusal fault) (Answers Memory (accepting list tests) c.args.text.now) c.from_residual.ensures.1 (by_text list tests c.args.text.now fault c.in_err-said.ensures.fault)
 
 pub accept_said-requires-clause-source : goal.accept_said-requires-clause-source
 accept_said-requires-clause-source g c = (few_rules c.args.text.now c.in_ok-said.said c.requires c.in_ok-said.ensures.mapping).0
@@ -31,4 +33,5 @@ accept_said-requires-clause-narrow g c r m = let few = (texts_have_whole_rules c
 pub returns : goal.returns
 returns g c =
     let list = offered c.args.host.now in
-    answers_next Memory said_by (accepting_said list) c.args.text.now c.in_ok-said.said _ (λ w. c.in_ok-said.ensures.mapping) c.accept_said.ensures
+    let tests = tested c.args.tests.now in
+    answers_next Memory said_by (accepting_said list tests) c.args.text.now c.in_ok-said.said _ (λ w. c.in_ok-said.ensures.mapping) c.accept_said.ensures
