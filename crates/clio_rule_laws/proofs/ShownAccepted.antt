@@ -19,6 +19,7 @@ use Rattle.dx_schema.specs.Links.{IsFaultless}
 use Rattle.dx_logical.specs.Unfolding.{unfolding_of}
 use Rattle.dx_closing.proofs.Own.{served_is_closing}
 use Rattle.dx_funcs.specs.declared.conversion.Conversion.{Conversion}
+use Rattle.dx_funcs.specs.declared.row_test.RowTest.{RowTest}
 use Rattle.dx_lines.specs.Candidates.{upto, pair_ways, pair_candidates, candidates_of}
 use Rattle.dx_lines.specs.Kept.{is_kept}
 use Rattle.dx_lines.specs.Limits.{has_many_ways, is_wide, passed}
@@ -41,7 +42,7 @@ use Rattle.clio_accept.specs.Laws.{MappingFits}
 use Rattle.clio_accept.proofs.Accepted.{IsRead, accepted_fits, all_rules_fit}
 use Rattle.clio_accept.proofs.Closed.{closed_of}
 use Rattle.clio_accept.proofs.Few.{few_at}
-use Rattle.clio_rule_laws.specs.Laws.{AreShownAgain, ShownIsAccepted, rule_lines}
+use Rattle.clio_rule_laws.specs.Laws.{AreShownAgain, ShownIsAccepted, rule_lines, unconditional}
 use Rattle.clio_accept.proofs.Accepted.{IsTaken}
 use Rattle.clio_rule_laws.proofs.Shown.{is_accepted, shown_rules_are_read_again}
 use Rattle.clio_rule_laws.proofs.Pruned.{no_test_passes, pruned_again}
@@ -101,8 +102,8 @@ closed_few schema ds es closings e m =
     let k = closed_of schema ds es closings e m in
     record { premise = rw k.2.closing.premise k.2.premise; conclusion = k.2.conclusion }
 
-all_few : (list : List Conversion) (m : MappingText) (P : List Rule) (t : IsTaken list m P) → Each t.all HasFewAtoms
-all_few list m P t d i =
+all_few : (list : List Conversion) (tests : List RowTest) (m : MappingText) (P : List Rule) (t : IsTaken list tests m P) → Each t.all HasFewAtoms
+all_few list tests m P t d i =
     elim (from_append (rules_of list m.source m.target m.lines) (subst (λ rs. d ∈ rs) t.are.are i)) [
       | inl k ↦ kept_few (lines_of m.source m.target list m.lines) (model_tables m.source) (model_tables m.target) t.limits d k
       | inr k ↦ closed_few (model_tables m.target) (written_of list m.source m.target m.rules) t.are.closed t.are.closings d k
@@ -118,9 +119,9 @@ no_kept : (A B : List Table) → kept_rules [] A B ≡ []
 no_kept A B = ap (λ cs. map (rule_of [] A B) (filter (is_kept [] A B) cs)) (no_candidates A B)
 
 -- what is left of the rules of a mapping is taken again, where a text says it between the same sides
-taken_again : (list : List Conversion) (m : MappingText) (P : List Rule) (said : List RuleText) → IsTaken list m P → Each P (λ d. IsClosed (model_tables m.target) d) → Each P HasFewAtoms
+taken_again : (list : List Conversion) (tests : List RowTest) (m : MappingText) (P : List Rule) (said : List RuleText) → IsTaken list tests m P → Each P (λ d. IsClosed (model_tables m.target) d) → Each P HasFewAtoms
     → said_rules_of m.source m.target list said ≡ P → AreRulesOf list m.source m.target [] said P
-taken_again list m P said t closed few same =
+taken_again list tests m P said t closed few same =
     let T = model_tables m.target in
     let own : AreClosings T P P = own_closings T P (λ d i. record { closing = served_is_closing T d (closed d i); premise = (few d i).premise; conclusion = (few d i).conclusion }) in
     record {
@@ -129,28 +130,32 @@ taken_again list m P said t closed few same =
       are = ap (λ (ks : List Rule). ks ++ P) (sym (no_kept (model_tables m.source) T));
     }
 
-accepted_again : (list : List Conversion) (c : World) (text sets : Text) (m : MappingText) (P : List Rule) → length text < 2 ^ 32 - 1 → IsMappingText text m → IsFaultless m.source → IsFaultless m.target → NoneReserved m.target → IsTaken list m P
-    → MappingFits list (with_rules m P) → AreReadBehind (sides m.source m.target) list P (sets ++ rule_lines list (with_rules m P)) → (accepting list).passes c (sets ++ rule_lines list (with_rules m P)) (with_rules m P)
-accepted_again list c text sets m P small says source target names t fit shown =
+-- the mapping of a text with these rules
+abbrev said_with : List RowTest → MappingText → List Rule → Mapping
+said_with tests m P = with_rules tests (between_of m) P
+
+accepted_again : (list : List Conversion) (tests : List RowTest) (c : World) (text sets : Text) (m : MappingText) (P : List Rule) (version : ℕ) → length text < 2 ^ 32 - 1 → IsMappingText text m → IsFaultless m.source → IsFaultless m.target → NoneReserved m.target → IsTaken list tests m P
+    → MappingFits list tests (said_with tests m P) → AreReadBehind (sides version m.source m.target) list P (sets ++ rule_lines list (said_with tests m P)) → (accepting list tests).passes c (sets ++ rule_lines list (said_with tests m P)) (unconditional (said_with tests m P))
+accepted_again list tests c text sets m P version small says source target names t fit shown =
     let whole = texts_have_whole_rules text m says in
     let read : IsRead list m = record { source = source; target = target; named = t.named; limits = t.limits; written = t.written; whole = λ r i. (whole r i).0 } in
     let narrow : Each m.rules IsNarrow = λ r i. (let few = (whole r i).1 in omega (arith, few, small)) in
     let rules : Each t.all IsRule = λ d i. (all_rules_fit list m t.all read narrow t.are d i).rule in
     let part = (left_implies t.all P t.left).0 in
-    let few : Each P HasFewAtoms = λ d i. all_few list m P t d (part d i) in
-    let said = read_back.with_rules (sides m.source m.target) shown.said in
+    let few : Each P HasFewAtoms = λ d i. all_few list tests m P t d (part d i) in
+    let said = read_back.with_rules (sides version m.source m.target) shown.said in
     let b = between_of said in
     let limit : limit_of list m.source m.target [] ≡ None = none_passed (lines_of m.source m.target list m.lines) (model_tables m.source) (model_tables m.target) t.limits in
     let left : leaving.passes c P P = (P, (fit.few, refl), (P, (no_test_passes frozen_cells t.all P rules t.left t.within, refl), pruned_again t.all P t.left)) in
-    let closed : (next (closing list) leaving).passes c b P = (P, taken_again list m P shown.said t fit.closed few shown.same, left) in
-    let again : (taking list).passes c b P = (b, (omega arith, refl), (b, (refl, refl), (b, (shown.no_fault, refl), (b, (limit, refl), closed)))) in
+    let closed : (next (closing list) leaving).passes c b P = (P, taken_again list tests m P shown.said t fit.closed few shown.same, left) in
+    let again : (taking list tests).passes c b P = (b, (omega arith, refl), (b, (refl, refl), (b, (refl, refl), (b, (shown.no_fault, refl), (b, (limit, refl), closed))))) in
     (said, shown.is_text, (said, (source, refl), (said, (target, refl), (said, (names, refl), (P, again, refl)))))
 
 pub shown_is_accepted : ShownIsAccepted
-shown_is_accepted list c text sets M offer small p says =
-    let a = is_accepted list c text M p in
-    let fit : MappingFits list (with_rules a.said a.rules) = subst (MappingFits list) a.is (accepted_fits list c text M small p) in
-    let shown = subst (AreShownAgain list text) a.is (shown_rules_are_read_again list c text M offer small p) in
-    let sets_say : IsMappingText sets (sides a.said.source a.said.target) = subst (λ (N : Mapping). IsMappingText sets (sides N.source N.target)) a.is says in
-    subst (λ (N : Mapping). (accepting list).passes c (sets ++ rule_lines list N) N) (sym a.is)
-    (accepted_again list c text sets a.said a.rules small a.is_text a.source a.target a.names a.taken fit (shown.alone sets sets_say))
+shown_is_accepted list tests c text sets M version offer small p says =
+    let a = is_accepted list tests c text M p in
+    let fit : MappingFits list tests (said_with tests a.said a.rules) = subst (MappingFits list tests) a.is (accepted_fits list tests c text M small p) in
+    let shown = subst (AreShownAgain list text) a.is (shown_rules_are_read_again list tests c text M offer small p) in
+    let sets_say : IsMappingText sets (sides version a.said.source a.said.target) = subst (λ (N : Mapping). IsMappingText sets (sides version N.source N.target)) a.is says in
+    subst (λ (N : Mapping). (accepting list tests).passes c (sets ++ rule_lines list N) (unconditional N)) (sym a.is)
+    (accepted_again list tests c text sets a.said a.rules version small a.is_text a.source a.target a.names a.taken fit (shown.alone version sets sets_say))

@@ -1,9 +1,10 @@
 -- The rules of an accepted mapping are read again.
-use Rattle.std.specs.Prelude.{◌≡◌, ◌-◌, ◌^◌, ◌<◌, List, ◌++◌, codes, length}
+use Rattle.std.specs.Prelude.{◌≡◌, ◌-◌, ◌^◌, ◌<◌, ℕ, List, [], ◌++◌, codes, length}
 use Rattle.dx_schema_text.specs.declared.texts.MappingText.{MappingText}
 use Rattle.dx_schema_text.specs.Texts.{IsMappingText}
 use Rattle.dx_schema_text.specs.Print.{sides}
 use Rattle.dx_funcs.specs.declared.conversion.Conversion.{Conversion}
+use Rattle.dx_funcs.specs.declared.row_test.RowTest.{RowTest}
 use Rattle.dx_funcs.specs.Offers.{IsOffer}
 use Rattle.dx_rule_text.specs.Printed.{Text, rules_text}
 use Rattle.dx_rule_laws.specs.ReadBack.{AreReadBehind}
@@ -22,16 +23,21 @@ pub record AreShownAgain (list : List Conversion) (text : Text) (M : Mapping) : 
   pub source : said.source ≡ M.source
   pub target : said.target ≡ M.target
   pub behind : AreReadBehind said list M.rules (text ++ rule_lines list M)
-  pub alone : (sets : Text) → IsMappingText sets (sides M.source M.target) → AreReadBehind (sides M.source M.target) list M.rules (sets ++ rule_lines list M)
+  pub alone : (version : ℕ) (sets : Text) → IsMappingText sets (sides version M.source M.target) → AreReadBehind (sides version M.source M.target) list M.rules (sets ++ rule_lines list M)
 
 -- the rules of each accepted text of fewer than 4,294,967,295 bytes are read again
 abbrev pub ShownRulesAreReadAgain : Type 0
 ShownRulesAreReadAgain =
-    (list : List Conversion) (c : World) (text : Text) (M : Mapping) → IsOffer list → length text < 2 ^ 32 - 1 → (accepting list).passes c text M
+    (list : List Conversion) (tests : List RowTest) (c : World) (text : Text) (M : Mapping) → IsOffer list → length text < 2 ^ 32 - 1 → (accepting list tests).passes c text M
     → AreShownAgain list text M
 
--- and each text that says its sets alone, with the lines of its rules after it, is accepted with the same mapping
+-- the mapping without its conditions
+abbrev pub unconditional : Mapping → Mapping
+unconditional M = record M { conditions = [] }
+
+-- and each text that says its sets alone, in whatever version, with the lines of its rules after it, is accepted with the same
+-- mapping, without its conditions
 abbrev pub ShownIsAccepted : Type 0
 ShownIsAccepted =
-    (list : List Conversion) (c : World) (text sets : Text) (M : Mapping) → IsOffer list → length text < 2 ^ 32 - 1 → (accepting list).passes c text M
-    → IsMappingText sets (sides M.source M.target) → (accepting list).passes c (sets ++ rule_lines list M) M
+    (list : List Conversion) (tests : List RowTest) (c : World) (text sets : Text) (M : Mapping) (version : ℕ) → IsOffer list → length text < 2 ^ 32 - 1 → (accepting list tests).passes c text M
+    → IsMappingText sets (sides version M.source M.target) → (accepting list tests).passes c (sets ++ rule_lines list M) (unconditional M)
