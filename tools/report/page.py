@@ -17,7 +17,8 @@ td code { display: inline-block; min-width: 18rem; }
 table { border-collapse: collapse; margin: .4rem 0 .8rem; }
 th, td { border: 1px solid var(--rim); padding: .18rem .6rem; text-align: left; vertical-align: top; }
 th { background: var(--head); font-weight: 600; }
-td.number, th.number { text-align: right; font-variant-numeric: tabular-nums; white-space: nowrap; }
+td.number, th.number { text-align: right; font-variant-numeric: tabular-nums; }
+td.number, td.brief { white-space: nowrap; }
 tr.sum td { font-weight: 600; border-top: 2px solid var(--soft); }
 .soft { color: var(--soft); }
 .good { color: var(--good); }
@@ -48,7 +49,7 @@ def cell(value):
         return f'<td class="number">{value:,}</td>'
     if isinstance(value, tuple):
         return f"<td>{value[0]}</td>"
-    return f'<td class="name">{short(value)}</td>'
+    return f'<td class="name{" brief" if len(value) <= 30 else ""}">{short(value)}</td>'
 
 
 def table(head, rows, total=None):
