@@ -21,12 +21,17 @@ class Identity:
         self.null, self.sureness, self.parts, self.missing = null, sureness, parts, missing
         self.digest = self.kept = self.kept_sureness = None
 
-    def text(self, numbers):
+    def text(self, numbers, target):
         """The identity as a text of JSON."""
-        if self.sureness in (RULE, FOLDED):
-            return json.dumps(["rule", *self.parts])
-        table, column, names, cells = self.parts
-        return json.dumps(["key", table, column, names, [{"id": numbers[cell]} if cell in numbers else cell for cell in cells]])
+        if self.sureness == FOLDED:
+            return json.dumps(["rule", *target.folded_term(self.parts)])
+        if self.sureness == RULE:
+            return json.dumps(["rule", *target.term(self.null)])
+        place, number, column, key = self.parts
+        columns, names, row = target.columns[place], target.keys[place][key], target.rows[place][number]
+        cells = [row[columns.index(name)] for name in names]
+        shown = [{"id": numbers[cell]} if cell in numbers else cell for cell in cells]
+        return json.dumps(["key", target.tables[place].name, columns[column], names, shown])
 
 
 class Naming:
@@ -46,27 +51,26 @@ class Naming:
     def all_identities(self):
         """All identities of all nulls."""
         homes = [home_columns(table, self.target.tables) for table in self.target.tables]
-        keys = [[(key, [table.columns.index(name) for name in key]) for key in table.keys] for table in self.target.tables]
+        keys = [[[table.columns.index(name) for name in key] for key in table.keys] for table in self.target.tables]
         for null, places in self.target.nulls.items():
             found = {OWN_KEY: [], OTHER_KEY: []}
             for place, number, column in places:
                 row = self.target.rows[place][number]
-                for names, columns in keys[place]:
+                for key, columns in enumerate(keys[place]):
                     cells = [row[one] for one in columns]
                     if null not in cells:
-                        found[OWN_KEY if column in homes[place] else OTHER_KEY].append((place, column, names, cells))
+                        found[OWN_KEY if column in homes[place] else OTHER_KEY].append(((place, number, column, key), cells))
             sureness = OWN_KEY if found[OWN_KEY] else OTHER_KEY
-            for place, column, names, cells in found[sureness]:
-                yield self.of_key(null, sureness, self.target.tables[place], (column, names, cells))
-            yield Identity(null, RULE, self.target.term(null), 0)
-        for null, term in self.target.folded_terms():
-            yield Identity(null, FOLDED, term, 0)
+            for parts, cells in found[sureness]:
+                yield self.of_key(null, sureness, parts, cells)
+            yield Identity(null, RULE, None, 0)
+        for null, value in self.target.folded:
+            yield Identity(value, FOLDED, null, 0)
 
-    def of_key(self, null, sureness, table, parts):
+    def of_key(self, null, sureness, parts, cells):
         """The identity by a key of a row."""
-        column, names, cells = parts
         others = {cell for cell in cells if cell in self.target.nulls}
-        one = Identity(null, sureness, (table.name, table.columns[column], names, cells), len(others))
+        one = Identity(null, sureness, parts, len(others))
         for other in others:
             self.waiting.setdefault(other, []).append(one)
         if others:
@@ -77,7 +81,7 @@ class Naming:
         """Looks up identities that can be told, the surest first, and those that can be told then."""
         while ready:
             for one in ready:
-                one.digest = digest_of(one.text(self.numbers))
+                one.digest = digest_of(one.text(self.numbers, self.target))
                 one.kept, one.kept_sureness = self.crosswalk.found(one.digest) or (None, None)
             following = []
             for one in sorted(ready, key=lambda one: (one.sureness, one.kept_sureness or 0)):
@@ -120,7 +124,7 @@ class Naming:
 
     def keep(self):
         """Keeps all identities with the numbers of their nulls."""
-        changed = ((one.digest, self.numbers[one.null], one.sureness, one.text(self.numbers)[:SHOWN]) for one in self.identities
+        changed = ((one.digest, self.numbers[one.null], one.sureness, one.text(self.numbers, self.target)[:SHOWN]) for one in self.identities
                    if (one.kept, one.kept_sureness) != (self.numbers[one.null], one.sureness))
         self.crosswalk.keep(changed, {self.numbers[one.null] for one in self.identities if one.sureness == OWN_KEY})
 

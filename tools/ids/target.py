@@ -1,4 +1,5 @@
 """What `clio exchange` wrote: the rows of the target, and what its nulls are known by."""
+import itertools
 import pathlib
 import re
 
@@ -23,15 +24,15 @@ def is_null(text):
 
 
 class Target:
-    """The tables of the target with their rows, and for each null its rule, its variable and the values that the rule exports."""
+    """The tables of the target with their rows, and for each null where it stands and the values that its rule exports."""
 
     def __init__(self, tables):
         self.tables = tables
-        self.rows = [list(read_table(written(table.name), table.columns)) for table in tables]
+        self.columns, self.keys = [table.columns for table in tables], [table.keys for table in tables]
+        self.rows = [list(read_table(written(table.name), columns)) for table, columns in zip(tables, self.columns)]
         self.rules = written("rules", ".txt").read_text(encoding="utf-8").splitlines()
-        self.values = {}
-        for null, variable, value in read_table(written("nulls"), [FRESH, "variable", "value"]):
-            self.values.setdefault(null, []).append([variable, value])
+        self.values, self.variables, self.terms = {}, {}, None
+        self.read_nulls()
         self.nulls = {}
         for place, (table, rows) in enumerate(zip(tables, self.rows)):
             for number, row in enumerate(rows):
@@ -40,6 +41,19 @@ class Target:
                         self.nulls.setdefault(cell, []).append((place, number, column))
         self.folded = [(null, value) for null, value in read_table(written("fold"), ["null", "value"]) if value in self.nulls]
         self.check()
+
+    def read_nulls(self):
+        """Reads nulls.csv: for each null the values that its rule exports, and for each rule the variables that have them."""
+        last, variables, values = None, [], []
+        for null, variable, value in itertools.chain(read_table(written("nulls"), [FRESH, "variable", "value"]), [[None] * 3]):
+            if null != last and last is not None:
+                self.values[last] = tuple(values)
+                if self.variables.setdefault(last.split(".")[0], variables) != variables:
+                    raise Refused(f"out/nulls.csv has other variables for {last[:60]} than for other nulls of its rule: {AGAIN}")
+            if null != last:
+                last, variables, values = null, [], []
+            variables.append(variable)
+            values.append(value)
 
     def check(self):
         """The files are of one run: nulls.csv lists nulls of the tables, and their rules are there."""
@@ -53,15 +67,14 @@ class Target:
     def term(self, null):
         """What a null is made of: the text of its rule, its variable, and the values of nulls.csv."""
         rule, variable, _ = NULL.fullmatch(null).groups()
-        return [self.rules[int(rule)], int(variable), self.values.get(null, [])]
+        names = self.variables.get("?" + rule, [])
+        return [self.rules[int(rule)], int(variable), [[name, value] for name, value in zip(names, self.values.get(null, ()))]]
 
-
-    def folded_terms(self):
-        """For each null that was replaced by one of the target: that one, and what the replaced one was made of."""
-        if self.folded:
-            matches = Terms(self.rules)
-            for null, value in self.folded:
-                yield value, matches.term(null)
+    def folded_term(self, null):
+        """What a null was made of that was replaced by one of the target."""
+        if self.terms is None:
+            self.terms = Terms(self.rules)
+        return self.terms.term(null)
 
 
 class Terms:

@@ -2,14 +2,31 @@
 import html
 
 STYLE = """
-:root { color-scheme: light dark; --page: #ffffff; --text: #1c2630; --soft: #5c6a78; --rim: #d5dce4; --head: #eef2f6; --good: #15803d; --bad: #b42318; --bar: #9db8d6; }
-@media (prefers-color-scheme: dark) { :root { --page: #14181d; --text: #e3e9ef; --soft: #9aa7b4; --rim: #36424e; --head: #1f2730; --good: #5fd38d; --bad: #ff8f85; --bar: #46698f; } }
+:root { color-scheme: light dark; --page: #ffffff; --text: #1c2630; --soft: #5c6a78; --rim: #d5dce4; --head: #eef2f6; --good: #15803d; --bad: #b42318; }
+@media (prefers-color-scheme: dark) {
+  :root { --page: #14181d; --text: #e3e9ef; --soft: #9aa7b4; --rim: #36424e; --head: #1f2730; --good: #5fd38d; --bad: #ff8f85; }
+}
 body { font: 15px/1.5 system-ui, "DejaVu Sans", sans-serif; background: var(--page); color: var(--text); max-width: 62rem; margin: 2rem auto; padding: 0 1rem; }
-h1 { font-size: 1.6rem; margin: 0 0 .3rem; } h2 { font-size: 1.25rem; margin: 2.2rem 0 .5rem; border-bottom: 1px solid var(--rim); } h3 { font-size: 1.02rem; margin: 1.4rem 0 .3rem; }
-code, td.name, th.name { font-family: ui-monospace, "DejaVu Sans Mono", Menlo, Consolas, monospace; font-size: .87em; overflow-wrap: break-word; } td.name { max-width: 40rem; } td code { display: inline-block; min-width: 18rem; }
-.wide { overflow-x: auto; } table { border-collapse: collapse; margin: .4rem 0 .8rem; } th, td { border: 1px solid var(--rim); padding: .18rem .6rem; text-align: left; vertical-align: top; }
-th { background: var(--head); font-weight: 600; } td.number, th.number { text-align: right; font-variant-numeric: tabular-nums; white-space: nowrap; } tr.sum td { font-weight: 600; border-top: 2px solid var(--soft); }
-.soft { color: var(--soft); } .good { color: var(--good); } .bad { color: var(--bad); } p { margin: .4rem 0; } summary { cursor: pointer; } nav a { margin-right: 1rem; }
+h1 { font-size: 1.6rem; margin: 0 0 .3rem; }
+h2 { font-size: 1.25rem; margin: 2.2rem 0 .5rem; border-bottom: 1px solid var(--rim); }
+h3 { font-size: 1.02rem; margin: 1.4rem 0 .3rem; }
+code, td.name, th.name { font-family: ui-monospace, "DejaVu Sans Mono", Menlo, Consolas, monospace; font-size: .87em; overflow-wrap: break-word; }
+td.name { max-width: 40rem; }
+td code { display: inline-block; min-width: 18rem; }
+.wide { overflow-x: auto; }
+table { border-collapse: collapse; margin: .4rem 0 .8rem; }
+th, td { border: 1px solid var(--rim); padding: .18rem .6rem; text-align: left; vertical-align: top; }
+th { background: var(--head); font-weight: 600; }
+td.number, th.number { text-align: right; font-variant-numeric: tabular-nums; }
+td.number, td.brief { white-space: nowrap; }
+tr.sum td { font-weight: 600; border-top: 2px solid var(--soft); }
+.soft { color: var(--soft); }
+.good { color: var(--good); }
+.bad { color: var(--bad); }
+p { margin: .4rem 0; }
+a { color: inherit; }
+summary { cursor: pointer; }
+nav a { margin-right: 1rem; }
 """
 
 
@@ -32,7 +49,7 @@ def cell(value):
         return f'<td class="number">{value:,}</td>'
     if isinstance(value, tuple):
         return f"<td>{value[0]}</td>"
-    return f'<td class="name">{short(value)}</td>'
+    return f'<td class="name{" brief" if len(value) <= 30 else ""}">{short(value)}</td>'
 
 
 def table(head, rows, total=None):

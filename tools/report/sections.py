@@ -18,8 +18,9 @@ def head(figures, name):
                     f"{amount(lost, 'row')} of the source {'was' if lost == 1 else 'were'} used by no rule.", "good" if not lost else "bad")
     yield paragraph("Every column of the source goes somewhere or joins something." if not columns else
                     f"{amount(columns, 'column')} of the source {'goes' if columns == 1 else 'go'} nowhere.", "good" if not columns else "bad")
-    yield paragraph("These are the two ways in which data doesn't arrive: a row that no rule uses, and a column that no rule uses. All figures were counted anew from the mapping, "
-                    "the source files and <code>out</code>, and the rows that the rules make, after <code>fold.csv</code>, were compared with those in <code>out</code>: they are the same.")
+    yield paragraph("These are the two ways in which data doesn't arrive: a row that no rule uses, and a column that no rule uses. All figures were counted "
+                    "anew from the mapping, the source files and <code>out</code>, and the rows that the rules make, after <code>fold.csv</code>, were compared "
+                    "with those in <code>out</code>: they are the same.")
     yield "<nav><a href='#source'>Source</a><a href='#rules'>Rules</a><a href='#target'>Target</a><a href='#nulls'>Nulls</a></nav>"
 
 
@@ -74,14 +75,15 @@ def rules(figures):
         lines.append([number, (code(text),), matches.number, len(matches.found), sum(one.asked_by_rule[number] for one in figures.target),
                       sum(count for _, count in mine), sum(count for mask, count in mine if mask == 1 << number)])
     yield table(["#rule", "its text", "#matches", "#different", "#rows asked for", "#rows in out", "#by it alone"], lines)
-    yield paragraph("Matches that put the same texts into the target are one. Each different match asks for a row of each set on the right side. Rows that several rules ask for count for each of them, "
-                    "but for the last column.", "soft")
+    yield paragraph("Matches that put the same texts into the target are one. Each different match asks for a row of each set on the right side. "
+                    "Rows that several rules ask for count for each of them, but for the last column.", "soft")
 
 
 def target(figures):
     """For each table of the target how its rows came about."""
     yield "<h2 id=target>Target</h2>"
-    lines = [[one.table.name, one.asked, one.asked - one.different, one.different - one.after_keys, one.after_keys - one.written, one.written] for one in figures.target]
+    lines = [[one.table.name, one.asked, one.asked - one.different, one.different - one.after_keys, one.after_keys - one.written, one.written]
+             for one in figures.target]
     sums = ["all"] + [sum(line[place] for line in lines) for place in range(1, 6)]
     yield table(["set", "#asked for", "#asked for again", "#merged by keys", "#left out by core mode", "#rows in out"], lines, sums)
     yield paragraph("Asked for = asked for again + merged + left out + rows in <code>out</code>.", "soft")
@@ -91,10 +93,12 @@ def target(figures):
             ordered = sorted(one.by_rules.items(), key=lambda pair: (-pair[1], pair[0]))
             others = [["other rules together", sum(count for _, count in ordered[SHOWN:])]] if len(ordered) > SHOWN else []
             yield table(["rows by", "#rows"], [[by(mask), count] for mask, count in ordered[:SHOWN]] + others, ["all", one.written])
-            lines = [[name, column["texts"], column["empty"], column["nulls"], column["different"], (why(column),)] for name, column in zip(one.table.columns, one.columns)]
+            lines = [[name, column["texts"], column["empty"], column["nulls"], column["different"], (why(column),)]
+                     for name, column in zip(one.table.columns, one.columns)]
             yield table(["column", "#texts", "#empty texts", "#nulls", "#different nulls", "which rules left them open"], lines)
     if any(one.written for one in figures.target):
-        yield paragraph("In each column texts + empty texts + nulls = rows. A null is named by the rule that left it open; those of a key or a ref are surrogate keys.", "soft")
+        yield paragraph("In each column texts + empty texts + nulls = rows. A null is named by the rule that left it open; those of a key or a ref are "
+                        "surrogate keys.", "soft")
 
 
 def by(mask, alone=" alone"):
@@ -114,7 +118,8 @@ def nulls(figures):
     kinds = ["stay", ("key", "text"), ("key", "null"), ("core", "text"), ("core", "null")]
     lines = [[f"rule {rule}, y{variable}", sum(fate.values()), *(fate[kind] for kind in kinds)] for (rule, variable), fate in figures.variables.items()]
     sums = ["all"] + [sum(line[place] for line in lines) for place in range(1, 7)]
-    yield table(["left open by", "#nulls", "#stay", "#a text, by a key", "#another null, by a key", "#a text, by core mode", "#another null, by core mode"], lines, sums)
+    heads = ["left open by", "#nulls", "#stay", "#a text, by a key", "#another null, by a key", "#a text, by core mode", "#another null, by core mode"]
+    yield table(heads, lines, sums)
     yield paragraph(f"<code>fold.csv</code> has {amount(len(figures.fold), 'replaced null')}: nulls = those that stay + those in <code>fold.csv</code>.", "soft")
     if figures.by_key:
         rows = []
@@ -136,7 +141,8 @@ def core(figures):
     if rows:
         yield "<h3>What core mode left out</h3>"
         yield table(["matches of", "#matches", "what they ask for is there by"], rows)
-        yield paragraph("These are matches of whose nulls core mode alone replaced some. They are not lost: each row that they ask for became one that another match asks for as well.", "soft")
+        yield paragraph("These are matches of whose nulls core mode alone replaced some. They are not lost: each row that they ask for became one that "
+                        "another match asks for as well.", "soft")
 
 
 def picture(text):

@@ -12,7 +12,7 @@ import tempfile
 import unittest
 
 from explain_cases import CASES, LARGE_CASES
-from trial import PROGRAM, TOOLS
+from trial import PROGRAM, TIMES, TOOLS
 
 from clio_csv import ends_open, records
 from explain.clashes import FORM, Clashes, plain
@@ -118,7 +118,7 @@ class Explain(unittest.TestCase):
     def test_random(self):
         counts = {0: 0, 3: 0}
         for kind, most in RANDOM.items():
-            for number in range(most):
+            for number in range(most * TIMES):
                 case = random_case(random.Random(f"explain {kind} {number}"), kind)
                 with self.subTest(f"{kind} {number}"), self.there(case.files):
                     self.try_random(counts)

@@ -9,7 +9,7 @@ import subprocess
 import tempfile
 import unittest
 
-from trial import PROGRAM, Trial
+from trial import PROGRAM, TIMES, Trial
 
 import explain.program
 from clio_csv import read_table, record_text, records
@@ -184,7 +184,7 @@ class Grown(unittest.TestCase):
         self.addCleanup(setattr, explain.program, "program", kept)
         compared = 0
         for kind, most in KINDS.items():
-            for count in range(most):
+            for count in range(most * TIMES):
                 with self.subTest(f"{kind} {count}"), self.there():
                     choice = random.Random(f"ids {kind} {count}")
                     compared += self.grow(choice, random_case(choice, kind).files)

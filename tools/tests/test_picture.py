@@ -4,7 +4,7 @@ import random
 import unittest
 import xml.etree.ElementTree as tree
 
-from trial import Trial
+from trial import TIMES, Trial
 
 from picture.ordering import crossings, ordered
 from picture.boxes import Box, stacked
@@ -60,7 +60,7 @@ class Pictures(Trial):
         self.refused("clio-picture", why="mapping.clio: mapping: text ended at byte 19")
 
     def test_random(self):
-        for number in range(40):
+        for number in range(40 * TIMES):
             text = random_case(random.Random(number), ["lines", "mixed", "keyed"][number % 3]).files["mapping.clio"]
             mapping = read_mapping(text.encode() if isinstance(text, str) else text)
             picture = drawn(text)

@@ -11,7 +11,7 @@ import subprocess
 import tempfile
 import unittest
 
-from trial import PROGRAM, TOOLS, Trial
+from trial import PROGRAM, TIMES, TOOLS, Trial
 
 import explain.program
 from clio_csv import read_records, read_table
@@ -121,7 +121,7 @@ class Reports(Trial):
     def test_random(self):
         compared = 0
         for kind, most in KINDS.items():
-            for number in range(most):
+            for number in range(most * TIMES):
                 case = random_case(random.Random(f"report {kind} {number}"), kind)
                 if any(name.endswith(".json") for name in case.files):
                     continue

@@ -1,4 +1,5 @@
 """What the tests of the tools have in common: a folder with a mapping, and how the program and the tools are run in it."""
+import os
 import pathlib
 import subprocess
 import sys
@@ -8,6 +9,7 @@ import unittest
 TOOLS = pathlib.Path(__file__).resolve().parent.parent
 sys.dont_write_bytecode = True
 sys.path.insert(0, str(TOOLS))
+TIMES = int(os.environ.get("TIMES", "1"))  # so many times as many random cases
 PROGRAM = subprocess.run([TOOLS / "program"], capture_output=True, text=True, check=False).stdout.strip()
 
 
