@@ -18,10 +18,12 @@ use Rattle.dx_schema_text.proofs.SpelledWords.{said_is_writable}
 use Rattle.dx_funcs.specs.declared.conversion.Conversion.{Conversion}
 use Rattle.dx_funcs.specs.declared.row_test.RowTest.{RowTest}
 use Rattle.dx_logical.specs.declared.relation.Occurrence.{Occurrence}
+use Rattle.dx_logical.specs.declared.relation.Relation.{Relation}
 use Rattle.dx_logical.specs.Laws.{IsUnfolding}
-use Rattle.dx_logical.specs.Unfolding.{unfolding_of}
+use Rattle.dx_logical.specs.Unfolding.{variants_of, variant_of}
 use Rattle.dx_schema.proofs.Whole.{links_fit}
-use Rattle.dx_logical.proofs.Unfoldings.{unfoldings_are}
+use Rattle.dx_logical.proofs.Served.{at_place}
+use Rattle.dx_logical.proofs.Unfolded.{variants_are}
 use Rattle.dx_line_text.specs.Naming.{lines_fault, lines_of, IsOffered, IsOfferedFrom}
 use Rattle.dx_line_text.specs.Conditions.{conditions_fault, conditions_of}
 use Rattle.dx_line_text.proofs.Fits.{lines_fit, lines_offered}
@@ -36,9 +38,10 @@ use Rattle.dx_lines.specs.declared.line.Origin.TheVariants as origins
 use Rattle.dx_lines.specs.declared.term.Term.{Term}
 use Rattle.dx_lines.specs.declared.term.Term.TheVariants.{Var, Call}
 use Rattle.dx_lines.specs.declared.candidate.Pick.{Pick}
+use Rattle.dx_lines.specs.declared.candidate.Candidate.{Candidate}
 use Rattle.dx_lines.specs.Ways.{ways}
 use Rattle.dx_lines.specs.Rules.{atom_by, conversions, derived_by}
-use Rattle.dx_lines.proofs.Sources.{from_kept}
+use Rattle.dx_lines.proofs.Sources.{IsBetween, from_kept}
 use Rattle.dx_ways.specs.Laws.{TermBy, seen_at}
 use Rattle.dx_ways.proofs.WaysAre.{ways_are}
 use Rattle.dx_rules.proofs.ClosedRules.{rules_are_closed}
@@ -59,7 +62,7 @@ use Rattle.clio_accept.specs.Mapping.{NoneReserved, AreRulesOf, rules_of, limit_
 use Rattle.clio_accept.specs.Accepting.{between_of, limits, naming, testing, writing, closing, leaving, accepting, accepting_said}
 use Rattle.clio_accept.specs.Accepting.{frozen_count, pruning, said_rules, taking, target_names, target_sets}
 use Rattle.clio_accept.specs.Laws.{AcceptedFits, AcceptedNamesAreFree, MappingFits}
-use Rattle.clio_accept.proofs.Few.{few_variables}
+use Rattle.clio_accept.proofs.Few.{few_variables, narrow_sides}
 use Rattle.clio_accept.proofs.Closed.{closed_fits, closed_is_closed, closed_of}
 use Rattle.clio_accept.specs.declared.fault.AcceptFault.{AcceptFault}
 use Rattle.clio_accept.specs.declared.fault.AcceptFault.TheVariants.{Memory}
@@ -67,19 +70,18 @@ use Rattle.clio_accept.specs.declared.mapping.Mapping.{Mapping}
 
 -- ---- tables of atoms
 
+-- a variant of a table is an unfolding of it
+unfolds : (f : Forest) (t : ℕ) (r : Relation) → IsFaultless f → t < length (model_tables f) → r ∈ variants_of (model_tables f) t → IsUnfolding (model_tables f) t r
+unfolds f t r ok lt m = variants_are (model_tables f) t r (links_fit (tables_of f) (are_tables f ok.form)) ok.acyclic lt m
+
 -- the occurrences of an unfolding are of tables of the schema
-tables_there : (f : Forest) (t : ℕ) → IsFaultless f → t < length (model_tables f) → Each (unfolding_of (model_tables f) t).occurrences (λ o. o.table < length (tables_of f))
-tables_there f t ok lt o m =
-    let u = unfoldings_are (model_tables f) t (links_fit (tables_of f) (are_tables f ok.form)) ok.acyclic lt in
-    let c = contains_from_in m in
-    let place = (u.occurrences c.0 c.1).table in
+tables_there : (f : Forest) (t : ℕ) (r : Relation) → IsUnfolding (model_tables f) t r → Each r.occurrences (λ o. o.table < length (tables_of f))
+tables_there f t r u o m =
+    let n = at_place _ m in
+    let place = (u.occurrences n.0 n.1).table in
     let same = length-map (tables_of f) as_numbers in
-    let here_it : o.table < length (model_tables f) = subst (λ (x : Occurrence). x.table < length (model_tables f)) (at_place c.0 c.1 c.2) place in
+    let here_it : o.table < length (model_tables f) = subst (λ (x : Occurrence). x.table < length (model_tables f)) n.2 place in
     omega (arith, here_it, same)
-  where
-    at_place : (i : ℕ) → i < length (unfolding_of (model_tables f) t).occurrences → get_or (unfolding_of (model_tables f) t).occurrences i o ≡ o
-        → get_or (unfolding_of (model_tables f) t).occurrences i (record { table = 0; variables = []; parent = None; link = 0 }) ≡ o
-    at_place i lt e = get_or_default (unfolding_of (model_tables f) t).occurrences i (record { table = 0; variables = []; parent = None; link = 0 }) o lt ∙ e
 
 -- its atoms too
 atoms_there : (f : Forest) (g : ℕ → Cell) (os : List Occurrence) → Each os (λ o. o.table < length (tables_of f)) → AreAtomsOf f (map (atom_by g) os)
@@ -131,47 +133,70 @@ pub record IsRead (list : List Conversion) (m : MappingText) : Type 0 where
   pub written : rules_fault m.source m.target list m.rules ≡ None
   pub whole : Each m.rules IsWhole
 
-unfolds : (f : Forest) (t : ℕ) → IsFaultless f → t < length (model_tables f) → IsUnfolding (model_tables f) t (unfolding_of (model_tables f) t)
-unfolds f t ok lt = unfoldings_are (model_tables f) t (links_fit (tables_of f) (are_tables f ok.form)) ok.acyclic lt
+-- the two variants of a candidate
+abbrev source_of : MappingText → Candidate → Relation
+source_of m c = variant_of (model_tables m.source) c.source c.source_variant
+
+abbrev target_of : MappingText → Candidate → Relation
+target_of m c = variant_of (model_tables m.target) c.target c.target_variant
+
+-- what is known of them
+record AreVariants (m : MappingText) (c : Candidate) : Type 0 where
+  source_variant : IsUnfolding (model_tables m.source) c.source (source_of m c)
+  target_variant : IsUnfolding (model_tables m.target) c.target (target_of m c)
+  few_source : length (source_of m c).occurrences ≤ 64
+  few_target : length (target_of m c).occurrences ≤ 64
+
+are_variants : (list : List Conversion) (m : MappingText) (c : Candidate) → IsRead list m → IsBetween (lines_of m.source m.target list m.lines) (model_tables m.source) (model_tables m.target) c
+    → AreVariants m c
+are_variants list m c a b =
+    let narrow = narrow_sides (lines_of m.source m.target list m.lines) (model_tables m.source) (model_tables m.target) a.limits in
+    record {
+      source_variant = unfolds m.source c.source (source_of m c) a.source b.source_table b.source_variant;
+      target_variant = unfolds m.target c.target (target_of m c) a.target b.target_table b.target_variant;
+      few_source = narrow.0 c.source b.source_table (source_of m c) b.source_variant;
+      few_target = narrow.1 c.target b.target_table (target_of m c) b.target_variant;
+    }
 
 each_closed : (list : List Conversion) (m : MappingText) → IsRead list m → Each (rules_of list m.source m.target m.lines) (IsClosed (model_tables m.target))
 each_closed list m a d i =
     let lines = lines_of m.source m.target list m.lines in
     let k = from_kept lines (model_tables m.source) (model_tables m.target) d i in
+    let v = are_variants list m k.0 a k.1 in
     subst (IsClosed (model_tables m.target)) k.2
-    (rules_are_closed lines (model_tables m.target) k.0.target (unfolding_of (model_tables m.source) k.0.source) (unfolding_of (model_tables m.target) k.0.target) k.0.picks
-    (links_fit (tables_of m.target) (are_tables m.target a.target.form)) (unfolds m.target k.0.target a.target k.1.target_table))
+    (rules_are_closed lines (model_tables m.target) k.0.target (source_of m k.0) (target_of m k.0) k.0.picks
+    (links_fit (tables_of m.target) (are_tables m.target a.target.form)) v.target_variant)
 
 pub each_fits : (list : List Conversion) (m : MappingText) → IsRead list m → Each (rules_of list m.source m.target m.lines) (RuleFits (model_tables m.source) (model_tables m.target))
 each_fits list m a d i =
     let lines = lines_of m.source m.target list m.lines in
     let k = from_kept lines (model_tables m.source) (model_tables m.target) d i in
+    let v = are_variants list m k.0 a k.1 in
     subst (RuleFits (model_tables m.source) (model_tables m.target)) k.2
-    (rules_fit lines (model_tables m.source) (model_tables m.target) k.0.source k.0.target (unfolding_of (model_tables m.source) k.0.source) (unfolding_of (model_tables m.target) k.0.target) k.0.picks
-    (unfolds m.source k.0.source a.source k.1.source_table) (unfolds m.target k.0.target a.target k.1.target_table)
-    (few_variables m.source m.target lines k.0.source k.0.target a.source a.target a.limits k.1.source_table k.1.target_table
-    (unfolds m.source k.0.source a.source k.1.source_table) (unfolds m.target k.0.target a.target k.1.target_table))
+    (rules_fit lines (model_tables m.source) (model_tables m.target) k.0.source k.0.target (source_of m k.0) (target_of m k.0) k.0.picks v.source_variant v.target_variant
+    (few_variables m.source m.target k.0.source k.0.target (source_of m k.0) (target_of m k.0) a.source a.target v.few_source v.few_target v.source_variant v.target_variant)
     (lines_fit m.source m.target list m.lines lines refl a.named) k.1.picks)
 
 each_premise : (list : List Conversion) (m : MappingText) → IsRead list m → Each (rules_of list m.source m.target m.lines) (λ d. AreAtomsOf m.source d.premise)
 each_premise list m a d i =
     let k = from_kept (lines_of m.source m.target list m.lines) (model_tables m.source) (model_tables m.target) d i in
+    let v = are_variants list m k.0 a k.1 in
     subst (λ (e : Rule). AreAtomsOf m.source e.premise) k.2
-    (atoms_there m.source cells.Var (unfolding_of (model_tables m.source) k.0.source).occurrences (tables_there m.source k.0.source a.source k.1.source_table))
+    (atoms_there m.source cells.Var (source_of m k.0).occurrences (tables_there m.source k.0.source (source_of m k.0) v.source_variant))
 
 each_conclusion : (list : List Conversion) (m : MappingText) → IsRead list m → Each (rules_of list m.source m.target m.lines) (λ d. AreAtomsOf m.target d.conclusion)
 each_conclusion list m a d i =
     let k = from_kept (lines_of m.source m.target list m.lines) (model_tables m.source) (model_tables m.target) d i in
+    let v = are_variants list m k.0 a k.1 in
     subst (λ (e : Rule). AreAtomsOf m.target e.conclusion) k.2
-    (atoms_there m.target _ (unfolding_of (model_tables m.target) k.0.target).occurrences (tables_there m.target k.0.target a.target k.1.target_table))
+    (atoms_there m.target _ (target_of m k.0).occurrences (tables_there m.target k.0.target (target_of m k.0) v.target_variant))
 
 each_listed : (list : List Conversion) (m : MappingText) → IsRead list m → Each (rules_of list m.source m.target m.lines) (λ d. Each d.derived (λ e. IsListed list e.code (length e.args)))
 each_listed list m a d i =
     let lines = lines_of m.source m.target list m.lines in
     let k = from_kept lines (model_tables m.source) (model_tables m.target) d i in
     subst (λ (r : Rule). Each r.derived (λ e. IsListed list e.code (length e.args))) k.2
-    (derived_listed list lines (unfolding_of (model_tables m.source) k.0.source).occurrences (unfolding_of (model_tables m.target) k.0.target).occurrences k.0.picks
-    (lines_offered m.source m.target list m.lines lines refl a.named) k.1.picks)
+    (derived_listed list lines (source_of m k.0).occurrences (target_of m k.0).occurrences k.0.picks (lines_offered m.source m.target list m.lines lines refl a.named) k.1.picks)
 
 -- ---- hand-written rules
 

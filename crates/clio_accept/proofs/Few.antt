@@ -1,12 +1,13 @@
 -- The unfoldings of schemas within the limits have few variables.
-use Rattle.std.proofs.Common.{◌≡◌, ℕ, ◌+◌, ◌*◌, ◌-◌, ◌^◌, ◌<◌, ◌≤◌, Bool, true, false, cond, List, [], ◌∷◌, length, refl, sym, ap, subst, arith, Option, Some, None}
-use Rattle.std.specs.Prelude.{flat_map, nat_lt, ◌||◌}
+use Rattle.std.proofs.Common.{◌≡◌, ℕ, ◌+◌, ◌*◌, ◌-◌, ◌^◌, ◌<◌, ◌≤◌, Bool, true, false, cond, List, [], ◌∷◌, ◌++◌, length, refl, sym, ap, arith, Option, Some, None}
+use Rattle.std.specs.Prelude.{flat_map, nat_lt}
 use Rattle.std.specs.List.{list_any}
-use Rattle.std.proofs.lemmas.Bool.{false≢true}
-use Rattle.std.proofs.lemmas.Bool.Decides.{nat_tests}
+use Rattle.std.proofs.lemmas.Bool.{ltb-false}
 use Rattle.std.proofs.lemmas.List.{length-append}
+use Rattle.dx_ports.specs.declared.file.Limit.{Limit}
 use Rattle.dx_ports.specs.Members.{◌∈◌, here, there, Each}
-use Rattle.dx_ports.proofs.Members.{from_map, in_at}
+use Rattle.dx_ports.proofs.Members.{in_left, in_right, in_map, from_map, in_at}
+use Rattle.dx_ports.proofs.Tests.{none_of}
 use Rattle.dx_model.specs.Tables.{Table, table_of}
 use Rattle.dx_schema.specs.Bounds.{HasFewRules}
 use Rattle.dx_schema.specs.Forest.{Forest}
@@ -18,37 +19,41 @@ use Rattle.dx_schema.specs.Tables.{as_numbers, model_tables, tables_of}
 use Rattle.dx_schema.proofs.Valid.{are_tables}
 use Rattle.dx_schema.proofs.Bounds.{rules_raised}
 use Rattle.dx_logical.specs.declared.relation.Occurrence.{Occurrence}
+use Rattle.dx_logical.specs.declared.relation.Relation.{Relation}
 use Rattle.dx_logical.specs.Laws.{IsUnfolding, variables_of}
-use Rattle.dx_logical.specs.Unfolding.{unfolding_of}
+use Rattle.dx_logical.specs.Unfolding.{variants_of}
 use Rattle.dx_lines.specs.declared.line.Line.{Line}
 use Rattle.dx_lines.specs.Candidates.{upto}
-use Rattle.dx_lines.specs.Limits.{is_wide, passed}
+use Rattle.dx_lines.specs.Limits.{first_or, count_upto, is_wide, passed_at, passed_by, passed}
 use Rattle.dx_candidates.proofs.Lists.{in_upto}
 use Rattle.dx_rules.proofs.ClosedRules.{occurrences_fit}
 
--- what no member passes, none passes
-none_passes : (p : ℕ → Bool) (xs : List ℕ) (x : ℕ) → list_any p xs ≡ false → x ∈ xs → p x ≡ false
-none_passes p (y ∷ ys) x e (here d) = subst (λ z. p z ≡ false) d (first (p y) (list_any p ys) e)
-  where
-    first : (a b : Bool) → (a || b) ≡ false → a ≡ false
-    first true b e = absurd (false≢true (sym e))
-    first false b e = refl
-none_passes p (y ∷ ys) x e (there m) = none_passes p ys x (rest (p y) (list_any p ys) e) m
-  where
-    rest : (a b : Bool) → (a || b) ≡ false → b ≡ false
-    rest true b e = absurd (false≢true (sym e))
-    rest false b e = e
-none_passes p [] x e m = elim m [ ]
+-- where the first of these is none, each is
+none_first : (xs : List (Option Limit)) (rest : Option Limit) → first_or xs rest ≡ None → Each xs (λ o. o ≡ None)
+none_first [] rest e o m = elim m [ ]
+none_first (None ∷ xs) rest e o (here d) = sym d
+none_first (None ∷ xs) rest e o (there m) = none_first xs rest e o m
+none_first (Some l ∷ xs) rest e o m = absurd (cc)
 
-both_narrow : (a b : Bool) {X : Type 0} (x : X) (o : Option X) → cond (a || b) (Some x) o ≡ None → (a ≡ false) × (b ≡ false)
-both_narrow true b x o e = cc
-both_narrow false true x o e = cc
-both_narrow false false x o e = (refl, refl)
+none_wide : (a b : Bool) (k l : Limit) → cond a (Some k) (cond b (Some l) None) ≡ None → b ≡ false
+none_wide true b k l e = absurd (cc)
+none_wide false true k l e = absurd (cc)
+none_wide false false k l e = refl
 
-pub few_at : (schema : List Table) (t : ℕ) → is_wide schema ≡ false → t < length schema → length (unfolding_of schema t).occurrences ≤ 64
-few_at schema t e h =
-    let n = none_passes (λ t. nat_lt 64 (length (unfolding_of schema t).occurrences)) (upto (length schema)) t e (in_upto (length schema) t h) in
-    grind (arith, nat_tests, n)
+-- each unfolding of each table has at most 64 occurrences
+abbrev pub AreNarrow : List Table → Type 0
+AreNarrow schema = (t : ℕ) → t < length schema → Each (variants_of schema t) (λ r. length r.occurrences ≤ 64)
+
+narrow : (schema : List Table) → Each (passed_by schema) (λ o. o ≡ None) → AreNarrow schema
+narrow schema none t h r m =
+    let e = none (passed_at schema t) (in_map (passed_at schema) (in_upto (length schema) t h)) in
+    let w = none_wide (nat_lt 256 (count_upto schema t)) (list_any is_wide (variants_of schema t)) _ _ e in
+    ltb-false 64 (length r.occurrences) (none_of is_wide (variants_of schema t) r w m)
+
+pub narrow_sides : (lines : List Line) (A B : List Table) → passed lines A B ≡ None → AreNarrow A × AreNarrow B
+narrow_sides lines A B e =
+    let none = none_first (passed_by A ++ passed_by B) _ e in
+    (narrow A (λ o m. none o (in_left (passed_by B) m)), narrow B (λ o m. none o (in_right (passed_by A) m)))
 
 -- tables have at most 64 columns
 pub few_columns : (f : Forest) (t : ℕ) → IsFaultless f → t < length (model_tables f) → (table_of (model_tables f) t).width ≤ 64
@@ -66,26 +71,20 @@ sum_few (o ∷ os) h =
     let e = length-append o.variables (flat_map (λ (o : Occurrence). o.variables) os) in
     omega (arith, first, rest, e)
 
-narrow_few : (f : Forest) (t : ℕ) → IsFaultless f → is_wide (model_tables f) ≡ false → t < length (model_tables f) → IsUnfolding (model_tables f) t (unfolding_of (model_tables f) t)
-    → length (variables_of (unfolding_of (model_tables f) t)) ≤ 4096
-narrow_few f t ok e h u =
-    let os = (unfolding_of (model_tables f) t).occurrences in
-    let many = few_at (model_tables f) t e h in
-    let each : Each os (λ o. length o.variables ≤ 64) = λ o m.
-    let w = occurrences_fit (model_tables f) t (unfolding_of (model_tables f) t) u o m in
+narrow_few : (f : Forest) (t : ℕ) (r : Relation) → IsFaultless f → length r.occurrences ≤ 64 → IsUnfolding (model_tables f) t r → length (variables_of r) ≤ 4096
+narrow_few f t r ok many u =
+    let each : Each r.occurrences (λ o. length o.variables ≤ 64) = λ o m.
+    let w = occurrences_fit (model_tables f) t r u o m in
     let c = few_columns f o.table ok w.table in
     let k = w.width in omega (arith, c, k) in
-    let s = sum_few os each in
+    let s = sum_few r.occurrences each in
     omega (arith, many, s)
 
-pub few_variables : (source target : Forest) (lines : List Line) (s t : ℕ) → IsFaultless source → IsFaultless target → passed lines (model_tables source) (model_tables target) ≡ None
-    → s < length (model_tables source) → t < length (model_tables target) → IsUnfolding (model_tables source) s (unfolding_of (model_tables source) s)
-    → IsUnfolding (model_tables target) t (unfolding_of (model_tables target) t)
-    → length (variables_of (unfolding_of (model_tables source) s)) + length (variables_of (unfolding_of (model_tables target) t)) < 2 ^ 32 - 1
-few_variables source target lines s t ok fine unpassed h k u v =
-    let narrow = both_narrow (is_wide (model_tables source)) (is_wide (model_tables target)) _ _ unpassed in
-    let a = narrow_few source s ok narrow.0 h u in
-    let b = narrow_few target t fine narrow.1 k v in
+pub few_variables : (source target : Forest) (s t : ℕ) (S T : Relation) → IsFaultless source → IsFaultless target → length S.occurrences ≤ 64 → length T.occurrences ≤ 64
+    → IsUnfolding (model_tables source) s S → IsUnfolding (model_tables target) t T → length (variables_of S) + length (variables_of T) < 2 ^ 32 - 1
+few_variables source target s t S T ok fine few_source few_target u v =
+    let a = narrow_few source s S ok few_source u in
+    let b = narrow_few target t T fine few_target v in
     omega (arith, a, b)
 
 -- ---- keys and refs

@@ -121,8 +121,9 @@ where
 /// In this order: the first fault of the text, of the source sets, of the target sets; the first target set with a name
 /// that is taken; more than 512 lines and conditions together; the first word of the lines that names nothing, or conversion
 /// with another number of arguments; the first word of the conditions that names nothing; the first fault of the
-/// hand-written rules; the limits of lines (64 occurrences of an unfolding, 64 ways
-/// between two tables, 1,024 candidates); a hand-written rule whose premise or closed conclusion has more than 64 atoms;
+/// hand-written rules; the limits of lines (table by table 256 variants of the tables of a side so far, then 64 occurrences
+/// of a variant; 64 ways between two variants; 1,024 candidates); a hand-written rule whose premise or closed conclusion has
+/// more than 64 atoms;
 /// more than 256 rules; a rule that pruning tests, on whose frozen premise the others make more than 4,000,000 canonical
 /// cells. `Memory` may come at any point.
 pub fn accept<F, P, M>(

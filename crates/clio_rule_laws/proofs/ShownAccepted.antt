@@ -1,6 +1,5 @@
 -- The sets of an accepted mapping, with its rules after them, are accepted with the same mapping.
-use Rattle.std.proofs.Common.{◌≡◌, ℕ, ◌<◌, ◌≤◌, ◌-◌, ◌^◌, Bool, true, false, cond, List, [], ◌∷◌, ◌++◌, Option, Some, None, length, map, flat_map, inl, inr, refl, sym, ap, subst, arith}
-use Rattle.std.specs.Prelude.{◌||◌}
+use Rattle.std.proofs.Common.{◌≡◌, ℕ, ◌<◌, ◌≤◌, ◌-◌, ◌^◌, Bool, false, List, [], ◌∷◌, ◌++◌, Option, Some, None, length, map, flat_map, inl, inr, refl, sym, ◌∙◌, ap, subst, arith}
 use Rattle.std.specs.List.{filter, list_any}
 use Rattle.std.proofs.lemmas.List.{length-map}
 use Rattle.dx_ports.specs.declared.file.Limit.{Limit}
@@ -16,13 +15,13 @@ use Rattle.dx_schema_text.specs.declared.texts.RuleText.{RuleText}
 use Rattle.dx_schema_text.specs.Print.{sides}
 use Rattle.dx_schema_text.specs.Texts.{IsMappingText}
 use Rattle.dx_schema.specs.Links.{IsFaultless}
-use Rattle.dx_logical.specs.Unfolding.{unfolding_of}
+use Rattle.dx_logical.specs.Unfolding.{variant_of}
 use Rattle.dx_closing.proofs.Own.{served_is_closing}
 use Rattle.dx_funcs.specs.declared.conversion.Conversion.{Conversion}
 use Rattle.dx_funcs.specs.declared.row_test.RowTest.{RowTest}
-use Rattle.dx_lines.specs.Candidates.{upto, pair_ways, pair_candidates, candidates_of}
+use Rattle.dx_lines.specs.Candidates.{all_variants, pair_candidates, candidates_of}
 use Rattle.dx_lines.specs.Kept.{is_kept}
-use Rattle.dx_lines.specs.Limits.{has_many_ways, is_wide, passed}
+use Rattle.dx_lines.specs.Limits.{first_or, has_many_ways, passed_by, passed}
 use Rattle.dx_lines.specs.Rules.{kept_rules, rule_of}
 use Rattle.dx_lines.specs.declared.line.Line.{Line}
 use Rattle.dx_lines.proofs.Sources.{from_kept}
@@ -41,7 +40,7 @@ use Rattle.clio_accept.specs.Accepting.{accepting, between_of, closing, leaving,
 use Rattle.clio_accept.specs.Laws.{MappingFits}
 use Rattle.clio_accept.proofs.Accepted.{IsRead, accepted_fits, all_rules_fit}
 use Rattle.clio_accept.proofs.Closed.{closed_of}
-use Rattle.clio_accept.proofs.Few.{few_at}
+use Rattle.clio_accept.proofs.Few.{narrow_sides}
 use Rattle.clio_rule_laws.specs.Laws.{AreShownAgain, ShownIsAccepted, rule_lines, unconditional}
 use Rattle.clio_accept.proofs.Accepted.{IsTaken}
 use Rattle.clio_rule_laws.proofs.Shown.{is_accepted, shown_rules_are_read_again}
@@ -57,27 +56,20 @@ flat_none : {X Y : Type 0} (f : X → List Y) (xs : List X) → ((x : X) → f x
 flat_none f [] h = refl
 flat_none f (x ∷ xs) h = rw (h x) (flat_none f xs h)
 
-no_ways : (A B : List Table) (s t : ℕ) → pair_ways [] A B s t ≡ []
-no_ways A B s t = refl
-
 no_candidates : (A B : List Table) → candidates_of [] A B ≡ []
-no_candidates A B = flat_none _ (upto (length A)) (λ s. flat_none (pair_candidates [] A B s) (upto (length B)) (λ t. refl))
+no_candidates A B = flat_none _ (all_variants A) (λ s. flat_none (pair_candidates [] s) (all_variants B) (λ t. refl))
 
 no_many_ways : (A B : List Table) → has_many_ways [] A B ≡ false
-no_many_ways A B = any_none _ (upto (length A)) (λ s. any_none _ (upto (length B)) (λ t. refl))
+no_many_ways A B = any_none _ (all_variants A) (λ s. any_none _ (all_variants B) (λ t. refl))
 
-both_narrow : (a b : Bool) (l : Limit) (o : Option Limit) → cond (a || b) (Some l) o ≡ None → (a ≡ false) × (b ≡ false)
-both_narrow true b l o e = absurd cc
-both_narrow false true l o e = absurd cc
-both_narrow false false l o e = (refl, refl)
-
-narrow_sides : (lines : List Line) (A B : List Table) → passed lines A B ≡ None → (is_wide A ≡ false) × (is_wide B ≡ false)
-narrow_sides lines A B e = both_narrow (is_wide A) (is_wide B) _ _ e
+-- where none of these is passed, what comes after them is the first
+rest_first : (xs : List (Option Limit)) (rest other : Option Limit) → first_or xs rest ≡ None → first_or xs other ≡ other
+rest_first [] rest other e = refl
+rest_first (None ∷ xs) rest other e = rest_first xs rest other e
+rest_first (Some l ∷ xs) rest other e = absurd (cc)
 
 none_passed : (lines : List Line) (A B : List Table) → passed lines A B ≡ None → passed [] A B ≡ None
-none_passed lines A B e =
-    let n = narrow_sides lines A B e in
-    rw (n.0, n.1, no_many_ways A B, no_candidates A B) refl
+none_passed lines A B e = rest_first (passed_by A ++ passed_by B) _ _ e ∙ (rw (no_many_ways A B, no_candidates A B) refl)
 
 -- ---- the rules are their own closings
 
@@ -90,11 +82,11 @@ kept_few : (lines : List Line) (A B : List Table) → passed lines A B ≡ None 
 kept_few lines A B e d m =
     let n = narrow_sides lines A B e in
     let k = from_kept lines A B d m in
-    let from = few_at A k.0.source n.0 k.1.source_table in
-    let to = few_at B k.0.target n.1 k.1.target_table in
+    let from = n.0 k.0.source k.1.source_table (variant_of A k.0.source k.0.source_variant) k.1.source_variant in
+    let to = n.1 k.0.target k.1.target_table (variant_of B k.0.target k.0.target_variant) k.1.target_variant in
     subst HasFewAtoms k.2 (record {
-      premise = rw (length-map (unfolding_of A k.0.source).occurrences _) from;
-      conclusion = rw (length-map (unfolding_of B k.0.target).occurrences _) to;
+      premise = rw (length-map (variant_of A k.0.source k.0.source_variant).occurrences _) from;
+      conclusion = rw (length-map (variant_of B k.0.target k.0.target_variant).occurrences _) to;
     })
 
 closed_few : (schema : List Table) (ds es : List Rule) → AreClosings schema ds es → Each es HasFewAtoms

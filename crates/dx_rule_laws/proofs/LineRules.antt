@@ -23,7 +23,7 @@ use Rattle.dx_schema_text.specs.Spelling.{SpellsSource, a_literal, a_column, a_c
 use Rattle.dx_schema_text.proofs.SpelledWords.{kind_word}
 use Rattle.dx_logical.specs.declared.relation.Occurrence.{Occurrence}
 use Rattle.dx_logical.specs.declared.relation.Relation.{Relation}
-use Rattle.dx_logical.specs.Unfolding.{unfolding_of}
+use Rattle.dx_logical.specs.Unfolding.{variant_of}
 use Rattle.dx_funcs.specs.declared.conversion.Conversion.{Conversion}
 use Rattle.dx_funcs.specs.Names.{first_named, conversion_name}
 use Rattle.dx_funcs.specs.Offers.{IsOffer}
@@ -174,4 +174,5 @@ line_rules_are_writable text m list says offer no_fault d among =
     let writable : Each lines (λ l. IsWritableOrigin list l.source) =
     lines_writable m.source m.target list m.lines offer (mapping_right _ m (scan_of text).lexemes says.spelled (right_lexemes text says.no_stop)) no_fault in
     let k = from_kept lines (model_tables m.source) (model_tables m.target) d among in
-    subst (IsWritable list) k.2 (rule_writable list lines (unfolding_of (model_tables m.source) k.0.source) (unfolding_of (model_tables m.target) k.0.target) k.0.picks writable k.1.picks)
+    subst (IsWritable list) k.2 (rule_writable list lines (variant_of (model_tables m.source) k.0.source k.0.source_variant) (variant_of (model_tables m.target) k.0.target k.0.target_variant) k.0.picks
+    writable k.1.picks)

@@ -6,6 +6,7 @@ mod ports;
 mod scripts;
 mod sets;
 mod values;
+mod variants;
 
 use dx_ports::Text;
 use std::alloc::{AllocError, Global};
@@ -26,6 +27,7 @@ enum Kind {
     Closes,
     Document,
     Gathered,
+    KeptOfNone,
     Nested,
     Printed,
     Scan,
@@ -33,6 +35,7 @@ enum Kind {
     Sets,
     Text,
     Tokens,
+    Unfolded,
     Value,
 }
 
@@ -42,6 +45,7 @@ fn answer(alloc: Global, kind: Kind, text: &str) -> Result<String, AllocError> {
         Kind::Closes => sets::closes(alloc, text),
         Kind::Document => documents::said(alloc, text),
         Kind::Gathered => values::ranked(alloc, text),
+        Kind::KeptOfNone => variants::kept_of_none(alloc, text),
         Kind::Nested => documents::nested(alloc, text),
         Kind::Printed => mapping_texts::printed(alloc, text),
         Kind::Scan => mapping_texts::scanned(alloc, text),
@@ -49,6 +53,7 @@ fn answer(alloc: Global, kind: Kind, text: &str) -> Result<String, AllocError> {
         Kind::Sets => sets::built(alloc, text),
         Kind::Text => mapping_texts::read(alloc, text),
         Kind::Tokens => mapping_texts::tokens_of(alloc, text),
+        Kind::Unfolded => variants::unfolded(alloc, text),
         Kind::Value => values::read(alloc, text),
     }
 }
@@ -137,5 +142,17 @@ fn equal_objects_say_equal_facts(rt: HostRuntime) -> Result<(), Fail> {
         passing(rt.alloc(), Kind::Document, documents::DOCUMENTS)?,
         1
     );
+    Ok(())
+}
+
+#[test]
+fn tables_have_these_unfoldings(rt: HostRuntime) -> Result<(), Fail> {
+    assert_eq!(rt; passing(rt.alloc(), Kind::Unfolded, variants::UNFOLDED)?, 8);
+    Ok(())
+}
+
+#[test]
+fn variants_of_a_schema_are_few(rt: HostRuntime) -> Result<(), Fail> {
+    assert_eq!(rt; passing(rt.alloc(), Kind::KeptOfNone, variants::LIMITS)?, 2);
     Ok(())
 }

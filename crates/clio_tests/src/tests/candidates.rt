@@ -127,38 +127,44 @@ const LISTED: &str =
     "mapping 1; source { set emp { name, dept; ref (dept) -> dept (dname); } set dept { dname; } }
 target { set unit { uname; key (uname); set staff { sname; } } }
 line emp.name -> staff.sname; line dept.dname -> unit.uname;
-=> [Candidate { source: 0, target: 0, picks: Items { items: [Pick { variable: 1, term: Var(1) }] } }, Candidate { source: \
-0, target: 1, picks: Items { items: [Pick { variable: 1, term: Var(0) }, Pick { variable: 2, term: Var(1) }] } }, \
-Candidate { source: 1, target: 0, picks: Items { items: [Pick { variable: 1, term: Var(0) }] } }, Candidate { source: \
-1, target: 1, picks: Items { items: [Pick { variable: 2, term: Var(0) }] } }] 2
+=> [Candidate { source: 0, source_variant: 0, target: 0, target_variant: 0, picks: Items { items: [Pick { variable: \
+1, term: Var(1) }] } }, Candidate { source: 0, source_variant: 0, target: 1, target_variant: 0, picks: Items { \
+items: [Pick { variable: 1, term: Var(0) }, Pick { variable: 2, term: Var(1) }] } }, Candidate { source: 1, \
+source_variant: 0, target: 0, target_variant: 0, picks: Items { items: [Pick { variable: 1, term: Var(0) }] } }, \
+Candidate { source: 1, source_variant: 0, target: 1, target_variant: 0, picks: Items { items: [Pick { variable: 2, \
+term: Var(0) }] } }] 2
 
 mapping 1; source { set trip { no, start, goal; ref (start) -> city (code); ref (goal) -> city (code); }
 set city { code, label; } } target { set visit { a, b; } }
 line city.label -> visit.a; line city.label -> visit.b;
-=> [Candidate { source: 0, target: 0, picks: Items { items: [Pick { variable: 0, term: Var(3) }, Pick { variable: 1, \
-term: Var(3) }] } }, Candidate { source: 0, target: 0, picks: Items { items: [Pick { variable: 0, term: Var(3) }, Pick \
-{ variable: 1, term: Var(4) }] } }, Candidate { source: 0, target: 0, picks: Items { items: [Pick { variable: 0, term: \
-Var(4) }, Pick { variable: 1, term: Var(3) }] } }, Candidate { source: 0, target: 0, picks: Items { items: [Pick { \
-variable: 0, term: Var(4) }, Pick { variable: 1, term: Var(4) }] } }, Candidate { source: 1, target: 0, picks: Items { \
-items: [Pick { variable: 0, term: Var(1) }, Pick { variable: 1, term: Var(1) }] } }] 3
+=> [Candidate { source: 0, source_variant: 0, target: 0, target_variant: 0, picks: Items { items: [Pick { variable: \
+0, term: Var(3) }, Pick { variable: 1, term: Var(3) }] } }, Candidate { source: 0, source_variant: 0, target: 0, \
+target_variant: 0, picks: Items { items: [Pick { variable: 0, term: Var(3) }, Pick { variable: 1, term: Var(4) }] } \
+}, Candidate { source: 0, source_variant: 0, target: 0, target_variant: 0, picks: Items { items: [Pick { variable: \
+0, term: Var(4) }, Pick { variable: 1, term: Var(3) }] } }, Candidate { source: 0, source_variant: 0, target: 0, \
+target_variant: 0, picks: Items { items: [Pick { variable: 0, term: Var(4) }, Pick { variable: 1, term: Var(4) }] } \
+}, Candidate { source: 1, source_variant: 0, target: 0, target_variant: 0, picks: Items { items: [Pick { variable: \
+0, term: Var(1) }, Pick { variable: 1, term: Var(1) }] } }] 3
 
 mapping 1; source { set emp { name, dept; ref (dept) -> dept (dname); } set dept { dname; } }
 target { set person { name; } } line pair(emp.name, dept.dname) -> person.name;
-=> [Candidate { source: 0, target: 0, picks: Items { items: [Pick { variable: 0, term: Call { code: 2, args: Items { \
-items: [0, 1] } } }] } }] 1
+=> [Candidate { source: 0, source_variant: 0, target: 0, target_variant: 0, picks: Items { items: [Pick { variable: \
+0, term: Call { code: 2, args: Items { items: [0, 1] } } }] } }] 1
 
 // a variable comes before a conversion
 mapping 1; source { set emp { name; } } target { set person { name; } }
 line trim(emp.name) -> person.name; line emp.name -> person.name;
-=> [Candidate { source: 0, target: 0, picks: Items { items: [Pick { variable: 0, term: Var(0) }] } }, Candidate { source: \
-0, target: 0, picks: Items { items: [Pick { variable: 0, term: Call { code: 0, args: Items { items: [0] } } }] } }] 2
+=> [Candidate { source: 0, source_variant: 0, target: 0, target_variant: 0, picks: Items { items: [Pick { variable: \
+0, term: Var(0) }] } }, Candidate { source: 0, source_variant: 0, target: 0, target_variant: 0, picks: Items { \
+items: [Pick { variable: 0, term: Call { code: 0, args: Items { items: [0] } } }] } }] 2
 
 // a conversion of two columns of one set that stands twice takes both from one of them
 mapping 1; source { set trip { no, start, goal; ref (start) -> city (code); ref (goal) -> city (code); }
 set city { code, label; } } target { set visit { a; } } line pair(city.code, city.label) -> visit.a;
-=> [Candidate { source: 0, target: 0, picks: Items { items: [Pick { variable: 0, term: Call { code: 2, args: Items { \
-items: [1, 3] } } }] } }, Candidate { source: 0, target: 0, picks: Items { items: [Pick { variable: 0, term: Call { \
-code: 2, args: Items { items: [2, 4] } } }] } }, Candidate { source: 1, target: 0, picks: Items { items: [Pick { \
+=> [Candidate { source: 0, source_variant: 0, target: 0, target_variant: 0, picks: Items { items: [Pick { variable: \
+0, term: Call { code: 2, args: Items { items: [1, 3] } } }] } }, Candidate { source: 0, source_variant: 0, target: \
+0, target_variant: 0, picks: Items { items: [Pick { variable: 0, term: Call { code: 2, args: Items { items: [2, 4] } \
+} }] } }, Candidate { source: 1, source_variant: 0, target: 0, target_variant: 0, picks: Items { items: [Pick { \
 variable: 0, term: Call { code: 2, args: Items { items: [0, 1] } } }] } }] 1
 
 mapping 1; source { set emp { name; } } target { set person { name; } } line emp.nam -> person.name;

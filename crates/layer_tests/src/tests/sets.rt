@@ -291,7 +291,7 @@ fn told(alloc: Global, schema: &Schema, table: u32) -> Result<String, AllocError
 }
 
 /// The schema of sets that make one.
-fn schema(alloc: Global, text: &str) -> Result<Schema, AllocError> {
+pub fn schema(alloc: Global, text: &str) -> Result<Schema, AllocError> {
     match Schema::build(alloc, trees(alloc, text)?) {
         Ok(schema) => Ok(schema),
         Err(_) => Err(AllocError),
