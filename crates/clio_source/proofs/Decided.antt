@@ -22,17 +22,19 @@ use Rattle.dx_csv.proofs.OneReading.{table-is-one, fault-is-one, faults-exclude}
 use Rattle.dx_csv.proofs.Decided.{table_or_fault}
 use Rattle.dx_json.proofs.OneReading.{facts_are_one, fault_is_one}
 use Rattle.dx_json.proofs.OneReading.{never_both as document_or_fault, either as one_of_both}
-use Rattle.dx_stages.specs.Stages.{next, by, over, computing, notions}
+use Rattle.dx_stages.specs.Stages.{Stage, next, by, over, computing, notions}
 use Rattle.dx_stages.specs.Laws.{PassesOne, IsDecided}
 use Rattle.dx_stages.proofs.Decided.{Any, next_one, next_decided, each_one, each_decided, by_one, by_decided, over_one, over_decided, into_one, into_decided, file_one, file_decided, computing_one, computing_decided, notions_decided, weaker}
 use Rattle.clio_source.specs.declared.fault.RowsFault.{RowsFault}
 use Rattle.clio_source.specs.declared.fault.RowsFault.TheVariants.{Absent, Csv, Json}
 use Rattle.clio_source.specs.declared.fault.SourceRefusal.{SourceRefusal}
 use Rattle.clio_source.specs.declared.fault.SourceRefusal.TheVariants as refusals
-use Rattle.clio_source.specs.Source.{Form, HaveFault, IsFaulty, IsStored, Read, SayFacts, Says, as_facts, at_start, fetching, file_at, files_stages, flat, form_at, loading, named_by, nested, reading, roots, storing, too_many_bytes, with_facts}
+use Rattle.dx_lines.specs.declared.line.Condition.{Condition}
+use Rattle.dx_used.specs.Passing.{Passes, passing}
+use Rattle.clio_source.specs.Source.{Form, HaveFault, IsFaulty, IsStored, Read, SayFacts, Says, Wanted, as_facts, at_start, fetching, file_at, files_stages, flat, form_at, loading, named_by, nested, reading, roots, storing, too_many_bytes, with_facts}
 use Rattle.clio_source.specs.Laws.{OneSource, ReadOrRefused}
 use Rattle.clio_source.proofs.Runs.{its_file}
-use Rattle.clio_source.proofs.Passed.{AreOf, passed_of}
+use Rattle.clio_source.proofs.Passed.{AreOf, passed_of, passing_of}
 
 abbrev Same : SourceRefusal → SourceRefusal → Type 0
 Same d e = d ≡ e
@@ -111,9 +113,9 @@ row_total = lists_total value_total
 row_of_both : (f : Forest) (said : List Fact) (I J : List TableRows) → IsStored f said I → IsStored f said J → (t : ℕ) → rows_of I t ⊆ rows_of J t
 row_of_both f said I J p q t x m = row_from_fact J (record { table = t; row = x }) (q.exact.1 (record { table = t; row = x }) (p.exact.0 (record { table = t; row = x }) (fact_from_row I t x m)))
 
-storing_one : (f : Forest) → PassesOne (storing f)
-storing_one f c r I J p q = same_tables I J (p.widths_are ∙ sym q.widths_are) (λ t.
-    one_ascending row_cmp row_total (rows_of I t) (rows_of J t) (p.ascend t) (q.ascend t) (row_of_both f r.facts I J p q t) (row_of_both f r.facts J I q p t))
+storing_one : (passes : Passes) (conditions : List Condition) (f : Forest) → PassesOne (storing passes conditions f)
+storing_one passes conditions f c r I J p q = same_tables I J (p.widths_are ∙ sym q.widths_are) (λ t.
+    one_ascending row_cmp row_total (rows_of I t) (rows_of J t) (p.ascend t) (q.ascend t) (row_of_both f (passing passes conditions r.facts) I J p q t) (row_of_both f (passing passes conditions r.facts) J I q p t))
 
 -- the rows of a table among facts
 abbrev rows_among : List Fact → ℕ → List (List Value)
@@ -177,26 +179,36 @@ is_stored f said of = record { widths_are = stored_widths (schema_widths f) 0 sa
 pub some_stored : (f : Forest) (said : List Fact) → AreOf f said → (I : List TableRows) × IsStored f said I
 some_stored f said of = (stored (schema_widths f) 0 said, is_stored f said of)
 
-storing_decided : (f : Forest) → IsDecided Same (IsOf f) (storing f)
-storing_decided f = notions_decided Same (IsOf f) (λ r e. ⊥) (λ r I. IsStored f r.facts I) (λ r d e g x y. absurd x) (λ r I e g x y. y) (λ r g. inl (some_stored f r.facts g))
+storing_decided : (passes : Passes) (conditions : List Condition) (f : Forest) → IsDecided Same (IsOf f) (storing passes conditions f)
+storing_decided passes conditions f = notions_decided Same (IsOf f) (λ r e. ⊥) (λ r I. IsStored f (passing passes conditions r.facts) I)
+    (λ r d e g x y. absurd x) (λ r I e g x y. y) (λ r g. inl (some_stored f (passing passes conditions r.facts) (passing_of passes conditions f r.facts g)))
 
 -- ---- all roots
 
-whole_one : (f : Forest) → PassesOne (next (files_stages f) (storing f))
-whole_one f = next_one (files_stages f) (storing f) (each_one (reading f) (roots f) (reading_one f)) (storing_one f)
+whole : (passes : Passes) → Wanted → Stage SourceRefusal Read (List TableRows)
+whole passes w = next (files_stages w.schema) (storing passes w.conditions w.schema)
+
+whole_one : (passes : Passes) (w : Wanted) → PassesOne (whole passes w)
+unfolding whole
+whole_one passes w = next_one (files_stages w.schema) (storing passes w.conditions w.schema) (each_one (reading w.schema) (roots w.schema) (reading_one w.schema)) (storing_one passes w.conditions w.schema)
 
 abbrev IsStart : Read → Type 0
 IsStart r = r ≡ at_start
 
-whole_decided : (f : Forest) → IsDecided Same IsStart (next (files_stages f) (storing f))
-whole_decided f = next_decided Same IsStart (IsOf f) (files_stages f) (storing f) (each_one (reading f) (roots f) (reading_one f))
+whole_decided : (passes : Passes) (w : Wanted) → IsDecided Same IsStart (whole passes w)
+unfolding whole
+whole_decided passes w =
+    let f = w.schema in
+    next_decided Same IsStart (IsOf f) (files_stages f) (storing passes w.conditions f) (each_one (reading f) (roots f) (reading_one f))
     (λ c a r g p. passed_of f c r (subst (λ v. (files_stages f).passes c v r) g p))
-    (weaker Same Any IsStart (files_stages f) (λ a g. tt) (each_decided Same Any (reading f) (roots f) (reading_one f) (λ x c a b g p. tt) (reading_decided f))) (storing_decided f)
+    (weaker Same Any IsStart (files_stages f) (λ a g. tt) (each_decided Same Any (reading f) (roots f) (reading_one f) (λ x c a b g p. tt) (reading_decided f))) (storing_decided passes w.conditions f)
 
 pub source_one : OneSource
-source_one = by_one (λ (f : Forest). over (λ (_ : Forest). at_start) (next (files_stages f) (storing f)))
-    (λ f. over_one (λ (_ : Forest). at_start) (next (files_stages f) (storing f)) (whole_one f))
+unfolding whole
+source_one passes = by_one (λ (w : Wanted). over (λ (_ : Wanted). at_start) (whole passes w))
+    (λ w. over_one (λ (_ : Wanted). at_start) (whole passes w) (whole_one passes w))
 
 pub source_decided : ReadOrRefused
-source_decided = by_decided Same Any (λ (f : Forest). over (λ (_ : Forest). at_start) (next (files_stages f) (storing f)))
-    (λ f g. over_decided Same Any IsStart (λ (_ : Forest). at_start) (next (files_stages f) (storing f)) (λ a g. refl) (whole_decided f))
+unfolding whole
+source_decided passes = by_decided Same Any (λ (w : Wanted). over (λ (_ : Wanted). at_start) (whole passes w))
+    (λ w g. over_decided Same Any IsStart (λ (_ : Wanted). at_start) (whole passes w) (λ a g. refl) (whole_decided passes w))

@@ -4,6 +4,7 @@ pub mod Numbers
 pub mod Fits
 pub mod Blank
 pub mod Passed
+pub mod PassingRows
 pub mod Runs
 pub mod Decided
 pub mod Whole

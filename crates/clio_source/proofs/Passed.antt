@@ -1,9 +1,11 @@
 -- What the stages of the source have passed.
 use Rattle.std.proofs.Common.{◌≡◌, ℕ, ◌-◌, ◌<◌, List, [], ◌∷◌, ◌++◌, length, refl, sym, ◌∙◌, ap, subst, Ok, Err, inl, inr, arith, true, false}
 use Rattle.std.specs.Prelude.{nat_lt, Bool, if◌then◌else◌}
+use Rattle.std.specs.List.{list_all}
 use Rattle.std.proofs.lemmas.List.{length-map}
 use Rattle.dx_ports.specs.Members.{◌∈◌, here, there, Each}
 use Rattle.dx_ports.proofs.Members.{from_append, from_map}
+use Rattle.dx_ports.proofs.Tests.{from_filter}
 use Rattle.dx_model.specs.declared.values.Value.{Value}
 use Rattle.dx_model.specs.declared.facts.Fact.{Fact}
 use Rattle.dx_schema.specs.Forest.{Forest}
@@ -11,6 +13,8 @@ use Rattle.dx_schema.specs.Tables.{as_numbers, tables_of}
 use Rattle.dx_json.proofs.Fitting.{facts_fit}
 use Rattle.dx_stages.specs.Worlds.{World}
 use Rattle.dx_stages.specs.Stages.{each}
+use Rattle.dx_lines.specs.declared.line.Condition.{Condition}
+use Rattle.dx_used.specs.Passing.{Passes, fact_passes, passing}
 use Rattle.clio_source.specs.Source.{Form, Read, SayFacts, at_start, cells_in, files_stages, flat, form_at, nested, reading, roots, too_many_cells, with_facts}
 use Rattle.clio_source.proofs.Roots.{IsRoot, is_root}
 
@@ -49,3 +53,7 @@ all_read f (u ∷ us) c r s are of (b, one, rest) = all_read f us c b s (λ v m.
 -- what was read is of the schema's tables
 pub passed_of : (f : Forest) (c : World) (r : Read) → (files_stages f).passes c at_start r → AreOf f r.facts
 passed_of f c r p = all_read f (roots f) c at_start r (is_root f) (λ x m. elim m [ ]) p
+
+-- what passes of it too
+pub passing_of : (passes : Passes) (conditions : List Condition) (f : Forest) (said : List Fact) → AreOf f said → AreOf f (passing passes conditions said)
+passing_of passes conditions f said of x m = of x (from_filter (λ (g : Fact). list_all (fact_passes passes g) conditions) said m).0

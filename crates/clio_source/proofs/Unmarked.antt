@@ -1,6 +1,5 @@
 -- Without marks all is read.
-use Rattle.std.proofs.Common.{◌≡◌, ℕ, List, [], ◌∷◌, map, refl, ap}
-use Rattle.dx_ports.specs.Members.{◌≈◌}
+use Rattle.std.proofs.Common.{◌≡◌, List, [], ◌∷◌, map, refl, ap}
 use Rattle.dx_ports.proofs.Members.{same_equal, same_sym, same_trans}
 use Rattle.dx_model.specs.declared.facts.Fact.{Fact}
 use Rattle.dx_instance.specs.Stored.{facts}
@@ -12,5 +11,5 @@ nothing_blanked [] = refl
 nothing_blanked (f ∷ fs) = ap (λ (gs : List Fact). f ∷ gs) (nothing_blanked fs)
 
 pub all_is_read : AllIsRead
-all_is_read f J old new (I, agree, widths, ran) =
+all_is_read passes w J old new (I, agree, widths, ran) =
     (I, same_trans (same_sym (same_equal (nothing_blanked (facts I)))) (same_trans agree (same_equal (nothing_blanked (facts J)))), ran)

@@ -1,39 +1,71 @@
 -- The whole source: the instance that was read agrees with that of the files.
-use Rattle.std.proofs.Common.{◌≡◌, sym, ◌∙◌, Ok, Err, List}
-use Rattle.dx_ports.proofs.Members.{same_trans}
-use Rattle.dx_instance.specs.Stored.{TableRows, facts, widths}
-use Rattle.dx_schema.specs.Forest.{Forest}
-use Rattle.dx_schema.specs.Tables.{schema_widths}
+use Rattle.std.proofs.Common.{◌≡◌, sym, ◌∙◌, Ok, Err, List, length}
+use Rattle.std.specs.List.{list_all}
+use Rattle.dx_ports.proofs.Members.{same_sym, same_trans}
+use Rattle.dx_ports.proofs.Tests.{from_filter}
+use Rattle.dx_model.specs.declared.facts.Fact.{Fact}
+use Rattle.dx_instance.specs.Shown.{shown_tables}
+use Rattle.dx_instance.specs.Stored.{IsSorting, TableRows, facts, widths}
+use Rattle.dx_schema.specs.Tables.{schema_widths, tables_of}
 use Rattle.dx_stages.specs.declared.stop.Stop.{Stop}
 use Rattle.dx_stages.specs.Stages.{Stage, next, over}
 use Rattle.dx_stages.specs.Running.{Ran, Told}
 use Rattle.dx_stages.proofs.Running.{ran_by, ran_next, ran_over, ran_passes, ran_stop, ran_value, silent_apart}
 use Rattle.dx_used.specs.Used.{Agree, Marks}
+use Rattle.dx_used.specs.Named.{ReadNamed}
+use Rattle.dx_used.specs.Passing.{Passes, fact_passes, passing}
 use Rattle.dx_used.proofs.Blanking.{agree_same}
+use Rattle.dx_used.proofs.PassingLaws.{same_passing}
 use Rattle.clio_source.specs.declared.fault.SourceRefusal.{SourceRefusal}
 use Rattle.clio_source.specs.declared.reading.Reading.{Reading}
-use Rattle.clio_source.specs.Agreeing.{RanAgreeing}
-use Rattle.clio_source.specs.Source.{Read, at_start, files_stages, source_stages, storing}
-use Rattle.clio_source.specs.Fitting.{Holds, RanTo}
+use Rattle.clio_source.specs.Agreeing.{AreBlank, RanAgreeing}
+use Rattle.clio_source.specs.Kept.{IsPassing}
+use Rattle.clio_source.specs.Source.{Read, Wanted, at_start, files_stages, source_stages, storing}
+use Rattle.clio_source.specs.Fitting.{Holds, IsBlank, RanTo, ReadFits}
+use Rattle.clio_source.proofs.Blank.{blank_sorted}
 use Rattle.clio_source.proofs.Decided.{some_stored}
-use Rattle.clio_source.proofs.Passed.{passed_of}
+use Rattle.clio_source.proofs.Fits.{sorted_agree, sorted_wide}
+use Rattle.clio_source.proofs.Passed.{passed_of, passing_of}
 
-abbrev whole_of : Forest → Stage SourceRefusal Forest (List TableRows)
-whole_of f = over (λ (_ : Forest). at_start) (next (files_stages f) (storing f))
+abbrev after_files : Passes → Wanted → Stage SourceRefusal Read (List TableRows)
+after_files passes w = storing passes w.conditions w.schema
 
-pub source_stops : (used : Marks) (f : Forest) (e : Stop SourceRefusal) (old new : Told) → RanTo used (files_stages f) at_start (Err e) old new → Ran source_stages f (Err e) old new
-source_stops used f e old new x =
-    ran_by whole_of f (Err e) old new (ran_over (λ (_ : Forest). at_start) (next (files_stages f) (storing f)) f (Err e) old new (ran_stop (files_stages f) (storing f) at_start e old new x))
+abbrev whole_of : Passes → Wanted → Stage SourceRefusal Wanted (List TableRows)
+whole_of passes w = over (λ (_ : Wanted). at_start) (next (files_stages w.schema) (after_files passes w))
 
--- the facts that were read have an instance, and this is what the stage passes
-pub source_agrees : (used : Marks) (f : Forest) (r : Reading) (J : List TableRows) (old new : Told) → RanTo used (files_stages f) at_start (Ok r) old new
-    → ((q : Read) → Holds used r q → Agree used q.facts (facts J)) → widths J ≡ schema_widths f → RanAgreeing used source_stages f (Ok J) old new
-source_agrees used f r J old new (q, holds, ran) agree wide =
-    let w = ran_passes (files_stages f) at_start q old new ran in
-    let s = some_stored f q.facts (passed_of f w.0 q w.1) in (
+pub source_stops : (passes : Passes) (used : Marks) (w : Wanted) (e : Stop SourceRefusal) (old new : Told) → RanTo used (files_stages w.schema) at_start (Err e) old new
+    → Ran (source_stages passes) w (Err e) old new
+source_stops passes used w e old new x =
+    ran_by (whole_of passes) w (Err e) old new (ran_over (λ (_ : Wanted). at_start) (next (files_stages w.schema) (after_files passes w)) w (Err e) old new
+    (ran_stop (files_stages w.schema) (after_files passes w) at_start e old new x))
+
+-- the facts that were read and pass have an instance, and this is what the stage passes
+source_agrees : (passes : Passes) (used : Marks) (w : Wanted) (r : Reading) (J : List TableRows) (old new : Told) → RanTo used (files_stages w.schema) at_start (Ok r) old new
+    → ((q : Read) → Holds used r q → Agree used (passing passes w.conditions q.facts) (facts J)) → widths J ≡ schema_widths w.schema
+    → RanAgreeing used (source_stages passes) w (Ok J) old new
+source_agrees passes used w r J old new (q, holds, ran) agree wide =
+    let f = w.schema in
+    let told = ran_passes (files_stages f) at_start q old new ran in
+    let s = some_stored f (passing passes w.conditions q.facts) (passing_of passes w.conditions f q.facts (passed_of f told.0 q told.1)) in (
       s.0,
       same_trans (agree_same used s.1.exact) (agree q holds),
       s.1.widths_are ∙ sym wide,
-      ran_by whole_of f (Ok s.0) old new (ran_over (λ (_ : Forest). at_start) (next (files_stages f) (storing f)) f (Ok s.0) old new
-          (ran_next (files_stages f) (storing f) at_start q (Ok s.0) old new new (silent_apart (files_stages f) (storing f) (λ d b n h. h)) ran (ran_value (storing f) q (Ok s.0) new (λ c. s.1)))),
+      ran_by (whole_of passes) w (Ok s.0) old new (ran_over (λ (_ : Wanted). at_start) (next (files_stages f) (after_files passes w)) w (Ok s.0) old new
+          (ran_next (files_stages f) (after_files passes w) at_start q (Ok s.0) old new new (silent_apart (files_stages f) (after_files passes w) (λ d b n h. h)) ran
+          (ran_value (after_files passes w) q (Ok s.0) new (λ c. s.1)))),
     )
+
+-- the instance that was read, of which the rows that pass stay
+pub source_passes : (passes : Passes) (used : Marks) (w : Wanted) (r : Reading) (I J : List TableRows) (old new : Told) → RanTo used (files_stages w.schema) at_start (Ok r) old new
+    → ReadNamed used w.conditions → ReadFits w.schema (length (tables_of w.schema)) r → IsSorting (shown_tables r.symbols r.tables.items) I → IsPassing passes w.conditions I J
+    → RanAgreeing used (source_stages passes) w (Ok J) old new
+source_passes passes used w r I J old new ran named fit sorted passed =
+    source_agrees passes used w r J old new ran
+    (λ q h. same_trans (same_passing passes used w.conditions q.facts (facts I) named (sorted_agree used r q I h sorted)) (agree_same used (same_sym passed.exact)))
+    (passed.widths_stay ∙ sorted_wide w.schema r I fit sorted)
+
+-- what is blank stays so
+pub source_blank : (passes : Passes) (used : Marks) (w : Wanted) (r : Reading) (I J : List TableRows) → IsSorting (shown_tables r.symbols r.tables.items) I → IsPassing passes w.conditions I J
+    → IsBlank used w.schema r → AreBlank used w.schema (facts J)
+source_blank passes used w r I J sorted passed blank fact m is =
+    blank_sorted used w.schema r I sorted blank fact (from_filter (λ (g : Fact). list_all (fact_passes passes g) w.conditions) (facts I) (passed.exact.0 fact m)).0 is

@@ -11,10 +11,10 @@ use Rattle.dx_used.specs.Used.{Agree, Marks, fact_blanked}
 use Rattle.clio_source.specs.Source.{flat, form_at, roots}
 
 -- the stage ran so and passes an instance, with which the one that was read agrees on the used columns
-abbrev pub RanAgreeing : {E : Type 0} → Marks → Stage E Forest (List TableRows) → Forest → Result (List TableRows) (Stop E) → Told → Told → Type 0
-RanAgreeing used s f (Ok J) old new =
-    (I : List TableRows) × Agree used (facts I) (facts J) × (widths I ≡ widths J) × Ran s f (Ok I) old new
-RanAgreeing used s f (Err e) old new = Ran s f (Err e) old new
+abbrev pub RanAgreeing : {E A : Type 0} → Marks → Stage E A (List TableRows) → A → Result (List TableRows) (Stop E) → Told → Told → Type 0
+RanAgreeing used s a (Ok J) old new =
+    (I : List TableRows) × Agree used (facts I) (facts J) × (widths I ≡ widths J) × Ran s a (Ok I) old new
+RanAgreeing used s a (Err e) old new = Ran s a (Err e) old new
 
 -- the table of a flat root, whose file is a table
 abbrev pub IsFlatRoot : Forest → ℕ → Type 0

@@ -8,15 +8,16 @@ use Rattle.dx_schema.specs.Tables.{table_at, tables_of}
 use Rattle.dx_stages.specs.Laws.{IsDecided, PassesOne}
 use Rattle.dx_stages.specs.Running.{Ran, Told}
 use Rattle.clio_source.specs.Agreeing.{RanAgreeing}
-use Rattle.clio_source.specs.Source.{roots, source_stages}
+use Rattle.dx_used.specs.Passing.{Passes}
+use Rattle.clio_source.specs.Source.{Wanted, roots, source_stages}
 
--- files say at most one source
+-- files say at most one source, whatever the tests are
 abbrev pub OneSource : Type 0
-OneSource = PassesOne source_stages
+OneSource = (passes : Passes) → PassesOne (source_stages passes)
 
 -- files say a source or are refused for one reason, and never both
 abbrev pub ReadOrRefused : Type 0
-ReadOrRefused = IsDecided (λ e f. e ≡ f) (λ (f : Forest). Unit {0}) source_stages
+ReadOrRefused = (passes : Passes) → IsDecided (λ e f. e ≡ f) (λ (w : Wanted). Unit {0}) (source_stages passes)
 
 -- the roots of a schema are its tables without a parent, in order
 pub record AreRoots (f : Forest) : Type 0 where
@@ -29,5 +30,5 @@ RootsHaveNoParent = (f : Forest) → AreRoots f
 -- if no column has a mark, what is read has just the facts of what the stages pass
 abbrev pub AllIsRead : Type 0
 AllIsRead =
-    (f : Forest) (J : List TableRows) (old new : Told) → RanAgreeing [] source_stages f (Ok J) old new
-    → (I : List TableRows) × (facts I ≈ facts J) × Ran source_stages f (Ok I) old new
+    (passes : Passes) (w : Wanted) (J : List TableRows) (old new : Told) → RanAgreeing [] (source_stages passes) w (Ok J) old new
+    → (I : List TableRows) × (facts I ≈ facts J) × Ran (source_stages passes) w (Ok I) old new

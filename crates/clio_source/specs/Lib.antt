@@ -1,4 +1,5 @@
 pub mod Source
 pub mod Agreeing
+pub mod Kept
 pub mod Fitting
 pub mod Laws

@@ -8,6 +8,8 @@ use Rattle.dx_model.specs.Values.{RowsAscend}
 use Rattle.dx_instance.specs.Stored.{TableRows, facts, rows_of, widths}
 use Rattle.dx_schema.specs.Forest.{Forest, none, set}
 use Rattle.dx_schema.specs.Tables.{numbers_in, schema_widths, table_at, tree_at}
+use Rattle.dx_lines.specs.declared.line.Condition.{Condition}
+use Rattle.dx_used.specs.Passing.{Passes, passing}
 use Rattle.dx_csv.specs.declared.fault.RowKind.{RowKind}
 use Rattle.dx_csv.specs.Table.{IsAtFault, IsTable, table_records}
 use Rattle.dx_json.specs.declared.fault.JsonKind.{JsonKind}
@@ -138,9 +140,17 @@ pub record IsStored (f : Forest) (said : List Fact) (I : List TableRows) : Type 
   pub ascend : (t : ℕ) → RowsAscend (rows_of I t)
   pub exact : facts I ≈ said
 
-abbrev pub storing : Forest → Stage SourceRefusal Read (List TableRows)
-storing f = notions (λ r e. ⊥) (λ r I. IsStored f r.facts I)
+-- of the facts that were read those that pass the conditions
+abbrev pub storing : Passes → List Condition → Forest → Stage SourceRefusal Read (List TableRows)
+storing passes conditions f = notions (λ r e. ⊥) (λ r I. IsStored f (passing passes conditions r.facts) I)
 
--- the files of a schema's roots, and the instance of their facts
-abbrev pub source_stages : Stage SourceRefusal Forest (List TableRows)
-source_stages = by (λ (f : Forest). over (λ (_ : Forest). at_start) (next (files_stages f) (storing f)))
+-- what is asked for: the rows of the files of a schema's roots that pass conditions
+pub record Wanted : Type 0 where
+  pub schema : Forest
+  pub conditions : List Condition
+
+-- The files of a schema's roots, and the instance of the rows that pass the conditions. All rows are read, and the cells of all count,
+-- before any is left out.
+abbrev pub source_stages : Passes → Stage SourceRefusal Wanted (List TableRows)
+source_stages passes =
+    by (λ (w : Wanted). over (λ (_ : Wanted). at_start) (next (files_stages w.schema) (storing passes w.conditions w.schema)))

@@ -2,16 +2,22 @@
 ghost use Rattle.std.specs.Prelude.{◌≡◌, ◌+◌, ◌<◌, ◌≤◌, length, None, IfOk};
 ghost use Rattle.dx_schema.specs.Tables.{count, table_at, tables_of, tree_at};
 ghost use Rattle.dx_instance.specs.Stored.{facts};
+ghost use Rattle.dx_funcs.specs.Judging.{Decides, tested};
+ghost use Rattle.dx_used.specs.Named.{ReadNamed};
 ghost use Rattle.clio_source.specs.Agreeing.{AreBlank, RanAgreeing};
+ghost use Rattle.clio_source.specs.Kept.{AreTested};
 ghost use Rattle.clio_source.specs.Source.{Read, at_start, file_at, files_stages, reading, source_stages};
 ghost use Rattle.clio_source.specs.Fitting.{Holds, IsBlank, RanTo, ReadFits};
 
 use crate::documents::load_document;
 use crate::fault::{RowsFault, SourceRefusal};
 use crate::names::{file_name, json_file_name};
+use crate::passing::passing_rows;
 use crate::reading::{Reading, at_start, too_many_bytes};
 use crate::tables::load_table;
+use dx_funcs::{Meaning, Tests};
 use dx_instance::Instance;
+use dx_lines::Condition;
 use dx_ports::{Inputs, Items, Text};
 use dx_schema::Schema;
 use dx_stages::{Stop, fetch};
@@ -91,28 +97,38 @@ fn read_files<I: Inputs>(
     Ok(so_far)
 }
 
-/// The source that the files of a schema's roots hold: of a root without inner sets a table, of another a document.
+/// The source that the files of a schema's roots hold: of a root without inner sets a table, of another a document. Of all their
+/// rows those stay that pass each condition on their table, as the row tests decide.
 ///
-/// The marks say for each table which of its columns are used; a column without a mark is. Of a table's other columns
-/// nothing is kept: their constants are the empty one. Documents are read whole. So there is one source that the files
-/// hold, and the instance agrees with it on the used columns.
+/// The marks say for each table which of its columns are used; a column without a mark is, and so is each that a condition
+/// names. Of a table's other columns nothing is kept: their constants are the empty one. Documents are read whole. So there is
+/// one source that the files hold, and the instance agrees with it on the used columns.
 ///
 /// # Errors
 ///
 /// For each root in order: its file is absent, passes what is left of 67,108,864 bytes, is no table of its columns or no
-/// document of its sets, or its facts pass what is left of 4,000,000 cells. A read that failed, and want of memory, may
-/// come at any file.
-pub fn read_source<I: Inputs>(
+/// document of its sets, or its facts pass what is left of 4,000,000 cells, whether or not they pass the conditions. A read that
+/// failed, and want of memory, may come at any file.
+pub fn read_source<I: Inputs, P, M>(
     alloc: Global,
     inputs: &mut I,
     schema: &Schema,
+    conditions: &[Condition],
     used: &[Items<bool>],
+    tests: &Tests<P, M>,
 ) -> Result<Instance, Stop<SourceRefusal>>
-    ensures read { RanAgreeing used.now source_stages schema.now result
+where
+    P: Fn(u32, &Text) -> Result<bool, AllocError>,
+    M: Meaning,
+    requires decides { Decides P.Fn M.passes tests.now }
+    requires listed { AreTested (tested tests.now) conditions.now }
+    requires named { ReadNamed used.now conditions.now }
+    ensures read { RanAgreeing used.now (source_stages M.passes) (record { schema = schema.now; conditions = conditions.now }) result
         (record { holds = I.holds inputs.old; faults = I.faults inputs.old; stopped = I.stopped inputs.old })
         (record { holds = I.holds inputs.new; faults = I.faults inputs.new; stopped = I.stopped inputs.new }) }
     ensures blank { IfOk result (λ J. AreBlank used.now schema.now (facts J)) }
 {
     let reading = read_files(alloc, inputs, schema, used)?;
-    Ok(Instance::from_gathered(alloc, reading.symbols, reading.tables)?)
+    let rows = Instance::from_gathered(alloc, reading.symbols, reading.tables)?;
+    Ok(passing_rows(alloc, rows, conditions, tests)?)
 }

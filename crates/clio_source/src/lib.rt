@@ -3,9 +3,10 @@
 //! `read_source` reads the file of each root of a schema in order and gives the instance of their facts, or the first reason
 //! to refuse them. The file of a root without inner sets is a table, `<set>.csv`; that of another is a document with its
 //! inner sets, `<set>.json`. One row of stages (specs/Source) says what they hold: for each root its file, of as many bytes
-//! as are left, then its form, then the cells of its facts, of as many as are left. Rows of an instance ascend, so there is
-//! one instance of the files. The caller says which columns are used: of a table's other columns nothing is kept, and what is
-//! read agrees with the instance of the files on the used ones (specs/Agreeing). What the code has of what was read stands in
+//! as are left, then its form, then the cells of its facts, of as many as are left. Of all the facts that were read those stay
+//! that pass the caller's conditions (`passing` of dx_used); its row tests decide what passes. Rows of an instance ascend, so there
+//! is one instance of the files. The caller says which columns are used, those that conditions name among them: of a
+//! table's other columns nothing is kept, and what is read agrees with the instance of the files on the used ones (specs/Agreeing). What the code has of what was read stands in
 //! specs/Fitting.
 #![tactic(auto)]
 
@@ -14,6 +15,7 @@ mod fault;
 mod files;
 mod laws;
 mod names;
+mod passing;
 mod reading;
 mod tables;
 
