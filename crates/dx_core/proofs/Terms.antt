@@ -172,7 +172,7 @@ module _ (N : Numbered) (apart : AreApart N.symbols) where
             let q : m ≡ x = number_same N.symbols m x apart (are m i).within h ((are m i).is ∙ (ap Null d ∙ sym e)) in
             k (rw (← q) i))
 
-    term_given : (x : ℕ) (t : Term) → IsTermOf nulls x t → x < length N.symbols
+    pub term_given : (x : ℕ) (t : Term) → IsTermOf nulls x t → x < length N.symbols
         → value_of N.symbols (number_under (answered xs) t) ≡ moved (given (pairs_by N nulls xs)) (value_of N.symbols x)
     term_given x (Number n) z h = ap (value_of N.symbols) z.0 ∙ sym (stays x h z.1)
     term_given x (Variable v) z h =

@@ -16,6 +16,7 @@ use Rattle.dx_solver.specs.declared.atom.Term.{Term}
 use Rattle.dx_solver.specs.declared.atom.Term.TheVariants.{Number, Variable}
 use Rattle.dx_solver.specs.declared.atom.PatternAtom.{PatternAtom}
 use Rattle.dx_solver.specs.Marks.{is_out}
+use Rattle.dx_solver.specs.Questions.{answered, number_under}
 use Rattle.dx_rigid.specs.Rigid.{IsRigid}
 
 -- the numbers ascend
@@ -47,6 +48,12 @@ abbrev pub pairs_by : Numbered → List ℕ → List ℕ → List NullPair
 pairs_by N [] xs = []
 pairs_by N (n ∷ ns) [] = []
 pairs_by N (n ∷ ns) (x ∷ xs) = record { null = null_under N n; value = value_of N.symbols x } ∷ pairs_by N ns xs
+
+-- y is what x becomes if the nulls get the numbers of an answer
+pub record IsNumberAfter (nulls xs : List ℕ) (x y : ℕ) : Type 0 where
+  pub term : Term
+  pub stands : IsTermOf nulls x term
+  pub number : y ≡ number_under (answered xs) term
 
 -- an endomorphism of T moves none of the facts F that T has to f
 abbrev pub Avoids : List Fact → List Fact → Fact → Type 0

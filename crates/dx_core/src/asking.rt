@@ -10,8 +10,8 @@ use dx_instance::Numbers;
 use dx_solver::{PatternAtom, Taken, Term, Terms};
 use std::alloc::{AllocError, Global};
 
-// The term that stands for a number.
-fn term_of(nulls: &[u32], number: u32) -> Term
+/// The term that stands for a number.
+pub(crate) fn term_of(nulls: &[u32], number: u32) -> Term
     requires ascend { Ascend nulls.now }
     requires few { length nulls.now < 2 ^ 32 }
     ensures { IsTermOf nulls.now number result }

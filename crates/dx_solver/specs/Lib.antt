@@ -1,3 +1,4 @@
 pub mod Marks
 pub mod Questions
 pub mod Domains
+pub mod Finding

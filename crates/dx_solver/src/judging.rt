@@ -2,8 +2,8 @@
 ghost use Rattle.std.specs.Prelude.{◌≡◌, ◌↔◌, ◌<◌, ℕ, IfOk, IfSome, IsTrue, MatchOption, None, length, map, slice_index_or};
 ghost use Rattle.dx_ports.specs.Members.{Each};
 ghost use Rattle.dx_instance.specs.Shown.{numbers_of_table};
-ghost use Rattle.dx_solver.specs.Domains.{IsImage, IsLeft, term_at};
-ghost use Rattle.dx_solver.specs.Questions.{FitsAtom, Stands, answered, number_under};
+ghost use Rattle.dx_solver.specs.Domains.{IsBound, IsImage, IsLeft, Keeps, term_at};
+ghost use Rattle.dx_solver.specs.Questions.{FitsAtom, Solves, Stands, answered, number_under};
 ghost use Rattle.dx_solver.specs.declared.domain.Domain.TheVariants.{Any};
 
 use crate::atom::{PatternAtom, Term};
@@ -184,4 +184,31 @@ pub(crate) fn numbers_left(
         all.push(number_left(known[variable], &domains[variable]))?;
     }
     Ok(all)
+}
+
+/// The numbers that are left of variables, if they are an answer. If one is left of each variable in an atom, no others are.
+///
+/// # Errors
+///
+/// `AllocError` if there is no memory.
+pub(crate) fn answer_at(
+    alloc: Global,
+    question: &Question<'_, '_>,
+    domains: &[Domain],
+) -> Result<Option<Vec<u32>>, AllocError>
+    requires fits { Each question.now.atoms.now (FitsAtom question.now.numbers.now.tables (length question.now.known.now)) }
+    requires many { length domains.now ≡ length question.now.known.now }
+    ensures long { IfOk result (λ o. IfSome o (λ xs. length xs.items ≡ length question.now.known.now)) }
+    ensures exact { IfOk result (λ o. MatchOption o
+        (Each question.now.atoms.now (IsBound domains.now) → (a : ℕ → ℕ) → Keeps domains.now a
+        → ¬ (Solves question.now.numbers.now.tables question.now.taken.now question.now.atoms.now question.now.known.now a))
+        (λ xs. Solves question.now.numbers.now.tables question.now.taken.now question.now.atoms.now question.now.known.now
+        (answered xs.items))) }
+{
+    let xs = numbers_left(alloc, question, domains)?;
+    let is_answer = all_stand(alloc, question, &xs)?;
+    if is_answer {
+        return Ok(Some(xs));
+    }
+    Ok(None)
 }

@@ -43,8 +43,12 @@ impl Node {
     }
 }
 
-// Copies of domains.
-fn copies(alloc: Global, domains: &[Domain]) -> Result<Vec<Domain>, AllocError>
+/// Copies of domains.
+///
+/// # Errors
+///
+/// `AllocError` if there is no memory.
+pub(crate) fn copies(alloc: Global, domains: &[Domain]) -> Result<Vec<Domain>, AllocError>
     ensures { IfOk result (λ v. v.items ≡ domains.now) }
 {
     let mut all = Vec::with_capacity(alloc, domains.len())?;

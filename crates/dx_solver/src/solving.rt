@@ -2,14 +2,15 @@
 ghost use Rattle.std.specs.Prelude.{◌≡◌, ℕ, IfOk, IfSome, MatchOption, None, Some, length, slice_index_or};
 ghost use Rattle.std.specs.Bool.{OnTrue};
 ghost use Rattle.dx_ports.specs.Members.{Each};
-ghost use Rattle.dx_solver.specs.Domains.{Has, IsBound, IsBranched, Keeps};
+ghost use Rattle.dx_solver.specs.Domains.{Has, IsBranched, Keeps};
 ghost use Rattle.dx_solver.specs.Questions.{FitsAtom, Solves, Stands, answered};
 
 use crate::atom::PatternAtom;
 use crate::choosing::{choose, split};
 use crate::domain::Domain;
+use crate::few::{Found, search_few};
 use crate::forward::place_all;
-use crate::judging::{all_stand, numbers_left};
+use crate::judging::answer_at;
 use crate::linked::linked_order;
 use crate::node::Node;
 use crate::question::Question;
@@ -18,29 +19,6 @@ use crate::spreading::{Agenda, spread};
 use crate::taken::Taken;
 use dx_instance::Numbers;
 use std::alloc::{AllocError, Global};
-
-// The numbers that are left of variables, if they are an answer. If one is left of each variable in an atom, no others are.
-fn answer_at(
-    alloc: Global,
-    question: &Question<'_, '_>,
-    domains: &[Domain],
-) -> Result<Option<Vec<u32>>, AllocError>
-    requires fits { Each question.now.atoms.now (FitsAtom question.now.numbers.now.tables (length question.now.known.now)) }
-    requires many { length domains.now ≡ length question.now.known.now }
-    ensures long { IfOk result (λ o. IfSome o (λ xs. length xs.items ≡ length question.now.known.now)) }
-    ensures exact { IfOk result (λ o. MatchOption o
-        (Each question.now.atoms.now (IsBound domains.now) → (a : ℕ → ℕ) → Keeps domains.now a
-        → ¬ (Solves question.now.numbers.now.tables question.now.taken.now question.now.atoms.now question.now.known.now a))
-        (λ xs. Solves question.now.numbers.now.tables question.now.taken.now question.now.atoms.now question.now.known.now
-        (answered xs.items))) }
-{
-    let xs = numbers_left(alloc, question, domains)?;
-    let is_answer = all_stand(alloc, question, &xs)?;
-    if is_answer {
-        return Ok(Some(xs));
-    }
-    Ok(None)
-}
 
 // Cuts what is left at a node. If all is bound, the answer, if that is one; or else nodes in its place.
 fn expand(
@@ -190,6 +168,12 @@ pub fn solve(
         known,
     };
     let domains = known_domains(alloc, known)?;
+    let found = search_few(alloc, &question, &domains)?;
+    match found {
+        Found::Answer(xs) => return Ok(Some(xs)),
+        Found::Nothing => return Ok(None),
+        Found::Unknown => {}
+    }
     if is_hopeless(&question, domains.as_slice()) {
         return Ok(None);
     }

@@ -1,7 +1,7 @@
 use Rattle.std.proofs.Common.{◌∙◌, sym}
 use Rattle.std.proofs.lemmas.Bool.{false≢true}
 use Rattle.dx_solver.proofs.TermFacts.{none_left}
-use Rattle.dx_solver.proofs.solving.answer_at.Goals as goal
+use Rattle.dx_solver.proofs.judging.answer_at.Goals as goal
 
 pub returns-clause-exact : goal.returns-clause-exact
 returns-clause-exact c =

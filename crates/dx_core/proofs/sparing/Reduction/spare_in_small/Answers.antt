@@ -1,0 +1,50 @@
+use Rattle.std.proofs.Common.{map, sym}
+use Rattle.dx_model.proofs.Reduction.{reduct_itself}
+use Rattle.dx_blocks.specs.Numbered.{fact_of}
+use Rattle.dx_core.specs.Left.{left_of}
+use Rattle.dx_core.proofs.Spared.{known_stays, none_needed, none_told, same_gone, same_moves, same_others, same_reduct, some_told}
+use Rattle.dx_core.proofs.sparing.Reduction.spare_in_small.Goals as goal
+
+pub returns-in-None-clause-reduct : goal.returns-in-None-clause-reduct
+returns-in-None-clause-reduct c = rw c.in_ok-together.ensures.taken (reduct_itself (left_of c.args.self.now.numbers c.args.self.now.taken))
+
+pub returns-in-None-clause-needed : goal.returns-in-None-clause-needed
+returns-in-None-clause-needed c =
+    let s = c.args.self.now in
+    let none = none_told s.numbers _ _ _ c.args.block.now.nulls (λ v. v.items) c.in_ok-together.together c.in-None.is
+    (rw c.items-rows.ensures at c.in_ok-together.ensures.exact) in
+    rw c.in_ok-together.ensures.taken
+    (none_needed (left_of s.numbers s.taken) (map (fact_of s.numbers) c.args.block.now.rows) (fact_of s.numbers c.args.at) none)
+
+pub fold_block-requires-clause-moves : goal.fold_block-requires-clause-moves
+fold_block-requires-clause-moves c =
+    let s = c.args.self.now in
+    let moves = some_told s.numbers _ _ _ c.args.block.now.nulls (λ v. v.items) c.in_ok-together.together _ c.in-Some.is
+    (rw c.items-rows.ensures at c.in_ok-together.ensures.exact) in
+    rw c.deref.ensures.value
+    (same_moves c.ask.new.self.numbers s.numbers c.args.block.now.nulls _ c.ask.new.self.taken s.taken c.args.block.now.rows c.args.at
+    (sym c.in_ok-together.ensures.numbers) (sym c.in_ok-together.ensures.taken) moves)
+
+pub returns-in-Some-clause-reduct : goal.returns-in-Some-clause-reduct
+returns-in-Some-clause-reduct c =
+    let s = c.args.self.now in
+    same_reduct s.numbers c.ask.new.self.numbers s.taken c.ask.new.self.taken c.fold_block.new.self.taken c.in_ok-together.ensures.numbers
+    c.in_ok-together.ensures.taken c.fold_block.ensures.reduct
+
+pub returns-in-Some-clause-needed : goal.returns-in-Some-clause-needed
+returns-in-Some-clause-needed c = λ m.
+    absurd (same_gone c.args.self.now.numbers c.ask.new.self.numbers c.fold_block.new.self.taken c.args.at c.in_ok-together.ensures.numbers
+    c.fold_block.ensures.gone m)
+
+pub returns-in-Some-clause-known : goal.returns-in-Some-clause-known
+returns-in-Some-clause-known c =
+    let s = c.args.self.now in
+    known_stays s.numbers (left_of s.numbers s.taken) _ c.args.block.now.nulls c.args.known.now
+    (same_reduct s.numbers c.ask.new.self.numbers s.taken c.ask.new.self.taken c.fold_block.new.self.taken c.in_ok-together.ensures.numbers
+    c.in_ok-together.ensures.taken c.fold_block.ensures.reduct) c.requires.known
+
+pub returns-in-Some-clause-others : goal.returns-in-Some-clause-others
+returns-in-Some-clause-others c =
+    let s = c.args.self.now in
+    same_others s.numbers c.ask.new.self.numbers c.args.block.now s.taken c.ask.new.self.taken c.fold_block.new.self.taken
+    c.in_ok-together.ensures.numbers c.in_ok-together.ensures.taken c.fold_block.ensures.others

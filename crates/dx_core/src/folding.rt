@@ -1,0 +1,66 @@
+// Rows of a block that are images of its rows, where its nulls get numbers.
+ghost use Rattle.std.specs.Prelude.{◌≡◌, ◌<◌, ◌^◌, false, length, map};
+ghost use Rattle.dx_ports.specs.Members.{◌∈◌, Each};
+ghost use Rattle.dx_model.specs.Instances.{fact_moved, given};
+ghost use Rattle.dx_blocks.specs.Numbered.{IsRow, fact_of};
+ghost use Rattle.dx_core.specs.Asking.{Ascend, IsNumberAfter, pairs_by};
+ghost use Rattle.dx_core.specs.Sparing.{IsTried};
+
+use crate::asking::term_of;
+use dx_blocks::{At, NumberBlock};
+use dx_instance::Numbers;
+use dx_solver::Term;
+
+// What a number becomes.
+fn number_after(nulls: &[u32], answer: &[u32], number: u32) -> u32
+    requires ascend { Ascend nulls.now }
+    requires few { length nulls.now < 2 ^ 32 }
+    requires long { length answer.now ≡ length nulls.now }
+    ensures { IsNumberAfter nulls.now answer.now number result }
+{
+    match term_of(nulls, number) {
+        Term::Number(own) => own,
+        Term::Variable(variable) => answer[variable as usize],
+    }
+}
+
+// Whether one row of a block may become another.
+fn becomes(numbers: &Numbers<'_>, block: &NumberBlock, answer: &[u32], from: At, to: At) -> bool
+    requires block { IsTried numbers.now block.now }
+    requires long { length answer.now ≡ length block.now.nulls }
+    requires from { IsRow numbers.now from }
+    requires to { IsRow numbers.now to }
+    ensures { result ≡ false
+        → ¬ (fact_moved (given (pairs_by numbers.now block.now.nulls answer.now)) (fact_of numbers.now from) ≡ fact_of numbers.now to) }
+{
+    if from.table != to.table {
+        return false;
+    }
+    let count = numbers.len();
+    let nulls = block.nulls.items();
+    let old_row = numbers.row(from.table, from.place);
+    let new_row = numbers.row(to.table, to.place);
+    for column in 0..old_row.len() {
+        let after = number_after(nulls, answer, old_row[column]);
+        if after < count && after != new_row[column] {
+            return false;
+        }
+    }
+    true
+}
+
+/// Whether some row of a block may become this one.
+pub(crate) fn is_image(numbers: &Numbers<'_>, block: &NumberBlock, answer: &[u32], to: At) -> bool
+    requires block { IsTried numbers.now block.now }
+    requires long { length answer.now ≡ length block.now.nulls }
+    requires to { to ∈ block.now.rows }
+    ensures { result ≡ false → Each (map (fact_of numbers.now) block.now.rows)
+        (λ e. ¬ (fact_moved (given (pairs_by numbers.now block.now.nulls answer.now)) e ≡ fact_of numbers.now to)) }
+{
+    for from in block.rows.items() {
+        if becomes(numbers, block, answer, *from, to) {
+            return true;
+        }
+    }
+    false
+}

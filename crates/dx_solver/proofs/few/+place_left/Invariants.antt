@@ -1,0 +1,18 @@
+use Rattle.std.proofs.Common.{◌≤◌, ◌<◌, ◌-◌, ℕ}
+use Rattle.dx_solver.specs.Domains.{IsImage, Keeps}
+use Rattle.dx_solver.specs.Questions.{Solves}
+use Rattle.dx_solver.proofs.few.+place_left.Given as goal
+
+abbrev pub decreases-place_left : goal.decreases-place_left
+decreases-place_left l = l.depth
+
+abbrev pub decreases-loop-at : goal.decreases-loop-at
+decreases-loop-at l = l.count - l.next
+
+abbrev pub invariant-loop-at : goal.invariant-loop-at
+invariant-loop-at l = record {
+  none : (a : ℕ → ℕ) → Keeps l.domains a
+      → Solves l.question.numbers.now.tables l.question.taken.now l.question.atoms.now l.question.known.now a
+      → (p : ℕ) → p < l.next → ¬ (IsImage l.question.numbers.now.tables l.question.taken.now a l.atom p);
+  next : l.next ≤ l.count;
+}
