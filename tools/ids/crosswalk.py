@@ -14,6 +14,7 @@ from clio_tool import Refused
 
 VERSION = 1
 SIGN = 0x636C696F  # application_id: the letters clio
+CACHE = 262144  # KiB of the file that are held in memory
 SHOWN = 300  # letters of an identity that are kept to be read
 
 
@@ -25,6 +26,7 @@ class Crosswalk:
         is_new = not pathlib.Path(path).exists() or pathlib.Path(path).stat().st_size == 0
         try:
             self.base = sqlite3.connect(path, isolation_level=None, timeout=5)
+            self.base.execute(f"PRAGMA cache_size = -{CACHE}")
             self.base.execute("BEGIN IMMEDIATE")
             if is_new:
                 self.make()
@@ -48,6 +50,7 @@ class Crosswalk:
         if self.one("PRAGMA application_id") != SIGN or self.one("PRAGMA user_version") != VERSION:
             raise Refused(f"{self.path} is no crosswalk of this clio-ids")
         self.next = self.one("SELECT number FROM next")
+        self.is_empty = self.next == 1
 
     def one(self, query, *values):
         """The first value of the first row, or None."""
@@ -56,6 +59,8 @@ class Crosswalk:
 
     def found(self, digest):
         """The number of an identity and how sure it was, or None."""
+        if self.is_empty:
+            return None
         return self.base.execute("SELECT number, sureness FROM identity WHERE digest = ?", (digest,)).fetchone()
 
     def has_own_key(self, number):

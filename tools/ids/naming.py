@@ -124,8 +124,9 @@ class Naming:
 
     def keep(self):
         """Keeps all identities with the numbers of their nulls."""
-        changed = ((one.digest, self.numbers[one.null], one.sureness, one.text(self.numbers, self.target)[:SHOWN]) for one in self.identities
-                   if (one.kept, one.kept_sureness) != (self.numbers[one.null], one.sureness))
+        changed = [one for one in self.identities if (one.kept, one.kept_sureness) != (self.numbers[one.null], one.sureness)]
+        changed.sort(key=lambda one: one.digest)  # in the order of the file, which is written faster then
+        changed = ((one.digest, self.numbers[one.null], one.sureness, one.text(self.numbers, self.target)[:SHOWN]) for one in changed)
         self.crosswalk.keep(changed, {self.numbers[one.null] for one in self.identities if one.sureness == OWN_KEY})
 
 

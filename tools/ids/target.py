@@ -31,6 +31,7 @@ class Target:
         self.columns, self.keys = [table.columns for table in tables], [table.keys for table in tables]
         self.rows = [list(read_table(written(table.name), columns)) for table, columns in zip(tables, self.columns)]
         self.rules = written("rules", ".txt").read_text(encoding="utf-8").splitlines()
+        self.names = names_of(self.rules)
         self.values, self.variables, self.terms = {}, {}, None
         self.read_nulls()
         self.nulls = {}
@@ -68,7 +69,7 @@ class Target:
         """What a null is made of: the text of its rule, its variable, and the values of nulls.csv."""
         rule, variable, _ = NULL.fullmatch(null).groups()
         names = self.variables.get("?" + rule, [])
-        return [self.rules[int(rule)], int(variable), [[name, value] for name, value in zip(names, self.values.get(null, ()))]]
+        return [self.names[int(rule)], int(variable), [[name, value] for name, value in zip(names, self.values.get(null, ()))]]
 
     def folded_term(self, null):
         """What a null was made of that was replaced by one of the target."""
@@ -77,11 +78,16 @@ class Target:
         return self.terms.term(null)
 
 
+def names_of(rules):
+    """The texts of rules; one that is there already is told from the others by how many are before it."""
+    return [rule if not rules[:place].count(rule) else f"{rule} // {rules[:place].count(rule)}" for place, rule in enumerate(rules)]
+
+
 class Terms:
     """What the nulls of a run are made of, from the matches of the rules in the source files."""
 
     def __init__(self, rules):
-        self.rules, self.places = rules, {}
+        self.rules, self.names, self.places = rules, names_of(rules), {}
         try:
             mapping, printed = mapping_of(pathlib.Path("mapping.clio").read_bytes())
             if printed != rules:
@@ -102,7 +108,7 @@ class Terms:
         exported, places = self.places[rule]
         if place >= len(places):
             raise Refused(f"out/fold.csv has {null}, and the source has no such match now: {AGAIN}")
-        return [self.rules[rule], variable, [[f"x{number}", "?" + text if text[:1] == "?" else text] for number, text in zip(exported, places[place])]]
+        return [self.names[rule], variable, [[f"x{number}", "?" + text if text[:1] == "?" else text] for number, text in zip(exported, places[place])]]
 
 
 def written(name, ending=".csv"):

@@ -90,6 +90,17 @@ class Ids(Trial):
         self.printed("clio-ids", "ids.db")
         self.assertEqual(self.customers(), before)
 
+    def test_equal_rules(self):
+        """Two rules with one text make two things."""
+        mapping = "mapping 1; source { set a { x; } } target { set t { id, x; key (id); } } " + "rule a(x) where y = trim(x) -> t(i, y);" * 2
+        self.exchange(mapping, a=[["x"], ["p"]])
+        self.printed("clio-ids", "ids.db")
+        before = self.table("t", ["id", "x"])
+        self.exchange(mapping, a=[["x"], ["o"], ["p"]])
+        self.printed("clio-ids", "ids.db")
+        self.assertEqual([row for row in self.table("t", ["id", "x"]) if row[1] == "p"], before)
+        self.assertEqual(len({row[0] for row in self.table("t", ["id", "x"])}), 4)
+
     def test_twice(self):
         self.sales(["1", "ann", ""])
         self.printed("clio-ids", "ids.db")
@@ -228,7 +239,7 @@ class Grown(unittest.TestCase):
                 for variable in variables:
                     value = found.chase.value((rule, variable, place))
                     if isinstance(value, tuple):
-                        things[printed[rule], variable, texts] = naming.numbers["?%d.%d.%d" % value]
+                        things[printed[rule], printed[:rule].count(printed[rule]), variable, texts] = naming.numbers["?%d.%d.%d" % value]
         return things
 
 
