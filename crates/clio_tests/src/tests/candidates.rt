@@ -107,6 +107,7 @@ fn said(alloc: Global, mapping: MappingText) -> Result<String, AllocError> {
         source,
         target,
         lines,
+        conditions: _,
         rules: _,
     } = mapping;
     let source = schema(alloc, source)?;

@@ -1,5 +1,5 @@
 // Runs of the plain and of the rewritten script of mappings.
-ghost use Rattle.std.specs.Prelude.{◌≡◌, ◌<◌, ◌-◌, ◌^◌, IfOk, length};
+ghost use Rattle.std.specs.Prelude.{◌≡◌, ◌<◌, ◌-◌, ◌^◌, [], IfOk, length};
 ghost use Rattle.dx_funcs.specs.Offers.{IsListed};
 ghost use Rattle.dx_funcs.specs.Serving.{Serves, offered};
 ghost use Rattle.dx_funcs.specs.Shipped.{shipped_apply, shipped_conversions};
@@ -11,7 +11,7 @@ ghost use Rattle.clio_accept.specs.Laws.{MappingFits};
 
 use clio_accept::{AcceptFault, Mapping, accept};
 use dx_eval::{EvalFault, Made, eval};
-use dx_funcs::{Host, Meaning, Shipped, convert, shipped_list};
+use dx_funcs::{Host, Meaning, Shipped, Tests, convert, shipped_list};
 use dx_instance::{Fact, Instance, Row, value_read, value_text};
 use dx_ports::{Count, Items, Limit, Text};
 use dx_schema::Schema;
@@ -268,19 +268,21 @@ fn case_of(text: &str) -> Option<Case<'_>> {
     })
 }
 
-/// The mapping of a text, whose rules fit.
+/// The mapping of a text without conditions, whose rules fit.
 fn accepted<F: Fn(u32, &Items<Text>) -> Result<Text, AllocError>, M: Meaning>(
     alloc: Global,
     text: &str,
     host: &Host<F, M>,
 ) -> Result<Mapping, AcceptFault>
-    ensures { IfOk result (MappingFits (offered host.now)) }
+    ensures { IfOk result (MappingFits (offered host.now) []) }
 {
     let bytes = text.as_bytes();
     if bytes.len() > 100_000 {
         return Err(AcceptFault::Memory);
     }
-    accept(alloc, bytes, host)
+    let no_test = |_code: u32, _text: &Text| -> Result<bool, AllocError> { Ok(false) };
+    let tests: Tests<_, M> = Tests::build(Items::new(alloc), no_test);
+    accept(alloc, bytes, host, &tests)
 }
 
 /// The row of the texts of its values with `|` between them.
@@ -437,7 +439,7 @@ fn plain_passes<F: Fn(u32, &Items<Text>) -> Result<Text, AllocError>, M: Meaning
     host: &Host<F, M>,
 ) -> Result<bool, AllocError>
     requires serves { Serves F.Fn M.apply host.now }
-    requires fits { MappingFits (offered host.now) mapping.now }
+    requires fits { MappingFits (offered host.now) [] mapping.now }
     requires widths { widths rows.now ≡ schema_widths mapping.now.source }
 {
     let rules = mapping.rules.items();
@@ -454,7 +456,7 @@ fn rewritten_passes<F: Fn(u32, &Items<Text>) -> Result<Text, AllocError>, M: Mea
     host: &Host<F, M>,
 ) -> Result<bool, AllocError>
     requires serves { Serves F.Fn M.apply host.now }
-    requires fits { MappingFits (offered host.now) mapping.now }
+    requires fits { MappingFits (offered host.now) [] mapping.now }
     requires widths { widths rows.now ≡ schema_widths mapping.now.source }
 {
     let rules = mapping.rules.items();

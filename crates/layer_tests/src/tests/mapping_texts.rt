@@ -16,8 +16,9 @@ pub fn scanned(alloc: Global, text: &str) -> Result<String, AllocError> {
     format!(in alloc; "{} {}", found.lexemes.len(), found.stop.is_some())
 }
 
-/// A text with all that it may have, and the lines and the rules that it says; a text that is cut in a set at depth 17, whose word
-/// stands after 20 bytes and 16 times 11.
+/// A text with all that it may have in version 1, and the lines and the rules that it says; a text that is cut in a set at depth 17,
+/// whose word stands after 20 bytes and 16 times 11; a text of version 2 with conditions, two of version 1 with what version 2 alone has,
+/// and one of a version that there isn't.
 pub const TEXTS: &str = "mapping 1; // all that a text may have
 source { set a { x, y; key (x); set b { w; } ref (y) -> c (z); } set c { z; } }
 target { set t { u, v; } }
@@ -37,20 +38,38 @@ name: \"p\", place: 179 }] } }] }, derived: Items { items: [DerivedText { name: 
 call_place: 192, args: Items { items: [Name { name: \"p\", place: 194 }, Name { name: \"q\", place: 197 }] } }] }, \
 conclusion: Items { items: [AtomText { set: \"t\", place: 203, cells: Items { items: [Name { name: \"r\", place: 205 \
 }, Literal(\"\")] } }, AtomText { set: \"t\", place: 213, cells: Items { items: [Name { name: \"q\", place: 215 }, \
-Name { name: \"n\", place: 218 }] } }] } }]
+Name { name: \"n\", place: 218 }] } }] } }] []
 
 mapping 1; source { set a { x; set a { x; set a { x; set a { x; set a { x; set a { x; set a { x; \
 set a { x; set a { x; set a { x; set a { x; set a { x; set a { x; set a { x; set a { x; set a { x; set a { x;
-=> TooDeep { place: 196 }";
+=> TooDeep { place: 196 }
 
-/// The version, the lines and the rules of a mapping text, or its fault.
+mapping 2; source { set a { x, y; ref (y) -> b (z) optional; } set b { z; } } target { set t { u; } }
+only a.x filled; line a.x -> t.u; only b.z numeric;
+=> 2 [LineText { source: Column(PlaceText { set: \"a\", set_place: 124, column: \"x\", column_place: 126 }), \
+target: PlaceText { set: \"t\", set_place: 131, column: \"u\", column_place: 133 } }] [] [OnlyText { place: \
+PlaceText { set: \"a\", set_place: 107, column: \"x\", column_place: 109 }, test: \"filled\", test_place: 111 \
+}, OnlyText { place: PlaceText { set: \"b\", set_place: 141, column: \"z\", column_place: 143 }, test: \
+\"numeric\", test_place: 145 }]
+
+mapping 1; source { set a { x; ref (x) -> b (y) optional; } set b { y; } } target { }
+=> At { place: 48, kind: Expected }
+
+mapping 1; source { set a { x; } } target { } only a.x filled;
+=> At { place: 46, kind: Expected }
+
+mapping 3;
+=> At { place: 8, kind: Expected }";
+
+/// The version, the lines, the rules and the conditions of a mapping text, or its fault.
 pub fn read(alloc: Global, text: &str) -> Result<String, AllocError> {
     match read_mapping(alloc, text.as_bytes()) {
         Ok(said) => format!(in alloc;
-            "{} {:?} {:?}",
+            "{} {:?} {:?} {:?}",
             said.version,
             said.lines.items(),
-            said.rules.items()
+            said.rules.items(),
+            said.conditions.items()
         ),
         Err(fault) => format!(in alloc; "{fault:?}"),
     }
@@ -164,6 +183,45 @@ target {
 set t {
   u, v;
 }
+}
+
+mapping 2;source{set order{number,customer;ref(customer)->customer(name)optional;}set customer{name;}}target{}
+=> mapping 2;
+source {
+set order {
+  number, customer;
+  ref (customer) -> customer (name) optional;
+}
+set customer {
+  name;
+}
+}
+target {
+}
+
+mapping 2;
+source {
+set order {
+  number, customer;
+  ref (customer) -> customer (name) optional;
+}
+set customer {
+  name;
+}
+}
+target {
+}
+=> mapping 2;
+source {
+set order {
+  number, customer;
+  ref (customer) -> customer (name) optional;
+}
+set customer {
+  name;
+}
+}
+target {
 }";
 
 /// A mapping text with the sets of one as they are printed.
@@ -173,7 +231,8 @@ pub fn printed(alloc: Global, text: &str) -> Result<String, AllocError> {
     };
     let source = print_trees(alloc, said.source.items())?;
     let target = print_trees(alloc, said.target.items())?;
-    format!(in alloc; "mapping 1;\nsource {{\n{source}}}\ntarget {{\n{target}}}")
+    let version = said.version;
+    format!(in alloc; "mapping {version};\nsource {{\n{source}}}\ntarget {{\n{target}}}")
 }
 
 /// Texts with their tokens or their first fault.

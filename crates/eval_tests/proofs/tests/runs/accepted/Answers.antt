@@ -1,7 +1,8 @@
 use Rattle.std.proofs.Common.{arith}
+use Rattle.dx_funcs.specs.Judging.{tested}
 use Rattle.dx_funcs.specs.Serving.{offered}
 use Rattle.clio_accept.proofs.Accepted.{fits_of}
 use Rattle.eval_tests.proofs.tests.runs.accepted.Goals as goal
 
 pub returns : goal.returns
-returns g c = fits_of (offered c.args.host.now) c.as_bytes-bytes.result.now c.accept.result (omega arith) c.accept.ensures
+returns g c = rw c.build.ensures.tested at (fits_of (offered c.args.host.now) (tested c.build-tests.result) c.as_bytes-bytes.result.now c.accept.result (omega arith) c.accept.ensures)
