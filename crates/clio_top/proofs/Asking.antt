@@ -3,12 +3,13 @@ use Rattle.std.proofs.Common.{◌≡◌, ℕ, List, [], ◌∷◌, ◌++◌, ref
 use Rattle.dx_schema.specs.Forest.{Forest}
 use Rattle.dx_stages.specs.Worlds.{World}
 use Rattle.dx_stages.specs.Stages.{Stage, each}
-use Rattle.clio_source.specs.Source.{at_start, file_at, reading, roots, source_stages}
+use Rattle.dx_used.specs.Passing.{Passes}
+use Rattle.clio_source.specs.Source.{at_start, file_at, reading, roots, source_stages, Wanted}
 use Rattle.clio_source.proofs.Roots.{asks_own}
 use Rattle.clio_top.specs.declared.command.Command.{Command}
 use Rattle.clio_top.specs.declared.command.Command.TheVariants.{Demonstrating, Exchanging, Showing}
 use Rattle.clio_top.specs.Words.{or_usage, says}
-use Rattle.clio_top.specs.Running.{Program}
+use Rattle.clio_top.specs.Running.{Program, wanted}
 use Rattle.clio_top.specs.Commands.{run_stages, stages_of}
 use Rattle.clio_top.specs.Promises.{AskedInOrder, AsksFor, IsNextFile}
 use Rattle.clio_top.proofs.Names.{mapping_asks}
@@ -47,8 +48,9 @@ asks_after f (x ∷ before) one after c a b n (d, p, passed) h = inr (d, p, asks
 
 -- ---- the source
 
-next_file : (c : World) (f : Forest) (n : List ℕ) → source_stages.asks c f n → IsNextFile c f n
-next_file c f n (inl h) =
+next_file : (passes : Passes) (c : World) (w : Wanted) (n : List ℕ) → (source_stages passes).asks c w n → IsNextFile c w.schema n
+next_file passes c w n (inl h) =
+    let f = w.schema in
     let r = one_asks (reading f) (roots f) c at_start n h in record {
       before = r.before;
       root = r.one;
@@ -58,10 +60,11 @@ next_file c f n (inl h) =
       passed = r.passed;
       is = asks_own f r.one c r.given n r.asks;
     }
-next_file c f n (inr h) = absurd h.2
+next_file passes c w n (inr h) = absurd h.2
 
-asks_next : (c : World) (f : Forest) (n : List ℕ) → IsNextFile c f n → source_stages.asks c f n
-asks_next c f n h =
+asks_next : (passes : Passes) (c : World) (w : Wanted) (n : List ℕ) → IsNextFile c w.schema n → (source_stages passes).asks c w n
+asks_next passes c w n h =
+    let f = w.schema in
     inl (subst (λ xs. (each (reading f) xs).asks c at_start n) (sym h.roots_are)
     (asks_after (reading f) h.before h.root h.after c at_start h.read n h.passed (inl h.is)))
 
@@ -69,14 +72,14 @@ asks_next c f n h =
 
 asked_by : (P : Program) (c : World) (k : Command) (n : List ℕ) → (stages_of P k).asks c (tt {0}) n → AsksFor P c k n
 asked_by P c (Exchanging mode nested) n (inl h) = inl (mapping_asks P c tt n h)
-asked_by P c (Exchanging mode nested) n (inr (M, m, inl h)) = inr (M, m, next_file c M.source n h)
+asked_by P c (Exchanging mode nested) n (inr (M, m, inl h)) = inr (M, m, next_file P.passes c (wanted M) n h)
 asked_by P c (Exchanging mode nested) n (inr (M, m, inr h)) = absurd h.2
 asked_by P c (Showing mode) n h = mapping_asks P c tt n h
 asked_by P c (Demonstrating number mode) n h = h
 
 asks_it : (P : Program) (c : World) (k : Command) (n : List ℕ) → AsksFor P c k n → (stages_of P k).asks c (tt {0}) n
 asks_it P c (Exchanging mode nested) n (inl h) = inl (inl h)
-asks_it P c (Exchanging mode nested) n (inr (M, m, h)) = inr (M, m, inl (asks_next c M.source n h))
+asks_it P c (Exchanging mode nested) n (inr (M, m, h)) = inr (M, m, inl (asks_next P.passes c (wanted M) n h))
 asks_it P c (Showing mode) n h = inl h
 asks_it P c (Demonstrating number mode) n h = h
 

@@ -67,8 +67,8 @@ mapping_never P c e (inl (inl (none, is))) = ap is_clash is
 mapping_never P c e (inl (inr (bytes, held, many, is))) = ap is_clash is
 mapping_never P c e (inr (text, there, (k, refused, is))) = ap is_clash is ∙ of_mapping k
 
-rows_never : (c : World) (M : Mapping) (e : Refusal) → rows_stages.refuses c M e → is_clash e ≡ false
-rows_never c M e (k, refused, is) = ap is_clash is ∙ of_source k
+rows_never : (P : Program) (c : World) (M : Mapping) (e : Refusal) → (rows_stages P).refuses c M e → is_clash e ≡ false
+rows_never P c M e (k, refused, is) = ap is_clash is ∙ of_source k
 
 usage_never : (words : List (List ℕ)) (e : Refusal) → or_usage (says words) ≡ Err e → is_clash e ≡ false
 unfolding is_clash
@@ -108,7 +108,7 @@ exchange_clashes : (P : Program) (mode : Mode) (c : World) (k : Clash) (table : 
 unfolding is_clash
 exchange_clashes P mode c k table key column (inl m) = absurd (true≢false (mapping_never P c (refusals.Clash k table key column) m))
 exchange_clashes P mode c k table key column (inr (M, (text, there, accepted), inl r)) =
-    absurd (true≢false (rows_never c M (refusals.Clash k table key column) r))
+    absurd (true≢false (rows_never P c M (refusals.Clash k table key column) r))
 exchange_clashes P mode c k table key column (inr (M, (text, there, accepted), inr (pair, (I, source, pair_is), (fault, none, is)))) = record {
   text = text;
   held = there.0;
@@ -138,7 +138,7 @@ of_texts P c words before after k table key column (inr (d, w, r), left) = clash
 clash_there : (P : Program) (mode : Mode) (c : World) (h : HasNoSolutionIn P c)
     → (k : Clash) × (exchanging P.apply).refuses c (asked mode (h.mapping, h.rows)) (exchange_faults.Clash k)
 clash_there P mode c h =
-    let fits = accepted_fits P.list c h.text h.mapping (is_small h.text h.few) h.accepted in
+    let fits = accepted_fits P.list P.tests c h.text h.mapping (is_small h.text h.few) h.accepted in
     let d = exchange_or_none P.apply P.list (model_tables h.mapping.source) in
     of (d.either c (asked mode (h.mapping, h.rows)) (rules_fit P h.mapping fits))
   where

@@ -49,7 +49,7 @@ use Rattle.clio_top.proofs.Promised.{demo_exists, plan_exists}
 exchange_there : (P : Program) (mode : Mode) (c : World) (h : HasSolutionIn P c)
     → (e : Exchange) × IsExchange P.apply (asked mode (h.mapping, h.rows)) e
 exchange_there P mode c h =
-    let fits = accepted_fits P.list c h.text h.mapping (is_small h.text h.few) h.accepted in
+    let fits = accepted_fits P.list P.tests c h.text h.mapping (is_small h.text h.few) h.accepted in
     let d = exchange_or_none P.apply P.list (model_tables h.mapping.source) in
     of (d.either c (asked mode (h.mapping, h.rows)) (rules_fit P h.mapping fits))
   where
@@ -68,7 +68,7 @@ exchange_passed P mode c h e x = (h.mapping, (h.text, (h.held, h.few), h.accepte
 pub planned : SolutionIsPlanned
 planned P c words mode nested w h =
     let x = exchange_there P mode c h in
-    let fits = accepted_fits P.list c h.text h.mapping (is_small h.text h.few) h.accepted in
+    let fits = accepted_fits P.list P.tests c h.text h.mapping (is_small h.text h.few) h.accepted in
     let plan = plan_exists P mode nested h.mapping x.0 (record { fits = fits; rows = h.rows; exchange = x.1 }) in
     let passed = exchange_passed P mode c h x.0 x.1 in
     (x.0, (plan.0, (Exchanging mode nested, ap or_usage w, ((h.mapping, x.0), passed, plan.1)), ap (λ (p : Planned Done). p.done) plan.1.2))

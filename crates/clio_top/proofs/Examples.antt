@@ -56,7 +56,7 @@ use Rattle.clio_accept.specs.Mapping.{AreRulesOf, IsReserved, NoneReserved, froz
 use Rattle.clio_source.specs.Source.{IsStored, Read, SayFacts, Says, at_start, data_bytes, fetching, file_at, flat, loading, reading, source_cells, source_stages}
 use Rattle.clio_ending.specs.declared.ending.Done.TheVariants.{Exchanged}
 use Rattle.clio_top.specs.Completing.{HasSolutionIn, IsPlanned, small_world}
-use Rattle.clio_top.specs.Running.{Program, target_cells, text_bytes}
+use Rattle.clio_top.specs.Running.{Program, target_cells, text_bytes, wanted}
 use Rattle.clio_top.proofs.Completing.{planned}
 
 -- ---- what is held
@@ -211,7 +211,7 @@ abbrev line : LineText
 line = record { source = sources.Column (place_text t24 t26); target = place_text t28 t30 }
 
 abbrev said : MappingText
-said = record { version = 1; source = emps; target = persons; lines = line ∷ []; rules = [] }
+said = record { version = 1; source = emps; target = persons; lines = line ∷ []; conditions = []; rules = [] }
 
 abbrev emp_tree : Tree
 emp_tree = tree_of (codes "emp") (codes "name" ∷ []) []
@@ -222,10 +222,10 @@ person_tree = tree_of (codes "person") (codes "name" ∷ codes "phone" ∷ []) [
 emp_head : SpellsHead (codes "emp") (codes "name" ∷ []) (t5 ∷ t6 ∷ t7 ∷ t8 ∷ t9 ∷ [])
 emp_head = spelling.head_of t5 t6 t7 t9 refl refl refl (spelling.parted (spelling.name_of t8 refl) no_more) refl
 
-emp_set : SpellsSet deepest emp_tree (t5 ∷ t6 ∷ t7 ∷ t8 ∷ t9 ∷ t10 ∷ [])
+emp_set : SpellsSet 1 deepest emp_tree (t5 ∷ t6 ∷ t7 ∷ t8 ∷ t9 ∷ t10 ∷ [])
 emp_set = spelling.set_of {cs = []} t10 emp_head spelling.no_clause refl
 
-emp_side : SpellsSide (codes "source") deepest emps (t3 ∷ t4 ∷ t5 ∷ t6 ∷ t7 ∷ t8 ∷ t9 ∷ t10 ∷ t11 ∷ [])
+emp_side : SpellsSide 1 (codes "source") deepest emps (t3 ∷ t4 ∷ t5 ∷ t6 ∷ t7 ∷ t8 ∷ t9 ∷ t10 ∷ t11 ∷ [])
 emp_side = spelling.side_of {trees = emp_tree ∷ []} t3 t4 t11 refl refl (one_more emp_set no_more) refl
 
 person_head : SpellsHead (codes "person") (codes "name" ∷ codes "phone" ∷ []) (t14 ∷ t15 ∷ t16 ∷ t17 ∷ t18 ∷ t19 ∷ t20 ∷ [])
@@ -233,10 +233,10 @@ person_head =
     spelling.head_of t14 t15 t16 t20 refl refl refl
     (spelling.parted (spelling.name_of t17 refl) (one_more (spelling.comma_then t18 refl (spelling.name_of t19 refl)) no_more)) refl
 
-person_set : SpellsSet deepest person_tree (t14 ∷ t15 ∷ t16 ∷ t17 ∷ t18 ∷ t19 ∷ t20 ∷ t21 ∷ [])
+person_set : SpellsSet 1 deepest person_tree (t14 ∷ t15 ∷ t16 ∷ t17 ∷ t18 ∷ t19 ∷ t20 ∷ t21 ∷ [])
 person_set = spelling.set_of {cs = []} t21 person_head spelling.no_clause refl
 
-person_side : SpellsSide (codes "target") deepest persons (t12 ∷ t13 ∷ t14 ∷ t15 ∷ t16 ∷ t17 ∷ t18 ∷ t19 ∷ t20 ∷ t21 ∷ t22 ∷ [])
+person_side : SpellsSide 1 (codes "target") deepest persons (t12 ∷ t13 ∷ t14 ∷ t15 ∷ t16 ∷ t17 ∷ t18 ∷ t19 ∷ t20 ∷ t21 ∷ t22 ∷ [])
 person_side = spelling.side_of {trees = person_tree ∷ []} t12 t13 t22 refl refl (one_more person_set no_more) refl
 
 from_place : SpellsPlace (place_text t24 t26) (t24 ∷ t25 ∷ t26 ∷ [])
@@ -250,7 +250,7 @@ line_spelled = spelling.line_of t23 t27 t31 refl (spelling.a_column from_place) 
 
 spelled : SpellsMapping deepest said tokens
 spelled =
-    spelling.mapping_of {rest = line_item line ∷ []} t0 t1 t2 refl refl refl emp_side person_side (one_more (spelling.a_line line_spelled) no_more)
+    spelling.mapping_of {rest = line_item line ∷ []} t0 t1 t2 refl (spelling.version_one refl) refl emp_side person_side (one_more (spelling.a_line line_spelled) no_more)
 
 is_text : IsMappingText text said
 is_text = record {
@@ -312,7 +312,7 @@ abbrev rule : Rule
 rule = record { premise = premise_atom ∷ []; derived = []; conclusion = conclusion_atom ∷ [] }
 
 abbrev pub mapping : Mapping
-mapping = record { source = emps; target = persons; rules = rule ∷ [] }
+mapping = record { source = emps; target = persons; conditions = []; rules = rule ∷ [] }
 
 rules_are : (P : Program) → AreRulesOf P.list emps persons (line ∷ []) [] (rule ∷ [])
 rules_are P = record { closed = []; closings = tt; are = refl }
@@ -353,7 +353,7 @@ rule_stays convert g =
 is_left : IsLeft (rule ∷ []) (rule ∷ [])
 is_left convert = ([], refl, inr (rule_stays convert, refl))
 
-taken : (P : Program) → (taking P.list).passes world (between_of said) (rule ∷ [])
+taken : (P : Program) → (taking P.list P.tests).passes world (between_of said) (rule ∷ [])
 taken P =
     let b = between_of said in (
       b,
@@ -367,13 +367,17 @@ taken P =
           (
             b,
             (refl, refl),
-            (rule ∷ [], rules_are P, (rule ∷ [], (omega arith, refl), (rule ∷ [], (not_tested, refl), is_left))),
+            (
+              b,
+              (refl, refl),
+              (rule ∷ [], rules_are P, (rule ∷ [], (omega arith, refl), (rule ∷ [], (not_tested, refl), is_left))),
+            ),
           ),
         ),
       ),
     )
 
-accepted : (P : Program) → (accepting P.list).passes world text mapping
+accepted : (P : Program) → (accepting P.list P.tests).passes world text mapping
 accepted P = (said, is_text, (said, (emps_are, refl), (said, (persons_are, refl), (said, (names_free, refl), (rule ∷ [], taken P, refl)))))
 
 -- ---- the rows
@@ -440,8 +444,8 @@ rows_ascend zero = ((λ x m. less x m), ((λ x m. elim m [ ]), tt))
     less x (there m) = elim m [ ]
 rows_ascend (suc t) = tt
 
-is_source : source_stages.passes world emps rows
-is_source = (read, (read, was_read, refl), record { widths_are = refl; ascend = rows_ascend; exact = ((λ x m. m), (λ x m. m)) })
+is_source : (P : Program) → (source_stages P.passes).passes world (wanted mapping) rows
+is_source P = (read, (read, was_read, refl), record { widths_are = refl; ascend = rows_ascend; exact = ((λ x m. m), (λ x m. m)) })
 
 -- ---- the matches
 
@@ -544,7 +548,7 @@ has_solution P = record {
   mapping = mapping;
   accepted = accepted P;
   rows = rows;
-  source = is_source;
+  source = is_source P;
   within = few_cells P.apply;
   solution = solution;
   solves = solves P.apply;

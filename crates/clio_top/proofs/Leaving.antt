@@ -70,7 +70,7 @@ first_by P c (Showing mode) p count before after (M, (text, there, accepted), pl
       held = there.0;
       mapping = M;
       accepted = accepted;
-      none = none_put (shown_plan P mode M).text count before after all;
+      none = none_put (shown_plan P.list mode M).text count before after all;
       written = all;
     }
 first_by P c (Demonstrating number mode) p count before after (q, x, (ns, are, plan)) wrote =

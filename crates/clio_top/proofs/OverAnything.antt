@@ -122,7 +122,7 @@ showing_by P c words (Showing mode) p before after w (M, (text, there, accepted)
     held = there.0;
     mapping = M;
     accepted = accepted;
-    said = said_alone (shown_plan P mode M).text before after (subst (λ (t : Planned Done). WroteAll t.files t.text before after) plan wrote);
+    said = said_alone (shown_plan P.list mode M).text before after (subst (λ (t : Planned Done). WroteAll t.files t.text before after) plan wrote);
   },
 )
 showing_by P c words (Demonstrating number mode) p before after w (q, x, (ns, are, plan)) is wrote =

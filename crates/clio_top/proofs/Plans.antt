@@ -35,7 +35,8 @@ use Rattle.dx_stages.proofs.Running.{ran_by, ran_into, ran_into_stop, ran_memory
 use Rattle.clio_accept.specs.declared.mapping.Mapping.{Mapping}
 use Rattle.clio_accept.specs.Laws.{MappingFits}
 use Rattle.clio_source.specs.declared.fault.SourceRefusal.{SourceRefusal}
-use Rattle.clio_source.specs.Source.{source_stages}
+use Rattle.dx_used.specs.Passing.{Passes}
+use Rattle.clio_source.specs.Source.{Wanted, source_stages}
 use Rattle.clio_files.specs.Files.{FitsFiles}
 use Rattle.clio_files.specs.Sheets.{rule_of, texts_of}
 use Rattle.clio_files.specs.Texts.{FitTexts}
@@ -44,7 +45,7 @@ use Rattle.clio_ending.specs.declared.ending.Done.{Done}
 use Rattle.clio_ending.specs.declared.ending.Refusal.{Refusal}
 use Rattle.clio_ending.specs.declared.ending.Refusal.TheVariants as refusals
 use Rattle.clio_ending.specs.Ending.{source_refusal}
-use Rattle.clio_top.specs.Running.{Filled, Program, asked, exchanges, mapping_stages, named_stage, rows_stages, show_stages, shown_plan, target_stages}
+use Rattle.clio_top.specs.Running.{Filled, Program, asked, exchanges, mapping_stages, named_stage, rows_stages, show_stages, shown_plan, target_stages, wanted}
 use Rattle.clio_top.specs.Commands.{run_stages, saying_words, stages_of}
 use Rattle.clio_top.specs.Words.{or_usage, says}
 use Rattle.clio_top.proofs.Names.{apart}
@@ -90,10 +91,10 @@ no_marks f h t m =
 
 -- ---- the exchange
 
-pub rules_fit : (P : Program) (M : Mapping) → MappingFits P.list M → Fits P.list M.rules (model_tables M.source) (model_tables M.target)
+pub rules_fit : (P : Program) (M : Mapping) → MappingFits P.list P.tests M → Fits P.list M.rules (model_tables M.source) (model_tables M.target)
 rules_fit P M h = let few = h.few in record { few = omega (arith, few); listed = h.listed; fit = h.fit; closed = h.closed }
 
-pub texts_fit : (P : Program) (M : Mapping) → MappingFits P.list M → FitTexts M.source M.target P.list M.rules
+pub texts_fit : (P : Program) (M : Mapping) → MappingFits P.list P.tests M → FitTexts M.source M.target P.list M.rules
 texts_fit P M h = let few = h.few in record { few = omega (arith, few); fit = h.fit; listed = h.listed }
 
 -- the tuple of the place of a null has a text for each exported variable of its rule
@@ -109,7 +110,7 @@ tuple_long R rows n fit one p = at R rows n.rule fit one p.rule p.place
     at (d ∷ R) (ts ∷ rows) zero fit one h p = fit.0 _ (in_at ts n.row [] p)
     at (d ∷ R) (ts ∷ rows) (suc i) fit one h p = at R rows i fit.1 (omega (arith, one)) (omega (arith, h)) p
 
-pub files_fit : (P : Program) (mode : Mode) (M : Mapping) (I : List TableRows) (e : Exchange) → MappingFits P.list M → IsExchange P.apply (asked mode (M, I)) e → FitsFiles M.rules M.target e
+pub files_fit : (P : Program) (mode : Mode) (M : Mapping) (I : List TableRows) (e : Exchange) → MappingFits P.list P.tests M → IsExchange P.apply (asked mode (M, I)) e → FitsFiles M.rules M.target e
 files_fit P mode M I e h x = record {
   widths_are = x.widths_are ∙ model_widths M.target;
   no_marks = no_marks M.target h.target_names;
@@ -124,7 +125,7 @@ files_fit P mode M I e h x = record {
 }
 
 -- each fact of the target has a value
-pub facts_wide : (P : Program) (mode : Mode) (M : Mapping) (I : List TableRows) (e : Exchange) → MappingFits P.list M → IsExchange P.apply (asked mode (M, I)) e → Each (facts e.target) (λ f. 1 ≤ length f.row)
+pub facts_wide : (P : Program) (mode : Mode) (M : Mapping) (I : List TableRows) (e : Exchange) → MappingFits P.list P.tests M → IsExchange P.apply (asked mode (M, I)) e → Each (facts e.target) (λ f. 1 ≤ length f.row)
 facts_wide P mode M I e h x f m =
     let fits = x.universal.solution.fits f m in
     let w = wide (tables_of M.target) f.table (λ t k. ((are_tables M.target h.target.form).each_table t k).some_column) fits.table in
@@ -140,44 +141,41 @@ facts_wide P mode M I e h x f m =
 -- if the mapping text stops the run, it stops the exchange
 pub mapping_stops : (P : Program) (mode : Mode) (e : Stop Refusal) (old new : Told) → Ran (mapping_stages P) (tt {0}) (Err e) old new
     → Ran (exchanges P mode) (tt {0}) (Err e) old new
-mapping_stops P mode e old new x = ran_stop (mapping_stages P) (next rows_stages (target_stages P mode)) (tt {0}) e old new x
+mapping_stops P mode e old new x = ran_stop (mapping_stages P) (next (rows_stages P) (target_stages P mode)) (tt {0}) e old new x
 
 beside : Mapping → List TableRows → Filled
 beside M I = (M, I)
 
-its_source : Mapping → Forest
-its_source M = M.source
-
 pub rows_stop : (P : Program) (mode : Mode) (M : Mapping) (e : Stop Refusal) (old mid new : Told) → Ran (mapping_stages P) (tt {0}) (Ok M) old mid
-    → Ran (saying source_refusal source_stages) M.source (Err e) mid new → Ran (exchanges P mode) (tt {0}) (Err e) old new
-unfolding beside its_source
+    → Ran (saying source_refusal (source_stages P.passes)) (wanted M) (Err e) mid new → Ran (exchanges P mode) (tt {0}) (Err e) old new
+unfolding beside
 rows_stop P mode M e old mid new x y =
-    ran_next (mapping_stages P) (next rows_stages (target_stages P mode)) (tt {0}) M (Err e) old mid new (apart P mode) x
-    (ran_stop rows_stages (target_stages P mode) M e mid new
-    (ran_into_stop beside (over its_source (saying source_refusal source_stages)) M e mid new
-    (ran_over its_source (saying source_refusal source_stages) M (Err e) mid new y)))
+    ran_next (mapping_stages P) (next (rows_stages P) (target_stages P mode)) (tt {0}) M (Err e) old mid new (apart P mode) x
+    (ran_stop (rows_stages P) (target_stages P mode) M e mid new
+    (ran_into_stop beside (over wanted (saying source_refusal (source_stages P.passes))) M e mid new
+    (ran_over wanted (saying source_refusal (source_stages P.passes)) M (Err e) mid new y)))
 
 -- what the exchange of the rows that were read answers
 pub answered : (P : Program) (mode : Mode) (M : Mapping) (I : List TableRows) (q : Result (Mapping × Exchange) (Stop Refusal)) (old mid new : Told)
-    → Ran (mapping_stages P) (tt {0}) (Ok M) old mid → Ran (saying source_refusal source_stages) M.source (Ok I) mid new
+    → Ran (mapping_stages P) (tt {0}) (Ok M) old mid → Ran (saying source_refusal (source_stages P.passes)) (wanted M) (Ok I) mid new
     → Gives (target_stages P mode) (M, I) q → Ran (exchanges P mode) (tt {0}) q old new
-unfolding beside its_source
+unfolding beside
 answered P mode M I q old mid new x y g =
-    ran_next (mapping_stages P) (next rows_stages (target_stages P mode)) (tt {0}) M q old mid new (apart P mode) x
-    (ran_next rows_stages (target_stages P mode) M (M, I) q mid new new (silent_apart rows_stages (target_stages P mode) (λ d b n h. h))
-    (ran_into beside (over its_source (saying source_refusal source_stages)) M I mid new
-    (ran_over its_source (saying source_refusal source_stages) M (Ok I) mid new y))
+    ran_next (mapping_stages P) (next (rows_stages P) (target_stages P mode)) (tt {0}) M q old mid new (apart P mode) x
+    (ran_next (rows_stages P) (target_stages P mode) M (M, I) q mid new new (silent_apart (rows_stages P) (target_stages P mode) (λ d b n h. h))
+    (ran_into beside (over wanted (saying source_refusal (source_stages P.passes))) M I mid new
+    (ran_over wanted (saying source_refusal (source_stages P.passes)) M (Ok I) mid new y))
     (ran_value (target_stages P mode) (M, I) q new g))
 
 -- an exchange that was refused
-pub target_stops : (P : Program) (mode : Mode) (p : Filled) (e : Stop Refusal) → Gives (by (named_stage P mode)) p (Err e)
+pub target_stops : (P : Program) (mode : Mode) (p : Filled) (e : Stop Refusal) → Gives (by (named_stage P.apply mode)) p (Err e)
     → Gives (target_stages P mode) p (Err e)
 target_stops P mode p (stops.Refused e) g = g
 target_stops P mode p (stops.Failed n) g = g
 target_stops P mode p stops.Memory g = g
 
 -- an exchange that was made
-pub target_made : (P : Program) (mode : Mode) (p : Filled) (e : Exchange) → Gives (by (named_stage P mode)) p (Ok e)
+pub target_made : (P : Program) (mode : Mode) (p : Filled) (e : Exchange) → Gives (by (named_stage P.apply mode)) p (Ok e)
     → Gives (target_stages P mode) p (Ok (p.0, e))
 target_made P mode p e g = λ c. (e, g c, refl)
 
@@ -212,31 +210,32 @@ ran_become_none R s a b old new x = ran_become_stop R s a stops.Memory old new (
 
 pub show_stops : (P : Program) (mode : Mode) (e : Stop Refusal) (old new : Told) → Ran (mapping_stages P) (tt {0}) (Err e) old new
     → Ran (show_stages P mode) (tt {0}) (Err e) old new
-show_stops P mode e old new x = ran_into_stop (λ (u : Unit {0}) (M : Mapping). shown_plan P mode M) (mapping_stages P) (tt {0}) e old new x
+show_stops P mode e old new x = ran_into_stop (λ (u : Unit {0}) (M : Mapping). shown_plan P.list mode M) (mapping_stages P) (tt {0}) e old new x
 
-pub shown : (P : Program) (mode : Mode) (M : Mapping) (p : Planned Done) (old new : Told) → p ≡ shown_plan P mode M
+pub shown : (P : Program) (mode : Mode) (M : Mapping) (p : Planned Done) (old new : Told) → p ≡ shown_plan P.list mode M
     → Ran (mapping_stages P) (tt {0}) (Ok M) old new → Ran (show_stages P mode) (tt {0}) (Ok p) old new
 shown P mode M p old new is x =
     subst (λ v. Ran (show_stages P mode) (tt {0}) (Ok v) old new) (sym is)
-    (ran_into (λ (u : Unit {0}) (M : Mapping). shown_plan P mode M) (mapping_stages P) (tt {0}) M old new x)
+    (ran_into (λ (u : Unit {0}) (M : Mapping). shown_plan P.list mode M) (mapping_stages P) (tt {0}) M old new x)
 
 -- what memory could not make of a mapping that was read
 pub shown_none : (P : Program) (mode : Mode) (M : Mapping) (old new : Told) → Ran (mapping_stages P) (tt {0}) (Ok M) old new
     → Ran (show_stages P mode) (tt {0}) (Err stops.Memory) old new
 shown_none P mode M old new x =
-    ran_memory (show_stages P mode) (tt {0}) (shown_plan P mode M) old new (shown P mode M (shown_plan P mode M) old new refl x)
+    ran_memory (show_stages P mode) (tt {0}) (shown_plan P.list mode M) old new (shown P mode M (shown_plan P.list mode M) old new refl x)
 
 -- ---- the rows
 
 -- why no rows were read, said as a refusal of the run
-pub rows_said : (f : Forest) (r : Result (List TableRows) (Stop SourceRefusal)) (e : Stop SourceRefusal) (k : Stop Refusal) (old new : Told) → r ≡ Err e
-    → ◌≡◌ {A = Result (List TableRows) (Stop Refusal)} (Err k) (said source_refusal (Err e)) → Ran source_stages f r old new
-    → Ran (saying source_refusal source_stages) f (Err k) old new
-rows_said f r e k old new is k_is x = ran_saying source_refusal source_stages f r (Err k) old new (k_is ∙ sym (ap (said source_refusal) is)) x
+pub rows_said : (passes : Passes) (w : Wanted) (r : Result (List TableRows) (Stop SourceRefusal)) (e : Stop SourceRefusal) (k : Stop Refusal) (old new : Told) → r ≡ Err e
+    → ◌≡◌ {A = Result (List TableRows) (Stop Refusal)} (Err k) (said source_refusal (Err e)) → Ran (source_stages passes) w r old new
+    → Ran (saying source_refusal (source_stages passes)) w (Err k) old new
+rows_said passes w r e k old new is k_is x =
+    ran_saying source_refusal (source_stages passes) w r (Err k) old new (k_is ∙ sym (ap (said source_refusal) is)) x
 
 -- the rows that were read have the tables of the schema
-pub rows_widths : (f : Forest) (I : List TableRows) (old new : Told) → Ran (saying source_refusal source_stages) f (Ok I) old new → widths I ≡ schema_widths f
-rows_widths f I old new x = let p = ran_passes (saying source_refusal source_stages) f I old new x in p.1.2.widths_are
+pub rows_widths : (passes : Passes) (w : Wanted) (I : List TableRows) (old new : Told) → Ran (saying source_refusal (source_stages passes)) w (Ok I) old new → widths I ≡ schema_widths w.schema
+rows_widths passes w I old new x = let p = ran_passes (saying source_refusal (source_stages passes)) w I old new x in p.1.2.widths_are
 
 -- ---- the words
 

@@ -36,7 +36,7 @@ use Rattle.clio_ending.specs.declared.ending.Refusal.{Refusal}
 use Rattle.clio_ending.specs.declared.ending.Refusal.TheVariants as refusals
 use Rattle.clio_ending.specs.Ending.{AreAlike, exchange_refusal, mapping_refusal, source_refusal}
 use Rattle.clio_top.specs.Promises.{RefusedOrPlanned}
-use Rattle.clio_top.specs.Running.{Filled, IsPlanOf, Program, absent, asked, exchange_stages, exchanges, mapping_file, mapping_stages, named_stage, rows_stages, show_stages, shown_plan, target_stages, text_bytes, too_long}
+use Rattle.clio_top.specs.Running.{Filled, IsPlanOf, Program, absent, asked, exchange_stages, exchanges, mapping_file, mapping_stages, named_stage, rows_stages, show_stages, shown_plan, target_stages, text_bytes, too_long, wanted}
 use Rattle.clio_top.specs.Demo.{IsDemoPlan, demo_stages, demo_world, inside}
 use Rattle.clio_top.specs.Commands.{saying_words, stages_of}
 use Rattle.clio_top.specs.Words.{or_usage, says}
@@ -56,34 +56,32 @@ same_alike d e is = subst (AreAlike d) is (alike d)
 -- ---- the mapping
 
 mapping_one : (P : Program) → PassesOne (mapping_stages P)
-mapping_one P = next_one mapping_file (saying mapping_refusal (accepting P.list)) (file_one (Unit {0}) (codes "mapping.clio") text_bytes absent too_long) (accepting_one P.list)
+mapping_one P = next_one mapping_file (saying mapping_refusal (accepting P.list P.tests)) (file_one (Unit {0}) (codes "mapping.clio") text_bytes absent too_long) (accepting_one P.list P.tests)
 
 mapping_decided : (P : Program) → IsDecided AreAlike Any (mapping_stages P)
 mapping_decided P =
-    next_decided AreAlike Any Any mapping_file (saying mapping_refusal (accepting P.list)) (file_one (Unit {0}) (codes "mapping.clio") text_bytes absent too_long) (λ c a b g p. tt)
+    next_decided AreAlike Any Any mapping_file (saying mapping_refusal (accepting P.list P.tests)) (file_one (Unit {0}) (codes "mapping.clio") text_bytes absent too_long) (λ c a b g p. tt)
     (file_decided AreAlike Any (codes "mapping.clio") text_bytes absent too_long alike)
-    (saying_decided (λ e k. e ≡ k) AreAlike Any mapping_refusal (accepting P.list) (λ e k is. same_alike (mapping_refusal e) (mapping_refusal k) (ap mapping_refusal is)) (accepting_decided P.list))
+    (saying_decided (λ e k. e ≡ k) AreAlike Any mapping_refusal (accepting P.list P.tests) (λ e k is. same_alike (mapping_refusal e) (mapping_refusal k) (ap mapping_refusal is)) (accepting_decided P.list P.tests))
 
 -- ---- the rows
 
-abbrev its_source : Mapping → Forest
-its_source M = M.source
+rows_one : (P : Program) → PassesOne (rows_stages P)
+rows_one P = into_one (λ (M : Mapping) (I : List TableRows). (M, I)) (over wanted (saying source_refusal (source_stages P.passes)))
+    (over_one wanted (saying source_refusal (source_stages P.passes)) (source_one P.passes))
 
-rows_one : PassesOne rows_stages
-rows_one = into_one (λ (M : Mapping) (I : List TableRows). (M, I)) (over its_source (saying source_refusal source_stages)) (over_one its_source (saying source_refusal source_stages) source_one)
-
-rows_decided : (Given : Mapping → Type 0) → IsDecided AreAlike Given rows_stages
-rows_decided Given =
-    into_decided AreAlike Given (λ (M : Mapping) (I : List TableRows). (M, I)) (over its_source (saying source_refusal source_stages))
-    (over_decided AreAlike Given Any its_source (saying source_refusal source_stages) (λ M g. tt)
-    (saying_decided (λ e k. e ≡ k) AreAlike Any source_refusal source_stages (λ e k is. same_alike (source_refusal e) (source_refusal k) (ap source_refusal is)) source_decided))
+rows_decided : (P : Program) (Given : Mapping → Type 0) → IsDecided AreAlike Given (rows_stages P)
+rows_decided P Given =
+    into_decided AreAlike Given (λ (M : Mapping) (I : List TableRows). (M, I)) (over wanted (saying source_refusal (source_stages P.passes)))
+    (over_decided AreAlike Given Any wanted (saying source_refusal (source_stages P.passes)) (λ M g. tt)
+    (saying_decided (λ e k. e ≡ k) AreAlike Any source_refusal (source_stages P.passes) (λ e k is. same_alike (source_refusal e) (source_refusal k) (ap source_refusal is)) (source_decided P.passes)))
 
 -- ---- the target
 
 AreReady : Program → Filled → Type 0
-AreReady P p = MappingFits P.list p.0
+AreReady P p = MappingFits P.list P.tests p.0
 
-target_decided : (P : Program) (mode : Mode) → IsDecided AreAlike (AreReady P) (by (named_stage P mode))
+target_decided : (P : Program) (mode : Mode) → IsDecided AreAlike (AreReady P) (by (named_stage P.apply mode))
 unfolding AreReady
 target_decided P mode = record {
   one = λ c p e f r. (asked_decided p.0.source p.0.target).one c (asked mode p) e f (rules_fit P p.0 r);
@@ -107,22 +105,22 @@ target_decided P mode = record {
 -- ---- an exchange
 
 FitsList : Program → Mapping → Type 0
-FitsList P M = MappingFits P.list M
+FitsList P M = MappingFits P.list P.tests M
 
 exchanges_decided : (P : Program) (mode : Mode) → IsDecided AreAlike Any (exchanges P mode)
 unfolding FitsList AreReady
 exchanges_decided P mode =
-    next_decided AreAlike Any (FitsList P) (mapping_stages P) (next rows_stages (target_stages P mode)) (mapping_one P)
-    (λ c a M g p. accepted_fits P.list c p.0 M (is_small p.0 p.1.1) p.2) (mapping_decided P)
-    (next_decided AreAlike (FitsList P) (AreReady P) rows_stages (target_stages P mode) rows_one rows_ready (rows_decided (FitsList P))
-    (into_decided AreAlike (AreReady P) (λ (p : Filled) (e : Exchange). (p.0, e)) (by (named_stage P mode)) (target_decided P mode)))
+    next_decided AreAlike Any (FitsList P) (mapping_stages P) (next (rows_stages P) (target_stages P mode)) (mapping_one P)
+    (λ c a M g p. accepted_fits P.list P.tests c p.0 M (is_small p.0 p.1.1) p.2) (mapping_decided P)
+    (next_decided AreAlike (FitsList P) (AreReady P) (rows_stages P) (target_stages P mode) (rows_one P) rows_ready (rows_decided P (FitsList P))
+    (into_decided AreAlike (AreReady P) (λ (p : Filled) (e : Exchange). (p.0, e)) (by (named_stage P.apply mode)) (target_decided P mode)))
   where
-    rows_ready : (c : World) (M : Mapping) (p : Filled) → FitsList P M → rows_stages.passes c M p → AreReady P p
+    rows_ready : (c : World) (M : Mapping) (p : Filled) → FitsList P M → (rows_stages P).passes c M p → AreReady P p
     rows_ready c M p h (I, s, is) = subst (AreReady P) (sym is) h
 
 -- what is known of an exchange that was made
 pub record IsMade (P : Program) (mode : Mode) (M : Mapping) (e : Exchange) : Type 0 where
-  pub fits : MappingFits P.list M
+  pub fits : MappingFits P.list P.tests M
   pub rows : List TableRows
   pub exchange : IsExchange P.apply (asked mode (M, rows)) e
 
@@ -130,7 +128,7 @@ made_in : (P : Program) (mode : Mode) (c : World) (q : Mapping × Exchange) → 
 made_in P mode c q (M, m, (pair, (I, source, pair_is), (x, exchange, q_is))) =
     subst (λ (r : Mapping × Exchange). IsMade P mode r.0 r.1) (sym q_is)
     (subst (λ (r : Filled). IsMade P mode r.0 x) (sym pair_is) (record {
-      fits = accepted_fits P.list c m.0 M (is_small m.0 m.1.1) m.2;
+      fits = accepted_fits P.list P.tests c m.0 M (is_small m.0 m.1.1) m.2;
       rows = I;
       exchange = subst (λ (r : Filled). IsExchange P.apply (asked mode r) x) pair_is exchange;
     }))
@@ -149,7 +147,7 @@ pub widths_ready : (P : Program) (mode : Mode) (M : Mapping) (e : Exchange) → 
 widths_ready P mode M e h = (files_ready P mode M e h).widths_are
 
 pub plan_exists : (P : Program) (mode : Mode) (nested : Bool) (M : Mapping) (e : Exchange) → IsMade P mode M e
-    → (plan : Planned Done) × IsPlanOf P mode nested M e plan
+    → (plan : Planned Done) × IsPlanOf P.list mode nested M e plan
 plan_exists P mode nested M e h =
     let fs = files_exist M.source M.target P.list mode nested M.rules e (files_fit P mode M h.rows e h.fits h.exchange)
     (are_tables M.target h.fits.target.form) (facts_wide P mode M h.rows e h.fits h.exchange) in
@@ -157,7 +155,7 @@ plan_exists P mode nested M e h =
 
 exchange_decided : (P : Program) (mode : Mode) (nested : Bool) → IsDecided AreAlike Any (exchange_stages P mode nested)
 exchange_decided P mode nested =
-    become_decided AreAlike Any (λ u q plan. IsPlanOf P mode nested q.0 q.1 plan) (exchanges P mode)
+    become_decided AreAlike Any (λ u q plan. IsPlanOf P.list mode nested q.0 q.1 plan) (exchanges P mode)
     (λ c u q g x. plan_exists P mode nested q.0 q.1 (made_in P mode c q x)) (exchanges_decided P mode)
 
 -- ---- a demo
@@ -183,7 +181,7 @@ demo_decided P number mode =
 
 show_decided : (P : Program) (mode : Mode) → IsDecided AreAlike Any (show_stages P mode)
 show_decided P mode =
-    into_decided AreAlike Any (λ (u : Unit {0}) (M : Mapping). shown_plan P mode M) (mapping_stages P) (mapping_decided P)
+    into_decided AreAlike Any (λ (u : Unit {0}) (M : Mapping). shown_plan P.list mode M) (mapping_stages P) (mapping_decided P)
 
 stages_decided : (P : Program) (c : Command) → IsDecided AreAlike Any (stages_of P c)
 stages_decided P (Exchanging mode nested) = exchange_decided P mode nested

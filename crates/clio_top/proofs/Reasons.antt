@@ -39,6 +39,9 @@ use Rattle.dx_exchange.specs.Exchanging.{HasNone}
 use Rattle.dx_stages.specs.Worlds.{World}
 use Rattle.clio_accept.specs.declared.fault.AcceptFault.{AcceptFault}
 use Rattle.clio_accept.specs.declared.fault.AcceptFault.TheVariants as accept_faults
+use Rattle.dx_funcs.specs.declared.row_test.RowTest.{RowTest}
+use Rattle.dx_tokens.specs.declared.faults.TextKind.TheVariants.{UnknownName}
+use Rattle.dx_line_text.proofs.NamesAlone.{unknown_alone}
 use Rattle.clio_accept.specs.Accepting.{Between, accepting, accepting_said, between_of, leaving, taking}
 use Rattle.clio_accept.specs.Mapping.{source_refusal as source_fault_refusal, target_refusal, text_refusal}
 use Rattle.dx_schema_text.specs.declared.texts.LineText.{LineText}
@@ -294,28 +297,36 @@ leaving_never c R (inl (many, is)) = cc
 leaving_never c R (inr (S, s, inl (many, is))) = cc
 leaving_never c R (inr (S, s, inr (T, t, h))) = h
 
-taking_never : (list : List Conversion) (c : World) (b : Between) → ¬ ((taking list).refuses c b accept_faults.Memory)
-taking_never list c b (inl (many, is)) = cc
-taking_never list c b (inr (b1, p1, inl (k, h, is))) =
+-- a word that names nothing is told
+unknown_kept : (k : TextFault) → (place : ℕ) × (k ≡ text_faults.At place UnknownName) → ¬ (accept_faults.Memory ≡ text_refusal k)
+unknown_kept (text_faults.At place kind) u is = cc
+unknown_kept (text_faults.TooDeep place) u is = cc
+unknown_kept text_faults.Memory u is = absurd (let e = u.1 in cc)
+
+taking_never : (list : List Conversion) (tests : List RowTest) (c : World) (b : Between) → ¬ ((taking list tests).refuses c b accept_faults.Memory)
+taking_never list tests c b (inl (many, is)) = cc
+taking_never list tests c b (inr (b1, p1, inl (k, h, is))) =
     text_kept k (λ e. lines_lack b1.source b1.target list b1.lines (h ∙ ap Some e)) is
-taking_never list c b (inr (b1, p1, inr (b2, p2, inl (k, h, is)))) =
-    text_kept k (λ e. written_lack b2.source b2.target list b2.by_hand (h ∙ ap Some e)) is
-taking_never list c b (inr (b1, p1, inr (b2, p2, inr (b3, p3, inl (l, h, is))))) = cc
-taking_never list c b (inr (b1, p1, inr (b2, p2, inr (b3, p3, inr (b4, p4, inl (d, m, wide, is)))))) = cc
-taking_never list c b (inr (b1, p1, inr (b2, p2, inr (b3, p3, inr (b4, p4, inr (R, p5, h)))))) = leaving_never c R h
+taking_never list tests c b (inr (b1, p1, inr (b2, p2, inl (k, h, is)))) =
+    unknown_kept k (unknown_alone b2.source tests b2.conditions k h) is
+taking_never list tests c b (inr (b1, p1, inr (b2, p2, inr (b3, p3, inl (k, h, is))))) =
+    text_kept k (λ e. written_lack b3.source b3.target list b3.by_hand (h ∙ ap Some e)) is
+taking_never list tests c b (inr (b1, p1, inr (b2, p2, inr (b3, p3, inr (b4, p4, inl (l, h, is)))))) = cc
+taking_never list tests c b (inr (b1, p1, inr (b2, p2, inr (b3, p3, inr (b4, p4, inr (b5, p5, inl (d, m, wide, is))))))) = cc
+taking_never list tests c b (inr (b1, p1, inr (b2, p2, inr (b3, p3, inr (b4, p4, inr (b5, p5, inr (R, p6, h))))))) = leaving_never c R h
 
-said_never : (list : List Conversion) (c : World) (m : MappingText) → ¬ ((accepting_said list).refuses c m accept_faults.Memory)
-said_never list c m (inl (k, h, is)) = source_kept k (λ e. sets_told m.source (subst (IsFirstFault m.source) e h)) is
-said_never list c m (inr (m1, p1, inl (k, h, is))) = target_kept k (λ e. sets_told m1.target (subst (IsFirstFault m1.target) e h)) is
-said_never list c m (inr (m1, p1, inr (m2, p2, inl (name, h, is)))) = cc
-said_never list c m (inr (m1, p1, inr (m2, p2, inr (m3, p3, h)))) = taking_never list c (between_of m3) h
+said_never : (list : List Conversion) (tests : List RowTest) (c : World) (m : MappingText) → ¬ ((accepting_said list tests).refuses c m accept_faults.Memory)
+said_never list tests c m (inl (k, h, is)) = source_kept k (λ e. sets_told m.source (subst (IsFirstFault m.source) e h)) is
+said_never list tests c m (inr (m1, p1, inl (k, h, is))) = target_kept k (λ e. sets_told m1.target (subst (IsFirstFault m1.target) e h)) is
+said_never list tests c m (inr (m1, p1, inr (m2, p2, inl (name, h, is)))) = cc
+said_never list tests c m (inr (m1, p1, inr (m2, p2, inr (m3, p3, h)))) = taking_never list tests c (between_of m3) h
 
-accepting_never : (list : List Conversion) (c : World) (text : List ℕ) → ¬ ((accepting list).refuses c text accept_faults.Memory)
-accepting_never list c text (inl (k, h, is)) = text_kept k (λ e. text_told text (subst (IsTextFault text) e h)) is
-accepting_never list c text (inr (m, p, h)) = said_never list c m h
+accepting_never : (list : List Conversion) (tests : List RowTest) (c : World) (text : List ℕ) → ¬ ((accepting list tests).refuses c text accept_faults.Memory)
+accepting_never list tests c text (inl (k, h, is)) = text_kept k (λ e. text_told text (subst (IsTextFault text) e h)) is
+accepting_never list tests c text (inr (m, p, h)) = said_never list tests c m h
 
 pub no_reason : MemoryIsNoReason
-no_reason P c text a = (accepting_never P.list c text, λ h. h)
+no_reason P c text a = (accepting_never P.list P.tests c text, λ h. h)
 
 -- ---- usage
 
@@ -338,7 +349,7 @@ mapping_never : (P : Program) (c : World) → ¬ ((mapping_stages P).refuses c (
 mapping_never P c (inl (inl (none, is))) = cc
 mapping_never P c (inl (inr (bytes, held, many, is))) = cc
 mapping_never P c (inr (text, there, (k, refused, is))) =
-    mapping_kept k (λ e. accepting_never P.list c text (subst ((accepting P.list).refuses c text) e refused)) is
+    mapping_kept k (λ e. accepting_never P.list P.tests c text (subst ((accepting P.list P.tests).refuses c text) e refused)) is
 
 exchange_never : (P : Program) (mode : Mode) (c : World) → ¬ ((exchanges P mode).refuses c (tt {0}) refusals.Usage)
 exchange_never P mode c (inl m) = mapping_never P c m

@@ -24,7 +24,7 @@ use Rattle.clio_ending.specs.declared.ending.Ending.TheVariants as endings
 use Rattle.clio_ending.specs.declared.ending.Refusal.TheVariants as refusals
 use Rattle.clio_top.specs.declared.command.Command.TheVariants.{Demonstrating, Exchanging, Showing}
 use Rattle.clio_top.specs.Words.{Word, says}
-use Rattle.clio_top.specs.Running.{Program, target_cells, text_bytes}
+use Rattle.clio_top.specs.Running.{Program, target_cells, text_bytes, wanted}
 use Rattle.clio_top.specs.Demo.{demo_world}
 use Rattle.clio_top.specs.Commands.{run_stages}
 use Rattle.clio_top.specs.Promises.{HasNoSolutionIn}
@@ -37,17 +37,18 @@ pub record HasMappingIn (P : Program) (c : World) : Type 0 where
   pub held : c (codes "mapping.clio") ≡ Some text
   pub few : length text ≤ text_bytes
   pub mapping : Mapping
-  pub accepted : (accepting P.list).passes c text mapping
+  pub accepted : (accepting P.list P.tests).passes c text mapping
 
--- an accepted mapping text and the source of files in a world, within the limit on canonical cells, with a solution
+-- an accepted mapping text and the rows of the files in a world that pass its conditions, within the limit on canonical cells, with a
+-- solution
 pub record HasSolutionIn (P : Program) (c : World) : Type 0 where
   pub text : List ℕ
   pub held : c (codes "mapping.clio") ≡ Some text
   pub few : length text ≤ text_bytes
   pub mapping : Mapping
-  pub accepted : (accepting P.list).passes c text mapping
+  pub accepted : (accepting P.list P.tests).passes c text mapping
   pub rows : List TableRows
-  pub source : source_stages.passes c mapping.source rows
+  pub source : (source_stages P.passes).passes c (wanted mapping) rows
   pub within : (matches : Rows) → AreRows P.apply mapping.rules (facts rows) matches → canonical_cells mapping.rules matches ≤ target_cells
   pub solution : List Fact
   pub solves : IsSolution P.apply mapping.rules (model_tables mapping.target) (facts rows) solution

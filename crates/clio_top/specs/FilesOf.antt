@@ -47,5 +47,5 @@ pub record CanBeWritten (list : List Conversion) (M : Mapping) (e : Exchange) : 
 -- the exchange of any rows under a mapping that fits is so
 abbrev pub ExchangesCanBeWritten : Type 0
 ExchangesCanBeWritten =
-    (P : Program) (mode : Mode) (M : Mapping) (rows : List TableRows) (e : Exchange) → MappingFits P.list M
+    (P : Program) (mode : Mode) (M : Mapping) (rows : List TableRows) (e : Exchange) → MappingFits P.list P.tests M
     → IsExchange P.apply (asked mode (M, rows)) e → CanBeWritten P.list M e

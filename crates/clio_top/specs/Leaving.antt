@@ -33,7 +33,7 @@ pub record WroteTextsIn (P : Program) (mode : Mode) (c : World) (count : ℕ) (b
   pub text : List ℕ
   pub held : c (codes "mapping.clio") ≡ Some text
   pub mapping : Mapping
-  pub accepted : (accepting P.list).passes c text mapping
+  pub accepted : (accepting P.list P.tests).passes c text mapping
   pub none : count ≡ 0
   pub written : WroteFirst [] (contents_of (texts_told mapping.source mapping.target P.list mode mapping.rules)) count before after
 

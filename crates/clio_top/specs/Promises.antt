@@ -36,7 +36,7 @@ use Rattle.clio_ending.specs.Ending.{AreAlike, named_clash}
 use Rattle.clio_top.specs.declared.command.Command.{Command}
 use Rattle.clio_top.specs.declared.command.Command.TheVariants.{Demonstrating, Exchanging, Showing}
 use Rattle.clio_top.specs.Words.{Word, says}
-use Rattle.clio_top.specs.Running.{Program, asked, mapping_stages, target_cells, text_bytes}
+use Rattle.clio_top.specs.Running.{Program, asked, mapping_stages, target_cells, text_bytes, wanted}
 use Rattle.clio_top.specs.Demo.{demo_text, demo_world}
 use Rattle.clio_top.specs.Commands.{run_stages}
 
@@ -44,14 +44,14 @@ use Rattle.clio_top.specs.Commands.{run_stages}
 abbrev pub RefusedOrPlanned : Type 0
 RefusedOrPlanned = (P : Program) → IsDecided AreAlike (λ words. Unit {0}) (run_stages P)
 
--- the exchange of an accepted mapping text and the source of some files in a world
+-- the exchange of an accepted mapping text and of the source in a world: the rows of its files that pass the mapping's conditions
 pub record IsExchangeIn (P : Program) (mode : Mode) (c : World) (e : Exchange) : Type 0 where
   pub text : List ℕ
   pub held : c (codes "mapping.clio") ≡ Some text
   pub mapping : Mapping
-  pub accepted : (accepting P.list).passes c text mapping
+  pub accepted : (accepting P.list P.tests).passes c text mapping
   pub rows : List TableRows
-  pub source : source_stages.passes c mapping.source rows
+  pub source : (source_stages P.passes).passes c (wanted mapping) rows
   pub exchange : IsExchange P.apply (asked mode (mapping, rows)) e
 
 -- such an exchange, whose files were written, and then their summary was said
@@ -83,7 +83,7 @@ pub record IsShownIn (P : Program) (mode : Mode) (c : World) (before after : Wri
   pub text : List ℕ
   pub held : c (codes "mapping.clio") ≡ Some text
   pub mapping : Mapping
-  pub accepted : (accepting P.list).passes c text mapping
+  pub accepted : (accepting P.list P.tests).passes c text mapping
   pub said : SaidAlone (contents_of (texts_told mapping.source mapping.target P.list mode mapping.rules)) before after
 
 -- the same, as the words ask for it
@@ -114,15 +114,16 @@ DemosAreOfTheirFiles =
     (P : Program) (c : World) (words : List Word) (before after : Written) (e : Exchange)
     → Ends (run_stages P) c words before after (endeds.Done (Demo e)) → IsDemo P words e before after
 
--- The clash of an accepted mapping text and the source of some files in a world, which have no solution. The three names are those
+-- The clash of an accepted mapping text and of the source in a world, the rows of its files that pass the mapping's conditions, which
+-- have no solution. The three names are those
 -- that the target has for the clash's table, for the columns of its key and for its column.
 pub record IsClashIn (P : Program) (mode : Mode) (c : World) (k : Clash) (table : Text) (key : List Text) (column : Text) : Type 0 where
   pub text : List ℕ
   pub held : c (codes "mapping.clio") ≡ Some text
   pub mapping : Mapping
-  pub accepted : (accepting P.list).passes c text mapping
+  pub accepted : (accepting P.list P.tests).passes c text mapping
   pub rows : List TableRows
-  pub source : source_stages.passes c mapping.source rows
+  pub source : (source_stages P.passes).passes c (wanted mapping) rows
   pub clash : HasClash P.apply (asked mode (mapping, rows)) k
   pub named : refusals.Clash k table key column ≡ named_clash mapping.target k
 
@@ -140,15 +141,16 @@ ClashesAreOfTexts =
     (P : Program) (c : World) (words : List Word) (before after : Written) (k : Clash) (table : Text) (key : List Text) (column : Text)
     → Ends (run_stages P) c words before after (endeds.Refused (refusals.Clash k table key column)) → IsClashOf P c words k table key column
 
--- an accepted mapping text and the source of files in a world, within the limit on canonical cells, without a solution
+-- an accepted mapping text and the rows of the files in a world that pass its conditions, within the limit on canonical cells, without
+-- a solution
 pub record HasNoSolutionIn (P : Program) (c : World) : Type 0 where
   pub text : List ℕ
   pub held : c (codes "mapping.clio") ≡ Some text
   pub few : length text ≤ text_bytes
   pub mapping : Mapping
-  pub accepted : (accepting P.list).passes c text mapping
+  pub accepted : (accepting P.list P.tests).passes c text mapping
   pub rows : List TableRows
-  pub source : source_stages.passes c mapping.source rows
+  pub source : (source_stages P.passes).passes c (wanted mapping) rows
   pub within : (matches : Rows) → AreRows P.apply mapping.rules (facts rows) matches → canonical_cells mapping.rules matches ≤ target_cells
   pub none : (K : List Fact) → ¬ (IsSolution P.apply mapping.rules (model_tables mapping.target) (facts rows) K)
 
@@ -194,7 +196,7 @@ UsageIsOfWords = (P : Program) (c : World) (words : List Word) → (run_stages P
 abbrev pub MemoryIsNoReason : Type 0
 MemoryIsNoReason =
     (P : Program) (c : World) (text : List ℕ) (a : Asked)
-    → (¬ ((accepting P.list).refuses c text accept_faults.Memory)) × (¬ ((exchanging P.apply).refuses c a exchange_faults.Memory))
+    → (¬ ((accepting P.list P.tests).refuses c text accept_faults.Memory)) × (¬ ((exchanging P.apply).refuses c a exchange_faults.Memory))
 
 -- no two files that an exchange writes have one name: each stands as it was put
 abbrev pub FilesHaveOwnNames : Type 0

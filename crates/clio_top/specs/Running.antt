@@ -3,6 +3,8 @@ use Rattle.std.specs.Prelude.{◌≡◌, ℕ, List, [], codes, Bool}
 use Rattle.dx_ports.specs.declared.file.Count.TheVariants.{TextBytes}
 use Rattle.dx_model.specs.Values.{Conversions}
 use Rattle.dx_funcs.specs.declared.conversion.Conversion.{Conversion}
+use Rattle.dx_funcs.specs.declared.row_test.RowTest.{RowTest}
+use Rattle.dx_used.specs.Passing.{Passes}
 use Rattle.dx_instance.specs.Stored.{TableRows, facts}
 use Rattle.dx_schema.specs.Tables.{model_tables}
 use Rattle.dx_exchange.specs.declared.mode.Mode.{Mode}
@@ -13,7 +15,7 @@ use Rattle.dx_stages.specs.Stages.{Stage, next, become, by, over, into, file, sa
 use Rattle.clio_accept.specs.declared.mapping.Mapping.{Mapping}
 use Rattle.clio_accept.specs.declared.fault.MapFault.TheVariants as map_faults
 use Rattle.clio_accept.specs.Accepting.{accepting}
-use Rattle.clio_source.specs.Source.{source_stages}
+use Rattle.clio_source.specs.Source.{Wanted, source_stages}
 use Rattle.clio_files.specs.Files.{AreFiles, contents_of, files_of, summary_of}
 use Rattle.clio_files.specs.Sheets.{Told}
 use Rattle.clio_files.specs.Texts.{texts_told}
@@ -23,13 +25,15 @@ use Rattle.clio_ending.specs.declared.ending.Refusal.{Refusal}
 use Rattle.clio_ending.specs.declared.ending.Refusal.TheVariants as refusals
 use Rattle.clio_ending.specs.Ending.{exchange_refusal, mapping_refusal, source_refusal}
 
--- what the program can do: the conversions that it lists, and what each of them means
+-- what the program can do: the conversions and the row tests that it lists, what each conversion means, and what passes each test
 pub record Program : Type 0 where
   pub list : List Conversion
+  pub tests : List RowTest
   pub apply : Conversions
+  pub passes : Passes
 
-abbrev pub program : List Conversion → Conversions → Program
-program list apply = record { list = list; apply = apply }
+abbrev pub program : List Conversion → List RowTest → Conversions → Passes → Program
+program list tests apply passes = record { list = list; tests = tests; apply = apply; passes = passes }
 
 -- how many bytes the mapping text may have
 abbrev pub text_bytes : ℕ
@@ -52,18 +56,22 @@ mapping_file = file (codes "mapping.clio") text_bytes absent too_long
 
 -- the mapping text, accepted
 abbrev pub mapping_stages : Program → Stage Refusal (Unit {0}) Mapping
-mapping_stages P = next mapping_file (saying mapping_refusal (accepting P.list))
+mapping_stages P = next mapping_file (saying mapping_refusal (accepting P.list P.tests))
 
 -- ---- the rows
 
--- a mapping, and the rows of its source files
+-- a mapping, and the rows of its source files that pass its conditions
 abbrev pub Filled : Type 0
 Filled = Mapping × List TableRows
 
--- the rows of the source files, beside the mapping
-abbrev pub rows_stages : Stage Refusal Mapping Filled
-rows_stages =
-    into (λ (M : Mapping) (I : List TableRows). (M, I)) (over (λ (M : Mapping). M.source) (saying source_refusal source_stages))
+-- what a mapping wants of the source files: the rows that pass its conditions
+abbrev pub wanted : Mapping → Wanted
+wanted M = record { schema = M.source; conditions = M.conditions }
+
+-- the rows of the source files that pass, beside the mapping
+abbrev pub rows_stages : Program → Stage Refusal Mapping Filled
+rows_stages P =
+    into (λ (M : Mapping) (I : List TableRows). (M, I)) (over wanted (saying source_refusal (source_stages P.passes)))
 
 -- ---- the exchange
 
@@ -73,33 +81,33 @@ asked mode p =
     record { rules = p.0.rules; schema = model_tables p.0.target; rows = facts p.1; mode = mode; limit = target_cells }
 
 -- the exchange of the rows; a clash is told with the names that the target has
-abbrev pub named_stage : Program → Mode → Filled → Stage Refusal Filled Exchange
-named_stage P mode p = over (asked mode) (saying (exchange_refusal p.0.target) (exchanging P.apply))
+abbrev pub named_stage : Conversions → Mode → Filled → Stage Refusal Filled Exchange
+named_stage apply mode p = over (asked mode) (saying (exchange_refusal p.0.target) (exchanging apply))
 
 -- the exchange of the rows, beside the mapping
 abbrev pub target_stages : Program → Mode → Stage Refusal Filled (Mapping × Exchange)
-target_stages P mode = into (λ (p : Filled) (e : Exchange). (p.0, e)) (by (named_stage P mode))
+target_stages P mode = into (λ (p : Filled) (e : Exchange). (p.0, e)) (by (named_stage P.apply mode))
 
 -- a mapping text, its source files, and their exchange
 abbrev pub exchanges : Program → Mode → Stage Refusal (Unit {0}) (Mapping × Exchange)
-exchanges P mode = next (mapping_stages P) (next rows_stages (target_stages P mode))
+exchanges P mode = next (mapping_stages P) (next (rows_stages P) (target_stages P mode))
 
 -- what is written of an exchange: its files, and their summary
-abbrev pub IsPlanOf : Program → Mode → Bool → Mapping → Exchange → Planned Done → Type 0
-IsPlanOf P mode nested M e plan =
-    (files : List Told) × AreFiles M.source M.target P.list mode nested M.rules e files
+abbrev pub IsPlanOf : List Conversion → Mode → Bool → Mapping → Exchange → Planned Done → Type 0
+IsPlanOf list mode nested M e plan =
+    (files : List Told) × AreFiles M.source M.target list mode nested M.rules e files
     × (plan ≡ record { done = Exchanged e; files = files_of files; text = summary_of files })
 
 -- an exchange, and what is written of it
 abbrev pub exchange_stages : Program → Mode → Bool → Stage Refusal (Unit {0}) (Planned Done)
-exchange_stages P mode nested = become (λ u q plan. IsPlanOf P mode nested q.0 q.1 plan) (exchanges P mode)
+exchange_stages P mode nested = become (λ u q plan. IsPlanOf P.list mode nested q.0 q.1 plan) (exchanges P mode)
 
 -- ---- showing
 
 -- what is said of a mapping that is shown: the text of its rules, and then that of their script
-abbrev pub shown_plan : Program → Mode → Mapping → Planned Done
-shown_plan P mode M =
-    record { done = Shown; files = []; text = contents_of (texts_told M.source M.target P.list mode M.rules) }
+abbrev pub shown_plan : List Conversion → Mode → Mapping → Planned Done
+shown_plan list mode M =
+    record { done = Shown; files = []; text = contents_of (texts_told M.source M.target list mode M.rules) }
 
 abbrev pub show_stages : Program → Mode → Stage Refusal (Unit {0}) (Planned Done)
-show_stages P mode = into (λ (u : Unit {0}) (M : Mapping). shown_plan P mode M) (mapping_stages P)
+show_stages P mode = into (λ (u : Unit {0}) (M : Mapping). shown_plan P.list mode M) (mapping_stages P)

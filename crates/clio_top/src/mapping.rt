@@ -1,5 +1,6 @@
 // The mapping text, read and accepted.
 ghost use Rattle.std.specs.Prelude.{◌≡◌, ◌≤◌, length};
+ghost use Rattle.dx_funcs.specs.Judging.{tested};
 ghost use Rattle.dx_funcs.specs.Serving.{offered};
 ghost use Rattle.dx_stages.specs.Running.{Gives, Ran};
 ghost use Rattle.dx_stages.specs.Stages.{saying};
@@ -9,25 +10,27 @@ ghost use Rattle.clio_top.specs.Running.{mapping_stages, program, text_bytes};
 
 use clio_accept::{AcceptFault, MapFault, Mapping, accept};
 use clio_ending::Refusal;
-use dx_funcs::{Host, Meaning};
+use dx_funcs::{Host, Meaning, Tests};
 use dx_ports::limits::TEXT_BYTES;
 use dx_ports::{Count, Inputs, Items, Limit, Text};
 use dx_stages::{Stop, fetch};
 use std::alloc::{AllocError, Global};
 
 // The mapping of the text's bytes.
-fn accept_mapping<F, M>(
+fn accept_mapping<F, P, M>(
     alloc: Global,
     text: &[u8],
     host: &Host<F, M>,
+    tests: &Tests<P, M>,
 ) -> Result<Mapping, Stop<Refusal>>
 where
     F: Fn(u32, &Items<Text>) -> Result<Text, AllocError>,
+    P: Fn(u32, &Text) -> Result<bool, AllocError>,
     M: Meaning,
     requires { length text.now ≤ text_bytes }
-    ensures { Gives (saying mapping_refusal (accepting (offered host.now))) text.now result }
+    ensures { Gives (saying mapping_refusal (accepting (offered host.now) (tested tests.now))) text.now result }
 {
-    match accept(alloc, text, host) {
+    match accept(alloc, text, host, tests) {
         Ok(mapping) => Ok(mapping),
         Err(AcceptFault::Mapping(fault)) => Err(Stop::Refused(Refusal::Mapping(fault))),
         Err(AcceptFault::Limit(limit)) => Err(Stop::Refused(Refusal::Limit(limit))),
@@ -36,15 +39,17 @@ where
 }
 
 /// The mapping of the mapping text.
-pub(crate) fn read_mapping<I: Inputs, F, M>(
+pub(crate) fn read_mapping<I: Inputs, F, P, M>(
     alloc: Global,
     inputs: &mut I,
     host: &Host<F, M>,
+    tests: &Tests<P, M>,
 ) -> Result<Mapping, Stop<Refusal>>
 where
     F: Fn(u32, &Items<Text>) -> Result<Text, AllocError>,
+    P: Fn(u32, &Text) -> Result<bool, AllocError>,
     M: Meaning,
-    ensures { Ran (mapping_stages (program (offered host.now) M.apply)) (tt {0}) result
+    ensures { Ran (mapping_stages (program (offered host.now) (tested tests.now) M.apply M.passes)) (tt {0}) result
         (record { holds = I.holds inputs.old; faults = I.faults inputs.old; stopped = I.stopped inputs.old })
         (record { holds = I.holds inputs.new; faults = I.faults inputs.new; stopped = I.stopped inputs.new }) }
 {
@@ -55,5 +60,5 @@ where
         number: TEXT_BYTES,
     });
     let text = fetch(alloc, inputs, name, TEXT_BYTES, absent, long)?;
-    accept_mapping(alloc, text.items(), host)
+    accept_mapping(alloc, text.items(), host, tests)
 }

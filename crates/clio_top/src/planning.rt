@@ -2,14 +2,14 @@
 ghost use Rattle.std.specs.Prelude.{◌≡◌, IfOk};
 ghost use Rattle.dx_funcs.specs.Serving.{Serves, offered};
 ghost use Rattle.dx_instance.specs.Stored.{widths};
-ghost use Rattle.dx_schema.specs.Tables.{schema_widths};
+ghost use Rattle.dx_exchange.specs.Exchanging.{Fits};
+ghost use Rattle.dx_schema.specs.Tables.{model_tables, schema_widths};
 ghost use Rattle.dx_stages.specs.Ending.{planned_of};
 ghost use Rattle.dx_stages.specs.Running.{Gives};
 ghost use Rattle.dx_stages.specs.Stages.{by};
-ghost use Rattle.clio_accept.specs.Laws.{MappingFits};
 ghost use Rattle.clio_files.specs.Files.{FitsFiles};
 ghost use Rattle.clio_files.specs.Texts.{FitTexts};
-ghost use Rattle.clio_top.specs.Running.{IsPlanOf, named_stage, program, shown_plan};
+ghost use Rattle.clio_top.specs.Running.{IsPlanOf, named_stage, shown_plan};
 
 use clio_accept::Mapping;
 use clio_ending::{Done, Refusal, named_clash};
@@ -34,9 +34,9 @@ where
     F: Fn(u32, &Items<Text>) -> Result<Text, AllocError>,
     M: Meaning,
     requires serves { Serves F.Fn M.apply host.now }
-    requires fits { MappingFits (offered host.now) mapping.now }
+    requires fits { Fits (offered host.now) mapping.now.rules (model_tables mapping.now.source) (model_tables mapping.now.target) }
     requires rows { widths rows.now ≡ schema_widths mapping.now.source }
-    ensures { Gives (by (named_stage (program (offered host.now) M.apply) mode)) (mapping.now, rows.now) result }
+    ensures { Gives (by (named_stage M.apply mode)) (mapping.now, rows.now) result }
 {
     let rules = mapping.rules.items();
     let Mapping { source, target, .. } = mapping;
@@ -62,7 +62,7 @@ where
     M: Meaning,
     requires texts { FitTexts mapping.now.source mapping.now.target (offered host.now) mapping.now.rules }
     requires fits { FitsFiles mapping.now.rules mapping.now.target exchange }
-    ensures { IfOk result (λ p. IsPlanOf (program (offered host.now) M.apply) mode nested mapping.now exchange (planned_of p)) }
+    ensures { IfOk result (λ p. IsPlanOf (offered host.now) mode nested mapping.now exchange (planned_of p)) }
 {
     let rules = mapping.rules.items();
     let Mapping { source, target, .. } = mapping;
@@ -85,8 +85,8 @@ pub(crate) fn plan_shown<F, M>(
 where
     F: Fn(u32, &Items<Text>) -> Result<Text, AllocError>,
     M: Meaning,
-    requires { MappingFits (offered host.now) mapping.now }
-    ensures { IfOk result (λ p. planned_of p ≡ shown_plan (program (offered host.now) M.apply) mode mapping.now) }
+    requires { FitTexts mapping.now.source mapping.now.target (offered host.now) mapping.now.rules }
+    ensures { IfOk result (λ p. planned_of p ≡ shown_plan (offered host.now) mode mapping.now) }
 {
     let rules = mapping.rules.items();
     let printed = print_texts(alloc, rules, &mapping.source, &mapping.target, host, mode)?;

@@ -3,6 +3,7 @@ ghost use Rattle.std.specs.Prelude.{◌≡◌, ◌≤◌, ℕ, List, Some};
 ghost use Rattle.std.specs.FinMap.{get};
 ghost use Rattle.dx_ports.specs.Entries.{Held};
 ghost use Rattle.dx_ports.specs.Faults.{Rose};
+ghost use Rattle.dx_funcs.specs.Judging.{Decides, tested};
 ghost use Rattle.dx_funcs.specs.Serving.{Serves, offered};
 ghost use Rattle.dx_exchange.specs.declared.result.Exchange.{Exchange as ExchangeOf};
 ghost use Rattle.dx_keys.specs.declared.answers.Clash.{Clash as ClashOf};
@@ -31,193 +32,215 @@ use crate::source::read_used_rows;
 use clio_accept::Mapping;
 use clio_ending::{Done, Ending, Refusal, as_ending};
 use dx_exchange::{Exchange, Mode};
-use dx_funcs::{Host, Meaning};
+use dx_funcs::{Host, Meaning, Tests};
 use dx_gen::demo_files;
 use dx_ports::{Inputs, Items, Outputs, Text};
 use dx_stages::{Plan, Stop, carry_out};
 use std::alloc::{AllocError, Global};
 
-// A mapping, and the exchange of the rows of its source files.
+// A mapping, and the exchange of the rows of its source files that pass its conditions.
 // What is read agrees with these rows on the columns that its rules use, and so has the same exchange (proofs/SameExchange).
-fn exchange_files<I: Inputs, F, M>(
+fn exchange_files<I: Inputs, F, P, M>(
     alloc: Global,
     inputs: &mut I,
     host: &Host<F, M>,
+    tests: &Tests<P, M>,
     mode: Mode,
 ) -> Result<(Mapping, Exchange), Stop<Refusal>>
 where
     F: Fn(u32, &Items<Text>) -> Result<Text, AllocError>,
+    P: Fn(u32, &Text) -> Result<bool, AllocError>,
     M: Meaning,
-    requires { Serves F.Fn M.apply host.now }
-    ensures { Ran (exchanges (program (offered host.now) M.apply) mode) (tt {0}) result
+    requires serves { Serves F.Fn M.apply host.now }
+    requires decides { Decides P.Fn M.passes tests.now }
+    ensures { Ran (exchanges (program (offered host.now) (tested tests.now) M.apply M.passes) mode) (tt {0}) result
         (record { holds = I.holds inputs.old; faults = I.faults inputs.old; stopped = I.stopped inputs.old })
         (record { holds = I.holds inputs.new; faults = I.faults inputs.new; stopped = I.stopped inputs.new }) }
 {
-    let mapping = read_mapping(alloc, inputs, host)?;
-    let rows = read_used_rows(alloc, inputs, &mapping)?;
+    let mapping = read_mapping(alloc, inputs, host, tests)?;
+    let rows = read_used_rows(alloc, inputs, &mapping, tests)?;
     let exchange = exchange_rows(alloc, &mapping, &rows, host, mode)?;
     Ok((mapping, exchange))
 }
 
 // What `exchange` writes.
-fn exchange_plan<I: Inputs, F, M>(
+fn exchange_plan<I: Inputs, F, P, M>(
     alloc: Global,
     inputs: &mut I,
     host: &Host<F, M>,
+    tests: &Tests<P, M>,
     mode: Mode,
     nested: bool,
 ) -> Result<Plan<Done>, Stop<Refusal>>
 where
     F: Fn(u32, &Items<Text>) -> Result<Text, AllocError>,
+    P: Fn(u32, &Text) -> Result<bool, AllocError>,
     M: Meaning,
-    requires { Serves F.Fn M.apply host.now }
-    ensures { Ran (exchange_stages (program (offered host.now) M.apply) mode nested) (tt {0}) (planned result)
+    requires serves { Serves F.Fn M.apply host.now }
+    requires decides { Decides P.Fn M.passes tests.now }
+    ensures { Ran (exchange_stages (program (offered host.now) (tested tests.now) M.apply M.passes) mode nested) (tt {0}) (planned result)
         (record { holds = I.holds inputs.old; faults = I.faults inputs.old; stopped = I.stopped inputs.old })
         (record { holds = I.holds inputs.new; faults = I.faults inputs.new; stopped = I.stopped inputs.new }) }
 {
-    let (mapping, exchange) = exchange_files(alloc, inputs, host, mode)?;
+    let (mapping, exchange) = exchange_files(alloc, inputs, host, tests, mode)?;
     Ok(plan_exchange(alloc, &mapping, exchange, host, mode, nested)?)
 }
 
 // What `demo` says.
-fn demo_plan<F, M>(
+fn demo_plan<F, P, M>(
     alloc: Global,
     number: u32,
     host: &Host<F, M>,
+    tests: &Tests<P, M>,
     mode: Mode,
 ) -> Result<Plan<Done>, Stop<Refusal>>
 where
     F: Fn(u32, &Items<Text>) -> Result<Text, AllocError>,
+    P: Fn(u32, &Text) -> Result<bool, AllocError>,
     M: Meaning,
     requires serves { Serves F.Fn M.apply host.now }
+    requires decides { Decides P.Fn M.passes tests.now }
     requires some { 1 ≤ number }
     requires few { number ≤ 100000 }
-    ensures { Gives (demo_stages (program (offered host.now) M.apply) number mode) (tt {0}) (planned result) }
+    ensures { Gives (demo_stages (program (offered host.now) (tested tests.now) M.apply M.passes) number mode) (tt {0}) (planned result) }
 {
     let mut inputs = DemoInputs {
         files: demo_files(alloc, number)?,
     };
-    let (mapping, exchange) = exchange_files(alloc, &mut inputs, host, mode)?;
+    let (mapping, exchange) = exchange_files(alloc, &mut inputs, host, tests, mode)?;
     Ok(plan_demo(alloc, number, &mapping, exchange)?)
 }
 
 // What `show` says.
-fn show_plan<I: Inputs, F, M>(
+fn show_plan<I: Inputs, F, P, M>(
     alloc: Global,
     inputs: &mut I,
     host: &Host<F, M>,
+    tests: &Tests<P, M>,
     mode: Mode,
 ) -> Result<Plan<Done>, Stop<Refusal>>
 where
     F: Fn(u32, &Items<Text>) -> Result<Text, AllocError>,
+    P: Fn(u32, &Text) -> Result<bool, AllocError>,
     M: Meaning,
-    ensures { Ran (show_stages (program (offered host.now) M.apply) mode) (tt {0}) (planned result)
+    ensures { Ran (show_stages (program (offered host.now) (tested tests.now) M.apply M.passes) mode) (tt {0}) (planned result)
         (record { holds = I.holds inputs.old; faults = I.faults inputs.old; stopped = I.stopped inputs.old })
         (record { holds = I.holds inputs.new; faults = I.faults inputs.new; stopped = I.stopped inputs.new }) }
 {
-    let mapping = read_mapping(alloc, inputs, host)?;
+    let mapping = read_mapping(alloc, inputs, host, tests)?;
     Ok(plan_shown(alloc, &mapping, host, mode)?)
 }
 
 // What a command writes.
-fn plan_command<I: Inputs, F, M>(
+fn plan_command<I: Inputs, F, P, M>(
     alloc: Global,
     command: Command,
     inputs: &mut I,
     host: &Host<F, M>,
+    tests: &Tests<P, M>,
 ) -> Result<Plan<Done>, Stop<Refusal>>
 where
     F: Fn(u32, &Items<Text>) -> Result<Text, AllocError>,
+    P: Fn(u32, &Text) -> Result<bool, AllocError>,
     M: Meaning,
     requires serves { Serves F.Fn M.apply host.now }
+    requires decides { Decides P.Fn M.passes tests.now }
     requires range { IsInRange command }
-    ensures { Ran (stages_of (program (offered host.now) M.apply) command) (tt {0}) (planned result)
+    ensures { Ran (stages_of (program (offered host.now) (tested tests.now) M.apply M.passes) command) (tt {0}) (planned result)
         (record { holds = I.holds inputs.old; faults = I.faults inputs.old; stopped = I.stopped inputs.old })
         (record { holds = I.holds inputs.new; faults = I.faults inputs.new; stopped = I.stopped inputs.new }) }
 {
     match command {
-        Command::Exchanging { mode, nested } => exchange_plan(alloc, inputs, host, mode, nested),
-        Command::Showing { mode } => show_plan(alloc, inputs, host, mode),
-        Command::Demonstrating { number, mode } => demo_plan(alloc, number, host, mode),
+        Command::Exchanging { mode, nested } => exchange_plan(
+            alloc, inputs, host, tests, mode, nested,
+        ),
+        Command::Showing { mode } => show_plan(alloc, inputs, host, tests, mode),
+        Command::Demonstrating { number, mode } => demo_plan(alloc, number, host, tests, mode),
     }
 }
 
 // What the words ask for.
-fn plan_words<I: Inputs, F, M>(
+fn plan_words<I: Inputs, F, P, M>(
     alloc: Global,
     words: &[Text],
     inputs: &mut I,
     host: &Host<F, M>,
+    tests: &Tests<P, M>,
 ) -> Result<Plan<Done>, Stop<Refusal>>
 where
     F: Fn(u32, &Items<Text>) -> Result<Text, AllocError>,
+    P: Fn(u32, &Text) -> Result<bool, AllocError>,
     M: Meaning,
-    requires { Serves F.Fn M.apply host.now }
-    ensures { Ran (run_stages (program (offered host.now) M.apply)) words.now (planned result)
+    requires serves { Serves F.Fn M.apply host.now }
+    requires decides { Decides P.Fn M.passes tests.now }
+    ensures { Ran (run_stages (program (offered host.now) (tested tests.now) M.apply M.passes)) words.now (planned result)
         (record { holds = I.holds inputs.old; faults = I.faults inputs.old; stopped = I.stopped inputs.old })
         (record { holds = I.holds inputs.new; faults = I.faults inputs.new; stopped = I.stopped inputs.new }) }
 {
     match command_of(words) {
-        Some(command) => plan_command(alloc, command, inputs, host),
+        Some(command) => plan_command(alloc, command, inputs, host, tests),
         None => Err(Stop::Refused(Refusal::Usage)),
     }
 }
 
 /// Runs the command that the words say.
 ///
-/// `exchange` reads `mapping.clio` and the file of each source root, computes the target, puts the files and says the
-/// summary. `show` reads `mapping.clio` and says its rules and their script. `demo` exchanges files that it makes for a number of
+/// `exchange` reads `mapping.clio` and the file of each source root, leaves out the rows that don't pass the mapping's conditions,
+/// as the row tests decide, computes the target, puts the files and says the summary. `show` reads `mapping.clio` and says its rules and their script. `demo` exchanges files that it makes for a number of
 /// employees, and says counts. With `--core` the target is a core. Everything is computed before the first file is put.
 ///
 /// There is a world, a look-up from names to bytes, which is what the inputs hold if they tell. After `Done(Exchanged(e))`, `e` is
-/// the exchange of the mapping text and of the source files there, and exactly its files and its summary were written (specs/Promises,
+/// the exchange of the mapping text and of the rows of the source files there that pass its conditions, and exactly its files and its summary were written (specs/Promises,
 /// `IsDone`). After `Done(Shown)` the rules of the mapping text there and their script were said, and no file was put (`IsShown`); after
 /// `Done(Demo(e))` the summary of `e`, the exchange of the demo's own files (`IsDemo`). After `Clash`, these have no solution
 /// (`IsClashOf`). What another ending leaves says `Leaves` of specs/Leaving: after `WriteFault` the first files of the list, and after all
 /// of them a prefix of the text; after `Memory` nothing, or the same; else nothing. If no call outside failed and the inputs tell, what
 /// there is a solution for is done, and what there is none for is a clash, or memory ran out (specs/Completing). In general the
 /// stages of the words (`run_stages`) give this ending there, and what was written is what they allow.
-pub fn run<I: Inputs, O: Outputs, F, M>(
+pub fn run<I: Inputs, O: Outputs, F, P, M>(
     alloc: Global,
     words: &Vec<Text>,
     inputs: &mut I,
     outputs: &mut O,
     host: &Host<F, M>,
+    tests: &Tests<P, M>,
 ) -> Ending
 where
     F: Fn(u32, &Items<Text>) -> Result<Text, AllocError>,
+    P: Fn(u32, &Text) -> Result<bool, AllocError>,
     M: Meaning,
     requires serves { Serves F.Fn M.apply host.now }
+    requires decides { Decides P.Fn M.passes tests.now }
     ensures exchanged { (e : ExchangeOf) → result ≡ DoneEnding (Exchanged e) → (c : World) × IsOf (I.holds inputs.old) c
-        × IsDone (program (offered host.now) M.apply) c words.now.items e
+        × IsDone (program (offered host.now) (tested tests.now) M.apply M.passes) c words.now.items e
         (record { files = O.files outputs.old; said = O.said outputs.old })
         (record { files = O.files outputs.new; said = O.said outputs.new }) }
     ensures shown { result ≡ DoneEnding Shown → (c : World) × IsOf (I.holds inputs.old) c
-        × IsShown (program (offered host.now) M.apply) c words.now.items
+        × IsShown (program (offered host.now) (tested tests.now) M.apply M.passes) c words.now.items
         (record { files = O.files outputs.old; said = O.said outputs.old })
         (record { files = O.files outputs.new; said = O.said outputs.new }) }
     ensures demo { (e : ExchangeOf) → result ≡ DoneEnding (Demo e)
-        → IsDemo (program (offered host.now) M.apply) words.now.items e
+        → IsDemo (program (offered host.now) (tested tests.now) M.apply M.passes) words.now.items e
         (record { files = O.files outputs.old; said = O.said outputs.old })
         (record { files = O.files outputs.new; said = O.said outputs.new }) }
     ensures clash { (k : ClashOf) (table : List ℕ) (key : List (List ℕ)) (column : List ℕ) → result ≡ ClashEnding k table key column
         → (c : World) × IsOf (I.holds inputs.old) c
-        × IsClashOf (program (offered host.now) M.apply) c words.now.items k table key column }
-    ensures left { (c : World) × IsOf (I.holds inputs.old) c × Leaves (program (offered host.now) M.apply) c words.now.items
+        × IsClashOf (program (offered host.now) (tested tests.now) M.apply M.passes) c words.now.items k table key column }
+    ensures left { (c : World) × IsOf (I.holds inputs.old) c × Leaves (program (offered host.now) (tested tests.now) M.apply M.passes) c words.now.items
         (record { files = O.files outputs.old; said = O.said outputs.old })
         (record { files = O.files outputs.new; said = O.said outputs.new }) result }
     ensures complete { (m : Held) → I.holds inputs.old ≡ Some m → ¬ (Rose (I.faults inputs.old) (I.faults inputs.new))
         → ¬ (Rose (O.faults outputs.old) (O.faults outputs.new))
-        → Completes (program (offered host.now) M.apply) (λ n. get m n) words.now.items result }
+        → Completes (program (offered host.now) (tested tests.now) M.apply M.passes) (λ n. get m n) words.now.items result }
     ensures complete_demo { ¬ (Rose (O.faults outputs.old) (O.faults outputs.new))
-        → CompletesDemo (program (offered host.now) M.apply) words.now.items result }
+        → CompletesDemo (program (offered host.now) (tested tests.now) M.apply M.passes) words.now.items result }
     ensures runs { (e : EndedOf DoneOf RefusalOf) × (result ≡ ending_of e)
-        × Runs AreAlike (run_stages (program (offered host.now) M.apply)) words.now.items e
+        × Runs AreAlike (run_stages (program (offered host.now) (tested tests.now) M.apply M.passes)) words.now.items e
         (record { holds = I.holds inputs.old; faults = I.faults inputs.old; stopped = I.stopped inputs.old })
         (record { holds = I.holds inputs.new; faults = I.faults inputs.new; stopped = I.stopped inputs.new })
         (record { files = O.files outputs.old; said = O.said outputs.old })
         (record { files = O.files outputs.new; said = O.said outputs.new }) (O.faults outputs.old) (O.faults outputs.new) }
 {
-    let plan = plan_words(alloc, words, inputs, host);
+    let plan = plan_words(alloc, words, inputs, host, tests);
     as_ending(carry_out(plan, outputs))
 }

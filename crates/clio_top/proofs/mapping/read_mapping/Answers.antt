@@ -1,4 +1,5 @@
 use Rattle.std.proofs.lemmas.Result.{err_from_is_err_and}
+use Rattle.dx_funcs.specs.Judging.{tested}
 use Rattle.dx_funcs.specs.Serving.{offered}
 use Rattle.clio_top.specs.Running.{program}
 use Rattle.clio_top.proofs.Mappings.{stopped, passed, within}
@@ -7,12 +8,12 @@ use Rattle.clio_top.proofs.mapping.read_mapping.Goals as goal
 pub returns-in_err-text : goal.returns-in_err-text
 returns-in_err-text g c =
     let p = err_from_is_err_and c.from_residual-in_err-text.result c.from_residual-in_err-text.ensures.1 in
-    rw (p.1, p.2) (stopped (program (offered c.args.host.now) g.M.Meaning.apply) c.in_ok-name.name c.in_err-text.field-0.0 _ _ c.in_ok-name.ensures c.in_err-text.ensures)
+    rw (p.1, p.2) (stopped (program (offered c.args.host.now) (tested c.args.tests.now) g.M.Meaning.apply g.M.Meaning.passes) c.in_ok-name.name c.in_err-text.field-0.0 _ _ c.in_ok-name.ensures c.in_err-text.ensures)
 
 pub accept_mapping-requires : goal.accept_mapping-requires
 accept_mapping-requires g c = within c.in_ok-name.name c.in_ok-text.text c.items.result.now _ _ c.items.ensures c.in_ok-text.ensures
 
 pub returns : goal.returns
 returns g c =
-    passed (program (offered c.args.host.now) g.M.Meaning.apply) c.in_ok-name.name c.in_ok-text.text c.items.result.now c.accept_mapping.result _ _
+    passed (program (offered c.args.host.now) (tested c.args.tests.now) g.M.Meaning.apply g.M.Meaning.passes) c.in_ok-name.name c.in_ok-text.text c.items.result.now c.accept_mapping.result _ _
     c.in_ok-name.ensures c.items.ensures c.in_ok-text.ensures c.accept_mapping.ensures

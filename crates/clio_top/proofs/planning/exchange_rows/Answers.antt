@@ -1,18 +1,15 @@
 use Rattle.std.proofs.Common.{◌∙◌, refl, ap, Err}
-use Rattle.dx_funcs.specs.Serving.{offered}
 use Rattle.dx_exchange.specs.declared.fault.ExFault.TheVariants as faults
 use Rattle.dx_exchange.specs.Exchanging.{exchanging}
 use Rattle.dx_stages.proofs.Running.{answer_passes, answer_refuses}
 use Rattle.clio_ending.specs.declared.ending.Refusal.TheVariants as refusals
 use Rattle.clio_ending.specs.Ending.{exchange_refusal}
-use Rattle.clio_top.specs.Running.{Program, asked, program}
-use Rattle.clio_top.proofs.Plans.{rules_fit}
+use Rattle.clio_top.specs.Running.{asked}
 use Rattle.clio_top.proofs.planning.exchange_rows.Goals as goal
 
 pub exchange-requires-clause-fits : goal.exchange-requires-clause-fits
 exchange-requires-clause-fits g c =
-    let P : Program = program (offered c.args.host.now) g.M.Meaning.apply in
-    rw c.items-rules.ensures (rules_fit P c.args.mapping.now c.requires.fits)
+    rw c.items-rules.ensures c.requires.fits
 
 pub returns-in_ok-named_clash-in-Err-Clash : goal.returns-in_ok-named_clash-in-Err-Clash
 returns-in_ok-named_clash-in-Err-Clash g c =

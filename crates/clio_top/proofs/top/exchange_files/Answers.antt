@@ -1,38 +1,44 @@
 use Rattle.std.proofs.Common.{Ok, Err}
 use Rattle.std.proofs.lemmas.Result.{err_from_is_err_and}
+use Rattle.dx_funcs.specs.Judging.{tested}
 use Rattle.dx_funcs.specs.Serving.{offered}
-use Rattle.clio_top.specs.Running.{Program, program}
+use Rattle.clio_top.specs.Running.{Program, program, wanted}
 use Rattle.clio_top.proofs.Mappings.{mapping_fits}
-use Rattle.clio_top.proofs.Plans.{answered, mapping_stops, rows_stop, target_made, target_stops}
+use Rattle.clio_top.proofs.Plans.{answered, mapping_stops, rows_stop, rules_fit, target_made, target_stops}
 use Rattle.clio_top.proofs.SameExchange.{agreeing_widths, same_exchange}
 use Rattle.clio_top.proofs.top.exchange_files.Goals as goal
 
 pub returns-in_err-mapping : goal.returns-in_err-mapping
 returns-in_err-mapping g c =
-    let P : Program = program (offered c.args.host.now) g.M.Meaning.apply in
+    let P : Program = program (offered c.args.host.now) (tested c.args.tests.now) g.M.Meaning.apply g.M.Meaning.passes in
     let p = err_from_is_err_and c.from_residual.result c.from_residual.ensures.1 in
     rw (p.1, p.2) (mapping_stops P c.args.mode c.in_err-mapping.field-0.0 _ _ c.in_err-mapping.ensures)
 
 pub returns-in_err-rows : goal.returns-in_err-rows
 returns-in_err-rows g c =
-    let P : Program = program (offered c.args.host.now) g.M.Meaning.apply in
+    let P : Program = program (offered c.args.host.now) (tested c.args.tests.now) g.M.Meaning.apply g.M.Meaning.passes in
     let p = err_from_is_err_and c.from_residual-in_err-rows.result c.from_residual-in_err-rows.ensures.1 in
     let read = c.in_err-rows.ensures in
     rw (p.1, p.2) (rows_stop P c.args.mode c.in_ok-mapping.mapping c.in_err-rows.field-0.0 _ _ _ c.in_ok-mapping.ensures read.2)
 
+pub read_used_rows-requires-clause-listed : goal.read_used_rows-requires-clause-listed
+read_used_rows-requires-clause-listed g c =
+    let P : Program = program (offered c.args.host.now) (tested c.args.tests.now) g.M.Meaning.apply g.M.Meaning.passes in
+    (mapping_fits P c.in_ok-mapping.mapping _ _ c.in_ok-mapping.ensures).tested
+
 pub exchange_rows-requires-clause-fits : goal.exchange_rows-requires-clause-fits
 exchange_rows-requires-clause-fits g c =
-    let P : Program = program (offered c.args.host.now) g.M.Meaning.apply in
-    mapping_fits P c.in_ok-mapping.mapping _ _ c.in_ok-mapping.ensures
+    let P : Program = program (offered c.args.host.now) (tested c.args.tests.now) g.M.Meaning.apply g.M.Meaning.passes in
+    rules_fit P c.in_ok-mapping.mapping (mapping_fits P c.in_ok-mapping.mapping _ _ c.in_ok-mapping.ensures)
 
 pub exchange_rows-requires-clause-rows : goal.exchange_rows-requires-clause-rows
 exchange_rows-requires-clause-rows g c =
     let read = c.in_ok-rows.ensures in
-    agreeing_widths c.in_ok-mapping.mapping.source read.0 c.in_ok-rows.rows _ _ read.2
+    agreeing_widths g.M.Meaning.passes (wanted c.in_ok-mapping.mapping) read.0 c.in_ok-rows.rows _ _ read.2
 
 pub returns-in_err-exchange : goal.returns-in_err-exchange
 returns-in_err-exchange g c =
-    let P : Program = program (offered c.args.host.now) g.M.Meaning.apply in
+    let P : Program = program (offered c.args.host.now) (tested c.args.tests.now) g.M.Meaning.apply g.M.Meaning.passes in
     let p = err_from_is_err_and c.from_residual-in_err-exchange.result c.from_residual-in_err-exchange.ensures.1 in
     let M = c.in_ok-mapping.mapping in
     let read = c.in_ok-rows.ensures in
@@ -43,7 +49,7 @@ returns-in_err-exchange g c =
 
 pub returns : goal.returns
 returns g c =
-    let P : Program = program (offered c.args.host.now) g.M.Meaning.apply in
+    let P : Program = program (offered c.args.host.now) (tested c.args.tests.now) g.M.Meaning.apply g.M.Meaning.passes in
     let M = c.in_ok-mapping.mapping in
     let read = c.in_ok-rows.ensures in
     let I = read.2.0 in
