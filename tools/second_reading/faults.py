@@ -100,6 +100,40 @@ ITEMS = [
 ]
 
 
+LATER_SCHEMAS = [
+    'set a{x;ref(x)->b(x)optional;}set b{x;ref(x)->a(x)optional;}',
+    'set a{x;ref(x)->b(x)optional;}set b{x;ref(x)->a(x);}',
+    'set a{x;ref(x)->b(y)optional;}set b{x;}',
+    'set a{x;ref(x)->b(x)optional optional;}set b{x;}',
+    'set a{x;ref(x)->b(x)optionall;}set b{x;}',
+    'set a{x;key(x)optional;}',
+    'set optional{x;ref(x)->optional(x)optional;}',
+    'set a{a0,a1,a2,a3,a4,a5,a6,a7;%s}%s' % ("".join("ref(a%d)->b%d(x)optional;" % (n, n) for n in range(8)),
+                                             "".join("set b%d{x;}" % n for n in range(8))),
+    'set a{a0,a1,a2,a3,a4,a5,a6;%s}%s' % ("".join("ref(a%d)->b%d(x)optional;" % (n, n) for n in range(7)),
+                                          "".join("set b%d{x;}" % n for n in range(7))),
+]
+
+CONDITIONS = [
+    'only a.x filled;',
+    'only a.x full;',
+    'only a.y full;',
+    'only b.y full;',
+    'only a.x filled,numeric;',
+    'only a.x;',
+    'only t.y filled;',
+    'only a.x full;line a.z->t.y;',
+    'rule a(p)->u(p);only a.x full;',
+    'only "a" filled;',
+    'onlya.x filled;',
+    'only a.x filled;' * 513,
+    'only a.x filled;' * 256 + 'line a.x->t.y;' * 256,
+    'only a.x filled;' * 256 + 'line a.x->t.y;' * 257,
+]
+
+VERSIONS = ["0", "1", "2", "3", "02", "2 2", "two"]
+
+
 def chosen_folders():
     """The files of each folder."""
     for text in DOCUMENTS:
@@ -111,6 +145,14 @@ def chosen_folders():
         yield {"mapping.clio": "mapping 1; source { } target { %s }" % text}
     for text in ITEMS:
         yield {"mapping.clio": FLAT + text, "a.csv": "x\n"}
+    for version in ("1", "2"):
+        for text in LATER_SCHEMAS:
+            yield {"mapping.clio": "mapping %s; source { %s } target { }" % (version, text)}
+            yield {"mapping.clio": "mapping %s; source { } target { %s }" % (version, text)}
+        for text in CONDITIONS:
+            yield {"mapping.clio": FLAT.replace("1", version, 1) + text, "a.csv": "x\n"}
+    for version in VERSIONS:
+        yield {"mapping.clio": FLAT.replace("1", version, 1) + "line a.x->t.y;", "a.csv": "x\n"}
 
 
 def agrees(program, files):
