@@ -1,20 +1,22 @@
 //! The program: it reads `./NAME`, writes `./out/NAME`, and says to standard output.
 //!
 //! `main` gives the top call `run` of `clio_top` the words of the command line, the working folder (`clio_folder`), and the shipped
-//! conversions, says the message of an ending that is not `Done` to standard error, and ends with its status. If there is no memory
-//! for the words or the conversions, nothing is printed, and the status is 9.
+//! conversions and row tests, says the message of an ending that is not `Done` to standard error, and ends with its status. If there
+//! is no memory for the words, the conversions or the row tests, nothing is printed, and the status is 9.
 #![tactic(auto)]
 
-ghost use Rattle.std.specs.Prelude.{◌≡◌, [], IfOk, length};
+ghost use Rattle.std.specs.Prelude.{◌≡◌, [], IfOk, length, map};
 ghost use Rattle.std.specs.Process.{exit_status};
 ghost use Rattle.clio_ending.specs.Ending.{status_of};
+ghost use Rattle.dx_ports.specs.Members.{◌∈◌};
+ghost use Rattle.dx_funcs.specs.Judging.{Decides};
 ghost use Rattle.dx_funcs.specs.Offers.{IsListed};
 ghost use Rattle.dx_funcs.specs.Serving.{Serves};
-ghost use Rattle.dx_funcs.specs.Shipped.{shipped_apply, shipped_conversions};
+ghost use Rattle.dx_funcs.specs.Shipped.{shipped_apply, shipped_conversions, shipped_passes, shipped_row_tests};
 
 use clio_folder::{FolderInputs, FolderOutputs};
 use clio_top::{Ending, message, run};
-use dx_funcs::{Host, Meaning, Shipped, convert, shipped_list};
+use dx_funcs::{Host, Meaning, Shipped, Tests, check_row, convert, shipped_list, shipped_tests};
 use dx_ports::{Items, Text};
 use std::alloc::{AllocError, Global};
 use std::process::ExitCode;
@@ -71,17 +73,31 @@ fn no_memory() -> ExitCode
 }
 
 // A run of these words in the working folder, and its status.
-fn run_here<F: Fn(u32, &Items<Text>) -> Result<Text, AllocError>, M: Meaning>(
+fn run_here<F, P, M>(
     rt: &(impl Files + Print + Eprint + AllocGlobal),
     words: &Vec<Text>,
     host: &Host<F, M>,
+    tests: &Tests<P, M>,
 ) -> ExitCode
-    requires { Serves F.Fn M.apply host.now }
+where
+    F: Fn(u32, &Items<Text>) -> Result<Text, AllocError>,
+    P: Fn(u32, &Text) -> Result<bool, AllocError>,
+    M: Meaning,
+    requires serves { Serves F.Fn M.apply host.now }
+    requires decides { Decides P.Fn M.passes tests.now }
 {
     let mut inputs = FolderInputs::new(rt);
     let mut outputs = FolderOutputs::new(rt);
-    let ending = run(rt.alloc(), words, &mut inputs, &mut outputs, host);
+    let ending = run(rt.alloc(), words, &mut inputs, &mut outputs, host, tests);
     ended(rt, &ending)
+}
+
+// Whether a text passes a shipped row test.
+fn passes(code: u32, text: &Text) -> Result<bool, AllocError>
+    requires { code ∈ map (λ t. t.code) shipped_row_tests }
+    ensures { IfOk result (λ b. b ≡ shipped_passes code text.now) }
+{
+    check_row(code, text)
 }
 
 fn main(rt: HostRuntime) -> ExitCode {
@@ -93,10 +109,18 @@ fn main(rt: HostRuntime) -> ExitCode {
     let Ok(list) = shipped_list(alloc) else {
         return no_memory();
     };
+    let Ok(listed) = shipped_tests(alloc) else {
+        return no_memory();
+    };
     let conversions = |code: u32, args: &Items<Text>| -> Result<Text, AllocError>
         requires { IsListed shipped_conversions code (length args.now) }
         ensures { IfOk result (λ t. t ≡ shipped_apply code args.entry.now) }
     { convert(alloc, code, args) };
     let host: Host<_, Shipped> = Host::build(list, conversions);
-    run_here(&rt, &words, &host)
+    let row_tests = |code: u32, text: &Text| -> Result<bool, AllocError>
+        requires { code ∈ map (λ t. t.code) shipped_row_tests }
+        ensures { IfOk result (λ b. b ≡ shipped_passes code text.entry.now) }
+    { passes(code, text) };
+    let tests: Tests<_, Shipped> = Tests::build(listed, row_tests);
+    run_here(&rt, &words, &host, &tests)
 }

@@ -1,4 +1,6 @@
 // Tests of the program's calls.
 mod calls;
 mod candidates;
+mod conditions;
 mod faults;
+mod shipped;

@@ -1,26 +1,35 @@
 // Public calls one by one, where there is memory enough.
-ghost use Rattle.std.specs.Prelude.{◌≡◌, IfOk, length};
+ghost use Rattle.std.specs.Prelude.{◌≡◌, IfOk, length, map};
+ghost use Rattle.dx_ports.specs.Members.{◌∈◌};
 ghost use Rattle.dx_funcs.specs.Offers.{IsListed};
-ghost use Rattle.dx_funcs.specs.Shipped.{shipped_apply, shipped_conversions};
+ghost use Rattle.dx_funcs.specs.Shipped.{shipped_apply, shipped_conversions, shipped_passes, shipped_row_tests};
 
 use crate::tests::faults::PEOPLE;
+use crate::tests::shipped::passes;
 use clio_top::{AcceptFault, accept};
-use dx_funcs::{Host, Meaning, Shipped, convert, shipped_list};
+use dx_funcs::{Host, Meaning, Shipped, Tests, convert, shipped_list, shipped_tests};
 use dx_ports::{Items, Text};
 use std::alloc::{AllocError, Global};
 use std::test::Fail;
 
 /// Whether the text of people is accepted, with its one rule and the table of its target.
-fn is_accepted<F: Fn(u32, &Items<Text>) -> Result<Text, AllocError>, M: Meaning>(
+fn is_accepted<F, P, M>(
     alloc: Global,
     host: &Host<F, M>,
-) -> Result<bool, AcceptFault> {
-    let mapping = accept(alloc, PEOPLE.as_bytes(), host)?;
+    tests: &Tests<P, M>,
+) -> Result<bool, AcceptFault>
+where
+    F: Fn(u32, &Items<Text>) -> Result<Text, AllocError>,
+    P: Fn(u32, &Text) -> Result<bool, AllocError>,
+    M: Meaning,
+{
+    let mapping = accept(alloc, PEOPLE.as_bytes(), host, tests)?;
     let person = Text::from_str(alloc, "person")?;
     let emp = Text::from_str(alloc, "emp")?;
     Ok(
         mapping.target.table_named(&person) == Some(0)
             && mapping.target.table_named(&emp) == None
+            && mapping.conditions.len() == 0
             && mapping.rules.len() == 1,
     )
 }
@@ -33,6 +42,11 @@ fn a_mapping_text_is_accepted(rt: HostRuntime) -> Result<(), Fail> {
         ensures { IfOk result (λ t. t ≡ shipped_apply code args.entry.now) }
     { convert(alloc, code, args) };
     let host: Host<_, Shipped> = Host::build(shipped_list(alloc)?, conversions);
-    assert!(rt; is_accepted(alloc, &host)?);
+    let row_tests = |code: u32, text: &Text| -> Result<bool, AllocError>
+        requires { code ∈ map (λ t. t.code) shipped_row_tests }
+        ensures { IfOk result (λ b. b ≡ shipped_passes code text.entry.now) }
+    { passes(code, text) };
+    let tests: Tests<_, Shipped> = Tests::build(shipped_tests(alloc)?, row_tests);
+    assert!(rt; is_accepted(alloc, &host, &tests)?);
     Ok(())
 }

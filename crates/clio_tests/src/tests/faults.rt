@@ -1,11 +1,14 @@
 // Faults outside: each read, each write and each saying fails in turn.
-ghost use Rattle.std.specs.Prelude.{◌≡◌, IfOk, length};
+ghost use Rattle.std.specs.Prelude.{◌≡◌, IfOk, length, map};
+ghost use Rattle.dx_ports.specs.Members.{◌∈◌};
 ghost use Rattle.dx_funcs.specs.Offers.{IsListed};
+ghost use Rattle.dx_funcs.specs.Judging.{Decides};
 ghost use Rattle.dx_funcs.specs.Serving.{Serves};
-ghost use Rattle.dx_funcs.specs.Shipped.{shipped_apply, shipped_conversions};
+ghost use Rattle.dx_funcs.specs.Shipped.{shipped_apply, shipped_conversions, shipped_passes, shipped_row_tests};
 
+use crate::tests::shipped::passes;
 use clio_top::{Ending, message, run};
-use dx_funcs::{Host, Meaning, Shipped, convert, shipped_list};
+use dx_funcs::{Host, Meaning, Shipped, Tests, convert, shipped_list, shipped_tests};
 use dx_ports::{File, Items, MemInputs, MemOutputs, Text};
 use std::alloc::{AllocError, Global};
 use std::test::Fail;
@@ -23,7 +26,7 @@ struct Outcome {
     outputs: MemOutputs,
 }
 
-fn file(alloc: Global, name: &str, bytes: &[u8]) -> Result<File, AllocError> {
+pub(crate) fn file(alloc: Global, name: &str, bytes: &[u8]) -> Result<File, AllocError> {
     let name = Text::from_str(alloc, name)?;
     let bytes = bytes.to_vec(alloc)?;
     Ok(File { name, bytes })
@@ -38,22 +41,28 @@ fn files(alloc: Global) -> Result<Vec<File>, AllocError> {
 }
 
 /// Runs a command of one word on these files, where these calls of the inputs fail.
-fn ending_of<F: Fn(u32, &Items<Text>) -> Result<Text, AllocError>, M: Meaning>(
+fn ending_of<F, P, M>(
     alloc: Global,
     word: &str,
     reads: Vec<u64>,
     outputs: &mut MemOutputs,
     host: &Host<F, M>,
+    tests: &Tests<P, M>,
 ) -> Result<Ending, AllocError>
-    requires { Serves F.Fn M.apply host.now }
+where
+    F: Fn(u32, &Items<Text>) -> Result<Text, AllocError>,
+    P: Fn(u32, &Text) -> Result<bool, AllocError>,
+    M: Meaning,
+    requires serves { Serves F.Fn M.apply host.now }
+    requires decides { Decides P.Fn M.passes tests.now }
 {
     let mut words = Vec::new(alloc);
     words.push(Text::from_str(alloc, word)?)?;
     let mut inputs = MemInputs::new(files(alloc)?, reads);
-    Ok(run(alloc, &words, &mut inputs, outputs, host))
+    Ok(run(alloc, &words, &mut inputs, outputs, host, tests))
 }
 
-/// The same with the conversions that come with the program.
+/// The same with the conversions and row tests that come with the program.
 fn ending(
     alloc: Global,
     word: &str,
@@ -65,7 +74,12 @@ fn ending(
         ensures { IfOk result (λ t. t ≡ shipped_apply code args.entry.now) }
     { convert(alloc, code, args) };
     let host: Host<_, Shipped> = Host::build(shipped_list(alloc)?, conversions);
-    ending_of(alloc, word, reads, outputs, &host)
+    let row_tests = |code: u32, text: &Text| -> Result<bool, AllocError>
+        requires { code ∈ map (λ t. t.code) shipped_row_tests }
+        ensures { IfOk result (λ b. b ≡ shipped_passes code text.entry.now) }
+    { passes(code, text) };
+    let tests: Tests<_, Shipped> = Tests::build(shipped_tests(alloc)?, row_tests);
+    ending_of(alloc, word, reads, outputs, &host, &tests)
 }
 
 /// How it ended and what it left in the outputs, where these calls of the inputs fail.
