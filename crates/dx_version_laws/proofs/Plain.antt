@@ -1,0 +1,55 @@
+-- No set that a text of version 1 says has an optional ref, so that no table has an optional link.
+use Rattle.std.proofs.Common.{◌≡◌, ℕ, zero, suc, ◌+◌, Bool, true, false, refl, List, [], ◌∷◌, Option, Some, None, subst, inl, inr}
+use Rattle.std.specs.Prelude.{slice_index_or}
+use Rattle.std.proofs.lemmas.Bool.{false≢true}
+use Rattle.dx_ports.specs.Members.{◌∈◌, here, there, Each}
+use Rattle.dx_ports.proofs.Members.{from_append, from_map}
+use Rattle.dx_model.specs.Tables.{Table}
+use Rattle.dx_schema.specs.declared.sets.RefDecl.{RefDecl}
+use Rattle.dx_schema.specs.Forest.{Forest, none, set}
+use Rattle.dx_schema.specs.Tables.{Placed, placed, sets_of, count, optional_refs, table_in, tables_of, as_numbers, model_tables}
+use Rattle.dx_logical.specs.Laws.{HasNoOptional}
+use Rattle.dx_schema_text.specs.Print.{AreOfVersion}
+use Rattle.dx_schema_text.proofs.SpelledWords.{said_is_writable}
+use Rattle.dx_schema_text.proofs.Versions.{said_is_of_version}
+use Rattle.dx_version_laws.specs.Laws.{FirstVersionIsPlain}
+
+-- a ref that can't be optional isn't among those that are
+not_optional : (b : Bool) → (b ≡ true → false ≡ true) → b ≡ false
+not_optional true h = absurd (false≢true (h refl))
+not_optional false h = refl
+
+none_optional : (refs : List RefDecl) → Each refs (λ r. r.optional ≡ true → false ≡ true) → optional_refs refs ≡ []
+none_optional [] h = refl
+none_optional (r ∷ refs) h = rw (not_optional r.optional (h r (here refl))) (none_optional refs (λ x m. h x (there m)))
+
+-- so no set of a forest that a text of version 1 can say has an optional ref
+placed_plain : (p : Option ℕ) (n : ℕ) (f : Forest) (s : Placed) → AreOfVersion 1 f → s ∈ placed p n f → optional_refs s.label.refs ≡ []
+placed_plain p n none s h mem = elim mem [ ]
+placed_plain p n (set l i r) s h (here e) = subst (λ (x : Placed). optional_refs x.label.refs ≡ []) e (none_optional l.refs h.0.refs)
+placed_plain p n (set l i r) s h (there mem) =
+    elim (from_append (placed (Some n) (suc n) i) mem) [
+      | inl a ↦ placed_plain (Some n) (suc n) i s h.1 a
+      | inr b ↦ placed_plain p (suc (n + count i)) r s h.2 b
+    ]
+
+-- what the default has and each item has, the item at a place has
+at_place : {X : Type 0} (P : X → Type 0) (xs : List X) (d : X) (k : ℕ) → P d → Each xs P → P (slice_index_or xs k d)
+at_place P [] d k p h = p
+at_place P (x ∷ xs) d zero p h = h x (here refl)
+at_place P (x ∷ xs) d (suc k) p h = at_place P xs d k p (λ y m. h y (there m))
+
+pub no_optional : (f : Forest) → AreOfVersion 1 f → HasNoOptional (model_tables f)
+no_optional f h t = at_place (λ (x : Table). x.optional ≡ []) (model_tables f) _ t refl (λ x m.
+    let a = from_map as_numbers (tables_of f) m in
+    let b = from_map (table_in (sets_of f)) (sets_of f) a.1 in
+    subst (λ (y : Table). y.optional ≡ []) a.2 (rw (← b.2) (rw (placed_plain None 0 f b.0 h b.1) refl)))
+
+pub first_version_is_plain : FirstVersionIsPlain
+first_version_is_plain text m is one =
+    let w = said_is_writable text m is in
+    record {
+      source = no_optional m.source (subst (λ v. AreOfVersion v m.source) one w.0.sayable);
+      target = no_optional m.target (subst (λ v. AreOfVersion v m.target) one w.1.sayable);
+      conditions = (said_is_of_version text m is).1 (rw one refl);
+    }
