@@ -34,6 +34,19 @@ where
     )
 }
 
+/// The same with the row tests that come with the program.
+fn is_accepted_by<F: Fn(u32, &Items<Text>) -> Result<Text, AllocError>>(
+    alloc: Global,
+    host: &Host<F, Shipped>,
+) -> Result<bool, AcceptFault> {
+    let row_tests = |code: u32, text: &Text| -> Result<bool, AllocError>
+        requires { code ∈ map (λ t. t.code) shipped_row_tests }
+        ensures { IfOk result (λ b. b ≡ shipped_passes code text.entry.now) }
+    { passes(code, text) };
+    let tests: Tests<_, Shipped> = Tests::build(shipped_tests(alloc)?, row_tests);
+    is_accepted(alloc, host, &tests)
+}
+
 #[test]
 fn a_mapping_text_is_accepted(rt: HostRuntime) -> Result<(), Fail> {
     let alloc = rt.alloc();
@@ -42,11 +55,6 @@ fn a_mapping_text_is_accepted(rt: HostRuntime) -> Result<(), Fail> {
         ensures { IfOk result (λ t. t ≡ shipped_apply code args.entry.now) }
     { convert(alloc, code, args) };
     let host: Host<_, Shipped> = Host::build(shipped_list(alloc)?, conversions);
-    let row_tests = |code: u32, text: &Text| -> Result<bool, AllocError>
-        requires { code ∈ map (λ t. t.code) shipped_row_tests }
-        ensures { IfOk result (λ b. b ≡ shipped_passes code text.entry.now) }
-    { passes(code, text) };
-    let tests: Tests<_, Shipped> = Tests::build(shipped_tests(alloc)?, row_tests);
-    assert!(rt; is_accepted(alloc, &host, &tests)?);
+    assert!(rt; is_accepted_by(alloc, &host)?);
     Ok(())
 }

@@ -8,7 +8,7 @@ ghost use Rattle.dx_funcs.specs.Shipped.{shipped_apply, shipped_conversions};
 ghost use Rattle.clio_tests.specs.Own.{begins_with_a};
 
 use crate::tests::faults::file;
-use clio_top::run;
+use clio_top::{Ending, run};
 use dx_funcs::{Host, Meaning, RowTest, Tests, convert, shipped_list};
 use dx_ports::{File, Items, MemInputs, MemOutputs, Text};
 use std::alloc::{AllocError, Global};
@@ -48,12 +48,13 @@ fn files(alloc: Global) -> Result<Vec<File>, AllocError> {
     Ok(files)
 }
 
-/// The table of persons that a run puts.
-fn persons<F, P, M>(
+/// Runs an exchange over these files.
+fn exchange<F, P, M>(
     alloc: Global,
+    outputs: &mut MemOutputs,
     host: &Host<F, M>,
     tests: &Tests<P, M>,
-) -> Result<Vec<u8>, AllocError>
+) -> Result<Ending, AllocError>
 where
     F: Fn(u32, &Items<Text>) -> Result<Text, AllocError>,
     P: Fn(u32, &Text) -> Result<bool, AllocError>,
@@ -64,8 +65,11 @@ where
     let mut words = Vec::new(alloc);
     words.push(Text::from_str(alloc, "exchange")?)?;
     let mut inputs = MemInputs::new(files(alloc)?, Vec::new(alloc));
-    let mut outputs = MemOutputs::new(alloc, Vec::new(alloc));
-    let _ = run(alloc, &words, &mut inputs, &mut outputs, host, tests);
+    Ok(run(alloc, &words, &mut inputs, outputs, host, tests))
+}
+
+/// The table of persons among the files that were put.
+fn persons(alloc: Global, outputs: &MemOutputs) -> Result<Vec<u8>, AllocError> {
     for file in outputs.files() {
         if file.name.as_str() == "person.csv" {
             return file.bytes.as_slice().to_vec(alloc);
@@ -86,6 +90,23 @@ fn own_tests(alloc: Global) -> Result<Items<RowTest>, AllocError>
     Ok(list)
 }
 
+/// Whether an exchange with the row test of one's own puts these persons and ends well.
+fn puts<F: Fn(u32, &Items<Text>) -> Result<Text, AllocError>>(
+    alloc: Global,
+    host: &Host<F, Own>,
+    wanted: &[u8],
+) -> Result<bool, AllocError>
+    requires serves { Serves F.Fn ⟦<Own as Meaning>⟧.apply host.now }
+{
+    let row_tests = |code: u32, text: &Text| -> Result<bool, AllocError>
+        ensures { IfOk result (λ b. b ≡ begins_with_a code text.entry.now) }
+    { begins_with_a(code, text) };
+    let tests: Tests<_, Own> = Tests::build(own_tests(alloc)?, row_tests);
+    let mut outputs = MemOutputs::new(alloc, Vec::new(alloc));
+    let status = exchange(alloc, &mut outputs, host, &tests)?.status();
+    Ok(status == 0 && persons(alloc, &outputs)?.as_slice() == wanted)
+}
+
 #[test]
 fn the_kept_closure_decides(rt: HostRuntime) -> Result<(), Fail> {
     let alloc = rt.alloc();
@@ -94,11 +115,6 @@ fn the_kept_closure_decides(rt: HostRuntime) -> Result<(), Fail> {
         ensures { IfOk result (λ t. t ≡ shipped_apply code args.entry.now) }
     { convert(alloc, code, args) };
     let host: Host<_, Own> = Host::build(shipped_list(alloc)?, conversions);
-    let row_tests = |code: u32, text: &Text| -> Result<bool, AllocError>
-        ensures { IfOk result (λ b. b ≡ begins_with_a code text.entry.now) }
-    { begins_with_a(code, text) };
-    let tests: Tests<_, Own> = Tests::build(own_tests(alloc)?, row_tests);
-    let left = persons(alloc, &host, &tests)?;
-    assert!(rt; left.as_slice() == b"name\nbob\ncid\n".as_slice());
+    assert!(rt; puts(alloc, &host, b"name\nbob\ncid\n")?);
     Ok(())
 }

@@ -62,7 +62,25 @@ where
     Ok(run(alloc, &words, &mut inputs, outputs, host, tests))
 }
 
-/// The same with the conversions and row tests that come with the program.
+/// The same with the row tests that come with the program.
+fn ending_by<F: Fn(u32, &Items<Text>) -> Result<Text, AllocError>>(
+    alloc: Global,
+    word: &str,
+    reads: Vec<u64>,
+    outputs: &mut MemOutputs,
+    host: &Host<F, Shipped>,
+) -> Result<Ending, AllocError>
+    requires serves { Serves F.Fn ⟦<Shipped as Meaning>⟧.apply host.now }
+{
+    let row_tests = |code: u32, text: &Text| -> Result<bool, AllocError>
+        requires { code ∈ map (λ t. t.code) shipped_row_tests }
+        ensures { IfOk result (λ b. b ≡ shipped_passes code text.entry.now) }
+    { passes(code, text) };
+    let tests: Tests<_, Shipped> = Tests::build(shipped_tests(alloc)?, row_tests);
+    ending_of(alloc, word, reads, outputs, host, &tests)
+}
+
+/// The same with the conversions that come with the program.
 fn ending(
     alloc: Global,
     word: &str,
@@ -74,12 +92,7 @@ fn ending(
         ensures { IfOk result (λ t. t ≡ shipped_apply code args.entry.now) }
     { convert(alloc, code, args) };
     let host: Host<_, Shipped> = Host::build(shipped_list(alloc)?, conversions);
-    let row_tests = |code: u32, text: &Text| -> Result<bool, AllocError>
-        requires { code ∈ map (λ t. t.code) shipped_row_tests }
-        ensures { IfOk result (λ b. b ≡ shipped_passes code text.entry.now) }
-    { passes(code, text) };
-    let tests: Tests<_, Shipped> = Tests::build(shipped_tests(alloc)?, row_tests);
-    ending_of(alloc, word, reads, outputs, &host, &tests)
+    ending_by(alloc, word, reads, outputs, &host)
 }
 
 /// How it ended and what it left in the outputs, where these calls of the inputs fail.
