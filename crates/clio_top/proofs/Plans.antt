@@ -23,7 +23,7 @@ use Rattle.dx_tgd.proofs.CanonicalFacts.{nulls_have_places}
 use Rattle.dx_exchange.specs.declared.mode.Mode.{Mode}
 use Rattle.dx_exchange.specs.declared.result.Exchange.{Exchange}
 use Rattle.dx_exchange.specs.Exchanging.{Fits, IsExchange}
-use Rattle.dx_exchange.proofs.Fitting.{model_widths}
+use Rattle.dx_schema.proofs.ModelWidths.{model_widths}
 use Rattle.dx_exchange.proofs.Lists.{fit_tuples, one_each}
 use Rattle.dx_stages.specs.declared.stop.Stop.{Stop}
 use Rattle.dx_stages.specs.declared.stop.Stop.TheVariants as stops

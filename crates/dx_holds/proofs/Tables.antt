@@ -41,7 +41,7 @@ as_wide f I t e h =
 
 -- ---- rows
 
-place_of : (I : List TableRows) (t : ℕ) (row : List Value) → row ∈ rows_of I t → (p : ℕ) × (p < length (rows_of I t)) × (row_at I t p ≡ row)
+pub place_of : (I : List TableRows) (t : ℕ) (row : List Value) → row ∈ rows_of I t → (p : ℕ) × (p < length (rows_of I t)) × (row_at I t p ≡ row)
 place_of I t row m =
     let k = contains_from_in m in
     (k.0, k.1, get_or_default (rows_of I t) k.0 [] row k.1 ∙ k.2)
@@ -59,7 +59,7 @@ values_from (suc n) a row h =
     ap (λ (vs : List Value). cell row a ∷ vs) rest ∙ sym (drop-cons row a (Const []) (omega arith))
 
 -- distinct members stand at one place each
-apart : (rows : List (List Value)) (p q : ℕ) → Distinct rows → p < q → q < length rows → ¬ (get_or rows p [] ≡ get_or rows q [])
+pub apart : (rows : List (List Value)) (p q : ℕ) → Distinct rows → p < q → q < length rows → ¬ (get_or rows p [] ≡ get_or rows q [])
 apart [] p q d h b e = absurd (omega arith)
 apart (r ∷ rows) p zero d h b e = absurd (omega arith)
 apart (r ∷ rows) zero (suc q) d h b e = d.0 (rw e (in_at rows q [] (omega arith)))
@@ -93,7 +93,7 @@ determined I t left right a b d m n e =
       ]
     ]
 
-same_rows : (I : List TableRows) (t : ℕ) (columns : List ℕ) (a b : List Value) → RowsDiffer I t columns → a ∈ rows_of I t → b ∈ rows_of I t → values_in columns a ≡ values_in columns b → a ≡ b
+pub same_rows : (I : List TableRows) (t : ℕ) (columns : List ℕ) (a b : List Value) → RowsDiffer I t columns → a ∈ rows_of I t → b ∈ rows_of I t → values_in columns a ≡ values_in columns b → a ≡ b
 same_rows I t columns a b d m n e =
     let p = place_of I t a m in
     let q = place_of I t b n in

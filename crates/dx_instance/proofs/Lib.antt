@@ -28,3 +28,4 @@ pub mod RowKeyFacts
 pub mod Sorting
 pub mod NullOrderFacts
 pub mod PartsFacts
+pub mod Placed

@@ -78,11 +78,11 @@ distinct_texts S rows p w up = distinct_from (map (texts_of S) rows) pairs
 
 -- ---- numbers of values
 
-abbrev number_in : List Value → Value → ℕ
+abbrev pub number_in : List Value → Value → ℕ
 number_in [] v = 0
 number_in (w ∷ ws) v = cond (same_value w v) 0 (suc (number_in ws v))
 
-number_there : (S : List Value) (v : Value) → v ∈ S → (number_in S v < length S) × (value_of S (number_in S v) ≡ v)
+pub number_there : (S : List Value) (v : Value) → v ∈ S → (number_in S v < length S) × (value_of S (number_in S v) ≡ v)
 number_there [] v m = elim m [ ]
 number_there (w ∷ ws) v m = elim (cases_Bool (same_value w v)) [
   | inl t ↦ rw t (omega arith, same_value-true w v t)
@@ -96,19 +96,19 @@ number_there (w ∷ ws) v m = elim (cases_Bool (same_value w v)) [
     rest (here e) f = absurd (self v (subst (λ (u : Value). same_value u v ≡ false) e f))
     rest (there k) f = k
 
-number_is : (S : List Value) (n : ℕ) (v : Value) → AreApart S → n < length S → value_of S n ≡ v → number_in S v ≡ n
+pub number_is : (S : List Value) (n : ℕ) (v : Value) → AreApart S → n < length S → value_of S n ≡ v → number_in S v ≡ n
 number_is S n v p h e =
     let r = number_there S v (subst (λ (u : Value). u ∈ S) e (in_at S n (Const []) h)) in
     number_same S (number_in S v) n p r.0 h (r.1 ∙ sym e)
 
 -- ---- rows of tables
 
-rows_shown : (S : List Value) (ts : List NumberTable) (t : ℕ) → rows_of (shown_tables S ts) t ≡ map (shown_row S) (numbers_of_table ts t).rows
+pub rows_shown : (S : List Value) (ts : List NumberTable) (t : ℕ) → rows_of (shown_tables S ts) t ≡ map (shown_row S) (numbers_of_table ts t).rows
 rows_shown S [] t = refl
 rows_shown S (u ∷ ts) zero = refl
 rows_shown S (u ∷ ts) (suc t) = rows_shown S ts t
 
-table_in : (ts : List NumberTable) (t : ℕ) (r : List ℕ) → r ∈ (numbers_of_table ts t).rows → numbers_of_table ts t ∈ ts
+pub table_in : (ts : List NumberTable) (t : ℕ) (r : List ℕ) → r ∈ (numbers_of_table ts t).rows → numbers_of_table ts t ∈ ts
 table_in [] t r m = elim m [ ]
 table_in (u ∷ ts) zero r m = here refl
 table_in (u ∷ ts) (suc t) r m = there (table_in ts t r m)

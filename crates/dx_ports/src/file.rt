@@ -21,13 +21,13 @@ pub enum Count {
     Columns,
     /// Levels of sets, one inside the other.
     Depth,
-    /// Lines of a mapping.
+    /// Lines of a mapping, and its conditions on rows.
     Lines,
     /// Variants of the tables of a schema.
     Variants,
     /// Occurrences of an unfolding.
     Occurrences,
-    /// Ways between a source table and a target table.
+    /// Ways between a source variant and a target variant.
     Ways,
     /// Candidates of the lines of a mapping.
     Candidates,

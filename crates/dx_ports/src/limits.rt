@@ -15,13 +15,13 @@ pub const COLUMNS: u64 = 64;
 /// Levels of sets, one inside the other.
 pub const DEPTH: u64 = 16;
 
-/// Lines of a mapping.
+/// Lines of a mapping, and its conditions on rows.
 pub const LINES: u64 = 512;
 
 /// Occurrences of an unfolding, and of a premise or a closed conclusion of a rule written by hand.
 pub const OCCURRENCES: u64 = 64;
 
-/// Ways between a source table and a target table.
+/// Ways between a source variant and a target variant.
 pub const WAYS: u64 = 64;
 
 /// Candidates of the lines of a mapping, in all.
@@ -38,3 +38,15 @@ pub const TARGET_CELLS: u64 = 4_000_000;
 
 /// Canonical cells on a frozen premise, for each rule that pruning tests.
 pub const FROZEN_CELLS: u64 = 4_000_000;
+
+/// Bytes of the text of a query.
+pub const QUERY_BYTES: u64 = 65_536;
+
+/// Atoms of a part of a query.
+pub const QUERY_ATOMS: u64 = 64;
+
+/// Cells of the rows that answer a query: rows times columns.
+pub const ANSWER_CELLS: u64 = 4_000_000;
+
+/// Cells of all rows that are given to be judged, as they are read, repeated rows included: rows times columns.
+pub const GIVEN_CELLS: u64 = 1_000_000;
