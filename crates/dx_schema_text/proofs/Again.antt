@@ -7,6 +7,7 @@ use Rattle.dx_grammar.specs.Readers.{Reader, ◌>>=◌, give, token, next_is, ei
 use Rattle.dx_grammar.proofs.Loops.{Consumes, many_on, many_stops}
 use Rattle.dx_grammar.proofs.Spelled.{Again, NotNext, BeginWith, many_again}
 use Rattle.dx_schema.specs.declared.sets.KeyDecl.{KeyDecl}
+use Rattle.dx_schema.specs.declared.sets.DepDecl.{DepDecl}
 use Rattle.dx_schema.specs.declared.sets.RefDecl.{RefDecl}
 use Rattle.dx_schema.specs.Forest.{Forest, Tree}
 use Rattle.dx_schema_text.specs.declared.clauses.Clause.{Clause}
@@ -20,11 +21,11 @@ use Rattle.dx_schema_text.specs.declared.texts.RuleText.{RuleText}
 use Rattle.dx_schema_text.specs.declared.texts.OnlyText.{OnlyText}
 use Rattle.dx_schema_text.specs.declared.texts.MappingText.{MappingText}
 use Rattle.dx_schema_text.specs.declared.mapping.ItemText.{ItemText}
-use Rattle.dx_schema_text.specs.Grammar.{is_word, word_is, number_is, mark_is, since_two}
-use Rattle.dx_schema_text.specs.Reading.{comma_word, words_reader, key_reader, optional_reader, referred_reader, ref_reader, key_clause, ref_clause, set_clause, begins_clause, last_clause_reader, clause_reader_with, set_head_reader, set_reader_of, clause_reader, set_reader, tree_of, place_reader, comma_place, places_reader, string_reader, column_reader, call_reader, named_reader, source_reader, line_reader, name_reader, literal_reader, cell_reader, comma_cell, cells_reader, atom_reader, comma_atom, atoms_reader, derived_reader, comma_derived, where_reader, optional_where, rule_reader, only_reader, line_item, rule_item, only_item, begins_item, item_reader, side_reader, body_reader, mapping_text, mapping_reader}
-use Rattle.dx_schema_text.specs.Spelling.{IsMark, IsKeyword, Comma, comma_then, Parted, parted, SpellsName, name_of, SpellsKey, key_of, SpellsOptional, not_optional, is_optional, SpellsRef, ref_of, SpellsHead, head_of, SpellsSet, set_of, SpellsClauses, no_clause, clause_first, SpellsClause, a_key, a_ref, a_set, SpellsPlace, place_of, SpellsSource, a_literal, a_column, a_call, SpellsLine, line_of, SpellsCell, a_name, a_text, SpellsAtom, atom_of, SpellsDerived, derived_of, SpellsWhere, no_where, where_of, SpellsRule, rule_of, SpellsOnly, only_of, SpellsItem, a_line, a_rule, a_condition, SpellsSide, side_of, IsVersion, version_one, version_two, SpellsMapping, mapping_of}
+use Rattle.dx_schema_text.specs.Grammar.{is_word, word_is, number_is, mark_is, since_two, since_three}
+use Rattle.dx_schema_text.specs.Reading.{comma_word, words_reader, key_reader, decided_reader, dep_reader, optional_reader, referred_reader, ref_reader, key_clause, dep_clause, ref_clause, set_clause, begins_determination, determination_reader, begins_clause, last_clause_reader, clause_reader_with, set_head_reader, set_reader_of, clause_reader, set_reader, tree_of, place_reader, comma_place, places_reader, string_reader, column_reader, call_reader, named_reader, source_reader, line_reader, name_reader, literal_reader, cell_reader, comma_cell, cells_reader, atom_reader, comma_atom, atoms_reader, derived_reader, comma_derived, where_reader, optional_where, rule_reader, only_reader, line_item, rule_item, only_item, begins_item, item_reader, side_reader, body_reader, numbered_reader, mapping_text, mapping_reader}
+use Rattle.dx_schema_text.specs.Spelling.{IsMark, IsKeyword, Comma, comma_then, Parted, parted, SpellsName, name_of, SpellsKey, key_of, SpellsDep, dep_of, SpellsOptional, not_optional, is_optional, SpellsRef, ref_of, SpellsHead, head_of, SpellsSet, set_of, SpellsClauses, no_clause, clause_first, SpellsClause, a_key, a_dep, a_ref, a_set, SpellsPlace, place_of, SpellsSource, a_literal, a_column, a_call, SpellsLine, line_of, SpellsCell, a_name, a_text, SpellsAtom, atom_of, SpellsDerived, derived_of, SpellsWhere, no_where, where_of, SpellsRule, rule_of, SpellsOnly, only_of, SpellsItem, a_line, a_rule, a_condition, SpellsSide, side_of, IsVersion, version_one, version_two, version_three, SpellsMapping, mapping_of}
 use Rattle.dx_schema_text.proofs.Apart.{apart_marks, apart_numbers, apart_words, apart_mark_word, apart_word_mark, apart_any_word_string, apart_string_any_word}
-use Rattle.dx_schema_text.proofs.Follows.{comma_word_consumes, comma_place_consumes, comma_cell_consumes, comma_atom_consumes, comma_derived_consumes, clause_consumes, set_consumes, item_consumes}
+use Rattle.dx_schema_text.proofs.Follows.{comma_word_consumes, comma_place_consumes, comma_cell_consumes, comma_atom_consumes, comma_derived_consumes, apart_determination, clause_consumes, set_consumes, item_consumes}
 use Rattle.std.proofs.lemmas.Bool.{or_left, or_right, or_parts}
 
 abbrev comma : Lexeme → Bool
@@ -91,6 +92,24 @@ unfolding key_reader
 key_behind (key_of {u = u} k o c e kw ow names cw ew) rest =
     rw (append_assoc u (c ∷ e ∷ []) rest, kw, ow, words_behind names (c ∷ e ∷ rest) (no_comma (codes ")") c refl cw), cw, ew) refl
 
+dep_behind : {d : DepDecl} {a : List Lexeme} → SpellsDep d a → (rest : List Lexeme) → dep_reader (a ++ rest) ≡ Ok (d, rest)
+unfolding dep_reader decided_reader
+dep_behind (dep_of {u = u} {v = v} k o c arrow p d e kw ow names cw aw pw decides dw ew) rest =
+    let tail : (v ++ d ∷ e ∷ []) ++ rest ≡ v ++ d ∷ e ∷ rest = append_assoc v (d ∷ e ∷ []) rest in
+    let all : (u ++ c ∷ arrow ∷ p ∷ (v ++ d ∷ e ∷ [])) ++ rest ≡ u ++ c ∷ arrow ∷ p ∷ (v ++ d ∷ e ∷ rest) = append_assoc u (c ∷ arrow ∷ p ∷ (v ++ d ∷ e ∷ [])) rest ∙ ap (λ ys. u ++ c ∷ arrow ∷ p ∷ ys) tail in
+    rw (
+      all,
+      kw,
+      ow,
+      words_behind names (c ∷ arrow ∷ p ∷ (v ++ d ∷ e ∷ rest)) (no_comma (codes ")") c refl cw),
+      cw,
+      aw,
+      pw,
+      words_behind decides (d ∷ e ∷ rest) (no_comma (codes ")") d refl dw),
+      dw,
+      ew,
+    ) refl
+
 optional_behind : {optionals b : Bool} {w : List Lexeme} → SpellsOptional optionals b w → (e : Lexeme) (rest : List Lexeme) → IsMark (codes ";") e → optional_reader optionals (w ++ e ∷ rest) ≡ Ok (b, e ∷ rest)
 unfolding optional_reader
 optional_behind {optionals = false} not_optional e rest ew = refl
@@ -126,6 +145,9 @@ head_behind (head_of {u = u} k n o e kw nw ow names ew) rest =
 key_first : {k : KeyDecl} {a : List Lexeme} → SpellsKey k a → (x : Lexeme) × (v : List Lexeme) × (a ≡ x ∷ v) × IsKeyword (codes "key") x
 key_first (key_of {u = u} k o c e kw ow names cw ew) = (k, o ∷ (u ++ c ∷ e ∷ []), refl, kw)
 
+dep_first : {d : DepDecl} {a : List Lexeme} → SpellsDep d a → (x : Lexeme) × (v : List Lexeme) × (a ≡ x ∷ v) × IsKeyword (codes "dep") x
+dep_first (dep_of {u = u} {v = v} k o c arrow p d e kw ow names cw aw pw decides dw ew) = (k, o ∷ (u ++ c ∷ arrow ∷ p ∷ (v ++ d ∷ e ∷ [])), refl, kw)
+
 ref_first : {optionals : Bool} {r : RefDecl} {a : List Lexeme} → SpellsRef optionals r a → (x : Lexeme) × (v : List Lexeme) × (a ≡ x ∷ v) × IsKeyword (codes "ref") x
 ref_first (ref_of {u = u} {v = v} {w = w} k o c arrow s p d e kw ow names cw aw sw pw more dw is ew) = (k, o ∷ (u ++ c ∷ arrow ∷ s ∷ p ∷ (v ++ d ∷ (w ++ e ∷ []))), refl, kw)
 
@@ -142,15 +164,38 @@ next_true p a v rest x e t = rw e t
 next_false : (p : Lexeme → Bool) (a v rest : List Lexeme) (x : Lexeme) → a ≡ x ∷ v → p x ≡ false → next_is p (a ++ rest) ≡ false
 next_false p a v rest x e t = rw e t
 
-first_clause : {version levels : ℕ} {c : Clause} {a : List Lexeme} → SpellsClause version levels c a → (x : Lexeme) × (v : List Lexeme) × (a ≡ x ∷ v) × (begins_clause levels x ≡ true)
-first_clause {version = version} {levels = zero} (a_key h) = let f = key_first h in (f.0, f.1, f.2, or_left (word_is (codes "key") f.0) (word_is (codes "ref") f.0) f.3)
-first_clause {version = version} {levels = suc levels} (a_key h) = let f = key_first h in (f.0, f.1, f.2, or_left (word_is (codes "key") f.0) (word_is (codes "ref") f.0 || word_is (codes "set") f.0) f.3)
-first_clause {version = version} {levels = zero} (a_ref h) = let f = ref_first h in (f.0, f.1, f.2, or_right (word_is (codes "key") f.0) (word_is (codes "ref") f.0) f.3)
-first_clause {version = version} {levels = suc levels} (a_ref h) = let f = ref_first h in (f.0, f.1, f.2, or_right (word_is (codes "key") f.0) (word_is (codes "ref") f.0 || word_is (codes "set") f.0) (or_left (word_is (codes "ref") f.0) (word_is (codes "set") f.0) f.3))
-first_clause {version = version} {levels = suc levels} (a_set h) = let f = set_first h in (f.0, f.1, f.2, or_right (word_is (codes "key") f.0) (word_is (codes "ref") f.0 || word_is (codes "set") f.0) (or_right (word_is (codes "ref") f.0) (word_is (codes "set") f.0) f.3))
+-- the words `key` and `dep` begin a determination, the second if dependencies may stand
+key_begins : (deps : Bool) (x : Lexeme) → word_is (codes "key") x ≡ true → begins_determination deps x ≡ true
+key_begins false x e = e
+key_begins true x e = or_left (word_is (codes "key") x) (word_is (codes "dep") x) e
+
+dep_begins : (deps : Bool) (x : Lexeme) → deps ≡ true → word_is (codes "dep") x ≡ true → begins_determination deps x ≡ true
+dep_begins false x is e = absurd cc
+dep_begins true x is e = or_right (word_is (codes "key") x) (word_is (codes "dep") x) e
+
+-- what begins a determination, and the words `ref` and `set`, begin a clause
+determination_first : (version levels : ℕ) (x : Lexeme) → begins_determination (since_three version) x ≡ true → begins_clause version levels x ≡ true
+determination_first version zero x e = or_left (begins_determination (since_three version) x) (word_is (codes "ref") x) e
+determination_first version (suc levels) x e = or_left (begins_determination (since_three version) x) (word_is (codes "ref") x || word_is (codes "set") x) e
+
+ref_clause_first : (version levels : ℕ) (x : Lexeme) → word_is (codes "ref") x ≡ true → begins_clause version levels x ≡ true
+ref_clause_first version zero x e = or_right (begins_determination (since_three version) x) (word_is (codes "ref") x) e
+ref_clause_first version (suc levels) x e = or_right (begins_determination (since_three version) x) (word_is (codes "ref") x || word_is (codes "set") x) (or_left (word_is (codes "ref") x) (word_is (codes "set") x) e)
+
+set_clause_first : (version levels : ℕ) (x : Lexeme) → word_is (codes "set") x ≡ true → begins_clause version (suc levels) x ≡ true
+set_clause_first version levels x e = or_right (begins_determination (since_three version) x) (word_is (codes "ref") x || word_is (codes "set") x) (or_right (word_is (codes "ref") x) (word_is (codes "set") x) e)
+
+first_clause : {version levels : ℕ} {c : Clause} {a : List Lexeme} → SpellsClause version levels c a → (x : Lexeme) × (v : List Lexeme) × (a ≡ x ∷ v) × (begins_clause version levels x ≡ true)
+first_clause {version = version} {levels = levels} (a_key h) = let f = key_first h in (f.0, f.1, f.2, determination_first version levels f.0 (key_begins (since_three version) f.0 f.3))
+first_clause {version = version} {levels = levels} (a_dep is h) = let f = dep_first h in (f.0, f.1, f.2, determination_first version levels f.0 (dep_begins (since_three version) f.0 is f.3))
+first_clause {version = version} {levels = levels} (a_ref h) = let f = ref_first h in (f.0, f.1, f.2, ref_clause_first version levels f.0 f.3)
+first_clause {version = version} {levels = suc levels} (a_set h) = let f = set_first h in (f.0, f.1, f.2, set_clause_first version levels f.0 f.3)
 
 abbrev read_key : Reader Lexeme Clause
 read_key = key_reader >>= λ k. give (key_clause k)
+
+abbrev read_dep : Reader Lexeme Clause
+read_dep = dep_reader >>= λ d. give (dep_clause d)
 
 abbrev read_ref : ℕ → Reader Lexeme Clause
 read_ref version = ref_reader (since_two version) >>= λ r. give (ref_clause r)
@@ -161,46 +206,81 @@ read_set inner = inner >>= λ t. give (set_clause t)
 abbrev read_ref_or_set : ℕ → Reader Lexeme Tree → Reader Lexeme Clause
 read_ref_or_set version inner = either (word_is (codes "ref")) (read_ref version) (read_set inner)
 
-key_clause_behind : {k : KeyDecl} {a : List Lexeme} → SpellsKey k a → (rest : List Lexeme) → (key_reader >>= λ v. give (key_clause v)) (a ++ rest) ≡ Ok (key_clause k, rest)
+-- keys and dependencies
+
+key_clause_behind : {k : KeyDecl} {a : List Lexeme} → SpellsKey k a → (rest : List Lexeme) → read_key (a ++ rest) ≡ Ok (key_clause k, rest)
 key_clause_behind {k = k} {a = a} h rest = last_again key_reader key_clause (a ++ rest) rest k (key_behind h rest)
+
+dep_clause_behind : {d : DepDecl} {a : List Lexeme} → SpellsDep d a → (rest : List Lexeme) → read_dep (a ++ rest) ≡ Ok (dep_clause d, rest)
+dep_clause_behind {d = d} {a = a} h rest = last_again dep_reader dep_clause (a ++ rest) rest d (dep_behind h rest)
+
+determined_key : (deps : Bool) {k : KeyDecl} {a : List Lexeme} → SpellsKey k a → (rest : List Lexeme) → determination_reader deps (a ++ rest) ≡ Ok (key_clause k, rest)
+unfolding determination_reader
+determined_key false h rest = key_clause_behind h rest
+determined_key true {a = a} h rest = let f = key_first h in either_left (word_is (codes "key")) read_key read_dep (a ++ rest) (next_true (word_is (codes "key")) a f.1 rest f.0 f.2 f.3) ∙ key_clause_behind h rest
+
+determined_dep : (deps : Bool) {d : DepDecl} {a : List Lexeme} → deps ≡ true → SpellsDep d a → (rest : List Lexeme) → determination_reader deps (a ++ rest) ≡ Ok (dep_clause d, rest)
+unfolding determination_reader
+determined_dep false is h rest = absurd cc
+determined_dep true {a = a} is h rest =
+    let f = dep_first h in
+    either_right (word_is (codes "key")) read_key read_dep (a ++ rest) (next_false (word_is (codes "key")) a f.1 rest f.0 f.2 (apart_words (codes "dep") (codes "key") refl f.0 f.3)) ∙ dep_clause_behind h rest
+
+next_key : (version : ℕ) {k : KeyDecl} {a : List Lexeme} → SpellsKey k a → (rest : List Lexeme) → next_is (begins_determination (since_three version)) (a ++ rest) ≡ true
+next_key version {a = a} h rest = let f = key_first h in next_true (begins_determination (since_three version)) a f.1 rest f.0 f.2 (key_begins (since_three version) f.0 f.3)
+
+next_dep : (version : ℕ) {d : DepDecl} {a : List Lexeme} → since_three version ≡ true → SpellsDep d a → (rest : List Lexeme) → next_is (begins_determination (since_three version)) (a ++ rest) ≡ true
+next_dep version {a = a} is h rest = let f = dep_first h in next_true (begins_determination (since_three version)) a f.1 rest f.0 f.2 (dep_begins (since_three version) f.0 is f.3)
+
+-- another word that begins neither
+no_determination : (version : ℕ) (w : List ℕ) (a : List Lexeme) → pointwise nat_eq w (codes "key") ≡ false → pointwise nat_eq w (codes "dep") ≡ false → ((x : Lexeme) × (u : List Lexeme) × (a ≡ x ∷ u) × IsKeyword w x) → (rest : List Lexeme)
+    → next_is (begins_determination (since_three version)) (a ++ rest) ≡ false
+no_determination version w a no_key no_dep f rest =
+    next_false (begins_determination (since_three version)) a f.1 rest f.0 f.2
+    (apart_determination (since_three version) (word_is w) (apart_words w (codes "key") no_key) (apart_words w (codes "dep") no_dep) f.0 f.3)
+
+-- clauses
 
 ref_clause_behind : (version : ℕ) {r : RefDecl} {a : List Lexeme} → SpellsRef (since_two version) r a → (rest : List Lexeme) → read_ref version (a ++ rest) ≡ Ok (ref_clause r, rest)
 ref_clause_behind version {r = r} {a = a} h rest = last_again (ref_reader (since_two version)) ref_clause (a ++ rest) rest r (ref_behind h rest)
 
-ref_no_key : {optionals : Bool} {r : RefDecl} {a : List Lexeme} → SpellsRef optionals r a → (rest : List Lexeme) → next_is (word_is (codes "key")) (a ++ rest) ≡ false
-ref_no_key {a = a} h rest = let f = ref_first h in next_false (word_is (codes "key")) a f.1 rest f.0 f.2 (apart_words (codes "ref") (codes "key") refl f.0 f.3)
-
-last_clause_key : (version : ℕ) {k : KeyDecl} {a : List Lexeme} → SpellsKey k a → (rest : List Lexeme) → last_clause_reader version (a ++ rest) ≡ Ok (key_clause k, rest)
+last_clause_determined : (version : ℕ) (c : Clause) (xs rest : List Lexeme) → next_is (begins_determination (since_three version)) xs ≡ true → determination_reader (since_three version) xs ≡ Ok (c, rest) → last_clause_reader version xs ≡ Ok (c, rest)
 unfolding last_clause_reader
-last_clause_key version {a = a} h rest = let f = key_first h in either_left (word_is (codes "key")) read_key (read_ref version) (a ++ rest) (next_true (word_is (codes "key")) a f.1 rest f.0 f.2 f.3) ∙ key_clause_behind h rest
+last_clause_determined version c xs rest next read = either_left (begins_determination (since_three version)) (determination_reader (since_three version)) (read_ref version) xs next ∙ read
 
 last_clause_ref : (version : ℕ) {r : RefDecl} {a : List Lexeme} → SpellsRef (since_two version) r a → (rest : List Lexeme) → last_clause_reader version (a ++ rest) ≡ Ok (ref_clause r, rest)
 unfolding last_clause_reader
-last_clause_ref version {a = a} h rest = either_right (word_is (codes "key")) read_key (read_ref version) (a ++ rest) (ref_no_key h rest) ∙ ref_clause_behind version h rest
+last_clause_ref version {a = a} h rest =
+    either_right (begins_determination (since_three version)) (determination_reader (since_three version)) (read_ref version) (a ++ rest) (no_determination version (codes "ref") a refl refl (ref_first h) rest) ∙ ref_clause_behind version h rest
 
-with_key : (version : ℕ) {k : KeyDecl} {a : List Lexeme} → SpellsKey k a → (inner : Reader Lexeme Tree) (rest : List Lexeme) → clause_reader_with version inner (a ++ rest) ≡ Ok (key_clause k, rest)
+with_determined : (version : ℕ) (c : Clause) (inner : Reader Lexeme Tree) (xs rest : List Lexeme) → next_is (begins_determination (since_three version)) xs ≡ true → determination_reader (since_three version) xs ≡ Ok (c, rest) → clause_reader_with version inner xs ≡ Ok (c, rest)
 unfolding clause_reader_with
-with_key version {a = a} h inner rest = let f = key_first h in either_left (word_is (codes "key")) read_key (read_ref_or_set version inner) (a ++ rest) (next_true (word_is (codes "key")) a f.1 rest f.0 f.2 f.3) ∙ key_clause_behind h rest
+with_determined version c inner xs rest next read = either_left (begins_determination (since_three version)) (determination_reader (since_three version)) (read_ref_or_set version inner) xs next ∙ read
 
 with_ref : (version : ℕ) {r : RefDecl} {a : List Lexeme} → SpellsRef (since_two version) r a → (inner : Reader Lexeme Tree) (rest : List Lexeme) → clause_reader_with version inner (a ++ rest) ≡ Ok (ref_clause r, rest)
 unfolding clause_reader_with
 with_ref version {a = a} h inner rest =
     let f = ref_first h in
-    either_right (word_is (codes "key")) read_key (read_ref_or_set version inner) (a ++ rest) (ref_no_key h rest) ∙ either_left (word_is (codes "ref")) (read_ref version) (read_set inner) (a ++ rest) (next_true (word_is (codes "ref")) a f.1 rest f.0 f.2 f.3) ∙ ref_clause_behind version h rest
+    either_right (begins_determination (since_three version)) (determination_reader (since_three version)) (read_ref_or_set version inner) (a ++ rest) (no_determination version (codes "ref") a refl refl f rest)
+    ∙ either_left (word_is (codes "ref")) (read_ref version) (read_set inner) (a ++ rest) (next_true (word_is (codes "ref")) a f.1 rest f.0 f.2 f.3) ∙ ref_clause_behind version h rest
 
 with_set : {version levels : ℕ} {t : Tree} {a : List Lexeme} → SpellsSet version levels t a → (inner : Reader Lexeme Tree) (rest : List Lexeme) → inner (a ++ rest) ≡ Ok (t, rest) → clause_reader_with version inner (a ++ rest) ≡ Ok (set_clause t, rest)
 unfolding clause_reader_with
 with_set {version = version} {t = t} {a = a} h inner rest read =
     let f = set_first h in
-    either_right (word_is (codes "key")) read_key (read_ref_or_set version inner) (a ++ rest) (next_false (word_is (codes "key")) a f.1 rest f.0 f.2 (apart_words (codes "set") (codes "key") refl f.0 f.3))
+    either_right (begins_determination (since_three version)) (determination_reader (since_three version)) (read_ref_or_set version inner) (a ++ rest) (no_determination version (codes "set") a refl refl f rest)
     ∙ either_right (word_is (codes "ref")) (read_ref version) (read_set inner) (a ++ rest) (next_false (word_is (codes "ref")) a f.1 rest f.0 f.2 (apart_words (codes "set") (codes "ref") refl f.0 f.3))
     ∙ last_again inner set_clause (a ++ rest) rest t read
 
-closing_stops : (levels : ℕ) (c : Lexeme) (rest : List Lexeme) → IsMark (codes "}") c → NotNext (begins_clause levels) (c ∷ rest)
-closing_stops zero c rest cw = rw (apart_mark_word (codes "}") (codes "key") c cw, apart_mark_word (codes "}") (codes "ref") c cw) refl
-closing_stops (suc levels) c rest cw = rw (apart_mark_word (codes "}") (codes "key") c cw, apart_mark_word (codes "}") (codes "ref") c cw, apart_mark_word (codes "}") (codes "set") c cw) refl
+-- a closing brace begins no determination
+brace_determination : (version : ℕ) (c : Lexeme) → IsMark (codes "}") c → begins_determination (since_three version) c ≡ false
+brace_determination version c cw = apart_determination (since_three version) (mark_is (codes "}")) (apart_mark_word (codes "}") (codes "key")) (apart_mark_word (codes "}") (codes "dep")) c cw
 
-set_made : (version levels : ℕ) (name : List ℕ) (columns : List (List ℕ)) (cs : List Clause) (c : Lexeme) (xs after rest : List Lexeme) → set_head_reader xs ≡ Ok ((name, columns), after) → many (begins_clause levels) (clause_reader version levels) after ≡ Ok (cs, c ∷ rest) → IsMark (codes "}") c
+closing_stops : (version levels : ℕ) (c : Lexeme) (rest : List Lexeme) → IsMark (codes "}") c → NotNext (begins_clause version levels) (c ∷ rest)
+closing_stops version zero c rest cw = rw (brace_determination version c cw, apart_mark_word (codes "}") (codes "ref") c cw) refl
+closing_stops version (suc levels) c rest cw = rw (brace_determination version c cw, apart_mark_word (codes "}") (codes "ref") c cw, apart_mark_word (codes "}") (codes "set") c cw) refl
+
+set_made : (version levels : ℕ) (name : List ℕ) (columns : List (List ℕ)) (cs : List Clause) (c : Lexeme) (xs after rest : List Lexeme) → set_head_reader xs ≡ Ok ((name, columns), after) → many (begins_clause version levels) (clause_reader version levels) after ≡ Ok (cs, c ∷ rest) → IsMark (codes "}") c
     → set_reader version levels xs ≡ Ok (tree_of name columns cs, rest)
 unfolding set_reader_of
 set_made version levels name columns cs c xs after rest e f cw = rw (e, f, cw) refl
@@ -211,19 +291,21 @@ mutual
   pub set_behind : {version levels : ℕ} {t : Tree} {a : List Lexeme} → SpellsSet version levels t a → (rest : List Lexeme) → set_reader version levels (a ++ rest) ≡ Ok (t, rest)
   set_behind {version = version} {levels = levels} (set_of {name = name} {columns = columns} {cs = cs} {u = u} {v = v} c head clauses cw) rest =
       let all : (u ++ (v ++ c ∷ [])) ++ rest ≡ u ++ (v ++ c ∷ rest) = append_assoc u (v ++ c ∷ []) rest ∙ ap (λ ys. u ++ ys) (append_assoc v (c ∷ []) rest) in
-      ap (set_reader version levels) all ∙ set_made version levels name columns cs c (u ++ (v ++ c ∷ rest)) (v ++ c ∷ rest) rest (head_behind head (v ++ c ∷ rest)) (clauses_behind clauses (c ∷ rest) (closing_stops levels c rest cw)) cw
+      ap (set_reader version levels) all ∙ set_made version levels name columns cs c (u ++ (v ++ c ∷ rest)) (v ++ c ∷ rest) rest (head_behind head (v ++ c ∷ rest)) (clauses_behind clauses (c ∷ rest) (closing_stops version levels c rest cw)) cw
 
-  clauses_behind : {version levels : ℕ} {cs : List Clause} {a : List Lexeme} → SpellsClauses version levels cs a → (rest : List Lexeme) → NotNext (begins_clause levels) rest → many (begins_clause levels) (clause_reader version levels) (a ++ rest) ≡ Ok (cs, rest)
-  clauses_behind {version = version} {levels = levels} no_clause rest stop = many_stops (begins_clause levels) (clause_reader version levels) (clause_consumes version levels) rest stop
+  clauses_behind : {version levels : ℕ} {cs : List Clause} {a : List Lexeme} → SpellsClauses version levels cs a → (rest : List Lexeme) → NotNext (begins_clause version levels) rest → many (begins_clause version levels) (clause_reader version levels) (a ++ rest) ≡ Ok (cs, rest)
+  clauses_behind {version = version} {levels = levels} no_clause rest stop = many_stops (begins_clause version levels) (clause_reader version levels) (clause_consumes version levels) rest stop
   clauses_behind {version = version} {levels = levels} (clause_first {c = c} {cs = cs} {u = u} {v = v} h more) rest stop =
       let f = first_clause h in
-      ap (many (begins_clause levels) (clause_reader version levels)) (append_assoc u v rest)
-      ∙ many_on (begins_clause levels) (clause_reader version levels) (clause_consumes version levels) (u ++ (v ++ rest)) (v ++ rest) c (next_true (begins_clause levels) u f.1 (v ++ rest) f.0 f.2 f.3) (clause_behind h (v ++ rest))
+      ap (many (begins_clause version levels) (clause_reader version levels)) (append_assoc u v rest)
+      ∙ many_on (begins_clause version levels) (clause_reader version levels) (clause_consumes version levels) (u ++ (v ++ rest)) (v ++ rest) c (next_true (begins_clause version levels) u f.1 (v ++ rest) f.0 f.2 f.3) (clause_behind h (v ++ rest))
       ∙ ap (with_front (c ∷ [])) (clauses_behind more rest stop)
 
   pub clause_behind : {version levels : ℕ} {c : Clause} {a : List Lexeme} → SpellsClause version levels c a → (rest : List Lexeme) → clause_reader version levels (a ++ rest) ≡ Ok (c, rest)
-  clause_behind {version = version} {levels = zero} (a_key h) rest = last_clause_key version h rest
-  clause_behind {version = version} {levels = suc levels} (a_key h) rest = with_key version h (set_reader version levels) rest
+  clause_behind {version = version} {levels = zero} {a = a} (a_key {k = k} h) rest = last_clause_determined version (key_clause k) (a ++ rest) rest (next_key version h rest) (determined_key (since_three version) h rest)
+  clause_behind {version = version} {levels = suc levels} {a = a} (a_key {k = k} h) rest = with_determined version (key_clause k) (set_reader version levels) (a ++ rest) rest (next_key version h rest) (determined_key (since_three version) h rest)
+  clause_behind {version = version} {levels = zero} {a = a} (a_dep {d = d} is h) rest = last_clause_determined version (dep_clause d) (a ++ rest) rest (next_dep version is h rest) (determined_dep (since_three version) is h rest)
+  clause_behind {version = version} {levels = suc levels} {a = a} (a_dep {d = d} is h) rest = with_determined version (dep_clause d) (set_reader version levels) (a ++ rest) rest (next_dep version is h rest) (determined_dep (since_three version) is h rest)
   clause_behind {version = version} {levels = zero} (a_ref h) rest = last_clause_ref version h rest
   clause_behind {version = version} {levels = suc levels} (a_ref h) rest = with_ref version h (set_reader version levels) rest
   clause_behind {version = version} {levels = suc levels} (a_set h) rest = with_set h (set_reader version levels) rest (set_behind h rest)
@@ -431,9 +513,10 @@ body_behind {version = version} {items = items} {v = v} {w = w} e ew from to h r
 
 -- the number of a version tells which body is read
 version_read : {version : ℕ} {n : Lexeme} → IsVersion version n → (levels : ℕ) (xs : List Lexeme)
-    → either (number_is (codes "1")) (token (number_is (codes "1")) >>= λ number. body_reader 1 levels) (token (number_is (codes "2")) >>= λ number. body_reader 2 levels) (n ∷ xs) ≡ body_reader version levels xs
+    → either (number_is (codes "1")) (numbered_reader (codes "1") 1 levels) (either (number_is (codes "2")) (numbered_reader (codes "2") 2 levels) (numbered_reader (codes "3") 3 levels)) (n ∷ xs) ≡ body_reader version levels xs
 version_read (version_one nw) levels xs = rw nw refl
 version_read (version_two {n = n} nw) levels xs = rw (apart_numbers (codes "2") (codes "1") refl n nw, nw) refl
+version_read (version_three {n = n} nw) levels xs = rw (apart_numbers (codes "3") (codes "1") refl n nw, apart_numbers (codes "3") (codes "2") refl n nw, nw) refl
 
 mapping_behind : {levels : ℕ} {m : MappingText} {a : List Lexeme} → SpellsMapping levels m a → (rest : List Lexeme) → NoItemNext rest → mapping_reader levels (a ++ rest) ≡ Ok (m, rest)
 unfolding mapping_reader

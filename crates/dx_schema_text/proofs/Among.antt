@@ -3,6 +3,7 @@ use Rattle.std.proofs.Common.{◌≡◌, List, [], ◌∷◌, ◌++◌, refl, ap
 use Rattle.std.proofs.lemmas.List.{append-nil}
 use Rattle.dx_schema.specs.Forest.{Forest, Tree, none, set, followed_by}
 use Rattle.dx_schema.specs.declared.sets.KeyDecl.{KeyDecl}
+use Rattle.dx_schema.specs.declared.sets.DepDecl.{DepDecl}
 use Rattle.dx_schema.specs.declared.sets.RefDecl.{RefDecl}
 use Rattle.dx_schema_text.specs.declared.clauses.Clause.{Clause}
 use Rattle.dx_schema_text.specs.declared.clauses.Clause.TheVariants as clauses
@@ -11,23 +12,33 @@ use Rattle.dx_schema_text.specs.declared.texts.RuleText.{RuleText}
 use Rattle.dx_schema_text.specs.declared.texts.OnlyText.{OnlyText}
 use Rattle.dx_schema_text.specs.declared.mapping.ItemText.{ItemText}
 use Rattle.dx_schema_text.specs.declared.mapping.ItemText.TheVariants as items
-use Rattle.dx_schema_text.specs.Reading.{keys_among, refs_among, sets_among, lines_among, conditions_among, rules_among}
+use Rattle.dx_schema_text.specs.Reading.{keys_among, deps_among, refs_among, sets_among, lines_among, conditions_among, rules_among}
 
 pub keys_among-append : (cs ds : List Clause) → keys_among (cs ++ ds) ≡ keys_among cs ++ keys_among ds
 keys_among-append [] ds = refl
 keys_among-append (clauses.Key k ∷ cs) ds = ap (λ ks. k ∷ ks) (keys_among-append cs ds)
+keys_among-append (clauses.Dep d ∷ cs) ds = keys_among-append cs ds
 keys_among-append (clauses.Ref r ∷ cs) ds = keys_among-append cs ds
 keys_among-append (clauses.Set t ∷ cs) ds = keys_among-append cs ds
+
+pub deps_among-append : (cs ds : List Clause) → deps_among (cs ++ ds) ≡ deps_among cs ++ deps_among ds
+deps_among-append [] ds = refl
+deps_among-append (clauses.Key k ∷ cs) ds = deps_among-append cs ds
+deps_among-append (clauses.Dep d ∷ cs) ds = ap (λ xs. d ∷ xs) (deps_among-append cs ds)
+deps_among-append (clauses.Ref r ∷ cs) ds = deps_among-append cs ds
+deps_among-append (clauses.Set t ∷ cs) ds = deps_among-append cs ds
 
 pub refs_among-append : (cs ds : List Clause) → refs_among (cs ++ ds) ≡ refs_among cs ++ refs_among ds
 refs_among-append [] ds = refl
 refs_among-append (clauses.Key k ∷ cs) ds = refs_among-append cs ds
+refs_among-append (clauses.Dep d ∷ cs) ds = refs_among-append cs ds
 refs_among-append (clauses.Ref r ∷ cs) ds = ap (λ rs. r ∷ rs) (refs_among-append cs ds)
 refs_among-append (clauses.Set t ∷ cs) ds = refs_among-append cs ds
 
 pub sets_among-append : (cs ds : List Clause) → sets_among (cs ++ ds) ≡ followed_by (sets_among cs) (sets_among ds)
 sets_among-append [] ds = refl
 sets_among-append (clauses.Key k ∷ cs) ds = sets_among-append cs ds
+sets_among-append (clauses.Dep d ∷ cs) ds = sets_among-append cs ds
 sets_among-append (clauses.Ref r ∷ cs) ds = sets_among-append cs ds
 sets_among-append (clauses.Set t ∷ cs) ds = ap (set t.label t.inner) (sets_among-append cs ds)
 
@@ -54,31 +65,37 @@ followed_by-none none = refl
 followed_by-none (set l i r) = ap (set l i) (followed_by-none r)
 
 -- what is among clauses, told of those that were seen
-abbrev pub Among : List Clause → List KeyDecl → List RefDecl → Forest → Type 0
-Among cs keys refs sets = (keys ≡ keys_among cs) × (refs ≡ refs_among cs) × (sets ≡ sets_among cs)
+abbrev pub Among : List Clause → List KeyDecl → List DepDecl → List RefDecl → Forest → Type 0
+Among cs keys deps refs sets = (keys ≡ keys_among cs) × (deps ≡ deps_among cs) × (refs ≡ refs_among cs) × (sets ≡ sets_among cs)
 
-among-append : (cs ds : List Clause) (keys more_keys : List KeyDecl) (refs more_refs : List RefDecl) (sets more_sets : Forest) → keys ≡ keys_among cs → refs ≡ refs_among cs → sets ≡ sets_among cs
-    → more_keys ≡ keys ++ keys_among ds → more_refs ≡ refs ++ refs_among ds → more_sets ≡ followed_by sets (sets_among ds) → Among (cs ++ ds) more_keys more_refs more_sets
-among-append cs ds keys more_keys refs more_refs sets more_sets k r s p q t = (
-  p ∙ ap (λ ks. ks ++ keys_among ds) k ∙ sym (keys_among-append cs ds),
-  q ∙ ap (λ rs. rs ++ refs_among ds) r ∙ sym (refs_among-append cs ds),
-  t ∙ ap (λ f. followed_by f (sets_among ds)) s ∙ sym (sets_among-append cs ds),
+among-append : (cs ds : List Clause) (keys more_keys : List KeyDecl) (deps more_deps : List DepDecl) (refs more_refs : List RefDecl) (sets more_sets : Forest) → Among cs keys deps refs sets
+    → more_keys ≡ keys ++ keys_among ds → more_deps ≡ deps ++ deps_among ds → more_refs ≡ refs ++ refs_among ds → more_sets ≡ followed_by sets (sets_among ds) → Among (cs ++ ds) more_keys more_deps more_refs more_sets
+among-append cs ds keys more_keys deps more_deps refs more_refs sets more_sets seen k d r s = (
+  k ∙ ap (λ ks. ks ++ keys_among ds) seen.0 ∙ sym (keys_among-append cs ds),
+  d ∙ ap (λ xs. xs ++ deps_among ds) seen.1 ∙ sym (deps_among-append cs ds),
+  r ∙ ap (λ rs. rs ++ refs_among ds) seen.2 ∙ sym (refs_among-append cs ds),
+  s ∙ ap (λ f. followed_by f (sets_among ds)) seen.3 ∙ sym (sets_among-append cs ds),
 )
 
-pub keys_push : (cs : List Clause) (c : Clause) (key : KeyDecl) (keys more : List KeyDecl) (refs : List RefDecl) (sets : Forest) → c ≡ clauses.Key key → more ≡ keys ++ key ∷ [] → keys ≡ keys_among cs → refs ≡ refs_among cs → sets ≡ sets_among cs
-    → Among (cs ++ c ∷ []) more refs sets
-keys_push cs c key keys more refs sets is pushed k r s =
-    rw is (among-append cs (clauses.Key key ∷ []) keys more refs refs sets sets k r s pushed (sym (append-nil refs)) (sym (followed_by-none sets)))
+pub keys_push : (cs : List Clause) (c : Clause) (key : KeyDecl) (keys more : List KeyDecl) (deps : List DepDecl) (refs : List RefDecl) (sets : Forest) → c ≡ clauses.Key key → more ≡ keys ++ key ∷ [] → Among cs keys deps refs sets
+    → Among (cs ++ c ∷ []) more deps refs sets
+keys_push cs c key keys more deps refs sets is pushed seen =
+    rw is (among-append cs (clauses.Key key ∷ []) keys more deps deps refs refs sets sets seen pushed (sym (append-nil deps)) (sym (append-nil refs)) (sym (followed_by-none sets)))
 
-pub refs_push : (cs : List Clause) (c : Clause) (reference : RefDecl) (keys : List KeyDecl) (refs more : List RefDecl) (sets : Forest) → c ≡ clauses.Ref reference → more ≡ refs ++ reference ∷ [] → keys ≡ keys_among cs → refs ≡ refs_among cs → sets ≡ sets_among cs
-    → Among (cs ++ c ∷ []) keys more sets
-refs_push cs c reference keys refs more sets is pushed k r s =
-    rw is (among-append cs (clauses.Ref reference ∷ []) keys keys refs more sets sets k r s (sym (append-nil keys)) pushed (sym (followed_by-none sets)))
+pub deps_push : (cs : List Clause) (c : Clause) (dep : DepDecl) (keys : List KeyDecl) (deps more : List DepDecl) (refs : List RefDecl) (sets : Forest) → c ≡ clauses.Dep dep → more ≡ deps ++ dep ∷ [] → Among cs keys deps refs sets
+    → Among (cs ++ c ∷ []) keys more refs sets
+deps_push cs c dep keys deps more refs sets is pushed seen =
+    rw is (among-append cs (clauses.Dep dep ∷ []) keys keys deps more refs refs sets sets seen (sym (append-nil keys)) pushed (sym (append-nil refs)) (sym (followed_by-none sets)))
 
-pub sets_push : (cs : List Clause) (c : Clause) (tree : Tree) (keys : List KeyDecl) (refs : List RefDecl) (sets more : Forest) → c ≡ clauses.Set tree → more ≡ followed_by sets (set tree.label tree.inner none) → keys ≡ keys_among cs → refs ≡ refs_among cs → sets ≡ sets_among cs
-    → Among (cs ++ c ∷ []) keys refs more
-sets_push cs c tree keys refs sets more is pushed k r s =
-    rw is (among-append cs (clauses.Set tree ∷ []) keys keys refs refs sets more k r s (sym (append-nil keys)) (sym (append-nil refs)) pushed)
+pub refs_push : (cs : List Clause) (c : Clause) (reference : RefDecl) (keys : List KeyDecl) (deps : List DepDecl) (refs more : List RefDecl) (sets : Forest) → c ≡ clauses.Ref reference → more ≡ refs ++ reference ∷ [] → Among cs keys deps refs sets
+    → Among (cs ++ c ∷ []) keys deps more sets
+refs_push cs c reference keys deps refs more sets is pushed seen =
+    rw is (among-append cs (clauses.Ref reference ∷ []) keys keys deps deps refs more sets sets seen (sym (append-nil keys)) (sym (append-nil deps)) pushed (sym (followed_by-none sets)))
+
+pub sets_push : (cs : List Clause) (c : Clause) (tree : Tree) (keys : List KeyDecl) (deps : List DepDecl) (refs : List RefDecl) (sets more : Forest) → c ≡ clauses.Set tree → more ≡ followed_by sets (set tree.label tree.inner none) → Among cs keys deps refs sets
+    → Among (cs ++ c ∷ []) keys deps refs more
+sets_push cs c tree keys deps refs sets more is pushed seen =
+    rw is (among-append cs (clauses.Set tree ∷ []) keys keys deps deps refs refs sets more seen (sym (append-nil keys)) (sym (append-nil deps)) (sym (append-nil refs)) pushed)
 
 -- what is among items, told of those that were seen
 abbrev pub AmongItems : List ItemText → List LineText → List OnlyText → List RuleText → Type 0

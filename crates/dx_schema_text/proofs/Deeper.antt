@@ -12,9 +12,9 @@ use Rattle.dx_grammar.proofs.Spelled.{Found, Finds, many_finds}
 use Rattle.dx_schema.specs.Forest.{Tree, Forest, forest_of}
 use Rattle.dx_schema_text.specs.declared.clauses.Clause.{Clause}
 use Rattle.dx_schema_text.specs.declared.texts.MappingText.{MappingText}
-use Rattle.dx_schema_text.specs.Grammar.{word_is, number_is, mark_is, since_two}
-use Rattle.dx_schema_text.specs.Reading.{key_reader, ref_reader, key_clause, ref_clause, set_clause, tree_of, begins_clause, last_clause_reader, clause_reader_with, set_head_reader, set_reader_of, clause_reader, set_reader, side_reader, body_reader, mapping_reader}
-use Rattle.dx_schema_text.specs.Spelling.{IsKeyword, IsMark, IsVersion, version_one, version_two, SpellsHead, SpellsSet, SpellsClause, SpellsSide}
+use Rattle.dx_schema_text.specs.Grammar.{word_is, number_is, mark_is, since_two, since_three}
+use Rattle.dx_schema_text.specs.Reading.{determination_reader, begins_determination, ref_reader, ref_clause, set_clause, tree_of, begins_clause, last_clause_reader, clause_reader_with, set_head_reader, set_reader_of, clause_reader, set_reader, side_reader, body_reader, numbered_reader, mapping_reader}
+use Rattle.dx_schema_text.specs.Spelling.{IsKeyword, IsMark, IsVersion, version_one, version_two, version_three, SpellsHead, SpellsSet, SpellsClause, SpellsSide}
 use Rattle.dx_schema_text.specs.Texts.{deepest, form, deeper_form, judged_tokens, IsUnexpected, StandsDeeper, OpenSets, one_set, and_inner, OpenSide, open_side, OpenMapping, in_source, in_target, IsSetTooDeep}
 use Rattle.dx_schema_text.proofs.Apart.{apart_word_mark}
 use Rattle.dx_schema_text.proofs.Found.{set_head_finds, last_clause_finds, clause_finds, clauses_of, set_finds, side_finds}
@@ -146,10 +146,10 @@ abbrev closed : (List Clause → Tree) → List Clause → Reader Lexeme Tree
 closed h cs = token (mark_is (codes "}")) >>= λ closing. give (h cs)
 
 abbrev no_level : ℕ → ℕ → Reader Lexeme (List Clause)
-no_level version n = many_within (begins_clause 0) (clause_reader version 0) n
+no_level version n = many_within (begins_clause version 0) (clause_reader version 0) n
 
 abbrev a_level : ℕ → ℕ → Reader Lexeme (List Clause)
-a_level version n = many_within (begins_clause 1) (clause_reader version 1) n
+a_level version n = many_within (begins_clause version 1) (clause_reader version 1) n
 
 -- whole clauses
 abbrev Clauses : ℕ → List Lexeme → Type 0
@@ -172,11 +172,11 @@ clause_by version n h xs (Ok p) qq e f more = elim (more (λ cs. h (p.0 ∷ cs))
 ]
 clause_by version n h xs (Err left) qq e f more = inl (ap (λ r. passed (passed r (λ a. a_level version n >>= λ others. give (a ∷ others))) (closed h)) e)
 
-key_same : (version : ℕ) (x : Lexeme) (xs : List Lexeme) → word_is (codes "key") x ≡ true → clause_reader version 1 (x ∷ xs) ≡ clause_reader version 0 (x ∷ xs)
+determined_same : (version : ℕ) (x : Lexeme) (xs : List Lexeme) → begins_determination (since_three version) x ≡ true → clause_reader version 1 (x ∷ xs) ≡ clause_reader version 0 (x ∷ xs)
 unfolding clause_reader last_clause_reader clause_reader_with
-key_same version x xs e = rw e refl
+determined_same version x xs e = rw e refl
 
-ref_same : (version : ℕ) (x : Lexeme) (xs : List Lexeme) → word_is (codes "key") x ≡ false → word_is (codes "ref") x ≡ true → clause_reader version 1 (x ∷ xs) ≡ clause_reader version 0 (x ∷ xs)
+ref_same : (version : ℕ) (x : Lexeme) (xs : List Lexeme) → begins_determination (since_three version) x ≡ false → word_is (codes "ref") x ≡ true → clause_reader version 1 (x ∷ xs) ≡ clause_reader version 0 (x ∷ xs)
 unfolding clause_reader last_clause_reader clause_reader_with
 ref_same version x xs e f = rw (e, f) refl
 
@@ -186,8 +186,8 @@ no_level_finds version = clause_finds version 0
 loop : (version n : ℕ) (h : List Clause → Tree) (xs : List Lexeme) → (passed (a_level version n xs) (closed h) ≡ passed (no_level version n xs) (closed h)) ⊎ Cut (Clauses version) xs (passed (no_level version n xs) (closed h))
 loop version zero h xs = inl refl
 loop version (suc n) h [] = inl refl
-loop version (suc n) h (x ∷ xs) = elim (cases_Bool (word_is (codes "key") x)) [
-  | inl k ↦ rw k (clause_by version n h (x ∷ xs) (clause_reader version 0 (x ∷ xs)) (clause_reader version 1 (x ∷ xs)) (key_same version x xs k) ((no_level_finds version).found (x ∷ xs)) (loop version n))
+loop version (suc n) h (x ∷ xs) = elim (cases_Bool (begins_determination (since_three version) x)) [
+  | inl k ↦ rw k (clause_by version n h (x ∷ xs) (clause_reader version 0 (x ∷ xs)) (clause_reader version 1 (x ∷ xs)) (determined_same version x xs k) ((no_level_finds version).found (x ∷ xs)) (loop version n))
   | inr k ↦ elim (cases_Bool (word_is (codes "ref") x)) [
     | inl r ↦ rw (k, r) (clause_by version n h (x ∷ xs) (clause_reader version 0 (x ∷ xs)) (clause_reader version 1 (x ∷ xs)) (ref_same version x xs k r) ((no_level_finds version).found (x ∷ xs)) (loop version n))
     | inr r ↦ elim (cases_Bool (word_is (codes "set") x)) [
@@ -212,7 +212,7 @@ deepest_alike version =
 clause_alike : (version levels : ℕ) → Alike (set_reader version levels) (set_reader version (suc levels)) (OpenSets version (suc levels)) → Alike (clause_reader version (suc levels)) (clause_reader version (suc (suc levels))) (OpenSets version (suc levels))
 unfolding clause_reader clause_reader_with
 clause_alike version levels inner =
-    either_alike (word_is (codes "key")) _ _ _ _ (OpenSets version (suc levels)) (same_alike (key_reader >>= λ k. give (key_clause k)) (OpenSets version (suc levels)))
+    either_alike (begins_determination (since_three version)) _ _ _ _ (OpenSets version (suc levels)) (same_alike (determination_reader (since_three version)) (OpenSets version (suc levels)))
     (either_alike (word_is (codes "ref")) _ _ _ _ (OpenSets version (suc levels)) (same_alike (ref_reader (since_two version) >>= λ r. give (ref_clause r)) (OpenSets version (suc levels)))
     (before_alike (set_reader version levels) (set_reader version (suc levels)) (λ t. give (set_clause t)) (OpenSets version (suc levels)) inner))
 
@@ -221,9 +221,9 @@ with_inner : (version l : ℕ) → Alike (clause_reader version (suc l)) (clause
 unfolding set_reader_of
 with_inner version l one =
     after_alike set_head_reader _ _ (λ head u. SpellsHead head.0 head.1 u) (OpenSets version (suc (suc l))) set_head_finds (λ head u h.
-    then_alike (many (begins_clause (suc l)) (clause_reader version (suc l))) (many (begins_clause (suc (suc l))) (clause_reader version (suc (suc l)))) _ _ (Many (SpellsClause version (suc l))) (After (SpellsClause version (suc l)) (OpenSets version (suc l))) (λ front. OpenSets version (suc (suc l)) (u ++ front))
-    (many_alike (begins_clause (suc l)) (clause_reader version (suc l)) (clause_reader version (suc (suc l))) (SpellsClause version (suc l)) (OpenSets version (suc l)) (clause_finds version (suc l)) one)
-    (many_finds (begins_clause (suc l)) (clause_reader version (suc l)) (SpellsClause version (suc l)) (clause_finds version (suc l)))
+    then_alike (many (begins_clause version (suc l)) (clause_reader version (suc l))) (many (begins_clause version (suc (suc l))) (clause_reader version (suc (suc l)))) _ _ (Many (SpellsClause version (suc l))) (After (SpellsClause version (suc l)) (OpenSets version (suc l))) (λ front. OpenSets version (suc (suc l)) (u ++ front))
+    (many_alike (begins_clause version (suc l)) (clause_reader version (suc l)) (clause_reader version (suc (suc l))) (SpellsClause version (suc l)) (OpenSets version (suc l)) (clause_finds version (suc l)) one)
+    (many_finds (begins_clause version (suc l)) (clause_reader version (suc l)) (SpellsClause version (suc l)) (clause_finds version (suc l)))
     (λ front t. subst (λ v. OpenSets version (suc (suc l)) (u ++ v)) (sym t.are) (and_inner h (clauses_of version (suc l) t.read) t.has))
     (λ cs v m. same_alike _ _))
 
@@ -263,7 +263,9 @@ mapping_alike =
     head_alike (word_is (codes "mapping")) _ _ (OpenMapping 16) (λ k kw.
     either_alike (number_is (codes "1")) _ _ _ _ (λ front. OpenMapping 16 (k ∷ front))
     (head_alike (number_is (codes "1")) _ _ (λ front. OpenMapping 16 (k ∷ front)) (λ n nw. body_alike 1 k n kw (version_one nw)))
-    (head_alike (number_is (codes "2")) _ _ (λ front. OpenMapping 16 (k ∷ front)) (λ n nw. body_alike 2 k n kw (version_two nw))))
+    (either_alike (number_is (codes "2")) _ _ _ _ (λ front. OpenMapping 16 (k ∷ front))
+    (head_alike (number_is (codes "2")) _ _ (λ front. OpenMapping 16 (k ∷ front)) (λ n nw. body_alike 2 k n kw (version_two nw)))
+    (head_alike (number_is (codes "3")) _ _ (λ front. OpenMapping 16 (k ∷ front)) (λ n nw. body_alike 3 k n kw (version_three nw)))))
 
 -- ---- the fault
 

@@ -10,8 +10,8 @@ use Rattle.dx_grammar.proofs.Combined.{one_reads, nothing_reads, then_reads, the
 use Rattle.dx_grammar.proofs.Loops.{Consumes}
 use Rattle.dx_schema.specs.Forest.{Tree}
 use Rattle.dx_schema_text.specs.declared.clauses.Clause.{Clause}
-use Rattle.dx_schema_text.specs.Grammar.{is_word, is_string, word_is, number_is, mark_is, since_two, word, string, keyword, mark, words, key, optional_word, ref, set_head, set_of, last_clause, clause_with, clause, set, place, places, behind_word, source, line, cell, cells, atom, atoms, derived, where_part, rule, only, item, side, body, mapping}
-use Rattle.dx_schema_text.specs.Reading.{comma_word, words_reader, key_reader, optional_reader, referred_reader, ref_reader, key_clause, ref_clause, set_clause, begins_clause, last_clause_reader, clause_reader_with, set_head_reader, set_reader_of, clause_reader, set_reader, place_reader, comma_place, places_reader, string_reader, column_reader, call_reader, named_reader, source_reader, line_reader, name_reader, literal_reader, cell_reader, comma_cell, cells_reader, atom_reader, comma_atom, atoms_reader, derived_reader, comma_derived, where_reader, optional_where, rule_reader, only_reader, line_item, rule_item, only_item, begins_item, item_reader, side_reader, body_reader, mapping_reader}
+use Rattle.dx_schema_text.specs.Grammar.{is_word, is_string, word_is, number_is, mark_is, since_two, since_three, word, string, keyword, mark, words, key, dep, determination, optional_word, ref, set_head, set_of, last_clause, clause_with, clause, set, place, places, behind_word, source, line, cell, cells, atom, atoms, derived, where_part, rule, only, item, side, body, numbered, mapping}
+use Rattle.dx_schema_text.specs.Reading.{comma_word, words_reader, key_reader, decided_reader, dep_reader, determination_reader, begins_determination, optional_reader, referred_reader, ref_reader, key_clause, dep_clause, ref_clause, set_clause, begins_clause, last_clause_reader, clause_reader_with, set_head_reader, set_reader_of, clause_reader, set_reader, place_reader, comma_place, places_reader, string_reader, column_reader, call_reader, named_reader, source_reader, line_reader, name_reader, literal_reader, cell_reader, comma_cell, cells_reader, atom_reader, comma_atom, atoms_reader, derived_reader, comma_derived, where_reader, optional_where, rule_reader, only_reader, line_item, rule_item, only_item, begins_item, item_reader, side_reader, body_reader, numbered_reader, mapping_reader}
 use Rattle.dx_schema_text.proofs.Apart.{apart_marks, apart_numbers, apart_words, apart_mark_word, apart_word_mark, apart_any_word_string, apart_string_any_word}
 
 abbrev comma : Lexeme → Bool
@@ -50,6 +50,10 @@ pub key_begins : Begins (word_is (codes "key")) key
 unfolding key
 key_begins = begins_with (word_is (codes "key")) _
 
+dep_begins : Begins (word_is (codes "dep")) dep
+unfolding dep
+dep_begins = begins_with (word_is (codes "dep")) _
+
 abbrev says_optional : Lexeme → Bool
 says_optional = word_is (codes "optional")
 
@@ -79,6 +83,49 @@ key_reads =
     last_reads Anything (mark (codes ";")) (token (mark_is (codes ";"))) _ (a (mark_is (codes ";")))))
     (λ more ok. comma_stops (codes ")") _ more (apart_marks (codes ",") (codes ")") refl) (begins_with (mark_is (codes ")")) _))))
 
+pub dep_reads : IsReader Anything dep dep_reader
+unfolding dep dep_reader decided_reader
+dep_reads =
+    then_any Anything _ _ _ _ (a (word_is (codes "dep"))) (λ keyword'.
+    then_any Anything _ _ _ _ (a (mark_is (codes "("))) (λ opening.
+    then_reads Anything (Stops comma) words _ words_reader _ words_reads (λ columns.
+    then_any Anything _ _ _ _ (a (mark_is (codes ")"))) (λ closing.
+    then_any Anything _ _ _ _ (a (mark_is (codes "->"))) (λ arrow.
+    then_any Anything _ _ _ _ (a (mark_is (codes "("))) (λ second.
+    then_reads Anything (Stops comma) words (mark (codes ")") ▸ mark (codes ";")) words_reader _ words_reads (λ decides.
+    then_any Anything _ _ _ _ (a (mark_is (codes ")"))) (λ closed.
+    last_reads Anything (mark (codes ";")) (token (mark_is (codes ";"))) _ (a (mark_is (codes ";")))))
+    (λ more ok. comma_stops (codes ")") _ more (apart_marks (codes ",") (codes ")") refl) (begins_with (mark_is (codes ")")) _))))))
+    (λ more ok. comma_stops (codes ")") _ more (apart_marks (codes ",") (codes ")") refl) (begins_with (mark_is (codes ")")) _))))
+
+-- ---- keys and dependencies
+
+determination_begins : (deps : Bool) → Begins (begins_determination deps) (determination deps)
+unfolding determination
+determination_begins false = key_begins
+determination_begins true =
+    begins_choice (begins_determination true) key dep
+    (begins_wider (word_is (codes "key")) (begins_determination true) key (λ x e. (or_parts (word_is (codes "key") x) (word_is (codes "dep") x) e).0) key_begins)
+    (begins_wider (word_is (codes "dep")) (begins_determination true) dep (λ x e. (or_parts (word_is (codes "key") x) (word_is (codes "dep") x) e).1) dep_begins)
+
+determination_reads : (deps : Bool) → IsReader Anything (determination deps) (determination_reader deps)
+unfolding determination determination_reader
+determination_reads false = last_reads Anything key key_reader key_clause key_reads
+determination_reads true =
+    either_reads Anything (word_is (codes "key")) key dep _ _ (last_reads Anything key key_reader key_clause key_reads) (last_reads Anything dep dep_reader dep_clause dep_reads) key_begins
+    (λ more ok. stops_at (word_is (codes "key")) (word_is (codes "dep")) dep more dep_begins (apart_words (codes "key") (codes "dep") refl))
+
+-- a token that begins neither a key nor a dependency
+determination_apart : (deps : Bool) (q : Lexeme → Bool) → AreApart (word_is (codes "key")) q → AreApart (word_is (codes "dep")) q → AreApart (begins_determination deps) q
+determination_apart false q k d = k
+determination_apart true q k d = or_apart (word_is (codes "key")) (word_is (codes "dep")) q k d
+
+pub apart_determination : (deps : Bool) (q : Lexeme → Bool) → AreApart q (word_is (codes "key")) → AreApart q (word_is (codes "dep")) → AreApart q (begins_determination deps)
+apart_determination false q k d = k
+apart_determination true q k d = apart_or q (word_is (codes "key")) (word_is (codes "dep")) k d
+
+-- ---- clauses
+
 pub ref_reads : (optionals : Bool) → IsReader Anything (ref optionals) (ref_reader optionals)
 unfolding ref ref_reader referred_reader
 ref_reads optionals =
@@ -100,26 +147,35 @@ ref_reads optionals =
 pub last_clause_reads : (version : ℕ) → IsReader Anything (last_clause version) (last_clause_reader version)
 unfolding last_clause last_clause_reader
 last_clause_reads version =
+    let d = since_three version in
     let b = since_two version in
-    either_reads Anything (word_is (codes "key")) key (ref b) _ _ (last_reads Anything key key_reader key_clause key_reads) (last_reads Anything (ref b) (ref_reader b) ref_clause (ref_reads b)) key_begins
-    (λ more ok. stops_at (word_is (codes "key")) (word_is (codes "ref")) (ref b) more (ref_begins b) (apart_words (codes "key") (codes "ref") refl))
+    either_reads Anything (begins_determination d) (determination d) (ref b) _ _ (determination_reads d) (last_reads Anything (ref b) (ref_reader b) ref_clause (ref_reads b)) (determination_begins d)
+    (λ more ok. stops_at (begins_determination d) (word_is (codes "ref")) (ref b) more (ref_begins b)
+    (determination_apart d (word_is (codes "ref")) (apart_words (codes "key") (codes "ref") refl) (apart_words (codes "dep") (codes "ref") refl)))
 
 abbrev ref_or_set : Lexeme → Bool
 ref_or_set x = word_is (codes "ref") x || word_is (codes "set") x
 
+determination_ref_set : (deps : Bool) → AreApart (begins_determination deps) ref_or_set
+determination_ref_set deps =
+    determination_apart deps ref_or_set
+    (apart_or (word_is (codes "key")) (word_is (codes "ref")) (word_is (codes "set")) (apart_words (codes "key") (codes "ref") refl) (apart_words (codes "key") (codes "set") refl))
+    (apart_or (word_is (codes "dep")) (word_is (codes "ref")) (word_is (codes "set")) (apart_words (codes "dep") (codes "ref") refl) (apart_words (codes "dep") (codes "set") refl))
+
 pub clause_with_reads : (version : ℕ) (inner : Form Lexeme) (r : Reader Lexeme Tree) → IsReader Anything inner r → Begins (word_is (codes "set")) inner → IsReader Anything (clause_with version inner) (clause_reader_with version r)
 unfolding clause_with clause_reader_with
 clause_with_reads version inner r reads begins =
+    let d = since_three version in
     let b = since_two version in
-    either_reads Anything (word_is (codes "key")) key (ref b ∣ inner) _ _ (last_reads Anything key key_reader key_clause key_reads)
+    either_reads Anything (begins_determination d) (determination d) (ref b ∣ inner) _ _ (determination_reads d)
     (either_reads Anything (word_is (codes "ref")) (ref b) inner _ _ (last_reads Anything (ref b) (ref_reader b) ref_clause (ref_reads b)) (last_reads Anything inner r set_clause reads) (ref_begins b)
     (λ more ok. stops_at (word_is (codes "ref")) (word_is (codes "set")) inner more begins (apart_words (codes "ref") (codes "set") refl)))
-    key_begins
-    (λ more ok. stops_at (word_is (codes "key")) ref_or_set (ref b ∣ inner) more
+    (determination_begins d)
+    (λ more ok. stops_at (begins_determination d) ref_or_set (ref b ∣ inner) more
     (begins_choice ref_or_set (ref b) inner
     (begins_wider (word_is (codes "ref")) ref_or_set (ref b) (λ x e. (or_parts (word_is (codes "ref") x) (word_is (codes "set") x) e).0) (ref_begins b))
     (begins_wider (word_is (codes "set")) ref_or_set inner (λ x e. (or_parts (word_is (codes "ref") x) (word_is (codes "set") x) e).1) begins))
-    (apart_or (word_is (codes "key")) (word_is (codes "ref")) (word_is (codes "set")) (apart_words (codes "key") (codes "ref") refl) (apart_words (codes "key") (codes "set") refl)))
+    (determination_ref_set d))
 
 pub set_head_reads : IsReader Anything set_head set_head_reader
 unfolding set_head set_head_reader
@@ -139,47 +195,57 @@ set_of_reads begins inner r reads first apart =
     last_reads Anything (mark (codes "}")) (token (mark_is (codes "}"))) _ (a (mark_is (codes "}"))))
     (λ more ok. stops_at begins (mark_is (codes "}")) (mark (codes "}")) more (begins_one (mark_is (codes "}"))) apart))
 
-last_clause_begins : (version : ℕ) → Begins (begins_clause 0) (last_clause version)
+last_clause_begins : (version : ℕ) → Begins (begins_clause version 0) (last_clause version)
 unfolding last_clause
 last_clause_begins version =
-    begins_choice (begins_clause 0) key (ref (since_two version))
-    (begins_wider (word_is (codes "key")) (begins_clause 0) key (λ x e. (or_parts (word_is (codes "key") x) (word_is (codes "ref") x) e).0) key_begins)
-    (begins_wider (word_is (codes "ref")) (begins_clause 0) (ref (since_two version)) (λ x e. (or_parts (word_is (codes "key") x) (word_is (codes "ref") x) e).1) (ref_begins (since_two version)))
+    let d = since_three version in
+    let b = since_two version in
+    begins_choice (begins_clause version 0) (determination d) (ref b)
+    (begins_wider (begins_determination d) (begins_clause version 0) (determination d) (λ x e. (or_parts (begins_determination d x) (word_is (codes "ref") x) e).0) (determination_begins d))
+    (begins_wider (word_is (codes "ref")) (begins_clause version 0) (ref b) (λ x e. (or_parts (begins_determination d x) (word_is (codes "ref") x) e).1) (ref_begins b))
 
-clause_with_begins : (version levels : ℕ) (inner : Form Lexeme) → Begins (word_is (codes "set")) inner → Begins (begins_clause (suc levels)) (clause_with version inner)
+clause_with_begins : (version levels : ℕ) (inner : Form Lexeme) → Begins (word_is (codes "set")) inner → Begins (begins_clause version (suc levels)) (clause_with version inner)
 unfolding clause_with
 clause_with_begins version levels inner begins =
+    let d = since_three version in
     let b = since_two version in
-    let two : (x : Lexeme) → begins_clause (suc levels) x ≡ false → ref_or_set x ≡ false = λ x e. (or_parts (word_is (codes "key") x) (ref_or_set x) e).1 in
-    begins_choice (begins_clause (suc levels)) key (ref b ∣ inner)
-    (begins_wider (word_is (codes "key")) (begins_clause (suc levels)) key (λ x e. (or_parts (word_is (codes "key") x) (ref_or_set x) e).0) key_begins)
-    (begins_choice (begins_clause (suc levels)) (ref b) inner
-    (begins_wider (word_is (codes "ref")) (begins_clause (suc levels)) (ref b) (λ x e. (or_parts (word_is (codes "ref") x) (word_is (codes "set") x) (two x e)).0) (ref_begins b))
-    (begins_wider (word_is (codes "set")) (begins_clause (suc levels)) inner (λ x e. (or_parts (word_is (codes "ref") x) (word_is (codes "set") x) (two x e)).1) begins))
+    let all = begins_clause version (suc levels) in
+    let two : (x : Lexeme) → all x ≡ false → ref_or_set x ≡ false = λ x e. (or_parts (begins_determination d x) (ref_or_set x) e).1 in
+    begins_choice all (determination d) (ref b ∣ inner)
+    (begins_wider (begins_determination d) all (determination d) (λ x e. (or_parts (begins_determination d x) (ref_or_set x) e).0) (determination_begins d))
+    (begins_choice all (ref b) inner
+    (begins_wider (word_is (codes "ref")) all (ref b) (λ x e. (or_parts (word_is (codes "ref") x) (word_is (codes "set") x) (two x e)).0) (ref_begins b))
+    (begins_wider (word_is (codes "set")) all inner (λ x e. (or_parts (word_is (codes "ref") x) (word_is (codes "set") x) (two x e)).1) begins))
 
-pub clause_begins : (version levels : ℕ) → Begins (begins_clause levels) (clause version levels)
+pub clause_begins : (version levels : ℕ) → Begins (begins_clause version levels) (clause version levels)
 unfolding clause
 clause_begins version zero = last_clause_begins version
 clause_begins version (suc levels) = clause_with_begins version levels (set_of (clause version levels)) (set_of_begins (clause version levels))
 
-clause_apart : (levels : ℕ) → AreApart (begins_clause levels) (mark_is (codes "}"))
-clause_apart zero = or_apart (word_is (codes "key")) (word_is (codes "ref")) (mark_is (codes "}")) (apart_word_mark (codes "key") (codes "}")) (apart_word_mark (codes "ref") (codes "}"))
-clause_apart (suc levels) =
-    or_apart (word_is (codes "key")) ref_or_set (mark_is (codes "}")) (apart_word_mark (codes "key") (codes "}"))
-    (or_apart (word_is (codes "ref")) (word_is (codes "set")) (mark_is (codes "}")) (apart_word_mark (codes "ref") (codes "}")) (apart_word_mark (codes "set") (codes "}")))
+abbrev closing_brace : Lexeme → Bool
+closing_brace = mark_is (codes "}")
+
+determination_closing : (deps : Bool) → AreApart (begins_determination deps) closing_brace
+determination_closing deps = determination_apart deps closing_brace (apart_word_mark (codes "key") (codes "}")) (apart_word_mark (codes "dep") (codes "}"))
+
+clause_apart : (version levels : ℕ) → AreApart (begins_clause version levels) closing_brace
+clause_apart version zero = or_apart (begins_determination (since_three version)) (word_is (codes "ref")) closing_brace (determination_closing (since_three version)) (apart_word_mark (codes "ref") (codes "}"))
+clause_apart version (suc levels) =
+    or_apart (begins_determination (since_three version)) ref_or_set closing_brace (determination_closing (since_three version))
+    (or_apart (word_is (codes "ref")) (word_is (codes "set")) closing_brace (apart_word_mark (codes "ref") (codes "}")) (apart_word_mark (codes "set") (codes "}")))
 
 pub clause_reads : (version levels : ℕ) → IsReader Anything (clause version levels) (clause_reader version levels)
 unfolding clause clause_reader
 clause_reads version zero = last_clause_reads version
 clause_reads version (suc levels) =
-    clause_with_reads version (set_of (clause version levels)) (set_reader_of (begins_clause levels) (clause_reader version levels))
-    (set_of_reads (begins_clause levels) (clause version levels) (clause_reader version levels) (clause_reads version levels) (clause_begins version levels) (clause_apart levels)) (set_of_begins (clause version levels))
+    clause_with_reads version (set_of (clause version levels)) (set_reader_of (begins_clause version levels) (clause_reader version levels))
+    (set_of_reads (begins_clause version levels) (clause version levels) (clause_reader version levels) (clause_reads version levels) (clause_begins version levels) (clause_apart version levels)) (set_of_begins (clause version levels))
 
 pub clause_consumes : (version levels : ℕ) → Consumes (clause_reader version levels)
-clause_consumes version levels = consumes (begins_clause levels) (clause version levels) (clause_reader version levels) (clause_reads version levels) (clause_begins version levels)
+clause_consumes version levels = consumes (begins_clause version levels) (clause version levels) (clause_reader version levels) (clause_reads version levels) (clause_begins version levels)
 
 pub set_reads : (version levels : ℕ) → IsReader Anything (set version levels) (set_reader version levels)
-set_reads version levels = set_of_reads (begins_clause levels) (clause version levels) (clause_reader version levels) (clause_reads version levels) (clause_begins version levels) (clause_apart levels)
+set_reads version levels = set_of_reads (begins_clause version levels) (clause version levels) (clause_reader version levels) (clause_reads version levels) (clause_begins version levels) (clause_apart version levels)
 
 pub set_consumes : (version levels : ℕ) → Consumes (set_reader version levels)
 set_consumes version levels = consumes (word_is (codes "set")) (set version levels) (set_reader version levels) (set_reads version levels) (set_of_begins (clause version levels))
@@ -470,12 +536,30 @@ body_reads version levels =
     last_reads NoItem (repeated (item (since_two version))) (many (begins_item (since_two version)) (item_reader (since_two version))) _ (items_read (since_two version)))))
 
 -- the number of a version, and what stands after it
-numbered_reads : (number : List ℕ) (version levels : ℕ) → IsReader NoItem (one (number_is number) ▸ body version levels) (token (number_is number) >>= λ n. body_reader version levels)
+numbered_reads : (number : List ℕ) (version levels : ℕ) → IsReader NoItem (numbered number version levels) (numbered_reader number version levels)
 numbered_reads number version levels = then_any NoItem _ _ _ _ (a (number_is number)) (λ n. body_reads version levels)
+
+numbered_begins : (number : List ℕ) (version levels : ℕ) → Begins (number_is number) (numbered number version levels)
+numbered_begins number version levels = begins_with (number_is number) (body version levels)
+
+abbrev two_or_three : Lexeme → Bool
+two_or_three x = number_is (codes "2") x || number_is (codes "3") x
+
+later_begins : (levels : ℕ) → Begins two_or_three (numbered (codes "2") 2 levels ∣ numbered (codes "3") 3 levels)
+later_begins levels =
+    begins_choice two_or_three (numbered (codes "2") 2 levels) (numbered (codes "3") 3 levels)
+    (begins_wider (number_is (codes "2")) two_or_three (numbered (codes "2") 2 levels) (λ x e. (or_parts (number_is (codes "2") x) (number_is (codes "3") x) e).0) (numbered_begins (codes "2") 2 levels))
+    (begins_wider (number_is (codes "3")) two_or_three (numbered (codes "3") 3 levels) (λ x e. (or_parts (number_is (codes "2") x) (number_is (codes "3") x) e).1) (numbered_begins (codes "3") 3 levels))
+
+later_reads : (levels : ℕ) → IsReader NoItem (numbered (codes "2") 2 levels ∣ numbered (codes "3") 3 levels) (either (number_is (codes "2")) (numbered_reader (codes "2") 2 levels) (numbered_reader (codes "3") 3 levels))
+later_reads levels =
+    either_reads NoItem (number_is (codes "2")) _ _ _ _ (numbered_reads (codes "2") 2 levels) (numbered_reads (codes "3") 3 levels) (numbered_begins (codes "2") 2 levels)
+    (λ more ok. stops_at (number_is (codes "2")) (number_is (codes "3")) _ more (numbered_begins (codes "3") 3 levels) (apart_numbers (codes "2") (codes "3") refl))
 
 pub mapping_reads : (levels : ℕ) → IsReader NoItem (mapping levels) (mapping_reader levels)
 unfolding mapping mapping_reader
 mapping_reads levels =
     then_any NoItem _ _ _ _ (a (word_is (codes "mapping"))) (λ keyword'.
-    either_reads NoItem (number_is (codes "1")) _ _ _ _ (numbered_reads (codes "1") 1 levels) (numbered_reads (codes "2") 2 levels) (begins_with (number_is (codes "1")) (body 1 levels))
-    (λ more ok. stops_at (number_is (codes "1")) (number_is (codes "2")) _ more (begins_with (number_is (codes "2")) (body 2 levels)) (apart_numbers (codes "1") (codes "2") refl)))
+    either_reads NoItem (number_is (codes "1")) _ _ _ _ (numbered_reads (codes "1") 1 levels) (later_reads levels) (numbered_begins (codes "1") 1 levels)
+    (λ more ok. stops_at (number_is (codes "1")) two_or_three _ more (later_begins levels)
+    (apart_or (number_is (codes "1")) (number_is (codes "2")) (number_is (codes "3")) (apart_numbers (codes "1") (codes "2") refl) (apart_numbers (codes "1") (codes "3") refl))))

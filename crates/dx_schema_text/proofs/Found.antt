@@ -1,14 +1,14 @@
 -- What is read is spelled.
-use Rattle.std.proofs.Common.{ℕ, zero, suc, Bool, true, false, List, [], ◌∷◌, ◌++◌}
+use Rattle.std.proofs.Common.{◌≡◌, ℕ, zero, suc, Bool, true, false, List, [], ◌∷◌, ◌++◌, refl}
 use Rattle.std.specs.Prelude.{codes}
 use Rattle.dx_tokens.specs.declared.scanner.Lexeme.{Lexeme}
 use Rattle.dx_grammar.specs.Readers.{Reader, ◌>>=◌, give, token, many, Many, no_more, one_more}
 use Rattle.dx_grammar.proofs.Spelled.{Finds, give_finds, then_finds, last_finds, head_finds, either_finds, many_finds, finds_wider}
 use Rattle.dx_schema.specs.Forest.{Tree}
 use Rattle.dx_schema_text.specs.declared.clauses.Clause.{Clause}
-use Rattle.dx_schema_text.specs.Grammar.{is_word, is_string, word_is, number_is, mark_is, since_two}
-use Rattle.dx_schema_text.specs.Reading.{comma_word, words_reader, key_reader, optional_reader, referred_reader, ref_reader, key_clause, ref_clause, set_clause, begins_clause, last_clause_reader, clause_reader_with, set_head_reader, set_reader_of, clause_reader, set_reader, place_reader, comma_place, places_reader, string_reader, column_reader, call_reader, named_reader, source_reader, line_reader, name_reader, literal_reader, cell_reader, comma_cell, cells_reader, atom_reader, comma_atom, atoms_reader, derived_reader, comma_derived, where_reader, optional_where, rule_reader, only_reader, line_item, rule_item, only_item, begins_item, item_reader, side_reader, body_reader, mapping_reader}
-use Rattle.dx_schema_text.specs.Spelling.{IsWord, IsKeyword, Comma, comma_then, Parted, parted, SpellsName, name_of, SpellsKey, key_of, SpellsOptional, not_optional, is_optional, SpellsRef, ref_of, SpellsHead, head_of, SpellsSet, set_of, SpellsClauses, no_clause, clause_first, SpellsClause, a_key, a_ref, a_set, SpellsPlace, place_of, SpellsSource, a_literal, a_column, a_call, SpellsLine, line_of, SpellsCell, a_name, a_text, SpellsAtom, atom_of, SpellsDerived, derived_of, SpellsWhere, no_where, where_of, SpellsRule, rule_of, SpellsOnly, only_of, SpellsItem, a_line, a_rule, a_condition, SpellsSide, side_of, IsVersion, version_one, version_two, SpellsMapping, mapping_of}
+use Rattle.dx_schema_text.specs.Grammar.{is_word, is_string, word_is, number_is, mark_is, since_two, since_three}
+use Rattle.dx_schema_text.specs.Reading.{comma_word, words_reader, key_reader, decided_reader, dep_reader, optional_reader, referred_reader, ref_reader, key_clause, dep_clause, ref_clause, set_clause, begins_determination, determination_reader, begins_clause, last_clause_reader, clause_reader_with, set_head_reader, set_reader_of, clause_reader, set_reader, place_reader, comma_place, places_reader, string_reader, column_reader, call_reader, named_reader, source_reader, line_reader, name_reader, literal_reader, cell_reader, comma_cell, cells_reader, atom_reader, comma_atom, atoms_reader, derived_reader, comma_derived, where_reader, optional_where, rule_reader, only_reader, line_item, rule_item, only_item, begins_item, item_reader, side_reader, body_reader, numbered_reader, mapping_reader}
+use Rattle.dx_schema_text.specs.Spelling.{IsWord, IsKeyword, Comma, comma_then, Parted, parted, SpellsName, name_of, SpellsKey, key_of, SpellsDep, dep_of, SpellsOptional, not_optional, is_optional, SpellsRef, ref_of, SpellsHead, head_of, SpellsSet, set_of, SpellsClauses, no_clause, clause_first, SpellsClause, a_key, a_dep, a_ref, a_set, SpellsPlace, place_of, SpellsSource, a_literal, a_column, a_call, SpellsLine, line_of, SpellsCell, a_name, a_text, SpellsAtom, atom_of, SpellsDerived, derived_of, SpellsWhere, no_where, where_of, SpellsRule, rule_of, SpellsOnly, only_of, SpellsItem, a_line, a_rule, a_condition, SpellsSide, side_of, IsVersion, version_one, version_two, version_three, SpellsMapping, mapping_of}
 
 -- a comma, and what another reader reads
 comma_finds : {A : Type 0} (r : Reader Lexeme A) (R : A → List Lexeme → Type 0) → Finds r R → Finds (token (mark_is (codes ",")) >>= λ c. r) (Comma R)
@@ -37,6 +37,14 @@ key_finds =
     head_finds (word_is (codes "key")) _ SpellsKey (λ k kw. head_finds (mark_is (codes "(")) _ _ (λ o ow. then_finds words_reader _ (Parted SpellsName) _ words_finds (λ ws u h.
     head_finds (mark_is (codes ")")) _ _ (λ c cw. head_finds (mark_is (codes ";")) _ _ (λ e ew. give_finds _ _ (key_of k o c e kw ow h cw ew))))))
 
+dep_finds : Finds dep_reader SpellsDep
+unfolding dep_reader decided_reader
+dep_finds =
+    head_finds (word_is (codes "dep")) _ SpellsDep (λ k kw. head_finds (mark_is (codes "(")) _ _ (λ o ow. then_finds words_reader _ (Parted SpellsName) _ words_finds (λ ws u h.
+    head_finds (mark_is (codes ")")) _ _ (λ c cw. head_finds (mark_is (codes "->")) _ _ (λ arrow aw. head_finds (mark_is (codes "(")) _ _ (λ p pw.
+    then_finds words_reader _ (Parted SpellsName) _ words_finds (λ vs v g. head_finds (mark_is (codes ")")) _ _ (λ d dw. head_finds (mark_is (codes ";")) _ _ (λ e ew.
+    give_finds _ _ (dep_of k o c arrow p d e kw ow h cw aw pw g dw ew))))))))))
+
 optional_finds : (optionals : Bool) → Finds (optional_reader optionals) (SpellsOptional optionals)
 unfolding optional_reader
 optional_finds false = give_finds false (SpellsOptional false) not_optional
@@ -61,22 +69,30 @@ pub clauses_of : (version levels : ℕ) {cs : List Clause} {u : List Lexeme} →
 clauses_of version levels no_more = no_clause
 clauses_of version levels (one_more h m) = clause_first h (clauses_of version levels m)
 
+-- a key or a dependency, in a text in which dependencies may stand or not
+determination_finds : (version levels : ℕ) (deps : Bool) → since_three version ≡ deps → Finds (determination_reader deps) (SpellsClause version levels)
+unfolding determination_reader
+determination_finds version levels false is = last_finds key_reader key_clause SpellsKey (SpellsClause version levels) key_finds (λ k u h. a_key h)
+determination_finds version levels true is =
+    either_finds (word_is (codes "key")) _ _ (SpellsClause version levels) (last_finds key_reader key_clause SpellsKey (SpellsClause version levels) key_finds (λ k u h. a_key h))
+    (last_finds dep_reader dep_clause SpellsDep (SpellsClause version levels) dep_finds (λ d u h. a_dep is h))
+
 pub last_clause_finds : (version : ℕ) → Finds (last_clause_reader version) (SpellsClause version 0)
 unfolding last_clause_reader
 last_clause_finds version =
-    either_finds (word_is (codes "key")) _ _ (SpellsClause version 0) (last_finds key_reader key_clause SpellsKey (SpellsClause version 0) key_finds (λ k u h. a_key h)) (last_finds (ref_reader (since_two version)) ref_clause (SpellsRef (since_two version)) (SpellsClause version 0) (ref_finds (since_two version)) (λ r u h. a_ref h))
+    either_finds (begins_determination (since_three version)) _ _ (SpellsClause version 0) (determination_finds version 0 (since_three version) refl) (last_finds (ref_reader (since_two version)) ref_clause (SpellsRef (since_two version)) (SpellsClause version 0) (ref_finds (since_two version)) (λ r u h. a_ref h))
 
 clause_with_finds : (version levels : ℕ) (r : Reader Lexeme Tree) → Finds r (SpellsSet version levels) → Finds (clause_reader_with version r) (SpellsClause version (suc levels))
 unfolding clause_reader_with
 clause_with_finds version levels r one =
-    either_finds (word_is (codes "key")) _ _ (SpellsClause version (suc levels)) (last_finds key_reader key_clause SpellsKey (SpellsClause version (suc levels)) key_finds (λ k u h. a_key h))
+    either_finds (begins_determination (since_three version)) _ _ (SpellsClause version (suc levels)) (determination_finds version (suc levels) (since_three version) refl)
     (either_finds (word_is (codes "ref")) _ _ (SpellsClause version (suc levels)) (last_finds (ref_reader (since_two version)) ref_clause (SpellsRef (since_two version)) (SpellsClause version (suc levels)) (ref_finds (since_two version)) (λ r u h. a_ref h)) (last_finds r set_clause (SpellsSet version levels) (SpellsClause version (suc levels)) one (λ t u h. a_set h)))
 
 set_of_finds : (version levels : ℕ) → Finds (clause_reader version levels) (SpellsClause version levels) → Finds (set_reader version levels) (SpellsSet version levels)
 unfolding set_reader_of
 set_of_finds version levels one =
     then_finds set_head_reader _ (λ h u. SpellsHead h.0 h.1 u) (SpellsSet version levels) set_head_finds (λ head u h.
-    then_finds (many (begins_clause levels) (clause_reader version levels)) _ (Many (SpellsClause version levels)) _ (many_finds (begins_clause levels) (clause_reader version levels) (SpellsClause version levels) one) (λ cs v m.
+    then_finds (many (begins_clause version levels) (clause_reader version levels)) _ (Many (SpellsClause version levels)) _ (many_finds (begins_clause version levels) (clause_reader version levels) (SpellsClause version levels) one) (λ cs v m.
     head_finds (mark_is (codes "}")) _ _ (λ c cw. give_finds _ _ (set_of c h (clauses_of version levels m) cw))))
 
 pub clause_finds : (version levels : ℕ) → Finds (clause_reader version levels) (SpellsClause version levels)
@@ -234,4 +250,6 @@ mapping_finds levels =
     head_finds (word_is (codes "mapping")) _ (SpellsMapping levels) (λ k kw.
     either_finds (number_is (codes "1")) _ _ (λ m w. SpellsMapping levels m (k ∷ w))
     (head_finds (number_is (codes "1")) _ _ (λ n nw. body_finds 1 levels k n kw (version_one nw)))
-    (head_finds (number_is (codes "2")) _ _ (λ n nw. body_finds 2 levels k n kw (version_two nw))))
+    (either_finds (number_is (codes "2")) _ _ (λ m w. SpellsMapping levels m (k ∷ w))
+    (head_finds (number_is (codes "2")) _ _ (λ n nw. body_finds 2 levels k n kw (version_two nw)))
+    (head_finds (number_is (codes "3")) _ _ (λ n nw. body_finds 3 levels k n kw (version_three nw)))))

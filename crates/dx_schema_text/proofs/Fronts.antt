@@ -13,7 +13,7 @@ use Rattle.dx_grammar.proofs.Told.{start_take}
 use Rattle.dx_grammar.proofs.Fronts.{starts_fronts}
 use Rattle.dx_grammar.proofs.Spelled.{whole_again, whole_finds}
 use Rattle.dx_schema_text.specs.declared.texts.MappingText.{MappingText}
-use Rattle.dx_schema_text.specs.Grammar.{word, string, since_two, words, key, optional_word, ref, set_head, set_of, last_clause, clause_with, clause, set, place, places, behind_word, source, line, cell, cells, atom, atoms, derived, where_part, rule, only, item, side, body, mapping}
+use Rattle.dx_schema_text.specs.Grammar.{word, string, since_two, since_three, words, key, dep, determination, optional_word, ref, set_head, set_of, last_clause, clause_with, clause, set, place, places, behind_word, source, line, cell, cells, atom, atoms, derived, where_part, rule, only, item, side, body, numbered, mapping}
 use Rattle.dx_schema_text.specs.Reading.{mapping_reader}
 use Rattle.dx_schema_text.specs.Spelling.{SpellsMapping}
 use Rattle.dx_schema_text.specs.Texts.{deepest, form, deeper_form}
@@ -67,6 +67,17 @@ key_tokens : HasTokens key
 unfolding key
 key_tokens = (made Word (codes "key"), refl) & (made Mark (codes "("), refl) & words_tokens & (made Mark (codes ")"), refl) & (made Mark (codes ";"), refl)
 
+dep_tokens : HasTokens dep
+unfolding dep
+dep_tokens =
+    (made Word (codes "dep"), refl) & (made Mark (codes "("), refl) & words_tokens & (made Mark (codes ")"), refl) & (made Mark (codes "->"), refl)
+    & (made Mark (codes "("), refl) & words_tokens & (made Mark (codes ")"), refl) & (made Mark (codes ";"), refl)
+
+determination_tokens : (deps : Bool) → HasTokens (determination deps)
+unfolding determination
+determination_tokens false = key_tokens
+determination_tokens true = key_tokens & dep_tokens
+
 optional_tokens : (optionals : Bool) → HasTokens (optional_word optionals)
 unfolding optional_word
 optional_tokens false = tt
@@ -84,8 +95,8 @@ set_tokens version levels c = ((made Word (codes "set"), refl) & w & (made Mark 
 
 clause_tokens : (version levels : ℕ) → HasTokens (clause version levels)
 unfolding clause last_clause clause_with
-clause_tokens version zero = key_tokens & ref_tokens (since_two version)
-clause_tokens version (suc levels) = key_tokens & ref_tokens (since_two version) & set_tokens version levels (clause_tokens version levels)
+clause_tokens version zero = determination_tokens (since_three version) & ref_tokens (since_two version)
+clause_tokens version (suc levels) = determination_tokens (since_three version) & ref_tokens (since_two version) & set_tokens version levels (clause_tokens version levels)
 
 place_tokens : HasTokens place
 unfolding place
@@ -150,7 +161,9 @@ body_tokens version levels =
 
 mapping_tokens : (levels : ℕ) → HasTokens (mapping levels)
 unfolding mapping
-mapping_tokens levels = (made Word (codes "mapping"), refl) & (((made Number (codes "1"), refl) & body_tokens 1 levels) & ((made Number (codes "2"), refl) & body_tokens 2 levels))
+mapping_tokens levels =
+    (made Word (codes "mapping"), refl)
+    & (((made Number (codes "1"), refl) & body_tokens 1 levels) & (((made Number (codes "2"), refl) & body_tokens 2 levels) & ((made Number (codes "3"), refl) & body_tokens 3 levels)))
 
 pub standing_goes_on : StandingGoesOn
 standing_goes_on = (starts_fronts form (mapping_tokens deepest), starts_fronts deeper_form (mapping_tokens 16))

@@ -22,7 +22,7 @@ one_level version (suc levels) xs lt = let e : suc levels - 1 ≡ levels = omega
 -- ---- a set after its head
 
 abbrev clauses_in : ℕ → ℕ → Reader Lexeme (List Clause)
-clauses_in version levels = many (begins_clause levels) (clause_reader version levels)
+clauses_in version levels = many (begins_clause version levels) (clause_reader version levels)
 
 set_begun : (version levels : ℕ) (xs rest : List Lexeme) (name : List ℕ) (columns : List (List ℕ)) → set_head_reader xs ≡ Ok ((name, columns), rest)
     → set_reader version levels xs ≡ (clauses_in version levels >>= λ cs. token (mark_is (codes "}")) >>= λ closing. give (tree_of name columns cs)) rest

@@ -1,6 +1,7 @@
 -- Worked values of printed sets.
 use Rattle.std.proofs.Common.{◌≡◌, true, false, [], ◌∷◌, refl, arith}
 use Rattle.std.specs.Prelude.{codes}
+use Rattle.std.proofs.lemmas.Bool.{false≢true}
 use Rattle.dx_ports.specs.Members.{here}
 use Rattle.dx_ports.proofs.Members.{each_cons}
 use Rattle.dx_schema.specs.Forest.{Label, bare, none, set}
@@ -27,13 +28,14 @@ two_levels : printed [] (set unit (set staff none none) (set staff none none)) �
 two_levels = refl
 
 staff_named : IsNamed staff
-staff_named = record { name = a_word (codes "staff") refl; columns = (a_word (codes "sname") refl, each_none _); keys = each_none _; refs = each_none _ }
+staff_named = record { name = a_word (codes "staff") refl; columns = (a_word (codes "sname") refl, each_none _); keys = each_none _; deps = each_none _; refs = each_none _ }
 
 unit_named : IsNamed unit
 unit_named = record {
   name = a_word (codes "unit") refl;
   columns = (a_word (codes "uname") refl, each_cons _ _ (a_word (codes "place") refl) (each_none _));
   keys = each_cons _ _ (a_word (codes "uname") refl, each_none _) (each_none _);
+  deps = each_none _;
   refs = each_cons _ _ (record { columns = (a_word (codes "place") refl, each_none _); refers = a_word (codes "town") refl; referred = (a_word (codes "tname") refl, each_cons _ _ (a_word (codes "land") refl) (each_none _)) }) (each_none _);
 }
 
@@ -51,10 +53,10 @@ later_versions : printed [] (set address none none) ≡ codes "set addr {\n  tow
 later_versions = refl
 
 staff_of_version_one : IsOfVersion 1 staff
-staff_of_version_one = record { deps = refl; refs = each_none _ }
+staff_of_version_one = record { deps = each_none _; refs = each_none _ }
 
 unit_of_version_one : IsOfVersion 1 unit
-unit_of_version_one = record { deps = refl; refs = each_cons _ _ (λ e. absurd cc) (each_none _) }
+unit_of_version_one = record { deps = each_none _; refs = each_cons _ _ (λ e. absurd cc) (each_none _) }
 
 two_levels_are_writable : AreWritable 1 (set unit (set staff none none) (set staff none none))
 two_levels_are_writable = record { named = (unit_named, (staff_named, tt, tt), (staff_named, tt, tt)); sayable = (unit_of_version_one, (staff_of_version_one, tt, tt), (staff_of_version_one, tt, tt)); levels = omega arith }
@@ -77,3 +79,19 @@ no_order_of_version_one o = let no : false ≡ true = o.refs _ (here refl) refl 
   where
     never : false ≡ true → ⊥
     never e = absurd cc
+
+address_named : IsNamed address
+address_named = record {
+  name = a_word (codes "addr") refl;
+  columns = (a_word (codes "town") refl, each_cons _ _ (a_word (codes "zip") refl) (each_none _));
+  keys = each_none _;
+  deps = each_cons _ _ (record { columns = (a_word (codes "zip") refl, each_none _); decides = (a_word (codes "town") refl, each_none _) }) (each_none _);
+  refs = each_cons _ _ (record { columns = (a_word (codes "town") refl, each_none _); refers = a_word (codes "town") refl; referred = (a_word (codes "tname") refl, each_none _) }) (each_none _);
+}
+
+-- version 3 can say the address, and no earlier one can
+address_is_writable : AreWritable 3 (set address none none)
+address_is_writable = record { named = (address_named, tt, tt); sayable = (record { deps = each_cons _ _ refl (each_none _); refs = each_cons _ _ (λ e. refl) (each_none _) }, tt, tt); levels = omega arith }
+
+address_comes_later : ¬ (IsOfVersion 2 address)
+address_comes_later said = absurd (false≢true (said.deps _ (here refl)))

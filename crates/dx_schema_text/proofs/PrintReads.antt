@@ -15,11 +15,11 @@ use Rattle.dx_schema.specs.declared.sets.RefDecl.{RefDecl}
 use Rattle.dx_schema.specs.Forest.{Label, Forest, none, set, Tree, forest_of}
 use Rattle.dx_schema.specs.Faults.{depth}
 use Rattle.dx_schema_text.specs.declared.clauses.Clause.{Clause}
-use Rattle.dx_schema_text.specs.Reading.{key_clause, ref_clause, set_clause, keys_among, refs_among, sets_among, tree_of}
-use Rattle.dx_schema_text.specs.Grammar.{word_is, since_two}
-use Rattle.dx_schema_text.specs.Spelling.{IsMark, IsWord, Comma, comma_then, Parted, parted, SpellsName, name_of, SpellsKey, key_of, SpellsOptional, not_optional, is_optional, SpellsRef, ref_of, SpellsHead, head_of, SpellsSet, set_of, SpellsClauses, no_clause, clause_first, a_key, a_ref, a_set, SpellsSide, side_of, IsVersion, version_one, version_two, SpellsMapping, mapping_of}
+use Rattle.dx_schema_text.specs.Reading.{key_clause, dep_clause, ref_clause, set_clause, keys_among, deps_among, refs_among, sets_among, tree_of}
+use Rattle.dx_schema_text.specs.Grammar.{word_is, since_two, since_three}
+use Rattle.dx_schema_text.specs.Spelling.{IsMark, IsWord, Comma, comma_then, Parted, parted, SpellsName, name_of, SpellsKey, key_of, SpellsDep, dep_of, SpellsOptional, not_optional, is_optional, SpellsRef, ref_of, SpellsHead, head_of, SpellsSet, set_of, SpellsClauses, no_clause, clause_first, a_key, a_dep, a_ref, a_set, SpellsSide, side_of, IsVersion, version_one, version_two, version_three, SpellsMapping, mapping_of}
 use Rattle.dx_schema_text.specs.Texts.{deepest, IsMappingText}
-use Rattle.dx_schema_text.specs.Print.{names_text, optional_text, wider, key_line, dep_line, ref_line, head_lines, front_lines, last_line, printed, AreNames, IsNamedRef, IsNamed, AreNamed, IsOfVersion, AreOfVersion, AreWritable, IsKnown, the_first, the_second, digit_of, sides_text, sides, IsReadAgain}
+use Rattle.dx_schema_text.specs.Print.{names_text, optional_text, wider, key_line, dep_line, ref_line, head_lines, front_lines, last_line, printed, AreNames, IsNamedDep, IsNamedRef, IsNamed, AreNamed, IsOfVersion, AreOfVersion, AreWritable, IsKnown, the_first, the_second, the_third, digit_of, sides_text, sides, IsReadAgain}
 use Rattle.dx_schema_text.proofs.PrintScans.{Reads, EndsWord, lexeme, no_token, token_then, word_then, mark_then, blanks_then, both_then, told_as, each_passes, a_word, each_append, reads_all}
 
 abbrev AreBlank : List ℕ → Type 0
@@ -57,7 +57,7 @@ names_read (name ∷ names) place more h ends =
     (word_then _ name (others_text names ++ more) more place h.0 (ends_before names more ends)
     (told_as (Many (Comma SpellsName) names) _ _ more _ (others_read names _ more h.1 ends) (λ v m. first_name _ names v refl m)))
 
--- ---- keys and refs
+-- ---- keys, dependencies and refs
 
 key_flat : (margin : List ℕ) (k : KeyDecl) (tail : List ℕ) → key_line margin k ++ tail ≡ margin ++ (codes "key (" ++ (names_text k.columns ++ (codes ");\n" ++ tail)))
 key_flat margin k tail = simp append_assoc
@@ -74,6 +74,28 @@ key_read margin k place tail blank named =
     (mark_then _ (codes ";") _ tail _ refl
     (blanks_then _ (codes "\n") tail tail _ (each_passes is_blank (codes "\n") refl)
     (no_token _ _ tail (key_of _ _ _ _ refl refl h refl refl))))))))))
+
+dep_flat : (margin : List ℕ) (d : DepDecl) (tail : List ℕ) → dep_line margin d ++ tail ≡ margin ++ (codes "dep (" ++ (names_text d.columns ++ (codes ") -> (" ++ (names_text d.decides ++ (codes ");\n" ++ tail)))))
+dep_flat margin d tail = simp append_assoc
+
+dep_read : (margin : List ℕ) (d : DepDecl) (place : ℕ) (tail : List ℕ) → AreBlank margin → IsNamedDep d → Reads (SpellsDep d) place (dep_line margin d ++ tail) tail
+dep_read margin d place tail blank named =
+    subst (λ (text : List ℕ). Reads (SpellsDep d) place text tail) (sym (dep_flat margin d tail))
+    (blanks_then _ margin _ tail place blank
+    (word_then _ (codes "dep") _ tail _ (a_word (codes "dep") refl) refl
+    (blanks_then _ (codes " ") _ tail _ (each_passes is_blank (codes " ") refl)
+    (mark_then _ (codes "(") _ tail _ refl
+    (both_then (Parted SpellsName d.columns) _ _ _ tail _ (names_read d.columns _ (codes ") -> (" ++ (names_text d.decides ++ (codes ");\n" ++ tail))) named.columns refl) (λ u after h.
+    mark_then _ (codes ")") _ tail _ refl
+    (blanks_then _ (codes " ") _ tail _ (each_passes is_blank (codes " ") refl)
+    (mark_then _ (codes "->") _ tail _ refl
+    (blanks_then _ (codes " ") _ tail _ (each_passes is_blank (codes " ") refl)
+    (mark_then _ (codes "(") _ tail _ refl
+    (both_then (Parted SpellsName d.decides) _ _ _ tail _ (names_read d.decides _ (codes ");\n" ++ tail) named.decides refl) (λ v behind g.
+    mark_then _ (codes ")") _ tail _ refl
+    (mark_then _ (codes ";") _ tail _ refl
+    (blanks_then _ (codes "\n") tail tail _ (each_passes is_blank (codes "\n") refl)
+    (no_token _ _ tail (dep_of _ _ _ _ _ _ _ refl refl h refl refl refl g refl refl))))))))))))))))
 
 no_optional : ¬ (false ≡ true)
 no_optional e = absurd cc
@@ -117,7 +139,7 @@ ref_read margin r optionals place tail blank named sayable =
     mark_then _ (codes ")") _ tail _ refl
     (optional_end r.optional optionals _ tail sayable _ (λ w e is ew. ref_of _ _ _ _ _ _ _ _ refl refl h refl refl refl refl g refl is ew))))))))))))))))
 
--- keys before other clauses, and refs
+-- keys before other clauses, dependencies, and refs
 keys_read : (version levels : ℕ) (margin : List ℕ) (ks : List KeyDecl) (cs : List Clause) (tail more : List ℕ) → AreBlank margin → Each ks (λ k. AreNames k.columns) → ((p : ℕ) → Reads (SpellsClauses version levels cs) p tail more)
     → (place : ℕ) → Reads (SpellsClauses version levels (map key_clause ks ++ cs)) place (flat_map (key_line margin) ks ++ tail) more
 keys_read version levels margin [] cs tail more blank each on place = on place
@@ -125,6 +147,14 @@ keys_read version levels margin (k ∷ ks) cs tail more blank each on place =
     subst (λ (text : List ℕ). Reads (SpellsClauses version levels (map key_clause (k ∷ ks) ++ cs)) place text more) (sym (append_assoc (key_line margin k) (flat_map (key_line margin) ks) tail))
     (both_then (SpellsKey k) _ _ _ more place (key_read margin k place _ blank (each k (here refl))) (λ u after h.
     told_as (SpellsClauses version levels (map key_clause ks ++ cs)) _ _ more after (keys_read version levels margin ks cs tail more blank (λ x m. each x (there m)) on after) (λ v c. clause_first (a_key h) c)))
+
+deps_read : (version levels : ℕ) (margin : List ℕ) (ds : List DepDecl) (cs : List Clause) (tail more : List ℕ) → AreBlank margin → Each ds IsNamedDep → Each ds (λ d. since_three version ≡ true) → ((p : ℕ) → Reads (SpellsClauses version levels cs) p tail more)
+    → (place : ℕ) → Reads (SpellsClauses version levels (map dep_clause ds ++ cs)) place (flat_map (dep_line margin) ds ++ tail) more
+deps_read version levels margin [] cs tail more blank each sayable on place = on place
+deps_read version levels margin (d ∷ ds) cs tail more blank each sayable on place =
+    subst (λ (text : List ℕ). Reads (SpellsClauses version levels (map dep_clause (d ∷ ds) ++ cs)) place text more) (sym (append_assoc (dep_line margin d) (flat_map (dep_line margin) ds) tail))
+    (both_then (SpellsDep d) _ _ _ more place (dep_read margin d place _ blank (each d (here refl))) (λ u after h.
+    told_as (SpellsClauses version levels (map dep_clause ds ++ cs)) _ _ more after (deps_read version levels margin ds cs tail more blank (λ x m. each x (there m)) (λ x m. sayable x (there m)) on after) (λ v c. clause_first (a_dep (sayable d (here refl)) h) c)))
 
 refs_read : (version levels : ℕ) (margin : List ℕ) (rs : List RefDecl) (cs : List Clause) (tail more : List ℕ) → AreBlank margin → Each rs IsNamedRef → Each rs (λ r. r.optional ≡ true → since_two version ≡ true)
     → ((p : ℕ) → Reads (SpellsClauses version levels cs) p tail more)
@@ -142,11 +172,15 @@ set_clauses none = []
 set_clauses (set l inner rest) = set_clause (record { label = l; inner = inner }) ∷ set_clauses rest
 
 abbrev clauses_of : Label → Forest → List Clause
-clauses_of l inner = map key_clause l.keys ++ (map ref_clause l.refs ++ set_clauses inner)
+clauses_of l inner = map key_clause l.keys ++ (map dep_clause l.deps ++ (map ref_clause l.refs ++ set_clauses inner))
 
 keys_of_keys : (ks : List KeyDecl) (cs : List Clause) → keys_among (map key_clause ks ++ cs) ≡ ks ++ keys_among cs
 keys_of_keys [] cs = refl
 keys_of_keys (k ∷ ks) cs = ap (λ xs. k ∷ xs) (keys_of_keys ks cs)
+
+keys_of_deps : (ds : List DepDecl) (cs : List Clause) → keys_among (map dep_clause ds ++ cs) ≡ keys_among cs
+keys_of_deps [] cs = refl
+keys_of_deps (d ∷ ds) cs = keys_of_deps ds cs
 
 keys_of_refs : (rs : List RefDecl) (cs : List Clause) → keys_among (map ref_clause rs ++ cs) ≡ keys_among cs
 keys_of_refs [] cs = refl
@@ -156,9 +190,29 @@ keys_of_sets : (f : Forest) → keys_among (set_clauses f) ≡ []
 keys_of_sets none = refl
 keys_of_sets (set l i r) = keys_of_sets r
 
+deps_of_keys : (ks : List KeyDecl) (cs : List Clause) → deps_among (map key_clause ks ++ cs) ≡ deps_among cs
+deps_of_keys [] cs = refl
+deps_of_keys (k ∷ ks) cs = deps_of_keys ks cs
+
+deps_of_deps : (ds : List DepDecl) (cs : List Clause) → deps_among (map dep_clause ds ++ cs) ≡ ds ++ deps_among cs
+deps_of_deps [] cs = refl
+deps_of_deps (d ∷ ds) cs = ap (λ xs. d ∷ xs) (deps_of_deps ds cs)
+
+deps_of_refs : (rs : List RefDecl) (cs : List Clause) → deps_among (map ref_clause rs ++ cs) ≡ deps_among cs
+deps_of_refs [] cs = refl
+deps_of_refs (r ∷ rs) cs = deps_of_refs rs cs
+
+deps_of_sets : (f : Forest) → deps_among (set_clauses f) ≡ []
+deps_of_sets none = refl
+deps_of_sets (set l i r) = deps_of_sets r
+
 refs_of_keys : (ks : List KeyDecl) (cs : List Clause) → refs_among (map key_clause ks ++ cs) ≡ refs_among cs
 refs_of_keys [] cs = refl
 refs_of_keys (k ∷ ks) cs = refs_of_keys ks cs
+
+refs_of_deps : (ds : List DepDecl) (cs : List Clause) → refs_among (map dep_clause ds ++ cs) ≡ refs_among cs
+refs_of_deps [] cs = refl
+refs_of_deps (d ∷ ds) cs = refs_of_deps ds cs
 
 refs_of_refs : (rs : List RefDecl) (cs : List Clause) → refs_among (map ref_clause rs ++ cs) ≡ rs ++ refs_among cs
 refs_of_refs [] cs = refl
@@ -172,6 +226,10 @@ sets_of_keys : (ks : List KeyDecl) (cs : List Clause) → sets_among (map key_cl
 sets_of_keys [] cs = refl
 sets_of_keys (k ∷ ks) cs = sets_of_keys ks cs
 
+sets_of_deps : (ds : List DepDecl) (cs : List Clause) → sets_among (map dep_clause ds ++ cs) ≡ sets_among cs
+sets_of_deps [] cs = refl
+sets_of_deps (d ∷ ds) cs = sets_of_deps ds cs
+
 sets_of_refs : (rs : List RefDecl) (cs : List Clause) → sets_among (map ref_clause rs ++ cs) ≡ sets_among cs
 sets_of_refs [] cs = refl
 sets_of_refs (r ∷ rs) cs = sets_of_refs rs cs
@@ -180,16 +238,36 @@ sets_of_sets : (f : Forest) → sets_among (set_clauses f) ≡ f
 sets_of_sets none = refl
 sets_of_sets (set l i r) = ap (λ f. set l i f) (sets_of_sets r)
 
-tree_is : (l : Label) (inner : Forest) → l.deps ≡ [] → tree_of l.name l.columns (clauses_of l inner) ≡ record { label = l; inner = inner }
-tree_is l inner no_deps =
-    let rest = map ref_clause l.refs ++ set_clauses inner in
-    let ks : keys_among (clauses_of l inner) ≡ l.keys = keys_of_keys l.keys rest ∙ ap (λ xs. l.keys ++ xs) (keys_of_refs l.refs (set_clauses inner) ∙ keys_of_sets inner) ∙ append-nil l.keys in
-    let rs : refs_among (clauses_of l inner) ≡ l.refs = refs_of_keys l.keys rest ∙ refs_of_refs l.refs (set_clauses inner) ∙ ap (λ xs. l.refs ++ xs) (refs_of_sets inner) ∙ append-nil l.refs in
-    let ss : sets_among (clauses_of l inner) ≡ inner = sets_of_keys l.keys rest ∙ sets_of_refs l.refs (set_clauses inner) ∙ sets_of_sets inner in
-    ap (λ (k : List KeyDecl). record { label = record { name = l.name; columns = l.columns; keys = k; deps = []; refs = refs_among (clauses_of l inner) }; inner = sets_among (clauses_of l inner) }) ks
-    ∙ ap (λ (r : List RefDecl). record { label = record { name = l.name; columns = l.columns; keys = l.keys; deps = []; refs = r }; inner = sets_among (clauses_of l inner) }) rs
-    ∙ ap (λ (f : Forest). record { label = record { name = l.name; columns = l.columns; keys = l.keys; deps = []; refs = l.refs }; inner = f }) ss
-    ∙ ap (λ (d : List DepDecl). record { label = record { name = l.name; columns = l.columns; keys = l.keys; deps = d; refs = l.refs }; inner = inner }) (sym no_deps)
+keys_are : (l : Label) (inner : Forest) → keys_among (clauses_of l inner) ≡ l.keys
+keys_are l inner =
+    keys_of_keys l.keys (map dep_clause l.deps ++ (map ref_clause l.refs ++ set_clauses inner))
+    ∙ ap (λ xs. l.keys ++ xs) (keys_of_deps l.deps (map ref_clause l.refs ++ set_clauses inner) ∙ keys_of_refs l.refs (set_clauses inner) ∙ keys_of_sets inner) ∙ append-nil l.keys
+
+deps_are : (l : Label) (inner : Forest) → deps_among (clauses_of l inner) ≡ l.deps
+deps_are l inner =
+    deps_of_keys l.keys (map dep_clause l.deps ++ (map ref_clause l.refs ++ set_clauses inner)) ∙ deps_of_deps l.deps (map ref_clause l.refs ++ set_clauses inner)
+    ∙ ap (λ xs. l.deps ++ xs) (deps_of_refs l.refs (set_clauses inner) ∙ deps_of_sets inner) ∙ append-nil l.deps
+
+refs_are : (l : Label) (inner : Forest) → refs_among (clauses_of l inner) ≡ l.refs
+refs_are l inner =
+    refs_of_keys l.keys (map dep_clause l.deps ++ (map ref_clause l.refs ++ set_clauses inner)) ∙ refs_of_deps l.deps (map ref_clause l.refs ++ set_clauses inner) ∙ refs_of_refs l.refs (set_clauses inner)
+    ∙ ap (λ xs. l.refs ++ xs) (refs_of_sets inner) ∙ append-nil l.refs
+
+sets_are : (l : Label) (inner : Forest) → sets_among (clauses_of l inner) ≡ inner
+sets_are l inner =
+    sets_of_keys l.keys (map dep_clause l.deps ++ (map ref_clause l.refs ++ set_clauses inner)) ∙ sets_of_deps l.deps (map ref_clause l.refs ++ set_clauses inner) ∙ sets_of_refs l.refs (set_clauses inner) ∙ sets_of_sets inner
+
+-- a set of these parts
+abbrev tree_with : Label → List KeyDecl → List DepDecl → List RefDecl → Forest → Tree
+tree_with l keys deps refs inner = record { label = record { name = l.name; columns = l.columns; keys = keys; deps = deps; refs = refs }; inner = inner }
+
+tree_is : (l : Label) (inner : Forest) → tree_of l.name l.columns (clauses_of l inner) ≡ record { label = l; inner = inner }
+tree_is l inner =
+    let cs = clauses_of l inner in
+    ap (λ ks. tree_with l ks (deps_among cs) (refs_among cs) (sets_among cs)) (keys_are l inner)
+    ∙ ap (λ ds. tree_with l l.keys ds (refs_among cs) (sets_among cs)) (deps_are l inner)
+    ∙ ap (λ rs. tree_with l l.keys l.deps rs (sets_among cs)) (refs_are l inner)
+    ∙ ap (λ f. tree_with l l.keys l.deps l.refs f) (sets_are l inner)
 
 -- ---- sets
 
@@ -216,34 +294,37 @@ head_read margin l place tail blank named =
     (blanks_then _ (codes "\n") tail tail _ (each_passes is_blank (codes "\n") refl)
     (no_token _ _ tail (head_of _ _ _ _ refl refl refl h refl)))))))))))))
 
-front_flat : (margin : List ℕ) (l : Label) (tail : List ℕ) → l.deps ≡ []
-    → front_lines margin l ++ tail ≡ head_lines margin l ++ (flat_map (key_line (wider margin)) l.keys ++ (flat_map (ref_line (wider margin)) l.refs ++ tail))
-front_flat margin l tail no_deps =
-    ap (λ (ds : List DepDecl). (head_lines margin l ++ (flat_map (key_line (wider margin)) l.keys ++ (flat_map (dep_line (wider margin)) ds ++ flat_map (ref_line (wider margin)) l.refs))) ++ tail) no_deps
-    ∙ append_assoc (head_lines margin l) (flat_map (key_line (wider margin)) l.keys ++ flat_map (ref_line (wider margin)) l.refs) tail
-    ∙ ap (λ (xs : List ℕ). head_lines margin l ++ xs) (append_assoc (flat_map (key_line (wider margin)) l.keys) (flat_map (ref_line (wider margin)) l.refs) tail)
+front_flat : (margin : List ℕ) (l : Label) (tail : List ℕ)
+    → front_lines margin l ++ tail ≡ head_lines margin l ++ (flat_map (key_line (wider margin)) l.keys ++ (flat_map (dep_line (wider margin)) l.deps ++ (flat_map (ref_line (wider margin)) l.refs ++ tail)))
+front_flat margin l tail =
+    let keys = flat_map (key_line (wider margin)) l.keys in
+    let deps = flat_map (dep_line (wider margin)) l.deps in
+    let refs = flat_map (ref_line (wider margin)) l.refs in
+    append_assoc (head_lines margin l) (keys ++ (deps ++ refs)) tail
+    ∙ ap (λ (xs : List ℕ). head_lines margin l ++ xs) (append_assoc keys (deps ++ refs) tail ∙ ap (λ (xs : List ℕ). keys ++ xs) (append_assoc deps refs tail))
 
 -- the inner sets of a set as its clauses
 abbrev InnerRead : ℕ → ℕ → List ℕ → Forest → Type 0
 InnerRead version levels margin f = (place : ℕ) (tail : List ℕ) → Reads (SpellsClauses version levels (set_clauses f)) place (printed margin f ++ tail) tail
 
-set_closed : (version levels : ℕ) (l : Label) (inner : Forest) (u v : List Lexeme) (c : Lexeme) → l.deps ≡ [] → SpellsHead l.name l.columns u → SpellsClauses version levels (clauses_of l inner) v → IsMark (codes "}") c
+set_closed : (version levels : ℕ) (l : Label) (inner : Forest) (u v : List Lexeme) (c : Lexeme) → SpellsHead l.name l.columns u → SpellsClauses version levels (clauses_of l inner) v → IsMark (codes "}") c
     → SpellsSet version levels (record { label = l; inner = inner }) (u ++ (v ++ c ∷ []))
-set_closed version levels l inner u v c no_deps head clauses closing = subst (λ (t : Tree). SpellsSet version levels t (u ++ (v ++ c ∷ []))) (tree_is l inner no_deps) (set_of c head clauses closing)
+set_closed version levels l inner u v c head clauses closing = subst (λ (t : Tree). SpellsSet version levels t (u ++ (v ++ c ∷ []))) (tree_is l inner) (set_of c head clauses closing)
 
 set_read : (version levels : ℕ) (margin : List ℕ) (l : Label) (inner : Forest) (place : ℕ) (more : List ℕ) → AreBlank margin → IsNamed l → IsOfVersion version l → InnerRead version levels (wider margin) inner
     → Reads (SpellsSet version levels (record { label = l; inner = inner })) place (front_lines margin l ++ (printed (wider margin) inner ++ (last_line margin ++ more))) more
 set_read version levels margin l inner place more blank named first on =
-    subst (λ (text : List ℕ). Reads (SpellsSet version levels (record { label = l; inner = inner })) place text more) (sym (front_flat margin l (printed (wider margin) inner ++ (last_line margin ++ more)) first.deps))
+    subst (λ (text : List ℕ). Reads (SpellsSet version levels (record { label = l; inner = inner })) place text more) (sym (front_flat margin l (printed (wider margin) inner ++ (last_line margin ++ more))))
     (both_then (SpellsHead l.name l.columns) _ _ _ more place (head_read margin l place _ blank named) (λ u after h.
     both_then (SpellsClauses version levels (clauses_of l inner)) _ _ (last_line margin ++ more) more after
-    (keys_read version levels (wider margin) l.keys (map ref_clause l.refs ++ set_clauses inner) _ (last_line margin ++ more) (wider_blank margin blank) named.keys
-    (refs_read version levels (wider margin) l.refs (set_clauses inner) _ (last_line margin ++ more) (wider_blank margin blank) named.refs first.refs (λ p. on p (last_line margin ++ more))) after) (λ v behind c.
+    (keys_read version levels (wider margin) l.keys (map dep_clause l.deps ++ (map ref_clause l.refs ++ set_clauses inner)) _ (last_line margin ++ more) (wider_blank margin blank) named.keys
+    (deps_read version levels (wider margin) l.deps (map ref_clause l.refs ++ set_clauses inner) _ (last_line margin ++ more) (wider_blank margin blank) named.deps first.deps
+    (refs_read version levels (wider margin) l.refs (set_clauses inner) _ (last_line margin ++ more) (wider_blank margin blank) named.refs first.refs (λ p. on p (last_line margin ++ more)))) after) (λ v behind c.
     subst (λ (text : List ℕ). Reads (λ w. SpellsSet version levels (record { label = l; inner = inner }) (u ++ (v ++ w))) behind text more) (sym (append_assoc margin (codes "}\n") more))
     (blanks_then _ margin _ more _ blank
     (mark_then _ (codes "}") _ more _ refl
     (blanks_then _ (codes "\n") more more _ (each_passes is_blank (codes "\n") refl)
-    (no_token _ _ more (set_closed version levels l inner u v _ first.deps h c refl))))))))
+    (no_token _ _ more (set_closed version levels l inner u v _ h c refl))))))))
 
 level_flat : (margin : List ℕ) (l : Label) (inner rest : Forest) (tail : List ℕ)
     → printed margin (set l inner rest) ++ tail ≡ front_lines margin l ++ (printed (wider margin) inner ++ (last_line margin ++ (printed margin rest ++ tail)))
@@ -298,10 +379,12 @@ side_read version name f place more word is w =
 digit_text : {version : ℕ} → IsKnown version → lexing.IsTokenText Number (digit_of version)
 digit_text the_first = (refl, each_passes is_digit [] refl)
 digit_text the_second = (refl, each_passes is_digit [] refl)
+digit_text the_third = (refl, each_passes is_digit [] refl)
 
 digit_tells : {version : ℕ} → IsKnown version → (place : ℕ) → IsVersion version (lexeme place Number (digit_of version))
 digit_tells the_first place = version_one refl
 digit_tells the_second place = version_two refl
+digit_tells the_third place = version_three refl
 
 mapping_read : (version : ℕ) (from to : Forest) → IsKnown version → AreWritable version from → AreWritable version to → Reads (SpellsMapping deepest (sides version from to)) 0 (sides_text version (printed [] from) (printed [] to)) []
 mapping_read version from to known f t =

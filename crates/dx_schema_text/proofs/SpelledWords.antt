@@ -9,17 +9,18 @@ use Rattle.dx_tokens.specs.Lexing.{IsWord}
 use Rattle.dx_tokens.proofs.TokenTexts.{IsRightWord, WordsAreRight, words_are_words}
 use Rattle.dx_grammar.specs.Readers.{Many, no_more, one_more}
 use Rattle.dx_schema.specs.declared.sets.KeyDecl.{KeyDecl}
+use Rattle.dx_schema.specs.declared.sets.DepDecl.{DepDecl}
 use Rattle.dx_schema.specs.declared.sets.RefDecl.{RefDecl}
 use Rattle.dx_schema.specs.Forest.{Forest, Tree, forest_of}
 use Rattle.dx_schema.specs.Faults.{depth}
 use Rattle.dx_schema_text.specs.declared.clauses.Clause.{Clause}
 use Rattle.dx_schema_text.specs.declared.texts.MappingText.{MappingText}
 use Rattle.dx_schema_text.specs.Grammar.{is_word_kind}
-use Rattle.dx_schema_text.specs.Reading.{keys_among, refs_among, sets_among}
-use Rattle.dx_schema_text.specs.Spelling.{IsWord as IsWordToken, Comma, comma_then, Parted, parted, SpellsName, name_of, SpellsKey, key_of, SpellsRef, ref_of, SpellsHead, head_of, SpellsSet, set_of, SpellsClauses, no_clause, clause_first, SpellsClause, a_key, a_ref, a_set, SpellsSide, side_of, SpellsMapping, mapping_of}
+use Rattle.dx_schema_text.specs.Reading.{keys_among, deps_among, refs_among, sets_among}
+use Rattle.dx_schema_text.specs.Spelling.{IsWord as IsWordToken, Comma, comma_then, Parted, parted, SpellsName, name_of, SpellsKey, key_of, SpellsDep, dep_of, SpellsRef, ref_of, SpellsHead, head_of, SpellsSet, set_of, SpellsClauses, no_clause, clause_first, SpellsClause, a_key, a_dep, a_ref, a_set, SpellsSide, side_of, SpellsMapping, mapping_of}
 use Rattle.dx_schema_text.specs.Texts.{IsMappingText}
 use Rattle.dx_schema_text.proofs.Versions.{said_sayable}
-use Rattle.dx_schema_text.specs.Print.{AreNames, IsNamedRef, IsNamed, AreNamed, AreWritable}
+use Rattle.dx_schema_text.specs.Print.{AreNames, IsNamedDep, IsNamedRef, IsNamed, AreNamed, AreWritable}
 
 -- a token that can stand for a word is one
 pub kind_word : (k : TokenKind) → is_word_kind k ≡ true → k ≡ Word
@@ -62,6 +63,12 @@ names_right (parted {u = u} {v = v} n m) h = (name_right n (right_front u v h), 
 key_right : {k : KeyDecl} {a : List Lexeme} → SpellsKey k a → WordsAreRight a → AreNames k.columns
 key_right (key_of {u = u} k o c e kw ow names cw ew) h = names_right names (right_front u (c ∷ e ∷ []) h.1.1)
 
+dep_right : {d : DepDecl} {a : List Lexeme} → SpellsDep d a → WordsAreRight a → IsNamedDep d
+dep_right (dep_of {u = u} {v = v} k o c arrow p d e kw ow names cw aw pw decides dw ew) h =
+    let tail = d ∷ e ∷ [] in
+    let back = right_back u (c ∷ arrow ∷ p ∷ (v ++ tail)) h.1.1 in
+    record { columns = names_right names (right_front u (c ∷ arrow ∷ p ∷ (v ++ tail)) h.1.1); decides = names_right decides (right_front v tail back.1.1.1) }
+
 ref_right : {optionals : Bool} {r : RefDecl} {a : List Lexeme} → SpellsRef optionals r a → WordsAreRight a → IsNamedRef r
 ref_right (ref_of {u = u} {v = v} {w = w} k o c arrow s p d e kw ow names cw aw sw pw more dw is ew) h =
     let tail = d ∷ (w ++ e ∷ []) in
@@ -73,23 +80,24 @@ head_right (head_of {u = u} k n o e kw nw ow names ew) h = (word_right n nw h.1.
 
 -- what clauses say of a set
 abbrev AreRight : ℕ → List Clause → Type 0
-AreRight levels cs = Each (keys_among cs) (λ (k : KeyDecl). AreNames k.columns) × Each (refs_among cs) IsNamedRef × AreNamed (sets_among cs) × (depth (sets_among cs) ≤ levels)
+AreRight levels cs = Each (keys_among cs) (λ (k : KeyDecl). AreNames k.columns) × Each (deps_among cs) IsNamedDep × Each (refs_among cs) IsNamedRef × AreNamed (sets_among cs) × (depth (sets_among cs) ≤ levels)
 
 mutual
   set_right : {version levels : ℕ} {t : Tree} {a : List Lexeme} → SpellsSet version levels t a → WordsAreRight a → IsNamed t.label × AreNamed t.inner × (depth t.inner ≤ levels)
   set_right (set_of {u = u} {v = v} c head cs cw) h =
       let front = head_right head (right_front u (v ++ c ∷ []) h) in
       let inside = clauses_right cs (right_front v (c ∷ []) (right_back u (v ++ c ∷ []) h)) in
-      (record { name = front.0; columns = front.1; keys = inside.0; refs = inside.1 }, inside.2, inside.3)
+      (record { name = front.0; columns = front.1; keys = inside.0; deps = inside.1; refs = inside.2 }, inside.3, inside.4)
 
   clauses_right : {version levels : ℕ} {cs : List Clause} {a : List Lexeme} → SpellsClauses version levels cs a → WordsAreRight a → AreRight levels cs
-  clauses_right no_clause h = (each_none _, each_none _, tt, omega arith)
+  clauses_right no_clause h = (each_none _, each_none _, each_none _, tt, omega arith)
   clauses_right (clause_first {cs = cs} {u = u} {v = v} c more) h = clause_right c cs (right_front u v h) (clauses_right more (right_back u v h))
 
   clause_right : {version levels : ℕ} {c : Clause} {u : List Lexeme} → SpellsClause version levels c u → (cs : List Clause) → WordsAreRight u → AreRight levels cs → AreRight levels (c ∷ cs)
-  clause_right (a_key {k = k} s) cs h rest = (each_cons k (keys_among cs) (key_right s h) rest.0, rest.1, rest.2, rest.3)
-  clause_right (a_ref {r = r} s) cs h rest = (rest.0, each_cons r (refs_among cs) (ref_right s h) rest.1, rest.2, rest.3)
-  clause_right (a_set {t = t} s) cs h rest = let one = set_right s h in (rest.0, rest.1, (one.0, one.1, rest.2), omega (arith, one.2, rest.3))
+  clause_right (a_key {k = k} s) cs h rest = (each_cons k (keys_among cs) (key_right s h) rest.0, rest.1, rest.2, rest.3, rest.4)
+  clause_right (a_dep {d = d} is s) cs h rest = (rest.0, each_cons d (deps_among cs) (dep_right s h) rest.1, rest.2, rest.3, rest.4)
+  clause_right (a_ref {r = r} s) cs h rest = (rest.0, rest.1, each_cons r (refs_among cs) (ref_right s h) rest.2, rest.3, rest.4)
+  clause_right (a_set {t = t} s) cs h rest = let one = set_right s h in (rest.0, rest.1, rest.2, (one.0, one.1, rest.3), omega (arith, one.2, rest.4))
 
 trees_right : {version levels : ℕ} {trees : List Tree} {u : List Lexeme} → Many (SpellsSet version levels) trees u → WordsAreRight u → AreNamed (forest_of trees) × (depth (forest_of trees) ≤ suc levels)
 trees_right no_more h = (tt, omega arith)

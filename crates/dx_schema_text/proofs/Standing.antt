@@ -11,7 +11,7 @@ use Rattle.dx_schema.specs.Forest.{Tree, Forest}
 use Rattle.dx_schema_text.specs.declared.clauses.Clause.{Clause}
 use Rattle.dx_schema_text.specs.Grammar.{set_head, set_of, clause_with, clause, set, side, body, mapping}
 use Rattle.dx_schema_text.specs.Reading.{set_head_reader, clause_reader, set_reader, side_reader}
-use Rattle.dx_schema_text.specs.Spelling.{IsKeyword, IsVersion, version_one, version_two, SpellsHead, SpellsSet, set_of as a_whole_set, SpellsClauses, no_clause, clause_first, SpellsClause, a_key, a_ref, a_set, SpellsSide, side_of}
+use Rattle.dx_schema_text.specs.Spelling.{IsKeyword, IsVersion, version_one, version_two, version_three, SpellsHead, SpellsSet, set_of as a_whole_set, SpellsClauses, no_clause, clause_first, SpellsClause, a_key, a_dep, a_ref, a_set, SpellsSide, side_of}
 use Rattle.dx_schema_text.specs.Texts.{deepest, deeper_form, judged_tokens, IsUnexpected, StandsDeeper, OpenSets, one_set, and_inner, OpenSide, open_side, OpenMapping, in_source, in_target, IsSetTooDeep}
 use Rattle.dx_schema_text.specs.Laws.{TooDeepAreSets}
 use Rattle.dx_schema_text.proofs.Follows.{set_head_reads, clause_reads, set_reads, side_reads}
@@ -50,6 +50,7 @@ mutual
 
   clause_wider : {version levels : ℕ} {c : Clause} {u : List Lexeme} → SpellsClause version levels c u → SpellsClause version (suc levels) c u
   clause_wider (a_key h) = a_key h
+  clause_wider (a_dep is h) = a_dep is h
   clause_wider (a_ref h) = a_ref h
   clause_wider (a_set h) = a_set (set_wider h)
 
@@ -101,7 +102,8 @@ side_starts {version = version} {name = name} (open_side {u = u} {w = w} k o kw 
 body_starts : {version : ℕ} {v : Lexeme} {ys : List Lexeme} (k : Lexeme) → IsKeyword (codes "mapping") k → IsVersion version v → Starts (body version 16) ys → Starts deeper_form (k ∷ v ∷ ys)
 unfolding mapping
 body_starts k kw (version_one vw) s = in_second (is_one kw) (in_left (in_second (is_one vw) s))
-body_starts k kw (version_two vw) s = in_second (is_one kw) (in_right (in_second (is_one vw) s))
+body_starts k kw (version_two vw) s = in_second (is_one kw) (in_right (in_left (in_second (is_one vw) s)))
+body_starts k kw (version_three vw) s = in_second (is_one kw) (in_right (in_right (in_second (is_one vw) s)))
 
 mapping_starts : {front : List Lexeme} → OpenMapping 16 front → (x : Lexeme) → IsKeyword (codes "set") x → Starts deeper_form (front ++ x ∷ [])
 unfolding body

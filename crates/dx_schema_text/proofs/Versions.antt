@@ -1,19 +1,20 @@
--- What a text says is of its version: it has no dependencies, and before version 2 no optional refs and no conditions.
+-- What a text says is of its version: before version 3 it has no dependencies, and before version 2 no optional refs and no conditions.
 use Rattle.std.proofs.Common.{◌≡◌, ℕ, Bool, true, false, List, [], ◌∷◌, refl, sym, ◌∙◌}
 use Rattle.dx_ports.specs.Members.{Each}
 use Rattle.dx_ports.proofs.Members.{each_cons}
 use Rattle.dx_tokens.specs.declared.scanner.Lexeme.{Lexeme}
 use Rattle.dx_grammar.specs.Readers.{Many, no_more, one_more}
+use Rattle.dx_schema.specs.declared.sets.DepDecl.{DepDecl}
 use Rattle.dx_schema.specs.declared.sets.RefDecl.{RefDecl}
 use Rattle.dx_schema.specs.Forest.{Forest, Tree, forest_of}
 use Rattle.dx_schema_text.specs.declared.texts.MappingText.{MappingText}
 use Rattle.dx_schema_text.specs.declared.clauses.Clause.{Clause}
 use Rattle.dx_schema_text.specs.declared.mapping.ItemText.{ItemText}
-use Rattle.dx_schema_text.specs.Grammar.{since_two}
-use Rattle.dx_schema_text.specs.Reading.{refs_among, sets_among, conditions_among}
-use Rattle.dx_schema_text.specs.Spelling.{SpellsOptional, not_optional, is_optional, SpellsRef, ref_of, SpellsSet, set_of, SpellsClauses, no_clause, clause_first, SpellsClause, a_key, a_ref, a_set, SpellsItem, a_line, a_rule, a_condition, SpellsSide, side_of, IsVersion, version_one, version_two, SpellsMapping, mapping_of}
+use Rattle.dx_schema_text.specs.Grammar.{since_two, since_three}
+use Rattle.dx_schema_text.specs.Reading.{deps_among, refs_among, sets_among, conditions_among}
+use Rattle.dx_schema_text.specs.Spelling.{SpellsOptional, not_optional, is_optional, SpellsRef, ref_of, SpellsSet, set_of, SpellsClauses, no_clause, clause_first, SpellsClause, a_key, a_dep, a_ref, a_set, SpellsItem, a_line, a_rule, a_condition, SpellsSide, side_of, IsVersion, version_one, version_two, version_three, SpellsMapping, mapping_of}
 use Rattle.dx_schema_text.specs.Laws.{SaidIsOfVersion}
-use Rattle.dx_schema_text.specs.Print.{IsOfVersion, AreOfVersion, IsKnown, the_first, the_second}
+use Rattle.dx_schema_text.specs.Print.{IsOfVersion, AreOfVersion, IsKnown, the_first, the_second, the_third}
 
 optional_sayable : {optionals b : Bool} {xs : List Lexeme} → SpellsOptional optionals b xs → b ≡ true → optionals ≡ true
 optional_sayable not_optional e = absurd cc
@@ -26,15 +27,20 @@ ref_sayable (ref_of k o c arrow s p d e a b f g h i j l m is n) said = optional_
 abbrev IsSayable : ℕ → RefDecl → Type 0
 IsSayable version r = r.optional ≡ true → since_two version ≡ true
 
+-- what the clauses of a set may say in a text of this version
+abbrev AreSayable : ℕ → List Clause → Type 0
+AreSayable version cs = Each (deps_among cs) (λ d. since_three version ≡ true) × Each (refs_among cs) (IsSayable version) × AreOfVersion version (sets_among cs)
+
 mutual
   set_sayable : {version levels : ℕ} {t : Tree} {xs : List Lexeme} → SpellsSet version levels t xs → IsOfVersion version t.label × AreOfVersion version t.inner
-  set_sayable (set_of c head clauses closing) = let r = clauses_sayable clauses in (record { deps = refl; refs = r.0 }, r.1)
+  set_sayable (set_of c head clauses closing) = let r = clauses_sayable clauses in (record { deps = r.0; refs = r.1 }, r.2)
 
-  clauses_sayable : {version levels : ℕ} {cs : List Clause} {xs : List Lexeme} → SpellsClauses version levels cs xs → Each (refs_among cs) (IsSayable version) × AreOfVersion version (sets_among cs)
-  clauses_sayable no_clause = (λ x m. elim m [ ], tt)
+  clauses_sayable : {version levels : ℕ} {cs : List Clause} {xs : List Lexeme} → SpellsClauses version levels cs xs → AreSayable version cs
+  clauses_sayable no_clause = (λ x m. elim m [ ], λ x m. elim m [ ], tt)
   clauses_sayable (clause_first (a_key key) rest) = clauses_sayable rest
-  clauses_sayable (clause_first {cs = cs} (a_ref {r = r} ref) rest) = let q = clauses_sayable rest in (each_cons r (refs_among cs) (ref_sayable ref) q.0, q.1)
-  clauses_sayable (clause_first (a_set set) rest) = let q = clauses_sayable rest in let s = set_sayable set in (q.0, (s.0, s.1, q.1))
+  clauses_sayable (clause_first {cs = cs} (a_dep {d = d} is dep) rest) = let q = clauses_sayable rest in (each_cons d (deps_among cs) is q.0, q.1, q.2)
+  clauses_sayable (clause_first {cs = cs} (a_ref {r = r} ref) rest) = let q = clauses_sayable rest in (q.0, each_cons r (refs_among cs) (ref_sayable ref) q.1, q.2)
+  clauses_sayable (clause_first (a_set set) rest) = let q = clauses_sayable rest in let s = set_sayable set in (q.0, q.1, (s.0, s.1, q.2))
 
 sets_sayable : {version levels : ℕ} {ts : List Tree} {xs : List Lexeme} → Many (SpellsSet version levels) ts xs → AreOfVersion version (forest_of ts)
 sets_sayable no_more = tt
@@ -60,6 +66,7 @@ without_conditions true said e = absurd cc
 known : {version : ℕ} {n : Lexeme} → IsVersion version n → IsKnown version
 known (version_one e) = the_first
 known (version_two e) = the_second
+known (version_three e) = the_third
 
 is_of_version : {levels : ℕ} {m : MappingText} {xs : List Lexeme} → SpellsMapping levels m xs → IsKnown m.version × (since_two m.version ≡ false → m.conditions ≡ [])
 is_of_version (mapping_of {version = version} k n e keyword number ending from to rest) = (known number, without_conditions (since_two version) rest)

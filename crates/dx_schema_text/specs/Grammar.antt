@@ -56,6 +56,10 @@ mark_is m x = is_mark_kind x.kind && pointwise nat_eq x.text m
 abbrev pub since_two : ℕ → Bool
 since_two version = nat_le 2 version
 
+-- what came with version 3 stands in this version
+abbrev pub since_three : ℕ → Bool
+since_three version = nat_le 3 version
+
 -- ---- forms
 
 -- any word, any string, this word, this mark
@@ -79,6 +83,16 @@ words = word ▸ repeated (mark (codes ",") ▸ word)
 unfoldable pub key : Form Lexeme
 key = keyword (codes "key") ▸ mark (codes "(") ▸ words ▸ mark (codes ")") ▸ mark (codes ";")
 
+-- "dep" "(" words ")" "->" "(" words ")" ";"
+unfoldable pub dep : Form Lexeme
+dep =
+    keyword (codes "dep") ▸ mark (codes "(") ▸ words ▸ mark (codes ")") ▸ mark (codes "->") ▸ mark (codes "(") ▸ words ▸ mark (codes ")") ▸ mark (codes ";")
+
+-- key, and if dependencies may stand, key | dep
+unfoldable pub determination : Bool → Form Lexeme
+determination false = key
+determination true = key ∣ dep
+
 -- [ "optional" ], if refs may be optional
 unfoldable pub optional_word : Bool → Form Lexeme
 optional_word false = nothing
@@ -97,13 +111,13 @@ set_head = keyword (codes "set") ▸ word ▸ mark (codes "{") ▸ words ▸ mar
 unfoldable pub set_of : Form Lexeme → Form Lexeme
 set_of clause = set_head ▸ repeated clause ▸ mark (codes "}")
 
--- key | ref, in a set that has no inner sets
+-- determination | ref, in a set that has no inner sets
 unfoldable pub last_clause : ℕ → Form Lexeme
-last_clause version = key ∣ ref (since_two version)
+last_clause version = determination (since_three version) ∣ ref (since_two version)
 
--- key | ref | set
+-- determination | ref | set
 unfoldable pub clause_with : ℕ → Form Lexeme → Form Lexeme
-clause_with version inner = key ∣ ref (since_two version) ∣ inner
+clause_with version inner = determination (since_three version) ∣ ref (since_two version) ∣ inner
 
 -- a clause of a set with so many levels of inner sets, at most, in a text of this version
 unfoldable pub clause : ℕ → ℕ → Form Lexeme
@@ -181,7 +195,10 @@ side version name levels = keyword name ▸ mark (codes "{") ▸ repeated (set v
 unfoldable pub body : ℕ → ℕ → Form Lexeme
 body version levels = mark (codes ";") ▸ side version (codes "source") levels ▸ side version (codes "target") levels ▸ repeated (item (since_two version))
 
--- "mapping", and "1" with a body of version 1 or "2" with one of version 2,
--- where sets have so many levels of inner sets, at most
+-- the digit of a version, with a body of that version
+abbrev pub numbered : List ℕ → ℕ → ℕ → Form Lexeme
+numbered number version levels = one (number_is number) ▸ body version levels
+
+-- "mapping", and "1", "2" or "3" with a body of that version, where sets have so many levels of inner sets, at most
 unfoldable pub mapping : ℕ → Form Lexeme
-mapping levels = keyword (codes "mapping") ▸ ((one (number_is (codes "1")) ▸ body 1 levels) ∣ (one (number_is (codes "2")) ▸ body 2 levels))
+mapping levels = keyword (codes "mapping") ▸ (numbered (codes "1") 1 levels ∣ numbered (codes "2") 2 levels ∣ numbered (codes "3") 3 levels)

@@ -42,7 +42,7 @@ TooDeepAreSets = (text : List ℕ) (place : ℕ) → IsTextFault text (TooDeep p
 abbrev pub SaidIsWritable : Type 0
 SaidIsWritable = (text : List ℕ) (m : MappingText) → IsMappingText text m → AreWritable m.version m.source × AreWritable m.version m.target
 
--- a text is of version 1 or 2, and before version 2 it says no conditions
+-- a text is of version 1, 2 or 3, and before version 2 it says no conditions
 abbrev pub SaidIsOfVersion : Type 0
 SaidIsOfVersion = (text : List ℕ) (m : MappingText) → IsMappingText text m → IsKnown m.version × (since_two m.version ≡ false → m.conditions ≡ [])
 

@@ -9,7 +9,7 @@ use Rattle.dx_schema.specs.declared.sets.RefDecl.{RefDecl}
 use Rattle.dx_schema.specs.Forest.{Label, Forest, none, set}
 use Rattle.dx_schema.specs.Faults.{depth}
 use Rattle.dx_schema_text.specs.declared.texts.MappingText.{MappingText}
-use Rattle.dx_schema_text.specs.Grammar.{since_two}
+use Rattle.dx_schema_text.specs.Grammar.{since_two, since_three}
 use Rattle.dx_schema_text.specs.Texts.{IsMappingText}
 
 -- names, parted by a comma and a space
@@ -67,6 +67,11 @@ abbrev pub AreNames : List (List ℕ) → Type 0
 AreNames [] = ⊥
 AreNames (name ∷ others) = IsWord name × Each others IsWord
 
+-- each name of a dependency is a word, and neither of its lists is empty
+pub record IsNamedDep (d : DepDecl) : Type 0 where
+  pub columns : AreNames d.columns
+  pub decides : AreNames d.decides
+
 -- each name of a ref is a word, and neither of its lists is empty
 pub record IsNamedRef (r : RefDecl) : Type 0 where
   pub columns : AreNames r.columns
@@ -78,6 +83,7 @@ pub record IsNamed (l : Label) : Type 0 where
   pub name : IsWord l.name
   pub columns : AreNames l.columns
   pub keys : Each l.keys (λ k. AreNames k.columns)
+  pub deps : Each l.deps IsNamedDep
   pub refs : Each l.refs IsNamedRef
 
 -- the same of all sets
@@ -85,9 +91,9 @@ abbrev pub AreNamed : Forest → Type 0
 AreNamed none = Unit {0}
 AreNamed (set l inner rest) = IsNamed l × AreNamed inner × AreNamed rest
 
--- a mapping text of this version can say the set: it has no dependencies, and an optional ref alone from version 2 on
+-- a mapping text of this version can say the set: it has a dependency alone from version 3 on, and an optional ref alone from version 2 on
 pub record IsOfVersion (version : ℕ) (l : Label) : Type 0 where
-  pub deps : l.deps ≡ []
+  pub deps : Each l.deps (λ d. since_three version ≡ true)
   pub refs : Each l.refs (λ r. r.optional ≡ true → since_two version ≡ true)
 
 -- the same of all sets
@@ -105,6 +111,7 @@ pub record AreWritable (version : ℕ) (f : Forest) : Type 0 where
 pub data IsKnown : ℕ → Type 0 where
   the_first : IsKnown 1
   the_second : IsKnown 2
+  the_third : IsKnown 3
 
 -- the digit of a version
 abbrev pub digit_of : ℕ → List ℕ

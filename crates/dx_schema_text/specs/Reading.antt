@@ -3,6 +3,7 @@ use Rattle.std.specs.Prelude.{ℕ, zero, suc, Bool, true, false, ◌||◌, List,
 use Rattle.dx_tokens.specs.declared.scanner.Lexeme.{Lexeme}
 use Rattle.dx_grammar.specs.Readers.{Reader, ◌>>=◌, give, token, either, many}
 use Rattle.dx_schema.specs.declared.sets.KeyDecl.{KeyDecl}
+use Rattle.dx_schema.specs.declared.sets.DepDecl.{DepDecl}
 use Rattle.dx_schema.specs.declared.sets.RefDecl.{RefDecl}
 use Rattle.dx_schema.specs.Forest.{Forest, none, set, Tree, forest_of}
 use Rattle.dx_schema_text.specs.declared.texts.PlaceText.{PlaceText}
@@ -20,7 +21,7 @@ use Rattle.dx_schema_text.specs.declared.clauses.Clause.{Clause}
 use Rattle.dx_schema_text.specs.declared.clauses.Clause.TheVariants as clauses
 use Rattle.dx_schema_text.specs.declared.mapping.ItemText.{ItemText}
 use Rattle.dx_schema_text.specs.declared.mapping.ItemText.TheVariants as items
-use Rattle.dx_schema_text.specs.Grammar.{is_word, is_string, word_is, number_is, mark_is, since_two}
+use Rattle.dx_schema_text.specs.Grammar.{is_word, is_string, word_is, number_is, mark_is, since_two, since_three}
 
 -- ---- names
 
@@ -49,6 +50,29 @@ key_reader = do
   closing ← token (mark_is (codes ")"))
   ending ← token (mark_is (codes ";"))
   give (record { columns = columns })
+
+-- a dependency: these columns decide these
+abbrev pub dependency_of : List (List ℕ) → List (List ℕ) → DepDecl
+dependency_of columns decides = record { columns = columns; decides = decides }
+
+-- what a dependency's columns decide
+unfoldable pub decided_reader : List (List ℕ) → Reader Lexeme DepDecl
+decided_reader columns = do
+  opening ← token (mark_is (codes "("))
+  decides ← words_reader
+  closing ← token (mark_is (codes ")"))
+  ending ← token (mark_is (codes ";"))
+  give (dependency_of columns decides)
+
+-- a dependency: its columns, and the columns that they decide
+unfoldable pub dep_reader : Reader Lexeme DepDecl
+dep_reader = do
+  keyword ← token (word_is (codes "dep"))
+  opening ← token (mark_is (codes "("))
+  columns ← words_reader
+  closing ← token (mark_is (codes ")"))
+  arrow ← token (mark_is (codes "->"))
+  decided_reader columns
 
 -- a ref of these columns to these columns of a set, which may be optional
 abbrev pub reference_of : List (List ℕ) → List ℕ → List (List ℕ) → Bool → RefDecl
@@ -80,9 +104,12 @@ ref_reader optionals = do
   arrow ← token (mark_is (codes "->"))
   referred_reader optionals columns
 
--- a key, a ref and an inner set, each as a clause
+-- a key, a dependency, a ref and an inner set, each as a clause
 abbrev pub key_clause : KeyDecl → Clause
 key_clause k = clauses.Key k
+
+abbrev pub dep_clause : DepDecl → Clause
+dep_clause d = clauses.Dep d
 
 abbrev pub ref_clause : RefDecl → Clause
 ref_clause r = clauses.Ref r
@@ -90,42 +117,63 @@ ref_clause r = clauses.Ref r
 abbrev pub set_clause : Tree → Clause
 set_clause t = clauses.Set t
 
--- the keys, the refs and the sets among clauses
+-- the keys, the dependencies, the refs and the sets among clauses
 abbrev pub keys_among : List Clause → List KeyDecl
 keys_among [] = []
 keys_among (clauses.Key k ∷ cs) = k ∷ keys_among cs
+keys_among (clauses.Dep d ∷ cs) = keys_among cs
 keys_among (clauses.Ref r ∷ cs) = keys_among cs
 keys_among (clauses.Set t ∷ cs) = keys_among cs
+
+abbrev pub deps_among : List Clause → List DepDecl
+deps_among [] = []
+deps_among (clauses.Key k ∷ cs) = deps_among cs
+deps_among (clauses.Dep d ∷ cs) = d ∷ deps_among cs
+deps_among (clauses.Ref r ∷ cs) = deps_among cs
+deps_among (clauses.Set t ∷ cs) = deps_among cs
 
 abbrev pub refs_among : List Clause → List RefDecl
 refs_among [] = []
 refs_among (clauses.Key k ∷ cs) = refs_among cs
+refs_among (clauses.Dep d ∷ cs) = refs_among cs
 refs_among (clauses.Ref r ∷ cs) = r ∷ refs_among cs
 refs_among (clauses.Set t ∷ cs) = refs_among cs
 
 abbrev pub sets_among : List Clause → Forest
 sets_among [] = none
 sets_among (clauses.Key k ∷ cs) = sets_among cs
+sets_among (clauses.Dep d ∷ cs) = sets_among cs
 sets_among (clauses.Ref r ∷ cs) = sets_among cs
 sets_among (clauses.Set t ∷ cs) = set t.label t.inner (sets_among cs)
 
--- a set with this name, these columns and these clauses, none of which says a dependency
+-- a set with this name, these columns and these clauses
 abbrev pub tree_of : List ℕ → List (List ℕ) → List Clause → Tree
-tree_of name columns cs = record { label = record { name = name; columns = columns; keys = keys_among cs; deps = []; refs = refs_among cs }; inner = sets_among cs }
+tree_of name columns cs = record { label = record { name = name; columns = columns; keys = keys_among cs; deps = deps_among cs; refs = refs_among cs }; inner = sets_among cs }
 
--- a clause begins with "key" or "ref", and where inner sets may stand with "set"
-abbrev pub begins_clause : ℕ → Lexeme → Bool
-begins_clause zero x = word_is (codes "key") x || word_is (codes "ref") x
-begins_clause (suc levels) x = word_is (codes "key") x || (word_is (codes "ref") x || word_is (codes "set") x)
+-- a key begins with "key", and if dependencies may stand one begins with "dep"
+abbrev pub begins_determination : Bool → Lexeme → Bool
+begins_determination false x = word_is (codes "key") x
+begins_determination true x = word_is (codes "key") x || word_is (codes "dep") x
 
--- a key or a ref, in a set that has no inner sets
+-- a key, or if dependencies may stand a dependency
+unfoldable pub determination_reader : Bool → Reader Lexeme Clause
+determination_reader false = key_reader >>= λ k. give (key_clause k)
+determination_reader true = either (word_is (codes "key")) (key_reader >>= λ k. give (key_clause k)) (dep_reader >>= λ d. give (dep_clause d))
+
+-- a clause begins as a key or a dependency, or with "ref", and where inner sets may stand with "set"
+abbrev pub begins_clause : ℕ → ℕ → Lexeme → Bool
+begins_clause version zero x = begins_determination (since_three version) x || word_is (codes "ref") x
+begins_clause version (suc levels) x = begins_determination (since_three version) x || (word_is (codes "ref") x || word_is (codes "set") x)
+
+-- a key, a dependency or a ref, in a set that has no inner sets
 unfoldable pub last_clause_reader : ℕ → Reader Lexeme Clause
-last_clause_reader version = either (word_is (codes "key")) (key_reader >>= λ k. give (key_clause k)) (ref_reader (since_two version) >>= λ r. give (ref_clause r))
+last_clause_reader version =
+    either (begins_determination (since_three version)) (determination_reader (since_three version)) (ref_reader (since_two version) >>= λ r. give (ref_clause r))
 
--- a key, a ref or an inner set
+-- a key, a dependency, a ref or an inner set
 unfoldable pub clause_reader_with : ℕ → Reader Lexeme Tree → Reader Lexeme Clause
 clause_reader_with version inner =
-    either (word_is (codes "key")) (key_reader >>= λ k. give (key_clause k)) (either (word_is (codes "ref")) (ref_reader (since_two version) >>= λ r. give (ref_clause r)) (inner >>= λ t. give (set_clause t)))
+    either (begins_determination (since_three version)) (determination_reader (since_three version)) (either (word_is (codes "ref")) (ref_reader (since_two version) >>= λ r. give (ref_clause r)) (inner >>= λ t. give (set_clause t)))
 
 -- the name and the columns of a set
 unfoldable pub set_head_reader : Reader Lexeme (List ℕ × List (List ℕ))
@@ -148,11 +196,11 @@ set_reader_of begins clause = do
 -- a clause of a set with so many levels of inner sets, at most, in a text of this version
 unfoldable pub clause_reader : ℕ → ℕ → Reader Lexeme Clause
 clause_reader version zero = last_clause_reader version
-clause_reader version (suc levels) = clause_reader_with version (set_reader_of (begins_clause levels) (clause_reader version levels))
+clause_reader version (suc levels) = clause_reader_with version (set_reader_of (begins_clause version levels) (clause_reader version levels))
 
 -- a set with so many levels of inner sets, at most
 abbrev pub set_reader : ℕ → ℕ → Reader Lexeme Tree
-set_reader version levels = set_reader_of (begins_clause levels) (clause_reader version levels)
+set_reader version levels = set_reader_of (begins_clause version levels) (clause_reader version levels)
 
 -- ---- lines
 
@@ -406,8 +454,12 @@ body_reader version levels = do
   rest ← many (begins_item (since_two version)) (item_reader (since_two version))
   give (mapping_text version from to rest)
 
--- a mapping of version 1 or 2 whose sets have so many levels of inner sets, at most
+-- the digit of a version, and what stands after it
+abbrev pub numbered_reader : List ℕ → ℕ → ℕ → Reader Lexeme MappingText
+numbered_reader number version levels = token (number_is number) >>= λ n. body_reader version levels
+
+-- a mapping of version 1, 2 or 3 whose sets have so many levels of inner sets, at most
 unfoldable pub mapping_reader : ℕ → Reader Lexeme MappingText
 mapping_reader levels = do
   keyword ← token (word_is (codes "mapping"))
-  either (number_is (codes "1")) (token (number_is (codes "1")) >>= λ number. body_reader 1 levels) (token (number_is (codes "2")) >>= λ number. body_reader 2 levels)
+  either (number_is (codes "1")) (numbered_reader (codes "1") 1 levels) (either (number_is (codes "2")) (numbered_reader (codes "2") 2 levels) (numbered_reader (codes "3") 3 levels))

@@ -3,6 +3,7 @@ use Rattle.std.specs.Prelude.{◌≡◌, ℕ, suc, Bool, true, false, List, [], 
 use Rattle.dx_tokens.specs.declared.scanner.Lexeme.{Lexeme}
 use Rattle.dx_grammar.specs.Readers.{Many}
 use Rattle.dx_schema.specs.declared.sets.KeyDecl.{KeyDecl}
+use Rattle.dx_schema.specs.declared.sets.DepDecl.{DepDecl}
 use Rattle.dx_schema.specs.declared.sets.RefDecl.{RefDecl}
 use Rattle.dx_schema.specs.Forest.{Forest, Tree, forest_of}
 use Rattle.dx_schema_text.specs.declared.texts.PlaceText.{PlaceText}
@@ -16,8 +17,8 @@ use Rattle.dx_schema_text.specs.declared.texts.OnlyText.{OnlyText}
 use Rattle.dx_schema_text.specs.declared.texts.MappingText.{MappingText}
 use Rattle.dx_schema_text.specs.declared.clauses.Clause.{Clause}
 use Rattle.dx_schema_text.specs.declared.mapping.ItemText.{ItemText}
-use Rattle.dx_schema_text.specs.Grammar.{is_word, is_string, word_is, number_is, mark_is, since_two}
-use Rattle.dx_schema_text.specs.Reading.{reference_of, key_clause, ref_clause, set_clause, tree_of, place_text, literal_source, column_source, call_source, name_cell, literal_cell, line_item, rule_item, only_item, mapping_text}
+use Rattle.dx_schema_text.specs.Grammar.{is_word, is_string, word_is, number_is, mark_is, since_two, since_three}
+use Rattle.dx_schema_text.specs.Reading.{dependency_of, reference_of, key_clause, dep_clause, ref_clause, set_clause, tree_of, place_text, literal_source, column_source, call_source, name_cell, literal_cell, line_item, rule_item, only_item, mapping_text}
 
 -- the token is this mark, this word
 abbrev pub IsMark : List ℕ → Lexeme → Type 0
@@ -47,16 +48,22 @@ pub data Parted {A : Type 0} (R : A → List Lexeme → Type 0) : List A → Lis
 pub data SpellsName : List ℕ → List Lexeme → Type 0 where
   name_of : (w : Lexeme) → IsWord w → SpellsName w.text (w ∷ [])
 
--- tokens spell a key, a ref
+-- tokens spell a key, a dependency
 pub data SpellsKey : KeyDecl → List Lexeme → Type 0 where
   key_of : {columns : List (List ℕ)} {u : List Lexeme} (k o c e : Lexeme) → IsKeyword (codes "key") k → IsMark (codes "(") o → Parted SpellsName columns u → IsMark (codes ")") c → IsMark (codes ";") e
       → SpellsKey (record { columns = columns }) (k ∷ o ∷ (u ++ c ∷ e ∷ []))
+
+pub data SpellsDep : DepDecl → List Lexeme → Type 0 where
+  dep_of : {columns decides : List (List ℕ)} {u v : List Lexeme} (k o c arrow p d e : Lexeme) → IsKeyword (codes "dep") k → IsMark (codes "(") o → Parted SpellsName columns u → IsMark (codes ")") c → IsMark (codes "->") arrow
+      → IsMark (codes "(") p → Parted SpellsName decides v → IsMark (codes ")") d → IsMark (codes ";") e
+      → SpellsDep (dependency_of columns decides) (k ∷ o ∷ (u ++ c ∷ arrow ∷ p ∷ (v ++ d ∷ e ∷ [])))
 
 -- tokens spell whether a ref is optional: the word says so, where refs may be optional
 pub data SpellsOptional : Bool → Bool → List Lexeme → Type 0 where
   not_optional : {optionals : Bool} → SpellsOptional optionals false []
   is_optional : (k : Lexeme) → IsKeyword (codes "optional") k → SpellsOptional true true (k ∷ [])
 
+-- tokens spell a ref
 pub data SpellsRef : Bool → RefDecl → List Lexeme → Type 0 where
   ref_of : {optionals b : Bool} {columns referred : List (List ℕ)} {u v w : List Lexeme} (k o c arrow s p d e : Lexeme) → IsKeyword (codes "ref") k → IsMark (codes "(") o → Parted SpellsName columns u → IsMark (codes ")") c → IsMark (codes "->") arrow
       → IsWord s → IsMark (codes "(") p → Parted SpellsName referred v → IsMark (codes ")") d → SpellsOptional optionals b w → IsMark (codes ";") e
@@ -78,9 +85,10 @@ mutual
     no_clause : {version levels : ℕ} → SpellsClauses version levels [] []
     clause_first : {version levels : ℕ} {c : Clause} {cs : List Clause} {u v : List Lexeme} → SpellsClause version levels c u → SpellsClauses version levels cs v → SpellsClauses version levels (c ∷ cs) (u ++ v)
 
-  -- a key, a ref, or where inner sets may stand, an inner set
+  -- a key, from version 3 on a dependency, a ref, or where inner sets may stand, an inner set
   pub data SpellsClause : ℕ → ℕ → Clause → List Lexeme → Type 0 where
     a_key : {version levels : ℕ} {k : KeyDecl} {u : List Lexeme} → SpellsKey k u → SpellsClause version levels (key_clause k) u
+    a_dep : {version levels : ℕ} {d : DepDecl} {u : List Lexeme} → since_three version ≡ true → SpellsDep d u → SpellsClause version levels (dep_clause d) u
     a_ref : {version levels : ℕ} {r : RefDecl} {u : List Lexeme} → SpellsRef (since_two version) r u → SpellsClause version levels (ref_clause r) u
     a_set : {version levels : ℕ} {t : Tree} {u : List Lexeme} → SpellsSet version levels t u → SpellsClause version (suc levels) (set_clause t) u
 
@@ -148,10 +156,11 @@ pub data SpellsSide : ℕ → List ℕ → ℕ → Forest → List Lexeme → Ty
   side_of : {version : ℕ} {name : List ℕ} {levels : ℕ} {trees : List Tree} {u : List Lexeme} (k o c : Lexeme) → IsKeyword name k → IsMark (codes "{") o → Many (SpellsSet version levels) trees u → IsMark (codes "}") c
       → SpellsSide version name levels (forest_of trees) (k ∷ o ∷ (u ++ c ∷ []))
 
--- the token is the number of a version, which is 1 or 2
+-- the token is the number of a version, which is 1, 2 or 3
 pub data IsVersion : ℕ → Lexeme → Type 0 where
   version_one : {n : Lexeme} → number_is (codes "1") n ≡ true → IsVersion 1 n
   version_two : {n : Lexeme} → number_is (codes "2") n ≡ true → IsVersion 2 n
+  version_three : {n : Lexeme} → number_is (codes "3") n ≡ true → IsVersion 3 n
 
 -- a mapping whose sets have so many levels of inner sets, at most
 pub data SpellsMapping : ℕ → MappingText → List Lexeme → Type 0 where

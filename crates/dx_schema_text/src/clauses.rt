@@ -1,13 +1,13 @@
 // Sets with their clauses.
 ghost use Rattle.std.specs.Prelude.{◌≡◌, ℕ, List, codes, IfOk};
 ghost use Rattle.dx_grammar.specs.Readers.{passed, give, next_is, many, Gives};
-ghost use Rattle.dx_schema_text.specs.Grammar.{since_two};
-ghost use Rattle.dx_schema_text.specs.Reading.{key_reader, reference_of, optional_reader, referred_reader, ref_reader, key_clause, ref_clause, set_clause, begins_clause, last_clause_reader, clause_reader_with, clause_reader, set_head_reader, set_reader, tree_of};
+ghost use Rattle.dx_schema_text.specs.Grammar.{since_two, since_three};
+ghost use Rattle.dx_schema_text.specs.Reading.{key_reader, dependency_of, decided_reader, dep_reader, begins_determination, determination_reader, reference_of, optional_reader, referred_reader, ref_reader, key_clause, dep_clause, ref_clause, set_clause, begins_clause, last_clause_reader, clause_reader_with, clause_reader, set_head_reader, set_reader, tree_of};
 
 use crate::lexemes::{keyword, mark, names, next_is_keyword, word};
 use dx_grammar::ReadError;
 use dx_ports::{Items, Text};
-use dx_schema::{KeyDecl, RefDecl, SetTree, Trees};
+use dx_schema::{DepDecl, KeyDecl, RefDecl, SetTree, Trees};
 use dx_tokens::Lexeme;
 use std::alloc::{AllocError, Global};
 
@@ -15,6 +15,7 @@ use std::alloc::{AllocError, Global};
 #[derive(Drop)]
 pub enum Clause {
     Key(KeyDecl),
+    Dep(DepDecl),
     Ref(RefDecl),
     Set(SetTree),
 }
@@ -29,6 +30,31 @@ fn key(alloc: Global, tokens: &[Lexeme]) -> Result<(KeyDecl, &[Lexeme]), ReadErr
     let (_, rest) = mark(rest, b")")?;
     let (_, rest) = mark(rest, b";")?;
     Ok((KeyDecl { columns }, rest))
+}
+
+// The columns that a dependency's columns decide.
+#[tactic(auto, unfolding(crate::specs::Reading::decided_reader))]
+fn decided(alloc: Global, tokens: &[Lexeme]) -> Result<(Items<Text>, &[Lexeme]), ReadError>
+    ensures { (columns : List (List ℕ)) → Gives (λ x. (dependency_of columns x.0, x.1.now)) result (decided_reader columns tokens.now) }
+{
+    let (_, rest) = mark(tokens, b"(")?;
+    let (decides, rest) = names(alloc, rest)?;
+    let (_, rest) = mark(rest, b")")?;
+    let (_, rest) = mark(rest, b";")?;
+    Ok((decides, rest))
+}
+
+#[tactic(auto, unfolding(crate::specs::Reading::dep_reader))]
+fn dependency(alloc: Global, tokens: &[Lexeme]) -> Result<(DepDecl, &[Lexeme]), ReadError>
+    ensures { Gives (λ x. (x.0, x.1.now)) result (dep_reader tokens.now) }
+{
+    let (_, rest) = keyword(tokens, b"dep")?;
+    let (_, rest) = mark(rest, b"(")?;
+    let (columns, rest) = names(alloc, rest)?;
+    let (_, rest) = mark(rest, b")")?;
+    let (_, rest) = mark(rest, b"->")?;
+    let (decides, rest) = decided(alloc, rest)?;
+    Ok((DepDecl { columns, decides }, rest))
 }
 
 // Whether the word `optional` comes next, if refs may be optional.
@@ -85,16 +111,23 @@ fn reference(
     Ok((reference, rest))
 }
 
-// Whether a clause comes next, where a set has so many levels of inner sets, at most.
-fn next_is_clause(tokens: &[Lexeme], levels: u32) -> bool
-    ensures { result ≡ next_is (begins_clause levels) tokens.now }
+// Whether a key comes next, or if dependencies may stand a dependency.
+fn next_is_determination(tokens: &[Lexeme], dependencies: bool) -> bool
+    ensures { result ≡ next_is (begins_determination dependencies) tokens.now }
 {
-    next_is_keyword(tokens, b"key")
+    next_is_keyword(tokens, b"key") || (dependencies && next_is_keyword(tokens, b"dep"))
+}
+
+// Whether a clause comes next, where a set has so many levels of inner sets, at most.
+fn next_is_clause(tokens: &[Lexeme], version: u32, levels: u32) -> bool
+    ensures { result ≡ next_is (begins_clause version levels) tokens.now }
+{
+    next_is_determination(tokens, version >= 3)
         || next_is_keyword(tokens, b"ref")
         || (levels > 0 && next_is_keyword(tokens, b"set"))
 }
 
-// A set of this name with these columns and clauses. No clause says a dependency.
+// A set of this name with these columns and clauses.
 fn tree_made(
     alloc: Global,
     name: Text,
@@ -104,11 +137,13 @@ fn tree_made(
     ensures { IfOk result (λ t. t ≡ tree_of name columns clauses) }
 {
     let mut keys = Items::new(alloc);
+    let mut deps = Items::new(alloc);
     let mut refs = Items::new(alloc);
     let mut inner = Trees::new(alloc);
     'clauses: for clause in clauses.into_vec() {
         match clause {
             Clause::Key(key) => keys.push(key)?,
+            Clause::Dep(dep) => deps.push(dep)?,
             Clause::Ref(reference) => refs.push(reference)?,
             Clause::Set(tree) => inner.push(tree)?,
         }
@@ -117,7 +152,7 @@ fn tree_made(
         name,
         columns,
         keys,
-        deps: Items::new(alloc),
+        deps,
         refs,
         inner,
     })
@@ -128,6 +163,29 @@ fn key_among(alloc: Global, tokens: &[Lexeme]) -> Result<(Clause, &[Lexeme]), Re
 {
     let (key, rest) = key(alloc, tokens)?;
     Ok((Clause::Key(key), rest))
+}
+
+fn dep_among(alloc: Global, tokens: &[Lexeme]) -> Result<(Clause, &[Lexeme]), ReadError>
+    ensures { Gives (λ x. (x.0, x.1.now)) result (passed (dep_reader tokens.now) (λ d. give (dep_clause d))) }
+{
+    let (dependency, rest) = dependency(alloc, tokens)?;
+    Ok((Clause::Dep(dependency), rest))
+}
+
+// A key, or if dependencies may stand a dependency.
+#[tactic(auto, unfolding(crate::specs::Reading::determination_reader))]
+fn determination(
+    alloc: Global,
+    dependencies: bool,
+    tokens: &[Lexeme],
+) -> Result<(Clause, &[Lexeme]), ReadError>
+    ensures { Gives (λ x. (x.0, x.1.now)) result (determination_reader dependencies tokens.now) }
+{
+    if !dependencies || next_is_keyword(tokens, b"key") {
+        key_among(alloc, tokens)
+    } else {
+        dep_among(alloc, tokens)
+    }
 }
 
 fn ref_among(
@@ -150,8 +208,8 @@ fn last_clause(
 ) -> Result<(Clause, &[Lexeme]), ReadError>
     ensures { Gives (λ x. (x.0, x.1.now)) result (last_clause_reader version tokens.now) }
 {
-    if next_is_keyword(tokens, b"key") {
-        key_among(alloc, tokens)
+    if next_is_determination(tokens, version >= 3) {
+        determination(alloc, version >= 3, tokens)
     } else {
         ref_among(alloc, version, tokens)
     }
@@ -181,8 +239,8 @@ fn clause_with(
 ) -> Result<(Clause, &[Lexeme]), ReadError>
     ensures { Gives (λ x. (x.0, x.1.now)) result (clause_reader_with version (set_reader version levels) tokens.now) }
 {
-    if next_is_keyword(tokens, b"key") {
-        key_among(alloc, tokens)
+    if next_is_determination(tokens, version >= 3) {
+        determination(alloc, version >= 3, tokens)
     } else if next_is_keyword(tokens, b"ref") {
         ref_among(alloc, version, tokens)
     } else {
@@ -213,11 +271,11 @@ fn clauses(
     levels: u32,
     tokens: &[Lexeme],
 ) -> Result<(Items<Clause>, &[Lexeme]), ReadError>
-    ensures { Gives (λ x. (x.0, x.1.now)) result (many (begins_clause levels) (clause_reader version levels) tokens.now) }
+    ensures { Gives (λ x. (x.0, x.1.now)) result (many (begins_clause version levels) (clause_reader version levels) tokens.now) }
 {
     let mut clauses = Items::new(alloc);
     let mut rest = tokens;
-    'clauses: while next_is_clause(rest, levels) {
+    'clauses: while next_is_clause(rest, version, levels) {
         let (next, after) = one_clause(alloc, version, levels, rest)?;
         clauses.push(next)?;
         rest = after;

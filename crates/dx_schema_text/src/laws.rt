@@ -20,7 +20,7 @@ pub fn too_deep_are_sets()
     ensures { TooDeepAreSets }
 {}
 
-/// A text is of version 1 or 2. Before version 2 it says no conditions.
+/// A text is of version 1, 2 or 3. Before version 2 it says no conditions.
 pub fn what_is_said_is_of_its_version()
     ensures { SaidIsOfVersion }
 {}

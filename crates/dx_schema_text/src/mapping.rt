@@ -182,9 +182,12 @@ fn mapping(
     if next_is_number(rest, b"1") {
         let (_, rest) = number(rest, b"1")?;
         body(alloc, 1, levels, rest)
-    } else {
+    } else if next_is_number(rest, b"2") {
         let (_, rest) = number(rest, b"2")?;
         body(alloc, 2, levels, rest)
+    } else {
+        let (_, rest) = number(rest, b"3")?;
+        body(alloc, 3, levels, rest)
     }
 }
 

@@ -167,9 +167,9 @@ fn push_sets(
     Ok(())
 }
 
-/// Prints sets as a mapping text has them. If each name is a word, no list of names is empty, no set is more than 16
-/// levels deep and no set has a dependency, the text, as a side of a mapping text of version 2, is read as these sets; and
-/// so it is in version 1, if besides no ref is optional.
+/// Prints sets as a mapping text has them. If each name is a word, no list of names is empty and no set is more than 16
+/// levels deep, the text, as a side of a mapping text of version 3, is read as these sets. So it is in version 2, if no set
+/// has a dependency, and in version 1, if besides no ref is optional.
 ///
 /// # Errors
 ///

@@ -99,7 +99,7 @@ pub struct OnlyText {
 /// All that a mapping text says.
 #[derive(Drop)]
 pub struct MappingText {
-    /// The version of the grammar of mapping texts, which is 1 or 2.
+    /// The version of the grammar of mapping texts, which is 1, 2 or 3.
     pub version: u32,
     /// The sets of the source.
     pub source: Trees,

@@ -10,16 +10,16 @@ use Rattle.dx_schema_text.proofs.clauses.+sets.Goals as goal
 pub clauses-returns-in_err-next : goal.clauses-returns-in_err-next
 clauses-returns-in_err-next t c =
     let p = err_from_is_err_and c.from_residual.result c.from_residual.ensures.1 in
-    rw (p.1, p.2) (loop_fails (begins_clause c.args.levels) (clause_reader c.args.version c.args.levels) (clause_consumes c.args.version c.args.levels) c.in_err-next.field-0.0 c.clauses.clauses c.clauses.rest.now _ (sym c.clauses-test.ensures) c.in_err-next.ensures c.clauses.invariant)
+    rw (p.1, p.2) (loop_fails (begins_clause c.args.version c.args.levels) (clause_reader c.args.version c.args.levels) (clause_consumes c.args.version c.args.levels) c.in_err-next.field-0.0 c.clauses.clauses c.clauses.rest.now _ (sym c.clauses-test.ensures) c.in_err-next.ensures c.clauses.invariant)
 
 pub clauses-clauses-smaller : goal.clauses-clauses-smaller
-clauses-clauses-smaller t c = loop_shorter (begins_clause c.args.levels) (clause_reader c.args.version c.args.levels) (clause_consumes c.args.version c.args.levels) c.clauses.rest.now c.in_ok-next.after.now c.in_ok-next.next (sym c.clauses-test.ensures) c.in_ok-next.ensures
+clauses-clauses-smaller t c = loop_shorter (begins_clause c.args.version c.args.levels) (clause_reader c.args.version c.args.levels) (clause_consumes c.args.version c.args.levels) c.clauses.rest.now c.in_ok-next.after.now c.in_ok-next.next (sym c.clauses-test.ensures) c.in_ok-next.ensures
 
 pub clauses-clauses-preserved : goal.clauses-clauses-preserved
-clauses-clauses-preserved t c = loop_on (begins_clause c.args.levels) (clause_reader c.args.version c.args.levels) (clause_consumes c.args.version c.args.levels) c.clauses.clauses c.push.new.self c.clauses.rest.now c.in_ok-next.after.now c.in_ok-next.next _ (sym c.clauses-test.ensures) c.in_ok-next.ensures c.in_ok-push.ensures.ok c.clauses.invariant
+clauses-clauses-preserved t c = loop_on (begins_clause c.args.version c.args.levels) (clause_reader c.args.version c.args.levels) (clause_consumes c.args.version c.args.levels) c.clauses.clauses c.push.new.self c.clauses.rest.now c.in_ok-next.after.now c.in_ok-next.next _ (sym c.clauses-test.ensures) c.in_ok-next.ensures c.in_ok-push.ensures.ok c.clauses.invariant
 
 pub clauses-returns : goal.clauses-returns
-clauses-returns t c = loop_stops (begins_clause c.args.levels) (clause_reader c.args.version c.args.levels) (clause_consumes c.args.version c.args.levels) c.clauses.clauses c.clauses.rest.now _ (sym c.clauses-test.ensures) c.clauses.invariant
+clauses-returns t c = loop_stops (begins_clause c.args.version c.args.levels) (clause_reader c.args.version c.args.levels) (clause_consumes c.args.version c.args.levels) c.clauses.clauses c.clauses.rest.now _ (sym c.clauses-test.ensures) c.clauses.invariant
 
 pub one_clause-returns-then-levels-eq0 : goal.one_clause-returns-then-levels-eq0
 one_clause-returns-then-levels-eq0 t c = subst (Gives (λ x. (x.0, x.1.now)) c.last_clause.result) (no_level c.args.version c.args.levels c.args.tokens.now c.if-levels-eq0.true) c.last_clause.ensures

@@ -19,7 +19,7 @@ abbrev pub decreases-set : goal.decreases-set
 decreases-set l = 5 * l.levels + 3
 
 abbrev pub invariant-clauses-clauses : goal.invariant-clauses-clauses
-invariant-clauses-clauses l = with_front l.clauses (many (begins_clause l.levels) (clause_reader l.version l.levels) l.rest) ≡ many (begins_clause l.levels) (clause_reader l.version l.levels) l.fn.tokens
+invariant-clauses-clauses l = with_front l.clauses (many (begins_clause l.version l.levels) (clause_reader l.version l.levels) l.rest) ≡ many (begins_clause l.version l.levels) (clause_reader l.version l.levels) l.fn.tokens
 
 abbrev pub decreases-clauses-clauses : goal.decreases-clauses-clauses
 decreases-clauses-clauses l = length l.rest
