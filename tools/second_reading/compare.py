@@ -11,14 +11,14 @@ from refusals import TooLong
 from program import Folder
 from random_cases import random_case
 
-KINDS = ["rules", "lines", "mixed", "keyed", "optional", "hostile"]
+KINDS = ["rules", "lines", "mixed", "keyed", "optional", "dependent", "hostile"]
 
 
 def compare_one(program, kind, seed, number, tally):
     """One case; at a difference its folder is kept and told."""
     chance = random.Random("%s %s %d" % (kind, seed, number))
     hostile = kind == "hostile"
-    case = random_case(chance, chance.choice(["rules", "lines", "mixed", "optional"]) if hostile else kind)
+    case = random_case(chance, chance.choice(["rules", "lines", "mixed", "optional", "dependent"]) if hostile else kind)
     folder = Folder(case.files)
     tally["cases"] = tally.get("cases", 0) + 1
     try:

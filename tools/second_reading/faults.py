@@ -114,6 +114,40 @@ LATER_SCHEMAS = [
                                           "".join("set b%d{x;}" % n for n in range(7))),
 ]
 
+DEPENDENCIES = [
+    'set a{x,y;dep(x)->(y);}',
+    'set a{x,y;dep(x,y)->(x,y);dep(y)->(y);}',
+    'set a{x,y;dep(z)->(y);}',
+    'set a{x,y;dep(x)->(z);}',
+    'set a{x,y;dep(x,x)->(y);}',
+    'set a{x,y;dep(x)->(y,y);}',
+    'set a{x,y;dep(x,z,x)->(y);}',
+    'set a{x,y;dep(x,x,z)->(y);}',
+    'set a{x,y;dep(z)->(y,y);}',
+    'set a{x,y;dep(x,x)->(z);}',
+    'set a{x,y;dep(x)->(z);key(z);}',
+    'set a{x,y;dep(x,x)->(y);key(z);}',
+    'set a{x,y;dep(z)->(y);key(x,x);}',
+    'set a{x,y;ref(x,y)->a(x);dep(z)->(y);}',
+    'set a{x,y;ref(z)->b(x);dep(x)->(y,y);}',
+    'set a{x,y;dep(z)->(y);set b{u,u;}}',
+    'set a{x,y;set b{u;dep(x)->(u);}}',
+    'set a{x,y;set b{u,v;dep(u)->(v);dep(v)->(u);key(u);}}',
+    'set a{x;set b{u;dep(v)->(u);}}set c{z;dep(q)->(z);}',
+    'set a{x,y;dep()->(y);}',
+    'set a{x,y;dep(x)->();}',
+    'set a{x,y;dep(x)->y;}',
+    'set a{x,y;dep(x)(y);}',
+    'set a{x,y;dep(x)->a(y);}',
+    'set a{x,y;dep(x)->(y)optional;}',
+    'set a{x,y;dep(x),(y);}',
+    'set a{x,y;dep x->(y);}',
+    'set a{x,y;Dep(x)->(y);}',
+    'set a{x,y;dep(x)->(y)}',
+    'set a{x,y;dep(x)->(y);;}',
+    'set dep{dep,key;dep(dep)->(key);key(key,dep);}',
+]
+
 CONDITIONS = [
     'only a.x filled;',
     'only a.x full;',
@@ -131,7 +165,7 @@ CONDITIONS = [
     'only a.x filled;' * 256 + 'line a.x->t.y;' * 257,
 ]
 
-VERSIONS = ["0", "1", "2", "3", "02", "2 2", "two"]
+VERSIONS = ["0", "1", "2", "3", "4", "02", "03", "2 2", "13", "two", "three"]
 
 
 def chosen_folders():
@@ -145,8 +179,8 @@ def chosen_folders():
         yield {"mapping.clio": "mapping 1; source { } target { %s }" % text}
     for text in ITEMS:
         yield {"mapping.clio": FLAT + text, "a.csv": "x\n"}
-    for version in ("1", "2"):
-        for text in LATER_SCHEMAS:
+    for version in ("1", "2", "3"):
+        for text in LATER_SCHEMAS + DEPENDENCIES:
             yield {"mapping.clio": "mapping %s; source { %s } target { }" % (version, text)}
             yield {"mapping.clio": "mapping %s; source { } target { %s }" % (version, text)}
         for text in CONDITIONS:

@@ -6,7 +6,7 @@ from typing import NamedTuple, Optional
 from refusals import DEPTH, MAPPING, Limit, Refusal
 from schema import Dependency, Reference, SetTree
 
-VERSIONS = 2  # the versions of the mapping text that the program reads
+VERSIONS = 3  # the versions of the mapping text that the program reads
 WORD, NUMBER = re.compile(rb"[A-Za-z_][A-Za-z0-9_]*"), re.compile(rb"[0-9]+")
 
 

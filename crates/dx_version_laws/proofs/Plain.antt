@@ -1,18 +1,22 @@
--- No set that a text of version 1 says has an optional ref, so that no table has an optional link.
-use Rattle.std.proofs.Common.{◌≡◌, ℕ, zero, suc, ◌+◌, Bool, true, false, refl, List, [], ◌∷◌, Option, Some, None, subst, inl, inr}
+-- No set that a text of version 1 says has an optional ref, so that no table has an optional link; and none that a text of version 1 or 2 says has a dependency.
+use Rattle.std.proofs.Common.{◌≡◌, ℕ, zero, suc, ◌+◌, ◌<◌, Bool, true, false, refl, List, [], ◌∷◌, Option, Some, None, subst, sym, ◌∙◌, arith, inl, inr}
 use Rattle.std.specs.Prelude.{slice_index_or}
 use Rattle.std.proofs.lemmas.Bool.{false≢true}
 use Rattle.dx_ports.specs.Members.{◌∈◌, here, there, Each}
 use Rattle.dx_ports.proofs.Members.{from_append, from_map}
 use Rattle.dx_model.specs.Tables.{Table}
+use Rattle.dx_schema.specs.declared.sets.DepDecl.{DepDecl}
 use Rattle.dx_schema.specs.declared.sets.RefDecl.{RefDecl}
 use Rattle.dx_schema.specs.Forest.{Forest, none, set}
 use Rattle.dx_schema.specs.Tables.{Placed, placed, sets_of, count, optional_refs, table_in, tables_of, as_numbers, model_tables}
 use Rattle.dx_logical.specs.Laws.{HasNoOptional}
-use Rattle.dx_schema_text.specs.Print.{AreOfVersion}
+use Rattle.dx_schema_text.specs.declared.texts.MappingText.{MappingText}
+use Rattle.dx_schema_text.specs.Grammar.{since_three}
+use Rattle.dx_schema_text.specs.Texts.{IsMappingText}
+use Rattle.dx_schema_text.specs.Print.{IsKnown, the_first, the_second, the_third, AreOfVersion}
 use Rattle.dx_schema_text.proofs.SpelledWords.{said_is_writable}
 use Rattle.dx_schema_text.proofs.Versions.{said_is_of_version}
-use Rattle.dx_version_laws.specs.Laws.{FirstVersionIsPlain}
+use Rattle.dx_version_laws.specs.Laws.{HasNoDependency, HasKeysAlone, FirstVersionIsPlain, EarlierHaveKeysAlone}
 
 -- a ref that can't be optional isn't among those that are
 not_optional : (b : Bool) → (b ≡ true → false ≡ true) → b ≡ false
@@ -45,6 +49,40 @@ no_optional f h t = at_place (λ (x : Table). x.optional ≡ []) (model_tables f
     let b = from_map (table_in (sets_of f)) (sets_of f) a.1 in
     subst (λ (y : Table). y.optional ≡ []) a.2 (rw (← b.2) (rw (placed_plain None 0 f b.0 h b.1) refl)))
 
+-- ---- dependencies
+
+none_said : (version : ℕ) (deps : List DepDecl) → since_three version ≡ false → Each deps (λ d. since_three version ≡ true) → deps ≡ []
+none_said version [] earlier h = refl
+none_said version (d ∷ ds) earlier h = absurd (false≢true (sym earlier ∙ h d (here refl)))
+
+-- so no set of a forest that a text of an earlier version can say has a dependency
+placed_keyed : (version : ℕ) (p : Option ℕ) (n : ℕ) (f : Forest) (s : Placed) → since_three version ≡ false → AreOfVersion version f → s ∈ placed p n f → s.label.deps ≡ []
+placed_keyed version p n none s earlier h mem = elim mem [ ]
+placed_keyed version p n (set l i r) s earlier h (here e) = subst (λ (x : Placed). x.label.deps ≡ []) e (none_said version l.deps earlier h.0.deps)
+placed_keyed version p n (set l i r) s earlier h (there mem) =
+    elim (from_append (placed (Some n) (suc n) i) mem) [
+      | inl a ↦ placed_keyed version (Some n) (suc n) i s earlier h.1 a
+      | inr b ↦ placed_keyed version p (suc (n + count i)) r s earlier h.2 b
+    ]
+
+no_dependency : (version : ℕ) (f : Forest) → since_three version ≡ false → AreOfVersion version f → HasNoDependency f
+no_dependency version f earlier h t m =
+    let b = from_map (table_in (sets_of f)) (sets_of f) m in
+    rw (← b.2) (rw (placed_keyed version None 0 f b.0 earlier h b.1) refl)
+
+keys_alone : (text : List ℕ) (m : MappingText) → IsMappingText text m → since_three m.version ≡ false → HasKeysAlone m
+keys_alone text m is earlier =
+    let w = said_is_writable text m is in
+    record { source = no_dependency m.version m.source earlier w.0.sayable; target = no_dependency m.version m.target earlier w.1.sayable }
+
+before_three : (version : ℕ) → IsKnown version → version < 3 → since_three version ≡ false
+before_three _ the_first less = refl
+before_three _ the_second less = refl
+before_three _ the_third less = absurd (omega arith)
+
+pub earlier_have_keys_alone : EarlierHaveKeysAlone
+earlier_have_keys_alone text m is less = keys_alone text m is (before_three m.version (said_is_of_version text m is).0 less)
+
 pub first_version_is_plain : FirstVersionIsPlain
 first_version_is_plain text m is one =
     let w = said_is_writable text m is in
@@ -52,4 +90,5 @@ first_version_is_plain text m is one =
       source = no_optional m.source (subst (λ v. AreOfVersion v m.source) one w.0.sayable);
       target = no_optional m.target (subst (λ v. AreOfVersion v m.target) one w.1.sayable);
       conditions = (said_is_of_version text m is).1 (rw one refl);
+      keys = keys_alone text m is (rw one refl);
     }
