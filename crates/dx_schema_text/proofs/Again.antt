@@ -69,7 +69,7 @@ parted_again : {A : Type 0} (r q : Reader Lexeme A) (R : A → List Lexeme → T
 parted_again r q R one more consumes = record { again = λ items w rest h stop. parted_behind r q R one more consumes h rest stop }
 
 -- a mark that is no comma comes next
-no_comma : (m : List ℕ) (x : Lexeme) → pointwise nat_eq m (codes ",") ≡ false → mark_is m x ≡ true → comma x ≡ false
+pub no_comma : (m : List ℕ) (x : Lexeme) → pointwise nat_eq m (codes ",") ≡ false → mark_is m x ≡ true → comma x ≡ false
 no_comma m x ne e = apart_marks m (codes ",") ne x e
 
 -- ---- sets
@@ -355,7 +355,7 @@ comma_cell_again : (strings : Bool) → Again (comma_cell strings) (Comma (Spell
 unfolding comma_cell
 comma_cell_again strings = comma_again (cell_reader strings) (SpellsCell strings) (cell_again strings)
 
-cells_again : (strings : Bool) → Again (cells_reader strings) (Parted (SpellsCell strings)) (NotNext comma)
+pub cells_again : (strings : Bool) → Again (cells_reader strings) (Parted (SpellsCell strings)) (NotNext comma)
 unfolding cells_reader
 cells_again strings = parted_again (cell_reader strings) (comma_cell strings) (SpellsCell strings) (cell_again strings) (comma_cell_again strings) (comma_cell_consumes strings)
 
@@ -371,7 +371,7 @@ comma_atom_again : (strings : Bool) → Again (comma_atom strings) (Comma (Spell
 unfolding comma_atom
 comma_atom_again strings = comma_again (atom_reader strings) (SpellsAtom strings) (atom_again strings)
 
-atoms_again : (strings : Bool) → Again (atoms_reader strings) (Parted (SpellsAtom strings)) (NotNext comma)
+pub atoms_again : (strings : Bool) → Again (atoms_reader strings) (Parted (SpellsAtom strings)) (NotNext comma)
 unfolding atoms_reader
 atoms_again strings = parted_again (atom_reader strings) (comma_atom strings) (SpellsAtom strings) (atom_again strings) (comma_atom_again strings) (comma_atom_consumes strings)
 

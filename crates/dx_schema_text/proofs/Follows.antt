@@ -18,14 +18,14 @@ abbrev comma : Lexeme → Bool
 comma = mark_is (codes ",")
 
 -- a token, whatever follows
-a : (p : Lexeme → Bool) → IsReader Anything (one p) (token p)
+pub a : (p : Lexeme → Bool) → IsReader Anything (one p) (token p)
 a p = one_reads Anything p
 
 -- a mark that is no comma ends what commas part
-comma_stops : (m : List ℕ) (b : Form Lexeme) (more : List (Form Lexeme)) → AreApart comma (mark_is m) → Begins (mark_is m) b → Stops comma (b ∷ more)
+pub comma_stops : (m : List ℕ) (b : Form Lexeme) (more : List (Form Lexeme)) → AreApart comma (mark_is m) → Begins (mark_is m) b → Stops comma (b ∷ more)
 comma_stops m b more apart begins = stops_at comma (mark_is m) b more begins apart
 
-begins_with : (p : Lexeme → Bool) (b : Form Lexeme) → Begins p (one p ▸ b)
+pub begins_with : (p : Lexeme → Bool) (b : Form Lexeme) → Begins p (one p ▸ b)
 begins_with p b = begins_both p (one p) b (begins_one p)
 
 -- ---- names

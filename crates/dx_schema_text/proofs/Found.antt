@@ -162,7 +162,7 @@ comma_cell_finds : (strings : Bool) → Finds (comma_cell strings) (Comma (Spell
 unfolding comma_cell
 comma_cell_finds strings = comma_finds (cell_reader strings) (SpellsCell strings) (cell_finds strings)
 
-cells_finds : (strings : Bool) → Finds (cells_reader strings) (Parted (SpellsCell strings))
+pub cells_finds : (strings : Bool) → Finds (cells_reader strings) (Parted (SpellsCell strings))
 unfolding cells_reader
 cells_finds strings = parted_finds (cell_reader strings) (comma_cell strings) (SpellsCell strings) (cell_finds strings) (comma_cell_finds strings)
 
@@ -176,7 +176,7 @@ comma_atom_finds : (strings : Bool) → Finds (comma_atom strings) (Comma (Spell
 unfolding comma_atom
 comma_atom_finds strings = comma_finds (atom_reader strings) (SpellsAtom strings) (atom_finds strings)
 
-atoms_finds : (strings : Bool) → Finds (atoms_reader strings) (Parted (SpellsAtom strings))
+pub atoms_finds : (strings : Bool) → Finds (atoms_reader strings) (Parted (SpellsAtom strings))
 unfolding atoms_reader
 atoms_finds strings = parted_finds (atom_reader strings) (comma_atom strings) (SpellsAtom strings) (atom_finds strings) (comma_atom_finds strings)
 

@@ -80,7 +80,7 @@ pub(crate) fn next_is_number(tokens: &[Lexeme], number: &[u8]) -> bool
 }
 
 /// Whether this word comes next.
-pub(crate) fn next_is_keyword(tokens: &[Lexeme], word: &[u8]) -> bool
+pub fn next_is_keyword(tokens: &[Lexeme], word: &[u8]) -> bool
     ensures { result ≡ next_is (word_is word.now) tokens.now }
 {
     match tokens.split_first() {
@@ -112,7 +112,11 @@ pub(crate) fn string(tokens: &[Lexeme]) -> Result<(&Lexeme, &[Lexeme]), ReadErro
 }
 
 /// This word, and what is left after it.
-pub(crate) fn keyword<'a>(
+///
+/// # Errors
+///
+/// `Left` with how many tokens are left at the first that can't stand.
+pub fn keyword<'a>(
     tokens: &'a [Lexeme],
     word: &[u8],
 ) -> Result<(&'a Lexeme, &'a [Lexeme]), ReadError>
@@ -126,7 +130,11 @@ pub(crate) fn keyword<'a>(
 }
 
 /// This number, and what is left after it.
-pub(crate) fn number<'a>(
+///
+/// # Errors
+///
+/// `Left` with how many tokens are left at the first that can't stand.
+pub fn number<'a>(
     tokens: &'a [Lexeme],
     number: &[u8],
 ) -> Result<(&'a Lexeme, &'a [Lexeme]), ReadError>
@@ -140,7 +148,11 @@ pub(crate) fn number<'a>(
 }
 
 /// This mark, and what is left after it.
-pub(crate) fn mark<'a>(
+///
+/// # Errors
+///
+/// `Left` with how many tokens are left at the first that can't stand.
+pub fn mark<'a>(
     tokens: &'a [Lexeme],
     mark: &[u8],
 ) -> Result<(&'a Lexeme, &'a [Lexeme]), ReadError>

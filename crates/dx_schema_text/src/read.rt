@@ -16,8 +16,12 @@ use std::alloc::{AllocError, Global};
 /// How many levels of inner sets a root may have.
 const LEVELS: u32 = 15;
 
-// The tokens that are judged one after the other, and the token fault at which they stop.
-fn judged(scanned: Scanned) -> Result<(Items<Lexeme>, Option<(u64, TextKind)>), AllocError>
+/// The tokens that are judged one after the other, and the token fault at which they stop.
+///
+/// # Errors
+///
+/// `AllocError` if there is no memory.
+pub fn judged(scanned: Scanned) -> Result<(Items<Lexeme>, Option<(u64, TextKind)>), AllocError>
     ensures tokens { IfOk result (λ x. x.0 ≡ scanned.lexemes ++ begun_in scanned.stop) }
     ensures stop { IfOk result (λ x. x.1 ≡ fault_in scanned.stop) }
 {

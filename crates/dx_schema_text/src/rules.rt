@@ -69,8 +69,13 @@ fn more_cells(
     Ok((cells, rest))
 }
 
+/// Cells parted by commas, and what is left after them: names, and if strings may stand, names and strings.
+///
+/// # Errors
+///
+/// `Left` with how many tokens are left at the first that can't stand. `Memory` if there is no memory.
 #[tactic(auto, unfolding(crate::specs::Reading::cells_reader))]
-fn cells(
+pub fn cells(
     alloc: Global,
     strings: bool,
     tokens: &[Lexeme],
@@ -130,8 +135,13 @@ fn more_atoms(
     Ok((atoms, rest))
 }
 
+/// Atoms parted by commas, and what is left after them: with names as cells, and if strings may stand, names and strings.
+///
+/// # Errors
+///
+/// `Left` with how many tokens are left at the first that can't stand. `Memory` if there is no memory.
 #[tactic(auto, unfolding(crate::specs::Reading::atoms_reader))]
-fn atoms(
+pub fn atoms(
     alloc: Global,
     strings: bool,
     tokens: &[Lexeme],
