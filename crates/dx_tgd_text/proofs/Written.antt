@@ -71,7 +71,7 @@ cell_named : (b : Bool) → b ≡ false → (c : CellText) (u : List Lexeme) →
 cell_named b e _ _ (a_name w is) = tt
 cell_named b e _ _ (a_text s is) = cc e
 
-cells_few : (b : Bool) (cs : List CellText) (u : List Lexeme) → Parted (SpellsCell b) cs u → length cs ≤ length u
+pub cells_few : (b : Bool) (cs : List CellText) (u : List Lexeme) → Parted (SpellsCell b) cs u → length cs ≤ length u
 cells_few b cs u p = let f = parted_few (SpellsCell b) (λ c. 1) (cell_few b) cs u p in let t = total_one cs in omega (arith, f, t)
 
 atom_few : (b : Bool) (a : AtomText) (u : List Lexeme) → SpellsAtom b a u → length a.cells ≤ length u
@@ -86,7 +86,7 @@ total_cells : (atoms : List AtomText) → total (λ (a : AtomText). length a.cel
 total_cells [] = refl
 total_cells (a ∷ atoms) = let t = total_cells atoms in omega (arith, t, length-append a.cells (text_cells atoms))
 
-atoms_few : (b : Bool) (atoms : List AtomText) (u : List Lexeme) → Parted (SpellsAtom b) atoms u → length (text_cells atoms) ≤ length u
+pub atoms_few : (b : Bool) (atoms : List AtomText) (u : List Lexeme) → Parted (SpellsAtom b) atoms u → length (text_cells atoms) ≤ length u
 atoms_few b atoms u p =
     let f = parted_few (SpellsAtom b) (λ (a : AtomText). length a.cells) (atom_few b) atoms u p in
     let t = total_cells atoms in

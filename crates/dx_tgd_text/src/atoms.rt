@@ -45,7 +45,12 @@ fn read_cell(cell: &CellText, known: &Names, fresh: &Names) -> Result<Cell, Allo
     }
 }
 
-fn read_cells(
+/// Cells, with known names as variables and others as existential ones.
+///
+/// # Errors
+///
+/// `AllocError` if there is no memory.
+pub fn read_cells(
     alloc: Global,
     cells: &[CellText],
     known: &Names,
@@ -74,8 +79,12 @@ fn read_atom(
     Ok(Atom { table, cells })
 }
 
-/// Atoms, with known names as variables and others as existential ones. Refused is the first atom whose set isn't there or
-/// has another number of columns.
+/// Atoms, with known names as variables and others as existential ones.
+///
+/// # Errors
+///
+/// `At` with the first atom whose set isn't there (`UnknownName`) or has another number of columns (`Width`). `Memory` if there
+/// is no memory, which may come at any point.
 pub fn read_atoms(
     alloc: Global,
     atoms: &[AtomText],

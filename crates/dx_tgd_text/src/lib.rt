@@ -13,5 +13,7 @@ mod laws;
 mod names;
 mod rules;
 
+pub use atoms::{read_atoms, read_cells};
 pub use laws::{read_rules_fit, texts_have_whole_rules};
+pub use names::Names;
 pub use rules::read_rules;
