@@ -17,18 +17,18 @@ use Rattle.dx_tgd_text.specs.Reading.{variables_of, known_of, fresh_of, derived_
 
 -- ---- a rule
 
-second_first : (a b c : Option TextFault) (e : TextFault) → a ≡ None → b ≡ Some e → first_of (a ∷ b ∷ c ∷ []) ≡ Some e
+pub second_first : (a b c : Option TextFault) (e : TextFault) → a ≡ None → b ≡ Some e → first_of (a ∷ b ∷ c ∷ []) ≡ Some e
 second_first None (Some d) c e p q = q
 second_first None None c e p q = absurd cc
 second_first (Some x) b c e p q = absurd cc
 
-third_first : (a b c : Option TextFault) (e : TextFault) → a ≡ None → b ≡ None → c ≡ Some e → first_of (a ∷ b ∷ c ∷ []) ≡ Some e
+pub third_first : (a b c : Option TextFault) (e : TextFault) → a ≡ None → b ≡ None → c ≡ Some e → first_of (a ∷ b ∷ c ∷ []) ≡ Some e
 third_first None None (Some d) e p q r = r
 third_first None None None e p q r = absurd cc
 third_first None (Some x) c e p q r = absurd cc
 third_first (Some x) b c e p q r = absurd cc
 
-none_first : (a b c : Option TextFault) → a ≡ None → b ≡ None → c ≡ None → first_of (a ∷ b ∷ c ∷ []) ≡ None
+pub none_first : (a b c : Option TextFault) → a ≡ None → b ≡ None → c ≡ None → first_of (a ∷ b ∷ c ∷ []) ≡ None
 none_first None None None p q r = refl
 none_first None None (Some x) p q r = absurd cc
 none_first None (Some x) c p q r = absurd cc
