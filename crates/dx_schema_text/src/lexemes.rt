@@ -152,10 +152,7 @@ pub fn number<'a>(
 /// # Errors
 ///
 /// `Left` with how many tokens are left at the first that can't stand.
-pub fn mark<'a>(
-    tokens: &'a [Lexeme],
-    mark: &[u8],
-) -> Result<(&'a Lexeme, &'a [Lexeme]), ReadError>
+pub fn mark<'a>(tokens: &'a [Lexeme], mark: &[u8]) -> Result<(&'a Lexeme, &'a [Lexeme]), ReadError>
     ensures { Gives (λ x. (x.0.now, x.1.now)) result (token (mark_is mark.now) tokens.now) }
 {
     match tokens.split_first() {
