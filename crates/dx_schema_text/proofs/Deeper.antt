@@ -1,23 +1,23 @@
 -- Where one level of sets more makes a difference: at the word `set` of a set in the deepest one.
-use Rattle.std.proofs.Common.{◌≡◌, ◌⊎◌, ℕ, zero, suc, ◌+◌, ◌-◌, ◌≤◌, Bool, true, false, ◌||◌, cond, List, [], ◌∷◌, ◌++◌, length, take, get_or, Result, Ok, Err, refl, sym, ap, ◌∙◌, subst, append_assoc, arith, inl, inr}
+use Rattle.std.proofs.Common.{◌≡◌, ◌⊎◌, ℕ, zero, suc, ◌+◌, ◌-◌, ◌≤◌, Bool, true, false, cond, List, [], ◌∷◌, ◌++◌, length, take, Result, Ok, Err, refl, sym, ap, ◌∙◌, subst, append_assoc, arith, inl, inr}
 use Rattle.std.specs.Prelude.{codes}
 use Rattle.std.proofs.lemmas.Bool.{cases_Bool}
-use Rattle.std.proofs.lemmas.List.{append-nil, length-append, take_all}
+use Rattle.std.proofs.lemmas.List.{length-append, take_all}
 use Rattle.dx_tokens.specs.declared.scanner.Lexeme.{Lexeme}
-use Rattle.dx_grammar.specs.Forms.{Starts, IsFirstFault}
+use Rattle.dx_grammar.specs.Forms.{Starts}
 use Rattle.dx_grammar.specs.Readers.{Reader, passed, ◌>>=◌, give, token, next_is, either, many_within, many, whole_of, whole, Many, no_more, one_more, Tells}
 use Rattle.dx_grammar.proofs.Exact.{whole_start}
 use Rattle.dx_grammar.proofs.Told.{start_take, fault_is_one}
 use Rattle.dx_grammar.proofs.Spelled.{Found, Finds, many_finds}
-use Rattle.dx_schema.specs.Forest.{Tree, Forest, forest_of}
+use Rattle.dx_schema.specs.Forest.{Tree}
 use Rattle.dx_schema_text.specs.declared.clauses.Clause.{Clause}
 use Rattle.dx_schema_text.specs.declared.texts.MappingText.{MappingText}
 use Rattle.dx_schema_text.specs.Grammar.{word_is, number_is, mark_is, since_two, since_three}
-use Rattle.dx_schema_text.specs.Reading.{determination_reader, begins_determination, ref_reader, ref_clause, set_clause, tree_of, begins_clause, last_clause_reader, clause_reader_with, set_head_reader, set_reader_of, clause_reader, set_reader, side_reader, body_reader, numbered_reader, mapping_reader}
-use Rattle.dx_schema_text.specs.Spelling.{IsKeyword, IsMark, IsVersion, version_one, version_two, version_three, SpellsHead, SpellsSet, SpellsClause, SpellsSide}
+use Rattle.dx_schema_text.specs.Reading.{determination_reader, begins_determination, ref_reader, ref_clause, set_clause, tree_of, begins_clause, last_clause_reader, clause_reader_with, set_head_reader, set_reader_of, clause_reader, set_reader, side_reader, body_reader, mapping_reader}
+use Rattle.dx_schema_text.specs.Spelling.{IsKeyword, IsVersion, version_one, version_two, version_three, SpellsHead, SpellsSet, SpellsClause, SpellsSide}
 use Rattle.dx_schema_text.specs.Texts.{deepest, form, deeper_form, judged_tokens, IsUnexpected, StandsDeeper, OpenSets, one_set, and_inner, OpenSide, open_side, OpenMapping, in_source, in_target, IsSetTooDeep}
 use Rattle.dx_schema_text.proofs.Apart.{apart_word_mark}
-use Rattle.dx_schema_text.proofs.Found.{set_head_finds, last_clause_finds, clause_finds, clauses_of, set_finds, side_finds}
+use Rattle.dx_schema_text.proofs.Found.{set_head_finds, clause_finds, clauses_of, set_finds, side_finds}
 use Rattle.dx_schema_text.proofs.Telling.{mapping_tells}
 
 -- ---- two readers that differ at a word `set` alone

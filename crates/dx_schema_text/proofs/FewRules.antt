@@ -11,7 +11,7 @@ use Rattle.dx_schema.specs.Bounds.{RulesBelow}
 use Rattle.dx_schema_text.specs.declared.texts.MappingText.{MappingText}
 use Rattle.dx_schema_text.specs.declared.clauses.Clause.{Clause}
 use Rattle.dx_schema_text.specs.Reading.{keys_among, deps_among, refs_among, sets_among}
-use Rattle.dx_schema_text.specs.Spelling.{SpellsKey, key_of, SpellsDep, dep_of, SpellsRef, ref_of, SpellsSet, set_of, SpellsClauses, no_clause, clause_first, SpellsClause, a_key, a_dep, a_ref, a_set, SpellsSide, side_of, SpellsMapping, mapping_of}
+use Rattle.dx_schema_text.specs.Spelling.{SpellsKey, key_of, SpellsDep, dep_of, SpellsRef, ref_of, SpellsSet, set_of, SpellsClauses, no_clause, clause_first, a_key, a_dep, a_ref, a_set, SpellsSide, side_of, SpellsMapping, mapping_of}
 use Rattle.dx_schema_text.specs.Laws.{TextsHaveFewRules}
 
 key_some : {k : KeyDecl} {xs : List Lexeme} → SpellsKey k xs → 1 ≤ length xs

@@ -4,7 +4,7 @@ use Rattle.std.specs.Prelude.{codes}
 use Rattle.std.proofs.lemmas.Bool.{or_parts, or_cases, or_left, or_right}
 use Rattle.dx_tokens.specs.declared.scanner.Lexeme.{Lexeme}
 use Rattle.dx_grammar.specs.Forms.{Form, nothing, one, ◌▸◌, ◌∣◌, repeated, optional}
-use Rattle.dx_grammar.specs.Readers.{Reader, ◌>>=◌, give, token, either, many}
+use Rattle.dx_grammar.specs.Readers.{Reader, give, token, either, many}
 use Rattle.dx_grammar.proofs.Verdicts.{IsReader, Anything, Stops, Begins, AreApart}
 use Rattle.dx_grammar.proofs.Combined.{one_reads, nothing_reads, then_reads, then_any, last_reads, weaker, either_reads, many_reads, begins_one, begins_both, begins_choice, begins_wider, stops_at, stops_past, consumes, apart_or, or_apart}
 use Rattle.dx_grammar.proofs.Loops.{Consumes}

@@ -1,11 +1,11 @@
 -- The tokens that spell mappings are the texts of the form, and its starts are their fronts.
-use Rattle.std.proofs.Common.{◌≡◌, ℕ, zero, suc, ◌-◌, ◌≤◌, Bool, true, false, List, [], length, take, Result, Ok, Err, refl, sym, subst, arith}
+use Rattle.std.proofs.Common.{◌≡◌, ℕ, zero, suc, ◌-◌, ◌≤◌, Bool, true, false, List, [], length, Result, Ok, Err, refl, sym, subst, arith}
 use Rattle.std.specs.Prelude.{codes}
 use Rattle.std.proofs.lemmas.List.{take_all}
 use Rattle.dx_tokens.specs.declared.tokenizer.TokenKind.{TokenKind}
 use Rattle.dx_tokens.specs.declared.tokenizer.TokenKind.TheVariants.{Word, Number, Str, Mark}
 use Rattle.dx_tokens.specs.declared.scanner.Lexeme.{Lexeme}
-use Rattle.dx_grammar.specs.Forms.{Starts, Derives, optional}
+use Rattle.dx_grammar.specs.Forms.{Starts, Derives}
 use Rattle.dx_grammar.specs.Laws.{HasTokens}
 use Rattle.dx_grammar.specs.Readers.{whole, Tells}
 use Rattle.dx_grammar.proofs.Exact.{whole_start}
@@ -13,7 +13,7 @@ use Rattle.dx_grammar.proofs.Told.{start_take}
 use Rattle.dx_grammar.proofs.Fronts.{starts_fronts}
 use Rattle.dx_grammar.proofs.Spelled.{whole_again, whole_finds}
 use Rattle.dx_schema_text.specs.declared.texts.MappingText.{MappingText}
-use Rattle.dx_schema_text.specs.Grammar.{word, string, since_two, since_three, words, key, dep, determination, optional_word, ref, set_head, set_of, last_clause, clause_with, clause, set, place, places, behind_word, source, line, cell, cells, atom, atoms, derived, where_part, rule, only, item, side, body, numbered, mapping}
+use Rattle.dx_schema_text.specs.Grammar.{word, string, since_two, since_three, words, key, dep, determination, optional_word, ref, set_head, set_of, last_clause, clause_with, clause, set, place, places, behind_word, source, line, cell, cells, atom, atoms, derived, where_part, rule, only, item, side, body, mapping}
 use Rattle.dx_schema_text.specs.Reading.{mapping_reader}
 use Rattle.dx_schema_text.specs.Spelling.{SpellsMapping}
 use Rattle.dx_schema_text.specs.Texts.{deepest, form, deeper_form}

@@ -72,7 +72,7 @@ order = record {
 }
 
 order_of_version_two : IsOfVersion 2 order
-order_of_version_two = record { deps = refl; refs = each_cons _ _ (λ e. refl) (each_none _) }
+order_of_version_two = record { deps = each_none _; refs = each_cons _ _ (λ e. refl) (each_none _) }
 
 no_order_of_version_one : ¬ (IsOfVersion 1 order)
 no_order_of_version_one o = let no : false ≡ true = o.refs _ (here refl) refl in absurd (never no)

@@ -1,9 +1,9 @@
 -- A set at depth 17 stands with one level of sets more.
-use Rattle.std.proofs.Common.{◌≡◌, ℕ, zero, suc, List, [], ◌∷◌, ◌++◌, length, take, Result, Ok, Err, refl, sym, ap, ◌∙◌, subst, append_assoc}
+use Rattle.std.proofs.Common.{◌≡◌, ℕ, suc, List, [], ◌∷◌, ◌++◌, length, take, Ok, refl, sym, ap, ◌∙◌, subst, append_assoc}
 use Rattle.std.specs.Prelude.{codes}
 use Rattle.std.proofs.lemmas.List.{append-nil}
 use Rattle.dx_tokens.specs.declared.scanner.Lexeme.{Lexeme}
-use Rattle.dx_grammar.specs.Forms.{Form, ◌▸◌, repeated, Derives, is_one, never, again, Starts, at_one, in_first, in_second, in_left, in_right, in_again}
+use Rattle.dx_grammar.specs.Forms.{Form, repeated, Derives, is_one, Starts, at_one, in_first, in_second, in_left, in_right, in_again}
 use Rattle.dx_grammar.specs.Readers.{Reader, whole_of, whole, Many, no_more, one_more, Tells}
 use Rattle.dx_grammar.proofs.Told.{answers}
 use Rattle.dx_grammar.proofs.Verdicts.{IsReader, Anything}
@@ -12,7 +12,7 @@ use Rattle.dx_schema_text.specs.declared.clauses.Clause.{Clause}
 use Rattle.dx_schema_text.specs.Grammar.{set_head, set_of, clause_with, clause, set, side, body, mapping}
 use Rattle.dx_schema_text.specs.Reading.{set_head_reader, clause_reader, set_reader, side_reader}
 use Rattle.dx_schema_text.specs.Spelling.{IsKeyword, IsVersion, version_one, version_two, version_three, SpellsHead, SpellsSet, set_of as a_whole_set, SpellsClauses, no_clause, clause_first, SpellsClause, a_key, a_dep, a_ref, a_set, SpellsSide, side_of}
-use Rattle.dx_schema_text.specs.Texts.{deepest, deeper_form, judged_tokens, IsUnexpected, StandsDeeper, OpenSets, one_set, and_inner, OpenSide, open_side, OpenMapping, in_source, in_target, IsSetTooDeep}
+use Rattle.dx_schema_text.specs.Texts.{deeper_form, judged_tokens, StandsDeeper, OpenSets, one_set, and_inner, OpenSide, open_side, OpenMapping, in_source, in_target, IsSetTooDeep}
 use Rattle.dx_schema_text.specs.Laws.{TooDeepAreSets}
 use Rattle.dx_schema_text.proofs.Follows.{set_head_reads, clause_reads, set_reads, side_reads}
 use Rattle.dx_schema_text.proofs.Again.{head_behind, clause_behind, set_behind, side_behind}

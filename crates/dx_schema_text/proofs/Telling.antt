@@ -1,6 +1,5 @@
 -- What is told of tokens.
 use Rattle.std.proofs.Common.{◌≡◌, ◌⊎◌, ℕ, zero, suc, ◌<◌, ◌≤◌, List, length, Result, Ok, Err, Option, Some, None, true, refl, sym, ap, ◌∙◌, subst, arith, inl, inr}
-use Rattle.std.specs.Prelude.{codes}
 use Rattle.dx_tokens.specs.declared.scanner.Lexeme.{Lexeme}
 use Rattle.dx_tokens.specs.declared.faults.TextFault.{TextFault}
 use Rattle.dx_tokens.specs.declared.faults.TextFault.TheVariants.{At, Memory}

@@ -1,10 +1,9 @@
 -- What a text says is of its version: before version 3 it has no dependencies, and before version 2 no optional refs and no conditions.
-use Rattle.std.proofs.Common.{◌≡◌, ℕ, Bool, true, false, List, [], ◌∷◌, refl, sym, ◌∙◌}
+use Rattle.std.proofs.Common.{◌≡◌, ℕ, Bool, true, false, List, [], refl}
 use Rattle.dx_ports.specs.Members.{Each}
 use Rattle.dx_ports.proofs.Members.{each_cons}
 use Rattle.dx_tokens.specs.declared.scanner.Lexeme.{Lexeme}
 use Rattle.dx_grammar.specs.Readers.{Many, no_more, one_more}
-use Rattle.dx_schema.specs.declared.sets.DepDecl.{DepDecl}
 use Rattle.dx_schema.specs.declared.sets.RefDecl.{RefDecl}
 use Rattle.dx_schema.specs.Forest.{Forest, Tree, forest_of}
 use Rattle.dx_schema_text.specs.declared.texts.MappingText.{MappingText}
@@ -12,7 +11,7 @@ use Rattle.dx_schema_text.specs.declared.clauses.Clause.{Clause}
 use Rattle.dx_schema_text.specs.declared.mapping.ItemText.{ItemText}
 use Rattle.dx_schema_text.specs.Grammar.{since_two, since_three}
 use Rattle.dx_schema_text.specs.Reading.{deps_among, refs_among, sets_among, conditions_among}
-use Rattle.dx_schema_text.specs.Spelling.{SpellsOptional, not_optional, is_optional, SpellsRef, ref_of, SpellsSet, set_of, SpellsClauses, no_clause, clause_first, SpellsClause, a_key, a_dep, a_ref, a_set, SpellsItem, a_line, a_rule, a_condition, SpellsSide, side_of, IsVersion, version_one, version_two, version_three, SpellsMapping, mapping_of}
+use Rattle.dx_schema_text.specs.Spelling.{SpellsOptional, not_optional, is_optional, SpellsRef, ref_of, SpellsSet, set_of, SpellsClauses, no_clause, clause_first, a_key, a_dep, a_ref, a_set, SpellsItem, a_line, a_rule, SpellsSide, side_of, IsVersion, version_one, version_two, version_three, SpellsMapping, mapping_of}
 use Rattle.dx_schema_text.specs.Laws.{SaidIsOfVersion}
 use Rattle.dx_schema_text.specs.Print.{IsOfVersion, AreOfVersion, IsKnown, the_first, the_second, the_third}
 

@@ -1,4 +1,4 @@
-use Rattle.std.proofs.Common.{◌∙◌, ap, refl, sym}
+use Rattle.std.proofs.Common.{◌∙◌, ap, refl}
 use Rattle.dx_schema.specs.Forest.{forest_of}
 use Rattle.dx_schema.proofs.Preorder.{smaller}
 use Rattle.dx_schema_text.proofs.Printing.{one_printed}
