@@ -111,7 +111,18 @@ def create(base, table, tables, types):
             lines.append(f"FOREIGN KEY ({listed(columns)}) REFERENCES {base.name(other)} ({listed(referred)})")
         else:
             left_out.append(f"-- no foreign key from {table.name} to {other}: ({listed(referred)}) is no key there")
+    for left, right in table.dependencies:
+        left_out.append(f"-- no constraint says that in {table.name} ({listed(left)}) decides ({listed(right)}); this lists the pairs of rows that break it:")
+        left_out += [f"-- check: {breaks(base, table, left, column)}" for column in right if column not in left]
     return left_out + [f"CREATE TABLE {base.name(table.name)} (", ",\n".join("  " + line for line in lines), ");"]
+
+
+def breaks(base, table, left, right):
+    """The query for what breaks a dependency in a column: values of the left columns with two different ones of the right column, each pair once."""
+    columns = [f"a.{quoted(column)}" for column in left]
+    agree = " AND ".join(f"{column} = b{column[1:]}" for column in columns)
+    one, other, name = f"a.{quoted(right)}", f"b.{quoted(right)}", base.name(table.name)
+    return f"SELECT DISTINCT {', '.join([*columns, one, other])} FROM {name} AS a, {name} AS b WHERE {agree} AND {one} < {other};"
 
 
 def plain(base, table, types):

@@ -113,6 +113,50 @@ class Refusals(Shop):
         self.refused("clio-tables", "sqlite", why="does not tell x from X")
 
 
+DEPENDENT = """mapping 3;
+source { set a { x; } }
+target {
+  set addr { who, zip, town, land; dep (zip) -> (town, zip, land); set phone { kind, num; dep (kind) -> (num); } }
+}
+"""
+ADDRESSES = [["?0.0.0", "ann", "10", "Rome", "it"], ["?0.0.1", "bob", "10", "Rome", "it"], ["?0.0.2", "cy", "20", "?1.0.0", "fr"]]
+PHONES = [["?0.0.0", "home", "1"], ["?0.0.1", "home", "2"]]
+
+
+class Dependencies(Trial):
+    """Of a dependency there is a comment, and a query for what breaks it."""
+
+    def checks(self, addresses, phones, what="sqlite"):
+        """The queries for these rows."""
+        self.file("mapping.clio", DEPENDENT)
+        self.file("out/addr.csv", clio_csv.record_text(["#id", "who", "zip", "town", "land"]) + "".join(map(clio_csv.record_text, addresses)))
+        self.file("out/phone.csv", clio_csv.record_text(["#up", "kind", "num"]) + "".join(map(clio_csv.record_text, phones)))
+        sql = self.printed("clio-tables", what)
+        return sql, [line.removeprefix("-- check: ") for line in sql.split("\n") if line.startswith("-- check: ")]
+
+    def broken(self, addresses, phones):
+        """What the queries list, in SQLite."""
+        sql, checks = self.checks(addresses, phones)
+        done = subprocess.run(["sqlite3", ":memory:"], cwd=self.folder, input="\n".join([sql, *checks]).encode(), capture_output=True, check=True)
+        return done.stdout.decode()
+
+    def test_text(self):
+        _, checks = self.checks(ADDRESSES, PHONES, "postgres")
+        self.assertEqual(checks, [
+            'SELECT DISTINCT a."zip", a."town", b."town" FROM target."addr" AS a, target."addr" AS b WHERE a."zip" = b."zip" AND a."town" < b."town";',
+            'SELECT DISTINCT a."zip", a."land", b."land" FROM target."addr" AS a, target."addr" AS b WHERE a."zip" = b."zip" AND a."land" < b."land";',
+            'SELECT DISTINCT a."#up", a."kind", a."num", b."num" FROM target."phone" AS a, target."phone" AS b'
+            ' WHERE a."#up" = b."#up" AND a."kind" = b."kind" AND a."num" < b."num";'])
+
+    @unittest.skipUnless(shutil.which("sqlite3"), "sqlite3 is missing")
+    def test_what_is_listed(self):
+        self.assertEqual(self.broken(ADDRESSES, PHONES), "")
+        pisa = [["?0.0.3", "dee", "10", "Pisa", "it"], ["?0.0.4", "eve", "10", "Pisa", "it"]]
+        self.assertEqual(self.broken(ADDRESSES + pisa, PHONES), "10|Pisa|Rome\n")
+        self.assertEqual(self.broken(ADDRESSES + [["?0.0.3", "dee", "20", "?1.0.1", "be"]], PHONES), "20|?1.0.0|?1.0.1\n20|be|fr\n")
+        self.assertEqual(self.broken(ADDRESSES, PHONES + [["?0.0.1", "home", "3"]]), "?0.0.1|home|2|3\n")
+
+
 class Types(Shop):
     def test_inferred(self):
         self.shop([["1", "ann", "1.5", "2024-02-29"], ["2", "bob", "12", ""], ["3", "7", "0.10", "2023-01-01"]])
