@@ -57,12 +57,17 @@ def read_records(path, delimiter=",", strict=False):
     If strict, so are a quote that is never closed, and text between a closing quote and the end of its field.
     """
     with open(path, newline="", encoding="utf-8-sig", errors="surrogateescape") as file:
-        number = line = 0
+        reader = csv.reader(file, delimiter=delimiter, strict=strict)
+        number = before = line = 0
         try:
-            for number, (line, fields) in enumerate(_numbered(file, delimiter, strict)):
+            for fields in reader:
+                line, before = before + 1, reader.line_num
+                if not fields:
+                    continue
                 if not "".join(fields).isascii():
                     fields = [text(field) for field in fields]
                 yield fields
+                number += 1
         except NotText:
             raise Refused(f"{path}: record {number}, at line {line}, is not UTF-8") from None
         except csv.Error as error:
@@ -88,7 +93,7 @@ def record_text(fields):
     """A record as clio writes it, with its line feed."""
     alone = len(fields) == 1
     line = ",".join(fields)
-    if not alone and line.count(",") == len(fields) - 1 and not any(mark in line for mark in '"\n\r'):
+    if not alone and line.count(",") == len(fields) - 1 and '"' not in line and "\n" not in line and "\r" not in line:
         return line + "\n"
     return ",".join(field_text(field, alone) for field in fields) + "\n"
 

@@ -61,6 +61,68 @@ def parse(content, place, twice=True):
     return value
 
 
+class Elements:
+    """The values of a document that is an array, one after the other, read from its file a part at a time."""
+    PART = 1 << 20
+    BLANK = re.compile(r"[ \t\r\n]*")
+
+    def __init__(self, path, **hooks):
+        self.path, self.decoder, self.text, self.at = path, json.JSONDecoder(**hooks), "", 0
+
+    def __iter__(self):
+        try:
+            with open(self.path, encoding="utf-8-sig", newline="") as self.file:
+                yield from self.values()
+        except (ValueError, RecursionError) as error:
+            raise Refused(f"{self.path}: not JSON: {error}") from None
+
+    def values(self):
+        """The values, with the marks around them."""
+        self.mark("[")
+        if self.sign() == "]":
+            self.mark("]")
+        else:
+            yield self.value()
+            while self.mark(",]") == ",":
+                yield self.value()
+        if self.sign():
+            raise ValueError(f"the array is followed by {self.sign()!r}")
+
+    def more(self):
+        """Reads on; a value that is longer than a part is tried again only when as much as was there has come."""
+        part = self.file.read(max(self.PART, len(self.text) - self.at))
+        self.text, self.at = self.text[self.at:] + part, 0
+        return bool(part)
+
+    def sign(self):
+        """The next sign that isn't blank, or nothing at the end."""
+        while True:
+            self.at = self.BLANK.match(self.text, self.at).end()
+            if self.at < len(self.text) or not self.more():
+                return self.text[self.at:self.at + 1]
+
+    def mark(self, wanted):
+        """Takes one of some signs."""
+        found = self.sign()
+        if not found or found not in wanted:
+            raise ValueError(f"{found!r} stands where one of {wanted} must stand")
+        self.at += 1
+        return found
+
+    def value(self):
+        """Takes a value; what ends where the text ends may be cut, and is tried again."""
+        self.sign()
+        while True:
+            try:
+                value, end = self.decoder.raw_decode(self.text, self.at)
+                if end < len(self.text) or not self.more():
+                    self.at += end - self.at
+                    return value
+            except ValueError:
+                if not self.more():
+                    raise
+
+
 def scalar(value, path):
     """The text of a column, as clio takes it."""
     if value is None:
@@ -88,20 +150,36 @@ def rows(content, root, path):
     return found
 
 
+def rows_in_parts(path, root):
+    """The rows of a document by the names of their sets, those of one object of the array after the other, with `#id` and `#up`."""
+    for place, one in enumerate(Elements(path, parse_int=Integer, parse_float=Fraction, parse_constant=_no_constant)):
+        found = {}
+        try:
+            _object(root, one, place, ("", "", None), found)
+        except Refused as why:
+            raise Refused(f"{path}: {why}") from None
+        yield found
+
+
 def _objects(table, array, above, found):
     """Puts the rows of an array of objects, and of the arrays inside them, to those that were found."""
-    path, name, up = above
+    path = above[0]
     if not isinstance(array, list) and (array is not None or not path):
         raise Refused(f"wrong shape at {path}: an array of objects must stand there")
-    members = set(table.declared) | {inner.name for inner in table.inner}
     for place, one in enumerate(array or []):
-        here = f"{path}/{place}"
-        if not isinstance(one, dict):
-            raise Refused(f"wrong shape at {here}: an object must stand there")
-        if unknown := sorted(set(one) - members):
-            raise Refused(f"unknown member at {here}/{unknown[0]}")
-        own = ([f"#{name}{place}"] if table.inner else []) + ([] if up is None else [up])
-        cells = [scalar(one.get(column), f"{here}/{column}") for column in table.declared]
-        found.setdefault(table.name, []).append(own + cells)
-        for inner in table.inner:
-            _objects(inner, one.get(inner.name), (f"{here}/{inner.name}", f"{name}{place}.", f"#{name}{place}"), found)
+        _object(table, one, place, above, found)
+
+
+def _object(table, one, place, above, found):
+    """Puts the row of an object, and those of the arrays inside it, to those that were found."""
+    path, name, up = above
+    here = f"{path}/{place}"
+    if not isinstance(one, dict):
+        raise Refused(f"wrong shape at {here}: an object must stand there")
+    if unknown := sorted(set(one) - set(table.declared) - {inner.name for inner in table.inner}):
+        raise Refused(f"unknown member at {here}/{unknown[0]}")
+    own = ([f"#{name}{place}"] if table.inner else []) + ([] if up is None else [up])
+    cells = [scalar(one.get(column), f"{here}/{column}") for column in table.declared]
+    found.setdefault(table.name, []).append(own + cells)
+    for inner in table.inner:
+        _objects(inner, one.get(inner.name), (f"{here}/{inner.name}", f"{name}{place}.", f"#{name}{place}"), found)

@@ -3,7 +3,10 @@ import re
 
 from clio_tool import Refused
 
+from .nulls import NONE
+
 NUMERAL = re.compile(r"[1-9][0-9]{0,18}")
+GREATEST = 2**63 - 1  # no greater number is ever given
 
 
 def key_columns(table, tables):
@@ -18,11 +21,11 @@ def decided(target, crosswalk, chosen):
     found = set()
     for place, table in enumerate(target.tables):
         for column in range(len(table.columns)):
-            name = (table.name, table.columns[column])
+            name, cells = (table.name, table.columns[column]), target.cells[place][column]
             was = crosswalk.is_numbered(*name)
             now = chosen.get(name, was)
-            if now is None and target.rows[place] and column in key_columns(table, target.tables):
-                now = all(row[column] in target.nulls for row in target.rows[place])
+            if now is None and cells and column in key_columns(table, target.tables):
+                now = min(cells) != NONE
             if now is not None and now != was:
                 crosswalk.decide(*name, now)
             if now:
@@ -31,25 +34,29 @@ def decided(target, crosswalk, chosen):
 
 
 def numbered_nulls(target, columns):
-    """The nulls that stand in a column with numbers: they are numbers wherever they stand."""
-    return {null for null, places in target.nulls.items() if any((place, column) in columns for place, _, column in places)}
+    """For each null a mark, whether it stands in a column with numbers: such nulls are numbers wherever they stand."""
+    marks = bytearray(target.nulls.count)
+    for place, column in columns:
+        for null in target.cells[place][column]:
+            if null != NONE:
+                marks[null] = 1
+    return marks
 
 
-def numerals(target, columns, numbered):
-    """The numbers that are texts already in a column in which numbers stand, each with the column."""
-    held = columns | {(place, column) for null in numbered for place, _, column in target.nulls[null]}
-    found = {}
-    for place, column in sorted(held):
-        for row in target.rows[place]:
-            if NUMERAL.fullmatch(row[column]):
-                found[int(row[column])] = (target.tables[place], column)
-    return found
+def list_numerals(target, columns, numbered, crosswalk):
+    """Makes a list of the numbers that are texts already in a column in which numbers stand, each with the column."""
+    held = {(place, column) for place, listed in enumerate(target.cells) for column, cells in enumerate(listed)
+            if (place, column) in columns or any(numbered[null] for null in cells if null != NONE)}
+    for place, table in enumerate(target.tables):
+        wanted = [column for column in range(len(table.columns)) if (place, column) in held and NONE in target.cells[place][column]]
+        if wanted:
+            crosswalk.reserve((int(row[column]), place, column) for row in target.rows(table) for column in wanted
+                              if NUMERAL.fullmatch(row[column]) and int(row[column]) <= GREATEST)
 
 
-def check_numbers(numbers, numbered, taken):
+def check_numbers(target, crosswalk):
     """No number that a thing has is a text in such a column."""
-    for null in numbered:
-        if numbers[null] in taken:
-            table, column = taken[numbers[null]]
-            raise Refused(f"out/{table.name}.csv has the text {numbers[null]} in column {table.columns[column]}, and {numbers[null]} is the number of another thing: "
-                          f"give the column another form, or keep its nulls by --keep {table.name}.{table.columns[column]}")
+    for number, place, column in crosswalk.taken():
+        table = target.tables[place]
+        raise Refused(f"out/{table.name}.csv has the text {number} in column {table.columns[column]}, and {number} is the number of another thing: "
+                      f"give the column another form, or keep its nulls by --keep {table.name}.{table.columns[column]}")

@@ -5,6 +5,15 @@
     numbered   which columns have numbers
     written    the SHA-256 of each file that was written last
     next       the next number
+
+Beside it are tables of the run alone, which SQLite keeps in a file of its own, so that they may be larger than the memory:
+
+    asked      the identities that can be told: null, how sure they are, SHA-256 and text, in the order in which they were told
+    kept       those of them that are in the crosswalk
+    waiting    the identities that have nulls in them: null, how sure they are, and parts as texts of JSON, or ? and a null
+    wanted     the nulls in them
+    number     the number of each null, and whether it is written as one
+    reserved   the numbers that are texts of the target
 """
 import hashlib
 import pathlib
@@ -13,9 +22,18 @@ import sqlite3
 from clio_tool import Refused
 
 VERSION = 1
+OWN_KEY, OTHER_KEY, RULE, FOLDED = range(4)  # how sure an identity is, the surest first
 SIGN = 0x636C696F  # application_id: the letters clio
-CACHE = 262144  # KiB of the file that are held in memory
+CACHE = 65536  # KiB of each file that are held in memory
 SHOWN = 300  # letters of an identity that are kept to be read
+WORK = """
+    CREATE TEMP TABLE asked (line INTEGER PRIMARY KEY, null_number INTEGER, sureness INTEGER, digest BLOB, text TEXT);
+    CREATE TEMP TABLE kept (line INTEGER PRIMARY KEY, number INTEGER, sureness INTEGER);
+    CREATE TEMP TABLE waiting (line INTEGER PRIMARY KEY, null_number INTEGER, sureness INTEGER, parts TEXT);
+    CREATE TEMP TABLE wanted (other INTEGER, null_number INTEGER, line INTEGER, PRIMARY KEY (other, null_number, line)) WITHOUT ROWID;
+    CREATE TEMP TABLE number (null_number INTEGER PRIMARY KEY, number INTEGER, is_written INTEGER);
+    CREATE TEMP TABLE reserved (number INTEGER PRIMARY KEY, place INTEGER, column_place INTEGER);
+"""
 
 
 class Crosswalk:
@@ -26,7 +44,8 @@ class Crosswalk:
         is_new = not pathlib.Path(path).exists() or pathlib.Path(path).stat().st_size == 0
         try:
             self.base = sqlite3.connect(path, isolation_level=None, timeout=5)
-            self.base.execute(f"PRAGMA cache_size = -{CACHE}")
+            self.base.execute(f"PRAGMA main.cache_size = -{CACHE}")
+            self.base.executescript(f"PRAGMA temp.cache_size = -{CACHE}; {WORK}")
             self.base.execute("BEGIN IMMEDIATE")
             if is_new:
                 self.make()
@@ -57,28 +76,75 @@ class Crosswalk:
         row = self.base.execute(query, values).fetchone()
         return row and row[0]
 
-    def found(self, digest):
-        """The number of an identity and how sure it was, or None."""
+    def ask(self, identities):
+        """Takes identities, each as null, sureness and text; answers the number of the last one."""
+        self.base.executemany("INSERT INTO asked (null_number, sureness, digest, text) VALUES (?, ?, ?, ?)",
+                              ((null, sureness, digest_of(text), text[:SHOWN]) for null, sureness, text in identities))
+        return self.one("SELECT max(line) FROM asked") or 0
+
+    def found(self, last, is_first):
+        """Of the identities after a number, those that the crosswalk has: null, sureness, the number kept, and whether that is known by its own key.
+
+        The surest come first, and of these those that were surest before; the first ones then by their nulls.
+        """
         if self.is_empty:
-            return None
-        return self.base.execute("SELECT number, sureness FROM identity WHERE digest = ?", (digest,)).fetchone()
+            return ()
+        if is_first:  # the crosswalk is read in its own order then, since there may be many
+            self.base.execute("CREATE INDEX temp.asked_by ON asked (digest)")
+        order = "ORDER BY a.digest" if is_first else ""
+        self.base.execute("INSERT INTO kept SELECT a.line, k.number, k.sureness FROM asked AS a CROSS JOIN main.identity AS k ON k.digest = a.digest"
+                          f" WHERE a.line > ? {order}", (last,))
+        if is_first:
+            self.base.execute("DROP INDEX temp.asked_by")
+        turn = f"CASE WHEN a.sureness < {FOLDED} THEN a.null_number END, " if is_first else ""
+        return self.base.execute("SELECT a.null_number, a.sureness, k.number, o.number IS NOT NULL FROM kept AS k JOIN asked AS a ON a.line = k.line"
+                                 " LEFT JOIN main.own AS o ON o.number = k.number AND a.sureness = ?"
+                                 f" WHERE k.line > ? ORDER BY a.sureness, k.sureness, {turn}a.line", (OTHER_KEY, last))
 
-    def has_own_key(self, number):
-        """Whether the thing with a number was known by a key of its own row."""
-        return self.one("SELECT number FROM own WHERE number = ?", number) is not None
+    def wait(self, identities):
+        """Takes identities that have nulls in them, each as its number, null, sureness, parts, and these nulls."""
+        self.base.executemany("INSERT INTO waiting VALUES (?, ?, ?, ?)", (one[:4] for one in identities))
+        self.base.executemany("INSERT INTO wanted VALUES (?, ?, ?)", ((other, null, line) for line, null, _, _, others in identities for other in others))
 
-    def new_number(self, reserved):
-        """A number that no thing has had."""
-        while self.next in reserved:
+    def waiting_for(self, null):
+        """The numbers of the identities that have a null in them."""
+        return [line for line, in self.base.execute("SELECT line FROM wanted WHERE other = ? ORDER BY null_number, line", (null,))]
+
+    def waiting(self, line):
+        """The null, the sureness and the parts of an identity that waits."""
+        return self.base.execute("SELECT null_number, sureness, parts FROM waiting WHERE line = ?", (line,)).fetchone()
+
+    def reserve(self, numerals):
+        """Takes numbers that are texts of the target, each with its column."""
+        self.base.executemany("INSERT OR REPLACE INTO reserved VALUES (?, ?, ?)", numerals)
+
+    def new_numbers(self):
+        """Numbers that no thing has had, and that are no texts of the target."""
+        reserved = self.base.execute("SELECT number FROM reserved WHERE number >= ? ORDER BY number", (self.next,))
+        barred = next(reserved, (None,))[0]
+        while True:
             self.next += 1
-        self.next += 1
-        return self.next - 1
+            if self.next - 1 == barred:
+                barred = next(reserved, (None,))[0]
+            else:
+                yield self.next - 1
 
-    def keep(self, identities, own):
-        """Keeps identities, each as digest, number, sureness and text, and the numbers of things that have a key of their own."""
+    def number(self, numbers, written):
+        """Takes the numbers of all nulls, and marks of those that are written as numbers."""
+        self.base.executemany("INSERT INTO number VALUES (?, ?, ?)", ((null, number, written[null]) for null, number in enumerate(numbers)))
+
+    def taken(self):
+        """The numbers that are written as such and are texts of the target, each with its column."""
+        return self.base.execute("SELECT r.number, r.place, r.column_place FROM reserved AS r JOIN number AS n ON n.number = r.number WHERE n.is_written LIMIT 1")
+
+    def keep(self, own):
+        """Keeps the identities with the numbers of their nulls, and the numbers of things that have a key of their own."""
         self.base.executemany("INSERT OR IGNORE INTO own VALUES (?)", ((number,) for number in own))
-        self.base.executemany("INSERT INTO identity VALUES (?, ?, ?, ?) "
-                              "ON CONFLICT (digest) DO UPDATE SET number = excluded.number, sureness = excluded.sureness", identities)
+        self.base.execute("INSERT INTO main.identity SELECT a.digest, n.number, a.sureness, a.text"
+                          " FROM asked AS a JOIN number AS n ON n.null_number = a.null_number LEFT JOIN kept AS k ON k.line = a.line"
+                          " WHERE k.number IS NOT n.number OR k.sureness IS NOT a.sureness"
+                          f" ORDER BY a.digest, a.sureness = {FOLDED}, CASE WHEN a.sureness < {FOLDED} THEN a.null_number END, a.line"
+                          " ON CONFLICT (digest) DO UPDATE SET number = excluded.number, sureness = excluded.sureness")
 
     def is_numbered(self, table, column):
         """Whether a column has numbers; None if that isn't decided yet."""

@@ -6,128 +6,162 @@ null is itself a key there, or is referred to): what has one is not known by key
 rules, variables and values of all nulls that keys, or core mode, replaced by it.
 """
 import json
-from collections import deque
+from array import array
+from json.encoder import encode_basestring_ascii as json_text
+from typing import NamedTuple
 
-from .crosswalk import SHOWN, digest_of
+from .crosswalk import FOLDED, OTHER_KEY, OWN_KEY, RULE
+from .nulls import NONE, Marks
 
-OWN_KEY, OTHER_KEY, RULE, FOLDED = range(4)
+MANY = 10_000  # identities that are held at once
 
 
-class Identity:
-    """One identity of a null. It can be told once all nulls in it have numbers."""
-    __slots__ = ("null", "sureness", "parts", "missing", "digest", "kept", "kept_sureness")
-
-    def __init__(self, null, sureness, parts, missing):
-        self.null, self.sureness, self.parts, self.missing = null, sureness, parts, missing
-        self.digest = self.kept = self.kept_sureness = None
-
-    def text(self, numbers, target):
-        """The identity as a text of JSON."""
-        if self.sureness == FOLDED:
-            return json.dumps(["rule", *target.folded_term(self.parts)])
-        if self.sureness == RULE:
-            return json.dumps(["rule", *target.term(self.null)])
-        place, number, column, key = self.parts
-        columns, names, row = target.columns[place], target.keys[place][key], target.rows[place][number]
-        cells = [row[columns.index(name)] for name in names]
-        shown = [{"id": numbers[cell]} if cell in numbers else cell for cell in cells]
-        return json.dumps(["key", target.tables[place].name, columns[column], names, shown])
+class Column(NamedTuple):
+    """A column by which a null is looked for: whether nulls are at home there, and for each key its columns and the head of the identities."""
+    cells: array
+    is_home: bool
+    keys: list
 
 
 class Naming:
     """Gives each null of a target its number."""
 
-    def __init__(self, target, crosswalk, reserved):
-        self.target, self.crosswalk, self.reserved = target, crosswalk, reserved
-        self.numbers, self.taken = {}, set()
-        self.known = self.new = 0
-        self.waiting = {}  # for each null the identities that have it in them
-        self.blocked = {}  # for each null how many of its identities can't be told yet
-        self.identities = list(self.all_identities())
-        self.free = deque(null for null in target.nulls if not self.blocked.get(null))
-        self.find([one for one in self.identities if not one.missing])
+    def __init__(self, target, crosswalk):
+        self.target, self.crosswalk = target, crosswalk
+        count = target.nulls.count
+        self.numbers = array("q", [0]) * count  # 0 as long as a null has none
+        self.blocked = array("i", [0]) * count  # how many identities of a null can't be told yet
+        self.is_wanted, self.has_own_key = bytearray(count), bytearray(count)
+        self.missing = bytearray()  # for each waiting identity how many of its nulls have no number
+        self.taken = Marks()
+        self.known = self.new = self.last = 0
+        self.new_numbers = crosswalk.new_numbers()
+        self.columns = [self.columns_of(place, table) for place, table in enumerate(target.tables)]
+        self.find(self.first(), True)
         self.give_new()
 
-    def all_identities(self):
-        """All identities of all nulls."""
-        homes = [home_columns(table, self.target.tables) for table in self.target.tables]
-        keys = [[[table.columns.index(name) for name in key] for key in table.keys] for table in self.target.tables]
-        for null, places in self.target.nulls.items():
-            found = {OWN_KEY: [], OTHER_KEY: []}
-            for place, number, column in places:
-                row = self.target.rows[place][number]
-                for key, columns in enumerate(keys[place]):
-                    cells = [row[one] for one in columns]
-                    if null not in cells:
-                        found[OWN_KEY if column in homes[place] else OTHER_KEY].append(((place, number, column, key), cells))
-            sureness = OWN_KEY if found[OWN_KEY] else OTHER_KEY
-            for parts, cells in found[sureness]:
-                yield self.of_key(null, sureness, parts, cells)
-            yield Identity(null, RULE, None, 0)
-        for null, value in self.target.folded:
-            yield Identity(value, FOLDED, null, 0)
+    def columns_of(self, place, table):
+        """The columns of a table that have nulls, and its keys; marks the nulls that have a key of their own row."""
+        homes, cells = home_columns(table, self.target.tables), self.target.cells[place]
+        keys = [(key, [table.columns.index(name) for name in key]) for key in table.keys]
+        columns = []
+        for column, name in enumerate(table.columns):
+            if keys and cells[column] and max(cells[column]) != NONE:
+                heads = [(places, json.dumps(["key", table.name, name, key, []])[:-2]) for key, places in keys]
+                columns.append(Column(cells[column], column in homes, heads))
+        for column in columns:
+            for places, _ in column.keys if column.is_home else ():
+                for null, *others in zip(column.cells, *[cells[one] for one in places]):
+                    if null != NONE and null not in others:
+                        self.has_own_key[null] = 1
+        return columns
 
-    def of_key(self, null, sureness, parts, cells):
-        """The identity by a key of a row."""
-        others = {cell for cell in cells if cell in self.target.nulls}
-        one = Identity(null, sureness, parts, len(others))
+    def first(self):
+        """The identities that can be told at once; those that can't are made to wait."""
+        for place, table in enumerate(self.target.tables):
+            if self.columns[place]:
+                yield from self.by_keys(place, table)
+        for null, text in self.target.terms():
+            yield null, RULE, text
+        for null, text in self.target.folded_terms(self.crosswalk.base):
+            yield null, FOLDED, text
+
+    def by_keys(self, place, table):
+        """The identities by keys of a table's rows."""
+        cells, waiting = self.target.cells[place], []
+        for number, row in enumerate(self.target.rows(table)):
+            for column in self.columns[place]:
+                null = column.cells[number]
+                if null == NONE or (self.has_own_key[null] and not column.is_home):
+                    continue
+                sureness = OWN_KEY if column.is_home else OTHER_KEY
+                for places, head in column.keys:
+                    others = [cells[one][number] for one in places]
+                    if null in others:
+                        continue
+                    parts = [json_text(row[one]) if other == NONE else f"?{other}" for one, other in zip(places, others)]
+                    if max(others) == NONE:
+                        yield null, sureness, identity(head, parts)
+                    else:
+                        waiting.append(self.waiting(null, sureness, [head, *parts], set(others) - {NONE}))
+            if len(waiting) >= MANY:
+                self.crosswalk.wait(waiting)
+                waiting = []
+        self.crosswalk.wait(waiting)
+
+    def waiting(self, null, sureness, parts, others):
+        """Takes down that an identity waits for other nulls."""
+        self.missing.append(len(others))
+        self.blocked[null] += 1
         for other in others:
-            self.waiting.setdefault(other, []).append(one)
-        if others:
-            self.blocked[null] = self.blocked.get(null, 0) + 1
-        return one
+            self.is_wanted[other] = 1
+        return len(self.missing) - 1, null, sureness, "\n".join(parts), others
 
-    def find(self, ready):
+    def find(self, ready, is_first=False):
         """Looks up identities that can be told, the surest first, and those that can be told then."""
-        while ready:
-            for one in ready:
-                one.digest = digest_of(one.text(self.numbers, self.target))
-                one.kept, one.kept_sureness = self.crosswalk.found(one.digest) or (None, None)
-            following = []
-            for one in sorted(ready, key=lambda one: (one.sureness, one.kept_sureness or 0)):
-                if one.kept is not None and one.null not in self.numbers and one.kept not in self.taken and self.is_sure(one):
+        while True:
+            last, self.last = self.last, self.crosswalk.ask(ready)
+            if is_first:
+                self.free = array("i", (null for null, number in enumerate(self.blocked) if not number))
+            following = array("q")
+            for null, sureness, kept, is_own in self.crosswalk.found(last, is_first):
+                if not self.numbers[null] and not (sureness == OTHER_KEY and is_own) and self.taken.add(kept):
                     self.known += 1
-                    following += self.give(one.null, one.kept)
-            ready = following
+                    self.give(null, kept, following)
+            if not following:
+                return
+            ready, is_first = map(self.told, following), False
 
-    def is_sure(self, one):
-        """Whether a kept number is that of the null's thing: not by another row's key if the thing had one of its own."""
-        return one.sureness != OTHER_KEY or not self.crosswalk.has_own_key(one.kept)
+    def told(self, line):
+        """An identity that waited for nulls which have numbers now."""
+        null, sureness, parts = self.crosswalk.waiting(line)
+        head, *parts = parts.split("\n")
+        return null, sureness, identity(head, ['{"id": %d}' % self.numbers[int(part[1:])] if part[0] == "?" else part for part in parts])
 
-    def give(self, null, number):
-        """Gives a null its number; answers which identities can be told now."""
+    def give(self, null, number, ready):
+        """Gives a null its number; puts the identities that can be told now to those that are ready."""
         self.numbers[null] = number
-        self.taken.add(number)
-        ready = []
-        for one in self.waiting.pop(null, ()):
-            one.missing -= 1
-            if not one.missing:
-                ready.append(one)
-                self.blocked[one.null] -= 1
-                if not self.blocked[one.null]:
-                    self.free.append(one.null)
-        return ready
+        if not self.is_wanted[null]:
+            return
+        for line in self.crosswalk.waiting_for(null):
+            self.missing[line] -= 1
+            if not self.missing[line]:
+                ready.append(line)
+                other = self.crosswalk.waiting(line)[0]
+                self.blocked[other] -= 1
+                if not self.blocked[other]:
+                    self.free.append(other)
 
     def give_new(self):
         """Gives new numbers, first to nulls all of whose identities are told; nulls that wait for each other get theirs in turn."""
-        left = iter(self.target.nulls)
-        while len(self.numbers) < len(self.target.nulls):
-            batch = [null for null in self.free if null not in self.numbers]
-            self.free.clear()
+        left, count = 0, self.target.nulls.count
+        while True:
+            batch, self.free = self.free, array("i")
+            batch = array("i", (null for null in batch if not self.numbers[null]))
             if not batch:
-                batch = [next(null for null in left if null not in self.numbers)]
-            ready = []
+                while left < count and self.numbers[left]:
+                    left += 1
+                if left == count:
+                    return
+                batch.append(left)
+            ready = array("q")
             for null in batch:
                 self.new += 1
-                ready += self.give(null, self.crosswalk.new_number(self.reserved))
-            self.find(ready)
+                self.give(null, next(self.new_numbers), ready)
+            self.find(map(self.told, ready))
 
     def keep(self):
         """Keeps all identities with the numbers of their nulls."""
-        changed = [one for one in self.identities if (one.kept, one.kept_sureness) != (self.numbers[one.null], one.sureness)]
-        changed.sort(key=lambda one: one.digest)  # in the order of the file, which is written faster then
-        changed = ((one.digest, self.numbers[one.null], one.sureness, one.text(self.numbers, self.target)[:SHOWN]) for one in changed)
-        self.crosswalk.keep(changed, {self.numbers[one.null] for one in self.identities if one.sureness == OWN_KEY})
+        self.crosswalk.keep(number for number, is_own in zip(self.numbers, self.has_own_key) if is_own)
+
+    def by_name(self):
+        """The number of each null by its name."""
+        return {name: self.numbers[null] for name, null in self.target.nulls}
+
+
+def identity(head, parts):
+    """The text of an identity by a key, of its head and its values."""
+    return f"{head}{', '.join(parts)}]]"
 
 
 def home_columns(table, tables):

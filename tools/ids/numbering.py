@@ -3,13 +3,12 @@ import pathlib
 
 from clio_tool import Refused
 
-from .columns import check_numbers, decided, numbered_nulls, numerals
+from .columns import check_numbers, decided, list_numerals, numbered_nulls
 from .crosswalk import digest_of_file
 from .naming import Naming
+from .nulls import AGAIN
 from .rewriting import Files
-from .target import AGAIN, Target
-
-UNKNOWN = 999  # the rule in the names of nulls that are no numbers: clio has at most 256
+from .target import Target
 
 
 def check_whole(crosswalk):
@@ -25,14 +24,15 @@ def number(tables, crosswalk, chosen, nested):
     """Names the nulls, keeps the names, and rewrites the files."""
     target = Target(tables)
     columns = decided(target, crosswalk, chosen)
-    numbered = numbered_nulls(target, columns)
-    taken = numerals(target, columns, numbered)
-    naming = Naming(target, crosswalk, taken)
-    check_numbers(naming.numbers, numbered, taken)
+    is_written = numbered_nulls(target, columns)
+    list_numerals(target, columns, is_written, crosswalk)
+    naming = Naming(target, crosswalk)
+    crosswalk.number(naming.numbers, is_written)
+    check_numbers(target, crosswalk)
     naming.keep()
-    files = Files(target, {null: str(one) if null in numbered else f"?{UNKNOWN}.0.{one}" for null, one in naming.numbers.items()}, nested)
+    files = Files(target, naming.numbers, is_written, crosswalk.base)
     try:
-        crosswalk.commit(files.write())
+        crosswalk.commit(files.write(nested))
         files.replace()
     finally:
         files.clear()

@@ -231,7 +231,8 @@ class Grown(unittest.TestCase):
         crosswalk = Crosswalk("ids.db")
         naming = number(read_sets(content.decode())["target"], crosswalk, {}, False)
         crosswalk.close()
-        self.assertEqual(len(set(naming.numbers.values())), len(naming.numbers))
+        numbers = naming.by_name()
+        self.assertEqual(len(set(numbers.values())), len(numbers))
         things = {}
         for rule, matches in enumerate(found.matches):
             variables = {cell.content for cell in mapping.rules[rule].conclusion_cells() if cell.kind == "existential"}
@@ -239,7 +240,7 @@ class Grown(unittest.TestCase):
                 for variable in variables:
                     value = found.chase.value((rule, variable, place))
                     if isinstance(value, tuple):
-                        things[printed[rule], printed[:rule].count(printed[rule]), variable, texts] = naming.numbers["?%d.%d.%d" % value]
+                        things[printed[rule], printed[:rule].count(printed[rule]), variable, texts] = numbers["?%d.%d.%d" % value]
         return things
 
 
