@@ -28,6 +28,21 @@ def holds(condition, what):
         raise Difference(what)
 
 
+def check_clash_message(message, tables):
+    """The message of a clash names the left columns of a key or dependency of the target, a column that they decide, and two texts."""
+    string = r'("(?:[^"\\]|\\.)*")'
+    form = r"clash: table (\w+), key \(([#\w, ]+)\): %s and %s in column ([#\w]+)\n" % (string, string)
+    told = re.fullmatch(form, message, re.DOTALL)
+    holds(told, "message of a clash: " + message)
+    table = next((table for table in tables if table.name == told[1]), None)
+    holds(table, "no such table: " + message)
+    names = lambda columns: [table.columns[column] for column in columns]
+    rights = [names(right) for left, right in table.determinations() if names(left) == told[2].split(", ")]
+    holds(rights, "no such key: " + message)
+    holds(any(told[5] in right for right in rights) and told[5] not in told[2].split(", "), "no such column: " + message)
+    holds(told[3] != told[4], "a clash of one text: " + message)
+
+
 class CaseCheck:
     """Runs all commands on one case."""
 
@@ -86,7 +101,8 @@ class CaseCheck:
         chase = Chase(facts, self.target)
         if chase.clash:
             self.count("clash")
-            return self.check_clash(run, chase)
+            same((run.status, run.said, run.files), (3, "", {}), "status of a clash")
+            return check_clash_message(run.told, self.target)
         same((run.status, run.told), (0, ""), "status of exchange")
         target = self.read_target(run)
         fold = self.read_fold(run)
@@ -100,21 +116,6 @@ class CaseCheck:
             same(fold, moved((null, chase.value(null)) for null in nulls_of(self.canonical)), "the fold in plain mode")
         self.count("core" if core else "plain")
         self.check_texts(run, core, nested, target, fold)
-
-    def check_clash(self, run, chase):
-        """A clash names the left columns of a key or dependency of the target and two texts, and nothing is written."""
-        same((run.status, run.said, run.files), (3, "", {}), "status of a clash")
-        string = r'("(?:[^"\\]|\\.)*")'
-        form = r"clash: table (\w+), key \(([#\w, ]+)\): %s and %s in column ([#\w]+)\n" % (string, string)
-        told = re.fullmatch(form, run.told, re.DOTALL)
-        holds(told, "message of a clash: " + run.told)
-        table = next((table for table in self.target if table.name == told[1]), None)
-        holds(table, "no such table: " + run.told)
-        names = lambda columns: [table.columns[column] for column in columns]
-        rights = [names(right) for left, right in table.determinations() if names(left) == told[2].split(", ")]
-        holds(rights, "no such key: " + run.told)
-        holds(any(told[5] in right for right in rights) and told[5] not in told[2].split(", "), "no such column: " + run.told)
-        holds(told[3] != told[4], "a clash of one text: " + run.told)
 
     def read_target(self, run):
         """The facts of the target's files."""

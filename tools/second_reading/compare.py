@@ -7,22 +7,36 @@ import sys
 
 from checks import CaseCheck, Difference
 from hostile import HostileCheck
-from refusals import TooLong
 from program import Folder
+from question_cases import MAKERS
+from question_checks import QuestionCheck
 from random_cases import random_case
+from refusals import TooLong
 
-KINDS = ["rules", "lines", "mixed", "keyed", "optional", "dependent", "hostile"]
+KINDS = ["rules", "lines", "mixed", "keyed", "optional", "dependent", "hostile", *MAKERS]
+
+
+def case_of(kind, chance):
+    """A case of a kind, and what checks it."""
+    if kind in MAKERS:
+        return MAKERS[kind](chance), QuestionCheck
+    if kind == "hostile":
+        return random_case(chance, chance.choice(["rules", "lines", "mixed", "optional", "dependent"])), HostileCheck
+    return random_case(chance, kind), CaseCheck
 
 
 def compare_one(program, kind, seed, number, tally):
     """One case; at a difference its folder is kept and told."""
     chance = random.Random("%s %s %d" % (kind, seed, number))
-    hostile = kind == "hostile"
-    case = random_case(chance, chance.choice(["rules", "lines", "mixed", "optional", "dependent"]) if hostile else kind)
-    folder = Folder(case.files)
     tally["cases"] = tally.get("cases", 0) + 1
     try:
-        (HostileCheck if hostile else CaseCheck)(case, folder, program, chance, tally).check()
+        case, check = case_of(kind, chance)
+    except TooLong:
+        tally["given up"] = tally.get("given up", 0) + 1
+        return True
+    folder = Folder(case.files)
+    try:
+        check(case, folder, program, chance, tally).check()
     except TooLong:
         tally["given up"] = tally.get("given up", 0) + 1
     except subprocess.TimeoutExpired as late:

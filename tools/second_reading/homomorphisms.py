@@ -1,4 +1,4 @@
-"""Homomorphisms, and what is asked of them: cores, rules that follow from others, pruning.
+"""Homomorphisms, and what is asked of them: cores, rules that follow from others or don't, pruning.
 
 For each fact there is a list of the facts to which it can still go, and for each null the values that it can still take. These are cut
 until each value of each null has a fact for it in the list of each fact that has the null; then a fact with several left is sent to one
@@ -156,20 +156,24 @@ def largest_block(facts):
     return largest
 
 
-def follows(rule, others):
-    """Whether a rule follows: its conclusion maps into what the others make of its premise, variables frozen."""
-    frozen = lambda variable: "\x01%d" % variable
+def frozen(rule, prefix):
+    """The premise as a source instance: the text of a variable is the prefix and its number."""
     instance = {}
     for atom in rule.premise:
-        instance.setdefault(atom.table, set()).add(tuple(frozen(variable) for variable in atom.cells))
+        instance.setdefault(atom.table, set()).add(tuple("%s%d" % (prefix, variable) for variable in atom.cells))
+    return instance
 
+
+def refuting(rule, others, prefix):
+    """None if a rule follows from others, or else what these make of its frozen premise, into which its conclusion doesn't map."""
     def wanted(cell):
         if cell.kind == VARIABLE:
-            return Constant(frozen(cell.content))
+            return Constant("%s%d" % (prefix, cell.content))
         return Constant(cell.content) if cell.kind == LITERAL else Null(-1, cell.content, 0)
 
     goal = {Fact(atom.table, tuple(wanted(cell) for cell in atom.cells)) for atom in rule.conclusion}
-    return homomorphism(ascending(goal), ascending(canonical(places_of(others, instance)))) is not None
+    made = canonical(places_of(others, frozen(rule, prefix)))
+    return None if homomorphism(ascending(goal), ascending(made)) is not None else made
 
 
 def pruned(rules):
@@ -179,6 +183,6 @@ def pruned(rules):
         if left[number].derived:
             continue
         others = [rule for place, rule in enumerate(left) if place != number and not rule.derived]
-        if follows(left[number], others):
+        if refuting(left[number], others, "\x01") is None:
             del left[number]
     return left

@@ -1,34 +1,37 @@
 """Damaged folders and odd words: in which way the program must end."""
-import os
 import re
 
 from checks import CaseCheck, holds, same
 from damage import damage_file
-from names import read_mapping
+from folders import Rows, folder_mapping
 from random_cases import Case
-from refusals import (DATA_BYTES, MAPPING, READ_FAULT, ROWS, TEXT_BYTES, WRITE_FAULT, Limit, Refusal,
-                      TooLong, Unsure)
-from sources import document_facts, table_rows
+from refusals import WRITE_FAULT, Refusal, TooLong, Unsure
 
 COUNTS = ("text bytes|data bytes|tables|columns|depth|lines|variants|occurrences|ways|candidates|rules|source cells|"
-          "target cells|frozen cells")
-USAGE = "usage: clio show [--core] | clio exchange [--core] [--nested] | clio demo N [--core]"
+          "target cells|frozen cells|query bytes|query atoms|answer cells|given cells")
+USAGE = ("usage: clio show [--core] | clio exchange [--core] [--nested] | clio demo N [--core] | clio answer | clio judge | "
+         "clio compare")
 STRING = r'"(?:[^"\\]|\\.)*"'
+TEXT_FAULT = r"(bad character|unexpected token|text ended|unknown name|wrong number of cells|unsafe variable) at byte \d+"
+MAPPING_FAULT = TEXT_FAULT + (r"|(source|target): (double name|no column in|unknown name|cyclic links at|bad link in) \w+"
+                              r"|target: reserved name (nulls|fold)")
 MESSAGES = {  # for each status the form of its message
     2: re.escape(USAGE),
     3: r"clash: table \w+, key \([#\w, ]+\): %s and %s in column [#\w]+" % (STRING, STRING),
-    4: r"mapping: (mapping\.clio is absent|(bad character|unexpected token|text ended|unknown name|"
-       r"wrong number of cells|unsafe variable) at byte \d+|(source|target): (double name|no column in|"
-       r"unknown name|cyclic links at|bad link in) \w+|target: reserved name (nulls|fold))",
-    5: r"rows: [\w.]+(\.csv|\.json)( is absent|: (no header|header at column \d+|width of record \d+|"
-       r"record \d+ is not text|not JSON|(wrong shape|number|unknown member) at .*))",
+    4: r"mapping: (mapping\.clio is absent|%s)" % MAPPING_FAULT,
+    5: r"rows: (given/)?[\w.]+(\.csv|\.json)( is absent|: (no header|header at column \d+|width of record \d+|"
+       r"record \d+ is not (text|a value)|not JSON|(wrong shape|number|unknown member) at .*))",
     6: r"limit: (%s) \d+" % COUNTS,
-    7: r"read fault: [\w.]+",
+    7: r"read fault: (given/)?[\w.]+",
     8: r"write fault: \d+ files written",
+    10: r"query: (query\.clio is absent|%s)" % TEXT_FAULT,
+    11: r"other: (other\.clio is absent|%s|schemas differ|row conditions|conversion in rule \d+ of (mapping|other)\.clio)"
+        % MAPPING_FAULT,
 }
 EXCHANGES = [["exchange"], ["exchange", "--core"], ["exchange", "--nested"], ["exchange", "--core", "--nested"],
              ["exchange", "--nested", "--core"]]
-WORDS = ["show", "exchange", "demo", "--core", "--nested", "--", "-c", "", "3", "007", "0", "100001", "+1", "--core=1",
+QUESTIONS = [["answer"], ["judge"], ["compare"]]
+WORDS = ["show", "exchange", "demo", "answer", "judge", "compare", "--core", "--nested", "--", "-c", "", "3", "007", "0", "100001", "+1", "--core=1",
          "help", "--help", "\u00fc", b"\xff", "SHOW", "show "]
 
 
@@ -49,49 +52,7 @@ def is_accepted(words):
         numbers = [word for word in words[1:] if word != "--core"]
         return (len(numbers) == 1 and len(words) < 4 and isinstance(numbers[0], str)
                 and re.fullmatch("[1-9][0-9]{0,5}", numbers[0]) is not None and int(numbers[0]) <= 100000)
-    return words in EXCHANGES or words in (["show"], ["show", "--core"])
-
-
-def fetched(folder, name, limit, absent, long):
-    """The bytes of a file of the folder, or why they can't be had."""
-    path = folder.inside(name)
-    if os.path.isdir(path) or (os.path.islink(path) and os.readlink(path) == name):
-        raise Refusal(READ_FAULT, "read fault: " + name)
-    if not os.path.exists(path):
-        raise absent
-    with open(path, "rb") as file:
-        content = file.read()
-    if len(content) > limit:
-        raise long
-    return content
-
-
-def folder_mapping(folder):
-    """The mapping of a folder with its rule list, or the first fault of its text."""
-    absent = Refusal(MAPPING, "mapping: mapping.clio is absent")
-    text = fetched(folder, "mapping.clio", TEXT_BYTES, absent, Limit("text bytes", TEXT_BYTES))
-    mapping = read_mapping(text)
-    mapping.rule_list()
-    return mapping
-
-
-def folder_instance(folder, mapping):
-    """The source instance of a folder, or the first fault of its files."""
-    instance, left = {}, DATA_BYTES
-    for number, table in enumerate(mapping.source):
-        if table.parent is not None:
-            continue
-        file = table.name + (".json" if table.inner else ".csv")
-        absent = Refusal(ROWS, "rows: %s is absent" % file)
-        content = fetched(folder, file, left, absent, Limit("data bytes", DATA_BYTES))
-        left -= len(content)
-        if table.inner:
-            facts = document_facts(content, mapping.source, number, file)
-        else:
-            facts = [(number, row) for row in table_rows(content, table.columns, file)]
-        for place, row in facts:
-            instance.setdefault(place, set()).add(row)
-    return mapping.passing(instance)
+    return words in EXCHANGES + QUESTIONS or words in (["show"], ["show", "--core"])
 
 
 class HostileCheck:
@@ -118,14 +79,14 @@ class HostileCheck:
             damage_file(self.random, self.folder.inside(name), columns.get(name, []))
         self.check_words()
         try:
-            mapping = folder_mapping(self.folder)
+            mapping, _ = folder_mapping(self.folder)
         except Refusal as refusal:
-            return self.check_refused(refusal, [["show"], ["show", "--core"]] + EXCHANGES)
+            return self.check_refused(refusal, [["show"], ["show", "--core"]] + EXCHANGES + QUESTIONS)
         except (Unsure, TooLong):
             return self.check_unsure()
         same(self.run(["show"]).status, 0, "status of show")
         try:
-            instance = folder_instance(self.folder, mapping)
+            instance = Rows(self.folder).source(mapping)
         except Refusal as refusal:
             return self.check_refused(refusal, EXCHANGES)
         except Unsure:

@@ -30,7 +30,8 @@ class Folder:
         return os.path.join(self.path, name)
 
     def write(self, name, content):
-        """Writes a text or bytes."""
+        """Writes a text or bytes, in folders that are made where they are missing."""
+        os.makedirs(os.path.dirname(self.inside(name)), exist_ok=True)
         with open(self.inside(name), "wb") as file:
             file.write(content.encode() if isinstance(content, str) else content)
 

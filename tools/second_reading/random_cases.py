@@ -131,6 +131,15 @@ def random_condition(random, source):
     return Condition(random_column(random, source), random.choice(list(TESTS)))
 
 
+def random_csv(random, records):
+    """A CSV file, now and then with a byte order mark, other ends of lines, needless quotes or no last line end."""
+    text = csv_text(records)
+    if random.random() < .1:
+        quote = lambda field: '"%s"' % field.replace('"', '""')
+        text = random.choice(["\n", "\r\n", "\r"]).join(",".join(map(quote, record)) for record in records)
+    return ("\ufeff" if random.random() < .05 else "") + text
+
+
 class Source:
     """Random source files and the facts that they stand for."""
 
@@ -152,16 +161,11 @@ class Source:
         self.instance.setdefault(self.numbers[tree.name], set()).add(tuple(row))
 
     def table(self, tree):
-        """A CSV file, now and then with a byte order mark, other ends of lines, needless quotes or no last line end."""
+        """A CSV file."""
         rows = [[self.text() for _ in tree.columns] for _ in range(self.random.choice([0, 1, 2, 2, 3, 4]))]
         for row in rows:
             self.fact(tree, row)
-        text = csv_text([tree.columns] + rows)
-        if self.random.random() < .1:
-            end = self.random.choice(["\n", "\r\n", "\r"])
-            quote = lambda field: '"%s"' % field.replace('"', '""')
-            text = end.join(",".join(map(quote, record)) for record in [tree.columns] + rows)
-        return ("\ufeff" if self.random.random() < .05 else "") + text
+        return random_csv(self.random, [tree.columns] + rows)
 
     def document(self, tree):
         """A JSON document."""
@@ -213,6 +217,8 @@ def random_case(random, kind):
     if kind == "keyed":
         return keyed_case(random, Case)
     most, optional = 5 if kind == "lines" else 4, .6 if kind == "optional" else 0
+    if kind == "dependent" and random.random() < .2:
+        optional = .4
     source_trees, target_trees = (random_trees(random, prefix, most, optional) for prefix in "st")
     if kind == "lines" and random.random() < .01:
         source_trees = chain_of_sets(random, "s")
@@ -225,6 +231,7 @@ def random_case(random, kind):
             add_dependencies(random, tree)
     if kind == "optional":
         mapping.version = 2
+    if kind == "optional" or (kind == "dependent" and random.random() < .2):
         mapping.conditions = [random_condition(random, mapping.source) for _ in range(random.choice([0, 0, 1, 1, 2, 3]))]
     if kind not in ("lines", "optional") or (kind == "optional" and random.random() < .3):
         mapping.rules = [random_rule(random, mapping.source, mapping.target) for _ in range(random.randint(1, 4))]

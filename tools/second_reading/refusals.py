@@ -1,4 +1,5 @@
 """How the program must refuse, and where this reading gives up."""
+from contextlib import contextmanager
 
 TEXT_BYTES = 1048576
 DATA_BYTES = 67108864
@@ -11,8 +12,13 @@ OCCURRENCES = 64
 WAYS = 64
 CANDIDATES = 1024
 RULES = 256
+QUERY_BYTES = 65536
+QUERY_ATOMS = 64
+ANSWER_CELLS = 4000000
+GIVEN_CELLS = 1000000
+FROZEN_CELLS = 4000000
 
-MAPPING, ROWS, LIMIT, READ_FAULT, WRITE_FAULT = 4, 5, 6, 7, 8  # statuses
+CLASH, MAPPING, ROWS, LIMIT, READ_FAULT, WRITE_FAULT, QUERY, OTHER = 3, 4, 5, 6, 7, 8, 10, 11  # statuses
 
 
 class Refusal(Exception):
@@ -28,6 +34,24 @@ class Limit(Refusal):
 
     def __init__(self, count, number):
         super().__init__(LIMIT, "limit: %s %d" % (count, number))
+
+
+class Clash(Refusal):
+    """No target satisfies all rules, keys and links; which of several clashes the message tells is free."""
+
+    def __init__(self):
+        super().__init__(CLASH, "clash")
+
+
+@contextmanager
+def told_of(status, subject):
+    """Tells the faults of the mapping text as faults of another text, with that text's status."""
+    try:
+        yield
+    except Refusal as refusal:
+        if refusal.status != MAPPING:
+            raise
+        raise Refusal(status, subject + refusal.message[len("mapping"):], refusal.name) from None
 
 
 class TooLong(Exception):

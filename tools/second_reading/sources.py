@@ -1,8 +1,9 @@
-"""The source files: the records of a CSV file, the facts of a JSON document, and the first fault of either."""
+"""The data files: the records of a CSV file, the facts of a JSON document, and the first fault of either."""
 import json
 import math
 
 from refusals import ROWS, Refusal, Unsure
+from values import read_value
 
 MARK = b"\xef\xbb\xbf"
 DEEPEST = 127
@@ -77,6 +78,15 @@ def table_rows(content, columns, file):
             rows.append(tuple(field.decode() for field in record))
         except UnicodeDecodeError:
             raise refusal(file, "record %d is not text" % number) from None
+    return rows
+
+
+def value_rows(content, columns, file):
+    """The rows of a given CSV file, each field read as a value text, or its first fault."""
+    rows = [tuple(map(read_value, row)) for row in table_rows(content, columns, file)]
+    for number, row in enumerate(rows, 1):
+        if None in row:
+            raise refusal(file, "record %d is not a value" % number)
     return rows
 
 

@@ -1,5 +1,9 @@
 """Values, rows and facts: what an instance is made of, in which order it stands and how it is written."""
+import re
 from typing import NamedTuple
+
+NUMERAL = "(0|[1-9][0-9]*)"
+NULL_TEXT = re.compile(r"\?%s\.%s\.%s" % (NUMERAL, NUMERAL, NUMERAL))
 
 
 class Constant(NamedTuple):
@@ -45,13 +49,14 @@ def value_text(value):
 
 
 def read_value(text):
-    """The value that a value text stands for."""
+    """The value that a value text stands for, or None for a text that is none."""
     if text.startswith("??"):
         return Constant(text[1:])
-    if text.startswith("?"):
-        rule, variable, place = text[1:].split(".")
-        return Null(int(rule), int(variable), int(place))
-    return Constant(text)
+    if not text.startswith("?"):
+        return Constant(text)
+    found = NULL_TEXT.fullmatch(text)
+    numbers = [int(numeral) for numeral in found.groups()] if found else []
+    return Null(*numbers) if numbers and max(numbers) < 2 ** 32 else None
 
 
 def nulls_of(facts):
