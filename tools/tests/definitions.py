@@ -1,0 +1,90 @@
+"""What solutions, certain answers, universal targets and cores are, tried out over all assignments, all null maps and all small targets."""
+import itertools
+
+from rules import LITERAL, VARIABLE
+from values import Constant, Fact, Null
+
+
+def values_of(facts):
+    return sorted({value for fact in facts for value in fact.row}, key=str)
+
+
+def assignments(variables, values):
+    """All ways to give each variable one of the values."""
+    for chosen in itertools.product(values, repeat=len(variables)):
+        yield dict(zip(variables, chosen))
+
+
+def conclusion_facts(rule, known):
+    def value(cell):
+        return Constant(cell.content) if cell.kind == LITERAL else known[cell]
+
+    return {Fact(atom.table, tuple(map(value, atom.cells))) for atom in rule.conclusion}
+
+
+def satisfied(rule, source, target):
+    """Whether for each match of the rule some values for its existential variables give facts of the target alone."""
+    variables = sorted({variable for atom in rule.premise for variable in atom.cells})
+    cells = set(rule.conclusion_cells())
+    unknown = sorted({cell for cell in cells if cell.kind not in (LITERAL, VARIABLE)})
+    for known in assignments(variables, values_of(source)):
+        if not all(Fact(atom.table, tuple(known[one] for one in atom.cells)) in source for atom in rule.premise):
+            continue
+        texts = {cell: known[cell.content] for cell in cells if cell.kind == VARIABLE}
+        if not any(conclusion_facts(rule, {**texts, **other}) <= target for other in assignments(unknown, values_of(target))):
+            return False
+    return True
+
+
+def keys_hold(tables, target):
+    for one, other in itertools.product(target, target):
+        if one.table == other.table:
+            for left, right in tables[one.table].determinations():
+                if all(one.row[c] == other.row[c] for c in left) and any(one.row[c] != other.row[c] for c in right):
+                    return False
+    return True
+
+
+def links_hold(tables, target):
+    return all(any(other.table == link.table and [other.row[c] for c in link.referred] == [fact.row[c] for c in link.own]
+                   for other in target) for fact in target for link in tables[fact.table].links)
+
+
+def is_solution(rules, tables, source, target):
+    return keys_hold(tables, target) and links_hold(tables, target) and all(satisfied(rule, source, target) for rule in rules)
+
+
+def homomorphisms(facts, into):
+    """The images of the facts under all null maps that send them into other facts."""
+    nulls = [value for value in values_of(facts) if isinstance(value, Null)]
+    for sent in assignments(nulls, values_of(into)):
+        image = {Fact(fact.table, tuple(sent.get(value, value) for value in fact.row)) for fact in facts}
+        if image <= into:
+            yield image
+
+
+def maps_into(facts, into):
+    return next(homomorphisms(facts, into), None) is not None
+
+
+def is_core(facts):
+    return all(image == facts for image in homomorphisms(facts, facts))
+
+
+def answers(query, target):
+    """The rows of a query on a target."""
+    rows = set()
+    for part in query:
+        variables = sorted({cell for atom in part.atoms for cell in atom.cells if cell.kind == VARIABLE})
+        for known in assignments(variables, values_of(target)):
+            value = lambda cell: Constant(cell.content) if cell.kind == LITERAL else known[cell]
+            if all(Fact(atom.table, tuple(map(value, atom.cells))) in target for atom in part.atoms):
+                rows.add(tuple(map(value, part.answer)))
+    return rows
+
+
+def small_targets(tables, values):
+    """All sets of facts with these values."""
+    facts = [Fact(number, row) for number, table in enumerate(tables) for row in itertools.product(values, repeat=len(table.columns))]
+    for number in range(len(facts) + 1):
+        yield from map(set, itertools.combinations(facts, number))
