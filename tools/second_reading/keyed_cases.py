@@ -2,7 +2,7 @@
 from files import csv_text
 from mapping import Mapping
 from rules import EXISTENTIAL, LITERAL, VARIABLE, Atom, Cell, Rule
-from schema import Reference, SetTree
+from schema import Dependency, Reference, SetTree
 from spelling import mapping_tokens, spelled
 
 NAMES = ["h", "k", "libc", *"abcdefghijklmno", "", "?0.0.0", "a,b"]
@@ -111,12 +111,27 @@ def is_decided(table):
     return table.name in ("s0", "s2")
 
 
-def keyed_case(random, make):
+def weaken_keys(random, trees):
+    """Puts dependencies in the place of most keys: the key decides some of the columns, or all of them by two dependencies."""
+    for tree in trees:
+        for key in [key for key in tree.keys if random.random() < .7]:
+            tree.keys.remove(key)
+            others = [column for column in tree.columns if column not in key] or key
+            first = random.sample(others, random.randint(1, len(others)))
+            tree.dependencies.append(Dependency(key, first))
+            if random.random() < .5:
+                tree.dependencies.append(Dependency(random.choice([key, first[:1]]), random.sample(others, 1)))
+
+
+def keyed_case(random, make, has_dependencies=False):
     """A mapping of one to four such rules, and rows of which many name the same few hubs; `make` makes the case."""
     source_trees = [SetTree("s%d" % number, ["c0", "c1", "c2"][:random.choice([1, 2, 2, 3])]) for number in range(random.randint(1, 3))]
     target_trees = keyed_trees(random)
-    mapping = Mapping(source_trees, target_trees)
+    mapping = Mapping(source_trees, target_trees, version=3 if has_dependencies else 1)
     mapping.rules = [keyed_rule(random, mapping.source, target_trees) for _ in range(random.choice([1, 2, 2, 3, 3, 4]))]
+    if has_dependencies:
+        weaken_keys(random, target_trees)
+        mapping.make_tables()
     names = NAMES[:random.randint(3, len(NAMES))]
     name = lambda: random.choice(names[:2] if random.random() < .45 else names)
     decided = {one: [name(), name()] for one in names}

@@ -29,6 +29,10 @@ class Mapping:
     version: int = 1
 
     def __post_init__(self):
+        self.make_tables()
+
+    def make_tables(self):
+        """The tables of both schemas, anew after a change of the trees."""
         self.source, self.target = tables_of(self.source_trees), tables_of(self.target_trees)
 
     def passes(self, number, row):

@@ -203,4 +203,4 @@ def change_tree(random, mapping, tree):
         add_dependencies(random, tree)
     else:
         add_reference(random, side, tree)
-    mapping.__post_init__()
+    mapping.make_tables()

@@ -216,6 +216,8 @@ def random_case(random, kind):
     """A case of one of the kinds `rules`, `lines`, `mixed`, `keyed`, `optional` and `dependent`."""
     if kind == "keyed":
         return keyed_case(random, Case)
+    if kind == "dependent" and random.random() < .3:
+        return keyed_case(random, Case, True)
     most, optional = 5 if kind == "lines" else 4, .6 if kind == "optional" else 0
     if kind == "dependent" and random.random() < .2:
         optional = .4

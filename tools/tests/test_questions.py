@@ -22,7 +22,7 @@ from questions import wanted_run  # noqa
 from random_cases import add_dependencies, random_rule  # noqa
 from refusals import Refusal, TooLong  # noqa
 from rules import LITERAL, Atom, Cell, closed  # noqa
-from schema import Reference, SetTree  # noqa
+from schema import Reference, SetTree, tables_of  # noqa
 from values import Constant, Fact, Null, ascending, nulls_of  # noqa
 
 PERSONS = """mapping 1; source { set emp { name; } set phone { name, num; } } target { set person { name, num; } }
@@ -149,6 +149,24 @@ class Small:
 
     def __init__(self, chance):
         self.chance = chance
+        self.mapping = Mapping([SetTree("s0", ["a"]), SetTree("s1", ["a", "b"])], self.trees(chance), version=3)
+        self.tables = self.mapping.target
+        self.rules = [self.rule() for _ in range(chance.choice([1, 1, 2]))]
+        texts = ["a", "b"][:chance.choice([1, 2, 2])]
+        self.instance = {0: {(text,) for text in texts if chance.random() < .6},
+                         1: {row for row in itertools.product(texts, texts) if chance.random() < .3}}
+        self.source = {Fact(table, tuple(map(Constant, row))) for table, rows in self.instance.items() for row in rows}
+        self.places = places_of(self.rules, self.instance)
+        self.chase = Chase(canonical(self.places), self.tables)
+
+    @staticmethod
+    def schema(chance):
+        """The tables of a target with one column or two each."""
+        return tables_of(Small.trees(chance))
+
+    @staticmethod
+    def trees(chance):
+        """Sets with keys, dependencies and refs."""
         widths = chance.choice([[1, 1], [1, 1, 1], [2], [2, 1], [1, 2]])
         trees = [SetTree("t%d" % number, ["c0", "c1"][:width]) for number, width in enumerate(widths)]
         for number, tree in enumerate(trees):
@@ -159,15 +177,7 @@ class Small:
                 tree.keys.append([chance.choice(tree.columns)])
             if chance.random() < .3:
                 add_dependencies(chance, tree)
-        self.mapping = Mapping([SetTree("s0", ["a"]), SetTree("s1", ["a", "b"])], trees, version=3)
-        self.tables = self.mapping.target
-        self.rules = [self.rule() for _ in range(chance.choice([1, 1, 2]))]
-        texts = ["a", "b"][:chance.choice([1, 2, 2])]
-        self.instance = {0: {(text,) for text in texts if chance.random() < .6},
-                         1: {row for row in itertools.product(texts, texts) if chance.random() < .3}}
-        self.source = {Fact(table, tuple(map(Constant, row))) for table, rows in self.instance.items() for row in rows}
-        self.places = places_of(self.rules, self.instance)
-        self.chase = Chase(canonical(self.places), self.tables)
+        return trees
 
     def rule(self):
         """A rule without conversions whose only literal is a."""
@@ -232,6 +242,29 @@ class Definitions(unittest.TestCase):
                 self.assertEqual(set(certain_rows(query, chased)), certain, text)
                 found += bool(certain)
         self.assertGreater(found, 10)
+
+    def test_forced_values(self):
+        """The chase makes equal what every null map makes equal after which keys hold; it clashes if there is none."""
+        clashes = moved = 0
+        for number in range(150 * TIMES):
+            chance = random.Random("forced %d" % number)
+            tables = Small.schema(chance)
+            values = [Constant("a"), Constant("b"), Null(0, 0, 1), Null(0, 1, 0), Null(1, 0, 0)]
+            facts = {Fact(table, tuple(chance.choice(values[:2] + values) for _ in tables[table].columns))
+                     for table in (chance.randrange(len(tables)) for _ in range(6))}
+            chase, images = Chase(facts, tables), []
+            nulls = sorted(nulls_of(facts))
+            for sent in definitions.assignments(nulls, values):
+                image = {Fact(fact.table, tuple(sent.get(value, value) for value in fact.row)) for fact in facts}
+                if definitions.keys_hold(tables, image):
+                    images.append(sent)
+            self.assertEqual(chase.clash, not images)
+            for null in nulls if images else []:
+                alike = [value for value in values[:2] + nulls if all(sent[null] == sent.get(value, value) for sent in images)]
+                self.assertEqual(chase.value(null), alike[0])
+                moved += alike[0] != null
+            clashes += chase.clash
+        self.assertGreater(min(clashes, moved), 10)
 
     def test_verdicts(self):
         """A target is universal if it is a solution and maps into each solution; a core has no smaller image in itself."""
