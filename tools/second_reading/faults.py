@@ -298,7 +298,7 @@ def folders_of_mappings():
         yield {"mapping.clio": "mapping 1; source { } target { %s }" % text}
     for text in ITEMS:
         yield {"mapping.clio": FLAT + text, "a.csv": "x\n"}
-    for version in ("1", "2"):
+    for version in ("1", "2", "3"):
         for text in LATER_SCHEMAS:
             yield {"mapping.clio": "mapping %s; source { %s } target { }" % (version, text)}
             yield {"mapping.clio": "mapping %s; source { } target { %s }" % (version, text)}
