@@ -17,8 +17,9 @@ pub fn scanned(alloc: Global, text: &str) -> Result<String, AllocError> {
 }
 
 /// A text with all that it may have in version 1, and the lines and the rules that it says; a text that is cut in a set at depth 17,
-/// whose word stands after 20 bytes and 16 times 11; a text of version 2 with conditions, two of version 1 with what version 2 alone has,
-/// and one of a version that there isn't.
+/// whose word stands after 20 bytes and 16 times 11; a text of version 2 with conditions, one of version 3 with a dependency; two of
+/// version 1 with what version 2 alone has, one of version 1 and one of version 2 with what version 3 alone has, and one of a version that
+/// there isn't.
 pub const TEXTS: &str = "mapping 1; // all that a text may have
 source { set a { x, y; key (x); set b { w; } ref (y) -> c (z); } set c { z; } }
 target { set t { u, v; } }
@@ -58,7 +59,17 @@ mapping 1; source { set a { x; ref (x) -> b (y) optional; } set b { y; } } targe
 mapping 1; source { set a { x; } } target { } only a.x filled;
 => At { place: 46, kind: Expected }
 
-mapping 3;
+mapping 3; source { set a { x, y; dep (x) -> (y); } } target { } only a.x filled;
+=> 3 [] [] [OnlyText { place: PlaceText { set: \"a\", set_place: 70, column: \"x\", column_place: 72 }, test: \
+\"filled\", test_place: 74 }]
+
+mapping 1; source { } target { set a { x, y; key (x); dep (x) -> (y); } }
+=> At { place: 54, kind: Expected }
+
+mapping 2; source { set a { x, y; dep (x) -> (y); } } target { }
+=> At { place: 34, kind: Expected }
+
+mapping 4;
 => At { place: 8, kind: Expected }";
 
 /// The version, the lines, the rules and the conditions of a mapping text, or its fault.
@@ -222,6 +233,67 @@ set customer {
 }
 }
 target {
+}
+
+mapping 3;source{}target{set addr{who,town,zip;ref(zip)->area(zip);dep(zip)->(town,who);set note{line,text;dep(line)->(text);}
+dep(town)->(town);key(who);}set area{zip;}}
+=> mapping 3;
+source {
+}
+target {
+set addr {
+  who, town, zip;
+  key (who);
+  dep (zip) -> (town, who);
+  dep (town) -> (town);
+  ref (zip) -> area (zip);
+  set note {
+    line, text;
+    dep (line) -> (text);
+  }
+}
+set area {
+  zip;
+}
+}
+
+mapping 3;
+source {
+}
+target {
+set addr {
+  who, town, zip;
+  key (who);
+  dep (zip) -> (town, who);
+  dep (town) -> (town);
+  ref (zip) -> area (zip);
+  set note {
+    line, text;
+    dep (line) -> (text);
+  }
+}
+set area {
+  zip;
+}
+}
+=> mapping 3;
+source {
+}
+target {
+set addr {
+  who, town, zip;
+  key (who);
+  dep (zip) -> (town, who);
+  dep (town) -> (town);
+  ref (zip) -> area (zip);
+  set note {
+    line, text;
+    dep (line) -> (text);
+  }
+}
+set area {
+  zip;
+}
 }";
 
 /// A mapping text with the sets of one as they are printed.
