@@ -1,5 +1,5 @@
 """The boxes of a side: a box for each root set, with the boxes of its inner sets inside, and where each column is."""
-from .svg import LETTER, ROW, cut, rectangle, text_at
+from .svg import LETTER, ROW, cut, group, rectangle, text_at
 
 HEAD = 22
 INSET = 14
@@ -8,14 +8,15 @@ LONGEST = 40
 
 
 class Box:
-    """A set as a box; `heights` has, for columns to which several labels lead, how many rows they take."""
+    """A set as a box; `heights` has, for columns to which several labels lead, how many rows they take, and `tests` what conditions ask of columns."""
 
-    def __init__(self, tables, number, heights):
-        self.table, self.number = tables[number], number
+    def __init__(self, tables, number, heights, tests=None):
+        self.table, self.number, self.tests = tables[number], number, tests or {}
         self.columns = [(column, name) for column, name in enumerate(self.table.columns) if not name.startswith("#")]
         self.heights = {column: ROW * max(1, heights.get((number, column), 1)) for column, _ in self.columns}
-        self.inner = [Box(tables, inner, heights) for inner in self.table.inner]
-        self.marks = {column: self.mark(column) for column, _ in self.columns}
+        self.inner = [Box(tables, inner, heights, tests) for inner in self.table.inner]
+        self.marks = {column: self.marks_of(column) for column, _ in self.columns}
+        self.notes = [f"dep ({', '.join(one.left)}) -> ({', '.join(one.right)})" for one in self.table.tree.dependencies]
         self.places = {}
 
     def mark(self, column):
@@ -24,14 +25,19 @@ class Box:
         found = [str(place + 1) for place, key in enumerate(declared) if column in key]
         return ("key" if len(declared) == 1 else "key " + ",".join(found)) if found else ""
 
+    def marks_of(self, column):
+        """What stands beside a column, from the right: the keys it is in, and what conditions ask of it, each with its kind."""
+        marks = [(self.mark(column), "key"), (", ".join(f"only {test}" for test in self.tests.get((self.number, column), ())), "only")]
+        return [one for one in marks if one[0]]
+
     def width(self):
         """As wide as its names and its inner boxes need."""
-        own = max((len(cut(name, LONGEST)) + len(self.marks[column]) + 3) * LETTER for column, name in self.columns)
-        head = (len(cut(self.table.name, LONGEST)) + 4) * LETTER
-        return max([own + 20, head + 20] + [inner.width() + 2 * INSET for inner in self.inner])
+        own = max(len(cut(name, LONGEST)) + 3 + sum(len(text) + 1 for text, _ in self.marks[column]) for column, name in self.columns)
+        lines = [own, len(cut(self.table.name, LONGEST)) + 4] + [len(cut(note, LONGEST)) + 2 for note in self.notes]
+        return max([max(lines) * LETTER + 20] + [inner.width() + 2 * INSET for inner in self.inner])
 
     def height(self):
-        return HEAD + sum(self.heights.values()) + 6 + sum(inner.height() + 8 for inner in self.inner)
+        return HEAD + sum(self.heights.values()) + ROW * len(self.notes) + 6 + sum(inner.height() + 8 for inner in self.inner)
 
     def ports(self):
         """The columns of the box and of those inside it, from the top."""
@@ -44,7 +50,8 @@ class Box:
         for column, _ in self.columns:
             self.places[self.number, column] = y + self.heights[column] / 2
             y += self.heights[column]
-        y += 4
+        self.low = y
+        y += ROW * len(self.notes) + 4
         for inner in self.inner:
             inner.place(x + INSET, y, width - 2 * INSET)
             self.places.update(inner.places)
@@ -58,8 +65,12 @@ class Box:
         for column, name in self.columns:
             middle = self.places[self.number, column]
             yield text_at(self.x + 10, middle, cut(name, LONGEST))
-            if self.marks[column]:
-                yield text_at(self.x + self.wide - 8, middle, self.marks[column], "key", "end")
+            right = self.x + self.wide - 8
+            for text, kind in self.marks[column]:
+                yield text_at(right, middle, text, kind, "end")
+                right -= (len(text) + 1) * LETTER
+        for place, note in enumerate(self.notes):
+            yield group("dep", note, [text_at(self.x + 10, self.low + ROW * (place + .5), cut(note, LONGEST), "soft")])
         for inner in self.inner:
             yield from inner.drawn()
 

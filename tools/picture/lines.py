@@ -94,17 +94,18 @@ class Refs:
             for link in table.every_link()[table.parent is not None:]:
                 own = [places[number, column] for column in link.own]
                 there = [places[link.table, column] for column in link.referred]
+                is_optional = any(link is one for one in table.optional_links)
                 title = (f"ref ({', '.join(table.columns[column] for column in link.own)}) -> {tables[link.table].name} "
-                         f"({', '.join(tables[link.table].columns[column] for column in link.referred)}) of {table.name}{', optional' * (link in table.optional_links)}")
-                self.refs.append((own, there, title))
+                         f"({', '.join(tables[link.table].columns[column] for column in link.referred)}) of {table.name}{', optional' * is_optional}")
+                self.refs.append((own, there, title, is_optional))
         self.lanes = self.in_lanes()
 
     def in_lanes(self):
         """For each ref its lane: the shortest are nearest to the boxes."""
         taken, lanes = [], {}
-        spans = sorted((max(own + there) - min(own + there), place) for place, (own, there, _) in enumerate(self.refs))
+        spans = sorted((max(own + there) - min(own + there), place) for place, (own, there, *_) in enumerate(self.refs))
         for _, place in spans:
-            own, there, _ = self.refs[place]
+            own, there, *_ = self.refs[place]
             low, high = min(own + there), max(own + there)
             lane = next((one for one, used in enumerate(taken) if all(high < begin or end < low for begin, end in used)), len(taken))
             if lane == len(taken):
@@ -118,10 +119,10 @@ class Refs:
         return LANE * (max(self.lanes.values(), default=-1) + 1) + 16
 
     def drawn(self, x, direction):
-        """Each ref in SVG; `x` is the rim of the boxes, and lanes go from there to the left (-1) or to the right (1)."""
-        for place, (own, there, title) in enumerate(self.refs):
+        """Each ref in SVG, an optional one with dashes; `x` is the rim of the boxes, and lanes go from there to the left (-1) or to the right (1)."""
+        for place, (own, there, title, is_optional) in enumerate(self.refs):
             lane = x + direction * (12 + LANE * self.lanes[place])
             way = "".join(f"M{x:.0f} {one:.1f}H{lane:.0f}V{there[0] + 3:.1f}" for one in own)
             way += "".join(f"M{lane:.0f} {one + 3:.1f}H{x + direction * 6:.0f}" for one in there)
             tips = "".join(f"M{x:.0f} {one + 3:.1f}l{direction * 7} -4v8z" for one in there)
-            yield group("ref", title, [path(way, "wide"), path(way), path(tips, "tip")])
+            yield group("ref optional" if is_optional else "ref", title, [path(way, "wide"), path(way, "way"), path(tips, "tip")])

@@ -8,16 +8,16 @@ PALETTE = 8
 NO_XML = re.compile("[^\t\n\r\x20-\ud7ff\ue000-\ufffd\U00010000-\U0010ffff]")
 STYLE = """
 svg { font: 12px ui-monospace, "DejaVu Sans Mono", Menlo, Consolas, monospace; background: var(--page); color-scheme: light dark;
-  --page: #ffffff; --box: #f6f8fa; --head: #dde4ec; --edge: #8a97a6; --text: #1c2630; --soft: #5c6a78; --key: #9a6700; --pill: #ffffff;
+  --page: #ffffff; --box: #f6f8fa; --head: #dde4ec; --edge: #8a97a6; --text: #1c2630; --soft: #5c6a78; --key: #9a6700; --only: #0b6e4f; --pill: #ffffff;
   --c0: #1f6feb; --c1: #c2410c; --c2: #15803d; --c3: #9333ea; --c4: #b91c1c; --c5: #0e7490; --c6: #a16207; --c7: #be185d; }
 @media (prefers-color-scheme: dark) { svg { --page: #14181d; --box: #1d242c; --head: #2d3844; --edge: #6b7986; --text: #e3e9ef; --soft: #9aa7b4; --key: #e3b341;
-  --pill: #14181d; --c0: #6cb0ff; --c1: #ff9a62; --c2: #5fd38d; --c3: #cf9bff; --c4: #ff8a8a; --c5: #5ed0e6; --c6: #e5c04f; --c7: #ff8ac4; } }
-text { fill: var(--text); white-space: pre; } .soft { fill: var(--soft); } .key { fill: var(--key); } .title { font-weight: bold; }
+  --only: #4fd1a5; --pill: #14181d; --c0: #6cb0ff; --c1: #ff9a62; --c2: #5fd38d; --c3: #cf9bff; --c4: #ff8a8a; --c5: #5ed0e6; --c6: #e5c04f; --c7: #ff8ac4; } }
+text { fill: var(--text); white-space: pre; } .soft { fill: var(--soft); } .key { fill: var(--key); } .only { fill: var(--only); } .title { font-weight: bold; }
 .box { fill: var(--box); stroke: var(--edge); } .head { fill: var(--head); } .pill { fill: var(--pill); stroke: currentColor; }
 .line path { fill: none; stroke: currentColor; stroke-width: 1.4; opacity: .8; } .line .wide { stroke-width: 9; opacity: 0; }
 .line:hover path { stroke-width: 3.2; opacity: 1; } .line:hover .wide { stroke-width: 9; opacity: .15; } .line text { fill: currentColor; }
 .ref path { fill: none; stroke: var(--edge); stroke-width: 1.2; } .ref .tip { fill: var(--edge); stroke: none; } .ref:hover path { stroke: var(--text); stroke-width: 2.4; }
-.ref .wide { stroke-width: 8; opacity: 0; } .ref:hover .wide { stroke-width: 8; opacity: .12; }
+.ref .wide { stroke-width: 8; opacity: 0; } .ref:hover .wide { stroke-width: 8; opacity: .12; } .optional .way { stroke-dasharray: 4 3; }
 svg:has(.line:hover) .line:not(:hover) { opacity: .18; }
 """
 

@@ -16,7 +16,10 @@ class Picture:
     def __init__(self, mapping, rules, name):
         self.mapping, self.texts, self.name = mapping, rules, name
         heights = heights_of(mapping.lines)
-        left = [Box(mapping.source, number, {}) for number, table in enumerate(mapping.source) if table.parent is None]
+        tests = {}
+        for condition in mapping.conditions:
+            tests.setdefault(tuple(condition.column), []).append(condition.test)
+        left = [Box(mapping.source, number, {}, tests) for number, table in enumerate(mapping.source) if table.parent is None]
         right = [Box(mapping.target, number, heights) for number, table in enumerate(mapping.target) if table.parent is None]
         edges = edges_of(mapping.lines)
         one, other = ordered([(box.number, box.ports()) for box in left], [(box.number, box.ports()) for box in right], edges)

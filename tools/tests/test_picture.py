@@ -2,6 +2,7 @@
 import itertools
 import random
 import unittest
+import unittest.mock
 import xml.etree.ElementTree as tree
 
 from trial import TIMES, Trial
@@ -9,6 +10,7 @@ from trial import TIMES, Trial
 from picture.ordering import crossings, ordered
 from picture.boxes import Box, stacked
 from picture.lines import Refs
+import grammar
 from random_cases import random_case
 from grammar import Reader
 from names import read_mapping
@@ -24,6 +26,23 @@ line trim(a.x) -> b.y;
 line a.y -> inner.%s;
 rule a(p, q, p), set(q, q) where t = digits(q) -> b(i, "</svg>", t, n), inner(i, n), b(i, p, q, n);
 """ % (*["n" * 70] * 3, "long" * 50, "n" * 70)
+FILTERED = """mapping 2;
+source {
+  set emp { ename, pay, dept, boss; ref (dept) -> dept (dname) optional; ref (boss) -> dept (dname); set mail { mname; } }
+  set dept { dname; }
+}
+target { set staff { name, unit; ref (unit) -> unit (uname); } set unit { uname; } }
+line emp.ename -> staff.name;
+only emp.pay filled;
+only mail.mname filled;
+only emp.pay numeric;
+"""
+DEPENDENT = """mapping 3;
+source { set a { zip, town; } }
+target { set addr { street, zip, town, land; key (street, zip); dep (zip, street) -> (town); dep (town) -> (land); } }
+line a.zip -> addr.zip;
+line a.town -> addr.town;
+"""
 
 
 def drawn(content):
@@ -34,7 +53,12 @@ def drawn(content):
 
 def titles(picture, kind):
     """What is told of the things of a kind."""
-    return [one.find(SPACE + "title").text for one in picture.iter(SPACE + "g") if one.get("class") == kind]
+    return [one.find(SPACE + "title").text for one in picture.iter(SPACE + "g") if kind in one.get("class").split()]
+
+
+def dashed(picture):
+    """What is told of the refs that are drawn with dashes."""
+    return [title for title in titles(picture, "ref") if title in titles(picture, "optional")]
 
 
 class Pictures(Trial):
@@ -49,6 +73,24 @@ class Pictures(Trial):
         self.assertIn('"</svg>"', texts)
         self.assertIn("key 1", texts)
         self.assertFalse(list(picture.iter(SPACE + "script")))
+
+    def test_optional_refs_and_conditions(self):
+        picture = drawn(FILTERED)
+        self.assertEqual(dashed(picture), ["ref (dept) -> dept (dname) of emp, optional"])
+        self.assertEqual(len(titles(picture, "ref")), 3)
+        marks = [(one.text, one.get("y")) for one in picture.iter(SPACE + "text") if one.get("class") == "only"]
+        heights = {one.text: one.get("y") for one in picture.iter(SPACE + "text")}
+        self.assertEqual(marks, [("only filled, only numeric", heights["pay"]), ("only filled", heights["mname"])])
+
+    def test_dependencies(self):
+        with unittest.mock.patch.object(grammar, "VERSIONS", 3):
+            picture = drawn(DEPENDENT)
+        self.assertEqual(titles(picture, "dep"), ["dep (zip, street) -> (town)", "dep (town) -> (land)"])
+        box = next(one for one in picture.iter(SPACE + "rect") if one.get("class") == "box" and float(one.get("x")) > 100)
+        low = float(box.get("y")) + float(box.get("height"))
+        heights = [float(one.find(SPACE + "text").get("y")) for one in picture.iter(SPACE + "g") if one.get("class") == "dep"]
+        columns = [float(one.get("y")) for one in picture.iter(SPACE + "text") if one.text in ("street", "zip", "town", "land")]
+        self.assertTrue(max(columns) < heights[0] < heights[1] < low)
 
     def test_tool(self):
         self.file("mapping.clio", HOSTILE)
