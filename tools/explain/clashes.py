@@ -39,12 +39,16 @@ class Clashes:
     def names(self, clash):
         """The names of a clash's table, of its key's columns and of its column."""
         table = self.mapping.target[clash.table]
-        return table.name, [table.columns[column] for column in table.keys[clash.key]], table.columns[clash.column]
+        return table.name, [table.columns[column] for column in self.left(clash)], table.columns[clash.column]
+
+    def left(self, step):
+        """The columns of the key, or the left ones of the dependency, of a clash or a step."""
+        return self.chase.determinations[step.table][step.key][0]
 
     def lines(self, message):
         """All clashes in words."""
         ordered = self.ordered(message)
-        yield f"{amount(len(ordered), 'clash', 'clashes')} in all: rows that agree on a key and have different texts in a column"
+        yield f"{amount(len(ordered), 'clash', 'clashes')} in all: rows that agree on a key{self.or_dependency()} and have different texts in a column"
         for number, clash in enumerate(ordered[:IN_ALL]):
             table, key, column = self.names(clash)
             agreed = ", ".join(f"{name} = {self.shown_value(value)}" for name, value in zip(key, clash.agreed))
@@ -57,6 +61,10 @@ class Clashes:
                 yield from self.of_nulls(clash)
         if len(ordered) > IN_ALL:
             yield f"and {len(ordered) - IN_ALL:,} more"
+
+    def or_dependency(self):
+        """What else rows may agree on."""
+        return ", or on the left of a dependency," if any(table.tree.dependencies for table in self.mapping.target) else ""
 
     def shown_value(self, value):
         return "?%d.%d.%d" % value if isinstance(value, tuple) else shown(value)
@@ -83,10 +91,9 @@ class Clashes:
 
     def of_nulls(self, clash):
         """How the nulls in the key of a clash's rows became what they are."""
-        table = self.mapping.target[clash.table]
         told = set()
         for row in [rows[0] for rows in clash.texts.values()][:4]:
-            for column in (*table.keys[clash.key], clash.column):
+            for column in (*self.left(clash), clash.column):
                 yield from self.of_value(self.canonical.rows[clash.table][row][column], told)
 
     def of_value(self, value, told):
@@ -95,13 +102,13 @@ class Clashes:
             told.add(value)
             step = self.chase.steps[value]
             table = self.mapping.target[step.table]
-            key = ", ".join(table.columns[column] for column in table.keys[step.key])
+            key = ", ".join(table.columns[column] for column in self.left(step))
             yield f"   {self.shown_value(value)} is {self.shown_value(step.value)}, since two rows of {table.name} agree on ({key}):"
             for row in step.rows:
                 for place, line in enumerate(self.sources(self.canonical.origins[step.table][row][0])):
                     yield f"      {'from' if not place else ' and'} {line}"
             for row in step.rows:
-                for column in table.keys[step.key]:
+                for column in self.left(step):
                     yield from self.of_value(self.canonical.rows[step.table][row][column], told)
             value = step.value
 

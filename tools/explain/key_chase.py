@@ -1,4 +1,4 @@
-"""The key chase: what keys make equal, and all that they can't make equal.
+"""The key chase: what keys and dependencies make equal, and all that they can't make equal.
 
 A constant is a text, a null is a tuple of rule, variable and place. Two texts are never made one, so the chase goes on after a clash.
 """
@@ -16,7 +16,7 @@ class Origin(NamedTuple):
 
 
 class KeyStep(NamedTuple):
-    """A null was replaced by a value, since two rows of a table agree on a key."""
+    """A null was replaced by a value, since two rows of a table agree on a key, or on the left of a dependency."""
     value: object
     table: int
     key: int
@@ -24,7 +24,7 @@ class KeyStep(NamedTuple):
 
 
 class Clash(NamedTuple):
-    """Rows of a table that agree on a key and have different texts in a column: for each text the numbers of its rows."""
+    """Rows of a table that agree on a key, or on the left of a dependency, and have different texts in a column: for each text the numbers of its rows."""
     table: int
     key: int
     agreed: tuple
@@ -60,10 +60,14 @@ def cell_value(cell, values, rule, place):
 
 
 class KeyChase:
-    """Makes rows equal that agree on a key, until nothing changes."""
+    """Makes rows that agree on a key equal, and those that agree on the left of a dependency equal on its right, until nothing changes.
+
+    A table's keys come first, then its dependencies, and have their numbers in this order.
+    """
 
     def __init__(self, rows, tables):
-        self.rows, self.tables = rows, tables
+        self.rows = rows
+        self.determinations = [table.determinations() for table in tables]
         self.replaced, self.steps, self.met = {}, {}, {}
         self.holders, self.indexes = {}, {}
         self.work = deque((table, row) for table, listed in enumerate(rows) for row in range(len(listed)))
@@ -85,15 +89,15 @@ class KeyChase:
 
     def agreed(self, table, key, row):
         """The values of a row in the columns of a key, as they are now."""
-        return tuple([self.value(self.rows[table][row][column]) for column in self.tables[table].keys[key]])
+        return tuple([self.value(self.rows[table][row][column]) for column in self.determinations[table][key][0]])
 
     def look(self, table, row):
         """Compares a row with the first row that agrees with it on a key."""
-        for key in range(len(self.tables[table].keys)):
+        for key, (_, right) in enumerate(self.determinations[table]):
             index = self.indexes.setdefault((table, key), {})
             other = index.setdefault(self.agreed(table, key, row), row)
             if other != row:
-                for column in range(len(self.rows[table][row])):
+                for column in right:
                     self.make_equal(table, key, (other, row), column)
 
     def make_equal(self, table, key, pair, column):
@@ -127,7 +131,7 @@ class KeyChase:
 
     def of_group(self, table, key, agreed, rows):
         """The clashes among rows that agree on a key."""
-        for column in range(len(self.tables[table].columns)):
+        for column in self.determinations[table][key][1]:
             texts = {}
             for row in rows:
                 value = self.value(self.rows[table][row][column])

@@ -200,6 +200,8 @@ def first_of(place, trees, content):
     lists = [[tree.name for tree in trees]]
     for tree in trees:
         lists += [tree.columns + [inner.name for inner in tree.inner], *tree.keys]
+        for dependency in tree.dependencies:
+            lists += [dependency.left, dependency.right]
         for reference in tree.references:
             lists += [reference.own, reference.referred]
     for names in lists:
@@ -212,10 +214,11 @@ def first_of(place, trees, content):
 
 
 def known_there(place, trees):
-    """The columns or sets that a key or ref could name."""
+    """The columns or sets that a key, a dependency or a ref could name."""
     named = {tree.name: tree for tree in trees}
     for tree in trees:
-        for key in tree.keys + [reference.own for reference in tree.references]:
+        sides = [side for dependency in tree.dependencies for side in dependency]
+        for key in tree.keys + sides + [reference.own for reference in tree.references]:
             if any(one is place for one in key):
                 yield from close_ones(f"the columns of {tree.name}", place, tree.columns)
         for reference in tree.references:

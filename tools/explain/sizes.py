@@ -13,6 +13,7 @@ from schema import tables_of
 from .joins import Matches, TooMany
 from .placed import MappingText
 from .program import mapping_of
+from .query_faults import QueryText
 from .said import amount, visible, with_caret
 from .source import Source, file_of
 
@@ -29,24 +30,70 @@ CURES = {
     "candidates": "write rules in the place of lines between these sets, or leave out one of two refs to one set",
     "rules": "split the mapping",
     "frozen cells": "leave out a rule that others make needless, or atoms of its left side: a set many times there makes many matches",
+    "query bytes": "ask in several queries, each in a run of its own", "query atoms": "leave out atoms that others make needless, or ask in several queries",
+    "answer cells": "answer fewer variables, or put constants into the atoms", "given cells": "judge a part: leave out rows of the source, and what is made of them",
 }
 
 
-def explain(message, content):
-    """The lines that explain a message `limit: COUNT N`."""
+def explain(message, content, words=()):
+    """The lines that explain a message `limit: COUNT N`; a comparison has two mappings, either of which may pass it."""
     count, _, number = message.removeprefix("limit: ").rpartition(" ")
     parts = {"text bytes": text_bytes, "tables": tables, "columns": columns, "depth": depth, "lines": lines, "variants": variants, "occurrences": occurrences,
              "ways": ways, "candidates": candidates, "rules": rules, "data bytes": data_bytes, "source cells": source_cells,
-             "target cells": target_cells, "frozen cells": frozen_cells}
+             "target cells": target_cells, "frozen cells": frozen_cells, "query bytes": query_bytes, "query atoms": query_atoms,
+             "answer cells": answer_cells, "given cells": given_cells}
     if count not in CURES:
         return
-    text = None if count == "text bytes" else MappingText(content)
-    yield from parts[count](text, int(number))
+    if count == "text bytes":
+        yield from text_bytes(int(number))
+    elif words[:1] == ["compare"]:
+        for name in "mapping.clio", "other.clio":
+            yield f"in {name}:"
+            yield from parts[count](MappingText(pathlib.Path(name).read_bytes()), int(number))
+    else:
+        yield from parts[count](MappingText(content), int(number))
     yield "what to do: " + CURES[count]
 
 
-def text_bytes(_, number):
-    yield f"mapping.clio has {os.path.getsize('mapping.clio'):,} bytes; {number:,} can be read"
+def text_bytes(number):
+    for name in "mapping.clio", "other.clio":
+        if os.path.isfile(name) and (name == "mapping.clio" or os.path.getsize(name) > number):
+            yield f"{name} has {os.path.getsize(name):,} bytes; {number:,} can be read"
+
+
+def query_bytes(_, number):
+    yield f"query.clio has {os.path.getsize('query.clio'):,} bytes; {number:,} can be read"
+
+
+def query_atoms(_, number):
+    """The part that has too many atoms."""
+    text = QueryText(pathlib.Path("query.clio").read_bytes())
+    for place, part in enumerate(text.parts, 1):
+        if len(part.atoms) > number:
+            yield f"part {place} has {len(part.atoms)} atoms; {number} are allowed:"
+            yield from with_caret(text.content, part.word.start, len(part.word.text))
+            return
+
+
+def answer_cells(_, number):
+    """How wide the rows of the answer are."""
+    parts = QueryText(pathlib.Path("query.clio").read_bytes()).parts
+    if parts:
+        width = len(parts[0].answer)
+        yield f"the answer has rows of {amount(width, 'cell')}, and more than {number // width:,} of them; {number:,} cells are allowed"
+
+
+def given_cells(text, number):
+    """The cells of each file of a given target."""
+    total = 0
+    for table in tables_of(text.target):
+        path = pathlib.Path("given", table.name + ".csv")
+        if path.is_file():
+            count = max(sum(1 for _ in records(path.read_bytes())) - 1, 0)
+            total += count * len(table.columns)
+            yield (f"   {path}: {amount(count, 'record')} of {amount(len(table.columns), 'column')}, {count * len(table.columns):,} cells"
+                   + (" (passes it)" if total > number >= total - count * len(table.columns) else ""))
+    yield f"the files have {total:,} cells in all; {number:,} are allowed"
 
 
 def tables(text, number):

@@ -48,7 +48,11 @@ def permissions(path):
 
 
 def files_of(content, words):
-    """The names of the files in the order in which they are written."""
+    """The names of the files in the order in which they are written; of a comparison none, since its result decides them."""
+    if words[:1] == ["answer"]:
+        return ["answers.csv"]
+    if words[:1] != ["exchange"] or content is None:
+        return []
     tables = tables_of(MappingText(content).target)
     nested = [table.name + ".json" for table in tables if table.parent is None] if "--nested" in words else []
     return ["rules.txt", "script.sql", *(table.name + ".csv" for table in tables), "nulls.csv", "fold.csv", *nested]
@@ -57,7 +61,11 @@ def files_of(content, words):
 def writing(message, content, words):
     """Which file could not be written, and why."""
     written = int(message.removeprefix("write fault: ").split(" ", 1)[0])
-    files = files_of(content, words) if words[:1] == ["exchange"] and content is not None else []
+    files = files_of(content, words)
+    if words[:1] == ["compare"]:
+        yield f"{amount(written, 'file')} of the comparison {'is' if written == 1 else 'are'} written"
+        yield from of_path(os.path.join("out", "forward_source_.csv"))
+        return
     if written >= len(files):
         if files:
             yield f"all {amount(len(files), 'file')} are written; what is printed could not be"

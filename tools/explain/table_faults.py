@@ -32,9 +32,8 @@ def absent(file, table):
         yield f"a set without rows has a file with its header all the same: echo '{','.join(table.tree.columns)}' > {file}"
 
 
-def explain(message, file, content, table):
-    """The lines that explain what is wrong with a table's file."""
-    columns = table.tree.columns
+def explain(message, file, content, columns):
+    """The lines that explain what is wrong with a file that must have these columns."""
     if content.startswith((b"\xff\xfe", b"\xfe\xff")):
         yield f"the file is UTF-16: iconv -f UTF-16 -t UTF-8 {file} > new; mv new {file}"
         return

@@ -179,3 +179,78 @@ LARGE_CASES = [
     Case("a clash of 1,000,000 rows", {"mapping.clio": EMP, "emp.csv": lambda: "name,dept\n" + "".join(f"{n % 999_999},{n}\n" for n in range(1_000_000))}, 3,
          ['1 clash in all', 'name = "0"', "line 2 (record 1)", "line 1000001 (record 1000000)"]),
 ]
+
+
+class Told(NamedTuple):
+    """A message as a command ends with it, with what must be said of it, in this order."""
+    name: str
+    files: dict
+    status: int
+    message: str
+    wanted: list
+    words: tuple
+
+
+PERSON = "mapping 1;\nsource { set emp { name; } }\ntarget { set person { name, num; key (name); } set desk { no; } }\nline emp.name -> person.name;\n"
+ADDRESS = "mapping 3; source { set a { zip; } } target { set addr { zip, town; %s } } line a.zip -> addr.zip;"
+
+
+def query(name, kind, content, place, *wanted):
+    """A query that is refused at a byte."""
+    return Told(name, {"mapping.clio": PERSON, "query.clio": content}, 10, f"query: {kind} at byte {place}", list(wanted), ("answer",))
+
+
+def given(name, content, message, *wanted, **more):
+    """A given target that is refused."""
+    files = {"mapping.clio": PERSON, "given/person.csv": content}
+    return Told(name, {**files, **more}, 5, f"rows: given/{message}", list(wanted), ("judge",))
+
+
+def other(name, message, content, *wanted, first=PERSON):
+    """A second mapping that is refused."""
+    return Told(name, {"mapping.clio": first, **({} if content is None else {"other.clio": content})}, 11, f"other: {message}", list(wanted), ("compare",))
+
+
+TOLD = [
+    Told("no query", {"mapping.clio": PERSON}, 10, "query: query.clio is absent", ["clio answer reads query.clio", "answer(v0, v1) from person(v0, v1);"], ("answer",)),
+    query("an unknown set", "unknown name", "query 1;\nanswer(n)\n from persons(n, t);", 25, "line 3, column 7:", "     from persons(n, t);\n" + " " * 10 + "^^^^^^^",
+          "the sets of the target: person, desk", "perhaps person"),
+    query("a set of the source", "unknown name", "query 1; answer(n) from emp(n);", 24, "emp is a set of the source, and a query asks the target"),
+    query("an atom that is too short", "wrong number of cells", "query 1; answer(n) from person(n);", 24, "1 cell for 2 columns: person(name, num)"),
+    query("a part of another width", "wrong number of cells", 'query 1; answer(n) from desk(n); answer(n, "x") from desk(n);', 33, "^^^^^^",
+          "part 2 answers 2 cells, and the first part 1 cell"),
+    query("a variable of nothing", "unsafe variable", "query 1; answer(z) from person(n, t);", 16, "column 17:", "those of part 1: n, t"),
+    query("a cut query", "text ended", "query 1; answer(n", 17, "here can be `,` or `)`", "1 bracket not closed", "column 16:"),
+    query("a word in the place of another", "unexpected token", "query 1; answer(n) of desk(n);", 19, "column 20:", "^^", "here can be `from`"),
+    query("a bad character", "bad character", "query 1; answer('n') from desk(n);", 16, 'texts are in ", not in'),
+    Told("a long query", {"mapping.clio": PERSON, "query.clio": " " * 70000}, 6, "limit: query bytes 65536", ["70,000 bytes; 65,536 can be read", "what to do: "], ("answer",)),
+    Told("many atoms", {"mapping.clio": PERSON, "query.clio": f"query 1; answer(n) from desk(n); answer(n) from {', '.join(['desk(n)'] * 65)};"}, 6,
+         "limit: query atoms 64", ["part 2 has 65 atoms; 64 are allowed", "column 34:", "what to do: "], ("answer",)),
+    Told("a long answer", {"mapping.clio": PERSON, "query.clio": "query 1; answer(n, t) from person(n, t);"}, 6, "limit: answer cells 4000000",
+         ["rows of 2 cells, and more than 2,000,000"], ("answer",)),
+    given("no value", 'name,num\nann,1\n"bob",?0\n', "person.csv: record 2 is not a value", "record 2 of given/person.csv begins on line 3", 'num = "?0"',
+          "num is no value: a null has three numbers", '"??0" is the text "?0"'),
+    given("a null with a zero in front", "name,num\n?0.0.01,?0.0.1\n", "person.csv: record 1 is not a value", "name is no value: ", "no zero in front"),
+    given("a null with a great number", "name,num\n?0.0.4294967295,?0.0.4294967296\n", "person.csv: record 1 is not a value", "num is no value: ", "at most 4,294,967,295"),
+    given("a given header", "name\n", "person.csv: header at column 1", "expected: name,num", "found:    name", 'expected "num", found no column'),
+    given("a given record of another width", "name,num\nann\n", "person.csv: width of record 1", "begins on line 2 and has 1 field for 2 columns", "num: no field"),
+    given("a given file that isn't there", "name,num\n", "desk.csv is absent", "a file for each set of the target", "echo 'no' > given/desk.csv"),
+    Told("no given target", {"mapping.clio": PERSON, "out/person.csv": ""}, 5, "rows: given/person.csv is absent", ["there is no folder given/", "cp -r out given"], ("judge",)),
+    Told("given cells", {"mapping.clio": PERSON, "given/person.csv": "name,num\n" + "a,\n" * 4, "given/desk.csv": "no\n1\n"}, 6, "limit: given cells 7",
+         ["given/person.csv: 4 records of 2 columns, 8 cells (passes it)", "9 cells in all; 7 are allowed", "what to do: "], ("judge",)),
+    other("no other mapping", "other.clio is absent", None, "clio compare reads mapping.clio and other.clio"),
+    other("an unknown column of the other mapping", f"unknown name at byte {PERSON.index('emp.name') + 4}", PERSON.replace("line emp.name", "line emp.nome"), "line 4, column 10:", "^^^^", "perhaps name"),
+    other("a set twice in the other mapping", "source: double name a", "mapping 1;source{set a{x;}set a{y;}}target{}", "column 31:", "it is there already:"),
+    other("other columns", "schemas differ", PERSON.replace("name, num", "name, tel"), "number 1 of the target", "mapping.clio has columns name, num in set person", "^^^^^^",
+          "other.clio has columns name, tel in set person"),
+    other("a key less", "schemas differ", PERSON.replace("key (name);", ""), "mapping.clio has key (name) in set person", "other.clio has no more in set person"),
+    other("a set less", "schemas differ", PERSON.replace("set desk { no; }", ""), "number 2 of the target", "mapping.clio has set desk", "other.clio has no set"),
+    other("a condition", "row conditions", PERSON.replace("mapping 1", "mapping 2") + "only emp.name filled;", "other.clio: only emp.name filled", "line 5, column 6:", "^^^"),
+    other("a conversion", "conversion in rule 0 of other.clio", PERSON.replace("emp.name ->", "trim(emp.name) ->"), "this is rule 0 of other.clio", "trim(x0)"),
+    Told("the usage of later commands", {}, 2, "usage: clio show | clio exchange | clio answer", ["`judge` is no command: show, exchange or answer"], ("judge",)),
+    Told("answer takes no option", {}, 2, "usage: clio show | clio answer", ["`--core` is no word that answer takes; it takes none"], ("answer", "--core")),
+    Told("an unknown column of a dependency", {"mapping.clio": ADDRESS % "dep (zip) -> (city);"}, 4, "mapping: target: unknown name city", ["^^^^", "the columns of addr: zip, town"],
+         ("show",)),
+    Told("a column twice in a dependency", {"mapping.clio": ADDRESS % "dep (zip) -> (town, town);"}, 4, "mapping: target: double name town",
+         ["column 89:", "it is there already:", "column 83:"], ("show",)),
+]

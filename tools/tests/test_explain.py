@@ -10,15 +10,24 @@ import subprocess
 import sys
 import tempfile
 import unittest
+import unittest.mock
 
-from explain_cases import CASES, LARGE_CASES
+from explain_cases import CASES, LARGE_CASES, TOLD
 from trial import PROGRAM, TIMES, TOOLS
 
 from clio_csv import ends_open, records
 from explain.clashes import FORM, Clashes, plain
 from explain.endings import explained
+from explain.joins import Matches
+from explain.key_chase import Canonical, KeyChase
 from explain.program import mapping_of
+from explain.source import Source
+import grammar
+from chase import Chase
+from matches import canonical, places_of
 from random_cases import random_case
+from refusals import Limit as LimitPassed, TooLong
+from values import value_text as wanted_text
 
 WHOLE = 9  # of so many cases one is tried by the tool itself, the others by the part that explains
 RANDOM = {"rules": 12, "lines": 8, "mixed": 10, "keyed": 10}
@@ -71,6 +80,43 @@ class Explain(unittest.TestCase):
             finally:
                 os.chdir(before)
 
+    def try_said(self, text, wanted):
+        """The wanted words are said in this order, and nothing that a terminal would take as a command."""
+        place = 0
+        for one in wanted:
+            place = text.find(one, place)
+            self.assertGreaterEqual(place, 0, f"`{one}` is not said in its place:\n{text[:3000]}")
+        self.assertTrue(all(one.isprintable() or one == "\n" for one in text), text[:3000])
+
+    def test_messages(self):
+        """Messages of commands and of a version that a program need not know yet."""
+        with unittest.mock.patch.object(grammar, "VERSIONS", 3):
+            for case in TOLD:
+                with self.subTest(case.name), self.there(case.files):
+                    self.try_said("".join(line + "\n" for line in explained(case.status, case.message, list(case.words))), case.wanted)
+
+    def test_dependencies(self):
+        """The target of random mappings with dependencies is that of another chase, and so are clashes."""
+        counts = {True: 0, False: 0}
+        for number in range(60 * TIMES):
+            case = random_case(random.Random(f"explain dependent {number}"), "dependent")
+            try:
+                rules, _ = case.mapping.rule_list()
+            except (LimitPassed, TooLong):
+                continue
+            with self.subTest(number), self.there(case.files):
+                source = Source(case.mapping)
+                rows = Canonical(rules, [Matches(rule, source) for rule in rules], case.mapping.target).rows
+                chase = KeyChase(rows, case.mapping.target)
+                other = Chase(canonical(places_of(rules, case.instance)), case.mapping.target)
+                clashes = chase.clashes()
+                self.assertEqual(bool(clashes), other.clash)
+                counts[other.clash] += 1
+                if not clashes:
+                    made = {(table, tuple(value_text(chase.value(value)) for value in row)) for table, listed in enumerate(rows) for row in listed}
+                    self.assertEqual(made, {(fact.table, tuple(map(wanted_text, fact.row))) for fact in other.instance()})
+        self.assertGreaterEqual(min(counts.values()), 3, counts)
+
     def try_case(self, case, is_whole):
         """The wanted words in this order; if asked for, by the tool itself."""
         with self.subTest(case.name), self.there(case.files):
@@ -81,11 +127,7 @@ class Explain(unittest.TestCase):
             else:
                 message = own.stderr.decode("utf-8", "surrogateescape").removesuffix("\n")
                 text = "".join(line + "\n" for line in explained(own.returncode, message, list(case.words)))
-            place = 0
-            for wanted in case.wanted:
-                place = text.find(wanted, place)
-                self.assertGreaterEqual(place, 0, f"`{wanted}` is not said in its place:\n{text[:3000]}")
-            self.assertTrue(all(one.isprintable() or one == "\n" for one in text), text[:3000])
+            self.try_said(text, case.wanted)
 
     def passed_on(self, case, own):
         """What clio-explain says after clio's message; all else must be as clio has it."""
