@@ -158,7 +158,7 @@ class Figures:
         chase = KeyChase(asked.rows, tables)
         self.target = [TargetFigures(number, table, asked, chase, self.made(number, table, asked)) for number, table in enumerate(tables)]
         self.is_plain = not chase.met and all(one.is_plain for one in self.target)
-        self.by_key = Counter((step.table, step.key) for step in chase.steps.values())
+        self.by_key, self.determinations = Counter((step.table, step.key) for step in chase.steps.values()), chase.determinations
         self.variables = self.fates(chase)
         self.covered = self.said_as_well(chase)
 
@@ -175,7 +175,7 @@ class Figures:
         return made
 
     def fates(self, chase):
-        """For each rule and open variable what became of its nulls: they stay, or became a text or another null, by a key or by core mode alone."""
+        """For each rule and open variable what became of its nulls: they stay, or became a text or another null, by a key or dependency, or by core mode alone."""
         fates = {}
         for rule, found in enumerate(self.matches):
             variables = {cell.content for cell in self.mapping.rules[rule].conclusion_cells() if cell.kind == EXISTENTIAL}

@@ -85,7 +85,7 @@ def target(figures):
     lines = [[one.table.name, one.asked, one.asked - one.different, one.different - one.after_keys, one.after_keys - one.written, one.written]
              for one in figures.target]
     sums = ["all"] + [sum(line[place] for line in lines) for place in range(1, 6)]
-    yield table(["set", "#asked for", "#asked for again", "#merged by keys", "#left out by core mode", "#rows in out"], lines, sums)
+    yield table(["set", "#asked for", "#asked for again", f"#merged by {keys(figures, 'keys', 'and dependencies')}", "#left out by core mode", "#rows in out"], lines, sums)
     yield paragraph("Asked for = asked for again + merged + left out + rows in <code>out</code>.", "soft")
     for one in figures.target:
         if one.written:
@@ -99,6 +99,11 @@ def target(figures):
     if any(one.written for one in figures.target):
         yield paragraph("In each column texts + empty texts + nulls = rows. A null is named by the rule that left it open; those of a key or a ref are "
                         "surrogate keys.", "soft")
+
+
+def keys(figures, word, more):
+    """The word for keys, with more if the target has dependencies."""
+    return f"{word} {more}" if any(one.tree.dependencies for one in figures.mapping.target) else word
 
 
 def by(mask, alone=" alone"):
@@ -118,15 +123,17 @@ def nulls(figures):
     kinds = ["stay", ("key", "text"), ("key", "null"), ("core", "text"), ("core", "null")]
     lines = [[f"rule {rule}, y{variable}", sum(fate.values()), *(fate[kind] for kind in kinds)] for (rule, variable), fate in figures.variables.items()]
     sums = ["all"] + [sum(line[place] for line in lines) for place in range(1, 7)]
-    heads = ["left open by", "#nulls", "#stay", "#a text, by a key", "#another null, by a key", "#a text, by core mode", "#another null, by core mode"]
+    key = keys(figures, "by a key", "or dependency")
+    heads = ["left open by", "#nulls", "#stay", f"#a text, {key}", f"#another null, {key}", "#a text, by core mode", "#another null, by core mode"]
     yield table(heads, lines, sums)
     yield paragraph(f"<code>fold.csv</code> has {amount(len(figures.fold), 'replaced null')}: nulls = those that stay + those in <code>fold.csv</code>.", "soft")
     if figures.by_key:
         rows = []
         for (number, key), count in sorted(figures.by_key.items()):
             one = figures.mapping.target[number]
-            rows.append([one.name, ", ".join(one.columns[column] for column in one.keys[key]), count])
-        yield table(["set", "key", "#nulls that it replaced"], rows, ["all", "", sum(row[2] for row in rows)])
+            left, right = [", ".join(one.columns[column] for column in side) for side in figures.determinations[number][key]]
+            rows.append([one.name, left if key < len(one.keys) else f"dependency ({left}) -> ({right})", count])
+        yield table(["set", keys(figures, "key", "or dependency"), "#nulls that it replaced"], rows, ["all", "", sum(row[2] for row in rows)])
         yield paragraph("Counted in plain mode. If several keys would do, the null counts for one of them.", "soft")
     if not figures.is_plain:
         yield from core(figures)

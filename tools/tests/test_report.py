@@ -1,5 +1,6 @@
 """clio-report: its figures against counts by SQL, on examples and random cases; they add up; the page is whole, whatever the texts are."""
 import contextlib
+import html
 import html.parser
 import os
 import pathlib
@@ -10,12 +11,15 @@ import sqlite3
 import subprocess
 import tempfile
 import unittest
+import unittest.mock
 
 from trial import PROGRAM, TIMES, TOOLS, Trial
 
 import explain.program
+import grammar
 from clio_csv import read_records, read_table
 from random_cases import random_case
+from report import sections
 from report.figures import Figures
 
 EXAMPLES = ["blog", "contacts", "departments", "packages", "people", "routes", "standards", "teams"]
@@ -216,6 +220,23 @@ class Reports(Trial):
         self.assertEqual(self.clio("exchange")[0], 0)
         self.assertIn("/0/b/1", self.printed_with_clio())
         self.assertEqual(list(read_records(self.folder / "out" / "not-used-b.csv")), [["where", "y"], ["/0/b/1", "q"]])
+
+    def test_dependencies(self):
+        """A null that a dependency replaced counts for it. The rules and files are written by hand, so that the program need not know dependencies yet."""
+        self.file("mapping.clio", "mapping 3; source { set a { who, zip; } set b { zip, town; } } target { set addr { who, town, zip; dep (zip) -> (town); } }"
+                                  "line a.who -> addr.who; line a.zip -> addr.zip; line b.zip -> addr.zip; line b.town -> addr.town;")
+        rules = [b"rule a(x0, x1) -> addr(x0, y0, x1);\n", b"rule b(x0, x1) -> addr(y0, x1, x0);\n"]
+        for name, content in [("a.csv", "who,zip\nann,10\n"), ("b.csv", "zip,town\n10,Rome\n"), ("out/rules.txt", b"".join(rules)),
+                              ("out/addr.csv", "who,town,zip\nann,Rome,10\n?1.0.0,Rome,10\n"), ("out/fold.csv", "null,value\n?0.0.0,Rome\n")]:
+            self.file(name, content)
+        with unittest.mock.patch.object(grammar, "VERSIONS", 3), unittest.mock.patch.object(explain.program, "printed_rules", lambda: rules), contextlib.chdir(self.folder):
+            figures = Figures()
+            page = "".join([*sections.target(figures), *sections.nulls(figures)])
+        self.assertEqual(figures.variables, {(0, 0): {("key", "text"): 1}, (1, 0): {"stay": 1}})
+        told = " ".join(re.sub("<[^>]*>", " ", html.unescape(page)).split())
+        self.assertIn("addr dependency (zip) -> (town) 1 all 1", told)
+        self.assertIn("merged by keys and dependencies", told)
+        self.assertIn("addr 2 0 0 0 2", told)
 
     def test_refusals(self):
         self.refused("clio-report", "a", "b", why="usage")
