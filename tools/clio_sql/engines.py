@@ -24,8 +24,11 @@ class Engine:
         self.run(f"DROP TABLE IF EXISTS {table}")
         self.run(f"CREATE TABLE {table} AS {query}")
         if index:
-            self.run(f"CREATE INDEX {table}_by ON {table} ({', '.join(index)})")
+            self.index(table, index)
         self.ready(table)
+
+    def index(self, table, columns):
+        """Makes an index for joins by these columns, if the engine needs one."""
 
     def ready(self, table):
         """Tells the engine that a table has its rows."""
@@ -57,6 +60,9 @@ class Sqlite(Engine):
         except sqlite3.Error as error:
             raise EngineError(f"{error}\n{sql}") from None
 
+    def index(self, table, columns):
+        self.run(f"CREATE INDEX {table}_by ON {table} ({', '.join(columns)})")
+
     def bytes(self, expression):
         return expression
 
@@ -72,7 +78,7 @@ class Sqlite(Engine):
 
 
 class Postgres(Engine):
-    """PostgreSQL, by a `psql` that runs as long as the tool does."""
+    """PostgreSQL, by a `psql` that runs as long as the tool does. It joins by hashing, and its indexes hold no long texts, so it gets none."""
     MARK = "-- clio-sql: done --"
 
     def __init__(self, connection):

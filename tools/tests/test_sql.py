@@ -1,4 +1,5 @@
 """clio-sql: what it makes in SQLite, against another reading of the rules, keys and dependencies. tools/check has PostgreSQL."""
+import copy
 import os
 import random
 import sqlite3
@@ -15,16 +16,21 @@ from homomorphisms import is_core
 from matches import canonical, facts_of, places_of
 from random_cases import random_case
 from refusals import Limit, TooLong
+from schema import preorder
+from spelling import mapping_tokens
 from values import nulls_of, value_text
 
-RANDOM = {"rules": 2, "lines": 2, "mixed": 2, "keyed": 4}
+RANDOM = {"rules": 2, "lines": 2, "mixed": 2, "keyed": 4, "dependent": 6}
+STAND_IN = """#!/bin/sh
+# Shows the mapping without its dependencies, which change neither rules nor script: for a program that doesn't read them
+cd "%s/plain" && exec "%s" "$@"
+"""
 
 
 class Random(Trial):
     def setUp(self):
         super().setUp()
         (self.folder / "bin").mkdir()
-        os.symlink(PROGRAM, self.folder / "bin" / "clio")
         path = os.environ["PATH"]
         self.addCleanup(os.environ.__setitem__, "PATH", path)
         os.environ["PATH"] = f"{self.folder / 'bin'}:{path}"
@@ -42,10 +48,26 @@ class Random(Trial):
         except (Limit, TooLong):
             return
         self.file("mapping.clio", case.files["mapping.clio"])
+        self.put_program(case)
         self.load(case)
         places = places_of(rules, case.instance)
         self.compare(case, rules, places, canonical(places), [])
         self.compare(case, rules, places, facts_of(CoveredPlaces(Covers(rules), places).uncovered()), ["--core"])
+
+    def put_program(self, case):
+        """Puts the program on the path, or a stand-in if it doesn't read the case's version of the text."""
+        path = self.folder / "bin" / "clio"
+        path.unlink(missing_ok=True)
+        if case.mapping.version < 3 or self.clio("show")[0] == 0:
+            os.symlink(PROGRAM, path)
+            return
+        plain = copy.deepcopy(case.mapping)
+        plain.version = 2
+        for tree in preorder(plain.source_trees + plain.target_trees):
+            tree.dependencies = []
+        self.file("plain/mapping.clio", " ".join(mapping_tokens(plain, random.Random(0))))
+        self.file("bin/clio", STAND_IN % (self.folder, PROGRAM))
+        path.chmod(0o755)
 
     def load(self, case):
         """The source as a database."""
