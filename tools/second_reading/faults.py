@@ -3,6 +3,7 @@
 import os
 import sys
 
+from chosen_questions import questions, questions_at_limits
 from folders import Rows, folder_mapping
 from program import Folder
 from questions import wanted_run
@@ -179,106 +180,6 @@ DEPENDENCIES = [
 
 VERSIONS = ["0", "1", "2", "3", "4", "02", "03", "2 2", "13", "two", "three"]
 
-PAIR = "mapping 1; source { set s { x; } } target { set p { x, y; } set q { z; } } line s.x -> p.x; line s.x -> q.z;"
-QUERIES = [
-    "", "quer", "query", "query 1", "query 2;", "query 01;", "query 1;", "query 1; $", "query 1; -", "query 1; /", "query 1; //",
-    "query 1; answer(n) from p(n, t);",
-    "query 1; answer(n) from p(n, t); // the end",
-    "query 1; answer(n) from p(n, t)",
-    "query 1; answer(n) from p(n, t);;",
-    "query 1; answer(n) from p(n, t),;",
-    "query 1; answer() from p(n, t);",
-    "query 1; answer from p(n, t);",
-    "query 1; answer(n) from ;",
-    "query 1; answer(n.x) from p(n, t);",
-    "query 1; answer(1) from p(n, t);",
-    'query 1; answer("a',
-    'query 1; answer("a\\',
-    'query 1; answer("a\\n") from p(n, t);',
-    'query 1; answer("a\nb") from p(n, t);',
-    'query 1; "answer"(n) from p(n, t);',
-    'query 1; answer(n) "from p(n, t);',
-    'query 1; answer(n) from "p"(n, t);',
-    "query 1; answer(n) from p(n, t) -",
-    "query 1; answer(n) from p(n -> t);",
-    "query 1; answer(n) from p{n, t};",
-    "query 1; answer(n) from p(n, t); line s.x -> p.x;",
-    "query 1; answer(n) from s(n);",
-    "query 1; answer(n) from p(n), r(n);",
-    "query 1; answer(n) from r(n), p(n);",
-    "query 1; answer(z) from p(n, t), r(n);",
-    "query 1; answer(z) from p(n, t); answer(n) from r(n);",
-    "query 1; answer(n) from p(n, t); answer(n, z) from q(n);",
-    "query 1; answer(n) from p(n, t); answer(n, z) from q(n, n);",
-    "query 1; answer(n, z) from p(n, t); answer(n) from q(n);",
-    'query 1; answer("n") from p(x, x); answer(answer) from q(answer);',
-    'query 1; answer("a", "a") from q(n); answer(n) from q(n);',
-    "query1;answer(n)from q(n);",
-    "query 1;answer(n)from q(n);answer(n)from p(n,m),q(m);",
-    "query 1; answer(#id) from q(n);",
-    "query 1; answer(n) from q(n)," + " q(n)," * 62 + " q(n);",
-    "query 1; answer(n) from q(n)," + " q(n)," * 63 + " q(n);",
-    "query 1; answer(n) from q(n)," + " q(n)," * 63 + " q(n); answer(z) from q(n);",
-    "query 1; answer(n) from q(n);" + " " * 65507,
-    "query 1; answer(n) from q(n);" + " " * 65508,
-    "$" * 65537,
-]
-
-GIVEN = [
-    "z\na\n", "z\nb\n", "z\n?0.0.0\n", "z\n?0.0\n", "z\n?\n", "z\n??\n", "z\n???\n", "z\n?a\n", "z\n?0.0.00\n", "z\n?00.0.0\n",
-    "z\n?4294967295.4294967295.4294967295\n", "z\n?4294967295.4294967296.0\n", "z\n?1.2.3.4\n", "z\n?1.2.3.\n", "z\n?.2.3\n",
-    "z\n?-1.2.3\n", "z\n?1.2.3 \n", "z\n ?a\n", "z\n?١.0.0\n", "z\na\n?\nb,c\n", "z\n?\n?\n", "z\na\n\n?\n", "", "x\na\n",
-    'z\n"?0.0.0"\n', 'z\n"?0.0\n.0"\n', "z\n" + "a\n" * 1000000, "z\n" + "a\n" * 1000001, "z\n" + "a\n" * 1000000 + "?\n",
-]
-
-SIDES = "source { set s { x, y; key (x); key (y); ref (x) -> u (z); } set u { z; } } target { set p { x; } }"
-OTHERS = [
-    "", "mapping 1;", "mapping 4; " + SIDES, "mapping 1; source { set s { z; } } target { } line s.z -> p.q;",
-    "mapping 1; %s line s.x -> p.x;" % SIDES,
-    "mapping 3; %s line s.x -> p.x;" % SIDES,
-    "mapping 1; %s line s.z -> p.x;" % SIDES,
-    "mapping 2; %s line s.x -> p.x; only s.y filled;" % SIDES,
-    "mapping 2; %s line s.x -> p.x; only s.y full;" % SIDES,
-    "mapping 1; %s line trim(s.x) -> p.x;" % SIDES,
-    "mapping 1; %s line s.x -> p.x; line s.y -> p.x; rule s(x, y) where z = digits(y) -> p(x);" % SIDES,
-    "mapping 2; %s line trim(s.x) -> p.x; only s.y filled;" % SIDES,
-    "mapping 2; source { set s { x; } } target { set p { x; } } line trim(s.x) -> p.x; only s.x filled;",
-    "mapping 2; %s line s.x -> p.x;" % SIDES.replace("(z);", "(z) optional;"),
-    "mapping 3; %s line s.x -> p.x;" % SIDES.replace("key (x);", "key (x); dep (x) -> (y);"),
-    "mapping 1; %s line s.x -> p.x;" % SIDES.replace("key (x); key (y);", "key (y); key (x);"),
-    "mapping 1; %s line s.x -> p.x;" % SIDES.replace("key (y); ref (x) -> u (z);", "ref (x) -> u (z); key (y);"),
-    "mapping 1; %s line s.x -> p.x;" % SIDES.replace("set u { z; }", ""),
-    "mapping 1; %s" % SIDES.replace("p { x; }", "nulls { x; }"),
-    "mapping 1; %s %s" % (SIDES, "line s.x -> p.x; " * 512),
-    "mapping 1; %s %s" % (SIDES, "line s.x -> p.x; " * 513),
-    "mapping 1; %s" % SIDES + " " * (1048576 - len(SIDES) - 11),
-    "mapping 1; %s" % SIDES + " " * (1048577 - len(SIDES) - 11),
-    'mapping 1; %s rule s(x, y) -> p("v"); rule s(x, y) -> p("vv");' % SIDES,
-    "mapping 1; %s rule s(x, y) -> p(y);" % SIDES,
-]
-
-
-def questions():
-    """The files of each folder with a question, and its word."""
-    for text in QUERIES:
-        yield {"mapping.clio": PAIR, "s.csv": "x\na\n", "query.clio": text}, "answer"
-    yield {"mapping.clio": PAIR, "s.csv": "x\na\n"}, "answer"
-    yield {"mapping.clio": PAIR, "query.clio": QUERIES[0]}, "answer"
-    yield {"mapping.clio": PAIR, "s.csv": "y\n", "query.clio": "query 1; answer(n) from q(n);"}, "answer"
-    one = {"mapping.clio": FLAT + "line a.x -> t.y;", "a.csv": "x\na\n"}
-    for text in GIVEN:
-        yield {**one, "given/t.csv": text.replace("z", "y", 1)}, "judge"
-    yield one, "judge"
-    yield {**one, "given": ""}, "judge"
-    yield {**one, "given/t.csv/x": ""}, "judge"
-    yield {"mapping.clio": one["mapping.clio"], "given/t.csv": "y\n?\n"}, "judge"
-    for text in OTHERS:
-        for first in ("mapping 1; %s line s.x -> p.x;" % SIDES, OTHERS[7], OTHERS[10], OTHERS[-2]):
-            yield {"mapping.clio": first, "other.clio": text}, "compare"
-    yield {"mapping.clio": OTHERS[4]}, "compare"
-    yield {"mapping.clio": OTHERS[4], "other.clio/x": ""}, "compare"
-    yield {"mapping.clio": "mapping", "other.clio": "mapping"}, "compare"
-
 
 def chosen_folders():
     """The files of each folder, and the word with which the program is run in it."""
@@ -326,16 +227,16 @@ def ending(folder, word):
         return None
 
 
-def agrees(program, files, word):
-    """Whether the program ends with the status and the message of this reading."""
+def agrees(program, files, word, wanted=None):
+    """Whether the program ends with the status and the message of this reading, or as it is wanted."""
     folder = Folder(files)
-    wanted = ending(folder, word)
+    wanted = wanted or ending(folder, word)
     run = folder.run(program, [word])
     folder.remove()
     if wanted is None or wanted == (run.status, run.told, run.said, run.files)[:len(wanted)]:
         return True
     shown = {name: text if len(text) < 300 else text[:300] + ".." for name, text in files.items()}
-    print("DIFFERENCE: %s in %s\n  the program: %s\n  this reading: %s" % (word, shown, run, wanted))
+    print("DIFFERENCE: %s in %s\n  the program: %.2000s\n  this reading: %.2000s" % (word, shown, run, wanted))
     return False
 
 
@@ -344,7 +245,8 @@ def main(words):
     if len(words) != 1:
         print("usage: faults.py PROGRAM", file=sys.stderr)
         return 2
-    results = [agrees(os.path.abspath(words[0]), files, word) for files, word in chosen_folders()]
+    program = os.path.abspath(words[0])
+    results = [agrees(program, *folder) for folder in (*chosen_folders(), *questions_at_limits())]
     print("folders %d, differences %d" % (len(results), results.count(False)))
     return 1 if False in results else 0
 

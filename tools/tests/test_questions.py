@@ -1,4 +1,4 @@
-"""The second reading of `answer`, `judge` and `compare`: worked texts, and the definitions tried out on small cases. The program isn't run."""
+"""The second reading of `answer`, `judge` and `compare`, without the program: worked texts, and the definitions on small cases."""
 import itertools
 import random
 import sys
@@ -304,8 +304,8 @@ class Definitions(unittest.TestCase):
         for number in range(60 * TIMES):
             case = Small(random.Random("implies %d" % number))
             first = case.rules
-            second = [case.rule() if case.chance.random() < .2 else closed(changed_rule(case.chance, rule, case.mapping.source), case.tables)
-                      for rule in first + first[:1]]
+            changed = [changed_rule(case.chance, rule, case.mapping.source) for rule in first + first[:1]]
+            second = [case.rule() if case.chance.random() < .2 else closed(rule, case.tables) for rule in changed]
             if max(len(set(rule.conclusion_cells())) for rule in first + second) > 6:
                 continue
             result = refutation(first, second)
