@@ -31,13 +31,13 @@ def compare_one(program, kind, seed, number, tally):
     tally["cases"] = tally.get("cases", 0) + 1
     try:
         case, check = case_of(kind, chance)
-    except TooLong:
+    except (TooLong, RecursionError):
         tally["given up"] = tally.get("given up", 0) + 1
         return True
     folder = Folder(case.files)
     try:
         check(case, folder, program, chance, tally).check()
-    except TooLong:
+    except (TooLong, RecursionError):
         tally["given up"] = tally.get("given up", 0) + 1
     except subprocess.TimeoutExpired as late:
         tally["late"] = tally.get("late", 0) + 1

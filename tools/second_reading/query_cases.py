@@ -33,7 +33,7 @@ class QueryMaker:
         """A part with this number of answer cells."""
         self.words = iter(self.random.sample(WORDS, len(WORDS)) + ["a%d" % number for number in range(300)])
         named = {}
-        atoms = self.found_atoms(named) if self.facts and self.random.random() < .8 else self.any_atoms()
+        atoms = self.found_atoms(named) if self.facts and self.random.random() < .88 else self.any_atoms()
         words = sorted({cell for _, cells in atoms for cell in cells if not cell.startswith('"')})
         known = [word for value, word in named.items() if isinstance(value, Constant)]
         return Part([self.answer_cell(known, words) for _ in range(width)], atoms)
@@ -59,9 +59,9 @@ class QueryMaker:
         chance = self.random.random()
         if isinstance(value, Constant) and chance < .25 and value.text in self.texts:
             return quoted(value.text)
-        if chance < .27:
+        if chance > .97:
             return self.text()
-        if chance < .33:
+        if chance > .9:
             return next(self.words)
         if value not in named:
             named[value] = next(self.words)

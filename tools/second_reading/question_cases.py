@@ -10,6 +10,8 @@ from random_cases import random_case
 from refusals import Limit
 from values import ascending
 
+ROWS = 20  # source rows, so that a question takes little time
+
 
 @dataclass
 class Question:
@@ -18,6 +20,14 @@ class Question:
     files: dict
     manner: list
     case: object
+
+
+def small_case(random):
+    """A case with few source rows."""
+    while True:
+        case = random_case(random, random.choice(["rules", "lines", "mixed", "optional", "dependent"]))
+        if sum(map(len, case.instance.values())) <= ROWS:
+            return case
 
 
 def target_of(case):
@@ -32,14 +42,18 @@ def target_of(case):
 
 def answer_case(random):
     """A folder with a query."""
-    case = random_case(random, random.choice(["rules", "lines", "mixed", "optional", "dependent"]))
-    query = QueryMaker(random, case.mapping.target, ascending(target_of(case)[0])).query()
+    for _ in range(3):
+        case = small_case(random)
+        facts = ascending(target_of(case)[0])
+        if facts:
+            break
+    query = QueryMaker(random, case.mapping.target, facts).query()
     return Question("answer", {**case.files, "query.clio": query}, [], case)
 
 
 def judge_case(random):
     """A folder with a given target."""
-    case = random_case(random, random.choice(["rules", "lines", "mixed", "optional", "dependent"]))
+    case = small_case(random)
     facts, is_clash = target_of(case)
     maker = GivenMaker(random, case.mapping.target, facts)
     maker.make()
