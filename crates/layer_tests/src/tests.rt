@@ -99,7 +99,7 @@ fn tokens_and_their_faults_have_places(rt: HostRuntime) -> Result<(), Fail> {
 
 #[test]
 fn texts_say_lines_and_rules(rt: HostRuntime) -> Result<(), Fail> {
-    assert_eq!(rt; passing(rt.alloc(), Kind::Text, mapping_texts::TEXTS)?, 6);
+    assert_eq!(rt; passing(rt.alloc(), Kind::Text, mapping_texts::TEXTS)?, 9);
     Ok(())
 }
 
@@ -107,7 +107,7 @@ fn texts_say_lines_and_rules(rt: HostRuntime) -> Result<(), Fail> {
 fn sets_are_printed_so_and_read_again(rt: HostRuntime) -> Result<(), Fail> {
     assert_eq!(rt;
         passing(rt.alloc(), Kind::Printed, mapping_texts::PRINTED)?,
-        6
+        8
     );
     Ok(())
 }

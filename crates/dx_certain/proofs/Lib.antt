@@ -1,0 +1,4 @@
+mod Answers
+mod Numbers
+mod Suits
+mod Union

@@ -1,0 +1,4 @@
+pub mod Shadowing
+pub mod Finding
+pub mod Breaking
+pub mod Placing

@@ -1,0 +1,10 @@
+pub mod Numbered
+pub mod Holding
+pub mod Deciding
+pub mod Judgements
+pub mod Members
+pub mod Moves
+pub mod Said
+pub mod Shown
+pub mod Orders
+pub mod Asked

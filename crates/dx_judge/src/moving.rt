@@ -1,0 +1,89 @@
+// Whether facts move into an instance.
+ghost use Rattle.std.specs.Prelude.{◌↔◌, IfOk, IsTrue};
+ghost use Rattle.dx_ports.specs.Members.{◌⊆◌, Each};
+ghost use Rattle.dx_instance.specs.Stored.{facts};
+ghost use Rattle.dx_judge.specs.Asking.{FitsIn};
+ghost use Rattle.dx_judge.specs.Open.{CanMove, IsGround};
+ghost use Rattle.dx_judge.specs.Turning.{IsTurnedOne};
+
+use crate::asking::{atoms_of, can_stand};
+use crate::turning::Turned;
+use dx_blocks::nulls_of;
+use dx_instance::Instance;
+use dx_model::{Fact, Value};
+use std::alloc::{AllocError, Global};
+
+/// Whether no null stands in the row.
+pub(crate) fn is_ground(row: &[Value]) -> bool
+    ensures { IsTrue result ↔ IsGround row.now }
+{
+    for value in row {
+        if let Value::Null(_) = value {
+            return false;
+        }
+    }
+    true
+}
+
+// Whether no null stands in any of the facts.
+fn are_ground(from: &[Fact]) -> bool
+    ensures { IsTrue result ↔ Each from.now (λ f. IsGround f.row) }
+{
+    for fact in from {
+        if !is_ground(fact.row.items()) {
+            return false;
+        }
+    }
+    true
+}
+
+// Whether each of the facts is in the instance.
+fn are_there(from: &[Fact], into: &Instance) -> bool
+    requires { Each from.now (FitsIn into.now) }
+    ensures { IsTrue result ↔ (from.now ⊆ facts into.now) }
+{
+    for fact in from {
+        if !into.contains(fact.table, &fact.row) {
+            return false;
+        }
+    }
+    true
+}
+
+// Whether something moves these facts into the instance, by the solver.
+fn is_solved(alloc: Global, from: &[Fact], into: &Turned<'_>) -> Result<bool, AllocError>
+    requires fit { Each from.now (FitsIn into.now.plain.now) }
+    requires turned { IsTurnedOne into.now }
+    ensures { IfOk result (λ can. IsTrue can ↔ CanMove from.now (facts into.now.plain.now)) }
+{
+    let nulls = nulls_of(alloc, from)?;
+    if u32::try_from(nulls.len()).is_err() {
+        return Err(AllocError);
+    }
+    let _wide = into.plain.tables();
+    let numbers = into.instance.numbers();
+    match atoms_of(alloc, from, &into.orders, &nulls, &numbers)? {
+        None => Ok(false),
+        Some(atoms) => can_stand(alloc, &numbers, &atoms, nulls.len()),
+    }
+}
+
+/// Whether something moves these facts into the instance: without nulls they are looked up, and else the solver is asked.
+///
+/// # Errors
+///
+/// `AllocError` if there is no memory, or there are more nulls than have numbers.
+pub(crate) fn moves_into(
+    alloc: Global,
+    from: &[Fact],
+    into: &Turned<'_>,
+) -> Result<bool, AllocError>
+    requires fit { Each from.now (FitsIn into.now.plain.now) }
+    requires turned { IsTurnedOne into.now }
+    ensures { IfOk result (λ can. IsTrue can ↔ CanMove from.now (facts into.now.plain.now)) }
+{
+    if are_ground(from) {
+        return Ok(are_there(from, into.plain));
+    }
+    is_solved(alloc, from, into)
+}

@@ -1,0 +1,96 @@
+// The first place of rules that does not hold.
+ghost use Rattle.std.specs.Prelude.{◌≡◌, ◌↔◌, ◌<◌, ◌^◌, ◌≤◌, IfOk, IsTrue, length};
+ghost use Rattle.dx_ports.specs.Members.{Each};
+ghost use Rattle.dx_model.specs.Fitting.{AtomsFitWidths};
+ghost use Rattle.dx_model.specs.Rules.{exported as exported_of};
+ghost use Rattle.dx_instance.specs.Stored.{facts, widths};
+ghost use Rattle.dx_tgd.specs.Counting.{rows_in};
+ghost use Rattle.dx_judge.specs.Turning.{IsTurnedOne};
+ghost use Rattle.dx_judge.specs.Open.{AreLong, IsFirstOpen, IsFirstTuple, TupleHolds};
+
+use crate::moving::moves_into;
+use crate::saying::facts_said;
+use crate::turning::Turned;
+use dx_model::{Matches, Places, Rule};
+use dx_ports::Text;
+use dx_tgd::exported;
+use std::alloc::{AllocError, Global};
+
+/// A place of a rule.
+#[derive(Clone, Copy)]
+pub(crate) struct OpenPlace {
+    pub rule: u32,
+    pub place: u32,
+}
+
+// Whether the tuple holds.
+fn tuple_holds(
+    alloc: Global,
+    rule: &Rule,
+    variables: &[u32],
+    tuple: &[Text],
+    given: &Turned<'_>,
+) -> Result<bool, AllocError>
+    requires conclusion { AtomsFitWidths (widths given.now.plain.now) rule.now.conclusion }
+    requires turned { IsTurnedOne given.now }
+    requires variables { variables.now ≡ exported_of rule.now }
+    requires long { length tuple.now ≡ length variables.now }
+    ensures { IfOk result (λ holds. IsTrue holds ↔ TupleHolds rule.now (facts given.now.plain.now) tuple.now) }
+{
+    let said = facts_said(alloc, rule.conclusion.items(), variables, tuple)?;
+    moves_into(alloc, &said, given)
+}
+
+// The first of a rule's tuples that does not hold.
+fn first_tuple(
+    alloc: Global,
+    rule: &Rule,
+    places: &Places,
+    given: &Turned<'_>,
+) -> Result<Option<u32>, AllocError>
+    requires conclusion { AtomsFitWidths (widths given.now.plain.now) rule.now.conclusion }
+    requires turned { IsTurnedOne given.now }
+    requires long { Each places.now.tuples (λ t. length t ≡ length (exported_of rule.now)) }
+    requires few { length places.now.tuples < 2 ^ 32 }
+    ensures { IfOk result (IsFirstTuple rule.now (facts given.now.plain.now) places.now.tuples) }
+{
+    let variables = exported(alloc, rule)?;
+    for place in 0..places.tuples.len() {
+        let tuple = places.tuples.tuple(place);
+        if !tuple_holds(alloc, rule, &variables, tuple, given)? {
+            return Ok(Some(place as u32));
+        }
+    }
+    Ok(None)
+}
+
+/// The first rule with a place that does not hold, and its first such place.
+///
+/// # Errors
+///
+/// `AllocError` if there is no memory, or there are more values than have numbers.
+pub(crate) fn first_open(
+    alloc: Global,
+    rules: &[Rule],
+    matches: &Matches,
+    given: &Turned<'_>,
+) -> Result<Option<OpenPlace>, AllocError>
+    requires conclusions { Each rules.now (λ d. AtomsFitWidths (widths given.now.plain.now) d.conclusion) }
+    requires turned { IsTurnedOne given.now }
+    requires many { length matches.now.rules ≡ length rules.now }
+    requires long { AreLong rules.now (rows_in matches.now) }
+    requires few_rules { length rules.now < 2 ^ 32 }
+    requires few { Each (rows_in matches.now) (λ ts. length ts < 2 ^ 32) }
+    ensures { IfOk result (IsFirstOpen rules.now (rows_in matches.now) (facts given.now.plain.now)) }
+{
+    for i in 0..rules.len() {
+        let places = &matches.rules.items()[i];
+        if let Some(place) = first_tuple(alloc, &rules[i], places, given)? {
+            return Ok(Some(OpenPlace {
+                rule: i as u32,
+                place,
+            }));
+        }
+    }
+    Ok(None)
+}

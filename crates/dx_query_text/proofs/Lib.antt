@@ -1,0 +1,9 @@
+mod Answered
+mod Few
+mod Fitting
+mod Follows
+pub mod Over
+mod Placed
+mod Spelled
+mod Steps
+mod Telling
