@@ -51,8 +51,10 @@ class Random(Trial):
         self.put_program(case)
         self.load(case)
         places = places_of(rules, case.instance)
-        self.compare(case, rules, places, canonical(places), [])
-        self.compare(case, rules, places, facts_of(CoveredPlaces(Covers(rules), places).uncovered()), ["--core"])
+        covered = CoveredPlaces(Covers(rules), places)
+        nulls = nulls_of(canonical(places))
+        self.compare(case, (rules, places), canonical(places), {null: null for null in nulls}, [])
+        self.compare(case, (rules, places), facts_of(covered.uncovered()), {null: covered.fold(null) for null in nulls}, ["--core"])
 
     def put_program(self, case):
         """Puts the program on the path, or a stand-in if it doesn't read the case's version of the text."""
@@ -79,8 +81,8 @@ class Random(Trial):
                 base.executemany(f'INSERT INTO "{table.name}" VALUES ({marks})', case.instance.get(number, ()))
         base.close()
 
-    def compare(self, case, rules, places, facts, words):
-        """The target, its nulls and the fold of the facts."""
+    def compare(self, case, made, facts, covered, words):
+        """The target and its nulls, as the chase makes them of the facts, and the fold: first by covers, then by the chase."""
         chase = Chase(facts, case.mapping.target)
         status, out, said = self.tool("clio-sql", "sqlite", *words, "source.db", "target.db")
         if chase.clash:
@@ -92,9 +94,9 @@ class Random(Trial):
         for number, table in enumerate(case.mapping.target):
             wanted = [tuple(map(value_text, row)) for row in rows_of(target, number)]
             self.assertEqual(sorted(base.execute(f'SELECT * FROM "{table.name}"')), sorted(wanted))
-        fold = moved((null, chase.value(null)) for null in nulls_of(facts))
+        fold = moved((null, chase.value(value)) for null, value in covered.items())
         self.assertEqual(sorted(base.execute("SELECT * FROM fold")), sorted((value_text(null), value_text(value)) for null, value in fold.items()))
-        self.assertEqual(base.execute("SELECT count(*) FROM nulls").fetchone()[0], nulls_text(target, rules, places)[1])
+        self.assertEqual(base.execute("SELECT count(*) FROM nulls").fetchone()[0], nulls_text(target, *made)[1])
         base.close()
         if words and "a core" in said:
             self.assertTrue(is_core(target))
