@@ -1,5 +1,5 @@
 -- Which refusals are alike; the names of a clash; and what is said of endings, with their statuses.
-use Rattle.std.proofs.Common.{◌≡◌, ℕ, List, [], ◌∷◌, codes, get_or, refl, ap, arith}
+use Rattle.std.proofs.Common.{◌≡◌, ℕ, List, [], ◌∷◌, codes, get_or, refl, ap, arith, inl, inr, false, true}
 use Rattle.std.specs.Fmt.{digits}
 use Rattle.dx_ports.specs.declared.file.Count.{Count}
 use Rattle.dx_ports.specs.declared.file.Count.TheVariants as counts
@@ -14,6 +14,10 @@ use Rattle.clio_accept.specs.declared.fault.MapFault.{MapFault}
 use Rattle.clio_accept.specs.declared.fault.MapFault.TheVariants as map_faults
 use Rattle.clio_source.specs.declared.fault.RowsFault.{RowsFault}
 use Rattle.clio_source.specs.declared.fault.RowsFault.TheVariants as rows_faults
+use Rattle.clio_ending.specs.declared.faults.OtherFault.{OtherFault}
+use Rattle.clio_ending.specs.declared.faults.OtherFault.TheVariants as other_faults
+use Rattle.clio_ending.specs.declared.faults.QueryFault.{QueryFault}
+use Rattle.clio_ending.specs.declared.faults.QueryFault.TheVariants as query_faults
 use Rattle.clio_ending.specs.declared.ending.Refusal.{Refusal}
 use Rattle.clio_ending.specs.declared.ending.Refusal.TheVariants as refusals
 use Rattle.clio_ending.specs.declared.ending.Ending.TheVariants as endings
@@ -41,39 +45,53 @@ begins _ = 0
 -- limits with other numbers, or of other counts, are not alike
 numbers_count : ¬ (AreAlike (limit counts.Lines 512) (limit counts.Lines 256))
 unfolding number_in
-numbers_count e = let h : 512 ≡ 256 = ap number_in e in absurd (omega (arith, h))
+numbers_count (inl e) = let h : 512 ≡ 256 = ap number_in e in absurd (omega (arith, h))
+numbers_count (inr h) = h.0
 
 counts_count : ¬ (AreAlike (limit counts.Rules 64) (limit counts.Ways 64))
 unfolding what_in
-counts_count e = let h : counts.Rules ≡ counts.Ways = ap what_in e in absurd (cc h)
+counts_count (inl e) = let h : counts.Rules ≡ counts.Ways = ap what_in e in absurd (cc h)
+counts_count (inr h) = h.0
 
 -- nor are faults of rows in two files, nor two faults of the mapping text
 files_count : ¬ (AreAlike (refusals.Rows (codes "emp.csv") rows_faults.Absent) (refusals.Rows (codes "dept.csv") rows_faults.Absent))
 unfolding begins
-files_count e = let h : 101 ≡ 100 = ap begins e in absurd (omega (arith, h))
+files_count (inl e) = let h : 101 ≡ 100 = ap begins e in absurd (omega (arith, h))
+files_count (inr h) = h.0
 
 names_count : ¬ (AreAlike (refusals.Mapping map_faults.Absent) (refusals.Mapping (map_faults.Reserved (codes "fold"))))
-names_count e = absurd (cc e)
+names_count (inl e) = absurd (cc e)
+names_count (inr h) = h.0
+
+-- an absent query is none of an absent mapping, and an absent second mapping none of the first
+absent_count : ¬ (AreAlike (refusals.Query query_faults.Absent) (refusals.Other other_faults.Absent))
+absent_count (inl e) = absurd (cc e)
+absent_count (inr h) = h.0
 
 module _ (c d : Clash) (table other : List ℕ) (key others : List (List ℕ)) (column another : List ℕ) where
   -- two clashes are alike, and a clash is like nothing else
   clashes_are_alike : AreAlike (refusals.Clash c table key column) (refusals.Clash d other others another)
-  clashes_are_alike = tt
+  clashes_are_alike = inr (tt, tt)
 
   no_usage : ¬ (AreAlike (refusals.Clash c table key column) refusals.Usage)
-  no_usage e = e
+  no_usage (inl e) = absurd (cc e)
+  no_usage (inr h) = h.1
 
   no_mapping : (fault : MapFault) → ¬ (AreAlike (refusals.Clash c table key column) (refusals.Mapping fault))
-  no_mapping fault e = e
+  no_mapping fault (inl e) = absurd (cc e)
+  no_mapping fault (inr h) = h.1
 
   no_rows : (file : List ℕ) (fault : RowsFault) → ¬ (AreAlike (refusals.Clash c table key column) (refusals.Rows file fault))
-  no_rows file fault e = e
+  no_rows file fault (inl e) = absurd (cc e)
+  no_rows file fault (inr h) = h.1
 
   no_limit : (what : Count) (number : ℕ) → ¬ (AreAlike (refusals.Clash c table key column) (limit what number))
-  no_limit what number e = e
+  no_limit what number (inl e) = absurd (cc e)
+  no_limit what number (inr h) = h.1
 
   not_turned : (what : Count) (number : ℕ) → ¬ (AreAlike (limit what number) (refusals.Clash c table key column))
-  not_turned what number e = absurd (cc e)
+  not_turned what number (inl e) = absurd (cc e)
+  not_turned what number (inr h) = h.0
 
 -- ---- a clash in the second table, of its second key and its middle column
 
@@ -135,6 +153,38 @@ a_record = refl
 a_member : message_of (endings.Rows (codes "club.json") (rows_faults.Json (json_kinds.Unknown (codes "/0/town")))) ≡ codes "rows: club.json: unknown member at /0/town"
 a_member = refl
 
+a_field : message_of (endings.Rows (codes "given/person.csv") (rows_faults.Value 1)) ≡ codes "rows: given/person.csv: record 1 is not a value"
+unfolding digits
+a_field = refl
+
+no_query : message_of (endings.Query query_faults.Absent) ≡ codes "query: query.clio is absent"
+no_query = refl
+
+an_unsafe_variable : message_of (endings.Query (query_faults.Text 16 text_kinds.Unsafe)) ≡ codes "query: unsafe variable at byte 16"
+unfolding digits
+an_unsafe_variable = refl
+
+no_other : message_of (endings.Other other_faults.Absent) ≡ codes "other: other.clio is absent"
+no_other = refl
+
+a_name_in_the_other : message_of (endings.Other (other_faults.Mapping (map_faults.Text 88 text_kinds.UnknownName))) ≡ codes "other: unknown name at byte 88"
+unfolding digits
+a_name_in_the_other = refl
+
+other_sets : message_of (endings.Other other_faults.Schemas) ≡ codes "other: schemas differ"
+other_sets = refl
+
+a_condition : message_of (endings.Other other_faults.Conditions) ≡ codes "other: row conditions"
+a_condition = refl
+
+a_conversion : message_of (endings.Other (other_faults.Derived false 0)) ≡ codes "other: conversion in rule 0 of mapping.clio"
+unfolding digits
+a_conversion = refl
+
+a_conversion_in_the_other : message_of (endings.Other (other_faults.Derived true 12)) ≡ codes "other: conversion in rule 12 of other.clio"
+unfolding digits
+a_conversion_in_the_other = refl
+
 a_read_fault : message_of (endings.ReadFault (codes "emp.csv")) ≡ codes "read fault: emp.csv"
 a_read_fault = refl
 
@@ -143,9 +193,10 @@ unfolding digits
 a_write_fault = refl
 
 -- each kind of refusal has a status of its own
-statuses : (c : Clash) (fault : MapFault) (file : List ℕ) (rows : RowsFault)
+statuses : (c : Clash) (fault : MapFault) (file : List ℕ) (rows : RowsFault) (query : QueryFault) (other : OtherFault)
     → (status_of (refusal_ending refusals.Usage) ∷ status_of (refusal_ending (refusals.Clash c [] [] [])) ∷ status_of (refusal_ending (refusals.Mapping fault))
     ∷ status_of (refusal_ending (refusals.Rows file rows)) ∷ status_of (refusal_ending (limit counts.Lines 512)) ∷ status_of (endings.ReadFault file)
-    ∷ status_of (endings.WriteFault 0) ∷ status_of endings.Memory ∷ [])
-    ≡ 2 ∷ 3 ∷ 4 ∷ 5 ∷ 6 ∷ 7 ∷ 8 ∷ 9 ∷ []
-statuses c fault file rows = refl
+    ∷ status_of (endings.WriteFault 0) ∷ status_of endings.Memory ∷ status_of (refusal_ending (refusals.Query query))
+    ∷ status_of (refusal_ending (refusals.Other other)) ∷ [])
+    ≡ 2 ∷ 3 ∷ 4 ∷ 5 ∷ 6 ∷ 7 ∷ 8 ∷ 9 ∷ 10 ∷ 11 ∷ []
+statuses c fault file rows query other = refl

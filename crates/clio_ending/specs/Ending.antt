@@ -1,5 +1,5 @@
 -- Refusals and endings of a run: their exit statuses, the names of a clash, and which refusals are alike.
-use Rattle.std.specs.Prelude.{◌≡◌, ℕ, List, [], map, slice_index_or}
+use Rattle.std.specs.Prelude.{◌≡◌, ◌⊎◌, ℕ, List, [], map, slice_index_or}
 use Rattle.clio_accept.specs.declared.fault.AcceptFault.{AcceptFault}
 use Rattle.clio_accept.specs.declared.fault.AcceptFault.TheVariants as accept_faults
 use Rattle.clio_source.specs.declared.fault.SourceRefusal.{SourceRefusal}
@@ -8,11 +8,15 @@ use Rattle.dx_model.specs.Values.{Text}
 use Rattle.dx_schema.specs.Forest.{Forest}
 use Rattle.dx_schema.specs.Tables.{determinations_of, table_at}
 use Rattle.dx_rule_text.specs.Printed.{table_name}
+use Rattle.dx_tokens.specs.declared.faults.TextFault.{TextFault}
+use Rattle.dx_tokens.specs.declared.faults.TextFault.TheVariants as text_faults
 use Rattle.dx_keys.specs.declared.answers.Clash.{Clash}
 use Rattle.dx_exchange.specs.declared.fault.ExFault.{ExFault}
 use Rattle.dx_exchange.specs.declared.fault.ExFault.TheVariants as exchange_faults
 use Rattle.dx_stages.specs.declared.plan.Ended.{Ended}
 use Rattle.dx_stages.specs.declared.plan.Ended.TheVariants as endeds
+use Rattle.clio_ending.specs.declared.faults.OtherFault.TheVariants as other_faults
+use Rattle.clio_ending.specs.declared.faults.QueryFault.TheVariants as query_faults
 use Rattle.clio_ending.specs.declared.ending.Done.{Done}
 use Rattle.clio_ending.specs.declared.ending.Refusal.{Refusal}
 use Rattle.clio_ending.specs.declared.ending.Refusal.TheVariants as refusals
@@ -24,6 +28,18 @@ abbrev pub mapping_refusal : AcceptFault → Refusal
 mapping_refusal (accept_faults.Mapping fault) = refusals.Mapping fault
 mapping_refusal (accept_faults.Limit limit) = refusals.Limit limit
 mapping_refusal accept_faults.Memory = refusals.Usage
+
+-- a fault of the second mapping's text; want of memory is none
+abbrev pub other_refusal : AcceptFault → Refusal
+other_refusal (accept_faults.Mapping fault) = refusals.Other (other_faults.Mapping fault)
+other_refusal (accept_faults.Limit limit) = refusals.Limit limit
+other_refusal accept_faults.Memory = refusals.Usage
+
+-- a fault of a query's text; it is never too deep, and want of memory is none
+abbrev pub query_refusal : TextFault → Refusal
+query_refusal (text_faults.At place kind) = refusals.Query (query_faults.Text place kind)
+query_refusal (text_faults.TooDeep place) = refusals.Usage
+query_refusal text_faults.Memory = refusals.Usage
 
 -- a refusal of the source
 abbrev pub source_refusal : SourceRefusal → Refusal
@@ -48,17 +64,19 @@ exchange_refusal target (exchange_faults.Clash clash) = named_clash target clash
 exchange_refusal target (exchange_faults.Limit limit) = refusals.Limit limit
 exchange_refusal target exchange_faults.Memory = refusals.Usage
 
+-- it is a clash
+abbrev pub IsClash : Refusal → Type 0
+IsClash (refusals.Clash clash table key column) = Unit {0}
+IsClash refusals.Usage = ⊥
+IsClash (refusals.Mapping fault) = ⊥
+IsClash (refusals.Rows file fault) = ⊥
+IsClash (refusals.Limit limit) = ⊥
+IsClash (refusals.Query fault) = ⊥
+IsClash (refusals.Other fault) = ⊥
+
 -- two refusals are alike: they are one, or they are clashes, of which there may be many
 abbrev pub AreAlike : Refusal → Refusal → Type 0
-AreAlike (refusals.Clash c t k n) (refusals.Clash d u l m) = Unit {0}
-AreAlike (refusals.Clash c t k n) refusals.Usage = ⊥
-AreAlike (refusals.Clash c t k n) (refusals.Mapping fault) = ⊥
-AreAlike (refusals.Clash c t k n) (refusals.Rows file fault) = ⊥
-AreAlike (refusals.Clash c t k n) (refusals.Limit limit) = ⊥
-AreAlike refusals.Usage e = refusals.Usage ≡ e
-AreAlike (refusals.Mapping fault) e = refusals.Mapping fault ≡ e
-AreAlike (refusals.Rows file fault) e = refusals.Rows file fault ≡ e
-AreAlike (refusals.Limit limit) e = refusals.Limit limit ≡ e
+AreAlike d e = (d ≡ e) ⊎ (IsClash d × IsClash e)
 
 -- the ending of a refusal
 abbrev pub refusal_ending : Refusal → Ending
@@ -67,6 +85,8 @@ refusal_ending (refusals.Clash clash table key column) = endings.Clash clash tab
 refusal_ending (refusals.Mapping fault) = endings.Mapping fault
 refusal_ending (refusals.Rows file fault) = endings.Rows file fault
 refusal_ending (refusals.Limit limit) = endings.Limit limit
+refusal_ending (refusals.Query fault) = endings.Query fault
+refusal_ending (refusals.Other fault) = endings.Other fault
 
 -- the ending of a run that ended so
 abbrev pub ending_of : Ended Done Refusal → Ending
@@ -87,3 +107,5 @@ status_of (endings.Limit _) = 6
 status_of (endings.ReadFault _) = 7
 status_of (endings.WriteFault _) = 8
 status_of endings.Memory = 9
+status_of (endings.Query _) = 10
+status_of (endings.Other _) = 11

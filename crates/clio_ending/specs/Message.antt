@@ -1,5 +1,5 @@
 -- The text of an ending.
-use Rattle.std.specs.Prelude.{ℕ, List, [], ◌++◌, codes, slice_index_or}
+use Rattle.std.specs.Prelude.{Bool, false, true, ℕ, List, [], ◌++◌, codes, slice_index_or}
 use Rattle.std.specs.Fmt.{decimal}
 use Rattle.dx_ports.specs.declared.file.Count.{Count}
 use Rattle.dx_ports.specs.declared.file.Count.TheVariants as counts
@@ -17,6 +17,10 @@ use Rattle.dx_tokens.specs.declared.faults.TextKind.{TextKind}
 use Rattle.dx_tokens.specs.declared.faults.TextKind.TheVariants as text_kinds
 use Rattle.dx_schema.specs.declared.fault.SchemaKind.{SchemaKind}
 use Rattle.dx_schema.specs.declared.fault.SchemaKind.TheVariants as schema_kinds
+use Rattle.clio_ending.specs.declared.faults.OtherFault.{OtherFault}
+use Rattle.clio_ending.specs.declared.faults.OtherFault.TheVariants as other_faults
+use Rattle.clio_ending.specs.declared.faults.QueryFault.{QueryFault}
+use Rattle.clio_ending.specs.declared.faults.QueryFault.TheVariants as query_faults
 use Rattle.clio_ending.specs.declared.ending.Ending.{Ending}
 use Rattle.clio_ending.specs.declared.ending.Ending.TheVariants as endings
 use Rattle.clio_accept.specs.declared.fault.MapFault.{MapFault}
@@ -84,11 +88,30 @@ json_kind_text (json_kinds.Shape path) = codes "wrong shape at " ++ path
 json_kind_text (json_kinds.Number path) = codes "number at " ++ path
 json_kind_text (json_kinds.Unknown path) = codes "unknown member at " ++ path
 
--- what is wrong with a source file
+-- what is wrong with a file of rows
 abbrev pub rows_fault_text : Text → RowsFault → Text
 rows_fault_text file rows_faults.Absent = file ++ codes " is absent"
 rows_fault_text file (rows_faults.Csv kind) = file ++ (codes ": " ++ kind_text kind)
 rows_fault_text file (rows_faults.Json kind) = file ++ (codes ": " ++ json_kind_text kind)
+rows_fault_text file (rows_faults.Value n) = file ++ (codes ": record " ++ (decimal n ++ codes " is not a value"))
+
+-- what is wrong with a query
+abbrev pub query_fault_text : QueryFault → Text
+query_fault_text query_faults.Absent = codes "query.clio is absent"
+query_fault_text (query_faults.Text place kind) = text_kind_text kind ++ (codes " at byte " ++ decimal place)
+
+-- which of two mapping texts
+abbrev pub which_text : Bool → Text
+which_text false = codes "mapping.clio"
+which_text true = codes "other.clio"
+
+-- what is wrong with the second of two mappings, or with the two together
+abbrev pub other_fault_text : OtherFault → Text
+other_fault_text other_faults.Absent = codes "other.clio is absent"
+other_fault_text (other_faults.Mapping fault) = map_fault_text fault
+other_fault_text other_faults.Schemas = codes "schemas differ"
+other_fault_text other_faults.Conditions = codes "row conditions"
+other_fault_text (other_faults.Derived second rule) = codes "conversion in rule " ++ (decimal rule ++ (codes " of " ++ which_text second))
 
 -- the text of a constant, and the empty text for a null
 abbrev pub constant_text : Value → Text
@@ -104,10 +127,14 @@ abbrev pub clash_text : Clash → Text → List Text → Text → Text
 clash_text c table key column =
     codes "table " ++ (table ++ (codes ", key (" ++ (separated key ++ (codes "): " ++ (quoted (text_in c.left c.column) ++ (codes " and " ++ (quoted (text_in c.right c.column) ++ (codes " in column " ++ column))))))))
 
+-- the commands, and what they take
+abbrev pub usage_text : Text
+usage_text = codes "usage: clio show [--core] | clio exchange [--core] [--nested] | clio demo N [--core] | clio answer | clio judge | clio compare"
+
 -- the text of an ending, without a line feed
 abbrev pub message_of : Ending → Text
 message_of (endings.Done done) = []
-message_of endings.Usage = codes "usage: clio show [--core] | clio exchange [--core] [--nested] | clio demo N [--core]"
+message_of endings.Usage = usage_text
 message_of (endings.Clash clash table key column) = codes "clash: " ++ clash_text clash table key column
 message_of (endings.Mapping fault) = codes "mapping: " ++ map_fault_text fault
 message_of (endings.Rows file fault) = codes "rows: " ++ rows_fault_text file fault
@@ -115,3 +142,5 @@ message_of (endings.Limit l) = codes "limit: " ++ (count_text l.what ++ (codes "
 message_of (endings.ReadFault file) = codes "read fault: " ++ file
 message_of (endings.WriteFault files) = codes "write fault: " ++ (decimal files ++ codes " files written")
 message_of endings.Memory = codes "out of memory"
+message_of (endings.Query fault) = codes "query: " ++ query_fault_text fault
+message_of (endings.Other fault) = codes "other: " ++ other_fault_text fault

@@ -3,11 +3,23 @@ ghost use Rattle.std.specs.Prelude.{◌≡◌};
 ghost use Rattle.clio_ending.specs.Ending.{ending_of, refusal_ending, status_of};
 ghost use Rattle.dx_stages.specs.declared.plan.Ended.{Ended as EndedOf};
 
+use crate::faults::{OtherFault, QueryFault};
 use clio_accept::MapFault;
 use clio_source::RowsFault;
+use dx_compare::Comparison;
 use dx_exchange::{Clash, Exchange};
+use dx_model::Tuples;
 use dx_ports::{Items, Limit, Text};
 use dx_stages::Ended;
+
+/// The answers of a query.
+#[derive(Drop)]
+pub struct Answers {
+    /// The exchange whose target was asked.
+    pub exchange: Exchange,
+    /// The certain answers, ascending.
+    pub rows: Tuples,
+}
 
 /// What a run has done.
 #[derive(Drop)]
@@ -18,6 +30,10 @@ pub enum Done {
     Shown,
     /// The counts of a demo were said.
     Demo(Exchange),
+    /// The file of a query's answers was put, and the summary was said.
+    Answered(Answers),
+    /// What refutes a direction was put, and the comparison was said.
+    Compared(Comparison),
 }
 
 /// How a run ends.
@@ -50,6 +66,10 @@ pub enum Ending {
     },
     /// Memory ran out.
     Memory,
+    /// What is wrong with the query.
+    Query(QueryFault),
+    /// What is wrong with the second of two mappings, or with the two together.
+    Other(OtherFault),
 }
 
 /// Why a run is refused. Each is an ending by the same name.
@@ -68,6 +88,8 @@ pub enum Refusal {
         fault: RowsFault,
     },
     Limit(Limit),
+    Query(QueryFault),
+    Other(OtherFault),
 }
 
 impl Ending {
@@ -85,6 +107,8 @@ impl Ending {
             Ending::ReadFault { .. } => 7,
             Ending::WriteFault { .. } => 8,
             Ending::Memory => 9,
+            Ending::Query(_) => 10,
+            Ending::Other(_) => 11,
         }
     }
 }
@@ -109,6 +133,8 @@ fn of_refusal(refusal: Refusal) -> Ending
         Refusal::Mapping(fault) => Ending::Mapping(fault),
         Refusal::Rows { file, fault } => Ending::Rows { file, fault },
         Refusal::Limit(limit) => Ending::Limit(limit),
+        Refusal::Query(fault) => Ending::Query(fault),
+        Refusal::Other(fault) => Ending::Other(fault),
     }
 }
 

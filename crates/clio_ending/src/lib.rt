@@ -7,11 +7,14 @@
 
 mod clashes;
 mod ending;
+mod faults;
 mod messages;
 
 pub use clashes::named_clash;
 pub use clio_accept::MapFault;
 pub use clio_source::RowsFault;
+pub use dx_compare::{Answer, Comparison};
 pub use dx_exchange::{Clash, Exchange};
-pub use ending::{Done, Ending, Refusal, as_ending};
+pub use ending::{Answers, Done, Ending, Refusal, as_ending};
+pub use faults::{OtherFault, QueryFault};
 pub use messages::message;

@@ -1,9 +1,11 @@
 // What is printed of an ending.
 ghost use Rattle.std.specs.Prelude.{◌≡◌, IfOk, string_bytes};
-ghost use Rattle.clio_ending.specs.Message.{count_text, json_kind_text, kind_text, map_fault_text, message_of, rows_fault_text, schema_kind_text, text_kind_text};
+ghost use Rattle.clio_ending.specs.Message.{count_text, json_kind_text, kind_text, map_fault_text, message_of, other_fault_text};
+ghost use Rattle.clio_ending.specs.Message.{query_fault_text, rows_fault_text, schema_kind_text, text_kind_text, which_text};
 
 use crate::clashes::clash_text;
 use crate::ending::Ending;
+use crate::faults::{OtherFault, QueryFault};
 use clio_accept::MapFault;
 use clio_source::RowsFault;
 use dx_csv::RowKind;
@@ -14,7 +16,7 @@ use dx_schema_text::TextKind;
 use std::alloc::{AllocError, Global};
 
 const USAGE: &str =
-    "usage: clio show [--core] | clio exchange [--core] [--nested] | clio demo N [--core]";
+    "usage: clio show [--core] | clio exchange [--core] [--nested] | clio demo N [--core] | clio answer | clio judge | clio compare";
 
 // The printed name of a count.
 fn count_text(count: Count) -> &'static str
@@ -129,6 +131,43 @@ fn rows_fault_text(alloc: Global, file: &Text, fault: &RowsFault) -> Result<Stri
             let kind = json_kind_text(alloc, kind)?;
             format!(in alloc; "{file}: {kind}")
         }
+        RowsFault::Value(record) => format!(in alloc; "{file}: record {record} is not a value"),
+    }
+}
+
+// What is wrong with a query.
+fn query_fault_text(alloc: Global, fault: &QueryFault) -> Result<String, AllocError>
+    ensures { IfOk result (λ s. string_bytes s ≡ query_fault_text fault.now) }
+{
+    match fault {
+        QueryFault::Absent => String::from_str(alloc, "query.clio is absent"),
+        QueryFault::Text { place, kind } => {
+            let kind = text_kind_text(*kind);
+            format!(in alloc; "{kind} at byte {place}")
+        }
+    }
+}
+
+// Which of two mapping texts.
+fn which_text(second: bool) -> &'static str
+    ensures { result.now ≡ which_text second }
+{
+    if second { "other.clio" } else { "mapping.clio" }
+}
+
+// What is wrong with the second of two mappings, or with the two together.
+fn other_fault_text(alloc: Global, fault: &OtherFault) -> Result<String, AllocError>
+    ensures { IfOk result (λ s. string_bytes s ≡ other_fault_text fault.now) }
+{
+    match fault {
+        OtherFault::Absent => String::from_str(alloc, "other.clio is absent"),
+        OtherFault::Mapping(fault) => map_fault_text(alloc, fault),
+        OtherFault::Schemas => String::from_str(alloc, "schemas differ"),
+        OtherFault::Conditions => String::from_str(alloc, "row conditions"),
+        OtherFault::Derived { second, rule } => {
+            let text = which_text(*second);
+            format!(in alloc; "conversion in rule {rule} of {text}")
+        }
     }
 }
 
@@ -160,6 +199,14 @@ fn message_string(alloc: Global, ending: &Ending) -> Result<String, AllocError>
         Ending::ReadFault { file } => format!(in alloc; "read fault: {file}"),
         Ending::WriteFault { files } => format!(in alloc; "write fault: {files} files written"),
         Ending::Memory => String::from_str(alloc, "out of memory"),
+        Ending::Query(fault) => {
+            let fault = query_fault_text(alloc, fault)?;
+            format!(in alloc; "query: {fault}")
+        }
+        Ending::Other(fault) => {
+            let fault = other_fault_text(alloc, fault)?;
+            format!(in alloc; "other: {fault}")
+        }
     }
 }
 

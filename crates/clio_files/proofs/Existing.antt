@@ -1,5 +1,5 @@
 -- An exchange that fits its schema has files.
-use Rattle.std.proofs.Common.{ℕ, suc, ◌≤◌, List, [], ◌∷◌, length, map, refl, ap, subst, arith}
+use Rattle.std.proofs.Common.{ℕ, suc, ◌≤◌, List, [], ◌∷◌, ◌++◌, length, map, refl, ap, subst, arith}
 use Rattle.std.specs.Prelude.{if◌then◌else◌}
 use Rattle.std.specs.Cmp.{IsTotalOrder}
 use Rattle.std.proofs.lemmas.Cmp.{lists_total}
@@ -31,11 +31,11 @@ use Rattle.clio_files.specs.Sheets.{AreNulls, Told}
 row_total : IsTotalOrder row_cmp
 row_total = lists_total value_total
 
-table_file : (t : TableOf) (rows : List (List Value)) → HasNoMark t.columns → 1 ≤ length t.columns → Each rows (λ row. 1 ≤ length row)
-    → (f : Told) × IsTableFile t rows f
-table_file t rows mark some wide =
+table_file : (front : List ℕ) (t : TableOf) (rows : List (List Value)) → HasNoMark t.columns → 1 ≤ length t.columns → Each rows (λ row. 1 ≤ length row)
+    → (f : Told) × IsTableFile front t rows f
+table_file front t rows mark some wide =
     let sorted = in_order row_cmp row_total row_exact rows in (
-      record { name = csv_name t.name; bytes = lines_text (table_lines t.columns sorted); count = length rows },
+      record { name = front ++ csv_name t.name; bytes = lines_text (table_lines t.columns sorted); count = length rows },
       record {
         name = refl;
         bytes = record {
@@ -62,13 +62,13 @@ table_file t rows mark some wide =
     each r (here e) = subst (λ (c : List (List ℕ)). 1 ≤ length c) e some
     each r (there m) = one r m
 
-table_files : (n : ℕ) (ts : List TableOf) (T : List TableRows) → Each ts (λ t. HasNoMark t.columns) → Each ts (λ t. 1 ≤ length t.columns)
+pub table_files : (front : List ℕ) (n : ℕ) (ts : List TableOf) (T : List TableRows) → Each ts (λ t. HasNoMark t.columns) → Each ts (λ t. 1 ≤ length t.columns)
     → ((t : ℕ) → Each (rows_of T t) (λ row. 1 ≤ length row))
-    → (fs : List Told) × AreTableFiles n ts T fs
-table_files n [] T marks some wide = ([], tt)
-table_files n (t ∷ ts) T marks some wide =
-    let f = table_file t (rows_of T n) (marks t (here refl)) (some t (here refl)) (wide n) in
-    let fs = table_files (suc n) ts T (λ u m. marks u (there m)) (λ u m. some u (there m)) wide in
+    → (fs : List Told) × AreTableFiles front n ts T fs
+table_files front n [] T marks some wide = ([], tt)
+table_files front n (t ∷ ts) T marks some wide =
+    let f = table_file front t (rows_of T n) (marks t (here refl)) (some t (here refl)) (wide n) in
+    let fs = table_files front (suc n) ts T (λ u m. marks u (there m)) (λ u m. some u (there m)) wide in
     (f.0 ∷ fs.0, (f.1, fs.1))
 
 pub nulls_exist : (T : List Fact) → (ns : List NullId) × AreNulls T ns
@@ -101,7 +101,7 @@ root_files target T (r ∷ rs) =
 pub files_exist : FilesExist
 files_exist source target list mode nested R e fits tables wide =
     let some : Each (tables_of target) (λ t. 1 ≤ length t.columns) = λ t m. (tables.each_table t m).some_column in
-    let fs = table_files 0 (tables_of target) e.target fits.no_marks some (λ t row m. wide _ (fact_from_row e.target t row m)) in
+    let fs = table_files [] 0 (tables_of target) e.target fits.no_marks some (λ t row m. wide _ (fact_from_row e.target t row m)) in
     let ns = nulls_exist (facts e.target) in
     let ds = root_files target e.target (if nested then roots target else []) in
     (_, record { tables = fs.0; tables_are = fs.1; nulls = ns.0; nulls_are = ns.1; documents = ds.0; documents_are = ds.1; is = refl })

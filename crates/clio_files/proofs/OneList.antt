@@ -40,20 +40,20 @@ table_text_is_one columns rows a b p q =
     (one_ascending row_cmp row_total p.sorted q.sorted p.ascend q.ascend (λ x m. q.kept x (p.only x m)) (λ x m. p.kept x (q.only x m)))
     ∙ sym q.is
 
-table_file_is_one : (t : TableOf) (rows : List (List Value)) (f g : Told) → IsTableFile t rows f → IsTableFile t rows g → f ≡ g
-table_file_is_one t rows f g p q =
+table_file_is_one : (front : List ℕ) (t : TableOf) (rows : List (List Value)) (f g : Told) → IsTableFile front t rows f → IsTableFile front t rows g → f ≡ g
+table_file_is_one front t rows f g p q =
     same_told f g (p.name ∙ sym q.name) (table_text_is_one t.columns rows f.bytes g.bytes p.bytes q.bytes) (p.count ∙ sym q.count)
 
-table_files_are_one : (n : ℕ) (ts : List TableOf) (T : List TableRows) (fs gs : List Told) → AreTableFiles n ts T fs
-    → AreTableFiles n ts T gs → fs ≡ gs
-table_files_are_one n [] T [] [] p q = refl
-table_files_are_one n [] T [] (g ∷ gs) p q = absurd q
-table_files_are_one n [] T (f ∷ fs) gs p q = absurd p
-table_files_are_one n (t ∷ ts) T [] gs p q = absurd p
-table_files_are_one n (t ∷ ts) T (f ∷ fs) [] p q = absurd q
-table_files_are_one n (t ∷ ts) T (f ∷ fs) (g ∷ gs) p q =
-    let first = table_file_is_one t (rows_of T n) f g p.0 q.0 in
-    let rest = table_files_are_one (suc n) ts T fs gs p.1 q.1 in
+pub table_files_are_one : (front : List ℕ) (n : ℕ) (ts : List TableOf) (T : List TableRows) (fs gs : List Told) → AreTableFiles front n ts T fs
+    → AreTableFiles front n ts T gs → fs ≡ gs
+table_files_are_one front n [] T [] [] p q = refl
+table_files_are_one front n [] T [] (g ∷ gs) p q = absurd q
+table_files_are_one front n [] T (f ∷ fs) gs p q = absurd p
+table_files_are_one front n (t ∷ ts) T [] gs p q = absurd p
+table_files_are_one front n (t ∷ ts) T (f ∷ fs) [] p q = absurd q
+table_files_are_one front n (t ∷ ts) T (f ∷ fs) (g ∷ gs) p q =
+    let first = table_file_is_one front t (rows_of T n) f g p.0 q.0 in
+    let rest = table_files_are_one front (suc n) ts T fs gs p.1 q.1 in
     (λ i. first i ∷ rest i)
 
 nulls_are_one : (T : List Fact) (ns ms : List NullId) → AreNulls T ns → AreNulls T ms → ns ≡ ms
@@ -85,7 +85,7 @@ listed source target list mode R e tables nulls documents =
 
 pub one_list_of_files : FilesAreOne
 one_list_of_files source target list mode nested R e files others p q =
-    let tables = table_files_are_one 0 (tables_of target) e.target p.tables q.tables p.tables_are q.tables_are in
+    let tables = table_files_are_one [] 0 (tables_of target) e.target p.tables q.tables p.tables_are q.tables_are in
     let nulls = nulls_are_one (facts e.target) p.nulls q.nulls p.nulls_are q.nulls_are in
     let documents = root_files_are_one target e.target (if nested then roots target else []) p.documents q.documents p.documents_are q.documents_are in
     p.is ∙ ap (λ (ts : List Told). listed source target list mode R e ts p.nulls p.documents) tables

@@ -16,17 +16,21 @@ use Rattle.clio_files.specs.Laws.{IsFree, NamesAreApart}
 use Rattle.clio_files.specs.Nested.{AreRootFiles}
 use Rattle.clio_files.specs.Sheets.{Told, file_of, fold_sheet, nulls_sheet}
 
-abbrev Name : Type 0
+abbrev pub Name : Type 0
 Name = List ℕ
 
-abbrev names_of : List Told → List Name
+abbrev pub names_of : List Told → List Name
 names_of files = map (λ (f : Told). f.name) files
 
-abbrev name_in : TableOf → Name
+abbrev pub name_in : TableOf → Name
 name_in t = t.name
 
-abbrev csv_of : TableOf → Name
+abbrev pub csv_of : TableOf → Name
 csv_of t = csv_name t.name
+
+-- with this in front
+abbrev pub fronted : Name → TableOf → Name
+fronted front t = front ++ csv_name t.name
 
 abbrev json_of : Forest → ℕ → Name
 json_of target root = json_name (table_at target root).name
@@ -44,13 +48,14 @@ free_tables target free x m = let r = at_place (tables_of target) x m in subst (
 
 -- ---- the names of the files
 
-table_names : (n : ℕ) (ts : List TableOf) (T : List TableRows) (fs : List Told) → AreTableFiles n ts T fs → names_of fs ≡ map csv_of ts
-table_names n [] T [] p = refl
-table_names n [] T (f ∷ fs) p = absurd p
-table_names n (t ∷ ts) T [] p = absurd p
-table_names n (t ∷ ts) T (f ∷ fs) p =
+pub table_names : (front : Name) (n : ℕ) (ts : List TableOf) (T : List TableRows) (fs : List Told) → AreTableFiles front n ts T fs
+    → names_of fs ≡ map (fronted front) ts
+table_names front n [] T [] p = refl
+table_names front n [] T (f ∷ fs) p = absurd p
+table_names front n (t ∷ ts) T [] p = absurd p
+table_names front n (t ∷ ts) T (f ∷ fs) p =
     let first = p.0.name in
-    let rest = table_names (suc n) ts T fs p.1 in
+    let rest = table_names front (suc n) ts T fs p.1 in
     (λ i. first i ∷ rest i)
 
 root_names : (target : Forest) (T : List TableRows) (rs : List ℕ) (fs : List Told) → AreRootFiles target T rs fs
@@ -80,14 +85,14 @@ last_json target rs n m =
 
 -- ---- distinct names
 
-distinct_append : (xs ys : List Name) → Distinct xs → Distinct ys → ((x : Name) → x ∈ xs → ¬ (x ∈ ys)) → Distinct (xs ++ ys)
+pub distinct_append : (xs ys : List Name) → Distinct xs → Distinct ys → ((x : Name) → x ∈ xs → ¬ (x ∈ ys)) → Distinct (xs ++ ys)
 distinct_append [] ys a b c = b
 distinct_append (x ∷ xs) ys a b c = (
   (λ m. elim (from_append xs m) [ inl k ↦ a.0 k | inr k ↦ c x (here refl) k ]),
   distinct_append xs ys a.1 b (λ y m. c y (there m)),
 )
 
-csv_distinct : (ts : List TableOf) → Distinct (map name_in ts) → Distinct (map csv_of ts)
+pub csv_distinct : (ts : List TableOf) → Distinct (map name_in ts) → Distinct (map csv_of ts)
 csv_distinct [] d = tt
 csv_distinct (t ∷ ts) d = (
   (λ m.
@@ -166,7 +171,7 @@ names_are_apart source target list mode nested R e files tables free p =
     let rs = if nested then roots target else [] in
     let about = file_of (nulls_sheet R e.matches p.nulls) in
     let folded = file_of (fold_sheet (pairs_of e.fold)) in
-    let first = table_names 0 ts e.target p.tables p.tables_are in
+    let first : names_of p.tables ≡ map csv_of ts = table_names [] 0 ts e.target p.tables p.tables_are in
     let documents = root_names target e.target rs p.documents p.documents_are in
     let rest = map-append (λ (f : Told). f.name) p.tables (about ∷ folded ∷ p.documents)
     ∙ ap (λ (ns : List Name). ns ++ codes "nulls.csv" ∷ codes "fold.csv" ∷ names_of p.documents) first

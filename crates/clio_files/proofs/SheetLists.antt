@@ -60,15 +60,15 @@ two_more ps qs rs a b s t f g d h =
 
 -- ---- tables, one by one
 
-pub are_more : (n : ℕ) (ts : List TableOf) (T : List TableRows) (fs : List Told) (t : TableOf) (f : Told) → AreTableFiles n ts T fs
-    → IsTableFile t (rows_of T (n + length ts)) f
-    → AreTableFiles n (ts ++ t ∷ []) T (fs ++ f ∷ [])
-are_more n [] T [] t f h k = let e : n + 0 ≡ n = omega arith in (subst (λ m. IsTableFile t (rows_of T m) f) e k, tt)
-are_more n [] T (g ∷ fs) t f h k = absurd h
-are_more n (u ∷ ts) T [] t f h k = absurd h
-are_more n (u ∷ ts) T (g ∷ fs) t f h k =
+pub are_more : (front : Text) (n : ℕ) (ts : List TableOf) (T : List TableRows) (fs : List Told) (t : TableOf) (f : Told) → AreTableFiles front n ts T fs
+    → IsTableFile front t (rows_of T (n + length ts)) f
+    → AreTableFiles front n (ts ++ t ∷ []) T (fs ++ f ∷ [])
+are_more front n [] T [] t f h k = let e : n + 0 ≡ n = omega arith in (subst (λ m. IsTableFile front t (rows_of T m) f) e k, tt)
+are_more front n [] T (g ∷ fs) t f h k = absurd h
+are_more front n (u ∷ ts) T [] t f h k = absurd h
+are_more front n (u ∷ ts) T (g ∷ fs) t f h k =
     let e : n + length (u ∷ ts) ≡ suc n + length ts = omega arith in
-    (h.0, are_more (suc n) ts T fs t f h.1 (subst (λ m. IsTableFile t (rows_of T m) f) e k))
+    (h.0, are_more front (suc n) ts T fs t f h.1 (subst (λ m. IsTableFile front t (rows_of T m) f) e k))
 
 pub length_take : {X : Type 0} (ts : List X) (i : ℕ) → i < length ts → length (take i ts) ≡ i
 length_take [] i h = absurd (omega (arith, h))

@@ -37,24 +37,24 @@ codes_of source target list R h d m e n =
 
 -- ---- files that are added
 
-pub adds_none : (T : List TableRows) (files : List Told) → AddsTables [] T files files
-adds_none T files = record { tables = []; are = tt; is = sym (append-nil files) }
+pub adds_none : (front : List ℕ) (T : List TableRows) (files : List Told) → AddsTables front [] T files files
+adds_none front T files = record { tables = []; are = tt; is = sym (append-nil files) }
 
 -- the file of one table more
-pub adds_more : (ts : List TableOf) (i : ℕ) (d : TableOf) (T : List TableRows) (old : List Told) (ps qs : List Printed) (p : Printed)
-    → i < length ts → AddsTables (take i ts) T old (map seen ps)
-    → IsTableFile (get_or ts i d) (rows_of T i) (seen p) → qs ≡ ps ++ p ∷ [] → AddsTables (take (i + 1) ts) T old (map seen qs)
-adds_more ts i d T old ps qs p h a k e =
+pub adds_more : (front : List ℕ) (ts : List TableOf) (i : ℕ) (d : TableOf) (T : List TableRows) (old : List Told) (ps qs : List Printed) (p : Printed)
+    → i < length ts → AddsTables front (take i ts) T old (map seen ps)
+    → IsTableFile front (get_or ts i d) (rows_of T i) (seen p) → qs ≡ ps ++ p ∷ [] → AddsTables front (take (i + 1) ts) T old (map seen qs)
+adds_more front ts i d T old ps qs p h a k e =
     let n : 0 + length (take i ts) ≡ i = omega (arith, length_take ts i h) in record {
       tables = a.tables ++ seen p ∷ [];
-      are = rw (take_more ts i d h) (are_more 0 (take i ts) T a.tables (get_or ts i d) (seen p) a.are
-          (subst (λ m. IsTableFile (get_or ts i d) (rows_of T m) (seen p)) (sym n) k));
+      are = rw (take_more ts i d h) (are_more front 0 (take i ts) T a.tables (get_or ts i d) (seen p) a.are
+          (subst (λ m. IsTableFile front (get_or ts i d) (rows_of T m) (seen p)) (sym n) k));
       is = rw (e, map-append seen ps (p ∷ []), a.is) (append_assoc old a.tables (seen p ∷ []));
     }
 
-pub adds_all : (ts : List TableOf) (i : ℕ) (T : List TableRows) (old new : List Told) → length ts ≤ i → AddsTables (take i ts) T old new
-    → AddsTables ts T old new
-adds_all ts i T old new h a = subst (λ us. AddsTables us T old new) (take_all i ts h) a
+pub adds_all : (front : List ℕ) (ts : List TableOf) (i : ℕ) (T : List TableRows) (old new : List Told) → length ts ≤ i → AddsTables front (take i ts) T old new
+    → AddsTables front ts T old new
+adds_all front ts i T old new h a = subst (λ us. AddsTables front us T old new) (take_all i ts h) a
 
 -- ---- all files
 

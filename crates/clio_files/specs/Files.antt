@@ -24,25 +24,25 @@ use Rattle.clio_files.specs.Nested.{AreRootFiles}
 use Rattle.clio_files.specs.Sheets.{AreNulls, HasTexts, Told, file_of, fold_sheet, nulls_sheet}
 use Rattle.clio_files.specs.Texts.{texts_told}
 
--- the file of a table: its text, with as many records as it has rows
-pub record IsTableFile (t : TableOf) (rows : List (List Value)) (f : Told) : Type 0 where
-  pub name : f.name ≡ csv_name t.name
+-- the file of a table under a name with this in front: its text, with as many records as it has rows
+pub record IsTableFile (front : Text) (t : TableOf) (rows : List (List Value)) (f : Told) : Type 0 where
+  pub name : f.name ≡ front ++ csv_name t.name
   pub bytes : IsTableText t.columns rows f.bytes
   pub count : f.count ≡ length rows
 
 -- the files of the tables from number n on
-abbrev pub AreTableFiles : ℕ → List TableOf → List TableRows → List Told → Type 0
-AreTableFiles n [] T [] = Unit {0}
-AreTableFiles n [] T (f ∷ fs) = ⊥
-AreTableFiles n (t ∷ ts) T [] = ⊥
-AreTableFiles n (t ∷ ts) T (f ∷ fs) = IsTableFile t (rows_of T n) f × AreTableFiles (suc n) ts T fs
+abbrev pub AreTableFiles : Text → ℕ → List TableOf → List TableRows → List Told → Type 0
+AreTableFiles front n [] T [] = Unit {0}
+AreTableFiles front n [] T (f ∷ fs) = ⊥
+AreTableFiles front n (t ∷ ts) T [] = ⊥
+AreTableFiles front n (t ∷ ts) T (f ∷ fs) = IsTableFile front t (rows_of T n) f × AreTableFiles front (suc n) ts T fs
 
 -- the files of an exchange: the rules, their script, each target table, what the nulls of the target stand for, the fold, and, if
 -- nested ones are asked for, each root of the target as a document
 pub record AreFiles (source target : Forest) (list : List Conversion) (mode : Mode) (nested : Bool) (R : List Rule) (e : Exchange)
     (files : List Told) : Type 0 where
   pub tables : List Told
-  pub tables_are : AreTableFiles 0 (tables_of target) e.target tables
+  pub tables_are : AreTableFiles [] 0 (tables_of target) e.target tables
   pub nulls : List NullId
   pub nulls_are : AreNulls (facts e.target) nulls
   pub documents : List Told

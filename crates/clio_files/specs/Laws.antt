@@ -8,6 +8,10 @@ use Rattle.dx_schema.specs.Forest.{Forest}
 use Rattle.dx_schema.specs.Tables.{AreTables, table_at, tables_of}
 use Rattle.dx_exchange.specs.declared.mode.Mode.{Mode}
 use Rattle.dx_exchange.specs.declared.result.Exchange.{Exchange}
+use Rattle.dx_compare.specs.declared.comparing.Answer.{Answer}
+use Rattle.dx_compare.specs.declared.comparing.Answer.TheVariants as answers
+use Rattle.dx_compare.specs.declared.comparing.Comparison.{Comparison}
+use Rattle.clio_files.specs.Comparisons.{AreComparedFiles, FitsComparison}
 use Rattle.clio_files.specs.Files.{AreFiles, FitsFiles}
 use Rattle.clio_files.specs.Sheets.{Told}
 
@@ -24,6 +28,8 @@ FilesAreOne =
     (source target : Forest) (list : List Conversion) (mode : Mode) (nested : Bool) (R : List Rule) (e : Exchange) (files others : List Told)
     → AreFiles source target list mode nested R e files → AreFiles source target list mode nested R e others → files ≡ others
 
+-- ---- names
+
 -- the name is none of those of the two files about nulls
 abbrev pub IsFree : List ℕ → Type 0
 IsFree name = (¬ (name ≡ codes "nulls")) × (¬ (name ≡ codes "fold"))
@@ -34,3 +40,28 @@ NamesAreApart =
     (source target : Forest) (list : List Conversion) (mode : Mode) (nested : Bool) (R : List Rule) (e : Exchange) (files : List Told)
     → AreTables (tables_of target) → ((t : ℕ) → t < length (tables_of target) → IsFree (table_at target t).name)
     → AreFiles source target list mode nested R e files → Distinct (map (λ (f : Told). f.name) files)
+
+-- ---- comparisons
+
+-- each row of the two instances that refute a direction has a column
+abbrev pub HaveColumns : Answer → Type 0
+HaveColumns answers.Implies = Unit {0}
+HaveColumns (answers.Refuted rule I K) = Each (facts I) (λ f. 1 ≤ length f.row) × Each (facts K) (λ f. 1 ≤ length f.row)
+
+-- a comparison that fits its schemas has files
+abbrev pub ComparedFilesExist : Type 0
+ComparedFilesExist =
+    (source target : Forest) (c : Comparison) → FitsComparison source target c → AreTables (tables_of source) → AreTables (tables_of target)
+    → HaveColumns c.forward → HaveColumns c.backward → (files : List Told) × AreComparedFiles source target c files
+
+-- a comparison has no two lists of files
+abbrev pub ComparedFilesAreOne : Type 0
+ComparedFilesAreOne =
+    (source target : Forest) (c : Comparison) (files others : List Told)
+    → AreComparedFiles source target c files → AreComparedFiles source target c others → files ≡ others
+
+-- no two files of a comparison have one name
+abbrev pub ComparedNamesAreApart : Type 0
+ComparedNamesAreApart =
+    (source target : Forest) (c : Comparison) (files : List Told) → AreTables (tables_of source) → AreTables (tables_of target)
+    → AreComparedFiles source target c files → Distinct (map (λ (f : Told). f.name) files)

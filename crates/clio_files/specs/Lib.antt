@@ -3,5 +3,7 @@ pub mod Marks
 pub mod Texts
 pub mod Nested
 pub mod Files
+pub mod Answers
+pub mod Comparisons
 pub mod Laws
 pub mod Printing

@@ -19,10 +19,10 @@ pub record HasFields (r : Records) (records : List (List Text)) (fields : List T
 abbrev pub AreRecords : Records → List (List Text) → Type 0
 AreRecords r records = HasFields r records []
 
--- the files of these tables are added
-pub record AddsTables (ts : List TableOf) (T : List TableRows) (old new : List Told) : Type 0 where
+-- the files of these tables are added, under names with this in front
+pub record AddsTables (front : Text) (ts : List TableOf) (T : List TableRows) (old new : List Told) : Type 0 where
   pub tables : List Told
-  pub are : AreTableFiles 0 ts T tables
+  pub are : AreTableFiles front 0 ts T tables
   pub is : new ≡ old ++ tables
 
 -- the files of these roots are added

@@ -1,5 +1,5 @@
 // The laws of the files. The definitions alone carry them: no body computes anything.
-ghost use Rattle.clio_files.specs.Laws.{FilesAreOne, FilesExist, NamesAreApart};
+ghost use Rattle.clio_files.specs.Laws.{ComparedFilesAreOne, ComparedFilesExist, ComparedNamesAreApart, FilesAreOne, FilesExist, NamesAreApart};
 
 /// An exchange that fits its schema has files.
 pub fn an_exchange_has_files()
@@ -14,4 +14,11 @@ pub fn files_are_one()
 /// No two files have one name, if no table of the target is named `nulls` or `fold`.
 pub fn names_are_apart()
     ensures { NamesAreApart }
+{}
+
+/// A comparison that fits its schemas has one list of files, and no two of them have one name.
+pub fn a_comparison_has_files()
+    ensures exist { ComparedFilesExist }
+    ensures one { ComparedFilesAreOne }
+    ensures names { ComparedNamesAreApart }
 {}

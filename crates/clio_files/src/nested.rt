@@ -2,24 +2,17 @@
 ghost use Rattle.std.specs.Prelude.{◌≡◌, ◌<◌, IfOk, OnOk, length, map};
 ghost use Rattle.dx_instance.specs.Stored.{IsSorting, widths};
 ghost use Rattle.dx_schema.specs.Tables.{schema_widths, tables_of};
-ghost use Rattle.clio_source.specs.Source.{roots, json_name};
+ghost use Rattle.clio_source.specs.Source.{roots};
 ghost use Rattle.clio_files.specs.Files.{seen};
 ghost use Rattle.clio_files.specs.Nested.{IsRootFile};
 ghost use Rattle.clio_files.specs.Printing.{AddsRoots};
 
 use crate::printed::Printed;
+use clio_source::json_file_name;
 use dx_instance::Instance;
 use dx_json::nest_sorted;
-use dx_ports::Text;
 use dx_schema::Schema;
 use std::alloc::{AllocError, Global};
-
-// The name of the file of a root's document.
-fn json_file_name(alloc: Global, root: &Text) -> Result<Text, AllocError>
-    ensures { IfOk result (λ name. name ≡ json_name root.now) }
-{
-    Text::from_string(alloc, format!(in alloc; "{root}.json")?)
-}
 
 // The file of a root of the target: its document is made of the target's rows in order.
 fn root_file(

@@ -42,7 +42,7 @@ where
 {
     let nulls = nulls_of(alloc, &exchange.target)?;
     let mut printed = print_texts(alloc, rules, source, target, host, mode)?;
-    push_tables(alloc, target, &exchange.target, &mut printed)?;
+    push_tables(alloc, "", target, &exchange.target, &mut printed)?;
     printed.push(nulls_file(alloc, rules, &exchange.matches, &nulls)?)?;
     printed.push(fold_file(alloc, &exchange.fold)?)?;
     if nested {

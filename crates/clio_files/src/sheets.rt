@@ -21,8 +21,8 @@ use std::alloc::{AllocError, Global};
 // How many bytes a record of a null and a variable mostly takes at most. What is not filled costs no memory.
 const USUAL_BYTES: usize = 32;
 
-// The file of a sheet, of which the header is the first of the records.
-fn sheet_file(alloc: Global, name: &str, records: Records) -> Result<Printed, AllocError>
+/// The file of a sheet, of which the header is the first of the records.
+pub(crate) fn sheet_file(alloc: Global, name: &str, records: Records) -> Result<Printed, AllocError>
     ensures { IfOk result (λ p. (s : Sheet) → name.now ≡ s.name → AreRecords records (s.header ∷ s.records) → seen p ≡ file_of s) }
 {
     let Records { lines, count } = records;

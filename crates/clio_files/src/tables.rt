@@ -1,4 +1,4 @@
-// The tables of a target as files.
+// The tables of an instance as files.
 ghost use Rattle.std.specs.Prelude.{◌≡◌, ◌<◌, IfOk, OnOk, length, map};
 ghost use Rattle.dx_ports.specs.Members.{Each};
 ghost use Rattle.dx_instance.specs.Stored.{rows_of, widths};
@@ -16,41 +16,43 @@ use dx_ports::File;
 use dx_schema::Schema;
 use std::alloc::{AllocError, Global};
 
-// A table of the target.
+// The file of a table, under its name with this in front.
 fn table_file(
     alloc: Global,
+    front: &str,
     schema: &Schema,
-    target: &Instance,
+    instance: &Instance,
     table: u32,
 ) -> Result<Printed, AllocError>
     requires table { table < length (tables_of schema.now) }
-    requires widths { widths target.now ≡ schema_widths schema.now }
+    requires widths { widths instance.now ≡ schema_widths schema.now }
     requires no_mark { HasNoMark (table_at schema.now table).columns }
-    ensures { IfOk result (λ p. IsTableFile (table_at schema.now table) (rows_of target.now table) (seen p)) }
+    ensures { IfOk result (λ p. IsTableFile front.now (table_at schema.now table) (rows_of instance.now table) (seen p)) }
 {
-    let bytes = print_table_bytes(alloc, schema.columns(table), target, table)?;
+    let bytes = print_table_bytes(alloc, schema.columns(table), instance, table)?;
     Ok(Printed {
         file: File {
-            name: file_name(alloc, schema.name(table))?,
+            name: file_name(alloc, front, schema.name(table))?,
             bytes,
         },
-        count: u64::from(target.count(table)),
+        count: u64::from(instance.count(table)),
     })
 }
 
-/// Adds the files of the target's tables, in order.
+/// Adds the files of an instance's tables, in order, under their names with this in front.
 pub(crate) fn push_tables(
     alloc: Global,
+    front: &str,
     schema: &Schema,
-    target: &Instance,
+    instance: &Instance,
     files: &mut Vec<Printed>,
 ) -> Result<(), AllocError>
-    requires widths { widths target.now ≡ schema_widths schema.now }
+    requires widths { widths instance.now ≡ schema_widths schema.now }
     requires no_marks { Each (tables_of schema.now) (λ t. HasNoMark t.columns) }
-    ensures { OnOk result (AddsTables (tables_of schema.now) target.now (map seen files.old.items) (map seen files.new.items)) }
+    ensures { OnOk result (AddsTables front.now (tables_of schema.now) instance.now (map seen files.old.items) (map seen files.new.items)) }
 {
     for table in 0..schema.tables() {
-        files.push(table_file(alloc, schema, target, table)?)?;
+        files.push(table_file(alloc, front, schema, instance, table)?)?;
     }
     Ok(())
 }

@@ -22,7 +22,7 @@ use Rattle.dx_csv.proofs.OneReading.{table-is-one, fault-is-one, faults-exclude}
 use Rattle.dx_csv.proofs.Decided.{table_or_fault}
 use Rattle.dx_json.proofs.OneReading.{facts_are_one, fault_is_one}
 use Rattle.dx_json.proofs.OneReading.{never_both as document_or_fault, either as one_of_both}
-use Rattle.dx_stages.specs.Stages.{Stage, next, by, over, computing, notions}
+use Rattle.dx_stages.specs.Stages.{Stage, next, by, over, into, computing, notions}
 use Rattle.dx_stages.specs.Laws.{PassesOne, IsDecided}
 use Rattle.dx_stages.proofs.Decided.{Any, next_one, next_decided, each_one, each_decided, by_one, by_decided, over_one, over_decided, into_one, into_decided, file_one, file_decided, computing_one, computing_decided, notions_decided, weaker}
 use Rattle.clio_source.specs.declared.fault.RowsFault.{RowsFault}
@@ -32,7 +32,7 @@ use Rattle.clio_source.specs.declared.fault.SourceRefusal.TheVariants as refusal
 use Rattle.dx_lines.specs.declared.line.Condition.{Condition}
 use Rattle.dx_used.specs.Passing.{Passes, passing}
 use Rattle.clio_source.specs.Source.{Form, HaveFault, IsFaulty, IsStored, Read, SayFacts, Says, Wanted, as_facts, at_start, fetching, file_at, files_stages, flat, form_at, loading, named_by, nested, reading, roots, storing, too_many_bytes, with_facts}
-use Rattle.clio_source.specs.Laws.{OneSource, ReadOrRefused}
+use Rattle.clio_source.specs.Laws.{OneSource, OneSourceLeft, ReadOrRefused, ReadOrRefusedLeft, SourceIsOfBoth}
 use Rattle.clio_source.proofs.Runs.{its_file}
 use Rattle.clio_source.proofs.Passed.{AreOf, passed_of, passing_of}
 
@@ -185,30 +185,72 @@ storing_decided passes conditions f = notions_decided Same (IsOf f) (λ r e. ⊥
 
 -- ---- all roots
 
-whole : (passes : Passes) → Wanted → Stage SourceRefusal Read (List TableRows)
-whole passes w = next (files_stages w.schema) (storing passes w.conditions w.schema)
-
-whole_one : (passes : Passes) (w : Wanted) → PassesOne (whole passes w)
-unfolding whole
-whole_one passes w = next_one (files_stages w.schema) (storing passes w.conditions w.schema) (each_one (reading w.schema) (roots w.schema) (reading_one w.schema)) (storing_one passes w.conditions w.schema)
+abbrev beside_bytes : Read → List TableRows → List TableRows × ℕ
+beside_bytes r I = (I, r.bytes_left)
 
 abbrev IsStart : Read → Type 0
 IsStart r = r ≡ at_start
 
-whole_decided : (passes : Passes) (w : Wanted) → IsDecided Same IsStart (whole passes w)
-unfolding whole
-whole_decided passes w =
-    let f = w.schema in
-    next_decided Same IsStart (IsOf f) (files_stages f) (storing passes w.conditions f) (each_one (reading f) (roots f) (reading_one f))
+-- the files of all roots, and then a stage over what was read
+after_all : {B : Type 0} → Stage SourceRefusal Read B → Forest → Stage SourceRefusal Read B
+after_all last f = next (files_stages f) last
+
+all_one : {B : Type 0} (last : Stage SourceRefusal Read B) (f : Forest) → PassesOne last → PassesOne (after_all last f)
+unfolding after_all
+all_one last f one = next_one (files_stages f) last (each_one (reading f) (roots f) (reading_one f)) one
+
+all_decided : {B : Type 0} (last : Stage SourceRefusal Read B) (f : Forest) → IsDecided Same (IsOf f) last → IsDecided Same IsStart (after_all last f)
+unfolding after_all
+all_decided last f decided =
+    next_decided Same IsStart (IsOf f) (files_stages f) last (each_one (reading f) (roots f) (reading_one f))
     (λ c a r g p. passed_of f c r (subst (λ v. (files_stages f).passes c v r) g p))
-    (weaker Same Any IsStart (files_stages f) (λ a g. tt) (each_decided Same Any (reading f) (roots f) (reading_one f) (λ x c a b g p. tt) (reading_decided f))) (storing_decided passes w.conditions f)
+    (weaker Same Any IsStart (files_stages f) (λ a g. tt) (each_decided Same Any (reading f) (roots f) (reading_one f) (λ x c a b g p. tt) (reading_decided f)))
+    decided
+
+-- of what is wanted
+from_start : {B : Type 0} → (Wanted → Stage SourceRefusal Read B) → Stage SourceRefusal Wanted B
+from_start last = by (λ (w : Wanted). over (λ (_ : Wanted). at_start) (after_all (last w) w.schema))
+
+from_one : {B : Type 0} (last : Wanted → Stage SourceRefusal Read B) → ((w : Wanted) → PassesOne (last w)) → PassesOne (from_start last)
+unfolding from_start
+from_one last one =
+    by_one (λ (w : Wanted). over (λ (_ : Wanted). at_start) (after_all (last w) w.schema))
+    (λ w. over_one (λ (_ : Wanted). at_start) (after_all (last w) w.schema) (all_one (last w) w.schema (one w)))
+
+from_decided : {B : Type 0} (last : Wanted → Stage SourceRefusal Read B) → ((w : Wanted) → IsDecided Same (IsOf w.schema) (last w))
+    → IsDecided Same Any (from_start last)
+unfolding from_start
+from_decided last decided =
+    by_decided Same Any (λ (w : Wanted). over (λ (_ : Wanted). at_start) (after_all (last w) w.schema))
+    (λ w g. over_decided Same Any IsStart (λ (_ : Wanted). at_start) (after_all (last w) w.schema) (λ a g. refl) (all_decided (last w) w.schema (decided w)))
+
+abbrev kept : Passes → Wanted → Stage SourceRefusal Read (List TableRows)
+kept passes w = storing passes w.conditions w.schema
+
+abbrev kept_left : Passes → Wanted → Stage SourceRefusal Read (List TableRows × ℕ)
+kept_left passes w = into beside_bytes (storing passes w.conditions w.schema)
 
 pub source_one : OneSource
-unfolding whole
-source_one passes = by_one (λ (w : Wanted). over (λ (_ : Wanted). at_start) (whole passes w))
-    (λ w. over_one (λ (_ : Wanted). at_start) (whole passes w) (whole_one passes w))
+unfolding after_all from_start
+source_one passes = from_one (kept passes) (λ w. storing_one passes w.conditions w.schema)
 
 pub source_decided : ReadOrRefused
-unfolding whole
-source_decided passes = by_decided Same Any (λ (w : Wanted). over (λ (_ : Wanted). at_start) (whole passes w))
-    (λ w g. over_decided Same Any IsStart (λ (_ : Wanted). at_start) (whole passes w) (λ a g. refl) (whole_decided passes w))
+unfolding after_all from_start
+source_decided passes = from_decided (kept passes) (λ w. storing_decided passes w.conditions w.schema)
+
+pub left_one : OneSourceLeft
+unfolding after_all from_start
+left_one passes =
+    from_one (kept_left passes) (λ w. into_one beside_bytes (storing passes w.conditions w.schema) (storing_one passes w.conditions w.schema))
+
+pub left_decided : ReadOrRefusedLeft
+unfolding after_all from_start
+left_decided passes =
+    from_decided (kept_left passes)
+    (λ w. into_decided Same (IsOf w.schema) beside_bytes (storing passes w.conditions w.schema) (storing_decided passes w.conditions w.schema))
+
+pub of_both : SourceIsOfBoth
+of_both passes c w I = (
+  (λ p. (p.0.bytes_left, (p.0, p.1, (I, p.2, refl)))),
+  (λ q. let p = q.1 in (p.0, p.1, subst (λ (J : List TableRows). IsStored w.schema (passing passes w.conditions p.0.facts) J) (sym (ap (λ (r : List TableRows × ℕ). r.0) p.2.2)) p.2.1)),
+)

@@ -9,4 +9,5 @@ pub mod Runs
 pub mod Decided
 pub mod Whole
 pub mod Unmarked
+pub mod Left
 mod Examples

@@ -11,5 +11,5 @@ nothing_blanked [] = refl
 nothing_blanked (f ∷ fs) = ap (λ (gs : List Fact). f ∷ gs) (nothing_blanked fs)
 
 pub all_is_read : AllIsRead
-all_is_read passes w J old new (I, agree, widths, ran) =
+all_is_read passes w J left old new (I, agree, widths, ran) =
     (I, same_trans (same_sym (same_equal (nothing_blanked (facts I)))) (same_trans agree (same_equal (nothing_blanked (facts J)))), ran)

@@ -10,10 +10,11 @@ use Rattle.dx_stages.specs.Running.{Ran, Told}
 use Rattle.dx_used.specs.Used.{Agree, Marks, fact_blanked}
 use Rattle.clio_source.specs.Source.{flat, form_at, roots}
 
--- the stage ran so and passes an instance, with which the one that was read agrees on the used columns
-abbrev pub RanAgreeing : {E A : Type 0} → Marks → Stage E A (List TableRows) → A → Result (List TableRows) (Stop E) → Told → Told → Type 0
-RanAgreeing used s a (Ok J) old new =
-    (I : List TableRows) × Agree used (facts I) (facts J) × (widths I ≡ widths J) × Ran s a (Ok I) old new
+-- The stage ran so and passes an instance, with which the one that was read agrees on the used columns, and a number, which is the one
+-- beside what was read.
+abbrev pub RanAgreeing : {E A : Type 0} → Marks → Stage E A (List TableRows × ℕ) → A → Result (List TableRows × ℕ) (Stop E) → Told → Told → Type 0
+RanAgreeing used s a (Ok q) old new =
+    (I : List TableRows) × Agree used (facts I) (facts q.0) × (widths I ≡ widths q.0) × Ran s a (Ok (I, q.1)) old new
 RanAgreeing used s a (Err e) old new = Ran s a (Err e) old new
 
 -- the table of a flat root, whose file is a table

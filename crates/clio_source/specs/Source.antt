@@ -154,3 +154,9 @@ pub record Wanted : Type 0 where
 abbrev pub source_stages : Passes → Stage SourceRefusal Wanted (List TableRows)
 source_stages passes =
     by (λ (w : Wanted). over (λ (_ : Wanted). at_start) (next (files_stages w.schema) (storing passes w.conditions w.schema)))
+
+-- the same, beside the number of bytes that files read after these may have
+abbrev pub source_left : Passes → Stage SourceRefusal Wanted (List TableRows × ℕ)
+source_left passes =
+    by (λ (w : Wanted). over (λ (_ : Wanted). at_start)
+    (next (files_stages w.schema) (into (λ (r : Read) (I : List TableRows). (I, r.bytes_left)) (storing passes w.conditions w.schema))))

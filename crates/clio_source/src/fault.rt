@@ -12,6 +12,9 @@ pub enum RowsFault {
     Csv(RowKind),
     /// The file is no document of the set and its inner sets.
     Json(JsonKind),
+    /// A field of the record of this number, the first such, is no value's text. Of a source file it never comes: each of its
+    /// fields is a constant.
+    Value(u64),
 }
 
 /// Why the source is refused.

@@ -6,7 +6,7 @@ ghost use Rattle.dx_funcs.specs.Judging.{Decides, tested};
 ghost use Rattle.dx_used.specs.Named.{ReadNamed};
 ghost use Rattle.clio_source.specs.Agreeing.{AreBlank, RanAgreeing};
 ghost use Rattle.clio_source.specs.Kept.{AreTested};
-ghost use Rattle.clio_source.specs.Source.{Read, at_start, file_at, files_stages, reading, source_stages};
+ghost use Rattle.clio_source.specs.Source.{Read, at_start, file_at, files_stages, reading, source_left};
 ghost use Rattle.clio_source.specs.Fitting.{Holds, IsBlank, RanTo, ReadFits};
 
 use crate::documents::load_document;
@@ -29,7 +29,7 @@ fn root_file_name(alloc: Global, schema: &Schema, root: u32) -> Result<Text, All
     ensures { IfOk result (λ name. name ≡ file_at schema.now root) }
 {
     if schema.tree(root).inner.is_empty() {
-        file_name(alloc, schema.name(root))
+        file_name(alloc, "", schema.name(root))
     } else {
         json_file_name(alloc, schema.name(root))
     }
@@ -98,7 +98,8 @@ fn read_files<I: Inputs>(
 }
 
 /// The source that the files of a schema's roots hold: of a root without inner sets a table, of another a document. Of all their
-/// rows those stay that pass each condition on their table, as the row tests decide.
+/// rows those stay that pass each condition on their table, as the row tests decide. Beside it stands how many bytes are left: so
+/// many may files have that are read after these.
 ///
 /// The marks say for each table which of its columns are used; a column without a mark is, and so is each that a condition
 /// names. Of a table's other columns nothing is kept: their constants are the empty one. Documents are read whole. So there is
@@ -116,19 +117,20 @@ pub fn read_source<I: Inputs, P, M>(
     conditions: &[Condition],
     used: &[Items<bool>],
     tests: &Tests<P, M>,
-) -> Result<Instance, Stop<SourceRefusal>>
+) -> Result<(Instance, u64), Stop<SourceRefusal>>
 where
     P: Fn(u32, &Text) -> Result<bool, AllocError>,
     M: Meaning,
     requires decides { Decides P.Fn M.passes tests.now }
     requires listed { AreTested (tested tests.now) conditions.now }
     requires named { ReadNamed used.now conditions.now }
-    ensures read { RanAgreeing used.now (source_stages M.passes) (record { schema = schema.now; conditions = conditions.now }) result
+    ensures read { RanAgreeing used.now (source_left M.passes) (record { schema = schema.now; conditions = conditions.now }) result
         (record { holds = I.holds inputs.old; faults = I.faults inputs.old; stopped = I.stopped inputs.old })
         (record { holds = I.holds inputs.new; faults = I.faults inputs.new; stopped = I.stopped inputs.new }) }
-    ensures blank { IfOk result (λ J. AreBlank used.now schema.now (facts J)) }
+    ensures blank { IfOk result (λ q. AreBlank used.now schema.now (facts q.0)) }
 {
     let reading = read_files(alloc, inputs, schema, used)?;
     let rows = Instance::from_gathered(alloc, reading.symbols, reading.tables)?;
-    Ok(passing_rows(alloc, rows, conditions, tests)?)
+    let passed = passing_rows(alloc, rows, conditions, tests)?;
+    Ok((passed, reading.bytes_left))
 }

@@ -1,10 +1,18 @@
 // The laws of the source. The definitions alone carry them: no body computes anything.
-ghost use Rattle.clio_source.specs.Laws.{AllIsRead, OneSource, ReadOrRefused, RootsHaveNoParent};
+ghost use Rattle.clio_source.specs.Laws.{AllIsRead, OneSource, OneSourceLeft, ReadOrRefused, ReadOrRefusedLeft};
+ghost use Rattle.clio_source.specs.Laws.{RootsHaveNoParent, SourceIsOfBoth};
 
 /// Files say one source or are refused for one reason, and never both.
 pub fn files_are_read_or_refused()
     ensures source { OneSource }
     ensures refused { ReadOrRefused }
+{}
+
+/// So it is with the number of bytes that are left, and the source is the same.
+pub fn bytes_are_left_of_one_source()
+    ensures source { OneSourceLeft }
+    ensures refused { ReadOrRefusedLeft }
+    ensures same { SourceIsOfBoth }
 {}
 
 /// The roots of a schema are its tables without a parent, in order.

@@ -6,8 +6,9 @@
 //! as are left, then its form, then the cells of its facts, of as many as are left. Of all the facts that were read those stay
 //! that pass the caller's conditions (`passing` of dx_used); its row tests decide what passes. Rows of an instance ascend, so there
 //! is one instance of the files. The caller says which columns are used, those that conditions name among them: of a
-//! table's other columns nothing is kept, and what is read agrees with the instance of the files on the used ones (specs/Agreeing). What the code has of what was read stands in
-//! specs/Fitting.
+//! table's other columns nothing is kept, and what is read agrees with the instance of the files on the used ones (specs/Agreeing).
+//! Beside the instance stands how many bytes are left for files that are read after these. What the code has of what was read stands
+//! in specs/Fitting.
 #![tactic(auto)]
 
 mod documents;
@@ -21,5 +22,8 @@ mod tables;
 
 pub use fault::{RowsFault, SourceRefusal};
 pub use files::read_source;
-pub use laws::{all_is_read_without_marks, files_are_read_or_refused, roots_have_no_parent};
+pub use laws::{
+    all_is_read_without_marks, bytes_are_left_of_one_source, files_are_read_or_refused,
+    roots_have_no_parent,
+};
 pub use names::{file_name, json_file_name};

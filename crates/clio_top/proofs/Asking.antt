@@ -1,19 +1,20 @@
 -- Which files a run asks for.
 use Rattle.std.proofs.Common.{◌≡◌, ℕ, List, [], ◌∷◌, ◌++◌, refl, sym, ap, subst, inl, inr, Some}
-use Rattle.dx_schema.specs.Forest.{Forest}
 use Rattle.dx_stages.specs.Worlds.{World}
 use Rattle.dx_stages.specs.Stages.{Stage, each}
 use Rattle.dx_used.specs.Passing.{Passes}
-use Rattle.clio_source.specs.Source.{at_start, file_at, reading, roots, source_stages, Wanted}
+use Rattle.clio_source.specs.Source.{at_start, reading, roots, source_stages, Wanted}
 use Rattle.clio_source.proofs.Roots.{asks_own}
 use Rattle.clio_top.specs.declared.command.Command.{Command}
-use Rattle.clio_top.specs.declared.command.Command.TheVariants.{Demonstrating, Exchanging, Showing}
+use Rattle.clio_top.specs.declared.command.Command.TheVariants.{Answering, Comparing, Demonstrating, Exchanging, Judging, Showing}
 use Rattle.clio_top.specs.Words.{or_usage, says}
 use Rattle.clio_top.specs.Running.{Program, wanted}
 use Rattle.clio_top.specs.Commands.{run_stages, stages_of}
-use Rattle.clio_top.specs.Promises.{AskedInOrder, AsksFor, IsNextFile}
-use Rattle.clio_top.proofs.Names.{mapping_asks}
-use Rattle.clio_top.proofs.OverAnything.{said}
+use Rattle.clio_top.specs.Outcomes.{IsNextFile}
+use Rattle.clio_top.specs.Promises.{AskedInOrder, AsksFor}
+use Rattle.clio_top.specs.declared.texts.Side.TheVariants.{First}
+use Rattle.clio_top.proofs.Names.{text_asks}
+use Rattle.clio_top.proofs.Asked.{said}
 
 -- ---- stages in a row
 
@@ -48,7 +49,7 @@ asks_after f (x ∷ before) one after c a b n (d, p, passed) h = inr (d, p, asks
 
 -- ---- the source
 
-next_file : (passes : Passes) (c : World) (w : Wanted) (n : List ℕ) → (source_stages passes).asks c w n → IsNextFile c w.schema n
+pub next_file : (passes : Passes) (c : World) (w : Wanted) (n : List ℕ) → (source_stages passes).asks c w n → IsNextFile c w.schema n
 next_file passes c w n (inl h) =
     let f = w.schema in
     let r = one_asks (reading f) (roots f) c at_start n h in record {
@@ -62,7 +63,7 @@ next_file passes c w n (inl h) =
     }
 next_file passes c w n (inr h) = absurd h.2
 
-asks_next : (passes : Passes) (c : World) (w : Wanted) (n : List ℕ) → IsNextFile c w.schema n → (source_stages passes).asks c w n
+pub asks_next : (passes : Passes) (c : World) (w : Wanted) (n : List ℕ) → IsNextFile c w.schema n → (source_stages passes).asks c w n
 asks_next passes c w n h =
     let f = w.schema in
     inl (subst (λ xs. (each (reading f) xs).asks c at_start n) (sym h.roots_are)
@@ -71,17 +72,23 @@ asks_next passes c w n h =
 -- ---- the commands
 
 asked_by : (P : Program) (c : World) (k : Command) (n : List ℕ) → (stages_of P k).asks c (tt {0}) n → AsksFor P c k n
-asked_by P c (Exchanging mode nested) n (inl h) = inl (mapping_asks P c tt n h)
+asked_by P c (Exchanging mode nested) n (inl h) = inl (text_asks P First c tt n h)
 asked_by P c (Exchanging mode nested) n (inr (M, m, inl h)) = inr (M, m, next_file P.passes c (wanted M) n h)
 asked_by P c (Exchanging mode nested) n (inr (M, m, inr h)) = absurd h.2
-asked_by P c (Showing mode) n h = mapping_asks P c tt n h
+asked_by P c (Showing mode) n h = text_asks P First c tt n h
 asked_by P c (Demonstrating number mode) n h = h
+asked_by P c Answering n h = h
+asked_by P c Judging n h = h
+asked_by P c Comparing n h = h
 
 asks_it : (P : Program) (c : World) (k : Command) (n : List ℕ) → AsksFor P c k n → (stages_of P k).asks c (tt {0}) n
 asks_it P c (Exchanging mode nested) n (inl h) = inl (inl h)
 asks_it P c (Exchanging mode nested) n (inr (M, m, h)) = inr (M, m, inl (asks_next P.passes c (wanted M) n h))
 asks_it P c (Showing mode) n h = inl h
 asks_it P c (Demonstrating number mode) n h = h
+asks_it P c Answering n h = h
+asks_it P c Judging n h = h
+asks_it P c Comparing n h = h
 
 asked_of : (P : Program) (c : World) (words : List (List ℕ)) (n : List ℕ) → (run_stages P).asks c words n
     → (k : Command) × (says words ≡ Some k) × AsksFor P c k n

@@ -21,53 +21,63 @@ use Rattle.clio_source.specs.declared.fault.SourceRefusal.{SourceRefusal}
 use Rattle.clio_source.specs.declared.fault.SourceRefusal.TheVariants as source_refusals
 use Rattle.clio_ending.specs.declared.ending.Refusal.{Refusal}
 use Rattle.clio_ending.specs.declared.ending.Refusal.TheVariants as refusals
-use Rattle.clio_ending.specs.Ending.{exchange_refusal, mapping_refusal, named_clash, source_refusal}
+use Rattle.clio_ending.specs.Ending.{exchange_refusal, named_clash, source_refusal}
 use Rattle.clio_top.specs.declared.command.Command.{Command}
-use Rattle.clio_top.specs.declared.command.Command.TheVariants.{Demonstrating, Exchanging, Showing}
+use Rattle.clio_top.specs.declared.command.Command.TheVariants.{Answering, Comparing, Demonstrating, Exchanging, Judging, Showing}
+use Rattle.clio_top.specs.declared.texts.Side.{Side}
+use Rattle.clio_top.specs.declared.texts.Side.TheVariants.{First, Second}
 use Rattle.clio_top.specs.Words.{or_usage, says}
-use Rattle.clio_top.specs.Running.{Filled, Program, asked, exchanges, mapping_stages, rows_stages}
+use Rattle.clio_top.specs.Running.{Filled, Program, absent_text, asked, exchanges, rows_stages, text_refusal, text_stages}
 use Rattle.clio_top.specs.Demo.{demo_world}
 use Rattle.clio_top.specs.Commands.{stages_of}
-use Rattle.clio_top.specs.Promises.{ClashesAreOfTexts, HasNoSolutionIn, IsClashIn, IsClashOf, NoSolutionIsAClash}
+use Rattle.clio_top.specs.Outcomes.{IsClashIn}
+use Rattle.clio_top.specs.Promises.{ClashesAreOfTexts, HasNoSolutionIn, IsClashOf, NoSolutionIsAClash}
 use Rattle.clio_top.specs.Completing.{DemoIsAClash}
 use Rattle.clio_top.proofs.Mappings.{is_small}
-use Rattle.clio_top.proofs.OverAnything.{said}
+use Rattle.clio_top.proofs.Asked.{said}
 use Rattle.clio_top.proofs.Plans.{rules_fit}
 
 -- ---- which refusals are clashes
 
-is_clash : Refusal → Bool
+pub is_clash : Refusal → Bool
 is_clash (refusals.Clash k table key column) = true
-is_clash refusals.Usage = false
-is_clash (refusals.Mapping fault) = false
-is_clash (refusals.Rows file fault) = false
-is_clash (refusals.Limit limit) = false
+is_clash _ = false
 
 clash_in : Refusal → Option Clash
 clash_in (refusals.Clash k table key column) = Some k
-clash_in refusals.Usage = None
-clash_in (refusals.Mapping fault) = None
-clash_in (refusals.Rows file fault) = None
-clash_in (refusals.Limit limit) = None
+clash_in _ = None
 
-of_mapping : (k : AcceptFault) → is_clash (mapping_refusal k) ≡ false
+-- what is no clash is not this one
+pub no_clash : (e : Refusal) (k : Clash) (table : List ℕ) (key : List (List ℕ)) (column : List ℕ) → is_clash e ≡ false → ¬ (e ≡ refusals.Clash k table key column)
 unfolding is_clash
-of_mapping (accept_faults.Mapping fault) = refl
-of_mapping (accept_faults.Limit limit) = refl
-of_mapping accept_faults.Memory = refl
+no_clash e k table key column none is = true≢false (sym (ap is_clash is) ∙ none)
+
+of_text : (side : Side) (k : AcceptFault) → is_clash (text_refusal side k) ≡ false
+unfolding is_clash
+of_text First (accept_faults.Mapping fault) = refl
+of_text First (accept_faults.Limit limit) = refl
+of_text First accept_faults.Memory = refl
+of_text Second (accept_faults.Mapping fault) = refl
+of_text Second (accept_faults.Limit limit) = refl
+of_text Second accept_faults.Memory = refl
+
+of_absent : (side : Side) → is_clash (absent_text side) ≡ false
+unfolding is_clash
+of_absent First = refl
+of_absent Second = refl
 
 of_source : (k : SourceRefusal) → is_clash (source_refusal k) ≡ false
 unfolding is_clash
 of_source (source_refusals.Rows file fault) = refl
 of_source (source_refusals.Limit limit) = refl
 
-mapping_never : (P : Program) (c : World) (e : Refusal) → (mapping_stages P).refuses c (tt {0}) e → is_clash e ≡ false
+pub text_never : (P : Program) (side : Side) (c : World) (e : Refusal) → (text_stages P side).refuses c (tt {0}) e → is_clash e ≡ false
 unfolding is_clash
-mapping_never P c e (inl (inl (none, is))) = ap is_clash is
-mapping_never P c e (inl (inr (bytes, held, many, is))) = ap is_clash is
-mapping_never P c e (inr (text, there, (k, refused, is))) = ap is_clash is ∙ of_mapping k
+text_never P side c e (inl (inl (none, is))) = ap is_clash is ∙ of_absent side
+text_never P side c e (inl (inr (bytes, held, many, is))) = ap is_clash is
+text_never P side c e (inr (text, there, (k, refused, is))) = ap is_clash is ∙ of_text side k
 
-rows_never : (P : Program) (c : World) (M : Mapping) (e : Refusal) → (rows_stages P).refuses c M e → is_clash e ≡ false
+pub rows_never : (P : Program) (c : World) (M : Mapping) (e : Refusal) → (rows_stages P).refuses c M e → is_clash e ≡ false
 rows_never P c M e (k, refused, is) = ap is_clash is ∙ of_source k
 
 usage_never : (words : List (List ℕ)) (e : Refusal) → or_usage (says words) ≡ Err e → is_clash e ≡ false
@@ -83,6 +93,8 @@ usage_never words e is = of (says words) refl
         usage (refusals.Mapping fault) k = refl
         usage (refusals.Rows file fault) k = refl
         usage (refusals.Limit limit) k = refl
+        usage (refusals.Query fault) k = refl
+        usage (refusals.Other fault) k = refl
     of (Some d) h = let k : or_usage (Some d) ≡ Err e = sym (ap or_usage h) ∙ is in cc
 
 -- ---- a clash has its reason
@@ -103,10 +115,10 @@ named_of P mode p target k table key column (exchange_faults.Clash d) h is = is 
 named_of P mode p target k table key column (exchange_faults.Limit l) h is = absurd (true≢false (ap is_clash is))
 named_of P mode p target k table key column exchange_faults.Memory h is = absurd h
 
-exchange_clashes : (P : Program) (mode : Mode) (c : World) (k : Clash) (table : List ℕ) (key : List (List ℕ)) (column : List ℕ)
+pub exchange_clashes : (P : Program) (mode : Mode) (c : World) (k : Clash) (table : List ℕ) (key : List (List ℕ)) (column : List ℕ)
     → (exchanges P mode).refuses c (tt {0}) (refusals.Clash k table key column) → IsClashIn P mode c k table key column
 unfolding is_clash
-exchange_clashes P mode c k table key column (inl m) = absurd (true≢false (mapping_never P c (refusals.Clash k table key column) m))
+exchange_clashes P mode c k table key column (inl m) = absurd (true≢false (text_never P First c (refusals.Clash k table key column) m))
 exchange_clashes P mode c k table key column (inr (M, (text, there, accepted), inl r)) =
     absurd (true≢false (rows_never P c M (refusals.Clash k table key column) r))
 exchange_clashes P mode c k table key column (inr (M, (text, there, accepted), inr (pair, (I, source, pair_is), (fault, none, is)))) = record {
@@ -124,9 +136,12 @@ clashing_by : (P : Program) (c : World) (words : List (List ℕ)) (d : Command) 
     → says words ≡ Some d → (stages_of P d).refuses c (tt {0}) (refusals.Clash k table key column) → IsClashOf P c words k table key column
 unfolding is_clash
 clashing_by P c words (Exchanging mode nested) k table key column w r = inl (mode, nested, w, exchange_clashes P mode c k table key column r)
-clashing_by P c words (Showing mode) k table key column w r = absurd (true≢false (mapping_never P c (refusals.Clash k table key column) r))
+clashing_by P c words (Showing mode) k table key column w r = absurd (true≢false (text_never P First c (refusals.Clash k table key column) r))
 clashing_by P c words (Demonstrating number mode) k table key column w r =
-    inr (number, mode, w, exchange_clashes P mode (demo_world number) k table key column r)
+    inr (inl (number, mode, w, exchange_clashes P mode (demo_world number) k table key column r))
+clashing_by P c words Answering k table key column w r = absurd (cc)
+clashing_by P c words Judging k table key column w r = absurd (cc)
+clashing_by P c words Comparing k table key column w r = absurd (cc)
 
 pub of_texts : ClashesAreOfTexts
 unfolding is_clash

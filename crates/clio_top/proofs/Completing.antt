@@ -27,21 +27,22 @@ use Rattle.clio_ending.specs.declared.ending.Ending.{Ending}
 use Rattle.clio_ending.specs.declared.ending.Ending.TheVariants as endings
 use Rattle.clio_ending.specs.declared.ending.Refusal.{Refusal}
 use Rattle.clio_ending.specs.declared.ending.Refusal.TheVariants as refusals
-use Rattle.clio_ending.specs.Ending.{AreAlike, ending_of}
+use Rattle.clio_ending.specs.Ending.{AreAlike, ending_of, refusal_ending}
+use Rattle.clio_ending.proofs.Alike.{alike_clash}
 use Rattle.clio_top.specs.declared.command.Command.{Command}
-use Rattle.clio_top.specs.declared.command.Command.TheVariants.{Demonstrating, Exchanging, Showing}
+use Rattle.clio_top.specs.declared.command.Command.TheVariants.{Answering, Comparing, Demonstrating, Exchanging, Judging, Showing}
 use Rattle.clio_top.specs.Words.{or_usage, says}
 use Rattle.clio_top.specs.Running.{Program, asked, exchanges}
 use Rattle.clio_top.specs.Demo.{demo_world}
 use Rattle.clio_top.specs.Commands.{run_stages, stages_of}
 use Rattle.clio_top.specs.Promises.{AsksFor, HasNoSolutionIn}
-use Rattle.clio_top.specs.Completing.{AnswersClash, Completes, CompletesDemo, DemoIsPlanned, HasMappingIn, HasSolutionIn, IsClashing, IsPlanned, MappingIsShown, OrMemory, SolutionIsPlanned}
+use Rattle.clio_top.specs.Completing.{AnswersClash, Completes, CompletesDemo, DemoIsPlanned, HasDone, HasMappingIn, HasSolutionIn, IsClashing, IsFaultless, IsPlanned, MappingIsShown, OrMemory, SolutionIsPlanned}
 use Rattle.clio_top.proofs.Asking.{in_order}
 use Rattle.clio_top.proofs.Clashes.{demo_clashes, no_solution}
 use Rattle.clio_top.proofs.Mappings.{is_small}
-use Rattle.clio_top.proofs.OverAnything.{said}
+use Rattle.clio_top.proofs.Asked.{said, unplanned}
 use Rattle.clio_top.proofs.Plans.{rules_fit}
-use Rattle.clio_top.proofs.Promised.{demo_exists, plan_exists}
+use Rattle.clio_top.proofs.Promised.{demo_exists, plan_exists, run_decided}
 
 -- ---- an exchange with a solution
 
@@ -83,18 +84,19 @@ demo_planned P c words number mode w h =
     let passed = exchange_passed P mode (demo_world number) h x.0 x.1 in
     (x.0, (plan.0, (Demonstrating number mode, ap or_usage w, ((h.mapping, x.0), passed, plan.1)), ap (λ (p : Planned Done). p.done) plan.1.2))
 
--- ---- what is done tells the command
+-- if nothing is at fault, there is a plan
+faultless_planned : (P : Program) (c : World) (words : List (List ℕ)) → IsFaultless P c words → (p : Planned Done) × (run_stages P).passes c words p
+faultless_planned P c words none = elim ((run_decided P).either c words tt) [ inl p ↦ p | inr f ↦ absurd (none f.0 f.1) ]
 
--- what a command that is done has done
-abbrev HasDone : Command → Done → Type 0
-HasDone (Exchanging mode nested) d = (e : Exchange) × (d ≡ dones.Exchanged e)
-HasDone (Showing mode) d = d ≡ dones.Shown
-HasDone (Demonstrating number mode) d = (e : Exchange) × (d ≡ dones.Demo e)
+-- ---- what is done tells the command
 
 has_done : (P : Program) (c : World) (k : Command) (p : Planned Done) → (stages_of P k).passes c (tt {0}) p → HasDone k p.done
 has_done P c (Exchanging mode nested) p (q, x, (files, are, plan)) = (q.1, ap (λ (r : Planned Done). r.done) plan)
 has_done P c (Showing mode) p (M, m, plan) = ap (λ (r : Planned Done). r.done) plan
 has_done P c (Demonstrating number mode) p (q, x, (ns, are, plan)) = (q.1, ap (λ (r : Planned Done). r.done) plan)
+has_done P c Answering p x = absurd (unplanned c p x)
+has_done P c Judging p x = absurd (unplanned c p x)
+has_done P c Comparing p x = absurd (unplanned c p x)
 
 -- the words say one command
 one_command : (words : List (List ℕ)) (k d : Command) → says words ≡ Some k → or_usage (says words) ≡ Ok d → d ≡ k
@@ -164,14 +166,11 @@ demo_answered : (r : Ending) (number : ℕ) (mode : Mode) → OrMemory r ((d : D
 demo_answered r number mode (inl (d, (e, d_is), is)) = inl (e, is ∙ ap (λ x. endings.Done x) d_is)
 demo_answered r number mode (inr none) = inr none
 
--- a refusal that is like a clash is one
-alike_clash : (f : Refusal) (k : Clash) (table : Text) (key : List Text) (column : Text) → AreAlike f (refusals.Clash k table key column)
-    → (d : Clash) × (t : Text) × (l : List Text) × (n : Text) × (f ≡ refusals.Clash d t l n)
-alike_clash refusals.Usage k table key column h = (k, table, key, column, h)
-alike_clash (refusals.Clash d t l n) k table key column h = (d, t, l, n, refl)
-alike_clash (refusals.Mapping fault) k table key column h = (k, table, key, column, h)
-alike_clash (refusals.Rows file fault) k table key column h = (k, table, key, column, h)
-alike_clash (refusals.Limit limit) k table key column h = (k, table, key, column, h)
+-- so is a reason to refuse, or one that is alike
+refusal_answered : (r : Ending) (e : Ended Done Refusal) (f : Refusal) → r ≡ ending_of e → IsRefusedAs AreAlike f e ⊎ (e ≡ endeds.Memory)
+    → OrMemory r ((k : Refusal) × AreAlike k f × (r ≡ refusal_ending k))
+refusal_answered r e f is (inl (k, e_is, alike)) = inl (k, alike, is ∙ ap ending_of e_is)
+refusal_answered r e f is (inr none) = inr (is ∙ ap ending_of none)
 
 clash_answered : (r : Ending) (e : Ended Done Refusal) (k : Clash) (table : Text) (key : List Text) (column : Text) → r ≡ ending_of e
     → IsRefusedAs AreAlike (refusals.Clash k table key column) e ⊎ (e ≡ endeds.Memory) → OrMemory r (AnswersClash r)
@@ -190,6 +189,12 @@ pub completes : (P : Program) (words : List (List ℕ)) (r : Ending) (e : Ended 
     → ¬ (Rose old.faults new.faults) → ¬ (Rose writes writes') → Completes P (λ n. get m n) words r
 completes P words r e old new before after writes writes' is runs m holds reads written =
     let same = sym (one_world m old.holds runs.world holds runs.held) in record {
+      done = λ k w h.
+          let p = faultless_planned P runs.world words (subst (λ (c : World). IsFaultless P c words) same h) in
+          answered P runs.world words r e k is w (plan_done P words e old new before after writes writes' runs (λ n a. reads) written p.0 p.1);
+      refused = λ f h.
+          refusal_answered r e f is
+          (reason_told P words e old new before after writes writes' runs (λ n a. reads) f (subst (λ (c : World). (run_stages P).refuses c words f) same h));
       exchanged = λ mode nested w h.
           let p = planned P runs.world words mode nested w (subst (HasSolutionIn P) same h) in
           exchange_answered r mode nested (answered P runs.world words r e (Exchanging mode nested) is w

@@ -13,25 +13,11 @@ use Rattle.clio_ending.specs.Ending.{ending_of, refusal_ending}
 
 done_in : Ending → Option Done
 done_in (endings.Done d) = Some d
-done_in endings.Usage = None
-done_in (endings.Clash k table key column) = None
-done_in (endings.Mapping fault) = None
-done_in (endings.Rows file fault) = None
-done_in (endings.Limit limit) = None
-done_in (endings.ReadFault file) = None
-done_in (endings.WriteFault files) = None
-done_in endings.Memory = None
+done_in _ = None
 
 refused_in : Ending → Option Refusal
-refused_in (endings.Done d) = None
-refused_in endings.Usage = None
 refused_in (endings.Clash k table key column) = Some (refusals.Clash k table key column)
-refused_in (endings.Mapping fault) = None
-refused_in (endings.Rows file fault) = None
-refused_in (endings.Limit limit) = None
-refused_in (endings.ReadFault file) = None
-refused_in (endings.WriteFault files) = None
-refused_in endings.Memory = None
+refused_in _ = None
 
 no_done : (r : Refusal) → done_in (refusal_ending r) ≡ None
 unfolding done_in
@@ -40,6 +26,8 @@ no_done (refusals.Clash k table key column) = refl
 no_done (refusals.Mapping fault) = refl
 no_done (refusals.Rows file fault) = refl
 no_done (refusals.Limit limit) = refl
+no_done (refusals.Query fault) = refl
+no_done (refusals.Other fault) = refl
 
 -- a run that answers that it is done is done
 pub done_of : (e : Ended Done Refusal) (d : Done) → endings.Done d ≡ ending_of e → e ≡ endeds.Done d
@@ -57,6 +45,8 @@ refused_by (refusals.Clash c table key column) k is = same_Some (refusals.Clash 
 refused_by (refusals.Mapping fault) k is = absurd (none-some k is)
 refused_by (refusals.Rows file fault) k is = absurd (none-some k is)
 refused_by (refusals.Limit limit) k is = absurd (none-some k is)
+refused_by (refusals.Query fault) k is = absurd (none-some k is)
+refused_by (refusals.Other fault) k is = absurd (none-some k is)
 
 -- a run that answers a clash was refused with it
 pub clash_of : (e : Ended Done Refusal) (k : Clash) (table : List ℕ) (key : List (List ℕ)) (column : List ℕ) → endings.Clash k table key column ≡ ending_of e

@@ -4,7 +4,7 @@ pub mod Mappings
 pub mod Plans
 pub mod SameExchange
 pub mod Promised
-pub mod OverAnything
+pub mod Asked
 pub mod Demos
 pub mod Ranges
 pub mod Clashes

@@ -2,7 +2,6 @@
 use Rattle.std.proofs.Common.{◌≡◌, ℕ, List, get_or, refl, sym, ◌∙◌, ap, subst, inl, inr, arith, reverse, ◌⊎◌}
 use Rattle.std.specs.Prelude.{codes}
 use Rattle.std.proofs.lemmas.List.{reverse-append}
-use Rattle.dx_schema.specs.Forest.{Forest}
 use Rattle.dx_schema.specs.Tables.{table_at}
 use Rattle.dx_exchange.specs.declared.mode.Mode.{Mode}
 use Rattle.dx_stages.specs.Worlds.{World}
@@ -13,15 +12,21 @@ use Rattle.clio_accept.proofs.Silent.{accepting_silent}
 use Rattle.dx_used.specs.Passing.{Passes}
 use Rattle.clio_source.specs.Source.{Form, at_start, csv_name, file_at, flat, form_at, json_name, named_by, nested, reading, roots, source_stages, Wanted}
 use Rattle.clio_source.proofs.Roots.{asks_own}
-use Rattle.clio_top.specs.Running.{Program, mapping_stages, rows_stages, target_stages, wanted}
+use Rattle.clio_top.specs.declared.texts.Side.{Side}
+use Rattle.clio_top.specs.declared.texts.Side.TheVariants.{First, Second}
+use Rattle.clio_top.specs.Running.{Program, mapping_stages, rows_stages, target_stages, text_name, text_stages, wanted}
 
--- ---- the mapping text, and the files of the source
+-- ---- the mapping texts, and the files of the source
 
-pub mapping_asks : (P : Program) → AsksOnly (λ n. n ≡ codes "mapping.clio") (mapping_stages P)
-mapping_asks P c a n (inl h) = h
-mapping_asks P c a n (inr h) = absurd (accepting_silent P.list P.tests c h.0 n h.2)
+pub text_asks : (P : Program) (side : Side) → AsksOnly (λ n. n ≡ text_name side) (text_stages P side)
+text_asks P side c a n (inl h) = h
+text_asks P side c a n (inr h) = absurd (accepting_silent P.list P.tests c h.0 n h.2)
 
-IsData : List ℕ → Type 0
+-- the two have names of their own
+pub texts_apart : ¬ (text_name First ≡ text_name Second)
+texts_apart e = let h : 109 ≡ 111 = ap (λ (v : List ℕ). get_or v 0 0) e in absurd (omega (arith, h))
+
+pub IsData : List ℕ → Type 0
 IsData n = (y : List ℕ) × ((n ≡ csv_name y) ⊎ (n ≡ json_name y))
 
 named : (form : Form) (y : List ℕ) → IsData (named_by form y)
@@ -29,7 +34,7 @@ unfolding IsData
 named flat y = (y, inl refl)
 named nested y = (y, inr refl)
 
-source_asks : (passes : Passes) (c : World) (w : Wanted) (n : List ℕ) → (source_stages passes).asks c w n → IsData n
+pub source_asks : (passes : Passes) (c : World) (w : Wanted) (n : List ℕ) → (source_stages passes).asks c w n → IsData n
 source_asks passes c w n (inl h) =
     let f = w.schema in
     let k = each_only (reading f) (file_at f) (roots f) (asks_own f) c at_start n h in
@@ -40,23 +45,18 @@ rest_asks : (P : Program) (mode : Mode) → AsksOnly IsData (next (rows_stages P
 rest_asks P mode c M n (inl h) = source_asks P.passes c (wanted M) n h
 rest_asks P mode c M n (inr h) = absurd h.2
 
--- the end of a data file's name is not that of the mapping text's
-no_csv : (y : List ℕ) → ¬ (codes "mapping.clio" ≡ csv_name y)
-no_csv y e =
-    let f = ap reverse e ∙ reverse-append y (codes ".csv") in
-    let h : 111 ≡ 118 = ap (λ (v : List ℕ). get_or v 0 0) f in omega (arith, h)
+-- a name with another end than theirs is none of a data file
+pub no_data : (n : List ℕ) (b : ℕ) → get_or (reverse n) 0 0 ≡ b → ¬ (b ≡ 118) → ¬ (b ≡ 110) → ¬ (IsData n)
+unfolding IsData
+no_data n b e v j (y, inl is) = v (sym e ∙ (ap (λ (w : List ℕ). get_or (reverse w) 0 0) is ∙ ap (λ (w : List ℕ). get_or w 0 0) (reverse-append y (codes ".csv"))))
+no_data n b e v j (y, inr is) = j (sym e ∙ (ap (λ (w : List ℕ). get_or (reverse w) 0 0) is ∙ ap (λ (w : List ℕ). get_or w 0 0) (reverse-append y (codes ".json"))))
 
-no_json : (y : List ℕ) → ¬ (codes "mapping.clio" ≡ json_name y)
-no_json y e =
-    let f = ap reverse e ∙ reverse-append y (codes ".json") in
-    let h : 111 ≡ 110 = ap (λ (v : List ℕ). get_or v 0 0) f in omega (arith, h)
+-- neither mapping text has such a name
+pub no_text : (side : Side) → ¬ (IsData (text_name side))
+no_text First = no_data (codes "mapping.clio") 111 refl (λ e. absurd (omega (arith, e))) (λ e. absurd (omega (arith, e)))
+no_text Second = no_data (codes "other.clio") 111 refl (λ e. absurd (omega (arith, e))) (λ e. absurd (omega (arith, e)))
 
 pub apart : (P : Program) (mode : Mode) → AreApart (mapping_stages P) (next (rows_stages P) (target_stages P mode))
-unfolding IsData
 apart P mode =
-    apart_by (λ n. n ≡ codes "mapping.clio") IsData (mapping_stages P) (next (rows_stages P) (target_stages P mode)) (mapping_asks P)
-    (rest_asks P mode) (λ n e f. never n e f.0 f.1)
-  where
-    never : (n : List ℕ) → n ≡ codes "mapping.clio" → (y : List ℕ) → ¬ ((n ≡ csv_name y) ⊎ (n ≡ json_name y))
-    never n e y (inl is) = no_csv y (sym e ∙ is)
-    never n e y (inr is) = no_json y (sym e ∙ is)
+    apart_by (λ n. n ≡ text_name First) IsData (mapping_stages P) (next (rows_stages P) (target_stages P mode)) (text_asks P First)
+    (rest_asks P mode) (λ n e f. no_text First (subst IsData e f))

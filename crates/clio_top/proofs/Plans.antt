@@ -226,13 +226,6 @@ shown_none P mode M old new x =
 
 -- ---- the rows
 
--- why no rows were read, said as a refusal of the run
-pub rows_said : (passes : Passes) (w : Wanted) (r : Result (List TableRows) (Stop SourceRefusal)) (e : Stop SourceRefusal) (k : Stop Refusal) (old new : Told) → r ≡ Err e
-    → ◌≡◌ {A = Result (List TableRows) (Stop Refusal)} (Err k) (said source_refusal (Err e)) → Ran (source_stages passes) w r old new
-    → Ran (saying source_refusal (source_stages passes)) w (Err k) old new
-rows_said passes w r e k old new is k_is x =
-    ran_saying source_refusal (source_stages passes) w r (Err k) old new (k_is ∙ sym (ap (said source_refusal) is)) x
-
 -- the rows that were read have the tables of the schema
 pub rows_widths : (passes : Passes) (w : Wanted) (I : List TableRows) (old new : Told) → Ran (saying source_refusal (source_stages passes)) w (Ok I) old new → widths I ≡ schema_widths w.schema
 rows_widths passes w I old new x = let p = ran_passes (saying source_refusal (source_stages passes)) w I old new x in p.1.2.widths_are

@@ -1,6 +1,6 @@
 -- There is one reason to refuse a run, or a plan, and never both.
-use Rattle.std.proofs.Common.{◌≡◌, ℕ, List, refl, sym, ap, subst, Ok}
-use Rattle.std.specs.Prelude.{Bool, codes}
+use Rattle.std.proofs.Common.{◌≡◌, ℕ, List, refl, sym, ap, subst, inr, Ok, Err}
+use Rattle.std.specs.Prelude.{Bool}
 use Rattle.dx_instance.specs.Stored.{TableRows, facts, widths}
 use Rattle.dx_schema.specs.Forest.{Forest}
 use Rattle.dx_schema.specs.Tables.{model_tables, schema_widths}
@@ -30,47 +30,41 @@ use Rattle.clio_files.specs.Files.{FitsFiles}
 use Rattle.clio_files.specs.Texts.{FitTexts}
 use Rattle.clio_files.proofs.Existing.{files_exist, nulls_exist}
 use Rattle.clio_top.specs.declared.command.Command.{Command}
-use Rattle.clio_top.specs.declared.command.Command.TheVariants.{Demonstrating, Exchanging, Showing}
+use Rattle.clio_top.specs.declared.command.Command.TheVariants.{Answering, Comparing, Demonstrating, Exchanging, Judging, Showing}
+use Rattle.clio_top.specs.declared.texts.Side.{Side}
+use Rattle.clio_top.specs.declared.texts.Side.TheVariants.{First}
 use Rattle.clio_ending.specs.declared.ending.Done.{Done}
 use Rattle.clio_ending.specs.declared.ending.Refusal.{Refusal}
 use Rattle.clio_ending.specs.declared.ending.Refusal.TheVariants as refusals
-use Rattle.clio_ending.specs.Ending.{AreAlike, exchange_refusal, mapping_refusal, source_refusal}
+use Rattle.clio_ending.specs.Ending.{AreAlike, exchange_refusal, source_refusal}
+use Rattle.clio_ending.proofs.Alike.{alike, same_alike}
 use Rattle.clio_top.specs.Promises.{RefusedOrPlanned}
-use Rattle.clio_top.specs.Running.{Filled, IsPlanOf, Program, absent, asked, exchange_stages, exchanges, mapping_file, mapping_stages, named_stage, rows_stages, show_stages, shown_plan, target_stages, text_bytes, too_long, wanted}
+use Rattle.clio_top.specs.Running.{Filled, IsPlanOf, Program, absent_text, asked, exchange_stages, exchanges, mapping_stages, named_stage, rows_stages, show_stages, shown_plan, target_stages, text_bytes, text_file, text_name, text_refusal, text_stages, too_long, wanted}
 use Rattle.clio_top.specs.Demo.{IsDemoPlan, demo_stages, demo_world, inside}
-use Rattle.clio_top.specs.Commands.{saying_words, stages_of}
+use Rattle.clio_top.specs.Commands.{saying_words, stages_of, unbuilt}
 use Rattle.clio_top.specs.Words.{or_usage, says}
 use Rattle.clio_top.proofs.Mappings.{is_small}
 use Rattle.clio_top.proofs.Plans.{facts_wide, files_fit, rules_fit, texts_fit}
 
-alike : (e : Refusal) → AreAlike e e
-alike refusals.Usage = refl
-alike (refusals.Clash c t k n) = tt
-alike (refusals.Mapping fault) = refl
-alike (refusals.Rows file fault) = refl
-alike (refusals.Limit limit) = refl
+-- ---- a mapping text
 
-same_alike : (d e : Refusal) → d ≡ e → AreAlike d e
-same_alike d e is = subst (AreAlike d) is (alike d)
+pub text_one : (P : Program) (side : Side) → PassesOne (text_stages P side)
+text_one P side =
+    next_one (text_file side) (saying (text_refusal side) (accepting P.list P.tests)) (file_one (Unit {0}) (text_name side) text_bytes (absent_text side) too_long) (accepting_one P.list P.tests)
 
--- ---- the mapping
-
-mapping_one : (P : Program) → PassesOne (mapping_stages P)
-mapping_one P = next_one mapping_file (saying mapping_refusal (accepting P.list P.tests)) (file_one (Unit {0}) (codes "mapping.clio") text_bytes absent too_long) (accepting_one P.list P.tests)
-
-mapping_decided : (P : Program) → IsDecided AreAlike Any (mapping_stages P)
-mapping_decided P =
-    next_decided AreAlike Any Any mapping_file (saying mapping_refusal (accepting P.list P.tests)) (file_one (Unit {0}) (codes "mapping.clio") text_bytes absent too_long) (λ c a b g p. tt)
-    (file_decided AreAlike Any (codes "mapping.clio") text_bytes absent too_long alike)
-    (saying_decided (λ e k. e ≡ k) AreAlike Any mapping_refusal (accepting P.list P.tests) (λ e k is. same_alike (mapping_refusal e) (mapping_refusal k) (ap mapping_refusal is)) (accepting_decided P.list P.tests))
+pub text_decided : (P : Program) (side : Side) → IsDecided AreAlike Any (text_stages P side)
+text_decided P side =
+    next_decided AreAlike Any Any (text_file side) (saying (text_refusal side) (accepting P.list P.tests)) (file_one (Unit {0}) (text_name side) text_bytes (absent_text side) too_long) (λ c a b g p. tt)
+    (file_decided AreAlike Any (text_name side) text_bytes (absent_text side) too_long alike)
+    (saying_decided (λ e k. e ≡ k) AreAlike Any (text_refusal side) (accepting P.list P.tests) (λ e k is. same_alike (text_refusal side e) (text_refusal side k) (ap (text_refusal side) is)) (accepting_decided P.list P.tests))
 
 -- ---- the rows
 
-rows_one : (P : Program) → PassesOne (rows_stages P)
+pub rows_one : (P : Program) → PassesOne (rows_stages P)
 rows_one P = into_one (λ (M : Mapping) (I : List TableRows). (M, I)) (over wanted (saying source_refusal (source_stages P.passes)))
     (over_one wanted (saying source_refusal (source_stages P.passes)) (source_one P.passes))
 
-rows_decided : (P : Program) (Given : Mapping → Type 0) → IsDecided AreAlike Given (rows_stages P)
+pub rows_decided : (P : Program) (Given : Mapping → Type 0) → IsDecided AreAlike Given (rows_stages P)
 rows_decided P Given =
     into_decided AreAlike Given (λ (M : Mapping) (I : List TableRows). (M, I)) (over wanted (saying source_refusal (source_stages P.passes)))
     (over_decided AreAlike Given Any wanted (saying source_refusal (source_stages P.passes)) (λ M g. tt)
@@ -78,10 +72,10 @@ rows_decided P Given =
 
 -- ---- the target
 
-AreReady : Program → Filled → Type 0
+pub AreReady : Program → Filled → Type 0
 AreReady P p = MappingFits P.list P.tests p.0
 
-target_decided : (P : Program) (mode : Mode) → IsDecided AreAlike (AreReady P) (by (named_stage P.apply mode))
+pub target_decided : (P : Program) (mode : Mode) → IsDecided AreAlike (AreReady P) (by (named_stage P.apply mode))
 unfolding AreReady
 target_decided P mode = record {
   one = λ c p e f r. (asked_decided p.0.source p.0.target).one c (asked mode p) e f (rules_fit P p.0 r);
@@ -90,7 +84,7 @@ target_decided P mode = record {
 }
   where
     faults_alike : (target : Forest) (e k : ExFault) → FaultsAlike e k → AreAlike (exchange_refusal target e) (exchange_refusal target k)
-    faults_alike target (exchange_faults.Clash c) (exchange_faults.Clash d) a = tt
+    faults_alike target (exchange_faults.Clash c) (exchange_faults.Clash d) a = inr (tt, tt)
     faults_alike target (exchange_faults.Clash c) (exchange_faults.Limit l) a = absurd a
     faults_alike target (exchange_faults.Clash c) exchange_faults.Memory a = absurd a
     faults_alike target (exchange_faults.Limit l) e a = same_alike _ _ (ap (exchange_refusal target) a)
@@ -110,8 +104,8 @@ FitsList P M = MappingFits P.list P.tests M
 exchanges_decided : (P : Program) (mode : Mode) → IsDecided AreAlike Any (exchanges P mode)
 unfolding FitsList AreReady
 exchanges_decided P mode =
-    next_decided AreAlike Any (FitsList P) (mapping_stages P) (next (rows_stages P) (target_stages P mode)) (mapping_one P)
-    (λ c a M g p. accepted_fits P.list P.tests c p.0 M (is_small p.0 p.1.1) p.2) (mapping_decided P)
+    next_decided AreAlike Any (FitsList P) (mapping_stages P) (next (rows_stages P) (target_stages P mode)) (text_one P First)
+    (λ c a M g p. accepted_fits P.list P.tests c p.0 M (is_small p.0 p.1.1) p.2) (text_decided P First)
     (next_decided AreAlike (FitsList P) (AreReady P) (rows_stages P) (target_stages P mode) (rows_one P) rows_ready (rows_decided P (FitsList P))
     (into_decided AreAlike (AreReady P) (λ (p : Filled) (e : Exchange). (p.0, e)) (by (named_stage P.apply mode)) (target_decided P mode)))
   where
@@ -181,12 +175,18 @@ demo_decided P number mode =
 
 show_decided : (P : Program) (mode : Mode) → IsDecided AreAlike Any (show_stages P mode)
 show_decided P mode =
-    into_decided AreAlike Any (λ (u : Unit {0}) (M : Mapping). shown_plan P.list mode M) (mapping_stages P) (mapping_decided P)
+    into_decided AreAlike Any (λ (u : Unit {0}) (M : Mapping). shown_plan P.list mode M) (mapping_stages P) (text_decided P First)
+
+unbuilt_decided : IsDecided AreAlike Any unbuilt
+unbuilt_decided = computing_decided AreAlike Any (λ (u : Unit {0}). Err refusals.Usage) alike
 
 stages_decided : (P : Program) (c : Command) → IsDecided AreAlike Any (stages_of P c)
 stages_decided P (Exchanging mode nested) = exchange_decided P mode nested
 stages_decided P (Showing mode) = show_decided P mode
 stages_decided P (Demonstrating number mode) = demo_decided P number mode
+stages_decided P Answering = unbuilt_decided
+stages_decided P Judging = unbuilt_decided
+stages_decided P Comparing = unbuilt_decided
 
 pub run_decided : RefusedOrPlanned
 run_decided P =

@@ -95,15 +95,18 @@ demo_ranged (v ∷ w ∷ []) =
     (λ n. cond_both (is_core w) (numbered v Core) None AreRanged (λ y. numbered_ranged v Core) (λ n. none_ranged))
 demo_ranged (u ∷ v ∷ w ∷ words) = none_ranged
 
+-- one command, or another
+either_ranged : (b : Bool) (x y : Option Command) → AreRanged x → AreRanged y → AreRanged (cond b x y)
+either_ranged true x y p q = p
+either_ranged false x y p q = q
+
 words_ranged : (words : List Word) → AreRanged (says words)
 words_ranged [] = none_ranged
 words_ranged (name ∷ words) =
-    cond_both (same name (codes "show")) (show_said words)
-    (cond (same name (codes "exchange")) (exchange_said words) (cond (same name (codes "demo")) (demo_said words) None)) AreRanged
-    (λ y. show_ranged words)
-    (λ n. cond_both (same name (codes "exchange")) (exchange_said words) (cond (same name (codes "demo")) (demo_said words) None) AreRanged
-    (λ y. exchange_ranged words)
-    (λ n. cond_both (same name (codes "demo")) (demo_said words) None AreRanged (λ y. demo_ranged words) (λ n. none_ranged)))
+    either_ranged (same name (codes "show")) (show_said words) _ (show_ranged words)
+    (either_ranged (same name (codes "exchange")) (exchange_said words) _ (exchange_ranged words)
+    (either_ranged (same name (codes "demo")) (demo_said words) _ (demo_ranged words)
+    none_ranged))
 
 pub says_ranged : (words : List Word) (c : Command) → says words ≡ Some c → IsInRange c
 unfolding AreRanged

@@ -50,14 +50,18 @@ use Rattle.dx_model.specs.declared.rules.Rule.{Rule}
 use Rattle.clio_source.specs.declared.fault.SourceRefusal.{SourceRefusal}
 use Rattle.clio_source.specs.declared.fault.SourceRefusal.TheVariants as source_refusals
 use Rattle.clio_ending.specs.declared.ending.Refusal.TheVariants as refusals
-use Rattle.clio_ending.specs.Ending.{exchange_refusal, mapping_refusal, source_refusal}
+use Rattle.clio_ending.specs.Ending.{exchange_refusal, source_refusal}
 use Rattle.clio_top.specs.declared.command.Command.{Command}
-use Rattle.clio_top.specs.declared.command.Command.TheVariants.{Demonstrating, Exchanging, Showing}
+use Rattle.clio_top.specs.declared.command.Command.TheVariants.{Answering, Comparing, Demonstrating, Exchanging, Judging, Showing}
+use Rattle.clio_top.specs.declared.texts.Side.{Side}
+use Rattle.clio_top.specs.declared.texts.Side.TheVariants.{First, Second}
 use Rattle.clio_top.specs.Words.{or_usage, says}
-use Rattle.clio_top.specs.Running.{Filled, Program, asked, exchanges, mapping_stages}
+use Rattle.clio_top.specs.Running.{Filled, Program, absent_text, asked, exchanges, text_refusal as said_refusal, text_stages}
 use Rattle.clio_top.specs.Demo.{demo_world}
-use Rattle.clio_top.specs.Commands.{run_stages, stages_of}
+use Rattle.clio_top.specs.Commands.{IsInRange, run_stages, stages_of}
 use Rattle.clio_top.specs.Promises.{MemoryIsNoReason, UsageIsOfWords}
+use Rattle.clio_top.proofs.Asked.{said}
+use Rattle.clio_top.proofs.Ranges.{says_ranged}
 
 -- ---- first faults
 
@@ -321,7 +325,7 @@ said_never list tests c m (inr (m1, p1, inl (k, h, is))) = target_kept k (λ e. 
 said_never list tests c m (inr (m1, p1, inr (m2, p2, inl (name, h, is)))) = cc
 said_never list tests c m (inr (m1, p1, inr (m2, p2, inr (m3, p3, h)))) = taking_never list tests c (between_of m3) h
 
-accepting_never : (list : List Conversion) (tests : List RowTest) (c : World) (text : List ℕ) → ¬ ((accepting list tests).refuses c text accept_faults.Memory)
+pub accepting_never : (list : List Conversion) (tests : List RowTest) (c : World) (text : List ℕ) → ¬ ((accepting list tests).refuses c text accept_faults.Memory)
 accepting_never list tests c text (inl (k, h, is)) = text_kept k (λ e. text_told text (subst (IsTextFault text) e h)) is
 accepting_never list tests c text (inr (m, p, h)) = said_never list tests c m h
 
@@ -330,36 +334,47 @@ no_reason P c text a = (accepting_never P.list P.tests c text, λ h. h)
 
 -- ---- usage
 
-mapping_kept : (k : AcceptFault) → ¬ (k ≡ accept_faults.Memory) → ¬ (refusals.Usage ≡ mapping_refusal k)
-mapping_kept (accept_faults.Mapping fault) other is = cc
-mapping_kept (accept_faults.Limit limit) other is = cc
-mapping_kept accept_faults.Memory other is = other refl
+text_kept_as : (side : Side) (k : AcceptFault) → ¬ (k ≡ accept_faults.Memory) → ¬ (refusals.Usage ≡ said_refusal side k)
+text_kept_as First (accept_faults.Mapping fault) other is = cc
+text_kept_as First (accept_faults.Limit limit) other is = cc
+text_kept_as First accept_faults.Memory other is = other refl
+text_kept_as Second (accept_faults.Mapping fault) other is = cc
+text_kept_as Second (accept_faults.Limit limit) other is = cc
+text_kept_as Second accept_faults.Memory other is = other refl
 
-source_rows_kept : (k : SourceRefusal) → ¬ (refusals.Usage ≡ source_refusal k)
+absent_kept : (side : Side) → ¬ (refusals.Usage ≡ absent_text side)
+absent_kept First is = cc
+absent_kept Second is = cc
+
+pub source_rows_kept : (k : SourceRefusal) → ¬ (refusals.Usage ≡ source_refusal k)
 source_rows_kept (source_refusals.Rows file fault) is = cc
 source_rows_kept (source_refusals.Limit limit) is = cc
 
-none_kept : (P : Program) (mode : Mode) (p : Filled) (target : Forest) (fault : ExFault) → HasNone P.apply (asked mode p) fault
+pub none_kept : (P : Program) (mode : Mode) (p : Filled) (target : Forest) (fault : ExFault) → HasNone P.apply (asked mode p) fault
     → ¬ (refusals.Usage ≡ exchange_refusal target fault)
 none_kept P mode p target (exchange_faults.Clash k) h is = cc
 none_kept P mode p target (exchange_faults.Limit l) h is = cc
 none_kept P mode p target exchange_faults.Memory h is = h
 
-mapping_never : (P : Program) (c : World) → ¬ ((mapping_stages P).refuses c (tt {0}) refusals.Usage)
-mapping_never P c (inl (inl (none, is))) = cc
-mapping_never P c (inl (inr (bytes, held, many, is))) = cc
-mapping_never P c (inr (text, there, (k, refused, is))) =
-    mapping_kept k (λ e. accepting_never P.list P.tests c text (subst ((accepting P.list P.tests).refuses c text) e refused)) is
+pub text_never : (P : Program) (side : Side) (c : World) → ¬ ((text_stages P side).refuses c (tt {0}) refusals.Usage)
+text_never P side c (inl (inl (none, is))) = absent_kept side is
+text_never P side c (inl (inr (bytes, held, many, is))) = cc
+text_never P side c (inr (text, there, (k, refused, is))) =
+    text_kept_as side k (λ e. accepting_never P.list P.tests c text (subst ((accepting P.list P.tests).refuses c text) e refused)) is
 
 exchange_never : (P : Program) (mode : Mode) (c : World) → ¬ ((exchanges P mode).refuses c (tt {0}) refusals.Usage)
-exchange_never P mode c (inl m) = mapping_never P c m
+exchange_never P mode c (inl m) = text_never P First c m
 exchange_never P mode c (inr (M, m, inl (k, refused, is))) = source_rows_kept k is
 exchange_never P mode c (inr (M, m, inr (p, r, (fault, none, is)))) = none_kept P mode p p.0.target fault none is
 
-command_never : (P : Program) (c : World) (k : Command) → ¬ ((stages_of P k).refuses c (tt {0}) refusals.Usage)
-command_never P c (Exchanging mode nested) h = exchange_never P mode c h
-command_never P c (Showing mode) h = mapping_never P c h
-command_never P c (Demonstrating number mode) h = exchange_never P mode (demo_world number) h
+-- a command that words say
+command_never : (P : Program) (c : World) (k : Command) → IsInRange k → ¬ ((stages_of P k).refuses c (tt {0}) refusals.Usage)
+command_never P c (Exchanging mode nested) said h = exchange_never P mode c h
+command_never P c (Showing mode) said h = text_never P First c h
+command_never P c (Demonstrating number mode) said h = exchange_never P mode (demo_world number) h
+command_never P c Answering said h = said
+command_never P c Judging said h = said
+command_never P c Comparing said h = said
 
 none_said : (o : Option Command) → or_usage o ≡ Err refusals.Usage → o ≡ None
 none_said None h = refl
@@ -367,7 +382,7 @@ none_said (Some k) h = absurd (cc)
 
 of_words : (P : Program) (c : World) (words : List (List ℕ)) → (run_stages P).refuses c words refusals.Usage → says words ≡ None
 of_words P c words (inl h) = none_said (says words) h
-of_words P c words (inr (k, w, h)) = absurd (command_never P c k h)
+of_words P c words (inr (k, w, h)) = absurd (command_never P c k (says_ranged words k (said words k w)) h)
 
 pub usage : UsageIsOfWords
 usage P c words = (of_words P c words, λ h. inl (ap or_usage h))

@@ -12,17 +12,22 @@ use Rattle.dx_keys.specs.declared.answers.Clash.{Clash}
 use Rattle.dx_instance.specs.Stored.{TableRows, facts}
 use Rattle.dx_exchange.specs.declared.mode.Mode.{Mode}
 use Rattle.dx_exchange.specs.declared.result.Exchange.{Exchange}
+use Rattle.dx_compare.specs.declared.comparing.Comparison.{Comparison}
 use Rattle.dx_stages.specs.Worlds.{World}
 use Rattle.dx_stages.specs.Ending.{Planned}
 use Rattle.clio_accept.specs.declared.mapping.Mapping.{Mapping}
 use Rattle.clio_accept.specs.Accepting.{accepting}
 use Rattle.clio_source.specs.Source.{source_stages}
 use Rattle.clio_ending.specs.declared.ending.Done.{Done}
-use Rattle.clio_ending.specs.declared.ending.Done.TheVariants.{Demo, Exchanged, Shown}
+use Rattle.clio_ending.specs.declared.ending.Answers.{Answers}
+use Rattle.clio_ending.specs.declared.ending.Done.TheVariants.{Answered, Compared, Demo, Exchanged, Shown}
 use Rattle.clio_ending.specs.declared.ending.Ending.{Ending}
 use Rattle.clio_ending.specs.declared.ending.Ending.TheVariants as endings
+use Rattle.clio_ending.specs.declared.ending.Refusal.{Refusal}
 use Rattle.clio_ending.specs.declared.ending.Refusal.TheVariants as refusals
-use Rattle.clio_top.specs.declared.command.Command.TheVariants.{Demonstrating, Exchanging, Showing}
+use Rattle.clio_ending.specs.Ending.{AreAlike, refusal_ending}
+use Rattle.clio_top.specs.declared.command.Command.{Command}
+use Rattle.clio_top.specs.declared.command.Command.TheVariants.{Answering, Comparing, Demonstrating, Exchanging, Judging, Showing}
 use Rattle.clio_top.specs.Words.{Word, says}
 use Rattle.clio_top.specs.Running.{Program, target_cells, text_bytes, wanted}
 use Rattle.clio_top.specs.Demo.{demo_world}
@@ -97,8 +102,24 @@ OrMemory r A = A ⊎ (r ≡ endings.Memory)
 abbrev pub AnswersClash : Ending → Type 0
 AnswersClash r = (k : Clash) × (table : Text) × (key : List Text) × (column : Text) × (r ≡ endings.Clash k table key column)
 
--- over files that are told, if no read and no write failed
+-- what a command has done that is done
+abbrev pub HasDone : Command → Done → Type 0
+HasDone (Exchanging mode nested) d = (e : Exchange) × (d ≡ Exchanged e)
+HasDone (Showing mode) d = d ≡ Shown
+HasDone (Demonstrating number mode) d = (e : Exchange) × (d ≡ Demo e)
+HasDone Answering d = (a : Answers) × (d ≡ Answered a)
+HasDone Judging d = ⊥
+HasDone Comparing d = (k : Comparison) × (d ≡ Compared k)
+
+-- nothing is at fault
+abbrev pub IsFaultless : Program → World → List Word → Type 0
+IsFaultless P c words = (e : Refusal) → ¬ ((run_stages P).refuses c words e)
+
+-- Over files that are told, if no read and no write failed: if nothing is at fault, the command of the words is done; if there is a
+-- reason to refuse, it is the answer, or one that is alike; and what these come to for an exchange and for showing.
 pub record Completes (P : Program) (c : World) (words : List Word) (r : Ending) : Type 0 where
+  pub done : (k : Command) → says words ≡ Some k → IsFaultless P c words → OrMemory r ((d : Done) × HasDone k d × (r ≡ endings.Done d))
+  pub refused : (e : Refusal) → (run_stages P).refuses c words e → OrMemory r ((f : Refusal) × AreAlike f e × (r ≡ refusal_ending f))
   pub exchanged : (mode : Mode) (nested : Bool) → says words ≡ Some (Exchanging mode nested) → HasSolutionIn P c
       → OrMemory r ((e : Exchange) × (r ≡ endings.Done (Exchanged e)))
   pub clash : (mode : Mode) (nested : Bool) → says words ≡ Some (Exchanging mode nested) → HasNoSolutionIn P c → OrMemory r (AnswersClash r)

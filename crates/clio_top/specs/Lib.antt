@@ -1,6 +1,7 @@
 pub mod Words
 pub mod Running
 pub mod Demo
+pub mod Outcomes
 pub mod Commands
 pub mod Promises
 pub mod Completing

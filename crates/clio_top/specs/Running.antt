@@ -1,5 +1,6 @@
 -- The stages of an exchange and of showing.
-use Rattle.std.specs.Prelude.{◌≡◌, ℕ, List, [], codes, Bool}
+use Rattle.std.specs.Prelude.{◌≡◌, ℕ, List, [], codes, Bool, Option}
+use Rattle.dx_ports.specs.Entries.{Entry, Held}
 use Rattle.dx_ports.specs.declared.file.Count.TheVariants.{TextBytes}
 use Rattle.dx_model.specs.Values.{Conversions}
 use Rattle.dx_funcs.specs.declared.conversion.Conversion.{Conversion}
@@ -10,20 +11,25 @@ use Rattle.dx_schema.specs.Tables.{model_tables}
 use Rattle.dx_exchange.specs.declared.mode.Mode.{Mode}
 use Rattle.dx_exchange.specs.declared.result.Exchange.{Exchange}
 use Rattle.dx_exchange.specs.Exchanging.{Asked, exchanging}
-use Rattle.dx_stages.specs.Ending.{Planned}
+use Rattle.dx_stages.specs.Ending.{Planned, Written}
+use Rattle.dx_stages.specs.Running.{Told as ToldOf}
 use Rattle.dx_stages.specs.Stages.{Stage, next, become, by, over, into, file, saying}
 use Rattle.clio_accept.specs.declared.mapping.Mapping.{Mapping}
+use Rattle.clio_accept.specs.declared.fault.AcceptFault.{AcceptFault}
 use Rattle.clio_accept.specs.declared.fault.MapFault.TheVariants as map_faults
 use Rattle.clio_accept.specs.Accepting.{accepting}
 use Rattle.clio_source.specs.Source.{Wanted, source_stages}
 use Rattle.clio_files.specs.Files.{AreFiles, contents_of, files_of, summary_of}
 use Rattle.clio_files.specs.Sheets.{Told}
 use Rattle.clio_files.specs.Texts.{texts_told}
+use Rattle.clio_ending.specs.declared.faults.OtherFault.TheVariants as other_faults
 use Rattle.clio_ending.specs.declared.ending.Done.{Done}
 use Rattle.clio_ending.specs.declared.ending.Done.TheVariants.{Exchanged, Shown}
 use Rattle.clio_ending.specs.declared.ending.Refusal.{Refusal}
 use Rattle.clio_ending.specs.declared.ending.Refusal.TheVariants as refusals
-use Rattle.clio_ending.specs.Ending.{exchange_refusal, mapping_refusal, source_refusal}
+use Rattle.clio_ending.specs.Ending.{exchange_refusal, mapping_refusal, other_refusal, source_refusal}
+use Rattle.clio_top.specs.declared.texts.Side.{Side}
+use Rattle.clio_top.specs.declared.texts.Side.TheVariants.{First, Second}
 
 -- what the program can do: the conversions and the row tests that it lists, what each conversion means, and what passes each test
 pub record Program : Type 0 where
@@ -35,7 +41,14 @@ pub record Program : Type 0 where
 abbrev pub program : List Conversion → List RowTest → Conversions → Passes → Program
 program list tests apply passes = record { list = list; tests = tests; apply = apply; passes = passes }
 
--- how many bytes the mapping text may have
+-- what inputs and outputs tell
+abbrev pub told : Option Held → ℕ → Option (List ℕ) → ToldOf
+told holds faults stopped = record { holds = holds; faults = faults; stopped = stopped }
+
+abbrev pub written : Option (List Entry) → Option (List ℕ) → Written
+written files said = record { files = files; said = said }
+
+-- how many bytes a mapping text may have
 abbrev pub text_bytes : ℕ
 text_bytes = 1048576
 
@@ -43,20 +56,36 @@ text_bytes = 1048576
 abbrev pub target_cells : ℕ
 target_cells = 4000000
 
--- ---- the mapping
+-- ---- the mapping texts
 
-abbrev pub absent : Refusal
-absent = refusals.Mapping map_faults.Absent
+-- the name of a mapping text's file: of the mapping, or of the one that it is compared with
+abbrev pub text_name : Side → List ℕ
+text_name First = codes "mapping.clio"
+text_name Second = codes "other.clio"
+
+-- there is no such file
+abbrev pub absent_text : Side → Refusal
+absent_text First = refusals.Mapping map_faults.Absent
+absent_text Second = refusals.Other other_faults.Absent
+
+-- a fault of the text
+abbrev pub text_refusal : Side → AcceptFault → Refusal
+text_refusal First = mapping_refusal
+text_refusal Second = other_refusal
 
 abbrev pub too_long : Refusal
 too_long = refusals.Limit (record { what = TextBytes; number = text_bytes })
 
-abbrev pub mapping_file : Stage Refusal (Unit {0}) (List ℕ)
-mapping_file = file (codes "mapping.clio") text_bytes absent too_long
+abbrev pub text_file : Side → Stage Refusal (Unit {0}) (List ℕ)
+text_file side = file (text_name side) text_bytes (absent_text side) too_long
 
--- the mapping text, accepted
+-- a mapping text, accepted
+abbrev pub text_stages : Program → Side → Stage Refusal (Unit {0}) Mapping
+text_stages P side = next (text_file side) (saying (text_refusal side) (accepting P.list P.tests))
+
+-- the mapping text
 abbrev pub mapping_stages : Program → Stage Refusal (Unit {0}) Mapping
-mapping_stages P = next mapping_file (saying mapping_refusal (accepting P.list P.tests))
+mapping_stages P = text_stages P First
 
 -- ---- the rows
 

@@ -68,6 +68,11 @@ demo_said (w ∷ []) = numbered w Plain
 demo_said (v ∷ w ∷ []) = if is_core v then numbered w Core else if is_core w then numbered v Core else None
 demo_said (u ∷ v ∷ w ∷ words) = None
 
+-- after a command without options: nothing
+abbrev pub alone : Command → List Word → Option Command
+alone c [] = Some c
+alone c (w ∷ words) = None
+
 -- what words say: a command, by its name and what stands after it
 abbrev pub says : List Word → Option Command
 says [] = None

@@ -15,6 +15,12 @@ pub(crate) enum Command {
     Showing { mode: Mode },
     /// To exchange the files of a demo.
     Demonstrating { number: u32, mode: Mode },
+    /// To answer a query.
+    Answering,
+    /// To judge a given target.
+    Judging,
+    /// To compare two mappings.
+    Comparing,
 }
 
 fn is_core(word: &Text) -> bool

@@ -1,19 +1,27 @@
 // What is said of the exchange of a demo.
-ghost use Rattle.std.specs.Prelude.{◌≡◌, ◌++◌, codes, IfOk, OnOk, length, string_bytes};
+ghost use Rattle.std.specs.Prelude.{◌≡◌, ◌≤◌, ◌++◌, codes, IfOk, OnOk, length, string_bytes};
 ghost use Rattle.std.specs.Fmt.{decimal};
 ghost use Rattle.dx_instance.specs.Stored.{widths};
 ghost use Rattle.dx_schema.specs.Tables.{schema_widths, tables_of};
-ghost use Rattle.dx_stages.specs.Ending.{planned_of};
-ghost use Rattle.clio_top.specs.Demo.{IsDemoPlan, counts_text, demo_text};
+ghost use Rattle.dx_funcs.specs.Judging.{Decides, tested};
+ghost use Rattle.dx_funcs.specs.Serving.{Serves, offered};
+ghost use Rattle.dx_stages.specs.Ending.{planned, planned_of};
+ghost use Rattle.dx_stages.specs.Running.{Gives};
+ghost use Rattle.clio_top.specs.Demo.{IsDemoPlan, counts_text, demo_stages, demo_text};
+ghost use Rattle.clio_top.specs.Running.{program};
 
+use crate::demo_inputs::DemoInputs;
+use crate::exchanging::exchange_files;
 use clio_accept::Mapping;
-use clio_ending::Done;
+use clio_ending::{Done, Refusal};
 use clio_files::nulls_of;
-use dx_exchange::Exchange;
+use dx_exchange::{Exchange, Mode};
+use dx_funcs::{Host, Meaning, Tests};
+use dx_gen::demo_files;
 use dx_instance::Instance;
-use dx_ports::Text;
+use dx_ports::{Items, Text};
 use dx_schema::Schema;
-use dx_stages::Plan;
+use dx_stages::{Plan, Stop};
 use std::alloc::{AllocError, Global};
 
 // The line of a table: its name and how many rows it has.
@@ -57,8 +65,8 @@ fn demo_text(
     Ok(text)
 }
 
-/// What is said of the exchange of a demo.
-pub(crate) fn plan_demo(
+// What is said of the exchange of a demo.
+fn plan_demo(
     alloc: Global,
     number: u32,
     mapping: &Mapping,
@@ -74,4 +82,29 @@ pub(crate) fn plan_demo(
         files: Vec::new(alloc),
         text: text.into_bytes(),
     })
+}
+
+/// What `demo` says.
+pub(crate) fn demo_plan<F, P, M>(
+    alloc: Global,
+    number: u32,
+    host: &Host<F, M>,
+    tests: &Tests<P, M>,
+    mode: Mode,
+) -> Result<Plan<Done>, Stop<Refusal>>
+where
+    F: Fn(u32, &Items<Text>) -> Result<Text, AllocError>,
+    P: Fn(u32, &Text) -> Result<bool, AllocError>,
+    M: Meaning,
+    requires serves { Serves F.Fn M.apply host.now }
+    requires decides { Decides P.Fn M.passes tests.now }
+    requires some { 1 ≤ number }
+    requires few { number ≤ 100000 }
+    ensures { Gives (demo_stages (program (offered host.now) (tested tests.now) M.apply M.passes) number mode) (tt {0}) (planned result) }
+{
+    let mut inputs = DemoInputs {
+        files: demo_files(alloc, number)?,
+    };
+    let (mapping, exchange) = exchange_files(alloc, &mut inputs, host, tests, mode)?;
+    Ok(plan_demo(alloc, number, &mapping, exchange)?)
 }

@@ -1,7 +1,6 @@
 // The laws of a run. The definitions alone carry them: no body computes anything.
-ghost use Rattle.clio_top.specs.Promises.{AskedInOrder, ClashesAreOfTexts, DemosAreOfTheirFiles, ExchangesAreOfTexts};
-ghost use Rattle.clio_top.specs.Promises.{FilesHaveOwnNames, MemoryIsNoReason, NoSolutionIsAClash, RefusedOrPlanned};
-ghost use Rattle.clio_top.specs.Promises.{ShownAreOfTexts, UsageIsOfWords};
+ghost use Rattle.clio_top.specs.Promises.{AskedInOrder, ClashesAreOfTexts, DoneIsAsAsked, FilesHaveOwnNames};
+ghost use Rattle.clio_top.specs.Promises.{MemoryIsNoReason, NoSolutionIsAClash, RefusedOrPlanned, UsageIsOfWords};
 ghost use Rattle.clio_top.specs.Completing.{DemoIsAClash, DemoIsPlanned, MappingIsShown, SmallIsPlanned, SolutionIsPlanned};
 ghost use Rattle.clio_top.specs.FilesOf.{ExchangesCanBeWritten};
 
@@ -10,12 +9,11 @@ pub fn refused_or_planned()
     ensures { RefusedOrPlanned }
 {}
 
-/// What a run that is done was made of, and which files it asks for, whether or not the inputs tell what they hold: an exchange for
-/// the mapping text and then, if that is accepted, for the source files in order; to show for the mapping text alone; a demo for none.
+/// What a run has done is what its words ask for, of the texts and files of some world, whether or not the inputs tell what they hold:
+/// an exchange is that of the mapping text and then, if that is accepted, of the source files in order; what is shown is of the
+/// mapping text alone; a demo is of its own files. And it asks for these files alone.
 pub fn over_anything()
-    ensures exchange { ExchangesAreOfTexts }
-    ensures shown { ShownAreOfTexts }
-    ensures demo { DemosAreOfTheirFiles }
+    ensures done { DoneIsAsAsked }
     ensures asked { AskedInOrder }
 {}
 

@@ -1,26 +1,30 @@
 //! The whole program, over what it reads from and writes to.
 //!
 //! `run` does what the words say: it shows the rules of a mapping and their script, exchanges data under it, or exchanges the
-//! files of a demo. Its contract is a record (dx_stages, specs/Ending, `Runs`) of one row of stages (specs/Commands, `run_stages`):
-//! there is a look-up from names to bytes, which is what the inputs hold if they tell, in which the run ended so for its reason, and
-//! it left what it had to. More clauses say what a finished exchange, a mapping that is shown, a demo and a clash come to
-//! (specs/Promises), what a run leaves that is not done (specs/Leaving), and what comes if nothing outside fails (specs/Completing).
-//! `files` makes the files of an exchange alone (specs/FilesOf). Endings and their messages are those of `clio_ending`.
+//! files of a demo. Each command has a module, over what they share: the mapping texts (`texts`), the rows of the source files
+//! (`source`) and their exchange (`target`). The contract of `run` is a record (dx_stages, specs/Ending, `Runs`) of one row of
+//! stages (specs/Commands, `run_stages`): there is a look-up from names to bytes, which is what the inputs hold if they tell, in
+//! which the run ended so for its reason, and it left what it had to. More clauses say what each thing that is done comes to, and a
+//! clash (specs/Promises, over specs/Outcomes), what a run leaves that is not done (specs/Leaving), and what comes if nothing outside
+//! fails (specs/Completing). `files` makes the files of an exchange alone (specs/FilesOf). Endings and their messages are those of
+//! `clio_ending`.
 #![tactic(auto)]
 
 mod command;
 mod demo;
 mod demo_inputs;
+mod exchanging;
 mod file_list;
 mod laws;
-mod mapping;
 mod numeral;
-mod planning;
+mod showing;
 mod source;
+mod target;
+mod texts;
 mod top;
 
 pub use clio_accept::{AcceptFault, MapFault, Mapping, accept};
-pub use clio_ending::{Done, Ending, message};
+pub use clio_ending::{Answers, Done, Ending, OtherFault, QueryFault, message};
 pub use clio_source::RowsFault;
 pub use file_list::files;
 pub use laws::{

@@ -7,7 +7,7 @@ ghost use Rattle.dx_used.specs.Named.{ReadNamed};
 ghost use Rattle.dx_used.specs.Used.{Marks, UsesOnly};
 ghost use Rattle.clio_source.specs.Agreeing.{RanAgreeing};
 ghost use Rattle.clio_source.specs.Kept.{AreTested};
-ghost use Rattle.clio_source.specs.Source.{source_stages};
+ghost use Rattle.clio_source.specs.Source.{source_left};
 ghost use Rattle.clio_ending.specs.Ending.{source_refusal};
 ghost use Rattle.clio_top.specs.Running.{wanted};
 
@@ -21,27 +21,27 @@ use dx_stages::Stop;
 use dx_used::used_columns;
 use std::alloc::{AllocError, Global};
 
-// The rows of the source files that pass the mapping's conditions, of which the used columns count.
+// The rows of the source files that pass the mapping's conditions, of which the used columns count, and how many bytes are left.
 fn read_rows<I: Inputs, P, M>(
     alloc: Global,
     inputs: &mut I,
     mapping: &Mapping,
     used: &[Items<bool>],
     tests: &Tests<P, M>,
-) -> Result<Instance, Stop<Refusal>>
+) -> Result<(Instance, u64), Stop<Refusal>>
 where
     P: Fn(u32, &Text) -> Result<bool, AllocError>,
     M: Meaning,
     requires decides { Decides P.Fn M.passes tests.now }
     requires listed { AreTested (tested tests.now) mapping.now.conditions }
     requires named { ReadNamed used.now mapping.now.conditions }
-    ensures { RanAgreeing used.now (saying source_refusal (source_stages M.passes)) (wanted mapping.now) result
+    ensures { RanAgreeing used.now (saying source_refusal (source_left M.passes)) (wanted mapping.now) result
         (record { holds = I.holds inputs.old; faults = I.faults inputs.old; stopped = I.stopped inputs.old })
         (record { holds = I.holds inputs.new; faults = I.faults inputs.new; stopped = I.stopped inputs.new }) }
 {
     let conditions = mapping.conditions.items();
     match read_source(alloc, inputs, &mapping.source, conditions, used, tests) {
-        Ok(rows) => Ok(rows),
+        Ok(source) => Ok(source),
         Err(Stop::Refused(SourceRefusal::Rows { file, fault })) => {
             Err(Stop::Refused(Refusal::Rows { file, fault }))
         }
@@ -53,20 +53,21 @@ where
     }
 }
 
-/// The rows of the source files of a mapping that pass its conditions, of which the columns that its rules use count.
+/// The rows of the source files of a mapping that pass its conditions, of which the columns that its rules use count; and how many
+/// bytes are left for files that are read after these.
 pub(crate) fn read_used_rows<I: Inputs, P, M>(
     alloc: Global,
     inputs: &mut I,
     mapping: &Mapping,
     tests: &Tests<P, M>,
-) -> Result<Instance, Stop<Refusal>>
+) -> Result<(Instance, u64), Stop<Refusal>>
 where
     P: Fn(u32, &Text) -> Result<bool, AllocError>,
     M: Meaning,
     requires decides { Decides P.Fn M.passes tests.now }
     requires listed { AreTested (tested tests.now) mapping.now.conditions }
     ensures { (used : Marks) × Each mapping.now.rules (UsesOnly used)
-        × RanAgreeing used (saying source_refusal (source_stages M.passes)) (wanted mapping.now) result
+        × RanAgreeing used (saying source_refusal (source_left M.passes)) (wanted mapping.now) result
         (record { holds = I.holds inputs.old; faults = I.faults inputs.old; stopped = I.stopped inputs.old })
         (record { holds = I.holds inputs.new; faults = I.faults inputs.new; stopped = I.stopped inputs.new }) }
 {

@@ -1,5 +1,5 @@
 // The top call.
-ghost use Rattle.std.specs.Prelude.{◌≡◌, ◌≤◌, ℕ, List, Some};
+ghost use Rattle.std.specs.Prelude.{◌≡◌, ℕ, List, Some};
 ghost use Rattle.std.specs.FinMap.{get};
 ghost use Rattle.dx_ports.specs.Entries.{Held};
 ghost use Rattle.dx_ports.specs.Faults.{Rose};
@@ -7,7 +7,7 @@ ghost use Rattle.dx_funcs.specs.Judging.{Decides, tested};
 ghost use Rattle.dx_funcs.specs.Serving.{Serves, offered};
 ghost use Rattle.dx_exchange.specs.declared.result.Exchange.{Exchange as ExchangeOf};
 ghost use Rattle.dx_keys.specs.declared.answers.Clash.{Clash as ClashOf};
-ghost use Rattle.dx_stages.specs.Running.{Gives, Ran};
+ghost use Rattle.dx_stages.specs.Running.{Ran};
 ghost use Rattle.dx_stages.specs.Worlds.{IsOf, World};
 ghost use Rattle.dx_stages.specs.Ending.{Runs, planned};
 ghost use Rattle.dx_stages.specs.declared.plan.Ended.{Ended as EndedOf};
@@ -16,120 +16,22 @@ ghost use Rattle.clio_ending.specs.declared.ending.Done.TheVariants.{Demo, Excha
 ghost use Rattle.clio_ending.specs.declared.ending.Ending.TheVariants.{Clash as ClashEnding, Done as DoneEnding};
 ghost use Rattle.clio_ending.specs.declared.ending.Refusal.{Refusal as RefusalOf};
 ghost use Rattle.clio_ending.specs.Ending.{AreAlike, ending_of};
-ghost use Rattle.clio_top.specs.Running.{exchange_stages, exchanges, program, show_stages};
-ghost use Rattle.clio_top.specs.Demo.{demo_stages};
+ghost use Rattle.clio_top.specs.Running.{program, told, written};
 ghost use Rattle.clio_top.specs.Commands.{IsInRange, run_stages, stages_of};
+ghost use Rattle.clio_top.specs.Outcomes.{wrote_all};
 ghost use Rattle.clio_top.specs.Promises.{IsClashOf, IsDemo, IsDone, IsShown};
 ghost use Rattle.clio_top.specs.Completing.{Completes, CompletesDemo};
 ghost use Rattle.clio_top.specs.Leaving.{Leaves};
 
 use crate::command::{Command, command_of};
-use crate::demo::plan_demo;
-use crate::demo_inputs::DemoInputs;
-use crate::mapping::read_mapping;
-use crate::planning::{exchange_rows, plan_exchange, plan_shown};
-use crate::source::read_used_rows;
-use clio_accept::Mapping;
+use crate::demo::demo_plan;
+use crate::exchanging::exchange_plan;
+use crate::showing::show_plan;
 use clio_ending::{Done, Ending, Refusal, as_ending};
-use dx_exchange::{Exchange, Mode};
 use dx_funcs::{Host, Meaning, Tests};
-use dx_gen::demo_files;
 use dx_ports::{Inputs, Items, Outputs, Text};
 use dx_stages::{Plan, Stop, carry_out};
 use std::alloc::{AllocError, Global};
-
-// A mapping, and the exchange of the rows of its source files that pass its conditions.
-// What is read agrees with these rows on the columns that its rules use, and so has the same exchange (proofs/SameExchange).
-fn exchange_files<I: Inputs, F, P, M>(
-    alloc: Global,
-    inputs: &mut I,
-    host: &Host<F, M>,
-    tests: &Tests<P, M>,
-    mode: Mode,
-) -> Result<(Mapping, Exchange), Stop<Refusal>>
-where
-    F: Fn(u32, &Items<Text>) -> Result<Text, AllocError>,
-    P: Fn(u32, &Text) -> Result<bool, AllocError>,
-    M: Meaning,
-    requires serves { Serves F.Fn M.apply host.now }
-    requires decides { Decides P.Fn M.passes tests.now }
-    ensures { Ran (exchanges (program (offered host.now) (tested tests.now) M.apply M.passes) mode) (tt {0}) result
-        (record { holds = I.holds inputs.old; faults = I.faults inputs.old; stopped = I.stopped inputs.old })
-        (record { holds = I.holds inputs.new; faults = I.faults inputs.new; stopped = I.stopped inputs.new }) }
-{
-    let mapping = read_mapping(alloc, inputs, host, tests)?;
-    let rows = read_used_rows(alloc, inputs, &mapping, tests)?;
-    let exchange = exchange_rows(alloc, &mapping, &rows, host, mode)?;
-    Ok((mapping, exchange))
-}
-
-// What `exchange` writes.
-fn exchange_plan<I: Inputs, F, P, M>(
-    alloc: Global,
-    inputs: &mut I,
-    host: &Host<F, M>,
-    tests: &Tests<P, M>,
-    mode: Mode,
-    nested: bool,
-) -> Result<Plan<Done>, Stop<Refusal>>
-where
-    F: Fn(u32, &Items<Text>) -> Result<Text, AllocError>,
-    P: Fn(u32, &Text) -> Result<bool, AllocError>,
-    M: Meaning,
-    requires serves { Serves F.Fn M.apply host.now }
-    requires decides { Decides P.Fn M.passes tests.now }
-    ensures { Ran (exchange_stages (program (offered host.now) (tested tests.now) M.apply M.passes) mode nested) (tt {0}) (planned result)
-        (record { holds = I.holds inputs.old; faults = I.faults inputs.old; stopped = I.stopped inputs.old })
-        (record { holds = I.holds inputs.new; faults = I.faults inputs.new; stopped = I.stopped inputs.new }) }
-{
-    let (mapping, exchange) = exchange_files(alloc, inputs, host, tests, mode)?;
-    Ok(plan_exchange(alloc, &mapping, exchange, host, mode, nested)?)
-}
-
-// What `demo` says.
-fn demo_plan<F, P, M>(
-    alloc: Global,
-    number: u32,
-    host: &Host<F, M>,
-    tests: &Tests<P, M>,
-    mode: Mode,
-) -> Result<Plan<Done>, Stop<Refusal>>
-where
-    F: Fn(u32, &Items<Text>) -> Result<Text, AllocError>,
-    P: Fn(u32, &Text) -> Result<bool, AllocError>,
-    M: Meaning,
-    requires serves { Serves F.Fn M.apply host.now }
-    requires decides { Decides P.Fn M.passes tests.now }
-    requires some { 1 ≤ number }
-    requires few { number ≤ 100000 }
-    ensures { Gives (demo_stages (program (offered host.now) (tested tests.now) M.apply M.passes) number mode) (tt {0}) (planned result) }
-{
-    let mut inputs = DemoInputs {
-        files: demo_files(alloc, number)?,
-    };
-    let (mapping, exchange) = exchange_files(alloc, &mut inputs, host, tests, mode)?;
-    Ok(plan_demo(alloc, number, &mapping, exchange)?)
-}
-
-// What `show` says.
-fn show_plan<I: Inputs, F, P, M>(
-    alloc: Global,
-    inputs: &mut I,
-    host: &Host<F, M>,
-    tests: &Tests<P, M>,
-    mode: Mode,
-) -> Result<Plan<Done>, Stop<Refusal>>
-where
-    F: Fn(u32, &Items<Text>) -> Result<Text, AllocError>,
-    P: Fn(u32, &Text) -> Result<bool, AllocError>,
-    M: Meaning,
-    ensures { Ran (show_stages (program (offered host.now) (tested tests.now) M.apply M.passes) mode) (tt {0}) (planned result)
-        (record { holds = I.holds inputs.old; faults = I.faults inputs.old; stopped = I.stopped inputs.old })
-        (record { holds = I.holds inputs.new; faults = I.faults inputs.new; stopped = I.stopped inputs.new }) }
-{
-    let mapping = read_mapping(alloc, inputs, host, tests)?;
-    Ok(plan_shown(alloc, &mapping, host, mode)?)
-}
 
 // What a command writes.
 fn plan_command<I: Inputs, F, P, M>(
@@ -156,6 +58,9 @@ where
         ),
         Command::Showing { mode } => show_plan(alloc, inputs, host, tests, mode),
         Command::Demonstrating { number, mode } => demo_plan(alloc, number, host, tests, mode),
+        Command::Answering | Command::Judging | Command::Comparing => {
+            Err(Stop::Refused(Refusal::Usage))
+        }
     }
 }
 
@@ -213,22 +118,19 @@ where
     requires decides { Decides P.Fn M.passes tests.now }
     ensures exchanged { (e : ExchangeOf) → result ≡ DoneEnding (Exchanged e) → (c : World) × IsOf (I.holds inputs.old) c
         × IsDone (program (offered host.now) (tested tests.now) M.apply M.passes) c words.now.items e
-        (record { files = O.files outputs.old; said = O.said outputs.old })
-        (record { files = O.files outputs.new; said = O.said outputs.new }) }
+        (wrote_all (written (O.files outputs.old) (O.said outputs.old)) (written (O.files outputs.new) (O.said outputs.new))) }
     ensures shown { result ≡ DoneEnding Shown → (c : World) × IsOf (I.holds inputs.old) c
         × IsShown (program (offered host.now) (tested tests.now) M.apply M.passes) c words.now.items
-        (record { files = O.files outputs.old; said = O.said outputs.old })
-        (record { files = O.files outputs.new; said = O.said outputs.new }) }
+        (wrote_all (written (O.files outputs.old) (O.said outputs.old)) (written (O.files outputs.new) (O.said outputs.new))) }
     ensures demo { (e : ExchangeOf) → result ≡ DoneEnding (Demo e)
         → IsDemo (program (offered host.now) (tested tests.now) M.apply M.passes) words.now.items e
-        (record { files = O.files outputs.old; said = O.said outputs.old })
-        (record { files = O.files outputs.new; said = O.said outputs.new }) }
+        (wrote_all (written (O.files outputs.old) (O.said outputs.old)) (written (O.files outputs.new) (O.said outputs.new))) }
     ensures clash { (k : ClashOf) (table : List ℕ) (key : List (List ℕ)) (column : List ℕ) → result ≡ ClashEnding k table key column
         → (c : World) × IsOf (I.holds inputs.old) c
         × IsClashOf (program (offered host.now) (tested tests.now) M.apply M.passes) c words.now.items k table key column }
-    ensures left { (c : World) × IsOf (I.holds inputs.old) c × Leaves (program (offered host.now) (tested tests.now) M.apply M.passes) c words.now.items
-        (record { files = O.files outputs.old; said = O.said outputs.old })
-        (record { files = O.files outputs.new; said = O.said outputs.new }) result }
+    ensures left { (c : World) × IsOf (I.holds inputs.old) c
+        × Leaves (program (offered host.now) (tested tests.now) M.apply M.passes) c words.now.items
+        (written (O.files outputs.old) (O.said outputs.old)) (written (O.files outputs.new) (O.said outputs.new)) result }
     ensures complete { (m : Held) → I.holds inputs.old ≡ Some m → ¬ (Rose (I.faults inputs.old) (I.faults inputs.new))
         → ¬ (Rose (O.faults outputs.old) (O.faults outputs.new))
         → Completes (program (offered host.now) (tested tests.now) M.apply M.passes) (λ n. get m n) words.now.items result }
@@ -236,10 +138,10 @@ where
         → CompletesDemo (program (offered host.now) (tested tests.now) M.apply M.passes) words.now.items result }
     ensures runs { (e : EndedOf DoneOf RefusalOf) × (result ≡ ending_of e)
         × Runs AreAlike (run_stages (program (offered host.now) (tested tests.now) M.apply M.passes)) words.now.items e
-        (record { holds = I.holds inputs.old; faults = I.faults inputs.old; stopped = I.stopped inputs.old })
-        (record { holds = I.holds inputs.new; faults = I.faults inputs.new; stopped = I.stopped inputs.new })
-        (record { files = O.files outputs.old; said = O.said outputs.old })
-        (record { files = O.files outputs.new; said = O.said outputs.new }) (O.faults outputs.old) (O.faults outputs.new) }
+        (told (I.holds inputs.old) (I.faults inputs.old) (I.stopped inputs.old))
+        (told (I.holds inputs.new) (I.faults inputs.new) (I.stopped inputs.new))
+        (written (O.files outputs.old) (O.said outputs.old)) (written (O.files outputs.new) (O.said outputs.new))
+        (O.faults outputs.old) (O.faults outputs.new) }
 {
     let plan = plan_words(alloc, words, inputs, host, tests);
     as_ending(carry_out(plan, outputs))

@@ -6,3 +6,4 @@ pub mod Premises
 pub mod Answered
 mod Asked
 pub mod Examples
+pub mod Shown

@@ -2,4 +2,5 @@ pub mod Frozen
 pub mod Pruning
 pub mod Laws
 pub mod Near
+pub mod Refuting
 pub mod Asking

@@ -60,7 +60,7 @@ fn can_stand(
 
 /// Whether the conclusion of the rule stands in the instance, with the texts of its variables and some values of its
 /// existential variables.
-fn has_conclusion(
+pub(crate) fn has_conclusion(
     alloc: Global,
     rule: &Rule,
     prefix: &Text,
@@ -77,7 +77,7 @@ fn has_conclusion(
 }
 
 /// Makes an index of each column.
-fn index_all(instance: &mut Instance) -> Result<(), AllocError>
+pub(crate) fn index_all(instance: &mut Instance) -> Result<(), AllocError>
     ensures { OnOk result (instance.new ≡ instance.old) }
 {
     for table in 0..instance.tables() {
@@ -104,7 +104,7 @@ fn stands_in(
 }
 
 /// What rules without derived variables make of a frozen premise.
-fn made_of(
+pub(crate) fn made_of(
     alloc: Global,
     rules: &[Rule],
     premise: &Instance,

@@ -6,4 +6,4 @@ use Rattle.clio_files.proofs.tables.push_tables.Given as goal
 
 -- the files added are those of the tables so far
 abbrev pub invariant-loop-table : goal.invariant-loop-table
-invariant-loop-table l = AddsTables (take l.table (tables_of l.schema)) l.target (map seen l.fn.files.items) (map seen l.files.items)
+invariant-loop-table l = AddsTables l.front (take l.table (tables_of l.schema)) l.instance (map seen l.fn.files.items) (map seen l.files.items)

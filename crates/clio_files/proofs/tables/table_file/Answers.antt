@@ -1,4 +1,4 @@
-use Rattle.std.proofs.Common.{◌∙◌, ap}
+use Rattle.std.proofs.Common.{◌∙◌, ◌++◌, ap}
 use Rattle.dx_schema.specs.Tables.{tables_of}
 use Rattle.clio_source.specs.Source.{csv_name}
 use Rattle.clio_files.proofs.SheetLists.{width_at}
@@ -7,11 +7,11 @@ use Rattle.clio_files.proofs.tables.table_file.Goals as goal
 pub print_table_bytes-requires-clause-width : goal.print_table_bytes-requires-clause-width
 print_table_bytes-requires-clause-width c =
     let ts = tables_of c.args.schema.now in
-    rw c.columns.ensures.names (width_at c.args.target.now ts c.args.table _ _ c.requires.widths c.requires.table).1
+    rw c.columns.ensures.names (width_at c.args.instance.now ts c.args.table _ _ c.requires.widths c.requires.table).1
 
 pub returns : goal.returns
 returns c = record {
-  name = c.in_ok-file_name.ensures ∙ ap csv_name c.name.ensures;
+  name = c.in_ok-file_name.ensures ∙ ap (λ n. c.args.front.now ++ csv_name n) c.name.ensures;
   bytes = rw c.columns.ensures.names at c.in_ok-bytes.ensures.text;
   count = c.from.ensures ∙ c.count.ensures;
 }

@@ -12,11 +12,11 @@ returns-in_err-reading-clause-read g c =
 pub returns-clause-read : goal.returns-clause-read
 returns-clause-read g c =
     let w : Wanted = record { schema = c.args.schema.now; conditions = c.args.conditions.now } in
-    source_passes g.M.Meaning.passes c.args.used.now w c.in_ok-reading.reading c.in_ok-rows.rows c.in_ok-passing_rows.field-0 _ _
-    c.in_ok-reading.ensures.read c.requires.named c.in_ok-reading.ensures.fit c.in_ok-rows.ensures c.in_ok-passing_rows.ensures
+    source_passes g.M.Meaning.passes c.args.used.now w c.in_ok-reading.reading c.in_ok-rows.rows c.in_ok-passed.passed _ _
+    c.in_ok-reading.ensures.read c.requires.named c.in_ok-reading.ensures.fit c.in_ok-rows.ensures c.in_ok-passed.ensures
 
 pub returns-clause-blank : goal.returns-clause-blank
 returns-clause-blank g c =
     let w : Wanted = record { schema = c.args.schema.now; conditions = c.args.conditions.now } in
-    source_blank g.M.Meaning.passes c.args.used.now w c.in_ok-reading.reading c.in_ok-rows.rows c.in_ok-passing_rows.field-0
-    c.in_ok-rows.ensures c.in_ok-passing_rows.ensures c.in_ok-reading.ensures.blank
+    source_blank g.M.Meaning.passes c.args.used.now w c.in_ok-reading.reading c.in_ok-rows.rows c.in_ok-passed.passed
+    c.in_ok-rows.ensures c.in_ok-passed.ensures c.in_ok-reading.ensures.blank

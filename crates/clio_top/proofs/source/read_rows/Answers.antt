@@ -29,7 +29,7 @@ returns-in-Err-Memory g c =
     no_rows g.M.Meaning.passes c.args.used.now (wanted c.args.mapping.now) c.read_source.result stops.Memory stops.Memory _ _ (c.in-Err-Memory.is ∙ ap Err c.in-Err-Memory.field-0-is) refl (rw c.items-conditions.ensures at c.read_source.ensures.read)
 
 pub returns-in-Ok : goal.returns-in-Ok
-returns-in-Ok g c = rows_agree g.M.Meaning.passes c.args.used.now (wanted c.args.mapping.now) c.read_source.result c.in-Ok.rows _ _ c.in-Ok.is (rw c.items-conditions.ensures at c.read_source.ensures.read)
+returns-in-Ok g c = rows_agree g.M.Meaning.passes c.args.used.now (wanted c.args.mapping.now) c.read_source.result c.in-Ok.source _ _ c.in-Ok.is (rw c.items-conditions.ensures at c.read_source.ensures.read)
 
 pub read_source-requires-clause-listed : goal.read_source-requires-clause-listed
 read_source-requires-clause-listed g c = rw c.items-conditions.ensures c.requires.listed

@@ -1,0 +1,103 @@
+-- What is done is as the words ask for it.
+use Rattle.std.proofs.Common.{◌≡◌, ℕ, List, [], length, refl, sym, ◌∙◌, ap, subst, Option, Some, None, Ok}
+use Rattle.std.specs.Prelude.{Bool}
+use Rattle.dx_model.specs.declared.values.NullId.{NullId}
+use Rattle.dx_instance.specs.Stored.{facts}
+use Rattle.dx_exchange.specs.declared.mode.Mode.{Mode}
+use Rattle.dx_exchange.specs.declared.result.Exchange.{Exchange}
+use Rattle.dx_exchange.specs.Exchanging.{IsExchange}
+use Rattle.dx_stages.specs.Worlds.{World}
+use Rattle.dx_stages.specs.Ending.{Planned}
+use Rattle.clio_accept.specs.declared.mapping.Mapping.{Mapping}
+use Rattle.clio_files.specs.Files.{AreFiles, files_of, summary_of}
+use Rattle.clio_files.specs.Sheets.{AreNulls, Told}
+use Rattle.clio_ending.specs.declared.ending.Done.{Done}
+use Rattle.clio_top.specs.declared.command.Command.{Command}
+use Rattle.clio_top.specs.declared.command.Command.TheVariants.{Answering, Comparing, Demonstrating, Exchanging, Judging, Showing}
+use Rattle.clio_top.specs.Words.{or_usage, says}
+use Rattle.clio_top.specs.Running.{Filled, Program, asked, exchanges}
+use Rattle.clio_top.specs.Demo.{demo_text, demo_world}
+use Rattle.clio_top.specs.Commands.{run_stages, stages_of, unbuilt}
+use Rattle.clio_top.specs.Outcomes.{IsDemoIn, IsDoneIn, IsExchangeIn, Writing, wrote_all}
+use Rattle.clio_top.specs.Promises.{AsAsked, DoneIsAsAsked}
+
+-- ---- an exchange in a world
+
+abbrev pub in_world : (P : Program) (mode : Mode) (c : World) (q : Mapping × Exchange) → (exchanges P mode).passes c (tt {0}) q → IsExchangeIn P mode c q.1
+in_world P mode c q (M, (text, there, accepted), (pair, (I, source, pair_is), (x, exchange, q_is))) = record {
+  text = text;
+  held = there.0;
+  mapping = M;
+  accepted = accepted;
+  rows = I;
+  source = source;
+  exchange = subst (IsExchange P.apply (asked mode (M, I))) (sym (ap (λ (r : Mapping × Exchange). r.1) q_is)) (subst (λ (r : Filled). IsExchange P.apply (asked mode r) x) pair_is exchange);
+}
+
+-- its mapping is the one that was passed on
+its_mapping : (P : Program) (mode : Mode) (c : World) (q : Mapping × Exchange) (x : (exchanges P mode).passes c (tt {0}) q) → q.0 ≡ (in_world P mode c q x).mapping
+its_mapping P mode c q (M, m, (pair, r, (x, exchange, q_is))) = ap (λ (t : Mapping × Exchange). t.0) q_is ∙ ap (λ (t : Filled). t.0) r.2
+
+-- what was written of a plan
+pub as_planned : (Wrote : Writing) (p r : Planned Done) → p ≡ r → Wrote p.files p.text → Wrote r.files r.text
+as_planned Wrote p r is w = subst (λ (t : Planned Done). Wrote t.files t.text) is w
+
+done_with : (P : Program) (mode : Mode) (nested : Bool) (c : World) (q : Mapping × Exchange) (files : List Told) (Wrote : Writing)
+    → (exchanges P mode).passes c (tt {0}) q → AreFiles q.0.source q.0.target P.list mode nested q.0.rules q.1 files
+    → Wrote (files_of files) (summary_of files) → IsDoneIn P mode nested c q.1 Wrote
+done_with P mode nested c q files Wrote x are wrote = record {
+  exchange = in_world P mode c q x;
+  files = files;
+  are = subst (λ (N : Mapping). AreFiles N.source N.target P.list mode nested N.rules q.1 files) (its_mapping P mode c q x) are;
+  written = wrote;
+}
+
+demo_with : (P : Program) (number : ℕ) (mode : Mode) (q : Mapping × Exchange) (nulls : List NullId) (Wrote : Writing)
+    → (exchanges P mode).passes (demo_world number) (tt {0}) q → AreNulls (facts q.1.target) nulls
+    → Wrote [] (demo_text number q.0 q.1.target (length nulls)) → IsDemoIn P number mode q.1 Wrote
+demo_with P number mode q nulls Wrote x are wrote = record {
+  exchange = in_world P mode (demo_world number) q x;
+  nulls = nulls;
+  nulls_are = are;
+  written = subst (λ (N : Mapping). Wrote [] (demo_text number N q.1.target (length nulls))) (its_mapping P mode (demo_world number) q x) wrote;
+}
+
+-- ---- each command
+
+-- a command that is not built plans nothing
+pub unplanned : (c : World) (p : Planned Done) → ¬ (unbuilt.passes c (tt {0}) p)
+unplanned c p h = cc
+
+asked_by : (P : Program) (c : World) (words : List (List ℕ)) (k : Command) (p : Planned Done) (Wrote : Writing) → says words ≡ Some k
+    → (stages_of P k).passes c (tt {0}) p → Wrote p.files p.text → AsAsked P c words p.done Wrote
+asked_by P c words (Exchanging mode nested) p Wrote w (q, x, (files, are, plan)) wrote =
+    subst (λ (r : Planned Done). AsAsked P c words r.done Wrote) (sym plan)
+    (mode, nested, w, done_with P mode nested c q files Wrote x are (as_planned Wrote p _ plan wrote))
+asked_by P c words (Showing mode) p Wrote w (M, (text, there, accepted), plan) wrote =
+    subst (λ (r : Planned Done). AsAsked P c words r.done Wrote) (sym plan)
+    (mode, w, record { text = text; held = there.0; mapping = M; accepted = accepted; written = as_planned Wrote p _ plan wrote })
+asked_by P c words (Demonstrating number mode) p Wrote w (q, x, (ns, are, plan)) wrote =
+    subst (λ (r : Planned Done). AsAsked P c words r.done Wrote) (sym plan)
+    (number, mode, w, demo_with P number mode q ns Wrote x are (as_planned Wrote p _ plan wrote))
+asked_by P c words Answering p Wrote w x wrote = absurd (unplanned c p x)
+asked_by P c words Judging p Wrote w x wrote = absurd (unplanned c p x)
+asked_by P c words Comparing p Wrote w x wrote = absurd (unplanned c p x)
+
+-- ---- the words
+
+-- the command that the words say
+pub said : (words : List (List ℕ)) (k : Command) → or_usage (says words) ≡ Ok k → says words ≡ Some k
+said words k is = of (says words) refl
+  where
+    of : (o : Option Command) → says words ≡ o → says words ≡ Some k
+    of None e = let h : or_usage None ≡ Ok k = sym (ap or_usage e) ∙ is in cc
+    of (Some l) e = let h : or_usage (Some l) ≡ Ok k = sym (ap or_usage e) ∙ is in cc
+
+-- each plan is as the words ask for it, however it is written
+pub plan_asked : (P : Program) (c : World) (words : List (List ℕ)) (p : Planned Done) (Wrote : Writing) → (run_stages P).passes c words p
+    → Wrote p.files p.text → AsAsked P c words p.done Wrote
+plan_asked P c words p Wrote (k, w, passed) wrote = asked_by P c words k p Wrote (said words k w) passed wrote
+
+pub as_asked : DoneIsAsAsked
+as_asked P c words before after d (p, passed, is, wrote) =
+    subst (λ (x : Done). AsAsked P c words x (wrote_all before after)) is (plan_asked P c words p (wrote_all before after) passed wrote)

@@ -1,0 +1,5 @@
+pub mod Forests
+pub mod Alike
+pub mod Begun
+pub mod Answered
+pub mod Exists
