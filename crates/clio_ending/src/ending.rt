@@ -8,6 +8,7 @@ use clio_accept::MapFault;
 use clio_source::RowsFault;
 use dx_compare::Comparison;
 use dx_exchange::{Clash, Exchange};
+use dx_judge::Verdict;
 use dx_model::Tuples;
 use dx_ports::{Items, Limit, Text};
 use dx_stages::Ended;
@@ -32,6 +33,8 @@ pub enum Done {
     Demo(Exchange),
     /// The file of a query's answers was put, and the summary was said.
     Answered(Answers),
+    /// The verdict on a given target was said.
+    Judged(Verdict),
     /// What refutes a direction was put, and the comparison was said.
     Compared(Comparison),
 }

@@ -15,6 +15,7 @@ pub use clio_accept::MapFault;
 pub use clio_source::RowsFault;
 pub use dx_compare::{Answer, Comparison};
 pub use dx_exchange::{Clash, Exchange};
+pub use dx_judge::{Verdict, Why};
 pub use ending::{Answers, Done, Ending, Refusal, as_ending};
 pub use faults::{OtherFault, QueryFault};
 pub use messages::message;

@@ -16,7 +16,8 @@ use dx_schema_text::TextKind;
 use std::alloc::{AllocError, Global};
 
 const USAGE: &str =
-    "usage: clio show [--core] | clio exchange [--core] [--nested] | clio demo N [--core] | clio answer | clio judge | clio compare";
+    "usage: clio show [--core] | clio exchange [--core] [--nested] | clio demo N [--core] | clio answer | clio judge \
+    | clio compare";
 
 // The printed name of a count.
 fn count_text(count: Count) -> &'static str

@@ -4,6 +4,7 @@ pub mod Texts
 pub mod Nested
 pub mod Files
 pub mod Answers
+pub mod Verdicts
 pub mod Comparisons
 pub mod Laws
 pub mod Printing

@@ -1,5 +1,6 @@
 // The laws of the files. The definitions alone carry them: no body computes anything.
-ghost use Rattle.clio_files.specs.Laws.{ComparedFilesAreOne, ComparedFilesExist, ComparedNamesAreApart, FilesAreOne, FilesExist, NamesAreApart};
+ghost use Rattle.clio_files.specs.Laws.{ComparedFilesAreOne, ComparedFilesExist, ComparedNamesAreApart};
+ghost use Rattle.clio_files.specs.Laws.{FilesAreOne, FilesExist, NamesAreApart};
 
 /// An exchange that fits its schema has files.
 pub fn an_exchange_has_files()

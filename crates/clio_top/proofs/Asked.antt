@@ -6,9 +6,13 @@ use Rattle.dx_instance.specs.Stored.{facts}
 use Rattle.dx_exchange.specs.declared.mode.Mode.{Mode}
 use Rattle.dx_exchange.specs.declared.result.Exchange.{Exchange}
 use Rattle.dx_exchange.specs.Exchanging.{IsExchange}
+use Rattle.dx_compare.specs.declared.comparing.Comparison.{Comparison}
+use Rattle.dx_compare.specs.Letters.{letters}
+use Rattle.dx_compare.proofs.Answered.{answer_tells}
 use Rattle.dx_stages.specs.Worlds.{World}
 use Rattle.dx_stages.specs.Ending.{Planned}
 use Rattle.clio_accept.specs.declared.mapping.Mapping.{Mapping}
+use Rattle.clio_files.specs.Comparisons.{AreComparedFiles, compared_text}
 use Rattle.clio_files.specs.Files.{AreFiles, files_of, summary_of}
 use Rattle.clio_files.specs.Sheets.{AreNulls, Told}
 use Rattle.clio_ending.specs.declared.ending.Done.{Done}
@@ -16,10 +20,14 @@ use Rattle.clio_top.specs.declared.command.Command.{Command}
 use Rattle.clio_top.specs.declared.command.Command.TheVariants.{Answering, Comparing, Demonstrating, Exchanging, Judging, Showing}
 use Rattle.clio_top.specs.Words.{or_usage, says}
 use Rattle.clio_top.specs.Running.{Filled, Program, asked, exchanges}
+use Rattle.clio_top.specs.Comparing.{comparisons}
 use Rattle.clio_top.specs.Demo.{demo_text, demo_world}
-use Rattle.clio_top.specs.Commands.{run_stages, stages_of, unbuilt}
-use Rattle.clio_top.specs.Outcomes.{IsDemoIn, IsDoneIn, IsExchangeIn, Writing, wrote_all}
+use Rattle.clio_top.specs.Commands.{run_stages, stages_of}
+use Rattle.clio_top.specs.Outcomes.{IsComparedIn, IsDemoIn, IsDoneIn, IsExchangeIn, Writing, wrote_all}
 use Rattle.clio_top.specs.Promises.{AsAsked, DoneIsAsAsked}
+use Rattle.clio_top.proofs.Pairs.{made_in}
+use Rattle.clio_top.proofs.JudgedIn.{judged_in}
+use Rattle.clio_top.proofs.AnsweredIn.{answered_in}
 
 -- ---- an exchange in a world
 
@@ -62,11 +70,31 @@ demo_with P number mode q nulls Wrote x are wrote = record {
   written = subst (λ (N : Mapping). Wrote [] (demo_text number N q.1.target (length nulls))) (its_mapping P mode (demo_world number) q x) wrote;
 }
 
--- ---- each command
+compared_with : (P : Program) (c : World) (q : Mapping × Comparison) (files : List Told) (Wrote : Writing) → (comparisons P).passes c (tt {0}) q
+    → AreComparedFiles q.0.source q.0.target q.1 files → Wrote (files_of files) (compared_text q.1 files) → IsComparedIn P c q.1 Wrote
+compared_with P c q files Wrote x are wrote =
+    let m = made_in P c q x in
+    let k = m.comparison in record {
+      text = m.text;
+      held = m.held;
+      first = m.first;
+      accepted = m.accepted;
+      other_text = m.other_text;
+      other_held = m.other_held;
+      second = m.second;
+      other_accepted = m.other_accepted;
+      same = m.same;
+      free = m.free;
+      plain = m.plain;
+      forward = answer_tells (letters k.number) m.first.source m.first.target m.first.rules m.second.rules q.1.forward k.forward;
+      backward = answer_tells (letters k.number) m.first.source m.first.target m.second.rules m.first.rules q.1.backward k.backward;
+      comparison = k;
+      files = files;
+      are = subst (λ (M : Mapping). AreComparedFiles M.source M.target q.1 files) m.is are;
+      written = wrote;
+    }
 
--- a command that is not built plans nothing
-pub unplanned : (c : World) (p : Planned Done) → ¬ (unbuilt.passes c (tt {0}) p)
-unplanned c p h = cc
+-- ---- each command
 
 asked_by : (P : Program) (c : World) (words : List (List ℕ)) (k : Command) (p : Planned Done) (Wrote : Writing) → says words ≡ Some k
     → (stages_of P k).passes c (tt {0}) p → Wrote p.files p.text → AsAsked P c words p.done Wrote
@@ -79,9 +107,13 @@ asked_by P c words (Showing mode) p Wrote w (M, (text, there, accepted), plan) w
 asked_by P c words (Demonstrating number mode) p Wrote w (q, x, (ns, are, plan)) wrote =
     subst (λ (r : Planned Done). AsAsked P c words r.done Wrote) (sym plan)
     (number, mode, w, demo_with P number mode q ns Wrote x are (as_planned Wrote p _ plan wrote))
-asked_by P c words Answering p Wrote w x wrote = absurd (unplanned c p x)
-asked_by P c words Judging p Wrote w x wrote = absurd (unplanned c p x)
-asked_by P c words Comparing p Wrote w x wrote = absurd (unplanned c p x)
+asked_by P c words Answering p Wrote w (q, x, plan) wrote =
+    subst (λ (r : Planned Done). AsAsked P c words r.done Wrote) (sym plan) (w, answered_in P c q Wrote x (as_planned Wrote p _ plan wrote))
+asked_by P c words Judging p Wrote w (q, x, plan) wrote =
+    subst (λ (r : Planned Done). AsAsked P c words r.done Wrote) (sym plan) (w, judged_in P c q Wrote x (as_planned Wrote p _ plan wrote))
+asked_by P c words Comparing p Wrote w (q, x, (files, are, plan)) wrote =
+    subst (λ (r : Planned Done). AsAsked P c words r.done Wrote) (sym plan)
+    (w, compared_with P c q files Wrote x are (as_planned Wrote p _ plan wrote))
 
 -- ---- the words
 

@@ -7,7 +7,12 @@ use Rattle.dx_ports.specs.Faults.{Rose}
 use Rattle.dx_keys.specs.declared.answers.Clash.{Clash}
 use Rattle.dx_model.specs.Values.{Text}
 use Rattle.dx_instance.specs.Stored.{facts}
-use Rattle.dx_schema.specs.Tables.{model_tables}
+use Rattle.dx_schema.specs.Tables.{model_tables, schema_widths}
+use Rattle.dx_queries.proofs.Certain.{listed_are_certain}
+use Rattle.dx_queries.proofs.Exist.{answers_exist}
+use Rattle.dx_query_text.proofs.Fitting.{read_queries_fit}
+use Rattle.dx_exchange.specs.declared.mode.Mode.TheVariants.{Plain}
+use Rattle.clio_ending.specs.declared.ending.Answers.{Answers}
 use Rattle.dx_exchange.specs.declared.mode.Mode.{Mode}
 use Rattle.dx_exchange.specs.declared.result.Exchange.{Exchange}
 use Rattle.dx_exchange.specs.declared.fault.ExFault.{ExFault}
@@ -36,13 +41,14 @@ use Rattle.clio_top.specs.Running.{Program, asked, exchanges}
 use Rattle.clio_top.specs.Demo.{demo_world}
 use Rattle.clio_top.specs.Commands.{run_stages, stages_of}
 use Rattle.clio_top.specs.Promises.{AsksFor, HasNoSolutionIn}
-use Rattle.clio_top.specs.Completing.{AnswersClash, Completes, CompletesDemo, DemoIsPlanned, HasDone, HasMappingIn, HasSolutionIn, IsClashing, IsFaultless, IsPlanned, MappingIsShown, OrMemory, SolutionIsPlanned}
+use Rattle.clio_top.specs.Completing.{AnswersArePlanned, AnswersClash, Completes, CompletesDemo, DemoIsPlanned, HasDone, HasFewAnswers, HasMappingIn, HasQueryIn, HasSolutionIn, IsClashing, IsFaultless, IsPlanned, MappingIsShown, NoAnswerIsAClash, OrMemory, SolutionIsPlanned}
 use Rattle.clio_top.proofs.Asking.{in_order}
-use Rattle.clio_top.proofs.Clashes.{demo_clashes, no_solution}
+use Rattle.clio_top.proofs.Clashes.{clash_there, demo_clashes, no_solution}
 use Rattle.clio_top.proofs.Mappings.{is_small}
-use Rattle.clio_top.proofs.Asked.{said, unplanned}
+use Rattle.clio_top.proofs.Asked.{said}
 use Rattle.clio_top.proofs.Plans.{rules_fit}
-use Rattle.clio_top.proofs.Promised.{demo_exists, plan_exists, run_decided}
+use Rattle.clio_top.proofs.Promised.{demo_exists, plan_exists}
+use Rattle.clio_top.proofs.RunDecided.{run_decided}
 
 -- ---- an exchange with a solution
 
@@ -84,6 +90,29 @@ demo_planned P c words number mode w h =
     let passed = exchange_passed P mode (demo_world number) h x.0 x.1 in
     (x.0, (plan.0, (Demonstrating number mode, ap or_usage w, ((h.mapping, x.0), passed, plan.1)), ap (λ (p : Planned Done). p.done) plan.1.2))
 
+-- ---- the answers of a query
+
+pub answers_planned : AnswersArePlanned
+answers_planned P c words w h k few =
+    let x = exchange_there P Plain c h in
+    let e = x.0 in
+    let q = k.query in
+    let fits = read_queries_fit h.mapping.target k.text q k.said k.atoms in
+    let list = answers_exist (schema_widths h.mapping.target) (facts e.target) q fits in
+    let certain = listed_are_certain P.apply h.mapping.rules (model_tables h.mapping.target) (facts h.rows) (facts e.target) q list.0 x.1.universal list.1 in
+    let a : Answers = record { exchange = e; rows = list.0 } in
+    let asked_for = (q, (k.text, (k.held, k.few), (q, k.said, (k.atoms, refl))), refl) in
+    let passed = (h.mapping, (h.text, (h.held, h.few), h.accepted), ((h.mapping, q), asked_for, (((h.mapping, q), h.rows), (h.rows, h.source, refl), (((h.mapping, q), e), (e, x.1, refl), (a, (refl, list.1, few list.0 certain), refl))))) in
+    (a, (_, (Answering, ap or_usage w, (((h.mapping, q), a), passed, refl)), refl))
+
+pub answers_clash : NoAnswerIsAClash
+answers_clash P c words w h k =
+    let x = clash_there P Plain c h in
+    let q = k.query in
+    let asked_for = (q, (k.text, (k.held, k.few), (q, k.said, (k.atoms, refl))), refl) in
+    let refused = inr (h.mapping, (h.text, (h.held, h.few), h.accepted), inr ((h.mapping, q), asked_for, inr (((h.mapping, q), h.rows), (h.rows, h.source, refl), inl (exchange_faults.Clash x.0, x.1, refl)))) in
+    (x.0, _, _, _, inr (Answering, ap or_usage w, refused))
+
 -- if nothing is at fault, there is a plan
 faultless_planned : (P : Program) (c : World) (words : List (List ℕ)) → IsFaultless P c words → (p : Planned Done) × (run_stages P).passes c words p
 faultless_planned P c words none = elim ((run_decided P).either c words tt) [ inl p ↦ p | inr f ↦ absurd (none f.0 f.1) ]
@@ -94,9 +123,9 @@ has_done : (P : Program) (c : World) (k : Command) (p : Planned Done) → (stage
 has_done P c (Exchanging mode nested) p (q, x, (files, are, plan)) = (q.1, ap (λ (r : Planned Done). r.done) plan)
 has_done P c (Showing mode) p (M, m, plan) = ap (λ (r : Planned Done). r.done) plan
 has_done P c (Demonstrating number mode) p (q, x, (ns, are, plan)) = (q.1, ap (λ (r : Planned Done). r.done) plan)
-has_done P c Answering p x = absurd (unplanned c p x)
-has_done P c Judging p x = absurd (unplanned c p x)
-has_done P c Comparing p x = absurd (unplanned c p x)
+has_done P c Answering p (q, x, plan) = (q.1, ap (λ (r : Planned Done). r.done) plan)
+has_done P c Judging p (q, x, plan) = (q.1, ap (λ (r : Planned Done). r.done) plan)
+has_done P c Comparing p (q, x, (files, are, plan)) = (q.1, ap (λ (r : Planned Done). r.done) plan)
 
 -- the words say one command
 one_command : (words : List (List ℕ)) (k d : Command) → says words ≡ Some k → or_usage (says words) ≡ Ok d → d ≡ k
@@ -161,6 +190,10 @@ shown_answered : (r : Ending) (mode : Mode) → OrMemory r ((d : Done) × HasDon
 shown_answered r mode (inl (d, d_is, is)) = inl (is ∙ ap (λ x. endings.Done x) d_is)
 shown_answered r mode (inr none) = inr none
 
+answers_answered : (r : Ending) → OrMemory r ((d : Done) × HasDone Answering d × (r ≡ endings.Done d)) → OrMemory r ((a : Answers) × (r ≡ endings.Done (dones.Answered a)))
+answers_answered r (inl (d, (a, d_is), is)) = inl (a, is ∙ ap (λ x. endings.Done x) d_is)
+answers_answered r (inr none) = inr none
+
 demo_answered : (r : Ending) (number : ℕ) (mode : Mode) → OrMemory r ((d : Done) × HasDone (Demonstrating number mode) d × (r ≡ endings.Done d))
     → OrMemory r ((e : Exchange) × (r ≡ endings.Done (dones.Demo e)))
 demo_answered r number mode (inl (d, (e, d_is), is)) = inl (e, is ∙ ap (λ x. endings.Done x) d_is)
@@ -184,6 +217,16 @@ clash_answered r e k table key column is (inr none) = inr (is ∙ ap ending_of n
 one_world : (m : Held) (holds : Option Held) (c : World) → holds ≡ Some m → IsOf holds c → c ≡ (λ n. get m n)
 one_world m holds c is of = let h = subst (λ o. IsOf o c) is of in λ i n. h n i
 
+-- what is answered of a query in a world
+abbrev CompletesAnswers : Program → World → List (List ℕ) → Ending → Type 0
+CompletesAnswers P c words r =
+    says words ≡ Some Answering → (h : HasSolutionIn P c) (k : HasQueryIn h.mapping.target c) → HasFewAnswers P c h k
+    → OrMemory r ((a : Answers) × (r ≡ endings.Done (dones.Answered a)))
+
+abbrev ClashesAnswers : Program → World → List (List ℕ) → Ending → Type 0
+ClashesAnswers P c words r =
+    says words ≡ Some Answering → (h : HasNoSolutionIn P c) → HasQueryIn h.mapping.target c → OrMemory r (AnswersClash r)
+
 pub completes : (P : Program) (words : List (List ℕ)) (r : Ending) (e : Ended Done Refusal) (old new : Told) (before after : Written) (writes writes' : ℕ)
     → r ≡ ending_of e → Runs AreAlike (run_stages P) words e old new before after writes writes' → (m : Held) → old.holds ≡ Some m
     → ¬ (Rose old.faults new.faults) → ¬ (Rose writes writes') → Completes P (λ n. get m n) words r
@@ -206,6 +249,12 @@ completes P words r e old new before after writes writes' is runs m holds reads 
           let p = shown P runs.world words mode w (subst (HasMappingIn P) same h) in
           shown_answered r mode (answered P runs.world words r e (Showing mode) is w
           (plan_done P words e old new before after writes writes' runs (λ n a. reads) written p.0 p.1));
+      answers = subst (λ (c : World). CompletesAnswers P c words r) (sym same) (λ w h k few.
+          let p = answers_planned P runs.world words w h k few in
+          answers_answered r (answered P runs.world words r e Answering is w (plan_done P words e old new before after writes writes' runs (λ n a. reads) written p.1.0 p.1.1)));
+      no_answer = subst (λ (c : World). ClashesAnswers P c words r) (sym same) (λ w h q.
+          let k = answers_clash P runs.world words w h q in
+          clash_answered r e k.0 k.1 k.2 k.3 is (reason_told P words e old new before after writes writes' runs (λ n a. reads) (refusals.Clash k.0 k.1 k.2 k.3) k.4));
     }
 
 -- ---- over the files of a demo

@@ -3,7 +3,16 @@ pub mod Names
 pub mod Mappings
 pub mod Plans
 pub mod SameExchange
+pub mod SameVerdict
+pub mod VerdictRuns
+pub mod Queried
+pub mod AnswerRuns
+pub mod AnsweredIn
+pub mod Posed
 pub mod Promised
+pub mod Pairs
+pub mod JudgedIn
+pub mod RunDecided
 pub mod Asked
 pub mod Demos
 pub mod Ranges

@@ -29,7 +29,7 @@ texts_apart e = let h : 109 ≡ 111 = ap (λ (v : List ℕ). get_or v 0 0) e in 
 pub IsData : List ℕ → Type 0
 IsData n = (y : List ℕ) × ((n ≡ csv_name y) ⊎ (n ≡ json_name y))
 
-named : (form : Form) (y : List ℕ) → IsData (named_by form y)
+pub named : (form : Form) (y : List ℕ) → IsData (named_by form y)
 unfolding IsData
 named flat y = (y, inl refl)
 named nested y = (y, inr refl)

@@ -124,17 +124,19 @@ files_fit P mode M I e h x = record {
       };
 }
 
+-- each table has a column
+pub some_column : (ts : List TableOf) (n : ℕ) → Each ts (λ t. 1 ≤ length t.columns) → n < length (map as_numbers ts)
+    → 1 ≤ (table_of (map as_numbers ts) n).width
+some_column [] n some k = absurd (omega (arith, k))
+some_column (t ∷ ts) zero some k = some t (here refl)
+some_column (t ∷ ts) (suc n) some k = some_column ts n (λ u i. some u (there i)) (omega (arith, k))
+
 -- each fact of the target has a value
 pub facts_wide : (P : Program) (mode : Mode) (M : Mapping) (I : List TableRows) (e : Exchange) → MappingFits P.list P.tests M → IsExchange P.apply (asked mode (M, I)) e → Each (facts e.target) (λ f. 1 ≤ length f.row)
 facts_wide P mode M I e h x f m =
     let fits = x.universal.solution.fits f m in
-    let w = wide (tables_of M.target) f.table (λ t k. ((are_tables M.target h.target.form).each_table t k).some_column) fits.table in
+    let w = some_column (tables_of M.target) f.table (λ t k. ((are_tables M.target h.target.form).each_table t k).some_column) fits.table in
     let k = fits.width in omega (arith, w, k)
-  where
-    wide : (ts : List TableOf) (n : ℕ) → Each ts (λ t. 1 ≤ length t.columns) → n < length (map as_numbers ts) → 1 ≤ (table_of (map as_numbers ts) n).width
-    wide [] n some k = absurd (omega (arith, k))
-    wide (t ∷ ts) zero some k = some t (here refl)
-    wide (t ∷ ts) (suc n) some k = wide ts n (λ u i. some u (there i)) (omega (arith, k))
 
 -- ---- an exchange
 

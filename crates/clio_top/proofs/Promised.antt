@@ -41,7 +41,7 @@ use Rattle.clio_ending.proofs.Alike.{alike, same_alike}
 use Rattle.clio_top.specs.Promises.{RefusedOrPlanned}
 use Rattle.clio_top.specs.Running.{Filled, IsPlanOf, Program, absent_text, asked, exchange_stages, exchanges, mapping_stages, named_stage, rows_stages, show_stages, shown_plan, target_stages, text_bytes, text_file, text_name, text_refusal, text_stages, too_long, wanted}
 use Rattle.clio_top.specs.Demo.{IsDemoPlan, demo_stages, demo_world, inside}
-use Rattle.clio_top.specs.Commands.{saying_words, stages_of, unbuilt}
+use Rattle.clio_top.specs.Commands.{saying_words, stages_of}
 use Rattle.clio_top.specs.Words.{or_usage, says}
 use Rattle.clio_top.proofs.Mappings.{is_small}
 use Rattle.clio_top.proofs.Plans.{facts_wide, files_fit, rules_fit, texts_fit}
@@ -147,7 +147,7 @@ plan_exists P mode nested M e h =
     (are_tables M.target h.fits.target.form) (facts_wide P mode M h.rows e h.fits h.exchange) in
     (_, (fs.0, fs.1, refl))
 
-exchange_decided : (P : Program) (mode : Mode) (nested : Bool) → IsDecided AreAlike Any (exchange_stages P mode nested)
+pub exchange_decided : (P : Program) (mode : Mode) (nested : Bool) → IsDecided AreAlike Any (exchange_stages P mode nested)
 exchange_decided P mode nested =
     become_decided AreAlike Any (λ u q plan. IsPlanOf P.list mode nested q.0 q.1 plan) (exchanges P mode)
     (λ c u q g x. plan_exists P mode nested q.0 q.1 (made_in P mode c q x)) (exchanges_decided P mode)
@@ -166,31 +166,13 @@ inside_decided Alike Given w s d = record {
 pub demo_exists : (P : Program) (number : ℕ) (M : Mapping) (e : Exchange) → (plan : Planned Done) × IsDemoPlan number M e plan
 demo_exists P number M e = let ns = nulls_exist (facts e.target) in (_, (ns.0, ns.1, refl))
 
-demo_decided : (P : Program) (number : ℕ) (mode : Mode) → IsDecided AreAlike Any (demo_stages P number mode)
+pub demo_decided : (P : Program) (number : ℕ) (mode : Mode) → IsDecided AreAlike Any (demo_stages P number mode)
 demo_decided P number mode =
     become_decided AreAlike Any (λ u q plan. IsDemoPlan number q.0 q.1 plan) (inside (demo_world number) (exchanges P mode))
     (λ c u q g x. demo_exists P number q.0 q.1) (inside_decided AreAlike Any (demo_world number) (exchanges P mode) (exchanges_decided P mode))
 
 -- ---- the commands
 
-show_decided : (P : Program) (mode : Mode) → IsDecided AreAlike Any (show_stages P mode)
+pub show_decided : (P : Program) (mode : Mode) → IsDecided AreAlike Any (show_stages P mode)
 show_decided P mode =
     into_decided AreAlike Any (λ (u : Unit {0}) (M : Mapping). shown_plan P.list mode M) (mapping_stages P) (text_decided P First)
-
-unbuilt_decided : IsDecided AreAlike Any unbuilt
-unbuilt_decided = computing_decided AreAlike Any (λ (u : Unit {0}). Err refusals.Usage) alike
-
-stages_decided : (P : Program) (c : Command) → IsDecided AreAlike Any (stages_of P c)
-stages_decided P (Exchanging mode nested) = exchange_decided P mode nested
-stages_decided P (Showing mode) = show_decided P mode
-stages_decided P (Demonstrating number mode) = demo_decided P number mode
-stages_decided P Answering = unbuilt_decided
-stages_decided P Judging = unbuilt_decided
-stages_decided P Comparing = unbuilt_decided
-
-pub run_decided : RefusedOrPlanned
-run_decided P =
-    next_decided AreAlike Any Any saying_words (by (λ (c : Command). over (λ (d : Command). tt {0}) (stages_of P c)))
-    (computing_one (λ words. or_usage (says words))) (λ c a b g p. tt) (computing_decided AreAlike Any (λ words. or_usage (says words)) alike)
-    (by_decided AreAlike Any (λ (c : Command). over (λ (d : Command). tt {0}) (stages_of P c))
-    (λ c g. over_decided AreAlike Any Any (λ (d : Command). tt {0}) (stages_of P c) (λ a g. tt) (stages_decided P c)))

@@ -7,9 +7,9 @@ use Rattle.dx_tokens.specs.Tokens.{is_digit}
 use Rattle.dx_exchange.specs.declared.mode.Mode.{Mode}
 use Rattle.dx_exchange.specs.declared.mode.Mode.TheVariants.{Core, Plain}
 use Rattle.clio_top.specs.declared.command.Command.{Command}
-use Rattle.clio_top.specs.declared.command.Command.TheVariants.{Demonstrating, Exchanging, Showing}
+use Rattle.clio_top.specs.declared.command.Command.TheVariants.{Answering, Comparing, Demonstrating, Exchanging, Judging, Showing}
 use Rattle.clio_top.specs.Commands.{IsInRange}
-use Rattle.clio_top.specs.Words.{Word, demo_of, demo_said, exchange_said, is_core, is_nested, number_after, number_in, numbered, same, says, show_said}
+use Rattle.clio_top.specs.Words.{Word, alone, demo_of, demo_said, exchange_said, is_core, is_nested, number_after, number_in, numbered, same, says, show_said}
 
 -- ---- numerals
 
@@ -95,6 +95,10 @@ demo_ranged (v ∷ w ∷ []) =
     (λ n. cond_both (is_core w) (numbered v Core) None AreRanged (λ y. numbered_ranged v Core) (λ n. none_ranged))
 demo_ranged (u ∷ v ∷ w ∷ words) = none_ranged
 
+alone_ranged : (c : Command) (words : List Word) → IsInRange c → AreRanged (alone c words)
+alone_ranged c [] h = one_ranged c h
+alone_ranged c (w ∷ words) h = none_ranged
+
 -- one command, or another
 either_ranged : (b : Bool) (x y : Option Command) → AreRanged x → AreRanged y → AreRanged (cond b x y)
 either_ranged true x y p q = p
@@ -106,7 +110,10 @@ words_ranged (name ∷ words) =
     either_ranged (same name (codes "show")) (show_said words) _ (show_ranged words)
     (either_ranged (same name (codes "exchange")) (exchange_said words) _ (exchange_ranged words)
     (either_ranged (same name (codes "demo")) (demo_said words) _ (demo_ranged words)
-    none_ranged))
+    (either_ranged (same name (codes "answer")) (alone Answering words) _ (alone_ranged Answering words tt)
+    (either_ranged (same name (codes "judge")) (alone Judging words) _ (alone_ranged Judging words tt)
+    (either_ranged (same name (codes "compare")) (alone Comparing words) _ (alone_ranged Comparing words tt)
+    none_ranged)))))
 
 pub says_ranged : (words : List Word) (c : Command) → says words ≡ Some c → IsInRange c
 unfolding AreRanged

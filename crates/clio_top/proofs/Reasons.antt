@@ -1,5 +1,5 @@
 -- Which reasons there are to refuse: usage is that of words, and want of memory is none.
-use Rattle.std.proofs.Common.{◌≡◌, ℕ, List, [], ◌∷◌, ◌++◌, length, map, refl, ◌∙◌, ap, subst, inl, inr, Option, Some, None, Err, Bool, true, false, cond}
+use Rattle.std.proofs.Common.{◌≡◌, ◌⊎◌, ℕ, List, [], ◌∷◌, ◌++◌, length, map, refl, ◌∙◌, ap, subst, inl, inr, Option, Some, None, Err, Bool, true, false, cond}
 use Rattle.std.specs.Prelude.{◌||◌, eqb, nat_lt, not}
 use Rattle.dx_ports.specs.Firsts.{first_of}
 use Rattle.dx_funcs.specs.declared.conversion.Conversion.{Conversion}
@@ -36,6 +36,9 @@ use Rattle.dx_exchange.specs.declared.fault.ExFault.{ExFault}
 use Rattle.dx_exchange.specs.declared.fault.ExFault.TheVariants as exchange_faults
 use Rattle.dx_exchange.specs.declared.mode.Mode.{Mode}
 use Rattle.dx_exchange.specs.Exchanging.{HasNone}
+use Rattle.dx_judge.specs.declared.fault.JudgeFault.{JudgeFault}
+use Rattle.dx_judge.specs.declared.fault.JudgeFault.TheVariants as judge_faults
+use Rattle.dx_judge.specs.Verdicts.{HasNone as HasNoVerdict}
 use Rattle.dx_stages.specs.Worlds.{World}
 use Rattle.clio_accept.specs.declared.fault.AcceptFault.{AcceptFault}
 use Rattle.clio_accept.specs.declared.fault.AcceptFault.TheVariants as accept_faults
@@ -49,6 +52,7 @@ use Rattle.dx_schema_text.specs.declared.texts.MappingText.{MappingText}
 use Rattle.dx_model.specs.declared.rules.Rule.{Rule}
 use Rattle.clio_source.specs.declared.fault.SourceRefusal.{SourceRefusal}
 use Rattle.clio_source.specs.declared.fault.SourceRefusal.TheVariants as source_refusals
+use Rattle.clio_ending.specs.declared.faults.OtherFault.{OtherFault}
 use Rattle.clio_ending.specs.declared.ending.Refusal.TheVariants as refusals
 use Rattle.clio_ending.specs.Ending.{exchange_refusal, source_refusal}
 use Rattle.clio_top.specs.declared.command.Command.{Command}
@@ -57,11 +61,17 @@ use Rattle.clio_top.specs.declared.texts.Side.{Side}
 use Rattle.clio_top.specs.declared.texts.Side.TheVariants.{First, Second}
 use Rattle.clio_top.specs.Words.{or_usage, says}
 use Rattle.clio_top.specs.Running.{Filled, Program, absent_text, asked, exchanges, text_refusal as said_refusal, text_stages}
+use Rattle.clio_top.specs.Judging.{Handed, judge_refusal, judged, verdicts}
+use Rattle.clio_top.specs.Comparing.{comparisons}
 use Rattle.clio_top.specs.Demo.{demo_world}
 use Rattle.clio_top.specs.Commands.{IsInRange, run_stages, stages_of}
 use Rattle.clio_top.specs.Promises.{MemoryIsNoReason, UsageIsOfWords}
 use Rattle.clio_top.proofs.Asked.{said}
+use Rattle.clio_top.proofs.Pairs.{refused_pair}
 use Rattle.clio_top.proofs.Ranges.{says_ranged}
+use Rattle.clio_top.specs.Answering.{answers, filled}
+use Rattle.clio_top.proofs.Queried.{IsOfQuery, query_refusals}
+use Rattle.dx_exchange.specs.declared.mode.Mode.TheVariants.{Plain}
 
 -- ---- first faults
 
@@ -367,14 +377,45 @@ exchange_never P mode c (inl m) = text_never P First c m
 exchange_never P mode c (inr (M, m, inl (k, refused, is))) = source_rows_kept k is
 exchange_never P mode c (inr (M, m, inr (p, r, (fault, none, is)))) = none_kept P mode p p.0.target fault none is
 
+pair_kept : ¬ (((l : Limit) × (refusals.Usage ≡ refusals.Limit l)) ⊎ ((f : OtherFault) × (refusals.Usage ≡ refusals.Other f)))
+pair_kept (inl (l, is)) = cc
+pair_kept (inr (f, is)) = cc
+
+compare_never : (P : Program) (c : World) → ¬ ((comparisons P).refuses c (tt {0}) refusals.Usage)
+compare_never P c (inl m) = text_never P First c m
+compare_never P c (inr (M, m, inl o)) = text_never P Second c o
+compare_never P c (inr (M, m, inr (p, o, r))) = pair_kept (refused_pair p c refusals.Usage r)
+
+judge_kept : (P : Program) (p : Handed) (k : JudgeFault) → HasNoVerdict P.apply (judged p) k → ¬ (refusals.Usage ≡ judge_refusal k)
+judge_kept P p (judge_faults.Limit limit) h is = cc
+judge_kept P p judge_faults.Memory h is = h
+
+judge_never : (P : Program) (c : World) → ¬ ((verdicts P).refuses c (tt {0}) refusals.Usage)
+judge_never P c (inl m) = text_never P First c m
+judge_never P c (inr (M, m, inl (k, refused, is))) = source_rows_kept k is
+judge_never P c (inr (M, m, inr (p, x, inl (k, refused, is)))) = source_rows_kept k is
+judge_never P c (inr (M, m, inr (p, x, inr (d, y, (k, none, is))))) = judge_kept P d k none is
+
+-- what refuses a query is not usage
+of_query : ¬ (IsOfQuery refusals.Usage)
+of_query (inl (fault, is)) = cc
+of_query (inr (l, is)) = cc
+
+answer_never : (P : Program) (c : World) → ¬ ((answers P).refuses c (tt {0}) refusals.Usage)
+answer_never P c (inl m) = text_never P First c m
+answer_never P c (inr (M, m, inl h)) = of_query (query_refusals c M refusals.Usage h)
+answer_never P c (inr (M, m, inr (p, x, inl (k, refused, is)))) = source_rows_kept k is
+answer_never P c (inr (M, m, inr (p, x, inr (f, y, inl (fault, none, is))))) = none_kept P Plain (filled f) (filled f).0.target fault none is
+answer_never P c (inr (M, m, inr (p, x, inr (f, y, inr (g, z, (passes, is)))))) = cc
+
 -- a command that words say
 command_never : (P : Program) (c : World) (k : Command) → IsInRange k → ¬ ((stages_of P k).refuses c (tt {0}) refusals.Usage)
 command_never P c (Exchanging mode nested) said h = exchange_never P mode c h
 command_never P c (Showing mode) said h = text_never P First c h
 command_never P c (Demonstrating number mode) said h = exchange_never P mode (demo_world number) h
-command_never P c Answering said h = said
-command_never P c Judging said h = said
-command_never P c Comparing said h = said
+command_never P c Answering said h = answer_never P c h
+command_never P c Judging said h = judge_never P c h
+command_never P c Comparing said h = compare_never P c h
 
 none_said : (o : Option Command) → or_usage o ≡ Err refusals.Usage → o ≡ None
 none_said None h = refl

@@ -1,28 +1,26 @@
 -- The stages of a run: what its words say, and then the stages of that command.
-use Rattle.std.specs.Prelude.{◌≤◌, List, Err}
+use Rattle.std.specs.Prelude.{◌≤◌, List}
 use Rattle.dx_stages.specs.Ending.{Planned}
 use Rattle.dx_stages.specs.Stages.{Stage, next, by, over, computing}
 use Rattle.clio_ending.specs.declared.ending.Done.{Done}
 use Rattle.clio_ending.specs.declared.ending.Refusal.{Refusal}
-use Rattle.clio_ending.specs.declared.ending.Refusal.TheVariants.{Usage}
 use Rattle.clio_top.specs.declared.command.Command.{Command}
 use Rattle.clio_top.specs.declared.command.Command.TheVariants.{Answering, Comparing, Demonstrating, Exchanging, Judging, Showing}
 use Rattle.clio_top.specs.Words.{Word, or_usage, says}
 use Rattle.clio_top.specs.Running.{Program, exchange_stages, show_stages}
 use Rattle.clio_top.specs.Demo.{demo_stages}
-
--- the stages of a command that is not built: no words say it
-abbrev pub unbuilt : Stage Refusal (Unit {0}) (Planned Done)
-unbuilt = computing (λ u. Err Usage)
+use Rattle.clio_top.specs.Answering.{answer_stages}
+use Rattle.clio_top.specs.Judging.{judge_stages}
+use Rattle.clio_top.specs.Comparing.{compare_stages}
 
 -- the stages of a command
 abbrev pub stages_of : Program → Command → Stage Refusal (Unit {0}) (Planned Done)
 stages_of P (Exchanging mode nested) = exchange_stages P mode nested
 stages_of P (Showing mode) = show_stages P mode
 stages_of P (Demonstrating number mode) = demo_stages P number mode
-stages_of P Answering = unbuilt
-stages_of P Judging = unbuilt
-stages_of P Comparing = unbuilt
+stages_of P Answering = answer_stages P
+stages_of P Judging = judge_stages P
+stages_of P Comparing = compare_stages P
 
 -- the command that the words say
 abbrev pub saying_words : Stage Refusal (List Word) Command
@@ -37,6 +35,6 @@ abbrev pub IsInRange : Command → Type 0
 IsInRange (Exchanging mode nested) = Unit {0}
 IsInRange (Showing mode) = Unit {0}
 IsInRange (Demonstrating number mode) = (1 ≤ number) × (number ≤ 100000)
-IsInRange Answering = ⊥
-IsInRange Judging = ⊥
-IsInRange Comparing = ⊥
+IsInRange Answering = Unit {0}
+IsInRange Judging = Unit {0}
+IsInRange Comparing = Unit {0}

@@ -1,17 +1,22 @@
 -- What a run answers if nothing outside fails: what is asked for, as far as there is such a thing, or want of memory.
-use Rattle.std.specs.Prelude.{◌≡◌, ◌⊎◌, ◌≤◌, ℕ, List, [], ◌∷◌, codes, length, Some, Bool}
+use Rattle.std.specs.Prelude.{◌≡◌, ◌⊎◌, ◌≤◌, ◌*◌, ℕ, List, [], ◌∷◌, codes, length, Some, Bool}
 use Rattle.std.specs.FinMap.{from_entries, get}
 use Rattle.dx_ports.specs.Entries.{Entry, Held}
 use Rattle.dx_model.specs.declared.facts.Fact.{Fact}
 use Rattle.dx_model.specs.Rules.{AreRows}
-use Rattle.dx_model.specs.Values.{Rows, Text}
+use Rattle.dx_model.specs.Values.{Rows, Text, Tuple}
 use Rattle.dx_model.specs.Solutions.{IsSolution}
+use Rattle.dx_schema.specs.Forest.{Forest}
 use Rattle.dx_schema.specs.Tables.{model_tables}
+use Rattle.dx_queries.specs.declared.query.Query.{Query}
+use Rattle.dx_queries.specs.Results.{AreCertain}
+use Rattle.dx_query_text.specs.Queries.{HasFewAtoms, IsQueryOver}
 use Rattle.dx_tgd.specs.Counting.{canonical_cells}
 use Rattle.dx_keys.specs.declared.answers.Clash.{Clash}
 use Rattle.dx_instance.specs.Stored.{TableRows, facts}
 use Rattle.dx_exchange.specs.declared.mode.Mode.{Mode}
 use Rattle.dx_exchange.specs.declared.result.Exchange.{Exchange}
+use Rattle.dx_judge.specs.declared.verdict.Verdict.{Verdict}
 use Rattle.dx_compare.specs.declared.comparing.Comparison.{Comparison}
 use Rattle.dx_stages.specs.Worlds.{World}
 use Rattle.dx_stages.specs.Ending.{Planned}
@@ -20,7 +25,7 @@ use Rattle.clio_accept.specs.Accepting.{accepting}
 use Rattle.clio_source.specs.Source.{source_stages}
 use Rattle.clio_ending.specs.declared.ending.Done.{Done}
 use Rattle.clio_ending.specs.declared.ending.Answers.{Answers}
-use Rattle.clio_ending.specs.declared.ending.Done.TheVariants.{Answered, Compared, Demo, Exchanged, Shown}
+use Rattle.clio_ending.specs.declared.ending.Done.TheVariants.{Answered, Compared, Demo, Exchanged, Judged, Shown}
 use Rattle.clio_ending.specs.declared.ending.Ending.{Ending}
 use Rattle.clio_ending.specs.declared.ending.Ending.TheVariants as endings
 use Rattle.clio_ending.specs.declared.ending.Refusal.{Refusal}
@@ -32,6 +37,7 @@ use Rattle.clio_top.specs.Words.{Word, says}
 use Rattle.clio_top.specs.Running.{Program, target_cells, text_bytes, wanted}
 use Rattle.clio_top.specs.Demo.{demo_world}
 use Rattle.clio_top.specs.Commands.{run_stages}
+use Rattle.clio_top.specs.Answering.{answer_cells, query_bytes, query_name}
 use Rattle.clio_top.specs.Promises.{HasNoSolutionIn}
 
 -- ---- what there is in a world
@@ -57,6 +63,21 @@ pub record HasSolutionIn (P : Program) (c : World) : Type 0 where
   pub within : (matches : Rows) → AreRows P.apply mapping.rules (facts rows) matches → canonical_cells mapping.rules matches ≤ target_cells
   pub solution : List Fact
   pub solves : IsSolution P.apply mapping.rules (model_tables mapping.target) (facts rows) solution
+
+-- the text of a query over a target, none of whose parts has too many atoms
+pub record HasQueryIn (target : Forest) (c : World) : Type 0 where
+  pub text : List ℕ
+  pub held : c query_name ≡ Some text
+  pub few : length text ≤ query_bytes
+  pub query : Query
+  pub said : IsQueryOver target text query
+  pub atoms : HasFewAtoms query
+
+-- the certain answers of the query have no more cells than they may have
+abbrev pub HasFewAnswers : (P : Program) (c : World) (h : HasSolutionIn P c) → HasQueryIn h.mapping.target c → Type 0
+HasFewAnswers P c h k =
+    (rows : List Tuple) → AreCertain P.apply h.mapping.rules (model_tables h.mapping.target) (facts h.rows) k.query rows
+    → length rows * k.query.width ≤ answer_cells
 
 -- ---- the stages
 
@@ -92,6 +113,17 @@ DemoIsAClash =
     (P : Program) (c : World) (words : List Word) (number : ℕ) (mode : Mode) → says words ≡ Some (Demonstrating number mode)
     → HasNoSolutionIn P (demo_world number) → IsClashing P c words
 
+-- if there is a solution, the answers of a query are planned; and if there is none, there is a clash
+abbrev pub AnswersArePlanned : Type 0
+AnswersArePlanned =
+    (P : Program) (c : World) (words : List Word) → says words ≡ Some Answering → (h : HasSolutionIn P c) (k : HasQueryIn h.mapping.target c)
+    → HasFewAnswers P c h k → (a : Answers) × IsPlanned P c words (Answered a)
+
+abbrev pub NoAnswerIsAClash : Type 0
+NoAnswerIsAClash =
+    (P : Program) (c : World) (words : List Word) → says words ≡ Some Answering → (h : HasNoSolutionIn P c) → HasQueryIn h.mapping.target c
+    → IsClashing P c words
+
 -- ---- the answers
 
 -- this, or want of memory
@@ -108,7 +140,7 @@ HasDone (Exchanging mode nested) d = (e : Exchange) × (d ≡ Exchanged e)
 HasDone (Showing mode) d = d ≡ Shown
 HasDone (Demonstrating number mode) d = (e : Exchange) × (d ≡ Demo e)
 HasDone Answering d = (a : Answers) × (d ≡ Answered a)
-HasDone Judging d = ⊥
+HasDone Judging d = (v : Verdict) × (d ≡ Judged v)
 HasDone Comparing d = (k : Comparison) × (d ≡ Compared k)
 
 -- nothing is at fault
@@ -124,6 +156,9 @@ pub record Completes (P : Program) (c : World) (words : List Word) (r : Ending) 
       → OrMemory r ((e : Exchange) × (r ≡ endings.Done (Exchanged e)))
   pub clash : (mode : Mode) (nested : Bool) → says words ≡ Some (Exchanging mode nested) → HasNoSolutionIn P c → OrMemory r (AnswersClash r)
   pub shown : (mode : Mode) → says words ≡ Some (Showing mode) → HasMappingIn P c → OrMemory r (r ≡ endings.Done Shown)
+  pub answers : says words ≡ Some Answering → (h : HasSolutionIn P c) (k : HasQueryIn h.mapping.target c) → HasFewAnswers P c h k
+      → OrMemory r ((a : Answers) × (r ≡ endings.Done (Answered a)))
+  pub no_answer : says words ≡ Some Answering → (h : HasNoSolutionIn P c) → HasQueryIn h.mapping.target c → OrMemory r (AnswersClash r)
 
 -- over the files of a demo, whatever is outside, if no write failed
 pub record CompletesDemo (P : Program) (words : List Word) (r : Ending) : Type 0 where

@@ -1,7 +1,10 @@
 pub mod Words
 pub mod Running
 pub mod Demo
+pub mod Judging
+pub mod Comparing
 pub mod Outcomes
+pub mod Answering
 pub mod Commands
 pub mod Promises
 pub mod Completing

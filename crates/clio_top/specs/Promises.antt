@@ -16,6 +16,8 @@ use Rattle.dx_exchange.specs.declared.mode.Mode.TheVariants.{Plain}
 use Rattle.dx_exchange.specs.declared.result.Exchange.{Exchange}
 use Rattle.dx_exchange.specs.declared.fault.ExFault.TheVariants as exchange_faults
 use Rattle.dx_exchange.specs.Exchanging.{Asked, exchanging}
+use Rattle.dx_compare.specs.declared.comparing.Comparison.{Comparison}
+use Rattle.dx_judge.specs.declared.verdict.Verdict.{Verdict}
 use Rattle.dx_stages.specs.declared.plan.Ended.TheVariants as endeds
 use Rattle.dx_stages.specs.Worlds.{World}
 use Rattle.dx_stages.specs.Laws.{IsDecided}
@@ -26,17 +28,21 @@ use Rattle.clio_accept.specs.declared.fault.AcceptFault.TheVariants as accept_fa
 use Rattle.clio_accept.specs.Accepting.{accepting}
 use Rattle.clio_source.specs.Source.{Read, at_start, file_at, reading, roots, source_stages}
 use Rattle.clio_files.specs.Sheets.{Told}
+use Rattle.dx_queries.specs.declared.query.Query.{Query}
+use Rattle.clio_ending.specs.declared.ending.Answers.{Answers}
 use Rattle.clio_ending.specs.declared.ending.Done.{Done}
-use Rattle.clio_ending.specs.declared.ending.Done.TheVariants.{Answered, Compared, Demo, Exchanged, Shown}
+use Rattle.clio_ending.specs.declared.ending.Done.TheVariants.{Answered, Compared, Demo, Exchanged, Judged, Shown}
 use Rattle.clio_ending.specs.declared.ending.Refusal.TheVariants as refusals
 use Rattle.clio_ending.specs.Ending.{AreAlike}
 use Rattle.clio_top.specs.declared.command.Command.{Command}
 use Rattle.clio_top.specs.declared.command.Command.TheVariants.{Answering, Comparing, Demonstrating, Exchanging, Judging, Showing}
 use Rattle.clio_top.specs.Words.{Word, says}
 use Rattle.clio_top.specs.Running.{Program, mapping_stages, target_cells, text_bytes, wanted}
+use Rattle.clio_top.specs.Judging.{Sized, sized_rows, wanted_given}
 use Rattle.clio_top.specs.Demo.{demo_world}
 use Rattle.clio_top.specs.Commands.{run_stages}
-use Rattle.clio_top.specs.Outcomes.{IsClashIn, IsDemoIn, IsDoneIn, IsNextFile, IsShownIn, Writing, wrote_all}
+use Rattle.clio_top.specs.Answering.{posed_query, query_name}
+use Rattle.clio_top.specs.Outcomes.{IsAnsweredIn, IsClashIn, IsComparedIn, IsDemoIn, IsDoneIn, IsJudgedIn, IsNextFile, IsNextGiven, IsShownIn, Writing, wrote_all}
 
 -- there is one reason to refuse a run, up to which clash is told, or a plan, and never both
 abbrev pub RefusedOrPlanned : Type 0
@@ -58,13 +64,26 @@ abbrev pub IsDemo : Program → List Word → Exchange → Writing → Type 0
 IsDemo P words e Wrote =
     (number : ℕ) × (mode : Mode) × (says words ≡ Some (Demonstrating number mode)) × IsDemoIn P number mode e Wrote
 
+-- the certain answers of a query
+abbrev pub IsAnswered : Program → World → List Word → Answers → Writing → Type 0
+IsAnswered P c words a Wrote = (says words ≡ Some Answering) × IsAnsweredIn P c a Wrote
+
+-- a verdict
+abbrev pub IsJudged : Program → World → List Word → Verdict → Writing → Type 0
+IsJudged P c words v Wrote = (says words ≡ Some Judging) × IsJudgedIn P c v Wrote
+
+-- a comparison
+abbrev pub IsCompared : Program → World → List Word → Comparison → Writing → Type 0
+IsCompared P c words k Wrote = (says words ≡ Some Comparing) × IsComparedIn P c k Wrote
+
 -- the words ask for this, over the texts and files of a world, and its files and its text were written so
 abbrev pub AsAsked : Program → World → List Word → Done → Writing → Type 0
 AsAsked P c words (Exchanged e) Wrote = IsDone P c words e Wrote
 AsAsked P c words Shown Wrote = IsShown P c words Wrote
 AsAsked P c words (Demo e) Wrote = IsDemo P words e Wrote
-AsAsked P c words (Answered a) Wrote = ⊥
-AsAsked P c words (Compared k) Wrote = ⊥
+AsAsked P c words (Answered a) Wrote = IsAnswered P c words a Wrote
+AsAsked P c words (Judged v) Wrote = IsJudged P c words v Wrote
+AsAsked P c words (Compared k) Wrote = IsCompared P c words k Wrote
 
 -- what is done is as the words ask for it, whether or not the inputs tell what they hold
 abbrev pub DoneIsAsAsked : Type 0
@@ -113,15 +132,24 @@ NoSolutionIsAClash =
 -- ---- files
 
 -- The files that a command asks for. An exchange: the mapping text and then, if it is accepted, the source files in order. Showing: the
--- mapping text. A demo: none.
+-- mapping text. A demo: none. An answer: the mapping text, then if it is accepted the query, and then, if that is over its target, the
+-- source files in order. Judging: the mapping text, then if it is accepted the source files in order, and then, if these are in form,
+-- the given files in order. Comparing: the mapping text and then, if it is accepted, the other one.
 abbrev pub AsksFor : Program → World → Command → List ℕ → Type 0
 AsksFor P c (Exchanging mode nested) n =
     (n ≡ codes "mapping.clio") ⊎ ((M : Mapping) × (mapping_stages P).passes c (tt {0}) M × IsNextFile c M.source n)
 AsksFor P c (Showing mode) n = n ≡ codes "mapping.clio"
 AsksFor P c (Demonstrating number mode) n = ⊥
-AsksFor P c Answering n = ⊥
-AsksFor P c Judging n = ⊥
-AsksFor P c Comparing n = ⊥
+AsksFor P c Answering n =
+    (n ≡ codes "mapping.clio")
+    ⊎ ((M : Mapping) × (mapping_stages P).passes c (tt {0}) M
+    × ((n ≡ query_name) ⊎ ((q : Query) × (posed_query M).passes c M q × IsNextFile c M.source n)))
+AsksFor P c Judging n =
+    (n ≡ codes "mapping.clio")
+    ⊎ ((M : Mapping) × (mapping_stages P).passes c (tt {0}) M
+    × (IsNextFile c M.source n ⊎ ((p : Sized) × (sized_rows P).passes c M p × IsNextGiven c (wanted_given p) n)))
+AsksFor P c Comparing n =
+    (n ≡ codes "mapping.clio") ⊎ ((M : Mapping) × (mapping_stages P).passes c (tt {0}) M × (n ≡ codes "other.clio"))
 
 -- a run asks for exactly the files of the command that its words say
 abbrev pub AskedInOrder : Type 0

@@ -7,7 +7,7 @@ use Rattle.dx_exchange.specs.declared.mode.Mode.TheVariants.{Plain, Core}
 use Rattle.clio_ending.specs.declared.ending.Refusal.{Refusal}
 use Rattle.clio_ending.specs.declared.ending.Refusal.TheVariants.{Usage}
 use Rattle.clio_top.specs.declared.command.Command.{Command}
-use Rattle.clio_top.specs.declared.command.Command.TheVariants.{Demonstrating, Exchanging, Showing}
+use Rattle.clio_top.specs.declared.command.Command.TheVariants.{Answering, Comparing, Demonstrating, Exchanging, Judging, Showing}
 
 -- a word, by its bytes
 abbrev pub Word : Type 0
@@ -80,6 +80,9 @@ says (name ∷ words) =
     if same name (codes "show") then show_said words
     else if same name (codes "exchange") then exchange_said words
     else if same name (codes "demo") then demo_said words
+    else if same name (codes "answer") then alone Answering words
+    else if same name (codes "judge") then alone Judging words
+    else if same name (codes "compare") then alone Comparing words
     else None
 
 -- the command, or the refusal of other words

@@ -1,6 +1,6 @@
 // The commands, and the words that say them.
 ghost use Rattle.std.specs.Prelude.{◌≡◌};
-ghost use Rattle.clio_top.specs.Words.{demo_said, exchange_said, is_core, is_nested, numbered, says, show_said};
+ghost use Rattle.clio_top.specs.Words.{alone, demo_said, exchange_said, is_core, is_nested, numbered, says, show_said};
 
 use crate::numeral::number_in;
 use dx_exchange::Mode;
@@ -81,6 +81,16 @@ fn demo_said(options: &[Text]) -> Option<Command>
     }
 }
 
+// A command without options.
+fn alone(command: Command, options: &[Text]) -> Option<Command>
+    ensures { result ≡ alone command options.now }
+{
+    match options {
+        [] => Some(command),
+        _ => None,
+    }
+}
+
 /// The command that the words say. None if they say none.
 pub(crate) fn command_of(words: &[Text]) -> Option<Command>
     ensures { result ≡ says words.now }
@@ -90,6 +100,9 @@ pub(crate) fn command_of(words: &[Text]) -> Option<Command>
         "show" => show_said(options),
         "exchange" => exchange_said(options),
         "demo" => demo_said(options),
+        "answer" => alone(Command::Answering, options),
+        "judge" => alone(Command::Judging, options),
+        "compare" => alone(Command::Comparing, options),
         _ => None,
     }
 }

@@ -1,7 +1,7 @@
 // The laws of a run. The definitions alone carry them: no body computes anything.
 ghost use Rattle.clio_top.specs.Promises.{AskedInOrder, ClashesAreOfTexts, DoneIsAsAsked, FilesHaveOwnNames};
 ghost use Rattle.clio_top.specs.Promises.{MemoryIsNoReason, NoSolutionIsAClash, RefusedOrPlanned, UsageIsOfWords};
-ghost use Rattle.clio_top.specs.Completing.{DemoIsAClash, DemoIsPlanned, MappingIsShown, SmallIsPlanned, SolutionIsPlanned};
+ghost use Rattle.clio_top.specs.Completing.{AnswersArePlanned, DemoIsAClash, DemoIsPlanned, MappingIsShown, NoAnswerIsAClash, SmallIsPlanned, SolutionIsPlanned};
 ghost use Rattle.clio_top.specs.FilesOf.{ExchangesCanBeWritten};
 
 /// There is one reason to refuse a run, or a plan, and never both.
@@ -25,12 +25,14 @@ pub fn clash_exactly_without_solution()
 {}
 
 /// If there is a solution within the limits, an exchange is planned; an accepted mapping is shown; and so is the exchange of a demo's
-/// files planned, or there is a clash.
+/// files planned, or there is a clash. The answers of a query are planned, or there is a clash.
 pub fn planned_if_there_is_something()
     ensures exchange { SolutionIsPlanned }
     ensures shown { MappingIsShown }
     ensures demo { DemoIsPlanned }
     ensures demo_clash { DemoIsAClash }
+    ensures answers { AnswersArePlanned }
+    ensures no_answer { NoAnswerIsAClash }
 {}
 
 /// There is a world in which an exchange is planned in each mode: a mapping of employees to persons, and two employees.

@@ -5,27 +5,33 @@ ghost use Rattle.dx_ports.specs.Entries.{Held};
 ghost use Rattle.dx_ports.specs.Faults.{Rose};
 ghost use Rattle.dx_funcs.specs.Judging.{Decides, tested};
 ghost use Rattle.dx_funcs.specs.Serving.{Serves, offered};
+ghost use Rattle.dx_compare.specs.declared.comparing.Comparison.{Comparison as ComparisonOf};
 ghost use Rattle.dx_exchange.specs.declared.result.Exchange.{Exchange as ExchangeOf};
+ghost use Rattle.dx_judge.specs.declared.verdict.Verdict.{Verdict as VerdictOf};
 ghost use Rattle.dx_keys.specs.declared.answers.Clash.{Clash as ClashOf};
 ghost use Rattle.dx_stages.specs.Running.{Ran};
 ghost use Rattle.dx_stages.specs.Worlds.{IsOf, World};
 ghost use Rattle.dx_stages.specs.Ending.{Runs, planned};
 ghost use Rattle.dx_stages.specs.declared.plan.Ended.{Ended as EndedOf};
+ghost use Rattle.clio_ending.specs.declared.ending.Answers.{Answers as AnswersOf};
 ghost use Rattle.clio_ending.specs.declared.ending.Done.{Done as DoneOf};
-ghost use Rattle.clio_ending.specs.declared.ending.Done.TheVariants.{Demo, Exchanged, Shown};
+ghost use Rattle.clio_ending.specs.declared.ending.Done.TheVariants.{Answered, Compared, Demo, Exchanged, Judged, Shown};
 ghost use Rattle.clio_ending.specs.declared.ending.Ending.TheVariants.{Clash as ClashEnding, Done as DoneEnding};
 ghost use Rattle.clio_ending.specs.declared.ending.Refusal.{Refusal as RefusalOf};
 ghost use Rattle.clio_ending.specs.Ending.{AreAlike, ending_of};
 ghost use Rattle.clio_top.specs.Running.{program, told, written};
 ghost use Rattle.clio_top.specs.Commands.{IsInRange, run_stages, stages_of};
 ghost use Rattle.clio_top.specs.Outcomes.{wrote_all};
-ghost use Rattle.clio_top.specs.Promises.{IsClashOf, IsDemo, IsDone, IsShown};
+ghost use Rattle.clio_top.specs.Promises.{IsAnswered, IsClashOf, IsCompared, IsDemo, IsDone, IsJudged, IsShown};
 ghost use Rattle.clio_top.specs.Completing.{Completes, CompletesDemo};
 ghost use Rattle.clio_top.specs.Leaving.{Leaves};
 
+use crate::answering::answer_plan;
 use crate::command::{Command, command_of};
+use crate::comparing::compare_plan;
 use crate::demo::demo_plan;
 use crate::exchanging::exchange_plan;
+use crate::judging::judge_plan;
 use crate::showing::show_plan;
 use clio_ending::{Done, Ending, Refusal, as_ending};
 use dx_funcs::{Host, Meaning, Tests};
@@ -58,9 +64,9 @@ where
         ),
         Command::Showing { mode } => show_plan(alloc, inputs, host, tests, mode),
         Command::Demonstrating { number, mode } => demo_plan(alloc, number, host, tests, mode),
-        Command::Answering | Command::Judging | Command::Comparing => {
-            Err(Stop::Refused(Refusal::Usage))
-        }
+        Command::Answering => answer_plan(alloc, inputs, host, tests),
+        Command::Comparing => compare_plan(alloc, inputs, host, tests),
+        Command::Judging => judge_plan(alloc, inputs, host, tests),
     }
 }
 
@@ -92,12 +98,16 @@ where
 ///
 /// `exchange` reads `mapping.clio` and the file of each source root, leaves out the rows that don't pass the mapping's conditions,
 /// as the row tests decide, computes the target, puts the files and says the summary. `show` reads `mapping.clio` and says its rules and their script. `demo` exchanges files that it makes for a number of
-/// employees, and says counts. With `--core` the target is a core. Everything is computed before the first file is put.
+/// employees, and says counts. `judge` reads `mapping.clio`, the source files and for each target table a given file, and says the verdict
+/// on the given target. `compare` reads `mapping.clio` and `other.clio` and says whether the rules of each imply those of the other;
+/// for a direction that is not implied it puts two instances that show it. With `--core` the target is a core. Everything is computed before the first file is put.
 ///
 /// There is a world, a look-up from names to bytes, which is what the inputs hold if they tell. After `Done(Exchanged(e))`, `e` is
 /// the exchange of the mapping text and of the rows of the source files there that pass its conditions, and exactly its files and its summary were written (specs/Promises,
 /// `IsDone`). After `Done(Shown)` the rules of the mapping text there and their script were said, and no file was put (`IsShown`); after
-/// `Done(Demo(e))` the summary of `e`, the exchange of the demo's own files (`IsDemo`). After `Clash`, these have no solution
+/// `Done(Demo(e))` the summary of `e`, the exchange of the demo's own files (`IsDemo`); after `Done(Judged(v))` the line of `v`, which
+/// is the verdict on the given files there, and no file was put (`IsJudged`); after `Done(Compared(k))` the files and the lines of `k`, which tells exactly whether the rules of each mapping text
+/// there imply those of the other (`IsCompared`). After `Clash`, these have no solution
 /// (`IsClashOf`). What another ending leaves says `Leaves` of specs/Leaving: after `WriteFault` the first files of the list, and after all
 /// of them a prefix of the text; after `Memory` nothing, or the same; else nothing. If no call outside failed and the inputs tell, what
 /// there is a solution for is done, and what there is none for is a clash, or memory ran out (specs/Completing). In general the
@@ -124,6 +134,15 @@ where
         (wrote_all (written (O.files outputs.old) (O.said outputs.old)) (written (O.files outputs.new) (O.said outputs.new))) }
     ensures demo { (e : ExchangeOf) → result ≡ DoneEnding (Demo e)
         → IsDemo (program (offered host.now) (tested tests.now) M.apply M.passes) words.now.items e
+        (wrote_all (written (O.files outputs.old) (O.said outputs.old)) (written (O.files outputs.new) (O.said outputs.new))) }
+    ensures answered { (a : AnswersOf) → result ≡ DoneEnding (Answered a) → (c : World) × IsOf (I.holds inputs.old) c
+        × IsAnswered (program (offered host.now) (tested tests.now) M.apply M.passes) c words.now.items a
+        (wrote_all (written (O.files outputs.old) (O.said outputs.old)) (written (O.files outputs.new) (O.said outputs.new))) }
+    ensures judged { (v : VerdictOf) → result ≡ DoneEnding (Judged v) → (c : World) × IsOf (I.holds inputs.old) c
+        × IsJudged (program (offered host.now) (tested tests.now) M.apply M.passes) c words.now.items v
+        (wrote_all (written (O.files outputs.old) (O.said outputs.old)) (written (O.files outputs.new) (O.said outputs.new))) }
+    ensures compared { (k : ComparisonOf) → result ≡ DoneEnding (Compared k) → (c : World) × IsOf (I.holds inputs.old) c
+        × IsCompared (program (offered host.now) (tested tests.now) M.apply M.passes) c words.now.items k
         (wrote_all (written (O.files outputs.old) (O.said outputs.old)) (written (O.files outputs.new) (O.said outputs.new))) }
     ensures clash { (k : ClashOf) (table : List ℕ) (key : List (List ℕ)) (column : List ℕ) → result ≡ ClashEnding k table key column
         → (c : World) × IsOf (I.holds inputs.old) c

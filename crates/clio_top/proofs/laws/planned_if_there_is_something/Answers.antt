@@ -1,5 +1,5 @@
 use Rattle.clio_top.proofs.Clashes.{demo_clashes}
-use Rattle.clio_top.proofs.Completing.{demo_planned, planned, shown}
+use Rattle.clio_top.proofs.Completing.{answers_clash, answers_planned, demo_planned, planned, shown}
 use Rattle.clio_top.proofs.laws.planned_if_there_is_something.Goals as goal
 
 pub returns-clause-exchange : goal.returns-clause-exchange
@@ -13,3 +13,9 @@ returns-clause-demo c = demo_planned
 
 pub returns-clause-demo_clash : goal.returns-clause-demo_clash
 returns-clause-demo_clash c = demo_clashes
+
+pub returns-clause-answers : goal.returns-clause-answers
+returns-clause-answers c = answers_planned
+
+pub returns-clause-no_answer : goal.returns-clause-no_answer
+returns-clause-no_answer c = answers_clash

@@ -1,0 +1,5 @@
+pub mod Parsed
+pub mod Fits
+pub mod Runs
+pub mod Decided
+pub mod Fitted

@@ -1,0 +1,101 @@
+// The given files of a schema's tables.
+ghost use Rattle.std.specs.Prelude.{◌≡◌, ◌+◌, ◌<◌, ◌≤◌, length, IfOk};
+ghost use Rattle.dx_schema.specs.Tables.{tables_of};
+ghost use Rattle.dx_stages.specs.Running.{Ran};
+ghost use Rattle.clio_source.specs.Source.{too_many_bytes};
+ghost use Rattle.clio_given.specs.Given.{files_stages, given_stages, none_read, reading};
+ghost use Rattle.clio_given.specs.Reading.{ReadFits, read_of, shown_result};
+
+use crate::names::given_name;
+use crate::reading::{Reading, at_start, load_given};
+use clio_source::{RowsFault, SourceRefusal};
+use dx_instance::Instance;
+use dx_ports::limits::DATA_BYTES;
+use dx_ports::{Count, Inputs, Limit};
+use dx_schema::Schema;
+use dx_stages::{Stop, fetch};
+use std::alloc::Global;
+
+// The files have too many bytes.
+fn too_many_bytes() -> SourceRefusal
+    ensures { result ≡ too_many_bytes }
+{
+    SourceRefusal::Limit(Limit {
+        what: Count::DataBytes,
+        number: DATA_BYTES,
+    })
+}
+
+// Reads a table's file, after what was read before it.
+fn read_table<I: Inputs>(
+    alloc: Global,
+    inputs: &mut I,
+    schema: &Schema,
+    table: u32,
+    before: Reading,
+) -> Result<Reading, Stop<SourceRefusal>>
+    requires table { table < length (tables_of schema.now) }
+    requires fit { ReadFits schema.now table before }
+    ensures fit { IfOk result (ReadFits schema.now (table + 1)) }
+    ensures read { Ran (reading schema.now table) (read_of before) (shown_result result)
+        (record { holds = I.holds inputs.old; faults = I.faults inputs.old; stopped = I.stopped inputs.old })
+        (record { holds = I.holds inputs.new; faults = I.faults inputs.new; stopped = I.stopped inputs.new }) }
+{
+    let name = given_name(alloc, schema.name(table))?;
+    let absent = SourceRefusal::Rows {
+        file: name.copy()?,
+        fault: RowsFault::Absent,
+    };
+    let bytes = fetch(
+        alloc,
+        inputs,
+        name.copy()?,
+        before.bytes_left,
+        absent,
+        too_many_bytes(),
+    )?;
+    load_given(alloc, before, schema, table, bytes.items(), name)
+}
+
+// Reads the files of all tables.
+fn read_files<I: Inputs>(
+    alloc: Global,
+    inputs: &mut I,
+    schema: &Schema,
+    bytes_left: u64,
+) -> Result<Reading, Stop<SourceRefusal>>
+    ensures fit { IfOk result (ReadFits schema.now (length (tables_of schema.now))) }
+    ensures few { length (tables_of schema.now) ≤ 64 }
+    ensures read { Ran (files_stages schema.now) (none_read bytes_left) (shown_result result)
+        (record { holds = I.holds inputs.old; faults = I.faults inputs.old; stopped = I.stopped inputs.old })
+        (record { holds = I.holds inputs.new; faults = I.faults inputs.new; stopped = I.stopped inputs.new }) }
+{
+    prove!(schema.tables() <= 64);
+    let mut so_far = at_start(alloc, bytes_left);
+    for table in 0..schema.tables() {
+        so_far = read_table(alloc, inputs, schema, table, so_far)?;
+    }
+    Ok(so_far)
+}
+
+/// The given target that the files `given/<table>.csv` of a schema's tables hold: of each record a row, of each field the value whose
+/// text it is.
+///
+/// # Errors
+///
+/// For each table in order: its file is absent, passes what is left of so many bytes, is no table of its columns, has a record with a
+/// field that is no value's text, or its rows pass what is left of 1,000,000 cells. A read that failed, and want of memory, may come at
+/// any file.
+pub fn read_given<I: Inputs>(
+    alloc: Global,
+    inputs: &mut I,
+    schema: &Schema,
+    bytes_left: u64,
+) -> Result<Instance, Stop<SourceRefusal>>
+    ensures { Ran given_stages (record { schema = schema.now; bytes_left = bytes_left }) result
+        (record { holds = I.holds inputs.old; faults = I.faults inputs.old; stopped = I.stopped inputs.old })
+        (record { holds = I.holds inputs.new; faults = I.faults inputs.new; stopped = I.stopped inputs.new }) }
+{
+    let reading = read_files(alloc, inputs, schema, bytes_left)?;
+    Ok(Instance::from_gathered(alloc, reading.symbols, reading.tables)?)
+}

@@ -1,0 +1,120 @@
+// What was read so far of the given files, and one table more.
+ghost use Rattle.std.specs.Prelude.{◌≡◌, ◌+◌, ◌*◌, ◌-◌, ◌≤◌, ◌<◌, length, map, IfOk, IfErr, MatchOption};
+ghost use Rattle.dx_ports.specs.Members.{Each};
+ghost use Rattle.dx_instance.specs.Numbers.{Extends};
+ghost use Rattle.dx_instance.specs.Shown.{AreBelow, shown_row};
+ghost use Rattle.dx_schema.specs.Forest.{Forest};
+ghost use Rattle.dx_schema.specs.Tables.{table_at, tables_of};
+ghost use Rattle.dx_stages.specs.Running.{Gives};
+ghost use Rattle.clio_given.specs.Given.{SayRows, given_name, loading, none_read, too_many_cells};
+ghost use Rattle.clio_given.specs.Reading.{NotRead, ReadFits, read_of, shown_result};
+
+use crate::values::{NoValues, rows_of};
+use clio_source::{RowsFault, SourceRefusal};
+use dx_csv::{RowFault, load_table};
+use dx_instance::{Gathered, Rows};
+use dx_ports::limits::GIVEN_CELLS;
+use dx_ports::{Count, Limit, Text};
+use dx_schema::Schema;
+use dx_stages::Stop;
+use std::alloc::Global;
+
+/// The rows of the tables that were come to, as numbers of symbols, and how many bytes and cells may still come.
+#[derive(Drop)]
+pub(crate) struct Reading {
+    pub symbols: Gathered,
+    pub tables: Vec<Rows>,
+    pub bytes_left: u64,
+    pub cells_left: u64,
+}
+
+/// Nothing was read, and so many bytes may come.
+pub(crate) fn at_start(alloc: Global, bytes_left: u64) -> Reading
+    ensures fit { (f : Forest) → ReadFits f 0 result }
+    ensures read { read_of result ≡ none_read bytes_left }
+{
+    Reading {
+        symbols: Gathered::new(alloc),
+        tables: Vec::new(alloc),
+        bytes_left,
+        cells_left: GIVEN_CELLS,
+    }
+}
+
+// The given rows have too many cells.
+fn too_many_cells() -> SourceRefusal
+    ensures { result ≡ too_many_cells }
+{
+    SourceRefusal::Limit(Limit {
+        what: Count::GivenCells,
+        number: GIVEN_CELLS,
+    })
+}
+
+// The rows of a file's bytes.
+fn rows_of_bytes(
+    alloc: Global,
+    bytes: &[u8],
+    schema: &Schema,
+    table: u32,
+    file: Text,
+    symbols: &mut Gathered,
+) -> Result<Rows, Stop<SourceRefusal>>
+    requires { table < length (tables_of schema.now) }
+    ensures rows { IfOk result (λ rows. SayRows schema.now table bytes.now (map (shown_row symbols.new) rows.rows)) }
+    ensures width { IfOk result (λ rows. rows.width ≡ length (table_at schema.now table).columns) }
+    ensures below { IfOk result (λ rows. Each rows.rows (AreBelow (length symbols.new))) }
+    ensures grows { Extends symbols.old symbols.new }
+    ensures fault { IfErr result (NotRead schema.now table bytes.now file) }
+{
+    let records = match load_table(alloc, bytes, schema.columns(table)) {
+        Ok(records) => records,
+        Err(RowFault::Bad(kind)) => {
+            let fault = RowsFault::Csv(kind);
+            return Err(Stop::Refused(SourceRefusal::Rows { file, fault }));
+        }
+        Err(RowFault::Memory) => return Err(Stop::Memory),
+    };
+    match rows_of(alloc, schema.width(table), &records, symbols) {
+        Ok(rows) => Ok(rows),
+        Err(NoValues::Record(record)) => {
+            let fault = RowsFault::Value(record);
+            Err(Stop::Refused(SourceRefusal::Rows { file, fault }))
+        }
+        Err(NoValues::Memory) => Err(Stop::Memory),
+    }
+}
+
+// What is left of so many cells after these rows, unless they have more.
+fn cells_after(left: u64, rows: u32, width: u32) -> Option<u64>
+    ensures { MatchOption result (left < rows * width) (λ rest. (rest ≡ left - rows * width) × (rows * width ≤ left)) }
+{
+    let cells = u64::from(rows).checked_mul(u64::from(width))?;
+    left.checked_sub(cells)
+}
+
+/// Reads a table from the bytes of its file, after what was read before it.
+pub(crate) fn load_given(
+    alloc: Global,
+    before: Reading,
+    schema: &Schema,
+    table: u32,
+    bytes: &[u8],
+    file: Text,
+) -> Result<Reading, Stop<SourceRefusal>>
+    requires table { table < length (tables_of schema.now) }
+    requires file { file ≡ given_name (table_at schema.now table).name }
+    requires fit { ReadFits schema.now table before }
+    ensures fit { IfOk result (ReadFits schema.now (table + 1)) }
+    ensures read { Gives (loading schema.now table) (read_of before, bytes.now) (shown_result result) }
+{
+    let mut reading = before;
+    let rows = rows_of_bytes(alloc, bytes, schema, table, file, &mut reading.symbols)?;
+    let Some(cells_left) = cells_after(reading.cells_left, rows.count(), schema.width(table)) else {
+        return Err(Stop::Refused(too_many_cells()));
+    };
+    reading.tables.push(rows)?;
+    reading.bytes_left = reading.bytes_left.saturating_sub(bytes.len() as u64);
+    reading.cells_left = cells_left;
+    Ok(reading)
+}
