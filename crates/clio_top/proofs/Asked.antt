@@ -5,50 +5,25 @@ use Rattle.dx_model.specs.declared.values.NullId.{NullId}
 use Rattle.dx_instance.specs.Stored.{facts}
 use Rattle.dx_exchange.specs.declared.mode.Mode.{Mode}
 use Rattle.dx_exchange.specs.declared.result.Exchange.{Exchange}
-use Rattle.dx_exchange.specs.Exchanging.{IsExchange}
-use Rattle.dx_compare.specs.declared.comparing.Comparison.{Comparison}
-use Rattle.dx_compare.specs.Letters.{letters}
-use Rattle.dx_compare.proofs.Answered.{answer_tells}
 use Rattle.dx_stages.specs.Worlds.{World}
 use Rattle.dx_stages.specs.Ending.{Planned}
 use Rattle.clio_accept.specs.declared.mapping.Mapping.{Mapping}
-use Rattle.clio_files.specs.Comparisons.{AreComparedFiles, compared_text}
 use Rattle.clio_files.specs.Files.{AreFiles, files_of, summary_of}
 use Rattle.clio_files.specs.Sheets.{AreNulls, Told}
 use Rattle.clio_ending.specs.declared.ending.Done.{Done}
 use Rattle.clio_top.specs.declared.command.Command.{Command}
 use Rattle.clio_top.specs.declared.command.Command.TheVariants.{Answering, Comparing, Demonstrating, Exchanging, Judging, Showing}
 use Rattle.clio_top.specs.Words.{or_usage, says}
-use Rattle.clio_top.specs.Running.{Filled, Program, asked, exchanges}
-use Rattle.clio_top.specs.Comparing.{comparisons}
+use Rattle.clio_steps.specs.Steps.{Program, exchanges}
 use Rattle.clio_top.specs.Demo.{demo_text, demo_world}
 use Rattle.clio_top.specs.Commands.{run_stages, stages_of}
-use Rattle.clio_top.specs.Outcomes.{IsComparedIn, IsDemoIn, IsDoneIn, IsExchangeIn, Writing, wrote_all}
+use Rattle.clio_top.specs.Outcomes.{IsDemoIn, IsDoneIn}
+use Rattle.clio_steps.specs.Outcomes.{Writing, wrote_all}
 use Rattle.clio_top.specs.Promises.{AsAsked, DoneIsAsAsked}
-use Rattle.clio_top.proofs.Pairs.{made_in}
-use Rattle.clio_top.proofs.JudgedIn.{judged_in}
-use Rattle.clio_top.proofs.AnsweredIn.{answered_in}
-
--- ---- an exchange in a world
-
-abbrev pub in_world : (P : Program) (mode : Mode) (c : World) (q : Mapping × Exchange) → (exchanges P mode).passes c (tt {0}) q → IsExchangeIn P mode c q.1
-in_world P mode c q (M, (text, there, accepted), (pair, (I, source, pair_is), (x, exchange, q_is))) = record {
-  text = text;
-  held = there.0;
-  mapping = M;
-  accepted = accepted;
-  rows = I;
-  source = source;
-  exchange = subst (IsExchange P.apply (asked mode (M, I))) (sym (ap (λ (r : Mapping × Exchange). r.1) q_is)) (subst (λ (r : Filled). IsExchange P.apply (asked mode r) x) pair_is exchange);
-}
-
--- its mapping is the one that was passed on
-its_mapping : (P : Program) (mode : Mode) (c : World) (q : Mapping × Exchange) (x : (exchanges P mode).passes c (tt {0}) q) → q.0 ≡ (in_world P mode c q x).mapping
-its_mapping P mode c q (M, m, (pair, r, (x, exchange, q_is))) = ap (λ (t : Mapping × Exchange). t.0) q_is ∙ ap (λ (t : Filled). t.0) r.2
-
--- what was written of a plan
-pub as_planned : (Wrote : Writing) (p r : Planned Done) → p ≡ r → Wrote p.files p.text → Wrote r.files r.text
-as_planned Wrote p r is w = subst (λ (t : Planned Done). Wrote t.files t.text) is w
+use Rattle.clio_judge.proofs.JudgedIn.{judged_in}
+use Rattle.clio_answer.proofs.AnsweredIn.{answered_in}
+use Rattle.clio_steps.proofs.InWorld.{in_world, its_mapping, as_planned}
+use Rattle.clio_compare.proofs.ComparedIn.{compared_with}
 
 done_with : (P : Program) (mode : Mode) (nested : Bool) (c : World) (q : Mapping × Exchange) (files : List Told) (Wrote : Writing)
     → (exchanges P mode).passes c (tt {0}) q → AreFiles q.0.source q.0.target P.list mode nested q.0.rules q.1 files
@@ -69,30 +44,6 @@ demo_with P number mode q nulls Wrote x are wrote = record {
   nulls_are = are;
   written = subst (λ (N : Mapping). Wrote [] (demo_text number N q.1.target (length nulls))) (its_mapping P mode (demo_world number) q x) wrote;
 }
-
-compared_with : (P : Program) (c : World) (q : Mapping × Comparison) (files : List Told) (Wrote : Writing) → (comparisons P).passes c (tt {0}) q
-    → AreComparedFiles q.0.source q.0.target q.1 files → Wrote (files_of files) (compared_text q.1 files) → IsComparedIn P c q.1 Wrote
-compared_with P c q files Wrote x are wrote =
-    let m = made_in P c q x in
-    let k = m.comparison in record {
-      text = m.text;
-      held = m.held;
-      first = m.first;
-      accepted = m.accepted;
-      other_text = m.other_text;
-      other_held = m.other_held;
-      second = m.second;
-      other_accepted = m.other_accepted;
-      same = m.same;
-      free = m.free;
-      plain = m.plain;
-      forward = answer_tells (letters k.number) m.first.source m.first.target m.first.rules m.second.rules q.1.forward k.forward;
-      backward = answer_tells (letters k.number) m.first.source m.first.target m.second.rules m.first.rules q.1.backward k.backward;
-      comparison = k;
-      files = files;
-      are = subst (λ (M : Mapping). AreComparedFiles M.source M.target q.1 files) m.is are;
-      written = wrote;
-    }
 
 -- ---- each command
 

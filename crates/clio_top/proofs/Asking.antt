@@ -1,106 +1,24 @@
 -- Which files a run asks for.
-use Rattle.std.proofs.Common.{◌≡◌, ℕ, List, [], ◌∷◌, ◌++◌, refl, sym, ap, subst, inl, inr, Some, length}
-use Rattle.std.specs.List.{range_with_len}
-use Rattle.dx_schema.specs.Tables.{tables_of}
+use Rattle.std.proofs.Common.{◌≡◌, ℕ, List, refl, ap, subst, inl, inr, Some}
 use Rattle.dx_stages.specs.Worlds.{World}
-use Rattle.dx_stages.specs.Stages.{Stage, each}
-use Rattle.dx_used.specs.Passing.{Passes}
-use Rattle.clio_source.specs.Source.{at_start, reading, roots, source_stages, Wanted}
-use Rattle.clio_source.proofs.Roots.{asks_own}
-use Rattle.clio_given.specs.Given.{Wanted as WantedGiven, given_stages, none_read}
-use Rattle.clio_given.specs.Given.{reading as given_reading}
-use Rattle.clio_given.proofs.Runs.{asks_own as asks_given_file}
+use Rattle.clio_source.specs.Source.{source_stages}
 use Rattle.clio_top.specs.declared.command.Command.{Command}
 use Rattle.clio_top.specs.declared.command.Command.TheVariants.{Answering, Comparing, Demonstrating, Exchanging, Judging, Showing}
 use Rattle.clio_top.specs.Words.{or_usage, says}
-use Rattle.clio_top.specs.Running.{Program, wanted}
+use Rattle.clio_steps.specs.Steps.{Program, wanted}
 use Rattle.clio_top.specs.Commands.{run_stages, stages_of}
-use Rattle.clio_top.specs.Judging.{wanted_given}
-use Rattle.clio_top.specs.Outcomes.{IsNextFile, IsNextGiven}
+use Rattle.clio_judge.specs.Judging.{wanted_given}
 use Rattle.clio_top.specs.Promises.{AskedInOrder, AsksFor}
-use Rattle.clio_top.specs.declared.texts.Side.TheVariants.{First}
-use Rattle.clio_top.proofs.Names.{text_asks}
-use Rattle.clio_top.proofs.Pairs.{rest_asks}
+use Rattle.clio_steps.specs.declared.texts.Side.TheVariants.{First}
+use Rattle.clio_steps.proofs.Names.{text_asks}
+use Rattle.clio_compare.proofs.Pairs.{rest_asks}
 use Rattle.clio_top.proofs.Asked.{said}
-use Rattle.clio_top.specs.Answering.{Posed}
-use Rattle.clio_top.proofs.AnswerRuns.{end_silent}
-use Rattle.clio_top.proofs.Queried.{query_asks}
-use Rattle.clio_top.proofs.VerdictRuns.{after_rows}
-
--- ---- stages in a row
-
--- the one that asks, after those that passed
-record AsksAt {E X S : Type 0} (f : X → Stage E S S) (xs : List X) (c : World) (a : S) (n : List ℕ) : Type 0 where
-  before : List X
-  one : X
-  after : List X
-  split : xs ≡ before ++ one ∷ after
-  given : S
-  passed : (each f before).passes c a given
-  asks : (f one).asks c given n
-
-one_asks : {E X S : Type 0} (f : X → Stage E S S) (xs : List X) (c : World) (a : S) (n : List ℕ) → (each f xs).asks c a n → AsksAt f xs c a n
-one_asks f [] c a n h = absurd h
-one_asks f (x ∷ xs) c a n (inl h) = record { before = []; one = x; after = xs; split = refl; given = a; passed = refl; asks = h }
-one_asks f (x ∷ xs) c a n (inr (b, p, h)) =
-    let r = one_asks f xs c b n h in record {
-      before = x ∷ r.before;
-      one = r.one;
-      after = r.after;
-      split = ap (λ l. x ∷ l) r.split;
-      given = r.given;
-      passed = (b, p, r.passed);
-      asks = r.asks;
-    }
-
-asks_after : {E X S : Type 0} (f : X → Stage E S S) (before : List X) (one : X) (after : List X) (c : World) (a b : S) (n : List ℕ)
-    → (each f before).passes c a b → (f one).asks c b n → (each f (before ++ one ∷ after)).asks c a n
-asks_after f [] one after c a b n is h = inl (subst (λ s. (f one).asks c s n) is h)
-asks_after f (x ∷ before) one after c a b n (d, p, passed) h = inr (d, p, asks_after f before one after c d b n passed h)
-
--- ---- the source
-
-pub next_file : (passes : Passes) (c : World) (w : Wanted) (n : List ℕ) → (source_stages passes).asks c w n → IsNextFile c w.schema n
-next_file passes c w n (inl h) =
-    let f = w.schema in
-    let r = one_asks (reading f) (roots f) c at_start n h in record {
-      before = r.before;
-      root = r.one;
-      after = r.after;
-      roots_are = r.split;
-      read = r.given;
-      passed = r.passed;
-      is = asks_own f r.one c r.given n r.asks;
-    }
-next_file passes c w n (inr h) = absurd h.2
-
-pub asks_next : (passes : Passes) (c : World) (w : Wanted) (n : List ℕ) → IsNextFile c w.schema n → (source_stages passes).asks c w n
-asks_next passes c w n h =
-    let f = w.schema in
-    inl (subst (λ xs. (each (reading f) xs).asks c at_start n) (sym h.roots_are)
-    (asks_after (reading f) h.before h.root h.after c at_start h.read n h.passed (inl h.is)))
-
--- ---- the given files
-
-next_given : (c : World) (w : WantedGiven) (n : List ℕ) → given_stages.asks c w n → IsNextGiven c w n
-next_given c w n (inl h) =
-    let f = w.schema in
-    let r = one_asks (given_reading f) (range_with_len 0 (length (tables_of f))) c (none_read w.bytes_left) n h in record {
-      before = r.before;
-      table = r.one;
-      after = r.after;
-      tables_are = r.split;
-      read = r.given;
-      passed = r.passed;
-      is = asks_given_file f r.one c r.given n r.asks;
-    }
-next_given c w n (inr h) = absurd h.2
-
-asks_given : (c : World) (w : WantedGiven) (n : List ℕ) → IsNextGiven c w n → given_stages.asks c w n
-asks_given c w n h =
-    let f = w.schema in
-    inl (subst (λ xs. (each (given_reading f) xs).asks c (none_read w.bytes_left) n) (sym h.tables_are)
-    (asks_after (given_reading f) h.before h.table h.after c (none_read w.bytes_left) h.read n h.passed (inl h.is)))
+use Rattle.clio_answer.specs.Answering.{Posed}
+use Rattle.clio_answer.proofs.AnswerRuns.{end_silent}
+use Rattle.clio_answer.proofs.Queried.{query_asks}
+use Rattle.clio_judge.proofs.VerdictRuns.{after_rows}
+use Rattle.clio_steps.proofs.Asking.{next_file, asks_next}
+use Rattle.clio_judge.proofs.Asking.{next_given, asks_given}
 
 -- ---- the commands
 

@@ -1,5 +1,5 @@
 -- What a run answers if nothing outside fails.
-use Rattle.std.proofs.Common.{◌≡◌, ◌⊎◌, ℕ, List, refl, sym, ◌∙◌, ap, subst, inl, inr, Option, Some, Ok, Bool, arith}
+use Rattle.std.proofs.Common.{◌≡◌, ◌⊎◌, ℕ, List, refl, sym, ◌∙◌, ap, subst, inl, inr, Option, Some, Ok, Bool}
 use Rattle.std.specs.FinMap.{get}
 use Rattle.std.proofs.lemmas.Option.{same_Some}
 use Rattle.dx_ports.specs.Entries.{Held}
@@ -15,16 +15,12 @@ use Rattle.dx_exchange.specs.declared.mode.Mode.TheVariants.{Plain}
 use Rattle.clio_ending.specs.declared.ending.Answers.{Answers}
 use Rattle.dx_exchange.specs.declared.mode.Mode.{Mode}
 use Rattle.dx_exchange.specs.declared.result.Exchange.{Exchange}
-use Rattle.dx_exchange.specs.declared.fault.ExFault.{ExFault}
 use Rattle.dx_exchange.specs.declared.fault.ExFault.TheVariants as exchange_faults
-use Rattle.dx_exchange.specs.Exchanging.{HasNone, IsExchange}
-use Rattle.dx_exchange.proofs.Decided.{exchange_or_none}
 use Rattle.dx_stages.specs.declared.plan.Ended.{Ended}
 use Rattle.dx_stages.specs.declared.plan.Ended.TheVariants as endeds
 use Rattle.dx_stages.specs.Ending.{Counts, Ends, IsOutside, IsRefusedAs, Planned, Runs, Written}
 use Rattle.dx_stages.specs.Running.{Told}
 use Rattle.dx_stages.specs.Worlds.{IsOf, World}
-use Rattle.clio_accept.specs.declared.mapping.Mapping.{Mapping}
 use Rattle.clio_accept.proofs.Accepted.{accepted_fits}
 use Rattle.clio_ending.specs.declared.ending.Done.{Done}
 use Rattle.clio_ending.specs.declared.ending.Done.TheVariants as dones
@@ -37,40 +33,21 @@ use Rattle.clio_ending.proofs.Alike.{alike_clash}
 use Rattle.clio_top.specs.declared.command.Command.{Command}
 use Rattle.clio_top.specs.declared.command.Command.TheVariants.{Answering, Comparing, Demonstrating, Exchanging, Judging, Showing}
 use Rattle.clio_top.specs.Words.{or_usage, says}
-use Rattle.clio_top.specs.Running.{Program, asked, exchanges}
+use Rattle.clio_steps.specs.Steps.{Program}
 use Rattle.clio_top.specs.Demo.{demo_world}
 use Rattle.clio_top.specs.Commands.{run_stages, stages_of}
-use Rattle.clio_top.specs.Promises.{AsksFor, HasNoSolutionIn}
-use Rattle.clio_top.specs.Completing.{AnswersArePlanned, AnswersClash, Completes, CompletesDemo, DemoIsPlanned, HasDone, HasFewAnswers, HasMappingIn, HasQueryIn, HasSolutionIn, IsClashing, IsFaultless, IsPlanned, MappingIsShown, NoAnswerIsAClash, OrMemory, SolutionIsPlanned}
+use Rattle.clio_top.specs.Promises.{AsksFor}
+use Rattle.clio_steps.specs.Outcomes.{HasNoSolutionIn, HasMappingIn, HasSolutionIn}
+use Rattle.clio_top.specs.Completing.{AnswersArePlanned, AnswersClash, Completes, CompletesDemo, DemoIsPlanned, HasDone, IsFaultless, MappingIsShown, NoAnswerIsAClash, OrMemory, SolutionIsPlanned}
+use Rattle.clio_answer.specs.Outcomes.{HasFewAnswers, HasQueryIn}
 use Rattle.clio_top.proofs.Asking.{in_order}
-use Rattle.clio_top.proofs.Clashes.{clash_there, demo_clashes, no_solution}
-use Rattle.clio_top.proofs.Mappings.{is_small}
+use Rattle.clio_steps.proofs.Clashes.{clash_there}
+use Rattle.clio_top.proofs.Clashes.{demo_clashes, no_solution}
+use Rattle.clio_steps.proofs.Mappings.{is_small}
 use Rattle.clio_top.proofs.Asked.{said}
-use Rattle.clio_top.proofs.Plans.{rules_fit}
 use Rattle.clio_top.proofs.Promised.{demo_exists, plan_exists}
 use Rattle.clio_top.proofs.RunDecided.{run_decided}
-
--- ---- an exchange with a solution
-
--- the exchange of what has a solution
-exchange_there : (P : Program) (mode : Mode) (c : World) (h : HasSolutionIn P c)
-    → (e : Exchange) × IsExchange P.apply (asked mode (h.mapping, h.rows)) e
-exchange_there P mode c h =
-    let fits = accepted_fits P.list P.tests c h.text h.mapping (is_small h.text h.few) h.accepted in
-    let d = exchange_or_none P.apply P.list (model_tables h.mapping.source) in
-    of (d.either c (asked mode (h.mapping, h.rows)) (rules_fit P h.mapping fits))
-  where
-    of : ((e : Exchange) × IsExchange P.apply (asked mode (h.mapping, h.rows)) e) ⊎ ((f : ExFault) × HasNone P.apply (asked mode (h.mapping, h.rows)) f)
-        → (e : Exchange) × IsExchange P.apply (asked mode (h.mapping, h.rows)) e
-    of (inl x) = x
-    of (inr (exchange_faults.Clash k, x)) = absurd (x.no_solution h.solution h.solves)
-    of (inr (exchange_faults.Limit l, x)) = let few = h.within x.rows x.are in let many = x.many in absurd (omega (arith, few, many))
-    of (inr (exchange_faults.Memory, x)) = absurd x
-
--- so its exchange is passed on, beside its mapping
-exchange_passed : (P : Program) (mode : Mode) (c : World) (h : HasSolutionIn P c) (e : Exchange)
-    → IsExchange P.apply (asked mode (h.mapping, h.rows)) e → (exchanges P mode).passes c (tt {0}) (h.mapping, e)
-exchange_passed P mode c h e x = (h.mapping, (h.text, (h.held, h.few), h.accepted), ((h.mapping, h.rows), (h.rows, h.source, refl), (e, x, refl)))
+use Rattle.clio_steps.proofs.There.{exchange_there, exchange_passed}
 
 pub planned : SolutionIsPlanned
 planned P c words mode nested w h =

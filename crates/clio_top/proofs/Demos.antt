@@ -20,7 +20,7 @@ use Rattle.dx_exchange.specs.declared.result.Exchange.{Exchange}
 use Rattle.clio_accept.specs.declared.mapping.Mapping.{Mapping}
 use Rattle.clio_ending.specs.declared.ending.Done.{Done}
 use Rattle.clio_ending.specs.declared.ending.Refusal.{Refusal}
-use Rattle.clio_top.specs.Running.{Program, exchanges}
+use Rattle.clio_steps.specs.Steps.{Program, exchanges}
 use Rattle.clio_top.specs.Demo.{IsDemoPlan, count_line, counts_text, demo_held, demo_stages, demo_world, inside}
 
 -- what was told of a world is so there

@@ -55,8 +55,9 @@ use Rattle.clio_accept.specs.Accepting.{accepting, between_of, taking}
 use Rattle.clio_accept.specs.Mapping.{AreRulesOf, IsReserved, NoneReserved, frozen_cells}
 use Rattle.clio_source.specs.Source.{IsStored, Read, SayFacts, Says, at_start, data_bytes, fetching, file_at, flat, loading, reading, source_cells, source_stages}
 use Rattle.clio_ending.specs.declared.ending.Done.TheVariants.{Exchanged}
-use Rattle.clio_top.specs.Completing.{HasSolutionIn, IsPlanned, small_world}
-use Rattle.clio_top.specs.Running.{Program, target_cells, text_bytes, wanted}
+use Rattle.clio_steps.specs.Outcomes.{HasSolutionIn}
+use Rattle.clio_top.specs.Completing.{IsPlanned, small_world}
+use Rattle.clio_steps.specs.Steps.{Program, target_cells, text_bytes, wanted}
 use Rattle.clio_top.proofs.Completing.{planned}
 
 -- ---- what is held

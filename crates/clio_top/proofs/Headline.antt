@@ -12,9 +12,9 @@ use Rattle.clio_ending.specs.declared.ending.Refusal.{Refusal}
 use Rattle.clio_ending.specs.Ending.{AreAlike, ending_of}
 use Rattle.clio_top.specs.Commands.{run_stages}
 use Rattle.clio_top.specs.Leaving.{Leaves}
-use Rattle.clio_top.specs.Outcomes.{wrote_all}
+use Rattle.clio_steps.specs.Outcomes.{wrote_all}
 use Rattle.clio_top.specs.Promises.{AsAsked, IsClashOf}
-use Rattle.clio_top.specs.Running.{Program}
+use Rattle.clio_steps.specs.Steps.{Program}
 use Rattle.clio_top.proofs.Asked.{as_asked}
 use Rattle.clio_top.proofs.Clashes.{of_texts as clash_of_texts}
 use Rattle.clio_top.proofs.Endings.{clash_of, done_of}

@@ -10,8 +10,8 @@ use Rattle.clio_ending.specs.declared.ending.Refusal.TheVariants as refusals
 use Rattle.clio_ending.specs.Ending.{ending_of}
 use Rattle.clio_top.specs.Commands.{run_stages}
 use Rattle.clio_top.specs.Leaving.{Leaves, WroteFirstAsked}
-use Rattle.clio_top.specs.Outcomes.{wrote_first}
-use Rattle.clio_top.specs.Running.{Program}
+use Rattle.clio_steps.specs.Outcomes.{wrote_first}
+use Rattle.clio_steps.specs.Steps.{Program}
 use Rattle.clio_top.proofs.Asked.{plan_asked}
 
 first_asked : (P : Program) (c : World) (words : List (List ℕ)) (p : Planned Done) (count : ℕ) (before after : Written) → (run_stages P).passes c words p

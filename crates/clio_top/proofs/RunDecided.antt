@@ -10,11 +10,11 @@ use Rattle.clio_top.specs.declared.command.Command.{Command}
 use Rattle.clio_top.specs.declared.command.Command.TheVariants.{Answering, Comparing, Demonstrating, Exchanging, Judging, Showing}
 use Rattle.clio_top.specs.Commands.{saying_words, stages_of}
 use Rattle.clio_top.specs.Promises.{RefusedOrPlanned}
-use Rattle.clio_top.specs.Running.{Program}
+use Rattle.clio_steps.specs.Steps.{Program}
 use Rattle.clio_top.specs.Words.{or_usage, says}
-use Rattle.clio_top.proofs.Pairs.{compare_decided}
-use Rattle.clio_top.proofs.JudgedIn.{judge_decided}
-use Rattle.clio_top.proofs.Posed.{answer_decided}
+use Rattle.clio_compare.proofs.Pairs.{compare_decided}
+use Rattle.clio_judge.proofs.JudgedIn.{judge_decided}
+use Rattle.clio_answer.proofs.Posed.{answer_decided}
 use Rattle.clio_top.proofs.Promised.{demo_decided, exchange_decided, show_decided}
 
 stages_decided : (P : Program) (c : Command) → IsDecided AreAlike Any (stages_of P c)

@@ -14,7 +14,7 @@ use Rattle.dx_exchange.specs.declared.result.Exchange.{Exchange}
 use Rattle.clio_accept.specs.declared.mapping.Mapping.{Mapping}
 use Rattle.clio_files.specs.Files.{FitsFiles}
 use Rattle.clio_top.specs.FilesOf.{ExchangesCanBeWritten, HaveColumnNames, IsColumnName, NullsHaveTexts}
-use Rattle.clio_top.proofs.Plans.{files_fit, texts_fit, word_unmarked}
+use Rattle.clio_steps.proofs.Plans.{files_fit, texts_fit, word_unmarked}
 
 -- ---- columns have names without a mark
 

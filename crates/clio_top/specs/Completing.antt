@@ -1,28 +1,15 @@
 -- What a run answers if nothing outside fails: what is asked for, as far as there is such a thing, or want of memory.
-use Rattle.std.specs.Prelude.{◌≡◌, ◌⊎◌, ◌≤◌, ◌*◌, ℕ, List, [], ◌∷◌, codes, length, Some, Bool}
+use Rattle.std.specs.Prelude.{◌≡◌, ◌⊎◌, ℕ, List, [], ◌∷◌, codes, Some, Bool}
 use Rattle.std.specs.FinMap.{from_entries, get}
 use Rattle.dx_ports.specs.Entries.{Entry, Held}
-use Rattle.dx_model.specs.declared.facts.Fact.{Fact}
-use Rattle.dx_model.specs.Rules.{AreRows}
-use Rattle.dx_model.specs.Values.{Rows, Text, Tuple}
-use Rattle.dx_model.specs.Solutions.{IsSolution}
-use Rattle.dx_schema.specs.Forest.{Forest}
-use Rattle.dx_schema.specs.Tables.{model_tables}
-use Rattle.dx_queries.specs.declared.query.Query.{Query}
-use Rattle.dx_queries.specs.Results.{AreCertain}
-use Rattle.dx_query_text.specs.Queries.{HasFewAtoms, IsQueryOver}
-use Rattle.dx_tgd.specs.Counting.{canonical_cells}
+use Rattle.dx_model.specs.Values.{Text}
 use Rattle.dx_keys.specs.declared.answers.Clash.{Clash}
-use Rattle.dx_instance.specs.Stored.{TableRows, facts}
 use Rattle.dx_exchange.specs.declared.mode.Mode.{Mode}
 use Rattle.dx_exchange.specs.declared.result.Exchange.{Exchange}
 use Rattle.dx_judge.specs.declared.verdict.Verdict.{Verdict}
 use Rattle.dx_compare.specs.declared.comparing.Comparison.{Comparison}
 use Rattle.dx_stages.specs.Worlds.{World}
 use Rattle.dx_stages.specs.Ending.{Planned}
-use Rattle.clio_accept.specs.declared.mapping.Mapping.{Mapping}
-use Rattle.clio_accept.specs.Accepting.{accepting}
-use Rattle.clio_source.specs.Source.{source_stages}
 use Rattle.clio_ending.specs.declared.ending.Done.{Done}
 use Rattle.clio_ending.specs.declared.ending.Answers.{Answers}
 use Rattle.clio_ending.specs.declared.ending.Done.TheVariants.{Answered, Compared, Demo, Exchanged, Judged, Shown}
@@ -34,50 +21,11 @@ use Rattle.clio_ending.specs.Ending.{AreAlike, refusal_ending}
 use Rattle.clio_top.specs.declared.command.Command.{Command}
 use Rattle.clio_top.specs.declared.command.Command.TheVariants.{Answering, Comparing, Demonstrating, Exchanging, Judging, Showing}
 use Rattle.clio_top.specs.Words.{Word, says}
-use Rattle.clio_top.specs.Running.{Program, target_cells, text_bytes, wanted}
+use Rattle.clio_steps.specs.Steps.{Program}
 use Rattle.clio_top.specs.Demo.{demo_world}
 use Rattle.clio_top.specs.Commands.{run_stages}
-use Rattle.clio_top.specs.Answering.{answer_cells, query_bytes, query_name}
-use Rattle.clio_top.specs.Promises.{HasNoSolutionIn}
-
--- ---- what there is in a world
-
--- a mapping text that is accepted
-pub record HasMappingIn (P : Program) (c : World) : Type 0 where
-  pub text : List ℕ
-  pub held : c (codes "mapping.clio") ≡ Some text
-  pub few : length text ≤ text_bytes
-  pub mapping : Mapping
-  pub accepted : (accepting P.list P.tests).passes c text mapping
-
--- an accepted mapping text and the rows of the files in a world that pass its conditions, within the limit on canonical cells, with a
--- solution
-pub record HasSolutionIn (P : Program) (c : World) : Type 0 where
-  pub text : List ℕ
-  pub held : c (codes "mapping.clio") ≡ Some text
-  pub few : length text ≤ text_bytes
-  pub mapping : Mapping
-  pub accepted : (accepting P.list P.tests).passes c text mapping
-  pub rows : List TableRows
-  pub source : (source_stages P.passes).passes c (wanted mapping) rows
-  pub within : (matches : Rows) → AreRows P.apply mapping.rules (facts rows) matches → canonical_cells mapping.rules matches ≤ target_cells
-  pub solution : List Fact
-  pub solves : IsSolution P.apply mapping.rules (model_tables mapping.target) (facts rows) solution
-
--- the text of a query over a target, none of whose parts has too many atoms
-pub record HasQueryIn (target : Forest) (c : World) : Type 0 where
-  pub text : List ℕ
-  pub held : c query_name ≡ Some text
-  pub few : length text ≤ query_bytes
-  pub query : Query
-  pub said : IsQueryOver target text query
-  pub atoms : HasFewAtoms query
-
--- the certain answers of the query have no more cells than they may have
-abbrev pub HasFewAnswers : (P : Program) (c : World) (h : HasSolutionIn P c) → HasQueryIn h.mapping.target c → Type 0
-HasFewAnswers P c h k =
-    (rows : List Tuple) → AreCertain P.apply h.mapping.rules (model_tables h.mapping.target) (facts h.rows) k.query rows
-    → length rows * k.query.width ≤ answer_cells
+use Rattle.clio_steps.specs.Outcomes.{HasNoSolutionIn, HasMappingIn, HasSolutionIn}
+use Rattle.clio_answer.specs.Outcomes.{HasQueryIn, HasFewAnswers}
 
 -- ---- the stages
 

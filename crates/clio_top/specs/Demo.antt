@@ -17,7 +17,7 @@ use Rattle.clio_files.specs.Sheets.{AreNulls}
 use Rattle.clio_ending.specs.declared.ending.Done.{Done}
 use Rattle.clio_ending.specs.declared.ending.Done.TheVariants as dones
 use Rattle.clio_ending.specs.declared.ending.Refusal.{Refusal}
-use Rattle.clio_top.specs.Running.{Program, exchanges}
+use Rattle.clio_steps.specs.Steps.{Program, exchanges}
 
 -- ---- stages over given files
 

@@ -19,7 +19,7 @@ use Rattle.clio_accept.specs.Laws.{MappingFits}
 use Rattle.clio_files.specs.Files.{AreFiles, files_of}
 use Rattle.clio_files.specs.Sheets.{HasTexts, Told}
 use Rattle.clio_files.specs.Texts.{FitTexts}
-use Rattle.clio_top.specs.Running.{Program, asked}
+use Rattle.clio_steps.specs.Steps.{Program, asked}
 
 -- a column's name: a word, or that of one of the two columns that tables have for what lies in one another
 abbrev pub IsColumnName : Text → Type 0

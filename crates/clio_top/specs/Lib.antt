@@ -1,12 +1,9 @@
-pub mod Words
-pub mod Running
 pub mod Demo
-pub mod Judging
-pub mod Comparing
-pub mod Outcomes
-pub mod Answering
+pub mod Running
+pub mod Words
 pub mod Commands
-pub mod Promises
 pub mod Completing
-pub mod Leaving
 pub mod FilesOf
+pub mod Outcomes
+pub mod Promises
+pub mod Leaving

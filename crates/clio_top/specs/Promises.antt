@@ -1,16 +1,9 @@
 -- What is done comes to, a finished exchange above all, and a clash: the sentence at the top of docs/ASSURANCE.md, of a run. And laws
 -- of its stages.
-use Rattle.std.specs.Prelude.{◌≡◌, ◌⊎◌, ◌↔◌, ◌≤◌, ◌++◌, ℕ, List, ◌∷◌, codes, length, map, Some, None, Bool}
+use Rattle.std.specs.Prelude.{◌≡◌, ◌⊎◌, ◌↔◌, ℕ, List, codes, map, Some, None, Bool}
 use Rattle.dx_ports.specs.Members.{Distinct}
-use Rattle.dx_model.specs.declared.facts.Fact.{Fact}
-use Rattle.dx_model.specs.Rules.{AreRows}
-use Rattle.dx_model.specs.Values.{Rows, Text}
-use Rattle.dx_model.specs.Solutions.{IsSolution}
-use Rattle.dx_schema.specs.Forest.{Forest}
-use Rattle.dx_schema.specs.Tables.{model_tables}
-use Rattle.dx_tgd.specs.Counting.{canonical_cells}
+use Rattle.dx_model.specs.Values.{Text}
 use Rattle.dx_keys.specs.declared.answers.Clash.{Clash}
-use Rattle.dx_instance.specs.Stored.{TableRows, facts}
 use Rattle.dx_exchange.specs.declared.mode.Mode.{Mode}
 use Rattle.dx_exchange.specs.declared.mode.Mode.TheVariants.{Plain}
 use Rattle.dx_exchange.specs.declared.result.Exchange.{Exchange}
@@ -22,11 +15,9 @@ use Rattle.dx_stages.specs.declared.plan.Ended.TheVariants as endeds
 use Rattle.dx_stages.specs.Worlds.{World}
 use Rattle.dx_stages.specs.Laws.{IsDecided}
 use Rattle.dx_stages.specs.Ending.{Ends, Written}
-use Rattle.dx_stages.specs.Stages.{each}
 use Rattle.clio_accept.specs.declared.mapping.Mapping.{Mapping}
 use Rattle.clio_accept.specs.declared.fault.AcceptFault.TheVariants as accept_faults
 use Rattle.clio_accept.specs.Accepting.{accepting}
-use Rattle.clio_source.specs.Source.{Read, at_start, file_at, reading, roots, source_stages}
 use Rattle.clio_files.specs.Sheets.{Told}
 use Rattle.dx_queries.specs.declared.query.Query.{Query}
 use Rattle.clio_ending.specs.declared.ending.Answers.{Answers}
@@ -37,12 +28,16 @@ use Rattle.clio_ending.specs.Ending.{AreAlike}
 use Rattle.clio_top.specs.declared.command.Command.{Command}
 use Rattle.clio_top.specs.declared.command.Command.TheVariants.{Answering, Comparing, Demonstrating, Exchanging, Judging, Showing}
 use Rattle.clio_top.specs.Words.{Word, says}
-use Rattle.clio_top.specs.Running.{Program, mapping_stages, target_cells, text_bytes, wanted}
-use Rattle.clio_top.specs.Judging.{Sized, sized_rows, wanted_given}
+use Rattle.clio_steps.specs.Steps.{Program, mapping_stages}
+use Rattle.clio_judge.specs.Judging.{Sized, sized_rows, wanted_given}
 use Rattle.clio_top.specs.Demo.{demo_world}
 use Rattle.clio_top.specs.Commands.{run_stages}
-use Rattle.clio_top.specs.Answering.{posed_query, query_name}
-use Rattle.clio_top.specs.Outcomes.{IsAnsweredIn, IsClashIn, IsComparedIn, IsDemoIn, IsDoneIn, IsJudgedIn, IsNextFile, IsNextGiven, IsShownIn, Writing, wrote_all}
+use Rattle.clio_answer.specs.Answering.{posed_query, query_name}
+use Rattle.clio_answer.specs.Outcomes.{IsAnsweredIn}
+use Rattle.clio_steps.specs.Outcomes.{IsClashIn, IsNextFile, Writing, wrote_all, HasNoSolutionIn}
+use Rattle.clio_compare.specs.Outcomes.{IsComparedIn}
+use Rattle.clio_top.specs.Outcomes.{IsDemoIn, IsDoneIn, IsShownIn}
+use Rattle.clio_judge.specs.Outcomes.{IsJudgedIn, IsNextGiven}
 
 -- there is one reason to refuse a run, up to which clash is told, or a plan, and never both
 abbrev pub RefusedOrPlanned : Type 0
@@ -107,19 +102,6 @@ abbrev pub ClashesAreOfTexts : Type 0
 ClashesAreOfTexts =
     (P : Program) (c : World) (words : List Word) (before after : Written) (k : Clash) (table : Text) (key : List Text) (column : Text)
     → Ends (run_stages P) c words before after (endeds.Refused (refusals.Clash k table key column)) → IsClashOf P c words k table key column
-
--- an accepted mapping text and the rows of the files in a world that pass its conditions, within the limit on canonical cells, without
--- a solution
-pub record HasNoSolutionIn (P : Program) (c : World) : Type 0 where
-  pub text : List ℕ
-  pub held : c (codes "mapping.clio") ≡ Some text
-  pub few : length text ≤ text_bytes
-  pub mapping : Mapping
-  pub accepted : (accepting P.list P.tests).passes c text mapping
-  pub rows : List TableRows
-  pub source : (source_stages P.passes).passes c (wanted mapping) rows
-  pub within : (matches : Rows) → AreRows P.apply mapping.rules (facts rows) matches → canonical_cells mapping.rules matches ≤ target_cells
-  pub none : (K : List Fact) → ¬ (IsSolution P.apply mapping.rules (model_tables mapping.target) (facts rows) K)
 
 -- if there is no solution, an exchange is refused with a clash
 abbrev pub NoSolutionIsAClash : Type 0

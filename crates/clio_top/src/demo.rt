@@ -8,13 +8,13 @@ ghost use Rattle.dx_funcs.specs.Serving.{Serves, offered};
 ghost use Rattle.dx_stages.specs.Ending.{planned, planned_of};
 ghost use Rattle.dx_stages.specs.Running.{Gives};
 ghost use Rattle.clio_top.specs.Demo.{IsDemoPlan, counts_text, demo_stages, demo_text};
-ghost use Rattle.clio_top.specs.Running.{program};
+ghost use Rattle.clio_steps.specs.Steps.{program};
 
 use crate::demo_inputs::DemoInputs;
-use crate::exchanging::exchange_files;
 use clio_accept::Mapping;
 use clio_ending::{Done, Refusal};
 use clio_files::nulls_of;
+use clio_steps::exchange_files;
 use dx_exchange::{Exchange, Mode};
 use dx_funcs::{Host, Meaning, Tests};
 use dx_gen::demo_files;

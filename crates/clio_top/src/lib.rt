@@ -10,20 +10,14 @@
 //! `clio_ending`.
 #![tactic(auto)]
 
-mod answering;
 mod command;
-mod comparing;
 mod demo;
 mod demo_inputs;
 mod exchanging;
 mod file_list;
-mod judging;
 mod laws;
 mod numeral;
 mod showing;
-mod source;
-mod target;
-mod texts;
 mod top;
 
 pub use clio_accept::{AcceptFault, MapFault, Mapping, accept};

@@ -5,12 +5,13 @@ ghost use Rattle.dx_funcs.specs.Serving.{offered};
 ghost use Rattle.dx_stages.specs.Ending.{planned, planned_of};
 ghost use Rattle.dx_stages.specs.Running.{Ran};
 ghost use Rattle.clio_files.specs.Texts.{FitTexts};
-ghost use Rattle.clio_top.specs.Running.{program, show_stages, shown_plan};
+ghost use Rattle.clio_steps.specs.Steps.{program};
+ghost use Rattle.clio_top.specs.Running.{show_stages, shown_plan};
 
-use crate::texts::{Side, read_mapping};
 use clio_accept::Mapping;
 use clio_ending::{Done, Refusal};
 use clio_files::{contents, print_texts};
+use clio_steps::{Side, read_mapping};
 use dx_exchange::Mode;
 use dx_funcs::{Host, Meaning, Tests};
 use dx_ports::{Inputs, Items, Text};

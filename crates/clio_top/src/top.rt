@@ -19,21 +19,22 @@ ghost use Rattle.clio_ending.specs.declared.ending.Done.TheVariants.{Answered, C
 ghost use Rattle.clio_ending.specs.declared.ending.Ending.TheVariants.{Clash as ClashEnding, Done as DoneEnding};
 ghost use Rattle.clio_ending.specs.declared.ending.Refusal.{Refusal as RefusalOf};
 ghost use Rattle.clio_ending.specs.Ending.{AreAlike, ending_of};
-ghost use Rattle.clio_top.specs.Running.{program, told, written};
+ghost use Rattle.clio_steps.specs.Steps.{program};
+ghost use Rattle.clio_top.specs.Running.{told, written};
 ghost use Rattle.clio_top.specs.Commands.{IsInRange, run_stages, stages_of};
-ghost use Rattle.clio_top.specs.Outcomes.{wrote_all};
+ghost use Rattle.clio_steps.specs.Outcomes.{wrote_all};
 ghost use Rattle.clio_top.specs.Promises.{IsAnswered, IsClashOf, IsCompared, IsDemo, IsDone, IsJudged, IsShown};
 ghost use Rattle.clio_top.specs.Completing.{Completes, CompletesDemo};
 ghost use Rattle.clio_top.specs.Leaving.{Leaves};
 
-use crate::answering::answer_plan;
 use crate::command::{Command, command_of};
-use crate::comparing::compare_plan;
 use crate::demo::demo_plan;
 use crate::exchanging::exchange_plan;
-use crate::judging::judge_plan;
 use crate::showing::show_plan;
+use clio_answer::answer_plan;
+use clio_compare::compare_plan;
 use clio_ending::{Done, Ending, Refusal, as_ending};
+use clio_judge::judge_plan;
 use dx_funcs::{Host, Meaning, Tests};
 use dx_ports::{Inputs, Items, Outputs, Text};
 use dx_stages::{Plan, Stop, carry_out};

@@ -4,9 +4,9 @@ use Rattle.std.specs.FinMap.{from_entries}
 use Rattle.dx_funcs.specs.Judging.{tested}
 use Rattle.dx_funcs.specs.Serving.{offered}
 use Rattle.dx_stages.specs.Ending.{planned_of}
-use Rattle.clio_top.specs.Running.{Program, program}
+use Rattle.clio_steps.specs.Steps.{Program, program}
 use Rattle.clio_top.proofs.Demos.{demo_made, demo_stops}
-use Rattle.clio_top.proofs.Promised.{made, widths_ready}
+use Rattle.clio_steps.proofs.Decided.{made, widths_ready}
 use Rattle.clio_top.proofs.demo.demo_plan.Goals as goal
 
 pub returns-in_err-mapping : goal.returns-in_err-mapping

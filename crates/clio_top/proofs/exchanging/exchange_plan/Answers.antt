@@ -3,9 +3,10 @@ use Rattle.dx_funcs.specs.Judging.{tested}
 use Rattle.dx_funcs.specs.Serving.{offered}
 use Rattle.dx_stages.specs.Ending.{planned_of}
 use Rattle.dx_stages.proofs.Running.{ran_become}
-use Rattle.clio_top.specs.Running.{IsPlanOf, Program, exchanges, program}
-use Rattle.clio_top.proofs.Plans.{ran_become_none, ran_become_stop}
-use Rattle.clio_top.proofs.Promised.{files_ready, made, texts_ready}
+use Rattle.clio_top.specs.Running.{IsPlanOf}
+use Rattle.clio_steps.specs.Steps.{Program, exchanges, program}
+use Rattle.clio_steps.proofs.Plans.{ran_become_none, ran_become_stop}
+use Rattle.clio_steps.proofs.Decided.{files_ready, made, texts_ready}
 use Rattle.clio_top.proofs.exchanging.exchange_plan.Goals as goal
 
 pub returns-in_err-mapping : goal.returns-in_err-mapping

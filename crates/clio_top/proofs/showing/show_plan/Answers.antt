@@ -2,10 +2,11 @@ use Rattle.std.proofs.lemmas.Result.{err_from_is_err_and}
 use Rattle.dx_funcs.specs.Judging.{tested}
 use Rattle.dx_funcs.specs.Serving.{offered}
 use Rattle.dx_stages.specs.Ending.{planned_of}
-use Rattle.clio_top.specs.declared.texts.Side.TheVariants.{First}
-use Rattle.clio_top.specs.Running.{Program, program}
-use Rattle.clio_top.proofs.Mappings.{mapping_fits}
-use Rattle.clio_top.proofs.Plans.{show_stops, shown, shown_none, texts_fit}
+use Rattle.clio_steps.specs.declared.texts.Side.TheVariants.{First}
+use Rattle.clio_steps.specs.Steps.{Program, program}
+use Rattle.clio_steps.proofs.Mappings.{mapping_fits}
+use Rattle.clio_top.proofs.Plans.{show_stops, shown, shown_none}
+use Rattle.clio_steps.proofs.Plans.{texts_fit}
 use Rattle.clio_top.proofs.showing.show_plan.Goals as goal
 
 pub returns-in_err-mapping : goal.returns-in_err-mapping

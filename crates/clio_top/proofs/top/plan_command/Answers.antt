@@ -2,7 +2,7 @@ use Rattle.dx_funcs.specs.Judging.{tested}
 use Rattle.dx_funcs.specs.Serving.{offered}
 use Rattle.dx_stages.specs.Ending.{planned}
 use Rattle.dx_stages.proofs.Running.{ran_value}
-use Rattle.clio_top.specs.Running.{Program, program}
+use Rattle.clio_steps.specs.Steps.{Program, program}
 use Rattle.clio_top.specs.Demo.{demo_stages}
 use Rattle.clio_top.proofs.top.plan_command.Goals as goal
 

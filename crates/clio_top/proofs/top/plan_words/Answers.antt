@@ -2,7 +2,7 @@ use Rattle.std.proofs.Common.{sym, ◌∙◌}
 use Rattle.dx_funcs.specs.Judging.{tested}
 use Rattle.dx_funcs.specs.Serving.{offered}
 use Rattle.dx_stages.specs.Ending.{planned}
-use Rattle.clio_top.specs.Running.{Program, program}
+use Rattle.clio_steps.specs.Steps.{Program, program}
 use Rattle.clio_top.proofs.Plans.{misused, of_words}
 use Rattle.clio_top.proofs.Ranges.{says_ranged}
 use Rattle.clio_top.proofs.top.plan_words.Goals as goal

@@ -5,7 +5,7 @@ use Rattle.dx_stages.proofs.Carrying.{carried_runs}
 use Rattle.clio_ending.specs.declared.ending.Done.TheVariants.{Answered, Compared, Demo, Exchanged, Judged, Shown}
 use Rattle.clio_ending.specs.Ending.{AreAlike}
 use Rattle.clio_top.specs.Commands.{run_stages}
-use Rattle.clio_top.specs.Running.{Program, program}
+use Rattle.clio_steps.specs.Steps.{Program, program}
 use Rattle.clio_top.proofs.Completing.{completes, completes_demo}
 use Rattle.clio_top.proofs.Headline.{clashed, done, left}
 use Rattle.clio_top.proofs.RunDecided.{run_decided}

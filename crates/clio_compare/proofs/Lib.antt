@@ -1,0 +1,4 @@
+pub mod Pairs
+pub mod ComparedIn
+pub mod Refusals
+pub mod Usage

@@ -1,0 +1,6 @@
+pub mod Asking
+pub mod JudgedIn
+pub mod Refusals
+pub mod SameVerdict
+pub mod Usage
+pub mod VerdictRuns

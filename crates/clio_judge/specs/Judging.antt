@@ -1,0 +1,80 @@
+-- The stages of `judge`: the mapping, the rows, the given target, the verdict on it.
+use Rattle.std.specs.Prelude.{ℕ, List, []}
+use Rattle.dx_model.specs.Values.{Conversions}
+use Rattle.dx_instance.specs.Stored.{TableRows, facts}
+use Rattle.dx_schema.specs.Tables.{model_tables}
+use Rattle.dx_judge.specs.declared.fault.JudgeFault.{JudgeFault}
+use Rattle.dx_judge.specs.declared.fault.JudgeFault.TheVariants as judge_faults
+use Rattle.dx_judge.specs.declared.verdict.Verdict.{Verdict}
+use Rattle.dx_judge.specs.Verdicts.{Judged as Judgeable, judging}
+use Rattle.dx_stages.specs.Ending.{Planned}
+use Rattle.dx_stages.specs.Stages.{Stage, next, over, into, saying}
+use Rattle.clio_accept.specs.declared.mapping.Mapping.{Mapping}
+use Rattle.clio_source.specs.Source.{source_left}
+use Rattle.clio_given.specs.Given.{Wanted as WantedGiven, given_stages}
+use Rattle.clio_files.specs.Verdicts.{verdict_text}
+use Rattle.clio_ending.specs.declared.ending.Done.{Done}
+use Rattle.clio_ending.specs.declared.ending.Done.TheVariants.{Judged}
+use Rattle.clio_ending.specs.declared.ending.Refusal.{Refusal}
+use Rattle.clio_ending.specs.declared.ending.Refusal.TheVariants as refusals
+use Rattle.clio_ending.specs.Ending.{source_refusal}
+use Rattle.clio_steps.specs.Steps.{Filled, Program, mapping_stages, target_cells, wanted}
+
+-- ---- the rows and the given target
+
+-- a mapping and its rows, and how many bytes the given files may have
+abbrev pub Sized : Type 0
+Sized = Filled × ℕ
+
+-- the rows of the source files that pass the mapping's conditions, and how many bytes are left
+abbrev pub sized_rows : Program → Stage Refusal Mapping Sized
+sized_rows P =
+    into (λ (M : Mapping) (q : List TableRows × ℕ). ((M, q.0), q.1)) (over wanted (saying source_refusal (source_left P.passes)))
+
+-- a mapping and its rows, and a given target
+abbrev pub Handed : Type 0
+Handed = Filled × List TableRows
+
+-- what is wanted of the given files: the tables of the target, in the bytes that are left
+abbrev pub wanted_given : Sized → WantedGiven
+wanted_given p = record { schema = p.0.0.target; bytes_left = p.1 }
+
+-- the given target, beside the mapping and its rows
+abbrev pub given_rows : Stage Refusal Sized Handed
+given_rows = into (λ (p : Sized) (K : List TableRows). (p.0, K)) (over wanted_given (saying source_refusal given_stages))
+
+-- ---- the verdict
+
+-- what is judged: the given target, as a target of the rows under the mapping
+abbrev pub judged : Handed → Judgeable
+judged p =
+    record { rules = p.0.0.rules; schema = model_tables p.0.0.target; rows = facts p.0.1; given = facts p.1; limit = target_cells }
+
+-- why there is no verdict; want of memory is no reason
+abbrev pub judge_refusal : JudgeFault → Refusal
+judge_refusal (judge_faults.Limit limit) = refusals.Limit limit
+judge_refusal judge_faults.Memory = refusals.Usage
+
+-- the verdict on the given target
+abbrev pub judged_rows : Conversions → Stage Refusal Handed Verdict
+judged_rows convert = over judged (saying judge_refusal (judging convert))
+
+-- the same, beside the mapping
+abbrev pub judging_rows : Program → Stage Refusal Handed (Mapping × Verdict)
+judging_rows P = into (λ (p : Handed) (v : Verdict). (p.0.0, v)) (judged_rows P.apply)
+
+-- what comes after the mapping text: its source files, the given files, and the verdict
+abbrev pub handed_verdict : Program → Stage Refusal Mapping (Mapping × Verdict)
+handed_verdict P = next (sized_rows P) (next given_rows (judging_rows P))
+
+-- a mapping text, and the verdict on the given target
+abbrev pub verdicts : Program → Stage Refusal (Unit {0}) (Mapping × Verdict)
+verdicts P = next (mapping_stages P) (handed_verdict P)
+
+-- what is said of a verdict; no file is put
+abbrev pub judged_plan : Mapping × Verdict → Planned Done
+judged_plan q = record { done = Judged q.1; files = []; text = verdict_text q.0.target q.1 }
+
+-- a verdict, and what is said of it
+abbrev pub judge_stages : Program → Stage Refusal (Unit {0}) (Planned Done)
+judge_stages P = into (λ (u : Unit {0}) (q : Mapping × Verdict). judged_plan q) (verdicts P)

@@ -1,0 +1,11 @@
+pub mod Asking
+pub mod Mappings
+pub mod Names
+pub mod Words
+pub mod Plans
+pub mod Clashes
+pub mod Decided
+pub mod InWorld
+pub mod Reasons
+pub mod SameExchange
+pub mod There

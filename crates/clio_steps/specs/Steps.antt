@@ -1,0 +1,107 @@
+-- The stages that commands share: a mapping text, the rows of its source files, their exchange.
+use Rattle.std.specs.Prelude.{ℕ, List, codes}
+use Rattle.dx_ports.specs.declared.file.Count.TheVariants.{TextBytes}
+use Rattle.dx_model.specs.Values.{Conversions}
+use Rattle.dx_funcs.specs.declared.conversion.Conversion.{Conversion}
+use Rattle.dx_funcs.specs.declared.row_test.RowTest.{RowTest}
+use Rattle.dx_used.specs.Passing.{Passes}
+use Rattle.dx_instance.specs.Stored.{TableRows, facts}
+use Rattle.dx_schema.specs.Tables.{model_tables}
+use Rattle.dx_exchange.specs.declared.mode.Mode.{Mode}
+use Rattle.dx_exchange.specs.declared.result.Exchange.{Exchange}
+use Rattle.dx_exchange.specs.Exchanging.{Asked, exchanging}
+use Rattle.dx_stages.specs.Stages.{Stage, next, by, over, into, file, saying}
+use Rattle.clio_accept.specs.declared.mapping.Mapping.{Mapping}
+use Rattle.clio_accept.specs.declared.fault.AcceptFault.{AcceptFault}
+use Rattle.clio_accept.specs.declared.fault.MapFault.TheVariants as map_faults
+use Rattle.clio_accept.specs.Accepting.{accepting}
+use Rattle.clio_source.specs.Source.{Wanted, source_stages}
+use Rattle.clio_ending.specs.declared.faults.OtherFault.TheVariants as other_faults
+use Rattle.clio_ending.specs.declared.ending.Refusal.{Refusal}
+use Rattle.clio_ending.specs.declared.ending.Refusal.TheVariants as refusals
+use Rattle.clio_ending.specs.Ending.{exchange_refusal, mapping_refusal, other_refusal, source_refusal}
+use Rattle.clio_steps.specs.declared.texts.Side.{Side}
+use Rattle.clio_steps.specs.declared.texts.Side.TheVariants.{First, Second}
+
+-- what the program can do: the conversions and the row tests that it lists, what each conversion means, and what passes each test
+pub record Program : Type 0 where
+  pub list : List Conversion
+  pub tests : List RowTest
+  pub apply : Conversions
+  pub passes : Passes
+
+abbrev pub program : List Conversion → List RowTest → Conversions → Passes → Program
+program list tests apply passes = record { list = list; tests = tests; apply = apply; passes = passes }
+
+-- how many bytes a mapping text may have
+abbrev pub text_bytes : ℕ
+text_bytes = 1048576
+
+-- how many cells the canonical instance may have
+abbrev pub target_cells : ℕ
+target_cells = 4000000
+
+-- ---- the mapping texts
+
+-- the name of a mapping text's file: of the mapping, or of the one that it is compared with
+abbrev pub text_name : Side → List ℕ
+text_name First = codes "mapping.clio"
+text_name Second = codes "other.clio"
+
+-- there is no such file
+abbrev pub absent_text : Side → Refusal
+absent_text First = refusals.Mapping map_faults.Absent
+absent_text Second = refusals.Other other_faults.Absent
+
+-- a fault of the text
+abbrev pub text_refusal : Side → AcceptFault → Refusal
+text_refusal First = mapping_refusal
+text_refusal Second = other_refusal
+
+abbrev pub too_long : Refusal
+too_long = refusals.Limit (record { what = TextBytes; number = text_bytes })
+
+abbrev pub text_file : Side → Stage Refusal (Unit {0}) (List ℕ)
+text_file side = file (text_name side) text_bytes (absent_text side) too_long
+
+-- a mapping text, accepted
+abbrev pub text_stages : Program → Side → Stage Refusal (Unit {0}) Mapping
+text_stages P side = next (text_file side) (saying (text_refusal side) (accepting P.list P.tests))
+
+-- the mapping text
+abbrev pub mapping_stages : Program → Stage Refusal (Unit {0}) Mapping
+mapping_stages P = text_stages P First
+
+-- ---- the rows
+
+-- a mapping, and the rows of its source files that pass its conditions
+abbrev pub Filled : Type 0
+Filled = Mapping × List TableRows
+
+-- what a mapping wants of the source files: the rows that pass its conditions
+abbrev pub wanted : Mapping → Wanted
+wanted M = record { schema = M.source; conditions = M.conditions }
+
+-- the rows of the source files that pass, beside the mapping
+abbrev pub rows_stages : Program → Stage Refusal Mapping Filled
+rows_stages P =
+    into (λ (M : Mapping) (I : List TableRows). (M, I)) (over wanted (saying source_refusal (source_stages P.passes)))
+
+-- ---- the exchange
+
+-- the exchange of these rows under this mapping
+abbrev pub asked : Mode → Filled → Asked
+asked mode p =
+    record { rules = p.0.rules; schema = model_tables p.0.target; rows = facts p.1; mode = mode; limit = target_cells }
+
+-- the exchange of the rows; a clash is told with the names that the target has
+abbrev pub named_stage : Conversions → Mode → Filled → Stage Refusal Filled Exchange
+named_stage apply mode p = over (asked mode) (saying (exchange_refusal p.0.target) (exchanging apply))
+
+-- the exchange of the rows, beside the mapping
+abbrev pub target_stages : Program → Mode → Stage Refusal Filled (Mapping × Exchange)
+target_stages P mode = into (λ (p : Filled) (e : Exchange). (p.0, e)) (by (named_stage P.apply mode))
+
+-- a mapping text, its source files, and their exchange
+abbrev pub exchanges : Program → Mode → Stage Refusal (Unit {0}) (Mapping × Exchange)
+exchanges P mode = next (mapping_stages P) (next (rows_stages P) (target_stages P mode))
