@@ -6,5 +6,7 @@
 #![tactic(auto)]
 
 mod answering;
+mod laws;
 
 pub use answering::answer_plan;
+pub use laws::answers_or_a_refusal;

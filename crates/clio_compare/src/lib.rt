@@ -5,5 +5,7 @@
 #![tactic(auto)]
 
 mod comparing;
+mod laws;
 
 pub use comparing::compare_plan;
+pub use laws::a_comparison_or_a_refusal;

@@ -6,5 +6,7 @@
 #![tactic(auto)]
 
 mod judging;
+mod laws;
 
 pub use judging::judge_plan;
+pub use laws::a_verdict_or_a_refusal;

@@ -7,11 +7,13 @@
 #![tactic(auto)]
 
 mod exchanging;
+mod laws;
 mod source;
 mod target;
 mod texts;
 
 pub use exchanging::exchange_files;
+pub use laws::an_exchange_or_a_refusal;
 pub use source::read_used_rows;
 pub use target::exchange_rows;
 pub use texts::{Side, read_mapping};

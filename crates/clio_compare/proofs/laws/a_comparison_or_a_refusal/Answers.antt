@@ -1,0 +1,9 @@
+use Rattle.clio_compare.proofs.ComparedIn.{compared_with}
+use Rattle.clio_compare.proofs.Pairs.{compare_decided}
+use Rattle.clio_compare.proofs.laws.a_comparison_or_a_refusal.Goals as goal
+
+pub returns-clause-decided : goal.returns-clause-decided
+returns-clause-decided c = compare_decided
+
+pub returns-clause-so : goal.returns-clause-so
+returns-clause-so c = λ P w M k files Wrote x are wrote. compared_with P w (M, k) files Wrote x are wrote

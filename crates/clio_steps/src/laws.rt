@@ -1,0 +1,10 @@
+// The laws of the steps that commands share. The definitions alone carry them: no body computes anything.
+ghost use Rattle.clio_steps.specs.Laws.{ExchangeOrRefusal, ExchangesAreInWorlds, SolutionsHaveExchanges};
+
+/// There is an exchange of the files, or one reason to refuse it, and never both; it is that of an accepted mapping text and of the
+/// source files; and what has a solution within the limits has an exchange.
+pub fn an_exchange_or_a_refusal()
+    ensures decided { ExchangeOrRefusal }
+    ensures worlds { ExchangesAreInWorlds }
+    ensures solutions { SolutionsHaveExchanges }
+{}
