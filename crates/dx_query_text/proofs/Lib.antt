@@ -1,6 +1,6 @@
 mod Answered
 mod Few
-mod Fitting
+pub mod Fitting
 mod Follows
 pub mod Over
 mod Placed
