@@ -35,7 +35,7 @@ table_file : (front : List ℕ) (t : TableOf) (rows : List (List Value)) → Has
     → (f : Told) × IsTableFile front t rows f
 table_file front t rows mark some wide =
     let sorted = in_order row_cmp row_total row_exact rows in (
-      record { name = front ++ csv_name t.name; bytes = lines_text (table_lines t.columns sorted); count = length rows },
+      record { name = front ++ csv_name t.name; bytes = lines_text (table_lines t.columns sorted); count = length sorted },
       record {
         name = refl;
         bytes = record {

@@ -1,3 +1,4 @@
+pub mod Counts
 pub mod SheetNulls
 pub mod MarkFacts
 pub mod SheetLists

@@ -1,5 +1,5 @@
 -- An exchange has one list of files.
-use Rattle.std.proofs.Common.{◌≡◌, ℕ, suc, List, [], ◌∷◌, refl, sym, ◌∙◌, ap}
+use Rattle.std.proofs.Common.{◌≡◌, ℕ, suc, List, [], ◌∷◌, length, refl, sym, ◌∙◌, ap}
 use Rattle.std.specs.Prelude.{if◌then◌else◌, ◌++◌}
 use Rattle.std.specs.Cmp.{IsTotalOrder}
 use Rattle.std.proofs.lemmas.Cmp.{lists_total}
@@ -33,16 +33,20 @@ row_total = lists_total value_total
 same_told : (f g : Told) → f.name ≡ g.name → f.bytes ≡ g.bytes → f.count ≡ g.count → f ≡ g
 same_told f g n b c = (λ i. record { name = n i; bytes = b i; count = c i })
 
+sorted_is_one : (columns : List (List ℕ)) (rows : List (List Value)) (a b : List ℕ) (p : IsTableText columns rows a)
+    (q : IsTableText columns rows b) → p.sorted ≡ q.sorted
+sorted_is_one columns rows a b p q =
+    one_ascending row_cmp row_total p.sorted q.sorted p.ascend q.ascend (λ x m. q.kept x (p.only x m)) (λ x m. p.kept x (q.only x m))
+
 table_text_is_one : (columns : List (List ℕ)) (rows : List (List Value)) (a b : List ℕ) → IsTableText columns rows a
     → IsTableText columns rows b → a ≡ b
 table_text_is_one columns rows a b p q =
-    p.is ∙ ap (λ sorted. lines_text (table_lines columns sorted))
-    (one_ascending row_cmp row_total p.sorted q.sorted p.ascend q.ascend (λ x m. q.kept x (p.only x m)) (λ x m. p.kept x (q.only x m)))
-    ∙ sym q.is
+    p.is ∙ ap (λ sorted. lines_text (table_lines columns sorted)) (sorted_is_one columns rows a b p q) ∙ sym q.is
 
 table_file_is_one : (front : List ℕ) (t : TableOf) (rows : List (List Value)) (f g : Told) → IsTableFile front t rows f → IsTableFile front t rows g → f ≡ g
 table_file_is_one front t rows f g p q =
-    same_told f g (p.name ∙ sym q.name) (table_text_is_one t.columns rows f.bytes g.bytes p.bytes q.bytes) (p.count ∙ sym q.count)
+    same_told f g (p.name ∙ sym q.name) (table_text_is_one t.columns rows f.bytes g.bytes p.bytes q.bytes)
+    (p.count ∙ ap (λ (l : List (List Value)). length l) (sorted_is_one t.columns rows f.bytes g.bytes p.bytes q.bytes) ∙ sym q.count)
 
 pub table_files_are_one : (front : List ℕ) (n : ℕ) (ts : List TableOf) (T : List TableRows) (fs gs : List Told) → AreTableFiles front n ts T fs
     → AreTableFiles front n ts T gs → fs ≡ gs

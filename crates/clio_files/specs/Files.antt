@@ -24,11 +24,11 @@ use Rattle.clio_files.specs.Nested.{AreRootFiles}
 use Rattle.clio_files.specs.Sheets.{AreNulls, HasTexts, Told, file_of, fold_sheet, nulls_sheet}
 use Rattle.clio_files.specs.Texts.{texts_told}
 
--- the file of a table under a name with this in front: its text, with as many records as it has rows
+-- the file of a table under a name with this in front: its text, and how many records that has
 pub record IsTableFile (front : Text) (t : TableOf) (rows : List (List Value)) (f : Told) : Type 0 where
   pub name : f.name ≡ front ++ csv_name t.name
   pub bytes : IsTableText t.columns rows f.bytes
-  pub count : f.count ≡ length rows
+  pub count : f.count ≡ length bytes.sorted
 
 -- the files of the tables from number n on
 abbrev pub AreTableFiles : Text → ℕ → List TableOf → List TableRows → List Told → Type 0

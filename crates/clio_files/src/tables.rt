@@ -29,6 +29,7 @@ fn table_file(
     requires no_mark { HasNoMark (table_at schema.now table).columns }
     ensures { IfOk result (λ p. IsTableFile front.now (table_at schema.now table) (rows_of instance.now table) (seen p)) }
 {
+    let _tables = instance.tables();
     let bytes = print_table_bytes(alloc, schema.columns(table), instance, table)?;
     Ok(Printed {
         file: File {
