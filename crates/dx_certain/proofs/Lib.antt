@@ -2,3 +2,4 @@ mod Answers
 mod Numbers
 mod Suits
 mod Union
+mod Lists

@@ -7,6 +7,7 @@ ghost use Rattle.dx_model.specs.Values.{RowsAscend};
 ghost use Rattle.dx_joins.specs.Shown.{text_in};
 ghost use Rattle.dx_certain.specs.Suiting.{IsConstant};
 ghost use Rattle.dx_queries.specs.Results.{AreConstantAnswers, FitsPart, FitsQuery};
+ghost use Rattle.dx_certain.specs.Listing.{ListsCertain};
 ghost use Rattle.dx_certain.specs.Refusal.{IsRefusal};
 ghost use Rattle.dx_certain.specs.Finding.{HasThose, IsAmong};
 
@@ -93,13 +94,8 @@ fn empty_answers(alloc: Global, parts: &[Part], target: &Instance) -> Result<Tup
     Ok(Tuples::of_texts(0, 0, Vec::new(alloc)))
 }
 
-/// The rows of constants among the answers of the query on the instance: ascending, each once. If the instance is universal
-/// for a source, these are exactly the certain answers (`universal_tells`).
-///
-/// # Errors
-///
-/// `Limit` exactly if these rows have more cells than the limit. `Memory` at any point.
-pub fn certain(
+// The rows of constants among the answers of the query on the instance: ascending, each once.
+fn listed(
     alloc: Global,
     query: &Query,
     target: &Instance,
@@ -117,4 +113,25 @@ pub fn certain(
     let rows = gathered(alloc, query.width, parts, target, limit)?;
     let sorted = rows.into_sorted()?;
     Ok(tuples_of(alloc, &sorted)?)
+}
+
+/// The rows of constants among the answers of the query on the instance: ascending, each once. If the instance is universal
+/// for a source under some rules, these are exactly the certain answers there.
+///
+/// # Errors
+///
+/// `Limit` exactly if these rows have more cells than the limit. `Memory` at any point.
+pub fn certain(
+    alloc: Global,
+    query: &Query,
+    target: &Instance,
+    limit: u64,
+) -> Result<Tuples, CertainFault>
+    requires { FitsQuery (widths target.now) query.now }
+    ensures exact { IfOk result (AreConstantAnswers (facts target.now) query.now) }
+    ensures certain { IfOk result (ListsCertain (facts target.now) query.now) }
+    ensures within { IfOk result (λ rows. length rows * query.now.width ≤ limit) }
+    ensures refused { IfErr result (IsRefusal (facts target.now) query.now limit) }
+{
+    listed(alloc, query, target, limit)
 }
