@@ -127,3 +127,11 @@ create table target.nulls as
   select skolem(o.rule, o.variable, o.place) as 'null', t.variable, t.value
     from open o join told t using (rule, place)
    where skolem(o.rule, o.variable, o.place) in (select text from value);
+
+-- What query.clio asks: its joins over the tables above, in which a null is equal to itself alone, as its text is; then only the rows without a null are kept. (A
+-- null is written with one `?` in front, and a text that begins with `?` has two.) On a target that says no more than the rules do, these rows are the certain ones.
+create table known_by as
+  select title as c0, nick as c1 from target.article join target.person on author = pid
+  union select title, full_name from target.article join target.person on author = pid;
+create table target.answers as
+  select * from known_by where not (c0 like '?%' and c0 not like '??%') and not (c1 like '?%' and c1 not like '??%');
