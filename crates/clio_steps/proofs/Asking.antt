@@ -10,14 +10,14 @@ use Rattle.clio_steps.specs.Outcomes.{IsNextFile}
 -- ---- stages in a row
 
 -- the one that asks, after those that passed
-record AsksAt {E X S : Type 0} (f : X → Stage E S S) (xs : List X) (c : World) (a : S) (n : List ℕ) : Type 0 where
-  before : List X
-  one : X
-  after : List X
-  split : xs ≡ before ++ one ∷ after
-  given : S
-  passed : (each f before).passes c a given
-  asks : (f one).asks c given n
+pub record AsksAt {E X S : Type 0} (f : X → Stage E S S) (xs : List X) (c : World) (a : S) (n : List ℕ) : Type 0 where
+  pub before : List X
+  pub one : X
+  pub after : List X
+  pub split : xs ≡ before ++ one ∷ after
+  pub given : S
+  pub passed : (each f before).passes c a given
+  pub asks : (f one).asks c given n
 
 pub one_asks : {E X S : Type 0} (f : X → Stage E S S) (xs : List X) (c : World) (a : S) (n : List ℕ) → (each f xs).asks c a n → AsksAt f xs c a n
 one_asks f [] c a n h = absurd h

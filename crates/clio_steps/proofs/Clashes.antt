@@ -2,7 +2,6 @@
 use Rattle.std.proofs.Common.{◌≡◌, ◌⊎◌, ℕ, List, refl, sym, ◌∙◌, ap, subst, inl, inr, Option, Some, None, Bool, true, false, arith}
 use Rattle.std.proofs.lemmas.Bool.{true≢false}
 use Rattle.std.proofs.lemmas.Option.{same_Some}
-use Rattle.dx_ports.specs.declared.file.Limit.{Limit}
 use Rattle.dx_instance.specs.Stored.{facts}
 use Rattle.dx_schema.specs.Forest.{Forest}
 use Rattle.dx_keys.specs.declared.answers.Clash.{Clash}

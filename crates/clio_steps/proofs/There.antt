@@ -1,6 +1,5 @@
 -- What has a solution has an exchange, which is passed on.
 use Rattle.std.proofs.Common.{◌⊎◌, refl, inl, inr, arith}
-use Rattle.dx_keys.specs.declared.answers.Clash.{Clash}
 use Rattle.dx_schema.specs.Tables.{model_tables}
 use Rattle.dx_exchange.specs.declared.mode.Mode.{Mode}
 use Rattle.dx_exchange.specs.declared.result.Exchange.{Exchange}
