@@ -1,6 +1,7 @@
 -- What holds of comparisons of two mappings.
 use Rattle.std.specs.Prelude.{List}
 use Rattle.dx_compare.specs.declared.comparing.Comparison.{Comparison}
+use Rattle.dx_stages.specs.Ending.{Written}
 use Rattle.dx_stages.specs.Laws.{IsDecided}
 use Rattle.dx_stages.specs.Worlds.{World}
 use Rattle.clio_accept.specs.declared.mapping.Mapping.{Mapping}
@@ -9,7 +10,7 @@ use Rattle.clio_files.specs.Files.{files_of}
 use Rattle.clio_files.specs.Sheets.{Told}
 use Rattle.clio_ending.specs.Ending.{AreAlike}
 use Rattle.clio_steps.specs.Steps.{Program}
-use Rattle.clio_steps.specs.Outcomes.{Writing}
+use Rattle.clio_steps.specs.Outcomes.{wrote_all}
 use Rattle.clio_compare.specs.Comparing.{compare_stages, comparisons}
 use Rattle.clio_compare.specs.Outcomes.{IsComparedIn}
 
@@ -20,5 +21,5 @@ ComparisonOrRefusal = (P : Program) → IsDecided AreAlike (λ u. Unit {0}) (com
 -- the comparison is that of the rules of both mapping texts
 abbrev pub ComparisonsAreSo : Type 0
 ComparisonsAreSo =
-    (P : Program) (c : World) (M : Mapping) (k : Comparison) (files : List Told) (Wrote : Writing) → (comparisons P).passes c (tt {0}) (M, k)
-    → AreComparedFiles M.source M.target k files → Wrote (files_of files) (compared_text k files) → IsComparedIn P c k Wrote
+    (P : Program) (c : World) (M : Mapping) (k : Comparison) (files : List Told) (before after : Written) → (comparisons P).passes c (tt {0}) (M, k)
+    → AreComparedFiles M.source M.target k files → wrote_all before after (files_of files) (compared_text k files) → IsComparedIn P c k (wrote_all before after)

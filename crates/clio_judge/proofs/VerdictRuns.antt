@@ -64,7 +64,7 @@ table_plain f t h = at_each (λ (u : TableOf). ¬ (slash ∈ u.name)) (tables_of
         subst (λ (v : TableOf). ¬ (slash ∈ v.name)) p.2 (placed_plain None 0 f h p.0 p.1)
 
 plain_end : (form : Form) (name : List ℕ) → ¬ (slash ∈ name) → ¬ (slash ∈ named_by form name)
-plain_end flat name no m = elim (from_append name m) [ inl k ↦ no k | inr k ↦ csv k ]
+plain_end flat name plain m = elim (from_append name m) [ inl k ↦ plain k | inr k ↦ csv k ]
   where
     csv : ¬ (slash ∈ codes ".csv")
     csv (here e) = absurd (omega (arith, e))
@@ -72,7 +72,7 @@ plain_end flat name no m = elim (from_append name m) [ inl k ↦ no k | inr k �
     csv (there (there (here e))) = absurd (omega (arith, e))
     csv (there (there (there (here e)))) = absurd (omega (arith, e))
     csv (there (there (there (there m)))) = elim m [ ]
-plain_end nested name no m = elim (from_append name m) [ inl k ↦ no k | inr k ↦ json k ]
+plain_end nested name plain m = elim (from_append name m) [ inl k ↦ plain k | inr k ↦ json k ]
   where
     json : ¬ (slash ∈ codes ".json")
     json (here e) = absurd (omega (arith, e))

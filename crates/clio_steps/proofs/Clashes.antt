@@ -31,7 +31,7 @@ use Rattle.clio_steps.proofs.Plans.{rules_fit}
 
 -- ---- which refusals are clashes
 
-pub is_clash : Refusal → Bool
+unfoldable pub is_clash : Refusal → Bool
 is_clash (refusals.Clash k table key column) = true
 is_clash _ = false
 

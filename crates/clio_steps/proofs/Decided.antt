@@ -59,7 +59,7 @@ rows_decided P Given =
 
 -- ---- the target
 
-pub AreReady : Program → Filled → Type 0
+unfoldable pub AreReady : Program → Filled → Type 0
 AreReady P p = MappingFits P.list P.tests p.0
 
 pub target_decided : (P : Program) (mode : Mode) → IsDecided AreAlike (AreReady P) (by (named_stage P.apply mode))

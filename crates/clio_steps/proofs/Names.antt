@@ -26,7 +26,7 @@ text_asks P side c a n (inr h) = absurd (accepting_silent P.list P.tests c h.0 n
 pub texts_apart : ¬ (text_name First ≡ text_name Second)
 texts_apart e = let h : 109 ≡ 111 = ap (λ (v : List ℕ). get_or v 0 0) e in absurd (omega (arith, h))
 
-pub IsData : List ℕ → Type 0
+unfoldable pub IsData : List ℕ → Type 0
 IsData n = (y : List ℕ) × ((n ≡ csv_name y) ⊎ (n ≡ json_name y))
 
 pub named : (form : Form) (y : List ℕ) → IsData (named_by form y)
