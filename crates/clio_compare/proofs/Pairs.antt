@@ -1,6 +1,6 @@
 -- Two mappings: what they have to have in common, and the comparison of their rules.
 use Rattle.std.proofs.Common.{◌≡◌, ◌⊎◌, ℕ, suc, ◌≤◌, List, [], ◌∷◌, length, get_or, take, ◌+◌, ◌<◌, refl, sym, ◌∙◌, ap, subst, inl, inr, arith, Result, Ok, Err}
-use Rattle.std.specs.Prelude.{codes, true, false, Some}
+use Rattle.std.specs.Prelude.{codes, true, false, Option, Some, None, IfSome}
 use Rattle.std.proofs.lemmas.Bool.{cases_lt}
 use Rattle.std.proofs.lemmas.List.{take_all}
 use Rattle.dx_ports.specs.declared.file.Limit.{Limit}
@@ -89,6 +89,12 @@ conditions_refuse p c same n = inr (p, (same, refl), inl (n, refl))
 
 pub derived_refuses : (p : Pair) (c : World) (e : Refusal) → HaveSameSets p → AreFree p → HasDerived p e → comparable.refuses c p e
 derived_refuses p c e same free h = inr (p, (same, refl), inr (p, (free, refl), h))
+
+-- so does a derived variable that was found
+pub derived_found : (p : Pair) (r : Option OtherFault) → HaveSameSets p → AreFree p → IfSome r (λ f. HasDerived p (refusals.Other f))
+    → IfSome r (λ f. (c : World) → comparable.refuses c p (refusals.Other f))
+derived_found p None same free h = tt
+derived_found p (Some f) same free h = λ c. derived_refuses p c (refusals.Other f) same free h
 
 pub all_pass : (p : Pair) (c : World) → HaveSameSets p → AreFree p → AreBothPlain p → comparable.passes c p p
 all_pass p c same free h = (p, (same, refl), (p, (free, refl), (h, refl)))

@@ -1,6 +1,5 @@
 -- A verdict is never refused with a clash.
 use Rattle.std.proofs.Common.{◌≡◌, refl, ◌∙◌, ap, inl, inr, false}
-use Rattle.dx_ports.specs.declared.file.Limit.{Limit}
 use Rattle.dx_judge.specs.declared.fault.JudgeFault.{JudgeFault}
 use Rattle.dx_judge.specs.declared.fault.JudgeFault.TheVariants as judge_faults
 use Rattle.dx_stages.specs.Worlds.{World}

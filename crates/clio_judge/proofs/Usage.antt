@@ -1,6 +1,5 @@
 -- A verdict is never refused with `Usage`.
 use Rattle.std.proofs.Common.{◌≡◌, inl, inr}
-use Rattle.dx_ports.specs.declared.file.Limit.{Limit}
 use Rattle.dx_judge.specs.declared.fault.JudgeFault.{JudgeFault}
 use Rattle.dx_judge.specs.declared.fault.JudgeFault.TheVariants as judge_faults
 use Rattle.dx_judge.specs.Verdicts.{HasNone as HasNoVerdict}
