@@ -100,7 +100,7 @@ pub all_pass : (p : Pair) (c : World) → HaveSameSets p → AreFree p → AreBo
 all_pass p c same free h = (p, (same, refl), (p, (free, refl), (h, refl)))
 
 -- what passes is what was given
-passed_sets : (p q : Pair) (c : World) → comparable.passes c p q → (q ≡ p) × HaveSameSets p × AreFree p × AreBothPlain p
+pub passed_sets : (p q : Pair) (c : World) → comparable.passes c p q → (q ≡ p) × HaveSameSets p × AreFree p × AreBothPlain p
 passed_sets p q c (one, (same, one_is), (two, (free, two_is), (plain, q_is))) =
     let to_one : two ≡ p = two_is ∙ one_is in (
       q_is ∙ to_one,

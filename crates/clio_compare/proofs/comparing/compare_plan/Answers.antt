@@ -1,0 +1,38 @@
+use Rattle.std.proofs.lemmas.Result.{err_from_is_err_and}
+use Rattle.dx_funcs.specs.Judging.{tested}
+use Rattle.dx_funcs.specs.Serving.{offered}
+use Rattle.dx_stages.specs.Ending.{planned_of}
+use Rattle.dx_stages.proofs.Running.{ran_become}
+use Rattle.clio_steps.specs.Steps.{Program, program}
+use Rattle.clio_steps.proofs.Plans.{ran_become_none, ran_become_stop}
+use Rattle.clio_compare.specs.Comparing.{IsComparedPlan, comparisons}
+use Rattle.clio_compare.proofs.Pairs.{files_fit, made}
+use Rattle.clio_compare.proofs.comparing.compare_plan.Goals as goal
+
+pub returns-in_err-mapping : goal.returns-in_err-mapping
+returns-in_err-mapping g c =
+    let P : Program = program (offered c.args.host.now) (tested c.args.tests.now) g.M.Meaning.apply g.M.Meaning.passes in
+    let p = err_from_is_err_and c.from_residual.result c.from_residual.ensures.1 in
+    rw (p.1, p.2)
+    (ran_become_stop (λ u q plan. IsComparedPlan q.0 q.1 plan) (comparisons P) tt c.in_err-mapping.field-0.0 _ _ c.in_err-mapping.ensures)
+
+pub plan_comparison-requires : goal.plan_comparison-requires
+plan_comparison-requires g c =
+    let P : Program = program (offered c.args.host.now) (tested c.args.tests.now) g.M.Meaning.apply g.M.Meaning.passes in
+    let q = (c.in_ok-mapping.mapping, c.in_ok-mapping.comparison) in
+    let m = made P q _ _ c.in_ok-mapping.ensures in
+    files_fit P m.0 q m.1
+
+pub returns-in_err-plan_comparison : goal.returns-in_err-plan_comparison
+returns-in_err-plan_comparison g c =
+    let P : Program = program (offered c.args.host.now) (tested c.args.tests.now) g.M.Meaning.apply g.M.Meaning.passes in
+    let p = err_from_is_err_and c.from_residual-in_err-plan_comparison.result c.from_residual-in_err-plan_comparison.ensures.1 in
+    rw (p.1, p.2)
+    (ran_become_none (λ u q plan. IsComparedPlan q.0 q.1 plan) (comparisons P) tt (c.in_ok-mapping.mapping, c.in_ok-mapping.comparison) _ _
+    c.in_ok-mapping.ensures)
+
+pub returns : goal.returns
+returns g c =
+    let P : Program = program (offered c.args.host.now) (tested c.args.tests.now) g.M.Meaning.apply g.M.Meaning.passes in
+    ran_become (λ u q plan. IsComparedPlan q.0 q.1 plan) (comparisons P) tt (c.in_ok-mapping.mapping, c.in_ok-mapping.comparison)
+    (planned_of c.in_ok-plan_comparison.field-0) _ _ c.in_ok-plan_comparison.ensures c.in_ok-mapping.ensures
