@@ -22,7 +22,7 @@ use Rattle.dx_stages.proofs.Decided.{Any, into_decided, into_one, next_decided, 
 use Rattle.clio_accept.specs.declared.mapping.Mapping.{Mapping}
 use Rattle.clio_accept.specs.Laws.{MappingFits}
 use Rattle.clio_accept.proofs.Accepted.{accepted_fits}
-use Rattle.clio_source.specs.Source.{source_stages}
+use Rattle.clio_source.specs.Source.{Wanted, source_stages}
 use Rattle.clio_source.proofs.Decided.{source_decided, source_one}
 use Rattle.clio_ending.specs.declared.ending.Answers.{Answers}
 use Rattle.clio_ending.specs.declared.ending.Refusal.{Refusal}
@@ -120,7 +120,7 @@ target_leads P c p q h (e, exchange, is) = subst (λ (r : Posed × Exchange). Is
 with_rows : Posed → List TableRows → Posed × List TableRows
 with_rows p I = (p, I)
 
-abbrev wants : Posed → _
+abbrev wants : Posed → Wanted
 wants p = wanted p.0
 
 rows_one : (P : Program) → PassesOne (posed_rows P)
