@@ -1,8 +1,10 @@
 -- The stages of `compare`: the two mappings, what they have to have in common, the comparison.
 use Rattle.std.specs.Prelude.{◌≡◌, ◌⊎◌, ◌≤◌, ℕ, List, [], Some, take, length, slice_get, true, false}
+use Rattle.dx_ports.specs.Entries.{Entry}
 use Rattle.dx_ports.specs.Members.{Each}
 use Rattle.dx_ports.specs.declared.file.Count.TheVariants.{FrozenCells}
 use Rattle.dx_model.specs.declared.rules.Rule.{Rule}
+use Rattle.dx_model.specs.Values.{Text}
 use Rattle.dx_compare.specs.declared.comparing.Comparison.{Comparison}
 use Rattle.dx_compare.specs.Comparing.{IsComparison, PassesLimit}
 use Rattle.dx_compare.specs.Laws.{AreComparable}
@@ -104,6 +106,11 @@ comparing = into (λ (p : Pair) (k : Comparison). (p.0, k)) compared_rules
 -- two mapping texts, and the comparison of their rules
 abbrev pub comparisons : Program → Stage Refusal (Unit {0}) (Mapping × Comparison)
 comparisons P = next (mapping_stages P) (next (other_stages P) (next comparable comparing))
+
+-- the files that are written of a comparison, and what is said of it
+abbrev pub AreWritten : Mapping → Comparison → List Entry → Text → Type 0
+AreWritten M k entries text =
+    (files : List Told) × AreComparedFiles M.source M.target k files × (entries ≡ files_of files) × (text ≡ compared_text k files)
 
 -- what is written of a comparison: the files of the instances that refute, and what is said
 abbrev pub IsComparedPlan : Mapping → Comparison → Planned Done → Type 0

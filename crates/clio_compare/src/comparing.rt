@@ -2,13 +2,14 @@
 ghost use Rattle.std.specs.Prelude.{◌≡◌, ◌↔◌, ◌≤◌, IfNone, IfOk, IfSome, IsTrue, length};
 ghost use Rattle.dx_funcs.specs.Judging.{tested};
 ghost use Rattle.dx_funcs.specs.Serving.{offered};
-ghost use Rattle.dx_stages.specs.Ending.{planned, planned_of};
+ghost use Rattle.dx_ports.specs.Entries.{entries_of};
+ghost use Rattle.dx_stages.specs.Ending.{planned};
 ghost use Rattle.dx_stages.specs.Running.{Gives, Ran};
 ghost use Rattle.dx_stages.specs.Worlds.{World};
 ghost use Rattle.clio_files.specs.Comparisons.{FitsComparison};
 ghost use Rattle.clio_ending.specs.declared.ending.Refusal.TheVariants.{Other as OtherRefusal};
 ghost use Rattle.clio_steps.specs.Steps.{program};
-ghost use Rattle.clio_compare.specs.Comparing.{AreBothPlain, AreFree, ArePlain, AreReady, HasDerived, HaveSameSets, IsComparedPlan, IsFirstDerived};
+ghost use Rattle.clio_compare.specs.Comparing.{AreBothPlain, AreFree, ArePlain, AreReady, AreWritten, HasDerived, HaveSameSets, IsFirstDerived};
 ghost use Rattle.clio_compare.specs.Comparing.{comparable, compare_stages, compared_rules, comparisons};
 
 use clio_accept::Mapping;
@@ -19,7 +20,7 @@ use dx_compare::{Comparison, compare, same_trees};
 use dx_funcs::{Host, Meaning, Tests};
 use dx_model::Rule;
 use dx_ports::limits::FROZEN_CELLS;
-use dx_ports::{Inputs, Items, Text};
+use dx_ports::{File, Inputs, Items, Text};
 use dx_stages::{Plan, Stop};
 use dx_tgd::CanonFault;
 use std::alloc::{AllocError, Global};
@@ -128,22 +129,18 @@ where
     Ok((first, comparison))
 }
 
-// What is written of a comparison.
-fn plan_comparison(
+// The files that are written of a comparison, and what is said of it.
+fn compared_files(
     alloc: Global,
     mapping: &Mapping,
-    comparison: Comparison,
-) -> Result<Plan<Done>, AllocError>
-    requires { FitsComparison mapping.now.source mapping.now.target comparison }
-    ensures { IfOk result (λ p. IsComparedPlan mapping.now comparison (planned_of p)) }
+    comparison: &Comparison,
+) -> Result<(Vec<File>, Vec<u8>), AllocError>
+    requires { FitsComparison mapping.now.source mapping.now.target comparison.now }
+    ensures { IfOk result (λ r. AreWritten mapping.now comparison.now (entries_of r.0.items) r.1.items) }
 {
-    let printed = print_comparison(alloc, &mapping.source, &mapping.target, &comparison)?;
-    let text = compared_text(alloc, &comparison, &printed)?;
-    Ok(Plan {
-        done: Done::Compared(comparison),
-        files: into_files(alloc, printed)?,
-        text,
-    })
+    let printed = print_comparison(alloc, &mapping.source, &mapping.target, comparison)?;
+    let text = compared_text(alloc, comparison, &printed)?;
+    Ok((into_files(alloc, printed)?, text))
 }
 
 /// What `compare` writes.
@@ -162,5 +159,10 @@ where
         (record { holds = I.holds inputs.new; faults = I.faults inputs.new; stopped = I.stopped inputs.new }) }
 {
     let (mapping, comparison) = compare_files(alloc, inputs, host, tests)?;
-    Ok(plan_comparison(alloc, &mapping, comparison)?)
+    let (files, text) = compared_files(alloc, &mapping, &comparison)?;
+    Ok(Plan {
+        done: Done::Compared(comparison),
+        files,
+        text,
+    })
 }

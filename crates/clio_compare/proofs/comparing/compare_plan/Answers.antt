@@ -1,8 +1,9 @@
 use Rattle.std.proofs.lemmas.Result.{err_from_is_err_and}
 use Rattle.dx_funcs.specs.Judging.{tested}
 use Rattle.dx_funcs.specs.Serving.{offered}
-use Rattle.dx_stages.specs.Ending.{planned_of}
+use Rattle.dx_ports.specs.Entries.{entries_of}
 use Rattle.dx_stages.proofs.Running.{ran_become}
+use Rattle.clio_ending.specs.declared.ending.Done.TheVariants.{Compared}
 use Rattle.clio_steps.specs.Steps.{Program, program}
 use Rattle.clio_steps.proofs.Plans.{ran_become_none, ran_become_stop}
 use Rattle.clio_compare.specs.Comparing.{IsComparedPlan, comparisons}
@@ -16,17 +17,17 @@ returns-in_err-mapping g c =
     rw (p.1, p.2)
     (ran_become_stop (λ u q plan. IsComparedPlan q.0 q.1 plan) (comparisons P) tt c.in_err-mapping.field-0.0 _ _ c.in_err-mapping.ensures)
 
-pub plan_comparison-requires : goal.plan_comparison-requires
-plan_comparison-requires g c =
+pub compared_files-requires : goal.compared_files-requires
+compared_files-requires g c =
     let P : Program = program (offered c.args.host.now) (tested c.args.tests.now) g.M.Meaning.apply g.M.Meaning.passes in
     let q = (c.in_ok-mapping.mapping, c.in_ok-mapping.comparison) in
     let m = made P q _ _ c.in_ok-mapping.ensures in
     files_fit P m.0 q m.1
 
-pub returns-in_err-plan_comparison : goal.returns-in_err-plan_comparison
-returns-in_err-plan_comparison g c =
+pub returns-in_err-files : goal.returns-in_err-files
+returns-in_err-files g c =
     let P : Program = program (offered c.args.host.now) (tested c.args.tests.now) g.M.Meaning.apply g.M.Meaning.passes in
-    let p = err_from_is_err_and c.from_residual-in_err-plan_comparison.result c.from_residual-in_err-plan_comparison.ensures.1 in
+    let p = err_from_is_err_and c.from_residual-in_err-files.result c.from_residual-in_err-files.ensures.1 in
     rw (p.1, p.2)
     (ran_become_none (λ u q plan. IsComparedPlan q.0 q.1 plan) (comparisons P) tt (c.in_ok-mapping.mapping, c.in_ok-mapping.comparison) _ _
     c.in_ok-mapping.ensures)
@@ -34,5 +35,8 @@ returns-in_err-plan_comparison g c =
 pub returns : goal.returns
 returns g c =
     let P : Program = program (offered c.args.host.now) (tested c.args.tests.now) g.M.Meaning.apply g.M.Meaning.passes in
-    ran_become (λ u q plan. IsComparedPlan q.0 q.1 plan) (comparisons P) tt (c.in_ok-mapping.mapping, c.in_ok-mapping.comparison)
-    (planned_of c.in_ok-plan_comparison.field-0) _ _ c.in_ok-plan_comparison.ensures c.in_ok-mapping.ensures
+    let k = c.in_ok-mapping.comparison in
+    let w = c.in_ok-files.ensures in
+    ran_become (λ u q plan. IsComparedPlan q.0 q.1 plan) (comparisons P) tt (c.in_ok-mapping.mapping, k)
+    (record { done = Compared k; files = entries_of c.in_ok-files.files.items; text = c.in_ok-files.text.items }) _ _
+    (w.0, w.1, λ i. record { done = Compared k; files = w.2 i; text = w.3 i }) c.in_ok-mapping.ensures
