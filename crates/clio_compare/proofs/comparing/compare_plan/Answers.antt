@@ -3,6 +3,8 @@ use Rattle.dx_funcs.specs.Judging.{tested}
 use Rattle.dx_funcs.specs.Serving.{offered}
 use Rattle.dx_ports.specs.Entries.{entries_of}
 use Rattle.dx_stages.proofs.Running.{ran_become}
+use Rattle.dx_compare.specs.declared.comparing.Comparison.{Comparison}
+use Rattle.clio_accept.specs.declared.mapping.Mapping.{Mapping}
 use Rattle.clio_ending.specs.declared.ending.Done.TheVariants.{Compared}
 use Rattle.clio_steps.specs.Steps.{Program, program}
 use Rattle.clio_steps.proofs.Plans.{ran_become_none, ran_become_stop}
@@ -20,7 +22,7 @@ returns-in_err-mapping g c =
 pub compared_files-requires : goal.compared_files-requires
 compared_files-requires g c =
     let P : Program = program (offered c.args.host.now) (tested c.args.tests.now) g.M.Meaning.apply g.M.Meaning.passes in
-    let q = (c.in_ok-mapping.mapping, c.in_ok-mapping.comparison) in
+    let q : Mapping × Comparison = (c.in_ok-mapping.mapping, c.in_ok-mapping.comparison) in
     let m = made P q _ _ c.in_ok-mapping.ensures in
     files_fit P m.0 q m.1
 
