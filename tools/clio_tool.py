@@ -47,3 +47,5 @@ def run(name, main):
     except MemoryError:
         remark(name, "out of memory")
         sys.exit(2)
+    except KeyboardInterrupt:
+        sys.exit(130)

@@ -4,6 +4,7 @@ from clio_csv import read_table
 from clio_tool import Refused
 
 ESCAPES = str.maketrans({"\\": "\\\\", "\t": "\\t", "\n": "\\n", "\r": "\\r"})
+SYSTEM_COLUMNS = {"tableoid", "xmin", "cmin", "xmax", "cmax", "ctid"}  # each table of PostgreSQL has them
 
 
 def quoted(name):
@@ -19,9 +20,9 @@ def opened(cell):
     return f"({cell} = '' OR ({cell} LIKE '?%' AND {cell} NOT LIKE '??%'))"
 
 
-def _is_kept(cell):
-    """Whether SQLite prints a number as it was written, having kept it as an integer or as a double."""
-    return sql_types.HOLDS["bigint"](cell) or repr(float(cell)) == cell
+def _kept(cell):
+    """How SQLite prints a number: whole if it is an integer of 64 bits, or else 15 digits of a double."""
+    return cell if sql_types.HOLDS["bigint"](cell) else f"{float(cell):.15g}"
 
 
 class Sqlite:
@@ -51,9 +52,9 @@ class Sqlite:
                 raise Refused(f"SQLite keeps the name {table.name} for itself")
 
     def cannot_hold(self, cell, type_name):
-        if type_name != "numeric" or sql_types.is_open(cell) or _is_kept(cell):
+        if type_name != "numeric" or sql_types.is_open(cell) or _kept(cell) == cell:
             return None
-        return f"is {cell[:80]}, and SQLite would keep it as {float(cell)}: give it the type text or real"
+        return f"is {cell[:80]}, and SQLite would keep it as {_kept(cell)}: give it the type text or real"
 
 
 class Postgres:
@@ -90,7 +91,10 @@ class Postgres:
         for table in tables:
             for name in [table.name + "_plain"] + table.columns:
                 if len(name) > 63:
-                    raise Refused(f"PostgreSQL cuts the name {name} after 63 letters")
+                    raise Refused(f"PostgreSQL cuts the name {name[:80]} after 63 letters")
+            for name in table.columns:
+                if name in SYSTEM_COLUMNS:
+                    raise Refused(f"PostgreSQL has a column {name} of its own in each table, so {table.name}.{name} can't be made there")
 
     def cannot_hold(self, cell, type_name):
         return None

@@ -5,7 +5,7 @@ import re
 from clio_tool import Refused
 
 INTEGER = re.compile(r"0|-?[1-9][0-9]{0,18}")
-NUMERIC = re.compile(r"-?(0|[1-9][0-9]*)(\.[0-9]+)?")
+NUMERIC = re.compile(r"-?(0|[1-9][0-9]{0,131071})(\.[0-9]{1,16383})?")  # as many digits as PostgreSQL has room for
 REAL = re.compile(r"[+-]?[0-9]+(\.[0-9]+)?([eE][+-]?[0-9]{1,3})?")
 DATE = re.compile(r"[0-9]{4}-[0-9]{2}-[0-9]{2}")
 TIMESTAMP = re.compile(r"[0-9]{4}-[0-9]{2}-[0-9]{2}[ T][0-9]{2}:[0-9]{2}:[0-9]{2}(\.[0-9]{1,6})?")
@@ -13,6 +13,11 @@ TIMESTAMP = re.compile(r"[0-9]{4}-[0-9]{2}-[0-9]{2}[ T][0-9]{2}:[0-9]{2}:[0-9]{2
 
 def _integer(text, bits):
     return bool(INTEGER.fullmatch(text)) and -(1 << (bits - 1)) <= int(text) < 1 << (bits - 1)
+
+
+def _is_double(text):
+    """Whether a double is near a number: it is neither too large nor too small."""
+    return abs(float(text)) != float("inf") and (float(text) != 0 or not re.search("[1-9]", re.split("[eE]", text)[0]))
 
 
 def _dated(text, form):
@@ -26,7 +31,7 @@ HOLDS = {
     "integer": lambda text: _integer(text, 32),
     "bigint": lambda text: _integer(text, 64),
     "numeric": lambda text: bool(NUMERIC.fullmatch(text)) and not (text.startswith("-") and not text.strip("-0.")),
-    "real": lambda text: bool(REAL.fullmatch(text)) and abs(float(text)) != float("inf"),
+    "real": lambda text: bool(REAL.fullmatch(text)) and _is_double(text),
     "boolean": lambda text: text in ("true", "false"),
     "date": lambda text: _dated(text, DATE),
     "timestamp": lambda text: _dated(text, TIMESTAMP),

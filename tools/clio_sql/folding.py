@@ -8,7 +8,10 @@ import sys
 
 sys.path.append(str(pathlib.Path(__file__).resolve().parent.parent / "second_reading"))
 from covers import Covers  # noqa: E402
+from refusals import TooLong  # noqa: E402
 from rules import EXISTENTIAL, LITERAL, VARIABLE, Atom, Cell, Rule  # noqa: E402
+
+from .engines import EngineError  # noqa: E402
 
 ATOM = re.compile(r"([A-Za-z_][A-Za-z0-9_]*)\(((?:[xy][0-9]+|\"(?:[^\"\\]|\\.)*\"|, )*)\)")
 CELL = re.compile(r"([xy])([0-9]+)|\"((?:[^\"\\]|\\.)*)\"")
@@ -39,7 +42,10 @@ class CoverFold:
 
     def __init__(self, engine, rules, tables):
         self.engine, self.rules = engine, [rule_of(rule, tables) for rule in rules]
-        self.covers = Covers(self.rules)
+        try:
+            self.covers = Covers(self.rules)
+        except TooLong:
+            raise EngineError("what covers what in core mode takes too many steps to find out for these rules; without --core they are no trouble") from None
 
     def run(self):
         """All rules; then what a null became is followed on, also through what keys and dependencies replaced."""

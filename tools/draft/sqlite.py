@@ -1,4 +1,5 @@
 """The tables of an SQLite file, by its pragmas, and their rows."""
+import os
 import pathlib
 import sqlite3
 import urllib.parse
@@ -21,8 +22,11 @@ class Base:
         if not pathlib.Path(path).is_file():
             raise Refused(f"{path} is no file")
         self.path = path
-        address = f"file:{urllib.parse.quote(str(pathlib.Path(path).resolve()))}?mode=ro"
-        self.base = sqlite3.connect(address, uri=True, isolation_level=None)
+        address = f"file:{urllib.parse.quote(os.fsencode(pathlib.Path(path).resolve()))}?mode=ro"
+        try:
+            self.base = sqlite3.connect(address, uri=True, isolation_level=None)
+        except sqlite3.Error as error:
+            raise Refused(f"{path}: {error}") from None
         self.base.text_factory = lambda content: content.decode("utf-8", "surrogateescape")
         self.ask("BEGIN")
 

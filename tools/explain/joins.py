@@ -1,7 +1,6 @@
 """The matches of a rule in the source, with the rows that each match is made of."""
 from matches import NAMED
 
-KEPT = 3  # matches that are kept of one tuple of exported texts
 MOST_STEPS = 20_000_000
 
 
@@ -48,6 +47,7 @@ def steps_of(rule, source):
 
 class Matches:
     """For each tuple of exported texts of a rule: how many matches give it, and the source rows of the first of them."""
+    kept = 3  # matches that are kept of one tuple
 
     def __init__(self, rule, source, most=MOST_STEPS, most_tuples=None):
         self.rule, self.steps, self.left, self.most_tuples = rule, steps_of(rule, source), most, most_tuples
@@ -78,9 +78,9 @@ class Matches:
         for number, derived in enumerate(self.rule.derived, self.first):
             self.values[number] = NAMED[derived.conversion].apply(*[self.values[one] for one in derived.arguments])
         self.number += 1
-        kept = self.found.setdefault(tuple([self.values[variable] for variable in self.exported]), [])
-        if len(kept) < KEPT:
-            kept.append(tuple(self.chosen))
+        found = self.found.setdefault(tuple([self.values[variable] for variable in self.exported]), [])
+        if len(found) < self.kept:
+            found.append(tuple(self.chosen))
         if self.most_tuples is not None and len(self.found) > self.most_tuples:
             raise TooMany()
 

@@ -9,6 +9,7 @@ from explain.key_chase import KeyChase, cell_value
 from explain.program import mapping_of
 from explain.source import Source
 from explain.traps import used_cells
+from ids.target import is_renamed
 from rules import EXISTENTIAL
 
 AGAIN = "run clio exchange again"
@@ -16,6 +17,7 @@ AGAIN = "run clio exchange again"
 
 class UsedMatches(Matches):
     """The matches of a rule, with each source row that is in one."""
+    kept = 0
 
     def __init__(self, rule, source):
         self.used = [bytearray(len(source.rows[atom.table].rows)) for atom in rule.premise]
@@ -169,9 +171,13 @@ class Figures:
             texts = [value_text(value) for value in row]
             last = tuple([self.fold.get(text, text) for text in texts])
             made[last] = made.get(last, 0) | mask
-        written = set(map(tuple, read_table(f"out/{table.name}.csv", table.columns)))
-        if written != set(made):
-            raise Refused(f"out/{table.name}.csv doesn't have what the rules make of the source files: {AGAIN}")
+        left = set(made)
+        for row in map(tuple, read_table(f"out/{table.name}.csv", table.columns)):
+            if row not in left:
+                raise Refused(why_other(table))
+            left.remove(row)
+        if left:
+            raise Refused(why_other(table))
         return made
 
     def fates(self, chase):
@@ -211,6 +217,13 @@ class Figures:
             row = [value_text(cell_value(cell, values, number, place)) for cell in atom.cells]
             mask &= self.target[atom.table].rows[tuple([self.fold.get(text, text) for text in row])]
         return mask & ~(1 << number)
+
+
+def why_other(table):
+    """Why a table was written with other rows."""
+    if is_renamed():
+        return f"out has the numbers of clio-ids: {AGAIN}, and clio-report before clio-ids"
+    return f"out/{table.name}.csv doesn't have what the rules make of the source files: {AGAIN}"
 
 
 def read(path):

@@ -50,7 +50,7 @@ class Covers:
 
     def __init__(self, rules):
         self.rules = rules
-        self.maps = [[cell_maps(one, other) for other in rules] for one in rules]
+        self.maps = [[cell_maps(one, other) if number != place else [] for place, other in enumerate(rules)] for number, one in enumerate(rules)]
 
     def is_before(self, other, one):
         """Whether a cell map from `one` to `other` exists, and none back or `other` has the lower number."""

@@ -1,5 +1,6 @@
 """clio-draft on SQLite, on files and on documents: what it prints, clio takes; what it writes, clio reads as it was. PostgreSQL is tried by tools/check."""
 import json
+import os
 import re
 import sqlite3
 import subprocess
@@ -113,6 +114,14 @@ class Sqlite(Draft):
         self.assertIn("v.x: NULL, which stands there once, and the empty text, once, are both written", said)
         cells = [row[0] for row in clio_csv.read_table(self.folder / "data/v.csv", ["x", "y"])]
         self.assertEqual(cells, ["", "", "7", "7", "-9223372036854775808", "0.30000000000000004", "1e+300", "12.0"])
+
+    def test_places(self):
+        """Files whose names are no words, or no texts."""
+        self.base("CREATE TABLE t (x); INSERT INTO t VALUES ('1')")
+        for name in b"\xff", b"a?mode=memory&x#y%20", b"a\n\x1b[31m'\"":
+            os.replace(os.fsencode(self.folder / "old.db"), os.path.join(os.fsencode(self.folder), name))
+            self.assertIn("set t {", self.printed("clio-draft", "sqlite", name, "--data", "data"))
+            os.replace(os.path.join(os.fsencode(self.folder), name), self.folder / "old.db")
 
     def test_refusals(self):
         self.refused("clio-draft", "sqlite", "gone.db", why="gone.db is no file")

@@ -6,10 +6,11 @@ import pathlib
 import random
 import sqlite3
 import subprocess
+import sys
 import tempfile
 import unittest
 
-from trial import PROGRAM, TIMES, Trial
+from trial import PROGRAM, TIMES, TOOLS, Trial
 
 import explain.program
 from clio_csv import read_table, record_text, records
@@ -156,6 +157,18 @@ class Ids(Trial):
         self.refused("clio-ids", "new.db", why="out/nulls.csv is not of the run in which new.db gave them")
         self.file("out/orders.csv", fresh)
         self.refused("clio-ids", "ids.db", why="out/orders.csv is not of the run")
+
+    def test_no_room(self):
+        """A file that can't grow: nothing is changed, and no crosswalk is left that has nothing."""
+        self.sales(["1", "ann", ""])
+        before = {path.name: path.read_bytes() for path in (self.folder / "out").iterdir()}
+        for size in 1, 20:
+            with self.subTest(size):
+                done = subprocess.run(["bash", "-c", f'ulimit -f {size}; exec "$0" -B "$1" ids.db', sys.executable, TOOLS / "clio-ids"], cwd=self.folder, capture_output=True, check=False)
+                self.assertEqual((done.returncode, done.stdout), (2, b""))
+                self.assertEqual(done.stderr, b"clio-ids: ids.db: disk I/O error\n")
+                self.assertEqual({path.name: path.read_bytes() for path in (self.folder / "out").iterdir()}, before)
+                self.assertFalse((self.folder / "ids.db").exists())
 
     def test_files_of_two_runs(self):
         for name, content, why in [("customer.csv", "cid,cname,phone\n", "in no table"), ("customer.csv", "cid,cname,phone\n?x,ann,\n", "none that clio writes"),

@@ -247,6 +247,8 @@ class Reports(Trial):
         self.assertEqual(self.clio("exchange")[0], 0)
         self.file("a.csv", "x\n1\n2\n")
         self.refused("clio-report", why="out/t.csv doesn't have what the rules make")
+        self.file("out/nulls.csv", "id,variable,value\n")
+        self.refused("clio-report", why="out has the numbers of clio-ids")
 
 
 if __name__ == "__main__":

@@ -1,4 +1,5 @@
 """clio-sql: what it makes in SQLite, against another reading of the rules, keys and dependencies. tools/check has PostgreSQL."""
+import contextlib
 import copy
 import os
 import random
@@ -100,6 +101,35 @@ class Random(Trial):
         base.close()
         if words and "a core" in said:
             self.assertTrue(is_core(target))
+
+
+class Wide(Trial):
+    """Rules whose atoms can go to each other in more ways than are tried."""
+
+    def wide(self, *names):
+        """A mapping with a rule for each of some sets, and a source with a row in each."""
+        columns = "abcdefg"
+        sets = "".join(f"set {name} {{ i, {', '.join(columns)}; }} " for name in names)
+        phones = ", ".join(f"phone(i, {column})" for column in columns)
+        rules = "".join(f"rule {name}(i, {', '.join(columns)}) -> {phones}, card(i, {', '.join(columns)}, more);\n" for name in names)
+        target = f"set phone {{ id, number; }} set card {{ id, {', '.join(columns)}, more; }}"
+        self.file("mapping.clio", f"mapping 1;\nsource {{ {sets}}}\ntarget {{ {target} }}\n{rules}")
+        with contextlib.closing(sqlite3.connect(self.folder / "source.db")) as base, base:
+            for name in names:
+                base.execute(f"CREATE TABLE {name} (i TEXT, {', '.join(column + ' TEXT' for column in columns)})")
+                base.execute(f"INSERT INTO {name} VALUES ('1', '2', '3', '4', '5', '6', '7', '8')")
+        os.symlink(PROGRAM, self.folder / "clio")
+        path = os.environ["PATH"]
+        self.addCleanup(os.environ.__setitem__, "PATH", path)
+        os.environ["PATH"] = f"{self.folder}:{path}"
+
+    def test_one_rule(self):
+        self.wide("p")
+        self.assertEqual(self.printed("clio-sql", "sqlite", "--core", "source.db", "target.db"), "phone 7\ncard 1\nnulls 8\nfold 0\n")
+
+    def test_two_rules(self):
+        self.wide("p", "q")
+        self.refused("clio-sql", "sqlite", "--core", "source.db", "target.db", why="takes too many steps to find out for these rules")
 
 
 if __name__ == "__main__":

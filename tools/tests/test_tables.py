@@ -111,6 +111,10 @@ class Refusals(Shop):
         self.refused("clio-tables", "postgres", why="after 63 letters")
         self.file("mapping.clio", copy_mapping(["x", "X"]))
         self.refused("clio-tables", "sqlite", why="does not tell x from X")
+        self.file("mapping.clio", copy_mapping(["x", "ctid"]))
+        self.file("a0.csv", "x,ctid\n1,2\n")
+        for what in "postgres", "source":
+            self.refused("clio-tables", what, why="PostgreSQL has a column ctid of its own")
 
 
 DEPENDENT = """mapping 3;
@@ -176,6 +180,30 @@ class Types(Shop):
                           ("orders.cid integer", "one type"), ("orders.price money", "none of the types"), ("orders.nothing text", "line 1"), ("a", "line 1")]:
             self.file("types.txt", line)
             self.refused("clio-tables", "postgres", "--types", "types.txt", why=why)
+
+    def test_numbers_at_their_limits(self):
+        """A number that a database would give back with other digits, or not at all, is refused."""
+        kept = ["7.25", "-0.5", "9007199254740993", "99999999999999.5"]
+        changed = ["12.0", "0.30000000000000004", "999999999999999.5", "0.00001", "100000000000000000000"]
+        self.shop([[str(place), "ann", price, ""] for place, price in enumerate(kept + changed)])
+        types = self.printed("clio-tables", "types")
+        self.assertIn("orders.price numeric", types)
+        self.file("types.txt", types)
+        self.printed("clio-tables", "postgres", "--types", "types.txt")
+        for price in changed:
+            self.shop([["1", "ann", price, ""]])
+            self.refused("clio-tables", "sqlite", "--types", "types.txt", why=f"is {price}, and SQLite would keep it as")
+        self.shop([[str(place), "ann", price, ""] for place, price in enumerate(kept)])
+        sql = self.printed("clio-tables", "sqlite", "--types", "types.txt")
+        if shutil.which("sqlite3"):
+            query = f"{sql}SELECT price FROM orders ORDER BY oid;"
+            done = subprocess.run(["sqlite3", ":memory:"], cwd=self.folder, input=query.encode(), capture_output=True, check=True)
+            self.assertEqual(done.stdout.decode().split(), kept)
+        self.shop([["1", "ann", "0." + "1" * 16384, ""]])
+        self.assertIn("orders.price text", self.printed("clio-tables", "types"))
+        self.shop([["1", "ann", "1e-400", ""], ["2", "bob", "0e-400", ""]])
+        self.file("types.txt", "orders.price real")
+        self.refused("clio-tables", "postgres", "--types", "types.txt", why="is '1e-400', which is no real")
 
     def test_numbered_keys(self):
         self.shop([["1", "ann", "", ""], ["2", "bob", "", ""]])

@@ -29,12 +29,12 @@ class Trial(unittest.TestCase):
 
     def clio(self, *words):
         """The program's status and what it prints."""
-        done = subprocess.run([PROGRAM, *words], cwd=self.folder, capture_output=True, check=False, timeout=60)
+        done = subprocess.run([PROGRAM, *words], cwd=self.folder, capture_output=True, check=False, timeout=300)
         return done.returncode, done.stdout.decode()
 
     def tool(self, name, *words, text=""):
         """A tool's status, what it prints, and what it says on standard error."""
-        done = subprocess.run([sys.executable, "-B", TOOLS / name, *words], cwd=self.folder, input=text.encode(), capture_output=True, check=False, timeout=60)
+        done = subprocess.run([sys.executable, "-B", TOOLS / name, *words], cwd=self.folder, input=text.encode(), capture_output=True, check=False, timeout=300)
         return done.returncode, done.stdout.decode(), done.stderr.decode()
 
     def printed(self, name, *words, text=""):
