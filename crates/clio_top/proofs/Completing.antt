@@ -28,7 +28,7 @@ use Rattle.clio_ending.specs.declared.ending.Ending.{Ending}
 use Rattle.clio_ending.specs.declared.ending.Ending.TheVariants as endings
 use Rattle.clio_ending.specs.declared.ending.Refusal.{Refusal}
 use Rattle.clio_ending.specs.declared.ending.Refusal.TheVariants as refusals
-use Rattle.clio_ending.specs.Ending.{AreAlike, ending_of, refusal_ending}
+use Rattle.clio_ending.specs.Ending.{AreAlike, ending_of, named_clash, refusal_ending}
 use Rattle.clio_ending.proofs.Alike.{alike_clash}
 use Rattle.clio_top.specs.declared.command.Command.{Command}
 use Rattle.clio_top.specs.declared.command.Command.TheVariants.{Answering, Comparing, Demonstrating, Exchanging, Judging, Showing}
@@ -39,6 +39,7 @@ use Rattle.clio_top.specs.Commands.{run_stages, stages_of}
 use Rattle.clio_top.specs.Promises.{AsksFor}
 use Rattle.clio_steps.specs.Outcomes.{HasNoSolutionIn, HasMappingIn, HasSolutionIn}
 use Rattle.clio_top.specs.Completing.{AnswersArePlanned, AnswersClash, Completes, CompletesDemo, DemoIsPlanned, HasDone, IsFaultless, MappingIsShown, NoAnswerIsAClash, OrMemory, SolutionIsPlanned}
+use Rattle.clio_answer.specs.Answering.{answers, query_stages}
 use Rattle.clio_answer.specs.Outcomes.{HasFewAnswers, HasQueryIn}
 use Rattle.clio_top.proofs.Asking.{in_order}
 use Rattle.clio_steps.proofs.Clashes.{clash_there}
@@ -78,16 +79,18 @@ answers_planned P c words w h k few =
     let list = answers_exist (schema_widths h.mapping.target) (facts e.target) q fits in
     let certain = listed_are_certain P.apply h.mapping.rules (model_tables h.mapping.target) (facts h.rows) (facts e.target) q list.0 x.1.universal list.1 in
     let a : Answers = record { exchange = e; rows = list.0 } in
-    let asked_for = (q, (k.text, (k.held, k.few), (q, k.said, (k.atoms, refl))), refl) in
-    let passed = (h.mapping, (h.text, (h.held, h.few), h.accepted), ((h.mapping, q), asked_for, (((h.mapping, q), h.rows), (h.rows, h.source, refl), (((h.mapping, q), e), (e, x.1, refl), (a, (refl, list.1, few list.0 certain), refl))))) in
+    let asked_for : query_stages.passes c h.mapping (h.mapping, q) = (q, (k.text, (k.held, k.few), (q, k.said, (k.atoms, refl))), refl) in
+    let passed : (answers P).passes c (tt {0}) ((h.mapping, q), a) =
+        (h.mapping, (h.text, (h.held, h.few), h.accepted), ((h.mapping, q), asked_for, (((h.mapping, q), h.rows), (h.rows, h.source, refl), (((h.mapping, q), e), (e, x.1, refl), (a, (refl, list.1, few list.0 certain), refl))))) in
     (a, (_, (Answering, ap or_usage w, (((h.mapping, q), a), passed, refl)), refl))
 
 pub answers_clash : NoAnswerIsAClash
 answers_clash P c words w h k =
     let x = clash_there P Plain c h in
     let q = k.query in
-    let asked_for = (q, (k.text, (k.held, k.few), (q, k.said, (k.atoms, refl))), refl) in
-    let refused = inr (h.mapping, (h.text, (h.held, h.few), h.accepted), inr ((h.mapping, q), asked_for, inr (((h.mapping, q), h.rows), (h.rows, h.source, refl), inl (exchange_faults.Clash x.0, x.1, refl)))) in
+    let asked_for : query_stages.passes c h.mapping (h.mapping, q) = (q, (k.text, (k.held, k.few), (q, k.said, (k.atoms, refl))), refl) in
+    let refused : (answers P).refuses c (tt {0}) (named_clash h.mapping.target x.0) =
+        inr (h.mapping, (h.text, (h.held, h.few), h.accepted), inr ((h.mapping, q), asked_for, inr (((h.mapping, q), h.rows), (h.rows, h.source, refl), inl (exchange_faults.Clash x.0, x.1, refl)))) in
     (x.0, _, _, _, inr (Answering, ap or_usage w, refused))
 
 -- if nothing is at fault, there is a plan
