@@ -98,8 +98,7 @@ class Chase:
         self.engine.make("gone", "SELECT u, v FROM pair WHERE u >= 'n'", ["u"])
         self.engine.make("before", "SELECT r.u, coalesce(g.v, r.v) AS v FROM replaced AS r LEFT JOIN gone AS g ON g.u = r.v"
                                    " UNION ALL SELECT u, v FROM gone")
-        self.engine.run("DROP TABLE replaced")
-        self.engine.run("ALTER TABLE before RENAME TO replaced")
+        self.engine.rename("before", "replaced")
         for target in self.targets:
             if target.open:
                 self.replace_in(target)
@@ -108,6 +107,5 @@ class Chase:
         """A table with its replaced nulls, each row once."""
         cells = [f"coalesce(g{place}.v, t.c{place}) AS c{place}" if place in target.open else f"t.c{place}" for place in range(len(target.columns))]
         joins = "".join(f" LEFT JOIN gone AS g{place} ON g{place}.u = t.c{place}" for place in target.open)
-        self.engine.make("other", f"SELECT DISTINCT {', '.join(cells)} FROM {target.work} AS t{joins}")
-        self.engine.run(f"DROP TABLE {target.work}")
-        self.engine.run(f"ALTER TABLE other RENAME TO {target.work}")
+        self.engine.make("other", f"SELECT DISTINCT {', '.join(cells)} FROM {target.work} AS t{joins}", by=target.by)
+        self.engine.rename("other", target.work)

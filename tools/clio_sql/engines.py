@@ -19,19 +19,33 @@ class Engine:
     def number(self, sql):
         return int(self.column(sql)[0])
 
-    def make(self, table, query, index=()):
-        """Makes a work table anew."""
+    def make(self, table, query, index=(), by=()):
+        """Makes a work table anew; it is joined by the columns of `index`, and its rows are told apart by those of `by`."""
         self.run(f"DROP TABLE IF EXISTS {table}")
         self.run(f"CREATE TABLE {table} AS {query}")
         if index:
             self.index(table, index)
         self.ready(table)
 
+    def rename(self, table, name):
+        """Puts a work table in the place of another."""
+        self.run(f"DROP TABLE {name}")
+        self.run(f"ALTER TABLE {table} RENAME TO {name}")
+
+    def write(self, name, query):
+        """Makes a table of the target anew."""
+        self.run(f'DROP TABLE IF EXISTS target."{name}"')
+        self.run(f'CREATE TABLE target."{name}" AS {query}')
+
     def index(self, table, columns):
         """Makes an index for joins by these columns, if the engine needs one."""
 
     def ready(self, table):
         """Tells the engine that a table has its rows."""
+
+    def source_bytes(self, expression):
+        """What compares a text of the source by its bytes."""
+        return self.bytes(expression)
 
     def null(self, rule, variable, place):
         """A null as the chase holds it: an `n`, and numbers of one length, so that nulls are ordered as bytes."""
@@ -82,6 +96,7 @@ class Postgres(Engine):
     MARK = "-- clio-sql: done --"
 
     def __init__(self, connection):
+        self.connection = connection
         words = ["psql", "-X", "-q", "--csv", "-t", "-v", "ON_ERROR_STOP=1", *([connection] if connection else [])]
         self.psql = subprocess.Popen(words, stdin=subprocess.PIPE, stdout=subprocess.PIPE, stderr=subprocess.PIPE)
         self.run("SET client_min_messages = warning; SET client_encoding = 'UTF8'; SET standard_conforming_strings = on;"

@@ -14,16 +14,14 @@ def write_targets(engine, targets):
     counts = []
     for target in targets:
         cells = ", ".join(f'{text(f"c{place}")} AS "{name}"' for place, name in enumerate(target.columns))
-        engine.run(f'DROP TABLE IF EXISTS target."{target.name}"')
-        engine.run(f'CREATE TABLE target."{target.name}" AS SELECT {cells} FROM {target.work}')
+        engine.write(target.name, f"SELECT {cells} FROM {target.work}")
         counts.append((target.name, engine.number(f"SELECT count(*) FROM {target.work}")))
     return counts
 
 
 def write_fold(engine):
     """The nulls that keys and dependencies replaced."""
-    engine.run("DROP TABLE IF EXISTS target.fold")
-    engine.run(f'CREATE TABLE target.fold AS SELECT {text("u")} AS "null", {text("v")} AS value FROM replaced')
+    engine.write("fold", f'SELECT {text("u")} AS "null", {text("v")} AS value FROM replaced')
     return engine.number("SELECT count(*) FROM replaced")
 
 
@@ -32,8 +30,7 @@ def write_nulls(engine, targets, rules):
     parts = [f"SELECT c{place} AS cell FROM {target.work} WHERE c{place} >= 'n'" for target in targets for place in target.open]
     engine.make("standing", "SELECT DISTINCT cell, CAST(substr(cell, 2, 5) AS BIGINT) AS rule, CAST(substr(cell, 14, 10) AS BIGINT) AS place FROM ("
                 + (" UNION ".join(parts) or "SELECT 'n00000.00000.0000000000' AS cell WHERE 1 = 0") + ") AS s")
-    engine.run("DROP TABLE IF EXISTS target.nulls")
-    engine.run('CREATE TABLE target.nulls ("null" TEXT, variable TEXT, value TEXT)')
+    engine.write("nulls", """SELECT '' AS "null", '' AS variable, '' AS value WHERE 1 = 0""")
     for number, rule in enumerate(rules):
         for column, variable in enumerate(exported_variables(rule)):
             value = f"CASE WHEN m.c{column} LIKE '?%' THEN '?' || m.c{column} ELSE m.c{column} END"
