@@ -26,19 +26,18 @@ class Stars:
     def join(self):
         """Lesser neighbours pass on the least of theirs, until each cell has one lesser neighbour, which has none."""
         make, least = self.engine.make, f"min({self.engine.bytes('v')}) AS v"
-        while True:
+        while not self.are_stars():
             self.steps += 1
             make("least", f"SELECT u, {least} FROM pair GROUP BY u", ["u"])
             make("far", "SELECT DISTINCT p.u, coalesce(l.v, p.v) AS v FROM pair AS p LEFT JOIN least AS l ON l.u = p.v")
             make("least", f"SELECT u, {least} FROM far GROUP BY u", ["u"])
             make("pair", "SELECT u, v FROM least UNION SELECT f.v, l.v FROM far AS f JOIN least AS l ON l.u = f.u WHERE f.v <> l.v",
                  ["u"])
-            if self.are_stars():
-                return
 
     def are_stars(self):
+        """Whether they are; constants needn't be asked for lesser ones, which are a clash in the next round."""
         twice = "SELECT 1 FROM pair GROUP BY u HAVING count(*) > 1 LIMIT 1"
-        onward = "SELECT 1 FROM pair AS p JOIN pair AS q ON q.u = p.v LIMIT 1"
+        onward = "SELECT 1 FROM pair AS q JOIN (SELECT DISTINCT v FROM pair WHERE v >= 'n') AS p ON q.u = p.v LIMIT 1"
         return not self.engine.rows(twice) and not self.engine.rows(onward)
 
 
@@ -63,6 +62,7 @@ class Chase:
         for one in self.determinations:
             if one.right:
                 self.find_groups(one)
+        self.engine.ready("pair")
         return self.engine.number("SELECT count(*) FROM pair") > 0
 
     def find_groups(self, one):

@@ -39,9 +39,9 @@ def make_matches(engine, script, names):
     for rule, (select, rest) in script.matches.items():
         call = lambda found: engine.conversions[found[1]].format(*found[2].split(", "))
         columns = re.findall(r" AS (c[0-9]+)", select)
-        query = f"SELECT DISTINCT {CALL.sub(call, select) if columns else '0 AS c0'} FROM {read_names(rest, names)}"
-        order = ", ".join(engine.source_bytes(column) for column in columns) or "c0"
-        engine.make(f"m{rule}", f"SELECT *, row_number() OVER (ORDER BY {order}) - 1 AS place FROM ({query}) AS d",
+        exported = re.sub(r" AS (?=c[0-9])", f"{engine.by_bytes} AS ", CALL.sub(call, select))
+        query = f"SELECT DISTINCT {exported if columns else '0 AS c0'} FROM {read_names(rest, names)}"
+        engine.make(f"m{rule}", f"SELECT *, row_number() OVER (ORDER BY {', '.join(columns) or 'c0'}) - 1 AS place FROM ({query}) AS d",
                     columns[:1])
     for rule, unless in script.keeps.items():
         engine.make(f"k{rule}", f"SELECT * FROM m{rule} AS m WHERE {unless}")

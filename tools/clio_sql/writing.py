@@ -2,18 +2,18 @@
 from .steps import exported_variables
 
 
-def text(cell):
+def text(engine, cell):
     """A cell as clio writes it."""
     numbers = " || '.' || ".join(f"CAST(substr({cell}, {start}, {length}) AS BIGINT)" for start, length in ((2, 5), (8, 5), (14, 10)))
     constant = f"CASE WHEN {cell} LIKE 'c?%' THEN '?' || substr({cell}, 2) ELSE substr({cell}, 2) END"
-    return f"CASE WHEN {cell} < 'n' THEN {constant} ELSE '?' || {numbers} END"
+    return f"(CASE WHEN {cell} < 'n' THEN {constant} ELSE '?' || {numbers} END){engine.by_language}"
 
 
 def write_targets(engine, targets):
     """The target's tables; answers the rows of each."""
     counts = []
     for target in targets:
-        cells = ", ".join(f'{text(f"c{place}")} AS "{name}"' for place, name in enumerate(target.columns))
+        cells = ", ".join(f'{text(engine, f"c{place}")} AS "{name}"' for place, name in enumerate(target.columns))
         engine.write(target.name, f"SELECT {cells} FROM {target.work}")
         counts.append((target.name, engine.number(f"SELECT count(*) FROM {target.work}")))
     return counts
@@ -21,7 +21,7 @@ def write_targets(engine, targets):
 
 def write_fold(engine):
     """The nulls that keys and dependencies replaced."""
-    engine.write("fold", f'SELECT {text("u")} AS "null", {text("v")} AS value FROM replaced')
+    engine.write("fold", f'SELECT {text(engine, "u")} AS "null", {text(engine, "v")} AS value FROM replaced')
     return engine.number("SELECT count(*) FROM replaced")
 
 
@@ -34,6 +34,6 @@ def write_nulls(engine, targets, rules):
     for number, rule in enumerate(rules):
         for column, variable in enumerate(exported_variables(rule)):
             value = f"CASE WHEN m.c{column} LIKE '?%' THEN '?' || m.c{column} ELSE m.c{column} END"
-            engine.run(f"INSERT INTO target.nulls SELECT {text('s.cell')}, 'x{variable}', {value}"
+            engine.run(f"INSERT INTO target.nulls SELECT {text(engine, 's.cell')}, 'x{variable}', {value}"
                        f" FROM standing AS s JOIN m{number} AS m ON m.place = s.place WHERE s.rule = {number}")
     return engine.number("SELECT count(*) FROM target.nulls")
