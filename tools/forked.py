@@ -10,7 +10,7 @@ import traceback
 import draft.postgres  # noqa: F401  pylint: disable=unused-import
 import draft.sqlite  # noqa: F401  pylint: disable=unused-import
 import sql_bases  # noqa: F401  pylint: disable=unused-import
-from clio_sql import chase, engines, filling, folding, rigid, writing  # noqa: F401  pylint: disable=unused-import
+from clio_sql import chase, engines, filling, folding, rigid, servers, whole, writing  # noqa: F401  pylint: disable=unused-import
 
 TOOLS = pathlib.Path(__file__).resolve().parent
 

@@ -26,19 +26,18 @@ class Stars:
     def join(self):
         """Lesser neighbours pass on the least of theirs, until each cell has one lesser neighbour, which has none."""
         make, least = self.engine.make, f"min({self.engine.bytes('v')}) AS v"
-        while True:
+        while not self.are_stars():
             self.steps += 1
             make("least", f"SELECT u, {least} FROM pair GROUP BY u", ["u"])
             make("far", "SELECT DISTINCT p.u, coalesce(l.v, p.v) AS v FROM pair AS p LEFT JOIN least AS l ON l.u = p.v")
             make("least", f"SELECT u, {least} FROM far GROUP BY u", ["u"])
             make("pair", "SELECT u, v FROM least UNION SELECT f.v, l.v FROM far AS f JOIN least AS l ON l.u = f.u WHERE f.v <> l.v",
                  ["u"])
-            if self.are_stars():
-                return
 
     def are_stars(self):
+        """Whether they are; constants needn't be asked for lesser ones, which are a clash in the next round."""
         twice = "SELECT 1 FROM pair GROUP BY u HAVING count(*) > 1 LIMIT 1"
-        onward = "SELECT 1 FROM pair AS p JOIN pair AS q ON q.u = p.v LIMIT 1"
+        onward = "SELECT 1 FROM pair AS q JOIN (SELECT DISTINCT v FROM pair WHERE v >= 'n') AS p ON q.u = p.v LIMIT 1"
         return not self.engine.rows(twice) and not self.engine.rows(onward)
 
 
@@ -63,6 +62,7 @@ class Chase:
         for one in self.determinations:
             if one.right:
                 self.find_groups(one)
+        self.engine.ready("pair")
         return self.engine.number("SELECT count(*) FROM pair") > 0
 
     def find_groups(self, one):
@@ -98,8 +98,7 @@ class Chase:
         self.engine.make("gone", "SELECT u, v FROM pair WHERE u >= 'n'", ["u"])
         self.engine.make("before", "SELECT r.u, coalesce(g.v, r.v) AS v FROM replaced AS r LEFT JOIN gone AS g ON g.u = r.v"
                                    " UNION ALL SELECT u, v FROM gone")
-        self.engine.run("DROP TABLE replaced")
-        self.engine.run("ALTER TABLE before RENAME TO replaced")
+        self.engine.rename("before", "replaced")
         for target in self.targets:
             if target.open:
                 self.replace_in(target)
@@ -108,6 +107,5 @@ class Chase:
         """A table with its replaced nulls, each row once."""
         cells = [f"coalesce(g{place}.v, t.c{place}) AS c{place}" if place in target.open else f"t.c{place}" for place in range(len(target.columns))]
         joins = "".join(f" LEFT JOIN gone AS g{place} ON g{place}.u = t.c{place}" for place in target.open)
-        self.engine.make("other", f"SELECT DISTINCT {', '.join(cells)} FROM {target.work} AS t{joins}")
-        self.engine.run(f"DROP TABLE {target.work}")
-        self.engine.run(f"ALTER TABLE other RENAME TO {target.work}")
+        self.engine.make("other", f"SELECT DISTINCT {', '.join(cells)} FROM {target.work} AS t{joins}", by=target.by)
+        self.engine.rename("other", target.work)

@@ -1,6 +1,7 @@
 """Database engines: how each is spoken to, and the few words in which their SQL differs."""
 import csv
 import io
+import os
 import sqlite3
 import subprocess
 
@@ -11,6 +12,8 @@ class EngineError(Exception):
 
 class Engine:
     """What all engines have in common. Work tables have plain names; `source` and `target` are schemas."""
+    table = "TABLE"  # what a work table is made as
+    by_bytes = by_language = ""  # what has texts compared by their bytes, and as the engine likes it
 
     def column(self, sql):
         """The first column of the rows of a query, as texts."""
@@ -19,13 +22,26 @@ class Engine:
     def number(self, sql):
         return int(self.column(sql)[0])
 
-    def make(self, table, query, index=()):
-        """Makes a work table anew."""
+    def make(self, table, query, index=(), by=()):
+        """Makes a work table anew; it is joined by the columns of `index`, and its rows are told apart by those of `by`."""
         self.run(f"DROP TABLE IF EXISTS {table}")
-        self.run(f"CREATE TABLE {table} AS {query}")
+        self.run(f"CREATE {self.table} {table} AS {query}")
         if index:
             self.index(table, index)
         self.ready(table)
+
+    def rename(self, table, name):
+        """Puts a work table in the place of another."""
+        self.run(f"DROP TABLE {name}")
+        self.run(f"ALTER TABLE {table} RENAME TO {name}")
+
+    def close(self):
+        """Drops what only the tool needs."""
+
+    def write(self, name, query):
+        """Makes a table of the target anew."""
+        self.run(f'DROP TABLE IF EXISTS target."{name}"')
+        self.run(f'CREATE TABLE target."{name}" AS {query}')
 
     def index(self, table, columns):
         """Makes an index for joins by these columns, if the engine needs one."""
@@ -33,9 +49,13 @@ class Engine:
     def ready(self, table):
         """Tells the engine that a table has its rows."""
 
+    def bytes(self, expression):
+        """A text of a work table that is compared by its bytes."""
+        return expression + self.by_bytes
+
     def null(self, rule, variable, place):
         """A null as the chase holds it: an `n`, and numbers of one length, so that nulls are ordered as bytes."""
-        return f"'n{rule:05}.{variable:05}.' || {self.padded(place)}"
+        return f"('n{rule:05}.{variable:05}.' || {self.padded(place)}){self.by_bytes}"
 
 
 class Sqlite(Engine):
@@ -63,9 +83,6 @@ class Sqlite(Engine):
     def index(self, table, columns):
         self.run(f"CREATE INDEX {table}_by ON {table} ({', '.join(columns)})")
 
-    def bytes(self, expression):
-        return expression
-
     def least(self, cells):
         """The least of some cells that isn't NULL."""
         return f"(SELECT min(column1) FROM (VALUES {', '.join(f'({cell})' for cell in cells)}))"
@@ -80,13 +97,21 @@ class Sqlite(Engine):
 class Postgres(Engine):
     """PostgreSQL, by a `psql` that runs as long as the tool does. It joins by hashing, and its indexes hold no long texts, so it gets none."""
     MARK = "-- clio-sql: done --"
+    table = "UNLOGGED TABLE"
+    by_bytes, by_language = ' COLLATE "C"', ' COLLATE "default"'
 
     def __init__(self, connection):
-        words = ["psql", "-X", "-q", "--csv", "-t", "-v", "ON_ERROR_STOP=1", *([connection] if connection else [])]
-        self.psql = subprocess.Popen(words, stdin=subprocess.PIPE, stdout=subprocess.PIPE, stderr=subprocess.PIPE)
+        self.connection = connection
+        self.start(connection)
         self.run("SET client_min_messages = warning; SET client_encoding = 'UTF8'; SET standard_conforming_strings = on;"
                  "DROP SCHEMA IF EXISTS clio CASCADE; CREATE SCHEMA clio; CREATE SCHEMA IF NOT EXISTS target;"
                  "SET search_path = clio")
+
+    def start(self, connection, password=None):
+        """Starts psql."""
+        words = ["psql", "-X", "-q", "--csv", "-t", "-v", "ON_ERROR_STOP=1", *([connection] if connection else [])]
+        surroundings = {**os.environ, "PGPASSWORD": password} if password else None
+        self.psql = subprocess.Popen(words, stdin=subprocess.PIPE, stdout=subprocess.PIPE, stderr=subprocess.PIPE, env=surroundings)
 
     def asked(self, sql):
         """What psql prints for a statement."""
@@ -110,9 +135,6 @@ class Postgres(Engine):
 
     def ready(self, table):
         self.run(f"ANALYZE {table}")
-
-    def bytes(self, expression):
-        return f'{expression} COLLATE "C"'
 
     def least(self, cells):
         return f"LEAST({', '.join(cells)})"

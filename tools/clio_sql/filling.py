@@ -7,11 +7,13 @@ CALL = re.compile(r"\"(trim|digits|pair)\"\(([^()]*)\)")
 
 
 class Target:
-    """A target table as it is worked on: its number, its columns, and which of these may hold nulls."""
+    """A target table as it is worked on: its number, its columns, which of these may hold nulls, and those that tell rows apart first."""
 
-    def __init__(self, number, name, columns, inserts):
-        self.work, self.name, self.columns = f"t{number}", name, columns
+    def __init__(self, number, table, columns, inserts):
+        self.work, self.name, self.columns = f"t{number}", table.name, columns
         self.inserts = inserts
+        lefts = [*table.keys, *(left for left, _ in table.dependencies), columns]
+        self.by = [f"c{columns.index(name)}" for name in lefts[0]]
         self.open = [place for place in range(len(columns)) if any(insert.outs[place].startswith("SKOLEM") for insert in inserts)]
 
 
@@ -37,9 +39,9 @@ def make_matches(engine, script, names):
     for rule, (select, rest) in script.matches.items():
         call = lambda found: engine.conversions[found[1]].format(*found[2].split(", "))
         columns = re.findall(r" AS (c[0-9]+)", select)
-        query = f"SELECT DISTINCT {CALL.sub(call, select) if columns else '0 AS c0'} FROM {read_names(rest, names)}"
-        order = ", ".join(engine.bytes(column) for column in columns) or "c0"
-        engine.make(f"m{rule}", f"SELECT *, row_number() OVER (ORDER BY {order}) - 1 AS place FROM ({query}) AS d",
+        exported = re.sub(r" AS (?=c[0-9])", f"{engine.by_bytes} AS ", CALL.sub(call, select))
+        query = f"SELECT DISTINCT {exported if columns else '0 AS c0'} FROM {read_names(rest, names)}"
+        engine.make(f"m{rule}", f"SELECT *, row_number() OVER (ORDER BY {', '.join(columns) or 'c0'}) - 1 AS place FROM ({query}) AS d",
                     columns[:1])
     for rule, unless in script.keeps.items():
         engine.make(f"k{rule}", f"SELECT * FROM m{rule} AS m WHERE {unless}")
@@ -53,14 +55,14 @@ def cell(engine, out):
     return f"'c' || {out}"
 
 
-def make_targets(engine, script):
+def make_targets(engine, script, tables):
     """The target's tables as the rules make them."""
     targets = []
-    for number, (name, columns) in enumerate(script.tables.items()):
-        target = Target(number, name, columns, [insert for insert in script.inserts if insert.table == name])
+    for number, (table, columns) in enumerate(zip(tables, script.tables.values())):
+        target = Target(number, table, columns, [insert for insert in script.inserts if insert.table == table.name])
         parts = [", ".join(f"{cell(engine, out)} AS c{place}" for place, out in enumerate(insert.outs)) for insert in target.inserts]
         queries = [f"SELECT {part} FROM {insert.matches} AS m" for part, insert in zip(parts, target.inserts)]
         none = "SELECT " + ", ".join(f"'c' AS c{place}" for place in range(len(columns))) + " WHERE 1 = 0"
-        engine.make(target.work, " UNION ".join(queries) if len(queries) > 1 else "SELECT DISTINCT" + (queries or [none])[0][6:])
+        engine.make(target.work, " UNION ".join(queries) if len(queries) > 1 else "SELECT DISTINCT" + (queries or [none])[0][6:], by=target.by)
         targets.append(target)
     return targets

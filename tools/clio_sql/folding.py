@@ -63,8 +63,7 @@ class CoverFold:
     def follow(self, table, query):
         """Makes a table anew of what it has."""
         self.engine.make("before", query)
-        self.engine.run(f"DROP TABLE {table}")
-        self.engine.run(f"ALTER TABLE before RENAME TO {table}")
+        self.engine.rename("before", table)
 
     def cover(self, number, variables):
         """The nulls of the covered matches of a rule, each with the value that it became."""

@@ -27,6 +27,13 @@ p { margin: .4rem 0; }
 a { color: inherit; }
 summary { cursor: pointer; }
 nav a { margin-right: 1rem; }
+@media (max-width: 40rem) {
+  body { margin: 1rem auto; padding: 0 .6rem; }
+  table { font-size: .74rem; line-height: 1.35; }
+  th, td { padding: .12rem .22rem; }
+  td.name, td.brief { white-space: normal; overflow-wrap: anywhere; min-width: 3.4rem; }
+  td code { min-width: 7rem; overflow-wrap: anywhere; }
+}
 """
 
 

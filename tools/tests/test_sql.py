@@ -11,6 +11,8 @@ from trial import PROGRAM, TOOLS, Trial
 
 sys.path.insert(0, str(TOOLS / "second_reading"))
 from chase import Chase
+from clio_sql.engines import EngineError
+from clio_sql.servers import Place
 from covers import Covers, CoveredPlaces
 from files import moved, nulls_text, rows_of
 from homomorphisms import is_core
@@ -130,6 +132,25 @@ class Wide(Trial):
     def test_two_rules(self):
         self.wide("p", "q")
         self.refused("clio-sql", "sqlite", "--core", "source.db", "target.db", why="takes too many steps to find out for these rules")
+
+
+class Words(Trial):
+    def test_what_is_no_call_is_refused(self):
+        self.refused("clio-sql", why="required: engine")
+        self.refused("clio-sql", "sqlite", "source.db", why="required: TARGET.db")
+        self.refused("clio-sql", "sqlite", "source.db", "target.db", why="source.db is not there")
+        self.refused("clio-sql", "postgres", "--source", why="--source asks for --servers")
+        self.refused("clio-sql", "postgres", "--servers", "servers.txt", why="servers.txt")
+
+    def test_a_server_is_told_by_how_it_is_reached(self):
+        one, other = Place("host=a dbname=x user=u"), Place("host=b dbname=x user=u")
+        again = Place(" dbname = x  host='a' user=v password='it\\'s \\\\ old' ")
+        self.assertEqual((one.sign == again.sign, one.sign == other.sign), (True, False))
+        self.assertEqual(again.user, {"user": "v", "password": "it's \\ old"})
+        self.assertEqual(again.connection(), "dbname='x' host='a' user='v'")
+        self.assertIn("OPTIONS (user 'v', password 'it''s \\ old')", [*again.made_known()][-1])
+        for line in "host", "host='a", "host=a b", "HOST=a":
+            self.assertRaises(EngineError, Place, line)
 
 
 if __name__ == "__main__":
