@@ -81,7 +81,7 @@ answers_planned P c words w h k few =
     let a : Answers = record { exchange = e; rows = list.0 } in
     let asked_for : query_stages.passes c h.mapping (h.mapping, q) = (q, (k.text, (k.held, k.few), (q, k.said, (k.atoms, refl))), refl) in
     let passed : (answers P).passes c (tt {0}) ((h.mapping, q), a) =
-        (h.mapping, (h.text, (h.held, h.few), h.accepted), ((h.mapping, q), asked_for, (((h.mapping, q), h.rows), (h.rows, h.source, refl), (((h.mapping, q), e), (e, x.1, refl), (a, (refl, list.1, few list.0 certain), refl))))) in
+    (h.mapping, (h.text, (h.held, h.few), h.accepted), ((h.mapping, q), asked_for, (((h.mapping, q), h.rows), (h.rows, h.source, refl), (((h.mapping, q), e), (e, x.1, refl), (a, (refl, list.1, few list.0 certain), refl))))) in
     (a, (_, (Answering, ap or_usage w, (((h.mapping, q), a), passed, refl)), refl))
 
 pub answers_clash : NoAnswerIsAClash
@@ -90,7 +90,7 @@ answers_clash P c words w h k =
     let q = k.query in
     let asked_for : query_stages.passes c h.mapping (h.mapping, q) = (q, (k.text, (k.held, k.few), (q, k.said, (k.atoms, refl))), refl) in
     let refused : (answers P).refuses c (tt {0}) (named_clash h.mapping.target x.0) =
-        inr (h.mapping, (h.text, (h.held, h.few), h.accepted), inr ((h.mapping, q), asked_for, inr (((h.mapping, q), h.rows), (h.rows, h.source, refl), inl (exchange_faults.Clash x.0, x.1, refl)))) in
+    inr (h.mapping, (h.text, (h.held, h.few), h.accepted), inr ((h.mapping, q), asked_for, inr (((h.mapping, q), h.rows), (h.rows, h.source, refl), inl (exchange_faults.Clash x.0, x.1, refl)))) in
     (x.0, _, _, _, inr (Answering, ap or_usage w, refused))
 
 -- if nothing is at fault, there is a plan
