@@ -1,7 +1,7 @@
 -- What clio must write of this folder, worked out in SQL: `examples/work-out examples/blog` runs it on SQLite.
 --
 -- Persons, articles and topics come together from several rules, by keys. So each rule says what it knows about
--- an object and a column, and where it knows nothing it has a null of its own, as docs/MANUAL.md names them. Then the
+-- an object and a column, and where it knows nothing it has a null of its own, as docs/manual/output.md names them. Then the
 -- value of a column is the text that some rule has for it, or else the least of the nulls.
 
 -- The matches of each rule, by their places: the different texts of its variables, in the order of their bytes.
