@@ -95,18 +95,22 @@ fn ending(
     ending_by(alloc, word, reads, outputs, &host)
 }
 
-/// How it ended and what it left in the outputs, where these calls of the inputs fail.
+/// The status of an ending, and its message if there is memory.
+fn told_of(alloc: Global, ending: Ending) -> (u8, Result<Text, AllocError>) {
+    (ending.status(), message(alloc, &ending))
+}
+
+/// How it ended and what it left in the outputs, if these calls of the inputs fail.
 fn outcome_of(
     alloc: Global,
     word: &str,
     reads: Vec<u64>,
     mut outputs: MemOutputs,
 ) -> Result<Outcome, AllocError> {
-    let ending = ending(alloc, word, reads, &mut outputs)?;
-    let message = message(alloc, &ending)?;
+    let (status, message) = told_of(alloc, ending(alloc, word, reads, &mut outputs)?);
     Ok(Outcome {
-        status: ending.status(),
-        message,
+        status,
+        message: message?,
         outputs,
     })
 }
