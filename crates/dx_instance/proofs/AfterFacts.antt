@@ -1,9 +1,10 @@
 -- Null maps by what they give.
-use Rattle.std.proofs.Common.{◌≡◌, ◌∙◌, ◌++◌, ◌∷◌, ℕ, subst, List, [], true, Some, None, cond, refl, sym, ap, map, inl, inr}
+use Rattle.std.proofs.Common.{◌≡◌, ◌∙◌, ◌++◌, ◌∷◌, ℕ, subst, List, [], true, Some, None, cond, refl, sym, ap, map, inl, inr, length}
 use Rattle.std.specs.Ordering.{is_eq}
 use Rattle.std.specs.declared.cmp.Ordering.{Ordering}
 use Rattle.std.specs.declared.cmp.Ordering.TheVariants.{Less, Equal, Greater}
 use Rattle.std.proofs.lemmas.Bool.{cases_Bool}
+use Rattle.std.proofs.lemmas.List.{nil_from_length}
 use Rattle.std.specs.FinMap as finite
 use Rattle.std.specs.FinMap.Entries.{find}
 use Rattle.dx_model.specs.declared.values.NullId.{NullId}
@@ -17,10 +18,10 @@ use Rattle.dx_model.proofs.Maps.{same_null-refl, same_null-true}
 use Rattle.dx_model.proofs.Orders.{null_total, null_exact}
 use Rattle.dx_ports.specs.Members.{◌∈◌, ◌⊆◌, ◌≈◌}
 use Rattle.dx_ports.proofs.Members.{in_map, from_map}
-use Rattle.dx_instance.specs.NullMaps.{ByNull, becomes, given_over, is_itself, IsAfter, or_itself, pair_after, pairs_of, with_value}
+use Rattle.dx_instance.specs.NullMaps.{ByNull, becomes, entries_in, is_itself, IsAfter, map_of, or_itself, pair_after, pairs_of, with_value}
 use Rattle.dx_instance.specs.Stored.{TableRows, facts, rows_of}
 use Rattle.dx_instance.proofs.StoredFacts.{fact_from_row, row_from_fact}
-use Rattle.dx_instance.proofs.NullFacts.{pair_of}
+use Rattle.dx_instance.proofs.NullFacts.{as_pairs, pair_of}
 
 pub tie : (o : Ordering) → is_eq o ≡ true → o ≡ Equal
 tie Less e = absurd (cc e)
@@ -83,42 +84,25 @@ becomes_set m k v n = elim (cases_Bool (is_itself k v)) [
       ]
 ]
 
-over_more : (xs : List NullPair) (p : NullPair) (g h : NullId → Value) → ((n : NullId) → h n ≡ cond (same_null p.null n) p.value (g n)) → (n : NullId) → given_over xs h n ≡ given_over (xs ++ p ∷ []) g n
-over_more [] p g h e n = e n
-over_more (x ∷ xs) p g h e n = ap (λ (v : Value). cond (same_null x.null n) x.value v) (over_more xs p g h e n)
-
--- one pair more was set
-pub set_more : (xs all : List NullPair) (p : NullPair) (old m new : ByNull) → new ≡ with_value m p.null p.value → ((n : NullId) → given_over (xs ++ p ∷ []) (becomes m) n ≡ given_over all (becomes old) n) → (n : NullId) → given_over xs (becomes new) n ≡ given_over all (becomes old) n
-set_more xs all p old m new e i n = over_more xs p (becomes m) (becomes new) (λ k. ap (λ (l : ByNull). becomes l k) e ∙ becomes_set m p.null p.value k) n ∙ i n
-
-over_given : (ps : List NullPair) (n : NullId) → given_over ps (λ k. Null k) n ≡ given ps n
-over_given [] n = refl
-over_given (p ∷ ps) n = ap (λ (v : Value). cond (same_null p.null n) p.value v) (over_given ps n)
-
-over_same : (ps : List NullPair) (g h : NullId → Value) → ((n : NullId) → g n ≡ h n) → (n : NullId) → given_over ps g n ≡ given_over ps h n
-over_same [] g h e n = e n
-over_same (p ∷ ps) g h e n = ap (λ (v : Value). cond (same_null p.null n) p.value v) (over_same ps g h e n)
-
-over_images : (b : ByNull) (ps : List NullPair) (n : NullId) → given_over (map (pair_after b) ps) (becomes b) n ≡ moved (becomes b) (given ps n)
-over_images b [] n = refl
-over_images b (p ∷ ps) n = elim (cases_Bool (same_null p.null n)) [ inl y ↦ rw y refl | inr f ↦ rw f (over_images b ps n) ]
-
 moved_same : (m : ByNull) (v : Value) → moved (given (pairs_of m)) v ≡ moved (becomes m) v
 moved_same m (Const t) = refl
 moved_same m (Null n) = pairs_give m n
 
--- what the pairs of b and then the images of those of a come to
-pub after_is : (a b c d : ByNull) (ps qs : List NullPair) → ps ≡ pairs_of b → qs ≡ map (pair_after b) (pairs_of a) → ((n : NullId) → becomes c n ≡ given_over ps (becomes finite.empty) n)
-    → ((n : NullId) → becomes d n ≡ given_over qs (becomes c) n) → IsAfter a b d
-after_is a b c d ps qs e f g h n =
-    let first : (k : NullId) → becomes c k ≡ becomes b k = λ k. g k ∙ ap (λ (l : List NullPair). given_over l (becomes finite.empty) k) e ∙ over_same (pairs_of b) (becomes finite.empty) (λ j. Null j) (λ j. empty_stays j) k ∙ over_given (pairs_of b) k ∙ pairs_give b k in
-    pairs_give d n ∙ h n ∙ ap (λ (l : List NullPair). given_over l (becomes c) n) f ∙ over_same (map (pair_after b) (pairs_of a)) (becomes c) (becomes b) first n ∙ over_images b (pairs_of a) n ∙ sym (moved_same b (given (pairs_of a) n))
-  where
-    nothing : ByNull
-    nothing = finite.empty
+over_images : (b : ByNull) (ps : List NullPair) (n : NullId) → given (map (pair_after b) ps ++ pairs_of b) n ≡ moved (becomes b) (given ps n)
+over_images b [] n = pairs_give b n
+over_images b (p ∷ ps) n = elim (cases_Bool (same_null p.null n)) [ inl y ↦ rw y refl | inr f ↦ rw f (over_images b ps n) ]
 
-    empty_stays : (j : NullId) → becomes nothing j ≡ Null j
-    empty_stays j = ap (or_itself j) (finite.get-empty null_cmp j)
+-- what the images of the pairs of a and those of b come to
+pub after_is : (a b : ByNull) (images others ps : List NullPair) → images ≡ map (pair_after b) (pairs_of a) → others ≡ pairs_of b → ((n : NullId) → given ps n ≡ given (images ++ others) n) → IsAfter a b (map_of (entries_in ps))
+after_is a b images others ps e f g n =
+    pairs_give (map_of (entries_in ps)) n ∙ ap (or_itself n) (finite.get-from_entries null_total (entries_in ps) n) ∙ sym (given_find (entries_in ps) n) ∙ ap (λ (l : List NullPair). given l n) (as_pairs ps) ∙ g n
+    ∙ (rw (e, f) (over_images b (pairs_of a) n)) ∙ sym (moved_same b (given (pairs_of a) n))
+
+pub after_stored : (a b : ByNull) (listed images others ps : List NullPair) (tree : List (NullId × Value)) → listed ≡ pairs_of a → images ≡ map (pair_after b) listed → others ≡ pairs_of b → ((n : NullId) → given ps n ≡ given (images ++ others) n)
+    → length tree ≡ 0 → IsAfter a b (map_of (tree ++ entries_in ps))
+after_stored a b listed images others ps tree l e f g z =
+    let none = nil_from_length tree z in
+    rw none (after_is a b images others ps (e ∙ ap (λ (x : List NullPair). map (pair_after b) x) l) f g)
 
 row_moved : (m : ByNull) (row : List Value) → map (moved (given (pairs_of m))) row ≡ map (moved (becomes m)) row
 row_moved m [] = refl

@@ -1,6 +1,8 @@
 pub mod Equal
 pub mod RowSets
 pub mod NullFacts
+pub mod MergeFacts
+pub mod StoreFacts
 pub mod StoredFacts
 pub mod TextFacts
 pub mod NumberFacts

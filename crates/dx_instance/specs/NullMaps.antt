@@ -1,14 +1,15 @@
 -- Null maps as finite maps.
-use Rattle.std.specs.Prelude.{◌≡◌, ℕ, List, map, refl, Bool, false, if◌then◌else◌, cond, [], ◌∷◌, Option, Some, None}
+use Rattle.std.specs.Prelude.{◌≡◌, ℕ, List, map, refl, Bool, false, if◌then◌else◌, [], ◌∷◌, ◌++◌, ◌<◌, length, Option, Some, None, ◌⊎◌}
+use Rattle.std.specs.declared.cmp.Ordering.TheVariants.{Less}
 use Rattle.dx_model.specs.declared.values.Value.TheVariants.{Const, Null}
 use Rattle.dx_model.specs.Instances.{given, moved, same_null}
-use Rattle.dx_ports.specs.Members.{Each}
+use Rattle.dx_ports.specs.Members.{Each, ◌∈◌, ◌⊆◌}
 use Rattle.std.specs.FinMap as finite
 use Rattle.std.specs.Coded.{Coded, code_by, coded×, coded_ℕ}
 use Rattle.dx_model.specs.declared.values.NullId.{NullId}
 use Rattle.dx_model.specs.declared.values.Value.{Value}
 use Rattle.dx_model.specs.declared.facts.NullPair.{NullPair}
-use Rattle.dx_model.specs.Values.{null_cmp}
+use Rattle.dx_model.specs.Values.{Ascends, null_cmp}
 
 -- a null is stored as three numbers
 abbrev pub coded_null : Coded NullId
@@ -48,11 +49,42 @@ becomes m n = or_itself n (finite.get m n)
 abbrev pub IsAfter : ByNull → ByNull → ByNull → Type 0
 IsAfter a b c = (n : NullId) → given (pairs_of c) n ≡ moved (given (pairs_of b)) (given (pairs_of a) n)
 
--- what the first pair with a null gives it, and what g gives if there is none
-abbrev pub given_over : List NullPair → (NullId → Value) → NullId → Value
-given_over [] g n = g n
-given_over (p ∷ ps) g n = cond (same_null p.null n) p.value (given_over ps g n)
-
 -- a pair with the image of its value
 abbrev pub pair_after : ByNull → NullPair → NullPair
 pair_after m p = record { null = p.null; value = moved (becomes m) p.value }
+
+-- pairs as entries
+abbrev pub entries_in : List NullPair → List (NullId × Value)
+entries_in ps = map (λ (p : NullPair). (p.null, p.value)) ps
+
+-- the null of each pair is below those of all that follow
+abbrev pub PairsAscend : List NullPair → Type 0
+PairsAscend = Ascends (λ p q. null_cmp p.null q.null ≡ Less)
+
+-- no pair gives its null the null itself
+abbrev pub NoPairIsItself : List NullPair → Type 0
+NoPairIsItself ps = Each ps (λ (p : NullPair). ¬ (p.value ≡ Null p.null))
+
+-- what holds of ascending pairs and of a tree, one of which has all that a null map lists
+pub record AreStored (pairs : List NullPair) (tree : List (NullId × Value)) : Type 0 where
+  pub ascend : PairsAscend pairs
+  pub proper : NoPairIsItself pairs
+  pub others : NoneIsItself tree
+  pub one : (tree ≡ []) ⊎ (pairs ≡ [])
+
+-- the finite map of entries: the first with a null counts
+abbrev pub map_of : List (NullId × Value) → ByNull
+map_of es = finite.from_entries es
+
+-- the pairs with a null and its value at their end, unless it gets itself
+abbrev pub with_proper : List NullPair → NullId → Value → List NullPair
+with_proper ps n v = if is_itself n v then ps else ps ++ record { null = n; value = v } ∷ []
+
+-- the pair that comes next of two ascending lists, and what is left of both
+pub record IsTurn (first second : List NullPair) (pair : NullPair) (rest others : List NullPair) : Type 0 where
+  pub fewer : length (rest ++ others) < length (first ++ second)
+  pub ascend : PairsAscend rest × PairsAscend others
+  pub kept : (rest ++ others) ⊆ (first ++ second)
+  pub is : pair ∈ (first ++ second)
+  pub below : Each (rest ++ others) (λ (p : NullPair). null_cmp pair.null p.null ≡ Less)
+  pub gives : (n : NullId) → given (first ++ second) n ≡ given (pair ∷ rest ++ others) n

@@ -26,6 +26,7 @@ mod instance;
 mod laws;
 mod layer;
 mod null_map;
+mod null_merge;
 mod numbers;
 mod ordering;
 mod packing;

@@ -3,45 +3,83 @@ ghost use Rattle.std.specs.Prelude.{◌≡◌, IfOk, OnOk, OnErr, map};
 ghost use Rattle.std.specs.FinMap as finite;
 ghost use Rattle.std.specs.Option.{option_copied};
 ghost use Rattle.dx_model.specs.Instances.{IsNullMap, moved};
-ghost use Rattle.dx_instance.specs.NullMaps.{IsAfter, becomes, given_over, is_itself, pair_after, pairs_of, with_value};
-ghost use Rattle.dx_model.specs.declared.values.NullId.{NullId as Id};
+ghost use Rattle.dx_instance.specs.NullMaps.{IsAfter, NoPairIsItself, NoneIsItself, becomes, entries_in, map_of, pair_after, pairs_of, with_value};
 
+use crate::null_merge::{is_above, is_same, merged, pair_copies, push_proper, value_among};
 use dx_model::{NullId, NullPair, Value, copy_value};
 use std::alloc::{AllocError, Global};
 use std::collections::BTreeMap;
 use std::marker::Model;
 
-/// What nulls become, by null. A null that is not listed stays.
+/// What nulls become, by null. A null that is not listed stays. As long as nulls are set in ascending order, they stand in an
+/// ascending list, and then all in a tree.
 #[derive(Drop)]
 pub struct NullMap {
     alloc: Global,
-    values: BTreeMap<NullId, Value>,
+    pairs: Vec<NullPair>,
+    tree: BTreeMap<NullId, Value>,
 }
 
 impl Model for NullMap {
     ghost use Rattle.std.specs.FinMap as finite;
+    ghost use Rattle.std.specs.Prelude.{◌++◌};
     ghost use Rattle.dx_model.specs.contracts.values.Value as value;
-    ghost use Rattle.dx_instance.specs.NullMaps.{ByNull, NoneIsItself, coded_null};
+    ghost use Rattle.dx_instance.specs.NullMaps.{AreStored, ByNull, coded_null, entries_in, map_of};
 
     ghost Value = { ByNull };
 
     ghost coded = { finite.code coded_null value.the_row.coded };
 
-    ghost view = { λ m. finite.from_entries m.values.entries };
+    ghost view = { λ m. map_of (m.tree.entries ++ entries_in m.pairs.items) };
 
-    ghost invariant = { λ m. NoneIsItself m.values.entries };
+    ghost invariant = { λ m. AreStored m.pairs.items m.tree.entries };
 }
 
-// Whether the value is the null itself.
-fn is_same(null: NullId, value: &Value) -> bool
-    ensures { result ≡ is_itself null value.now }
+// Gives a null a value in a tree. A null that gets itself is taken out.
+fn put(tree: &mut BTreeMap<NullId, Value>, null: NullId, value: Value) -> Result<(), AllocError>
+    requires { NoneIsItself tree.old.entries }
+    ensures ok { OnOk result (map_of tree.new.entries ≡ with_value (map_of tree.old.entries) null value) }
+    ensures err { OnErr result (tree.new.entries ≡ tree.old.entries) }
+    ensures proper { NoneIsItself tree.new.entries }
 {
-    match value {
-        Value::Null(other) => other.rule == null.rule
-            && other.var == null.var
-            && other.row == null.row,
-        Value::Const(_) => false,
+    if is_same(null, &value) {
+        let _ = tree.remove(&null);
+        return Ok(());
     }
+    tree.insert(null, value)?;
+    Ok(())
+}
+
+// A tree of pairs.
+fn tree_of(alloc: Global, pairs: &[NullPair]) -> Result<BTreeMap<NullId, Value>, AllocError>
+    requires { NoPairIsItself pairs.now }
+    ensures same { IfOk result (λ t. map_of t.entries ≡ map_of (entries_in pairs.now)) }
+    ensures proper { IfOk result (λ t. NoneIsItself t.entries) }
+{
+    let mut tree = BTreeMap::new(alloc);
+    let mut left = pairs.len();
+    while left > 0 {
+        left -= 1;
+        let pair = &pairs[left];
+        put(&mut tree, pair.null, copy_value(&pair.value)?)?;
+    }
+    Ok(tree)
+}
+
+// The pairs in a tree, ascending by null.
+fn pairs_in(alloc: Global, tree: &BTreeMap<NullId, Value>) -> Result<Vec<NullPair>, AllocError>
+    requires { NoneIsItself tree.now.entries }
+    ensures pairs { IfOk result (λ pairs. pairs.items ≡ pairs_of (map_of tree.now.entries)) }
+    ensures null_map { IsNullMap (pairs_of (map_of tree.now.entries)) }
+{
+    let mut pairs = Vec::with_capacity(alloc, tree.len())?;
+    for (null, value) in tree {
+        pairs.push(NullPair {
+            null: *null,
+            value: copy_value(value)?,
+        })?;
+    }
+    Ok(pairs)
 }
 
 impl NullMap {
@@ -51,7 +89,8 @@ impl NullMap {
     {
         NullMap {
             alloc,
-            values: BTreeMap::new(alloc),
+            pairs: Vec::new(alloc),
+            tree: BTreeMap::new(alloc),
         }
     }
 
@@ -59,7 +98,10 @@ impl NullMap {
     pub fn get(&self, null: &NullId) -> Option<&Value>
         ensures { option_copied result ≡ finite.get self.now null.now }
     {
-        self.values.get(null)
+        if self.tree.is_empty() {
+            return value_among(&self.pairs, null);
+        }
+        self.tree.get(null)
     }
 
     /// Gives the null a value, in place of the one that it had. A null that gets itself is taken off the list.
@@ -71,11 +113,16 @@ impl NullMap {
         ensures ok { OnOk result (self.new ≡ with_value self.old null value) }
         ensures err { OnErr result (self.new ≡ self.old) }
     {
-        if is_same(null, &value) {
-            let _ = self.values.remove(&null);
-            return Ok(());
+        if !self.tree.is_empty() {
+            return put(&mut self.tree, null, value);
         }
-        self.values.insert(null, value)?;
+        if is_above(&self.pairs, &null) {
+            return push_proper(&mut self.pairs, null, value);
+        }
+        let mut tree = tree_of(self.alloc, &self.pairs)?;
+        put(&mut tree, null, value)?;
+        self.tree = tree;
+        self.pairs = Vec::new(self.alloc);
         Ok(())
     }
 
@@ -92,22 +139,11 @@ impl NullMap {
         }
     }
 
-    // Gives each null of the pairs its value. Of two pairs with one null the first counts.
-    fn set_each(&mut self, pairs: Vec<NullPair>) -> Result<(), AllocError>
-        ensures { OnOk result ((n : Id) → becomes self.new n ≡ given_over pairs.items (becomes self.old) n) }
-    {
-        let mut left = pairs;
-        while let Some(pair) = left.pop() {
-            self.set(pair.null, pair.value)?;
-        }
-        Ok(())
-    }
-
     // The pairs with the images of their values.
     fn images(&self, pairs: Vec<NullPair>) -> Result<Vec<NullPair>, AllocError>
         ensures { IfOk result (λ all. all.items ≡ map (pair_after self.now) pairs.items) }
     {
-        let mut all = Vec::new(self.alloc);
+        let mut all = Vec::with_capacity(self.alloc, pairs.len())?;
         for pair in pairs {
             all.push(NullPair {
                 null: pair.null,
@@ -125,10 +161,13 @@ impl NullMap {
     pub fn after(&self, first: &NullMap) -> Result<NullMap, AllocError>
         ensures { IfOk result (IsAfter first.now self.now) }
     {
-        let mut all = NullMap::new(self.alloc);
-        all.set_each(self.pairs()?)?;
-        all.set_each(self.images(first.pairs()?)?)?;
-        Ok(all)
+        let images = self.images(first.pairs()?)?;
+        let pairs = merged(self.alloc, &images, &self.pairs()?)?;
+        Ok(NullMap {
+            alloc: self.alloc,
+            pairs,
+            tree: BTreeMap::new(self.alloc),
+        })
     }
 
     /// The nulls that are listed, each with what it becomes, ascending by null.
@@ -140,13 +179,9 @@ impl NullMap {
         ensures pairs { IfOk result (λ pairs. pairs.items ≡ pairs_of self.now) }
         ensures null_map { IsNullMap (pairs_of self.now) }
     {
-        let mut pairs = Vec::new(self.alloc);
-        for (null, value) in &self.values {
-            pairs.push(NullPair {
-                null: *null,
-                value: copy_value(value)?,
-            })?;
+        if self.tree.is_empty() {
+            return pair_copies(self.alloc, &self.pairs);
         }
-        Ok(pairs)
+        pairs_in(self.alloc, &self.tree)
     }
 }

@@ -1,11 +1,16 @@
-use Rattle.std.proofs.Common.{◌∙◌, ap, List, map}
-use Rattle.dx_model.specs.declared.facts.NullPair.{NullPair}
-use Rattle.dx_instance.specs.NullMaps.{ByNull, becomes, given_over, pair_after}
-use Rattle.dx_instance.proofs.AfterFacts.{after_is}
+use Rattle.std.proofs.Common.{◌∙◌}
+use Rattle.dx_instance.proofs.AfterFacts.{after_stored}
+use Rattle.dx_instance.proofs.StoreFacts.{images_ascend, pairs_ascend}
 use Rattle.dx_instance.proofs.null_map.NullMap.after.Goals as goal
+
+pub merged-requires-clause-first : goal.merged-requires-clause-first
+merged-requires-clause-first c =
+    images_ascend c.args.self.now c.in_ok-pairs.field-0.items c.deref.result.now (c.deref.ensures.value ∙ c.in_ok-images.ensures) (pairs_ascend c.in_ok-pairs.field-0.items c.args.first.now c.in_ok-pairs.ensures.pairs)
+
+pub merged-requires-clause-second : goal.merged-requires-clause-second
+merged-requires-clause-second c = pairs_ascend c.deref-2.result.now c.args.self.now (c.deref-2.ensures.value ∙ c.in_ok-pairs-2.ensures.pairs)
 
 pub returns : goal.returns
 returns c =
-    after_is c.args.first.now c.args.self.now c.set_each.new.self c.set_each-2.new.self c.in_ok-pairs.field-0.items c.in_ok-images.field-0.items c.in_ok-pairs.ensures.pairs
-    (c.in_ok-images.ensures ∙ ap (λ (l : List NullPair). map (pair_after c.args.self.now) l) c.in_ok-pairs-2.ensures.pairs)
-    (λ n. c.in_ok-set_each.ensures n ∙ ap (λ (m : ByNull). given_over c.in_ok-pairs.field-0.items (becomes m) n) c.new-all.ensures) c.in_ok-set_each-2.ensures
+    after_stored c.args.first.now c.args.self.now c.in_ok-pairs.field-0.items c.deref.result.now c.deref-2.result.now c.in_ok-pairs-3.pairs.items c.new.result.entries c.in_ok-pairs.ensures.pairs (c.deref.ensures.value ∙ c.in_ok-images.ensures)
+    (c.deref-2.ensures.value ∙ c.in_ok-pairs-2.ensures.pairs) c.in_ok-pairs-3.ensures.gives c.new.ensures.len
