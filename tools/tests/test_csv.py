@@ -2,17 +2,20 @@
 import random
 import unittest
 
-from trial import Trial, copy_mapping
+from trial import TIMES, Trial, copy_mapping
 
 import clio_csv
 from clio_tool import Refused
 
 SIGNS = [b",", b'"', b'""', b"\n", b"\r", b"\r\n", b"a", b"b7", b"\\", b"\\.", b" ", b"?", b"??0.0.0", b"\t", b"\0", b"\xc3\xa9",
          b"\xef\xbb\xbf", b"\x1c", b"\xe2\x80\xa8", b'"x,y"', b'"x\ny"']
+PLAIN = [b"a", b"b7", b" ", b"?", b"\\.", "\u00e9\u20ac".encode()]
+QUOTED = [*PLAIN, b",", b'""', b"\n", b"\r", b"\r\n"]
 FILES = [
     b"", b"\n\n", b"x", b"x\n", b"\xef\xbb\xbfx\n1\n", b"\xef\xbb\xbf\xef\xbb\xbfx\n1\n", b"x\r1\r2", b'x\n""\n', b'x\n"', b'x\n"a', b'x\n"a""', b'"x"\na',
     b"x\n\xff\n", b"x\n\xed\xa0\x80\n", b"x\n1,2\n", b"x\n\\.\n", b"x\n5\" disk\n", b'x\n"5"-6" disk\n', b'x\n5"-6" disk\n', b"X\n1\n", b" x\n1\n",
     b"x\n" + b"a" * 5_000_000 + b"\n", b'x\n"' + b'""\n' * 100_000 + b'"\n', b"x\n1\n2", b"x\r\n1\n2\r3\r\n\r\n", b'x\n"a"b"c"\n',
+    b'x\n"\xc3"\xa9\n',
 ]
 
 
@@ -25,6 +28,24 @@ def hostile(choice, columns):
     return head + b"".join(b",".join(row) + choice.choice([b"\n", b"\r\n", b""]) for row in fields)
 
 
+def field_of(choice):
+    """A field that stands as it is, or whole in quotes."""
+    if choice.random() < 0.5:
+        return b"".join(choice.choices(PLAIN, k=choice.randrange(3)))
+    return b'"' + b"".join(choice.choices(QUOTED, k=choice.randrange(5))) + b'"'
+
+
+def orderly(choice, columns):
+    """A file of such fields; in one of three stands a random sign somewhere."""
+    end = choice.choice([b"\n", b"\r", b"\r\n"])
+    rows = [b",".join(field_of(choice) for _ in columns) for _ in range(choice.randrange(6))]
+    head = ",".join(columns).encode() + end
+    body = end.join(rows) + choice.choice([end, b""])
+    place = choice.randrange(len(body) + 1)
+    sign = choice.choice(SIGNS) if choice.random() < 0.3 else b""
+    return head + body[:place] + sign + body[place:]
+
+
 class Reading(Trial):
     def read(self, content, columns):
         """The rows that the tools read, or nothing if they refuse the file."""
@@ -33,7 +54,7 @@ class Reading(Trial):
             rows = list(clio_csv.read_table(path, columns))
         except Refused:
             return None
-        self.assertEqual([fields for _, fields in clio_csv.records(content)], list(clio_csv.read_records(path)))
+        self.assertEqual([[clio_csv.text(field) for field in fields] for _, fields in clio_csv.records(content)], list(clio_csv.read_records(path)))
         return sorted({tuple(row) for row in rows})
 
     def made(self, name, columns):
@@ -67,6 +88,7 @@ class Reading(Trial):
         choice = random.Random(48)
         for columns in ["x"], ["x", "y"], ["x", "y", "z"]:
             self.compare([hostile(choice, columns) for _ in range(250)], columns)
+            self.compare([orderly(choice, columns) for _ in range(250 * TIMES)], columns)
 
 
 class Writing(Trial):

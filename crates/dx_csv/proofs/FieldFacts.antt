@@ -1,11 +1,12 @@
 -- Fields in a buffer.
 use Rattle.std.proofs.Common.{◌≡◌, ◌++◌, ◌∷◌, ◌+◌, ◌-◌, ◌<◌, ◌≤◌, ◌∙◌, ℕ, List, [], refl, sym, ap, arith, length, take, drop, get_or, IsUtf8, string_bytes}
-use Rattle.std.proofs.Math.Seq.{drop-append_seam}
-use Rattle.std.proofs.lemmas.List.{get_or_default, length-append}
+use Rattle.std.proofs.Math.Seq.{drop-length}
+use Rattle.std.proofs.lemmas.List.{drop-append-le, get_or_default, length-append}
+use Rattle.std.proofs.lemmas.Str.{IsUtf8-append, IsUtf8-nil}
 use Rattle.csv.specs.Records.{AllText, Rising, cut_from, last_end, prev}
-use Rattle.csv.proofs.RecordFacts.{cut-end, cut-length, cut-more, field-bounds, field-cut, field-get, last-append, prev-next, rising-end, rising-more, text-more, text-of}
+use Rattle.csv.proofs.RecordFacts.{cut-end, cut-length, cut-more, field-bounds, field-cut, field-get, last-append, prev-next, rising-end, rising-last, rising-more, text-more, text-of}
 use Rattle.dx_csv.specs.declared.fields.Fields.{Fields}
-use Rattle.dx_csv.specs.Fields.{HaveFields}
+use Rattle.dx_csv.specs.Fields.{HaveFields, HaveOpen}
 
 pub none-have : (f : Fields) → string_bytes f.text ≡ [] → f.ends.items ≡ [] → HaveFields f []
 unfolding Rising last_end cut_from AllText
@@ -18,29 +19,44 @@ none-have f b e = record {
 
 -- ---- one field more
 
-cut-pushed : (ends bytes field : List ℕ) → Rising 0 ends (length bytes) → last_end 0 ends ≡ length bytes
-    → cut_from 0 (ends ++ length (bytes ++ field) ∷ []) (bytes ++ field) ≡ cut_from 0 ends bytes ++ field ∷ []
-cut-pushed ends bytes field r l =
-    let size = length-append bytes field in
-    let long : length bytes ≤ length (bytes ++ field) = omega (arith, size) in
-    cut-end 0 ends (bytes ++ field) (rising-more 0 ends (length bytes) (length (bytes ++ field)) r long)
-    ∙ rw (cut-more 0 ends bytes field r, l, drop-append_seam bytes field) refl
+-- no field is open
+pub none-open : (f : Fields) (fields : List (List ℕ)) → HaveFields f fields → HaveOpen f fields []
+none-open f fields h = record {
+  rising = h.rising;
+  after = rw h.last (drop-length (string_bytes f.text));
+  is = h.is;
+  text = h.text;
+  utf8 = IsUtf8-nil;
+}
 
-pub field-pushed : (old new : Fields) (field : List ℕ) (end : ℕ) → string_bytes new.text ≡ string_bytes old.text ++ field
-    → new.ends.items ≡ old.ends.items ++ end ∷ [] → end ≡ length (string_bytes new.text) → IsUtf8 field
-    → (fields : List (List ℕ)) → HaveFields old fields → HaveFields new (fields ++ field ∷ [])
-field-pushed old new field end t e n u fields h =
+-- a part more of the open field
+pub more-open : (old new : Fields) (more : List ℕ) → string_bytes new.text ≡ string_bytes old.text ++ more → new.ends.items ≡ old.ends.items → IsUtf8 more
+    → (fields : List (List ℕ)) (part : List ℕ) → HaveOpen old fields part → HaveOpen new fields (part ++ more)
+more-open old new more t e u fields part h =
     let bytes = string_bytes old.text in
     let ends = old.ends.items in
-    let size = length-append bytes field in
-    let long : length bytes ≤ length (bytes ++ field) = omega (arith, size) in
-    let up = rising-more 0 ends (length bytes) (length (bytes ++ field)) h.rising long in
-    let places : new.ends.items ≡ ends ++ length (bytes ++ field) ∷ [] = e ∙ ap (λ x. ends ++ x ∷ []) (n ∙ ap length t) in
+    let size = length-append bytes more in
+    let long : length bytes ≤ length (bytes ++ more) = omega (arith, size) in
     record {
-      rising = rw (places, t) (rising-end 0 ends (length (bytes ++ field)) up);
-      last = rw (places, t) (last-append 0 ends (length (bytes ++ field)));
-      is = rw (places, t) (cut-pushed ends bytes field h.rising h.last ∙ ap (λ (l : List (List ℕ)). l ++ field ∷ []) h.is);
-      text = text-more fields field h.text u;
+      rising = rw (e, t) (rising-more 0 ends (length bytes) (length (bytes ++ more)) h.rising long);
+      after = rw (e, t) (drop-append-le (last_end 0 ends) bytes more (rising-last 0 ends (length bytes) h.rising) ∙ ap (λ (l : List ℕ). l ++ more) h.after);
+      is = rw (e, t) (cut-more 0 ends bytes more h.rising ∙ h.is);
+      text = h.text;
+      utf8 = IsUtf8-append part more h.utf8 u;
+    }
+
+-- the open field is ended
+pub end-open : (old new : Fields) (end : ℕ) → new.text ≡ old.text → new.ends.items ≡ old.ends.items ++ end ∷ [] → end ≡ length (string_bytes old.text)
+    → (fields : List (List ℕ)) (part : List ℕ) → HaveOpen old fields part → HaveFields new (fields ++ part ∷ [])
+end-open old new end t e n fields part h =
+    let bytes = string_bytes old.text in
+    let ends = old.ends.items in
+    let places : new.ends.items ≡ ends ++ length bytes ∷ [] = e ∙ ap (λ x. ends ++ x ∷ []) n in
+    record {
+      rising = rw (places, t) (rising-end 0 ends (length bytes) h.rising);
+      last = rw (places, t) (last-append 0 ends (length bytes));
+      is = rw (places, t) (cut-end 0 ends bytes h.rising ∙ rw (h.is, h.after) refl);
+      text = text-more fields part h.text h.utf8;
     }
 
 -- ---- the text at a place

@@ -1,5 +1,6 @@
 -- One record more of a table: what is left after it.
-use Rattle.std.proofs.Common.{◌≡◌, ◌<◌, ◌≤◌, ◌+◌, ◌∷◌, ◌∙◌, ℕ, zero, suc, List, [], Bool, true, false, Some, None, refl, ap, subst, inl, arith, length, ◌==◌, add-one}
+use Rattle.std.proofs.Common.{◌≡◌, ◌<◌, ◌≤◌, ◌+◌, ◌∷◌, ◌∙◌, ℕ, zero, suc, List, [], Bool, true, false, Some, None, refl, ap, subst, inl, inr, arith, length, ◌==◌, add-one}
+use Rattle.std.proofs.lemmas.Bool.{cases_Bool, eqb-true}
 use Rattle.std.specs.Prelude.{Option, if◌then◌else◌, ◌||◌}
 use Rattle.csv.specs.Machine.{Read, next_record, ends_at_end, in_field, start_field, start_record, is_end, step}
 use Rattle.csv.specs.Reading.{Reached, ReadRecord, default_config, records_from, records_next, reader_state, took_first, is_flexible}
@@ -10,6 +11,7 @@ use Rattle.csv.specs.declared.parser.Action.TheVariants as act
 use Rattle.csv.specs.declared.reader.Reader.{Reader}
 use Rattle.csv.proofs.ReadFacts.{rows-more, rows-end}
 use Rattle.dx_csv.specs.Left.{left_from, left_of, IsBetween}
+use Rattle.dx_csv.specs.Plain.{ends_line}
 
 -- a byte that ends a record leaves the machine between two records
 abbrev Between : State × Action → Type 0
@@ -107,6 +109,13 @@ same-records (suc n) (suc m) s xs b h g =
     after s xs (records_from default_config n) (records_from default_config m) b
     (λ p w. same-records n m p.1 p.2 w.between (omega (arith, w.shorter)) (omega (arith, w.shorter))) _ refl
 
+-- after a carriage return a byte does what it does between two records
+after-return : (c : ℕ) → step default_config st.AfterCr c ≡ step default_config st.StartRecord c
+after-return c = elim (cases_Bool (c == 10)) [
+  | inl e ↦ rw (eqb-true c 10 e) refl
+  | inr e ↦ rw e refl
+]
+
 -- one record more
 pub left-next : (s : State) (xs : List ℕ) (p : Read) → ends_at_end s ≡ false → next_record default_config s [] [] xs ≡ Some p
     → left_from s xs ≡ p.0 ∷ left_from p.1 p.2
@@ -115,11 +124,17 @@ left-next s xs p b e =
     let w = goes s xs p b e in
     rw (add-one, e) (ap (λ (t : List (List (List ℕ))). p.0 ∷ t) (same-records (length xs) (length p.2 + 1) p.1 p.2 w.between (omega (arith, w.shorter)) (omega arith)))
 
--- a line feed between two records is passed over
-pub left-feed : (xs : List ℕ) → left_from st.StartRecord (10 ∷ xs) ≡ left_from st.StartRecord xs
+-- the end of a line between two records is passed over
+pub left-line : (b : ℕ) (xs : List ℕ) → ends_line b ≡ true → left_from st.StartRecord (b ∷ xs) ≡ left_from st.StartRecord xs
 unfolding records_from next_record
-left-feed xs =
-    rw (add-one, add-one) (same-records (suc (suc (length xs))) (suc (length xs)) st.StartRecord xs refl (omega arith) (omega arith))
+left-line b xs e =
+    rw (add-one, add-one, e) (same-records (suc (suc (length xs))) (suc (length xs)) st.StartRecord xs refl (omega arith) (omega arith))
+
+-- after a carriage return, which ended a record, comes what comes after a line feed
+pub left-return : (xs : List ℕ) → left_from st.AfterCr xs ≡ left_from st.StartRecord xs
+unfolding records_from next_record
+left-return [] = refl
+left-return (c ∷ xs) = rw (add-one, after-return c) refl
 
 pub left-none : (s : State) (xs : List ℕ) → next_record default_config s [] [] xs ≡ None → left_from s xs ≡ []
 unfolding records_from

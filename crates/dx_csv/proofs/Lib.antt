@@ -10,3 +10,4 @@ mod ColumnFacts
 pub mod BlankFacts
 pub mod TextsDiffer
 pub mod PlainFacts
+pub mod OneField

@@ -1,91 +1,23 @@
--- Records without quotes: what the machine makes of a run of bytes that join, and of what stands after it.
-use Rattle.std.proofs.Common.{◌≡◌, ◌≢◌, ◌<◌, ◌≤◌, ◌+◌, ◌-◌, ◌++◌, ◌∷◌, ◌∙◌, ℕ, zero, suc, List, [], Bool, true, false, Some, refl, sym, ap, arith, drop, get_or, length, take, add-one, append_assoc, append-nil, ◌⊎◌, eqb, inl, inr}
-use Rattle.std.specs.Prelude.{All, not, ◌==◌, ◌&&◌}
+-- Records whose fields stand as they are or whole in quotes: one field after the other, and one record after the other.
+use Rattle.std.proofs.Common.{◌≡◌, ◌≢◌, ◌<◌, ◌≤◌, ◌+◌, ◌++◌, ◌∷◌, ◌∙◌, ℕ, suc, List, [], false, Some, refl, sym, ap, arith, drop, get_or, length, append_assoc, append-nil, ◌⊎◌, inl, inr, true}
+use Rattle.std.specs.Prelude.{All}
 use Rattle.std.proofs.Math.Seq.{drop-cons, drop-length}
 use Rattle.std.proofs.lemmas.Bool.Decides.{eqb_tells}
 use Rattle.std.proofs.lemmas.List.{length-append}
 use Rattle.std.proofs.lemmas.List.Elements.{All-append, All-cons, All-nil}
-use Rattle.std.proofs.lemmas.List.Folds.{drop_split}
-use Rattle.csv.specs.Machine.{Runs, next_record, step}
+use Rattle.csv.specs.Machine.{ends_at_end, next_record, step}
 use Rattle.csv.specs.Reading.{default_config, strip_bom}
 use Rattle.csv.specs.Records.{AllText}
 use Rattle.csv.specs.declared.parser.State.{State}
 use Rattle.csv.specs.declared.parser.State.TheVariants as st
-use Rattle.csv.specs.declared.parser.Action.TheVariants as act
-use Rattle.csv.proofs.ReadFacts.{run-copies}
 use Rattle.dx_csv.specs.declared.fields.Fields.{Fields}
-use Rattle.dx_csv.specs.Fields.{HaveFields, flat}
+use Rattle.dx_csv.specs.Fields.{GrowsBy, HaveFields, flat}
 use Rattle.dx_csv.specs.Left.{left_from}
-use Rattle.dx_csv.specs.Plain.{HasRecords, IsWide, StandsAt, joins}
+use Rattle.dx_csv.specs.Plain.{FieldAt, HasRecords, IsOver, IsWide, StandsAt, ends_line}
 use Rattle.dx_csv.specs.Table.{table_records}
-use Rattle.dx_csv.proofs.LeftFacts.{left-feed, left-next, left-none}
+use Rattle.dx_csv.proofs.LeftFacts.{left-line, left-next, left-none, left-return}
+use Rattle.dx_csv.proofs.OneField.{differs, drop-at}
 use Rattle.dx_csv.proofs.TableFacts.{flat-more}
-
--- ---- bytes that join
-
-record Apart (comma quote feed return : Bool) : Type 0 where
-  no_comma : comma ≡ false
-  no_quote : quote ≡ false
-  no_feed : feed ≡ false
-  no_return : return ≡ false
-
-apart : (a b c d : Bool) → (not a && (not b && (not c && not d))) ≡ true → Apart a b c d
-apart false false false false e = record { no_comma = refl; no_quote = refl; no_feed = refl; no_return = refl }
-apart false false false true e = cc e
-apart false false true d e = cc e
-apart false true c d e = cc e
-apart true b c d e = cc e
-
-in-field : (b : ℕ) → joins b ≡ true → step default_config st.InField b ≡ (st.InField, act.Copy)
-in-field b j =
-    let a = apart (b == 44) (b == 34) (b == 10) (b == 13) j in
-    rw (a.no_comma, a.no_return, a.no_feed) refl
-
-at-start : (b : ℕ) → joins b ≡ true → step default_config st.StartField b ≡ (st.InField, act.Copy)
-at-start b j =
-    let a = apart (b == 44) (b == 34) (b == 10) (b == 13) j in
-    rw (a.no_quote, a.no_comma, a.no_return, a.no_feed) refl
-
--- so many bytes from a place on join
-abbrev pub JoinFrom : List ℕ → ℕ → ℕ → Type 0
-JoinFrom bytes from end = (i : ℕ) → from ≤ i → i < end → joins (get_or bytes i 0) ≡ true
-
-runs : (bytes : List ℕ) (from n : ℕ) → from + n ≤ length bytes → JoinFrom bytes from (from + n) → Runs default_config st.InField (take n (drop from bytes))
-unfolding Runs
-runs bytes from zero h j = tt
-runs bytes from (suc n) h j =
-    rw (drop-cons bytes from 0 (omega arith))
-    (in-field (get_or bytes from 0) (j from (omega arith) (omega arith)), runs bytes (suc from) n (omega arith) (λ i l g. j i (omega arith) (omega arith)))
-
--- what stands from a byte on
-drop-at : (bytes : List ℕ) (at b : ℕ) → at < length bytes → get_or bytes at 0 ≡ b → drop at bytes ≡ b ∷ drop (at + 1) bytes
-drop-at bytes at b h e = rw add-one (drop-cons bytes at 0 h ∙ rw e refl)
-
--- ---- a field, up to what ends it
-
--- what is read of a field and what stands after it, is read of what stands after it with the field at hand
-record Open (parts : List (List ℕ)) (field rest : List ℕ) : Type 0 where
-  state : State
-  read : next_record default_config st.StartField parts [] (field ++ rest) ≡ next_record default_config state parts field rest
-  comma : (more : List ℕ) → next_record default_config state parts field (44 ∷ more) ≡ next_record default_config st.StartField (parts ++ field ∷ []) [] more
-  feed : (more : List ℕ) → next_record default_config state parts field (10 ∷ more) ≡ Some (parts ++ field ∷ [], st.StartRecord, more)
-  end : next_record default_config state parts field [] ≡ Some (parts ++ field ∷ [], st.StartRecord, [])
-
-open-at : (bytes : List ℕ) (from n : ℕ) (parts : List (List ℕ)) (rest : List ℕ) → from + n ≤ length bytes → JoinFrom bytes from (from + n)
-    → Open parts (take n (drop from bytes)) rest
-unfolding next_record
-open-at bytes from zero parts rest h j = record { state = st.StartField; read = refl; comma = λ more. refl; feed = λ more. refl; end = refl }
-open-at bytes from (suc n) parts rest h j =
-    let b = get_or bytes from 0 in
-    let r = take n (drop (suc from) bytes) in
-    rw (drop-cons bytes from 0 (omega arith)) (record {
-      state = st.InField;
-      read = rw (at-start b (j from (omega arith) (omega arith)))
-          (run-copies default_config st.InField parts (b ∷ []) r rest (runs bytes (suc from) n (omega arith) (λ i l g. j i (omega arith) (omega arith))));
-      comma = λ more. refl;
-      feed = λ more. refl;
-      end = refl;
-    })
 
 -- ---- the record so far
 
@@ -102,57 +34,63 @@ same-step : (s t : State) (b : ℕ) (xs : List ℕ) → step default_config s b 
 unfolding next_record
 same-step s t b xs e = rw e refl
 
-differs : (a b : ℕ) → ((eqb a b ≡ true) × (a ≡ b)) ⊎ ((eqb a b ≡ false) × (a ≢ b)) → a ≢ b → (a == b) ≡ false
-differs a b (inl p) n = absurd (n p.1)
-differs a b (inr p) n = p.0
+start-step : (b : ℕ) → ends_line b ≡ false → step default_config st.StartRecord b ≡ step default_config st.StartField b
+start-step b n = rw n refl
 
-start-step : (b : ℕ) → b ≢ 13 → b ≢ 10 → step default_config st.StartRecord b ≡ step default_config st.StartField b
-start-step b r f = rw (differs b 13 (eqb_tells b 13) r, differs b 10 (eqb_tells b 10) f) refl
-
-pub begun-start : (bytes : List ℕ) (from : ℕ) (fields : Fields) → from < length bytes → get_or bytes from 0 ≢ 13 → get_or bytes from 0 ≢ 10
-    → Begun bytes from from 0 fields fields
-begun-start bytes from fields h r f = record {
+pub begun-start : (bytes : List ℕ) (from : ℕ) (fields : Fields) → from < length bytes → ends_line (get_or bytes from 0) ≡ false → Begun bytes from from 0 fields fields
+begun-start bytes from fields h n = record {
   parts = [];
   within = omega arith;
   many = refl;
-  read = rw (drop-cons bytes from 0 h) (same-step st.StartRecord st.StartField (get_or bytes from 0) (drop (suc from) bytes) (start-step (get_or bytes from 0) r f));
+  read = rw (drop-cons bytes from 0 h) (same-step st.StartRecord st.StartField (get_or bytes from 0) (drop (suc from) bytes) (start-step (get_or bytes from 0) n));
   have = λ before h. rw (append-nil before) h;
 }
 
 -- the parts with one field more, which ends at `end`
-record Longer (bytes : List ℕ) (from start end number : ℕ) (old middle new : Fields) (b : Begun bytes from start number old middle) : Type 0 where
-  opened : Open b.parts (take (end - start) (drop start bytes)) (drop end bytes)
-  read : next_record default_config st.StartRecord [] [] (drop from bytes) ≡ next_record default_config opened.state b.parts (take (end - start) (drop start bytes)) (drop end bytes)
-  have : (before : List (List ℕ)) → HaveFields old before → HaveFields new (before ++ (b.parts ++ take (end - start) (drop start bytes) ∷ []))
-  many : length (b.parts ++ take (end - start) (drop start bytes) ∷ []) ≡ number + 1
+record Longer (bytes : List ℕ) (from end number : ℕ) (old new : Fields) (parts : List (List ℕ)) (field : List ℕ) (state : State) : Type 0 where
+  read : next_record default_config st.StartRecord [] [] (drop from bytes) ≡ next_record default_config state parts field (drop end bytes)
+  have : (before : List (List ℕ)) → HaveFields old before → HaveFields new (before ++ (parts ++ field ∷ []))
+  many : length (parts ++ field ∷ []) ≡ number + 1
 
 longer : (bytes : List ℕ) (from start end number : ℕ) (old middle new : Fields) (field : List ℕ) (b : Begun bytes from start number old middle)
-    → start ≤ end → end ≤ length bytes → JoinFrom bytes start end → field ≡ take (end - start) (drop start bytes)
-    → ((fields : List (List ℕ)) → HaveFields middle fields → HaveFields new (fields ++ field ∷ []))
-    → Longer bytes from start end number old middle new b
-longer bytes from start end number old middle new field b h w j e p =
-    let n : start + (end - start) ≡ end = omega arith in
-    let o = open-at bytes start (end - start) b.parts (drop end bytes) (rw n w) (rw n j) in
-    record {
-      opened = o;
-      read = b.read ∙ (ap (λ (xs : List ℕ). next_record default_config st.StartField b.parts [] xs) (drop_split bytes start end h) ∙ o.read);
-      have = λ before g. rw (← append_assoc before b.parts (take (end - start) (drop start bytes) ∷ []), ← e) (p (before ++ b.parts) (b.have before g));
-      many = omega (arith, b.many, length-append b.parts (take (end - start) (drop start bytes) ∷ []));
-    }
+    → (f : FieldAt bytes start end field) → GrowsBy middle new field → Longer bytes from end number old new b.parts field f.state
+longer bytes from start end number old middle new field b f p = record {
+  read = b.read ∙ f.read b.parts;
+  have = λ before g. rw (← append_assoc before b.parts (field ∷ [])) (p (before ++ b.parts) (b.have before g));
+  many = omega (arith, b.many, length-append b.parts (field ∷ []));
+}
+
+-- what a byte or the end makes of a field that is over
+on-comma : (state : State) (fields : List (List ℕ)) (field more : List ℕ) → IsOver state
+    → next_record default_config state fields field (44 ∷ more) ≡ next_record default_config st.StartField (fields ++ field ∷ []) [] more
+unfolding next_record
+on-comma state fields field more o = rw o.comma refl
+
+on-feed : (state : State) (fields : List (List ℕ)) (field more : List ℕ) → IsOver state
+    → next_record default_config state fields field (10 ∷ more) ≡ Some (fields ++ field ∷ [], st.StartRecord, more)
+unfolding next_record
+on-feed state fields field more o = rw o.feed refl
+
+on-return : (state : State) (fields : List (List ℕ)) (field more : List ℕ) → IsOver state
+    → next_record default_config state fields field (13 ∷ more) ≡ Some (fields ++ field ∷ [], st.AfterCr, more)
+unfolding next_record
+on-return state fields field more o = rw o.carriage refl
+
+on-end : (state : State) (fields : List (List ℕ)) (field : List ℕ) → IsOver state
+    → next_record default_config state fields field [] ≡ Some (fields ++ field ∷ [], st.StartRecord, [])
+unfolding next_record
+on-end state fields field o = rw o.end refl
 
 -- a field that a comma ends
 pub begun-more : (bytes : List ℕ) (from start end number : ℕ) (old middle new : Fields) (field : List ℕ) → Begun bytes from start number old middle
-    → start ≤ end → end < length bytes → JoinFrom bytes start end → field ≡ take (end - start) (drop start bytes) → get_or bytes end 0 ≡ 44
-    → ((fields : List (List ℕ)) → HaveFields middle fields → HaveFields new (fields ++ field ∷ []))
-    → Begun bytes from (end + 1) (number + 1) old new
-begun-more bytes from start end number old middle new field b h w j e comma p =
-    let l = longer bytes from start end number old middle new field b h (omega arith) j e p in
-    let at : drop end bytes ≡ 44 ∷ drop (end + 1) bytes = drop-at bytes end 44 w comma in
+    → FieldAt bytes start end field → GrowsBy middle new field → end < length bytes → get_or bytes end 0 ≡ 44 → Begun bytes from (end + 1) (number + 1) old new
+begun-more bytes from start end number old middle new field b f p w comma =
+    let l = longer bytes from start end number old middle new field b f p in
     record {
-      parts = b.parts ++ take (end - start) (drop start bytes) ∷ [];
+      parts = b.parts ++ field ∷ [];
       within = omega arith;
       many = l.many;
-      read = l.read ∙ (ap (λ (xs : List ℕ). next_record default_config l.opened.state b.parts (take (end - start) (drop start bytes)) xs) at ∙ l.opened.comma (drop (end + 1) bytes));
+      read = l.read ∙ rw (drop-at bytes end 44 w comma) (on-comma f.state b.parts field (drop (end + 1) bytes) f.over);
       have = l.have;
     }
 
@@ -169,41 +107,57 @@ pub record Whole (bytes : List ℕ) (from after width : ℕ) (new : Fields) (bef
   pub wide : IsWide width found
   pub have : HaveFields new (before ++ found)
 
+whole-of : (bytes : List ℕ) (from end after number width : ℕ) (old new : Fields) (parts : List (List ℕ)) (field : List ℕ) (state between : State)
+    → Longer bytes from end number old new parts field state → after ≤ length bytes → ends_at_end between ≡ false
+    → next_record default_config state parts field (drop end bytes) ≡ Some (parts ++ field ∷ [], between, drop after bytes)
+    → left_from between (drop after bytes) ≡ left_from st.StartRecord (drop after bytes)
+    → number + 1 ≡ width → (before : List (List ℕ)) → HaveFields old before → Whole bytes from after width new before
+whole-of bytes from end after number width old new parts field state between l w n e same many before g = record {
+  found = parts ++ field ∷ [];
+  stands = record {
+    within = w;
+    read = left-next st.StartRecord (drop from bytes) (parts ++ field ∷ [], between, drop after bytes) refl (l.read ∙ e) ∙ ap (λ (left : List (List (List ℕ))). (parts ++ field ∷ []) ∷ left) same;
+  };
+  wide = record { width = l.many ∙ many; text = text-rest before _ (l.have before g).text };
+  have = l.have before g;
+}
+
 -- a field that a line feed ends
-pub whole-feed : (bytes : List ℕ) (from start end number width : ℕ) (old middle new : Fields) (field : List ℕ) → Begun bytes from start number old middle
-    → start ≤ end → end < length bytes → JoinFrom bytes start end → field ≡ take (end - start) (drop start bytes) → get_or bytes end 0 ≡ 10
-    → ((fields : List (List ℕ)) → HaveFields middle fields → HaveFields new (fields ++ field ∷ []))
+whole-feed : (bytes : List ℕ) (from start end number width : ℕ) (old middle new : Fields) (field : List ℕ) → Begun bytes from start number old middle
+    → FieldAt bytes start end field → GrowsBy middle new field → end < length bytes → get_or bytes end 0 ≡ 10
     → number + 1 ≡ width → (before : List (List ℕ)) → HaveFields old before → Whole bytes from (end + 1) width new before
-whole-feed bytes from start end number width old middle new field b h w j e feed p many before g =
-    let l = longer bytes from start end number old middle new field b h (omega arith) j e p in
-    let at : drop end bytes ≡ 10 ∷ drop (end + 1) bytes = drop-at bytes end 10 w feed in
-    record {
-      found = b.parts ++ take (end - start) (drop start bytes) ∷ [];
-      stands = record {
-        within = omega arith;
-        read = l.read ∙ (ap (λ (xs : List ℕ). next_record default_config l.opened.state b.parts (take (end - start) (drop start bytes)) xs) at ∙ l.opened.feed (drop (end + 1) bytes));
-      };
-      wide = record { width = l.many ∙ many; text = text-rest before _ (l.have before g).text };
-      have = l.have before g;
-    }
+whole-feed bytes from start end number width old middle new field b f p w feed many before g =
+    let l = longer bytes from start end number old middle new field b f p in
+    whole-of bytes from end (end + 1) number width old new b.parts field f.state st.StartRecord l (omega arith) refl
+    (rw (drop-at bytes end 10 w feed) (on-feed f.state b.parts field (drop (end + 1) bytes) f.over)) refl many before g
+
+-- a field that a carriage return ends
+whole-return : (bytes : List ℕ) (from start end number width : ℕ) (old middle new : Fields) (field : List ℕ) → Begun bytes from start number old middle
+    → FieldAt bytes start end field → GrowsBy middle new field → end < length bytes → get_or bytes end 0 ≡ 13
+    → number + 1 ≡ width → (before : List (List ℕ)) → HaveFields old before → Whole bytes from (end + 1) width new before
+whole-return bytes from start end number width old middle new field b f p w return many before g =
+    let l = longer bytes from start end number old middle new field b f p in
+    whole-of bytes from end (end + 1) number width old new b.parts field f.state st.AfterCr l (omega arith) refl
+    (rw (drop-at bytes end 13 w return) (on-return f.state b.parts field (drop (end + 1) bytes) f.over)) (left-return (drop (end + 1) bytes)) many before g
+
+-- a field that the end of a line ends
+pub whole-line : (bytes : List ℕ) (from start end number width : ℕ) (old middle new : Fields) (field : List ℕ) → Begun bytes from start number old middle
+    → FieldAt bytes start end field → GrowsBy middle new field → end < length bytes → (get_or bytes end 0 ≡ 10) ⊎ (get_or bytes end 0 ≡ 13)
+    → number + 1 ≡ width → (before : List (List ℕ)) → HaveFields old before → Whole bytes from (end + 1) width new before
+whole-line bytes from start end number width old middle new field b f p w (inl feed) many before g =
+    whole-feed bytes from start end number width old middle new field b f p w feed many before g
+whole-line bytes from start end number width old middle new field b f p w (inr return) many before g =
+    whole-return bytes from start end number width old middle new field b f p w return many before g
 
 -- a field that the end ends
 pub whole-end : (bytes : List ℕ) (from start end number width : ℕ) (old middle new : Fields) (field : List ℕ) → Begun bytes from start number old middle
-    → start ≤ end → end ≡ length bytes → JoinFrom bytes start end → field ≡ take (end - start) (drop start bytes)
-    → ((fields : List (List ℕ)) → HaveFields middle fields → HaveFields new (fields ++ field ∷ []))
+    → FieldAt bytes start end field → GrowsBy middle new field → end ≡ length bytes
     → number + 1 ≡ width → (before : List (List ℕ)) → HaveFields old before → Whole bytes from end width new before
-whole-end bytes from start end number width old middle new field b h w j e p many before g =
-    let l = longer bytes from start end number old middle new field b h (omega arith) j e p in
+whole-end bytes from start end number width old middle new field b f p w many before g =
+    let l = longer bytes from start end number old middle new field b f p in
     let at : drop end bytes ≡ [] = rw w (drop-length bytes) in
-    record {
-      found = b.parts ++ take (end - start) (drop start bytes) ∷ [];
-      stands = record {
-        within = omega arith;
-        read = l.read ∙ (ap (λ (xs : List ℕ). next_record default_config l.opened.state b.parts (take (end - start) (drop start bytes)) xs) at ∙ rw at l.opened.end);
-      };
-      wide = record { width = l.many ∙ many; text = text-rest before _ (l.have before g).text };
-      have = l.have before g;
-    }
+    whole-of bytes from end end number width old new b.parts field f.state st.StartRecord l (omega arith) refl
+    (rw at (on-end f.state b.parts field f.over)) refl many before g
 
 -- ---- the records so far
 
@@ -219,14 +173,15 @@ pub record Rows (bytes : List ℕ) (from at width count turn : ℕ) (fields : Fi
 pub rows-start : (bytes : List ℕ) (from width : ℕ) (fields : Fields) → from ≤ length bytes → HaveFields fields [] → Rows bytes from from width 0 0 fields
 rows-start bytes from width fields h g = record { rows = []; within = h; are = refl; wide = All-nil (IsWide width); have = g; many = refl; few = omega arith }
 
-pub rows-feed : (bytes : List ℕ) (from at width count turn : ℕ) (fields : Fields) → Rows bytes from at width count turn fields → at < length bytes
-    → get_or bytes at 0 ≡ 10 → Rows bytes from (at + 1) width count (turn + 1) fields
-rows-feed bytes from at width count turn fields r h e =
-    let here : drop at bytes ≡ 10 ∷ drop (at + 1) bytes = drop-at bytes at 10 h e in
+-- the end of a line between two records
+pub rows-line : (bytes : List ℕ) (from at width count turn : ℕ) (fields : Fields) → Rows bytes from at width count turn fields → at < length bytes
+    → ends_line (get_or bytes at 0) ≡ true → Rows bytes from (at + 1) width count (turn + 1) fields
+rows-line bytes from at width count turn fields r h e =
+    let here : drop at bytes ≡ get_or bytes at 0 ∷ drop (at + 1) bytes = drop-at bytes at (get_or bytes at 0) h refl in
     record {
       rows = r.rows;
       within = omega arith;
-      are = r.are ∙ ap (λ (l : List (List (List ℕ))). r.rows ++ l) (rw here (left-feed (drop (at + 1) bytes)));
+      are = r.are ∙ ap (λ (l : List (List (List ℕ))). r.rows ++ l) (rw here (left-line (get_or bytes at 0) (drop (at + 1) bytes) e));
       wide = r.wide;
       have = r.have;
       many = r.many;
@@ -236,11 +191,10 @@ rows-feed bytes from at width count turn fields r h e =
 pub rows-more : (bytes : List ℕ) (from at after width count turn : ℕ) (old new : Fields) → (r : Rows bytes from at width count turn old)
     → Whole bytes at after width new (flat r.rows) → Rows bytes from after width (count + 1) (turn + 1) new
 rows-more bytes from at after width count turn old new r w =
-    let next = left-next st.StartRecord (drop at bytes) (w.found, st.StartRecord, drop after bytes) refl w.stands.read in
     record {
       rows = r.rows ++ w.found ∷ [];
       within = w.stands.within;
-      are = r.are ∙ (ap (λ (l : List (List (List ℕ))). r.rows ++ l) next ∙ sym (append_assoc r.rows (w.found ∷ []) (left_from st.StartRecord (drop after bytes))));
+      are = r.are ∙ (ap (λ (l : List (List (List ℕ))). r.rows ++ l) w.stands.read ∙ sym (append_assoc r.rows (w.found ∷ []) (left_from st.StartRecord (drop after bytes))));
       wide = All-append (IsWide width) r.rows (w.found ∷ []) r.wide (All-cons (IsWide width) w.found [] w.wide (All-nil (IsWide width)));
       have = rw (flat-more r.rows w.found) w.have;
       many = omega (arith, r.many, length-append r.rows (w.found ∷ []));
@@ -293,7 +247,7 @@ pub table-read : (bytes : List ℕ) (after width count : ℕ) (header : List (Li
 table-read bytes after width count header fields n s r = record {
   header = header;
   rows = r.rows;
-  records = rw (no-mark bytes n) (left-next st.StartRecord bytes (header, st.StartRecord, drop after bytes) refl s.read ∙ ap (λ (l : List (List (List ℕ))). header ∷ l) r.has.are);
+  records = rw (no-mark bytes n) (s.read ∙ ap (λ (l : List (List (List ℕ))). header ∷ l) r.has.are);
   wide = r.has.wide;
   have = r.have;
   many = r.many;

@@ -1,5 +1,5 @@
 -- Fields that stand one after the other in a buffer, and records that are cut of them.
-use Rattle.std.specs.Prelude.{◌≡◌, ◌++◌, ℕ, zero, suc, List, [], ◌∷◌, All, length, take, drop, string_bytes}
+use Rattle.std.specs.Prelude.{◌≡◌, ◌++◌, ℕ, zero, suc, List, [], ◌∷◌, All, length, take, drop, string_bytes, IsUtf8}
 use Rattle.csv.specs.Records.{AllText, Rising, cut_from, last_end}
 use Rattle.dx_csv.specs.declared.fields.Fields.{Fields}
 use Rattle.dx_csv.specs.Table.{IsWhole}
@@ -14,6 +14,18 @@ pub record HaveFields (f : Fields) (fields : List (List ℕ)) : Type 0 where
   pub last : last_end 0 f.ends.items ≡ length (string_bytes f.text)
   pub is : fields_in f ≡ fields
   pub text : AllText fields
+
+-- these fields stand in the buffer, and after them what there is of the next one
+pub record HaveOpen (f : Fields) (fields : List (List ℕ)) (part : List ℕ) : Type 0 where
+  pub rising : Rising 0 f.ends.items (length (string_bytes f.text))
+  pub after : drop (last_end 0 f.ends.items) (string_bytes f.text) ≡ part
+  pub is : fields_in f ≡ fields
+  pub text : AllText fields
+  pub utf8 : IsUtf8 part
+
+-- one field more stands in the buffer
+abbrev pub GrowsBy : Fields → Fields → List ℕ → Type 0
+GrowsBy old new field = (fields : List (List ℕ)) → HaveFields old fields → HaveFields new (fields ++ field ∷ [])
 
 -- the fields of records, in order
 abbrev pub flat : List (List (List ℕ)) → List (List ℕ)

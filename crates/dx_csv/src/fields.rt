@@ -1,7 +1,7 @@
 // Fields one after the other in one buffer, and the texts that share it.
 ghost use Rattle.std.specs.Prelude.{◌≡◌, ◌<◌, ◌++◌, ◌∷◌, [], ℕ, List, IfOk, OnOk, length, slice_index_or};
 ghost use Rattle.csv.specs.Records.{prev};
-ghost use Rattle.dx_csv.specs.Fields.{HaveFields, fields_in};
+ghost use Rattle.dx_csv.specs.Fields.{HaveFields, HaveOpen, fields_in};
 
 use dx_ports::Text;
 use std::alloc::{AllocError, Global};
@@ -29,7 +29,22 @@ impl Fields {
     pub(crate) fn push(&mut self, field: &str) -> Result<(), AllocError>
         ensures { (fields : List (List ℕ)) → HaveFields self.old fields → OnOk result (HaveFields self.new (fields ++ field.now ∷ [])) }
     {
-        self.text.push_str(field)?;
+        self.add(field)?;
+        self.end()
+    }
+
+    /// A part more of the field that is open. After an error nothing is said of the fields.
+    pub(crate) fn add(&mut self, more: &str) -> Result<(), AllocError>
+        ensures { (fields : List (List ℕ)) (part : List ℕ) → HaveOpen self.old fields part → OnOk result (HaveOpen self.new fields (part ++ more.now)) }
+    {
+        self.text.push_str(more)?;
+        Ok(())
+    }
+
+    /// Ends the field that is open. After an error nothing is said of the fields.
+    pub(crate) fn end(&mut self) -> Result<(), AllocError>
+        ensures { (fields : List (List ℕ)) (part : List ℕ) → HaveOpen self.old fields part → OnOk result (HaveFields self.new (fields ++ part ∷ [])) }
+    {
         let Ok(end) = u32::try_from(self.text.len()) else {
             return Err(AllocError);
         };
