@@ -1,10 +1,7 @@
 -- The constant answers of a part, by the numbers that its patterns are given.
 use Rattle.std.proofs.Common.{◌≡◌, ◌∙◌, ◌<◌, ◌≤◌, ◌^◌, ℕ, zero, suc, List, [], ◌∷◌, refl, sym, ap, subst, arith, length, get_or, Result, Ok, Err, Option, None, Some}
 use Rattle.std.specs.Prelude.{map, IfOk, MatchOption}
-use Rattle.std.specs.List.{AllPairs}
 use Rattle.std.specs.declared.alloc.AllocError.{AllocError}
-use Rattle.std.specs.declared.cmp.Ordering.TheVariants.{Less}
-use Rattle.std.proofs.lemmas.Cmp.{nat_list_cmp_total}
 use Rattle.std.proofs.lemmas.List.{get_or-map, get_or_default, length-map}
 use Rattle.std.proofs.lemmas.Simd.{map-map}
 use Rattle.dx_ports.specs.Members.{◌∈◌, ◌⊆◌, here, there, Each}
@@ -20,13 +17,12 @@ use Rattle.dx_instance.specs.Numbers.{AreApart, value_of}
 use Rattle.dx_instance.specs.Cells.{NumberTable}
 use Rattle.dx_instance.specs.Shown.{AreBelow, PartsFit, numbers_of_table, shown_row, shown_tables}
 use Rattle.dx_instance.specs.Stored.{TableRows, facts, rows_of}
-use Rattle.dx_instance.proofs.TableFacts.{numbers_cmp}
 use Rattle.dx_instance.proofs.ShownFacts.{row_same}
 use Rattle.dx_instance.proofs.StoredFacts.{row_from_fact, fact_from_row}
 use Rattle.dx_joins.specs.declared.pattern.Pattern.{Pattern}
 use Rattle.dx_joins.specs.Collecting.{AreThose, MoreThan}
 use Rattle.dx_joins.specs.Valued.{IsJoined}
-use Rattle.dx_joins.proofs.Translating.{distinct_from}
+use Rattle.dx_joins.proofs.Distincts.{distinct_map}
 use Rattle.dx_joins.proofs.Translating.{number_in, number_is, number_there, rows_shown, table_in}
 use Rattle.dx_queries.specs.declared.query.Part.{Part}
 use Rattle.dx_queries.specs.Queries.{assigned, fact_said}
@@ -259,9 +255,6 @@ module _ (K : List TableRows) (S : List Value) (T : List NumberTable) (p : Part)
 
   -- ---- different rows of numbers stand for different answers
 
-  never_less : (x : List ℕ) → ¬ (numbers_cmp x x ≡ Less)
-  never_less x e = let t = nat_list_cmp_total.antisymm x x in absurd (cc (rw e at t))
-
   abbrev pub answer_of : List ℕ → List Value
   answer_of r = filled p.answer (shown_row S r)
 
@@ -282,22 +275,12 @@ module _ (K : List TableRows) (S : List Value) (T : List NumberTable) (p : Part)
   pub more_answers : (most : ℕ) → MoreThan most (IsJoined T ps shown) → MoreRows most (IsConstantAnswer (facts K) p)
   more_answers most h = record {
     rows = map answer_of h.some;
-    distinct = distinct_from (map answer_of h.some) pairs;
+    distinct = distinct_map answer_of h.some (λ a b m k e. same_row a b (h.each a m) (h.each b k) e) h.distinct;
     each = λ row m. let r = from_map answer_of h.some m in
         let j = h.each r.0 r.1 in
         subst (λ (x : List Value). IsConstantAnswer (facts K) p x) r.2 (subst (λ (x : List ℕ). IsConstantAnswer (facts K) p (answer_of x)) (sym j.2) (from_join j.0 j.1));
     more = let a = h.more in let l = length-map h.some answer_of in omega (arith, a, l);
   }
-    where
-      pairs : AllPairs (λ a b. ¬ (a ≡ b)) (map answer_of h.some)
-      pairs i j d u k e =
-          let long = length-map h.some answer_of in
-          let hj : j < length h.some = omega (arith, k, long) in
-          let hi : i < length h.some = omega (arith, u, hj) in
-          let a = get_or-map answer_of h.some i [] d hi in
-          let b = get_or-map answer_of h.some j [] d hj in
-          let same = same_row (get_or h.some i []) (get_or h.some j []) (h.each _ (in_at h.some i [] hi)) (h.each _ (in_at h.some j [] hj)) (sym a ∙ (e ∙ b)) in
-          never_less (get_or h.some j []) (subst (λ (r : List ℕ). numbers_cmp r (get_or h.some j []) ≡ Less) same (h.ascend i j [] u hj))
 
 pub result_answers : (K : List TableRows) (S : List Value) (T : List NumberTable) (p : Part) (w : ℕ) (ps : List Pattern) (shown : List ℕ) (most : ℕ) (result : Result (Option NumberTable) AllocError)
     → PartsFit S T → IsSuited K p (shown_tables S T) → IsPart w p → AreNamed (cells_of p.atoms) p.atoms (length p.atoms) ps → shown ≡ map (number_of (cells_of p.atoms)) (variables_among p.answer)

@@ -1,9 +1,9 @@
 -- Rows whose first ones ascend.
-use Rattle.std.proofs.Common.{◌≡◌, ◌∙◌, ◌+◌, ◌-◌, ◌<◌, ◌≤◌, ◌++◌, ◌∷◌, ℕ, List, [], refl, sym, ap, subst, arith, length, get_or, take, inl, inr}
+use Rattle.std.proofs.Common.{◌≡◌, ◌+◌, ◌-◌, ◌<◌, ◌++◌, ◌∷◌, ℕ, List, [], subst, arith, length, get_or, take, inl, inr}
 use Rattle.std.specs.declared.cmp.Ordering.TheVariants.{Less}
 use Rattle.std.proofs.lemmas.Bool.{cases_lt}
 use Rattle.std.proofs.lemmas.Cmp.{nat_list_cmp_total}
-use Rattle.std.proofs.lemmas.List.{length_push, length-append, take_all, take-append-le, get_or_default, length-take-le, get_or-take}
+use Rattle.std.proofs.lemmas.List.{length_push, take_all, take-append-le, get_or_default}
 use Rattle.std.proofs.lemmas.List.Quantifiers.{all_pairs_push}
 use Rattle.dx_instance.specs.Cells.{NumbersAscend, numbers_at}
 use Rattle.dx_instance.proofs.TableFacts.{numbers_cmp}

@@ -1,13 +1,13 @@
 -- Collections that gain what comes of the rows of a list, by their places.
-use Rattle.std.proofs.Common.{◌≡◌, ◌↔◌, ◌⊎◌, ◌∙◌, ◌<◌, ◌≤◌, ◌+◌, ◌%◌, ℕ, List, [], Bool, refl, sym, ap, subst, arith, length, get_or, inl, inr}
-use Rattle.std.specs.Prelude.{map, slice_index}
+use Rattle.std.proofs.Common.{◌≡◌, ◌⊎◌, ◌∙◌, ◌<◌, ◌≤◌, ◌+◌, ◌%◌, ℕ, List, [], Bool, sym, ap, subst, arith, length, inl, inr}
+use Rattle.std.specs.Prelude.{slice_index}
 use Rattle.std.proofs.lemmas.Bool.{cases_lt}
 use Rattle.std.proofs.lemmas.List.{get_or-map, get_or_default, length-map}
-use Rattle.dx_ports.specs.Members.{◌∈◌, Each}
+use Rattle.dx_ports.specs.Members.{◌∈◌}
 use Rattle.dx_ports.proofs.Members.{in_at, contains_from_in}
 use Rattle.dx_instance.specs.Cells.{key_of, numbers_at}
 use Rattle.dx_joins.specs.declared.plan.Plan.{Plan}
-use Rattle.dx_joins.specs.Collecting.{Collection, Collects, Gains, MoreThan}
+use Rattle.dx_joins.specs.Collecting.{Collection, Gains, MoreThan}
 use Rattle.dx_joins.specs.Looking.{IsNext, keys_of, numbers_in}
 use Rattle.dx_joins.specs.Planning.{IsPlan, Pairs}
 use Rattle.dx_joins.proofs.Places.{keys_meet}

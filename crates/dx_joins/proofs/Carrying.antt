@@ -1,20 +1,20 @@
 -- Partial matches, pattern by pattern.
-use Rattle.std.proofs.Common.{◌≡◌, ◌↔◌, ◌⊎◌, ◌∙◌, ◌<◌, ◌≤◌, ◌+◌, ◌++◌, ◌∷◌, ◌^◌, ℕ, List, [], Bool, true, false, refl, sym, ap, subst, arith, length, get_or, take, drop, inl, inr, Result, Ok, Err, Option, None, Some}
-use Rattle.std.specs.Prelude.{map, IfOk, IfSome, MatchOption}
+use Rattle.std.proofs.Common.{◌≡◌, ◌↔◌, ◌⊎◌, ◌∙◌, ◌<◌, ◌≤◌, ◌+◌, ◌++◌, ◌∷◌, ◌^◌, ℕ, List, [], Bool, refl, sym, ap, subst, arith, length, get_or, take, drop, inl, inr, Result, Ok, Err, Option, None, Some}
+use Rattle.std.specs.Prelude.{IfOk, IfSome, MatchOption}
 use Rattle.std.specs.declared.alloc.AllocError.{AllocError}
 use Rattle.std.proofs.lemmas.List.{length-append, drop_more}
-use Rattle.dx_ports.specs.Members.{◌∈◌, ◌⊆◌, here, there, Each, Distinct}
+use Rattle.dx_ports.specs.Members.{◌∈◌, ◌⊆◌, here, there, Distinct}
 use Rattle.dx_ports.proofs.Members.{in_left, in_right, from_append}
 use Rattle.dx_instance.specs.Cells.{NumberTable}
 use Rattle.dx_instance.specs.Shown.{numbers_of_table}
 use Rattle.dx_joins.specs.declared.pattern.Pattern.{Pattern}
 use Rattle.dx_joins.specs.declared.premise.Partial.{Partial}
 use Rattle.dx_joins.specs.declared.plan.Plan.{Plan}
-use Rattle.dx_joins.specs.Collecting.{AreThose, Collection, Collects, Gains, MoreThan}
-use Rattle.dx_joins.specs.Joining.{AreMarked, Joined, Says, Tells, variables_of}
-use Rattle.dx_joins.specs.Planning.{Carries, IsNeeded, IsTold, Pairs, PairsWith, StepsTo, Told}
+use Rattle.dx_joins.specs.Collecting.{AreThose, Collection, Gains, MoreThan}
+use Rattle.dx_joins.specs.Joining.{variables_of}
+use Rattle.dx_joins.specs.Planning.{Carries, IsNeeded, IsTold, PairsWith, StepsTo, Told}
 use Rattle.dx_joins.proofs.Collections.{more_same}
-use Rattle.dx_joins.proofs.Patterns.{all_but_last, in_pattern, split_length, step_to, to_step, variables_more}
+use Rattle.dx_joins.proofs.Patterns.{all_but_last, split_length, step_to, to_step, variables_more}
 
 nothing : {Z : Type 0} {t : List ℕ} → t ∈ [] → Z
 nothing m = elim m [ ]

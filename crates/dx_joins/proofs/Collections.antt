@@ -1,12 +1,13 @@
 -- What collections gain.
-use Rattle.std.proofs.Common.{◌≡◌, ◌↔◌, ◌⊎◌, ◌∙◌, ◌<◌, ◌≤◌, ◌+◌, ◌++◌, ◌∷◌, ◌^◌, ℕ, List, [], Bool, true, false, refl, sym, ap, subst, arith, length, get_or, take, inl, inr}
-use Rattle.std.specs.Prelude.{nat_lt, MatchBool}
-use Rattle.std.proofs.lemmas.Bool.{cases_Bool, ltb-true}
+use Rattle.std.proofs.Common.{◌≡◌, ◌↔◌, ◌⊎◌, ◌∙◌, ◌<◌, ◌++◌, ◌∷◌, ◌^◌, ℕ, List, [], Bool, true, false, refl, sym, ap, subst, arith, take, inl, inr}
+use Rattle.std.specs.Prelude.{nat_lt}
+use Rattle.std.proofs.lemmas.Bool.{ltb-true}
 use Rattle.std.proofs.lemmas.List.{length-take-le}
-use Rattle.dx_ports.specs.Members.{◌∈◌, ◌⊆◌, here, there, Each}
+use Rattle.dx_ports.specs.Members.{◌∈◌, ◌⊆◌, here, there}
 use Rattle.dx_ports.proofs.Members.{in_left, in_right, from_append}
 use Rattle.dx_model.proofs.Lists.{from_take}
 use Rattle.dx_instance.specs.Cells.{NumberTable, with_numbers}
+use Rattle.dx_joins.proofs.Distincts.{ascend_distinct}
 use Rattle.dx_joins.specs.Collecting.{Collection, Collects, FirstAscend, Gains, MoreThan}
 
 pub gains_nothing : (c : Collection) (P : List ℕ → Type 0) → ((t : List ℕ) → ¬ (P t)) → Gains c c P
@@ -42,7 +43,7 @@ gains_then old mid new P Q R s g h = record {
 }
 
 pub more_same : (most : ℕ) (P Q : List ℕ → Type 0) → ((t : List ℕ) → P t → Q t) → MoreThan most P → MoreThan most Q
-more_same most P Q s m = record { some = m.some; ascend = m.ascend; each = λ t k. s t (m.each t k); more = m.more; few = m.few }
+more_same most P Q s m = record { some = m.some; distinct = m.distinct; each = λ t k. s t (m.each t k); more = m.more; few = m.few }
 
 pub more_then : (old mid : Collection) (P Q R : List ℕ → Type 0) → ((t : List ℕ) → P t → R t) → ((t : List ℕ) → Q t → R t) → Gains old mid P → MoreThan mid.most (λ t. (t ∈ mid.rows) ⊎ Q t)
     → MoreThan old.most (λ t. (t ∈ old.rows) ⊎ R t)
@@ -66,7 +67,7 @@ pub pushed : (full : Bool) (most width n : ℕ) (old rows : List (List ℕ)) (ro
     → Collects full (record { width = width; most = most; rows = old }) (record { width = width; most = most; rows = rows }) (λ t. t ≡ row)
 pushed true most width n old rows row e small f s = record {
   some = take n rows;
-  ascend = f.1;
+  distinct = ascend_distinct (take n rows) f.1;
   each = λ t m. elim (from_append old (s.1 t (from_take n rows m))) [ inl l ↦ inl l | inr r ↦ inr (last_in r) ];
   more = let k = ltb-true most n (sym e) in omega (arith, k, length-take-le n rows f.0);
   few = omega (arith, small, length-take-le n rows f.0);

@@ -1,14 +1,12 @@
 -- Derived variables: over texts, and collected as rows of numbers.
-use Rattle.std.proofs.Common.{◌≡◌, ◌↔◌, ◌⊎◌, ◌∙◌, ◌<◌, ◌≤◌, ◌+◌, ◌-◌, ◌^◌, ◌++◌, ◌∷◌, ℕ, zero, suc, cond, eqb, List, [], Bool, true, false, refl, sym, ap, subst, arith, length, get_or, take, inl, inr, Result, Ok, Err, Option, None, Some}
-use Rattle.std.specs.Prelude.{map, nat_lt, slice_index_or, IfOk, MatchOption}
+use Rattle.std.proofs.Common.{◌≡◌, ◌∙◌, ◌<◌, ◌≤◌, ◌+◌, ◌-◌, ◌++◌, ◌∷◌, ℕ, suc, cond, List, [], true, false, refl, sym, ap, subst, arith, length, get_or, inl, inr}
+use Rattle.std.specs.Prelude.{map, nat_lt}
 use Rattle.std.specs.List.{range_with_len}
-use Rattle.std.specs.declared.alloc.AllocError.{AllocError}
-use Rattle.std.proofs.lemmas.Bool.{cases_Bool, cases_lt, cond-true, cond-false, eqb-false, ltb-true, ltb-false, true≢false}
-use Rattle.std.proofs.lemmas.List.{map-append, length-map, length-append, get_or_default}
-use Rattle.dx_ports.specs.Members.{◌∈◌, ◌⊆◌, here, there, Each, Distinct}
-use Rattle.dx_ports.proofs.Members.{in_left, in_right, from_append, in_map, from_map, in_at, contains_from_in, in_flat_map}
+use Rattle.std.proofs.lemmas.Bool.{cases_Bool, cond-true, cond-false, ltb-true, ltb-false}
+use Rattle.std.proofs.lemmas.List.{map-append, length-map}
+use Rattle.dx_ports.specs.Members.{◌∈◌, ◌⊆◌, here, there, Each}
+use Rattle.dx_ports.proofs.Members.{in_flat_map}
 use Rattle.dx_ports.proofs.Tests.{map_same}
-use Rattle.dx_model.specs.declared.values.Value.{Value}
 use Rattle.dx_model.specs.declared.facts.Fact.{Fact}
 use Rattle.dx_model.specs.declared.rules.Cell.{Cell}
 use Rattle.dx_model.specs.declared.rules.Cell.TheVariants.{Var, Ex, Lit}
@@ -16,10 +14,10 @@ use Rattle.dx_model.specs.declared.values.Value.TheVariants.{Const}
 use Rattle.dx_model.specs.declared.rules.Atom.{Atom}
 use Rattle.dx_model.specs.declared.rules.Derived.{Derived}
 use Rattle.dx_model.specs.Values.{Conversions, Text, Tuple}
-use Rattle.dx_model.specs.Rules.{Derive, cells_of, premise_fact, after_cells, text_of, cell_value}
+use Rattle.dx_model.specs.Rules.{Derive, cells_of, after_cells, text_of, cell_value}
 use Rattle.dx_model.proofs.Canonical.{text_of-map}
 use Rattle.dx_model.proofs.RowsExist.{below_after}
-use Rattle.dx_joins.specs.Shown.{IsFound, IsShown}
+use Rattle.dx_joins.specs.Shown.{IsShown}
 use Rattle.dx_joins.specs.Derivations.{derived_texts, given_to}
 
 pub map_range : {X : Type 0} (F : ℕ → X) (n : ℕ) (es : List X) (d : X) → ((i : ℕ) → i < length es → F (n + i) ≡ get_or es i d) → map F (range_with_len n (length es)) ≡ es

@@ -1,5 +1,5 @@
 -- Collected rows whose symbols grow.
-use Rattle.std.proofs.Common.{◌≡◌, ◌↔◌, ◌⊎◌, ◌∙◌, ◌<◌, ◌≤◌, ◌+◌, ◌-◌, ◌^◌, ◌++◌, ◌∷◌, ℕ, zero, suc, cond, eqb, List, [], Bool, true, false, refl, sym, ap, subst, arith, length, get_or, take, inl, inr, Result, Ok, Err, Option, None, Some}
+use Rattle.std.proofs.Common.{◌≡◌, ◌↔◌, ◌⊎◌, ◌∙◌, ◌<◌, ◌≤◌, ◌+◌, ◌++◌, ◌∷◌, ℕ, eqb, List, [], Bool, true, false, refl, sym, ap, subst, arith, length, get_or, take, inl, inr, Result, Ok, Err, Option, None, Some}
 use Rattle.std.specs.Prelude.{map, slice_index, slice_index_or, IfOk, MatchOption}
 use Rattle.std.specs.List.{range_with_len}
 use Rattle.std.specs.declared.alloc.AllocError.{AllocError}
@@ -7,8 +7,8 @@ use Rattle.std.proofs.lemmas.Bool.{cases_Bool, cases_lt, eqb-false}
 use Rattle.std.proofs.lemmas.List.{length-map, length-append, get_or_default, get_or-map, map-append, append_assoc, take_more}
 use Rattle.std.proofs.lemmas.Simd.{map-map}
 use Rattle.dx_joins.specs.Looking.{numbers_in}
-use Rattle.dx_ports.specs.Members.{◌∈◌, ◌⊆◌, here, there, Each, Distinct}
-use Rattle.dx_ports.proofs.Members.{in_left, in_right, from_append, in_map, from_map, in_at, contains_from_in}
+use Rattle.dx_ports.specs.Members.{◌∈◌, ◌⊆◌, here, there, Each}
+use Rattle.dx_ports.proofs.Members.{from_append, in_map, from_map, in_at, contains_from_in}
 use Rattle.dx_ports.proofs.Tests.{map_same}
 use Rattle.dx_model.specs.declared.values.Value.{Value}
 use Rattle.dx_model.specs.declared.values.Value.TheVariants.{Const}
@@ -16,7 +16,7 @@ use Rattle.dx_model.specs.declared.rules.Derived.{Derived}
 use Rattle.dx_model.specs.Values.{Conversions, Text, Tuple}
 use Rattle.dx_model.specs.Rules.{text_of}
 use Rattle.dx_instance.specs.Numbers.{AreApart, Extends, value_of}
-use Rattle.dx_instance.specs.Cells.{NumberTable, NumbersAscend, numbers_at}
+use Rattle.dx_instance.specs.Cells.{NumberTable, numbers_at}
 use Rattle.dx_instance.proofs.ShownFacts.{grown_value, longer}
 use Rattle.dx_joins.specs.Collecting.{AreThose, Collection, Collects, Gains, MoreThan}
 use Rattle.dx_joins.specs.Planning.{place_of}
@@ -73,7 +73,7 @@ standing_full S S' before most got P Q apart e g m s q st =
     let long = length-map m.some (texts_of S') in
     record {
       tuples = map (texts_of S') m.some;
-      distinct = distinct_texts S' m.some apart texts m.ascend;
+      distinct = distinct_texts S' m.some apart texts m.distinct;
       each = λ t k. let r = from_map (texts_of S') m.some k in
           elim (m.each r.0 r.1) [
             | inl l ↦ s t ((st.exact t).0 (subst (λ (u : Tuple). u ∈ map (texts_of S) before.rows) (sym (texts_stay S S' r.0 e (st.texts r.0 l)) ∙ r.2) (in_map (texts_of S) l)))
@@ -155,7 +155,7 @@ module _ (convert : Conversions) (wanted : List ℕ) (derived : List Derived) (f
       let long = length-map r.some (texts_of S) in
       record {
         tuples = map (texts_of S) r.some;
-        distinct = distinct_texts S r.some apart (λ x i. st.texts x (r.each x i)) r.ascend;
+        distinct = distinct_texts S r.some apart (λ x i. st.texts x (r.each x i)) r.distinct;
         each = λ t i. let z = from_map (texts_of S) r.some i in
             whole q h t ((st.exact t).0 (subst (λ (u : Tuple). u ∈ map (texts_of S) out.rows) z.2 (in_map (texts_of S) (r.each z.0 z.1))));
         more = let a = r.more in omega (arith, a, long);

@@ -1,15 +1,14 @@
 -- Pairs of rows.
-use Rattle.std.proofs.Common.{◌≡◌, ◌↔◌, ◌∙◌, ◌<◌, ◌≤◌, ◌+◌, ◌++◌, ℕ, List, Bool, refl, sym, ap, subst, arith, length, inl, inr, Result, Ok, Err}
-use Rattle.std.specs.Prelude.{map, slice_index, IfOk}
+use Rattle.std.proofs.Common.{◌≡◌, ◌∙◌, ◌++◌, ℕ, List, Bool, sym, ap, length, Result, Ok, Err}
+use Rattle.std.specs.Prelude.{slice_index, IfOk}
 use Rattle.std.specs.declared.alloc.AllocError.{AllocError}
 use Rattle.std.proofs.lemmas.List.{length-map}
-use Rattle.dx_ports.specs.Members.{◌∈◌, Each}
 use Rattle.dx_joins.specs.declared.plan.Plan.{Plan}
 use Rattle.dx_joins.specs.Collecting.{Collection, Collects}
-use Rattle.dx_joins.specs.Joining.{AreMarked, Joined}
+use Rattle.dx_joins.specs.Joining.{AreMarked}
 use Rattle.dx_joins.specs.Looking.{numbers_in}
 use Rattle.dx_joins.specs.Planning.{IsPlan, Pairs, place_of}
-use Rattle.dx_joins.proofs.Places.{joined_from, joined_agree, joined_is}
+use Rattle.dx_joins.proofs.Places.{joined_from, joined_is}
 use Rattle.dx_joins.proofs.Collections.{collects_more}
 
 pub gathered_width : (p : Plan) (row buffer : List ℕ) → IsPlan p → buffer ≡ numbers_in row p.places.items → length buffer ≡ length p.kept.items

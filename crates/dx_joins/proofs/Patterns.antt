@@ -1,16 +1,15 @@
 -- Patterns, their variables, and assignments that agree on them.
-use Rattle.std.proofs.Common.{◌≡◌, ◌↔◌, ◌⊎◌, ◌∙◌, ◌<◌, ◌≤◌, ◌+◌, ◌++◌, ◌∷◌, ℕ, zero, suc, cond, eqb, List, [], Bool, true, false, refl, sym, ap, subst, arith, length, get_or, take, drop, inl, inr}
-use Rattle.std.specs.Prelude.{map, flat_map}
+use Rattle.std.proofs.Common.{◌≡◌, ◌⊎◌, ◌∙◌, ◌<◌, ◌≤◌, ◌+◌, ◌++◌, ◌∷◌, ℕ, zero, suc, cond, eqb, List, [], Bool, false, refl, sym, ap, subst, arith, length, get_or, take, inl, inr}
+use Rattle.std.specs.Prelude.{map}
 use Rattle.std.specs.List.{list_any}
 use Rattle.std.proofs.lemmas.Bool.{cases_Bool, eqb-true, eq-eqb, cond-true, cond-false}
 use Rattle.std.proofs.lemmas.List.{length-append, take_more, take_all, append-nil, append_assoc}
 use Rattle.dx_ports.specs.Members.{◌∈◌, ◌⊆◌, here, there, Each}
-use Rattle.dx_ports.proofs.Members.{in_left, in_right, from_append, in_flat_map, from_flat_map, map_agrees, in_at, distinct_more}
+use Rattle.dx_ports.proofs.Members.{in_left, in_right, from_append, in_flat_map, map_agrees, in_at, distinct_more}
 use Rattle.dx_ports.proofs.Tests.{map_same, to_any, from_any}
 use Rattle.dx_instance.specs.Cells.{NumberTable}
-use Rattle.dx_instance.specs.Shown.{numbers_of_table}
 use Rattle.dx_joins.specs.declared.pattern.Pattern.{Pattern}
-use Rattle.dx_joins.specs.Joining.{AreMarked, Joined, Says, Stands, Tells, variables_of}
+use Rattle.dx_joins.specs.Joining.{Says, Stands, Tells, variables_of}
 use Rattle.dx_joins.specs.declared.premise.Partial.{Partial}
 use Rattle.dx_joins.specs.Planning.{AddsOnce, IsTold, StepsTo}
 
@@ -32,19 +31,19 @@ pub all_but_last : (ps : List Pattern) (i : ℕ) (p : Pattern) → i < length ps
 all_but_last ps i p h l e = ap (λ (q : Pattern). take i ps ++ q ∷ []) e ∙ sym (take_more ps i p h) ∙ take_all (i + 1) ps l
 
 -- one assignment on some variables, and another elsewhere
-abbrev mixed : List ℕ → (ℕ → ℕ) → (ℕ → ℕ) → ℕ → ℕ
+abbrev pub mixed : List ℕ → (ℕ → ℕ) → (ℕ → ℕ) → ℕ → ℕ
 mixed live f g x = cond (list_any (eqb x) live) (f x) (g x)
 
-mixed_on : (live : List ℕ) (f g : ℕ → ℕ) (x : ℕ) → x ∈ live → mixed live f g x ≡ f x
+pub mixed_on : (live : List ℕ) (f g : ℕ → ℕ) (x : ℕ) → x ∈ live → mixed live f g x ≡ f x
 mixed_on live f g x m = cond-true (list_any (eqb x) live) (f x) (g x) (to_any (eqb x) live m (eq-eqb x x refl))
 
-decide_in : (x : ℕ) (live : List ℕ) → (x ∈ live) ⊎ (list_any (eqb x) live ≡ false)
+pub decide_in : (x : ℕ) (live : List ℕ) → (x ∈ live) ⊎ (list_any (eqb x) live ≡ false)
 decide_in x live = elim (cases_Bool (list_any (eqb x) live)) [
   | inl t ↦ let r = from_any (eqb x) live t in inl (subst (λ (y : ℕ). y ∈ live) (sym (eqb-true x r.0 r.2)) r.1)
   | inr f ↦ inr f
 ]
 
-stands_same : (T : List NumberTable) (marks : List Bool) (f g : ℕ → ℕ) (p : Pattern) → ((x : ℕ) → x ∈ p.variables.items → g x ≡ f x) → Stands T marks f p → Stands T marks g p
+pub stands_same : (T : List NumberTable) (marks : List Bool) (f g : ℕ → ℕ) (p : Pattern) → ((x : ℕ) → x ∈ p.variables.items → g x ≡ f x) → Stands T marks f p → Stands T marks g p
 stands_same T marks f g p s h = rw (map_same g f p.variables.items s) h
 
 module _ (T : List NumberTable) (marks : List Bool) (done : List Pattern) (p : Pattern) (q : Partial) (kept : List ℕ)
@@ -110,6 +109,9 @@ need_none names kept P i h n all y m p = elim (from_append (take i names) (rw (t
     last : y ∈ (get_or names i 0 ∷ []) → P (get_or names i 0)
     last (here d) = subst P (sym d) p
     last (there k) = elim k [ ]
+
+pub only_more : (P : ℕ → Type 0) (kept new : List ℕ) (x : ℕ) → P x → AddsOnce kept new x → Each kept P → Each new P
+only_more P kept new x p a only y m = elim ((a.all y).0 m) [ inl l ↦ only y l | inr q ↦ subst P (sym q) p ]
 
 pub some_more : (names kept new : List ℕ) (i x : ℕ) → i < length names → x ≡ get_or names i 0 → AddsOnce kept new x → kept ⊆ names → new ⊆ names
 some_more names kept new i x h e a s y m = elim ((a.all y).0 m) [ inl l ↦ s y l | inr q ↦ subst (λ (z : ℕ). z ∈ names) (sym (q ∙ e)) (in_at names i 0 h) ]

@@ -1,11 +1,11 @@
 -- Places of variables, and rows that two rows make.
-use Rattle.std.proofs.Common.{◌≡◌, ◌↔◌, ◌⊎◌, ◌∙◌, ◌<◌, ◌+◌, ◌-◌, ◌++◌, ◌∷◌, ℕ, suc, cond, eqb, List, [], true, false, refl, sym, ap, subst, arith, length, get_or, take, drop, inl, inr}
+use Rattle.std.proofs.Common.{◌≡◌, ◌∙◌, ◌<◌, ◌+◌, ◌++◌, ◌∷◌, ℕ, suc, eqb, List, [], false, refl, sym, ap, subst, arith, length, get_or, drop, inl, inr}
 use Rattle.std.specs.Prelude.{map, slice_index}
 use Rattle.std.proofs.lemmas.Bool.{cases_Bool, eqb-true, eqb-false, eq-eqb, ne_eqb}
 use Rattle.std.proofs.lemmas.List.{map-append, drop_more, length-map, length-append, get_or-map}
 use Rattle.std.proofs.lemmas.Simd.{map-map}
 use Rattle.dx_ports.specs.Members.{◌∈◌, ◌⊆◌, here, there, Distinct, Each}
-use Rattle.dx_ports.proofs.Members.{in_left, in_right, from_append, from_map, in_map}
+use Rattle.dx_ports.proofs.Members.{in_right, from_append, from_map}
 use Rattle.dx_ports.proofs.Tests.{map_same}
 use Rattle.dx_instance.specs.Cells.{key_of}
 use Rattle.dx_joins.specs.Joining.{Joined}

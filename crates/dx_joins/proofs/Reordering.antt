@@ -1,6 +1,6 @@
 -- Patterns in another order have the same matches.
-use Rattle.std.proofs.Common.{◌≡◌, ◌∙◌, ◌<◌, ◌^◌, ℕ, List, [], ◌∷◌, length, refl, sym, subst, Result, Ok, Err, Option, Some, None, arith}
-use Rattle.std.specs.Prelude.{IfOk, IsPermutation, MatchOption, flat_map}
+use Rattle.std.proofs.Common.{◌≡◌, ◌∙◌, ◌<◌, ◌^◌, ℕ, List, [], ◌∷◌, length, refl, sym, subst, Result, Ok, Err, Option, Some, None}
+use Rattle.std.specs.Prelude.{IfOk, IsPermutation, MatchOption}
 use Rattle.std.proofs.lemmas.List.Concat.{length-flat_map}
 use Rattle.std.proofs.lemmas.List.Sorted.{Contains-permutation, IsPermutation-sym, sum_by-IsPermutation}
 use Rattle.dx_ports.specs.Members.{◌∈◌, ◌⊆◌, Each, here}

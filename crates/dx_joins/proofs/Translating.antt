@@ -1,20 +1,14 @@
 -- Matches over texts and over numbers.
-use Rattle.std.proofs.Common.{◌≡◌, ◌↔◌, ◌⊎◌, ◌∙◌, ◌<◌, ◌≤◌, ◌+◌, ◌-◌, ◌^◌, ◌++◌, ◌∷◌, ℕ, zero, suc, cond, List, [], Bool, true, false, refl, sym, ap, subst, arith, length, get_or, take, inl, inr, Some, slice_get, Result, Ok, Err, Option, None}
+use Rattle.std.proofs.Common.{◌≡◌, ◌∙◌, ◌<◌, ◌+◌, ◌^◌, ◌++◌, ◌∷◌, ℕ, zero, suc, cond, List, [], Bool, true, false, refl, sym, ap, subst, arith, length, get_or, take, inl, inr, Some, slice_get, Result, Ok, Err, Option, None}
 use Rattle.std.specs.Prelude.{map, flat_map, IfOk, MatchOption}
-use Rattle.std.specs.List.{AllPairs}
 use Rattle.std.specs.declared.alloc.AllocError.{AllocError}
-use Rattle.std.specs.Ordering.{ordering_reverse}
-use Rattle.std.specs.declared.cmp.Ordering.{Ordering}
-use Rattle.std.specs.declared.cmp.Ordering.TheVariants.{Less, Equal, Greater}
-use Rattle.std.proofs.lemmas.Bool.{cases_Bool, cond-true, cond-false, true≢false}
-use Rattle.std.proofs.lemmas.Cmp.{nat_list_cmp_total}
-use Rattle.std.proofs.lemmas.List.{get_or-map, get_or_default, length-map, length-append, get_or_append_left, map-append, append-nil, take_more, take_all}
+use Rattle.std.proofs.lemmas.Bool.{cases_Bool, true≢false}
+use Rattle.std.proofs.lemmas.List.{get_or-map, length-map, append-nil, take_more}
 use Rattle.dx_ports.specs.Members.{◌∈◌, ◌⊆◌, here, there, Each, Distinct}
-use Rattle.dx_ports.proofs.Members.{in_left, in_right, from_append, in_map, from_map, in_at, contains_from_in, in_flat_map, from_flat_map}
+use Rattle.dx_ports.proofs.Members.{in_map, from_map, in_at, in_flat_map, from_flat_map}
 use Rattle.dx_ports.proofs.Tests.{map_same}
 use Rattle.dx_model.specs.declared.values.Value.{Value}
 use Rattle.dx_model.specs.declared.values.Value.TheVariants.{Const, Null}
-use Rattle.dx_model.specs.declared.facts.Fact.{Fact}
 use Rattle.dx_model.specs.declared.rules.Cell.{Cell}
 use Rattle.dx_model.specs.declared.rules.Cell.TheVariants.{Var, Ex, Lit}
 use Rattle.dx_model.specs.declared.rules.Atom.{Atom}
@@ -22,32 +16,22 @@ use Rattle.dx_model.specs.Values.{Conversions, Text, Tuple}
 use Rattle.std.proofs.lemmas.Simd.{map-map}
 use Rattle.dx_model.specs.Rules.{cell_value, cells_of, premise_fact, after_cells}
 use Rattle.dx_model.specs.Fitting.{IsVariable, variable_in}
-use Rattle.dx_instance.specs.Stored.{TableRows, facts, rows_of, widths}
+use Rattle.dx_instance.specs.Stored.{facts, rows_of, widths}
 use Rattle.dx_instance.specs.Numbers.{AreApart, value_of}
 use Rattle.dx_model.specs.Covers.{same_value}
 use Rattle.dx_model.proofs.Before.{same_value-refl, same_value-true}
-use Rattle.dx_instance.specs.Cells.{NumberTable, NumbersAscend, numbers_at}
-use Rattle.dx_instance.specs.Shown.{AreBelow, NumbersFit, PartsFit, numbers_of_table, shown_row, shown_tables, shown}
-use Rattle.dx_instance.proofs.TableFacts.{numbers_cmp}
+use Rattle.dx_instance.specs.Cells.{NumberTable}
+use Rattle.dx_instance.specs.Shown.{AreBelow, PartsFit, numbers_of_table, shown_row, shown_tables, shown}
 use Rattle.dx_instance.proofs.ShownFacts.{number_same, row_same}
 use Rattle.dx_instance.proofs.StoredFacts.{row_from_fact, fact_from_row}
 use Rattle.dx_joins.specs.declared.pattern.Pattern.{Pattern}
 use Rattle.dx_joins.specs.Collecting.{MoreThan}
 use Rattle.dx_joins.specs.Joining.{AreMarked, Says, Stands, variables_of}
 use Rattle.dx_joins.specs.Planning.{FitPattern, IsTold, Told}
-use Rattle.dx_joins.specs.Shown.{ArePatterns, AreTexts, FitsMatching, IsFound, IsPattern, IsShown, MoreTuples, StandFor, is_text, text_in, texts_of}
+use Rattle.dx_joins.specs.Shown.{ArePatterns, AreTexts, IsPattern, IsShown, MoreTuples, StandFor, is_text, text_in, texts_of}
+use Rattle.dx_joins.proofs.Distincts.{distinct_map}
 
 -- ---- distinct tuples
-
-never_less : (x : List ℕ) → ¬ (numbers_cmp x x ≡ Less)
-never_less x e = let t = nat_list_cmp_total.antisymm x x in absurd (cc (rw e at t))
-
-pub distinct_from : {X : Type 0} (xs : List X) → AllPairs (λ a b. ¬ (a ≡ b)) xs → Distinct xs
-distinct_from [] h = tt
-distinct_from (x ∷ xs) h = (
-  (λ m. let c = contains_from_in m in h 0 (suc c.0) x (omega arith) (omega (arith, c.1)) (sym c.2)),
-  distinct_from xs (λ i j d a b. h (suc i) (suc j) d (omega (arith, a)) (omega (arith, b))),
-)
 
 pub text_back : (v : Value) → is_text v ≡ true → Const (text_in v) ≡ v
 text_back (Const t) e = refl
@@ -63,18 +47,8 @@ shown_texts S (n ∷ row) h =
 pub texts_same : (S : List Value) (a b : List ℕ) → AreApart S → AreTexts S a → AreTexts S b → texts_of S a ≡ texts_of S b → a ≡ b
 texts_same S a b p h k e = row_same S a b p (λ n m. (h n m).0) (λ n m. (k n m).0) (sym (shown_texts S a h) ∙ ap (map Const) e ∙ shown_texts S b k)
 
-pub distinct_texts : (S : List Value) (rows : List (List ℕ)) → AreApart S → Each rows (AreTexts S) → NumbersAscend rows → Distinct (map (texts_of S) rows)
-distinct_texts S rows p w up = distinct_from (map (texts_of S) rows) pairs
-  where
-    pairs : AllPairs (λ a b. ¬ (a ≡ b)) (map (texts_of S) rows)
-    pairs i j d h k e =
-        let long = length-map rows (texts_of S) in
-        let hj : j < length rows = omega (arith, k, long) in
-        let hi : i < length rows = omega (arith, h, hj) in
-        let a = get_or-map (texts_of S) rows i [] d hi in
-        let b = get_or-map (texts_of S) rows j [] d hj in
-        let same = texts_same S (get_or rows i []) (get_or rows j []) p (w _ (in_at rows i [] hi)) (w _ (in_at rows j [] hj)) (sym a ∙ e ∙ b) in
-        never_less (get_or rows j []) (subst (λ (r : List ℕ). numbers_cmp r (get_or rows j []) ≡ Less) same (up i j [] h hj))
+pub distinct_texts : (S : List Value) (rows : List (List ℕ)) → AreApart S → Each rows (AreTexts S) → Distinct rows → Distinct (map (texts_of S) rows)
+distinct_texts S rows p w once = distinct_map (texts_of S) rows (λ a b m k e. texts_same S a b p (w a m) (w b k) e) once
 
 -- ---- numbers of values
 
@@ -262,7 +236,7 @@ module _ (S : List Value) (T : List NumberTable) (fits : PartsFit S T) where
         let long = length-map h.some (texts_of S) in
         record {
           tuples = map (texts_of S) h.some;
-          distinct = distinct_texts S h.some fits.apart texts h.ascend;
+          distinct = distinct_texts S h.some fits.apart texts h.distinct;
           each = λ t m. let r = from_map (texts_of S) h.some m in
               let w = h.each r.0 r.1 in
               subst (λ (u : Tuple). IsShown convert premise [] (facts (shown_tables S T)) shown u) (ap (texts_of S) (sym w.2) ∙ r.2) (to_texts w.0 w.1);

@@ -1,5 +1,5 @@
 -- Joins over values of any kind are those in which each number counts.
-use Rattle.std.proofs.Common.{◌≡◌, ◌↔◌, ◌∙◌, ℕ, zero, suc, List, [], ◌∷◌, Bool, true, false, refl, sym, ap, subst, arith, length, replicate, Result, Ok, Err, Option, None, Some}
+use Rattle.std.proofs.Common.{◌≡◌, ◌↔◌, ◌∙◌, ℕ, List, [], ◌∷◌, Bool, true, false, refl, sym, ap, subst, arith, length, replicate, Result, Ok, Err, Option, None, Some}
 use Rattle.std.specs.Prelude.{IfOk, MatchOption}
 use Rattle.std.specs.declared.alloc.AllocError.{AllocError}
 use Rattle.std.proofs.lemmas.List.{get_or-replicate}
@@ -27,7 +27,7 @@ pub result_joined : (S : List Value) (T : List NumberTable) (ps : List Pattern) 
 result_joined S T ps shown marks most (Err e) fits is k = tt
 result_joined S T ps shown marks most (Ok None) fits is k =
     let j = rw is at k in
-    record { some = j.some; ascend = j.ascend; each = λ t m. (told_joined S T ps shown fits t).0 (j.each t m); more = j.more; few = j.few }
+    record { some = j.some; distinct = j.distinct; each = λ t m. (told_joined S T ps shown fits t).0 (j.each t m); more = j.more; few = j.few }
 result_joined S T ps shown marks most (Ok (Some r)) fits is k =
     let j = rw is at k in
     record { width = j.width; ascend = j.ascend; exact = λ t. ((λ m. (told_joined S T ps shown fits t).0 ((j.exact t).0 m)), (λ w. (j.exact t).1 ((told_joined S T ps shown fits t).1 w))) }
@@ -46,7 +46,7 @@ pub result_none : (T : List NumberTable) (ps : List Pattern) (shown : List ℕ) 
 result_none T ps shown most (Err e) is s k = tt
 result_none T ps shown most (Ok None) is s k =
     let z = nothing_shown shown (rw is at s) in
-    record { some = k.some; ascend = k.ascend; each = λ t m. (none_joined T ps shown is z t).0 (k.each t m); more = k.more; few = k.few }
+    record { some = k.some; distinct = k.distinct; each = λ t m. (none_joined T ps shown is z t).0 (k.each t m); more = k.more; few = k.few }
 result_none T ps shown most (Ok (Some r)) is s k =
     let z = nothing_shown shown (rw is at s) in
     record { width = rw z k.width; ascend = k.ascend; exact = λ t. ((λ m. (none_joined T ps shown is z t).0 ((k.exact t).0 m)), (λ w. (k.exact t).1 ((none_joined T ps shown is z t).1 w))) }
@@ -60,7 +60,7 @@ only_none t (there m) = elim m [ ]
 pub one_more : (most : ℕ) → most ≡ 0 → MoreThan most (λ (t : List ℕ). t ≡ [])
 one_more most e = record {
   some = [] ∷ [];
-  ascend = λ i j d h k. absurd (omega (arith, h, k));
+  distinct = ((λ m. elim m [ ]), tt);
   each = only_none;
   more = omega (arith, e);
   few = omega arith;

@@ -1,5 +1,5 @@
 -- The whole of a premise with derived variables.
-use Rattle.std.proofs.Common.{◌≡◌, ◌↔◌, ◌⊎◌, ◌∙◌, ◌<◌, ◌≤◌, ◌+◌, ◌-◌, ◌^◌, ◌++◌, ℕ, List, [], ◌∷◌, refl, sym, ap, arith, length, Result, Ok, Err, Option, None, Some}
+use Rattle.std.proofs.Common.{◌≡◌, ◌↔◌, ◌∙◌, ◌<◌, ◌≤◌, ◌+◌, ◌^◌, ◌++◌, ℕ, List, [], sym, ap, arith, length, Result, Ok, Err, Option, None, Some}
 use Rattle.std.specs.Prelude.{map, IfOk, MatchOption}
 use Rattle.std.specs.List.{range_with_len}
 use Rattle.std.specs.declared.alloc.AllocError.{AllocError}
@@ -14,7 +14,7 @@ use Rattle.dx_model.specs.Values.{Conversions, Tuple}
 use Rattle.dx_model.specs.Rules.{after_cells, cells_of}
 use Rattle.dx_instance.specs.Numbers.{Extends}
 use Rattle.dx_instance.specs.Cells.{NumberTable}
-use Rattle.dx_joins.specs.Shown.{AreTexts, FitsMatching, IsShown, MoreTuples, StandFor, texts_of}
+use Rattle.dx_joins.specs.Shown.{FitsMatching, IsShown, MoreTuples, StandFor, texts_of}
 use Rattle.dx_joins.specs.Derivations.{GivenBy, IsWanted, given_to}
 use Rattle.dx_joins.proofs.Growing.{texts_grow, texts_stay}
 use Rattle.dx_joins.proofs.Derived.{derived_from, derived_to}

@@ -1,6 +1,6 @@
 -- Rows that are collected, up to a number.
 use Rattle.std.specs.Prelude.{◌≡◌, ◌↔◌, ◌⊎◌, ◌<◌, ◌≤◌, ◌^◌, ℕ, Bool, MatchBool, List, length, take}
-use Rattle.dx_ports.specs.Members.{◌∈◌, Each}
+use Rattle.dx_ports.specs.Members.{◌∈◌, Distinct, Each}
 use Rattle.dx_instance.specs.Cells.{NumberTable, NumbersAscend}
 
 -- rows of one width, of which no more than so many distinct ones are wanted
@@ -15,10 +15,10 @@ pub record Gains (old new : Collection) (P : List ℕ → Type 0) : Type 0 where
   pub most : new.most ≡ old.most
   pub exact : (t : List ℕ) → (t ∈ new.rows) ↔ ((t ∈ old.rows) ⊎ P t)
 
--- more than so many rows have P
+-- more than so many different rows have P
 pub record MoreThan (most : ℕ) (P : List ℕ → Type 0) : Type 0 where
   pub some : List (List ℕ)
-  pub ascend : NumbersAscend some
+  pub distinct : Distinct some
   pub each : Each some P
   pub more : most < length some
   pub few : length some < 2 ^ 32

@@ -6,8 +6,8 @@ ghost use Rattle.dx_joins.specs.Joining.{variables_of};
 ghost use Rattle.dx_joins.specs.Planning.{FitPattern, IsTold, Told};
 
 use crate::known::Known;
+use crate::parts::parts_rows;
 use crate::pattern::Pattern;
-use crate::premise::premise_rows;
 use dx_instance::{Numbers, Rows};
 use std::alloc::{AllocError, Global};
 
@@ -86,5 +86,5 @@ pub(crate) fn ordered_rows(
     ensures within { IfOk result (λ o. IfSome o (λ r. length r.rows ≤ most)) }
 {
     let ordered = in_order(alloc, patterns, source)?;
-    premise_rows(alloc, &ordered, shown, marks, source, most)
+    parts_rows(alloc, &ordered, shown, marks, source, most)
 }

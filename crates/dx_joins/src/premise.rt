@@ -20,8 +20,8 @@ pub(crate) struct Partial {
     pub(crate) rows: Rows,
 }
 
-// Whether the variable stands in one of the patterns.
-fn stands_in(x: u32, patterns: &[Pattern]) -> bool
+/// Whether the variable stands in one of the patterns.
+pub(crate) fn stands_in(x: u32, patterns: &[Pattern]) -> bool
     ensures { IsTrue result ↔ (x ∈ variables_of patterns.now) }
 {
     for pattern in patterns {
@@ -53,14 +53,15 @@ fn add_once(variables: &mut Vec<u32>, x: u32) -> Result<(), AllocError>
     Ok(())
 }
 
-// The variables that are still needed, each once.
-fn needed(
+/// The variables that are still needed, each once.
+pub(crate) fn needed(
     alloc: Global,
     names: &[u32],
     later: &[Pattern],
     wanted: &[u32],
 ) -> Result<Vec<u32>, AllocError>
     ensures some { IfOk result (λ v. v.items ⊆ names.now) }
+    ensures only { IfOk result (λ v. Each v.items (IsNeeded later.now wanted.now)) }
     ensures all { IfOk result (λ v. (x : ℕ) → x ∈ names.now → IsNeeded later.now wanted.now x → x ∈ v.items) }
     ensures once { IfOk result (λ v. Distinct v.items) }
     ensures few { IfOk result (λ v. length v.items ≤ length names.now) }
@@ -141,8 +142,8 @@ fn next(
     }
 }
 
-// The partial match before the first pattern.
-fn start(alloc: Global) -> Result<Partial, AllocError>
+/// The partial match before the first pattern.
+pub(crate) fn start(alloc: Global) -> Result<Partial, AllocError>
     ensures variables { IfOk result (λ p. p.variables.items ≡ []) }
     ensures rows { IfOk result (λ p. p.rows.rows ≡ [] ∷ []) }
     ensures width { IfOk result (λ p. p.rows.width ≡ 0) }

@@ -1,7 +1,7 @@
-use Rattle.std.proofs.Common.{◌≡◌, ◌∙◌, ◌-◌, ◌+◌, sym, ap, subst, arith, ℕ, List, [], length}
+use Rattle.std.proofs.Common.{◌∙◌, ◌-◌, sym, ap, arith, ℕ, List}
 use Rattle.dx_instance.specs.Cells.{numbers_at}
 use Rattle.dx_instance.proofs.TableFacts.{numbers_cmp}
-use Rattle.dx_joins.proofs.Ascending.{first_more, first_one}
+use Rattle.dx_joins.proofs.Ascending.{first_more}
 use Rattle.dx_joins.proofs.Loops.{is_less}
 use Rattle.dx_joins.proofs.collected.ascending_with.Goals as goal
 

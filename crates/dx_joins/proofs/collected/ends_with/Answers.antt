@@ -1,5 +1,5 @@
 use Rattle.dx_instance.specs.Cells.{numbers_at}
-use Rattle.std.proofs.Common.{◌≡◌, ◌∙◌, ◌-◌, sym, ap, subst, arith, ℕ, List, [], length}
+use Rattle.std.proofs.Common.{◌∙◌, ◌-◌, sym, ap, subst, arith, ℕ, List, [], length}
 use Rattle.dx_ports.specs.Members.{◌∈◌}
 use Rattle.dx_ports.proofs.Members.{in_at}
 use Rattle.std.proofs.lemmas.Slice.Eq.{bytes_eq-Decides}

@@ -1,4 +1,4 @@
-use Rattle.std.proofs.Common.{◌≡◌, ◌∙◌, sym, arith}
+use Rattle.std.proofs.Common.{◌∙◌}
 use Rattle.dx_joins.proofs.Ascending.{all_first}
 use Rattle.dx_joins.proofs.collected.in_order.Goals as goal
 

@@ -1,5 +1,4 @@
-use Rattle.std.proofs.Common.{◌≡◌, ◌∙◌, ◌++◌, ◌∷◌, [], ◌+◌, ◌<◌, sym, ap, subst, refl, ℕ, List, take, length, true}
-use Rattle.std.specs.Prelude.{map}
+use Rattle.std.proofs.Common.{◌≡◌, ◌∙◌, ◌++◌, sym, ap, subst, ℕ, List}
 use Rattle.std.proofs.lemmas.List.{append-nil, take_all}
 use Rattle.dx_ports.proofs.Members.{item_in}
 use Rattle.dx_model.specs.declared.rules.Derived.{Derived}
@@ -7,7 +6,7 @@ use Rattle.dx_instance.proofs.NumberFacts.{stays}
 use Rattle.dx_instance.proofs.ShownFacts.{extends_both}
 use Rattle.dx_joins.specs.Shown.{AreTexts, texts_of}
 use Rattle.dx_joins.specs.Derivations.{derived_texts}
-use Rattle.dx_joins.proofs.Growing.{derive_more, texts_grow, texts_stay}
+use Rattle.dx_joins.proofs.Growing.{derive_more, texts_grow}
 use Rattle.dx_joins.proofs.computed.derive.Goals as goal
 
 pub loop-one-init : goal.loop-one-init

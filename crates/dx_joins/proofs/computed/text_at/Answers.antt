@@ -1,7 +1,6 @@
-use Rattle.std.proofs.Common.{◌≡◌, ◌∙◌, sym, ap, refl, Bool}
+use Rattle.std.proofs.Common.{◌∙◌, sym, ap, refl}
 use Rattle.dx_ports.specs.Members.{here}
-use Rattle.dx_model.specs.declared.values.Value.{Value}
-use Rattle.dx_joins.specs.Shown.{is_text, text_in}
+use Rattle.dx_joins.specs.Shown.{is_text}
 use Rattle.dx_joins.proofs.computed.text_at.Goals as goal
 
 pub value-requires : goal.value-requires

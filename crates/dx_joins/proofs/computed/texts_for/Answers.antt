@@ -1,12 +1,10 @@
-use Rattle.std.proofs.Common.{◌≡◌, ◌∙◌, ◌++◌, ◌∷◌, [], ◌<◌, sym, ap, subst, refl, arith, ℕ, List, get_or, take, length}
+use Rattle.std.proofs.Common.{◌≡◌, ◌∙◌, ◌++◌, ◌∷◌, [], sym, ap, arith, ℕ, List, get_or, take}
 use Rattle.std.specs.Prelude.{map, slice_index_or}
 use Rattle.std.proofs.lemmas.List.{map_more, length-map, get_or-map}
-use Rattle.dx_ports.specs.Members.{◌∈◌, here, there}
 use Rattle.dx_ports.proofs.Members.{in_at}
 use Rattle.dx_model.specs.Rules.{text_of}
 use Rattle.dx_instance.specs.Numbers.{value_of}
-use Rattle.dx_joins.specs.Planning.{place_of}
-use Rattle.dx_joins.specs.Shown.{AreTexts, is_text, text_in, texts_of}
+use Rattle.dx_joins.specs.Shown.{text_in, texts_of}
 use Rattle.dx_joins.proofs.Growing.{text_at, one_text}
 use Rattle.dx_joins.proofs.computed.texts_for.Goals as goal
 

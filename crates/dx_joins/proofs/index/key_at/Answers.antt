@@ -1,4 +1,3 @@
-use Rattle.std.proofs.Common.{◌≡◌, ◌∙◌, sym, arith}
 use Rattle.dx_ports.proofs.Members.{in_at}
 use Rattle.dx_joins.proofs.index.key_at.Goals as goal
 

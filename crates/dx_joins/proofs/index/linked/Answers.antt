@@ -1,8 +1,7 @@
-use Rattle.std.proofs.Common.{refl, ◌≡◌, ◌∙◌, ◌-◌, ◌+◌, ◌<◌, ◌%◌, length, sym, ap, set, subst, arith, ℕ, get_or}
+use Rattle.std.proofs.Common.{◌≡◌, ◌∙◌, ◌-◌, ◌+◌, ◌<◌, ◌%◌, length, sym, ap, arith, ℕ, get_or}
 use Rattle.std.specs.Prelude.{slice_index}
 use Rattle.std.proofs.lemmas.List.{length-set, get_or_default}
-use Rattle.dx_joins.specs.Looking.{Links}
-use Rattle.dx_joins.proofs.Linking.{links_more, links_none, below_mod}
+use Rattle.dx_joins.proofs.Linking.{links_more, below_mod}
 use Rattle.dx_joins.proofs.index.linked.Goals as goal
 
 pub loop-left-preserved : goal.loop-left-preserved

@@ -1,4 +1,4 @@
-use Rattle.std.proofs.Common.{◌≡◌, ◌<◌, ◌≤◌, length}
+use Rattle.std.proofs.Common.{◌≡◌, ◌≤◌, length}
 use Rattle.dx_joins.specs.Looking.{Links}
 use Rattle.dx_joins.proofs.index.linked.Given as goal
 

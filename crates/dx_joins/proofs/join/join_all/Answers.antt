@@ -1,9 +1,9 @@
-use Rattle.std.proofs.Common.{◌≡◌, ◌∙◌, ◌⊎◌, sym, ap, subst, arith, ℕ, List}
+use Rattle.std.proofs.Common.{◌⊎◌, subst, arith, ℕ, List}
 use Rattle.dx_ports.specs.Members.{◌∈◌}
 use Rattle.dx_instance.specs.Shown.{numbers_of_table}
-use Rattle.dx_joins.specs.Collecting.{Collects, Gains, MoreThan}
+use Rattle.dx_joins.specs.Collecting.{Gains, MoreThan}
 use Rattle.dx_joins.specs.Planning.{Pairs}
-use Rattle.dx_joins.proofs.ByPlace.{by_none, by_more, by_full, by_all}
+use Rattle.dx_joins.proofs.ByPlace.{by_more, by_full, by_all}
 use Rattle.dx_joins.proofs.join.join_all.Goals as goal
 
 pub returns-then-branch : goal.returns-then-branch

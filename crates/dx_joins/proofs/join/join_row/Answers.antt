@@ -1,9 +1,9 @@
-use Rattle.std.proofs.Common.{◌≡◌, ◌∙◌, ◌⊎◌, ◌+◌, ◌%◌, ◌<◌, ◌≤◌, sym, ap, subst, arith, ℕ, List, length}
+use Rattle.std.proofs.Common.{◌≡◌, ◌∙◌, ◌⊎◌, ◌+◌, ◌%◌, ◌<◌, ap, subst, arith, ℕ, List, length}
 use Rattle.std.specs.Prelude.{slice_index}
 use Rattle.dx_ports.specs.Members.{◌∈◌}
 use Rattle.dx_instance.specs.Shown.{numbers_of_table}
 use Rattle.dx_instance.specs.Cells.{key_of}
-use Rattle.dx_joins.specs.Collecting.{Collects, Gains, MoreThan}
+use Rattle.dx_joins.specs.Collecting.{Gains, MoreThan}
 use Rattle.dx_joins.specs.Looking.{IsNext, keys_of, numbers_in}
 use Rattle.dx_joins.specs.Planning.{Pairs}
 use Rattle.dx_joins.proofs.ByPlace.{by_none, by_more, by_full, by_all, by_skip, other_bucket, next_self, keys_long}

@@ -1,4 +1,4 @@
-use Rattle.std.proofs.Common.{◌≡◌, ◌<◌, ◌≤◌, ◌-◌, ◌%◌, ℕ, List, length}
+use Rattle.std.proofs.Common.{◌<◌, ◌-◌, ◌%◌, ℕ, length}
 use Rattle.dx_instance.specs.Shown.{numbers_of_table}
 use Rattle.dx_instance.specs.Cells.{key_of, numbers_at}
 use Rattle.dx_joins.specs.Collecting.{Gains}

@@ -1,4 +1,4 @@
-use Rattle.std.proofs.Common.{◌≡◌, ℕ, take}
+use Rattle.std.proofs.Common.{take}
 use Rattle.dx_joins.specs.Joining.{AreMarked}
 use Rattle.dx_joins.proofs.pairs.are_marked.Given as goal
 

@@ -1,4 +1,3 @@
-use Rattle.std.proofs.Common.{refl, ◌≡◌, ◌∙◌, sym, ℕ, false, true}
 use Rattle.dx_ports.proofs.Members.{in_at}
 use Rattle.dx_joins.proofs.pairs.gather.Goals as goal
 

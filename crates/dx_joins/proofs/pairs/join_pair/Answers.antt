@@ -1,12 +1,11 @@
-use Rattle.std.proofs.Common.{◌≡◌, ◌∙◌, ◌++◌, ◌+◌, ◌<◌, arith, sym, ap, length, subst, ℕ, List, IfOk, IsTrue}
-use Rattle.std.proofs.lemmas.Bool.{true≢false, false≢true}
-use Rattle.dx_ports.specs.Members.{Each, ◌∈◌}
+use Rattle.std.proofs.Common.{◌∙◌, ◌++◌, arith, sym, ap, subst, ℕ, List}
+use Rattle.std.proofs.lemmas.Bool.{true≢false}
+use Rattle.dx_ports.specs.Members.{◌∈◌}
 use Rattle.dx_ports.proofs.Members.{in_right}
 use Rattle.dx_joins.specs.Looking.{numbers_in}
-use Rattle.dx_joins.specs.Joining.{AreMarked}
 use Rattle.dx_joins.proofs.Places.{places_within, joined_agree}
 use Rattle.dx_joins.proofs.Collections.{gains_nothing}
-use Rattle.dx_joins.proofs.Pairing.{gathered_width, paired}
+use Rattle.dx_joins.proofs.Pairing.{paired}
 use Rattle.dx_joins.proofs.pairs.join_pair.Goals as goal
 
 pub agree-requires-clause-within : goal.agree-requires-clause-within

@@ -1,4 +1,3 @@
-use Rattle.std.proofs.Common.{◌≡◌}
 use Rattle.dx_ports.proofs.Members.{in_at}
 use Rattle.dx_joins.proofs.plan.places.Goals as goal
 

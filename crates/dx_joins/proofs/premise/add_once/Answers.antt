@@ -1,4 +1,4 @@
-use Rattle.std.proofs.Common.{refl, ◌≡◌, ◌∙◌, sym, subst, List, ℕ}
+use Rattle.std.proofs.Common.{◌∙◌, sym, subst, List, ℕ}
 use Rattle.std.proofs.lemmas.Bool.{true≢false}
 use Rattle.dx_ports.specs.Members.{◌∈◌}
 use Rattle.dx_joins.proofs.Patterns.{adds_nothing, adds_one}

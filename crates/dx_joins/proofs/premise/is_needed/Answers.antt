@@ -1,4 +1,4 @@
-use Rattle.std.proofs.Common.{refl, ◌≡◌, ◌∙◌, sym, inl, inr}
+use Rattle.std.proofs.Common.{refl, ◌∙◌, sym, inl, inr}
 use Rattle.std.proofs.lemmas.Bool.{true≢false}
 use Rattle.dx_joins.proofs.premise.is_needed.Goals as goal
 

@@ -1,9 +1,8 @@
-use Rattle.std.proofs.Common.{refl, ◌≡◌, ◌∙◌, ◌<◌, ◌↔◌, ◌++◌, sym, ap, subst, arith, List, ℕ, length}
+use Rattle.std.proofs.Common.{◌∙◌, ◌↔◌, ◌++◌, ap, subst, arith, List, ℕ, length}
 use Rattle.std.proofs.lemmas.List.{length-append}
-use Rattle.dx_ports.specs.Members.{◌∈◌, ◌⊆◌}
-use Rattle.dx_joins.specs.declared.pattern.Pattern.{Pattern}
-use Rattle.dx_joins.specs.Collecting.{AreThose, MoreThan}
-use Rattle.dx_joins.specs.Planning.{Carries, IsNeeded, StepsTo}
+use Rattle.dx_ports.specs.Members.{◌∈◌}
+use Rattle.dx_joins.specs.Collecting.{AreThose}
+use Rattle.dx_joins.specs.Planning.{StepsTo}
 use Rattle.dx_joins.proofs.Carrying.{carry_more, found, never}
 use Rattle.dx_joins.proofs.premise.next.Goals as goal
 

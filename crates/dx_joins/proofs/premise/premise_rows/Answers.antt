@@ -1,10 +1,9 @@
-use Rattle.std.proofs.Common.{refl, ◌≡◌, ◌∙◌, ◌-◌, ◌+◌, ◌++◌, ◌∷◌, [], ◌<◌, ◌≤◌, sym, ap, subst, arith, List, ℕ, length, take, drop, get_or}
+use Rattle.std.proofs.Common.{◌≡◌, ◌∙◌, ◌-◌, ◌+◌, ◌++◌, ◌∷◌, [], ◌<◌, sym, ap, subst, arith, List, ℕ, length, take, drop, get_or}
 use Rattle.std.proofs.lemmas.List.{take_more, take_all, drop_more, length-drop}
-use Rattle.dx_ports.specs.Members.{◌∈◌}
 use Rattle.dx_ports.proofs.Members.{item_in}
 use Rattle.dx_joins.specs.declared.pattern.Pattern.{Pattern}
 use Rattle.dx_joins.specs.Planning.{Carries, StepsTo}
-use Rattle.dx_joins.proofs.Carrying.{carry_start, last_known, last_told, room, told_from, some_length}
+use Rattle.dx_joins.proofs.Carrying.{carry_start, last_known, last_told, told_from, some_length}
 use Rattle.dx_joins.proofs.Patterns.{split_length}
 use Rattle.dx_joins.proofs.premise.premise_rows.Goals as goal
 

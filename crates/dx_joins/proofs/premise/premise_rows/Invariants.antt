@@ -1,4 +1,4 @@
-use Rattle.std.proofs.Common.{◌≡◌, ◌≤◌, ◌-◌, ℕ, take, drop, length}
+use Rattle.std.proofs.Common.{take, drop}
 use Rattle.dx_joins.specs.Planning.{Carries}
 use Rattle.dx_joins.proofs.premise.premise_rows.Given as goal
 

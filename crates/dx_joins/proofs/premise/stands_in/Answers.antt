@@ -1,8 +1,8 @@
-use Rattle.std.proofs.Common.{refl, ◌≡◌, ◌∙◌, sym, ℕ, subst, get_or, List}
+use Rattle.std.proofs.Common.{refl, ◌∙◌, sym, ℕ, subst, List}
 use Rattle.std.proofs.lemmas.Bool.{false≢true, true≢false}
-use Rattle.std.proofs.lemmas.List.{take_all, get_or_default}
+use Rattle.std.proofs.lemmas.List.{take_all}
 use Rattle.dx_ports.specs.Members.{◌∈◌}
-use Rattle.dx_ports.proofs.Members.{in_at, from_flat_map, item_in}
+use Rattle.dx_ports.proofs.Members.{from_flat_map, item_in}
 use Rattle.dx_ports.proofs.Loops.{each_more}
 use Rattle.dx_joins.specs.declared.pattern.Pattern.{Pattern}
 use Rattle.dx_joins.proofs.Patterns.{in_pattern}

@@ -1,6 +1,6 @@
-use Rattle.std.proofs.Common.{refl, ◌≡◌, ◌∙◌, ◌⊎◌, ◌↔◌, sym, ap, subst, arith, List, ℕ, length, [], ◌<◌}
+use Rattle.std.proofs.Common.{◌∙◌, ◌⊎◌, ap, List, ℕ, length}
 use Rattle.dx_ports.specs.Members.{◌∈◌}
-use Rattle.dx_joins.specs.Collecting.{AreThose, Collection, Collects, Gains, MoreThan}
+use Rattle.dx_joins.specs.Collecting.{AreThose, Collection, Gains, MoreThan}
 use Rattle.dx_joins.specs.Planning.{StepsTo}
 use Rattle.dx_joins.proofs.Carrying.{few_rows, from_plan, plan_steps, step_done, step_full}
 use Rattle.dx_joins.proofs.premise.step.Goals as goal

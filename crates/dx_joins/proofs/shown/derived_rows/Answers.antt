@@ -1,4 +1,4 @@
-use Rattle.std.proofs.Common.{◌≡◌, ◌∙◌, ◌++◌, ◌+◌, ◌<◌, sym, ap, subst, refl, arith, ℕ, List, [], length, true, false}
+use Rattle.std.proofs.Common.{◌≡◌, ◌∙◌, ◌++◌, ◌<◌, sym, ap, subst, arith, ℕ, List, [], length}
 use Rattle.std.specs.Prelude.{map}
 use Rattle.std.specs.List.{range_with_len}
 use Rattle.std.proofs.lemmas.List.{length-map}
@@ -9,12 +9,12 @@ use Rattle.dx_ports.proofs.Members.{in_at}
 use Rattle.dx_instance.specs.Cells.{numbers_at}
 use Rattle.dx_instance.proofs.NumberFacts.{stays}
 use Rattle.dx_instance.proofs.ShownFacts.{extends_both}
-use Rattle.dx_joins.specs.Collecting.{AreThose, Collection, Collects, MoreThan}
+use Rattle.dx_joins.specs.Collecting.{AreThose, Collection, MoreThan}
 use Rattle.dx_joins.specs.Planning.{place_of}
 use Rattle.dx_joins.specs.Shown.{AreTexts}
 use Rattle.dx_joins.specs.Derivations.{DerivesTo}
 use Rattle.dx_joins.proofs.Carrying.{few_rows}
-use Rattle.dx_joins.proofs.Growing.{Standing, Upto, texts_grow, upto_none, upto_more, upto_full, upto_all}
+use Rattle.dx_joins.proofs.Growing.{texts_grow, upto_none, upto_more, upto_full, upto_all}
 use Rattle.dx_joins.proofs.Places.{places_within}
 use Rattle.dx_joins.proofs.shown.derived_rows.Goals as goal
 

@@ -1,4 +1,4 @@
-use Rattle.std.proofs.Common.{refl, ◌≡◌, ◌∙◌, sym, ℕ, subst, List}
+use Rattle.std.proofs.Common.{refl, ◌∙◌, sym, ℕ, subst, List}
 use Rattle.std.proofs.lemmas.Bool.{false≢true, true≢false}
 use Rattle.std.proofs.lemmas.List.{take_all}
 use Rattle.dx_ports.specs.Members.{◌∈◌}

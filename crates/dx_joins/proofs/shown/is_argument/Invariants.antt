@@ -1,4 +1,4 @@
-use Rattle.std.proofs.Common.{◌≡◌, ℕ, take}
+use Rattle.std.proofs.Common.{take}
 use Rattle.dx_model.specs.declared.rules.Derived.{Derived}
 use Rattle.dx_ports.specs.Members.{Each, ◌∈◌}
 use Rattle.dx_joins.proofs.shown.is_argument.Given as goal

@@ -1,13 +1,10 @@
-use Rattle.std.proofs.Common.{◌≡◌, ◌∙◌, ◌++◌, ◌<◌, ◌≤◌, sym, ap, subst, arith, ℕ, List, length, []}
-use Rattle.std.specs.Prelude.{MatchOption}
-use Rattle.std.specs.List.{range_with_len}
+use Rattle.std.proofs.Common.{◌∙◌, ◌<◌, ◌≤◌, sym, ap, subst, ℕ, List, length, []}
 use Rattle.std.proofs.lemmas.Bool.{eqb-true}
 use Rattle.std.proofs.lemmas.List.{nil_from_length}
-use Rattle.dx_ports.specs.Members.{◌∈◌, ◌⊆◌, Each}
-use Rattle.dx_model.specs.declared.facts.Fact.{Fact}
+use Rattle.dx_ports.specs.Members.{◌∈◌, Each}
 use Rattle.dx_instance.specs.Stored.{facts, widths}
 use Rattle.dx_instance.specs.Shown.{shown_tables}
-use Rattle.dx_joins.specs.Shown.{AreTexts, IsShown, StandFor}
+use Rattle.dx_joins.specs.Shown.{IsShown, StandFor}
 use Rattle.dx_joins.specs.Derivations.{GivenBy, IsWanted}
 use Rattle.dx_joins.proofs.Growing.{texts_grow}
 use Rattle.dx_joins.proofs.Whole.{args_wanted, fits_wanted, given_same, no_derived, none_found, result_grow, result_same, room_wanted, shown_wanted, stand_grow}

@@ -1,8 +1,6 @@
-use Rattle.std.proofs.Common.{refl, ◌≡◌, ◌∙◌, ◌<◌, ◌≤◌, ◌+◌, ◌++◌, ◌∷◌, [], sym, subst, arith, List, ℕ, length, inl, inr}
-use Rattle.std.proofs.lemmas.Bool.{true≢false, cases_lt}
+use Rattle.std.proofs.Common.{◌∙◌, ◌∷◌, [], sym, arith}
+use Rattle.std.proofs.lemmas.Bool.{true≢false}
 use Rattle.std.proofs.lemmas.List.{length-append}
-use Rattle.dx_ports.specs.Members.{◌∈◌, here, there}
-use Rattle.dx_ports.proofs.Members.{in_left, in_right, from_append}
 use Rattle.dx_joins.specs.Derivations.{IsWanted}
 use Rattle.dx_joins.proofs.Wanting.{want_more, want_none}
 use Rattle.dx_joins.proofs.shown.wanted_variables.Goals as goal

@@ -1,4 +1,4 @@
-use Rattle.std.proofs.Common.{◌≡◌, ◌<◌, ◌≤◌, ℕ, length}
+use Rattle.std.proofs.Common.{◌<◌, ◌≤◌, ℕ, length}
 use Rattle.dx_ports.specs.Members.{Each, ◌∈◌}
 use Rattle.dx_joins.specs.Derivations.{IsWanted}
 use Rattle.dx_joins.proofs.shown.wanted_variables.Given as goal

@@ -1,4 +1,3 @@
-use Rattle.std.proofs.Common.{◌≡◌, ◌∙◌, take}
 use Rattle.std.proofs.lemmas.List.{take_all}
 use Rattle.dx_joins.proofs.Translating.{patterns_more}
 use Rattle.dx_joins.proofs.texts.patterns_of.Goals as goal

@@ -1,4 +1,4 @@
-use Rattle.std.proofs.Common.{◌≡◌, take}
+use Rattle.std.proofs.Common.{take}
 use Rattle.dx_joins.specs.Shown.{ArePatterns}
 use Rattle.dx_joins.proofs.texts.patterns_of.Given as goal
 

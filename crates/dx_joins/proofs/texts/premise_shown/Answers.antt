@@ -1,8 +1,6 @@
-use Rattle.std.proofs.Common.{◌≡◌, ◌∙◌, ◌<◌, ◌+◌, sym, ap, subst, arith, ℕ, List, length, []}
-use Rattle.std.specs.Prelude.{map, flat_map}
+use Rattle.std.proofs.Common.{◌∙◌, ap, length}
 use Rattle.std.proofs.lemmas.List.{length-map}
-use Rattle.dx_joins.specs.declared.pattern.Pattern.{Pattern}
-use Rattle.dx_joins.specs.Shown.{is_text, ArePatterns}
+use Rattle.dx_joins.specs.Shown.{is_text}
 use Rattle.dx_joins.proofs.Translating.{result_shown, some_patterns, all_fit, all_known, few_variables}
 use Rattle.dx_joins.proofs.texts.premise_shown.Goals as goal
 

@@ -1,7 +1,3 @@
-use Rattle.std.proofs.Common.{◌≡◌, ◌∙◌, ◌++◌, ◌∷◌, [], sym, ap, List, ℕ, take, get_or}
-use Rattle.std.specs.Prelude.{flat_map}
-use Rattle.dx_model.specs.Fitting.{variable_in}
-use Rattle.dx_model.specs.declared.rules.Cell.{Cell}
 use Rattle.dx_joins.proofs.Translating.{variables_more_in, no_variable_in}
 use Rattle.dx_joins.proofs.texts.variables_in.Goals as goal
 use Rattle.dx_joins.proofs.texts.variables_in.Goals.{in-Var+in_ok-push, in_default}

@@ -1,4 +1,3 @@
-use Rattle.std.proofs.Common.{◌≡◌, ◌∙◌}
 use Rattle.dx_joins.proofs.Collections.{pushed_is}
 use Rattle.dx_joins.proofs.collected.Collected.push.Goals as goal
 

@@ -1,4 +1,4 @@
-use Rattle.std.proofs.Common.{◌≡◌, ◌∙◌, arith, sym, ap, length}
+use Rattle.std.proofs.Common.{arith, ap, length}
 use Rattle.dx_joins.proofs.index.Index.build.Goals as goal
 
 pub linked-requires : goal.linked-requires

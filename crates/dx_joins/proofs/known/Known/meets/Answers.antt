@@ -1,4 +1,4 @@
-use Rattle.std.proofs.Common.{refl, ◌≡◌, ◌∙◌, sym, subst, ℕ, List, get_or}
+use Rattle.std.proofs.Common.{refl, ◌∙◌, sym, subst, ℕ, List, get_or}
 use Rattle.std.proofs.lemmas.Bool.{false≢true, true≢false}
 use Rattle.std.proofs.lemmas.List.{get_or_default, take_all}
 use Rattle.dx_ports.specs.Members.{◌∈◌}

@@ -1,0 +1,32 @@
+// Patterns that share no variable.
+ghost use Rattle.std.specs.Prelude.{◌≡◌, ◌↔◌, ℕ, IsTrue};
+ghost use Rattle.dx_ports.specs.Members.{◌∈◌};
+ghost use Rattle.dx_joins.specs.Joining.{variables_of};
+ghost use Rattle.dx_joins.specs.Products.{ShareNone};
+
+use crate::pattern::Pattern;
+use crate::premise::stands_in;
+
+// Whether one of these variables stands in one of the patterns.
+fn one_stands_in(variables: &[u32], patterns: &[Pattern]) -> bool
+    ensures { IsTrue result ↔ ((x : ℕ) × (x ∈ variables.now) × (x ∈ variables_of patterns.now)) }
+{
+    for x in variables {
+        if stands_in(*x, patterns) {
+            return true;
+        }
+    }
+    false
+}
+
+/// Whether no variable of the first patterns stands in the others.
+pub(crate) fn are_apart(first: &[Pattern], others: &[Pattern]) -> bool
+    ensures { IsTrue result ↔ ShareNone first.now others.now }
+{
+    for pattern in others {
+        if one_stands_in(&pattern.variables, first) {
+            return false;
+        }
+    }
+    true
+}
