@@ -145,6 +145,7 @@ fn by_rule(
     covers: &Covers,
     matches: &Matches,
     i: u32,
+    own: &[Row],
     j: u32,
     known: Vec<Option<Found>>,
 ) -> Result<Vec<Option<Found>>, AllocError>
@@ -152,13 +153,13 @@ fn by_rule(
     requires from { i < length rules.now }
     requires to { j < length rules.now }
     requires one { length matches.now.rules ≡ length rules.now }
-    requires many { length known.items ≡ length (slice_index_or (rows_of matches.now) i []) }
+    requires own { AreOwn rules.now (rows_of matches.now) i own.now }
+    requires many { length own.now ≡ length known.items }
     ensures many { IfOk result (λ v. length v.items ≡ length known.items) }
     ensures finds { IfOk result (λ v. (C : List Cover) → FindsAmong rules.now (rows_of matches.now) i C known.items
         → FindsAmong rules.now (rows_of matches.now) i (C ++ flat_map (places_by (rows_of matches.now) j) (used_maps (rule_at rules.now i) (rule_at rules.now j))) v.items) }
 {
-    let own = own_of(alloc, rules, matches, i)?;
-    by_maps(alloc, rules, matches, i, &own, j, covers.maps(i, j), known)
+    by_maps(alloc, rules, matches, i, own, j, covers.maps(i, j), known)
 }
 
 /// The rows that cells say at each place of a rule, with these texts of the variables.
@@ -237,9 +238,10 @@ pub(crate) fn least_covers(
 {
     let tuples = &matches.rules.items()[i as usize].tuples;
     let mut found = none_known(alloc, tuples.len())?;
+    let own = own_of(alloc, rules, matches, i)?;
     for j in 0..rules.len() {
         if covers.before(j as u32, i) {
-            found = by_rule(alloc, rules, covers, matches, i, j as u32, found)?;
+            found = by_rule(alloc, rules, covers, matches, i, &own, j as u32, found)?;
         }
     }
     Ok(found)
