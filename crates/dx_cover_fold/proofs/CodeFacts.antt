@@ -1,5 +1,5 @@
 -- The numbers by which values are compared: two are one if their values are, of which one is a text that a row can have.
-use Rattle.std.proofs.Common.{◌≡◌, ◌∙◌, ℕ, suc, ◌+◌, ◌<◌, ◌⊎◌, Bool, true, false, List, [], ◌∷◌, ◌++◌, length, get_or, take, refl, sym, ap, subst, inl, inr, arith, nat_eq, eqb}
+use Rattle.std.proofs.Common.{◌≡◌, ◌∙◌, ℕ, ◌+◌, ◌<◌, true, List, [], ◌∷◌, ◌++◌, length, get_or, take, refl, sym, ap, subst, inl, inr, arith, nat_eq, eqb}
 use Rattle.std.specs.Prelude.{◌↔◌, map}
 use Rattle.std.specs.List.{AllZip}
 use Rattle.std.specs.Cmp.Lexicographic.{pointwise, bytes_decides}
@@ -12,15 +12,14 @@ use Rattle.dx_ports.proofs.Tests.{same_test}
 use Rattle.dx_model.specs.declared.values.Value.{Value}
 use Rattle.dx_model.specs.declared.values.Value.TheVariants.{Const, Null}
 use Rattle.dx_model.specs.declared.rules.Cell.{Cell}
-use Rattle.dx_model.specs.declared.rules.Cell.TheVariants.{Var, Ex, Lit}
-use Rattle.dx_model.specs.Values.{Text, Tuple, row_cmp}
+use Rattle.dx_model.specs.Values.{row_cmp}
 use Rattle.dx_model.specs.Rules.{cell_value, text_of}
 use Rattle.dx_instance.specs.Numbers.{AreApart, value_of}
 use Rattle.dx_instance.proofs.ShownFacts.{number_same}
 use Rattle.dx_joins.specs.Shown.{AreTexts, is_text, text_in, texts_of}
 use Rattle.dx_joins.proofs.Translating.{text_back}
 use Rattle.dx_cover_fold.specs.declared.number_at.NumberAt.{NumberAt}
-use Rattle.dx_cover_fold.specs.Codes.{HasColumn, IsCode, IsHeld, IsNoText, IsOutside, IsPlanned, IsSymbol, number_in, numbers_by}
+use Rattle.dx_cover_fold.specs.Codes.{HasColumn, IsCode, IsHeld, IsPlanned, IsSymbol, numbers_by}
 use Rattle.dx_cover_fold.proofs.Finding.{row_exact, row_itself}
 
 -- ---- one value

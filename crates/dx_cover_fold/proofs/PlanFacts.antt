@@ -1,6 +1,5 @@
 -- Plans of cells.
-use Rattle.std.proofs.Common.{◌≡◌, ◌∙◌, ℕ, ◌+◌, ◌<◌, ◌≤◌, ◌⊎◌, List, [], ◌∷◌, length, get_or, drop, refl, sym, ap, subst, inl, inr, arith}
-use Rattle.std.specs.Prelude.{map}
+use Rattle.std.proofs.Common.{◌≡◌, ◌∙◌, ℕ, ◌+◌, ◌<◌, ◌≤◌, ◌⊎◌, List, [], length, get_or, drop, refl, sym, ap, subst, inl, inr, arith}
 use Rattle.std.proofs.lemmas.List.{get_or-map, get_or_default, length-map}
 use Rattle.dx_ports.specs.Members.{◌∈◌}
 use Rattle.dx_ports.proofs.Members.{in_at}
@@ -13,7 +12,7 @@ use Rattle.dx_instance.specs.Numbers.{value_of}
 use Rattle.dx_joins.specs.Shown.{AreTexts, text_in, texts_of}
 use Rattle.dx_joins.proofs.Translating.{text_back}
 use Rattle.dx_cover_fold.specs.declared.number_at.NumberAt.TheVariants.{Column, Fixed}
-use Rattle.dx_cover_fold.specs.Codes.{IsCode, IsHeld, IsPlanned, number_in}
+use Rattle.dx_cover_fold.specs.Codes.{IsCode, IsHeld, IsPlanned}
 use Rattle.dx_cover_fold.proofs.TextsOf.{text_here, text_nowhere, text_past}
 
 -- in all tuples of this width the variable has what it has from a place on

@@ -66,15 +66,7 @@ fn or_firsts(
     let mut all = Vec::with_capacity(alloc, known.len())?;
     for place in 0..rows.count() {
         let row = rows.row(place);
-        all.push(or_first(
-            alloc,
-            known[place as usize],
-            index,
-            row,
-            own,
-            rule,
-            map,
-        )?)?;
+        all.push(or_first(alloc, known[place as usize], index, row, own, rule, map)?)?;
     }
     Ok(all)
 }

@@ -52,9 +52,7 @@ pub(crate) fn value_said(
     ensures { IfOk result (λ v. v ≡ cell_value (text_of variables.now (texts_of matches.now.symbols row.now)) (λ x. NullValue (record { rule = rule; var = x; row = place })) cell.now) }
 {
     match cell {
-        Cell::Var(x) => Ok(Value::Const(text_for(
-            alloc, matches, variables, row, *x,
-        )?)),
+        Cell::Var(x) => Ok(Value::Const(text_for(alloc, matches, variables, row, *x)?)),
         Cell::Ex(var) => Ok(Value::Null(NullId {
             rule,
             var: *var,

@@ -1,4 +1,4 @@
-use Rattle.std.proofs.Common.{◌≡◌, ◌<◌, length, sym, ◌∙◌, ap, map, subst, arith}
+use Rattle.std.proofs.Common.{◌<◌, length, sym, ◌∙◌, ap, map, subst, arith}
 use Rattle.std.specs.List.{AllZip}
 use Rattle.dx_model.specs.declared.rules.Rule.{Rule}
 use Rattle.dx_model.specs.Rules.{exported}
@@ -41,7 +41,7 @@ returns-clause-finds c = λ C h.
     let to = rule_is R c.args.j c.index-rules-j.result c.requires.to c.index-rules-j.is in
     let own = subst (λ (t : NumberTable). AllZip (IsPlanned m.symbols (exported (rule_at R c.args.i)) t.width) (variable_cells (rule_at R c.args.i)) c.args.own.now) here c.requires.own in
     let index = subst (λ (d : Rule). IndexesCells m.symbols c.rows-there.result.now (exported (rule_at R c.args.j)) (images_by d c.args.map.now) c.in_ok-index.index) (sym from)
-            (subst (λ (d : Rule). IndexesCells m.symbols c.rows-there.result.now (exported d) (images_by c.index-rules-i.result c.args.map.now) c.in_ok-index.index) (sym to) c.in_ok-index.ensures) in
+    (subst (λ (d : Rule). IndexesCells m.symbols c.rows-there.result.now (exported d) (images_by c.index-rules-i.result c.args.map.now) c.in_ok-index.index) (sym to) c.in_ok-index.ensures) in
     map_more R (rows_of m) c.args.i c.args.j c.args.map.now m.symbols c.rows-here.result.now c.rows-there.result.now c.args.own.now c.args.number c.in_ok-index.index c.args.known.now c.in_ok-or_firsts.field-0.items C
     (tuples_are m c.args.i first ∙ ap (λ (t : NumberTable). map (texts_of m.symbols) t.rows) here)
     (tuples_are m c.args.j second ∙ ap (λ (t : NumberTable). map (texts_of m.symbols) t.rows) there)

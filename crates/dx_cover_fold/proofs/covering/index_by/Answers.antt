@@ -28,6 +28,6 @@ build-requires c =
 pub returns : goal.returns
 returns c =
     let planned = same_plan c.args.matches.now.symbols c.deref.result.now (exported c.args.to.now) c.width.result c.args.rows.now.width c.deref-2.result.now (images_by c.args.from.now c.args.map.now) c.in_ok-plan.plan.items
-            (c.deref.ensures.value ∙ c.in_ok-others.ensures) c.width.ensures (c.deref-2.ensures.value ∙ c.in_ok-cells.ensures) c.in_ok-plan.ensures in
+    (c.deref.ensures.value ∙ c.in_ok-others.ensures) c.width.ensures (c.deref-2.ensures.value ∙ c.in_ok-cells.ensures) c.in_ok-plan.ensures in
     indexed c.build.result c.args.matches.now.symbols c.args.rows.now (exported c.args.to.now) (images_by c.args.from.now c.args.map.now) c.in_ok-plan.plan.items planned
     (subst (λ (p : List NumberAt). IfOk c.build.result (Indexes c.args.rows.now.rows p)) c.deref-3.ensures.value c.build.ensures)

@@ -1,4 +1,4 @@
-use Rattle.std.proofs.Common.{◌≡◌, ◌<◌, ◌≤◌, ◌⊎◌, ℕ, [], get_or, length, arith, sym, ◌∙◌, ap, inl, inr, min}
+use Rattle.std.proofs.Common.{◌<◌, ◌≤◌, ◌⊎◌, ℕ, [], get_or, length, arith, sym, ◌∙◌, ap, inl, inr, min}
 use Rattle.std.proofs.lemmas.Bool.{cases_lt}
 use Rattle.std.proofs.lemmas.List.{get_or-map, get_or_default, length-map}
 use Rattle.dx_instance.specs.Numbers.{value_of}
@@ -39,7 +39,7 @@ returns-then-variable-variables c =
     let k : c.loop-i.i < length c.args.row.now = omega (arith, c.loop-i-test.true, c.min-i-end.ensures) in
     let at : c.loop-i.i < length texts = omega (arith, k, long) in
     let is = c.loop-i.invariant ∙ text_here c.args.variables.now texts c.loop-i.i c.args.variable (get_or c.args.variables.now c.loop-i.i 0) (get_or texts c.loop-i.i []) l at
-            (get_or_default c.args.variables.now c.loop-i.i 0 _ l) (get_or_default texts c.loop-i.i [] _ at) c.if-variable-variables.true
-        ∙ get_or-map (λ (n : ℕ). text_in (value_of c.args.matches.now.symbols n)) c.args.row.now c.loop-i.i 0 [] k
-        ∙ ap text_in (sym c.value.ensures) in
+    (get_or_default c.args.variables.now c.loop-i.i 0 _ l) (get_or_default texts c.loop-i.i [] _ at) c.if-variable-variables.true
+    ∙ get_or-map (λ (n : ℕ). text_in (value_of c.args.matches.now.symbols n)) c.args.row.now c.loop-i.i 0 [] k
+    ∙ ap text_in (sym c.value.ensures) in
     rw is c.text_copy.ensures
