@@ -1,5 +1,5 @@
 -- What is found first, and rows that compare as equal.
-use Rattle.std.proofs.Common.{◌≡◌, ℕ, Bool, true, List, [], ◌∷◌, Option, Some, None, refl, sym, ◌∙◌, ap, subst, inl, inr}
+use Rattle.std.proofs.Common.{◌≡◌, ℕ, zero, suc, ◌<◌, Bool, true, cond, List, [], ◌∷◌, Option, Some, None, refl, sym, ◌∙◌, ap, subst, inl, inr, arith}
 use Rattle.std.specs.Prelude.{map}
 use Rattle.std.specs.Option.{option_map, option_or}
 use Rattle.std.specs.List.{find, list_all}
@@ -7,14 +7,14 @@ use Rattle.std.specs.BTreeMap.{is_at}
 use Rattle.std.specs.Ordering.{is_eq, ordering_reverse}
 use Rattle.std.specs.declared.cmp.Ordering.{Ordering}
 use Rattle.std.specs.declared.cmp.Ordering.TheVariants.{Less, Equal, Greater}
-use Rattle.std.proofs.lemmas.Bool.{cases_Bool, false≢true}
+use Rattle.std.proofs.lemmas.Bool.{cases_Bool}
+use Rattle.std.proofs.lemmas.List.Folds.{find-append}
 use Rattle.std.proofs.lemmas.Cmp.{lists_total}
 use Rattle.dx_ports.proofs.Members.{map_agrees}
 use Rattle.dx_ports.proofs.Tests.{map_same, same_test, to_all, from_all}
 use Rattle.dx_model.specs.declared.values.Value.{Value}
 use Rattle.dx_model.specs.Values.{row_cmp, value_cmp}
-use Rattle.dx_model.specs.Covers.{same_value}
-use Rattle.dx_instance.proofs.Equal.{row_eq, row_eq-Decides}
+use Rattle.dx_model.specs.Covers.{below, same_value}
 use Rattle.dx_model.proofs.Orders.{slice_exact, value_exact, value_total}
 use Rattle.dx_model.proofs.Before.{same_value-refl, same_value-true}
 use Rattle.dx_instance.proofs.AfterFacts.{tie}
@@ -29,6 +29,14 @@ pub find_alike : {X : Type 0} (p q : X → Bool) (xs : List X) → ((x : X) → 
 find_alike p q [] h = refl
 find_alike p q (x ∷ xs) h = let e = h x in let r = find_alike p q xs h in cc
 
+-- tests that agree below n
+pub find_below : (p q : ℕ → Bool) (n : ℕ) → ((l : ℕ) → l < n → p l ≡ q l) → find p (below n) ≡ find q (below n)
+find_below p q zero h = refl
+find_below p q (suc n) h =
+    let first : find p (below n) ≡ find q (below n) = find_below p q n (λ l k. h l (omega (arith, k))) in
+    let last : find p (n ∷ []) ≡ find q (n ∷ []) = ap (λ (b : Bool). cond b (Some n) None) (h n (omega arith)) in
+    find-append p (below n) (n ∷ []) ∙ ap (λ z. option_or z (find p (n ∷ []))) first ∙ ap (option_or (find q (below n))) last ∙ sym (find-append q (below n) (n ∷ []))
+
 pub map_or : {X Y : Type 0} (f : X → Y) (a b : Option X) → option_map f (option_or a b) ≡ option_or (option_map f a) (option_map f b)
 map_or f None b = refl
 map_or f (Some x) b = refl
@@ -38,10 +46,6 @@ map_map f g None = refl
 map_map f g (Some x) = refl
 
 -- ---- rows that compare as equal
-
--- a row is found by its values
-abbrev pub same_row : List Value → List Value → Bool
-same_row q = is_at (row_cmp q)
 
 turned : (o : Ordering) → o ≡ ordering_reverse o → o ≡ Equal
 turned Less e = absurd (cc)
@@ -53,19 +57,6 @@ row_itself q = ap is_eq (turned (row_cmp q q) ((lists_total value_total).antisym
 
 pub row_exact : (q r : List Value) → is_at (row_cmp q) r ≡ true → q ≡ r
 row_exact q r e = slice_exact value_cmp value_exact q r (tie (row_cmp q r) e)
-
--- the same by the equality of rows
-pub rows_same : row_eq ≡ same_row
-rows_same = λ i q r. one q r i
-  where
-    one : (q r : List Value) → row_eq q r ≡ is_at (row_cmp q) r
-    one q r = elim (cases_Bool (row_eq q r)) [
-      | inl t ↦ t ∙ sym (subst (λ z. is_at (row_cmp q) z ≡ true) ((row_eq-Decides q r).0 t) (row_itself q))
-      | inr f ↦ elim (cases_Bool (is_at (row_cmp q) r)) [
-        | inl t ↦ absurd (false≢true (sym f ∙ (row_eq-Decides q r).1 (row_exact q r t)))
-        | inr g ↦ f ∙ sym g
-      ]
-    ]
 
 -- values agree one by one exactly if their rows compare as equal
 pub all_agree : (f g : ℕ → Value) (xs : List ℕ) → list_all (λ x. same_value (f x) (g x)) xs ≡ is_at (row_cmp (map f xs)) (map g xs)

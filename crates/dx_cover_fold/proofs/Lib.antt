@@ -1,6 +1,8 @@
 pub mod TextsOf
 pub mod Finding
 pub mod IndexFacts
+pub mod CodeFacts
+pub mod PlanFacts
 pub mod CoverFacts
 pub mod Numbers
 pub mod FoldFacts

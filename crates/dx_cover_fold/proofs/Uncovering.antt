@@ -1,12 +1,12 @@
 -- The cover fold makes the uncovered part of the canonical instance.
-use Rattle.std.proofs.Common.{◌≡◌, ℕ, Bool, true, List, [], ◌∷◌, length, get_or, refl, ◌∙◌, ap, subst, arith}
+use Rattle.std.proofs.Common.{◌≡◌, ℕ, List, [], ◌∷◌, refl, ◌∙◌, ap, subst, arith}
 use Rattle.std.specs.Prelude.{map}
-use Rattle.dx_ports.specs.Members.{◌∈◌, ◌⊆◌, ◌≈◌, here, there}
+use Rattle.dx_ports.specs.Members.{◌∈◌, here, there}
 use Rattle.dx_ports.proofs.Members.{from_map, in_flat_map, same_equal, same_trans}
 use Rattle.dx_ports.proofs.Tests.{map_same}
 use Rattle.dx_model.specs.declared.values.NullId.{NullId}
 use Rattle.dx_model.specs.declared.values.Value.{Value}
-use Rattle.dx_model.specs.declared.values.Value.TheVariants.{Const, Null}
+use Rattle.dx_model.specs.declared.values.Value.TheVariants.{Null}
 use Rattle.dx_model.specs.declared.facts.Fact.{Fact}
 use Rattle.dx_model.specs.declared.rules.Cell.{Cell}
 use Rattle.dx_model.specs.declared.rules.Cell.TheVariants.{Var, Ex, Lit}
@@ -19,9 +19,9 @@ use Rattle.dx_model.specs.Covers.{IsPlace, cover_fold, rule_at, row_at}
 use Rattle.dx_model.proofs.Before.{cover_fold_uncovers}
 use Rattle.dx_model.proofs.CoverFold.{from_canonical}
 use Rattle.dx_model.proofs.Carrying.{below_existential}
-use Rattle.dx_instance.specs.NullMaps.{ByNull, becomes, pairs_of}
+use Rattle.dx_instance.specs.NullMaps.{ByNull, pairs_of}
 use Rattle.dx_instance.proofs.AfterFacts.{pairs_give}
-use Rattle.dx_cover_fold.specs.Folding.{IsCoverFold, IsPlaceNull}
+use Rattle.dx_cover_fold.specs.Folding.{IsCoverFold}
 use Rattle.dx_cover_fold.specs.Laws.{FoldUncovers}
 
 module _ (R : List Rule) (rows : Rows) (m : ByNull) (fold : IsCoverFold R rows m) where

@@ -1,9 +1,10 @@
 -- The least covers of places, by numbers.
-use Rattle.std.specs.Prelude.{◌≡◌, ℕ, ◌<◌, Option, None, List, [], map, length, slice_index_or}
+use Rattle.std.specs.Prelude.{◌≡◌, ℕ, ◌<◌, Option, None, List, [], map, length, nat_eq, slice_index_or}
 use Rattle.std.specs.Option.{option_map, option_or}
-use Rattle.std.specs.List.{find}
-use Rattle.std.specs.BTreeMap.{is_at}
+use Rattle.std.specs.List.{AllZip, find}
+use Rattle.std.specs.Cmp.Lexicographic.{pointwise}
 use Rattle.std.specs.Map.{lookup}
+use Rattle.smallvec.specs.SmallVec.{SmallVec}
 use Rattle.dx_model.specs.declared.values.Value.{Value}
 use Rattle.dx_model.specs.declared.values.Value.TheVariants.{Null}
 use Rattle.dx_model.specs.declared.rules.Cell.{Cell}
@@ -12,10 +13,14 @@ use Rattle.dx_model.specs.declared.rules.Rule.{Rule}
 use Rattle.dx_model.specs.declared.covers.CellMap.{CellMap}
 use Rattle.dx_model.specs.declared.covers.Cover.{Cover}
 use Rattle.dx_model.specs.Rules.{cell_value, exported, text_of}
-use Rattle.dx_model.specs.Values.{Rows, Tuple, row_cmp}
+use Rattle.dx_model.specs.Values.{Rows, Tuple}
 use Rattle.dx_model.specs.Covers.{agrees, below, image_of, least_cover, rule_at, used_maps, value_at}
+use Rattle.dx_instance.specs.Cells.{NumberTable, numbers_at}
+use Rattle.dx_instance.specs.Shown.{Numbered, numbers_of_table}
 use Rattle.dx_cover_fold.specs.declared.found.Found.{Found}
 use Rattle.dx_cover_fold.specs.declared.index.Index.{Index}
+use Rattle.dx_cover_fold.specs.declared.number_at.NumberAt.{NumberAt}
+use Rattle.dx_cover_fold.specs.Codes.{IsPlanned, numbers_by}
 
 -- the row that cells say, with the texts of the variables, at a place of a rule
 abbrev pub row_said : List ℕ → Tuple → ℕ → ℕ → List Cell → List Value
@@ -29,10 +34,20 @@ images_by d m = map (image_of (exported d) m.exported) (exported d)
 abbrev pub variable_cells : Rule → List Cell
 variable_cells d = map Var (exported d)
 
--- the index has for each row of values the first place at which the cells say it
-abbrev pub Indexes : List ℕ → List Tuple → ℕ → List Cell → Index → Type 0
-Indexes variables tuples rule cells index =
-    (q : List Value) → lookup (is_at (row_cmp q)) index.places.entries ≡ find (λ l. is_at (row_cmp q) (row_said variables (slice_index_or tuples l []) rule l cells)) (below (length tuples))
+-- the first place that an index has for these numbers
+abbrev pub first_of : Index → List ℕ → Option ℕ
+first_of index q = lookup (λ (e : SmallVec ℕ). pointwise nat_eq q e.items) index.places.entries
+
+-- the index has for each list of numbers the first row of which the plan tells them
+abbrev pub Indexes : List (List ℕ) → List NumberAt → Index → Type 0
+Indexes rows plan index =
+    (q : List ℕ) → first_of index q ≡ find (λ l. pointwise nat_eq q (numbers_by plan (numbers_at rows l))) (below (length rows))
+
+-- the same for what cells say, with the texts of the variables in the rows of a table
+pub record IndexesCells (symbols : List Value) (table : NumberTable) (variables : List ℕ) (cells : List Cell) (index : Index) : Type 0 where
+  pub plan : List NumberAt
+  pub planned : AllZip (IsPlanned symbols variables table.width) cells plan
+  pub indexes : Indexes table.rows plan index
 
 -- the images of nothing
 abbrev pub no_map : CellMap
@@ -50,16 +65,20 @@ FindsAmong R rows i choices found = (k : ℕ) → k < length found → option_ma
 abbrev pub own_rows : List Rule → Rows → ℕ → ℕ → List Value
 own_rows R rows i k = map (λ x. value_at R rows i k (Var x)) (exported (rule_at R i))
 
--- the rows are those of the places of rule i
-pub record AreOwn (R : List Rule) (rows : Rows) (i : ℕ) (own : List (List Value)) : Type 0 where
-  pub many : length own ≡ length (slice_index_or rows i [])
-  pub each : (k : ℕ) → k < length own → slice_index_or own k [] ≡ own_rows R rows i k
+-- the plan of the exported variables of rule i
+abbrev pub AreOwn : List Rule → Numbered → ℕ → List NumberAt → Type 0
+AreOwn R m i own =
+    AllZip (IsPlanned m.symbols (exported (rule_at R i)) (numbers_of_table m.tables i).width) (variable_cells (rule_at R i)) own
 
--- for each of the first places what is known of it, or else what the index gives for its row
-pub record AreOrFirsts (rule map : ℕ) (index : Index) (own : List (List Value)) (known found : List (Option Found)) (n : ℕ) : Type 0 where
+-- what is known of a place, or else what the index gives for the numbers of its row
+abbrev pub or_first : ℕ → ℕ → Index → List NumberAt → Option Found → List ℕ → Option Found
+or_first rule map index own known row =
+    option_or known (option_map (λ l. record { rule = rule; map = map; row = l }) (first_of index (numbers_by own row)))
+
+-- the same for each of the first places
+pub record AreOrFirsts (rule map : ℕ) (index : Index) (rows : List (List ℕ)) (own : List NumberAt) (known found : List (Option Found)) (n : ℕ) : Type 0 where
   pub many : length found ≡ n
-  pub each : (k : ℕ) → k < n → slice_index_or found k None
-      ≡ option_or (slice_index_or known k None) (option_map (λ l. record { rule = rule; map = map; row = l }) (lookup (is_at (row_cmp (slice_index_or own k []))) index.places.entries))
+  pub each : (k : ℕ) → k < n → slice_index_or found k None ≡ or_first rule map index own (slice_index_or known k None) (numbers_at rows k)
 
 -- for each place of rule i its least cover
 pub record AreLeast (R : List Rule) (rows : Rows) (i : ℕ) (found : List (Option Found)) : Type 0 where

@@ -1,4 +1,5 @@
 pub mod Matched
+pub mod Codes
 pub mod Found
 pub mod Folding
 pub mod Laws

@@ -1,35 +1,51 @@
 // The least covers of the places of a rule.
 ghost use Rattle.std.specs.Prelude.{◌≡◌, ◌<◌, ◌^◌, ◌++◌, IfOk, List, ℕ, None, [], flat_map, length, slice_index_or};
-ghost use Rattle.std.specs.Option.{option_map, option_or};
-ghost use Rattle.std.specs.BTreeMap.{is_at};
-ghost use Rattle.std.specs.Map.{lookup};
+ghost use Rattle.std.specs.List.{AllZip};
+ghost use Rattle.dx_ports.specs.Members.{Each};
 ghost use Rattle.dx_model.specs.declared.covers.Cover.{Cover};
 ghost use Rattle.dx_model.specs.Rules.{exported as exported_of};
-ghost use Rattle.dx_model.specs.Values.{row_cmp};
 ghost use Rattle.dx_model.specs.Covers.{places_by, rule_at, used_maps};
+ghost use Rattle.dx_instance.specs.Shown.{numbers_of_table};
 ghost use Rattle.dx_cover.specs.Covering.{covers_of};
-ghost use Rattle.dx_cover_fold.specs.Found.{AreLeast, AreOrFirsts, AreOwn, FindsAmong, Indexes, images_by, no_map, row_said};
+ghost use Rattle.dx_cover_fold.specs.Codes.{HasColumn, IsPlanned};
+ghost use Rattle.dx_cover_fold.specs.Found.{AreLeast, AreOrFirsts, AreOwn, FindsAmong, IndexesCells, images_by, no_map, or_first as first_or};
 ghost use Rattle.dx_cover_fold.specs.Found.{variable_cells};
 ghost use Rattle.dx_cover_fold.specs.Matched.{rows_of};
 
 use crate::found::Found;
 use crate::images::{as_cells, images_of};
 use crate::index::Index;
-use crate::rows_said::cells_said;
+use crate::matched::Matched;
+use crate::number_at::NumberAt;
+use crate::numbers_said::numbers_said;
+use crate::plan::plan_cells;
 use dx_cover::{Covers, exported};
-use dx_model::{Cell, CellMap, Matches, Row, Rule, Tuples};
+use dx_instance::Rows;
+use dx_model::{CellMap, Rule};
 use std::alloc::{AllocError, Global};
 
-/// What covers a place: what is known of it, or else what an index gives for its row.
-fn or_first(known: Option<Found>, index: &Index, own: &Row, rule: u32, map: u32) -> Option<Found>
-    ensures { result ≡ option_or known (option_map (λ l. record { rule = rule; map = map; row = l }) (lookup (is_at (row_cmp own.now)) index.now.places.entries)) }
+/// What covers a place: what is known of it, or else what an index gives for the numbers of its row.
+fn or_first(
+    alloc: Global,
+    known: Option<Found>,
+    index: &Index,
+    row: &[u32],
+    own: &[NumberAt],
+    rule: u32,
+    map: u32,
+) -> Result<Option<Found>, AllocError>
+    requires { Each own.now (HasColumn (length row.now)) }
+    ensures { IfOk result (λ o. o ≡ first_or rule map index.now own.now known row.now) }
 {
     match known {
-        Some(found) => Some(found),
-        None => match index.first(own) {
-            Some(row) => Some(Found { rule, map, row }),
-            None => None,
-        },
+        Some(found) => Ok(Some(found)),
+        None => {
+            let numbers = numbers_said(alloc, row, own)?;
+            match index.first(&numbers) {
+                Some(row) => Ok(Some(Found { rule, map, row })),
+                None => Ok(None),
+            }
+        }
     }
 }
 
@@ -38,44 +54,47 @@ fn or_firsts(
     alloc: Global,
     known: &[Option<Found>],
     index: &Index,
-    own: &[Row],
+    rows: &Rows,
+    own: &[NumberAt],
     rule: u32,
     map: u32,
 ) -> Result<Vec<Option<Found>>, AllocError>
-    requires { length own.now ≡ length known.now }
-    ensures { IfOk result (λ v. AreOrFirsts rule map index.now own.now known.now v.items (length known.now)) }
+    requires columns { Each own.now (HasColumn rows.now.width) }
+    requires many { length known.now ≡ length rows.now.rows }
+    ensures { IfOk result (λ v. AreOrFirsts rule map index.now rows.now.rows own.now known.now v.items (length rows.now.rows)) }
 {
-    let mut all = Vec::new(alloc);
-    for place in 0..known.len() {
-        all.push(or_first(known[place], index, &own[place], rule, map))?;
+    let mut all = Vec::with_capacity(alloc, known.len())?;
+    for place in 0..rows.count() {
+        let row = rows.row(place);
+        all.push(or_first(alloc, known[place as usize], index, row, own, rule, map)?)?;
     }
     Ok(all)
 }
 
-/// An index of the rows that a cell map to a rule gives at that rule's places.
+/// An index of what a cell map to a rule gives at that rule's places.
 fn index_by(
     alloc: Global,
     from: &Rule,
     to: &Rule,
-    tuples: &Tuples,
-    j: u32,
+    matches: &Matched<'_>,
+    rows: &Rows,
     map: &CellMap,
 ) -> Result<Index, AllocError>
-    requires { length tuples.now < 2 ^ 32 }
-    ensures { IfOk result (Indexes (exported_of to.now) tuples.now j (images_by from.now map.now)) }
+    ensures { IfOk result (IndexesCells matches.now.symbols rows.now (exported_of to.now) (images_by from.now map.now)) }
 {
     let cells = images_of(alloc, from, map)?;
     let others = exported(alloc, to)?;
-    Index::build(alloc, &others, tuples, j, &cells)
+    let plan = plan_cells(alloc, matches, &others, rows.width(), &cells)?;
+    Index::build(alloc, rows, &plan)
 }
 
 /// What covers the places of rule i by one of its cell maps, if nothing is known that does.
 fn by_map(
     alloc: Global,
     rules: &[Rule],
-    matches: &Matches,
+    matches: &Matched<'_>,
     i: u32,
-    own: &[Row],
+    own: &[NumberAt],
     j: u32,
     map: &CellMap,
     number: u32,
@@ -83,40 +102,38 @@ fn by_map(
 ) -> Result<Vec<Option<Found>>, AllocError>
     requires from { i < length rules.now }
     requires to { j < length rules.now }
-    requires one { length matches.now.rules ≡ length rules.now }
+    requires one { length matches.now.tables ≡ length rules.now }
     requires number { slice_index_or (used_maps (rule_at rules.now i) (rule_at rules.now j)) number no_map ≡ map.now }
-    requires own { AreOwn rules.now (rows_of matches.now) i own.now }
-    requires many { length own.now ≡ length known.now }
+    requires own { AreOwn rules.now matches.now i own.now }
+    requires many { length known.now ≡ length (slice_index_or (rows_of matches.now) i []) }
     ensures many { IfOk result (λ v. length v.items ≡ length known.now) }
     ensures finds { IfOk result (λ v. (C : List Cover) → FindsAmong rules.now (rows_of matches.now) i C known.now
         → FindsAmong rules.now (rows_of matches.now) i (C ++ places_by (rows_of matches.now) j map.now) v.items) }
 {
-    let tuples = &matches.rules.items()[j as usize].tuples;
-    if tuples.len() > u32::MAX as usize {
-        return Err(AllocError);
-    }
     let (from, to) = (&rules[i as usize], &rules[j as usize]);
-    let index = index_by(alloc, from, to, tuples, j, map)?;
-    Ok(or_firsts(alloc, known, &index, own, j, number)?)
+    let here = matches.rows(i);
+    let there = matches.rows(j);
+    let index = index_by(alloc, from, to, matches, there, map)?;
+    Ok(or_firsts(alloc, known, &index, here, own, j, number)?)
 }
 
 /// What covers the places of rule i by these cell maps to rule j, if nothing is known that does.
 fn by_maps(
     alloc: Global,
     rules: &[Rule],
-    matches: &Matches,
+    matches: &Matched<'_>,
     i: u32,
-    own: &[Row],
+    own: &[NumberAt],
     j: u32,
     maps: &[CellMap],
     known: Vec<Option<Found>>,
 ) -> Result<Vec<Option<Found>>, AllocError>
     requires from { i < length rules.now }
     requires to { j < length rules.now }
-    requires one { length matches.now.rules ≡ length rules.now }
+    requires one { length matches.now.tables ≡ length rules.now }
     requires maps { maps.now ≡ used_maps (rule_at rules.now i) (rule_at rules.now j) }
-    requires own { AreOwn rules.now (rows_of matches.now) i own.now }
-    requires many { length own.now ≡ length known.items }
+    requires own { AreOwn rules.now matches.now i own.now }
+    requires many { length known.items ≡ length (slice_index_or (rows_of matches.now) i []) }
     ensures many { IfOk result (λ v. length v.items ≡ length known.items) }
     ensures finds { IfOk result (λ v. (C : List Cover) → FindsAmong rules.now (rows_of matches.now) i C known.items
         → FindsAmong rules.now (rows_of matches.now) i (C ++ flat_map (places_by (rows_of matches.now) j) (used_maps (rule_at rules.now i) (rule_at rules.now j))) v.items) }
@@ -143,70 +160,51 @@ fn by_rule(
     alloc: Global,
     rules: &[Rule],
     covers: &Covers,
-    matches: &Matches,
+    matches: &Matched<'_>,
     i: u32,
+    own: &[NumberAt],
     j: u32,
     known: Vec<Option<Found>>,
 ) -> Result<Vec<Option<Found>>, AllocError>
     requires covers { covers.now ≡ covers_of rules.now }
     requires from { i < length rules.now }
     requires to { j < length rules.now }
-    requires one { length matches.now.rules ≡ length rules.now }
+    requires one { length matches.now.tables ≡ length rules.now }
+    requires own { AreOwn rules.now matches.now i own.now }
     requires many { length known.items ≡ length (slice_index_or (rows_of matches.now) i []) }
     ensures many { IfOk result (λ v. length v.items ≡ length known.items) }
     ensures finds { IfOk result (λ v. (C : List Cover) → FindsAmong rules.now (rows_of matches.now) i C known.items
         → FindsAmong rules.now (rows_of matches.now) i (C ++ flat_map (places_by (rows_of matches.now) j) (used_maps (rule_at rules.now i) (rule_at rules.now j))) v.items) }
 {
-    let own = own_of(alloc, rules, matches, i)?;
-    by_maps(alloc, rules, matches, i, &own, j, covers.maps(i, j), known)
+    by_maps(alloc, rules, matches, i, own, j, covers.maps(i, j), known)
 }
 
-/// The rows that cells say at each place of a rule, with these texts of the variables.
-fn all_said(
+/// The plan of a rule's exported variables, for rows of this width.
+fn own_by(
     alloc: Global,
-    variables: &[u32],
-    tuples: &Tuples,
-    i: u32,
-    cells: &[Cell],
-) -> Result<Vec<Row>, AllocError>
-    requires { length tuples.now < 2 ^ 32 }
-    ensures many { IfOk result (λ v. length v.items ≡ length tuples.now) }
-    ensures each { IfOk result (λ v. (k : ℕ) → k < length tuples.now
-        → slice_index_or v.items k [] ≡ row_said variables.now (slice_index_or tuples.now k []) i k cells.now) }
-{
-    let mut all = Vec::new(alloc);
-    for row in 0..tuples.len() {
-        let tuple = tuples.tuple(row);
-        all.push(cells_said(alloc, variables, tuple, i, row as u32, cells)?)?;
-    }
-    Ok(all)
-}
-
-/// The rows of values that the exported variables of a rule have with these texts.
-fn own_by(alloc: Global, rule: &Rule, tuples: &Tuples, i: u32) -> Result<Vec<Row>, AllocError>
-    requires { length tuples.now < 2 ^ 32 }
-    ensures many { IfOk result (λ v. length v.items ≡ length tuples.now) }
-    ensures each { IfOk result (λ v. (k : ℕ) → k < length tuples.now → slice_index_or v.items k []
-        ≡ row_said (exported_of rule.now) (slice_index_or tuples.now k []) i k (variable_cells rule.now)) }
+    rule: &Rule,
+    matches: &Matched<'_>,
+    width: u32,
+) -> Result<Vec<NumberAt>, AllocError>
+    ensures { IfOk result (λ v. AllZip (IsPlanned matches.now.symbols (exported_of rule.now) width) (variable_cells rule.now) v.items) }
 {
     let variables = exported(alloc, rule)?;
     let cells = as_cells(alloc, &variables)?;
-    all_said(alloc, &variables, tuples, i, &cells)
+    plan_cells(alloc, matches, &variables, width, &cells)
 }
 
-/// The rows of values that the exported variables of a rule have at its places.
-fn own_of(alloc: Global, rules: &[Rule], matches: &Matches, i: u32) -> Result<Vec<Row>, AllocError>
+/// The plan of the exported variables of rule i.
+fn own_of(
+    alloc: Global,
+    rules: &[Rule],
+    matches: &Matched<'_>,
+    i: u32,
+) -> Result<Vec<NumberAt>, AllocError>
     requires from { i < length rules.now }
-    requires one { length matches.now.rules ≡ length rules.now }
-    ensures own { IfOk result (λ v. AreOwn rules.now (rows_of matches.now) i v.items) }
-    ensures few { IfOk result (λ v. length v.items < 2 ^ 32) }
+    requires one { length matches.now.tables ≡ length rules.now }
+    ensures { IfOk result (λ v. AreOwn rules.now matches.now i v.items) }
 {
-    let tuples = &matches.rules.items()[i as usize].tuples;
-    if tuples.len() > u32::MAX as usize {
-        return Err(AllocError);
-    }
-    let own = own_by(alloc, &rules[i as usize], tuples, i)?;
-    Ok(own)
+    own_by(alloc, &rules[i as usize], matches, matches.rows(i).width())
 }
 
 /// Nothing for each of so many places.
@@ -214,7 +212,7 @@ fn none_known(alloc: Global, count: usize) -> Result<Vec<Option<Found>>, AllocEr
     ensures many { IfOk result (λ v. length v.items ≡ count) }
     ensures none { IfOk result (λ v. (k : ℕ) → slice_index_or v.items k None ≡ None) }
 {
-    let mut none = Vec::new(alloc);
+    let mut none = Vec::with_capacity(alloc, count)?;
     for _place in 0..count {
         none.push(None)?;
     }
@@ -226,20 +224,20 @@ pub(crate) fn least_covers(
     alloc: Global,
     rules: &[Rule],
     covers: &Covers,
-    matches: &Matches,
+    matches: &Matched<'_>,
     i: u32,
 ) -> Result<Vec<Option<Found>>, AllocError>
     requires covers { covers.now ≡ covers_of rules.now }
     requires few { length rules.now < 2 ^ 32 }
     requires from { i < length rules.now }
-    requires one { length matches.now.rules ≡ length rules.now }
+    requires one { length matches.now.tables ≡ length rules.now }
     ensures { IfOk result (λ v. AreLeast rules.now (rows_of matches.now) i v.items) }
 {
-    let tuples = &matches.rules.items()[i as usize].tuples;
-    let mut found = none_known(alloc, tuples.len())?;
+    let mut found = none_known(alloc, matches.places(i) as usize)?;
+    let own = own_of(alloc, rules, matches, i)?;
     for j in 0..rules.len() {
         if covers.before(j as u32, i) {
-            found = by_rule(alloc, rules, covers, matches, i, j as u32, found)?;
+            found = by_rule(alloc, rules, covers, matches, i, &own, j as u32, found)?;
         }
     }
     Ok(found)

@@ -4,18 +4,21 @@ ghost use Rattle.dx_model.specs.declared.values.Value.TheVariants.{Null as NullV
 ghost use Rattle.dx_model.specs.Rules.{exported as exported_of};
 ghost use Rattle.dx_model.specs.declared.rules.Cell.TheVariants.{Ex as ExCell};
 ghost use Rattle.dx_model.specs.Covers.{IsPlace, folded, least_cover, value_under};
+ghost use Rattle.dx_ports.specs.Members.{Each};
+ghost use Rattle.dx_joins.specs.Shown.{AreTexts};
 ghost use Rattle.dx_cover.specs.Covering.{covers_of};
 ghost use Rattle.dx_cover_fold.specs.Found.{AllLeast, cover_of};
 ghost use Rattle.dx_cover_fold.specs.Folding.{IsCoverFold};
-ghost use Rattle.dx_cover_fold.specs.Matched.{rows_of};
+ghost use Rattle.dx_cover_fold.specs.Matched.{rows_of, tuples_of};
 
 use crate::covering::least_covers;
 use crate::found::Found;
+use crate::matched::Matched;
 use crate::nulls::place_nulls;
 use crate::rows_said::value_said;
 use dx_cover::{Covers, exported};
-use dx_instance::NullMap;
-use dx_model::{Cell, Matches, NullId, Rule, Value};
+use dx_instance::{NullMap, Rows, Symbols};
+use dx_model::{Cell, NullId, Rule, Value};
 use dx_ports::Items;
 use std::alloc::{AllocError, Global};
 
@@ -35,11 +38,11 @@ fn all_covers(
     alloc: Global,
     rules: &[Rule],
     covers: &Covers,
-    matches: &Matches,
+    matches: &Matched<'_>,
 ) -> Result<Vec<Items<Option<Found>>>, AllocError>
     requires covers { covers.now ≡ covers_of rules.now }
     requires few { length rules.now < 2 ^ 32 }
-    requires one { length matches.now.rules ≡ length rules.now }
+    requires one { length matches.now.tables ≡ length rules.now }
     ensures { IfOk result (λ v. AllLeast rules.now (rows_of matches.now) v.items (length rules.now)) }
 {
     let mut all = Vec::new(alloc);
@@ -54,7 +57,7 @@ fn value_given(
     alloc: Global,
     rules: &[Rule],
     covers: &Covers,
-    matches: &Matches,
+    matches: &Matched<'_>,
     variables: &[Items<u32>],
     i: u32,
     found: Found,
@@ -62,7 +65,7 @@ fn value_given(
 ) -> Result<Value, AllocError>
     requires covers { covers.now ≡ covers_of rules.now }
     requires from { i < length rules.now }
-    requires one { length matches.now.rules ≡ length rules.now }
+    requires one { length matches.now.tables ≡ length rules.now }
     requires variables { variables.now ≡ map exported_of rules.now }
     requires place { IsPlace rules.now (rows_of matches.now) found.rule found.row }
     ensures { IfOk result (λ v. v ≡ value_under rules.now (rows_of matches.now) i (cover_of rules.now i found) (ExCell var)) }
@@ -77,9 +80,8 @@ fn value_given(
         None => &other,
     };
     let variables = variables[found.rule as usize].items();
-    let tuples = &matches.rules.items()[found.rule as usize].tuples;
-    let tuple = tuples.tuple(found.row as usize);
-    value_said(alloc, variables, tuple, found.rule, found.row, cell)
+    let row = matches.row(found.rule, found.row);
+    value_said(alloc, matches, variables, row, found.rule, found.row, cell)
 }
 
 /// What the cover fold makes of a null of a place.
@@ -87,13 +89,13 @@ fn fold_null(
     alloc: Global,
     rules: &[Rule],
     covers: &Covers,
-    matches: &Matches,
+    matches: &Matched<'_>,
     variables: &[Items<u32>],
     least: &[Items<Option<Found>>],
     null: NullId,
 ) -> Result<Value, AllocError>
     requires covers { covers.now ≡ covers_of rules.now }
-    requires one { length matches.now.rules ≡ length rules.now }
+    requires one { length matches.now.tables ≡ length rules.now }
     requires variables { variables.now ≡ map exported_of rules.now }
     requires least { AllLeast rules.now (rows_of matches.now) least.now (length rules.now) }
     requires place { IsPlace rules.now (rows_of matches.now) null.rule null.row }
@@ -114,25 +116,18 @@ fn fold_null(
     Ok(Value::Null(now))
 }
 
-/// The cover fold over matches: a null of a covered place becomes what the cover fold makes of the value that the least cover
-/// of its place gives it. All other nulls stay.
-///
-/// # Errors
-///
-/// `AllocError` if there is no memory, or there are more rules or places of a rule than have numbers.
-pub fn cover_fold(
+/// The cover fold over matches whose rules and symbols have numbers.
+fn fold_of_matched(
     alloc: Global,
     rules: &[Rule],
     covers: &Covers,
-    matches: &Matches,
+    matches: &Matched<'_>,
 ) -> Result<NullMap, AllocError>
     requires covers { covers.now ≡ covers_of rules.now }
-    requires one { length matches.now.rules ≡ length rules.now }
+    requires few { length rules.now < 2 ^ 32 }
+    requires one { length matches.now.tables ≡ length rules.now }
     ensures { IfOk result (IsCoverFold rules.now (rows_of matches.now)) }
 {
-    if rules.len() > u32::MAX as usize {
-        return Err(AllocError);
-    }
     let variables = all_exported(alloc, rules)?;
     let least = all_covers(alloc, rules, covers, matches)?;
     let nulls = place_nulls(alloc, rules, matches)?;
@@ -142,4 +137,28 @@ pub fn cover_fold(
         map.set(*null, value)?;
     }
     Ok(map)
+}
+
+/// The cover fold over matches: a null of a covered place becomes what the cover fold makes of the value that the least cover
+/// of its place gives it. All other nulls stay. For each rule a table has the rows of numbers of its places, which stand for texts.
+///
+/// # Errors
+///
+/// `AllocError` if there is no memory, or there are more rules or symbols than have numbers.
+pub fn cover_fold(
+    alloc: Global,
+    rules: &[Rule],
+    covers: &Covers,
+    symbols: &Symbols,
+    tables: &[Rows],
+) -> Result<NullMap, AllocError>
+    requires covers { covers.now ≡ covers_of rules.now }
+    requires one { length tables.now ≡ length rules.now }
+    requires texts { Each tables.now (λ t. Each t.rows (AreTexts symbols.now)) }
+    ensures { IfOk result (IsCoverFold rules.now (tuples_of symbols.now tables.now)) }
+{
+    if rules.len() > u32::MAX as usize || symbols.len() >= u64::from(u32::MAX) {
+        return Err(AllocError);
+    }
+    fold_of_matched(alloc, rules, covers, &Matched::new(symbols, tables))
 }

@@ -1,52 +1,46 @@
-// The first places at which cells say a row.
-ghost use Rattle.std.specs.Prelude.{◌≡◌, ◌<◌, ◌^◌, IfOk, length, slice_index_or};
-ghost use Rattle.std.specs.BTreeMap.{is_at};
-ghost use Rattle.std.specs.Map.{lookup};
-ghost use Rattle.dx_model.specs.Values.{row_cmp};
-ghost use Rattle.dx_cover_fold.specs.Found.{Indexes};
+// The first places at which rows have their numbers.
+ghost use Rattle.std.specs.Prelude.{◌≡◌, IfOk};
+ghost use Rattle.dx_ports.specs.Members.{Each};
+ghost use Rattle.dx_cover_fold.specs.Codes.{HasColumn};
+ghost use Rattle.dx_cover_fold.specs.Found.{Indexes, first_of};
 
-use crate::rows_said::cells_said;
-use dx_model::{Cell, Row, Tuples};
+use crate::number_at::NumberAt;
+use crate::numbers_said::numbers_said;
+use dx_instance::Rows;
+use smallvec::SmallVec;
 use std::alloc::{AllocError, Global};
 use std::collections::HashMap;
 
-/// The first place of each row of values.
+/// The first place of each list of numbers.
 #[derive(Drop)]
 pub(crate) struct Index {
-    pub(crate) places: HashMap<Row, u32>,
+    pub(crate) places: HashMap<SmallVec<u32, 6>, u32>,
 }
 
 impl Index {
-    /// The first places at which cells say each row, with these texts of the variables.
+    /// The first places of the numbers that a plan tells of the rows.
     ///
     /// # Errors
     ///
     /// `AllocError` if there is no memory.
-    pub(crate) fn build(
-        alloc: Global,
-        variables: &[u32],
-        tuples: &Tuples,
-        rule: u32,
-        cells: &[Cell],
-    ) -> Result<Index, AllocError>
-        requires { length tuples.now < 2 ^ 32 }
-        ensures { IfOk result (Indexes variables.now tuples.now rule cells.now) }
+    pub(crate) fn build(alloc: Global, rows: &Rows, plan: &[NumberAt]) -> Result<Index, AllocError>
+        requires { Each plan.now (HasColumn rows.now.width) }
+        ensures { IfOk result (Indexes rows.now.rows plan.now) }
     {
-        let mut places = HashMap::new(alloc);
-        for place in 0..tuples.len() {
-            let tuple = tuples.tuple(place);
-            let row = cells_said(alloc, variables, tuple, rule, place as u32, cells)?;
-            if places.get(&row).is_none() {
-                places.insert(row, place as u32)?;
+        let mut places = HashMap::with_capacity(alloc, rows.count() as usize)?;
+        for place in 0..rows.count() {
+            let numbers = numbers_said(alloc, rows.row(place), plan)?;
+            if places.get(&numbers).is_none() {
+                places.insert(numbers, place)?;
             }
         }
         Ok(Index { places })
     }
 
-    /// The first place of a row, if it has one.
-    pub(crate) fn first(&self, row: &Row) -> Option<u32>
-        ensures { result ≡ lookup (is_at (row_cmp row.now)) self.now.places.entries }
+    /// The first place of a list of numbers, if it has one.
+    pub(crate) fn first(&self, numbers: &SmallVec<u32, 6>) -> Option<u32>
+        ensures { result ≡ first_of self.now numbers.now.items }
     {
-        self.places.get(row).copied()
+        self.places.get(numbers).copied()
     }
 }

@@ -7,7 +7,8 @@ ghost use Rattle.dx_model.specs.Covers.{after_existential};
 ghost use Rattle.dx_cover_fold.specs.Folding.{IsNullAt, IsNullOf, IsPlaceNull};
 ghost use Rattle.dx_cover_fold.specs.Matched.{rows_of};
 
-use dx_model::{Atom, Cell, Matches, NullId, Rule};
+use crate::matched::Matched;
+use dx_model::{Atom, Cell, NullId, Rule};
 use std::alloc::{AllocError, Global};
 
 /// The number after the existential variables of a row of cells, and at least a number.
@@ -72,17 +73,15 @@ fn push_nulls_of(
 pub(crate) fn place_nulls(
     alloc: Global,
     rules: &[Rule],
-    matches: &Matches,
+    matches: &Matched<'_>,
 ) -> Result<Vec<NullId>, AllocError>
     requires few { length rules.now < 2 ^ 32 }
-    requires one { length matches.now.rules ≡ length rules.now }
+    requires one { length matches.now.tables ≡ length rules.now }
     ensures { IfOk result (λ v. (n : AnyNull) → (n ∈ v.items) ↔ IsPlaceNull rules.now (rows_of matches.now) n) }
 {
     let mut nulls = Vec::new(alloc);
     for rule in 0..rules.len() {
-        let Ok(rows) = u32::try_from(matches.rules.items()[rule].tuples.len()) else {
-            return Err(AllocError);
-        };
+        let rows = matches.places(rule as u32);
         let count = existential_count(rules[rule].conclusion.items());
         push_nulls_of(&mut nulls, rule as u32, rows, count)?;
     }

@@ -68,6 +68,14 @@ impl RuleMatches {
         Tuple::new(&self.symbols, self.tables[rule as usize].row(place))
     }
 
+    /// The symbols, and for each rule the rows of their numbers that stand for its tuples, lent.
+    pub fn numbers(&self) -> (&Symbols, &[Rows])
+        ensures tuples { tuples_in result.0.now result.1.now ≡ self.now }
+        ensures texts { Each result.1.now (λ t. Each t.rows (AreTexts result.0.now)) }
+    {
+        (&self.symbols, &self.tables)
+    }
+
     /// The same tuples as texts.
     ///
     /// # Errors

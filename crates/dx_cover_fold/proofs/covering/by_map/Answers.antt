@@ -1,19 +1,49 @@
-use Rattle.std.proofs.Common.{length, get_or, arith, refl, sym, ap}
+use Rattle.std.proofs.Common.{◌<◌, length, sym, ◌∙◌, ap, map, subst, arith}
+use Rattle.std.specs.List.{AllZip}
 use Rattle.dx_model.specs.declared.rules.Rule.{Rule}
 use Rattle.dx_model.specs.Rules.{exported}
-use Rattle.dx_cover_fold.specs.Found.{images_by}
+use Rattle.dx_model.specs.Covers.{rule_at}
+use Rattle.dx_instance.specs.Cells.{NumberTable}
+use Rattle.dx_joins.specs.Shown.{texts_of}
+use Rattle.dx_cover_fold.specs.Codes.{IsPlanned}
+use Rattle.dx_cover_fold.specs.Found.{IndexesCells, images_by, variable_cells}
 use Rattle.dx_cover_fold.specs.Matched.{rows_of}
-use Rattle.dx_cover_fold.proofs.CoverFacts.{map_more, rule_is, tuples_are}
+use Rattle.dx_cover_fold.proofs.CodeFacts.{plan_columns}
+use Rattle.dx_cover_fold.proofs.CoverFacts.{map_more, places_are, rule_is, tuples_are}
 use Rattle.dx_cover_fold.proofs.covering.by_map.Goals as goal
+
+pub or_firsts-requires : goal.or_firsts-requires
+or_firsts-requires c =
+    let m = c.args.matches.now in
+    let first : c.args.i < length m.tables = omega (arith, c.requires.one, c.requires.from) in
+    let here = sym c.rows-here.ensures.rows in
+    let own = subst (λ (t : NumberTable). AllZip (IsPlanned m.symbols (exported (rule_at c.args.rules.now c.args.i)) t.width) (variable_cells (rule_at c.args.rules.now c.args.i)) c.args.own.now) here c.requires.own in
+    record {
+      columns = plan_columns m.symbols (exported (rule_at c.args.rules.now c.args.i)) c.rows-here.result.now.width (variable_cells (rule_at c.args.rules.now c.args.i)) c.args.own.now own;
+      many = c.requires.many ∙ places_are m c.args.i first ∙ ap (λ (t : NumberTable). length t.rows) here;
+    }
+
+pub returns-clause-many : goal.returns-clause-many
+returns-clause-many c =
+    let m = c.args.matches.now in
+    let first : c.args.i < length m.tables = omega (arith, c.requires.one, c.requires.from) in
+    c.in_ok-or_firsts.ensures.many ∙ sym (c.requires.many ∙ places_are m c.args.i first ∙ ap (λ (t : NumberTable). length t.rows) (sym c.rows-here.ensures.rows))
 
 pub returns-clause-finds : goal.returns-clause-finds
 returns-clause-finds c = λ C h.
-    let from = c.index-rules-i.result in
-    let to = c.index-rules-j.result in
-    let d = rule_is c.args.rules.now c.args.i from c.requires.from c.index-rules-i.is in
-    let e = rule_is c.args.rules.now c.args.j to c.requires.to c.index-rules-j.is in
-    let ts = (get_or c.items.result.now c.args.j c.index-items-j.result).tuples in
-    let t = tuples_are c.args.matches.now c.args.j c.items.result.now c.index-items-j.result ts c.items.ensures (omega (arith, c.requires.one, c.requires.to)) refl in
-    map_more c.args.rules.now (rows_of c.args.matches.now) c.args.i c.args.j c.args.map.now c.args.number (length c.args.known.now) c.in_ok-index.index ts (exported from) (exported to) (images_by from c.args.map.now)
-    c.args.own.now c.args.known.now c.in_ok-or_firsts.field-0.items C t (ap (λ (r : Rule). exported r) (sym d)) (ap (λ (r : Rule). exported r) (sym e)) refl c.requires.number refl c.requires.many c.in_ok-index.ensures c.requires.own
-    c.in_ok-or_firsts.ensures h
+    let R = c.args.rules.now in
+    let m = c.args.matches.now in
+    let first : c.args.i < length m.tables = omega (arith, c.requires.one, c.requires.from) in
+    let second : c.args.j < length m.tables = omega (arith, c.requires.one, c.requires.to) in
+    let here = sym c.rows-here.ensures.rows in
+    let there = sym c.rows-there.ensures.rows in
+    let from = rule_is R c.args.i c.index-rules-i.result c.requires.from c.index-rules-i.is in
+    let to = rule_is R c.args.j c.index-rules-j.result c.requires.to c.index-rules-j.is in
+    let own = subst (λ (t : NumberTable). AllZip (IsPlanned m.symbols (exported (rule_at R c.args.i)) t.width) (variable_cells (rule_at R c.args.i)) c.args.own.now) here c.requires.own in
+    let index = subst (λ (d : Rule). IndexesCells m.symbols c.rows-there.result.now (exported (rule_at R c.args.j)) (images_by d c.args.map.now) c.in_ok-index.index) (sym from)
+    (subst (λ (d : Rule). IndexesCells m.symbols c.rows-there.result.now (exported d) (images_by c.index-rules-i.result c.args.map.now) c.in_ok-index.index) (sym to) c.in_ok-index.ensures) in
+    map_more R (rows_of m) c.args.i c.args.j c.args.map.now m.symbols c.rows-here.result.now c.rows-there.result.now c.args.own.now c.args.number c.in_ok-index.index c.args.known.now c.in_ok-or_firsts.field-0.items C
+    (tuples_are m c.args.i first ∙ ap (λ (t : NumberTable). map (texts_of m.symbols) t.rows) here)
+    (tuples_are m c.args.j second ∙ ap (λ (t : NumberTable). map (texts_of m.symbols) t.rows) there)
+    c.rows-here.ensures.apart (record { texts = c.rows-here.ensures.texts; wide = c.rows-here.ensures.wide }) (record { texts = c.rows-there.ensures.texts; wide = c.rows-there.ensures.wide })
+    c.requires.number (c.requires.many ∙ places_are m c.args.i first ∙ ap (λ (t : NumberTable). length t.rows) here) own index c.in_ok-or_firsts.ensures h

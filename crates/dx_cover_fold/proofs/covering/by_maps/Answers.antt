@@ -18,7 +18,7 @@ by_map-requires-clause-number c =
     ap (λ (l : List CellMap). get_or l c.loop-number.number no_map) (sym c.requires.maps) ∙ get_or_default c.args.maps.now c.loop-number.number no_map c.index-maps-number.result c.loop-number-test.true ∙ sym c.index-maps-number.is
 
 pub by_map-requires-clause-many : goal.by_map-requires-clause-many
-by_map-requires-clause-many c = c.requires.many ∙ sym c.loop-number.invariant.0 ∙ sym (ap length c.deref.ensures.value)
+by_map-requires-clause-many c = ap length c.deref.ensures.value ∙ c.loop-number.invariant.0 ∙ c.requires.many
 
 pub returns-clause-finds : goal.returns-clause-finds
 returns-clause-finds c = λ C p.

@@ -1,7 +1,6 @@
 use Rattle.std.proofs.Common.{◌≡◌, ◌<◌, ◌+◌, ◌-◌, ℕ, suc, None, length, get_or, arith, sym, ◌∙◌, ap}
 use Rattle.std.specs.Option.{option_map}
-use Rattle.std.proofs.lemmas.List.{length-map}
-use Rattle.dx_model.specs.declared.matches.Places.{Places}
+use Rattle.dx_cover_fold.proofs.CoverFacts.{rules_are}
 use Rattle.dx_model.specs.Covers.{folded, least_cover}
 use Rattle.dx_cover_fold.specs.Found.{cover_of}
 use Rattle.dx_cover_fold.specs.Matched.{rows_of}
@@ -22,21 +21,21 @@ loop-step-init c = (c.requires.place, ap (λ z. folded c.args.rules.now (rows_of
 
 pub returns-in_default : goal.returns-in_default
 returns-in_default c =
-    let one = length-map c.args.matches.now.rules (λ (p : Places). p.tuples) ∙ c.requires.one in
+    let one = rules_are c.args.matches.now ∙ c.requires.one in
     let e = least_is c.args.rules.now (rows_of c.args.matches.now) c.args.least.now c.loop-step.now.rule c.loop-step.now.row c.index-least-now.result c.items.result.now c.requires.least c.loop-step.invariant.0 c.index-least-now.is c.items.ensures
     ∙ ap (option_map (cover_of c.args.rules.now c.loop-step.now.rule)) (none_there (get_or c.items.result.now c.loop-step.now.row None) c.in_default.not-Some) in
     sym (fold_ends c.args.rules.now (rows_of c.args.matches.now) one (suc (length c.args.rules.now) - c.loop-step._step) c.loop-step.now _ e c.loop-step.invariant.1)
 
 pub value_given-requires-clause-place : goal.value_given-requires-clause-place
 value_given-requires-clause-place c =
-    let one = length-map c.args.matches.now.rules (λ (p : Places). p.tuples) ∙ c.requires.one in
+    let one = rules_are c.args.matches.now ∙ c.requires.one in
     let e = least_is c.args.rules.now (rows_of c.args.matches.now) c.args.least.now c.loop-step.now.rule c.loop-step.now.row c.index-least-now.result c.items.result.now c.requires.least c.loop-step.invariant.0 c.index-least-now.is c.items.ensures
     ∙ ap (option_map (cover_of c.args.rules.now c.loop-step.now.rule)) c.in-Some.is in
     cover_place c.args.rules.now (rows_of c.args.matches.now) one c.loop-step.now.rule c.loop-step.now.row (cover_of c.args.rules.now c.loop-step.now.rule c.in-Some.found) e
 
 pub returns-in-Const : goal.returns-in-Const
 returns-in-Const c =
-    let one = length-map c.args.matches.now.rules (λ (p : Places). p.tuples) ∙ c.requires.one in
+    let one = rules_are c.args.matches.now ∙ c.requires.one in
     let e = least_is c.args.rules.now (rows_of c.args.matches.now) c.args.least.now c.loop-step.now.rule c.loop-step.now.row c.index-least-now.result c.items.result.now c.requires.least c.loop-step.invariant.0 c.index-least-now.is c.items.ensures
     ∙ ap (option_map (cover_of c.args.rules.now c.loop-step.now.rule)) c.in-Some.is in
     let left = one_left (length c.args.rules.now) c.loop-step._step c.loop-step-test.true in
@@ -46,7 +45,7 @@ returns-in-Const c =
 
 pub loop-step-preserved : goal.loop-step-preserved
 loop-step-preserved c =
-    let one = length-map c.args.matches.now.rules (λ (p : Places). p.tuples) ∙ c.requires.one in
+    let one = rules_are c.args.matches.now ∙ c.requires.one in
     let e = least_is c.args.rules.now (rows_of c.args.matches.now) c.args.least.now c.loop-step.now.rule c.loop-step.now.row c.index-least-now.result c.items.result.now c.requires.least c.loop-step.invariant.0 c.index-least-now.is c.items.ensures
     ∙ ap (option_map (cover_of c.args.rules.now c.loop-step.now.rule)) c.in-Some.is in
     let left = one_left (length c.args.rules.now) c.loop-step._step c.loop-step-test.true in

@@ -5,7 +5,7 @@ use Rattle.dx_ports.proofs.Members.{in_at}
 use Rattle.dx_model.proofs.Before.{place_folded}
 use Rattle.dx_cover_fold.specs.Matched.{rows_of}
 use Rattle.dx_cover_fold.proofs.FoldFacts.{none_folded, one_folded}
-use Rattle.dx_cover_fold.proofs.folding.cover_fold.Goals as goal
+use Rattle.dx_cover_fold.proofs.folding.fold_of_matched.Goals as goal
 
 pub loop-null-init : goal.loop-null-init
 loop-null-init c = rw c.new-map.ensures (none_folded c.args.rules.now (rows_of c.args.matches.now))
