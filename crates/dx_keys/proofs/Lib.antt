@@ -14,5 +14,6 @@ pub mod InOrder
 pub mod NumberTables
 pub mod RootMaps
 pub mod Answering
+pub mod Asked
 mod Unforced
 mod Examples

@@ -7,7 +7,7 @@ use Rattle.dx_schema.specs.Forest.{Forest}
 use Rattle.dx_schema.specs.Tables.{as_numbers, determinations_of, model_tables, table_at as table_in, tables_of}
 use Rattle.dx_instance.specs.Cells.{NumberTable as TableOfNumbers}
 use Rattle.dx_instance.specs.Shown.{numbers_of_table}
-use Rattle.dx_chase.specs.declared.rows.NumberTable.{NumberTable}
+use Rattle.dx_chase.specs.Tables.{NumberTable}
 use Rattle.dx_chase.specs.Rows.{table_at}
 use Rattle.dx_keys.specs.Numbers.{AreTablesIn, determination_of}
 

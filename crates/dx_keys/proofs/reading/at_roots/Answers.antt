@@ -6,4 +6,4 @@ use Rattle.dx_keys.proofs.reading.at_roots.Goals as goal
 
 pub renumbered-requires : goal.renumbered-requires
 renumbered-requires c =
-    (subst (λ (t : NumberTable). RowsFit (length c.args.roots.now) t) (sym c.rows-item.is) (c.requires _ (in_at c.args.tables.now c.loop-rows.rows-index c.rows-item.result c.loop-rows-test.true))).within
+    (subst (λ (t : NumberTable). RowsFit (length c.args.roots.now) t) (sym c.rows-item.is) (c.requires _ (in_at c.args.tables.items c.loop-rows.rows-index c.rows-item.result c.loop-rows-test.true))).within
