@@ -14,6 +14,5 @@ pub mod InOrder
 pub mod NumberTables
 pub mod RootMaps
 pub mod Answering
-pub mod Asked
 mod Unforced
 mod Examples

@@ -16,7 +16,7 @@ use crate::keyless::{has_no_determinations, unchanged};
 use crate::numbering::{Numbering, number};
 use crate::reading::{read_image, read_map};
 use crate::tables::number_tables;
-use dx_chase::{NumberTable, chase_rows};
+use dx_chase::{NumberTable, RowsChased, chase_rows};
 use dx_instance::Instance;
 use dx_ports::Items;
 use dx_schema::Schema;
@@ -40,6 +40,14 @@ fn read_chased(alloc: Global, numbering: Numbering, roots: &[u32]) -> Result<Cha
     Ok(Chased { instance, map })
 }
 
+// What each number becomes. What was demanded goes.
+fn roots_of(found: RowsChased<'_, '_>) -> Items<u32>
+    ensures { result ≡ found.entry.chased.roots }
+{
+    let chased = found.chased;
+    chased.roots
+}
+
 // What the numbers of the values of an instance become, by its rows of these; or the clash.
 fn chase_numbered(
     alloc: Global,
@@ -60,7 +68,7 @@ fn chase_numbered(
             let clash = read_clash(alloc, &numbering.symbols, rows, &found, place)?;
             Err(ChaseFault::Clash(clash))
         }
-        None => Ok(found.chased.roots),
+        None => Ok(roots_of(found)),
     }
 }
 

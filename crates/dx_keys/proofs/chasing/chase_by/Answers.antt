@@ -1,5 +1,5 @@
 use Rattle.dx_keys.specs.Numbers.{Numbered}
-use Rattle.dx_keys.proofs.Asked.{many_tables}
+use Rattle.dx_keys.proofs.NumberTables.{many_tables}
 use Rattle.dx_keys.proofs.chasing.chase_by.Goals as goal
 
 pub number_tables-requires : goal.number_tables-requires

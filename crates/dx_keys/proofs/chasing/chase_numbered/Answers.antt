@@ -20,9 +20,9 @@ returns-in_ok-clash-in-Some-clause-fault c = λ schema I N.
 pub returns-in-None-clause-roots : goal.returns-in-None-clause-roots
 returns-in-None-clause-roots c =
     let D : Done c.args.numbering.now c.args.rows.now c.in_ok-found.found = record { demands = c.in_ok-found.ensures.demands; ended = rw c.len-count.ensures.len at c.in_ok-found.ensures.chased } in
-    roots_are_read c.requires.0 c.requires.1 c.args.numbering.now c.args.rows.now c.requires.2 c.in_ok-found.found D
+    rw c.roots_of.ensures (roots_are_read c.requires.0 c.requires.1 c.args.numbering.now c.args.rows.now c.requires.2 c.in_ok-found.found D)
 
 pub returns-in-None-clause-ok : goal.returns-in-None-clause-ok
 returns-in-None-clause-ok c = λ schema I N.
     let D : Done c.args.numbering.now c.args.rows.now c.in_ok-found.found = record { demands = c.in_ok-found.ensures.demands; ended = rw c.len-count.ensures.len at c.in_ok-found.ensures.chased } in
-    map_answers schema I c.args.numbering.now c.args.rows.now N c.in_ok-found.found D c.in-None.is
+    rw c.roots_of.ensures (map_answers schema I c.args.numbering.now c.args.rows.now N c.in_ok-found.found D c.in-None.is)
