@@ -73,11 +73,7 @@ fn chase_numbered(
 }
 
 // What the numbers of the values of an instance become. What is demanded of the rows is needed no more after it.
-fn chase_by(
-    alloc: Global,
-    schema: &Schema,
-    numbering: &Numbering,
-) -> Result<Items<u32>, ChaseFault>
+fn chase_by(alloc: Global, schema: &Schema, numbering: &Numbering) -> Result<Items<u32>, ChaseFault>
     requires { (I : List TableRows) × IsNumbered schema.now I numbering.now }
     ensures roots { IfOk result (AreRoots numbering.now.symbols) }
     ensures ok { (I : List TableRows) → IsNumbered schema.now I numbering.now
