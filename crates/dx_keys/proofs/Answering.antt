@@ -32,7 +32,7 @@ use Rattle.dx_instance.proofs.LawFacts.{facts_fit}
 use Rattle.dx_instance.proofs.SortFacts.{instance_maps}
 use Rattle.dx_instance.proofs.StoredFacts.{fact_from_row, fact_table, row_from_fact}
 use Rattle.dx_chase.specs.declared.demands.ClashAt.{ClashAt}
-use Rattle.dx_chase.specs.declared.rows.NumberTable.{NumberTable}
+use Rattle.dx_chase.specs.Tables.{NumberTable}
 use Rattle.dx_chase.specs.declared.rows.RowsChased.{RowsChased}
 use Rattle.dx_chase.specs.Boards.{firsts}
 use Rattle.dx_chase.specs.Joins.{IsChased as IsChasedByNumber, AllFit, IsClash as IsClashByNumber, at, demand_at}

@@ -8,9 +8,9 @@ use Rattle.dx_model.specs.Tables.{Table, Determination, table_of, cell, values_i
 use Rattle.dx_model.specs.Instances.{given, image, moved}
 use Rattle.dx_model.specs.Chase.{after, AreSteps, IsClashAt, IsForcedMap, NoneReceives}
 use Rattle.dx_ports.specs.Members.{◌∈◌, Each}
-use Rattle.dx_chase.specs.declared.demands.Demand.{Demand}
+use Rattle.dx_chase.specs.Demands.{Demand}
 use Rattle.dx_chase.specs.declared.demands.ClashAt.{ClashAt}
-use Rattle.dx_chase.specs.declared.rows.NumberTable.{NumberTable}
+use Rattle.dx_chase.specs.Tables.{NumberTable}
 use Rattle.dx_chase.specs.declared.rows.RowsChased.{RowsChased}
 use Rattle.dx_chase.specs.Joins.{at, demand_at, tag_of}
 use Rattle.dx_chase.specs.Rows.{columns_at, row_at, row_count, table_at}

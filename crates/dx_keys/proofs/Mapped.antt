@@ -13,7 +13,7 @@ use Rattle.dx_model.specs.Tables.{Table, cell, IsInstance, KeysHold}
 use Rattle.dx_model.specs.Instances.{moved, fact_moved, same_null, given, values, image, IsNullMap}
 use Rattle.dx_model.specs.Chase.{IsForcedValue}
 use Rattle.dx_model.proofs.Maps.{listing, listing_gives, moved_same, same_null-true, same_null-refl}
-use Rattle.dx_chase.specs.declared.demands.Demand.{Demand}
+use Rattle.dx_chase.specs.Demands.{Demand}
 use Rattle.dx_chase.specs.Joins.{at, AreDemands, AllFit}
 use Rattle.dx_chase.specs.Boards.{firsts}
 use Rattle.dx_chase.proofs.Opening.{at_first}

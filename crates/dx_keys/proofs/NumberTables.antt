@@ -1,15 +1,17 @@
 -- Tables of numbers with what determines what in them.
 use Rattle.std.proofs.Common.{◌≡◌, ◌∙◌, ℕ, ◌+◌, ◌<◌, List, [], ◌∷◌, ◌++◌, inl, inr, sym, ap, length, map, arith}
 use Rattle.std.proofs.lemmas.Bool.{cases_lt}
-use Rattle.std.proofs.lemmas.List.{get_or-map, get_or_append_left, get_or_push, length-append}
+use Rattle.std.proofs.lemmas.List.{get_or-map, get_or_append_left, get_or_push, length-append, length-map}
 use Rattle.dx_model.specs.Tables.{Table as Numbers, table_of}
 use Rattle.dx_schema.specs.Forest.{Forest}
-use Rattle.dx_schema.specs.Tables.{as_numbers, determinations_of, model_tables, table_at as table_in, tables_of}
+use Rattle.dx_schema.specs.Tables.{TableOf, as_numbers, determinations_of, model_tables, table_at as table_in, tables_of}
 use Rattle.dx_instance.specs.Cells.{NumberTable as TableOfNumbers}
-use Rattle.dx_instance.specs.Shown.{numbers_of_table}
-use Rattle.dx_chase.specs.declared.rows.NumberTable.{NumberTable}
+use Rattle.dx_instance.specs.Shown.{numbers_of_table, shown}
+use Rattle.dx_instance.specs.Stored.{TableRows}
+use Rattle.dx_chase.specs.Tables.{NumberTable}
 use Rattle.dx_chase.specs.Rows.{table_at}
-use Rattle.dx_keys.specs.Numbers.{AreTablesIn, determination_of}
+use Rattle.dx_keys.specs.Numbers.{AreTablesIn, IsNumbered, determination_of}
+use Rattle.dx_keys.specs.declared.numbering.Numbering.{Numbering}
 
 -- the determinations of a table of a schema, by its keys and its dependencies
 pub determinations_are : (f : Forest) (t : ℕ) → t < length (tables_of f) → determinations_of (table_in f t) ≡ (table_of (model_tables f) t).determinations
@@ -47,3 +49,13 @@ first_all schema rows n tables F e = record {
   rows_are = λ t h. F.rows_are t (let m = F.many in omega arith);
   determined = λ t h. F.determined t (let m = F.many in omega arith);
 }
+
+-- an instance under numbers has as many tables as its schema
+pub many_tables : (f : Forest) (I : List TableRows) (n : Numbering) → IsNumbered f I n → length n.tables.items ≡ length (tables_of f)
+many_tables f I n M =
+    let a = ap length M.numbering.is_shown in
+    let b = ap length M.widths_are in
+    let c = length-map n.tables.items (shown n.symbols) in
+    let d = length-map I (λ (t : TableRows). t.width) in
+    let e = length-map (tables_of f) (λ (t : TableOf). length t.columns) in
+    omega arith

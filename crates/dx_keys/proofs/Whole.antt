@@ -7,7 +7,7 @@ use Rattle.dx_model.specs.declared.facts.Fact.{Fact}
 use Rattle.dx_model.specs.Tables.{Table, IsInstance, cell}
 use Rattle.dx_model.specs.Instances.{fact_moved}
 use Rattle.dx_chase.specs.declared.demands.ClashAt.{ClashAt}
-use Rattle.dx_chase.specs.declared.rows.NumberTable.{NumberTable}
+use Rattle.dx_chase.specs.Tables.{NumberTable}
 use Rattle.dx_chase.specs.declared.rows.RowsChased.{RowsChased}
 use Rattle.dx_chase.specs.Joins.{demand_at, AreDemands, AllFit, IsClash, IsChased}
 use Rattle.dx_chase.specs.Boards.{firsts}

@@ -11,16 +11,18 @@ use Rattle.dx_model.specs.Values.{Text, row_cmp, value_cmp}
 use Rattle.dx_schema.specs.Forest.{Forest}
 use Rattle.dx_schema.specs.Tables.{model_tables, schema_widths}
 use Rattle.dx_instance.specs.Cells.{NumberTable as TableOfNumbers}
-use Rattle.dx_instance.specs.Shown.{PartsFit, numbers_of_table, shown_tables}
-use Rattle.dx_instance.specs.Stored.{TableRows, widths}
-use Rattle.dx_chase.specs.declared.demands.Demand.{Demand}
+use Rattle.dx_instance.specs.NullMaps.{ByNull, pairs_of}
+use Rattle.dx_instance.specs.Shown.{PartsFit, numbers_of_table, renumbered, shown_tables}
+use Rattle.dx_instance.specs.Stored.{IsSorting, TableRows, widths}
+use Rattle.dx_chase.specs.Demands.{Demand}
 use Rattle.dx_chase.specs.declared.demands.Step.{Step}
 use Rattle.dx_chase.specs.declared.demands.ClashAt.{ClashAt}
-use Rattle.dx_chase.specs.declared.rows.Columns.{Columns}
-use Rattle.dx_chase.specs.declared.rows.NumberTable.{NumberTable}
+use Rattle.dx_chase.specs.declared.tables.Columns.{Columns}
+use Rattle.dx_chase.specs.Tables.{NumberTable}
 use Rattle.dx_chase.specs.declared.rows.RowsChased.{RowsChased}
 use Rattle.dx_chase.specs.Rows.{AreBelow, IsRowDemand, columns_at, row_at, table_at}
 use Rattle.dx_chase.specs.Joins.{at, demand_at}
+use Rattle.dx_keys.specs.Answers.{IsChased}
 use Rattle.dx_keys.specs.declared.answers.Clash.{Clash}
 use Rattle.dx_keys.specs.declared.numbering.Numbering.{Numbering}
 
@@ -97,6 +99,19 @@ pub record IsRead (S : List Value) (tables : List NumberTable) (c : RowsChased) 
   pub rows_are : ((k.left ≡ row_read S tables c.chased.roots (demand_at c.demands p.one)) × (k.right ≡ row_read S tables c.chased.roots (demand_at c.demands p.other)))
       ⊎ ((k.left ≡ row_read S tables c.chased.roots (demand_at c.demands p.other)) × (k.right ≡ row_read S tables c.chased.roots (demand_at c.demands p.one)))
   pub in_order : ¬ (row_cmp k.left k.right ≡ Greater)
+
+-- an instance of a schema under numbers
+pub record IsNumbered (f : Forest) (I : List TableRows) (n : Numbering) : Type 0 where
+  pub widths_are : widths I ≡ schema_widths f
+  pub wide : Each I (λ (t : TableRows). Each t.rows (λ (row : List Value). length row ≡ t.width))
+  pub determined : DeterminationsFit (model_tables f)
+  pub numbering : IsNumbering I n
+
+-- what is read of the roots of the numbers is the chase of the instance
+abbrev pub AnswersBy : List Table → List TableRows → Numbering → List ℕ → Type 0
+AnswersBy schema I n roots =
+    (m : ByNull) (K : List TableRows) → pairs_of m ≡ map_of n.symbols roots
+    → IsSorting (shown_tables n.symbols (map (renumbered roots) n.tables.items)) K → IsChased schema I (record { instance = K; map = m })
 
 -- an instance of a schema under numbers, and its rows by these, with what its keys determine
 pub record Numbered (f : Forest) (I : List TableRows) (n : Numbering) (rows : List NumberTable) : Type 0 where

@@ -7,7 +7,7 @@ ghost use Rattle.dx_instance.specs.Numbers.{ValuesAscend};
 ghost use Rattle.dx_instance.specs.Shown.{PartsFit, renumbered, shown_tables};
 ghost use Rattle.dx_instance.specs.Stored.{IsSorting, TableRows, widths};
 ghost use Rattle.dx_keys.specs.Answers.{IsChased, IsFaultOf};
-ghost use Rattle.dx_keys.specs.Numbers.{AreRoots, Numbered, map_of};
+ghost use Rattle.dx_keys.specs.Numbers.{AnswersBy, AreRoots, IsNumbered, Numbered, map_of};
 
 use crate::answers::Chased;
 use crate::clashes::read_clash;
@@ -16,8 +16,9 @@ use crate::keyless::{has_no_determinations, unchanged};
 use crate::numbering::{Numbering, number};
 use crate::reading::{read_image, read_map};
 use crate::tables::number_tables;
-use dx_chase::{NumberTable, chase_rows};
+use dx_chase::{NumberTable, RowsChased, chase_rows};
 use dx_instance::Instance;
+use dx_ports::Items;
 use dx_schema::Schema;
 use std::alloc::{AllocError, Global};
 
@@ -35,19 +36,29 @@ fn read_chased(alloc: Global, numbering: Numbering, roots: &[u32]) -> Result<Cha
         tables,
     } = numbering;
     let map = read_map(alloc, &symbols, roots)?;
-    let instance = read_image(alloc, symbols, roots, &tables)?;
+    let instance = read_image(alloc, symbols, roots, tables)?;
     Ok(Chased { instance, map })
 }
 
-// What the chase of an instance answers, by the numbers of its values and its rows of these.
+// What each number becomes. What was demanded goes.
+fn roots_of(found: RowsChased<'_, '_>) -> Items<u32>
+    ensures { result ≡ found.entry.chased.roots }
+{
+    let chased = found.chased;
+    chased.roots
+}
+
+// What the numbers of the values of an instance become, by its rows of these; or the clash.
 fn chase_numbered(
     alloc: Global,
-    numbering: Numbering,
-    rows: &[NumberTable],
-) -> Result<Chased, ChaseFault>
-    requires { (schema : Forest) × (I : List TableRows) × Numbered schema I numbering rows.now }
-    ensures ok { (schema : Forest) (I : List TableRows) → Numbered schema I numbering rows.now → IfOk result (IsChased (model_tables schema) I) }
-    ensures fault { (schema : Forest) (I : List TableRows) → Numbered schema I numbering rows.now
+    numbering: &Numbering,
+    rows: &[NumberTable<'_>],
+) -> Result<Items<u32>, ChaseFault>
+    requires { (schema : Forest) × (I : List TableRows) × Numbered schema I numbering.now rows.now }
+    ensures roots { IfOk result (AreRoots numbering.now.symbols) }
+    ensures ok { (schema : Forest) (I : List TableRows) → Numbered schema I numbering.now rows.now
+        → IfOk result (λ roots. AnswersBy (model_tables schema) I numbering.now roots) }
+    ensures fault { (schema : Forest) (I : List TableRows) → Numbered schema I numbering.now rows.now
         → IfErr result (IsFaultOf (model_tables schema) I) }
 {
     let count = numbering.symbols.len() as u32;
@@ -57,21 +68,33 @@ fn chase_numbered(
             let clash = read_clash(alloc, &numbering.symbols, rows, &found, place)?;
             Err(ChaseFault::Clash(clash))
         }
-        None => Ok(read_chased(alloc, numbering, found.chased.roots.items())?),
+        None => Ok(roots_of(found)),
     }
 }
 
+// What the numbers of the values of an instance become. What is demanded of the rows is needed no more after it.
+fn chase_by(alloc: Global, schema: &Schema, numbering: &Numbering) -> Result<Items<u32>, ChaseFault>
+    requires { (I : List TableRows) × IsNumbered schema.now I numbering.now }
+    ensures roots { IfOk result (AreRoots numbering.now.symbols) }
+    ensures ok { (I : List TableRows) → IsNumbered schema.now I numbering.now
+        → IfOk result (λ roots. AnswersBy (model_tables schema.now) I numbering.now roots) }
+    ensures fault { (I : List TableRows) → IsNumbered schema.now I numbering.now → IfErr result (IsFaultOf (model_tables schema.now) I) }
+{
+    let rows = number_tables(alloc, schema, &numbering.tables)?;
+    chase_numbered(alloc, numbering, &rows)
+}
+
 // The chase by the numbers of values.
-fn chase_numbers(alloc: Global, instance: &Instance, schema: &Schema) -> Result<Chased, ChaseFault>
-    requires { widths instance.now ≡ schema_widths schema.now }
-    ensures ok { IfOk result (IsChased (model_tables schema.now) instance.now) }
-    ensures fault { IfErr result (IsFaultOf (model_tables schema.now) instance.now) }
+fn chase_numbers(alloc: Global, instance: Instance, schema: &Schema) -> Result<Chased, ChaseFault>
+    requires { widths instance ≡ schema_widths schema.now }
+    ensures ok { IfOk result (IsChased (model_tables schema.now) instance) }
+    ensures fault { IfErr result (IsFaultOf (model_tables schema.now) instance) }
 {
     let _instance_tables = instance.tables();
     let numbering = number(alloc, instance)?;
     let _schema_tables = schema.tables();
-    let rows = number_tables(alloc, schema, &numbering.tables)?;
-    chase_numbered(alloc, numbering, &rows)
+    let roots = chase_by(alloc, schema, &numbering)?;
+    Ok(read_chased(alloc, numbering, roots.items())?)
 }
 
 /// Lets nulls of an instance become other values of it, as its keys ask: a null becomes the constant that it has to be equal
@@ -86,7 +109,7 @@ pub fn chase(alloc: Global, instance: Instance, schema: &Schema) -> Result<Chase
     ensures fault { IfErr result (IsFaultOf (model_tables schema.now) instance) }
 {
     if !has_no_determinations(schema) {
-        return chase_numbers(alloc, &instance, schema);
+        return chase_numbers(alloc, instance, schema);
     }
     let _tables = instance.tables();
     Ok(unchanged(alloc, instance)?)

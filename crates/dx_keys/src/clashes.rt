@@ -2,13 +2,13 @@
 ghost use Rattle.std.specs.Prelude.{◌≡◌, ◌<◌, ◌⊎◌, IfOk, length};
 ghost use Rattle.std.specs.declared.cmp.Ordering.TheVariants.{Greater};
 ghost use Rattle.dx_model.specs.Values.{row_cmp};
-ghost use Rattle.dx_chase.specs.Joins.{at};
+ghost use Rattle.dx_chase.specs.Joins.{at, demand_at};
 ghost use Rattle.dx_chase.specs.Rows.{AreBelow, IsRowDemand, columns_at};
 ghost use Rattle.dx_keys.specs.Numbers.{AreRoots, CanRead, IsRead, row_read};
 
 use crate::answers::Clash;
 use crate::reading::{read_row, read_steps};
-use dx_chase::{ClashAt, Demand, NumberTable, RowsChased};
+use dx_chase::{ClashAt, Demands, NumberTable, RowsChased};
 use dx_instance::{Row, Symbols};
 use std::alloc::{AllocError, Global};
 use std::cmp::Ordering;
@@ -17,29 +17,32 @@ use std::cmp::Ordering;
 fn demand_row(
     alloc: Global,
     symbols: &Symbols,
-    tables: &[NumberTable],
+    tables: &[NumberTable<'_>],
     roots: &[u32],
-    demand: &Demand,
+    demands: &Demands<'_, '_>,
+    i: u32,
 ) -> Result<Row, AllocError>
     requires roots { AreRoots symbols.now roots.now }
     requires below { AreBelow (length symbols.now) tables.now }
-    requires demand { IsRowDemand tables.now demand.now }
-    ensures { IfOk result (λ row. row ≡ row_read symbols.now tables.now roots.now demand.now) }
+    requires demand { IsRowDemand tables.now (demand_at demands.now i) }
+    requires inside { i < length demands.now }
+    ensures { IfOk result (λ row. row ≡ row_read symbols.now tables.now roots.now (demand_at demands.now i)) }
 {
+    let demand = demands.asked(i);
     let table = &tables[demand.table as usize];
-    let rows = table.rows.items();
-    let numbers = rows[demand.row as usize].items();
-    read_row(alloc, symbols, roots, numbers)
+    read_row(alloc, symbols, roots, table.row(demand.row))
 }
 
 // The column at a place on the right of a demand.
-fn column_at(tables: &[NumberTable], demand: &Demand, place: usize) -> u32
-    requires demand { IsRowDemand tables.now demand.now }
-    requires place { place < length demand.now.right }
-    ensures { result ≡ at (columns_at tables.now demand.now.table demand.now.determination).right place }
+fn column_at(tables: &[NumberTable<'_>], demands: &Demands<'_, '_>, i: u32, place: usize) -> u32
+    requires demand { IsRowDemand tables.now (demand_at demands.now i) }
+    requires inside { i < length demands.now }
+    requires place { place < length (demand_at demands.now i).right }
+    ensures { result ≡ at (columns_at tables.now (demand_at demands.now i).table (demand_at demands.now i).determination).right place }
 {
+    let demand = demands.asked(i);
     let table = &tables[demand.table as usize];
-    let all = table.determinations.items();
+    let all = table.determinations();
     let columns = all[demand.determination as usize].right.items();
     columns[place]
 }
@@ -64,25 +67,19 @@ fn in_order(one: Row, other: Row) -> (Row, Row)
 pub fn read_clash(
     alloc: Global,
     symbols: &Symbols,
-    tables: &[NumberTable],
-    found: &RowsChased,
+    tables: &[NumberTable<'_>],
+    found: &RowsChased<'_, '_>,
     place: ClashAt,
 ) -> Result<Clash, AllocError>
     requires { CanRead symbols.now tables.now found.now place }
     ensures { IfOk result (IsRead symbols.now tables.now found.now place) }
 {
-    let demands = found.demands.items();
+    let demands = &found.demands;
     let roots = found.chased.roots.items();
-    let demand = &demands[place.one as usize];
+    let demand = demands.asked(place.one);
     let steps = read_steps(alloc, symbols, found.chased.steps.items())?;
-    let one = demand_row(alloc, symbols, tables, roots, demand)?;
-    let other = demand_row(
-        alloc,
-        symbols,
-        tables,
-        roots,
-        &demands[place.other as usize],
-    )?;
+    let one = demand_row(alloc, symbols, tables, roots, demands, place.one)?;
+    let other = demand_row(alloc, symbols, tables, roots, demands, place.other)?;
     let (left, right) = in_order(one, other);
     Ok(Clash {
         steps,
@@ -90,6 +87,6 @@ pub fn read_clash(
         key: demand.determination,
         left,
         right,
-        column: column_at(tables, demand, place.column),
+        column: column_at(tables, demands, place.one, place.column),
     })
 }

@@ -84,13 +84,13 @@ fn ranked(alloc: Global, numbers: &Numbers, ranks: &[u32]) -> Result<Vec<Rows>, 
     Ok(all)
 }
 
-/// Numbers the values of an instance.
+/// Numbers the values of an instance, which goes.
 ///
 /// # Errors
 ///
 /// `AllocError` if there is no memory.
-pub fn number(alloc: Global, instance: &Instance) -> Result<Numbering, AllocError>
-    ensures { IfOk result (IsNumbering instance.now) }
+pub fn number(alloc: Global, instance: Instance) -> Result<Numbering, AllocError>
+    ensures { IfOk result (IsNumbering instance) }
 {
     let _tables = instance.tables();
     let numbers = instance.numbers();

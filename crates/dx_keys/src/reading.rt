@@ -99,13 +99,13 @@ pub fn read_row(
     Ok(row)
 }
 
-// The rows of tables, each number at its root.
-fn at_roots(alloc: Global, roots: &[u32], tables: &[Rows]) -> Result<Vec<Rows>, AllocError>
-    requires { Each tables.now (RowsFit (length roots.now)) }
-    ensures { IfOk result (λ all. all.items ≡ map (renumbered roots.now) tables.now) }
+// The rows of tables, which go, each number at its root.
+fn at_roots(alloc: Global, roots: &[u32], tables: Vec<Rows>) -> Result<Vec<Rows>, AllocError>
+    requires { Each tables.items (RowsFit (length roots.now)) }
+    ensures { IfOk result (λ all. all.items ≡ map (renumbered roots.now) tables.items) }
 {
     let mut all = Vec::new(alloc);
-    for rows in tables {
+    for rows in &tables {
         all.push(rows.renumbered(alloc, roots)?)?;
     }
     Ok(all)
@@ -120,11 +120,11 @@ pub fn read_image(
     alloc: Global,
     symbols: Symbols,
     roots: &[u32],
-    tables: &[Rows],
+    tables: Vec<Rows>,
 ) -> Result<Instance, AllocError>
     requires roots { AreRoots symbols roots.now }
-    requires fit { PartsFit symbols tables.now }
-    ensures { IfOk result (IsSorting (shown_tables symbols (map (renumbered roots.now) tables.now))) }
+    requires fit { PartsFit symbols tables.items }
+    ensures { IfOk result (IsSorting (shown_tables symbols (map (renumbered roots.now) tables.items))) }
 {
     let all = at_roots(alloc, roots, tables)?;
     Instance::from_rows(alloc, symbols, all)

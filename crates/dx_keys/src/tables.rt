@@ -5,7 +5,7 @@ ghost use Rattle.dx_schema.specs.Tables.{key_determinations, model_tables, table
 ghost use Rattle.dx_keys.specs.Numbers.{AreTablesIn, determination_of};
 
 use crate::numbering::counted;
-use dx_chase::{Columns, NumberList, NumberTable};
+use dx_chase::{Columns, NumberTable};
 use dx_instance::Rows;
 use dx_ports::Items;
 use dx_schema::Schema;
@@ -59,36 +59,23 @@ pub fn determinations(
     Ok(all)
 }
 
-// The rows as a list of lists.
-fn listed(alloc: Global, rows: &Rows) -> Result<Items<NumberList>, AllocError>
-    ensures { IfOk result (λ all. all ≡ rows.now.rows) }
-{
-    let mut all = Vec::with_capacity(alloc, rows.count() as usize)?;
-    for place in 0..rows.count() {
-        all.push(NumberList::from_slice(alloc, rows.row(place))?)?;
-    }
-    Ok(Items::from_vec(all))
-}
-
 /// The rows of each table, with its determinations.
 ///
 /// # Errors
 ///
 /// `AllocError` if there is no memory.
-pub fn number_tables(
+pub fn number_tables<'a>(
     alloc: Global,
     schema: &Schema,
-    tables: &[Rows],
-) -> Result<Vec<NumberTable>, AllocError>
+    tables: &'a [Rows],
+) -> Result<Vec<NumberTable<'a>>, AllocError>
     requires { length tables.now ≡ length (tables_of schema.now) }
     ensures { IfOk result (λ all. AreTablesIn (model_tables schema.now) tables.now all.items) }
 {
     let mut all = Vec::new(alloc);
     for table in 0..schema.tables() {
-        all.push(NumberTable {
-            rows: listed(alloc, &tables[table as usize])?,
-            determinations: determinations(alloc, schema, table)?,
-        })?;
+        let columns = determinations(alloc, schema, table)?;
+        all.push(NumberTable::new(&tables[table as usize], columns))?;
     }
     Ok(all)
 }

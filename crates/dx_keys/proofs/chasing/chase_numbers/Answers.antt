@@ -1,17 +1,18 @@
-use Rattle.dx_keys.specs.Numbers.{Numbered}
+use Rattle.std.proofs.Common.{◌∙◌, ap}
+use Rattle.dx_keys.specs.Numbers.{IsNumbered, map_of}
+use Rattle.dx_keys.proofs.InOrder.{values_ascend}
 use Rattle.dx_keys.proofs.chasing.chase_numbers.Goals as goal
 
-pub chase_numbered-requires : goal.chase_numbered-requires
-chase_numbered-requires c =
-    let N : Numbered c.args.schema.now c.args.instance.now c.in_ok-numbering.numbering c.in_ok-rows.rows.items = record { widths_are = c.requires; wide = c.tables-instance_tables.ensures.rows; determined = c.tables-schema_tables.ensures.fits; numbering = c.in_ok-numbering.ensures; listed = rw c.deref.ensures.value at c.in_ok-rows.ensures } in
-    rw c.deref-2.ensures.value (c.args.schema.now, c.args.instance.now, N)
+pub chase_by-requires : goal.chase_by-requires
+chase_by-requires c =
+    let M : IsNumbered c.args.schema.now c.args.instance c.in_ok-numbering.numbering = record { widths_are = c.requires; wide = c.tables-instance_tables.ensures.rows; determined = c.tables-schema_tables.ensures.fits; numbering = c.in_ok-numbering.ensures } in
+    (c.args.instance, M)
+
+pub read_chased-requires-clause-ascend : goal.read_chased-requires-clause-ascend
+read_chased-requires-clause-ascend c = values_ascend c.in_ok-numbering.numbering.symbols c.in_ok-numbering.numbering.constants c.in_ok-numbering.ensures.ordered
 
 pub returns-clause-ok : goal.returns-clause-ok
 returns-clause-ok c =
-    let N : Numbered c.args.schema.now c.args.instance.now c.in_ok-numbering.numbering c.in_ok-rows.rows.items = record { widths_are = c.requires; wide = c.tables-instance_tables.ensures.rows; determined = c.tables-schema_tables.ensures.fits; numbering = c.in_ok-numbering.ensures; listed = rw c.deref.ensures.value at c.in_ok-rows.ensures } in
-    c.chase_numbered.ensures.ok c.args.schema.now c.args.instance.now (rw c.deref-2.ensures.value N)
-
-pub returns-clause-fault : goal.returns-clause-fault
-returns-clause-fault c =
-    let N : Numbered c.args.schema.now c.args.instance.now c.in_ok-numbering.numbering c.in_ok-rows.rows.items = record { widths_are = c.requires; wide = c.tables-instance_tables.ensures.rows; determined = c.tables-schema_tables.ensures.fits; numbering = c.in_ok-numbering.ensures; listed = rw c.deref.ensures.value at c.in_ok-rows.ensures } in
-    c.chase_numbered.ensures.fault c.args.schema.now c.args.instance.now (rw c.deref-2.ensures.value N)
+    let M : IsNumbered c.args.schema.now c.args.instance c.in_ok-numbering.numbering = record { widths_are = c.requires; wide = c.tables-instance_tables.ensures.rows; determined = c.tables-schema_tables.ensures.fits; numbering = c.in_ok-numbering.ensures } in
+    c.in_ok-roots.ensures.ok c.args.instance M c.in_ok-read_chased.field-0.map c.in_ok-read_chased.field-0.instance
+    (c.in_ok-read_chased.ensures.map ∙ ap (map_of c.in_ok-numbering.numbering.symbols) c.items.ensures) (rw c.items.ensures at c.in_ok-read_chased.ensures.image)

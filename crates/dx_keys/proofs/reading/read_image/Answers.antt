@@ -8,4 +8,4 @@ use Rattle.dx_keys.proofs.reading.read_image.Goals as goal
 pub from_rows-requires-clause-fit : goal.from_rows-requires-clause-fit
 from_rows-requires-clause-fit c =
     subst (λ (l : List NumberTable). Each l (RowsFit (length c.args.symbols))) (sym c.in_ok-all.ensures)
-    (images_fit (length c.args.symbols) (length c.args.symbols) c.args.roots.now c.args.tables.now c.requires.roots.within (parts_rows c.args.symbols c.args.tables.now c.requires.fit))
+    (images_fit (length c.args.symbols) (length c.args.symbols) c.args.roots.now c.args.tables.items c.requires.roots.within (parts_rows c.args.symbols c.args.tables.items c.requires.fit))
