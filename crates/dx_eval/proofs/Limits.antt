@@ -17,6 +17,7 @@ use Rattle.dx_instance.specs.Cells.{NumberTable}
 use Rattle.dx_instance.specs.Numbers.{AreApart, Extends}
 use Rattle.dx_instance.proofs.ShownFacts.{extends_both}
 use Rattle.dx_joins.specs.Shown.{MoreTuples, StandFor, texts_of}
+use Rattle.dx_joins.proofs.Distincts.{ascend_distinct}
 use Rattle.dx_joins.proofs.Translating.{distinct_texts}
 use Rattle.dx_schema.specs.Names.{Named}
 use Rattle.dx_funcs.specs.declared.conversion.Conversion.{Conversion}
@@ -184,7 +185,7 @@ module _ (source : List Named) (call : Text → Tuple → Text) (I : List Fact) 
           let table = zip_here (IsTable source call I) (matchings steps) all k no_matching [] z c in
           let table_is : IsMatchTable source call I (get_or (matchings (take i steps)) k no_matching).select (get_or (matchings (take i steps)) k no_matching).sources (get_or (matchings (take i steps)) k no_matching).equal (match_table all k) =
           subst (λ (q : Matching). IsMatchTable source call I q.select q.sources q.equal (match_table all k)) same table in
-          rw (tuples_at S ts k a) (no_longer (map (texts_of S) (get_or ts k no_rows).rows) (match_table all k) (distinct_texts S (get_or ts k no_rows).rows f.apart found.texts found.ascend) (λ t m. (table_is.exact t).1 ((found.exact t).0 m)))
+          rw (tuples_at S ts k a) (no_longer (map (texts_of S) (get_or ts k no_rows).rows) (match_table all k) (distinct_texts S (get_or ts k no_rows).rows f.apart found.texts (ascend_distinct (get_or ts k no_rows).rows found.ascend)) (λ t m. (table_is.exact t).1 ((found.exact t).0 m)))
 
   -- each match step so far has a table
   pub number_is : (list : List Conversion) (old S : List Value) (ts : List NumberTable) (limit left i r : ℕ) (select : List Select) (sources : List Text) (equal : List Equal)
@@ -220,7 +221,7 @@ too_many (Some t) room w P U apart m q =
     let l = length-map t.rows (texts_of U) in
     record {
       tuples = map (texts_of U) t.rows;
-      distinct = distinct_texts U t.rows apart m.texts m.ascend;
+      distinct = distinct_texts U t.rows apart m.texts (ascend_distinct t.rows m.ascend);
       each = (λ u n. (m.exact u).0 n);
       more = let a = q.0 in omega (arith, a, l);
       few = let b = q.1 in omega (arith, b, l);
