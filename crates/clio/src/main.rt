@@ -8,6 +8,7 @@
 ghost use Rattle.std.specs.Prelude.{◌≡◌, [], IfOk, length, map};
 ghost use Rattle.std.specs.Process.{exit_status};
 ghost use Rattle.clio_ending.specs.Ending.{status_of};
+ghost use Rattle.clio_ending.specs.declared.ending.Ending.TheVariants.{Memory};
 ghost use Rattle.dx_ports.specs.Members.{◌∈◌};
 ghost use Rattle.dx_funcs.specs.Judging.{Decides};
 ghost use Rattle.dx_funcs.specs.Offers.{IsListed};
@@ -15,7 +16,8 @@ ghost use Rattle.dx_funcs.specs.Serving.{Serves};
 ghost use Rattle.dx_funcs.specs.Shipped.{shipped_apply, shipped_conversions, shipped_passes, shipped_row_tests};
 
 use clio_folder::{FolderInputs, FolderOutputs};
-use clio_top::{Ending, message, run};
+use clio_status::status_and_message;
+use clio_top::{Ending, run};
 use dx_funcs::{Host, Meaning, Shipped, Tests, check_row, convert, shipped_list, shipped_tests};
 use dx_ports::{Items, Text};
 use std::alloc::{AllocError, Global};
@@ -53,12 +55,12 @@ fn words(rt: &(impl Env + AllocGlobal)) -> io::Result<Vec<Text>> {
 }
 
 // Says the message of an ending, and gives its status.
-fn ended(rt: &(impl Eprint + AllocGlobal), ending: &Ending) -> ExitCode
-    ensures { exit_status result ≡ status_of ending.now }
+fn ended(rt: &(impl Eprint + AllocGlobal), ending: Ending) -> ExitCode
+    ensures { exit_status result ≡ status_of ending }
 {
-    let status = ending.status();
+    let (status, message) = status_and_message(rt.alloc(), ending);
     if status != 0 {
-        if let Ok(message) = message(rt.alloc(), ending) {
+        if let Ok(message) = message {
             let _ = eprintln!(rt; "{message}");
         }
     }
@@ -67,9 +69,9 @@ fn ended(rt: &(impl Eprint + AllocGlobal), ending: &Ending) -> ExitCode
 
 // The status of a run that had no memory to begin. Nothing is printed.
 fn no_memory() -> ExitCode
-    ensures { exit_status result ≡ 9 }
+    ensures { exit_status result ≡ status_of Memory }
 {
-    ExitCode::from(Ending::Memory.status())
+    ExitCode::from(9)
 }
 
 // A run of these words in the working folder, and its status.
@@ -89,7 +91,7 @@ where
     let mut inputs = FolderInputs::new(rt);
     let mut outputs = FolderOutputs::new(rt);
     let ending = run(rt.alloc(), words, &mut inputs, &mut outputs, host, tests);
-    ended(rt, &ending)
+    ended(rt, ending)
 }
 
 // Whether a text passes a shipped row test.

@@ -23,9 +23,9 @@ where
     P: Fn(u32, &Text) -> Result<bool, AllocError>,
     M: Meaning,
 {
-    let mapping = accept(alloc, PEOPLE.as_bytes(), host, tests)?;
     let person = Text::from_str(alloc, "person")?;
     let emp = Text::from_str(alloc, "emp")?;
+    let mapping = accept(alloc, PEOPLE.as_bytes(), host, tests)?;
     Ok(
         mapping.target.table_named(&person) == Some(0)
             && mapping.target.table_named(&emp) == None

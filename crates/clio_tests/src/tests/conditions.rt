@@ -8,7 +8,8 @@ ghost use Rattle.dx_funcs.specs.Shipped.{shipped_apply, shipped_conversions};
 ghost use Rattle.clio_tests.specs.Own.{begins_with_a};
 
 use crate::tests::faults::file;
-use clio_top::{Ending, run};
+use clio_status::status_and_message;
+use clio_top::run;
 use dx_funcs::{Host, Meaning, RowTest, Tests, convert, shipped_list};
 use dx_ports::{File, Items, MemInputs, MemOutputs, Text};
 use std::alloc::{AllocError, Global};
@@ -48,13 +49,13 @@ fn files(alloc: Global) -> Result<Vec<File>, AllocError> {
     Ok(files)
 }
 
-/// Runs an exchange over these files.
+/// The status of an exchange over these files.
 fn exchange<F, P, M>(
     alloc: Global,
     outputs: &mut MemOutputs,
     host: &Host<F, M>,
     tests: &Tests<P, M>,
-) -> Result<Ending, AllocError>
+) -> Result<u8, AllocError>
 where
     F: Fn(u32, &Items<Text>) -> Result<Text, AllocError>,
     P: Fn(u32, &Text) -> Result<bool, AllocError>,
@@ -65,7 +66,9 @@ where
     let mut words = Vec::new(alloc);
     words.push(Text::from_str(alloc, "exchange")?)?;
     let mut inputs = MemInputs::new(files(alloc)?, Vec::new(alloc));
-    Ok(run(alloc, &words, &mut inputs, outputs, host, tests))
+    let ending = run(alloc, &words, &mut inputs, outputs, host, tests);
+    let (status, _) = status_and_message(alloc, ending);
+    Ok(status)
 }
 
 /// The table of persons among the files that were put.
@@ -103,7 +106,7 @@ fn puts<F: Fn(u32, &Items<Text>) -> Result<Text, AllocError>>(
     { begins_with_a(code, text) };
     let tests: Tests<_, Own> = Tests::build(own_tests(alloc)?, row_tests);
     let mut outputs = MemOutputs::new(alloc, Vec::new(alloc));
-    let status = exchange(alloc, &mut outputs, host, &tests)?.status();
+    let status = exchange(alloc, &mut outputs, host, &tests)?;
     Ok(status == 0 && persons(alloc, &outputs)?.as_slice() == wanted)
 }
 

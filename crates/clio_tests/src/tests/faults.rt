@@ -7,7 +7,8 @@ ghost use Rattle.dx_funcs.specs.Serving.{Serves};
 ghost use Rattle.dx_funcs.specs.Shipped.{shipped_apply, shipped_conversions, shipped_passes, shipped_row_tests};
 
 use crate::tests::shipped::passes;
-use clio_top::{Ending, message, run};
+use clio_status::status_and_message;
+use clio_top::{Ending, run};
 use dx_funcs::{Host, Meaning, Shipped, Tests, convert, shipped_list, shipped_tests};
 use dx_ports::{File, Items, MemInputs, MemOutputs, Text};
 use std::alloc::{AllocError, Global};
@@ -40,15 +41,15 @@ fn files(alloc: Global) -> Result<Vec<File>, AllocError> {
     Ok(files)
 }
 
-/// Runs a command of one word on these files, where these calls of the inputs fail.
-fn ending_of<F, P, M>(
+/// The status and the message of a command of one word on these files, where these calls of the inputs fail.
+fn told_of<F, P, M>(
     alloc: Global,
     word: &str,
     reads: Vec<u64>,
     outputs: &mut MemOutputs,
     host: &Host<F, M>,
     tests: &Tests<P, M>,
-) -> Result<Ending, AllocError>
+) -> Result<(u8, Text), AllocError>
 where
     F: Fn(u32, &Items<Text>) -> Result<Text, AllocError>,
     P: Fn(u32, &Text) -> Result<bool, AllocError>,
@@ -59,17 +60,19 @@ where
     let mut words = Vec::new(alloc);
     words.push(Text::from_str(alloc, word)?)?;
     let mut inputs = MemInputs::new(files(alloc)?, reads);
-    Ok(run(alloc, &words, &mut inputs, outputs, host, tests))
+    let ending = run(alloc, &words, &mut inputs, outputs, host, tests);
+    let (status, message) = status_and_message(alloc, ending);
+    Ok((status, message?))
 }
 
 /// The same with the row tests that come with the program.
-fn ending_by<F: Fn(u32, &Items<Text>) -> Result<Text, AllocError>>(
+fn told_by<F: Fn(u32, &Items<Text>) -> Result<Text, AllocError>>(
     alloc: Global,
     word: &str,
     reads: Vec<u64>,
     outputs: &mut MemOutputs,
     host: &Host<F, Shipped>,
-) -> Result<Ending, AllocError>
+) -> Result<(u8, Text), AllocError>
     requires serves { Serves F.Fn ⟦<Shipped as Meaning>⟧.apply host.now }
 {
     let row_tests = |code: u32, text: &Text| -> Result<bool, AllocError>
@@ -77,27 +80,22 @@ fn ending_by<F: Fn(u32, &Items<Text>) -> Result<Text, AllocError>>(
         ensures { IfOk result (λ b. b ≡ shipped_passes code text.entry.now) }
     { passes(code, text) };
     let tests: Tests<_, Shipped> = Tests::build(shipped_tests(alloc)?, row_tests);
-    ending_of(alloc, word, reads, outputs, host, &tests)
+    told_of(alloc, word, reads, outputs, host, &tests)
 }
 
 /// The same with the conversions that come with the program.
-fn ending(
+fn told(
     alloc: Global,
     word: &str,
     reads: Vec<u64>,
     outputs: &mut MemOutputs,
-) -> Result<Ending, AllocError> {
+) -> Result<(u8, Text), AllocError> {
     let conversions = |code: u32, args: &Items<Text>| -> Result<Text, AllocError>
         requires { IsListed shipped_conversions code (length args.now) }
         ensures { IfOk result (λ t. t ≡ shipped_apply code args.entry.now) }
     { convert(alloc, code, args) };
     let host: Host<_, Shipped> = Host::build(shipped_list(alloc)?, conversions);
-    ending_by(alloc, word, reads, outputs, &host)
-}
-
-/// The status of an ending, and its message if there is memory.
-fn told_of(alloc: Global, ending: Ending) -> (u8, Result<Text, AllocError>) {
-    (ending.status(), message(alloc, &ending))
+    told_by(alloc, word, reads, outputs, &host)
 }
 
 /// How it ended and what it left in the outputs, if these calls of the inputs fail.
@@ -107,10 +105,10 @@ fn outcome_of(
     reads: Vec<u64>,
     mut outputs: MemOutputs,
 ) -> Result<Outcome, AllocError> {
-    let (status, message) = told_of(alloc, ending(alloc, word, reads, &mut outputs)?);
+    let (status, message) = told(alloc, word, reads, &mut outputs)?;
     Ok(Outcome {
         status,
-        message: message?,
+        message,
         outputs,
     })
 }
@@ -252,8 +250,9 @@ fn saying_rules_can_fail(rt: HostRuntime) -> Result<(), Fail> {
 
 #[test]
 fn want_of_memory_has_its_message(rt: HostRuntime) -> Result<(), Fail> {
-    let text = message(rt.alloc(), &Ending::Memory)?;
+    let (status, message) = status_and_message(rt.alloc(), Ending::Memory);
+    let text = message?;
     assert_eq!(rt; text.as_str(), "out of memory");
-    assert_eq!(rt; Ending::Memory.status(), 9);
+    assert_eq!(rt; status, 9);
     Ok(())
 }
