@@ -53,8 +53,7 @@ class Files:
 
     def nulls(self):
         """The records of each null in nulls.csv, with what they are sorted by."""
-        for null, pairs in self.target.exported():
-            number = self.target.nulls.number(null)
+        for _, number, pairs in self.target.exported():
             name = self.name(number)
             if len(pairs) > 1:
                 pairs.sort(key=lambda pair: int(pair[0][1:]))

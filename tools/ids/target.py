@@ -1,5 +1,4 @@
 """What `clio exchange` wrote: the rows of the target, and what its nulls are known by. Rows are read again for each use, and only the numbers of nulls are held."""
-import itertools
 import json
 import pathlib
 from array import array
@@ -44,16 +43,23 @@ class Target:
             raise Refused(f"out/ has the null {strange}.., and out/rules.txt has {len(self.rules)} rules: {AGAIN}")
 
     def exported(self):
-        """Each null of nulls.csv, with its variables and values."""
-        last, pairs = None, []
-        for null, variable, value in itertools.chain(read_table(written("nulls"), [FRESH, "variable", "value"]), [[None] * 3]):
+        """Each null of nulls.csv with its number, variables and values."""
+        last, number, pairs = None, NONE, []
+        for null, *pair in read_table(written("nulls"), [FRESH, "variable", "value"]):
             if null != last:
                 if pairs:
-                    yield last, pairs
-                if null is not None and (not is_null(null) or self.nulls.number(null) == NONE):
-                    raise Refused(f"out/nulls.csv lists {null[:60]}, which is in no table: {AGAIN}")
-                last, pairs = null, []
-            pairs.append((variable, value))
+                    yield last, number, pairs
+                last, number, pairs = null, self.listed(null), []
+            pairs.append(pair)
+        if pairs:
+            yield last, number, pairs
+
+    def listed(self, null):
+        """The number of a null that nulls.csv lists."""
+        number = self.nulls.number(null) if is_null(null) else NONE
+        if number == NONE:
+            raise Refused(f"out/nulls.csv lists {null[:60]}, which is in no table: {AGAIN}")
+        return number
 
     def term_text(self, rule, variable, pairs):
         """A rule, a variable, and values by the names of the variables that have them, as a text of JSON."""
@@ -65,12 +71,11 @@ class Target:
     def terms(self):
         """For each null its number and what it is made of, as a text: its rule, its variable, and the values of nulls.csv."""
         named, is_listed = {}, bytearray(self.nulls.count)
-        for null, pairs in self.exported():
+        for null, number, pairs in self.exported():
             rule, variable, _ = null[1:].split(".")
             variables = [name for name, _ in pairs]
             if named.setdefault(rule, variables) != variables:
                 raise Refused(f"out/nulls.csv has other variables for {null[:60]} than for other nulls of its rule: {AGAIN}")
-            number = self.nulls.number(null)
             is_listed[number] = 1
             yield number, self.term_text(rule, variable, pairs)
         for null, number in self.nulls:
