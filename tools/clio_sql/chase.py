@@ -1,8 +1,9 @@
 """The chase of keys and dependencies, round by round, by queries over whole tables.
 
-A cell is a text: `c` and a constant, or `n` and the numbers of a null. So constants come before nulls, and nulls are in
-their order, when cells are compared as bytes.
+A cell of a column that may hold nulls is a text: `c` and a constant, or `n` and the numbers of a null. So constants come
+before nulls, and nulls are in their order, when cells are compared as bytes. In other columns constants stand as they are.
 """
+from .engines import null_head
 
 
 class Clash(Exception):
@@ -60,15 +61,18 @@ class Chase:
         """Lists what has to be equal now, each cell with the least of its group; answers whether there is anything."""
         self.engine.make("pair", "SELECT 'n' AS u, 'c' AS v WHERE 1 = 0")
         for one in self.determinations:
-            if one.right:
+            if one.right and one.target.is_new:
                 self.find_groups(one)
+        for target in self.targets:
+            target.is_new = False
         self.engine.ready("pair")
         return self.engine.number("SELECT count(*) FROM pair") > 0
 
     def find_groups(self, one):
         """The groups of rows that agree on the left, with the least cell and the greatest constant of each column."""
         least = [f"min({self.bytes(column)}) AS a{column}" for column in one.right]
-        greatest = [f"max(CASE WHEN c{column} < 'n' THEN {self.bytes(column)} END) AS z{column}" for column in one.right]
+        constant = lambda column: f"CASE WHEN c{column} < 'n' THEN {self.bytes(column)} END" if column in one.target.heads else self.bytes(column)
+        greatest = [f"max({constant(column)}) AS z{column}" for column in one.right]
         left = ", ".join(f"c{column}" for column in one.left)
         self.engine.make("grouped", f"SELECT {left}, {', '.join(least + greatest)} FROM {one.target.work} GROUP BY {left} HAVING count(*) > 1")
         if not self.engine.number("SELECT count(*) FROM grouped"):
@@ -76,7 +80,7 @@ class Chase:
         self.check_clash(one)
         same = " AND ".join(f"t.c{column} = g.c{column}" for column in one.left)
         for column in one.right:
-            if column in one.target.open:
+            if column in one.target.heads:
                 self.engine.run(f"INSERT INTO pair SELECT DISTINCT t.c{column}, g.a{column} FROM {one.target.work} AS t JOIN grouped AS g"
                                 f" ON {same} WHERE t.c{column} <> g.a{column}")
 
@@ -88,8 +92,8 @@ class Chase:
         for column in one.right:
             found = self.engine.rows(f"SELECT a{column}, z{column} FROM grouped WHERE z{column} <> a{column} LIMIT 1")
             if found:
-                names = one.target.columns
-                texts = ["\"%s\"" % text[1:].replace("\\", "\\\\").replace('"', '\\"') for text in found[0]]
+                names, mark = one.target.columns, int(column in one.target.heads)
+                texts = ["\"%s\"" % text[mark:].replace("\\", "\\\\").replace('"', '\\"') for text in found[0]]
                 raise Clash(f"clash: table {one.target.name}, key ({', '.join(names[place] for place in one.left)}): "
                             f"{texts[0]} and {texts[1]} in column {names[column]}")
 
@@ -99,13 +103,21 @@ class Chase:
         self.engine.make("before", "SELECT r.u, coalesce(g.v, r.v) AS v FROM replaced AS r LEFT JOIN gone AS g ON g.u = r.v"
                                    " UNION ALL SELECT u, v FROM gone")
         self.engine.rename("before", "replaced")
+        length = len(null_head(0, 0))
+        moves = self.engine.rows(f"SELECT DISTINCT substr(u, 1, {length}), CASE WHEN v < 'n' THEN '' ELSE substr(v, 1, {length}) END FROM gone")
         for target in self.targets:
-            if target.open:
-                self.replace_in(target)
+            self.replace_in(target, moves)
 
-    def replace_in(self, target):
-        """A table with its replaced nulls, each row once."""
-        cells = [f"coalesce(g{place}.v, t.c{place}) AS c{place}" if place in target.open else f"t.c{place}" for place in range(len(target.columns))]
-        joins = "".join(f" LEFT JOIN gone AS g{place} ON g{place}.u = t.c{place}" for place in target.open)
+    def replace_in(self, target, moves):
+        """A table with its replaced nulls, each row once; only columns that may hold a null whose head has gone can be others."""
+        gone = {head for head, _ in moves}
+        places = [place for place, heads in target.heads.items() if heads & gone]
+        if not places:
+            return
+        for place in places:
+            target.heads[place] |= {after for head, after in moves if after and head in target.heads[place]}
+        cells = [f"coalesce(g{place}.v, t.c{place}) AS c{place}" if place in places else f"t.c{place}" for place in range(len(target.columns))]
+        joins = "".join(f" LEFT JOIN gone AS g{place} ON g{place}.u = t.c{place}" for place in places)
         self.engine.make("other", f"SELECT DISTINCT {', '.join(cells)} FROM {target.work} AS t{joins}", by=target.by)
         self.engine.rename("other", target.work)
+        target.is_new = True

@@ -55,7 +55,12 @@ class Engine:
 
     def null(self, rule, variable, place):
         """A null as the chase holds it: an `n`, and numbers of one length, so that nulls are ordered as bytes."""
-        return f"('n{rule:05}.{variable:05}.' || {self.padded(place)}){self.by_bytes}"
+        return f"('{null_head(rule, variable)}' || {self.padded(place)}){self.by_bytes}"
+
+
+def null_head(rule, variable):
+    """How a null of this rule and variable begins, before its place."""
+    return f"n{rule:05}.{variable:05}."
 
 
 class Sqlite(Engine):

@@ -1,20 +1,23 @@
 """The matches of all rules, and the target as the rules alone make it."""
 import re
 
+from .engines import null_head
 from .steps import outside_quotes
 
 CALL = re.compile(r"\"(trim|digits|pair)\"\(([^()]*)\)")
 
 
 class Target:
-    """A target table as it is worked on: its number, its columns, which of these may hold nulls, and those that tell rows apart first."""
+    """A target table as it is worked on: its columns, those that tell rows apart first, and for those that may hold nulls the heads of these."""
 
     def __init__(self, number, table, columns, inserts):
         self.work, self.name, self.columns = f"t{number}", table.name, columns
-        self.inserts = inserts
+        self.inserts, self.is_new = inserts, True  # whether rows have become others since keys were last asked for
         lefts = [*table.keys, *(left for left, _ in table.dependencies), columns]
         self.by = [f"c{columns.index(name)}" for name in lefts[0]]
-        self.open = [place for place in range(len(columns)) if any(insert.outs[place].startswith("SKOLEM") for insert in inserts)]
+        heads = [{null_head(*null_of(insert.outs[place])) for insert in inserts if is_null(insert.outs[place])} for place in range(len(columns))]
+        self.heads = {place: found for place, found in enumerate(heads) if found}
+        self.open = list(self.heads)
 
 
 def make_views(engine, mapping):
@@ -47,22 +50,40 @@ def make_matches(engine, script, names):
         engine.make(f"k{rule}", f"SELECT * FROM m{rule} AS m WHERE {unless}")
 
 
-def cell(engine, out):
-    """A cell as the chase holds it: a text with a `c` before it, or a null."""
-    if out.startswith("SKOLEM"):
-        rule, variable = out[7:].split(", ")[:2]
-        return engine.null(int(rule), int(variable), "m.place")
-    return f"'c' || {out}"
+def is_null(out):
+    """Whether a cell of an insert is a null."""
+    return out.startswith("SKOLEM")
+
+
+def null_of(out):
+    """The rule and the variable of such a cell."""
+    return map(int, out[7:].split(", ")[:2])
+
+
+def cell(engine, out, is_open):
+    """A cell as the chase holds it: a null, or a text, which has a `c` before it if the column may hold nulls."""
+    if is_null(out):
+        return engine.null(*null_of(out), "m.place")
+    return f"'c' || {out}" if is_open else out
+
+
+def rows_of(engine, target):
+    """The query for a table as the rules make it, each row once. What has a null is made once, if its rule has no other insert here."""
+    apart, others = [], []
+    for insert in target.inserts:
+        cells = ", ".join(f"{cell(engine, out, place in target.heads)} AS c{place}" for place, out in enumerate(insert.outs))
+        is_apart = any(map(is_null, insert.outs)) and [other.rule for other in target.inserts].count(insert.rule) == 1
+        (apart if is_apart else others).append(f"SELECT {cells} FROM {insert.matches} AS m")
+    if len(others) == 1:
+        others = ["SELECT DISTINCT" + others[0][6:]]
+    none = "SELECT " + ", ".join(f"'c' AS c{place}" for place in range(len(target.columns))) + " WHERE 1 = 0"
+    return " UNION ALL ".join([" UNION ".join(others)] * bool(others) + apart) or none
 
 
 def make_targets(engine, script, tables):
     """The target's tables as the rules make them."""
     targets = []
     for number, (table, columns) in enumerate(zip(tables, script.tables.values())):
-        target = Target(number, table, columns, [insert for insert in script.inserts if insert.table == table.name])
-        parts = [", ".join(f"{cell(engine, out)} AS c{place}" for place, out in enumerate(insert.outs)) for insert in target.inserts]
-        queries = [f"SELECT {part} FROM {insert.matches} AS m" for part, insert in zip(parts, target.inserts)]
-        none = "SELECT " + ", ".join(f"'c' AS c{place}" for place in range(len(columns))) + " WHERE 1 = 0"
-        engine.make(target.work, " UNION ".join(queries) if len(queries) > 1 else "SELECT DISTINCT" + (queries or [none])[0][6:], by=target.by)
-        targets.append(target)
+        targets.append(Target(number, table, columns, [insert for insert in script.inserts if insert.table == table.name]))
+        engine.make(targets[-1].work, rows_of(engine, targets[-1]), by=targets[-1].by)
     return targets

@@ -16,6 +16,11 @@ class Insert(NamedTuple):
     outs: list
     matches: str
 
+    @property
+    def rule(self):
+        """The number of the rule whose matches these are."""
+        return int(self.matches[1:])
+
 
 class Script:
     """The tables of the target, and for each rule its matches, which of them are kept, and what is inserted."""

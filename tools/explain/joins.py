@@ -56,6 +56,7 @@ class Matches:
         self.chosen = [None] * len(rule.premise)
         self.found, self.number = {}, 0
         self.extend(0)
+        self.steps = None
 
     def extend(self, depth):
         """Chooses rows for the atoms from this one on."""
@@ -78,11 +79,15 @@ class Matches:
         for number, derived in enumerate(self.rule.derived, self.first):
             self.values[number] = NAMED[derived.conversion].apply(*[self.values[one] for one in derived.arguments])
         self.number += 1
-        found = self.found.setdefault(tuple([self.values[variable] for variable in self.exported]), [])
-        if len(found) < self.kept:
-            found.append(tuple(self.chosen))
+        self.take(tuple([self.values[variable] for variable in self.exported]))
         if self.most_tuples is not None and len(self.found) > self.most_tuples:
             raise TooMany()
+
+    def take(self, texts):
+        """Takes down the texts of a match, and its rows if they are kept."""
+        found = self.found.setdefault(texts, [])
+        if len(found) < self.kept:
+            found.append(tuple(self.chosen))
 
     def places(self):
         """The tuples in ascending order: a tuple's place is its position."""

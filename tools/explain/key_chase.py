@@ -69,14 +69,32 @@ class KeyChase:
         self.rows = rows
         self.determinations = [table.determinations() for table in tables]
         self.replaced, self.steps, self.met = {}, {}, {}
-        self.holders, self.indexes = {}, {}
-        self.work = deque((table, row) for table, listed in enumerate(rows) for row in range(len(listed)))
-        for table, row in self.work:
-            for value in rows[table][row]:
-                if isinstance(value, tuple):
-                    self.holders.setdefault(value, []).append((table, row))
+        self.holders, self.indexes, self.work = {}, {}, deque()
+        for table, determinations in enumerate(self.determinations):
+            for column in sorted({column for left, _ in determinations for column in left}):
+                self.hold_column(table, column)
+        for table, determinations in enumerate(self.determinations):
+            for row in range(len(rows[table]) if determinations else 0):
+                self.look(table, row)
         while self.work:
             self.look(*self.work.popleft())
+        self.holders = self.indexes = None
+
+    def hold_column(self, table, column):
+        """Takes down where the nulls of a column are by which rows agree: only such a row can come to agree with another."""
+        for row, cells in enumerate(self.rows[table]):
+            if isinstance(cells[column], tuple):
+                self.hold(cells[column], [row * len(self.rows) + table])
+
+    def hold(self, value, rows):
+        """Adds rows to those of a null; a row alone is held without a list."""
+        held = self.holders.get(value)
+        if isinstance(held, list):
+            held.extend(rows)
+        elif held is not None:
+            self.holders[value] = [held, *rows]
+        elif rows:
+            self.holders[value] = rows if len(rows) > 1 else rows[0]
 
     def value(self, value):
         """The value that stands now in the place of a value."""
@@ -94,8 +112,8 @@ class KeyChase:
     def look(self, table, row):
         """Compares a row with the first row that agrees with it on a key."""
         for key, (_, right) in enumerate(self.determinations[table]):
-            index = self.indexes.setdefault((table, key), {})
-            other = index.setdefault(self.agreed(table, key, row), row)
+            index, agreed = self.indexes.setdefault((table, key), {}), self.agreed(table, key, row)
+            other = index.setdefault(agreed[0] if len(agreed) == 1 else agreed, row)
             if other != row:
                 for column in right:
                     self.make_equal(table, key, (other, row), column)
@@ -110,11 +128,16 @@ class KeyChase:
             self.met.setdefault((table, key), []).append(pair)
             return
         self.replaced[greatest] = least
-        self.steps[greatest] = KeyStep(least, table, key, pair)
-        moved = self.holders.pop(greatest, [])
-        self.work.extend(moved)
+        self.note(greatest, KeyStep(least, table, key, pair))
+        held = self.holders.pop(greatest, [])
+        moved = held if isinstance(held, list) else [held]
+        self.work.extend((row % len(self.rows), row // len(self.rows)) for row in moved)
         if isinstance(least, tuple):
-            self.holders.setdefault(least, []).extend(moved)
+            self.hold(least, moved)
+
+    def note(self, value, step):
+        """Takes down why a null was replaced."""
+        self.steps[value] = step
 
     def clashes(self):
         """All clashes that are left at the end, ordered by table, key, the values of the key and the column."""

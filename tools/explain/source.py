@@ -1,6 +1,7 @@
 """The source files as rows that know where they are from."""
 import json
 import pathlib
+from array import array
 
 from clio_csv import MARK, records, text
 from sources import Walk
@@ -24,16 +25,26 @@ class WalkWithPaths(Walk):
 class Rows:
     """The different rows of a table in the order of the file, the place of each, and how many records repeat one."""
 
-    def __init__(self):
-        self.rows, self.places, self.numbers, self.repeats, self.records = [], [], {}, 0, 0
+    def __init__(self, is_document):
+        self.rows, self.seen, self.repeats, self.records = [], set(), 0, 0
+        self.paths, self.entries, self.lines = [] if is_document else None, array("l"), array("l")
 
     def add(self, row, place):
         self.records += 1
-        if self.numbers.setdefault(row, len(self.rows)) < len(self.rows):
+        if row in self.seen:
             self.repeats += 1
             return
+        self.seen.add(row)
         self.rows.append(row)
-        self.places.append(place)
+        if self.paths is not None:
+            self.paths.append(place)
+        else:
+            self.entries.append(place[0])
+            self.lines.append(place[1])
+
+    def place(self, row):
+        """The path of the object that a row is, or the number and the line of its record."""
+        return (self.entries[row], self.lines[row]) if self.paths is None else self.paths[row]
 
 
 class Source:
@@ -41,11 +52,13 @@ class Source:
 
     def __init__(self, mapping):
         self.tables, self.mapping = mapping.source, mapping
-        self.rows = [Rows() for _ in self.tables]
+        self.rows = [Rows(table.parent is not None or bool(table.inner)) for table in self.tables]
         self.failing = [0] * len(self.tables)  # how many records of each table don't pass
         for number, table in enumerate(self.tables):
             if table.parent is None:
                 self.read(number, table)
+        for rows in self.rows:
+            rows.seen = None
 
     def read(self, number, table):
         """Reads the file of a root."""
@@ -76,7 +89,7 @@ class Source:
 
     def shown_row(self, number, row):
         """A row with its file and its place there."""
-        table, place = self.tables[number], self.rows[number].places[row]
+        table, place = self.tables[number], self.rows[number].place(row)
         where = f"{file_of(self.root(number))}{place}" if isinstance(place, str) else f"{file_of(table)}, line {place[1]} (record {place[0]})"
         cells = [f"{visible(name)} = {shown(value, 40)}" for name, value in zip(table.columns, self.rows[number].rows[row])
                  if not name.startswith("#")]

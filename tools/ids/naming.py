@@ -156,7 +156,7 @@ class Naming:
 
     def by_name(self):
         """The number of each null by its name."""
-        return {name: self.numbers[null] for name, null in self.target.nulls}
+        return {f"?{rule}.{variable}.{place}": self.numbers[null] for rule, variable, place, null in self.target.nulls}
 
 
 def identity(head, parts):

@@ -10,13 +10,14 @@ BLOCK = 256  # places that are kept together
 NONE = -1
 
 
-def is_null(text):
-    """Whether a value text is that of a null; a text that clio writes in no way is refused."""
+def parts_of(text):
+    """The rule, the variable and the place of a null as texts, or None for another text; a text that clio writes in no way is refused."""
     if text[:1] != "?" or text[1:2] == "?":
-        return False
-    if not NULL.fullmatch(text):
+        return None
+    found = NULL.fullmatch(text)
+    if not found:
         raise Refused(f"out/ has the text {text[:60]!r}, which is none that clio writes: {AGAIN}")
-    return True
+    return found.groups()
 
 
 class Marks:
@@ -38,31 +39,37 @@ class Nulls:
     def __init__(self):
         self.blocks, self.count = {}, 0
 
-    def number(self, name):
-        """The number of a null, or NONE."""
-        head, _, place = name.rpartition(".")
-        block = self.blocks.get((head, int(place) // BLOCK))
-        return NONE if block is None else block[int(place) % BLOCK]
+    def number(self, parts):
+        """The number of a null by its rule, variable and place, or NONE."""
+        rule, variable, place = parts
+        place = int(place)
+        block = self.blocks.get((rule, variable, place // BLOCK))
+        return NONE if block is None else block[place % BLOCK]
 
-    def add(self, name):
+    def number_of(self, text):
+        """The number of the null that a text is, or NONE."""
+        parts = parts_of(text)
+        return NONE if parts is None else self.number(parts)
+
+    def add(self, parts):
         """The number of a null, the next one if it has none."""
-        head, _, place = name.rpartition(".")
-        where, within = (head, int(place) // BLOCK), int(place) % BLOCK
-        block = self.blocks.get(where)
+        rule, variable, place = parts
+        place = int(place)
+        block = self.blocks.get((rule, variable, place // BLOCK))
         if block is None:
-            block = self.blocks[where] = array("q", [NONE]) * BLOCK
-        if block[within] == NONE:
-            block[within] = self.count
+            block = self.blocks[rule, variable, place // BLOCK] = array("q", [NONE]) * BLOCK
+        if block[place % BLOCK] == NONE:
+            block[place % BLOCK] = self.count
             self.count += 1
-        return block[within]
+        return block[place % BLOCK]
 
     def __iter__(self):
-        """Each null's name and number."""
-        for (head, first), block in self.blocks.items():
+        """The rule, the variable and the place of each null, and its number."""
+        for (rule, variable, first), block in self.blocks.items():
             for within, number in enumerate(block):
                 if number != NONE:
-                    yield f"{head}.{first * BLOCK + within}", number
+                    yield rule, variable, first * BLOCK + within, number
 
-    def variables(self):
-        """The rules and variables that have nulls, as texts like ?0.1."""
-        return {head for head, _ in self.blocks}
+    def rules(self):
+        """The rules that have nulls."""
+        return {int(rule) for rule, _, _ in self.blocks}

@@ -8,7 +8,7 @@ from clio_json import Elements
 from clio_tool import Refused
 
 from .crosswalk import digest_of_file
-from .nulls import NONE, is_null
+from .nulls import NONE, parts_of
 from .target import PAIRS, RENAMED, written
 
 UNKNOWN = 999  # the rule in the names of nulls that are no numbers: clio has at most 256
@@ -44,7 +44,7 @@ class Files:
 
     def number(self, text):
         """The number of a null by its name; NONE for a text that is no name of the target's."""
-        return self.target.nulls.number(text) if text[:1] == "?" and is_null(text) else NONE
+        return self.target.nulls.number_of(text) if text[:1] == "?" else NONE
 
     def renamed(self, cell):
         """A cell with the new name of its null."""
@@ -53,8 +53,7 @@ class Files:
 
     def nulls(self):
         """The records of each null in nulls.csv, with what they are sorted by."""
-        for null, pairs in self.target.exported():
-            number = self.target.nulls.number(null)
+        for number, (_, pairs) in zip(self.target.listed, self.target.exported()):
             name = self.name(number)
             if len(pairs) > 1:
                 pairs.sort(key=lambda pair: int(pair[0][1:]))
@@ -94,7 +93,7 @@ class Files:
             return sorted((self.renamed_in(one) for one in value), key=text_of)
         if isinstance(value, dict):
             return {name: self.renamed_in(one) for name, one in value.items()}
-        if is_null(value) and self.number(value) == NONE:
+        if parts_of(value) and self.number(value) == NONE:
             raise Refused(f"a document has {value}, which is in no table: run clio exchange --nested again")
         return self.renamed(value)
 

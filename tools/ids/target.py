@@ -1,5 +1,4 @@
 """What `clio exchange` wrote: the rows of the target, and what its nulls are known by. Rows are read again for each use, and only the numbers of nulls are held."""
-import itertools
 import json
 import pathlib
 from array import array
@@ -8,7 +7,7 @@ from json.encoder import encode_basestring_ascii as json_text
 from clio_csv import read_table
 from clio_tool import Refused
 
-from .nulls import AGAIN, NONE, NULL, Nulls, is_null
+from .nulls import AGAIN, NONE, NULL, Nulls, parts_of
 from .terms import Terms
 
 FRESH, RENAMED = "null", "id"  # the first column of nulls.csv as clio writes it, and after the numbers are in
@@ -23,37 +22,37 @@ class Target:
         self.rules = written("rules", ".txt").read_text(encoding="utf-8").splitlines()
         self.names, self.heads = names_of(self.rules), {}
         self.cells = [self.read(table) for table in tables]
-        self.check_rules(self.nulls.variables())
+        self.listed = array("i")  # the numbers of the nulls in nulls.csv, in its order
+        self.check_rules(self.nulls.rules())
 
     def read(self, table):
         """The numbers of the nulls in each column of a table."""
         columns = [array("i") for _ in table.columns]
         for row in self.rows(table):
             for column, cell in zip(columns, row):
-                column.append(self.nulls.add(cell) if cell[:1] == "?" and is_null(cell) else NONE)
+                column.append(self.nulls.add(parts) if cell[:1] == "?" and (parts := parts_of(cell)) else NONE)
         return columns
 
     def rows(self, table):
         """The rows of a table as they were written."""
         return read_table(written(table.name), table.columns)
 
-    def check_rules(self, variables):
+    def check_rules(self, rules):
         """The rules of nulls are there."""
-        strange = next((one for one in variables if int(one[1:].split(".")[0]) >= len(self.rules)), None)
-        if strange is not None:
-            raise Refused(f"out/ has the null {strange}.., and out/rules.txt has {len(self.rules)} rules: {AGAIN}")
+        if rules and max(rules) >= len(self.rules):
+            raise Refused(f"out/ has the null ?{max(rules)}.., and out/rules.txt has {len(self.rules)} rules: {AGAIN}")
 
     def exported(self):
         """Each null of nulls.csv, with its variables and values."""
         last, pairs = None, []
-        for null, variable, value in itertools.chain(read_table(written("nulls"), [FRESH, "variable", "value"]), [[None] * 3]):
+        for null, *pair in read_table(written("nulls"), [FRESH, "variable", "value"]):
             if null != last:
                 if pairs:
                     yield last, pairs
-                if null is not None and (not is_null(null) or self.nulls.number(null) == NONE):
-                    raise Refused(f"out/nulls.csv lists {null[:60]}, which is in no table: {AGAIN}")
                 last, pairs = null, []
-            pairs.append((variable, value))
+            pairs.append(pair)
+        if pairs:
+            yield last, pairs
 
     def term_text(self, rule, variable, pairs):
         """A rule, a variable, and values by the names of the variables that have them, as a text of JSON."""
@@ -66,27 +65,30 @@ class Target:
         """For each null its number and what it is made of, as a text: its rule, its variable, and the values of nulls.csv."""
         named, is_listed = {}, bytearray(self.nulls.count)
         for null, pairs in self.exported():
-            rule, variable, _ = null[1:].split(".")
+            parts = parts_of(null)
+            number = self.nulls.number(parts) if parts else NONE
+            if number == NONE:
+                raise Refused(f"out/nulls.csv lists {null[:60]}, which is in no table: {AGAIN}")
             variables = [name for name, _ in pairs]
-            if named.setdefault(rule, variables) != variables:
+            if named.setdefault(parts[0], variables) != variables:
                 raise Refused(f"out/nulls.csv has other variables for {null[:60]} than for other nulls of its rule: {AGAIN}")
-            number = self.nulls.number(null)
             is_listed[number] = 1
-            yield number, self.term_text(rule, variable, pairs)
-        for null, number in self.nulls:
+            self.listed.append(number)
+            yield number, self.term_text(*parts[:2], pairs)
+        for rule, variable, _, number in self.nulls:
             if not is_listed[number]:
-                rule, variable, _ = null[1:].split(".")
                 yield number, self.term_text(rule, variable, [])
 
     def folded(self):
         """The nulls that one of the target's came in the place of, each with its rule, variable and place, and the number of that one."""
         for null, value in read_table(written("fold"), PAIRS):
-            if value[:1] == "?" and is_null(value) and (number := self.nulls.number(value)) != NONE:
+            if value[:1] == "?" and (number := self.nulls.number_of(value)) != NONE:
                 found = NULL.fullmatch(null)
                 if not found:
                     raise Refused(f"out/fold.csv lists {null[:60]!r}, which is no null: {AGAIN}")
-                self.check_rules([f"?{found[1]}.{found[2]}"])
-                yield *map(int, found.groups()), number
+                rule, variable, place = map(int, found.groups())
+                self.check_rules([rule])
+                yield rule, variable, place, number
 
     def folded_terms(self, base):
         """For each of these the number of the target's null and what the other one was made of, as a text."""

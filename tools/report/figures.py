@@ -9,6 +9,7 @@ from explain.key_chase import KeyChase, cell_value
 from explain.program import mapping_of
 from explain.source import Source
 from explain.traps import used_cells
+from ids.nulls import Marks
 from ids.target import is_renamed
 from rules import EXISTENTIAL
 
@@ -17,7 +18,6 @@ AGAIN = "run clio exchange again"
 
 class UsedMatches(Matches):
     """The matches of a rule, with each source row that is in one."""
-    kept = 0
 
     def __init__(self, rule, source):
         self.used = [bytearray(len(source.rows[atom.table].rows)) for atom in rule.premise]
@@ -28,25 +28,42 @@ class UsedMatches(Matches):
         for used, row in zip(self.used, self.chosen):
             used[row] = 1
 
+    def take(self, texts):
+        row = self.steps[-1].rows[self.chosen[self.steps[-1].place]]
+        self.found[row if row == texts else texts] = None  # one tuple takes less memory than two
+
+
+class CountedChase(KeyChase):
+    """The key chase, which counts how many nulls each key or dependency replaced."""
+
+    def __init__(self, rows, tables):
+        self.by_key = Counter()
+        super().__init__(rows, tables)
+
+    def note(self, value, step):
+        self.by_key[step.table, step.key] += 1
+
 
 class Asked:
     """The rows that the rules ask for: for each table its different ones, and for each of them which rules ask for it, as bits."""
 
     def __init__(self, rules, matches, tables):
-        self.rows, self.masks = [[] for _ in tables], [[] for _ in tables]
+        asked = [{} for _ in tables]
         self.number = [[0] * len(rules) for _ in tables]
-        numbers = [{} for _ in tables]
         for rule, found in enumerate(matches):
+            variables = open_variables(rules[rule])
             for place, texts in enumerate(found.places()):
-                values = dict(zip(found.exported, texts))
+                values, nulls = dict(zip(found.exported, texts)), {variable: (rule, variable, place) for variable in variables}
                 for atom in rules[rule].conclusion:
-                    row = tuple([cell_value(cell, values, rule, place) for cell in atom.cells])
-                    here = numbers[atom.table].setdefault(row, len(self.rows[atom.table]))
-                    if here == len(self.rows[atom.table]):
-                        self.rows[atom.table].append(row)
-                        self.masks[atom.table].append(0)
-                    self.masks[atom.table][here] |= 1 << rule
+                    row = tuple([nulls[cell.content] if cell.kind == EXISTENTIAL else cell_value(cell, values, rule, place) for cell in atom.cells])
+                    asked[atom.table][row] = asked[atom.table].get(row, 0) | 1 << rule
                     self.number[atom.table][rule] += 1
+        self.rows, self.masks = [list(rows) for rows in asked], [list(rows.values()) for rows in asked]
+
+
+def open_variables(rule):
+    """The variables that a rule leaves open."""
+    return {cell.content for cell in rule.conclusion_cells() if cell.kind == EXISTENTIAL}
 
 
 def value_text(value):
@@ -102,33 +119,69 @@ class SourceFigures:
 
 
 class TargetFigures:
-    """One table of the target: what rules asked for, what became of it, and what stands in each column."""
+    """One table of the target: what rules asked for, what became of it, and what stands in each column. The rows that were asked for are used up."""
 
-    def __init__(self, number, table, asked, chase, made):
+    def __init__(self, number, table, asked, chase, fold):
         self.table = table
         self.asked, self.asked_by_rule = sum(asked.number[number]), asked.number[number]
         self.different = len(asked.rows[number])
-        plain = {tuple([value_text(chase.value(value)) for value in row]) for row in asked.rows[number]}
-        self.after_keys = len(plain)
-        self.rows = made
-        self.written = len(made)
-        self.is_plain = plain == set(made)
-        self.by_rules = Counter(made.values())
+        self.rows, self.others, self.plain = {}, set(), 1 << len(self.asked_by_rule)
+        while asked.rows[number]:
+            self.add(asked.rows[number].pop(), asked.masks[number].pop(), chase, fold)
+        self.compare()
+        self.check_written()
+        self.written = len(self.rows)
+        self.by_rules = Counter(self.rows.values())
         self.columns = [self.column(column) for column in range(len(table.columns))]
+
+    def add(self, row, mask, chase, fold):
+        """A row that rules ask for: what the fold makes of it, with the rules, and a mark if keys and dependencies alone make the same of it."""
+        texts = [value_text(value) for value in row]
+        last = tuple([fold.get(text, text) for text in texts])
+        values = [chase.value(value) for value in row]
+        plain = tuple(map(value_text, values))
+        if plain != last:
+            self.others.add(plain)
+        self.rows[last] = self.rows.get(last, 0) | (mask if plain != last else mask | self.plain)
+
+    def compare(self):
+        """Counts the rows that keys and dependencies leave, and tells whether these are the rows in out."""
+        missing = 0
+        for row in self.others:
+            if row in self.rows:
+                self.rows[row] |= self.plain
+            else:
+                missing += 1
+        self.others = None
+        found = sum(1 for mask in self.rows.values() if mask & self.plain)
+        self.after_keys, self.is_plain = found + missing, not missing and found == len(self.rows)
+        for row in self.rows:
+            self.rows[row] &= ~self.plain
+
+    def check_written(self):
+        """These must be the rows that were written."""
+        for row in map(tuple, read_table(f"out/{self.table.name}.csv", self.table.columns)):
+            if self.rows.get(row, -1) < 0:
+                raise Refused(why_other(self.table))
+            self.rows[row] = ~self.rows[row]  # a row that was found once
+        for row, mask in self.rows.items():
+            if mask >= 0:
+                raise Refused(why_other(self.table))
+            self.rows[row] = ~mask
 
     def column(self, column):
         """What stands in a column: rows with a text, with the empty text, with a null; the nulls by rule and variable."""
-        nulls, empty = Counter(), 0
-        different = set()
+        nulls, empty, different = Counter(), 0, 0
+        met = {}
         for row in self.rows:
             null = null_of(row[column])
             if null:
                 nulls[null[:2]] += 1
-                different.add(null)
+                different += met.setdefault(null[:2], Marks()).add(null[2])
             elif not row[column]:
                 empty += 1
         with_null = sum(nulls.values())
-        return {"texts": self.written - with_null - empty, "empty": empty, "nulls": with_null, "different": len(different), "why": nulls}
+        return {"texts": self.written - with_null - empty, "empty": empty, "nulls": with_null, "different": different, "why": nulls}
 
 
 class Figures:
@@ -157,35 +210,18 @@ class Figures:
             raise Refused("the rules have too many matches to be counted here") from None
         self.source, self.source_rows = [SourceFigures(number, source, rules, self.matches) for number in range(len(source.tables))], source
         asked = Asked(rules, self.matches, tables)
-        chase = KeyChase(asked.rows, tables)
-        self.target = [TargetFigures(number, table, asked, chase, self.made(number, table, asked)) for number, table in enumerate(tables)]
+        chase = CountedChase(asked.rows, tables)
+        self.target = [TargetFigures(number, table, asked, chase, self.fold) for number, table in enumerate(tables)]
         self.is_plain = not chase.met and all(one.is_plain for one in self.target)
-        self.by_key, self.determinations = Counter((step.table, step.key) for step in chase.steps.values()), chase.determinations
+        self.by_key, self.determinations = chase.by_key, chase.determinations
         self.variables = self.fates(chase)
         self.covered = self.said_as_well(chase)
-
-    def made(self, number, table, asked):
-        """The rows that the fold makes of those that are asked for, each with the rules that ask for it: these must be the rows that were written."""
-        made = {}
-        for row, mask in zip(asked.rows[number], asked.masks[number]):
-            texts = [value_text(value) for value in row]
-            last = tuple([self.fold.get(text, text) for text in texts])
-            made[last] = made.get(last, 0) | mask
-        left = set(made)
-        for row in map(tuple, read_table(f"out/{table.name}.csv", table.columns)):
-            if row not in left:
-                raise Refused(why_other(table))
-            left.remove(row)
-        if left:
-            raise Refused(why_other(table))
-        return made
 
     def fates(self, chase):
         """For each rule and open variable what became of its nulls: they stay, or became a text or another null, by a key or dependency, or by core mode alone."""
         fates = {}
         for rule, found in enumerate(self.matches):
-            variables = {cell.content for cell in self.mapping.rules[rule].conclusion_cells() if cell.kind == EXISTENTIAL}
-            for variable in sorted(variables):
+            for variable in sorted(open_variables(self.mapping.rules[rule])):
                 fate = fates[rule, variable] = Counter()
                 for place in range(len(found.found)):
                     null = (rule, variable, place)
@@ -197,12 +233,11 @@ class Figures:
                         fate[by, "null" if null_of(value) else "text"] += 1
         return fates
 
-
     def said_as_well(self, chase):
         """For each rule its matches of whose nulls core mode alone replaced some: by which other rules all rows are there that such a match asks for."""
         found = {}
         for number, (rule, matches) in enumerate(zip(self.mapping.rules, self.matches)):
-            variables = {cell.content for cell in rule.conclusion_cells() if cell.kind == EXISTENTIAL}
+            variables = open_variables(rule)
             for place, texts in enumerate(matches.places()) if variables and not self.is_plain else ():
                 nulls = [(number, variable, place) for variable in variables]
                 if any("?%d.%d.%d" % null in self.fold and chase.value(null) == null for null in nulls):

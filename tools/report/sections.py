@@ -62,7 +62,7 @@ def not_used(figures, number, one, file):
 
 def where(figures, number, row):
     """Where a row of the source is."""
-    place = figures.source_rows.rows[number].places[row]
+    place = figures.source_rows.rows[number].place(row)
     return place if isinstance(place, str) else f"line {place[1]}"
 
 

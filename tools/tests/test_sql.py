@@ -4,6 +4,7 @@ import copy
 import os
 import random
 import sqlite3
+import subprocess
 import sys
 import unittest
 
@@ -11,6 +12,7 @@ from trial import PROGRAM, TOOLS, Trial
 
 sys.path.insert(0, str(TOOLS / "second_reading"))
 from chase import Chase
+from clio_csv import read_table, write_table
 from clio_sql.engines import EngineError
 from clio_sql.servers import Place
 from covers import Covers, CoveredPlaces
@@ -132,6 +134,53 @@ class Wide(Trial):
     def test_two_rules(self):
         self.wide("p", "q")
         self.refused("clio-sql", "sqlite", "--core", "source.db", "target.db", why="takes too many steps to find out for these rules")
+
+
+MARKED = ["", "?", "??", "?0.0.0", "c", "cx", "n", "n00000.00000.0000000000", "'", '"', "a,b", "\n", "é"]
+TWO = """mapping 1;
+source { set a { k, x; } set b { k, y; } }
+target { set t { k, x, y; key (k); } set u { x, z; } set w { l, r; } }
+rule a(k, x) -> t(k, x, p), u(x, q), w(k, s), w(s, x);
+rule b(k, y) -> t(k, o, y);
+"""
+
+
+class Texts(Trial):
+    """Columns with and without nulls, with texts that look like the marks of the work tables: the same as by clio."""
+
+    def setUp(self):
+        super().setUp()
+        os.symlink(PROGRAM, self.folder / "clio")
+        path = os.environ["PATH"]
+        self.addCleanup(os.environ.__setitem__, "PATH", path)
+        os.environ["PATH"] = f"{self.folder}:{path}"
+        self.file("mapping.clio", TWO)
+
+    def load(self, **tables):
+        """The source as files and as a database."""
+        (self.folder / "source.db").unlink(missing_ok=True)
+        with contextlib.closing(sqlite3.connect(self.folder / "source.db")) as base, base:
+            for name, rows in tables.items():
+                write_table(self.folder / f"{name}.csv", ["k", "x" if name == "a" else "y"], rows)
+                base.execute(f"CREATE TABLE {name} (k TEXT, {'x' if name == 'a' else 'y'} TEXT)")
+                base.executemany(f"INSERT INTO {name} VALUES (?, ?)", rows)
+
+    def test_equal_to_clio(self):
+        self.load(a=[[text, text] for text in MARKED], b=[[text, MARKED[-place]] for place, text in enumerate(MARKED[3:])])
+        self.assertEqual(self.clio("exchange")[0], 0)
+        self.printed("clio-sql", "sqlite", "source.db", "target.db")
+        with contextlib.closing(sqlite3.connect(self.folder / "target.db")) as base:
+            for name, columns in ("t", "kxy"), ("u", "xz"), ("w", "lr"), ("nulls", ["null", "variable", "value"]), ("fold", ["null", "value"]):
+                wanted = sorted(map(tuple, read_table(self.folder / "out" / f"{name}.csv", list(columns))))
+                self.assertEqual(sorted(base.execute(f"SELECT * FROM {name}")), wanted)
+
+    def test_clash(self):
+        self.file("mapping.clio", TWO.replace("t(k, o, y)", "t(k, y, y)"))
+        for one, other in ("?", "c"), ("n", "a,\"b"), ("", "?0"):
+            self.load(a=[["k", one]], b=[["k", other]])
+            status, _, said = self.tool("clio-sql", "sqlite", "source.db", "target.db")
+            by_clio = subprocess.run([PROGRAM, "exchange"], cwd=self.folder, capture_output=True, check=False)
+            self.assertEqual((status, said), (3, by_clio.stderr.decode()))
 
 
 class Words(Trial):
