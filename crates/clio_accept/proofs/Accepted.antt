@@ -28,8 +28,8 @@ use Rattle.dx_line_text.specs.Naming.{lines_fault, lines_of, IsOffered, IsOffere
 use Rattle.dx_line_text.specs.Conditions.{conditions_fault, conditions_of}
 use Rattle.dx_line_text.proofs.Fits.{lines_fit, lines_offered}
 use Rattle.dx_line_text.proofs.RowTests.{conditions_fit, conditions_tested}
-use Rattle.dx_tgd_text.specs.Reading.{IsNarrow, rules_fault}
-use Rattle.dx_tgd_text.specs.Laws.{IsWhole}
+use Rattle.dx_tgd_text.specs.Reading.{RuleHasFewCells, rules_fault}
+use Rattle.dx_tgd_text.specs.Laws.{IsWholeRule}
 use Rattle.dx_tgd_text.proofs.Fits.{all_fit, all_offered}
 use Rattle.dx_tgd_text.proofs.Written.{texts_have_whole_rules}
 use Rattle.dx_lines.specs.declared.line.Line.{Line}
@@ -54,12 +54,12 @@ use Rattle.dx_stages.specs.Stages.{Stage, next, checking}
 use Rattle.dx_stages.specs.Running.{Answers}
 use Rattle.dx_lines.proofs.Conversions.{from_conversions}
 use Rattle.dx_rule_text.proofs.Printing.{atoms_of}
-use Rattle.dx_implies.specs.Pruning.{IsLeft, PassesTest}
+use Rattle.dx_implies.specs.Pruning.{IsPrunedAlways, PruningPassesLimit}
 use Rattle.dx_implies.proofs.Pruned.{left_implies}
 use Rattle.clio_accept.specs.Mapping.{SourceRefused, TargetRefused, NameRefused, LinesRefused, NamingRefused, TestingRefused, WritingRefused}
 use Rattle.clio_accept.specs.Mapping.{LimitRefused, RulesRefused, FrozenRefused, frozen_cells}
-use Rattle.clio_accept.specs.Mapping.{NoneReserved, AreRulesOf, rules_of, limit_of, written_of}
-use Rattle.clio_accept.specs.Accepting.{between_of, limits, naming, testing, writing, closing, leaving, accepting, accepting_said}
+use Rattle.clio_accept.specs.Mapping.{NoneReserved, AreRulesOf, rules_of_lines, limit_of, written_of}
+use Rattle.clio_accept.specs.Accepting.{between_of, limits, naming, conditions_stage, writing, closing, leaving, accepting, accepting_said}
 use Rattle.clio_accept.specs.Accepting.{frozen_count, pruning, said_rules, taking, target_names, target_sets}
 use Rattle.clio_accept.specs.Laws.{AcceptedFits, AcceptedNamesAreFree, MappingFits}
 use Rattle.clio_accept.proofs.Few.{few_variables, narrow_sides}
@@ -131,7 +131,7 @@ pub record IsRead (list : List Conversion) (m : MappingText) : Type 0 where
   pub named : lines_fault m.source m.target list m.lines ≡ None
   pub limits : limit_of list m.source m.target m.lines ≡ None
   pub written : rules_fault m.source m.target list m.rules ≡ None
-  pub whole : Each m.rules IsWhole
+  pub whole : Each m.rules IsWholeRule
 
 -- the two variants of a candidate
 abbrev source_of : MappingText → Candidate → Relation
@@ -158,7 +158,7 @@ are_variants list m c a b =
       few_target = narrow.1 c.target b.target_table (target_of m c) b.target_variant;
     }
 
-each_closed : (list : List Conversion) (m : MappingText) → IsRead list m → Each (rules_of list m.source m.target m.lines) (IsClosed (model_tables m.target))
+each_closed : (list : List Conversion) (m : MappingText) → IsRead list m → Each (rules_of_lines list m.source m.target m.lines) (IsClosed (model_tables m.target))
 each_closed list m a d i =
     let lines = lines_of m.source m.target list m.lines in
     let k = from_kept lines (model_tables m.source) (model_tables m.target) d i in
@@ -167,7 +167,7 @@ each_closed list m a d i =
     (rules_are_closed lines (model_tables m.target) k.0.target (source_of m k.0) (target_of m k.0) k.0.picks
     (links_fit (tables_of m.target) (are_tables m.target a.target.form)) v.target_variant)
 
-pub each_fits : (list : List Conversion) (m : MappingText) → IsRead list m → Each (rules_of list m.source m.target m.lines) (RuleFits (model_tables m.source) (model_tables m.target))
+pub each_fits : (list : List Conversion) (m : MappingText) → IsRead list m → Each (rules_of_lines list m.source m.target m.lines) (RuleFits (model_tables m.source) (model_tables m.target))
 each_fits list m a d i =
     let lines = lines_of m.source m.target list m.lines in
     let k = from_kept lines (model_tables m.source) (model_tables m.target) d i in
@@ -177,21 +177,21 @@ each_fits list m a d i =
     (few_variables m.source m.target k.0.source k.0.target (source_of m k.0) (target_of m k.0) a.source a.target v.few_source v.few_target v.source_variant v.target_variant)
     (lines_fit m.source m.target list m.lines lines refl a.named) k.1.picks)
 
-each_premise : (list : List Conversion) (m : MappingText) → IsRead list m → Each (rules_of list m.source m.target m.lines) (λ d. AreAtomsOf m.source d.premise)
+each_premise : (list : List Conversion) (m : MappingText) → IsRead list m → Each (rules_of_lines list m.source m.target m.lines) (λ d. AreAtomsOf m.source d.premise)
 each_premise list m a d i =
     let k = from_kept (lines_of m.source m.target list m.lines) (model_tables m.source) (model_tables m.target) d i in
     let v = are_variants list m k.0 a k.1 in
     subst (λ (e : Rule). AreAtomsOf m.source e.premise) k.2
     (atoms_there m.source cells.Var (source_of m k.0).occurrences (tables_there m.source k.0.source (source_of m k.0) v.source_variant))
 
-each_conclusion : (list : List Conversion) (m : MappingText) → IsRead list m → Each (rules_of list m.source m.target m.lines) (λ d. AreAtomsOf m.target d.conclusion)
+each_conclusion : (list : List Conversion) (m : MappingText) → IsRead list m → Each (rules_of_lines list m.source m.target m.lines) (λ d. AreAtomsOf m.target d.conclusion)
 each_conclusion list m a d i =
     let k = from_kept (lines_of m.source m.target list m.lines) (model_tables m.source) (model_tables m.target) d i in
     let v = are_variants list m k.0 a k.1 in
     subst (λ (e : Rule). AreAtomsOf m.target e.conclusion) k.2
     (atoms_there m.target _ (target_of m k.0).occurrences (tables_there m.target k.0.target (target_of m k.0) v.target_variant))
 
-each_listed : (list : List Conversion) (m : MappingText) → IsRead list m → Each (rules_of list m.source m.target m.lines) (λ d. Each d.derived (λ e. IsListed list e.code (length e.args)))
+each_listed : (list : List Conversion) (m : MappingText) → IsRead list m → Each (rules_of_lines list m.source m.target m.lines) (λ d. Each d.derived (λ e. IsListed list e.code (length e.args)))
 each_listed list m a d i =
     let lines = lines_of m.source m.target list m.lines in
     let k = from_kept lines (model_tables m.source) (model_tables m.target) d i in
@@ -201,7 +201,7 @@ each_listed list m a d i =
 -- ---- hand-written rules
 
 -- a hand-written rule fits
-written_fits : (list : List Conversion) (m : MappingText) → IsRead list m → Each m.rules IsNarrow → Each (written_of list m.source m.target m.rules) (RuleFits (model_tables m.source) (model_tables m.target))
+written_fits : (list : List Conversion) (m : MappingText) → IsRead list m → Each m.rules RuleHasFewCells → Each (written_of list m.source m.target m.rules) (RuleFits (model_tables m.source) (model_tables m.target))
 written_fits list m a narrow = all_fit m.source m.target list m.rules (written_of list m.source m.target m.rules) narrow refl a.written a.whole
 
 record IsGood (list : List Conversion) (m : MappingText) (e : Rule) : Type 0 where
@@ -211,7 +211,7 @@ record IsGood (list : List Conversion) (m : MappingText) (e : Rule) : Type 0 whe
   conclusion : AreAtomsOf m.target e.conclusion
   listed : Each e.derived (λ d. IsListed list d.code (length d.args))
 
-closed_good : (list : List Conversion) (m : MappingText) (R : List Rule) → IsRead list m → Each m.rules IsNarrow → (r : AreRulesOf list m.source m.target m.lines m.rules R) → Each r.closed (IsGood list m)
+closed_good : (list : List Conversion) (m : MappingText) (R : List Rule) → IsRead list m → Each m.rules RuleHasFewCells → (r : AreRulesOf list m.source m.target m.lines m.rules R) → Each r.closed (IsGood list m)
 closed_good list m R a narrow r e i =
     let d = closed_of (model_tables m.target) (written_of list m.source m.target m.rules) r.closed r.closings e i in
     let fit = written_fits list m a narrow d.0 d.1 in
@@ -224,7 +224,7 @@ closed_good list m R a narrow r e i =
       listed = rw d.2.closing.derived (all_offered m.source m.target list m.rules (written_of list m.source m.target m.rules) refl a.written d.0 d.1);
     }
 
-kept_good : (list : List Conversion) (m : MappingText) → IsRead list m → Each (rules_of list m.source m.target m.lines) (IsGood list m)
+kept_good : (list : List Conversion) (m : MappingText) → IsRead list m → Each (rules_of_lines list m.source m.target m.lines) (IsGood list m)
 kept_good list m a e i = record {
   fits = each_fits list m a e i;
   closed = each_closed list m a e i;
@@ -233,14 +233,14 @@ kept_good list m a e i = record {
   listed = each_listed list m a e i;
 }
 
-all_good : (list : List Conversion) (m : MappingText) (R : List Rule) → IsRead list m → Each m.rules IsNarrow → AreRulesOf list m.source m.target m.lines m.rules R → Each R (IsGood list m)
-all_good list m R a narrow r e i = elim (from_append (rules_of list m.source m.target m.lines) (subst (λ rs. e ∈ rs) r.are i)) [
+all_good : (list : List Conversion) (m : MappingText) (R : List Rule) → IsRead list m → Each m.rules RuleHasFewCells → AreRulesOf list m.source m.target m.lines m.rules R → Each R (IsGood list m)
+all_good list m R a narrow r e i = elim (from_append (rules_of_lines list m.source m.target m.lines) (subst (λ rs. e ∈ rs) r.are i)) [
   | inl k ↦ kept_good list m a e k
   | inr k ↦ closed_good list m R a narrow r e k
 ]
 
 -- the rules of lines and the closed hand-written ones fit
-pub all_rules_fit : (list : List Conversion) (m : MappingText) (R : List Rule) → IsRead list m → Each m.rules IsNarrow
+pub all_rules_fit : (list : List Conversion) (m : MappingText) (R : List Rule) → IsRead list m → Each m.rules RuleHasFewCells
     → AreRulesOf list m.source m.target m.lines m.rules R → Each R (RuleFits (model_tables m.source) (model_tables m.target))
 all_rules_fit list m R a narrow r e i = (all_good list m R a narrow r e i).fits
 
@@ -258,21 +258,21 @@ pub record IsTaken (list : List Conversion) (tests : List RowTest) (m : MappingT
   pub all : List Rule
   pub are : AreRulesOf list m.source m.target m.lines m.rules all
   pub few : length all ≤ 256
-  pub within : ¬ (PassesTest frozen_cells all)
-  pub left : IsLeft all P
+  pub within : ¬ (PruningPassesLimit frozen_cells all)
+  pub left : IsPrunedAlways all P
 
 pub is_taken : (list : List Conversion) (tests : List RowTest) (c : World) (m : MappingText) (P : List Rule) → (taking list tests).passes c (between_of m) P → IsTaken list tests m P
 is_taken list tests c m P p =
     let b = between_of m in
     let rest = next (writing list) (next (limits list) (next (closing list) leaving)) in
-    let one = checked (λ b. LinesRefused b.lines b.conditions) (λ b. length b.lines + length b.conditions ≤ 512) (next (naming list) (next (testing tests) rest)) c b P p in
-    let two = checked (λ b. NamingRefused list b.source b.target b.lines) (λ b. lines_fault b.source b.target list b.lines ≡ None) (next (testing tests) rest) c b P one.1 in
+    let one = checked (λ b. LinesRefused b.lines b.conditions) (λ b. length b.lines + length b.conditions ≤ 512) (next (naming list) (next (conditions_stage tests) rest)) c b P p in
+    let two = checked (λ b. NamingRefused list b.source b.target b.lines) (λ b. lines_fault b.source b.target list b.lines ≡ None) (next (conditions_stage tests) rest) c b P one.1 in
     let test = checked (λ b. TestingRefused tests b.source b.conditions) (λ b. conditions_fault b.source tests b.conditions ≡ None) rest c b P two.1 in
     let three = checked (λ b. WritingRefused list b.source b.target b.by_hand) (λ b. rules_fault b.source b.target list b.by_hand ≡ None) (next (limits list) (next (closing list) leaving)) c b P test.1 in
     let four = checked (λ b. LimitRefused list b.source b.target b.lines) (λ b. limit_of list b.source b.target b.lines ≡ None) (next (closing list) leaving) c b P three.1 in
     let R = four.1.0 in
     let five = checked RulesRefused (λ R. length R ≤ 256) (next frozen_count pruning) c R P four.1.2 in
-    let six = checked FrozenRefused (λ R. ¬ (PassesTest frozen_cells R)) pruning c R P five.1 in
+    let six = checked FrozenRefused (λ R. ¬ (PruningPassesLimit frozen_cells R)) pruning c R P five.1 in
     record { named = two.0; tested = test.0; written = three.0; limits = four.0; all = R; are = four.1.1; few = five.0; within = six.0; left = six.1 }
 
 -- what a text says passed: its sides, the names of its target sets, and its rules
@@ -302,7 +302,7 @@ accepted_fits list tests c text M small (m, says, p) =
       written = t.written;
       whole = λ r i. (rules r i).0;
     } in
-    let narrow : Each m.rules IsNarrow = λ r i. let few = (rules r i).1 in omega (arith, few, small) in
+    let narrow : Each m.rules RuleHasFewCells = λ r i. let few = (rules r i).1 in omega (arith, few, small) in
     let part = left_implies t.all s.rules.0 t.left in
     let shorter = part.1 in
     let many = t.few in

@@ -19,7 +19,7 @@ use Rattle.dx_schema.specs.Tables.{model_tables, tables_of}
 use Rattle.dx_schema.specs.Links.{IsFaultless}
 use Rattle.dx_schema.proofs.Valid.{are_tables}
 use Rattle.dx_schema.proofs.Whole.{links_fit}
-use Rattle.dx_logical.specs.Filled.{given, fresh_below, filled}
+use Rattle.dx_logical.specs.Filled.{given_item, fresh_below, row_with_fresh}
 use Rattle.dx_logical.proofs.Facts.{given_among}
 use Rattle.dx_closing.specs.declared.growing.Growing.{Growing}
 use Rattle.dx_closing.specs.Closing.{serves, supplied, through_link, through_links, through_atom, gone, begun, IsClosing}
@@ -141,11 +141,11 @@ module _ (Q : Cell → Type 0) (fresh : (v : ℕ) → Q (Ex v)) (empty : Q (Lit 
   chosen_cells : (row : List Cell) (cs : List ℕ) → Each row Q → Each (cells_in cs row) Q
   chosen_cells row cs h x m = let k = from_map (λ c. slice_index_or row c (Lit [])) cs {y = x} m in subst Q k.2 (chosen_cell row k.0 h)
 
-  filled_cells : (n : ℕ) (ks : List ℕ) (cells : List Cell) (w : ℕ) → Each cells Q → Each (filled Ex n ks cells w) Q
+  filled_cells : (n : ℕ) (ks : List ℕ) (cells : List Cell) (w : ℕ) → Each cells Q → Each (row_with_fresh Ex n ks cells w) Q
   filled_cells n ks cells zero h x m = elim m [ ]
-  filled_cells n ks cells (suc w) h x m = elim (from_append (filled Ex n ks cells w) m) [
+  filled_cells n ks cells (suc w) h x m = elim (from_append (row_with_fresh Ex n ks cells w) m) [
     | inl k ↦ filled_cells n ks cells w h x k
-    | inr k ↦ last (given ks cells w) (λ y e. h y (given_among ks cells w y e)) k
+    | inr k ↦ last (given_item ks cells w) (λ y e. h y (given_among ks cells w y e)) k
   ]
     where
       last : (o : Option Cell) → ((y : Cell) → o ≡ Some y → Q y) → x ∈ (unwrap_or o (Ex (n + fresh_below ks cells w)) ∷ []) → Q x
@@ -169,7 +169,7 @@ module _ (Q : Cell → Type 0) (fresh : (v : ℕ) → Q (Ex v)) (empty : Q (Lit 
       more : (cells : List Cell) → Each cells Q → Keeps (supplied schema C l cells)
       more cells k a m = elim (from_append C.atoms m) [ inl i ↦ h a i | inr i ↦ new i ]
         where
-          new : a ∈ (record { table = l.table; cells = filled Ex C.next l.to cells (table_of schema l.table).width } ∷ []) → Each a.cells Q
+          new : a ∈ (record { table = l.table; cells = row_with_fresh Ex C.next l.to cells (table_of schema l.table).width } ∷ []) → Each a.cells Q
           new (here e) = subst (λ (b : Atom). Each b.cells Q) e (filled_cells C.next l.to cells (table_of schema l.table).width k)
           new (there i) = elim i [ ]
 

@@ -8,12 +8,12 @@ use Rattle.dx_ports.specs.Members.{Each}
 use Rattle.dx_ports.proofs.Lists.{none_or_some}
 use Rattle.dx_model.specs.Fitting.{IsRule}
 use Rattle.dx_model.specs.Following.{underived}
-use Rattle.dx_tgd_text.specs.Laws.{IsWhole}
+use Rattle.dx_tgd_text.specs.Laws.{IsWholeRule}
 use Rattle.dx_tgd_text.proofs.Written.{texts_have_whole_rules}
-use Rattle.dx_implies.specs.Pruning.{IsLeft, PassesTest}
+use Rattle.dx_implies.specs.Pruning.{IsPrunedAlways, PruningPassesLimit}
 use Rattle.dx_implies.proofs.Pruned.{left_exists, one_is_left, passes_or_none}
 use Rattle.dx_schema.specs.Forest.{Forest}
-use Rattle.dx_schema.specs.Tables.{model_tables, table_at, tables_of}
+use Rattle.dx_schema.specs.Tables.{model_tables, schema_table, tables_of}
 use Rattle.dx_schema.specs.Links.{IsFaultless}
 use Rattle.dx_schema.proofs.Deciding.{faultless_or_fault}
 use Rattle.dx_schema.proofs.OneFault.{one_first_fault, faultless_have_none}
@@ -22,7 +22,7 @@ use Rattle.dx_schema_text.specs.declared.texts.OnlyText.{OnlyText}
 use Rattle.dx_schema_text.specs.declared.texts.RuleText.{RuleText}
 use Rattle.dx_model.specs.declared.rules.Rule.{Rule}
 use Rattle.dx_schema_text.specs.declared.texts.MappingText.{MappingText}
-use Rattle.dx_schema_text.specs.Texts.{IsMappingText, IsTextFault}
+use Rattle.dx_schema_text.specs.Texts.{IsMappingText, IsMappingTextFault}
 use Rattle.dx_schema_text.proofs.Answered.{mapping_or_fault, one_mapping, one_fault, never_said_and_faulty}
 use Rattle.dx_funcs.specs.declared.conversion.Conversion.{Conversion}
 use Rattle.dx_funcs.specs.declared.row_test.RowTest.{RowTest}
@@ -35,12 +35,12 @@ use Rattle.dx_stages.proofs.Decided.{Any, next_one, next_decided, checking_one, 
 use Rattle.clio_accept.specs.declared.fault.AcceptFault.{AcceptFault}
 use Rattle.clio_accept.specs.declared.fault.AcceptFault.TheVariants as faults
 use Rattle.clio_accept.specs.declared.fault.MapFault.TheVariants as map_faults
-use Rattle.clio_accept.specs.Mapping.{IsReserved, NoneReserved, IsFirstReserved, AreRulesOf, TooWide, rules_of, written_of, limit_of, text_refusal, source_refusal, target_refusal}
+use Rattle.clio_accept.specs.Mapping.{IsReserved, NoneReserved, IsFirstReserved, AreRulesOf, TooWide, rules_of_lines, written_of, limit_of, text_refusal, source_sets_refusal, target_refusal}
 use Rattle.clio_accept.specs.Mapping.{SourceRefused, TargetRefused, NameRefused, LinesRefused, NamingRefused, TestingRefused, WritingRefused}
 use Rattle.clio_accept.specs.Mapping.{LimitRefused, WidthRefused, RulesRefused, FrozenRefused, frozen_cells}
 use Rattle.clio_accept.proofs.Closed.{one_closed, never_closed, closed_or_wide}
 use Rattle.clio_accept.proofs.Ruled.{are_rules, saying_all}
-use Rattle.clio_accept.specs.Accepting.{Between, line_count, naming, testing, writing, limits, closing, rule_count, frozen_count, pruning, leaving, taking, with_rules, mapping_of}
+use Rattle.clio_accept.specs.Accepting.{SchemaPair, line_count, naming, conditions_stage, writing, limits, closing, rule_count, frozen_count, pruning, leaving, taking, with_rules, mapping_of}
 use Rattle.clio_accept.specs.Accepting.{source_sets, target_sets, target_names, between_of, said_rules, accepting_said, said_by, accepting}
 
 abbrev Same : AcceptFault → AcceptFault → Type 0
@@ -49,7 +49,7 @@ Same d e = d ≡ e
 -- ---- schemas
 
 one_source : (f : Forest) (d e : AcceptFault) → SourceRefused f d → SourceRefused f e → d ≡ e
-one_source f d e a b = a.2 ∙ ap source_refusal (one_first_fault f a.0 b.0 a.1 b.1) ∙ sym b.2
+one_source f d e a b = a.2 ∙ ap source_sets_refusal (one_first_fault f a.0 b.0 a.1 b.1) ∙ sym b.2
 
 no_source : (f : Forest) (e : AcceptFault) → IsFaultless f → ¬ (SourceRefused f e)
 no_source f e ok a = faultless_have_none f a.0 ok a.1
@@ -62,8 +62,8 @@ no_target f e ok a = faultless_have_none f a.0 ok a.1
 
 -- ---- reserved names
 
-same_table : (f : Forest) (t u : ℕ) → IsReserved (table_at f t).name → IsReserved (table_at f u).name → ((k : ℕ) → k < t → ¬ (IsReserved (table_at f k).name))
-    → ((k : ℕ) → k < u → ¬ (IsReserved (table_at f k).name)) → t ≡ u
+same_table : (f : Forest) (t u : ℕ) → IsReserved (schema_table f t).name → IsReserved (schema_table f u).name → ((k : ℕ) → k < t → ¬ (IsReserved (schema_table f k).name))
+    → ((k : ℕ) → k < u → ¬ (IsReserved (schema_table f k).name)) → t ≡ u
 same_table f t u a b p q =
     elim (cases_lt t u) [
       | inl lt ↦ absurd (q t lt a)
@@ -73,11 +73,11 @@ same_table f t u a b p q =
       ]
     ]
 
-at_table : (f : Forest) (name : List ℕ) (r : IsFirstReserved f name) → IsReserved (table_at f r.table).name
+at_table : (f : Forest) (name : List ℕ) (r : IsFirstReserved f name) → IsReserved (schema_table f r.table).name
 at_table f name r = subst IsReserved r.is r.reserved
 
 same_name : (f : Forest) (name other : List ℕ) → IsFirstReserved f name → IsFirstReserved f other → name ≡ other
-same_name f name other a b = a.is ∙ ap (λ t. (table_at f t).name) (same_table f a.table b.table (at_table f name a) (at_table f other b) a.first b.first) ∙ sym b.is
+same_name f name other a b = a.is ∙ ap (λ t. (schema_table f t).name) (same_table f a.table b.table (at_table f name a) (at_table f other b) a.first b.first) ∙ sym b.is
 
 one_name : (f : Forest) (d e : AcceptFault) → NameRefused f d → NameRefused f e → d ≡ e
 one_name f d e a b = a.2 ∙ ap (λ n. faults.Mapping (map_faults.Reserved n)) (same_name f a.0 b.0 a.1 b.1) ∙ sym b.2
@@ -136,27 +136,27 @@ reserved_or_not name = elim (cases_Bool (pointwise nat_eq name (codes "nulls")))
     neither f g (inr e) = true≢false (sym ((bytes_decides name (codes "fold")).1 e) ∙ g)
 
 -- the first of the tables below n with a reserved name, or none of them has one
-first_reserved : (f : Forest) (n : ℕ) → ((t : ℕ) → t < n → ¬ (IsReserved (table_at f t).name))
-    ⊎ ((t : ℕ) × (t < n) × IsReserved (table_at f t).name × ((k : ℕ) → k < t → ¬ (IsReserved (table_at f k).name)))
+first_reserved : (f : Forest) (n : ℕ) → ((t : ℕ) → t < n → ¬ (IsReserved (schema_table f t).name))
+    ⊎ ((t : ℕ) × (t < n) × IsReserved (schema_table f t).name × ((k : ℕ) → k < t → ¬ (IsReserved (schema_table f k).name)))
 first_reserved f zero = inl (λ t h. absurd (omega arith))
 first_reserved f (suc n) = elim (first_reserved f n) [
   | inr r ↦ inr (r.0, omega (arith, r.1), r.2, r.3)
-  | inl none ↦ elim (reserved_or_not (table_at f n).name) [
+  | inl none ↦ elim (reserved_or_not (schema_table f n).name) [
     | inl r ↦ inr (n, omega arith, r, none)
     | inr d ↦ inl (also none d)
   ]
 ]
   where
-    also : ((t : ℕ) → t < n → ¬ (IsReserved (table_at f t).name)) → ¬ (IsReserved (table_at f n).name) → (t : ℕ) → t < suc n → ¬ (IsReserved (table_at f t).name)
+    also : ((t : ℕ) → t < n → ¬ (IsReserved (schema_table f t).name)) → ¬ (IsReserved (schema_table f n).name) → (t : ℕ) → t < suc n → ¬ (IsReserved (schema_table f t).name)
     also none d t h = elim (cases_eq t n) [
-      | inl e ↦ subst (λ (k : ℕ). ¬ (IsReserved (table_at f k).name)) (sym e) d
+      | inl e ↦ subst (λ (k : ℕ). ¬ (IsReserved (schema_table f k).name)) (sym e) d
       | inr ne ↦ none t (omega (arith, h, ne))
     ]
 
 none_or_reserved : (f : Forest) → NoneReserved f ⊎ ((name : List ℕ) × IsFirstReserved f name)
 none_or_reserved f = elim (first_reserved f (length (tables_of f))) [
   | inl none ↦ inl none
-  | inr r ↦ inr ((table_at f r.0).name, record { table = r.0; within = r.1; is = refl; reserved = r.2; first = r.3 })
+  | inr r ↦ inr ((schema_table f r.0).name, record { table = r.0; within = r.1; is = refl; reserved = r.2; first = r.3 })
 ]
 
 -- ---- one stage after the other
@@ -179,7 +179,7 @@ check refused fits one never either = checking_decided Same Any refused fits one
 line_count_decided : IsDecided Same Any line_count
 line_count_decided = check (λ b. LinesRefused b.lines b.conditions) (λ b. length b.lines + length b.conditions ≤ 512) (λ b d e p q. p.1 ∙ sym q.1) (λ b e. no_lines b.lines b.conditions e) either
   where
-    either : (b : Between) → (length b.lines + length b.conditions ≤ 512) ⊎ ((e : AcceptFault) × LinesRefused b.lines b.conditions e)
+    either : (b : SchemaPair) → (length b.lines + length b.conditions ≤ 512) ⊎ ((e : AcceptFault) × LinesRefused b.lines b.conditions e)
     either b = elim (cases_lt 512 (length b.lines + length b.conditions)) [
       | inl many ↦ inr (faults.Limit (record { what = Lines; number = 512 }), (many, refl))
       | inr few ↦ inl few
@@ -189,17 +189,17 @@ naming_decided : (list : List Conversion) → IsDecided Same Any (naming list)
 naming_decided list = check (λ b. NamingRefused list b.source b.target b.lines) (λ b. lines_fault b.source b.target list b.lines ≡ None)
     (λ b. one_naming list b.source b.target b.lines) (λ b. no_naming list b.source b.target b.lines) either
   where
-    either : (b : Between) → (lines_fault b.source b.target list b.lines ≡ None) ⊎ ((e : AcceptFault) × NamingRefused list b.source b.target b.lines e)
+    either : (b : SchemaPair) → (lines_fault b.source b.target list b.lines ≡ None) ⊎ ((e : AcceptFault) × NamingRefused list b.source b.target b.lines e)
     either b = elim (none_or_some (lines_fault b.source b.target list b.lines)) [
       | inl none ↦ inl none
       | inr k ↦ inr (text_refusal k.0, (k.0, k.1, refl))
     ]
 
-testing_decided : (tests : List RowTest) → IsDecided Same Any (testing tests)
+testing_decided : (tests : List RowTest) → IsDecided Same Any (conditions_stage tests)
 testing_decided tests = check (λ b. TestingRefused tests b.source b.conditions) (λ b. conditions_fault b.source tests b.conditions ≡ None)
     (λ b. one_testing tests b.source b.conditions) (λ b. no_testing tests b.source b.conditions) either
   where
-    either : (b : Between) → (conditions_fault b.source tests b.conditions ≡ None) ⊎ ((e : AcceptFault) × TestingRefused tests b.source b.conditions e)
+    either : (b : SchemaPair) → (conditions_fault b.source tests b.conditions ≡ None) ⊎ ((e : AcceptFault) × TestingRefused tests b.source b.conditions e)
     either b = elim (none_or_some (conditions_fault b.source tests b.conditions)) [
       | inl none ↦ inl none
       | inr k ↦ inr (text_refusal k.0, (k.0, k.1, refl))
@@ -209,7 +209,7 @@ limits_decided : (list : List Conversion) → IsDecided Same Any (limits list)
 limits_decided list = check (λ b. LimitRefused list b.source b.target b.lines) (λ b. limit_of list b.source b.target b.lines ≡ None)
     (λ b. one_limit list b.source b.target b.lines) (λ b. no_limit list b.source b.target b.lines) either
   where
-    either : (b : Between) → (limit_of list b.source b.target b.lines ≡ None) ⊎ ((e : AcceptFault) × LimitRefused list b.source b.target b.lines e)
+    either : (b : SchemaPair) → (limit_of list b.source b.target b.lines ≡ None) ⊎ ((e : AcceptFault) × LimitRefused list b.source b.target b.lines e)
     either b = elim (none_or_some (limit_of list b.source b.target b.lines)) [
       | inl none ↦ inl none
       | inr l ↦ inr (faults.Limit l.0, (l.0, l.1, refl))
@@ -219,7 +219,7 @@ writing_decided : (list : List Conversion) → IsDecided Same Any (writing list)
 writing_decided list = check (λ b. WritingRefused list b.source b.target b.by_hand) (λ b. rules_fault b.source b.target list b.by_hand ≡ None)
     (λ b. one_writing list b.source b.target b.by_hand) (λ b. no_writing list b.source b.target b.by_hand) either
   where
-    either : (b : Between) → (rules_fault b.source b.target list b.by_hand ≡ None) ⊎ ((e : AcceptFault) × WritingRefused list b.source b.target b.by_hand e)
+    either : (b : SchemaPair) → (rules_fault b.source b.target list b.by_hand ≡ None) ⊎ ((e : AcceptFault) × WritingRefused list b.source b.target b.by_hand e)
     either b = elim (none_or_some (rules_fault b.source b.target list b.by_hand)) [
       | inl none ↦ inl none
       | inr k ↦ inr (text_refusal k.0, (k.0, k.1, refl))
@@ -232,9 +232,9 @@ closing_decided list =
     (λ b R e g a. never_closed (model_tables b.target) (written_of list b.source b.target b.by_hand) a.closed e a.closings)
     (λ b g. either b)
   where
-    either : (b : Between) → ((R : List Rule) × AreRulesOf list b.source b.target b.lines b.by_hand R) ⊎ ((e : AcceptFault) × WidthRefused (model_tables b.target) (written_of list b.source b.target b.by_hand) e)
+    either : (b : SchemaPair) → ((R : List Rule) × AreRulesOf list b.source b.target b.lines b.by_hand R) ⊎ ((e : AcceptFault) × WidthRefused (model_tables b.target) (written_of list b.source b.target b.by_hand) e)
     either b = elim (closed_or_wide (model_tables b.target) (written_of list b.source b.target b.by_hand)) [
-      | inl r ↦ inl (rules_of list b.source b.target b.lines ++ r.0, record { closed = r.0; closings = r.1; are = refl })
+      | inl r ↦ inl (rules_of_lines list b.source b.target b.lines ++ r.0, record { closed = r.0; closings = r.1; are = refl })
       | inr w ↦ inr (TooWide, (w.0, w.1, w.2, refl))
     ]
 
@@ -253,7 +253,7 @@ line_count_one = checking_one (λ b. LinesRefused b.lines b.conditions) (λ b. l
 naming_one : (list : List Conversion) → PassesOne (naming list)
 naming_one list = checking_one (λ b. NamingRefused list b.source b.target b.lines) (λ b. lines_fault b.source b.target list b.lines ≡ None)
 
-testing_one : (tests : List RowTest) → PassesOne (testing tests)
+testing_one : (tests : List RowTest) → PassesOne (conditions_stage tests)
 testing_one tests = checking_one (λ b. TestingRefused tests b.source b.conditions) (λ b. conditions_fault b.source tests b.conditions ≡ None)
 
 limits_one : (list : List Conversion) → PassesOne (limits list)
@@ -264,7 +264,7 @@ writing_one list = checking_one (λ b. WritingRefused list b.source b.target b.b
 
 closing_one : (list : List Conversion) → PassesOne (closing list)
 closing_one list c b R S p q =
-    p.are ∙ ap (λ es. rules_of list b.source b.target b.lines ++ es) (one_closed (model_tables b.target) (written_of list b.source b.target b.by_hand) p.closed q.closed p.closings q.closings) ∙ sym q.are
+    p.are ∙ ap (λ es. rules_of_lines list b.source b.target b.lines ++ es) (one_closed (model_tables b.target) (written_of list b.source b.target b.by_hand) p.closed q.closed p.closings q.closings) ∙ sym q.are
 
 rule_count_one : PassesOne rule_count
 rule_count_one = checking_one RulesRefused (λ R. length R ≤ 256)
@@ -276,7 +276,7 @@ abbrev AreRules : List Rule → Type 0
 AreRules R = Each (underived R) IsRule
 
 frozen_one : PassesOne frozen_count
-frozen_one = checking_one FrozenRefused (λ R. ¬ (PassesTest frozen_cells R))
+frozen_one = checking_one FrozenRefused (λ R. ¬ (PruningPassesLimit frozen_cells R))
 
 pruning_one : PassesOne pruning
 pruning_one c R P Q p q = one_is_left R P Q p q
@@ -286,17 +286,17 @@ leaving_one = next_one rule_count (next frozen_count pruning) rule_count_one (ne
 
 frozen_decided : IsDecided Same AreRules frozen_count
 frozen_decided =
-    notions_decided Same AreRules FrozenRefused (λ R P. (¬ (PassesTest frozen_cells R)) × (P ≡ R)) (λ R d e g p q. p.1 ∙ sym q.1) (λ R P e g p q. p.0 q.0)
+    notions_decided Same AreRules FrozenRefused (λ R P. (¬ (PruningPassesLimit frozen_cells R)) × (P ≡ R)) (λ R d e g p q. p.1 ∙ sym q.1) (λ R P e g p q. p.0 q.0)
     (λ R g. either R g)
   where
-    either : (R : List Rule) → AreRules R → ((P : List Rule) × ((¬ (PassesTest frozen_cells R)) × (P ≡ R))) ⊎ ((e : AcceptFault) × FrozenRefused R e)
+    either : (R : List Rule) → AreRules R → ((P : List Rule) × ((¬ (PruningPassesLimit frozen_cells R)) × (P ≡ R))) ⊎ ((e : AcceptFault) × FrozenRefused R e)
     either R g = elim (passes_or_none frozen_cells R g) [
       | inl p ↦ inr (faults.Limit (record { what = FrozenCells; number = frozen_cells }), (p, refl))
       | inr n ↦ inl (R, (n, refl))
     ]
 
 pruning_decided : IsDecided Same AreRules pruning
-pruning_decided = notions_decided Same AreRules (λ R e. ⊥) IsLeft (λ R d e g p q. absurd p) (λ R P e g p q. q) (λ R g. inl (left_exists R g))
+pruning_decided = notions_decided Same AreRules (λ R e. ⊥) IsPrunedAlways (λ R d e g p q. absurd p) (λ R P e g p q. q) (λ R g. inl (left_exists R g))
 
 -- a check passes on what it was given
 stays : {A : Type 0} (Given : A → Type 0) (refused : A → AcceptFault → Type 0) (fits : A → Type 0) → Leads Given Given (checking refused fits)
@@ -305,27 +305,27 @@ stays Given refused fits c a b g p = subst Given (sym p.1) g
 leaving_decided : IsDecided Same AreRules leaving
 leaving_decided =
     after AreRules AreRules rule_count (next frozen_count pruning) rule_count_one (stays AreRules RulesRefused (λ R. length R ≤ 256)) rule_count_decided
-    (next_decided Same AreRules AreRules frozen_count pruning frozen_one (stays AreRules FrozenRefused (λ R. ¬ (PassesTest frozen_cells R))) frozen_decided pruning_decided)
+    (next_decided Same AreRules AreRules frozen_count pruning frozen_one (stays AreRules FrozenRefused (λ R. ¬ (PruningPassesLimit frozen_cells R))) frozen_decided pruning_decided)
 
 -- ---- the rules between two schemas
 
 -- the schemas have no fault, and the hand-written rules are whole
-abbrev IsSound : Between → Type 0
-IsSound b = (Each b.by_hand IsWhole × IsFaultless b.source) × IsFaultless b.target
+abbrev IsSound : SchemaPair → Type 0
+IsSound b = (Each b.by_hand IsWholeRule × IsFaultless b.source) × IsFaultless b.target
 
-abbrev IsCounted : Between → Type 0
+abbrev IsCounted : SchemaPair → Type 0
 IsCounted b = IsSound b × (length b.lines + length b.conditions ≤ 512)
 
-abbrev IsNamed : List Conversion → Between → Type 0
+abbrev IsNamed : List Conversion → SchemaPair → Type 0
 IsNamed list b = IsCounted b × (lines_fault b.source b.target list b.lines ≡ None)
 
-abbrev IsTestable : List Conversion → List RowTest → Between → Type 0
+abbrev IsTestable : List Conversion → List RowTest → SchemaPair → Type 0
 IsTestable list tests b = IsNamed list b × (conditions_fault b.source tests b.conditions ≡ None)
 
-abbrev IsWritten : List Conversion → List RowTest → Between → Type 0
+abbrev IsWritten : List Conversion → List RowTest → SchemaPair → Type 0
 IsWritten list tests b = IsTestable list tests b × (rules_fault b.source b.target list b.by_hand ≡ None)
 
-abbrev IsLimited : List Conversion → List RowTest → Between → Type 0
+abbrev IsLimited : List Conversion → List RowTest → SchemaPair → Type 0
 IsLimited list tests b = IsWritten list tests b × (limit_of list b.source b.target b.lines ≡ None)
 
 closing_leads : (list : List Conversion) (tests : List RowTest) → Leads (IsLimited list tests) AreRules (closing list)
@@ -340,19 +340,19 @@ closing_leads list tests c b R g are = are_rules list (saying_all b) R (record {
 
 taking_one : (list : List Conversion) (tests : List RowTest) → PassesOne (taking list tests)
 taking_one list tests =
-    next_one line_count (next (naming list) (next (testing tests) (next (writing list) (next (limits list) (next (closing list) leaving))))) line_count_one
-    (next_one (naming list) (next (testing tests) (next (writing list) (next (limits list) (next (closing list) leaving)))) (naming_one list)
-    (next_one (testing tests) (next (writing list) (next (limits list) (next (closing list) leaving))) (testing_one tests)
+    next_one line_count (next (naming list) (next (conditions_stage tests) (next (writing list) (next (limits list) (next (closing list) leaving))))) line_count_one
+    (next_one (naming list) (next (conditions_stage tests) (next (writing list) (next (limits list) (next (closing list) leaving)))) (naming_one list)
+    (next_one (conditions_stage tests) (next (writing list) (next (limits list) (next (closing list) leaving))) (testing_one tests)
     (next_one (writing list) (next (limits list) (next (closing list) leaving)) (writing_one list)
     (next_one (limits list) (next (closing list) leaving) (limits_one list) (next_one (closing list) leaving (closing_one list) leaving_one)))))
 
 taking_decided : (list : List Conversion) (tests : List RowTest) → IsDecided Same IsSound (taking list tests)
 taking_decided list tests =
-    after IsSound IsCounted line_count (next (naming list) (next (testing tests) (next (writing list) (next (limits list) (next (closing list) leaving))))) line_count_one
+    after IsSound IsCounted line_count (next (naming list) (next (conditions_stage tests) (next (writing list) (next (limits list) (next (closing list) leaving))))) line_count_one
     (keeps IsSound (λ b. LinesRefused b.lines b.conditions) (λ b. length b.lines + length b.conditions ≤ 512)) line_count_decided
-    (after IsCounted (IsNamed list) (naming list) (next (testing tests) (next (writing list) (next (limits list) (next (closing list) leaving)))) (naming_one list)
+    (after IsCounted (IsNamed list) (naming list) (next (conditions_stage tests) (next (writing list) (next (limits list) (next (closing list) leaving)))) (naming_one list)
     (keeps IsCounted (λ b. NamingRefused list b.source b.target b.lines) (λ b. lines_fault b.source b.target list b.lines ≡ None)) (naming_decided list)
-    (after (IsNamed list) (IsTestable list tests) (testing tests) (next (writing list) (next (limits list) (next (closing list) leaving))) (testing_one tests)
+    (after (IsNamed list) (IsTestable list tests) (conditions_stage tests) (next (writing list) (next (limits list) (next (closing list) leaving))) (testing_one tests)
     (keeps (IsNamed list) (λ b. TestingRefused tests b.source b.conditions) (λ b. conditions_fault b.source tests b.conditions ≡ None)) (testing_decided tests)
     (after (IsTestable list tests) (IsWritten list tests) (writing list) (next (limits list) (next (closing list) leaving)) (writing_one list)
     (keeps (IsTestable list tests) (λ b. WritingRefused list b.source b.target b.by_hand) (λ b. rules_fault b.source b.target list b.by_hand ≡ None)) (writing_decided list)
@@ -368,7 +368,7 @@ source_decided = check (λ m. SourceRefused m.source) (λ m. IsFaultless m.sourc
     either : (m : MappingText) → IsFaultless m.source ⊎ ((e : AcceptFault) × SourceRefused m.source e)
     either m = elim (faultless_or_fault m.source) [
       | inl ok ↦ inl ok
-      | inr k ↦ inr (source_refusal k.0, (k.0, k.1, refl))
+      | inr k ↦ inr (source_sets_refusal k.0, (k.0, k.1, refl))
     ]
 
 target_decided : IsDecided Same Any target_sets
@@ -408,7 +408,7 @@ said_one list tests =
 
 -- the hand-written rules are whole
 abbrev IsWholeText : MappingText → Type 0
-IsWholeText m = Each m.rules IsWhole
+IsWholeText m = Each m.rules IsWholeRule
 
 abbrev HasSource : MappingText → Type 0
 HasSource m = IsWholeText m × IsFaultless m.source
@@ -431,8 +431,8 @@ said_by_one c text m n = one_mapping text m n
 
 said_by_decided : IsDecided Same Any said_by
 said_by_decided =
-    saying_decided (λ e k. e ≡ k) Same Any text_refusal (notions IsTextFault IsMappingText) (λ e k is. ap text_refusal is)
-    (notions_decided (λ e k. e ≡ k) Any IsTextFault IsMappingText (λ text e f g. one_fault text e f) (λ text m e g. never_said_and_faulty text m e) (λ text g. mapping_or_fault text))
+    saying_decided (λ e k. e ≡ k) Same Any text_refusal (notions IsMappingTextFault IsMappingText) (λ e k is. ap text_refusal is)
+    (notions_decided (λ e k. e ≡ k) Any IsMappingTextFault IsMappingText (λ text e f g. one_fault text e f) (λ text m e g. never_said_and_faulty text m e) (λ text g. mapping_or_fault text))
 
 said_by_leads : Leads Any IsWholeText said_by
 said_by_leads c text m g says r i = (texts_have_whole_rules text m says r i).0

@@ -1,7 +1,7 @@
 -- Reserved names, and texts that are too deep.
 use Rattle.std.proofs.Common.{◌≡◌, ℕ, List, [], codes, get_or, inl, inr, refl, ap, arith}
 use Rattle.dx_ports.specs.declared.file.Count.TheVariants.{Depth}
-use Rattle.dx_schema.specs.Forest.{Forest, none, set, bare}
+use Rattle.dx_schema.specs.Forest.{Forest, none, set, bare_set}
 use Rattle.dx_tokens.specs.declared.faults.TextFault.TheVariants.{TooDeep}
 use Rattle.clio_accept.specs.declared.fault.AcceptFault.TheVariants.{Limit}
 use Rattle.clio_accept.specs.Mapping.{IsReserved, NoneReserved, text_refusal}
@@ -23,16 +23,16 @@ rules_is_free = not_reserved (codes "rules") (λ e. absurd (omega (arith, e))) (
 -- an inner set and the last set count too
 abbrev inner : Forest
 inner =
-    set (bare (codes "a") [])
-    (set (bare (codes "nulls") []) none none) none
+    set (bare_set (codes "a") [])
+    (set (bare_set (codes "nulls") []) none none) none
 
 an_inner_set : ¬ (NoneReserved inner)
 an_inner_set free = free 1 (omega arith) (inl refl)
 
 abbrev last : Forest
 last =
-    set (bare (codes "a") []) none
-    (set (bare (codes "fold") []) none none)
+    set (bare_set (codes "a") []) none
+    (set (bare_set (codes "fold") []) none none)
 
 the_last_set : ¬ (NoneReserved last)
 the_last_set free = free 1 (omega arith) (inr refl)

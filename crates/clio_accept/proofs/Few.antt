@@ -20,11 +20,11 @@ use Rattle.dx_schema.proofs.Valid.{are_tables}
 use Rattle.dx_schema.proofs.Bounds.{rules_raised}
 use Rattle.dx_logical.specs.declared.relation.Occurrence.{Occurrence}
 use Rattle.dx_logical.specs.declared.relation.Relation.{Relation}
-use Rattle.dx_logical.specs.Laws.{IsUnfolding, variables_of}
+use Rattle.dx_logical.specs.Laws.{IsUnfolding, unfolding_variables}
 use Rattle.dx_logical.specs.Unfolding.{variants_of}
 use Rattle.dx_lines.specs.declared.line.Line.{Line}
 use Rattle.dx_lines.specs.Candidates.{upto}
-use Rattle.dx_lines.specs.Limits.{first_or, count_upto, is_wide, passed_at, passed_by, passed}
+use Rattle.dx_lines.specs.Limits.{first_or, count_upto, is_wide, passed_at, passed_by, passed_limit}
 use Rattle.dx_candidates.proofs.Lists.{in_upto}
 use Rattle.dx_rules.proofs.ClosedRules.{occurrences_fit}
 
@@ -50,7 +50,7 @@ narrow schema none t h r m =
     let w = none_wide (nat_lt 256 (count_upto schema t)) (list_any is_wide (variants_of schema t)) _ _ e in
     ltb-false 64 (length r.occurrences) (none_of is_wide (variants_of schema t) r w m)
 
-pub narrow_sides : (lines : List Line) (A B : List Table) → passed lines A B ≡ None → AreNarrow A × AreNarrow B
+pub narrow_sides : (lines : List Line) (A B : List Table) → passed_limit lines A B ≡ None → AreNarrow A × AreNarrow B
 narrow_sides lines A B e =
     let none = none_first (passed_by A ++ passed_by B) _ e in
     (narrow A (λ o m. none o (in_left (passed_by B) m)), narrow B (λ o m. none o (in_right (passed_by A) m)))
@@ -71,7 +71,7 @@ sum_few (o ∷ os) h =
     let e = length-append o.variables (flat_map (λ (o : Occurrence). o.variables) os) in
     omega (arith, first, rest, e)
 
-narrow_few : (f : Forest) (t : ℕ) (r : Relation) → IsFaultless f → length r.occurrences ≤ 64 → IsUnfolding (model_tables f) t r → length (variables_of r) ≤ 4096
+narrow_few : (f : Forest) (t : ℕ) (r : Relation) → IsFaultless f → length r.occurrences ≤ 64 → IsUnfolding (model_tables f) t r → length (unfolding_variables r) ≤ 4096
 narrow_few f t r ok many u =
     let each : Each r.occurrences (λ o. length o.variables ≤ 64) = λ o m.
     let w = occurrences_fit (model_tables f) t r u o m in
@@ -81,7 +81,7 @@ narrow_few f t r ok many u =
     omega (arith, many, s)
 
 pub few_variables : (source target : Forest) (s t : ℕ) (S T : Relation) → IsFaultless source → IsFaultless target → length S.occurrences ≤ 64 → length T.occurrences ≤ 64
-    → IsUnfolding (model_tables source) s S → IsUnfolding (model_tables target) t T → length (variables_of S) + length (variables_of T) < 2 ^ 32 - 1
+    → IsUnfolding (model_tables source) s S → IsUnfolding (model_tables target) t T → length (unfolding_variables S) + length (unfolding_variables T) < 2 ^ 32 - 1
 few_variables source target s t S T ok fine few_source few_target u v =
     let a = narrow_few source s S ok few_source u in
     let b = narrow_few target t T fine few_target v in

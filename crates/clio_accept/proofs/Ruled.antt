@@ -25,12 +25,12 @@ use Rattle.dx_funcs.specs.declared.conversion.Conversion.{Conversion}
 use Rattle.dx_funcs.specs.declared.row_test.RowTest.{RowTest}
 use Rattle.dx_line_text.specs.Naming.{columns_in, set_names, set_number}
 use Rattle.dx_closing.proofs.Growth.{closing_keeps}
-use Rattle.dx_tgd_text.specs.Laws.{IsWhole}
+use Rattle.dx_tgd_text.specs.Laws.{IsWholeRule}
 use Rattle.dx_tgd_text.specs.Numbering.{text_cells}
-use Rattle.dx_tgd_text.specs.Reading.{IsNarrow, atom_fault, atom_of, atoms_fault, derived_faults, derived_of, fresh_of, known_of, rule_fault, rule_of, variables_of}
+use Rattle.dx_tgd_text.specs.Reading.{RuleHasFewCells, atom_fault, atom_of_text, atoms_fault, derived_faults, derived_of_text, fresh_of, known_of, rule_fault, rule_of_text, names_of_premise}
 use Rattle.dx_tgd_text.proofs.Fits.{read_rules_fit}
-use Rattle.clio_accept.specs.Mapping.{AreRulesOf, IsNarrowClosing, limit_of, rules_of, written_of}
-use Rattle.clio_accept.specs.Accepting.{Between}
+use Rattle.clio_accept.specs.Mapping.{AreRulesOf, IsNarrowClosing, limit_of, rules_of_lines, written_of}
+use Rattle.clio_accept.specs.Accepting.{SchemaPair}
 use Rattle.clio_accept.proofs.Accepted.{IsRead, all_rules_fit, each_fits}
 use Rattle.clio_accept.proofs.LineRules.{AreRead}
 use Rattle.clio_accept.proofs.Closed.{closed_fits, closed_of}
@@ -66,18 +66,18 @@ atoms_few f (a ∷ atoms) ok h =
 
 -- a hand-written rule without derived variables is narrow, if neither its premise nor its closing has many atoms
 narrow : (source target : Forest) (list : List Conversion) (r : RuleText) (e : Rule) → IsFaultless source → IsFaultless target → rule_fault source target list r ≡ None
-    → IsNarrowClosing (model_tables target) (rule_of source target list r) e → e.derived ≡ [] → IsNarrow r
+    → IsNarrowClosing (model_tables target) (rule_of_text source target list r) e → e.derived ≡ [] → RuleHasFewCells r
 narrow source target list r e ok fine h n none =
-    let a = first_none (atoms_fault source r.premise) (derived_faults list (variables_of r) (variables_of r) r.derived ∷ atoms_fault target r.conclusion ∷ []) h in
-    let b = first_none (derived_faults list (variables_of r) (variables_of r) r.derived) (atoms_fault target r.conclusion ∷ []) a.1 in
+    let a = first_none (atoms_fault source r.premise) (derived_faults list (names_of_premise r) (names_of_premise r) r.derived ∷ atoms_fault target r.conclusion ∷ []) h in
+    let b = first_none (derived_faults list (names_of_premise r) (names_of_premise r) r.derived) (atoms_fault target r.conclusion ∷ []) a.1 in
     let p = atoms_few source r.premise ok a.0 in
     let q = atoms_few target r.conclusion fine (none_of (atoms_fault target r.conclusion) b.1) in
-    let lp = length-map r.premise (atom_of source (variables_of r) []) in
-    let lq = length-map r.conclusion (atom_of target (known_of r) (fresh_of r)) in
-    let ld = length-map r.derived (derived_of list (variables_of r)) in
+    let lp = length-map r.premise (atom_of_text source (names_of_premise r) []) in
+    let lq = length-map r.conclusion (atom_of_text target (known_of r) (fresh_of r)) in
+    let ld = length-map r.derived (derived_of_text list (names_of_premise r)) in
     let d = ap length (sym n.closing.derived ∙ none) in
-    let kept = closing_keeps (model_tables target) (rule_of source target list r).conclusion e.conclusion n.closing.conclusion in
-    let longer = ap length kept.1 ∙ length-append (rule_of source target list r).conclusion kept.0 in
+    let kept = closing_keeps (model_tables target) (rule_of_text source target list r).conclusion e.conclusion n.closing.conclusion in
+    let longer = ap length kept.1 ∙ length-append (rule_of_text source target list r).conclusion kept.0 in
     let few = n.premise in
     let short = n.conclusion in
     omega (arith, p, q, lp, lq, ld, d, longer, few, short)
@@ -86,7 +86,7 @@ narrow source target list r e ok fine h n none =
 pub are_rules : (list : List Conversion) (m : MappingText) (R : List Rule) → IsRead list m → AreRulesOf list m.source m.target m.lines m.rules R → Each (underived R) IsRule
 are_rules list m R a r e i =
     let w = from_filter (λ (d : Rule). are_none d.derived) R i in
-    elim (from_append (rules_of list m.source m.target m.lines) (subst (λ rs. e ∈ rs) r.are w.0)) [
+    elim (from_append (rules_of_lines list m.source m.target m.lines) (subst (λ rs. e ∈ rs) r.are w.0)) [
       | inl k ↦ (each_fits list m a e k).rule
       | inr k ↦ of_hand (none_derived e.derived w.1) k
     ]
@@ -94,20 +94,20 @@ are_rules list m R a r e i =
     of_hand : e.derived ≡ [] → e ∈ r.closed → IsRule e
     of_hand none k =
         let d = closed_of (model_tables m.target) (written_of list m.source m.target m.rules) r.closed r.closings e k in
-        let t = from_map (rule_of m.source m.target list) m.rules d.1 in
+        let t = from_map (rule_of_text m.source m.target list) m.rules d.1 in
         let fault = each_none (rule_fault m.source m.target list) m.rules a.written t.0 t.1 in
-        let n : IsNarrowClosing (model_tables m.target) (rule_of m.source m.target list t.0) e = subst (λ (x : Rule). IsNarrowClosing (model_tables m.target) x e) (sym t.2) d.2 in
+        let n : IsNarrowClosing (model_tables m.target) (rule_of_text m.source m.target list t.0) e = subst (λ (x : Rule). IsNarrowClosing (model_tables m.target) x e) (sym t.2) d.2 in
         let fit = read_rules_fit m.source m.target list t.0 (a.whole t.0 t.1) (narrow m.source m.target list t.0 e a.source a.target fault n none) fault in
-        (closed_fits m.source m.target (rule_of m.source m.target list t.0) e a.target fit n).rule
+        (closed_fits m.source m.target (rule_of_text m.source m.target list t.0) e a.target fit n).rule
 
 -- ---- between two schemas
 
 -- a text that says this
-abbrev pub saying_all : Between → MappingText
+abbrev pub saying_all : SchemaPair → MappingText
 saying_all b = record { version = 2; source = b.source; target = b.target; lines = b.lines; conditions = b.conditions; rules = b.by_hand }
 
 -- the rules of lines and the closed hand-written ones fit
-pub between_fit : (list : List Conversion) (tests : List RowTest) (b : Between) (R : List Rule) → IsFaultless b.source → IsFaultless b.target → AreRead list tests b → limit_of list b.source b.target b.lines ≡ None
-    → Each b.by_hand IsWhole → Each b.by_hand IsNarrow → AreRulesOf list b.source b.target b.lines b.by_hand R → Each R (RuleFits (model_tables b.source) (model_tables b.target))
+pub between_fit : (list : List Conversion) (tests : List RowTest) (b : SchemaPair) (R : List Rule) → IsFaultless b.source → IsFaultless b.target → AreRead list tests b → limit_of list b.source b.target b.lines ≡ None
+    → Each b.by_hand IsWholeRule → Each b.by_hand RuleHasFewCells → AreRulesOf list b.source b.target b.lines b.by_hand R → Each R (RuleFits (model_tables b.source) (model_tables b.target))
 between_fit list tests b R ok fine r limits whole thin are =
     all_rules_fit list (saying_all b) R (record { source = ok; target = fine; named = r.named; limits = limits; written = r.written; whole = whole }) thin are

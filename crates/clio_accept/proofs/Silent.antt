@@ -5,7 +5,7 @@ use Rattle.dx_funcs.specs.declared.row_test.RowTest.{RowTest}
 use Rattle.dx_stages.specs.Worlds.{World}
 use Rattle.dx_stages.specs.Stages.{Stage, next}
 use Rattle.clio_accept.specs.Accepting.{accepting, accepting_said, between_of, closing, frozen_count, leaving, limits, line_count, naming, pruning}
-use Rattle.clio_accept.specs.Accepting.{rule_count, said_by, said_rules, source_sets, taking, target_names, target_sets, testing, writing}
+use Rattle.clio_accept.specs.Accepting.{rule_count, said_by, said_rules, source_sets, taking, target_names, target_sets, conditions_stage, writing}
 
 abbrev pub IsSilent : {E A B : Type 0} → Stage E A B → Type 0
 IsSilent {E} {A} {B} s = (c : World) (a : A) (n : List ℕ) → ¬ (s.asks c a n)
@@ -19,9 +19,9 @@ leaving_silent = next_silent rule_count (next frozen_count pruning) (λ c a n h.
 
 taking_silent : (list : List Conversion) (tests : List RowTest) → IsSilent (taking list tests)
 taking_silent list tests =
-    next_silent line_count (next (naming list) (next (testing tests) (next (writing list) (next (limits list) (next (closing list) leaving))))) (λ c a n h. h)
-    (next_silent (naming list) (next (testing tests) (next (writing list) (next (limits list) (next (closing list) leaving)))) (λ c a n h. h)
-    (next_silent (testing tests) (next (writing list) (next (limits list) (next (closing list) leaving))) (λ c a n h. h)
+    next_silent line_count (next (naming list) (next (conditions_stage tests) (next (writing list) (next (limits list) (next (closing list) leaving))))) (λ c a n h. h)
+    (next_silent (naming list) (next (conditions_stage tests) (next (writing list) (next (limits list) (next (closing list) leaving)))) (λ c a n h. h)
+    (next_silent (conditions_stage tests) (next (writing list) (next (limits list) (next (closing list) leaving))) (λ c a n h. h)
     (next_silent (writing list) (next (limits list) (next (closing list) leaving)) (λ c a n h. h)
     (next_silent (limits list) (next (closing list) leaving) (λ c a n h. h) (next_silent (closing list) leaving (λ c a n h. h) leaving_silent)))))
 

@@ -8,13 +8,13 @@ use Rattle.dx_schema_text.specs.declared.texts.LineText.{LineText}
 use Rattle.dx_schema_text.specs.declared.texts.OnlyText.{OnlyText}
 use Rattle.dx_schema_text.specs.declared.texts.RuleText.{RuleText}
 use Rattle.dx_schema_text.specs.declared.texts.MappingText.{MappingText}
-use Rattle.dx_schema_text.specs.Texts.{IsMappingText, IsTextFault}
+use Rattle.dx_schema_text.specs.Texts.{IsMappingText, IsMappingTextFault}
 use Rattle.dx_funcs.specs.declared.conversion.Conversion.{Conversion}
 use Rattle.dx_funcs.specs.declared.row_test.RowTest.{RowTest}
 use Rattle.dx_line_text.specs.Naming.{lines_fault}
 use Rattle.dx_line_text.specs.Conditions.{conditions_fault, conditions_of}
 use Rattle.dx_tgd_text.specs.Reading.{rules_fault}
-use Rattle.dx_implies.specs.Pruning.{IsLeft, PassesTest}
+use Rattle.dx_implies.specs.Pruning.{IsPrunedAlways, PruningPassesLimit}
 use Rattle.dx_stages.specs.Stages.{Stage, next, over, into, saying, checking, notions}
 use Rattle.clio_accept.specs.declared.mapping.Mapping.{Mapping}
 use Rattle.clio_accept.specs.declared.fault.AcceptFault.{AcceptFault}
@@ -25,7 +25,7 @@ use Rattle.clio_accept.specs.Mapping.{NoneReserved, AreRulesOf, written_of, limi
 -- ---- rules
 
 -- lines, conditions and hand-written rules, and the two schemas that they stand between
-pub record Between : Type 0 where
+pub record SchemaPair : Type 0 where
   pub source : Forest
   pub target : Forest
   pub lines : List LineText
@@ -33,27 +33,27 @@ pub record Between : Type 0 where
   pub by_hand : List RuleText
 
 -- at most 512 lines and conditions together
-abbrev pub line_count : Stage AcceptFault Between Between
+abbrev pub line_count : Stage AcceptFault SchemaPair SchemaPair
 line_count = checking (λ b. LinesRefused b.lines b.conditions) (λ b. length b.lines + length b.conditions ≤ 512)
 
 -- the words of the lines name what there is
-abbrev pub naming : List Conversion → Stage AcceptFault Between Between
+abbrev pub naming : List Conversion → Stage AcceptFault SchemaPair SchemaPair
 naming list = checking (λ b. NamingRefused list b.source b.target b.lines) (λ b. lines_fault b.source b.target list b.lines ≡ None)
 
 -- the words of the conditions name what there is
-abbrev pub testing : List RowTest → Stage AcceptFault Between Between
-testing tests = checking (λ b. TestingRefused tests b.source b.conditions) (λ b. conditions_fault b.source tests b.conditions ≡ None)
+abbrev pub conditions_stage : List RowTest → Stage AcceptFault SchemaPair SchemaPair
+conditions_stage tests = checking (λ b. TestingRefused tests b.source b.conditions) (λ b. conditions_fault b.source tests b.conditions ≡ None)
 
 -- the hand-written rules have no fault
-abbrev pub writing : List Conversion → Stage AcceptFault Between Between
+abbrev pub writing : List Conversion → Stage AcceptFault SchemaPair SchemaPair
 writing list = checking (λ b. WritingRefused list b.source b.target b.by_hand) (λ b. rules_fault b.source b.target list b.by_hand ≡ None)
 
 -- no limit of lines is passed
-abbrev pub limits : List Conversion → Stage AcceptFault Between Between
+abbrev pub limits : List Conversion → Stage AcceptFault SchemaPair SchemaPair
 limits list = checking (λ b. LimitRefused list b.source b.target b.lines) (λ b. limit_of list b.source b.target b.lines ≡ None)
 
 -- the rules that the lines stand for, and the closed hand-written rules, none of which is too wide
-abbrev pub closing : List Conversion → Stage AcceptFault Between (List Rule)
+abbrev pub closing : List Conversion → Stage AcceptFault SchemaPair (List Rule)
 closing list =
     notions (λ b. WidthRefused (model_tables b.target) (written_of list b.source b.target b.by_hand))
     (λ b. AreRulesOf list b.source b.target b.lines b.by_hand)
@@ -64,24 +64,24 @@ rule_count = checking RulesRefused (λ R. length R ≤ 256)
 
 -- at most 4,000,000 canonical cells on the frozen premise of each rule that pruning tests
 abbrev pub frozen_count : Stage AcceptFault (List Rule) (List Rule)
-frozen_count = checking FrozenRefused (λ R. ¬ (PassesTest frozen_cells R))
+frozen_count = checking FrozenRefused (λ R. ¬ (PruningPassesLimit frozen_cells R))
 
 -- the pruned list
 abbrev pub pruning : Stage AcceptFault (List Rule) (List Rule)
-pruning = notions (λ R e. ⊥) IsLeft
+pruning = notions (λ R e. ⊥) IsPrunedAlways
 
 -- what is left of the rules
 abbrev pub leaving : Stage AcceptFault (List Rule) (List Rule)
 leaving = next rule_count (next frozen_count pruning)
 
-abbrev pub taking : List Conversion → List RowTest → Stage AcceptFault Between (List Rule)
-taking list tests = next line_count (next (naming list) (next (testing tests) (next (writing list) (next (limits list) (next (closing list) leaving)))))
+abbrev pub taking : List Conversion → List RowTest → Stage AcceptFault SchemaPair (List Rule)
+taking list tests = next line_count (next (naming list) (next (conditions_stage tests) (next (writing list) (next (limits list) (next (closing list) leaving)))))
 
 -- the two schemas with the conditions and these rules
-abbrev pub with_rules : List RowTest → Between → List Rule → Mapping
+abbrev pub with_rules : List RowTest → SchemaPair → List Rule → Mapping
 with_rules tests b R = record { source = b.source; target = b.target; conditions = conditions_of b.source tests b.conditions; rules = R }
 
-abbrev pub mapping_of : List Conversion → List RowTest → Stage AcceptFault Between Mapping
+abbrev pub mapping_of : List Conversion → List RowTest → Stage AcceptFault SchemaPair Mapping
 mapping_of list tests = into (with_rules tests) (taking list tests)
 
 -- ---- the mapping of what a text says
@@ -98,7 +98,7 @@ abbrev pub target_names : Stage AcceptFault MappingText MappingText
 target_names = checking (λ m. NameRefused m.target) (λ m. NoneReserved m.target)
 
 -- the lines, conditions and rules of what a text says
-abbrev pub between_of : MappingText → Between
+abbrev pub between_of : MappingText → SchemaPair
 between_of m = record { source = m.source; target = m.target; lines = m.lines; conditions = m.conditions; by_hand = m.rules }
 
 abbrev pub said_rules : List Conversion → List RowTest → Stage AcceptFault MappingText Mapping
@@ -111,7 +111,7 @@ accepting_said list tests = next source_sets (next target_sets (next target_name
 
 -- what a text says, or its first fault
 abbrev pub said_by : Stage AcceptFault (List ℕ) MappingText
-said_by = saying text_refusal (notions IsTextFault IsMappingText)
+said_by = saying text_refusal (notions IsMappingTextFault IsMappingText)
 
 abbrev pub accepting : List Conversion → List RowTest → Stage AcceptFault (List ℕ) Mapping
 accepting list tests = next said_by (accepting_said list tests)

@@ -3,14 +3,14 @@ use Rattle.std.specs.Prelude.{◌≡◌, ◌≤◌, ◌<◌, ◌-◌, ◌^◌, �
 use Rattle.dx_ports.specs.Members.{Each}
 use Rattle.dx_schema.specs.Tables.{model_tables}
 use Rattle.dx_schema.specs.Links.{IsFaultless}
-use Rattle.dx_schema_text.specs.Print.{AreNamed}
+use Rattle.dx_schema_text.specs.Print.{HaveWordNames}
 use Rattle.dx_model.specs.Solutions.{IsClosed}
 use Rattle.dx_funcs.specs.declared.conversion.Conversion.{Conversion}
 use Rattle.dx_funcs.specs.declared.row_test.RowTest.{RowTest}
 use Rattle.dx_model.specs.Fitting.{RuleFits}
 use Rattle.dx_funcs.specs.Offers.{IsListed}
-use Rattle.dx_lines.specs.Limits.{IsColumn}
-use Rattle.dx_line_text.specs.Conditions.{IsTested}
+use Rattle.dx_lines.specs.Limits.{IsSchemaColumn}
+use Rattle.dx_line_text.specs.Conditions.{ConditionIsListed}
 use Rattle.dx_rule_text.specs.Printed.{AreAtomsOf}
 use Rattle.dx_stages.specs.Worlds.{World}
 use Rattle.dx_stages.specs.Laws.{IsDecided, PassesOne}
@@ -23,10 +23,10 @@ use Rattle.clio_accept.specs.Mapping.{NoneReserved}
 pub record MappingFits (list : List Conversion) (tests : List RowTest) (M : Mapping) : Type 0 where
   pub source : IsFaultless M.source
   pub target : IsFaultless M.target
-  pub source_names : AreNamed M.source
-  pub target_names : AreNamed M.target
-  pub columns : Each M.conditions (λ c. IsColumn (model_tables M.source) c.place)
-  pub tested : Each M.conditions (IsTested tests)
+  pub source_names : HaveWordNames M.source
+  pub target_names : HaveWordNames M.target
+  pub columns : Each M.conditions (λ c. IsSchemaColumn (model_tables M.source) c.place)
+  pub tested : Each M.conditions (ConditionIsListed tests)
   pub few : length M.rules ≤ 256
   pub fit : Each M.rules (RuleFits (model_tables M.source) (model_tables M.target))
   pub closed : Each M.rules (IsClosed (model_tables M.target))
@@ -35,8 +35,8 @@ pub record MappingFits (list : List Conversion) (tests : List RowTest) (M : Mapp
   pub listed : Each M.rules (λ d. Each d.derived (λ e. IsListed list e.code (length e.args)))
 
 -- a text has at most one mapping
-abbrev pub OneMapping : Type 0
-OneMapping = (list : List Conversion) (tests : List RowTest) → PassesOne (accepting list tests)
+abbrev pub OneAcceptedMapping : Type 0
+OneAcceptedMapping = (list : List Conversion) (tests : List RowTest) → PassesOne (accepting list tests)
 
 -- a text is accepted or refused for one reason, and never both
 abbrev pub AcceptedOrRefused : Type 0

@@ -15,8 +15,8 @@ use Rattle.dx_tgd.specs.declared.fault.CanonFault.TheVariants as canon_faults
 use Rattle.dx_schema.specs.declared.fault.SchemaFault.{SchemaFault}
 use Rattle.dx_schema.specs.declared.fault.SchemaFault.TheVariants as schema_faults
 use Rattle.dx_schema.specs.Forest.{Forest}
-use Rattle.dx_schema.specs.Tables.{tables_of, table_at, model_tables}
-use Rattle.dx_schema.specs.Links.{IsFirstFault}
+use Rattle.dx_schema.specs.Tables.{tables_of, schema_table, model_tables}
+use Rattle.dx_schema.specs.Links.{IsFirstSchemaFault}
 use Rattle.dx_schema_text.specs.declared.texts.LineText.{LineText}
 use Rattle.dx_schema_text.specs.declared.texts.OnlyText.{OnlyText}
 use Rattle.dx_schema_text.specs.declared.texts.RuleText.{RuleText}
@@ -26,10 +26,10 @@ use Rattle.dx_line_text.specs.Naming.{lines_fault, lines_of}
 use Rattle.dx_line_text.specs.Conditions.{conditions_fault}
 use Rattle.dx_closing.specs.Closing.{IsClosing, IsClosingOf}
 use Rattle.dx_lines.specs.Rules.{kept_rules}
-use Rattle.dx_lines.specs.Limits.{passed}
+use Rattle.dx_lines.specs.Limits.{passed_limit}
 use Rattle.dx_tgd_text.specs.Reading.{rules_fault}
-use Rattle.dx_implies.specs.Pruning.{PassesTest}
-use Rattle.dx_tgd_text.specs.Reading.{rules_of as said_rules_of}
+use Rattle.dx_implies.specs.Pruning.{PruningPassesLimit}
+use Rattle.dx_tgd_text.specs.Reading.{rules_of_texts as said_rules_of}
 use Rattle.clio_accept.specs.declared.fault.AcceptFault.{AcceptFault}
 use Rattle.clio_accept.specs.declared.fault.AcceptFault.TheVariants as faults
 use Rattle.clio_accept.specs.declared.fault.MapFault.TheVariants as map_faults
@@ -42,38 +42,38 @@ IsReserved name = (name ≡ codes "nulls") ⊎ (name ≡ codes "fold")
 
 -- no set has a reserved name
 abbrev pub NoneReserved : Forest → Type 0
-NoneReserved f = (t : ℕ) → t < length (tables_of f) → ¬ (IsReserved (table_at f t).name)
+NoneReserved f = (t : ℕ) → t < length (tables_of f) → ¬ (IsReserved (schema_table f t).name)
 
 -- the first set with a reserved name has this one
 pub record IsFirstReserved (f : Forest) (name : List ℕ) : Type 0 where
   pub table : ℕ
   pub within : table < length (tables_of f)
-  pub is : name ≡ (table_at f table).name
+  pub is : name ≡ (schema_table f table).name
   pub reserved : IsReserved name
-  pub first : (t : ℕ) → t < table → ¬ (IsReserved (table_at f t).name)
+  pub first : (t : ℕ) → t < table → ¬ (IsReserved (schema_table f t).name)
 
 -- ---- what is answered of a fault
 
--- why a mapping is refused, where this is the fault of its text, of its source sets, of its target sets
+-- why a mapping is refused, if this is the fault of its text, of its source sets, of its target sets
 abbrev pub text_refusal : TextFault → AcceptFault
 text_refusal (text_faults.At place kind) = faults.Mapping (map_faults.Text place kind)
 text_refusal (text_faults.TooDeep place) = faults.Limit (record { what = Depth; number = 16 })
 text_refusal text_faults.Memory = faults.Memory
 
--- and where this is the fault of the limits of its lines
+-- and if this is the fault of the limits of its lines
 abbrev pub limit_refusal : CandFault → AcceptFault
 limit_refusal (cand_faults.TooMany l) = faults.Limit l
 limit_refusal cand_faults.Memory = faults.Memory
 
--- and where this is the fault of pruning its rules
+-- and if this is the fault of pruning its rules
 abbrev pub frozen_refusal : CanonFault → AcceptFault
 frozen_refusal (canon_faults.Limit l) = faults.Limit l
 frozen_refusal canon_faults.Memory = faults.Memory
 
-abbrev pub source_refusal : SchemaFault → AcceptFault
-source_refusal (schema_faults.Bad kind) = faults.Mapping (map_faults.Source kind)
-source_refusal (schema_faults.TooMany l) = faults.Limit l
-source_refusal schema_faults.Memory = faults.Memory
+abbrev pub source_sets_refusal : SchemaFault → AcceptFault
+source_sets_refusal (schema_faults.Bad kind) = faults.Mapping (map_faults.Source kind)
+source_sets_refusal (schema_faults.TooMany l) = faults.Limit l
+source_sets_refusal schema_faults.Memory = faults.Memory
 
 abbrev pub target_refusal : SchemaFault → AcceptFault
 target_refusal (schema_faults.Bad kind) = faults.Mapping (map_faults.Target kind)
@@ -83,12 +83,12 @@ target_refusal schema_faults.Memory = faults.Memory
 -- ---- the rules of lines
 
 -- what lines between two schemas stand for: the rules of their kept candidates, in order
-abbrev pub rules_of : List Conversion → Forest → Forest → List LineText → List Rule
-rules_of list source target lines = kept_rules (lines_of source target list lines) (model_tables source) (model_tables target)
+abbrev pub rules_of_lines : List Conversion → Forest → Forest → List LineText → List Rule
+rules_of_lines list source target lines = kept_rules (lines_of source target list lines) (model_tables source) (model_tables target)
 
 -- the first limit that lines between two schemas pass
 abbrev pub limit_of : List Conversion → Forest → Forest → List LineText → Option Limit
-limit_of list source target lines = passed (lines_of source target list lines) (model_tables source) (model_tables target)
+limit_of list source target lines = passed_limit (lines_of source target list lines) (model_tables source) (model_tables target)
 
 -- ---- hand-written rules
 
@@ -117,16 +117,16 @@ IsTooWide schema d = (64 < length d.premise) ⊎ ((E : List Atom) → IsClosing 
 pub record AreRulesOf (list : List Conversion) (source target : Forest) (lines : List LineText) (by_hand : List RuleText) (R : List Rule) : Type 0 where
   pub closed : List Rule
   pub closings : AreClosings (model_tables target) (written_of list source target by_hand) closed
-  pub are : R ≡ rules_of list source target lines ++ closed
+  pub are : R ≡ rules_of_lines list source target lines ++ closed
 
 -- ---- why it is refused
 
 -- the sets of the source, and of the target, have a first fault
 abbrev pub SourceRefused : Forest → AcceptFault → Type 0
-SourceRefused f e = (k : SchemaFault) × IsFirstFault f k × (e ≡ source_refusal k)
+SourceRefused f e = (k : SchemaFault) × IsFirstSchemaFault f k × (e ≡ source_sets_refusal k)
 
 abbrev pub TargetRefused : Forest → AcceptFault → Type 0
-TargetRefused f e = (k : SchemaFault) × IsFirstFault f k × (e ≡ target_refusal k)
+TargetRefused f e = (k : SchemaFault) × IsFirstSchemaFault f k × (e ≡ target_refusal k)
 
 -- a target set has a reserved name
 abbrev pub NameRefused : Forest → AcceptFault → Type 0
@@ -170,4 +170,4 @@ frozen_cells = 4000000
 
 -- a rule that pruning tests has a frozen premise with too many canonical cells
 abbrev pub FrozenRefused : List Rule → AcceptFault → Type 0
-FrozenRefused R e = PassesTest frozen_cells R × (e ≡ faults.Limit (record { what = FrozenCells; number = frozen_cells }))
+FrozenRefused R e = PruningPassesLimit frozen_cells R × (e ≡ faults.Limit (record { what = FrozenCells; number = frozen_cells }))

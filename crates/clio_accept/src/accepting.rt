@@ -6,8 +6,8 @@ ghost use Rattle.dx_schema.specs.Links.{IsFaultless};
 ghost use Rattle.dx_funcs.specs.Judging.{tested};
 ghost use Rattle.dx_funcs.specs.Serving.{offered};
 ghost use Rattle.dx_stages.specs.Running.{Answers};
-ghost use Rattle.dx_tgd_text.specs.Laws.{IsWhole};
-ghost use Rattle.dx_tgd_text.specs.Reading.{IsNarrow};
+ghost use Rattle.dx_tgd_text.specs.Laws.{IsWholeRule};
+ghost use Rattle.dx_tgd_text.specs.Reading.{RuleHasFewCells};
 ghost use Rattle.clio_accept.specs.Accepting.{accepting, accepting_said};
 ghost use Rattle.clio_accept.specs.Mapping.{IsFirstReserved, IsReserved, NoneReserved, SourceRefused, TargetRefused};
 ghost use Rattle.clio_accept.specs.declared.fault.AcceptFault.TheVariants.{Memory};
@@ -84,8 +84,8 @@ where
     M: Meaning,
     requires source { HasFewRules said.source }
     requires target { HasFewRules said.target }
-    requires whole { Each said.rules IsWhole }
-    requires narrow { Each said.rules IsNarrow }
+    requires whole { Each said.rules IsWholeRule }
+    requires narrow { Each said.rules RuleHasFewCells }
     ensures { Answers AcceptFault.Memory (accepting_said (offered host.now) (tested tests.now)) said result }
 {
     let MappingText {

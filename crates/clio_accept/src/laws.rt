@@ -1,5 +1,5 @@
 // The laws of accepted mappings. The definitions alone carry them: no body computes anything.
-ghost use Rattle.clio_accept.specs.Laws.{AcceptedFits, AcceptedNamesAreFree, AcceptedOrRefused, OneMapping};
+ghost use Rattle.clio_accept.specs.Laws.{AcceptedFits, AcceptedNamesAreFree, AcceptedOrRefused, OneAcceptedMapping};
 
 /// A text is accepted with one mapping or refused for one reason, and never both.
 pub fn a_text_is_accepted_or_refused()

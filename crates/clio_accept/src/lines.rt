@@ -9,8 +9,8 @@ ghost use Rattle.dx_schema.specs.Tables.{model_tables};
 ghost use Rattle.dx_funcs.specs.Judging.{tested};
 ghost use Rattle.dx_funcs.specs.Serving.{offered};
 ghost use Rattle.dx_stages.specs.Running.{Answers};
-ghost use Rattle.dx_tgd_text.specs.Laws.{IsWhole};
-ghost use Rattle.dx_tgd_text.specs.Reading.{IsNarrow};
+ghost use Rattle.dx_tgd_text.specs.Laws.{IsWholeRule};
+ghost use Rattle.dx_tgd_text.specs.Reading.{RuleHasFewCells};
 ghost use Rattle.clio_accept.specs.Accepting.{mapping_of};
 ghost use Rattle.clio_accept.specs.Mapping.{AreClosings, IsNarrowClosing, IsTooWide, LinesRefused, TooWide, WidthRefused};
 ghost use Rattle.clio_accept.specs.declared.fault.AcceptFault.TheVariants.{Memory};
@@ -103,8 +103,8 @@ where
     M: Meaning,
     requires source { IsFaultless source }
     requires target { IsFaultless target }
-    requires whole { Each by_hand.now IsWhole }
-    requires narrow { Each by_hand.now IsNarrow }
+    requires whole { Each by_hand.now IsWholeRule }
+    requires narrow { Each by_hand.now RuleHasFewCells }
     ensures { Answers AcceptFault.Memory (mapping_of (offered host.now) (tested tests.now))
         (record { source = source; target = target; lines = lines.now; conditions = conditions.now; by_hand = by_hand.now }) result }
 {

@@ -1,5 +1,6 @@
 pub mod Queried
 pub mod AnswerRuns
+mod AnswerFiles
 pub mod AnsweredIn
 pub mod Posed
 pub mod Refusals

@@ -12,14 +12,14 @@ use Rattle.dx_tokens.specs.declared.faults.TextKind.{TextKind}
 use Rattle.dx_queries.specs.declared.query.Part.{Part}
 use Rattle.dx_queries.specs.declared.query.Query.{Query}
 use Rattle.dx_queries.specs.Results.{FitsQuery}
-use Rattle.dx_query_text.specs.Queries.{HasFewAtoms, IsFaultOver, IsQueryOver, IsToldFault}
+use Rattle.dx_query_text.specs.Queries.{HasFewAtoms, IsFaultOver, IsQueryOver, IsQueryFaultOrMemory}
 use Rattle.dx_query_text.proofs.Over.{faults_are_placed, never_said_and_faulty, one_fault, one_query, query_or_fault}
 use Rattle.dx_query_text.proofs.Fitting.{read_queries_fit}
 use Rattle.dx_stages.specs.Worlds.{World}
 use Rattle.dx_stages.specs.declared.stop.Stop.{Stop}
 use Rattle.dx_stages.specs.declared.stop.Stop.TheVariants as stops
 use Rattle.dx_stages.specs.Stages.{by, file, saying}
-use Rattle.dx_stages.specs.Running.{Gives, Ran, Told}
+use Rattle.dx_stages.specs.Running.{Gives, Ran, InputState}
 use Rattle.dx_stages.specs.Laws.{AsksOnly, IsDecided, PassesOne}
 use Rattle.dx_stages.proofs.Decided.{Any, by_decided, by_one, checking_decided, checking_one, file_decided, file_one, into_decided, into_one, next_decided, next_one, notions_decided, saying_decided, weaker}
 use Rattle.dx_stages.proofs.Running.{ran_file, ran_next, ran_passes, ran_stop, ran_value, silent_apart}
@@ -30,7 +30,7 @@ use Rattle.clio_ending.specs.declared.faults.QueryFault.{QueryFault}
 use Rattle.clio_ending.specs.declared.faults.QueryFault.TheVariants as query_faults
 use Rattle.clio_ending.specs.Ending.{AreAlike, query_refusal}
 use Rattle.clio_ending.proofs.Alike.{alike, same_alike}
-use Rattle.clio_answer.specs.Answering.{HasManyAtoms, Posed, absent_query, few_atoms, long_query, posed_query, query_bytes, query_file, query_name, query_stages, said_query, text_query}
+use Rattle.clio_answer.specs.Answering.{HasManyAtoms, MappingAndQuery, absent_query, few_atoms, long_query, query_over, query_bytes, query_file, query_name, query_stages, query_in_text, text_query}
 
 -- ---- the number of atoms
 
@@ -62,49 +62,49 @@ few_decided =
 
 -- ---- the text
 
-said_one : (target : Forest) → PassesOne (said_query target)
+said_one : (target : Forest) → PassesOne (query_in_text target)
 said_one target c text p q a b = one_query target text p q a b
 
-said_decided : (target : Forest) → IsDecided (λ e k. e ≡ k) Any (said_query target)
+said_decided : (target : Forest) → IsDecided (λ e k. e ≡ k) Any (query_in_text target)
 said_decided target =
     notions_decided (λ e k. e ≡ k) Any (IsFaultOver target) (IsQueryOver target) (λ text e f g a b. one_fault target text e f a b)
     (λ text q e g a b. never_said_and_faulty target text q e a b) (λ text g. query_or_fault target text)
 
 text_one : (target : Forest) → PassesOne (text_query target)
-text_one target = next_one (saying query_refusal (said_query target)) few_atoms (said_one target) (checking_one HasManyAtoms HasFewAtoms)
+text_one target = next_one (saying query_refusal (query_in_text target)) few_atoms (said_one target) (checking_one HasManyAtoms HasFewAtoms)
 
 text_decided : (target : Forest) → IsDecided AreAlike Any (text_query target)
 text_decided target =
-    next_decided AreAlike Any Any (saying query_refusal (said_query target)) few_atoms (said_one target) (λ c a b g p. tt)
-    (saying_decided (λ e k. e ≡ k) AreAlike Any query_refusal (said_query target) (λ e k is. same_alike (query_refusal e) (query_refusal k) (ap query_refusal is)) (said_decided target))
+    next_decided AreAlike Any Any (saying query_refusal (query_in_text target)) few_atoms (said_one target) (λ c a b g p. tt)
+    (saying_decided (λ e k. e ≡ k) AreAlike Any query_refusal (query_in_text target) (λ e k is. same_alike (query_refusal e) (query_refusal k) (ap query_refusal is)) (said_decided target))
     few_decided
 
 -- ---- the file
 
-posed_one : (M : Mapping) → PassesOne (posed_query M)
+posed_one : (M : Mapping) → PassesOne (query_over M)
 posed_one M = next_one query_file (text_query M.target) (file_one Mapping query_name query_bytes absent_query long_query) (text_one M.target)
 
-posed_decided : (M : Mapping) → IsDecided AreAlike Any (posed_query M)
+posed_decided : (M : Mapping) → IsDecided AreAlike Any (query_over M)
 posed_decided M =
     next_decided AreAlike Any Any query_file (text_query M.target) (file_one Mapping query_name query_bytes absent_query long_query) (λ c a b g p. tt)
     (file_decided AreAlike Any query_name query_bytes absent_query long_query alike) (text_decided M.target)
 
-beside : Mapping → Query → Posed
+beside : Mapping → Query → MappingAndQuery
 beside M q = (M, q)
 
 pub query_one : PassesOne query_stages
 unfolding beside
-query_one = into_one beside (by posed_query) (by_one posed_query posed_one)
+query_one = into_one beside (by query_over) (by_one query_over posed_one)
 
 pub query_decided : (Given : Mapping → Type 0) → IsDecided AreAlike Given query_stages
 unfolding beside
 query_decided Given =
-    into_decided AreAlike Given beside (by posed_query) (by_decided AreAlike Given posed_query (λ M g. weaker AreAlike Any Given (posed_query M) (λ N h. tt) (posed_decided M)))
+    into_decided AreAlike Given beside (by query_over) (by_decided AreAlike Given query_over (λ M g. weaker AreAlike Any Given (query_over M) (λ N h. tt) (posed_decided M)))
 
 -- ---- what is passed on
 
 -- a query that was passed on fits the target
-pub query_fits : (c : World) (M : Mapping) (q : Query) → (posed_query M).passes c M q → FitsQuery (schema_widths M.target) q
+pub query_fits : (c : World) (M : Mapping) (q : Query) → (query_over M).passes c M q → FitsQuery (schema_widths M.target) q
 query_fits c M q (text, held, (p, said, (few, is))) =
     subst (FitsQuery (schema_widths M.target)) (sym is) (read_queries_fit M.target text p said few)
 
@@ -120,15 +120,15 @@ query_asks c M n (inr (text, held, h)) = absurd (text_silent M.target c text n h
 
 -- ---- what a text answers
 
-pub never_deep : (target : Forest) (text : List ℕ) (place : ℕ) → ¬ (IsToldFault target text (text_faults.TooDeep place))
+pub never_deep : (target : Forest) (text : List ℕ) (place : ℕ) → ¬ (IsQueryFaultOrMemory target text (text_faults.TooDeep place))
 never_deep target text place (inl e) = cc
 never_deep target text place (inr h) = faults_are_placed target text (text_faults.TooDeep place) h
 
-fault_there : (target : Forest) (text : List ℕ) (place : ℕ) (kind : TextKind) → IsToldFault target text (text_faults.At place kind) → IsFaultOver target text (text_faults.At place kind)
+fault_there : (target : Forest) (text : List ℕ) (place : ℕ) (kind : TextKind) → IsQueryFaultOrMemory target text (text_faults.At place kind) → IsFaultOver target text (text_faults.At place kind)
 fault_there target text place kind (inl e) = absurd cc
 fault_there target text place kind (inr h) = h
 
-pub text_refused : (target : Forest) (text : List ℕ) (place : ℕ) (kind : TextKind) → IsToldFault target text (text_faults.At place kind)
+pub text_refused : (target : Forest) (text : List ℕ) (place : ℕ) (kind : TextKind) → IsQueryFaultOrMemory target text (text_faults.At place kind)
     → Gives (text_query target) text (Err (stops.Refused (refusals.Query (query_faults.Text place kind))))
 text_refused target text place kind h = λ c. inl (text_faults.At place kind, fault_there target text place kind h, refl)
 
@@ -146,21 +146,21 @@ text_said target text q said few = λ c. (q, said, (few, refl))
 -- ---- the file, fetched
 
 -- the file that was fetched is that of the query
-its_file : (M : Mapping) (called : List ℕ) (r : Result (List ℕ) (Stop Refusal)) (old new : Told) → called ≡ query_name
+its_file : (M : Mapping) (called : List ℕ) (r : Result (List ℕ) (Stop Refusal)) (old new : InputState) → called ≡ query_name
     → Ran (file {A = Unit {0}} called query_bytes absent_query long_query) (tt {0}) r old new → Ran query_file M r old new
 its_file M called r old new is x = ran_file called query_name query_bytes query_bytes absent_query absent_query long_query long_query M r old new is refl refl refl x
 
-pub query_stopped : (M : Mapping) (called : List ℕ) (e : Stop Refusal) (old new : Told) → called ≡ query_name
-    → Ran (file {A = Unit {0}} called query_bytes absent_query long_query) (tt {0}) (Err e) old new → Ran (posed_query M) M (Err e) old new
+pub query_stopped : (M : Mapping) (called : List ℕ) (e : Stop Refusal) (old new : InputState) → called ≡ query_name
+    → Ran (file {A = Unit {0}} called query_bytes absent_query long_query) (tt {0}) (Err e) old new → Ran (query_over M) M (Err e) old new
 query_stopped M called e old new is x = ran_stop query_file (text_query M.target) M e old new (its_file M called (Err e) old new is x)
 
-pub query_passed : (M : Mapping) (called text bytes : List ℕ) (r : Result Query (Stop Refusal)) (old new : Told) → called ≡ query_name → bytes ≡ text
-    → Ran (file {A = Unit {0}} called query_bytes absent_query long_query) (tt {0}) (Ok text) old new → Gives (text_query M.target) bytes r → Ran (posed_query M) M r old new
+pub query_passed : (M : Mapping) (called text bytes : List ℕ) (r : Result Query (Stop Refusal)) (old new : InputState) → called ≡ query_name → bytes ≡ text
+    → Ran (file {A = Unit {0}} called query_bytes absent_query long_query) (tt {0}) (Ok text) old new → Gives (text_query M.target) bytes r → Ran (query_over M) M r old new
 query_passed M called text bytes r old new is same x g =
     ran_next query_file (text_query M.target) M text r old new new (silent_apart query_file (text_query M.target) (text_silent M.target))
     (its_file M called (Ok text) old new is x) (ran_value (text_query M.target) text r new (subst (λ v. Gives (text_query M.target) v r) same g))
 
-pub query_within : (called text bytes : List ℕ) (old new : Told) → bytes ≡ text → Ran (file {A = Unit {0}} called query_bytes absent_query long_query) (tt {0}) (Ok text) old new
+pub query_within : (called text bytes : List ℕ) (old new : InputState) → bytes ≡ text → Ran (file {A = Unit {0}} called query_bytes absent_query long_query) (tt {0}) (Ok text) old new
     → length bytes ≤ query_bytes
 query_within called text bytes old new same x =
     let p = ran_passes (file {A = Unit {0}} called query_bytes absent_query long_query) (tt {0}) text old new x in

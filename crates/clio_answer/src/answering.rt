@@ -9,7 +9,7 @@ ghost use Rattle.dx_stages.specs.Ending.{planned, planned_of};
 ghost use Rattle.clio_accept.specs.declared.mapping.Mapping.{Mapping as MappingOf};
 ghost use Rattle.dx_stages.specs.Running.{Gives, Ran};
 ghost use Rattle.clio_steps.specs.Steps.{program};
-ghost use Rattle.clio_answer.specs.Answering.{answer_stages, answered_plan, answers, listed_answers, posed_query, query_bytes, text_query};
+ghost use Rattle.clio_answer.specs.Answering.{answer_stages, answered_plan, answers, listed_answers, query_over, query_bytes, text_query};
 
 use clio_accept::Mapping;
 use clio_ending::{Answers, Done, QueryFault, Refusal};
@@ -67,7 +67,7 @@ fn read_posed<I: Inputs>(
     inputs: &mut I,
     mapping: &Mapping,
 ) -> Result<Query, Stop<Refusal>>
-    ensures { Ran (posed_query mapping.now) mapping.now result
+    ensures { Ran (query_over mapping.now) mapping.now result
         (record { holds = I.holds inputs.old; faults = I.faults inputs.old; stopped = I.stopped inputs.old })
         (record { holds = I.holds inputs.new; faults = I.faults inputs.new; stopped = I.stopped inputs.new }) }
 {
@@ -124,9 +124,10 @@ fn plan_answers(alloc: Global, query: &Query, answers: Answers) -> Result<Plan<D
 {
     let printed = vec![in alloc; answers_file(alloc, query.width, &answers.rows)?]?;
     let text = summary(alloc, &printed)?;
+    let files = into_files(alloc, printed)?;
     Ok(Plan {
         done: Done::Answered(answers),
-        files: into_files(alloc, printed)?,
+        files,
         text,
     })
 }

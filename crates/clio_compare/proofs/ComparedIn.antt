@@ -7,14 +7,14 @@ use Rattle.dx_stages.specs.Worlds.{World}
 use Rattle.clio_accept.specs.declared.mapping.Mapping.{Mapping}
 use Rattle.clio_files.specs.Comparisons.{AreComparedFiles, compared_text}
 use Rattle.clio_files.specs.Files.{files_of}
-use Rattle.clio_files.specs.Sheets.{Told}
+use Rattle.clio_files.specs.Sheets.{PrintedFile}
 use Rattle.clio_steps.specs.Steps.{Program}
 use Rattle.clio_compare.specs.Comparing.{comparisons}
 use Rattle.clio_compare.specs.Outcomes.{IsComparedIn}
 use Rattle.clio_steps.specs.Outcomes.{Writing}
 use Rattle.clio_compare.proofs.Pairs.{made_in}
 
-pub compared_with : (P : Program) (c : World) (q : Mapping × Comparison) (files : List Told) (Wrote : Writing) → (comparisons P).passes c (tt {0}) q
+pub compared_with : (P : Program) (c : World) (q : Mapping × Comparison) (files : List PrintedFile) (Wrote : Writing) → (comparisons P).passes c (tt {0}) q
     → AreComparedFiles q.0.source q.0.target q.1 files → Wrote (files_of files) (compared_text q.1 files) → IsComparedIn P c q.1 Wrote
 compared_with P c q files Wrote x are wrote =
     let m = made_in P c q x in

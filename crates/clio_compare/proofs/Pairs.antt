@@ -12,7 +12,7 @@ use Rattle.dx_model.specs.declared.rules.Rule.{Rule}
 use Rattle.dx_model.specs.Fitting.{RuleFits}
 use Rattle.dx_model.specs.Following.{frozen_text}
 use Rattle.dx_model.specs.Tables.{IsInstance}
-use Rattle.dx_model.specs.Values.{Text}
+use Rattle.dx_ports.specs.Texts.{Text}
 use Rattle.dx_schema.specs.Forest.{Forest}
 use Rattle.dx_schema.specs.Tables.{AreTables, model_tables, tables_of}
 use Rattle.dx_schema.proofs.Valid.{are_tables}
@@ -20,18 +20,18 @@ use Rattle.dx_instance.specs.Stored.{TableRows, facts}
 use Rattle.dx_compare.specs.declared.comparing.Answer.{Answer}
 use Rattle.dx_compare.specs.declared.comparing.Answer.TheVariants as answers
 use Rattle.dx_compare.specs.declared.comparing.Comparison.{Comparison}
-use Rattle.dx_compare.specs.Comparing.{IsAnswer, IsComparison}
+use Rattle.dx_compare.specs.Comparing.{IsDirectionAnswer, IsComparison}
 use Rattle.dx_compare.specs.Letters.{letters}
 use Rattle.dx_compare.proofs.Answered.{get_front, get_in, get_is}
 use Rattle.dx_compare.proofs.Exists.{canonical_fit, compared_or_past, frozen_fit}
 use Rattle.dx_compare.proofs.Forests.{forests_same}
 use Rattle.dx_stages.specs.declared.stop.Stop.{Stop}
 use Rattle.dx_stages.specs.declared.stop.Stop.TheVariants as stops
-use Rattle.dx_stages.specs.Ending.{Planned}
+use Rattle.dx_stages.specs.Ending.{PlanContent}
 use Rattle.dx_stages.specs.Worlds.{World}
 use Rattle.dx_stages.specs.Stages.{next, over}
-use Rattle.dx_stages.specs.Laws.{AreApart, AsksOnly, IsDecided, PassesOne}
-use Rattle.dx_stages.specs.Running.{Gives, Ran, Told}
+use Rattle.dx_stages.specs.Laws.{AsksOtherFiles, AsksOnly, IsDecided, PassesOne}
+use Rattle.dx_stages.specs.Running.{Gives, Ran, InputState}
 use Rattle.dx_stages.proofs.Running.{ran_into, ran_into_stop, ran_next, ran_over, ran_passes, ran_stop, ran_value, silent_apart}
 use Rattle.dx_stages.proofs.Decided.{Any, apart_by, become_decided, checking_decided, checking_one, into_decided, into_one, next_decided, next_one, notions_decided, over_decided, over_one}
 use Rattle.clio_accept.specs.declared.mapping.Mapping.{Mapping}
@@ -49,7 +49,8 @@ use Rattle.clio_ending.specs.declared.faults.OtherFault.TheVariants as other_fau
 use Rattle.clio_ending.specs.Ending.{AreAlike}
 use Rattle.clio_steps.specs.declared.texts.Side.TheVariants.{First, Second}
 use Rattle.clio_steps.specs.Steps.{Program, mapping_stages, text_name, text_stages}
-use Rattle.clio_compare.specs.Comparing.{AreBothPlain, AreFree, ArePlain, AreReady, Differ, HasDerived, HaveConditions, HaveSameSets, IsComparedPlan, IsComparisonOf, IsFirstDerived, Pair, PassesFrozenLimit, comparable, compare_stages, compared_rules, comparing, comparisons, frozen_cells, no_conditions, no_derived, other_stages, same_sets}
+use Rattle.clio_compare.specs.Comparing.{AreBothPlain, AreFree, ArePlain, AreReady, Differ, HasDerived, HaveConditions, HaveSameSets, IsComparedPlan, IsComparisonOf, IsFirstDerived, Pair, PassesFrozenLimit, comparable, compare_stages, compared_rules, comparing, comparisons, no_conditions, no_derived, other_stages, same_sets}
+use Rattle.clio_accept.specs.Mapping.{frozen_cells}
 use Rattle.clio_steps.proofs.Mappings.{is_small}
 use Rattle.clio_steps.proofs.Names.{text_asks}
 use Rattle.clio_steps.proofs.Plans.{no_marks, some_column}
@@ -71,7 +72,7 @@ pub rest_asks : (P : Program) → AsksOnly (λ n. n ≡ text_name Second) (next 
 rest_asks P c a n (inl h) = text_asks P Second c (tt {0}) n h
 rest_asks P c a n (inr h) = absurd (silent_rest c h.0 n h.2)
 
-texts_apart : (P : Program) → AreApart (mapping_stages P) (next (other_stages P) (next comparable comparing))
+texts_apart : (P : Program) → AsksOtherFiles (mapping_stages P) (next (other_stages P) (next comparable comparing))
 texts_apart P =
     apart_by (λ n. n ≡ text_name First) (λ n. n ≡ text_name Second) (mapping_stages P) (next (other_stages P) (next comparable comparing))
     (text_asks P First) (rest_asks P) (λ n e f. never (sym e ∙ f))
@@ -210,12 +211,12 @@ made_in P c q (M, (text, found, accepted), (pair, (N, (other_text, other_found, 
     })
 
 -- a comparison that ran was made
-pub made : (P : Program) (q : Mapping × Comparison) (old new : Told) → Ran (comparisons P) (tt {0}) (Ok q) old new → (c : World) × IsMade P c q
+pub made : (P : Program) (q : Mapping × Comparison) (old new : InputState) → Ran (comparisons P) (tt {0}) (Ok q) old new → (c : World) × IsMade P c q
 made P q old new x = let p = ran_passes (comparisons P) (tt {0}) q old new x in (p.0, made_in P p.0 q p.1)
 
 -- ---- its files
 
-answer_widths : (prefix : Text) (source target : Forest) (P Q : List Rule) (a : Answer) → IsAnswer prefix source target P Q a → FitsAnswer source target a
+answer_widths : (prefix : Text) (source target : Forest) (P Q : List Rule) (a : Answer) → IsDirectionAnswer prefix source target P Q a → FitsAnswer source target a
 answer_widths prefix source target P Q answers.Implies h = tt
 answer_widths prefix source target P Q (answers.Refuted n I K) h = (h.refutation.source_widths, h.refutation.target_widths)
 
@@ -238,7 +239,7 @@ facts_wide f I tables fits x m =
 
 answer_columns : (prefix : Text) (source target : Forest) (P Q : List Rule) (a : Answer) → Each P (RuleFits (model_tables source) (model_tables target))
     → Each Q (RuleFits (model_tables source) (model_tables target)) → AreTables (tables_of source) → AreTables (tables_of target)
-    → IsAnswer prefix source target P Q a → HaveColumns a
+    → IsDirectionAnswer prefix source target P Q a → HaveColumns a
 answer_columns prefix source target P Q answers.Implies p q ss ts h = tt
 answer_columns prefix source target P Q (answers.Refuted n I K) p q ss ts h =
     let r = h.refutation in (
@@ -246,7 +247,7 @@ answer_columns prefix source target P Q (answers.Refuted n I K) p q ss ts h =
       facts_wide target K ts (λ f m. canonical_fit (model_tables target) 0 P r.rows (λ d k. (p d k).conclusion) f (r.made.0 f m)),
     )
 
-plan_exists : (P : Program) (c : World) (q : Mapping × Comparison) → IsMade P c q → (plan : Planned Done) × IsComparedPlan q.0 q.1 plan
+plan_exists : (P : Program) (c : World) (q : Mapping × Comparison) → IsMade P c q → (plan : PlanContent Done) × IsComparedPlan q.0 q.1 plan
 plan_exists P c q m =
     let M = m.first in
     let N = m.second in
@@ -270,11 +271,11 @@ first_of : Pair → Comparison → Mapping × Comparison
 first_of p k = (p.0, k)
 
 -- the first text stops it
-pub first_stops : (P : Program) (e : Stop Refusal) (old new : Told) → Ran (mapping_stages P) (tt {0}) (Err e) old new → Ran (comparisons P) (tt {0}) (Err e) old new
+pub first_stops : (P : Program) (e : Stop Refusal) (old new : InputState) → Ran (mapping_stages P) (tt {0}) (Err e) old new → Ran (comparisons P) (tt {0}) (Err e) old new
 first_stops P e old new x = ran_stop (mapping_stages P) (next (other_stages P) (next comparable comparing)) (tt {0}) e old new x
 
 -- the second text does
-pub second_stops : (P : Program) (M : Mapping) (e : Stop Refusal) (old mid new : Told) → Ran (mapping_stages P) (tt {0}) (Ok M) old mid
+pub second_stops : (P : Program) (M : Mapping) (e : Stop Refusal) (old mid new : InputState) → Ran (mapping_stages P) (tt {0}) (Ok M) old mid
     → Ran (text_stages P Second) (tt {0}) (Err e) mid new → Ran (comparisons P) (tt {0}) (Err e) old new
 unfolding beside
 second_stops P M e old mid new x y =
@@ -284,7 +285,7 @@ second_stops P M e old mid new x y =
     (ran_over (λ (M : Mapping). tt {0}) (text_stages P Second) M (Err e) mid new y)))
 
 -- both texts were accepted
-pub both_read : (P : Program) (M N : Mapping) (r : Result (Mapping × Comparison) (Stop Refusal)) (old mid new : Told) → Ran (mapping_stages P) (tt {0}) (Ok M) old mid
+pub both_read : (P : Program) (M N : Mapping) (r : Result (Mapping × Comparison) (Stop Refusal)) (old mid new : InputState) → Ran (mapping_stages P) (tt {0}) (Ok M) old mid
     → Ran (text_stages P Second) (tt {0}) (Ok N) mid new → Gives (next comparable comparing) (M, N) r → Ran (comparisons P) (tt {0}) r old new
 unfolding beside
 both_read P M N r old mid new x y g =

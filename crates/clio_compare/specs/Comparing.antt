@@ -4,16 +4,16 @@ use Rattle.dx_ports.specs.Entries.{Entry}
 use Rattle.dx_ports.specs.Members.{Each}
 use Rattle.dx_ports.specs.declared.file.Count.TheVariants.{FrozenCells}
 use Rattle.dx_model.specs.declared.rules.Rule.{Rule}
-use Rattle.dx_model.specs.Values.{Text}
+use Rattle.dx_ports.specs.Texts.{Text}
 use Rattle.dx_compare.specs.declared.comparing.Comparison.{Comparison}
-use Rattle.dx_compare.specs.Comparing.{IsComparison, PassesLimit}
+use Rattle.dx_compare.specs.Comparing.{IsComparison, ComparisonPassesLimit}
 use Rattle.dx_compare.specs.Laws.{AreComparable}
-use Rattle.dx_stages.specs.Ending.{Planned}
+use Rattle.dx_stages.specs.Ending.{PlanContent}
 use Rattle.dx_stages.specs.Stages.{Stage, next, become, over, into, checking, notions}
 use Rattle.clio_accept.specs.declared.mapping.Mapping.{Mapping}
 use Rattle.clio_files.specs.Comparisons.{AreComparedFiles, compared_text}
 use Rattle.clio_files.specs.Files.{files_of}
-use Rattle.clio_files.specs.Sheets.{Told}
+use Rattle.clio_files.specs.Sheets.{PrintedFile}
 use Rattle.clio_ending.specs.declared.ending.Done.{Done}
 use Rattle.clio_ending.specs.declared.ending.Done.TheVariants.{Compared}
 use Rattle.clio_ending.specs.declared.ending.Refusal.{Refusal}
@@ -21,6 +21,7 @@ use Rattle.clio_ending.specs.declared.ending.Refusal.TheVariants as refusals
 use Rattle.clio_ending.specs.declared.faults.OtherFault.TheVariants as other_faults
 use Rattle.clio_steps.specs.declared.texts.Side.TheVariants.{Second}
 use Rattle.clio_steps.specs.Steps.{Program, mapping_stages, text_stages}
+use Rattle.clio_accept.specs.Mapping.{frozen_cells}
 
 -- ---- the other mapping
 
@@ -82,18 +83,14 @@ comparable = next same_sets (next no_conditions no_derived)
 
 -- ---- the comparison
 
--- how many canonical cells a frozen premise may have
-abbrev pub frozen_cells : ℕ
-frozen_cells = 4000000
-
 -- a test passes the limit
 abbrev pub PassesFrozenLimit : Pair → Refusal → Type 0
 PassesFrozenLimit p e =
-    PassesLimit frozen_cells p.0.rules p.1.rules × (e ≡ refusals.Limit (record { what = FrozenCells; number = frozen_cells }))
+    ComparisonPassesLimit frozen_cells p.0.rules p.1.rules × (e ≡ refusals.Limit (record { what = FrozenCells; number = frozen_cells }))
 
 -- none does, and this is whether each list implies the other
 abbrev pub IsComparisonOf : Pair → Comparison → Type 0
-IsComparisonOf p k = (¬ (PassesLimit frozen_cells p.0.rules p.1.rules)) × IsComparison p.0.source p.0.target p.0.rules p.1.rules k
+IsComparisonOf p k = (¬ (ComparisonPassesLimit frozen_cells p.0.rules p.1.rules)) × IsComparison p.0.source p.0.target p.0.rules p.1.rules k
 
 -- the comparison of the rules
 abbrev pub compared_rules : Stage Refusal Pair Comparison
@@ -110,16 +107,16 @@ comparisons P = next (mapping_stages P) (next (other_stages P) (next comparable 
 -- the files that are written of a comparison, and what is said of it
 abbrev pub AreWritten : Mapping → Comparison → List Entry → Text → Type 0
 AreWritten M k entries text =
-    (files : List Told) × AreComparedFiles M.source M.target k files × (entries ≡ files_of files) × (text ≡ compared_text k files)
+    (files : List PrintedFile) × AreComparedFiles M.source M.target k files × (entries ≡ files_of files) × (text ≡ compared_text k files)
 
 -- what is written of a comparison: the files of the instances that refute, and what is said
-abbrev pub IsComparedPlan : Mapping → Comparison → Planned Done → Type 0
+abbrev pub IsComparedPlan : Mapping → Comparison → PlanContent Done → Type 0
 IsComparedPlan M k plan =
-    (files : List Told) × AreComparedFiles M.source M.target k files
+    (files : List PrintedFile) × AreComparedFiles M.source M.target k files
     × (plan ≡ record { done = Compared k; files = files_of files; text = compared_text k files })
 
 -- a comparison, and what is written of it
-abbrev pub compare_stages : Program → Stage Refusal (Unit {0}) (Planned Done)
+abbrev pub compare_stages : Program → Stage Refusal (Unit {0}) (PlanContent Done)
 compare_stages P = become (λ u q plan. IsComparedPlan q.0 q.1 plan) (comparisons P)
 
 -- ---- what the code has

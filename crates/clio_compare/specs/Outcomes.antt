@@ -10,7 +10,7 @@ use Rattle.clio_accept.specs.declared.mapping.Mapping.{Mapping}
 use Rattle.clio_accept.specs.Accepting.{accepting}
 use Rattle.clio_files.specs.Comparisons.{AreComparedFiles, compared_text}
 use Rattle.clio_files.specs.Files.{files_of}
-use Rattle.clio_files.specs.Sheets.{Told}
+use Rattle.clio_files.specs.Sheets.{PrintedFile}
 use Rattle.clio_steps.specs.Steps.{Program}
 use Rattle.clio_compare.specs.Comparing.{AreBothPlain, AreFree, HaveSameSets}
 use Rattle.clio_steps.specs.Outcomes.{Writing}
@@ -35,6 +35,6 @@ pub record IsComparedIn (P : Program) (c : World) (k : Comparison) (Wrote : Writ
   pub forward : (convert : Conversions) → (k.forward ≡ answers.Implies) ↔ Implies convert first.rules second.rules
   pub backward : (convert : Conversions) → (k.backward ≡ answers.Implies) ↔ Implies convert second.rules first.rules
   pub comparison : IsComparison first.source first.target first.rules second.rules k
-  pub files : List Told
+  pub files : List PrintedFile
   pub are : AreComparedFiles first.source first.target k files
   pub written : Wrote (files_of files) (compared_text k files)

@@ -1,10 +1,10 @@
 -- Which refusals are alike.
 use Rattle.std.proofs.Common.{◌≡◌, List, refl, inl, inr}
-use Rattle.dx_model.specs.Values.{Text}
+use Rattle.dx_ports.specs.Texts.{Text}
 use Rattle.dx_keys.specs.declared.answers.Clash.{Clash}
 use Rattle.clio_ending.specs.declared.ending.Refusal.{Refusal}
 use Rattle.clio_ending.specs.declared.ending.Refusal.TheVariants as refusals
-use Rattle.clio_ending.specs.Ending.{AreAlike, IsClash}
+use Rattle.clio_ending.specs.Ending.{AreAlike, IsClashRefusal}
 
 -- each refusal is like itself
 pub alike : (e : Refusal) → AreAlike e e
@@ -13,7 +13,7 @@ alike e = inl refl
 pub same_alike : (d e : Refusal) → d ≡ e → AreAlike d e
 same_alike d e is = inl is
 
-clash_of : (f : Refusal) → IsClash f → (d : Clash) × (t : Text) × (l : List Text) × (n : Text) × (f ≡ refusals.Clash d t l n)
+clash_of : (f : Refusal) → IsClashRefusal f → (d : Clash) × (t : Text) × (l : List Text) × (n : Text) × (f ≡ refusals.Clash d t l n)
 clash_of (refusals.Clash d t l n) h = (d, t, l, n, refl)
 clash_of refusals.Usage h = absurd h
 clash_of (refusals.Mapping fault) h = absurd h

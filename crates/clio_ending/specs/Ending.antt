@@ -4,9 +4,9 @@ use Rattle.clio_accept.specs.declared.fault.AcceptFault.{AcceptFault}
 use Rattle.clio_accept.specs.declared.fault.AcceptFault.TheVariants as accept_faults
 use Rattle.clio_source.specs.declared.fault.SourceRefusal.{SourceRefusal}
 use Rattle.clio_source.specs.declared.fault.SourceRefusal.TheVariants as source_refusals
-use Rattle.dx_model.specs.Values.{Text}
+use Rattle.dx_ports.specs.Texts.{Text}
 use Rattle.dx_schema.specs.Forest.{Forest}
-use Rattle.dx_schema.specs.Tables.{determinations_of, table_at}
+use Rattle.dx_schema.specs.Tables.{determinations_of, schema_table}
 use Rattle.dx_rule_text.specs.Printed.{table_name}
 use Rattle.dx_tokens.specs.declared.faults.TextFault.{TextFault}
 use Rattle.dx_tokens.specs.declared.faults.TextFault.TheVariants as text_faults
@@ -48,11 +48,11 @@ source_refusal (source_refusals.Limit limit) = refusals.Limit limit
 
 -- the name of a column of a table
 abbrev pub column_text : Forest → ℕ → ℕ → Text
-column_text schema t c = slice_index_or (table_at schema t).columns c []
+column_text schema t c = slice_index_or (schema_table schema t).columns c []
 
 -- the columns on the left of a determination of a table: a key, or a dependency after the keys
 abbrev pub left_columns : Forest → ℕ → ℕ → List ℕ
-left_columns schema t k = (slice_index_or (determinations_of (table_at schema t)) k (record { left = []; right = [] })).left
+left_columns schema t k = (slice_index_or (determinations_of (schema_table schema t)) k (record { left = []; right = [] })).left
 
 -- the clash with the names of its table, of the columns on the left of its determination and of its column in the target
 abbrev pub named_clash : Forest → Clash → Refusal
@@ -65,18 +65,18 @@ exchange_refusal target (exchange_faults.Limit limit) = refusals.Limit limit
 exchange_refusal target exchange_faults.Memory = refusals.Usage
 
 -- it is a clash
-abbrev pub IsClash : Refusal → Type 0
-IsClash (refusals.Clash clash table key column) = Unit {0}
-IsClash refusals.Usage = ⊥
-IsClash (refusals.Mapping fault) = ⊥
-IsClash (refusals.Rows file fault) = ⊥
-IsClash (refusals.Limit limit) = ⊥
-IsClash (refusals.Query fault) = ⊥
-IsClash (refusals.Other fault) = ⊥
+abbrev pub IsClashRefusal : Refusal → Type 0
+IsClashRefusal (refusals.Clash clash table key column) = Unit {0}
+IsClashRefusal refusals.Usage = ⊥
+IsClashRefusal (refusals.Mapping fault) = ⊥
+IsClashRefusal (refusals.Rows file fault) = ⊥
+IsClashRefusal (refusals.Limit limit) = ⊥
+IsClashRefusal (refusals.Query fault) = ⊥
+IsClashRefusal (refusals.Other fault) = ⊥
 
 -- two refusals are alike: they are one, or they are clashes, of which there may be many
 abbrev pub AreAlike : Refusal → Refusal → Type 0
-AreAlike d e = (d ≡ e) ⊎ (IsClash d × IsClash e)
+AreAlike d e = (d ≡ e) ⊎ (IsClashRefusal d × IsClashRefusal e)
 
 -- the ending of a refusal
 abbrev pub refusal_ending : Refusal → Ending

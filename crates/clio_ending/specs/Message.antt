@@ -9,7 +9,7 @@ use Rattle.dx_json.specs.declared.fault.JsonKind.{JsonKind}
 use Rattle.dx_json.specs.declared.fault.JsonKind.TheVariants as json_kinds
 use Rattle.dx_model.specs.declared.values.Value.{Value}
 use Rattle.dx_model.specs.declared.values.Value.TheVariants.{Const, Null}
-use Rattle.dx_model.specs.Values.{Text}
+use Rattle.dx_ports.specs.Texts.{Text}
 use Rattle.dx_tokens.specs.Quoted.{quoted}
 use Rattle.dx_rule_text.specs.Printed.{separated}
 use Rattle.dx_keys.specs.declared.answers.Clash.{Clash}

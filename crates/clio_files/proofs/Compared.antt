@@ -16,7 +16,7 @@ use Rattle.clio_files.specs.Comparisons.{AddsDirection, AreComparedFiles, AreDir
 use Rattle.clio_files.specs.Files.{AreTableFiles}
 use Rattle.clio_files.specs.Laws.{ComparedFilesAreOne, ComparedFilesExist, ComparedNamesAreApart, HaveColumns}
 use Rattle.clio_files.specs.Printing.{AddsTables}
-use Rattle.clio_files.specs.Sheets.{Told}
+use Rattle.clio_files.specs.Sheets.{PrintedFile}
 use Rattle.clio_files.proofs.Existing.{table_files}
 use Rattle.clio_files.proofs.OneList.{table_files_are_one}
 use Rattle.clio_files.proofs.OwnNames.{Name, distinct_append, fronted, name_in, names_of, table_names}
@@ -28,10 +28,10 @@ pub on_ok : {A E P Q : Type 0} (r : Result A E) → (P → Q) → OnOk r P → O
 on_ok (Ok x) f p = f p
 on_ok (Err e) f p = tt
 
-pub none_added : (direction : List ℕ) (source target : Forest) (files : List Told) → AddsDirection direction source target answers.Implies files files
+pub none_added : (direction : List ℕ) (source target : Forest) (files : List PrintedFile) → AddsDirection direction source target answers.Implies files files
 none_added direction source target files = record { files = []; are = refl; is = sym (append-nil files) }
 
-pub both_added : (direction front back : List ℕ) (source target : Forest) (rule : ℕ) (I K : List TableRows) (old mid new : List Told)
+pub both_added : (direction front back : List ℕ) (source target : Forest) (rule : ℕ) (I K : List TableRows) (old mid new : List PrintedFile)
     → front ≡ source_front direction → back ≡ target_front direction
     → AddsTables front (tables_of source) I old mid → AddsTables back (tables_of target) K mid new
     → AddsDirection direction source target (answers.Refuted rule I K) old new
@@ -40,10 +40,10 @@ both_added direction front back source target rule I K old mid new f b x y =
     let q = subst (λ n. AddsTables n (tables_of target) K mid new) b y in record {
       files = p.tables ++ q.tables;
       are = record { sources = p.tables; sources_are = p.are; targets = q.tables; targets_are = q.are; is = refl };
-      is = q.is ∙ ap (λ (fs : List Told). fs ++ q.tables) p.is ∙ append_assoc old p.tables q.tables;
+      is = q.is ∙ ap (λ (fs : List PrintedFile). fs ++ q.tables) p.is ∙ append_assoc old p.tables q.tables;
     }
 
-pub all_added : (source target : Forest) (c : Comparison) (none mid new : List Told) → none ≡ []
+pub all_added : (source target : Forest) (c : Comparison) (none mid new : List PrintedFile) → none ≡ []
     → AddsDirection (codes "forward") source target c.forward none mid → AddsDirection (codes "backward") source target c.backward mid new
     → AreComparedFiles source target c new
 all_added source target c none mid new e p q = record {
@@ -51,19 +51,19 @@ all_added source target c none mid new e p q = record {
   forward_are = p.are;
   backward = q.files;
   backward_are = q.are;
-  is = q.is ∙ ap (λ (fs : List Told). fs ++ q.files) (p.is ∙ ap (λ (fs : List Told). fs ++ p.files) e);
+  is = q.is ∙ ap (λ (fs : List PrintedFile). fs ++ q.files) (p.is ∙ ap (λ (fs : List PrintedFile). fs ++ p.files) e);
 }
 
 -- ---- they exist
 
 tables_exist : (front : Name) (f : Forest) (I : List TableRows) → HaveNoMarks f → AreTables (tables_of f) → Each (facts I) (λ x. 1 ≤ length x.row)
-    → (fs : List Told) × AreTableFiles front 0 (tables_of f) I fs
+    → (fs : List PrintedFile) × AreTableFiles front 0 (tables_of f) I fs
 tables_exist front f I marks tables wide =
     table_files front 0 (tables_of f) I marks (λ t m. (tables.each_table t m).some_column) (λ t row m. wide _ (fact_from_row I t row m))
 
 direction_exists : (direction : Name) (source target : Forest) (answer : Answer) → HaveNoMarks source → HaveNoMarks target
     → AreTables (tables_of source) → AreTables (tables_of target) → HaveColumns answer
-    → (fs : List Told) × AreDirectionFiles direction source target answer fs
+    → (fs : List PrintedFile) × AreDirectionFiles direction source target answer fs
 direction_exists direction source target answers.Implies sm tm ss ts wide = ([], refl)
 direction_exists direction source target (answers.Refuted rule I K) sm tm ss ts wide =
     let p = tables_exist (source_front direction) source I sm ss wide.0 in
@@ -78,19 +78,19 @@ files_exist source target c fits ss ts forward backward =
 
 -- ---- they are one list
 
-direction_is_one : (direction : Name) (source target : Forest) (answer : Answer) (fs gs : List Told) → AreDirectionFiles direction source target answer fs
+direction_is_one : (direction : Name) (source target : Forest) (answer : Answer) (fs gs : List PrintedFile) → AreDirectionFiles direction source target answer fs
     → AreDirectionFiles direction source target answer gs → fs ≡ gs
 direction_is_one direction source target answers.Implies fs gs p q = p ∙ sym q
 direction_is_one direction source target (answers.Refuted rule I K) fs gs p q =
     let a = table_files_are_one (source_front direction) 0 (tables_of source) I p.sources q.sources p.sources_are q.sources_are in
     let b = table_files_are_one (target_front direction) 0 (tables_of target) K p.targets q.targets p.targets_are q.targets_are in
-    p.is ∙ ap (λ (xs : List Told). xs ++ p.targets) a ∙ ap (λ (xs : List Told). q.sources ++ xs) b ∙ sym q.is
+    p.is ∙ ap (λ (xs : List PrintedFile). xs ++ p.targets) a ∙ ap (λ (xs : List PrintedFile). q.sources ++ xs) b ∙ sym q.is
 
 pub one_list : ComparedFilesAreOne
 one_list source target c files others p q =
     let a = direction_is_one (codes "forward") source target c.forward p.forward q.forward p.forward_are q.forward_are in
     let b = direction_is_one (codes "backward") source target c.backward p.backward q.backward p.backward_are q.backward_are in
-    p.is ∙ ap (λ (xs : List Told). xs ++ p.backward) a ∙ ap (λ (xs : List Told). q.forward ++ xs) b ∙ sym q.is
+    p.is ∙ ap (λ (xs : List PrintedFile). xs ++ p.backward) a ∙ ap (λ (xs : List PrintedFile). q.forward ++ xs) b ∙ sym q.is
 
 -- ---- their names
 
@@ -143,24 +143,24 @@ two_own first place front back source target ss ts a b s t =
       at = at_both 0 first xs ys (fronted_at front 0 first (tables_of source) a) (fronted_at back 0 first (tables_of target) b);
     }
 
-forward_own : (source target : Forest) (answer : Answer) (fs : List Told) → AreTables (tables_of source) → AreTables (tables_of target)
+forward_own : (source target : Forest) (answer : Answer) (fs : List PrintedFile) → AreTables (tables_of source) → AreTables (tables_of target)
     → AreDirectionFiles (codes "forward") source target answer fs → AreOwn 102 (names_of fs)
-forward_own source target answers.Implies fs ss ts p = subst (λ (xs : List Told). AreOwn 102 (names_of xs)) (sym p) (none_own 102)
+forward_own source target answers.Implies fs ss ts p = subst (λ (xs : List PrintedFile). AreOwn 102 (names_of xs)) (sym p) (none_own 102)
 forward_own source target (answers.Refuted rule I K) fs ss ts p =
     let front = source_front (codes "forward") in
     let back = target_front (codes "forward") in
-    let names = ap names_of p.is ∙ map-append (λ (f : Told). f.name) p.sources p.targets
+    let names = ap names_of p.is ∙ map-append (λ (f : PrintedFile). f.name) p.sources p.targets
     ∙ ap (λ (ns : List Name). ns ++ names_of p.targets) (table_names front 0 (tables_of source) I p.sources p.sources_are)
     ∙ ap (λ (ns : List Name). map (fronted front) (tables_of source) ++ ns) (table_names back 0 (tables_of target) K p.targets p.targets_are) in
     subst (AreOwn 102) (sym names) (two_own 102 8 front back source target ss ts (λ r. refl) (λ r. refl) (λ r. refl) (λ r. refl))
 
-backward_own : (source target : Forest) (answer : Answer) (fs : List Told) → AreTables (tables_of source) → AreTables (tables_of target)
+backward_own : (source target : Forest) (answer : Answer) (fs : List PrintedFile) → AreTables (tables_of source) → AreTables (tables_of target)
     → AreDirectionFiles (codes "backward") source target answer fs → AreOwn 98 (names_of fs)
-backward_own source target answers.Implies fs ss ts p = subst (λ (xs : List Told). AreOwn 98 (names_of xs)) (sym p) (none_own 98)
+backward_own source target answers.Implies fs ss ts p = subst (λ (xs : List PrintedFile). AreOwn 98 (names_of xs)) (sym p) (none_own 98)
 backward_own source target (answers.Refuted rule I K) fs ss ts p =
     let front = source_front (codes "backward") in
     let back = target_front (codes "backward") in
-    let names = ap names_of p.is ∙ map-append (λ (f : Told). f.name) p.sources p.targets
+    let names = ap names_of p.is ∙ map-append (λ (f : PrintedFile). f.name) p.sources p.targets
     ∙ ap (λ (ns : List Name). ns ++ names_of p.targets) (table_names front 0 (tables_of source) I p.sources p.sources_are)
     ∙ ap (λ (ns : List Name). map (fronted front) (tables_of source) ++ ns) (table_names back 0 (tables_of target) K p.targets p.targets_are) in
     subst (AreOwn 98) (sym names) (two_own 98 9 front back source target ss ts (λ r. refl) (λ r. refl) (λ r. refl) (λ r. refl))
@@ -169,7 +169,7 @@ pub names_are_apart : ComparedNamesAreApart
 names_are_apart source target c files ss ts p =
     let a = forward_own source target c.forward p.forward ss ts p.forward_are in
     let b = backward_own source target c.backward p.backward ss ts p.backward_are in
-    let names = ap names_of p.is ∙ map-append (λ (f : Told). f.name) p.forward p.backward in
+    let names = ap names_of p.is ∙ map-append (λ (f : PrintedFile). f.name) p.forward p.backward in
     subst Distinct (sym names)
     (distinct_append (names_of p.forward) (names_of p.backward) a.distinct b.distinct
     (apart_at 0 102 98 (names_of p.forward) (names_of p.backward) a.at b.at (λ e. absurd (omega (arith, e)))))

@@ -9,7 +9,7 @@ use Rattle.dx_model.specs.Values.{Rows}
 use Rattle.dx_schema.specs.Forest.{none}
 use Rattle.dx_exchange.specs.declared.mode.Mode.TheVariants.{Plain}
 use Rattle.clio_files.specs.Files.{contents_of, summary_of}
-use Rattle.clio_files.specs.Sheets.{Told, file_of, fold_sheet, nulls_sheet}
+use Rattle.clio_files.specs.Sheets.{PrintedFile, file_of, fold_sheet, nulls_sheet}
 use Rattle.clio_files.specs.Texts.{texts_told}
 
 -- a(x0, x1) -> p(x1, y0): of a place the text of x1 alone is kept
@@ -61,7 +61,7 @@ unfolding first second rows
 three = refl
 
 -- a line for each file, and the bytes in a row
-two : List Told
+two : List PrintedFile
 two = record { name = codes "p.csv"; bytes = codes "a\n"; count = 12 } ∷ record { name = codes "q.csv"; bytes = codes "b\n"; count = 0 } ∷ []
 
 summary : summary_of two ≡ codes "p.csv 12\nq.csv 0\n"

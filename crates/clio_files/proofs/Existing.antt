@@ -18,24 +18,24 @@ use Rattle.dx_instance.specs.Stored.{TableRows, facts, rows_of}
 use Rattle.dx_instance.specs.ValueText.{value_text_of}
 use Rattle.dx_instance.proofs.StoredFacts.{fact_from_row}
 use Rattle.dx_schema.specs.Forest.{Forest}
-use Rattle.dx_schema.specs.Tables.{TableOf, table_at, tables_of}
-use Rattle.dx_csv.specs.Print.{HasNoMark, lines_text, table_lines}
+use Rattle.dx_schema.specs.Tables.{TableOf, schema_table, tables_of}
+use Rattle.dx_csv.specs.Print.{HasNoMark, records_text, table_lines}
 use Rattle.dx_csv.proofs.TableTextFacts.{printed-reads-back}
 use Rattle.dx_json.proofs.OneText.{has_text}
 use Rattle.clio_source.specs.Source.{csv_name, roots, json_name}
 use Rattle.clio_files.specs.Files.{AreTableFiles, IsTableFile}
 use Rattle.clio_files.specs.Laws.{FilesExist}
 use Rattle.clio_files.specs.Nested.{AreRootFiles, IsRootFile}
-use Rattle.clio_files.specs.Sheets.{AreNulls, Told}
+use Rattle.clio_files.specs.Sheets.{AreTargetNulls, PrintedFile}
 
 row_total : IsTotalOrder row_cmp
 row_total = lists_total value_total
 
 table_file : (front : List ℕ) (t : TableOf) (rows : List (List Value)) → HasNoMark t.columns → 1 ≤ length t.columns → Each rows (λ row. 1 ≤ length row)
-    → (f : Told) × IsTableFile front t rows f
+    → (f : PrintedFile) × IsTableFile front t rows f
 table_file front t rows mark some wide =
     let sorted = in_order row_cmp row_total row_exact rows in (
-      record { name = front ++ csv_name t.name; bytes = lines_text (table_lines t.columns sorted); count = length sorted },
+      record { name = front ++ csv_name t.name; bytes = records_text (table_lines t.columns sorted); count = length sorted },
       record {
         name = refl;
         bytes = record {
@@ -64,14 +64,14 @@ table_file front t rows mark some wide =
 
 pub table_files : (front : List ℕ) (n : ℕ) (ts : List TableOf) (T : List TableRows) → Each ts (λ t. HasNoMark t.columns) → Each ts (λ t. 1 ≤ length t.columns)
     → ((t : ℕ) → Each (rows_of T t) (λ row. 1 ≤ length row))
-    → (fs : List Told) × AreTableFiles front n ts T fs
+    → (fs : List PrintedFile) × AreTableFiles front n ts T fs
 table_files front n [] T marks some wide = ([], tt)
 table_files front n (t ∷ ts) T marks some wide =
     let f = table_file front t (rows_of T n) (marks t (here refl)) (some t (here refl)) (wide n) in
     let fs = table_files front (suc n) ts T (λ u m. marks u (there m)) (λ u m. some u (there m)) wide in
     (f.0 ∷ fs.0, (f.1, fs.1))
 
-pub nulls_exist : (T : List Fact) → (ns : List NullId) × AreNulls T ns
+pub nulls_exist : (T : List Fact) → (ns : List NullId) × AreTargetNulls T ns
 nulls_exist T =
     let all = nulls_in (values T) in (
       in_order null_cmp null_total null_exact all,
@@ -84,14 +84,14 @@ nulls_exist T =
       },
     )
 
-root_file : (target : Forest) (T : List TableRows) (root : ℕ) → (f : Told) × IsRootFile target T root f
+root_file : (target : Forest) (T : List TableRows) (root : ℕ) → (f : PrintedFile) × IsRootFile target T root f
 root_file target T root =
     let text = has_text T target root in (
-      record { name = json_name (table_at target root).name; bytes = text.0; count = length (rows_of T root) },
+      record { name = json_name (schema_table target root).name; bytes = text.0; count = length (rows_of T root) },
       record { name = refl; bytes = text.1; count = refl },
     )
 
-root_files : (target : Forest) (T : List TableRows) (rs : List ℕ) → (fs : List Told) × AreRootFiles target T rs fs
+root_files : (target : Forest) (T : List TableRows) (rs : List ℕ) → (fs : List PrintedFile) × AreRootFiles target T rs fs
 root_files target T [] = ([], tt)
 root_files target T (r ∷ rs) =
     let f = root_file target T r in

@@ -15,13 +15,14 @@ use Rattle.dx_model.specs.declared.values.Value.{Value}
 use Rattle.dx_model.specs.declared.values.Value.TheVariants.{Const, Null}
 use Rattle.dx_model.specs.declared.facts.Fact.{Fact}
 use Rattle.dx_model.specs.Instances.{values}
-use Rattle.dx_model.specs.Values.{NullsAscend, Text, null_cmp, value_cmp}
+use Rattle.dx_model.specs.Values.{NullsAscend, null_cmp, value_cmp}
+use Rattle.dx_ports.specs.Texts.{Text}
 use Rattle.dx_instance.specs.Cells.{NumberTable, numbers_at}
-use Rattle.dx_instance.specs.Numbers.{ValuesAscend, value_of}
+use Rattle.dx_instance.specs.Numbers.{ValuesAscend, value_of, IsConstant}
 use Rattle.dx_instance.specs.Shown.{numbers_of_table, shown_row, shown_tables}
 use Rattle.dx_instance.specs.Stored.{facts, facts_from}
-use Rattle.clio_files.specs.Marks.{AreMarks, IsConstant, IsMarked, IsNull, numbers_in}
-use Rattle.clio_files.specs.Sheets.{AreNulls}
+use Rattle.clio_files.specs.Marks.{AreMarks, IsMarked, IsNull, table_numbers}
+use Rattle.clio_files.specs.Sheets.{AreTargetNulls}
 
 -- ---- constants come before nulls
 
@@ -119,13 +120,13 @@ rows_marked first seen rows i row new h e a =
 
 -- one table more
 pub tables_marked : (first : ℕ) (ts : List NumberTable) (i : ℕ) (new : List Bool) → i < length ts
-    → AreMarks first (numbers_in (take i ts) ++ concat (numbers_of_table ts i).rows) new → AreMarks first (numbers_in (take (i + 1) ts)) new
+    → AreMarks first (table_numbers (take i ts) ++ concat (numbers_of_table ts i).rows) new → AreMarks first (table_numbers (take (i + 1) ts)) new
 tables_marked first ts i new h a =
     let t : NumberTable = record { width = 0; rows = [] } in
     let numbers : NumberTable → List ℕ = λ t. concat t.rows in
     subst (λ l. AreMarks first l new)
-    (sym (ap numbers_in (take_more ts i t h) ∙ flat_map-append numbers (take i ts) (get_or ts i t ∷ [])
-    ∙ ap (λ (l : List ℕ). numbers_in (take i ts) ++ l) (append-nil (concat (get_or ts i t).rows))))
+    (sym (ap table_numbers (take_more ts i t h) ∙ flat_map-append numbers (take i ts) (get_or ts i t ∷ [])
+    ∙ ap (λ (l : List ℕ). table_numbers (take i ts) ++ l) (append-nil (concat (get_or ts i t).rows))))
     a
 
 -- ---- the nulls of marked numbers
@@ -206,18 +207,18 @@ values_of_rows S t (r ∷ rows) fs =
     ∙ ap (λ (l : List Value). l ++ values fs) (sym (map-append (value_of S) r (concat rows)))
 
 values_from : (S : List Value) (t : ℕ) (ts : List NumberTable)
-    → values (facts_from t (shown_tables S ts)) ≡ map (value_of S) (numbers_in ts)
+    → values (facts_from t (shown_tables S ts)) ≡ map (value_of S) (table_numbers ts)
 values_from S t [] = refl
 values_from S t (n ∷ ts) =
     values_of_rows S t n.rows (facts_from (suc t) (shown_tables S ts))
     ∙ ap (λ (l : List Value). map (value_of S) (concat n.rows) ++ l) (values_from S (suc t) ts)
-    ∙ sym (map-append (value_of S) (concat n.rows) (numbers_in ts))
+    ∙ sym (map-append (value_of S) (concat n.rows) (table_numbers ts))
 
 -- ascending nulls that are those of the marked numbers
 pub marked_are_nulls : (S : List Value) (ts : List NumberTable) (first : ℕ) (marks : List Bool) (ns : List NullId)
-    → first + length marks ≡ length S → ((k : ℕ) → k < first → IsConstant (value_of S k)) → AreMarks first (numbers_in ts) marks
+    → first + length marks ≡ length S → ((k : ℕ) → k < first → IsConstant (value_of S k)) → AreMarks first (table_numbers ts) marks
     → NullsAscend ns → ((n : NullId) → (n ∈ ns) ↔ IsMarked S first marks n)
-    → AreNulls (facts (shown_tables S ts)) ns
+    → AreTargetNulls (facts (shown_tables S ts)) ns
 marked_are_nulls S ts first marks ns many constants marked ascend members = record { ascend = ascend; exact = λ n. (to n, from n) }
   where
     inside : (k : ℕ) → get_or marks k false ≡ true → k < length marks
@@ -228,9 +229,9 @@ marked_are_nulls S ts first marks ns many constants marked ascend members = reco
     to n m =
         let w = (members n).0 m in
         let there = in_map (value_of S) ((marked w.0 (inside w.0 w.1)).0 w.1) in
-        subst (λ l. Null n ∈ l) (sym (values_from S 0 ts)) (subst (λ v. v ∈ map (value_of S) (numbers_in ts)) w.2 there)
+        subst (λ l. Null n ∈ l) (sym (values_from S 0 ts)) (subst (λ v. v ∈ map (value_of S) (table_numbers ts)) w.2 there)
 
-    marked_at : (n : NullId) (k : ℕ) → k ∈ numbers_in ts → value_of S k ≡ Null n → n ∈ ns
+    marked_at : (n : NullId) (k : ℕ) → k ∈ table_numbers ts → value_of S k ≡ Null n → n ∈ ns
     marked_at n k m e = elim (cases_lt k first) [
       | inl l ↦ let c = constants k l in absurd (cc (c.1, e))
       | inr r ↦
@@ -238,21 +239,21 @@ marked_are_nulls S ts first marks ns many constants marked ascend members = reco
           let h : k - first < length marks = omega (arith, under S k n e) in
           (members n).1 (
             k - first,
-            (marked (k - first) h).1 (subst (λ i. i ∈ numbers_in ts) (sym is) m),
+            (marked (k - first) h).1 (subst (λ i. i ∈ table_numbers ts) (sym is) m),
             ap (value_of S) is ∙ e,
           )
     ]
 
     from : (n : NullId) → Null n ∈ values (facts (shown_tables S ts)) → n ∈ ns
     from n m =
-        let w = from_map (value_of S) (numbers_in ts) (subst (λ l. Null n ∈ l) (values_from S 0 ts) m) in
+        let w = from_map (value_of S) (table_numbers ts) (subst (λ l. Null n ∈ l) (values_from S 0 ts) m) in
         marked_at n w.0 w.1 w.2
 
 -- the nulls of the marked numbers, if they were pushed
 pub nulls_marked : (r : Result (Vec NullId Global) AllocError) (S : List Value) (ts : List NumberTable) (first : ℕ) (marks : List Bool)
-    → first + length marks ≡ length S → ((k : ℕ) → k < first → IsConstant (value_of S k)) → AreMarks first (numbers_in ts) marks
+    → first + length marks ≡ length S → ((k : ℕ) → k < first → IsConstant (value_of S k)) → AreMarks first (table_numbers ts) marks
     → IfOk r (λ ns. NullsAscend ns.items)
     → IfOk r (λ ns. (n : NullId) → (n ∈ ns.items) ↔ IsMarked S first marks n)
-    → IfOk r (λ ns. AreNulls (facts (shown_tables S ts)) ns.items)
+    → IfOk r (λ ns. AreTargetNulls (facts (shown_tables S ts)) ns.items)
 nulls_marked (Ok ns) S ts first marks many constants marked a m = marked_are_nulls S ts first marks ns.items many constants marked a m
 nulls_marked (Err x) S ts first marks many constants marked a m = tt

@@ -8,19 +8,19 @@ use Rattle.dx_instance.specs.NullMaps.{pairs_of}
 use Rattle.dx_instance.specs.Stored.{TableRows}
 use Rattle.dx_schema.specs.Forest.{Forest}
 use Rattle.dx_schema.specs.Inner.{AreAscending}
-use Rattle.dx_schema.specs.Tables.{TableOf, table_at, tables_of, no_table}
+use Rattle.dx_schema.specs.Tables.{TableOf, schema_table, tables_of, no_table}
 use Rattle.clio_source.specs.Source.{csv_name, json_name, roots}
 use Rattle.clio_source.proofs.Roots.{is_root, names_differ, no_parent}
 use Rattle.clio_files.specs.Files.{AreTableFiles}
-use Rattle.clio_files.specs.Laws.{IsFree, NamesAreApart}
+use Rattle.clio_files.specs.Laws.{IsFreeName, NamesAreApart}
 use Rattle.clio_files.specs.Nested.{AreRootFiles}
-use Rattle.clio_files.specs.Sheets.{Told, file_of, fold_sheet, nulls_sheet}
+use Rattle.clio_files.specs.Sheets.{PrintedFile, file_of, fold_sheet, nulls_sheet}
 
 abbrev pub Name : Type 0
 Name = List ℕ
 
-abbrev pub names_of : List Told → List Name
-names_of files = map (λ (f : Told). f.name) files
+abbrev pub names_of : List PrintedFile → List Name
+names_of files = map (λ (f : PrintedFile). f.name) files
 
 abbrev pub name_in : TableOf → Name
 name_in t = t.name
@@ -33,7 +33,7 @@ abbrev pub fronted : Name → TableOf → Name
 fronted front t = front ++ csv_name t.name
 
 abbrev json_of : Forest → ℕ → Name
-json_of target root = json_name (table_at target root).name
+json_of target root = json_name (schema_table target root).name
 
 -- ---- tables by their numbers
 
@@ -42,13 +42,13 @@ at_place [] x m = elim m [ ]
 at_place (t ∷ ts) x (here e) = (0, omega arith, e)
 at_place (t ∷ ts) x (there m) = let r = at_place ts x m in let lt = r.1 in (suc r.0, omega (arith, lt), r.2)
 
-free_tables : (target : Forest) → ((t : ℕ) → t < length (tables_of target) → IsFree (table_at target t).name)
-    → Each (tables_of target) (λ (t : TableOf). IsFree t.name)
-free_tables target free x m = let r = at_place (tables_of target) x m in subst (λ (t : TableOf). IsFree t.name) r.2 (free r.0 r.1)
+free_tables : (target : Forest) → ((t : ℕ) → t < length (tables_of target) → IsFreeName (schema_table target t).name)
+    → Each (tables_of target) (λ (t : TableOf). IsFreeName t.name)
+free_tables target free x m = let r = at_place (tables_of target) x m in subst (λ (t : TableOf). IsFreeName t.name) r.2 (free r.0 r.1)
 
 -- ---- the names of the files
 
-pub table_names : (front : Name) (n : ℕ) (ts : List TableOf) (T : List TableRows) (fs : List Told) → AreTableFiles front n ts T fs
+pub table_names : (front : Name) (n : ℕ) (ts : List TableOf) (T : List TableRows) (fs : List PrintedFile) → AreTableFiles front n ts T fs
     → names_of fs ≡ map (fronted front) ts
 table_names front n [] T [] p = refl
 table_names front n [] T (f ∷ fs) p = absurd p
@@ -58,7 +58,7 @@ table_names front n (t ∷ ts) T (f ∷ fs) p =
     let rest = table_names front (suc n) ts T fs p.1 in
     (λ i. first i ∷ rest i)
 
-root_names : (target : Forest) (T : List TableRows) (rs : List ℕ) (fs : List Told) → AreRootFiles target T rs fs
+root_names : (target : Forest) (T : List TableRows) (rs : List ℕ) (fs : List PrintedFile) → AreRootFiles target T rs fs
     → names_of fs ≡ map (json_of target) rs
 root_names target T [] [] p = refl
 root_names target T [] (f ∷ fs) p = absurd p
@@ -81,7 +81,7 @@ last_csv ts n m =
 last_json : (target : Forest) (rs : List ℕ) (n : Name) → n ∈ map (json_of target) rs → last n ≡ 110
 last_json target rs n m =
     let p = from_map (json_of target) rs m in
-    ap last (sym p.2) ∙ ap (λ (v : Name). get_or v 0 0) (reverse-append (table_at target p.0).name (codes ".json"))
+    ap last (sym p.2) ∙ ap (λ (v : Name). get_or v 0 0) (reverse-append (schema_table target p.0).name (codes ".json"))
 
 -- ---- distinct names
 
@@ -107,7 +107,7 @@ json_distinct target [] d up within = tt
 json_distinct target (r ∷ rs) d up within = (
   (λ m.
       let p = from_map (json_of target) rs m in
-      let e = append_cancel_right (table_at target p.0).name (table_at target r).name (codes ".json") p.2 in
+      let e = append_cancel_right (schema_table target p.0).name (schema_table target r).name (codes ".json") p.2 in
       names_differ target r p.0 d (up.0 p.0 p.1) (within p.0 (there p.1)) (sym e)),
   json_distinct target rs d up.1 (λ u m. within u (there m)),
 )
@@ -138,7 +138,7 @@ module _ (ts : List TableOf) (target : Forest) (rs : List ℕ) where
   no_document : (n : Name) → last n ≡ 118 → ¬ (n ∈ map (json_of target) rs)
   no_document n e m = let k = last_json target rs n m in absurd (omega (arith, e, k))
 
-  free_from : Each ts (λ (t : TableOf). IsFree t.name) → (n : Name) → n ∈ map csv_of ts
+  free_from : Each ts (λ (t : TableOf). IsFreeName t.name) → (n : Name) → n ∈ map csv_of ts
       → ¬ (n ∈ (codes "nulls.csv" ∷ codes "fold.csv" ∷ map (json_of target) rs))
   free_from free n m k =
       let p = from_map csv_of ts m in
@@ -154,7 +154,7 @@ module _ (ts : List TableOf) (target : Forest) (rs : List ℕ) where
   two_apart (here e) = let h : 102 ≡ 110 = ap (λ (n : Name). get_or n 0 0) e in absurd (omega (arith, h))
   two_apart (there m) = no_document (codes "nulls.csv") refl m
 
-  pub rest_distinct : Distinct (map name_in ts) → Each ts (λ (t : TableOf). IsFree t.name) → Distinct (map (json_of target) rs) → Distinct rest_of
+  pub rest_distinct : Distinct (map name_in ts) → Each ts (λ (t : TableOf). IsFreeName t.name) → Distinct (map (json_of target) rs) → Distinct rest_of
   rest_distinct d free documents = distinct_append (map csv_of ts) (codes "nulls.csv" ∷ codes "fold.csv" ∷ map (json_of target) rs) (csv_distinct ts d)
       (two_apart, (no_document (codes "fold.csv") refl, documents)) (free_from free)
 
@@ -173,7 +173,7 @@ names_are_apart source target list mode nested R e files tables free p =
     let folded = file_of (fold_sheet (pairs_of e.fold)) in
     let first : names_of p.tables ≡ map csv_of ts = table_names [] 0 ts e.target p.tables p.tables_are in
     let documents = root_names target e.target rs p.documents p.documents_are in
-    let rest = map-append (λ (f : Told). f.name) p.tables (about ∷ folded ∷ p.documents)
+    let rest = map-append (λ (f : PrintedFile). f.name) p.tables (about ∷ folded ∷ p.documents)
     ∙ ap (λ (ns : List Name). ns ++ codes "nulls.csv" ∷ codes "fold.csv" ∷ names_of p.documents) first
     ∙ ap (λ (ns : List Name). map csv_of ts ++ codes "nulls.csv" ∷ codes "fold.csv" ∷ ns) documents in
     let names = ap names_of p.is ∙ ap (λ (ns : List Name). codes "rules.txt" ∷ codes "script.sql" ∷ ns) rest in

@@ -10,18 +10,20 @@ use Rattle.dx_ports.specs.Entries.{entry_of, entries_of}
 use Rattle.dx_model.specs.declared.values.NullId.{NullId}
 use Rattle.dx_model.specs.declared.rules.Rule.{Rule}
 use Rattle.dx_model.specs.declared.facts.NullPair.{NullPair}
-use Rattle.dx_csv.specs.Print.{lines_text}
+use Rattle.dx_csv.specs.Print.{records_text}
 use Rattle.dx_instance.specs.ValueText.{const_text, null_text, value_text_of}
 use Rattle.clio_files.specs.declared.records.Records.{Records}
 use Rattle.clio_files.specs.Printing.{AreRecords}
 use Rattle.dx_model.specs.Rules.{exported}
-use Rattle.dx_model.specs.Values.{Text, Rows}
+use Rattle.dx_model.specs.Values.{Rows}
+use Rattle.dx_ports.specs.Texts.{Text}
 use Rattle.dx_instance.specs.Stored.{TableRows, rows_of}
 use Rattle.dx_schema.specs.Tables.{TableOf}
 use Rattle.dx_tgd.proofs.Lending.{get_map}
 use Rattle.clio_files.specs.declared.printed.Printed.{Printed}
-use Rattle.clio_files.specs.Files.{AreTableFiles, IsTableFile, files_of, line_of, seen, summary_of}
-use Rattle.clio_files.specs.Sheets.{Sheet, Told, exported_names, file_of, fold_sheet, nulls_sheet, rule_of, term_records, texts_of, variable_text}
+use Rattle.clio_files.specs.Files.{AreTableFiles, IsTableFile, files_of, summary_line, printed_view, summary_of}
+use Rattle.clio_files.specs.Sheets.{Sheet, PrintedFile, exported_names, file_of, fold_sheet, nulls_sheet, rule_of_null, term_records, null_texts}
+use Rattle.dx_rule_text.specs.Printed.{variable_text}
 
 -- ---- what is seen of printed files
 
@@ -29,38 +31,38 @@ map_same : (ps : List Printed) → map (λ (p : Printed). p) ps ≡ ps
 map_same [] = refl
 map_same (p ∷ ps) = ap (λ (l : List Printed). p ∷ l) (map_same ps)
 
-entries_seen : (ps : List Printed) → entries_of (map (λ (p : Printed). p.file) ps) ≡ files_of (map seen ps)
+entries_seen : (ps : List Printed) → entries_of (map (λ (p : Printed). p.file) ps) ≡ files_of (map printed_view ps)
 entries_seen [] = refl
 entries_seen (p ∷ ps) = ap (λ es. entry_of p.file ∷ es) (entries_seen ps)
 
 -- the files of printed files, taken over one by one
 pub files_taken : (files : List File) (taken ps : List Printed) → files ≡ map (λ (p : Printed). p.file) taken
     → map (λ (p : Printed). p) taken ≡ ps
-    → entries_of files ≡ files_of (map seen ps)
+    → entries_of files ≡ files_of (map printed_view ps)
 files_taken files taken ps e t =
     ap entries_of (e ∙ ap (λ (l : List Printed). map (λ (p : Printed). p.file) l) (sym (map_same taken) ∙ t)) ∙ entries_seen ps
 
 -- the line of the summary for a printed file
 abbrev pub printed_line : Printed → Text
-printed_line p = line_of (seen p)
+printed_line p = summary_line (printed_view p)
 
-lines_seen : (ps : List Printed) → flat_map printed_line ps ≡ summary_of (map seen ps)
+lines_seen : (ps : List Printed) → flat_map printed_line ps ≡ summary_of (map printed_view ps)
 lines_seen [] = refl
-lines_seen (p ∷ ps) = ap (λ (l : List ℕ). line_of (seen p) ++ l) (lines_seen ps)
+lines_seen (p ∷ ps) = ap (λ (l : List ℕ). summary_line (printed_view p) ++ l) (lines_seen ps)
 
 pub all_lines : (ps : List Printed) (i : ℕ) (text : Text) → length ps ≤ i → text ≡ flat_map printed_line (take i ps)
-    → text ≡ summary_of (map seen ps)
+    → text ≡ summary_of (map printed_view ps)
 all_lines ps i text h e = e ∙ ap (flat_map printed_line) (take_all i ps h) ∙ lines_seen ps
 
 -- the files of two more
-pub two_more : (ps qs rs : List Printed) (a b : Printed) (s t : Told) → seen a ≡ s → seen b ≡ t → qs ≡ ps ++ a ∷ [] → rs ≡ qs ++ b ∷ []
-    → map seen rs ≡ map seen ps ++ s ∷ t ∷ []
+pub two_more : (ps qs rs : List Printed) (a b : Printed) (s t : PrintedFile) → printed_view a ≡ s → printed_view b ≡ t → qs ≡ ps ++ a ∷ [] → rs ≡ qs ++ b ∷ []
+    → map printed_view rs ≡ map printed_view ps ++ s ∷ t ∷ []
 two_more ps qs rs a b s t f g d h =
-    rw (h, d, append_assoc ps (a ∷ []) (b ∷ []), map-append seen ps (a ∷ b ∷ []), f, g) refl
+    rw (h, d, append_assoc ps (a ∷ []) (b ∷ []), map-append printed_view ps (a ∷ b ∷ []), f, g) refl
 
 -- ---- tables, one by one
 
-pub are_more : (front : Text) (n : ℕ) (ts : List TableOf) (T : List TableRows) (fs : List Told) (t : TableOf) (f : Told) → AreTableFiles front n ts T fs
+pub are_more : (front : Text) (n : ℕ) (ts : List TableOf) (T : List TableRows) (fs : List PrintedFile) (t : TableOf) (f : PrintedFile) → AreTableFiles front n ts T fs
     → IsTableFile front t (rows_of T (n + length ts)) f
     → AreTableFiles front n (ts ++ t ∷ []) T (fs ++ f ∷ [])
 are_more front n [] T [] t f h k = let e : n + 0 ≡ n = omega arith in (subst (λ m. IsTableFile front t (rows_of T m) f) e k, tt)
@@ -77,14 +79,14 @@ length_take (t ∷ ts) (suc i) h = ap suc (length_take ts i (omega (arith, h)))
 
 -- the file of a sheet
 pub sheet_told : (r : Result Printed AllocError) (name : Text) (records : Records) (s : Sheet)
-    → IfOk r (λ p. (s : Sheet) → name ≡ s.name → AreRecords records (s.header ∷ s.records) → seen p ≡ file_of s) → name ≡ s.name
-    → AreRecords records (s.header ∷ s.records) → IfOk r (λ p. seen p ≡ file_of s)
+    → IfOk r (λ p. (s : Sheet) → name ≡ s.name → AreRecords records (s.header ∷ s.records) → printed_view p ≡ file_of s) → name ≡ s.name
+    → AreRecords records (s.header ∷ s.records) → IfOk r (λ p. printed_view p ≡ file_of s)
 sheet_told (Ok p) name records s f n e = f s n e
 sheet_told (Err x) name records s f n e = tt
 
 pub sheet_is : (s : Sheet) (records : Records) (name bytes : List ℕ) (count : ℕ) → name ≡ s.name
-    → AreRecords records (s.header ∷ s.records) → bytes ≡ lines_text (s.header ∷ s.records) → count ≡ records.count - 1
-    → ◌≡◌ {A = Told} (record { name = name; bytes = bytes; count = count }) (file_of s)
+    → AreRecords records (s.header ∷ s.records) → bytes ≡ records_text (s.header ∷ s.records) → count ≡ records.count - 1
+    → ◌≡◌ {A = PrintedFile} (record { name = name; bytes = bytes; count = count }) (file_of s)
 sheet_is s records name bytes count n h b c =
     let k : count ≡ length s.records = omega (arith, c, h.count) in
     rw (n, b, k) refl
@@ -97,20 +99,20 @@ lines_of s = s.header ∷ s.records
 
 -- the exported variables of the rule of a null
 pub variables_at : (R : List Rule) (n : NullId) (lists : List (List ℕ)) (xs : List ℕ) → lists ≡ map exported R → n.rule < length R
-    → xs ≡ get_or lists n.rule xs → xs ≡ exported (rule_of R n)
+    → xs ≡ get_or lists n.rule xs → xs ≡ exported (rule_of_null R n)
 variables_at R n lists xs e h g =
-    let at : get_or (map exported R) n.rule xs ≡ exported (rule_of R n) =
+    let at : get_or (map exported R) n.rule xs ≡ exported (rule_of_null R n) =
     get_map exported R n.rule xs (record { premise = []; derived = []; conclusion = [] }) h in
     g ∙ ap (λ (l : List (List ℕ)). get_or l n.rule xs) e ∙ at
 
 -- one null more
 pub null_lines_more : (R : List Rule) (rows : Rows) (ns : List NullId) (i : ℕ) (d : NullId) (lines : List (List Text)) → i < length ns
     → lines ≡ lines_of (nulls_sheet R rows (take i ns))
-    → lines ++ term_records (get_or ns i d) (exported_names (rule_of R (get_or ns i d))) (texts_of rows (get_or ns i d))
+    → lines ++ term_records (get_or ns i d) (exported_names (rule_of_null R (get_or ns i d))) (null_texts rows (get_or ns i d))
     ≡ lines_of (nulls_sheet R rows (take (i + 1) ns))
 null_lines_more R rows ns i d lines h e =
     let n = get_or ns i d in
-    let f = λ (m : NullId). term_records m (exported_names (rule_of R m)) (texts_of rows m) in
+    let f = λ (m : NullId). term_records m (exported_names (rule_of_null R m)) (null_texts rows m) in
     let more : flat_map f (take (i + 1) ns) ≡ flat_map f (take i ns) ++ f n =
     rw (take_more ns i d h, flat_map-append f (take i ns) (n ∷ []), append-nil) refl in
     let header : List Text = (nulls_sheet R rows []).header in
@@ -118,7 +120,7 @@ null_lines_more R rows ns i d lines h e =
 
 -- the file of equal rules and nulls
 pub same_told : (R Q : List Rule) (rows : Rows) (ns ms : List NullId) (p : Printed) → Q ≡ R → ms ≡ ns
-    → seen p ≡ file_of (nulls_sheet Q rows ms) → seen p ≡ file_of (nulls_sheet R rows ns)
+    → printed_view p ≡ file_of (nulls_sheet Q rows ms) → printed_view p ≡ file_of (nulls_sheet R rows ns)
 same_told R Q rows ns ms p e d h =
     h ∙ ap (λ (S : List Rule). file_of (nulls_sheet S rows ms)) e ∙ ap (λ (ls : List NullId). file_of (nulls_sheet R rows ls)) d
 

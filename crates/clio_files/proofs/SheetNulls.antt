@@ -23,7 +23,8 @@ use Rattle.dx_model.specs.contracts.values.NullIdOrd.TheImpl.{cmp-value}
 use Rattle.dx_model.specs.contracts.values.NullIdOrd.TheImpl.Laws.{total-law, matches_eq-law}
 use Rattle.dx_model.specs.contracts.values.NullIdEq.TheImpl.Laws.{laws-law}
 use Rattle.dx_model.specs.contracts.values.NullIdPartialEq.TheImpl.{eq-value}
-use Rattle.dx_model.specs.Values.{Text, null_cmp}
+use Rattle.dx_model.specs.Values.{null_cmp}
+use Rattle.dx_ports.specs.Texts.{Text}
 use Rattle.dx_model.specs.Instances.{values, nulls_in}
 use Rattle.dx_instance.specs.Cells.{NumberTable, numbers_at}
 use Rattle.dx_instance.specs.Numbers.{value_of}
@@ -31,7 +32,7 @@ use Rattle.dx_instance.specs.Shown.{numbers_of_table, shown_row, shown_tables}
 use Rattle.dx_instance.specs.Stored.{TableRows, facts_from, facts, rows_of}
 use Rattle.dx_model.specs.Values.{NullsAscend}
 use Rattle.dx_model.proofs.Reduction.{in_nulls, from_nulls, nulls_append}
-use Rattle.clio_files.specs.Sheets.{AreNulls}
+use Rattle.clio_files.specs.Sheets.{AreTargetNulls}
 
 -- ---- the nulls among values
 
@@ -117,7 +118,7 @@ nulls_from k (t ∷ I) = nulls_of_rows k t.rows (facts_from (suc k) I) ∙ ap (�
 
 -- ascending nulls that are those of the tables
 pub are_nulls : (I : List TableRows) (ns : List NullId) → NullsAscend ns → ((n : NullId) → (n ∈ ns) ↔ (n ∈ flat_map table_nulls I))
-    → AreNulls (facts I) ns
+    → AreTargetNulls (facts I) ns
 are_nulls I ns a s = record {
   ascend = a;
   exact = λ n. (
@@ -169,6 +170,6 @@ same_nulls ls ms ns moved filtered n =
 -- the nulls of an instance that were put in order
 pub nulls_are : (r : Result (Vec NullId Global) AllocError) (I : List TableRows) (ms : List NullId) → ms ≡ flat_map table_nulls I
     → IfOk r (λ ns. NullsAscend ns.items)
-    → IfOk r (λ ns. (n : NullId) → (n ∈ ns.items) ↔ (n ∈ ms)) → IfOk r (λ ns. AreNulls (facts I) ns.items)
+    → IfOk r (λ ns. (n : NullId) → (n ∈ ns.items) ↔ (n ∈ ms)) → IfOk r (λ ns. AreTargetNulls (facts I) ns.items)
 nulls_are (Ok ns) I ms e a s = are_nulls I ns.items a (rw e at s)
 nulls_are (Err x) I ms e a s = tt

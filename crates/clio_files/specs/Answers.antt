@@ -1,9 +1,10 @@
 -- The file of the answers of a query.
 use Rattle.std.specs.Prelude.{ℕ, zero, suc, List, [], ◌∷◌, ◌++◌, map, codes}
 use Rattle.std.specs.Fmt.{decimal}
-use Rattle.dx_model.specs.Values.{Text, Tuple}
+use Rattle.dx_model.specs.Values.{Tuple}
+use Rattle.dx_ports.specs.Texts.{Text}
 use Rattle.dx_instance.specs.ValueText.{const_text}
-use Rattle.clio_files.specs.Sheets.{Sheet, Told, file_of}
+use Rattle.clio_files.specs.Sheets.{Sheet, PrintedFile, file_of}
 
 -- the name of a column: `c` and its number
 abbrev pub column_name : ℕ → Text
@@ -23,5 +24,5 @@ answers_sheet width rows = record {
 }
 
 -- the one file of answers
-abbrev pub answer_files : ℕ → List Tuple → List Told
+abbrev pub answer_files : ℕ → List Tuple → List PrintedFile
 answer_files width rows = file_of (answers_sheet width rows) ∷ []

@@ -2,7 +2,7 @@
 use Rattle.std.specs.Prelude.{◌≡◌, List, [], ◌++◌, codes}
 use Rattle.std.specs.Fmt.{decimal}
 use Rattle.dx_ports.specs.Members.{Each}
-use Rattle.dx_model.specs.Values.{Text}
+use Rattle.dx_ports.specs.Texts.{Text}
 use Rattle.dx_instance.specs.Stored.{TableRows, widths}
 use Rattle.dx_schema.specs.Forest.{Forest}
 use Rattle.dx_schema.specs.Tables.{TableOf, schema_widths, tables_of}
@@ -11,7 +11,7 @@ use Rattle.dx_compare.specs.declared.comparing.Answer.{Answer}
 use Rattle.dx_compare.specs.declared.comparing.Answer.TheVariants as answers
 use Rattle.dx_compare.specs.declared.comparing.Comparison.{Comparison}
 use Rattle.clio_files.specs.Files.{AreTableFiles, summary_of}
-use Rattle.clio_files.specs.Sheets.{Told}
+use Rattle.clio_files.specs.Sheets.{PrintedFile}
 
 -- ---- the files
 
@@ -23,23 +23,23 @@ abbrev pub target_front : Text → Text
 target_front direction = direction ++ codes "_target_"
 
 -- two instances that refute a direction: a file for each table of the first, and then for each of the second
-pub record AreRefutingFiles (direction : Text) (source target : Forest) (I K : List TableRows) (files : List Told) : Type 0 where
-  pub sources : List Told
+pub record AreRefutingFiles (direction : Text) (source target : Forest) (I K : List TableRows) (files : List PrintedFile) : Type 0 where
+  pub sources : List PrintedFile
   pub sources_are : AreTableFiles (source_front direction) 0 (tables_of source) I sources
-  pub targets : List Told
+  pub targets : List PrintedFile
   pub targets_are : AreTableFiles (target_front direction) 0 (tables_of target) K targets
   pub is : files ≡ sources ++ targets
 
 -- the files of a direction: none if it is implied
-abbrev pub AreDirectionFiles : Text → Forest → Forest → Answer → List Told → Type 0
+abbrev pub AreDirectionFiles : Text → Forest → Forest → Answer → List PrintedFile → Type 0
 AreDirectionFiles direction source target answers.Implies files = files ≡ []
 AreDirectionFiles direction source target (answers.Refuted rule I K) files = AreRefutingFiles direction source target I K files
 
 -- the files of a comparison: those of its two directions
-pub record AreComparedFiles (source target : Forest) (c : Comparison) (files : List Told) : Type 0 where
-  pub forward : List Told
+pub record AreComparedFiles (source target : Forest) (c : Comparison) (files : List PrintedFile) : Type 0 where
+  pub forward : List PrintedFile
   pub forward_are : AreDirectionFiles (codes "forward") source target c.forward forward
-  pub backward : List Told
+  pub backward : List PrintedFile
   pub backward_are : AreDirectionFiles (codes "backward") source target c.backward backward
   pub is : files ≡ forward ++ backward
 
@@ -51,7 +51,7 @@ direction_text direction answers.Implies = direction ++ codes " yes\n"
 direction_text direction (answers.Refuted rule I K) = direction ++ (codes " no " ++ (decimal rule ++ codes "\n"))
 
 -- a line for each direction, and then the summary of the files
-abbrev pub compared_text : Comparison → List Told → Text
+abbrev pub compared_text : Comparison → List PrintedFile → Text
 compared_text c files =
     direction_text (codes "forward") c.forward ++ (direction_text (codes "backward") c.backward ++ summary_of files)
 
@@ -74,7 +74,7 @@ pub record FitsComparison (source target : Forest) (c : Comparison) : Type 0 whe
   pub target_marks : HaveNoMarks target
 
 -- the files of a direction are added
-pub record AddsDirection (direction : Text) (source target : Forest) (answer : Answer) (old new : List Told) : Type 0 where
-  pub files : List Told
+pub record AddsDirection (direction : Text) (source target : Forest) (answer : Answer) (old new : List PrintedFile) : Type 0 where
+  pub files : List PrintedFile
   pub are : AreDirectionFiles direction source target answer files
   pub is : new ≡ old ++ files

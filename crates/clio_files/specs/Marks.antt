@@ -5,20 +5,16 @@ use Rattle.dx_ports.specs.Members.{◌∈◌}
 use Rattle.dx_model.specs.declared.values.NullId.{NullId}
 use Rattle.dx_model.specs.declared.values.Value.{Value}
 use Rattle.dx_model.specs.declared.values.Value.TheVariants.{Const, Null}
-use Rattle.dx_model.specs.Values.{Text}
+use Rattle.dx_ports.specs.Texts.{Text}
 use Rattle.dx_instance.specs.Cells.{NumberTable}
 use Rattle.dx_instance.specs.Numbers.{value_of}
-
--- a value is a constant, or a null
-abbrev pub IsConstant : Value → Type 0
-IsConstant v = (t : Text) × (v ≡ Const t)
 
 abbrev pub IsNull : Value → Type 0
 IsNull v = (n : NullId) × (v ≡ Null n)
 
 -- the numbers that stand in tables
-abbrev pub numbers_in : List NumberTable → List ℕ
-numbers_in ts = flat_map (λ (t : NumberTable). concat t.rows) ts
+abbrev pub table_numbers : List NumberTable → List ℕ
+table_numbers ts = flat_map (λ (t : NumberTable). concat t.rows) ts
 
 -- of the numbers from `first` on, those that were seen have marks
 abbrev pub AreMarks : ℕ → List ℕ → List Bool → Type 0

@@ -8,15 +8,17 @@ use Rattle.dx_model.specs.declared.values.Value.TheVariants.{Null}
 use Rattle.dx_model.specs.declared.facts.Fact.{Fact}
 use Rattle.dx_model.specs.declared.facts.NullPair.{NullPair}
 use Rattle.dx_model.specs.declared.rules.Rule.{Rule}
-use Rattle.dx_model.specs.Values.{NullsAscend, Rows, Text, Tuple}
+use Rattle.dx_model.specs.Values.{NullsAscend, Rows, Tuple}
+use Rattle.dx_ports.specs.Texts.{Text}
 use Rattle.dx_model.specs.Instances.{values}
 use Rattle.dx_model.specs.Rules.{exported}
 use Rattle.dx_instance.specs.ValueText.{const_text, null_text, value_text_of}
-use Rattle.dx_tgd.specs.Placed.{HasPlace}
-use Rattle.dx_csv.specs.Print.{lines_text}
+use Rattle.dx_tgd.specs.Placed.{NamesPlace}
+use Rattle.dx_csv.specs.Print.{records_text}
+use Rattle.dx_rule_text.specs.Printed.{variable_text}
 
 -- a file as it is told of: its name, its bytes and its count
-pub record Told : Type 0 where
+pub record PrintedFile : Type 0 where
   pub name : Text
   pub bytes : List ℕ
   pub count : ℕ
@@ -28,12 +30,8 @@ pub record Sheet : Type 0 where
   pub records : List (List Text)
 
 -- the file: each record as csv writes it, the header first; the records are counted
-abbrev pub file_of : Sheet → Told
-file_of s = record { name = s.name; bytes = lines_text (s.header ∷ s.records); count = length s.records }
-
--- the name of a variable: `x` and its number
-abbrev pub variable_text : ℕ → Text
-variable_text x = codes "x" ++ decimal x
+abbrev pub file_of : Sheet → PrintedFile
+file_of s = record { name = s.name; bytes = records_text (s.header ∷ s.records); count = length s.records }
 
 -- the names of the exported variables of a rule
 abbrev pub exported_names : Rule → List Text
@@ -46,23 +44,23 @@ term_records n (x ∷ xs) [] = []
 term_records n (x ∷ xs) (t ∷ ts) = (null_text n ∷ x ∷ const_text t ∷ []) ∷ term_records n xs ts
 
 -- the rule of a null, and the texts of the place of a null
-abbrev pub rule_of : List Rule → NullId → Rule
-rule_of R n = slice_index_or R n.rule (record { premise = []; derived = []; conclusion = [] })
+abbrev pub rule_of_null : List Rule → NullId → Rule
+rule_of_null R n = slice_index_or R n.rule (record { premise = []; derived = []; conclusion = [] })
 
-abbrev pub texts_of : Rows → NullId → Tuple
-texts_of rows n = slice_index_or (slice_index_or rows n.rule []) n.row []
+abbrev pub null_texts : Rows → NullId → Tuple
+null_texts rows n = slice_index_or (slice_index_or rows n.rule []) n.row []
 
 -- the null names a rule and a place of it, and at this place there is a text for each exported variable of the rule
 pub record HasTexts (R : List Rule) (rows : Rows) (n : NullId) : Type 0 where
-  pub place : HasPlace R rows n
-  pub wide : length (texts_of rows n) ≡ length (exported (rule_of R n))
+  pub place : NamesPlace R rows n
+  pub wide : length (null_texts rows n) ≡ length (exported (rule_of_null R n))
 
 -- what each null stands for: its rule and variable are in its name, and these are the exported values of its place
 abbrev pub nulls_sheet : List Rule → Rows → List NullId → Sheet
 nulls_sheet R rows ns = record {
   name = codes "nulls.csv";
   header = codes "null" ∷ codes "variable" ∷ codes "value" ∷ [];
-  records = flat_map (λ n. term_records n (exported_names (rule_of R n)) (texts_of rows n)) ns;
+  records = flat_map (λ n. term_records n (exported_names (rule_of_null R n)) (null_texts rows n)) ns;
 }
 
 -- what each null that the fold lists becomes
@@ -74,6 +72,6 @@ fold_sheet pairs = record {
 }
 
 -- the nulls of an instance, ascending
-pub record AreNulls (T : List Fact) (ns : List NullId) : Type 0 where
+pub record AreTargetNulls (T : List Fact) (ns : List NullId) : Type 0 where
   pub ascend : NullsAscend ns
   pub exact : (n : NullId) → (n ∈ ns) ↔ (Null n ∈ values T)

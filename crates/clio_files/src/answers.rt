@@ -2,7 +2,7 @@
 ghost use Rattle.std.specs.Prelude.{◌≡◌, ◌∷◌, ◌++◌, [], ℕ, List, IfOk, OnOk, map};
 ghost use Rattle.dx_instance.specs.ValueText.{const_text};
 ghost use Rattle.clio_files.specs.Answers.{answers_sheet, column_names};
-ghost use Rattle.clio_files.specs.Files.{seen};
+ghost use Rattle.clio_files.specs.Files.{printed_view};
 ghost use Rattle.clio_files.specs.Printing.{AreRecords};
 ghost use Rattle.clio_files.specs.Sheets.{file_of};
 
@@ -40,7 +40,7 @@ fn push_answer(texts: &[Text], records: &mut Records) -> Result<(), AllocError>
 ///
 /// Out of memory.
 pub fn answers_file(alloc: Global, width: u32, rows: &Tuples) -> Result<Printed, AllocError>
-    ensures { IfOk result (λ p. seen p ≡ file_of (answers_sheet width rows.now)) }
+    ensures { IfOk result (λ p. printed_view p ≡ file_of (answers_sheet width rows.now)) }
 {
     let mut records = Records::new(alloc);
     push_column_names(width, &mut records)?;

@@ -2,7 +2,7 @@
 ghost use Rattle.std.specs.Prelude.{◌≡◌, ◌++◌, IfOk, OnOk, codes, map, string_bytes};
 ghost use Rattle.clio_files.specs.Comparisons.{AddsDirection, AreComparedFiles, FitsAnswer, FitsComparison, HaveNoMarks};
 ghost use Rattle.clio_files.specs.Comparisons.{compared_text, direction_text};
-ghost use Rattle.clio_files.specs.Files.{seen};
+ghost use Rattle.clio_files.specs.Files.{printed_view};
 
 use crate::printed::Printed;
 use crate::summaries::summary;
@@ -23,7 +23,7 @@ fn push_direction(
     requires fits { FitsAnswer source.now target.now answer.now }
     requires source_marks { HaveNoMarks source.now }
     requires target_marks { HaveNoMarks target.now }
-    ensures { OnOk result (AddsDirection direction.now source.now target.now answer.now (map seen files.old.items) (map seen files.new.items)) }
+    ensures { OnOk result (AddsDirection direction.now source.now target.now answer.now (map printed_view files.old.items) (map printed_view files.new.items)) }
 {
     match answer {
         Answer::Implies => Ok(()),
@@ -52,7 +52,7 @@ pub fn print_comparison(
     comparison: &Comparison,
 ) -> Result<Vec<Printed>, AllocError>
     requires { FitsComparison source.now target.now comparison.now }
-    ensures { IfOk result (λ ps. AreComparedFiles source.now target.now comparison.now (map seen ps.items)) }
+    ensures { IfOk result (λ ps. AreComparedFiles source.now target.now comparison.now (map printed_view ps.items)) }
 {
     let mut files = Vec::new(alloc);
     let Comparison { forward, backward } = comparison;
@@ -81,7 +81,7 @@ pub fn compared_text(
     comparison: &Comparison,
     printed: &[Printed],
 ) -> Result<Vec<u8>, AllocError>
-    ensures { IfOk result (λ text. text.items ≡ compared_text comparison.now (map seen printed.now)) }
+    ensures { IfOk result (λ text. text.items ≡ compared_text comparison.now (map printed_view printed.now)) }
 {
     let mut text = Vec::new(alloc);
     text.extend_from_slice(direction_line(alloc, "forward", &comparison.forward)?.as_bytes())?;

@@ -3,11 +3,11 @@ ghost use Rattle.std.specs.Prelude.{◌≡◌, ◌↔◌, ℕ, List, ◌+◌, �
 ghost use Rattle.std.specs.List.{concat};
 ghost use Rattle.dx_ports.specs.Members.{◌∈◌};
 ghost use Rattle.dx_model.specs.Values.{NullsAscend};
-ghost use Rattle.dx_instance.specs.Numbers.{ValuesAscend, value_of};
+ghost use Rattle.dx_instance.specs.Numbers.{ValuesAscend, value_of, IsConstant};
 ghost use Rattle.dx_instance.specs.Shown.{AreBelow, numbers_of_table, shown_tables};
 ghost use Rattle.dx_instance.specs.Stored.{facts};
-ghost use Rattle.clio_files.specs.Marks.{AreMarks, IsConstant, IsMarked, IsNull, numbers_in};
-ghost use Rattle.clio_files.specs.Sheets.{AreNulls};
+ghost use Rattle.clio_files.specs.Marks.{AreMarks, IsMarked, IsNull, table_numbers};
+ghost use Rattle.clio_files.specs.Sheets.{AreTargetNulls};
 
 use dx_instance::Numbers;
 use dx_model::{NullId, Value};
@@ -62,7 +62,7 @@ fn mark_table(target: &Numbers, table: u32, first: u32, marks: &mut Vec<bool>)
 fn marks_of(alloc: Global, target: &Numbers, first: u32) -> Result<Vec<bool>, AllocError>
     requires { first ≤ length target.now.symbols }
     ensures many { IfOk result (λ marks. first + length marks.items ≡ length target.now.symbols) }
-    ensures marked { IfOk result (λ marks. AreMarks first (numbers_in target.now.tables) marks.items) }
+    ensures marked { IfOk result (λ marks. AreMarks first (table_numbers target.now.tables) marks.items) }
 {
     let mut marks = vec![in alloc; false; (target.len() - first) as usize]?;
     if marks.is_empty() {
@@ -105,7 +105,7 @@ fn marked_nulls(
 /// `AllocError` if there is no memory.
 pub(crate) fn nulls_by_marks(alloc: Global, target: &Numbers) -> Result<Vec<NullId>, AllocError>
     requires { ValuesAscend target.now.symbols }
-    ensures { IfOk result (λ ns. AreNulls (facts (shown_tables target.now.symbols target.now.tables)) ns.items) }
+    ensures { IfOk result (λ ns. AreTargetNulls (facts (shown_tables target.now.symbols target.now.tables)) ns.items) }
 {
     let first = first_null(target);
     let marks = marks_of(alloc, target, first)?;

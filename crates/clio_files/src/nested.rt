@@ -3,7 +3,7 @@ ghost use Rattle.std.specs.Prelude.{◌≡◌, ◌<◌, IfOk, OnOk, length, map}
 ghost use Rattle.dx_instance.specs.Stored.{IsSorting, widths};
 ghost use Rattle.dx_schema.specs.Tables.{schema_widths, tables_of};
 ghost use Rattle.clio_source.specs.Source.{roots};
-ghost use Rattle.clio_files.specs.Files.{seen};
+ghost use Rattle.clio_files.specs.Files.{printed_view};
 ghost use Rattle.clio_files.specs.Nested.{IsRootFile};
 ghost use Rattle.clio_files.specs.Printing.{AddsRoots};
 
@@ -25,7 +25,7 @@ fn root_file(
     requires root { root < length (tables_of schema.now) }
     requires widths { widths target.now ≡ schema_widths schema.now }
     requires sorted { IsSorting target.now sorted.old }
-    ensures file { IfOk result (λ p. IsRootFile schema.now target.now root (seen p)) }
+    ensures file { IfOk result (λ p. IsRootFile schema.now target.now root (printed_view p)) }
     ensures same { sorted.new ≡ sorted.old }
 {
     let text = nest_sorted(alloc, sorted, schema, root)?;
@@ -42,7 +42,7 @@ pub(crate) fn push_roots(
     files: &mut Vec<Printed>,
 ) -> Result<(), AllocError>
     requires { widths target.now ≡ schema_widths schema.now }
-    ensures { OnOk result (AddsRoots schema.now target.now (roots schema.now) (map seen files.old.items) (map seen files.new.items)) }
+    ensures { OnOk result (AddsRoots schema.now target.now (roots schema.now) (map printed_view files.old.items) (map printed_view files.new.items)) }
 {
     let mut sorted = target.sorted()?;
     let mut root = 0;

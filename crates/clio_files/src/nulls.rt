@@ -5,7 +5,7 @@ ghost use Rattle.dx_model.specs.Instances.{nulls_in};
 ghost use Rattle.dx_model.specs.Values.{NullsAscend};
 ghost use Rattle.dx_instance.specs.Shown.{AreBelow, shown_row, shown_tables};
 ghost use Rattle.dx_instance.specs.Stored.{facts, rows_of};
-ghost use Rattle.clio_files.specs.Sheets.{AreNulls};
+ghost use Rattle.clio_files.specs.Sheets.{AreTargetNulls};
 
 use crate::marks::nulls_by_marks;
 use dx_instance::{Instance, Numbers};
@@ -50,7 +50,7 @@ fn ascending(nulls: Vec<NullId>) -> Result<Vec<NullId>, AllocError>
 
 // The nulls of tables of numbers, from a list of all of them: for symbols that are not in order.
 fn nulls_by_list(alloc: Global, target: &Numbers) -> Result<Vec<NullId>, AllocError>
-    ensures { IfOk result (λ ns. AreNulls (facts (shown_tables target.now.symbols target.now.tables)) ns.items) }
+    ensures { IfOk result (λ ns. AreTargetNulls (facts (shown_tables target.now.symbols target.now.tables)) ns.items) }
 {
     let mut nulls = Vec::new(alloc);
     for table in 0..target.tables() {
@@ -65,7 +65,7 @@ fn nulls_by_list(alloc: Global, target: &Numbers) -> Result<Vec<NullId>, AllocEr
 ///
 /// Out of memory.
 pub fn nulls_of(alloc: Global, target: &Instance) -> Result<Vec<NullId>, AllocError>
-    ensures { IfOk result (λ ns. AreNulls (facts target.now) ns.items) }
+    ensures { IfOk result (λ ns. AreTargetNulls (facts target.now) ns.items) }
 {
     let numbers = target.numbers();
     if numbers.is_ordered() {

@@ -1,6 +1,6 @@
 // A file that is printed.
 ghost use Rattle.std.specs.Prelude.{◌≡◌, IfOk};
-ghost use Rattle.clio_files.specs.Files.{seen};
+ghost use Rattle.clio_files.specs.Files.{printed_view};
 
 use dx_ports::{File, Text};
 use std::alloc::{AllocError, Global};
@@ -21,7 +21,7 @@ impl Printed {
         text: &Text,
         count: u64,
     ) -> Result<Printed, AllocError>
-        ensures { IfOk result (λ p. seen p ≡ record { name = name.now; bytes = text.now; count = count }) }
+        ensures { IfOk result (λ p. printed_view p ≡ record { name = name.now; bytes = text.now; count = count }) }
     {
         Ok(Printed {
             file: File {

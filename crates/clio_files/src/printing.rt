@@ -1,7 +1,7 @@
 // The files of an exchange.
 ghost use Rattle.std.specs.Prelude.{IfOk, map};
 ghost use Rattle.dx_funcs.specs.Serving.{offered};
-ghost use Rattle.clio_files.specs.Files.{AreFiles, FitsFiles, seen};
+ghost use Rattle.clio_files.specs.Files.{AreFiles, FitsFiles, printed_view};
 ghost use Rattle.clio_files.specs.Texts.{FitTexts};
 
 use crate::nested::push_roots;
@@ -38,7 +38,7 @@ where
     M: Meaning,
     requires texts { FitTexts source.now target.now (offered host.now) rules.now }
     requires fits { FitsFiles rules.now target.now exchange.now }
-    ensures { IfOk result (λ ps. AreFiles source.now target.now (offered host.now) mode nested rules.now exchange.now (map seen ps.items)) }
+    ensures { IfOk result (λ ps. AreFiles source.now target.now (offered host.now) mode nested rules.now exchange.now (map printed_view ps.items)) }
 {
     let nulls = nulls_of(alloc, &exchange.target)?;
     let mut printed = print_texts(alloc, rules, source, target, host, mode)?;

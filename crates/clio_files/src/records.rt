@@ -2,7 +2,7 @@
 ghost use Rattle.std.specs.Prelude.{◌≡◌, ◌++◌, ◌∷◌, [], ℕ, List, OnOk, length};
 ghost use Rattle.std.specs.Fmt.{decimal};
 ghost use Rattle.dx_instance.specs.ValueText.{const_text, value_text_of};
-ghost use Rattle.dx_csv.specs.Lines.{IsPlain};
+ghost use Rattle.dx_csv.specs.Lines.{NeedsNoQuotes};
 ghost use Rattle.clio_files.specs.Printing.{AreRecords, HasFields};
 
 use dx_csv::Lines;
@@ -47,7 +47,7 @@ impl Records {
     /// One field more, of which the caller knows that it calls for no quotes.
     #[inline]
     pub(crate) fn plain_field(&mut self, field: &[u8]) -> Result<(), AllocError>
-        requires { IsPlain field.now }
+        requires { NeedsNoQuotes field.now }
         ensures { (records : List (List (List ℕ))) (fields : List (List ℕ)) → HasFields self.old records fields
             → OnOk result (HasFields self.new records (fields ++ field.now ∷ [])) }
     {
@@ -66,7 +66,7 @@ impl Records {
     /// A letter and the digits of a number as one field more.
     #[inline]
     pub(crate) fn numbered(&mut self, letter: u8, number: u32) -> Result<(), AllocError>
-        requires { IsPlain (letter ∷ []) }
+        requires { NeedsNoQuotes (letter ∷ []) }
         ensures { (records : List (List (List ℕ))) (fields : List (List ℕ)) → HasFields self.old records fields
             → OnOk result (HasFields self.new records (fields ++ (letter ∷ decimal number) ∷ [])) }
     {

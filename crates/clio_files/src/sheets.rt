@@ -4,10 +4,11 @@ ghost use Rattle.dx_ports.specs.Members.{Each};
 ghost use Rattle.dx_model.specs.Rules.{exported as exported_of};
 ghost use Rattle.dx_instance.specs.NullMaps.{pairs_of};
 ghost use Rattle.dx_instance.specs.ValueText.{const_text, null_text, value_text_of};
-ghost use Rattle.dx_csv.specs.Lines.{IsPlain};
-ghost use Rattle.clio_files.specs.Files.{seen};
+ghost use Rattle.dx_csv.specs.Lines.{NeedsNoQuotes};
+ghost use Rattle.clio_files.specs.Files.{printed_view};
 ghost use Rattle.clio_files.specs.Printing.{AreRecords};
-ghost use Rattle.clio_files.specs.Sheets.{HasTexts, Sheet, file_of, fold_sheet, nulls_sheet, term_records, texts_of, variable_text};
+ghost use Rattle.clio_files.specs.Sheets.{HasTexts, Sheet, file_of, fold_sheet, nulls_sheet, term_records, null_texts};
+ghost use Rattle.dx_rule_text.specs.Printed.{variable_text};
 
 use crate::printed::Printed;
 use crate::records::Records;
@@ -23,7 +24,7 @@ const USUAL_BYTES: usize = 32;
 
 /// The file of a sheet, of which the header is the first of the records.
 pub(crate) fn sheet_file(alloc: Global, name: &str, records: Records) -> Result<Printed, AllocError>
-    ensures { IfOk result (λ p. (s : Sheet) → name.now ≡ s.name → AreRecords records (s.header ∷ s.records) → seen p ≡ file_of s) }
+    ensures { IfOk result (λ p. (s : Sheet) → name.now ≡ s.name → AreRecords records (s.header ∷ s.records) → printed_view p ≡ file_of s) }
 {
     let Records { lines, count } = records;
     Ok(Printed {
@@ -42,7 +43,7 @@ fn push_term(
     text: &Text,
     records: &mut Records,
 ) -> Result<(), AllocError>
-    requires { IsPlain null.now }
+    requires { NeedsNoQuotes null.now }
     ensures { (rs : List (List (List ℕ))) → AreRecords records.old rs
         → OnOk result (AreRecords records.new (rs ++ (null.now ∷ variable_text variable ∷ const_text text.now ∷ []) ∷ [])) }
 {
@@ -61,7 +62,7 @@ fn push_terms(
     records: &mut Records,
 ) -> Result<(), AllocError>
     requires shown { shown.now ≡ null_text null.now }
-    requires plain { IsPlain (null_text null.now) }
+    requires plain { NeedsNoQuotes (null_text null.now) }
     requires wide { length tuple.now ≡ length variables.now }
     ensures { (rs : List (List (List ℕ))) → AreRecords records.old rs
         → OnOk result (AreRecords records.new (rs ++ term_records null.now (map variable_text variables.now) tuple.now)) }
@@ -114,7 +115,7 @@ pub(crate) fn nulls_file(
     nulls: &[NullId],
 ) -> Result<Printed, AllocError>
     requires { Each nulls.now (HasTexts rules.now matches.now) }
-    ensures { IfOk result (λ p. seen p ≡ file_of (nulls_sheet rules.now matches.now nulls.now)) }
+    ensures { IfOk result (λ p. printed_view p ≡ file_of (nulls_sheet rules.now matches.now nulls.now)) }
 {
     let lists = all_exported(alloc, rules)?;
     let mut records = Records::new(alloc);
@@ -151,7 +152,7 @@ fn push_pair(pair: &NullPair, records: &mut Records) -> Result<(), AllocError>
 
 /// What each null that the fold lists becomes.
 pub(crate) fn fold_file(alloc: Global, fold: &NullMap) -> Result<Printed, AllocError>
-    ensures { IfOk result (λ p. seen p ≡ file_of (fold_sheet (pairs_of fold.now))) }
+    ensures { IfOk result (λ p. printed_view p ≡ file_of (fold_sheet (pairs_of fold.now))) }
 {
     let pairs = fold.pairs()?;
     let mut records = Records::new(alloc);

@@ -2,7 +2,7 @@
 ghost use Rattle.std.specs.Prelude.{◌≡◌, ◌++◌, IfOk, codes, map, string_bytes};
 ghost use Rattle.std.specs.Fmt.{decimal};
 ghost use Rattle.dx_ports.specs.Entries.{entries_of};
-ghost use Rattle.clio_files.specs.Files.{contents_of, files_of, seen, summary_of};
+ghost use Rattle.clio_files.specs.Files.{contents_of, files_of, printed_view, summary_of};
 
 use crate::printed::Printed;
 use dx_ports::File;
@@ -23,7 +23,7 @@ fn line(alloc: Global, printed: &Printed) -> Result<String, AllocError>
 ///
 /// Out of memory.
 pub fn summary(alloc: Global, printed: &[Printed]) -> Result<Vec<u8>, AllocError>
-    ensures { IfOk result (λ text. text.items ≡ summary_of (map seen printed.now)) }
+    ensures { IfOk result (λ text. text.items ≡ summary_of (map printed_view printed.now)) }
 {
     let mut text = Vec::new(alloc);
     for one in printed {
@@ -38,7 +38,7 @@ pub fn summary(alloc: Global, printed: &[Printed]) -> Result<Vec<u8>, AllocError
 ///
 /// Out of memory.
 pub fn contents(alloc: Global, printed: &[Printed]) -> Result<Vec<u8>, AllocError>
-    ensures { IfOk result (λ text. text.items ≡ contents_of (map seen printed.now)) }
+    ensures { IfOk result (λ text. text.items ≡ contents_of (map printed_view printed.now)) }
 {
     let mut text = Vec::new(alloc);
     for one in printed {
@@ -53,7 +53,7 @@ pub fn contents(alloc: Global, printed: &[Printed]) -> Result<Vec<u8>, AllocErro
 ///
 /// Out of memory.
 pub fn into_files(alloc: Global, printed: Vec<Printed>) -> Result<Vec<File>, AllocError>
-    ensures { IfOk result (λ files. entries_of files.items ≡ files_of (map seen printed.items)) }
+    ensures { IfOk result (λ files. entries_of files.items ≡ files_of (map printed_view printed.items)) }
 {
     let mut files = Vec::new(alloc);
     for one in printed {

@@ -2,9 +2,9 @@
 ghost use Rattle.std.specs.Prelude.{◌≡◌, ◌<◌, IfOk, OnOk, length, map};
 ghost use Rattle.dx_ports.specs.Members.{Each};
 ghost use Rattle.dx_instance.specs.Stored.{rows_of, widths};
-ghost use Rattle.dx_schema.specs.Tables.{schema_widths, table_at, tables_of};
+ghost use Rattle.dx_schema.specs.Tables.{schema_widths, schema_table, tables_of};
 ghost use Rattle.dx_csv.specs.Print.{HasNoMark};
-ghost use Rattle.clio_files.specs.Files.{IsTableFile, seen};
+ghost use Rattle.clio_files.specs.Files.{IsTableFile, printed_view};
 ghost use Rattle.clio_files.specs.Printing.{AddsTables};
 ghost use Rattle.clio_source.specs.Source.{csv_name};
 
@@ -26,8 +26,8 @@ fn table_file(
 ) -> Result<Printed, AllocError>
     requires table { table < length (tables_of schema.now) }
     requires widths { widths instance.now ≡ schema_widths schema.now }
-    requires no_mark { HasNoMark (table_at schema.now table).columns }
-    ensures { IfOk result (λ p. IsTableFile front.now (table_at schema.now table) (rows_of instance.now table) (seen p)) }
+    requires no_mark { HasNoMark (schema_table schema.now table).columns }
+    ensures { IfOk result (λ p. IsTableFile front.now (schema_table schema.now table) (rows_of instance.now table) (printed_view p)) }
 {
     let _tables = instance.tables();
     let bytes = print_table_bytes(alloc, schema.columns(table), instance, table)?;
@@ -50,7 +50,7 @@ pub(crate) fn push_tables(
 ) -> Result<(), AllocError>
     requires widths { widths instance.now ≡ schema_widths schema.now }
     requires no_marks { Each (tables_of schema.now) (λ t. HasNoMark t.columns) }
-    ensures { OnOk result (AddsTables front.now (tables_of schema.now) instance.now (map seen files.old.items) (map seen files.new.items)) }
+    ensures { OnOk result (AddsTables front.now (tables_of schema.now) instance.now (map printed_view files.old.items) (map printed_view files.new.items)) }
 {
     for table in 0..schema.tables() {
         files.push(table_file(alloc, front, schema, instance, table)?)?;

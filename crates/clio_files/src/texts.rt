@@ -6,7 +6,7 @@ ghost use Rattle.dx_funcs.specs.Serving.{offered};
 ghost use Rattle.dx_schema.specs.Tables.{model_tables};
 ghost use Rattle.dx_rule_text.specs.Printed.{AreAtomsOf, AreListed};
 ghost use Rattle.dx_script_text.specs.Print.{script_text};
-ghost use Rattle.clio_files.specs.Files.{seen};
+ghost use Rattle.clio_files.specs.Files.{printed_view};
 ghost use Rattle.clio_files.specs.Texts.{FitTexts, rules_told, script_of, script_told, texts_told};
 
 use crate::printed::Printed;
@@ -33,7 +33,7 @@ where
     F: Fn(u32, &Items<Text>) -> Result<Text, AllocError>,
     M: Meaning,
     requires { FitTexts source.now target.now (offered host.now) rules.now }
-    ensures { IfOk result (λ p. seen p ≡ rules_told source.now target.now (offered host.now) rules.now) }
+    ensures { IfOk result (λ p. printed_view p ≡ rules_told source.now target.now (offered host.now) rules.now) }
 {
     let text = print_rules(alloc, rules, source, target, host)?;
     Printed::of_text(alloc, "rules.txt", &text, rules.len() as u64)
@@ -73,7 +73,7 @@ where
     F: Fn(u32, &Items<Text>) -> Result<Text, AllocError>,
     M: Meaning,
     requires { FitTexts source.now target.now (offered host.now) rules.now }
-    ensures { IfOk result (λ p. seen p ≡ script_told source.now target.now (offered host.now) mode rules.now) }
+    ensures { IfOk result (λ p. printed_view p ≡ script_told source.now target.now (offered host.now) mode rules.now) }
 {
     let script = script_in(alloc, rules, source, target, host, mode)?;
     let text = print_script(alloc, &script)?;
@@ -97,7 +97,7 @@ where
     F: Fn(u32, &Items<Text>) -> Result<Text, AllocError>,
     M: Meaning,
     requires { FitTexts source.now target.now (offered host.now) rules.now }
-    ensures { IfOk result (λ ps. map seen ps.items ≡ texts_told source.now target.now (offered host.now) mode rules.now) }
+    ensures { IfOk result (λ ps. map printed_view ps.items ≡ texts_told source.now target.now (offered host.now) mode rules.now) }
 {
     let mut printed = Vec::new(alloc);
     printed.push(rules_file(alloc, rules, source, target, host)?)?;

@@ -18,7 +18,7 @@ use Rattle.dx_instance.proofs.Placed.{row_total}
 use Rattle.dx_instance.proofs.StoredFacts.{fact_from_row, row_from_fact, same_tables}
 use Rattle.dx_instance.proofs.TextFacts.{texts_differ}
 use Rattle.dx_schema.specs.Forest.{Forest}
-use Rattle.dx_schema.specs.Tables.{table_at, tables_of}
+use Rattle.dx_schema.specs.Tables.{schema_table, tables_of}
 use Rattle.dx_csv.specs.Table.{table_records}
 use Rattle.dx_csv.proofs.Decided.{table_or_fault}
 use Rattle.dx_csv.proofs.OneReading.{fault-is-one, faults-exclude, table-is-one}
@@ -30,11 +30,11 @@ use Rattle.clio_source.specs.declared.fault.RowsFault.{RowsFault}
 use Rattle.clio_source.specs.declared.fault.RowsFault.TheVariants.{Absent, Csv, Value as NoValue}
 use Rattle.clio_source.specs.declared.fault.SourceRefusal.{SourceRefusal}
 use Rattle.clio_source.specs.declared.fault.SourceRefusal.TheVariants as refusals
-use Rattle.clio_source.specs.Source.{IsStored, Read, as_facts, cells_in, fetching, too_many_bytes}
+use Rattle.clio_source.specs.Source.{IsStored, ReadState, as_facts, fact_cells, fetching, too_many_bytes}
 use Rattle.clio_source.proofs.Decided.{some_stored}
 use Rattle.clio_source.proofs.Passed.{AreOf}
 use Rattle.clio_source.proofs.Runs.{its_file}
-use Rattle.clio_given.specs.Given.{AreValuesOf, IsAtFault, IsFaulty, IsFirstNoRow, IsNoRow, IsValueOf, SayRows, Says, Wanted, files_stages, given_name, loading, none_read, reading, storing, too_many_cells, with_facts}
+use Rattle.clio_given.specs.Given.{AreValuesOf, IsGivenRowsFault, IsGivenFault, IsFirstNoRow, IsNoRow, IsValueOf, SayRows, SaysGivenRows, TargetRequest, given_files_stages, given_name, given_loading, none_read, given_reading, given_storing, too_many_given_cells, with_given_facts}
 use Rattle.clio_given.specs.Laws.{GivenOrRefused, OneGiven}
 
 abbrev Same : SourceRefusal → SourceRefusal → Type 0
@@ -253,14 +253,14 @@ module _ (f : Forest) (table : ℕ) (bytes : List ℕ) where
   records = table_records bytes
 
   abbrev columns : List (List ℕ)
-  columns = (table_at f table).columns
+  columns = (schema_table f table).columns
 
   said_one : (a b : List (List Value)) → SayRows f table bytes a → SayRows f table bytes b → a ≡ b
   said_one a b x y =
       let same : x.0 ≡ y.0 = table-is-one records columns x.0 y.0 x.1 y.1 in
       values_one y.0 a b (subst (λ (fields : List (List Value)). AreValuesOf fields a) same x.2) y.2
 
-  fault_one : (d e : RowsFault) → IsAtFault f table bytes d → IsAtFault f table bytes e → d ≡ e
+  fault_one : (d e : RowsFault) → IsGivenRowsFault f table bytes d → IsGivenRowsFault f table bytes e → d ≡ e
   fault_one d e (inl x) (inl y) = x.2 ∙ (ap Csv (fault-is-one records columns x.0 y.0 x.1 y.1) ∙ sym y.2)
   fault_one d e (inl x) (inr y) = absurd (faults-exclude records columns y.1.0 x.0 y.1.1 x.1)
   fault_one d e (inr x) (inl y) = absurd (faults-exclude records columns x.1.0 y.0 x.1.1 y.1)
@@ -268,13 +268,13 @@ module _ (f : Forest) (table : ℕ) (bytes : List ℕ) where
       let same : x.1.0 ≡ y.1.0 = table-is-one records columns x.1.0 y.1.0 x.1.1 y.1.1 in
       x.2 ∙ (ap NoValue (place_one y.1.0 x.0 y.0 (subst (λ (rows : List (List Value)). IsFirstNoRow rows x.0) same x.1.2) y.1.2) ∙ sym y.2)
 
-  never_both : (rows : List (List Value)) (e : RowsFault) → SayRows f table bytes rows → ¬ (IsAtFault f table bytes e)
+  never_both : (rows : List (List Value)) (e : RowsFault) → SayRows f table bytes rows → ¬ (IsGivenRowsFault f table bytes e)
   never_both rows e x (inl y) = faults-exclude records columns x.0 y.0 x.1 y.1
   never_both rows e x (inr y) =
       let same : y.1.0 ≡ x.0 = table-is-one records columns y.1.0 x.0 y.1.1 x.1 in
       never_rows x.0 rows y.0 x.2 (subst (λ (fields : List (List Value)). IsFirstNoRow fields y.0) same y.1.2)
 
-  either_one : ((rows : List (List Value)) × SayRows f table bytes rows) ⊎ ((e : RowsFault) × IsAtFault f table bytes e)
+  either_one : ((rows : List (List Value)) × SayRows f table bytes rows) ⊎ ((e : RowsFault) × IsGivenRowsFault f table bytes e)
   either_one = elim (table_or_fault records columns) [
     | inr k ↦ inr (Csv k.0, inl (k.0, k.1, refl))
     | inl t ↦ elim (rows_or t.0) [
@@ -287,70 +287,70 @@ module _ (f : Forest) (table : ℕ) (bytes : List ℕ) where
 
 fetching_one : (name : List ℕ) → PassesOne (fetching name)
 fetching_one name =
-    into_one (λ (r : Read) (bytes : List ℕ). (r, bytes)) (by (its_file name))
-    (by_one (its_file name) (λ r. file_one Read name r.bytes_left (refusals.Rows name Absent) too_many_bytes))
+    into_one (λ (r : ReadState) (bytes : List ℕ). (r, bytes)) (by (its_file name))
+    (by_one (its_file name) (λ r. file_one ReadState name r.bytes_left (refusals.Rows name Absent) too_many_bytes))
 
 fetching_decided : (name : List ℕ) → IsDecided Same Any (fetching name)
 fetching_decided name =
-    into_decided Same Any (λ (r : Read) (bytes : List ℕ). (r, bytes)) (by (its_file name))
+    into_decided Same Any (λ (r : ReadState) (bytes : List ℕ). (r, bytes)) (by (its_file name))
     (by_decided Same Any (its_file name) (λ r g. file_decided Same Any name r.bytes_left (refusals.Rows name Absent) too_many_bytes (λ e. refl)))
 
 module _ (f : Forest) (table : ℕ) where
-  says_one : PassesOne (notions (IsFaulty f table) (Says f table))
+  says_one : PassesOne (notions (IsGivenFault f table) (SaysGivenRows f table))
   says_one c p q s x y =
       x.2 ∙ (ap (λ (rows : List (List Value)). (record { facts = p.0.facts; bytes_left = p.0.bytes_left - length p.1; cells_left = p.0.cells_left }, as_facts table rows))
       (said_one f table p.1 x.0 y.0 x.1 y.1) ∙ sym y.2)
 
-  says_decided : IsDecided Same Any (notions (IsFaulty f table) (Says f table))
-  says_decided = notions_decided Same Any (IsFaulty f table) (Says f table) one never either
+  says_decided : IsDecided Same Any (notions (IsGivenFault f table) (SaysGivenRows f table))
+  says_decided = notions_decided Same Any (IsGivenFault f table) (SaysGivenRows f table) one never either
     where
-      one : (p : Read × List ℕ) (d e : SourceRefusal) → Unit {0} → IsFaulty f table p d → IsFaulty f table p e → d ≡ e
-      one p d e g x y = x.2 ∙ (ap (λ (k : RowsFault). refusals.Rows (given_name (table_at f table).name) k) (fault_one f table p.1 x.0 y.0 x.1 y.1) ∙ sym y.2)
+      one : (p : ReadState × List ℕ) (d e : SourceRefusal) → Unit {0} → IsGivenFault f table p d → IsGivenFault f table p e → d ≡ e
+      one p d e g x y = x.2 ∙ (ap (λ (k : RowsFault). refusals.Rows (given_name (schema_table f table).name) k) (fault_one f table p.1 x.0 y.0 x.1 y.1) ∙ sym y.2)
 
-      never : (p : Read × List ℕ) (q : Read × List Fact) (e : SourceRefusal) → Unit {0} → Says f table p q → ¬ (IsFaulty f table p e)
+      never : (p : ReadState × List ℕ) (q : ReadState × List Fact) (e : SourceRefusal) → Unit {0} → SaysGivenRows f table p q → ¬ (IsGivenFault f table p e)
       never p q e g x y = never_both f table p.1 x.0 y.0 x.1 y.1
 
-      either : (p : Read × List ℕ) → Unit {0} → ((q : Read × List Fact) × Says f table p q) ⊎ ((e : SourceRefusal) × IsFaulty f table p e)
+      either : (p : ReadState × List ℕ) → Unit {0} → ((q : ReadState × List Fact) × SaysGivenRows f table p q) ⊎ ((e : SourceRefusal) × IsGivenFault f table p e)
       either p g = elim (either_one f table p.1) [
         | inl s ↦ inl (_, (s.0, s.1, refl))
         | inr k ↦ inr (_, (k.0, k.1, refl))
       ]
 
-  loading_one : PassesOne (loading f table)
-  loading_one = next_one (notions (IsFaulty f table) (Says f table)) (computing (with_facts f)) says_one (computing_one (with_facts f))
+  loading_one : PassesOne (given_loading f table)
+  loading_one = next_one (notions (IsGivenFault f table) (SaysGivenRows f table)) (computing (with_given_facts f)) says_one (computing_one (with_given_facts f))
 
-  loading_decided : IsDecided Same Any (loading f table)
+  loading_decided : IsDecided Same Any (given_loading f table)
   loading_decided =
-      next_decided Same Any Any (notions (IsFaulty f table) (Says f table)) (computing (with_facts f)) says_one (λ c a b g p. tt) says_decided
-      (computing_decided Same Any (with_facts f) (λ e. refl))
+      next_decided Same Any Any (notions (IsGivenFault f table) (SaysGivenRows f table)) (computing (with_given_facts f)) says_one (λ c a b g p. tt) says_decided
+      (computing_decided Same Any (with_given_facts f) (λ e. refl))
 
   abbrev name : List ℕ
-  name = given_name (table_at f table).name
+  name = given_name (schema_table f table).name
 
-  reading_one : PassesOne (reading f table)
-  reading_one = next_one (fetching name) (loading f table) (fetching_one name) loading_one
+  reading_one : PassesOne (given_reading f table)
+  reading_one = next_one (fetching name) (given_loading f table) (fetching_one name) loading_one
 
-  reading_decided : IsDecided Same Any (reading f table)
+  reading_decided : IsDecided Same Any (given_reading f table)
   reading_decided =
-      next_decided Same Any Any (fetching name) (loading f table) (fetching_one name) (λ c a b g p. tt) (fetching_decided name) loading_decided
+      next_decided Same Any Any (fetching name) (given_loading f table) (fetching_one name) (λ c a b g p. tt) (fetching_decided name) loading_decided
 
 -- ---- what was read is of the schema's tables
 
-pub counted : (f : Forest) (q : Read × List Fact) (s : Read) → with_facts f q ≡ Ok s → s.facts ≡ q.0.facts ++ q.1
-counted f q s is = of (nat_lt q.0.cells_left (cells_in f q.1)) is
+pub counted : (f : Forest) (q : ReadState × List Fact) (s : ReadState) → with_given_facts f q ≡ Ok s → s.facts ≡ q.0.facts ++ q.1
+counted f q s is = of (nat_lt q.0.cells_left (fact_cells f q.1)) is
   where
-    of : (b : Bool) → (if b then Err too_many_cells else Ok (record { facts = q.0.facts ++ q.1; bytes_left = q.0.bytes_left; cells_left = q.0.cells_left - cells_in f q.1 })) ≡ Ok s
+    of : (b : Bool) → (if b then Err too_many_given_cells else Ok (record { facts = q.0.facts ++ q.1; bytes_left = q.0.bytes_left; cells_left = q.0.cells_left - fact_cells f q.1 })) ≡ Ok s
         → s.facts ≡ q.0.facts ++ q.1
     of true e = cc
     of false e =
-        let same : record { facts = q.0.facts ++ q.1; bytes_left = q.0.bytes_left; cells_left = q.0.cells_left - cells_in f q.1 } ≡ s = cc in
-        sym (ap (λ (v : Read). v.facts) same)
+        let same : record { facts = q.0.facts ++ q.1; bytes_left = q.0.bytes_left; cells_left = q.0.cells_left - fact_cells f q.1 } ≡ s = cc in
+        sym (ap (λ (v : ReadState). v.facts) same)
 
-one_of : (f : Forest) (table : ℕ) (c : World) (r s : Read) → table < length (tables_of f) → AreOf f r.facts → (reading f table).passes c r s → AreOf f s.facts
+one_of : (f : Forest) (table : ℕ) (c : World) (r s : ReadState) → table < length (tables_of f) → AreOf f r.facts → (given_reading f table).passes c r s → AreOf f s.facts
 one_of f table c r s within of (p, (bytes, found, p_is), (q, (rows, says, q_is), s_is)) =
-    let before : q.0.facts ≡ r.facts = ap (λ (v : Read × List Fact). v.0.facts) q_is ∙ ap (λ (v : Read × List ℕ). v.0.facts) p_is in
+    let before : q.0.facts ≡ r.facts = ap (λ (v : ReadState × List Fact). v.0.facts) q_is ∙ ap (λ (v : ReadState × List ℕ). v.0.facts) p_is in
     let after : s.facts ≡ r.facts ++ as_facts table rows =
-    counted f q s s_is ∙ (ap (λ (fs : List Fact). fs ++ q.1) before ∙ ap (λ (v : Read × List Fact). r.facts ++ v.1) q_is) in
+    counted f q s s_is ∙ (ap (λ (fs : List Fact). fs ++ q.1) before ∙ ap (λ (v : ReadState × List Fact). r.facts ++ v.1) q_is) in
     λ x m. elim (from_append r.facts (subst (λ (fs : List Fact). x ∈ fs) after m)) [ inl old ↦ of x old | inr new ↦ added rows x new ]
   where
     added : (rows : List (List Value)) → AreOf f (as_facts table rows)
@@ -358,13 +358,13 @@ one_of f table c r s within of (p, (bytes, found, p_is), (q, (rows, says, q_is),
         let k = from_map (λ (row : List Value). let u : Fact = record { table = table; row = row } in u) rows m in
         subst (λ (n : ℕ). n < length (tables_of f)) (ap (λ (y : Fact). y.table) k.2) within
 
-all_of : (f : Forest) (us : List ℕ) (c : World) (r s : Read) → Each us (λ u. u < length (tables_of f)) → AreOf f r.facts → (each (reading f) us).passes c r s → AreOf f s.facts
-all_of f [] c r s are of p = subst (AreOf f) (sym (ap (λ (v : Read). v.facts) p)) of
+all_of : (f : Forest) (us : List ℕ) (c : World) (r s : ReadState) → Each us (λ u. u < length (tables_of f)) → AreOf f r.facts → (each (given_reading f) us).passes c r s → AreOf f s.facts
+all_of f [] c r s are of p = subst (AreOf f) (sym (ap (λ (v : ReadState). v.facts) p)) of
 all_of f (u ∷ us) c r s are of (b, one, rest) = all_of f us c b s (λ v m. are v (there m)) (one_of f u c r b (are u (here refl)) of one) rest
 
 -- ---- the instance
 
-abbrev IsOf : Forest → Read → Type 0
+abbrev IsOf : Forest → ReadState → Type 0
 IsOf f r = AreOf f r.facts
 
 row_of_both : (f : Forest) (said : List Fact) (I J : List TableRows) → IsStored f said I → IsStored f said J → (t : ℕ) → rows_of I t ⊆ rows_of J t
@@ -372,49 +372,49 @@ row_of_both f said I J p q t x m =
     let fact : Fact = record { table = t; row = x } in
     row_from_fact J fact (q.exact.1 fact (p.exact.0 fact (fact_from_row I t x m)))
 
-storing_one : (f : Forest) → PassesOne (storing f)
+storing_one : (f : Forest) → PassesOne (given_storing f)
 storing_one f c r I J p q =
     same_tables I J (p.widths_are ∙ sym q.widths_are) (λ t.
     one_ascending row_cmp row_total (rows_of I t) (rows_of J t) (p.ascend t) (q.ascend t) (row_of_both f r.facts I J p q t) (row_of_both f r.facts J I q p t))
 
-storing_decided : (f : Forest) → IsDecided Same (IsOf f) (storing f)
+storing_decided : (f : Forest) → IsDecided Same (IsOf f) (given_storing f)
 storing_decided f =
     notions_decided Same (IsOf f) (λ r e. ⊥) (λ r I. IsStored f r.facts I) (λ r d e g x y. absurd x) (λ r I e g x y. y)
     (λ r g. inl (some_stored f r.facts g))
 
 -- ---- all files
 
-module _ (w : Wanted) where
+module _ (w : TargetRequest) where
   abbrev numbers : List ℕ
   numbers = range_with_len 0 (length (tables_of w.schema))
 
-  abbrev IsStart : Read → Type 0
+  abbrev IsStart : ReadState → Type 0
   IsStart r = r ≡ none_read w.bytes_left
 
-  files_one : PassesOne (files_stages w.schema)
-  files_one = each_one (reading w.schema) numbers (reading_one w.schema)
+  files_one : PassesOne (given_files_stages w.schema)
+  files_one = each_one (given_reading w.schema) numbers (reading_one w.schema)
 
-  whole_one : PassesOne (next (files_stages w.schema) (storing w.schema))
-  whole_one = next_one (files_stages w.schema) (storing w.schema) files_one (storing_one w.schema)
+  whole_one : PassesOne (next (given_files_stages w.schema) (given_storing w.schema))
+  whole_one = next_one (given_files_stages w.schema) (given_storing w.schema) files_one (storing_one w.schema)
 
-  files_lead : (c : World) (r s : Read) → IsStart r → (files_stages w.schema).passes c r s → IsOf w.schema s
+  files_lead : (c : World) (r s : ReadState) → IsStart r → (given_files_stages w.schema).passes c r s → IsOf w.schema s
   files_lead c r s start p =
       all_of w.schema numbers c r s (λ u m. let h = (from_range 0 (length (tables_of w.schema)) u m).1 in omega (arith, h))
-      (subst (λ (v : Read). AreOf w.schema v.facts) (sym start) (λ x m. elim m [ ])) p
+      (subst (λ (v : ReadState). AreOf w.schema v.facts) (sym start) (λ x m. elim m [ ])) p
 
-  whole_decided : IsDecided Same IsStart (next (files_stages w.schema) (storing w.schema))
+  whole_decided : IsDecided Same IsStart (next (given_files_stages w.schema) (given_storing w.schema))
   whole_decided =
-      next_decided Same IsStart (IsOf w.schema) (files_stages w.schema) (storing w.schema) files_one files_lead
-      (weaker Same Any IsStart (files_stages w.schema) (λ a g. tt)
-      (each_decided Same Any (reading w.schema) numbers (reading_one w.schema) (λ x c a b g p. tt) (reading_decided w.schema)))
+      next_decided Same IsStart (IsOf w.schema) (given_files_stages w.schema) (given_storing w.schema) files_one files_lead
+      (weaker Same Any IsStart (given_files_stages w.schema) (λ a g. tt)
+      (each_decided Same Any (given_reading w.schema) numbers (reading_one w.schema) (λ x c a b g p. tt) (reading_decided w.schema)))
       (storing_decided w.schema)
 
-abbrev staged : Wanted → Stage SourceRefusal Wanted (List TableRows)
-staged w = over (λ (_ : Wanted). none_read w.bytes_left) (next (files_stages w.schema) (storing w.schema))
+abbrev staged : TargetRequest → Stage SourceRefusal TargetRequest (List TableRows)
+staged w = over (λ (_ : TargetRequest). none_read w.bytes_left) (next (given_files_stages w.schema) (given_storing w.schema))
 
 pub given_one : OneGiven
-given_one = by_one staged (λ w. over_one (λ (_ : Wanted). none_read w.bytes_left) (next (files_stages w.schema) (storing w.schema)) (whole_one w))
+given_one = by_one staged (λ w. over_one (λ (_ : TargetRequest). none_read w.bytes_left) (next (given_files_stages w.schema) (given_storing w.schema)) (whole_one w))
 
 pub given_decided : GivenOrRefused
 given_decided = by_decided Same Any staged (λ w g.
-    over_decided Same Any (λ (r : Read). r ≡ none_read w.bytes_left) (λ (_ : Wanted). none_read w.bytes_left) (next (files_stages w.schema) (storing w.schema)) (λ a g. refl) (whole_decided w))
+    over_decided Same Any (λ (r : ReadState). r ≡ none_read w.bytes_left) (λ (_ : TargetRequest). none_read w.bytes_left) (next (given_files_stages w.schema) (given_storing w.schema)) (λ a g. refl) (whole_decided w))

@@ -16,7 +16,8 @@ use Rattle.dx_instance.specs.Numbers.{Extends, value_of}
 use Rattle.dx_instance.specs.Shown.{AreBelow, Shows, shown_row}
 use Rattle.dx_instance.specs.ValueText.{ValueFits, value_text_of}
 use Rattle.dx_instance.proofs.ShownFacts.{grown_below, grown_row, grown_rows}
-use Rattle.dx_csv.specs.Table.{IsTable, IsWhole, constants}
+use Rattle.dx_csv.specs.Table.{AreTableRecords, IsWholeRecord}
+use Rattle.dx_model.specs.Values.{constants}
 use Rattle.clio_given.specs.Given.{IsFirstNoRow, IsNoRow, IsValueOf}
 use Rattle.clio_given.specs.Reading.{AreShown}
 
@@ -147,12 +148,12 @@ first_no_row records S width i r t fields is number none old = record {
 
 -- ---- records of a table are as wide as its columns
 
-pub table_wide : (records : List (List (List ℕ))) (columns : List (List ℕ)) (rows : List (List Value)) → IsTable records columns rows → Each rows (λ fields. length fields ≡ length columns)
+pub table_wide : (records : List (List (List ℕ))) (columns : List (List ℕ)) (rows : List (List Value)) → AreTableRecords records columns rows → Each rows (λ fields. length fields ≡ length columns)
 table_wide records columns rows t fields m =
     let u = from_map constants t.under (subst (λ (rs : List (List Value)). fields ∈ rs) t.values m) in
     sym (ap length u.2) ∙ (length-map u.0 Const ∙ wide t.under t.whole u.0 u.1)
   where
-    wide : (under : List (List (List ℕ))) → All (IsWhole columns) under → (x : List (List ℕ)) → x ∈ under → length x ≡ length columns
+    wide : (under : List (List (List ℕ))) → All (IsWholeRecord columns) under → (x : List (List ℕ)) → x ∈ under → length x ≡ length columns
     wide [] a x i = elim i [ ]
-    wide (y ∷ under) a x (here e) = subst (λ (z : List (List ℕ)). length z ≡ length columns) e (All-head (IsWhole columns) y under a).width
-    wide (y ∷ under) a x (there i) = wide under (All-tail (IsWhole columns) y under a) x i
+    wide (y ∷ under) a x (here e) = subst (λ (z : List (List ℕ)). length z ≡ length columns) e (All-head (IsWholeRecord columns) y under a).width
+    wide (y ∷ under) a x (there i) = wide under (All-tail (IsWholeRecord columns) y under a) x i

@@ -9,14 +9,14 @@ use Rattle.dx_model.specs.declared.values.Value.TheVariants.{Const}
 use Rattle.dx_instance.specs.Stored.{TableRows}
 use Rattle.dx_instance.specs.ValueText.{ValueFits, value_text_of}
 use Rattle.dx_schema.specs.Forest.{Forest}
-use Rattle.dx_schema.specs.Tables.{table_at, tables_of}
-use Rattle.dx_csv.specs.Table.{IsTable, table_records}
+use Rattle.dx_schema.specs.Tables.{schema_table, tables_of}
+use Rattle.dx_csv.specs.Table.{AreTableRecords, table_records}
 use Rattle.dx_stages.specs.Stages.{Stage, next, each, by, over, computing, notions}
 use Rattle.clio_source.specs.declared.fault.RowsFault.{RowsFault}
 use Rattle.clio_source.specs.declared.fault.RowsFault.TheVariants.{Value as NoValue}
 use Rattle.clio_source.specs.declared.fault.SourceRefusal.{SourceRefusal}
 use Rattle.clio_source.specs.declared.fault.SourceRefusal.TheVariants as refusals
-use Rattle.clio_source.specs.Source.{HaveFault, IsStored, Read, as_facts, cells_in, csv_name, fetching, flat}
+use Rattle.clio_source.specs.Source.{HaveFault, IsStored, ReadState, as_facts, fact_cells, csv_name, fetching, flat}
 
 -- ---- values of fields
 
@@ -47,8 +47,8 @@ pub record IsFirstNoRow (rows : List (List Value)) (r : ℕ) : Type 0 where
 abbrev pub given_cells : ℕ
 given_cells = 1000000
 
-abbrev pub too_many_cells : SourceRefusal
-too_many_cells = refusals.Limit (record { what = GivenCells; number = given_cells })
+abbrev pub too_many_given_cells : SourceRefusal
+too_many_given_cells = refusals.Limit (record { what = GivenCells; number = given_cells })
 
 -- the name of a table's file, in a folder of its own
 abbrev pub given_name : List ℕ → List ℕ
@@ -57,57 +57,57 @@ given_name table = codes "given/" ++ csv_name table
 -- the bytes are a table, of which record number r is the first with a field that is no value's text
 abbrev pub HasNoValue : Forest → ℕ → List ℕ → ℕ → Type 0
 HasNoValue f table bytes r =
-    (rows : List (List Value)) × IsTable (table_records bytes) (table_at f table).columns rows × IsFirstNoRow rows r
+    (rows : List (List Value)) × AreTableRecords (table_records bytes) (schema_table f table).columns rows × IsFirstNoRow rows r
 
 -- they have this fault: they are no table, or a record of it has no values
-abbrev pub IsAtFault : Forest → ℕ → List ℕ → RowsFault → Type 0
-IsAtFault f table bytes e = HaveFault flat f table bytes e ⊎ ((r : ℕ) × HasNoValue f table bytes r × (e ≡ NoValue r))
+abbrev pub IsGivenRowsFault : Forest → ℕ → List ℕ → RowsFault → Type 0
+IsGivenRowsFault f table bytes e = HaveFault flat f table bytes e ⊎ ((r : ℕ) × HasNoValue f table bytes r × (e ≡ NoValue r))
 
-abbrev pub IsFaulty : Forest → ℕ → Read × List ℕ → SourceRefusal → Type 0
-IsFaulty f table p e = (k : RowsFault) × IsAtFault f table p.1 k × (e ≡ refusals.Rows (given_name (table_at f table).name) k)
+abbrev pub IsGivenFault : Forest → ℕ → ReadState × List ℕ → SourceRefusal → Type 0
+IsGivenFault f table p e = (k : RowsFault) × IsGivenRowsFault f table p.1 k × (e ≡ refusals.Rows (given_name (schema_table f table).name) k)
 
 -- they have none, and these are the values of the table's rows
 abbrev pub SayRows : Forest → ℕ → List ℕ → List (List Value) → Type 0
 SayRows f table bytes rows =
-    (fields : List (List Value)) × IsTable (table_records bytes) (table_at f table).columns fields × AreValuesOf fields rows
+    (fields : List (List Value)) × AreTableRecords (table_records bytes) (schema_table f table).columns fields × AreValuesOf fields rows
 
-abbrev pub Says : Forest → ℕ → Read × List ℕ → Read × List Fact → Type 0
-Says f table p q =
+abbrev pub SaysGivenRows : Forest → ℕ → ReadState × List ℕ → ReadState × List Fact → Type 0
+SaysGivenRows f table p q =
     (rows : List (List Value)) × SayRows f table p.1 rows
     × (q ≡ (record { facts = p.0.facts; bytes_left = p.0.bytes_left - length p.1; cells_left = p.0.cells_left }, as_facts table rows))
 
 -- the facts after those that were read before them, within the cells that are left
-abbrev pub with_facts : Forest → Read × List Fact → Result Read SourceRefusal
-with_facts f q = if nat_lt q.0.cells_left (cells_in f q.1) then Err too_many_cells
-    else Ok (record { facts = q.0.facts ++ q.1; bytes_left = q.0.bytes_left; cells_left = q.0.cells_left - cells_in f q.1 })
+abbrev pub with_given_facts : Forest → ReadState × List Fact → Result ReadState SourceRefusal
+with_given_facts f q = if nat_lt q.0.cells_left (fact_cells f q.1) then Err too_many_given_cells
+    else Ok (record { facts = q.0.facts ++ q.1; bytes_left = q.0.bytes_left; cells_left = q.0.cells_left - fact_cells f q.1 })
 
 -- what is read of the bytes of a table's file
-abbrev pub loading : Forest → ℕ → Stage SourceRefusal (Read × List ℕ) Read
-loading f table = next (notions (IsFaulty f table) (Says f table)) (computing (with_facts f))
+abbrev pub given_loading : Forest → ℕ → Stage SourceRefusal (ReadState × List ℕ) ReadState
+given_loading f table = next (notions (IsGivenFault f table) (SaysGivenRows f table)) (computing (with_given_facts f))
 
 -- a table's file, and then what is read of it
-abbrev pub reading : Forest → ℕ → Stage SourceRefusal Read Read
-reading f table = next (fetching (given_name (table_at f table).name)) (loading f table)
+abbrev pub given_reading : Forest → ℕ → Stage SourceRefusal ReadState ReadState
+given_reading f table = next (fetching (given_name (schema_table f table).name)) (given_loading f table)
 
 -- ---- all tables
 
 -- the files of the tables, in order
-abbrev pub files_stages : Forest → Stage SourceRefusal Read Read
-files_stages f = each (reading f) (range_with_len 0 (length (tables_of f)))
+abbrev pub given_files_stages : Forest → Stage SourceRefusal ReadState ReadState
+given_files_stages f = each (given_reading f) (range_with_len 0 (length (tables_of f)))
 
 -- nothing was read, and so many bytes may come
-abbrev pub none_read : ℕ → Read
+abbrev pub none_read : ℕ → ReadState
 none_read bytes = record { facts = []; bytes_left = bytes; cells_left = given_cells }
 
 -- the instance of the facts that were read
-abbrev pub storing : Forest → Stage SourceRefusal Read (List TableRows)
-storing f = notions (λ r e. ⊥) (λ r I. IsStored f r.facts I)
+abbrev pub given_storing : Forest → Stage SourceRefusal ReadState (List TableRows)
+given_storing f = notions (λ r e. ⊥) (λ r I. IsStored f r.facts I)
 
 -- what is asked for: the given target of a schema, in files of so many bytes
-pub record Wanted : Type 0 where
+pub record TargetRequest : Type 0 where
   pub schema : Forest
   pub bytes_left : ℕ
 
 -- the given files of the tables of a schema, in order, and the instance of their rows
-abbrev pub given_stages : Stage SourceRefusal Wanted (List TableRows)
-given_stages = by (λ (w : Wanted). over (λ (_ : Wanted). none_read w.bytes_left) (next (files_stages w.schema) (storing w.schema)))
+abbrev pub given_stages : Stage SourceRefusal TargetRequest (List TableRows)
+given_stages = by (λ (w : TargetRequest). over (λ (_ : TargetRequest). none_read w.bytes_left) (next (given_files_stages w.schema) (given_storing w.schema)))

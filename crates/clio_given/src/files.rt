@@ -3,8 +3,8 @@ ghost use Rattle.std.specs.Prelude.{◌≡◌, ◌+◌, ◌<◌, ◌≤◌, leng
 ghost use Rattle.dx_schema.specs.Tables.{tables_of};
 ghost use Rattle.dx_stages.specs.Running.{Ran};
 ghost use Rattle.clio_source.specs.Source.{too_many_bytes};
-ghost use Rattle.clio_given.specs.Given.{files_stages, given_stages, none_read, reading};
-ghost use Rattle.clio_given.specs.Reading.{ReadFits, read_of, shown_result};
+ghost use Rattle.clio_given.specs.Given.{given_files_stages, given_stages, none_read, given_reading};
+ghost use Rattle.clio_given.specs.Reading.{GivenReadFits, read_of, shown_result};
 
 use crate::names::given_name;
 use crate::reading::{Reading, at_start, load_given};
@@ -35,9 +35,9 @@ fn read_table<I: Inputs>(
     before: Reading,
 ) -> Result<Reading, Stop<SourceRefusal>>
     requires table { table < length (tables_of schema.now) }
-    requires fit { ReadFits schema.now table before }
-    ensures fit { IfOk result (ReadFits schema.now (table + 1)) }
-    ensures read { Ran (reading schema.now table) (read_of before) (shown_result result)
+    requires fit { GivenReadFits schema.now table before }
+    ensures fit { IfOk result (GivenReadFits schema.now (table + 1)) }
+    ensures read { Ran (given_reading schema.now table) (read_of before) (shown_result result)
         (record { holds = I.holds inputs.old; faults = I.faults inputs.old; stopped = I.stopped inputs.old })
         (record { holds = I.holds inputs.new; faults = I.faults inputs.new; stopped = I.stopped inputs.new }) }
 {
@@ -64,9 +64,9 @@ fn read_files<I: Inputs>(
     schema: &Schema,
     bytes_left: u64,
 ) -> Result<Reading, Stop<SourceRefusal>>
-    ensures fit { IfOk result (ReadFits schema.now (length (tables_of schema.now))) }
+    ensures fit { IfOk result (GivenReadFits schema.now (length (tables_of schema.now))) }
     ensures few { length (tables_of schema.now) ≤ 64 }
-    ensures read { Ran (files_stages schema.now) (none_read bytes_left) (shown_result result)
+    ensures read { Ran (given_files_stages schema.now) (none_read bytes_left) (shown_result result)
         (record { holds = I.holds inputs.old; faults = I.faults inputs.old; stopped = I.stopped inputs.old })
         (record { holds = I.holds inputs.new; faults = I.faults inputs.new; stopped = I.stopped inputs.new }) }
 {

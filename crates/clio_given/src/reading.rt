@@ -4,10 +4,10 @@ ghost use Rattle.dx_ports.specs.Members.{Each};
 ghost use Rattle.dx_instance.specs.Numbers.{Extends};
 ghost use Rattle.dx_instance.specs.Shown.{AreBelow, shown_row};
 ghost use Rattle.dx_schema.specs.Forest.{Forest};
-ghost use Rattle.dx_schema.specs.Tables.{table_at, tables_of};
+ghost use Rattle.dx_schema.specs.Tables.{schema_table, tables_of};
 ghost use Rattle.dx_stages.specs.Running.{Gives};
-ghost use Rattle.clio_given.specs.Given.{SayRows, given_name, loading, none_read, too_many_cells};
-ghost use Rattle.clio_given.specs.Reading.{NotRead, ReadFits, read_of, shown_result};
+ghost use Rattle.clio_given.specs.Given.{SayRows, given_name, given_loading, none_read, too_many_given_cells};
+ghost use Rattle.clio_given.specs.Reading.{GivenIsNotRead, GivenReadFits, read_of, shown_result};
 
 use crate::values::{NoValues, rows_of};
 use clio_source::{RowsFault, SourceRefusal};
@@ -30,7 +30,7 @@ pub(crate) struct Reading {
 
 /// Nothing was read, and so many bytes may come.
 pub(crate) fn at_start(alloc: Global, bytes_left: u64) -> Reading
-    ensures fit { (f : Forest) → ReadFits f 0 result }
+    ensures fit { (f : Forest) → GivenReadFits f 0 result }
     ensures read { read_of result ≡ none_read bytes_left }
 {
     Reading {
@@ -43,7 +43,7 @@ pub(crate) fn at_start(alloc: Global, bytes_left: u64) -> Reading
 
 // The given rows have too many cells.
 fn too_many_cells() -> SourceRefusal
-    ensures { result ≡ too_many_cells }
+    ensures { result ≡ too_many_given_cells }
 {
     SourceRefusal::Limit(Limit {
         what: Count::GivenCells,
@@ -62,10 +62,10 @@ fn rows_of_bytes(
 ) -> Result<Rows, Stop<SourceRefusal>>
     requires { table < length (tables_of schema.now) }
     ensures rows { IfOk result (λ rows. SayRows schema.now table bytes.now (map (shown_row symbols.new) rows.rows)) }
-    ensures width { IfOk result (λ rows. rows.width ≡ length (table_at schema.now table).columns) }
+    ensures width { IfOk result (λ rows. rows.width ≡ length (schema_table schema.now table).columns) }
     ensures below { IfOk result (λ rows. Each rows.rows (AreBelow (length symbols.new))) }
     ensures grows { Extends symbols.old symbols.new }
-    ensures fault { IfErr result (NotRead schema.now table bytes.now file) }
+    ensures fault { IfErr result (GivenIsNotRead schema.now table bytes.now file) }
 {
     let records = match load_table(alloc, bytes, schema.columns(table)) {
         Ok(records) => records,
@@ -103,10 +103,10 @@ pub(crate) fn load_given(
     file: Text,
 ) -> Result<Reading, Stop<SourceRefusal>>
     requires table { table < length (tables_of schema.now) }
-    requires file { file ≡ given_name (table_at schema.now table).name }
-    requires fit { ReadFits schema.now table before }
-    ensures fit { IfOk result (ReadFits schema.now (table + 1)) }
-    ensures read { Gives (loading schema.now table) (read_of before, bytes.now) (shown_result result) }
+    requires file { file ≡ given_name (schema_table schema.now table).name }
+    requires fit { GivenReadFits schema.now table before }
+    ensures fit { IfOk result (GivenReadFits schema.now (table + 1)) }
+    ensures read { Gives (given_loading schema.now table) (read_of before, bytes.now) (shown_result result) }
 {
     let mut reading = before;
     let rows = rows_of_bytes(alloc, bytes, schema, table, file, &mut reading.symbols)?;

@@ -7,7 +7,7 @@ ghost use Rattle.dx_instance.specs.Numbers.{Extends};
 ghost use Rattle.dx_instance.specs.Shown.{AreBelow, Shows};
 ghost use Rattle.clio_given.specs.declared.values.NoValues.TheVariants.{Memory};
 ghost use Rattle.clio_given.specs.Given.{IsNoRow, IsValueOf};
-ghost use Rattle.clio_given.specs.Reading.{AreShown, IsFaultOf};
+ghost use Rattle.clio_given.specs.Reading.{AreShown, IsNoValueFault};
 
 use dx_instance::{Gathered, Row, Rows, Value, value_read};
 use std::alloc::{AllocError, AllocFailed, Global};
@@ -84,7 +84,7 @@ pub(crate) fn rows_of(
     ensures width { IfOk result (λ rows. rows.width ≡ width) }
     ensures below { IfOk result (λ rows. Each rows.rows (AreBelow (length symbols.new))) }
     ensures grows { Extends symbols.old symbols.new }
-    ensures fault { IfErr result (IsFaultOf records.now) }
+    ensures fault { IfErr result (IsNoValueFault records.now) }
 {
     let Ok(count) = u32::try_from(records.len()) else {
         return Err(NoValues::Memory);

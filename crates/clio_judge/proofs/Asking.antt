@@ -4,7 +4,7 @@ use Rattle.std.specs.List.{range_with_len}
 use Rattle.dx_schema.specs.Tables.{tables_of}
 use Rattle.dx_stages.specs.Worlds.{World}
 use Rattle.dx_stages.specs.Stages.{each}
-use Rattle.clio_given.specs.Given.{Wanted as WantedGiven, given_stages, none_read, reading as given_reading}
+use Rattle.clio_given.specs.Given.{TargetRequest as WantedGiven, given_stages, none_read, given_reading}
 use Rattle.clio_given.proofs.Runs.{asks_own as asks_given_file}
 use Rattle.clio_judge.specs.Outcomes.{IsNextGiven}
 use Rattle.clio_steps.proofs.Asking.{one_asks, asks_after}

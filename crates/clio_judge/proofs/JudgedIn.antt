@@ -5,7 +5,7 @@ use Rattle.dx_instance.specs.Stored.{TableRows, facts}
 use Rattle.dx_schema.specs.Forest.{Forest}
 use Rattle.dx_schema.specs.Tables.{model_tables}
 use Rattle.dx_judge.specs.declared.verdict.Verdict.{Verdict}
-use Rattle.dx_judge.specs.Laws.{AreAlike as FaultsAlike, IsAsked}
+use Rattle.dx_judge.specs.Laws.{AreSameFault as FaultsAlike, InputFits}
 use Rattle.dx_judge.specs.Verdicts.{IsJudgement, judging}
 use Rattle.dx_judge.proofs.Judgements.{judged_or_limit}
 use Rattle.dx_stages.specs.Worlds.{World}
@@ -25,7 +25,7 @@ use Rattle.clio_ending.specs.Ending.{AreAlike, source_refusal}
 use Rattle.clio_ending.proofs.Alike.{same_alike}
 use Rattle.clio_steps.specs.declared.texts.Side.TheVariants.{First}
 use Rattle.clio_steps.specs.Steps.{Program, mapping_stages, wanted}
-use Rattle.clio_judge.specs.Judging.{Handed, Sized, given_rows, handed_verdict, judge_refusal, judge_stages, judged, judged_plan, judged_rows, judging_rows, sized_rows, verdicts, wanted_given}
+use Rattle.clio_judge.specs.Judging.{RowsAndTarget, RowsAndBytes, given_rows, verdict_of_mapping, judge_refusal, judge_stages, judged, judged_plan, judged_rows, judging_rows, rows_and_bytes, verdicts, wanted_given}
 use Rattle.clio_judge.specs.Outcomes.{IsJudgedIn}
 use Rattle.clio_steps.specs.Outcomes.{Writing}
 use Rattle.clio_steps.proofs.Mappings.{is_small}
@@ -34,10 +34,10 @@ use Rattle.clio_steps.proofs.Decided.{text_decided, text_one}
 
 -- ---- a verdict that was made
 
-with_given : List TableRows → Sized → Handed
+with_given : List TableRows → RowsAndBytes → RowsAndTarget
 with_given K p = (p.0, K)
 
-with_verdict : Verdict → Handed → Mapping × Verdict
+with_verdict : Verdict → RowsAndTarget → Mapping × Verdict
 with_verdict v p = (p.0.0, v)
 
 pub judged_in : (P : Program) (c : World) (q : Mapping × Verdict) (Wrote : Writing) → (verdicts P).passes c (tt {0}) q → Wrote [] (verdict_text q.0.target q.1) → IsJudgedIn P c q.1 Wrote
@@ -55,8 +55,8 @@ judged_in P c q Wrote
       left = left;
       source = source;
       target = K;
-      given = subst (λ (z : Sized). given_stages.passes c (wanted_given z) K) sized_is given;
-      judgement = subst (λ (z : Handed). IsJudgement P.apply (judged z) v) to judgement;
+      given = subst (λ (z : RowsAndBytes). given_stages.passes c (wanted_given z) K) sized_is given;
+      judgement = subst (λ (z : RowsAndTarget). IsJudgement P.apply (judged z) v) to judgement;
       written = subst (λ (z : Mapping × Verdict). Wrote [] (verdict_text z.0.target z.1)) whole wrote;
     })
 
@@ -65,45 +65,45 @@ judged_in P c q Wrote
 FitsList : Program → Mapping → Type 0
 FitsList P M = MappingFits P.list P.tests M
 
-FitsSized : Program → Sized → Type 0
+FitsSized : Program → RowsAndBytes → Type 0
 FitsSized P p = MappingFits P.list P.tests p.0.0
 
-pub record FitsHanded (P : Program) (p : Handed) : Type 0 where
+pub record FitsHanded (P : Program) (p : RowsAndTarget) : Type 0 where
   pub mapping : MappingFits P.list P.tests p.0.0
   pub given : IsInstance (model_tables p.0.0.target) (facts p.1)
 
-asked : (P : Program) (p : Handed) → FitsHanded P p → IsAsked P.list (model_tables p.0.0.source) (judged p)
+asked : (P : Program) (p : RowsAndTarget) → FitsHanded P p → InputFits P.list (model_tables p.0.0.source) (judged p)
 asked P p h = record { fits = rules_fit P p.0.0 h.mapping; given_fits = h.given }
 
 judging_decided : (P : Program) → IsDecided AreAlike (FitsHanded P) (judging_rows P)
-judging_decided P = into_decided AreAlike (FitsHanded P) (λ (p : Handed) (v : Verdict). (p.0.0, v)) (judged_rows P.apply) (record {
+judging_decided P = into_decided AreAlike (FitsHanded P) (λ (p : RowsAndTarget) (v : Verdict). (p.0.0, v)) (judged_rows P.apply) (record {
   one = λ c p e f h. (of_source p.0.0.source).one c (judged p) e f (asked P p h);
   never_both = λ c p v e h. (of_source p.0.0.source).never_both c (judged p) v e (asked P p h);
   either = λ c p h. (of_source p.0.0.source).either c (judged p) (asked P p h);
 })
   where
-    of_source : (source : Forest) → IsDecided AreAlike (IsAsked P.list (model_tables source)) (saying judge_refusal (judging P.apply))
+    of_source : (source : Forest) → IsDecided AreAlike (InputFits P.list (model_tables source)) (saying judge_refusal (judging P.apply))
     of_source source =
-        saying_decided FaultsAlike AreAlike (IsAsked P.list (model_tables source)) judge_refusal (judging P.apply)
+        saying_decided FaultsAlike AreAlike (InputFits P.list (model_tables source)) judge_refusal (judging P.apply)
         (λ e k is. same_alike (judge_refusal e) (judge_refusal k) (ap judge_refusal is)) (judged_or_limit P.apply P.list (model_tables source))
 
 given_rows_one : PassesOne given_rows
 given_rows_one =
-    into_one (λ (p : Sized) (K : List TableRows). (p.0, K)) (over wanted_given (saying source_refusal given_stages))
+    into_one (λ (p : RowsAndBytes) (K : List TableRows). (p.0, K)) (over wanted_given (saying source_refusal given_stages))
     (over_one wanted_given (saying source_refusal given_stages) given_one)
 
 given_rows_decided : (P : Program) → IsDecided AreAlike (FitsSized P) given_rows
 given_rows_decided P =
-    into_decided AreAlike (FitsSized P) (λ (p : Sized) (K : List TableRows). (p.0, K)) (over wanted_given (saying source_refusal given_stages))
+    into_decided AreAlike (FitsSized P) (λ (p : RowsAndBytes) (K : List TableRows). (p.0, K)) (over wanted_given (saying source_refusal given_stages))
     (over_decided AreAlike (FitsSized P) Any wanted_given (saying source_refusal given_stages) (λ p g. tt)
     (saying_decided (λ e k. e ≡ k) AreAlike Any source_refusal given_stages (λ e k is. same_alike (source_refusal e) (source_refusal k) (ap source_refusal is)) given_decided))
 
-sized_one : (P : Program) → PassesOne (sized_rows P)
+sized_one : (P : Program) → PassesOne (rows_and_bytes P)
 sized_one P =
     into_one (λ (M : Mapping) (q : List TableRows × ℕ). ((M, q.0), q.1)) (over wanted (saying source_refusal (source_left P.passes)))
     (over_one wanted (saying source_refusal (source_left P.passes)) (left_one P.passes))
 
-sized_decided : (P : Program) → IsDecided AreAlike (FitsList P) (sized_rows P)
+sized_decided : (P : Program) → IsDecided AreAlike (FitsList P) (rows_and_bytes P)
 sized_decided P =
     into_decided AreAlike (FitsList P) (λ (M : Mapping) (q : List TableRows × ℕ). ((M, q.0), q.1)) (over wanted (saying source_refusal (source_left P.passes)))
     (over_decided AreAlike (FitsList P) Any wanted (saying source_refusal (source_left P.passes)) (λ M g. tt)
@@ -113,15 +113,15 @@ sized_decided P =
 verdicts_decided : (P : Program) → IsDecided AreAlike Any (verdicts P)
 unfolding FitsList FitsSized
 verdicts_decided P =
-    next_decided AreAlike Any (FitsList P) (mapping_stages P) (handed_verdict P) (text_one P First)
+    next_decided AreAlike Any (FitsList P) (mapping_stages P) (verdict_of_mapping P) (text_one P First)
     (λ c a M g p. accepted_fits P.list P.tests c p.0 M (is_small p.0 p.1.1) p.2) (text_decided P First)
-    (next_decided AreAlike (FitsList P) (FitsSized P) (sized_rows P) (next given_rows (judging_rows P)) (sized_one P) rows_lead (sized_decided P)
+    (next_decided AreAlike (FitsList P) (FitsSized P) (rows_and_bytes P) (next given_rows (judging_rows P)) (sized_one P) rows_lead (sized_decided P)
     (next_decided AreAlike (FitsSized P) (FitsHanded P) given_rows (judging_rows P) given_rows_one given_lead (given_rows_decided P) (judging_decided P)))
   where
-    rows_lead : (c : World) (M : Mapping) (p : Sized) → FitsList P M → (sized_rows P).passes c M p → FitsSized P p
+    rows_lead : (c : World) (M : Mapping) (p : RowsAndBytes) → FitsList P M → (rows_and_bytes P).passes c M p → FitsSized P p
     rows_lead c M p h (q, source, is) = subst (FitsSized P) (sym is) h
 
-    given_lead : (c : World) (p : Sized) (k : Handed) → FitsSized P p → given_rows.passes c p k → FitsHanded P k
+    given_lead : (c : World) (p : RowsAndBytes) (k : RowsAndTarget) → FitsSized P p → given_rows.passes c p k → FitsHanded P k
     given_lead c p k h (K, given, is) = subst (FitsHanded P) (sym is) (record { mapping = h; given = given_fits c (wanted_given p) K given })
 
 pub judge_decided : (P : Program) → IsDecided AreAlike Any (judge_stages P)

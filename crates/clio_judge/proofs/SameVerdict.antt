@@ -3,12 +3,12 @@ use Rattle.std.proofs.Common.{List, Result, Ok, Err}
 use Rattle.dx_ports.specs.Members.{Each}
 use Rattle.dx_model.specs.Values.{Conversions}
 use Rattle.dx_instance.specs.Stored.{TableRows, facts}
-use Rattle.dx_used.specs.Used.{Agree, Marks, UsesOnly}
+use Rattle.dx_used.specs.Used.{AgreeOnUsed, Marks, UsesOnly}
 use Rattle.dx_used.proofs.UsedLaws.{same_rows}
 use Rattle.dx_judge.specs.declared.fault.JudgeFault.{JudgeFault}
 use Rattle.dx_judge.specs.declared.fault.JudgeFault.TheVariants as judge_faults
 use Rattle.dx_judge.specs.declared.verdict.Verdict.{Verdict}
-use Rattle.dx_judge.specs.Verdicts.{HasNone, IsJudgement}
+use Rattle.dx_judge.specs.Verdicts.{HasNoVerdict, IsJudgement}
 use Rattle.dx_judge.proofs.Members.{verdict_by_matches}
 use Rattle.dx_stages.specs.declared.stop.Stop.{Stop}
 use Rattle.dx_stages.specs.declared.stop.Stop.TheVariants as stops
@@ -17,7 +17,7 @@ use Rattle.clio_accept.specs.declared.mapping.Mapping.{Mapping}
 use Rattle.clio_ending.specs.declared.ending.Refusal.{Refusal}
 use Rattle.clio_judge.specs.Judging.{judged, judged_rows}
 
-module _ (convert : Conversions) (M : Mapping) (used : Marks) (I J K : List TableRows) (uses : Each M.rules (UsesOnly used)) (agree : Agree used (facts I) (facts J)) where
+module _ (convert : Conversions) (M : Mapping) (used : Marks) (I J K : List TableRows) (uses : Each M.rules (UsesOnly used)) (agree : AgreeOnUsed used (facts I) (facts J)) where
   verdict_for : (v : Verdict) → IsJudgement convert (judged ((M, J), K)) v → IsJudgement convert (judged ((M, I), K)) v
   verdict_for v x =
       let are = same_rows convert used M.rules (facts J) (facts I) x.rows uses (agree.1, agree.0) x.are in record {
@@ -27,7 +27,7 @@ module _ (convert : Conversions) (M : Mapping) (used : Marks) (I J K : List Tabl
         verdict = verdict_by_matches convert (judged ((M, J), K)) (facts I) x.rows v x.are are x.verdict;
       }
 
-  none_for : (e : JudgeFault) → HasNone convert (judged ((M, J), K)) e → HasNone convert (judged ((M, I), K)) e
+  none_for : (e : JudgeFault) → HasNoVerdict convert (judged ((M, J), K)) e → HasNoVerdict convert (judged ((M, I), K)) e
   none_for (judge_faults.Limit l) x = (
     x.0,
     record {

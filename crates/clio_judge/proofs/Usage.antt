@@ -2,15 +2,15 @@
 use Rattle.std.proofs.Common.{◌≡◌, inl, inr}
 use Rattle.dx_judge.specs.declared.fault.JudgeFault.{JudgeFault}
 use Rattle.dx_judge.specs.declared.fault.JudgeFault.TheVariants as judge_faults
-use Rattle.dx_judge.specs.Verdicts.{HasNone as HasNoVerdict}
+use Rattle.dx_judge.specs.Verdicts.{HasNoVerdict}
 use Rattle.dx_stages.specs.Worlds.{World}
 use Rattle.clio_ending.specs.declared.ending.Refusal.TheVariants as refusals
 use Rattle.clio_steps.specs.declared.texts.Side.TheVariants.{First}
 use Rattle.clio_steps.specs.Steps.{Program}
-use Rattle.clio_judge.specs.Judging.{Handed, judge_refusal, judged, verdicts}
+use Rattle.clio_judge.specs.Judging.{RowsAndTarget, judge_refusal, judged, verdicts}
 use Rattle.clio_steps.proofs.Reasons.{source_rows_kept, text_never}
 
-judge_kept : (P : Program) (p : Handed) (k : JudgeFault) → HasNoVerdict P.apply (judged p) k → ¬ (refusals.Usage ≡ judge_refusal k)
+judge_kept : (P : Program) (p : RowsAndTarget) (k : JudgeFault) → HasNoVerdict P.apply (judged p) k → ¬ (refusals.Usage ≡ judge_refusal k)
 judge_kept P p (judge_faults.Limit limit) h is = cc
 judge_kept P p judge_faults.Memory h is = h
 

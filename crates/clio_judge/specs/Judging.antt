@@ -6,47 +6,47 @@ use Rattle.dx_schema.specs.Tables.{model_tables}
 use Rattle.dx_judge.specs.declared.fault.JudgeFault.{JudgeFault}
 use Rattle.dx_judge.specs.declared.fault.JudgeFault.TheVariants as judge_faults
 use Rattle.dx_judge.specs.declared.verdict.Verdict.{Verdict}
-use Rattle.dx_judge.specs.Verdicts.{Judged as Judgeable, judging}
-use Rattle.dx_stages.specs.Ending.{Planned}
+use Rattle.dx_judge.specs.Verdicts.{JudgeInput as Judgeable, judging}
+use Rattle.dx_stages.specs.Ending.{PlanContent}
 use Rattle.dx_stages.specs.Stages.{Stage, next, over, into, saying}
 use Rattle.clio_accept.specs.declared.mapping.Mapping.{Mapping}
 use Rattle.clio_source.specs.Source.{source_left}
-use Rattle.clio_given.specs.Given.{Wanted as WantedGiven, given_stages}
+use Rattle.clio_given.specs.Given.{TargetRequest as WantedGiven, given_stages}
 use Rattle.clio_files.specs.Verdicts.{verdict_text}
 use Rattle.clio_ending.specs.declared.ending.Done.{Done}
 use Rattle.clio_ending.specs.declared.ending.Done.TheVariants.{Judged}
 use Rattle.clio_ending.specs.declared.ending.Refusal.{Refusal}
 use Rattle.clio_ending.specs.declared.ending.Refusal.TheVariants as refusals
 use Rattle.clio_ending.specs.Ending.{source_refusal}
-use Rattle.clio_steps.specs.Steps.{Filled, Program, mapping_stages, target_cells, wanted}
+use Rattle.clio_steps.specs.Steps.{MappingAndRows, Program, mapping_stages, target_cells, wanted}
 
 -- ---- the rows and the given target
 
 -- a mapping and its rows, and how many bytes the given files may have
-abbrev pub Sized : Type 0
-Sized = Filled × ℕ
+abbrev pub RowsAndBytes : Type 0
+RowsAndBytes = MappingAndRows × ℕ
 
 -- the rows of the source files that pass the mapping's conditions, and how many bytes are left
-abbrev pub sized_rows : Program → Stage Refusal Mapping Sized
-sized_rows P =
+abbrev pub rows_and_bytes : Program → Stage Refusal Mapping RowsAndBytes
+rows_and_bytes P =
     into (λ (M : Mapping) (q : List TableRows × ℕ). ((M, q.0), q.1)) (over wanted (saying source_refusal (source_left P.passes)))
 
 -- a mapping and its rows, and a given target
-abbrev pub Handed : Type 0
-Handed = Filled × List TableRows
+abbrev pub RowsAndTarget : Type 0
+RowsAndTarget = MappingAndRows × List TableRows
 
 -- what is wanted of the given files: the tables of the target, in the bytes that are left
-abbrev pub wanted_given : Sized → WantedGiven
+abbrev pub wanted_given : RowsAndBytes → WantedGiven
 wanted_given p = record { schema = p.0.0.target; bytes_left = p.1 }
 
 -- the given target, beside the mapping and its rows
-abbrev pub given_rows : Stage Refusal Sized Handed
-given_rows = into (λ (p : Sized) (K : List TableRows). (p.0, K)) (over wanted_given (saying source_refusal given_stages))
+abbrev pub given_rows : Stage Refusal RowsAndBytes RowsAndTarget
+given_rows = into (λ (p : RowsAndBytes) (K : List TableRows). (p.0, K)) (over wanted_given (saying source_refusal given_stages))
 
 -- ---- the verdict
 
 -- what is judged: the given target, as a target of the rows under the mapping
-abbrev pub judged : Handed → Judgeable
+abbrev pub judged : RowsAndTarget → Judgeable
 judged p =
     record { rules = p.0.0.rules; schema = model_tables p.0.0.target; rows = facts p.0.1; given = facts p.1; limit = target_cells }
 
@@ -56,25 +56,25 @@ judge_refusal (judge_faults.Limit limit) = refusals.Limit limit
 judge_refusal judge_faults.Memory = refusals.Usage
 
 -- the verdict on the given target
-abbrev pub judged_rows : Conversions → Stage Refusal Handed Verdict
+abbrev pub judged_rows : Conversions → Stage Refusal RowsAndTarget Verdict
 judged_rows convert = over judged (saying judge_refusal (judging convert))
 
 -- the same, beside the mapping
-abbrev pub judging_rows : Program → Stage Refusal Handed (Mapping × Verdict)
-judging_rows P = into (λ (p : Handed) (v : Verdict). (p.0.0, v)) (judged_rows P.apply)
+abbrev pub judging_rows : Program → Stage Refusal RowsAndTarget (Mapping × Verdict)
+judging_rows P = into (λ (p : RowsAndTarget) (v : Verdict). (p.0.0, v)) (judged_rows P.apply)
 
 -- what comes after the mapping text: its source files, the given files, and the verdict
-abbrev pub handed_verdict : Program → Stage Refusal Mapping (Mapping × Verdict)
-handed_verdict P = next (sized_rows P) (next given_rows (judging_rows P))
+abbrev pub verdict_of_mapping : Program → Stage Refusal Mapping (Mapping × Verdict)
+verdict_of_mapping P = next (rows_and_bytes P) (next given_rows (judging_rows P))
 
 -- a mapping text, and the verdict on the given target
 abbrev pub verdicts : Program → Stage Refusal (Unit {0}) (Mapping × Verdict)
-verdicts P = next (mapping_stages P) (handed_verdict P)
+verdicts P = next (mapping_stages P) (verdict_of_mapping P)
 
 -- what is said of a verdict; no file is put
-abbrev pub judged_plan : Mapping × Verdict → Planned Done
+abbrev pub judged_plan : Mapping × Verdict → PlanContent Done
 judged_plan q = record { done = Judged q.1; files = []; text = verdict_text q.0.target q.1 }
 
 -- a verdict, and what is said of it
-abbrev pub judge_stages : Program → Stage Refusal (Unit {0}) (Planned Done)
+abbrev pub judge_stages : Program → Stage Refusal (Unit {0}) (PlanContent Done)
 judge_stages P = into (λ (u : Unit {0}) (q : Mapping × Verdict). judged_plan q) (verdicts P)

@@ -1,7 +1,7 @@
 -- What holds of verdicts on given targets.
 use Rattle.std.specs.Prelude.{[]}
 use Rattle.dx_judge.specs.declared.verdict.Verdict.{Verdict}
-use Rattle.dx_stages.specs.Ending.{Written}
+use Rattle.dx_stages.specs.Ending.{OutputState}
 use Rattle.dx_stages.specs.Laws.{IsDecided}
 use Rattle.dx_stages.specs.Worlds.{World}
 use Rattle.clio_accept.specs.declared.mapping.Mapping.{Mapping}
@@ -19,5 +19,5 @@ VerdictOrRefusal = (P : Program) → IsDecided AreAlike (λ u. Unit {0}) (judge_
 -- the verdict is that on the given files, as a target of the source under the mapping
 abbrev pub VerdictsAreSo : Type 0
 VerdictsAreSo =
-    (P : Program) (c : World) (M : Mapping) (v : Verdict) (before after : Written) → (verdicts P).passes c (tt {0}) (M, v)
+    (P : Program) (c : World) (M : Mapping) (v : Verdict) (before after : OutputState) → (verdicts P).passes c (tt {0}) (M, v)
     → wrote_all before after [] (verdict_text M.target v) → IsJudgedIn P c v (wrote_all before after)

@@ -2,15 +2,15 @@
 use Rattle.std.specs.Prelude.{◌≡◌, ◌++◌, ℕ, List, [], ◌∷◌, codes, length, Some}
 use Rattle.std.specs.List.{range_with_len}
 use Rattle.dx_instance.specs.Stored.{TableRows}
-use Rattle.dx_schema.specs.Tables.{table_at, tables_of}
+use Rattle.dx_schema.specs.Tables.{schema_table, tables_of}
 use Rattle.dx_judge.specs.declared.verdict.Verdict.{Verdict}
 use Rattle.dx_judge.specs.Verdicts.{IsJudgement}
 use Rattle.dx_stages.specs.Worlds.{World}
 use Rattle.dx_stages.specs.Stages.{each}
 use Rattle.clio_accept.specs.declared.mapping.Mapping.{Mapping}
 use Rattle.clio_accept.specs.Accepting.{accepting}
-use Rattle.clio_source.specs.Source.{Read, source_left}
-use Rattle.clio_given.specs.Given.{Wanted as WantedGiven, given_name, given_stages, none_read, reading as given_reading}
+use Rattle.clio_source.specs.Source.{ReadState, source_left}
+use Rattle.clio_given.specs.Given.{TargetRequest as WantedGiven, given_name, given_stages, none_read, given_reading}
 use Rattle.clio_files.specs.Verdicts.{verdict_text}
 use Rattle.clio_steps.specs.Steps.{Program, wanted}
 use Rattle.clio_judge.specs.Judging.{judged, wanted_given}
@@ -39,6 +39,6 @@ pub record IsNextGiven (c : World) (w : WantedGiven) (name : List ℕ) : Type 0 
   pub table : ℕ
   pub after : List ℕ
   pub tables_are : range_with_len 0 (length (tables_of w.schema)) ≡ before ++ table ∷ after
-  pub read : Read
+  pub read : ReadState
   pub passed : (each (given_reading w.schema) before).passes c (none_read w.bytes_left) read
-  pub is : name ≡ given_name (table_at w.schema table).name
+  pub is : name ≡ given_name (schema_table w.schema table).name

@@ -16,7 +16,7 @@ use Rattle.dx_model.proofs.Pruning.{part_after, one_after}
 use Rattle.dx_model.proofs.RowsExist.{rows_of_all, rows_of_all_exist}
 use Rattle.dx_tgd.specs.Counting.{canonical_cells}
 use Rattle.dx_implies.specs.Frozen.{PassesFrozen, frozen_premise}
-use Rattle.dx_implies.specs.Pruning.{IsLeft, PassesTest}
+use Rattle.dx_implies.specs.Pruning.{IsPrunedAlways, PruningPassesLimit}
 use Rattle.dx_implies.proofs.Plain.{all_rows_any, go_any, underived_plain}
 
 -- some conversions: on rules without derived variables nothing depends on them
@@ -45,7 +45,7 @@ left_again convert front fewer (d ∷ R) P s (kept, behind, inr (n, is)) =
     subst (λ (Q : List Rule). PrunedAfter convert fewer Q Q) (sym is)
     (kept, rest, inr ((λ g. n (go_more convert (fewer ++ kept) (front ++ kept) d (both_within fewer front kept kept s (λ e m. m)) g)), refl))
 
-pub pruned_again : (R P : List Rule) → IsLeft R P → IsLeft P P
+pub pruned_again : (R P : List Rule) → IsPrunedAlways R P → IsPrunedAlways P P
 pruned_again R P left convert = left_again convert [] [] R P (λ d m. m) (left convert)
 
 -- ---- one list is left, whatever conversions do
@@ -158,7 +158,7 @@ stood outer (d ∷ R) P (x ∷ f) r b (kept, behind, inr (n, is)) e =
     let s = first_is d x kept (f ++ r ∷ b) (sym is ∙ e) in
     stood_later outer R f r b d (x ∷ f) (stood (outer ++ d ∷ []) R kept f r b behind s.1) (λ front p. subst (λ (y : Rule). Part (y ∷ f) (d ∷ front)) s.0 (taken_in d p))
 
-pub no_test_passes : (limit : ℕ) (R P : List Rule) → Each R IsRule → IsLeft R P → ¬ (PassesTest limit R) → ¬ (PassesTest limit P)
+pub no_test_passes : (limit : ℕ) (R P : List Rule) → Each R IsRule → IsPrunedAlways R P → ¬ (PruningPassesLimit limit R) → ¬ (PruningPassesLimit limit P)
 no_test_passes limit R P rules left none_passes t =
     let s = stood [] R P t.front t.rule t.back (left none) t.is in
     let within : (t.front ++ t.rule ∷ []) ⊆ (s.front ++ t.rule ∷ []) = both_within t.front s.front (t.rule ∷ []) (t.rule ∷ []) (part_members t.front s.front s.part) (λ d m. m) in

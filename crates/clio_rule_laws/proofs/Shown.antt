@@ -15,8 +15,8 @@ use Rattle.dx_funcs.specs.declared.conversion.Conversion.{Conversion}
 use Rattle.dx_funcs.specs.declared.row_test.RowTest.{RowTest}
 use Rattle.dx_funcs.specs.Offers.{IsOffer}
 use Rattle.dx_line_text.specs.Naming.{lines_fault}
-use Rattle.dx_rule_text.specs.Printed.{Text}
-use Rattle.dx_tgd_text.specs.Reading.{rule_fault, rules_fault, rule_of}
+use Rattle.dx_ports.specs.Texts.{Text}
+use Rattle.dx_tgd_text.specs.Reading.{rule_fault, rules_fault, rule_of_text}
 use Rattle.dx_rule_laws.specs.ReadBack.{IsWritable}
 use Rattle.dx_rule_laws.proofs.Lines.{printed_lines_are_read}
 use Rattle.dx_rule_laws.proofs.Said.{said_rules_are_writable}
@@ -24,12 +24,12 @@ use Rattle.dx_rule_laws.proofs.LineRules.{line_rules_are_writable}
 use Rattle.dx_rule_laws.proofs.Closings.{closings_are_writable}
 use Rattle.dx_stages.specs.Worlds.{World}
 use Rattle.dx_stages.specs.Stages.{next}
-use Rattle.dx_implies.specs.Pruning.{IsLeft, PassesTest}
+use Rattle.dx_implies.specs.Pruning.{IsPrunedAlways, PruningPassesLimit}
 use Rattle.dx_implies.proofs.Pruned.{left_implies}
 use Rattle.clio_accept.specs.declared.mapping.Mapping.{Mapping}
 use Rattle.clio_accept.specs.Mapping.{SourceRefused, TargetRefused, NameRefused}
 use Rattle.clio_accept.specs.Mapping.{frozen_cells}
-use Rattle.clio_accept.specs.Mapping.{NoneReserved, AreRulesOf, IsNarrowClosing, rules_of, limit_of, written_of}
+use Rattle.clio_accept.specs.Mapping.{NoneReserved, AreRulesOf, IsNarrowClosing, rules_of_lines, limit_of, written_of}
 use Rattle.clio_accept.specs.Accepting.{limits, closing}
 use Rattle.clio_accept.specs.Accepting.{accepting, between_of, said_rules, target_names, target_sets, with_rules}
 use Rattle.clio_accept.specs.Laws.{MappingFits}
@@ -41,12 +41,12 @@ use Rattle.clio_rule_laws.specs.Laws.{AreShownAgain, ShownRulesAreReadAgain}
 
 written_writable : (text : Text) (list : List Conversion) (m : MappingText) → IsMappingText text m → IsOffer list → rules_fault m.source m.target list m.rules ≡ None → Each (written_of list m.source m.target m.rules) (IsWritable list)
 written_writable text list m says offer none d i =
-    let r = from_map (rule_of m.source m.target list) m.rules i in
+    let r = from_map (rule_of_text m.source m.target list) m.rules i in
     subst (IsWritable list) r.2 (said_rules_are_writable text m list r.0 says offer r.1 (each_none (rule_fault m.source m.target list) m.rules none r.0 r.1))
 
 taken_writable : (text : Text) (list : List Conversion) (tests : List RowTest) (m : MappingText) (P : List Rule) → IsMappingText text m → IsOffer list → IsTaken list tests m P → Each P (IsWritable list)
 taken_writable text list tests m P says offer t d i =
-    elim (from_append (rules_of list m.source m.target m.lines) (subst (λ rs. d ∈ rs) t.are.are ((left_implies t.all P t.left).0 d i))) [
+    elim (from_append (rules_of_lines list m.source m.target m.lines) (subst (λ rs. d ∈ rs) t.are.are ((left_implies t.all P t.left).0 d i))) [
       | inl k ↦ line_rules_are_writable text m list says offer t.named d k
       | inr k ↦ closed_writable (closed_of (model_tables m.target) (written_of list m.source m.target m.rules) t.are.closed t.are.closings d k)
     ]

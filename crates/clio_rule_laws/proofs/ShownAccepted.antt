@@ -21,13 +21,13 @@ use Rattle.dx_funcs.specs.declared.conversion.Conversion.{Conversion}
 use Rattle.dx_funcs.specs.declared.row_test.RowTest.{RowTest}
 use Rattle.dx_lines.specs.Candidates.{all_variants, pair_candidates, candidates_of}
 use Rattle.dx_lines.specs.Kept.{is_kept}
-use Rattle.dx_lines.specs.Limits.{first_or, has_many_ways, passed_by, passed}
-use Rattle.dx_lines.specs.Rules.{kept_rules, rule_of}
+use Rattle.dx_lines.specs.Limits.{first_or, has_many_ways, passed_by, passed_limit}
+use Rattle.dx_lines.specs.Rules.{kept_rules, candidate_rule}
 use Rattle.dx_lines.specs.declared.line.Line.{Line}
 use Rattle.dx_lines.proofs.Sources.{from_kept}
 use Rattle.dx_line_text.specs.Naming.{lines_of}
-use Rattle.dx_rule_text.specs.Printed.{Text}
-use Rattle.dx_tgd_text.specs.Reading.{IsNarrow, rules_of as said_rules_of}
+use Rattle.dx_ports.specs.Texts.{Text}
+use Rattle.dx_tgd_text.specs.Reading.{RuleHasFewCells, rules_of_texts as said_rules_of}
 use Rattle.dx_tgd_text.proofs.Written.{texts_have_whole_rules}
 use Rattle.dx_rule_laws.specs.ReadBack.{AreReadBehind}
 use Rattle.dx_rule_laws.specs.ReadBack as read_back
@@ -35,7 +35,7 @@ use Rattle.dx_stages.specs.Worlds.{World}
 use Rattle.dx_stages.specs.Stages.{next}
 use Rattle.dx_implies.proofs.Pruned.{left_implies}
 use Rattle.clio_accept.specs.declared.mapping.Mapping.{Mapping}
-use Rattle.clio_accept.specs.Mapping.{AreClosings, AreRulesOf, IsNarrowClosing, NoneReserved, frozen_cells, limit_of, rules_of, written_of}
+use Rattle.clio_accept.specs.Mapping.{AreClosings, AreRulesOf, IsNarrowClosing, NoneReserved, frozen_cells, limit_of, rules_of_lines, written_of}
 use Rattle.clio_accept.specs.Accepting.{accepting, between_of, closing, leaving, taking, with_rules}
 use Rattle.clio_accept.specs.Laws.{MappingFits}
 use Rattle.clio_accept.proofs.Accepted.{IsRead, accepted_fits, all_rules_fit}
@@ -68,7 +68,7 @@ rest_first [] rest other e = refl
 rest_first (None ∷ xs) rest other e = rest_first xs rest other e
 rest_first (Some l ∷ xs) rest other e = absurd (cc)
 
-none_passed : (lines : List Line) (A B : List Table) → passed lines A B ≡ None → passed [] A B ≡ None
+none_passed : (lines : List Line) (A B : List Table) → passed_limit lines A B ≡ None → passed_limit [] A B ≡ None
 none_passed lines A B e = rest_first (passed_by A ++ passed_by B) _ _ e ∙ (rw (no_many_ways A B, no_candidates A B) refl)
 
 -- ---- the rules are their own closings
@@ -78,7 +78,7 @@ record HasFewAtoms (d : Rule) : Type 0 where
   premise : length d.premise ≤ 64
   conclusion : length d.conclusion ≤ 64
 
-kept_few : (lines : List Line) (A B : List Table) → passed lines A B ≡ None → Each (kept_rules lines A B) HasFewAtoms
+kept_few : (lines : List Line) (A B : List Table) → passed_limit lines A B ≡ None → Each (kept_rules lines A B) HasFewAtoms
 kept_few lines A B e d m =
     let n = narrow_sides lines A B e in
     let k = from_kept lines A B d m in
@@ -96,7 +96,7 @@ closed_few schema ds es closings e m =
 
 all_few : (list : List Conversion) (tests : List RowTest) (m : MappingText) (P : List Rule) (t : IsTaken list tests m P) → Each t.all HasFewAtoms
 all_few list tests m P t d i =
-    elim (from_append (rules_of list m.source m.target m.lines) (subst (λ rs. d ∈ rs) t.are.are i)) [
+    elim (from_append (rules_of_lines list m.source m.target m.lines) (subst (λ rs. d ∈ rs) t.are.are i)) [
       | inl k ↦ kept_few (lines_of m.source m.target list m.lines) (model_tables m.source) (model_tables m.target) t.limits d k
       | inr k ↦ closed_few (model_tables m.target) (written_of list m.source m.target m.rules) t.are.closed t.are.closings d k
     ]
@@ -108,7 +108,7 @@ own_closings schema (d ∷ ds) h = (h d (here refl), own_closings schema ds (λ 
 -- ---- the rules after the sets
 
 no_kept : (A B : List Table) → kept_rules [] A B ≡ []
-no_kept A B = ap (λ cs. map (rule_of [] A B) (filter (is_kept [] A B) cs)) (no_candidates A B)
+no_kept A B = ap (λ cs. map (candidate_rule [] A B) (filter (is_kept [] A B) cs)) (no_candidates A B)
 
 -- what is left of the rules of a mapping is taken again, where a text says it between the same sides
 taken_again : (list : List Conversion) (tests : List RowTest) (m : MappingText) (P : List Rule) (said : List RuleText) → IsTaken list tests m P → Each P (λ d. IsClosed (model_tables m.target) d) → Each P HasFewAtoms
@@ -131,11 +131,11 @@ accepted_again : (list : List Conversion) (tests : List RowTest) (c : World) (te
 accepted_again list tests c text sets m P version small says source target names t fit shown =
     let whole = texts_have_whole_rules text m says in
     let read : IsRead list m = record { source = source; target = target; named = t.named; limits = t.limits; written = t.written; whole = λ r i. (whole r i).0 } in
-    let narrow : Each m.rules IsNarrow = λ r i. (let few = (whole r i).1 in omega (arith, few, small)) in
+    let narrow : Each m.rules RuleHasFewCells = λ r i. (let few = (whole r i).1 in omega (arith, few, small)) in
     let rules : Each t.all IsRule = λ d i. (all_rules_fit list m t.all read narrow t.are d i).rule in
     let part = (left_implies t.all P t.left).0 in
     let few : Each P HasFewAtoms = λ d i. all_few list tests m P t d (part d i) in
-    let said = read_back.with_rules (sides version m.source m.target) shown.said in
+    let said = read_back.with_more_rules (sides version m.source m.target) shown.said in
     let b = between_of said in
     let limit : limit_of list m.source m.target [] ≡ None = none_passed (lines_of m.source m.target list m.lines) (model_tables m.source) (model_tables m.target) t.limits in
     let left : leaving.passes c P P = (P, (fit.few, refl), (P, (no_test_passes frozen_cells t.all P rules t.left t.within, refl), pruned_again t.all P t.left)) in

@@ -16,7 +16,7 @@ use Rattle.dx_model.proofs.Ascending.{one_ascending, in_order, in_order_ascends,
 use Rattle.dx_instance.specs.Stored.{TableRows, facts, rows_of, widths}
 use Rattle.dx_instance.proofs.StoredFacts.{fact_from_row, row_from_fact, same_tables}
 use Rattle.dx_schema.specs.Forest.{Forest}
-use Rattle.dx_schema.specs.Tables.{TableOf, schema_widths, table_at, tables_of}
+use Rattle.dx_schema.specs.Tables.{TableOf, schema_widths, schema_table, tables_of}
 use Rattle.dx_csv.specs.Table.{table_records}
 use Rattle.dx_csv.proofs.OneReading.{table-is-one, fault-is-one, faults-exclude}
 use Rattle.dx_csv.proofs.Decided.{table_or_fault}
@@ -31,7 +31,7 @@ use Rattle.clio_source.specs.declared.fault.SourceRefusal.{SourceRefusal}
 use Rattle.clio_source.specs.declared.fault.SourceRefusal.TheVariants as refusals
 use Rattle.dx_lines.specs.declared.line.Condition.{Condition}
 use Rattle.dx_used.specs.Passing.{Passes, passing}
-use Rattle.clio_source.specs.Source.{Form, HaveFault, IsFaulty, IsStored, Read, SayFacts, Says, Wanted, as_facts, at_start, fetching, file_at, files_stages, flat, form_at, loading, named_by, nested, reading, roots, storing, too_many_bytes, with_facts}
+use Rattle.clio_source.specs.Source.{RootShape, HaveFault, IsSourceFault, IsStored, ReadState, SayFacts, SaysSourceFacts, SourceRequest, as_facts, at_start, fetching, file_at, files_stages, flat, form_at, loading, named_by, nested, reading, roots, storing, too_many_bytes, with_facts}
 use Rattle.clio_source.specs.Laws.{OneSource, OneSourceLeft, ReadOrRefused, ReadOrRefusedLeft, SourceIsOfBoth}
 use Rattle.clio_source.proofs.Runs.{its_file}
 use Rattle.clio_source.proofs.Passed.{AreOf, passed_of, passing_of}
@@ -41,20 +41,20 @@ Same d e = d ≡ e
 
 -- ---- what the bytes of a root's file say
 
-said_one : (form : Form) (f : Forest) (root : ℕ) (bytes : List ℕ) (a b : List Fact) → SayFacts form f root bytes a → SayFacts form f root bytes b → a ≡ b
-said_one flat f root bytes a b x y = x.2 ∙ ap (as_facts root) (table-is-one (table_records bytes) (table_at f root).columns x.0 y.0 x.1 y.1) ∙ sym y.2
+said_one : (form : RootShape) (f : Forest) (root : ℕ) (bytes : List ℕ) (a b : List Fact) → SayFacts form f root bytes a → SayFacts form f root bytes b → a ≡ b
+said_one flat f root bytes a b x y = x.2 ∙ ap (as_facts root) (table-is-one (table_records bytes) (schema_table f root).columns x.0 y.0 x.1 y.1) ∙ sym y.2
 said_one nested f root bytes a b x y = facts_are_one bytes f root a b x y
 
-fault_one : (form : Form) (f : Forest) (root : ℕ) (bytes : List ℕ) (d e : RowsFault) → HaveFault form f root bytes d → HaveFault form f root bytes e → d ≡ e
-fault_one flat f root bytes d e x y = x.2 ∙ ap Csv (fault-is-one (table_records bytes) (table_at f root).columns x.0 y.0 x.1 y.1) ∙ sym y.2
+fault_one : (form : RootShape) (f : Forest) (root : ℕ) (bytes : List ℕ) (d e : RowsFault) → HaveFault form f root bytes d → HaveFault form f root bytes e → d ≡ e
+fault_one flat f root bytes d e x y = x.2 ∙ ap Csv (fault-is-one (table_records bytes) (schema_table f root).columns x.0 y.0 x.1 y.1) ∙ sym y.2
 fault_one nested f root bytes d e x y = x.2 ∙ ap Json (fault_is_one bytes f root x.0 y.0 x.1 y.1) ∙ sym y.2
 
-never_both : (form : Form) (f : Forest) (root : ℕ) (bytes : List ℕ) (a : List Fact) (e : RowsFault) → SayFacts form f root bytes a → ¬ (HaveFault form f root bytes e)
-never_both flat f root bytes a e x y = faults-exclude (table_records bytes) (table_at f root).columns x.0 y.0 x.1 y.1
+never_both : (form : RootShape) (f : Forest) (root : ℕ) (bytes : List ℕ) (a : List Fact) (e : RowsFault) → SayFacts form f root bytes a → ¬ (HaveFault form f root bytes e)
+never_both flat f root bytes a e x y = faults-exclude (table_records bytes) (schema_table f root).columns x.0 y.0 x.1 y.1
 never_both nested f root bytes a e x y = document_or_fault bytes f root a y.0 x y.1
 
-either_one : (form : Form) (f : Forest) (root : ℕ) (bytes : List ℕ) → ((a : List Fact) × SayFacts form f root bytes a) ⊎ ((e : RowsFault) × HaveFault form f root bytes e)
-either_one flat f root bytes = elim (table_or_fault (table_records bytes) (table_at f root).columns) [
+either_one : (form : RootShape) (f : Forest) (root : ℕ) (bytes : List ℕ) → ((a : List Fact) × SayFacts form f root bytes a) ⊎ ((e : RowsFault) × HaveFault form f root bytes e)
+either_one flat f root bytes = elim (table_or_fault (table_records bytes) (schema_table f root).columns) [
   | inl r ↦ inl (_, (r.0, r.1, refl))
   | inr k ↦ inr (_, (k.0, k.1, refl))
 ]
@@ -66,36 +66,36 @@ either_one nested f root bytes = elim (one_of_both bytes f root) [
 -- ---- one root
 
 fetching_one : (name : List ℕ) → PassesOne (fetching name)
-fetching_one name = into_one (λ (r : Read) (bytes : List ℕ). (r, bytes)) (by (its_file name)) (by_one (its_file name) (λ r. file_one Read name r.bytes_left (refusals.Rows name Absent) too_many_bytes))
+fetching_one name = into_one (λ (r : ReadState) (bytes : List ℕ). (r, bytes)) (by (its_file name)) (by_one (its_file name) (λ r. file_one ReadState name r.bytes_left (refusals.Rows name Absent) too_many_bytes))
 
 fetching_decided : (name : List ℕ) → IsDecided Same Any (fetching name)
-fetching_decided name = into_decided Same Any (λ (r : Read) (bytes : List ℕ). (r, bytes)) (by (its_file name))
+fetching_decided name = into_decided Same Any (λ (r : ReadState) (bytes : List ℕ). (r, bytes)) (by (its_file name))
     (by_decided Same Any (its_file name) (λ r g. file_decided Same Any name r.bytes_left (refusals.Rows name Absent) too_many_bytes (λ e. refl)))
 
-says_one : (form : Form) (f : Forest) (root : ℕ) → PassesOne (notions (IsFaulty form f root) (Says form f root))
+says_one : (form : RootShape) (f : Forest) (root : ℕ) → PassesOne (notions (IsSourceFault form f root) (SaysSourceFacts form f root))
 says_one form f root c p q s x y =
     x.2 ∙ ap (λ (said : List Fact). (record { facts = p.0.facts; bytes_left = p.0.bytes_left - length p.1; cells_left = p.0.cells_left }, said)) (said_one form f root p.1 x.0 y.0 x.1 y.1) ∙ sym y.2
 
-says_decided : (form : Form) (f : Forest) (root : ℕ) → IsDecided Same Any (notions (IsFaulty form f root) (Says form f root))
-says_decided form f root = notions_decided Same Any (IsFaulty form f root) (Says form f root) one never either
+says_decided : (form : RootShape) (f : Forest) (root : ℕ) → IsDecided Same Any (notions (IsSourceFault form f root) (SaysSourceFacts form f root))
+says_decided form f root = notions_decided Same Any (IsSourceFault form f root) (SaysSourceFacts form f root) one never either
   where
-    one : (p : Read × List ℕ) (d e : SourceRefusal) → Unit {0} → IsFaulty form f root p d → IsFaulty form f root p e → d ≡ e
-    one p d e g x y = x.2 ∙ ap (λ k. refusals.Rows (named_by form (table_at f root).name) k) (fault_one form f root p.1 x.0 y.0 x.1 y.1) ∙ sym y.2
+    one : (p : ReadState × List ℕ) (d e : SourceRefusal) → Unit {0} → IsSourceFault form f root p d → IsSourceFault form f root p e → d ≡ e
+    one p d e g x y = x.2 ∙ ap (λ k. refusals.Rows (named_by form (schema_table f root).name) k) (fault_one form f root p.1 x.0 y.0 x.1 y.1) ∙ sym y.2
 
-    never : (p : Read × List ℕ) (q : Read × List Fact) (e : SourceRefusal) → Unit {0} → Says form f root p q → ¬ (IsFaulty form f root p e)
+    never : (p : ReadState × List ℕ) (q : ReadState × List Fact) (e : SourceRefusal) → Unit {0} → SaysSourceFacts form f root p q → ¬ (IsSourceFault form f root p e)
     never p q e g x y = never_both form f root p.1 x.0 y.0 x.1 y.1
 
-    either : (p : Read × List ℕ) → Unit {0} → ((q : Read × List Fact) × Says form f root p q) ⊎ ((e : SourceRefusal) × IsFaulty form f root p e)
+    either : (p : ReadState × List ℕ) → Unit {0} → ((q : ReadState × List Fact) × SaysSourceFacts form f root p q) ⊎ ((e : SourceRefusal) × IsSourceFault form f root p e)
     either p g = elim (either_one form f root p.1) [
       | inl s ↦ inl (_, (s.0, s.1, refl))
       | inr k ↦ inr (_, (k.0, k.1, refl))
     ]
 
-loading_one : (form : Form) (f : Forest) (root : ℕ) → PassesOne (loading form f root)
-loading_one form f root = next_one (notions (IsFaulty form f root) (Says form f root)) (computing (with_facts f)) (says_one form f root) (computing_one (with_facts f))
+loading_one : (form : RootShape) (f : Forest) (root : ℕ) → PassesOne (loading form f root)
+loading_one form f root = next_one (notions (IsSourceFault form f root) (SaysSourceFacts form f root)) (computing (with_facts f)) (says_one form f root) (computing_one (with_facts f))
 
-loading_decided : (form : Form) (f : Forest) (root : ℕ) → IsDecided Same Any (loading form f root)
-loading_decided form f root = next_decided Same Any Any (notions (IsFaulty form f root) (Says form f root)) (computing (with_facts f)) (says_one form f root) (λ c a b g p. tt) (says_decided form f root)
+loading_decided : (form : RootShape) (f : Forest) (root : ℕ) → IsDecided Same Any (loading form f root)
+loading_decided form f root = next_decided Same Any Any (notions (IsSourceFault form f root) (SaysSourceFacts form f root)) (computing (with_facts f)) (says_one form f root) (λ c a b g p. tt) (says_decided form f root)
     (computing_decided Same Any (with_facts f) (λ e. refl))
 
 reading_one : (f : Forest) (root : ℕ) → PassesOne (reading f root)
@@ -158,7 +158,7 @@ stored_kept [] n said t h x m = absurd (omega arith)
 stored_kept (w ∷ ws) n said zero h x m = let e : n + 0 ≡ n = omega arith in in_in_order row_cmp row_total row_exact x (rows_among said n) (subst (λ k. x ∈ rows_among said k) e m)
 stored_kept (w ∷ ws) n said (suc t) h x m = let e : n + suc t ≡ suc n + t = omega arith in stored_kept ws (suc n) said t (omega arith) x (subst (λ k. x ∈ rows_among said k) e m)
 
-abbrev IsOf : Forest → Read → Type 0
+abbrev IsOf : Forest → ReadState → Type 0
 IsOf f r = AreOf f r.facts
 
 is_stored : (f : Forest) (said : List Fact) → AreOf f said → IsStored f said (stored (schema_widths f) 0 said)
@@ -185,21 +185,21 @@ storing_decided passes conditions f = notions_decided Same (IsOf f) (λ r e. ⊥
 
 -- ---- all roots
 
-abbrev beside_bytes : Read → List TableRows → List TableRows × ℕ
+abbrev beside_bytes : ReadState → List TableRows → List TableRows × ℕ
 beside_bytes r I = (I, r.bytes_left)
 
-abbrev IsStart : Read → Type 0
+abbrev IsStart : ReadState → Type 0
 IsStart r = r ≡ at_start
 
 -- the files of all roots, and then a stage over what was read
-after_all : {B : Type 0} → Stage SourceRefusal Read B → Forest → Stage SourceRefusal Read B
+after_all : {B : Type 0} → Stage SourceRefusal ReadState B → Forest → Stage SourceRefusal ReadState B
 after_all last f = next (files_stages f) last
 
-all_one : {B : Type 0} (last : Stage SourceRefusal Read B) (f : Forest) → PassesOne last → PassesOne (after_all last f)
+all_one : {B : Type 0} (last : Stage SourceRefusal ReadState B) (f : Forest) → PassesOne last → PassesOne (after_all last f)
 unfolding after_all
 all_one last f one = next_one (files_stages f) last (each_one (reading f) (roots f) (reading_one f)) one
 
-all_decided : {B : Type 0} (last : Stage SourceRefusal Read B) (f : Forest) → IsDecided Same (IsOf f) last → IsDecided Same IsStart (after_all last f)
+all_decided : {B : Type 0} (last : Stage SourceRefusal ReadState B) (f : Forest) → IsDecided Same (IsOf f) last → IsDecided Same IsStart (after_all last f)
 unfolding after_all
 all_decided last f decided =
     next_decided Same IsStart (IsOf f) (files_stages f) last (each_one (reading f) (roots f) (reading_one f))
@@ -208,26 +208,26 @@ all_decided last f decided =
     decided
 
 -- of what is wanted
-from_start : {B : Type 0} → (Wanted → Stage SourceRefusal Read B) → Stage SourceRefusal Wanted B
-from_start last = by (λ (w : Wanted). over (λ (_ : Wanted). at_start) (after_all (last w) w.schema))
+from_start : {B : Type 0} → (SourceRequest → Stage SourceRefusal ReadState B) → Stage SourceRefusal SourceRequest B
+from_start last = by (λ (w : SourceRequest). over (λ (_ : SourceRequest). at_start) (after_all (last w) w.schema))
 
-from_one : {B : Type 0} (last : Wanted → Stage SourceRefusal Read B) → ((w : Wanted) → PassesOne (last w)) → PassesOne (from_start last)
+from_one : {B : Type 0} (last : SourceRequest → Stage SourceRefusal ReadState B) → ((w : SourceRequest) → PassesOne (last w)) → PassesOne (from_start last)
 unfolding from_start
 from_one last one =
-    by_one (λ (w : Wanted). over (λ (_ : Wanted). at_start) (after_all (last w) w.schema))
-    (λ w. over_one (λ (_ : Wanted). at_start) (after_all (last w) w.schema) (all_one (last w) w.schema (one w)))
+    by_one (λ (w : SourceRequest). over (λ (_ : SourceRequest). at_start) (after_all (last w) w.schema))
+    (λ w. over_one (λ (_ : SourceRequest). at_start) (after_all (last w) w.schema) (all_one (last w) w.schema (one w)))
 
-from_decided : {B : Type 0} (last : Wanted → Stage SourceRefusal Read B) → ((w : Wanted) → IsDecided Same (IsOf w.schema) (last w))
+from_decided : {B : Type 0} (last : SourceRequest → Stage SourceRefusal ReadState B) → ((w : SourceRequest) → IsDecided Same (IsOf w.schema) (last w))
     → IsDecided Same Any (from_start last)
 unfolding from_start
 from_decided last decided =
-    by_decided Same Any (λ (w : Wanted). over (λ (_ : Wanted). at_start) (after_all (last w) w.schema))
-    (λ w g. over_decided Same Any IsStart (λ (_ : Wanted). at_start) (after_all (last w) w.schema) (λ a g. refl) (all_decided (last w) w.schema (decided w)))
+    by_decided Same Any (λ (w : SourceRequest). over (λ (_ : SourceRequest). at_start) (after_all (last w) w.schema))
+    (λ w g. over_decided Same Any IsStart (λ (_ : SourceRequest). at_start) (after_all (last w) w.schema) (λ a g. refl) (all_decided (last w) w.schema (decided w)))
 
-abbrev kept : Passes → Wanted → Stage SourceRefusal Read (List TableRows)
+abbrev kept : Passes → SourceRequest → Stage SourceRefusal ReadState (List TableRows)
 kept passes w = storing passes w.conditions w.schema
 
-abbrev kept_left : Passes → Wanted → Stage SourceRefusal Read (List TableRows × ℕ)
+abbrev kept_left : Passes → SourceRequest → Stage SourceRefusal ReadState (List TableRows × ℕ)
 kept_left passes w = into beside_bytes (storing passes w.conditions w.schema)
 
 pub source_one : OneSource

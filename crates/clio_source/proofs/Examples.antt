@@ -4,15 +4,15 @@ use Rattle.std.specs.Prelude.{Ok, Err}
 use Rattle.dx_ports.specs.Members.{here, there}
 use Rattle.dx_model.specs.declared.values.Value.TheVariants.{Const}
 use Rattle.dx_model.specs.declared.facts.Fact.{Fact}
-use Rattle.dx_schema.specs.Forest.{Forest, none, set, bare}
+use Rattle.dx_schema.specs.Forest.{Forest, none, set, bare_set}
 use Rattle.clio_source.specs.Agreeing.{IsFlatRoot}
-use Rattle.clio_source.specs.Source.{Read, cells_in, file_at, roots, too_many_cells, with_facts}
+use Rattle.clio_source.specs.Source.{ReadState, fact_cells, file_at, roots, too_many_cells, with_facts}
 
 abbrev depts : Forest
 depts =
-    set (bare (codes "dept") (codes "name" ∷ []))
-    (set (bare (codes "emp") (codes "name" ∷ codes "phone" ∷ [])) none none)
-    (set (bare (codes "city") (codes "name" ∷ [])) none none)
+    set (bare_set (codes "dept") (codes "name" ∷ []))
+    (set (bare_set (codes "emp") (codes "name" ∷ codes "phone" ∷ [])) none none)
+    (set (bare_set (codes "city") (codes "name" ∷ [])) none none)
 
 -- an inner set is no root
 the_roots : roots depts ≡ 0 ∷ 2 ∷ []
@@ -41,13 +41,13 @@ said =
     ∷ []
 
 -- `#id` and a name, and twice `#up`, a name and a phone
-eight_cells : cells_in depts said ≡ 8
+eight_cells : fact_cells depts said ≡ 8
 eight_cells = refl
 
-one_cell : cells_in depts (record { table = 2; row = Const (codes "rome") ∷ [] } ∷ []) ≡ 1
+one_cell : fact_cells depts (record { table = 2; row = Const (codes "rome") ∷ [] } ∷ []) ≡ 1
 one_cell = refl
 
-abbrev before : ℕ → Read
+abbrev before : ℕ → ReadState
 before cells = record { facts = record { table = 2; row = [] } ∷ []; bytes_left = 5; cells_left = cells }
 
 -- as many as are left may come, and one more may not

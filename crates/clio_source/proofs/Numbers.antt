@@ -8,7 +8,7 @@ use Rattle.dx_model.specs.declared.values.Value.{Value}
 use Rattle.dx_model.specs.declared.facts.Fact.{Fact}
 use Rattle.dx_instance.specs.Cells.{NumberTable, with_numbers}
 use Rattle.dx_instance.specs.Numbers.{Extends}
-use Rattle.dx_instance.specs.Shown.{AreBelow, RowsFit, Shows, numbers_of_table, shown, shown_row, shown_tables}
+use Rattle.dx_instance.specs.Shown.{AreBelow, NumberRowsFit, Shows, numbers_of_table, shown, shown_row, shown_tables}
 use Rattle.dx_instance.specs.Stored.{AddsRow, TableRows, facts, facts_from, rows_of, widths}
 use Rattle.dx_instance.proofs.ShownFacts.{grown_below, grown_rows, grown_fitting, from_set, table_read}
 use Rattle.dx_instance.proofs.StoredFacts.{fact_from_row, row_from_fact}
@@ -17,7 +17,7 @@ use Rattle.clio_source.specs.Fitting.{AddsFacts, CanTake, rows_shown}
 
 -- ---- more symbols change no row
 
-pub still_fit : (S T : List Value) (t : NumberTable) → Extends S T → RowsFit (length S) t → RowsFit (length T) t
+pub still_fit : (S T : List Value) (t : NumberTable) → Extends S T → NumberRowsFit (length S) t → NumberRowsFit (length T) t
 still_fit S T t x b = record { columns = b.columns; within = λ r m. grown_below S T r x (b.within r m) }
 
 -- ---- the facts of tables
@@ -36,7 +36,7 @@ shown_both S ts us =
     ∙ (let e : 0 + length (shown_tables S ts) ≡ length ts = omega (arith, length-map ts (shown S)) in ap (λ k. facts (shown_tables S ts) ++ facts_from k (shown_tables S us)) e)
 
 -- those of one table more
-pub facts_of_one : (S T : List Value) (ts now : List NumberTable) (t : NumberTable) (n : ℕ) → Extends S T → Each ts (RowsFit (length S)) → now ≡ ts ++ t ∷ [] → length ts ≡ n
+pub facts_of_one : (S T : List Value) (ts now : List NumberTable) (t : NumberTable) (n : ℕ) → Extends S T → Each ts (NumberRowsFit (length S)) → now ≡ ts ++ t ∷ [] → length ts ≡ n
     → facts (shown_tables T now) ≡ facts (shown_tables S ts) ++ as_facts n (rows_shown T t)
 facts_of_one S T ts now t n x b e many =
     ap (λ us. facts (shown_tables T us)) e ∙ shown_both T ts (t ∷ [])
@@ -101,7 +101,7 @@ widths_set [] j t h e = absurd (omega arith)
 widths_set (u ∷ I) zero t h e = ap (λ (w : ℕ). w ∷ widths I) e
 widths_set (u ∷ I) (suc j) t h e = ap (λ (ws : List ℕ). u.width ∷ ws) (widths_set I j t (omega arith) e)
 
-pub adds_numbers : (S T : List Value) (ts now : List NumberTable) (j : ℕ) (t : NumberTable) (numbers : List ℕ) (row : List Value) → Extends S T → Each ts (RowsFit (length S)) → j < length ts → t ≡ get_or ts j t
+pub adds_numbers : (S T : List Value) (ts now : List NumberTable) (j : ℕ) (t : NumberTable) (numbers : List ℕ) (row : List Value) → Extends S T → Each ts (NumberRowsFit (length S)) → j < length ts → t ≡ get_or ts j t
     → now ≡ set ts j (with_numbers t numbers) → shown_row T numbers ≡ row → AddsRow (shown_tables S ts) (shown_tables T now) j row
 adds_numbers S T ts now j t numbers row x b lt at is shows =
     subst (λ (J : List TableRows). AddsRow (shown_tables S ts) J j row) (sym whole) (record {
@@ -145,10 +145,10 @@ no_numbers = record { width = 0; rows = [] }
 pub record ArePut (S T : List Value) (ts now : List NumberTable) (first : ℕ) (said : List Fact) (k : ℕ) : Type 0 where
   pub shown : facts (shown_tables T now) ≈ (facts (shown_tables S ts) ++ take k said)
   pub widths : map width_of now ≡ map width_of ts
-  pub below : Each now (RowsFit (length T))
+  pub below : Each now (NumberRowsFit (length T))
   pub few : (t : ℕ) → first ≤ t → length (numbers_of_table now t).rows ≤ k
 
-pub none_put : (S : List Value) (ts : List NumberTable) (first : ℕ) (said : List Fact) → CanTake ts first said → Each ts (RowsFit (length S)) → ArePut S S ts ts first said 0
+pub none_put : (S : List Value) (ts : List NumberTable) (first : ℕ) (said : List Fact) → CanTake ts first said → Each ts (NumberRowsFit (length S)) → ArePut S S ts ts first said 0
 none_put S ts first said c b = record {
   shown = same_equal (sym (append-nil (facts (shown_tables S ts))));
   widths = refl;
@@ -209,7 +209,7 @@ one_put S T U ts now after first said k fact t numbers p c lt at read grows show
         (same_trans (same_append p.shown (same_members (fact ∷ [])))
         (same_equal (append_assoc (facts (shown_tables S ts)) (take k said) (fact ∷ []) ∙ ap (λ fs. facts (shown_tables S ts) ++ fs) (ap (λ x. take k said ++ x ∷ []) at ∙ sym (take_more said k fact lt)))))
 
-    there_fits : RowsFit (length T) t
+    there_fits : NumberRowsFit (length T) t
     there_fits = p.below t (subst (λ (u : NumberTable). u ∈ now) (sym read) (in_at now fact.table t there_is))
 
     last : (r : List ℕ) → r ∈ (numbers ∷ []) → AreBelow (length U) r
@@ -219,9 +219,9 @@ one_put S T U ts now after first said k fact t numbers p c lt at read grows show
     rows_fit : (r : List ℕ) → r ∈ (t.rows ++ numbers ∷ []) → AreBelow (length U) r
     rows_fit r m = elim (from_append t.rows m) [ inl old ↦ grown_below T U r grows (there_fits.within r old) | inr new ↦ last r new ]
 
-    below : Each (set now fact.table (with_numbers t numbers)) (RowsFit (length U))
+    below : Each (set now fact.table (with_numbers t numbers)) (NumberRowsFit (length U))
     below u m = elim (from_set now fact.table (with_numbers t numbers) u m) [
-      | inl e ↦ subst (RowsFit (length U)) e (record { columns = there_fits.columns; within = rows_fit })
+      | inl e ↦ subst (NumberRowsFit (length U)) e (record { columns = there_fits.columns; within = rows_fit })
       | inr old ↦ still_fit T U u grows (p.below u old)
     ]
 

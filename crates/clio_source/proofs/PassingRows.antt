@@ -18,7 +18,7 @@ use Rattle.dx_model.specs.declared.values.Value.TheVariants.{Const, Null}
 use Rattle.dx_model.specs.declared.facts.Fact.{Fact}
 use Rattle.dx_instance.specs.Cells.{NumberTable, numbers_at, with_numbers}
 use Rattle.dx_instance.specs.Numbers.{value_of}
-use Rattle.dx_instance.specs.Shown.{AreBelow, NumbersFit, PartsFit, RowsFit, numbers_of_table, shown, shown_row, shown_tables}
+use Rattle.dx_instance.specs.Shown.{AreBelow, NumbersFit, PartsFit, NumberRowsFit, numbers_of_table, shown, shown_row, shown_tables}
 use Rattle.dx_instance.specs.Stored.{IsSorting, TableRows, facts, rows_of, widths}
 use Rattle.dx_instance.proofs.ShownFacts.{is_shown}
 use Rattle.dx_instance.proofs.StoredFacts.{fact_from_row, fact_table, row_from_fact, sorting_facts}
@@ -151,17 +151,17 @@ module _ (passes : Passes) (conditions : List Condition) (S : List Value) (I : L
   old_fits : (t : ℕ) → t < length all → NumbersFit (length S) (numbers_of_table all t)
   old_fits t h = parts.each (numbers_of_table all t) (in_at all t no_numbers h)
 
-  pub new_fit : Each new (RowsFit (length S))
+  pub new_fit : Each new (NumberRowsFit (length S))
   new_fit u m =
       let c = contains_from_in m in
       let h : c.0 < length all = omega (arith, c.1, k.many) in
       let e : numbers_of_table new c.0 ≡ u = get_or_default new c.0 no_numbers u c.1 ∙ c.2 in
       let f = old_fits c.0 h in
-      let fits : RowsFit (length S) (rows_kept (row_passes passes conditions S c.0) (numbers_of_table all c.0)) = record {
+      let fits : NumberRowsFit (length S) (rows_kept (row_passes passes conditions S c.0) (numbers_of_table all c.0)) = record {
         columns = f.columns;
         within = λ row i. f.within row (from_filter (row_passes passes conditions S c.0) (numbers_of_table all c.0).rows i).0;
       } in
-      subst (RowsFit (length S)) (sym (k.each c.0 h) ∙ e) fits
+      subst (NumberRowsFit (length S)) (sym (k.each c.0 h) ∙ e) fits
 
   pub new_few : length new < 2 ^ 32 - 1
   new_few = omega (arith, parts.few, k.many)

@@ -6,15 +6,15 @@ use Rattle.dx_instance.specs.Stored.{TableRows, facts, widths}
 use Rattle.dx_schema.specs.Forest.{Forest}
 use Rattle.dx_stages.specs.declared.stop.Stop.{Stop}
 use Rattle.dx_stages.specs.Stages.{Stage}
-use Rattle.dx_stages.specs.Running.{Ran, Told}
-use Rattle.dx_used.specs.Used.{Agree, Marks, fact_blanked}
+use Rattle.dx_stages.specs.Running.{Ran, InputState}
+use Rattle.dx_used.specs.Used.{AgreeOnUsed, Marks, fact_blanked}
 use Rattle.clio_source.specs.Source.{flat, form_at, roots}
 
 -- The stage ran so and passes an instance, with which the one that was read agrees on the used columns, and a number, which is the one
 -- beside what was read.
-abbrev pub RanAgreeing : {E A : Type 0} → Marks → Stage E A (List TableRows × ℕ) → A → Result (List TableRows × ℕ) (Stop E) → Told → Told → Type 0
+abbrev pub RanAgreeing : {E A : Type 0} → Marks → Stage E A (List TableRows × ℕ) → A → Result (List TableRows × ℕ) (Stop E) → InputState → InputState → Type 0
 RanAgreeing used s a (Ok q) old new =
-    (I : List TableRows) × Agree used (facts I) (facts q.0) × (widths I ≡ widths q.0) × Ran s a (Ok (I, q.1)) old new
+    (I : List TableRows) × AgreeOnUsed used (facts I) (facts q.0) × (widths I ≡ widths q.0) × Ran s a (Ok (I, q.1)) old new
 RanAgreeing used s a (Err e) old new = Ran s a (Err e) old new
 
 -- the table of a flat root, whose file is a table

@@ -4,20 +4,20 @@ use Rattle.dx_ports.specs.Members.{Each, ◌≈◌}
 use Rattle.dx_model.specs.declared.values.Value.{Value}
 use Rattle.dx_model.specs.declared.facts.Fact.{Fact}
 use Rattle.dx_instance.specs.Cells.{NumberTable}
-use Rattle.dx_instance.specs.Shown.{RowsFit, numbers_of_table, shown_row, shown_tables}
+use Rattle.dx_instance.specs.Shown.{NumberRowsFit, numbers_of_table, shown_row, shown_tables}
 use Rattle.dx_instance.specs.Stored.{facts}
 use Rattle.dx_schema.specs.Forest.{Forest}
 use Rattle.dx_schema.specs.Tables.{schema_widths}
 use Rattle.dx_stages.specs.declared.stop.Stop.{Stop}
 use Rattle.dx_stages.specs.declared.stop.Stop.TheVariants as stops
 use Rattle.dx_stages.specs.Stages.{Stage}
-use Rattle.dx_stages.specs.Running.{Gives, Ran, Told}
-use Rattle.dx_used.specs.Used.{Agree, Marks}
+use Rattle.dx_stages.specs.Running.{Gives, Ran, InputState}
+use Rattle.dx_used.specs.Used.{AgreeOnUsed, Marks}
 use Rattle.clio_source.specs.declared.reading.Reading.{Reading}
 use Rattle.clio_source.specs.declared.fault.RowsFault.{RowsFault}
 use Rattle.clio_source.specs.declared.fault.SourceRefusal.{SourceRefusal}
 use Rattle.clio_source.specs.declared.fault.SourceRefusal.TheVariants as refusals
-use Rattle.clio_source.specs.Source.{Form, HaveFault, Read, source_cells}
+use Rattle.clio_source.specs.Source.{RootShape, HaveFault, ReadState, source_cells}
 use Rattle.clio_source.specs.Agreeing.{AreBlank}
 
 -- the rows that numbers of symbols show
@@ -27,31 +27,31 @@ rows_shown symbols t = map (shown_row symbols) t.rows
 -- the first n tables of a schema were come to: as many columns as these have, and numbers of the symbols
 pub record ReadFits (f : Forest) (n : ℕ) (r : Reading) : Type 0 where
   pub widths : map (λ (t : NumberTable). t.width) r.tables.items ≡ take n (schema_widths f)
-  pub below : Each r.tables.items (RowsFit (length r.symbols))
+  pub below : Each r.tables.items (NumberRowsFit (length r.symbols))
   pub few : r.cells_left ≤ source_cells
 
 -- on the used columns the tables agree with the facts that were read
-pub record Holds (used : Marks) (r : Reading) (q : Read) : Type 0 where
-  pub agree : Agree used q.facts (facts (shown_tables r.symbols r.tables.items))
+pub record Holds (used : Marks) (r : Reading) (q : ReadState) : Type 0 where
+  pub agree : AgreeOnUsed used q.facts (facts (shown_tables r.symbols r.tables.items))
   pub bytes : r.bytes_left ≡ q.bytes_left
   pub cells : r.cells_left ≡ q.cells_left
 
 -- nothing stands in the columns of flat roots that are not used
-abbrev pub IsBlank : Marks → Forest → Reading → Type 0
-IsBlank used f r = AreBlank used f (facts (shown_tables r.symbols r.tables.items))
+abbrev pub UnusedAreBlank : Marks → Forest → Reading → Type 0
+UnusedAreBlank used f r = AreBlank used f (facts (shown_tables r.symbols r.tables.items))
 
 -- the stage ran so, and the tables agree with what it passes
-abbrev pub RanTo : {A : Type 0} → Marks → Stage SourceRefusal A Read → A → Result Reading (Stop SourceRefusal) → Told → Told → Type 0
-RanTo used s a (Ok r) old new = (q : Read) × Holds used r q × Ran s a (Ok q) old new
+abbrev pub RanTo : {A : Type 0} → Marks → Stage SourceRefusal A ReadState → A → Result Reading (Stop SourceRefusal) → InputState → InputState → Type 0
+RanTo used s a (Ok r) old new = (q : ReadState) × Holds used r q × Ran s a (Ok q) old new
 RanTo used s a (Err e) old new = Ran s a (Err e) old new
 
 -- the stage gives it in every world, and the tables agree with it
-abbrev pub GivesTo : {A : Type 0} → Marks → Stage SourceRefusal A Read → A → Result Reading (Stop SourceRefusal) → Type 0
-GivesTo used s a (Ok r) = (q : Read) × Holds used r q × Gives s a (Ok q)
+abbrev pub GivesTo : {A : Type 0} → Marks → Stage SourceRefusal A ReadState → A → Result Reading (Stop SourceRefusal) → Type 0
+GivesTo used s a (Ok r) = (q : ReadState) × Holds used r q × Gives s a (Ok q)
 GivesTo used s a (Err e) = Gives s a (Err e)
 
 -- why the facts of a file's bytes were not read
-abbrev pub NotRead : Form → Forest → ℕ → List ℕ → List ℕ → Stop SourceRefusal → Type 0
+abbrev pub NotRead : RootShape → Forest → ℕ → List ℕ → List ℕ → Stop SourceRefusal → Type 0
 NotRead form f root bytes name (stops.Refused e) = (k : RowsFault) × HaveFault form f root bytes k × (e ≡ refusals.Rows name k)
 NotRead form f root bytes name (stops.Failed n) = ⊥
 NotRead form f root bytes name stops.Memory = Unit {0}
@@ -76,7 +76,7 @@ pub record CanTake (ts : List NumberTable) (first : ℕ) (said : List Fact) : Ty
 pub record AddsFacts (S T : List Value) (old new : List NumberTable) (said : List Fact) : Type 0 where
   pub shown : facts (shown_tables T new) ≈ (facts (shown_tables S old) ++ said)
   pub widths : map (λ (t : NumberTable). t.width) new ≡ map (λ (t : NumberTable). t.width) old
-  pub below : Each new (RowsFit (length T))
+  pub below : Each new (NumberRowsFit (length T))
 
 -- empty tables of a root came, up to the table of a schema with this number, and then these facts
 pub record AddsRoot (f : Forest) (last : ℕ) (S T : List Value) (old new : List NumberTable) (said : List Fact) : Type 0 where

@@ -11,12 +11,12 @@ use Rattle.dx_lines.specs.declared.line.Condition.{Condition}
 use Rattle.dx_used.specs.Passing.{Passes, fact_passes, passing}
 
 -- a row test of this code is listed
-abbrev pub IsTest : List RowTest → ℕ → Type 0
-IsTest list code = code ∈ map (λ (t : RowTest). t.code) list
+abbrev pub IsListedTest : List RowTest → ℕ → Type 0
+IsListedTest list code = code ∈ map (λ (t : RowTest). t.code) list
 
 -- each condition asks for a test that is listed
 abbrev pub AreTested : List RowTest → List Condition → Type 0
-AreTested list conditions = Each conditions (λ c. IsTest list c.code)
+AreTested list conditions = Each conditions (λ c. IsListedTest list c.code)
 
 -- the same tables with just the facts that pass
 pub record IsPassing (passes : Passes) (conditions : List Condition) (I J : List TableRows) : Type 0 where

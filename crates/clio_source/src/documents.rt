@@ -4,12 +4,12 @@ ghost use Rattle.dx_ports.specs.Members.{Each};
 ghost use Rattle.dx_model.specs.Tables.{IsInstance};
 ghost use Rattle.dx_instance.specs.Numbers.{Extends};
 ghost use Rattle.dx_instance.specs.Cells.{with_numbers};
-ghost use Rattle.dx_instance.specs.Shown.{RowsFit, Shows, numbers_of_table};
-ghost use Rattle.dx_json.specs.Documents.{HasFault, SaysFacts};
+ghost use Rattle.dx_instance.specs.Shown.{NumberRowsFit, Shows, numbers_of_table};
+ghost use Rattle.dx_json.specs.Documents.{HasDocumentFault, SaysFacts};
 ghost use Rattle.dx_used.specs.Used.{Marks};
-ghost use Rattle.dx_schema.specs.Tables.{count, model_tables, schema_widths, table_at, tables_of, tree_at};
-ghost use Rattle.clio_source.specs.Source.{Read, cells_in, form_at, loading, named_by, nested, source_cells};
-ghost use Rattle.clio_source.specs.Fitting.{AddsEmpty, AddsFacts, AddsRoot, CanTake, GivesTo, Holds, IsBlank, NotRead, ReadFits};
+ghost use Rattle.dx_schema.specs.Tables.{count, model_tables, schema_widths, schema_table, tables_of, tree_at};
+ghost use Rattle.clio_source.specs.Source.{ReadState, fact_cells, form_at, loading, named_by, nested, source_cells};
+ghost use Rattle.clio_source.specs.Fitting.{AddsEmpty, AddsFacts, AddsRoot, CanTake, GivesTo, Holds, UnusedAreBlank, NotRead, ReadFits};
 
 use crate::fault::{RowsFault, SourceRefusal};
 use crate::reading::{Reading, too_many_cells};
@@ -25,7 +25,7 @@ use std::alloc::{AllocError, Global};
 fn facts_said(alloc: Global, bytes: &[u8], schema: &Schema, root: u32) -> Result<Facts, JsonFault>
     requires { root < length (tables_of schema.now) }
     ensures facts { IfOk result (λ facts. SaysFacts bytes.now schema.now root facts) }
-    ensures fault { IfErr result (HasFault bytes.now schema.now root) }
+    ensures fault { IfErr result (HasDocumentFault bytes.now schema.now root) }
 {
     let mut scratch = Scratch::new(alloc);
     shred(alloc, bytes, &mut scratch, schema, root)
@@ -56,8 +56,8 @@ fn facts_of_bytes(
 // What is left of so many cells after these facts, unless they have more.
 fn cells_after(left: u64, schema: &Schema, facts: &Facts) -> Option<u64>
     requires { IsInstance (model_tables schema.now) facts.now }
-    ensures { MatchOption result (left < cells_in schema.now facts.now)
-        (λ rest. (rest ≡ left - cells_in schema.now facts.now) × (cells_in schema.now facts.now ≤ left)) }
+    ensures { MatchOption result (left < fact_cells schema.now facts.now)
+        (λ rest. (rest ≡ left - fact_cells schema.now facts.now) × (fact_cells schema.now facts.now ≤ left)) }
 {
     let mut rest = left;
     for place in 0..facts.len() {
@@ -129,7 +129,7 @@ fn push_facts(
     tables: &mut Vec<Rows>,
 ) -> Result<(), AllocError>
     requires fit { CanTake tables.old.items root facts.now }
-    requires below { Each tables.old.items (RowsFit (length symbols.old)) }
+    requires below { Each tables.old.items (NumberRowsFit (length symbols.old)) }
     requires few { length facts.now < 2 ^ 32 - 1 }
     ensures { OnOk result (AddsFacts symbols.old symbols.new tables.old.items tables.new.items facts.now) }
 {
@@ -152,10 +152,10 @@ fn add_root(
 ) -> Result<(), AllocError>
     requires root { root < length (tables_of schema.now) }
     requires widths { map (λ t. t.width) tables.old.items ≡ take root (schema_widths schema.now) }
-    requires below { Each tables.old.items (RowsFit (length symbols.old)) }
+    requires below { Each tables.old.items (NumberRowsFit (length symbols.old)) }
     requires fit { IsInstance (model_tables schema.now) facts.now }
     requires within { Each facts.now (λ fact. (root ≤ fact.table) × (fact.table < root + 1 + count (tree_at schema.now root).inner)) }
-    requires cells { cells_in schema.now facts.now ≤ source_cells }
+    requires cells { fact_cells schema.now facts.now ≤ source_cells }
     ensures { OnOk result (AddsRoot schema.now (root + 1 + count (tree_at schema.now root).inner)
         symbols.old symbols.new tables.old.items tables.new.items facts.now) }
 {
@@ -176,13 +176,13 @@ pub(crate) fn load_document(
     file: Text,
 ) -> Result<Reading, Stop<SourceRefusal>>
     requires root { root < length (tables_of schema.now) }
-    requires parent { (table_at schema.now root).parent ≡ None }
-    requires file { file ≡ named_by nested (table_at schema.now root).name }
+    requires parent { (schema_table schema.now root).parent ≡ None }
+    requires file { file ≡ named_by nested (schema_table schema.now root).name }
     requires fit { ReadFits schema.now root before }
     ensures fit { IfOk result (ReadFits schema.now (root + 1 + count (tree_at schema.now root).inner)) }
-    ensures read { (used : Marks) (q : Read) → Holds used before q → GivesTo used (loading nested schema.now root) (q, bytes.now) result }
-    ensures blank { (used : Marks) → nested ≡ form_at schema.now root → IsBlank used schema.now before
-        → IfOk result (IsBlank used schema.now) }
+    ensures read { (used : Marks) (q : ReadState) → Holds used before q → GivesTo used (loading nested schema.now root) (q, bytes.now) result }
+    ensures blank { (used : Marks) → nested ≡ form_at schema.now root → UnusedAreBlank used schema.now before
+        → IfOk result (UnusedAreBlank used schema.now) }
 {
     let mut reading = before;
     let facts = facts_of_bytes(alloc, bytes, schema, root, file)?;

@@ -1,13 +1,13 @@
 // The files of a schema's roots.
 ghost use Rattle.std.specs.Prelude.{◌≡◌, ◌+◌, ◌<◌, ◌≤◌, length, None, IfOk};
-ghost use Rattle.dx_schema.specs.Tables.{count, table_at, tables_of, tree_at};
+ghost use Rattle.dx_schema.specs.Tables.{count, schema_table, tables_of, tree_at};
 ghost use Rattle.dx_instance.specs.Stored.{facts};
 ghost use Rattle.dx_funcs.specs.Judging.{Decides, tested};
 ghost use Rattle.dx_used.specs.Named.{ReadNamed};
 ghost use Rattle.clio_source.specs.Agreeing.{AreBlank, RanAgreeing};
 ghost use Rattle.clio_source.specs.Kept.{AreTested};
-ghost use Rattle.clio_source.specs.Source.{Read, at_start, file_at, files_stages, reading, source_left};
-ghost use Rattle.clio_source.specs.Fitting.{Holds, IsBlank, RanTo, ReadFits};
+ghost use Rattle.clio_source.specs.Source.{ReadState, at_start, file_at, files_stages, reading, source_left};
+ghost use Rattle.clio_source.specs.Fitting.{Holds, UnusedAreBlank, RanTo, ReadFits};
 
 use crate::documents::load_document;
 use crate::fault::{RowsFault, SourceRefusal};
@@ -45,11 +45,11 @@ fn read_root<I: Inputs>(
     before: Reading,
 ) -> Result<Reading, Stop<SourceRefusal>>
     requires root { root < length (tables_of schema.now) }
-    requires parent { (table_at schema.now root).parent ≡ None }
+    requires parent { (schema_table schema.now root).parent ≡ None }
     requires fit { ReadFits schema.now root before }
     ensures fit { IfOk result (ReadFits schema.now (root + 1 + count (tree_at schema.now root).inner)) }
-    ensures blank { IsBlank used.now schema.now before → IfOk result (IsBlank used.now schema.now) }
-    ensures read { (q : Read) → Holds used.now before q → RanTo used.now (reading schema.now root) q result
+    ensures blank { UnusedAreBlank used.now schema.now before → IfOk result (UnusedAreBlank used.now schema.now) }
+    ensures read { (q : ReadState) → Holds used.now before q → RanTo used.now (reading schema.now root) q result
         (record { holds = I.holds inputs.old; faults = I.faults inputs.old; stopped = I.stopped inputs.old })
         (record { holds = I.holds inputs.new; faults = I.faults inputs.new; stopped = I.stopped inputs.new }) }
 {
@@ -81,7 +81,7 @@ fn read_files<I: Inputs>(
     used: &[Items<bool>],
 ) -> Result<Reading, Stop<SourceRefusal>>
     ensures fit { IfOk result (ReadFits schema.now (length (tables_of schema.now))) }
-    ensures blank { IfOk result (IsBlank used.now schema.now) }
+    ensures blank { IfOk result (UnusedAreBlank used.now schema.now) }
     ensures few { length (tables_of schema.now) ≤ 64 }
     ensures read { RanTo used.now (files_stages schema.now) at_start result
         (record { holds = I.holds inputs.old; faults = I.faults inputs.old; stopped = I.stopped inputs.old })

@@ -3,7 +3,7 @@ ghost use Rattle.std.specs.Prelude.{◌≡◌, ◌<◌, IfOk, length, slice_get}
 ghost use Rattle.dx_funcs.specs.Judging.{Decides, tested};
 ghost use Rattle.dx_instance.specs.Shown.{AreBelow, numbers_of_table, shown_row};
 ghost use Rattle.dx_used.specs.Passing.{fact_passes, value_passes};
-ghost use Rattle.clio_source.specs.Kept.{AreTested, IsPassing, IsTest, row_passes, rows_kept};
+ghost use Rattle.clio_source.specs.Kept.{AreTested, IsPassing, IsListedTest, row_passes, rows_kept};
 
 use dx_funcs::{Meaning, Tests};
 use dx_instance::{Instance, Numbers, Rows, Value};
@@ -22,7 +22,7 @@ where
     P: Fn(u32, &Text) -> Result<bool, AllocError>,
     M: Meaning,
     requires decides { Decides P.Fn M.passes tests.now }
-    requires listed { IsTest (tested tests.now) condition.now.code }
+    requires listed { IsListedTest (tested tests.now) condition.now.code }
     requires below { AreBelow (length numbers.now.symbols) row.now }
     ensures { IfOk result (λ b. b ≡ value_passes M.passes condition.now.code
         (slice_get (shown_row numbers.now.symbols row.now) condition.now.place.column)) }
@@ -48,7 +48,7 @@ where
     P: Fn(u32, &Text) -> Result<bool, AllocError>,
     M: Meaning,
     requires decides { Decides P.Fn M.passes tests.now }
-    requires listed { IsTest (tested tests.now) condition.now.code }
+    requires listed { IsListedTest (tested tests.now) condition.now.code }
     requires below { AreBelow (length numbers.now.symbols) row.now }
     ensures { IfOk result (λ b. b ≡ fact_passes M.passes
         (record { table = table; row = shown_row numbers.now.symbols row.now }) condition.now) }

@@ -2,7 +2,7 @@
 ghost use Rattle.std.specs.Prelude.{◌≡◌};
 ghost use Rattle.dx_schema.specs.Forest.{Forest};
 ghost use Rattle.clio_source.specs.Source.{at_start, too_many_bytes, too_many_cells};
-ghost use Rattle.clio_source.specs.Fitting.{Holds, IsBlank, ReadFits};
+ghost use Rattle.clio_source.specs.Fitting.{Holds, UnusedAreBlank, ReadFits};
 ghost use Rattle.dx_used.specs.Used.{Marks};
 
 use crate::fault::SourceRefusal;
@@ -25,7 +25,7 @@ pub(crate) struct Reading {
 pub(crate) fn at_start(alloc: Global) -> Reading
     ensures fit { (f : Forest) → ReadFits f 0 result }
     ensures holds { (used : Marks) → Holds used result at_start }
-    ensures blank { (used : Marks) (f : Forest) → IsBlank used f result }
+    ensures blank { (used : Marks) (f : Forest) → UnusedAreBlank used f result }
 {
     Reading {
         symbols: Gathered::new(alloc),

@@ -6,9 +6,9 @@ ghost use Rattle.dx_instance.specs.Shown.{AreBelow};
 ghost use Rattle.dx_used.specs.Used.{marks_at};
 ghost use Rattle.dx_csv.specs.Blanks.{IsTableUsed};
 ghost use Rattle.dx_csv.specs.Table.{table_records};
-ghost use Rattle.dx_schema.specs.Tables.{table_at, tables_of};
-ghost use Rattle.clio_source.specs.Source.{Read, flat, loading, named_by};
-ghost use Rattle.clio_source.specs.Fitting.{GivesTo, Holds, IsBlank, NotRead, ReadFits, rows_shown};
+ghost use Rattle.dx_schema.specs.Tables.{schema_table, tables_of};
+ghost use Rattle.clio_source.specs.Source.{ReadState, flat, loading, named_by};
+ghost use Rattle.clio_source.specs.Fitting.{GivesTo, Holds, UnusedAreBlank, NotRead, ReadFits, rows_shown};
 
 use crate::fault::{RowsFault, SourceRefusal};
 use crate::reading::{Reading, too_many_cells};
@@ -40,9 +40,9 @@ fn rows_of_bytes(
     symbols: &mut Gathered,
 ) -> Result<Rows, Stop<SourceRefusal>>
     requires { root < length (tables_of schema.now) }
-    ensures rows { IfOk result (λ rows. IsTableUsed used.now (table_records bytes.now) (table_at schema.now root).columns
+    ensures rows { IfOk result (λ rows. IsTableUsed used.now (table_records bytes.now) (schema_table schema.now root).columns
         (rows_shown symbols.new rows)) }
-    ensures width { IfOk result (λ rows. rows.width ≡ length (table_at schema.now root).columns) }
+    ensures width { IfOk result (λ rows. rows.width ≡ length (schema_table schema.now root).columns) }
     ensures below { IfOk result (λ rows. Each rows.rows (AreBelow (length symbols.new))) }
     ensures grows { Extends symbols.old symbols.new }
     ensures fault { IfErr result (NotRead flat schema.now root bytes.now file) }
@@ -77,11 +77,11 @@ pub(crate) fn load_table(
     file: Text,
 ) -> Result<Reading, Stop<SourceRefusal>>
     requires root { root < length (tables_of schema.now) }
-    requires file { file ≡ named_by flat (table_at schema.now root).name }
+    requires file { file ≡ named_by flat (schema_table schema.now root).name }
     requires fit { ReadFits schema.now root before }
     ensures fit { IfOk result (ReadFits schema.now (root + 1)) }
-    ensures read { (q : Read) → Holds used.now before q → GivesTo used.now (loading flat schema.now root) (q, bytes.now) result }
-    ensures blank { IsBlank used.now schema.now before → IfOk result (IsBlank used.now schema.now) }
+    ensures read { (q : ReadState) → Holds used.now before q → GivesTo used.now (loading flat schema.now root) (q, bytes.now) result }
+    ensures blank { UnusedAreBlank used.now schema.now before → IfOk result (UnusedAreBlank used.now schema.now) }
 {
     let mut reading = before;
     let marks = marks_of(used, root);

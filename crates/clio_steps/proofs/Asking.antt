@@ -3,7 +3,7 @@ use Rattle.std.proofs.Common.{◌≡◌, ℕ, List, [], ◌∷◌, ◌++◌, ref
 use Rattle.dx_stages.specs.Worlds.{World}
 use Rattle.dx_stages.specs.Stages.{Stage, each}
 use Rattle.dx_used.specs.Passing.{Passes}
-use Rattle.clio_source.specs.Source.{at_start, reading, roots, source_stages, Wanted}
+use Rattle.clio_source.specs.Source.{at_start, reading, roots, source_stages, SourceRequest}
 use Rattle.clio_source.proofs.Roots.{asks_own}
 use Rattle.clio_steps.specs.Outcomes.{IsNextFile}
 
@@ -40,7 +40,7 @@ asks_after f (x ∷ before) one after c a b n (d, p, passed) h = inr (d, p, asks
 
 -- ---- the source
 
-pub next_file : (passes : Passes) (c : World) (w : Wanted) (n : List ℕ) → (source_stages passes).asks c w n → IsNextFile c w.schema n
+pub next_file : (passes : Passes) (c : World) (w : SourceRequest) (n : List ℕ) → (source_stages passes).asks c w n → IsNextFile c w.schema n
 next_file passes c w n (inl h) =
     let f = w.schema in
     let r = one_asks (reading f) (roots f) c at_start n h in record {
@@ -54,7 +54,7 @@ next_file passes c w n (inl h) =
     }
 next_file passes c w n (inr h) = absurd h.2
 
-pub asks_next : (passes : Passes) (c : World) (w : Wanted) (n : List ℕ) → IsNextFile c w.schema n → (source_stages passes).asks c w n
+pub asks_next : (passes : Passes) (c : World) (w : SourceRequest) (n : List ℕ) → IsNextFile c w.schema n → (source_stages passes).asks c w n
 asks_next passes c w n h =
     let f = w.schema in
     inl (subst (λ xs. (each (reading f) xs).asks c at_start n) (sym h.roots_are)

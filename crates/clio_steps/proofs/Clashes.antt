@@ -9,7 +9,7 @@ use Rattle.dx_exchange.specs.declared.mode.Mode.{Mode}
 use Rattle.dx_exchange.specs.declared.result.Exchange.{Exchange}
 use Rattle.dx_exchange.specs.declared.fault.ExFault.{ExFault}
 use Rattle.dx_exchange.specs.declared.fault.ExFault.TheVariants as exchange_faults
-use Rattle.dx_exchange.specs.Exchanging.{HasClash, HasNone, IsExchange, exchanging}
+use Rattle.dx_exchange.specs.Exchanging.{HasClash, HasNoExchange, IsExchange, exchanging}
 use Rattle.dx_exchange.proofs.Decided.{exchange_or_none}
 use Rattle.dx_schema.specs.Tables.{model_tables}
 use Rattle.dx_stages.specs.Worlds.{World}
@@ -24,7 +24,7 @@ use Rattle.clio_ending.specs.declared.ending.Refusal.TheVariants as refusals
 use Rattle.clio_ending.specs.Ending.{exchange_refusal, named_clash, source_refusal}
 use Rattle.clio_steps.specs.declared.texts.Side.{Side}
 use Rattle.clio_steps.specs.declared.texts.Side.TheVariants.{First, Second}
-use Rattle.clio_steps.specs.Steps.{Filled, Program, absent_text, asked, exchanges, rows_stages, text_refusal, text_stages}
+use Rattle.clio_steps.specs.Steps.{MappingAndRows, Program, absent_text, asked, exchanges, rows_stages, side_refusal, text_stages}
 use Rattle.clio_steps.specs.Outcomes.{IsClashIn, HasNoSolutionIn}
 use Rattle.clio_steps.proofs.Mappings.{is_small}
 use Rattle.clio_steps.proofs.Plans.{rules_fit}
@@ -44,7 +44,7 @@ pub no_clash : (e : Refusal) (k : Clash) (table : List ℕ) (key : List (List �
 unfolding is_clash
 no_clash e k table key column none is = true≢false (sym (ap is_clash is) ∙ none)
 
-of_text : (side : Side) (k : AcceptFault) → is_clash (text_refusal side k) ≡ false
+of_text : (side : Side) (k : AcceptFault) → is_clash (side_refusal side k) ≡ false
 unfolding is_clash
 of_text First (accept_faults.Mapping fault) = refl
 of_text First (accept_faults.Limit limit) = refl
@@ -74,16 +74,16 @@ rows_never P c M e (k, refused, is) = ap is_clash is ∙ of_source k
 
 -- ---- a clash has its reason
 
-pub clash_of : (P : Program) (mode : Mode) (p : Filled) (target : Forest) (k : Clash) (table : List ℕ) (key : List (List ℕ)) (column : List ℕ) (fault : ExFault)
-    → HasNone P.apply (asked mode p) fault → refusals.Clash k table key column ≡ exchange_refusal target fault → HasClash P.apply (asked mode p) k
+pub clash_of : (P : Program) (mode : Mode) (p : MappingAndRows) (target : Forest) (k : Clash) (table : List ℕ) (key : List (List ℕ)) (column : List ℕ) (fault : ExFault)
+    → HasNoExchange P.apply (asked mode p) fault → refusals.Clash k table key column ≡ exchange_refusal target fault → HasClash P.apply (asked mode p) k
 unfolding clash_in is_clash
 clash_of P mode p target k table key column (exchange_faults.Clash d) h is = subst (HasClash P.apply (asked mode p)) (sym (same_Some k d (ap clash_in is))) h
 clash_of P mode p target k table key column (exchange_faults.Limit l) h is = absurd (true≢false (ap is_clash is))
 clash_of P mode p target k table key column exchange_faults.Memory h is = absurd h
 
 -- it is told with the names of the target
-pub named_of : (P : Program) (mode : Mode) (p : Filled) (target : Forest) (k : Clash) (table : List ℕ) (key : List (List ℕ)) (column : List ℕ) (fault : ExFault)
-    → HasNone P.apply (asked mode p) fault → refusals.Clash k table key column ≡ exchange_refusal target fault
+pub named_of : (P : Program) (mode : Mode) (p : MappingAndRows) (target : Forest) (k : Clash) (table : List ℕ) (key : List (List ℕ)) (column : List ℕ) (fault : ExFault)
+    → HasNoExchange P.apply (asked mode p) fault → refusals.Clash k table key column ≡ exchange_refusal target fault
     → refusals.Clash k table key column ≡ named_clash target k
 unfolding clash_in is_clash
 named_of P mode p target k table key column (exchange_faults.Clash d) h is = is ∙ ap (named_clash target) (sym (same_Some k d (ap clash_in is)))
@@ -103,8 +103,8 @@ exchange_clashes P mode c k table key column (inr (M, (text, there, accepted), i
   accepted = accepted;
   rows = I;
   source = source;
-  clash = subst (λ (r : Filled). HasClash P.apply (asked mode r) k) pair_is (clash_of P mode pair pair.0.target k table key column fault none is);
-  named = subst (λ (r : Filled). refusals.Clash k table key column ≡ named_clash r.0.target k) pair_is (named_of P mode pair pair.0.target k table key column fault none is);
+  clash = subst (λ (r : MappingAndRows). HasClash P.apply (asked mode r) k) pair_is (clash_of P mode pair pair.0.target k table key column fault none is);
+  named = subst (λ (r : MappingAndRows). refusals.Clash k table key column ≡ named_clash r.0.target k) pair_is (named_of P mode pair pair.0.target k table key column fault none is);
 }
 
 -- ---- without a solution there is a clash
@@ -116,7 +116,7 @@ clash_there P mode c h =
     let d = exchange_or_none P.apply P.list (model_tables h.mapping.source) in
     of (d.either c (asked mode (h.mapping, h.rows)) (rules_fit P h.mapping fits))
   where
-    of : ((e : Exchange) × IsExchange P.apply (asked mode (h.mapping, h.rows)) e) ⊎ ((f : ExFault) × HasNone P.apply (asked mode (h.mapping, h.rows)) f)
+    of : ((e : Exchange) × IsExchange P.apply (asked mode (h.mapping, h.rows)) e) ⊎ ((f : ExFault) × HasNoExchange P.apply (asked mode (h.mapping, h.rows)) f)
         → (k : Clash) × (exchanging P.apply).refuses c (asked mode (h.mapping, h.rows)) (exchange_faults.Clash k)
     of (inl (e, x)) = absurd (h.none (facts e.target) x.universal.solution)
     of (inr (exchange_faults.Clash k, x)) = (k, x)

@@ -5,15 +5,15 @@ use Rattle.dx_schema.specs.Forest.{Forest}
 use Rattle.dx_schema.specs.Tables.{model_tables, schema_widths}
 use Rattle.dx_exchange.specs.declared.result.Exchange.{Exchange}
 use Rattle.dx_exchange.specs.declared.mode.Mode.{Mode}
-use Rattle.dx_exchange.specs.Exchanging.{AreAlike as FaultsAlike, IsExchange, exchanging}
-use Rattle.dx_exchange.specs.Laws.{IsAsked}
+use Rattle.dx_exchange.specs.Exchanging.{AreAlikeFaults as FaultsAlike, IsExchange, exchanging}
+use Rattle.dx_exchange.specs.Laws.{RulesOfInputFit}
 use Rattle.dx_exchange.specs.declared.fault.ExFault.{ExFault}
 use Rattle.dx_exchange.specs.declared.fault.ExFault.TheVariants as exchange_faults
 use Rattle.dx_exchange.proofs.Decided.{exchange_or_none}
 use Rattle.dx_stages.specs.Worlds.{World}
 use Rattle.dx_stages.specs.Stages.{next, by, over, saying}
 use Rattle.dx_stages.specs.Laws.{PassesOne, IsDecided}
-use Rattle.dx_stages.specs.Running.{Ran, Told}
+use Rattle.dx_stages.specs.Running.{Ran, InputState}
 use Rattle.dx_stages.proofs.Running.{ran_passes}
 use Rattle.dx_stages.proofs.Decided.{Any, next_one, next_decided, over_one, over_decided, into_one, into_decided, file_one, file_decided, saying_decided}
 use Rattle.clio_accept.specs.declared.mapping.Mapping.{Mapping}
@@ -29,7 +29,7 @@ use Rattle.clio_steps.specs.declared.texts.Side.{Side}
 use Rattle.clio_steps.specs.declared.texts.Side.TheVariants.{First}
 use Rattle.clio_ending.specs.Ending.{AreAlike, exchange_refusal, source_refusal}
 use Rattle.clio_ending.proofs.Alike.{alike, same_alike}
-use Rattle.clio_steps.specs.Steps.{Filled, Program, absent_text, asked, exchanges, mapping_stages, named_stage, rows_stages, target_stages, text_bytes, text_file, text_name, text_refusal, text_stages, too_long, wanted}
+use Rattle.clio_steps.specs.Steps.{MappingAndRows, Program, absent_text, asked, exchanges, mapping_stages, named_stage, rows_stages, target_stages, text_bytes, text_file, text_name, side_refusal, text_stages, too_long, wanted}
 use Rattle.clio_steps.proofs.Mappings.{is_small}
 use Rattle.clio_steps.proofs.Plans.{files_fit, rules_fit, texts_fit}
 
@@ -37,13 +37,13 @@ use Rattle.clio_steps.proofs.Plans.{files_fit, rules_fit, texts_fit}
 
 pub text_one : (P : Program) (side : Side) → PassesOne (text_stages P side)
 text_one P side =
-    next_one (text_file side) (saying (text_refusal side) (accepting P.list P.tests)) (file_one (Unit {0}) (text_name side) text_bytes (absent_text side) too_long) (accepting_one P.list P.tests)
+    next_one (text_file side) (saying (side_refusal side) (accepting P.list P.tests)) (file_one (Unit {0}) (text_name side) text_bytes (absent_text side) too_long) (accepting_one P.list P.tests)
 
 pub text_decided : (P : Program) (side : Side) → IsDecided AreAlike Any (text_stages P side)
 text_decided P side =
-    next_decided AreAlike Any Any (text_file side) (saying (text_refusal side) (accepting P.list P.tests)) (file_one (Unit {0}) (text_name side) text_bytes (absent_text side) too_long) (λ c a b g p. tt)
+    next_decided AreAlike Any Any (text_file side) (saying (side_refusal side) (accepting P.list P.tests)) (file_one (Unit {0}) (text_name side) text_bytes (absent_text side) too_long) (λ c a b g p. tt)
     (file_decided AreAlike Any (text_name side) text_bytes (absent_text side) too_long alike)
-    (saying_decided (λ e k. e ≡ k) AreAlike Any (text_refusal side) (accepting P.list P.tests) (λ e k is. same_alike (text_refusal side e) (text_refusal side k) (ap (text_refusal side) is)) (accepting_decided P.list P.tests))
+    (saying_decided (λ e k. e ≡ k) AreAlike Any (side_refusal side) (accepting P.list P.tests) (λ e k is. same_alike (side_refusal side e) (side_refusal side k) (ap (side_refusal side) is)) (accepting_decided P.list P.tests))
 
 -- ---- the rows
 
@@ -59,7 +59,7 @@ rows_decided P Given =
 
 -- ---- the target
 
-unfoldable pub AreReady : Program → Filled → Type 0
+unfoldable pub AreReady : Program → MappingAndRows → Type 0
 AreReady P p = MappingFits P.list P.tests p.0
 
 pub target_decided : (P : Program) (mode : Mode) → IsDecided AreAlike (AreReady P) (by (named_stage P.apply mode))
@@ -78,9 +78,9 @@ target_decided P mode = record {
     faults_alike target exchange_faults.Memory e a = same_alike _ _ (ap (exchange_refusal target) a)
 
     asked_decided : (source target : Forest)
-        → IsDecided AreAlike (IsAsked P.list (model_tables source)) (saying (exchange_refusal target) (exchanging P.apply))
+        → IsDecided AreAlike (RulesOfInputFit P.list (model_tables source)) (saying (exchange_refusal target) (exchanging P.apply))
     asked_decided source target =
-        saying_decided FaultsAlike AreAlike (IsAsked P.list (model_tables source)) (exchange_refusal target) (exchanging P.apply)
+        saying_decided FaultsAlike AreAlike (RulesOfInputFit P.list (model_tables source)) (exchange_refusal target) (exchanging P.apply)
         (faults_alike target) (exchange_or_none P.apply P.list (model_tables source))
 
 -- ---- an exchange
@@ -94,9 +94,9 @@ exchanges_decided P mode =
     next_decided AreAlike Any (FitsList P) (mapping_stages P) (next (rows_stages P) (target_stages P mode)) (text_one P First)
     (λ c a M g p. accepted_fits P.list P.tests c p.0 M (is_small p.0 p.1.1) p.2) (text_decided P First)
     (next_decided AreAlike (FitsList P) (AreReady P) (rows_stages P) (target_stages P mode) (rows_one P) rows_ready (rows_decided P (FitsList P))
-    (into_decided AreAlike (AreReady P) (λ (p : Filled) (e : Exchange). (p.0, e)) (by (named_stage P.apply mode)) (target_decided P mode)))
+    (into_decided AreAlike (AreReady P) (λ (p : MappingAndRows) (e : Exchange). (p.0, e)) (by (named_stage P.apply mode)) (target_decided P mode)))
   where
-    rows_ready : (c : World) (M : Mapping) (p : Filled) → FitsList P M → (rows_stages P).passes c M p → AreReady P p
+    rows_ready : (c : World) (M : Mapping) (p : MappingAndRows) → FitsList P M → (rows_stages P).passes c M p → AreReady P p
     rows_ready c M p h (I, s, is) = subst (AreReady P) (sym is) h
 
 -- what is known of an exchange that was made
@@ -108,14 +108,14 @@ pub record IsMade (P : Program) (mode : Mode) (M : Mapping) (e : Exchange) : Typ
 pub made_in : (P : Program) (mode : Mode) (c : World) (q : Mapping × Exchange) → (exchanges P mode).passes c (tt {0}) q → IsMade P mode q.0 q.1
 made_in P mode c q (M, m, (pair, (I, source, pair_is), (x, exchange, q_is))) =
     subst (λ (r : Mapping × Exchange). IsMade P mode r.0 r.1) (sym q_is)
-    (subst (λ (r : Filled). IsMade P mode r.0 x) (sym pair_is) (record {
+    (subst (λ (r : MappingAndRows). IsMade P mode r.0 x) (sym pair_is) (record {
       fits = accepted_fits P.list P.tests c m.0 M (is_small m.0 m.1.1) m.2;
       rows = I;
-      exchange = subst (λ (r : Filled). IsExchange P.apply (asked mode r) x) pair_is exchange;
+      exchange = subst (λ (r : MappingAndRows). IsExchange P.apply (asked mode r) x) pair_is exchange;
     }))
 
 -- an exchange that ran was made
-pub made : (P : Program) (mode : Mode) (q : Mapping × Exchange) (old new : Told) → Ran (exchanges P mode) (tt {0}) (Ok q) old new → IsMade P mode q.0 q.1
+pub made : (P : Program) (mode : Mode) (q : Mapping × Exchange) (old new : InputState) → Ran (exchanges P mode) (tt {0}) (Ok q) old new → IsMade P mode q.0 q.1
 made P mode q old new x = let p = ran_passes (exchanges P mode) (tt {0}) q old new x in made_in P mode p.0 q p.1
 
 pub texts_ready : (P : Program) (mode : Mode) (M : Mapping) (e : Exchange) → IsMade P mode M e → FitTexts M.source M.target P.list M.rules

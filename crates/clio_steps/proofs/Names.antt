@@ -2,15 +2,15 @@
 use Rattle.std.proofs.Common.{◌≡◌, ℕ, List, get_or, refl, sym, ◌∙◌, ap, subst, inl, inr, arith, reverse, ◌⊎◌}
 use Rattle.std.specs.Prelude.{codes}
 use Rattle.std.proofs.lemmas.List.{reverse-append}
-use Rattle.dx_schema.specs.Tables.{table_at}
+use Rattle.dx_schema.specs.Tables.{schema_table}
 use Rattle.dx_exchange.specs.declared.mode.Mode.{Mode}
 use Rattle.dx_stages.specs.Worlds.{World}
 use Rattle.dx_stages.specs.Stages.{next}
-use Rattle.dx_stages.specs.Laws.{AreApart, AsksOnly}
+use Rattle.dx_stages.specs.Laws.{AsksOtherFiles, AsksOnly}
 use Rattle.dx_stages.proofs.Decided.{apart_by, each_only}
 use Rattle.clio_accept.proofs.Silent.{accepting_silent}
 use Rattle.dx_used.specs.Passing.{Passes}
-use Rattle.clio_source.specs.Source.{Form, at_start, csv_name, file_at, flat, form_at, json_name, named_by, nested, reading, roots, source_stages, Wanted}
+use Rattle.clio_source.specs.Source.{RootShape, at_start, csv_name, file_at, flat, form_at, json_name, named_by, nested, reading, roots, source_stages, SourceRequest}
 use Rattle.clio_source.proofs.Roots.{asks_own}
 use Rattle.clio_steps.specs.declared.texts.Side.{Side}
 use Rattle.clio_steps.specs.declared.texts.Side.TheVariants.{First, Second}
@@ -29,16 +29,16 @@ texts_apart e = let h : 109 ≡ 111 = ap (λ (v : List ℕ). get_or v 0 0) e in 
 unfoldable pub IsData : List ℕ → Type 0
 IsData n = (y : List ℕ) × ((n ≡ csv_name y) ⊎ (n ≡ json_name y))
 
-pub named : (form : Form) (y : List ℕ) → IsData (named_by form y)
+pub named : (form : RootShape) (y : List ℕ) → IsData (named_by form y)
 unfolding IsData
 named flat y = (y, inl refl)
 named nested y = (y, inr refl)
 
-pub source_asks : (passes : Passes) (c : World) (w : Wanted) (n : List ℕ) → (source_stages passes).asks c w n → IsData n
+pub source_asks : (passes : Passes) (c : World) (w : SourceRequest) (n : List ℕ) → (source_stages passes).asks c w n → IsData n
 source_asks passes c w n (inl h) =
     let f = w.schema in
     let k = each_only (reading f) (file_at f) (roots f) (asks_own f) c at_start n h in
-    subst IsData (sym k.2) (named (form_at f k.0) (table_at f k.0).name)
+    subst IsData (sym k.2) (named (form_at f k.0) (schema_table f k.0).name)
 source_asks passes c w n (inr h) = absurd h.2
 
 rest_asks : (P : Program) (mode : Mode) → AsksOnly IsData (next (rows_stages P) (target_stages P mode))
@@ -56,7 +56,7 @@ pub no_text : (side : Side) → ¬ (IsData (text_name side))
 no_text First = no_data (codes "mapping.clio") 111 refl (λ e. absurd (omega (arith, e))) (λ e. absurd (omega (arith, e)))
 no_text Second = no_data (codes "other.clio") 111 refl (λ e. absurd (omega (arith, e))) (λ e. absurd (omega (arith, e)))
 
-pub apart : (P : Program) (mode : Mode) → AreApart (mapping_stages P) (next (rows_stages P) (target_stages P mode))
+pub apart : (P : Program) (mode : Mode) → AsksOtherFiles (mapping_stages P) (next (rows_stages P) (target_stages P mode))
 apart P mode =
     apart_by (λ n. n ≡ text_name First) IsData (mapping_stages P) (next (rows_stages P) (target_stages P mode)) (text_asks P First)
     (rest_asks P mode) (λ n e f. no_text First (subst IsData e f))

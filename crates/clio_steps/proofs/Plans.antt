@@ -11,12 +11,12 @@ use Rattle.dx_model.specs.declared.values.NullId.{NullId}
 use Rattle.dx_model.specs.Tables.{table_of}
 use Rattle.dx_model.specs.Rules.{canonical, exported}
 use Rattle.dx_model.specs.Values.{Rows}
-use Rattle.dx_tgd.specs.Placed.{FitTuples, HasPlace}
+use Rattle.dx_tgd.specs.Placed.{FitTuples, NamesPlace}
 use Rattle.dx_instance.specs.Stored.{TableRows, facts, widths}
 use Rattle.dx_schema.specs.Forest.{Forest, none, set}
-use Rattle.dx_schema.specs.Tables.{Placed, TableOf, as_numbers, columns_of, model_tables, placed, schema_widths, sets_of, table_in, tables_of}
+use Rattle.dx_schema.specs.Tables.{NumberedSet, TableOf, as_numbers, columns_of, model_tables, numbered_sets, schema_widths, sets_of, table_in, tables_of}
 use Rattle.dx_schema.proofs.Valid.{are_tables}
-use Rattle.dx_schema_text.specs.Print.{AreNamed, AreNames}
+use Rattle.dx_schema_text.specs.Print.{HaveWordNames, AreNames}
 use Rattle.dx_tokens.specs.Lexing.{IsWord}
 use Rattle.dx_csv.specs.Print.{HasNoMark}
 use Rattle.dx_tgd.proofs.CanonicalFacts.{nulls_have_places}
@@ -28,19 +28,19 @@ use Rattle.dx_exchange.proofs.Lists.{fit_tuples, one_each}
 use Rattle.dx_stages.specs.declared.stop.Stop.{Stop}
 use Rattle.dx_stages.specs.declared.stop.Stop.TheVariants as stops
 use Rattle.dx_stages.specs.Stages.{Stage, become, by, next, over, saying}
-use Rattle.dx_stages.specs.Running.{Told, Ran, Gives, Meets}
+use Rattle.dx_stages.specs.Running.{InputState, Ran, Gives, Meets}
 use Rattle.dx_stages.specs.Worlds.{World}
 use Rattle.dx_stages.proofs.Running.{ran_into, ran_into_stop, ran_memory, ran_next, ran_over, ran_passes, ran_stop, ran_value, silent_apart, fault_of}
 use Rattle.clio_accept.specs.declared.mapping.Mapping.{Mapping}
 use Rattle.clio_accept.specs.Laws.{MappingFits}
 use Rattle.dx_used.specs.Passing.{Passes}
-use Rattle.clio_source.specs.Source.{Wanted, source_stages}
+use Rattle.clio_source.specs.Source.{SourceRequest, source_stages}
 use Rattle.clio_files.specs.Files.{FitsFiles}
-use Rattle.clio_files.specs.Sheets.{rule_of, texts_of}
+use Rattle.clio_files.specs.Sheets.{rule_of_null, null_texts}
 use Rattle.clio_files.specs.Texts.{FitTexts}
 use Rattle.clio_ending.specs.declared.ending.Refusal.{Refusal}
 use Rattle.clio_ending.specs.Ending.{source_refusal}
-use Rattle.clio_steps.specs.Steps.{Filled, Program, asked, exchanges, mapping_stages, named_stage, rows_stages, target_stages, wanted}
+use Rattle.clio_steps.specs.Steps.{MappingAndRows, Program, asked, exchanges, mapping_stages, named_stage, rows_stages, target_stages, wanted}
 use Rattle.clio_steps.proofs.Names.{apart}
 use Rattle.clio_steps.proofs.Words.{not_in_word}
 
@@ -60,7 +60,7 @@ names_unmarked : (columns : List (List ℕ)) → AreNames columns → HasNoMark 
 names_unmarked [] h = absurd h
 names_unmarked (c ∷ cs) h = word_unmarked c h.0
 
-set_unmarked : (s : Placed) → AreNames s.label.columns → HasNoMark (columns_of s)
+set_unmarked : (s : NumberedSet) → AreNames s.label.columns → HasNoMark (columns_of s)
 unfolding strip_bom
 set_unmarked s names = of s.inner s.parent
   where
@@ -69,15 +69,15 @@ set_unmarked s names = of s.inner s.parent
     of none (Some p) = refl
     of none None = names_unmarked s.label.columns names
 
-placed_unmarked : (parent : Option ℕ) (n : ℕ) (f : Forest) → AreNamed f → Each (placed parent n f) (λ s. HasNoMark (columns_of s))
+placed_unmarked : (parent : Option ℕ) (n : ℕ) (f : Forest) → HaveWordNames f → Each (numbered_sets parent n f) (λ s. HasNoMark (columns_of s))
 placed_unmarked parent n none h s m = elim m [ ]
 placed_unmarked parent n (set l inner rest) h s (here e) = subst (λ t. HasNoMark (columns_of t)) e (set_unmarked (record { label = l; number = n; parent = parent; inner = inner }) h.0.columns)
-placed_unmarked parent n (set l inner rest) h s (there m) = elim (from_append (placed (Some n) _ inner) m) [
+placed_unmarked parent n (set l inner rest) h s (there m) = elim (from_append (numbered_sets (Some n) _ inner) m) [
   | inl k ↦ placed_unmarked (Some n) _ inner h.1 s k
   | inr k ↦ placed_unmarked parent _ rest h.2 s k
 ]
 
-pub no_marks : (f : Forest) → AreNamed f → Each (tables_of f) (λ t. HasNoMark t.columns)
+pub no_marks : (f : Forest) → HaveWordNames f → Each (tables_of f) (λ t. HasNoMark t.columns)
 no_marks f h t m =
     let p = from_map (table_in (sets_of f)) (sets_of f) m in
     subst (λ (u : TableOf). HasNoMark u.columns) p.2 (placed_unmarked None 0 f h p.0 p.1)
@@ -91,8 +91,8 @@ pub texts_fit : (P : Program) (M : Mapping) → MappingFits P.list P.tests M →
 texts_fit P M h = let few = h.few in record { few = omega (arith, few); fit = h.fit; listed = h.listed }
 
 -- the tuple of the place of a null has a text for each exported variable of its rule
-tuple_long : (R : List Rule) (rows : Rows) (n : NullId) → FitTuples R rows → length rows ≡ length R → HasPlace R rows n
-    → length (texts_of rows n) ≡ length (exported (rule_of R n))
+tuple_long : (R : List Rule) (rows : Rows) (n : NullId) → FitTuples R rows → length rows ≡ length R → NamesPlace R rows n
+    → length (null_texts rows n) ≡ length (exported (rule_of_null R n))
 tuple_long R rows n fit one p = at R rows n.rule fit one p.rule p.place
   where
     at : (R : List Rule) (rows : Rows) (i : ℕ) → FitTuples R rows → length rows ≡ length R → i < length R
@@ -134,14 +134,14 @@ facts_wide P mode M I e h x f m =
 -- ---- an exchange
 
 -- if the mapping text stops the run, it stops the exchange
-pub mapping_stops : (P : Program) (mode : Mode) (e : Stop Refusal) (old new : Told) → Ran (mapping_stages P) (tt {0}) (Err e) old new
+pub mapping_stops : (P : Program) (mode : Mode) (e : Stop Refusal) (old new : InputState) → Ran (mapping_stages P) (tt {0}) (Err e) old new
     → Ran (exchanges P mode) (tt {0}) (Err e) old new
 mapping_stops P mode e old new x = ran_stop (mapping_stages P) (next (rows_stages P) (target_stages P mode)) (tt {0}) e old new x
 
-beside : Mapping → List TableRows → Filled
+beside : Mapping → List TableRows → MappingAndRows
 beside M I = (M, I)
 
-pub rows_stop : (P : Program) (mode : Mode) (M : Mapping) (e : Stop Refusal) (old mid new : Told) → Ran (mapping_stages P) (tt {0}) (Ok M) old mid
+pub rows_stop : (P : Program) (mode : Mode) (M : Mapping) (e : Stop Refusal) (old mid new : InputState) → Ran (mapping_stages P) (tt {0}) (Ok M) old mid
     → Ran (saying source_refusal (source_stages P.passes)) (wanted M) (Err e) mid new → Ran (exchanges P mode) (tt {0}) (Err e) old new
 unfolding beside
 rows_stop P mode M e old mid new x y =
@@ -151,7 +151,7 @@ rows_stop P mode M e old mid new x y =
     (ran_over wanted (saying source_refusal (source_stages P.passes)) M (Err e) mid new y)))
 
 -- what the exchange of the rows that were read answers
-pub answered : (P : Program) (mode : Mode) (M : Mapping) (I : List TableRows) (q : Result (Mapping × Exchange) (Stop Refusal)) (old mid new : Told)
+pub answered : (P : Program) (mode : Mode) (M : Mapping) (I : List TableRows) (q : Result (Mapping × Exchange) (Stop Refusal)) (old mid new : InputState)
     → Ran (mapping_stages P) (tt {0}) (Ok M) old mid → Ran (saying source_refusal (source_stages P.passes)) (wanted M) (Ok I) mid new
     → Gives (target_stages P mode) (M, I) q → Ran (exchanges P mode) (tt {0}) q old new
 unfolding beside
@@ -163,20 +163,20 @@ answered P mode M I q old mid new x y g =
     (ran_value (target_stages P mode) (M, I) q new g))
 
 -- an exchange that was refused
-pub target_stops : (P : Program) (mode : Mode) (p : Filled) (e : Stop Refusal) → Gives (by (named_stage P.apply mode)) p (Err e)
+pub target_stops : (P : Program) (mode : Mode) (p : MappingAndRows) (e : Stop Refusal) → Gives (by (named_stage P.apply mode)) p (Err e)
     → Gives (target_stages P mode) p (Err e)
 target_stops P mode p (stops.Refused e) g = g
 target_stops P mode p (stops.Failed n) g = g
 target_stops P mode p stops.Memory g = g
 
 -- an exchange that was made
-pub target_made : (P : Program) (mode : Mode) (p : Filled) (e : Exchange) → Gives (by (named_stage P.apply mode)) p (Ok e)
+pub target_made : (P : Program) (mode : Mode) (p : MappingAndRows) (e : Exchange) → Gives (by (named_stage P.apply mode)) p (Ok e)
     → Gives (target_stages P mode) p (Ok (p.0, e))
 target_made P mode p e g = λ c. (e, g c, refl)
 
 -- ---- what becomes of a result
 
-pub ran_become_stop : {E A B C : Type 0} (R : A → B → C → Type 0) (s : Stage E A B) (a : A) (e : Stop E) (old new : Told) → Ran s a (Err e) old new
+pub ran_become_stop : {E A B C : Type 0} (R : A → B → C → Type 0) (s : Stage E A B) (a : A) (e : Stop E) (old new : InputState) → Ran s a (Err e) old new
     → Ran (become R s) a (Err e) old new
 ran_become_stop {E} {A} {B} {C} R s a e old new x = record {
   kept = x.kept;
@@ -197,12 +197,12 @@ ran_become_stop {E} {A} {B} {C} R s a e old new x = record {
     meets stops.Memory c m = tt
 
 -- what memory could not make of a result
-pub ran_become_none : {E A B C : Type 0} (R : A → B → C → Type 0) (s : Stage E A B) (a : A) (b : B) (old new : Told) → Ran s a (Ok b) old new
+pub ran_become_none : {E A B C : Type 0} (R : A → B → C → Type 0) (s : Stage E A B) (a : A) (b : B) (old new : InputState) → Ran s a (Ok b) old new
     → Ran (become R s) a (Err stops.Memory) old new
 ran_become_none R s a b old new x = ran_become_stop R s a stops.Memory old new (ran_memory s a b old new x)
 
 -- ---- the rows
 
 -- the rows that were read have the tables of the schema
-pub rows_widths : (passes : Passes) (w : Wanted) (I : List TableRows) (old new : Told) → Ran (saying source_refusal (source_stages passes)) w (Ok I) old new → widths I ≡ schema_widths w.schema
+pub rows_widths : (passes : Passes) (w : SourceRequest) (I : List TableRows) (old new : InputState) → Ran (saying source_refusal (source_stages passes)) w (Ok I) old new → widths I ≡ schema_widths w.schema
 rows_widths passes w I old new x = let p = ran_passes (saying source_refusal (source_stages passes)) w I old new x in p.1.2.widths_are

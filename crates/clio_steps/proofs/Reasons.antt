@@ -13,16 +13,16 @@ use Rattle.dx_ports.specs.declared.file.Limit.{Limit}
 use Rattle.dx_schema.specs.declared.sets.DepDecl.{DepDecl}
 use Rattle.dx_schema.specs.declared.sets.KeyDecl.{KeyDecl}
 use Rattle.dx_schema.specs.declared.sets.RefDecl.{RefDecl}
-use Rattle.dx_schema.specs.Faults.{columns_fault, declared_at, depth, fault_if, form_fault, is_among, dep_fault, key_fault, names_within, ref_fault, rules_fault, set_fault, sets_fault, size_fault, twice_in}
+use Rattle.dx_schema.specs.Faults.{columns_fault, declared_at, depth, fault_if, form_fault, is_among, dep_fault, key_fault, names_within, ref_fault, declarations_fault, set_fault, sets_fault, size_fault, twice_in}
 use Rattle.dx_schema.specs.Forest.{Forest}
-use Rattle.dx_schema.specs.Links.{IsFirstFault}
-use Rattle.dx_schema.specs.Tables.{Placed, columns_of, count, names_of, number_of, sets_of}
+use Rattle.dx_schema.specs.Links.{IsFirstSchemaFault}
+use Rattle.dx_schema.specs.Tables.{NumberedSet, columns_of, count, names_of, number_of_name, sets_of}
 use Rattle.dx_schema_text.specs.declared.texts.AtomText.{AtomText}
 use Rattle.dx_schema_text.specs.declared.texts.CellText.{CellText}
 use Rattle.dx_schema_text.specs.declared.texts.CellText.TheVariants.{Literal, Name}
 use Rattle.dx_schema_text.specs.declared.texts.DerivedText.{DerivedText}
 use Rattle.dx_schema_text.specs.declared.texts.RuleText.{RuleText}
-use Rattle.dx_schema_text.specs.Texts.{IsTextFault}
+use Rattle.dx_schema_text.specs.Texts.{IsMappingTextFault}
 use Rattle.dx_tokens.specs.declared.faults.TextFault.{TextFault}
 use Rattle.dx_tokens.specs.declared.faults.TextFault.TheVariants as text_faults
 use Rattle.dx_tokens.specs.declared.faults.TextKind.{TextKind}
@@ -30,17 +30,17 @@ use Rattle.dx_tokens.specs.declared.faults.TextKind.TheVariants.{UnknownName, Un
 use Rattle.dx_line_text.specs.Laws.{IsOfNames}
 use Rattle.dx_line_text.specs.Naming.{columns_in, lines_fault, set_names}
 use Rattle.dx_line_text.proofs.NamesAlone.{names_alone, unknown_alone}
-use Rattle.dx_tgd_text.specs.Reading.{arg_fault, args_fault, atom_fault, atoms_fault, call_fault, derived_fault, derived_faults, rule_fault, variables_of, rules_fault as written_fault}
+use Rattle.dx_tgd_text.specs.Reading.{arg_fault, args_fault, atom_fault, atoms_fault, derived_call_fault, derived_fault, derived_faults, rule_fault, names_of_premise, rules_fault as written_fault}
 use Rattle.dx_exchange.specs.declared.fault.ExFault.{ExFault}
 use Rattle.dx_exchange.specs.declared.fault.ExFault.TheVariants as exchange_faults
 use Rattle.dx_exchange.specs.declared.mode.Mode.{Mode}
-use Rattle.dx_exchange.specs.Exchanging.{HasNone}
+use Rattle.dx_exchange.specs.Exchanging.{HasNoExchange}
 use Rattle.dx_stages.specs.Worlds.{World}
 use Rattle.clio_accept.specs.declared.fault.AcceptFault.{AcceptFault}
 use Rattle.clio_accept.specs.declared.fault.AcceptFault.TheVariants as accept_faults
 use Rattle.dx_funcs.specs.declared.row_test.RowTest.{RowTest}
-use Rattle.clio_accept.specs.Accepting.{Between, accepting, accepting_said, between_of, leaving, taking}
-use Rattle.clio_accept.specs.Mapping.{source_refusal as source_fault_refusal, target_refusal, text_refusal}
+use Rattle.clio_accept.specs.Accepting.{SchemaPair, accepting, accepting_said, between_of, leaving, taking}
+use Rattle.clio_accept.specs.Mapping.{source_sets_refusal as source_fault_refusal, target_refusal, text_refusal}
 use Rattle.dx_schema_text.specs.declared.texts.LineText.{LineText}
 use Rattle.dx_schema_text.specs.declared.texts.MappingText.{MappingText}
 use Rattle.dx_model.specs.declared.rules.Rule.{Rule}
@@ -50,7 +50,7 @@ use Rattle.clio_ending.specs.declared.ending.Refusal.TheVariants as refusals
 use Rattle.clio_ending.specs.Ending.{exchange_refusal, source_refusal}
 use Rattle.clio_steps.specs.declared.texts.Side.{Side}
 use Rattle.clio_steps.specs.declared.texts.Side.TheVariants.{First, Second}
-use Rattle.clio_steps.specs.Steps.{Filled, Program, absent_text, asked, exchanges, text_refusal as said_refusal, text_stages}
+use Rattle.clio_steps.specs.Steps.{MappingAndRows, Program, absent_text, asked, exchanges, side_refusal as said_refusal, text_stages}
 
 -- ---- first faults
 
@@ -114,7 +114,7 @@ twice_lacks before (x ∷ xs) =
     cond_lacks no_room (is_among x before) (Some (schema_faults.Bad (schema_kinds.DoubleName x))) (twice_in (before ++ x ∷ []) xs)
     (bad (schema_kinds.DoubleName x)) (twice_lacks (before ++ x ∷ []) xs)
 
-set_lacks : (before : List (List ℕ)) (s : Placed) → Lacks no_room (set_fault before s)
+set_lacks : (before : List (List ℕ)) (s : NumberedSet) → Lacks no_room (set_fault before s)
 set_lacks before s =
     let columns : Limit = record { what = Columns; number = 64 } in
     all_lack no_room
@@ -130,7 +130,7 @@ set_lacks before s =
       ),
     )
 
-sets_lack : (before : List (List ℕ)) (sets : List Placed) → Lacks no_room (sets_fault before sets)
+sets_lack : (before : List (List ℕ)) (sets : List NumberedSet) → Lacks no_room (sets_fault before sets)
 sets_lack before [] = none_lacks no_room
 sets_lack before (s ∷ sets) =
     all_lack no_room (set_fault before s ∷ sets_fault (before ++ s.label.name ∷ []) sets ∷ [])
@@ -148,15 +148,15 @@ columns_lack known before (x ∷ xs) =
       (if_bad (is_among x before) (schema_kinds.DoubleName x), (columns_lack known (before ++ x ∷ []) xs, tt)),
     )
 
-key_lacks : (s : Placed) (k : KeyDecl) → Lacks no_room (key_fault s k)
+key_lacks : (s : NumberedSet) (k : KeyDecl) → Lacks no_room (key_fault s k)
 key_lacks s k =
     all_lack no_room
     (fault_if (eqb (length k.columns) 0) (schema_faults.Bad (schema_kinds.BadLink s.label.name)) ∷ columns_fault s.label.columns [] k.columns ∷ [])
     (if_bad (eqb (length k.columns) 0) (schema_kinds.BadLink s.label.name), (columns_lack s.label.columns [] k.columns, tt))
 
-ref_lacks : (sets : List Placed) (s : Placed) (r : RefDecl) → Lacks no_room (ref_fault sets s r)
+ref_lacks : (sets : List NumberedSet) (s : NumberedSet) (r : RefDecl) → Lacks no_room (ref_fault sets s r)
 ref_lacks sets s r =
-    let referred = declared_at sets (number_of r.set (names_of sets)) in
+    let referred = declared_at sets (number_of_name r.set (names_of sets)) in
     all_lack no_room
     (fault_if (eqb (length r.columns) 0 || eqb (length r.referred) 0) (schema_faults.Bad (schema_kinds.BadLink s.label.name))
     ∷ columns_fault s.label.columns [] r.columns
@@ -177,7 +177,7 @@ ref_lacks sets s r =
       ),
     )
 
-dep_lacks : (s : Placed) (d : DepDecl) → Lacks no_room (dep_fault s d)
+dep_lacks : (s : NumberedSet) (d : DepDecl) → Lacks no_room (dep_fault s d)
 dep_lacks s d =
     all_lack no_room
     (fault_if (eqb (length d.columns) 0 || eqb (length d.decides) 0) (schema_faults.Bad (schema_kinds.BadLink s.label.name))
@@ -188,7 +188,7 @@ dep_lacks s d =
       (columns_lack s.label.columns [] d.columns, (columns_lack s.label.columns [] d.decides, tt)),
     )
 
-rules_lack : (sets : List Placed) (s : Placed) → Lacks no_room (rules_fault sets s)
+rules_lack : (sets : List NumberedSet) (s : NumberedSet) → Lacks no_room (declarations_fault sets s)
 rules_lack sets s =
     all_lack no_room
     (first_of (map (key_fault s) s.label.keys) ∷ first_of (map (dep_fault s) s.label.deps) ∷ first_of (map (ref_fault sets s) s.label.refs) ∷ []) (
@@ -202,10 +202,10 @@ rules_lack sets s =
 form_lacks : (f : Forest) → Lacks no_room (form_fault f)
 form_lacks f =
     let sets = sets_of f in
-    all_lack no_room (size_fault f ∷ sets_fault [] sets ∷ first_of (map (rules_fault sets) sets) ∷ [])
-    (size_lacks f, (sets_lack [] sets, (each_lacks no_room (rules_fault sets) sets (rules_lack sets), tt)))
+    all_lack no_room (size_fault f ∷ sets_fault [] sets ∷ first_of (map (declarations_fault sets) sets) ∷ [])
+    (size_lacks f, (sets_lack [] sets, (each_lacks no_room (declarations_fault sets) sets (rules_lack sets), tt)))
 
-sets_told : (f : Forest) → ¬ (IsFirstFault f no_room)
+sets_told : (f : Forest) → ¬ (IsFirstSchemaFault f no_room)
 sets_told f (inl h) = form_lacks f h
 sets_told f (inr (h, (t, cycle, is))) = cc
 
@@ -214,7 +214,7 @@ sets_told f (inr (h, (t, cycle, is))) = cc
 abbrev no_text : TextFault
 no_text = text_faults.Memory
 
-text_told : (text : List ℕ) → ¬ (IsTextFault text no_text)
+text_told : (text : List ℕ) → ¬ (IsMappingTextFault text no_text)
 text_told text h = h
 
 at_lacks : (place : ℕ) (kind : TextKind) → Lacks no_text (Some (text_faults.At place kind))
@@ -239,7 +239,7 @@ arg_lacks variables call (Name x place) =
     cond_lacks no_text (is_among x variables) None (Some (text_faults.At place Unsafe)) (none_lacks no_text) (at_lacks place Unsafe)
 arg_lacks variables call (Literal t) = at_lacks call Unsafe
 
-call_lacks : (variables : List (List ℕ)) (found : Option Conversion) (place : ℕ) (args : List CellText) → Lacks no_text (call_fault variables found place args)
+call_lacks : (variables : List (List ℕ)) (found : Option Conversion) (place : ℕ) (args : List CellText) → Lacks no_text (derived_call_fault variables found place args)
 call_lacks variables None place args = at_lacks place UnknownName
 call_lacks variables (Some c) place args =
     cond_lacks no_text (eqb c.arity (length args)) (args_fault variables place args) (Some (text_faults.At place Width))
@@ -247,7 +247,7 @@ call_lacks variables (Some c) place args =
 
 derived_lacks : (list : List Conversion) (variables known : List (List ℕ)) (d : DerivedText) → Lacks no_text (derived_fault list variables known d)
 derived_lacks list variables known d =
-    cond_lacks no_text (is_among d.name known) (Some (text_faults.At d.place Unsafe)) (call_fault variables (first_named list d.call) d.call_place d.args)
+    cond_lacks no_text (is_among d.name known) (Some (text_faults.At d.place Unsafe)) (derived_call_fault variables (first_named list d.call) d.call_place d.args)
     (at_lacks d.place Unsafe) (call_lacks variables (first_named list d.call) d.call_place d.args)
 
 all_derived_lack : (list : List Conversion) (variables known : List (List ℕ)) (ds : List DerivedText)
@@ -259,7 +259,7 @@ all_derived_lack list variables known (d ∷ ds) =
 
 rule_lacks : (source target : Forest) (list : List Conversion) (r : RuleText) → Lacks no_text (rule_fault source target list r)
 rule_lacks source target list r =
-    let known = variables_of r in
+    let known = names_of_premise r in
     all_lack no_text (atoms_fault source r.premise ∷ derived_faults list known known r.derived ∷ atoms_fault target r.conclusion ∷ []) (
       each_lacks no_text (atom_fault source) r.premise (atom_lacks source),
       (all_derived_lack list known known r.derived, (each_lacks no_text (atom_fault target) r.conclusion (atom_lacks target), tt)),
@@ -296,7 +296,7 @@ unknown_kept (text_faults.At place kind) u is = cc
 unknown_kept (text_faults.TooDeep place) u is = cc
 unknown_kept text_faults.Memory u is = absurd (let e = u.1 in cc)
 
-taking_never : (list : List Conversion) (tests : List RowTest) (c : World) (b : Between) → ¬ ((taking list tests).refuses c b accept_faults.Memory)
+taking_never : (list : List Conversion) (tests : List RowTest) (c : World) (b : SchemaPair) → ¬ ((taking list tests).refuses c b accept_faults.Memory)
 taking_never list tests c b (inl (many, is)) = cc
 taking_never list tests c b (inr (b1, p1, inl (k, h, is))) =
     text_kept k (λ e. lines_lack b1.source b1.target list b1.lines (h ∙ ap Some e)) is
@@ -309,13 +309,13 @@ taking_never list tests c b (inr (b1, p1, inr (b2, p2, inr (b3, p3, inr (b4, p4,
 taking_never list tests c b (inr (b1, p1, inr (b2, p2, inr (b3, p3, inr (b4, p4, inr (b5, p5, inr (R, p6, h))))))) = leaving_never c R h
 
 said_never : (list : List Conversion) (tests : List RowTest) (c : World) (m : MappingText) → ¬ ((accepting_said list tests).refuses c m accept_faults.Memory)
-said_never list tests c m (inl (k, h, is)) = source_kept k (λ e. sets_told m.source (subst (IsFirstFault m.source) e h)) is
-said_never list tests c m (inr (m1, p1, inl (k, h, is))) = target_kept k (λ e. sets_told m1.target (subst (IsFirstFault m1.target) e h)) is
+said_never list tests c m (inl (k, h, is)) = source_kept k (λ e. sets_told m.source (subst (IsFirstSchemaFault m.source) e h)) is
+said_never list tests c m (inr (m1, p1, inl (k, h, is))) = target_kept k (λ e. sets_told m1.target (subst (IsFirstSchemaFault m1.target) e h)) is
 said_never list tests c m (inr (m1, p1, inr (m2, p2, inl (name, h, is)))) = cc
 said_never list tests c m (inr (m1, p1, inr (m2, p2, inr (m3, p3, h)))) = taking_never list tests c (between_of m3) h
 
 pub accepting_never : (list : List Conversion) (tests : List RowTest) (c : World) (text : List ℕ) → ¬ ((accepting list tests).refuses c text accept_faults.Memory)
-accepting_never list tests c text (inl (k, h, is)) = text_kept k (λ e. text_told text (subst (IsTextFault text) e h)) is
+accepting_never list tests c text (inl (k, h, is)) = text_kept k (λ e. text_told text (subst (IsMappingTextFault text) e h)) is
 accepting_never list tests c text (inr (m, p, h)) = said_never list tests c m h
 
 -- ---- usage
@@ -336,7 +336,7 @@ pub source_rows_kept : (k : SourceRefusal) → ¬ (refusals.Usage ≡ source_ref
 source_rows_kept (source_refusals.Rows file fault) is = cc
 source_rows_kept (source_refusals.Limit limit) is = cc
 
-pub none_kept : (P : Program) (mode : Mode) (p : Filled) (target : Forest) (fault : ExFault) → HasNone P.apply (asked mode p) fault
+pub none_kept : (P : Program) (mode : Mode) (p : MappingAndRows) (target : Forest) (fault : ExFault) → HasNoExchange P.apply (asked mode p) fault
     → ¬ (refusals.Usage ≡ exchange_refusal target fault)
 none_kept P mode p target (exchange_faults.Clash k) h is = cc
 none_kept P mode p target (exchange_faults.Limit l) h is = cc

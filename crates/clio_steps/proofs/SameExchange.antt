@@ -4,23 +4,23 @@ use Rattle.dx_ports.specs.Members.{Each}
 use Rattle.dx_model.specs.declared.rules.Rule.{Rule}
 use Rattle.dx_instance.specs.Stored.{TableRows, facts, widths}
 use Rattle.dx_schema.specs.Tables.{model_tables, schema_widths}
-use Rattle.dx_used.specs.Used.{Agree, Marks, UsesOnly}
+use Rattle.dx_used.specs.Used.{AgreeOnUsed, Marks, UsesOnly}
 use Rattle.dx_used.proofs.UsedLaws.{same_rows, same_solutions, same_universal}
 use Rattle.dx_exchange.specs.declared.mode.Mode.{Mode}
 use Rattle.dx_exchange.specs.declared.result.Exchange.{Exchange}
 use Rattle.dx_exchange.specs.declared.fault.ExFault.{ExFault}
 use Rattle.dx_exchange.specs.declared.fault.ExFault.TheVariants as faults
-use Rattle.dx_exchange.specs.Exchanging.{HasNone, IsExchange}
+use Rattle.dx_exchange.specs.Exchanging.{HasNoExchange, IsExchange}
 use Rattle.dx_stages.specs.declared.stop.Stop.{Stop}
 use Rattle.dx_stages.specs.declared.stop.Stop.TheVariants as stops
 use Rattle.dx_stages.specs.Stages.{by, saying}
-use Rattle.dx_stages.specs.Running.{Gives, Told, said}
+use Rattle.dx_stages.specs.Running.{Gives, InputState, with_refusal}
 use Rattle.dx_stages.proofs.Running.{ran_out, ran_saying}
 use Rattle.clio_accept.specs.declared.mapping.Mapping.{Mapping}
 use Rattle.clio_source.specs.declared.fault.SourceRefusal.{SourceRefusal}
 use Rattle.clio_source.specs.Agreeing.{RanAgreeing}
 use Rattle.dx_used.specs.Passing.{Passes}
-use Rattle.clio_source.specs.Source.{Wanted, source_left}
+use Rattle.clio_source.specs.Source.{SourceRequest, source_left}
 use Rattle.clio_source.proofs.Left.{ran_first}
 use Rattle.clio_ending.specs.declared.ending.Refusal.{Refusal}
 use Rattle.clio_ending.specs.Ending.{source_refusal}
@@ -30,7 +30,7 @@ use Rattle.clio_steps.proofs.Plans.{rows_widths}
 -- ---- from the rows that were read to those of the files
 
 made_for : (P : Program) (mode : Mode) (M : Mapping) (used : Marks) (I J : List TableRows) (e : Exchange) → Each M.rules (UsesOnly used)
-    → Agree used (facts I) (facts J) → IsExchange P.apply (asked mode (M, J)) e → IsExchange P.apply (asked mode (M, I)) e
+    → AgreeOnUsed used (facts I) (facts J) → IsExchange P.apply (asked mode (M, J)) e → IsExchange P.apply (asked mode (M, I)) e
 made_for P mode M used I J e uses agree x = record {
   matches = same_rows P.apply used M.rules (facts J) (facts I) e.matches uses (agree.1, agree.0) x.matches;
   within = x.within;
@@ -46,7 +46,7 @@ made_for P mode M used I J e uses agree x = record {
 }
 
 none_for : (P : Program) (mode : Mode) (M : Mapping) (used : Marks) (I J : List TableRows) (fault : ExFault) → Each M.rules (UsesOnly used)
-    → Agree used (facts I) (facts J) → HasNone P.apply (asked mode (M, J)) fault → HasNone P.apply (asked mode (M, I)) fault
+    → AgreeOnUsed used (facts I) (facts J) → HasNoExchange P.apply (asked mode (M, J)) fault → HasNoExchange P.apply (asked mode (M, I)) fault
 none_for P mode M used I J (faults.Clash c) uses agree x = record {
   rows = x.rows;
   are = same_rows P.apply used M.rules (facts J) (facts I) x.rows uses (agree.1, agree.0) x.are;
@@ -64,7 +64,7 @@ none_for P mode M used I J faults.Memory uses agree x = x
 
 -- what the exchange gives for the rows that were read it gives for those of the files
 pub same_exchange : (P : Program) (mode : Mode) (M : Mapping) (used : Marks) (I J : List TableRows) (q : Result Exchange (Stop Refusal))
-    → Each M.rules (UsesOnly used) → Agree used (facts I) (facts J) → Gives (by (named_stage P.apply mode)) (M, J) q → Gives (by (named_stage P.apply mode)) (M, I) q
+    → Each M.rules (UsesOnly used) → AgreeOnUsed used (facts I) (facts J) → Gives (by (named_stage P.apply mode)) (M, J) q → Gives (by (named_stage P.apply mode)) (M, I) q
 same_exchange P mode M used I J (Ok e) uses agree g = λ c. made_for P mode M used I J e uses agree (g c)
 same_exchange P mode M used I J (Err (stops.Refused e)) uses agree g =
     λ c. let k = g c in (k.0, none_for P mode M used I J k.0 uses agree k.1, k.2)
@@ -74,25 +74,25 @@ same_exchange P mode M used I J (Err stops.Memory) uses agree g = g
 -- ---- the rows
 
 -- the rows that were read, and how many bytes are left; refusals said as those of the run
-pub rows_agree : (passes : Passes) (used : Marks) (w : Wanted) (r : Result (List TableRows × ℕ) (Stop SourceRefusal)) (q : List TableRows × ℕ) (old new : Told) → r ≡ Ok q
+pub rows_agree : (passes : Passes) (used : Marks) (w : SourceRequest) (r : Result (List TableRows × ℕ) (Stop SourceRefusal)) (q : List TableRows × ℕ) (old new : InputState) → r ≡ Ok q
     → RanAgreeing used (source_left passes) w r old new → RanAgreeing used (saying source_refusal (source_left passes)) w (Ok q) old new
 rows_agree passes used w r q old new is x =
     let h = subst (λ v. RanAgreeing used (source_left passes) w v old new) is x in
     (h.0, h.1, h.2, ran_saying source_refusal (source_left passes) w (Ok (h.0, q.1)) (Ok (h.0, q.1)) old new refl h.3)
 
-pub no_rows : (passes : Passes) (used : Marks) (w : Wanted) (r : Result (List TableRows × ℕ) (Stop SourceRefusal)) (e : Stop SourceRefusal) (k : Stop Refusal) (old new : Told) → r ≡ Err e
-    → ◌≡◌ {A = Result (List TableRows × ℕ) (Stop Refusal)} (Err k) (said source_refusal (Err e)) → RanAgreeing used (source_left passes) w r old new
+pub no_rows : (passes : Passes) (used : Marks) (w : SourceRequest) (r : Result (List TableRows × ℕ) (Stop SourceRefusal)) (e : Stop SourceRefusal) (k : Stop Refusal) (old new : InputState) → r ≡ Err e
+    → ◌≡◌ {A = Result (List TableRows × ℕ) (Stop Refusal)} (Err k) (with_refusal source_refusal (Err e)) → RanAgreeing used (source_left passes) w r old new
     → RanAgreeing used (saying source_refusal (source_left passes)) w (Err k) old new
 no_rows passes used w r e k old new is k_is x =
     ran_saying source_refusal (source_left passes) w (Err e) (Err k) old new k_is (subst (λ v. RanAgreeing used (source_left passes) w v old new) is x)
 
 -- before any file is read memory ran out
-pub none_read : (passes : Passes) (R : List Rule) (w : Wanted) (told : Told)
+pub none_read : (passes : Passes) (R : List Rule) (w : SourceRequest) (told : InputState)
     → (used : Marks) × Each R (UsesOnly used) × RanAgreeing used (saying source_refusal (source_left passes)) w (Err stops.Memory) told told
 none_read passes R w told = ([], (λ d m a k. tt), ran_out (saying source_refusal (source_left passes)) w told)
 
 -- the rows that were read have the tables of the schema
-pub agreeing_widths : (passes : Passes) (w : Wanted) (used : Marks) (q : List TableRows × ℕ) (old new : Told)
+pub agreeing_widths : (passes : Passes) (w : SourceRequest) (used : Marks) (q : List TableRows × ℕ) (old new : InputState)
     → RanAgreeing used (saying source_refusal (source_left passes)) w (Ok q) old new → widths q.0 ≡ schema_widths w.schema
 agreeing_widths passes w used q old new x =
     sym x.2 ∙ rows_widths passes w x.0 old new (ran_first source_refusal passes w (Ok (x.0, q.1)) old new x.3)

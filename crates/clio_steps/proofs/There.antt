@@ -5,7 +5,7 @@ use Rattle.dx_exchange.specs.declared.mode.Mode.{Mode}
 use Rattle.dx_exchange.specs.declared.result.Exchange.{Exchange}
 use Rattle.dx_exchange.specs.declared.fault.ExFault.{ExFault}
 use Rattle.dx_exchange.specs.declared.fault.ExFault.TheVariants as exchange_faults
-use Rattle.dx_exchange.specs.Exchanging.{HasNone, IsExchange}
+use Rattle.dx_exchange.specs.Exchanging.{HasNoExchange, IsExchange}
 use Rattle.dx_exchange.proofs.Decided.{exchange_or_none}
 use Rattle.dx_stages.specs.Worlds.{World}
 use Rattle.clio_accept.proofs.Accepted.{accepted_fits}
@@ -24,7 +24,7 @@ exchange_there P mode c h =
     let d = exchange_or_none P.apply P.list (model_tables h.mapping.source) in
     of (d.either c (asked mode (h.mapping, h.rows)) (rules_fit P h.mapping fits))
   where
-    of : ((e : Exchange) × IsExchange P.apply (asked mode (h.mapping, h.rows)) e) ⊎ ((f : ExFault) × HasNone P.apply (asked mode (h.mapping, h.rows)) f)
+    of : ((e : Exchange) × IsExchange P.apply (asked mode (h.mapping, h.rows)) e) ⊎ ((f : ExFault) × HasNoExchange P.apply (asked mode (h.mapping, h.rows)) f)
         → (e : Exchange) × IsExchange P.apply (asked mode (h.mapping, h.rows)) e
     of (inl x) = x
     of (inr (exchange_faults.Clash k, x)) = absurd (x.no_solution h.solution h.solves)

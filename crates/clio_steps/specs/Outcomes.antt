@@ -1,7 +1,8 @@
 -- What there is in a world: an accepted mapping, its exchange, a solution or none, a clash; and how a plan was written.
 use Rattle.std.specs.Prelude.{◌≡◌, ◌++◌, ℕ, List, ◌∷◌, codes, length, Some, ◌≤◌}
 use Rattle.dx_ports.specs.Entries.{Entry}
-use Rattle.dx_model.specs.Values.{Text, Rows}
+use Rattle.dx_model.specs.Values.{Rows}
+use Rattle.dx_ports.specs.Texts.{Text}
 use Rattle.dx_keys.specs.declared.answers.Clash.{Clash}
 use Rattle.dx_instance.specs.Stored.{TableRows, facts}
 use Rattle.dx_schema.specs.Forest.{Forest}
@@ -10,11 +11,11 @@ use Rattle.dx_exchange.specs.declared.mode.Mode.{Mode}
 use Rattle.dx_exchange.specs.declared.result.Exchange.{Exchange}
 use Rattle.dx_exchange.specs.Exchanging.{HasClash, IsExchange}
 use Rattle.dx_stages.specs.Worlds.{World}
-use Rattle.dx_stages.specs.Ending.{WroteAll, WroteFirst, Written}
+use Rattle.dx_stages.specs.Ending.{WroteAll, WroteFirst, OutputState}
 use Rattle.dx_stages.specs.Stages.{each}
 use Rattle.clio_accept.specs.declared.mapping.Mapping.{Mapping}
 use Rattle.clio_accept.specs.Accepting.{accepting}
-use Rattle.clio_source.specs.Source.{Read, at_start, file_at, reading, roots, source_stages}
+use Rattle.clio_source.specs.Source.{ReadState, at_start, file_at, reading, roots, source_stages}
 use Rattle.clio_ending.specs.declared.ending.Refusal.TheVariants as refusals
 use Rattle.clio_ending.specs.Ending.{named_clash}
 use Rattle.clio_steps.specs.Steps.{Program, asked, wanted, target_cells, text_bytes}
@@ -30,11 +31,11 @@ abbrev pub Writing : Type 1
 Writing = List Entry → List ℕ → Type 0
 
 -- all of them
-abbrev pub wrote_all : Written → Written → List Entry → List ℕ → Type 0
+abbrev pub wrote_all : OutputState → OutputState → List Entry → List ℕ → Type 0
 wrote_all before after files text = WroteAll files text before after
 
 -- so many files, the first ones, and after all of them a part of the text
-abbrev pub wrote_first : ℕ → Written → Written → List Entry → List ℕ → Type 0
+abbrev pub wrote_first : ℕ → OutputState → OutputState → List Entry → List ℕ → Type 0
 wrote_first count before after files text = WroteFirst files text count before after
 
 -- ---- an exchange
@@ -71,7 +72,7 @@ pub record IsNextFile (c : World) (f : Forest) (name : List ℕ) : Type 0 where
   pub root : ℕ
   pub after : List ℕ
   pub roots_are : roots f ≡ before ++ root ∷ after
-  pub read : Read
+  pub read : ReadState
   pub passed : (each (reading f) before).passes c at_start read
   pub is : name ≡ file_at f root
 

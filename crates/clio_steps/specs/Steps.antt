@@ -9,13 +9,13 @@ use Rattle.dx_instance.specs.Stored.{TableRows, facts}
 use Rattle.dx_schema.specs.Tables.{model_tables}
 use Rattle.dx_exchange.specs.declared.mode.Mode.{Mode}
 use Rattle.dx_exchange.specs.declared.result.Exchange.{Exchange}
-use Rattle.dx_exchange.specs.Exchanging.{Asked, exchanging}
+use Rattle.dx_exchange.specs.Exchanging.{ExchangeInput, exchanging}
 use Rattle.dx_stages.specs.Stages.{Stage, next, by, over, into, file, saying}
 use Rattle.clio_accept.specs.declared.mapping.Mapping.{Mapping}
 use Rattle.clio_accept.specs.declared.fault.AcceptFault.{AcceptFault}
 use Rattle.clio_accept.specs.declared.fault.MapFault.TheVariants as map_faults
 use Rattle.clio_accept.specs.Accepting.{accepting}
-use Rattle.clio_source.specs.Source.{Wanted, source_stages}
+use Rattle.clio_source.specs.Source.{SourceRequest, source_stages}
 use Rattle.clio_ending.specs.declared.faults.OtherFault.TheVariants as other_faults
 use Rattle.clio_ending.specs.declared.ending.Refusal.{Refusal}
 use Rattle.clio_ending.specs.declared.ending.Refusal.TheVariants as refusals
@@ -54,9 +54,9 @@ absent_text First = refusals.Mapping map_faults.Absent
 absent_text Second = refusals.Other other_faults.Absent
 
 -- a fault of the text
-abbrev pub text_refusal : Side → AcceptFault → Refusal
-text_refusal First = mapping_refusal
-text_refusal Second = other_refusal
+abbrev pub side_refusal : Side → AcceptFault → Refusal
+side_refusal First = mapping_refusal
+side_refusal Second = other_refusal
 
 abbrev pub too_long : Refusal
 too_long = refusals.Limit (record { what = TextBytes; number = text_bytes })
@@ -66,7 +66,7 @@ text_file side = file (text_name side) text_bytes (absent_text side) too_long
 
 -- a mapping text, accepted
 abbrev pub text_stages : Program → Side → Stage Refusal (Unit {0}) Mapping
-text_stages P side = next (text_file side) (saying (text_refusal side) (accepting P.list P.tests))
+text_stages P side = next (text_file side) (saying (side_refusal side) (accepting P.list P.tests))
 
 -- the mapping text
 abbrev pub mapping_stages : Program → Stage Refusal (Unit {0}) Mapping
@@ -75,32 +75,32 @@ mapping_stages P = text_stages P First
 -- ---- the rows
 
 -- a mapping, and the rows of its source files that pass its conditions
-abbrev pub Filled : Type 0
-Filled = Mapping × List TableRows
+abbrev pub MappingAndRows : Type 0
+MappingAndRows = Mapping × List TableRows
 
 -- what a mapping wants of the source files: the rows that pass its conditions
-abbrev pub wanted : Mapping → Wanted
+abbrev pub wanted : Mapping → SourceRequest
 wanted M = record { schema = M.source; conditions = M.conditions }
 
 -- the rows of the source files that pass, beside the mapping
-abbrev pub rows_stages : Program → Stage Refusal Mapping Filled
+abbrev pub rows_stages : Program → Stage Refusal Mapping MappingAndRows
 rows_stages P =
     into (λ (M : Mapping) (I : List TableRows). (M, I)) (over wanted (saying source_refusal (source_stages P.passes)))
 
 -- ---- the exchange
 
 -- the exchange of these rows under this mapping
-abbrev pub asked : Mode → Filled → Asked
+abbrev pub asked : Mode → MappingAndRows → ExchangeInput
 asked mode p =
     record { rules = p.0.rules; schema = model_tables p.0.target; rows = facts p.1; mode = mode; limit = target_cells }
 
 -- the exchange of the rows; a clash is told with the names that the target has
-abbrev pub named_stage : Conversions → Mode → Filled → Stage Refusal Filled Exchange
+abbrev pub named_stage : Conversions → Mode → MappingAndRows → Stage Refusal MappingAndRows Exchange
 named_stage apply mode p = over (asked mode) (saying (exchange_refusal p.0.target) (exchanging apply))
 
 -- the exchange of the rows, beside the mapping
-abbrev pub target_stages : Program → Mode → Stage Refusal Filled (Mapping × Exchange)
-target_stages P mode = into (λ (p : Filled) (e : Exchange). (p.0, e)) (by (named_stage P.apply mode))
+abbrev pub target_stages : Program → Mode → Stage Refusal MappingAndRows (Mapping × Exchange)
+target_stages P mode = into (λ (p : MappingAndRows) (e : Exchange). (p.0, e)) (by (named_stage P.apply mode))
 
 -- a mapping text, its source files, and their exchange
 abbrev pub exchanges : Program → Mode → Stage Refusal (Unit {0}) (Mapping × Exchange)

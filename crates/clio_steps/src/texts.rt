@@ -6,7 +6,7 @@ ghost use Rattle.dx_stages.specs.Running.{Gives, Ran};
 ghost use Rattle.dx_stages.specs.Stages.{saying};
 ghost use Rattle.clio_accept.specs.Accepting.{accepting};
 ghost use Rattle.clio_accept.specs.declared.fault.AcceptFault.TheVariants.{Mapping as MappingFault};
-ghost use Rattle.clio_steps.specs.Steps.{absent_text, program, text_bytes, text_name, text_refusal, text_stages};
+ghost use Rattle.clio_steps.specs.Steps.{absent_text, program, text_bytes, text_name, side_refusal, text_stages};
 
 use clio_accept::{AcceptFault, MapFault, Mapping, accept};
 use clio_ending::{OtherFault, Refusal};
@@ -48,7 +48,7 @@ impl Side {
 
     // Its text has this fault.
     fn refusal(self, fault: MapFault) -> Refusal
-        ensures { result ≡ text_refusal self (MappingFault fault) }
+        ensures { result ≡ side_refusal self (MappingFault fault) }
     {
         match self {
             Side::First => Refusal::Mapping(fault),
@@ -70,7 +70,7 @@ where
     P: Fn(u32, &Text) -> Result<bool, AllocError>,
     M: Meaning,
     requires { length text.now ≤ text_bytes }
-    ensures { Gives (saying (text_refusal side) (accepting (offered host.now) (tested tests.now))) text.now result }
+    ensures { Gives (saying (side_refusal side) (accepting (offered host.now) (tested tests.now))) text.now result }
 {
     match accept(alloc, text, host, tests) {
         Ok(mapping) => Ok(mapping),

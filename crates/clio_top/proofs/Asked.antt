@@ -6,10 +6,10 @@ use Rattle.dx_instance.specs.Stored.{facts}
 use Rattle.dx_exchange.specs.declared.mode.Mode.{Mode}
 use Rattle.dx_exchange.specs.declared.result.Exchange.{Exchange}
 use Rattle.dx_stages.specs.Worlds.{World}
-use Rattle.dx_stages.specs.Ending.{Planned}
+use Rattle.dx_stages.specs.Ending.{PlanContent}
 use Rattle.clio_accept.specs.declared.mapping.Mapping.{Mapping}
 use Rattle.clio_files.specs.Files.{AreFiles, files_of, summary_of}
-use Rattle.clio_files.specs.Sheets.{AreNulls, Told}
+use Rattle.clio_files.specs.Sheets.{AreTargetNulls, PrintedFile}
 use Rattle.clio_ending.specs.declared.ending.Done.{Done}
 use Rattle.clio_top.specs.declared.command.Command.{Command}
 use Rattle.clio_top.specs.declared.command.Command.TheVariants.{Answering, Comparing, Demonstrating, Exchanging, Judging, Showing}
@@ -25,7 +25,7 @@ use Rattle.clio_answer.proofs.AnsweredIn.{answered_in}
 use Rattle.clio_steps.proofs.InWorld.{in_world, its_mapping, as_planned}
 use Rattle.clio_compare.proofs.ComparedIn.{compared_with}
 
-done_with : (P : Program) (mode : Mode) (nested : Bool) (c : World) (q : Mapping × Exchange) (files : List Told) (Wrote : Writing)
+done_with : (P : Program) (mode : Mode) (nested : Bool) (c : World) (q : Mapping × Exchange) (files : List PrintedFile) (Wrote : Writing)
     → (exchanges P mode).passes c (tt {0}) q → AreFiles q.0.source q.0.target P.list mode nested q.0.rules q.1 files
     → Wrote (files_of files) (summary_of files) → IsDoneIn P mode nested c q.1 Wrote
 done_with P mode nested c q files Wrote x are wrote = record {
@@ -36,7 +36,7 @@ done_with P mode nested c q files Wrote x are wrote = record {
 }
 
 demo_with : (P : Program) (number : ℕ) (mode : Mode) (q : Mapping × Exchange) (nulls : List NullId) (Wrote : Writing)
-    → (exchanges P mode).passes (demo_world number) (tt {0}) q → AreNulls (facts q.1.target) nulls
+    → (exchanges P mode).passes (demo_world number) (tt {0}) q → AreTargetNulls (facts q.1.target) nulls
     → Wrote [] (demo_text number q.0 q.1.target (length nulls)) → IsDemoIn P number mode q.1 Wrote
 demo_with P number mode q nulls Wrote x are wrote = record {
   exchange = in_world P mode (demo_world number) q x;
@@ -47,23 +47,23 @@ demo_with P number mode q nulls Wrote x are wrote = record {
 
 -- ---- each command
 
-asked_by : (P : Program) (c : World) (words : List (List ℕ)) (k : Command) (p : Planned Done) (Wrote : Writing) → says words ≡ Some k
+asked_by : (P : Program) (c : World) (words : List (List ℕ)) (k : Command) (p : PlanContent Done) (Wrote : Writing) → says words ≡ Some k
     → (stages_of P k).passes c (tt {0}) p → Wrote p.files p.text → AsAsked P c words p.done Wrote
 asked_by P c words (Exchanging mode nested) p Wrote w (q, x, (files, are, plan)) wrote =
-    subst (λ (r : Planned Done). AsAsked P c words r.done Wrote) (sym plan)
+    subst (λ (r : PlanContent Done). AsAsked P c words r.done Wrote) (sym plan)
     (mode, nested, w, done_with P mode nested c q files Wrote x are (as_planned Wrote p _ plan wrote))
 asked_by P c words (Showing mode) p Wrote w (M, (text, there, accepted), plan) wrote =
-    subst (λ (r : Planned Done). AsAsked P c words r.done Wrote) (sym plan)
+    subst (λ (r : PlanContent Done). AsAsked P c words r.done Wrote) (sym plan)
     (mode, w, record { text = text; held = there.0; mapping = M; accepted = accepted; written = as_planned Wrote p _ plan wrote })
 asked_by P c words (Demonstrating number mode) p Wrote w (q, x, (ns, are, plan)) wrote =
-    subst (λ (r : Planned Done). AsAsked P c words r.done Wrote) (sym plan)
+    subst (λ (r : PlanContent Done). AsAsked P c words r.done Wrote) (sym plan)
     (number, mode, w, demo_with P number mode q ns Wrote x are (as_planned Wrote p _ plan wrote))
 asked_by P c words Answering p Wrote w (q, x, plan) wrote =
-    subst (λ (r : Planned Done). AsAsked P c words r.done Wrote) (sym plan) (w, answered_in P c q Wrote x (as_planned Wrote p _ plan wrote))
+    subst (λ (r : PlanContent Done). AsAsked P c words r.done Wrote) (sym plan) (w, answered_in P c q Wrote x (as_planned Wrote p _ plan wrote))
 asked_by P c words Judging p Wrote w (q, x, plan) wrote =
-    subst (λ (r : Planned Done). AsAsked P c words r.done Wrote) (sym plan) (w, judged_in P c q Wrote x (as_planned Wrote p _ plan wrote))
+    subst (λ (r : PlanContent Done). AsAsked P c words r.done Wrote) (sym plan) (w, judged_in P c q Wrote x (as_planned Wrote p _ plan wrote))
 asked_by P c words Comparing p Wrote w (q, x, (files, are, plan)) wrote =
-    subst (λ (r : Planned Done). AsAsked P c words r.done Wrote) (sym plan)
+    subst (λ (r : PlanContent Done). AsAsked P c words r.done Wrote) (sym plan)
     (w, compared_with P c q files Wrote x are (as_planned Wrote p _ plan wrote))
 
 -- ---- the words
@@ -77,7 +77,7 @@ said words k is = of (says words) refl
     of (Some l) e = let h : or_usage (Some l) ≡ Ok k = sym (ap or_usage e) ∙ is in cc
 
 -- each plan is as the words ask for it, however it is written
-pub plan_asked : (P : Program) (c : World) (words : List (List ℕ)) (p : Planned Done) (Wrote : Writing) → (run_stages P).passes c words p
+pub plan_asked : (P : Program) (c : World) (words : List (List ℕ)) (p : PlanContent Done) (Wrote : Writing) → (run_stages P).passes c words p
     → Wrote p.files p.text → AsAsked P c words p.done Wrote
 plan_asked P c words p Wrote (k, w, passed) wrote = asked_by P c words k p Wrote (said words k w) passed wrote
 

@@ -13,7 +13,7 @@ use Rattle.clio_steps.specs.declared.texts.Side.TheVariants.{First}
 use Rattle.clio_steps.proofs.Names.{text_asks}
 use Rattle.clio_compare.proofs.Pairs.{rest_asks}
 use Rattle.clio_top.proofs.Asked.{said}
-use Rattle.clio_answer.specs.Answering.{Posed}
+use Rattle.clio_answer.specs.Answering.{MappingAndQuery}
 use Rattle.clio_answer.proofs.AnswerRuns.{end_silent}
 use Rattle.clio_answer.proofs.Queried.{query_asks}
 use Rattle.clio_judge.proofs.VerdictRuns.{after_rows}
@@ -31,7 +31,7 @@ asked_by P c (Demonstrating number mode) n h = h
 asked_by P c Answering n (inl h) = inl (text_asks P First c tt n h)
 asked_by P c Answering n (inr (M, m, inl h)) = inr (M, m, inl (query_asks c M n h))
 asked_by P c Answering n (inr (M, m, inr (p, (q, passed, is), inl h))) =
-    inr (M, m, inr (q, passed, next_file P.passes c (wanted M) n (subst (λ (r : Posed). (source_stages P.passes).asks c (wanted r.0) n) is h)))
+    inr (M, m, inr (q, passed, next_file P.passes c (wanted M) n (subst (λ (r : MappingAndQuery). (source_stages P.passes).asks c (wanted r.0) n) is h)))
 asked_by P c Answering n (inr (M, m, inr (p, x, inr (f, y, h)))) = absurd (end_silent P c f n h)
 asked_by P c Judging n (inl h) = inl (text_asks P First c tt n h)
 asked_by P c Judging n (inr (M, m, inl h)) = inr (M, m, inl (next_file P.passes c (wanted M) n h))

@@ -2,10 +2,10 @@
 use Rattle.std.proofs.Common.{◌≡◌, ◌⊎◌, ℕ, List, refl, sym, ◌∙◌, ap, subst, inl, inr, Option, Some, Ok, Bool}
 use Rattle.std.specs.FinMap.{get}
 use Rattle.std.proofs.lemmas.Option.{same_Some}
-use Rattle.dx_ports.specs.Entries.{Held}
+use Rattle.dx_ports.specs.Entries.{FileMap}
 use Rattle.dx_ports.specs.Faults.{Rose}
 use Rattle.dx_keys.specs.declared.answers.Clash.{Clash}
-use Rattle.dx_model.specs.Values.{Text}
+use Rattle.dx_ports.specs.Texts.{Text}
 use Rattle.dx_instance.specs.Stored.{facts}
 use Rattle.dx_schema.specs.Tables.{model_tables, schema_widths}
 use Rattle.dx_queries.proofs.Certain.{listed_are_certain}
@@ -18,8 +18,8 @@ use Rattle.dx_exchange.specs.declared.result.Exchange.{Exchange}
 use Rattle.dx_exchange.specs.declared.fault.ExFault.TheVariants as exchange_faults
 use Rattle.dx_stages.specs.declared.plan.Ended.{Ended}
 use Rattle.dx_stages.specs.declared.plan.Ended.TheVariants as endeds
-use Rattle.dx_stages.specs.Ending.{Counts, Ends, IsOutside, IsRefusedAs, Planned, Runs, Written}
-use Rattle.dx_stages.specs.Running.{Told}
+use Rattle.dx_stages.specs.Ending.{Counts, Ends, IsOutside, IsRefusedAs, PlanContent, Runs, OutputState}
+use Rattle.dx_stages.specs.Running.{InputState}
 use Rattle.dx_stages.specs.Worlds.{IsOf, World}
 use Rattle.clio_accept.proofs.Accepted.{accepted_fits}
 use Rattle.clio_ending.specs.declared.ending.Done.{Done}
@@ -38,7 +38,7 @@ use Rattle.clio_top.specs.Demo.{demo_world}
 use Rattle.clio_top.specs.Commands.{run_stages, stages_of}
 use Rattle.clio_top.specs.Promises.{AsksFor}
 use Rattle.clio_steps.specs.Outcomes.{HasNoSolutionIn, HasMappingIn, HasSolutionIn}
-use Rattle.clio_top.specs.Completing.{AnswersArePlanned, AnswersClash, Completes, CompletesDemo, DemoIsPlanned, HasDone, IsFaultless, MappingIsShown, NoAnswerIsAClash, OrMemory, SolutionIsPlanned}
+use Rattle.clio_top.specs.Completing.{AnswersArePlanned, AnswersClash, Completes, CompletesDemo, DemoIsPlanned, HasDone, HasNoFault, MappingIsShown, NoAnswerIsAClash, OrMemory, SolutionIsPlanned}
 use Rattle.clio_answer.specs.Answering.{answers, query_stages}
 use Rattle.clio_answer.specs.Outcomes.{HasFewAnswers, HasQueryIn}
 use Rattle.clio_top.proofs.Asking.{in_order}
@@ -56,7 +56,7 @@ planned P c words mode nested w h =
     let fits = accepted_fits P.list P.tests c h.text h.mapping (is_small h.text h.few) h.accepted in
     let plan = plan_exists P mode nested h.mapping x.0 (record { fits = fits; rows = h.rows; exchange = x.1 }) in
     let passed = exchange_passed P mode c h x.0 x.1 in
-    (x.0, (plan.0, (Exchanging mode nested, ap or_usage w, ((h.mapping, x.0), passed, plan.1)), ap (λ (p : Planned Done). p.done) plan.1.2))
+    (x.0, (plan.0, (Exchanging mode nested, ap or_usage w, ((h.mapping, x.0), passed, plan.1)), ap (λ (p : PlanContent Done). p.done) plan.1.2))
 
 pub shown : MappingIsShown
 shown P c words mode w h = (_, (Showing mode, ap or_usage w, (h.mapping, (h.text, (h.held, h.few), h.accepted), refl)), refl)
@@ -66,7 +66,7 @@ demo_planned P c words number mode w h =
     let x = exchange_there P mode (demo_world number) h in
     let plan = demo_exists P number h.mapping x.0 in
     let passed = exchange_passed P mode (demo_world number) h x.0 x.1 in
-    (x.0, (plan.0, (Demonstrating number mode, ap or_usage w, ((h.mapping, x.0), passed, plan.1)), ap (λ (p : Planned Done). p.done) plan.1.2))
+    (x.0, (plan.0, (Demonstrating number mode, ap or_usage w, ((h.mapping, x.0), passed, plan.1)), ap (λ (p : PlanContent Done). p.done) plan.1.2))
 
 -- ---- the answers of a query
 
@@ -94,42 +94,42 @@ answers_clash P c words w h k =
     (x.0, _, _, _, inr (Answering, ap or_usage w, refused))
 
 -- if nothing is at fault, there is a plan
-faultless_planned : (P : Program) (c : World) (words : List (List ℕ)) → IsFaultless P c words → (p : Planned Done) × (run_stages P).passes c words p
+faultless_planned : (P : Program) (c : World) (words : List (List ℕ)) → HasNoFault P c words → (p : PlanContent Done) × (run_stages P).passes c words p
 faultless_planned P c words none = elim ((run_decided P).either c words tt) [ inl p ↦ p | inr f ↦ absurd (none f.0 f.1) ]
 
 -- ---- what is done tells the command
 
-has_done : (P : Program) (c : World) (k : Command) (p : Planned Done) → (stages_of P k).passes c (tt {0}) p → HasDone k p.done
-has_done P c (Exchanging mode nested) p (q, x, (files, are, plan)) = (q.1, ap (λ (r : Planned Done). r.done) plan)
-has_done P c (Showing mode) p (M, m, plan) = ap (λ (r : Planned Done). r.done) plan
-has_done P c (Demonstrating number mode) p (q, x, (ns, are, plan)) = (q.1, ap (λ (r : Planned Done). r.done) plan)
-has_done P c Answering p (q, x, plan) = (q.1, ap (λ (r : Planned Done). r.done) plan)
-has_done P c Judging p (q, x, plan) = (q.1, ap (λ (r : Planned Done). r.done) plan)
-has_done P c Comparing p (q, x, (files, are, plan)) = (q.1, ap (λ (r : Planned Done). r.done) plan)
+has_done : (P : Program) (c : World) (k : Command) (p : PlanContent Done) → (stages_of P k).passes c (tt {0}) p → HasDone k p.done
+has_done P c (Exchanging mode nested) p (q, x, (files, are, plan)) = (q.1, ap (λ (r : PlanContent Done). r.done) plan)
+has_done P c (Showing mode) p (M, m, plan) = ap (λ (r : PlanContent Done). r.done) plan
+has_done P c (Demonstrating number mode) p (q, x, (ns, are, plan)) = (q.1, ap (λ (r : PlanContent Done). r.done) plan)
+has_done P c Answering p (q, x, plan) = (q.1, ap (λ (r : PlanContent Done). r.done) plan)
+has_done P c Judging p (q, x, plan) = (q.1, ap (λ (r : PlanContent Done). r.done) plan)
+has_done P c Comparing p (q, x, (files, are, plan)) = (q.1, ap (λ (r : PlanContent Done). r.done) plan)
 
 -- the words say one command
 one_command : (words : List (List ℕ)) (k d : Command) → says words ≡ Some k → or_usage (says words) ≡ Ok d → d ≡ k
 one_command words k d w o = sym (same_Some k d (sym w ∙ said words d o))
 
-done_as_said : (P : Program) (c : World) (words : List (List ℕ)) (k : Command) (p : Planned Done) → says words ≡ Some k
+done_as_said : (P : Program) (c : World) (words : List (List ℕ)) (k : Command) (p : PlanContent Done) → says words ≡ Some k
     → (run_stages P).passes c words p → HasDone k p.done
 done_as_said P c words k p w (d, o, passed) = subst (λ (v : Command). HasDone v p.done) (one_command words k d w o) (has_done P c d p passed)
 
 -- ---- a run during which nothing failed
 
 -- the reads did not fail, or there are none
-abbrev CalmReads : Program → World → List (List ℕ) → Told → Told → Type 0
+abbrev CalmReads : Program → World → List (List ℕ) → InputState → InputState → Type 0
 CalmReads P c words old new = (n : List ℕ) → (run_stages P).asks c words n → ¬ (Rose old.faults new.faults)
 
 -- with a plan it is done, or memory ran out
-plan_done : (P : Program) (words : List (List ℕ)) (e : Ended Done Refusal) (old new : Told) (before after : Written) (writes writes' : ℕ)
+plan_done : (P : Program) (words : List (List ℕ)) (e : Ended Done Refusal) (old new : InputState) (before after : OutputState) (writes writes' : ℕ)
     → (runs : Runs AreAlike (run_stages P) words e old new before after writes writes') → CalmReads P runs.world words old new → ¬ (Rose writes writes')
-    → (p : Planned Done) → (run_stages P).passes runs.world words p
-    → ((q : Planned Done) × (run_stages P).passes runs.world words q × (e ≡ endeds.Done q.done)) ⊎ (e ≡ endeds.Memory)
+    → (p : PlanContent Done) → (run_stages P).passes runs.world words p
+    → ((q : PlanContent Done) × (run_stages P).passes runs.world words q × (e ≡ endeds.Done q.done)) ⊎ (e ≡ endeds.Memory)
 plan_done P words e old new before after writes writes' runs reads written p passed = of e runs.ends runs.counts (runs.complete p passed)
   where
     of : (e : Ended Done Refusal) → Ends (run_stages P) runs.world words before after e → Counts old new writes writes' e → ((r : Refusal) → ¬ (e ≡ endeds.Refused r))
-        → ((q : Planned Done) × (run_stages P).passes runs.world words q × (e ≡ endeds.Done q.done)) ⊎ (e ≡ endeds.Memory)
+        → ((q : PlanContent Done) × (run_stages P).passes runs.world words q × (e ≡ endeds.Done q.done)) ⊎ (e ≡ endeds.Memory)
     of (endeds.Done d) (q, h, is, wrote) counts never = inl (q, h, ap (λ x. endeds.Done x) (sym is))
     of (endeds.Refused r) ends counts never = absurd (never r refl)
     of (endeds.ReadFault n) ends counts never = absurd (reads n ends.0 counts.0)
@@ -137,7 +137,7 @@ plan_done P words e old new before after writes writes' runs reads written p pas
     of endeds.Memory ends counts never = inr refl
 
 -- with a reason to refuse it is refused so, or memory ran out
-reason_told : (P : Program) (words : List (List ℕ)) (e : Ended Done Refusal) (old new : Told) (before after : Written) (writes writes' : ℕ)
+reason_told : (P : Program) (words : List (List ℕ)) (e : Ended Done Refusal) (old new : InputState) (before after : OutputState) (writes writes' : ℕ)
     → (runs : Runs AreAlike (run_stages P) words e old new before after writes writes') → CalmReads P runs.world words old new
     → (r : Refusal) → (run_stages P).refuses runs.world words r → IsRefusedAs AreAlike r e ⊎ (e ≡ endeds.Memory)
 reason_told P words e old new before after writes writes' runs reads r refused = of e runs.ends runs.counts (runs.exact r refused)
@@ -155,7 +155,7 @@ reason_told P words e old new before after writes writes' runs reads r refused =
 
 -- what was done is answered
 answered : (P : Program) (c : World) (words : List (List ℕ)) (r : Ending) (e : Ended Done Refusal) (k : Command) → r ≡ ending_of e → says words ≡ Some k
-    → ((q : Planned Done) × (run_stages P).passes c words q × (e ≡ endeds.Done q.done)) ⊎ (e ≡ endeds.Memory)
+    → ((q : PlanContent Done) × (run_stages P).passes c words q × (e ≡ endeds.Done q.done)) ⊎ (e ≡ endeds.Memory)
     → OrMemory r ((d : Done) × HasDone k d × (r ≡ endings.Done d))
 answered P c words r e k is w (inl (q, passed, done)) = inl (q.done, done_as_said P c words k q w passed, is ∙ ap ending_of done)
 answered P c words r e k is w (inr none) = inr (is ∙ ap ending_of none)
@@ -194,7 +194,7 @@ clash_answered r e k table key column is (inr none) = inr (is ∙ ap ending_of n
 
 -- ---- over files that are told
 
-one_world : (m : Held) (holds : Option Held) (c : World) → holds ≡ Some m → IsOf holds c → c ≡ (λ n. get m n)
+one_world : (m : FileMap) (holds : Option FileMap) (c : World) → holds ≡ Some m → IsOf holds c → c ≡ (λ n. get m n)
 one_world m holds c is of = let h = subst (λ o. IsOf o c) is of in λ i n. h n i
 
 -- what is answered of a query in a world
@@ -207,13 +207,13 @@ abbrev ClashesAnswers : Program → World → List (List ℕ) → Ending → Typ
 ClashesAnswers P c words r =
     says words ≡ Some Answering → (h : HasNoSolutionIn P c) → HasQueryIn h.mapping.target c → OrMemory r (AnswersClash r)
 
-pub completes : (P : Program) (words : List (List ℕ)) (r : Ending) (e : Ended Done Refusal) (old new : Told) (before after : Written) (writes writes' : ℕ)
-    → r ≡ ending_of e → Runs AreAlike (run_stages P) words e old new before after writes writes' → (m : Held) → old.holds ≡ Some m
+pub completes : (P : Program) (words : List (List ℕ)) (r : Ending) (e : Ended Done Refusal) (old new : InputState) (before after : OutputState) (writes writes' : ℕ)
+    → r ≡ ending_of e → Runs AreAlike (run_stages P) words e old new before after writes writes' → (m : FileMap) → old.holds ≡ Some m
     → ¬ (Rose old.faults new.faults) → ¬ (Rose writes writes') → Completes P (λ n. get m n) words r
 completes P words r e old new before after writes writes' is runs m holds reads written =
     let same = sym (one_world m old.holds runs.world holds runs.held) in record {
       done = λ k w h.
-          let p = faultless_planned P runs.world words (subst (λ (c : World). IsFaultless P c words) same h) in
+          let p = faultless_planned P runs.world words (subst (λ (c : World). HasNoFault P c words) same h) in
           answered P runs.world words r e k is w (plan_done P words e old new before after writes writes' runs (λ n a. reads) written p.0 p.1);
       refused = λ f h.
           refusal_answered r e f is
@@ -246,7 +246,7 @@ asks_none P c words number mode n w a =
     let k = (in_order P c words n).0 a in
     subst (λ (v : Command). AsksFor P c v n) (sym (same_Some (Demonstrating number mode) k.0 (sym w ∙ k.1))) k.2
 
-pub completes_demo : (P : Program) (words : List (List ℕ)) (r : Ending) (e : Ended Done Refusal) (old new : Told) (before after : Written) (writes writes' : ℕ)
+pub completes_demo : (P : Program) (words : List (List ℕ)) (r : Ending) (e : Ended Done Refusal) (old new : InputState) (before after : OutputState) (writes writes' : ℕ)
     → r ≡ ending_of e → Runs AreAlike (run_stages P) words e old new before after writes writes' → ¬ (Rose writes writes') → CompletesDemo P words r
 completes_demo P words r e old new before after writes writes' is runs written = record {
   demo = λ number mode w h.

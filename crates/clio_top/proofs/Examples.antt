@@ -11,7 +11,7 @@ use Rattle.std.proofs.lemmas.Str.{IsUtf8-from_ascii}
 use Rattle.csv.specs.Machine.{next_record}
 use Rattle.csv.specs.Reading.{records_from, strip_bom}
 use Rattle.csv.specs.Records.{AllText}
-use Rattle.dx_ports.specs.Entries.{Held}
+use Rattle.dx_ports.specs.Entries.{FileMap}
 use Rattle.dx_ports.specs.Members.{◌∈◌, Each, here, there}
 use Rattle.dx_model.specs.declared.facts.Fact.{Fact}
 use Rattle.dx_model.specs.declared.rules.Atom.{Atom}
@@ -21,15 +21,16 @@ use Rattle.dx_model.specs.declared.tables.Link.{Link}
 use Rattle.dx_model.specs.declared.values.Value.{Value}
 use Rattle.dx_model.specs.declared.values.Value.TheVariants.{Const}
 use Rattle.dx_model.specs.Following.{CanGo, PrunedAfter, underived}
-use Rattle.dx_model.specs.Rules.{AreRows, IsMatch, IsRows, Satisfies, premise_fact, said as said_fact}
+use Rattle.dx_model.specs.Rules.{AreRows, IsMatch, IsRows, Satisfies, premise_fact, fact_of_atom as said_fact}
 use Rattle.dx_model.specs.Solutions.{IsSolution}
 use Rattle.dx_model.specs.Tables.{Determination, FactFits, PairFits, RowsFit, table_of}
-use Rattle.dx_model.specs.Values.{Conversions, Rows, RowsAscend, Text, Tuple, row_cmp, tuple_cmp}
+use Rattle.dx_model.specs.Values.{Conversions, Rows, RowsAscend, Tuple, row_cmp, tuple_cmp}
+use Rattle.dx_ports.specs.Texts.{Text}
 use Rattle.dx_model.proofs.RowsExist.{one_rows}
 use Rattle.dx_instance.specs.Stored.{TableRows, facts, rows_of}
 use Rattle.dx_schema.specs.Forest.{Forest, Tree, none, set}
-use Rattle.dx_schema.specs.Links.{IsAcyclic, IsFaultless, Leads, directly, every_link, further}
-use Rattle.dx_schema.specs.Tables.{model_tables, table_at, tables_of}
+use Rattle.dx_schema.specs.Links.{IsAcyclic, IsFaultless, LeadsByLinks, directly, every_link, further}
+use Rattle.dx_schema.specs.Tables.{model_tables, schema_table, tables_of}
 use Rattle.dx_grammar.specs.Readers.{no_more, one_more}
 use Rattle.dx_tokens.specs.declared.tokenizer.TokenKind.TheVariants.{Mark, Number, Word}
 use Rattle.dx_tokens.specs.declared.scanner.Lexeme.{Lexeme}
@@ -39,24 +40,24 @@ use Rattle.dx_tokens.specs.Tokens.{item_at, piece_at, string_from, wide_at}
 use Rattle.dx_schema_text.specs.declared.texts.LineText.{LineText}
 use Rattle.dx_schema_text.specs.declared.texts.MappingText.{MappingText}
 use Rattle.dx_schema_text.specs.declared.texts.SourceText.TheVariants as sources
-use Rattle.dx_schema_text.specs.Reading.{line_item, place_text, tree_of}
+use Rattle.dx_schema_text.specs.Reading.{line_item, place_text, tree_of_clauses}
 use Rattle.dx_schema_text.specs.Spelling.{SpellsHead, SpellsLine, SpellsMapping, SpellsPlace, SpellsSet, SpellsSide}
 use Rattle.dx_schema_text.specs.Spelling as spelling
 use Rattle.dx_schema_text.specs.Texts.{IsMappingText, deepest}
-use Rattle.dx_csv.specs.Table.{IsTable, IsWhole, table_records}
+use Rattle.dx_csv.specs.Table.{AreTableRecords, IsWholeRecord, table_records}
 use Rattle.dx_tgd.specs.Counting.{canonical_cells}
 use Rattle.dx_implies.specs.Frozen.{PassesFrozen, frozen_premise}
-use Rattle.dx_implies.specs.Pruning.{IsLeft, PassesBeside, PassesTest}
+use Rattle.dx_implies.specs.Pruning.{IsPrunedAlways, PassesBeside, PruningPassesLimit}
 use Rattle.dx_exchange.specs.declared.mode.Mode.TheVariants.{Core, Plain}
 use Rattle.dx_exchange.specs.declared.result.Exchange.{Exchange}
 use Rattle.dx_stages.specs.Worlds.{World}
 use Rattle.clio_accept.specs.declared.mapping.Mapping.{Mapping}
 use Rattle.clio_accept.specs.Accepting.{accepting, between_of, taking}
 use Rattle.clio_accept.specs.Mapping.{AreRulesOf, IsReserved, NoneReserved, frozen_cells}
-use Rattle.clio_source.specs.Source.{IsStored, Read, SayFacts, Says, at_start, data_bytes, fetching, file_at, flat, loading, reading, source_cells, source_stages}
+use Rattle.clio_source.specs.Source.{IsStored, ReadState, SayFacts, SaysSourceFacts, at_start, data_bytes, fetching, file_at, flat, loading, reading, source_cells, source_stages}
 use Rattle.clio_ending.specs.declared.ending.Done.TheVariants.{Exchanged}
 use Rattle.clio_steps.specs.Outcomes.{HasSolutionIn}
-use Rattle.clio_top.specs.Completing.{IsPlanned, small_world}
+use Rattle.clio_top.specs.Completing.{HasPlanFor, small_world}
 use Rattle.clio_steps.specs.Steps.{Program, target_cells, text_bytes, wanted}
 use Rattle.clio_top.proofs.Completing.{planned}
 
@@ -69,7 +70,7 @@ abbrev emp_bytes : List ℕ
 emp_bytes = codes "name\nann\nbob\n"
 
 -- the table alone
-abbrev table_held : Held
+abbrev table_held : FileMap
 table_held = from_entries ((codes "emp.csv", emp_bytes) ∷ [])
 
 abbrev world : World
@@ -215,10 +216,10 @@ abbrev said : MappingText
 said = record { version = 1; source = emps; target = persons; lines = line ∷ []; conditions = []; rules = [] }
 
 abbrev emp_tree : Tree
-emp_tree = tree_of (codes "emp") (codes "name" ∷ []) []
+emp_tree = tree_of_clauses (codes "emp") (codes "name" ∷ []) []
 
 abbrev person_tree : Tree
-person_tree = tree_of (codes "person") (codes "name" ∷ codes "phone" ∷ []) []
+person_tree = tree_of_clauses (codes "person") (codes "name" ∷ codes "phone" ∷ []) []
 
 emp_head : SpellsHead (codes "emp") (codes "name" ∷ []) (t5 ∷ t6 ∷ t7 ∷ t8 ∷ t9 ∷ [])
 emp_head = spelling.head_of t5 t6 t7 t9 refl refl refl (spelling.parted (spelling.name_of t8 refl) no_more) refl
@@ -270,7 +271,7 @@ no_links f empty = record {
   within = λ t l m. absurd (not_in l (every_link (table_of (model_tables f) t)) (empty t) m);
 }
   where
-    never : (t u : ℕ) → ¬ (Leads (model_tables f) t u)
+    never : (t u : ℕ) → ¬ (LeadsByLinks (model_tables f) t u)
     never t u (directly l m) = not_in l (every_link (table_of (model_tables f) t)) (empty t) m
     never t u (further {u = v} l h m) = not_in l (every_link (table_of (model_tables f) v)) (empty v) m
 
@@ -335,7 +336,7 @@ no_test (x ∷ front) r back kept is behind p =
     let h = ap length is in
     let k = length-append front (r ∷ back) in omega (arith, h, k)
 
-not_tested : ¬ (PassesTest frozen_cells (rule ∷ []))
+not_tested : ¬ (PruningPassesLimit frozen_cells (rule ∷ []))
 not_tested p = no_test p.front p.rule p.back p.kept p.is (p.behind no_conversions) p.passes
 
 abbrev one_emp : List Fact
@@ -351,7 +352,7 @@ rule_stays convert g =
     premise a (here e) = subst (λ (b : Atom). premise_fact (λ x. []) b ∈ one_emp) e (here refl)
     premise a (there m) = elim m [ ]
 
-is_left : IsLeft (rule ∷ []) (rule ∷ [])
+is_left : IsPrunedAlways (rule ∷ []) (rule ∷ [])
 is_left convert = ([], refl, inr (rule_stays convert, refl))
 
 taken : (P : Program) → (taking P.list P.tests).passes world (between_of said) (rule ∷ [])
@@ -408,26 +409,26 @@ bob_ascii (suc zero) = omega arith
 bob_ascii (suc (suc zero)) = omega arith
 bob_ascii (suc (suc (suc i))) = omega arith
 
-ann_whole : IsWhole (codes "name" ∷ []) (codes "ann" ∷ [])
+ann_whole : IsWholeRecord (codes "name" ∷ []) (codes "ann" ∷ [])
 unfolding AllText
 ann_whole = record { width = refl; text = (IsUtf8-from_ascii (codes "ann") ann_ascii, tt) }
 
-bob_whole : IsWhole (codes "name" ∷ []) (codes "bob" ∷ [])
+bob_whole : IsWholeRecord (codes "name" ∷ []) (codes "bob" ∷ [])
 unfolding AllText
 bob_whole = record { width = refl; text = (IsUtf8-from_ascii (codes "bob") bob_ascii, tt) }
 
-all_whole : All (IsWhole (codes "name" ∷ [])) ((codes "ann" ∷ []) ∷ (codes "bob" ∷ []) ∷ [])
+all_whole : All (IsWholeRecord (codes "name" ∷ [])) ((codes "ann" ∷ []) ∷ (codes "bob" ∷ []) ∷ [])
 all_whole zero d lt = ann_whole
 all_whole (suc zero) d lt = bob_whole
 all_whole (suc (suc k)) d lt = absurd (omega (arith, lt))
 
-is_table : IsTable (table_records emp_bytes) (codes "name" ∷ []) emp_rows
+is_table : AreTableRecords (table_records emp_bytes) (codes "name" ∷ []) emp_rows
 is_table = record { under = (codes "ann" ∷ []) ∷ (codes "bob" ∷ []) ∷ []; header = records_are; whole = all_whole; values = refl }
 
-abbrev read : Read
+abbrev read : ReadState
 read = record { facts = facts rows; bytes_left = data_bytes - length emp_bytes; cells_left = source_cells - 2 }
 
-says_rows : Says flat emps 0 (at_start, emp_bytes) (record { facts = []; bytes_left = data_bytes - length emp_bytes; cells_left = source_cells }, facts rows)
+says_rows : SaysSourceFacts flat emps 0 (at_start, emp_bytes) (record { facts = []; bytes_left = data_bytes - length emp_bytes; cells_left = source_cells }, facts rows)
 says_rows = (facts rows, (emp_rows, is_table, refl), refl)
 
 was_read : (reading emps 0).passes world at_start read
@@ -555,8 +556,8 @@ has_solution P = record {
   solves = solves P.apply;
 }
 
-pub plain_planned : (P : Program) → (e : Exchange) × IsPlanned P world (codes "exchange" ∷ []) (Exchanged e)
+pub plain_planned : (P : Program) → (e : Exchange) × HasPlanFor P world (codes "exchange" ∷ []) (Exchanged e)
 plain_planned P = planned P world (codes "exchange" ∷ []) Plain false refl (has_solution P)
 
-pub core_planned : (P : Program) → (e : Exchange) × IsPlanned P world (codes "exchange" ∷ codes "--core" ∷ []) (Exchanged e)
+pub core_planned : (P : Program) → (e : Exchange) × HasPlanFor P world (codes "exchange" ∷ codes "--core" ∷ []) (Exchanged e)
 core_planned P = planned P world (codes "exchange" ∷ codes "--core" ∷ []) Core false refl (has_solution P)

@@ -2,8 +2,8 @@
 use Rattle.std.proofs.Common.{◌≡◌, ℕ, List, sym, ◌∙◌, subst}
 use Rattle.dx_keys.specs.declared.answers.Clash.{Clash}
 use Rattle.dx_stages.specs.declared.plan.Ended.{Ended}
-use Rattle.dx_stages.specs.Ending.{Ends, Runs, Written}
-use Rattle.dx_stages.specs.Running.{Told}
+use Rattle.dx_stages.specs.Ending.{Ends, Runs, OutputState}
+use Rattle.dx_stages.specs.Running.{InputState}
 use Rattle.dx_stages.specs.Worlds.{IsOf, World}
 use Rattle.clio_ending.specs.declared.ending.Done.{Done}
 use Rattle.clio_ending.specs.declared.ending.Ending.{Ending}
@@ -20,7 +20,7 @@ use Rattle.clio_top.proofs.Clashes.{of_texts as clash_of_texts}
 use Rattle.clio_top.proofs.Endings.{clash_of, done_of}
 use Rattle.clio_top.proofs.Leaving.{leaves}
 
-module _ (P : Program) (words : List (List ℕ)) (r : Ending) (e : Ended Done Refusal) (old new : Told) (before after : Written) (faults faults' : ℕ)
+module _ (P : Program) (words : List (List ℕ)) (r : Ending) (e : Ended Done Refusal) (old new : InputState) (before after : OutputState) (faults faults' : ℕ)
     (is : r ≡ ending_of e) (runs : Runs AreAlike (run_stages P) words e old new before after faults faults') where
   -- what was done is as asked, in the world of the run
   pub done : (d : Done) → r ≡ endings.Done d → (c : World) × IsOf old.holds c × AsAsked P c words d (wrote_all before after)

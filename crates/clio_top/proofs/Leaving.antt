@@ -2,7 +2,7 @@
 use Rattle.std.proofs.Common.{ℕ, List, inl, inr}
 use Rattle.dx_stages.specs.declared.plan.Ended.{Ended}
 use Rattle.dx_stages.specs.declared.plan.Ended.TheVariants as endeds
-use Rattle.dx_stages.specs.Ending.{Ends, Planned, WroteFirst, Written}
+use Rattle.dx_stages.specs.Ending.{Ends, PlanContent, WroteFirst, OutputState}
 use Rattle.dx_stages.specs.Worlds.{World}
 use Rattle.clio_ending.specs.declared.ending.Done.{Done}
 use Rattle.clio_ending.specs.declared.ending.Refusal.{Refusal}
@@ -14,11 +14,11 @@ use Rattle.clio_steps.specs.Outcomes.{wrote_first}
 use Rattle.clio_steps.specs.Steps.{Program}
 use Rattle.clio_top.proofs.Asked.{plan_asked}
 
-first_asked : (P : Program) (c : World) (words : List (List ℕ)) (p : Planned Done) (count : ℕ) (before after : Written) → (run_stages P).passes c words p
+first_asked : (P : Program) (c : World) (words : List (List ℕ)) (p : PlanContent Done) (count : ℕ) (before after : OutputState) → (run_stages P).passes c words p
     → WroteFirst p.files p.text count before after → WroteFirstAsked P c words count before after
 first_asked P c words p count before after passed wrote = (p.done, plan_asked P c words p (wrote_first count before after) passed wrote)
 
-pub leaves : (P : Program) (c : World) (words : List (List ℕ)) (before after : Written) (e : Ended Done Refusal)
+pub leaves : (P : Program) (c : World) (words : List (List ℕ)) (before after : OutputState) (e : Ended Done Refusal)
     → Ends (run_stages P) c words before after e → Leaves P c words before after (ending_of e)
 leaves P c words before after (endeds.Done d) h = tt
 leaves P c words before after (endeds.Refused refusals.Usage) h = h.1

@@ -4,8 +4,8 @@ use Rattle.dx_exchange.specs.declared.mode.Mode.{Mode}
 use Rattle.dx_stages.specs.declared.stop.Stop.{Stop}
 use Rattle.dx_stages.specs.declared.stop.Stop.TheVariants as stops
 use Rattle.dx_stages.specs.Stages.{by, over}
-use Rattle.dx_stages.specs.Running.{Told, Ran}
-use Rattle.dx_stages.specs.Ending.{Planned}
+use Rattle.dx_stages.specs.Running.{InputState, Ran}
+use Rattle.dx_stages.specs.Ending.{PlanContent}
 use Rattle.dx_stages.proofs.Running.{ran_by, ran_into, ran_into_stop, ran_memory, ran_next, ran_over, ran_stop, ran_value}
 use Rattle.clio_accept.specs.declared.mapping.Mapping.{Mapping}
 use Rattle.clio_top.specs.declared.command.Command.{Command}
@@ -19,18 +19,18 @@ use Rattle.clio_top.specs.Words.{or_usage, says}
 
 -- ---- showing
 
-pub show_stops : (P : Program) (mode : Mode) (e : Stop Refusal) (old new : Told) → Ran (mapping_stages P) (tt {0}) (Err e) old new
+pub show_stops : (P : Program) (mode : Mode) (e : Stop Refusal) (old new : InputState) → Ran (mapping_stages P) (tt {0}) (Err e) old new
     → Ran (show_stages P mode) (tt {0}) (Err e) old new
 show_stops P mode e old new x = ran_into_stop (λ (u : Unit {0}) (M : Mapping). shown_plan P.list mode M) (mapping_stages P) (tt {0}) e old new x
 
-pub shown : (P : Program) (mode : Mode) (M : Mapping) (p : Planned Done) (old new : Told) → p ≡ shown_plan P.list mode M
+pub shown : (P : Program) (mode : Mode) (M : Mapping) (p : PlanContent Done) (old new : InputState) → p ≡ shown_plan P.list mode M
     → Ran (mapping_stages P) (tt {0}) (Ok M) old new → Ran (show_stages P mode) (tt {0}) (Ok p) old new
 shown P mode M p old new is x =
     subst (λ v. Ran (show_stages P mode) (tt {0}) (Ok v) old new) (sym is)
     (ran_into (λ (u : Unit {0}) (M : Mapping). shown_plan P.list mode M) (mapping_stages P) (tt {0}) M old new x)
 
 -- what memory could not make of a mapping that was read
-pub shown_none : (P : Program) (mode : Mode) (M : Mapping) (old new : Told) → Ran (mapping_stages P) (tt {0}) (Ok M) old new
+pub shown_none : (P : Program) (mode : Mode) (M : Mapping) (old new : InputState) → Ran (mapping_stages P) (tt {0}) (Ok M) old new
     → Ran (show_stages P mode) (tt {0}) (Err stops.Memory) old new
 shown_none P mode M old new x =
     ran_memory (show_stages P mode) (tt {0}) (shown_plan P.list mode M) old new (shown P mode M (shown_plan P.list mode M) old new refl x)
@@ -38,7 +38,7 @@ shown_none P mode M old new x =
 -- ---- the words
 
 -- the stages of the command that the words say
-pub of_words : (P : Program) (words : List (List ℕ)) (command : Command) (q : Result (Planned Done) (Stop Refusal)) (old new : Told)
+pub of_words : (P : Program) (words : List (List ℕ)) (command : Command) (q : Result (PlanContent Done) (Stop Refusal)) (old new : InputState)
     → says words ≡ Some command → Ran (stages_of P command) (tt {0}) q old new → Ran (run_stages P) words q old new
 of_words P words command q old new is x =
     ran_next saying_words (by (λ (c : Command). over (λ (d : Command). tt {0}) (stages_of P c))) words command q old old new
@@ -47,7 +47,7 @@ of_words P words command q old new is x =
     (ran_over (λ (d : Command). tt {0}) (stages_of P command) command q old new x))
 
 -- other words are refused
-pub misused : (P : Program) (words : List (List ℕ)) (told : Told) → says words ≡ None
+pub misused : (P : Program) (words : List (List ℕ)) (told : InputState) → says words ≡ None
     → Ran (run_stages P) words (Err (stops.Refused refusals.Usage)) told told
 misused P words told is =
     ran_stop saying_words (by (λ (c : Command). over (λ (d : Command). tt {0}) (stages_of P c))) words (stops.Refused refusals.Usage) told told

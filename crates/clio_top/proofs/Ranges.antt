@@ -9,7 +9,7 @@ use Rattle.dx_exchange.specs.declared.mode.Mode.TheVariants.{Core, Plain}
 use Rattle.clio_top.specs.declared.command.Command.{Command}
 use Rattle.clio_top.specs.declared.command.Command.TheVariants.{Answering, Comparing, Demonstrating, Exchanging, Judging, Showing}
 use Rattle.clio_top.specs.Commands.{IsInRange}
-use Rattle.clio_top.specs.Words.{Word, alone, demo_of, demo_said, exchange_said, is_core, is_nested, number_after, number_in, numbered, same, says, show_said}
+use Rattle.clio_top.specs.Words.{Word, without_options, demo_of, demo_said, exchange_said, is_core, is_nested, number_after, numeral_number, demo_with_number, same_word, says, show_said}
 
 -- ---- numerals
 
@@ -31,7 +31,7 @@ digits_within n (b ∷ bs) m few e =
     let r = digits_within (10 * n + (b - 48)) bs m (omega (arith, small)) p.1 in
     let low = r.0 in (omega (arith, low), r.1)
 
-numeral_within : (w : Word) (m : ℕ) → number_in w ≡ Some m → (1 ≤ m) × (m ≤ 100000)
+numeral_within : (w : Word) (m : ℕ) → numeral_number w ≡ Some m → (1 ≤ m) × (m ≤ 100000)
 numeral_within [] m e = absurd (none-some m e)
 numeral_within (b ∷ bs) m e =
     let p = if_false (eqb b 48) (number_after 0 (b ∷ bs)) m e in
@@ -62,9 +62,9 @@ one_ranged : (d : Command) → IsInRange d → AreRanged (Some d)
 unfolding AreRanged
 one_ranged d h c e = subst IsInRange (same_Some d c e) h
 
-numbered_ranged : (w : Word) (mode : Mode) → AreRanged (numbered w mode)
+numbered_ranged : (w : Word) (mode : Mode) → AreRanged (demo_with_number w mode)
 unfolding AreRanged
-numbered_ranged w mode = of (number_in w) (numeral_within w)
+numbered_ranged w mode = of (numeral_number w) (numeral_within w)
   where
     of : (o : Option ℕ) → ((m : ℕ) → o ≡ Some m → (1 ≤ m) × (m ≤ 100000)) → AreRanged (demo_of mode o)
     of None h = none_ranged
@@ -91,11 +91,11 @@ demo_ranged : (words : List Word) → AreRanged (demo_said words)
 demo_ranged [] = none_ranged
 demo_ranged (w ∷ []) = numbered_ranged w Plain
 demo_ranged (v ∷ w ∷ []) =
-    cond_both (is_core v) (numbered w Core) (cond (is_core w) (numbered v Core) None) AreRanged (λ y. numbered_ranged w Core)
-    (λ n. cond_both (is_core w) (numbered v Core) None AreRanged (λ y. numbered_ranged v Core) (λ n. none_ranged))
+    cond_both (is_core v) (demo_with_number w Core) (cond (is_core w) (demo_with_number v Core) None) AreRanged (λ y. numbered_ranged w Core)
+    (λ n. cond_both (is_core w) (demo_with_number v Core) None AreRanged (λ y. numbered_ranged v Core) (λ n. none_ranged))
 demo_ranged (u ∷ v ∷ w ∷ words) = none_ranged
 
-alone_ranged : (c : Command) (words : List Word) → IsInRange c → AreRanged (alone c words)
+alone_ranged : (c : Command) (words : List Word) → IsInRange c → AreRanged (without_options c words)
 alone_ranged c [] h = one_ranged c h
 alone_ranged c (w ∷ words) h = none_ranged
 
@@ -107,12 +107,12 @@ either_ranged false x y p q = q
 words_ranged : (words : List Word) → AreRanged (says words)
 words_ranged [] = none_ranged
 words_ranged (name ∷ words) =
-    either_ranged (same name (codes "show")) (show_said words) _ (show_ranged words)
-    (either_ranged (same name (codes "exchange")) (exchange_said words) _ (exchange_ranged words)
-    (either_ranged (same name (codes "demo")) (demo_said words) _ (demo_ranged words)
-    (either_ranged (same name (codes "answer")) (alone Answering words) _ (alone_ranged Answering words tt)
-    (either_ranged (same name (codes "judge")) (alone Judging words) _ (alone_ranged Judging words tt)
-    (either_ranged (same name (codes "compare")) (alone Comparing words) _ (alone_ranged Comparing words tt)
+    either_ranged (same_word name (codes "show")) (show_said words) _ (show_ranged words)
+    (either_ranged (same_word name (codes "exchange")) (exchange_said words) _ (exchange_ranged words)
+    (either_ranged (same_word name (codes "demo")) (demo_said words) _ (demo_ranged words)
+    (either_ranged (same_word name (codes "answer")) (without_options Answering words) _ (alone_ranged Answering words tt)
+    (either_ranged (same_word name (codes "judge")) (without_options Judging words) _ (alone_ranged Judging words tt)
+    (either_ranged (same_word name (codes "compare")) (without_options Comparing words) _ (alone_ranged Comparing words tt)
     none_ranged)))))
 
 pub says_ranged : (words : List Word) (c : Command) → says words ≡ Some c → IsInRange c

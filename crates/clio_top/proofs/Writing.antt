@@ -6,8 +6,8 @@ use Rattle.dx_ports.specs.Members.{Each, here, there}
 use Rattle.dx_ports.proofs.Members.{from_append, from_map}
 use Rattle.dx_instance.specs.Stored.{widths}
 use Rattle.dx_schema.specs.Forest.{Forest, none, set}
-use Rattle.dx_schema.specs.Tables.{Placed, TableOf, columns_of, placed, schema_widths, sets_of, table_in, where_has_inner, where_inner}
-use Rattle.dx_schema_text.specs.Print.{AreNamed, AreNames}
+use Rattle.dx_schema.specs.Tables.{NumberedSet, TableOf, columns_of, numbered_sets, schema_widths, sets_of, table_in, where_has_inner, where_inner}
+use Rattle.dx_schema_text.specs.Print.{HaveWordNames, AreNames}
 use Rattle.dx_tokens.specs.Lexing.{IsWord}
 use Rattle.dx_csv.specs.Print.{HasNoMark}
 use Rattle.dx_exchange.specs.declared.result.Exchange.{Exchange}
@@ -46,7 +46,7 @@ one_of name h x (there m) = elim m [ ]
 both : (xs ys : List (List ℕ)) → Each xs IsColumnName → Each ys IsColumnName → Each (xs ++ ys) IsColumnName
 both xs ys a b x m = elim (from_append xs m) [ inl k ↦ a x k | inr k ↦ b x k ]
 
-set_columns : (s : Placed) → AreNames s.label.columns → Each (columns_of s) IsColumnName
+set_columns : (s : NumberedSet) → AreNames s.label.columns → Each (columns_of s) IsColumnName
 set_columns s names = both (where_has_inner s.inner (codes "#id")) _ (id_columns s.inner) (both (where_inner s.parent (codes "#up")) s.label.columns (up_columns s.parent) (words_are s.label.columns names))
   where
     id_columns : (inner : Forest) → Each (where_has_inner inner (codes "#id")) IsColumnName
@@ -57,16 +57,16 @@ set_columns s names = both (where_has_inner s.inner (codes "#id")) _ (id_columns
     up_columns None x m = elim m [ ]
     up_columns (Some p) x m = one_of (codes "#up") (inr (inr refl)) x m
 
-placed_columns : (parent : Option ℕ) (n : ℕ) (f : Forest) → AreNamed f → Each (placed parent n f) (λ s. Each (columns_of s) IsColumnName)
+placed_columns : (parent : Option ℕ) (n : ℕ) (f : Forest) → HaveWordNames f → Each (numbered_sets parent n f) (λ s. Each (columns_of s) IsColumnName)
 placed_columns parent n none h s m = elim m [ ]
 placed_columns parent n (set l inner rest) h s (here e) =
     subst (λ t. Each (columns_of t) IsColumnName) e (set_columns (record { label = l; number = n; parent = parent; inner = inner }) h.0.columns)
-placed_columns parent n (set l inner rest) h s (there m) = elim (from_append (placed (Some n) _ inner) m) [
+placed_columns parent n (set l inner rest) h s (there m) = elim (from_append (numbered_sets (Some n) _ inner) m) [
   | inl k ↦ placed_columns (Some n) _ inner h.1 s k
   | inr k ↦ placed_columns parent _ rest h.2 s k
 ]
 
-have_names : (f : Forest) → AreNamed f → HaveColumnNames f
+have_names : (f : Forest) → HaveWordNames f → HaveColumnNames f
 have_names f h t m =
     let p = from_map (table_in (sets_of f)) (sets_of f) m in
     subst (λ (u : TableOf). Each u.columns IsColumnName) p.2 (placed_columns None 0 f h p.0 p.1)

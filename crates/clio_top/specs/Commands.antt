@@ -1,6 +1,6 @@
 -- The stages of a run: what its words say, and then the stages of that command.
 use Rattle.std.specs.Prelude.{◌≤◌, List}
-use Rattle.dx_stages.specs.Ending.{Planned}
+use Rattle.dx_stages.specs.Ending.{PlanContent}
 use Rattle.dx_stages.specs.Stages.{Stage, next, by, over, computing}
 use Rattle.clio_ending.specs.declared.ending.Done.{Done}
 use Rattle.clio_ending.specs.declared.ending.Refusal.{Refusal}
@@ -15,7 +15,7 @@ use Rattle.clio_judge.specs.Judging.{judge_stages}
 use Rattle.clio_compare.specs.Comparing.{compare_stages}
 
 -- the stages of a command
-abbrev pub stages_of : Program → Command → Stage Refusal (Unit {0}) (Planned Done)
+abbrev pub stages_of : Program → Command → Stage Refusal (Unit {0}) (PlanContent Done)
 stages_of P (Exchanging mode nested) = exchange_stages P mode nested
 stages_of P (Showing mode) = show_stages P mode
 stages_of P (Demonstrating number mode) = demo_stages P number mode
@@ -28,7 +28,7 @@ abbrev pub saying_words : Stage Refusal (List Word) Command
 saying_words = computing (λ words. or_usage (says words))
 
 -- the words, and then the command's stages
-abbrev pub run_stages : Program → Stage Refusal (List Word) (Planned Done)
+abbrev pub run_stages : Program → Stage Refusal (List Word) (PlanContent Done)
 run_stages P = next saying_words (by (λ (c : Command). over (λ (d : Command). tt {0}) (stages_of P c)))
 
 -- words can say it: the number of a demo is from 1 to 100,000

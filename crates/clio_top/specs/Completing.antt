@@ -1,15 +1,15 @@
 -- What a run answers if nothing outside fails: what is asked for, as far as there is such a thing, or want of memory.
 use Rattle.std.specs.Prelude.{◌≡◌, ◌⊎◌, ℕ, List, [], ◌∷◌, codes, Some, Bool}
 use Rattle.std.specs.FinMap.{from_entries, get}
-use Rattle.dx_ports.specs.Entries.{Entry, Held}
-use Rattle.dx_model.specs.Values.{Text}
+use Rattle.dx_ports.specs.Entries.{Entry, FileMap}
+use Rattle.dx_ports.specs.Texts.{Text}
 use Rattle.dx_keys.specs.declared.answers.Clash.{Clash}
 use Rattle.dx_exchange.specs.declared.mode.Mode.{Mode}
 use Rattle.dx_exchange.specs.declared.result.Exchange.{Exchange}
 use Rattle.dx_judge.specs.declared.verdict.Verdict.{Verdict}
 use Rattle.dx_compare.specs.declared.comparing.Comparison.{Comparison}
 use Rattle.dx_stages.specs.Worlds.{World}
-use Rattle.dx_stages.specs.Ending.{Planned}
+use Rattle.dx_stages.specs.Ending.{PlanContent}
 use Rattle.clio_ending.specs.declared.ending.Done.{Done}
 use Rattle.clio_ending.specs.declared.ending.Answers.{Answers}
 use Rattle.clio_ending.specs.declared.ending.Done.TheVariants.{Answered, Compared, Demo, Exchanged, Judged, Shown}
@@ -30,8 +30,8 @@ use Rattle.clio_answer.specs.Outcomes.{HasQueryIn, HasFewAnswers}
 -- ---- the stages
 
 -- there is a plan to do this
-abbrev pub IsPlanned : Program → World → List Word → Done → Type 0
-IsPlanned P c words d = (plan : Planned Done) × (run_stages P).passes c words plan × (plan.done ≡ d)
+abbrev pub HasPlanFor : Program → World → List Word → Done → Type 0
+HasPlanFor P c words d = (plan : PlanContent Done) × (run_stages P).passes c words plan × (plan.done ≡ d)
 
 -- there is a clash
 abbrev pub IsClashing : Program → World → List Word → Type 0
@@ -42,19 +42,19 @@ IsClashing P c words =
 abbrev pub SolutionIsPlanned : Type 0
 SolutionIsPlanned =
     (P : Program) (c : World) (words : List Word) (mode : Mode) (nested : Bool) → says words ≡ Some (Exchanging mode nested)
-    → HasSolutionIn P c → (e : Exchange) × IsPlanned P c words (Exchanged e)
+    → HasSolutionIn P c → (e : Exchange) × HasPlanFor P c words (Exchanged e)
 
 -- an accepted mapping is shown
 abbrev pub MappingIsShown : Type 0
 MappingIsShown =
     (P : Program) (c : World) (words : List Word) (mode : Mode) → says words ≡ Some (Showing mode)
-    → HasMappingIn P c → IsPlanned P c words Shown
+    → HasMappingIn P c → HasPlanFor P c words Shown
 
 -- if the files of a demo have a solution, its exchange is planned, whatever is outside; and if they have none, there is a clash
 abbrev pub DemoIsPlanned : Type 0
 DemoIsPlanned =
     (P : Program) (c : World) (words : List Word) (number : ℕ) (mode : Mode) → says words ≡ Some (Demonstrating number mode)
-    → HasSolutionIn P (demo_world number) → (e : Exchange) × IsPlanned P c words (Demo e)
+    → HasSolutionIn P (demo_world number) → (e : Exchange) × HasPlanFor P c words (Demo e)
 
 abbrev pub DemoIsAClash : Type 0
 DemoIsAClash =
@@ -65,7 +65,7 @@ DemoIsAClash =
 abbrev pub AnswersArePlanned : Type 0
 AnswersArePlanned =
     (P : Program) (c : World) (words : List Word) → says words ≡ Some Answering → (h : HasSolutionIn P c) (k : HasQueryIn h.mapping.target c)
-    → HasFewAnswers P c h k → (a : Answers) × IsPlanned P c words (Answered a)
+    → HasFewAnswers P c h k → (a : Answers) × HasPlanFor P c words (Answered a)
 
 abbrev pub NoAnswerIsAClash : Type 0
 NoAnswerIsAClash =
@@ -92,13 +92,13 @@ HasDone Judging d = (v : Verdict) × (d ≡ Judged v)
 HasDone Comparing d = (k : Comparison) × (d ≡ Compared k)
 
 -- nothing is at fault
-abbrev pub IsFaultless : Program → World → List Word → Type 0
-IsFaultless P c words = (e : Refusal) → ¬ ((run_stages P).refuses c words e)
+abbrev pub HasNoFault : Program → World → List Word → Type 0
+HasNoFault P c words = (e : Refusal) → ¬ ((run_stages P).refuses c words e)
 
 -- Over files that are told, if no read and no write failed: if nothing is at fault, the command of the words is done; if there is a
 -- reason to refuse, it is the answer, or one that is alike; and what these come to for an exchange and for showing.
 pub record Completes (P : Program) (c : World) (words : List Word) (r : Ending) : Type 0 where
-  pub done : (k : Command) → says words ≡ Some k → IsFaultless P c words → OrMemory r ((d : Done) × HasDone k d × (r ≡ endings.Done d))
+  pub done : (k : Command) → says words ≡ Some k → HasNoFault P c words → OrMemory r ((d : Done) × HasDone k d × (r ≡ endings.Done d))
   pub refused : (e : Refusal) → (run_stages P).refuses c words e → OrMemory r ((f : Refusal) × AreAlike f e × (r ≡ refusal_ending f))
   pub exchanged : (mode : Mode) (nested : Bool) → says words ≡ Some (Exchanging mode nested) → HasSolutionIn P c
       → OrMemory r ((e : Exchange) × (r ≡ endings.Done (Exchanged e)))
@@ -124,7 +124,7 @@ small_entries =
     ∷ (codes "emp.csv", codes "name\nann\nbob\n")
     ∷ []
 
-abbrev pub small_held : Held
+abbrev pub small_held : FileMap
 small_held = from_entries small_entries
 
 abbrev pub small_world : World
@@ -134,5 +134,5 @@ small_world n = get small_held n
 abbrev pub SmallIsPlanned : Type 0
 SmallIsPlanned =
     (P : Program)
-    → ((e : Exchange) × IsPlanned P small_world (codes "exchange" ∷ []) (Exchanged e))
-    × ((e : Exchange) × IsPlanned P small_world (codes "exchange" ∷ codes "--core" ∷ []) (Exchanged e))
+    → ((e : Exchange) × HasPlanFor P small_world (codes "exchange" ∷ []) (Exchanged e))
+    × ((e : Exchange) × HasPlanFor P small_world (codes "exchange" ∷ codes "--core" ∷ []) (Exchanged e))

@@ -2,18 +2,18 @@
 use Rattle.std.specs.Prelude.{◌≡◌, ◌++◌, ℕ, suc, List, [], ◌∷◌, length, codes}
 use Rattle.std.specs.Fmt.{decimal}
 use Rattle.std.specs.FinMap.{from_entries, get}
-use Rattle.dx_ports.specs.Entries.{Held}
+use Rattle.dx_ports.specs.Entries.{FileMap}
 use Rattle.dx_model.specs.declared.values.NullId.{NullId}
 use Rattle.dx_instance.specs.Stored.{TableRows, facts, rows_of}
 use Rattle.dx_schema.specs.Tables.{TableOf, tables_of}
 use Rattle.dx_exchange.specs.declared.mode.Mode.{Mode}
 use Rattle.dx_exchange.specs.declared.result.Exchange.{Exchange}
 use Rattle.dx_gen.specs.Demo.{demo}
-use Rattle.dx_stages.specs.Ending.{Planned}
+use Rattle.dx_stages.specs.Ending.{PlanContent}
 use Rattle.dx_stages.specs.Stages.{Stage, become}
 use Rattle.dx_stages.specs.Worlds.{World}
 use Rattle.clio_accept.specs.declared.mapping.Mapping.{Mapping}
-use Rattle.clio_files.specs.Sheets.{AreNulls}
+use Rattle.clio_files.specs.Sheets.{AreTargetNulls}
 use Rattle.clio_ending.specs.declared.ending.Done.{Done}
 use Rattle.clio_ending.specs.declared.ending.Done.TheVariants as dones
 use Rattle.clio_ending.specs.declared.ending.Refusal.{Refusal}
@@ -22,19 +22,19 @@ use Rattle.clio_steps.specs.Steps.{Program, exchanges}
 -- ---- stages over given files
 
 -- the same stage in a world that is given, whatever is outside; it asks for no file
-abbrev pub inside : {E A B : Type 0} → World → Stage E A B → Stage E A B
-inside {E} {A} {B} w s = record {
+abbrev pub in_world : {E A B : Type 0} → World → Stage E A B → Stage E A B
+in_world {E} {A} {B} w s = record {
   refuses = λ c a e. s.refuses w a e;
   passes = λ c a b. s.passes w a b;
   asks = λ c a n. ⊥;
 }
 
 -- the files of the demo for a number of employees, by name
-abbrev pub demo_held : ℕ → Held
-demo_held number = from_entries (demo number)
+abbrev pub demo_file_map : ℕ → FileMap
+demo_file_map number = from_entries (demo number)
 
 abbrev pub demo_world : ℕ → World
-demo_world number name = get (demo_held number) name
+demo_world number name = get (demo_file_map number) name
 
 -- ---- what is said
 
@@ -54,12 +54,12 @@ demo_text number M target nulls =
     ++ (counts_text 0 (tables_of M.target) target ++ (codes "nulls " ++ (decimal nulls ++ codes "\n")))
 
 -- what is said of the exchange of a demo; no file is put
-abbrev pub IsDemoPlan : ℕ → Mapping → Exchange → Planned Done → Type 0
+abbrev pub IsDemoPlan : ℕ → Mapping → Exchange → PlanContent Done → Type 0
 IsDemoPlan number M e plan =
-    (nulls : List NullId) × AreNulls (facts e.target) nulls
+    (nulls : List NullId) × AreTargetNulls (facts e.target) nulls
     × (plan ≡ record { done = dones.Demo e; files = []; text = demo_text number M e.target (length nulls) })
 
 -- the exchange of the demo's files, and what is said of it
-abbrev pub demo_stages : Program → ℕ → Mode → Stage Refusal (Unit {0}) (Planned Done)
+abbrev pub demo_stages : Program → ℕ → Mode → Stage Refusal (Unit {0}) (PlanContent Done)
 demo_stages P number mode =
-    become (λ u q plan. IsDemoPlan number q.0 q.1 plan) (inside (demo_world number) (exchanges P mode))
+    become (λ u q plan. IsDemoPlan number q.0 q.1 plan) (in_world (demo_world number) (exchanges P mode))

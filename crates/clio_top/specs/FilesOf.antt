@@ -5,7 +5,7 @@ use Rattle.dx_ports.specs.Members.{◌∈◌, Each}
 use Rattle.dx_model.specs.declared.values.NullId.{NullId}
 use Rattle.dx_model.specs.declared.values.Value.TheVariants.{Null}
 use Rattle.dx_model.specs.Instances.{values}
-use Rattle.dx_model.specs.Values.{Text}
+use Rattle.dx_ports.specs.Texts.{Text}
 use Rattle.dx_funcs.specs.declared.conversion.Conversion.{Conversion}
 use Rattle.dx_instance.specs.Stored.{TableRows, facts, widths}
 use Rattle.dx_schema.specs.Forest.{Forest}
@@ -17,7 +17,7 @@ use Rattle.dx_exchange.specs.Exchanging.{IsExchange}
 use Rattle.clio_accept.specs.declared.mapping.Mapping.{Mapping}
 use Rattle.clio_accept.specs.Laws.{MappingFits}
 use Rattle.clio_files.specs.Files.{AreFiles, files_of}
-use Rattle.clio_files.specs.Sheets.{HasTexts, Told}
+use Rattle.clio_files.specs.Sheets.{HasTexts, PrintedFile}
 use Rattle.clio_files.specs.Texts.{FitTexts}
 use Rattle.clio_steps.specs.Steps.{Program, asked}
 
@@ -35,7 +35,7 @@ NullsHaveTexts M e = (n : NullId) → Null n ∈ values (facts e.target) → Has
 -- exactly the files of the exchange, by names and bytes
 abbrev pub AreFilesOf : List Conversion → Mode → Bool → Mapping → Exchange → List Entry → Type 0
 AreFilesOf list mode nested M e entries =
-    (files : List Told) × AreFiles M.source M.target list mode nested M.rules e files × (entries ≡ files_of files)
+    (files : List PrintedFile) × AreFiles M.source M.target list mode nested M.rules e files × (entries ≡ files_of files)
 
 -- what the call takes
 pub record CanBeWritten (list : List Conversion) (M : Mapping) (e : Exchange) : Type 0 where

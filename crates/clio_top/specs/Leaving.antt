@@ -1,7 +1,7 @@
 -- What a run leaves that is not done.
 use Rattle.std.specs.Prelude.{◌≡◌, ◌⊎◌, ℕ, List}
 use Rattle.dx_stages.specs.Worlds.{World}
-use Rattle.dx_stages.specs.Ending.{Written}
+use Rattle.dx_stages.specs.Ending.{OutputState}
 use Rattle.clio_ending.specs.declared.ending.Done.{Done}
 use Rattle.clio_ending.specs.declared.ending.Ending.{Ending}
 use Rattle.clio_ending.specs.declared.ending.Ending.TheVariants as endings
@@ -11,12 +11,12 @@ use Rattle.clio_steps.specs.Outcomes.{wrote_first}
 use Rattle.clio_top.specs.Promises.{AsAsked}
 
 -- of what the words ask for so many files were put, the first ones, and after all of them a part of the text was said
-abbrev pub WroteFirstAsked : Program → World → List Word → ℕ → Written → Written → Type 0
+abbrev pub WroteFirstAsked : Program → World → List Word → ℕ → OutputState → OutputState → Type 0
 WroteFirstAsked P c words count before after = (d : Done) × AsAsked P c words d (wrote_first count before after)
 
 -- An ending with `WriteFault` tells how many files were put, the first ones; with `Memory` nothing was written, or the same; with each
 -- other one that is not `Done` nothing. What is left after `Done` the clauses of `run` on each of them say.
-abbrev pub Leaves : Program → World → List Word → Written → Written → Ending → Type 0
+abbrev pub Leaves : Program → World → List Word → OutputState → OutputState → Ending → Type 0
 Leaves P c words before after (endings.Done done) = Unit {0}
 Leaves P c words before after (endings.WriteFault files) = WroteFirstAsked P c words files before after
 Leaves P c words before after endings.Memory = (after ≡ before) ⊎ ((count : ℕ) × WroteFirstAsked P c words count before after)

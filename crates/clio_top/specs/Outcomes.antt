@@ -8,7 +8,7 @@ use Rattle.dx_stages.specs.Worlds.{World}
 use Rattle.clio_accept.specs.declared.mapping.Mapping.{Mapping}
 use Rattle.clio_accept.specs.Accepting.{accepting}
 use Rattle.clio_files.specs.Files.{AreFiles, contents_of, files_of, summary_of}
-use Rattle.clio_files.specs.Sheets.{AreNulls, Told}
+use Rattle.clio_files.specs.Sheets.{AreTargetNulls, PrintedFile}
 use Rattle.clio_files.specs.Texts.{texts_told}
 use Rattle.clio_steps.specs.Steps.{Program}
 use Rattle.clio_top.specs.Demo.{demo_text, demo_world}
@@ -17,7 +17,7 @@ use Rattle.clio_steps.specs.Outcomes.{Writing, IsExchangeIn}
 -- such an exchange, whose files were written, and then their summary was said
 pub record IsDoneIn (P : Program) (mode : Mode) (nested : Bool) (c : World) (e : Exchange) (Wrote : Writing) : Type 0 where
   pub exchange : IsExchangeIn P mode c e
-  pub files : List Told
+  pub files : List PrintedFile
   pub are : AreFiles exchange.mapping.source exchange.mapping.target P.list mode nested exchange.mapping.rules e files
   pub written : Wrote (files_of files) (summary_of files)
 
@@ -34,5 +34,5 @@ pub record IsShownIn (P : Program) (mode : Mode) (c : World) (Wrote : Writing) :
 pub record IsDemoIn (P : Program) (number : ℕ) (mode : Mode) (e : Exchange) (Wrote : Writing) : Type 0 where
   pub exchange : IsExchangeIn P mode (demo_world number) e
   pub nulls : List NullId
-  pub nulls_are : AreNulls (facts e.target) nulls
+  pub nulls_are : AreTargetNulls (facts e.target) nulls
   pub written : Wrote [] (demo_text number exchange.mapping e.target (length nulls))

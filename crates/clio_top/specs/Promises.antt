@@ -2,23 +2,23 @@
 -- of its stages.
 use Rattle.std.specs.Prelude.{◌≡◌, ◌⊎◌, ◌↔◌, ℕ, List, codes, map, Some, None, Bool}
 use Rattle.dx_ports.specs.Members.{Distinct}
-use Rattle.dx_model.specs.Values.{Text}
+use Rattle.dx_ports.specs.Texts.{Text}
 use Rattle.dx_keys.specs.declared.answers.Clash.{Clash}
 use Rattle.dx_exchange.specs.declared.mode.Mode.{Mode}
 use Rattle.dx_exchange.specs.declared.mode.Mode.TheVariants.{Plain}
 use Rattle.dx_exchange.specs.declared.result.Exchange.{Exchange}
 use Rattle.dx_exchange.specs.declared.fault.ExFault.TheVariants as exchange_faults
-use Rattle.dx_exchange.specs.Exchanging.{Asked, exchanging}
+use Rattle.dx_exchange.specs.Exchanging.{ExchangeInput, exchanging}
 use Rattle.dx_compare.specs.declared.comparing.Comparison.{Comparison}
 use Rattle.dx_judge.specs.declared.verdict.Verdict.{Verdict}
 use Rattle.dx_stages.specs.declared.plan.Ended.TheVariants as endeds
 use Rattle.dx_stages.specs.Worlds.{World}
 use Rattle.dx_stages.specs.Laws.{IsDecided}
-use Rattle.dx_stages.specs.Ending.{Ends, Written}
+use Rattle.dx_stages.specs.Ending.{Ends, OutputState}
 use Rattle.clio_accept.specs.declared.mapping.Mapping.{Mapping}
 use Rattle.clio_accept.specs.declared.fault.AcceptFault.TheVariants as accept_faults
 use Rattle.clio_accept.specs.Accepting.{accepting}
-use Rattle.clio_files.specs.Sheets.{Told}
+use Rattle.clio_files.specs.Sheets.{PrintedFile}
 use Rattle.dx_queries.specs.declared.query.Query.{Query}
 use Rattle.clio_ending.specs.declared.ending.Answers.{Answers}
 use Rattle.clio_ending.specs.declared.ending.Done.{Done}
@@ -29,10 +29,10 @@ use Rattle.clio_top.specs.declared.command.Command.{Command}
 use Rattle.clio_top.specs.declared.command.Command.TheVariants.{Answering, Comparing, Demonstrating, Exchanging, Judging, Showing}
 use Rattle.clio_top.specs.Words.{Word, says}
 use Rattle.clio_steps.specs.Steps.{Program, mapping_stages}
-use Rattle.clio_judge.specs.Judging.{Sized, sized_rows, wanted_given}
+use Rattle.clio_judge.specs.Judging.{RowsAndBytes, rows_and_bytes, wanted_given}
 use Rattle.clio_top.specs.Demo.{demo_world}
 use Rattle.clio_top.specs.Commands.{run_stages}
-use Rattle.clio_answer.specs.Answering.{posed_query, query_name}
+use Rattle.clio_answer.specs.Answering.{query_over, query_name}
 use Rattle.clio_answer.specs.Outcomes.{IsAnsweredIn}
 use Rattle.clio_steps.specs.Outcomes.{IsClashIn, IsNextFile, Writing, wrote_all, HasNoSolutionIn}
 use Rattle.clio_compare.specs.Outcomes.{IsComparedIn}
@@ -83,7 +83,7 @@ AsAsked P c words (Compared k) Wrote = IsCompared P c words k Wrote
 -- what is done is as the words ask for it, whether or not the inputs tell what they hold
 abbrev pub DoneIsAsAsked : Type 0
 DoneIsAsAsked =
-    (P : Program) (c : World) (words : List Word) (before after : Written) (d : Done)
+    (P : Program) (c : World) (words : List Word) (before after : OutputState) (d : Done)
     → Ends (run_stages P) c words before after (endeds.Done d) → AsAsked P c words d (wrote_all before after)
 
 -- ---- a clash
@@ -100,7 +100,7 @@ IsClashOf P c words k table key column =
 -- whether or not the inputs tell what they hold
 abbrev pub ClashesAreOfTexts : Type 0
 ClashesAreOfTexts =
-    (P : Program) (c : World) (words : List Word) (before after : Written) (k : Clash) (table : Text) (key : List Text) (column : Text)
+    (P : Program) (c : World) (words : List Word) (before after : OutputState) (k : Clash) (table : Text) (key : List Text) (column : Text)
     → Ends (run_stages P) c words before after (endeds.Refused (refusals.Clash k table key column)) → IsClashOf P c words k table key column
 
 -- if there is no solution, an exchange is refused with a clash
@@ -125,11 +125,11 @@ AsksFor P c (Demonstrating number mode) n = ⊥
 AsksFor P c Answering n =
     (n ≡ codes "mapping.clio")
     ⊎ ((M : Mapping) × (mapping_stages P).passes c (tt {0}) M
-    × ((n ≡ query_name) ⊎ ((q : Query) × (posed_query M).passes c M q × IsNextFile c M.source n)))
+    × ((n ≡ query_name) ⊎ ((q : Query) × (query_over M).passes c M q × IsNextFile c M.source n)))
 AsksFor P c Judging n =
     (n ≡ codes "mapping.clio")
     ⊎ ((M : Mapping) × (mapping_stages P).passes c (tt {0}) M
-    × (IsNextFile c M.source n ⊎ ((p : Sized) × (sized_rows P).passes c M p × IsNextGiven c (wanted_given p) n)))
+    × (IsNextFile c M.source n ⊎ ((p : RowsAndBytes) × (rows_and_bytes P).passes c M p × IsNextGiven c (wanted_given p) n)))
 AsksFor P c Comparing n =
     (n ≡ codes "mapping.clio") ⊎ ((M : Mapping) × (mapping_stages P).passes c (tt {0}) M × (n ≡ codes "other.clio"))
 
@@ -148,11 +148,11 @@ UsageIsOfWords = (P : Program) (c : World) (words : List Word) → (run_stages P
 -- want of memory is no reason of accepting a text, and none of an exchange
 abbrev pub MemoryIsNoReason : Type 0
 MemoryIsNoReason =
-    (P : Program) (c : World) (text : List ℕ) (a : Asked)
+    (P : Program) (c : World) (text : List ℕ) (a : ExchangeInput)
     → (¬ ((accepting P.list P.tests).refuses c text accept_faults.Memory)) × (¬ ((exchanging P.apply).refuses c a exchange_faults.Memory))
 
 -- no two files that an exchange writes have one name: each stands as it was put
 abbrev pub FilesHaveOwnNames : Type 0
 FilesHaveOwnNames =
-    (P : Program) (mode : Mode) (nested : Bool) (c : World) (e : Exchange) (before after : Written)
-    → (d : IsDoneIn P mode nested c e (wrote_all before after)) → Distinct (map (λ (f : Told). f.name) d.files)
+    (P : Program) (mode : Mode) (nested : Bool) (c : World) (e : Exchange) (before after : OutputState)
+    → (d : IsDoneIn P mode nested c e (wrote_all before after)) → Distinct (map (λ (f : PrintedFile). f.name) d.files)

@@ -14,14 +14,14 @@ abbrev pub Word : Type 0
 Word = List ℕ
 
 -- whether two words are one
-abbrev pub same : Word → Word → Bool
-same = pointwise nat_eq
+abbrev pub same_word : Word → Word → Bool
+same_word = pointwise nat_eq
 
 abbrev pub is_core : Word → Bool
-is_core w = same w (codes "--core")
+is_core w = same_word w (codes "--core")
 
 abbrev pub is_nested : Word → Bool
-is_nested w = same w (codes "--nested")
+is_nested w = same_word w (codes "--nested")
 
 -- ---- numerals
 
@@ -32,9 +32,9 @@ number_after n (b ∷ bs) =
     let m = 10 * n + (b - 48) in if is_digit b && nat_lt m 100001 then number_after m bs else None
 
 -- the number of a numeral without a leading zero, from 1 to 100,000
-abbrev pub number_in : Word → Option ℕ
-number_in [] = None
-number_in (b ∷ bs) = if eqb b 48 then None else number_after 0 (b ∷ bs)
+abbrev pub numeral_number : Word → Option ℕ
+numeral_number [] = None
+numeral_number (b ∷ bs) = if eqb b 48 then None else number_after 0 (b ∷ bs)
 
 -- ---- commands
 
@@ -58,31 +58,31 @@ abbrev pub demo_of : Mode → Option ℕ → Option Command
 demo_of mode None = None
 demo_of mode (Some n) = Some (Demonstrating n mode)
 
-abbrev pub numbered : Word → Mode → Option Command
-numbered w mode = demo_of mode (number_in w)
+abbrev pub demo_with_number : Word → Mode → Option Command
+demo_with_number w mode = demo_of mode (numeral_number w)
 
 -- after `demo`: a number, before or after it perhaps `--core`
 abbrev pub demo_said : List Word → Option Command
 demo_said [] = None
-demo_said (w ∷ []) = numbered w Plain
-demo_said (v ∷ w ∷ []) = if is_core v then numbered w Core else if is_core w then numbered v Core else None
+demo_said (w ∷ []) = demo_with_number w Plain
+demo_said (v ∷ w ∷ []) = if is_core v then demo_with_number w Core else if is_core w then demo_with_number v Core else None
 demo_said (u ∷ v ∷ w ∷ words) = None
 
 -- after a command without options: nothing
-abbrev pub alone : Command → List Word → Option Command
-alone c [] = Some c
-alone c (w ∷ words) = None
+abbrev pub without_options : Command → List Word → Option Command
+without_options c [] = Some c
+without_options c (w ∷ words) = None
 
 -- what words say: a command, by its name and what stands after it
 abbrev pub says : List Word → Option Command
 says [] = None
 says (name ∷ words) =
-    if same name (codes "show") then show_said words
-    else if same name (codes "exchange") then exchange_said words
-    else if same name (codes "demo") then demo_said words
-    else if same name (codes "answer") then alone Answering words
-    else if same name (codes "judge") then alone Judging words
-    else if same name (codes "compare") then alone Comparing words
+    if same_word name (codes "show") then show_said words
+    else if same_word name (codes "exchange") then exchange_said words
+    else if same_word name (codes "demo") then demo_said words
+    else if same_word name (codes "answer") then without_options Answering words
+    else if same_word name (codes "judge") then without_options Judging words
+    else if same_word name (codes "compare") then without_options Comparing words
     else None
 
 -- the command, or the refusal of other words

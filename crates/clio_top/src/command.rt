@@ -1,6 +1,6 @@
 // The commands, and the words that say them.
 ghost use Rattle.std.specs.Prelude.{◌≡◌};
-ghost use Rattle.clio_top.specs.Words.{alone, demo_said, exchange_said, is_core, is_nested, numbered, says, show_said};
+ghost use Rattle.clio_top.specs.Words.{without_options, demo_said, exchange_said, is_core, is_nested, demo_with_number, says, show_said};
 
 use crate::numeral::number_in;
 use dx_exchange::Mode;
@@ -63,7 +63,7 @@ fn exchange_said(options: &[Text]) -> Option<Command>
 
 // The demo of a number.
 fn numbered(word: &Text, mode: Mode) -> Option<Command>
-    ensures { result ≡ numbered word.now mode }
+    ensures { result ≡ demo_with_number word.now mode }
 {
     let number = number_in(word)?;
     Some(Command::Demonstrating { number, mode })
@@ -83,7 +83,7 @@ fn demo_said(options: &[Text]) -> Option<Command>
 
 // A command without options.
 fn alone(command: Command, options: &[Text]) -> Option<Command>
-    ensures { result ≡ alone command options.now }
+    ensures { result ≡ without_options command options.now }
 {
     match options {
         [] => Some(command),

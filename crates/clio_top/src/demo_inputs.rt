@@ -1,7 +1,7 @@
 // The files of a demo as what a run reads from.
 ghost use Rattle.std.specs.Prelude.{◌≡◌, ◌≤◌, ◌<◌, [], length, None, Some, OnOk, OnErr, IfSome, IsErrOf, IsSomeAnd};
 ghost use Rattle.std.specs.FinMap.{get};
-ghost use Rattle.dx_ports.specs.Entries.{held_by};
+ghost use Rattle.dx_ports.specs.Entries.{file_map};
 ghost use Rattle.dx_ports.specs.Faults.{Rose};
 
 use dx_ports::{FetchFault, File, Inputs, Text, bytes_named};
@@ -13,7 +13,7 @@ pub(crate) struct DemoInputs {
 }
 
 impl Inputs for DemoInputs {
-    ghost holds = { λ d. Some (held_by d.files.items) };
+    ghost holds = { λ d. Some (file_map d.files.items) };
 
     ghost faults = { λ _. 0 };
 

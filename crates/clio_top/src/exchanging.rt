@@ -39,9 +39,10 @@ where
     let Mapping { source, target, .. } = mapping;
     let printed = print_files(alloc, rules, source, target, &exchange, host, mode, nested)?;
     let text = summary(alloc, &printed)?;
+    let files = into_files(alloc, printed)?;
     Ok(Plan {
         done: Done::Exchanged(exchange),
-        files: into_files(alloc, printed)?,
+        files,
         text,
     })
 }

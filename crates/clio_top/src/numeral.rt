@@ -1,6 +1,6 @@
 // Numerals among the words.
 ghost use Rattle.std.specs.Prelude.{◌≡◌};
-ghost use Rattle.clio_top.specs.Words.{number_after, number_in};
+ghost use Rattle.clio_top.specs.Words.{number_after, numeral_number};
 
 use dx_ports::Text;
 
@@ -25,7 +25,7 @@ fn number_of(digits: &[u8]) -> Option<u32>
 
 /// The number of a numeral without a leading zero, from 1 to 100,000.
 pub(crate) fn number_in(word: &Text) -> Option<u32>
-    ensures { result ≡ number_in word.now }
+    ensures { result ≡ numeral_number word.now }
 {
     match word.bytes() {
         [] | [b'0', ..] => None,

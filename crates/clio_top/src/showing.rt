@@ -33,10 +33,11 @@ where
 {
     let rules = mapping.rules.items();
     let printed = print_texts(alloc, rules, &mapping.source, &mapping.target, host, mode)?;
+    let text = contents(alloc, &printed)?;
     Ok(Plan {
         done: Done::Shown,
         files: Vec::new(alloc),
-        text: contents(alloc, &printed)?,
+        text,
     })
 }
 

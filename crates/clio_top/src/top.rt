@@ -1,7 +1,7 @@
 // The top call.
 ghost use Rattle.std.specs.Prelude.{◌≡◌, ℕ, List, Some};
 ghost use Rattle.std.specs.FinMap.{get};
-ghost use Rattle.dx_ports.specs.Entries.{Held};
+ghost use Rattle.dx_ports.specs.Entries.{FileMap};
 ghost use Rattle.dx_ports.specs.Faults.{Rose};
 ghost use Rattle.dx_funcs.specs.Judging.{Decides, tested};
 ghost use Rattle.dx_funcs.specs.Serving.{Serves, offered};
@@ -20,7 +20,7 @@ ghost use Rattle.clio_ending.specs.declared.ending.Ending.TheVariants.{Clash as 
 ghost use Rattle.clio_ending.specs.declared.ending.Refusal.{Refusal as RefusalOf};
 ghost use Rattle.clio_ending.specs.Ending.{AreAlike, ending_of};
 ghost use Rattle.clio_steps.specs.Steps.{program};
-ghost use Rattle.clio_top.specs.Running.{told, written};
+ghost use Rattle.clio_top.specs.Running.{input_state, written};
 ghost use Rattle.clio_top.specs.Commands.{IsInRange, run_stages, stages_of};
 ghost use Rattle.clio_steps.specs.Outcomes.{wrote_all};
 ghost use Rattle.clio_top.specs.Promises.{IsAnswered, IsClashOf, IsCompared, IsDemo, IsDone, IsJudged, IsShown};
@@ -154,15 +154,15 @@ where
     ensures left { (c : World) × IsOf (I.holds inputs.old) c
         × Leaves (program (offered host.now) (tested tests.now) M.apply M.passes) c words.now.items
         (written (O.files outputs.old) (O.said outputs.old)) (written (O.files outputs.new) (O.said outputs.new)) result }
-    ensures complete { (m : Held) → I.holds inputs.old ≡ Some m → ¬ (Rose (I.faults inputs.old) (I.faults inputs.new))
+    ensures complete { (m : FileMap) → I.holds inputs.old ≡ Some m → ¬ (Rose (I.faults inputs.old) (I.faults inputs.new))
         → ¬ (Rose (O.faults outputs.old) (O.faults outputs.new))
         → Completes (program (offered host.now) (tested tests.now) M.apply M.passes) (λ n. get m n) words.now.items result }
     ensures complete_demo { ¬ (Rose (O.faults outputs.old) (O.faults outputs.new))
         → CompletesDemo (program (offered host.now) (tested tests.now) M.apply M.passes) words.now.items result }
     ensures runs { (e : EndedOf DoneOf RefusalOf) × (result ≡ ending_of e)
         × Runs AreAlike (run_stages (program (offered host.now) (tested tests.now) M.apply M.passes)) words.now.items e
-        (told (I.holds inputs.old) (I.faults inputs.old) (I.stopped inputs.old))
-        (told (I.holds inputs.new) (I.faults inputs.new) (I.stopped inputs.new))
+        (input_state (I.holds inputs.old) (I.faults inputs.old) (I.stopped inputs.old))
+        (input_state (I.holds inputs.new) (I.faults inputs.new) (I.stopped inputs.new))
         (written (O.files outputs.old) (O.said outputs.old)) (written (O.files outputs.new) (O.said outputs.new))
         (O.faults outputs.old) (O.faults outputs.new) }
 {

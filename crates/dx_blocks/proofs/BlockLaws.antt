@@ -21,7 +21,7 @@ use Rattle.dx_blocks.specs.declared.block.Block.{Block}
 use Rattle.dx_blocks.specs.Blocks.{AreBlocks, IsBlockOf, least}
 use Rattle.dx_blocks.specs.Nulls.{AreNulls}
 use Rattle.dx_blocks.specs.Labels.{AreFilled, AreLabels, has_nulls}
-use Rattle.dx_blocks.specs.Laws.{OneList, BlocksAreClosed, EachInBlock, BlocksAreApart}
+use Rattle.dx_blocks.specs.Laws.{OneBlockList, BlocksAreClosed, EachInBlock, BlocksAreApart}
 use Rattle.dx_blocks.proofs.Connections.{connected_by, connected_trans, connected_sym, connected_more}
 use Rattle.dx_blocks.proofs.BlockParts.{filled_are}
 
@@ -84,7 +84,7 @@ by_least : (bs : List Block) → NullsAscend (map least bs) → Ascends BlockLes
 by_least [] a = tt
 by_least (b ∷ bs) a = ((λ c m. a.0 (least c) (in_map least m)), by_least bs a.1)
 
-pub one_list : OneList
+pub one_list : OneBlockList
 one_list A bs cs x y =
     one_ascending (λ b c. null_cmp (least b) (least c)) (on_total least null_total) bs cs (by_least bs x.ascend) (by_least cs y.ascend)
     (all_there A bs cs x y) (all_there A cs bs y x)

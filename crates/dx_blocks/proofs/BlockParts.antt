@@ -11,7 +11,7 @@ use Rattle.dx_ports.proofs.Members.{in_at, in_flat_map, from_map}
 use Rattle.dx_model.specs.declared.values.NullId.{NullId}
 use Rattle.dx_model.specs.declared.values.Value.TheVariants.{Null}
 use Rattle.dx_model.specs.declared.facts.Fact.{Fact}
-use Rattle.dx_model.specs.Values.{NullsAscend, null_cmp}
+use Rattle.dx_model.specs.Values.{NullsAscend, null_cmp, null_at}
 use Rattle.dx_model.specs.Instances.{values}
 use Rattle.dx_model.proofs.Lists.{in_filter}
 use Rattle.dx_model.proofs.Orders.{null_total, null_exact}
@@ -20,7 +20,6 @@ use Rattle.dx_ports.proofs.Tests.{from_filter}
 use Rattle.dx_blocks.specs.declared.block.Block.{Block}
 use Rattle.dx_blocks.specs.Blocks.{AreBlocks, IsBlockOf, least}
 use Rattle.dx_model.specs.Blocks.{Connected}
-use Rattle.dx_blocks.specs.Nulls.{null_at}
 use Rattle.dx_blocks.specs.Labels.{AreFilled, AreLabels, block_at, has_nulls}
 use Rattle.dx_blocks.proofs.NullLists.{ascends_at, place_there, not_less}
 use Rattle.dx_blocks.proofs.Connections.{connected_there}

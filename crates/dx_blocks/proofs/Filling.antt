@@ -8,10 +8,10 @@ use Rattle.dx_ports.specs.Members.{◌∈◌, here, Each}
 use Rattle.dx_model.specs.declared.values.NullId.{NullId}
 use Rattle.dx_model.specs.declared.values.Value.TheVariants.{Null}
 use Rattle.dx_model.specs.declared.facts.Fact.{Fact}
-use Rattle.dx_model.specs.Values.{FactsAscend, NullsAscend, null_cmp, fact_cmp}
+use Rattle.dx_model.specs.Values.{FactsAscend, NullsAscend, null_cmp, fact_cmp, null_at}
 use Rattle.std.specs.declared.cmp.Ordering.TheVariants.{Less}
 use Rattle.dx_blocks.specs.declared.block.Block.{Block}
-use Rattle.dx_blocks.specs.Nulls.{AreNulls, StandsIn, null_at}
+use Rattle.dx_blocks.specs.Nulls.{AreNulls, StandsIn}
 use Rattle.dx_blocks.specs.Labels.{AreFilled, AreLabels, HasLabel, HoldsLabel, block_at}
 use Rattle.dx_blocks.proofs.Connections.{connected_by}
 use Rattle.dx_blocks.proofs.NullLists.{place_is_one}

@@ -11,11 +11,11 @@ use Rattle.dx_model.specs.declared.values.NullId.{NullId}
 use Rattle.dx_model.specs.declared.values.Value.{Value}
 use Rattle.dx_model.specs.declared.values.Value.TheVariants.{Null}
 use Rattle.dx_model.specs.declared.facts.Fact.{Fact}
-use Rattle.dx_model.specs.Values.{NullsAscend}
+use Rattle.dx_model.specs.Values.{NullsAscend, null_at}
 use Rattle.dx_model.specs.Instances.{values}
 use Rattle.dx_model.specs.Blocks.{Connected, itself, onward}
-use Rattle.dx_blocks.specs.Nulls.{AreNulls, StandsIn, null_at}
-use Rattle.dx_blocks.specs.Forest.{Falls, Respects, AreTied, AreSameTrees, IsJoin, IsFlat}
+use Rattle.dx_blocks.specs.Nulls.{AreNulls, StandsIn}
+use Rattle.dx_blocks.specs.Forest.{Falls, Respects, ParentsAreConnected, AreSameTrees, IsTreeUnion, IsFlat}
 use Rattle.dx_blocks.specs.Labels.{AreLabels, AreOne, JoinsRow, JoinsAll}
 use Rattle.dx_blocks.proofs.Connections.{connected_by, connected_trans, connected_sym, connected_same}
 use Rattle.dx_blocks.proofs.NullLists.{place_is_one, place_there}
@@ -36,7 +36,7 @@ pub record RowSoFar (ns : List NullId) (row some : List Value) (first : ℕ) (ol
   pub falls : Falls new
   pub respects : (c : ℕ → ℕ) → Respects new c → Respects old c
   pub one : (c : ℕ → ℕ) → Respects new c → (p : ℕ) → StandsIn ns some p → c first ≡ c p
-  pub tied : (A : List Fact) (f : Fact) → f ∈ A → f.row ≡ row → AreTied A ns old → AreTied A ns new
+  pub tied : (A : List Fact) (f : Fact) → f ∈ A → f.row ≡ row → ParentsAreConnected A ns old → ParentsAreConnected A ns new
 
 pub row_start : (ns : List NullId) (row : List Value) (first : ℕ) (P : List ℕ) → Falls P → RowSoFar ns row [] first P P
 row_start ns row first P f = record {
@@ -70,7 +70,7 @@ module _ (ns : List NullId) (row : List Value) (first : ℕ) (P Q : List ℕ) (i
   }
 
   pub null_more : (R : List ℕ) (k : ℕ) (n : NullId) → NullsAscend ns → StandsIn ns row first → k < length ns → null_at ns k ≡ n → v ≡ Null n
-      → IsJoin Q R first k → RowSoFar ns row (take (i + 1) row) first P R
+      → IsTreeUnion Q R first k → RowSoFar ns row (take (i + 1) row) first P R
   null_more R k n a fs l q d j = record {
     many = j.many ∙ s.many;
     falls = j.falls;
@@ -108,7 +108,7 @@ pub record AllSoFar (A some : List Fact) (ns : List NullId) (old new : List ℕ)
   pub many : length new ≡ length old
   pub falls : Falls new
   pub one : (f : Fact) → f ∈ some → AreOne ns new f.row
-  pub tied : AreTied A ns old → AreTied A ns new
+  pub tied : ParentsAreConnected A ns old → ParentsAreConnected A ns new
 
 pub all_start : (A : List Fact) (ns : List NullId) (P : List ℕ) → Falls P → AllSoFar A [] ns P P
 all_start A ns P f = record { many = refl; falls = f; one = λ g m. elim m [ ]; tied = λ t. t }
@@ -155,13 +155,13 @@ single_trees_fall P n e = rw e (singles_fall n)
 pub single_trees_many : (P : List ℕ) (n : ℕ) → P ≡ range_with_len 0 n → length P ≡ n
 single_trees_many P n e = rw e (length-range_with_len 0 n)
 
-single_trees_tied : (A : List Fact) (ns : List NullId) (P : List ℕ) (n : ℕ) → P ≡ range_with_len 0 n → AreTied A ns P
+single_trees_tied : (A : List Fact) (ns : List NullId) (P : List ℕ) (n : ℕ) → P ≡ range_with_len 0 n → ParentsAreConnected A ns P
 single_trees_tied A ns P n e k h =
     connected_same (ap (null_at ns) (sym (rw e (at_singles n k (rw (e, length-range_with_len 0 n) at h)))))
 
 -- flat trees in which the nulls of each fact are one
 module _ (A : List Fact) (ns : List NullId) (up : NullsAscend ns) (knows : Knows A ns) (R : List ℕ) (many : length R ≡ length ns)
-    (flat : IsFlat R) (tied : AreTied A ns R) (one : (f : Fact) → f ∈ A → AreOne ns R f.row) where
+    (flat : IsFlat R) (tied : ParentsAreConnected A ns R) (one : (f : Fact) → f ∈ A → AreOne ns R f.row) where
   -- the trees give their own labels
   own_labels : Respects R (at R)
   own_labels k h = sym (flat k h)
@@ -194,7 +194,7 @@ labels_are A ns P Q R up knows e j s flat = record {
     many : length R ≡ length ns
     many = s.many ∙ (j.many ∙ single_trees_many P (length ns) e)
 
-    tied : AreTied A ns R
+    tied : ParentsAreConnected A ns R
     tied = (s.tied A ns).0 (j.tied (single_trees_tied A ns P (length ns) e))
 
     one : (f : Fact) → f ∈ A → AreOne ns R f.row

@@ -18,10 +18,10 @@ use Rattle.dx_model.specs.declared.values.Value.TheVariants.{Const, Null}
 use Rattle.dx_model.specs.declared.facts.Fact.{Fact}
 use Rattle.dx_model.specs.contracts.values.NullIdOrd.TheImpl.{cmp-value as null_order}
 use Rattle.dx_model.specs.contracts.values.NullIdPartialEq.TheImpl.{eq-value as null_same}
-use Rattle.dx_model.specs.Values.{Ascends, NullsAscend, null_cmp}
+use Rattle.dx_model.specs.Values.{Ascends, NullsAscend, null_cmp, null_at}
 use Rattle.dx_model.specs.Instances.{values}
 use Rattle.dx_model.proofs.Orders.{null_total, not_above}
-use Rattle.dx_blocks.specs.Nulls.{AreNulls, null_at, null_in, nulls_in}
+use Rattle.dx_blocks.specs.Nulls.{AreNulls, null_in, row_nulls}
 use Rattle.dx_blocks.proofs.Sorting.{nulls_ascend, nulls_same}
 
 -- ---- the nulls of rows
@@ -37,7 +37,7 @@ values_more A i f h e =
     ap values (take_more A i f h) ∙ (flat_map-append (λ (g : Fact). g.row) (take i A) (get_or A i f ∷ [])
     ∙ ap (λ z. values (take i A) ++ z) (append-nil (get_or A i f).row ∙ ap (λ (g : Fact). g.row) (sym e)))
 
-pub nulls_are : (A : List Fact) (ls ms ns : List NullId) → ls ≡ nulls_in (values A) → IsPermutation ls ms → IsSorted null_order.it ms
+pub nulls_are : (A : List Fact) (ls ms ns : List NullId) → ls ≡ row_nulls (values A) → IsPermutation ls ms → IsSorted null_order.it ms
     → IsFiltered (DiffersFromLast null_same.it) [] ms ns → AreNulls A ns
 nulls_are A ls ms ns e moved sorted filtered =
     let same = nulls_same ls ms ns moved filtered in record {

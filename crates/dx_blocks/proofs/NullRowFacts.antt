@@ -14,15 +14,14 @@ use Rattle.dx_model.specs.declared.values.NullId.{NullId}
 use Rattle.dx_model.specs.declared.values.Value.{Value}
 use Rattle.dx_model.specs.declared.values.Value.TheVariants.{Const, Null}
 use Rattle.dx_model.specs.declared.facts.Fact.{Fact}
-use Rattle.dx_model.specs.Values.{Ascends, NullsAscend, null_cmp, value_cmp}
+use Rattle.dx_model.specs.Values.{Ascends, NullsAscend, null_cmp, value_cmp, null_at}
 use Rattle.dx_instance.specs.Cells.{NumberTable, numbers_at}
 use Rattle.dx_instance.specs.Numbers.{ValuesAscend, value_of}
-use Rattle.dx_instance.specs.Shown.{Numbered, PartsFit, AreBelow, numbers_of_table, shown_row, shown_tables}
+use Rattle.dx_instance.specs.Shown.{NumberedInstance, PartsFit, AreBelow, numbers_of_table, shown_row, shown_tables}
 use Rattle.dx_instance.proofs.ShownFacts.{row_shown, numbers_below, fits_in}
 use Rattle.dx_blocks.specs.declared.numbered.At.{At}
-use Rattle.dx_blocks.specs.Nulls.{null_at}
-use Rattle.dx_blocks.specs.Numbered.{IsRow, as_null, fact_of, null_under}
-use Rattle.dx_blocks.specs.NullRows.{AreNullRows, IsBefore, IsFirstNull, nulls_from, numbers_of}
+use Rattle.dx_blocks.specs.Numbered.{IsRowIn, as_null, fact_of, null_under}
+use Rattle.dx_blocks.specs.NullRows.{AreNullRows, IsRowBefore, IsFirstNull, nulls_from, row_numbers}
 use Rattle.dx_blocks.proofs.Placing.{ascends_more}
 use Rattle.dx_blocks.proofs.Trees.{at_range}
 
@@ -40,7 +39,7 @@ same_null : (v : Value) (m : NullId) → v ≡ Null m → as_null v ≡ m
 same_null (Const t) m e = absurd (cc e)
 same_null (Null k) m e = cc e
 
-pub first_is : (N : Numbered) (i : ℕ) (m : NullId) → PartsFit N.symbols N.tables → ValuesAscend N.symbols → i < length N.symbols → value_of N.symbols i ≡ Null m
+pub first_is : (N : NumberedInstance) (i : ℕ) (m : NullId) → PartsFit N.symbols N.tables → ValuesAscend N.symbols → i < length N.symbols → value_of N.symbols i ≡ Null m
     → ((n : ℕ) → n < i → (k : NullId) → ¬ (value_of N.symbols n ≡ Null k)) → IsFirstNull N i
 first_is N i m f up h e none = record {
   fit = f;
@@ -64,34 +63,34 @@ all_below xs i first h e = rw (take_all i xs h) at e
 
 -- ---- rows in order
 
-pub same_table : (N : Numbered) (t : ℕ) → t < length N.tables → numbers_of_table N.tables t ≡ get_or N.tables t (numbers_of_table N.tables t)
+pub same_table : (N : NumberedInstance) (t : ℕ) → t < length N.tables → numbers_of_table N.tables t ≡ get_or N.tables t (numbers_of_table N.tables t)
 same_table N t h = get_or_default N.tables t (record { width = 0; rows = [] }) (numbers_of_table N.tables t) h
 
 -- the row of the fact
-pub row_is : (N : Numbered) (a : At) → IsRow N a → (fact_of N a).row ≡ shown_row N.symbols (numbers_of N a)
+pub row_is : (N : NumberedInstance) (a : At) → IsRowIn N a → (fact_of N a).row ≡ shown_row N.symbols (row_numbers N a)
 row_is N a r = row_shown N.symbols N.tables (shown_tables N.symbols N.tables) a.table a.place (numbers_of_table N.tables a.table) refl r.table
     (same_table N a.table r.table) r.place
 
-pub row_below : (N : Numbered) (a : At) → PartsFit N.symbols N.tables → IsRow N a → AreBelow (length N.symbols) (numbers_of N a)
+pub row_below : (N : NumberedInstance) (a : At) → PartsFit N.symbols N.tables → IsRowIn N a → AreBelow (length N.symbols) (row_numbers N a)
 row_below N a f r =
     numbers_below (length N.symbols) (numbers_of_table N.tables a.table) a.place
     (fits_in N.symbols N.tables a.table (numbers_of_table N.tables a.table) f r.table (same_table N a.table r.table)) r.place
 
-pub no_rows : (N : Numbered) (first : ℕ) → AreNullRows N first 0 0 []
+pub no_rows : (N : NumberedInstance) (first : ℕ) → AreNullRows N first 0 0 []
 no_rows N first = record {
   each = λ a m. elim m [ ];
   all = λ a n r b m l. elim b [ inl k ↦ absurd (omega arith) | inr k ↦ absurd (omega (arith, k.1)) ];
   ascend = tt;
 }
 
-before_here : (t p : ℕ) (a : At) → IsBefore t (p + 1) a → (IsBefore t p a) ⊎ ((a.table ≡ t) × (a.place ≡ p))
+before_here : (t p : ℕ) (a : At) → IsRowBefore t (p + 1) a → (IsRowBefore t p a) ⊎ ((a.table ≡ t) × (a.place ≡ p))
 before_here t p a (inl l) = inl (inl l)
 before_here t p a (inr l) = elim (cases_eq a.place p) [
   | inl e ↦ inr (l.0, e)
   | inr n ↦ inl (inr (l.0, omega (arith, n, l.1)))
 ]
 
-later : (t p : ℕ) (a : At) → IsBefore t p a → IsBefore t (p + 1) a
+later : (t p : ℕ) (a : At) → IsRowBefore t p a → IsRowBefore t (p + 1) a
 later t p a (inl l) = inl l
 later t p a (inr l) = inr (l.0, omega (arith, l.1))
 
@@ -99,7 +98,7 @@ at_is : (t p : ℕ) (a : At) → a.table ≡ t → a.place ≡ p → a ≡ recor
 at_is t p a d e = λ i. record { table = d i; place = e i }
 
 -- a row without nulls
-pub row_passed : (N : Numbered) (first t p : ℕ) (rows : List At) → Each (numbers_of N (record { table = t; place = p })) (λ n. n < first)
+pub row_passed : (N : NumberedInstance) (first t p : ℕ) (rows : List At) → Each (row_numbers N (record { table = t; place = p })) (λ n. n < first)
     → AreNullRows N first t p rows → AreNullRows N first t (p + 1) rows
 row_passed N first t p rows none s = record {
   each = λ a m. let w = s.each a m in (w.0, later t p a w.1);
@@ -107,14 +106,14 @@ row_passed N first t p rows none s = record {
     | inl k ↦ s.all a n r k m l
     | inr k ↦ (
         let e = at_is t p a k.0 k.1 in
-        let h = none n (subst (λ (x : At). n ∈ numbers_of N x) e m) in
+        let h = none n (subst (λ (x : At). n ∈ row_numbers N x) e m) in
         absurd (omega (arith, h, l)))
   ];
   ascend = s.ascend;
 }
 
 -- one row more
-pub row_kept : (N : Numbered) (first t p : ℕ) (rows : List At) → IsRow N (record { table = t; place = p })
+pub row_kept : (N : NumberedInstance) (first t p : ℕ) (rows : List At) → IsRowIn N (record { table = t; place = p })
     → AreNullRows N first t p rows → AreNullRows N first t (p + 1) (rows ++ record { table = t; place = p } ∷ [])
 row_kept N first t p rows r s = record {
   each = λ a m. elim (from_append rows m) [
@@ -125,15 +124,15 @@ row_kept N first t p rows r s = record {
     | inl k ↦ in_left (record { table = t; place = p } ∷ []) (s.all a n q k m l)
     | inr k ↦ in_right rows (here (sym (at_is t p a k.0 k.1)))
   ];
-  ascend = ascends_more (λ (a b : At). IsBefore b.table b.place a) rows (record { table = t; place = p }) s.ascend (λ a m. (s.each a m).1);
+  ascend = ascends_more (λ (a b : At). IsRowBefore b.table b.place a) rows (record { table = t; place = p }) s.ascend (λ a m. (s.each a m).1);
 }
   where
-    last : (a : At) → a ∈ (record { table = t; place = p } ∷ []) → IsRow N a × IsBefore t (p + 1) a
+    last : (a : At) → a ∈ (record { table = t; place = p } ∷ []) → IsRowIn N a × IsRowBefore t (p + 1) a
     last a (here e) = rw (← e) (r, inr (refl, omega arith))
     last a (there m) = elim m [ ]
 
 -- the next table
-pub next_table : (N : Numbered) (first t p : ℕ) (rows : List At) → length (numbers_of_table N.tables t).rows ≤ p
+pub next_table : (N : NumberedInstance) (first t p : ℕ) (rows : List At) → length (numbers_of_table N.tables t).rows ≤ p
     → AreNullRows N first t p rows → AreNullRows N first (t + 1) 0 rows
 next_table N first t p rows h s = record {
   each = λ a m. let w = s.each a m in (w.0, up a w.1);
@@ -141,11 +140,11 @@ next_table N first t p rows h s = record {
   ascend = s.ascend;
 }
   where
-    up : (a : At) → IsBefore t p a → IsBefore (t + 1) 0 a
+    up : (a : At) → IsRowBefore t p a → IsRowBefore (t + 1) 0 a
     up a (inl l) = inl (omega arith)
     up a (inr l) = inl (omega (arith, l.0))
 
-    down : (a : At) → IsRow N a → IsBefore (t + 1) 0 a → IsBefore t p a
+    down : (a : At) → IsRowIn N a → IsRowBefore (t + 1) 0 a → IsRowBefore t p a
     down a r (inr l) = absurd (omega (arith, l.1))
     down a r (inl l) = elim (cases_eq a.table t) [
       | inl e ↦ (let k : a.place < length (numbers_of_table N.tables t).rows = rw e at r.place in inr (e, omega arith))
@@ -154,11 +153,11 @@ next_table N first t p rows h s = record {
 
 -- ---- the nulls from a number on
 
-pub nulls_many : (N : Numbered) (first : ℕ) → length (nulls_from N first) ≡ length N.symbols - first
+pub nulls_many : (N : NumberedInstance) (first : ℕ) → length (nulls_from N first) ≡ length N.symbols - first
 nulls_many N first =
     length-map (range_with_len first (length N.symbols - first)) (null_under N) ∙ length-range_with_len first (length N.symbols - first)
 
-pub nulls_at : (N : Numbered) (first k : ℕ) → k < length N.symbols - first → null_at (nulls_from N first) k ≡ null_under N (first + k)
+pub nulls_at : (N : NumberedInstance) (first k : ℕ) → k < length N.symbols - first → null_at (nulls_from N first) k ≡ null_under N (first + k)
 nulls_at N first k h =
     let c : ℕ = length N.symbols - first in
     get_or-map (null_under N) (range_with_len first c) k 0 (record { rule = 0; var = 0; row = 0 }) (rw (length-range_with_len first c) h)
@@ -175,7 +174,7 @@ range_ascends f a (suc n) h = (first, range_ascends f (a + 1) n (λ x y p q r. h
         let r = from_range (a + 1) n w.0 w.1 in
         rw (← w.2) (h a w.0 (omega arith) (omega (arith, r.0)) (omega (arith, r.1)))
 
-pub nulls_up : (N : Numbered) (first : ℕ) → IsFirstNull N first → NullsAscend (nulls_from N first)
+pub nulls_up : (N : NumberedInstance) (first : ℕ) → IsFirstNull N first → NullsAscend (nulls_from N first)
 nulls_up N first s = range_ascends (null_under N) first (length N.symbols - first) less
   where
     less : (x y : ℕ) → first ≤ x → x < y → y < first + (length N.symbols - first) → null_cmp (null_under N x) (null_under N y) ≡ Less
@@ -186,10 +185,10 @@ nulls_up N first s = range_ascends (null_under N) first (length N.symbols - firs
         rw (s.nulls x l (omega arith), s.nulls y (omega arith) below) at e
 
 -- each null of a row is listed
-pub row_known : (N : Numbered) (first : ℕ) (a : At) (m : NullId) → PartsFit N.symbols N.tables → IsFirstNull N first → IsRow N a
+pub row_known : (N : NumberedInstance) (first : ℕ) (a : At) (m : NullId) → PartsFit N.symbols N.tables → IsFirstNull N first → IsRowIn N a
     → Null m ∈ (fact_of N a).row → m ∈ nulls_from N first
 row_known N first a m f s r i =
-    let w = from_map (value_of N.symbols) (numbers_of N a) (rw (row_is N a r) at i) in
+    let w = from_map (value_of N.symbols) (row_numbers N a) (rw (row_is N a r) at i) in
     let below = row_below N a f r w.0 w.1 in
     elim (cases_lt w.0 first) [
       | inl l ↦ absurd (s.constants w.0 l m w.2)

@@ -25,7 +25,7 @@ use Rattle.dx_instance.specs.Stored.{TableRows, facts, rows_of}
 use Rattle.dx_instance.specs.Places.{row_at}
 use Rattle.dx_instance.specs.Cells.{NumberTable, NumbersAscend, numbers_at}
 use Rattle.dx_instance.specs.Numbers.{value_of}
-use Rattle.dx_instance.specs.Shown.{Numbered, PartsFit, numbers_of_table, shown, shown_row, shown_tables}
+use Rattle.dx_instance.specs.Shown.{NumberedInstance, PartsFit, numbers_of_table, shown, shown_row, shown_tables}
 use Rattle.dx_instance.proofs.ShownFacts.{row_less, is_shown}
 use Rattle.dx_instance.proofs.StoredFacts.{row_from_fact, fact_from_row, fact_table}
 use Rattle.dx_blocks.specs.declared.block.Block.{Block}
@@ -33,8 +33,8 @@ use Rattle.dx_blocks.specs.declared.numbered.At.{At}
 use Rattle.dx_blocks.specs.declared.numbered.NumberBlock.{NumberBlock}
 use Rattle.dx_blocks.specs.Blocks.{AreBlocks, IsBlockOf, least}
 use Rattle.dx_blocks.specs.Labels.{AreFilled, AreLabels, has_nulls}
-use Rattle.dx_blocks.specs.Numbered.{IsOfNumbers, IsRow, fact_of, shown_block}
-use Rattle.dx_blocks.specs.NullRows.{AreNullRows, AreUsed, IsBefore, IsFirstNull, facts_of, has_numbers, nulls_from, numbers_of, shown_blocks}
+use Rattle.dx_blocks.specs.Numbered.{IsOfNumbers, IsRowIn, fact_of, shown_block}
+use Rattle.dx_blocks.specs.NullRows.{AreNullRows, AreBlocksOfRows, IsRowBefore, IsFirstNull, facts_of, has_numbers, nulls_from, row_numbers, shown_blocks}
 use Rattle.dx_blocks.proofs.Connections.{connected_more}
 use Rattle.dx_blocks.proofs.BlockParts.{filled_are}
 use Rattle.dx_blocks.proofs.NullRowFacts.{row_is, row_below, nulls_up, same_table}
@@ -42,30 +42,30 @@ use Rattle.dx_blocks.proofs.NumberLabelling.{rows_known}
 
 -- ---- facts in order
 
-abbrev AllAscend : Numbered → Type 0
+abbrev AllAscend : NumberedInstance → Type 0
 AllAscend N = Each N.tables (λ (t : NumberTable). NumbersAscend t.rows)
 
-rows_less : (N : Numbered) (first : ℕ) (a b : At) → PartsFit N.symbols N.tables → IsFirstNull N first → AllAscend N → IsRow N a → IsRow N b
+rows_less : (N : NumberedInstance) (first : ℕ) (a b : At) → PartsFit N.symbols N.tables → IsFirstNull N first → AllAscend N → IsRowIn N a → IsRowIn N b
     → a.table ≡ b.table → a.place < b.place → row_cmp (fact_of N a).row (fact_of N b).row ≡ Less
 rows_less N first a b f s up x y e l =
     let t : NumberTable = numbers_of_table N.tables b.table in
     let there_is : t ∈ N.tables = rw (same_table N b.table y.table) (in_at N.tables b.table t y.table) in
     let less : slice_cmp nat_cmp (numbers_at t.rows a.place) (numbers_at t.rows b.place) ≡ Less = up t there_is a.place b.place [] l y.place in
-    let same : numbers_of N a ≡ numbers_at t.rows a.place = ap (λ (n : ℕ). numbers_at (numbers_of_table N.tables n).rows a.place) e in
+    let same : row_numbers N a ≡ numbers_at t.rows a.place = ap (λ (n : ℕ). numbers_at (numbers_of_table N.tables n).rows a.place) e in
     rw (row_is N a x, row_is N b y)
-    (row_less N.symbols (numbers_of N a) (numbers_of N b) s.ascend (row_below N a f x) (row_below N b f y)
-    ∙ (ap (λ (r : List ℕ). slice_cmp nat_cmp r (numbers_of N b)) same ∙ less))
+    (row_less N.symbols (row_numbers N a) (row_numbers N b) s.ascend (row_below N a f x) (row_below N b f y)
+    ∙ (ap (λ (r : List ℕ). slice_cmp nat_cmp r (row_numbers N b)) same ∙ less))
 
-fact_less : (N : Numbered) (first : ℕ) (a b : At) → PartsFit N.symbols N.tables → IsFirstNull N first → AllAscend N → IsRow N a → IsRow N b
-    → IsBefore b.table b.place a → fact_cmp (fact_of N a) (fact_of N b) ≡ Less
+fact_less : (N : NumberedInstance) (first : ℕ) (a b : At) → PartsFit N.symbols N.tables → IsFirstNull N first → AllAscend N → IsRowIn N a → IsRowIn N b
+    → IsRowBefore b.table b.place a → fact_cmp (fact_of N a) (fact_of N b) ≡ Less
 fact_less N first a b f s up x y (inl l) = rw (nat_less a.table b.table l) refl
 fact_less N first a b f s up x y (inr l) =
     let rest = rows_less N first a b f s up x y l.0 l.1 in
     let head : nat_cmp a.table b.table ≡ nat_cmp b.table b.table = ap (λ (n : ℕ). nat_cmp n b.table) l.0 in
     rw (head, nat_self b.table) rest
 
-ascend_all : (N : Numbered) (first : ℕ) (rows : List At) → PartsFit N.symbols N.tables → IsFirstNull N first → AllAscend N
-    → Each rows (IsRow N) → Ascends (λ (a b : At). IsBefore b.table b.place a) rows → FactsAscend (facts_of N rows)
+ascend_all : (N : NumberedInstance) (first : ℕ) (rows : List At) → PartsFit N.symbols N.tables → IsFirstNull N first → AllAscend N
+    → Each rows (IsRowIn N) → Ascends (λ (a b : At). IsRowBefore b.table b.place a) rows → FactsAscend (facts_of N rows)
 ascend_all N first [] f s up r w = tt
 ascend_all N first (a ∷ rows) f s up r w = (
   (λ g m.
@@ -74,10 +74,10 @@ ascend_all N first (a ∷ rows) f s up r w = (
   ascend_all N first rows f s up (λ b m. r b (there m)) w.1,
 )
 
-pub rows_there : (N : Numbered) (first t p : ℕ) (rows : List At) → AreNullRows N first t p rows → Each rows (IsRow N)
+pub rows_there : (N : NumberedInstance) (first t p : ℕ) (rows : List At) → AreNullRows N first t p rows → Each rows (IsRowIn N)
 rows_there N first t p rows r a m = (r.each a m).0
 
-pub facts_up : (N : Numbered) (first t p : ℕ) (rows : List At) → PartsFit N.symbols N.tables → IsFirstNull N first → AllAscend N
+pub facts_up : (N : NumberedInstance) (first t p : ℕ) (rows : List At) → PartsFit N.symbols N.tables → IsFirstNull N first → AllAscend N
     → AreNullRows N first t p rows → FactsAscend (facts_of N rows)
 facts_up N first t p rows f s up r = ascend_all N first rows f s up (rows_there N first t p rows r) r.ascend
 
@@ -116,7 +116,7 @@ module _ (A B : List Fact) (part : B ⊆ A) (all : (f : Fact) (n : NullId) → f
 
 -- ---- rows and facts
 
-pub facts_inside : (N : Numbered) (rows : List At) → Each rows (IsRow N) → facts_of N rows ⊆ facts (shown_tables N.symbols N.tables)
+pub facts_inside : (N : NumberedInstance) (rows : List At) → Each rows (IsRowIn N) → facts_of N rows ⊆ facts (shown_tables N.symbols N.tables)
 facts_inside N rows r f m =
     let k = from_map (fact_of N) rows m in
     let w = r k.0 k.1 in
@@ -128,7 +128,7 @@ facts_inside N rows r f m =
     rw (← k.2) (fact_from_row I k.0.table (row_at I k.0.table k.0.place) (in_at (rows_of I k.0.table) k.0.place [] long))
 
 -- a fact with a null is that of a row that was found
-pub facts_found : (N : Numbered) (first : ℕ) (rows : List At) → PartsFit N.symbols N.tables → IsFirstNull N first
+pub facts_found : (N : NumberedInstance) (first : ℕ) (rows : List At) → PartsFit N.symbols N.tables → IsFirstNull N first
     → AreNullRows N first (length N.tables) 0 rows → (f : Fact) (m : NullId) → f ∈ facts (shown_tables N.symbols N.tables) → Null m ∈ f.row
     → f ∈ facts_of N rows
 facts_found N first rows p s r f m i j =
@@ -145,9 +145,9 @@ facts_found N first rows p s r f m i j =
         → get_or (rows_of (shown_tables N.symbols N.tables) f.table) k [] ≡ f.row → f ∈ facts_of N rows
     found k h l e =
         let a : At = record { table = f.table; place = k } in
-        let w : IsRow N a = record { table = h; place = l } in
+        let w : IsRowIn N a = record { table = h; place = l } in
         let is : (fact_of N a).row ≡ f.row = e in
-        let v = from_map (value_of N.symbols) (numbers_of N a) (rw (← is, row_is N a w) at j) in
+        let v = from_map (value_of N.symbols) (row_numbers N a) (rw (← is, row_is N a w) at j) in
         let after : first ≤ v.0 = elim (cases_lt v.0 first) [ inl b ↦ absurd (s.constants v.0 b m v.2) | inr b ↦ b ] in
         let there_is : a ∈ rows = r.all a v.0 w (inl h) v.1 after in
         let fact_is : fact_of N a ≡ f = (λ i. record { table = f.table; row = is i }) in
@@ -155,19 +155,19 @@ facts_found N first rows p s r f m i j =
 
 -- ---- those with nulls
 
-shown_has : (N : Numbered) (b : NumberBlock) → has_nulls (shown_block N b) ≡ has_numbers b
+shown_has : (N : NumberedInstance) (b : NumberBlock) → has_nulls (shown_block N b) ≡ has_numbers b
 shown_has N b = ap (nat_lt 0) (length-map b.nulls _)
 
-pub shown_kept : (N : Numbered) (bs : List NumberBlock) → shown_blocks N (filter has_numbers bs) ≡ filter has_nulls (shown_blocks N bs)
+pub shown_kept : (N : NumberedInstance) (bs : List NumberBlock) → shown_blocks N (filter has_numbers bs) ≡ filter has_nulls (shown_blocks N bs)
 shown_kept N [] = refl
 shown_kept N (b ∷ bs) = elim (cases_Bool (has_numbers b)) [
   | inl t ↦ rw (shown_has N b, t) (ap (λ (cs : List Block). shown_block N b ∷ cs) (shown_kept N bs))
   | inr f ↦ rw (shown_has N b, f) (shown_kept N bs)
 ]
 
-pub blocks_made : (N : Numbered) (first : ℕ) (rows : List At) (labels : List ℕ) (bs : List NumberBlock) → PartsFit N.symbols N.tables
+pub blocks_made : (N : NumberedInstance) (first : ℕ) (rows : List At) (labels : List ℕ) (bs : List NumberBlock) → PartsFit N.symbols N.tables
     → IsFirstNull N first → AreNullRows N first (length N.tables) 0 rows → AreLabels (facts_of N rows) (nulls_from N first) labels
-    → AreUsed N first rows labels bs
+    → AreBlocksOfRows N first rows labels bs
     → AreBlocks (facts (shown_tables N.symbols N.tables)) (shown_blocks N (filter has_numbers bs))
 blocks_made N first rows labels bs f s r g u =
     let there_all = rows_there N first (length N.tables) 0 rows r in
@@ -177,23 +177,23 @@ blocks_made N first rows labels bs f s r g u =
     (facts_found N first rows f s r) (filter has_nulls (shown_blocks N bs)) made)
 
 -- the same, as the list of blocks is written back
-pub made_ok : (r : Result (Vec NumberBlock Global) AllocError) (N : Numbered) (first : ℕ) (rows : List At) (labels : List ℕ)
+pub made_ok : (r : Result (Vec NumberBlock Global) AllocError) (N : NumberedInstance) (first : ℕ) (rows : List At) (labels : List ℕ)
     (bs rest : List NumberBlock) (n : ℕ) → PartsFit N.symbols N.tables → IsFirstNull N first → AreNullRows N first (length N.tables) 0 rows
-    → AreLabels (facts_of N rows) (nulls_from N first) labels → AreUsed N first rows labels bs → length bs ≡ n
+    → AreLabels (facts_of N rows) (nulls_from N first) labels → AreBlocksOfRows N first rows labels bs → length bs ≡ n
     → IfOk r (λ v. v.items ≡ filter has_numbers (take n (bs ++ rest)))
     → IfOk r (λ v. AreBlocks (facts (shown_tables N.symbols N.tables)) (map (shown_block N) v.items))
 made_ok (Ok v) N first rows labels bs rest n f s r g u l e =
     rw (e ∙ ap (filter has_numbers) (take_at bs rest n l)) (blocks_made N first rows labels bs f s r g u)
 made_ok (Err x) N first rows labels bs rest n f s r g u l e = tt
 
-pub within_ok : (r : Result (Vec NumberBlock Global) AllocError) (N : Numbered) (bs rest : List NumberBlock) (n : ℕ) → Each bs (IsOfNumbers N)
+pub within_ok : (r : Result (Vec NumberBlock Global) AllocError) (N : NumberedInstance) (bs rest : List NumberBlock) (n : ℕ) → Each bs (IsOfNumbers N)
     → length bs ≡ n → IfOk r (λ v. v.items ≡ filter has_numbers (take n (bs ++ rest))) → IfOk r (λ v. Each v.items (IsOfNumbers N))
 within_ok (Ok v) N bs rest n w l e =
     rw (e ∙ ap (filter has_numbers) (take_at bs rest n l)) (λ b m. w b (from_filter has_numbers bs m).0)
 within_ok (Err x) N bs rest n w l e = tt
 
 -- how many blocks there are
-pub filled_many : (N : Numbered) (A : List Fact) (ns some : List NullId) (labels : List ℕ) (bs : List NumberBlock)
+pub filled_many : (N : NumberedInstance) (A : List Fact) (ns some : List NullId) (labels : List ℕ) (bs : List NumberBlock)
     → AreFilled ns labels some A (shown_blocks N bs) → length bs ≡ length ns
 filled_many N A ns some labels bs f = sym (length-map bs (shown_block N)) ∙ f.many
 
@@ -202,7 +202,7 @@ pub written : (Q J rest : List NumberBlock) (n : ℕ) → Q ≡ take n (J ++ res
 written Q J rest n q l = q ∙ take_at J rest n l
 
 -- as many as there are labels
-pub as_many : (N : Numbered) (A B : List Fact) (ns some : List NullId) (labels : List ℕ) (start bs : List NumberBlock) (n : ℕ)
+pub as_many : (N : NumberedInstance) (A B : List Fact) (ns some : List NullId) (labels : List ℕ) (start bs : List NumberBlock) (n : ℕ)
     → AreLabels B ns labels → AreFilled ns labels some A (shown_blocks N bs) → start ≡ replicate (length labels) (record { nulls = []; rows = [] })
     → n ≡ length start → length bs ≡ n
 as_many N A B ns some labels start bs n g f e l =

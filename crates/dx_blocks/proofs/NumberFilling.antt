@@ -10,17 +10,17 @@ use Rattle.dx_model.specs.declared.values.NullId.{NullId}
 use Rattle.dx_model.specs.declared.values.Value.{Value}
 use Rattle.dx_model.specs.declared.values.Value.TheVariants.{Null}
 use Rattle.dx_model.specs.declared.facts.Fact.{Fact}
-use Rattle.dx_model.specs.Values.{FactsAscend, null_cmp}
+use Rattle.dx_model.specs.Values.{FactsAscend, null_cmp, null_at}
 use Rattle.std.specs.declared.cmp.Ordering.TheVariants.{Less}
 use Rattle.dx_model.specs.Instances.{values}
-use Rattle.dx_instance.specs.Shown.{Numbered, PartsFit, shown_row}
+use Rattle.dx_instance.specs.Shown.{NumberedInstance, PartsFit, shown_row}
 use Rattle.dx_blocks.specs.declared.block.Block.{Block}
 use Rattle.dx_blocks.specs.declared.numbered.At.{At}
 use Rattle.dx_blocks.specs.declared.numbered.NumberBlock.{NumberBlock}
-use Rattle.dx_blocks.specs.Nulls.{StandsIn, null_at}
+use Rattle.dx_blocks.specs.Nulls.{StandsIn}
 use Rattle.dx_blocks.specs.Labels.{AreFilled, AreLabels, HasLabel, HoldsLabel, block_at}
-use Rattle.dx_blocks.specs.Numbered.{IsNullNumber, IsOfNumbers, IsRow, fact_of, null_under, shown_block}
-use Rattle.dx_blocks.specs.NullRows.{AreUsed, IsFirstNull, facts_of, nulls_from, numbers_of, shown_blocks}
+use Rattle.dx_blocks.specs.Numbered.{IsNullNumber, IsOfNumbers, IsRowIn, fact_of, null_under, shown_block}
+use Rattle.dx_blocks.specs.NullRows.{AreBlocksOfRows, IsFirstNull, facts_of, nulls_from, row_numbers, shown_blocks}
 use Rattle.dx_blocks.proofs.Connections.{connected_there}
 use Rattle.dx_blocks.proofs.NullLists.{ascends_at, place_there}
 use Rattle.dx_blocks.proofs.Filling.{fact_filled, fact_passed, null_put, start_filled}
@@ -35,10 +35,10 @@ number_block_at bs k = get_or bs k (record { nulls = []; rows = [] })
 
 -- ---- a block read or changed
 
-block_shown : (N : Numbered) (bs : List NumberBlock) (l : ℕ) → l < length bs → block_at (shown_blocks N bs) l ≡ shown_block N (number_block_at bs l)
+block_shown : (N : NumberedInstance) (bs : List NumberBlock) (l : ℕ) → l < length bs → block_at (shown_blocks N bs) l ≡ shown_block N (number_block_at bs l)
 block_shown N bs l h = get_or-map (shown_block N) bs l (record { nulls = []; rows = [] }) (record { nulls = []; facts = [] }) h
 
-blocks_set : (N : Numbered) (bs : List NumberBlock) (l : ℕ) (b : NumberBlock) → shown_blocks N (set bs l b) ≡ set (shown_blocks N bs) l (shown_block N b)
+blocks_set : (N : NumberedInstance) (bs : List NumberBlock) (l : ℕ) (b : NumberBlock) → shown_blocks N (set bs l b) ≡ set (shown_blocks N bs) l (shown_block N b)
 blocks_set N bs l b = map-set (shown_block N) bs l b
 
 pub each_set : {X : Type 0} (P : X → Type 0) (xs : List X) (i : ℕ) (y : X) → Each xs P → P y → Each (set xs i y) P
@@ -57,7 +57,7 @@ each_push P xs y e p x m = elim (from_append xs m) [ inl k ↦ e x k | inr k ↦
 
 -- ---- the start
 
-pub start_shown : (N : Numbered) (ns : List NullId) (labels : List ℕ) (bs : List NumberBlock)
+pub start_shown : (N : NumberedInstance) (ns : List NullId) (labels : List ℕ) (bs : List NumberBlock)
     → bs ≡ replicate (length ns) (record { nulls = []; rows = [] }) → AreFilled ns labels [] [] (shown_blocks N bs)
 start_shown N ns labels bs e = start_filled ns labels (shown_blocks N bs) (rw e (empty (length ns)))
   where
@@ -65,7 +65,7 @@ start_shown N ns labels bs e = start_filled ns labels (shown_blocks N bs) (rw e 
     empty zero = refl
     empty (suc n) = ap (λ (bs : List Block). record { nulls = []; facts = [] } ∷ bs) (empty n)
 
-pub start_within : (N : Numbered) (n : ℕ) (bs : List NumberBlock) → bs ≡ replicate n (record { nulls = []; rows = [] }) → Each bs (IsOfNumbers N)
+pub start_within : (N : NumberedInstance) (n : ℕ) (bs : List NumberBlock) → bs ≡ replicate n (record { nulls = []; rows = [] }) → Each bs (IsOfNumbers N)
 start_within N n bs e = rw e (empty n)
   where
     empty : (n : ℕ) → Each (replicate n (record { nulls = []; rows = [] })) (IsOfNumbers N)
@@ -75,14 +75,14 @@ start_within N n bs e = rw e (empty n)
 
 -- ---- one row more
 
-pub record RowsPut (N : Numbered) (first : ℕ) (rows : List At) (labels : List ℕ) (i : ℕ) (bs : List NumberBlock) : Type 0 where
+pub record RowsPut (N : NumberedInstance) (first : ℕ) (rows : List At) (labels : List ℕ) (i : ℕ) (bs : List NumberBlock) : Type 0 where
   pub filled : AreFilled (nulls_from N first) labels [] (take i (facts_of N rows)) (shown_blocks N bs)
   pub within : Each bs (IsOfNumbers N)
 
-module _ (N : Numbered) (first : ℕ) (rows : List At) (labels : List ℕ) (bs : List NumberBlock) (i : ℕ) (a : At) (f : PartsFit N.symbols N.tables)
-    (s : IsFirstNull N first) (r : Each rows (IsRow N)) (h : i < length rows) (e : a ≡ get_or rows i a)
+module _ (N : NumberedInstance) (first : ℕ) (rows : List At) (labels : List ℕ) (bs : List NumberBlock) (i : ℕ) (a : At) (f : PartsFit N.symbols N.tables)
+    (s : IsFirstNull N first) (r : Each rows (IsRowIn N)) (h : i < length rows) (e : a ≡ get_or rows i a)
     (x : RowsPut N first rows labels i bs) where
-  a_row : IsRow N a
+  a_row : IsRowIn N a
   a_row = r a (rw (← e) at (in_at rows i a h))
 
   long : i < length (facts_of N rows)
@@ -97,17 +97,17 @@ module _ (N : Numbered) (first : ℕ) (rows : List At) (labels : List ℕ) (bs :
   more : take (i + 1) (facts_of N rows) ≡ take i (facts_of N rows) ++ fact_of N a ∷ []
   more = take_more (facts_of N rows) i (fact_of N a) long ∙ ap (λ (g : Fact). take i (facts_of N rows) ++ g ∷ []) (sym is)
 
-  pub row_skipped : Each (numbers_of N a) (λ n. n < first) → RowsPut N first rows labels (i + 1) bs
+  pub row_skipped : Each (row_numbers N a) (λ n. n < first) → RowsPut N first rows labels (i + 1) bs
   row_skipped none = record {
     filled = rw more (fact_passed (facts_of N rows) (nulls_from N first) [] labels (shown_blocks N bs) (take i (facts_of N rows))
         (drop (i + 1) (facts_of N rows)) (fact_of N a) cut x.filled (no_nulls N first a s a_row none));
     within = x.within;
   }
 
-  module _ (n : ℕ) (m : n ∈ numbers_of N a) (l : first ≤ n) (g : AreLabels (facts_of N rows) (nulls_from N first) labels) where
+  module _ (n : ℕ) (m : n ∈ row_numbers N a) (l : first ≤ n) (g : AreLabels (facts_of N rows) (nulls_from N first) labels) where
     here_it : StandsIn (nulls_from N first) (fact_of N a).row (n - first)
     here_it = subst (λ (vs : List Value). StandsIn (nulls_from N first) vs (n - first)) (sym (row_is N a a_row))
-        (stands N first n (numbers_of N a) s (row_below N a f a_row) m l)
+        (stands N first n (row_numbers N a) s (row_below N a f a_row) m l)
 
     pub label_within : n - first < length labels
     label_within = rw (g.many) here_it.within
@@ -129,7 +129,7 @@ module _ (N : Numbered) (first : ℕ) (rows : List At) (labels : List ℕ) (bs :
           (ap (map (fact_of N)) er ∙ (map_push (fact_of N) (number_block_at bs (at labels (n - first))).rows a
           ∙ ap (λ (c : Block). c.facts ++ fact_of N a ∷ []) (sym (block_shown N bs (at labels (n - first)) block_within))))
           (ap (map (null_under N)) en ∙ ap (λ (c : Block). c.nulls) (sym (block_shown N bs (at labels (n - first)) block_within))));
-      within = each_set (IsOfNumbers N) bs (at labels (n - first)) b x.within (record { nulls = rw en old.nulls; rows = rw er (each_push (IsRow N) _ a old.rows a_row) });
+      within = each_set (IsOfNumbers N) bs (at labels (n - first)) b x.within (record { nulls = rw en old.nulls; rows = rw er (each_push (IsRowIn N) _ a old.rows a_row) });
     }
       where
         old : IsOfNumbers N (number_block_at bs (at labels (n - first)))
@@ -141,13 +141,13 @@ module _ (N : Numbered) (first : ℕ) (rows : List At) (labels : List ℕ) (bs :
         let same = get_or_default bs (at labels (n - first)) (record { nulls = []; rows = [] }) r block_within in
         row_put b up (er ∙ ap (λ (c : NumberBlock). c.rows ++ a ∷ []) (sym same)) (en ∙ ap (λ (c : NumberBlock). c.nulls) (sym same))
 
-pub rows_put : (N : Numbered) (first : ℕ) (rows : List At) (labels : List ℕ) (i : ℕ) (bs : List NumberBlock) → length rows ≤ i
+pub rows_put : (N : NumberedInstance) (first : ℕ) (rows : List At) (labels : List ℕ) (i : ℕ) (bs : List NumberBlock) → length rows ≤ i
     → RowsPut N first rows labels i bs → AreFilled (nulls_from N first) labels [] (facts_of N rows) (shown_blocks N bs)
 rows_put N first rows labels i bs h x = rw (take_all i (facts_of N rows) (rw (length-map rows (fact_of N)) h)) at x.filled
 
 -- ---- one null more
 
-pub record NullsPut (N : Numbered) (first : ℕ) (rows : List At) (labels : List ℕ) (i : ℕ) (bs : List NumberBlock) : Type 0 where
+pub record NullsPut (N : NumberedInstance) (first : ℕ) (rows : List At) (labels : List ℕ) (i : ℕ) (bs : List NumberBlock) : Type 0 where
   pub some : List NullId
   pub only : (n : NullId) → n ∈ some → Null n ∈ values (facts_of N rows)
   pub all : (k : ℕ) → k < i → Null (null_at (nulls_from N first) k) ∈ values (facts_of N rows) → null_at (nulls_from N first) k ∈ some
@@ -155,7 +155,7 @@ pub record NullsPut (N : Numbered) (first : ℕ) (rows : List At) (labels : List
   pub filled : AreFilled (nulls_from N first) labels some (facts_of N rows) (shown_blocks N bs)
   pub within : Each bs (IsOfNumbers N)
 
-pub nulls_start : (N : Numbered) (first : ℕ) (rows : List At) (labels : List ℕ) (bs : List NumberBlock)
+pub nulls_start : (N : NumberedInstance) (first : ℕ) (rows : List At) (labels : List ℕ) (bs : List NumberBlock)
     → AreFilled (nulls_from N first) labels [] (facts_of N rows) (shown_blocks N bs) → Each bs (IsOfNumbers N) → NullsPut N first rows labels 0 bs
 nulls_start N first rows labels bs f w = record {
   some = [];
@@ -174,7 +174,7 @@ none_in : (fs : List Fact) (f : Fact) → length fs ≤ 0 → ¬ (f ∈ fs)
 none_in [] f h m = elim m [ ]
 none_in (g ∷ fs) f h m = absurd (omega arith)
 
-module _ (N : Numbered) (first : ℕ) (rows : List At) (labels : List ℕ) (bs : List NumberBlock) (i : ℕ)
+module _ (N : NumberedInstance) (first : ℕ) (rows : List At) (labels : List ℕ) (bs : List NumberBlock) (i : ℕ)
     (s : IsFirstNull N first) (g : AreLabels (facts_of N rows) (nulls_from N first) labels) (h : i < length labels)
     (x : NullsPut N first rows labels i bs) where
   inside : i < length (nulls_from N first)
@@ -282,9 +282,9 @@ module _ (N : Numbered) (first : ℕ) (rows : List At) (labels : List ℕ) (bs :
   pub number_low : first + i < length N.symbols
   number_low = is_number.within
 
-pub nulls_put : (N : Numbered) (first : ℕ) (rows : List At) (labels : List ℕ) (i : ℕ) (bs : List NumberBlock) → PartsFit N.symbols N.tables
-    → IsFirstNull N first → Each rows (IsRow N) → AreLabels (facts_of N rows) (nulls_from N first) labels → length labels ≤ i
-    → NullsPut N first rows labels i bs → AreUsed N first rows labels bs
+pub nulls_put : (N : NumberedInstance) (first : ℕ) (rows : List At) (labels : List ℕ) (i : ℕ) (bs : List NumberBlock) → PartsFit N.symbols N.tables
+    → IsFirstNull N first → Each rows (IsRowIn N) → AreLabels (facts_of N rows) (nulls_from N first) labels → length labels ≤ i
+    → NullsPut N first rows labels i bs → AreBlocksOfRows N first rows labels bs
 nulls_put N first rows labels i bs f s r g h x = record {
   some = x.some;
   exactly = λ n. (x.only n, to n);

@@ -9,32 +9,33 @@ use Rattle.dx_model.specs.declared.values.Value.{Value}
 use Rattle.dx_model.specs.declared.values.Value.TheVariants.{Null}
 use Rattle.dx_model.specs.declared.facts.Fact.{Fact}
 use Rattle.dx_instance.specs.Numbers.{value_of}
-use Rattle.dx_instance.specs.Shown.{Numbered, PartsFit, AreBelow, shown_row}
+use Rattle.dx_instance.specs.Shown.{NumberedInstance, PartsFit, AreBelow, shown_row}
 use Rattle.dx_blocks.specs.declared.numbered.At.{At}
-use Rattle.dx_blocks.specs.Nulls.{StandsIn, null_at}
-use Rattle.dx_blocks.specs.Forest.{IsJoin}
+use Rattle.dx_blocks.specs.Nulls.{StandsIn}
+use Rattle.dx_model.specs.Values.{null_at}
+use Rattle.dx_blocks.specs.Forest.{IsTreeUnion}
 use Rattle.dx_blocks.specs.Labels.{JoinsRow, JoinsAll}
-use Rattle.dx_blocks.specs.Numbered.{IsRow, fact_of, null_under}
-use Rattle.dx_blocks.specs.NullRows.{IsFirstNull, facts_of, nulls_from, numbers_of}
+use Rattle.dx_blocks.specs.Numbered.{IsRowIn, fact_of, null_under}
+use Rattle.dx_blocks.specs.NullRows.{IsFirstNull, facts_of, nulls_from, row_numbers}
 use Rattle.dx_blocks.proofs.Labelling.{RowSoFar, AllSoFar, Knows, null_more, no_null_more, row_joined, fact_joined, fact_passed}
 use Rattle.dx_blocks.proofs.NullRowFacts.{nulls_at, nulls_many, nulls_up, row_is, row_below, row_known}
 
 -- the place of a null in the list of those from the first on
-pub place_of_number : (N : Numbered) (first n : ℕ) → first ≤ n → n < length N.symbols
+pub place_of_number : (N : NumberedInstance) (first n : ℕ) → first ≤ n → n < length N.symbols
     → (n - first < length (nulls_from N first)) × (null_at (nulls_from N first) (n - first) ≡ null_under N n)
 place_of_number N first n l h =
     let w : n - first < length N.symbols - first = omega arith in
     let e : first + (n - first) ≡ n = omega arith in
     (rw (nulls_many N first) w, nulls_at N first (n - first) w ∙ ap (null_under N) e)
 
-pub stands : (N : Numbered) (first n : ℕ) (row : List ℕ) → IsFirstNull N first → AreBelow (length N.symbols) row → n ∈ row → first ≤ n
+pub stands : (N : NumberedInstance) (first n : ℕ) (row : List ℕ) → IsFirstNull N first → AreBelow (length N.symbols) row → n ∈ row → first ≤ n
     → StandsIn (nulls_from N first) (shown_row N.symbols row) (n - first)
 stands N first n row s b m l =
     let w = place_of_number N first n l (b n m) in
     let e : value_of N.symbols n ≡ Null (null_at (nulls_from N first) (n - first)) = s.nulls n l (b n m) ∙ ap Null (sym w.1) in
     record { within = w.0; there = subst (λ (v : Value). v ∈ shown_row N.symbols row) e (in_map (value_of N.symbols) m) }
 
-module _ (N : Numbered) (first one : ℕ) (row : List ℕ) (s : IsFirstNull N first) (b : AreBelow (length N.symbols) row) (P Q : List ℕ) (i : ℕ)
+module _ (N : NumberedInstance) (first one : ℕ) (row : List ℕ) (s : IsFirstNull N first) (b : AreBelow (length N.symbols) row) (P Q : List ℕ) (i : ℕ)
     (h : i < length row)
     (r : RowSoFar (nulls_from N first) (shown_row N.symbols row) (take i (shown_row N.symbols row)) (one - first) P Q) where
   abbrev v : Value
@@ -49,7 +50,7 @@ module _ (N : Numbered) (first one : ℕ) (row : List ℕ) (s : IsFirstNull N fi
   below : get_or row i 0 < length N.symbols
   below = b (get_or row i 0) (in_at row i 0 h)
 
-  pub number_joined : (R : List ℕ) → one ∈ row → first ≤ one → first ≤ get_or row i 0 → IsJoin Q R (one - first) (get_or row i 0 - first)
+  pub number_joined : (R : List ℕ) → one ∈ row → first ≤ one → first ≤ get_or row i 0 → IsTreeUnion Q R (one - first) (get_or row i 0 - first)
       → RowSoFar (nulls_from N first) (shown_row N.symbols row) (take (i + 1) (shown_row N.symbols row)) (one - first) P R
   number_joined R m l k j =
       let w = place_of_number N first (get_or row i 0) k below in
@@ -60,7 +61,7 @@ module _ (N : Numbered) (first one : ℕ) (row : List ℕ) (s : IsFirstNull N fi
       → RowSoFar (nulls_from N first) (shown_row N.symbols row) (take (i + 1) (shown_row N.symbols row)) (one - first) P Q
   number_passed k = no_null_more (nulls_from N first) (shown_row N.symbols row) (one - first) P Q i v within is r (s.constants (get_or row i 0) k)
 
-pub numbers_joined : (N : Numbered) (first place i : ℕ) (a : At) (row : List ℕ) (P Q : List ℕ) → IsRow N a → row ≡ numbers_of N a → length row ≤ i
+pub numbers_joined : (N : NumberedInstance) (first place i : ℕ) (a : At) (row : List ℕ) (P Q : List ℕ) → IsRowIn N a → row ≡ row_numbers N a → length row ≤ i
     → RowSoFar (nulls_from N first) (shown_row N.symbols row) (take i (shown_row N.symbols row)) place P Q
     → JoinsRow (nulls_from N first) (fact_of N a).row P Q
 numbers_joined N first place i a row P Q r e h s =
@@ -69,20 +70,20 @@ numbers_joined N first place i a row P Q r e h s =
     subst (λ (vs : List Value). JoinsRow (nulls_from N first) vs P Q) (ap (shown_row N.symbols) e ∙ sym (row_is N a r)) j
 
 -- a row without nulls
-pub no_nulls : (N : Numbered) (first : ℕ) (a : At) → IsFirstNull N first → IsRow N a → Each (numbers_of N a) (λ n. n < first)
+pub no_nulls : (N : NumberedInstance) (first : ℕ) (a : At) → IsFirstNull N first → IsRowIn N a → Each (row_numbers N a) (λ n. n < first)
     → (m : NullId) → ¬ (Null m ∈ (fact_of N a).row)
 no_nulls N first a s r none m i =
-    let w = from_map (value_of N.symbols) (numbers_of N a) (rw (row_is N a r) at i) in
+    let w = from_map (value_of N.symbols) (row_numbers N a) (rw (row_is N a r) at i) in
     s.constants w.0 (none w.0 w.1) m w.2
 
-pub rows_known : (N : Numbered) (first : ℕ) (rows : List At) → PartsFit N.symbols N.tables → IsFirstNull N first → Each rows (IsRow N)
+pub rows_known : (N : NumberedInstance) (first : ℕ) (rows : List At) → PartsFit N.symbols N.tables → IsFirstNull N first → Each rows (IsRowIn N)
     → Knows (facts_of N rows) (nulls_from N first)
 rows_known N first rows f s r m v =
     let w = from_flat_map (λ (g : Fact). g.row) (facts_of N rows) v in
     let k = from_map (fact_of N) rows w.1 in
     row_known N first k.0 m f s (r k.0 k.1) (rw (← k.2) at w.2)
 
-module _ (N : Numbered) (ns : List NullId) (rows : List At) (P Q : List ℕ) (i : ℕ) (a : At) (h : i < length rows) (e : a ≡ get_or rows i a)
+module _ (N : NumberedInstance) (ns : List NullId) (rows : List At) (P Q : List ℕ) (i : ℕ) (a : At) (h : i < length rows) (e : a ≡ get_or rows i a)
     (s : AllSoFar (facts_of N rows) (take i (facts_of N rows)) ns P Q) where
   fact_within : i < length (facts_of N rows)
   fact_within = rw (length-map rows (fact_of N)) h

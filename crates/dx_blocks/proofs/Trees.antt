@@ -7,8 +7,8 @@ use Rattle.dx_ports.proofs.Ranges.{range_more}
 use Rattle.dx_model.specs.declared.values.NullId.{NullId}
 use Rattle.dx_model.specs.declared.facts.Fact.{Fact}
 use Rattle.dx_model.specs.Blocks.{Connected, itself}
-use Rattle.dx_blocks.specs.Nulls.{null_at}
-use Rattle.dx_blocks.specs.Forest.{Falls, AreSameTrees, IsInTree, IsRootOf, IsJoin}
+use Rattle.dx_model.specs.Values.{null_at}
+use Rattle.dx_blocks.specs.Forest.{Falls, AreSameTrees, IsInTree, IsRootOf, IsTreeUnion}
 use Rattle.dx_blocks.proofs.Connections.{connected_trans, connected_sym}
 
 abbrev at : List ℕ → ℕ → ℕ
@@ -180,7 +180,7 @@ climbs_down P Q k r c n =
 
 module _ (P : List ℕ) (hi lo a b : ℕ) (f : Falls P) (h : hi < length P) (root : at P hi ≡ hi) (l : lo ≤ hi) where
   linked : ((c : ℕ → ℕ) → ((k : ℕ) → k < length P → c k ≡ c (at P k)) → c hi ≡ c lo → c a ≡ c b)
-      → ((A : List Fact) (ns : List NullId) → Links (Tie A ns) P → Tie A ns a b → Tie A ns hi lo) → IsJoin P (set P hi lo) a b
+      → ((A : List Fact) (ns : List NullId) → Links (Tie A ns) P → Tie A ns a b → Tie A ns hi lo) → IsTreeUnion P (set P hi lo) a b
   linked ends ties = record {
     many = length-set P hi lo;
     falls = falls_changed P hi lo h f l;
@@ -193,7 +193,7 @@ module _ (P : List ℕ) (hi lo a b : ℕ) (f : Falls P) (h : hi < length P) (roo
       before : (c : ℕ → ℕ) → Links (Label c) (set P hi lo) → Links (Label c) P
       before c r = links_before (Label c) (λ k. refl) (λ j k e. sym e) (λ i j k d e. d ∙ e) P hi h lo (ap c (sym root)) r
 
-join_then : (P Q R : List ℕ) (a b : ℕ) → AreSameTrees P Q → IsJoin Q R a b → IsJoin P R a b
+join_then : (P Q R : List ℕ) (a b : ℕ) → AreSameTrees P Q → IsTreeUnion Q R a b → IsTreeUnion P R a b
 join_then P Q R a b s j = record {
   many = j.many ∙ s.many;
   falls = j.falls;
@@ -207,13 +207,13 @@ module _ (P Q S : List ℕ) (a b x y : ℕ) (s : AreSameTrees P Q) (u : IsRootOf
   up : IsInTree S a x
   up = still_in_tree Q S a x t u.0
 
-  pub joined_below : x ≤ y → IsJoin P (set S y x) a b
+  pub joined_below : x ≤ y → IsTreeUnion P (set S y x) a b
   joined_below l = join_then P S (set S y x) a b (same_trees_then P Q S s t)
       (linked S y x a b t.falls (v.0).within v.1 l
       (λ c r e. up.respects c r ∙ (sym e ∙ sym ((v.0).respects c r)))
       (λ A ns r e. connected_trans (connected_sym ((v.0).tied A ns r)) (connected_trans (connected_sym e) (up.tied A ns r))))
 
-  pub joined_above : y ≤ x → IsJoin P (set S x y) a b
+  pub joined_above : y ≤ x → IsTreeUnion P (set S x y) a b
   joined_above l = join_then P S (set S x y) a b (same_trees_then P Q S s t)
       (linked S x y a b t.falls up.within (t.roots x (u.0).within u.1) l
       (λ c r e. up.respects c r ∙ (e ∙ sym ((v.0).respects c r)))

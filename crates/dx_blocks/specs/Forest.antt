@@ -3,7 +3,7 @@ use Rattle.std.specs.Prelude.{◌≡◌, ◌↔◌, ℕ, ◌<◌, ◌≤◌, Lis
 use Rattle.dx_model.specs.declared.values.NullId.{NullId}
 use Rattle.dx_model.specs.declared.facts.Fact.{Fact}
 use Rattle.dx_model.specs.Blocks.{Connected}
-use Rattle.dx_blocks.specs.Nulls.{null_at}
+use Rattle.dx_model.specs.Values.{null_at}
 
 -- each parent is no greater
 abbrev pub Falls : List ℕ → Type 0
@@ -14,8 +14,8 @@ abbrev pub Respects : List ℕ → (ℕ → ℕ) → Type 0
 Respects parents c = (k : ℕ) → k < length parents → c k ≡ c (slice_index parents k)
 
 -- each null is connected with that of its parent
-abbrev pub AreTied : List Fact → List NullId → List ℕ → Type 0
-AreTied A ns parents = (k : ℕ) → k < length parents → Connected A (null_at ns k) (null_at ns (slice_index parents k))
+abbrev pub ParentsAreConnected : List Fact → List NullId → List ℕ → Type 0
+ParentsAreConnected A ns parents = (k : ℕ) → k < length parents → Connected A (null_at ns k) (null_at ns (slice_index parents k))
 
 -- the trees have the same numbers and roots as before
 pub record AreSameTrees (old new : List ℕ) : Type 0 where
@@ -23,25 +23,25 @@ pub record AreSameTrees (old new : List ℕ) : Type 0 where
   pub falls : Falls new
   pub roots : (k : ℕ) → k < length old → slice_index old k ≡ k → slice_index new k ≡ k
   pub respects : (c : ℕ → ℕ) → Respects old c ↔ Respects new c
-  pub tied : (A : List Fact) (ns : List NullId) → AreTied A ns old ↔ AreTied A ns new
+  pub tied : (A : List Fact) (ns : List NullId) → ParentsAreConnected A ns old ↔ ParentsAreConnected A ns new
 
 -- r stands in the tree of k
 pub record IsInTree (parents : List ℕ) (k r : ℕ) : Type 0 where
   pub within : r < length parents
   pub respects : (c : ℕ → ℕ) → Respects parents c → c k ≡ c r
-  pub tied : (A : List Fact) (ns : List NullId) → AreTied A ns parents → Connected A (null_at ns k) (null_at ns r)
+  pub tied : (A : List Fact) (ns : List NullId) → ParentsAreConnected A ns parents → Connected A (null_at ns k) (null_at ns r)
 
 -- r is the root of that tree
 abbrev pub IsRootOf : List ℕ → ℕ → ℕ → Type 0
 IsRootOf parents k r = IsInTree parents k r × (slice_index parents r ≡ r)
 
 -- the trees of a and b are one now, and no others
-pub record IsJoin (old new : List ℕ) (a b : ℕ) : Type 0 where
+pub record IsTreeUnion (old new : List ℕ) (a b : ℕ) : Type 0 where
   pub many : length new ≡ length old
   pub falls : Falls new
   pub respects : (c : ℕ → ℕ) → Respects new c → Respects old c
   pub one : (c : ℕ → ℕ) → Respects new c → c a ≡ c b
-  pub tied : (A : List Fact) (ns : List NullId) → Connected A (null_at ns a) (null_at ns b) → AreTied A ns old → AreTied A ns new
+  pub tied : (A : List Fact) (ns : List NullId) → Connected A (null_at ns a) (null_at ns b) → ParentsAreConnected A ns old → ParentsAreConnected A ns new
 
 -- each parent is a root
 abbrev pub IsFlat : List ℕ → Type 0

@@ -5,11 +5,11 @@ use Rattle.dx_model.specs.declared.values.NullId.{NullId}
 use Rattle.dx_model.specs.declared.values.Value.{Value}
 use Rattle.dx_model.specs.declared.values.Value.TheVariants.{Null}
 use Rattle.dx_model.specs.declared.facts.Fact.{Fact}
-use Rattle.dx_model.specs.Values.{FactsAscend, NullsAscend}
+use Rattle.dx_model.specs.Values.{FactsAscend, NullsAscend, null_at}
 use Rattle.dx_model.specs.Blocks.{Connected}
 use Rattle.dx_blocks.specs.declared.block.Block.{Block}
-use Rattle.dx_blocks.specs.Nulls.{null_at, StandsIn}
-use Rattle.dx_blocks.specs.Forest.{Respects, Falls, AreTied}
+use Rattle.dx_blocks.specs.Nulls.{StandsIn}
+use Rattle.dx_blocks.specs.Forest.{Respects, Falls, ParentsAreConnected}
 
 -- the nulls of the row stand in one tree
 abbrev pub AreOne : List NullId → List ℕ → List Value → Type 0
@@ -21,14 +21,14 @@ pub record JoinsRow (ns : List NullId) (row : List Value) (old new : List ℕ) :
   pub falls : Falls new
   pub respects : (c : ℕ → ℕ) → Respects new c → Respects old c
   pub one : AreOne ns new row
-  pub tied : (A : List Fact) (f : Fact) → f ∈ A → f.row ≡ row → AreTied A ns old → AreTied A ns new
+  pub tied : (A : List Fact) (f : Fact) → f ∈ A → f.row ≡ row → ParentsAreConnected A ns old → ParentsAreConnected A ns new
 
 -- the trees of the nulls of each fact are one now, and no others
 pub record JoinsAll (A : List Fact) (ns : List NullId) (old new : List ℕ) : Type 0 where
   pub many : length new ≡ length old
   pub falls : Falls new
   pub one : (f : Fact) → f ∈ A → AreOne ns new f.row
-  pub tied : AreTied A ns old → AreTied A ns new
+  pub tied : ParentsAreConnected A ns old → ParentsAreConnected A ns new
 
 -- the label of a null is the least place of those that are connected with it
 pub record AreLabels (A : List Fact) (ns : List NullId) (labels : List ℕ) : Type 0 where

@@ -9,8 +9,8 @@ use Rattle.dx_blocks.specs.declared.block.Block.{Block}
 use Rattle.dx_blocks.specs.Blocks.{AreBlocks}
 
 -- an instance has one list of blocks
-abbrev pub OneList : Type 0
-OneList = (A : List Fact) (bs cs : List Block) → AreBlocks A bs → AreBlocks A cs → bs ≡ cs
+abbrev pub OneBlockList : Type 0
+OneBlockList = (A : List Fact) (bs cs : List Block) → AreBlocks A bs → AreBlocks A cs → bs ≡ cs
 
 -- each block is a closed part
 abbrev pub BlocksAreClosed : Type 0

@@ -9,15 +9,15 @@ use Rattle.dx_model.specs.Values.{Ascends}
 use Rattle.dx_model.specs.Instances.{values}
 use Rattle.dx_instance.specs.Cells.{numbers_at}
 use Rattle.dx_instance.specs.Numbers.{ValuesAscend, value_of}
-use Rattle.dx_instance.specs.Shown.{Numbered, PartsFit, numbers_of_table}
+use Rattle.dx_instance.specs.Shown.{NumberedInstance, PartsFit, numbers_of_table}
 use Rattle.dx_blocks.specs.declared.block.Block.{Block}
 use Rattle.dx_blocks.specs.declared.numbered.At.{At}
 use Rattle.dx_blocks.specs.declared.numbered.NumberBlock.{NumberBlock}
 use Rattle.dx_blocks.specs.Labels.{AreFilled}
-use Rattle.dx_blocks.specs.Numbered.{IsRow, fact_of, null_under, shown_block}
+use Rattle.dx_blocks.specs.Numbered.{IsRowIn, fact_of, null_under, shown_block}
 
 -- the parts fit, the symbols ascend, and the numbers of their nulls are those from `first` on
-pub record IsFirstNull (N : Numbered) (first : ℕ) : Type 0 where
+pub record IsFirstNull (N : NumberedInstance) (first : ℕ) : Type 0 where
   pub fit : PartsFit N.symbols N.tables
   pub ascend : ValuesAscend N.symbols
   pub within : first ≤ length N.symbols
@@ -25,29 +25,29 @@ pub record IsFirstNull (N : Numbered) (first : ℕ) : Type 0 where
   pub nulls : (n : ℕ) → first ≤ n → n < length N.symbols → value_of N.symbols n ≡ Null (null_under N n)
 
 -- the nulls from a number on
-abbrev pub nulls_from : Numbered → ℕ → List NullId
+abbrev pub nulls_from : NumberedInstance → ℕ → List NullId
 nulls_from N first = map (null_under N) (range_with_len first (length N.symbols - first))
 
 -- the numbers of a row
-abbrev pub numbers_of : Numbered → At → List ℕ
-numbers_of N a = numbers_at (numbers_of_table N.tables a.table).rows a.place
+abbrev pub row_numbers : NumberedInstance → At → List ℕ
+row_numbers N a = numbers_at (numbers_of_table N.tables a.table).rows a.place
 
 -- the facts of rows
-abbrev pub facts_of : Numbered → List At → List Fact
+abbrev pub facts_of : NumberedInstance → List At → List Fact
 facts_of N rows = map (fact_of N) rows
 
 -- a row in front of place p of table t
-abbrev pub IsBefore : ℕ → ℕ → At → Type 0
-IsBefore t p a = (a.table < t) ⊎ ((a.table ≡ t) × (a.place < p))
+abbrev pub IsRowBefore : ℕ → ℕ → At → Type 0
+IsRowBefore t p a = (a.table < t) ⊎ ((a.table ≡ t) × (a.place < p))
 
 -- rows, in front of place p of table t, with all of those that hold nulls, by tables and places
-pub record AreNullRows (N : Numbered) (first t p : ℕ) (rows : List At) : Type 0 where
-  pub each : Each rows (λ a. IsRow N a × IsBefore t p a)
-  pub all : (a : At) (n : ℕ) → IsRow N a → IsBefore t p a → n ∈ numbers_of N a → first ≤ n → a ∈ rows
-  pub ascend : Ascends (λ (a b : At). IsBefore b.table b.place a) rows
+pub record AreNullRows (N : NumberedInstance) (first t p : ℕ) (rows : List At) : Type 0 where
+  pub each : Each rows (λ a. IsRowIn N a × IsRowBefore t p a)
+  pub all : (a : At) (n : ℕ) → IsRowIn N a → IsRowBefore t p a → n ∈ row_numbers N a → first ≤ n → a ∈ rows
+  pub ascend : Ascends (λ (a b : At). IsRowBefore b.table b.place a) rows
 
 -- the blocks that blocks of numbers show
-abbrev pub shown_blocks : Numbered → List NumberBlock → List Block
+abbrev pub shown_blocks : NumberedInstance → List NumberBlock → List Block
 shown_blocks N bs = map (shown_block N) bs
 
 -- whether a block has nulls
@@ -55,7 +55,7 @@ abbrev pub has_numbers : NumberBlock → Bool
 has_numbers b = nat_lt 0 (length b.nulls)
 
 -- the nulls of A, and A, are put into blocks
-pub record AreUsed (N : Numbered) (first : ℕ) (rows : List At) (labels : List ℕ) (bs : List NumberBlock) : Type 0 where
+pub record AreBlocksOfRows (N : NumberedInstance) (first : ℕ) (rows : List At) (labels : List ℕ) (bs : List NumberBlock) : Type 0 where
   pub some : List NullId
   pub exactly : (n : NullId) → (n ∈ some) ↔ (Null n ∈ values (facts_of N rows))
   pub filled : AreFilled (nulls_from N first) labels some (facts_of N rows) (shown_blocks N bs)

@@ -5,7 +5,7 @@ use Rattle.dx_model.specs.declared.values.NullId.{NullId}
 use Rattle.dx_model.specs.declared.values.Value.{Value}
 use Rattle.dx_model.specs.declared.values.Value.TheVariants.{Const, Null}
 use Rattle.dx_model.specs.declared.facts.Fact.{Fact}
-use Rattle.dx_model.specs.Values.{NullsAscend}
+use Rattle.dx_model.specs.Values.{NullsAscend, null_at}
 use Rattle.dx_model.specs.Instances.{values}
 
 -- the null that a value is
@@ -14,17 +14,13 @@ null_in (Const t) = []
 null_in (Null n) = n ∷ []
 
 -- the nulls of a row
-abbrev pub nulls_in : List Value → List NullId
-nulls_in row = flat_map null_in row
+abbrev pub row_nulls : List Value → List NullId
+row_nulls row = flat_map null_in row
 
 -- ns has the nulls of A, each once
 pub record AreNulls (A : List Fact) (ns : List NullId) : Type 0 where
   pub ascend : NullsAscend ns
   pub exactly : (n : NullId) → (n ∈ ns) ↔ (Null n ∈ values A)
-
--- the null at a place
-abbrev pub null_at : List NullId → ℕ → NullId
-null_at ns k = slice_index_or ns k (record { rule = 0; var = 0; row = 0 })
 
 -- each null of the row is listed
 abbrev pub AreKnown : List NullId → List Value → Type 0

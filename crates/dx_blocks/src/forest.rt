@@ -1,7 +1,7 @@
 // Trees of numbers in a list that gives each number its parent; a root is its own parent.
 ghost use Rattle.std.specs.Prelude.{◌≡◌, ◌<◌, IfOk, length};
 ghost use Rattle.std.specs.List.{range_with_len};
-ghost use Rattle.dx_blocks.specs.Forest.{AreSameTrees, Falls, IsFlat, IsJoin, IsRootOf};
+ghost use Rattle.dx_blocks.specs.Forest.{AreSameTrees, Falls, IsFlat, IsTreeUnion, IsRootOf};
 
 use std::alloc::{AllocError, Global};
 
@@ -42,7 +42,7 @@ pub fn join(parents: &mut [usize], a: usize, b: usize)
     requires falls { Falls parents.old }
     requires a { a < length parents.old }
     requires b { b < length parents.old }
-    ensures { IsJoin parents.old parents.new a b }
+    ensures { IsTreeUnion parents.old parents.new a b }
 {
     let x = root(parents, a);
     let y = root(parents, b);

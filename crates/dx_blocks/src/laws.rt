@@ -1,5 +1,5 @@
 // The laws of blocks. The definitions alone carry them: no body computes anything.
-ghost use Rattle.dx_blocks.specs.Laws.{BlocksAreApart, BlocksAreClosed, EachInBlock, OneList};
+ghost use Rattle.dx_blocks.specs.Laws.{BlocksAreApart, BlocksAreClosed, EachInBlock, OneBlockList};
 
 /// An instance has one list of blocks.
 pub fn one_list_of_blocks()

@@ -3,15 +3,15 @@ ghost use Rattle.std.specs.Prelude.{◌≡◌, ◌<◌, ◌++◌, ℕ, IfOk, IfN
 ghost use Rattle.dx_ports.specs.Members.{◌∈◌};
 ghost use Rattle.dx_model.specs.declared.values.NullId.{NullId};
 ghost use Rattle.dx_model.specs.declared.values.Value.TheVariants.{Null};
-ghost use Rattle.dx_model.specs.Values.{NullsAscend};
-ghost use Rattle.dx_blocks.specs.Nulls.{AreKnown, AreNulls, StandsIn, null_at, nulls_in};
+ghost use Rattle.dx_model.specs.Values.{NullsAscend, null_at};
+ghost use Rattle.dx_blocks.specs.Nulls.{AreKnown, AreNulls, StandsIn, row_nulls};
 
 use dx_model::{Fact, NullId, Value};
 use std::alloc::{AllocError, Global};
 
 // The nulls of a row.
 fn push_nulls(row: &[Value], nulls: &mut Vec<NullId>) -> Result<(), AllocError>
-    ensures { OnOk result (nulls.new.items ≡ nulls.old.items ++ nulls_in row.now) }
+    ensures { OnOk result (nulls.new.items ≡ nulls.old.items ++ row_nulls row.now) }
 {
     for value in row {
         if let Value::Null(null) = value {

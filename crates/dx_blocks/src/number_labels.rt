@@ -3,8 +3,8 @@ ghost use Rattle.std.specs.Prelude.{◌≡◌, ◌+◌, ◌≤◌, IfOk, length}
 ghost use Rattle.dx_ports.specs.Members.{◌∈◌, Each};
 ghost use Rattle.dx_blocks.specs.Forest.{Falls};
 ghost use Rattle.dx_blocks.specs.Labels.{AreLabels, JoinsAll, JoinsRow};
-ghost use Rattle.dx_blocks.specs.Numbered.{IsRow, fact_of};
-ghost use Rattle.dx_blocks.specs.NullRows.{IsFirstNull, facts_of, nulls_from, numbers_of};
+ghost use Rattle.dx_blocks.specs.Numbered.{IsRowIn, fact_of};
+ghost use Rattle.dx_blocks.specs.NullRows.{IsFirstNull, facts_of, nulls_from, row_numbers};
 
 use crate::forest::{flatten, join, singles};
 use crate::null_rows::null_in;
@@ -15,8 +15,8 @@ use std::alloc::{AllocError, Global};
 // Makes one tree of those of the nulls of a row, of which one has the number `one`.
 fn join_row(numbers: &Numbers<'_>, first: u32, at: At, one: u32, parents: &mut [usize])
     requires first { IsFirstNull numbers.now first }
-    requires row { IsRow numbers.now at }
-    requires one { (one ∈ numbers_of numbers.now at) × (first ≤ one) }
+    requires row { IsRowIn numbers.now at }
+    requires one { (one ∈ row_numbers numbers.now at) × (first ≤ one) }
     requires many { first + length parents.old ≡ length numbers.now.symbols }
     requires falls { Falls parents.old }
     ensures { JoinsRow (nulls_from numbers.now first) (fact_of numbers.now at).row parents.old parents.new }
@@ -32,7 +32,7 @@ fn join_row(numbers: &Numbers<'_>, first: u32, at: At, one: u32, parents: &mut [
 // Makes one tree of those of the nulls of each row.
 fn join_all(numbers: &Numbers<'_>, first: u32, rows: &[At], parents: &mut [usize])
     requires first { IsFirstNull numbers.now first }
-    requires rows { Each rows.now (IsRow numbers.now) }
+    requires rows { Each rows.now (IsRowIn numbers.now) }
     requires many { first + length parents.old ≡ length numbers.now.symbols }
     requires falls { Falls parents.old }
     ensures { JoinsAll (facts_of numbers.now rows.now) (nulls_from numbers.now first) parents.old parents.new }
@@ -56,7 +56,7 @@ pub fn number_labels(
     rows: &[At],
 ) -> Result<Vec<usize>, AllocError>
     requires first { IsFirstNull numbers.now first }
-    requires rows { Each rows.now (IsRow numbers.now) }
+    requires rows { Each rows.now (IsRowIn numbers.now) }
     ensures { IfOk result (λ labels. AreLabels (facts_of numbers.now rows.now) (nulls_from numbers.now first) labels.items) }
 {
     let mut labels = singles(alloc, (numbers.len() - first) as usize)?;

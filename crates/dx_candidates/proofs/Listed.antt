@@ -19,15 +19,15 @@ use Rattle.dx_lines.specs.declared.candidate.Candidate.{Candidate}
 use Rattle.dx_lines.specs.declared.variant.Variant.{Variant}
 use Rattle.dx_lines.specs.Candidates.{upto, all_variants, pair_ways, pair_candidates, candidates_by, candidates_of, all_picks, combinations, by_variable, grouped, headed}
 use Rattle.dx_lines.specs.Kept.{is_dropped, is_kept}
-use Rattle.dx_lines.specs.Rules.{rule_by, rule_of, kept_rules}
-use Rattle.dx_lines.specs.Limits.{first_or, passed_by, has_many_ways, passed, LineFits}
+use Rattle.dx_lines.specs.Rules.{rule_by, candidate_rule, kept_rules}
+use Rattle.dx_lines.specs.Limits.{first_or, passed_by, has_many_ways, passed_limit, LineFits}
 use Rattle.dx_candidates.specs.declared.fault.CandFault.{CandFault}
 use Rattle.dx_candidates.specs.declared.fault.CandFault.TheVariants.{TooMany, Memory}
 use Rattle.dx_candidates.specs.declared.pairs.Pair.{Pair}
-use Rattle.dx_candidates.specs.Faults.{IsFault, IsFirst, schema_limit, ways_limit, candidates_limit}
+use Rattle.dx_candidates.specs.Faults.{IsLimitFault, IsFirst, schema_limit, ways_limit, candidates_limit}
 use Rattle.dx_candidates.specs.declared.listing.Plan.{Plan}
-use Rattle.dx_candidates.specs.Listing.{IsPlan, IsReady, is_needed, rules_between, rules_of_pair}
-use Rattle.dx_candidates.specs.Pairs.{IsSound, variant_at, pair_by, pair_at, pairs_at, pairs_between, has_many_at, have_many_ways, candidates_in, picks_in, IsPair, ArePairs}
+use Rattle.dx_candidates.specs.Listing.{IsCandidatePlan, IsReadyPlan, is_needed, rules_between, rules_of_pair}
+use Rattle.dx_candidates.specs.Pairs.{IsSoundSchema, variant_at, pair_by, pair_at, pairs_at, pairs_between, has_many_at, have_many_ways, candidates_in, picks_in, IsPair, ArePairs}
 use Rattle.dx_candidates.proofs.Paired.{at_item, item_has, pairs_are}
 use Rattle.dx_candidates.proofs.Readable.{are_variants, are_read, are_reached, have_variables}
 use Rattle.dx_candidates.proofs.Lists.{flat_by_numbers, any_by_numbers}
@@ -111,17 +111,17 @@ after_variants lines S T =
     cond (has_many_ways lines S T) (Some ways_limit) (cond (nat_lt 1024 (length (candidates_of lines S T))) (Some candidates_limit) None)
 
 -- where the variants pass no limit, the others decide
-pub passed_after : (lines : List Line) (S T : List Table) → schema_limit S ≡ None → schema_limit T ≡ None → passed lines S T ≡ after_variants lines S T
+pub passed_after : (lines : List Line) (S T : List Table) → schema_limit S ≡ None → schema_limit T ≡ None → passed_limit lines S T ≡ after_variants lines S T
 passed_after lines S T a b =
     first_append (passed_by S) (passed_by T) (after_variants lines S T)
     ∙ (first_none (passed_by S) (first_or (passed_by T) (after_variants lines S T)) a ∙ first_none (passed_by T) (after_variants lines S T) b)
 
-pub source_fault_is : (lines : List Line) (S T : List Table) (e : CandFault) → IsFirst (schema_limit S) e → IsFirst (passed lines S T) e
+pub source_fault_is : (lines : List Line) (S T : List Table) (e : CandFault) → IsFirst (schema_limit S) e → IsFirst (passed_limit lines S T) e
 source_fault_is lines S T e (inl m) = inl m
 source_fault_is lines S T e (inr (l, is, f)) =
     inr (l, first_append (passed_by S) (passed_by T) (after_variants lines S T) ∙ first_some (passed_by S) (first_or (passed_by T) (after_variants lines S T)) l is, f)
 
-pub target_fault_is : (lines : List Line) (S T : List Table) (e : CandFault) → schema_limit S ≡ None → IsFirst (schema_limit T) e → IsFirst (passed lines S T) e
+pub target_fault_is : (lines : List Line) (S T : List Table) (e : CandFault) → schema_limit S ≡ None → IsFirst (schema_limit T) e → IsFirst (passed_limit lines S T) e
 target_fault_is lines S T e a (inl m) = inl m
 target_fault_is lines S T e a (inr (l, is, f)) =
     inr (
@@ -132,7 +132,7 @@ target_fault_is lines S T e a (inr (l, is, f)) =
     )
 
 pub ways_fault_is : (lines : List Line) (S T : List Table) (sources targets : List Variant) (e : CandFault) → schema_limit S ≡ None → schema_limit T ≡ None → sources ≡ all_variants S → targets ≡ all_variants T
-    → IsFault ways_limit (have_many_ways lines sources targets) e → IsFirst (passed lines S T) e
+    → IsLimitFault ways_limit (have_many_ways lines sources targets) e → IsFirst (passed_limit lines S T) e
 ways_fault_is lines S T sources targets e a b p q (inl m) = inl m
 ways_fault_is lines S T sources targets e a b p q (inr m) =
     let many : has_many_ways lines S T ≡ true = many_are lines S T ∙ (rw (← p, ← q) m.1) in
@@ -159,7 +159,7 @@ count_is lines S T sources targets pairs count p q r c =
 
 pub candidates_fault : (lines : List Line) (S T : List Table) (sources targets : List Variant) (pairs : List Pair) (count : ℕ) → schema_limit S ≡ None → schema_limit T ≡ None → sources ≡ all_variants S → targets ≡ all_variants T
     → have_many_ways lines sources targets ≡ false → pairs ≡ pairs_between lines sources targets → count ≡ min 1025 (length (flat_map picks_in pairs)) → 1024 < count
-    → passed lines S T ≡ Some candidates_limit
+    → passed_limit lines S T ≡ Some candidates_limit
 candidates_fault lines S T sources targets pairs count a b p q m r c h =
     let few = few_are lines S T sources targets p q m in
     let n = count_is lines S T sources targets pairs count p q r c in
@@ -168,7 +168,7 @@ candidates_fault lines S T sources targets pairs count a b p q m r c h =
 
 pub none_passed : (lines : List Line) (S T : List Table) (sources targets : List Variant) (pairs : List Pair) (count : ℕ) → schema_limit S ≡ None → schema_limit T ≡ None → sources ≡ all_variants S → targets ≡ all_variants T
     → have_many_ways lines sources targets ≡ false → pairs ≡ pairs_between lines sources targets → count ≡ min 1025 (length (flat_map picks_in pairs)) → count ≤ 1024
-    → passed lines S T ≡ None
+    → passed_limit lines S T ≡ None
 none_passed lines S T sources targets pairs count a b p q m r c h =
     let few = few_are lines S T sources targets p q m in
     let n = count_is lines S T sources targets pairs count p q r c in
@@ -178,8 +178,8 @@ none_passed lines S T sources targets pairs count a b p q m r c h =
 -- ---- rules
 
 -- the rules of a pair are those of its candidates that are kept
-kept_of_pair : (lines : List Line) (S T : List Table) (p : Pair) → IsSound S → IsSound T → IsPair lines (all_variants S) (all_variants T) p
-    → map (rule_of lines S T) (filter (is_kept lines S T) (candidates_in (all_variants S) (all_variants T) p)) ≡ rules_of_pair lines S T (all_variants S) (all_variants T) p
+kept_of_pair : (lines : List Line) (S T : List Table) (p : Pair) → IsSoundSchema S → IsSoundSchema T → IsPair lines (all_variants S) (all_variants T) p
+    → map (candidate_rule lines S T) (filter (is_kept lines S T) (candidates_in (all_variants S) (all_variants T) p)) ≡ rules_of_pair lines S T (all_variants S) (all_variants T) p
 kept_of_pair lines S T p ss st i =
     let v = variant_at (all_variants S) p.source in
     let w = variant_at (all_variants T) p.target in
@@ -190,23 +190,23 @@ kept_of_pair lines S T p ss st i =
     λ ks. ap not (ap (λ (r : Relation). is_dropped lines S T r.occurrences (variant_of T w.table w.number).occurrences ks) (sym is_v.relation)
     ∙ (ap (λ (r : Relation). is_dropped lines S T v.relation.occurrences r.occurrences ks) (sym is_w.relation)
     ∙ greatest_parts_decide lines S T v.table w.table v.relation w.relation ks ss.links ss.acyclic is_v.table (is_unfolding S v is_v) st.links st.acyclic is_w.table (is_unfolding T w is_w))) in
-    let rule : (ks : List Pick) → rule_of lines S T (made ks) ≡ rule_by lines v.relation w.relation ks =
+    let rule : (ks : List Pick) → candidate_rule lines S T (made ks) ≡ rule_by lines v.relation w.relation ks =
     λ ks. ap (λ (r : Relation). rule_by lines r (variant_of T w.table w.number) ks) (sym is_v.relation) ∙ ap (λ (r : Relation). rule_by lines v.relation r ks) (sym is_w.relation) in
-    ap (map (rule_of lines S T)) (filter_map (is_kept lines S T) made (all_picks p.ways))
-    ∙ (map_map (rule_of lines S T) made (filter (λ ks. is_kept lines S T (made ks)) (all_picks p.ways))
-    ∙ (ap (map (λ ks. rule_of lines S T (made ks))) (filter_agree (λ ks. is_kept lines S T (made ks)) (is_needed lines S T v w) same (all_picks p.ways))
-    ∙ (map_same (λ ks. rule_of lines S T (made ks)) (rule_by lines v.relation w.relation) (filter (is_needed lines S T v w) (all_picks p.ways)) (λ ks m. rule ks)
+    ap (map (candidate_rule lines S T)) (filter_map (is_kept lines S T) made (all_picks p.ways))
+    ∙ (map_map (candidate_rule lines S T) made (filter (λ ks. is_kept lines S T (made ks)) (all_picks p.ways))
+    ∙ (ap (map (λ ks. candidate_rule lines S T (made ks))) (filter_agree (λ ks. is_kept lines S T (made ks)) (is_needed lines S T v w) same (all_picks p.ways))
+    ∙ (map_same (λ ks. candidate_rule lines S T (made ks)) (rule_by lines v.relation w.relation) (filter (is_needed lines S T v w) (all_picks p.ways)) (λ ks m. rule ks)
     ∙ ap (λ (ks : List Pick). map (rule_by lines v.relation w.relation) (filter (is_needed lines S T v w) (all_picks ks))) i.ways)))
 
-pub rules_are : (lines : List Line) (S T : List Table) (sources targets : List Variant) (pairs : List Pair) → IsSound S → IsSound T → sources ≡ all_variants S → targets ≡ all_variants T
+pub rules_are : (lines : List Line) (S T : List Table) (sources targets : List Variant) (pairs : List Pair) → IsSoundSchema S → IsSoundSchema T → sources ≡ all_variants S → targets ≡ all_variants T
     → pairs ≡ pairs_between lines sources targets → ArePairs lines sources targets pairs → kept_rules lines S T ≡ flat_map (rules_of_pair lines S T sources targets) pairs
 rules_are lines S T sources targets pairs ss st p q r each =
     let c : candidates_of lines S T ≡ flat_map (candidates_in sources targets) pairs = rw (r, p, q) (candidates_are lines S T) in
-    let same : flat_map (λ x. map (rule_of lines S T) (filter (is_kept lines S T) (candidates_in sources targets x))) pairs ≡ flat_map (rules_of_pair lines S T sources targets) pairs =
-    flat_map_same (λ x. map (rule_of lines S T) (filter (is_kept lines S T) (candidates_in sources targets x))) (rules_of_pair lines S T sources targets) pairs
+    let same : flat_map (λ x. map (candidate_rule lines S T) (filter (is_kept lines S T) (candidates_in sources targets x))) pairs ≡ flat_map (rules_of_pair lines S T sources targets) pairs =
+    flat_map_same (λ x. map (candidate_rule lines S T) (filter (is_kept lines S T) (candidates_in sources targets x))) (rules_of_pair lines S T sources targets) pairs
     (λ x m. rw (p, q) (kept_of_pair lines S T x ss st (rw (p, q) at (each x m)))) in
-    ap (λ (cs : List Candidate). map (rule_of lines S T) (filter (is_kept lines S T) cs)) c
-    ∙ (map_filter_flat (rule_of lines S T) (is_kept lines S T) (candidates_in sources targets) pairs ∙ same)
+    ap (λ (cs : List Candidate). map (candidate_rule lines S T) (filter (is_kept lines S T) cs)) c
+    ∙ (map_filter_flat (candidate_rule lines S T) (is_kept lines S T) (candidates_in sources targets) pairs ∙ same)
 
 -- ---- how many picks
 
@@ -251,17 +251,17 @@ few_picks found all i ks picks few e h k p =
 
 -- ---- plans
 
-pub all_candidates : (lines : List Line) (S T : List Table) (p : Plan) (pairs : List Pair) (n : ℕ) (all : List Candidate) → IsPlan lines S T p → pairs ≡ p.pairs → length pairs ≤ n
+pub all_candidates : (lines : List Line) (S T : List Table) (p : Plan) (pairs : List Pair) (n : ℕ) (all : List Candidate) → IsCandidatePlan lines S T p → pairs ≡ p.pairs → length pairs ≤ n
     → all ≡ flat_map (candidates_in (all_variants S) (all_variants T)) (take n pairs) → all ≡ candidates_of lines S T
 all_candidates lines S T p pairs n all i e h a =
     let whole : take n pairs ≡ pairs_between lines (all_variants S) (all_variants T) = take_all n pairs h ∙ (e ∙ (i.pairs ∙ (rw (i.sources, i.targets) refl))) in
     a ∙ (ap (flat_map (candidates_in (all_variants S) (all_variants T))) whole ∙ sym (candidates_are lines S T))
 
-pub plan_pairs : (lines : List Line) (S T : List Table) (p : Plan) → IsPlan lines S T p → ArePairs lines p.sources p.targets p.pairs
+pub plan_pairs : (lines : List Line) (S T : List Table) (p : Plan) → IsCandidatePlan lines S T p → ArePairs lines p.sources p.targets p.pairs
 plan_pairs lines S T p i = subst (ArePairs lines p.sources p.targets) (sym i.pairs) (pairs_are lines p.sources p.targets i.few)
 
 -- a pair that was lent is a pair of the plan
-pub lent_pair : (lines : List Line) (S T : List Table) (p : Plan) (pairs : List Pair) (n : ℕ) (pair : Pair) → IsPlan lines S T p → pairs ≡ p.pairs → n < length pairs → pair ≡ get_or pairs n pair
+pub lent_pair : (lines : List Line) (S T : List Table) (p : Plan) (pairs : List Pair) (n : ℕ) (pair : Pair) → IsCandidatePlan lines S T p → pairs ≡ p.pairs → n < length pairs → pair ≡ get_or pairs n pair
     → IsPair lines p.sources p.targets pair
 lent_pair lines S T p pairs n pair i e h k = item_has (IsPair lines p.sources p.targets) p.pairs pairs n pair e h k (plan_pairs lines S T p i)
 
@@ -271,7 +271,7 @@ lent_variant schema own lent n v is e h k = subst (λ (vs : List Variant). varia
 
 -- after one pair more of a plan, its candidates are listed too
 pub candidates_more : (lines : List Line) (S T : List Table) (p : Plan) (pairs : List Pair) (n : ℕ) (pair : Pair) (all new : List Candidate) (xs ys : List Variant) (v w : Variant)
-    → IsPlan lines S T p → pairs ≡ p.pairs → n < length pairs → pair ≡ get_or pairs n pair → xs ≡ p.sources → ys ≡ p.targets → v ≡ get_or xs pair.source v → w ≡ get_or ys pair.target w
+    → IsCandidatePlan lines S T p → pairs ≡ p.pairs → n < length pairs → pair ≡ get_or pairs n pair → xs ≡ p.sources → ys ≡ p.targets → v ≡ get_or xs pair.source v → w ≡ get_or ys pair.target w
     → all ≡ flat_map (candidates_in (all_variants S) (all_variants T)) (take n pairs) → new ≡ all ++ candidates_by v w pair.ways
     → new ≡ flat_map (candidates_in (all_variants S) (all_variants T)) (take (n + 1) pairs)
 candidates_more lines S T p pairs n pair all new xs ys v w i e h k a b f g was made =
@@ -286,7 +286,7 @@ candidates_more lines S T p pairs n pair all new xs ys v w i e h k a b f g was m
     ∙ (sym (flat_map-append listed (take n pairs) (pair ∷ [])) ∙ ap (flat_map listed) (sym more))))
 
 -- where the lines fit, the rules of a plan's candidates can be made
-pub plan_ready : (lines : List Line) (S T : List Table) (p : Plan) → IsPlan lines S T p → Each lines (LineFits S T) → IsReady lines S T p
+pub plan_ready : (lines : List Line) (S T : List Table) (p : Plan) → IsCandidatePlan lines S T p → Each lines (LineFits S T) → IsReadyPlan lines S T p
 plan_ready lines S T p i fit = record {
   are_sources = are_variants S p.sources i.sound_source i.sources;
   are_targets = are_variants T p.targets i.sound_target i.targets;
@@ -298,6 +298,6 @@ plan_ready lines S T p i fit = record {
   pairs = plan_pairs lines S T p i;
 }
 
-pub all_rules : (lines : List Line) (S T : List Table) (p : Plan) (rules : List Rule) → IsPlan lines S T p → rules ≡ flat_map (rules_of_pair lines S T p.sources p.targets) p.pairs → rules ≡ kept_rules lines S T
+pub all_rules : (lines : List Line) (S T : List Table) (p : Plan) (rules : List Rule) → IsCandidatePlan lines S T p → rules ≡ flat_map (rules_of_pair lines S T p.sources p.targets) p.pairs → rules ≡ kept_rules lines S T
 all_rules lines S T p rules i r =
     r ∙ sym (rules_are lines S T p.sources p.targets p.pairs i.sound_source i.sound_target i.sources i.targets (i.pairs ∙ (rw (i.sources, i.targets) refl)) (plan_pairs lines S T p i))

@@ -4,7 +4,7 @@ use Rattle.dx_ports.specs.declared.file.Limit.{Limit}
 use Rattle.dx_ports.specs.declared.file.Count.TheVariants.{Variants, Occurrences, Ways, Candidates}
 use Rattle.dx_model.specs.Tables.{Table}
 use Rattle.dx_lines.specs.declared.line.Line.{Line}
-use Rattle.dx_lines.specs.Limits.{first_or, passed_by, passed}
+use Rattle.dx_lines.specs.Limits.{first_or, passed_by, passed_limit}
 use Rattle.dx_logical.specs.declared.fault.ManyFault.{ManyFault}
 use Rattle.dx_logical.specs.declared.fault.ManyFault.TheVariants as unfolded
 use Rattle.dx_ways.specs.declared.fault.WaysFault.{WaysFault}
@@ -29,10 +29,10 @@ abbrev pub candidates_limit : Limit
 candidates_limit = record { what = Candidates; number = 1024 }
 
 -- a fault of unfoldings, as a fault of candidates
-abbrev pub many_fault : ManyFault → CandFault
-many_fault unfolded.TooMany = TooMany variants_limit
-many_fault unfolded.TooWide = TooMany occurrences_limit
-many_fault unfolded.Memory = Memory
+abbrev pub unfoldings_fault : ManyFault → CandFault
+unfoldings_fault unfolded.TooMany = TooMany variants_limit
+unfoldings_fault unfolded.TooWide = TooMany occurrences_limit
+unfoldings_fault unfolded.Memory = Memory
 
 -- the first limit that the variants of a schema pass
 abbrev pub schema_limit : List Table → Option Limit
@@ -48,9 +48,9 @@ ways_fault many.TooMany = TooMany ways_limit
 ways_fault many.Memory = Memory
 
 -- a fault is want of memory, or the first limit that these lines pass between two schemas
-abbrev pub IsFaultOf : List Line → List Table → List Table → CandFault → Type 0
-IsFaultOf lines source target e = (e ≡ Memory) ⊎ ((l : Limit) × (passed lines source target ≡ Some l) × (e ≡ TooMany l))
+abbrev pub IsCandidateFault : List Line → List Table → List Table → CandFault → Type 0
+IsCandidateFault lines source target e = (e ≡ Memory) ⊎ ((l : Limit) × (passed_limit lines source target ≡ Some l) × (e ≡ TooMany l))
 
 -- a fault is want of memory, or this limit, which is passed
-abbrev pub IsFault : Limit → Bool → CandFault → Type 0
-IsFault limit is_passed e = (e ≡ Memory) ⊎ ((e ≡ TooMany limit) × (is_passed ≡ true))
+abbrev pub IsLimitFault : Limit → Bool → CandFault → Type 0
+IsLimitFault limit is_passed e = (e ≡ Memory) ⊎ ((e ≡ TooMany limit) × (is_passed ≡ true))

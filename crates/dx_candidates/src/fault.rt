@@ -27,9 +27,9 @@ impl From<AllocError> for CandFault {
 
 impl From<ManyFault> for CandFault {
     ghost use Rattle.std.specs.Prelude.{◌≡◌};
-    ghost use Rattle.dx_candidates.specs.Faults.{many_fault};
+    ghost use Rattle.dx_candidates.specs.Faults.{unfoldings_fault};
 
-    ghost from_gives = { λ m e. e ≡ many_fault m };
+    ghost from_gives = { λ m e. e ≡ unfoldings_fault m };
 
     fn from(fault: ManyFault) -> Self {
         match fault {

@@ -12,8 +12,8 @@ use Rattle.dx_model.specs.declared.values.Value.TheVariants.{Const}
 use Rattle.dx_model.specs.declared.rules.Cell.{Cell}
 use Rattle.dx_model.specs.declared.rules.Cell.TheVariants.{Var, Ex, Lit}
 use Rattle.dx_model.specs.declared.rules.Atom.{Atom}
-use Rattle.dx_model.specs.Rules.{cells_of}
-use Rattle.dx_instance.specs.Numbers.{AreApart, value_of}
+use Rattle.dx_model.specs.Rules.{cells_of, atom_at}
+use Rattle.dx_instance.specs.Numbers.{AreDistinctValues, value_of, IsConstant}
 use Rattle.dx_instance.specs.Cells.{NumberTable}
 use Rattle.dx_instance.specs.Shown.{AreBelow, PartsFit, numbers_of_table, shown_row, shown_tables}
 use Rattle.dx_instance.specs.Stored.{TableRows, facts, rows_of}
@@ -21,16 +21,16 @@ use Rattle.dx_instance.proofs.ShownFacts.{row_same}
 use Rattle.dx_instance.proofs.StoredFacts.{row_from_fact, fact_from_row}
 use Rattle.dx_joins.specs.declared.pattern.Pattern.{Pattern}
 use Rattle.dx_joins.specs.Collecting.{AreThose, MoreThan}
-use Rattle.dx_joins.specs.Valued.{IsJoined}
+use Rattle.dx_joins.specs.Valued.{IsJoinRow}
 use Rattle.dx_joins.proofs.Distincts.{distinct_map}
 use Rattle.dx_joins.proofs.Translating.{number_in, number_is, number_there, rows_shown, table_in}
 use Rattle.dx_queries.specs.declared.query.Part.{Part}
 use Rattle.dx_queries.specs.Queries.{assigned, fact_said}
-use Rattle.dx_queries.specs.Results.{IsPart, IsQueryCell}
-use Rattle.dx_certain.specs.Suiting.{IsConstant, IsSuited, RowSuits, Suits, atom_at, cell_at, no_atom}
-use Rattle.dx_certain.specs.Naming.{AreNamed, number_of, variables_among}
-use Rattle.dx_certain.specs.Finding.{IsConstantAnswer, MoreRows, StandForAnswers, filled}
-use Rattle.dx_joins.specs.Joining.{variables_of}
+use Rattle.dx_queries.specs.Results.{PartFits, IsQueryCell}
+use Rattle.dx_certain.specs.Suiting.{IsSuited, RowSuits, Suits, cell_at, no_atom}
+use Rattle.dx_certain.specs.Naming.{ArePatternsOf, cell_number, variables_among}
+use Rattle.dx_certain.specs.Finding.{IsConstantAnswer, MoreRows, StandForAnswers, answer_values}
+use Rattle.dx_joins.specs.Joining.{variables_of_patterns}
 use Rattle.dx_certain.proofs.Numbers.{at_number}
 use Rattle.dx_certain.proofs.Suits.{named_variables}
 
@@ -60,13 +60,13 @@ assigned_suits values answer (d ∷ cells) k (suc c) h = assigned_suits values a
 
 -- ---- answers, and the values of their variables
 
-filled_is : (f : Cell → Value) (answer : List Cell) → Each answer IsQueryCell → filled answer (map f (variables_among answer)) ≡ map (assigned (λ x. f (Var x))) answer
+filled_is : (f : Cell → Value) (answer : List Cell) → Each answer IsQueryCell → answer_values answer (map f (variables_among answer)) ≡ map (assigned (λ x. f (Var x))) answer
 filled_is f [] q = refl
 filled_is f (Var x ∷ answer) q = let r = filled_is f answer (λ c m. q c (there m)) in cc r
 filled_is f (Ex v ∷ answer) q = absurd (q (Ex v) (here refl))
 filled_is f (Lit t ∷ answer) q = let r = filled_is f answer (λ c m. q c (there m)) in cc r
 
-filled_same : (answer : List Cell) (a b : List Value) → Each answer IsQueryCell → length a ≡ length (variables_among answer) → length b ≡ length (variables_among answer) → filled answer a ≡ filled answer b → a ≡ b
+filled_same : (answer : List Cell) (a b : List Value) → Each answer IsQueryCell → length a ≡ length (variables_among answer) → length b ≡ length (variables_among answer) → answer_values answer a ≡ answer_values answer b → a ≡ b
 filled_same [] [] [] q h k e = refl
 filled_same [] [] (w ∷ b) q h k e = absurd (omega (arith, k))
 filled_same [] (v ∷ a) b q h k e = absurd (omega (arith, h))
@@ -74,12 +74,12 @@ filled_same (Var x ∷ answer) [] b q h k e = absurd (omega (arith, h))
 filled_same (Var x ∷ answer) (v ∷ a) [] q h k e = absurd (omega (arith, k))
 filled_same (Var x ∷ answer) (v ∷ a) (w ∷ b) q h k e =
     let first : v ≡ w = cc e in
-    let others : filled answer a ≡ filled answer b = cc e in
+    let others : answer_values answer a ≡ answer_values answer b = cc e in
     let r = filled_same answer a b (λ c m. q c (there m)) (omega (arith, h)) (omega (arith, k)) others in
     cc (first, r)
 filled_same (Ex v ∷ answer) a b q h k e = absurd (q (Ex v) (here refl))
 filled_same (Lit t ∷ answer) a b q h k e =
-    let others : filled answer a ≡ filled answer b = cc e in
+    let others : answer_values answer a ≡ answer_values answer b = cc e in
     filled_same answer a b (λ c m. q c (there m)) h k others
 
 pub variable_there : (answer : List Cell) (c : Cell) → c ∈ variables_among answer → (x : ℕ) × (c ≡ Var x) × (Var x ∈ answer)
@@ -91,7 +91,7 @@ variable_there (Lit t ∷ answer) c m = let r = variable_there answer c m in (r.
 
 -- ---- numbers and values
 
-numbers_back : (S : List Value) (r : List ℕ) → AreApart S → AreBelow (length S) r → map (number_in S) (shown_row S r) ≡ r
+numbers_back : (S : List Value) (r : List ℕ) → AreDistinctValues S → AreBelow (length S) r → map (number_in S) (shown_row S r) ≡ r
 numbers_back S [] a b = refl
 numbers_back S (n ∷ r) a b =
     let first = number_is S n (value_of S n) a (b n (here refl)) refl in
@@ -109,18 +109,18 @@ atom_number atoms a m = let c = contains_from_in m in (c.0, c.1, get_or_default 
 pub in_cells : (atoms : List Atom) (a : Atom) (c : Cell) → a ∈ atoms → c ∈ a.cells → c ∈ cells_of atoms
 in_cells atoms a c m k = in_flat_map (λ (b : Atom). b.cells) m k
 
-module _ (K : List TableRows) (S : List Value) (T : List NumberTable) (p : Part) (w : ℕ) (ps : List Pattern) (fits : PartsFit S T) (suited : IsSuited K p (shown_tables S T)) (part : IsPart w p) (named : AreNamed (cells_of p.atoms) p.atoms (length p.atoms) ps) where
+module _ (K : List TableRows) (S : List Value) (T : List NumberTable) (p : Part) (w : ℕ) (ps : List Pattern) (fits : PartsFit S T) (suited : IsSuited K p (shown_tables S T)) (part : PartFits w p) (named : ArePatternsOf (cells_of p.atoms) p.atoms (length p.atoms) ps) where
   abbrev pub cells : List Cell
   cells = cells_of p.atoms
 
   abbrev pub shown : List ℕ
-  shown = map (number_of cells) (variables_among p.answer)
+  shown = map (cell_number cells) (variables_among p.answer)
 
   abbrev pub AllJoin : (ℕ → ℕ) → Type 0
   AllJoin numbers = Each ps (λ q. map numbers q.variables.items ∈ (numbers_of_table T q.table).rows)
 
   abbrev pub under : (ℕ → ℕ) → Cell → Value
-  under numbers c = value_of S (numbers (number_of cells c))
+  under numbers c = value_of S (numbers (cell_number cells c))
 
   below_in : (t : ℕ) (r : List ℕ) → r ∈ (numbers_of_table T t).rows → AreBelow (length S) r
   below_in t r m = (fits.each (numbers_of_table T t) (table_in T t r m)).within r m
@@ -136,7 +136,7 @@ module _ (K : List TableRows) (S : List Value) (T : List NumberTable) (p : Part)
       let n = named.all i h in
       let q = n.0 in
       let is : shown_row S (map numbers q.variables.items) ≡ map (under numbers) a.cells =
-      ap (λ (l : List ℕ). shown_row S (map numbers l)) n.2.variables ∙ (ap (shown_row S) (map-map numbers (number_of cells) a.cells) ∙ map-map (value_of S) (λ c. numbers (number_of cells c)) a.cells) in
+      ap (λ (l : List ℕ). shown_row S (map numbers l)) n.2.variables ∙ (ap (shown_row S) (map-map numbers (cell_number cells) a.cells) ∙ map-map (value_of S) (λ c. numbers (cell_number cells c)) a.cells) in
       let there_shown = row_in S T i q.table (map numbers q.variables.items) n.2.table (join q n.1) in
       (suited.exact i h (map (under numbers) a.cells)).0 (subst (λ (row : List Value). row ∈ rows_of (shown_tables S T) i) is there_shown)
 
@@ -165,13 +165,13 @@ module _ (K : List TableRows) (S : List Value) (T : List NumberTable) (p : Part)
   cell_constant numbers join (Lit t) m = (t, refl)
 
   shown_values : (numbers : ℕ → ℕ) → shown_row S (map numbers shown) ≡ map (under numbers) (variables_among p.answer)
-  shown_values numbers = ap (shown_row S) (map-map numbers (number_of cells) (variables_among p.answer)) ∙ map-map (value_of S) (λ c. numbers (number_of cells c)) (variables_among p.answer)
+  shown_values numbers = ap (shown_row S) (map-map numbers (cell_number cells) (variables_among p.answer)) ∙ map-map (value_of S) (λ c. numbers (cell_number cells c)) (variables_among p.answer)
 
   -- a join gives a constant answer
-  from_join : (numbers : ℕ → ℕ) → AllJoin numbers → IsConstantAnswer (facts K) p (filled p.answer (shown_row S (map numbers shown)))
+  from_join : (numbers : ℕ → ℕ) → AllJoin numbers → IsConstantAnswer (facts K) p (answer_values p.answer (shown_row S (map numbers shown)))
   from_join numbers join =
       let row : List Value = map (assigned (λ x. under numbers (Var x))) p.answer in
-      let is : filled p.answer (shown_row S (map numbers shown)) ≡ row = ap (filled p.answer) (shown_values numbers) ∙ filled_is (under numbers) p.answer part.answer in
+      let is : answer_values p.answer (shown_row S (map numbers shown)) ≡ row = ap (answer_values p.answer) (shown_values numbers) ∙ filled_is (under numbers) p.answer part.answer in
       let each : Each row IsConstant = λ v m. let r = from_map (assigned (λ x. under numbers (Var x))) p.answer m in subst IsConstant r.2 (cell_constant numbers join r.0 r.1) in
       (((λ x. under numbers (Var x)), atom_said numbers join, is), subst (λ (r : List Value). Each r IsConstant) (sym is) each)
 
@@ -179,12 +179,12 @@ module _ (K : List TableRows) (S : List Value) (T : List NumberTable) (p : Part)
   join_below : (numbers : ℕ → ℕ) → AllJoin numbers → AreBelow (length S) (map numbers shown)
   join_below numbers join n m =
       let r = from_map numbers shown m in
-      let k = from_map (number_of cells) (variables_among p.answer) r.1 in
+      let k = from_map (cell_number cells) (variables_among p.answer) r.1 in
       let v = variable_there p.answer k.0 k.1 in
       let a = variable_atom v.0 v.2 in
       let q = named.all a.0 a.1 in
-      let there_variable : number_of cells (Var v.0) ∈ q.0.variables.items = subst (λ (l : List ℕ). number_of cells (Var v.0) ∈ l) (sym q.2.variables) (in_map (number_of cells) a.2) in
-      let is : numbers (number_of cells (Var v.0)) ≡ n = ap (λ (c : Cell). numbers (number_of cells c)) (sym v.1) ∙ (ap numbers k.2 ∙ r.2) in
+      let there_variable : cell_number cells (Var v.0) ∈ q.0.variables.items = subst (λ (l : List ℕ). cell_number cells (Var v.0) ∈ l) (sym q.2.variables) (in_map (cell_number cells) a.2) in
+      let is : numbers (cell_number cells (Var v.0)) ≡ n = ap (λ (c : Cell). numbers (cell_number cells c)) (sym v.1) ∙ (ap numbers k.2 ∙ r.2) in
       subst (λ (x : ℕ). x < length S) is (below_in q.0.table _ (join q.0 q.1) _ (in_map numbers there_variable))
 
   module _ (values : ℕ → Value) (said : Each p.atoms (λ a. fact_said values a ∈ facts K)) (constant : (x : ℕ) → Var x ∈ p.answer → IsConstant (values x)) where
@@ -199,10 +199,10 @@ module _ (K : List TableRows) (S : List Value) (T : List NumberTable) (p : Part)
         let at = (suited.exact i h (map (assigned values) a.cells)).1 (row, assigned_suits values p.answer a.cells constant) in
         from_map (shown_row S) (numbers_of_table T i).rows (rw (rows_shown S T i) at at)
 
-    named_same : (i : ℕ) → i < length p.atoms → map numbers_for (map (number_of cells) (atom_at p.atoms i).cells) ≡ map (number_in S) (map (assigned values) (atom_at p.atoms i).cells)
+    named_same : (i : ℕ) → i < length p.atoms → map numbers_for (map (cell_number cells) (atom_at p.atoms i).cells) ≡ map (number_in S) (map (assigned values) (atom_at p.atoms i).cells)
     named_same i h =
-        map-map numbers_for (number_of cells) (atom_at p.atoms i).cells
-        ∙ (map_same (λ c. numbers_for (number_of cells c)) (λ c. number_in S (assigned values c)) (atom_at p.atoms i).cells (λ c m. ap (λ (d : Cell). number_in S (assigned values d)) (at_number cells c (atom_cells i h c m)))
+        map-map numbers_for (cell_number cells) (atom_at p.atoms i).cells
+        ∙ (map_same (λ c. numbers_for (cell_number cells c)) (λ c. number_in S (assigned values c)) (atom_at p.atoms i).cells (λ c m. ap (λ (d : Cell). number_in S (assigned values d)) (at_number cells c (atom_cells i h c m)))
         ∙ sym (map-map (number_in S) (assigned values) (atom_at p.atoms i).cells))
 
     to_join : AllJoin numbers_for
@@ -228,19 +228,19 @@ module _ (K : List TableRows) (S : List Value) (T : List NumberTable) (p : Part)
         go c m =
             let v = variable_there p.answer c m in
             let a = variable_atom v.0 v.2 in
-            let at : cell_at cells (number_of cells (Var v.0)) ≡ Var v.0 = at_number cells (Var v.0) (atom_cells a.0 a.1 (Var v.0) a.2) in
+            let at : cell_at cells (cell_number cells (Var v.0)) ≡ Var v.0 = at_number cells (Var v.0) (atom_cells a.0 a.1 (Var v.0) a.2) in
             let is : under numbers_for (Var v.0) ≡ values v.0 = ap (λ (d : Cell). value_of S (number_in S (assigned values d))) at ∙ (number_there S (values v.0) (value_there v.0 v.2)).1 in
             subst (λ (d : Cell). under numbers_for d ≡ assigned values d) (sym v.1) is
 
-    to_row : filled p.answer (shown_row S (map numbers_for shown)) ≡ map (assigned values) p.answer
-    to_row = ap (filled p.answer) values_shown ∙ filled_is (assigned values) p.answer part.answer
+    to_row : answer_values p.answer (shown_row S (map numbers_for shown)) ≡ map (assigned values) p.answer
+    to_row = ap (answer_values p.answer) values_shown ∙ filled_is (assigned values) p.answer part.answer
 
   answer_constant : (values : ℕ → Value) (row : List Value) → row ≡ map (assigned values) p.answer → Each row IsConstant → (x : ℕ) → Var x ∈ p.answer → IsConstant (values x)
   answer_constant values row e each x m = each (values x) (subst (λ (r : List Value). values x ∈ r) (sym e) (in_map (assigned values) m))
 
-  pub stand_for : (table : NumberTable) → AreThose (length shown) (IsJoined T ps shown) table → StandForAnswers (facts K) p S table
+  pub stand_for : (table : NumberTable) → AreThose (length shown) (IsJoinRow T ps shown) table → StandForAnswers (facts K) p S table
   stand_for table h = record {
-    wide = λ r m. let j = (h.exact r).0 m in ap length j.2 ∙ (length-map shown j.0 ∙ length-map (variables_among p.answer) (number_of cells));
+    wide = λ r m. let j = (h.exact r).0 m in ap length j.2 ∙ (length-map shown j.0 ∙ length-map (variables_among p.answer) (cell_number cells));
     below = λ r m. let j = (h.exact r).0 m in subst (λ (x : List ℕ). AreBelow (length S) x) (sym j.2) (join_below j.0 j.1);
     exact = λ row. (
       (λ a. let constant = answer_constant a.0.0 row a.0.2 a.1 in (
@@ -249,30 +249,30 @@ module _ (K : List TableRows) (S : List Value) (T : List NumberTable) (p : Part)
         a.0.2 ∙ sym (to_row a.0.0 a.0.1 constant),
       )),
       (λ m. let j = (h.exact m.0).0 m.1 in
-          subst (λ (x : List Value). IsConstantAnswer (facts K) p x) (sym m.2) (subst (λ (r : List ℕ). IsConstantAnswer (facts K) p (filled p.answer (shown_row S r))) (sym j.2) (from_join j.0 j.1))),
+          subst (λ (x : List Value). IsConstantAnswer (facts K) p x) (sym m.2) (subst (λ (r : List ℕ). IsConstantAnswer (facts K) p (answer_values p.answer (shown_row S r))) (sym j.2) (from_join j.0 j.1))),
     );
   }
 
   -- ---- different rows of numbers stand for different answers
 
   abbrev pub answer_of : List ℕ → List Value
-  answer_of r = filled p.answer (shown_row S r)
+  answer_of r = answer_values p.answer (shown_row S r)
 
   many_shown : (numbers : ℕ → ℕ) → length (shown_row S (map numbers shown)) ≡ length (variables_among p.answer)
   many_shown numbers = ap length (shown_values numbers) ∙ length-map (variables_among p.answer) (under numbers)
 
-  joined_below : (a : List ℕ) → IsJoined T ps shown a → AreBelow (length S) a
+  joined_below : (a : List ℕ) → IsJoinRow T ps shown a → AreBelow (length S) a
   joined_below a j = subst (λ (x : List ℕ). AreBelow (length S) x) (sym j.2) (join_below j.0 j.1)
 
-  joined_many : (a : List ℕ) → IsJoined T ps shown a → length (shown_row S a) ≡ length (variables_among p.answer)
+  joined_many : (a : List ℕ) → IsJoinRow T ps shown a → length (shown_row S a) ≡ length (variables_among p.answer)
   joined_many a j = subst (λ (x : List ℕ). length (shown_row S x) ≡ length (variables_among p.answer)) (sym j.2) (many_shown j.0)
 
-  same_row : (a b : List ℕ) → IsJoined T ps shown a → IsJoined T ps shown b → answer_of a ≡ answer_of b → a ≡ b
+  same_row : (a b : List ℕ) → IsJoinRow T ps shown a → IsJoinRow T ps shown b → answer_of a ≡ answer_of b → a ≡ b
   same_row a b j k e =
       row_same S a b fits.apart (joined_below a j) (joined_below b k)
       (filled_same p.answer (shown_row S a) (shown_row S b) part.answer (joined_many a j) (joined_many b k) e)
 
-  pub more_answers : (most : ℕ) → MoreThan most (IsJoined T ps shown) → MoreRows most (IsConstantAnswer (facts K) p)
+  pub more_answers : (most : ℕ) → MoreThan most (IsJoinRow T ps shown) → MoreRows most (IsConstantAnswer (facts K) p)
   more_answers most h = record {
     rows = map answer_of h.some;
     distinct = distinct_map answer_of h.some (λ a b m k e. same_row a b (h.each a m) (h.each b k) e) h.distinct;
@@ -283,8 +283,8 @@ module _ (K : List TableRows) (S : List Value) (T : List NumberTable) (p : Part)
   }
 
 pub result_answers : (K : List TableRows) (S : List Value) (T : List NumberTable) (p : Part) (w : ℕ) (ps : List Pattern) (shown : List ℕ) (most : ℕ) (result : Result (Option NumberTable) AllocError)
-    → PartsFit S T → IsSuited K p (shown_tables S T) → IsPart w p → AreNamed (cells_of p.atoms) p.atoms (length p.atoms) ps → shown ≡ map (number_of (cells_of p.atoms)) (variables_among p.answer)
-    → IfOk result (λ o. MatchOption o (MoreThan most (IsJoined T ps shown)) (AreThose (length shown) (IsJoined T ps shown)))
+    → PartsFit S T → IsSuited K p (shown_tables S T) → PartFits w p → ArePatternsOf (cells_of p.atoms) p.atoms (length p.atoms) ps → shown ≡ map (cell_number (cells_of p.atoms)) (variables_among p.answer)
+    → IfOk result (λ o. MatchOption o (MoreThan most (IsJoinRow T ps shown)) (AreThose (length shown) (IsJoinRow T ps shown)))
     → IfOk result (λ o. MatchOption o (MoreRows most (IsConstantAnswer (facts K) p)) (StandForAnswers (facts K) p S))
 result_answers K S T p w ps shown most (Err e) fits suited part named is k = tt
 result_answers K S T p w ps shown most (Ok None) fits suited part named is k = more_answers K S T p w ps fits suited part named most (rw is at k)
@@ -292,7 +292,7 @@ result_answers K S T p w ps shown most (Ok (Some r)) fits suited part named is k
 
 -- ---- what the join is asked for
 
-pub safe_there : (p : Part) (w : ℕ) → IsPart w p → variables_among p.answer ⊆ cells_of p.atoms
+pub safe_there : (p : Part) (w : ℕ) → PartFits w p → variables_among p.answer ⊆ cells_of p.atoms
 safe_there p w part c m = let v = variable_there p.answer c m in subst (λ (d : Cell). d ∈ cells_of p.atoms) (sym v.1) (part.safe v.0 v.2)
 
 variables_few : (cells : List Cell) → length (variables_among cells) ≤ length cells
@@ -301,18 +301,18 @@ variables_few (Var x ∷ cells) = let r = variables_few cells in omega (arith, r
 variables_few (Ex v ∷ cells) = let r = variables_few cells in omega (arith, r)
 variables_few (Lit t ∷ cells) = let r = variables_few cells in omega (arith, r)
 
-pub named_as : (cells cells' : List Cell) (atoms atoms' : List Atom) (ps : List Pattern) → cells ≡ cells' → atoms ≡ atoms' → AreNamed cells atoms (length atoms) ps → AreNamed cells' atoms' (length atoms') ps
-named_as cells cells' atoms atoms' ps e d k = subst (λ (cs : List Cell). AreNamed cs atoms' (length atoms') ps) e (subst (λ (bs : List Atom). AreNamed cells bs (length bs) ps) d k)
+pub named_as : (cells cells' : List Cell) (atoms atoms' : List Atom) (ps : List Pattern) → cells ≡ cells' → atoms ≡ atoms' → ArePatternsOf cells atoms (length atoms) ps → ArePatternsOf cells' atoms' (length atoms') ps
+named_as cells cells' atoms atoms' ps e d k = subst (λ (cs : List Cell). ArePatternsOf cs atoms' (length atoms') ps) e (subst (λ (bs : List Atom). ArePatternsOf cells bs (length bs) ps) d k)
 
-module _ (p : Part) (w : ℕ) (ps : List Pattern) (shown : List ℕ) (part : IsPart w p) (named : AreNamed (cells_of p.atoms) p.atoms (length p.atoms) ps) (is : shown ≡ map (number_of (cells_of p.atoms)) (variables_among p.answer)) where
-  pub shown_there : shown ⊆ variables_of ps
+module _ (p : Part) (w : ℕ) (ps : List Pattern) (shown : List ℕ) (part : PartFits w p) (named : ArePatternsOf (cells_of p.atoms) p.atoms (length p.atoms) ps) (is : shown ≡ map (cell_number (cells_of p.atoms)) (variables_among p.answer)) where
+  pub shown_there : shown ⊆ variables_of_patterns ps
   shown_there n m =
-      let k = from_map (number_of (cells_of p.atoms)) (variables_among p.answer) (rw is at m) in
-      let at = in_map (number_of (cells_of p.atoms)) (safe_there p w part k.0 k.1) in
-      subst (λ (l : List ℕ). n ∈ l) (sym (named_variables (cells_of p.atoms) p.atoms ps named)) (subst (λ (x : ℕ). x ∈ map (number_of (cells_of p.atoms)) (cells_of p.atoms)) k.2 at)
+      let k = from_map (cell_number (cells_of p.atoms)) (variables_among p.answer) (rw is at m) in
+      let at = in_map (cell_number (cells_of p.atoms)) (safe_there p w part k.0 k.1) in
+      subst (λ (l : List ℕ). n ∈ l) (sym (named_variables (cells_of p.atoms) p.atoms ps named)) (subst (λ (x : ℕ). x ∈ map (cell_number (cells_of p.atoms)) (cells_of p.atoms)) k.2 at)
 
   pub shown_few : length p.answer < 2 ^ 32 → length shown < 2 ^ 32
-  shown_few h = omega (arith, h, variables_few p.answer, ap length is, length-map (variables_among p.answer) (number_of (cells_of p.atoms)))
+  shown_few h = omega (arith, h, variables_few p.answer, ap length is, length-map (variables_among p.answer) (cell_number (cells_of p.atoms)))
 
-  pub variables_few_in : length (cells_of p.atoms) < 2 ^ 32 → length (variables_of ps) < 2 ^ 32
-  variables_few_in h = omega (arith, h, ap length (named_variables (cells_of p.atoms) p.atoms ps named), length-map (cells_of p.atoms) (number_of (cells_of p.atoms)))
+  pub variables_few_in : length (cells_of p.atoms) < 2 ^ 32 → length (variables_of_patterns ps) < 2 ^ 32
+  variables_few_in h = omega (arith, h, ap length (named_variables (cells_of p.atoms) p.atoms ps named), length-map (cells_of p.atoms) (cell_number (cells_of p.atoms)))

@@ -13,20 +13,20 @@ use Rattle.dx_model.specs.declared.values.Value.TheVariants.{Const}
 use Rattle.dx_model.specs.declared.rules.Cell.{Cell}
 use Rattle.dx_model.specs.declared.rules.Cell.TheVariants.{Var, Ex, Lit}
 use Rattle.dx_model.specs.declared.rules.Atom.{Atom}
-use Rattle.dx_model.specs.Rules.{cells_of}
+use Rattle.dx_model.specs.Rules.{cells_of, atom_at}
 use Rattle.dx_model.specs.Fitting.{AtomsFitWidths}
 use Rattle.dx_model.specs.Tables.{cell}
 use Rattle.dx_instance.specs.Numbers.{value_of}
 use Rattle.dx_instance.specs.Cells.{NumberTable, numbers_at}
-use Rattle.dx_instance.specs.Shown.{Numbered, PartsFit, RowsFit, numbers_of_table, shown_row, shown_tables}
+use Rattle.dx_instance.specs.Shown.{NumberedInstance, PartsFit, NumberRowsFit, numbers_of_table, shown_row, shown_tables}
 use Rattle.dx_instance.specs.Stored.{IsSorting, TableRows, widths}
 use Rattle.dx_joins.specs.declared.pattern.Pattern.{Pattern}
-use Rattle.dx_joins.specs.Joining.{variables_of}
+use Rattle.dx_joins.specs.Joining.{variables_of_patterns}
 use Rattle.dx_joins.specs.Planning.{FitPattern}
 use Rattle.dx_joins.proofs.Translating.{rows_shown}
 use Rattle.dx_queries.specs.declared.query.Part.{Part}
-use Rattle.dx_certain.specs.Suiting.{IsSuited, IsSuiting, RowSuits, Suits, atom_at, cell_at, no_atom}
-use Rattle.dx_certain.specs.Naming.{AreNamed, IsNamed, number_of, variables_among}
+use Rattle.dx_certain.specs.Suiting.{IsSuited, IsSuiting, RowSuits, Suits, cell_at, no_atom}
+use Rattle.dx_certain.specs.Naming.{ArePatternsOf, IsPatternOf, cell_number, variables_among}
 
 -- ---- rows that are gone through
 
@@ -123,10 +123,10 @@ table_there : (T : List NumberTable) (t : ℕ) → t < length T → numbers_of_t
 table_there T t h = in_at T t (record { width = 0; rows = [] }) h
 
 module _ (S : List Value) (T : List NumberTable) (p : Part) (fits : PartsFit S T) (wide : AtomsFitWidths (widths (shown_tables S T)) p.atoms) where
-  abbrev pub source : Numbered
+  abbrev pub source : NumberedInstance
   source = record { symbols = S; tables = T }
 
-  pub suiting_fit : (tables : List NumberTable) → AllZip (IsSuiting source p.answer) p.atoms tables → Each tables (RowsFit (length S))
+  pub suiting_fit : (tables : List NumberTable) → AllZip (IsSuiting source p.answer) p.atoms tables → Each tables (NumberRowsFit (length S))
   suiting_fit tables z t m =
       let r = zip_in (IsSuiting source p.answer) p.atoms tables t z m in
       let a = at_table S T r.0.table (length r.0.cells) (wide r.0 r.1) in
@@ -173,24 +173,24 @@ cells_next atoms n a h e = ap cells_of (take_more atoms n a h) ∙ (split (take 
 pub all_next : (atoms : List Atom) (n : ℕ) (a : Atom) (all : List Cell) → n < length atoms → a ≡ get_or atoms n a → all ≡ cells_of (take n atoms) → all ++ a.cells ≡ cells_of (take (n + 1) atoms)
 all_next atoms n a all h e k = ap (λ (l : List Cell). l ++ a.cells) k ∙ sym (cells_next atoms n a h e)
 
-pub named_none : (cells : List Cell) (atoms : List Atom) → AreNamed cells atoms 0 []
+pub named_none : (cells : List Cell) (atoms : List Atom) → ArePatternsOf cells atoms 0 []
 named_none cells atoms = record { each = λ p m. elim m [ ]; all = λ i h. absurd (omega (arith, h)); variables = refl }
 
-pub named_more : (cells : List Cell) (atoms : List Atom) (n : ℕ) (ps : List Pattern) (q : Pattern) (a : Atom) → n < length atoms → a ≡ get_or atoms n a → q.table ≡ n → q.variables.items ≡ map (number_of cells) a.cells
-    → AreNamed cells atoms n ps → AreNamed cells atoms (n + 1) (ps ++ q ∷ [])
+pub named_more : (cells : List Cell) (atoms : List Atom) (n : ℕ) (ps : List Pattern) (q : Pattern) (a : Atom) → n < length atoms → a ≡ get_or atoms n a → q.table ≡ n → q.variables.items ≡ map (cell_number cells) a.cells
+    → ArePatternsOf cells atoms n ps → ArePatternsOf cells atoms (n + 1) (ps ++ q ∷ [])
 named_more cells atoms n ps q a h e t v k =
     let at : atom_at atoms n ≡ a = sym (e ∙ get_or_default atoms n a no_atom h) in
-    let is : IsNamed cells n (atom_at atoms n) q = record { table = t; variables = v ∙ ap (λ (b : Atom). map (number_of cells) b.cells) (sym at) } in
+    let is : IsPatternOf cells n (atom_at atoms n) q = record { table = t; variables = v ∙ ap (λ (b : Atom). map (cell_number cells) b.cells) (sym at) } in
     record {
       each = λ p m. elim (from_append ps m) [
         | inl l ↦ let r = k.each p l in (r.0, omega (arith, r.1), r.2)
-        | inr o ↦ (n, omega arith, subst (λ (x : Pattern). IsNamed cells n (atom_at atoms n) x) (only p o) is)
+        | inr o ↦ (n, omega arith, subst (λ (x : Pattern). IsPatternOf cells n (atom_at atoms n) x) (only p o) is)
       ];
       all = λ i b. elim (below_or i b) [
         | inl l ↦ let r = k.all i l in (r.0, in_left (q ∷ []) r.1, r.2)
         | inr s ↦ (q, in_right ps (here refl), rw s is)
       ];
-      variables = split ps ∙ (ap (λ (l : List ℕ). l ++ q.variables.items) k.variables ∙ (ap (λ (l : List ℕ). map (number_of cells) (cells_of (take n atoms)) ++ l) v ∙ (sym (map-append (number_of cells) (cells_of (take n atoms)) a.cells) ∙ ap (map (number_of cells)) (sym (cells_next atoms n a h e)))));
+      variables = split ps ∙ (ap (λ (l : List ℕ). l ++ q.variables.items) k.variables ∙ (ap (λ (l : List ℕ). map (cell_number cells) (cells_of (take n atoms)) ++ l) v ∙ (sym (map-append (cell_number cells) (cells_of (take n atoms)) a.cells) ∙ ap (map (cell_number cells)) (sym (cells_next atoms n a h e)))));
     }
   where
     only : (p : Pattern) → p ∈ (q ∷ []) → q ≡ p
@@ -200,9 +200,9 @@ named_more cells atoms n ps q a h e t v k =
     below_or : (i : ℕ) → i < n + 1 → (i < n) ⊎ (i ≡ n)
     below_or i b = let h : i ≤ n = omega (arith, b) in elim (eq-or-lt_of_le h) [ inl e ↦ inr e | inr l ↦ inl l ]
 
-    split : (xs : List Pattern) → variables_of (xs ++ q ∷ []) ≡ variables_of xs ++ q.variables.items
+    split : (xs : List Pattern) → variables_of_patterns (xs ++ q ∷ []) ≡ variables_of_patterns xs ++ q.variables.items
     split [] = append-nil q.variables.items
-    split (x ∷ xs) = ap (λ (l : List ℕ). x.variables.items ++ l) (split xs) ∙ sym (append_assoc x.variables.items (variables_of xs) q.variables.items)
+    split (x ∷ xs) = ap (λ (l : List ℕ). x.variables.items ++ l) (split xs) ∙ sym (append_assoc x.variables.items (variables_of_patterns xs) q.variables.items)
 
 pub variables_next : (cells : List Cell) (n : ℕ) (c : Cell) → n < length cells → c ≡ get_or cells n c → variables_among (take (n + 1) cells) ≡ variables_among (take n cells) ++ variables_among (c ∷ [])
 variables_next cells n c h e = ap variables_among (take_more cells n c h ∙ ap (λ (d : Cell). take n cells ++ d ∷ []) (sym e)) ∙ split (take n cells)
@@ -220,14 +220,14 @@ at_widths S [] (a ∷ atoms) i e h = absurd (cc e)
 at_widths S (t ∷ T) (a ∷ atoms) zero e h = (omega arith, cc e)
 at_widths S (t ∷ T) (a ∷ atoms) (suc i) e h = let k = at_widths S T atoms i (cc e) (omega (arith, h)) in (omega (arith, k.0), k.1)
 
-pub named_fit : (S : List Value) (T : List NumberTable) (cells : List Cell) (atoms : List Atom) (ps : List Pattern) → widths (shown_tables S T) ≡ map (λ (a : Atom). length a.cells) atoms → AreNamed cells atoms (length atoms) ps → Each ps (FitPattern T)
+pub named_fit : (S : List Value) (T : List NumberTable) (cells : List Cell) (atoms : List Atom) (ps : List Pattern) → widths (shown_tables S T) ≡ map (λ (a : Atom). length a.cells) atoms → ArePatternsOf cells atoms (length atoms) ps → Each ps (FitPattern T)
 named_fit S T cells atoms ps e k q m =
     let r = k.each q m in
     let w = at_widths S T atoms r.0 e r.1 in
-    record { table = rw r.2.table w.0; width = rw r.2.table (w.1 ∙ sym (ap length r.2.variables ∙ length-map (atom_at atoms r.0).cells (number_of cells))) }
+    record { table = rw r.2.table w.0; width = rw r.2.table (w.1 ∙ sym (ap length r.2.variables ∙ length-map (atom_at atoms r.0).cells (cell_number cells))) }
 
-pub named_variables : (cells : List Cell) (atoms : List Atom) (ps : List Pattern) → AreNamed cells atoms (length atoms) ps → variables_of ps ≡ map (number_of cells) (cells_of atoms)
-named_variables cells atoms ps k = k.variables ∙ ap (λ (l : List Atom). map (number_of cells) (cells_of l)) (take_all (length atoms) atoms (omega arith))
+pub named_variables : (cells : List Cell) (atoms : List Atom) (ps : List Pattern) → ArePatternsOf cells atoms (length atoms) ps → variables_of_patterns ps ≡ map (cell_number cells) (cells_of atoms)
+named_variables cells atoms ps k = k.variables ∙ ap (λ (l : List Atom). map (cell_number cells) (cells_of l)) (take_all (length atoms) atoms (omega arith))
 
 pub zip_more : {X Y : Type 0} (R : X → Y → Type 0) (xs : List X) (ys : List Y) (i : ℕ) (x : X) (y : Y) → i < length xs → x ≡ get_or xs i x → AllZip R (take i xs) ys → R x y → AllZip R (take (i + 1) xs) (ys ++ y ∷ [])
 zip_more R xs ys i x y h e z r = rw (take_more xs i x h, ← e) (zip_push R (take i xs) ys x y z r)
@@ -237,7 +237,7 @@ pub result_suited : (S : List Value) (T : List NumberTable) (p : Part) → Parts
 result_suited S T p fits wide tables K (Err e) z is s = tt
 result_suited S T p fits wide tables K (Ok J) z is s = subst (λ (I : List TableRows). IsSuited I p J) is (suited_sorted S T p fits wide tables J z s)
 
-pub zip_as : (source : Numbered) (answer answer' : List Cell) (atoms atoms' : List Atom) (tables : List NumberTable) → answer ≡ answer' → atoms ≡ atoms' → AllZip (IsSuiting source answer) atoms tables → AllZip (IsSuiting source answer') atoms' tables
+pub zip_as : (source : NumberedInstance) (answer answer' : List Cell) (atoms atoms' : List Atom) (tables : List NumberTable) → answer ≡ answer' → atoms ≡ atoms' → AllZip (IsSuiting source answer) atoms tables → AllZip (IsSuiting source answer') atoms' tables
 zip_as source answer answer' atoms atoms' tables e d z = subst (λ (cs : List Cell). AllZip (IsSuiting source cs) atoms' tables) e (subst (λ (xs : List Atom). AllZip (IsSuiting source answer) xs tables) d z)
 
 -- ---- the numbers of variables
@@ -254,22 +254,22 @@ variable_listed answer i c x h e v = go answer (item_in answer i c h e)
     go (Ex y ∷ cs) (there m) = go cs m
     go (Lit t ∷ cs) (there m) = go cs m
 
-pub number_more : (cells answer : List Cell) (shown : List ℕ) (i : ℕ) (c : Cell) (x : ℕ) → i < length answer → c ≡ get_or answer i c → c ≡ Var x → shown ≡ map (number_of cells) (variables_among (take i answer))
-    → shown ++ number_of cells c ∷ [] ≡ map (number_of cells) (variables_among (take (i + 1) answer))
+pub number_more : (cells answer : List Cell) (shown : List ℕ) (i : ℕ) (c : Cell) (x : ℕ) → i < length answer → c ≡ get_or answer i c → c ≡ Var x → shown ≡ map (cell_number cells) (variables_among (take i answer))
+    → shown ++ cell_number cells c ∷ [] ≡ map (cell_number cells) (variables_among (take (i + 1) answer))
 number_more cells answer shown i c x h e v k =
-    ap (λ (l : List ℕ). l ++ number_of cells c ∷ []) k ∙ (sym (map-append (number_of cells) (variables_among (take i answer)) (c ∷ [])) ∙ ap (map (number_of cells)) (sym (variables_next answer i c h e ∙ ap (λ (l : List Cell). variables_among (take i answer) ++ l) alone)))
+    ap (λ (l : List ℕ). l ++ cell_number cells c ∷ []) k ∙ (sym (map-append (cell_number cells) (variables_among (take i answer)) (c ∷ [])) ∙ ap (map (cell_number cells)) (sym (variables_next answer i c h e ∙ ap (λ (l : List Cell). variables_among (take i answer) ++ l) alone)))
   where
     alone : variables_among (c ∷ []) ≡ c ∷ []
     alone = rw v refl
 
-pub number_same : (cells answer : List Cell) (shown : List ℕ) (i : ℕ) (c : Cell) → i < length answer → c ≡ get_or answer i c → ((x : ℕ) → ¬ (c ≡ Var x)) → shown ≡ map (number_of cells) (variables_among (take i answer))
-    → shown ≡ map (number_of cells) (variables_among (take (i + 1) answer))
-number_same cells answer shown i c h e n k = k ∙ ap (map (number_of cells)) (sym (variables_next answer i c h e ∙ (ap (λ (l : List Cell). variables_among (take i answer) ++ l) (none c n) ∙ append-nil (variables_among (take i answer)))))
+pub number_same : (cells answer : List Cell) (shown : List ℕ) (i : ℕ) (c : Cell) → i < length answer → c ≡ get_or answer i c → ((x : ℕ) → ¬ (c ≡ Var x)) → shown ≡ map (cell_number cells) (variables_among (take i answer))
+    → shown ≡ map (cell_number cells) (variables_among (take (i + 1) answer))
+number_same cells answer shown i c h e n k = k ∙ ap (map (cell_number cells)) (sym (variables_next answer i c h e ∙ (ap (λ (l : List Cell). variables_among (take i answer) ++ l) (none c n) ∙ append-nil (variables_among (take i answer)))))
   where
     none : (c : Cell) → ((x : ℕ) → ¬ (c ≡ Var x)) → variables_among (c ∷ []) ≡ []
     none (Var x) n = absurd (n x refl)
     none (Ex v) n = refl
     none (Lit t) n = refl
 
-pub shown_as : (cells cells' answer answer' : List Cell) → cells ≡ cells' → answer ≡ answer' → map (number_of cells) (variables_among answer) ≡ map (number_of cells') (variables_among answer')
+pub shown_as : (cells cells' answer answer' : List Cell) → cells ≡ cells' → answer ≡ answer' → map (cell_number cells) (variables_among answer) ≡ map (cell_number cells') (variables_among answer')
 shown_as cells cells' answer answer' e d = rw (e, d) refl

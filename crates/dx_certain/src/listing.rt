@@ -4,11 +4,11 @@ ghost use Rattle.dx_ports.specs.Members.{◌∈◌, Each};
 ghost use Rattle.dx_instance.specs.Stored.{facts, rows_of, table_at, widths};
 ghost use Rattle.dx_instance.specs.Places.{row_at};
 ghost use Rattle.dx_model.specs.Values.{RowsAscend};
-ghost use Rattle.dx_joins.specs.Shown.{text_in};
-ghost use Rattle.dx_certain.specs.Suiting.{IsConstant};
+ghost use Rattle.dx_instance.specs.Ranks.{text_of_value};
+ghost use Rattle.dx_instance.specs.Numbers.{IsConstant};
 ghost use Rattle.dx_queries.specs.Results.{AreConstantAnswers, FitsPart, FitsQuery};
 ghost use Rattle.dx_certain.specs.Listing.{ListsCertain};
-ghost use Rattle.dx_certain.specs.Refusal.{IsRefusal};
+ghost use Rattle.dx_certain.specs.Refusal.{IsCertainRefusal};
 ghost use Rattle.dx_certain.specs.Finding.{HasThose, IsAmong};
 
 use crate::adding::{add_part, has_answer};
@@ -32,7 +32,7 @@ fn gathered(
     ensures widths { IfOk result (λ I. widths I ≡ width ∷ []) }
     ensures rows { IfOk result (λ I. HasThose I (IsAmong (facts target.now) parts.now)) }
     ensures within { IfOk result (λ I. length (rows_of I 0) * width ≤ limit) }
-    ensures refused { IfErr result (IsRefusal (facts target.now) (record { width = width; parts = parts.now }) limit) }
+    ensures refused { IfErr result (IsCertainRefusal (facts target.now) (record { width = width; parts = parts.now }) limit) }
 {
     let most = limit / u64::from(width);
     let mut answers = Instance::new(alloc, vec![in alloc; width]?)?;
@@ -53,7 +53,7 @@ fn push_texts(rows: &Instance, place: u32, texts: &mut Vec<Text>) -> Result<(), 
     requires place { place < length (rows_of rows.now 0) }
     requires wide { length (row_at rows.now 0 place) ≡ (table_at rows.now 0).width }
     requires constants { Each (row_at rows.now 0 place) IsConstant }
-    ensures { OnOk result (texts.new.items ≡ texts.old.items ++ map text_in (row_at rows.now 0 place)) }
+    ensures { OnOk result (texts.new.items ≡ texts.old.items ++ map text_of_value (row_at rows.now 0 place)) }
 {
     for column in 0..rows.width(0) {
         match rows.cell(0, place, column) {
@@ -68,7 +68,7 @@ fn push_texts(rows: &Instance, place: u32, texts: &mut Vec<Text>) -> Result<(), 
 fn tuples_of(alloc: Global, rows: &Instance) -> Result<Tuples, AllocError>
     requires table { 0 < length rows.now }
     requires constants { Each (rows_of rows.now 0) (λ row. Each row IsConstant) }
-    ensures { IfOk result (λ tuples. tuples ≡ map (map text_in) (rows_of rows.now 0)) }
+    ensures { IfOk result (λ tuples. tuples ≡ map (map text_of_value) (rows_of rows.now 0)) }
 {
     // What holds of the tables of each instance.
     let _tables = rows.tables();
@@ -104,7 +104,7 @@ fn listed(
     requires { FitsQuery (widths target.now) query.now }
     ensures exact { IfOk result (AreConstantAnswers (facts target.now) query.now) }
     ensures within { IfOk result (λ rows. length rows * query.now.width ≤ limit) }
-    ensures refused { IfErr result (IsRefusal (facts target.now) query.now limit) }
+    ensures refused { IfErr result (IsCertainRefusal (facts target.now) query.now limit) }
 {
     let parts = query.parts.items();
     if query.width == 0 {
@@ -131,7 +131,7 @@ pub fn certain(
     ensures exact { IfOk result (AreConstantAnswers (facts target.now) query.now) }
     ensures certain { IfOk result (ListsCertain (facts target.now) query.now) }
     ensures within { IfOk result (λ rows. length rows * query.now.width ≤ limit) }
-    ensures refused { IfErr result (IsRefusal (facts target.now) query.now limit) }
+    ensures refused { IfErr result (IsCertainRefusal (facts target.now) query.now limit) }
 {
     listed(alloc, query, target, limit)
 }

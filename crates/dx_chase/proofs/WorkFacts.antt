@@ -5,7 +5,7 @@ use Rattle.std.proofs.lemmas.List.{append-nil, nil_from_length}
 use Rattle.dx_ports.specs.Members.{◌∈◌, ◌⊆◌, here, there, Each}
 use Rattle.dx_ports.proofs.Members.{from_append, in_left, in_right}
 use Rattle.dx_ports.proofs.Ranges.{to_range}
-use Rattle.dx_chase.specs.Work.{Adds}
+use Rattle.dx_chase.specs.Work.{AddsNumbers}
 use Rattle.dx_chase.proofs.Opening.{firsts_more}
 
 -- the last of the numbers below n
@@ -21,11 +21,11 @@ take_fresh n old new h e l =
     ∙ (firsts_more (n - 1)
     ∙ ap (λ z. z ++ (n - 1) ∷ []) (sym (append-nil (range_with_len 0 (n - 1))) ∙ ap (λ z. range_with_len 0 (n - 1) ++ z) (sym b)))))
 
-pub adds_none : (old : List ℕ) → Adds [] old old
+pub adds_none : (old : List ℕ) → AddsNumbers [] old old
 adds_none old = record { stays = λ i m. m; all = λ i m. elim m [ ]; either = λ i m. inl m }
 
-adds_more : (more old now new : List ℕ) (one : ℕ) → now ⊆ new → one ∈ new → Each new (λ i. (i ∈ now) ⊎ (i ≡ one)) → Adds more old now
-    → Adds (more ++ one ∷ []) old new
+adds_more : (more old now new : List ℕ) (one : ℕ) → now ⊆ new → one ∈ new → Each new (λ i. (i ∈ now) ⊎ (i ≡ one)) → AddsNumbers more old now
+    → AddsNumbers (more ++ one ∷ []) old new
 adds_more more old now new one up there_is from A = record {
   stays = λ i m. up i (A.stays i m);
   all = λ i m. elim (from_append more m) [ inl l ↦ up i (A.all i l) | inr l ↦ last i l ];
@@ -40,15 +40,15 @@ adds_more more old now new one up there_is from A = record {
     last i (there e) = elim e [ ]
 
 -- one that was never taken waits already
-pub adds_fresh : (more old woken : List ℕ) (n one : ℕ) → one < n → Adds more old (range_with_len 0 n ++ woken)
-    → Adds (more ++ one ∷ []) old (range_with_len 0 n ++ woken)
+pub adds_fresh : (more old woken : List ℕ) (n one : ℕ) → one < n → AddsNumbers more old (range_with_len 0 n ++ woken)
+    → AddsNumbers (more ++ one ∷ []) old (range_with_len 0 n ++ woken)
 adds_fresh more old woken n one h A =
     let now : List ℕ = range_with_len 0 n ++ woken in
     adds_more more old now now one (λ i m. m) (in_left woken (to_range 0 n one (omega arith) (omega arith))) (λ i m. inl m) A
 
 -- another goes to the end
-pub adds_last : (more old woken new : List ℕ) (n one : ℕ) → new ≡ woken ++ one ∷ [] → Adds more old (range_with_len 0 n ++ woken)
-    → Adds (more ++ one ∷ []) old (range_with_len 0 n ++ new)
+pub adds_last : (more old woken new : List ℕ) (n one : ℕ) → new ≡ woken ++ one ∷ [] → AddsNumbers more old (range_with_len 0 n ++ woken)
+    → AddsNumbers (more ++ one ∷ []) old (range_with_len 0 n ++ new)
 adds_last more old woken new n one e A =
     adds_more more old (range_with_len 0 n ++ woken) (range_with_len 0 n ++ new) one up (in_right (range_with_len 0 n) (rw e (in_right woken (here refl)))) from A
   where

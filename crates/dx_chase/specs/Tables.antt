@@ -2,6 +2,6 @@
 use Rattle.std.specs.Prelude.{ℕ, List}
 use Rattle.dx_chase.specs.declared.tables.Columns.{Columns}
 
-pub record NumberTable : Type 0 where
+pub record ChaseTable : Type 0 where
   pub rows : List (List ℕ)
   pub determinations : List Columns

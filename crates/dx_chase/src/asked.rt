@@ -1,9 +1,9 @@
 // Demands as numbers: rows stay as they lie.
 ghost use Rattle.std.specs.Prelude.{◌≡◌, ◌<◌, ◌≤◌, ◌+◌, IfOk, OnOk, length};
 ghost use Rattle.dx_ports.specs.Members.{Each};
-ghost use Rattle.dx_chase.specs.Joins.{at, demand_at};
-ghost use Rattle.dx_chase.specs.Parts.{LieFrom, demands_in, part_at, picked};
-ghost use Rattle.dx_chase.specs.Rows.{AddsRows, AddsTable, AreRowDemands, ColumnsFit, columns_at, determination_count, row_at, row_count};
+ghost use Rattle.dx_chase.specs.Joins.{nth, demand_at};
+ghost use Rattle.dx_chase.specs.Parts.{LieFrom, demands_in, chase_part_at, picked};
+ghost use Rattle.dx_chase.specs.Rows.{AddsRows, AddsTable, AreRowDemands, ColumnsFit, determination_columns, determination_count, number_row, row_count};
 
 use crate::tables::{Columns, NumberTable};
 use std::alloc::{AllocError, Global};
@@ -87,7 +87,7 @@ fn determination_total(tables: &[NumberTable<'_>], table: u32) -> usize
 fn row_of<'a>(tables: &'a [NumberTable<'_>], table: u32, row: u32) -> &'a [u32]
     requires table { table < length tables.now }
     requires row { row < row_count tables.now table }
-    ensures { result.now ≡ row_at tables.now table row }
+    ensures { result.now ≡ number_row tables.now table row }
 {
     let found = &tables[table as usize];
     found.row(row)
@@ -96,7 +96,7 @@ fn row_of<'a>(tables: &'a [NumberTable<'_>], table: u32, row: u32) -> &'a [u32]
 fn columns_of<'a>(tables: &'a [NumberTable<'_>], table: u32, determination: u32) -> &'a Columns
     requires table { table < length tables.now }
     requires determination { determination < determination_count tables.now table }
-    ensures { result.now ≡ columns_at tables.now table determination }
+    ensures { result.now ≡ determination_columns tables.now table determination }
 {
     let found = &tables[table as usize];
     let all = found.determinations();
@@ -106,10 +106,10 @@ fn columns_of<'a>(tables: &'a [NumberTable<'_>], table: u32, determination: u32)
 // The part of a demand: the last one that does not begin after it.
 fn part_of(parts: &[Part], i: u32) -> usize
     requires some { 0 < length parts.now }
-    requires from { (part_at parts.now 0).first ≤ i }
+    requires from { (chase_part_at parts.now 0).first ≤ i }
     ensures inside { result < length parts.now }
-    ensures from { (part_at parts.now result).first ≤ i }
-    ensures to { result + 1 < length parts.now → i < (part_at parts.now (result + 1)).first }
+    ensures from { (chase_part_at parts.now result).first ≤ i }
+    ensures to { result + 1 < length parts.now → i < (chase_part_at parts.now (result + 1)).first }
 {
     let mut low = 0;
     let mut high = parts.len();

@@ -20,7 +20,7 @@ pub struct NumberTable<'a> {
 }
 
 impl<'a> Model for NumberTable<'a> {
-    ghost use Rattle.dx_chase.specs.Tables.{NumberTable as Keyed};
+    ghost use Rattle.dx_chase.specs.Tables.{ChaseTable as Keyed};
 
     ghost Value = { Keyed };
 

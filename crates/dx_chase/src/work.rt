@@ -1,7 +1,7 @@
 // The demands that wait.
 ghost use Rattle.std.specs.Prelude.{◌≡◌, ◌++◌, ◌∷◌, [], IfSome, IfNone, OnOk};
 ghost use Rattle.std.specs.List.{range_with_len};
-ghost use Rattle.dx_chase.specs.Work.{Adds};
+ghost use Rattle.dx_chase.specs.Work.{AddsNumbers};
 
 use std::alloc::{AllocError, Global};
 use std::marker::Model;
@@ -68,7 +68,7 @@ impl Work {
     ///
     /// `AllocError` if there is no memory.
     pub fn add(&mut self, more: &[u32]) -> Result<(), AllocError>
-        ensures { OnOk result (Adds more.now self.old self.new) }
+        ensures { OnOk result (AddsNumbers more.now self.old self.new) }
     {
         for one in more {
             if *one < self.fresh {

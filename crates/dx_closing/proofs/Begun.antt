@@ -5,7 +5,7 @@ use Rattle.dx_ports.specs.Members.{Each}
 use Rattle.dx_model.specs.declared.rules.Atom.{Atom}
 use Rattle.dx_model.specs.Solutions.{AtomFits}
 use Rattle.dx_schema.specs.Forest.{Forest}
-use Rattle.dx_schema.specs.Tables.{AreTables, tables_of, table_at, model_tables}
+use Rattle.dx_schema.specs.Tables.{AreTables, tables_of, schema_table, model_tables}
 use Rattle.dx_logical.proofs.Continued.{width_at}
 use Rattle.dx_model.specs.Rules.{existentials}
 use Rattle.dx_model.specs.Fitting.{AreNumbered}
@@ -19,8 +19,8 @@ narrow : (f : Forest) (C : List Atom) → AreTables (tables_of f) → Each C (At
 narrow f C h fit a m =
     let x = fit a m in
     let within : a.table < length (tables_of f) = rw length-map at x.table in
-    let few : length (table_at f a.table).columns ≤ 64 = (is_table (tables_of f) a.table _ h within).few_columns in
-    let e = width_at f a.table (length (table_at f a.table).columns) within refl in
+    let few : length (schema_table f a.table).columns ≤ 64 = (is_table (tables_of f) a.table _ h within).few_columns in
+    let e = width_at f a.table (length (schema_table f a.table).columns) within refl in
     rw (x.width, ← e) few
 
 -- the number after the variables is no greater than 64 for each atom

@@ -5,8 +5,9 @@ use Rattle.dx_model.specs.declared.rules.Cell.TheVariants.{Var, Ex, Lit}
 use Rattle.dx_model.specs.declared.rules.Atom.{Atom}
 use Rattle.dx_model.specs.declared.tables.Link.{Link}
 use Rattle.dx_model.specs.Tables.{Table}
-use Rattle.dx_schema.specs.Forest.{Forest, none, set, bare}
-use Rattle.dx_schema.specs.Tables.{Text, model_tables}
+use Rattle.dx_schema.specs.Forest.{Forest, none, set, bare_set}
+use Rattle.dx_schema.specs.Tables.{model_tables}
+use Rattle.dx_ports.specs.Texts.{Text}
 use Rattle.dx_closing.specs.Closing.{IsClosing}
 
 abbrev a : Text
@@ -25,7 +26,7 @@ atom t cells = record { table = t; cells = cells }
 
 -- unit(#id, b) with the inner set staff(#up, a)
 abbrev units : Forest
-units = set (bare a (b ∷ [])) (set (bare b (a ∷ [])) none none) none
+units = set (bare_set a (b ∷ [])) (set (bare_set b (a ∷ [])) none none) none
 
 abbrev unit : Cell → Cell → Atom
 unit id name = atom 0 (id ∷ name ∷ [])
@@ -59,7 +60,7 @@ nothing-stays = refl
 abbrev trips : Forest
 trips =
     set (record { name = a; columns = a ∷ b ∷ c ∷ []; keys = []; deps = []; refs = record { columns = b ∷ []; set = b; referred = a ∷ []; optional = false } ∷ record { columns = c ∷ []; set = b; referred = a ∷ []; optional = false } ∷ [] }) none
-    (set (bare b (a ∷ b ∷ [])) none none)
+    (set (bare_set b (a ∷ b ∷ [])) none none)
 
 abbrev trip : Cell → Cell → Cell → Atom
 trip number start goal = atom 0 (number ∷ start ∷ goal ∷ [])

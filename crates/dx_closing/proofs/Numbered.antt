@@ -14,8 +14,8 @@ use Rattle.dx_model.specs.declared.tables.Link.{Link}
 use Rattle.dx_model.specs.Rules.{cells_of, existential_in, existentials}
 use Rattle.dx_model.specs.Solutions.{AtomFits, cells_in}
 use Rattle.dx_model.specs.Tables.{Table, table_of, AreWithin}
-use Rattle.dx_logical.specs.Filled.{given, fresh_below, filled}
-use Rattle.dx_model.specs.Fitting.{AreNumbered, Numbered}
+use Rattle.dx_logical.specs.Filled.{given_item, fresh_below, row_with_fresh}
+use Rattle.dx_model.specs.Fitting.{AreNumbered, ByFirstAppearance}
 use Rattle.dx_schema.specs.Links.{LinkFits, LinksFit}
 use Rattle.dx_closing.specs.declared.growing.Growing.{Growing}
 use Rattle.dx_closing.specs.Closing.{serves, supplied, through_link, through_links, through_atom, gone, begun, IsClosing}
@@ -29,20 +29,20 @@ abbrev Below : ℕ → List Cell → Type 0
 Below n cells = Each (flat_map existential_in cells) (λ v. v < n)
 
 cell_numbered : (n F : ℕ) (cells : List Cell) (o : Option Cell) → Below n cells → ((x : Cell) → o ≡ Some x → x ∈ cells)
-    → Numbered (n + F) (existential_in (unwrap_or o (Ex (n + F))) ++ []) (n + (F + cond (is_some o) 0 1))
+    → ByFirstAppearance (n + F) (existential_in (unwrap_or o (Ex (n + F))) ++ []) (n + (F + cond (is_some o) 0 1))
 cell_numbered n F cells None b h = inr (refl, omega arith)
 cell_numbered n F cells (Some (Var x)) b h = omega arith
 cell_numbered n F cells (Some (Ex v)) b h = let l = b v (in_flat_map existential_in {x = Ex v} (h (Ex v) refl) (here refl)) in inl (omega (arith, l), omega arith)
 cell_numbered n F cells (Some (Lit t)) b h = omega arith
 
-row_numbered : (n : ℕ) (ks : List ℕ) (cells : List Cell) (w : ℕ) → Below n cells → Numbered n (flat_map existential_in (filled Ex n ks cells w)) (n + fresh_below ks cells w)
+row_numbered : (n : ℕ) (ks : List ℕ) (cells : List Cell) (w : ℕ) → Below n cells → ByFirstAppearance n (flat_map existential_in (row_with_fresh Ex n ks cells w)) (n + fresh_below ks cells w)
 row_numbered n ks cells zero b = omega arith
 row_numbered n ks cells (suc w) b =
-    let last = unwrap_or (given ks cells w) (Ex (n + fresh_below ks cells w)) in
+    let last = unwrap_or (given_item ks cells w) (Ex (n + fresh_below ks cells w)) in
     let m = n + fresh_below ks cells (suc w) in
-    subst (λ (xs : List ℕ). Numbered n xs m) (sym (flat_map-append existential_in (filled Ex n ks cells w) (last ∷ [])))
-    (numbered_further n (n + fresh_below ks cells w) m (flat_map existential_in (filled Ex n ks cells w)) (flat_map existential_in (last ∷ []))
-    (row_numbered n ks cells w b) (cell_numbered n (fresh_below ks cells w) cells (given ks cells w) b (λ x g. given_among ks cells w x g)))
+    subst (λ (xs : List ℕ). ByFirstAppearance n xs m) (sym (flat_map-append existential_in (row_with_fresh Ex n ks cells w) (last ∷ [])))
+    (numbered_further n (n + fresh_below ks cells w) m (flat_map existential_in (row_with_fresh Ex n ks cells w)) (flat_map existential_in (last ∷ []))
+    (row_numbered n ks cells w b) (cell_numbered n (fresh_below ks cells w) cells (given_item ks cells w) b (λ x g. given_among ks cells w x g)))
 
 -- chosen cells have no other existential variables
 chosen_below : (n : ℕ) (columns : List ℕ) (row : List Cell) → AreWithin columns (length row) → Below n row → Below n (cells_in columns row)
@@ -58,7 +58,7 @@ existentials-push C a =
 
 -- a conclusion that grows is numbered
 abbrev IsNumbered : Growing → Type 0
-IsNumbered C = Numbered 0 (existentials C.atoms) C.next
+IsNumbered C = ByFirstAppearance 0 (existentials C.atoms) C.next
 
 -- one that has grown to D is numbered, and up to no lower number
 record Goes (C D : Growing) : Type 0 where
@@ -71,8 +71,8 @@ link_numbered schema row C l fit b n =
     let w = (table_of schema l.table).width in
     let D = supplied schema C l cells in
     let test = list_any (serves l cells) C.atoms in
-    let new : Atom = record { table = l.table; cells = filled Ex C.next l.to cells w } in
-    let whole : IsNumbered D = subst (λ (xs : List ℕ). Numbered 0 xs (C.next + fresh_below l.to cells w)) (sym (existentials-push C.atoms new))
+    let new : Atom = record { table = l.table; cells = row_with_fresh Ex C.next l.to cells w } in
+    let whole : IsNumbered D = subst (λ (xs : List ℕ). ByFirstAppearance 0 xs (C.next + fresh_below l.to cells w)) (sym (existentials-push C.atoms new))
     (numbered_further 0 C.next (C.next + fresh_below l.to cells w) (existentials C.atoms) (flat_map existential_in new.cells) n (row_numbered C.next l.to cells w (chosen_below C.next l.from row fit.from b))) in
     elim (cases_Bool test) [
       | inl t ↦ let i = cond-true test C D t in rw i (record { numbered = n; more = omega arith })
@@ -107,4 +107,4 @@ gone_numbered schema C (suc n) fits fit k =
 pub closing_numbered : (schema : List Table) (C E : List Atom) → LinksFit schema → Each C (AtomFits schema) → AreNumbered C → IsClosing schema C E → AreNumbered E
 closing_numbered schema C E fits fit k c =
     let D = gone schema (begun C) (length E) in
-    (D.next, subst (λ (F : List Atom). Numbered 0 (existentials F) D.next) c (gone_numbered schema C (length E) fits fit k))
+    (D.next, subst (λ (F : List Atom). ByFirstAppearance 0 (existentials F) D.next) c (gone_numbered schema C (length E) fits fit k))

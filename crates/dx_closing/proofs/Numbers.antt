@@ -9,7 +9,7 @@ use Rattle.dx_model.specs.declared.rules.Cell.{Cell}
 use Rattle.dx_model.specs.declared.rules.Cell.TheVariants.{Var, Ex, Lit}
 use Rattle.dx_model.specs.declared.rules.Atom.{Atom}
 use Rattle.dx_model.specs.Rules.{cells_of, existential_in, existentials}
-use Rattle.dx_model.specs.Fitting.{Numbered}
+use Rattle.dx_model.specs.Fitting.{ByFirstAppearance}
 use Rattle.dx_model.proofs.Cells.{few_existentials}
 use Rattle.dx_closing.specs.Closing.{above}
 use Rattle.dx_closing.proofs.Steps.{in_item}
@@ -19,7 +19,7 @@ above-append n [] ys = refl
 above-append n (x ∷ xs) ys = above-append (max n (suc x)) xs ys
 
 -- of variables numbered by first appearance, the number after them
-pub above_numbered : (n m : ℕ) (xs : List ℕ) → Numbered n xs m → above n xs ≡ m
+pub above_numbered : (n m : ℕ) (xs : List ℕ) → ByFirstAppearance n xs m → above n xs ≡ m
 above_numbered n m [] k = k
 above_numbered n m (x ∷ xs) k = elim k [
   | inl l ↦ let e : max n (suc x) ≡ n = omega (arith, l.0) in rw e (above_numbered n m xs l.1)
@@ -27,7 +27,7 @@ above_numbered n m (x ∷ xs) k = elim k [
 ]
 
 -- it is no greater than their count
-pub numbered_few : (n m : ℕ) (xs : List ℕ) → Numbered n xs m → (n ≤ m) × (m ≤ n + length xs)
+pub numbered_few : (n m : ℕ) (xs : List ℕ) → ByFirstAppearance n xs m → (n ≤ m) × (m ≤ n + length xs)
 numbered_few n m [] k = (omega (arith, k), omega (arith, k))
 numbered_few n m (x ∷ xs) k = elim k [
   | inl l ↦ let r = numbered_few n m xs l.1 in (r.0, omega (arith, r.1))
@@ -35,7 +35,7 @@ numbered_few n m (x ∷ xs) k = elim k [
 ]
 
 -- and all of them are below it
-pub numbered_below : (n m : ℕ) (xs : List ℕ) → Numbered n xs m → Each xs (λ v. v < m)
+pub numbered_below : (n m : ℕ) (xs : List ℕ) → ByFirstAppearance n xs m → Each xs (λ v. v < m)
 numbered_below n m [] k v i = elim i [ ]
 numbered_below n m (x ∷ xs) k v (here e) = elim k [
   | inl l ↦ let r = numbered_few n m xs l.1 in omega (arith, r.0, l.0, e)

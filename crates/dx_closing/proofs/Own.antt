@@ -12,11 +12,11 @@ use Rattle.dx_model.specs.declared.tables.Link.{Link}
 use Rattle.dx_model.specs.Solutions.{cells_in}
 use Rattle.dx_model.specs.Tables.{Table, table_of}
 use Rattle.dx_closing.specs.declared.growing.Growing.{Growing}
-use Rattle.dx_closing.specs.Closing.{same_cell, has_cells, serves, supplied, through_link, through_links, through_atom, gone, begun}
+use Rattle.dx_closing.specs.Closing.{cells_are_one, has_cells, serves, supplied, through_link, through_links, through_atom, gone, begun}
 use Rattle.dx_closing.specs.Laws.{ServedIsClosing}
 use Rattle.dx_closing.proofs.Served.{Has, get_in}
 
-same_cell-refl : (a : Cell) → same_cell a a ≡ true
+same_cell-refl : (a : Cell) → cells_are_one a a ≡ true
 same_cell-refl (Var x) = eq-eqb x x refl
 same_cell-refl (Ex v) = eq-eqb v v refl
 same_cell-refl (Lit t) = (bytes_eq-Decides t t).1 refl

@@ -13,21 +13,21 @@ use Rattle.dx_model.specs.declared.rules.Atom.{Atom}
 use Rattle.dx_model.specs.declared.tables.Link.{Link}
 use Rattle.dx_model.specs.Tables.{Table, table_of, AreWithin}
 use Rattle.dx_model.specs.Solutions.{AtomFits, cells_in}
-use Rattle.dx_logical.specs.Filled.{filled}
+use Rattle.dx_logical.specs.Filled.{row_with_fresh}
 use Rattle.dx_schema.specs.Links.{LinkFits, LinksFit}
 use Rattle.dx_closing.specs.declared.growing.Growing.{Growing}
-use Rattle.dx_closing.specs.Closing.{same_cell, has_cells, serves, supplied, through_link, through_links, through_atom, gone, begun, IsClosing}
+use Rattle.dx_closing.specs.Closing.{cells_are_one, has_cells, serves, supplied, through_link, through_links, through_atom, gone, begun, IsClosing}
 use Rattle.dx_closing.specs.Laws.{ClosingServes}
 use Rattle.dx_closing.proofs.Going.{gone_stays}
 use Rattle.dx_closing.proofs.Growth.{adds_links, later}
 use Rattle.dx_closing.proofs.Steps.{new_fits, fits_at}
 use Rattle.dx_logical.proofs.Facts.{filled_at, map_given}
 
-filled_cells : (n : ℕ) (ks : List ℕ) (cells : List Cell) (w : ℕ) → Distinct ks → length ks ≡ length cells → AreWithin ks w → cells_in ks (filled Ex n ks cells w) ≡ cells
+filled_cells : (n : ℕ) (ks : List ℕ) (cells : List Cell) (w : ℕ) → Distinct ks → length ks ≡ length cells → AreWithin ks w → cells_in ks (row_with_fresh Ex n ks cells w) ≡ cells
 filled_cells n ks cells w a e h =
-    map_given ks cells (λ c. slice_index_or (filled Ex n ks cells w) c (Lit [])) a e (λ c x m i. filled_at Ex n ks cells w c (Lit []) (h c m) ∙ rw i refl)
+    map_given ks cells (λ c. slice_index_or (row_with_fresh Ex n ks cells w) c (Lit [])) a e (λ c x m i. filled_at Ex n ks cells w c (Lit []) (h c m) ∙ rw i refl)
 
-same_cell-true : (a b : Cell) → same_cell a b ≡ true → a ≡ b
+same_cell-true : (a b : Cell) → cells_are_one a b ≡ true → a ≡ b
 same_cell-true (Var x) (Var y) e = ap Var (eqb-true x y e)
 same_cell-true (Var x) (Ex w) e = absurd (false≢true e)
 same_cell-true (Var x) (Lit t) e = absurd (false≢true e)
@@ -43,7 +43,7 @@ has_cells-true row [] [] e h = refl
 has_cells-true row [] (x ∷ xs) e h = absurd (omega arith)
 has_cells-true row (c ∷ cs) [] e h = absurd (omega arith)
 has_cells-true row (c ∷ cs) (x ∷ xs) e h =
-    let p = and_parts (same_cell (slice_index_or row c (Lit [])) x) (has_cells row cs xs) h in
+    let p = and_parts (cells_are_one (slice_index_or row c (Lit [])) x) (has_cells row cs xs) h in
     let a = same_cell-true (slice_index_or row c (Lit [])) x p.0 in
     let b = has_cells-true row cs xs (omega arith) p.1 in
     cc
@@ -71,7 +71,7 @@ link_has schema row C l fit =
     let e : length l.to ≡ length cells = sym (length-map l.from _ ∙ fit.same_length) in
     elim (cases_Bool b) [
       | inl t ↦ let i = cond-true b C D t in rw i (found l cells C.atoms e t)
-      | inr n ↦ let i = cond-false b C D n in rw i (record { table = l.table; cells = filled Ex C.next l.to cells (table_of schema l.table).width }, in_right C.atoms (here refl), refl, filled_cells C.next l.to cells (table_of schema l.table).width fit.to_distinct e fit.to)
+      | inr n ↦ let i = cond-false b C D n in rw i (record { table = l.table; cells = row_with_fresh Ex C.next l.to cells (table_of schema l.table).width }, in_right C.atoms (here refl), refl, filled_cells C.next l.to cells (table_of schema l.table).width fit.to_distinct e fit.to)
     ]
 
 have_one : (schema : List Table) (row : List Cell) (C : Growing) (k : Link) (ls : List Link) (l : Link) → l ∈ (k ∷ ls) → LinkFits schema (length row) k

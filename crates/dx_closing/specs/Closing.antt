@@ -10,28 +10,28 @@ use Rattle.dx_model.specs.declared.tables.Link.{Link}
 use Rattle.dx_model.specs.Rules.{existentials}
 use Rattle.dx_model.specs.Solutions.{cells_in}
 use Rattle.dx_model.specs.Tables.{Table, table_of}
-use Rattle.dx_logical.specs.Filled.{fresh_below, filled}
+use Rattle.dx_logical.specs.Filled.{fresh_below, row_with_fresh}
 use Rattle.dx_closing.specs.declared.growing.Growing.{Growing}
 
 -- ---- what serves a link
 
 -- whether two cells are one
-abbrev pub same_cell : Cell → Cell → Bool
-same_cell (Var x) (Var y) = nat_eq x y
-same_cell (Var x) (Ex w) = false
-same_cell (Var x) (Lit t) = false
-same_cell (Ex v) (Var y) = false
-same_cell (Ex v) (Ex w) = nat_eq v w
-same_cell (Ex v) (Lit t) = false
-same_cell (Lit s) (Var y) = false
-same_cell (Lit s) (Ex w) = false
-same_cell (Lit s) (Lit t) = bytes_eq s t
+abbrev pub cells_are_one : Cell → Cell → Bool
+cells_are_one (Var x) (Var y) = nat_eq x y
+cells_are_one (Var x) (Ex w) = false
+cells_are_one (Var x) (Lit t) = false
+cells_are_one (Ex v) (Var y) = false
+cells_are_one (Ex v) (Ex w) = nat_eq v w
+cells_are_one (Ex v) (Lit t) = false
+cells_are_one (Lit s) (Var y) = false
+cells_are_one (Lit s) (Ex w) = false
+cells_are_one (Lit s) (Lit t) = bytes_eq s t
 
 -- whether a row has these cells in these columns
 abbrev pub has_cells : List Cell → List ℕ → List Cell → Bool
 has_cells row [] cells = true
 has_cells row (c ∷ cs) [] = true
-has_cells row (c ∷ cs) (x ∷ xs) = same_cell (slice_index_or row c (Lit [])) x && has_cells row cs xs
+has_cells row (c ∷ cs) (x ∷ xs) = cells_are_one (slice_index_or row c (Lit [])) x && has_cells row cs xs
 
 -- whether an atom is of the table that the link refers to, and has these cells in the referred columns
 abbrev pub serves : Link → List Cell → Atom → Bool
@@ -42,11 +42,11 @@ serves l cells a = nat_eq a.table l.table && has_cells a.cells l.to cells
 -- an atom more, of the table that the link refers to, with these cells in the referred columns and fresh existential variables elsewhere
 abbrev pub supplied : List Table → Growing → Link → List Cell → Growing
 supplied schema C l cells = record {
-  atoms = C.atoms ++ record { table = l.table; cells = filled Ex C.next l.to cells (table_of schema l.table).width } ∷ [];
+  atoms = C.atoms ++ record { table = l.table; cells = row_with_fresh Ex C.next l.to cells (table_of schema l.table).width } ∷ [];
   next = C.next + fresh_below l.to cells (table_of schema l.table).width;
 }
 
--- going through a link of an atom that has this row: where no atom serves the link, one is appended
+-- going through a link of an atom that has this row: if no atom serves the link, one is appended
 abbrev pub through_link : List Table → List Cell → Growing → Link → Growing
 through_link schema row C l = cond (list_any (serves l (cells_in l.from row)) C.atoms) C (supplied schema C l (cells_in l.from row))
 

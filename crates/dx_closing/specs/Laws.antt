@@ -16,12 +16,12 @@ pub record IsRoomy (schema : List Table) (C : Growing) : Type 0 where
   pub next : C.next ≤ 64 * length C.atoms
 
 -- more atoms than a closing may have
-abbrev pub IsWide : Growing → Type 0
-IsWide C = 64 < length C.atoms
+abbrev pub IsWideClosing : Growing → Type 0
+IsWideClosing C = 64 < length C.atoms
 
 -- ---- laws
 
--- where links fit and have no cycle, each conclusion that fits has a closing
+-- if links fit and have no cycle, each conclusion that fits has a closing
 abbrev pub ClosingEnds : Type 0
 ClosingEnds = (schema : List Table) (C : List Atom) → LinksFit schema → IsAcyclic schema → Each C (AtomFits schema) → (E : List Atom) × IsClosing schema C E
 

@@ -3,15 +3,15 @@ ghost use Rattle.std.specs.Prelude.{◌≡◌, ◌+◌, ◌<◌, ◌^◌, IfOk, 
 ghost use Rattle.dx_model.specs.declared.rules.Cell.TheVariants.{Ex};
 ghost use Rattle.dx_model.specs.Solutions.{cells_in};
 ghost use Rattle.dx_model.specs.Tables.{AreWithin};
-ghost use Rattle.dx_logical.specs.Filled.{filled, fresh_below, given};
-ghost use Rattle.dx_closing.specs.Closing.{has_cells, same_cell};
+ghost use Rattle.dx_logical.specs.Filled.{row_with_fresh, fresh_below, given_item};
+ghost use Rattle.dx_closing.specs.Closing.{has_cells, cells_are_one};
 
 use dx_model::Cell;
 use std::alloc::{AllocError, Global};
 
 /// Whether two cells are one.
 fn is_same_cell(a: &Cell, b: &Cell) -> bool
-    ensures { result ≡ same_cell a.now b.now }
+    ensures { result ≡ cells_are_one a.now b.now }
 {
     match (a, b) {
         (Cell::Var(x), Cell::Var(y)) => *x == *y,
@@ -72,7 +72,7 @@ pub fn has_chosen(row: &[Cell], columns: &[u32], cells: &[Cell]) -> bool
 /// A copy of the cell that is given for a column.
 fn given_cell(columns: &[u32], cells: &[Cell], column: u32) -> Result<Option<Cell>, AllocError>
     requires { length columns.now ≡ length cells.now }
-    ensures { IfOk result (λ cell. cell ≡ given columns.now cells.now column) }
+    ensures { IfOk result (λ cell. cell ≡ given_item columns.now cells.now column) }
 {
     for (place, known) in columns.iter().enumerate() {
         if *known == column {
@@ -92,7 +92,7 @@ pub fn filled_cells(
 ) -> Result<Vec<Cell>, AllocError>
     requires pairs { length columns.now ≡ length cells.now }
     requires room { next.old + width < 2 ^ 32 }
-    ensures row { IfOk result (λ row. row.items ≡ filled Ex next.old columns.now cells.now width) }
+    ensures row { IfOk result (λ row. row.items ≡ row_with_fresh Ex next.old columns.now cells.now width) }
     ensures next { OnOk result (next.new ≡ next.old + fresh_below columns.now cells.now width) }
 {
     let mut row = Vec::new(alloc);

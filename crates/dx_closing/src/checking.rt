@@ -3,7 +3,7 @@ ghost use Rattle.std.specs.Prelude.{◌↔◌, ℕ, IfSome, IsSome, IsTrue, flat
 ghost use Rattle.dx_ports.specs.Members.{Each};
 ghost use Rattle.dx_model.specs.Solutions.{AtomFits};
 ghost use Rattle.dx_schema.specs.Tables.{model_tables};
-ghost use Rattle.dx_model.specs.Fitting.{AreNumbered, Numbered};
+ghost use Rattle.dx_model.specs.Fitting.{AreNumbered, ByFirstAppearance};
 ghost use Rattle.dx_model.specs.Rules.{existential_in};
 
 use dx_model::{Atom, Cell};
@@ -28,11 +28,11 @@ fn all_fit(atoms: &[Atom], target: &Schema) -> bool
     true
 }
 
-/// The number after those of the row's existential variables, where `next` is the first that has not appeared. None
-/// where one of them skips a number.
+/// The number after those of the row's existential variables, if `next` is the first that has not appeared. None
+/// if one of them skips a number.
 fn number_after(next: u64, row: &[Cell]) -> Option<u64>
-    ensures some { IfSome result (λ m. Numbered next (flat_map existential_in row.now) m) }
-    ensures none { IsSome result ↔ ((m : ℕ) × Numbered next (flat_map existential_in row.now) m) }
+    ensures some { IfSome result (λ m. ByFirstAppearance next (flat_map existential_in row.now) m) }
+    ensures none { IsSome result ↔ ((m : ℕ) × ByFirstAppearance next (flat_map existential_in row.now) m) }
 {
     let mut after = next;
     for cell in row {

@@ -8,7 +8,7 @@ ghost use Rattle.dx_schema.specs.Tables.{AreTables, model_tables, tables_of};
 ghost use Rattle.dx_schema.specs.Links.{LinkFits};
 ghost use Rattle.dx_closing.specs.declared.fault.CloseFault.TheVariants.{TooWide};
 ghost use Rattle.dx_closing.specs.Closing.{serves, supplied, through_link, through_links, through_place};
-ghost use Rattle.dx_closing.specs.Laws.{IsRoomy, IsWide};
+ghost use Rattle.dx_closing.specs.Laws.{IsRoomy, IsWideClosing};
 
 use crate::cells::{chosen_cells, copy_row, filled_cells, has_chosen};
 use crate::fault::CloseFault;
@@ -83,7 +83,7 @@ fn follow_link(
     requires roomy { IsRoomy (model_tables target.now) growing.old }
     ensures exact { OnOk result (growing.new ≡ through_link (model_tables target.now) row.now growing.old link.now) }
     ensures roomy { OnOk result (IsRoomy (model_tables target.now) growing.new) }
-    ensures wide { IfErr result (λ e. e ≡ TooWide → IsWide (through_link (model_tables target.now) row.now growing.old link.now)) }
+    ensures wide { IfErr result (λ e. e ≡ TooWide → IsWideClosing (through_link (model_tables target.now) row.now growing.old link.now)) }
 {
     let cells = chosen_cells(alloc, link.from.items(), row)?;
     if is_served(target, growing.atoms.items(), link, cells.as_slice()) {
@@ -105,7 +105,7 @@ fn follow_links(
     requires roomy { IsRoomy (model_tables target.now) growing.old }
     ensures exact { OnOk result (growing.new ≡ through_links (model_tables target.now) row.now growing.old links.now) }
     ensures roomy { OnOk result (IsRoomy (model_tables target.now) growing.new) }
-    ensures wide { IfErr result (λ e. e ≡ TooWide → IsWide (through_links (model_tables target.now) row.now growing.old links.now)) }
+    ensures wide { IfErr result (λ e. e ≡ TooWide → IsWideClosing (through_links (model_tables target.now) row.now growing.old links.now)) }
 {
     for link in links {
         follow_link(alloc, target, row, growing, link)?;
@@ -125,7 +125,7 @@ pub fn follow_atom(
     requires roomy { IsRoomy (model_tables target.now) growing.old }
     ensures exact { OnOk result (growing.new ≡ through_place (model_tables target.now) growing.old place) }
     ensures roomy { OnOk result (IsRoomy (model_tables target.now) growing.new) }
-    ensures wide { IfErr result (λ e. e ≡ TooWide → IsWide (through_place (model_tables target.now) growing.old place)) }
+    ensures wide { IfErr result (λ e. e ≡ TooWide → IsWideClosing (through_place (model_tables target.now) growing.old place)) }
 {
     let atom = &growing.atoms.items()[place];
     let row = copy_row(alloc, atom.cells.items())?;

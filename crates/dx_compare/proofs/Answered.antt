@@ -7,18 +7,19 @@ use Rattle.dx_ports.specs.Members.{◌∈◌, here, there, Each}
 use Rattle.dx_ports.proofs.Loops.{each_more}
 use Rattle.dx_ports.proofs.Members.{from_append, in_left, in_right, item_in}
 use Rattle.dx_model.specs.declared.rules.Rule.{Rule}
-use Rattle.dx_model.specs.Values.{Text, Conversions}
+use Rattle.dx_model.specs.Values.{Conversions}
+use Rattle.dx_ports.specs.Texts.{Text}
 use Rattle.dx_model.specs.Following.{Follows, Implies}
 use Rattle.dx_schema.specs.Forest.{Forest}
 use Rattle.dx_instance.specs.Stored.{facts}
 use Rattle.dx_tgd.specs.declared.fault.CanonFault.{CanonFault}
 use Rattle.dx_tgd.specs.declared.fault.CanonFault.TheVariants.{Memory, Limit}
 use Rattle.dx_implies.specs.declared.refuting.Refutation.{Refutation}
-use Rattle.dx_implies.specs.Frozen.{IsRefusal, PassesFrozen}
+use Rattle.dx_implies.specs.Frozen.{IsFrozenRefusal, PassesFrozen}
 use Rattle.dx_implies.specs.Refuting.{IsRefutation}
 use Rattle.dx_compare.specs.declared.comparing.Answer.{Answer}
 use Rattle.dx_compare.specs.declared.comparing.Answer.TheVariants as answers
-use Rattle.dx_compare.specs.Comparing.{IsAnswer, IsFirstRefuted, IsTested, PassesLimit, PassesTest}
+use Rattle.dx_compare.specs.Comparing.{IsDirectionAnswer, IsFirstRefuted, IsTestedRule, ComparisonPassesLimit, RulePassesLimit}
 
 -- ---- rules by number
 
@@ -64,7 +65,7 @@ module _ (limit : ℕ) (P Q : List Rule) (i : ℕ) (f : Followed limit P Q i) wh
   pub all_follow : length Q ≤ i → (convert : Conversions) → Implies convert P Q
   all_follow h convert I K s d m = f.follow convert d (subst (λ (rs : List Rule). d ∈ rs) (sym (take_all i Q h)) m) I K s
 
-  pub none_passes : length Q ≤ i → ¬ (PassesTest limit P Q)
+  pub none_passes : length Q ≤ i → ¬ (RulePassesLimit limit P Q)
   none_passes h p = f.within p.rule (subst (λ (rs : List Rule). p.rule ∈ rs) (sym (take_all i Q h)) (get_in Q p.number p.rule p.tested.is)) p.passes
 
 -- ---- at one rule
@@ -76,13 +77,13 @@ module _ (limit : ℕ) (P Q : List Rule) (i : ℕ) (f : Followed limit P Q i) (d
     within = each_more (λ (r : Rule). ¬ (PassesFrozen limit P r)) Q i d lt is f.within within;
   }
 
-  tested : IsTested P Q i d
+  tested : IsTestedRule P Q i d
   tested = record { is = get_is Q i d lt is; before = f.follow }
 
-  pub test_passes : PassesFrozen limit P d → PassesTest limit P Q
+  pub test_passes : PassesFrozen limit P d → RulePassesLimit limit P Q
   test_passes p = record { number = i; rule = d; tested = tested; passes = p }
 
-  pub test_refused : (e : CanonFault) → IsRefusal limit (PassesFrozen limit P d) e → IsRefusal limit (PassesTest limit P Q) e
+  pub test_refused : (e : CanonFault) → IsFrozenRefusal limit (PassesFrozen limit P d) e → IsFrozenRefusal limit (RulePassesLimit limit P Q) e
   test_refused Memory h = tt
   test_refused (Limit l) h = (h.0, test_passes h.1)
 
@@ -90,7 +91,7 @@ module _ (limit : ℕ) (P Q : List Rule) (i : ℕ) (f : Followed limit P Q i) (d
   first_refuted prefix source target r shown = record { rule = d; tested = tested; refutation = shown }
 
   pub refuted_within : (prefix : Text) (source target : Forest) (r : Refutation) → IsRefutation prefix source target P d r → ¬ (PassesFrozen limit P d)
-      → ¬ (PassesTest limit P Q)
+      → ¬ (RulePassesLimit limit P Q)
   refuted_within prefix source target r shown within p = elim (cases_lt p.number i) [
     | inl h ↦ f.within p.rule (get_front Q p.number i p.rule p.tested.is h) p.passes
     | inr h ↦ elim (cases_lt i p.number) [
@@ -104,7 +105,7 @@ module _ (limit : ℕ) (P Q : List Rule) (i : ℕ) (f : Followed limit P Q i) (d
 
 -- ---- what is answered
 
-pub answer_tells : (prefix : Text) (source target : Forest) (P Q : List Rule) (a : Answer) → IsAnswer prefix source target P Q a
+pub answer_tells : (prefix : Text) (source target : Forest) (P Q : List Rule) (a : Answer) → IsDirectionAnswer prefix source target P Q a
     → (convert : Conversions) → (a ≡ answers.Implies) ↔ Implies convert P Q
 answer_tells prefix source target P Q answers.Implies h convert = ((λ e. h convert), (λ e. refl))
 answer_tells prefix source target P Q (answers.Refuted number I K) h convert = (
@@ -112,15 +113,15 @@ answer_tells prefix source target P Q (answers.Refuted number I K) h convert = (
   (λ s. absurd (h.refutation.refuted convert (s (facts I) (facts K) (h.refutation.satisfied convert) h.rule (get_in Q number h.rule h.tested.is)))),
 )
 
-pub refused_first : (limit : ℕ) (P Q : List Rule) (e : CanonFault) → IsRefusal limit (PassesTest limit P Q) e → IsRefusal limit (PassesLimit limit P Q) e
+pub refused_first : (limit : ℕ) (P Q : List Rule) (e : CanonFault) → IsFrozenRefusal limit (RulePassesLimit limit P Q) e → IsFrozenRefusal limit (ComparisonPassesLimit limit P Q) e
 refused_first limit P Q Memory h = tt
 refused_first limit P Q (Limit l) h = (h.0, inl h.1)
 
-pub refused_second : (limit : ℕ) (P Q : List Rule) (e : CanonFault) → IsRefusal limit (PassesTest limit Q P) e → IsRefusal limit (PassesLimit limit P Q) e
+pub refused_second : (limit : ℕ) (P Q : List Rule) (e : CanonFault) → IsFrozenRefusal limit (RulePassesLimit limit Q P) e → IsFrozenRefusal limit (ComparisonPassesLimit limit P Q) e
 refused_second limit P Q Memory h = tt
 refused_second limit P Q (Limit l) h = (h.0, inr h.1)
 
-pub none_passed : (limit : ℕ) (P Q : List Rule) → ¬ (PassesTest limit P Q) → ¬ (PassesTest limit Q P) → ¬ (PassesLimit limit P Q)
+pub none_passed : (limit : ℕ) (P Q : List Rule) → ¬ (RulePassesLimit limit P Q) → ¬ (RulePassesLimit limit Q P) → ¬ (ComparisonPassesLimit limit P Q)
 none_passed limit P Q a b (inl p) = a p
 none_passed limit P Q a b (inr p) = b p
 

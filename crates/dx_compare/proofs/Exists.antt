@@ -11,8 +11,9 @@ use Rattle.dx_model.specs.declared.rules.Cell.{Cell}
 use Rattle.dx_model.specs.declared.rules.Cell.TheVariants.{Var, Ex, Lit}
 use Rattle.dx_model.specs.declared.rules.Atom.{Atom}
 use Rattle.dx_model.specs.declared.rules.Rule.{Rule}
-use Rattle.dx_model.specs.Values.{Text, Tuple, Rows, Conversions}
-use Rattle.dx_model.specs.Rules.{at_place, at_places, canonical, exported, premise_fact, said, text_of}
+use Rattle.dx_model.specs.Values.{Tuple, Rows, Conversions}
+use Rattle.dx_ports.specs.Texts.{Text}
+use Rattle.dx_model.specs.Rules.{at_place, at_places, canonical, exported, premise_fact, fact_of_atom, text_of}
 use Rattle.dx_model.specs.Fitting.{RuleFits}
 use Rattle.dx_model.specs.Following.{Follows, IsClean, frozen, frozen_text}
 use Rattle.dx_model.specs.Solutions.{AtomFits}
@@ -33,9 +34,9 @@ use Rattle.dx_implies.proofs.Pruned.{passes_or_not}
 use Rattle.dx_implies.proofs.Shown.{made_refutes}
 use Rattle.dx_compare.specs.declared.comparing.Answer.{Answer}
 use Rattle.dx_compare.specs.declared.comparing.Answer.TheVariants as answers
-use Rattle.dx_compare.specs.Comparing.{IsAnswer, PassesTest}
+use Rattle.dx_compare.specs.Comparing.{IsDirectionAnswer, RulePassesLimit}
 use Rattle.dx_compare.specs.Laws.{ComparedOrPast}
-use Rattle.dx_compare.specs.Letters.{AtomBegins, Begins, CellBegins, IsGreatest, IsLeastLetters, RuleBegins, letters}
+use Rattle.dx_compare.specs.Letters.{AtomBegins, BeginsWithLetters, CellBegins, IsGreatest, IsLeastLetters, RuleBegins, letters}
 use Rattle.dx_compare.proofs.Answered.{Followed, all_follow, beside, first_refuted, none_passed, none_passes, none_yet, one_followed, refuted_within, swapped, test_passes}
 use Rattle.dx_compare.proofs.Begun.{One, greatest_all, greatest_more, greatest_none, least_letters, one_atom, one_lit, one_other, one_rule, other_byte, too_many}
 
@@ -47,8 +48,8 @@ none code texts = []
 -- with how many letters a text begins
 record Front (t : Text) : Type 0 where
   number : ℕ
-  begins : Begins number t
-  no_more : (m : ℕ) → number < m → ¬ (Begins m t)
+  begins : BeginsWithLetters number t
+  no_more : (m : ℕ) → number < m → ¬ (BeginsWithLetters m t)
 
 front : (t : Text) → Front t
 front [] = record { number = 0; begins = ([], refl); no_more = λ m h. too_many [] m h }
@@ -64,7 +65,7 @@ front (b ∷ t) = elim (cases_eq b 118) [
       no_more = more;
     }
       where
-        more : (m : ℕ) → suc f.number < m → ¬ (Begins m (b ∷ t))
+        more : (m : ℕ) → suc f.number < m → ¬ (BeginsWithLetters m (b ∷ t))
         more zero h w = absurd (omega (arith, h))
         more (suc m) h w = let s : t ≡ letters m ++ w.0 = (let q = w.1 in cc) in f.no_more m (omega (arith, h)) (w.0, s)
 
@@ -114,7 +115,7 @@ places_fit schema i d k (t ∷ ts) h f m = elim (from_append (at_place i d k t) 
   | inl l ↦
       let texts : ℕ → Text = text_of (exported d) t in
       let nulls : ℕ → Value = λ v. Null (record { rule = i; var = v; row = k }) in
-      let w = from_map (said texts nulls) d.conclusion l in
+      let w = from_map (fact_of_atom texts nulls) d.conclusion l in
       subst (FactFits schema) w.2 (said_fits schema texts nulls w.0 (h w.0 w.1))
   | inr r ↦ places_fit schema i d (suc k) ts h f r
 ]
@@ -159,14 +160,14 @@ module _ (limit : ℕ) (prefix : Text) (source target : Forest) (P Q : List Rule
       let K = stored target C in
       let there_too : facts K ≈ C = stored_facts target C (canonical_fit (model_tables target) 0 P w.0 (λ r m. (f r (there m)).conclusion)) in
       let tells = follows_by_prefix none prefix P d w.0 (λ r m. ((f r m).rule, p r m, k r m)) (rows_of_all_by_members none P (facts I) A w.0 same w.1) in
-      let fails : ¬ ((values : ℕ → Value) × Each d.conclusion (λ a. said (frozen_text prefix) values a ∈ facts K)) =
-      (λ v. unfollowed (tells.1 (v.0, λ a m. there_too.0 (said (frozen_text prefix) v.0 a) (v.1 a m)))) in
+      let fails : ¬ ((values : ℕ → Value) × Each d.conclusion (λ a. fact_of_atom (frozen_text prefix) values a ∈ facts K)) =
+      (λ v. unfollowed (tells.1 (v.0, λ a m. there_too.0 (fact_of_atom (frozen_text prefix) v.0 a) (v.1 a m)))) in
       let r : Refutation = record { source = I; target = K } in
       (r, made_refutes none source target prefix P d I f p k same w.0 r false refl w.1 there_too (stored_widths source A) (stored_widths target C) ((λ t. absurd (false≢true t)), (λ v. absurd (fails v))) refl)
 
   -- what is answered from rule number i on
   answer_from : (more i : ℕ) → i + more ≡ length Q → Followed limit P Q i
-      → PassesTest limit P Q ⊎ ((¬ (PassesTest limit P Q)) × ((a : Answer) × IsAnswer prefix source target P Q a))
+      → RulePassesLimit limit P Q ⊎ ((¬ (RulePassesLimit limit P Q)) × ((a : Answer) × IsDirectionAnswer prefix source target P Q a))
   answer_from zero i e f = inr (none_passes limit P Q i f (omega (arith, e)), (answers.Implies, all_follow limit P Q i f (omega (arith, e))))
   answer_from (suc more) i e f =
       let lt : i < length Q = omega (arith, e) in
@@ -196,7 +197,7 @@ module _ (limit : ℕ) (prefix : Text) (source target : Forest) (P Q : List Rule
       get_any (z ∷ ys) zero d e h = refl
       get_any (z ∷ ys) (suc i) d e h = get_any ys i d e (omega (arith, h))
 
-  answered : PassesTest limit P Q ⊎ ((¬ (PassesTest limit P Q)) × ((a : Answer) × IsAnswer prefix source target P Q a))
+  answered : RulePassesLimit limit P Q ⊎ ((¬ (RulePassesLimit limit P Q)) × ((a : Answer) × IsDirectionAnswer prefix source target P Q a))
   answered = answer_from (length Q) 0 (omega arith) (none_yet limit P Q)
 
 pub compared_or_past : ComparedOrPast

@@ -5,9 +5,9 @@ use Rattle.std.proofs.lemmas.Bool.{true≢false}
 use Rattle.std.proofs.lemmas.List.{take_all, take_more}
 use Rattle.dx_ports.specs.Members.{◌∈◌, Each, here, there}
 use Rattle.dx_ports.proofs.Members.{from_append, in_left, in_right}
-use Rattle.dx_instance.specs.Shown.{Numbered, PartsFit}
+use Rattle.dx_instance.specs.Shown.{NumberedInstance, PartsFit}
 use Rattle.dx_blocks.specs.declared.numbered.At.{At}
-use Rattle.dx_blocks.specs.Numbered.{IsRow}
+use Rattle.dx_blocks.specs.Numbered.{IsRowIn}
 use Rattle.dx_solver.specs.declared.atom.Term.{Term}
 use Rattle.dx_solver.specs.declared.atom.PatternAtom.{PatternAtom}
 use Rattle.dx_solver.specs.Marks.{is_out}
@@ -37,17 +37,17 @@ terms_end nulls row ts i h a = subst (λ (r : List ℕ). AllZip (IsTermOf nulls)
 
 -- ---- row by row
 
-pub record AreSoFar (N : Numbered) (nulls : List ℕ) (out : List (List Bool)) (rows : List At) (found : List PatternAtom) : Type 0 where
+pub record AreSoFar (N : NumberedInstance) (nulls : List ℕ) (out : List (List Bool)) (rows : List At) (found : List PatternAtom) : Type 0 where
   pub atoms : AreAtoms N nulls out rows found
   pub fit : Each found (FitsAtom N.tables (length nulls))
 
-pub none_so_far : (N : Numbered) (nulls : List ℕ) (out : List (List Bool)) (rows : List At) (atoms : List PatternAtom) → atoms ≡ []
+pub none_so_far : (N : NumberedInstance) (nulls : List ℕ) (out : List (List Bool)) (rows : List At) (atoms : List PatternAtom) → atoms ≡ []
     → AreSoFar N nulls out (take 0 rows) atoms
 none_so_far N nulls out [] atoms e = rw e (record { atoms = record { only = λ a m. elim m [ ]; all = λ r m. elim m [ ] }; fit = λ a m. elim m [ ] })
 none_so_far N nulls out (r ∷ rows) atoms e =
     rw e (record { atoms = record { only = λ a m. elim m [ ]; all = λ r m. elim m [ ] }; fit = λ a m. elim m [ ] })
 
-module _ (N : Numbered) (nulls : List ℕ) (out : List (List Bool)) (rows : List At) (i : ℕ) (d : At) (h : i < length rows)
+module _ (N : NumberedInstance) (nulls : List ℕ) (out : List (List Bool)) (rows : List At) (i : ℕ) (d : At) (h : i < length rows)
     (old : List PatternAtom) (a : AreSoFar N nulls out (take i rows) old) where
   split : take (i + 1) rows ≡ take i rows ++ get_or rows i d ∷ []
   split = take_more rows i d h
@@ -69,7 +69,7 @@ module _ (N : Numbered) (nulls : List ℕ) (out : List (List Bool)) (rows : List
       last r (here q) e = absurd (true≢false (sym o ∙ (ap (λ (x : At). is_out out x.table x.place) q ∙ e)))
       last r (there m) e = elim m [ ]
 
-  pub row_added : (fit : PartsFit N.symbols N.tables) (new : List PatternAtom) (atom : PatternAtom) → IsRow N (get_or rows i d)
+  pub row_added : (fit : PartsFit N.symbols N.tables) (new : List PatternAtom) (atom : PatternAtom) → IsRowIn N (get_or rows i d)
       → is_out out (get_or rows i d).table (get_or rows i d).place ≡ false → IsAtomOf N nulls (get_or rows i d) atom
       → new ≡ old ++ atom ∷ [] → AreSoFar N nulls out (take (i + 1) rows) new
   row_added fit new atom row o is e = rw e (record {
@@ -99,6 +99,6 @@ module _ (N : Numbered) (nulls : List ℕ) (out : List (List Bool)) (rows : List
       last_fit b (here q) = rw (← q) (atom_fits N fit nulls (get_or rows i d) atom is row)
       last_fit b (there m) = elim m [ ]
 
-pub atoms_all : (N : Numbered) (nulls : List ℕ) (out : List (List Bool)) (rows : List At) (i : ℕ) (atoms : List PatternAtom) → length rows ≤ i
+pub atoms_all : (N : NumberedInstance) (nulls : List ℕ) (out : List (List Bool)) (rows : List At) (i : ℕ) (atoms : List PatternAtom) → length rows ≤ i
     → AreSoFar N nulls out (take i rows) atoms → AreSoFar N nulls out rows atoms
 atoms_all N nulls out rows i atoms h a = subst (λ (rs : List At). AreSoFar N nulls out rs atoms) (take_all i rows h) a

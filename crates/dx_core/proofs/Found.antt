@@ -12,24 +12,25 @@ use Rattle.dx_model.specs.Blocks.{IsReduct}
 use Rattle.dx_instance.specs.Cells.{numbers_at}
 use Rattle.dx_instance.specs.Numbers.{value_of}
 use Rattle.dx_instance.specs.Places.{row_at}
-use Rattle.dx_instance.specs.Shown.{Numbered, PartsFit, numbers_of_table}
+use Rattle.dx_instance.specs.Shown.{NumberedInstance, PartsFit, numbers_of_table}
 use Rattle.dx_instance.specs.Stored.{facts}
 use Rattle.dx_instance.proofs.ShownFacts.{number_same}
 use Rattle.dx_blocks.specs.declared.numbered.At.{At}
 use Rattle.dx_blocks.specs.declared.numbered.NumberBlock.{NumberBlock}
 use Rattle.dx_blocks.specs.Blocks.{least}
-use Rattle.dx_blocks.specs.Numbered.{IsRow, fact_of, null_under, shown_block}
+use Rattle.dx_blocks.specs.Numbered.{IsRowIn, fact_of, null_under, shown_block}
 use Rattle.dx_solver.specs.declared.atom.PatternAtom.{PatternAtom}
 use Rattle.dx_solver.specs.Questions.{Solves, answered, number_under, row_under}
-use Rattle.dx_core.specs.Asking.{AreAtoms, Ascend, numbers_of, pairs_by}
-use Rattle.dx_core.specs.Left.{left_of, shown_by}
+use Rattle.dx_core.specs.Asking.{AreAtoms, AscendStrictly, pairs_by}
+use Rattle.dx_blocks.specs.NullRows.{row_numbers}
+use Rattle.dx_core.specs.Left.{facts_left, shown_by}
 use Rattle.dx_core.specs.Sparing.{IsTried}
 use Rattle.dx_core.proofs.Asked.{atom_moves, atom_stands, fact_there, others_stay, row_below, row_is}
 use Rattle.dx_core.proofs.Terms.{answer_of, has_variable}
 use Rattle.dx_core.proofs.Tried.{its_fact}
 
 -- ascending numbers at different places differ
-one_at : (ns : List ℕ) (i j : ℕ) → Ascend ns → i < length ns → j < length ns → get_or ns i 0 ≡ get_or ns j 0 → i ≡ j
+one_at : (ns : List ℕ) (i j : ℕ) → AscendStrictly ns → i < length ns → j < length ns → get_or ns i 0 ≡ get_or ns j 0 → i ≡ j
 one_at ns i j up h k e = elim (cases_order i j) [
   | inl d ↦ d
   | inr o ↦ elim o [
@@ -38,9 +39,9 @@ one_at ns i j up h k e = elim (cases_order i j) [
   ]
 ]
 
-module _ (N : Numbered) (fit : PartsFit N.symbols N.tables) (b : NumberBlock) (t : IsTried N b) (out : List (List Bool))
+module _ (N : NumberedInstance) (fit : PartsFit N.symbols N.tables) (b : NumberBlock) (t : IsTried N b) (out : List (List Bool))
     (atoms : List PatternAtom) (are : AreAtoms N b.nulls [] b.rows atoms) (known : List (Option ℕ)) where
-  pub found : IsReduct (facts (shown_by N)) (left_of N out) → ((v n : ℕ) → ¬ (get_or known v None ≡ Some n))
+  pub found : IsReduct (facts (shown_by N)) (facts_left N out) → ((v n : ℕ) → ¬ (get_or known v None ≡ Some n))
       → (a : ℕ → ℕ) × Solves N.tables out atoms known a
   found r none = (
     answer_of N.symbols r.moves.0 b.nulls,
@@ -55,15 +56,15 @@ module _ (N : Numbered) (fit : PartsFit N.symbols N.tables) (b : NumberBlock) (t
   )
 
   module _ (xs : List ℕ) (long : length xs ≡ length b.nulls) (s : Solves N.tables out atoms known (answered xs)) where
-    pub found_moves : Moves (given (pairs_by N b.nulls xs)) (map (fact_of N) b.rows) (left_of N out)
+    pub found_moves : Moves (given (pairs_by N b.nulls xs)) (map (fact_of N) b.rows) (facts_left N out)
     found_moves f m =
         let w = from_map (fact_of N) b.rows m in
         let a = are.all w.0 w.1 refl in
-        subst (λ (e : Fact). fact_moved (given (pairs_by N b.nulls xs)) e ∈ left_of N out) w.2
+        subst (λ (e : Fact). fact_moved (given (pairs_by N b.nulls xs)) e ∈ facts_left N out) w.2
         (atom_moves N fit b.nulls w.0 a.0 a.2 (t.numbers.rows w.0 w.1) out xs t.numbers.nulls t.ascend long (s.stands a.0 a.1))
 
     -- a null of the block stands in one of its rows
-    stands_in : (n : ℕ) → n ∈ b.nulls → (at : At) × (at ∈ b.rows) × (n ∈ numbers_of N at)
+    stands_in : (n : ℕ) → n ∈ b.nulls → (at : At) × (at ∈ b.rows) × (n ∈ row_numbers N at)
     stands_in n m =
         let a = t.numbers.nulls n m in
         let k = (t.block.nulls (null_under N n)).0 (in_map (null_under N) m) in
@@ -74,25 +75,25 @@ module _ (N : Numbered) (fit : PartsFit N.symbols N.tables) (b : NumberBlock) (t
         let row = t.numbers.rows q.0 q.1 in
         let v : Null (null_under N n) ∈ row_at (shown_by N) q.0.table q.0.place =
         subst (λ (f : Fact). Null (null_under N n) ∈ f.row) (sym q.2) w.2 in
-        let x = from_map (value_of N.symbols) (numbers_of N q.0) (rw (row_is N fit q.0 row) at v) in
+        let x = from_map (value_of N.symbols) (row_numbers N q.0) (rw (row_is N fit q.0 row) at v) in
         let e : x.0 ≡ n = number_same N.symbols x.0 n fit.apart (row_below N fit q.0 row x.0 x.1) a.within (x.2 ∙ sym a.is) in
-        (q.0, q.1, subst (λ (i : ℕ). i ∈ numbers_of N q.0) e x.1)
+        (q.0, q.1, subst (λ (i : ℕ). i ∈ row_numbers N q.0) e x.1)
 
     at_variable : (v : ℕ) → v < length b.nulls → get_or xs v 0 < length N.symbols
     at_variable v h =
         let n = get_or b.nulls v 0 in
         let w = stands_in n (in_at b.nulls v 0 h) in
         let a = are.all w.0 w.1 refl in
-        let u = has_variable b.nulls (numbers_of N w.0) a.0.terms a.2.terms n w.2 (in_at b.nulls v 0 h) in
+        let u = has_variable b.nulls (row_numbers N w.0) a.0.terms a.2.terms n w.2 (in_at b.nulls v 0 h) in
         let same : u.0 ≡ v = one_at b.nulls u.0 v t.ascend u.2 h u.3 in
         let p = s.stands a.0 a.1 in
         let to : At = record { table = w.0.table; place = p.0 } in
         let row = t.numbers.rows w.0 w.1 in
-        let there : IsRow N to = record { table = row.table; place = subst (λ (t : ℕ). p.0 < length (numbers_of_table N.tables t).rows) a.2.table p.1 } in
+        let there : IsRowIn N to = record { table = row.table; place = subst (λ (t : ℕ). p.0 < length (numbers_of_table N.tables t).rows) a.2.table p.1 } in
         let i : get_or xs u.0 0 ∈ map (number_under (answered xs)) a.0.terms = in_map (number_under (answered xs)) u.1 in
-        let d : numbers_of N to ≡ row_under (answered xs) a.0 =
+        let d : row_numbers N to ≡ row_under (answered xs) a.0 =
         ap (λ (t : ℕ). numbers_at (numbers_of_table N.tables t).rows p.0) (sym a.2.table) ∙ p.3 in
-        let j : get_or xs u.0 0 ∈ numbers_of N to = subst (λ (row : List ℕ). get_or xs u.0 0 ∈ row) (sym d) i in
+        let j : get_or xs u.0 0 ∈ row_numbers N to = subst (λ (row : List ℕ). get_or xs u.0 0 ∈ row) (sym d) i in
         subst (λ (k : ℕ). get_or xs k 0 < length N.symbols) same (row_below N fit to there (get_or xs u.0 0) j)
 
     pub found_within : Each xs (λ x. x < length N.symbols)
@@ -105,7 +106,7 @@ module _ (N : Numbered) (fit : PartsFit N.symbols N.tables) (b : NumberBlock) (t
 
   module _ {V : Type 0} (items : V → List ℕ) (o : Option V)
       (exact : MatchOption o ((a : ℕ → ℕ) → ¬ (Solves N.tables out atoms known a)) (λ v. Solves N.tables out atoms known (answered (items v)))) where
-    pub some_found : IsReduct (facts (shown_by N)) (left_of N out) → ((v n : ℕ) → ¬ (get_or known v None ≡ Some n)) → ¬ (o ≡ None)
+    pub some_found : IsReduct (facts (shown_by N)) (facts_left N out) → ((v n : ℕ) → ¬ (get_or known v None ≡ Some n)) → ¬ (o ≡ None)
     some_found r none e = by o e exact
       where
         by : (o : Option V) → o ≡ None
@@ -123,12 +124,12 @@ module _ (N : Numbered) (fit : PartsFit N.symbols N.tables) (b : NumberBlock) (t
           by None q l = tt
           by (Some v) q l = found_within (items v) (l ∙ same) q
 
-      pub moves_found : IfSome o (λ v. Moves (given (pairs_by N b.nulls (items v))) (map (fact_of N) b.rows) (left_of N out))
+      pub moves_found : IfSome o (λ v. Moves (given (pairs_by N b.nulls (items v))) (map (fact_of N) b.rows) (facts_left N out))
       moves_found = by o exact long
         where
           by : (o : Option V)
               → MatchOption o ((a : ℕ → ℕ) → ¬ (Solves N.tables out atoms known a)) (λ v. Solves N.tables out atoms known (answered (items v)))
               → IfSome o (λ v. length (items v) ≡ length known)
-              → IfSome o (λ v. Moves (given (pairs_by N b.nulls (items v))) (map (fact_of N) b.rows) (left_of N out))
+              → IfSome o (λ v. Moves (given (pairs_by N b.nulls (items v))) (map (fact_of N) b.rows) (facts_left N out))
           by None q l = tt
           by (Some v) q l = found_moves (items v) (l ∙ same) q

@@ -10,13 +10,14 @@ use Rattle.dx_model.specs.declared.facts.Fact.{Fact}
 use Rattle.dx_model.specs.Instances.{fact_moved, moved}
 use Rattle.dx_instance.specs.Numbers.{value_of}
 use Rattle.dx_instance.specs.Places.{row_at}
-use Rattle.dx_instance.specs.Shown.{Numbered, PartsFit, numbers_of_table}
+use Rattle.dx_instance.specs.Shown.{NumberedInstance, PartsFit, numbers_of_table}
 use Rattle.dx_instance.proofs.ShownFacts.{number_same}
 use Rattle.dx_blocks.specs.declared.numbered.At.{At}
-use Rattle.dx_blocks.specs.Numbered.{IsRow, as_null, fact_of, null_under}
-use Rattle.dx_rigid.specs.Rigid.{IsKept, IsRigid}
+use Rattle.dx_blocks.specs.Numbered.{IsRowIn, as_null, fact_of, null_under}
+use Rattle.dx_rigid.specs.Rigid.{IsRigidValue, IsRigid}
 use Rattle.dx_core.specs.NeverMoves.{IsApart, NeverMoves}
-use Rattle.dx_core.specs.Asking.{Avoids, IsKnown, numbers_of}
+use Rattle.dx_core.specs.Asking.{Avoids, KnownAreRigid}
+use Rattle.dx_blocks.specs.NullRows.{row_numbers}
 use Rattle.dx_core.specs.Left.{shown_by}
 use Rattle.dx_core.proofs.Asked.{row_below, row_is, row_wide}
 
@@ -29,31 +30,31 @@ at_column g S (x ∷ xs) (y ∷ ys) (suc i) h k e =
     let d : map (moved g) (map (value_of S) xs) ≡ map (value_of S) ys = cc e in
     at_column g S xs ys i (omega (arith, h)) (omega (arith, k)) d
 
-module _ (N : Numbered) (fit : PartsFit N.symbols N.tables) (from to : At) (r : IsRow N from) (q : IsRow N to) where
-  pub as_wide : from.table ≡ to.table → length (numbers_of N from) ≡ length (numbers_of N to)
+module _ (N : NumberedInstance) (fit : PartsFit N.symbols N.tables) (from to : At) (r : IsRowIn N from) (q : IsRowIn N to) where
+  pub as_wide : from.table ≡ to.table → length (row_numbers N from) ≡ length (row_numbers N to)
   as_wide e = row_wide N fit from r ∙ (ap (λ (t : ℕ). (numbers_of_table N.tables t).width) e ∙ sym (row_wide N fit to q))
 
-  pub other_number : (T : List Fact) (i : ℕ) → i < length (numbers_of N from) → i < length (numbers_of N to)
-      → ¬ (get_or (numbers_of N from) i 0 ≡ get_or (numbers_of N to) i 0) → IsKept T (value_of N.symbols (get_or (numbers_of N from) i 0))
+  pub other_number : (T : List Fact) (i : ℕ) → i < length (row_numbers N from) → i < length (row_numbers N to)
+      → ¬ (get_or (row_numbers N from) i 0 ≡ get_or (row_numbers N to) i 0) → IsRigidValue T (value_of N.symbols (get_or (row_numbers N from) i 0))
       → NeverMoves T (fact_of N from) (fact_of N to)
   other_number T i h k apart kept g moves e =
       let d : map (moved g) (row_at (shown_by N) from.table from.place) ≡ row_at (shown_by N) to.table to.place = ap (λ (f : Fact). f.row) e in
-      let v = at_column g N.symbols (numbers_of N from) (numbers_of N to) i h k (rw (row_is N fit from r, row_is N fit to q) at d) in
-      apart (number_same N.symbols (get_or (numbers_of N from) i 0) (get_or (numbers_of N to) i 0) fit.apart
-      (row_below N fit from r _ (in_at (numbers_of N from) i 0 h)) (row_below N fit to q _ (in_at (numbers_of N to) i 0 k))
+      let v = at_column g N.symbols (row_numbers N from) (row_numbers N to) i h k (rw (row_is N fit from r, row_is N fit to q) at d) in
+      apart (number_same N.symbols (get_or (row_numbers N from) i 0) (get_or (row_numbers N to) i 0) fit.apart
+      (row_below N fit from r _ (in_at (row_numbers N from) i 0 h)) (row_below N fit to q _ (in_at (row_numbers N to) i 0 k))
       (sym (kept g moves) ∙ v))
 
-  pub other_after : (g : NullId → Value) (i y : ℕ) → i < length (numbers_of N from) → i < length (numbers_of N to) → y < length N.symbols
-      → value_of N.symbols y ≡ moved g (value_of N.symbols (get_or (numbers_of N from) i 0)) → ¬ (y ≡ get_or (numbers_of N to) i 0)
+  pub other_after : (g : NullId → Value) (i y : ℕ) → i < length (row_numbers N from) → i < length (row_numbers N to) → y < length N.symbols
+      → value_of N.symbols y ≡ moved g (value_of N.symbols (get_or (row_numbers N from) i 0)) → ¬ (y ≡ get_or (row_numbers N to) i 0)
       → ¬ (fact_moved g (fact_of N from) ≡ fact_of N to)
   other_after g i y h k l is apart e =
       let d : map (moved g) (row_at (shown_by N) from.table from.place) ≡ row_at (shown_by N) to.table to.place = ap (λ (f : Fact). f.row) e in
-      let v = at_column g N.symbols (numbers_of N from) (numbers_of N to) i h k (rw (row_is N fit from r, row_is N fit to q) at d) in
-      apart (number_same N.symbols y (get_or (numbers_of N to) i 0) fit.apart l
-      (row_below N fit to q _ (in_at (numbers_of N to) i 0 k)) (is ∙ v))
+      let v = at_column g N.symbols (row_numbers N from) (row_numbers N to) i h k (rw (row_is N fit from r, row_is N fit to q) at d) in
+      apart (number_same N.symbols y (get_or (row_numbers N to) i 0) fit.apart l
+      (row_below N fit to q _ (in_at (row_numbers N to) i 0 k)) (is ∙ v))
 
 -- a fact that can be moved elsewhere can so beside facts that are never moved to it
-pub apart_avoids : (N : Numbered) (T : List Fact) (all rows : List At) (at : At) → Each rows (IsApart N T all at)
+pub apart_avoids : (N : NumberedInstance) (T : List Fact) (all rows : List At) (at : At) → Each rows (IsApart N T all at)
     → ¬ (Avoids T (map (fact_of N) rows) (fact_of N at)) → ¬ (Avoids T (fact_of N at ∷ []) (fact_of N at))
 apart_avoids N T all rows at apart none a = none (
   a.0,
@@ -67,7 +68,7 @@ apart_avoids N T all rows at apart none a = none (
       ],
 )
 
-pub one_more_apart : (N : Numbered) (T : List Fact) (all rows new : List At) (at r : At) → IsApart N T all at r → new ≡ rows ++ (r ∷ [])
+pub one_more_apart : (N : NumberedInstance) (T : List Fact) (all rows new : List At) (at r : At) → IsApart N T all at r → new ≡ rows ++ (r ∷ [])
     → Each rows (IsApart N T all at) → Each new (IsApart N T all at)
 one_more_apart N T all rows new at r a e before x i = elim (from_append rows (rw e at i)) [
   | inl k ↦ before x k
@@ -78,20 +79,20 @@ one_more_apart N T all rows new at r a e before x i = elim (from_append rows (rw
     last (here d) = rw (← d) a
     last (there k) = elim k [ ]
 
-pub only_itself : (N : Numbered) (T : List Fact) (all new : List At) (at : At) → at ∈ all → new ≡ at ∷ [] → Each new (IsApart N T all at)
+pub only_itself : (N : NumberedInstance) (T : List Fact) (all new : List At) (at : At) → at ∈ all → new ≡ at ∷ [] → Each new (IsApart N T all at)
 only_itself N T all new at m e =
     one_more_apart N T all [] new at at (record { row = m; apart = inl refl }) e (λ x i. elim i [ ])
 
 -- a null that is known is kept
-pub kept_null : (N : Numbered) (T : List Fact) (nulls : List ℕ) (known : List (Option ℕ)) (x v n : ℕ) (null : NullId)
-    → value_of N.symbols x ≡ Null null → get_or nulls v 0 ≡ x → get_or known v None ≡ Some n → IsKnown N T nulls known
-    → IsKept T (value_of N.symbols x)
+pub kept_null : (N : NumberedInstance) (T : List Fact) (nulls : List ℕ) (known : List (Option ℕ)) (x v n : ℕ) (null : NullId)
+    → value_of N.symbols x ≡ Null null → get_or nulls v 0 ≡ x → get_or known v None ≡ Some n → KnownAreRigid N T nulls known
+    → IsRigidValue T (value_of N.symbols x)
 kept_null N T nulls known x v n null e i d k =
     let w = k.rigid v n d in
     let q : n ≡ x = sym w.0 ∙ i in
     let r : IsRigid T (null_under N x) = subst (λ (j : ℕ). IsRigid T (null_under N j)) q w.1 in
     let u : value_of N.symbols x ≡ Null (null_under N x) = e ∙ ap Null (sym (ap as_null e)) in
-    subst (λ (y : Value). IsKept T y) (sym u) r
+    subst (λ (y : Value). IsRigidValue T y) (sym u) r
 
-pub other_table : (N : Numbered) (from to : At) → ¬ (from.table ≡ to.table) → (T : List Fact) → NeverMoves T (fact_of N from) (fact_of N to)
+pub other_table : (N : NumberedInstance) (from to : At) → ¬ (from.table ≡ to.table) → (T : List Fact) → NeverMoves T (fact_of N from) (fact_of N to)
 other_table N from to k T g moves e = k (ap (λ (f : Fact). f.table) e)

@@ -14,7 +14,7 @@ use Rattle.dx_model.specs.declared.values.Value.TheVariants.{Null}
 use Rattle.dx_model.specs.Values.{Ascends, NullsAscend, RowsAscend, null_cmp, value_cmp}
 use Rattle.dx_instance.specs.Cells.{NumberTable, NumbersAscend}
 use Rattle.dx_instance.specs.Numbers.{ValuesAscend, value_of}
-use Rattle.dx_instance.specs.Shown.{AreBelow, Numbered, PartsFit, shown_row}
+use Rattle.dx_instance.specs.Shown.{AreBelow, NumberedInstance, PartsFit, shown_row}
 use Rattle.dx_instance.specs.Stored.{TableRows, facts, rows_of}
 use Rattle.dx_instance.proofs.ShownFacts.{is_shown, number_less, row_less}
 use Rattle.dx_ports.proofs.Members.{contains_from_in}
@@ -42,7 +42,7 @@ pairs R (x ∷ xs) a zero (suc j) d h k = a.0 (get_or xs j d) (in_at xs j d (ome
 pairs R (x ∷ xs) a (suc i) (suc j) d h k = pairs R xs a.1 i j d (omega (arith, h)) (omega (arith, k))
 
 -- the numbers of nulls that ascend do so as well
-numbers_up : (N : Numbered) (ns : List ℕ) → ValuesAscend N.symbols → Each ns (IsNullNumber N) → NullsAscend (map (null_under N) ns)
+numbers_up : (N : NumberedInstance) (ns : List ℕ) → ValuesAscend N.symbols → Each ns (IsNullNumber N) → NullsAscend (map (null_under N) ns)
     → Ascends (λ n m. n < m) ns
 numbers_up N [] up are a = tt
 numbers_up N (n ∷ ns) up are a = (
@@ -58,7 +58,7 @@ numbers_up N (n ∷ ns) up are a = (
 
 -- ---- what the blocks are
 
-pub all_tried : (N : Numbered) (bs : List NumberBlock) → ValuesAscend N.symbols → AreBlocks (facts (shown_by N)) (map (shown_block N) bs)
+pub all_tried : (N : NumberedInstance) (bs : List NumberBlock) → ValuesAscend N.symbols → AreBlocks (facts (shown_by N)) (map (shown_block N) bs)
     → Each bs (IsOfNumbers N) → Each bs (IsTried N)
 all_tried N bs up are within b m =
     let k = are.each (shown_block N b) (in_map (shown_block N) m) in
@@ -79,7 +79,7 @@ rows_up S (r ∷ rows) up below a = (
   rows_up S rows up (λ s i. below s (there i)) a.1,
 )
 
-pub tables_up : (N : Numbered) (I : List TableRows) → shown_by N ≡ I → PartsFit N.symbols N.tables → ValuesAscend N.symbols
+pub tables_up : (N : NumberedInstance) (I : List TableRows) → shown_by N ≡ I → PartsFit N.symbols N.tables → ValuesAscend N.symbols
     → ((t : ℕ) → RowsAscend (rows_of I t)) → Each N.tables (λ (t : NumberTable). NumbersAscend t.rows)
 tables_up N I e fit up a t m =
     let c = contains_from_in m in

@@ -17,14 +17,14 @@ use Rattle.dx_model.specs.declared.values.Value.TheVariants.{Const, Null}
 use Rattle.dx_model.specs.Instances.{given, moved, same_null}
 use Rattle.dx_model.proofs.Decided.{decide_in, same_value}
 use Rattle.dx_model.proofs.Maps.{same_null-refl, same_null-true}
-use Rattle.dx_instance.specs.Numbers.{AreApart, value_of}
-use Rattle.dx_instance.specs.Shown.{AreBelow, Numbered, shown_row}
+use Rattle.dx_instance.specs.Numbers.{AreDistinctValues, value_of}
+use Rattle.dx_instance.specs.Shown.{AreBelow, NumberedInstance, shown_row}
 use Rattle.dx_instance.proofs.ShownFacts.{number_same}
 use Rattle.dx_blocks.specs.Numbered.{IsNullNumber, null_under}
 use Rattle.dx_solver.specs.declared.atom.Term.{Term}
 use Rattle.dx_solver.specs.declared.atom.Term.TheVariants.{Number, Variable}
 use Rattle.dx_solver.specs.Questions.{answered, number_under}
-use Rattle.dx_core.specs.Asking.{Ascend, IsTermOf, pairs_by}
+use Rattle.dx_core.specs.Asking.{AscendStrictly, IsTermOf, pairs_by}
 
 -- ---- the number of a value
 
@@ -35,7 +35,7 @@ place_in S v (inr k) = 0
 abbrev pub number_in : List Value → Value → ℕ
 number_in S v = place_in S v (decide_in same_value v S)
 
-pub number_is : (S : List Value) (y : ℕ) → AreApart S → y < length S → number_in S (value_of S y) ≡ y
+pub number_is : (S : List Value) (y : ℕ) → AreDistinctValues S → y < length S → number_in S (value_of S y) ≡ y
 number_is S y a h = by (decide_in same_value (value_of S y) S)
   where
     by : (d : (value_of S y ∈ S) ⊎ (¬ (value_of S y ∈ S))) → place_in S (value_of S y) d ≡ y
@@ -46,7 +46,7 @@ number_is S y a h = by (decide_in same_value (value_of S y) S)
 
 -- ---- ascending numbers
 
-at_least : (ns : List ℕ) (i : ℕ) → Ascend ns → i < length ns → i ≤ get_or ns i 0
+at_least : (ns : List ℕ) (i : ℕ) → AscendStrictly ns → i < length ns → i ≤ get_or ns i 0
 at_least ns zero up h = omega arith
 at_least ns (suc i) up h =
     let l = up i (suc i) 0 (omega arith) h in
@@ -54,7 +54,7 @@ at_least ns (suc i) up h =
     omega (arith, l, k)
 
 -- there are no more of them than numbers below the bound
-pub ascend_few : (ns : List ℕ) (n : ℕ) → Ascend ns → Each ns (λ x. x < n) → length ns ≤ n
+pub ascend_few : (ns : List ℕ) (n : ℕ) → AscendStrictly ns → Each ns (λ x. x < n) → length ns ≤ n
 ascend_few [] n up below = omega arith
 ascend_few (x ∷ ns) n up below =
     let h : length ns < length (x ∷ ns) = omega arith in
@@ -62,20 +62,20 @@ ascend_few (x ∷ ns) n up below =
     let b = below (get_or (x ∷ ns) (length ns) 0) (in_at (x ∷ ns) (length ns) 0 h) in
     omega (arith, k, b)
 
-pub rises : (ns : List ℕ) → Ascend ns → (i j : ℕ) → i ≤ j → j < length ns → get_or ns i 0 ≤ get_or ns j 0
+pub rises : (ns : List ℕ) → AscendStrictly ns → (i j : ℕ) → i ≤ j → j < length ns → get_or ns i 0 ≤ get_or ns j 0
 rises ns up i j h k = elim (cases_eq i j) [
   | inl e ↦ omega (arith, ap (λ x. get_or ns x 0) e)
   | inr d ↦ let l = up i j 0 (omega arith) k in omega (arith, l)
 ]
 
-searchable : (ns : List ℕ) (x : ℕ) → Ascend ns → IsNonDecreasingBy (λ y. ordering_index (nat_cmp y x)) ns
+searchable : (ns : List ℕ) (x : ℕ) → AscendStrictly ns → IsNonDecreasingBy (λ y. ordering_index (nat_cmp y x)) ns
 searchable ns x up = searchable_from_sorted nat_cmp_total (λ y. y) ns x (λ k d l h.
     let less = up k (k + 1) d (omega arith) h in
     ap is_lt (nat_cmp_total.antisymm (get_or ns (k + 1) d) (get_or ns k d)
     ∙ ap ordering_reverse (nat_less (get_or ns k d) (get_or ns (k + 1) d) less)))
 
 -- what is not found is not there
-pub not_found : (ns : List ℕ) (x i : ℕ) → Ascend ns
+pub not_found : (ns : List ℕ) (x i : ℕ) → AscendStrictly ns
     → (IsNonDecreasingBy (λ y. ordering_index (nat_cmp y x)) ns
     → IsPartitionPoint (λ y. nat_cmp y x ≡ Less) (λ y. nat_cmp y x ≡ Greater) ns i) → ¬ (x ∈ ns)
 not_found ns x i up p m =
@@ -102,7 +102,7 @@ not_found ns x i up p m =
 abbrev pub answer_of : List Value → (NullId → Value) → List ℕ → ℕ → ℕ
 answer_of S g nulls v = number_in S (moved g (value_of S (get_or nulls v 0)))
 
-module _ (S : List Value) (apart : AreApart S) (nulls : List ℕ) (g : NullId → Value) where
+module _ (S : List Value) (apart : AreDistinctValues S) (nulls : List ℕ) (g : NullId → Value) where
   term_is : (x y : ℕ) (t : Term) → IsTermOf nulls x t → x < length S → y < length S
       → (¬ (x ∈ nulls) → moved g (value_of S x) ≡ value_of S x) → moved g (value_of S x) ≡ value_of S y
       → y ≡ number_under (answer_of S g nulls) t
@@ -131,7 +131,7 @@ module _ (S : List Value) (apart : AreApart S) (nulls : List ℕ) (g : NullId �
 
 -- ---- numbers for variables give a map of nulls
 
-module _ (N : Numbered) (apart : AreApart N.symbols) where
+module _ (N : NumberedInstance) (apart : AreDistinctValues N.symbols) where
   -- numbers of nulls differ where their nulls do
   pub null_same : (n m : ℕ) → IsNullNumber N n → IsNullNumber N m → null_under N n ≡ null_under N m → n ≡ m
   null_same n m a b e = number_same N.symbols n m apart a.within b.within (a.is ∙ (ap Null e ∙ sym b.is))
@@ -144,7 +144,7 @@ module _ (N : Numbered) (apart : AreApart N.symbols) where
     | inr f ↦ rw f (not_given nulls xs k (λ m i. none m (there i)))
   ]
 
-  pub is_given : (nulls xs : List ℕ) (v : ℕ) → Each nulls (IsNullNumber N) → Ascend nulls → length xs ≡ length nulls → v < length nulls
+  pub is_given : (nulls xs : List ℕ) (v : ℕ) → Each nulls (IsNullNumber N) → AscendStrictly nulls → length xs ≡ length nulls → v < length nulls
       → given (pairs_by N nulls xs) (null_under N (get_or nulls v 0)) ≡ value_of N.symbols (get_or xs v 0)
   is_given [] xs v are up long h = absurd (omega (arith, h))
   is_given (n ∷ nulls) [] v are up long h = absurd (omega (arith, long))
@@ -161,7 +161,7 @@ module _ (N : Numbered) (apart : AreApart N.symbols) where
             (omega (arith, long)) k)
       ]
 
-  module _ (nulls xs : List ℕ) (are : Each nulls (IsNullNumber N)) (up : Ascend nulls) (long : length xs ≡ length nulls) where
+  module _ (nulls xs : List ℕ) (are : Each nulls (IsNullNumber N)) (up : AscendStrictly nulls) (long : length xs ≡ length nulls) where
     -- what is none of the nulls stays
     pub stays : (x : ℕ) → x < length N.symbols → ¬ (x ∈ nulls) → moved (given (pairs_by N nulls xs)) (value_of N.symbols x) ≡ value_of N.symbols x
     stays x h k = by (value_of N.symbols x) refl

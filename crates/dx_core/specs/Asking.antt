@@ -9,7 +9,7 @@ use Rattle.dx_model.specs.Instances.{Moves, fact_moved}
 use Rattle.dx_ports.specs.Members.{◌∈◌, Each}
 use Rattle.dx_instance.specs.Cells.{numbers_at}
 use Rattle.dx_instance.specs.Numbers.{value_of}
-use Rattle.dx_instance.specs.Shown.{Numbered, numbers_of_table}
+use Rattle.dx_instance.specs.Shown.{NumberedInstance, numbers_of_table}
 use Rattle.dx_blocks.specs.declared.numbered.At.{At}
 use Rattle.dx_blocks.specs.Numbered.{null_under}
 use Rattle.dx_solver.specs.declared.atom.Term.{Term}
@@ -18,33 +18,30 @@ use Rattle.dx_solver.specs.declared.atom.PatternAtom.{PatternAtom}
 use Rattle.dx_solver.specs.Marks.{is_out}
 use Rattle.dx_solver.specs.Questions.{answered, number_under}
 use Rattle.dx_rigid.specs.Rigid.{IsRigid}
+use Rattle.dx_blocks.specs.NullRows.{row_numbers}
 
 -- the numbers ascend
-abbrev pub Ascend : List ℕ → Type 0
-Ascend ns = AllPairs (λ n m. n < m) ns
+abbrev pub AscendStrictly : List ℕ → Type 0
+AscendStrictly ns = AllPairs (λ n m. n < m) ns
 
 -- variable v stands for the null with number nulls[v], and a number for itself
 abbrev pub IsTermOf : List ℕ → ℕ → Term → Type 0
 IsTermOf nulls x (Number n) = (n ≡ x) × (¬ (x ∈ nulls))
 IsTermOf nulls x (Variable v) = (v < length nulls) × (slice_index_or nulls v 0 ≡ x)
 
--- the numbers of a row
-abbrev pub numbers_of : Numbered → At → List ℕ
-numbers_of N at = numbers_at (numbers_of_table N.tables at.table).rows at.place
-
 -- the atom of a row, with a variable for each of these nulls
-pub record IsAtomOf (N : Numbered) (nulls : List ℕ) (at : At) (atom : PatternAtom) : Type 0 where
+pub record IsAtomOf (N : NumberedInstance) (nulls : List ℕ) (at : At) (atom : PatternAtom) : Type 0 where
   pub table : atom.table ≡ at.table
-  pub terms : AllZip (IsTermOf nulls) (numbers_of N at) atom.terms
+  pub terms : AllZip (IsTermOf nulls) (row_numbers N at) atom.terms
 
 -- the atoms of those of the rows that are not taken out
-pub record AreAtoms (N : Numbered) (nulls : List ℕ) (out : List (List Bool)) (rows : List At) (atoms : List PatternAtom)
+pub record AreAtoms (N : NumberedInstance) (nulls : List ℕ) (out : List (List Bool)) (rows : List At) (atoms : List PatternAtom)
     : Type 0 where
   pub only : Each atoms (λ atom. (at : At) × (at ∈ rows) × IsAtomOf N nulls at atom × (is_out out at.table at.place ≡ false))
   pub all : Each rows (λ at. is_out out at.table at.place ≡ false → (atom : PatternAtom) × (atom ∈ atoms) × IsAtomOf N nulls at atom)
 
 -- each null with the value under its number in an answer
-abbrev pub pairs_by : Numbered → List ℕ → List ℕ → List NullPair
+abbrev pub pairs_by : NumberedInstance → List ℕ → List ℕ → List NullPair
 pairs_by N [] xs = []
 pairs_by N (n ∷ ns) [] = []
 pairs_by N (n ∷ ns) (x ∷ xs) = record { null = null_under N n; value = value_of N.symbols x } ∷ pairs_by N ns xs
@@ -64,6 +61,6 @@ abbrev pub MovesOff : (NullId → Value) → List Fact → List Fact → Fact �
 MovesOff g T F f = Each F (λ e. e ∈ T → (fact_moved g e ∈ T) × (¬ (fact_moved g e ≡ f)))
 
 -- what is known of variables: these are numbers of nulls that every endomorphism of T keeps
-pub record IsKnown (N : Numbered) (T : List Fact) (nulls : List ℕ) (known : List (Option ℕ)) : Type 0 where
+pub record KnownAreRigid (N : NumberedInstance) (T : List Fact) (nulls : List ℕ) (known : List (Option ℕ)) : Type 0 where
   pub long : length known ≡ length nulls
   pub rigid : (v n : ℕ) → slice_index_or known v None ≡ Some n → (slice_index_or nulls v 0 ≡ n) × IsRigid T (null_under N n)

@@ -2,10 +2,10 @@
 ghost use Rattle.std.specs.Prelude.{◌≡◌, ◌<◌, true, List, length};
 ghost use Rattle.dx_model.specs.declared.facts.Fact.{Fact as FactRow};
 ghost use Rattle.dx_instance.specs.Numbers.{value_of};
-ghost use Rattle.dx_blocks.specs.Numbered.{IsRow, fact_of};
-ghost use Rattle.dx_rigid.specs.Rigid.{IsKept};
+ghost use Rattle.dx_blocks.specs.Numbered.{IsRowIn, fact_of};
+ghost use Rattle.dx_rigid.specs.Rigid.{IsRigidValue};
 ghost use Rattle.dx_core.specs.NeverMoves.{NeverMoves};
-ghost use Rattle.dx_core.specs.Asking.{IsKnown};
+ghost use Rattle.dx_core.specs.Asking.{KnownAreRigid};
 
 use dx_blocks::At;
 use dx_instance::{Numbers, Value};
@@ -13,8 +13,8 @@ use dx_instance::{Numbers, Value};
 // Whether every endomorphism keeps the value under a number: a constant, or a null of which this is known.
 fn is_kept(numbers: &Numbers<'_>, nulls: &[u32], known: &[Option<u32>], number: u32) -> bool
     requires { number < length numbers.now.symbols }
-    ensures { result ≡ true → (T : List FactRow) → IsKnown numbers.now T nulls.now known.now
-        → IsKept T (value_of numbers.now.symbols number) }
+    ensures { result ≡ true → (T : List FactRow) → KnownAreRigid numbers.now T nulls.now known.now
+        → IsRigidValue T (value_of numbers.now.symbols number) }
 {
     match numbers.value(number) {
         Value::Const(_) => true,
@@ -35,8 +35,8 @@ fn is_kept_off(
 ) -> bool
     requires { number < length numbers.now.symbols }
     ensures differs { result ≡ true → ¬ (number ≡ other) }
-    ensures kept { result ≡ true → (T : List FactRow) → IsKnown numbers.now T nulls.now known.now
-        → IsKept T (value_of numbers.now.symbols number) }
+    ensures kept { result ≡ true → (T : List FactRow) → KnownAreRigid numbers.now T nulls.now known.now
+        → IsRigidValue T (value_of numbers.now.symbols number) }
 {
     if number == other {
         return false;
@@ -52,10 +52,10 @@ fn never_becomes(
     from: At,
     to: At,
 ) -> bool
-    requires from { IsRow numbers.now from }
-    requires to { IsRow numbers.now to }
+    requires from { IsRowIn numbers.now from }
+    requires to { IsRowIn numbers.now to }
     requires table { from.table ≡ to.table }
-    ensures { result ≡ true → (T : List FactRow) → IsKnown numbers.now T nulls.now known.now
+    ensures { result ≡ true → (T : List FactRow) → KnownAreRigid numbers.now T nulls.now known.now
         → NeverMoves T (fact_of numbers.now from) (fact_of numbers.now to) }
 {
     let _fit = numbers.len();
@@ -78,9 +78,9 @@ pub(crate) fn never_moves(
     from: At,
     to: At,
 ) -> bool
-    requires from { IsRow numbers.now from }
-    requires to { IsRow numbers.now to }
-    ensures { result ≡ true → (T : List FactRow) → IsKnown numbers.now T nulls.now known.now
+    requires from { IsRowIn numbers.now from }
+    requires to { IsRowIn numbers.now to }
+    ensures { result ≡ true → (T : List FactRow) → KnownAreRigid numbers.now T nulls.now known.now
         → NeverMoves T (fact_of numbers.now from) (fact_of numbers.now to) }
 {
     if from.table == to.table {

@@ -1,9 +1,9 @@
 // Rows of a block as atoms: a variable for each null of the block.
 ghost use Rattle.std.specs.Prelude.{◌≡◌, ◌<◌, ◌^◌, IfOk, None, length, replicate};
 ghost use Rattle.dx_ports.specs.Members.{Each};
-ghost use Rattle.dx_blocks.specs.Numbered.{IsRow};
+ghost use Rattle.dx_blocks.specs.Numbered.{IsRowIn};
 ghost use Rattle.dx_solver.specs.Questions.{FitsAtom};
-ghost use Rattle.dx_core.specs.Asking.{AreAtoms, Ascend, IsAtomOf, IsTermOf};
+ghost use Rattle.dx_core.specs.Asking.{AreAtoms, AscendStrictly, IsAtomOf, IsTermOf};
 
 use dx_blocks::At;
 use dx_instance::Numbers;
@@ -12,7 +12,7 @@ use std::alloc::{AllocError, Global};
 
 /// The term that stands for a number.
 pub(crate) fn term_of(nulls: &[u32], number: u32) -> Term
-    requires ascend { Ascend nulls.now }
+    requires ascend { AscendStrictly nulls.now }
     requires few { length nulls.now < 2 ^ 32 }
     ensures { IsTermOf nulls.now number result }
 {
@@ -29,9 +29,9 @@ fn atom_of(
     nulls: &[u32],
     at: At,
 ) -> Result<PatternAtom, AllocError>
-    requires ascend { Ascend nulls.now }
+    requires ascend { AscendStrictly nulls.now }
     requires few { length nulls.now < 2 ^ 32 }
-    requires row { IsRow numbers.now at }
+    requires row { IsRowIn numbers.now at }
     ensures { IfOk result (IsAtomOf numbers.now nulls.now at) }
 {
     let mut terms = Terms::new(alloc);
@@ -56,9 +56,9 @@ pub(crate) fn atoms_of(
     taken: &Taken,
     rows: &[At],
 ) -> Result<Vec<PatternAtom>, AllocError>
-    requires ascend { Ascend nulls.now }
+    requires ascend { AscendStrictly nulls.now }
     requires few { length nulls.now < 2 ^ 32 }
-    requires rows { Each rows.now (IsRow numbers.now) }
+    requires rows { Each rows.now (IsRowIn numbers.now) }
     ensures atoms { IfOk result (λ atoms. AreAtoms numbers.now nulls.now taken.now rows.now atoms.items) }
     ensures fit { IfOk result (λ atoms. Each atoms.items (FitsAtom numbers.now.tables (length nulls.now))) }
 {

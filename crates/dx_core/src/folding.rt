@@ -1,9 +1,9 @@
-// Rows of a block that are images of its rows, where its nulls get numbers.
+// Rows of a block that are images of its rows, if its nulls get numbers.
 ghost use Rattle.std.specs.Prelude.{◌≡◌, ◌<◌, ◌^◌, false, length, map};
 ghost use Rattle.dx_ports.specs.Members.{◌∈◌, Each};
 ghost use Rattle.dx_model.specs.Instances.{fact_moved, given};
-ghost use Rattle.dx_blocks.specs.Numbered.{IsRow, fact_of};
-ghost use Rattle.dx_core.specs.Asking.{Ascend, IsNumberAfter, pairs_by};
+ghost use Rattle.dx_blocks.specs.Numbered.{IsRowIn, fact_of};
+ghost use Rattle.dx_core.specs.Asking.{AscendStrictly, IsNumberAfter, pairs_by};
 ghost use Rattle.dx_core.specs.Sparing.{IsTried};
 
 use crate::asking::term_of;
@@ -13,7 +13,7 @@ use dx_solver::Term;
 
 // What a number becomes.
 fn number_after(nulls: &[u32], answer: &[u32], number: u32) -> u32
-    requires ascend { Ascend nulls.now }
+    requires ascend { AscendStrictly nulls.now }
     requires few { length nulls.now < 2 ^ 32 }
     requires long { length answer.now ≡ length nulls.now }
     ensures { IsNumberAfter nulls.now answer.now number result }
@@ -28,8 +28,8 @@ fn number_after(nulls: &[u32], answer: &[u32], number: u32) -> u32
 fn becomes(numbers: &Numbers<'_>, block: &NumberBlock, answer: &[u32], from: At, to: At) -> bool
     requires block { IsTried numbers.now block.now }
     requires long { length answer.now ≡ length block.now.nulls }
-    requires from { IsRow numbers.now from }
-    requires to { IsRow numbers.now to }
+    requires from { IsRowIn numbers.now from }
+    requires to { IsRowIn numbers.now to }
     ensures { result ≡ false
         → ¬ (fact_moved (given (pairs_by numbers.now block.now.nulls answer.now)) (fact_of numbers.now from) ≡ fact_of numbers.now to) }
 {

@@ -1,6 +1,6 @@
 // Rows of a block that are near one another since they share nulls. Which rows are near is a matter of time alone.
 ghost use Rattle.dx_ports.specs.Members.{Each};
-ghost use Rattle.dx_blocks.specs.Numbered.{IsRow};
+ghost use Rattle.dx_blocks.specs.Numbered.{IsRowIn};
 
 use dx_blocks::At;
 use dx_instance::Numbers;
@@ -20,7 +20,7 @@ fn places_of_nulls(
     nulls: &[u32],
     at: At,
 ) -> Result<Vec<usize>, AllocError>
-    requires { IsRow numbers.now at }
+    requires { IsRowIn numbers.now at }
 {
     let mut places = Vec::new(alloc);
     for number in numbers.row(at.table, at.place) {
@@ -87,7 +87,7 @@ impl Ties {
         nulls: &[u32],
         rows: &[At],
     ) -> Result<Ties, AllocError>
-        requires { Each rows.now (IsRow numbers.now) }
+        requires { Each rows.now (IsRowIn numbers.now) }
     {
         let mut nulls_by_row = Vec::new(alloc);
         let mut rows_by_null = empty_lists(alloc, nulls.len())?;
@@ -161,7 +161,7 @@ pub(crate) fn places_near(
     at: At,
     limit: usize,
 ) -> Result<Vec<usize>, AllocError>
-    requires { IsRow numbers.now at }
+    requires { IsRowIn numbers.now at }
 {
     let held = places_of_nulls(alloc, numbers, nulls, at)?;
     ties.near(alloc, &held, known, limit)

@@ -11,7 +11,7 @@ use Rattle.dx_model.specs.declared.rules.Atom.{Atom}
 use Rattle.dx_model.specs.declared.rules.Rule.{Rule}
 use Rattle.dx_model.specs.declared.covers.Meeting.{Meeting}
 use Rattle.dx_model.specs.Covers.{choices, first_met, is_cell_map, map_of, may_meet, meet, meetings, same_cell}
-use Rattle.dx_cover.specs.Partners.{HasNoPartner, IsExcluded, NeverMeet}
+use Rattle.dx_cover.specs.Partners.{HasNoChoice, IsExcluded, NeverMeet}
 use Rattle.dx_cover.specs.Search.{has_met_in, maps_under}
 use Rattle.dx_cover.proofs.Extending.{met_one}
 use Rattle.dx_cover.proofs.Searching.{filter_none, first_kept}
@@ -73,7 +73,7 @@ chosen_one (x ∷ rest) others bs a m k =
     by first cs n t q later (here e) = subst (λ z. (b : Atom) × (b ∈ others) × (z.table ≡ b.table) × (meet z.cells b.cells ⊆ meetings (x ∷ rest) (first ∷ cs))) e (first, n, t, λ y p. in_left (meetings rest cs) p)
     by first cs n t q later (there l) = let r = later l in (r.0, r.1, r.2, λ y p. in_right (meet x.cells first.cells) (r.3 y p))
 
-pub no_partner : (i : Rule) (bound : List Meeting) (rest others : List Atom) (a : Atom) → a ∈ rest → HasNoPartner bound others a → maps_under i bound rest others ≡ []
+pub no_partner : (i : Rule) (bound : List Meeting) (rest others : List Atom) (a : Atom) → a ∈ rest → HasNoChoice bound others a → maps_under i bound rest others ≡ []
 no_partner i bound rest others a m none =
     ap (map (map_of i)) (filter_none is_cell_map (map (λ bs. bound ++ meetings rest bs) (choices rest others)) (λ ms k.
     let w = from_map (λ bs. bound ++ meetings rest bs) (choices rest others) k in

@@ -11,24 +11,24 @@ use Rattle.dx_model.specs.declared.rules.Rule.{Rule}
 use Rattle.dx_model.specs.declared.covers.CellMap.{CellMap}
 use Rattle.dx_model.specs.Rules.{cells_of, existential_in, existentials}
 use Rattle.dx_model.specs.Covers.{apart, before, cell_maps, has_map, is_some, rule_at, used_maps}
-use Rattle.dx_model.specs.Fitting.{AgreeInWidths, IsRule, Numbered, conclusions_of}
+use Rattle.dx_model.specs.Fitting.{AgreeInWidths, IsRule, ByFirstAppearance, conclusions_of}
 use Rattle.dx_model.proofs.Frozen.{few_numbered}
 use Rattle.dx_model.proofs.Cells.{few_existentials}
 use Rattle.dx_cover.specs.Covering.{covers_of, maps_in}
 
 -- ---- existential variables
 
-numbered_below : (n : ℕ) (xs : List ℕ) (m v : ℕ) → Numbered n xs m → v ∈ xs → v < m
+numbered_below : (n : ℕ) (xs : List ℕ) (m v : ℕ) → ByFirstAppearance n xs m → v ∈ xs → v < m
 numbered_below n [] m v h k = elim k [ ]
 numbered_below n (x ∷ xs) m v (inl h) (here e) = let g = least n xs m h.1 in omega (arith, h.0, g)
   where
-    least : (n : ℕ) (xs : List ℕ) (m : ℕ) → Numbered n xs m → n ≤ m
+    least : (n : ℕ) (xs : List ℕ) (m : ℕ) → ByFirstAppearance n xs m → n ≤ m
     least n [] m h = omega (arith, h)
     least n (x ∷ xs) m (inl h) = least n xs m h.1
     least n (x ∷ xs) m (inr h) = let g = least (suc n) xs m h.1 in omega arith
 numbered_below n (x ∷ xs) m v (inr h) (here e) = let g = least (suc n) xs m h.1 in omega (arith, h.0, g)
   where
-    least : (n : ℕ) (xs : List ℕ) (m : ℕ) → Numbered n xs m → n ≤ m
+    least : (n : ℕ) (xs : List ℕ) (m : ℕ) → ByFirstAppearance n xs m → n ≤ m
     least n [] m h = omega (arith, h)
     least n (x ∷ xs) m (inl h) = least n xs m h.1
     least n (x ∷ xs) m (inr h) = let g = least (suc n) xs m h.1 in omega arith

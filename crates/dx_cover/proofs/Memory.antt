@@ -20,8 +20,8 @@ use Rattle.dx_model.proofs.Carrying.{same_cell-true, same_cell-refl}
 use Rattle.dx_cover.specs.declared.states.State.{State}
 use Rattle.dx_cover.specs.declared.states.Search.{Search}
 use Rattle.dx_cover.specs.declared.search.Outlook.{Outlook}
-use Rattle.dx_cover.specs.Search.{branch, found_after, fresh, maps_under, seen}
-use Rattle.dx_cover.specs.States.{AddsNothing, DeadIsEnough, GoneAddsNothing, IsDead, IsSearch, IsTrueFor, NothingStays, SameAddNothing, StateIsEnough, counted, counts, exported_images, last, maps_below, remembered, same_meetings, same_state, stands_in, state_of}
+use Rattle.dx_cover.specs.Search.{branch, found_after, fresh, maps_under, agrees_with_one}
+use Rattle.dx_cover.specs.States.{AddsNothing, DeadIsEnough, GoneAddsNothing, IsDead, IsSearch, IsTrueFor, NothingStays, SameAddNothing, StateIsEnough, counted_meetings, counts, exported_images, last, maps_below, remembered, same_meetings, same_state, stands_in, state_of}
 use Rattle.dx_cover.proofs.Searching.{maps_by_choice, same_cells-refl, first_kept, map_same, fresh_append, parts_follow, seen_gives_nothing}
 use Rattle.dx_cover.proofs.Extending.{flat_append, full, nothing_new}
 
@@ -152,14 +152,14 @@ pub state_is_enough : StateIsEnough
 state_is_enough i bound rest others h = go (choices rest others)
   where
     go : (cs : List (List Atom)) → exported_images (map (map_of i)
-        (filter is_cell_map (map (λ bs. counted true rest bound ++ meetings rest bs) cs)))
+        (filter is_cell_map (map (λ bs. counted_meetings true rest bound ++ meetings rest bs) cs)))
         ≡ exported_images (map (map_of i) (filter is_cell_map (map (λ bs. bound ++ meetings rest bs) cs)))
     go [] = refl
     go (c ∷ cs) =
-        one_choice is_cell_map (map_of i) (counted true rest bound ++ meetings rest c) (bound ++ meetings rest c)
-        (map (λ bs. counted true rest bound ++ meetings rest bs) cs) (map (λ bs. bound ++ meetings rest bs) cs)
+        one_choice is_cell_map (map_of i) (counted_meetings true rest bound ++ meetings rest c) (bound ++ meetings rest c)
+        (map (λ bs. counted_meetings true rest bound ++ meetings rest bs) cs) (map (λ bs. bound ++ meetings rest bs) cs)
         (map_left (counts true rest) bound (meetings rest c) h (later_counts true rest c))
-        (map_same (λ x. first_met (Var x) (counted true rest bound ++ meetings rest c))
+        (map_same (λ x. first_met (Var x) (counted_meetings true rest bound ++ meetings rest c))
         (λ x. first_met (Var x) (bound ++ meetings rest c)) (exported i)
         (λ x k. first_left (counts true rest) (Var x) refl bound (meetings rest c)))
         (go cs)
@@ -177,60 +177,60 @@ none_alike p f g h (c ∷ cs) e n = elim (cases_Bool (p (g c))) [
 pub dead_is_enough : DeadIsEnough
 dead_is_enough i bound rest others h =
     let e = λ (c : List Atom). map_left (counts false rest) bound (meetings rest c) h (later_counts false rest c) in (
-      none_alike is_cell_map (map_of i) (λ bs. counted false rest bound ++ meetings rest bs) (λ bs. bound ++ meetings rest bs)
+      none_alike is_cell_map (map_of i) (λ bs. counted_meetings false rest bound ++ meetings rest bs) (λ bs. bound ++ meetings rest bs)
           (choices rest others) e,
-      none_alike is_cell_map (map_of i) (λ bs. bound ++ meetings rest bs) (λ bs. counted false rest bound ++ meetings rest bs)
+      none_alike is_cell_map (map_of i) (λ bs. bound ++ meetings rest bs) (λ bs. counted_meetings false rest bound ++ meetings rest bs)
           (choices rest others) (λ c. sym (e c)),
     )
 
 -- ---- what adds nothing
 
-seen_more : (found g : List CellMap) (k : CellMap) → seen found k ≡ true → seen (found ++ g) k ≡ true
+seen_more : (found g : List CellMap) (k : CellMap) → agrees_with_one found k ≡ true → agrees_with_one (found ++ g) k ≡ true
 seen_more [] g k h = absurd (cc)
-seen_more (x ∷ found) g k h = elim (or_cases (same_cells x.exported k.exported) (seen found k) h) [
-  | inl t ↦ or_left (same_cells x.exported k.exported) (seen (found ++ g) k) t
-  | inr t ↦ or_right (same_cells x.exported k.exported) (seen (found ++ g) k) (seen_more found g k t)
+seen_more (x ∷ found) g k h = elim (or_cases (same_cells x.exported k.exported) (agrees_with_one found k) h) [
+  | inl t ↦ or_left (same_cells x.exported k.exported) (agrees_with_one (found ++ g) k) t
+  | inr t ↦ or_right (same_cells x.exported k.exported) (agrees_with_one (found ++ g) k) (seen_more found g k t)
 ]
 
-seen_here : (found g : List CellMap) (x k : CellMap) → x ≡ k → seen (found ++ x ∷ g) k ≡ true
-seen_here [] g x k e = or_left (same_cells x.exported k.exported) (seen g k)
+seen_here : (found g : List CellMap) (x k : CellMap) → x ≡ k → agrees_with_one (found ++ x ∷ g) k ≡ true
+seen_here [] g x k e = or_left (same_cells x.exported k.exported) (agrees_with_one g k)
     (subst (λ (z : CellMap). same_cells x.exported z.exported ≡ true) e (same_cells-refl x.exported))
-seen_here (y ∷ found) g x k e = or_right (same_cells y.exported k.exported) (seen (found ++ x ∷ g) k) (seen_here found g x k e)
+seen_here (y ∷ found) g x k e = or_right (same_cells y.exported k.exported) (agrees_with_one (found ++ x ∷ g) k) (seen_here found g x k e)
 
-seen_take : (n : ℕ) (found g : List CellMap) (k : CellMap) → length found ≤ n → seen found k ≡ true → seen (take n (found ++ g)) k ≡ true
+seen_take : (n : ℕ) (found g : List CellMap) (k : CellMap) → length found ≤ n → agrees_with_one found k ≡ true → agrees_with_one (take n (found ++ g)) k ≡ true
 seen_take n [] g k l h = absurd (cc)
 seen_take zero (x ∷ found) g k l h = absurd (omega arith)
-seen_take (suc n) (x ∷ found) g k l h = elim (or_cases (same_cells x.exported k.exported) (seen found k) h) [
-  | inl t ↦ or_left (same_cells x.exported k.exported) (seen (take n (found ++ g)) k) t
-  | inr t ↦ or_right (same_cells x.exported k.exported) (seen (take n (found ++ g)) k) (seen_take n found g k (omega arith) t)
+seen_take (suc n) (x ∷ found) g k l h = elim (or_cases (same_cells x.exported k.exported) (agrees_with_one found k) h) [
+  | inl t ↦ or_left (same_cells x.exported k.exported) (agrees_with_one (take n (found ++ g)) k) t
+  | inr t ↦ or_right (same_cells x.exported k.exported) (agrees_with_one (take n (found ++ g)) k) (seen_take n found g k (omega arith) t)
 ]
 
-all_seen : (found ks : List CellMap) → fresh found ks ≡ [] → (k : CellMap) → k ∈ ks → seen found k ≡ true
+all_seen : (found ks : List CellMap) → fresh found ks ≡ [] → (k : CellMap) → k ∈ ks → agrees_with_one found k ≡ true
 all_seen found [] h k m = elim m [ ]
-all_seen found (x ∷ ks) h k m = elim (cases_Bool (seen found x)) [
+all_seen found (x ∷ ks) h k m = elim (cases_Bool (agrees_with_one found x)) [
   | inl t ↦ go t m (all_seen found ks (rw t at h) k)
   | inr f ↦ let e : x ∷ fresh (found ++ x ∷ []) ks ≡ [] = rw f at h in absurd (cc)
 ]
   where
-    go : seen found x ≡ true → k ∈ (x ∷ ks) → (k ∈ ks → seen found k ≡ true) → seen found k ≡ true
-    go t (here e) r = subst (λ z. seen found z ≡ true) e t
+    go : agrees_with_one found x ≡ true → k ∈ (x ∷ ks) → (k ∈ ks → agrees_with_one found k ≡ true) → agrees_with_one found k ≡ true
+    go t (here e) r = subst (λ z. agrees_with_one found z ≡ true) e t
     go t (there n) r = r n
 
-seen_after : (found ks : List CellMap) (k : CellMap) → k ∈ ks → seen (found ++ fresh found ks) k ≡ true
+seen_after : (found ks : List CellMap) (k : CellMap) → k ∈ ks → agrees_with_one (found ++ fresh found ks) k ≡ true
 seen_after found [] k m = elim m [ ]
-seen_after found (x ∷ ks) k m = elim (cases_Bool (seen found x)) [
+seen_after found (x ∷ ks) k m = elim (cases_Bool (agrees_with_one found x)) [
   | inl t ↦ rw t (old t m (seen_after found ks k))
   | inr f ↦ rw f (new m (seen_after (found ++ x ∷ []) ks k))
 ]
   where
-    old : seen found x ≡ true → k ∈ (x ∷ ks) → (k ∈ ks → seen (found ++ fresh found ks) k ≡ true) → seen (found ++ fresh found ks) k ≡ true
-    old t (here e) r = seen_more found (fresh found ks) k (subst (λ z. seen found z ≡ true) e t)
+    old : agrees_with_one found x ≡ true → k ∈ (x ∷ ks) → (k ∈ ks → agrees_with_one (found ++ fresh found ks) k ≡ true) → agrees_with_one (found ++ fresh found ks) k ≡ true
+    old t (here e) r = seen_more found (fresh found ks) k (subst (λ z. agrees_with_one found z ≡ true) e t)
     old t (there n) r = r n
 
-    new : k ∈ (x ∷ ks) → (k ∈ ks → seen ((found ++ x ∷ []) ++ fresh (found ++ x ∷ []) ks) k ≡ true)
-        → seen (found ++ x ∷ fresh (found ++ x ∷ []) ks) k ≡ true
+    new : k ∈ (x ∷ ks) → (k ∈ ks → agrees_with_one ((found ++ x ∷ []) ++ fresh (found ++ x ∷ []) ks) k ≡ true)
+        → agrees_with_one (found ++ x ∷ fresh (found ++ x ∷ []) ks) k ≡ true
     new (here e) r = seen_here found (fresh (found ++ x ∷ []) ks) x k e
-    new (there n) r = subst (λ z. seen z k ≡ true) (append_assoc found (x ∷ []) (fresh (found ++ x ∷ []) ks)) (r n)
+    new (there n) r = subst (λ z. agrees_with_one z k ≡ true) (append_assoc found (x ∷ []) (fresh (found ++ x ∷ []) ks)) (r n)
 
 pub gone_adds_nothing : GoneAddsNothing
 gone_adds_nothing found ks =
@@ -256,9 +256,9 @@ same_fresh found [] (l ∷ ls) e h = absurd (cc)
 same_fresh found (k ∷ ks) (l ∷ ls) e h =
     let a : k.exported ≡ l.exported = cc in
     let b : exported_images ks ≡ exported_images ls = cc in
-    elim (cases_Bool (seen found k)) [
+    elim (cases_Bool (agrees_with_one found k)) [
       | inl t ↦
-          let s : seen found l ≡ true = subst (λ z. list_any (λ (m : CellMap). same_cells m.exported z) found ≡ true) a t in
+          let s : agrees_with_one found l ≡ true = subst (λ z. list_any (λ (m : CellMap). same_cells m.exported z) found ≡ true) a t in
           rw s (same_fresh found ks ls b (rw t at h))
       | inr f ↦ let d : k ∷ fresh (found ++ k ∷ []) ks ≡ [] = rw f at h in absurd (cc)
     ]
@@ -304,20 +304,20 @@ pub gone_nothing : (i : Rule) (others : List Atom) (s : Search) (bound : List Me
     → found_after s.found.items (maps_under i bound rest others) ≡ s.found.items
 gone_nothing i others s bound rest h c r k =
     let found = s.found.items in
-    let e : found_after found (maps_under i (counted true rest bound) (last (length rest) i.conclusion) others) ≡ found =
+    let e : found_after found (maps_under i (counted_meetings true rest bound) (last (length rest) i.conclusion) others) ≡ found =
     h.gone (state_of true rest bound) (known (state_of true rest bound) s.gone.items k) in
-    same_add_nothing found (maps_under i (counted true rest bound) rest others) (maps_under i bound rest others) h.few
+    same_add_nothing found (maps_under i (counted_meetings true rest bound) rest others) (maps_under i bound rest others) h.few
     (state_is_enough i bound rest others c)
-    (subst (λ z. found_after found (maps_under i (counted true rest bound) z others) ≡ found) (sym r) e)
+    (subst (λ z. found_after found (maps_under i (counted_meetings true rest bound) z others) ≡ found) (sym r) e)
 
 pub dead_none : (i : Rule) (others : List Atom) (s : Search) (bound : List Meeting) (rest : List Atom) → IsSearch i others s
     → is_cell_map bound ≡ true
     → rest ≡ last (length rest) i.conclusion → list_any (same_state (state_of false rest bound)) s.dead.items ≡ true
     → maps_under i bound rest others ≡ []
 dead_none i others s bound rest h c r k =
-    let e : maps_under i (counted false rest bound) (last (length rest) i.conclusion) others ≡ [] =
+    let e : maps_under i (counted_meetings false rest bound) (last (length rest) i.conclusion) others ≡ [] =
     h.dead (state_of false rest bound) (known (state_of false rest bound) s.dead.items k) in
-    (dead_is_enough i bound rest others c).0 (subst (λ z. maps_under i (counted false rest bound) z others ≡ []) (sym r) e)
+    (dead_is_enough i bound rest others c).0 (subst (λ z. maps_under i (counted_meetings false rest bound) z others ≡ []) (sym r) e)
 
 gone_now : (i : Rule) (others : List Atom) (start found : List CellMap) (bound : List Meeting) (rest : List Atom) → length found ≤ 16
     → is_cell_map bound ≡ true
@@ -326,15 +326,15 @@ gone_now : (i : Rule) (others : List Atom) (start found : List CellMap) (bound :
 gone_now i others start found bound rest l c r p =
     let h : found_after found (maps_under i bound rest others) ≡ found =
     ap (λ z. found_after z (maps_under i bound rest others)) p ∙ (gone_adds_nothing start (maps_under i bound rest others) ∙ sym p) in
-    subst (λ z. found_after found (maps_under i (counted true rest bound) z others) ≡ found) r
-    (same_add_nothing found (maps_under i bound rest others) (maps_under i (counted true rest bound) rest others) l
+    subst (λ z. found_after found (maps_under i (counted_meetings true rest bound) z others) ≡ found) r
+    (same_add_nothing found (maps_under i bound rest others) (maps_under i (counted_meetings true rest bound) rest others) l
     (sym (state_is_enough i bound rest others c)) h)
 
 dead_now : (i : Rule) (others : List Atom) (bound : List Meeting) (rest : List Atom) → is_cell_map bound ≡ true
     → rest ≡ last (length rest) i.conclusion
     → maps_under i bound rest others ≡ [] → IsDead i others (state_of false rest bound)
 dead_now i others bound rest c r n =
-    subst (λ z. maps_under i (counted false rest bound) z others ≡ []) r ((dead_is_enough i bound rest others c).1 n)
+    subst (λ z. maps_under i (counted_meetings false rest bound) z others ≡ []) r ((dead_is_enough i bound rest others c).1 n)
 
 -- the search after it has gone through a state
 pub gone_through : (i : Rule) (others : List Atom) (start : List CellMap) (bound : List Meeting) (rest : List Atom) (any : Bool)

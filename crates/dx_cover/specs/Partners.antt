@@ -15,5 +15,5 @@ abbrev pub IsExcluded : List Meeting → Atom → Atom → Type 0
 IsExcluded bound a b = (more : List Meeting) → meet a.cells b.cells ⊆ more → is_cell_map (bound ++ more) ≡ false
 
 -- none of the others can be chosen for the atom a
-abbrev pub HasNoPartner : List Meeting → List Atom → Atom → Type 0
-HasNoPartner bound others a = Each others (λ b. a.table ≡ b.table → IsExcluded bound a b)
+abbrev pub HasNoChoice : List Meeting → List Atom → Atom → Type 0
+HasNoChoice bound others a = Each others (λ b. a.table ≡ b.table → IsExcluded bound a b)

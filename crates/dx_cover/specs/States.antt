@@ -19,19 +19,19 @@ use Rattle.dx_cover.specs.Search.{found_after, maps_under}
 abbrev pub stands_in : List Atom → Cell → Bool
 stands_in rest c = list_any (λ (a : Atom). list_any (same_cell c) a.cells) rest
 
--- a cell counts for the rest: it stands there, or is an exported variable where those count
+-- a cell counts for the rest: it stands there, or is an exported variable if those count
 abbrev pub counts : Bool → List Atom → Cell → Bool
 counts exported rest (Var x) = exported || stands_in rest (Var x)
 counts exported rest (Ex v) = stands_in rest (Ex v)
 counts exported rest (Lit t) = stands_in rest (Lit t)
 
 -- the meetings of the cells that count for the rest
-abbrev pub counted : Bool → List Atom → List Meeting → List Meeting
-counted exported rest ms = filter (λ (m : Meeting). counts exported rest m.cell) ms
+abbrev pub counted_meetings : Bool → List Atom → List Meeting → List Meeting
+counted_meetings exported rest ms = filter (λ (m : Meeting). counts exported rest m.cell) ms
 
 -- the state of a search that has met these cells and has the rest before it, with or without the exported variables
 abbrev pub state_of : Bool → List Atom → List Meeting → State
-state_of exported rest ms = record { left = length rest; meetings = counted exported rest ms }
+state_of exported rest ms = record { left = length rest; meetings = counted_meetings exported rest ms }
 
 -- whether two rows of meetings are equal
 abbrev pub same_meetings : List Meeting → List Meeting → Bool
@@ -43,7 +43,7 @@ same_meetings _ _ = false
 abbrev pub same_state : State → State → Bool
 same_state s t = eqb s.left t.left && same_meetings s.meetings t.meetings
 
--- the states with one more, where they are fewer than 4096
+-- the states with one more, if they are fewer than 4096
 abbrev pub remembered : List State → State → List State
 remembered gone s = cond (nat_lt (length gone) 4096) (gone ++ s ∷ []) gone
 
@@ -83,13 +83,13 @@ exported_images ks = map (λ (k : CellMap). k.exported) ks
 abbrev pub StateIsEnough : Type 0
 StateIsEnough =
     (i : Rule) (bound : List Meeting) (rest others : List Atom) → is_cell_map bound ≡ true
-    → exported_images (maps_under i (counted true rest bound) rest others) ≡ exported_images (maps_under i bound rest others)
+    → exported_images (maps_under i (counted_meetings true rest bound) rest others) ≡ exported_images (maps_under i bound rest others)
 
 -- the meetings of the state alone, without the exported variables, are enough to tell whether there is a cell map
 abbrev pub DeadIsEnough : Type 0
 DeadIsEnough =
     (i : Rule) (bound : List Meeting) (rest others : List Atom) → is_cell_map bound ≡ true
-    → (maps_under i (counted false rest bound) rest others ≡ []) ↔ (maps_under i bound rest others ≡ [])
+    → (maps_under i (counted_meetings false rest bound) rest others ≡ []) ↔ (maps_under i bound rest others ≡ [])
 
 -- what was gone through adds nothing
 abbrev pub GoneAddsNothing : Type 0

@@ -7,7 +7,7 @@
 //! images of the variables that stand both before and among them. Where cell maps are below a state, the images of all
 //! exported variables met before count too; few lists of them lead to maps, since the search ends at 16. So atoms that
 //! share no variable with later ones cost no more than their number of choices. It goes no further if some atom that is left
-//! can choose none of the others any more. It is still exponential where many existential variables stand on both sides of
+//! can choose none of the others any more. It is still exponential if many existential variables stand on both sides of
 //! one place. It remembers at most 4096 states with maps below them, and 4096 without; what is found doesn't rest on this.
 #![tactic(auto)]
 

@@ -2,7 +2,7 @@
 ghost use Rattle.std.specs.Prelude.{◌≡◌, false, true, [], length};
 ghost use Rattle.dx_ports.specs.Members.{Each};
 ghost use Rattle.dx_model.specs.declared.rules.Rule.{Rule as RuleValue};
-ghost use Rattle.dx_cover.specs.Partners.{HasNoPartner, IsExcluded, NeverMeet};
+ghost use Rattle.dx_cover.specs.Partners.{HasNoChoice, IsExcluded, NeverMeet};
 ghost use Rattle.dx_cover.specs.Search.{MeetInWidths, maps_under};
 
 use crate::search::{first_is, has_met, is_allowed};
@@ -36,7 +36,7 @@ pub(crate) fn is_excluded(atom: &Atom, other: &Atom, bound: &[Meeting]) -> bool
 /// Whether one of the others may still be chosen for the atom.
 pub(crate) fn has_partner(atom: &Atom, others: &[Atom], bound: &[Meeting]) -> bool
     requires { Each others.now (λ b. atom.now.table ≡ b.table → length atom.now.cells ≡ length b.cells) }
-    ensures { result ≡ false → HasNoPartner bound.now others.now atom.now }
+    ensures { result ≡ false → HasNoChoice bound.now others.now atom.now }
 {
     for other in others {
         if atom.table == other.table && !is_excluded(atom, other, bound) {

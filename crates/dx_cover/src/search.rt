@@ -5,7 +5,7 @@ ghost use Rattle.dx_model.specs.declared.rules.Cell.TheVariants.{Var as VarCell,
 ghost use Rattle.dx_model.specs.Rules.{cells_of, exported};
 ghost use Rattle.dx_model.specs.Covers.{after_existential, below, first_met, is_cell_map, map_of, may_meet, meet, same_cell, same_cells, used_maps};
 ghost use Rattle.dx_model.specs.Fitting.{AgreeInWidths, IsRule};
-ghost use Rattle.dx_cover.specs.Search.{AreAllSeen, MeetInWidths, found_after, has_met_in, maps_under, seen};
+ghost use Rattle.dx_cover.specs.Search.{AreAllSeen, MeetInWidths, found_after, has_met_in, maps_under, agrees_with_one};
 ghost use Rattle.dx_cover.specs.States.{IsSearch, IsTrueFor, last, same_state, state_of};
 
 use crate::cells::{copy_cell, is_same_cell};
@@ -71,7 +71,7 @@ pub(crate) fn are_same_cells(a: &[Cell], b: &[Cell]) -> bool
 
 /// Whether one of the maps agrees with this one on the exported variables.
 pub(crate) fn is_seen(found: &[CellMap], map: &CellMap) -> bool
-    ensures { result ≡ seen found.now map.now }
+    ensures { result ≡ agrees_with_one found.now map.now }
 {
     for other in found {
         if are_same_cells(other.exported.items(), map.exported.items()) {
@@ -180,7 +180,7 @@ pub(crate) fn map_made(
     })
 }
 
-/// Adds a map, where none agrees with it on the exported variables.
+/// Adds a map, if none agrees with it on the exported variables.
 pub(crate) fn add_map(found: &mut Vec<CellMap>, map: CellMap) -> Result<(), AllocError>
     requires { length found.old.items ≤ 15 }
     ensures { OnOk result (found.new.items ≡ found_after found.old.items (map ∷ [])) }
@@ -191,7 +191,7 @@ pub(crate) fn add_map(found: &mut Vec<CellMap>, map: CellMap) -> Result<(), Allo
     Ok(())
 }
 
-// Adds the cell map that these meetings make, where none agrees with it on the exported variables.
+// Adds the cell map that these meetings make, if none agrees with it on the exported variables.
 fn add_map_made(
     alloc: Global,
     rule: &Rule,

@@ -52,7 +52,7 @@ pub(crate) fn is_in(cell: &Cell, rest: &[Atom]) -> bool
     false
 }
 
-/// Whether a cell counts for the rest: it stands there, or is an exported variable where those count.
+/// Whether a cell counts for the rest: it stands there, or is an exported variable if those count.
 pub(crate) fn is_counted(exported: bool, rest: &[Atom], cell: &Cell) -> bool
     ensures { result ≡ counts exported rest.now cell.now }
 {
@@ -119,7 +119,7 @@ pub(crate) fn is_known(state: &State, states: &[State]) -> bool
     false
 }
 
-/// Adds a state to these, where there is room.
+/// Adds a state to these, if there is room.
 pub(crate) fn add_state(states: &mut Vec<State>, state: State) -> Result<(), AllocError>
     ensures { OnOk result (states.new.items ≡ remembered states.old.items state) }
 {

@@ -14,12 +14,13 @@ use Rattle.dx_model.specs.declared.values.Value.TheVariants.{Const, Null}
 use Rattle.dx_model.specs.declared.rules.Cell.{Cell}
 use Rattle.dx_model.specs.Values.{row_cmp}
 use Rattle.dx_model.specs.Rules.{cell_value, text_of}
-use Rattle.dx_instance.specs.Numbers.{AreApart, value_of}
+use Rattle.dx_instance.specs.Numbers.{AreDistinctValues, value_of}
 use Rattle.dx_instance.proofs.ShownFacts.{number_same}
-use Rattle.dx_joins.specs.Shown.{AreTexts, is_text, text_in, texts_of}
+use Rattle.dx_joins.specs.Shown.{AreTexts, is_text, texts_of}
+use Rattle.dx_instance.specs.Ranks.{text_of_value}
 use Rattle.dx_joins.proofs.Translating.{text_back}
 use Rattle.dx_cover_fold.specs.declared.number_at.NumberAt.{NumberAt}
-use Rattle.dx_cover_fold.specs.Codes.{HasColumn, IsCode, IsHeld, IsPlanned, IsSymbol, numbers_by}
+use Rattle.dx_cover_fold.specs.Codes.{RowHasColumn, IsCode, IsHeld, IsPlanned, IsSymbol, numbers_by}
 use Rattle.dx_cover_fold.proofs.Finding.{row_exact, row_itself}
 
 -- ---- one value
@@ -28,13 +29,13 @@ use Rattle.dx_cover_fold.proofs.Finding.{row_exact, row_itself}
 symbol_in : (S : List Value) (v : Value) (n : ℕ) → IsSymbol S v n → v ∈ S
 symbol_in S v n h = subst (λ (x : Value). x ∈ S) h.value (in_at S n (Const []) h.within)
 
-same_symbols : (S : List Value) (v w : Value) (a b : ℕ) → AreApart S → IsSymbol S v a → IsSymbol S w b → (a ≡ b) ↔ (v ≡ w)
+same_symbols : (S : List Value) (v w : Value) (a b : ℕ) → AreDistinctValues S → IsSymbol S v a → IsSymbol S w b → (a ≡ b) ↔ (v ≡ w)
 same_symbols S v w a b p h k = (
   (λ e. sym h.value ∙ ap (value_of S) e ∙ k.value),
   (λ e. number_same S a b p h.within k.within (h.value ∙ e ∙ sym k.value)),
 )
 
-pub code_exact : (S : List Value) (v w : Value) (a b : ℕ) → AreApart S → IsHeld S v → IsCode S v a → IsCode S w b → (a ≡ b) ↔ (v ≡ w)
+pub code_exact : (S : List Value) (v w : Value) (a b : ℕ) → AreDistinctValues S → IsHeld S v → IsCode S v a → IsCode S w b → (a ≡ b) ↔ (v ≡ w)
 code_exact S v w a b p held (inl h) (inl k) = same_symbols S v w a b p h k
 code_exact S v w a b p held (inl h) (inr (inl k)) = (
   (λ e. absurd (omega (arith, e, h.within, k.number))),
@@ -84,7 +85,7 @@ first_number a b ms ns e = cc e
 rest_numbers : (a b : ℕ) (ms ns : List ℕ) → ◌≡◌ {A = List ℕ} (a ∷ ms) (b ∷ ns) → ms ≡ ns
 rest_numbers a b ms ns e = cc e
 
-codes_same : (S : List Value) (vs ws : List Value) (ms ns : List ℕ) → AreApart S → Each vs (IsHeld S) → AllZip (IsCode S) vs ms → AllZip (IsCode S) ws ns → ms ≡ ns → vs ≡ ws
+codes_same : (S : List Value) (vs ws : List Value) (ms ns : List ℕ) → AreDistinctValues S → Each vs (IsHeld S) → AllZip (IsCode S) vs ms → AllZip (IsCode S) ws ns → ms ≡ ns → vs ≡ ws
 codes_same S [] [] [] [] p held h k e = refl
 codes_same S (v ∷ vs) [] (a ∷ ms) [] p held h k e = absurd (cc e)
 codes_same S [] (w ∷ ws) [] (b ∷ ns) p held h k e = absurd (cc e)
@@ -97,7 +98,7 @@ codes_same S (v ∷ vs) ws [] ns p held h k e = absurd h
 codes_same S vs [] ms (b ∷ ns) p held h k e = absurd k
 codes_same S vs (w ∷ ws) ms [] p held h k e = absurd k
 
-values_same : (S : List Value) (vs ws : List Value) (ms ns : List ℕ) → AreApart S → Each vs (IsHeld S) → AllZip (IsCode S) vs ms → AllZip (IsCode S) ws ns → vs ≡ ws → ms ≡ ns
+values_same : (S : List Value) (vs ws : List Value) (ms ns : List ℕ) → AreDistinctValues S → Each vs (IsHeld S) → AllZip (IsCode S) vs ms → AllZip (IsCode S) ws ns → vs ≡ ws → ms ≡ ns
 values_same S [] [] [] [] p held h k e = refl
 values_same S (v ∷ vs) [] (a ∷ ms) [] p held h k e = absurd (cc e)
 values_same S [] (w ∷ ws) [] (b ∷ ns) p held h k e = absurd (cc e)
@@ -111,7 +112,7 @@ values_same S vs [] ms (b ∷ ns) p held h k e = absurd k
 values_same S vs (w ∷ ws) ms [] p held h k e = absurd k
 
 -- rows compare ms equal exactly if their numbers are the same
-pub rows_alike : (S : List Value) (vs ws : List Value) (ms ns : List ℕ) → AreApart S → Each vs (IsHeld S) → AllZip (IsCode S) vs ms → AllZip (IsCode S) ws ns → pointwise nat_eq ms ns ≡ is_at (row_cmp vs) ws
+pub rows_alike : (S : List Value) (vs ws : List Value) (ms ns : List ℕ) → AreDistinctValues S → Each vs (IsHeld S) → AllZip (IsCode S) vs ms → AllZip (IsCode S) ws ns → pointwise nat_eq ms ns ≡ is_at (row_cmp vs) ws
 rows_alike S vs ws ms ns p held h k = same_test (pointwise nat_eq ms ns) (is_at (row_cmp vs) ws) there_is back
   where
     there_is : pointwise nat_eq ms ns ≡ true → is_at (row_cmp vs) ws ≡ true
@@ -132,11 +133,11 @@ codes_said S variables width rule place row [] (p ∷ plan) e t h = absurd h
 codes_said S variables width rule place row (c ∷ cells) [] e t h = absurd h
 codes_said S variables width rule place row (c ∷ cells) (p ∷ plan) e t h = (h.0.code rule place row e t, codes_said S variables width rule place row cells plan e t h.1)
 
-pub plan_columns : (S : List Value) (variables : List ℕ) (width : ℕ) (cells : List Cell) (plan : List NumberAt) → AllZip (IsPlanned S variables width) cells plan → Each plan (HasColumn width)
+pub plan_columns : (S : List Value) (variables : List ℕ) (width : ℕ) (cells : List Cell) (plan : List NumberAt) → AllZip (IsPlanned S variables width) cells plan → Each plan (RowHasColumn width)
 plan_columns S variables width [] [] h p m = elim m [ ]
 plan_columns S variables width [] (q ∷ plan) h p m = absurd h
 plan_columns S variables width (c ∷ cells) [] h p m = absurd h
-plan_columns S variables width (c ∷ cells) (q ∷ plan) h p (here e) = subst (HasColumn width) e h.0.column
+plan_columns S variables width (c ∷ cells) (q ∷ plan) h p (here e) = subst (RowHasColumn width) e h.0.column
 plan_columns S variables width (c ∷ cells) (q ∷ plan) h p (there m) = plan_columns S variables width cells plan h.1 p m
 
 -- a text of a variable is one of the row, or empty
@@ -148,7 +149,7 @@ text_held S (y ∷ ys) (n ∷ row) x t = elim (cases_Bool (eqb x y)) [
   | inr f ↦ rw f (text_held S ys row x (λ m k. t m (there k)))
 ]
   where
-    symbol_text : (n : ℕ) → (n < length S) × (is_text (value_of S n) ≡ true) → (Const (text_in (value_of S n)) ∈ S) × (is_text (Const (text_in (value_of S n))) ≡ true)
+    symbol_text : (n : ℕ) → (n < length S) × (is_text (value_of S n) ≡ true) → (Const (text_of_value (value_of S n)) ∈ S) × (is_text (Const (text_of_value (value_of S n))) ≡ true)
     symbol_text n h = (subst (λ (v : Value). v ∈ S) (sym (text_back (value_of S n) h.1)) (in_at S n (Const []) h.0), refl)
 
 pub texts_held : (S : List Value) (variables row xs : List ℕ) (f : ℕ → Value) → AreTexts S row → ((x : ℕ) → f x ≡ Const (text_of variables (texts_of S row) x)) → Each (map f xs) (IsHeld S)

@@ -20,17 +20,17 @@ use Rattle.dx_model.specs.declared.covers.CellMap.{CellMap}
 use Rattle.dx_model.specs.declared.covers.Cover.{Cover}
 use Rattle.dx_model.specs.Values.{Rows, Tuple, row_cmp}
 use Rattle.dx_model.specs.Rules.{exported, text_of}
-use Rattle.dx_model.specs.Covers.{agrees, below, before, image_of, places_by, rule_at, used_maps, value_at, value_under}
+use Rattle.dx_model.specs.Covers.{agrees, below, before, image_of, places_by, rule_at, used_maps, cell_value_at, value_under}
 use Rattle.dx_instance.specs.Cells.{NumberTable, numbers_at}
-use Rattle.dx_instance.specs.Numbers.{AreApart}
-use Rattle.dx_instance.specs.Shown.{Numbered, numbers_of_table}
+use Rattle.dx_instance.specs.Numbers.{AreDistinctValues}
+use Rattle.dx_instance.specs.Shown.{NumberedInstance, numbers_of_table}
 use Rattle.dx_joins.specs.Shown.{AreTexts, texts_of}
 use Rattle.dx_cover_fold.specs.declared.found.Found.{Found}
 use Rattle.dx_cover_fold.specs.declared.index.Index.{Index}
 use Rattle.dx_cover_fold.specs.declared.number_at.NumberAt.{NumberAt}
 use Rattle.dx_cover_fold.specs.Codes.{IsCode, IsHeld, IsPlanned, numbers_by}
-use Rattle.dx_cover_fold.specs.Found.{AreOrFirsts, FindsAmong, IndexesCells, cover_of, first_of, images_by, no_map, or_first, own_rows, row_said, variable_cells}
-use Rattle.dx_cover_fold.specs.Matched.{rows_of}
+use Rattle.dx_cover_fold.specs.Found.{AreOrFirsts, FindsAmong, IndexesCells, cover_of, first_row_of, images_by, no_map, or_first, own_rows, row_said, variable_cells}
+use Rattle.dx_model.specs.Matches.{rows_of_matches}
 use Rattle.dx_cover_fold.proofs.CodeFacts.{codes_said, rows_alike, texts_held}
 use Rattle.dx_cover_fold.proofs.Finding.{all_agree, find_alike, find_below, find_mapped, map_map, map_or}
 
@@ -66,8 +66,8 @@ module _ (R : List Rule) (rows : Rows) (i j : ℕ) (m : CellMap) where
   agrees_is : (k l : ℕ) → agrees R rows i k (place l) ≡ is_at (row_cmp (own_rows R rows i k)) (said_there l)
   unfolding place said_there
   agrees_is k l =
-      all_agree (λ x. value_at R rows i k (Var x)) (λ x. value_under R rows i (place l) (Var x)) (exported (rule_at R i))
-      ∙ ap (λ r. is_at (row_cmp (own_rows R rows i k)) r) (sym (mapped (value_at R rows j l) (image_of (exported (rule_at R i)) m.exported) (exported (rule_at R i))))
+      all_agree (λ x. cell_value_at R rows i k (Var x)) (λ x. value_under R rows i (place l) (Var x)) (exported (rule_at R i))
+      ∙ ap (λ r. is_at (row_cmp (own_rows R rows i k)) r) (sym (mapped (cell_value_at R rows j l) (image_of (exported (rule_at R i)) m.exported) (exported (rule_at R i))))
 
   -- the first of the places of j that covers place k is the first that the index has for its row
   found_there : (k : ℕ) → find (agrees R rows i k) (places_by rows j m) ≡ option_map place (find (λ l. is_at (row_cmp (own_rows R rows i k)) (said_there l)) (below (length (get_or rows j []))))
@@ -77,7 +77,7 @@ module _ (R : List Rule) (rows : Rows) (i j : ℕ) (m : CellMap) where
       ∙ ap (option_map place) (find_alike (λ l. agrees R rows i k (place l)) (λ l. is_at (row_cmp (own_rows R rows i k)) (said_there l)) (below (length (get_or rows j []))) (agrees_is k))
 
   pub map_more : (S : List Value) (from to : NumberTable) (own : List NumberAt) (number : ℕ) (index : Index) (known found : List (Option Found)) (C : List Cover)
-      → get_or rows i [] ≡ map (texts_of S) from.rows → get_or rows j [] ≡ map (texts_of S) to.rows → AreApart S → AreTextRows S from → AreTextRows S to
+      → get_or rows i [] ≡ map (texts_of S) from.rows → get_or rows j [] ≡ map (texts_of S) to.rows → AreDistinctValues S → AreTextRows S from → AreTextRows S to
       → get_or (used_maps (rule_at R i) (rule_at R j)) number no_map ≡ m → length known ≡ length from.rows
       → AllZip (IsPlanned S (exported (rule_at R i)) from.width) (variable_cells (rule_at R i)) own → IndexesCells S to (exported (rule_at R j)) (images_by (rule_at R i) m) index
       → AreOrFirsts j number index from.rows own known found (length from.rows) → FindsAmong R rows i C known → FindsAmong R rows i (C ++ places_by rows j m) found
@@ -85,17 +85,17 @@ module _ (R : List Rule) (rows : Rows) (i j : ℕ) (m : CellMap) where
   map_more S from to own number index known found C here there apart f t e long a x o h k lt =
       let l : k < length from.rows = omega (arith, lt, o.many) in
       let mine : List ℕ = numbers_by own (numbers_at from.rows k) in
-      let one : first_of index mine ≡ find (λ l. is_at (row_cmp (own_rows R rows i k)) (said_there l)) (below (length (get_or rows j []))) =
+      let one : first_row_of index mine ≡ find (λ l. is_at (row_cmp (own_rows R rows i k)) (said_there l)) (below (length (get_or rows j []))) =
       x.indexes mine
       ∙ find_below (λ l. pointwise nat_eq mine (numbers_by x.plan (numbers_at to.rows l))) (λ l. is_at (row_cmp (own_rows R rows i k)) (said_there l)) (length to.rows) (λ q b. same k q l b)
       ∙ ap (λ z. find (λ l. is_at (row_cmp (own_rows R rows i k)) (said_there l)) (below z)) (sym (length-map to.rows (texts_of S)) ∙ sym (ap length there)) in
-      let cover_is : option_map (cover_of R i) (option_map (λ l. record { rule = j; map = number; row = l }) (first_of index mine)) ≡ find (agrees R rows i k) (places_by rows j m) =
-      map_map (cover_of R i) (λ l. record { rule = j; map = number; row = l }) (first_of index mine)
-      ∙ ap (λ z. option_map (λ l. record { rule = j; cells = z; row = l }) (first_of index mine)) e
+      let cover_is : option_map (cover_of R i) (option_map (λ l. record { rule = j; map = number; row = l }) (first_row_of index mine)) ≡ find (agrees R rows i k) (places_by rows j m) =
+      map_map (cover_of R i) (λ l. record { rule = j; map = number; row = l }) (first_row_of index mine)
+      ∙ ap (λ z. option_map (λ l. record { rule = j; cells = z; row = l }) (first_row_of index mine)) e
       ∙ ap (option_map place) one ∙ sym (found_there k) in
       ap (option_map (cover_of R i)) (o.each k l)
-      ∙ map_or (cover_of R i) (get_or known k None) (option_map (λ l. record { rule = j; map = number; row = l }) (first_of index mine))
-      ∙ ap (λ z. option_or z (option_map (cover_of R i) (option_map (λ l. record { rule = j; map = number; row = l }) (first_of index mine)))) (h k (omega (arith, l, long)))
+      ∙ map_or (cover_of R i) (get_or known k None) (option_map (λ l. record { rule = j; map = number; row = l }) (first_row_of index mine))
+      ∙ ap (λ z. option_or z (option_map (cover_of R i) (option_map (λ l. record { rule = j; map = number; row = l }) (first_row_of index mine)))) (h k (omega (arith, l, long)))
       ∙ ap (option_or (find (agrees R rows i k) C)) cover_is
       ∙ sym (find-append (agrees R rows i k) C (places_by rows j m))
     where
@@ -103,14 +103,14 @@ module _ (R : List Rule) (rows : Rows) (i j : ℕ) (m : CellMap) where
       tuple_is n t p e b = ap (λ (z : List Tuple). get_or z p []) e ∙ get_or-map (texts_of S) t.rows p [] [] b
 
       held : (k : ℕ) → k < length from.rows → Each (own_rows R rows i k) (IsHeld S)
-      held k b = texts_held S (exported (rule_at R i)) (numbers_at from.rows k) (exported (rule_at R i)) (λ v. value_at R rows i k (Var v)) (f.texts (numbers_at from.rows k) (in_at from.rows k [] b))
+      held k b = texts_held S (exported (rule_at R i)) (numbers_at from.rows k) (exported (rule_at R i)) (λ v. cell_value_at R rows i k (Var v)) (f.texts (numbers_at from.rows k) (in_at from.rows k [] b))
           (λ v. ap (λ (z : Tuple). Const (text_of (exported (rule_at R i)) z v)) (tuple_is i from k here b))
 
       mine_said : (k : ℕ) → k < length from.rows → AllZip (IsCode S) (own_rows R rows i k) (numbers_by own (numbers_at from.rows k))
       mine_said k b =
           let r = codes_said S (exported (rule_at R i)) from.width i k (numbers_at from.rows k) (variable_cells (rule_at R i)) own (f.wide (numbers_at from.rows k) (in_at from.rows k [] b)) (f.texts (numbers_at from.rows k) (in_at from.rows k [] b)) a in
           subst (λ (z : List Value). AllZip (IsCode S) z (numbers_by own (numbers_at from.rows k)))
-          (ap (λ (z : Tuple). row_said (exported (rule_at R i)) z i k (variable_cells (rule_at R i))) (sym (tuple_is i from k here b)) ∙ mapped (value_at R rows i k) Var (exported (rule_at R i))) r
+          (ap (λ (z : Tuple). row_said (exported (rule_at R i)) z i k (variable_cells (rule_at R i))) (sym (tuple_is i from k here b)) ∙ mapped (cell_value_at R rows i k) Var (exported (rule_at R i))) r
 
       theirs_said : (l : ℕ) → l < length to.rows → AllZip (IsCode S) (said_there l) (numbers_by x.plan (numbers_at to.rows l))
       theirs_said l b =
@@ -157,13 +157,13 @@ none_found R rows i found h k l = ap (option_map (cover_of R i)) (h k)
 pub rule_is : (R : List Rule) (i : ℕ) (d : Rule) → i < length R → d ≡ get_or R i d → rule_at R i ≡ d
 rule_is R i d lt is = get_or_default R i _ d lt ∙ sym is
 
-pub tuples_are : (m : Numbered) (i : ℕ) → i < length m.tables → get_or (rows_of m) i [] ≡ map (texts_of m.symbols) (numbers_of_table m.tables i).rows
+pub tuples_are : (m : NumberedInstance) (i : ℕ) → i < length m.tables → get_or (rows_of_matches m) i [] ≡ map (texts_of m.symbols) (numbers_of_table m.tables i).rows
 tuples_are m i lt = get_or-map (λ (t : NumberTable). map (texts_of m.symbols) t.rows) m.tables i (record { width = 0; rows = [] }) [] lt
 
-pub places_are : (m : Numbered) (i : ℕ) → i < length m.tables → length (get_or (rows_of m) i []) ≡ length (numbers_of_table m.tables i).rows
+pub places_are : (m : NumberedInstance) (i : ℕ) → i < length m.tables → length (get_or (rows_of_matches m) i []) ≡ length (numbers_of_table m.tables i).rows
 places_are m i lt = ap length (tuples_are m i lt) ∙ length-map (numbers_of_table m.tables i).rows (texts_of m.symbols)
 
-pub rules_are : (m : Numbered) → length (rows_of m) ≡ length m.tables
+pub rules_are : (m : NumberedInstance) → length (rows_of_matches m) ≡ length m.tables
 rules_are m = length-map m.tables (λ (t : NumberTable). map (texts_of m.symbols) t.rows)
 
 few_taken : {X : Type 0} (n : ℕ) (xs : List X) → length (take n xs) ≤ n

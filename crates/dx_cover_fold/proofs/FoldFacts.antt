@@ -14,7 +14,7 @@ use Rattle.dx_model.specs.declared.rules.Cell.TheVariants.{Var, Ex, Lit}
 use Rattle.dx_model.specs.declared.rules.Rule.{Rule}
 use Rattle.dx_model.specs.declared.covers.Cover.{Cover}
 use Rattle.dx_model.specs.Values.{Rows}
-use Rattle.dx_model.specs.Covers.{IsPlace, cell_under, cover_fold, folded, least_cover, rule_at, value_at, value_under}
+use Rattle.dx_model.specs.Covers.{IsPlace, cell_under, cover_fold, folded, least_cover, rule_at, cell_value_at, value_under}
 use Rattle.dx_model.proofs.Before.{from_least}
 use Rattle.dx_instance.specs.NullMaps.{ByNull, becomes, or_itself, with_value}
 use Rattle.dx_model.specs.Values.{null_cmp}
@@ -74,7 +74,7 @@ step_none R rows zero n e = refl
 step_none R rows (suc k) n e = rw (e, folded) refl
 
 -- a null in what a cell says is one of the place
-null_there : (R : List Rule) (rows : Rows) (j l : ℕ) (c : Cell) (n : NullId) → value_at R rows j l c ≡ Null n → (n.rule ≡ j) × (n.row ≡ l)
+null_there : (R : List Rule) (rows : Rows) (j l : ℕ) (c : Cell) (n : NullId) → cell_value_at R rows j l c ≡ Null n → (n.rule ≡ j) × (n.row ≡ l)
 null_there R rows j l (Var x) n e = absurd (cc)
 null_there R rows j l (Ex v) n e = let d : record { rule = j; var = v; row = l } ≡ n = cc in (ap (λ (m : NullId). m.rule) (sym d), ap (λ (m : NullId). m.row) (sym d))
 null_there R rows j l (Lit t) n e = absurd (cc)

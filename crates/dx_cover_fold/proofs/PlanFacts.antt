@@ -6,10 +6,12 @@ use Rattle.dx_ports.proofs.Members.{in_at}
 use Rattle.dx_model.specs.declared.values.Value.{Value}
 use Rattle.dx_model.specs.declared.values.Value.TheVariants.{Const, Null}
 use Rattle.dx_model.specs.declared.rules.Cell.TheVariants.{Var, Ex, Lit}
-use Rattle.dx_model.specs.Values.{Text, Tuple}
+use Rattle.dx_model.specs.Values.{Tuple}
+use Rattle.dx_ports.specs.Texts.{Text}
 use Rattle.dx_model.specs.Rules.{text_of}
 use Rattle.dx_instance.specs.Numbers.{value_of}
-use Rattle.dx_joins.specs.Shown.{AreTexts, text_in, texts_of}
+use Rattle.dx_joins.specs.Shown.{AreTexts, texts_of}
+use Rattle.dx_instance.specs.Ranks.{text_of_value}
 use Rattle.dx_joins.proofs.Translating.{text_back}
 use Rattle.dx_cover_fold.specs.declared.number_at.NumberAt.TheVariants.{Column, Fixed}
 use Rattle.dx_cover_fold.specs.Codes.{IsCode, IsHeld, IsPlanned}
@@ -34,13 +36,13 @@ plan_column S variables width x i y l k a q f = record { column = k; code = code
   where
     code : (rule place : ℕ) (row : List ℕ) → length row ≡ width → AreTexts S row → IsCode S (Const (text_of variables (texts_of S row) x)) (get_or row i 0)
     code rule place row e t =
-        let long : length (texts_of S row) ≡ width = length-map row (λ n. text_in (value_of S n)) ∙ e in
+        let long : length (texts_of S row) ≡ width = length-map row (λ n. text_of_value (value_of S n)) ∙ e in
         let at : i < length (texts_of S row) = omega (arith, long, k) in
         let there : i < length row = omega (arith, e, k) in
         let n : get_or row i 0 ∈ row = in_at row i 0 there in
-        let is : text_of variables (texts_of S row) x ≡ text_in (value_of S (get_or row i 0)) =
+        let is : text_of variables (texts_of S row) x ≡ text_of_value (value_of S (get_or row i 0)) =
         f.same (texts_of S row) long ∙ text_here variables (texts_of S row) i x y (get_or (texts_of S row) i []) l at a (get_or_default (texts_of S row) i [] _ at) q
-        ∙ get_or-map (λ n. text_in (value_of S n)) row i 0 [] there in
+        ∙ get_or-map (λ n. text_of_value (value_of S n)) row i 0 [] there in
         let h = t (get_or row i 0) n in
         inl (record { within = h.0; value = sym (ap Const is ∙ text_back (value_of S (get_or row i 0)) h.1) })
 
@@ -54,7 +56,7 @@ plan_nothing S variables width x i n past f c = record { column = tt; code = cod
 
     code : (rule place : ℕ) (row : List ℕ) → length row ≡ width → AreTexts S row → IsCode S (Const (text_of variables (texts_of S row) x)) n
     code rule place row e t =
-        let long : length (texts_of S row) ≡ width = length-map row (λ n. text_in (value_of S n)) ∙ e in
+        let long : length (texts_of S row) ≡ width = length-map row (λ n. text_of_value (value_of S n)) ∙ e in
         subst (λ (v : Value). IsCode S v n) (ap Const (sym (empty (texts_of S row) long))) c
 
 pub plan_literal : (S : List Value) (variables : List ℕ) (width n : ℕ) (t : Text) → IsCode S (Const t) n → IsPlanned S variables width (Lit t) (Fixed n)

@@ -26,30 +26,30 @@ pub record IsNoText (symbols : List Value) (v : Value) (n : ℕ) : Type 0 where
   pub absent : ¬ (v ∈ symbols)
 
 -- the number after that one, which all have that no row can have
-pub record IsOutside (symbols : List Value) (v : Value) (n : ℕ) : Type 0 where
+pub record IsNumberOfNoRow (symbols : List Value) (v : Value) (n : ℕ) : Type 0 where
   pub number : n ≡ length symbols + 1
   pub none : ¬ (IsHeld symbols v)
 
 -- the number by which a value is compared
 abbrev pub IsCode : List Value → Value → ℕ → Type 0
-IsCode symbols v n = IsSymbol symbols v n ⊎ (IsNoText symbols v n ⊎ IsOutside symbols v n)
+IsCode symbols v n = IsSymbol symbols v n ⊎ (IsNoText symbols v n ⊎ IsNumberOfNoRow symbols v n)
 
 -- the number of a row that is told
-abbrev pub number_in : List ℕ → NumberAt → ℕ
-number_in row (Column c) = slice_index row c
-number_in row (Fixed n) = n
+abbrev pub number_told : List ℕ → NumberAt → ℕ
+number_told row (Column c) = slice_index row c
+number_told row (Fixed n) = n
 
 -- rows of this width have the column
-abbrev pub HasColumn : ℕ → NumberAt → Type 0
-HasColumn width (Column c) = c < width
-HasColumn width (Fixed n) = Unit {0}
+abbrev pub RowHasColumn : ℕ → NumberAt → Type 0
+RowHasColumn width (Column c) = c < width
+RowHasColumn width (Fixed n) = Unit {0}
 
 -- the numbers of a row that a plan tells
 abbrev pub numbers_by : List NumberAt → List ℕ → List ℕ
-numbers_by plan row = map (number_in row) plan
+numbers_by plan row = map (number_told row) plan
 
 -- in each row of texts of this width is found by which number what a cell says is compared
 pub record IsPlanned (symbols : List Value) (variables : List ℕ) (width : ℕ) (c : Cell) (p : NumberAt) : Type 0 where
-  pub column : HasColumn width p
+  pub column : RowHasColumn width p
   pub code : (rule place : ℕ) (row : List ℕ) → length row ≡ width → AreTexts symbols row
-      → IsCode symbols (cell_value (text_of variables (texts_of symbols row)) (λ v. Null (record { rule = rule; var = v; row = place })) c) (number_in row p)
+      → IsCode symbols (cell_value (text_of variables (texts_of symbols row)) (λ v. Null (record { rule = rule; var = v; row = place })) c) (number_told row p)

@@ -14,9 +14,9 @@ use Rattle.dx_model.specs.declared.covers.CellMap.{CellMap}
 use Rattle.dx_model.specs.declared.covers.Cover.{Cover}
 use Rattle.dx_model.specs.Rules.{cell_value, exported, text_of}
 use Rattle.dx_model.specs.Values.{Rows, Tuple}
-use Rattle.dx_model.specs.Covers.{agrees, below, image_of, least_cover, rule_at, used_maps, value_at}
+use Rattle.dx_model.specs.Covers.{agrees, below, image_of, least_cover, rule_at, used_maps, cell_value_at}
 use Rattle.dx_instance.specs.Cells.{NumberTable, numbers_at}
-use Rattle.dx_instance.specs.Shown.{Numbered, numbers_of_table}
+use Rattle.dx_instance.specs.Shown.{NumberedInstance, numbers_of_table}
 use Rattle.dx_cover_fold.specs.declared.found.Found.{Found}
 use Rattle.dx_cover_fold.specs.declared.index.Index.{Index}
 use Rattle.dx_cover_fold.specs.declared.number_at.NumberAt.{NumberAt}
@@ -35,13 +35,13 @@ abbrev pub variable_cells : Rule → List Cell
 variable_cells d = map Var (exported d)
 
 -- the first place that an index has for these numbers
-abbrev pub first_of : Index → List ℕ → Option ℕ
-first_of index q = lookup (λ (e : SmallVec ℕ). pointwise nat_eq q e.items) index.places.entries
+abbrev pub first_row_of : Index → List ℕ → Option ℕ
+first_row_of index q = lookup (λ (e : SmallVec ℕ). pointwise nat_eq q e.items) index.places.entries
 
 -- the index has for each list of numbers the first row of which the plan tells them
 abbrev pub Indexes : List (List ℕ) → List NumberAt → Index → Type 0
 Indexes rows plan index =
-    (q : List ℕ) → first_of index q ≡ find (λ l. pointwise nat_eq q (numbers_by plan (numbers_at rows l))) (below (length rows))
+    (q : List ℕ) → first_row_of index q ≡ find (λ l. pointwise nat_eq q (numbers_by plan (numbers_at rows l))) (below (length rows))
 
 -- the same for what cells say, with the texts of the variables in the rows of a table
 pub record IndexesCells (symbols : List Value) (table : NumberTable) (variables : List ℕ) (cells : List Cell) (index : Index) : Type 0 where
@@ -63,17 +63,17 @@ FindsAmong R rows i choices found = (k : ℕ) → k < length found → option_ma
 
 -- the values that the exported variables of rule i have at its places
 abbrev pub own_rows : List Rule → Rows → ℕ → ℕ → List Value
-own_rows R rows i k = map (λ x. value_at R rows i k (Var x)) (exported (rule_at R i))
+own_rows R rows i k = map (λ x. cell_value_at R rows i k (Var x)) (exported (rule_at R i))
 
 -- the plan of the exported variables of rule i
-abbrev pub AreOwn : List Rule → Numbered → ℕ → List NumberAt → Type 0
+abbrev pub AreOwn : List Rule → NumberedInstance → ℕ → List NumberAt → Type 0
 AreOwn R m i own =
     AllZip (IsPlanned m.symbols (exported (rule_at R i)) (numbers_of_table m.tables i).width) (variable_cells (rule_at R i)) own
 
 -- what is known of a place, or else what the index gives for the numbers of its row
 abbrev pub or_first : ℕ → ℕ → Index → List NumberAt → Option Found → List ℕ → Option Found
 or_first rule map index own known row =
-    option_or known (option_map (λ l. record { rule = rule; map = map; row = l }) (first_of index (numbers_by own row)))
+    option_or known (option_map (λ l. record { rule = rule; map = map; row = l }) (first_row_of index (numbers_by own row)))
 
 -- the same for each of the first places
 pub record AreOrFirsts (rule map : ℕ) (index : Index) (rows : List (List ℕ)) (own : List NumberAt) (known found : List (Option Found)) (n : ℕ) : Type 0 where

@@ -4,20 +4,17 @@ use Rattle.dx_ports.specs.Members.{Each}
 use Rattle.dx_model.specs.declared.values.Value.{Value}
 use Rattle.dx_model.specs.Values.{Rows}
 use Rattle.dx_instance.specs.Cells.{NumberTable}
-use Rattle.dx_instance.specs.Numbers.{AreApart}
-use Rattle.dx_instance.specs.Shown.{Numbered}
+use Rattle.dx_instance.specs.Numbers.{AreDistinctValues}
+use Rattle.dx_instance.specs.Shown.{NumberedInstance}
 use Rattle.dx_joins.specs.Shown.{AreTexts, texts_of}
 
 -- the tuples of each rule
 abbrev pub tuples_of : List Value → List NumberTable → Rows
 tuples_of symbols tables = map (λ (t : NumberTable). map (texts_of symbols) t.rows) tables
 
-abbrev pub rows_of : Numbered → Rows
-rows_of m = tuples_of m.symbols m.tables
-
 -- what holds of rows that are compared by their numbers: symbols are distinct, and two more numbers are left; each number of a row
 -- stands for a text
-pub record AreComparable (symbols : List Value) (tables : List NumberTable) : Type 0 where
-  pub apart : AreApart symbols
+pub record RowsAreComparable (symbols : List Value) (tables : List NumberTable) : Type 0 where
+  pub apart : AreDistinctValues symbols
   pub few : length symbols < 2 ^ 32 - 1
   pub texts : Each tables (λ (t : NumberTable). Each t.rows (AreTexts symbols))

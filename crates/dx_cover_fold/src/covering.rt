@@ -7,10 +7,10 @@ ghost use Rattle.dx_model.specs.Rules.{exported as exported_of};
 ghost use Rattle.dx_model.specs.Covers.{places_by, rule_at, used_maps};
 ghost use Rattle.dx_instance.specs.Shown.{numbers_of_table};
 ghost use Rattle.dx_cover.specs.Covering.{covers_of};
-ghost use Rattle.dx_cover_fold.specs.Codes.{HasColumn, IsPlanned};
+ghost use Rattle.dx_cover_fold.specs.Codes.{RowHasColumn, IsPlanned};
 ghost use Rattle.dx_cover_fold.specs.Found.{AreLeast, AreOrFirsts, AreOwn, FindsAmong, IndexesCells, images_by, no_map, or_first as first_or};
 ghost use Rattle.dx_cover_fold.specs.Found.{variable_cells};
-ghost use Rattle.dx_cover_fold.specs.Matched.{rows_of};
+ghost use Rattle.dx_model.specs.Matches.{rows_of_matches};
 
 use crate::found::Found;
 use crate::images::{as_cells, images_of};
@@ -34,7 +34,7 @@ fn or_first(
     rule: u32,
     map: u32,
 ) -> Result<Option<Found>, AllocError>
-    requires { Each own.now (HasColumn (length row.now)) }
+    requires { Each own.now (RowHasColumn (length row.now)) }
     ensures { IfOk result (λ o. o ≡ first_or rule map index.now own.now known row.now) }
 {
     match known {
@@ -59,7 +59,7 @@ fn or_firsts(
     rule: u32,
     map: u32,
 ) -> Result<Vec<Option<Found>>, AllocError>
-    requires columns { Each own.now (HasColumn rows.now.width) }
+    requires columns { Each own.now (RowHasColumn rows.now.width) }
     requires many { length known.now ≡ length rows.now.rows }
     ensures { IfOk result (λ v. AreOrFirsts rule map index.now rows.now.rows own.now known.now v.items (length rows.now.rows)) }
 {
@@ -105,10 +105,10 @@ fn by_map(
     requires one { length matches.now.tables ≡ length rules.now }
     requires number { slice_index_or (used_maps (rule_at rules.now i) (rule_at rules.now j)) number no_map ≡ map.now }
     requires own { AreOwn rules.now matches.now i own.now }
-    requires many { length known.now ≡ length (slice_index_or (rows_of matches.now) i []) }
+    requires many { length known.now ≡ length (slice_index_or (rows_of_matches matches.now) i []) }
     ensures many { IfOk result (λ v. length v.items ≡ length known.now) }
-    ensures finds { IfOk result (λ v. (C : List Cover) → FindsAmong rules.now (rows_of matches.now) i C known.now
-        → FindsAmong rules.now (rows_of matches.now) i (C ++ places_by (rows_of matches.now) j map.now) v.items) }
+    ensures finds { IfOk result (λ v. (C : List Cover) → FindsAmong rules.now (rows_of_matches matches.now) i C known.now
+        → FindsAmong rules.now (rows_of_matches matches.now) i (C ++ places_by (rows_of_matches matches.now) j map.now) v.items) }
 {
     let (from, to) = (&rules[i as usize], &rules[j as usize]);
     let here = matches.rows(i);
@@ -133,10 +133,10 @@ fn by_maps(
     requires one { length matches.now.tables ≡ length rules.now }
     requires maps { maps.now ≡ used_maps (rule_at rules.now i) (rule_at rules.now j) }
     requires own { AreOwn rules.now matches.now i own.now }
-    requires many { length known.items ≡ length (slice_index_or (rows_of matches.now) i []) }
+    requires many { length known.items ≡ length (slice_index_or (rows_of_matches matches.now) i []) }
     ensures many { IfOk result (λ v. length v.items ≡ length known.items) }
-    ensures finds { IfOk result (λ v. (C : List Cover) → FindsAmong rules.now (rows_of matches.now) i C known.items
-        → FindsAmong rules.now (rows_of matches.now) i (C ++ flat_map (places_by (rows_of matches.now) j) (used_maps (rule_at rules.now i) (rule_at rules.now j))) v.items) }
+    ensures finds { IfOk result (λ v. (C : List Cover) → FindsAmong rules.now (rows_of_matches matches.now) i C known.items
+        → FindsAmong rules.now (rows_of_matches matches.now) i (C ++ flat_map (places_by (rows_of_matches matches.now) j) (used_maps (rule_at rules.now i) (rule_at rules.now j))) v.items) }
 {
     let mut found = known;
     for number in 0..maps.len() {
@@ -171,10 +171,10 @@ fn by_rule(
     requires to { j < length rules.now }
     requires one { length matches.now.tables ≡ length rules.now }
     requires own { AreOwn rules.now matches.now i own.now }
-    requires many { length known.items ≡ length (slice_index_or (rows_of matches.now) i []) }
+    requires many { length known.items ≡ length (slice_index_or (rows_of_matches matches.now) i []) }
     ensures many { IfOk result (λ v. length v.items ≡ length known.items) }
-    ensures finds { IfOk result (λ v. (C : List Cover) → FindsAmong rules.now (rows_of matches.now) i C known.items
-        → FindsAmong rules.now (rows_of matches.now) i (C ++ flat_map (places_by (rows_of matches.now) j) (used_maps (rule_at rules.now i) (rule_at rules.now j))) v.items) }
+    ensures finds { IfOk result (λ v. (C : List Cover) → FindsAmong rules.now (rows_of_matches matches.now) i C known.items
+        → FindsAmong rules.now (rows_of_matches matches.now) i (C ++ flat_map (places_by (rows_of_matches matches.now) j) (used_maps (rule_at rules.now i) (rule_at rules.now j))) v.items) }
 {
     by_maps(alloc, rules, matches, i, own, j, covers.maps(i, j), known)
 }
@@ -231,7 +231,7 @@ pub(crate) fn least_covers(
     requires few { length rules.now < 2 ^ 32 }
     requires from { i < length rules.now }
     requires one { length matches.now.tables ≡ length rules.now }
-    ensures { IfOk result (λ v. AreLeast rules.now (rows_of matches.now) i v.items) }
+    ensures { IfOk result (λ v. AreLeast rules.now (rows_of_matches matches.now) i v.items) }
 {
     let mut found = none_known(alloc, matches.places(i) as usize)?;
     let own = own_of(alloc, rules, matches, i)?;

@@ -1,8 +1,8 @@
 // The first places at which rows have their numbers.
 ghost use Rattle.std.specs.Prelude.{◌≡◌, IfOk};
 ghost use Rattle.dx_ports.specs.Members.{Each};
-ghost use Rattle.dx_cover_fold.specs.Codes.{HasColumn};
-ghost use Rattle.dx_cover_fold.specs.Found.{Indexes, first_of};
+ghost use Rattle.dx_cover_fold.specs.Codes.{RowHasColumn};
+ghost use Rattle.dx_cover_fold.specs.Found.{Indexes, first_row_of};
 
 use crate::number_at::NumberAt;
 use crate::numbers_said::numbers_said;
@@ -24,7 +24,7 @@ impl Index {
     ///
     /// `AllocError` if there is no memory.
     pub(crate) fn build(alloc: Global, rows: &Rows, plan: &[NumberAt]) -> Result<Index, AllocError>
-        requires { Each plan.now (HasColumn rows.now.width) }
+        requires { Each plan.now (RowHasColumn rows.now.width) }
         ensures { IfOk result (Indexes rows.now.rows plan.now) }
     {
         let mut places = HashMap::with_capacity(alloc, rows.count() as usize)?;
@@ -39,7 +39,7 @@ impl Index {
 
     /// The first place of a list of numbers, if it has one.
     pub(crate) fn first(&self, numbers: &SmallVec<u32, 6>) -> Option<u32>
-        ensures { result ≡ first_of self.now numbers.now.items }
+        ensures { result ≡ first_row_of self.now numbers.now.items }
     {
         self.places.get(numbers).copied()
     }

@@ -2,11 +2,11 @@
 ghost use Rattle.std.specs.Prelude.{◌≡◌, ◌↔◌, ◌<◌, ◌-◌, ◌+◌, ◌^◌, [], IsTrue, length, slice_index_or};
 ghost use Rattle.dx_ports.specs.Members.{◌∈◌, Each};
 ghost use Rattle.dx_model.specs.declared.values.Value.TheVariants.{Const as ConstValue};
-ghost use Rattle.dx_instance.specs.Numbers.{AreApart, value_of};
+ghost use Rattle.dx_instance.specs.Numbers.{AreDistinctValues, value_of};
 ghost use Rattle.dx_instance.specs.Shown.{numbers_of_table};
 ghost use Rattle.dx_joins.specs.Shown.{AreTexts, texts_of};
-ghost use Rattle.dx_model.specs.Covers.{row_at};
-ghost use Rattle.dx_cover_fold.specs.Matched.{rows_of};
+ghost use Rattle.dx_model.specs.Covers.{tuple_at};
+ghost use Rattle.dx_model.specs.Matches.{rows_of_matches};
 ghost use Rattle.dx_cover_fold.specs.Codes.{IsCode};
 
 use dx_instance::{Rows, Symbols};
@@ -21,14 +21,14 @@ pub(crate) struct Matched<'a> {
 }
 
 impl<'a> Model for Matched<'a> {
-    ghost use Rattle.dx_instance.specs.Shown.{Numbered};
-    ghost use Rattle.dx_cover_fold.specs.Matched.{AreComparable};
+    ghost use Rattle.dx_instance.specs.Shown.{NumberedInstance};
+    ghost use Rattle.dx_cover_fold.specs.Matched.{RowsAreComparable};
 
     ghost Value = { Numbered };
 
     ghost view = { λ m. record { symbols = m.symbols.now; tables = m.tables.now } };
 
-    ghost invariant = { λ m. AreComparable m.symbols.now m.tables.now };
+    ghost invariant = { λ m. RowsAreComparable m.symbols.now m.tables.now };
 }
 
 // Whether the value is the empty text.
@@ -60,7 +60,7 @@ impl<'a> Matched<'a> {
         ensures rows { result.now ≡ numbers_of_table self.now.tables rule }
 
         // What holds of all rows.
-        ensures apart { AreApart self.now.symbols }
+        ensures apart { AreDistinctValues self.now.symbols }
         ensures texts { Each result.now.rows (AreTexts self.now.symbols) }
         ensures wide { Each result.now.rows (λ r. length r ≡ result.now.width) }
     {
@@ -74,7 +74,7 @@ impl<'a> Matched<'a> {
     /// How many places a rule has.
     pub(crate) fn places(&self, rule: u32) -> u32
         requires { rule < length self.now.tables }
-        ensures { result ≡ length (slice_index_or (rows_of self.now) rule []) }
+        ensures { result ≡ length (slice_index_or (rows_of_matches self.now) rule []) }
     {
         self.rows(rule).count()
     }
@@ -82,9 +82,9 @@ impl<'a> Matched<'a> {
     /// The row of a rule at a place, lent.
     pub(crate) fn row(&self, rule: u32, place: u32) -> &'a [u32]
         requires rule { rule < length self.now.tables }
-        requires place { place < length (slice_index_or (rows_of self.now) rule []) }
+        requires place { place < length (slice_index_or (rows_of_matches self.now) rule []) }
         ensures texts { AreTexts self.now.symbols result.now }
-        ensures tuple { texts_of self.now.symbols result.now ≡ row_at (rows_of self.now) rule place }
+        ensures tuple { texts_of self.now.symbols result.now ≡ tuple_at (rows_of_matches self.now) rule place }
     {
         self.rows(rule).row(place)
     }

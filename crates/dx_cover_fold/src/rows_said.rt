@@ -2,7 +2,8 @@
 ghost use Rattle.std.specs.Prelude.{◌≡◌, IfOk};
 ghost use Rattle.dx_model.specs.declared.values.Value.TheVariants.{Null as NullValue};
 ghost use Rattle.dx_model.specs.Rules.{cell_value, text_of};
-ghost use Rattle.dx_joins.specs.Shown.{AreTexts, text_in, texts_of};
+ghost use Rattle.dx_joins.specs.Shown.{AreTexts, texts_of};
+ghost use Rattle.dx_instance.specs.Ranks.{text_of_value};
 
 use crate::matched::Matched;
 use dx_model::{Cell, NullId, Value};
@@ -11,7 +12,7 @@ use std::alloc::{AllocError, Global};
 
 /// A copy of the text of a value; the empty text for a null.
 fn text_copy(alloc: Global, value: &Value) -> Result<Text, AllocError>
-    ensures { IfOk result (λ t. t ≡ text_in value.now) }
+    ensures { IfOk result (λ t. t ≡ text_of_value value.now) }
 {
     match value {
         Value::Const(text) => text.copy(),

@@ -9,7 +9,7 @@ use Rattle.dx_model.specs.declared.values.Value.TheVariants.{Const}
 use Rattle.dx_used.specs.Used.{blank}
 use Rattle.dx_used.proofs.Blanking.{blanked_at}
 use Rattle.dx_csv.specs.Blanks.{constants_used, is_used}
-use Rattle.dx_csv.specs.Table.{constants}
+use Rattle.dx_model.specs.Values.{constants}
 
 -- ---- the marks
 

@@ -9,14 +9,14 @@ use Rattle.dx_ports.specs.Members.{Each, here, there}
 use Rattle.dx_ports.proofs.Members.{contains_from_in}
 use Rattle.dx_model.specs.declared.values.Value.{Value}
 use Rattle.dx_model.specs.declared.values.Value.TheVariants.{Const}
-use Rattle.dx_instance.specs.Cells.{rows_in}
+use Rattle.dx_instance.specs.Cells.{rows_of_cells}
 use Rattle.dx_instance.specs.Numbers.{Extends, IsNumberOf, value_of}
 use Rattle.dx_instance.specs.Shown.{AreBelow, shown_row}
 use Rattle.dx_instance.proofs.ShownFacts.{grown_value, longer}
 use Rattle.dx_used.proofs.Blanking.{blanked_length}
-use Rattle.dx_csv.specs.Blanks.{AreNumbered, AreSettled, HasBlank, OthersStay, constants_used, is_used}
+use Rattle.dx_csv.specs.Blanks.{AreNumbersOfTexts, AreSettled, HasBlank, OthersStay, constants_used, is_used}
 use Rattle.dx_csv.specs.Fields.{records_in}
-use Rattle.dx_csv.specs.Table.{constants}
+use Rattle.dx_model.specs.Values.{constants}
 use Rattle.dx_csv.proofs.BlankFacts.{unused_in, value_at}
 
 -- a value keeps its number
@@ -42,7 +42,7 @@ rows_apart w r s c h k e =
 -- ---- one row more of a column
 
 pub column_more : (S T : List Value) (texts : List (List ℕ)) (w c i n : ℕ) (old new : List ℕ) → c < w → i * w + c < length old → new ≡ set old (i * w + c) n → Extends S T
-    → IsNumberOf T (Const (get_or texts (i * w + c) [])) (Some n) → AreNumbered S texts w c old i → AreNumbered T texts w c new (i + 1)
+    → IsNumberOf T (Const (get_or texts (i * w + c) [])) (Some n) → AreNumbersOfTexts S texts w c old i → AreNumbersOfTexts T texts w c new (i + 1)
 column_more S T texts w c i n old new h b e g x a r k = rw e (elim (cases_lt r i) [
   | inl l ↦ let o = get_or-set_other old (i * w + c) (r * w + c) n 0 (λ q. rows_apart w r i c h l q) in rw o (number_kept S T _ _ g (a r l))
   | inr l ↦ let s : r ≡ i = omega (arith, k, l) in rw (s, get_or-set_same old (i * w + c) n 0 b) x
@@ -53,7 +53,7 @@ others_more w c i n first old new h e o r d k m = rw e (get_or-set_other old (i 
 
 -- ---- one column more
 
-pub settled_used : (used : List Bool) (S T : List Value) (texts : List (List ℕ)) (w count c : ℕ) (old new : List ℕ) → is_used used c ≡ true → Extends S T → AreNumbered T texts w c new count → OthersStay w c old new
+pub settled_used : (used : List Bool) (S T : List Value) (texts : List (List ℕ)) (w count c : ℕ) (old new : List ℕ) → is_used used c ≡ true → Extends S T → AreNumbersOfTexts T texts w c new count → OthersStay w c old new
     → AreSettled used S texts w count old (c + 1) → AreSettled used T texts w count new c
 settled_used used S T texts w count c old new u g a o s r d hr hd either = elim (cases_eq d c) [
   | inl e ↦ rw (e, u) (a r hr)
@@ -129,14 +129,14 @@ rest_numbered used S texts w cells n a r c hr hc =
     rw (get_or-drop w texts (r * w + c) [], get_or-drop w cells (r * w + c) 0) one
 
 pub rows_shown : (used : List Bool) (S : List Value) (w n : ℕ) (texts : List (List ℕ)) (cells : List ℕ) → length texts ≡ n * w → length cells ≡ n * w → AllNumbered used S texts w cells n
-    → map (shown_row S) (rows_in n w cells) ≡ map (constants_used used) (records_in n w texts)
+    → map (shown_row S) (rows_of_cells n w cells) ≡ map (constants_used used) (records_in n w texts)
 rows_shown used S w zero texts cells t l a = refl
 rows_shown used S w (suc n) texts cells t l a =
     let first = first_shown used S texts w cells n (omega (arith, t)) (omega (arith, l)) a in
     let rest = rows_shown used S w n (drop w texts) (drop w cells) (omega (arith, t, length-drop w texts)) (omega (arith, l, length-drop w cells)) (rest_numbered used S texts w cells n a) in
     cc (first, rest)
 
-pub rows_below : (used : List Bool) (S : List Value) (w n : ℕ) (texts : List (List ℕ)) (cells : List ℕ) → length cells ≡ n * w → AllNumbered used S texts w cells n → Each (rows_in n w cells) (AreBelow (length S))
+pub rows_below : (used : List Bool) (S : List Value) (w n : ℕ) (texts : List (List ℕ)) (cells : List ℕ) → length cells ≡ n * w → AllNumbered used S texts w cells n → Each (rows_of_cells n w cells) (AreBelow (length S))
 rows_below used S w zero texts cells l a r m = elim m [ ]
 rows_below used S w (suc n) texts cells l a r (here e) = subst (AreBelow (length S)) e (first_below used S texts w cells n (omega (arith, l)) a)
 rows_below used S w (suc n) texts cells l a r (there m) = rows_below used S w n (drop w texts) (drop w cells) (omega (arith, l, length-drop w cells)) (rest_numbered used S texts w cells n a) r m

@@ -10,7 +10,8 @@ use Rattle.csv.specs.Records.{AllText}
 use Rattle.dx_model.specs.declared.values.Value.{Value}
 use Rattle.dx_csv.specs.declared.fault.RowKind.{RowKind}
 use Rattle.dx_csv.specs.declared.fault.RowKind.TheVariants as kind
-use Rattle.dx_csv.specs.Table.{FirstDifference, FirstFaulty, IsAtFault, IsTable, IsWhole, constants}
+use Rattle.dx_csv.specs.Table.{FirstDifference, FirstFaulty, IsAtFault, AreTableRecords, IsWholeRecord}
+use Rattle.dx_model.specs.Values.{constants}
 
 -- ---- texts
 
@@ -31,7 +32,7 @@ all_text (f ∷ fs) = elim (cases_Bool (is_utf8 f)) [
 abbrev Wrong : List (List ℕ) → List (List ℕ) → Type 0
 Wrong columns fields = (length fields ≢ length columns) ⊎ ((length fields ≡ length columns) × ¬ (AllText fields))
 
-whole_or_wrong : (columns fields : List (List ℕ)) → IsWhole columns fields ⊎ Wrong columns fields
+whole_or_wrong : (columns fields : List (List ℕ)) → IsWholeRecord columns fields ⊎ Wrong columns fields
 whole_or_wrong columns fields = elim (cases_eq (length fields) (length columns)) [
   | inl e ↦ elim (all_text fields) [
     | inl a ↦ inl (record { width = e; text = a })
@@ -50,15 +51,15 @@ record HasWrong (columns : List (List ℕ)) (under : List (List (List ℕ))) : T
   fields : List (List ℕ)
   rest : List (List (List ℕ))
   is : under ≡ good ++ fields ∷ rest
-  whole : All (IsWhole columns) good
+  whole : All (IsWholeRecord columns) good
   wrong : Wrong columns fields
 
-all_or_wrong : (columns : List (List ℕ)) (under : List (List (List ℕ))) → All (IsWhole columns) under ⊎ HasWrong columns under
+all_or_wrong : (columns : List (List ℕ)) (under : List (List (List ℕ))) → All (IsWholeRecord columns) under ⊎ HasWrong columns under
 all_or_wrong columns [] = inl (λ k d h. absurd (omega arith))
 all_or_wrong columns (x ∷ under) = elim (whole_or_wrong columns x) [
   | inl w ↦ elim (all_or_wrong columns under) [
-    | inl a ↦ inl (all_with (IsWhole columns) x under w a)
-    | inr f ↦ inr (record { good = x ∷ f.good; fields = f.fields; rest = f.rest; is = ap (λ (rs : List (List (List ℕ))). x ∷ rs) f.is; whole = all_with (IsWhole columns) x f.good w f.whole; wrong = f.wrong })
+    | inl a ↦ inl (all_with (IsWholeRecord columns) x under w a)
+    | inr f ↦ inr (record { good = x ∷ f.good; fields = f.fields; rest = f.rest; is = ap (λ (rs : List (List (List ℕ))). x ∷ rs) f.is; whole = all_with (IsWholeRecord columns) x f.good w f.whole; wrong = f.wrong })
   ]
   | inr w ↦ inr (record { good = []; fields = x; rest = under; is = refl; whole = λ k d h. absurd (omega arith); wrong = w })
 ]
@@ -95,7 +96,7 @@ fault_of records columns under e w =
     fault_by records columns w.fields (length w.good + 1)
     (record { good = w.good; rest = w.rest; header = e ∙ ap (λ (rs : List (List (List ℕ))). columns ∷ rs) w.is; whole = w.whole; place = refl }) w.wrong
 
-pub table_or_fault : (records : List (List (List ℕ))) (columns : List (List ℕ)) → ((rows : List (List Value)) × IsTable records columns rows) ⊎ ((k : RowKind) × IsAtFault records columns k)
+pub table_or_fault : (records : List (List (List ℕ))) (columns : List (List ℕ)) → ((rows : List (List Value)) × AreTableRecords records columns rows) ⊎ ((k : RowKind) × IsAtFault records columns k)
 table_or_fault [] columns = inr (kind.NoHeader, refl)
 table_or_fault (header ∷ under) columns = elim (same_or_differ header columns) [
   | inl e ↦ elim (all_or_wrong columns under) [

@@ -9,25 +9,26 @@ use Rattle.dx_model.specs.declared.values.Value.{Value}
 use Rattle.dx_csv.specs.Fields.{AreFields, flat, records_in}
 use Rattle.dx_used.specs.Used.{blanked}
 use Rattle.dx_csv.specs.Blanks.{IsTableUsed, constants_used}
-use Rattle.dx_csv.specs.Table.{IsWhole, constants}
+use Rattle.dx_csv.specs.Table.{IsWholeRecord}
+use Rattle.dx_model.specs.Values.{constants}
 
 -- ---- the records of a table
 
-flat-size : (columns : List (List ℕ)) (under : List (List (List ℕ))) → All (IsWhole columns) under → length (flat under) ≡ length under * length columns
+flat-size : (columns : List (List ℕ)) (under : List (List (List ℕ))) → All (IsWholeRecord columns) under → length (flat under) ≡ length under * length columns
 flat-size columns [] a = omega arith
 flat-size columns (u ∷ under) a =
-    let w = (All-head (IsWhole columns) u under a).width in
-    let r = flat-size columns under (All-tail (IsWhole columns) u under a) in
+    let w = (All-head (IsWholeRecord columns) u under a).width in
+    let r = flat-size columns under (All-tail (IsWholeRecord columns) u under a) in
     let s = length-append u (flat under) in
     omega (arith, w, r, s)
 
-flat-records : (columns : List (List ℕ)) (under : List (List (List ℕ))) → All (IsWhole columns) under → records_in (length under) (length columns) (flat under) ≡ under
+flat-records : (columns : List (List ℕ)) (under : List (List (List ℕ))) → All (IsWholeRecord columns) under → records_in (length under) (length columns) (flat under) ≡ under
 flat-records columns [] a = refl
 flat-records columns (u ∷ under) a =
-    let w = (All-head (IsWhole columns) u under a).width in
+    let w = (All-head (IsWholeRecord columns) u under a).width in
     let front : take (length columns) (u ++ flat under) ≡ u = subst (λ n. take n (u ++ flat under) ≡ u) w (take-append_seam u (flat under)) in
     let back : drop (length columns) (u ++ flat under) ≡ flat under = subst (λ n. drop n (u ++ flat under) ≡ flat under) w (drop-append_seam u (flat under)) in
-    rw (front, back, flat-records columns under (All-tail (IsWhole columns) u under a)) refl
+    rw (front, back, flat-records columns under (All-tail (IsWholeRecord columns) u under a)) refl
 
 pub fields-many : (records : List (List (List ℕ))) (columns texts : List (List ℕ)) (count width : ℕ) → width ≡ length columns → AreFields records columns texts count → length texts ≡ count * width
 fields-many records columns texts count width w f =

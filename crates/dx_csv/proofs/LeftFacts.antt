@@ -10,7 +10,7 @@ use Rattle.csv.specs.declared.parser.Action.{Action}
 use Rattle.csv.specs.declared.parser.Action.TheVariants as act
 use Rattle.csv.specs.declared.reader.Reader.{Reader}
 use Rattle.csv.proofs.ReadFacts.{rows-more, rows-end}
-use Rattle.dx_csv.specs.Left.{left_from, left_of, IsBetween}
+use Rattle.dx_csv.specs.Left.{left_from, records_left, IsBetween}
 use Rattle.dx_csv.specs.Plain.{ends_line}
 
 -- a byte that ends a record leaves the machine between two records
@@ -146,7 +146,7 @@ took-left s s2 xs z p f more row state rest = rw (row, ← state, ← rest) more
 
 -- what a read that found a record leaves
 pub record Took {R : Type 0} (rem : R → Option (List ℕ)) (old new : Reader R) (fields : List (List ℕ)) : Type 0 where
-  pub left : left_of rem old ≡ fields ∷ left_of rem new
+  pub left : records_left rem old ≡ fields ∷ records_left rem new
   pub good : IsBetween rem new
 
 pub read-some : {R : Type 0} (rem : R → Option (List ℕ)) (old new : Reader R) (fields : List (List ℕ))
@@ -166,6 +166,6 @@ read-some rem old new fields g first flexible r =
     }
 
 pub read-none : {R : Type 0} (rem : R → Option (List ℕ)) (old new : Reader R) (fields : List (List ℕ))
-    → IsBetween rem old → ReadRecord rem old new false fields → left_of rem old ≡ []
+    → IsBetween rem old → ReadRecord rem old new false fields → records_left rem old ≡ []
 read-none rem old new fields g r =
     rw g.source (left-none (reader_state old) g.unread (rows-end rem old new fields default_config g.unread g.config g.source r))

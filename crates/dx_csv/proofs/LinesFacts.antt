@@ -14,8 +14,8 @@ use Rattle.std.proofs.lemmas.Grind.{flat_map-append}
 use Rattle.csv.specs.Writing.{default_writer, escaped, field_text, fields_text, is_blank, needs_byte, needs_quotes, quoted, row_body, row_text}
 use Rattle.dx_csv.specs.declared.lines.Lines.{Lines}
 use Rattle.dx_csv.specs.declared.lines.OpenLine.TheVariants.{NoField, NoByte, Bytes}
-use Rattle.dx_csv.specs.Print.{lines_text}
-use Rattle.dx_csv.specs.Lines.{HavePrinted, IsPlain, before_field, line_end, line_with, open_line}
+use Rattle.dx_csv.specs.Print.{records_text}
+use Rattle.dx_csv.specs.Lines.{HavePrinted, NeedsNoQuotes, before_field, line_end, line_with, open_line}
 
 -- ---- one field more
 
@@ -75,8 +75,8 @@ field-printed old new field text line records fields h = record {
       text
       ∙ ap (λ l. old.bytes.items ++ (before_field l ++ field_text default_writer field)) h.line
       ∙ ap (λ (t : List ℕ). t ++ (before_field (open_line fields) ++ field_text default_writer field)) h.text
-      ∙ append_assoc (lines_text records) (row_body default_writer fields) (before_field (open_line fields) ++ field_text default_writer field)
-      ∙ ap (λ (t : List ℕ). lines_text records ++ t) (sym (body-more fields field));
+      ∙ append_assoc (records_text records) (row_body default_writer fields) (before_field (open_line fields) ++ field_text default_writer field)
+      ∙ ap (λ (t : List ℕ). records_text records ++ t) (sym (body-more fields field));
   line = line ∙ ap (λ l. line_with l field) h.line ∙ sym (line-more fields field);
 }
 
@@ -94,8 +94,8 @@ end-is (x ∷ rest) = by (is_blank default_writer (x ∷ rest))
     by true = refl
     by false = refl
 
-lines-one-more : (records : List (List (List ℕ))) (fields : List (List ℕ)) → lines_text (records ++ fields ∷ []) ≡ lines_text records ++ row_text default_writer fields
-lines-one-more records fields = flat_map-append (row_text default_writer) records (fields ∷ []) ∙ ap (λ (t : List ℕ). lines_text records ++ t) (append-nil (row_text default_writer fields))
+lines-one-more : (records : List (List (List ℕ))) (fields : List (List ℕ)) → records_text (records ++ fields ∷ []) ≡ records_text records ++ row_text default_writer fields
+lines-one-more records fields = flat_map-append (row_text default_writer) records (fields ∷ []) ∙ ap (λ (t : List ℕ). records_text records ++ t) (append-nil (row_text default_writer fields))
 
 pub line-ended : (old new : Lines) → new.bytes.items ≡ old.bytes.items ++ line_end old.line → new.line ≡ NoField
     → (records : List (List (List ℕ))) (fields : List (List ℕ)) → HavePrinted old records fields → HavePrinted new (records ++ fields ∷ []) []
@@ -104,18 +104,18 @@ line-ended old new text line records fields h = record {
       text
       ∙ ap (λ l. old.bytes.items ++ line_end l) h.line
       ∙ ap (λ (t : List ℕ). t ++ line_end (open_line fields)) h.text
-      ∙ append_assoc (lines_text records) (row_body default_writer fields) (line_end (open_line fields))
-      ∙ ap (λ (t : List ℕ). lines_text records ++ t) (sym (end-is fields))
+      ∙ append_assoc (records_text records) (row_body default_writer fields) (line_end (open_line fields))
+      ∙ ap (λ (t : List ℕ). records_text records ++ t) (sym (end-is fields))
       ∙ sym (lines-one-more records fields)
-      ∙ sym (append-nil (lines_text (records ++ fields ∷ [])));
+      ∙ sym (append-nil (records_text (records ++ fields ∷ [])));
   line = line;
 }
 
 pub none-printed : (new : Lines) → new.bytes.items ≡ [] → new.line ≡ NoField → HavePrinted new [] []
 none-printed new text line = record { text = text; line = line }
 
-pub all-printed : (old : Lines) (records : List (List (List ℕ))) → HavePrinted old records [] → old.bytes.items ≡ lines_text records
-all-printed old records h = h.text ∙ append-nil (lines_text records)
+pub all-printed : (old : Lines) (records : List (List (List ℕ))) → HavePrinted old records [] → old.bytes.items ≡ records_text records
+all-printed old records h = h.text ∙ append-nil (records_text records)
 
 -- ---- quotes
 
@@ -227,12 +227,12 @@ decimal-plain n h = digits-plain (decimal n) (decimal_is_IsNumeral n (omega arit
 both-plain : (xs ys : List ℕ) → needs_quotes default_writer xs ≡ false → needs_quotes default_writer ys ≡ false → needs_quotes default_writer (xs ++ ys) ≡ false
 both-plain xs ys a b = marked-quotes xs ys a ∙ b
 
-pub null-calls : (n : NullId) → NullFits n → IsPlain (null_text n)
+pub null-calls : (n : NullId) → NullFits n → NeedsNoQuotes (null_text n)
 null-calls n f =
     let rest = both-plain (decimal n.var) (46 ∷ decimal n.row) (decimal-plain n.var f.var) (decimal-plain n.row f.row) in
     both-plain (decimal n.rule) (46 ∷ (decimal n.var ++ 46 ∷ decimal n.row)) (decimal-plain n.rule f.rule) rest
 
-pub plain-stays : (field : List ℕ) → IsPlain field → field_text default_writer field ≡ field
+pub plain-stays : (field : List ℕ) → NeedsNoQuotes field → field_text default_writer field ≡ field
 plain-stays field p = ap (λ b. if b then quoted default_writer field else field) p
 
 pub null-plain : (n : NullId) → NullFits n → field_text default_writer (null_text n) ≡ null_text n
@@ -243,5 +243,5 @@ null-plain n f = plain-stays (null_text n) (null-calls n f)
 pub numbered-byte : (b n : ℕ) → false ≡ (length (b ∷ decimal n) == 0)
 numbered-byte b n = sym (some-byte b (decimal n))
 
-pub numbered-plain : (b n : ℕ) → IsPlain (b ∷ []) → n < 2 ^ 32 → field_text default_writer (b ∷ decimal n) ≡ b ∷ decimal n
+pub numbered-plain : (b n : ℕ) → NeedsNoQuotes (b ∷ []) → n < 2 ^ 32 → field_text default_writer (b ∷ decimal n) ≡ b ∷ decimal n
 numbered-plain b n p h = plain-stays (b ∷ decimal n) (both-plain (b ∷ []) (decimal n) p (decimal-plain n h))

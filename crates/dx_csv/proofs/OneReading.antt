@@ -7,7 +7,8 @@ use Rattle.csv.specs.Records.{AllText}
 use Rattle.dx_model.specs.declared.values.Value.{Value}
 use Rattle.dx_csv.specs.declared.fault.RowKind.{RowKind}
 use Rattle.dx_csv.specs.declared.fault.RowKind.TheVariants as kind
-use Rattle.dx_csv.specs.Table.{FirstDifference, FirstFaulty, IsAtFault, IsTable, IsWhole, constants}
+use Rattle.dx_csv.specs.Table.{FirstDifference, FirstFaulty, IsAtFault, AreTableRecords, IsWholeRecord}
+use Rattle.dx_model.specs.Values.{constants}
 
 -- equal lists have equal parts
 rest-same : {X : Type 0} (x y : X) (xs ys : List X) → (x ∷ xs) ≡ (y ∷ ys) → xs ≡ ys
@@ -20,7 +21,7 @@ some-left : {X : Type 0} (x : X) (xs : List X) → [] ≡ (x ∷ xs) → ⊥
 some-left x xs e = cc e
 
 -- ---- one table
-pub table-is-one : (records : List (List (List ℕ))) (columns : List (List ℕ)) (a b : List (List Value)) → IsTable records columns a → IsTable records columns b → a ≡ b
+pub table-is-one : (records : List (List (List ℕ))) (columns : List (List ℕ)) (a b : List (List Value)) → AreTableRecords records columns a → AreTableRecords records columns b → a ≡ b
 table-is-one records columns a b s t = s.values ∙ (ap (λ (u : List (List (List ℕ))). map constants u) (rest-same columns columns s.under t.under (sym s.header ∙ t.header)) ∙ sym t.values)
 
 -- ---- one first difference
@@ -51,15 +52,15 @@ meet P (c ∷ a) (d ∷ b) x y s t e p n q m =
     record { number = ap suc w.number; fields = w.fields }
 
 faulty-is-one : (records : List (List (List ℕ))) (columns : List (List ℕ)) (n m : ℕ) (x y : List (List ℕ))
-    → FirstFaulty records columns n x → ¬ (IsWhole columns x) → FirstFaulty records columns m y → ¬ (IsWhole columns y) → Same n m x y
+    → FirstFaulty records columns n x → ¬ (IsWholeRecord columns x) → FirstFaulty records columns m y → ¬ (IsWholeRecord columns y) → Same n m x y
 faulty-is-one records columns n m x y f u g v =
-    let w = meet (IsWhole columns) f.good g.good x y f.rest g.rest (rest-same columns columns _ _ (sym f.header ∙ g.header)) f.whole u g.whole v in
+    let w = meet (IsWholeRecord columns) f.good g.good x y f.rest g.rest (rest-same columns columns _ _ (sym f.header ∙ g.header)) f.whole u g.whole v in
     record { number = f.place ∙ (ap (λ (k : ℕ). k + 1) w.number ∙ sym g.place); fields = w.fields }
 
-narrow : (columns x : List (List ℕ)) → length x ≢ length columns → ¬ (IsWhole columns x)
+narrow : (columns x : List (List ℕ)) → length x ≢ length columns → ¬ (IsWholeRecord columns x)
 narrow columns x n w = n w.width
 
-broken : (columns x : List (List ℕ)) → ¬ (AllText x) → ¬ (IsWhole columns x)
+broken : (columns x : List (List ℕ)) → ¬ (AllText x) → ¬ (IsWholeRecord columns x)
 broken columns x n w = n w.text
 
 -- a header that differs is no header of a table
@@ -99,11 +100,11 @@ middle : (P : List (List ℕ) → Type 0) (a : List (List (List ℕ))) (x : List
 middle P [] x s w = All-head P x s w
 middle P (c ∷ a) x s w = middle P a x s (All-tail P c (a ++ x ∷ s) w)
 
-all-whole : (records : List (List (List ℕ))) (columns : List (List ℕ)) (rows : List (List Value)) (n : ℕ) (x : List (List ℕ)) → IsTable records columns rows → FirstFaulty records columns n x → IsWhole columns x
+all-whole : (records : List (List (List ℕ))) (columns : List (List ℕ)) (rows : List (List Value)) (n : ℕ) (x : List (List ℕ)) → AreTableRecords records columns rows → FirstFaulty records columns n x → IsWholeRecord columns x
 all-whole records columns rows n x t f =
-    middle (IsWhole columns) f.good x f.rest (rw (rest-same columns columns t.under _ (sym t.header ∙ f.header)) at t.whole)
+    middle (IsWholeRecord columns) f.good x f.rest (rw (rest-same columns columns t.under _ (sym t.header ∙ f.header)) at t.whole)
 
-pub faults-exclude : (records : List (List (List ℕ))) (columns : List (List ℕ)) (rows : List (List Value)) (k : RowKind) → IsTable records columns rows → ¬ (IsAtFault records columns k)
+pub faults-exclude : (records : List (List (List ℕ))) (columns : List (List ℕ)) (rows : List (List Value)) (k : RowKind) → AreTableRecords records columns rows → ¬ (IsAtFault records columns k)
 faults-exclude records columns rows kind.NoHeader t f = some-left _ _ (sym f ∙ t.header)
 faults-exclude records columns rows (kind.Header p) t f = no-header records f.1 t.under columns f.0 p f.2 t.header f.3
 faults-exclude records columns rows (kind.Width n) t f = f.2 (all-whole records columns rows n f.0 t f.1).width

@@ -13,7 +13,7 @@ use Rattle.csv.specs.declared.parser.State.TheVariants as st
 use Rattle.dx_csv.specs.declared.fields.Fields.{Fields}
 use Rattle.dx_csv.specs.Fields.{GrowsBy, HaveFields, flat}
 use Rattle.dx_csv.specs.Left.{left_from}
-use Rattle.dx_csv.specs.Plain.{FieldAt, HasRecords, IsOver, IsWide, StandsAt, ends_line}
+use Rattle.dx_csv.specs.Plain.{FieldAt, HasRecords, IsOver, IsRecordOf, RecordStandsAt, ends_line}
 use Rattle.dx_csv.specs.Table.{table_records}
 use Rattle.dx_csv.proofs.LeftFacts.{left-line, left-next, left-none, left-return}
 use Rattle.dx_csv.proofs.OneField.{differs, drop-at}
@@ -103,8 +103,8 @@ text-rest (f ∷ before) parts t = text-rest before parts t.1
 -- a whole record
 pub record Whole (bytes : List ℕ) (from after width : ℕ) (new : Fields) (before : List (List ℕ)) : Type 0 where
   pub found : List (List ℕ)
-  pub stands : StandsAt bytes from after found
-  pub wide : IsWide width found
+  pub stands : RecordStandsAt bytes from after found
+  pub wide : IsRecordOf width found
   pub have : HaveFields new (before ++ found)
 
 whole-of : (bytes : List ℕ) (from end after number width : ℕ) (old new : Fields) (parts : List (List ℕ)) (field : List ℕ) (state between : State)
@@ -165,13 +165,13 @@ pub record Rows (bytes : List ℕ) (from at width count turn : ℕ) (fields : Fi
   pub rows : List (List (List ℕ))
   pub within : at ≤ length bytes
   pub are : left_from st.StartRecord (drop from bytes) ≡ rows ++ left_from st.StartRecord (drop at bytes)
-  pub wide : All (IsWide width) rows
+  pub wide : All (IsRecordOf width) rows
   pub have : HaveFields fields (flat rows)
   pub many : count ≡ length rows
   pub few : count ≤ turn
 
 pub rows-start : (bytes : List ℕ) (from width : ℕ) (fields : Fields) → from ≤ length bytes → HaveFields fields [] → Rows bytes from from width 0 0 fields
-rows-start bytes from width fields h g = record { rows = []; within = h; are = refl; wide = All-nil (IsWide width); have = g; many = refl; few = omega arith }
+rows-start bytes from width fields h g = record { rows = []; within = h; are = refl; wide = All-nil (IsRecordOf width); have = g; many = refl; few = omega arith }
 
 -- the end of a line between two records
 pub rows-line : (bytes : List ℕ) (from at width count turn : ℕ) (fields : Fields) → Rows bytes from at width count turn fields → at < length bytes
@@ -195,7 +195,7 @@ rows-more bytes from at after width count turn old new r w =
       rows = r.rows ++ w.found ∷ [];
       within = w.stands.within;
       are = r.are ∙ (ap (λ (l : List (List (List ℕ))). r.rows ++ l) w.stands.read ∙ sym (append_assoc r.rows (w.found ∷ []) (left_from st.StartRecord (drop after bytes))));
-      wide = All-append (IsWide width) r.rows (w.found ∷ []) r.wide (All-cons (IsWide width) w.found [] w.wide (All-nil (IsWide width)));
+      wide = All-append (IsRecordOf width) r.rows (w.found ∷ []) r.wide (All-cons (IsRecordOf width) w.found [] w.wide (All-nil (IsRecordOf width)));
       have = rw (flat-more r.rows w.found) w.have;
       many = omega (arith, r.many, length-append r.rows (w.found ∷ []));
       few = omega (arith, r.few);
@@ -238,11 +238,11 @@ pub record Table (bytes : List ℕ) (width count : ℕ) (fields : Fields) : Type
   pub header : List (List ℕ)
   pub rows : List (List (List ℕ))
   pub records : table_records bytes ≡ header ∷ rows
-  pub wide : All (IsWide width) rows
+  pub wide : All (IsRecordOf width) rows
   pub have : HaveFields fields (flat rows)
   pub many : count ≡ length rows
 
-pub table-read : (bytes : List ℕ) (after width count : ℕ) (header : List (List ℕ)) (fields : Fields) → get_or bytes 0 0 ≢ 239 → StandsAt bytes 0 after header
+pub table-read : (bytes : List ℕ) (after width count : ℕ) (header : List (List ℕ)) (fields : Fields) → get_or bytes 0 0 ≢ 239 → RecordStandsAt bytes 0 after header
     → AllRead bytes after width count fields → Table bytes width count fields
 table-read bytes after width count header fields n s r = record {
   header = header;

@@ -10,7 +10,8 @@ use Rattle.dx_model.specs.declared.values.Value.{Value}
 use Rattle.dx_model.specs.declared.values.Value.TheVariants.{Const}
 use Rattle.dx_csv.specs.declared.fields.Fields.{Fields}
 use Rattle.dx_csv.specs.Fields.{AreFields, HaveFields, fields_in, flat}
-use Rattle.dx_csv.specs.Table.{IsWhole, FirstDifference, IsTable, FirstFaulty, constants}
+use Rattle.dx_csv.specs.Table.{IsWholeRecord, FirstDifference, AreTableRecords, FirstFaulty}
+use Rattle.dx_model.specs.Values.{constants}
 
 pub field_at-slice_get : (xs : List (List ℕ)) (i : ℕ) → field_at xs i ≡ slice_get xs i
 unfolding field_at
@@ -64,20 +65,20 @@ agree-next xs ys i x h e f same =
 pub record Loaded (records : List (List (List ℕ))) (columns : List (List ℕ)) (rows : List (List Value)) (left : List (List (List ℕ))) (number : ℕ) : Type 0 where
   pub under : List (List (List ℕ))
   pub header : records ≡ columns ∷ (under ++ left)
-  pub whole : All (IsWhole columns) under
+  pub whole : All (IsWholeRecord columns) under
   pub values : rows ≡ map constants under
   pub count : number ≡ length under + 1
 
 pub loaded-start : (records : List (List (List ℕ))) (columns : List (List ℕ)) (left : List (List (List ℕ))) → records ≡ columns ∷ left → Loaded records columns [] left 1
-loaded-start records columns left e = record { under = []; header = e; whole = All-nil (IsWhole columns); values = refl; count = refl }
+loaded-start records columns left e = record { under = []; header = e; whole = All-nil (IsWholeRecord columns); values = refl; count = refl }
 
 pub loaded-more : (records : List (List (List ℕ))) (columns : List (List ℕ)) (rows : List (List Value)) (left rest : List (List (List ℕ))) (number : ℕ) (fields : List (List ℕ)) (row : List Value)
-    → Loaded records columns rows left number → left ≡ fields ∷ rest → IsWhole columns fields → row ≡ constants fields
+    → Loaded records columns rows left number → left ≡ fields ∷ rest → IsWholeRecord columns fields → row ≡ constants fields
     → Loaded records columns (rows ++ row ∷ []) rest (number + 1)
 loaded-more records columns rows left rest number fields row l e w r = record {
   under = l.under ++ fields ∷ [];
   header = rw (append_assoc l.under (fields ∷ []) rest, ← e) l.header;
-  whole = All-append (IsWhole columns) l.under (fields ∷ []) l.whole (All-cons (IsWhole columns) fields [] w (All-nil (IsWhole columns)));
+  whole = All-append (IsWholeRecord columns) l.under (fields ∷ []) l.whole (All-cons (IsWholeRecord columns) fields [] w (All-nil (IsWholeRecord columns)));
   values = rw (map-append constants l.under (fields ∷ []), l.values, r) refl;
   count = omega (arith, l.count, length-append l.under (fields ∷ []));
 }
@@ -86,25 +87,25 @@ loaded-more records columns rows left rest number fields row l e w r = record {
 pub record Collected (records : List (List (List ℕ))) (columns : List (List ℕ)) (fields : Fields) (left : List (List (List ℕ))) (number : ℕ) : Type 0 where
   pub under : List (List (List ℕ))
   pub header : records ≡ columns ∷ (under ++ left)
-  pub whole : All (IsWhole columns) under
+  pub whole : All (IsWholeRecord columns) under
   pub have : HaveFields fields (flat under)
   pub count : number ≡ length under + 1
 
 pub collected-start : (records : List (List (List ℕ))) (columns : List (List ℕ)) (fields : Fields) (left : List (List (List ℕ))) → records ≡ columns ∷ left → HaveFields fields []
     → Collected records columns fields left 1
-collected-start records columns fields left e h = record { under = []; header = e; whole = All-nil (IsWhole columns); have = h; count = refl }
+collected-start records columns fields left e h = record { under = []; header = e; whole = All-nil (IsWholeRecord columns); have = h; count = refl }
 
 pub flat-more : (under : List (List (List ℕ))) (fields : List (List ℕ)) → flat (under ++ fields ∷ []) ≡ flat under ++ fields
 flat-more [] fields = append-nil fields
 flat-more (u ∷ under) fields = ap (λ (l : List (List ℕ)). u ++ l) (flat-more under fields) ∙ sym (append_assoc u (flat under) fields)
 
 pub collected-more : (records : List (List (List ℕ))) (columns : List (List ℕ)) (old new : Fields) (left rest : List (List (List ℕ))) (number : ℕ) (fields : List (List ℕ))
-    → (c : Collected records columns old left number) → left ≡ fields ∷ rest → IsWhole columns fields → HaveFields new (flat c.under ++ fields)
+    → (c : Collected records columns old left number) → left ≡ fields ∷ rest → IsWholeRecord columns fields → HaveFields new (flat c.under ++ fields)
     → Collected records columns new rest (number + 1)
 collected-more records columns old new left rest number fields c e w h = record {
   under = c.under ++ fields ∷ [];
   header = rw (append_assoc c.under (fields ∷ []) rest, ← e) c.header;
-  whole = All-append (IsWhole columns) c.under (fields ∷ []) c.whole (All-cons (IsWhole columns) fields [] w (All-nil (IsWhole columns)));
+  whole = All-append (IsWholeRecord columns) c.under (fields ∷ []) c.whole (All-cons (IsWholeRecord columns) fields [] w (All-nil (IsWholeRecord columns)));
   have = rw (flat-more c.under fields) h;
   count = omega (arith, c.count, length-append c.under (fields ∷ []));
 }
@@ -134,7 +135,7 @@ collected-end records columns old left number count texts l e t n = record {
 }
 
 pub loaded-end : (records : List (List (List ℕ))) (columns : List (List ℕ)) (rows : List (List Value)) (left : List (List (List ℕ))) (number : ℕ)
-    → Loaded records columns rows left number → left ≡ [] → IsTable records columns rows
+    → Loaded records columns rows left number → left ≡ [] → AreTableRecords records columns rows
 loaded-end records columns rows left number l e = record {
   under = l.under;
   header = l.header ∙ rw (e, append-nil l.under) refl;

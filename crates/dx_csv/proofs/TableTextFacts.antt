@@ -18,7 +18,7 @@ use Rattle.dx_instance.specs.Stored.{TableRows, IsSorting, rows_of, table_at, wi
 use Rattle.dx_instance.specs.ValueText.{value_text_of}
 use Rattle.dx_csv.specs.Left.{left_from}
 use Rattle.dx_csv.specs.Table.{table_records}
-use Rattle.dx_csv.specs.Print.{HasNoMark, IsTableText, lines_text, table_lines}
+use Rattle.dx_csv.specs.Print.{HasNoMark, IsTableText, records_text, table_lines}
 use Rattle.dx_csv.proofs.LeftFacts.{left-next, left-none}
 
 -- ---- the lines that were written read back
@@ -26,10 +26,10 @@ nothing : next_record default_config st.StartRecord [] [] [] ≡ None
 unfolding next_record
 nothing = refl
 
-pub lines-read : (rows : List (List (List ℕ))) → left_from st.StartRecord (lines_text rows) ≡ map read_back rows
+pub lines-read : (rows : List (List (List ℕ))) → left_from st.StartRecord (records_text rows) ≡ map read_back rows
 lines-read [] = left-none st.StartRecord [] nothing
 lines-read (row ∷ rows) =
-    left-next st.StartRecord (row_text default_writer row ++ lines_text rows) (read_back row, st.StartRecord, lines_text rows) refl (read-write row (lines_text rows))
+    left-next st.StartRecord (row_text default_writer row ++ records_text rows) (read_back row, st.StartRecord, records_text rows) refl (read-write row (records_text rows))
     ∙ ap (λ (t : List (List (List ℕ))). read_back row ∷ t) (lines-read rows)
 
 -- a line with a field is that line again
@@ -126,15 +126,15 @@ row-small first (x ∷ fields) more = (
 )
 
 pub strip-lines : (columns : List (List ℕ)) (rest : List (List (List ℕ))) → 1 ≤ length columns → HasNoMark columns
-    → strip_bom (lines_text (columns ∷ rest)) ≡ lines_text (columns ∷ rest)
+    → strip_bom (records_text (columns ∷ rest)) ≡ records_text (columns ∷ rest)
 strip-lines [] rest h m = absurd (omega arith)
 strip-lines (first ∷ fields) rest h m =
-    let (xs, e, s) = row-small first fields (lines_text rest) in
+    let (xs, e, s) = row-small first fields (records_text rest) in
     rw e (strip-field first xs s m)
 
 -- a printed table reads back as its lines
 table-read : (columns : List (List ℕ)) (rows : List (List Value)) → 1 ≤ length columns → HasNoMark columns → Each rows (λ row. length row ≡ length columns)
-    → table_records (lines_text (table_lines columns rows)) ≡ table_lines columns rows
+    → table_records (records_text (table_lines columns rows)) ≡ table_lines columns rows
 table-read columns rows h m w =
     rw (strip-lines columns (map (map value_text_of) rows) h m)
     (lines-read (table_lines columns rows)
@@ -148,7 +148,7 @@ read_back-all (row ∷ rows) a =
     (ap (λ (t : List (List (List ℕ))). row ∷ t) (read_back-all rows (λ r m. a r (there m))))
 
 pub printed-reads-back : (first : List (List ℕ)) (rest : List (List (List ℕ))) → HasNoMark first → Each (first ∷ rest) (λ row. 1 ≤ length row)
-    → table_records (lines_text (first ∷ rest)) ≡ first ∷ rest
+    → table_records (records_text (first ∷ rest)) ≡ first ∷ rest
 printed-reads-back first rest m a =
     rw (strip-lines first rest (a first (here refl)) m) (lines-read (first ∷ rest) ∙ read_back-all (first ∷ rest) a)
 
@@ -226,7 +226,7 @@ rows-wide tables t h each = each (table_at tables t) (table-in tables t h)
 pub same-text : (columns : List (List ℕ)) (tables : List TableRows) (t : ℕ) (text : List ℕ)
     → t < length tables → length columns ≡ (table_at tables t).width → HasNoMark columns → RowsAscend (rows_of tables t)
     → Each tables (λ u. 1 ≤ u.width) → Each tables (λ u. Each u.rows (λ r. length r ≡ u.width))
-    → text ≡ lines_text (table_lines columns (rows_of tables t)) → IsTableText columns (rows_of tables t) text
+    → text ≡ records_text (table_lines columns (rows_of tables t)) → IsTableText columns (rows_of tables t) text
 same-text columns tables t text h w m ascend wide each e =
     let some = wide (table_at tables t) (table-in tables t h) in
     record {
@@ -241,7 +241,7 @@ same-text columns tables t text h w m ascend wide each e =
 pub table-text : (columns : List (List ℕ)) (old new : List TableRows) (t : ℕ) (text : List ℕ)
     → t < length old → length columns ≡ (table_at old t).width → HasNoMark columns → IsSorting old new
     → Each new (λ u. 1 ≤ u.width) → Each new (λ u. Each u.rows (λ r. length r ≡ u.width))
-    → text ≡ lines_text (table_lines columns (rows_of new t)) → IsTableText columns (rows_of old t) text
+    → text ≡ records_text (table_lines columns (rows_of new t)) → IsTableText columns (rows_of old t) text
 table-text columns old new t text h w m s wide each e =
     let many = as-many old new s in
     let inside = table-in new t (omega (arith, many)) in

@@ -5,11 +5,12 @@ use Rattle.dx_model.specs.declared.values.Value.{Value}
 use Rattle.dx_model.specs.declared.values.Value.TheVariants.{Const}
 use Rattle.dx_instance.specs.Numbers.{IsNumberOf}
 use Rattle.dx_used.specs.Used.{blanked}
-use Rattle.dx_csv.specs.Table.{IsTable, constants}
+use Rattle.dx_csv.specs.Table.{AreTableRecords}
+use Rattle.dx_model.specs.Values.{constants}
 
 -- the rows of a table, blank in the columns that are not used
 abbrev pub IsTableUsed : List Bool → List (List (List ℕ)) → List (List ℕ) → List (List Value) → Type 0
-IsTableUsed used records columns rows = (whole : List (List Value)) × IsTable records columns whole × (rows ≡ map (blanked used) whole)
+IsTableUsed used records columns rows = (whole : List (List Value)) × AreTableRecords records columns whole × (rows ≡ map (blanked used) whole)
 
 -- the constants of these texts, blank in the columns that are not used
 abbrev pub constants_used : List Bool → List (List ℕ) → List Value
@@ -20,20 +21,20 @@ abbrev pub is_used : List Bool → ℕ → Bool
 is_used used column = slice_index_or used column true
 
 -- the number is that of the empty constant
-abbrev pub IsBlank : List Value → ℕ → Type 0
-IsBlank symbols n = IsNumberOf symbols (Const []) (Some n)
+abbrev pub IsBlankNumber : List Value → ℕ → Type 0
+IsBlankNumber symbols n = IsNumberOf symbols (Const []) (Some n)
 
 -- the number is that of the empty constant, if some column is not used
 abbrev pub HasBlank : List Bool → List Value → ℕ → Type 0
-HasBlank used symbols n = false ∈ used → IsBlank symbols n
+HasBlank used symbols n = false ∈ used → IsBlankNumber symbols n
 
 -- the constant of a record in a column, blank if the column is not used
 abbrev pub constant_at : List Bool → List (List ℕ) → ℕ → ℕ → ℕ → Value
 constant_at used texts width r column = cond (is_used used column) (Const (slice_index_or texts (r * width + column) [])) (Const [])
 
 -- the cells of a column in the first n records have the numbers of their texts' constants
-abbrev pub AreNumbered : List Value → List (List ℕ) → ℕ → ℕ → List ℕ → ℕ → Type 0
-AreNumbered symbols texts width column cells n =
+abbrev pub AreNumbersOfTexts : List Value → List (List ℕ) → ℕ → ℕ → List ℕ → ℕ → Type 0
+AreNumbersOfTexts symbols texts width column cells n =
     (r : ℕ) → r < n → IsNumberOf symbols (Const (slice_index_or texts (r * width + column) [])) (Some (slice_index cells (r * width + column)))
 
 -- the cells of the other columns stay

@@ -2,7 +2,7 @@
 use Rattle.std.specs.Prelude.{◌≡◌, ◌++◌, ℕ, zero, suc, List, [], ◌∷◌, All, length, take, drop, string_bytes, IsUtf8}
 use Rattle.csv.specs.Records.{AllText, Rising, cut_from, last_end}
 use Rattle.dx_csv.specs.declared.fields.Fields.{Fields}
-use Rattle.dx_csv.specs.Table.{IsWhole}
+use Rattle.dx_csv.specs.Table.{IsWholeRecord}
 
 -- the fields that stand in the buffer
 abbrev pub fields_in : Fields → List (List ℕ)
@@ -41,6 +41,6 @@ records_in (suc n) width fields = take width fields ∷ records_in n width (drop
 pub record AreFields (records : List (List (List ℕ))) (columns : List (List ℕ)) (fields : List (List ℕ)) (count : ℕ) : Type 0 where
   pub under : List (List (List ℕ))
   pub header : records ≡ columns ∷ under
-  pub whole : All (IsWhole columns) under
+  pub whole : All (IsWholeRecord columns) under
   pub is : fields ≡ flat under
   pub many : count ≡ length under

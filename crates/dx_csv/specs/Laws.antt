@@ -4,18 +4,18 @@ use Rattle.dx_model.specs.declared.values.Value.{Value}
 use Rattle.dx_csv.specs.declared.fault.RowKind.{RowKind}
 use Rattle.dx_ports.specs.Members.{◌≈◌, Each}
 use Rattle.dx_instance.specs.ValueText.{ValueFits}
-use Rattle.dx_csv.specs.Print.{HasNoMark, IsTableText, lines_text}
-use Rattle.dx_csv.specs.Table.{IsAtFault, IsTable, table_records}
+use Rattle.dx_csv.specs.Print.{HasNoMark, IsTableText, records_text}
+use Rattle.dx_csv.specs.Table.{IsAtFault, AreTableRecords, table_records}
 
 -- records are a table of no two lists of rows
 abbrev pub TableIsOne : Type 0
 TableIsOne =
     (records : List (List (List ℕ))) (columns : List (List ℕ)) (a b : List (List Value))
-    → IsTable records columns a → IsTable records columns b → a ≡ b
+    → AreTableRecords records columns a → AreTableRecords records columns b → a ≡ b
 
 -- records have no two faults
-abbrev pub FaultIsOne : Type 0
-FaultIsOne =
+abbrev pub OneRowFault : Type 0
+OneRowFault =
     (records : List (List (List ℕ))) (columns : List (List ℕ)) (a b : RowKind)
     → IsAtFault records columns a → IsAtFault records columns b → a ≡ b
 
@@ -23,13 +23,13 @@ FaultIsOne =
 abbrev pub TableOrFault : Type 0
 TableOrFault =
     (records : List (List (List ℕ))) (columns : List (List ℕ))
-    → ((rows : List (List Value)) × IsTable records columns rows) ⊎ ((k : RowKind) × IsAtFault records columns k)
+    → ((rows : List (List Value)) × AreTableRecords records columns rows) ⊎ ((k : RowKind) × IsAtFault records columns k)
 
 -- and never both
-abbrev pub NeverBoth : Type 0
-NeverBoth =
+abbrev pub NeverTableAndFault : Type 0
+NeverTableAndFault =
     (records : List (List (List ℕ))) (columns : List (List ℕ)) (rows : List (List Value)) (k : RowKind)
-    → IsTable records columns rows → ¬ (IsAtFault records columns k)
+    → AreTableRecords records columns rows → ¬ (IsAtFault records columns k)
 
 -- records with a field each, of which the first does not begin with a byte order mark, are printed as a text that is read as
 -- just these records
@@ -37,9 +37,9 @@ abbrev pub PrintedReadsBack : Type 0
 PrintedReadsBack =
     (first : List (List ℕ)) (rest : List (List (List ℕ)))
     → HasNoMark first → Each (first ∷ rest) (λ (r : List (List ℕ)). 1 ≤ length r)
-    → table_records (lines_text (first ∷ rest)) ≡ first ∷ rest
+    → table_records (records_text (first ∷ rest)) ≡ first ∷ rest
 
--- tables with the same columns and the same text have the same rows, where the values fit
+-- tables with the same columns and the same text have the same rows, if the values fit
 abbrev pub TableTextsDiffer : Type 0
 TableTextsDiffer =
     (columns : List (List ℕ)) (rows others : List (List Value)) (text : List ℕ)

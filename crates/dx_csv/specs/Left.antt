@@ -10,14 +10,14 @@ use Rattle.csv.specs.declared.reader.Trim.TheVariants as trim
 abbrev pub left_from : State → List ℕ → List (List (List ℕ))
 left_from s xs = records_from default_config (length xs + 1) s xs
 
--- the records of what is unread, none where that is not known
+-- the records of what is unread, none if that is not known
 abbrev pub left_known : State → Option (List ℕ) → List (List (List ℕ))
 left_known s None = []
 left_known s (Some xs) = left_from s xs
 
--- the records that a reader has left, none where it has failed
-abbrev pub left_of : {R : Type 0} → (R → Option (List ℕ)) → Reader R → List (List (List ℕ))
-left_of rem r = left_known (reader_state r) (source_of rem r)
+-- the records that a reader has left, none if it has failed
+abbrev pub records_left : {R : Type 0} → (R → Option (List ℕ)) → Reader R → List (List (List ℕ))
+records_left rem r = left_known (reader_state r) (source_of rem r)
 
 -- a reader between two records, that takes rows of any length and no header row
 pub record IsBetween {R : Type 0} (rem : R → Option (List ℕ)) (r : Reader R) : Type 0 where

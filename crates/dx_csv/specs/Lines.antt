@@ -6,11 +6,11 @@ use Rattle.dx_instance.specs.ValueText.{full_stop, question_mark}
 use Rattle.dx_csv.specs.declared.lines.Lines.{Lines}
 use Rattle.dx_csv.specs.declared.lines.OpenLine.{OpenLine}
 use Rattle.dx_csv.specs.declared.lines.OpenLine.TheVariants.{NoField, NoByte, Bytes}
-use Rattle.dx_csv.specs.Print.{lines_text}
+use Rattle.dx_csv.specs.Print.{records_text}
 
 -- a field that calls for no quotes
-abbrev pub IsPlain : List ℕ → Type 0
-IsPlain field = needs_quotes default_writer field ≡ false
+abbrev pub NeedsNoQuotes : List ℕ → Type 0
+NeedsNoQuotes field = needs_quotes default_writer field ≡ false
 
 -- what the line of these fields shows
 abbrev pub open_line : List (List ℕ) → OpenLine
@@ -19,7 +19,7 @@ open_line (field ∷ rest) = if is_blank default_writer (field ∷ rest) then No
 
 -- these records are printed whole, and of the next one these fields
 pub record HavePrinted (lines : Lines) (records : List (List (List ℕ))) (fields : List (List ℕ)) : Type 0 where
-  pub text : lines.bytes.items ≡ lines_text records ++ row_body default_writer fields
+  pub text : lines.bytes.items ≡ records_text records ++ row_body default_writer fields
   pub line : lines.line ≡ open_line fields
 
 -- what stands before the next field of a line

@@ -42,16 +42,16 @@ pub record FieldAt (bytes : List ℕ) (place after : ℕ) (field : List ℕ) : T
   pub read : (fields : List (List ℕ)) → next_record default_config st.StartField fields [] (drop place bytes) ≡ next_record default_config state fields field (drop after bytes)
 
 -- a record of so many texts
-pub record IsWide (many : ℕ) (fields : List (List ℕ)) : Type 0 where
+pub record IsRecordOf (many : ℕ) (fields : List (List ℕ)) : Type 0 where
   pub width : length fields ≡ many
   pub text : AllText fields
 
 -- the record that begins at a place of the bytes, and the place after it
-pub record StandsAt (bytes : List ℕ) (place after : ℕ) (fields : List (List ℕ)) : Type 0 where
+pub record RecordStandsAt (bytes : List ℕ) (place after : ℕ) (fields : List (List ℕ)) : Type 0 where
   pub within : after ≤ length bytes
   pub read : left_from st.StartRecord (drop place bytes) ≡ fields ∷ left_from st.StartRecord (drop after bytes)
 
 -- from a place on the bytes have these records, all of so many texts
 pub record HasRecords (bytes : List ℕ) (place width : ℕ) (records : List (List (List ℕ))) : Type 0 where
   pub are : left_from st.StartRecord (drop place bytes) ≡ records
-  pub wide : All (IsWide width) records
+  pub wide : All (IsRecordOf width) records

@@ -10,8 +10,8 @@ use Rattle.dx_instance.specs.ValueText.{value_text_of}
 use Rattle.dx_csv.specs.Table.{table_records}
 
 -- the text of these records, one after the other
-abbrev pub lines_text : List (List (List ℕ)) → List ℕ
-lines_text records = flat_map (row_text default_writer) records
+abbrev pub records_text : List (List (List ℕ)) → List ℕ
+records_text records = flat_map (row_text default_writer) records
 
 -- the records of a table: the columns, and the value texts of each row
 abbrev pub table_lines : List (List ℕ) → List (List Value) → List (List (List ℕ))
@@ -28,5 +28,5 @@ pub record IsTableText (columns : List (List ℕ)) (rows : List (List Value)) (t
   pub ascend : RowsAscend sorted
   pub kept : rows ⊆ sorted
   pub only : sorted ⊆ rows
-  pub is : text ≡ lines_text (table_lines columns sorted)
+  pub is : text ≡ records_text (table_lines columns sorted)
   pub reads : table_records text ≡ table_lines columns sorted

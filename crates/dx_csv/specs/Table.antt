@@ -9,13 +9,14 @@ use Rattle.dx_csv.specs.declared.fault.RowFault.{RowFault}
 use Rattle.dx_csv.specs.declared.fault.RowFault.TheVariants as fault
 use Rattle.dx_csv.specs.declared.fault.RowKind.{RowKind}
 use Rattle.dx_csv.specs.declared.fault.RowKind.TheVariants as kind
+use Rattle.dx_model.specs.Values.{constants}
 
 -- the records of the bytes of a table
 abbrev pub table_records : List ℕ → List (List (List ℕ))
 table_records bytes = records_of default_config (strip_bom bytes)
 
 -- a record with a text for each column
-pub record IsWhole (columns fields : List (List ℕ)) : Type 0 where
+pub record IsWholeRecord (columns fields : List (List ℕ)) : Type 0 where
   pub width : length fields ≡ length columns
   pub text : AllText fields
 
@@ -24,15 +25,11 @@ pub record FirstDifference (xs ys : List (List ℕ)) (place : ℕ) : Type 0 wher
   pub before : take place xs ≡ take place ys
   pub here : slice_get xs place ≢ slice_get ys place
 
--- the constants of these texts
-abbrev pub constants : List (List ℕ) → List Value
-constants fields = map Const fields
-
 -- the header is the columns, and under it stands for each row a record of the texts of its constants
-pub record IsTable (records : List (List (List ℕ))) (columns : List (List ℕ)) (rows : List (List Value)) : Type 0 where
+pub record AreTableRecords (records : List (List (List ℕ))) (columns : List (List ℕ)) (rows : List (List Value)) : Type 0 where
   pub under : List (List (List ℕ))
   pub header : records ≡ columns ∷ under
-  pub whole : All (IsWhole columns) under
+  pub whole : All (IsWholeRecord columns) under
   pub values : rows ≡ map constants under
 
 -- the record of this number is the first that is not whole
@@ -40,7 +37,7 @@ pub record FirstFaulty (records : List (List (List ℕ))) (columns : List (List 
   pub good : List (List (List ℕ))
   pub rest : List (List (List ℕ))
   pub header : records ≡ columns ∷ (good ++ (fields ∷ rest))
-  pub whole : All (IsWhole columns) good
+  pub whole : All (IsWholeRecord columns) good
   pub place : number ≡ length good + 1
 
 -- the records have this fault
@@ -54,6 +51,6 @@ IsAtFault records columns (kind.NotText number) =
     (fields : List (List ℕ)) × FirstFaulty records columns number fields × (length fields ≡ length columns) × ¬ (AllText fields)
 
 -- why a table was not read: the records have the fault, or memory ran out
-abbrev pub HasFault : List (List (List ℕ)) → List (List ℕ) → RowFault → Type 0
-HasFault records columns (fault.Bad k) = IsAtFault records columns k
-HasFault records columns fault.Memory = ⊤
+abbrev pub HasTableFault : List (List (List ℕ)) → List (List ℕ) → RowFault → Type 0
+HasTableFault records columns (fault.Bad k) = IsAtFault records columns k
+HasTableFault records columns fault.Memory = ⊤

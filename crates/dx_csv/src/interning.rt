@@ -4,9 +4,9 @@ ghost use Rattle.dx_ports.specs.Members.{Each};
 ghost use Rattle.dx_instance.specs.Numbers.{Extends, value_of};
 ghost use Rattle.dx_model.specs.declared.values.Value.TheVariants.{Const};
 ghost use Rattle.dx_instance.specs.Shown.{AreBelow, shown_row};
-ghost use Rattle.dx_csv.specs.Blanks.{AreNumbered, AreSettled, HasBlank, IsTableUsed, OthersStay, constants_used, is_used};
+ghost use Rattle.dx_csv.specs.Blanks.{AreNumbersOfTexts, AreSettled, HasBlank, IsTableUsed, OthersStay, constants_used, is_used};
 ghost use Rattle.dx_csv.specs.Fields.{records_in};
-ghost use Rattle.dx_csv.specs.Table.{HasFault, table_records};
+ghost use Rattle.dx_csv.specs.Table.{HasTableFault, table_records};
 
 use crate::fault::RowFault;
 use crate::fields::Texts;
@@ -65,7 +65,7 @@ fn intern_column(
     requires texts { length texts.now ≡ count * width }
     requires cells { length cells.old.items ≡ count * width }
     ensures size { length cells.new.items ≡ length cells.old.items }
-    ensures numbered { OnOk result (AreNumbered symbols.new texts.now width column cells.new.items count) }
+    ensures numbered { OnOk result (AreNumbersOfTexts symbols.new texts.now width column cells.new.items count) }
     ensures others { OnOk result (OthersStay width column cells.old.items cells.new.items) }
     ensures grows { Extends symbols.old symbols.new }
 {
@@ -159,7 +159,7 @@ pub fn load_into(
     ensures rows { IfOk result (λ rows. IsTableUsed used.now (table_records bytes.now) columns.now (map (shown_row symbols.new) rows.rows)) }
     ensures width { IfOk result (λ rows. rows.width ≡ length columns.now) }
     ensures below { IfOk result (λ rows. Each rows.rows (AreBelow (length symbols.new))) }
-    ensures fault { IfErr result (HasFault (table_records bytes.now) columns.now) }
+    ensures fault { IfErr result (HasTableFault (table_records bytes.now) columns.now) }
     ensures grows { Extends symbols.old symbols.new }
 {
     let read = read_fields(alloc, bytes, columns)?;

@@ -1,5 +1,5 @@
 // The laws of reading and of printing. The definitions alone carry them: no body computes anything.
-ghost use Rattle.dx_csv.specs.Laws.{FaultIsOne, NeverBoth, PrintedReadsBack, TableIsOne, TableOrFault, TableTextsDiffer};
+ghost use Rattle.dx_csv.specs.Laws.{OneRowFault, NeverTableAndFault, PrintedReadsBack, TableIsOne, TableOrFault, TableTextsDiffer};
 
 /// Records are a table of one list of rows, or have one fault, and never both.
 pub fn one_reading()

@@ -3,8 +3,8 @@ ghost use Rattle.std.specs.Prelude.{◌≡◌, ◌<◌, ◌^◌, ◌++◌, ◌�
 ghost use Rattle.std.specs.Fmt.{decimal};
 ghost use Rattle.csv.specs.Writing.{default_writer, escaped, field_text, needs_quotes};
 ghost use Rattle.dx_instance.specs.ValueText.{NullFits, const_text, null_text, value_text_of};
-ghost use Rattle.dx_csv.specs.Lines.{HavePrinted, IsPlain, before_field, before_row, line_end, line_with};
-ghost use Rattle.dx_csv.specs.Print.{lines_text};
+ghost use Rattle.dx_csv.specs.Lines.{HavePrinted, NeedsNoQuotes, before_field, before_row, line_end, line_with};
+ghost use Rattle.dx_csv.specs.Print.{records_text};
 
 use dx_model::{NullId, Value};
 use itoa::Buffer;
@@ -87,7 +87,7 @@ impl Lines {
     /// `AllocError` if there is no memory.
     #[inline]
     pub fn plain_field(&mut self, field: &[u8]) -> Result<(), AllocError>
-        requires { IsPlain field.now }
+        requires { NeedsNoQuotes field.now }
         ensures { (records : List (List (List ℕ))) (fields : List (List ℕ)) → HavePrinted self.old records fields
             → OnOk result (HavePrinted self.new records (fields ++ field.now ∷ [])) }
     {
@@ -132,7 +132,7 @@ impl Lines {
     /// `AllocError` if there is no memory.
     #[inline]
     pub fn numbered(&mut self, letter: u8, number: u32) -> Result<(), AllocError>
-        requires { IsPlain (letter ∷ []) }
+        requires { NeedsNoQuotes (letter ∷ []) }
         ensures { (records : List (List (List ℕ))) (fields : List (List ℕ)) → HavePrinted self.old records fields
             → OnOk result (HavePrinted self.new records (fields ++ (letter ∷ decimal number) ∷ [])) }
     {
@@ -156,7 +156,7 @@ impl Lines {
 
     /// The text of the records, with no memory.
     pub fn into_bytes(self) -> Vec<u8>
-        ensures { (records : List (List (List ℕ))) → HavePrinted self records [] → result.items ≡ lines_text records }
+        ensures { (records : List (List (List ℕ))) → HavePrinted self records [] → result.items ≡ records_text records }
     {
         self.bytes
     }
@@ -225,7 +225,7 @@ fn push_mark(bytes: &mut Vec<u8>, mark: &[u8]) -> Result<(), AllocError>
 // A field that begins with a mark and calls for quotes.
 #[inline(never)]
 fn push_quoted(bytes: &mut Vec<u8>, mark: &[u8], field: &[u8]) -> Result<(), AllocError>
-    requires mark { IsPlain mark.now }
+    requires mark { NeedsNoQuotes mark.now }
     requires field { needs_quotes default_writer field.now ≡ true }
     ensures { OnOk result (bytes.new.items ≡ bytes.old.items ++ field_text default_writer (mark.now ++ field.now)) }
 {
@@ -239,7 +239,7 @@ fn push_quoted(bytes: &mut Vec<u8>, mark: &[u8], field: &[u8]) -> Result<(), All
 // A field that begins with a mark, in quotes if it calls for them.
 #[inline]
 fn push_field(bytes: &mut Vec<u8>, mark: &[u8], field: &[u8]) -> Result<(), AllocError>
-    requires { IsPlain mark.now }
+    requires { NeedsNoQuotes mark.now }
     ensures { OnOk result (bytes.new.items ≡ bytes.old.items ++ field_text default_writer (mark.now ++ field.now)) }
 {
     if calls_for_quotes(field) {
@@ -282,7 +282,7 @@ fn push_digits(bytes: &mut Vec<u8>, number: u32) -> Result<(), AllocError>
     bytes.extend_from_slice(buffer.format(number).as_bytes())
 }
 
-// A letter and the digits of a number, at once where it is one digit.
+// A letter and the digits of a number, at once if it is one digit.
 #[inline]
 #[tactic(auto, using(std::proofs::lemmas::Fmt::decimal_digit))]
 fn push_numbered(bytes: &mut Vec<u8>, letter: u8, number: u32) -> Result<(), AllocError>
@@ -334,7 +334,7 @@ fn push_null(bytes: &mut Vec<u8>, null: &NullId) -> Result<(), AllocError>
 /// `AllocError` if there is no memory.
 pub fn show_null(null: &NullId, shown: &mut Vec<u8>) -> Result<(), AllocError>
     ensures text { OnOk result (shown.new.items ≡ null_text null.now) }
-    ensures plain { IsPlain (null_text null.now) }
+    ensures plain { NeedsNoQuotes (null_text null.now) }
 {
     shown.clear();
     push_null(shown, null)

@@ -2,7 +2,8 @@
 ghost use Rattle.std.specs.Prelude.{◌≡◌, ◌<◌, ◌-◌, ◌^◌, ◌↔◌, ◌++◌, ◌∷◌, ℕ, List, length, true, false, IsTrue, IfOk, IfErr, IfSome, OnOk, MatchOption};
 ghost use Rattle.csv.specs.Records.{fields_of, AllText};
 ghost use Rattle.dx_csv.specs.Fields.{AreFields, HaveFields, fields_in};
-ghost use Rattle.dx_csv.specs.Table.{FirstDifference, HasFault, IsTable, constants, table_records};
+ghost use Rattle.dx_csv.specs.Table.{FirstDifference, HasTableFault, AreTableRecords, table_records};
+ghost use Rattle.dx_model.specs.Values.{constants};
 
 use crate::fault::{RowFault, RowKind};
 use crate::fields::{Fields, Texts};
@@ -43,7 +44,7 @@ fn first_difference(given: &ByteRecord, columns: &[Text]) -> Option<u32>
 fn read_header(alloc: Global, records: &mut Records, columns: &[Text]) -> Result<(), RowFault>
     requires { length columns.now < 2 ^ 32 - 1 }
     ensures header { OnOk result (records.old ≡ columns.now ∷ records.new) }
-    ensures fault { IfErr result (HasFault records.old columns.now) }
+    ensures fault { IfErr result (HasTableFault records.old columns.now) }
 {
     let mut header = ByteRecord::new(alloc);
     if !records.next(&mut header)? {
@@ -63,7 +64,7 @@ fn records_under<'a>(
 ) -> Result<Records<'a>, RowFault>
     requires { length columns.now < 2 ^ 32 - 1 }
     ensures under { IfOk result (λ under. table_records bytes.now ≡ columns.now ∷ under) }
-    ensures fault { IfErr result (HasFault (table_records bytes.now) columns.now) }
+    ensures fault { IfErr result (HasTableFault (table_records bytes.now) columns.now) }
 {
     let mut records = Records::new(alloc, bytes);
     read_header(alloc, &mut records, columns)?;
@@ -117,7 +118,7 @@ fn fields_under(
     columns: &[Text],
 ) -> Result<(Texts, u32), RowFault>
     ensures rows { IfOk result (λ read. AreFields (columns.now ∷ records.old) columns.now read.0 read.1) }
-    ensures fault { IfErr result (HasFault (columns.now ∷ records.old) columns.now) }
+    ensures fault { IfErr result (HasTableFault (columns.now ∷ records.old) columns.now) }
 {
     let mut record = ByteRecord::new(alloc);
     let mut fields = Fields::new(alloc);
@@ -136,8 +137,8 @@ fn fields_under(
     Err(RowFault::Memory)
 }
 
-/// The texts of a table's fields under the header, record by record, and how many records there are. Those of a table
-/// without quotes are read straight from its bytes.
+/// The texts of a table's fields under the header, record by record, and how many records there are. They are read straight
+/// from the bytes if each stands as it is or whole in quotes.
 pub(crate) fn read_fields(
     alloc: Global,
     bytes: &[u8],
@@ -145,7 +146,7 @@ pub(crate) fn read_fields(
 ) -> Result<(Texts, u32), RowFault>
     requires { length columns.now < 2 ^ 32 - 1 }
     ensures rows { IfOk result (λ read. AreFields (table_records bytes.now) columns.now read.0 read.1) }
-    ensures fault { IfErr result (HasFault (table_records bytes.now) columns.now) }
+    ensures fault { IfErr result (HasTableFault (table_records bytes.now) columns.now) }
 {
     let mut records = records_under(alloc, bytes, columns)?;
     match plain_fields(alloc, bytes, columns.len())? {
@@ -169,8 +170,8 @@ fn read_texts(alloc: Global, fields: Fields, count: u64) -> Result<(Texts, u32),
 
 // The rows of the records that are left.
 fn rows_under(alloc: Global, records: &mut Records, columns: &[Text]) -> Result<Vec<Row>, RowFault>
-    ensures rows { IfOk result (λ rows. IsTable (columns.now ∷ records.old) columns.now rows.items) }
-    ensures fault { IfErr result (HasFault (columns.now ∷ records.old) columns.now) }
+    ensures rows { IfOk result (λ rows. AreTableRecords (columns.now ∷ records.old) columns.now rows.items) }
+    ensures fault { IfErr result (HasTableFault (columns.now ∷ records.old) columns.now) }
 {
     let mut record = ByteRecord::new(alloc);
     let mut rows = Vec::new(alloc);
@@ -199,8 +200,8 @@ fn rows_under(alloc: Global, records: &mut Records, columns: &[Text]) -> Result<
 /// `Bad` with the fault of the first record at fault. `Memory` if there is no memory.
 pub fn load_table(alloc: Global, bytes: &[u8], columns: &[Text]) -> Result<Vec<Row>, RowFault>
     requires { length columns.now < 2 ^ 32 - 1 }
-    ensures rows { IfOk result (λ rows. IsTable (table_records bytes.now) columns.now rows.items) }
-    ensures fault { IfErr result (HasFault (table_records bytes.now) columns.now) }
+    ensures rows { IfOk result (λ rows. AreTableRecords (table_records bytes.now) columns.now rows.items) }
+    ensures fault { IfErr result (HasTableFault (table_records bytes.now) columns.now) }
 {
     let mut records = records_under(alloc, bytes, columns)?;
     rows_under(alloc, &mut records, columns)

@@ -2,7 +2,7 @@
 // reader of `csv`.
 ghost use Rattle.std.specs.Prelude.{◌≡◌, ◌≤◌, ◌<◌, ◌++◌, ◌∷◌, ◌+◌, ◌-◌, [], ℕ, List, All, true, IfOk, IfSome, drop, length, slice_index, take};
 ghost use Rattle.dx_csv.specs.Fields.{GrowsBy, HaveFields, HaveOpen, flat};
-ghost use Rattle.dx_csv.specs.Plain.{FieldAt, FirstQuote, HasRecords, IsWide, StandsAt, ends_line, is_quote, joins};
+ghost use Rattle.dx_csv.specs.Plain.{FieldAt, FirstQuote, HasRecords, IsRecordOf, RecordStandsAt, ends_line, is_quote, joins};
 ghost use Rattle.dx_csv.specs.Table.{table_records};
 
 use crate::fields::Fields;
@@ -132,7 +132,7 @@ fn push_plain(
 ) -> Result<Option<usize>, AllocError>
     requires { from ≤ length text.now }
     ensures { (old : List (List ℕ)) → HaveFields fields.old old → IfOk result (λ o. IfSome o (λ after. (found : List (List ℕ))
-        × StandsAt text.now from after found × IsWide width found × HaveFields fields.new (old ++ found))) }
+        × RecordStandsAt text.now from after found × IsRecordOf width found × HaveFields fields.new (old ++ found))) }
 {
     let bytes = text.as_bytes();
     if from == bytes.len() || ends_line(bytes[from]) {
@@ -197,7 +197,7 @@ pub(crate) fn plain_fields(
     width: usize,
 ) -> Result<Option<(Fields, u64)>, AllocError>
     ensures { IfOk result (λ o. IfSome o (λ read. (header : List (List ℕ)) × (rows : List (List (List ℕ)))
-        × (table_records bytes.now ≡ header ∷ rows) × All (IsWide width) rows × HaveFields read.0 (flat rows) × (read.1 ≡ length rows))) }
+        × (table_records bytes.now ≡ header ∷ rows) × All (IsRecordOf width) rows × HaveFields read.0 (flat rows) × (read.1 ≡ length rows))) }
 {
     let Ok(text) = str::from_utf8(bytes) else {
         return Ok(None);

@@ -5,7 +5,7 @@ ghost use Rattle.dx_instance.specs.Stored.{rows_of, table_at};
 ghost use Rattle.dx_model.specs.Values.{RowsAscend};
 ghost use Rattle.dx_instance.specs.ValueText.{value_text_of};
 ghost use Rattle.dx_csv.specs.Lines.{HavePrinted};
-ghost use Rattle.dx_csv.specs.Print.{HasNoMark, IsTableText, lines_text, table_lines};
+ghost use Rattle.dx_csv.specs.Print.{HasNoMark, IsTableText, records_text, table_lines};
 
 use crate::lines::Lines;
 use dx_instance::{Instance, Numbers};
@@ -56,7 +56,7 @@ fn text_of(alloc: Global, bytes: Vec<u8>) -> Result<Text, AllocError>
 ///
 /// `AllocError` if there is no memory.
 pub fn print_records(alloc: Global, records: &[Items<Text>]) -> Result<Text, AllocError>
-    ensures { IfOk result (λ t. t ≡ lines_text records.now) }
+    ensures { IfOk result (λ t. t ≡ records_text records.now) }
 {
     text_of(alloc, print_records_bytes(alloc, records)?)
 }
@@ -67,7 +67,7 @@ pub fn print_records(alloc: Global, records: &[Items<Text>]) -> Result<Text, All
 ///
 /// `AllocError` if there is no memory.
 pub fn print_records_bytes(alloc: Global, records: &[Items<Text>]) -> Result<Vec<u8>, AllocError>
-    ensures { IfOk result (λ bytes. bytes.items ≡ lines_text records.now) }
+    ensures { IfOk result (λ bytes. bytes.items ≡ records_text records.now) }
 {
     let mut lines = Lines::new(alloc);
     for record in records {
@@ -84,7 +84,7 @@ fn lines_of(
     table: u32,
 ) -> Result<Vec<u8>, AllocError>
     requires { table < length instance.now }
-    ensures { IfOk result (λ bytes. bytes.items ≡ lines_text (table_lines columns.now (rows_of instance.now table))) }
+    ensures { IfOk result (λ bytes. bytes.items ≡ records_text (table_lines columns.now (rows_of instance.now table))) }
 {
     let numbers = instance.numbers();
     let mut lines = Lines::new(alloc);

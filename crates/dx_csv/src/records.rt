@@ -16,11 +16,11 @@ pub(crate) struct Records<'a> {
 
 impl<'a> Model for Records<'a> {
     ghost use Rattle.std.specs.Prelude.{ℕ, List, [], ◌≡◌, false, Some, if◌then◌else◌};
-    ghost use Rattle.dx_csv.specs.Left.{left_of, IsBetween};
+    ghost use Rattle.dx_csv.specs.Left.{records_left, IsBetween};
 
     ghost Value = { List (List (List ℕ)) };
 
-    ghost view = { λ a. if a.done then [] else left_of (λ s. Some s.now) a.rdr };
+    ghost view = { λ a. if a.done then [] else records_left (λ s. Some s.now) a.rdr };
 
     ghost invariant = { λ a. a.done ≡ false → IsBetween (λ s. Some s.now) a.rdr };
 }

@@ -5,8 +5,9 @@ use Rattle.dx_ports.specs.declared.file.Count.{Count}
 use Rattle.dx_ports.specs.declared.file.Count.TheVariants.{SourceCells, TargetCells}
 use Rattle.dx_ports.specs.declared.file.Limit.{Limit as Passed}
 use Rattle.dx_model.specs.declared.facts.Fact.{Fact}
-use Rattle.dx_model.specs.Values.{Text, Tuple, Rows}
-use Rattle.dx_schema.specs.Names.{Named}
+use Rattle.dx_model.specs.Values.{Tuple, Rows}
+use Rattle.dx_ports.specs.Texts.{Text}
+use Rattle.dx_schema.specs.Names.{TableNames}
 use Rattle.dx_instance.specs.Stored.{facts, widths}
 use Rattle.dx_script.specs.declared.form.Out.TheVariants.{Column, Literal, Skolem}
 use Rattle.dx_script.specs.declared.form.Step.{Step}
@@ -15,8 +16,9 @@ use Rattle.dx_script.specs.Meaning.{Means}
 use Rattle.dx_eval.specs.declared.made.Made.{Made}
 use Rattle.dx_eval.specs.declared.fault.EvalFault.{EvalFault}
 use Rattle.dx_eval.specs.declared.fault.EvalFault.TheVariants.{Limit, Memory}
-use Rattle.dx_eval.specs.Evaluating.{AreMatchTables, IsMade, PassesLimit, cells_for, script_cells, tuples_of}
-use Rattle.dx_eval.specs.Finding.{IsRefusal}
+use Rattle.dx_eval.specs.Evaluating.{AreMatchTables, IsMade, ScriptPassesLimit, cells_for, script_cells}
+use Rattle.dx_model.specs.Matches.{rows_of_matches}
+use Rattle.dx_eval.specs.Finding.{IsEvalRefusal}
 
 -- rule 0 fills two rows of two cells for each tuple, the second from its keep table, and rule 1 one row of one
 abbrev steps : List Step
@@ -61,26 +63,26 @@ abbrev targets_in : EvalFault → Bool
 targets_in (Limit l) = counts_target l.what
 targets_in Memory = false
 
-module _ (source target : List Named) (call : Text → Tuple → Text) (I : List Fact) where
+module _ (source target : List TableNames) (call : Text → Tuple → Text) (I : List Fact) where
   -- as many cells as the limit are made
-  at_the_limit : (m : Made) → Means source target call steps I (tuples_of m.matches) (facts m.instance)
-      → widths m.instance ≡ map (λ (t : Named). length t.columns) target → script_cells steps (tuples_of m.matches) ≡ 14
+  at_the_limit : (m : Made) → Means source target call steps I (rows_of_matches m.matches) (facts m.instance)
+      → widths m.instance ≡ map (λ (t : TableNames). length t.columns) target → script_cells steps (rows_of_matches m.matches) ≡ 14
       → IsMade source target call steps I 14 m
   at_the_limit m means wide e = record { means = means; within = omega (arith, e); wide = wide }
 
   -- one more passes it, and is told with the limit
   over_the_limit : AreMatchTables source call steps I tables
-      → PassesLimit source call steps I 13 (Limit (record { what = TargetCells; number = 13 }))
+      → ScriptPassesLimit source call steps I 13 (Limit (record { what = TargetCells; number = 13 }))
   over_the_limit are = record { tables = tables; are = are; more = omega (arith, cells); fault = refl }
 
   -- another number, or another count, is not the fault of a limit, and want of memory is none
-  other_number : ¬ PassesLimit source call steps I 13 (Limit (record { what = TargetCells; number = 14 }))
+  other_number : ¬ ScriptPassesLimit source call steps I 13 (Limit (record { what = TargetCells; number = 14 }))
   other_number h = let e : 14 ≡ 13 = ap number_in h.fault in omega (arith, e)
 
-  other_count : ¬ PassesLimit source call steps I 13 (Limit (record { what = SourceCells; number = 13 }))
+  other_count : ¬ ScriptPassesLimit source call steps I 13 (Limit (record { what = SourceCells; number = 13 }))
   other_count h = let e : false ≡ true = ap targets_in h.fault in absurd (cc e)
 
-  want_of_memory : ¬ PassesLimit source call steps I 13 Memory
+  want_of_memory : ¬ ScriptPassesLimit source call steps I 13 Memory
   want_of_memory h = absurd (cc h.fault)
 
   -- no step passes no limit: a refusal is told for want of memory alone
@@ -88,17 +90,17 @@ module _ (source target : List Named) (call : Text → Tuple → Text) (I : List
   none_found [] are = refl
   none_found (ts ∷ others) are = let w = are.no_more 0 (omega arith) in elim w.3 [ ]
 
-  nothing_is_refused : (l : Passed) → ¬ IsRefusal source call [] I 0 (Limit l)
+  nothing_is_refused : (l : Passed) → ¬ IsEvalRefusal source call [] I 0 (Limit l)
   nothing_is_refused l h =
-      let p : PassesLimit source call [] I 0 (Limit l) = h in
+      let p : ScriptPassesLimit source call [] I 0 (Limit l) = h in
       let none = ap (script_cells []) (none_found p.tables p.are) in
       let more = p.more in
       omega (arith, more, none)
 
   -- a target without tables is made of no script, if the schema has one
-  missing_table : (t : Named) (limit : ℕ) (m : Made) → widths m.instance ≡ [] → ¬ IsMade source (t ∷ target) call steps I limit m
+  missing_table : (t : TableNames) (limit : ℕ) (m : Made) → widths m.instance ≡ [] → ¬ IsMade source (t ∷ target) call steps I limit m
   missing_table t limit m e h = absurd (cc (sym e ∙ h.wide))
 
   -- a table without rows has its width still
-  other_width : (t : Named) (limit : ℕ) (m : Made) → widths m.instance ≡ suc (length t.columns) ∷ [] → ¬ IsMade source (t ∷ []) call steps I limit m
+  other_width : (t : TableNames) (limit : ℕ) (m : Made) → widths m.instance ≡ suc (length t.columns) ∷ [] → ¬ IsMade source (t ∷ []) call steps I limit m
   other_width t limit m e h = let w = ap (λ (z : List ℕ). get_or z 0 0) (sym e ∙ h.wide) in omega (arith, w)

@@ -9,11 +9,12 @@ use Rattle.dx_ports.proofs.Tests.{map_same}
 use Rattle.dx_model.specs.declared.facts.Fact.{Fact}
 use Rattle.dx_model.specs.declared.values.Value.{Value}
 use Rattle.dx_model.specs.declared.values.Value.TheVariants.{Const, Null}
-use Rattle.dx_model.specs.Values.{Text, Tuple, tuple_cmp}
+use Rattle.dx_model.specs.Values.{Tuple, tuple_cmp}
+use Rattle.dx_ports.specs.Texts.{Text}
 use Rattle.dx_model.proofs.Ascending.{from_in_order, in_in_order, in_order, in_order_ascends}
 use Rattle.dx_model.proofs.Decided.{same_list}
 use Rattle.dx_model.proofs.Orders.{tuple_exact, tuple_total}
-use Rattle.dx_schema.specs.Names.{Named}
+use Rattle.dx_schema.specs.Names.{TableNames}
 use Rattle.dx_funcs.specs.declared.conversion.Conversion.{Conversion}
 use Rattle.dx_script.specs.declared.form.CellRef.{CellRef}
 use Rattle.dx_script.specs.declared.form.Select.{Select}
@@ -21,7 +22,7 @@ use Rattle.dx_script.specs.declared.form.Select.TheVariants.{Cell, Call}
 use Rattle.dx_script.specs.declared.form.Equal.{Equal}
 use Rattle.dx_script.specs.Fits.{CellFits, SelectFits}
 use Rattle.dx_script.specs.Names.{column_named, table_named}
-use Rattle.dx_script.specs.Meaning.{IsMatchTable, cell_text, selected, table_of_alias}
+use Rattle.dx_script.specs.Meaning.{IsMatchTable, alias_cell_text, selected, table_of_alias}
 use Rattle.dx_eval.specs.Query.{IsSelected}
 
 -- ---- tuples of a table
@@ -116,29 +117,29 @@ front_at rows (suc n) (suc a) h = front_at (λ b. rows (suc b)) n a (omega arith
 
 -- ---- what is selected
 
-module _ (source : List Named) (list : List Conversion) (call : Text → Tuple → Text) (I : List Fact) (select : List Select) (sources : List Text) (equal : List Equal)
+module _ (source : List TableNames) (list : List Conversion) (call : Text → Tuple → Text) (I : List Fact) (select : List Select) (sources : List Text) (equal : List Equal)
     (selects : Each select (SelectFits source list sources)) (equals : Each equal (λ (e : Equal). CellFits source sources e.left × CellFits source sources e.right)) where
   abbrev by : List Tuple → ℕ → Tuple
   by rows a = slice_index_or rows a []
 
   Agrees : List Tuple → Type 0
-  Agrees rows = (e : Equal) → e ∈ equal → cell_text source sources (by rows) e.left ≡ cell_text source sources (by rows) e.right
+  Agrees rows = (e : Equal) → e ∈ equal → alias_cell_text source sources (by rows) e.left ≡ alias_cell_text source sources (by rows) e.right
 
-  agree_in : (rows : List Tuple) (es : List Equal) → ((e : Equal) → e ∈ es → cell_text source sources (by rows) e.left ≡ cell_text source sources (by rows) e.right)
-      ⊎ (¬ ((e : Equal) → e ∈ es → cell_text source sources (by rows) e.left ≡ cell_text source sources (by rows) e.right))
+  agree_in : (rows : List Tuple) (es : List Equal) → ((e : Equal) → e ∈ es → alias_cell_text source sources (by rows) e.left ≡ alias_cell_text source sources (by rows) e.right)
+      ⊎ (¬ ((e : Equal) → e ∈ es → alias_cell_text source sources (by rows) e.left ≡ alias_cell_text source sources (by rows) e.right))
   agree_in rows [] = inl (λ e m. elim m [ ])
-  agree_in rows (q ∷ es) = elim (same_list cases_eq (cell_text source sources (by rows) q.left) (cell_text source sources (by rows) q.right)) [
+  agree_in rows (q ∷ es) = elim (same_list cases_eq (alias_cell_text source sources (by rows) q.left) (alias_cell_text source sources (by rows) q.right)) [
     | inr n ↦ inr (λ h. n (h q (here refl)))
     | inl p ↦ elim (agree_in rows es) [ inr n ↦ inr (λ h. n (λ e m. h e (there m))) | inl k ↦ inl (both p k) ]
   ]
     where
-      both : cell_text source sources (by rows) q.left ≡ cell_text source sources (by rows) q.right → ((e : Equal) → e ∈ es → cell_text source sources (by rows) e.left ≡ cell_text source sources (by rows) e.right)
-          → (e : Equal) → e ∈ (q ∷ es) → cell_text source sources (by rows) e.left ≡ cell_text source sources (by rows) e.right
-      both p k e (here d) = subst (λ (z : Equal). cell_text source sources (by rows) z.left ≡ cell_text source sources (by rows) z.right) d p
+      both : alias_cell_text source sources (by rows) q.left ≡ alias_cell_text source sources (by rows) q.right → ((e : Equal) → e ∈ es → alias_cell_text source sources (by rows) e.left ≡ alias_cell_text source sources (by rows) e.right)
+          → (e : Equal) → e ∈ (q ∷ es) → alias_cell_text source sources (by rows) e.left ≡ alias_cell_text source sources (by rows) e.right
+      both p k e (here d) = subst (λ (z : Equal). alias_cell_text source sources (by rows) z.left ≡ alias_cell_text source sources (by rows) z.right) d p
       both p k e (there m) = k e m
 
-  tuple_if : (rows : List Tuple) → ((e : Equal) → e ∈ equal → cell_text source sources (by rows) e.left ≡ cell_text source sources (by rows) e.right)
-      ⊎ (¬ ((e : Equal) → e ∈ equal → cell_text source sources (by rows) e.left ≡ cell_text source sources (by rows) e.right)) → List Tuple
+  tuple_if : (rows : List Tuple) → ((e : Equal) → e ∈ equal → alias_cell_text source sources (by rows) e.left ≡ alias_cell_text source sources (by rows) e.right)
+      ⊎ (¬ ((e : Equal) → e ∈ equal → alias_cell_text source sources (by rows) e.left ≡ alias_cell_text source sources (by rows) e.right)) → List Tuple
   tuple_if rows (inl g) = map (selected source call sources (by rows)) select ∷ []
   tuple_if rows (inr n) = []
 
@@ -160,8 +161,8 @@ module _ (source : List Named) (list : List Conversion) (call : Text → Tuple �
   unfolding some tuple_if
   from_some t m = let w = from_flat_map (λ (rows : List Tuple). tuple_if rows (agree_in rows equal)) (choices tables) m in go w.0 w.1 (agree_in w.0 equal) w.2
     where
-      go : (rows : List Tuple) → rows ∈ choices tables → (o : ((e : Equal) → e ∈ equal → cell_text source sources (by rows) e.left ≡ cell_text source sources (by rows) e.right)
-          ⊎ (¬ ((e : Equal) → e ∈ equal → cell_text source sources (by rows) e.left ≡ cell_text source sources (by rows) e.right))) → t ∈ tuple_if rows o → IsSelected source call I select sources equal t
+      go : (rows : List Tuple) → rows ∈ choices tables → (o : ((e : Equal) → e ∈ equal → alias_cell_text source sources (by rows) e.left ≡ alias_cell_text source sources (by rows) e.right)
+          ⊎ (¬ ((e : Equal) → e ∈ equal → alias_cell_text source sources (by rows) e.left ≡ alias_cell_text source sources (by rows) e.right))) → t ∈ tuple_if rows o → IsSelected source call I select sources equal t
       go rows k (inl g) (here e) = (
         by rows,
         record {
@@ -174,12 +175,12 @@ module _ (source : List Named) (list : List Conversion) (call : Text → Tuple �
       go rows k (inr n) q = elim q [ ]
 
   -- cells below the aliases have the texts of the list
-  same_cell : (rows : ℕ → Tuple) (c : CellRef) → CellFits source sources c → cell_text source sources (by (front rows (length sources))) c ≡ cell_text source sources rows c
+  same_cell : (rows : ℕ → Tuple) (c : CellRef) → CellFits source sources c → alias_cell_text source sources (by (front rows (length sources))) c ≡ alias_cell_text source sources rows c
   same_cell rows c f = ap (λ (r : Tuple). slice_index_or r (column_named source (table_of_alias source sources c.alias) c.column) []) (front_at rows (length sources) c.alias f.alias)
 
   same_select : (rows : ℕ → Tuple) (s : Select) → SelectFits source list sources s → selected source call sources (by (front rows (length sources))) s ≡ selected source call sources rows s
   same_select rows (Cell c) f = same_cell rows c f
-  same_select rows (Call name args) f = ap (call name) (map_same (cell_text source sources (by (front rows (length sources)))) (cell_text source sources rows) args (λ c m. same_cell rows c (f.1 c m)))
+  same_select rows (Call name args) f = ap (call name) (map_same (alias_cell_text source sources (by (front rows (length sources)))) (alias_cell_text source sources rows) args (λ c m. same_cell rows c (f.1 c m)))
 
   in_some : (t : Tuple) → IsSelected source call I select sources equal t → t ∈ some
   unfolding some tuple_if
@@ -188,15 +189,15 @@ module _ (source : List Named) (list : List Conversion) (call : Text → Tuple �
       let member : listed ∈ choices tables = in_choices tables listed (front_long rows (length sources) ∙ sym tables_long) (λ a h.
       let k : a < length sources = rw (← tables_long) h in
       rw (front_at rows (length sources) a k, table_at a k) (in_rows I (table_of_alias source sources a) (rows a) (g.of_source a k))) in
-      let agrees : (q : Equal) → q ∈ equal → cell_text source sources (by listed) q.left ≡ cell_text source sources (by listed) q.right =
+      let agrees : (q : Equal) → q ∈ equal → alias_cell_text source sources (by listed) q.left ≡ alias_cell_text source sources (by listed) q.right =
       (λ q m. same_cell rows q.left (equals q m).0 ∙ (g.agree q m ∙ sym (same_cell rows q.right (equals q m).1))) in
       let same : map (selected source call sources (by listed)) select ≡ t =
       map_same (selected source call sources (by listed)) (selected source call sources rows) select (λ s m. same_select rows s (selects s m)) ∙ sym e in
       in_flat_map (λ (r : List Tuple). tuple_if r (agree_in r equal)) member (subst (λ (z : Tuple). z ∈ tuple_if listed (agree_in listed equal)) same (go (agree_in listed equal) agrees))
     where
-      go : (o : ((q : Equal) → q ∈ equal → cell_text source sources (by (front rows (length sources))) q.left ≡ cell_text source sources (by (front rows (length sources))) q.right)
-          ⊎ (¬ ((q : Equal) → q ∈ equal → cell_text source sources (by (front rows (length sources))) q.left ≡ cell_text source sources (by (front rows (length sources))) q.right)))
-          → ((q : Equal) → q ∈ equal → cell_text source sources (by (front rows (length sources))) q.left ≡ cell_text source sources (by (front rows (length sources))) q.right)
+      go : (o : ((q : Equal) → q ∈ equal → alias_cell_text source sources (by (front rows (length sources))) q.left ≡ alias_cell_text source sources (by (front rows (length sources))) q.right)
+          ⊎ (¬ ((q : Equal) → q ∈ equal → alias_cell_text source sources (by (front rows (length sources))) q.left ≡ alias_cell_text source sources (by (front rows (length sources))) q.right)))
+          → ((q : Equal) → q ∈ equal → alias_cell_text source sources (by (front rows (length sources))) q.left ≡ alias_cell_text source sources (by (front rows (length sources))) q.right)
           → map (selected source call sources (by (front rows (length sources)))) select ∈ tuple_if (front rows (length sources)) o
       go (inl h) k = here refl
       go (inr n) k = absurd (n k)

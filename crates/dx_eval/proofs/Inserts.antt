@@ -12,7 +12,8 @@ use Rattle.dx_ports.proofs.Members.{from_append, from_flat_map, from_map, in_at,
 use Rattle.dx_model.specs.declared.facts.Fact.{Fact}
 use Rattle.dx_model.specs.declared.values.Value.{Value}
 use Rattle.dx_model.specs.declared.values.Value.TheVariants.{Const, Null}
-use Rattle.dx_model.specs.Values.{Text, Tuple, Rows}
+use Rattle.dx_model.specs.Values.{Tuple, Rows}
+use Rattle.dx_ports.specs.Texts.{Text}
 use Rattle.dx_instance.specs.Cells.{NumberTable, numbers_at}
 use Rattle.dx_instance.specs.Numbers.{Extends, value_of}
 use Rattle.dx_instance.specs.Shown.{AreBelow, shown_row}
@@ -20,7 +21,7 @@ use Rattle.dx_instance.specs.Stored.{IsSorting, TableRows, facts, table_at, widt
 use Rattle.dx_instance.proofs.StoredFacts.{fact_from_row, row_from_fact}
 use Rattle.dx_joins.specs.Shown.{AreTexts, texts_of}
 use Rattle.dx_schema.specs.Forest.{Forest}
-use Rattle.dx_schema.specs.Names.{Named, named_of, names_of_table}
+use Rattle.dx_schema.specs.Names.{TableNames, table_names_of, names_of_table}
 use Rattle.dx_schema.specs.Tables.{TableOf, schema_widths, tables_of}
 use Rattle.dx_instance.proofs.ShownFacts.{longer, grown_row}
 use Rattle.dx_joins.proofs.Growing.{texts_stay, texts_grow}
@@ -31,15 +32,16 @@ use Rattle.dx_script.specs.declared.form.Step.{Step}
 use Rattle.dx_script.specs.declared.form.Step.TheVariants.{Create, MatchRows, KeepRows, InsertRows}
 use Rattle.dx_script.specs.Names.{table_named, table_numbered}
 use Rattle.dx_script.proofs.Made.{named_count}
-use Rattle.dx_script.specs.Meaning.{IsInserted, IsKept, in_column, inserted, match_table, tuple_at}
-use Rattle.dx_tgd.specs.Gained.{Gains}
+use Rattle.dx_script.specs.Meaning.{IsInserted, IsInKeepTable, in_column, inserted, match_table}
+use Rattle.dx_model.specs.Covers.{tuple_at}
+use Rattle.dx_tgd.specs.Gained.{GainsFacts}
 use Rattle.dx_tgd.specs.Planned.{StandsAs}
 use Rattle.dx_tgd.specs.Texts.{tuples_in}
 use Rattle.dx_tgd.proofs.Ascending.{row_there}
 use Rattle.dx_tgd.proofs.Gaining.{gains_more, gains_next, gains_nothing}
 use Rattle.dx_tgd.proofs.Steps.{tuples_grown}
 use Rattle.dx_eval.specs.Keeping.{Stay}
-use Rattle.dx_eval.specs.Inserting.{IsInsertedBelow, OutStands, fact_at, facts_by, facts_in, placed_fact}
+use Rattle.dx_eval.specs.Inserting.{IsInsertedBelow, OutStands, inserted_fact, facts_by, inserted_facts, placed_fact}
 use Rattle.dx_eval.specs.Variables.{width_named}
 use Rattle.dx_eval.proofs.Partners.{column_is, constant_is}
 
@@ -77,18 +79,18 @@ filled_more S T U row buffer new r k cells i n out h is st tu texts below shown 
 -- ---- what is gained
 
 -- what one step more makes
-pub gains_step : {I J K : List TableRows} (g : Step → List Fact) (steps : List Step) (i : ℕ) (s : Step) → i < length steps → s ≡ get_or steps i s → Gains I J (flat_map g (take i steps)) → Gains J K (g s) → Gains I K (flat_map g (take (i + 1) steps))
+pub gains_step : {I J K : List TableRows} (g : Step → List Fact) (steps : List Step) (i : ℕ) (s : Step) → i < length steps → s ≡ get_or steps i s → GainsFacts I J (flat_map g (take i steps)) → GainsFacts J K (g s) → GainsFacts I K (flat_map g (take (i + 1) steps))
 gains_step {I} {J} {K} g steps i s h e a b =
     let all : flat_map g (take (i + 1) steps) ≡ flat_map g (take i steps) ++ g s =
     ap (flat_map g) (take_more steps i s h ∙ ap (λ z. take i steps ++ z ∷ []) (sym e)) ∙ (flat_map-append g (take i steps) (s ∷ []) ∙ ap (λ z. flat_map g (take i steps) ++ z) (append-nil (g s))) in
     rw all (gains_more (flat_map g (take i steps)) (g s) a b)
 
 -- a step that makes nothing
-pub gains_same : {I J : List TableRows} (g : Step → List Fact) (steps : List Step) (i : ℕ) (s : Step) → i < length steps → s ≡ get_or steps i s → g s ≡ [] → Gains I J (flat_map g (take i steps)) → Gains I J (flat_map g (take (i + 1) steps))
+pub gains_same : {I J : List TableRows} (g : Step → List Fact) (steps : List Step) (i : ℕ) (s : Step) → i < length steps → s ≡ get_or steps i s → g s ≡ [] → GainsFacts I J (flat_map g (take i steps)) → GainsFacts I J (flat_map g (take (i + 1) steps))
 gains_same {I} {J} g steps i s h e n a = gains_step g steps i s h e a (rw n (gains_nothing J))
 
 -- a step of another kind, or of another rule
-pub other_facts : (target : List Named) (r : ℕ) (tuples : List Tuple) (places : List ℕ) (s : Step) → ((table : Text) (kept : Bool) (cells : List Out) → ¬ (s ≡ InsertRows table r kept cells)) → facts_in target r tuples places s ≡ []
+pub other_facts : (target : List TableNames) (r : ℕ) (tuples : List Tuple) (places : List ℕ) (s : Step) → ((table : Text) (kept : Bool) (cells : List Out) → ¬ (s ≡ InsertRows table r kept cells)) → inserted_facts target r tuples places s ≡ []
 other_facts target r tuples places (Create table columns) n = refl
 other_facts target r tuples places (MatchRows q a b c) n = refl
 other_facts target r tuples places (KeepRows q unless) n = refl
@@ -97,26 +99,26 @@ other_facts target r tuples places (InsertRows table q kept cells) n = elim (cas
   | inr f ↦ rw f refl
 ]
 
-pub own_facts : (target : List Named) (r : ℕ) (tuples : List Tuple) (places : List ℕ) (s : Step) (table : Text) (kept : Bool) (cells : List Out) → s ≡ InsertRows table r kept cells → facts_in target r tuples places s ≡ map (fact_at target table r tuples cells) places
+pub own_facts : (target : List TableNames) (r : ℕ) (tuples : List Tuple) (places : List ℕ) (s : Step) (table : Text) (kept : Bool) (cells : List Out) → s ≡ InsertRows table r kept cells → inserted_facts target r tuples places s ≡ map (inserted_fact target table r tuples cells) places
 own_facts target r tuples places s table kept cells e = rw (e, eq-eqb r r refl) refl
 
 -- ---- rules
 
-module _ (target : List Named) (steps : List Step) (tables : Rows) where
+module _ (target : List TableNames) (steps : List Step) (tables : Rows) where
   below_none : (I : List TableRows) → facts I ≡ [] → (f : Fact) → (f ∈ facts I) ↔ IsInsertedBelow target steps tables 0 f
   below_none I e f = ((λ m. elim (rw e at m) [ ]), (λ w. absurd (let l = w.low in omega arith)))
 
   -- the facts of one rule
   from_facts : (r : ℕ) (places : List ℕ) (f : Fact) → Stay steps tables r places → f ∈ facts_by target steps r (match_table tables r) places → (w : IsInserted target steps tables f) × (w.rule ≡ r)
-  from_facts r places f stay m = let w = from_flat_map (facts_in target r (match_table tables r) places) steps m in go w.0 w.1 w.2
+  from_facts r places f stay m = let w = from_flat_map (inserted_facts target r (match_table tables r) places) steps m in go w.0 w.1 w.2
     where
-      made : (table : Text) (kept : Bool) (cells : List Out) → InsertRows table r kept cells ∈ steps → f ∈ map (fact_at target table r (match_table tables r) cells) places → (w : IsInserted target steps tables f) × (w.rule ≡ r)
+      made : (table : Text) (kept : Bool) (cells : List Out) → InsertRows table r kept cells ∈ steps → f ∈ map (inserted_fact target table r (match_table tables r) cells) places → (w : IsInserted target steps tables f) × (w.rule ≡ r)
       made table kept cells k n =
-          let p = from_map (fact_at target table r (match_table tables r) cells) places n in
+          let p = from_map (inserted_fact target table r (match_table tables r) cells) places n in
           let q = (stay p.0).0 p.1 in
           (record { table = table; rule = r; kept = kept; cells = cells; step = k; place = p.0; within = q.0; stays = λ t. q.1; is = p.2 }, refl)
 
-      go : (s : Step) → s ∈ steps → f ∈ facts_in target r (match_table tables r) places s → (w : IsInserted target steps tables f) × (w.rule ≡ r)
+      go : (s : Step) → s ∈ steps → f ∈ inserted_facts target r (match_table tables r) places s → (w : IsInserted target steps tables f) × (w.rule ≡ r)
       go (Create table columns) k n = elim n [ ]
       go (MatchRows q a b c) k n = elim n [ ]
       go (KeepRows q unless) k n = elim n [ ]
@@ -129,15 +131,15 @@ module _ (target : List Named) (steps : List Step) (tables : Rows) where
       → Stay steps tables r places → (w : IsInserted target steps tables f) → w.rule ≡ r → f ∈ facts_by target steps r (match_table tables r) places
   to_facts r places f reads stay w e =
       let k : InsertRows w.table r w.kept w.cells ∈ steps = subst (λ z. InsertRows w.table z w.kept w.cells ∈ steps) e w.step in
-      let kept : IsKept steps tables r (tuple_at tables r w.place) = (λ unless m. (subst (λ z. IsKept steps tables z (tuple_at tables z w.place)) e (w.stays (reads w.table r w.kept w.cells unless k m))) unless m) in
+      let kept : IsInKeepTable steps tables r (tuple_at tables r w.place) = (λ unless m. (subst (λ z. IsInKeepTable steps tables z (tuple_at tables z w.place)) e (w.stays (reads w.table r w.kept w.cells unless k m))) unless m) in
       let place : w.place ∈ places = (stay w.place).1 (subst (λ z. w.place < length (match_table tables z)) e w.within, kept) in
-      let is : fact_at target w.table r (match_table tables r) w.cells w.place ≡ f =
+      let is : inserted_fact target w.table r (match_table tables r) w.cells w.place ≡ f =
       subst (λ z. ◌≡◌ {A = Fact} (record { table = table_named target w.table; row = map (inserted z w.place (tuple_at tables z w.place)) w.cells }) f) e w.is in
-      in_flat_map (facts_in target r (match_table tables r) places) k (rw (eq-eqb r r refl) (subst (λ z. z ∈ map (fact_at target w.table r (match_table tables r) w.cells) places) is (in_map (fact_at target w.table r (match_table tables r) w.cells) place)))
+      in_flat_map (inserted_facts target r (match_table tables r) places) k (rw (eq-eqb r r refl) (subst (λ z. z ∈ map (inserted_fact target w.table r (match_table tables r) w.cells) places) is (in_map (inserted_fact target w.table r (match_table tables r) w.cells) place)))
 
   -- one rule more
   pub rule_more : (r : ℕ) (places : List ℕ) (J K : List TableRows) → ((table : Text) (q : ℕ) (kept : Bool) (cells : List Out) (unless : List Unless) → InsertRows table q kept cells ∈ steps → KeepRows q unless ∈ steps → IsTrue kept)
-      → Stay steps tables r places → Gains J K (facts_by target steps r (match_table tables r) places) → ((f : Fact) → (f ∈ facts J) ↔ IsInsertedBelow target steps tables r f) → (f : Fact) → (f ∈ facts K) ↔ IsInsertedBelow target steps tables (r + 1) f
+      → Stay steps tables r places → GainsFacts J K (facts_by target steps r (match_table tables r) places) → ((f : Fact) → (f ∈ facts J) ↔ IsInsertedBelow target steps tables r f) → (f : Fact) → (f ∈ facts K) ↔ IsInsertedBelow target steps tables (r + 1) f
   rule_more r places J K reads stay g old f = (
     (λ m. elim (g.only f m) [
       | inl l ↦ let w = (old f).0 l in record { step = w.step; low = let k = w.low in omega (arith, k) }
@@ -161,7 +163,7 @@ module _ (target : List Named) (steps : List Step) (tables : Rows) where
       inside (t ∷ ts) zero p l = omega arith
       inside (t ∷ ts) (suc r) p l = let i = inside ts r p l in omega (arith, i)
 
-pub none_below : (target : List Named) (steps : List Step) (tables : Rows) (I : List TableRows) → facts I ≡ [] → (f : Fact) → (f ∈ facts I) ↔ IsInsertedBelow target steps tables 0 f
+pub none_below : (target : List TableNames) (steps : List Step) (tables : Rows) (I : List TableRows) → facts I ≡ [] → (f : Fact) → (f ∈ facts I) ↔ IsInsertedBelow target steps tables 0 f
 none_below target steps tables I e f = below_none target steps tables I e f
 
 -- the same facts in order
@@ -195,12 +197,12 @@ stands_is (Err x) S v w e a b = tt
 
 pub gains_at : {I J K : List TableRows} (S T U : List Value) (rows : List (List ℕ)) (row numbers : List ℕ) (table r k i : ℕ) (places : List ℕ) (cells : List Out)
     → i < length places → k ≡ get_or places i k → k < length rows → row ≡ numbers_at rows k → Extends S T → Each rows (AreTexts S) → shown_row U numbers ≡ map (inserted r k (texts_of T row)) cells
-    → Gains I J (map (placed_fact table r (map (texts_of S) rows) cells) (take i places)) → Gains J K (record { table = table; row = shown_row U numbers } ∷ []) → Gains I K (map (placed_fact table r (map (texts_of S) rows) cells) (take (i + 1) places))
+    → GainsFacts I J (map (placed_fact table r (map (texts_of S) rows) cells) (take i places)) → GainsFacts J K (record { table = table; row = shown_row U numbers } ∷ []) → GainsFacts I K (map (placed_fact table r (map (texts_of S) rows) cells) (take (i + 1) places))
 gains_at {I} {J} {K} S T U rows row numbers table r k i places cells h ke low is grows texts shown old new =
     let mine : AreTexts S row = row_there S rows k row texts low is in
     let tuple : texts_of T row ≡ slice_index_or (map (texts_of S) rows) k [] = texts_stay S T row grows mine ∙ (ap (texts_of S) is ∙ sym (get_or-map (texts_of S) rows k [] [] low)) in
     let values : shown_row U numbers ≡ map (inserted r k (slice_index_or (map (texts_of S) rows) k [])) cells = shown ∙ ap (λ (t : Tuple). map (inserted r k t) cells) tuple in
-    gains_next (placed_fact table r (map (texts_of S) rows) cells) places i k h ke old (subst (λ (vs : List Value). Gains J K (record { table = table; row = vs } ∷ [])) values new)
+    gains_next (placed_fact table r (map (texts_of S) rows) cells) places i k h ke old (subst (λ (vs : List Value). GainsFacts J K (record { table = table; row = vs } ∷ [])) values new)
 
 pub place_low : (places : List ℕ) (i k n : ℕ) → i < length places → k ≡ get_or places i k → Each places (λ j. j < n) → k < n
 place_low places i k n h e f = each_item (λ (j : ℕ). j < n) places i k h e f
@@ -216,22 +218,22 @@ wide_as I J t w h = ap (λ (z : List ℕ). slice_index z t) (sym w) ∙ get_or-m
 
 -- ---- a step of a rule
 
-pub gains_insert : {I J K : List TableRows} (target : List Named) (steps : List Step) (i : ℕ) (s : Step) (name : Text) (table r : ℕ) (kept : Bool) (cells : List Out) (S T : List Value) (rows : List (List ℕ)) (places : List ℕ)
+pub gains_insert : {I J K : List TableRows} (target : List TableNames) (steps : List Step) (i : ℕ) (s : Step) (name : Text) (table r : ℕ) (kept : Bool) (cells : List Out) (S T : List Value) (rows : List (List ℕ)) (places : List ℕ)
     → i < length steps → s ≡ get_or steps i s → s ≡ InsertRows name r kept cells → table ≡ table_named target name → Extends S T → Each rows (AreTexts S)
-    → Gains I J (facts_by target (take i steps) r (map (texts_of S) rows) places) → Gains J K (map (placed_fact table r (map (texts_of T) rows) cells) places)
-    → Gains I K (facts_by target (take (i + 1) steps) r (map (texts_of S) rows) places)
+    → GainsFacts I J (facts_by target (take i steps) r (map (texts_of S) rows) places) → GainsFacts J K (map (placed_fact table r (map (texts_of T) rows) cells) places)
+    → GainsFacts I K (facts_by target (take (i + 1) steps) r (map (texts_of S) rows) places)
 gains_insert {I} {J} {K} target steps i s name table r kept cells S T rows places h is variant te grows texts old new =
-    let named : Gains J K (map (placed_fact (table_named target name) r (map (texts_of T) rows) cells) places) = subst (λ (z : ℕ). Gains J K (map (placed_fact z r (map (texts_of T) rows) cells) places)) te new in
-    let same : Gains J K (map (fact_at target name r (map (texts_of S) rows) cells) places) =
-    subst (λ (ts : List Tuple). Gains J K (map (fact_at target name r ts cells) places)) (tuples_grown S T rows grows texts) named in
+    let named : GainsFacts J K (map (placed_fact (table_named target name) r (map (texts_of T) rows) cells) places) = subst (λ (z : ℕ). GainsFacts J K (map (placed_fact z r (map (texts_of T) rows) cells) places)) te new in
+    let same : GainsFacts J K (map (inserted_fact target name r (map (texts_of S) rows) cells) places) =
+    subst (λ (ts : List Tuple). GainsFacts J K (map (inserted_fact target name r ts cells) places)) (tuples_grown S T rows grows texts) named in
     let own = own_facts target r (map (texts_of S) rows) places s name kept cells variant in
-    gains_step (facts_in target r (map (texts_of S) rows) places) steps i s h is old (subst (λ (fs : List Fact). Gains J K fs) (sym own) same)
+    gains_step (inserted_facts target r (map (texts_of S) rows) places) steps i s h is old (subst (λ (fs : List Fact). GainsFacts J K fs) (sym own) same)
 
-pub all_gained : {I J : List TableRows} (g : Step → List Fact) (steps : List Step) (i : ℕ) → length steps ≤ i → Gains I J (flat_map g (take i steps)) → Gains I J (flat_map g steps)
-all_gained {I} {J} g steps i h a = subst (λ (z : List Step). Gains I J (flat_map g z)) (take_all i steps h) a
+pub all_gained : {I J : List TableRows} (g : Step → List Fact) (steps : List Step) (i : ℕ) → length steps ≤ i → GainsFacts I J (flat_map g (take i steps)) → GainsFacts I J (flat_map g steps)
+all_gained {I} {J} g steps i h a = subst (λ (z : List Step). GainsFacts I J (flat_map g z)) (take_all i steps h) a
 
-pub all_placed : {I J : List TableRows} (f : ℕ → Fact) (places : List ℕ) (i : ℕ) → length places ≤ i → Gains I J (map f (take i places)) → Gains I J (map f places)
-all_placed {I} {J} f places i h a = subst (λ (z : List ℕ). Gains I J (map f z)) (take_all i places h) a
+pub all_placed : {I J : List TableRows} (f : ℕ → Fact) (places : List ℕ) (i : ℕ) → length places ≤ i → GainsFacts I J (map f (take i places)) → GainsFacts I J (map f places)
+all_placed {I} {J} f places i h a = subst (λ (z : List ℕ). GainsFacts I J (map f z)) (take_all i places h) a
 
 pub insert_of_another : (s : Step) (name : Text) (q r : ℕ) (kept : Bool) (cells : List Out) → s ≡ InsertRows name q kept cells → ¬ (q ≡ r) → (t : Text) (k : Bool) (cs : List Out) → ¬ (s ≡ InsertRows t r k cs)
 insert_of_another s name q r kept cells e n t k cs d = n (same (sym e ∙ d))
@@ -244,13 +246,13 @@ step_in steps i s t h is e = subst (λ (z : Step). z ∈ steps) (sym is ∙ e) (
 
 -- ---- the columns of a table
 
-pub widths_named : (f : Forest) → schema_widths f ≡ map (λ (n : Named). length n.columns) (named_of f)
-widths_named f = sym (map-map (λ (n : Named). length n.columns) names_of_table (tables_of f))
+pub widths_named : (f : Forest) → schema_widths f ≡ map (λ (n : TableNames). length n.columns) (table_names_of f)
+widths_named f = sym (map-map (λ (n : TableNames). length n.columns) names_of_table (tables_of f))
 
-pub wide_columns : (f : Forest) (t : ℕ) → t < length (tables_of f) → slice_index (schema_widths f) t ≡ length (table_numbered (named_of f) t).columns
+pub wide_columns : (f : Forest) (t : ℕ) → t < length (tables_of f) → slice_index (schema_widths f) t ≡ length (table_numbered (table_names_of f) t).columns
 wide_columns f t h =
     let n = named_count f in
-    ap (λ (z : List ℕ). slice_index z t) (widths_named f) ∙ get_or-map (λ (n : Named). length n.columns) (named_of f) t (record { name = []; columns = [] }) 0 (omega (arith, n, h))
+    ap (λ (z : List ℕ). slice_index z t) (widths_named f) ∙ get_or-map (λ (n : TableNames). length n.columns) (table_names_of f) t (record { name = []; columns = [] }) 0 (omega (arith, n, h))
 
 -- ---- all rules
 
@@ -274,19 +276,19 @@ places_low S ts steps r t places h is stay k m =
     omega (arith, a, e)
 
 -- one rule more, whose tuples are read when the symbols have grown
-pub rule_more_grown : (target : List Named) (steps : List Step) (S T : List Value) (ts : List NumberTable) (r : ℕ) (t : NumberTable) (places : List ℕ) (J K : List TableRows)
+pub rule_more_grown : (target : List TableNames) (steps : List Step) (S T : List Value) (ts : List NumberTable) (r : ℕ) (t : NumberTable) (places : List ℕ) (J K : List TableRows)
     → ((table : Text) (q : ℕ) (kept : Bool) (cells : List Out) (unless : List Unless) → InsertRows table q kept cells ∈ steps → KeepRows q unless ∈ steps → IsTrue kept)
     → Extends S T → Each ts (λ (u : NumberTable). Each u.rows (AreTexts S)) → r < length ts → t ≡ get_or ts r t → Stay steps (tuples_in T ts) r places
-    → Gains J K (facts_by target steps r (map (texts_of T) t.rows) places) → ((f : Fact) → (f ∈ facts J) ↔ IsInsertedBelow target steps (tuples_in S ts) r f)
+    → GainsFacts J K (facts_by target steps r (map (texts_of T) t.rows) places) → ((f : Fact) → (f ∈ facts J) ↔ IsInsertedBelow target steps (tuples_in S ts) r f)
     → (f : Fact) → (f ∈ facts K) ↔ IsInsertedBelow target steps (tuples_in S ts) (r + 1) f
 rule_more_grown target steps S T ts r t places J K reads grows texts h is stay gained old =
     let same = tuples_all_grown S T ts grows texts in
     let stays : Stay steps (tuples_in S ts) r places = subst (λ (z : Rows). Stay steps z r places) same stay in
     let tuples : map (texts_of T) t.rows ≡ match_table (tuples_in S ts) r = sym (tuples_of_rule T ts r t h is) ∙ ap (λ (z : Rows). match_table z r) same in
-    let gains : Gains J K (facts_by target steps r (match_table (tuples_in S ts) r) places) = subst (λ (z : List Tuple). Gains J K (facts_by target steps r z places)) tuples gained in
+    let gains : GainsFacts J K (facts_by target steps r (match_table (tuples_in S ts) r) places) = subst (λ (z : List Tuple). GainsFacts J K (facts_by target steps r z places)) tuples gained in
     rule_more target steps (tuples_in S ts) r places J K reads stays gains old
 
-pub all_inserted : (target : List Named) (steps : List Step) (S : List Value) (ts : List NumberTable) (n : ℕ) (I : List TableRows) → length ts ≤ n
+pub all_inserted : (target : List TableNames) (steps : List Step) (S : List Value) (ts : List NumberTable) (n : ℕ) (I : List TableRows) → length ts ≤ n
     → ((f : Fact) → (f ∈ facts I) ↔ IsInsertedBelow target steps (tuples_in S ts) n f) → (f : Fact) → (f ∈ facts I) ↔ IsInserted target steps (tuples_in S ts) f
 all_inserted target steps S ts n I h f =
     let l = length-map ts (λ (t : NumberTable). map (texts_of S) t.rows) in
@@ -301,7 +303,7 @@ table_low f I t w h =
     let e = ap length w in
     omega (arith, a, b, e, h)
 
-pub cells_wide : (f : Forest) (I : List TableRows) (name : Text) (t : ℕ) (cells items : List Out) → widths I ≡ schema_widths f → t < length (tables_of f) → t ≡ table_named (named_of f) name
-    → length cells ≡ width_named (named_of f) name → items ≡ cells → length items ≡ slice_index (widths I) t
+pub cells_wide : (f : Forest) (I : List TableRows) (name : Text) (t : ℕ) (cells items : List Out) → widths I ≡ schema_widths f → t < length (tables_of f) → t ≡ table_named (table_names_of f) name
+    → length cells ≡ width_named (table_names_of f) name → items ≡ cells → length items ≡ slice_index (widths I) t
 cells_wide f I name t cells items w h te many same =
-    ap length same ∙ (many ∙ (ap (λ (z : ℕ). length (table_numbered (named_of f) z).columns) (sym te) ∙ (sym (wide_columns f t h) ∙ ap (λ (ws : List ℕ). slice_index ws t) (sym w))))
+    ap length same ∙ (many ∙ (ap (λ (z : ℕ). length (table_numbered (table_names_of f) z).columns) (sym te) ∙ (sym (wide_columns f t h) ∙ ap (λ (ws : List ℕ). slice_index ws t) (sym w))))

@@ -7,14 +7,15 @@ use Rattle.std.proofs.lemmas.List.{get_or-map, get_or_append_left, get_or_push, 
 use Rattle.std.proofs.lemmas.List.FromFn.{length-range_with_len}
 use Rattle.dx_ports.specs.Members.{◌∈◌, here, there, Each}
 use Rattle.dx_ports.proofs.Members.{from_append, in_left, in_right}
-use Rattle.dx_model.specs.Values.{Text, Tuple}
-use Rattle.dx_schema.specs.Names.{Named}
+use Rattle.dx_model.specs.Values.{Tuple}
+use Rattle.dx_ports.specs.Texts.{Text}
+use Rattle.dx_schema.specs.Names.{TableNames}
 use Rattle.dx_script.specs.declared.form.CellRef.{CellRef}
 use Rattle.dx_script.specs.declared.form.Equal.{Equal}
 use Rattle.dx_script.specs.Fits.{CellFits}
 use Rattle.dx_script.specs.Names.{column_named, table_named}
 use Rattle.dx_script.specs.Meaning.{table_of_alias}
-use Rattle.dx_eval.specs.Variables.{Agree, AreSeparate, AreVariables, AreWide, HasVariable, IsCell, IsJoined, Meet, cell_count, renamed, row_of, variable_at, variable_of, width_named}
+use Rattle.dx_eval.specs.Variables.{EqualCellsAgree, AreSeparate, AreVariables, AreWide, HasVariable, AliasHasCell, IsUnified, Meet, cell_count, renamed, alias_variables, alias_variable, variable_of, width_named}
 use Rattle.dx_eval.proofs.NumberOfNames.{column_within}
 use Rattle.dx_eval.proofs.Sums.{total, total_more, total_same}
 
@@ -34,26 +35,26 @@ module _ (vars : List (List ℕ)) (row : List ℕ) where
   abbrev last : ℕ
   last = length vars
 
-  row_old : (a : ℕ) → a < last → row_of more a ≡ row_of vars a
+  row_old : (a : ℕ) → a < last → alias_variables more a ≡ alias_variables vars a
   row_old a h = get_or_append_left vars (row ∷ []) [] a h
 
-  row_new : row_of more last ≡ row
+  row_new : alias_variables more last ≡ row
   row_new = get_or_push vars row [] last refl
 
-  cell_old : (a c : ℕ) → IsCell vars a c → IsCell more a c
+  cell_old : (a c : ℕ) → AliasHasCell vars a c → AliasHasCell more a c
   cell_old a c h =
       let r = h.row in
       let k = h.cell in
       record { row = omega (arith, r, length-append vars (row ∷ [])); cell = rw (row_old a h.row) k }
 
-  cell_new : (c : ℕ) → c < length row → IsCell more last c
+  cell_new : (c : ℕ) → c < length row → AliasHasCell more last c
   cell_new c h = record { row = omega (arith, length-append vars (row ∷ [])); cell = rw row_new h }
 
   -- a cell is an old one, or one of the new row
   record Where (a c : ℕ) : Type 0 where
-    is : (IsCell vars a c × (variable_at more a c ≡ variable_at vars a c)) ⊎ ((a ≡ last) × (c < length row) × (variable_at more a c ≡ slice_index row c))
+    is : (AliasHasCell vars a c × (alias_variable more a c ≡ alias_variable vars a c)) ⊎ ((a ≡ last) × (c < length row) × (alias_variable more a c ≡ slice_index row c))
 
-  cell_where : (a c : ℕ) → IsCell more a c → Where a c
+  cell_where : (a c : ℕ) → AliasHasCell more a c → Where a c
   cell_where a c h = elim (cases_lt a last) [
     | inl l ↦
         let e = row_old a l in
@@ -61,13 +62,13 @@ module _ (vars : List (List ℕ)) (row : List ℕ) where
     | inr g ↦
         let r = h.row in
         let q : a ≡ last = omega (arith, r, length-append vars (row ∷ [])) in
-        let e : row_of more a ≡ row = ap (row_of more) q ∙ row_new in
+        let e : alias_variables more a ≡ row = ap (alias_variables more) q ∙ row_new in
         record { is = inr (q, rw e at h.cell, ap (λ (r : List ℕ). slice_index r c) e) }
   ]
 
 -- ---- each cell its own variable
 
-pub separate_start : (source : List Named) → AreSeparate source [] [] 0
+pub separate_start : (source : List TableNames) → AreSeparate source [] [] 0
 separate_start source = record {
   shape = record { many = refl; wide = λ a h. absurd (omega arith) };
   below_n = λ a c h. absurd (let r = h.row in omega arith);
@@ -76,13 +77,13 @@ separate_start source = record {
   count = refl;
 }
 
-wide_more : (source : List Named) (names : List Text) (vars : List (List ℕ)) (name : Text) (row : List ℕ) → AreWide source names vars → length row ≡ width_named source name → AreWide source (names ++ name ∷ []) (vars ++ row ∷ [])
+wide_more : (source : List TableNames) (names : List Text) (vars : List (List ℕ)) (name : Text) (row : List ℕ) → AreWide source names vars → length row ≡ width_named source name → AreWide source (names ++ name ∷ []) (vars ++ row ∷ [])
 wide_more source names vars name row s w = record {
   many = let m = s.many in omega (arith, m, length-append vars (row ∷ []), length-append names (name ∷ []));
   wide = λ a h. at a h (cases_lt a (length vars));
 }
   where
-    at : (a : ℕ) → a < length (names ++ name ∷ []) → (a < length vars) ⊎ (length vars ≤ a) → length (row_of (vars ++ row ∷ []) a) ≡ width_named source (slice_index_or (names ++ name ∷ []) a [])
+    at : (a : ℕ) → a < length (names ++ name ∷ []) → (a < length vars) ⊎ (length vars ≤ a) → length (alias_variables (vars ++ row ∷ []) a) ≡ width_named source (slice_index_or (names ++ name ∷ []) a [])
     at a h (inl l) =
         let m = s.many in
         let k : a < length names = omega (arith, m, l) in
@@ -93,7 +94,7 @@ wide_more source names vars name row s w = record {
         let p : length names ≡ a = omega (arith, q, m) in
         rw (get_or_push vars row [] a q, get_or_push names name [] a p) w
 
-pub separate_more : (source : List Named) (names : List Text) (vars : List (List ℕ)) (n w : ℕ) (name : Text) → AreSeparate source names vars n → w ≡ width_named source name
+pub separate_more : (source : List TableNames) (names : List Text) (vars : List (List ℕ)) (n w : ℕ) (name : Text) → AreSeparate source names vars n → w ≡ width_named source name
     → AreSeparate source (names ++ name ∷ []) (vars ++ range_with_len n w ∷ []) (n + w)
 separate_more source names vars n w name s e = record {
   shape = wide_more source names vars name (range_with_len n w) s.shape (length-range_with_len n w ∙ e);
@@ -103,7 +104,7 @@ separate_more source names vars n w name s e = record {
   count = counted;
 }
   where
-    low : (a c : ℕ) → Where vars (range_with_len n w) a c → variable_at (vars ++ (range_with_len n w) ∷ []) a c < n + w
+    low : (a c : ℕ) → Where vars (range_with_len n w) a c → alias_variable (vars ++ (range_with_len n w) ∷ []) a c < n + w
     low a c h = elim (h.is) [
       | inl o ↦ let b = s.below_n a c o.0 in let q = o.1 in omega (arith, b, q)
       | inr o ↦ let l : c < w = rw (length-range_with_len n w) at o.1 in let q = o.2 in let r = range_at n w c l in omega (arith, l, q, r)
@@ -124,7 +125,7 @@ separate_more source names vars n w name s e = record {
           is = ap (λ (z : List ℕ). slice_index z c) (row_new vars (range_with_len n w)) ∙ omega (arith, r, g);
         }
 
-    single : (a c b d : ℕ) → Where vars (range_with_len n w) a c → Where vars (range_with_len n w) b d → variable_at (vars ++ (range_with_len n w) ∷ []) a c ≡ variable_at (vars ++ (range_with_len n w) ∷ []) b d → (a ≡ b) × (c ≡ d)
+    single : (a c b d : ℕ) → Where vars (range_with_len n w) a c → Where vars (range_with_len n w) b d → alias_variable (vars ++ (range_with_len n w) ∷ []) a c ≡ alias_variable (vars ++ (range_with_len n w) ∷ []) b d → (a ≡ b) × (c ≡ d)
     single a c b d h k q = elim (h.is) [
       | inl o ↦ elim (k.is) [
         | inl p ↦ s.own a c b d o.0 p.0 (sym o.1 ∙ (q ∙ p.1))
@@ -152,8 +153,8 @@ separate_more source names vars n w name s e = record {
 
     counted : cell_count (vars ++ (range_with_len n w) ∷ []) ≡ n + w
     counted =
-        let f : ℕ → ℕ = λ a. length (row_of (vars ++ (range_with_len n w) ∷ []) a) in
-        let g : ℕ → ℕ = λ a. length (row_of vars a) in
+        let f : ℕ → ℕ = λ a. length (alias_variables (vars ++ (range_with_len n w) ∷ []) a) in
+        let g : ℕ → ℕ = λ a. length (alias_variables vars a) in
         let l : length (vars ++ (range_with_len n w) ∷ []) ≡ suc (length vars) = omega (arith, length-append vars ((range_with_len n w) ∷ [])) in
         let a = ap (total f) l in
         let b = total_more f (length vars) in
@@ -162,7 +163,7 @@ separate_more source names vars n w name s e = record {
         let q = s.count in
         a ∙ (b ∙ omega (arith, c, d, q))
 
-pub separate_variables : (source : List Named) (sources : List Text) (vars : List (List ℕ)) (n : ℕ) → n < 2 ^ 32 → AreSeparate source sources vars n → AreVariables source sources [] vars n
+pub separate_variables : (source : List TableNames) (sources : List Text) (vars : List (List ℕ)) (n : ℕ) → n < 2 ^ 32 → AreSeparate source sources vars n → AreVariables source sources [] vars n
 separate_variables source sources vars n small s = record {
   shape = s.shape;
   below_n = s.below_n;
@@ -279,10 +280,10 @@ module _ (x y k g n : ℕ) (pair : Pair x y k g) (less : k < g) (within : g < n)
         | inr q ↦ ap (renamed k g l) (sym q.1) ∙ (a ∙ (sym b ∙ ap (renamed k g l) q.0))
       ]
 
-  renamed_joins : (old : List (List ℕ)) → IsJoined x y old (map (map by) old) n (n - 1)
+  renamed_joins : (old : List (List ℕ)) → IsUnified x y old (map (map by) old) n (n - 1)
   renamed_joins old = record { by = by; is = refl; one = both_one; only = only_two; within = stays_within; onto = reached }
 
-pub joined_by_name : (x y n k g m : ℕ) (old new : List (List ℕ)) → ¬ (x ≡ y) → x < n → y < n → k ≡ min x y → g ≡ max x y → m ≡ n - 1 → new ≡ map (map (renamed k g m)) old → IsJoined x y old new n m
+pub joined_by_name : (x y n k g m : ℕ) (old new : List (List ℕ)) → ¬ (x ≡ y) → x < n → y < n → k ≡ min x y → g ≡ max x y → m ≡ n - 1 → new ≡ map (map (renamed k g m)) old → IsUnified x y old new n m
 unfolding l by
 joined_by_name x y n k g m old new d a b e f h is =
     rw (is, h) (renamed_joins x y k g n pair (omega (arith, d, e, f)) (omega (arith, a, b, f)) old)
@@ -301,7 +302,7 @@ maps_themselves : (rows : List (List ℕ)) → map (map (λ x. x)) rows ≡ rows
 maps_themselves [] = refl
 maps_themselves (r ∷ rows) = let a = map_itself r in let b = maps_themselves rows in cc
 
-pub joined_already : (x y n : ℕ) (old : List (List ℕ)) → x ≡ y → IsJoined x y old old n n
+pub joined_already : (x y n : ℕ) (old : List (List ℕ)) → x ≡ y → IsUnified x y old old n n
 joined_already x y n old e = record {
   by = λ u. u;
   is = sym (maps_themselves old);
@@ -313,18 +314,18 @@ joined_already x y n old e = record {
 
 -- ---- one equation more
 
-module _ (source : List Named) (sources : List Text) (vars : List (List ℕ)) (s : AreWide source sources vars) where
-  pub fits_cell : (c : CellRef) → CellFits source sources c → IsCell vars c.alias (column_named source (table_of_alias source sources c.alias) c.column)
+module _ (source : List TableNames) (sources : List Text) (vars : List (List ℕ)) (s : AreWide source sources vars) where
+  pub fits_cell : (c : CellRef) → CellFits source sources c → AliasHasCell vars c.alias (column_named source (table_of_alias source sources c.alias) c.column)
   fits_cell c f =
       let w = s.wide c.alias f.alias in
       let k = column_within source (table_of_alias source sources c.alias) c.column f.column in
       record { row = rw s.many f.alias; cell = rw w k }
 
-pub joined_variables : (source : List Named) (sources : List Text) (equal : List Equal) (e : Equal) (old new : List (List ℕ)) (n m : ℕ) → Each (equal ++ e ∷ []) (λ (q : Equal). CellFits source sources q.left × CellFits source sources q.right)
-    → AreVariables source sources equal old n → IsJoined (variable_of source sources old e.left) (variable_of source sources old e.right) old new n m → AreVariables source sources (equal ++ e ∷ []) new m
+pub joined_variables : (source : List TableNames) (sources : List Text) (equal : List Equal) (e : Equal) (old new : List (List ℕ)) (n m : ℕ) → Each (equal ++ e ∷ []) (λ (q : Equal). CellFits source sources q.left × CellFits source sources q.right)
+    → AreVariables source sources equal old n → IsUnified (variable_of source sources old e.left) (variable_of source sources old e.right) old new n m → AreVariables source sources (equal ++ e ∷ []) new m
 joined_variables source sources equal e old new n m fit v j = record {
-  shape = record { many = many ∙ v.shape.many; wide = λ a h. ap length (row_is a (rw v.shape.many h)) ∙ (length-map (row_of old a) j.by ∙ v.shape.wide a h) };
-  below_n = λ a c h. let k = cell_back a c h in subst (λ x. x < m) (sym (at a c k)) (j.within (variable_at old a c) (v.below_n a c k));
+  shape = record { many = many ∙ v.shape.many; wide = λ a h. ap length (row_is a (rw v.shape.many h)) ∙ (length-map (alias_variables old a) j.by ∙ v.shape.wide a h) };
+  below_n = λ a c h. let k = cell_back a c h in subst (λ x. x < m) (sym (at a c k)) (j.within (alias_variable old a c) (v.below_n a c k));
   all = λ w h.
       let o = j.onto w h in
       let x = v.all o.0 o.1 in
@@ -336,12 +337,12 @@ joined_variables source sources equal e old new n m fit v j = record {
   apart = λ rows g a c b d h k q.
       let hh = cell_back a c h in
       let kk = cell_back b d k in
-      let before : Agree source sources equal rows = λ p i. g p (in_left (e ∷ []) i) in
+      let before : EqualCellsAgree source sources equal rows = λ p i. g p (in_left (e ∷ []) i) in
       let one = g e (in_right equal (here refl)) in
       let f = fit e (in_right equal (here refl)) in
       let le = fits_cell source sources old v.shape e.left f.0 in
       let ri = fits_cell source sources old v.shape e.right f.1 in
-      let meet = j.only (variable_at old a c) (variable_at old b d) (v.below_n a c hh) (v.below_n b d kk) (sym (at a c hh) ∙ (q ∙ at b d kk)) in
+      let meet = j.only (alias_variable old a c) (alias_variable old b d) (v.below_n a c hh) (v.below_n b d kk) (sym (at a c hh) ∙ (q ∙ at b d kk)) in
       elim (meet.only) [
         | inl same ↦ v.apart rows before a c b d hh kk same
         | inr o ↦ elim o [
@@ -355,19 +356,19 @@ joined_variables source sources equal e old new n m fit v j = record {
     many : length new ≡ length old
     many = ap length j.is ∙ length-map old (map j.by)
 
-    row_is : (a : ℕ) → a < length old → row_of new a ≡ map j.by (row_of old a)
-    row_is a h = ap (λ (l : List (List ℕ)). row_of l a) j.is ∙ get_or-map (map j.by) old a [] [] h
+    row_is : (a : ℕ) → a < length old → alias_variables new a ≡ map j.by (alias_variables old a)
+    row_is a h = ap (λ (l : List (List ℕ)). alias_variables l a) j.is ∙ get_or-map (map j.by) old a [] [] h
 
-    cell_back : (a c : ℕ) → IsCell new a c → IsCell old a c
+    cell_back : (a c : ℕ) → AliasHasCell new a c → AliasHasCell old a c
     cell_back a c h =
         let r : a < length old = rw (← many) h.row in
-        record { row = r; cell = rw (row_is a r, length-map (row_of old a) j.by) at h.cell }
+        record { row = r; cell = rw (row_is a r, length-map (alias_variables old a) j.by) at h.cell }
 
-    cell_forth : (a c : ℕ) → IsCell old a c → IsCell new a c
-    cell_forth a c h = record { row = rw many h.row; cell = rw (row_is a h.row, length-map (row_of old a) j.by) h.cell }
+    cell_forth : (a c : ℕ) → AliasHasCell old a c → AliasHasCell new a c
+    cell_forth a c h = record { row = rw many h.row; cell = rw (row_is a h.row, length-map (alias_variables old a) j.by) h.cell }
 
-    at : (a c : ℕ) → IsCell old a c → variable_at new a c ≡ j.by (variable_at old a c)
-    at a c h = ap (λ (r : List ℕ). slice_index r c) (row_is a h.row) ∙ get_or-map j.by (row_of old a) c 0 0 h.cell
+    at : (a c : ℕ) → AliasHasCell old a c → alias_variable new a c ≡ j.by (alias_variable old a c)
+    at a c h = ap (λ (r : List ℕ). slice_index r c) (row_is a h.row) ∙ get_or-map j.by (alias_variables old a) c 0 0 h.cell
 
     of_cell : (c : CellRef) → CellFits source sources c → variable_of source sources new c ≡ j.by (variable_of source sources old c)
     of_cell c f = at c.alias _ (fits_cell source sources old v.shape c f)
@@ -378,23 +379,23 @@ joined_variables source sources equal e old new n m fit v j = record {
 
     counted : cell_count new ≡ cell_count old
     counted =
-        ap (total (λ a. length (row_of new a))) many
-        ∙ total_same (λ a. length (row_of new a)) (λ a. length (row_of old a)) (length old) (λ a h. ap length (row_is a h) ∙ length-map (row_of old a) j.by)
+        ap (total (λ a. length (alias_variables new a))) many
+        ∙ total_same (λ a. length (alias_variables new a)) (λ a. length (alias_variables old a)) (length old) (λ a h. ap length (row_is a h) ∙ length-map (alias_variables old a) j.by)
 
 -- ---- in loops
 
-pub separate_step : (source : List Named) (sources : List Text) (i : ℕ) (name : Text) (vars new : List (List ℕ)) (row : List ℕ) (n w : ℕ) → i < length sources → name ≡ get_or sources i name
+pub separate_step : (source : List TableNames) (sources : List Text) (i : ℕ) (name : Text) (vars new : List (List ℕ)) (row : List ℕ) (n w : ℕ) → i < length sources → name ≡ get_or sources i name
     → AreSeparate source (take i sources) vars n → w ≡ width_named source name → row ≡ range_with_len n w → new ≡ vars ++ row ∷ [] → AreSeparate source (take (i + 1) sources) new (n + w)
 separate_step source sources i name vars new row n w h e s k r a =
     let all : take (i + 1) sources ≡ take i sources ++ name ∷ [] = take_more sources i name h ∙ ap (λ z. take i sources ++ z ∷ []) (sym e) in
     rw (all, a, r) (separate_more source (take i sources) vars n w name s k)
 
-pub separate_all : (source : List Named) (sources : List Text) (i : ℕ) (vars : List (List ℕ)) (n : ℕ) → length sources ≤ i → AreSeparate source (take i sources) vars n → AreSeparate source sources vars n
+pub separate_all : (source : List TableNames) (sources : List Text) (i : ℕ) (vars : List (List ℕ)) (n : ℕ) → length sources ≤ i → AreSeparate source (take i sources) vars n → AreSeparate source sources vars n
 separate_all source sources i vars n h s = rw (← take_all i sources h) s
 
-pub variables_step : (source : List Named) (sources : List Text) (equal : List Equal) (i : ℕ) (e : Equal) (old new : List (List ℕ)) (n m x y : ℕ) → Each equal (λ (q : Equal). CellFits source sources q.left × CellFits source sources q.right)
+pub variables_step : (source : List TableNames) (sources : List Text) (equal : List Equal) (i : ℕ) (e : Equal) (old new : List (List ℕ)) (n m x y : ℕ) → Each equal (λ (q : Equal). CellFits source sources q.left × CellFits source sources q.right)
     → i < length equal → e ≡ get_or equal i e → x ≡ variable_of source sources old e.left → y ≡ variable_of source sources old e.right
-    → AreVariables source sources (take i equal) old n → IsJoined x y old new n m → AreVariables source sources (take (i + 1) equal) new m
+    → AreVariables source sources (take i equal) old n → IsUnified x y old new n m → AreVariables source sources (take (i + 1) equal) new m
 variables_step source sources equal i e old new n m x y fit h is xe ye v j =
     let all : take (i + 1) equal ≡ take i equal ++ e ∷ [] = take_more equal i e h ∙ ap (λ z. take i equal ++ z ∷ []) (sym is) in
     rw all (joined_variables source sources (take i equal) e old new n m (λ q k. fit q (inside q (rw all k))) v (rw (← xe, ← ye) j))
@@ -402,20 +403,20 @@ variables_step source sources equal i e old new n m x y fit h is xe ye v j =
     inside : (q : Equal) → q ∈ take (i + 1) equal → q ∈ equal
     inside q k = subst (λ (z : List Equal). q ∈ z) (take-append-drop (i + 1) equal) (in_left (drop (i + 1) equal) k)
 
-pub variables_all : (source : List Named) (sources : List Text) (equal : List Equal) (i : ℕ) (vars : List (List ℕ)) (n : ℕ) → length equal ≤ i → AreVariables source sources (take i equal) vars n → AreVariables source sources equal vars n
+pub variables_all : (source : List TableNames) (sources : List Text) (equal : List Equal) (i : ℕ) (vars : List (List ℕ)) (n : ℕ) → length equal ≤ i → AreVariables source sources (take i equal) vars n → AreVariables source sources equal vars n
 variables_all source sources equal i vars n h v = rw (← take_all i equal h) v
 
 -- the variable of a cell of the equal cells is one
-pub variable_low : (source : List Named) (sources : List Text) (equal : List Equal) (vars : List (List ℕ)) (n x : ℕ) (c : CellRef) → AreVariables source sources equal vars n → CellFits source sources c → x ≡ variable_of source sources vars c → x < n
+pub variable_low : (source : List TableNames) (sources : List Text) (equal : List Equal) (vars : List (List ℕ)) (n x : ℕ) (c : CellRef) → AreVariables source sources equal vars n → CellFits source sources c → x ≡ variable_of source sources vars c → x < n
 variable_low source sources equal vars n x c v f e = rw e (v.below_n c.alias _ (fits_cell source sources vars v.shape c f))
 
 -- a cell that fits has its column
-pub cell_bound : (source : List Named) (sources : List Text) (rows : List (List ℕ)) (cell : CellRef) (name : Text) (row : List ℕ) (column : ℕ) → AreWide source sources rows → CellFits source sources cell
+pub cell_bound : (source : List TableNames) (sources : List Text) (rows : List (List ℕ)) (cell : CellRef) (name : Text) (row : List ℕ) (column : ℕ) → AreWide source sources rows → CellFits source sources cell
     → name ≡ get_or sources cell.alias name → row ≡ get_or rows cell.alias row → column ≡ column_named source (table_named source name) cell.column → column < length row
 cell_bound source sources rows cell name row column s f n r e =
     let k = fits_cell source sources rows s cell f in
     let named : name ≡ slice_index_or sources cell.alias [] = n ∙ get_or_default sources cell.alias name [] f.alias in
-    let rowed : row ≡ row_of rows cell.alias = r ∙ get_or_default rows cell.alias row [] k.row in
+    let rowed : row ≡ alias_variables rows cell.alias = r ∙ get_or_default rows cell.alias row [] k.row in
     let same : column ≡ column_named source (table_of_alias source sources cell.alias) cell.column = e ∙ ap (λ z. column_named source (table_named source z) cell.column) named in
     let c = k.cell in
     rw (rowed, same) c

@@ -12,14 +12,15 @@ use Rattle.dx_ports.specs.declared.file.Count.TheVariants.{TargetCells}
 use Rattle.dx_ports.proofs.Lists.{zip_push, zip_long}
 use Rattle.dx_model.specs.declared.facts.Fact.{Fact}
 use Rattle.dx_model.specs.declared.values.Value.{Value}
-use Rattle.dx_model.specs.Values.{Text, Tuple, Rows}
+use Rattle.dx_model.specs.Values.{Tuple, Rows}
+use Rattle.dx_ports.specs.Texts.{Text}
 use Rattle.dx_instance.specs.Cells.{NumberTable}
-use Rattle.dx_instance.specs.Numbers.{AreApart, Extends}
+use Rattle.dx_instance.specs.Numbers.{AreDistinctValues, Extends}
 use Rattle.dx_instance.proofs.ShownFacts.{extends_both}
 use Rattle.dx_joins.specs.Shown.{MoreTuples, StandFor, texts_of}
 use Rattle.dx_joins.proofs.Distincts.{ascend_distinct}
 use Rattle.dx_joins.proofs.Translating.{distinct_texts}
-use Rattle.dx_schema.specs.Names.{Named}
+use Rattle.dx_schema.specs.Names.{TableNames}
 use Rattle.dx_funcs.specs.declared.conversion.Conversion.{Conversion}
 use Rattle.dx_script.specs.declared.form.Select.{Select}
 use Rattle.dx_script.specs.declared.form.Equal.{Equal}
@@ -27,15 +28,15 @@ use Rattle.dx_script.specs.declared.form.Step.{Step}
 use Rattle.dx_script.specs.declared.form.Step.TheVariants.{Create, MatchRows, KeepRows, InsertRows}
 use Rattle.dx_script.specs.Fits.{MatchFits}
 use Rattle.dx_script.specs.Meaning.{IsMatchTable, match_table}
-use Rattle.dx_tgd.specs.Found.{IsReordered}
+use Rattle.dx_tgd.specs.Found.{IsRenumbering}
 use Rattle.dx_tgd.specs.Texts.{tuples_in}
 use Rattle.dx_tgd.proofs.Steps.{tuples_grown}
 use Rattle.dx_tgd.proofs.Founds.{reordered_few}
 use Rattle.dx_eval.specs.declared.fault.EvalFault.{EvalFault}
 use Rattle.dx_eval.specs.declared.fault.EvalFault.TheVariants.{Limit}
-use Rattle.dx_eval.specs.Evaluating.{PassesLimit, cells_for, script_cells}
+use Rattle.dx_eval.specs.Evaluating.{ScriptPassesLimit, cells_for, script_cells}
 use Rattle.dx_eval.specs.Query.{IsSelected}
-use Rattle.dx_eval.specs.Finding.{AreFoundSteps, FoundSoFar, IsFoundUpTo, IsRefusal, IsFoundStep, Matching, MatchesFit, MatchingFits, matching_in, matchings}
+use Rattle.dx_eval.specs.Finding.{AreFoundSteps, FoundSoFar, IsFoundUpTo, IsEvalRefusal, IsFoundStep, MatchStep, MatchesFit, MatchingFits, matching_in, matchings}
 use Rattle.dx_eval.proofs.Sums.{total, total_less, total_longer, total_more, total_same}
 use Rattle.dx_eval.proofs.Tables.{matching_long, IsTable, are_tables, found_grown, of_step, stands_at, tables_exist, zip_here, no_matching}
 
@@ -74,23 +75,23 @@ tuples_at S ts k h = get_or-map (λ (t : NumberTable). map (texts_of S) t.rows) 
 
 -- ---- in another order
 
-pub reordered_cells : (steps : List Step) (S T : List Value) (ts us : List NumberTable) → AreApart T → AllZip (IsReordered S T) ts us → script_cells steps (tuples_in T us) ≤ script_cells steps (tuples_in S ts)
+pub reordered_cells : (steps : List Step) (S T : List Value) (ts us : List NumberTable) → AreDistinctValues T → AllZip (IsRenumbering S T) ts us → script_cells steps (tuples_in T us) ≤ script_cells steps (tuples_in S ts)
 reordered_cells steps S T ts us p z =
-    let l = zip_long (IsReordered S T) ts us z in
+    let l = zip_long (IsRenumbering S T) ts us z in
     let a = tuples_long T us in
     let b = tuples_long S ts in
     cells_less steps (tuples_in T us) (tuples_in S ts) (omega (arith, l, a, b)) (λ k h.
     let i : k < length ts = omega (arith, h, a, l) in
     let j : k < length us = omega (arith, h, a) in
-    let one = reordered_few S T (get_or ts k no_rows) (get_or us k no_rows) p (zip_here (IsReordered S T) ts us k no_rows no_rows z i) in
+    let one = reordered_few S T (get_or ts k no_rows) (get_or us k no_rows) p (zip_here (IsRenumbering S T) ts us k no_rows no_rows z i) in
     let x = length-map (get_or us k no_rows).rows (texts_of T) in
     let y = length-map (get_or ts k no_rows).rows (texts_of S) in
     rw (tuples_at T us k j, tuples_at S ts k i) (omega (arith, one, x, y)))
 
 -- ---- step by step
 
-module _ (source : List Named) (call : Text → Tuple → Text) (I : List Fact) (steps : List Step) where
-  grown_tuples : (S T : List Value) (ms : List Matching) (ts : List NumberTable) → Extends S T → AreFoundSteps source call I S ms ts → tuples_in T ts ≡ tuples_in S ts
+module _ (source : List TableNames) (call : Text → Tuple → Text) (I : List Fact) (steps : List Step) where
+  grown_tuples : (S T : List Value) (ms : List MatchStep) (ts : List NumberTable) → Extends S T → AreFoundSteps source call I S ms ts → tuples_in T ts ≡ tuples_in S ts
   grown_tuples S T [] [] e f = refl
   grown_tuples S T [] (t ∷ ts) e f = absurd f
   grown_tuples S T (m ∷ ms) [] e f = absurd f
@@ -99,7 +100,7 @@ module _ (source : List Named) (call : Text → Tuple → Text) (I : List Fact) 
       let rest = grown_tuples S T ms ts e f.1 in
       cc (first, rest)
 
-  pub start : (old S : List Value) (ts : List NumberTable) (limit : ℕ) → S ≡ old → ts ≡ [] → AreApart old → FoundSoFar source call I steps old S [] ts limit limit
+  pub start : (old S : List Value) (ts : List NumberTable) (limit : ℕ) → S ≡ old → ts ≡ [] → AreDistinctValues old → FoundSoFar source call I steps old S [] ts limit limit
   start old S ts limit e f p = rw (e, f) (record { found = tt; grows = record { more = []; is = sym (append-nil old) }; apart = p; cells = omega arith })
 
   -- a step that makes no match table
@@ -119,7 +120,7 @@ module _ (source : List Named) (call : Text → Tuple → Text) (I : List Fact) 
   -- a match step more
   pub match_step : (old S U : List Value) (ts us : List NumberTable) (limit left i r : ℕ) (select : List Select) (sources : List Text) (equal : List Equal) (s : Step) (t : NumberTable)
       → i < length steps → s ≡ get_or steps i s → s ≡ MatchRows r select sources equal → length ts ≡ r
-      → FoundSoFar source call I steps old S (matchings (take i steps)) ts limit left → Extends S U → AreApart U
+      → FoundSoFar source call I steps old S (matchings (take i steps)) ts limit left → Extends S U → AreDistinctValues U
       → StandFor (length select) (IsSelected source call I select sources equal) U t → us ≡ ts ++ t ∷ [] → length t.rows * cells_for steps r ≤ left
       → FoundSoFar source call I steps old U (matchings (take (i + 1) steps)) us limit (left - length t.rows * cells_for steps r)
   match_step old S U ts us limit left i r select sources equal s t h is variant number f grown p stand more few =
@@ -146,14 +147,14 @@ module _ (source : List Named) (call : Text → Tuple → Text) (I : List Fact) 
   pub passes : (list : List Conversion) (old S : List Value) (ts : List NumberTable) (limit left i r : ℕ) (select : List Select) (sources : List Text) (equal : List Equal) (s : Step) (us : List Tuple)
       → MatchesFit source list steps → i < length steps → s ≡ get_or steps i s → s ≡ MatchRows r select sources equal → length ts ≡ r
       → FoundSoFar source call I steps old S (matchings (take i steps)) ts limit left → Distinct us → Each us (IsSelected source call I select sources equal) → left < length us * cells_for steps r
-      → PassesLimit source call steps I limit (Limit (record { what = TargetCells; number = limit }))
+      → ScriptPassesLimit source call steps I limit (Limit (record { what = TargetCells; number = limit }))
   unfolding IsTable
   passes list old S ts limit left i r select sources equal s us fit h is variant number f distinct each many =
       let member : MatchRows r select sources equal ∈ steps = subst (λ z. z ∈ steps) (sym is ∙ variant) (in_at steps i s h) in
       let w = tables_exist source call I list steps steps fit (λ z m. m) in
       let all = w.0 in
       let p = stands_at source list steps fit r select sources equal member in
-      let own : IsMatchTable source call I select sources equal (match_table all r) = subst (λ (q : Matching). IsMatchTable source call I q.select q.sources q.equal (match_table all r)) p.1 (zip_here (IsTable source call I) (matchings steps) all r no_matching [] w.1 p.0) in
+      let own : IsMatchTable source call I select sources equal (match_table all r) = subst (λ (q : MatchStep). IsMatchTable source call I q.select q.sources q.equal (match_table all r)) p.1 (zip_here (IsTable source call I) (matchings steps) all r no_matching [] w.1 p.0) in
       let lw = zip_long (IsTable source call I) (matchings steps) all w.1 in
       let one : length us ≤ length (match_table all r) = no_longer us (match_table all r) distinct (λ t m. (own.exact t).1 (each t m)) in
       let tl = tuples_long S ts in
@@ -184,7 +185,7 @@ module _ (source : List Named) (call : Text → Tuple → Text) (I : List Fact) 
           let c : k < length (matchings steps) = omega (arith, b, e) in
           let table = zip_here (IsTable source call I) (matchings steps) all k no_matching [] z c in
           let table_is : IsMatchTable source call I (get_or (matchings (take i steps)) k no_matching).select (get_or (matchings (take i steps)) k no_matching).sources (get_or (matchings (take i steps)) k no_matching).equal (match_table all k) =
-          subst (λ (q : Matching). IsMatchTable source call I q.select q.sources q.equal (match_table all k)) same table in
+          subst (λ (q : MatchStep). IsMatchTable source call I q.select q.sources q.equal (match_table all k)) same table in
           rw (tuples_at S ts k a) (no_longer (map (texts_of S) (get_or ts k no_rows).rows) (match_table all k) (distinct_texts S (get_or ts k no_rows).rows f.apart found.texts (ascend_distinct (get_or ts k no_rows).rows found.ascend)) (λ t m. (table_is.exact t).1 ((found.exact t).0 m)))
 
   -- each match step so far has a table
@@ -214,7 +215,7 @@ pub record TooMany (room : ℕ) (P : Tuple → Type 0) : Type 0 where
   pub more : room < length tuples
   pub few : length tuples < 2 ^ 32
 
-pub too_many : (found : Option NumberTable) (room w : ℕ) (P : Tuple → Type 0) (U : List Value) → AreApart U → MatchOption found (MoreTuples room P) (StandFor w P U)
+pub too_many : (found : Option NumberTable) (room w : ℕ) (P : Tuple → Type 0) (U : List Value) → AreDistinctValues U → MatchOption found (MoreTuples room P) (StandFor w P U)
     → MatchOption found (Unit {0}) (λ t. (room < length t.rows) × (length t.rows < 2 ^ 32)) → TooMany room P
 too_many None room w P U apart m q = record { tuples = m.tuples; distinct = m.distinct; each = m.each; more = m.more; few = m.few }
 too_many (Some t) room w P U apart m q =
@@ -238,29 +239,29 @@ few_cells room cells left n f h few = (f n (omega (arith, h))).0 few
 
 -- ---- what a step says, if it is a match step
 
-pub of_matching : (P : Matching → Type 0) (s : Step) (r : ℕ) (select : List Select) (sources : List Text) (equal : List Equal) → s ≡ MatchRows r select sources equal → P (of_step select sources equal) → Each (matching_in s) P
+pub of_matching : (P : MatchStep → Type 0) (s : Step) (r : ℕ) (select : List Select) (sources : List Text) (equal : List Equal) → s ≡ MatchRows r select sources equal → P (of_step select sources equal) → Each (matching_in s) P
 of_matching P s r select sources equal e p = subst (λ z. Each (matching_in z) P) (sym e) one
   where
-    one : (m : Matching) → m ∈ (of_step select sources equal ∷ []) → P m
+    one : (m : MatchStep) → m ∈ (of_step select sources equal ∷ []) → P m
     one m (here q) = subst P q p
     one m (there n) = elim n [ ]
 
-pub matching_at : (P : Matching → Type 0) (s : Step) (r : ℕ) (select : List Select) (sources : List Text) (equal : List Equal) → s ≡ MatchRows r select sources equal → Each (matching_in s) P → P (of_step select sources equal)
+pub matching_at : (P : MatchStep → Type 0) (s : Step) (r : ℕ) (select : List Select) (sources : List Text) (equal : List Equal) → s ≡ MatchRows r select sources equal → Each (matching_in s) P → P (of_step select sources equal)
 matching_at P s r select sources equal e h = (subst (λ z. Each (matching_in z) P) e h) (of_step select sources equal) (here refl)
 
-pub not_matching : (P : Matching → Type 0) (s : Step) → ((r : ℕ) (a b d : _) → ¬ (s ≡ MatchRows r a b d)) → Each (matching_in s) P
+pub not_matching : (P : MatchStep → Type 0) (s : Step) → ((r : ℕ) (a b d : _) → ¬ (s ≡ MatchRows r a b d)) → Each (matching_in s) P
 not_matching P (Create table columns) n = λ m k. elim k [ ]
 not_matching P (MatchRows r a b d) n = absurd (n r a b d refl)
 not_matching P (KeepRows r unless) n = λ m k. elim k [ ]
 not_matching P (InsertRows table r kept cells) n = λ m k. elim k [ ]
 
-pub matching_fits : (source : List Named) (list : List Conversion) (before : List Step) (s : Step) (r : ℕ) (select : List Select) (sources : List Text) (equal : List Equal) → s ≡ MatchRows r select sources equal
+pub matching_fits : (source : List TableNames) (list : List Conversion) (before : List Step) (s : Step) (r : ℕ) (select : List Select) (sources : List Text) (equal : List Equal) → s ≡ MatchRows r select sources equal
     → MatchFits source list before r select sources equal → Each (matching_in s) (MatchingFits source list)
 matching_fits source list before s r select sources equal e m =
     of_matching (MatchingFits source list) s r select sources equal e (record { sources_named = m.sources_named; selected = m.selected; equal_cells = m.equal_cells })
 
 -- the rows of a match step, by the lists that are lent
-pub lent_matching : (most : ℕ) (source : List Named) (call : Text → Tuple → Text) (I : List Fact) (U : List Value) (o : Option NumberTable) (sel select : List Select) (src sources : List Text) (eq equal : List Equal)
+pub lent_matching : (most : ℕ) (source : List TableNames) (call : Text → Tuple → Text) (I : List Fact) (U : List Value) (o : Option NumberTable) (sel select : List Select) (src sources : List Text) (eq equal : List Equal)
     → sel ≡ select → src ≡ sources → eq ≡ equal → IsFoundUpTo most source call I U o (of_step sel src eq) → IsFoundUpTo most source call I U o (of_step select sources equal)
 lent_matching most source call I U o sel select src sources eq equal a b d s =
     subst (λ (z : List Equal). IsFoundUpTo most source call I U o (of_step select sources z)) d
@@ -268,10 +269,10 @@ lent_matching most source call I U o sel select src sources eq equal a b d s =
 
 -- ---- the refusal
 
-pub refused_limit : (source : List Named) (call : Text → Tuple → Text) (steps : List Step) (I : List Fact) (limit : ℕ) (e : EvalFault) → e ≡ Limit (record { what = TargetCells; number = limit })
-    → PassesLimit source call steps I limit (Limit (record { what = TargetCells; number = limit })) → IsRefusal source call steps I limit e
-refused_limit source call steps I limit e is p = subst (IsRefusal source call steps I limit) (sym is) p
+pub refused_limit : (source : List TableNames) (call : Text → Tuple → Text) (steps : List Step) (I : List Fact) (limit : ℕ) (e : EvalFault) → e ≡ Limit (record { what = TargetCells; number = limit })
+    → ScriptPassesLimit source call steps I limit (Limit (record { what = TargetCells; number = limit })) → IsEvalRefusal source call steps I limit e
+refused_limit source call steps I limit e is p = subst (IsEvalRefusal source call steps I limit) (sym is) p
 
-pub refused_same : (source : List Named) (call : Text → Tuple → Text) (steps others : List Step) (I J : List Fact) (limit : ℕ) (e f : EvalFault) → steps ≡ others → I ≡ J → f ≡ e → IsRefusal source call steps I limit e → IsRefusal source call others J limit f
+pub refused_same : (source : List TableNames) (call : Text → Tuple → Text) (steps others : List Step) (I J : List Fact) (limit : ℕ) (e f : EvalFault) → steps ≡ others → I ≡ J → f ≡ e → IsEvalRefusal source call steps I limit e → IsEvalRefusal source call others J limit f
 refused_same source call steps others I J limit e f s i is r =
-    subst (IsRefusal source call others J limit) (sym is) (subst (λ (z : List Fact). IsRefusal source call others z limit e) i (subst (λ (z : List Step). IsRefusal source call z I limit e) s r))
+    subst (IsEvalRefusal source call others J limit) (sym is) (subst (λ (z : List Fact). IsEvalRefusal source call others z limit e) i (subst (λ (z : List Step). IsEvalRefusal source call z I limit e) s r))

@@ -11,7 +11,7 @@ use Rattle.dx_script.specs.declared.form.Test.{Test}
 use Rattle.dx_script.specs.declared.form.Test.TheVariants.{Columns, Literal}
 use Rattle.std.specs.declared.alloc.AllocError.{AllocError}
 use Rattle.dx_instance.specs.Cells.{IsOrderOf, NumberTable}
-use Rattle.dx_eval.specs.Keeping.{AreKeys, numbers_in, other_in, own_in}
+use Rattle.dx_eval.specs.Keeping.{AreKeys, column_numbers, other_in, own_in}
 
 pub flat_more : {X Y : Type 0} (f : X → List Y) (xs : List X) (i : ℕ) (x : X) (old new more : List Y) → i < length xs → x ≡ get_or xs i x → f x ≡ more → old ≡ flat_map f (take i xs) → new ≡ old ++ more → new ≡ flat_map f (take (i + 1) xs)
 flat_more {X} {Y} f xs i x old new more h is same o n =
@@ -63,15 +63,15 @@ sum_more {X} f xs i x n m h is k o =
     omega (arith, e, k, o)
 
 -- the keys of all rows, in order
-pub keys_are : (r : Result NumberTable AllocError) (old : NumberTable) (columns : List ℕ) (rows : List (List ℕ)) (n : ℕ) → length rows ≤ n → old.rows ≡ map (numbers_in columns) (take n rows) → IfOk r (IsOrderOf old)
+pub keys_are : (r : Result NumberTable AllocError) (old : NumberTable) (columns : List ℕ) (rows : List (List ℕ)) (n : ℕ) → length rows ≤ n → old.rows ≡ map (column_numbers columns) (take n rows) → IfOk r (IsOrderOf old)
     → IfOk r (λ keys. AreKeys columns rows keys.rows)
 keys_are (Err e) old columns rows n h is k = tt
 keys_are (Ok keys) old columns rows n h is k =
-    let all : old.rows ≡ map (numbers_in columns) rows = is ∙ ap (map (numbers_in columns)) (take_all n rows h) in
+    let all : old.rows ≡ map (column_numbers columns) rows = is ∙ ap (map (column_numbers columns)) (take_all n rows h) in
     record {
       ascend = k.ascend;
       exact = λ key. (
-        (λ m. let w = from_map (numbers_in columns) rows (subst (λ (l : List (List ℕ)). key ∈ l) all (k.only key m)) in (w.0, w.1, sym w.2)),
-        (λ w. k.kept key (subst (λ (l : List (List ℕ)). key ∈ l) (sym all) (subst (λ z. z ∈ map (numbers_in columns) rows) (sym w.2) (in_map (numbers_in columns) w.1)))),
+        (λ m. let w = from_map (column_numbers columns) rows (subst (λ (l : List (List ℕ)). key ∈ l) all (k.only key m)) in (w.0, w.1, sym w.2)),
+        (λ w. k.kept key (subst (λ (l : List (List ℕ)). key ∈ l) (sym all) (subst (λ z. z ∈ map (column_numbers columns) rows) (sym w.2) (in_map (column_numbers columns) w.1)))),
       );
     }

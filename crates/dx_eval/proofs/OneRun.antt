@@ -2,16 +2,18 @@
 use Rattle.std.proofs.Common.{◌≡◌, ◌≤◌, List, length, refl, subst, inl, inr, arith}
 use Rattle.std.proofs.lemmas.Bool.{cases_lt}
 use Rattle.dx_model.specs.declared.facts.Fact.{Fact}
-use Rattle.dx_model.specs.Values.{Text, Tuple, Rows}
-use Rattle.dx_schema.specs.Names.{Named}
+use Rattle.dx_model.specs.Values.{Tuple, Rows}
+use Rattle.dx_ports.specs.Texts.{Text}
+use Rattle.dx_schema.specs.Names.{TableNames}
 use Rattle.dx_script.specs.declared.form.Step.{Step}
 use Rattle.dx_script.specs.Meaning.{match_table}
 use Rattle.dx_script.proofs.Steps.{at_most}
 use Rattle.dx_script.proofs.Unique.{meaning_is_unique, one_list, one_by_one}
-use Rattle.dx_eval.specs.Evaluating.{AreMatchTables, script_cells, tuples_of}
+use Rattle.dx_eval.specs.Evaluating.{AreMatchTables, script_cells}
+use Rattle.dx_model.specs.Matches.{rows_of_matches}
 use Rattle.dx_eval.specs.Laws.{MadeOrPassed, MadeOrTooMany, RunsAgree, TablesOfMeaning}
 
-module _ (source : List Named) (call : Text → Tuple → Text) (steps : List Step) (I : List Fact) where
+module _ (source : List TableNames) (call : Text → Tuple → Text) (steps : List Step) (I : List Fact) where
   below : (tables others : Rows) → AreMatchTables source call steps I tables → AreMatchTables source call steps I others → length tables ≤ length others
   below tables others m n = at_most (length tables) (length others) (λ r h. let w = m.no_more r h in (n.matches r w.0 w.1 w.2 w.3).0)
 
@@ -32,21 +34,21 @@ tables_of_meaning source target call steps I tables others K m n =
 
 pub runs_agree : RunsAgree
 runs_agree source target call steps I limit m n p q =
-    let w = meaning_is_unique source target call steps I (tuples_of m.matches) (tuples_of n.matches) _ _ p.means q.means in
+    let w = meaning_is_unique source target call steps I (rows_of_matches m.matches) (rows_of_matches n.matches) _ _ p.means q.means in
     (w.0, (w.1, w.2))
 
 pub made_or_too_many : MadeOrTooMany
 made_or_too_many source target call steps I limit m e p q =
-    let same = tables_of_meaning source target call steps I (tuples_of m.matches) q.tables _ p.means q.are in
+    let same = tables_of_meaning source target call steps I (rows_of_matches m.matches) q.tables _ p.means q.are in
     let more = q.more in
     let within : script_cells steps q.tables ≤ limit = subst (λ z. script_cells steps z ≤ limit) same p.within in
     omega arith
 
 pub made_or_passed : MadeOrPassed
 made_or_passed source target call steps I limit m means wide =
-    elim (cases_lt limit (script_cells steps (tuples_of m.matches))) [
+    elim (cases_lt limit (script_cells steps (rows_of_matches m.matches))) [
       | inl more ↦ inr (record {
-        tables = tuples_of m.matches;
+        tables = rows_of_matches m.matches;
         are = record { matches = means.matches; no_more = means.no_more };
         more = more;
         fault = refl;

@@ -8,21 +8,24 @@ use Rattle.dx_ports.proofs.Members.{from_append, from_map, in_at, in_left, in_ma
 use Rattle.dx_model.specs.declared.values.NullId.{NullId}
 use Rattle.dx_model.specs.declared.values.Value.{Value}
 use Rattle.dx_model.specs.declared.values.Value.TheVariants.{Const, Null}
-use Rattle.dx_model.specs.Values.{Text, Tuple}
+use Rattle.dx_model.specs.Values.{Tuple}
+use Rattle.dx_ports.specs.Texts.{Text}
 use Rattle.dx_instance.specs.Cells.{NumberTable, numbers_at}
-use Rattle.dx_instance.specs.Numbers.{AreApart, value_of}
+use Rattle.dx_instance.specs.Numbers.{AreDistinctValues, value_of}
 use Rattle.dx_instance.specs.Shown.{numbers_of_table}
-use Rattle.dx_joins.specs.Shown.{AreTexts, is_text, text_in, texts_of}
+use Rattle.dx_joins.specs.Shown.{AreTexts, is_text, texts_of}
+use Rattle.dx_instance.specs.Ranks.{text_of_value}
 use Rattle.dx_joins.proofs.Translating.{texts_same}
 use Rattle.dx_script.specs.declared.form.Test.{Test}
 use Rattle.dx_script.specs.declared.form.Test.TheVariants.{Columns, Literal}
 use Rattle.dx_script.specs.declared.form.Unless.{Unless}
 use Rattle.dx_script.specs.declared.form.Step.{Step}
 use Rattle.dx_script.specs.declared.form.Step.TheVariants.{KeepRows}
-use Rattle.dx_script.specs.Meaning.{Meets, in_column, match_table, tuple_at}
+use Rattle.dx_script.specs.Meaning.{MakesTrue, in_column, match_table}
+use Rattle.dx_model.specs.Covers.{tuple_at}
 use Rattle.dx_tgd.specs.Texts.{tuples_in}
 use Rattle.dx_tgd.proofs.Ascending.{row_there}
-use Rattle.dx_eval.specs.Keeping.{AreKeys, HoldsAlone, IsPartnered, LacksPartner, LacksPartners, Leaves, Stay, TestStands, numbers_in, other_columns, own_columns}
+use Rattle.dx_eval.specs.Keeping.{AreKeys, HoldsAlone, IsPartnered, LacksPartner, LacksPartners, KeepsPlaces, Stay, TestStands, column_numbers, other_columns, own_columns}
 
 pub each_cons : {X : Type 0} (P : X → Type 0) (x : X) (xs : List X) → P x → Each xs P → Each (x ∷ xs) P
 each_cons P x xs p h y (here e) = subst P e p
@@ -31,34 +34,34 @@ each_cons P x xs p h y (there m) = h y m
 -- ---- columns
 
 -- the text in a column is that of its number
-pub column_is : (S : List Value) (row : List ℕ) (c : ℕ) → c < length row → in_column (texts_of S row) c ≡ text_in (value_of S (slice_index row c))
-column_is S row c h = get_or-map (λ n. text_in (value_of S n)) row c 0 [] h
+pub column_is : (S : List Value) (row : List ℕ) (c : ℕ) → c < length row → in_column (texts_of S row) c ≡ text_of_value (value_of S (slice_index row c))
+column_is S row c h = get_or-map (λ n. text_of_value (value_of S n)) row c 0 [] h
 
 number_texts : (S : List Value) (row : List ℕ) (c : ℕ) → AreTexts S row → c < length row → AreTexts S (slice_index row c ∷ [])
 number_texts S row c t h n (here e) = subst (λ x. (x < length S) × (is_text (value_of S x) ≡ true)) e (t (slice_index row c) (in_at row c 0 h))
 number_texts S row c t h n (there m) = elim m [ ]
 
 -- one text, one number
-one_number : (S : List Value) (a b : List ℕ) (c d : ℕ) → AreApart S → AreTexts S a → AreTexts S b → c < length a → d < length b → in_column (texts_of S a) c ≡ in_column (texts_of S b) d → slice_index a c ≡ slice_index b d
+one_number : (S : List Value) (a b : List ℕ) (c d : ℕ) → AreDistinctValues S → AreTexts S a → AreTexts S b → c < length a → d < length b → in_column (texts_of S a) c ≡ in_column (texts_of S b) d → slice_index a c ≡ slice_index b d
 one_number S a b c d apart s t h k e =
     let x : texts_of S (slice_index a c ∷ []) ≡ texts_of S (slice_index b d ∷ []) = ap (λ z. z ∷ []) (sym (column_is S a c h) ∙ (e ∙ column_is S b d k)) in
     let y = texts_same S (slice_index a c ∷ []) (slice_index b d ∷ []) apart (number_texts S a c s h) (number_texts S b d t k) x in
     cc
 
 one_text : (S : List Value) (a b : List ℕ) (c d : ℕ) → c < length a → d < length b → slice_index a c ≡ slice_index b d → in_column (texts_of S a) c ≡ in_column (texts_of S b) d
-one_text S a b c d h k e = column_is S a c h ∙ (ap (λ n. text_in (value_of S n)) e ∙ sym (column_is S b d k))
+one_text S a b c d h k e = column_is S a c h ∙ (ap (λ n. text_of_value (value_of S n)) e ∙ sym (column_is S b d k))
 
 -- a constant is told by its text
-pub constant_is : (v : Value) (text : Text) → is_text v ≡ true → (v ≡ Const text) ↔ (text_in v ≡ text)
-constant_is (Const t) text e = ((λ q. ap text_in q), (λ q. ap Const q))
+pub constant_is : (v : Value) (text : Text) → is_text v ≡ true → (v ≡ Const text) ↔ (text_of_value v ≡ text)
+constant_is (Const t) text e = ((λ q. ap text_of_value q), (λ q. ap Const q))
 constant_is (Null n) text e = absurd (cc e)
 
 -- ---- tests
 
-module _ (S : List Value) (own other : List ℕ) (apart : AreApart S) (mine : AreTexts S own) (theirs : AreTexts S other) where
+module _ (S : List Value) (own other : List ℕ) (apart : AreDistinctValues S) (mine : AreTexts S own) (theirs : AreTexts S other) where
   -- all tests hold: those of the tuple's own columns, and the compared columns have one key
-  meets_to : (tests : List Test) → Each tests (TestStands (length own) (length other)) → Each tests (Meets (texts_of S own) (texts_of S other))
-      → Each tests (HoldsAlone (texts_of S own)) × (numbers_in (own_columns tests) own ≡ numbers_in (other_columns tests) other)
+  meets_to : (tests : List Test) → Each tests (TestStands (length own) (length other)) → Each tests (MakesTrue (texts_of S own) (texts_of S other))
+      → Each tests (HoldsAlone (texts_of S own)) × (column_numbers (own_columns tests) own ≡ column_numbers (other_columns tests) other)
   meets_to [] f h = ((λ t m. elim m [ ]), refl)
   meets_to (Columns c d ∷ tests) f h =
       let s = f (Columns c d) (here refl) in
@@ -70,39 +73,39 @@ module _ (S : List Value) (own other : List ℕ) (apart : AreApart S) (mine : Ar
       let rest = meets_to tests (λ t m. f t (there m)) (λ t m. h t (there m)) in
       (each_cons (HoldsAlone (texts_of S own)) (Literal d text) tests (h (Literal d text) (here refl)) rest.0, rest.1)
 
-  meets_from : (tests : List Test) → Each tests (TestStands (length own) (length other)) → Each tests (HoldsAlone (texts_of S own)) → numbers_in (own_columns tests) own ≡ numbers_in (other_columns tests) other
-      → Each tests (Meets (texts_of S own) (texts_of S other))
+  meets_from : (tests : List Test) → Each tests (TestStands (length own) (length other)) → Each tests (HoldsAlone (texts_of S own)) → column_numbers (own_columns tests) own ≡ column_numbers (other_columns tests) other
+      → Each tests (MakesTrue (texts_of S own) (texts_of S other))
   meets_from [] f h e = λ t m. elim m [ ]
   meets_from (Columns c d ∷ tests) f h e =
       let s = f (Columns c d) (here refl) in
       let one : slice_index own d ≡ slice_index other c = cc in
-      let more : numbers_in (own_columns tests) own ≡ numbers_in (other_columns tests) other = cc in
-      each_cons (Meets (texts_of S own) (texts_of S other)) (Columns c d) tests (sym (one_text S own other d c s.1 s.0 one)) (meets_from tests (λ t m. f t (there m)) (λ t m. h t (there m)) more)
+      let more : column_numbers (own_columns tests) own ≡ column_numbers (other_columns tests) other = cc in
+      each_cons (MakesTrue (texts_of S own) (texts_of S other)) (Columns c d) tests (sym (one_text S own other d c s.1 s.0 one)) (meets_from tests (λ t m. f t (there m)) (λ t m. h t (there m)) more)
   meets_from (Literal d text ∷ tests) f h e =
-      each_cons (Meets (texts_of S own) (texts_of S other)) (Literal d text) tests (h (Literal d text) (here refl)) (meets_from tests (λ t m. f t (there m)) (λ t m. h t (there m)) e)
+      each_cons (MakesTrue (texts_of S own) (texts_of S other)) (Literal d text) tests (h (Literal d text) (here refl)) (meets_from tests (λ t m. f t (there m)) (λ t m. h t (there m)) e)
 
 -- a tuple has a partner exactly if its own tests hold and its key is there
-pub partnered_is : (S : List Value) (own : List ℕ) (others keys : List (List ℕ)) (tests : List Test) (w : ℕ) → AreApart S → AreTexts S own → Each others (AreTexts S) → Each others (λ r. length r ≡ w)
+pub partnered_is : (S : List Value) (own : List ℕ) (others keys : List (List ℕ)) (tests : List Test) (w : ℕ) → AreDistinctValues S → AreTexts S own → Each others (AreTexts S) → Each others (λ r. length r ≡ w)
     → Each tests (TestStands (length own) w) → AreKeys (other_columns tests) others keys
-    → IsPartnered (map (texts_of S) others) tests (texts_of S own) ↔ (Each tests (HoldsAlone (texts_of S own)) × (numbers_in (own_columns tests) own ∈ keys))
+    → IsPartnered (map (texts_of S) others) tests (texts_of S own) ↔ (Each tests (HoldsAlone (texts_of S own)) × (column_numbers (own_columns tests) own ∈ keys))
 partnered_is S own others keys tests w apart mine theirs wide stand k = (
   (λ (other, m, h).
       let r = from_map (texts_of S) others m in
-      let g = subst (λ (z : Tuple). Each tests (Meets (texts_of S own) z)) (sym r.2) h in
+      let g = subst (λ (z : Tuple). Each tests (MakesTrue (texts_of S own) z)) (sym r.2) h in
       let p = meets_to S own r.0 apart mine (theirs r.0 r.1) tests (rw (wide r.0 r.1) stand) g in
-      (p.0, (k.exact (numbers_in (own_columns tests) own)).1 (r.0, r.1, p.1))),
+      (p.0, (k.exact (column_numbers (own_columns tests) own)).1 (r.0, r.1, p.1))),
   (λ q.
-      let r = (k.exact (numbers_in (own_columns tests) own)).0 q.1 in
+      let r = (k.exact (column_numbers (own_columns tests) own)).0 q.1 in
       (texts_of S r.0, in_map (texts_of S) r.1, meets_from S own r.0 apart mine (theirs r.0 r.1) tests (rw (wide r.0 r.1) stand) q.0 r.2)),
 )
 
 -- ---- places
 
-pub leaves_none : (P : ℕ → Type 0) → Leaves P [] []
+pub leaves_none : (P : ℕ → Type 0) → KeepsPlaces P [] []
 leaves_none P k = ((λ m. elim m [ ]), (λ q. q.0))
 
 -- a place that is left
-pub leaves_one : (P : ℕ → Type 0) (places old : List ℕ) (i k : ℕ) → i < length places → k ≡ get_or places i k → P k → Leaves P (take i places) old → Leaves P (take (i + 1) places) (old ++ k ∷ [])
+pub leaves_one : (P : ℕ → Type 0) (places old : List ℕ) (i k : ℕ) → i < length places → k ≡ get_or places i k → P k → KeepsPlaces P (take i places) old → KeepsPlaces P (take (i + 1) places) (old ++ k ∷ [])
 leaves_one P places old i k h e p l =
     let all : take (i + 1) places ≡ take i places ++ k ∷ [] = take_more places i k h ∙ ap (λ z. take i places ++ z ∷ []) (sym e) in
     rw all (λ j. (
@@ -111,7 +114,7 @@ leaves_one P places old i k h e p l =
     ))
 
 -- a place that is not
-pub leaves_not : (P : ℕ → Type 0) (places old : List ℕ) (i k : ℕ) → i < length places → k ≡ get_or places i k → ¬ (P k) → Leaves P (take i places) old → Leaves P (take (i + 1) places) old
+pub leaves_not : (P : ℕ → Type 0) (places old : List ℕ) (i k : ℕ) → i < length places → k ≡ get_or places i k → ¬ (P k) → KeepsPlaces P (take i places) old → KeepsPlaces P (take (i + 1) places) old
 leaves_not P places old i k h e n l =
     let all : take (i + 1) places ≡ take i places ++ k ∷ [] = take_more places i k h ∙ ap (λ z. take i places ++ z ∷ []) (sym e) in
     rw all (λ j. (
@@ -121,12 +124,12 @@ leaves_not P places old i k h e n l =
 
 -- ---- parts
 
-pub parts_none : (S : List Value) (tables : List NumberTable) (r : ℕ) (places : List ℕ) → Leaves (LacksPartners S tables r []) places places
+pub parts_none : (S : List Value) (tables : List NumberTable) (r : ℕ) (places : List ℕ) → KeepsPlaces (LacksPartners S tables r []) places places
 parts_none S tables r places k = ((λ m. (m, λ u n. elim n [ ])), (λ q. q.0))
 
 pub parts_more : (S : List Value) (tables : List NumberTable) (r : ℕ) (unless : List Unless) (i : ℕ) (u : Unless) (own other : NumberTable) (old mid new : List ℕ) → i < length unless → u ≡ get_or unless i u
     → own ≡ numbers_of_table tables r → other ≡ numbers_of_table tables u.rule
-    → Leaves (LacksPartners S tables r (take i unless)) old mid → Leaves (LacksPartner S own.rows other.rows u.tests) mid new → Leaves (LacksPartners S tables r (take (i + 1) unless)) old new
+    → KeepsPlaces (LacksPartners S tables r (take i unless)) old mid → KeepsPlaces (LacksPartner S own.rows other.rows u.tests) mid new → KeepsPlaces (LacksPartners S tables r (take (i + 1) unless)) old new
 parts_more S tables r unless i u own other old mid new h e eo et a b =
     let all : take (i + 1) unless ≡ take i unless ++ u ∷ [] = take_more unless i u h ∙ ap (λ z. take i unless ++ z ∷ []) (sym e) in
     rw all (λ k. (
@@ -141,7 +144,7 @@ parts_more S tables r unless i u own other old mid new h e eo et a b =
         one (here d) = subst (λ (z : Unless). LacksPartner S (numbers_of_table tables r).rows (numbers_of_table tables z.rule).rows z.tests k) d (rw (eo, et) at q)
         one (there x) = elim x [ ]
 
-pub left_within : (P : ℕ → Type 0) (n : ℕ) (old new : List ℕ) → Each old (λ k. k < n) → Leaves P old new → Each new (λ k. k < n)
+pub left_within : (P : ℕ → Type 0) (n : ℕ) (old new : List ℕ) → Each old (λ k. k < n) → KeepsPlaces P old new → Each new (λ k. k < n)
 left_within P n old new h l k m = h k ((l k).0 m).0
 
 -- ---- steps
@@ -169,7 +172,7 @@ module _ (S : List Value) (tables : List NumberTable) (r : ℕ) (steps : List St
       none unless (there x) = elim x [ ]
 
   -- its keep step
-  pub stay_keep : (places new : List ℕ) (unless : List Unless) → s ≡ KeepRows r unless → StaySoFar S tables r (take i steps) places → Leaves (LacksPartners S tables r unless) places new → StaySoFar S tables r (take (i + 1) steps) new
+  pub stay_keep : (places new : List ℕ) (unless : List Unless) → s ≡ KeepRows r unless → StaySoFar S tables r (take i steps) places → KeepsPlaces (LacksPartners S tables r unless) places new → StaySoFar S tables r (take (i + 1) steps) new
   stay_keep places new unless e f l = rw all_are (λ k. (
     (λ m.
         let a = (l k).0 m in
@@ -201,12 +204,12 @@ stay_all S tables r steps done places h e known f k = (
     tuple l = ap (λ z. slice_index_or z k []) (table r h) ∙ get_or-map (texts_of S) (numbers_of_table tables r).rows k [] [] l
 
     to_partner : (unless : List Unless) → KeepRows r unless ∈ steps → (u : Unless) → u ∈ unless → k < length (numbers_of_table tables r).rows → (other : Tuple) → other ∈ match_table (tuples_in S tables) u.rule
-        → ((t : Test) → t ∈ u.tests → Meets (tuple_at (tuples_in S tables) r k) other t) → IsPartnered (map (texts_of S) (numbers_of_table tables u.rule).rows) u.tests (texts_of S (numbers_at (numbers_of_table tables r).rows k))
-    to_partner unless z u n l other o y = (other, subst (λ (ts : List Tuple). other ∈ ts) (table u.rule (known r unless z u n)) o, subst (λ (w : Tuple). Each u.tests (Meets w other)) (tuple l) y)
+        → ((t : Test) → t ∈ u.tests → MakesTrue (tuple_at (tuples_in S tables) r k) other t) → IsPartnered (map (texts_of S) (numbers_of_table tables u.rule).rows) u.tests (texts_of S (numbers_at (numbers_of_table tables r).rows k))
+    to_partner unless z u n l other o y = (other, subst (λ (ts : List Tuple). other ∈ ts) (table u.rule (known r unless z u n)) o, subst (λ (w : Tuple). Each u.tests (MakesTrue w other)) (tuple l) y)
 
     from_partner : (unless : List Unless) → KeepRows r unless ∈ steps → (u : Unless) → u ∈ unless → k < length (numbers_of_table tables r).rows → IsPartnered (map (texts_of S) (numbers_of_table tables u.rule).rows) u.tests (texts_of S (numbers_at (numbers_of_table tables r).rows k))
-        → ((other : Tuple) → other ∈ match_table (tuples_in S tables) u.rule → ¬ ((t : Test) → t ∈ u.tests → Meets (tuple_at (tuples_in S tables) r k) other t)) → ⊥
-    from_partner unless z u n l p f = f p.0 (subst (λ (ts : List Tuple). p.0 ∈ ts) (sym (table u.rule (known r unless z u n))) p.1) (subst (λ (w : Tuple). Each u.tests (Meets w p.0)) (sym (tuple l)) p.2)
+        → ((other : Tuple) → other ∈ match_table (tuples_in S tables) u.rule → ¬ ((t : Test) → t ∈ u.tests → MakesTrue (tuple_at (tuples_in S tables) r k) other t)) → ⊥
+    from_partner unless z u n l p f = f p.0 (subst (λ (ts : List Tuple). p.0 ∈ ts) (sym (table u.rule (known r unless z u n))) p.1) (subst (λ (w : Tuple). Each u.tests (MakesTrue w p.0)) (sym (tuple l)) p.2)
 
 -- ---- columns that tests read
 
@@ -225,7 +228,7 @@ other_within (Literal d text ∷ tests) own other f x m = other_within tests own
 -- ---- tests of the tuple alone
 
 pub const_is : (v : Value) (own text : Text) (b : Bool) → v ≡ Const own → (IsTrue b ↔ (own ≡ text)) → IsTrue b ↔ (v ≡ Const text)
-const_is v own text b e k = ((λ t. e ∙ ap Const (k.0 t)), (λ q. k.1 (ap text_in (sym e ∙ q))))
+const_is v own text b e k = ((λ t. e ∙ ap Const (k.0 t)), (λ q. k.1 (ap text_of_value (sym e ∙ q))))
 
 pub null_is_not : (v : Value) (n : NullId) (text : Text) → v ≡ Null n → IsTrue false ↔ (v ≡ Const text)
 null_is_not v n text e = ((λ t. absurd (false≢true t)), (λ q. absurd (apart (sym e ∙ q))))
@@ -253,9 +256,9 @@ alone_other own (Literal d text) n = absurd (n d text refl)
 
 -- ---- the tuple at a place
 
-pub partner_is : (S : List Value) (own : NumberTable) (others keys : List (List ℕ)) (tests : List Test) (w k : ℕ) (row cols columns : List ℕ) (b : Bool) → AreApart S → Each own.rows (AreTexts S)
+pub partner_is : (S : List Value) (own : NumberTable) (others keys : List (List ℕ)) (tests : List Test) (w k : ℕ) (row cols columns : List ℕ) (b : Bool) → AreDistinctValues S → Each own.rows (AreTexts S)
     → k < length own.rows → row ≡ numbers_at own.rows k → length row ≡ own.width → Each others (AreTexts S) → Each others (λ r. length r ≡ w) → Each tests (TestStands own.width w)
-    → AreKeys cols others keys → cols ≡ other_columns tests → columns ≡ own_columns tests → (IsTrue b ↔ (Each tests (HoldsAlone (texts_of S row)) × (numbers_in columns row ∈ keys)))
+    → AreKeys cols others keys → cols ≡ other_columns tests → columns ≡ own_columns tests → (IsTrue b ↔ (Each tests (HoldsAlone (texts_of S row)) × (column_numbers columns row ∈ keys)))
     → IsPartnered (map (texts_of S) others) tests (texts_of S (numbers_at own.rows k)) ↔ IsTrue b
 partner_is S own others keys tests w k row cols columns b apart mine h is wide theirs long stand ks ce oe t =
     let texts : AreTexts S row = row_there S own.rows k row mine h is in
@@ -263,20 +266,20 @@ partner_is S own others keys tests w k row cols columns b apart mine h is wide t
     let keyed : AreKeys (other_columns tests) others keys = subst (λ (z : List ℕ). AreKeys z others keys) ce ks in
     let p = partnered_is S row others keys tests w apart texts theirs long stands keyed in
     subst (λ (z : List ℕ). IsPartnered (map (texts_of S) others) tests (texts_of S z) ↔ IsTrue b) is (
-      (λ q. let r = p.0 q in t.1 (r.0, subst (λ (z : List ℕ). numbers_in z row ∈ keys) (sym oe) r.1)),
-      (λ q. let r = t.0 q in p.1 (r.0, subst (λ (z : List ℕ). numbers_in z row ∈ keys) oe r.1)),
+      (λ q. let r = p.0 q in t.1 (r.0, subst (λ (z : List ℕ). column_numbers z row ∈ keys) (sym oe) r.1)),
+      (λ q. let r = t.0 q in p.1 (r.0, subst (λ (z : List ℕ). column_numbers z row ∈ keys) oe r.1)),
     )
 
-pub leaves_all : (P : ℕ → Type 0) (places left : List ℕ) (i : ℕ) → length places ≤ i → Leaves P (take i places) left → Leaves P places left
-leaves_all P places left i h l = subst (λ (z : List ℕ). Leaves P z left) (take_all i places h) l
+pub leaves_all : (P : ℕ → Type 0) (places left : List ℕ) (i : ℕ) → length places ≤ i → KeepsPlaces P (take i places) left → KeepsPlaces P places left
+leaves_all P places left i h l = subst (λ (z : List ℕ). KeepsPlaces P z left) (take_all i places h) l
 
 -- ---- tables
 
 pub texts_at : (S : List Value) (tables : List NumberTable) (r : ℕ) (t : NumberTable) → r < length tables → t ≡ get_or tables r t → Each tables (λ (u : NumberTable). Each u.rows (AreTexts S)) → Each t.rows (AreTexts S)
 texts_at S tables r t h is f = f t (subst (λ (z : NumberTable). z ∈ tables) (sym is) (in_at tables r t h))
 
-pub parts_all : (S : List Value) (tables : List NumberTable) (r i : ℕ) (unless : List Unless) (old left : List ℕ) → length unless ≤ i → Leaves (LacksPartners S tables r (take i unless)) old left → Leaves (LacksPartners S tables r unless) old left
-parts_all S tables r i unless old left h l = subst (λ (z : List Unless). Leaves (LacksPartners S tables r z) old left) (take_all i unless h) l
+pub parts_all : (S : List Value) (tables : List NumberTable) (r i : ℕ) (unless : List Unless) (old left : List ℕ) → length unless ≤ i → KeepsPlaces (LacksPartners S tables r (take i unless)) old left → KeepsPlaces (LacksPartners S tables r unless) old left
+parts_all S tables r i unless old left h l = subst (λ (z : List Unless). KeepsPlaces (LacksPartners S tables r z) old left) (take_all i unless h) l
 
 -- ---- other steps
 
@@ -292,11 +295,11 @@ no_keep s r n unless = n r unless
 -- ---- the loop over places
 
 pub place_left : (S : List Value) (own others : List (List ℕ)) (tests : List Test) (places old : List ℕ) (i k : ℕ) (b : Bool) → i < length places → k ≡ get_or places i k → b ≡ false
-    → (IsPartnered (map (texts_of S) others) tests (texts_of S (numbers_at own k)) ↔ IsTrue b) → Leaves (LacksPartner S own others tests) (take i places) old
-    → Leaves (LacksPartner S own others tests) (take (i + 1) places) (old ++ k ∷ [])
+    → (IsPartnered (map (texts_of S) others) tests (texts_of S (numbers_at own k)) ↔ IsTrue b) → KeepsPlaces (LacksPartner S own others tests) (take i places) old
+    → KeepsPlaces (LacksPartner S own others tests) (take (i + 1) places) (old ++ k ∷ [])
 place_left S own others tests places old i k b h e f p l = leaves_one (LacksPartner S own others tests) places old i k h e (λ q. false≢true (sym f ∙ p.0 q)) l
 
 pub place_gone : (S : List Value) (own others : List (List ℕ)) (tests : List Test) (places old : List ℕ) (i k : ℕ) (b : Bool) → i < length places → k ≡ get_or places i k → b ≡ true
-    → (IsPartnered (map (texts_of S) others) tests (texts_of S (numbers_at own k)) ↔ IsTrue b) → Leaves (LacksPartner S own others tests) (take i places) old
-    → Leaves (LacksPartner S own others tests) (take (i + 1) places) old
+    → (IsPartnered (map (texts_of S) others) tests (texts_of S (numbers_at own k)) ↔ IsTrue b) → KeepsPlaces (LacksPartner S own others tests) (take i places) old
+    → KeepsPlaces (LacksPartner S own others tests) (take (i + 1) places) old
 place_gone S own others tests places old i k b h e f p l = leaves_not (LacksPartner S own others tests) places old i k h e (λ n. n (p.1 f)) l

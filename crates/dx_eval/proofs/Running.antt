@@ -10,8 +10,9 @@ use Rattle.dx_ports.proofs.Lists.{zip_long}
 use Rattle.dx_model.specs.declared.facts.Fact.{Fact}
 use Rattle.dx_model.specs.declared.matches.Matches.{Matches}
 use Rattle.dx_model.specs.declared.values.Value.{Value}
-use Rattle.dx_model.specs.Values.{Text, Tuple, Rows}
-use Rattle.dx_schema.specs.Names.{Named}
+use Rattle.dx_model.specs.Values.{Tuple, Rows}
+use Rattle.dx_ports.specs.Texts.{Text}
+use Rattle.dx_schema.specs.Names.{TableNames}
 use Rattle.dx_instance.specs.Cells.{NumberTable}
 use Rattle.dx_instance.specs.Numbers.{ValuesAscend}
 use Rattle.dx_instance.specs.Shown.{numbers_of_table}
@@ -29,23 +30,24 @@ use Rattle.dx_script.specs.declared.form.Step.TheVariants.{Create, MatchRows, Ke
 use Rattle.dx_script.specs.Fits.{FitsScript, HasColumn, InsertFits, KeepFits, OutFits, ReadsKept, TestFits, created, created_in, kept_in, match_widths, width_in}
 use Rattle.dx_script.specs.Meaning.{IsInserted, Means}
 use Rattle.dx_script.specs.Names.{table_names}
-use Rattle.dx_tgd.specs.Found.{IsReordered}
+use Rattle.dx_tgd.specs.Found.{IsRenumbering}
 use Rattle.dx_tgd.specs.Texts.{tuples_in}
 use Rattle.dx_tgd.proofs.Tables.{no_facts}
-use Rattle.dx_eval.specs.Evaluating.{IsMade, script_cells, tuples_of}
-use Rattle.dx_eval.specs.Finding.{AreFoundSteps, IsFoundStep, Matching, MatchesFit, matchings}
+use Rattle.dx_eval.specs.Evaluating.{IsMade, script_cells}
+use Rattle.dx_model.specs.Matches.{rows_of_matches}
+use Rattle.dx_eval.specs.Finding.{AreFoundSteps, IsFoundStep, MatchStep, MatchesFit, matchings}
 use Rattle.dx_eval.specs.Inserting.{InsertStands, OutStands}
 use Rattle.dx_eval.specs.Keeping.{PartStands, TestStands}
 use Rattle.dx_eval.proofs.Inserts.{sorted_facts}
 use Rattle.dx_eval.proofs.Limits.{reordered_cells}
 use Rattle.dx_eval.proofs.Tables.{are_tables, found_reordered, matching_long, no_matching, split_in, to_tables, zip_here}
 
-pub matches_fit : (source target : List Named) (list : List Conversion) (steps : List Step) → FitsScript source target list steps → MatchesFit source list steps
+pub matches_fit : (source target : List TableNames) (list : List Conversion) (steps : List Step) → FitsScript source target list steps → MatchesFit source list steps
 matches_fit source target list steps f before after r select sources equal e = f.each before after (MatchRows r select sources equal) e
 
 -- ---- widths
 
-widths_are : (steps : List Step) → match_widths steps ≡ map (λ (m : Matching). length m.select) (matchings steps)
+widths_are : (steps : List Step) → match_widths steps ≡ map (λ (m : MatchStep). length m.select) (matchings steps)
 widths_are [] = refl
 widths_are (Create table columns ∷ steps) = widths_are steps
 widths_are (MatchRows r select sources equal ∷ steps) = ap (λ (z : List ℕ). length select ∷ z) (widths_are steps)
@@ -63,7 +65,7 @@ early steps before after s r e h =
 none : NumberTable
 none = record { width = 0; rows = [] }
 
-module _ (source target : List Named) (list : List Conversion) (steps : List Step) (fit : FitsScript source target list steps) (call : Text → Tuple → Text) (I : List Fact) (S : List Value) (ts : List NumberTable)
+module _ (source target : List TableNames) (list : List Conversion) (steps : List Step) (fit : FitsScript source target list steps) (call : Text → Tuple → Text) (I : List Fact) (S : List Value) (ts : List NumberTable)
     (found : AreFoundSteps source call I S (matchings steps) ts) where
   wide_at : (r : ℕ) → r < length (match_widths steps) → (numbers_of_table ts r).width ≡ slice_index_or (match_widths steps) r 0
   unfolding none
@@ -71,7 +73,7 @@ module _ (source target : List Named) (list : List Conversion) (steps : List Ste
       let l = matching_long steps in
       let h : r < length (matchings steps) = omega (arith, l, k) in
       let z = zip_here (IsFoundStep source call I S) (matchings steps) ts r no_matching none found h in
-      z.width ∙ sym (ap (λ (q : List ℕ). get_or q r 0) (widths_are steps) ∙ get_or-map (λ (m : Matching). length m.select) (matchings steps) r no_matching 0 h)
+      z.width ∙ sym (ap (λ (q : List ℕ). get_or q r 0) (widths_are steps) ∙ get_or-map (λ (m : MatchStep). length m.select) (matchings steps) r no_matching 0 h)
 
   column_low : (before after : List Step) (s : Step) (r c : ℕ) → steps ≡ before ++ s ∷ after → HasColumn before r c → c < (numbers_of_table ts r).width
   column_low before after s r c e h =
@@ -120,12 +122,12 @@ module _ (source target : List Named) (list : List Conversion) (steps : List Ste
       made before after s e n =
           let w = from_map (λ (t : Text × List Text). t.0) (created before) n in
           let all : created steps ≡ created before ++ created (s ∷ after) = ap created e ∙ flat_map-append created_in before (s ∷ after) in
-          let there_is : w.0 ∈ map (λ (t : Named). (t.name, t.columns)) target = subst (λ (z : List (Text × List Text)). w.0 ∈ z) (sym all ∙ fit.creates) (in_left (created (s ∷ after)) w.1) in
-          let u = from_map (λ (t : Named). (t.name, t.columns)) target there_is in
-          subst (λ (z : Text). z ∈ table_names target) (ap (λ (t : Text × List Text). t.0) u.2 ∙ w.2) (in_map (λ (t : Named). t.name) u.1)
+          let there_is : w.0 ∈ map (λ (t : TableNames). (t.name, t.columns)) target = subst (λ (z : List (Text × List Text)). w.0 ∈ z) (sym all ∙ fit.creates) (in_left (created (s ∷ after)) w.1) in
+          let u = from_map (λ (t : TableNames). (t.name, t.columns)) target there_is in
+          subst (λ (z : Text). z ∈ table_names target) (ap (λ (t : Text × List Text). t.0) u.2 ∙ w.2) (in_map (λ (t : TableNames). t.name) u.1)
 
 -- an insert reads the keep table if there is one
-pub reads_kept : (source target : List Named) (list : List Conversion) (steps : List Step) → FitsScript source target list steps → (table : Text) (r : ℕ) (kept : Bool) (cells : List Out) (unless : List Unless)
+pub reads_kept : (source target : List TableNames) (list : List Conversion) (steps : List Step) → FitsScript source target list steps → (table : Text) (r : ℕ) (kept : Bool) (cells : List Out) (unless : List Unless)
     → InsertRows table r kept cells ∈ steps → KeepRows r unless ∈ steps → IsTrue kept
 reads_kept source target list steps fit table r kept cells unless m n =
     let s = split_in steps (InsertRows table r kept cells) m in
@@ -150,10 +152,10 @@ widths_built ws I e = ap widths e ∙ widths_without ws
 
 -- ---- the whole
 
-pub made_is : (source target : List Named) (list : List Conversion) (steps : List Step) (call : Text → Tuple → Text) (I J : List Fact) (T S : List Value) (us ts : List NumberTable) (matches : Matches)
-    (B K : List TableRows) (limit : ℕ) → FitsScript source target list steps → I ≡ J → ValuesAscend S → AreFoundSteps source call I T (matchings steps) us → AllZip (IsReordered T S) us ts
-    → script_cells steps (tuples_in T us) ≤ limit → tuples_of matches ≡ tuples_in S ts → ((f : Fact) → (f ∈ facts B) ↔ IsInserted target steps (tuples_in S ts) f) → IsSorting B K
-    → widths B ≡ map (λ (t : Named). length t.columns) target → IsMade source target call steps J limit (record { instance = K; matches = matches })
+pub made_is : (source target : List TableNames) (list : List Conversion) (steps : List Step) (call : Text → Tuple → Text) (I J : List Fact) (T S : List Value) (us ts : List NumberTable) (matches : Matches)
+    (B K : List TableRows) (limit : ℕ) → FitsScript source target list steps → I ≡ J → ValuesAscend S → AreFoundSteps source call I T (matchings steps) us → AllZip (IsRenumbering T S) us ts
+    → script_cells steps (tuples_in T us) ≤ limit → rows_of_matches matches ≡ tuples_in S ts → ((f : Fact) → (f ∈ facts B) ↔ IsInserted target steps (tuples_in S ts) f) → IsSorting B K
+    → widths B ≡ map (λ (t : TableNames). length t.columns) target → IsMade source target call steps J limit (record { instance = K; matches = matches })
 made_is source target list steps call I J T S us ts matches B K limit fit e up found order few same inserted sorted wide =
     let found_now = found_reordered source call I T S (matchings steps) us ts order found in
     let a = are_tables source call I list steps (tuples_in S ts) (matches_fit source target list steps fit) (to_tables source call I S (matchings steps) ts up found_now) in

@@ -9,12 +9,13 @@ use Rattle.dx_ports.proofs.Members.{in_right}
 use Rattle.dx_ports.proofs.Lists.{zip_long, zip_grow}
 use Rattle.dx_model.specs.declared.facts.Fact.{Fact}
 use Rattle.dx_model.specs.declared.values.Value.{Value}
-use Rattle.dx_model.specs.Values.{Text, Tuple, Rows}
+use Rattle.dx_model.specs.Values.{Tuple, Rows}
+use Rattle.dx_ports.specs.Texts.{Text}
 use Rattle.dx_instance.specs.Cells.{NumberTable, NumbersAscend}
 use Rattle.dx_instance.specs.Numbers.{Extends, ValuesAscend}
 use Rattle.dx_joins.specs.Shown.{AreTexts, texts_of}
 use Rattle.dx_joins.proofs.Whole.{stand_grow}
-use Rattle.dx_schema.specs.Names.{Named}
+use Rattle.dx_schema.specs.Names.{TableNames}
 use Rattle.dx_funcs.specs.declared.conversion.Conversion.{Conversion}
 use Rattle.dx_script.specs.declared.form.Select.{Select}
 use Rattle.dx_script.specs.declared.form.Equal.{Equal}
@@ -22,13 +23,13 @@ use Rattle.dx_script.specs.declared.form.Step.{Step}
 use Rattle.dx_script.specs.declared.form.Step.TheVariants.{Create, MatchRows, KeepRows, InsertRows}
 use Rattle.dx_script.specs.Fits.{MatchFits, match_widths}
 use Rattle.dx_script.specs.Meaning.{IsMatchTable, match_table}
-use Rattle.dx_tgd.specs.Found.{IsReordered}
+use Rattle.dx_tgd.specs.Found.{IsRenumbering}
 use Rattle.dx_tgd.specs.Texts.{tuples_in}
 use Rattle.dx_tgd.proofs.Ascending.{tuples_ascend}
 use Rattle.dx_tgd.proofs.Founds.{stand_reordered}
 use Rattle.dx_eval.specs.Evaluating.{AreMatchTables}
 use Rattle.dx_eval.specs.Query.{IsSelected}
-use Rattle.dx_eval.specs.Finding.{AreFoundSteps, IsFoundStep, Matching, MatchesFit, matching_in, matchings}
+use Rattle.dx_eval.specs.Finding.{AreFoundSteps, IsFoundStep, MatchStep, MatchesFit, matching_in, matchings}
 use Rattle.dx_eval.proofs.Exists.{has_table}
 
 -- ---- steps by their places
@@ -53,10 +54,10 @@ split_in (t ∷ steps) s (there m) = let w = split_in steps s m in record { befo
 pub in_split : (steps : List Step) (s : Step) → Split steps s → s ∈ steps
 in_split steps s w = subst (λ z. s ∈ z) (sym w.is) (in_right w.before (here refl))
 
-pub no_matching : Matching
+pub no_matching : MatchStep
 no_matching = record { select = []; sources = []; equal = [] }
 
-abbrev pub of_step : List Select → List Text → List Equal → Matching
+abbrev pub of_step : List Select → List Text → List Equal → MatchStep
 of_step select sources equal = record { select = select; sources = sources; equal = equal }
 
 -- the match step at a place
@@ -84,12 +85,12 @@ at_place (MatchRows r select sources equal ∷ steps) (suc k) h =
     let w = at_place steps k (omega (arith, h)) in
     record { rule = w.rule; select = w.select; sources = w.sources; equal = w.equal; split = record { before = MatchRows r select sources equal ∷ w.split.before; after = w.split.after; is = ap (λ z. MatchRows r select sources equal ∷ z) w.split.is }; place = ap suc w.place }
 
-get_middle : (xs ys : List Matching) (m d : Matching) → get_or (xs ++ m ∷ ys) (length xs) d ≡ m
+get_middle : (xs ys : List MatchStep) (m d : MatchStep) → get_or (xs ++ m ∷ ys) (length xs) d ≡ m
 get_middle [] ys m d = refl
 get_middle (x ∷ xs) ys m d = get_middle xs ys m d
 
 -- a match step stands at the place of its number
-module _ (source : List Named) (list : List Conversion) (steps : List Step) (fit : MatchesFit source list steps) where
+module _ (source : List TableNames) (list : List Conversion) (steps : List Step) (fit : MatchesFit source list steps) where
   pub placed : (r : ℕ) (select : List Select) (sources : List Text) (equal : List Equal) (s : Split steps (MatchRows r select sources equal)) → length (matchings s.before) ≡ r
   placed r select sources equal s = let f = fit s.before s.after r select sources equal s.is in let n = f.number in matching_long s.before ∙ sym n
 
@@ -131,31 +132,31 @@ zip_through R Q S (x ∷ xs) (y ∷ ys) (z ∷ zs) f a b = (f x y z a.0 b.0, zip
 
 -- ---- what is found
 
-module _ (source : List Named) (call : Text → Tuple → Text) (I : List Fact) where
-  pub found_grown : (S T : List Value) (ms : List Matching) (ts : List NumberTable) → Extends S T → AreFoundSteps source call I S ms ts → AreFoundSteps source call I T ms ts
+module _ (source : List TableNames) (call : Text → Tuple → Text) (I : List Fact) where
+  pub found_grown : (S T : List Value) (ms : List MatchStep) (ts : List NumberTable) → Extends S T → AreFoundSteps source call I S ms ts → AreFoundSteps source call I T ms ts
   found_grown S T ms ts e f =
       zip_grow (IsFoundStep source call I S) (IsFoundStep source call I T) ms ts (λ m t s. stand_grow (length m.select) (IsSelected source call I m.select m.sources m.equal) S T t e s) f
 
-  pub found_texts : (S : List Value) (ms : List Matching) (ts : List NumberTable) → AreFoundSteps source call I S ms ts → Each ts (λ (t : NumberTable). Each t.rows (AreTexts S))
+  pub found_texts : (S : List Value) (ms : List MatchStep) (ts : List NumberTable) → AreFoundSteps source call I S ms ts → Each ts (λ (t : NumberTable). Each t.rows (AreTexts S))
   found_texts S ms ts f = zip_each (IsFoundStep source call I S) (λ (t : NumberTable). Each t.rows (AreTexts S)) ms ts (λ m t s. s.texts) f
 
-  pub found_ascend : (S : List Value) (ms : List Matching) (ts : List NumberTable) → AreFoundSteps source call I S ms ts → Each ts (λ (t : NumberTable). NumbersAscend t.rows)
+  pub found_ascend : (S : List Value) (ms : List MatchStep) (ts : List NumberTable) → AreFoundSteps source call I S ms ts → Each ts (λ (t : NumberTable). NumbersAscend t.rows)
   found_ascend S ms ts f = zip_each (IsFoundStep source call I S) (λ (t : NumberTable). NumbersAscend t.rows) ms ts (λ m t s. s.ascend) f
 
-  pub found_reordered : (S T : List Value) (ms : List Matching) (ts us : List NumberTable) → AllZip (IsReordered S T) ts us → AreFoundSteps source call I S ms ts → AreFoundSteps source call I T ms us
+  pub found_reordered : (S T : List Value) (ms : List MatchStep) (ts us : List NumberTable) → AllZip (IsRenumbering S T) ts us → AreFoundSteps source call I S ms ts → AreFoundSteps source call I T ms us
   found_reordered S T ms ts us z f =
-      zip_through (IsFoundStep source call I S) (IsReordered S T) (IsFoundStep source call I T) ms ts us
+      zip_through (IsFoundStep source call I S) (IsRenumbering S T) (IsFoundStep source call I T) ms ts us
       (λ m t u s r. stand_reordered (length m.select) (IsSelected source call I m.select m.sources m.equal) S T t u r s) f z
 
   -- a match table of what a step says
-  unfoldable pub IsTable : Matching → List Tuple → Type 0
+  unfoldable pub IsTable : MatchStep → List Tuple → Type 0
   IsTable m tuples = IsMatchTable source call I m.select m.sources m.equal tuples
 
-  pub to_table : (S : List Value) (m : Matching) (t : NumberTable) → ValuesAscend S → IsFoundStep source call I S m t → IsTable m (map (texts_of S) t.rows)
+  pub to_table : (S : List Value) (m : MatchStep) (t : NumberTable) → ValuesAscend S → IsFoundStep source call I S m t → IsTable m (map (texts_of S) t.rows)
   unfolding IsTable
   to_table S m t up s = record { ascend = tuples_ascend S t.rows up s.texts s.ascend; exact = s.exact }
 
-  pub to_tables : (S : List Value) (ms : List Matching) (ts : List NumberTable) → ValuesAscend S → AreFoundSteps source call I S ms ts → AllZip IsTable ms (tuples_in S ts)
+  pub to_tables : (S : List Value) (ms : List MatchStep) (ts : List NumberTable) → ValuesAscend S → AreFoundSteps source call I S ms ts → AllZip IsTable ms (tuples_in S ts)
   to_tables S [] [] up f = tt
   to_tables S [] (t ∷ ts) up f = absurd f
   to_tables S (m ∷ ms) [] up f = absurd f
@@ -184,7 +185,7 @@ module _ (source : List Named) (call : Text → Tuple → Text) (I : List Fact) 
         let h = zip_here IsTable (matchings steps) tables r no_matching [] z p.0 in
         let l = zip_long IsTable (matchings steps) tables z in
         let k = p.0 in
-        (omega (arith, l, k), subst (λ (q : Matching). IsMatchTable source call I q.select q.sources q.equal (match_table tables r)) p.1 h);
+        (omega (arith, l, k), subst (λ (q : MatchStep). IsMatchTable source call I q.select q.sources q.equal (match_table tables r)) p.1 h);
     no_more = λ r h.
         let l = zip_long IsTable (matchings steps) tables z in
         let k : r < length (matchings steps) = omega (arith, l, h) in
@@ -203,6 +204,6 @@ split_at steps i s t h is e =
     sym (take-append-drop (i + 1) steps)
     ∙ (ap (λ (z : List Step). z ++ drop (i + 1) steps) (take_more steps i s h ∙ ap (λ (z : Step). take i steps ++ z ∷ []) (sym is ∙ e)) ∙ append_assoc (take i steps) (t ∷ []) (drop (i + 1) steps))
 
-pub match_fits_at : (source : List Named) (list : List Conversion) (steps : List Step) (i r : ℕ) (select : List Select) (sources : List Text) (equal : List Equal) (s : Step) → MatchesFit source list steps
+pub match_fits_at : (source : List TableNames) (list : List Conversion) (steps : List Step) (i r : ℕ) (select : List Select) (sources : List Text) (equal : List Equal) (s : Step) → MatchesFit source list steps
     → i < length steps → s ≡ get_or steps i s → s ≡ MatchRows r select sources equal → MatchFits source list (take i steps) r select sources equal
 match_fits_at source list steps i r select sources equal s fit h is variant = fit (take i steps) (drop (i + 1) steps) r select sources equal (split_at steps i s (MatchRows r select sources equal) h is variant)

@@ -5,9 +5,10 @@ use Rattle.dx_ports.specs.declared.file.Count.TheVariants.{TargetCells}
 use Rattle.dx_model.specs.declared.facts.Fact.{Fact}
 use Rattle.dx_model.specs.declared.matches.Places.{Places}
 use Rattle.dx_model.specs.declared.matches.Matches.{Matches}
-use Rattle.dx_model.specs.Values.{Text, Tuple, Rows}
+use Rattle.dx_model.specs.Values.{Tuple, Rows}
+use Rattle.dx_ports.specs.Texts.{Text}
 use Rattle.dx_model.specs.Covers.{below}
-use Rattle.dx_schema.specs.Names.{Named}
+use Rattle.dx_schema.specs.Names.{TableNames}
 use Rattle.dx_instance.specs.Stored.{facts, widths}
 use Rattle.dx_script.specs.declared.form.Select.{Select}
 use Rattle.dx_script.specs.declared.form.Equal.{Equal}
@@ -17,23 +18,20 @@ use Rattle.dx_script.specs.Meaning.{IsMatchTable, Means, match_table}
 use Rattle.dx_eval.specs.declared.made.Made.{Made}
 use Rattle.dx_eval.specs.declared.fault.EvalFault.{EvalFault}
 use Rattle.dx_eval.specs.declared.fault.EvalFault.TheVariants.{Limit}
-
--- the tuples of each rule
-abbrev pub tuples_of : Matches → Rows
-tuples_of m = map (λ (p : Places). p.tuples) m.rules
+use Rattle.dx_model.specs.Matches.{rows_of_matches}
 
 -- ---- the cells that a script inserts, each rule's for all of its matches
 
 -- how many cells a step inserts for each tuple of rule r
-abbrev pub cells_in : ℕ → Step → ℕ
-cells_in r (Create table columns) = 0
-cells_in r (MatchRows s select sources equal) = 0
-cells_in r (KeepRows s unless) = 0
-cells_in r (InsertRows table s kept cells) = cond (eqb r s) (length cells) 0
+abbrev pub inserted_cells : ℕ → Step → ℕ
+inserted_cells r (Create table columns) = 0
+inserted_cells r (MatchRows s select sources equal) = 0
+inserted_cells r (KeepRows s unless) = 0
+inserted_cells r (InsertRows table s kept cells) = cond (eqb r s) (length cells) 0
 
 -- how many cells the steps insert for each tuple of rule r
 abbrev pub cells_for : List Step → ℕ → ℕ
-cells_for steps r = sum (map (cells_in r) steps)
+cells_for steps r = sum (map (inserted_cells r) steps)
 
 -- the sum, over the rules, of their tuples times the cells of their inserts
 abbrev pub script_cells : List Step → Rows → ℕ
@@ -42,7 +40,7 @@ script_cells steps tables = sum (map (λ r. length (match_table tables r) * cell
 -- ---- runs
 
 -- the match tables of a script on the rows I of a source
-pub record AreMatchTables (source : List Named) (call : Text → Tuple → Text) (steps : List Step) (I : List Fact) (tables : Rows)
+pub record AreMatchTables (source : List TableNames) (call : Text → Tuple → Text) (steps : List Step) (I : List Fact) (tables : Rows)
     : Type 0 where
   pub matches : (r : ℕ) (select : List Select) (sources : List Text) (equal : List Equal) → MatchRows r select sources equal ∈ steps
       → (r < length tables) × IsMatchTable source call I select sources equal (match_table tables r)
@@ -50,14 +48,14 @@ pub record AreMatchTables (source : List Named) (call : Text → Tuple → Text)
       → (select : List Select) × (sources : List Text) × (equal : List Equal) × (MatchRows r select sources equal ∈ steps)
 
 -- the matches and the facts are what the script means, within the limit; the tables have the columns of the target's
-pub record IsMade (source target : List Named) (call : Text → Tuple → Text) (steps : List Step) (I : List Fact) (limit : ℕ)
+pub record IsMade (source target : List TableNames) (call : Text → Tuple → Text) (steps : List Step) (I : List Fact) (limit : ℕ)
     (m : Made) : Type 0 where
-  pub means : Means source target call steps I (tuples_of m.matches) (facts m.instance)
-  pub within : script_cells steps (tuples_of m.matches) ≤ limit
-  pub wide : widths m.instance ≡ map (λ (t : Named). length t.columns) target
+  pub means : Means source target call steps I (rows_of_matches m.matches) (facts m.instance)
+  pub within : script_cells steps (rows_of_matches m.matches) ≤ limit
+  pub wide : widths m.instance ≡ map (λ (t : TableNames). length t.columns) target
 
 -- the match tables of the script pass the limit, and this is the fault
-pub record PassesLimit (source : List Named) (call : Text → Tuple → Text) (steps : List Step) (I : List Fact) (limit : ℕ)
+pub record ScriptPassesLimit (source : List TableNames) (call : Text → Tuple → Text) (steps : List Step) (I : List Fact) (limit : ℕ)
     (e : EvalFault) : Type 0 where
   pub tables : Rows
   pub are : AreMatchTables source call steps I tables

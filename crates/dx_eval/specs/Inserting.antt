@@ -2,8 +2,9 @@
 use Rattle.std.specs.Prelude.{◌≡◌, ℕ, ◌<◌, cond, eqb, List, [], length, map, flat_map, slice_index_or}
 use Rattle.dx_ports.specs.Members.{◌∈◌, Each}
 use Rattle.dx_model.specs.declared.facts.Fact.{Fact}
-use Rattle.dx_model.specs.Values.{Text, Tuple, Rows}
-use Rattle.dx_schema.specs.Names.{Named}
+use Rattle.dx_model.specs.Values.{Tuple, Rows}
+use Rattle.dx_ports.specs.Texts.{Text}
+use Rattle.dx_schema.specs.Names.{TableNames}
 use Rattle.dx_script.specs.declared.form.Out.{Out}
 use Rattle.dx_script.specs.declared.form.Out.TheVariants.{Column, Literal, Skolem}
 use Rattle.dx_script.specs.declared.form.Step.{Step}
@@ -17,22 +18,22 @@ abbrev pub placed_fact : ℕ → ℕ → List Tuple → List Out → ℕ → Fac
 placed_fact table r tuples cells k = record { table = table; row = map (inserted r k (slice_index_or tuples k [])) cells }
 
 -- the fact that an insert step makes of a place
-abbrev pub fact_at : List Named → Text → ℕ → List Tuple → List Out → ℕ → Fact
-fact_at target table r tuples cells k = placed_fact (table_named target table) r tuples cells k
+abbrev pub inserted_fact : List TableNames → Text → ℕ → List Tuple → List Out → ℕ → Fact
+inserted_fact target table r tuples cells k = placed_fact (table_named target table) r tuples cells k
 
 -- the facts that a step makes of the places of rule r
-abbrev pub facts_in : List Named → ℕ → List Tuple → List ℕ → Step → List Fact
-facts_in target r tuples places (Create table columns) = []
-facts_in target r tuples places (MatchRows s select sources equal) = []
-facts_in target r tuples places (KeepRows s unless) = []
-facts_in target r tuples places (InsertRows table s kept cells) = cond (eqb s r) (map (fact_at target table r tuples cells) places) []
+abbrev pub inserted_facts : List TableNames → ℕ → List Tuple → List ℕ → Step → List Fact
+inserted_facts target r tuples places (Create table columns) = []
+inserted_facts target r tuples places (MatchRows s select sources equal) = []
+inserted_facts target r tuples places (KeepRows s unless) = []
+inserted_facts target r tuples places (InsertRows table s kept cells) = cond (eqb s r) (map (inserted_fact target table r tuples cells) places) []
 
 -- the facts that the steps make of them
-abbrev pub facts_by : List Named → List Step → ℕ → List Tuple → List ℕ → List Fact
-facts_by target steps r tuples places = flat_map (facts_in target r tuples places) steps
+abbrev pub facts_by : List TableNames → List Step → ℕ → List Tuple → List ℕ → List Fact
+facts_by target steps r tuples places = flat_map (inserted_facts target r tuples places) steps
 
 -- an insert step makes the fact, of a rule below n
-pub record IsInsertedBelow (target : List Named) (steps : List Step) (tables : Rows) (n : ℕ) (f : Fact) : Type 0 where
+pub record IsInsertedBelow (target : List TableNames) (steps : List Step) (tables : Rows) (n : ℕ) (f : Fact) : Type 0 where
   pub step : IsInserted target steps tables f
   pub low : step.rule < n
 
@@ -43,7 +44,7 @@ OutStands width (Literal text) = Unit {0}
 OutStands width (Skolem v) = Unit {0}
 
 -- an insert step has a table of the target and a value for each of its columns
-pub record InsertStands (target : List Named) (width : ℕ) (table : Text) (cells : List Out) : Type 0 where
+pub record InsertStands (target : List TableNames) (width : ℕ) (table : Text) (cells : List Out) : Type 0 where
   pub named : table ∈ table_names target
   pub many : length cells ≡ width_named target table
   pub outs : Each cells (OutStands width)

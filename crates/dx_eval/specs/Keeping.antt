@@ -10,7 +10,8 @@ use Rattle.dx_script.specs.declared.form.Test.{Test}
 use Rattle.dx_script.specs.declared.form.Test.TheVariants.{Columns, Literal}
 use Rattle.dx_script.specs.declared.form.Unless.{Unless}
 use Rattle.dx_script.specs.declared.form.Step.{Step}
-use Rattle.dx_script.specs.Meaning.{IsKept, Meets, in_column, match_table, tuple_at}
+use Rattle.dx_script.specs.Meaning.{IsInKeepTable, MakesTrue, in_column, match_table}
+use Rattle.dx_model.specs.Covers.{tuple_at}
 
 -- ---- partners
 
@@ -21,7 +22,7 @@ TestStands own other (Literal d text) = d < own
 
 -- one of the others makes all tests true
 abbrev pub IsPartnered : List Tuple → List Test → Tuple → Type 0
-IsPartnered others tests own = (other : Tuple) × (other ∈ others) × Each tests (Meets own other)
+IsPartnered others tests own = (other : Tuple) × (other ∈ others) × Each tests (MakesTrue own other)
 
 -- what a test says of the tuple's own columns alone
 abbrev pub HoldsAlone : Tuple → Test → Type 0
@@ -45,19 +46,19 @@ abbrev pub own_columns : List Test → List ℕ
 own_columns tests = flat_map own_in tests
 
 -- the numbers in these columns of a row
-abbrev pub numbers_in : List ℕ → List ℕ → List ℕ
-numbers_in columns row = map (slice_index row) columns
+abbrev pub column_numbers : List ℕ → List ℕ → List ℕ
+column_numbers columns row = map (slice_index row) columns
 
 -- the keys are what the rows have in these columns
 pub record AreKeys (columns : List ℕ) (rows keys : List (List ℕ)) : Type 0 where
   pub ascend : NumbersAscend keys
-  pub exact : (key : List ℕ) → (key ∈ keys) ↔ ((row : List ℕ) × (row ∈ rows) × (key ≡ numbers_in columns row))
+  pub exact : (key : List ℕ) → (key ∈ keys) ↔ ((row : List ℕ) × (row ∈ rows) × (key ≡ column_numbers columns row))
 
 -- ---- places
 
 -- the new places are those of the old ones that have P
-abbrev pub Leaves : (ℕ → Type 0) → List ℕ → List ℕ → Type 0
-Leaves P old new = (k : ℕ) → (k ∈ new) ↔ ((k ∈ old) × P k)
+abbrev pub KeepsPlaces : (ℕ → Type 0) → List ℕ → List ℕ → Type 0
+KeepsPlaces P old new = (k : ℕ) → (k ∈ new) ↔ ((k ∈ old) × P k)
 
 -- the tuple of a place has no partner
 abbrev pub LacksPartner : List Value → List (List ℕ) → List (List ℕ) → List Test → ℕ → Type 0
@@ -76,4 +77,4 @@ pub record PartStands (tables : List NumberTable) (r : ℕ) (u : Unless) : Type 
 -- the places of rule r that the keep steps leave
 abbrev pub Stay : List Step → Rows → ℕ → List ℕ → Type 0
 Stay steps tables r places =
-    (k : ℕ) → (k ∈ places) ↔ ((k < length (match_table tables r)) × IsKept steps tables r (tuple_at tables r k))
+    (k : ℕ) → (k ∈ places) ↔ ((k < length (match_table tables r)) × IsInKeepTable steps tables r (tuple_at tables r k))

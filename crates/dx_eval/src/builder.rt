@@ -1,10 +1,10 @@
 // Rows of numbers for each table of the target, before they are put in order.
 ghost use Rattle.std.specs.Prelude.{◌≡◌, ◌<◌, ◌≤◌, ◌-◌, ◌^◌, [], ◌∷◌, IfOk, OnOk, length};
 ghost use Rattle.dx_ports.specs.Members.{Each};
-ghost use Rattle.dx_instance.specs.Numbers.{AreApart, Extends, value_of};
+ghost use Rattle.dx_instance.specs.Numbers.{AreDistinctValues, Extends, value_of};
 ghost use Rattle.dx_instance.specs.Shown.{AreBelow, shown_row};
 ghost use Rattle.dx_instance.specs.Stored.{IsSorting, table_at, without_rows};
-ghost use Rattle.dx_tgd.specs.Gained.{Gains};
+ghost use Rattle.dx_tgd.specs.Gained.{GainsFacts};
 ghost use Rattle.dx_tgd.specs.Planned.{built};
 
 use dx_instance::{Instance, Rows, Symbols, Value};
@@ -21,13 +21,13 @@ pub(crate) struct Builder {
 impl Model for Builder {
     ghost use Rattle.std.specs.Prelude.{length};
     ghost use Rattle.dx_ports.specs.Members.{Each};
-    ghost use Rattle.dx_instance.specs.Shown.{Numbered, RowsFit};
+    ghost use Rattle.dx_instance.specs.Shown.{NumberedInstance, NumberRowsFit};
 
     ghost Value = { Numbered };
 
     ghost view = { λ b. record { symbols = b.symbols; tables = b.tables.items } };
 
-    ghost invariant = { λ b. Each b.tables.items (RowsFit (length b.symbols)) };
+    ghost invariant = { λ b. Each b.tables.items (NumberRowsFit (length b.symbols)) };
 }
 
 impl Builder {
@@ -51,7 +51,7 @@ impl Builder {
     /// The symbols, lent.
     pub(crate) fn symbols(&self) -> &Symbols
         ensures same { result.now ≡ self.now.symbols }
-        ensures apart { AreApart result.now }
+        ensures apart { AreDistinctValues result.now }
     {
         // The call tells that no value has two numbers.
         let _few = self.symbols.len();
@@ -78,7 +78,7 @@ impl Builder {
         requires width { length numbers.now ≡ (table_at (built self.old) table).width }
         requires below { AreBelow (length self.old.symbols) numbers.now }
         ensures symbols { OnOk result (self.new.symbols ≡ self.old.symbols) }
-        ensures added { OnOk result (Gains (built self.old) (built self.new)
+        ensures added { OnOk result (GainsFacts (built self.old) (built self.new)
             (record { table = table; row = shown_row self.old.symbols numbers.now } ∷ [])) }
     {
         let rows = &mut self.tables[table as usize];

@@ -5,15 +5,15 @@ ghost use Rattle.dx_ports.specs.declared.file.Count.TheVariants.{TargetCells};
 ghost use Rattle.dx_ports.specs.Members.{Each};
 ghost use Rattle.dx_funcs.specs.Names.{call_named};
 ghost use Rattle.dx_funcs.specs.Serving.{Serves, offered};
-ghost use Rattle.dx_instance.specs.Numbers.{AreApart, Extends};
+ghost use Rattle.dx_instance.specs.Numbers.{AreDistinctValues, Extends};
 ghost use Rattle.dx_instance.specs.Shown.{shown_tables};
 ghost use Rattle.dx_instance.specs.Stored.{facts, widths};
-ghost use Rattle.dx_schema.specs.Names.{named_of};
+ghost use Rattle.dx_schema.specs.Names.{table_names_of};
 ghost use Rattle.dx_schema.specs.Tables.{schema_widths};
 ghost use Rattle.dx_tgd.specs.Texts.{tuples_in};
 ghost use Rattle.dx_eval.specs.declared.fault.EvalFault.TheVariants.{Limit as Refused};
-ghost use Rattle.dx_eval.specs.Evaluating.{cells_for, cells_in, script_cells};
-ghost use Rattle.dx_eval.specs.Finding.{AreFoundSteps, IsFoundUpTo, IsRefusal, MatchesFit, MatchingFits, matching_in, matchings};
+ghost use Rattle.dx_eval.specs.Evaluating.{cells_for, inserted_cells, script_cells};
+ghost use Rattle.dx_eval.specs.Finding.{AreFoundSteps, IsFoundUpTo, IsEvalRefusal, MatchesFit, MatchingFits, matching_in, matchings};
 
 use crate::fault::EvalFault;
 use crate::found::Found;
@@ -27,7 +27,7 @@ use std::alloc::{AllocError, Global};
 
 // How many cells a step inserts for each tuple of a rule.
 fn step_cells(step: &Step, rule: u32) -> u64
-    ensures { result ≡ cells_in rule step.now }
+    ensures { result ≡ inserted_cells rule step.now }
 {
     match step {
         Step::InsertRows {
@@ -105,12 +105,12 @@ fn matched_rows<F: Fn(u32, &Items<Text>) -> Result<Text, AllocError>, M: Meaning
 ) -> Result<Option<Rows>, AllocError>
     requires serves { Serves F.Fn M.apply host.now }
     requires widths { widths (shown_tables rows.now.symbols rows.now.tables) ≡ schema_widths source.now }
-    requires fit { Each (matching_in step.now) (MatchingFits (named_of source.now) (offered host.now)) }
+    requires fit { Each (matching_in step.now) (MatchingFits (table_names_of source.now) (offered host.now)) }
     requires symbols { Extends rows.now.symbols symbols.old }
-    requires apart { AreApart symbols.old }
+    requires apart { AreDistinctValues symbols.old }
     ensures grows { Extends symbols.old symbols.new }
-    ensures apart { AreApart symbols.new }
-    ensures rows { IfOk result (λ o. Each (matching_in step.now) (IsFoundUpTo most (named_of source.now)
+    ensures apart { AreDistinctValues symbols.new }
+    ensures rows { IfOk result (λ o. Each (matching_in step.now) (IsFoundUpTo most (table_names_of source.now)
         (call_named M.apply (offered host.now)) (facts (shown_tables rows.now.symbols rows.now.tables)) symbols.new o)) }
 {
     match step {
@@ -147,14 +147,14 @@ fn find_steps<F: Fn(u32, &Items<Text>) -> Result<Text, AllocError>, M: Meaning>(
 ) -> Result<(), EvalFault>
     requires serves { Serves F.Fn M.apply host.now }
     requires widths { widths (shown_tables rows.now.symbols rows.now.tables) ≡ schema_widths source.now }
-    requires fit { MatchesFit (named_of source.now) (offered host.now) steps.now }
-    requires apart { AreApart rows.now.symbols }
+    requires fit { MatchesFit (table_names_of source.now) (offered host.now) steps.now }
+    requires apart { AreDistinctValues rows.now.symbols }
     requires symbols { symbols.old ≡ rows.now.symbols }
     requires none { tables.old.items ≡ [] }
-    ensures found { OnOk result (AreFoundSteps (named_of source.now) (call_named M.apply (offered host.now))
+    ensures found { OnOk result (AreFoundSteps (table_names_of source.now) (call_named M.apply (offered host.now))
         (facts (shown_tables rows.now.symbols rows.now.tables)) symbols.new (matchings steps.now) tables.new.items) }
     ensures within { OnOk result (script_cells steps.now (tuples_in symbols.new tables.new.items) ≤ limit) }
-    ensures refused { IfErr result (IsRefusal (named_of source.now) (call_named M.apply (offered host.now)) steps.now
+    ensures refused { IfErr result (IsEvalRefusal (table_names_of source.now) (call_named M.apply (offered host.now)) steps.now
         (facts (shown_tables rows.now.symbols rows.now.tables)) limit) }
 {
     let mut left = limit;
@@ -186,12 +186,12 @@ pub(crate) fn found_steps<F: Fn(u32, &Items<Text>) -> Result<Text, AllocError>, 
 ) -> Result<Found, EvalFault>
     requires serves { Serves F.Fn M.apply host.now }
     requires widths { widths (shown_tables rows.now.symbols rows.now.tables) ≡ schema_widths source.now }
-    requires fit { MatchesFit (named_of source.now) (offered host.now) steps.now }
-    requires apart { AreApart rows.now.symbols }
-    ensures found { IfOk result (λ f. AreFoundSteps (named_of source.now) (call_named M.apply (offered host.now))
+    requires fit { MatchesFit (table_names_of source.now) (offered host.now) steps.now }
+    requires apart { AreDistinctValues rows.now.symbols }
+    ensures found { IfOk result (λ f. AreFoundSteps (table_names_of source.now) (call_named M.apply (offered host.now))
         (facts (shown_tables rows.now.symbols rows.now.tables)) f.symbols (matchings steps.now) f.tables.items) }
     ensures within { IfOk result (λ f. script_cells steps.now (tuples_in f.symbols f.tables.items) ≤ limit) }
-    ensures refused { IfErr result (IsRefusal (named_of source.now) (call_named M.apply (offered host.now)) steps.now
+    ensures refused { IfErr result (IsEvalRefusal (table_names_of source.now) (call_named M.apply (offered host.now)) steps.now
         (facts (shown_tables rows.now.symbols rows.now.tables)) limit) }
 {
     let mut symbols = rows.copy_symbols(alloc)?;

@@ -6,7 +6,7 @@ ghost use Rattle.dx_instance.specs.Cells.{IsOrderOf, NumbersAscend};
 ghost use Rattle.dx_instance.specs.Numbers.{ValuesAscend};
 ghost use Rattle.dx_instance.specs.Shown.{AreBelow, renumbered};
 ghost use Rattle.dx_joins.specs.Shown.{AreTexts};
-ghost use Rattle.dx_tgd.specs.Found.{IsReordered};
+ghost use Rattle.dx_tgd.specs.Found.{IsRenumbering};
 
 use dx_instance::{Ordered, Rows, Symbols};
 use std::alloc::{AllocError, Global};
@@ -48,7 +48,7 @@ impl Found {
         requires ascend { Each self.tables.items (λ t. NumbersAscend t.rows) }
         requires texts { Each self.tables.items (λ t. Each t.rows (AreTexts self.symbols)) }
         ensures ascend { IfOk result (λ f. ValuesAscend f.symbols) }
-        ensures same { IfOk result (λ f. AllZip (IsReordered self.symbols f.symbols) self.tables.items f.tables.items) }
+        ensures same { IfOk result (λ f. AllZip (IsRenumbering self.symbols f.symbols) self.tables.items f.tables.items) }
     {
         let Found { symbols, tables } = self;
         if symbols.is_ordered() {

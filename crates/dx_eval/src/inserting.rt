@@ -2,19 +2,19 @@
 ghost use Rattle.std.specs.Prelude.{◌≡◌, ◌↔◌, ◌<◌, ℕ, List, []};
 ghost use Rattle.std.specs.Prelude.{IfOk, OnOk, IsTrue, Bool, length, map, slice_index};
 ghost use Rattle.dx_ports.specs.Members.{◌∈◌, Each};
-ghost use Rattle.dx_model.specs.Values.{Text as AnyText};
+ghost use Rattle.dx_ports.specs.Texts.{Text as AnyText};
 ghost use Rattle.dx_model.specs.declared.facts.Fact.{Fact as AnyFact};
 ghost use Rattle.dx_instance.specs.Numbers.{Extends};
 ghost use Rattle.dx_instance.specs.Shown.{AreBelow, numbers_of_table, shown_row};
 ghost use Rattle.dx_instance.specs.Stored.{facts, widths};
 ghost use Rattle.dx_joins.specs.Shown.{AreTexts, texts_of};
-ghost use Rattle.dx_schema.specs.Names.{named_of};
+ghost use Rattle.dx_schema.specs.Names.{table_names_of};
 ghost use Rattle.dx_schema.specs.Tables.{schema_widths};
 ghost use Rattle.dx_script.specs.declared.form.Out.{Out as AnyOut};
 ghost use Rattle.dx_script.specs.declared.form.Unless.{Unless as AnyUnless};
 ghost use Rattle.dx_script.specs.declared.form.Step.TheVariants.{InsertRows, KeepRows};
 ghost use Rattle.dx_script.specs.Meaning.{IsInserted, inserted};
-ghost use Rattle.dx_tgd.specs.Gained.{Gains};
+ghost use Rattle.dx_tgd.specs.Gained.{GainsFacts};
 ghost use Rattle.dx_tgd.specs.Planned.{StandsAs, built};
 ghost use Rattle.dx_tgd.specs.Texts.{tuples_in};
 ghost use Rattle.dx_eval.specs.Keeping.{PartStands};
@@ -93,7 +93,7 @@ fn insert_places(
     requires table { table < length (built target.old) }
     requires width { length cells.now ≡ slice_index (widths (built target.old)) table }
     ensures grows { OnOk result (Extends target.old.symbols target.new.symbols) }
-    ensures gained { OnOk result (Gains (built target.old) (built target.new)
+    ensures gained { OnOk result (GainsFacts (built target.old) (built target.new)
         (map (placed_fact table rule (map (texts_of target.old.symbols) rows.now.rows) cells.now) places.now)) }
 {
     let mut buffer = Vec::new(alloc);
@@ -115,13 +115,13 @@ fn insert_rule(
     target: &mut Builder,
 ) -> Result<(), AllocError>
     requires stand { (table : AnyText) (kept : Bool) (cells : List AnyOut) → InsertRows table rule kept cells ∈ steps.now
-        → InsertStands (named_of schema.now) rows.now.width table cells }
+        → InsertStands (table_names_of schema.now) rows.now.width table cells }
     requires texts { Each rows.now.rows (AreTexts target.old.symbols) }
     requires places { Each places.now (λ k. k < length rows.now.rows) }
     requires widths { widths (built target.old) ≡ schema_widths schema.now }
     ensures grows { OnOk result (Extends target.old.symbols target.new.symbols) }
-    ensures gained { OnOk result (Gains (built target.old) (built target.new)
-        (facts_by (named_of schema.now) steps.now rule (map (texts_of target.old.symbols) rows.now.rows) places.now)) }
+    ensures gained { OnOk result (GainsFacts (built target.old) (built target.new)
+        (facts_by (table_names_of schema.now) steps.now rule (map (texts_of target.old.symbols) rows.now.rows) places.now)) }
 {
     for step in steps {
         if let Step::InsertRows {
@@ -155,14 +155,14 @@ pub(crate) fn insert_all(
     requires texts { Each tables.now (λ t. Each t.rows (AreTexts target.old.symbols)) }
     requires keeps { (r : ℕ) (unless : List AnyUnless) → KeepRows r unless ∈ steps.now → Each unless (PartStands tables.now r) }
     requires inserts { (table : AnyText) (r : ℕ) (kept : Bool) (cells : List AnyOut) → InsertRows table r kept cells ∈ steps.now
-        → InsertStands (named_of schema.now) (numbers_of_table tables.now r).width table cells }
+        → InsertStands (table_names_of schema.now) (numbers_of_table tables.now r).width table cells }
     requires reads { (table : AnyText) (r : ℕ) (kept : Bool) (cells : List AnyOut) (unless : List AnyUnless)
         → InsertRows table r kept cells ∈ steps.now → KeepRows r unless ∈ steps.now → IsTrue kept }
     requires widths { widths (built target.old) ≡ schema_widths schema.now }
     requires empty { facts (built target.old) ≡ [] }
     ensures widths { OnOk result (widths (built target.new) ≡ schema_widths schema.now) }
     ensures facts { OnOk result ((f : AnyFact) → (f ∈ facts (built target.new))
-        ↔ IsInserted (named_of schema.now) steps.now (tuples_in target.old.symbols tables.now) f) }
+        ↔ IsInserted (table_names_of schema.now) steps.now (tuples_in target.old.symbols tables.now) f) }
 {
     if tables.len() > u32::MAX as usize {
         return Err(AllocError);

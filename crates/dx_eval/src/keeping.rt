@@ -2,15 +2,15 @@
 ghost use Rattle.std.specs.Prelude.{◌≡◌, ◌↔◌, ◌<◌, ℕ, List, IfOk, IsTrue, length};
 ghost use Rattle.dx_ports.specs.Members.{◌∈◌, Each};
 ghost use Rattle.dx_model.specs.declared.values.Value.TheVariants.{Const};
-ghost use Rattle.dx_instance.specs.Numbers.{AreApart, value_of};
+ghost use Rattle.dx_instance.specs.Numbers.{AreDistinctValues, value_of};
 ghost use Rattle.dx_instance.specs.Cells.{NumbersAscend};
 ghost use Rattle.dx_instance.specs.Shown.{numbers_of_table};
 ghost use Rattle.dx_joins.specs.Shown.{AreTexts, texts_of};
 ghost use Rattle.dx_script.specs.declared.form.Unless.{Unless as AnyUnless};
 ghost use Rattle.dx_script.specs.declared.form.Step.TheVariants.{KeepRows};
 ghost use Rattle.dx_tgd.specs.Texts.{tuples_in};
-ghost use Rattle.dx_eval.specs.Keeping.{HoldsAlone, LacksPartner, LacksPartners, Leaves, PartStands, Stay, TestStands};
-ghost use Rattle.dx_eval.specs.Keeping.{numbers_in, own_columns};
+ghost use Rattle.dx_eval.specs.Keeping.{HoldsAlone, LacksPartner, LacksPartners, KeepsPlaces, PartStands, Stay, TestStands};
+ghost use Rattle.dx_eval.specs.Keeping.{column_numbers, own_columns};
 
 use crate::keys::{columns_of_other, columns_of_own, gather, has_row, keys_of};
 use dx_instance::{Rows, Symbols, Value};
@@ -59,7 +59,7 @@ fn has_partner(
     requires columns { columns.now ≡ own_columns tests.now }
     requires ascend { NumbersAscend keys.now.rows }
     ensures { IfOk result (λ b. IsTrue b
-        ↔ (Each tests.now (HoldsAlone (texts_of symbols.now row.now)) × (numbers_in columns.now row.now ∈ keys.now.rows))) }
+        ↔ (Each tests.now (HoldsAlone (texts_of symbols.now row.now)) × (column_numbers columns.now row.now ∈ keys.now.rows))) }
 {
     if !holds_alone(symbols, row, tests) {
         return Ok(false);
@@ -80,9 +80,9 @@ fn left_by_part(
     requires places { Each places.now (λ k. k < length own.now.rows) }
     requires own { Each own.now.rows (AreTexts symbols.now) }
     requires other { Each other.now.rows (AreTexts symbols.now) }
-    requires apart { AreApart symbols.now }
+    requires apart { AreDistinctValues symbols.now }
     requires stand { Each tests.now (TestStands own.now.width other.now.width) }
-    ensures { IfOk result (λ v. Leaves (LacksPartner symbols.now own.now.rows other.now.rows tests.now) places.now v.items) }
+    ensures { IfOk result (λ v. KeepsPlaces (LacksPartner symbols.now own.now.rows other.now.rows tests.now) places.now v.items) }
 {
     let keys = keys_of(alloc, other, &columns_of_other(alloc, tests)?)?;
     let columns = columns_of_own(alloc, tests)?;
@@ -109,9 +109,9 @@ fn left_by_parts(
     requires rule { rule < length tables.now }
     requires places { Each places.items (λ k. k < length (numbers_of_table tables.now rule).rows) }
     requires texts { Each tables.now (λ t. Each t.rows (AreTexts symbols.now)) }
-    requires apart { AreApart symbols.now }
+    requires apart { AreDistinctValues symbols.now }
     requires stand { Each unless.now (PartStands tables.now rule) }
-    ensures { IfOk result (λ v. Leaves (LacksPartners symbols.now tables.now rule unless.now) places.items v.items) }
+    ensures { IfOk result (λ v. KeepsPlaces (LacksPartners symbols.now tables.now rule unless.now) places.items v.items) }
 {
     let own = &tables[rule as usize];
     let mut left = places;
@@ -147,7 +147,7 @@ pub(crate) fn stay_places(
 ) -> Result<Vec<u32>, AllocError>
     requires rule { rule < length tables.now }
     requires texts { Each tables.now (λ t. Each t.rows (AreTexts symbols.now)) }
-    requires apart { AreApart symbols.now }
+    requires apart { AreDistinctValues symbols.now }
     requires stand { (r : ℕ) (unless : List AnyUnless) → KeepRows r unless ∈ steps.now → Each unless (PartStands tables.now r) }
     ensures { IfOk result (λ v. Stay steps.now (tuples_in symbols.now tables.now) rule v.items) }
 {

@@ -2,7 +2,7 @@
 ghost use Rattle.std.specs.Prelude.{◌≡◌, ◌↔◌, ◌<◌, IfOk, OnOk, IsTrue, length};
 ghost use Rattle.dx_ports.specs.Members.{◌∈◌, Each};
 ghost use Rattle.dx_instance.specs.Cells.{NumbersAscend};
-ghost use Rattle.dx_eval.specs.Keeping.{AreKeys, numbers_in, other_columns, own_columns};
+ghost use Rattle.dx_eval.specs.Keeping.{AreKeys, column_numbers, other_columns, own_columns};
 
 use dx_instance::Rows;
 use dx_script::Test;
@@ -38,7 +38,7 @@ pub(crate) fn columns_of_own(alloc: Global, tests: &[Test]) -> Result<Vec<u32>, 
 /// Puts the numbers in these columns of a row in the buffer.
 pub(crate) fn gather(row: &[u32], columns: &[u32], buffer: &mut Vec<u32>) -> Result<(), AllocError>
     requires { Each columns.now (λ c. c < length row.now) }
-    ensures { OnOk result (buffer.new.items ≡ numbers_in columns.now row.now) }
+    ensures { OnOk result (buffer.new.items ≡ column_numbers columns.now row.now) }
 {
     buffer.clear();
     for column in columns {

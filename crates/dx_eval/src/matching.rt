@@ -3,16 +3,15 @@ ghost use Rattle.std.specs.Prelude.{◌≡◌, ◌<◌, [], ◌∷◌, IfOk, Mat
 ghost use Rattle.dx_ports.specs.Members.{◌∈◌, Each};
 ghost use Rattle.dx_funcs.specs.Names.{call_named};
 ghost use Rattle.dx_funcs.specs.Serving.{Serves, offered};
-ghost use Rattle.dx_instance.specs.Numbers.{AreApart, Extends};
+ghost use Rattle.dx_instance.specs.Numbers.{AreDistinctValues, Extends};
 ghost use Rattle.dx_instance.specs.Shown.{shown_tables};
 ghost use Rattle.dx_instance.specs.Stored.{facts, widths};
 ghost use Rattle.dx_joins.specs.Shown.{MoreTuples, StandFor};
-ghost use Rattle.dx_schema.specs.Names.{named_of};
+ghost use Rattle.dx_schema.specs.Names.{table_names_of};
 ghost use Rattle.dx_schema.specs.Tables.{schema_widths};
-ghost use Rattle.dx_script.specs.Fits.{SelectFits};
+ghost use Rattle.dx_script.specs.Fits.{SelectFits, EqualFits};
 ghost use Rattle.dx_script.specs.Names.{table_names};
 ghost use Rattle.dx_eval.specs.Query.{IsSelected};
-ghost use Rattle.dx_eval.specs.Variables.{EqualFits};
 
 use crate::query::Query;
 use dx_funcs::{Host, Meaning};
@@ -54,17 +53,17 @@ pub(crate) fn step_rows<F: Fn(u32, &Items<Text>) -> Result<Text, AllocError>, M:
 ) -> Result<Option<Rows>, AllocError>
     requires serves { Serves F.Fn M.apply host.now }
     requires widths { widths (shown_tables rows.now.symbols rows.now.tables) ≡ schema_widths source.now }
-    requires named { Each sources.now (λ name. name ∈ table_names (named_of source.now)) }
-    requires selected { Each select.now (SelectFits (named_of source.now) (offered host.now) sources.now) }
-    requires equal { Each equal.now (EqualFits (named_of source.now) sources.now) }
+    requires named { Each sources.now (λ name. name ∈ table_names (table_names_of source.now)) }
+    requires selected { Each select.now (SelectFits (table_names_of source.now) (offered host.now) sources.now) }
+    requires equal { Each equal.now (EqualFits (table_names_of source.now) sources.now) }
     requires symbols { Extends rows.now.symbols symbols.old }
-    requires apart { AreApart symbols.old }
+    requires apart { AreDistinctValues symbols.old }
     ensures grows { Extends symbols.old symbols.new }
-    ensures apart { AreApart symbols.new }
+    ensures apart { AreDistinctValues symbols.new }
     ensures rows { IfOk result (λ o. MatchOption o
-        (MoreTuples most (IsSelected (named_of source.now) (call_named M.apply (offered host.now))
+        (MoreTuples most (IsSelected (table_names_of source.now) (call_named M.apply (offered host.now))
         (facts (shown_tables rows.now.symbols rows.now.tables)) select.now sources.now equal.now))
-        (StandFor (length select.now) (IsSelected (named_of source.now) (call_named M.apply (offered host.now))
+        (StandFor (length select.now) (IsSelected (table_names_of source.now) (call_named M.apply (offered host.now))
         (facts (shown_tables rows.now.symbols rows.now.tables)) select.now sources.now equal.now) symbols.new)) }
 {
     // The call tells that rows are as wide as their tables.

@@ -1,7 +1,7 @@
 // Tables and columns by names that are there.
 ghost use Rattle.std.specs.Prelude.{◌≡◌, ◌<◌, ◌≤◌, length};
 ghost use Rattle.dx_ports.specs.Members.{◌∈◌};
-ghost use Rattle.dx_schema.specs.Names.{named_of};
+ghost use Rattle.dx_schema.specs.Names.{table_names_of};
 ghost use Rattle.dx_schema.specs.Tables.{tables_of};
 ghost use Rattle.dx_script.specs.Names.{column_named, table_named, table_names, table_numbered};
 ghost use Rattle.dx_eval.specs.Variables.{width_named};
@@ -11,8 +11,8 @@ use dx_schema::Schema;
 
 /// The number of the table of this name.
 pub(crate) fn table_number(schema: &Schema, name: &Text) -> u32
-    requires { name.now ∈ table_names (named_of schema.now) }
-    ensures number { result ≡ table_named (named_of schema.now) name.now }
+    requires { name.now ∈ table_names (table_names_of schema.now) }
+    ensures number { result ≡ table_named (table_names_of schema.now) name.now }
     ensures there { result < length (tables_of schema.now) }
 {
     // The call tells that names tell the tables apart.
@@ -25,8 +25,8 @@ pub(crate) fn table_number(schema: &Schema, name: &Text) -> u32
 
 /// How many columns the table of this name has.
 pub(crate) fn table_width(schema: &Schema, name: &Text) -> u32
-    requires { name.now ∈ table_names (named_of schema.now) }
-    ensures width { result ≡ width_named (named_of schema.now) name.now }
+    requires { name.now ∈ table_names (table_names_of schema.now) }
+    ensures width { result ≡ width_named (table_names_of schema.now) name.now }
     ensures few { result ≤ 64 }
 {
     schema.width(table_number(schema, name))
@@ -34,9 +34,9 @@ pub(crate) fn table_width(schema: &Schema, name: &Text) -> u32
 
 /// The number of the column of this name in the table of this name.
 pub(crate) fn column_number(schema: &Schema, table: &Text, name: &Text) -> u32
-    requires table { table.now ∈ table_names (named_of schema.now) }
-    requires column { name.now ∈ (table_numbered (named_of schema.now) (table_named (named_of schema.now) table.now)).columns }
-    ensures { result ≡ column_named (named_of schema.now) (table_named (named_of schema.now) table.now) name.now }
+    requires table { table.now ∈ table_names (table_names_of schema.now) }
+    requires column { name.now ∈ (table_numbered (table_names_of schema.now) (table_named (table_names_of schema.now) table.now)).columns }
+    ensures { result ≡ column_named (table_names_of schema.now) (table_named (table_names_of schema.now) table.now) name.now }
 {
     // The call tells that names tell the columns apart.
     let _tables = schema.tables();

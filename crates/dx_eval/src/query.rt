@@ -4,11 +4,11 @@ ghost use Rattle.dx_ports.specs.Members.{◌∈◌, Each};
 ghost use Rattle.dx_model.specs.declared.rules.Cell.TheVariants.{Var};
 ghost use Rattle.dx_funcs.specs.Names.{first_named};
 ghost use Rattle.dx_funcs.specs.Serving.{offered};
-ghost use Rattle.dx_schema.specs.Names.{named_of};
-ghost use Rattle.dx_script.specs.Fits.{CellFits, SelectFits};
+ghost use Rattle.dx_schema.specs.Names.{table_names_of};
+ghost use Rattle.dx_script.specs.Fits.{CellFits, SelectFits, EqualFits};
 ghost use Rattle.dx_script.specs.Names.{table_names};
-ghost use Rattle.dx_eval.specs.Variables.{AreWide, EqualFits, variable_of};
-ghost use Rattle.dx_eval.specs.Query.{IsQuery, atoms_of, code_found, derived_of, next_after, shown_from};
+ghost use Rattle.dx_eval.specs.Variables.{AreWide, variable_of};
+ghost use Rattle.dx_eval.specs.Query.{IsQuery, alias_atoms, code_found, derived_of_selects, next_after, shown_from};
 
 use crate::names::table_number;
 use crate::variables::{Variables, variable_of_cell};
@@ -45,9 +45,9 @@ fn premise_of(
     sources: &[Text],
     rows: &[Items<u32>],
 ) -> Result<Vec<Atom>, AllocError>
-    requires named { Each sources.now (λ name. name ∈ table_names (named_of source.now)) }
-    requires wide { AreWide (named_of source.now) sources.now rows.now }
-    ensures { IfOk result (λ v. v.items ≡ atoms_of (named_of source.now) sources.now rows.now) }
+    requires named { Each sources.now (λ name. name ∈ table_names (table_names_of source.now)) }
+    requires wide { AreWide (table_names_of source.now) sources.now rows.now }
+    ensures { IfOk result (λ v. v.items ≡ alias_atoms (table_names_of source.now) sources.now rows.now) }
 {
     let mut premise = Vec::new(alloc);
     for alias in 0..sources.len() {
@@ -80,10 +80,10 @@ fn arguments(
     rows: &[Items<u32>],
     cells: &[CellRef],
 ) -> Result<Items<u32>, AllocError>
-    requires named { Each sources.now (λ name. name ∈ table_names (named_of source.now)) }
-    requires wide { AreWide (named_of source.now) sources.now rows.now }
-    requires fit { Each cells.now (CellFits (named_of source.now) sources.now) }
-    ensures { IfOk result (λ args. args ≡ map (variable_of (named_of source.now) sources.now rows.now) cells.now) }
+    requires named { Each sources.now (λ name. name ∈ table_names (table_names_of source.now)) }
+    requires wide { AreWide (table_names_of source.now) sources.now rows.now }
+    requires fit { Each cells.now (CellFits (table_names_of source.now) sources.now) }
+    ensures { IfOk result (λ args. args ≡ map (variable_of (table_names_of source.now) sources.now rows.now) cells.now) }
 {
     let mut args = Items::new(alloc);
     for cell in cells {
@@ -101,11 +101,11 @@ fn derived_variables<F: Fn(u32, &Items<Text>) -> Result<Text, AllocError>, M: Me
     rows: &[Items<u32>],
     select: &[Select],
 ) -> Result<Vec<Derived>, AllocError>
-    requires named { Each sources.now (λ name. name ∈ table_names (named_of source.now)) }
-    requires wide { AreWide (named_of source.now) sources.now rows.now }
-    requires fit { Each select.now (SelectFits (named_of source.now) (offered host.now) sources.now) }
+    requires named { Each sources.now (λ name. name ∈ table_names (table_names_of source.now)) }
+    requires wide { AreWide (table_names_of source.now) sources.now rows.now }
+    requires fit { Each select.now (SelectFits (table_names_of source.now) (offered host.now) sources.now) }
     ensures { IfOk result (λ v. v.items
-        ≡ derived_of (offered host.now) (variable_of (named_of source.now) sources.now rows.now) select.now) }
+        ≡ derived_of_selects (offered host.now) (variable_of (table_names_of source.now) sources.now rows.now) select.now) }
 {
     let mut derived = Vec::new(alloc);
     for one in select {
@@ -129,10 +129,10 @@ fn shown_variables<F: Fn(u32, &Items<Text>) -> Result<Text, AllocError>, M: Mean
     select: &[Select],
     first: u32,
 ) -> Result<Vec<u32>, AllocError>
-    requires named { Each sources.now (λ name. name ∈ table_names (named_of source.now)) }
-    requires wide { AreWide (named_of source.now) sources.now rows.now }
-    requires fit { Each select.now (SelectFits (named_of source.now) (offered host.now) sources.now) }
-    ensures shown { IfOk result (λ v. v.items ≡ shown_from (variable_of (named_of source.now) sources.now rows.now) first select.now) }
+    requires named { Each sources.now (λ name. name ∈ table_names (table_names_of source.now)) }
+    requires wide { AreWide (table_names_of source.now) sources.now rows.now }
+    requires fit { Each select.now (SelectFits (table_names_of source.now) (offered host.now) sources.now) }
+    ensures shown { IfOk result (λ v. v.items ≡ shown_from (variable_of (table_names_of source.now) sources.now rows.now) first select.now) }
     ensures few { IfOk result (λ v. next_after first select.now < 2 ^ 32) }
 {
     let mut shown = Vec::new(alloc);
@@ -168,10 +168,10 @@ impl Query {
         sources: &[Text],
         equal: &[Equal],
     ) -> Result<Query, AllocError>
-        requires named { Each sources.now (λ name. name ∈ table_names (named_of source.now)) }
-        requires selected { Each select.now (SelectFits (named_of source.now) (offered host.now) sources.now) }
-        requires equal { Each equal.now (EqualFits (named_of source.now) sources.now) }
-        ensures { IfOk result (λ q. IsQuery (named_of source.now) (offered host.now) select.now sources.now equal.now
+        requires named { Each sources.now (λ name. name ∈ table_names (table_names_of source.now)) }
+        requires selected { Each select.now (SelectFits (table_names_of source.now) (offered host.now) sources.now) }
+        requires equal { Each equal.now (EqualFits (table_names_of source.now) sources.now) }
+        ensures { IfOk result (λ q. IsQuery (table_names_of source.now) (offered host.now) select.now sources.now equal.now
             q.premise.items q.derived.items q.shown.items) }
     {
         let Variables { rows, count } = Variables::of_step(alloc, source, sources, equal)?;

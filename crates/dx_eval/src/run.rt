@@ -4,11 +4,11 @@ ghost use Rattle.dx_model.specs.Values.{RowsAscend};
 ghost use Rattle.dx_funcs.specs.Names.{call_named};
 ghost use Rattle.dx_funcs.specs.Serving.{Serves, offered};
 ghost use Rattle.dx_instance.specs.Stored.{facts, rows_of, widths};
-ghost use Rattle.dx_schema.specs.Names.{named_of};
+ghost use Rattle.dx_schema.specs.Names.{table_names_of};
 ghost use Rattle.dx_schema.specs.Tables.{schema_widths};
 ghost use Rattle.dx_script.specs.Fits.{FitsScript};
 ghost use Rattle.dx_eval.specs.Evaluating.{IsMade};
-ghost use Rattle.dx_eval.specs.Finding.{IsRefusal};
+ghost use Rattle.dx_eval.specs.Finding.{IsEvalRefusal};
 
 use crate::builder::Builder;
 use crate::fault::EvalFault;
@@ -40,12 +40,12 @@ pub fn eval<F: Fn(u32, &Items<Text>) -> Result<Text, AllocError>, M: Meaning>(
     limit: u64,
 ) -> Result<Made, EvalFault>
     requires serves { Serves F.Fn M.apply host.now }
-    requires fits { FitsScript (named_of source.now) (named_of target.now) (offered host.now) script.now.steps }
+    requires fits { FitsScript (table_names_of source.now) (table_names_of target.now) (offered host.now) script.now.steps }
     requires widths { widths rows.now ≡ schema_widths source.now }
-    ensures made { IfOk result (IsMade (named_of source.now) (named_of target.now) (call_named M.apply (offered host.now))
+    ensures made { IfOk result (IsMade (table_names_of source.now) (table_names_of target.now) (call_named M.apply (offered host.now))
         script.now.steps (facts rows.now) limit) }
     ensures ascend { IfOk result (λ m. (t : ℕ) → RowsAscend (rows_of m.instance t)) }
-    ensures refused { IfErr result (IsRefusal (named_of source.now) (call_named M.apply (offered host.now))
+    ensures refused { IfErr result (IsEvalRefusal (table_names_of source.now) (call_named M.apply (offered host.now))
         script.now.steps (facts rows.now) limit) }
 {
     let steps = script.steps.items();

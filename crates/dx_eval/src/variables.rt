@@ -2,10 +2,10 @@
 ghost use Rattle.std.specs.Prelude.{◌≡◌, ◌<◌, ◌^◌, ◌+◌, IfOk, map};
 ghost use Rattle.std.specs.List.{range_with_len};
 ghost use Rattle.dx_ports.specs.Members.{◌∈◌, Each};
-ghost use Rattle.dx_schema.specs.Names.{named_of};
-ghost use Rattle.dx_script.specs.Fits.{CellFits};
+ghost use Rattle.dx_schema.specs.Names.{table_names_of};
+ghost use Rattle.dx_script.specs.Fits.{CellFits, EqualFits};
 ghost use Rattle.dx_script.specs.Names.{table_names};
-ghost use Rattle.dx_eval.specs.Variables.{AreSeparate, AreVariables, AreWide, EqualFits, IsJoined, renamed, variable_of};
+ghost use Rattle.dx_eval.specs.Variables.{AreSeparate, AreVariables, AreWide, IsUnified, renamed, variable_of};
 
 use crate::names::{column_number, table_width};
 use dx_ports::{Items, Text};
@@ -34,8 +34,8 @@ fn fresh(alloc: Global, first: u32, count: u32) -> Result<Items<u32>, AllocError
 
 // A variable of its own for each cell.
 fn separate(alloc: Global, source: &Schema, sources: &[Text]) -> Result<Variables, AllocError>
-    requires { Each sources.now (λ name. name ∈ table_names (named_of source.now)) }
-    ensures { IfOk result (λ v. AreSeparate (named_of source.now) sources.now v.rows.items v.count) }
+    requires { Each sources.now (λ name. name ∈ table_names (table_names_of source.now)) }
+    ensures { IfOk result (λ v. AreSeparate (table_names_of source.now) sources.now v.rows.items v.count) }
 {
     let mut rows = Vec::new(alloc);
     let mut count = 0u32;
@@ -104,10 +104,10 @@ pub(crate) fn variable_of_cell(
     rows: &[Items<u32>],
     cell: &CellRef,
 ) -> u32
-    requires named { Each sources.now (λ name. name ∈ table_names (named_of source.now)) }
-    requires fits { CellFits (named_of source.now) sources.now cell.now }
-    requires wide { AreWide (named_of source.now) sources.now rows.now }
-    ensures { result ≡ variable_of (named_of source.now) sources.now rows.now cell.now }
+    requires named { Each sources.now (λ name. name ∈ table_names (table_names_of source.now)) }
+    requires fits { CellFits (table_names_of source.now) sources.now cell.now }
+    requires wide { AreWide (table_names_of source.now) sources.now rows.now }
+    ensures { result ≡ variable_of (table_names_of source.now) sources.now rows.now cell.now }
 {
     let alias = cell.alias as usize;
     let column = column_number(source, &sources[alias], &cell.column);
@@ -119,7 +119,7 @@ impl Variables {
     fn join(self, alloc: Global, x: u32, y: u32) -> Result<Variables, AllocError>
         requires first { x < self.count }
         requires second { y < self.count }
-        ensures { IfOk result (λ v. IsJoined x y self.rows.items v.rows.items self.count v.count) }
+        ensures { IfOk result (λ v. IsUnified x y self.rows.items v.rows.items self.count v.count) }
     {
         if x == y {
             return Ok(self);
@@ -141,9 +141,9 @@ impl Variables {
         sources: &[Text],
         equal: &[Equal],
     ) -> Result<Variables, AllocError>
-        requires named { Each sources.now (λ name. name ∈ table_names (named_of source.now)) }
-        requires fit { Each equal.now (EqualFits (named_of source.now) sources.now) }
-        ensures { IfOk result (λ v. AreVariables (named_of source.now) sources.now equal.now v.rows.items v.count) }
+        requires named { Each sources.now (λ name. name ∈ table_names (table_names_of source.now)) }
+        requires fit { Each equal.now (EqualFits (table_names_of source.now) sources.now) }
+        ensures { IfOk result (λ v. AreVariables (table_names_of source.now) sources.now equal.now v.rows.items v.count) }
     {
         let mut variables = separate(alloc, source, sources)?;
         for one in equal {

@@ -4,15 +4,15 @@ use Rattle.std.proofs.lemmas.Bool.{cases_lt}
 use Rattle.std.proofs.lemmas.List.{get_or-map, get_or_default, length-map}
 use Rattle.dx_ports.specs.Members.{◌∈◌}
 use Rattle.dx_ports.proofs.Members.{in_at}
-use Rattle.dx_model.specs.Tables.{Determination, Table, table_of, values_in}
+use Rattle.dx_model.specs.Tables.{Determination, Table, table_of, values_in, determination_at}
 use Rattle.dx_instance.specs.Stored.{TableRows, facts, rows_of}
 use Rattle.dx_instance.specs.Places.{AreFirsts, row_at, value_at}
 use Rattle.dx_holds.specs.Columns.{IsFirstLike, RowsDetermine}
 use Rattle.dx_holds.proofs.Determining.{not_behind}
 use Rattle.dx_fails.specs.declared.broken.Apart.{Apart}
 use Rattle.dx_fails.specs.declared.determining.Determines.{Determines}
-use Rattle.dx_fails.specs.Firsts.{DeterminationHolds, determination_at}
-use Rattle.dx_fails.specs.Shown.{AllIn, AreApart, IsBrokenIn, as_determination}
+use Rattle.dx_fails.specs.Firsts.{DeterminationHolds}
+use Rattle.dx_fails.specs.Shown.{AllIn, IsViolation, IsBrokenIn, as_determination}
 use Rattle.dx_fails.proofs.Finding.{determination_holds, fact_there, no_determination}
 
 -- ---- one determination
@@ -27,7 +27,7 @@ first_there I t left places p f are h e =
 
 -- a row that differs from the first that has what it has on the left
 pub are_apart : (I : List TableRows) (t : ℕ) (left right : List ℕ) (f n c : ℕ) → n < length (rows_of I t) → IsFirstLike I t left n f
-    → c ∈ right → ¬ (value_at I t f c ≡ value_at I t n c) → AreApart I t left right (record { left = f; right = n; column = c })
+    → c ∈ right → ¬ (value_at I t f c ≡ value_at I t n c) → IsViolation I t left right (record { left = f; right = n; column = c })
 are_apart I t left right f n c h first m differ = record {
   in_order = before;
   within = h;
@@ -58,7 +58,7 @@ module _ (schema : List Table) (I : List TableRows) (t : ℕ) (found : List Dete
   holds_here k d h is r =
       determination_holds schema I t k (subst (λ (x : Determination). RowsDetermine I t x.left x.right) (sym (here k d h is)) r)
 
-  pub broken_here : (k : ℕ) (d : Determines) (a : Apart) → k < length found → d ≡ get_or found k d → AreApart I t d.left.now d.right.now a
+  pub broken_here : (k : ℕ) (d : Determines) (a : Apart) → k < length found → d ≡ get_or found k d → IsViolation I t d.left.now d.right.now a
       → ((j : ℕ) → j < k → DeterminationHolds schema (facts I) t j)
       → IsBrokenIn schema I t (record { table = t; key = k; left = a.left; right = a.right; column = a.column })
   broken_here k d a h is apart before = record {

@@ -9,18 +9,18 @@ use Rattle.dx_model.specs.declared.facts.Fact.{Fact}
 use Rattle.dx_model.specs.declared.tables.Link.{Link}
 use Rattle.dx_model.specs.declared.values.Value.{Value}
 use Rattle.dx_model.specs.Chase.{Break}
-use Rattle.dx_model.specs.Tables.{Determination, KeysHold, LinksHold, RowsFit, Table, cell, table_of, values_in}
+use Rattle.dx_model.specs.Tables.{Determination, KeysHold, LinksHold, RowsFit, Table, cell, table_of, values_in, determination_at}
 use Rattle.dx_schema.specs.Forest.{Forest}
 use Rattle.dx_schema.specs.Tables.{AreTables, model_tables, no_table, schema_widths, tables_of}
-use Rattle.dx_schema.specs.Tables.{table_at as schema_table}
+use Rattle.dx_schema.specs.Tables.{schema_table}
 use Rattle.dx_instance.specs.Stored.{TableRows, facts, rows_of, widths}
-use Rattle.dx_instance.specs.Places.{row_at}
+use Rattle.dx_instance.specs.Places.{row_at, fact_at}
 use Rattle.dx_instance.proofs.StoredFacts.{fact_from_row, fact_table, row_from_fact}
 use Rattle.dx_holds.specs.Columns.{RowsDetermine, RowsLead}
 use Rattle.dx_holds.proofs.Narrowing.{distinct_few}
 use Rattle.dx_holds.proofs.Tables.{as_many, numbers_at, place_of}
-use Rattle.dx_fails.specs.Firsts.{DeterminationHolds, HasDetermination, HasLink, HasLinked, LinkHolds, determination_at, link_at}
-use Rattle.dx_fails.specs.Shown.{AreShadows, Leads, fact_at}
+use Rattle.dx_fails.specs.Firsts.{DeterminationHolds, HasDetermination, HasLink, HasLinked, LinkHolds, link_at}
+use Rattle.dx_fails.specs.Shown.{AreShadows, HasLinkedRow}
 
 abbrev pub no_link : Link
 no_link = record { from = []; table = 0; to = [] }
@@ -77,7 +77,7 @@ module _ (f : Forest) (I : List TableRows) (e : widths I ≡ schema_widths f) (t
       subst (λ (x : Link). HasLinked (facts I) x a) (sym (link_is l))
       (fact_at I link.table q.0, fact_there I link.table q.0 q.1, refl, q.2 ∙ ap (values_in link.from) place.2)
 
-  pub not_linked : (l p : ℕ) → ¬ (Leads I t (get_or (schema_table f t).links l no_link) p)
+  pub not_linked : (l p : ℕ) → ¬ (HasLinkedRow I t (get_or (schema_table f t).links l no_link) p)
       → ¬ (HasLinked (facts I) (link_at (model_tables f) t l) (fact_at I t p))
   not_linked l p n w =
       let link = get_or (schema_table f t).links l no_link in
@@ -131,7 +131,7 @@ links_hold_by f I n many all a m link i =
 -- ---- a look-up among shadows tells whether a row leads
 
 pub looked_up : (I : List TableRows) (t : ℕ) (link : Link) (S : List TableRows) (row : List Value) (p : ℕ) (b : Bool) → row ≡ values_in link.from (row_at I t p)
-    → AreShadows I link.table link.to S → (IsTrue b ↔ (row ∈ rows_of S 0)) → IsTrue b ↔ Leads I t link p
+    → AreShadows I link.table link.to S → (IsTrue b ↔ (row ∈ rows_of S 0)) → IsTrue b ↔ HasLinkedRow I t link p
 looked_up I t link S row p b e s w = (
   (λ y. let m = s.only row (w.0 y) in (m.0, m.1, m.2 ∙ e)),
   (λ l. w.1 (subst (λ (r : List Value). r ∈ rows_of S 0) (l.2 ∙ sym e) (s.kept l.0 l.1))),

@@ -6,11 +6,11 @@ use Rattle.dx_ports.proofs.Members.{from_append, from_map, in_at, in_map, item_i
 use Rattle.dx_model.specs.declared.tables.Key.{Key}
 use Rattle.dx_model.specs.declared.tables.Link.{Link}
 use Rattle.dx_model.specs.Chase.{Break}
-use Rattle.dx_model.specs.Tables.{Determination, DeterminationsFit, Table, key_of, table_of}
-use Rattle.dx_schema.specs.Bounds.{HasNumbers}
+use Rattle.dx_model.specs.Tables.{Determination, DeterminationsFit, Table, key_of, table_of, determination_at}
+use Rattle.dx_schema.specs.Bounds.{HasSmallNumbers}
 use Rattle.dx_schema.specs.Forest.{Forest}
 use Rattle.dx_schema.specs.Tables.{AreColumns, AreTables, as_numbers, dep_of, determinations_of, key_determinations, model_tables, no_table, schema_widths, tables_of}
-use Rattle.dx_schema.specs.Tables.{table_at as schema_table}
+use Rattle.dx_schema.specs.Tables.{schema_table}
 use Rattle.dx_instance.specs.Stored.{TableRows, facts, rows_of, table_at, widths}
 use Rattle.dx_holds.specs.Columns.{RowsLead}
 use Rattle.dx_holds.proofs.Narrowing.{distinct_few}
@@ -18,12 +18,13 @@ use Rattle.dx_holds.proofs.Tables.{as_many, as_wide, numbers_at}
 use Rattle.dx_fails.specs.declared.alone.LoneRow.{LoneRow}
 use Rattle.dx_fails.specs.declared.broken.BrokenKey.{BrokenKey}
 use Rattle.dx_fails.specs.declared.determining.Determines.{Determines}
-use Rattle.dx_fails.specs.Firsts.{DeterminationHolds, HasDetermination, HasLink, HasLinked, LinkHolds, determination_at, link_at}
-use Rattle.dx_fails.specs.Shown.{AllIn, AllLead, IsBrokenIn, IsBrokenKey, IsLoneIn, IsLoneRow, Leads, as_determination, fact_at}
+use Rattle.dx_fails.specs.Firsts.{DeterminationHolds, HasDetermination, HasLink, HasLinked, LinkHolds, link_at}
+use Rattle.dx_fails.specs.Shown.{AllIn, AllLead, IsBrokenIn, IsBrokenKey, IsLoneIn, IsLoneRow, HasLinkedRow, as_determination}
+use Rattle.dx_instance.specs.Places.{fact_at}
 use Rattle.dx_fails.proofs.Finding.{alone_fails, break_fails, link_leads, many_links, no_link, not_linked}
 
 -- determinations and links of a table have numbers of 32 bits
-pub has_numbers : (f : Forest) (I : List TableRows) (t : ℕ) → widths I ≡ schema_widths f → t < length I → Each (tables_of f) HasNumbers → HasNumbers (schema_table f t)
+pub has_numbers : (f : Forest) (I : List TableRows) (t : ℕ) → widths I ≡ schema_widths f → t < length I → Each (tables_of f) HasSmallNumbers → HasSmallNumbers (schema_table f t)
 has_numbers f I t e h each =
     let many = as_many f I e in
     each (schema_table f t) (in_at (tables_of f) t no_table (omega (arith, h, many)))
@@ -39,7 +40,7 @@ module _ (f : Forest) (I : List TableRows) (e : widths I ≡ schema_widths f) (t
   pub as_listed : map as_determination found ≡ (table_of (model_tables f) t).determinations
   as_listed = all ∙ sym (ap (λ (x : Table). x.determinations) (numbers_at f t is_there))
 
-  pub few_found : (k : ℕ) → k < length found → Each (tables_of f) HasNumbers → k < 2 ^ 32
+  pub few_found : (k : ℕ) → k < length found → Each (tables_of f) HasSmallNumbers → k < 2 ^ 32
   few_found k b numbers =
       let table = schema_table f t in
       let many = sym (length-map found as_determination) ∙ (ap length all ∙ length-append (key_determinations table) (map dep_of table.deps)) in
@@ -94,7 +95,7 @@ module _ (f : Forest) (I : List TableRows) (e : widths I ≡ schema_widths f) (t
   link_holds links l link same b is d = link_leads f I e t h l (subst (RowsLead I t) (link_here links l link same b is) d)
 
   pub is_lone_in : (links : List Link) (l : ℕ) (link : Link) (p : ℕ) → links ≡ (schema_table f t).links → l < length links → link ≡ get_or links l link
-      → p < length (rows_of I t) → ¬ (Leads I t link p)
+      → p < length (rows_of I t) → ¬ (HasLinkedRow I t link p)
       → ((j : ℕ) → j < l → LinkHolds (model_tables f) (facts I) t j)
       → IsLoneIn (model_tables f) I t (record { table = t; link = l; place = p })
   is_lone_in links l link p same b is within n before = record {
@@ -102,7 +103,7 @@ module _ (f : Forest) (I : List TableRows) (e : widths I ≡ schema_widths f) (t
     is_there = subst (λ (m : ℕ). l < m) (sym (many_links f I e t h)) (subst (λ (xs : List Link). l < length xs) same b);
     before = before;
     within = within;
-    alone = not_linked f I e t h l p (subst (λ (x : Link). ¬ (Leads I t x p)) (link_here links l link same b is) n);
+    alone = not_linked f I e t h l p (subst (λ (x : Link). ¬ (HasLinkedRow I t x p)) (link_here links l link same b is) n);
   }
 
   pub all_lead : (links : List Link) (n : ℕ) → links ≡ (schema_table f t).links → length links ≤ n

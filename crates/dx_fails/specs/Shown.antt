@@ -5,19 +5,15 @@ use Rattle.dx_model.specs.declared.facts.Fact.{Fact}
 use Rattle.dx_model.specs.declared.tables.Link.{Link}
 use Rattle.dx_model.specs.declared.values.Value.{Value}
 use Rattle.dx_model.specs.Chase.{Break}
-use Rattle.dx_model.specs.Tables.{Determination, Table, values_in}
+use Rattle.dx_model.specs.Tables.{Determination, Table, values_in, determination_at}
 use Rattle.dx_instance.specs.Stored.{TableRows, facts, rows_of, widths}
-use Rattle.dx_instance.specs.Places.{row_at, value_at}
+use Rattle.dx_instance.specs.Places.{row_at, value_at, fact_at}
 use Rattle.dx_fails.specs.declared.alone.LoneRow.{LoneRow}
 use Rattle.dx_fails.specs.declared.broken.Apart.{Apart}
 use Rattle.dx_fails.specs.declared.broken.BrokenKey.{BrokenKey}
 use Rattle.dx_fails.specs.declared.determining.Determines.{Determines}
-use Rattle.dx_holds.specs.Columns.{Agrees, RowsLead}
-use Rattle.dx_fails.specs.Firsts.{DeterminationHolds, HasDetermination, HasLink, HasLinked, IsFirstFailing, LinkHolds, determination_at, link_at}
-
--- the fact at a place
-abbrev pub fact_at : List TableRows → ℕ → ℕ → Fact
-fact_at I t p = record { table = t; row = row_at I t p }
+use Rattle.dx_holds.specs.Columns.{RowsAgree, RowsLead}
+use Rattle.dx_fails.specs.Firsts.{DeterminationHolds, HasDetermination, HasLink, HasLinked, IsFirstFailing, LinkHolds, link_at}
 
 -- the first determination that does not hold, and two rows that agree on its left and differ in a column of its right
 pub record IsBrokenKey (schema : List Table) (I : List TableRows) (b : BrokenKey) : Type 0 where
@@ -41,10 +37,10 @@ abbrev pub as_determination : Determines → Determination
 as_determination d = record { left = d.left.now; right = d.right.now }
 
 -- two rows of table t, the lesser first, agree on the left and differ in a column of the right
-pub record AreApart (I : List TableRows) (t : ℕ) (left right : List ℕ) (a : Apart) : Type 0 where
+pub record IsViolation (I : List TableRows) (t : ℕ) (left right : List ℕ) (a : Apart) : Type 0 where
   pub in_order : a.left < a.right
   pub within : a.right < length (rows_of I t)
-  pub agree : Agrees I t a.left left t left a.right
+  pub agree : RowsAgree I t a.left left t left a.right
   pub column : a.column ∈ right
   pub differ : ¬ (value_at I t a.left a.column ≡ value_at I t a.right a.column)
 
@@ -55,12 +51,12 @@ pub record AreShadows (I : List TableRows) (t : ℕ) (columns : List ℕ) (S : L
   pub only : (row : List Value) → row ∈ rows_of S 0 → (p : ℕ) × (p < length (rows_of I t)) × (values_in columns (row_at I t p) ≡ row)
 
 -- the row at place p of table t has the row that the link names
-abbrev pub Leads : List TableRows → ℕ → Link → ℕ → Type 0
-Leads I t link p = (q : ℕ) × (q < length (rows_of I link.table)) × Agrees I t p link.from link.table link.to q
+abbrev pub HasLinkedRow : List TableRows → ℕ → Link → ℕ → Type 0
+HasLinkedRow I t link p = (q : ℕ) × (q < length (rows_of I link.table)) × RowsAgree I t p link.from link.table link.to q
 
 -- the first place of the table whose row has not the row that the link names, or each row has it
 abbrev pub IsFirstAlone : List TableRows → ℕ → Link → Option ℕ → Type 0
-IsFirstAlone I t link o = MatchOption o (RowsLead I t link) (λ p. (p < length (rows_of I t)) × (¬ (Leads I t link p)))
+IsFirstAlone I t link o = MatchOption o (RowsLead I t link) (λ p. (p < length (rows_of I t)) × (¬ (HasLinkedRow I t link p)))
 
 -- ---- one table
 

@@ -3,7 +3,7 @@ ghost use Rattle.std.specs.Prelude.{◌≡◌, ◌<◌, ◌≤◌, ◌^◌, IfOk
 ghost use Rattle.dx_model.specs.Tables.{LinksHold};
 ghost use Rattle.dx_schema.specs.Tables.{model_tables, schema_widths};
 ghost use Rattle.dx_instance.specs.Stored.{facts, table_at, widths};
-ghost use Rattle.dx_holds.specs.Columns.{LinkFits};
+ghost use Rattle.dx_holds.specs.Columns.{LinkFitsInstance};
 ghost use Rattle.dx_fails.specs.Shown.{AllLead, IsFirstAlone, IsLoneIn, IsLoneRow};
 
 use crate::shadows::{shadow_of, shadows};
@@ -28,7 +28,7 @@ fn first_alone(
     link: &Link,
 ) -> Result<Option<u32>, AllocError>
     requires table { table < length instance.now }
-    requires fits { LinkFits instance.now (table_at instance.now table).width link.now }
+    requires fits { LinkFitsInstance instance.now (table_at instance.now table).width link.now }
     requires some { 1 ≤ length link.now.from }
     requires few { length link.now.from < 2 ^ 32 }
     ensures { IfOk result (IsFirstAlone instance.now table link.now) }

@@ -5,8 +5,8 @@ ghost use Rattle.dx_model.specs.Tables.{KeysHold};
 ghost use Rattle.dx_schema.specs.Tables.{model_tables, schema_widths};
 ghost use Rattle.dx_instance.specs.Places.{value_at};
 ghost use Rattle.dx_instance.specs.Stored.{facts, rows_of, table_at, widths};
-ghost use Rattle.dx_holds.specs.Columns.{Agrees, RowsDetermine};
-ghost use Rattle.dx_fails.specs.Shown.{AllIn, AreApart, IsBrokenIn, IsBrokenKey};
+ghost use Rattle.dx_holds.specs.Columns.{RowsAgree, RowsDetermine};
+ghost use Rattle.dx_fails.specs.Shown.{AllIn, IsViolation, IsBrokenIn, IsBrokenKey};
 
 use crate::determining::{all_columns, determinations};
 use dx_instance::Instance;
@@ -38,7 +38,7 @@ fn differing(instance: &Instance, table: u32, columns: &[u32], left: u32, right:
     requires columns { (c : ℕ) → c ∈ columns.now → c < (table_at instance.now table).width }
     requires left { left < length (rows_of instance.now table) }
     requires right { right < length (rows_of instance.now table) }
-    ensures { MatchOption result (Agrees instance.now table left columns.now table columns.now right)
+    ensures { MatchOption result (RowsAgree instance.now table left columns.now table columns.now right)
         (λ c. (c ∈ columns.now) × ¬ (value_at instance.now table left c ≡ value_at instance.now table right c)) }
 {
     for column in columns {
@@ -63,7 +63,7 @@ fn apart_in(
     requires few { length left.now < 2 ^ 32 }
     requires right { (c : ℕ) → c ∈ right.now → c < (table_at instance.now table).width }
     ensures { IfOk result (λ o. MatchOption o (RowsDetermine instance.now table left.now right.now)
-        (AreApart instance.now table left.now right.now)) }
+        (IsViolation instance.now table left.now right.now)) }
 {
     let firsts = instance.firsts(table, left)?;
     for place in 0..instance.count(table) {

@@ -1,7 +1,7 @@
 // What determines what in a table.
 ghost use Rattle.std.specs.Prelude.{◌≡◌, ◌<◌, IfOk, length, map};
 ghost use Rattle.std.specs.List.{range_with_len};
-ghost use Rattle.dx_schema.specs.Tables.{determinations_of, table_at, tables_of};
+ghost use Rattle.dx_schema.specs.Tables.{determinations_of, schema_table, tables_of};
 ghost use Rattle.dx_fails.specs.Shown.{as_determination};
 
 use dx_schema::Schema;
@@ -42,8 +42,8 @@ pub(crate) fn determinations<'a>(
     all: &'a [u32],
 ) -> Result<Vec<Determines<'a>>, AllocError>
     requires table { table < length (tables_of schema.now) }
-    requires all { all.now ≡ range_with_len 0 (length (table_at schema.now table).columns) }
-    ensures { IfOk result (λ found. map as_determination found.items ≡ determinations_of (table_at schema.now table)) }
+    requires all { all.now ≡ range_with_len 0 (length (schema_table schema.now table).columns) }
+    ensures { IfOk result (λ found. map as_determination found.items ≡ determinations_of (schema_table schema.now table)) }
 {
     let mut found = Vec::new(alloc);
     for key in schema.keys_of(table) {

@@ -5,7 +5,8 @@ use Rattle.dx_ports.specs.Members.{◌∈◌, here, there, Distinct, Each}
 use Rattle.dx_ports.proofs.Members.{in_at, in_map, from_map}
 use Rattle.dx_funcs.specs.declared.row_test.RowTest.{RowTest}
 use Rattle.dx_funcs.specs.RowTests.{AreTests}
-use Rattle.dx_funcs.specs.Shipped.{Text, shipped_row_tests}
+use Rattle.dx_funcs.specs.Shipped.{shipped_row_tests}
+use Rattle.dx_ports.specs.Texts.{Text}
 use Rattle.dx_funcs.proofs.Offered.{apart}
 
 -- the row test at a place is listed

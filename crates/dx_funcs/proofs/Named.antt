@@ -5,7 +5,8 @@ use Rattle.std.proofs.lemmas.Bool.{ne_eqb, eq-eqb}
 use Rattle.dx_ports.specs.Members.{◌∈◌, here, there, Distinct}
 use Rattle.dx_ports.proofs.Members.{in_map, from_map}
 use Rattle.dx_funcs.specs.declared.conversion.Conversion.{Conversion}
-use Rattle.dx_funcs.specs.Names.{Text, first_named, conversion_name, call_found}
+use Rattle.dx_funcs.specs.Names.{first_named, conversion_name, call_found}
+use Rattle.dx_ports.specs.Texts.{Text}
 use Rattle.dx_funcs.specs.Laws.{EachIsTold, CallsByNameAreByCode}
 use Rattle.dx_funcs.proofs.Offered.{one_name, one_code}
 

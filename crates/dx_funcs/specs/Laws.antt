@@ -2,7 +2,8 @@
 use Rattle.std.specs.Prelude.{◌≡◌, ℕ, List, Some, map}
 use Rattle.dx_ports.specs.Members.{◌∈◌}
 use Rattle.dx_funcs.specs.declared.conversion.Conversion.{Conversion}
-use Rattle.dx_funcs.specs.Names.{Text, call_named, conversion_name, first_named}
+use Rattle.dx_funcs.specs.Names.{call_named, conversion_name, first_named}
+use Rattle.dx_ports.specs.Texts.{Text}
 use Rattle.dx_funcs.specs.Offers.{IsOffer}
 
 -- a name or a code tells which listed conversion it is

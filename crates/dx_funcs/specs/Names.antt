@@ -2,10 +2,7 @@
 use Rattle.std.specs.Prelude.{◌≡◌, ℕ, List, [], ◌∷◌, Option, Some, None, ◌==◌, cond, if◌then◌else◌, nat_eq, MatchOption}
 use Rattle.std.specs.Cmp.Lexicographic.{pointwise}
 use Rattle.dx_funcs.specs.declared.conversion.Conversion.{Conversion}
-
--- a text, by its bytes
-abbrev pub Text : Type 0
-Text = List ℕ
+use Rattle.dx_ports.specs.Texts.{Text}
 
 -- the first conversion of this name
 abbrev pub first_named : List Conversion → Text → Option Conversion

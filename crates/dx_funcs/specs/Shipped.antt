@@ -4,10 +4,7 @@ use Rattle.std.specs.List.{list_all}
 use Rattle.std.specs.Char.{is_ascii_digit}
 use Rattle.dx_funcs.specs.declared.conversion.Conversion.{Conversion}
 use Rattle.dx_funcs.specs.declared.row_test.RowTest.{RowTest}
-
--- a text, by its bytes
-abbrev pub Text : Type 0
-Text = List ℕ
+use Rattle.dx_ports.specs.Texts.{Text}
 
 -- the byte of a space
 abbrev pub space : ℕ

@@ -20,12 +20,12 @@ pub struct Host<F, M> {
 }
 
 impl<F: Fn(u32, &Items<Text>) -> Result<Text, AllocError>, M: Meaning> Host<F, M> {
-    ghost use Rattle.dx_funcs.specs.Serving.{Answers, Serves, offered};
+    ghost use Rattle.dx_funcs.specs.Serving.{AnswersCalls, Serves, offered};
 
     /// Stores a closure beside the list of what it computes.
     pub fn build(list: Items<Conversion>, function: F) -> Host<F, M>
         requires offer { IsOffer list }
-        requires answers { Answers F.Fn function M.apply list }
+        requires answers { AnswersCalls F.Fn function M.apply list }
         ensures offered { offered result ≡ list }
         ensures serves { Serves F.Fn M.apply result }
     {

@@ -1,7 +1,7 @@
 -- The demo files of few employees, and the records of later ones, computed.
 use Rattle.std.proofs.Common.{◌≡◌, ℕ, [], ◌∷◌, codes, refl}
 use Rattle.std.specs.Fmt.{digits}
-use Rattle.dx_gen.specs.Demo.{demo, dept_text, emp_text, phone_text, emp_record, phone_record, mapping_text}
+use Rattle.dx_gen.specs.Demo.{demo, dept_text, emp_text, phone_text, emp_record, phone_record, demo_mapping_text}
 
 -- ten departments, of which the odd ones have a town
 departments : dept_text ≡ codes "dname,city\nd0,\nd1,Town 1\nd2,\nd3,Town 3\nd4,\nd5,Town 5\nd6,\nd7,Town 7\nd8,\nd9,Town 9\n"
@@ -31,5 +31,5 @@ none_later : phone_record 99999 ≡ []
 none_later = refl
 
 -- the files in their order
-files : (n : ℕ) → demo n ≡ (codes "mapping.clio", mapping_text) ∷ (codes "dept.csv", dept_text) ∷ (codes "emp.csv", emp_text n) ∷ (codes "phone.csv", phone_text n) ∷ []
+files : (n : ℕ) → demo n ≡ (codes "mapping.clio", demo_mapping_text) ∷ (codes "dept.csv", dept_text) ∷ (codes "emp.csv", emp_text n) ∷ (codes "phone.csv", phone_text n) ∷ []
 files n = refl

@@ -1,10 +1,7 @@
 -- The demo files, by a number of employees.
 use Rattle.std.specs.Prelude.{ℕ, zero, suc, List, [], ◌∷◌, ◌++◌, ◌%◌, cond, eqb, codes, decimal}
 use Rattle.dx_ports.specs.Entries.{Entry}
-
--- a text, by its bytes
-abbrev pub Text : Type 0
-Text = List ℕ
+use Rattle.dx_ports.specs.Texts.{Text}
 
 -- the texts of the numbers below n, one after the other
 abbrev pub each_below : (ℕ → Text) → ℕ → Text
@@ -14,8 +11,8 @@ each_below text (suc n) = each_below text n ++ text n
 -- ---- the mapping
 
 -- sets of departments, employees and telephones
-abbrev pub source_text : Text
-source_text =
+abbrev pub demo_source_text : Text
+demo_source_text =
     codes "source {\n"
     ++ (codes "  set dept { dname, city; key (dname); }\n"
     ++ (codes "  set emp { eid, name, dname; key (eid); ref (dname) -> dept (dname); }\n"
@@ -30,16 +27,16 @@ target_text =
     ++ (codes "  }\n" ++ (codes "  set number { num, who; }\n" ++ codes "}\n"))))
 
 -- lines from the one to the other
-abbrev pub lines_text : Text
-lines_text =
+abbrev pub demo_lines_text : Text
+demo_lines_text =
     codes "line dept.dname -> unit.uname;\n"
     ++ (codes "line dept.city -> unit.place;\n"
     ++ (codes "line emp.eid -> staff.sid;\n"
     ++ (codes "line emp.name -> staff.sname;\n"
     ++ (codes "line phone.num -> staff.phone;\n" ++ (codes "line phone.num -> number.num;\n" ++ codes "line emp.name -> number.who;\n")))))
 
-abbrev pub mapping_text : Text
-mapping_text = codes "mapping 1;\n" ++ (source_text ++ (target_text ++ lines_text))
+abbrev pub demo_mapping_text : Text
+demo_mapping_text = codes "mapping 1;\n" ++ (demo_source_text ++ (target_text ++ demo_lines_text))
 
 -- ---- the rows
 
@@ -73,7 +70,7 @@ phone_text number = codes "eid,num\n" ++ each_below phone_record number
 
 abbrev pub demo : ℕ → List Entry
 demo number =
-    (codes "mapping.clio", mapping_text)
+    (codes "mapping.clio", demo_mapping_text)
     ∷ (codes "dept.csv", dept_text)
     ∷ (codes "emp.csv", emp_text number)
     ∷ (codes "phone.csv", phone_text number)

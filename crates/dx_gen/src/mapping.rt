@@ -1,11 +1,11 @@
 // The text of the demo's mapping.
 ghost use Rattle.std.specs.Prelude.{◌≡◌, ◌++◌, IfOk, OnOk, string_bytes};
-ghost use Rattle.dx_gen.specs.Demo.{lines_text, mapping_text, source_text, target_text};
+ghost use Rattle.dx_gen.specs.Demo.{demo_lines_text, demo_mapping_text, demo_source_text, target_text};
 
 use std::alloc::{AllocError, Global};
 
 fn push_source(out: &mut String) -> Result<(), AllocError>
-    ensures { OnOk result (string_bytes out.new ≡ string_bytes out.old ++ source_text) }
+    ensures { OnOk result (string_bytes out.new ≡ string_bytes out.old ++ demo_source_text) }
 {
     out.push_str("source {\n")?;
     out.push_str("  set dept { dname, city; key (dname); }\n")?;
@@ -28,7 +28,7 @@ fn push_target(out: &mut String) -> Result<(), AllocError>
 }
 
 fn push_lines(out: &mut String) -> Result<(), AllocError>
-    ensures { OnOk result (string_bytes out.new ≡ string_bytes out.old ++ lines_text) }
+    ensures { OnOk result (string_bytes out.new ≡ string_bytes out.old ++ demo_lines_text) }
 {
     out.push_str("line dept.dname -> unit.uname;\n")?;
     out.push_str("line dept.city -> unit.place;\n")?;
@@ -42,7 +42,7 @@ fn push_lines(out: &mut String) -> Result<(), AllocError>
 
 /// The mapping's text.
 pub fn mapping_text(alloc: Global) -> Result<String, AllocError>
-    ensures { IfOk result (λ s. string_bytes s ≡ mapping_text) }
+    ensures { IfOk result (λ s. string_bytes s ≡ demo_mapping_text) }
 {
     let mut out = String::from_str(alloc, "mapping 1;\n")?;
     push_source(&mut out)?;

@@ -4,7 +4,7 @@ use Rattle.std.proofs.Math.Nat.{le_refl}
 use Rattle.std.proofs.lemmas.List.{take_all, get_or_default}
 use Rattle.std.proofs.lemmas.Option.{none-some, some_pair_parts}
 use Rattle.std.proofs.lemmas.Result.{IfOk-at_ok, IfErr-at_err}
-use Rattle.dx_grammar.specs.Forms.{Form, Derives, Starts, IsFirstFault}
+use Rattle.dx_grammar.specs.Forms.{Form, Derives, Starts, IsFirstUnexpected}
 use Rattle.dx_grammar.specs.Faults.{IsUnexpectedAt, IsStoppedAt}
 use Rattle.dx_grammar.proofs.Told.{start_take, fault_is_one}
 
@@ -23,7 +23,7 @@ pub stands : {X : Type 0} (f : Form X) (xs : List X) (k : ℕ) → k ≤ length 
 stands f xs k le s = start_take f k (length xs) xs le (subst (Starts f) (sym (take_all (length xs) xs (le_refl (length xs)))) s)
 
 -- the first token that can't stand, by its number
-abbrev pub unexpected_at : {X : Type 0} (f : Form X) (place_of : X → ℕ) (xs : List X) (k : ℕ) (blank : X) → IsFirstFault f xs k → IsUnexpectedAt f place_of xs (place_of (get_or xs k blank))
+abbrev pub unexpected_at : {X : Type 0} (f : Form X) (place_of : X → ℕ) (xs : List X) (k : ℕ) (blank : X) → IsFirstUnexpected f xs k → IsUnexpectedAt f place_of xs (place_of (get_or xs k blank))
 unexpected_at f place_of xs k blank first =
     record { number = k; first = first; token = get_or xs k blank; is = get_or_default xs k blank (get_or xs k blank) first.inside; at = refl }
 

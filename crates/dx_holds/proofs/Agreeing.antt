@@ -8,7 +8,7 @@ use Rattle.dx_model.specs.declared.tables.Link.{Link}
 use Rattle.dx_model.specs.Tables.{values_in}
 use Rattle.dx_instance.specs.Stored.{TableRows, rows_of}
 use Rattle.dx_instance.specs.Places.{HasValues, IsFirstWith, NoneWith, row_at, value_at}
-use Rattle.dx_holds.specs.Columns.{Agrees, RowsLead}
+use Rattle.dx_holds.specs.Columns.{RowsAgree, RowsLead}
 
 -- ---- column by column
 
@@ -38,13 +38,13 @@ none_on I t columns values a m b c x one old none p g k q = elim (cases_lt p m) 
 
 -- the first n rows have the rows that the link names
 abbrev pub LeadBelow : List TableRows → ℕ → Link → ℕ → Type 0
-LeadBelow I t link n = (p : ℕ) → p < n → (q : ℕ) × (q < length (rows_of I link.table)) × Agrees I t p link.from link.table link.to q
+LeadBelow I t link n = (p : ℕ) → p < n → (q : ℕ) × (q < length (rows_of I link.table)) × RowsAgree I t p link.from link.table link.to q
 
 pub lead_more : (I : List TableRows) (t n : ℕ) (link : Link) (o : Option ℕ) → is_some o ≡ true → IsFirstWith I link.table link.to (values_in link.from (row_at I t n)) 0 o → LeadBelow I t link n → LeadBelow I t link (n + 1)
 lead_more I t n link None e m old p h = absurd (false≢true e)
 lead_more I t n link (Some q) e m old p h = elim (cases_lt p n) [
   | inl l ↦ old p l
-  | inr l ↦ let s : n ≡ p = omega (arith, h, l) in (q, m.1, subst (λ (k : ℕ). Agrees I t k link.from link.table link.to q) s m.3)
+  | inr l ↦ let s : n ≡ p = omega (arith, h, l) in (q, m.1, subst (λ (k : ℕ). RowsAgree I t k link.from link.table link.to q) s m.3)
 ]
 
 pub not_lead : (I : List TableRows) (t n : ℕ) (link : Link) (o : Option ℕ) → n < length (rows_of I t) → is_some o ≡ false → IsFirstWith I link.table link.to (values_in link.from (row_at I t n)) 0 o → ¬ (RowsLead I t link)

@@ -5,7 +5,7 @@ use Rattle.std.proofs.lemmas.Bool.{cases_lt}
 use Rattle.dx_model.specs.Tables.{values_in}
 use Rattle.dx_instance.specs.Stored.{TableRows, rows_of}
 use Rattle.dx_instance.specs.Places.{IsFirstWith, row_at}
-use Rattle.dx_holds.specs.Columns.{Agrees, IsFirstLike, RowsDetermine, RowsDiffer}
+use Rattle.dx_holds.specs.Columns.{RowsAgree, IsFirstLike, RowsDetermine, RowsDiffer}
 
 -- a row has its own values, so there is a first that has them
 pub some_first : (I : List TableRows) (t : ℕ) (columns : List ℕ) (p : ℕ) → p < length (rows_of I t) → ¬ (IsFirstWith I t columns (values_in columns (row_at I t p)) 0 None)
@@ -19,7 +19,7 @@ not_behind I t columns p q r f e = elim (cases_lt r q) [ inl l ↦ absurd (f.2 r
 
 -- the first n rows all differ in these columns
 abbrev pub DifferTo : List TableRows → ℕ → List ℕ → ℕ → Type 0
-DifferTo I t columns n = (p q : ℕ) → p < q → q < n → ¬ (Agrees I t p columns t columns q)
+DifferTo I t columns n = (p q : ℕ) → p < q → q < n → ¬ (RowsAgree I t p columns t columns q)
 
 pub differ_more : (I : List TableRows) (t : ℕ) (columns : List ℕ) (n q : ℕ) → IsFirstLike I t columns n q → q ≡ n → DifferTo I t columns n → DifferTo I t columns (n + 1)
 differ_more I t columns n q f e old a b h k agree = elim (cases_lt b n) [
@@ -43,9 +43,9 @@ all_differ I t columns n h old p q b r = old p q b (omega (arith, h, r))
 
 -- the first n rows have the same on the right if they have the same on the left
 abbrev pub DetermineTo : List TableRows → ℕ → List ℕ → List ℕ → ℕ → Type 0
-DetermineTo I t left right n = (p q : ℕ) → p < q → q < n → Agrees I t p left t left q → Agrees I t p right t right q
+DetermineTo I t left right n = (p q : ℕ) → p < q → q < n → RowsAgree I t p left t left q → RowsAgree I t p right t right q
 
-pub determine_more : (I : List TableRows) (t : ℕ) (left right : List ℕ) (n f : ℕ) → IsFirstLike I t left n f → Agrees I t f right t right n → DetermineTo I t left right n → DetermineTo I t left right (n + 1)
+pub determine_more : (I : List TableRows) (t : ℕ) (left right : List ℕ) (n f : ℕ) → IsFirstLike I t left n f → RowsAgree I t f right t right n → DetermineTo I t left right n → DetermineTo I t left right (n + 1)
 determine_more I t left right n f first agree old p q h k same = elim (cases_lt q n) [
   | inl l ↦ old p q h l same
   | inr l ↦
@@ -59,7 +59,7 @@ determine_more I t left right n f first agree old p q h k same = elim (cases_lt 
       subst (λ (x : ℕ). values_in right (row_at I t x) ≡ values_in right (row_at I t p)) d (agree ∙ sym one)
 ]
 
-pub not_determine : (I : List TableRows) (t : ℕ) (left right : List ℕ) (n f : ℕ) → n < length (rows_of I t) → IsFirstLike I t left n f → RowsDetermine I t left right → Agrees I t f right t right n
+pub not_determine : (I : List TableRows) (t : ℕ) (left right : List ℕ) (n f : ℕ) → n < length (rows_of I t) → IsFirstLike I t left n f → RowsDetermine I t left right → RowsAgree I t f right t right n
 not_determine I t left right n f h first all =
     let b = not_behind I t left n f n first refl in
     elim (cases_lt f n) [

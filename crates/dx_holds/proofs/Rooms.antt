@@ -17,7 +17,7 @@ use Rattle.dx_model.specs.Fitting.{AtomsFitWidths}
 use Rattle.dx_model.specs.Values.{Tuple}
 use Rattle.dx_instance.specs.Stored.{TableRows, table_at, widths}
 use Rattle.dx_holds.specs.Rooms.{FitsRoom}
-use Rattle.dx_holds.specs.Searching.{IsAsked}
+use Rattle.dx_holds.specs.Searching.{AtomsFitInstance}
 
 greater : (v n : ℕ) → (n ≤ cond (nat_lt v n) n (suc v)) × (v < cond (nat_lt v n) n (suc v))
 greater v n = elim (cases_lt v n) [
@@ -66,5 +66,5 @@ wide_at [] t w e = cc e
 wide_at (x ∷ I) zero w e = (omega arith, cc e)
 wide_at (x ∷ I) (suc t) w e = let r = wide_at I t w e in (omega (arith, r.0), r.1)
 
-pub is_asked : (I : List TableRows) (d : Rule) (t : Tuple) → AtomsFitWidths (widths I) d.conclusion → length t ≡ length (exported d) → IsAsked I d.conclusion t
+pub is_asked : (I : List TableRows) (d : Rule) (t : Tuple) → AtomsFitWidths (widths I) d.conclusion → length t ≡ length (exported d) → AtomsFitInstance I d.conclusion t
 is_asked I d t f l = record { tables = λ a m. wide_at I a.table (length a.cells) (f a m); tuple = l }

@@ -14,11 +14,11 @@ use Rattle.dx_model.specs.declared.tables.Link.{Link}
 use Rattle.dx_model.specs.Tables.{Determination, KeysHold, LinksHold, RowsFit, Table, cell, key_of, table_of, values_in}
 use Rattle.dx_schema.specs.Forest.{Forest}
 use Rattle.dx_schema.specs.Tables.{AreTables, TableOf, as_numbers, dep_of, determinations_of, key_determinations, model_tables, no_table, schema_widths, tables_of}
-use Rattle.dx_schema.specs.Tables.{table_at as schema_table}
+use Rattle.dx_schema.specs.Tables.{schema_table}
 use Rattle.dx_instance.specs.Stored.{TableRows, facts, rows_of, table_at, widths}
 use Rattle.dx_instance.specs.Places.{row_at}
 use Rattle.dx_instance.proofs.StoredFacts.{fact_from_row, fact_table, row_from_fact}
-use Rattle.dx_holds.specs.Columns.{LinkFits, RowsDetermine, RowsDiffer, RowsLead, TableHolds}
+use Rattle.dx_holds.specs.Columns.{LinkFitsInstance, RowsDetermine, RowsDiffer, RowsLead, TableHolds}
 
 -- ---- tables of the schema
 
@@ -174,7 +174,7 @@ table_links f I t e h hold link m p b =
     (q.0, q.1, ap (values_in link.to) q.2 ∙ g.3)
 
 -- a link of the schema fits an instance with its widths
-pub link_fits : (f : Forest) (I : List TableRows) (t : ℕ) (link : Link) → widths I ≡ schema_widths f → AreTables (tables_of f) → t < length I → link ∈ (schema_table f t).links → LinkFits I (table_at I t).width link
+pub link_fits : (f : Forest) (I : List TableRows) (t : ℕ) (link : Link) → widths I ≡ schema_widths f → AreTables (tables_of f) → t < length I → link ∈ (schema_table f t).links → LinkFitsInstance I (table_at I t).width link
 link_fits f I t link e tables h m =
     let k : t < length (tables_of f) = omega (arith, h, as_many f I e) in
     let is = (tables.each_table (schema_table f t) (in_at (tables_of f) t no_table k)).links link m in

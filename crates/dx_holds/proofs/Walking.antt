@@ -9,7 +9,8 @@ use Rattle.dx_ports.proofs.Lists.{nothing_left}
 use Rattle.dx_model.specs.declared.rules.Atom.{Atom}
 use Rattle.dx_model.specs.declared.rules.Cell.TheVariants.{Var}
 use Rattle.dx_model.specs.Rules.{Increase, cells_of, text_of, variables}
-use Rattle.dx_model.specs.Values.{Text, Tuple}
+use Rattle.dx_model.specs.Values.{Tuple}
+use Rattle.dx_ports.specs.Texts.{Text}
 use Rattle.dx_model.proofs.Canonical.{exported_exactly}
 use Rattle.dx_holds.specs.Least.{IsLeast}
 

@@ -12,8 +12,8 @@ use Rattle.dx_instance.specs.Places.{HasValues, IsFirstWith, row_at}
 use Rattle.dx_holds.specs.declared.columns.Seen.{Seen}
 
 -- the row at place q of table u has in its columns `to` what the row at place p of table t has in its columns `from`
-abbrev pub Agrees : List TableRows → ℕ → ℕ → List ℕ → ℕ → List ℕ → ℕ → Type 0
-Agrees I t p from u to q = HasValues I u to (values_in from (row_at I t p)) q
+abbrev pub RowsAgree : List TableRows → ℕ → ℕ → List ℕ → ℕ → List ℕ → ℕ → Type 0
+RowsAgree I t p from u to q = HasValues I u to (values_in from (row_at I t p)) q
 
 -- what the row that was seen has in its columns
 abbrev pub seen_values : List TableRows → Seen → List Value
@@ -21,11 +21,11 @@ seen_values I row = values_in row.columns.now (row_at I row.table row.place)
 
 -- no two rows of the table have the same values in these columns
 abbrev pub RowsDiffer : List TableRows → ℕ → List ℕ → Type 0
-RowsDiffer I t columns = (p q : ℕ) → p < q → q < length (rows_of I t) → ¬ (Agrees I t p columns t columns q)
+RowsDiffer I t columns = (p q : ℕ) → p < q → q < length (rows_of I t) → ¬ (RowsAgree I t p columns t columns q)
 
 -- rows of the table that have the same values in the columns on the left have the same in those on the right
 abbrev pub RowsDetermine : List TableRows → ℕ → List ℕ → List ℕ → Type 0
-RowsDetermine I t left right = (p q : ℕ) → p < q → q < length (rows_of I t) → Agrees I t p left t left q → Agrees I t p right t right q
+RowsDetermine I t left right = (p q : ℕ) → p < q → q < length (rows_of I t) → RowsAgree I t p left t left q → RowsAgree I t p right t right q
 
 -- the keys and the dependencies of a table of a schema hold in the rows of the table
 abbrev pub TableHolds : List TableRows → ℕ → TableOf → Type 0
@@ -38,10 +38,10 @@ IsFirstLike I t columns p q = IsFirstWith I t columns (values_in columns (row_at
 -- each row of the table has the row that the link names
 abbrev pub RowsLead : List TableRows → ℕ → Link → Type 0
 RowsLead I t link =
-    (p : ℕ) → p < length (rows_of I t) → (q : ℕ) × (q < length (rows_of I link.table)) × Agrees I t p link.from link.table link.to q
+    (p : ℕ) → p < length (rows_of I t) → (q : ℕ) × (q < length (rows_of I link.table)) × RowsAgree I t p link.from link.table link.to q
 
 -- a link goes from columns of the table to as many columns of a table
-pub record LinkFits (I : List TableRows) (width : ℕ) (link : Link) : Type 0 where
+pub record LinkFitsInstance (I : List TableRows) (width : ℕ) (link : Link) : Type 0 where
   pub table : link.table < length I
   pub lengths : length link.from ≡ length link.to
   pub from : (c : ℕ) → c ∈ link.from → c < width

@@ -3,7 +3,7 @@ ghost use Rattle.std.specs.Prelude.{◌≡◌, ◌↔◌, ◌<◌, ℕ, IsTrue, 
 ghost use Rattle.dx_ports.specs.Members.{◌∈◌};
 ghost use Rattle.dx_instance.specs.Stored.{rows_of, table_at};
 ghost use Rattle.dx_instance.specs.Places.{IsFirstWith};
-ghost use Rattle.dx_holds.specs.Columns.{Agrees, seen_values};
+ghost use Rattle.dx_holds.specs.Columns.{RowsAgree, seen_values};
 
 use dx_instance::Instance;
 use std::slice::from_ref;
@@ -31,7 +31,7 @@ pub(crate) fn agrees(
     requires place { place < length (rows_of instance.now table) }
     requires columns { (c : ℕ) → c ∈ columns.now → c < (table_at instance.now table).width }
     requires lengths { length row.now.columns.now ≡ length columns.now }
-    ensures { IsTrue result ↔ Agrees instance.now row.now.table row.now.place row.now.columns.now table columns.now place }
+    ensures { IsTrue result ↔ RowsAgree instance.now row.now.table row.now.place row.now.columns.now table columns.now place }
 {
     let seen = row.columns;
     for i in 0..columns.len() {

@@ -3,9 +3,9 @@ ghost use Rattle.std.specs.Prelude.{◌≡◌, ◌↔◌, ◌<◌, ℕ, IsTrue, 
 ghost use Rattle.dx_ports.specs.Members.{Each};
 ghost use Rattle.dx_model.specs.Tables.{LinksHold};
 ghost use Rattle.dx_schema.specs.Tables.{model_tables, schema_widths, tables_of};
-ghost use Rattle.dx_schema.specs.Tables.{table_at as schema_table};
+ghost use Rattle.dx_schema.specs.Tables.{schema_table};
 ghost use Rattle.dx_instance.specs.Stored.{facts, rows_of, table_at, widths};
-ghost use Rattle.dx_holds.specs.Columns.{LinkFits, RowsLead};
+ghost use Rattle.dx_holds.specs.Columns.{LinkFitsInstance, RowsLead};
 
 use crate::columns::{Seen, next_like};
 use dx_instance::Instance;
@@ -15,7 +15,7 @@ use dx_schema::Schema;
 /// Whether each row of the table has the row that the link names.
 fn leads(instance: &Instance, table: u32, link: &Link) -> bool
     requires table { table < length instance.now }
-    requires fits { LinkFits instance.now (table_at instance.now table).width link.now }
+    requires fits { LinkFitsInstance instance.now (table_at instance.now table).width link.now }
     ensures { IsTrue result ↔ RowsLead instance.now table link.now }
 {
     let columns = link.from.items();

@@ -7,8 +7,8 @@ ghost use Rattle.dx_model.specs.declared.rules.Cell.TheVariants.{Ex, Var};
 ghost use Rattle.dx_model.specs.Rules.{cells_of};
 ghost use Rattle.dx_instance.specs.Stored.{rows_of, table_at};
 ghost use Rattle.dx_instance.specs.Places.{value_at};
-ghost use Rattle.dx_holds.specs.Searching.{AreFound, Gives, IsCell, names};
-ghost use Rattle.dx_holds.specs.Questions.{FindsRow, HasValue, IsAnswerable, IsNextPlace, NowhereFrom, SaysRow, Settles, TakesValue};
+ghost use Rattle.dx_holds.specs.Searching.{AreFoundCells, ExtendsFound, IsVariableCell, found_variables};
+ghost use Rattle.dx_holds.specs.Questions.{FindsRow, HasValue, IsAnswerable, IsNextMatch, NowhereFrom, SaysRow, Settles, TakesValue};
 
 use crate::texts::text_for;
 use dx_instance::Instance;
@@ -35,7 +35,7 @@ pub(crate) struct Question<'a> {
 
 /// Where the variable was found, if it was.
 pub(crate) fn found_at(found: &[Found], variable: u32) -> Option<Found>
-    ensures { MatchOption result (¬ (variable ∈ names found.now)) (λ b. (b ∈ found.now) × (b.variable ≡ variable)) }
+    ensures { MatchOption result (¬ (variable ∈ found_variables found.now)) (λ b. (b ∈ found.now) × (b.variable ≡ variable)) }
 {
     for entry in found {
         if entry.variable == variable {
@@ -82,8 +82,8 @@ fn shows(question: &Question, cell: &Cell, value: &Value) -> bool
 
 /// Gives the variable the value of the cell, if it can have it.
 fn meet_variable(target: &Instance, found: &mut Vec<Found>, cell: Found) -> bool
-    requires cell { IsCell target.now cell }
-    requires good { AreFound target.now (vec_capacity found.old) found.old.items }
+    requires cell { IsVariableCell target.now cell }
+    requires good { AreFoundCells target.now (vec_capacity found.old) found.old.items }
     requires below { cell.variable < vec_capacity found.old }
     ensures capacity { vec_capacity found.new ≡ vec_capacity found.old }
     ensures cases { Settles result target.now found.old found.new (TakesValue target.now cell) }
@@ -112,7 +112,7 @@ fn meet_cell(
     requires table { table < length question.now.target.now }
     requires place { place < length (rows_of question.now.target.now table) }
     requires column { column < (table_at question.now.target.now table).width }
-    requires good { AreFound question.now.target.now (vec_capacity found.old) found.old.items }
+    requires good { AreFoundCells question.now.target.now (vec_capacity found.old) found.old.items }
     requires below { (v : ℕ) → cell.now ≡ Ex v → v < vec_capacity found.old }
     ensures capacity { vec_capacity found.new ≡ vec_capacity found.old }
     ensures cases { Settles result question.now.target.now found.old found.new
@@ -139,7 +139,7 @@ fn meet_row(question: &Question, found: &mut Vec<Found>, atom: &Atom, place: u32
     requires asked { IsAnswerable question.now }
     requires atom { atom.now ∈ question.now.atoms.now }
     requires place { place < length (rows_of question.now.target.now atom.now.table) }
-    requires good { AreFound question.now.target.now (vec_capacity found.old) found.old.items }
+    requires good { AreFoundCells question.now.target.now (vec_capacity found.old) found.old.items }
     requires below { (v : ℕ) → Ex v ∈ atom.now.cells → v < vec_capacity found.old }
     ensures capacity { vec_capacity found.new ≡ vec_capacity found.old }
     ensures cases { Settles result question.now.target.now found.old found.new (SaysRow question.now atom.now place) }
@@ -160,8 +160,8 @@ fn meet_row(question: &Question, found: &mut Vec<Found>, atom: &Atom, place: u32
 fn known_value(question: &Question, found: &[Found], cell: &Cell) -> Option<Value>
     requires asked { IsAnswerable question.now }
     requires known { (x : ℕ) → cell.now ≡ Var x → Var x ∈ cells_of question.now.atoms.now }
-    requires good { (n : ℕ) × AreFound question.now.target.now n found.now }
-    ensures { IfSome result (λ v. (values : ℕ → AnyValue) → Gives question.now.target.now found.now values
+    requires good { (n : ℕ) × AreFoundCells question.now.target.now n found.now }
+    ensures { IfSome result (λ v. (values : ℕ → AnyValue) → ExtendsFound question.now.target.now found.now values
         → HasValue question.now cell.now v values) }
 {
     let target = question.target;
@@ -179,8 +179,8 @@ fn known_value(question: &Question, found: &[Found], cell: &Cell) -> Option<Valu
 fn candidate(question: &Question, found: &[Found], atom: &Atom, from: u32) -> Option<u32>
     requires asked { IsAnswerable question.now }
     requires atom { atom.now ∈ question.now.atoms.now }
-    requires good { (n : ℕ) × AreFound question.now.target.now n found.now }
-    ensures { MatchOption result (NowhereFrom question.now found.now atom.now from) (IsNextPlace question.now found.now atom.now from) }
+    requires good { (n : ℕ) × AreFoundCells question.now.target.now n found.now }
+    ensures { MatchOption result (NowhereFrom question.now found.now atom.now from) (IsNextMatch question.now found.now atom.now from) }
 {
     let target = question.target;
     let cells = atom.cells.items();
@@ -201,13 +201,13 @@ pub(crate) fn next_place(
 ) -> Option<u32>
     requires asked { IsAnswerable question.now }
     requires atom { atom.now ∈ question.now.atoms.now }
-    requires good { AreFound question.now.target.now (vec_capacity found.old) found.old.items }
+    requires good { AreFoundCells question.now.target.now (vec_capacity found.old) found.old.items }
     requires below { (v : ℕ) → Ex v ∈ atom.now.cells → v < vec_capacity found.old }
     ensures capacity { vec_capacity found.new ≡ vec_capacity found.old }
     ensures small { IfSome result (λ p. p + 1 < 2 ^ 32) }
     ensures cases { MatchOption result
         ((found.new.items ≡ found.old.items) × NowhereFrom question.now found.old.items atom.now from)
-        (λ p. IsNextPlace question.now found.old.items atom.now from p × FindsRow question.now found.old found.new atom.now p) }
+        (λ p. IsNextMatch question.now found.old.items atom.now from p × FindsRow question.now found.old found.new atom.now p) }
 {
     let _few = question.target.tables();
     let mark = found.len();

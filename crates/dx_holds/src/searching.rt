@@ -1,9 +1,9 @@
 // A search for values of existential variables, part by part.
 ghost use Rattle.std.specs.Prelude.{◌≡◌, ◌↔◌, ◌<◌, ◌≤◌, ◌^◌, ℕ, IsTrue, IfSome, MatchBool, MatchOption, length, vec_capacity};
-ghost use Rattle.dx_ports.specs.Members.{◌∈◌};
+ghost use Rattle.dx_ports.specs.Members.{◌∈◌, IsPrefix};
 ghost use Rattle.dx_model.specs.declared.rules.Cell.TheVariants.{Ex};
 ghost use Rattle.dx_model.specs.Rules.{cells_of};
-ghost use Rattle.dx_holds.specs.Searching.{Begins, IsWanted, NoneLeft, names};
+ghost use Rattle.dx_holds.specs.Searching.{IsAtomWanted, NoneLeft, found_variables};
 ghost use Rattle.dx_holds.specs.Questions.{AreDone, IsAnswerable, RestFails};
 
 use crate::matching::{Found, Question, found_at, next_place};
@@ -11,7 +11,7 @@ use dx_model::{Atom, Cell};
 
 /// Whether one of the cells is a variable that was found.
 fn has_found(cells: &[Cell], found: &[Found]) -> bool
-    ensures { IsTrue result ↔ ((v : ℕ) × (Ex v ∈ cells.now) × (v ∈ names found.now)) }
+    ensures { IsTrue result ↔ ((v : ℕ) × (Ex v ∈ cells.now) × (v ∈ found_variables found.now)) }
 {
     for cell in cells {
         if let Cell::Ex(variable) = cell {
@@ -26,7 +26,7 @@ fn has_found(cells: &[Cell], found: &[Found]) -> bool
 /// Whether the atom is wanted: each is, or those that have a variable that was found since.
 fn is_wanted(atom: &Atom, found: &[Found], since: Option<usize>) -> bool
     requires { IfSome since (λ m. m ≤ length found.now) }
-    ensures { IsTrue result ↔ IsWanted found.now since atom.now }
+    ensures { IsTrue result ↔ IsAtomWanted found.now since atom.now }
 {
     match since {
         None => true,
@@ -76,8 +76,8 @@ pub(crate) fn extend(
     requires since { IfSome since (λ m. m ≤ length found.old.items) }
     ensures found_capacity { vec_capacity found.new ≡ vec_capacity found.old }
     ensures done_capacity { vec_capacity done.new ≡ vec_capacity done.old }
-    ensures found_begins { Begins found.old.items found.new.items }
-    ensures done_begins { Begins done.old.items done.new.items }
+    ensures found_begins { IsPrefix found.old.items found.new.items }
+    ensures done_begins { IsPrefix done.old.items done.new.items }
     ensures cases { MatchBool result
         (AreDone question.now (vec_capacity found.old) found.new.items done.new.items
         × NoneLeft question.now.atoms.now found.new.items done.new.items since)

@@ -12,8 +12,8 @@ use Rattle.dx_model.specs.declared.values.NullId.{NullId}
 use Rattle.dx_instance.specs.Chains.{last_code}
 use Rattle.dx_instance.proofs.ChainFacts.{last_after, last_front, last_hits, last_most}
 use Rattle.dx_hom.specs.declared.matching.Found.{Found}
-use Rattle.dx_hom.specs.Bound.{AreBound, AreLinked, bucket, buckets_of, cell_at}
-use Rattle.dx_hom.specs.Narrowing.{names}
+use Rattle.dx_hom.specs.Bound.{AreBound, AreLinked, bucket, buckets_of, found_at}
+use Rattle.dx_hom.specs.Narrowing.{found_nulls}
 
 -- ---- links of numbers
 
@@ -160,22 +160,22 @@ bound_less cells front heads before rest cell b old x o e h c d s u l =
 pub record Looks (m : ℕ) (cells : List Found) (null : NullId) (code : ℕ) : Type 0 where
   pub within : code ≤ length cells
   pub key : (p : ℕ) → code ≡ suc p → get_or (buckets_of m cells) p 0 ≡ bucket m null
-  pub none : (q : ℕ) → code ≤ q → q < length cells → ¬ ((cell_at cells q).null ≡ null)
+  pub none : (q : ℕ) → code ≤ q → q < length cells → ¬ ((found_at cells q).null ≡ null)
 
 module _ (m : ℕ) (cells : List Found) (null : NullId) where
-  bucket_at : (q : ℕ) → q < length cells → get_or (buckets_of m cells) q 0 ≡ bucket m (cell_at cells q).null
+  bucket_at : (q : ℕ) → q < length cells → get_or (buckets_of m cells) q 0 ≡ bucket m (found_at cells q).null
   bucket_at q h = get_or-map (λ (b : Found). bucket m b.null) cells q _ 0 h
 
   -- the last place of the bucket below n
   looks_below : (n code : ℕ) → code ≡ last_code (bucket m null) (buckets_of m cells) n → n ≤ length cells
-      → ((q : ℕ) → n ≤ q → q < length cells → ¬ ((cell_at cells q).null ≡ null)) → Looks m cells null code
+      → ((q : ℕ) → n ≤ q → q < length cells → ¬ ((found_at cells q).null ≡ null)) → Looks m cells null code
   looks_below n code c h old = record {
     within = let a = last_most (bucket m null) (buckets_of m cells) n in omega (arith, a, c, h);
     key = λ p e. (last_hits (bucket m null) (buckets_of m cells) n p (sym c ∙ e)).1;
     none = none;
   }
     where
-      none : (q : ℕ) → code ≤ q → q < length cells → ¬ ((cell_at cells q).null ≡ null)
+      none : (q : ℕ) → code ≤ q → q < length cells → ¬ ((found_at cells q).null ≡ null)
       none q k l e = elim (cases_lt q n) [
         | inl b ↦
             let a = last_after (bucket m null) (buckets_of m cells) n q b (bucket_at q l ∙ ap (bucket m) e) in
@@ -191,7 +191,7 @@ module _ (m : ℕ) (cells : List Found) (null : NullId) where
       looks_below (length cells) code (c ∙ (links.head b h ∙ rw (e, many) refl)) (omega arith) (λ q k i. absurd (omega (arith, k, i)))
 
   pub looks_next : (heads before : List ℕ) (p code next : ℕ) → m ≡ length heads → code ≡ suc p → next ≡ get_or before p 0
-      → AreBound cells heads before → Looks m cells null code → ¬ ((cell_at cells p).null ≡ null) → Looks m cells null next × (next < code)
+      → AreBound cells heads before → Looks m cells null code → ¬ ((found_at cells p).null ≡ null) → Looks m cells null next × (next < code)
   looks_next heads before p code next d e c l k differs =
       let links = rw (← d) at l.linked in
       let h : p < length cells = omega (arith, e, k.within) in
@@ -202,15 +202,15 @@ module _ (m : ℕ) (cells : List Found) (null : NullId) where
       let most = last_most (bucket m null) (buckets_of m cells) p in
       (looks_below p next at (omega (arith, h)) (none h), omega (arith, at, most, e))
     where
-      none : p < length cells → (q : ℕ) → p ≤ q → q < length cells → ¬ ((cell_at cells q).null ≡ null)
+      none : p < length cells → (q : ℕ) → p ≤ q → q < length cells → ¬ ((found_at cells q).null ≡ null)
       none h q a b = elim (cases_lt p q) [
         | inl i ↦ k.none q (omega (arith, e, i)) b
         | inr i ↦ let same : p ≡ q = omega arith in rw same at differs
       ]
 
-  pub nowhere : (code : ℕ) → code ≡ 0 → Looks m cells null code → ¬ (null ∈ names cells)
+  pub nowhere : (code : ℕ) → code ≡ 0 → Looks m cells null code → ¬ (null ∈ found_nulls cells)
   nowhere code z k i =
       let r = from_map (λ (b : Found). b.null) cells i in
       let j = contains_from_in r.1 in
-      let same : cell_at cells j.0 ≡ r.0 = get_or_default cells j.0 _ r.0 j.1 ∙ j.2 in
+      let same : found_at cells j.0 ≡ r.0 = get_or_default cells j.0 _ r.0 j.1 ∙ j.2 in
       k.none j.0 (omega (arith, z)) j.1 (ap (λ (b : Found). b.null) same ∙ r.2)

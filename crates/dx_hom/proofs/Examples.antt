@@ -13,8 +13,8 @@ use Rattle.dx_model.specs.Instances.{given, fact_moved, image, values}
 use Rattle.dx_instance.specs.NullMaps.{ByNull}
 use Rattle.dx_instance.specs.Stored.{TableRows, facts}
 use Rattle.dx_hom.specs.declared.matching.Found.{Found}
-use Rattle.dx_hom.specs.Homs.{IsAnswer, IsSought, found_pairs}
-use Rattle.dx_hom.specs.Narrowing.{IsCell, names, value_of}
+use Rattle.dx_hom.specs.Homs.{IsNullAssignment, IsSought, found_pairs}
+use Rattle.dx_hom.specs.Narrowing.{IsNullCell, found_nulls, null_value}
 use Rattle.dx_hom.specs.Searching.{Reaches}
 use Rattle.dx_hom.specs.View.{all_there, gone_at, marked}
 
@@ -85,7 +85,7 @@ abbrev cell : ℕ → Found
 cell p = record { null = n; table = 0; place = p; column = 0 }
 
 -- the cell of b is an answer
-b_is_an_answer : IsAnswer into finite.empty None from (cell 1 ∷ [])
+b_is_an_answer : IsNullAssignment into finite.empty None from (cell 1 ∷ [])
 b_is_an_answer = record {
   once = ((λ m. elim m [ ]), tt);
   nulls = λ k. ((λ m. it k m), (λ m. back k m));
@@ -97,16 +97,16 @@ b_is_an_answer = record {
   };
 }
   where
-    it : (k : NullId) → k ∈ names (cell 1 ∷ []) → Null k ∈ values from
+    it : (k : NullId) → k ∈ found_nulls (cell 1 ∷ []) → Null k ∈ values from
     it k (here e) = here (ap (λ (x : NullId). Null x) e)
     it k (there m) = elim m [ ]
 
-    back : (k : NullId) → Null k ∈ values from → k ∈ names (cell 1 ∷ [])
+    back : (k : NullId) → Null k ∈ values from → k ∈ found_nulls (cell 1 ∷ [])
     back k (here e) = let d : n ≡ k = cc in here d
     back k (there m) = elim m [ ]
 
-    there_is : (c : Found) → c ∈ (cell 1 ∷ []) → IsCell into c
-    there_is c (here e) = subst (IsCell into) e (record { table = omega arith; place = omega arith; column = omega arith })
+    there_is : (c : Found) → c ∈ (cell 1 ∷ []) → IsNullCell into c
+    there_is c (here e) = subst (IsNullCell into) e (record { table = omega arith; place = omega arith; column = omega arith })
     there_is c (there m) = elim m [ ]
 
     inside : (h : List NullPair) → given h n ≡ given (found_pairs into (cell 1 ∷ [])) n → (f : Fact) → f ∈ image h from → f ∈ facts into
@@ -117,17 +117,17 @@ b_is_an_answer = record {
 abbrev itself : List TableRows
 itself = record { width = 1; rows = (Null n ∷ []) ∷ [] } ∷ []
 
-nothing_is_no_answer : (fixed : ByNull) (avoid : Option Fact) → ¬ IsAnswer itself fixed avoid from []
+nothing_is_no_answer : (fixed : ByNull) (avoid : Option Fact) → ¬ IsNullAssignment itself fixed avoid from []
 nothing_is_no_answer fixed avoid w = elim ((w.nulls n).1 (here refl)) [ ]
 
-two_cells_are_no_answer : (fixed : ByNull) (avoid : Option Fact) → ¬ IsAnswer into fixed avoid from (cell 0 ∷ cell 1 ∷ [])
+two_cells_are_no_answer : (fixed : ByNull) (avoid : Option Fact) → ¬ IsNullAssignment into fixed avoid from (cell 0 ∷ cell 1 ∷ [])
 two_cells_are_no_answer fixed avoid w = w.once.0 (here refl)
 
-no_cell_is_no_answer : (fixed : ByNull) (avoid : Option Fact) → ¬ IsAnswer into fixed avoid from (cell 2 ∷ [])
+no_cell_is_no_answer : (fixed : ByNull) (avoid : Option Fact) → ¬ IsNullAssignment into fixed avoid from (cell 2 ∷ [])
 no_cell_is_no_answer fixed avoid w = let h : 2 < 2 = (w.cells (cell 2) (here refl)).place in absurd (omega (arith, h))
 
 -- a cell is of its own table
-in_the_second_table : value_of (record { width = 1; rows = [] } ∷ into) (record { null = n; table = 1; place = 1; column = 0 }) ≡ b
+in_the_second_table : null_value (record { width = 1; rows = [] } ∷ into) (record { null = n; table = 1; place = 1; column = 0 }) ≡ b
 in_the_second_table = refl
 
 -- ---- facts that are taken out

@@ -7,12 +7,12 @@ use Rattle.std.proofs.lemmas.List.{take_more, map-append, take_all, take-map, le
 use Rattle.dx_model.specs.declared.values.NullId.{NullId}
 use Rattle.dx_model.specs.declared.values.Value.{Value}
 use Rattle.dx_instance.specs.NullMaps.{ByNull}
-use Rattle.dx_ports.specs.Members.{◌∈◌, here, there, ◌⊆◌}
+use Rattle.dx_ports.specs.Members.{◌∈◌, here, there, ◌⊆◌, IsPrefix}
 use Rattle.dx_model.specs.Instances.{moved, nulls_in}
 use Rattle.dx_ports.proofs.Members.{in_left, in_map, in_right, from_append, distinct_more}
 use Rattle.dx_hom.specs.declared.matching.Found.{Found}
 use Rattle.dx_instance.specs.Stored.{TableRows}
-use Rattle.dx_hom.specs.Narrowing.{names, value_of, GivesCell, IsCell, AtMost, Allows, IsGood, Begins, Narrows, Fails}
+use Rattle.dx_hom.specs.Narrowing.{found_nulls, null_value, GivesCell, IsNullCell, AtMost, Allows, IsGood, Narrows, RulesOut}
 use Rattle.dx_ports.specs.Members.{Distinct}
 use Rattle.dx_model.proofs.Reduction.{nulls_append}
 
@@ -20,16 +20,16 @@ pub narrower : {X : Type 0} (xs ys : List X) (n : ℕ) → ys ⊆ xs → AtMost 
 narrower xs ys n s a ds d i = a ds d (λ x m. s x (i x m))
 
 -- there is room for a null that was not found
-pub room_for : (found : List Found) (n : NullId) (capacity : ℕ) → Distinct (names found) → ¬ (n ∈ names found)
-    → AtMost (names found ++ n ∷ []) capacity → length found < capacity
+pub room_for : (found : List Found) (n : NullId) (capacity : ℕ) → Distinct (found_nulls found) → ¬ (n ∈ found_nulls found)
+    → AtMost (found_nulls found ++ n ∷ []) capacity → length found < capacity
 room_for found n capacity d k a =
-    let l = a (names found ++ n ∷ []) (distinct_more (names found) n d k) (λ x m. m) in
-    let e : length (names found ++ n ∷ []) ≡ length found + 1 = simp (length-append, length-map) in
+    let l = a (found_nulls found ++ n ∷ []) (distinct_more (found_nulls found) n d k) (λ x m. m) in
+    let e : length (found_nulls found ++ n ∷ []) ≡ length found + 1 = simp (length-append, length-map) in
     omega (arith, l, e)
 
 module _ (T : List TableRows) (fixed : ByNull) (found : List Found) (cell : Found) where
   -- the null was found before
-  pub met_before : (b : Found) → IsGood T fixed found → b ∈ found → b.null ≡ cell.null → value_of T b ≡ value_of T cell
+  pub met_before : (b : Found) → IsGood T fixed found → b ∈ found → b.null ≡ cell.null → null_value T b ≡ null_value T cell
       → Narrows T fixed found (cell.null ∷ []) (GivesCell T cell) found
   met_before b good m e v = record {
     begins = ([], sym (append-nil found));
@@ -39,18 +39,18 @@ module _ (T : List TableRows) (fixed : ByNull) (found : List Found) (cell : Foun
     exact = λ g. ((λ w. (w, ap g (sym e) ∙ (w.cell_values b m ∙ v))), (λ w. w.0));
   }
     where
-      only_one : (n : NullId) → n ∈ (cell.null ∷ []) → n ∈ names found
+      only_one : (n : NullId) → n ∈ (cell.null ∷ []) → n ∈ found_nulls found
       only_one n (here d) = rw (← d, ← e) (in_map (λ (b : Found). b.null) m)
       only_one n (there i) = elim i [ ]
 
-  pub failed_before : (b : Found) → b ∈ found → b.null ≡ cell.null → ¬ (value_of T b ≡ value_of T cell)
-      → Fails T fixed found (GivesCell T cell) found
+  pub failed_before : (b : Found) → b ∈ found → b.null ≡ cell.null → ¬ (null_value T b ≡ null_value T cell)
+      → RulesOut T fixed found (GivesCell T cell) found
   failed_before b m e v = record {
     begins = ([], sym (append-nil found));
     none = λ g w d. v (sym (w.cell_values b m) ∙ (ap g e ∙ d));
   }
 
-  pub not_allowed : ¬ (Allows fixed cell.null (value_of T cell)) → Fails T fixed found (GivesCell T cell) found
+  pub not_allowed : ¬ (Allows fixed cell.null (null_value T cell)) → RulesOut T fixed found (GivesCell T cell) found
   not_allowed k = record {
     begins = ([], sym (append-nil found));
     none = λ g w d. k (λ x e. sym (w.fixed_values cell.null x e) ∙ d);
@@ -63,23 +63,23 @@ module _ (T : List TableRows) (fixed : ByNull) (found : List Found) (cell : Foun
       at (here e) = rw (← e) c
       at (there i) = elim i [ ]
 
-  pub met_now : IsGood T fixed found → IsCell T cell → ¬ (cell.null ∈ names found) → Allows fixed cell.null (value_of T cell)
+  pub met_now : IsGood T fixed found → IsNullCell T cell → ¬ (cell.null ∈ found_nulls found) → Allows fixed cell.null (null_value T cell)
       → Narrows T fixed found (cell.null ∷ []) (GivesCell T cell) (found ++ cell ∷ [])
   met_now good c new a = record {
     begins = (cell ∷ [], refl);
     good = record {
-      once = rw map-append (distinct_more (names found) cell.null good.once new);
-      cells = last_one {P = IsCell T} good.cells c;
-      allowed = last_one {P = λ b. Allows fixed b.null (value_of T b)} good.allowed a;
+      once = rw map-append (distinct_more (found_nulls found) cell.null good.once new);
+      cells = last_one {P = IsNullCell T} good.cells c;
+      allowed = last_one {P = λ b. Allows fixed b.null (null_value T b)} good.allowed a;
     };
-    whole = λ n i. rw map-append (in_right (names found) i);
+    whole = λ n i. rw map-append (in_right (found_nulls found) i);
     only = λ n i. rw map-append at i;
     exact = λ g. (
       (λ w. (
         record { fixed_values = w.fixed_values; cell_values = λ b m. w.cell_values b (in_left _ m) },
         w.cell_values cell (in_right found (here refl)),
       )),
-      (λ w. record { fixed_values = w.0.fixed_values; cell_values = last_one {P = λ b. g b.null ≡ value_of T b} w.0.cell_values w.1 }),
+      (λ w. record { fixed_values = w.0.fixed_values; cell_values = last_one {P = λ b. g b.null ≡ null_value T b} w.0.cell_values w.1 }),
     );
   }
 
@@ -106,13 +106,13 @@ module _ (T : List TableRows) (fixed : ByNull) (found : List Found) (v w : Value
     exact = λ g. ((λ a. (a, stays g ∙ e)), (λ a. a.0));
   }
 
-  pub const_failed : ¬ (v ≡ w) → Fails T fixed found (λ g. moved g v ≡ w) found
+  pub const_failed : ¬ (v ≡ w) → RulesOut T fixed found (λ g. moved g v ≡ w) found
   const_failed k = record {
     begins = ([], sym (append-nil found));
     none = λ g a d. k (sym (stays g) ∙ d);
   }
 
-pub begins_on : (a b c : List Found) → Begins a b → Begins b c → Begins a c
+pub begins_on : (a b c : List Found) → IsPrefix a b → IsPrefix b c → IsPrefix a c
 begins_on a b c x y = (x.0 ++ y.0, y.1 ∙ (ap (λ l. l ++ y.0) x.1 ∙ append_assoc a x.0 y.0))
 
 -- nothing is found of no values
@@ -158,12 +158,12 @@ module _ (T : List TableRows) (fixed : ByNull) (a b : List Value) (start now : L
     begins = begins_on start now more s.begins t.begins;
     good = t.good;
     whole = λ n m. elim (from_append (nulls_in (take i a)) (rw nulls_to at m)) [
-      | inl k ↦ let e = ap names t.begins.1 ∙ map-append (λ (b : Found). b.null) now t.begins.0 in rw e (in_left _ (s.whole n k))
+      | inl k ↦ let e = ap found_nulls t.begins.1 ∙ map-append (λ (b : Found). b.null) now t.begins.0 in rw e (in_left _ (s.whole n k))
       | inr k ↦ t.whole n k
     ];
-    only = λ n m. rw nulls_to (elim (from_append (names now) (t.only n m)) [
-      | inl k ↦ elim (from_append (names start) (s.only n k)) [ inl j ↦ in_left _ j | inr j ↦ in_right (names start) (in_left _ j) ]
-      | inr k ↦ in_right (names start) (in_right (nulls_in (take i a)) k)
+    only = λ n m. rw nulls_to (elim (from_append (found_nulls now) (t.only n m)) [
+      | inl k ↦ elim (from_append (found_nulls start) (s.only n k)) [ inl j ↦ in_left _ j | inr j ↦ in_right (found_nulls start) (in_left _ j) ]
+      | inr k ↦ in_right (found_nulls start) (in_right (nulls_in (take i a)) k)
     ]);
     exact = λ g. (
       (λ m. let u = (t.exact g).0 m in let w = (s.exact g).0 u.0 in (w.0, joined g w.1 u.1)),
@@ -171,7 +171,7 @@ module _ (T : List TableRows) (fixed : ByNull) (a b : List Value) (start now : L
     );
   }
 
-  pub row_failed : (more : List Found) → Fails T fixed now (λ g. moved g x ≡ y) more → Fails T fixed start (λ g. map (moved g) a ≡ b) more
+  pub row_failed : (more : List Found) → RulesOut T fixed now (λ g. moved g x ≡ y) more → RulesOut T fixed start (λ g. map (moved g) a ≡ b) more
   row_failed more t = record {
     begins = begins_on start now more s.begins t.begins;
     none = λ g m e.
@@ -180,10 +180,10 @@ module _ (T : List TableRows) (fixed : ByNull) (a b : List Value) (start now : L
   }
 
   -- the room that the row needs serves for one of its values
-  pub room_at : (n : ℕ) → AtMost (names start ++ nulls_in a) n → AtMost (names now ++ nulls_in (x ∷ [])) n
-  room_at n r = narrower _ _ n (λ k m. elim (from_append (names now) m) [
-    | inl j ↦ elim (from_append (names start) (s.only k j)) [ inl u ↦ in_left _ u | inr u ↦ in_right (names start) (part k (in_left _ u)) ]
-    | inr j ↦ in_right (names start) (part k (in_right (nulls_in (take i a)) j))
+  pub room_at : (n : ℕ) → AtMost (found_nulls start ++ nulls_in a) n → AtMost (found_nulls now ++ nulls_in (x ∷ [])) n
+  room_at n r = narrower _ _ n (λ k m. elim (from_append (found_nulls now) m) [
+    | inl j ↦ elim (from_append (found_nulls start) (s.only k j)) [ inl u ↦ in_left _ u | inr u ↦ in_right (found_nulls start) (part k (in_left _ u)) ]
+    | inr j ↦ in_right (found_nulls start) (part k (in_right (nulls_in (take i a)) j))
   ]) r
     where
       part : (k : NullId) → k ∈ (nulls_in (take i a) ++ nulls_in (x ∷ [])) → k ∈ nulls_in a
@@ -199,13 +199,13 @@ row_whole T fixed a b start now i l h s = rw (take_all i a h, take_all i b (let 
 
 -- the answers of the two cases
 pub answer_before : (T : List TableRows) (fixed : ByNull) (found : List Found) (cell b : Found) → IsGood T fixed found → b ∈ found
-    → b.null ≡ cell.null → (r : Bool) → (IsTrue r ↔ (value_of T b ≡ value_of T cell))
-    → MatchBool r (Narrows T fixed found (cell.null ∷ []) (GivesCell T cell) found) (Fails T fixed found (GivesCell T cell) found)
+    → b.null ≡ cell.null → (r : Bool) → (IsTrue r ↔ (null_value T b ≡ null_value T cell))
+    → MatchBool r (Narrows T fixed found (cell.null ∷ []) (GivesCell T cell) found) (RulesOut T fixed found (GivesCell T cell) found)
 answer_before T fixed found cell b good m e true h = met_before T fixed found cell b good m e (h.0 refl)
 answer_before T fixed found cell b good m e false h = failed_before T fixed found cell b m e (λ q. absurd (false≢true (h.1 q)))
 
 pub answer_const : (T : List TableRows) (fixed : ByNull) (found : List Found) (v w : Value)
     → ((g : NullId → Value) → moved g v ≡ v) → nulls_in (v ∷ []) ≡ [] → IsGood T fixed found → (r : Bool) → (IsTrue r ↔ (v ≡ w))
-    → MatchBool r (Narrows T fixed found (nulls_in (v ∷ [])) (λ g. moved g v ≡ w) found) (Fails T fixed found (λ g. moved g v ≡ w) found)
+    → MatchBool r (Narrows T fixed found (nulls_in (v ∷ [])) (λ g. moved g v ≡ w) found) (RulesOut T fixed found (λ g. moved g v ≡ w) found)
 answer_const T fixed found v w stays none good true h = const_met T fixed found v w stays none good (h.0 refl)
 answer_const T fixed found v w stays none good false h = const_failed T fixed found v w stays none (λ q. absurd (false≢true (h.1 q)))

@@ -18,7 +18,7 @@ use Rattle.dx_instance.proofs.AfterFacts.{becomes_set, pairs_give}
 use Rattle.dx_hom.specs.declared.matching.Found.{Found}
 use Rattle.dx_hom.specs.View.{marked}
 use Rattle.dx_hom.specs.Homs.{found_pairs}
-use Rattle.dx_hom.specs.Narrowing.{Allows, value_of}
+use Rattle.dx_hom.specs.Narrowing.{Allows, null_value}
 
 -- rows are as wide as their table
 pub row_wide : (I : List TableRows) (t p : ℕ) → t < length I → p < length (rows_of I t)
@@ -53,14 +53,14 @@ abbrev pub MadeFrom : List TableRows → List Found → ℕ → ByNull → Type 
 MadeFrom I found i m = (n : NullId) → becomes m n ≡ given (found_pairs I (drop i found)) n
 
 pub made_more : (I : List TableRows) (found : List Found) (i : ℕ) (b : Found) (old new : ByNull) (v : Value) → i < length found
-    → b ≡ get_or found i b → v ≡ value_of I b → new ≡ with_value old b.null v → MadeFrom I found (i + 1) old → MadeFrom I found i new
+    → b ≡ get_or found i b → v ≡ null_value I b → new ≡ with_value old b.null v → MadeFrom I found (i + 1) old → MadeFrom I found i new
 made_more I found i b old new v h e d w m n =
     let rest = found_pairs I (drop (i + 1) found) in
     let s : drop i found ≡ b ∷ drop (i + 1) found = drop_more found i b h ∙ ap (λ (x : Found). x ∷ drop (i + 1) found) (sym e) in
     let is = ap (λ (x : ByNull). becomes x n) w ∙ becomes_set old b.null v n in
     let cell = ap (λ (x : Value). cond (same_null b.null n) x (becomes old n)) d in
-    let others = ap (λ (x : Value). cond (same_null b.null n) (value_of I b) x) (m n) in
-    let k : becomes new n ≡ cond (same_null b.null n) (value_of I b) (given rest n) = is ∙ (cell ∙ others) in
+    let others = ap (λ (x : Value). cond (same_null b.null n) (null_value I b) x) (m n) in
+    let k : becomes new n ≡ cond (same_null b.null n) (null_value I b) (given rest n) = is ∙ (cell ∙ others) in
     rw s k
 
 -- ---- marks of what is taken out

@@ -17,22 +17,21 @@ use Rattle.dx_model.proofs.Maps.{is_null_map, listing, listing_gives, same_null-
 use Rattle.dx_model.proofs.Reduction.{in_nulls, from_nulls}
 use Rattle.dx_instance.specs.NullMaps.{ByNull}
 use Rattle.dx_instance.specs.Stored.{TableRows, facts, rows_of}
-use Rattle.dx_instance.specs.Places.{row_at}
+use Rattle.dx_instance.specs.Places.{row_at, fact_at}
 use Rattle.dx_instance.proofs.StoredFacts.{fact_from_row, row_from_fact}
 use Rattle.dx_hom.specs.declared.matching.Found.{Found}
-use Rattle.dx_hom.specs.View.{fact_at}
-use Rattle.dx_hom.specs.Narrowing.{Gives, IsGood, names, value_of}
-use Rattle.dx_hom.specs.Searching.{Ends, MovesOpen, NoMore, Reaches, Stands}
-use Rattle.dx_hom.specs.Homs.{IsAnswer, IsSought, IsThere, found_pairs}
+use Rattle.dx_hom.specs.Narrowing.{ExtendsPartialMap, IsGood, found_nulls, null_value}
+use Rattle.dx_hom.specs.Searching.{FindsAll, MovesOpen, NoMore, Reaches, IsOpenFact}
+use Rattle.dx_hom.specs.Homs.{IsNullAssignment, IsSought, IsThere, found_pairs}
 
 -- the value of the null's cell
 abbrev pub read : List TableRows → List Found → NullId → Value
 read T found n = given (found_pairs T found) n
 
-pub reads : (T : List TableRows) (found : List Found) → Distinct (names found) → (b : Found) → b ∈ found
-    → read T found b.null ≡ value_of T b
+pub reads : (T : List TableRows) (found : List Found) → Distinct (found_nulls found) → (b : Found) → b ∈ found
+    → read T found b.null ≡ null_value T b
 reads T [] d b m = elim m [ ]
-reads T (c ∷ found) d b (here e) = rw (ap (λ (x : Found). same_null x.null b.null) e ∙ same_null-refl b.null) (ap (value_of T) e)
+reads T (c ∷ found) d b (here e) = rw (ap (λ (x : Found). same_null x.null b.null) e ∙ same_null-refl b.null) (ap (null_value T) e)
 reads T (c ∷ found) d b (there m) = elim (cases_Bool (same_null c.null b.null)) [
   | inl t ↦ let e = same_null-true c.null b.null t in absurd (d.0 (rw e (in_map (λ (x : Found). x.null) m)))
   | inr f ↦ rw f (reads T found d.1 b m)
@@ -40,8 +39,8 @@ reads T (c ∷ found) d b (there m) = elim (cases_Bool (same_null c.null b.null)
 
 -- what agrees with the cells gives them
 pub read_gives : (T : List TableRows) (fixed : ByNull) (found : List Found) (g : NullId → Value) → IsGood T fixed found
-    → ((n : NullId) (x : Value) → finite.get fixed n ≡ Some x → n ∈ names found)
-    → ((n : NullId) → n ∈ names found → g n ≡ read T found n) → Gives T fixed found g
+    → ((n : NullId) (x : Value) → finite.get fixed n ≡ Some x → n ∈ found_nulls found)
+    → ((n : NullId) → n ∈ found_nulls found → g n ≡ read T found n) → ExtendsPartialMap T fixed found g
 read_gives T fixed found g good listed same = record {
   fixed_values = λ n x e.
       let r = from_map (λ (b : Found). b.null) found (listed n x e) in
@@ -52,13 +51,13 @@ read_gives T fixed found g good listed same = record {
 
 -- ---- facts and places
 
-stands_in : (T : List TableRows) (gone : List (List Bool)) (avoid : Option Fact) (f : Fact) → Stands T gone avoid f → f ∈ facts T
+stands_in : (T : List TableRows) (gone : List (List Bool)) (avoid : Option Fact) (f : Fact) → IsOpenFact T gone avoid f → f ∈ facts T
 stands_in T gone avoid f s =
     rw s.2 (fact_from_row T f.table (row_at T f.table s.0) (in_at (rows_of T f.table) s.0 [] s.1.place))
 
 -- a fact of the instance that is not the one to avoid stands at a place
 in_stands : (T : List TableRows) (avoid : Option Fact) (f : Fact) → f ∈ facts T → ((a : Fact) → avoid ≡ Some a → ¬ (a ≡ f))
-    → Stands T [] avoid f
+    → IsOpenFact T [] avoid f
 in_stands T avoid f m other =
     let k = contains_from_in (row_from_fact T f m) in
     let e : row_at T f.table k.0 ≡ f.row = get_or_default (rows_of T f.table) k.0 [] f.row k.1 ∙ k.2 in
@@ -72,7 +71,7 @@ abbrev pub AreListed : ByNull → List Fact → Type 0
 AreListed fixed F = (n : NullId) (x : Value) → finite.get fixed n ≡ Some x → n ∈ nulls_in (values F)
 
 module _ (T : List TableRows) (fixed : ByNull) (avoid : Option Fact) (F : List Fact) (found : List Found) (listed : AreListed fixed F) where
-  sought : Ends T [] fixed avoid F found → (h : List NullPair) → IsNullMap h
+  sought : FindsAll T [] fixed avoid F found → (h : List NullPair) → IsNullMap h
       → ((n : NullId) → Null n ∈ values F → given h n ≡ read T found n) → IsSought fixed avoid F (facts T) h
   sought ends h is same = record {
     homomorphism = record { null_map = is; inside = λ y m. let r = from_map (fact_moved (given h)) F m in inside r.0 y r.1 r.2 };
@@ -83,7 +82,7 @@ module _ (T : List TableRows) (fixed : ByNull) (avoid : Option Fact) (F : List F
         s.1.other (q ∙ ap (λ (f : Fact). Some f) (sym r.2 ∙ s.2));
   }
     where
-      gives : Gives T fixed found (given h)
+      gives : ExtendsPartialMap T fixed found (given h)
       gives = read_gives T fixed found (given h) ends.good (λ n x e. ends.whole n (listed n x e))
           (λ n m. same n (from_nulls n (values F) (ends.only n m)))
 
@@ -93,7 +92,7 @@ module _ (T : List TableRows) (fixed : ByNull) (avoid : Option Fact) (F : List F
       inside : (f y : Fact) → f ∈ F → fact_moved (given h) f ≡ y → y ∈ facts T
       inside f y m e = subst (λ (x : Fact). x ∈ facts T) e (stands_in T [] avoid (fact_moved (given h) f) (moves f m))
 
-  pub is_answer : Ends T [] fixed avoid F found → IsAnswer T fixed avoid F found
+  pub is_answer : FindsAll T [] fixed avoid F found → IsNullAssignment T fixed avoid F found
   is_answer ends = record {
     once = ends.good.once;
     nulls = λ n. ((λ m. from_nulls n (values F) (ends.only n m)), (λ m. ends.whole n (in_nulls n (values F) m)));
@@ -101,7 +100,7 @@ module _ (T : List TableRows) (fixed : ByNull) (avoid : Option Fact) (F : List F
     gives = sought ends;
   }
 
-  there_is : Ends T [] fixed avoid F found → IsThere fixed avoid F (facts T)
+  there_is : FindsAll T [] fixed avoid F found → IsThere fixed avoid F (facts T)
   there_is ends =
       let h = listing (read T found) (values F) in
       (h, sought ends h (is_null_map (read T found) (values F)) (λ n m. listing_gives (read T found) n (values F) m))
@@ -115,14 +114,14 @@ module _ (T : List TableRows) (fixed : ByNull) (avoid : Option Fact) (F : List F
           let i : y ∈ image q.0 F = in_map (fact_moved (given q.0)) m in
           in_stands T avoid y (q.1.homomorphism.inside y i) (λ a e d. q.1.avoids a e (subst (λ (x : Fact). x ∈ image q.0 F) (sym d) i))
 
-  pub answer : (r : Bool) → MatchBool r (Ends T [] fixed avoid F found) (NoMore T [] fixed avoid [] F)
+  pub answer : (r : Bool) → MatchBool r (FindsAll T [] fixed avoid F found) (NoMore T [] fixed avoid [] F)
       → IsTrue r ↔ IsThere fixed avoid F (facts T)
   answer true h = ((λ _. there_is h), (λ _. refl))
   answer false h = ((λ t. absurd (false≢true t)), (λ q. absurd (none_is h q)))
 
 -- with facts that are gone
 pub answer_left : (T : List TableRows) (gone : List (List Bool)) (fixed : ByNull) (avoid : Option Fact) (F : List Fact) (found : List Found)
-    → AreListed fixed F → (r : Bool) → MatchBool r (Ends T gone fixed avoid F found) (NoMore T gone fixed avoid [] F)
+    → AreListed fixed F → (r : Bool) → MatchBool r (FindsAll T gone fixed avoid F found) (NoMore T gone fixed avoid [] F)
     → IsTrue r ↔ Reaches T gone fixed avoid F
 answer_left T gone fixed avoid F found listed true h =
     let g = read_gives T fixed found (read T found) h.good (λ n x e. h.whole n (listed n x e)) (λ n m. refl) in
@@ -133,6 +132,6 @@ answer_left T gone fixed avoid F found listed false h = (
 )
 
 pub answer_found : (T : List TableRows) (fixed : ByNull) (avoid : Option Fact) (F : List Fact) (found : List Found) → AreListed fixed F
-    → (r : Bool) → MatchBool r (Ends T [] fixed avoid F found) (NoMore T [] fixed avoid [] F) → OnTrue r (IsAnswer T fixed avoid F found)
+    → (r : Bool) → MatchBool r (FindsAll T [] fixed avoid F found) (NoMore T [] fixed avoid [] F) → OnTrue r (IsNullAssignment T fixed avoid F found)
 answer_found T fixed avoid F found listed true h = is_answer T fixed avoid F found listed h
 answer_found T fixed avoid F found listed false h = tt

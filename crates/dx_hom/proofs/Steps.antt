@@ -12,20 +12,19 @@ use Rattle.dx_model.specs.declared.values.Value.{Value}
 use Rattle.dx_model.specs.declared.facts.Fact.{Fact}
 use Rattle.dx_model.specs.Instances.{moved, fact_moved, values, nulls_in}
 use Rattle.dx_instance.specs.NullMaps.{ByNull}
-use Rattle.dx_instance.specs.Places.{row_at}
+use Rattle.dx_instance.specs.Places.{row_at, fact_at}
 use Rattle.dx_instance.specs.Stored.{TableRows, rows_of}
-use Rattle.dx_ports.specs.Members.{◌∈◌, ◌⊆◌, ◌≈◌, here, there}
+use Rattle.dx_ports.specs.Members.{◌∈◌, ◌⊆◌, ◌≈◌, here, there, IsPrefix}
 use Rattle.dx_ports.proofs.Members.{in_left, in_right, from_append, in_flat_map, from_flat_map}
 use Rattle.dx_model.proofs.Reduction.{in_nulls, from_nulls, nulls_append}
 use Rattle.dx_hom.specs.declared.matching.Found.{Found}
 use Rattle.dx_hom.specs.declared.searching.Step.{Step}
-use Rattle.dx_hom.specs.View.{fact_at}
-use Rattle.dx_hom.specs.Narrowing.{names, AtMost, Begins, Gives, GivesRow, Narrows, Fails}
-use Rattle.dx_hom.specs.Searching.{IsOpen, Stands, Skips, NotFrom, MovesOpen, MovesTo, Ends, NoMore}
+use Rattle.dx_hom.specs.Narrowing.{found_nulls, AtMost, ExtendsPartialMap, GivesRow, Narrows, RulesOut}
+use Rattle.dx_hom.specs.Searching.{IsOpen, IsOpenFact, Skips, NotFrom, MovesOpen, MovesTo, FindsAll, NoMore}
 use Rattle.dx_hom.proofs.Narrowing.{narrower}
 
 -- a list that begins with another, cut where it began
-pub cut : (old new : List Found) (n : ℕ) → n ≡ length old → Begins old new → take n new ≡ old
+pub cut : (old new : List Found) (n : ℕ) → n ≡ length old → IsPrefix old new → take n new ≡ old
 cut old new n e b = rw (e, b.1) (take-append_seam old b.0)
 
 -- the nulls of some of the facts
@@ -43,7 +42,7 @@ module _ (T : List TableRows) (gone : List (List Bool)) (fixed : ByNull) (avoid 
   -- ---- one fact
 
   pub skips_more : (found : List Found) (f : Fact) (a p : ℕ) → Skips T gone fixed avoid found f a p
-      → (IsOpen T gone avoid f.table p → (g : NullId → Value) → Gives T fixed found g → ¬ (fact_moved g f ≡ fact_at T f.table p))
+      → (IsOpen T gone avoid f.table p → (g : NullId → Value) → ExtendsPartialMap T fixed found g → ¬ (fact_moved g f ≡ fact_at T f.table p))
       → Skips T gone fixed avoid found f a (p + 1)
   skips_more found f a p s h q g l k o w e = elim (cases_eq q p) [
     | inl d ↦ h (rw d at o) g w (rw d at e)
@@ -55,8 +54,8 @@ module _ (T : List TableRows) (gone : List (List Bool)) (fixed : ByNull) (avoid 
   skips_on found f a n p s h q g l k o w = elim (cases_lt q n) [ inl d ↦ s q g l d o w | inr d ↦ h q g d k w ]
 
   pub row_excluded : (found new old : List Found) (f : Fact) (row : List Value) (p : ℕ) → row ≡ f.row → found ≡ old
-      → Fails T fixed found (GivesRow T row f.table p) new
-      → (g : NullId → Value) → Gives T fixed old g → ¬ (fact_moved g f ≡ fact_at T f.table p)
+      → RulesOut T fixed found (GivesRow T row f.table p) new
+      → (g : NullId → Value) → ExtendsPartialMap T fixed old g → ¬ (fact_moved g f ≡ fact_at T f.table p)
   row_excluded found new old f row p d e k g w q =
       let r : map (moved g) f.row ≡ row_at T f.table p = ap (λ (x : Fact). x.row) q in
       k.none g (rw e w) (rw d r)
@@ -82,7 +81,7 @@ module _ (T : List TableRows) (gone : List (List Bool)) (fixed : ByNull) (avoid 
 
   -- ---- what is found moves the facts
 
-  sound_none : Ends T gone fixed avoid [] []
+  sound_none : FindsAll T gone fixed avoid [] []
   sound_none = record {
     good = record { once = tt; cells = λ b m. elim m [ ]; allowed = λ b m. elim m [ ] };
     whole = λ n m. elim m [ ];
@@ -90,29 +89,29 @@ module _ (T : List TableRows) (gone : List (List Bool)) (fixed : ByNull) (avoid 
     moves = λ g w f m. elim m [ ];
   }
 
-  sound_more : (G : List Fact) (old found : List Found) (a : Fact) (p : ℕ) → Ends T gone fixed avoid G old → IsOpen T gone avoid a.table p
-      → Narrows T fixed old (nulls_in a.row) (MovesTo T a p) found → Ends T gone fixed avoid (G ++ a ∷ []) found
+  sound_more : (G : List Fact) (old found : List Found) (a : Fact) (p : ℕ) → FindsAll T gone fixed avoid G old → IsOpen T gone avoid a.table p
+      → Narrows T fixed old (nulls_in a.row) (MovesTo T a p) found → FindsAll T gone fixed avoid (G ++ a ∷ []) found
   sound_more G old found a p before o n = record {
     good = n.good;
     whole = λ k m. elim (from_append (nulls_in (values G)) (rw nulls_more at m)) [
       | inl l ↦
-          let e = ap names n.begins.1 ∙ map-append (λ (b : Found). b.null) old n.begins.0 in
+          let e = ap found_nulls n.begins.1 ∙ map-append (λ (b : Found). b.null) old n.begins.0 in
           rw e (in_left _ (before.whole k l))
       | inr r ↦ n.whole k r
     ];
-    only = λ k m. rw nulls_more (elim (from_append (names old) (n.only k m)) [
+    only = λ k m. rw nulls_more (elim (from_append (found_nulls old) (n.only k m)) [
       | inl l ↦ in_left _ (before.only k l)
       | inr r ↦ in_right (nulls_in (values G)) r
     ]);
     moves = λ g w f m. elim (from_append G m) [ inl l ↦ before.moves g ((n.exact g).0 w).0 f l | inr r ↦ last g w f r ];
   }
     where
-      last : (g : NullId → Value) → Gives T fixed found g → (f : Fact) → f ∈ (a ∷ []) → Stands T gone avoid (fact_moved g f)
+      last : (g : NullId → Value) → ExtendsPartialMap T fixed found g → (f : Fact) → f ∈ (a ∷ []) → IsOpenFact T gone avoid (fact_moved g f)
       last g w f (here e) = rw (← e) (p, o, ((n.exact g).0 w).1)
       last g w f (there m) = elim m [ ]
 
   -- the same facts in another order
-  pub ends_same : (G F : List Fact) (found : List Found) → G ≈ F → Ends T gone fixed avoid G found → Ends T gone fixed avoid F found
+  pub ends_same : (G F : List Fact) (found : List Found) → G ≈ F → FindsAll T gone fixed avoid G found → FindsAll T gone fixed avoid F found
   ends_same G F found s e = record {
     good = e.good;
     whole = λ n m. e.whole n (nulls_in_part F G s.1 n m);
@@ -124,7 +123,7 @@ module _ (T : List TableRows) (gone : List (List Bool)) (fixed : ByNull) (avoid 
     -- nothing of which found is true and that moves F moves the fact a to a place below n
     abbrev pub Passed : List Found → Fact → ℕ → Type 0
     Passed found a n =
-        (p : ℕ) (g : NullId → Value) → p < n → IsOpen T gone avoid a.table p → Gives T fixed found g → MovesOpen T gone avoid g F
+        (p : ℕ) (g : NullId → Value) → p < n → IsOpen T gone avoid a.table p → ExtendsPartialMap T fixed found g → MovesOpen T gone avoid g F
         → ¬ (fact_moved g a ≡ fact_at T a.table p)
 
     -- step s moves the fact a
@@ -164,7 +163,7 @@ module _ (T : List TableRows) (gone : List (List Bool)) (fixed : ByNull) (avoid 
     none_yet start e = refl
     none_yet (onward b K old r x t p q o st) e = absurd (let l = ap length (sym e ∙ p) in omega (arith, simp length-append at l))
 
-    pub sound : {steps : List Step} {G : List Fact} {found : List Found} → Trail steps G found → Ends T gone fixed avoid G found
+    pub sound : {steps : List Step} {G : List Fact} {found : List Found} → Trail steps G found → FindsAll T gone fixed avoid G found
     sound start = sound_none
     sound {steps} {G} {found} (onward b K old r x t p q o st) = rw q (sound_more K old found x r.place (sound t) st.met st.narrows)
 
@@ -179,11 +178,11 @@ module _ (T : List TableRows) (gone : List (List Bool)) (fixed : ByNull) (avoid 
 
     -- the room that all facts need serves for one of them
     pub room_next : {steps : List Step} {G : List Fact} {found : List Found} → Trail steps G found → (a : Fact) (n : ℕ) → a ∈ F
-        → AtMost (nulls_in (values F)) n → AtMost (names found ++ nulls_in a.row) n
-    room_next {steps} {G} {found} t a n i r = narrower (nulls_in (values F)) (names found ++ nulls_in a.row) n part r
+        → AtMost (nulls_in (values F)) n → AtMost (found_nulls found ++ nulls_in a.row) n
+    room_next {steps} {G} {found} t a n i r = narrower (nulls_in (values F)) (found_nulls found ++ nulls_in a.row) n part r
       where
-        part : (names found ++ nulls_in a.row) ⊆ nulls_in (values F)
-        part k m = elim (from_append (names found) m) [
+        part : (found_nulls found ++ nulls_in a.row) ⊆ nulls_in (values F)
+        part k m = elim (from_append (found_nulls found) m) [
           | inl l ↦ nulls_in_part G F (inside t) k ((sound t).only k l)
           | inr l ↦ in_nulls k (values F) (in_flat_map (λ (f : Fact). f.row) i (from_nulls k a.row l))
         ]

@@ -11,7 +11,7 @@ use Rattle.dx_hom.specs.declared.matching.Found.{Found}
 use Rattle.dx_hom.specs.declared.searching.Step.{Step}
 use Rattle.dx_hom.specs.Narrowing.{Narrows}
 use Rattle.dx_hom.specs.Orders.{IsOrder, IsReordered, fact_in}
-use Rattle.dx_hom.specs.Searching.{Ends, IsOpen, MovesTo, NoMore, Skips}
+use Rattle.dx_hom.specs.Searching.{FindsAll, IsOpen, MovesTo, NoMore, Skips}
 use Rattle.dx_hom.proofs.OrderFacts.{all_moved, moved_in, moved_more, moved_stays}
 use Rattle.dx_hom.proofs.Steps.{Last, Passed, Trail, ends_same, exhausted, last_of, none_yet, passed_back, pushed, sound, start}
 
@@ -76,7 +76,7 @@ module _ (T : List TableRows) (gone : List (List Bool)) (fixed : ByNull) (avoid 
 
   -- all facts had their turn
   pub goes_whole : (steps : List Step) (order : List ℕ) (found : List Found) → IsOrder (length F) order → length F ≤ length steps
-      → Goes steps order found → Ends T gone fixed avoid F found
+      → Goes steps order found → FindsAll T gone fixed avoid F found
   goes_whole steps order found o h t =
       ends_same T gone fixed avoid (moved_in F order (length steps)) F found (all_moved F order (length steps) o h)
       (sound T gone fixed avoid F t)

@@ -5,13 +5,13 @@ use Rattle.dx_instance.specs.Chains.{last_code}
 use Rattle.dx_hom.specs.declared.matching.Found.{Found}
 
 -- for how many nulls there is room, and those that were found, each with a cell
-pub record Bound : Type 0 where
+pub record BindingState : Type 0 where
   pub room : ℕ
   pub cells : List Found
 
 -- the cell of the null that was found at a place
-abbrev pub cell_at : List Found → ℕ → Found
-cell_at cells p = slice_index_or cells p (record { null = record { rule = 0; var = 0; row = 0 }; table = 0; place = 0; column = 0 })
+abbrev pub found_at : List Found → ℕ → Found
+found_at cells p = slice_index_or cells p (record { null = record { rule = 0; var = 0; row = 0 }; table = 0; place = 0; column = 0 })
 
 -- the bucket of a null among m
 unfoldable pub bucket : ℕ → NullId → ℕ

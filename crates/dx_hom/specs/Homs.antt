@@ -11,7 +11,7 @@ use Rattle.dx_model.specs.Instances.{IsHomomorphism, IsNullMap, given, image, va
 use Rattle.dx_instance.specs.NullMaps.{ByNull}
 use Rattle.dx_instance.specs.Stored.{TableRows, facts}
 use Rattle.dx_hom.specs.declared.matching.Found.{Found}
-use Rattle.dx_hom.specs.Narrowing.{IsCell, names, value_of}
+use Rattle.dx_hom.specs.Narrowing.{IsNullCell, found_nulls, null_value}
 
 -- a homomorphism from F to B that gives the fixed nulls their values, and whose image lacks the fact to avoid
 pub record IsSought (fixed : ByNull) (avoid : Option Fact) (F B : List Fact) (h : List NullPair) : Type 0 where
@@ -25,12 +25,12 @@ IsThere fixed avoid F B = (h : List NullPair) × IsSought fixed avoid F B h
 
 -- each null that was found with the value of its cell
 abbrev pub found_pairs : List TableRows → List Found → List NullPair
-found_pairs I found = map (λ (b : Found). record { null = b.null; value = value_of I b }) found
+found_pairs I found = map (λ (b : Found). record { null = b.null; value = null_value I b }) found
 
 -- each null of F was found once, in a cell of the instance; a null map that gives them the values of their cells is sought
-pub record IsAnswer (I : List TableRows) (fixed : ByNull) (avoid : Option Fact) (F : List Fact) (found : List Found) : Type 0 where
-  pub once : Distinct (names found)
-  pub nulls : (n : NullId) → (n ∈ names found) ↔ (Null n ∈ values F)
-  pub cells : Each found (IsCell I)
+pub record IsNullAssignment (I : List TableRows) (fixed : ByNull) (avoid : Option Fact) (F : List Fact) (found : List Found) : Type 0 where
+  pub once : Distinct (found_nulls found)
+  pub nulls : (n : NullId) → (n ∈ found_nulls found) ↔ (Null n ∈ values F)
+  pub cells : Each found (IsNullCell I)
   pub gives : (h : List NullPair) → IsNullMap h → ((n : NullId) → Null n ∈ values F → given h n ≡ given (found_pairs I found) n)
       → IsSought fixed avoid F (facts I) h

@@ -4,22 +4,22 @@ use Rattle.dx_model.specs.declared.values.NullId.{NullId}
 use Rattle.dx_model.specs.declared.values.Value.{Value}
 use Rattle.dx_instance.specs.NullMaps.{ByNull}
 use Rattle.std.specs.FinMap as finite
-use Rattle.dx_ports.specs.Members.{◌∈◌, ◌⊆◌, Distinct}
+use Rattle.dx_ports.specs.Members.{◌∈◌, ◌⊆◌, Distinct, IsPrefix}
 use Rattle.dx_hom.specs.declared.matching.Found.{Found}
 use Rattle.dx_instance.specs.Stored.{TableRows, rows_of, table_at}
 use Rattle.dx_instance.specs.Places.{row_at, value_at}
 use Rattle.dx_model.specs.Instances.{moved, nulls_in}
-use Rattle.dx_hom.specs.Bound.{Bound}
+use Rattle.dx_hom.specs.Bound.{BindingState}
 
 -- the nulls that were found
-abbrev pub names : List Found → List NullId
-names found = map (λ (b : Found). b.null) found
+abbrev pub found_nulls : List Found → List NullId
+found_nulls found = map (λ (b : Found). b.null) found
 
 -- the value in the cell
-abbrev pub value_of : List TableRows → Found → Value
-value_of T b = value_at T b.table b.place b.column
+abbrev pub null_value : List TableRows → Found → Value
+null_value T b = value_at T b.table b.place b.column
 
-pub record IsCell (T : List TableRows) (b : Found) : Type 0 where
+pub record IsNullCell (T : List TableRows) (b : Found) : Type 0 where
   pub table : b.table < length T
   pub place : b.place < length (rows_of T b.table)
   pub column : b.column < (table_at T b.table).width
@@ -34,40 +34,36 @@ Allows fixed n v = (x : Value) → finite.get fixed n ≡ Some x → x ≡ v
 
 -- each null once, with a cell whose value it may have
 pub record IsGood (T : List TableRows) (fixed : ByNull) (found : List Found) : Type 0 where
-  pub once : Distinct (names found)
-  pub cells : (b : Found) → b ∈ found → IsCell T b
-  pub allowed : (b : Found) → b ∈ found → Allows fixed b.null (value_of T b)
+  pub once : Distinct (found_nulls found)
+  pub cells : (b : Found) → b ∈ found → IsNullCell T b
+  pub allowed : (b : Found) → b ∈ found → Allows fixed b.null (null_value T b)
 
 -- g gives the fixed nulls their values, and each null that was found the value of its cell
-pub record Gives (T : List TableRows) (fixed : ByNull) (found : List Found) (g : NullId → Value) : Type 0 where
+pub record ExtendsPartialMap (T : List TableRows) (fixed : ByNull) (found : List Found) (g : NullId → Value) : Type 0 where
   pub fixed_values : (n : NullId) (x : Value) → finite.get fixed n ≡ Some x → g n ≡ x
-  pub cell_values : (b : Found) → b ∈ found → g b.null ≡ value_of T b
-
--- new is old with more found at the end
-abbrev pub Begins : List Found → List Found → Type 0
-Begins old new = (more : List Found) × (new ≡ old ++ more)
+  pub cell_values : (b : Found) → b ∈ found → g b.null ≡ null_value T b
 
 -- new finds the nulls ns as well, and says exactly P beside what old says
 pub record Narrows (T : List TableRows) (fixed : ByNull) (old : List Found) (ns : List NullId) (P : (NullId → Value) → Type 0)
     (new : List Found) : Type 0 where
-  pub begins : Begins old new
+  pub begins : IsPrefix old new
   pub good : IsGood T fixed new
-  pub whole : ns ⊆ names new
-  pub only : names new ⊆ (names old ++ ns)
-  pub exact : (g : NullId → Value) → Gives T fixed new g ↔ (Gives T fixed old g × P g)
+  pub whole : ns ⊆ found_nulls new
+  pub only : found_nulls new ⊆ (found_nulls old ++ ns)
+  pub exact : (g : NullId → Value) → ExtendsPartialMap T fixed new g ↔ (ExtendsPartialMap T fixed old g × P g)
 
 -- nothing of which old is true has P
-pub record Fails (T : List TableRows) (fixed : ByNull) (old : List Found) (P : (NullId → Value) → Type 0) (new : List Found) : Type 0 where
-  pub begins : Begins old new
-  pub none : (g : NullId → Value) → Gives T fixed old g → ¬ (P g)
+pub record RulesOut (T : List TableRows) (fixed : ByNull) (old : List Found) (P : (NullId → Value) → Type 0) (new : List Found) : Type 0 where
+  pub begins : IsPrefix old new
+  pub none : (g : NullId → Value) → ExtendsPartialMap T fixed old g → ¬ (P g)
 
 -- there is room for these nulls beside those that were found
-abbrev pub HasRoom : Bound → List NullId → Type 0
-HasRoom b ns = AtMost (names b.cells ++ ns) b.room
+abbrev pub HasRoomForNulls : BindingState → List NullId → Type 0
+HasRoomForNulls b ns = AtMost (found_nulls b.cells ++ ns) b.room
 
 -- g gives the null of the cell its value
 abbrev pub GivesCell : List TableRows → Found → (NullId → Value) → Type 0
-GivesCell T b g = g b.null ≡ value_of T b
+GivesCell T b g = g b.null ≡ null_value T b
 
 -- g moves the value to that in a column of the row at a place
 abbrev pub GivesValue : List TableRows → Value → ℕ → ℕ → ℕ → (NullId → Value) → Type 0
@@ -78,15 +74,15 @@ abbrev pub GivesRow : List TableRows → List Value → ℕ → ℕ → (NullId 
 GivesRow T row t p g = map (moved g) row ≡ row_at T t p
 
 -- the answer to the question whether something of which old is true has P: new says it beside old, or nothing has P
-abbrev pub IsNarrowed : List TableRows → ByNull → List NullId → ((NullId → Value) → Type 0) → Bound → Bound → Bool → Type 0
-IsNarrowed T fixed ns P old new b = MatchBool b (Narrows T fixed old.cells ns P new.cells) (Fails T fixed old.cells P new.cells)
+abbrev pub IsNarrowed : List TableRows → ByNull → List NullId → ((NullId → Value) → Type 0) → BindingState → BindingState → Bool → Type 0
+IsNarrowed T fixed ns P old new b = MatchBool b (Narrows T fixed old.cells ns P new.cells) (RulesOut T fixed old.cells P new.cells)
 
 -- the null, the value, the row is given what stands there, or can't be
-abbrev pub MeetsNull : List TableRows → ByNull → Found → Bound → Bound → Bool → Type 0
+abbrev pub MeetsNull : List TableRows → ByNull → Found → BindingState → BindingState → Bool → Type 0
 MeetsNull T fixed cell = IsNarrowed T fixed (cell.null ∷ []) (GivesCell T cell)
 
-abbrev pub MeetsValue : List TableRows → ByNull → Value → ℕ → ℕ → ℕ → Bound → Bound → Bool → Type 0
+abbrev pub MeetsValue : List TableRows → ByNull → Value → ℕ → ℕ → ℕ → BindingState → BindingState → Bool → Type 0
 MeetsValue T fixed v t p c = IsNarrowed T fixed (nulls_in (v ∷ [])) (GivesValue T v t p c)
 
-abbrev pub MeetsRow : List TableRows → ByNull → List Value → ℕ → ℕ → Bound → Bound → Bool → Type 0
+abbrev pub MeetsRow : List TableRows → ByNull → List Value → ℕ → ℕ → BindingState → BindingState → Bool → Type 0
 MeetsRow T fixed row t p = IsNarrowed T fixed (nulls_in row) (GivesRow T row t p)

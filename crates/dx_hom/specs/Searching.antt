@@ -9,14 +9,10 @@ use Rattle.dx_ports.specs.Members.{◌∈◌, ◌⊆◌}
 use Rattle.dx_model.specs.Instances.{fact_moved, moved, values, nulls_in}
 use Rattle.dx_hom.specs.declared.matching.Found.{Found}
 use Rattle.dx_instance.specs.Stored.{TableRows, rows_of, table_at}
-use Rattle.dx_hom.specs.View.{fact_at, gone_at}
-use Rattle.dx_hom.specs.Bound.{Bound}
-use Rattle.dx_hom.specs.Narrowing.{names, value_of, IsGood, Gives, Narrows}
-
--- a fact has a table of the instance, and its width
-pub record FitsIn (T : List TableRows) (f : Fact) : Type 0 where
-  pub table : f.table < length T
-  pub width : length f.row ≡ (table_at T f.table).width
+use Rattle.dx_hom.specs.View.{gone_at}
+use Rattle.dx_instance.specs.Places.{fact_at}
+use Rattle.dx_hom.specs.Bound.{BindingState}
+use Rattle.dx_hom.specs.Narrowing.{found_nulls, null_value, IsGood, ExtendsPartialMap, Narrows}
 
 -- a fact of the instance that is not taken out and not to be avoided
 pub record IsOpen (T : List TableRows) (gone : List (List Bool)) (avoid : Option Fact) (t p : ℕ) : Type 0 where
@@ -25,30 +21,30 @@ pub record IsOpen (T : List TableRows) (gone : List (List Bool)) (avoid : Option
   pub other : ¬ (avoid ≡ Some (fact_at T t p))
 
 -- f is such a fact
-abbrev pub Stands : List TableRows → List (List Bool) → Option Fact → Fact → Type 0
-Stands T gone avoid f = (p : ℕ) × IsOpen T gone avoid f.table p × (f ≡ fact_at T f.table p)
+abbrev pub IsOpenFact : List TableRows → List (List Bool) → Option Fact → Fact → Type 0
+IsOpenFact T gone avoid f = (p : ℕ) × IsOpen T gone avoid f.table p × (f ≡ fact_at T f.table p)
 
 -- nothing of which found is true moves the fact to one of the places from a up to b
 abbrev pub Skips : List TableRows → List (List Bool) → ByNull → Option Fact → List Found → Fact → ℕ → ℕ → Type 0
 Skips T gone fixed avoid found f a b =
-    (p : ℕ) (g : NullId → Value) → a ≤ p → p < b → IsOpen T gone avoid f.table p → Gives T fixed found g
+    (p : ℕ) (g : NullId → Value) → a ≤ p → p < b → IsOpen T gone avoid f.table p → ExtendsPartialMap T fixed found g
     → ¬ (fact_moved g f ≡ fact_at T f.table p)
 
 -- g moves each of the facts to such a fact
 abbrev pub MovesOpen : List TableRows → List (List Bool) → Option Fact → (NullId → Value) → List Fact → Type 0
-MovesOpen T gone avoid g F = (f : Fact) → f ∈ F → Stands T gone avoid (fact_moved g f)
+MovesOpen T gone avoid g F = (f : Fact) → f ∈ F → IsOpenFact T gone avoid (fact_moved g f)
 
 -- what is found is of all the nulls of F, and moves F
-pub record Ends (T : List TableRows) (gone : List (List Bool)) (fixed : ByNull) (avoid : Option Fact) (F : List Fact)
+pub record FindsAll (T : List TableRows) (gone : List (List Bool)) (fixed : ByNull) (avoid : Option Fact) (F : List Fact)
     (found : List Found) : Type 0 where
   pub good : IsGood T fixed found
-  pub whole : nulls_in (values F) ⊆ names found
-  pub only : names found ⊆ nulls_in (values F)
-  pub moves : (g : NullId → Value) → Gives T fixed found g → MovesOpen T gone avoid g F
+  pub whole : nulls_in (values F) ⊆ found_nulls found
+  pub only : found_nulls found ⊆ nulls_in (values F)
+  pub moves : (g : NullId → Value) → ExtendsPartialMap T fixed found g → MovesOpen T gone avoid g F
 
 -- nothing of which found is true moves F
 abbrev pub NoMore : List TableRows → List (List Bool) → ByNull → Option Fact → List Found → List Fact → Type 0
-NoMore T gone fixed avoid found F = (g : NullId → Value) → Gives T fixed found g → ¬ (MovesOpen T gone avoid g F)
+NoMore T gone fixed avoid found F = (g : NullId → Value) → ExtendsPartialMap T fixed found g → ¬ (MovesOpen T gone avoid g F)
 
 -- something gives the fixed nulls their values and moves F
 abbrev pub Reaches : List TableRows → List (List Bool) → ByNull → Option Fact → List Fact → Type 0
@@ -58,11 +54,11 @@ Reaches T gone fixed avoid F =
 -- nothing of which found is true moves the fact to one of the places from a up to b
 abbrev pub NotFrom : List TableRows → ByNull → List Found → Fact → ℕ → ℕ → Type 0
 NotFrom T fixed found f a b =
-    (p : ℕ) (g : NullId → Value) → a ≤ p → p < b → Gives T fixed found g → ¬ (fact_moved g f ≡ fact_at T f.table p)
+    (p : ℕ) (g : NullId → Value) → a ≤ p → p < b → ExtendsPartialMap T fixed found g → ¬ (fact_moved g f ≡ fact_at T f.table p)
 
 -- w is what each g moves v to that gives each null that was found the value of its cell
-abbrev pub IsKnown : List TableRows → List Found → Value → Value → Type 0
-IsKnown T found v w = (g : NullId → Value) → ((b : Found) → b ∈ found → g b.null ≡ value_of T b) → moved g v ≡ w
+abbrev pub IsKnownImage : List TableRows → List Found → Value → Value → Type 0
+IsKnownImage T found v w = (g : NullId → Value) → ((b : Found) → b ∈ found → g b.null ≡ null_value T b) → moved g v ≡ w
 
 -- a place from a on with no place for the fact before it, or nothing if there is no place from a on
 abbrev pub IsAhead : List TableRows → ByNull → List Found → Fact → ℕ → Option ℕ → Type 0
@@ -75,7 +71,7 @@ abbrev pub MovesTo : List TableRows → Fact → ℕ → (NullId → Value) → 
 MovesTo T f p g = fact_moved g f ≡ fact_at T f.table p
 
 -- the least open place from a on to which something of which old is true moves the fact: new says so beside old; or there is none
-abbrev pub IsNextMove : List TableRows → List (List Bool) → ByNull → Option Fact → Fact → ℕ → Bound → Bound → Option ℕ → Type 0
+abbrev pub IsNextMove : List TableRows → List (List Bool) → ByNull → Option Fact → Fact → ℕ → BindingState → BindingState → Option ℕ → Type 0
 IsNextMove T gone fixed avoid f a old new o =
     MatchOption o ((new.cells ≡ old.cells) × Skips T gone fixed avoid old.cells f a (length (rows_of T f.table)))
     (λ p. (a ≤ p) × IsOpen T gone avoid f.table p × Skips T gone fixed avoid old.cells f a p
@@ -83,4 +79,4 @@ IsNextMove T gone fixed avoid f a old new o =
 
 -- the answer of a search
 abbrev pub IsSearched : List TableRows → List (List Bool) → ByNull → Option Fact → List Fact → List Found → Bool → Type 0
-IsSearched T gone fixed avoid F found b = MatchBool b (Ends T gone fixed avoid F found) (NoMore T gone fixed avoid [] F)
+IsSearched T gone fixed avoid F found b = MatchBool b (FindsAll T gone fixed avoid F found) (NoMore T gone fixed avoid [] F)

@@ -4,10 +4,6 @@ use Rattle.dx_model.specs.declared.facts.Fact.{Fact}
 use Rattle.dx_instance.specs.Stored.{TableRows}
 use Rattle.dx_instance.specs.Places.{row_at}
 
--- the fact at a place
-abbrev pub fact_at : List TableRows → ℕ → ℕ → Fact
-fact_at I t p = record { table = t; row = row_at I t p }
-
 -- whether the fact at a place is taken out
 abbrev pub gone_at : List (List Bool) → ℕ → ℕ → Bool
 gone_at gone t p = slice_index_or (slice_index_or gone t []) p false

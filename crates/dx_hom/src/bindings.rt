@@ -1,8 +1,8 @@
 // Nulls that were found, looked up by buckets.
 ghost use Rattle.std.specs.Prelude.{◌≡◌, ◌<◌, ◌-◌, [], ◌∷◌, ◌++◌, IfOk, MatchOption, length, take};
 ghost use Rattle.dx_ports.specs.Members.{◌∈◌};
-ghost use Rattle.dx_hom.specs.Bound.{bucket, cell_at};
-ghost use Rattle.dx_hom.specs.Narrowing.{names};
+ghost use Rattle.dx_hom.specs.Bound.{bucket, found_at};
+ghost use Rattle.dx_hom.specs.Narrowing.{found_nulls};
 
 use crate::matching::Found;
 use dx_model::NullId;
@@ -22,7 +22,7 @@ pub(crate) struct Bindings {
 
 impl Model for Bindings {
     ghost use Rattle.std.specs.Prelude.{◌≤◌, vec_capacity};
-    ghost use Rattle.dx_hom.specs.Bound.{AreBound, Bound};
+    ghost use Rattle.dx_hom.specs.Bound.{AreBound, BindingState};
 
     ghost Value = { Bound };
 
@@ -74,14 +74,14 @@ impl Bindings {
     /// The null that was found at this place.
     pub(crate) fn at(&self, place: usize) -> Found
         requires { place < length self.now.cells }
-        ensures { result ≡ cell_at self.now.cells place }
+        ensures { result ≡ found_at self.now.cells place }
     {
         self.cells[place]
     }
 
     /// Where the null was found, if it was.
     pub(crate) fn find(&self, null: NullId) -> Option<Found>
-        ensures { MatchOption result (¬ (null ∈ names self.now.cells)) (λ b. (b ∈ self.now.cells) × (b.null ≡ null)) }
+        ensures { MatchOption result (¬ (null ∈ found_nulls self.now.cells)) (λ b. (b ∈ self.now.cells) × (b.null ≡ null)) }
     {
         let mut code = self.heads[bucket_of(null, self.heads.len())];
         while code != 0 {

@@ -1,12 +1,12 @@
 // Places of the instance that agree with a fact in each column that is known, and the fact that is best moved next.
 ghost use Rattle.std.specs.Prelude.{◌≡◌, ◌<◌, ◌≤◌, IfSome, length, slice_index};
 ghost use Rattle.dx_ports.specs.Members.{◌∈◌, Each};
-ghost use Rattle.dx_instance.specs.Stored.{table_at};
+ghost use Rattle.dx_instance.specs.Stored.{table_at, HasTableIn};
 ghost use Rattle.dx_instance.specs.NullMaps.{ByNull};
 ghost use Rattle.dx_model.specs.declared.facts.Fact.{Fact as FactRow};
-ghost use Rattle.dx_hom.specs.Narrowing.{IsCell};
+ghost use Rattle.dx_hom.specs.Narrowing.{IsNullCell};
 ghost use Rattle.dx_hom.specs.Orders.{fact_in};
-ghost use Rattle.dx_hom.specs.Searching.{FitsIn, IsAhead, IsKnown};
+ghost use Rattle.dx_hom.specs.Searching.{IsAhead, IsKnownImage};
 
 use crate::bindings::Bindings;
 use crate::failures::Failures;
@@ -25,8 +25,8 @@ const FEW: u32 = 16;
 
 // What a value becomes by what was found, if that is known.
 fn known<'a>(found: &Bindings, into: &'a Instance, value: &'a Value) -> Option<&'a Value>
-    requires { Each found.now.cells (IsCell into.now) }
-    ensures { IfSome result (λ v. IsKnown into.now found.now.cells value.now v.now) }
+    requires { Each found.now.cells (IsNullCell into.now) }
+    ensures { IfSome result (λ v. IsKnownImage into.now found.now.cells value.now v.now) }
 {
     match value {
         Value::Const(_) => Some(value),
@@ -39,9 +39,9 @@ fn known<'a>(found: &Bindings, into: &'a Instance, value: &'a Value) -> Option<&
 
 // The least place from `next` on that agrees with the fact in this column, if its value is known.
 fn ahead_by(found: &Bindings, into: &Instance, fact: &Fact, column: u32, next: u32) -> Option<u32>
-    requires fits { FitsIn into.now fact.now }
+    requires fits { HasTableIn into.now fact.now }
     requires column { column < (table_at into.now fact.now.table).width }
-    requires cells { Each found.now.cells (IsCell into.now) }
+    requires cells { Each found.now.cells (IsNullCell into.now) }
     ensures { (fixed : ByNull) → IsAhead into.now fixed found.now.cells fact.now next result }
 {
     if next >= into.count(fact.table) {
@@ -58,8 +58,8 @@ fn ahead_by(found: &Bindings, into: &Instance, fact: &Fact, column: u32, next: u
 
 // A place from `next` on, ahead of which no place agrees with the fact in each column that is known.
 fn ahead(found: &Bindings, into: &Instance, fact: &Fact, next: u32) -> Option<u32>
-    requires fits { FitsIn into.now fact.now }
-    requires cells { Each found.now.cells (IsCell into.now) }
+    requires fits { HasTableIn into.now fact.now }
+    requires cells { Each found.now.cells (IsNullCell into.now) }
     ensures { (fixed : ByNull) → IsAhead into.now fixed found.now.cells fact.now next result }
 {
     let mut place = next;
@@ -78,8 +78,8 @@ fn ahead(found: &Bindings, into: &Instance, fact: &Fact, next: u32) -> Option<u3
 
 /// The least place from `next` on that agrees with the fact in each column that is known.
 pub(crate) fn candidate(found: &Bindings, into: &Instance, fact: &Fact, next: u32) -> Option<u32>
-    requires fits { FitsIn into.now fact.now }
-    requires cells { Each found.now.cells (IsCell into.now) }
+    requires fits { HasTableIn into.now fact.now }
+    requires cells { Each found.now.cells (IsNullCell into.now) }
     ensures { (fixed : ByNull) → IsAhead into.now fixed found.now.cells fact.now next result }
 {
     let mut place = next;
@@ -94,8 +94,8 @@ pub(crate) fn candidate(found: &Bindings, into: &Instance, fact: &Fact, next: u3
 
 // How many places agree with the fact, as far as it is known; counted up to a limit.
 fn count_to(found: &Bindings, into: &Instance, fact: &Fact, limit: u32) -> u32
-    requires fits { FitsIn into.now fact.now }
-    requires cells { Each found.now.cells (IsCell into.now) }
+    requires fits { HasTableIn into.now fact.now }
+    requires cells { Each found.now.cells (IsNullCell into.now) }
     ensures { result ≤ limit }
 {
     let _few = into.tables();
@@ -156,8 +156,8 @@ fn first_with_fewest(
     start: usize,
 ) -> usize
     requires start { start < length order.now }
-    requires fits { (f : FactRow) → f ∈ from.now → FitsIn into.now f }
-    requires cells { Each found.now.cells (IsCell into.now) }
+    requires fits { (f : FactRow) → f ∈ from.now → HasTableIn into.now f }
+    requires cells { Each found.now.cells (IsNullCell into.now) }
     requires within { Each order.now (λ i. i < length from.now) }
     ensures after { start ≤ result }
     ensures within { result < length order.now }
@@ -216,8 +216,8 @@ fn first_fact(
     start: usize,
 ) -> usize
     requires start { start < length order.now }
-    requires fits { (f : FactRow) → f ∈ from.now → FitsIn into.now f }
-    requires cells { Each found.now.cells (IsCell into.now) }
+    requires fits { (f : FactRow) → f ∈ from.now → HasTableIn into.now f }
+    requires cells { Each found.now.cells (IsNullCell into.now) }
     requires within { Each order.now (λ i. i < length from.now) }
     ensures after { start ≤ result }
     ensures within { result < length order.now }
@@ -239,8 +239,8 @@ fn most_pressing(
     start: usize,
 ) -> usize
     requires start { start < length order.now }
-    requires fits { (f : FactRow) → f ∈ from.now → FitsIn into.now f }
-    requires cells { Each found.now.cells (IsCell into.now) }
+    requires fits { (f : FactRow) → f ∈ from.now → HasTableIn into.now f }
+    requires cells { Each found.now.cells (IsNullCell into.now) }
     requires within { Each order.now (λ i. i < length from.now) }
     ensures after { start ≤ result }
     ensures within { result < length order.now }
@@ -278,8 +278,8 @@ pub(crate) fn next_fact(
     start: usize,
 ) -> usize
     requires start { start < length order.now }
-    requires fits { (f : FactRow) → f ∈ from.now → FitsIn into.now f }
-    requires cells { Each found.now.cells (IsCell into.now) }
+    requires fits { (f : FactRow) → f ∈ from.now → HasTableIn into.now f }
+    requires cells { Each found.now.cells (IsNullCell into.now) }
     requires within { Each order.now (λ i. i < length from.now) }
     ensures after { start ≤ result }
     ensures within { result < length order.now }

@@ -9,10 +9,10 @@ ghost use Rattle.dx_model.specs.declared.facts.Fact.{Fact as FactRow};
 ghost use Rattle.dx_model.specs.declared.values.NullId.{NullId as Id};
 ghost use Rattle.dx_model.specs.declared.values.Value.{Value as AnyValue};
 ghost use Rattle.dx_instance.specs.NullMaps.{pairs_of};
-ghost use Rattle.dx_instance.specs.Stored.{facts};
-ghost use Rattle.dx_hom.specs.Homs.{IsAnswer, IsThere, found_pairs};
-ghost use Rattle.dx_hom.specs.Narrowing.{AtMost, IsCell};
-ghost use Rattle.dx_hom.specs.Searching.{Ends, FitsIn, Reaches};
+ghost use Rattle.dx_instance.specs.Stored.{facts, HasTableIn};
+ghost use Rattle.dx_hom.specs.Homs.{IsNullAssignment, IsThere, found_pairs};
+ghost use Rattle.dx_hom.specs.Narrowing.{AtMost, IsNullCell};
+ghost use Rattle.dx_hom.specs.Searching.{FindsAll, Reaches};
 
 use crate::bindings::Bindings;
 use crate::gone::Gone;
@@ -75,14 +75,14 @@ impl Search {
         fixed: &NullMap,
         avoid: Option<&Fact>,
     ) -> bool
-        requires fits { (f : FactRow) → f ∈ from.now → FitsIn into.now f }
+        requires fits { (f : FactRow) → f ∈ from.now → HasTableIn into.now f }
         requires facts { length from.now ≤ self.old.facts }
         requires nulls { AtMost (nulls_in (values from.now)) self.old.nulls }
         requires fixed { (n : Id) (x : AnyValue) → finite.get fixed.now n ≡ Some x → n ∈ nulls_in (values from.now) }
         ensures facts { self.new.facts ≡ self.old.facts }
         ensures nulls { self.new.nulls ≡ self.old.nulls }
         ensures exact { IsTrue result ↔ IsThere fixed.now (option_copied avoid.entry) from.now (facts into.now) }
-        ensures found { OnTrue result (IsAnswer into.now fixed.now (option_copied avoid.entry) from.now self.new.found) }
+        ensures found { OnTrue result (IsNullAssignment into.now fixed.now (option_copied avoid.entry) from.now self.new.found) }
     {
         search(
             &mut self.found,
@@ -104,14 +104,14 @@ impl Search {
         fixed: &NullMap,
         avoid: Option<&Fact>,
     ) -> bool
-        requires fits { (f : FactRow) → f ∈ from.now → FitsIn into.now f }
+        requires fits { (f : FactRow) → f ∈ from.now → HasTableIn into.now f }
         requires facts { length from.now ≤ self.old.facts }
         requires nulls { AtMost (nulls_in (values from.now)) self.old.nulls }
         requires fixed { (n : Id) (x : AnyValue) → finite.get fixed.now n ≡ Some x → n ∈ nulls_in (values from.now) }
         ensures facts { self.new.facts ≡ self.old.facts }
         ensures nulls { self.new.nulls ≡ self.old.nulls }
         ensures exact { IsTrue result ↔ Reaches into.now gone.now fixed.now (option_copied avoid.entry) from.now }
-        ensures found { OnTrue result (Ends into.now gone.now fixed.now (option_copied avoid.entry) from.now self.new.found) }
+        ensures found { OnTrue result (FindsAll into.now gone.now fixed.now (option_copied avoid.entry) from.now self.new.found) }
     {
         search(
             &mut self.found,
@@ -130,7 +130,7 @@ impl Search {
     ///
     /// `AllocError` if there is no memory.
     pub fn map(&self, into: &Instance) -> Result<NullMap, AllocError>
-        requires { Each self.now.found (IsCell into.now) }
+        requires { Each self.now.found (IsNullCell into.now) }
         ensures { IfOk result (λ m. (n : Id) → given (pairs_of m) n ≡ given (found_pairs into.now self.now.found) n) }
     {
         let mut map = NullMap::new(self.alloc);

@@ -3,7 +3,7 @@ ghost use Rattle.std.specs.Prelude.{◌≡◌, ◌↔◌, ◌<◌, ◌^◌, [], 
 ghost use Rattle.dx_model.specs.Instances.{nulls_in};
 ghost use Rattle.dx_instance.specs.Places.{row_at};
 ghost use Rattle.dx_instance.specs.Stored.{rows_of, table_at};
-ghost use Rattle.dx_hom.specs.Narrowing.{Allows, HasRoom, IsCell, IsGood, MeetsNull, MeetsRow, MeetsValue};
+ghost use Rattle.dx_hom.specs.Narrowing.{Allows, HasRoomForNulls, IsNullCell, IsGood, MeetsNull, MeetsRow, MeetsValue};
 
 use crate::bindings::Bindings;
 use dx_instance::{Instance, NullMap};
@@ -30,9 +30,9 @@ fn allows(fixed: &NullMap, null: NullId, value: &Value) -> bool
 
 /// Gives the null the value of the cell, if it can have it.
 pub(crate) fn meet_null(found: &mut Bindings, into: &Instance, fixed: &NullMap, cell: Found) -> bool
-    requires cell { IsCell into.now cell }
+    requires cell { IsNullCell into.now cell }
     requires good { IsGood into.now fixed.now found.old.cells }
-    requires room { HasRoom found.old (cell.null ∷ []) }
+    requires room { HasRoomForNulls found.old (cell.null ∷ []) }
     ensures room { found.new.room ≡ found.old.room }
     ensures cases { MeetsNull into.now fixed.now cell found.old found.new result }
 {
@@ -61,7 +61,7 @@ pub(crate) fn meet_value(
     requires place { place < length (rows_of into.now table) }
     requires column { column < (table_at into.now table).width }
     requires good { IsGood into.now fixed.now found.old.cells }
-    requires room { HasRoom found.old (nulls_in (value.now ∷ [])) }
+    requires room { HasRoomForNulls found.old (nulls_in (value.now ∷ [])) }
     ensures room { found.new.room ≡ found.old.room }
     ensures cases { MeetsValue into.now fixed.now value.now table place column found.old found.new result }
 {
@@ -95,7 +95,7 @@ pub(crate) fn meet_row(
     requires width { length row.now ≡ (table_at into.now table).width }
     requires wide { length (row_at into.now table place) ≡ (table_at into.now table).width }
     requires good { IsGood into.now fixed.now found.old.cells }
-    requires room { HasRoom found.old (nulls_in row.now) }
+    requires room { HasRoomForNulls found.old (nulls_in row.now) }
     ensures room { found.new.room ≡ found.old.room }
     ensures cases { MeetsRow into.now fixed.now row.now table place found.old found.new result }
 {

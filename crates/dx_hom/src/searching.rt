@@ -4,12 +4,11 @@ ghost use Rattle.std.specs.Option.{option_copied};
 ghost use Rattle.dx_ports.specs.Members.{◌∈◌, Each};
 ghost use Rattle.dx_model.specs.Instances.{values, nulls_in};
 ghost use Rattle.dx_model.specs.declared.facts.Fact.{Fact as FactRow};
-ghost use Rattle.dx_instance.specs.Places.{row_at};
-ghost use Rattle.dx_instance.specs.Stored.{rows_of};
-ghost use Rattle.dx_hom.specs.Narrowing.{AtMost, HasRoom, IsCell, IsGood};
+ghost use Rattle.dx_instance.specs.Places.{row_at, fact_at};
+ghost use Rattle.dx_instance.specs.Stored.{rows_of, HasTableIn};
+ghost use Rattle.dx_hom.specs.Narrowing.{AtMost, HasRoomForNulls, IsNullCell, IsGood};
 ghost use Rattle.dx_hom.specs.Orders.{IsOrder, IsReordered};
-ghost use Rattle.dx_hom.specs.Searching.{FitsIn, IsNextMove, IsOpen, IsSearched};
-ghost use Rattle.dx_hom.specs.View.{fact_at};
+ghost use Rattle.dx_hom.specs.Searching.{IsNextMove, IsOpen, IsSearched};
 
 use crate::bindings::Bindings;
 use crate::candidates::{candidate, fact_at_turn, next_fact};
@@ -141,9 +140,9 @@ pub(crate) fn place_from(
     fact: &Fact,
     next: u32,
 ) -> Option<u32>
-    requires fits { FitsIn into.now fact.now }
+    requires fits { HasTableIn into.now fact.now }
     requires good { IsGood into.now fixed.now found.old.cells }
-    requires room { HasRoom found.old (nulls_in fact.now.row) }
+    requires room { HasRoomForNulls found.old (nulls_in fact.now.row) }
     ensures room { found.new.room ≡ found.old.room }
     ensures small { IfSome result (λ p. p + 1 < 2 ^ 32) }
     ensures cases { IsNextMove into.now gone.now fixed.now (option_copied avoid.entry) fact.now next found.old found.new result }
@@ -166,8 +165,8 @@ pub(crate) fn place_from(
 
 // Brings the fact that is best moved next to the front of those that are left.
 fn choose(stack: &mut Stack, found: &Bindings, into: &Instance, from: &[Fact])
-    requires fits { (f : FactRow) → f ∈ from.now → FitsIn into.now f }
-    requires cells { Each found.now.cells (IsCell into.now) }
+    requires fits { (f : FactRow) → f ∈ from.now → HasTableIn into.now f }
+    requires cells { Each found.now.cells (IsNullCell into.now) }
     requires order { IsOrder (length from.now) stack.old.order.items }
     ensures order { IsReordered (length stack.old.steps.items) stack.old.order.items stack.new.order.items }
     ensures steps { stack.new.steps ≡ stack.old.steps }
@@ -190,7 +189,7 @@ pub(crate) fn search(
     fixed: &NullMap,
     avoid: Option<&Fact>,
 ) -> bool
-    requires fits { (f : FactRow) → f ∈ from.now → FitsIn into.now f }
+    requires fits { (f : FactRow) → f ∈ from.now → HasTableIn into.now f }
     requires found_room { AtMost (nulls_in (values from.now)) found.old.room }
     requires steps_room { length from.now ≤ vec_capacity stack.old.steps }
     requires order_room { length from.now ≤ vec_capacity stack.old.order }

@@ -14,11 +14,11 @@ use Rattle.dx_model.specs.declared.rules.Cell.TheVariants.{Var, Ex, Lit}
 use Rattle.dx_model.specs.declared.rules.Atom.{Atom}
 use Rattle.dx_model.specs.Covers.{same_value}
 use Rattle.dx_model.specs.Fitting.{AtomsFitWidths}
-use Rattle.dx_model.specs.Rules.{cell_value, cells_of, said}
-use Rattle.dx_model.specs.Values.{Text}
+use Rattle.dx_model.specs.Rules.{cell_value, cells_of, fact_of_atom}
+use Rattle.dx_ports.specs.Texts.{Text}
 use Rattle.dx_model.proofs.Before.{same_value-refl, same_value-true}
 use Rattle.dx_instance.specs.Cells.{NumberTable, numbers_at}
-use Rattle.dx_instance.specs.Numbers.{AreApart, value_of}
+use Rattle.dx_instance.specs.Numbers.{AreDistinctValues, value_of}
 use Rattle.dx_instance.specs.Shown.{AreBelow, PartsFit, numbers_of_table, shown, shown_row, shown_tables}
 use Rattle.dx_instance.specs.Stored.{TableRows, facts, rows_of, table_at, widths}
 use Rattle.dx_instance.proofs.NumberFacts.{there_at}
@@ -28,8 +28,8 @@ use Rattle.dx_tgd.proofs.Tables.{wide_table}
 use Rattle.dx_solver.specs.declared.atom.Term.{Term}
 use Rattle.dx_solver.specs.declared.atom.Term.TheVariants.{Variable}
 use Rattle.dx_solver.specs.declared.atom.PatternAtom.{PatternAtom}
-use Rattle.dx_solver.specs.Questions.{Solves, Stands, number_under, row_under}
-use Rattle.dx_implies.specs.Asking.{HasNowhere, IsNowhere, IsWide, SaysAtom, SaysCell}
+use Rattle.dx_solver.specs.Questions.{Solves, HasImageRow, number_under, row_under}
+use Rattle.dx_implies.specs.Asking.{HasNowhere, IsNowhere, AtomFitsTable, SaysAtom, SaysCell}
 
 -- ---- the number of a value
 
@@ -48,14 +48,14 @@ number_at (s ∷ S) v m = elim (cases_Bool (same_value s v)) [
     later (here e) n = absurd (true≢false (sym (subst (λ (x : Value). same_value s x ≡ true) e (same_value-refl s)) ∙ n))
     later (there k) n = k
 
-number_back : (S : List Value) (n : ℕ) → AreApart S → n < length S → number_of S (value_of S n) ≡ n
+number_back : (S : List Value) (n : ℕ) → AreDistinctValues S → n < length S → number_of S (value_of S n) ≡ n
 number_back S n apart h =
     let r = number_at S (value_of S n) (in_at S n (Const []) h) in
     number_same S (number_of S (value_of S n)) n apart r.0 h r.1
 
 -- ---- cells and terms
 
-module _ (S : List Value) (apart : AreApart S) (freeze : ℕ → Text) where
+module _ (S : List Value) (apart : AreDistinctValues S) (freeze : ℕ → Text) where
   number_says : (values : ℕ → Value) (c : Cell) (t : Term) (n : ℕ) → SaysCell S freeze c t → n < length S
       → value_of S n ≡ cell_value freeze values c → n ≡ number_under (λ v. number_of S (values v)) t
   number_says values (Var x) t n s h e = rw s.1 (number_same S n s.0 apart h s.2 (e ∙ sym s.3))
@@ -136,20 +136,20 @@ module _ (S : List Value) (ts : List NumberTable) (fit : PartsFit S ts) (freeze 
   below t r h m = (fit.each (numbers_of_table ts t) (in_at ts t (record { width = 0; rows = [] }) h)).within r m
 
   -- an atom of a conclusion, and what says it
-  atom_stands : (values : ℕ → Value) (a : Atom) (p : PatternAtom) → SaysAtom S freeze a p → said freeze values a ∈ facts I
-      → Stands ts [] (λ v. number_of S (values v)) p
+  atom_stands : (values : ℕ → Value) (a : Atom) (p : PatternAtom) → SaysAtom S freeze a p → fact_of_atom freeze values a ∈ facts I
+      → HasImageRow ts [] (λ v. number_of S (values v)) p
   atom_stands values a p s m =
-      let t : a.table < length ts = table_there a.table (fact_table I (said freeze values a) m) in
+      let t : a.table < length ts = table_there a.table (fact_table I (fact_of_atom freeze values a) m) in
       let r = from_map (shown_row S) (numbers_of_table ts a.table).rows
-      (subst (λ (rs : List (List Value)). map (cell_value freeze values) a.cells ∈ rs) (rows_shown a.table t) (row_from_fact I (said freeze values a) m)) in
+      (subst (λ (rs : List (List Value)). map (cell_value freeze values) a.cells ∈ rs) (rows_shown a.table t) (row_from_fact I (fact_of_atom freeze values a) m)) in
       let w = row_place (numbers_of_table ts a.table).rows r.0 r.1 in
       let e : r.0 ≡ row_under (λ v. number_of S (values v)) p = row_says S fit.apart freeze values a.cells p.terms r.0 s.cells (below a.table r.0 t r.1) r.2 in
       rw s.table (w.0, w.1, refl, w.2 ∙ e)
 
-  atom_said : (f : ℕ → ℕ) (a : Atom) (p : PatternAtom) → a.table < length ts → SaysAtom S freeze a p → Stands ts [] f p
-      → said freeze (λ v. value_of S (f v)) a ∈ facts I
+  atom_said : (f : ℕ → ℕ) (a : Atom) (p : PatternAtom) → a.table < length ts → SaysAtom S freeze a p → HasImageRow ts [] f p
+      → fact_of_atom freeze (λ v. value_of S (f v)) a ∈ facts I
   atom_said f a p t s k =
-      let stands : Stands ts [] f (record { table = a.table; terms = p.terms }) = subst (λ (u : ℕ). Stands ts [] f (record { table = u; terms = p.terms })) s.table k in
+      let stands : HasImageRow ts [] f (record { table = a.table; terms = p.terms }) = subst (λ (u : ℕ). HasImageRow ts [] f (record { table = u; terms = p.terms })) s.table k in
       let there : row_under f p ∈ (numbers_of_table ts a.table).rows =
       subst (λ (r : List ℕ). r ∈ (numbers_of_table ts a.table).rows) stands.3 (in_at (numbers_of_table ts a.table).rows stands.0 [] stands.1) in
       let row : map (cell_value freeze (λ v. value_of S (f v))) a.cells ∈ rows_of I a.table =
@@ -157,26 +157,26 @@ module _ (S : List Value) (ts : List NumberTable) (fit : PartsFit S ts) (freeze 
       fact_from_row I a.table (map (cell_value freeze (λ v. value_of S (f v))) a.cells) row
 
   -- a text that no number stands for is in no row
-  cell_somewhere : (values : ℕ → Value) (a : Atom) (c : Cell) → said freeze values a ∈ facts I → c ∈ a.cells → cell_value freeze values c ∈ S
+  cell_somewhere : (values : ℕ → Value) (a : Atom) (c : Cell) → fact_of_atom freeze values a ∈ facts I → c ∈ a.cells → cell_value freeze values c ∈ S
   cell_somewhere values a c m k =
-      let t : a.table < length ts = table_there a.table (fact_table I (said freeze values a) m) in
+      let t : a.table < length ts = table_there a.table (fact_table I (fact_of_atom freeze values a) m) in
       let r = from_map (shown_row S) (numbers_of_table ts a.table).rows
-      (subst (λ (rs : List (List Value)). map (cell_value freeze values) a.cells ∈ rs) (rows_shown a.table t) (row_from_fact I (said freeze values a) m)) in
+      (subst (λ (rs : List (List Value)). map (cell_value freeze values) a.cells ∈ rs) (rows_shown a.table t) (row_from_fact I (fact_of_atom freeze values a) m)) in
       let n = from_map (value_of S) r.0 (rw r.2 (in_map (cell_value freeze values) k)) in
       there_at S n.0 (cell_value freeze values c) (below a.table r.0 t r.1 n.0 n.1) n.2
 
-  nowhere_said : (values : ℕ → Value) (a : Atom) (c : Cell) → said freeze values a ∈ facts I → c ∈ a.cells → ¬ (IsNowhere S freeze c)
+  nowhere_said : (values : ℕ → Value) (a : Atom) (c : Cell) → fact_of_atom freeze values a ∈ facts I → c ∈ a.cells → ¬ (IsNowhere S freeze c)
   nowhere_said values a (Var x) m k n = n (cell_somewhere values a (Var x) m k)
   nowhere_said values a (Ex v) m k n = n
   nowhere_said values a (Lit s) m k n = n (cell_somewhere values a (Lit s) m k)
 
   module _ (atoms : List Atom) (wide : AtomsFitWidths (widths I) atoms) where
-    pub none_stand : HasNowhere S freeze (cells_of atoms) → ¬ ((values : ℕ → Value) × Each atoms (λ a. said freeze values a ∈ facts I))
+    pub none_stand : HasNowhere S freeze (cells_of atoms) → ¬ ((values : ℕ → Value) × Each atoms (λ a. fact_of_atom freeze values a ∈ facts I))
     none_stand n w =
         let a = from_flat_map (λ (a : Atom). a.cells) atoms n.1 in
         nowhere_said w.0 a.0 n.0 (w.1 a.0 a.1) a.2 n.2
 
-    pub all_wide : (all : List PatternAtom) → AllZip (SaysAtom S freeze) atoms all → Each all (IsWide ts)
+    pub all_wide : (all : List PatternAtom) → AllZip (SaysAtom S freeze) atoms all → Each all (AtomFitsTable ts)
     all_wide all z p m =
         let a = from_zip (SaysAtom S freeze) atoms all p z m in
         let w = wide_table I a.0.table (length a.0.cells) (wide a.0 a.1) in
@@ -201,7 +201,7 @@ module _ (S : List Value) (ts : List NumberTable) (fit : PartsFit S ts) (freeze 
         wide_shown t h = shown_width ts t h
 
     pub all_stand : (all : List PatternAtom) → AllZip (SaysAtom S freeze) atoms all
-        → ((values : ℕ → Value) × Each atoms (λ a. said freeze values a ∈ facts I)) ↔ ((f : ℕ → ℕ) × Each all (Stands ts [] f))
+        → ((values : ℕ → Value) × Each atoms (λ a. fact_of_atom freeze values a ∈ facts I)) ↔ ((f : ℕ → ℕ) × Each all (HasImageRow ts [] f))
     all_stand all z = (
       (λ w. (
         (λ v. number_of S (w.0 v)),
@@ -253,16 +253,16 @@ no_number n e = cc
 pub answer_stands : {X : Type 0} (answered_by : X → ℕ → ℕ) (ts : List NumberTable) (out : List (List Bool)) (atoms : List PatternAtom) (known : List (Option ℕ)) (n : ℕ)
     (o : Option X) (b : Bool) → out ≡ [] → known ≡ replicate n nothing
     → MatchOption o ((a : ℕ → ℕ) → ¬ (Solves ts out atoms known a)) (λ xs. Solves ts out atoms known (answered_by xs)) → b ≡ is_some o
-    → IsTrue b ↔ ((a : ℕ → ℕ) × Each atoms (Stands ts [] a))
+    → IsTrue b ↔ ((a : ℕ → ℕ) × Each atoms (HasImageRow ts [] a))
 answer_stands f ts out atoms known n None b e k m d = (
   (λ y. absurd (true≢false (sym y ∙ d))),
   (λ w. absurd (m w.0 (record {
-    stands = subst (λ (z : List (List Bool)). Each atoms (Stands ts z w.0)) (sym e) w.1;
+    stands = subst (λ (z : List (List Bool)). Each atoms (HasImageRow ts z w.0)) (sym e) w.1;
     keeps = λ v x h. absurd (no_number x (sym (ap (λ (l : List (Option ℕ)). get_or l v nothing) k ∙ none_known n v) ∙ h));
   }))),
 )
 answer_stands f ts out atoms known n (Some xs) b e k m d = (
-  (λ y. (f xs, subst (λ (z : List (List Bool)). Each atoms (Stands ts z (f xs))) e m.stands)),
+  (λ y. (f xs, subst (λ (z : List (List Bool)). Each atoms (HasImageRow ts z (f xs))) e m.stands)),
   (λ w. d),
 )
 
@@ -274,7 +274,7 @@ none_of {X} A B o e m = subst (λ (p : Option X). MatchOption p A B) e m
 module _ (S : List Value) (ts : List NumberTable) (fit : PartsFit S ts) (freeze : ℕ → Text) (J : List TableRows) (atoms : List Atom) (shows : shown_tables S ts ≡ J)
     (wide : AtomsFitWidths (widths J) atoms) where
   abbrev Said : List TableRows → Type 0
-  Said K = (values : ℕ → Value) × Each atoms (λ a. said freeze values a ∈ facts K)
+  Said K = (values : ℕ → Value) × Each atoms (λ a. fact_of_atom freeze values a ∈ facts K)
 
   wide_shown : AtomsFitWidths (widths (shown_tables S ts)) atoms
   wide_shown = subst (λ (K : List TableRows). AtomsFitWidths (widths K) atoms) (sym shows) wide
@@ -286,9 +286,9 @@ module _ (S : List Value) (ts : List NumberTable) (fit : PartsFit S ts) (freeze 
   )
 
   pub told_some : (all given : List PatternAtom) (r : Result Bool AllocError) → given ≡ all → AllZip (SaysAtom S freeze) atoms all
-      → IfOk r (λ b. IsTrue b ↔ ((a : ℕ → ℕ) × Each given (Stands ts [] a))) → IfOk r (λ b. IsTrue b ↔ Said J)
+      → IfOk r (λ b. IsTrue b ↔ ((a : ℕ → ℕ) × Each given (HasImageRow ts [] a))) → IfOk r (λ b. IsTrue b ↔ Said J)
   told_some all given (Ok b) e z h =
-      let k : IsTrue b ↔ ((a : ℕ → ℕ) × Each all (Stands ts [] a)) = subst (λ (ps : List PatternAtom). IsTrue b ↔ ((a : ℕ → ℕ) × Each ps (Stands ts [] a))) e h in
+      let k : IsTrue b ↔ ((a : ℕ → ℕ) × Each all (HasImageRow ts [] a)) = subst (λ (ps : List PatternAtom). IsTrue b ↔ ((a : ℕ → ℕ) × Each ps (HasImageRow ts [] a))) e h in
       let s = all_stand S ts fit freeze atoms wide_shown all z in
       ((λ y. subst Said shows (s.1 (k.0 y))), (λ w. k.1 (s.0 (subst Said (sym shows) w))))
   told_some all given (Err x) e z h = tt

@@ -9,8 +9,9 @@ use Rattle.dx_model.specs.declared.values.Value.{Value}
 use Rattle.dx_model.specs.declared.facts.Fact.{Fact}
 use Rattle.dx_model.specs.declared.rules.Derived.{Derived}
 use Rattle.dx_model.specs.declared.rules.Rule.{Rule}
-use Rattle.dx_model.specs.Values.{Text, Rows, Conversions}
-use Rattle.dx_model.specs.Rules.{AreRows, canonical, premise_fact, said}
+use Rattle.dx_model.specs.Values.{Rows, Conversions}
+use Rattle.dx_ports.specs.Texts.{Text}
+use Rattle.dx_model.specs.Rules.{AreRows, canonical, premise_fact, fact_of_atom}
 use Rattle.dx_model.specs.Fitting.{AtomsFitWidths, IsRule, RuleFits}
 use Rattle.dx_model.specs.Following.{Follows, IsClean, frozen, frozen_text}
 use Rattle.dx_model.proofs.Frozen.{follows_by_prefix}
@@ -20,11 +21,11 @@ use Rattle.dx_schema.specs.Forest.{Forest}
 use Rattle.dx_schema.specs.Tables.{model_tables, schema_widths}
 use Rattle.dx_instance.specs.Stored.{TableRows, facts, widths}
 use Rattle.dx_tgd.specs.Counting.{canonical_cells}
-use Rattle.dx_tgd.specs.Found.{IsRefusal as IsCanonRefusal}
+use Rattle.dx_tgd.specs.Found.{IsCanonicalRefusal as IsCanonRefusal}
 use Rattle.dx_tgd.specs.declared.fault.CanonFault.{CanonFault}
 use Rattle.dx_tgd.specs.declared.fault.CanonFault.TheVariants.{Memory, Limit}
 use Rattle.dx_implies.specs.declared.refuting.Refutation.{Refutation}
-use Rattle.dx_implies.specs.Frozen.{IsRefusal, PassesFrozen, frozen_premise, marks, told_frozen}
+use Rattle.dx_implies.specs.Frozen.{IsFrozenRefusal, PassesFrozen, frozen_premise, marks, told_frozen}
 use Rattle.dx_implies.specs.Laws.{IsPlainRule}
 use Rattle.dx_implies.specs.Refuting.{IsRefutation}
 use Rattle.dx_implies.proofs.Cells.{frozen_cells_are_one}
@@ -87,26 +88,26 @@ module _ (apply : Conversions) (source target : Forest) (prefix : Text) (R : Lis
         more = omega (arith, e, more);
       }
 
-  pub made_refused : (limit : ℕ) (f e : CanonFault) → IsCanonRefusal apply R (facts I) limit f → e ≡ told_frozen f → IsRefusal limit (PassesFrozen limit R d) e
-  made_refused limit f e h is = subst (IsRefusal limit (PassesFrozen limit R d)) (sym is) (of f h)
+  pub made_refused : (limit : ℕ) (f e : CanonFault) → IsCanonRefusal apply R (facts I) limit f → e ≡ told_frozen f → IsFrozenRefusal limit (PassesFrozen limit R d) e
+  made_refused limit f e h is = subst (IsFrozenRefusal limit (PassesFrozen limit R d)) (sym is) (of f h)
     where
-      of : (f : CanonFault) → IsCanonRefusal apply R (facts I) limit f → IsRefusal limit (PassesFrozen limit R d) (told_frozen f)
+      of : (f : CanonFault) → IsCanonRefusal apply R (facts I) limit f → IsFrozenRefusal limit (PassesFrozen limit R d) (told_frozen f)
       of Memory h = tt
       of (Limit l) h = (ap (λ (k : LimitOf). record { what = FrozenCells; number = k.number }) h.0, made_passed h.1.rows limit h.1.are h.1.more)
 
   -- if the conclusion stands in what is made, the rule follows
   pub made_follows : (rows : Rows) (K : List Fact) (b : Bool) → AreRows apply R (facts I) rows → K ≈ canonical 0 R rows
-      → IsTrue b ↔ ((values : ℕ → Value) × Each d.conclusion (λ a. said (frozen_text prefix) values a ∈ K)) → b ≡ true
+      → IsTrue b ↔ ((values : ℕ → Value) × Each d.conclusion (λ a. fact_of_atom (frozen_text prefix) values a ∈ K)) → b ≡ true
       → (convert : Conversions) → Follows convert R d
   made_follows rows K b are members h stands convert =
       let w = h.0 stands in
-      let f : Follows apply R d = (follows_by_prefix apply prefix R d rows each_clean (on_frozen rows are)).1 (w.0, λ a m. members.0 (said (frozen_text prefix) w.0 a) (w.1 a m)) in
+      let f : Follows apply R d = (follows_by_prefix apply prefix R d rows each_clean (on_frozen rows are)).1 (w.0, λ a m. members.0 (fact_of_atom (frozen_text prefix) w.0 a) (w.1 a m)) in
       follows_any apply convert R d (λ r m. plain r (there m)) (plain d (here refl)) f
 
   -- and if it does not, the two instances satisfy the others, and not the rule
   pub made_refutes : (rows : Rows) (r : Refutation) (b : Bool) → r.source ≡ I → AreRows apply R (facts I) rows → facts r.target ≈ canonical 0 R rows
       → widths I ≡ schema_widths source → widths r.target ≡ schema_widths target
-      → IsTrue b ↔ ((values : ℕ → Value) × Each d.conclusion (λ a. said (frozen_text prefix) values a ∈ facts r.target)) → b ≡ false
+      → IsTrue b ↔ ((values : ℕ → Value) × Each d.conclusion (λ a. fact_of_atom (frozen_text prefix) values a ∈ facts r.target)) → b ≡ false
       → IsRefutation prefix source target R d r
   made_refutes rows r b is are members wide wide_target h fails =
       let each : (convert : Conversions) → AreRows convert R (facts r.source) rows =

@@ -7,7 +7,7 @@ use Rattle.dx_model.specs.declared.values.Value.TheVariants.{Const}
 use Rattle.dx_model.specs.declared.rules.Cell.{Cell}
 use Rattle.dx_model.specs.declared.rules.Cell.TheVariants.{Var, Ex, Lit}
 use Rattle.dx_model.specs.declared.rules.Atom.{Atom}
-use Rattle.dx_model.specs.Values.{Text}
+use Rattle.dx_ports.specs.Texts.{Text}
 use Rattle.dx_instance.specs.Numbers.{value_of}
 use Rattle.dx_instance.specs.Cells.{NumberTable}
 use Rattle.dx_instance.specs.Shown.{numbers_of_table}
@@ -41,6 +41,6 @@ abbrev pub HasNowhere : List Value → (ℕ → Text) → List Cell → Type 0
 HasNowhere symbols freeze cells = (c : Cell) × (c ∈ cells) × IsNowhere symbols freeze c
 
 -- the atom has a table, and its width
-pub record IsWide (tables : List NumberTable) (p : PatternAtom) : Type 0 where
+pub record AtomFitsTable (tables : List NumberTable) (p : PatternAtom) : Type 0 where
   pub table : p.table < length tables
   pub width : length p.terms ≡ (numbers_of_table tables p.table).width

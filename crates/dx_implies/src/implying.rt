@@ -5,15 +5,15 @@ ghost use Rattle.dx_model.specs.declared.values.Value.{Value as AnyValue};
 ghost use Rattle.dx_model.specs.declared.rules.Rule.{Rule as RuleOf};
 ghost use Rattle.dx_model.specs.Fitting.{AtomsFitWidths, IsRule, RuleFits};
 ghost use Rattle.dx_model.specs.Following.{Follows, IsClean, frozen_text, underived};
-ghost use Rattle.dx_model.specs.Rules.{AreRows, canonical, said};
+ghost use Rattle.dx_model.specs.Rules.{AreRows, canonical, fact_of_atom};
 ghost use Rattle.dx_model.specs.Values.{Conversions};
 ghost use Rattle.dx_schema.specs.Tables.{model_tables, schema_widths};
 ghost use Rattle.dx_instance.specs.Stored.{facts, widths};
-ghost use Rattle.dx_solver.specs.Questions.{Stands};
+ghost use Rattle.dx_solver.specs.Questions.{HasImageRow};
 ghost use Rattle.dx_tgd.specs.Counting.{canonical_cells};
-ghost use Rattle.dx_tgd.specs.Found.{IsRefusal as IsTooLarge};
-ghost use Rattle.dx_implies.specs.Asking.{IsWide};
-ghost use Rattle.dx_implies.specs.Frozen.{IsRefusal, PassesFrozen};
+ghost use Rattle.dx_tgd.specs.Found.{IsCanonicalRefusal as IsTooLarge};
+ghost use Rattle.dx_implies.specs.Asking.{AtomFitsTable};
+ghost use Rattle.dx_implies.specs.Frozen.{IsFrozenRefusal, PassesFrozen};
 
 use crate::asking::{above_atoms, atoms_of};
 use crate::freezing::frozen_with;
@@ -49,8 +49,8 @@ fn can_stand(
     numbers: &Numbers<'_>,
     atoms: &[PatternAtom],
 ) -> Result<bool, AllocError>
-    requires { Each atoms.now (IsWide numbers.now.tables) }
-    ensures { IfOk result (λ b. IsTrue b ↔ ((a : ℕ → ℕ) × Each atoms.now (Stands numbers.now.tables [] a))) }
+    requires { Each atoms.now (AtomFitsTable numbers.now.tables) }
+    ensures { IfOk result (λ b. IsTrue b ↔ ((a : ℕ → ℕ) × Each atoms.now (HasImageRow numbers.now.tables [] a))) }
 {
     let known = nothing_known(alloc, above_atoms(atoms))?;
     let taken = Taken::none(alloc);
@@ -67,7 +67,7 @@ pub(crate) fn has_conclusion(
     instance: &Instance,
 ) -> Result<bool, AllocError>
     requires { AtomsFitWidths (widths instance.now) rule.now.conclusion }
-    ensures { IfOk result (λ b. IsTrue b ↔ ((values : ℕ → AnyValue) × Each rule.now.conclusion (λ a. said (frozen_text prefix.now) values a ∈ facts instance.now))) }
+    ensures { IfOk result (λ b. IsTrue b ↔ ((values : ℕ → AnyValue) × Each rule.now.conclusion (λ a. fact_of_atom (frozen_text prefix.now) values a ∈ facts instance.now))) }
 {
     let numbers = instance.numbers();
     match atoms_of(alloc, rule.conclusion.items(), prefix, &numbers)? {
@@ -96,7 +96,7 @@ fn stands_in(
     instance: Instance,
 ) -> Result<bool, AllocError>
     requires { AtomsFitWidths (widths instance) rule.now.conclusion }
-    ensures { IfOk result (λ b. IsTrue b ↔ ((values : ℕ → AnyValue) × Each rule.now.conclusion (λ a. said (frozen_text prefix.now) values a ∈ facts instance))) }
+    ensures { IfOk result (λ b. IsTrue b ↔ ((values : ℕ → AnyValue) × Each rule.now.conclusion (λ a. fact_of_atom (frozen_text prefix.now) values a ∈ facts instance))) }
 {
     let mut indexed = instance;
     index_all(&mut indexed)?;
@@ -148,7 +148,7 @@ pub(crate) fn follows(
     requires limit { limit < 2 ^ 32 - 1 }
     ensures follows { IfOk result (λ b. (convert : Conversions) → IsTrue b ↔ Follows convert (underived others.now) rule.now) }
     ensures within { OnOk result (¬ (PassesFrozen limit (underived others.now) rule.now)) }
-    ensures refused { IfErr result (IsRefusal limit (PassesFrozen limit (underived others.now) rule.now)) }
+    ensures refused { IfErr result (IsFrozenRefusal limit (PassesFrozen limit (underived others.now) rule.now)) }
 {
     let premise = frozen_with(alloc, rule, prefix, source)?;
     let near = near_rules(alloc, others, &premise)?;
@@ -178,7 +178,7 @@ pub fn implied(
     requires limit { limit < 2 ^ 32 - 1 }
     ensures follows { IfOk result (λ b. (convert : Conversions) → IsTrue b ↔ Follows convert others.now rule.now) }
     ensures within { OnOk result (¬ (PassesFrozen limit others.now rule.now)) }
-    ensures refused { IfErr result (IsRefusal limit (PassesFrozen limit others.now rule.now)) }
+    ensures refused { IfErr result (IsFrozenRefusal limit (PassesFrozen limit others.now rule.now)) }
 {
     let most = marks_in(others, marks_in(from_ref(rule), 0));
     let prefix = marks(alloc, most + 1)?;

@@ -6,7 +6,7 @@ ghost use Rattle.dx_model.specs.Fitting.{RuleFits};
 ghost use Rattle.dx_model.specs.Following.{Follows, IsClean};
 ghost use Rattle.dx_model.specs.Values.{Conversions};
 ghost use Rattle.dx_schema.specs.Tables.{model_tables};
-ghost use Rattle.dx_implies.specs.Frozen.{IsRefusal, PassesFrozen};
+ghost use Rattle.dx_implies.specs.Frozen.{IsFrozenRefusal, PassesFrozen};
 ghost use Rattle.dx_implies.specs.Refuting.{IsRefutation};
 
 use crate::freezing::frozen_with;
@@ -51,7 +51,7 @@ pub fn refuted(
     ensures follows { IfOk result (λ o. IfNone o ((convert : Conversions) → Follows convert others.now rule.now)) }
     ensures refuted { IfOk result (λ o. IfSome o (IsRefutation prefix.now source.now target.now others.now rule.now)) }
     ensures within { OnOk result (¬ (PassesFrozen limit others.now rule.now)) }
-    ensures refused { IfErr result (IsRefusal limit (PassesFrozen limit others.now rule.now)) }
+    ensures refused { IfErr result (IsFrozenRefusal limit (PassesFrozen limit others.now rule.now)) }
 {
     let premise = frozen_with(alloc, rule, prefix, source)?;
     match made_of(alloc, others, &premise, target, limit) {

@@ -18,7 +18,7 @@ use Rattle.dx_model.proofs.Maps.{same_null-refl, same_null-true}
 use Rattle.dx_model.proofs.Orders.{null_total, null_exact}
 use Rattle.dx_ports.specs.Members.{◌∈◌, ◌⊆◌, ◌≈◌}
 use Rattle.dx_ports.proofs.Members.{in_map, from_map}
-use Rattle.dx_instance.specs.NullMaps.{ByNull, becomes, entries_in, is_itself, IsAfter, map_of, or_itself, pair_after, pairs_of, with_value}
+use Rattle.dx_instance.specs.NullMaps.{ByNull, becomes, entries_in, is_itself, IsAfter, map_of_entries, or_itself, pair_after, pairs_of, with_value}
 use Rattle.dx_instance.specs.Stored.{TableRows, facts, rows_of}
 use Rattle.dx_instance.proofs.StoredFacts.{fact_from_row, row_from_fact}
 use Rattle.dx_instance.proofs.NullFacts.{as_pairs, pair_of}
@@ -93,13 +93,13 @@ over_images b [] n = pairs_give b n
 over_images b (p ∷ ps) n = elim (cases_Bool (same_null p.null n)) [ inl y ↦ rw y refl | inr f ↦ rw f (over_images b ps n) ]
 
 -- what the images of the pairs of a and those of b come to
-pub after_is : (a b : ByNull) (images others ps : List NullPair) → images ≡ map (pair_after b) (pairs_of a) → others ≡ pairs_of b → ((n : NullId) → given ps n ≡ given (images ++ others) n) → IsAfter a b (map_of (entries_in ps))
+pub after_is : (a b : ByNull) (images others ps : List NullPair) → images ≡ map (pair_after b) (pairs_of a) → others ≡ pairs_of b → ((n : NullId) → given ps n ≡ given (images ++ others) n) → IsAfter a b (map_of_entries (entries_in ps))
 after_is a b images others ps e f g n =
-    pairs_give (map_of (entries_in ps)) n ∙ ap (or_itself n) (finite.get-from_entries null_total (entries_in ps) n) ∙ sym (given_find (entries_in ps) n) ∙ ap (λ (l : List NullPair). given l n) (as_pairs ps) ∙ g n
+    pairs_give (map_of_entries (entries_in ps)) n ∙ ap (or_itself n) (finite.get-from_entries null_total (entries_in ps) n) ∙ sym (given_find (entries_in ps) n) ∙ ap (λ (l : List NullPair). given l n) (as_pairs ps) ∙ g n
     ∙ (rw (e, f) (over_images b (pairs_of a) n)) ∙ sym (moved_same b (given (pairs_of a) n))
 
 pub after_stored : (a b : ByNull) (listed images others ps : List NullPair) (tree : List (NullId × Value)) → listed ≡ pairs_of a → images ≡ map (pair_after b) listed → others ≡ pairs_of b → ((n : NullId) → given ps n ≡ given (images ++ others) n)
-    → length tree ≡ 0 → IsAfter a b (map_of (tree ++ entries_in ps))
+    → length tree ≡ 0 → IsAfter a b (map_of_entries (tree ++ entries_in ps))
 after_stored a b listed images others ps tree l e f g z =
     let none = nil_from_length tree z in
     rw none (after_is a b images others ps (e ∙ ap (λ (x : List NullPair). map (pair_after b) x) l) f g)

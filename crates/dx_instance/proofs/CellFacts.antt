@@ -10,22 +10,22 @@ use Rattle.std.proofs.lemmas.List.{ext_get_or, get_or-map, get_or-set_other, get
 use Rattle.std.proofs.lemmas.List.Quantifiers.{all_pairs_push}
 use Rattle.dx_ports.specs.Members.{◌∈◌, here, there, Each}
 use Rattle.dx_ports.proofs.Members.{from_append, in_at}
-use Rattle.dx_instance.specs.Cells.{NumberTable, NumbersAscend, rows_in, numbers_at}
+use Rattle.dx_instance.specs.Cells.{NumberTable, NumbersAscend, rows_of_cells, numbers_at}
 use Rattle.dx_instance.specs.Shown.{AreBelow, renumbered}
 use Rattle.dx_instance.proofs.TableFacts.{numbers_cmp}
 
-pub length_rows : (n w : ℕ) (cells : List ℕ) → length (rows_in n w cells) ≡ n
+pub length_rows : (n w : ℕ) (cells : List ℕ) → length (rows_of_cells n w cells) ≡ n
 length_rows zero w cells = refl
 length_rows (suc n) w cells = ap suc (length_rows n w (drop w cells))
 
-pub row_is : (n w : ℕ) (cells : List ℕ) (p d : ℕ) → p < n → d ≡ p * w → numbers_at (rows_in n w cells) p ≡ take w (drop d cells)
+pub row_is : (n w : ℕ) (cells : List ℕ) (p d : ℕ) → p < n → d ≡ p * w → numbers_at (rows_of_cells n w cells) p ≡ take w (drop d cells)
 row_is zero w cells p d h e = absurd (omega arith)
 row_is (suc n) w cells zero d h e = let z : d ≡ 0 = omega (arith, e) in rw z refl
 row_is (suc n) w cells (suc p) d h e =
     let s : w + p * w ≡ d = omega (arith, e) in
     row_is n w (drop w cells) p (p * w) (omega arith) refl ∙ ap (λ (l : List ℕ). take w l) (drop-drop (p * w) w cells ∙ ap (λ (m : ℕ). drop m cells) s)
 
-rows_more : (n w : ℕ) (cells row : List ℕ) → length cells ≡ n * w → length row ≡ w → rows_in (suc n) w (cells ++ row) ≡ rows_in n w cells ++ row ∷ []
+rows_more : (n w : ℕ) (cells row : List ℕ) → length cells ≡ n * w → length row ≡ w → rows_of_cells (suc n) w (cells ++ row) ≡ rows_of_cells n w cells ++ row ∷ []
 rows_more zero w cells row e l =
     let none : cells ≡ [] = nil_from_length cells (omega (arith, e)) in
     rw none (ap (λ (r : List ℕ). r ∷ []) (take_all w row (omega (arith, l))))
@@ -34,7 +34,7 @@ rows_more (suc n) w cells row e l =
     let rest : length (drop w cells) ≡ n * w = omega (arith, e, length-drop w cells) in
     rw (take-append-le w cells row long, drop-append-le w cells row long) (ap (λ (rs : List (List ℕ)). take w cells ∷ rs) (rows_more n w (drop w cells) row rest l))
 
-pub rows_push : (n w : ℕ) (cells row : List ℕ) → length cells ≡ n * w → length row ≡ w → rows_in (n + 1) w (cells ++ row) ≡ rows_in n w cells ++ row ∷ []
+pub rows_push : (n w : ℕ) (cells row : List ℕ) → length cells ≡ n * w → length row ≡ w → rows_of_cells (n + 1) w (cells ++ row) ≡ rows_of_cells n w cells ++ row ∷ []
 rows_push n w cells row e l = rw add-one (rows_more n w cells row e l)
 
 -- a row lies within the cells
@@ -44,13 +44,13 @@ row_within zero w p h = absurd (omega arith)
 row_within (suc n) w (suc p) h = let r = row_within n w p (omega arith) in omega (arith, r)
 
 -- each row has as many cells as the width
-pub rows_wide : (n w : ℕ) (cells : List ℕ) → length cells ≡ n * w → Each (rows_in n w cells) (λ (r : List ℕ). length r ≡ w)
+pub rows_wide : (n w : ℕ) (cells : List ℕ) → length cells ≡ n * w → Each (rows_of_cells n w cells) (λ (r : List ℕ). length r ≡ w)
 rows_wide zero w cells e r m = elim m [ ]
 rows_wide (suc n) w cells e r (here q) = rw (← q) (length-take-le w cells (omega (arith, e)))
 rows_wide (suc n) w cells e r (there m) = rows_wide n w (drop w cells) (omega (arith, e, length-drop w cells)) r m
 
 -- a cell stands in some row
-in_rows : (n w : ℕ) (cells : List ℕ) (i x : ℕ) → length cells ≡ n * w → i < length cells → x ≡ get_or cells i x → (r : List ℕ) × (r ∈ rows_in n w cells) × (x ∈ r)
+in_rows : (n w : ℕ) (cells : List ℕ) (i x : ℕ) → length cells ≡ n * w → i < length cells → x ≡ get_or cells i x → (r : List ℕ) × (r ∈ rows_of_cells n w cells) × (x ∈ r)
 in_rows zero w cells i x e h q = absurd (omega (arith, e))
 in_rows (suc n) w cells i x e h q = elim (cases_lt i w) [
   | inl b ↦
@@ -63,7 +63,7 @@ in_rows (suc n) w cells i x e h q = elim (cases_lt i w) [
       (r.0, there r.1, r.2)
 ]
 
-pub cell_below : (t : NumberTable) (n w : ℕ) (cells : List ℕ) (i x b : ℕ) → ◌≡◌ {A = NumberTable} (record { width = w; rows = rows_in n w cells }) t → length cells ≡ n * w → Each t.rows (AreBelow b) → i < length cells → x ≡ get_or cells i x → x < b
+pub cell_below : (t : NumberTable) (n w : ℕ) (cells : List ℕ) (i x b : ℕ) → ◌≡◌ {A = NumberTable} (record { width = w; rows = rows_of_cells n w cells }) t → length cells ≡ n * w → Each t.rows (AreBelow b) → i < length cells → x ≡ get_or cells i x → x < b
 cell_below t n w cells i x b v e f h q =
     let r = in_rows n w cells i x e h q in
     f r.0 (subst (λ (u : NumberTable). r.0 ∈ u.rows) v r.1) x r.2
@@ -88,20 +88,20 @@ below_one_more cells i b c h up last f x m = elim (from_append (take i cells) (s
 ]
 
 -- what holds of all cells holds of the cells of each row
-pub rows_below : (n w b : ℕ) (cells : List ℕ) → AreBelow b cells → Each (rows_in n w cells) (AreBelow b)
+pub rows_below : (n w b : ℕ) (cells : List ℕ) → AreBelow b cells → Each (rows_of_cells n w cells) (AreBelow b)
 rows_below zero w b cells f r m = elim m [ ]
 rows_below (suc n) w b cells f r (here e) = rw (← e) (λ x h. f x (from_take w cells h))
 rows_below (suc n) w b cells f r (there m) = rows_below n w b (drop w cells) (λ x h. f x (from_drop w cells h)) r m
 
-rows_map : (f : ℕ → ℕ) (n w : ℕ) (cells : List ℕ) → rows_in n w (map f cells) ≡ map (λ (r : List ℕ). map f r) (rows_in n w cells)
+rows_map : (f : ℕ → ℕ) (n w : ℕ) (cells : List ℕ) → rows_of_cells n w (map f cells) ≡ map (λ (r : List ℕ). map f r) (rows_of_cells n w cells)
 rows_map f zero w cells = refl
 rows_map f (suc n) w cells =
-    let rest = ap (λ (l : List ℕ). rows_in n w l) (drop-map f w cells) ∙ rows_map f n w (drop w cells) in
+    let rest = ap (λ (l : List ℕ). rows_of_cells n w l) (drop-map f w cells) ∙ rows_map f n w (drop w cells) in
     let first = take-map f w cells in
     cc (first, rest)
 
-pub renumbered_is : (t : NumberTable) (n w : ℕ) (cells ranks : List ℕ) → ◌≡◌ {A = NumberTable} (record { width = w; rows = rows_in n w cells }) t
-    → ◌≡◌ {A = NumberTable} (record { width = w; rows = rows_in n w (map (λ (x : ℕ). get_or ranks x 0) cells) }) (renumbered ranks t)
+pub renumbered_is : (t : NumberTable) (n w : ℕ) (cells ranks : List ℕ) → ◌≡◌ {A = NumberTable} (record { width = w; rows = rows_of_cells n w cells }) t
+    → ◌≡◌ {A = NumberTable} (record { width = w; rows = rows_of_cells n w (map (λ (x : ℕ). get_or ranks x 0) cells) }) (renumbered ranks t)
 renumbered_is t n w cells ranks v =
     rw (← v) (ap (λ (rs : List (List ℕ)). let u : NumberTable = record { width = w; rows = rs } in u) (rows_map (λ (x : ℕ). get_or ranks x 0) n w cells))
 

@@ -11,7 +11,7 @@ use Rattle.std.proofs.lemmas.List.MinMax.{ranks_by}
 use Rattle.std.proofs.lemmas.List.Sorted.{All-permutation, Contains-permutation, sorted_far}
 use Rattle.dx_ports.specs.Members.{Each}
 use Rattle.dx_ports.proofs.Ranges.{nat_self, nat_less}
-use Rattle.dx_instance.specs.Indexes.{IsIndex, NoNumber, entry_at, number_in}
+use Rattle.dx_instance.specs.Indexes.{IsColumnIndex, NoNumber, entry_at, number_in}
 use Rattle.dx_instance.specs.declared.column_index.ColumnIndex.{ColumnIndex}
 
 -- the first n rows, each with its number
@@ -47,7 +47,7 @@ not_below x y f = elim (cases_lt x.0 y.0) [
 ]
 
 -- what a sort of the listed rows comes to
-pub index_is : (rows : List (List ℕ)) (es : List (ℕ × ℕ)) (x : ColumnIndex) → Listed rows x.column es (length rows) → IsPermutation es x.entries.items → IsSorted pair_cmp x.entries.items → IsIndex rows x
+pub index_is : (rows : List (List ℕ)) (es : List (ℕ × ℕ)) (x : ColumnIndex) → Listed rows x.column es (length rows) → IsPermutation es x.entries.items → IsSorted pair_cmp x.entries.items → IsColumnIndex rows x
 index_is rows es x l p s = record { each = λ k h. each k (0, 0) h; all = all; up = up }
   where
     Is : ℕ × ℕ → Type 0
@@ -110,7 +110,7 @@ not_before number from e h = (first, second)
     second q = elim (cases_lt e.1 from) [ inl k ↦ absurd (no (inr (q, k))) | inr k ↦ k ]
 
 -- entries before come first
-pub parted : (rows : List (List ℕ)) (x : ColumnIndex) (number from : ℕ) → IsIndex rows x → IsPartitionedBy (test number from) x.entries.items
+pub parted : (rows : List (List ℕ)) (x : ColumnIndex) (number from : ℕ) → IsColumnIndex rows x → IsPartitionedBy (test number from) x.entries.items
 parted rows x number from is i j d h b t =
     let ib : i < length x.entries.items = omega (arith, h, b) in
     let ei = get_or_default x.entries.items i d (0, 0) ib in
@@ -122,7 +122,7 @@ parted rows x number from is i j d h b t =
     ]))
 
 -- an entry for a place with the number, from a place on, stands after the first
-behind : (rows : List (List ℕ)) (x : ColumnIndex) (number from first p : ℕ) → IsIndex rows x → IsPartitionPoint (λ y. test number from y ≡ true) (λ y. test number from y ≡ false) x.entries.items first
+behind : (rows : List (List ℕ)) (x : ColumnIndex) (number from first p : ℕ) → IsColumnIndex rows x → IsPartitionPoint (λ y. test number from y ≡ true) (λ y. test number from y ≡ false) x.entries.items first
     → from ≤ p → p < length rows → number_in rows x.column p ≡ number → (k : ℕ) × (first ≤ k) × (k < length x.entries.items) × ((entry_at x k).1 ≡ p) × ((entry_at x k).0 ≡ number)
 behind rows x number from first p is parts l h e =
     let k = is.all p h in
@@ -133,7 +133,7 @@ behind rows x number from first p is parts l h e =
     ] in
     (k.0, after, k.1, k.2, value)
 
-pub next_some : (rows : List (List ℕ)) (x : ColumnIndex) (number from first : ℕ) → IsIndex rows x → IsPartitionPoint (λ y. test number from y ≡ true) (λ y. test number from y ≡ false) x.entries.items first
+pub next_some : (rows : List (List ℕ)) (x : ColumnIndex) (number from first : ℕ) → IsColumnIndex rows x → IsPartitionPoint (λ y. test number from y ≡ true) (λ y. test number from y ≡ false) x.entries.items first
     → first < length x.entries.items → (entry_at x first).0 ≡ number
     → (from ≤ (entry_at x first).1) × ((entry_at x first).1 < length rows) × (number_in rows x.column (entry_at x first).1 ≡ number) × NoNumber rows x.column number from (entry_at x first).1
 next_some rows x number from first is parts h e =
@@ -147,7 +147,7 @@ next_some rows x number from first is parts h e =
           elim (is.up first k.0 k.1 k.2) [ inl c ↦ omega (arith, c, e, k.4) | inr c ↦ omega (arith, c.1, k.3, b) ],
     )
 
-pub next_none : (rows : List (List ℕ)) (x : ColumnIndex) (number from first : ℕ) → IsIndex rows x → IsPartitionPoint (λ y. test number from y ≡ true) (λ y. test number from y ≡ false) x.entries.items first
+pub next_none : (rows : List (List ℕ)) (x : ColumnIndex) (number from first : ℕ) → IsColumnIndex rows x → IsPartitionPoint (λ y. test number from y ≡ true) (λ y. test number from y ≡ false) x.entries.items first
     → (first < length x.entries.items → ¬ ((entry_at x first).0 ≡ number)) → NoNumber rows x.column number from (length rows)
 next_none rows x number from first is parts n p l b q =
     let k = behind rows x number from first p is parts l b q in
@@ -156,5 +156,5 @@ next_none rows x number from first is parts n p l b q =
     elim (is.up first k.0 k.1 k.2) [ inl c ↦ omega (arith, c, k.4, low) | inr c ↦ n h (c.0 ∙ k.4) ]
 
 -- no indexes
-pub no_index : (xs : List ColumnIndex) (rows : List (List ℕ)) → xs ≡ [] → Each xs (IsIndex rows)
+pub no_index : (xs : List ColumnIndex) (rows : List (List ℕ)) → xs ≡ [] → Each xs (IsColumnIndex rows)
 no_index xs rows e = rw e (λ x m. elim m [ ])

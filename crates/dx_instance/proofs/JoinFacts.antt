@@ -9,12 +9,12 @@ use Rattle.dx_ports.specs.Members.{Each}
 use Rattle.dx_ports.proofs.Members.{in_at}
 use Rattle.dx_instance.specs.Numbers.{value_of}
 use Rattle.dx_instance.specs.Keys.{places_of}
-use Rattle.dx_instance.specs.Ranks.{AreEnds, LiesIn, joined_texts, text_of, texts_before}
+use Rattle.dx_instance.specs.Ranks.{AreEnds, LiesInBuffer, joined_texts, text_of_value, texts_before}
 use Rattle.dx_instance.proofs.RankFacts.{number_read}
 
-joined_more : (vs : List Value) (v : Value) → joined_texts (vs ++ v ∷ []) ≡ joined_texts vs ++ text_of v
-joined_more [] v = append-nil (text_of v)
-joined_more (w ∷ vs) v = ap (λ (t : List ℕ). text_of w ++ t) (joined_more vs v) ∙ sym (append_assoc (text_of w) (joined_texts vs) (text_of v))
+joined_more : (vs : List Value) (v : Value) → joined_texts (vs ++ v ∷ []) ≡ joined_texts vs ++ text_of_value v
+joined_more [] v = append-nil (text_of_value v)
+joined_more (w ∷ vs) v = ap (λ (t : List ℕ). text_of_value w ++ t) (joined_more vs v) ∙ sym (append_assoc (text_of_value w) (joined_texts vs) (text_of_value v))
 
 abbrev pub values_at : List Value → List (ℕ × ℕ) → List Value
 values_at S keys = map (value_of S) (places_of keys)
@@ -29,9 +29,9 @@ value_more S keys i v h w =
     ap (λ (l : List ℕ). map (value_of S) l) one ∙ map-append (value_of S) (places_of (take i keys)) ((key_at keys i).1 ∷ []) ∙ ap (λ (x : Value). values_at S (take i keys) ++ x ∷ []) (sym w)
 
 pub text_more : (S : List Value) (keys : List (ℕ × ℕ)) (i : ℕ) (v : Value) (buffer new : List ℕ) → i < length keys → v ≡ value_of S (key_at keys i).1
-    → buffer ≡ joined_texts (values_at S (take i keys)) → new ≡ buffer ++ text_of v → new ≡ joined_texts (values_at S (take (i + 1) keys))
+    → buffer ≡ joined_texts (values_at S (take i keys)) → new ≡ buffer ++ text_of_value v → new ≡ joined_texts (values_at S (take (i + 1) keys))
 text_more S keys i v buffer new h w b n =
-    n ∙ ap (λ (t : List ℕ). t ++ text_of v) b ∙ sym (joined_more (values_at S (take i keys)) v) ∙ ap joined_texts (sym (value_more S keys i v h w))
+    n ∙ ap (λ (t : List ℕ). t ++ text_of_value v) b ∙ sym (joined_more (values_at S (take i keys)) v) ∙ ap joined_texts (sym (value_more S keys i v h w))
 
 -- the place of a key is a number
 pub key_below : (n : ℕ) (keys : List (ℕ × ℕ)) (i : ℕ) → Each (places_of keys) (λ (x : ℕ). x < n) → i < length keys → (key_at keys i).1 < n
@@ -42,7 +42,7 @@ key_below n keys i f h =
     omega (arith, b, r)
 
 -- one end more
-pub ends_more : (S : List Value) (keys : List (ℕ × ℕ)) (ends new : List ℕ) (i e : ℕ) → new ≡ ends ++ e ∷ [] → e ≡ length (texts_before S keys (i + 1)) → IsUtf8 (text_of (value_of S (key_at keys i).1))
+pub ends_more : (S : List Value) (keys : List (ℕ × ℕ)) (ends new : List ℕ) (i e : ℕ) → new ≡ ends ++ e ∷ [] → e ≡ length (texts_before S keys (i + 1)) → IsUtf8 (text_of_value (value_of S (key_at keys i).1))
     → AreEnds S keys ends i → AreEnds S keys new (i + 1)
 ends_more S keys ends new i e n q u a = rw n (record {
   many = length_push ends e ∙ ap (λ (m : ℕ). m + 1) a.many;
@@ -52,14 +52,14 @@ ends_more S keys ends new i e n q u a = rw n (record {
 
 joined_append : (vs ws : List Value) → joined_texts (vs ++ ws) ≡ joined_texts vs ++ joined_texts ws
 joined_append [] ws = refl
-joined_append (v ∷ vs) ws = ap (λ (t : List ℕ). text_of v ++ t) (joined_append vs ws) ∙ sym (append_assoc (text_of v) (joined_texts vs) (joined_texts ws))
+joined_append (v ∷ vs) ws = ap (λ (t : List ℕ). text_of_value v ++ t) (joined_append vs ws) ∙ sym (append_assoc (text_of_value v) (joined_texts vs) (joined_texts ws))
 
 values_append : (S : List Value) (a b : List (ℕ × ℕ)) → values_at S (a ++ b) ≡ values_at S a ++ values_at S b
 values_append S a b = ap (λ (l : List ℕ). map (value_of S) l) (map-append (λ (k : ℕ × ℕ). k.1) a b) ∙ map-append (value_of S) (places_of a) (places_of b)
 
 -- all texts: those before a key, its own, and those after it
 split_at : (S : List Value) (keys : List (ℕ × ℕ)) (i : ℕ) → i < length keys
-    → joined_texts (values_at S keys) ≡ texts_before S keys i ++ (text_of (value_of S (key_at keys i).1) ++ joined_texts (values_at S (drop (i + 1) keys)))
+    → joined_texts (values_at S keys) ≡ texts_before S keys i ++ (text_of_value (value_of S (key_at keys i).1) ++ joined_texts (values_at S (drop (i + 1) keys)))
 split_at S keys i h =
     ap (λ (l : List (ℕ × ℕ)). joined_texts (values_at S l)) (sym (take-append-drop i keys))
     ∙ ap joined_texts (values_append S (take i keys) (drop i keys))
@@ -68,10 +68,10 @@ split_at S keys i h =
 
 -- where the text of the next value lies in the buffer
 pub lies_next : (S : List Value) (keys : List (ℕ × ℕ)) (ends : List ℕ) (i start : ℕ) (buffer : List ℕ) → i < length keys → buffer ≡ joined_texts (values_at S keys) → start ≡ length (texts_before S keys i)
-    → AreEnds S keys ends (length keys) → LiesIn buffer start (get_or ends i 0) (text_of (value_of S (key_at keys i).1))
+    → AreEnds S keys ends (length keys) → LiesInBuffer buffer start (get_or ends i 0) (text_of_value (value_of S (key_at keys i).1))
 lies_next S keys ends i start buffer h b s a =
     let v = value_of S (key_at keys i).1 in
-    let t = text_of v in
+    let t = text_of_value v in
     let before = texts_before S keys i in
     let after = joined_texts (values_at S (drop (i + 1) keys)) in
     let whole : buffer ≡ before ++ (t ++ after) = b ∙ split_at S keys i h in
@@ -92,9 +92,9 @@ lies_next S keys ends i start buffer h b s a =
     }
 
 -- a value that has bytes is a constant
-pub has_bytes : (v : Value) → 0 < length (text_of v) → v ≡ Const (text_of v)
+pub has_bytes : (v : Value) → 0 < length (text_of_value v) → v ≡ Const (text_of_value v)
 has_bytes (Const t) h = refl
 has_bytes (Null n) h = absurd (omega (arith, h))
 
-pub constant_is : (v : Value) (t : List ℕ) → v ≡ Const t → v ≡ Const (text_of v)
-constant_is v t e = e ∙ ap (λ (x : List ℕ). Const x) (ap text_of (sym e))
+pub constant_is : (v : Value) (t : List ℕ) → v ≡ Const t → v ≡ Const (text_of_value v)
+constant_is v t e = e ∙ ap (λ (x : List ℕ). Const x) (ap text_of_value (sym e))

@@ -13,7 +13,7 @@ use Rattle.std.proofs.Math.Nat.{mul-le-mul_right, pow-suc, pow-le-pow_right}
 use Rattle.std.proofs.lemmas.Cmp.{nat_list_cmp_total}
 use Rattle.dx_instance.specs.Cells.{AreInOrder, numbers_at}
 use Rattle.dx_instance.proofs.OrderFacts.{places_ordered}
-use Rattle.dx_instance.specs.Keys.{packed, AreSmall, HasRoom, places_of, AreKeyed, RowsAreKeyed}
+use Rattle.dx_instance.specs.Keys.{packed, AreSmall, DigitsFit, places_of, AreKeyed, RowsAreKeyed}
 use Rattle.dx_instance.specs.Shown.{AreBelow}
 use Rattle.dx_ports.specs.Members.{here, there}
 use Rattle.dx_ports.proofs.Ranges.{nat_self, nat_less}
@@ -175,7 +175,7 @@ digit_more b n i key digit xs h e r =
     ap (λ (k : ℕ). packed b k key (drop i xs)) m ∙ one ∙ (λ j. packed b (n - (i + 1)) (key * b + head j) (drop-drop 1 i xs j)) in
     sym whole ∙ r
 
-pub digit_fits : (b n i key digit : ℕ) → HasRoom b n → i < n → key < b ^ i → digit < b → (key * b + digit < b ^ (i + 1)) × (key * b + digit < 2 ^ 64)
+pub digit_fits : (b n i key digit : ℕ) → DigitsFit b n → i < n → key < b ^ i → digit < b → (key * b + digit < b ^ (i + 1)) × (key * b + digit < 2 ^ 64)
 digit_fits b n i key digit room h k d =
     let s : b ^ (i + 1) ≡ b ^ i * b = ap (λ (m : ℕ). b ^ m) (add-one i) ∙ pow-suc b i in
     let most : b ^ (i + 1) ≤ b ^ n = pow-le-pow_right {n = b} room.some {i = i + 1} {j = n} (omega (arith, h)) in
@@ -186,7 +186,7 @@ digit_fits b n i key digit room h k d =
     suc_below : {x y : ℕ} → x < y → x + 1 ≤ y
     suc_below k = omega (arith, k)
 
-bytes_fit : HasRoom 256 8
+bytes_fit : DigitsFit 256 8
 bytes_fit = record { some = omega arith; fits = omega arith }
 
 pub byte_more : (text : List ℕ) (i key byte : ℕ) → i < 8 → byte ≡ slice_index text i → packed 256 (8 - i) key (drop i text) ≡ packed 256 8 0 text → packed 256 (8 - (i + 1)) (key * 256 + byte) (drop (i + 1) text) ≡ packed 256 8 0 text

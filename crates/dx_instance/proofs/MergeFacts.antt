@@ -17,7 +17,7 @@ use Rattle.dx_model.proofs.Maps.{same_null-refl, same_null-true}
 use Rattle.dx_model.proofs.Orders.{null_total, null_exact}
 use Rattle.dx_ports.specs.Members.{◌∈◌, Each, here, there}
 use Rattle.dx_ports.proofs.Members.{contains_from_in, from_append, in_left, in_right, in_at}
-use Rattle.dx_instance.specs.NullMaps.{IsTurn, NoPairIsItself, PairsAscend, entries_in, is_itself, with_proper}
+use Rattle.dx_instance.specs.NullMaps.{IsMergeStep, NoPairIsItself, PairsAscend, entries_in, is_itself, with_proper}
 use Rattle.dx_instance.proofs.AfterFacts.{itself}
 
 itself_equal : (n : NullId) → null_cmp n n ≡ Equal
@@ -85,7 +85,7 @@ forward xs ys y n all = elim (cases_Bool (same_null y.null n)) [
     passed [] a t = rw t refl
     passed (z ∷ zs) a t = let f = not_same n z.null (a z (here refl)) in rw f (passed zs (λ q i. a q (there i)) t)
 
-second_alone : (y : NullPair) (ys : List NullPair) → PairsAscend (y ∷ ys) → IsTurn [] (y ∷ ys) y [] ys
+second_alone : (y : NullPair) (ys : List NullPair) → PairsAscend (y ∷ ys) → IsMergeStep [] (y ∷ ys) y [] ys
 second_alone y ys up = record {
   fewer = omega arith;
   ascend = (tt, up.1);
@@ -95,7 +95,7 @@ second_alone y ys up = record {
   gives = λ n. refl;
 }
 
-first_alone : (x : NullPair) (xs : List NullPair) → PairsAscend (x ∷ xs) → IsTurn (x ∷ xs) [] x xs []
+first_alone : (x : NullPair) (xs : List NullPair) → PairsAscend (x ∷ xs) → IsMergeStep (x ∷ xs) [] x xs []
 first_alone x xs up = record {
   fewer = omega arith;
   ascend = (up.1, tt);
@@ -105,7 +105,7 @@ first_alone x xs up = record {
   gives = λ n. refl;
 }
 
-first_less : (x y : NullPair) (xs ys : List NullPair) → PairsAscend (x ∷ xs) → PairsAscend (y ∷ ys) → null_cmp x.null y.null ≡ Less → IsTurn (x ∷ xs) (y ∷ ys) x xs (y ∷ ys)
+first_less : (x y : NullPair) (xs ys : List NullPair) → PairsAscend (x ∷ xs) → PairsAscend (y ∷ ys) → null_cmp x.null y.null ≡ Less → IsMergeStep (x ∷ xs) (y ∷ ys) x xs (y ∷ ys)
 first_less x y xs ys up on l = record {
   fewer = omega arith;
   ascend = (up.1, on);
@@ -115,7 +115,7 @@ first_less x y xs ys up on l = record {
   gives = λ n. refl;
 }
 
-both_same : (x y : NullPair) (xs ys : List NullPair) → PairsAscend (x ∷ xs) → PairsAscend (y ∷ ys) → null_cmp x.null y.null ≡ Equal → IsTurn (x ∷ xs) (y ∷ ys) x xs ys
+both_same : (x y : NullPair) (xs ys : List NullPair) → PairsAscend (x ∷ xs) → PairsAscend (y ∷ ys) → null_cmp x.null y.null ≡ Equal → IsMergeStep (x ∷ xs) (y ∷ ys) x xs ys
 both_same x y xs ys up on l = record {
   fewer = omega (arith, length-append xs ys, length-append xs (y ∷ ys));
   ascend = (up.1, on.1);
@@ -131,7 +131,7 @@ both_same x y xs ys up on l = record {
       | inr f ↦ let e : same_null y.null n ≡ false = subst (λ (m : NullId). same_null m n ≡ false) (null_exact x.null y.null l) f in rw f (without xs ys y n e)
     ]
 
-second_less : (x y : NullPair) (xs ys : List NullPair) → PairsAscend (x ∷ xs) → PairsAscend (y ∷ ys) → null_cmp x.null y.null ≡ Greater → IsTurn (x ∷ xs) (y ∷ ys) y (x ∷ xs) ys
+second_less : (x y : NullPair) (xs ys : List NullPair) → PairsAscend (x ∷ xs) → PairsAscend (y ∷ ys) → null_cmp x.null y.null ≡ Greater → IsMergeStep (x ∷ xs) (y ∷ ys) y (x ∷ xs) ys
 second_less x y xs ys up on g =
     let l = below x.null y.null g in
     let all = first_each (λ (p : NullPair). null_cmp y.null p.null ≡ Less) x xs l (below_all y.null x.null xs l up.0) in
@@ -144,19 +144,19 @@ second_less x y xs ys up on g =
       gives = λ n. forward (x ∷ xs) ys y n all;
     }
 
-pub turn_none : (first second ys : List NullPair) (y : NullPair) → length first ≡ 0 → second ≡ y ∷ ys → PairsAscend second → IsTurn first second y first ys
+pub turn_none : (first second ys : List NullPair) (y : NullPair) → length first ≡ 0 → second ≡ y ∷ ys → PairsAscend second → IsMergeStep first second y first ys
 turn_none first second ys y z f up = let e = nil_from_length first z in rw (e, f) (second_alone y ys (rw f at up))
 
-pub turn_first : (first second xs : List NullPair) (x : NullPair) → first ≡ x ∷ xs → length second ≡ 0 → PairsAscend first → IsTurn first second x xs second
+pub turn_first : (first second xs : List NullPair) (x : NullPair) → first ≡ x ∷ xs → length second ≡ 0 → PairsAscend first → IsMergeStep first second x xs second
 turn_first first second xs x f z up = let e = nil_from_length second z in rw (e, f) (first_alone x xs (rw f at up))
 
-pub turn_less : (first second xs ys : List NullPair) (x y : NullPair) → first ≡ x ∷ xs → second ≡ y ∷ ys → PairsAscend first → PairsAscend second → null_cmp x.null y.null ≡ Less → IsTurn first second x xs second
+pub turn_less : (first second xs ys : List NullPair) (x y : NullPair) → first ≡ x ∷ xs → second ≡ y ∷ ys → PairsAscend first → PairsAscend second → null_cmp x.null y.null ≡ Less → IsMergeStep first second x xs second
 turn_less first second xs ys x y e f up on l = rw (e, f) (first_less x y xs ys (rw e at up) (rw f at on) l)
 
-pub turn_same : (first second xs ys : List NullPair) (x y : NullPair) → first ≡ x ∷ xs → second ≡ y ∷ ys → PairsAscend first → PairsAscend second → null_cmp x.null y.null ≡ Equal → IsTurn first second x xs ys
+pub turn_same : (first second xs ys : List NullPair) (x y : NullPair) → first ≡ x ∷ xs → second ≡ y ∷ ys → PairsAscend first → PairsAscend second → null_cmp x.null y.null ≡ Equal → IsMergeStep first second x xs ys
 turn_same first second xs ys x y e f up on l = rw (e, f) (both_same x y xs ys (rw e at up) (rw f at on) l)
 
-pub turn_greater : (first second xs ys : List NullPair) (x y : NullPair) → first ≡ x ∷ xs → second ≡ y ∷ ys → PairsAscend first → PairsAscend second → null_cmp x.null y.null ≡ Greater → IsTurn first second y first ys
+pub turn_greater : (first second xs ys : List NullPair) (x y : NullPair) → first ≡ x ∷ xs → second ≡ y ∷ ys → PairsAscend first → PairsAscend second → null_cmp x.null y.null ≡ Greater → IsMergeStep first second y first ys
 turn_greater first second xs ys x y e f up on l = rw (e, f) (second_less x y xs ys (rw e at up) (rw f at on) l)
 
 -- what is done of a merging, and what is left
@@ -198,7 +198,7 @@ skipped p ps n i all = elim (cases_Bool (same_null p.null n)) [
 
 -- one pair more
 pub merging_goes_on : (first second all new rest others less fewer : List NullPair) (pair : NullPair) (v : Value) → v ≡ pair.value → IsMerging first second all rest others
-    → IsTurn rest others pair less fewer → new ≡ with_proper all pair.null v → IsMerging first second new less fewer
+    → IsMergeStep rest others pair less fewer → new ≡ with_proper all pair.null v → IsMerging first second new less fewer
 merging_goes_on first second all new rest others less fewer pair v same m t e = elim (cases_Bool (is_itself pair.null pair.value)) [
   | inl i ↦ rw (e, same, i) (record {
     ascend = t.ascend;

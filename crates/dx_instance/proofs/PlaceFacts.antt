@@ -6,7 +6,7 @@ use Rattle.std.proofs.Common.{count_by, true, false}
 use Rattle.std.proofs.lemmas.Bool.{cases_Bool, cases_lt}
 use Rattle.std.proofs.lemmas.List.Sums.{count_by_more_yes, count_by_more_no}
 use Rattle.dx_model.specs.Tables.{cell}
-use Rattle.dx_instance.specs.Indexes.{IsNext, NoNumber}
+use Rattle.dx_instance.specs.Indexes.{IsNextWithNumber, NoNumber}
 use Rattle.dx_instance.specs.Places.{HasValues, NoneWith}
 use Rattle.dx_model.specs.Covers.{same_value}
 use Rattle.dx_instance.proofs.NumberFacts.{there_at}
@@ -157,7 +157,7 @@ IsNextValue I n col x a o = MatchOption o (NoValue I n col x a (length (rows_of 
 
 -- what the next row with a number is for the value under it
 pub next_value : (S : List Value) (ts : List NumberTable) (I : List TableRows) (n col number a : ℕ) (t : NumberTable) (x : Value) (o : Option ℕ) → PartsFit S ts → shown_tables S ts ≡ I → n < length I → t ≡ get_or ts n t → col < (table_at I n).width
-    → (number < length S) × (value_of S number ≡ x) → IsNext t.rows col number a o → IsNextValue I n col x a o
+    → (number < length S) × (value_of S number ≡ x) → IsNextWithNumber t.rows col number a o → IsNextValue I n col x a o
 next_value S ts I n col number a t x o f v h r w k = by o
   where
     many : length (rows_of I n) ≡ length t.rows
@@ -166,7 +166,7 @@ next_value S ts I n col number a t x o f v h r w k = by o
     none : (b : ℕ) → b ≤ length (rows_of I n) → NoNumber t.rows col number a b → NoValue I n col x a b
     none b l m p g c e = m p g c (number_known S ts I n p col number t (numbers_at t.rows p) x f v h r (omega (arith, c, l)) w refl k.0 k.1 e)
 
-    by : (q : Option ℕ) → IsNext t.rows col number a q → IsNextValue I n col x a q
+    by : (q : Option ℕ) → IsNextWithNumber t.rows col number a q → IsNextValue I n col x a q
     by None m = none (length (rows_of I n)) (omega arith) (subst (λ (b : ℕ). NoNumber t.rows col number a b) (sym many) m)
     by (Some p) m =
         let b : p < length (rows_of I n) = omega (arith, m.1, many) in

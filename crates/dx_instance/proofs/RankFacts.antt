@@ -13,8 +13,8 @@ use Rattle.dx_model.specs.Values.{value_cmp}
 use Rattle.dx_model.proofs.Orders.{value_total, value_exact}
 use Rattle.dx_ports.specs.Members.{◌∈◌}
 use Rattle.dx_ports.proofs.Members.{in_from_contains}
-use Rattle.dx_instance.specs.Numbers.{AreApart, ValuesAscend, value_of}
-use Rattle.dx_instance.specs.Keys.{AreSecondsOrNone, AreSorted, IsKeyIn, IsKeyed, IsRepeat, IsRise, IsSmallValue, NumbersAreKeyed, ValuesAreKeyed, places_of, value_key}
+use Rattle.dx_instance.specs.Numbers.{AreDistinctValues, ValuesAscend, value_of}
+use Rattle.dx_instance.specs.Keys.{AreSecondsOrNone, AreSorted, IsKeyIn, IsKeyAndPlace, IsRepeat, IsRise, IsSmallValue, NumbersAreKeyed, ValuesAreKeyed, places_of, value_key}
 use Rattle.dx_instance.specs.Ranks.{AreLengths}
 use Rattle.dx_instance.proofs.NumberFacts.{self_equal}
 use Rattle.dx_instance.proofs.KeyFacts.{IsKeyOf, keys_sorted, rises}
@@ -30,7 +30,7 @@ same_or_not m n = elim (cases_lt m n) [
 ]
 
 -- ascending values are distinct
-pub ascend_apart : (xs : List Value) → ValuesAscend xs → AreApart xs
+pub ascend_apart : (xs : List Value) → ValuesAscend xs → AreDistinctValues xs
 ascend_apart xs up i j d h k e =
     let l = up i j d h k in
     let s = self_equal (get_or xs j d) in
@@ -146,9 +146,9 @@ first_or_repeat S keys i b s h z same = by b same
 
 -- a sort keeps the keys of the numbers
 pub keys_moved : (S : List Value) (ks qs : List (ℕ × ℕ)) → ValuesAreKeyed S ks (length S) → IsPermutation ks qs → NumbersAreKeyed S qs
-keys_moved S ks qs keyed p k h = All-permutation (λ (q : ℕ × ℕ). IsKeyed (value_of S) value_key IsSmallValue q.1 q) ks qs p each k (0, 0) h
+keys_moved S ks qs keyed p k h = All-permutation (λ (q : ℕ × ℕ). IsKeyAndPlace (value_of S) value_key IsSmallValue q.1 q) ks qs p each k (0, 0) h
   where
-    each : All (λ (q : ℕ × ℕ). IsKeyed (value_of S) value_key IsSmallValue q.1 q) ks
+    each : All (λ (q : ℕ × ℕ). IsKeyAndPlace (value_of S) value_key IsSmallValue q.1 q) ks
     each i d b =
         let one = keyed.all i (omega (arith, b, keyed.many)) in
         let same = get_or_default ks i d (0, 0) b in

@@ -18,8 +18,8 @@ use Rattle.std.proofs.lemmas.Map.Keys.{IsStrictlyIncreasing-dedup}
 use Rattle.std.proofs.lemmas.Nat.{mod_low, mul-add-lt, pow-add, pow_pos, shr_high}
 use Rattle.dx_ports.specs.Members.{◌∈◌, ◌⊆◌, here, there, Each}
 use Rattle.dx_ports.proofs.Members.{contains_from_in, from_map, in_at, in_from_contains, in_map}
-use Rattle.dx_instance.specs.Cells.{IsOrderOf, NumberTable, NumbersAscend, rows_in}
-use Rattle.dx_instance.specs.Keys.{HasBits, HasRoom, packed, unpacked}
+use Rattle.dx_instance.specs.Cells.{IsOrderOf, NumberTable, NumbersAscend, rows_of_cells}
+use Rattle.dx_instance.specs.Keys.{HasBits, DigitsFit, packed, unpacked}
 use Rattle.dx_instance.specs.Shown.{AreBelow}
 use Rattle.dx_instance.proofs.CellFacts.{rows_push}
 use Rattle.dx_instance.proofs.KeyFacts.{below_more_bound, below_small, rises}
@@ -33,7 +33,7 @@ power_of_power : (c n : ℕ) → (2 ^ c) ^ n ≡ 2 ^ (c * n)
 power_of_power c zero = let z : c * 0 ≡ 0 = omega arith in pow-zero (2 ^ c) ∙ sym (pow-zero 2) ∙ ap (λ (m : ℕ). 2 ^ m) (sym z)
 power_of_power c (suc n) = pow-suc (2 ^ c) n ∙ ap (λ (m : ℕ). m * 2 ^ c) (power_of_power c n) ∙ sym (bits_more c n)
 
-pub bits_room : (c n : ℕ) → HasBits c n → HasRoom (2 ^ c) n
+pub bits_room : (c n : ℕ) → HasBits c n → DigitsFit (2 ^ c) n
 bits_room c n h = record {
   some = pow_pos c;
   fits = let m : 2 ^ (c * n) ≤ 2 ^ 64 = pow_mono h.fits in let e = power_of_power c n in omega (arith, m, e);
@@ -170,7 +170,7 @@ each_below b c rows h f r m = below_more_bound b c r h (f r m)
 -- the first i rows lie in the cells
 pub record AreUnpacked (c w : ℕ) (keys cells : List ℕ) (i : ℕ) : Type 0 where
   pub many : length cells ≡ i * w
-  pub rows : rows_in i w cells ≡ map (unpacked c w) (take i keys)
+  pub rows : rows_of_cells i w cells ≡ map (unpacked c w) (take i keys)
 
 pub are_unpacked_more : (c w : ℕ) (keys cells more : List ℕ) (i key : ℕ) → i < length keys → key ≡ get_or keys i 0 → more ≡ cells ++ unpacked c w key → AreUnpacked c w keys cells i → AreUnpacked c w keys more (i + 1)
 are_unpacked_more c w keys cells more i key h k m a =
@@ -181,9 +181,9 @@ are_unpacked_more c w keys cells more i key h k m a =
     })
 
 -- all rows lie in the cells
-pub all_unpacked : (c w u v i : ℕ) (keys cells : List ℕ) (t : NumberTable) → i ≡ length keys → w ≡ u → u ≡ v → rows_in i w cells ≡ map (unpacked c w) (take i keys) → ◌≡◌ {A = NumberTable} t (record { width = u; rows = rows_in (length keys) u cells })
+pub all_unpacked : (c w u v i : ℕ) (keys cells : List ℕ) (t : NumberTable) → i ≡ length keys → w ≡ u → u ≡ v → rows_of_cells i w cells ≡ map (unpacked c w) (take i keys) → ◌≡◌ {A = NumberTable} t (record { width = u; rows = rows_of_cells (length keys) u cells })
     → ◌≡◌ {A = NumberTable} t (record { width = v; rows = map (unpacked c w) keys })
 all_unpacked c w u v i keys cells t k e f r q =
-    let rows : rows_in (length keys) u cells ≡ map (unpacked c w) keys =
-    ap (λ (n : ℕ). rows_in n u cells) (sym k) ∙ ap (λ (n : ℕ). rows_in i n cells) (sym e) ∙ r ∙ ap (λ (l : List ℕ). map (unpacked c w) l) (take_all i keys (omega (arith, k))) in
-    q ∙ ap (λ (n : ℕ). let x : NumberTable = record { width = n; rows = rows_in (length keys) u cells } in x) f ∙ ap (λ (rs : List (List ℕ)). let x : NumberTable = record { width = v; rows = rs } in x) rows
+    let rows : rows_of_cells (length keys) u cells ≡ map (unpacked c w) keys =
+    ap (λ (n : ℕ). rows_of_cells n u cells) (sym k) ∙ ap (λ (n : ℕ). rows_of_cells i n cells) (sym e) ∙ r ∙ ap (λ (l : List ℕ). map (unpacked c w) l) (take_all i keys (omega (arith, k))) in
+    q ∙ ap (λ (n : ℕ). let x : NumberTable = record { width = n; rows = rows_of_cells (length keys) u cells } in x) f ∙ ap (λ (rs : List (List ℕ)). let x : NumberTable = record { width = v; rows = rs } in x) rows

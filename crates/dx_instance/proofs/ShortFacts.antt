@@ -12,7 +12,7 @@ use Rattle.dx_model.specs.Values.{value_cmp}
 use Rattle.dx_ports.proofs.Ranges.{nat_self}
 use Rattle.dx_instance.specs.Keys.{AreSmall, IsSmallValue, packed, value_key}
 use Rattle.dx_instance.specs.Numbers.{value_of}
-use Rattle.dx_instance.specs.Ranks.{AreLengths, HasBytes, IsLong, IsShortLength, text_of}
+use Rattle.dx_instance.specs.Ranks.{AreLengths, HasBytes, IsLong, IsShortLength, text_of_value}
 use Rattle.dx_instance.proofs.TableFacts.{numbers_cmp}
 
 -- the first n numbers of a list, with zeros after a shorter one
@@ -66,7 +66,7 @@ short_text t key n l h s e =
     let small : length t ≤ 8 = omega (arith, l, h) in
     ap (λ (m : ℕ). take m (to_be_bytes w64 key)) l ∙ ap (λ (b : List ℕ). take (length t) b) (key_bytes t key s e) ∙ padded_take 8 t small
 
-pub short_value : (v : Value) (key n : ℕ) → IsShortLength v n → n ≤ 8 → IsSmallValue v → key ≡ value_key v → take n (to_be_bytes w64 key) ≡ text_of v
+pub short_value : (v : Value) (key n : ℕ) → IsShortLength v n → n ≤ 8 → IsSmallValue v → key ≡ value_key v → take n (to_be_bytes w64 key) ≡ text_of_value v
 short_value (Const t) key n l h s e = short_text t key n (l.short h) h s.0 e
 short_value (Null m) key n l h s e = absurd (l.short h)
 

@@ -16,15 +16,15 @@ use Rattle.dx_ports.specs.Members.{◌∈◌, here, there, Each, Distinct}
 use Rattle.dx_ports.proofs.Members.{in_map, from_map, in_at, from_append, distinct_more}
 use Rattle.dx_ports.proofs.Ranges.{nat_self, nat_less}
 use Rattle.dx_instance.specs.Stored.{TableRows, table_at, rows_of, without_rows, AddsRow, FitsTable, FitsInstance, with_row}
-use Rattle.dx_instance.specs.Numbers.{AreApart, Extends, IsOrdering, ValuesAscend, value_of}
+use Rattle.dx_instance.specs.Numbers.{AreDistinctValues, Extends, IsOrdering, ValuesAscend, value_of}
 use Rattle.dx_instance.specs.Cells.{NumberTable, numbers_at, with_numbers}
-use Rattle.dx_instance.specs.Shown.{AreBelow, Numbered, NumbersFit, PartsFit, Shows, numbers_of_table, shown, shown_row, shown_tables, RowsFit}
+use Rattle.dx_instance.specs.Shown.{AreBelow, NumberedInstance, NumbersFit, PartsFit, Shows, numbers_of_table, shown, shown_row, shown_tables, NumberRowsFit}
 use Rattle.dx_instance.specs.Places.{row_at, value_at}
 use Rattle.dx_instance.proofs.NumberFacts.{self_equal}
 use Rattle.dx_instance.proofs.StoredFacts.{adds_row}
 
 -- numbers are equal where their values are
-pub number_same : (S : List Value) (x y : ℕ) → AreApart S → x < length S → y < length S → value_of S x ≡ value_of S y → x ≡ y
+pub number_same : (S : List Value) (x y : ℕ) → AreDistinctValues S → x < length S → y < length S → value_of S x ≡ value_of S y → x ≡ y
 number_same S x y a h k e = elim (cases_lt x y) [
   | inl b ↦ absurd (a x y (Const []) b k e)
   | inr b ↦ elim (cases_lt y x) [ inl c ↦ absurd (a y x (Const []) c h (sym e)) | inr c ↦ omega arith ]
@@ -36,7 +36,7 @@ head_same u v us vs e = cc e
 tail_same : (u v : Value) (us vs : List Value) → ◌≡◌ {A = List Value} (u ∷ us) (v ∷ vs) → us ≡ vs
 tail_same u v us vs e = cc e
 
-pub row_same : (S : List Value) (a b : List ℕ) → AreApart S → AreBelow (length S) a → AreBelow (length S) b → shown_row S a ≡ shown_row S b → a ≡ b
+pub row_same : (S : List Value) (a b : List ℕ) → AreDistinctValues S → AreBelow (length S) a → AreBelow (length S) b → shown_row S a ≡ shown_row S b → a ≡ b
 row_same S [] [] p h k e = refl
 row_same S [] (y ∷ b) p h k e = absurd (cc e)
 row_same S (x ∷ a) [] p h k e = absurd (cc e)
@@ -65,7 +65,7 @@ row_less S (x ∷ a) (y ∷ b) up h k =
     (λ i. ordering_then (first i) (rest i))
 
 -- a row is shown where its numbers stand
-pub from_shown : (S : List Value) (rows : List (List ℕ)) (numbers : List ℕ) (row : List Value) → AreApart S → Each rows (AreBelow (length S)) → Shows S numbers row → row ∈ map (shown_row S) rows → numbers ∈ rows
+pub from_shown : (S : List Value) (rows : List (List ℕ)) (numbers : List ℕ) (row : List Value) → AreDistinctValues S → Each rows (AreBelow (length S)) → Shows S numbers row → row ∈ map (shown_row S) rows → numbers ∈ rows
 from_shown S rows numbers row a w s m =
     let r = from_map (shown_row S) rows m in
     subst (λ (x : List ℕ). x ∈ rows) (row_same S r.0 numbers a (w r.0 r.1) s.within (r.2 ∙ sym s.is)) r.1
@@ -73,13 +73,13 @@ from_shown S rows numbers row a w s m =
 pub to_shown : (S : List Value) (rows : List (List ℕ)) (numbers : List ℕ) (row : List Value) → Shows S numbers row → numbers ∈ rows → row ∈ map (shown_row S) rows
 to_shown S rows numbers row s m = subst (λ (r : List Value). r ∈ map (shown_row S) rows) s.is (in_map (shown_row S) m)
 
-distinct_shown : (S : List Value) (rows : List (List ℕ)) → AreApart S → Each rows (AreBelow (length S)) → Distinct rows → Distinct (map (shown_row S) rows)
+distinct_shown : (S : List Value) (rows : List (List ℕ)) → AreDistinctValues S → Each rows (AreBelow (length S)) → Distinct rows → Distinct (map (shown_row S) rows)
 distinct_shown S [] a w d = tt
 distinct_shown S (r ∷ rows) a w d =
     let s : Shows S r (shown_row S r) = record { is = refl; within = w r (here refl) } in
     ((λ m. d.0 (from_shown S rows r (shown_row S r) a (λ x m. w x (there m)) s m)), distinct_shown S rows a (λ x m. w x (there m)) d.1)
 
-pub fits_shown : (S : List Value) (t : NumberTable) → AreApart S → NumbersFit (length S) t → FitsTable (shown S t)
+pub fits_shown : (S : List Value) (t : NumberTable) → AreDistinctValues S → NumbersFit (length S) t → FitsTable (shown S t)
 fits_shown S t a f = record {
   columns = f.columns;
   each = λ row m. let r = from_map (shown_row S) t.rows m in rw (← r.2) (length-map r.0 (value_of S) ∙ f.each r.0 r.1);
@@ -177,7 +177,7 @@ from_set (z ∷ zs) zero y x (there m) = inr (there m)
 from_set (z ∷ zs) (suc i) y x (here e) = inr (here e)
 from_set (z ∷ zs) (suc i) y x (there m) = elim (from_set zs i y x m) [ inl e ↦ inl e | inr k ↦ inr (there k) ]
 
-set_fits : (S S' : List Value) (ts : List NumberTable) (n : ℕ) (t : NumberTable) → PartsFit S ts → Extends S S' → AreApart S' → length S' < 2 ^ 32 → NumbersFit (length S') t → PartsFit S' (set ts n t)
+set_fits : (S S' : List Value) (ts : List NumberTable) (n : ℕ) (t : NumberTable) → PartsFit S ts → Extends S S' → AreDistinctValues S' → length S' < 2 ^ 32 → NumbersFit (length S') t → PartsFit S' (set ts n t)
 set_fits S S' ts n t f e a l g = record {
   apart = a;
   small = l;
@@ -190,7 +190,7 @@ pub record Adding (S S' : List Value) (ts : List NumberTable) (I : List TableRow
   pub fits : PartsFit S ts
   pub view : shown_tables S ts ≡ I
   pub grows : Extends S S'
-  pub apart : AreApart S'
+  pub apart : AreDistinctValues S'
   pub small : length S' < 2 ^ 32
   pub table : n < length I
   pub read : told ≡ get_or ts n told
@@ -350,13 +350,13 @@ lent_below S ts n p t row f e r h k =
     let same : numbers_of_table ts n ≡ t = get_or_default ts n (record { width = 0; rows = [] }) t h ∙ sym e in
     rw r (numbers_below (length S) t p (fits_in S ts n t f h e) (subst (λ (u : NumberTable). p < length u.rows) same k))
 
-pub row_below : (N : Numbered) (S : List Value) (ts : List NumberTable) (n p : ℕ) (t : NumberTable) (row : List ℕ) → ◌≡◌ {A = Numbered} (record { symbols = S; tables = ts }) N → PartsFit S ts → t ≡ get_or ts n t → row ≡ numbers_at t.rows p
+pub row_below : (N : NumberedInstance) (S : List Value) (ts : List NumberTable) (n p : ℕ) (t : NumberTable) (row : List ℕ) → ◌≡◌ {A = NumberedInstance} (record { symbols = S; tables = ts }) N → PartsFit S ts → t ≡ get_or ts n t → row ≡ numbers_at t.rows p
     → n < length N.tables → p < length (numbers_of_table N.tables n).rows → AreBelow (length N.symbols) row
 row_below N S ts n p t row v f e r =
-    subst (λ (M : Numbered). n < length M.tables → p < length (numbers_of_table M.tables n).rows → AreBelow (length M.symbols) row) v (lent_below S ts n p t row f e r)
+    subst (λ (M : NumberedInstance). n < length M.tables → p < length (numbers_of_table M.tables n).rows → AreBelow (length M.symbols) row) v (lent_below S ts n p t row f e r)
 
 -- tables whose rows fit the symbols show the same with more symbols
-pub grown_fitting : (S T : List Value) (ts : List NumberTable) → Extends S T → Each ts (RowsFit (length S)) → shown_tables T ts ≡ shown_tables S ts
+pub grown_fitting : (S T : List Value) (ts : List NumberTable) → Extends S T → Each ts (NumberRowsFit (length S)) → shown_tables T ts ≡ shown_tables S ts
 grown_fitting S T [] e h = refl
 grown_fitting S T (t ∷ ts) e h =
     let first : shown T t ≡ shown S t = ap (λ (rs : List (List Value)). let u : TableRows = record { width = t.width; rows = rs } in u) (grown_rows S T t.rows e (h t (here refl)).within) in

@@ -17,9 +17,9 @@ use Rattle.dx_model.specs.Values.{row_cmp, RowsAscend}
 use Rattle.dx_ports.specs.Members.{◌∈◌, ◌⊆◌, here, there, Each, Distinct}
 use Rattle.dx_ports.proofs.Members.{in_map, from_map, contains_from_in}
 use Rattle.dx_instance.specs.Stored.{TableRows, rows_of, table_at, widths, IsSorting}
-use Rattle.dx_instance.specs.Numbers.{AreApart, Extends, IsOrdering, ValuesAscend, value_of}
+use Rattle.dx_instance.specs.Numbers.{AreDistinctValues, Extends, IsOrdering, ValuesAscend, value_of}
 use Rattle.dx_instance.specs.Cells.{IsPut, NumberTable, NumbersAscend}
-use Rattle.dx_instance.specs.Shown.{AreBelow, NumbersFit, PartsFit, RowsFit, renumbered, shown, shown_row, shown_tables}
+use Rattle.dx_instance.specs.Shown.{AreBelow, NumbersFit, PartsFit, NumberRowsFit, renumbered, shown, shown_row, shown_tables}
 use Rattle.dx_instance.proofs.TableFacts.{numbers_cmp, numbers_self}
 use Rattle.dx_instance.proofs.AfterFacts.{image_of_rows}
 use Rattle.dx_instance.proofs.ShownFacts.{row_less, is_shown, fits_in, table_within}
@@ -56,7 +56,7 @@ distinct_numbers (r ∷ rows) a = (first, distinct_numbers rows (λ i j d h k. a
         cc (rw at.2 at l, s)
 
 -- rows that were put in order
-pub put_fits : (n : ℕ) (t u : NumberTable) → RowsFit n t → IsPut t u → NumbersFit n u
+pub put_fits : (n : ℕ) (t u : NumberTable) → NumberRowsFit n t → IsPut t u → NumbersFit n u
 put_fits n t u f k = record {
   columns = rw k.order.width f.columns;
   each = k.wide;
@@ -72,7 +72,7 @@ record SortsTable (old new : TableRows) : Type 0 where
   pub kept : old.rows ⊆ new.rows
   pub only : new.rows ⊆ old.rows
 
-put_sorts : (S : List Value) (t u : NumberTable) → ValuesAscend S → RowsFit (length S) t → IsPut t u → SortsTable (shown S t) (shown S u)
+put_sorts : (S : List Value) (t u : NumberTable) → ValuesAscend S → NumberRowsFit (length S) t → IsPut t u → SortsTable (shown S t) (shown S u)
 put_sorts S t u up f k = record {
   width = k.order.width;
   ascend = rows_ascend S u.rows up (put_fits (length S) t u f k).within k.order.ascend;
@@ -80,7 +80,7 @@ put_sorts S t u up f k = record {
   only = λ row m. let q = from_map (shown_row S) u.rows m in subst (λ (v : List Value). v ∈ map (shown_row S) t.rows) q.2 (in_map (shown_row S) (k.order.only q.0 q.1));
 }
 
-all_put : (S : List Value) (ts us : List NumberTable) (n : ℕ) → ValuesAscend S → Each ts (RowsFit (length S)) → AllZip IsPut ts us → SortsTable (table_at (shown_tables S ts) n) (table_at (shown_tables S us) n)
+all_put : (S : List Value) (ts us : List NumberTable) (n : ℕ) → ValuesAscend S → Each ts (NumberRowsFit (length S)) → AllZip IsPut ts us → SortsTable (table_at (shown_tables S ts) n) (table_at (shown_tables S us) n)
 all_put S [] [] n up f z = record { width = refl; ascend = tt; kept = λ row m. m; only = λ row m. m }
 all_put S [] (u ∷ us) n up f z = absurd z
 all_put S (t ∷ ts) [] n up f z = absurd z
@@ -93,17 +93,17 @@ put_widths S [] (u ∷ us) z = absurd z
 put_widths S (t ∷ ts) [] z = absurd z
 put_widths S (t ∷ ts) (u ∷ us) z = let rest = put_widths S ts us z.1 in let one = z.0.order.width in cc (rest, one)
 
-each_fits : (n : ℕ) (ts us : List NumberTable) → Each ts (RowsFit n) → AllZip IsPut ts us → Each us (NumbersFit n)
+each_fits : (n : ℕ) (ts us : List NumberTable) → Each ts (NumberRowsFit n) → AllZip IsPut ts us → Each us (NumbersFit n)
 each_fits n [] [] f z t m = elim m [ ]
 each_fits n [] (u ∷ us) f z t m = absurd z
 each_fits n (s ∷ ts) [] f z t m = elim m [ ]
 each_fits n (s ∷ ts) (u ∷ us) f z t (here e) = rw (← e) (put_fits n s u (f s (here refl)) z.0)
 each_fits n (s ∷ ts) (u ∷ us) f z t (there m) = each_fits n ts us (λ x k. f x (there k)) z.1 t m
 
-pub parts_put : (S : List Value) (ts us : List NumberTable) → AreApart S → length S < 2 ^ 32 → Each ts (RowsFit (length S)) → length ts < 2 ^ 32 - 1 → AllZip IsPut ts us → PartsFit S us
+pub parts_put : (S : List Value) (ts us : List NumberTable) → AreDistinctValues S → length S < 2 ^ 32 → Each ts (NumberRowsFit (length S)) → length ts < 2 ^ 32 - 1 → AllZip IsPut ts us → PartsFit S us
 parts_put S ts us a l f w z = record { apart = a; small = l; each = each_fits (length S) ts us f z; few = rw (AllZip-long IsPut ts us z) w }
 
-pub instance_put : (S : List Value) (ts us : List NumberTable) → ValuesAscend S → Each ts (RowsFit (length S)) → AllZip IsPut ts us → IsSorting (shown_tables S ts) (shown_tables S us)
+pub instance_put : (S : List Value) (ts us : List NumberTable) → ValuesAscend S → Each ts (NumberRowsFit (length S)) → AllZip IsPut ts us → IsSorting (shown_tables S ts) (shown_tables S us)
 instance_put S ts us up f z = record {
   widths_stay = put_widths S ts us z;
   ascend = λ n. (all_put S ts us n up f z).ascend;
@@ -112,7 +112,7 @@ instance_put S ts us up f z = record {
 }
 
 -- numbers of an instance fit
-pub parts_rows : (S : List Value) (ts : List NumberTable) → PartsFit S ts → Each ts (RowsFit (length S))
+pub parts_rows : (S : List Value) (ts : List NumberTable) → PartsFit S ts → Each ts (NumberRowsFit (length S))
 parts_rows S ts p t m = let f = p.each t m in record { columns = f.columns; within = f.within }
 
 abbrev ranked : List ℕ → List ℕ → List ℕ
@@ -134,7 +134,7 @@ rows_show S T ranks (r ∷ rows) o b =
     cc (first, rest)
 
 -- tables of ranks show what the tables showed
-pub ranks_show : (S T : List Value) (ranks : List ℕ) (ts : List NumberTable) → IsOrdering S T ranks → Each ts (RowsFit (length S)) → shown_tables T (map (renumbered ranks) ts) ≡ shown_tables S ts
+pub ranks_show : (S T : List Value) (ranks : List ℕ) (ts : List NumberTable) → IsOrdering S T ranks → Each ts (NumberRowsFit (length S)) → shown_tables T (map (renumbered ranks) ts) ≡ shown_tables S ts
 ranks_show S T ranks [] o f = refl
 ranks_show S T ranks (t ∷ ts) o f =
     let first = ap (λ (rs : List (List Value)). let u : TableRows = record { width = t.width; rows = rs } in u) (rows_show S T ranks t.rows o (f t (here refl)).within) in
@@ -145,11 +145,11 @@ ranks_show S T ranks (t ∷ ts) o f =
 within_images : (n m : ℕ) (images : List ℕ) (r : List ℕ) → ((x : ℕ) → x < m → get_or images x 0 < n) → AreBelow m r → AreBelow n (ranked images r)
 within_images n m images r w b x h = let k = from_map (λ (y : ℕ). get_or images y 0) r h in let l = w k.0 (b k.0 k.1) in omega (arith, l, k.2)
 
-pub images_fit : (n m : ℕ) (images : List ℕ) (ts : List NumberTable) → ((x : ℕ) → x < m → get_or images x 0 < n) → Each ts (RowsFit m) → Each (map (renumbered images) ts) (RowsFit n)
+pub images_fit : (n m : ℕ) (images : List ℕ) (ts : List NumberTable) → ((x : ℕ) → x < m → get_or images x 0 < n) → Each ts (NumberRowsFit m) → Each (map (renumbered images) ts) (NumberRowsFit n)
 images_fit n m images ts w f u h =
     let k = from_map (renumbered images) ts h in
     let g = f k.0 k.1 in
-    subst (λ (t : NumberTable). RowsFit n t) k.2 (record {
+    subst (λ (t : NumberTable). NumberRowsFit n t) k.2 (record {
       columns = g.columns;
       within = λ r q. let s = from_map (ranked images) k.0.rows q in subst (λ (x : List ℕ). AreBelow n x) s.2 (within_images n m images s.0 w (g.within s.0 s.1));
     })

@@ -13,9 +13,9 @@ pub record NumberTable : Type 0 where
   pub rows : List (List ℕ)
 
 -- the first n rows of w cells each
-abbrev pub rows_in : ℕ → ℕ → List ℕ → List (List ℕ)
-rows_in zero w cells = []
-rows_in (suc n) w cells = take w cells ∷ rows_in n w (drop w cells)
+abbrev pub rows_of_cells : ℕ → ℕ → List ℕ → List (List ℕ)
+rows_of_cells zero w cells = []
+rows_of_cells (suc n) w cells = take w cells ∷ rows_of_cells n w (drop w cells)
 
 -- the row at a place
 abbrev pub numbers_at : List (List ℕ) → ℕ → List ℕ
@@ -33,8 +33,8 @@ with_numbers t row = record { width = t.width; rows = t.rows ++ row ∷ [] }
 abbrev pub key_step : ℕ → ℕ → ℕ
 key_step key n = (key * 0x9E37_79B9_7F4A_7C15 % 2 ^ 64 + n) % 2 ^ 64
 
-abbrev pub key_of : List ℕ → ℕ
-key_of row = fold key_step 7 row
+abbrev pub row_key : List ℕ → ℕ
+row_key row = fold key_step 7 row
 
 -- the places of the rows, so that no row is below one before it
 pub record AreInOrder (rows : List (List ℕ)) (places : List ℕ) : Type 0 where

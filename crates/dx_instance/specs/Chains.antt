@@ -2,9 +2,9 @@
 use Rattle.std.specs.Prelude.{◌≡◌, ℕ, zero, suc, ◌<◌, ◌≤◌, ◌^◌, map, take, drop, List, ◌==◌, length, nat_eq, slice_index, if◌then◌else◌}
 use Rattle.std.specs.Option.{unwrap_or}
 use Rattle.std.specs.HashMap.{get}
-use Rattle.dx_instance.specs.Cells.{NumbersAscend, key_of}
+use Rattle.dx_instance.specs.Cells.{NumbersAscend, row_key}
 use Rattle.dx_ports.specs.Members.{Each}
-use Rattle.dx_instance.specs.Indexes.{IsIndex}
+use Rattle.dx_instance.specs.Indexes.{IsColumnIndex}
 use Rattle.dx_instance.specs.declared.chains.Chains.{Chains}
 use Rattle.dx_instance.specs.declared.column_index.ColumnIndex.{ColumnIndex}
 
@@ -21,9 +21,9 @@ pub record AreChains (c : Chains) (keys : List ℕ) : Type 0 where
 
 -- what holds of a table's parts: its first rows ascend, those after them are chained by their keys, and
 -- the indexes are those of its rows
-pub record AreParts (sorted : ℕ) (rows : List (List ℕ)) (c : Chains) (indexes : List ColumnIndex) : Type 0 where
+pub record AreTableParts (sorted : ℕ) (rows : List (List ℕ)) (c : Chains) (indexes : List ColumnIndex) : Type 0 where
   pub some : sorted ≤ length rows
   pub few : length rows < 2 ^ 32
   pub ascend : NumbersAscend (take sorted rows)
-  pub chained : AreChains c (map key_of (drop sorted rows))
-  pub indexed : Each indexes (IsIndex rows)
+  pub chained : AreChains c (map row_key (drop sorted rows))
+  pub indexed : Each indexes (IsColumnIndex rows)

@@ -25,7 +25,7 @@ abbrev pub places_of : List (ℕ × ℕ) → List ℕ
 places_of keys = map (λ (k : ℕ × ℕ). k.1) keys
 
 -- n digits to the base b make a number of 64 bits
-pub record HasRoom (b n : ℕ) : Type 0 where
+pub record DigitsFit (b n : ℕ) : Type 0 where
   pub some : 0 < b
   pub fits : b ^ n ≤ 2 ^ 64
 
@@ -82,7 +82,7 @@ if_less Less x y = x
 if_less Equal x y = y
 if_less Greater x y = y
 
--- what stands at a place where the text is long, and else the same for all
+-- what stands at a place if the text is long, and else the same for all
 abbrev pub if_long : {X : Type 0} → List ℕ → X → (ℕ → X) → ℕ → X
 if_long lengths same at n = if_less (nat_cmp (slice_index lengths n) 9) same (at n)
 
@@ -94,7 +94,7 @@ tie_cmp symbols lengths seconds blank m n =
     (value_cmp (if_long lengths blank (λ k. slice_index_or symbols k blank) m) (if_long lengths blank (λ k. slice_index_or symbols k blank) n)))
 
 -- the key of the item at a place, and the place
-pub record IsKeyed {X : Type 0} (at : ℕ → X) (key : X → ℕ) (Small : X → Type 0) (p : ℕ) (k : ℕ × ℕ) : Type 0 where
+pub record IsKeyAndPlace {X : Type 0} (at : ℕ → X) (key : X → ℕ) (Small : X → Type 0) (p : ℕ) (k : ℕ × ℕ) : Type 0 where
   pub key_is : k.0 ≡ key (at p)
   pub place_is : k.1 ≡ p
   pub small : Small (at p)
@@ -102,7 +102,7 @@ pub record IsKeyed {X : Type 0} (at : ℕ → X) (key : X → ℕ) (Small : X �
 -- the keys of the first n items
 pub record AreKeyed {X : Type 0} (at : ℕ → X) (key : X → ℕ) (Small : X → Type 0) (keys : List (ℕ × ℕ)) (n : ℕ) : Type 0 where
   pub many : length keys ≡ n
-  pub all : (k : ℕ) → k < n → IsKeyed at key Small k (slice_index_or keys k (0, 0))
+  pub all : (k : ℕ) → k < n → IsKeyAndPlace at key Small k (slice_index_or keys k (0, 0))
 
 -- the keys of rows: their first n numbers, as digits to the base b
 abbrev pub RowsAreKeyed : ℕ → ℕ → List (List ℕ) → List (ℕ × ℕ) → ℕ → Type 0
@@ -113,12 +113,12 @@ ValuesAreKeyed symbols keys n = AreKeyed (value_of symbols) value_key IsSmallVal
 
 -- the numbers of these keys have values of which they are the keys
 abbrev pub NumbersAreKeyed : List Value → List (ℕ × ℕ) → Type 0
-NumbersAreKeyed symbols keys = (k : ℕ) → k < length keys → IsKeyed (value_of symbols) value_key IsSmallValue (slice_index_or keys k (0, 0)).1 (slice_index_or keys k (0, 0))
+NumbersAreKeyed symbols keys = (k : ℕ) → k < length keys → IsKeyAndPlace (value_of symbols) value_key IsSmallValue (slice_index_or keys k (0, 0)).1 (slice_index_or keys k (0, 0))
 
 -- a number below that of all, with the key of its value
 pub record IsKeyIn (symbols : List Value) (k : ℕ × ℕ) : Type 0 where
   pub below : k.1 < length symbols
-  pub keyed : IsKeyed (value_of symbols) value_key IsSmallValue k.1 k
+  pub keyed : IsKeyAndPlace (value_of symbols) value_key IsSmallValue k.1 k
 
 -- all numbers, of which none stands after one with a higher value
 pub record AreSorted (symbols : List Value) (numbers : List ℕ) : Type 0 where

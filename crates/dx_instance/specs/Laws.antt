@@ -19,8 +19,8 @@ abbrev pub SortedFactsAscend : Type 0
 SortedFactsAscend = (I : List TableRows) → ((t : ℕ) → RowsAscend (rows_of I t)) → FactsAscend (facts I)
 
 -- tables that are as wide as those of a schema hold an instance of it
-abbrev pub FactsFit : Type 0
-FactsFit =
+abbrev pub WidthsMakeInstance : Type 0
+WidthsMakeInstance =
     (schema : List Table) (I : List TableRows) → widths I ≡ map (λ (t : Table). t.width) schema
     → Each I (λ t. Each t.rows (λ (row : List Value). length row ≡ t.width)) → IsInstance schema (facts I)
 

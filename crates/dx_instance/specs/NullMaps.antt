@@ -73,15 +73,15 @@ pub record AreStored (pairs : List NullPair) (tree : List (NullId × Value)) : T
   pub one : (tree ≡ []) ⊎ (pairs ≡ [])
 
 -- the finite map of entries: the first with a null counts
-abbrev pub map_of : List (NullId × Value) → ByNull
-map_of es = finite.from_entries es
+abbrev pub map_of_entries : List (NullId × Value) → ByNull
+map_of_entries es = finite.from_entries es
 
 -- the pairs with a null and its value at their end, unless it gets itself
 abbrev pub with_proper : List NullPair → NullId → Value → List NullPair
 with_proper ps n v = if is_itself n v then ps else ps ++ record { null = n; value = v } ∷ []
 
 -- the pair that comes next of two ascending lists, and what is left of both
-pub record IsTurn (first second : List NullPair) (pair : NullPair) (rest others : List NullPair) : Type 0 where
+pub record IsMergeStep (first second : List NullPair) (pair : NullPair) (rest others : List NullPair) : Type 0 where
   pub fewer : length (rest ++ others) < length (first ++ second)
   pub ascend : PairsAscend rest × PairsAscend others
   pub kept : (rest ++ others) ⊆ (first ++ second)

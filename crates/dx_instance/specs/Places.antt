@@ -4,6 +4,7 @@ use Rattle.dx_model.specs.declared.values.Value.{Value}
 use Rattle.dx_model.specs.Covers.{same_value}
 use Rattle.dx_model.specs.Tables.{cell, values_in}
 use Rattle.dx_instance.specs.Stored.{TableRows, rows_of}
+use Rattle.dx_model.specs.declared.facts.Fact.{Fact}
 
 -- the row at a place of a table
 abbrev pub row_at : List TableRows → ℕ → ℕ → List Value
@@ -35,3 +36,7 @@ rows_with I t column value = count_by (λ row. same_value (cell row column) valu
 pub record AreFirsts (I : List TableRows) (t : ℕ) (columns places : List ℕ) : Type 0 where
   pub many : length places ≡ length (rows_of I t)
   pub each : (p : ℕ) → p < length (rows_of I t) → IsFirstWith I t columns (values_in columns (row_at I t p)) 0 (Some (slice_index places p))
+
+-- the fact at a place
+abbrev pub fact_at : List TableRows → ℕ → ℕ → Fact
+fact_at I t p = record { table = t; row = row_at I t p }

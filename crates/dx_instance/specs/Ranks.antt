@@ -12,16 +12,16 @@ pub record HasRank (symbols : List Value) (firsts : List (ℕ × ℕ)) (ranks : 
   pub is : value_of symbols (slice_index (places_of firsts) (slice_index ranks n)) ≡ value_of symbols n
 
 -- keys of distinct values in order
-pub record AreAscending (symbols : List Value) (firsts : List (ℕ × ℕ)) : Type 0 where
+pub record AreFirstKeys (symbols : List Value) (firsts : List (ℕ × ℕ)) : Type 0 where
   pub ascend : ValuesAscend (map (value_of symbols) (places_of firsts))
   pub below : Each (places_of firsts) (λ n. n < length symbols)
   pub keyed : NumbersAreKeyed symbols firsts
 
 -- the first keys of each value among i numbers, and the ranks of these numbers: the last number has the last value
-pub record AreFirsts (symbols : List Value) (numbers : List ℕ) (firsts : List (ℕ × ℕ)) (ranks : List ℕ) (i : ℕ) : Type 0 where
+pub record AreRankFirsts (symbols : List Value) (numbers : List ℕ) (firsts : List (ℕ × ℕ)) (ranks : List ℕ) (i : ℕ) : Type 0 where
   pub fewer : length firsts ≤ i
   pub many : length ranks ≡ length symbols
-  pub keys : AreAscending symbols firsts
+  pub keys : AreFirstKeys symbols firsts
   pub last : 0 < i → (0 < length firsts) × (value_of symbols (slice_index (places_of firsts) (length firsts - 1)) ≡ value_of symbols (slice_index numbers (i - 1)))
   pub ranked : (k : ℕ) → k < i → HasRank symbols firsts ranks (slice_index numbers k)
 
@@ -29,13 +29,13 @@ pub record AreFirsts (symbols : List Value) (numbers : List ℕ) (firsts : List 
 pub record AreDistinct (symbols : List Value) (firsts : List (ℕ × ℕ)) (ranks : List ℕ) : Type 0 where
   pub fewer : length firsts ≤ length symbols
   pub many : length ranks ≡ length symbols
-  pub keys : AreAscending symbols firsts
+  pub keys : AreFirstKeys symbols firsts
   pub ranked : (n : ℕ) → n < length symbols → HasRank symbols firsts ranks n
 
 -- the text of a constant; a null has none
-abbrev pub text_of : Value → List ℕ
-text_of (Const t) = t
-text_of (Null n) = []
+abbrev pub text_of_value : Value → List ℕ
+text_of_value (Const t) = t
+text_of_value (Null n) = []
 
 -- the text of a constant has n bytes
 abbrev pub HasBytes : Value → ℕ → Type 0
@@ -52,7 +52,7 @@ pub record IsShortLength (v : Value) (n : ℕ) : Type 0 where
   pub most : n ≤ 9
   pub short : n ≤ 8 → HasBytes v n
   pub long : 8 < n → IsLong v
-  pub utf8 : IsUtf8 (text_of v)
+  pub utf8 : IsUtf8 (text_of_value v)
 
 -- the short lengths of the texts of the first n values
 pub record AreLengths (symbols : List Value) (lengths : List ℕ) (n : ℕ) : Type 0 where
@@ -61,7 +61,7 @@ pub record AreLengths (symbols : List Value) (lengths : List ℕ) (n : ℕ) : Ty
 
 abbrev pub joined_texts : List Value → List ℕ
 joined_texts [] = []
-joined_texts (v ∷ vs) = text_of v ++ joined_texts vs
+joined_texts (v ∷ vs) = text_of_value v ++ joined_texts vs
 
 -- the texts of the values under the numbers of the first i keys, one after the other
 abbrev pub texts_before : List Value → List (ℕ × ℕ) → ℕ → List ℕ
@@ -71,16 +71,16 @@ texts_before symbols keys i = joined_texts (map (value_of symbols) (places_of (t
 pub record AreEnds (symbols : List Value) (keys : List (ℕ × ℕ)) (ends : List ℕ) (i : ℕ) : Type 0 where
   pub many : length ends ≡ i
   pub at : (k : ℕ) → k < i → slice_index ends k ≡ length (texts_before symbols keys (k + 1))
-  pub utf8 : (k : ℕ) → k < i → IsUtf8 (text_of (value_of symbols (slice_index_or keys k (0, 0)).1))
+  pub utf8 : (k : ℕ) → k < i → IsUtf8 (text_of_value (value_of symbols (slice_index_or keys k (0, 0)).1))
 
 -- a text lies in a buffer from one place up to another
-pub record LiesIn (buffer : List ℕ) (start end : ℕ) (text : List ℕ) : Type 0 where
+pub record LiesInBuffer (buffer : List ℕ) (start end : ℕ) (text : List ℕ) : Type 0 where
   pub many : end ≡ start + length text
   pub within : end ≤ length buffer
   pub is : take (end - start) (drop start buffer) ≡ text
   pub utf8 : IsUtf8 text
 
 -- the short lengths of the texts of values, and their second keys or none at all
-pub record AreTied (symbols : List Value) (lengths seconds : List ℕ) : Type 0 where
+pub record AreTieKeys (symbols : List Value) (lengths seconds : List ℕ) : Type 0 where
   pub lengths_are : AreLengths symbols lengths (length symbols)
   pub seconds_are : AreSecondsOrNone symbols seconds

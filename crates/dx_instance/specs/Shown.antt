@@ -3,7 +3,7 @@ use Rattle.std.specs.Prelude.{◌≡◌, ℕ, ◌<◌, ◌≤◌, ◌^◌, ◌-�
 use Rattle.dx_model.specs.declared.values.Value.{Value}
 use Rattle.dx_ports.specs.Members.{Distinct, Each}
 use Rattle.dx_instance.specs.Stored.{TableRows}
-use Rattle.dx_instance.specs.Numbers.{AreApart, value_of}
+use Rattle.dx_instance.specs.Numbers.{AreDistinctValues, value_of}
 use Rattle.dx_instance.specs.Cells.{NumberTable}
 
 abbrev pub shown_row : List Value → List ℕ → List Value
@@ -28,19 +28,19 @@ pub record NumbersFit (n : ℕ) (t : NumberTable) : Type 0 where
   pub few : length t.rows < 2 ^ 32
 
 -- what is asked of rows of which an instance is made: at least one column, and numbers below n
-pub record RowsFit (n : ℕ) (t : NumberTable) : Type 0 where
+pub record NumberRowsFit (n : ℕ) (t : NumberTable) : Type 0 where
   pub columns : 1 ≤ t.width
   pub within : Each t.rows (AreBelow n)
 
 -- what holds of the parts of an instance
 pub record PartsFit (symbols : List Value) (ts : List NumberTable) : Type 0 where
-  pub apart : AreApart symbols
+  pub apart : AreDistinctValues symbols
   pub small : length symbols < 2 ^ 32
   pub each : Each ts (NumbersFit (length symbols))
   pub few : length ts < 2 ^ 32 - 1
 
 -- symbols, and tables of the numbers under which they stand
-pub record Numbered : Type 0 where
+pub record NumberedInstance : Type 0 where
   pub symbols : List Value
   pub tables : List NumberTable
 

@@ -3,8 +3,8 @@ ghost use Rattle.std.specs.Prelude.{◌≡◌, ◌<◌, ◌≤◌, ◌-◌, ◌*
 ghost use Rattle.std.specs.Bool.{OnTrue};
 ghost use Rattle.dx_ports.specs.Members.{Each};
 ghost use Rattle.dx_instance.specs.Chains.{AreChains};
-ghost use Rattle.dx_instance.specs.Cells.{AreInOrder, IsOrderOf, NumbersAscend, numbers_at, rows_in, with_numbers};
-ghost use Rattle.dx_instance.specs.Keys.{HasBits, HasRoom, RowsAreKeyed, packed, places_of, unpacked};
+ghost use Rattle.dx_instance.specs.Cells.{AreInOrder, IsOrderOf, NumbersAscend, numbers_at, rows_of_cells, with_numbers};
+ghost use Rattle.dx_instance.specs.Keys.{HasBits, DigitsFit, RowsAreKeyed, packed, places_of, unpacked};
 ghost use Rattle.dx_instance.specs.Shown.{AreBelow, renumbered};
 
 use crate::chains::Chains;
@@ -23,11 +23,11 @@ pub struct Rows {
 
 impl Model for Rows {
     ghost use Rattle.std.specs.Prelude.{◌≡◌, ◌*◌, length};
-    ghost use Rattle.dx_instance.specs.Cells.{NumberTable, rows_in};
+    ghost use Rattle.dx_instance.specs.Cells.{NumberTable, rows_of_cells};
 
     ghost Value = { NumberTable };
 
-    ghost view = { λ r. record { width = r.width; rows = rows_in r.count r.width r.cells.items } };
+    ghost view = { λ r. record { width = r.width; rows = rows_of_cells r.count r.width r.cells.items } };
 
     ghost invariant = { λ r. length r.cells.items ≡ r.count * r.width };
 }
@@ -67,7 +67,7 @@ impl Rows {
     /// Rows whose cells are these, row by row.
     pub fn of_cells(width: u32, count: u32, cells: Vec<u32>) -> Rows
         requires { length cells.items ≡ count * width }
-        ensures { result ≡ record { width = width; rows = rows_in count width cells.items } }
+        ensures { result ≡ record { width = width; rows = rows_of_cells count width cells.items } }
     {
         Rows {
             width,
@@ -162,7 +162,7 @@ impl Rows {
 
     // The place of each row, with a key that compares as the first numbers of the row.
     fn keyed_places(&self, alloc: Global, packing: Packing) -> Result<Vec<(u64, u32)>, AllocError>
-        requires room { HasRoom packing.base packing.digits }
+        requires room { DigitsFit packing.base packing.digits }
         requires below { Each self.now.rows (AreBelow packing.base) }
         ensures { IfOk result (λ keys. RowsAreKeyed packing.base packing.digits self.now.rows keys.items (length self.now.rows)) }
     {

@@ -1,6 +1,6 @@
 // The rows of a table by the number in one column.
 ghost use Rattle.std.specs.Prelude.{◌≡◌, ◌<◌, ℕ, List, IfOk};
-ghost use Rattle.dx_instance.specs.Indexes.{IsIndex, IsNext};
+ghost use Rattle.dx_instance.specs.Indexes.{IsColumnIndex, IsNextWithNumber};
 
 use crate::cells::Rows;
 use std::alloc::{AllocError, Global};
@@ -16,7 +16,7 @@ impl ColumnIndex {
     /// The index of a column of these rows.
     pub fn new(alloc: Global, rows: &Rows, column: u32) -> Result<ColumnIndex, AllocError>
         requires { column < rows.now.width }
-        ensures index { IfOk result (IsIndex rows.now.rows) }
+        ensures index { IfOk result (IsColumnIndex rows.now.rows) }
         ensures column { IfOk result (λ x. x.column ≡ column) }
     {
         let mut entries = Vec::with_capacity(alloc, rows.count() as usize)?;
@@ -29,7 +29,7 @@ impl ColumnIndex {
 
     /// The least place from `from` on whose row has this number in the column.
     pub fn next(&self, number: u32, from: u32) -> Option<u32>
-        ensures { (rows : List (List ℕ)) → IsIndex rows self.now → IsNext rows self.now.column number from result }
+        ensures { (rows : List (List ℕ)) → IsColumnIndex rows self.now → IsNextWithNumber rows self.now.column number from result }
     {
         let first = self
             .entries

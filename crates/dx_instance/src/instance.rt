@@ -7,8 +7,8 @@ ghost use Rattle.dx_model.specs.Values.{FactsAscend, RowsAscend};
 ghost use Rattle.dx_instance.specs.Stored.{AddsRow, IsSorting, facts, rows_of, table_at, without_rows};
 ghost use Rattle.dx_instance.specs.Cells.{IsPut};
 ghost use Rattle.dx_instance.specs.Images.{AreImages, IsImage, IsImageNumber};
-ghost use Rattle.dx_instance.specs.Numbers.{AreApart, Extends, ValuesAscend, value_of};
-ghost use Rattle.dx_instance.specs.Shown.{AreBelow, NumbersFit, PartsFit, RowsFit, Shows, renumbered, shown_row, shown_tables};
+ghost use Rattle.dx_instance.specs.Numbers.{AreDistinctValues, Extends, ValuesAscend, value_of};
+ghost use Rattle.dx_instance.specs.Shown.{AreBelow, NumbersFit, PartsFit, NumberRowsFit, Shows, renumbered, shown_row, shown_tables};
 ghost use Rattle.dx_instance.specs.Places.{AreFirsts, HasValues, IsFirstWith, row_at, rows_with, value_at};
 
 use crate::cells::Rows;
@@ -46,12 +46,12 @@ impl Model for Instance {
 
 // The number of a value, which goes last in the symbols if it is new.
 fn interned(symbols: &mut Symbols, value: &Value) -> Result<u32, AllocError>
-    requires apart { AreApart symbols.old }
+    requires apart { AreDistinctValues symbols.old }
     requires few { length symbols.old < 2 ^ 32 }
     ensures within { IfOk result (λ n. n < length symbols.new) }
     ensures number { IfOk result (λ n. value_of symbols.new n ≡ value.now) }
     ensures grows { Extends symbols.old symbols.new }
-    ensures apart { AreApart symbols.new }
+    ensures apart { AreDistinctValues symbols.new }
     ensures few { length symbols.new < 2 ^ 32 }
 {
     if let Some(number) = symbols.find(value) {
@@ -67,11 +67,11 @@ fn interned_all(
     symbols: &mut Symbols,
     values: &[Value],
 ) -> Result<Vec<u32>, AllocError>
-    requires apart { AreApart symbols.old }
+    requires apart { AreDistinctValues symbols.old }
     requires few { length symbols.old < 2 ^ 32 }
     ensures shows { IfOk result (λ numbers. Shows symbols.new numbers.items values.now) }
     ensures grows { Extends symbols.old symbols.new }
-    ensures apart { AreApart symbols.new }
+    ensures apart { AreDistinctValues symbols.new }
     ensures few { length symbols.new < 2 ^ 32 }
 {
     let mut numbers = Vec::with_capacity(alloc, values.len())?;
@@ -88,10 +88,10 @@ fn images_of(
     map: &NullMap,
     into: &mut Symbols,
 ) -> Result<Vec<u32>, AllocError>
-    requires apart { AreApart into.old }
+    requires apart { AreDistinctValues into.old }
     requires few { length into.old < 2 ^ 32 }
     ensures images { IfOk result (λ images. AreImages map.now symbols.now into.new images.items (length symbols.now)) }
-    ensures apart { AreApart into.new }
+    ensures apart { AreDistinctValues into.new }
     ensures few { length into.new < 2 ^ 32 }
 {
     let mut images = Vec::with_capacity(alloc, symbols.len() as usize)?;
@@ -147,7 +147,7 @@ fn put_all(alloc: Global, tables: Vec<Rows>) -> Result<Vec<Table>, AllocError>
 // An instance of rows whose symbols are in order.
 fn of_ordered(alloc: Global, symbols: Symbols, tables: Vec<Rows>) -> Result<Instance, AllocError>
     requires ascend { ValuesAscend symbols }
-    requires fit { Each tables.items (RowsFit (length symbols)) }
+    requires fit { Each tables.items (NumberRowsFit (length symbols)) }
     requires few { length tables.items < 2 ^ 32 - 1 }
     ensures { IfOk result (IsSorting (shown_tables symbols tables.items)) }
 {
@@ -162,7 +162,7 @@ fn of_ordered(alloc: Global, symbols: Symbols, tables: Vec<Rows>) -> Result<Inst
 
 // The rows with other numbers.
 fn all_renumbered(alloc: Global, tables: Vec<Rows>, ranks: &[u32]) -> Result<Vec<Rows>, AllocError>
-    requires { Each tables.items (RowsFit (length ranks.now)) }
+    requires { Each tables.items (NumberRowsFit (length ranks.now)) }
     ensures { IfOk result (λ all. all.items ≡ map (renumbered ranks.now) tables.items) }
 {
     let mut all = Vec::with_capacity(alloc, tables.len())?;
@@ -176,7 +176,7 @@ fn all_renumbered(alloc: Global, tables: Vec<Rows>, ranks: &[u32]) -> Result<Vec
 fn of_ranks(alloc: Global, ordered: Ordered, tables: Vec<Rows>) -> Result<Instance, AllocError>
     requires ascend { ValuesAscend ordered.symbols }
     requires within { (n : ℕ) → n < length ordered.ranks.items → slice_index ordered.ranks.items n < length ordered.symbols }
-    requires fit { Each tables.items (RowsFit (length ordered.ranks.items)) }
+    requires fit { Each tables.items (NumberRowsFit (length ordered.ranks.items)) }
     requires few { length tables.items < 2 ^ 32 - 1 }
     ensures { IfOk result (IsSorting (shown_tables ordered.symbols (map (renumbered ordered.ranks.items) tables.items))) }
 {
@@ -514,7 +514,7 @@ impl Instance {
         symbols: Symbols,
         tables: Vec<Rows>,
     ) -> Result<Instance, AllocError>
-        requires fit { Each tables.items (RowsFit (length symbols)) }
+        requires fit { Each tables.items (NumberRowsFit (length symbols)) }
         requires few { length tables.items < 2 ^ 32 - 1 }
         ensures { IfOk result (IsSorting (shown_tables symbols tables.items)) }
     {
@@ -534,7 +534,7 @@ impl Instance {
         values: Gathered,
         tables: Vec<Rows>,
     ) -> Result<Instance, AllocError>
-        requires fit { Each tables.items (RowsFit (length values)) }
+        requires fit { Each tables.items (NumberRowsFit (length values)) }
         requires few { length tables.items < 2 ^ 32 - 1 }
         ensures { IfOk result (IsSorting (shown_tables values tables.items)) }
     {

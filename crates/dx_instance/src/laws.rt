@@ -1,5 +1,5 @@
 // The laws of instances, null maps and value texts. The definitions alone carry them: no body computes anything.
-ghost use Rattle.dx_instance.specs.Laws.{FactsFit, NoValueTexts, PairsGive, SortedFactsAscend, ValueTextsDiffer};
+ghost use Rattle.dx_instance.specs.Laws.{WidthsMakeInstance, NoValueTexts, PairsGive, SortedFactsAscend, ValueTextsDiffer};
 
 /// The pairs of a null map give what the map gives.
 pub fn pairs_give()

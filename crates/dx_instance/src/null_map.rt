@@ -3,7 +3,7 @@ ghost use Rattle.std.specs.Prelude.{◌≡◌, IfOk, OnOk, OnErr, map};
 ghost use Rattle.std.specs.FinMap as finite;
 ghost use Rattle.std.specs.Option.{option_copied};
 ghost use Rattle.dx_model.specs.Instances.{IsNullMap, moved};
-ghost use Rattle.dx_instance.specs.NullMaps.{IsAfter, NoPairIsItself, NoneIsItself, becomes, entries_in, map_of, pair_after, pairs_of, with_value};
+ghost use Rattle.dx_instance.specs.NullMaps.{IsAfter, NoPairIsItself, NoneIsItself, becomes, entries_in, map_of_entries, pair_after, pairs_of, with_value};
 
 use crate::null_merge::{is_above, is_same, merged, pair_copies, push_proper, value_among};
 use dx_model::{NullId, NullPair, Value, copy_value};
@@ -24,13 +24,13 @@ impl Model for NullMap {
     ghost use Rattle.std.specs.FinMap as finite;
     ghost use Rattle.std.specs.Prelude.{◌++◌};
     ghost use Rattle.dx_model.specs.contracts.values.Value as value;
-    ghost use Rattle.dx_instance.specs.NullMaps.{AreStored, ByNull, coded_null, entries_in, map_of};
+    ghost use Rattle.dx_instance.specs.NullMaps.{AreStored, ByNull, coded_null, entries_in, map_of_entries};
 
     ghost Value = { ByNull };
 
     ghost coded = { finite.code coded_null value.the_row.coded };
 
-    ghost view = { λ m. map_of (m.tree.entries ++ entries_in m.pairs.items) };
+    ghost view = { λ m. map_of_entries (m.tree.entries ++ entries_in m.pairs.items) };
 
     ghost invariant = { λ m. AreStored m.pairs.items m.tree.entries };
 }
@@ -38,7 +38,7 @@ impl Model for NullMap {
 // Gives a null a value in a tree. A null that gets itself is taken out.
 fn put(tree: &mut BTreeMap<NullId, Value>, null: NullId, value: Value) -> Result<(), AllocError>
     requires { NoneIsItself tree.old.entries }
-    ensures ok { OnOk result (map_of tree.new.entries ≡ with_value (map_of tree.old.entries) null value) }
+    ensures ok { OnOk result (map_of_entries tree.new.entries ≡ with_value (map_of_entries tree.old.entries) null value) }
     ensures err { OnErr result (tree.new.entries ≡ tree.old.entries) }
     ensures proper { NoneIsItself tree.new.entries }
 {
@@ -53,7 +53,7 @@ fn put(tree: &mut BTreeMap<NullId, Value>, null: NullId, value: Value) -> Result
 // A tree of pairs.
 fn tree_of(alloc: Global, pairs: &[NullPair]) -> Result<BTreeMap<NullId, Value>, AllocError>
     requires { NoPairIsItself pairs.now }
-    ensures same { IfOk result (λ t. map_of t.entries ≡ map_of (entries_in pairs.now)) }
+    ensures same { IfOk result (λ t. map_of_entries t.entries ≡ map_of_entries (entries_in pairs.now)) }
     ensures proper { IfOk result (λ t. NoneIsItself t.entries) }
 {
     let mut tree = BTreeMap::new(alloc);
@@ -69,8 +69,8 @@ fn tree_of(alloc: Global, pairs: &[NullPair]) -> Result<BTreeMap<NullId, Value>,
 // The pairs in a tree, ascending by null.
 fn pairs_in(alloc: Global, tree: &BTreeMap<NullId, Value>) -> Result<Vec<NullPair>, AllocError>
     requires { NoneIsItself tree.now.entries }
-    ensures pairs { IfOk result (λ pairs. pairs.items ≡ pairs_of (map_of tree.now.entries)) }
-    ensures null_map { IsNullMap (pairs_of (map_of tree.now.entries)) }
+    ensures pairs { IfOk result (λ pairs. pairs.items ≡ pairs_of (map_of_entries tree.now.entries)) }
+    ensures null_map { IsNullMap (pairs_of (map_of_entries tree.now.entries)) }
 {
     let mut pairs = Vec::with_capacity(alloc, tree.len())?;
     for (null, value) in tree {

@@ -8,7 +8,7 @@ ghost use Rattle.dx_model.specs.Instances.{given};
 ghost use Rattle.dx_model.specs.Values.{null_cmp};
 ghost use Rattle.dx_model.specs.declared.values.NullId.{NullId as Id};
 ghost use Rattle.dx_ports.specs.Members.{Each};
-ghost use Rattle.dx_instance.specs.NullMaps.{IsTurn, NoPairIsItself, PairsAscend, entries_in, is_itself, with_proper};
+ghost use Rattle.dx_instance.specs.NullMaps.{IsMergeStep, NoPairIsItself, PairsAscend, entries_in, is_itself, with_proper};
 
 use dx_model::{NullId, NullPair, Value, copy_value};
 use std::alloc::{AllocError, Global};
@@ -82,7 +82,7 @@ struct Turn<'a> {
 fn turn_of_second<'a>(none: &'a [NullPair], second: &'a [NullPair]) -> Option<Turn<'a>>
     requires empty { length none.now ≡ 0 }
     requires second { PairsAscend second.now }
-    ensures some { IfSome result (λ t. IsTurn none.now second.now t.pair.now t.rest.now t.others.now) }
+    ensures some { IfSome result (λ t. IsMergeStep none.now second.now t.pair.now t.rest.now t.others.now) }
     ensures none { IfNone result (length (none.now ++ second.now) ≡ 0) }
 {
     let Some((pair, others)) = second.split_first() else {
@@ -100,7 +100,7 @@ fn turn_of_second<'a>(none: &'a [NullPair], second: &'a [NullPair]) -> Option<Tu
 fn next_turn<'a>(first: &'a [NullPair], second: &'a [NullPair]) -> Option<Turn<'a>>
     requires first { PairsAscend first.now }
     requires second { PairsAscend second.now }
-    ensures some { IfSome result (λ t. IsTurn first.now second.now t.pair.now t.rest.now t.others.now) }
+    ensures some { IfSome result (λ t. IsMergeStep first.now second.now t.pair.now t.rest.now t.others.now) }
     ensures none { IfNone result (length (first.now ++ second.now) ≡ 0) }
 {
     let Some((pair, rest)) = first.split_first() else {

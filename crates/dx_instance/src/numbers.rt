@@ -2,7 +2,7 @@
 ghost use Rattle.std.specs.Prelude.{◌≡◌, ◌<◌, ◌≤◌, ℕ, IfOk, length};
 ghost use Rattle.std.specs.Bool.{OnTrue};
 ghost use Rattle.dx_instance.specs.Cells.{IsPlaceOf, numbers_at};
-ghost use Rattle.dx_instance.specs.Indexes.{IsNext};
+ghost use Rattle.dx_instance.specs.Indexes.{IsNextWithNumber};
 ghost use Rattle.dx_instance.specs.Numbers.{IsConstant, IsNumberOf, IsSomeNull, ValuesAscend, value_of};
 ghost use Rattle.dx_instance.specs.Shown.{AreBelow, PartsFit, numbers_of_table};
 
@@ -21,7 +21,7 @@ pub struct Numbers<'a> {
 }
 
 impl<'a> Model for Numbers<'a> {
-    ghost use Rattle.dx_instance.specs.Shown.{Numbered, PartsFit};
+    ghost use Rattle.dx_instance.specs.Shown.{NumberedInstance, PartsFit};
 
     ghost Value = { Numbered };
 
@@ -140,7 +140,7 @@ impl<'a> Numbers<'a> {
     pub fn next_with(&self, table: u32, column: u32, number: u32, from: u32) -> Option<u32>
         requires table { table < length self.now.tables }
         requires column { column < (numbers_of_table self.now.tables table).width }
-        ensures { IsNext (numbers_of_table self.now.tables table).rows column number from result }
+        ensures { IsNextWithNumber (numbers_of_table self.now.tables table).rows column number from result }
     {
         self.tables[table as usize].next_with(column, number, from)
     }

@@ -5,7 +5,7 @@ ghost use Rattle.dx_model.specs.declared.values.Value.TheVariants.{Const};
 ghost use Rattle.dx_ports.specs.Members.{Each};
 ghost use Rattle.dx_instance.specs.Keys.{AreSmall, IsSmallSecond, IsSmallValue, NumbersAreKeyed, ValuesAreKeyed, packed, places_of, second_key, value_key};
 ghost use Rattle.dx_instance.specs.Numbers.{IsOrdering, value_of};
-ghost use Rattle.dx_instance.specs.Ranks.{AreDistinct, AreEnds, AreLengths, IsShortLength, LiesIn, joined_texts, text_of};
+ghost use Rattle.dx_instance.specs.Ranks.{AreDistinct, AreEnds, AreLengths, IsShortLength, LiesInBuffer, joined_texts, text_of_value};
 
 use crate::hints::hints_of;
 use crate::layer::Layer;
@@ -135,7 +135,7 @@ fn push_short(buffer: &mut Vec<u8>, key: u64, length: usize) -> Result<(), Alloc
 }
 
 // Puts the text of the value under a number at the end of a buffer. A short one is taken from its key, and the value is not
-// looked at: where values lie in another order, to come to them takes most of the time.
+// looked at: if values lie in another order, to come to them takes most of the time.
 fn push_text(
     buffer: &mut Vec<u8>,
     symbols: &Values,
@@ -147,7 +147,7 @@ fn push_text(
     requires key { key ≡ value_key (value_of symbols.now number) }
     requires small { IsSmallValue (value_of symbols.now number) }
     requires size { IsShortLength (value_of symbols.now number) size }
-    ensures { OnOk result (buffer.new.items ≡ buffer.old.items ++ text_of (value_of symbols.now number)) }
+    ensures { OnOk result (buffer.new.items ≡ buffer.old.items ++ text_of_value (value_of symbols.now number)) }
 {
     if size <= 8 {
         return push_short(buffer, key, size as usize);
@@ -214,7 +214,7 @@ fn value_in(
     end: u32,
 ) -> Result<Value, AllocError>
     requires below { number < length symbols.now }
-    requires lies { LiesIn (string_bytes buffer.now.value) start end (text_of (value_of symbols.now number)) }
+    requires lies { LiesInBuffer (string_bytes buffer.now.value) start end (text_of_value (value_of symbols.now number)) }
     ensures { IfOk result (λ v. v ≡ value_of symbols.now number) }
 {
     if start < end {

@@ -1,6 +1,6 @@
 // The first numbers of a row as one number.
 ghost use Rattle.std.specs.Prelude.{◌≡◌, ◌<◌, ◌≤◌, ◌^◌, ◌++◌, IfSome, OnOk, slice_index};
-ghost use Rattle.dx_instance.specs.Keys.{AreSmall, HasBits, HasRoom, packed, unpacked};
+ghost use Rattle.dx_instance.specs.Keys.{AreSmall, HasBits, DigitsFit, packed, unpacked};
 ghost use Rattle.dx_instance.specs.Shown.{AreBelow};
 
 use std::alloc::AllocError;
@@ -17,7 +17,7 @@ impl Packing {
     pub(crate) fn below(bound: u64) -> Packing
         requires { bound ≤ 2 ^ 32 }
         ensures wide { bound ≤ result.base }
-        ensures room { HasRoom result.base result.digits }
+        ensures room { DigitsFit result.base result.digits }
     {
         let (base, digits) = if bound <= 65_536 {
             (65_536, 4)
@@ -31,7 +31,7 @@ impl Packing {
 
     /// A number that compares as the first numbers of the row.
     pub(crate) fn key_of(self, row: &[u32]) -> u64
-        requires room { HasRoom self.base self.digits }
+        requires room { DigitsFit self.base self.digits }
         requires below { AreBelow self.base row.now }
         ensures key { result ≡ packed self.base self.digits 0 row.now }
         ensures small { AreSmall self.base self.digits row.now }

@@ -4,7 +4,7 @@ ghost use Rattle.std.specs.Bool.{OnTrue};
 ghost use Rattle.std.specs.declared.cmp.Ordering.TheVariants.{Less};
 ghost use Rattle.dx_model.specs.Values.{value_cmp};
 ghost use Rattle.dx_ports.specs.Members.{Each, ◌∈◌};
-ghost use Rattle.dx_instance.specs.Numbers.{AreApart, Extends, IsConstant, IsNumberOf, IsOrdering, IsSomeNull, ValuesAscend, value_of};
+ghost use Rattle.dx_instance.specs.Numbers.{AreDistinctValues, Extends, IsConstant, IsNumberOf, IsOrdering, IsSomeNull, ValuesAscend, value_of};
 
 use crate::hints::hint_of;
 use crate::layer::Layer;
@@ -28,14 +28,14 @@ pub struct Symbols {
 impl Model for Symbols {
     ghost use Rattle.std.specs.Prelude.{List, ◌++◌, ◌<◌, ◌^◌, length};
     ghost use Rattle.dx_model.specs.declared.values.Value.{Value as Cell};
-    ghost use Rattle.dx_instance.specs.Numbers.{AreApart, ValuesAscend};
+    ghost use Rattle.dx_instance.specs.Numbers.{AreDistinctValues, ValuesAscend};
 
     ghost Value = { List Cell };
 
     ghost view = { λ s. s.ordered ++ s.greater.items ++ s.later.keys };
 
     ghost invariant = { λ s. ValuesAscend (s.ordered ++ s.greater.items)
-        × AreApart (s.ordered ++ s.greater.items ++ s.later.keys)
+        × AreDistinctValues (s.ordered ++ s.greater.items ++ s.later.keys)
         × (length (s.ordered ++ s.greater.items ++ s.later.keys) < 2 ^ 32) };
 }
 
@@ -109,7 +109,7 @@ impl Symbols {
         ensures len { result ≡ length self.now }
 
         // What holds of all symbols.
-        ensures apart { AreApart self.now }
+        ensures apart { AreDistinctValues self.now }
         ensures few { length self.now < 2 ^ 32 }
     {
         (self.ordered.values().len() + self.greater.len() + self.later.len()) as u64
@@ -210,7 +210,7 @@ impl Symbols {
         ensures fresh { OnOk result (¬ (value ∈ self.old) → self.new ≡ self.old ++ value ∷ []) }
         ensures err { OnErr result (self.new ≡ self.old) }
         ensures grows { Extends self.old self.new }
-        ensures apart { AreApart self.new }
+        ensures apart { AreDistinctValues self.new }
         ensures few { length self.new < 2 ^ 32 }
     {
         let ordered = self.ordered.values();
@@ -303,7 +303,7 @@ fn copies_of(alloc: Global, values: &[Value]) -> Result<Vec<Value>, AllocError>
 
 // Copies of distinct values as a set, in the same order.
 fn set_of(alloc: Global, values: &[Value]) -> Result<IndexSet<Value>, AllocError>
-    requires { AreApart values.now }
+    requires { AreDistinctValues values.now }
     ensures { IfOk result (λ set. set.keys ≡ values.now) }
 {
     let mut set = IndexSet::new(alloc);

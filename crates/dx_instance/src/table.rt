@@ -3,9 +3,9 @@ ghost use Rattle.std.specs.Prelude.{◌≡◌, ◌≤◌, ◌<◌, ◌-◌, ◌^
 ghost use Rattle.std.specs.Bool.{OnTrue};
 ghost use Rattle.dx_ports.specs.Members.{Each, ◌∈◌};
 ghost use Rattle.dx_instance.specs.Shown.{AreBelow, renumbered};
-ghost use Rattle.dx_instance.specs.Cells.{IsPlaceOf, IsPut, NumbersAscend, key_of, numbers_at, with_numbers};
+ghost use Rattle.dx_instance.specs.Cells.{IsPlaceOf, IsPut, NumbersAscend, row_key, numbers_at, with_numbers};
 ghost use Rattle.dx_instance.specs.Chains.{AreChains};
-ghost use Rattle.dx_instance.specs.Indexes.{IsNext};
+ghost use Rattle.dx_instance.specs.Indexes.{IsNextWithNumber};
 
 use crate::cells::Rows;
 use crate::chains::Chains;
@@ -25,18 +25,18 @@ pub struct Table {
 
 impl Model for Table {
     ghost use Rattle.dx_instance.specs.Cells.{NumberTable};
-    ghost use Rattle.dx_instance.specs.Chains.{AreParts};
+    ghost use Rattle.dx_instance.specs.Chains.{AreTableParts};
 
     ghost Value = { NumberTable };
 
     ghost view = { λ t. t.rows };
 
-    ghost invariant = { λ t. AreParts t.sorted t.rows.rows t.chains t.indexes.items };
+    ghost invariant = { λ t. AreTableParts t.sorted t.rows.rows t.chains t.indexes.items };
 }
 
 // The number by which a row is looked up.
 fn row_key(row: &[u32]) -> u64
-    ensures { result ≡ key_of row.now }
+    ensures { result ≡ row_key row.now }
 {
     let mut key = 7u64;
     for number in row {
@@ -70,7 +70,7 @@ fn find_sorted(rows: &Rows, sorted: u32, row: &[u32]) -> Option<u32>
 fn find_later(rows: &Rows, sorted: u32, chains: &Chains, row: &[u32]) -> Option<u32>
     requires some { sorted ≤ length rows.now.rows }
     requires few { length rows.now.rows < 2 ^ 32 }
-    requires chained { AreChains chains.now (map key_of (drop sorted rows.now.rows)) }
+    requires chained { AreChains chains.now (map row_key (drop sorted rows.now.rows)) }
     ensures { IsPlaceOf (drop sorted rows.now.rows) rows.now.rows row.now result }
 {
     let mut code = chains.last(row_key(row));
@@ -99,7 +99,7 @@ fn index_of(indexes: &[ColumnIndex], column: u32) -> Option<&ColumnIndex>
 // The least place from `from` on whose row has the number in the column, row by row.
 fn next_in(rows: &Rows, column: u32, number: u32, from: u32) -> Option<u32>
     requires { column < rows.now.width }
-    ensures { IsNext rows.now.rows column number from result }
+    ensures { IsNextWithNumber rows.now.rows column number from result }
 {
     for place in from..rows.count() {
         if rows.row(place)[column as usize] == number {
@@ -269,7 +269,7 @@ impl Table {
     /// The least place from `from` on whose row has the number in the column.
     pub fn next_with(&self, column: u32, number: u32, from: u32) -> Option<u32>
         requires { column < self.now.width }
-        ensures { IsNext self.now.rows column number from result }
+        ensures { IsNextWithNumber self.now.rows column number from result }
     {
         match index_of(&self.indexes, column) {
             Some(index) => index.next(number, from),

@@ -2,7 +2,7 @@
 ghost use Rattle.std.specs.Prelude.{◌≡◌, ◌<◌, ◌-◌, ◌^◌, ◌↔◌, IfOk, IsTrue, MatchBool, length, slice_index, slice_index_or};
 ghost use Rattle.dx_instance.specs.Keys.{AreSeconds, AreSecondsOrNone, AreSorted, IsKeyIn, IsRepeat, IsRise, NumbersAreKeyed, ValuesAreKeyed, long_cmp, places_of, tie_cmp};
 ghost use Rattle.dx_instance.specs.Numbers.{value_of};
-ghost use Rattle.dx_instance.specs.Ranks.{AreDistinct, AreLengths, AreTied};
+ghost use Rattle.dx_instance.specs.Ranks.{AreDistinct, AreLengths, AreTieKeys};
 
 use crate::ordering::second_key_of;
 use crate::values::Values;
@@ -88,7 +88,7 @@ impl<'a> Ties<'a> {
     ) -> Result<Ties<'a>, AllocError>
         requires { AreLengths values.now lengths.now (length values.now) }
         ensures values { IfOk result (λ t. t.values.now ≡ values.now) }
-        ensures tied { IfOk result (λ t. AreTied t.values.now t.lengths.now t.seconds.items) }
+        ensures tied { IfOk result (λ t. AreTieKeys t.values.now t.lengths.now t.seconds.items) }
     {
         let seconds = seconds_if_long(alloc, values, lengths)?;
         let blank = Value::Null(NullId {
@@ -145,7 +145,7 @@ impl<'a> Ties<'a> {
 
     /// The numbers in the order of their values, with their keys.
     pub(crate) fn in_order(&self, keys: Vec<(u64, u32)>) -> Vec<(u64, u32)>
-        requires tied { AreTied self.now.values.now self.now.lengths.now self.now.seconds.items }
+        requires tied { AreTieKeys self.now.values.now self.now.lengths.now self.now.seconds.items }
         requires keyed { ValuesAreKeyed self.now.values.now keys.items (length self.now.values.now) }
         ensures sorted { AreSorted self.now.values.now (places_of result.items) }
         ensures keyed { NumbersAreKeyed self.now.values.now result.items }
@@ -160,7 +160,7 @@ impl<'a> Ties<'a> {
 
     // Whether two keys stand for one value.
     fn is_same(&self, a: (u64, u32), b: (u64, u32)) -> bool
-        requires tied { AreTied self.now.values.now self.now.lengths.now self.now.seconds.items }
+        requires tied { AreTieKeys self.now.values.now self.now.lengths.now self.now.seconds.items }
         requires first { IsKeyIn self.now.values.now a }
         requires second { IsKeyIn self.now.values.now b }
         ensures { IsTrue result ↔ (value_of self.now.values.now a.1 ≡ value_of self.now.values.now b.1) }
@@ -171,7 +171,7 @@ impl<'a> Ties<'a> {
     // Whether the key at a place is the first that stands for its value.
     fn is_first(&self, keys: &[(u64, u32)], place: usize) -> bool
         requires place { place < length keys.now }
-        requires tied { AreTied self.now.values.now self.now.lengths.now self.now.seconds.items }
+        requires tied { AreTieKeys self.now.values.now self.now.lengths.now self.now.seconds.items }
         requires sorted { AreSorted self.now.values.now (places_of keys.now) }
         requires keyed { NumbersAreKeyed self.now.values.now keys.now }
         ensures { MatchBool result (IsRise self.now.values.now (places_of keys.now) place) (IsRepeat self.now.values.now (places_of keys.now) place) }
@@ -193,7 +193,7 @@ impl<'a> Ties<'a> {
         keys: &[(u64, u32)],
     ) -> Result<(Vec<(u64, u32)>, Vec<u32>), AllocError>
         requires few { length self.now.values.now < 2 ^ 32 }
-        requires tied { AreTied self.now.values.now self.now.lengths.now self.now.seconds.items }
+        requires tied { AreTieKeys self.now.values.now self.now.lengths.now self.now.seconds.items }
         requires sorted { AreSorted self.now.values.now (places_of keys.now) }
         requires keyed { NumbersAreKeyed self.now.values.now keys.now }
         ensures { IfOk result (λ r. AreDistinct self.now.values.now r.0.items r.1.items) }

@@ -10,9 +10,9 @@ use Rattle.dx_instance.specs.Shown.{numbers_of_table}
 use Rattle.dx_joins.specs.declared.pattern.Pattern.{Pattern}
 use Rattle.dx_joins.specs.declared.premise.Partial.{Partial}
 use Rattle.dx_joins.specs.declared.plan.Plan.{Plan}
-use Rattle.dx_joins.specs.Collecting.{AreThose, Collection, Gains, MoreThan}
-use Rattle.dx_joins.specs.Joining.{variables_of}
-use Rattle.dx_joins.specs.Planning.{Carries, IsNeeded, IsTold, PairsWith, StepsTo, Told}
+use Rattle.dx_joins.specs.Collecting.{AreThose, Collection, CollectsRows, MoreThan}
+use Rattle.dx_joins.specs.Joining.{variables_of_patterns}
+use Rattle.dx_joins.specs.Planning.{HoldsPartialMatches, IsVariableNeeded, IsMatchRow, PairsWith, StepsTo, AreMatchRows}
 use Rattle.dx_joins.proofs.Collections.{more_same}
 use Rattle.dx_joins.proofs.Patterns.{all_but_last, split_length, step_to, to_step, variables_more}
 
@@ -33,7 +33,7 @@ pub step_full : (start : Collection) (most : ℕ) (P Q : List ℕ → Type 0) �
 step_full start most P Q e n s m =
     subst (λ (k : ℕ). MoreThan k Q) e (more_same start.most (λ t. (t ∈ start.rows) ⊎ P t) Q (λ t h. elim h [ inl l ↦ nothing (rw n at l) | inr p ↦ s t p ]) m)
 
-pub step_done : (result : Result (Option NumberTable) AllocError) (start new : Collection) (most width : ℕ) (P Q : List ℕ → Type 0) → start.most ≡ most → start.width ≡ width → start.rows ≡ [] → ((t : List ℕ) → P t ↔ Q t) → Gains start new P
+pub step_done : (result : Result (Option NumberTable) AllocError) (start new : Collection) (most width : ℕ) (P Q : List ℕ → Type 0) → start.most ≡ most → start.width ≡ width → start.rows ≡ [] → ((t : List ℕ) → P t ↔ Q t) → CollectsRows start new P
     → IfOk result (λ o. MatchOption o (MoreThan new.most (λ t. t ∈ new.rows)) (λ r. AreThose new.width (λ t. t ∈ new.rows) r × (length r.rows ≤ new.most)))
     → IfOk result (λ o. MatchOption o (MoreThan most Q) (AreThose width Q))
 step_done (Err e) start new most width P Q a b n s g k = tt
@@ -55,14 +55,14 @@ few_rows (Err e) most bound P Q is k = tt
 few_rows (Ok None) most bound P Q is k = tt
 few_rows (Ok (Some r)) most bound P Q is k = let l = k.1 in omega (arith, l, is)
 
-shared_there : (T : List NumberTable) (marks : List Bool) (done later : List Pattern) (wanted : List ℕ) (p : Pattern) (q : Partial) → Carries T marks done (p ∷ later) wanted q
-    → (x : ℕ) → x ∈ variables_of done → x ∈ p.variables.items → x ∈ q.variables.items
-shared_there T marks done later wanted p q c x m h = c.kept x m (inl (in_left (variables_of later) h))
+shared_there : (T : List NumberTable) (marks : List Bool) (done later : List Pattern) (wanted : List ℕ) (p : Pattern) (q : Partial) → HoldsPartialMatches T marks done (p ∷ later) wanted q
+    → (x : ℕ) → x ∈ variables_of_patterns done → x ∈ p.variables.items → x ∈ q.variables.items
+shared_there T marks done later wanted p q c x m h = c.kept x m (inl (in_left (variables_of_patterns later) h))
 
 pub carry_more : (T : List NumberTable) (marks : List Bool) (done later : List Pattern) (wanted names : List ℕ) (p : Pattern) (q next : Partial)
-    → names ≡ q.variables.items ++ p.variables.items → next.variables.items ⊆ names → ((x : ℕ) → x ∈ names → IsNeeded later wanted x → x ∈ next.variables.items) → Distinct next.variables.items
+    → names ≡ q.variables.items ++ p.variables.items → next.variables.items ⊆ names → ((x : ℕ) → x ∈ names → IsVariableNeeded later wanted x → x ∈ next.variables.items) → Distinct next.variables.items
     → length next.variables.items ≤ length names → next.rows.width ≡ length next.variables.items → ((t : List ℕ) → (t ∈ next.rows.rows) ↔ StepsTo T marks q p next.variables.items t)
-    → Carries T marks done (p ∷ later) wanted q → Carries T marks (done ++ p ∷ []) later wanted next
+    → HoldsPartialMatches T marks done (p ∷ later) wanted q → HoldsPartialMatches T marks (done ++ p ∷ []) later wanted next
 carry_more T marks done later wanted names p q next e some all once few wide is c =
     let shared = shared_there T marks done later wanted p q c in
     let known : next.variables.items ⊆ (q.variables.items ++ p.variables.items) = rw (← e) some in
@@ -74,16 +74,16 @@ carry_more T marks done later wanted names p q next e some all once few wide is 
           (λ k. (is t).1 (to_step T marks done p q next.variables.items c.told shared known t k)),
         );
       };
-      kept = λ x m n. all x (rw e (elim (from_append (variables_of done) (rw more at m)) [
+      kept = λ x m n. all x (rw e (elim (from_append (variables_of_patterns done) (rw more at m)) [
         | inl l ↦ in_left p.variables.items (c.kept x l (elim n [ inl k ↦ inl (in_right p.variables.items k) | inr w ↦ inr w ]))
         | inr r ↦ in_right q.variables.items r
       ])) n;
       once = once;
       wide = wide;
-      few = omega (arith, few, c.few, ap length e, length-append q.variables.items p.variables.items, ap length more, length-append (variables_of done) p.variables.items);
+      few = omega (arith, few, c.few, ap length e, length-append q.variables.items p.variables.items, ap length more, length-append (variables_of_patterns done) p.variables.items);
     }
 
-pub carry_start : (T : List NumberTable) (marks : List Bool) (later : List Pattern) (wanted : List ℕ) (q : Partial) → q.variables.items ≡ [] → q.rows.rows ≡ [] ∷ [] → q.rows.width ≡ 0 → Carries T marks [] later wanted q
+pub carry_start : (T : List NumberTable) (marks : List Bool) (later : List Pattern) (wanted : List ℕ) (q : Partial) → q.variables.items ≡ [] → q.rows.rows ≡ [] ∷ [] → q.rows.width ≡ 0 → HoldsPartialMatches T marks [] later wanted q
 carry_start T marks later wanted q v r w = record {
   told = rw (v, r) (record { exact = λ t. ((λ m. ((λ x. x), (λ a k. nothing2 k), only t m)), (λ k. here (sym k.2))) });
   kept = λ x m n. nothing3 m;
@@ -104,32 +104,32 @@ carry_start T marks later wanted q v r w = record {
 
 -- after the last pattern
 module _ (T : List NumberTable) (marks : List Bool) (patterns : List Pattern) (i : ℕ) (p : Pattern) (shown : List ℕ) (q : Partial) (h : i < length patterns) (l : length patterns ≤ i + 1) (e : p ≡ get_or patterns i p)
-    (c : Carries T marks (take i patterns) (drop i patterns) shown q) where
+    (c : HoldsPartialMatches T marks (take i patterns) (drop i patterns) shown q) where
   later : drop i patterns ≡ p ∷ drop (i + 1) patterns
   later = drop_more patterns i p h ∙ ap (λ (a : Pattern). a ∷ drop (i + 1) patterns) (sym e)
 
-  shared : (x : ℕ) → x ∈ variables_of (take i patterns) → x ∈ p.variables.items → x ∈ q.variables.items
+  shared : (x : ℕ) → x ∈ variables_of_patterns (take i patterns) → x ∈ p.variables.items → x ∈ q.variables.items
   shared = shared_there T marks (take i patterns) (drop (i + 1) patterns) shown p q (rw (← later) c)
 
-  pub last_known : shown ⊆ variables_of patterns → shown ⊆ (q.variables.items ++ p.variables.items)
+  pub last_known : shown ⊆ variables_of_patterns patterns → shown ⊆ (q.variables.items ++ p.variables.items)
   last_known s x m =
       let whole = all_but_last patterns i p h l e in
-      let at : x ∈ (variables_of (take i patterns) ++ p.variables.items) = subst (λ (v : List ℕ). x ∈ v) (ap variables_of (sym whole) ∙ variables_more (take i patterns) p) (s x m) in
-      elim (from_append (variables_of (take i patterns)) at) [ inl k ↦ in_left p.variables.items (c.kept x k (inr m)) | inr r ↦ in_right q.variables.items r ]
+      let at : x ∈ (variables_of_patterns (take i patterns) ++ p.variables.items) = subst (λ (v : List ℕ). x ∈ v) (ap variables_of_patterns (sym whole) ∙ variables_more (take i patterns) p) (s x m) in
+      elim (from_append (variables_of_patterns (take i patterns)) at) [ inl k ↦ in_left p.variables.items (c.kept x k (inr m)) | inr r ↦ in_right q.variables.items r ]
 
-  pub last_told : shown ⊆ variables_of patterns → (t : List ℕ) → StepsTo T marks q p shown t ↔ IsTold T marks patterns shown t
+  pub last_told : shown ⊆ variables_of_patterns patterns → (t : List ℕ) → StepsTo T marks q p shown t ↔ IsMatchRow T marks patterns shown t
   last_told s t =
       let whole = all_but_last patterns i p h l e in
       rw (← whole) ((step_to T marks (take i patterns) p q shown c.told shared (last_known s) t), (to_step T marks (take i patterns) p q shown c.told shared (last_known s) t))
 
-  pub room : length (variables_of patterns) < 2 ^ 32 → length q.variables.items + length p.variables.items < 2 ^ 32
+  pub room : length (variables_of_patterns patterns) < 2 ^ 32 → length q.variables.items + length p.variables.items < 2 ^ 32
   room s = let r = split_length patterns i p h e in omega (arith, r, c.few, s)
 
-pub told_from : (T : List NumberTable) (marks : List Bool) (patterns : List Pattern) (shown : List ℕ) (most : ℕ) (Q : List ℕ → Type 0) (result : Result (Option NumberTable) AllocError) → ((t : List ℕ) → Q t ↔ IsTold T marks patterns shown t)
+pub told_from : (T : List NumberTable) (marks : List Bool) (patterns : List Pattern) (shown : List ℕ) (most : ℕ) (Q : List ℕ → Type 0) (result : Result (Option NumberTable) AllocError) → ((t : List ℕ) → Q t ↔ IsMatchRow T marks patterns shown t)
     → IfOk result (λ o. MatchOption o (MoreThan most Q) (AreThose (length shown) Q))
-    → IfOk result (λ o. MatchOption o (MoreThan most (IsTold T marks patterns shown)) (λ r. Told T marks patterns shown r))
+    → IfOk result (λ o. MatchOption o (MoreThan most (IsMatchRow T marks patterns shown)) (λ r. AreMatchRows T marks patterns shown r))
 told_from T marks patterns shown most Q (Err e) s k = tt
-told_from T marks patterns shown most Q (Ok None) s k = more_same most Q (IsTold T marks patterns shown) (λ t. (s t).0) k
+told_from T marks patterns shown most Q (Ok None) s k = more_same most Q (IsMatchRow T marks patterns shown) (λ t. (s t).0) k
 told_from T marks patterns shown most Q (Ok (Some r)) s k = record { width = k.width; ascend = k.ascend; exact = λ t. ((λ m. (s t).0 ((k.exact t).0 m)), (λ q. (k.exact t).1 ((s t).1 q))) }
 
 pub some_length : (ps : List Pattern) → ¬ (ps ≡ []) → 0 < length ps

@@ -8,15 +8,15 @@ use Rattle.dx_ports.proofs.Members.{in_left, in_right, from_append}
 use Rattle.dx_model.proofs.Lists.{from_take}
 use Rattle.dx_instance.specs.Cells.{NumberTable, with_numbers}
 use Rattle.dx_joins.proofs.Distincts.{ascend_distinct}
-use Rattle.dx_joins.specs.Collecting.{Collection, Collects, FirstAscend, Gains, MoreThan}
+use Rattle.dx_joins.specs.Collecting.{Collection, Collects, FirstAscend, CollectsRows, MoreThan}
 
-pub gains_nothing : (c : Collection) (P : List ℕ → Type 0) → ((t : List ℕ) → ¬ (P t)) → Gains c c P
+pub gains_nothing : (c : Collection) (P : List ℕ → Type 0) → ((t : List ℕ) → ¬ (P t)) → CollectsRows c c P
 gains_nothing c P n = record { width = refl; most = refl; exact = λ t. (inl, λ m. elim m [ inl l ↦ l | inr p ↦ absurd (n t p) ]) }
 
-pub gains_old : (c : Collection) (row : List ℕ) → row ∈ c.rows → Gains c c (λ t. t ≡ row)
+pub gains_old : (c : Collection) (row : List ℕ) → row ∈ c.rows → CollectsRows c c (λ t. t ≡ row)
 gains_old c row m = record { width = refl; most = refl; exact = λ t. (inl, λ q. elim q [ inl l ↦ l | inr e ↦ subst (λ (x : List ℕ). x ∈ c.rows) (sym e) m ]) }
 
-pub gains_same : (old new : Collection) (P Q : List ℕ → Type 0) → ((t : List ℕ) → P t ↔ Q t) → Gains old new P → Gains old new Q
+pub gains_same : (old new : Collection) (P Q : List ℕ → Type 0) → ((t : List ℕ) → P t ↔ Q t) → CollectsRows old new P → CollectsRows old new Q
 gains_same old new P Q s g = record {
   width = g.width;
   most = g.most;
@@ -26,7 +26,7 @@ gains_same old new P Q s g = record {
   );
 }
 
-pub gains_then : (old mid new : Collection) (P Q R : List ℕ → Type 0) → ((t : List ℕ) → (P t ⊎ Q t) ↔ R t) → Gains old mid P → Gains mid new Q → Gains old new R
+pub gains_then : (old mid new : Collection) (P Q R : List ℕ → Type 0) → ((t : List ℕ) → (P t ⊎ Q t) ↔ R t) → CollectsRows old mid P → CollectsRows mid new Q → CollectsRows old new R
 gains_then old mid new P Q R s g h = record {
   width = h.width ∙ g.width;
   most = h.most ∙ g.most;
@@ -45,7 +45,7 @@ gains_then old mid new P Q R s g h = record {
 pub more_same : (most : ℕ) (P Q : List ℕ → Type 0) → ((t : List ℕ) → P t → Q t) → MoreThan most P → MoreThan most Q
 more_same most P Q s m = record { some = m.some; distinct = m.distinct; each = λ t k. s t (m.each t k); more = m.more; few = m.few }
 
-pub more_then : (old mid : Collection) (P Q R : List ℕ → Type 0) → ((t : List ℕ) → P t → R t) → ((t : List ℕ) → Q t → R t) → Gains old mid P → MoreThan mid.most (λ t. (t ∈ mid.rows) ⊎ Q t)
+pub more_then : (old mid : Collection) (P Q R : List ℕ → Type 0) → ((t : List ℕ) → P t → R t) → ((t : List ℕ) → Q t → R t) → CollectsRows old mid P → MoreThan mid.most (λ t. (t ∈ mid.rows) ⊎ Q t)
     → MoreThan old.most (λ t. (t ∈ old.rows) ⊎ R t)
 more_then old mid P Q R f h g m =
     let e : mid.most ≡ old.most = g.most in

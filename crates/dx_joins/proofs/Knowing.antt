@@ -7,7 +7,7 @@ use Rattle.dx_ports.specs.Members.{◌∈◌, Each, here, there}
 use Rattle.dx_ports.proofs.Members.{in_left, in_right, from_append}
 use Rattle.dx_joins.specs.declared.known.Known.{Known}
 use Rattle.dx_joins.specs.declared.pattern.Pattern.{Pattern}
-use Rattle.dx_joins.specs.Joining.{variables_of}
+use Rattle.dx_joins.specs.Joining.{variables_of_patterns}
 use Rattle.dx_joins.specs.Knowing.{NowKnown}
 use Rattle.dx_joins.proofs.Patterns.{variables_more}
 
@@ -65,11 +65,11 @@ now_more old mid new xs i h a b = rw (take_more xs i 0 h) (record {
 
 -- one pattern more has its variables below
 pub above_more : (ps : List Pattern) (i old new : ℕ) (p : Pattern) (vs : List ℕ) → i < length ps → p ≡ get_or ps i p → vs ≡ p.variables.items → old ≤ new → Each vs (λ x. x < new)
-    → Each (variables_of (take i ps)) (λ x. x < old) → Each (variables_of (take (i + 1) ps)) (λ x. x < new)
+    → Each (variables_of_patterns (take i ps)) (λ x. x < old) → Each (variables_of_patterns (take (i + 1) ps)) (λ x. x < new)
 above_more ps i old new p vs h e d up fits before x m =
     let s : take (i + 1) ps ≡ take i ps ++ p ∷ [] = take_more ps i p h ∙ ap (λ (q : Pattern). take i ps ++ q ∷ []) (sym e) in
-    let v : variables_of (take (i + 1) ps) ≡ variables_of (take i ps) ++ p.variables.items = ap variables_of s ∙ variables_more (take i ps) p in
-    elim (from_append (variables_of (take i ps)) (subst (λ (l : List ℕ). x ∈ l) v m)) [
+    let v : variables_of_patterns (take (i + 1) ps) ≡ variables_of_patterns (take i ps) ++ p.variables.items = ap variables_of_patterns s ∙ variables_more (take i ps) p in
+    elim (from_append (variables_of_patterns (take i ps)) (subst (λ (l : List ℕ). x ∈ l) v m)) [
       | inl l ↦ let q = before x l in omega (arith, q, up)
       | inr r ↦ fits x (subst (λ (l : List ℕ). x ∈ l) (sym d) r)
     ]

@@ -3,9 +3,9 @@ use Rattle.std.proofs.Common.{◌≡◌, ◌∙◌, ◌<◌, ◌≤◌, ◌+◌,
 use Rattle.std.specs.Prelude.{slice_index}
 use Rattle.std.proofs.lemmas.Bool.{cases_eq}
 use Rattle.std.proofs.lemmas.List.{length-set, get_or-set_same, get_or-set_other, get_or-replicate, length-replicate}
-use Rattle.dx_joins.specs.Looking.{IsNext, Links}
+use Rattle.dx_joins.specs.Looking.{IsNextInBucket, Links}
 
-pub next_wider : (keys : List ℕ) (m b from at : ℕ) → ¬ (slice_index keys from % m ≡ b) → IsNext keys m b (from + 1) at → IsNext keys m b from at
+pub next_wider : (keys : List ℕ) (m b from at : ℕ) → ¬ (slice_index keys from % m ≡ b) → IsNextInBucket keys m b (from + 1) at → IsNextInBucket keys m b from at
 next_wider keys m b from at n s = record {
   after = omega (arith, s.after);
   within = s.within;
@@ -13,10 +13,10 @@ next_wider keys m b from at n s = record {
   falls = s.falls;
 }
 
-pub next_here : (keys : List ℕ) (m b at : ℕ) → at < length keys → slice_index keys at % m ≡ b → IsNext keys m b at at
+pub next_here : (keys : List ℕ) (m b at : ℕ) → at < length keys → slice_index keys at % m ≡ b → IsNextInBucket keys m b at at
 next_here keys m b at h e = record { after = omega arith; within = omega (arith, h); skips = λ q l k. absurd (omega (arith, l, k)); falls = λ z. e }
 
-pub next_none : (keys : List ℕ) (m b n : ℕ) → n ≡ length keys → IsNext keys m b n n
+pub next_none : (keys : List ℕ) (m b n : ℕ) → n ≡ length keys → IsNextInBucket keys m b n n
 next_none keys m b n e = record { after = omega arith; within = omega (arith, e); skips = λ q l k. absurd (omega (arith, l, k)); falls = λ z. absurd (omega (arith, e, z)) }
 
 pub links_none : (keys : List ℕ) (n buckets : ℕ) → n ≡ length keys → 0 < buckets → Links keys (replicate buckets n) (replicate (length keys) n) (length keys)
@@ -39,13 +39,13 @@ links_more keys heads nexts p b h e w l = record {
   next = λ q i k. rw (length-set heads b p) (next q i k);
 }
   where
-    head : (c : ℕ) → c < length heads → IsNext keys (length heads) c p (slice_index (set heads b p) c)
+    head : (c : ℕ) → c < length heads → IsNextInBucket keys (length heads) c p (slice_index (set heads b p) c)
     head c k = elim (cases_eq c b) [
       | inl q ↦ rw (q, get_or-set_same heads b p 0 w) (next_here keys (length heads) b p h (sym e))
       | inr d ↦ rw (get_or-set_other heads b c p 0 d) (next_wider keys (length heads) c p (slice_index heads c) (λ z. d (sym (e ∙ z))) (l.head c k))
     ]
 
-    next : (q : ℕ) → p ≤ q → q < length keys → IsNext keys (length heads) (slice_index keys q % length heads) (q + 1) (slice_index (set nexts p (slice_index heads b)) q)
+    next : (q : ℕ) → p ≤ q → q < length keys → IsNextInBucket keys (length heads) (slice_index keys q % length heads) (q + 1) (slice_index (set nexts p (slice_index heads b)) q)
     next q i k = elim (cases_eq q p) [
       | inl z ↦ rw (z, get_or-set_same nexts p (slice_index heads b) 0 (omega (arith, h, l.many)), ← e) (l.head b w)
       | inr d ↦ rw (get_or-set_other nexts p q (slice_index heads b) 0 d) (l.next q (omega (arith, i, d)) k)

@@ -9,23 +9,23 @@ use Rattle.dx_ports.proofs.Members.{in_left, in_right, from_append, in_flat_map,
 use Rattle.dx_ports.proofs.Tests.{map_same, to_any, from_any}
 use Rattle.dx_instance.specs.Cells.{NumberTable}
 use Rattle.dx_joins.specs.declared.pattern.Pattern.{Pattern}
-use Rattle.dx_joins.specs.Joining.{Says, Stands, Tells, variables_of}
+use Rattle.dx_joins.specs.Joining.{MatchesPatterns, MatchesPattern, AreRowsWith, variables_of_patterns}
 use Rattle.dx_joins.specs.declared.premise.Partial.{Partial}
-use Rattle.dx_joins.specs.Planning.{AddsOnce, IsTold, StepsTo}
+use Rattle.dx_joins.specs.Planning.{AddsOnce, IsMatchRow, StepsTo}
 
-pub in_pattern : (x : ℕ) (p : Pattern) (ps : List Pattern) → p ∈ ps → x ∈ p.variables.items → x ∈ variables_of ps
+pub in_pattern : (x : ℕ) (p : Pattern) (ps : List Pattern) → p ∈ ps → x ∈ p.variables.items → x ∈ variables_of_patterns ps
 in_pattern x p ps m h = in_flat_map (λ (q : Pattern). q.variables.items) m h
 
-pub variables_more : (done : List Pattern) (p : Pattern) → variables_of (done ++ p ∷ []) ≡ variables_of done ++ p.variables.items
+pub variables_more : (done : List Pattern) (p : Pattern) → variables_of_patterns (done ++ p ∷ []) ≡ variables_of_patterns done ++ p.variables.items
 variables_more [] p = append-nil p.variables.items
-variables_more (q ∷ done) p = ap (λ (l : List ℕ). q.variables.items ++ l) (variables_more done p) ∙ sym (append_assoc q.variables.items (variables_of done) p.variables.items)
+variables_more (q ∷ done) p = ap (λ (l : List ℕ). q.variables.items ++ l) (variables_more done p) ∙ sym (append_assoc q.variables.items (variables_of_patterns done) p.variables.items)
 
-pub split_length : (ps : List Pattern) (i : ℕ) (p : Pattern) → i < length ps → p ≡ get_or ps i p → length (variables_of (take i ps)) + length p.variables.items ≤ length (variables_of ps)
+pub split_length : (ps : List Pattern) (i : ℕ) (p : Pattern) → i < length ps → p ≡ get_or ps i p → length (variables_of_patterns (take i ps)) + length p.variables.items ≤ length (variables_of_patterns ps)
 split_length [] i p h e = absurd (omega arith)
-split_length (q ∷ ps) zero p h e = let n = length-append q.variables.items (variables_of ps) in rw e (omega (arith, n))
+split_length (q ∷ ps) zero p h e = let n = length-append q.variables.items (variables_of_patterns ps) in rw e (omega (arith, n))
 split_length (q ∷ ps) (suc i) p h e =
     let r = split_length ps i p (omega arith) e in
-    omega (arith, r, length-append q.variables.items (variables_of ps), length-append q.variables.items (variables_of (take i ps)))
+    omega (arith, r, length-append q.variables.items (variables_of_patterns ps), length-append q.variables.items (variables_of_patterns (take i ps)))
 
 pub all_but_last : (ps : List Pattern) (i : ℕ) (p : Pattern) → i < length ps → length ps ≤ i + 1 → p ≡ get_or ps i p → take i ps ++ p ∷ [] ≡ ps
 all_but_last ps i p h l e = ap (λ (q : Pattern). take i ps ++ q ∷ []) e ∙ sym (take_more ps i p h) ∙ take_all (i + 1) ps l
@@ -43,36 +43,36 @@ decide_in x live = elim (cases_Bool (list_any (eqb x) live)) [
   | inr f ↦ inr f
 ]
 
-pub stands_same : (T : List NumberTable) (marks : List Bool) (f g : ℕ → ℕ) (p : Pattern) → ((x : ℕ) → x ∈ p.variables.items → g x ≡ f x) → Stands T marks f p → Stands T marks g p
+pub stands_same : (T : List NumberTable) (marks : List Bool) (f g : ℕ → ℕ) (p : Pattern) → ((x : ℕ) → x ∈ p.variables.items → g x ≡ f x) → MatchesPattern T marks f p → MatchesPattern T marks g p
 stands_same T marks f g p s h = rw (map_same g f p.variables.items s) h
 
 module _ (T : List NumberTable) (marks : List Bool) (done : List Pattern) (p : Pattern) (q : Partial) (kept : List ℕ)
-    (told : Tells (Says T marks done) q.variables.items q.rows.rows) (shared : (x : ℕ) → x ∈ variables_of done → x ∈ p.variables.items → x ∈ q.variables.items)
+    (told : AreRowsWith (MatchesPatterns T marks done) q.variables.items q.rows.rows) (shared : (x : ℕ) → x ∈ variables_of_patterns done → x ∈ p.variables.items → x ∈ q.variables.items)
     (known : kept ⊆ (q.variables.items ++ p.variables.items)) where
   -- one pattern more
-  pub step_to : (t : List ℕ) → StepsTo T marks q p kept t → IsTold T marks (done ++ p ∷ []) kept t
+  pub step_to : (t : List ℕ) → StepsTo T marks q p kept t → IsMatchRow T marks (done ++ p ∷ []) kept t
   step_to t (r, rm, s, sm, mk, j) =
       let w = (told.exact r).0 rm in
       let live = q.variables.items ++ p.variables.items in
       let n = mixed live j.numbers w.0 in
       let left : map j.numbers q.variables.items ≡ map w.0 q.variables.items = sym j.first ∙ w.2 in
-      let old : (x : ℕ) → x ∈ variables_of done → n x ≡ w.0 x = λ x m. elim (decide_in x live) [
+      let old : (x : ℕ) → x ∈ variables_of_patterns done → n x ≡ w.0 x = λ x m. elim (decide_in x live) [
         | inl k ↦ mixed_on live j.numbers w.0 x k ∙ map_agrees j.numbers w.0 left (elim (from_append q.variables.items k) [ inl l ↦ l | inr h ↦ shared x m h ])
         | inr f ↦ cond-false (list_any (eqb x) live) (j.numbers x) (w.0 x) f
       ] in
       let right : map n p.variables.items ≡ s = map_same n j.numbers p.variables.items (λ x m. mixed_on live j.numbers w.0 x (in_right q.variables.items m)) ∙ sym j.second in
-      let here_stands : Stands T marks n p = rw right (sm, mk) in
-      let last : (a : Pattern) → a ∈ (p ∷ []) → Stands T marks n a = λ a m. only n a m here_stands in (
+      let here_stands : MatchesPattern T marks n p = rw right (sm, mk) in
+      let last : (a : Pattern) → a ∈ (p ∷ []) → MatchesPattern T marks n a = λ a m. only n a m here_stands in (
         n,
         (λ a m. elim (from_append done m) [ inl l ↦ stands_same T marks w.0 n a (λ x h. old x (in_pattern x a done l h)) (w.1 a l) | inr k ↦ last a k ]),
         j.whole ∙ sym (map_same n j.numbers kept (λ x m. mixed_on live j.numbers w.0 x (known x m))),
       )
     where
-      only : (n : ℕ → ℕ) (a : Pattern) → a ∈ (p ∷ []) → Stands T marks n p → Stands T marks n a
-      only n a (here e) h = subst (λ (b : Pattern). Stands T marks n b) e h
+      only : (n : ℕ → ℕ) (a : Pattern) → a ∈ (p ∷ []) → MatchesPattern T marks n p → MatchesPattern T marks n a
+      only n a (here e) h = subst (λ (b : Pattern). MatchesPattern T marks n b) e h
       only n a (there m) h = elim m [ ]
 
-  pub to_step : (t : List ℕ) → IsTold T marks (done ++ p ∷ []) kept t → StepsTo T marks q p kept t
+  pub to_step : (t : List ℕ) → IsMatchRow T marks (done ++ p ∷ []) kept t → StepsTo T marks q p kept t
   to_step t (n, says, e) =
       let st = says p (in_right done (here refl)) in
       (map n q.variables.items, (told.exact (map n q.variables.items)).1 (n, (λ a m. says a (in_left (p ∷ []) m)), refl), map n p.variables.items, st.0, st.1, record { numbers = n; first = refl; second = refl; whole = e })

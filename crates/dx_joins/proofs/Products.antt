@@ -12,10 +12,10 @@ use Rattle.dx_instance.specs.Cells.{NumberTable}
 use Rattle.dx_joins.specs.declared.pattern.Pattern.{Pattern}
 use Rattle.dx_joins.specs.declared.parts.Part.{Part}
 use Rattle.dx_joins.specs.Collecting.{AreThose, MoreThan}
-use Rattle.dx_joins.specs.Joining.{Says, variables_of}
-use Rattle.dx_joins.specs.Looking.{numbers_in}
-use Rattle.dx_joins.specs.Planning.{IsNeeded, IsTold, Told, place_of}
-use Rattle.dx_joins.specs.Products.{Crosses, Gives, IsPartOf, IsProduct, IsWide, PartGrows, ShareNone}
+use Rattle.dx_joins.specs.Joining.{MatchesPatterns, variables_of_patterns}
+use Rattle.dx_joins.specs.Looking.{numbers_at_places}
+use Rattle.dx_joins.specs.Planning.{IsVariableNeeded, IsMatchRow, AreMatchRows, first_place}
+use Rattle.dx_joins.specs.Products.{Crosses, GivesRows, IsPartOf, IsProduct, IsWide, PartGrows, ShareNone}
 use Rattle.dx_joins.proofs.Carrying.{told_from}
 use Rattle.dx_joins.proofs.Distincts.{distinct_append, distinct_map}
 use Rattle.dx_joins.proofs.Patterns.{decide_in, in_pattern, mixed, mixed_on, stands_same}
@@ -24,24 +24,24 @@ use Rattle.dx_joins.proofs.Places.{joined_is}
 -- ---- the matches of patterns that share no variable
 
 module _ (tables : List NumberTable) (marks : List Bool) (first second : List Pattern) (left right kept places : List ℕ) (apart : ShareNone first second)
-    (in_first : left ⊆ variables_of first) (in_second : right ⊆ variables_of second) (known : kept ⊆ (left ++ right)) (is : places ≡ map (place_of (left ++ right)) kept) where
+    (in_first : left ⊆ variables_of_patterns first) (in_second : right ⊆ variables_of_patterns second) (known : kept ⊆ (left ++ right)) (is : places ≡ map (first_place (left ++ right)) kept) where
   -- one assignment on the variables of the first patterns, and another elsewhere
   abbrev glue : (ℕ → ℕ) → (ℕ → ℕ) → ℕ → ℕ
-  glue f g x = mixed (variables_of first) f g x
+  glue f g x = mixed (variables_of_patterns first) f g x
 
-  on_first : (f g : ℕ → ℕ) (x : ℕ) → x ∈ variables_of first → glue f g x ≡ f x
-  on_first f g x m = mixed_on (variables_of first) f g x m
+  on_first : (f g : ℕ → ℕ) (x : ℕ) → x ∈ variables_of_patterns first → glue f g x ≡ f x
+  on_first f g x m = mixed_on (variables_of_patterns first) f g x m
 
-  on_second : (f g : ℕ → ℕ) (x : ℕ) → x ∈ variables_of second → glue f g x ≡ g x
-  on_second f g x m = elim (decide_in x (variables_of first)) [ inl l ↦ absurd (apart x l m) | inr e ↦ cond-false (list_any (eqb x) (variables_of first)) (f x) (g x) e ]
+  on_second : (f g : ℕ → ℕ) (x : ℕ) → x ∈ variables_of_patterns second → glue f g x ≡ g x
+  on_second f g x m = elim (decide_in x (variables_of_patterns first)) [ inl l ↦ absurd (apart x l m) | inr e ↦ cond-false (list_any (eqb x) (variables_of_patterns first)) (f x) (g x) e ]
 
-  glue_says : (f g : ℕ → ℕ) → Says tables marks first f → Says tables marks second g → Says tables marks (first ++ second) (glue f g)
+  glue_says : (f g : ℕ → ℕ) → MatchesPatterns tables marks first f → MatchesPatterns tables marks second g → MatchesPatterns tables marks (first ++ second) (glue f g)
   glue_says f g s t a m = elim (from_append first m) [
     | inl l ↦ stands_same tables marks f (glue f g) a (λ x h. on_first f g x (in_pattern x a first l h)) (s a l)
     | inr r ↦ stands_same tables marks g (glue f g) a (λ x h. on_second f g x (in_pattern x a second r h)) (t a r)
   ]
 
-  glued : (f g : ℕ → ℕ) (r s : List ℕ) → r ≡ map f left → s ≡ map g right → map (glue f g) kept ≡ numbers_in (r ++ s) places
+  glued : (f g : ℕ → ℕ) (r s : List ℕ) → r ≡ map f left → s ≡ map g right → map (glue f g) kept ≡ numbers_at_places (r ++ s) places
   glued f g r s a b = joined_is left right kept places r s (map (glue f g) kept) known is (record {
     numbers = glue f g;
     first = a ∙ sym (map_same (glue f g) f left (λ x m. on_first f g x (in_first x m)));
@@ -49,12 +49,12 @@ module _ (tables : List NumberTable) (marks : List Bool) (first second : List Pa
     whole = refl;
   })
 
-  both_told : (r s : List ℕ) → IsTold tables marks first left r → IsTold tables marks second right s → IsTold tables marks (first ++ second) kept (numbers_in (r ++ s) places)
+  both_told : (r s : List ℕ) → IsMatchRow tables marks first left r → IsMatchRow tables marks second right s → IsMatchRow tables marks (first ++ second) kept (numbers_at_places (r ++ s) places)
   both_told r s w v = (glue w.0 v.0, glue_says w.0 v.0 w.1 v.1, sym (glued w.0 v.0 r s w.2 v.2))
 
-  pub cross_told : (lefts rights : NumberTable) → Told tables marks first left lefts → Told tables marks second right rights → (t : List ℕ) → Crosses lefts.rows rights.rows places t ↔ IsTold tables marks (first ++ second) kept t
+  pub cross_told : (lefts rights : NumberTable) → AreMatchRows tables marks first left lefts → AreMatchRows tables marks second right rights → (t : List ℕ) → Crosses lefts.rows rights.rows places t ↔ IsMatchRow tables marks (first ++ second) kept t
   cross_told lefts rights by_left by_right t = (
-    (λ p. subst (IsTold tables marks (first ++ second) kept) (sym p.2.2) (both_told p.0 p.2.0 ((by_left.exact p.0).0 p.1) ((by_right.exact p.2.0).0 p.2.1))),
+    (λ p. subst (IsMatchRow tables marks (first ++ second) kept) (sym p.2.2) (both_told p.0 p.2.0 ((by_left.exact p.0).0 p.1) ((by_right.exact p.2.0).0 p.2.1))),
     (λ q. (
       map q.0 left,
       (by_left.exact (map q.0 left)).1 (q.0, (λ a m. q.1 a (in_left second m)), refl),
@@ -67,17 +67,17 @@ module _ (tables : List NumberTable) (marks : List Bool) (first second : List Pa
   )
 
   -- too many rows on one side, and a row on the other
-  pub more_first : (most : ℕ) (s : List ℕ) → left ⊆ kept → MoreThan most (IsTold tables marks first left) → IsTold tables marks second right s → MoreThan most (IsTold tables marks (first ++ second) kept)
+  pub more_first : (most : ℕ) (s : List ℕ) → left ⊆ kept → MoreThan most (IsMatchRow tables marks first left) → IsMatchRow tables marks second right s → MoreThan most (IsMatchRow tables marks (first ++ second) kept)
   more_first most s within m v = record {
     some = map put m.some;
     distinct = distinct_map put m.some same m.distinct;
-    each = λ t k. let r = from_map put m.some k in subst (IsTold tables marks (first ++ second) kept) r.2 (both_told r.0 s (m.each r.0 r.1) v);
+    each = λ t k. let r = from_map put m.some k in subst (IsMatchRow tables marks (first ++ second) kept) r.2 (both_told r.0 s (m.each r.0 r.1) v);
     more = let a = m.more in omega (arith, a, length-map m.some put);
     few = let a = m.few in omega (arith, a, length-map m.some put);
   }
     where
       put : List ℕ → List ℕ
-      put r = numbers_in (r ++ s) places
+      put r = numbers_at_places (r ++ s) places
 
       same : (a b : List ℕ) → a ∈ m.some → b ∈ m.some → put a ≡ put b → a ≡ b
       same a b ma mb e =
@@ -86,17 +86,17 @@ module _ (tables : List NumberTable) (marks : List Bool) (first second : List Pa
           let n : map (glue w.0 v.0) kept ≡ map (glue u.0 v.0) kept = glued w.0 v.0 a s w.2 v.2 ∙ e ∙ sym (glued u.0 v.0 b s u.2 v.2) in
           w.2 ∙ map_same w.0 u.0 left (λ x h. sym (on_first w.0 v.0 x (in_first x h)) ∙ map_agrees (glue w.0 v.0) (glue u.0 v.0) n (within x h) ∙ on_first u.0 v.0 x (in_first x h)) ∙ sym u.2
 
-  pub more_second : (most : ℕ) (r : List ℕ) → right ⊆ kept → IsTold tables marks first left r → MoreThan most (IsTold tables marks second right) → MoreThan most (IsTold tables marks (first ++ second) kept)
+  pub more_second : (most : ℕ) (r : List ℕ) → right ⊆ kept → IsMatchRow tables marks first left r → MoreThan most (IsMatchRow tables marks second right) → MoreThan most (IsMatchRow tables marks (first ++ second) kept)
   more_second most r within v m = record {
     some = map put m.some;
     distinct = distinct_map put m.some same m.distinct;
-    each = λ t k. let s = from_map put m.some k in subst (IsTold tables marks (first ++ second) kept) s.2 (both_told r s.0 v (m.each s.0 s.1));
+    each = λ t k. let s = from_map put m.some k in subst (IsMatchRow tables marks (first ++ second) kept) s.2 (both_told r s.0 v (m.each s.0 s.1));
     more = let a = m.more in omega (arith, a, length-map m.some put);
     few = let a = m.few in omega (arith, a, length-map m.some put);
   }
     where
       put : List ℕ → List ℕ
-      put s = numbers_in (r ++ s) places
+      put s = numbers_at_places (r ++ s) places
 
       same : (a b : List ℕ) → a ∈ m.some → b ∈ m.some → put a ≡ put b → a ≡ b
       same a b ma mb e =
@@ -111,7 +111,7 @@ some_row [] n = absurd (n refl)
 some_row (r ∷ rows) n = (r, here refl)
 
 -- no rows
-none_told : (tables : List NumberTable) (marks : List Bool) (patterns : List Pattern) (kept : List ℕ) (r : NumberTable) → r ≡ record { width = length kept; rows = [] } → ((t : List ℕ) → ¬ (IsTold tables marks patterns kept t)) → Told tables marks patterns kept r
+none_told : (tables : List NumberTable) (marks : List Bool) (patterns : List Pattern) (kept : List ℕ) (r : NumberTable) → r ≡ record { width = length kept; rows = [] } → ((t : List ℕ) → ¬ (IsMatchRow tables marks patterns kept t)) → AreMatchRows tables marks patterns kept r
 none_told tables marks patterns kept r e n = rw e (record {
   width = refl;
   ascend = λ i j d h k. absurd (omega (arith, h, k));
@@ -124,44 +124,44 @@ nothing_in (r ∷ rows) e m = absurd (cc e)
 
 -- ---- the product of two parts, whichever of them has too many rows
 
-module _ (most : ℕ) (left right : Part) (kept places : List ℕ) (known : kept ⊆ (left.variables.items ++ right.variables.items)) (is : places ≡ map (place_of (left.variables.items ++ right.variables.items)) kept) where
+module _ (most : ℕ) (left right : Part) (kept places : List ℕ) (known : kept ⊆ (left.variables.items ++ right.variables.items)) (is : places ≡ map (first_place (left.variables.items ++ right.variables.items)) kept) where
   pub both_known : (lefts rights : NumberTable) (result : Result (Option NumberTable) AllocError) → left.rows ≡ Some lefts → right.rows ≡ Some rights
       → IfOk result (λ o. MatchOption o (MoreThan most (Crosses lefts.rows rights.rows places)) (AreThose (length places) (Crosses lefts.rows rights.rows places)))
       → IfOk result (IsProduct most left right kept)
   both_known lefts rights (Err x) l r k = tt
   both_known lefts rights (Ok o) l r k = λ tables marks first second shown a b apart in_left_kept in_right_kept.
-      let by_left : Told tables marks first left.variables.items lefts = rw l at a.gives in
-      let by_right : Told tables marks second right.variables.items rights = rw r at b.gives in
+      let by_left : AreMatchRows tables marks first left.variables.items lefts = rw l at a.gives in
+      let by_right : AreMatchRows tables marks second right.variables.items rights = rw r at b.gives in
       let same = cross_told tables marks first second left.variables.items right.variables.items kept places apart a.known b.known known is lefts rights by_left by_right in
-      let long : length places ≡ length kept = ap length is ∙ length-map kept (place_of (left.variables.items ++ right.variables.items)) in
+      let long : length places ≡ length kept = ap length is ∙ length-map kept (first_place (left.variables.items ++ right.variables.items)) in
       told_from tables marks (first ++ second) kept most (Crosses lefts.rows rights.rows places) (Ok o) same (subst (λ (n : ℕ). MatchOption o (MoreThan most (Crosses lefts.rows rights.rows places)) (AreThose n (Crosses lefts.rows rights.rows places))) long k)
 
   pub left_known : (lefts : NumberTable) (o : Option NumberTable) → left.rows ≡ Some lefts → right.rows ≡ None
       → MatchOption o (¬ (lefts.rows ≡ [])) (λ r. (lefts.rows ≡ []) × (r ≡ record { width = length kept; rows = [] })) → IsProduct most left right kept o
   left_known lefts None l r k tables marks first second shown a b apart in_left_kept in_right_kept =
-      let by_left : Told tables marks first left.variables.items lefts = rw l at a.gives in
-      let more : MoreThan most (IsTold tables marks second right.variables.items) = rw r at b.gives in
+      let by_left : AreMatchRows tables marks first left.variables.items lefts = rw l at a.gives in
+      let more : MoreThan most (IsMatchRow tables marks second right.variables.items) = rw r at b.gives in
       let one = some_row lefts.rows k in
       more_second tables marks first second left.variables.items right.variables.items kept places apart a.known b.known known is most one.0 in_right_kept ((by_left.exact one.0).0 one.1) more
   left_known lefts (Some t) l r k tables marks first second shown a b apart in_left_kept in_right_kept =
-      let by_left : Told tables marks first left.variables.items lefts = rw l at a.gives in
+      let by_left : AreMatchRows tables marks first left.variables.items lefts = rw l at a.gives in
       none_told tables marks (first ++ second) kept t k.1 (λ row q. nothing_in lefts.rows k.0 ((by_left.exact (map q.0 left.variables.items)).1 (q.0, (λ p m. q.1 p (in_left second m)), refl)))
 
   pub right_known : (rights : NumberTable) (o : Option NumberTable) → left.rows ≡ None → right.rows ≡ Some rights
       → MatchOption o (¬ (rights.rows ≡ [])) (λ r. (rights.rows ≡ []) × (r ≡ record { width = length kept; rows = [] })) → IsProduct most left right kept o
   right_known rights None l r k tables marks first second shown a b apart in_left_kept in_right_kept =
-      let by_right : Told tables marks second right.variables.items rights = rw r at b.gives in
-      let more : MoreThan most (IsTold tables marks first left.variables.items) = rw l at a.gives in
+      let by_right : AreMatchRows tables marks second right.variables.items rights = rw r at b.gives in
+      let more : MoreThan most (IsMatchRow tables marks first left.variables.items) = rw l at a.gives in
       let one = some_row rights.rows k in
       more_first tables marks first second left.variables.items right.variables.items kept places apart a.known b.known known is most one.0 in_left_kept more ((by_right.exact one.0).0 one.1)
   right_known rights (Some t) l r k tables marks first second shown a b apart in_left_kept in_right_kept =
-      let by_right : Told tables marks second right.variables.items rights = rw r at b.gives in
+      let by_right : AreMatchRows tables marks second right.variables.items rights = rw r at b.gives in
       none_told tables marks (first ++ second) kept t k.1 (λ row q. nothing_in rights.rows k.0 ((by_right.exact (map q.0 right.variables.items)).1 (q.0, (λ p m. q.1 p (in_right first m)), refl)))
 
   pub none_known : left.rows ≡ None → right.rows ≡ None → IsProduct most left right kept None
   none_known l r tables marks first second shown a b apart in_left_kept in_right_kept =
-      let ml : MoreThan most (IsTold tables marks first left.variables.items) = rw l at a.gives in
-      let mr : MoreThan most (IsTold tables marks second right.variables.items) = rw r at b.gives in
+      let ml : MoreThan most (IsMatchRow tables marks first left.variables.items) = rw l at a.gives in
+      let mr : MoreThan most (IsMatchRow tables marks second right.variables.items) = rw r at b.gives in
       let one = some_row mr.some (λ e. let h = mr.more in absurd (omega (arith, h, ap length e))) in
       more_first tables marks first second left.variables.items right.variables.items kept places apart a.known b.known known is most one.0 in_left_kept ml (mr.each one.0 one.1)
 
@@ -172,7 +172,7 @@ few_beside (Some r) most width P Q k = let e = ap (λ (t : NumberTable). length 
 -- ---- parts
 
 -- a variable that is needed by patterns alone
-pub needed_there : (patterns : List Pattern) (x : ℕ) → IsNeeded patterns [] x → x ∈ variables_of patterns
+pub needed_there : (patterns : List Pattern) (x : ℕ) → IsVariableNeeded patterns [] x → x ∈ variables_of_patterns patterns
 needed_there patterns x n = elim n [ inl l ↦ l | inr w ↦ nothing w ]
   where
     nothing : {Z : Type 0} → x ∈ [] → Z
@@ -182,7 +182,7 @@ needed_there patterns x n = elim n [ inl l ↦ l | inr w ↦ nothing w ]
 pub part_wide : (tables : List NumberTable) (marks : List Bool) (most : ℕ) (patterns : List Pattern) (shown : List ℕ) (p : Part) → IsPartOf tables marks most patterns shown p → IsWide p
 part_wide tables marks most patterns shown p k = wide p.variables.items p.rows k.gives
   where
-    wide : (variables : List ℕ) (o : Option NumberTable) → Gives tables marks most patterns variables o → IfSome o (λ r. r.width ≡ length variables)
+    wide : (variables : List ℕ) (o : Option NumberTable) → GivesRows tables marks most patterns variables o → IfSome o (λ r. r.width ≡ length variables)
     wide variables None g = tt
     wide variables (Some r) g = g.width
 
@@ -205,9 +205,9 @@ part_none tables marks most shown p v r = record {
     only t (here e) = sym e
     only t (there m) = elim m [ ]
 
-variables_append : (first second : List Pattern) → variables_of (first ++ second) ≡ variables_of first ++ variables_of second
+variables_append : (first second : List Pattern) → variables_of_patterns (first ++ second) ≡ variables_of_patterns first ++ variables_of_patterns second
 variables_append [] second = refl
-variables_append (p ∷ first) second = ap (λ (l : List ℕ). p.variables.items ++ l) (variables_append first second) ∙ sym (append_assoc p.variables.items (variables_of first) (variables_of second))
+variables_append (p ∷ first) second = ap (λ (l : List ℕ). p.variables.items ++ l) (variables_append first second) ∙ sym (append_assoc p.variables.items (variables_of_patterns first) (variables_of_patterns second))
 
 -- the variables of two parts are distinct and shown, so they are few
 pub few_both : (left right shown : List ℕ) → Distinct left → Distinct right → ((x : ℕ) → x ∈ left → ¬ (x ∈ right)) → left ⊆ shown → right ⊆ shown → length (left ++ right) ≤ length shown
@@ -220,11 +220,11 @@ part_grows tables marks most patterns shown old more new v b product first a apa
     record {
       gives = product tables marks first patterns shown a b apart (λ x m. into x (in_left more.variables.items m)) (λ x m. into x (in_right old.variables.items m));
       known = λ x m. subst (λ (l : List ℕ). x ∈ l) (sym (variables_append first patterns)) (elim (from_append old.variables.items (rw v at m)) [
-        | inl l ↦ in_left (variables_of patterns) (a.known x l)
-        | inr r ↦ in_right (variables_of first) (b.known x r)
+        | inl l ↦ in_left (variables_of_patterns patterns) (a.known x l)
+        | inr r ↦ in_right (variables_of_patterns first) (b.known x r)
       ]);
       wanted = λ x m. elim (from_append old.variables.items (rw v at m)) [ inl l ↦ a.wanted x l | inr r ↦ b.wanted x r ];
-      all = λ x m s. into x (elim (from_append (variables_of first) (rw (variables_append first patterns) at m)) [
+      all = λ x m s. into x (elim (from_append (variables_of_patterns first) (rw (variables_append first patterns) at m)) [
         | inl l ↦ in_left more.variables.items (a.all x l s)
         | inr r ↦ in_right old.variables.items (b.all x r s)
       ]);
@@ -255,7 +255,7 @@ take_in {X = X} xs n x m = subst (λ (l : List X). x ∈ l) (take-append-drop n 
 pub slice_in : (ps : List Pattern) (done n : ℕ) → slice ps done n ⊆ ps
 slice_in ps done n p m = drop_in ps done p (take_in (drop done ps) n p m)
 
-pub variables_in : (ps qs : List Pattern) → ps ⊆ qs → variables_of ps ⊆ variables_of qs
+pub variables_in : (ps qs : List Pattern) → ps ⊆ qs → variables_of_patterns ps ⊆ variables_of_patterns qs
 variables_in ps qs s x m = let k = from_flat_map (λ (p : Pattern). p.variables.items) ps m in in_flat_map (λ (p : Pattern). p.variables.items) (s k.0 k.1) k.2
 
 pub slice_some : (ps : List Pattern) (done n : ℕ) → 0 < n → done < length ps → ¬ (slice ps done n ≡ [])
@@ -267,13 +267,13 @@ slice_some ps done n h k e = let a = ap length e in absurd (omega (arith, a, h, 
     many (p ∷ ps) zero (suc n) h k = omega arith
     many (p ∷ ps) (suc done) n h k = many ps done n h (omega (arith, k))
 
-pub slice_few : (ps : List Pattern) (done n : ℕ) → length (variables_of (slice ps done n)) ≤ length (variables_of ps)
+pub slice_few : (ps : List Pattern) (done n : ℕ) → length (variables_of_patterns (slice ps done n)) ≤ length (variables_of_patterns ps)
 slice_few ps done n =
-    let d = ap (λ (l : List Pattern). length (variables_of l)) (take-append-drop done ps) in
-    let t = ap (λ (l : List Pattern). length (variables_of l)) (take-append-drop n (drop done ps)) in
+    let d = ap (λ (l : List Pattern). length (variables_of_patterns l)) (take-append-drop done ps) in
+    let t = ap (λ (l : List Pattern). length (variables_of_patterns l)) (take-append-drop n (drop done ps)) in
     let a = ap length (variables_append (take done ps) (drop done ps)) in
     let b = ap length (variables_append (take n (drop done ps)) (drop n (drop done ps))) in
-    omega (arith, d, t, a, b, length-append (variables_of (take done ps)) (variables_of (drop done ps)), length-append (variables_of (take n (drop done ps))) (variables_of (drop n (drop done ps))))
+    omega (arith, d, t, a, b, length-append (variables_of_patterns (take done ps)) (variables_of_patterns (drop done ps)), length-append (variables_of_patterns (take n (drop done ps))) (variables_of_patterns (drop n (drop done ps))))
 
 pub rest_all : (ps : List Pattern) (i : ℕ) → take (length ps - i) (drop i ps) ≡ drop i ps
 rest_all ps i = take_all (length ps - i) (drop i ps) (omega (arith, length-drop i ps))
@@ -283,7 +283,7 @@ module _ (tables : List NumberTable) (marks : List Bool) (most : ℕ) (ps : List
   pub start_apart : ShareNone (take 0 ps) (drop 0 ps)
   start_apart x m k = elim m [ ]
 
-  pub part_apart : (done n : ℕ) (p : Part) → IsPartOf tables marks most (take done ps) shown p → ShareNone (take done ps) (drop done ps) → Each p.variables.items (λ x. ¬ (x ∈ variables_of (slice ps done n)))
+  pub part_apart : (done n : ℕ) (p : Part) → IsPartOf tables marks most (take done ps) shown p → ShareNone (take done ps) (drop done ps) → Each p.variables.items (λ x. ¬ (x ∈ variables_of_patterns (slice ps done n)))
   part_apart done n p k apart x m h = apart x (k.known x m) (variables_in (slice ps done n) (drop done ps) (take_in (drop done ps) n) x h)
 
   pub slice_apart : (done n : ℕ) → ShareNone (take done ps) (drop done ps) → ShareNone (take done ps) (slice ps done n)
@@ -301,8 +301,8 @@ module _ (tables : List NumberTable) (marks : List Bool) (most : ℕ) (ps : List
   next_apart done end h apart last x m k =
       let e : done + (end - done) ≡ end = omega (arith, h) in
       let s : take end ps ≡ take done ps ++ slice ps done (end - done) = ap (λ (n : ℕ). take n ps) (sym e) ∙ take_slice ps done (end - done) in
-      let v : variables_of (take end ps) ≡ variables_of (take done ps) ++ variables_of (slice ps done (end - done)) = ap variables_of s ∙ variables_append (take done ps) (slice ps done (end - done)) in
-      elim (from_append (variables_of (take done ps)) (rw v at m)) [
+      let v : variables_of_patterns (take end ps) ≡ variables_of_patterns (take done ps) ++ variables_of_patterns (slice ps done (end - done)) = ap variables_of_patterns s ∙ variables_append (take done ps) (slice ps done (end - done)) in
+      elim (from_append (variables_of_patterns (take done ps)) (rw v at m)) [
         | inl l ↦ apart x l (variables_in (drop end ps) (drop done ps) (later done end h) x k)
         | inr r ↦ last x r k
       ]
@@ -321,18 +321,18 @@ module _ (tables : List NumberTable) (marks : List Bool) (most : ℕ) (ps : List
   rest_is done h = ap (λ (l : List Pattern). take done ps ++ l) (rest_all ps done) ∙ take-append-drop done ps
 
   pub last_within : (done : ℕ) (old last : Part) → done ≤ length ps → IsPartOf tables marks most (take done ps) shown old → IsPartOf tables marks most (slice ps done (length ps - done)) shown last
-      → shown ⊆ variables_of ps → shown ⊆ (old.variables.items ++ last.variables.items)
+      → shown ⊆ variables_of_patterns ps → shown ⊆ (old.variables.items ++ last.variables.items)
   last_within done old last h a b s x m =
-      let v : variables_of (take done ps) ++ variables_of (slice ps done (length ps - done)) ≡ variables_of ps = sym (variables_append (take done ps) (slice ps done (length ps - done))) ∙ ap variables_of (rest_is done h) in
-      elim (from_append (variables_of (take done ps)) (subst (λ (l : List ℕ). x ∈ l) (sym v) (s x m))) [
+      let v : variables_of_patterns (take done ps) ++ variables_of_patterns (slice ps done (length ps - done)) ≡ variables_of_patterns ps = sym (variables_append (take done ps) (slice ps done (length ps - done))) ∙ ap variables_of_patterns (rest_is done h) in
+      elim (from_append (variables_of_patterns (take done ps)) (subst (λ (l : List ℕ). x ∈ l) (sym v) (s x m))) [
         | inl l ↦ in_left last.variables.items (a.all x l m)
         | inr r ↦ in_right old.variables.items (b.all x r m)
       ]
 
   pub last_gives : (done : ℕ) (old last : Part) (result : Result (Option NumberTable) AllocError) → done ≤ length ps → IsPartOf tables marks most (take done ps) shown old → IsPartOf tables marks most (slice ps done (length ps - done)) shown last
       → ShareNone (take done ps) (drop done ps) → IfOk result (IsProduct most old last shown)
-      → IfOk result (λ o. MatchOption o (MoreThan most (IsTold tables marks ps shown)) (λ r. Told tables marks ps shown r))
+      → IfOk result (λ o. MatchOption o (MoreThan most (IsMatchRow tables marks ps shown)) (λ r. AreMatchRows tables marks ps shown r))
   last_gives done old last (Err x) h a b apart k = tt
   last_gives done old last (Ok o) h a b apart k =
-      subst (λ (l : List Pattern). Gives tables marks most l shown o) (rest_is done h)
+      subst (λ (l : List Pattern). GivesRows tables marks most l shown o) (rest_is done h)
       (k tables marks (take done ps) (slice ps done (length ps - done)) shown a b (slice_apart done (length ps - done) apart) a.wanted b.wanted)

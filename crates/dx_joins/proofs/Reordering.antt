@@ -8,8 +8,8 @@ use Rattle.dx_ports.proofs.Members.{contains_from_in, from_flat_map, in_flat_map
 use Rattle.dx_instance.specs.Cells.{NumberTable}
 use Rattle.dx_joins.specs.declared.pattern.Pattern.{Pattern}
 use Rattle.dx_joins.specs.Collecting.{MoreThan}
-use Rattle.dx_joins.specs.Joining.{variables_of}
-use Rattle.dx_joins.specs.Planning.{IsTold, Told}
+use Rattle.dx_joins.specs.Joining.{variables_of_patterns}
+use Rattle.dx_joins.specs.Planning.{IsMatchRow, AreMatchRows}
 use Rattle.dx_joins.proofs.Collections.{more_same}
 use Rattle.std.specs.Prelude.{Bool}
 
@@ -26,7 +26,7 @@ pub some_in : {X : Type 0} (xs ys : List X) → IsPermutation xs ys → ¬ (xs �
 some_in [] ys p some is = some refl
 some_in (x ∷ xs) ys p some is = elim (subst (λ zs. x ∈ zs) is (member (x ∷ xs) ys p x (here refl))) [ ]
 
-pub few_in : (ps qs : List Pattern) → IsPermutation ps qs → length (variables_of ps) < 2 ^ 32 → length (variables_of qs) < 2 ^ 32
+pub few_in : (ps qs : List Pattern) → IsPermutation ps qs → length (variables_of_patterns ps) < 2 ^ 32 → length (variables_of_patterns qs) < 2 ^ 32
 few_in ps qs p few =
     let one = length-flat_map (λ (p : Pattern). p.variables.items) ps in
     let other = length-flat_map (λ (p : Pattern). p.variables.items) qs in
@@ -34,18 +34,18 @@ few_in ps qs p few =
     let e = other ∙ same ∙ sym one in
     subst (λ n. n < 2 ^ 32) (sym e) few
 
-pub shown_in : (ps qs : List Pattern) (shown : List ℕ) → IsPermutation ps qs → shown ⊆ variables_of ps → shown ⊆ variables_of qs
+pub shown_in : (ps qs : List Pattern) (shown : List ℕ) → IsPermutation ps qs → shown ⊆ variables_of_patterns ps → shown ⊆ variables_of_patterns qs
 shown_in ps qs shown p h x m =
     let k = from_flat_map (λ (p : Pattern). p.variables.items) ps (h x m) in
     in_flat_map (λ (p : Pattern). p.variables.items) (member ps qs p k.0 k.1) k.2
 
-told_in : (T : List NumberTable) (marks : List Bool) (ps qs : List Pattern) (shown t : List ℕ) → IsPermutation ps qs → IsTold T marks qs shown t → IsTold T marks ps shown t
+told_in : (T : List NumberTable) (marks : List Bool) (ps qs : List Pattern) (shown t : List ℕ) → IsPermutation ps qs → IsMatchRow T marks qs shown t → IsMatchRow T marks ps shown t
 told_in T marks ps qs shown t p (numbers, says, is) = (numbers, λ q m. says q (member ps qs p q m), is)
 
 pub reordered : (T : List NumberTable) (marks : List Bool) (ps qs : List Pattern) (shown : List ℕ) (most : ℕ) (o : Option NumberTable) → IsPermutation ps qs
-    → MatchOption o (MoreThan most (IsTold T marks qs shown)) (λ r. Told T marks qs shown r)
-    → MatchOption o (MoreThan most (IsTold T marks ps shown)) (λ r. Told T marks ps shown r)
-reordered T marks ps qs shown most None p h = more_same most (IsTold T marks qs shown) (IsTold T marks ps shown) (λ t k. told_in T marks ps qs shown t p k) h
+    → MatchOption o (MoreThan most (IsMatchRow T marks qs shown)) (λ r. AreMatchRows T marks qs shown r)
+    → MatchOption o (MoreThan most (IsMatchRow T marks ps shown)) (λ r. AreMatchRows T marks ps shown r)
+reordered T marks ps qs shown most None p h = more_same most (IsMatchRow T marks qs shown) (IsMatchRow T marks ps shown) (λ t k. told_in T marks ps qs shown t p k) h
 reordered T marks ps qs shown most (Some r) p h = record {
   width = h.width;
   ascend = h.ascend;
@@ -56,7 +56,7 @@ reordered T marks ps qs shown most (Some r) p h = record {
 }
 
 pub reordered_result : {E : Type 0} (T : List NumberTable) (marks : List Bool) (ps qs : List Pattern) (shown : List ℕ) (most : ℕ) (r : Result (Option NumberTable) E)
-    → IsPermutation ps qs → IfOk r (λ o. MatchOption o (MoreThan most (IsTold T marks qs shown)) (λ t. Told T marks qs shown t))
-    → IfOk r (λ o. MatchOption o (MoreThan most (IsTold T marks ps shown)) (λ t. Told T marks ps shown t))
+    → IsPermutation ps qs → IfOk r (λ o. MatchOption o (MoreThan most (IsMatchRow T marks qs shown)) (λ t. AreMatchRows T marks qs shown t))
+    → IfOk r (λ o. MatchOption o (MoreThan most (IsMatchRow T marks ps shown)) (λ t. AreMatchRows T marks ps shown t))
 reordered_result T marks ps qs shown most (Ok o) p h = reordered T marks ps qs shown most o p h
 reordered_result T marks ps qs shown most (Err e) p h = tt

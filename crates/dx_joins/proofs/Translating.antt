@@ -12,12 +12,13 @@ use Rattle.dx_model.specs.declared.values.Value.TheVariants.{Const, Null}
 use Rattle.dx_model.specs.declared.rules.Cell.{Cell}
 use Rattle.dx_model.specs.declared.rules.Cell.TheVariants.{Var, Ex, Lit}
 use Rattle.dx_model.specs.declared.rules.Atom.{Atom}
-use Rattle.dx_model.specs.Values.{Conversions, Text, Tuple}
+use Rattle.dx_model.specs.Values.{Conversions, Tuple}
+use Rattle.dx_ports.specs.Texts.{Text}
 use Rattle.std.proofs.lemmas.Simd.{map-map}
 use Rattle.dx_model.specs.Rules.{cell_value, cells_of, premise_fact, after_cells}
-use Rattle.dx_model.specs.Fitting.{IsVariable, variable_in}
+use Rattle.dx_model.specs.Fitting.{IsVariable, cell_variable}
 use Rattle.dx_instance.specs.Stored.{facts, rows_of, widths}
-use Rattle.dx_instance.specs.Numbers.{AreApart, value_of}
+use Rattle.dx_instance.specs.Numbers.{AreDistinctValues, value_of}
 use Rattle.dx_model.specs.Covers.{same_value}
 use Rattle.dx_model.proofs.Before.{same_value-refl, same_value-true}
 use Rattle.dx_instance.specs.Cells.{NumberTable}
@@ -26,14 +27,15 @@ use Rattle.dx_instance.proofs.ShownFacts.{number_same, row_same}
 use Rattle.dx_instance.proofs.StoredFacts.{row_from_fact, fact_from_row}
 use Rattle.dx_joins.specs.declared.pattern.Pattern.{Pattern}
 use Rattle.dx_joins.specs.Collecting.{MoreThan}
-use Rattle.dx_joins.specs.Joining.{AreMarked, Says, Stands, variables_of}
-use Rattle.dx_joins.specs.Planning.{FitPattern, IsTold, Told}
-use Rattle.dx_joins.specs.Shown.{ArePatterns, AreTexts, IsPattern, IsShown, MoreTuples, StandFor, is_text, text_in, texts_of}
+use Rattle.dx_joins.specs.Joining.{AreMarked, MatchesPatterns, MatchesPattern, variables_of_patterns}
+use Rattle.dx_joins.specs.Planning.{FitPattern, IsMatchRow, AreMatchRows}
+use Rattle.dx_joins.specs.Shown.{ArePatterns, AreTexts, IsPattern, IsMatchTuple, MoreTuples, StandFor, is_text, texts_of}
+use Rattle.dx_instance.specs.Ranks.{text_of_value}
 use Rattle.dx_joins.proofs.Distincts.{distinct_map}
 
 -- ---- distinct tuples
 
-pub text_back : (v : Value) → is_text v ≡ true → Const (text_in v) ≡ v
+pub text_back : (v : Value) → is_text v ≡ true → Const (text_of_value v) ≡ v
 text_back (Const t) e = refl
 text_back (Null n) e = absurd (cc e)
 
@@ -44,10 +46,10 @@ shown_texts S (n ∷ row) h =
     let rest = shown_texts S row (λ m k. h m (there k)) in
     cc (first, rest)
 
-pub texts_same : (S : List Value) (a b : List ℕ) → AreApart S → AreTexts S a → AreTexts S b → texts_of S a ≡ texts_of S b → a ≡ b
+pub texts_same : (S : List Value) (a b : List ℕ) → AreDistinctValues S → AreTexts S a → AreTexts S b → texts_of S a ≡ texts_of S b → a ≡ b
 texts_same S a b p h k e = row_same S a b p (λ n m. (h n m).0) (λ n m. (k n m).0) (sym (shown_texts S a h) ∙ ap (map Const) e ∙ shown_texts S b k)
 
-pub distinct_texts : (S : List Value) (rows : List (List ℕ)) → AreApart S → Each rows (AreTexts S) → Distinct rows → Distinct (map (texts_of S) rows)
+pub distinct_texts : (S : List Value) (rows : List (List ℕ)) → AreDistinctValues S → Each rows (AreTexts S) → Distinct rows → Distinct (map (texts_of S) rows)
 distinct_texts S rows p w once = distinct_map (texts_of S) rows (λ a b m k e. texts_same S a b p (w a m) (w b k) e) once
 
 -- ---- numbers of values
@@ -70,7 +72,7 @@ number_there (w ∷ ws) v m = elim (cases_Bool (same_value w v)) [
     rest (here e) f = absurd (self v (subst (λ (u : Value). same_value u v ≡ false) e f))
     rest (there k) f = k
 
-pub number_is : (S : List Value) (n : ℕ) (v : Value) → AreApart S → n < length S → value_of S n ≡ v → number_in S v ≡ n
+pub number_is : (S : List Value) (n : ℕ) (v : Value) → AreDistinctValues S → n < length S → value_of S n ≡ v → number_in S v ≡ n
 number_is S n v p h e =
     let r = number_there S v (subst (λ (u : Value). u ∈ S) e (in_at S n (Const []) h)) in
     number_same S (number_in S v) n p r.0 h (r.1 ∙ sym e)
@@ -92,13 +94,13 @@ marked_at S n h = get_or-map is_text S n (Const []) false h
 
 -- ---- atoms and patterns
 
-plain_row : (texts : ℕ → Text) (values : ℕ → Value) (cells : List Cell) → Each cells IsVariable → map (cell_value texts values) cells ≡ map (λ x. Const (texts x)) (flat_map variable_in cells)
+plain_row : (texts : ℕ → Text) (values : ℕ → Value) (cells : List Cell) → Each cells IsVariable → map (cell_value texts values) cells ≡ map (λ x. Const (texts x)) (flat_map cell_variable cells)
 plain_row texts values [] h = refl
 plain_row texts values (Var x ∷ cells) h = let r = plain_row texts values cells (λ c m. h c (there m)) in cc r
 plain_row texts values (Ex v ∷ cells) h = absurd (h (Ex v) (here refl))
 plain_row texts values (Lit t ∷ cells) h = absurd (h (Lit t) (here refl))
 
-pub plain_length : (cells : List Cell) → Each cells IsVariable → length (flat_map variable_in cells) ≡ length cells
+pub plain_length : (cells : List Cell) → Each cells IsVariable → length (flat_map cell_variable cells) ≡ length cells
 plain_length [] h = refl
 plain_length (Var x ∷ cells) h = let r = plain_length cells (λ c m. h c (there m)) in omega (arith, r)
 plain_length (Ex v ∷ cells) h = absurd (h (Ex v) (here refl))
@@ -117,13 +119,13 @@ atom_there (b ∷ atoms) [] h p m = elim m [ ]
 atom_there (b ∷ atoms) (q ∷ ps) h p (here e) = (b, here refl, subst (λ (c : Pattern). IsPattern b c) e h.0)
 atom_there (b ∷ atoms) (q ∷ ps) h p (there m) = let r = atom_there atoms ps h.1 p m in (r.0, there r.1, r.2)
 
-pub pattern_variables : (atoms : List Atom) (ps : List Pattern) → ArePatterns atoms ps → variables_of ps ≡ flat_map variable_in (cells_of atoms)
+pub pattern_variables : (atoms : List Atom) (ps : List Pattern) → ArePatterns atoms ps → variables_of_patterns ps ≡ flat_map cell_variable (cells_of atoms)
 pattern_variables [] [] h = refl
 pattern_variables [] (q ∷ ps) h = absurd h
 pattern_variables (b ∷ atoms) [] h = absurd h
-pattern_variables (b ∷ atoms) (q ∷ ps) h = ap (λ (l : List ℕ). l ++ variables_of ps) h.0.variables ∙ ap (λ (l : List ℕ). flat_map variable_in b.cells ++ l) (pattern_variables atoms ps h.1) ∙ sym (split b.cells (cells_of atoms))
+pattern_variables (b ∷ atoms) (q ∷ ps) h = ap (λ (l : List ℕ). l ++ variables_of_patterns ps) h.0.variables ∙ ap (λ (l : List ℕ). flat_map cell_variable b.cells ++ l) (pattern_variables atoms ps h.1) ∙ sym (split b.cells (cells_of atoms))
   where
-    split : (xs ys : List Cell) → flat_map variable_in (xs ++ ys) ≡ flat_map variable_in xs ++ flat_map variable_in ys
+    split : (xs ys : List Cell) → flat_map cell_variable (xs ++ ys) ≡ flat_map cell_variable xs ++ flat_map cell_variable ys
     split [] ys = refl
     split (Var x ∷ xs) ys = ap (λ (l : List ℕ). x ∷ l) (split xs ys)
     split (Ex v ∷ xs) ys = split xs ys
@@ -131,12 +133,12 @@ pattern_variables (b ∷ atoms) (q ∷ ps) h = ap (λ (l : List ℕ). l ++ varia
 
 module _ (S : List Value) (T : List NumberTable) (fits : PartsFit S T) where
   -- numbers that say an atom give texts that say it
-  stands_fact : (numbers : ℕ → ℕ) (a : Atom) (p : Pattern) → Each a.cells IsVariable → IsPattern a p → Stands T (map is_text S) numbers p → premise_fact (λ x. text_in (value_of S (numbers x))) a ∈ facts (shown_tables S T)
+  stands_fact : (numbers : ℕ → ℕ) (a : Atom) (p : Pattern) → Each a.cells IsVariable → IsPattern a p → MatchesPattern T (map is_text S) numbers p → premise_fact (λ x. text_of_value (value_of S (numbers x))) a ∈ facts (shown_tables S T)
   stands_fact numbers a p plain q h =
       let tab = numbers_of_table T p.table in
       let fit = fits.each tab (table_in T p.table (map numbers p.variables.items) h.0) in
       let below = fit.within (map numbers p.variables.items) h.0 in
-      let texts : ℕ → Text = λ x. text_in (value_of S (numbers x)) in
+      let texts : ℕ → Text = λ x. text_of_value (value_of S (numbers x)) in
       let row : map (λ x. Const (texts x)) p.variables.items ≡ shown_row S (map numbers p.variables.items) = map_same (λ x. Const (texts x)) (λ x. value_of S (numbers x)) p.variables.items (λ x m.
       let k = in_map numbers m in text_back (value_of S (numbers x)) (sym (marked_at S (numbers x) (below (numbers x) k)) ∙ h.1 (numbers x) k)) ∙ sym (map-map (value_of S) numbers p.variables.items) in
       let said : map (cell_value texts (λ _. Const [])) a.cells ≡ shown_row S (map numbers p.variables.items) = plain_row texts (λ _. Const []) a.cells plain ∙ ap (map (λ x. Const (texts x))) (sym q.variables) ∙ row in
@@ -169,7 +171,7 @@ module _ (S : List Value) (T : List NumberTable) (fits : PartsFit S T) where
 
   -- texts that say an atom have numbers that say it
   fact_stands : (texts : ℕ → Text) (a : Atom) (p : Pattern) → Each a.cells IsVariable → IsPattern a p → premise_fact texts a ∈ facts (shown_tables S T)
-      → Stands T (map is_text S) (λ x. number_in S (Const (texts x))) p × ((x : ℕ) → x ∈ p.variables.items → Const (texts x) ∈ S)
+      → MatchesPattern T (map is_text S) (λ x. number_in S (Const (texts x))) p × ((x : ℕ) → x ∈ p.variables.items → Const (texts x) ∈ S)
   fact_stands texts a p plain q m =
       let row = row_from_fact (shown_tables S T) (premise_fact texts a) m in
       let at = rw (rows_shown S T a.table, ← q.table) at row in
@@ -179,14 +181,14 @@ module _ (S : List Value) (T : List NumberTable) (fits : PartsFit S T) where
       let k = matched texts p.variables.items r.0 (fit.within r.0 r.1) is in
       (rw k.0 (r.1, k.1), k.2)
 
-  module _ (premise : List Atom) (ps : List Pattern) (shown : List ℕ) (plain : Each premise (λ a. Each a.cells IsVariable)) (are : ArePatterns premise ps) (known : shown ⊆ variables_of ps) (convert : Conversions) where
+  module _ (premise : List Atom) (ps : List Pattern) (shown : List ℕ) (plain : Each premise (λ a. Each a.cells IsVariable)) (are : ArePatterns premise ps) (known : shown ⊆ variables_of_patterns ps) (convert : Conversions) where
     abbrev pub marks : List Bool
     marks = map is_text S
 
     shown_pattern : (x : ℕ) → x ∈ shown → (p : Pattern) × (p ∈ ps) × (x ∈ p.variables.items)
     shown_pattern x m = from_flat_map (λ (p : Pattern). p.variables.items) ps (known x m)
 
-    row_texts : (numbers : ℕ → ℕ) → Says T marks ps numbers → AreTexts S (map numbers shown)
+    row_texts : (numbers : ℕ → ℕ) → MatchesPatterns T marks ps numbers → AreTexts S (map numbers shown)
     row_texts numbers says n m =
         let r = from_map numbers shown m in
         let p = shown_pattern r.0 r.1 in
@@ -196,27 +198,27 @@ module _ (S : List Value) (T : List NumberTable) (fits : PartsFit S T) where
         let below = fit.within _ s.0 (numbers r.0) k in
         subst (λ (y : ℕ). (y < length S) × (is_text (value_of S y) ≡ true)) r.2 (below, sym (marked_at S (numbers r.0) below) ∙ s.1 (numbers r.0) k)
 
-    to_texts : (numbers : ℕ → ℕ) → Says T marks ps numbers → IsShown convert premise [] (facts (shown_tables S T)) shown (texts_of S (map numbers shown))
+    to_texts : (numbers : ℕ → ℕ) → MatchesPatterns T marks ps numbers → IsMatchTuple convert premise [] (facts (shown_tables S T)) shown (texts_of S (map numbers shown))
     to_texts numbers says = (
-      (λ x. text_in (value_of S (numbers x))),
+      (λ x. text_of_value (value_of S (numbers x))),
       record {
         atoms = λ a m. let r = pattern_there premise ps are a m in stands_fact numbers a r.0 (plain a m) r.2 (says r.0 r.1);
         derives = tt;
       },
-      map-map (λ n. text_in (value_of S n)) numbers shown,
+      map-map (λ n. text_of_value (value_of S n)) numbers shown,
     )
 
-    from_texts : (t : Tuple) → IsShown convert premise [] (facts (shown_tables S T)) shown t → (numbers : ℕ → ℕ) × Says T marks ps numbers × (texts_of S (map numbers shown) ≡ t)
+    from_texts : (t : Tuple) → IsMatchTuple convert premise [] (facts (shown_tables S T)) shown t → (numbers : ℕ → ℕ) × MatchesPatterns T marks ps numbers × (texts_of S (map numbers shown) ≡ t)
     from_texts t (texts, f, e) =
         let numbers : ℕ → ℕ = λ x. number_in S (Const (texts x)) in
-        let stands : (p : Pattern) → p ∈ ps → Stands T marks numbers p × ((x : ℕ) → x ∈ p.variables.items → Const (texts x) ∈ S) = λ p m. let r = atom_there premise ps are p m in fact_stands texts r.0 p (plain r.0 r.1) r.2 (f.atoms r.0 r.1) in (
+        let stands : (p : Pattern) → p ∈ ps → MatchesPattern T marks numbers p × ((x : ℕ) → x ∈ p.variables.items → Const (texts x) ∈ S) = λ p m. let r = atom_there premise ps are p m in fact_stands texts r.0 p (plain r.0 r.1) r.2 (f.atoms r.0 r.1) in (
           numbers,
           (λ p m. (stands p m).0),
-          map-map (λ n. text_in (value_of S n)) numbers shown
-              ∙ map_same (λ x. text_in (value_of S (numbers x))) texts shown (λ x m. let p = shown_pattern x m in ap text_in (number_there S (Const (texts x)) ((stands p.0 p.1).1 x p.2)).1) ∙ sym e,
+          map-map (λ n. text_of_value (value_of S n)) numbers shown
+              ∙ map_same (λ x. text_of_value (value_of S (numbers x))) texts shown (λ x m. let p = shown_pattern x m in ap text_of_value (number_there S (Const (texts x)) ((stands p.0 p.1).1 x p.2)).1) ∙ sym e,
         )
 
-    pub told_shown : (table : NumberTable) → Told T marks ps shown table → StandFor (length shown) (IsShown convert premise [] (facts (shown_tables S T)) shown) S table
+    pub told_shown : (table : NumberTable) → AreMatchRows T marks ps shown table → StandFor (length shown) (IsMatchTuple convert premise [] (facts (shown_tables S T)) shown) S table
     told_shown table h = record {
       width = h.width;
       ascend = h.ascend;
@@ -224,13 +226,13 @@ module _ (S : List Value) (T : List NumberTable) (fits : PartsFit S T) where
       exact = λ t. (
         (λ m. let r = from_map (texts_of S) table.rows m in
             let w = (h.exact r.0).0 r.1 in
-            subst (λ (u : Tuple). IsShown convert premise [] (facts (shown_tables S T)) shown u) (ap (texts_of S) (sym w.2) ∙ r.2) (to_texts w.0 w.1)),
+            subst (λ (u : Tuple). IsMatchTuple convert premise [] (facts (shown_tables S T)) shown u) (ap (texts_of S) (sym w.2) ∙ r.2) (to_texts w.0 w.1)),
         (λ q. let w = from_texts t q in
             subst (λ (u : Tuple). u ∈ map (texts_of S) table.rows) w.2 (in_map (texts_of S) ((h.exact (map w.0 shown)).1 (w.0, w.1, refl)))),
       );
     }
 
-    pub more_shown : (most : ℕ) → MoreThan most (IsTold T marks ps shown) → MoreTuples most (IsShown convert premise [] (facts (shown_tables S T)) shown)
+    pub more_shown : (most : ℕ) → MoreThan most (IsMatchRow T marks ps shown) → MoreTuples most (IsMatchTuple convert premise [] (facts (shown_tables S T)) shown)
     more_shown most h =
         let texts : Each h.some (AreTexts S) = λ row m. let r = h.each row m in rw r.2 (row_texts r.0 r.1) in
         let long = length-map h.some (texts_of S) in
@@ -239,15 +241,15 @@ module _ (S : List Value) (T : List NumberTable) (fits : PartsFit S T) where
           distinct = distinct_texts S h.some fits.apart texts h.distinct;
           each = λ t m. let r = from_map (texts_of S) h.some m in
               let w = h.each r.0 r.1 in
-              subst (λ (u : Tuple). IsShown convert premise [] (facts (shown_tables S T)) shown u) (ap (texts_of S) (sym w.2) ∙ r.2) (to_texts w.0 w.1);
+              subst (λ (u : Tuple). IsMatchTuple convert premise [] (facts (shown_tables S T)) shown u) (ap (texts_of S) (sym w.2) ∙ r.2) (to_texts w.0 w.1);
           more = let a = h.more in omega (arith, a, long);
           few = let a = h.few in omega (arith, a, long);
         }
 
-pub result_shown : (S : List Value) (T : List NumberTable) (fits : PartsFit S T) (premise : List Atom) (ps : List Pattern) (shown : List ℕ) (plain : Each premise (λ a. Each a.cells IsVariable)) (are : ArePatterns premise ps) (known : shown ⊆ variables_of ps) (convert : Conversions)
+pub result_shown : (S : List Value) (T : List NumberTable) (fits : PartsFit S T) (premise : List Atom) (ps : List Pattern) (shown : List ℕ) (plain : Each premise (λ a. Each a.cells IsVariable)) (are : ArePatterns premise ps) (known : shown ⊆ variables_of_patterns ps) (convert : Conversions)
     (marks : List Bool) (most : ℕ) (result : Result (Option NumberTable) AllocError) → marks ≡ map is_text S
-    → IfOk result (λ o. MatchOption o (MoreThan most (IsTold T marks ps shown)) (λ r. Told T marks ps shown r))
-    → IfOk result (λ o. MatchOption o (MoreTuples most (IsShown convert premise [] (facts (shown_tables S T)) shown)) (λ r. StandFor (length shown) (IsShown convert premise [] (facts (shown_tables S T)) shown) S r))
+    → IfOk result (λ o. MatchOption o (MoreThan most (IsMatchRow T marks ps shown)) (λ r. AreMatchRows T marks ps shown r))
+    → IfOk result (λ o. MatchOption o (MoreTuples most (IsMatchTuple convert premise [] (facts (shown_tables S T)) shown)) (λ r. StandFor (length shown) (IsMatchTuple convert premise [] (facts (shown_tables S T)) shown) S r))
 result_shown S T fits premise ps shown plain are known convert marks most (Err e) is k = tt
 result_shown S T fits premise ps shown plain are known convert marks most (Ok None) is k = more_shown S T fits premise ps shown plain are known convert most (rw is at k)
 result_shown S T fits premise ps shown plain are known convert marks most (Ok (Some r)) is k = told_shown S T fits premise ps shown plain are known convert r (rw is at k)
@@ -277,28 +279,28 @@ some_patterns [] ps h are e = absurd (omega arith)
 some_patterns (a ∷ atoms) [] h are e = are
 some_patterns (a ∷ atoms) (p ∷ ps) h are e = absurd (cc e)
 
-pub in_variables : (x : ℕ) (cs : List Cell) → Var x ∈ cs → x ∈ flat_map variable_in cs
-in_variables x cs m = in_flat_map variable_in m (here refl)
+pub in_variables : (x : ℕ) (cs : List Cell) → Var x ∈ cs → x ∈ flat_map cell_variable cs
+in_variables x cs m = in_flat_map cell_variable m (here refl)
 
 pub all_plain : (atoms : List Atom) → Each atoms (λ a. Each a.cells IsVariable) → Each (cells_of atoms) IsVariable
 all_plain atoms h c m = let r = from_flat_map (λ (a : Atom). a.cells) atoms m in h r.0 r.1 c r.2
 
-cells_split : (xs ys : List Cell) → flat_map variable_in (xs ++ ys) ≡ flat_map variable_in xs ++ flat_map variable_in ys
+cells_split : (xs ys : List Cell) → flat_map cell_variable (xs ++ ys) ≡ flat_map cell_variable xs ++ flat_map cell_variable ys
 cells_split [] ys = refl
 cells_split (Var x ∷ xs) ys = ap (λ (l : List ℕ). x ∷ l) (cells_split xs ys)
 cells_split (Ex v ∷ xs) ys = cells_split xs ys
 cells_split (Lit t ∷ xs) ys = cells_split xs ys
 
-next_cells : (cells : List Cell) (i : ℕ) (c : Cell) → i < length cells → c ≡ get_or cells i c → flat_map variable_in (take (i + 1) cells) ≡ flat_map variable_in (take i cells) ++ flat_map variable_in (c ∷ [])
-next_cells cells i c h e = ap (flat_map variable_in) (take_more cells i c h ∙ ap (λ (d : Cell). take i cells ++ d ∷ []) (sym e)) ∙ cells_split (take i cells) (c ∷ [])
+next_cells : (cells : List Cell) (i : ℕ) (c : Cell) → i < length cells → c ≡ get_or cells i c → flat_map cell_variable (take (i + 1) cells) ≡ flat_map cell_variable (take i cells) ++ flat_map cell_variable (c ∷ [])
+next_cells cells i c h e = ap (flat_map cell_variable) (take_more cells i c h ∙ ap (λ (d : Cell). take i cells ++ d ∷ []) (sym e)) ∙ cells_split (take i cells) (c ∷ [])
 
-pub variables_more_in : (cells : List Cell) (vs : List ℕ) (i : ℕ) (c : Cell) (x : ℕ) → i < length cells → c ≡ get_or cells i c → c ≡ Var x → vs ≡ flat_map variable_in (take i cells) → vs ++ x ∷ [] ≡ flat_map variable_in (take (i + 1) cells)
-variables_more_in cells vs i c x h e d v = ap (λ (l : List ℕ). l ++ x ∷ []) v ∙ sym (next_cells cells i c h e ∙ ap (λ (k : Cell). flat_map variable_in (take i cells) ++ flat_map variable_in (k ∷ [])) d)
+pub variables_more_in : (cells : List Cell) (vs : List ℕ) (i : ℕ) (c : Cell) (x : ℕ) → i < length cells → c ≡ get_or cells i c → c ≡ Var x → vs ≡ flat_map cell_variable (take i cells) → vs ++ x ∷ [] ≡ flat_map cell_variable (take (i + 1) cells)
+variables_more_in cells vs i c x h e d v = ap (λ (l : List ℕ). l ++ x ∷ []) v ∙ sym (next_cells cells i c h e ∙ ap (λ (k : Cell). flat_map cell_variable (take i cells) ++ flat_map cell_variable (k ∷ [])) d)
 
-pub no_variable_in : (cells : List Cell) (vs : List ℕ) (i : ℕ) (c : Cell) → i < length cells → c ≡ get_or cells i c → ((x : ℕ) → ¬ (c ≡ Var x)) → vs ≡ flat_map variable_in (take i cells) → vs ≡ flat_map variable_in (take (i + 1) cells)
-no_variable_in cells vs i c h e n v = v ∙ sym (next_cells cells i c h e ∙ ap (λ (l : List ℕ). flat_map variable_in (take i cells) ++ l) (none c n) ∙ append-nil (flat_map variable_in (take i cells)))
+pub no_variable_in : (cells : List Cell) (vs : List ℕ) (i : ℕ) (c : Cell) → i < length cells → c ≡ get_or cells i c → ((x : ℕ) → ¬ (c ≡ Var x)) → vs ≡ flat_map cell_variable (take i cells) → vs ≡ flat_map cell_variable (take (i + 1) cells)
+no_variable_in cells vs i c h e n v = v ∙ sym (next_cells cells i c h e ∙ ap (λ (l : List ℕ). flat_map cell_variable (take i cells) ++ l) (none c n) ∙ append-nil (flat_map cell_variable (take i cells)))
   where
-    none : (c : Cell) → ((x : ℕ) → ¬ (c ≡ Var x)) → flat_map variable_in (c ∷ []) ≡ []
+    none : (c : Cell) → ((x : ℕ) → ¬ (c ≡ Var x)) → flat_map cell_variable (c ∷ []) ≡ []
     none (Var x) n = absurd (n x refl)
     none (Ex v) n = refl
     none (Lit t) n = refl
@@ -306,10 +308,10 @@ no_variable_in cells vs i c h e n v = v ∙ sym (next_cells cells i c h e ∙ ap
 pub all_fit : (S : List Value) (T : List NumberTable) (premise : List Atom) (ps : List Pattern) → Each premise (λ a. slice_get (widths (shown_tables S T)) a.table ≡ Some (length a.cells)) → Each premise (λ a. Each a.cells IsVariable) → ArePatterns premise ps → Each ps (FitPattern T)
 all_fit S T premise ps w plain are p m = let r = atom_there premise ps are p m in pattern_fits S T r.0 p (w r.0 r.1) (plain r.0 r.1) r.2
 
-pub all_known : (premise : List Atom) (ps : List Pattern) (shown : List ℕ) → ArePatterns premise ps → ((x : ℕ) → x < after_cells (cells_of premise) → Var x ∈ cells_of premise) → Each shown (λ x. x < after_cells (cells_of premise) + 0) → shown ⊆ variables_of ps
+pub all_known : (premise : List Atom) (ps : List Pattern) (shown : List ℕ) → ArePatterns premise ps → ((x : ℕ) → x < after_cells (cells_of premise) → Var x ∈ cells_of premise) → Each shown (λ x. x < after_cells (cells_of premise) + 0) → shown ⊆ variables_of_patterns ps
 all_known premise ps shown are numbered known x m =
     let b : x < after_cells (cells_of premise) = let k = known x m in omega (arith, k) in
     rw (pattern_variables premise ps are) (in_variables x (cells_of premise) (numbered x b))
 
-pub few_variables : (premise : List Atom) (ps : List Pattern) → ArePatterns premise ps → Each premise (λ a. Each a.cells IsVariable) → length (cells_of premise) < 2 ^ 32 → length (variables_of ps) < 2 ^ 32
+pub few_variables : (premise : List Atom) (ps : List Pattern) → ArePatterns premise ps → Each premise (λ a. Each a.cells IsVariable) → length (cells_of premise) < 2 ^ 32 → length (variables_of_patterns ps) < 2 ^ 32
 few_variables premise ps are plain few = omega (arith, few, ap length (pattern_variables premise ps are), plain_length (cells_of premise) (all_plain premise plain))

@@ -9,12 +9,12 @@ use Rattle.dx_instance.specs.Cells.{NumberTable, with_numbers}
 use Rattle.dx_instance.specs.Shown.{PartsFit, numbers_of_table}
 use Rattle.dx_joins.specs.declared.pattern.Pattern.{Pattern}
 use Rattle.dx_joins.specs.Collecting.{AreThose, MoreThan}
-use Rattle.dx_joins.specs.Joining.{variables_of}
-use Rattle.dx_joins.specs.Planning.{IsTold, Told}
-use Rattle.dx_joins.specs.Valued.{IsJoined}
+use Rattle.dx_joins.specs.Joining.{variables_of_patterns}
+use Rattle.dx_joins.specs.Planning.{IsMatchRow, AreMatchRows}
+use Rattle.dx_joins.specs.Valued.{IsJoinRow}
 use Rattle.dx_joins.proofs.Translating.{table_in}
 
-told_joined : (S : List Value) (T : List NumberTable) (ps : List Pattern) (shown : List ℕ) → PartsFit S T → (t : List ℕ) → IsTold T (replicate (length S) true) ps shown t ↔ IsJoined T ps shown t
+told_joined : (S : List Value) (T : List NumberTable) (ps : List Pattern) (shown : List ℕ) → PartsFit S T → (t : List ℕ) → IsMatchRow T (replicate (length S) true) ps shown t ↔ IsJoinRow T ps shown t
 told_joined S T ps shown fits t = (
   (λ w. (w.0, (λ p m. (w.1 p m).0), w.2)),
   (λ w. (w.0, (λ p m. (w.1 p m, λ n k. get_or-replicate (length S) n true false ((fits.each (numbers_of_table T p.table) (table_in T p.table _ (w.1 p m))).within _ (w.1 p m) n k))), w.2)),
@@ -22,8 +22,8 @@ told_joined S T ps shown fits t = (
 
 pub result_joined : (S : List Value) (T : List NumberTable) (ps : List Pattern) (shown : List ℕ) (marks : List Bool) (most : ℕ) (result : Result (Option NumberTable) AllocError)
     → PartsFit S T → marks ≡ replicate (length S) true
-    → IfOk result (λ o. MatchOption o (MoreThan most (IsTold T marks ps shown)) (λ r. Told T marks ps shown r))
-    → IfOk result (λ o. MatchOption o (MoreThan most (IsJoined T ps shown)) (AreThose (length shown) (IsJoined T ps shown)))
+    → IfOk result (λ o. MatchOption o (MoreThan most (IsMatchRow T marks ps shown)) (λ r. AreMatchRows T marks ps shown r))
+    → IfOk result (λ o. MatchOption o (MoreThan most (IsJoinRow T ps shown)) (AreThose (length shown) (IsJoinRow T ps shown)))
 result_joined S T ps shown marks most (Err e) fits is k = tt
 result_joined S T ps shown marks most (Ok None) fits is k =
     let j = rw is at k in
@@ -36,13 +36,13 @@ nothing_shown : (shown : List ℕ) → shown ⊆ [] → shown ≡ []
 nothing_shown [] s = refl
 nothing_shown (x ∷ xs) s = elim (s x (here refl)) [ ]
 
-none_joined : (T : List NumberTable) (ps : List Pattern) (shown : List ℕ) → ps ≡ [] → shown ≡ [] → (t : List ℕ) → (t ≡ []) ↔ IsJoined T ps shown t
+none_joined : (T : List NumberTable) (ps : List Pattern) (shown : List ℕ) → ps ≡ [] → shown ≡ [] → (t : List ℕ) → (t ≡ []) ↔ IsJoinRow T ps shown t
 none_joined T ps shown e s t = rw (e, s) ((λ q. ((λ x. x), (λ p m. elim m [ ]), q)), (λ w. w.2))
 
 pub result_none : (T : List NumberTable) (ps : List Pattern) (shown : List ℕ) (most : ℕ) (result : Result (Option NumberTable) AllocError)
-    → ps ≡ [] → shown ⊆ variables_of ps
+    → ps ≡ [] → shown ⊆ variables_of_patterns ps
     → IfOk result (λ o. MatchOption o (MoreThan most (λ t. t ≡ [])) (AreThose 0 (λ t. t ≡ [])))
-    → IfOk result (λ o. MatchOption o (MoreThan most (IsJoined T ps shown)) (AreThose (length shown) (IsJoined T ps shown)))
+    → IfOk result (λ o. MatchOption o (MoreThan most (IsJoinRow T ps shown)) (AreThose (length shown) (IsJoinRow T ps shown)))
 result_none T ps shown most (Err e) is s k = tt
 result_none T ps shown most (Ok None) is s k =
     let z = nothing_shown shown (rw is at s) in

@@ -6,7 +6,7 @@ use Rattle.dx_ports.specs.Members.{◌∈◌, ◌⊆◌, here, there, Each}
 use Rattle.dx_ports.proofs.Members.{in_left, in_right, from_append}
 use Rattle.dx_ports.proofs.Ranges.{to_range}
 use Rattle.dx_model.specs.declared.rules.Derived.{Derived}
-use Rattle.dx_joins.specs.Derivations.{IsWanted}
+use Rattle.dx_joins.specs.Derivations.{IsVariableWanted}
 
 only : (x y : ℕ) → y ∈ (x ∷ []) → y ≡ x
 only x y (here e) = sym e
@@ -27,13 +27,13 @@ want_none P vs x n below all = (
 )
 
 -- the shown variables are among those that are wanted and the derived ones
-pub shown_known : (derived : List Derived) (shown wanted : List ℕ) (first : ℕ) → ((x : ℕ) → x < first → IsWanted derived shown x → x ∈ wanted) → Each shown (λ x. x < first + length derived)
+pub shown_known : (derived : List Derived) (shown wanted : List ℕ) (first : ℕ) → ((x : ℕ) → x < first → IsVariableWanted derived shown x → x ∈ wanted) → Each shown (λ x. x < first + length derived)
     → shown ⊆ (wanted ++ range_with_len first (length derived))
 shown_known derived shown wanted first all known x m = elim (cases_lt x first) [
   | inl b ↦ in_left (range_with_len first (length derived)) (all x b (inl m))
   | inr b ↦ in_right wanted (to_range first (length derived) x b (known x m))
 ]
 
-pub args_known : (derived : List Derived) (shown wanted : List ℕ) (first : ℕ) → ((x : ℕ) → x < first → IsWanted derived shown x → x ∈ wanted) → Each derived (λ (e : Derived). Each e.args (λ x. x < first))
+pub args_known : (derived : List Derived) (shown wanted : List ℕ) (first : ℕ) → ((x : ℕ) → x < first → IsVariableWanted derived shown x → x ∈ wanted) → Each derived (λ (e : Derived). Each e.args (λ x. x < first))
     → Each derived (λ (e : Derived). e.args ⊆ wanted)
 args_known derived shown wanted first all args e m x h = all x (args e m x h) (inr (e, m, h))

@@ -14,8 +14,8 @@ use Rattle.dx_model.specs.Values.{Conversions, Tuple}
 use Rattle.dx_model.specs.Rules.{after_cells, cells_of}
 use Rattle.dx_instance.specs.Numbers.{Extends}
 use Rattle.dx_instance.specs.Cells.{NumberTable}
-use Rattle.dx_joins.specs.Shown.{FitsMatching, IsShown, MoreTuples, StandFor, texts_of}
-use Rattle.dx_joins.specs.Derivations.{GivenBy, IsWanted, given_to}
+use Rattle.dx_joins.specs.Shown.{FitsMatching, IsMatchTuple, MoreTuples, StandFor, texts_of}
+use Rattle.dx_joins.specs.Derivations.{GivenBy, IsVariableWanted, given_to}
 use Rattle.dx_joins.proofs.Growing.{texts_grow, texts_stay}
 use Rattle.dx_joins.proofs.Derived.{derived_from, derived_to}
 use Rattle.dx_joins.proofs.Wanting.{args_known, shown_known}
@@ -42,7 +42,7 @@ none_found None Q R e m = let a = m.more in let b = m.few in absurd (omega (arit
 none_found (Some r) Q R e m = absurd (cc e)
 
 module _ (widths : List ℕ) (premise : List Atom) (derived : List Derived) (shown wanted : List ℕ) (first : ℕ) (fits : FitsMatching widths premise derived shown) (is : first ≡ after_cells (cells_of premise))
-    (below : Each wanted (λ x. x < first)) (all : (x : ℕ) → x < first → IsWanted derived shown x → x ∈ wanted) (few : length wanted ≤ first) where
+    (below : Each wanted (λ x. x < first)) (all : (x : ℕ) → x < first → IsVariableWanted derived shown x → x ∈ wanted) (few : length wanted ≤ first) where
   pub fits_wanted : FitsMatching widths premise [] wanted
   fits_wanted = record {
     some = fits.some;
@@ -68,8 +68,8 @@ module _ (widths : List ℕ) (premise : List Atom) (derived : List Derived) (sho
   pub room_wanted : first + length derived < 2 ^ 32
   room_wanted = let n = fits.numbers in omega (arith, n, is)
 
-  pub given_same : (convert : Conversions) (I : List Fact) (S : List Value) (table : NumberTable) → StandFor (length wanted) (IsShown convert premise [] I wanted) S table
-      → (t : Tuple) → GivenBy convert wanted derived first shown S table.rows t ↔ IsShown convert premise derived I shown t
+  pub given_same : (convert : Conversions) (I : List Fact) (S : List Value) (table : NumberTable) → StandFor (length wanted) (IsMatchTuple convert premise [] I wanted) S table
+      → (t : Tuple) → GivenBy convert wanted derived first shown S table.rows t ↔ IsMatchTuple convert premise derived I shown t
   given_same convert I S table s t = (
     (λ g. derived_to convert wanted premise derived I first shown is below args_wanted shown_wanted t (texts_of S g.0, (s.exact (texts_of S g.0)).0 (in_map (texts_of S) g.1), g.2)),
     (λ q. let u = derived_from convert wanted premise derived I first shown is below args_wanted shown_wanted t q in
@@ -77,5 +77,5 @@ module _ (widths : List ℕ) (premise : List Atom) (derived : List Derived) (sho
         (r.0, r.1, u.2 ∙ ap (given_to convert wanted derived first shown) (sym r.2))),
   )
 
-pub no_derived : (convert : Conversions) (premise : List Atom) (derived : List Derived) (I : List Fact) (shown : List ℕ) → derived ≡ [] → (t : Tuple) → IsShown convert premise [] I shown t ↔ IsShown convert premise derived I shown t
+pub no_derived : (convert : Conversions) (premise : List Atom) (derived : List Derived) (I : List Fact) (shown : List ℕ) → derived ≡ [] → (t : Tuple) → IsMatchTuple convert premise [] I shown t ↔ IsMatchTuple convert premise derived I shown t
 no_derived convert premise derived I shown e t = rw e ((λ x. x), (λ x. x))

@@ -10,7 +10,7 @@ pub record Collection : Type 0 where
   pub rows : List (List ℕ)
 
 -- the collection has what it had and what has P, and nothing else
-pub record Gains (old new : Collection) (P : List ℕ → Type 0) : Type 0 where
+pub record CollectsRows (old new : Collection) (P : List ℕ → Type 0) : Type 0 where
   pub width : new.width ≡ old.width
   pub most : new.most ≡ old.most
   pub exact : (t : List ℕ) → (t ∈ new.rows) ↔ ((t ∈ old.rows) ⊎ P t)
@@ -31,7 +31,7 @@ pub record AreThose (columns : ℕ) (P : List ℕ → Type 0) (t : NumberTable) 
 
 -- there are more rows than are wanted, or else the collection gains those that have P
 abbrev pub Collects : Bool → Collection → Collection → (List ℕ → Type 0) → Type 0
-Collects full old new P = MatchBool full (MoreThan old.most (λ t. (t ∈ old.rows) ⊎ P t)) (Gains old new P)
+Collects full old new P = MatchBool full (MoreThan old.most (λ t. (t ∈ old.rows) ⊎ P t)) (CollectsRows old new P)
 
 -- what is known of the first rows: they ascend
 abbrev pub FirstAscend : ℕ → List (List ℕ) → Type 0

@@ -6,24 +6,25 @@ use Rattle.dx_model.specs.declared.values.Value.{Value}
 use Rattle.dx_joins.specs.Collecting.{Collection, Collects}
 use Rattle.dx_joins.specs.Shown.{AreTexts, texts_of}
 use Rattle.dx_model.specs.declared.rules.Derived.{Derived}
-use Rattle.dx_model.specs.Values.{Conversions, Text, Tuple}
+use Rattle.dx_model.specs.Values.{Conversions, Tuple}
+use Rattle.dx_ports.specs.Texts.{Text}
 use Rattle.dx_model.specs.Rules.{text_of}
 
 -- the text of a derived variable, if these variables have the texts of a tuple
-abbrev pub derived_text : Conversions → List ℕ → Derived → Tuple → Text
-derived_text convert names e t = convert e.code (map (text_of names t) e.args)
+abbrev pub derived_value : Conversions → List ℕ → Derived → Tuple → Text
+derived_value convert names e t = convert e.code (map (text_of names t) e.args)
 
 -- the texts of derived variables, if these variables have the texts of a tuple
-abbrev pub derived_texts : Conversions → List ℕ → List Derived → Tuple → Tuple
-derived_texts convert names derived t = map (λ (e : Derived). derived_text convert names e t) derived
+abbrev pub derived_values : Conversions → List ℕ → List Derived → Tuple → Tuple
+derived_values convert names derived t = map (λ (e : Derived). derived_value convert names e t) derived
 
 -- a tuple, and after it the texts of derived variables
 abbrev pub with_derived : Conversions → List ℕ → List Derived → Tuple → Tuple
-with_derived convert names derived t = t ++ derived_texts convert names derived t
+with_derived convert names derived t = t ++ derived_values convert names derived t
 
 -- the variable is an argument of a derived variable, or is shown
-abbrev pub IsWanted : List Derived → List ℕ → ℕ → Type 0
-IsWanted derived shown x = (x ∈ shown) ⊎ ((e : Derived) × (e ∈ derived) × (x ∈ e.args))
+abbrev pub IsVariableWanted : List Derived → List ℕ → ℕ → Type 0
+IsVariableWanted derived shown x = (x ∈ shown) ⊎ ((e : Derived) × (e ∈ derived) × (x ∈ e.args))
 
 -- what a tuple and its derived variables, which are numbered from `first` on, give to the shown variables
 abbrev pub given_to : Conversions → List ℕ → List Derived → ℕ → List ℕ → Tuple → Tuple

@@ -8,20 +8,20 @@ use Rattle.dx_instance.specs.Cells.{NumberTable}
 use Rattle.dx_instance.specs.Shown.{numbers_of_table}
 use Rattle.dx_joins.specs.declared.premise.Partial.{Partial}
 use Rattle.dx_joins.specs.Collecting.{AreThose}
-use Rattle.dx_joins.specs.Looking.{IsIndex, keys_of}
-use Rattle.dx_joins.specs.Joining.{AreMarked, Joined, Says, Tells, variables_of}
+use Rattle.dx_joins.specs.Looking.{IsBucketIndex, keys_of}
+use Rattle.dx_joins.specs.Joining.{AreMarked, IsJoinOf, MatchesPatterns, AreRowsWith, variables_of_patterns}
 
 -- the place where x stands first
-abbrev pub place_of : List ℕ → ℕ → ℕ
-place_of [] x = 0
-place_of (y ∷ ys) x = cond (eqb x y) 0 (suc (place_of ys x))
+abbrev pub first_place : List ℕ → ℕ → ℕ
+first_place [] x = 0
+first_place (y ∷ ys) x = cond (eqb x y) 0 (suc (first_place ys x))
 
 -- the plan's places are those of its variables, and it looks for rows by variables that stand on both sides
-pub record IsPlan (p : Plan) : Type 0 where
+pub record IsJoinPlan (p : Plan) : Type 0 where
   pub once : Distinct p.left.items
   pub known : p.kept.items ⊆ (p.left.items ++ p.right.items)
-  pub firsts : p.firsts.items ≡ map (place_of (p.left.items ++ p.right.items)) p.right.items
-  pub places : p.places.items ≡ map (place_of (p.left.items ++ p.right.items)) p.kept.items
+  pub firsts : p.firsts.items ≡ map (first_place (p.left.items ++ p.right.items)) p.right.items
+  pub places : p.places.items ≡ map (first_place (p.left.items ++ p.right.items)) p.kept.items
   pub left_within : Each p.by_left.items (λ i. i < length p.left.items)
   pub right_within : Each p.by_right.items (λ i. i < length p.right.items)
   pub shared : map (slice_index p.left.items) p.by_left.items ≡ map (slice_index p.right.items) p.by_right.items
@@ -29,7 +29,7 @@ pub record IsPlan (p : Plan) : Type 0 where
 -- t comes of r and the marked row s
 pub record Pairs (p : Plan) (marks : List Bool) (r s t : List ℕ) : Type 0 where
   pub marked : AreMarked marks s
-  pub joined : Joined p.left.items p.right.items p.kept.items r s t
+  pub joined : IsJoinOf p.left.items p.right.items p.kept.items r s t
 
 -- t comes of r and one of the rows
 abbrev pub PairsWith : Plan → List Bool → List (List ℕ) → List ℕ → List ℕ → Type 0
@@ -45,11 +45,11 @@ PairsOf p marks tables table rows t = (r : List ℕ) × (r ∈ rows) × PairsIn 
 
 -- the index is that of a table's rows by the columns on the right that are joined
 abbrev pub IndexesTable : Plan → List NumberTable → ℕ → Index → Type 0
-IndexesTable p tables table index = IsIndex index (keys_of p.by_right.items (numbers_of_table tables table).rows)
+IndexesTable p tables table index = IsBucketIndex index (keys_of p.by_right.items (numbers_of_table tables table).rows)
 
 -- a later pattern has the variable, or it is wanted in the end
-abbrev pub IsNeeded : List Pattern → List ℕ → ℕ → Type 0
-IsNeeded later wanted x = (x ∈ variables_of later) ⊎ (x ∈ wanted)
+abbrev pub IsVariableNeeded : List Pattern → List ℕ → ℕ → Type 0
+IsVariableNeeded later wanted x = (x ∈ variables_of_patterns later) ⊎ (x ∈ wanted)
 
 -- the pattern has a variable for each column of its table
 pub record FitPattern (tables : List NumberTable) (p : Pattern) : Type 0 where
@@ -59,28 +59,28 @@ pub record FitPattern (tables : List NumberTable) (p : Pattern) : Type 0 where
 -- t comes of a partial match and a row of the pattern's table
 abbrev pub StepsTo : List NumberTable → List Bool → Partial → Pattern → List ℕ → List ℕ → Type 0
 StepsTo tables marks p pattern kept t =
-    (r : List ℕ) × (r ∈ p.rows.rows) × (s : List ℕ) × (s ∈ (numbers_of_table tables pattern.table).rows) × AreMarked marks s × Joined p.variables.items pattern.variables.items kept r s t
+    (r : List ℕ) × (r ∈ p.rows.rows) × (s : List ℕ) × (s ∈ (numbers_of_table tables pattern.table).rows) × AreMarked marks s × IsJoinOf p.variables.items pattern.variables.items kept r s t
 
 -- the partial matches are those of the patterns that are done, for the variables that are needed
-pub record Carries (tables : List NumberTable) (marks : List Bool) (done later : List Pattern) (wanted : List ℕ) (p : Partial) : Type 0 where
-  pub told : Tells (Says tables marks done) p.variables.items p.rows.rows
-  pub kept : (x : ℕ) → x ∈ variables_of done → IsNeeded later wanted x → x ∈ p.variables.items
+pub record HoldsPartialMatches (tables : List NumberTable) (marks : List Bool) (done later : List Pattern) (wanted : List ℕ) (p : Partial) : Type 0 where
+  pub told : AreRowsWith (MatchesPatterns tables marks done) p.variables.items p.rows.rows
+  pub kept : (x : ℕ) → x ∈ variables_of_patterns done → IsVariableNeeded later wanted x → x ∈ p.variables.items
   pub once : Distinct p.variables.items
   pub wide : p.rows.width ≡ length p.variables.items
-  pub few : length p.variables.items ≤ length (variables_of done)
+  pub few : length p.variables.items ≤ length (variables_of_patterns done)
 
 -- with one pattern more done, the new partial matches are those of the patterns that are done
 abbrev pub CarriesOn : List NumberTable → List Bool → Pattern → List Pattern → List ℕ → Partial → Partial → Type 0
 CarriesOn tables marks pattern later wanted old new =
-    (done : List Pattern) → Carries tables marks done (pattern ∷ later) wanted old → Carries tables marks (done ++ pattern ∷ []) later wanted new
+    (done : List Pattern) → HoldsPartialMatches tables marks done (pattern ∷ later) wanted old → HoldsPartialMatches tables marks (done ++ pattern ∷ []) later wanted new
 
 -- a match of the patterns gives t to the variables
-abbrev pub IsTold : List NumberTable → List Bool → List Pattern → List ℕ → List ℕ → Type 0
-IsTold tables marks patterns shown t = (numbers : ℕ → ℕ) × Says tables marks patterns numbers × (t ≡ map numbers shown)
+abbrev pub IsMatchRow : List NumberTable → List Bool → List Pattern → List ℕ → List ℕ → Type 0
+IsMatchRow tables marks patterns shown t = (numbers : ℕ → ℕ) × MatchesPatterns tables marks patterns numbers × (t ≡ map numbers shown)
 
 -- the rows are what the matches of the patterns give to the variables
-abbrev pub Told : List NumberTable → List Bool → List Pattern → List ℕ → NumberTable → Type 0
-Told tables marks patterns shown t = AreThose (length shown) (IsTold tables marks patterns shown) t
+abbrev pub AreMatchRows : List NumberTable → List Bool → List Pattern → List ℕ → NumberTable → Type 0
+AreMatchRows tables marks patterns shown t = AreThose (length shown) (IsMatchRow tables marks patterns shown) t
 
 -- x is added to distinct numbers, if it is not there
 pub record AddsOnce (old new : List ℕ) (x : ℕ) : Type 0 where

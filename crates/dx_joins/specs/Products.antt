@@ -5,32 +5,32 @@ use Rattle.dx_instance.specs.Cells.{NumberTable}
 use Rattle.dx_joins.specs.declared.pattern.Pattern.{Pattern}
 use Rattle.dx_joins.specs.declared.parts.Part.{Part}
 use Rattle.dx_joins.specs.Collecting.{MoreThan}
-use Rattle.dx_joins.specs.Joining.{variables_of}
-use Rattle.dx_joins.specs.Looking.{numbers_in}
-use Rattle.dx_joins.specs.Planning.{IsTold, Told}
+use Rattle.dx_joins.specs.Joining.{variables_of_patterns}
+use Rattle.dx_joins.specs.Looking.{numbers_at_places}
+use Rattle.dx_joins.specs.Planning.{IsMatchRow, AreMatchRows}
 
 -- no variable of the first patterns stands in the others
 abbrev pub ShareNone : List Pattern → List Pattern → Type 0
-ShareNone first others = (x : ℕ) → x ∈ variables_of first → ¬ (x ∈ variables_of others)
+ShareNone first others = (x : ℕ) → x ∈ variables_of_patterns first → ¬ (x ∈ variables_of_patterns others)
 
 -- t is what a row and one of the right rows have at these places
 abbrev pub CrossesWith : List (List ℕ) → List ℕ → List ℕ → List ℕ → Type 0
-CrossesWith rights places left t = (s : List ℕ) × (s ∈ rights) × (t ≡ numbers_in (left ++ s) places)
+CrossesWith rights places left t = (s : List ℕ) × (s ∈ rights) × (t ≡ numbers_at_places (left ++ s) places)
 
 -- t is what one of the left rows and one of the right rows have at these places
 abbrev pub Crosses : List (List ℕ) → List (List ℕ) → List ℕ → List ℕ → Type 0
 Crosses lefts rights places t = (r : List ℕ) × (r ∈ lefts) × CrossesWith rights places r t
 
 -- the rows are what the matches of the patterns give to the variables; no rows are there if that is more than is wanted
-abbrev pub Gives : List NumberTable → List Bool → ℕ → List Pattern → List ℕ → Option NumberTable → Type 0
-Gives tables marks most patterns variables o = MatchOption o (MoreThan most (IsTold tables marks patterns variables)) (λ r. Told tables marks patterns variables r)
+abbrev pub GivesRows : List NumberTable → List Bool → ℕ → List Pattern → List ℕ → Option NumberTable → Type 0
+GivesRows tables marks most patterns variables o = MatchOption o (MoreThan most (IsMatchRow tables marks patterns variables)) (λ r. AreMatchRows tables marks patterns variables r)
 
 -- the part is what the patterns give to those of their variables that are shown
 pub record IsPartOf (tables : List NumberTable) (marks : List Bool) (most : ℕ) (patterns : List Pattern) (shown : List ℕ) (p : Part) : Type 0 where
-  pub gives : Gives tables marks most patterns p.variables.items p.rows
-  pub known : p.variables.items ⊆ variables_of patterns
+  pub gives : GivesRows tables marks most patterns p.variables.items p.rows
+  pub known : p.variables.items ⊆ variables_of_patterns patterns
   pub wanted : p.variables.items ⊆ shown
-  pub all : (x : ℕ) → x ∈ variables_of patterns → x ∈ shown → x ∈ p.variables.items
+  pub all : (x : ℕ) → x ∈ variables_of_patterns patterns → x ∈ shown → x ∈ p.variables.items
   pub once : Distinct p.variables.items
 
 -- the part's rows, if it has them, have a number for each variable
@@ -41,7 +41,7 @@ IsWide p = IfSome p.rows (λ r. r.width ≡ length p.variables.items)
 abbrev pub IsProduct : ℕ → Part → Part → List ℕ → Option NumberTable → Type 0
 IsProduct most left right kept o =
     (tables : List NumberTable) (marks : List Bool) (first second : List Pattern) (shown : List ℕ) → IsPartOf tables marks most first shown left → IsPartOf tables marks most second shown right → ShareNone first second
-    → left.variables.items ⊆ kept → right.variables.items ⊆ kept → Gives tables marks most (first ++ second) kept o
+    → left.variables.items ⊆ kept → right.variables.items ⊆ kept → GivesRows tables marks most (first ++ second) kept o
 
 -- with some patterns more, the new part is that of all of them
 abbrev pub PartGrows : List NumberTable → List Bool → ℕ → List Pattern → List ℕ → Part → Part → Type 0

@@ -7,20 +7,17 @@ use Rattle.dx_model.specs.declared.facts.Fact.{Fact}
 use Rattle.dx_model.specs.declared.rules.Cell.TheVariants.{Var}
 use Rattle.dx_model.specs.declared.rules.Atom.{Atom}
 use Rattle.dx_model.specs.declared.rules.Derived.{Derived}
-use Rattle.dx_model.specs.Values.{Conversions, Text, Tuple}
+use Rattle.dx_model.specs.Values.{Conversions, Tuple}
+use Rattle.dx_ports.specs.Texts.{Text}
 use Rattle.dx_model.specs.Tables.{AreWithin}
 use Rattle.dx_model.specs.Rules.{Derive, after_cells, cells_of, premise_fact}
-use Rattle.dx_model.specs.Fitting.{AtomsFitWidths, IsVariable, variable_in}
+use Rattle.dx_model.specs.Fitting.{AtomsFitWidths, IsVariable, cell_variable}
 use Rattle.dx_instance.specs.Numbers.{value_of}
 use Rattle.dx_instance.specs.Cells.{NumberTable, NumbersAscend}
-use Rattle.dx_instance.specs.Shown.{Numbered, shown_tables}
+use Rattle.dx_instance.specs.Shown.{NumberedInstance, shown_tables}
 use Rattle.dx_instance.specs.Stored.{facts}
 use Rattle.dx_joins.specs.declared.pattern.Pattern.{Pattern}
-
--- the text of a value, which a null lacks
-abbrev pub text_in : Value → Text
-text_in (Const t) = t
-text_in (Null n) = []
+use Rattle.dx_instance.specs.Ranks.{text_of_value}
 
 -- whether a value is a text
 abbrev pub is_text : Value → Bool
@@ -29,7 +26,7 @@ is_text (Null n) = false
 
 -- the tuple for which a row of numbers stands
 abbrev pub texts_of : List Value → List ℕ → Tuple
-texts_of symbols row = map (λ n. text_in (value_of symbols n)) row
+texts_of symbols row = map (λ n. text_of_value (value_of symbols n)) row
 
 -- each number stands for a text
 abbrev pub AreTexts : List Value → List ℕ → Type 0
@@ -41,8 +38,8 @@ pub record IsFound (convert : Conversions) (premise : List Atom) (derived : List
   pub derives : Derive convert texts (after_cells (cells_of premise)) derived
 
 -- a match gives t to these variables
-abbrev pub IsShown : Conversions → List Atom → List Derived → List Fact → List ℕ → Tuple → Type 0
-IsShown convert premise derived I shown t = (texts : ℕ → Text) × IsFound convert premise derived I texts × (t ≡ map texts shown)
+abbrev pub IsMatchTuple : Conversions → List Atom → List Derived → List Fact → List ℕ → Tuple → Type 0
+IsMatchTuple convert premise derived I shown t = (texts : ℕ → Text) × IsFound convert premise derived I texts × (t ≡ map texts shown)
 
 -- rows of one width stand for the tuples that have P, each once, in order of their numbers
 pub record StandFor (columns : ℕ) (P : Tuple → Type 0) (symbols : List Value) (table : NumberTable) : Type 0 where
@@ -60,8 +57,8 @@ pub record MoreTuples (most : ℕ) (P : Tuple → Type 0) : Type 0 where
   pub few : length tuples < 2 ^ 32
 
 -- the facts that tables of numbers show
-abbrev pub facts_in : Numbered → List Fact
-facts_in source = facts (shown_tables source.symbols source.tables)
+abbrev pub shown_facts : NumberedInstance → List Fact
+shown_facts source = facts (shown_tables source.symbols source.tables)
 
 -- what is asked of a premise, derived variables and the variables to be shown: the premise has variables alone, of which each
 -- one below their number stands there; conversions take variables of the premise; and no other variables are shown
@@ -79,7 +76,7 @@ pub record FitsMatching (widths : List ℕ) (premise : List Atom) (derived : Lis
 -- the pattern has the table of the atom, and its variables
 pub record IsPattern (a : Atom) (p : Pattern) : Type 0 where
   pub table : p.table ≡ a.table
-  pub variables : p.variables.items ≡ flat_map variable_in a.cells
+  pub variables : p.variables.items ≡ flat_map cell_variable a.cells
 
 -- the patterns are those of the atoms
 abbrev pub ArePatterns : List Atom → List Pattern → Type 0

@@ -1,7 +1,7 @@
 // Patterns that share no variable.
 ghost use Rattle.std.specs.Prelude.{◌≡◌, ◌↔◌, ℕ, IsTrue};
 ghost use Rattle.dx_ports.specs.Members.{◌∈◌};
-ghost use Rattle.dx_joins.specs.Joining.{variables_of};
+ghost use Rattle.dx_joins.specs.Joining.{variables_of_patterns};
 ghost use Rattle.dx_joins.specs.Products.{ShareNone};
 
 use crate::pattern::Pattern;
@@ -9,7 +9,7 @@ use crate::premise::stands_in;
 
 // Whether one of these variables stands in one of the patterns.
 fn one_stands_in(variables: &[u32], patterns: &[Pattern]) -> bool
-    ensures { IsTrue result ↔ ((x : ℕ) × (x ∈ variables.now) × (x ∈ variables_of patterns.now)) }
+    ensures { IsTrue result ↔ ((x : ℕ) × (x ∈ variables.now) × (x ∈ variables_of_patterns patterns.now)) }
 {
     for x in variables {
         if stands_in(*x, patterns) {

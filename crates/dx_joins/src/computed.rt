@@ -7,10 +7,11 @@ ghost use Rattle.dx_model.specs.Values.{Tuple as AnyTuple};
 ghost use Rattle.dx_model.specs.Rules.{text_of};
 ghost use Rattle.dx_funcs.specs.Offers.{IsListed};
 ghost use Rattle.dx_funcs.specs.Serving.{Serves, offered};
-ghost use Rattle.dx_instance.specs.Numbers.{AreApart, Extends, value_of};
+ghost use Rattle.dx_instance.specs.Numbers.{AreDistinctValues, Extends, value_of};
 ghost use Rattle.dx_instance.specs.Shown.{AreBelow};
-ghost use Rattle.dx_joins.specs.Shown.{AreTexts, text_in, texts_of};
-ghost use Rattle.dx_joins.specs.Derivations.{derived_text, with_derived};
+ghost use Rattle.dx_joins.specs.Shown.{AreTexts, texts_of};
+ghost use Rattle.dx_instance.specs.Ranks.{text_of_value};
+ghost use Rattle.dx_joins.specs.Derivations.{derived_value, with_derived};
 
 use crate::plan::place;
 use dx_funcs::{Host, Meaning};
@@ -22,7 +23,7 @@ use std::alloc::{AllocError, Global};
 // The text for which a number stands.
 fn text_at(symbols: &Symbols, number: u32) -> Result<Text, AllocError>
     requires { AreTexts symbols.now (number ∷ []) }
-    ensures { IfOk result (λ t. t ≡ text_in (value_of symbols.now number)) }
+    ensures { IfOk result (λ t. t ≡ text_of_value (value_of symbols.now number)) }
 {
     match symbols.value(number as u64) {
         Value::Const(text) => text.copy(),
@@ -64,12 +65,12 @@ fn derived_number<F: Fn(u32, &Items<Text>) -> Result<Text, AllocError>, M: Meani
     requires known { derived.now.args ⊆ names.now }
     requires many { length row.now ≡ length names.now }
     requires texts { AreTexts symbols.old row.now }
-    requires apart { AreApart symbols.old }
+    requires apart { AreDistinctValues symbols.old }
     ensures grows { Extends symbols.old symbols.new }
-    ensures apart { AreApart symbols.new }
+    ensures apart { AreDistinctValues symbols.new }
     ensures within { IfOk result (λ n. n < length symbols.new) }
     ensures value { IfOk result (λ n. value_of symbols.new n
-        ≡ Const (derived_text M.apply names.now derived.now (texts_of symbols.old row.now))) }
+        ≡ Const (derived_value M.apply names.now derived.now (texts_of symbols.old row.now))) }
 {
     let args = texts_for(alloc, names, row, derived.args.items(), symbols)?;
     let text = host.call(derived.code, &args)?;
@@ -92,9 +93,9 @@ pub(crate) fn derive<F: Fn(u32, &Items<Text>) -> Result<Text, AllocError>, M: Me
     requires known { Each derived.now (λ (e : AnyDerived). e.args ⊆ names.now) }
     requires many { length row.now ≡ length names.now }
     requires texts { AreTexts symbols.old row.now }
-    requires apart { AreApart symbols.old }
+    requires apart { AreDistinctValues symbols.old }
     ensures grows { Extends symbols.old symbols.new }
-    ensures apart { AreApart symbols.new }
+    ensures apart { AreDistinctValues symbols.new }
     ensures texts { OnOk result (AreTexts symbols.new buffer.new.items) }
     ensures shown { OnOk result (texts_of symbols.new buffer.new.items
         ≡ with_derived M.apply names.now derived.now (texts_of symbols.old row.now)) }

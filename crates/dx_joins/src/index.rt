@@ -1,9 +1,9 @@
 // Places of rows by the keys of some columns.
 ghost use Rattle.std.specs.Prelude.{◌≡◌, ◌<◌, ◌^◌, ◌%◌, ◌+◌, IfOk, OnOk, length, slice_index};
 ghost use Rattle.dx_ports.specs.Members.{Each};
-ghost use Rattle.dx_instance.specs.Cells.{key_of};
+ghost use Rattle.dx_instance.specs.Cells.{row_key};
 ghost use Rattle.dx_instance.specs.Shown.{numbers_of_table};
-ghost use Rattle.dx_joins.specs.Looking.{IsIndex, IsNext, keys_of, numbers_in};
+ghost use Rattle.dx_joins.specs.Looking.{IsBucketIndex, IsNextInBucket, keys_of, numbers_at_places};
 
 use dx_instance::Numbers;
 use std::alloc::{AllocError, Global};
@@ -27,7 +27,7 @@ fn number_in(row: &[u32], place: usize) -> u32
 /// The key of the numbers at these places of a row.
 pub(crate) fn key_at(row: &[u32], places: &[usize]) -> u64
     requires { Each places.now (λ i. i < length row.now) }
-    ensures { result ≡ key_of (numbers_in row.now places.now) }
+    ensures { result ≡ row_key (numbers_at_places row.now places.now) }
 {
     let mut key = 7u64;
     for place in places {
@@ -60,7 +60,7 @@ fn row_keys(
 // The index of keys.
 fn linked(alloc: Global, keys: &[u64]) -> Result<Index, AllocError>
     requires { length keys.now < 2 ^ 32 }
-    ensures { IfOk result (λ index. IsIndex index keys.now) }
+    ensures { IfOk result (λ index. IsBucketIndex index keys.now) }
 {
     let count = keys.len() as u32;
     let buckets = keys.len().max(1);
@@ -90,7 +90,7 @@ impl Index {
     ) -> Result<Index, AllocError>
         requires table { table < length source.now.tables }
         requires columns { Each columns.now (λ i. i < (numbers_of_table source.now.tables table).width) }
-        ensures { IfOk result (λ index. IsIndex index (keys_of columns.now (numbers_of_table source.now.tables table).rows)) }
+        ensures { IfOk result (λ index. IsBucketIndex index (keys_of columns.now (numbers_of_table source.now.tables table).rows)) }
     {
         let keys = row_keys(alloc, source, table, columns)?;
         linked(alloc, &keys)

@@ -3,7 +3,7 @@ ghost use Rattle.std.specs.Prelude.{◌≡◌, ◌↔◌, ◌<◌, ◌+◌, ◌+
 ghost use Rattle.dx_ports.specs.Members.{◌∈◌, Each};
 ghost use Rattle.dx_instance.specs.Shown.{AreBelow, numbers_of_table};
 ghost use Rattle.dx_joins.specs.Collecting.{Collects};
-ghost use Rattle.dx_joins.specs.Planning.{IndexesTable, IsPlan, PairsIn, PairsOf};
+ghost use Rattle.dx_joins.specs.Planning.{IndexesTable, IsJoinPlan, PairsIn, PairsOf};
 
 use crate::collected::Collected;
 use crate::index::{Index, key_at};
@@ -23,7 +23,7 @@ fn join_row(
     buffer: &mut Vec<u32>,
     out: &mut Collected,
 ) -> Result<bool, AllocError>
-    requires plan { IsPlan plan.now }
+    requires plan { IsJoinPlan plan.now }
     requires table { table < length source.now.tables }
     requires index { IndexesTable plan.now source.now.tables table index.now }
     requires marks { length marks.now ≡ length source.now.symbols }
@@ -54,7 +54,7 @@ fn join_all(
     buffer: &mut Vec<u32>,
     out: &mut Collected,
 ) -> Result<bool, AllocError>
-    requires plan { IsPlan plan.now }
+    requires plan { IsJoinPlan plan.now }
     requires table { table < length source.now.tables }
     requires marks { length marks.now ≡ length source.now.symbols }
     requires left { length left.now ≡ length plan.now.left.items }
@@ -78,7 +78,7 @@ fn index_of(
     source: &Numbers,
     table: u32,
 ) -> Result<Option<Index>, AllocError>
-    requires plan { IsPlan plan.now }
+    requires plan { IsJoinPlan plan.now }
     requires table { table < length source.now.tables }
     requires right { (numbers_of_table source.now.tables table).width ≡ length plan.now.right.items }
     ensures { IfOk result (λ index. IfSome index (IndexesTable plan.now source.now.tables table)) }
@@ -100,7 +100,7 @@ fn join_left(
     buffer: &mut Vec<u32>,
     out: &mut Collected,
 ) -> Result<bool, AllocError>
-    requires plan { IsPlan plan.now }
+    requires plan { IsJoinPlan plan.now }
     requires table { table < length source.now.tables }
     requires index { IfSome index.now (IndexesTable plan.now source.now.tables table) }
     requires marks { length marks.now ≡ length source.now.symbols }
@@ -125,7 +125,7 @@ pub(crate) fn join(
     rows: &Rows,
     out: &mut Collected,
 ) -> Result<bool, AllocError>
-    requires plan { IsPlan plan.now }
+    requires plan { IsJoinPlan plan.now }
     requires table { table < length source.now.tables }
     requires marks { length marks.now ≡ length source.now.symbols }
     requires left { rows.now.width ≡ length plan.now.left.items }

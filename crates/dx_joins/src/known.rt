@@ -1,7 +1,7 @@
 // Which variables are known.
 ghost use Rattle.std.specs.Prelude.{◌↔◌, ◌<◌, ◌≤◌, ◌∷◌, [], ℕ, IfOk, IsTrue};
 ghost use Rattle.dx_ports.specs.Members.{Each};
-ghost use Rattle.dx_joins.specs.Joining.{variables_of};
+ghost use Rattle.dx_joins.specs.Joining.{variables_of_patterns};
 ghost use Rattle.dx_joins.specs.Knowing.{HasPlaces, IsKnown, IsMet, NowKnown};
 
 use crate::pattern::Pattern;
@@ -35,7 +35,7 @@ fn above(least: usize, variables: &[u32]) -> usize
 
 // A number above all variables of the patterns.
 fn above_all(patterns: &[Pattern]) -> usize
-    ensures { Each (variables_of patterns.now) (λ x. x < result) }
+    ensures { Each (variables_of_patterns patterns.now) (λ x. x < result) }
 {
     let mut all = 0;
     for pattern in patterns {
@@ -48,7 +48,7 @@ impl Known {
     /// None of the patterns' variables.
     pub(crate) fn none(alloc: Global, patterns: &[Pattern]) -> Result<Known, AllocError>
         ensures none { IfOk result (λ known. (x : ℕ) → ¬ (IsKnown known x)) }
-        ensures places { IfOk result (λ known. HasPlaces known (variables_of patterns.now)) }
+        ensures places { IfOk result (λ known. HasPlaces known (variables_of_patterns patterns.now)) }
     {
         let marks = vec![in alloc; false; above_all(patterns)]?;
         Ok(Known { marks })

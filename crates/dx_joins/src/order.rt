@@ -2,8 +2,8 @@
 ghost use Rattle.std.specs.Prelude.{◌≡◌, ◌↔◌, ◌<◌, ◌≤◌, ◌^◌, [], IfOk, IfSome, IsPermutation, List, MatchOption, length, ℕ};
 ghost use Rattle.dx_ports.specs.Members.{◌∈◌, ◌⊆◌, Each};
 ghost use Rattle.dx_joins.specs.Collecting.{MoreThan};
-ghost use Rattle.dx_joins.specs.Joining.{variables_of};
-ghost use Rattle.dx_joins.specs.Planning.{FitPattern, IsTold, Told};
+ghost use Rattle.dx_joins.specs.Joining.{variables_of_patterns};
+ghost use Rattle.dx_joins.specs.Planning.{FitPattern, IsMatchRow, AreMatchRows};
 
 use crate::known::Known;
 use crate::parts::parts_rows;
@@ -76,13 +76,13 @@ pub(crate) fn ordered_rows(
 ) -> Result<Option<Rows>, AllocError>
     requires some { ¬ (patterns.items ≡ []) }
     requires fit { Each patterns.items (FitPattern source.now.tables) }
-    requires few { length (variables_of patterns.items) < 2 ^ 32 }
-    requires shown { shown.now ⊆ variables_of patterns.items }
+    requires few { length (variables_of_patterns patterns.items) < 2 ^ 32 }
+    requires shown { shown.now ⊆ variables_of_patterns patterns.items }
     requires wide { length shown.now < 2 ^ 32 }
     requires marks { length marks.now ≡ length source.now.symbols }
     ensures rows { IfOk result (λ o. MatchOption o
-        (MoreThan most (IsTold source.now.tables marks.now patterns.items shown.now))
-        (λ r. Told source.now.tables marks.now patterns.items shown.now r)) }
+        (MoreThan most (IsMatchRow source.now.tables marks.now patterns.items shown.now))
+        (λ r. AreMatchRows source.now.tables marks.now patterns.items shown.now r)) }
     ensures within { IfOk result (λ o. IfSome o (λ r. length r.rows ≤ most)) }
 {
     let ordered = in_order(alloc, patterns, source)?;

@@ -4,8 +4,8 @@ ghost use Rattle.dx_ports.specs.Members.{Each};
 ghost use Rattle.dx_instance.specs.Shown.{AreBelow};
 ghost use Rattle.dx_joins.specs.Collecting.{Collects};
 ghost use Rattle.dx_joins.specs.Joining.{AreMarked};
-ghost use Rattle.dx_joins.specs.Looking.{numbers_in};
-ghost use Rattle.dx_joins.specs.Planning.{IsPlan, Pairs};
+ghost use Rattle.dx_joins.specs.Looking.{numbers_at_places};
+ghost use Rattle.dx_joins.specs.Planning.{IsJoinPlan, Pairs};
 
 use crate::collected::Collected;
 use crate::plan::Plan;
@@ -40,7 +40,7 @@ fn number_at(left: &[u32], right: &[u32], place: usize) -> u32
 fn agree(left: &[u32], right: &[u32], firsts: &[usize]) -> bool
     requires within { Each firsts.now (λ i. i < length left.now + length right.now) }
     requires many { length firsts.now ≡ length right.now }
-    ensures { IsTrue result ↔ (numbers_in (left.now ++ right.now) firsts.now ≡ right.now) }
+    ensures { IsTrue result ↔ (numbers_at_places (left.now ++ right.now) firsts.now ≡ right.now) }
 {
     for column in 0..firsts.len() {
         if number_at(left, right, firsts[column]) != right[column] {
@@ -58,7 +58,7 @@ pub(crate) fn gather(
     buffer: &mut Vec<u32>,
 ) -> Result<(), AllocError>
     requires within { Each places.now (λ i. i < length left.now + length right.now) }
-    ensures { OnOk result (buffer.new.items ≡ numbers_in (left.now ++ right.now) places.now) }
+    ensures { OnOk result (buffer.new.items ≡ numbers_at_places (left.now ++ right.now) places.now) }
 {
     buffer.clear();
     for place in places {
@@ -76,7 +76,7 @@ pub(crate) fn join_pair(
     buffer: &mut Vec<u32>,
     out: &mut Collected,
 ) -> Result<bool, AllocError>
-    requires plan { IsPlan plan.now }
+    requires plan { IsJoinPlan plan.now }
     requires left { length left.now ≡ length plan.now.left.items }
     requires right { length right.now ≡ length plan.now.right.items }
     requires below { AreBelow (length marks.now) right.now }

@@ -2,8 +2,8 @@
 ghost use Rattle.std.specs.Prelude.{◌≡◌, ◌<◌, ◌≤◌, ◌^◌, ◌++◌, ◌∷◌, [], ℕ, List, Some, IfOk, IfSome, MatchOption, length};
 ghost use Rattle.dx_ports.specs.Members.{◌∈◌, ◌⊆◌, Distinct, Each};
 ghost use Rattle.dx_joins.specs.Collecting.{MoreThan};
-ghost use Rattle.dx_joins.specs.Joining.{variables_of};
-ghost use Rattle.dx_joins.specs.Planning.{FitPattern, IsTold, Told};
+ghost use Rattle.dx_joins.specs.Joining.{variables_of_patterns};
+ghost use Rattle.dx_joins.specs.Planning.{FitPattern, IsMatchRow, AreMatchRows};
 ghost use Rattle.dx_joins.specs.Products.{IsPartOf, IsProduct, IsWide, PartGrows};
 
 use crate::apart::are_apart;
@@ -44,7 +44,7 @@ fn part_of(
 ) -> Result<Part, AllocError>
     requires some { ¬ (patterns.now ≡ []) }
     requires fit { Each patterns.now (FitPattern source.now.tables) }
-    requires few { length (variables_of patterns.now) < 2 ^ 32 }
+    requires few { length (variables_of_patterns patterns.now) < 2 ^ 32 }
     requires wide { length shown.now < 2 ^ 32 }
     requires marks { length marks.now ≡ length source.now.symbols }
     ensures { IfOk result (IsPartOf source.now.tables marks.now most patterns.now shown.now) }
@@ -107,10 +107,10 @@ fn with_part(
     requires whole { IsWide whole.now }
     requires once { Distinct whole.now.variables.items }
     requires wanted { whole.now.variables.items ⊆ shown.now }
-    requires apart { Each whole.now.variables.items (λ x. ¬ (x ∈ variables_of patterns.now)) }
+    requires apart { Each whole.now.variables.items (λ x. ¬ (x ∈ variables_of_patterns patterns.now)) }
     requires some { ¬ (patterns.now ≡ []) }
     requires fit { Each patterns.now (FitPattern source.now.tables) }
-    requires few { length (variables_of patterns.now) < 2 ^ 32 }
+    requires few { length (variables_of_patterns patterns.now) < 2 ^ 32 }
     requires wide { length shown.now < 2 ^ 32 }
     requires marks { length marks.now ≡ length source.now.symbols }
     ensures { IfOk result (PartGrows source.now.tables marks.now most patterns.now shown.now whole.now) }
@@ -137,13 +137,13 @@ pub(crate) fn parts_rows(
 ) -> Result<Option<Rows>, AllocError>
     requires some { ¬ (patterns.now ≡ []) }
     requires fit { Each patterns.now (FitPattern source.now.tables) }
-    requires few { length (variables_of patterns.now) < 2 ^ 32 }
-    requires shown { shown.now ⊆ variables_of patterns.now }
+    requires few { length (variables_of_patterns patterns.now) < 2 ^ 32 }
+    requires shown { shown.now ⊆ variables_of_patterns patterns.now }
     requires wide { length shown.now < 2 ^ 32 }
     requires marks { length marks.now ≡ length source.now.symbols }
     ensures rows { IfOk result (λ o. MatchOption o
-        (MoreThan most (IsTold source.now.tables marks.now patterns.now shown.now))
-        (λ r. Told source.now.tables marks.now patterns.now shown.now r)) }
+        (MoreThan most (IsMatchRow source.now.tables marks.now patterns.now shown.now))
+        (λ r. AreMatchRows source.now.tables marks.now patterns.now shown.now r)) }
     ensures within { IfOk result (λ o. IfSome o (λ r. length r.rows ≤ most)) }
 {
     let mut whole = no_part(alloc)?;

@@ -1,7 +1,7 @@
 // How rows of partial matches and rows of a table are put together.
 ghost use Rattle.std.specs.Prelude.{◌≡◌, ◌↔◌, ◌<◌, ◌≤◌, ◌+◌, ◌++◌, IfOk, OnOk, IsTrue, length, map, slice_index};
 ghost use Rattle.dx_ports.specs.Members.{◌∈◌, ◌⊆◌, Distinct, Each};
-ghost use Rattle.dx_joins.specs.Planning.{IsPlan, place_of};
+ghost use Rattle.dx_joins.specs.Planning.{IsJoinPlan, first_place};
 
 use std::alloc::{AllocError, Global};
 
@@ -45,7 +45,7 @@ pub(crate) fn copied(alloc: Global, numbers: &[u32]) -> Result<Vec<u32>, AllocEr
 /// Where x stands first.
 pub(crate) fn place(names: &[u32], x: u32) -> usize
     requires { x ∈ names.now }
-    ensures place { result ≡ place_of names.now x }
+    ensures place { result ≡ first_place names.now x }
     ensures within { result < length names.now }
 {
     for i in 0..names.len() {
@@ -63,7 +63,7 @@ pub(crate) fn places(
     variables: &[u32],
 ) -> Result<Vec<usize>, AllocError>
     requires { variables.now ⊆ names.now }
-    ensures { IfOk result (λ v. v.items ≡ map (place_of names.now) variables.now) }
+    ensures { IfOk result (λ v. v.items ≡ map (first_place names.now) variables.now) }
 {
     let mut places = Vec::new(alloc);
     for x in variables {
@@ -95,7 +95,7 @@ impl Plan {
     ) -> Result<Plan, AllocError>
         requires once { Distinct left.now }
         requires known { kept.now ⊆ (left.now ++ right.now) }
-        ensures plan { IfOk result IsPlan }
+        ensures plan { IfOk result IsJoinPlan }
         ensures left { IfOk result (λ p. p.left.items ≡ left.now) }
         ensures right { IfOk result (λ p. p.right.items ≡ right.now) }
         ensures kept { IfOk result (λ p. p.kept.items ≡ kept.now) }

@@ -3,8 +3,8 @@ ghost use Rattle.std.specs.Prelude.{◌≡◌, ◌↔◌, ◌⊎◌, ◌<◌, �
 ghost use Rattle.dx_ports.specs.Members.{◌∈◌, ◌⊆◌, Distinct, Each};
 ghost use Rattle.dx_instance.specs.Shown.{numbers_of_table};
 ghost use Rattle.dx_joins.specs.Collecting.{AreThose, MoreThan};
-ghost use Rattle.dx_joins.specs.Joining.{Says, variables_of};
-ghost use Rattle.dx_joins.specs.Planning.{AddsOnce, CarriesOn, FitPattern, IsNeeded, IsTold, StepsTo, Told};
+ghost use Rattle.dx_joins.specs.Joining.{MatchesPatterns, variables_of_patterns};
+ghost use Rattle.dx_joins.specs.Planning.{AddsOnce, CarriesOn, FitPattern, IsVariableNeeded, IsMatchRow, StepsTo, AreMatchRows};
 
 use crate::collected::Collected;
 use crate::join::join;
@@ -22,7 +22,7 @@ pub(crate) struct Partial {
 
 /// Whether the variable stands in one of the patterns.
 pub(crate) fn stands_in(x: u32, patterns: &[Pattern]) -> bool
-    ensures { IsTrue result ↔ (x ∈ variables_of patterns.now) }
+    ensures { IsTrue result ↔ (x ∈ variables_of_patterns patterns.now) }
 {
     for pattern in patterns {
         if has(&pattern.variables, x) {
@@ -34,7 +34,7 @@ pub(crate) fn stands_in(x: u32, patterns: &[Pattern]) -> bool
 
 // Whether a later pattern has the variable, or it is wanted in the end.
 fn is_needed(x: u32, later: &[Pattern], wanted: &[u32]) -> bool
-    ensures { IsTrue result ↔ IsNeeded later.now wanted.now x }
+    ensures { IsTrue result ↔ IsVariableNeeded later.now wanted.now x }
 {
     if has(wanted, x) {
         return true;
@@ -61,8 +61,8 @@ pub(crate) fn needed(
     wanted: &[u32],
 ) -> Result<Vec<u32>, AllocError>
     ensures some { IfOk result (λ v. v.items ⊆ names.now) }
-    ensures only { IfOk result (λ v. Each v.items (IsNeeded later.now wanted.now)) }
-    ensures all { IfOk result (λ v. (x : ℕ) → x ∈ names.now → IsNeeded later.now wanted.now x → x ∈ v.items) }
+    ensures only { IfOk result (λ v. Each v.items (IsVariableNeeded later.now wanted.now)) }
+    ensures all { IfOk result (λ v. (x : ℕ) → x ∈ names.now → IsVariableNeeded later.now wanted.now x → x ∈ v.items) }
     ensures once { IfOk result (λ v. Distinct v.items) }
     ensures few { IfOk result (λ v. length v.items ≤ length names.now) }
 {
@@ -172,13 +172,13 @@ pub(crate) fn premise_rows(
 ) -> Result<Option<Rows>, AllocError>
     requires some { ¬ (patterns.now ≡ []) }
     requires fit { Each patterns.now (FitPattern source.now.tables) }
-    requires few { length (variables_of patterns.now) < 2 ^ 32 }
-    requires shown { shown.now ⊆ variables_of patterns.now }
+    requires few { length (variables_of_patterns patterns.now) < 2 ^ 32 }
+    requires shown { shown.now ⊆ variables_of_patterns patterns.now }
     requires wide { length shown.now < 2 ^ 32 }
     requires marks { length marks.now ≡ length source.now.symbols }
     ensures rows { IfOk result (λ o. MatchOption o
-        (MoreThan most (IsTold source.now.tables marks.now patterns.now shown.now))
-        (λ r. Told source.now.tables marks.now patterns.now shown.now r)) }
+        (MoreThan most (IsMatchRow source.now.tables marks.now patterns.now shown.now))
+        (λ r. AreMatchRows source.now.tables marks.now patterns.now shown.now r)) }
     ensures within { IfOk result (λ o. IfSome o (λ r. length r.rows ≤ most)) }
 {
     let last = patterns.len() - 1;

@@ -6,12 +6,12 @@ ghost use Rattle.dx_model.specs.declared.rules.Derived.{Derived as AnyDerived};
 ghost use Rattle.dx_model.specs.Rules.{after_cells, cells_of};
 ghost use Rattle.dx_funcs.specs.Offers.{IsListed};
 ghost use Rattle.dx_funcs.specs.Serving.{Serves, offered};
-ghost use Rattle.dx_instance.specs.Numbers.{AreApart, Extends};
+ghost use Rattle.dx_instance.specs.Numbers.{AreDistinctValues, Extends};
 ghost use Rattle.dx_instance.specs.Stored.{widths};
 ghost use Rattle.dx_instance.specs.Shown.{shown_tables};
 ghost use Rattle.dx_joins.specs.Collecting.{Collection};
-ghost use Rattle.dx_joins.specs.Shown.{AreTexts, FitsMatching, IsShown, MoreTuples, StandFor, facts_in};
-ghost use Rattle.dx_joins.specs.Derivations.{DerivesTo, GivenBy, IsWanted};
+ghost use Rattle.dx_joins.specs.Shown.{AreTexts, FitsMatching, IsMatchTuple, MoreTuples, StandFor, shown_facts};
+ghost use Rattle.dx_joins.specs.Derivations.{DerivesTo, GivenBy, IsVariableWanted};
 
 use crate::collected::Collected;
 use crate::computed::derive;
@@ -65,7 +65,7 @@ fn is_argument(x: u32, derived: &[Derived]) -> bool
 
 // Whether the variable is an argument of a derived variable, or is shown.
 fn is_wanted(x: u32, derived: &[Derived], shown: &[u32]) -> bool
-    ensures { IsTrue result ↔ IsWanted derived.now shown.now x }
+    ensures { IsTrue result ↔ IsVariableWanted derived.now shown.now x }
 {
     if has(shown, x) {
         return true;
@@ -81,7 +81,7 @@ fn wanted_variables(
     first: u32,
 ) -> Result<Vec<u32>, AllocError>
     ensures below { IfOk result (λ v. Each v.items (λ x. x < first)) }
-    ensures all { IfOk result (λ v. (x : ℕ) → x < first → IsWanted derived.now shown.now x → x ∈ v.items) }
+    ensures all { IfOk result (λ v. (x : ℕ) → x < first → IsVariableWanted derived.now shown.now x → x ∈ v.items) }
     ensures few { IfOk result (λ v. length v.items ≤ first) }
 {
     let mut variables = Vec::new(alloc);
@@ -122,11 +122,11 @@ fn derive_row<F: Fn(u32, &Items<Text>) -> Result<Text, AllocError>, M: Meaning>(
     requires known { Each derived.now (λ (e : AnyDerived). e.args ⊆ wanted.now) }
     requires many { length row.now ≡ length wanted.now }
     requires texts { AreTexts symbols.old row.now }
-    requires apart { AreApart symbols.old }
+    requires apart { AreDistinctValues symbols.old }
     requires places { Each places.now (λ i. i < length wanted.now + length derived.now) }
     requires width { out.old.width ≡ length places.now }
     ensures grows { Extends symbols.old symbols.new }
-    ensures apart { AreApart symbols.new }
+    ensures apart { AreDistinctValues symbols.new }
     ensures derives { IfOk result (λ full.
         DerivesTo M.apply wanted.now derived.now places.now symbols.old symbols.new row.now full out.old out.new) }
 {
@@ -154,12 +154,12 @@ fn derived_rows<F: Fn(u32, &Items<Text>) -> Result<Text, AllocError>, M: Meaning
     requires known { Each derived.now (λ (e : AnyDerived). e.args ⊆ wanted.now) }
     requires many { rows.now.width ≡ length wanted.now }
     requires texts { Each rows.now.rows (AreTexts symbols.old) }
-    requires apart { AreApart symbols.old }
+    requires apart { AreDistinctValues symbols.old }
     requires numbers { first + length derived.now < 2 ^ 32 }
     requires shown { shown.now ⊆ (wanted.now ++ range_with_len first (length derived.now)) }
     requires short { length shown.now < 2 ^ 32 }
     ensures grows { Extends symbols.old symbols.new }
-    ensures apart { AreApart symbols.new }
+    ensures apart { AreDistinctValues symbols.new }
     ensures rows { IfOk result (λ o. MatchOption o
         (MoreTuples most (GivenBy M.apply wanted.now derived.now first shown.now symbols.old rows.now.rows))
         (StandFor (length shown.now) (GivenBy M.apply wanted.now derived.now first shown.now symbols.old rows.now.rows) symbols.new)) }
@@ -206,12 +206,12 @@ pub fn shown_rows<F: Fn(u32, &Items<Text>) -> Result<Text, AllocError>, M: Meani
     requires listed { Each derived.now (λ (e : AnyDerived). IsListed (offered host.now) e.code (length e.args)) }
     requires fits { FitsMatching (widths (shown_tables source.now.symbols source.now.tables)) premise.now derived.now shown.now }
     requires symbols { Extends source.now.symbols symbols.old }
-    requires apart { AreApart symbols.old }
+    requires apart { AreDistinctValues symbols.old }
     ensures grows { Extends symbols.old symbols.new }
-    ensures apart { AreApart symbols.new }
+    ensures apart { AreDistinctValues symbols.new }
     ensures rows { IfOk result (λ o. MatchOption o
-        (MoreTuples most (IsShown M.apply premise.now derived.now (facts_in source.now) shown.now))
-        (StandFor (length shown.now) (IsShown M.apply premise.now derived.now (facts_in source.now) shown.now) symbols.new)) }
+        (MoreTuples most (IsMatchTuple M.apply premise.now derived.now (shown_facts source.now) shown.now))
+        (StandFor (length shown.now) (IsMatchTuple M.apply premise.now derived.now (shown_facts source.now) shown.now) symbols.new)) }
     ensures within { IfOk result (λ o. IfSome o (λ r. length r.rows ≤ most)) }
 {
     if derived.is_empty() {

@@ -3,11 +3,11 @@ ghost use Rattle.std.specs.Prelude.{◌≡◌, ◌↔◌, ◌<◌, ◌≤◌, �
 ghost use Rattle.dx_ports.specs.Members.{◌∈◌, Each};
 ghost use Rattle.dx_model.specs.Values.{Conversions};
 ghost use Rattle.dx_model.specs.Rules.{after_cells, cells_of};
-ghost use Rattle.dx_model.specs.Fitting.{variable_in};
+ghost use Rattle.dx_model.specs.Fitting.{cell_variable};
 ghost use Rattle.dx_model.specs.declared.rules.Cell.TheVariants.{Var};
 ghost use Rattle.dx_instance.specs.Stored.{widths};
 ghost use Rattle.dx_instance.specs.Shown.{PartsFit, shown_tables};
-ghost use Rattle.dx_joins.specs.Shown.{ArePatterns, FitsMatching, IsPattern, IsShown, MoreTuples, StandFor, facts_in, is_text};
+ghost use Rattle.dx_joins.specs.Shown.{ArePatterns, FitsMatching, IsPattern, IsMatchTuple, MoreTuples, StandFor, shown_facts, is_text};
 
 use crate::order::ordered_rows;
 use crate::pattern::Pattern;
@@ -17,7 +17,7 @@ use std::alloc::{AllocError, Global};
 
 // The variables of cells, in order.
 fn variables_in(alloc: Global, cells: &[Cell]) -> Result<Vec<u32>, AllocError>
-    ensures { IfOk result (λ v. v.items ≡ flat_map variable_in cells.now) }
+    ensures { IfOk result (λ v. v.items ≡ flat_map cell_variable cells.now) }
 {
     let mut variables = Vec::new(alloc);
     for cell in cells {
@@ -81,8 +81,8 @@ pub(crate) fn premise_shown(
 ) -> Result<Option<Rows>, AllocError>
     requires fits { FitsMatching (widths (shown_tables source.now.symbols source.now.tables)) premise.now [] shown.now }
     ensures rows { (convert : Conversions) → IfOk result (λ o. MatchOption o
-        (MoreTuples most (IsShown convert premise.now [] (facts_in source.now) shown.now))
-        (StandFor (length shown.now) (IsShown convert premise.now [] (facts_in source.now) shown.now) source.now.symbols)) }
+        (MoreTuples most (IsMatchTuple convert premise.now [] (shown_facts source.now) shown.now))
+        (StandFor (length shown.now) (IsMatchTuple convert premise.now [] (shown_facts source.now) shown.now) source.now.symbols)) }
     ensures within { IfOk result (λ o. IfSome o (λ r. length r.rows ≤ most)) }
 {
     let patterns = patterns_of(alloc, premise)?;

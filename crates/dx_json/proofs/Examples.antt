@@ -7,16 +7,16 @@ use Rattle.serde_json.specs.Data.{Data, unsigned, float, null, boolean, number, 
 use Rattle.dx_model.specs.declared.values.NullId.{NullId}
 use Rattle.dx_model.specs.declared.values.Value.TheVariants.{Const, Null}
 use Rattle.dx_model.specs.declared.facts.Fact.{Fact}
-use Rattle.dx_schema.specs.Forest.{Forest, Label, Tree, none, set, bare}
-use Rattle.dx_schema.specs.Tables.{Text}
+use Rattle.dx_schema.specs.Forest.{Forest, Label, Tree, none, set, bare_set}
+use Rattle.dx_ports.specs.Texts.{Text}
 use Rattle.dx_instance.specs.Stored.{TableRows}
 use Rattle.dx_json.specs.declared.fault.JsonKind.TheVariants as kind
-use Rattle.dx_json.specs.Said.{Said, says, wrong_shape, wrong_number, unknown_member}
+use Rattle.dx_json.specs.Said.{DocumentItem, says, wrong_shape, wrong_number, unknown_member}
 use Rattle.dx_json.specs.Documents.{document_says, first_fault, tree_says, without_mark}
 use Rattle.dx_json.specs.Nesting.{nested_text, root_objects}
 
 abbrev label : Text → List Text → Label
-label name columns = bare name columns
+label name columns = bare_set name columns
 
 -- clubs with their members
 abbrev club : Tree
@@ -37,7 +37,7 @@ abbrev one : Data → Data
 one d = array (item d no_items)
 
 -- a fact of constants
-abbrev fact : ℕ → List Text → Said
+abbrev fact : ℕ → List Text → DocumentItem
 fact table texts = says (record { table = table; row = map Const texts })
 
 -- [{"cname": null, "member": [{"age": 7, "mname": "x"}, {"age": true}]}, {"cname": "B"}]

@@ -10,9 +10,9 @@ use Rattle.dx_schema.specs.Forest.{Forest}
 use Rattle.dx_json.specs.declared.fault.JsonFault.TheVariants.{Bad}
 use Rattle.dx_json.specs.declared.fault.JsonKind.{JsonKind}
 use Rattle.dx_json.specs.declared.fault.JsonKind.TheVariants as kind
-use Rattle.dx_json.specs.Said.{Said, says, wrong_shape, wrong_number, unknown_member}
-use Rattle.dx_json.specs.Documents.{IsDocument, IsFirstFault, SaysFacts, document_says, first_fault, without_mark}
-use Rattle.dx_json.specs.Laws.{FactsAreOne, FactsOrFault, FaultIsOne, NeverBoth}
+use Rattle.dx_json.specs.Said.{DocumentItem, says, wrong_shape, wrong_number, unknown_member}
+use Rattle.dx_json.specs.Documents.{IsDocument, IsFirstDocumentFault, SaysFacts, document_says, first_fault, without_mark}
+use Rattle.dx_json.specs.Laws.{FactsAreOne, FactsOrFault, OneDocumentFault, NeverFactsAndFault}
 use Rattle.dx_json.proofs.Steps.{refused_document}
 
 same_facts : (a b : List Fact) → map says a ≡ map says b → a ≡ b
@@ -37,7 +37,7 @@ AtFault bytes schema root k =
     ((k ≡ kind.NotJson) × ((d : Data) → ¬ (IsDocument bytes d)))
     ⊎ ((d : Data) × IsDocument bytes d × (first_fault (document_says schema root d) ≡ Some k))
 
-at_fault : (bytes : List ℕ) (schema : Forest) (root : ℕ) (k : JsonKind) → IsFirstFault bytes schema root k → AtFault bytes schema root k
+at_fault : (bytes : List ℕ) (schema : Forest) (root : ℕ) (k : JsonKind) → IsFirstDocumentFault bytes schema root k → AtFault bytes schema root k
 at_fault bytes schema root kind.NotJson f = inl (refl, f)
 at_fault bytes schema root (kind.Shape path) f = inr f
 at_fault bytes schema root (kind.Number path) f = inr f
@@ -48,7 +48,7 @@ facts_are_one bytes schema root a b p q =
     let same = one_document bytes p.0 q.0 p.1 q.1 in
     same_facts a b (sym p.2 ∙ ap (document_says schema root) same ∙ q.2)
 
-pub fault_is_one : FaultIsOne
+pub fault_is_one : OneDocumentFault
 fault_is_one bytes schema root a b p q =
     elim (at_fault bytes schema root a p) [
       | inl none ↦ elim (at_fault bytes schema root b q) [
@@ -63,7 +63,7 @@ fault_is_one bytes schema root a b p q =
       ]
     ]
 
-pub never_both : NeverBoth
+pub never_both : NeverFactsAndFault
 never_both bytes schema root facts k p q =
     elim (at_fault bytes schema root k q) [
       | inl none ↦ none.1 p.0 p.1
@@ -73,7 +73,7 @@ never_both bytes schema root facts k p q =
     ]
 
 -- what is met is facts alone, or has a first fault
-facts_or_fault : (met : List Said) → ((facts : List Fact) × (met ≡ map says facts)) ⊎ ((k : JsonKind) × (first_fault met ≡ Some k))
+facts_or_fault : (met : List DocumentItem) → ((facts : List Fact) × (met ≡ map says facts)) ⊎ ((k : JsonKind) × (first_fault met ≡ Some k))
 facts_or_fault [] = inl ([], refl)
 facts_or_fault (says f ∷ rest) = elim (facts_or_fault rest) [ inl h ↦ inl (f ∷ h.0, ap (λ xs. says f ∷ xs) h.1) | inr h ↦ inr h ]
 facts_or_fault (wrong_shape path ∷ rest) = inr (kind.Shape path, refl)
@@ -81,7 +81,7 @@ facts_or_fault (wrong_number path ∷ rest) = inr (kind.Number path, refl)
 facts_or_fault (unknown_member path ∷ rest) = inr (kind.Unknown path, refl)
 
 abbrev Either : List ℕ → Forest → ℕ → Type 0
-Either bytes schema root = ((facts : List Fact) × SaysFacts bytes schema root facts) ⊎ ((k : JsonKind) × IsFirstFault bytes schema root k)
+Either bytes schema root = ((facts : List Fact) × SaysFacts bytes schema root facts) ⊎ ((k : JsonKind) × IsFirstDocumentFault bytes schema root k)
 
 of_document : (bytes : List ℕ) (schema : Forest) (root : ℕ) (d : Data) → IsDocument bytes d → Either bytes schema root
 of_document bytes schema root d doc =

@@ -15,7 +15,7 @@ use Rattle.dx_instance.specs.ValueText.{value_text_of}
 use Rattle.dx_json.specs.declared.orders.Source.{Source}
 use Rattle.dx_json.specs.declared.orders.Source.TheVariants.{Cell, Inner}
 use Rattle.dx_json.specs.Nesting.{object_of, objects_below, own_from, with_columns, with_sets}
-use Rattle.dx_json.specs.Orders.{Fit, IsReady, IsReadyRoot, Ready, Slots, SourceFits, all_slots, filled, level_length, order_of, orders_of, slot_put, slots_of, source_data, tree_in, with_cells, with_inner}
+use Rattle.dx_json.specs.Orders.{Fit, TreeIsReady, IsReadyRoot, Ready, Slots, SourceFits, all_slots, members_with_values, level_length, order_of, orders_of, slot_put, slots_of, source_data, tree_in, with_cells, with_inner}
 use Rattle.dx_json.specs.Standing.{Stand}
 use Rattle.dx_schema.proofs.Numbered.{dropped_here}
 
@@ -32,23 +32,23 @@ slots_of-insert (e ∷ es) k s = slots_of-match (string_cmp k e.0) _ _ _ ∙ rw 
 
 -- ---- members with their values
 
-filled-match : (value : Source → Data) (o : Ordering) (a b c : Slots) → filled value (match_ordering o a b c) ≡ match_ordering o (filled value a) (filled value b) (filled value c)
+filled-match : (value : Source → Data) (o : Ordering) (a b c : Slots) → members_with_values value (match_ordering o a b c) ≡ match_ordering o (members_with_values value a) (members_with_values value b) (members_with_values value c)
 filled-match value Less a b c = refl
 filled-match value Equal a b c = refl
 filled-match value Greater a b c = refl
 
-filled-put : (value : Source → Data) (k : List ℕ) (s : Source) (ms : Slots) → filled value (slot_put k s ms) ≡ put k (value s) (filled value ms)
+filled-put : (value : Source → Data) (k : List ℕ) (s : Source) (ms : Slots) → members_with_values value (slot_put k s ms) ≡ put k (value s) (members_with_values value ms)
 filled-put value k s [] = refl
 filled-put value k s (m ∷ ms) = filled-match value (slice_cmp nat_cmp k m.0) _ _ _ ∙ rw (filled-put value k s ms)
 
 filled-cells : (I : List TableRows) (inner : Forest) (row : List Value) (cs : List (List ℕ)) (c : ℕ) (ms : Slots) → c + length cs ≤ length row
-    → filled (source_data I inner row) (with_cells cs c ms) ≡ with_columns cs (drop c row) (filled (source_data I inner row) ms)
+    → members_with_values (source_data I inner row) (with_cells cs c ms) ≡ with_columns cs (drop c row) (members_with_values (source_data I inner row) ms)
 filled-cells I inner row [] c ms h = refl
 filled-cells I inner row (x ∷ cs) c ms h =
     let value = source_data I inner row in
     let s : c + 1 ≡ suc c = omega arith in
     let next : drop c row ≡ cell row c ∷ drop (suc c) row = drop_more row c _ (omega (arith, h)) ∙ ap (λ n. cell row c ∷ drop n row) s in
-    filled-cells I inner row cs (suc c) (slot_put x (Cell c) ms) (omega (arith, h)) ∙ ap (with_columns cs (drop (suc c) row)) (filled-put value x (Cell c) ms) ∙ ap (λ vs. with_columns (x ∷ cs) vs (filled value ms)) (sym next)
+    filled-cells I inner row cs (suc c) (slot_put x (Cell c) ms) (omega (arith, h)) ∙ ap (with_columns cs (drop (suc c) row)) (filled-put value x (Cell c) ms) ∙ ap (λ vs. with_columns (x ∷ cs) vs (members_with_values value ms)) (sym next)
 
 -- the sets from a place on are these
 abbrev From : Forest → ℕ → Forest → Type 0
@@ -64,18 +64,18 @@ from_all : (inner : Forest) → From inner 0 inner
 from_all inner j = let z : 0 + j ≡ j = omega arith in ap (tree_in inner) z
 
 filled-inner : (I : List TableRows) (inner : Forest) (row : List Value) (rest : Forest) (k table : ℕ) (ms : Slots) → From inner k rest
-    → filled (source_data I inner row) (with_inner rest k table ms) ≡ with_sets I rest table (cell row 0) (filled (source_data I inner row) ms)
+    → members_with_values (source_data I inner row) (with_inner rest k table ms) ≡ with_sets I rest table (cell row 0) (members_with_values (source_data I inner row) ms)
 filled-inner I inner row none k table ms f = refl
 filled-inner I inner row (set l i r) k table ms f =
     let value = source_data I inner row in
     let here = from_here inner k l i r f in
     let shown : value (Inner k table) ≡ array (objects_below I (record { label = l; inner = i }) table (cell row 0)) = ap (λ t. array (objects_below I t table (cell row 0))) here in
     filled-inner I inner row r (suc k) (suc (table + count i)) (slot_put l.name (Inner k table) ms) (from_next inner k l i r f)
-    ∙ ap (with_sets I r (suc (table + count i)) (cell row 0)) (filled-put value l.name (Inner k table) ms ∙ ap (λ d. put l.name d (filled value ms)) shown)
+    ∙ ap (with_sets I r (suc (table + count i)) (cell row 0)) (filled-put value l.name (Inner k table) ms ∙ ap (λ d. put l.name d (members_with_values value ms)) shown)
 
 -- an object is its members in their order, with their values
 pub filled-order : (I : List TableRows) (l : Label) (inner : Forest) (is_inner : Bool) (table : ℕ) (row : List Value) → own_from inner is_inner + length l.columns ≤ length row
-    → filled (source_data I inner row) (order_of l inner is_inner table) ≡ object_of l inner (with_sets I inner (suc table)) is_inner row
+    → members_with_values (source_data I inner row) (order_of l inner is_inner table) ≡ object_of l inner (with_sets I inner (suc table)) is_inner row
 filled-order I l inner is_inner table row h =
     filled-inner I inner row inner 0 (suc table) (with_cells l.columns (own_from inner is_inner) []) (from_all inner)
     ∙ ap (with_sets I inner (suc table) (cell row 0)) (filled-cells I inner row l.columns (own_from inner is_inner) [] h)
@@ -102,7 +102,7 @@ module _ (I : List TableRows) (orders : List Slots) (width : ℕ) (inner : Fores
   fit-inner : (rest : Forest) (k table : ℕ) (ms : Slots) → From inner k rest → level_length inner ≡ k + level_length rest → Ready I orders table rest → Fits ms → Fits (with_inner rest k table ms)
   fit-inner none k table ms f e r fs = fs
   fit-inner (set l i rest) k table ms f e r fs =
-      let ready : IsReady I orders table (tree_in inner k) = subst (IsReady I orders table) (sym (from_here inner k l i rest f)) (r.0, r.1, r.2, r.3, r.4, tt) in
+      let ready : TreeIsReady I orders table (tree_in inner k) = subst (TreeIsReady I orders table) (sym (from_here inner k l i rest f)) (r.0, r.1, r.2, r.3, r.4, tt) in
       fit-inner rest (suc k) (suc (table + count i)) (slot_put l.name (Inner k table) ms) (from_next inner k l i rest f) (omega (arith, e)) r.5 (fit-put l.name (Inner k table) ms (omega (arith, e), ready) fs)
 
 -- those of the objects of a set do

@@ -3,7 +3,7 @@ use Rattle.std.proofs.Common.{◌≡◌, ℕ, ◌-◌, ◌≤◌, ◌<◌, List,
 use Rattle.std.proofs.lemmas.List.{drop-append-le, take-append-le, length-map}
 use Rattle.dx_ports.specs.Members.{◌∈◌, Each, here, there}
 use Rattle.dx_ports.proofs.Members.{from_append, in_at}
-use Rattle.dx_json.specs.Spans.{IsSpan, text_at}
+use Rattle.dx_json.specs.Spans.{IsSpan, span_text}
 
 -- a part of a list is one of a longer list
 pub part_stays : {X : Type 0} (xs ys : List X) (start end : ℕ) → start ≤ end → end ≤ length xs → take (end - start) (drop start (xs ++ ys)) ≡ take (end - start) (drop start xs)
@@ -20,10 +20,10 @@ last_part xs ys end e = ap (take (end - length xs)) (drop_at xs ys (length xs) r
 pub span_there : (buffer : List ℕ) (spans : List (ℕ × ℕ)) (k : ℕ) (span : ℕ × ℕ) → Each spans (IsSpan buffer) → k < length spans → span ≡ get_or spans k span → IsSpan buffer span
 span_there buffer spans k span all lt is = all span (subst (λ x. x ∈ spans) (sym is) (in_at spans k span lt))
 
-span_stays : (buffer more : List ℕ) (span : ℕ × ℕ) → IsSpan buffer span → text_at (buffer ++ more) span ≡ text_at buffer span
+span_stays : (buffer more : List ℕ) (span : ℕ × ℕ) → IsSpan buffer span → span_text (buffer ++ more) span ≡ span_text buffer span
 span_stays buffer more span h = part_stays buffer more span.0 span.1 h.order h.within
 
-pub texts_stay : (buffer more : List ℕ) (spans : List (ℕ × ℕ)) → Each spans (IsSpan buffer) → map (text_at (buffer ++ more)) spans ≡ map (text_at buffer) spans
+pub texts_stay : (buffer more : List ℕ) (spans : List (ℕ × ℕ)) → Each spans (IsSpan buffer) → map (span_text (buffer ++ more)) spans ≡ map (span_text buffer) spans
 texts_stay buffer more [] all = refl
 texts_stay buffer more (span ∷ spans) all = rw (span_stays buffer more span (all span (here refl)), texts_stay buffer more spans (λ x m. all x (there m)))
 
@@ -53,16 +53,16 @@ one_span_more buffer more spans end all e utf8 span m =
     ]
 
 pub one_text_more : (buffer more : List ℕ) (spans : List (ℕ × ℕ)) (end : ℕ) → Each spans (IsSpan buffer) → end ≡ length (buffer ++ more)
-    → map (text_at (buffer ++ more)) (spans ++ (length buffer, end) ∷ []) ≡ map (text_at buffer) spans ++ more ∷ []
+    → map (span_text (buffer ++ more)) (spans ++ (length buffer, end) ∷ []) ≡ map (span_text buffer) spans ++ more ∷ []
 one_text_more buffer more [] end all e = rw (last_part buffer more end e)
 one_text_more buffer more (span ∷ spans) end all e = rw (span_stays buffer more span (all span (here refl)), one_text_more buffer more spans end (λ x m. all x (there m)) e)
 
 -- ---- the same, of what a function has
 
-pub span_within : (buffer : List ℕ) (spans : List (ℕ × ℕ)) (texts : List (List ℕ)) (k : ℕ) (span : ℕ × ℕ) → map (text_at buffer) spans ≡ texts → k < length texts → Each spans (IsSpan buffer) → span ≡ get_or spans k span → IsSpan buffer span
-span_within buffer spans texts k span are lt all is = span_there buffer spans k span all (omega (arith, lt, ap length (sym are), length-map spans (text_at buffer))) is
+pub span_within : (buffer : List ℕ) (spans : List (ℕ × ℕ)) (texts : List (List ℕ)) (k : ℕ) (span : ℕ × ℕ) → map (span_text buffer) spans ≡ texts → k < length texts → Each spans (IsSpan buffer) → span ≡ get_or spans k span → IsSpan buffer span
+span_within buffer spans texts k span are lt all is = span_there buffer spans k span all (omega (arith, lt, ap length (sym are), length-map spans (span_text buffer))) is
 
-pub texts_kept : (buffer longer more : List ℕ) (spans : List (ℕ × ℕ)) (texts : List (List ℕ)) → Each spans (IsSpan buffer) → longer ≡ buffer ++ more → map (text_at buffer) spans ≡ texts → map (text_at longer) spans ≡ texts
+pub texts_kept : (buffer longer more : List ℕ) (spans : List (ℕ × ℕ)) (texts : List (List ℕ)) → Each spans (IsSpan buffer) → longer ≡ buffer ++ more → map (span_text buffer) spans ≡ texts → map (span_text longer) spans ≡ texts
 texts_kept buffer longer more spans texts all l are = rw l (texts_stay buffer more spans all ∙ are)
 
 pub spans_pushed : (buffer longer more : List ℕ) (spans new : List (ℕ × ℕ)) (start end : ℕ) → Each spans (IsSpan buffer) → longer ≡ buffer ++ more → new ≡ spans ++ (start, end) ∷ [] → start ≡ length buffer → end ≡ length longer → IsUtf8 more
@@ -70,7 +70,7 @@ pub spans_pushed : (buffer longer more : List ℕ) (spans new : List (ℕ × ℕ
 spans_pushed buffer longer more spans new start end all l n s e utf8 = rw (l, n, s) (one_span_more buffer more spans end all (e ∙ ap length l) utf8)
 
 pub texts_pushed : (buffer longer more : List ℕ) (spans new : List (ℕ × ℕ)) (start end : ℕ) (texts : List (List ℕ)) → Each spans (IsSpan buffer) → longer ≡ buffer ++ more → new ≡ spans ++ (start, end) ∷ [] → start ≡ length buffer → end ≡ length longer
-    → map (text_at buffer) spans ≡ texts → map (text_at longer) new ≡ texts ++ more ∷ []
+    → map (span_text buffer) spans ≡ texts → map (span_text longer) new ≡ texts ++ more ∷ []
 texts_pushed buffer longer more spans new start end texts all l n s e are = rw (l, n, s, ← are) (one_text_more buffer more spans end all (e ∙ ap length l))
 
 pub any_err : {A E : Type 0} {P : Type 0} (r : Result A E) → P → OnErr r P

@@ -20,25 +20,25 @@ use Rattle.dx_json.specs.declared.fault.JsonKind.{JsonKind}
 use Rattle.dx_json.specs.declared.fault.JsonKind.TheVariants as kind
 use Rattle.dx_json.specs.declared.place.Place.{Place}
 use Rattle.dx_json.specs.declared.reading.Unread.{Unread}
-use Rattle.dx_json.specs.Said.{Said, says, item_says, items_say, sets_say}
-use Rattle.dx_json.specs.Documents.{Fails, HasFault, IsFirstFault, Refuses, SaysFacts, Tells, first_fault, tree_says, without_mark}
+use Rattle.dx_json.specs.Said.{DocumentItem, says, item_says, items_say, sets_say}
+use Rattle.dx_json.specs.Documents.{TellsFirstFault, HasDocumentFault, IsFirstDocumentFault, Refuses, SaysFacts, FactsOrFirstFault, first_fault, tree_says, without_mark}
 use Rattle.dx_json.proofs.Grammar.{converted-array, converted_some, item_read, item_refused, items_over, none_before}
 use Rattle.dx_json.proofs.Steps.{first_fault-left, first_fault-more, refused_document}
 
 -- ---- what was met, and one thing more
 
 -- a fault stays the first
-pub still_told : (met : Option JsonKind) (old now : List Fact) (before here : List Said) → is_some met ≡ true → Tells met old now before → Tells met old now (before ++ here)
+pub still_told : (met : Option JsonKind) (old now : List Fact) (before here : List DocumentItem) → is_some met ≡ true → FactsOrFirstFault met old now before → FactsOrFirstFault met old now (before ++ here)
 still_told None old now before here some h = absurd (true≢false (sym some))
 still_told (Some k) old now before here some h = first_fault-more k before here h
 
-pub told_more : (met : Option JsonKind) (old now then : List Fact) (before here : List Said) → is_some met ≡ false → Tells met old now before → map says then ≡ map says now ++ here → map says then ≡ map says old ++ (before ++ here)
+pub told_more : (met : Option JsonKind) (old now then : List Fact) (before here : List DocumentItem) → is_some met ≡ false → FactsOrFirstFault met old now before → map says then ≡ map says now ++ here → map says then ≡ map says old ++ (before ++ here)
 told_more None old now then before here none h more = more ∙ ap (λ xs. xs ++ here) h ∙ append_assoc (map says old) before here
 told_more (Some k) old now then before here none h more = absurd (true≢false none)
 
-pub told_fault : (met : Option JsonKind) (e : JsonFault) (k : JsonKind) (old now : List Fact) (before here : List Said) → is_some met ≡ false → Tells met old now before → e ≡ fault.Bad k → Fails here e → first_fault (before ++ here) ≡ Some k
+pub told_fault : (met : Option JsonKind) (e : JsonFault) (k : JsonKind) (old now : List Fact) (before here : List DocumentItem) → is_some met ≡ false → FactsOrFirstFault met old now before → e ≡ fault.Bad k → TellsFirstFault here e → first_fault (before ++ here) ≡ Some k
 told_fault None e k old now before here none h is f =
-    first_fault-left k old now (before ++ here) here here [] (sym (append_assoc (map says old) before here) ∙ ap (λ xs. xs ++ here) (sym h)) (sym (append-nil here)) (subst (Fails here) is f)
+    first_fault-left k old now (before ++ here) here here [] (sym (append_assoc (map says old) before here) ∙ ap (λ xs. xs ++ here) (sym h)) (sym (append-nil here)) (subst (TellsFirstFault here) is f)
 told_fault (Some j) e k old now before here none h is f = absurd (true≢false none)
 
 -- ---- the items that were read
@@ -56,7 +56,7 @@ one_more_ahead : (ds : List Data) (d : Data) (r : Option (Items × List Token)) 
 one_more_ahead ds d None = refl
 one_more_ahead ds d (Some p) = ap (λ es. Some (es, p.1)) (ahead-push ds d p.0)
 
-said_more : (l : Label) (inner : Forest) (deeper : Place → Members → List Said) (at : Place) (k : ℕ) (ds : List Data) (d : Data)
+said_more : (l : Label) (inner : Forest) (deeper : Place → Members → List DocumentItem) (at : Place) (k : ℕ) (ds : List Data) (d : Data)
     → items_say l inner deeper at k (ahead (ds ++ d ∷ []) no_items) ≡ items_say l inner deeper at k (ahead ds no_items) ++ item_says l inner deeper at (k + length ds) d
 said_more l inner deeper at k [] d =
     let here : k ≡ k + 0 = omega arith in
@@ -73,7 +73,7 @@ pub record Passed (p : Parse json.Json) (l : Label) (inner : Forest) (at : Place
   pub enough : length left ≤ turns
   pub read : converted of_items (items p (length all) all) ≡ parse_map (ahead front) (converted of_items (items p turns left))
   pub many : length front ≡ place
-  pub told : Tells met old now (items_say l inner (sets_say inner) at 0 (ahead front no_items))
+  pub told : FactsOrFirstFault met old now (items_say l inner (sets_say inner) at 0 (ahead front no_items))
 
 pub none_passed : (p : Parse json.Json) (l : Label) (inner : Forest) (at : Place) (all : List Token) (old : List Fact) → Passed p l inner at all old all 0 None old
 none_passed p l inner at all old = record {
@@ -87,7 +87,7 @@ none_passed p l inner at all old = record {
 
 module _ (p : Parse json.Json) (l : Label) (inner : Forest) (at : Place) (all : List Token) (old : List Fact) (left : List Token) (place : ℕ) (met : Option JsonKind) (now : List Fact) (passed : Passed p l inner at all old left place met now) where
   pub one_passed : (rest : List Token) (d : Data) (next : ℕ) (met2 : Option JsonKind) (then : List Fact) → next ≡ place + 1 → after_end_array left ≡ None → converted of_json (p left) ≡ Some (d, rest) → length rest < length left
-      → ((before : List Said) → Tells met old now before → Tells met2 old then (before ++ item_says l inner (sets_say inner) at place d)) → Passed p l inner at all old rest next met2 then
+      → ((before : List DocumentItem) → FactsOrFirstFault met old now before → FactsOrFirstFault met2 old then (before ++ item_says l inner (sets_say inner) at place d)) → Passed p l inner at all old rest next met2 then
   one_passed rest d next met2 then n going e less f =
       let some : 0 < passed.turns = omega (arith, passed.enough, less) in
       let turn = item_read p passed.turns left rest d some going e in
@@ -101,10 +101,10 @@ module _ (p : Parse json.Json) (l : Label) (inner : Forest) (at : Place) (all : 
         enough = omega (arith, passed.enough, less);
         read = passed.read ∙ ap (parse_map (ahead passed.front)) turn ∙ one_more_ahead passed.front d _;
         many = omega (arith, length-append passed.front (d ∷ []), passed.many, n);
-        told = subst (Tells met2 old then) said (f before passed.told);
+        told = subst (FactsOrFirstFault met2 old then) said (f before passed.told);
       }
 
-  pub all_passed : (rest : List Token) → after_end_array left ≡ Some rest → (ds : Items) × (converted of_items (items p (length all) all) ≡ Some (ds, rest)) × Tells met old now (items_say l inner (sets_say inner) at 0 ds)
+  pub all_passed : (rest : List Token) → after_end_array left ≡ Some rest → (ds : Items) × (converted of_items (items p (length all) all) ≡ Some (ds, rest)) × FactsOrFirstFault met old now (items_say l inner (sets_say inner) at 0 ds)
   all_passed rest e = (ahead passed.front no_items, passed.read ∙ ap (parse_map (ahead passed.front)) (items_over p passed.turns left rest passed.enough e), passed.told)
 
   pub passed_refused : after_end_array left ≡ None → converted of_json (p left) ≡ None → converted of_items (items p (length all) all) ≡ None
@@ -119,13 +119,13 @@ array_read : (ts : List Token) → converted of_json (value 127 (Token.begin_arr
 array_read ts = ap (converted of_json) (value-begin_array 127 ts (omega arith)) ∙ converted-array (items (value 126) (length ts) ts)
 
 pub array_told : (r : Result (Option JsonKind) Unread) (all ts rest : List Token) (t : Tree) (table : ℕ) (path : List ℕ) (old now : List Fact) → all ≡ Token.begin_array ∷ ts → path ≡ []
-    → IfOk r (λ met. (ds : Items) × (converted of_items (items (value 126) (length ts) ts) ≡ Some (ds, rest)) × Tells met old now (items_say t.label t.inner (sets_say t.inner) (record { table = table; up = None; path = path }) 0 ds))
-    → IfOk r (λ met. (d : Data) × (converted of_json (value 127 all) ≡ Some (d, rest)) × Tells met old now (tree_says t table d))
+    → IfOk r (λ met. (ds : Items) × (converted of_items (items (value 126) (length ts) ts) ≡ Some (ds, rest)) × FactsOrFirstFault met old now (items_say t.label t.inner (sets_say t.inner) (record { table = table; up = None; path = path }) 0 ds))
+    → IfOk r (λ met. (d : Data) × (converted of_json (value 127 all) ≡ Some (d, rest)) × FactsOrFirstFault met old now (tree_says t table d))
 array_told (Err e) all ts rest t table path old now a p h = tt
 array_told (Ok met) all ts rest t table path old now a p h = (
   array h.0,
   ap (λ us. converted of_json (value 127 us)) a ∙ array_read ts ∙ ap (parse_map array) h.1,
-  subst (λ q. Tells met old now (items_say t.label t.inner (sets_say t.inner) (record { table = table; up = None; path = q }) 0 h.0)) p h.2,
+  subst (λ q. FactsOrFirstFault met old now (items_say t.label t.inner (sets_say t.inner) (record { table = table; up = None; path = q }) 0 h.0)) p h.2,
 )
 
 pub array_refused : (all ts : List Token) → all ≡ Token.begin_array ∷ ts → converted of_items (items (value 126) (length ts) ts) ≡ None → converted of_json (value 127 all) ≡ None
@@ -204,13 +204,13 @@ pub says_facts : (bytes text : List ℕ) (schema : Forest) (root : ℕ) (t : Tre
 says_facts bytes text schema root t d facts shared is utf8 tree r says_so same =
     (d, (utf8, ap read_text (sym is) ∙ r), ap (λ u. tree_says u root d) (sym tree) ∙ says_so ∙ ap (map says) (sym same))
 
-refuses : (bytes : List ℕ) (schema : Forest) (root : ℕ) (o : Option Data) (e : JsonFault) → IsUtf8 (without_mark bytes) → read_text (without_mark bytes) ≡ o → Refuses o (tree_says (tree_at schema root) root) e → HasFault bytes schema root e
-refuses bytes schema root None (fault.Bad k) utf8 r h = subst (IsFirstFault bytes schema root) (sym h) (λ d doc. (let never : None ≡ Some d = sym r ∙ doc.1 in cc never))
+refuses : (bytes : List ℕ) (schema : Forest) (root : ℕ) (o : Option Data) (e : JsonFault) → IsUtf8 (without_mark bytes) → read_text (without_mark bytes) ≡ o → Refuses o (tree_says (tree_at schema root) root) e → HasDocumentFault bytes schema root e
+refuses bytes schema root None (fault.Bad k) utf8 r h = subst (IsFirstDocumentFault bytes schema root) (sym h) (λ d doc. (let never : None ≡ Some d = sym r ∙ doc.1 in cc never))
 refuses bytes schema root (Some d) (fault.Bad k) utf8 r h = refused_document bytes schema root d (fault.Bad k) (utf8, r) h
 refuses bytes schema root None fault.Memory utf8 r h = tt
 refuses bytes schema root (Some d) fault.Memory utf8 r h = tt
 
 pub has_fault : {A : Type 0} (r : Result A JsonFault) (bytes text : List ℕ) (schema : Forest) (root : ℕ) (t : Tree) (e : JsonFault) → text ≡ without_mark bytes → IsUtf8 (without_mark bytes) → t ≡ tree_at schema root → IsErrAnd r (λ x. x ≡ e)
-    → Refuses (read_text text) (tree_says t root) e → IfErr r (HasFault bytes schema root)
+    → Refuses (read_text text) (tree_says t root) e → IfErr r (HasDocumentFault bytes schema root)
 has_fault (Ok v) bytes text schema root t e is utf8 tree same h = tt
 has_fault (Err x) bytes text schema root t e is utf8 tree same h = rw same (refuses bytes schema root (read_text text) e utf8 (ap read_text (sym is)) (subst (λ u. Refuses (read_text text) (tree_says u root) e) tree h))

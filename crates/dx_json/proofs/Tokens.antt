@@ -11,7 +11,7 @@ use Rattle.serde_json.proofs.Texts.{print-outline}
 use Rattle.dx_model.specs.declared.values.Value.{Value}
 use Rattle.dx_json.specs.declared.orders.Source.{Source}
 use Rattle.dx_json.specs.Nesting.{objects}
-use Rattle.dx_json.specs.Orders.{Slots, filled}
+use Rattle.dx_json.specs.Orders.{Slots, members_with_values}
 use Rattle.dx_json.specs.Wrote.{WroteValue}
 
 -- the items of an array that are still to be written, and its end
@@ -41,11 +41,11 @@ item_written old was now object_at left rest row all ms next is way wrote =
 
 -- one member more is written, after its name
 pub member_written : (old was named now : Written) (value : Source → Data) (left rest : Slots) (name : List ℕ) (s : Source) (all : List Token) → left ≡ (name, s) ∷ rest
-    → IsOnTheWay old was (member_tokens (filled value left)) all → named.before ≡ was.before → named.tokens ≡ was.tokens ++ key name ∷ [] → WroteValue named now (value s) → IsOnTheWay old now (member_tokens (filled value rest)) all
+    → IsOnTheWay old was (member_tokens (members_with_values value left)) all → named.before ≡ was.before → named.tokens ≡ was.tokens ++ key name ∷ [] → WroteValue named now (value s) → IsOnTheWay old now (member_tokens (members_with_values value rest)) all
 member_written old was named now value left rest name s all next way b k wrote =
     let this = json_tokens (outline (value s)) in
-    let more = member_tokens (filled value rest) in
-    let same : key name ∷ (this ++ more) ≡ member_tokens (filled value left) = ap (λ xs. member_tokens (filled value xs)) (sym next) in (
+    let more = member_tokens (members_with_values value rest) in
+    let same : key name ∷ (this ++ more) ≡ member_tokens (members_with_values value left) = ap (λ xs. member_tokens (members_with_values value xs)) (sym next) in (
       wrote.0 ∙ b ∙ way.0,
       ap (λ ts. ts ++ more) wrote.1 ∙ append_assoc named.tokens this more ∙ ap (λ ts. ts ++ (this ++ more)) k ∙ append_assoc was.tokens (key name ∷ []) (this ++ more) ∙ ap (λ ts. was.tokens ++ ts) same ∙ way.1,
     )

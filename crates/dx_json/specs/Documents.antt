@@ -10,10 +10,10 @@ use Rattle.dx_json.specs.declared.fault.JsonFault.{JsonFault}
 use Rattle.dx_json.specs.declared.fault.JsonFault.TheVariants as fault
 use Rattle.dx_json.specs.declared.fault.JsonKind.{JsonKind}
 use Rattle.dx_json.specs.declared.fault.JsonKind.TheVariants as kind
-use Rattle.dx_json.specs.Said.{Said, says, wrong_shape, wrong_number, unknown_member, items_say, sets_say}
+use Rattle.dx_json.specs.Said.{DocumentItem, says, wrong_shape, wrong_number, unknown_member, items_say, sets_say}
 
 -- what a document says of a set whose table has this number: it is to be an array of objects
-abbrev pub tree_says : Tree → ℕ → Data → List Said
+abbrev pub tree_says : Tree → ℕ → Data → List DocumentItem
 tree_says t table null = wrong_shape [] ∷ []
 tree_says t table (boolean b) = wrong_shape [] ∷ []
 tree_says t table (number n) = wrong_shape [] ∷ []
@@ -22,11 +22,11 @@ tree_says t table (array ds) = items_say t.label t.inner (sets_say t.inner) (rec
 tree_says t table (object ms) = wrong_shape [] ∷ []
 
 -- what a document says of a root of a schema
-abbrev pub document_says : Forest → ℕ → Data → List Said
+abbrev pub document_says : Forest → ℕ → Data → List DocumentItem
 document_says schema root d = tree_says (tree_at schema root) root d
 
 -- the first fault that is met
-abbrev pub first_fault : List Said → Option JsonKind
+abbrev pub first_fault : List DocumentItem → Option JsonKind
 first_fault [] = None
 first_fault (says f ∷ rest) = first_fault rest
 first_fault (wrong_shape path ∷ rest) = Some (kind.Shape path)
@@ -42,17 +42,17 @@ abbrev pub IsDocument : List ℕ → Data → Type 0
 IsDocument bytes d = IsUtf8 (without_mark bytes) × (read (without_mark bytes) ≡ Some d)
 
 -- a refusal tells the first fault that is met
-abbrev pub Fails : List Said → JsonFault → Type 0
-Fails met (fault.Bad k) = first_fault met ≡ Some k
-Fails met fault.Memory = ⊤
+abbrev pub TellsFirstFault : List DocumentItem → JsonFault → Type 0
+TellsFirstFault met (fault.Bad k) = first_fault met ≡ Some k
+TellsFirstFault met fault.Memory = ⊤
 
 -- what was met so far: facts alone, which were added, or else a first fault
-abbrev pub Tells : Option JsonKind → List Fact → List Fact → List Said → Type 0
-Tells None old new met = map says new ≡ map says old ++ met
-Tells (Some k) old new met = first_fault met ≡ Some k
+abbrev pub FactsOrFirstFault : Option JsonKind → List Fact → List Fact → List DocumentItem → Type 0
+FactsOrFirstFault None old new met = map says new ≡ map says old ++ met
+FactsOrFirstFault (Some k) old new met = first_fault met ≡ Some k
 
 -- why the value that was read, if one was, says no facts
-abbrev pub Refuses : Option Data → (Data → List Said) → JsonFault → Type 0
+abbrev pub Refuses : Option Data → (Data → List DocumentItem) → JsonFault → Type 0
 Refuses None said (fault.Bad k) = k ≡ kind.NotJson
 Refuses (Some d) said (fault.Bad k) = first_fault (said d) ≡ Some k
 Refuses o said fault.Memory = ⊤
@@ -62,11 +62,11 @@ abbrev pub SaysFacts : List ℕ → Forest → ℕ → List Fact → Type 0
 SaysFacts bytes schema root facts = (d : Data) × IsDocument bytes d × (document_says schema root d ≡ map says facts)
 
 -- why bytes give no facts: they are no document, or this is the first fault of what their document says of the root
-abbrev pub IsFirstFault : List ℕ → Forest → ℕ → JsonKind → Type 0
-IsFirstFault bytes schema root kind.NotJson = (d : Data) → ¬ (IsDocument bytes d)
-IsFirstFault bytes schema root k = (d : Data) × IsDocument bytes d × (first_fault (document_says schema root d) ≡ Some k)
+abbrev pub IsFirstDocumentFault : List ℕ → Forest → ℕ → JsonKind → Type 0
+IsFirstDocumentFault bytes schema root kind.NotJson = (d : Data) → ¬ (IsDocument bytes d)
+IsFirstDocumentFault bytes schema root k = (d : Data) × IsDocument bytes d × (first_fault (document_says schema root d) ≡ Some k)
 
 -- why a document was not read: its first fault, or memory ran out
-abbrev pub HasFault : List ℕ → Forest → ℕ → JsonFault → Type 0
-HasFault bytes schema root (fault.Bad k) = IsFirstFault bytes schema root k
-HasFault bytes schema root fault.Memory = ⊤
+abbrev pub HasDocumentFault : List ℕ → Forest → ℕ → JsonFault → Type 0
+HasDocumentFault bytes schema root (fault.Bad k) = IsFirstDocumentFault bytes schema root k
+HasDocumentFault bytes schema root fault.Memory = ⊤

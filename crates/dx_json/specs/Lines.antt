@@ -9,8 +9,8 @@ use Rattle.dx_json.specs.declared.facts.Line.{Line}
 abbrev pub constants_in : List (List ℕ) → ℕ → ℕ → List Value
 constants_in texts start end = map Const (take (end - start) (drop start texts))
 
-abbrev pub fact_at : List (List ℕ) → Line → Fact
-fact_at texts line = record { table = line.table; row = constants_in texts line.start line.end }
+abbrev pub line_fact : List (List ℕ) → Line → Fact
+line_fact texts line = record { table = line.table; row = constants_in texts line.start line.end }
 
 -- the texts are there
 pub record IsLine (texts : List (List ℕ)) (line : Line) : Type 0 where

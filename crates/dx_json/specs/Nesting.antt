@@ -6,7 +6,8 @@ use Rattle.dx_model.specs.declared.values.Value.{Value}
 use Rattle.dx_model.specs.Covers.{same_value}
 use Rattle.dx_model.specs.Tables.{cell}
 use Rattle.dx_schema.specs.Forest.{Label, Forest, Tree, none, set, has_sets}
-use Rattle.dx_schema.specs.Tables.{Text, count, tree_at}
+use Rattle.dx_schema.specs.Tables.{count, tree_at}
+use Rattle.dx_ports.specs.Texts.{Text}
 use Rattle.dx_instance.specs.Stored.{IsSorting, TableRows, rows_of}
 use Rattle.dx_instance.specs.ValueText.{value_text_of}
 

@@ -7,8 +7,9 @@ use Rattle.std.specs.Cmp.Lexicographic.{slice_cmp}
 use Rattle.serde_json.specs.Data.{Data, string, array, Members, no_members, member}
 use Rattle.dx_model.specs.declared.values.Value.{Value}
 use Rattle.dx_model.specs.Tables.{cell}
-use Rattle.dx_schema.specs.Forest.{Label, Forest, Tree, none, set, bare}
-use Rattle.dx_schema.specs.Tables.{Text, count}
+use Rattle.dx_schema.specs.Forest.{Label, Forest, Tree, none, set, bare_set}
+use Rattle.dx_schema.specs.Tables.{count}
+use Rattle.dx_ports.specs.Texts.{Text}
 use Rattle.dx_instance.specs.Stored.{TableRows, table_at}
 use Rattle.dx_instance.specs.ValueText.{value_text_of}
 use Rattle.dx_json.specs.declared.orders.Source.{Source}
@@ -53,7 +54,7 @@ orders_of (set l inner rest) table = order_of l inner true table ∷ (orders_of 
 
 -- the set at a place of a level
 abbrev pub tree_in : Forest → ℕ → Tree
-tree_in none k = record { label = bare [] []; inner = none }
+tree_in none k = record { label = bare_set [] []; inner = none }
 tree_in (set l inner rest) zero = record { label = l; inner = inner }
 tree_in (set l inner rest) (suc k) = tree_in rest k
 
@@ -68,13 +69,13 @@ source_data I inner row (Cell c) = string (value_text_of (cell row c))
 source_data I inner row (Inner k table) = array (objects_below I (tree_in inner k) table (cell row 0))
 
 -- the members with their values
-abbrev pub filled : (Source → Data) → Slots → Members
-filled value [] = no_members
-filled value (m ∷ ms) = member m.0 (value m.1) (filled value ms)
+abbrev pub members_with_values : (Source → Data) → Slots → Members
+members_with_values value [] = no_members
+members_with_values value (m ∷ ms) = member m.0 (value m.1) (members_with_values value ms)
 
 -- the members of the object of a row, in the order of a map
 abbrev pub object_in : List TableRows → Forest → List Value → BTreeMap (String Global) Source → Members
-object_in I inner row order = filled (source_data I inner row) (slots_of order.entries)
+object_in I inner row order = members_with_values (source_data I inner row) (slots_of order.entries)
 
 -- each of the sets has its table there, with its columns, and its order at the table's number; the first one's table has this number
 abbrev pub Ready : List TableRows → List Slots → ℕ → Forest → Type 0
@@ -84,8 +85,8 @@ Ready I orders table (set l inner rest) =
     × Ready I orders (suc table) inner × Ready I orders (suc (table + count inner)) rest
 
 -- so is a set alone
-abbrev pub IsReady : List TableRows → List Slots → ℕ → Tree → Type 0
-IsReady I orders table t = Ready I orders table (set t.label t.inner none)
+abbrev pub TreeIsReady : List TableRows → List Slots → ℕ → Tree → Type 0
+TreeIsReady I orders table t = Ready I orders table (set t.label t.inner none)
 
 -- the table has the columns of a set that is no inner set
 abbrev pub HasColumns : List TableRows → ℕ → Tree → Type 0
@@ -100,7 +101,7 @@ pub record IsReadyRoot (I : List TableRows) (orders : List Slots) (root : ℕ) (
 -- a source is a column below this width, or one of the inner sets
 abbrev pub SourceFits : List TableRows → List Slots → ℕ → Forest → Source → Type 0
 SourceFits I orders width inner (Cell c) = c < width
-SourceFits I orders width inner (Inner k table) = (k < level_length inner) × IsReady I orders table (tree_in inner k)
+SourceFits I orders width inner (Inner k table) = (k < level_length inner) × TreeIsReady I orders table (tree_in inner k)
 
 -- the sources of members are
 abbrev pub Fit : List TableRows → List Slots → ℕ → Forest → Slots → Type 0

@@ -29,11 +29,11 @@ impl Model for FactList {
     ghost use Rattle.std.specs.Prelude.{List, map};
     ghost use Rattle.dx_model.specs.declared.facts.Fact.{Fact as OneFact};
     ghost use Rattle.dx_ports.specs.Members.{Each};
-    ghost use Rattle.dx_json.specs.Lines.{IsLine, fact_at};
+    ghost use Rattle.dx_json.specs.Lines.{IsLine, line_fact};
 
     ghost Value = { List OneFact };
 
-    ghost view = { λ f. map (fact_at f.texts) f.lines.items };
+    ghost view = { λ f. map (line_fact f.texts) f.lines.items };
 
     ghost invariant = { λ f. Each f.lines.items (IsLine f.texts) };
 }
@@ -86,11 +86,11 @@ impl Model for Facts {
     ghost use Rattle.std.specs.Prelude.{List, map};
     ghost use Rattle.dx_model.specs.declared.facts.Fact.{Fact as OneFact};
     ghost use Rattle.dx_ports.specs.Members.{Each};
-    ghost use Rattle.dx_json.specs.Lines.{IsLine, fact_at};
+    ghost use Rattle.dx_json.specs.Lines.{IsLine, line_fact};
 
     ghost Value = { List OneFact };
 
-    ghost view = { λ f. map (fact_at f.texts) f.lines.items };
+    ghost view = { λ f. map (line_fact f.texts) f.lines.items };
 
     ghost invariant = { λ f. Each f.lines.items (IsLine f.texts) };
 }

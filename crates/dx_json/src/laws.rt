@@ -1,5 +1,5 @@
 // The laws of documents and of nested texts. The definitions alone carry them: no body computes anything.
-ghost use Rattle.dx_json.specs.Laws.{FactsAreOne, FactsFit, FactsOrFault, FaultIsOne, HasNestedText, NestedTextIsOne, NeverBoth};
+ghost use Rattle.dx_json.specs.Laws.{FactsAreOne, DocumentFactsFit, FactsOrFault, OneDocumentFault, HasNestedText, NestedTextIsOne, NeverFactsAndFault};
 
 /// Bytes say one list of facts of a root or have one first fault, and never both.
 pub fn one_reading()

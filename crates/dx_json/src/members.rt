@@ -2,8 +2,8 @@
 ghost use Rattle.std.specs.Prelude.{◌≡◌, ◌<◌, [], List, IfOk, IfErr, OnOk};
 ghost use Rattle.serde_json.specs.Find.{get_member};
 ghost use Rattle.dx_json.specs.View.{lent_view, view, members_view};
-ghost use Rattle.dx_json.specs.Documents.{Fails};
-ghost use Rattle.dx_json.specs.Said.{IsConstant, IsRow, below, column_faults, column_reading, data_reading, id_of as id_at, is_known, reading_faults, unknown_members};
+ghost use Rattle.dx_json.specs.Documents.{TellsFirstFault};
+ghost use Rattle.dx_json.specs.Said.{ReadsConstant, IsObjectRow, path_below, column_faults, column_reading, data_reading, id_of as id_at, is_known, reading_faults, unknown_members};
 
 use crate::fault::{JsonFault, JsonKind};
 use crate::tree::Json;
@@ -25,7 +25,7 @@ pub fn member_of<'v, 'a>(members: &'v [(&'a str, Json<'a>)], name: &str) -> Opti
 
 /// The path of a member or an item.
 pub fn path_below(alloc: Global, path: &Text, step: &str) -> Result<Text, AllocError>
-    ensures { IfOk result (λ t. t ≡ below path.now step.now) }
+    ensures { IfOk result (λ t. t ≡ path_below path.now step.now) }
 {
     Text::from_string(alloc, format!(in alloc; "{}/{step}", path.as_str())?)
 }
@@ -65,7 +65,7 @@ pub fn check_members<'a>(
     members: &[(&'a str, Json<'a>)],
 ) -> Result<(), JsonFault>
     ensures ok { OnOk result (unknown_members path.now tree.now.label tree.now.inner (members_view members.now) ≡ []) }
-    ensures fault { IfErr result (Fails (unknown_members path.now tree.now.label tree.now.inner (members_view members.now))) }
+    ensures fault { IfErr result (TellsFirstFault (unknown_members path.now tree.now.label tree.now.inner (members_view members.now))) }
 {
     for member in members {
         if !knows(tree, member.0) {
@@ -83,8 +83,8 @@ fn constant_in(
     column: &Text,
     value: &Json<'_>,
 ) -> Result<Text, JsonFault>
-    ensures ok { IfOk result (IsConstant (below path.now column.now) (data_reading (view value.now))) }
-    ensures fault { IfErr result (Fails (reading_faults (below path.now column.now) (data_reading (view value.now)))) }
+    ensures ok { IfOk result (ReadsConstant (path_below path.now column.now) (data_reading (view value.now))) }
+    ensures fault { IfErr result (TellsFirstFault (reading_faults (path_below path.now column.now) (data_reading (view value.now)))) }
 {
     match value {
         Json::Null => Ok(Text::from_str(alloc, "")?),
@@ -115,9 +115,9 @@ fn cell_of<'a>(
     column: &Text,
     members: &[(&'a str, Json<'a>)],
 ) -> Result<Text, JsonFault>
-    ensures ok { IfOk result (IsConstant (below path.now column.now) (column_reading column.now (members_view members.now))) }
-    ensures fault { IfErr result (Fails
-        (reading_faults (below path.now column.now) (column_reading column.now (members_view members.now)))) }
+    ensures ok { IfOk result (ReadsConstant (path_below path.now column.now) (column_reading column.now (members_view members.now))) }
+    ensures fault { IfErr result (TellsFirstFault
+        (reading_faults (path_below path.now column.now) (column_reading column.now (members_view members.now)))) }
 {
     match member_of(members, column.as_str()) {
         None => Ok(Text::from_str(alloc, "")?),
@@ -134,8 +134,8 @@ pub fn row_of<'a>(
     path: &Text,
     members: &[(&'a str, Json<'a>)],
 ) -> Result<Vec<Text>, JsonFault>
-    ensures ok { IfOk result (λ x. IsRow path.now tree.now up.now id.now (members_view members.now) x.items) }
-    ensures fault { IfErr result (Fails (column_faults path.now tree.now.label.columns (members_view members.now))) }
+    ensures ok { IfOk result (λ x. IsObjectRow path.now tree.now up.now id.now (members_view members.now) x.items) }
+    ensures fault { IfErr result (TellsFirstFault (column_faults path.now tree.now.label.columns (members_view members.now))) }
 {
     let mut row = Vec::new(alloc);
     if !tree.inner.is_empty() {

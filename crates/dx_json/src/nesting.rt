@@ -6,7 +6,7 @@ ghost use Rattle.dx_instance.specs.Places.{IsFirstWith, row_at};
 ghost use Rattle.dx_instance.specs.Stored.{rows_of, table_at, widths};
 ghost use Rattle.dx_instance.specs.ValueText.{starts_with_question_mark, value_text_of};
 ghost use Rattle.dx_json.specs.Nesting.{IsNestedText, nested_text, objects_below, root_objects, up_column};
-ghost use Rattle.dx_json.specs.Orders.{Fit, HasColumns, IsReady, IsReadyRoot, SourceFits, all_slots, object_in, slots_of, source_data};
+ghost use Rattle.dx_json.specs.Orders.{Fit, HasColumns, TreeIsReady, IsReadyRoot, SourceFits, all_slots, object_in, slots_of, source_data};
 ghost use Rattle.dx_json.specs.Standing.{Stand};
 ghost use Rattle.dx_json.specs.Wrote.{WroteValue};
 
@@ -132,7 +132,7 @@ fn write_objects(
     id: &Value,
     out: &mut Writer,
 ) -> Result<(), AllocError>
-    requires ready { IsReady instance.now (all_slots orders.now) table tree.now }
+    requires ready { TreeIsReady instance.now (all_slots orders.now) table tree.now }
     ensures { OnOk result (WroteValue out.old out.new (array (objects_below instance.now tree.now table id.now))) }
 {
     prove!(table < instance.tables());

@@ -5,11 +5,11 @@ ghost use Rattle.serde_json.specs.Data.{Data, Items};
 ghost use Rattle.serde_json.specs.Read.{max_depth, read as read_text};
 ghost use Rattle.dx_model.specs.declared.facts.Fact.{Fact};
 ghost use Rattle.dx_model.specs.Tables.{IsInstance};
-ghost use Rattle.dx_schema.specs.Tables.{count, model_tables, table_at, tables_of};
+ghost use Rattle.dx_schema.specs.Tables.{count, model_tables, schema_table, tables_of};
 ghost use Rattle.dx_json.specs.Reads.{items_read, value_read};
 ghost use Rattle.dx_json.specs.View.{view, items_view, lent_view, members_view};
-ghost use Rattle.dx_json.specs.Said.{Adds, Said, below, item_said, items_said, member_said, object_said, says, sets_say};
-ghost use Rattle.dx_json.specs.Documents.{Fails, HasFault, Refuses, SaysFacts, Tells, tree_says};
+ghost use Rattle.dx_json.specs.Said.{AddsSaid, DocumentItem, path_below, item_said, items_said, member_said, object_said, says, sets_say};
+ghost use Rattle.dx_json.specs.Documents.{TellsFirstFault, HasDocumentFault, Refuses, SaysFacts, FactsOrFirstFault, tree_says};
 
 use crate::facts::{FactList, Facts};
 use crate::fault::{JsonFault, JsonKind};
@@ -40,8 +40,8 @@ pub fn shred(
 ) -> Result<Facts, JsonFault>
     requires root { root < length (tables_of schema.now) }
     ensures facts { IfOk result (λ v. SaysFacts bytes.now schema.now root v) }
-    ensures fit { IfOk result (λ v. (table_at schema.now root).parent ≡ None → IsInstance (model_tables schema.now) v) }
-    ensures fault { IfErr result (HasFault bytes.now schema.now root) }
+    ensures fit { IfOk result (λ v. (schema_table schema.now root).parent ≡ None → IsInstance (model_tables schema.now) v) }
+    ensures fault { IfErr result (HasDocumentFault bytes.now schema.now root) }
 {
     prove!(root < schema.tables());
     let text = text_of(bytes)?;
@@ -85,7 +85,7 @@ fn push_document(
     requires table { table < 2 ^ 31 }
     requires few { count tree.now.inner < 64 }
     ensures ok { IfOk result (λ met. (d : Data) × (value_read max_depth reader.old ≡ Some (d, reader.new))
-        × Tells met out.old out.new (tree_says tree.now table d)) }
+        × FactsOrFirstFault met out.old out.new (tree_says tree.now table d)) }
     ensures refused { result ≡ Err Unread.NotJson → value_read max_depth reader.old ≡ None }
 {
     let at = Place {
@@ -113,7 +113,7 @@ fn push_array(
     requires room { at.now.table + suc (count tree.now.inner) < 2 ^ 32 }
     requires few { count tree.now.inner < 64 }
     ensures ok { IfOk result (λ met. (ds : Items) × (items_read 126 reader.old ≡ Some (ds, reader.new))
-        × Tells met out.old out.new (items_said tree.now at.now 0 ds)) }
+        × FactsOrFirstFault met out.old out.new (items_said tree.now at.now 0 ds)) }
     ensures refused { result ≡ Err Unread.NotJson → items_read 126 reader.old ≡ None }
 {
     let mut met = None;
@@ -138,8 +138,8 @@ fn push_next(
 ) -> Result<Option<JsonKind>, AllocError>
     requires room { at.now.table + suc (count tree.now.inner) < 2 ^ 32 }
     requires few { count tree.now.inner < 64 }
-    ensures { IfOk result (λ now. (old : List Fact) (before : List Said) → Tells met old out.old before
-        → Tells now old out.new (before ++ item_said tree.now at.now k (view item.now))) }
+    ensures { IfOk result (λ now. (old : List Fact) (before : List DocumentItem) → FactsOrFirstFault met old out.old before
+        → FactsOrFirstFault now old out.new (before ++ item_said tree.now at.now k (view item.now))) }
 {
     if met.is_some() {
         return Ok(met);
@@ -162,8 +162,8 @@ fn push_items(
 ) -> Result<(), JsonFault>
     requires room { at.now.table + suc (count tree.now.inner) < 2 ^ 32 }
     requires few { count tree.now.inner < 64 }
-    ensures ok { OnOk result (Adds out.old out.new (items_said tree.now at.now 0 (items_view items.now))) }
-    ensures fault { IfErr result (Fails (items_said tree.now at.now 0 (items_view items.now))) }
+    ensures ok { OnOk result (AddsSaid out.old out.new (items_said tree.now at.now 0 (items_view items.now))) }
+    ensures fault { IfErr result (TellsFirstFault (items_said tree.now at.now 0 (items_view items.now))) }
 {
     for (k, item) in items.iter().enumerate() {
         push_item(alloc, tree, at, k, item, out)?;
@@ -183,8 +183,8 @@ fn push_item(
 ) -> Result<(), JsonFault>
     requires room { at.now.table + suc (count tree.now.inner) < 2 ^ 32 }
     requires few { count tree.now.inner < 64 }
-    ensures ok { OnOk result (Adds out.old out.new (item_said tree.now at.now k (view item.now))) }
-    ensures fault { IfErr result (Fails (item_said tree.now at.now k (view item.now))) }
+    ensures ok { OnOk result (AddsSaid out.old out.new (item_said tree.now at.now k (view item.now))) }
+    ensures fault { IfErr result (TellsFirstFault (item_said tree.now at.now k (view item.now))) }
 {
     let position = k.to_string(alloc)?;
     let path = path_below(alloc, &at.path, position.as_str())?;
@@ -207,9 +207,9 @@ fn push_object<'a>(
 ) -> Result<(), JsonFault>
     requires room { at.now.table + suc (count tree.now.inner) < 2 ^ 32 }
     requires few { count tree.now.inner < 64 }
-    requires path { path ≡ below at.now.path (decimal k) }
-    ensures ok { OnOk result (Adds out.old out.new (object_said tree.now at.now k (members_view members.now))) }
-    ensures fault { IfErr result (Fails (object_said tree.now at.now k (members_view members.now))) }
+    requires path { path ≡ path_below at.now.path (decimal k) }
+    ensures ok { OnOk result (AddsSaid out.old out.new (object_said tree.now at.now k (members_view members.now))) }
+    ensures fault { IfErr result (TellsFirstFault (object_said tree.now at.now k (members_view members.now))) }
 {
     check_members(alloc, tree, &path, members)?;
     let id = id_of(alloc, &at.up, k)?;
@@ -234,8 +234,8 @@ fn push_member(
 ) -> Result<(), JsonFault>
     requires room { at.now.table + suc (count tree.now.inner) < 2 ^ 32 }
     requires few { count tree.now.inner < 64 }
-    ensures ok { OnOk result (Adds out.old out.new (member_said tree.now at.now (lent_view member.entry))) }
-    ensures fault { IfErr result (Fails (member_said tree.now at.now (lent_view member.entry))) }
+    ensures ok { OnOk result (AddsSaid out.old out.new (member_said tree.now at.now (lent_view member.entry))) }
+    ensures fault { IfErr result (TellsFirstFault (member_said tree.now at.now (lent_view member.entry))) }
 {
     match member {
         None | Some(Json::Null) => Ok(()),
@@ -255,8 +255,8 @@ fn push_sets<'a>(
 ) -> Result<(), JsonFault>
     requires room { at.now.table + count sets.now < 2 ^ 32 }
     requires few { count sets.now < 64 }
-    ensures ok { OnOk result (Adds out.old out.new (sets_say sets.now at.now (members_view members.now))) }
-    ensures fault { IfErr result (Fails (sets_say sets.now at.now (members_view members.now))) }
+    ensures ok { OnOk result (AddsSaid out.old out.new (sets_say sets.now at.now (members_view members.now))) }
+    ensures fault { IfErr result (TellsFirstFault (sets_say sets.now at.now (members_view members.now))) }
 {
     let mut table = at.table;
     for inner in sets.items() {

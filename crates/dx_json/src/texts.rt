@@ -16,11 +16,11 @@ pub struct Texts {
 impl Model for Texts {
     ghost use Rattle.std.specs.Prelude.{ℕ, List, map, string_bytes};
     ghost use Rattle.dx_ports.specs.Members.{Each};
-    ghost use Rattle.dx_json.specs.Spans.{IsSpan, text_at};
+    ghost use Rattle.dx_json.specs.Spans.{IsSpan, span_text};
 
     ghost Value = { List (List ℕ) };
 
-    ghost view = { λ t. map (text_at (string_bytes t.buffer)) t.spans.items };
+    ghost view = { λ t. map (span_text (string_bytes t.buffer)) t.spans.items };
 
     ghost invariant = { λ t. Each t.spans.items (IsSpan (string_bytes t.buffer)) };
 }
@@ -81,11 +81,11 @@ pub struct SharedTexts {
 impl Model for SharedTexts {
     ghost use Rattle.std.specs.Prelude.{ℕ, List, map, string_bytes};
     ghost use Rattle.dx_ports.specs.Members.{Each};
-    ghost use Rattle.dx_json.specs.Spans.{IsSpan, text_at};
+    ghost use Rattle.dx_json.specs.Spans.{IsSpan, span_text};
 
     ghost Value = { List (List ℕ) };
 
-    ghost view = { λ t. map (text_at (string_bytes t.buffer.value)) t.spans.items };
+    ghost view = { λ t. map (span_text (string_bytes t.buffer.value)) t.spans.items };
 
     ghost invariant = { λ t. Each t.spans.items (IsSpan (string_bytes t.buffer.value)) };
 }

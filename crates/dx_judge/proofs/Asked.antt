@@ -15,23 +15,23 @@ use Rattle.dx_model.specs.declared.values.Value.TheVariants.{Const, Null}
 use Rattle.dx_model.specs.Covers.{same_value}
 use Rattle.dx_model.specs.Instances.{fact_moved, moved, same_null}
 use Rattle.dx_model.specs.Tables.{cell, values_in}
-use Rattle.dx_model.specs.Values.{NullsAscend}
+use Rattle.dx_model.specs.Values.{NullsAscend, null_at}
 use Rattle.dx_model.proofs.Before.{same_value-refl, same_value-true}
 use Rattle.dx_model.proofs.Maps.{same_null-refl, same_null-true}
 use Rattle.dx_instance.specs.Cells.{NumberTable, numbers_at}
-use Rattle.dx_instance.specs.Numbers.{AreApart, value_of}
+use Rattle.dx_instance.specs.Numbers.{AreDistinctValues, value_of}
 use Rattle.dx_instance.specs.Shown.{AreBelow, PartsFit, numbers_of_table, shown, shown_row, shown_tables}
-use Rattle.dx_instance.specs.Stored.{TableRows, facts, rows_of, table_at}
+use Rattle.dx_instance.specs.Stored.{TableRows, facts, rows_of, table_at, HasTableIn}
 use Rattle.dx_instance.proofs.NumberFacts.{there_at}
 use Rattle.dx_instance.proofs.ShownFacts.{number_same}
 use Rattle.dx_instance.proofs.StoredFacts.{fact_from_row, fact_table, row_from_fact}
-use Rattle.dx_blocks.specs.Nulls.{AreKnown, AreNulls, null_at}
+use Rattle.dx_blocks.specs.Nulls.{AreKnown, AreNulls}
 use Rattle.dx_blocks.proofs.NullLists.{place_is_one}
 use Rattle.dx_solver.specs.declared.atom.Term.{Term}
 use Rattle.dx_solver.specs.declared.atom.Term.TheVariants.{Number, Variable}
 use Rattle.dx_solver.specs.declared.atom.PatternAtom.{PatternAtom}
-use Rattle.dx_solver.specs.Questions.{FitsAtom, Solves, Stands, number_under, row_under}
-use Rattle.dx_judge.specs.Asking.{FitsIn, HasStranger, HasStrangerIn, IsStranger, SaysFact, SaysTurned, SaysValue, place_in}
+use Rattle.dx_solver.specs.Questions.{FitsAtom, Solves, HasImageRow, number_under, row_under}
+use Rattle.dx_judge.specs.Asking.{HasStranger, HasStrangerIn, IsStranger, SaysFact, SaysTurned, SaysValue, place_in}
 use Rattle.dx_judge.specs.Open.{CanMove}
 use Rattle.dx_judge.specs.Turned.{IsTurned, fact_turned, order_at}
 use Rattle.dx_judge.proofs.Orders.{can_turn, from_turned, turned_exactly, turned_fits}
@@ -128,14 +128,14 @@ number_at (s ∷ S) v m = elim (cases_Bool (same_value s v)) [
     later (here e) n = absurd (true≢false (sym (subst (λ (x : Value). same_value s x ≡ true) e (same_value-refl s)) ∙ n))
     later (there k) n = k
 
-number_back : (S : List Value) (n : ℕ) → AreApart S → n < length S → number_of S (value_of S n) ≡ n
+number_back : (S : List Value) (n : ℕ) → AreDistinctValues S → n < length S → number_of S (value_of S n) ≡ n
 number_back S n apart h =
     let r = number_at S (value_of S n) (in_at S n (Const []) h) in
     number_same S (number_of S (value_of S n)) n apart r.0 h r.1
 
 -- ---- what stands for values
 
-module _ (S : List Value) (apart : AreApart S) (ns : List NullId) where
+module _ (S : List Value) (apart : AreDistinctValues S) (ns : List NullId) where
   -- the numbers that something gives the variables
   abbrev numbers_by : (NullId → Value) → ℕ → ℕ
   numbers_by g k = number_of S (g (null_at ns k))
@@ -184,7 +184,7 @@ row_place rows r m = let k = contains_from_in m in (k.0, k.1, get_or_default row
 -- ---- the question
 
 module _ (S : List Value) (ts : List NumberTable) (fit : PartsFit S ts) (J : List TableRows) (shows : shown_tables S ts ≡ J) (ns : List NullId) (F : List Fact)
-    (known : Each F (λ f. AreKnown ns f.row)) (fits : Each F (FitsIn J)) where
+    (known : Each F (λ f. AreKnown ns f.row)) (fits : Each F (HasTableIn J)) where
   table_there : (t : ℕ) → t < length J → t < length ts
   table_there t h = let l : length J ≡ length ts = sym (ap length shows) ∙ length-map ts (shown S) in subst (λ (n : ℕ). t < n) l h
 
@@ -247,7 +247,7 @@ module _ (S : List Value) (ts : List NumberTable) (fit : PartsFit S ts) (J : Lis
         inside (x ∷ row) (y ∷ terms) k z v (here e) = one x v (λ n d. k n (here d)) (subst (SaysValue S ns x) e z.0)
         inside (x ∷ row) (y ∷ terms) k z v (there i) = inside row terms (λ n j. k n (there j)) z.1 v i
 
-    fact_stands : (g : NullId → Value) (f : Fact) (p : PatternAtom) → f ∈ F → SaysFact S ns f p → fact_moved g f ∈ facts J → Stands ts [] (numbers_by S fit.apart ns g) p
+    fact_stands : (g : NullId → Value) (f : Fact) (p : PatternAtom) → f ∈ F → SaysFact S ns f p → fact_moved g f ∈ facts J → HasImageRow ts [] (numbers_by S fit.apart ns g) p
     fact_stands g f p i s m =
         let t = table_there f.table (fact_table J (fact_moved g f) m) in
         let r = shown_by (fact_moved g f) m in
@@ -255,10 +255,10 @@ module _ (S : List Value) (ts : List NumberTable) (fit : PartsFit S ts) (J : Lis
         let e : r.0 ≡ row_under (numbers_by S fit.apart ns g) p = row_says S fit.apart ns g f.row p.terms r.0 (known f i) s.terms (below f.table r.0 t r.1) r.2 in
         rw s.table (w.0, w.1, refl, w.2 ∙ e)
 
-    fact_said : (a : ℕ → ℕ) (f : Fact) (p : PatternAtom) → f ∈ F → SaysFact S ns f p → Stands ts [] a p → fact_moved (moved_by S fit.apart ns a) f ∈ facts J
+    fact_said : (a : ℕ → ℕ) (f : Fact) (p : PatternAtom) → f ∈ F → SaysFact S ns f p → HasImageRow ts [] a p → fact_moved (moved_by S fit.apart ns a) f ∈ facts J
     fact_said a f p i s k =
         let t = table_there f.table (fits f i).table in
-        let stands : Stands ts [] a (record { table = f.table; terms = p.terms }) = subst (λ (u : ℕ). Stands ts [] a (record { table = u; terms = p.terms })) s.table k in
+        let stands : HasImageRow ts [] a (record { table = f.table; terms = p.terms }) = subst (λ (u : ℕ). HasImageRow ts [] a (record { table = u; terms = p.terms })) s.table k in
         let there : row_under a p ∈ (numbers_of_table ts f.table).rows =
         subst (λ (r : List ℕ). r ∈ (numbers_of_table ts f.table).rows) stands.3 (in_at (numbers_of_table ts f.table).rows stands.0 [] stands.1) in
         let row : map (moved (moved_by S fit.apart ns a)) f.row ∈ rows_of J f.table =
@@ -267,7 +267,7 @@ module _ (S : List Value) (ts : List NumberTable) (fit : PartsFit S ts) (J : Lis
         fact_from_row J f.table (map (moved (moved_by S fit.apart ns a)) f.row) row
 
     -- they become rows exactly if the facts move
-    pub stand_exactly : ((a : ℕ → ℕ) × Each all (Stands ts [] a)) ↔ CanMove F (facts J)
+    pub stand_exactly : ((a : ℕ → ℕ) × Each all (HasImageRow ts [] a)) ↔ CanMove F (facts J)
     stand_exactly = (
       (λ w. (
         moved_by S fit.apart ns w.0,
@@ -279,7 +279,7 @@ module _ (S : List Value) (ts : List NumberTable) (fit : PartsFit S ts) (J : Lis
       )),
     )
 
-    pub solved : (r : Result Bool AllocError) → IfOk r (λ b. IsTrue b ↔ ((a : ℕ → ℕ) × Each all (Stands ts [] a)))
+    pub solved : (r : Result Bool AllocError) → IfOk r (λ b. IsTrue b ↔ ((a : ℕ → ℕ) × Each all (HasImageRow ts [] a)))
         → IfOk r (λ b. IsTrue b ↔ CanMove F (facts J))
     solved (Ok b) k = let e = stand_exactly in ((λ t. e.0 (k.0 t)), (λ c. k.1 (e.1 c)))
     solved (Err x) k = tt
@@ -300,16 +300,16 @@ no_number n e = cc
 pub answer_stands : {X : Type 0} (answered_by : X → ℕ → ℕ) (ts : List NumberTable) (out : List (List Bool)) (atoms : List PatternAtom) (known : List (Option ℕ)) (n : ℕ)
     (o : Option X) (b : Bool) → out ≡ [] → known ≡ replicate n nothing
     → MatchOption o ((a : ℕ → ℕ) → ¬ (Solves ts out atoms known a)) (λ xs. Solves ts out atoms known (answered_by xs)) → b ≡ is_some o
-    → IsTrue b ↔ ((a : ℕ → ℕ) × Each atoms (Stands ts [] a))
+    → IsTrue b ↔ ((a : ℕ → ℕ) × Each atoms (HasImageRow ts [] a))
 answer_stands f ts out atoms known n None b e k m d = (
   (λ y. absurd (true≢false (sym y ∙ d))),
   (λ w. absurd (m w.0 (record {
-    stands = subst (λ (z : List (List Bool)). Each atoms (Stands ts z w.0)) (sym e) w.1;
+    stands = subst (λ (z : List (List Bool)). Each atoms (HasImageRow ts z w.0)) (sym e) w.1;
     keeps = λ v x h. absurd (no_number x (sym (ap (λ (l : List (Option ℕ)). get_or l v nothing) k ∙ none_known n v) ∙ h));
   }))),
 )
 answer_stands f ts out atoms known n (Some xs) b e k m d = (
-  (λ y. (f xs, subst (λ (z : List (List Bool)). Each atoms (Stands ts z (f xs))) e m.stands)),
+  (λ y. (f xs, subst (λ (z : List (List Bool)). Each atoms (HasImageRow ts z (f xs))) e m.stands)),
   (λ w. d),
 )
 
@@ -325,7 +325,7 @@ zip_turned S orders ns (f ∷ F) (p ∷ all) z = (z.0, zip_turned S orders ns F 
 module _ (I : List TableRows) (orders : List (List ℕ)) (J : List TableRows) (turns : IsTurned I orders J)
     (wide_rows : Each I (λ (u : TableRows). Each u.rows (λ (r : List Value). length r ≡ u.width)))
     (S : List Value) (ts : List NumberTable) (fit : PartsFit S ts) (shows : shown_tables S ts ≡ J)
-    (ns : List NullId) (F : List Fact) (known : Each F (λ f. AreKnown ns f.row)) (fits : Each F (FitsIn I)) where
+    (ns : List NullId) (F : List Fact) (known : Each F (λ f. AreKnown ns f.row)) (fits : Each F (HasTableIn I)) where
   abbrev G : List Fact
   G = map (fact_turned orders) F
 
@@ -335,10 +335,10 @@ module _ (I : List TableRows) (orders : List (List ℕ)) (J : List TableRows) (t
       subst (λ (x : Fact). AreKnown ns x.row) f.2
       (λ n i. known f.0 f.1 n (from_turned (order_at orders f.0.table) f.0.row (Null n) (can_turn I orders J turns wide_rows f.0 (fits f.0 f.1)).columns i))
 
-  fits_turned : Each G (FitsIn J)
+  fits_turned : Each G (HasTableIn J)
   fits_turned e m =
       let f = from_map (fact_turned orders) F m in
-      subst (FitsIn J) f.2 (turned_fits I orders J turns wide_rows f.0 (fits f.0 f.1))
+      subst (HasTableIn J) f.2 (turned_fits I orders J turns wide_rows f.0 (fits f.0 f.1))
 
   pub none_moves : HasStrangerIn S orders F → IsTrue false ↔ CanMove F (facts I)
   none_moves w =
@@ -351,7 +351,7 @@ module _ (I : List TableRows) (orders : List (List ℕ)) (J : List TableRows) (t
     pub some_fit : Each all (FitsAtom ts (length ns))
     some_fit = atoms_wide S ts fit J shows ns G known_turned fits_turned all (zip_turned S orders ns F all zip)
 
-    pub some_move : (r : Result Bool AllocError) → IfOk r (λ b. IsTrue b ↔ ((a : ℕ → ℕ) × Each all (Stands ts [] a))) → IfOk r (λ b. IsTrue b ↔ CanMove F (facts I))
+    pub some_move : (r : Result Bool AllocError) → IfOk r (λ b. IsTrue b ↔ ((a : ℕ → ℕ) × Each all (HasImageRow ts [] a))) → IfOk r (λ b. IsTrue b ↔ CanMove F (facts I))
     some_move (Ok b) h =
         let k = solved S ts fit J shows ns G known_turned fits_turned all (zip_turned S orders ns F all zip) (Ok b) h in
         let e = turned_exactly I orders J turns wide_rows F fits in

@@ -9,13 +9,13 @@ use Rattle.dx_ports.proofs.Members.{in_at, map_agrees}
 use Rattle.dx_model.specs.declared.facts.Fact.{Fact}
 use Rattle.dx_model.specs.declared.tables.Link.{Link}
 use Rattle.dx_model.specs.declared.values.Value.{Value}
-use Rattle.dx_model.specs.Tables.{Determination, KeysHold, LinksHold, RowsFit, Table, cell, table_of, values_in}
+use Rattle.dx_model.specs.Tables.{Determination, KeysHold, LinksHold, RowsFit, Table, cell, table_of, values_in, determination_at}
 use Rattle.dx_model.specs.Chase.{Break}
 use Rattle.dx_model.specs.Values.{row_cmp}
 use Rattle.dx_model.proofs.Decided.{same_list, same_value}
 use Rattle.dx_model.proofs.Orders.{row_exact}
 use Rattle.dx_instance.proofs.Placed.{row_total}
-use Rattle.dx_fails.specs.Firsts.{DeterminationHolds, HasDetermination, HasLink, HasLinked, IsFirstFailing, LinkHolds, determination_at, link_at}
+use Rattle.dx_fails.specs.Firsts.{DeterminationHolds, HasDetermination, HasLink, HasLinked, IsFirstFailing, LinkHolds, link_at}
 use Rattle.dx_judge.proofs.Numbered.{all_or_first, each_or, number_of}
 
 abbrev no_table : Table

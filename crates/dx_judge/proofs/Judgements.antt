@@ -30,7 +30,7 @@ use Rattle.dx_exchange.specs.declared.fault.ExFault.{ExFault}
 use Rattle.dx_exchange.specs.declared.fault.ExFault.TheVariants as ex
 use Rattle.dx_exchange.specs.declared.mode.Mode.TheVariants.{Plain}
 use Rattle.dx_exchange.specs.declared.result.Exchange.{Exchange}
-use Rattle.dx_exchange.specs.Exchanging.{Asked, HasNone as NoExchange}
+use Rattle.dx_exchange.specs.Exchanging.{ExchangeInput, HasNoExchange as NoExchange}
 use Rattle.dx_exchange.proofs.Decided.{exchange_or_none}
 use Rattle.dx_exchange.proofs.Listing.{listing, null_map, same_given}
 use Rattle.dx_stages.proofs.Decided.{notions_decided}
@@ -41,8 +41,8 @@ use Rattle.dx_judge.specs.declared.verdict.Verdict.{Verdict}
 use Rattle.dx_judge.specs.declared.verdict.Verdict.TheVariants as verdicts
 use Rattle.dx_judge.specs.declared.fault.JudgeFault.{JudgeFault}
 use Rattle.dx_judge.specs.declared.fault.JudgeFault.TheVariants as faults
-use Rattle.dx_judge.specs.Verdicts.{HasNone, IsJudgement, IsReason, IsVerdict, Judged, PlaceHolds}
-use Rattle.dx_judge.specs.Laws.{AreAlike, AreOneKind, AreOneWhy, EachHasVerdict, IsAsked, JudgedOrLimit, NoClash, Says, VerdictsAreOne, VerdictsSay}
+use Rattle.dx_judge.specs.Verdicts.{HasNoVerdict, IsJudgement, IsReason, IsVerdict, JudgeInput, PlaceHolds}
+use Rattle.dx_judge.specs.Laws.{AreSameFault, AreOneKind, AreOneWhy, EachHasVerdict, InputFits, JudgedOrLimit, NoClash, VerdictSays, VerdictsAreOne, VerdictsSay}
 use Rattle.dx_judge.proofs.Numbered.{each_or, one_first}
 use Rattle.dx_judge.proofs.Holding.{determination_holds, determination_or, keys_or, link_holds, link_or, links_or}
 use Rattle.dx_judge.proofs.Deciding.{maps_or, places_hold, rules_or}
@@ -55,14 +55,14 @@ no_clash convert R schema I K rows are solution none =
 
 -- ---- what a verdict says
 
-module _ (convert : Conversions) (a : Judged) where
+module _ (convert : Conversions) (a : JudgeInput) where
   reason_so : (why : Why) → IsReason convert a why → ¬ (IsSolution convert a.rules a.schema a.rows a.given)
   reason_so (whys.Rule i k) r s =
       r.first.fails (places_hold convert a.rules a.rows a.given r.rows r.are s.rules i k r.first.is_there)
   reason_so (whys.Key t k one other c) r s = r.first.fails (determination_holds a.schema a.given s.keys t k r.first.is_there)
   reason_so (whys.Link t row l) r s = r.first.fails (link_holds a.schema a.given s.links t l r.first.is_there)
 
-  says : (v : Verdict) → IsVerdict convert a v → Says convert a v
+  says : (v : Verdict) → IsVerdict convert a v → VerdictSays convert a v
   says (verdicts.NotSolution why) r = reason_so why r
   says (verdicts.Solution other) r = (r.solution, (λ u. r.misses (u.into (facts other) r.other_too)))
   says (verdicts.Universal map missed) r = (r.universal, (λ core. r.lacks (core (pairs_of map) r.endomorphism missed r.is_there)))
@@ -118,7 +118,7 @@ verdicts_are_one convert a v w p q = one_kind convert a v w p q
 
 -- ---- each has one
 
-module _ (convert : Conversions) (list : List Conversion) (source : List Table) (a : Judged) (asked : IsAsked list source a) where
+module _ (convert : Conversions) (list : List Conversion) (source : List Table) (a : JudgeInput) (asked : InputFits list source a) where
   rows_there : (rows : Rows) × AreRows convert a.rules a.rows rows
   rows_there = rows_all_exist convert a.rules a.rows (λ d m. (asked.fits.fit d m).rule)
 
@@ -128,13 +128,13 @@ module _ (convert : Conversions) (list : List Conversion) (source : List Table) 
   exchange_there solution =
       let M = rows_there.0 in
       let are = rows_there.1 in
-      let e : Asked = record { rules = a.rules; schema = a.schema; rows = a.rows; mode = Plain; limit = canonical_cells a.rules M } in
+      let e : ExchangeInput = record { rules = a.rules; schema = a.schema; rows = a.rows; mode = Plain; limit = canonical_cells a.rules M } in
       elim ((exchange_or_none convert list source).either (λ _. None) e asked.fits) [
         | inl x ↦ (x.0, x.1.universal)
         | inr n ↦ absurd (none e refl refl refl refl n.0 n.1)
       ]
     where
-      none : (e : Asked) → e.rules ≡ a.rules → e.schema ≡ a.schema → e.rows ≡ a.rows → e.limit ≡ canonical_cells a.rules rows_there.0
+      none : (e : ExchangeInput) → e.rules ≡ a.rules → e.schema ≡ a.schema → e.rows ≡ a.rows → e.limit ≡ canonical_cells a.rules rows_there.0
           → (f : ExFault) → NoExchange convert e f → ⊥
       none e r s i l (ex.Limit k) n =
           let same : n.rows ≡ rows_there.0 =
@@ -220,14 +220,14 @@ each_has_verdict convert list source a asked = verdict_there convert list source
 -- ---- within the limit
 
 pub judged_or_limit : JudgedOrLimit
-judged_or_limit convert list source = notions_decided AreAlike (IsAsked list source) (HasNone convert) (IsJudgement convert) alike never either
+judged_or_limit convert list source = notions_decided AreSameFault (InputFits list source) (HasNoVerdict convert) (IsJudgement convert) alike never either
   where
-    alike : (a : Judged) (e f : JudgeFault) → IsAsked list source a → HasNone convert a e → HasNone convert a f → AreAlike e f
+    alike : (a : JudgeInput) (e f : JudgeFault) → InputFits list source a → HasNoVerdict convert a e → HasNoVerdict convert a f → AreSameFault e f
     alike a (faults.Limit l) (faults.Limit k) g p q = ap (λ (x : LimitOf). faults.Limit x) (p.0 ∙ sym q.0)
     alike a (faults.Limit l) faults.Memory g p q = absurd q
     alike a faults.Memory f g p q = absurd p
 
-    never : (a : Judged) (v : Verdict) (e : JudgeFault) → IsAsked list source a → IsJudgement convert a v → ¬ (HasNone convert a e)
+    never : (a : JudgeInput) (v : Verdict) (e : JudgeFault) → InputFits list source a → IsJudgement convert a v → ¬ (HasNoVerdict convert a e)
     never a v (faults.Limit l) g is n =
         let same = (rows_of_all convert a.rules a.rows n.1.rows is.rows n.1.are is.are).0 in
         let cells : canonical_cells a.rules n.1.rows ≡ canonical_cells a.rules is.rows = ap (canonical_cells a.rules) same in
@@ -236,8 +236,8 @@ judged_or_limit convert list source = notions_decided AreAlike (IsAsked list sou
         omega (arith, cells, more, few)
     never a v faults.Memory g is n = n
 
-    either : (a : Judged) → IsAsked list source a
-        → ((v : Verdict) × IsJudgement convert a v) ⊎ ((e : JudgeFault) × HasNone convert a e)
+    either : (a : JudgeInput) → InputFits list source a
+        → ((v : Verdict) × IsJudgement convert a v) ⊎ ((e : JudgeFault) × HasNoVerdict convert a e)
     either a g =
         let r = rows_all_exist convert a.rules a.rows (λ d m. (g.fits.fit d m).rule) in
         elim (cases_lt a.limit (canonical_cells a.rules r.0)) [

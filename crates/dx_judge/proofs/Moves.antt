@@ -12,20 +12,20 @@ use Rattle.dx_model.specs.declared.rules.Rule.{Rule}
 use Rattle.dx_model.specs.declared.values.NullId.{NullId}
 use Rattle.dx_model.specs.declared.values.Value.{Value}
 use Rattle.dx_model.specs.declared.values.Value.TheVariants.{Const, Null}
-use Rattle.dx_model.specs.Values.{Text, Tuple}
+use Rattle.dx_model.specs.Values.{Tuple}
+use Rattle.dx_ports.specs.Texts.{Text}
 use Rattle.dx_model.specs.Instances.{MapsInto, Moves, fact_moved, given, moved, nulls_in, values}
 use Rattle.dx_model.specs.Blocks.{IsClosedPart}
 use Rattle.dx_model.specs.Fitting.{AtomsFitWidths}
-use Rattle.dx_model.specs.Rules.{cell_value, exported, said, text_of}
+use Rattle.dx_model.specs.Rules.{cell_value, exported, fact_of_atom, text_of}
 use Rattle.dx_model.proofs.ByMembers.{said_by_moves}
 use Rattle.dx_model.proofs.Joining.{parts_join}
 use Rattle.dx_model.proofs.Maps.{into_by}
-use Rattle.dx_instance.specs.Stored.{TableRows, facts, rows_of, table_at, widths}
+use Rattle.dx_instance.specs.Stored.{TableRows, facts, rows_of, table_at, widths, HasTableIn}
 use Rattle.dx_instance.proofs.StoredFacts.{fact_from_row, fact_table, row_from_fact}
 use Rattle.dx_blocks.specs.declared.block.Block.{Block}
 use Rattle.dx_blocks.specs.Blocks.{AreBlocks}
 use Rattle.dx_blocks.proofs.BlockLaws.{blocks_closed, each_in_block}
-use Rattle.dx_judge.specs.Asking.{FitsIn}
 use Rattle.dx_judge.specs.Open.{BlocksMove, CanMove, IsGround, TupleHolds, stand_in}
 use Rattle.dx_judge.proofs.Deciding.{hom_moves}
 
@@ -105,7 +105,7 @@ maps_answered A B (Err e) ground k = tt
 
 -- facts of an instance fit another with as wide tables
 pub fit_other : (I J : List TableRows) (f : Fact) → widths I ≡ widths J → Each I (λ (u : TableRows). Each u.rows (λ (r : List Value). length r ≡ u.width))
-    → f ∈ facts I → FitsIn J f
+    → f ∈ facts I → HasTableIn J f
 fit_other I J f e wide m =
     let none : TableRows = record { width = 0; rows = [] } in
     let b : f.table < length I = fact_table I f m in
@@ -118,7 +118,7 @@ fit_other I J f e wide m =
     record { table = there; width = mine ∙ (sym left ∙ (same ∙ right)) }
 
 pub blocks_fit : (I J : List TableRows) (bs : List Block) (b : Block) → widths I ≡ widths J
-    → Each I (λ (u : TableRows). Each u.rows (λ (r : List Value). length r ≡ u.width)) → AreBlocks (facts I) bs → b ∈ bs → Each b.facts (FitsIn J)
+    → Each I (λ (u : TableRows). Each u.rows (λ (r : List Value). length r ≡ u.width)) → AreBlocks (facts I) bs → b ∈ bs → Each b.facts (HasTableIn J)
 blocks_fit I J bs b e wide are m f i = fit_other I J f e wide ((blocks_closed (facts I) bs are b m).inside f i)
 
 -- ---- tuples of rules
@@ -133,13 +133,13 @@ pub atoms_fit : (I : List TableRows) (atoms : List Atom) → AtomsFitWidths (wid
 atoms_fit I atoms f a m = wide_at I a.table (length a.cells) (f a m)
 
 pub said_fits : (I : List TableRows) (texts : ℕ → Text) (atoms : List Atom) → ((a : Atom) → a ∈ atoms → (a.table < length I) × (length a.cells ≡ (table_at I a.table).width))
-    → Each (map (said texts stand_in) atoms) (FitsIn I)
+    → Each (map (fact_of_atom texts stand_in) atoms) (HasTableIn I)
 said_fits I texts atoms fit f m =
-    let a = from_map (said texts stand_in) atoms m in
+    let a = from_map (fact_of_atom texts stand_in) atoms m in
     let k = fit a.0 a.1 in
-    subst (FitsIn I) a.2 (record { table = k.0; width = length-map a.0.cells (cell_value texts stand_in) ∙ k.1 })
+    subst (HasTableIn I) a.2 (record { table = k.0; width = length-map a.0.cells (cell_value texts stand_in) ∙ k.1 })
 
-pub tuple_exactly : (d : Rule) (K F : List Fact) (t : Tuple) (r : Bool) → F ≡ map (said (text_of (exported d) t) stand_in) d.conclusion
+pub tuple_exactly : (d : Rule) (K F : List Fact) (t : Tuple) (r : Bool) → F ≡ map (fact_of_atom (text_of (exported d) t) stand_in) d.conclusion
     → (IsTrue r ↔ CanMove F K) → IsTrue r ↔ TupleHolds d K t
 tuple_exactly d K F t r e w =
     let law = said_by_moves (text_of (exported d) t) d.conclusion K in
@@ -148,7 +148,7 @@ tuple_exactly d K F t r e w =
       (λ h. v.1 (law.0 h)),
     )
 
-pub tuple_answered : (d : Rule) (K F : List Fact) (t : Tuple) (r : Result Bool AllocError) → F ≡ map (said (text_of (exported d) t) stand_in) d.conclusion
+pub tuple_answered : (d : Rule) (K F : List Fact) (t : Tuple) (r : Result Bool AllocError) → F ≡ map (fact_of_atom (text_of (exported d) t) stand_in) d.conclusion
     → IfOk r (λ can. IsTrue can ↔ CanMove F K) → IfOk r (λ holds. IsTrue holds ↔ TupleHolds d K t)
 tuple_answered d K F t (Ok can) e w = tuple_exactly d K F t can e w
 tuple_answered d K F t (Err x) e w = tt

@@ -16,15 +16,14 @@ use Rattle.dx_model.specs.Instances.{Moves, fact_moved, moved}
 use Rattle.dx_model.specs.Tables.{cell, values_in}
 use Rattle.dx_instance.specs.Cells.{NumberTable, numbers_at}
 use Rattle.dx_instance.specs.Numbers.{value_of}
-use Rattle.dx_instance.specs.Shown.{AreBelow, NumbersFit, PartsFit, RowsFit, numbers_of_table, shown, shown_row, shown_tables}
-use Rattle.dx_instance.specs.Stored.{IsSorting, TableRows, facts, rows_of, table_at, widths}
+use Rattle.dx_instance.specs.Shown.{AreBelow, NumbersFit, PartsFit, NumberRowsFit, numbers_of_table, shown, shown_row, shown_tables}
+use Rattle.dx_instance.specs.Stored.{IsSorting, TableRows, facts, rows_of, table_at, widths, HasTableIn}
 use Rattle.dx_instance.proofs.ShownFacts.{is_shown}
 use Rattle.dx_instance.proofs.StoredFacts.{fact_from_row, fact_table, row_from_fact, sorting_facts}
 use Rattle.dx_blocks.specs.Nulls.{AreKnown}
-use Rattle.dx_judge.specs.Asking.{FitsIn}
 use Rattle.dx_judge.specs.Open.{CanMove}
 use Rattle.dx_judge.specs.Turned.{AreOrders, CanTurn, IsTurned, fact_turned, order_at}
-use Rattle.dx_judge.specs.Turning.{AreOrdersOf, AreTablesTurned, IsOrder, IsTableTurned, row_turned}
+use Rattle.dx_judge.specs.Turning.{AreOrdersOf, AreTablesTurned, IsColumnOrder, IsTableTurned, row_turned}
 
 -- ---- one row
 
@@ -64,38 +63,38 @@ from_turned order row v within m =
 module _ (I : List TableRows) (orders : List (List ℕ)) (J : List TableRows) (turns : IsTurned I orders J)
     (wide : Each I (λ (u : TableRows). Each u.rows (λ (r : List Value). length r ≡ u.width))) where
   -- what fits can be turned
-  pub can_turn : (f : Fact) → FitsIn I f → CanTurn orders f
+  pub can_turn : (f : Fact) → HasTableIn I f → CanTurn orders f
   can_turn f fits = record {
     table = let m = turns.orders_are.many in let h = fits.table in omega (arith, m, h);
     columns = λ c m. subst (λ (n : ℕ). c < n) (sym fits.width) ((turns.orders_are.exactly f.table c fits.table).0 m);
   }
 
-  pub turned_fits : (f : Fact) → FitsIn I f → FitsIn J (fact_turned orders f)
+  pub turned_fits : (f : Fact) → HasTableIn I f → HasTableIn J (fact_turned orders f)
   turned_fits f fits = record {
     table = let m = turns.many in let h = fits.table in omega (arith, m, h);
     width = length-map (order_at orders f.table) (cell f.row) ∙ sym (turns.wide f.table fits.table);
   }
 
-  all_columns : (f : Fact) → FitsIn I f → (c : ℕ) → c < length f.row → c ∈ order_at orders f.table
+  all_columns : (f : Fact) → HasTableIn I f → (c : ℕ) → c < length f.row → c ∈ order_at orders f.table
   all_columns f fits c h = (turns.orders_are.exactly f.table c fits.table).1 (subst (λ (n : ℕ). c < n) fits.width h)
 
-  fits_there : (f : Fact) → f ∈ facts I → FitsIn I f
+  fits_there : (f : Fact) → f ∈ facts I → HasTableIn I f
   fits_there f m =
       let h = fact_table I f m in
       record { table = h; width = wide (table_at I f.table) (in_at I f.table (record { width = 0; rows = [] }) h) f.row (row_from_fact I f m) }
 
-  fact_moves : (g : NullId → Value) (f : Fact) → FitsIn I f → fact_moved g (fact_turned orders f) ≡ fact_turned orders (fact_moved g f)
+  fact_moves : (g : NullId → Value) (f : Fact) → HasTableIn I f → fact_moved g (fact_turned orders f) ≡ fact_turned orders (fact_moved g f)
   fact_moves g f fits =
       let same = sym (turned_moved g (order_at orders f.table) f.row (can_turn f fits).columns) in
       (λ i. record { table = f.table; row = same i })
 
-  pub turned_exactly : (F : List Fact) → Each F (FitsIn I) → CanMove (map (fact_turned orders) F) (facts J) ↔ CanMove F (facts I)
+  pub turned_exactly : (F : List Fact) → Each F (HasTableIn I) → CanMove (map (fact_turned orders) F) (facts J) ↔ CanMove F (facts I)
   turned_exactly F fits = (
     (λ w. (w.0, λ f m. back w.0 f (fits f m) (w.1 (fact_turned orders f) (in_map (fact_turned orders) m)))),
     (λ w. (w.0, λ e m. to w.0 (w.1) e m)),
   )
     where
-      back : (g : NullId → Value) (f : Fact) → FitsIn I f → fact_moved g (fact_turned orders f) ∈ facts J → fact_moved g f ∈ facts I
+      back : (g : NullId → Value) (f : Fact) → HasTableIn I f → fact_moved g (fact_turned orders f) ∈ facts J → fact_moved g f ∈ facts I
       back g f fit m =
           let a = from_map (fact_turned orders) (facts I) (turns.facts_are.0 (fact_moved g (fact_turned orders f)) m) in
           let same : fact_turned orders a.0 ≡ fact_turned orders (fact_moved g f) = a.2 ∙ fact_moves g f fit in
@@ -128,7 +127,7 @@ ranked_more ranked n x e =
 
 -- all columns of a table, ranked and put in another order
 pub is_order : (n : ℕ) (old new : List (ℕ × ℕ)) (order : List ℕ) → columns_in old ≡ range_with_len 0 n → IsPermutation old new
-    → order ≡ columns_in new → IsOrder n order
+    → order ≡ columns_in new → IsColumnOrder n order
 is_order n old new order all p is = record {
   long = ap length is ∙ (length-map new (λ (q : ℕ × ℕ). q.1) ∙ (length_permutation old new p ∙ (sym (length-map old (λ (q : ℕ × ℕ). q.1)) ∙ (ap length all ∙ length-range_with_len 0 n))));
   exactly = λ c. (
@@ -263,12 +262,12 @@ module _ (S : List Value) (ts us : List NumberTable) (orders : List (List ℕ)) 
           ∙ (ap (λ (x : TableRows). x.width) (table_shown us t u) ∙ (turned.each t k).width)))
 
   -- the turned rows can be stored
-  pub turned_rows_fit : (t : NumberTable) → t ∈ us → RowsFit (length S) t
+  pub turned_rows_fit : (t : NumberTable) → t ∈ us → NumberRowsFit (length S) t
   turned_rows_fit t m =
       let k = contains_from_in m in
       let h : k.0 < length ts = let l = as_many in let b = k.1 in omega (arith, b, l) in
       let is : numbers_of_table us k.0 ≡ t = get_or_default us k.0 no_numbers t k.1 ∙ k.2 in
-      subst (RowsFit (length S)) is (record {
+      subst (NumberRowsFit (length S)) is (record {
         columns =
             let w = (turned.each k.0 h).width in
             let l = (are.each k.0 h).long in

@@ -11,20 +11,21 @@ use Rattle.dx_model.specs.Covers.{IsPlace, rule_at}
 use Rattle.std.proofs.lemmas.List.{get_or-map, get_or_default, length-map}
 use Rattle.dx_model.specs.Tables.{Table}
 use Rattle.dx_instance.specs.Stored.{TableRows, facts}
-use Rattle.dx_fails.specs.Firsts.{IsBefore, IsFirstFailing}
+use Rattle.dx_fails.specs.Firsts.{IsPairBefore, IsFirstFailing}
 use Rattle.dx_model.specs.declared.matches.Matches.{Matches}
 use Rattle.dx_model.specs.declared.matches.Places.{Places}
-use Rattle.dx_tgd.specs.Counting.{canonical_cells, rows_in}
+use Rattle.dx_tgd.specs.Counting.{canonical_cells}
+use Rattle.dx_model.specs.Matches.{rows_of_matches}
 use Rattle.dx_tgd.specs.Placed.{HasCell}
 use Rattle.dx_judge.specs.declared.verdict.Why.{Why}
-use Rattle.dx_judge.specs.Open.{AreLong, IsFault, IsFirstTuple, IsKeyOrLink, TupleHolds, tuple_at}
+use Rattle.dx_judge.specs.Open.{TuplesFitRules, IsFirstReason, IsFirstTuple, IsKeyOrLink, TupleHolds, nth_tuple}
 use Rattle.dx_judge.specs.Verdicts.{PlaceHolds}
 use Rattle.dx_judge.proofs.Deciding.{rows_are}
 
 -- ---- what is no rule's fault
 
 pub no_rule_fails : (R : List Rule) (rows : Rows) (schema : List Table) (I : List TableRows) (o : Option Why)
-    → ((i k : ℕ) → IsPlace R rows i k → PlaceHolds R rows (facts I) i k) → IsKeyOrLink schema I o → IsFault R rows schema I o
+    → ((i k : ℕ) → IsPlace R rows i k → PlaceHolds R rows (facts I) i k) → IsKeyOrLink schema I o → IsFirstReason R rows schema I o
 no_rule_fails R rows schema I None hold k = (hold, k.0, k.1)
 no_rule_fails R rows schema I (Some w) hold k = inr (hold, k)
 
@@ -73,7 +74,7 @@ behind_all ys ts x i h b = none ys i h b.there_still
 
 -- ---- tuples
 
-pub tuples_all : (d : Rule) (K : List Fact) (ts : List Tuple) (n : ℕ) → length ts ≤ n → ((k : ℕ) → k < n → TupleHolds d K (tuple_at ts k))
+pub tuples_all : (d : Rule) (K : List Fact) (ts : List Tuple) (n : ℕ) → length ts ≤ n → ((k : ℕ) → k < n → TupleHolds d K (nth_tuple ts k))
     → IsFirstTuple d K ts None
 tuples_all d K ts n h all t m =
     let k = contains_from_in m in
@@ -105,7 +106,7 @@ is_open R rows K i k h many f old = record {
   before = λ j l p b. earlier j l p b;
 }
   where
-    earlier : (j l : ℕ) → IsPlace R rows j l → IsBefore j l i k → PlaceHolds R rows K j l
+    earlier : (j l : ℕ) → IsPlace R rows j l → IsPairBefore j l i k → PlaceHolds R rows K j l
     earlier j l p (inl b) = old j l b p
     earlier j l p (inr b) = subst (λ (x : ℕ). PlaceHolds R rows K x l) (sym b.0) (f.2 l b.1)
 
@@ -123,32 +124,32 @@ module _ (R : List Rule) (M : Matches) (items : List Places) (i : ℕ) (d : Rule
   within : i < length M.rules
   within = omega (arith, h, many)
 
-  places_here : p.tuples ≡ get_or (rows_in M) i []
+  places_here : p.tuples ≡ get_or (rows_of_matches M) i []
   places_here =
       let first : p.tuples ≡ (get_or items i p).tuples = ap (λ (x : Places). x.tuples) at in
       let moved : (get_or items i p).tuples ≡ (get_or M.rules i p).tuples = ap (λ (xs : List Places). (get_or xs i p).tuples) same in
-      let back : get_or (rows_in M) i [] ≡ (get_or M.rules i p).tuples = get_or-map (λ (x : Places). x.tuples) M.rules i p [] within in
+      let back : get_or (rows_of_matches M) i [] ≡ (get_or M.rules i p).tuples = get_or-map (λ (x : Places). x.tuples) M.rules i p [] within in
       first ∙ (moved ∙ sym back)
 
-  pub tuple_here : (K : List Fact) (o : Option ℕ) → IsFirstTuple d K p.tuples o → IsFirstTuple (rule_at R i) K (get_or (rows_in M) i []) o
+  pub tuple_here : (K : List Fact) (o : Option ℕ) → IsFirstTuple d K p.tuples o → IsFirstTuple (rule_at R i) K (get_or (rows_of_matches M) i []) o
   tuple_here K o k =
       subst (λ (ts : List Tuple). IsFirstTuple (rule_at R i) K ts o) places_here
       (subst (λ (x : Rule). IsFirstTuple x K p.tuples o) (rule_here R i d h is) k)
 
-  pub tuples_long : AreLong R (rows_in M) → Each p.tuples (λ (t : Tuple). length t ≡ length (exported d))
+  pub tuples_long : TuplesFitRules R (rows_of_matches M) → Each p.tuples (λ (t : Tuple). length t ≡ length (exported d))
   tuples_long long t m =
       subst (λ (x : Rule). length t ≡ length (exported x)) (sym (rule_here R i d h is))
       (long i h t (subst (λ (ts : List Tuple). t ∈ ts) places_here m))
 
-  pub tuples_few : Each (rows_in M) (λ (ts : List Tuple). length ts < 2 ^ 32) → length p.tuples < 2 ^ 32
+  pub tuples_few : Each (rows_of_matches M) (λ (ts : List Tuple). length ts < 2 ^ 32) → length p.tuples < 2 ^ 32
   tuples_few few =
-      let long : length (rows_in M) ≡ length M.rules = length-map M.rules (λ (x : Places). x.tuples) in
+      let long : length (rows_of_matches M) ≡ length M.rules = length-map M.rules (λ (x : Places). x.tuples) in
       subst (λ (ts : List Tuple). length ts < 2 ^ 32) (sym places_here)
-      (few (get_or (rows_in M) i []) (in_at (rows_in M) i [] (omega (arith, h, many, long))))
+      (few (get_or (rows_of_matches M) i []) (in_at (rows_of_matches M) i [] (omega (arith, h, many, long))))
 
 -- ---- tuples are long, and few
 
-pub are_long : (convert : Conversions) (R : List Rule) (I : List Fact) (rows : Rows) → AreRows convert R I rows → AreLong R rows
+pub are_long : (convert : Conversions) (R : List Rule) (I : List Fact) (rows : Rows) → AreRows convert R I rows → TuplesFitRules R rows
 are_long convert R I rows a i h t m =
     let w = ((rows_are convert R I rows i a h).exact t).0 m in
     ap length w.2 ∙ length-map (exported (rule_at R i)) w.0

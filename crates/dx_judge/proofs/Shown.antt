@@ -26,26 +26,26 @@ use Rattle.dx_core.specs.Reducing.{IsReduction}
 use Rattle.dx_judge.specs.declared.verdict.Why.{Why}
 use Rattle.dx_judge.specs.declared.verdict.Verdict.{Verdict}
 use Rattle.dx_judge.specs.declared.verdict.Verdict.TheVariants as verdicts
-use Rattle.dx_judge.specs.Open.{IsFault, IsKeyOrLink}
+use Rattle.dx_judge.specs.Open.{IsFirstReason, IsKeyOrLink}
 use Rattle.dx_judge.specs.Parts.{IsChasedOf, IsSolutionVerdict, IsUniversalOne}
 use Rattle.dx_stages.specs.Worlds.{World}
 use Rattle.dx_tgd.specs.declared.fault.CanonFault.{CanonFault}
 use Rattle.dx_tgd.specs.declared.fault.CanonFault.TheVariants as canon
 use Rattle.dx_tgd.specs.Counting.{canonical_cells}
-use Rattle.dx_tgd.specs.Found.{IsRefusal}
+use Rattle.dx_tgd.specs.Found.{IsCanonicalRefusal}
 use Rattle.dx_judge.specs.declared.fault.JudgeFault.TheVariants as faults
-use Rattle.dx_judge.specs.Faults.{of_canonical}
-use Rattle.dx_judge.specs.Verdicts.{HasNone, IsJudgement, IsReason, IsVerdict, Judged, PlaceHolds}
+use Rattle.dx_judge.specs.Faults.{judge_fault_of}
+use Rattle.dx_judge.specs.Verdicts.{HasNoVerdict, IsJudgement, IsReason, IsVerdict, JudgeInput, PlaceHolds}
 use Rattle.dx_judge.proofs.Members.{verdict_by_members}
 use Rattle.dx_judge.proofs.Deciding.{rules_hold_by}
 
 -- what is judged, with the facts of a stored instance
-abbrev pub judged : List Rule → List Table → List Fact → List TableRows → ℕ → Judged
+abbrev pub judged : List Rule → List Table → List Fact → List TableRows → ℕ → JudgeInput
 judged R schema I G limit = record { rules = R; schema = schema; rows = I; given = facts G; limit = limit }
 
 module _ (convert : Conversions) (R : List Rule) (schema : List Table) (I : List Fact) (rows : Rows) (are : AreRows convert R I rows)
     (G : List TableRows) (limit : ℕ) where
-  abbrev a : Judged
+  abbrev a : JudgeInput
   a = judged R schema I G limit
 
   abbrev AllHold : Type 0
@@ -74,12 +74,12 @@ module _ (convert : Conversions) (R : List Rule) (schema : List Table) (I : List
       })
 
   -- a reason that was found is one
-  pub is_reason : ((t : ℕ) → RowsAscend (rows_of G t)) → (w : Why) → IsFault R rows schema G (Some w) → IsReason convert a w
+  pub is_reason : ((t : ℕ) → RowsAscend (rows_of G t)) → (w : Why) → IsFirstReason R rows schema G (Some w) → IsReason convert a w
   is_reason ascend w (inl p) = subst (IsReason convert a) (sym p.2) (record { rows = rows; are = are; first = p.1 })
   is_reason ascend w (inr k) = key_or_link ascend k.0 w k.1
 
   -- if none was found, it is a solution
-  pub is_solution : IsInstance schema (facts G) → IsFault R rows schema G None → IsSolution convert R schema I (facts G)
+  pub is_solution : IsInstance schema (facts G) → IsFirstReason R rows schema G None → IsSolution convert R schema I (facts G)
   is_solution fits k = record {
     fits = fits;
     rules = rules_hold_by convert R I (facts G) rows are k.0;
@@ -154,8 +154,8 @@ as_given convert R schema I G S limit v s r =
     verdict_by_members convert (judged R schema I S limit) (facts G) v (sorting_facts G S s) r
 
 -- a fault of the canonical instance is one of the judge
-pub canonical_refused : (convert : Conversions) (a : Judged) (f : CanonFault) → IsRefusal convert a.rules a.rows a.limit f
-    → (of_canonical f ≡ faults.Memory) ⊎ (World → HasNone convert a (of_canonical f))
+pub canonical_refused : (convert : Conversions) (a : JudgeInput) (f : CanonFault) → IsCanonicalRefusal convert a.rules a.rows a.limit f
+    → (judge_fault_of f ≡ faults.Memory) ⊎ (World → HasNoVerdict convert a (judge_fault_of f))
 canonical_refused convert a (canon.Limit l) k = inr (λ world. k)
 canonical_refused convert a canon.Memory k = inl refl
 

@@ -14,11 +14,6 @@ use Rattle.dx_solver.specs.declared.atom.Term.TheVariants.{Number, Variable}
 use Rattle.dx_solver.specs.declared.atom.PatternAtom.{PatternAtom}
 use Rattle.dx_judge.specs.Turned.{fact_turned}
 
--- the fact has a table of the instance, and its width
-pub record FitsIn (I : List TableRows) (f : Fact) : Type 0 where
-  pub table : f.table < length I
-  pub width : length f.row ≡ (table_at I f.table).width
-
 -- the first place of a null in a list, or how many nulls there are
 abbrev pub place_in : List NullId → NullId → ℕ
 place_in [] n = zero

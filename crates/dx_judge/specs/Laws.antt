@@ -17,19 +17,19 @@ use Rattle.dx_judge.specs.declared.verdict.Why.TheVariants as whys
 use Rattle.dx_judge.specs.declared.verdict.Verdict.{Verdict}
 use Rattle.dx_judge.specs.declared.verdict.Verdict.TheVariants as verdicts
 use Rattle.dx_judge.specs.declared.fault.JudgeFault.{JudgeFault}
-use Rattle.dx_judge.specs.Verdicts.{IsVerdict, Judged, judging}
+use Rattle.dx_judge.specs.Verdicts.{IsVerdict, JudgeInput, judging}
 
 -- what a verdict says of what is given
-abbrev pub Says : Conversions → Judged → Verdict → Type 0
-Says convert a (verdicts.NotSolution why) = ¬ (IsSolution convert a.rules a.schema a.rows a.given)
-Says convert a (verdicts.Solution other) =
+abbrev pub VerdictSays : Conversions → JudgeInput → Verdict → Type 0
+VerdictSays convert a (verdicts.NotSolution why) = ¬ (IsSolution convert a.rules a.schema a.rows a.given)
+VerdictSays convert a (verdicts.Solution other) =
     IsSolution convert a.rules a.schema a.rows a.given × (¬ (IsUniversal convert a.rules a.schema a.rows a.given))
-Says convert a (verdicts.Universal map missed) = IsUniversal convert a.rules a.schema a.rows a.given × (¬ (IsCore a.given))
-Says convert a verdicts.Core = IsUniversal convert a.rules a.schema a.rows a.given × IsCore a.given
+VerdictSays convert a (verdicts.Universal map missed) = IsUniversal convert a.rules a.schema a.rows a.given × (¬ (IsCore a.given))
+VerdictSays convert a verdicts.Core = IsUniversal convert a.rules a.schema a.rows a.given × IsCore a.given
 
 -- a verdict says it truly
 abbrev pub VerdictsSay : Type 0
-VerdictsSay = (convert : Conversions) (a : Judged) (v : Verdict) → IsVerdict convert a v → Says convert a v
+VerdictsSay = (convert : Conversions) (a : JudgeInput) (v : Verdict) → IsVerdict convert a v → VerdictSays convert a v
 
 -- reasons of one place of a rule, of one determination of a table, of one link of a table
 abbrev pub AreOneWhy : Why → Why → Type 0
@@ -48,29 +48,29 @@ AreOneKind _ _ = ⊥
 
 -- two verdicts on one instance are of one kind
 abbrev pub VerdictsAreOne : Type 0
-VerdictsAreOne = (convert : Conversions) (a : Judged) (v w : Verdict) → IsVerdict convert a v → IsVerdict convert a w → AreOneKind v w
+VerdictsAreOne = (convert : Conversions) (a : JudgeInput) (v w : Verdict) → IsVerdict convert a v → IsVerdict convert a w → AreOneKind v w
 
 -- rules that fit, and an instance of the target's schema
-pub record IsAsked (list : List Conversion) (source : List Table) (a : Judged) : Type 0 where
+pub record InputFits (list : List Conversion) (source : List Table) (a : JudgeInput) : Type 0 where
   pub fits : Fits list a.rules source a.schema
   pub given_fits : IsInstance a.schema a.given
 
 -- each instance of the target's schema has a verdict
 abbrev pub EachHasVerdict : Type 0
 EachHasVerdict =
-    (convert : Conversions) (list : List Conversion) (source : List Table) (a : Judged)
-    → IsAsked list source a → (v : Verdict) × IsVerdict convert a v
+    (convert : Conversions) (list : List Conversion) (source : List Table) (a : JudgeInput)
+    → InputFits list source a → (v : Verdict) × IsVerdict convert a v
 
 -- what counts of an instance that is judged are its members
 abbrev pub VerdictByMembers : Type 0
 VerdictByMembers =
-    (convert : Conversions) (a : Judged) (K : List Fact) (v : Verdict)
+    (convert : Conversions) (a : JudgeInput) (K : List Fact) (v : Verdict)
     → a.given ≈ K → IsVerdict convert a v → IsVerdict convert (record a { given = K }) v
 
 -- what counts of the source rows are the rows of the rules on them
 abbrev pub VerdictByMatches : Type 0
 VerdictByMatches =
-    (convert : Conversions) (a : Judged) (J : List Fact) (rows : Rows) (v : Verdict)
+    (convert : Conversions) (a : JudgeInput) (J : List Fact) (rows : Rows) (v : Verdict)
     → AreRows convert a.rules a.rows rows → AreRows convert a.rules J rows → IsVerdict convert a v → IsVerdict convert (record a { rows = J }) v
 
 -- the canonical instance of a solution has no clash: some instance in which keys hold receives it
@@ -80,10 +80,10 @@ NoClash =
     → AreRows convert R I rows → IsSolution convert R schema I K → ¬ (NoneReceives schema (canonical 0 R rows))
 
 -- two reasons why there is no verdict are one
-abbrev pub AreAlike : JudgeFault → JudgeFault → Type 0
-AreAlike e f = e ≡ f
+abbrev pub AreSameFault : JudgeFault → JudgeFault → Type 0
+AreSameFault e f = e ≡ f
 
 -- what fits is judged, or the canonical cells pass the limit, and never both
 abbrev pub JudgedOrLimit : Type 0
 JudgedOrLimit =
-    (convert : Conversions) (list : List Conversion) (source : List Table) → IsDecided AreAlike (IsAsked list source) (judging convert)
+    (convert : Conversions) (list : List Conversion) (source : List Table) → IsDecided AreSameFault (InputFits list source) (judging convert)

@@ -12,14 +12,14 @@ abbrev pub IsTurnedOne : Turned → Type 0
 IsTurnedOne t = IsTurned t.plain.now t.orders.items t.instance
 
 -- the columns of a table with this width, in some order
-pub record IsOrder (width : ℕ) (order : List ℕ) : Type 0 where
+pub record IsColumnOrder (width : ℕ) (order : List ℕ) : Type 0 where
   pub long : length order ≡ width
   pub exactly : (c : ℕ) → (c ∈ order) ↔ (c < width)
 
 -- for each table its columns in some order
 pub record AreOrdersOf (ts : List NumberTable) (orders : List (List ℕ)) : Type 0 where
   pub many : length orders ≡ length ts
-  pub each : (t : ℕ) → t < length ts → IsOrder (numbers_of_table ts t).width (order_at orders t)
+  pub each : (t : ℕ) → t < length ts → IsColumnOrder (numbers_of_table ts t).width (order_at orders t)
 
 -- the numbers of a row in this order
 abbrev pub row_turned : List ℕ → List ℕ → List ℕ

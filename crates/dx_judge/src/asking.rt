@@ -5,9 +5,9 @@ ghost use Rattle.dx_ports.specs.Members.{◌∈◌, Each};
 ghost use Rattle.dx_model.specs.declared.values.NullId.{NullId as Id};
 ghost use Rattle.dx_model.specs.declared.values.Value.TheVariants.{Null};
 ghost use Rattle.dx_model.specs.Tables.{values_in};
-ghost use Rattle.dx_model.specs.Values.{NullsAscend};
-ghost use Rattle.dx_blocks.specs.Nulls.{AreKnown, null_at};
-ghost use Rattle.dx_solver.specs.Questions.{FitsAtom, Stands};
+ghost use Rattle.dx_model.specs.Values.{NullsAscend, null_at};
+ghost use Rattle.dx_blocks.specs.Nulls.{AreKnown};
+ghost use Rattle.dx_solver.specs.Questions.{FitsAtom, HasImageRow};
 ghost use Rattle.dx_judge.specs.Asking.{HasStranger, HasStrangerIn, IsStranger, SaysTurned, SaysValue, place_in};
 ghost use Rattle.dx_judge.specs.Turned.{CanTurn};
 
@@ -139,7 +139,7 @@ pub(crate) fn can_stand(
     count: usize,
 ) -> Result<bool, AllocError>
     requires { Each atoms.now (FitsAtom numbers.now.tables count) }
-    ensures { IfOk result (λ b. IsTrue b ↔ ((a : ℕ → ℕ) × Each atoms.now (Stands numbers.now.tables [] a))) }
+    ensures { IfOk result (λ b. IsTrue b ↔ ((a : ℕ → ℕ) × Each atoms.now (HasImageRow numbers.now.tables [] a))) }
 {
     let known = nothing_known(alloc, count)?;
     let taken = Taken::none(alloc);

@@ -1,8 +1,7 @@
 // Whether facts move into an instance.
 ghost use Rattle.std.specs.Prelude.{◌↔◌, IfOk, IsTrue};
 ghost use Rattle.dx_ports.specs.Members.{◌⊆◌, Each};
-ghost use Rattle.dx_instance.specs.Stored.{facts};
-ghost use Rattle.dx_judge.specs.Asking.{FitsIn};
+ghost use Rattle.dx_instance.specs.Stored.{facts, HasTableIn};
 ghost use Rattle.dx_judge.specs.Open.{CanMove, IsGround};
 ghost use Rattle.dx_judge.specs.Turning.{IsTurnedOne};
 
@@ -39,7 +38,7 @@ fn are_ground(from: &[Fact]) -> bool
 
 // Whether each of the facts is in the instance.
 fn are_there(from: &[Fact], into: &Instance) -> bool
-    requires { Each from.now (FitsIn into.now) }
+    requires { Each from.now (HasTableIn into.now) }
     ensures { IsTrue result ↔ (from.now ⊆ facts into.now) }
 {
     for fact in from {
@@ -52,7 +51,7 @@ fn are_there(from: &[Fact], into: &Instance) -> bool
 
 // Whether something moves these facts into the instance, by the solver.
 fn is_solved(alloc: Global, from: &[Fact], into: &Turned<'_>) -> Result<bool, AllocError>
-    requires fit { Each from.now (FitsIn into.now.plain.now) }
+    requires fit { Each from.now (HasTableIn into.now.plain.now) }
     requires turned { IsTurnedOne into.now }
     ensures { IfOk result (λ can. IsTrue can ↔ CanMove from.now (facts into.now.plain.now)) }
 {
@@ -78,7 +77,7 @@ pub(crate) fn moves_into(
     from: &[Fact],
     into: &Turned<'_>,
 ) -> Result<bool, AllocError>
-    requires fit { Each from.now (FitsIn into.now.plain.now) }
+    requires fit { Each from.now (HasTableIn into.now.plain.now) }
     requires turned { IsTurnedOne into.now }
     ensures { IfOk result (λ can. IsTrue can ↔ CanMove from.now (facts into.now.plain.now)) }
 {

@@ -4,9 +4,9 @@ ghost use Rattle.dx_ports.specs.Members.{Each};
 ghost use Rattle.dx_model.specs.Fitting.{AtomsFitWidths};
 ghost use Rattle.dx_model.specs.Rules.{exported as exported_of};
 ghost use Rattle.dx_instance.specs.Stored.{facts, widths};
-ghost use Rattle.dx_tgd.specs.Counting.{rows_in};
+ghost use Rattle.dx_model.specs.Matches.{rows_of_matches};
 ghost use Rattle.dx_judge.specs.Turning.{IsTurnedOne};
-ghost use Rattle.dx_judge.specs.Open.{AreLong, IsFirstOpen, IsFirstTuple, TupleHolds};
+ghost use Rattle.dx_judge.specs.Open.{TuplesFitRules, IsFirstOpen, IsFirstTuple, TupleHolds};
 
 use crate::moving::moves_into;
 use crate::saying::facts_said;
@@ -78,10 +78,10 @@ pub(crate) fn first_open(
     requires conclusions { Each rules.now (λ d. AtomsFitWidths (widths given.now.plain.now) d.conclusion) }
     requires turned { IsTurnedOne given.now }
     requires many { length matches.now.rules ≡ length rules.now }
-    requires long { AreLong rules.now (rows_in matches.now) }
+    requires long { TuplesFitRules rules.now (rows_of_matches matches.now) }
     requires few_rules { length rules.now < 2 ^ 32 }
-    requires few { Each (rows_in matches.now) (λ ts. length ts < 2 ^ 32) }
-    ensures { IfOk result (IsFirstOpen rules.now (rows_in matches.now) (facts given.now.plain.now)) }
+    requires few { Each (rows_of_matches matches.now) (λ ts. length ts < 2 ^ 32) }
+    ensures { IfOk result (IsFirstOpen rules.now (rows_of_matches matches.now) (facts given.now.plain.now)) }
 {
     for i in 0..rules.len() {
         let places = &matches.rules.items()[i];

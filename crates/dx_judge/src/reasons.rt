@@ -6,8 +6,8 @@ ghost use Rattle.dx_model.specs.Values.{RowsAscend};
 ghost use Rattle.dx_schema.specs.Tables.{model_tables, schema_widths};
 ghost use Rattle.dx_instance.specs.Stored.{facts, rows_of, widths};
 ghost use Rattle.dx_fails.specs.Shown.{IsBrokenKey, IsLoneRow};
-ghost use Rattle.dx_tgd.specs.Counting.{rows_in};
-ghost use Rattle.dx_judge.specs.Open.{AreLong, IsFault, IsKeyFault, IsKeyOrLink, IsLinkFault};
+ghost use Rattle.dx_model.specs.Matches.{rows_of_matches};
+ghost use Rattle.dx_judge.specs.Open.{TuplesFitRules, IsFirstReason, IsKeyFault, IsKeyOrLink, IsLinkFault};
 
 use crate::opening::first_open;
 use crate::turning::turn;
@@ -76,10 +76,10 @@ pub(crate) fn reason(
     requires widths { widths given.now ≡ schema_widths target.now }
     requires conclusions { Each rules.now (λ d. AtomsFitWidths (widths given.now) d.conclusion) }
     requires many { length matches.now.rules ≡ length rules.now }
-    requires long { AreLong rules.now (rows_in matches.now) }
+    requires long { TuplesFitRules rules.now (rows_of_matches matches.now) }
     requires few_rules { length rules.now < 2 ^ 32 }
-    requires few { Each (rows_in matches.now) (λ ts. length ts < 2 ^ 32) }
-    ensures { IfOk result (IsFault rules.now (rows_in matches.now) (model_tables target.now) given.now) }
+    requires few { Each (rows_of_matches matches.now) (λ ts. length ts < 2 ^ 32) }
+    ensures { IfOk result (IsFirstReason rules.now (rows_of_matches matches.now) (model_tables target.now) given.now) }
 {
     let turned = turn(alloc, given)?;
     if let Some(open) = first_open(alloc, rules, matches, &turned)? {

@@ -2,7 +2,7 @@
 ghost use Rattle.std.specs.Prelude.{◌≡◌, ◌<◌, IfOk, OnOk, length};
 ghost use Rattle.dx_ports.specs.Members.{Each};
 ghost use Rattle.dx_instance.specs.Shown.{numbers_of_table};
-ghost use Rattle.dx_judge.specs.Turning.{AreOrdersOf, AreTablesTurned, IsOrder, IsTableTurned, IsTurnedOne, row_turned};
+ghost use Rattle.dx_judge.specs.Turning.{AreOrdersOf, AreTablesTurned, IsColumnOrder, IsTableTurned, IsTurnedOne, row_turned};
 
 use dx_instance::{Instance, Numbers, Rows};
 use dx_ports::Items;
@@ -43,7 +43,7 @@ fn order_of(
     met: &mut [u32],
 ) -> Result<Items<u32>, AllocError>
     requires { table < length numbers.now.tables }
-    ensures { IfOk result (IsOrder (numbers_of_table numbers.now.tables table).width) }
+    ensures { IfOk result (IsColumnOrder (numbers_of_table numbers.now.tables table).width) }
 {
     met.fill(u32::MAX);
     let width = numbers.width(table);

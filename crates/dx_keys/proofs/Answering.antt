@@ -12,7 +12,7 @@ use Rattle.dx_model.specs.declared.values.Value.{Value}
 use Rattle.dx_model.specs.declared.values.Value.TheVariants.{Const, Null}
 use Rattle.dx_model.specs.declared.facts.Fact.{Fact}
 use Rattle.dx_model.specs.declared.facts.NullPair.{NullPair}
-use Rattle.dx_model.specs.Tables.{Determination, DeterminationsFit, FactFits, IsInstance, Table, cell, table_of}
+use Rattle.dx_model.specs.Tables.{Determination, DeterminationsFit, FactFits, IsInstance, Table, cell, table_of, determination_at, fact_of_row}
 use Rattle.dx_model.specs.Instances.{given, image, moved}
 use Rattle.dx_model.specs.Values.{row_cmp, value_cmp}
 use Rattle.dx_model.specs.Chase.{after, IsClashAt}
@@ -32,15 +32,15 @@ use Rattle.dx_instance.proofs.LawFacts.{facts_fit}
 use Rattle.dx_instance.proofs.SortFacts.{instance_maps}
 use Rattle.dx_instance.proofs.StoredFacts.{fact_from_row, fact_table, row_from_fact}
 use Rattle.dx_chase.specs.declared.demands.ClashAt.{ClashAt}
-use Rattle.dx_chase.specs.Tables.{NumberTable}
+use Rattle.dx_chase.specs.Tables.{ChaseTable}
 use Rattle.dx_chase.specs.declared.rows.RowsChased.{RowsChased}
 use Rattle.dx_chase.specs.Boards.{firsts}
-use Rattle.dx_chase.specs.Joins.{IsChased as IsChasedByNumber, AllFit, IsClash as IsClashByNumber, at, demand_at}
-use Rattle.dx_chase.specs.Rows.{AreBelow, AreRowDemands, ColumnsFit, InRows, columns_at, row_at, table_at}
+use Rattle.dx_chase.specs.Joins.{IsNumberChase as IsChasedByNumber, AllFit, IsClashOfDemands as IsClashByNumber, nth, demand_at}
+use Rattle.dx_chase.specs.Rows.{TablesAreBelow, AreRowDemands, ColumnsFit, InRows, determination_columns, number_row, number_table}
 use Rattle.dx_keys.specs.declared.answers.Clash.{Clash}
 use Rattle.dx_keys.specs.declared.numbering.Numbering.{Numbering}
-use Rattle.dx_keys.specs.Answers.{IsChased, IsClash, determination_at, fact_in}
-use Rattle.dx_keys.specs.Numbers.{AreRoots, AreTablesIn, AreValues, CanRead, IsRead, Numbered, determination_of, map_of, row_read}
+use Rattle.dx_keys.specs.Answers.{IsChased, IsClash}
+use Rattle.dx_keys.specs.Numbers.{AreNumberRoots, AreTablesIn, AreValues, CanRead, IsClashByValues, IsNumberedInstance, determination_of, null_map_of, row_read}
 use Rattle.dx_keys.proofs.Demanding.{AreTablesOf, IsRowChase, IsRowClash, IsRowMap, determination_in, fact_of}
 use Rattle.dx_keys.proofs.Whole.{row_chase}
 use Rattle.dx_keys.proofs.EndsAnswered.{clash_turned}
@@ -79,12 +79,12 @@ less_of x y g d = by (row_cmp x y) refl
 
 -- ---- tables of numbers
 
-module _ (schema : List Table) (I : List TableRows) (S : List Value) (ts : List TableOfNumbers) (tables : List NumberTable) (W : widths I ≡ map (λ (t : Table). t.width) schema)
+module _ (schema : List Table) (I : List TableRows) (S : List Value) (ts : List TableOfNumbers) (tables : List ChaseTable) (W : widths I ≡ map (λ (t : Table). t.width) schema)
     (L : Each I (λ (t : TableRows). Each t.rows (λ (row : List Value). length row ≡ t.width))) (E : shown_tables S ts ≡ I) (P : PartsFit S ts) (T : AreTablesIn schema ts tables) where
   fits : IsInstance schema (facts I)
   fits = facts_fit schema I W L
 
-  rows_are : (t : ℕ) → t < length tables → rows_of I t ≡ map (shown_row S) (table_at tables t).rows
+  rows_are : (t : ℕ) → t < length tables → rows_of I t ≡ map (shown_row S) (number_table tables t).rows
   rows_are t h =
       ap (λ (J : List TableRows). rows_of J t) (sym E)
       ∙ (ap (λ (u : TableRows). u.rows) (get_or-map (shown S) ts t _ _ (let m = T.many in omega arith)) ∙ ap (map (shown_row S)) (sym (T.rows_are t h)))
@@ -92,21 +92,21 @@ module _ (schema : List Table) (I : List TableRows) (S : List Value) (ts : List 
   pub are_tables : AreTablesOf schema S (facts I) tables
   are_tables = record {
     determinations = λ t h. sym (T.determined t h);
-    rows = λ t r h k. fact_from_row I t _ (subst (λ (rs : List (List Value)). shown_row S (row_at tables t r) ∈ rs) (sym (rows_are t h)) (in_map (shown_row S) (in_at (table_at tables t).rows r [] k)));
+    rows = λ t r h k. fact_from_row I t _ (subst (λ (rs : List (List Value)). shown_row S (number_row tables t r) ∈ rs) (sym (rows_are t h)) (in_map (shown_row S) (in_at (number_table tables t).rows r [] k)));
     facts = λ a m.
         let h : a.table < length tables = (let k = fact_table I a m in let e = T.many in let l = ap length E in let n = length-map ts (shown S) in omega arith) in
-        let f = from_map (shown_row S) (table_at tables a.table).rows (rw (rows_are a.table h) at (row_from_fact I a m)) in
-        let p = place_of (table_at tables a.table).rows f.0 f.1 in
-        let e : map (cell S) (row_at tables a.table p.0) ≡ a.row = ap (shown_row S) p.2 ∙ f.2 in
+        let f = from_map (shown_row S) (number_table tables a.table).rows (rw (rows_are a.table h) at (row_from_fact I a m)) in
+        let p = place_of (number_table tables a.table).rows f.0 f.1 in
+        let e : map (cell S) (number_row tables a.table p.0) ≡ a.row = ap (shown_row S) p.2 ∙ f.2 in
         (p.0, h, p.1, λ i. record { table = a.table; row = e i });
   }
 
   module _ (Dt : DeterminationsFit schema) where
-    column_fits : (t c r : ℕ) → InRows tables t c r → (determination_of (columns_at tables t c) ∈ (table_of schema t).determinations) × (length (row_at tables t r) ≡ (table_of schema t).width) × (table_of schema t ∈ schema)
+    column_fits : (t c r : ℕ) → InRows tables t c r → (determination_of (determination_columns tables t c) ∈ (table_of schema t).determinations) × (length (number_row tables t r) ≡ (table_of schema t).width) × (table_of schema t ∈ schema)
     column_fits t c r Q =
-        let F : FactFits schema (fact_of S t (row_at tables t r)) = fits _ (are_tables.rows t r Q.table Q.row) in (
-          subst (λ (ds : List Determination). determination_of (columns_at tables t c) ∈ ds) (T.determined t Q.table) (in_map determination_of (in_at (table_at tables t).determinations c _ Q.determination)),
-          sym (length-map (row_at tables t r) (cell S)) ∙ F.width,
+        let F : FactFits schema (fact_of S t (number_row tables t r)) = fits _ (are_tables.rows t r Q.table Q.row) in (
+          subst (λ (ds : List Determination). determination_of (determination_columns tables t c) ∈ ds) (T.determined t Q.table) (in_map determination_of (in_at (number_table tables t).determinations c _ Q.determination)),
+          sym (length-map (number_row tables t r) (cell S)) ∙ F.width,
           in_at schema t _ F.table,
         )
 
@@ -116,13 +116,13 @@ module _ (schema : List Table) (I : List TableRows) (S : List Value) (ts : List 
       right = λ t c r Q k m. let w = column_fits t c r Q in let h = (Dt _ w.2 _ w.0).1 k m in let e = w.1 in omega arith;
     }
 
-  pub are_below : AreBelow (length S) tables
+  pub are_below : TablesAreBelow (length S) tables
   are_below t r h k v m =
       let e = T.rows_are t h in
       let l : t < length ts = (let q = T.many in omega arith) in
       let w = (P.each (numbers_of_table ts t) (in_at ts t _ l)).within in
-      let z = subst (λ (rs : List (List ℕ)). row_at tables t r ∈ rs) e (in_at (table_at tables t).rows r [] k) in
-      w (row_at tables t r) z v m
+      let z = subst (λ (rs : List (List ℕ)). number_row tables t r ∈ rs) e (in_at (number_table tables t).rows r [] k) in
+      w (number_row tables t r) z v m
 
   -- ---- the chase of them
 
@@ -130,11 +130,11 @@ module _ (schema : List Table) (I : List TableRows) (S : List Value) (ts : List 
     chased : IsRowChase schema S (facts I) tables c
     chased = row_chase schema S consts (facts I) tables c fits V (columns_fit Dt) are_below are_tables R X
 
-    module _ (none : c.chased.clash ≡ None) (m : ByNull) (K : List TableRows) (G : pairs_of m ≡ map_of S c.chased.roots) (Z : IsSorting (shown_tables S (map (renumbered c.chased.roots) ts)) K) where
+    module _ (none : c.chased.clash ≡ None) (m : ByNull) (K : List TableRows) (G : pairs_of m ≡ null_map_of S c.chased.roots) (Z : IsSorting (shown_tables S (map (renumbered c.chased.roots) ts)) K) where
       is_map : IsRowMap schema S (facts I) c
       is_map = fits_of (IsRowMap schema S (facts I) c) (IsRowClash schema S (facts I) tables c) c.chased.clash none chased.ends
 
-      moved_by : (v : Value) → moved (becomes m) v ≡ moved (given (map_of S c.chased.roots)) v
+      moved_by : (v : Value) → moved (becomes m) v ≡ moved (given (null_map_of S c.chased.roots)) v
       moved_by (Const t) = refl
       moved_by (Null n) = sym (pairs_give m n) ∙ ap (λ (ps : List NullPair). given ps n) G
 
@@ -167,41 +167,41 @@ module _ (schema : List Table) (I : List TableRows) (S : List Value) (ts : List 
         column_in = by_number.asks.inside;
       }
 
-      module _ (k : Clash) (Z : IsRead S tables c p k) where
+      module _ (k : Clash) (Z : IsClashByValues S tables c p k) where
         is_clash : IsRowClash schema S (facts I) tables c p
         is_clash = clash_of (IsRowMap schema S (facts I) c) (IsRowClash schema S (facts I) tables c) c.chased.clash p some chased.ends
 
         in_rows : InRows tables (demand_at c.demands p.one).table (demand_at c.demands p.one).determination (demand_at c.demands p.one).row
         in_rows = (R.from _ (in_at c.demands p.one _ by_number.asks.alike.one)).inside
 
-        keys_are : (table_of schema k.table).determinations ≡ map determination_of (table_at tables (demand_at c.demands p.one).table).determinations
+        keys_are : (table_of schema k.table).determinations ≡ map determination_of (number_table tables (demand_at c.demands p.one).table).determinations
         keys_are = ap (λ t. (table_of schema t).determinations) Z.table_is ∙ sym (T.determined _ in_rows.table)
 
         determination_is : determination_in tables (demand_at c.demands p.one) ≡ determination_at schema k.table k.key
         determination_is =
             sym (ap (λ (ds : List Determination). get_or ds k.key (record { left = []; right = [] })) keys_are
-            ∙ (ap (λ n. get_or (map determination_of (table_at tables (demand_at c.demands p.one).table).determinations) n (record { left = []; right = [] })) Z.key_is
-            ∙ get_or-map determination_of (table_at tables (demand_at c.demands p.one).table).determinations (demand_at c.demands p.one).determination _ _ in_rows.determination))
+            ∙ (ap (λ n. get_or (map determination_of (number_table tables (demand_at c.demands p.one).table).determinations) n (record { left = []; right = [] })) Z.key_is
+            ∙ get_or-map determination_of (number_table tables (demand_at c.demands p.one).table).determinations (demand_at c.demands p.one).determination _ _ in_rows.determination))
 
-        column_is : at (determination_in tables (demand_at c.demands p.one)).right p.column ≡ k.column
-        column_is = sym (Z.column_is ∙ (ap (λ t. at (columns_at tables t k.key).right p.column) Z.table_is ∙ ap (λ n. at (columns_at tables (demand_at c.demands p.one).table n).right p.column) Z.key_is))
+        column_is : nth (determination_in tables (demand_at c.demands p.one)).right p.column ≡ k.column
+        column_is = sym (Z.column_is ∙ (ap (λ t. nth (determination_columns tables t k.key).right p.column) Z.table_is ∙ ap (λ n. nth (determination_columns tables (demand_at c.demands p.one).table n).right p.column) Z.key_is))
 
-        in_order : IsClashAt schema (after k.steps (facts I)) (fact_in k.table (row_read S tables c.chased.roots (demand_at c.demands p.one)))
-            (fact_in k.table (row_read S tables c.chased.roots (demand_at c.demands p.other))) (determination_at schema k.table k.key) k.column
+        in_order : IsClashAt schema (after k.steps (facts I)) (fact_of_row k.table (row_read S tables c.chased.roots (demand_at c.demands p.one)))
+            (fact_of_row k.table (row_read S tables c.chased.roots (demand_at c.demands p.other))) (determination_at schema k.table k.key) k.column
         in_order = clash_moved schema _ _ _ _ _ _ _ _ _ _ (ap (λ (ss : List NullPair). after ss (facts I)) (sym Z.steps_are))
-            (ap (λ t. fact_in t (row_read S tables c.chased.roots (demand_at c.demands p.one))) (sym Z.table_is))
-            (ap (λ t. fact_in t (row_read S tables c.chased.roots (demand_at c.demands p.other))) (sym (Z.table_is ∙ is_clash.clash.break.table))) determination_is column_is is_clash.clash
+            (ap (λ t. fact_of_row t (row_read S tables c.chased.roots (demand_at c.demands p.one))) (sym Z.table_is))
+            (ap (λ t. fact_of_row t (row_read S tables c.chased.roots (demand_at c.demands p.other))) (sym (Z.table_is ∙ is_clash.clash.break.table))) determination_is column_is is_clash.clash
 
-        as_read : IsClashAt schema (after k.steps (facts I)) (fact_in k.table k.left) (fact_in k.table k.right) (determination_at schema k.table k.key) k.column
+        as_read : IsClashAt schema (after k.steps (facts I)) (fact_of_row k.table k.left) (fact_of_row k.table k.right) (determination_at schema k.table k.key) k.column
         as_read = elim Z.rows_are [
-          | inl q ↦ clash_moved schema _ _ _ _ _ _ _ _ _ _ refl (ap (fact_in k.table) (sym q.0)) (ap (fact_in k.table) (sym q.1)) refl refl in_order
-          | inr q ↦ clash_moved schema _ _ _ _ _ _ _ _ _ _ refl (ap (fact_in k.table) (sym q.0)) (ap (fact_in k.table) (sym q.1)) refl refl (clash_turned schema _ _ _ _ _ in_order)
+          | inl q ↦ clash_moved schema _ _ _ _ _ _ _ _ _ _ refl (ap (fact_of_row k.table) (sym q.0)) (ap (fact_of_row k.table) (sym q.1)) refl refl in_order
+          | inr q ↦ clash_moved schema _ _ _ _ _ _ _ _ _ _ refl (ap (fact_of_row k.table) (sym q.0)) (ap (fact_of_row k.table) (sym q.1)) refl refl (clash_turned schema _ _ _ _ _ in_order)
         ]
 
         pub is_answer : IsClash schema (facts I) k
         is_answer = record {
           steps = rw Z.steps_are chased.steps;
-          key = (let l = ap length keys_are in let n = length-map (table_at tables (demand_at c.demands p.one).table).determinations determination_of in let h = in_rows.determination in let e = Z.key_is in omega arith);
+          key = (let l = ap length keys_are in let n = length-map (number_table tables (demand_at c.demands p.one).table).determinations determination_of in let h = in_rows.determination in let e = Z.key_is in omega arith);
           clash = as_read;
           lesser = less_of k.left k.right Z.in_order (λ e. as_read.break.differ (ap (λ (row : List Value). cell row k.column) e));
           none = is_clash.none;
@@ -209,31 +209,31 @@ module _ (schema : List Table) (I : List TableRows) (S : List Value) (ts : List 
 
 -- ---- what stands when the rows are chased, and after it
 
-pub record Done (n : Numbering) (rows : List NumberTable) (c : RowsChased) : Type 0 where
+pub record Done (n : Numbering) (rows : List ChaseTable) (c : RowsChased) : Type 0 where
   pub demands : AreRowDemands rows c.demands
   pub ended : IsChasedByNumber (firsts (length n.symbols)) n.constants c.demands c.chased
 
-module _ (f : Forest) (I : List TableRows) (n : Numbering) (rows : List NumberTable) (N : Numbered f I n rows) where
+module _ (f : Forest) (I : List TableRows) (n : Numbering) (rows : List ChaseTable) (N : IsNumberedInstance f I n rows) where
   by_schema : widths I ≡ map (λ (t : Table). t.width) (model_tables f)
   by_schema = N.widths_are ∙ widths_agree f
 
   pub numbers_fit : ColumnsFit rows
   numbers_fit = columns_fit (model_tables f) I n.symbols n.tables.items rows by_schema N.wide N.numbering.is_shown N.numbering.parts N.listed N.determined
 
-  pub numbers_below : AreBelow (length n.symbols) rows
+  pub numbers_below : TablesAreBelow (length n.symbols) rows
   numbers_below = are_below (model_tables f) I n.symbols n.tables.items rows by_schema N.wide N.numbering.is_shown N.numbering.parts N.listed
 
   module _ (c : RowsChased) (D : Done n rows c) where
-    pub roots_are_read : AreRoots n.symbols c.chased.roots
+    pub roots_are_read : AreNumberRoots n.symbols c.chased.roots
     roots_are_read =
         (chased (model_tables f) I n.symbols n.tables.items rows by_schema N.wide N.numbering.is_shown N.numbering.parts N.listed n.constants c N.numbering.ordered N.determined D.demands D.ended).roots_are
 
-    pub map_answers : c.chased.clash ≡ None → (m : ByNull) (K : List TableRows) → pairs_of m ≡ map_of n.symbols c.chased.roots
+    pub map_answers : c.chased.clash ≡ None → (m : ByNull) (K : List TableRows) → pairs_of m ≡ null_map_of n.symbols c.chased.roots
         → IsSorting (shown_tables n.symbols (map (renumbered c.chased.roots) n.tables.items)) K → IsChased (model_tables f) I (record { instance = K; map = m })
     map_answers = is_chased (model_tables f) I n.symbols n.tables.items rows by_schema N.wide N.numbering.is_shown N.numbering.parts N.listed n.constants c N.numbering.ordered N.determined D.demands D.ended
 
     pub clash_can_be_read : (p : ClashAt) → c.chased.clash ≡ Some p → CanRead n.symbols rows c p
     clash_can_be_read = can_read (model_tables f) I n.symbols n.tables.items rows by_schema N.wide N.numbering.is_shown N.numbering.parts N.listed n.constants c N.numbering.ordered N.determined D.demands D.ended
 
-    pub clash_answers : (p : ClashAt) → c.chased.clash ≡ Some p → (k : Clash) → IsRead n.symbols rows c p k → IsClash (model_tables f) (facts I) k
+    pub clash_answers : (p : ClashAt) → c.chased.clash ≡ Some p → (k : Clash) → IsClashByValues n.symbols rows c p k → IsClash (model_tables f) (facts I) k
     clash_answers = is_answer (model_tables f) I n.symbols n.tables.items rows by_schema N.wide N.numbering.is_shown N.numbering.parts N.listed n.constants c N.numbering.ordered N.determined D.demands D.ended

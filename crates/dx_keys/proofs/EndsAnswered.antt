@@ -7,13 +7,13 @@ use Rattle.std.specs.declared.cmp.Ordering.TheVariants.{Less, Equal, Greater}
 use Rattle.std.proofs.lemmas.Cmp.{lists_total}
 use Rattle.dx_ports.specs.Members.{◌∈◌, here, there}
 use Rattle.dx_model.specs.declared.facts.Fact.{Fact}
-use Rattle.dx_model.specs.Tables.{Table, Determination, table_of, cell}
+use Rattle.dx_model.specs.Tables.{Table, Determination, table_of, cell, fact_of_row}
 use Rattle.dx_model.specs.Values.{row_cmp, value_cmp}
 use Rattle.dx_model.specs.Chase.{IsClashAt, after}
 use Rattle.dx_model.proofs.Orders.{value_total, value_exact, slice_exact}
 use Rattle.dx_model.proofs.Forced.{clash_after}
 use Rattle.dx_keys.specs.declared.answers.Clash.{Clash}
-use Rattle.dx_keys.specs.Answers.{IsClash, fact_in}
+use Rattle.dx_keys.specs.Answers.{IsClash}
 use Rattle.dx_keys.specs.Ends.{EndsInClash, ClashHasAnswer, EveryChaseAnswers}
 use Rattle.dx_keys.proofs.EndsFound.{turned}
 use Rattle.dx_keys.proofs.EndsReached.{every_chase_ends}
@@ -38,12 +38,12 @@ module _ (schema : List Table) (A : List Fact) where
       → (c : Clash) × IsClash schema A c
   answered E a b x less =
       let place = place_of E.d (record { left = []; right = [] }) (table_of schema a.table).determinations x.break.of_table in
-      let other : b ≡ fact_in a.table b.row = (λ i. record { table = sym x.break.table i; row = b.row }) in (
+      let other : b ≡ fact_of_row a.table b.row = (λ i. record { table = sym x.break.table i; row = b.row }) in (
         record { steps = E.steps; table = a.table; key = place.0; left = a.row; right = b.row; column = E.c },
         record {
           steps = E.are_steps;
           key = place.1;
-          clash = subst (λ d. IsClashAt schema (after E.steps A) (fact_in a.table a.row) (fact_in a.table b.row) d E.c) (sym place.2)
+          clash = subst (λ d. IsClashAt schema (after E.steps A) (fact_of_row a.table a.row) (fact_of_row a.table b.row) d E.c) (sym place.2)
               (subst (λ f. IsClashAt schema (after E.steps A) a f E.d E.c) other x);
           lesser = less;
           none = clash_after schema A E.steps a b E.d E.c E.are_steps x;

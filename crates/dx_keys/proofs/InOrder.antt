@@ -11,14 +11,15 @@ use Rattle.dx_model.specs.declared.values.NullId.{NullId}
 use Rattle.dx_model.specs.declared.values.Value.{Value}
 use Rattle.dx_model.specs.declared.values.Value.TheVariants.{Const, Null}
 use Rattle.dx_model.specs.Tables.{cell}
-use Rattle.dx_model.specs.Values.{Text, value_cmp}
+use Rattle.dx_model.specs.Values.{value_cmp}
+use Rattle.dx_ports.specs.Texts.{Text}
 use Rattle.dx_instance.specs.Cells.{NumberTable, numbers_at, with_numbers}
-use Rattle.dx_instance.specs.Numbers.{AreApart, IsOrdering, ValuesAscend, value_of}
-use Rattle.dx_instance.specs.Shown.{NumbersFit, PartsFit, RowsFit, renumbered, shown, shown_row, shown_tables}
+use Rattle.dx_instance.specs.Numbers.{AreDistinctValues, IsOrdering, ValuesAscend, value_of}
+use Rattle.dx_instance.specs.Shown.{NumbersFit, PartsFit, NumberRowsFit, renumbered, shown, shown_row, shown_tables}
 use Rattle.dx_instance.specs.Stored.{TableRows}
 use Rattle.dx_instance.proofs.NumberFacts.{self_equal}
 use Rattle.dx_instance.proofs.SortFacts.{images_fit, parts_rows, ranks_show}
-use Rattle.dx_chase.specs.Joins.{at}
+use Rattle.dx_chase.specs.Joins.{nth}
 use Rattle.dx_chase.proofs.Opening.{at_first}
 use Rattle.dx_keys.specs.Numbers.{AreValues}
 
@@ -82,7 +83,7 @@ pub rows_all : (t r : NumberTable) (p : ℕ) → length t.rows ≤ p → r ≡ f
 rows_all t r p h e = e ∙ with_rows t _ _ (take_all p t.rows h)
 
 -- numbers in order are apart
-pub apart : (S : List Value) → ValuesAscend S → AreApart S
+pub apart : (S : List Value) → ValuesAscend S → AreDistinctValues S
 apart S up i j d h k e = differ (sym (self_equal (get_or S i d)) ∙ (ap (value_cmp (get_or S i d)) e ∙ up i j d h k))
   where
     differ : Equal ≡ Less → ⊥
@@ -93,7 +94,7 @@ distinct_of S [] d = tt
 distinct_of S (r ∷ rows) d = ((λ m. d.0 (in_map (shown_row S) m)), distinct_of S rows d.1)
 
 -- what holds of tables that are shown holds of their numbers
-fits_of : (S : List Value) (t : NumberTable) → RowsFit (length S) t → Each (shown S t).rows (λ (r : List Value). length r ≡ t.width) → Distinct (shown S t).rows → length (shown S t).rows < 2 ^ 32
+fits_of : (S : List Value) (t : NumberTable) → NumberRowsFit (length S) t → Each (shown S t).rows (λ (r : List Value). length r ≡ t.width) → Distinct (shown S t).rows → length (shown S t).rows < 2 ^ 32
     → NumbersFit (length S) t
 fits_of S t f w d l = record {
   columns = f.columns;
@@ -103,7 +104,7 @@ fits_of S t f w d l = record {
   few = rw (length-map t.rows (shown_row S)) at l;
 }
 
-pub parts_of : (S : List Value) (ts : List NumberTable) (I : List TableRows) → ValuesAscend S → length S < 2 ^ 32 → Each ts (RowsFit (length S)) → shown_tables S ts ≡ I → length ts < 2 ^ 32 - 1
+pub parts_of : (S : List Value) (ts : List NumberTable) (I : List TableRows) → ValuesAscend S → length S < 2 ^ 32 → Each ts (NumberRowsFit (length S)) → shown_tables S ts ≡ I → length ts < 2 ^ 32 - 1
     → Each I (λ (t : TableRows). Each t.rows (λ (r : List Value). length r ≡ t.width)) → Each I (λ (t : TableRows). Distinct t.rows) → Each I (λ (t : TableRows). length t.rows < 2 ^ 32) → PartsFit S ts
 parts_of S ts I up small f e few w d l = record {
   apart = apart S up;
@@ -119,7 +120,7 @@ pub ranked_parts : (I : List TableRows) (S T : List Value) (ranks : List ℕ) (t
     → Each I (λ (t : TableRows). Each t.rows (λ (r : List Value). length r ≡ t.width)) → Each I (λ (t : TableRows). Distinct t.rows) → Each I (λ (t : TableRows). length t.rows < 2 ^ 32)
     → (shown_tables T us ≡ I) × PartsFit T us
 ranked_parts I S T ranks ts us o P e s w d l =
-    let below : (x : ℕ) → x < length S → at ranks x < length T = λ x h. let k = o.within x h in omega (arith, k) in
+    let below : (x : ℕ) → x < length S → nth ranks x < length T = λ x h. let k = o.within x h in omega (arith, k) in
     let fit = images_fit (length T) (length S) ranks ts below (parts_rows S ts P) in
     let is = ranks_show S T ranks ts o (parts_rows S ts P) ∙ s in
     let few : length (map (renumbered ranks) ts) < 2 ^ 32 - 1 = (let m = length-map ts (renumbered ranks) in let f = P.few in omega arith) in

@@ -4,12 +4,12 @@ use Rattle.std.proofs.lemmas.Bool.{cases_lt}
 use Rattle.std.proofs.lemmas.List.{get_or-map, get_or_append_left, get_or_push, length-append, length-map}
 use Rattle.dx_model.specs.Tables.{Table as Numbers, table_of}
 use Rattle.dx_schema.specs.Forest.{Forest}
-use Rattle.dx_schema.specs.Tables.{TableOf, as_numbers, determinations_of, model_tables, table_at as table_in, tables_of}
+use Rattle.dx_schema.specs.Tables.{TableOf, as_numbers, determinations_of, model_tables, schema_table as table_in, tables_of}
 use Rattle.dx_instance.specs.Cells.{NumberTable as TableOfNumbers}
 use Rattle.dx_instance.specs.Shown.{numbers_of_table, shown}
 use Rattle.dx_instance.specs.Stored.{TableRows}
-use Rattle.dx_chase.specs.Tables.{NumberTable}
-use Rattle.dx_chase.specs.Rows.{table_at}
+use Rattle.dx_chase.specs.Tables.{ChaseTable}
+use Rattle.dx_chase.specs.Rows.{number_table}
 use Rattle.dx_keys.specs.Numbers.{AreTablesIn, IsNumbered, determination_of}
 use Rattle.dx_keys.specs.declared.numbering.Numbering.{Numbering}
 
@@ -18,32 +18,32 @@ pub determinations_are : (f : Forest) (t : ℕ) → t < length (tables_of f) →
 determinations_are f t h = sym (ap (λ (x : Numbers). x.determinations) (get_or-map as_numbers (tables_of f) t _ _ h))
 
 -- the first n tables
-pub record AreFirst (schema : List Numbers) (rows : List TableOfNumbers) (n : ℕ) (tables : List NumberTable) : Type 0 where
+pub record AreFirst (schema : List Numbers) (rows : List TableOfNumbers) (n : ℕ) (tables : List ChaseTable) : Type 0 where
   pub many : length tables ≡ n
-  pub rows_are : (t : ℕ) → t < n → (table_at tables t).rows ≡ (numbers_of_table rows t).rows
-  pub determined : (t : ℕ) → t < n → map determination_of (table_at tables t).determinations ≡ (table_of schema t).determinations
+  pub rows_are : (t : ℕ) → t < n → (number_table tables t).rows ≡ (numbers_of_table rows t).rows
+  pub determined : (t : ℕ) → t < n → map determination_of (number_table tables t).determinations ≡ (table_of schema t).determinations
 
-pub first_more : (schema : List Numbers) (rows : List TableOfNumbers) (n : ℕ) (old new : List NumberTable) (x : NumberTable) → AreFirst schema rows n old → new ≡ old ++ x ∷ []
+pub first_more : (schema : List Numbers) (rows : List TableOfNumbers) (n : ℕ) (old new : List ChaseTable) (x : ChaseTable) → AreFirst schema rows n old → new ≡ old ++ x ∷ []
     → x.rows ≡ (numbers_of_table rows n).rows → map determination_of x.determinations ≡ (table_of schema n).determinations → AreFirst schema rows (n + 1) new
 first_more schema rows n old new x F e r d = rw e (record {
   many = (let q = length-append old (x ∷ []) in let m = F.many in omega arith);
   rows_are = λ t h. elim (cases_lt t n) [
-    | inl l ↦ ap (λ (z : NumberTable). z.rows) (before t l) ∙ F.rows_are t l
-    | inr l ↦ let q : n ≡ t = omega arith in ap (λ (z : NumberTable). z.rows) (last t q) ∙ (r ∙ ap (λ k. (numbers_of_table rows k).rows) q)
+    | inl l ↦ ap (λ (z : ChaseTable). z.rows) (before t l) ∙ F.rows_are t l
+    | inr l ↦ let q : n ≡ t = omega arith in ap (λ (z : ChaseTable). z.rows) (last t q) ∙ (r ∙ ap (λ k. (numbers_of_table rows k).rows) q)
   ];
   determined = λ t h. elim (cases_lt t n) [
-    | inl l ↦ ap (λ (z : NumberTable). map determination_of z.determinations) (before t l) ∙ F.determined t l
-    | inr l ↦ let q : n ≡ t = omega arith in ap (λ (z : NumberTable). map determination_of z.determinations) (last t q) ∙ (d ∙ ap (λ k. (table_of schema k).determinations) q)
+    | inl l ↦ ap (λ (z : ChaseTable). map determination_of z.determinations) (before t l) ∙ F.determined t l
+    | inr l ↦ let q : n ≡ t = omega arith in ap (λ (z : ChaseTable). map determination_of z.determinations) (last t q) ∙ (d ∙ ap (λ k. (table_of schema k).determinations) q)
   ];
 })
   where
-    before : (t : ℕ) → t < n → table_at (old ++ x ∷ []) t ≡ table_at old t
+    before : (t : ℕ) → t < n → number_table (old ++ x ∷ []) t ≡ number_table old t
     before t l = get_or_append_left old (x ∷ []) _ t (let m = F.many in omega arith)
 
-    last : (t : ℕ) → n ≡ t → table_at (old ++ x ∷ []) t ≡ x
+    last : (t : ℕ) → n ≡ t → number_table (old ++ x ∷ []) t ≡ x
     last t q = get_or_push old x _ t (F.many ∙ q)
 
-pub first_all : (schema : List Numbers) (rows : List TableOfNumbers) (n : ℕ) (tables : List NumberTable) → AreFirst schema rows n tables → n ≡ length rows → AreTablesIn schema rows tables
+pub first_all : (schema : List Numbers) (rows : List TableOfNumbers) (n : ℕ) (tables : List ChaseTable) → AreFirst schema rows n tables → n ≡ length rows → AreTablesIn schema rows tables
 first_all schema rows n tables F e = record {
   many = F.many ∙ e;
   rows_are = λ t h. F.rows_are t (let m = F.many in omega arith);

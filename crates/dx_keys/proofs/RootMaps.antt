@@ -21,14 +21,14 @@ use Rattle.dx_instance.specs.Numbers.{ValuesAscend}
 use Rattle.dx_instance.proofs.AfterFacts.{itself}
 use Rattle.dx_instance.proofs.NullFacts.{pair_of}
 use Rattle.dx_instance.proofs.ShownFacts.{number_same}
-use Rattle.dx_chase.specs.Joins.{at}
-use Rattle.dx_keys.specs.Numbers.{AreRoots, map_of, null_of, pairs_from}
+use Rattle.dx_chase.specs.Joins.{nth}
+use Rattle.dx_keys.specs.Numbers.{AreNumberRoots, null_map_of, null_of, null_pairs_from}
 use Rattle.dx_keys.proofs.InOrder.{apart}
 use Rattle.dx_keys.proofs.Readings.{AreDistinct}
 
 -- what the map lists, and then what becomes of the numbers from i on, is the whole; a null of the map has a number below i
 pub record MapTo (S : List Value) (roots : List ℕ) (i : ℕ) (m : ByNull) : Type 0 where
-  pub whole : pairs_of m ++ pairs_from S roots i (drop i S) ≡ map_of S roots
+  pub whole : pairs_of m ++ null_pairs_from S roots i (drop i S) ≡ null_map_of S roots
   pub below : Each (pairs_of m) (λ p. (k : ℕ) × (k < i) × (cell S k ≡ Null p.null))
 
 drop_one : (S : List Value) (i : ℕ) → i < length S → drop i S ≡ cell S i ∷ drop (i + 1) S
@@ -52,7 +52,7 @@ pair_last (d ∷ es) e = ap (λ z. pair_of d ∷ z) (pair_last es e)
 
 pub map_none : (S : List Value) (roots : List ℕ) (m : ByNull) → m ≡ finite.empty → MapTo S roots 0 m
 map_none S roots m e = record {
-  whole = ap (λ z. z ++ pairs_from S roots 0 (drop 0 S)) nothing;
+  whole = ap (λ z. z ++ null_pairs_from S roots 0 (drop 0 S)) nothing;
   below = λ p k. elim (rw nothing at k) [ ];
 }
   where
@@ -65,17 +65,17 @@ map_none S roots m e = record {
     nothing : pairs_of m ≡ []
     nothing = rw e (ap (map pair_of) none)
 
-pub map_kept : (S : List Value) (roots : List ℕ) (i : ℕ) (m : ByNull) → i < length S → at roots i ≡ i → MapTo S roots i m → MapTo S roots (i + 1) m
+pub map_kept : (S : List Value) (roots : List ℕ) (i : ℕ) (m : ByNull) → i < length S → nth roots i ≡ i → MapTo S roots i m → MapTo S roots (i + 1) m
 map_kept S roots i m h r M = record {
   whole = ap (λ z. pairs_of m ++ z) (sym rest) ∙ M.whole;
   below = λ p k. let Q = M.below p k in let l = Q.1 in (Q.0, omega arith, Q.2);
 }
   where
-    rest : pairs_from S roots i (drop i S) ≡ pairs_from S roots (i + 1) (drop (i + 1) S)
-    rest = rw (drop_one S i h, eq-eqb (at roots i) i r) refl
+    rest : null_pairs_from S roots i (drop i S) ≡ null_pairs_from S roots (i + 1) (drop (i + 1) S)
+    rest = rw (drop_one S i h, eq-eqb (nth roots i) i r) refl
 
-pub map_whole : (S : List Value) (roots : List ℕ) (i : ℕ) (m : ByNull) → length S ≤ i → MapTo S roots i m → pairs_of m ≡ map_of S roots
-map_whole S roots i m h M = sym (nothing_more (pairs_of m)) ∙ (ap (λ z. pairs_of m ++ pairs_from S roots i z) (sym (drop_all i S h)) ∙ M.whole)
+pub map_whole : (S : List Value) (roots : List ℕ) (i : ℕ) (m : ByNull) → length S ≤ i → MapTo S roots i m → pairs_of m ≡ null_map_of S roots
+map_whole S roots i m h M = sym (nothing_more (pairs_of m)) ∙ (ap (λ z. pairs_of m ++ null_pairs_from S roots i z) (sym (drop_all i S h)) ∙ M.whole)
 
 put_after : (k : NullId) (v : Value) (es : List (NullId × Value)) → ((p : NullPair) → p ∈ map pair_of es → null_cmp k p.null ≡ Greater) → put null_cmp k v es ≡ es ++ (k, v) ∷ []
 put_after k v [] h = refl
@@ -83,16 +83,16 @@ put_after k v (e ∷ es) h =
     ap (λ o. by_order o ((k, v) ∷ e ∷ es) ((e.0, v) ∷ es) (e ∷ put null_cmp k v es)) (h (pair_of e) (here refl))
     ∙ ap (λ z. e ∷ z) (put_after k v es (λ p m. h p (there m)))
 
-module _ (S : List Value) (roots : List ℕ) (up : ValuesAscend S) (R : AreRoots S roots) where
+module _ (S : List Value) (roots : List ℕ) (up : ValuesAscend S) (R : AreNumberRoots S roots) where
   distinct : AreDistinct S
   distinct i j h k e = number_same S i j (apart S up) h k e
 
-  pub map_set : (i : ℕ) (m new : ByNull) (null : NullId) (value : Value) → i < length S → ¬ (at roots i ≡ i) → null ≡ null_of (cell S i) → value ≡ cell S (at roots i)
+  pub map_set : (i : ℕ) (m new : ByNull) (null : NullId) (value : Value) → i < length S → ¬ (nth roots i ≡ i) → null ≡ null_of (cell S i) → value ≡ cell S (nth roots i)
       → new ≡ with_value m null value → MapTo S roots i m → MapTo S roots (i + 1) new
   map_set i m new null value h r a b w M = record {
     whole =
-        ap (λ z. z ++ pairs_from S roots (i + 1) (drop (i + 1) S)) pairs
-        ∙ (one_and_more (pairs_of m) here_is (pairs_from S roots (i + 1) (drop (i + 1) S)) ∙ (ap (λ z. pairs_of m ++ z) (sym rest) ∙ M.whole));
+        ap (λ z. z ++ null_pairs_from S roots (i + 1) (drop (i + 1) S)) pairs
+        ∙ (one_and_more (pairs_of m) here_is (null_pairs_from S roots (i + 1) (drop (i + 1) S)) ∙ (ap (λ z. pairs_of m ++ z) (sym rest) ∙ M.whole));
     below = λ q k. elim (from_append (pairs_of m) (rw pairs at k)) [
       | inl l ↦ let Q = M.below q l in let g = Q.1 in (Q.0, omega arith, Q.2)
       | inr l ↦ last q l
@@ -113,7 +113,7 @@ module _ (S : List Value) (roots : List ℕ) (up : ValuesAscend S) (R : AreRoots
 
       other : is_itself null value ≡ false
       other = elim (cases_Bool (is_itself null value)) [
-        | inl t ↦ absurd (r (distinct (at roots i) i (R.within i h) h (sym b ∙ (itself null value t ∙ sym is))))
+        | inl t ↦ absurd (r (distinct (nth roots i) i (R.within i h) h (sym b ∙ (itself null value t ∙ sym is))))
         | inr f ↦ f
       ]
 
@@ -123,8 +123,8 @@ module _ (S : List Value) (roots : List ℕ) (up : ValuesAscend S) (R : AreRoots
       pairs : pairs_of new ≡ pairs_of m ++ here_is ∷ []
       pairs = rw (w, other) (ap (map pair_of) put_in ∙ pair_last (finite.entries m) (null, value))
 
-      rest : pairs_from S roots i (drop i S) ≡ here_is ∷ pairs_from S roots (i + 1) (drop (i + 1) S)
-      rest = rw (drop_one S i h, ne_eqb (at roots i) i r, ← a, ← b) refl
+      rest : null_pairs_from S roots i (drop i S) ≡ here_is ∷ null_pairs_from S roots (i + 1) (drop (i + 1) S)
+      rest = rw (drop_one S i h, ne_eqb (nth roots i) i r, ← a, ← b) refl
 
       last : (q : NullPair) → q ∈ (here_is ∷ []) → (k : ℕ) × (k < i + 1) × (cell S k ≡ Null q.null)
       last q (here e) = (i, omega arith, is ∙ ap (λ (z : NullPair). Null z.null) e)

@@ -7,11 +7,11 @@ use Rattle.dx_model.specs.declared.facts.Fact.{Fact}
 use Rattle.dx_model.specs.Tables.{Table, IsInstance, cell}
 use Rattle.dx_model.specs.Instances.{fact_moved}
 use Rattle.dx_chase.specs.declared.demands.ClashAt.{ClashAt}
-use Rattle.dx_chase.specs.Tables.{NumberTable}
+use Rattle.dx_chase.specs.Tables.{ChaseTable}
 use Rattle.dx_chase.specs.declared.rows.RowsChased.{RowsChased}
-use Rattle.dx_chase.specs.Joins.{demand_at, AreDemands, AllFit, IsClash, IsChased}
+use Rattle.dx_chase.specs.Joins.{demand_at, AreDemands, AllFit, IsClashOfDemands, IsNumberChase}
 use Rattle.dx_chase.specs.Boards.{firsts}
-use Rattle.dx_chase.specs.Rows.{AreBelow, AreRowDemands, ColumnsFit, row_at}
+use Rattle.dx_chase.specs.Rows.{TablesAreBelow, AreRowDemands, ColumnsFit, number_row}
 use Rattle.dx_chase.proofs.RowDemands.{row_demands}
 use Rattle.dx_ports.proofs.Members.{from_flat_map, from_map, in_at}
 use Rattle.dx_keys.specs.Numbers.{AreValues, steps_of}
@@ -21,9 +21,9 @@ use Rattle.dx_keys.proofs.Bridge.{Stands, stands_all, steps_small, clashes, list
 use Rattle.dx_keys.proofs.Mapped.{HasNumbers, stands_first, fact_map, nulls_at, root_gives}
 use Rattle.dx_keys.proofs.OfRows.{of_rows}
 
-module _ (schema : List Table) (S : List Value) (consts : ℕ) (A : List Fact) (tables : List NumberTable) (c : RowsChased) (fits : IsInstance schema A)
-    (V : AreValues consts S) (F : ColumnsFit tables) (B : AreBelow (length S) tables) (T : AreTablesOf schema S A tables) (R : AreRowDemands tables c.demands)
-    (X : IsChased (firsts (length S)) consts c.demands c.chased) where
+module _ (schema : List Table) (S : List Value) (consts : ℕ) (A : List Fact) (tables : List ChaseTable) (c : RowsChased) (fits : IsInstance schema A)
+    (V : AreValues consts S) (F : ColumnsFit tables) (B : TablesAreBelow (length S) tables) (T : AreTablesOf schema S A tables) (R : AreRowDemands tables c.demands)
+    (X : IsNumberChase (firsts (length S)) consts c.demands c.chased) where
   D : AreDemands (length S) c.demands
   D = row_demands (length S) tables c.demands B F R
 
@@ -35,7 +35,7 @@ module _ (schema : List Table) (S : List Value) (consts : ℕ) (A : List Fact) (
   numbered v m =
       let f = from_flat_map (λ (f : Fact). f.row) A m in
       let w = T.facts f.0 f.1 in
-      let k = from_map (cell S) (row_at tables f.0.table w.0) (rw (← ap (λ (z : Fact). z.row) w.3) at f.2) in
+      let k = from_map (cell S) (number_row tables f.0.table w.0) (rw (← ap (λ (z : Fact). z.row) w.3) at f.2) in
       (k.0, B f.0.table w.0 w.1 w.2 k.0 k.1, k.2)
 
   reached : (k : NullId → Value) × Stands schema S consts A c.chased.roots k (steps_of S c.chased.steps)
@@ -52,10 +52,10 @@ module _ (schema : List Table) (S : List Value) (consts : ℕ) (A : List Fact) (
   demand_read j h =
       let d = demand_at c.demands j in
       let Q = (R.from d (in_at c.demands j _ h)).inside in
-      let e = list_read schema S consts A c.demands V D M c.chased.roots reached.0 (steps_of S c.chased.steps) reached.1 (row_at tables d.table d.row) (B d.table d.row Q.table Q.row) in
+      let e = list_read schema S consts A c.demands V D M c.chased.roots reached.0 (steps_of S c.chased.steps) reached.1 (number_row tables d.table d.row) (B d.table d.row Q.table Q.row) in
       λ i. record { table = d.table; row = e i }
 
-  row_clash : (p : ClashAt) → IsClash consts c.demands c.chased.roots p → IsRowClash schema S A tables c p
+  row_clash : (p : ClashAt) → IsClashOfDemands consts c.demands c.chased.roots p → IsRowClash schema S A tables c p
   unfolding M of_rows
   row_clash p P =
       let w = clashes schema S consts A c.demands V D M c.chased.roots reached.0 (steps_of S c.chased.steps) reached.1 p P in
@@ -64,7 +64,7 @@ module _ (schema : List Table) (S : List Value) (consts : ℕ) (A : List Fact) (
         none = clash_followed schema A reached.0 (steps_of S c.chased.steps) reached.1.followed _ _ _ _ w;
       }
 
-  ends : (o : Option ClashAt) → MatchOption o (AllFit c.demands c.chased.roots) (IsClash consts c.demands c.chased.roots)
+  ends : (o : Option ClashAt) → MatchOption o (AllFit c.demands c.chased.roots) (IsClashOfDemands consts c.demands c.chased.roots)
       → MatchOption o (IsRowMap schema S A c) (IsRowClash schema S A tables c)
   ends None e = row_map e
   ends (Some p) e = row_clash p e

@@ -3,7 +3,7 @@ use Rattle.std.specs.Prelude.{◌≡◌, ℕ, ◌<◌, List, [], length, slice_i
 use Rattle.std.specs.declared.cmp.Ordering.TheVariants.{Less}
 use Rattle.dx_model.specs.declared.values.Value.{Value}
 use Rattle.dx_model.specs.declared.facts.Fact.{Fact}
-use Rattle.dx_model.specs.Tables.{Determination, IsKeyed, Table, table_of}
+use Rattle.dx_model.specs.Tables.{Determination, IsKeyed, Table, table_of, determination_at, fact_of_row}
 use Rattle.dx_model.specs.Values.{row_cmp}
 use Rattle.dx_model.specs.Chase.{after, AreSteps, IsClashAt, IsForcedMap, NoneReceives}
 use Rattle.dx_instance.specs.NullMaps.{pairs_of}
@@ -13,14 +13,6 @@ use Rattle.dx_keys.specs.declared.answers.Chased.{Chased}
 use Rattle.dx_keys.specs.declared.answers.Clash.{Clash}
 use Rattle.dx_keys.specs.declared.fault.ChaseFault.{ChaseFault}
 use Rattle.dx_keys.specs.declared.fault.ChaseFault.TheVariants.{Clash as IsOf, Memory}
-
--- the determination with this number among those of a table
-abbrev pub determination_at : List Table → ℕ → ℕ → Determination
-determination_at schema t k = slice_index_or (table_of schema t).determinations k (record { left = []; right = [] })
-
--- a row as a fact of a table
-abbrev pub fact_in : ℕ → List Value → Fact
-fact_in t row = record { table = t; row = row }
 
 -- The chase of an instance: the map is its forced map, and what is answered is its image under the map, of the same widths and
 -- with ascending rows; keys hold in it.
@@ -34,11 +26,11 @@ pub record IsChased (schema : List Table) (I : List TableRows) (c : Chased) : Ty
 pub record IsClash (schema : List Table) (A : List Fact) (c : Clash) : Type 0 where
   pub steps : AreSteps schema A c.steps
   pub key : c.key < length (table_of schema c.table).determinations
-  pub clash : IsClashAt schema (after c.steps A) (fact_in c.table c.left) (fact_in c.table c.right) (determination_at schema c.table c.key) c.column
+  pub clash : IsClashAt schema (after c.steps A) (fact_of_row c.table c.left) (fact_of_row c.table c.right) (determination_at schema c.table c.key) c.column
   pub lesser : row_cmp c.left c.right ≡ Less
   pub none : NoneReceives schema A
 
 -- why an instance has no chase
-abbrev pub IsFaultOf : List Table → List TableRows → ChaseFault → Type 0
-IsFaultOf schema I (IsOf c) = IsClash schema (facts I) c
-IsFaultOf schema I Memory = Unit {0}
+abbrev pub IsChaseFault : List Table → List TableRows → ChaseFault → Type 0
+IsChaseFault schema I (IsOf c) = IsClash schema (facts I) c
+IsChaseFault schema I Memory = Unit {0}

@@ -7,7 +7,8 @@ use Rattle.dx_model.specs.declared.values.Value.{Value}
 use Rattle.dx_model.specs.declared.values.Value.TheVariants.{Const, Null}
 use Rattle.dx_model.specs.declared.facts.NullPair.{NullPair}
 use Rattle.dx_model.specs.Tables.{Determination, DeterminationsFit, Table, cell, table_of}
-use Rattle.dx_model.specs.Values.{Text, row_cmp, value_cmp}
+use Rattle.dx_model.specs.Values.{row_cmp, value_cmp}
+use Rattle.dx_ports.specs.Texts.{Text}
 use Rattle.dx_schema.specs.Forest.{Forest}
 use Rattle.dx_schema.specs.Tables.{model_tables, schema_widths}
 use Rattle.dx_instance.specs.Cells.{NumberTable as TableOfNumbers}
@@ -18,10 +19,10 @@ use Rattle.dx_chase.specs.Demands.{Demand}
 use Rattle.dx_chase.specs.declared.demands.Step.{Step}
 use Rattle.dx_chase.specs.declared.demands.ClashAt.{ClashAt}
 use Rattle.dx_chase.specs.declared.tables.Columns.{Columns}
-use Rattle.dx_chase.specs.Tables.{NumberTable}
+use Rattle.dx_chase.specs.Tables.{ChaseTable}
 use Rattle.dx_chase.specs.declared.rows.RowsChased.{RowsChased}
-use Rattle.dx_chase.specs.Rows.{AreBelow, IsRowDemand, columns_at, row_at, table_at}
-use Rattle.dx_chase.specs.Joins.{at, demand_at}
+use Rattle.dx_chase.specs.Rows.{TablesAreBelow, IsRowDemand, determination_columns, number_row, number_table}
+use Rattle.dx_chase.specs.Joins.{nth, demand_at}
 use Rattle.dx_keys.specs.Answers.{IsChased}
 use Rattle.dx_keys.specs.declared.answers.Clash.{Clash}
 use Rattle.dx_keys.specs.declared.numbering.Numbering.{Numbering}
@@ -45,20 +46,20 @@ abbrev pub steps_of : List Value → List Step → List NullPair
 steps_of S ss = map (pair_of S) ss
 
 -- what becomes of the numbers from i on, of values vs: those that are not their own root
-abbrev pub pairs_from : List Value → List ℕ → ℕ → List Value → List NullPair
-pairs_from S roots i [] = []
-pairs_from S roots i (v ∷ vs) =
-    cond (nat_eq (at roots i) i) (pairs_from S roots (i + 1) vs) (record { null = null_of v; value = cell S (at roots i) } ∷ pairs_from S roots (i + 1) vs)
+abbrev pub null_pairs_from : List Value → List ℕ → ℕ → List Value → List NullPair
+null_pairs_from S roots i [] = []
+null_pairs_from S roots i (v ∷ vs) =
+    cond (nat_eq (nth roots i) i) (null_pairs_from S roots (i + 1) vs) (record { null = null_of v; value = cell S (nth roots i) } ∷ null_pairs_from S roots (i + 1) vs)
 
 -- the null map of roots
-abbrev pub map_of : List Value → List ℕ → List NullPair
-map_of S roots = pairs_from S roots 0 S
+abbrev pub null_map_of : List Value → List ℕ → List NullPair
+null_map_of S roots = null_pairs_from S roots 0 S
 
 -- the root of each number: what is not its own root is a null
-pub record AreRoots (S : List Value) (roots : List ℕ) : Type 0 where
+pub record AreNumberRoots (S : List Value) (roots : List ℕ) : Type 0 where
   pub many : length roots ≡ length S
-  pub within : (i : ℕ) → i < length S → at roots i < length S
-  pub nulls : (i : ℕ) → i < length S → ¬ (at roots i ≡ i) → (n : NullId) × (cell S i ≡ Null n)
+  pub within : (i : ℕ) → i < length S → nth roots i < length S
+  pub nulls : (i : ℕ) → i < length S → ¬ (nth roots i ≡ i) → (n : NullId) × (cell S i ≡ Null n)
 
 -- columns, as a determination
 abbrev pub determination_of : Columns → Determination
@@ -71,19 +72,19 @@ pub record IsNumbering (I : List TableRows) (n : Numbering) : Type 0 where
   pub parts : PartsFit n.symbols n.tables.items
 
 -- the rows of each table, and what determines what in it
-pub record AreTablesIn (schema : List Table) (rows : List TableOfNumbers) (tables : List NumberTable) : Type 0 where
+pub record AreTablesIn (schema : List Table) (rows : List TableOfNumbers) (tables : List ChaseTable) : Type 0 where
   pub many : length tables ≡ length rows
-  pub rows_are : (t : ℕ) → t < length tables → (table_at tables t).rows ≡ (numbers_of_table rows t).rows
-  pub determined : (t : ℕ) → t < length tables → map determination_of (table_at tables t).determinations ≡ (table_of schema t).determinations
+  pub rows_are : (t : ℕ) → t < length tables → (number_table tables t).rows ≡ (numbers_of_table rows t).rows
+  pub determined : (t : ℕ) → t < length tables → map determination_of (number_table tables t).determinations ≡ (table_of schema t).determinations
 
 -- the row of a demand, each number read at its root
-abbrev pub row_read : List Value → List NumberTable → List ℕ → Demand → List Value
-row_read S tables roots d = map (cell S) (map (at roots) (row_at tables d.table d.row))
+abbrev pub row_read : List Value → List ChaseTable → List ℕ → Demand → List Value
+row_read S tables roots d = map (cell S) (map (nth roots) (number_row tables d.table d.row))
 
 -- what is asked of a clash that is read: its numbers stand for values and rows
-pub record CanRead (S : List Value) (tables : List NumberTable) (c : RowsChased) (p : ClashAt) : Type 0 where
-  pub below : AreBelow (length S) tables
-  pub roots_are : AreRoots S c.chased.roots
+pub record CanRead (S : List Value) (tables : List ChaseTable) (c : RowsChased) (p : ClashAt) : Type 0 where
+  pub below : TablesAreBelow (length S) tables
+  pub roots_are : AreNumberRoots S c.chased.roots
   pub steps_in : Each c.chased.steps (λ s. (s.greater < length S) × (s.lesser < length S))
   pub demands_in : Each c.demands (IsRowDemand tables)
   pub one_in : p.one < length c.demands
@@ -91,11 +92,11 @@ pub record CanRead (S : List Value) (tables : List NumberTable) (c : RowsChased)
   pub column_in : p.column < length (demand_at c.demands p.one).right
 
 -- a clash by values: the two rows are those of its demands, in order
-pub record IsRead (S : List Value) (tables : List NumberTable) (c : RowsChased) (p : ClashAt) (k : Clash) : Type 0 where
+pub record IsClashByValues (S : List Value) (tables : List ChaseTable) (c : RowsChased) (p : ClashAt) (k : Clash) : Type 0 where
   pub steps_are : k.steps ≡ steps_of S c.chased.steps
   pub table_is : k.table ≡ (demand_at c.demands p.one).table
   pub key_is : k.key ≡ (demand_at c.demands p.one).determination
-  pub column_is : k.column ≡ at (columns_at tables k.table k.key).right p.column
+  pub column_is : k.column ≡ nth (determination_columns tables k.table k.key).right p.column
   pub rows_are : ((k.left ≡ row_read S tables c.chased.roots (demand_at c.demands p.one)) × (k.right ≡ row_read S tables c.chased.roots (demand_at c.demands p.other)))
       ⊎ ((k.left ≡ row_read S tables c.chased.roots (demand_at c.demands p.other)) × (k.right ≡ row_read S tables c.chased.roots (demand_at c.demands p.one)))
   pub in_order : ¬ (row_cmp k.left k.right ≡ Greater)
@@ -110,11 +111,11 @@ pub record IsNumbered (f : Forest) (I : List TableRows) (n : Numbering) : Type 0
 -- what is read of the roots of the numbers is the chase of the instance
 abbrev pub AnswersBy : List Table → List TableRows → Numbering → List ℕ → Type 0
 AnswersBy schema I n roots =
-    (m : ByNull) (K : List TableRows) → pairs_of m ≡ map_of n.symbols roots
+    (m : ByNull) (K : List TableRows) → pairs_of m ≡ null_map_of n.symbols roots
     → IsSorting (shown_tables n.symbols (map (renumbered roots) n.tables.items)) K → IsChased schema I (record { instance = K; map = m })
 
 -- an instance of a schema under numbers, and its rows by these, with what its keys determine
-pub record Numbered (f : Forest) (I : List TableRows) (n : Numbering) (rows : List NumberTable) : Type 0 where
+pub record IsNumberedInstance (f : Forest) (I : List TableRows) (n : Numbering) (rows : List ChaseTable) : Type 0 where
   pub widths_are : widths I ≡ schema_widths f
   pub wide : Each I (λ (t : TableRows). Each t.rows (λ (row : List Value). length row ≡ t.width))
   pub determined : DeterminationsFit (model_tables f)

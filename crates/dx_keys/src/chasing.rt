@@ -6,8 +6,8 @@ ghost use Rattle.dx_instance.specs.NullMaps.{pairs_of};
 ghost use Rattle.dx_instance.specs.Numbers.{ValuesAscend};
 ghost use Rattle.dx_instance.specs.Shown.{PartsFit, renumbered, shown_tables};
 ghost use Rattle.dx_instance.specs.Stored.{IsSorting, TableRows, widths};
-ghost use Rattle.dx_keys.specs.Answers.{IsChased, IsFaultOf};
-ghost use Rattle.dx_keys.specs.Numbers.{AnswersBy, AreRoots, IsNumbered, Numbered, map_of};
+ghost use Rattle.dx_keys.specs.Answers.{IsChased, IsChaseFault};
+ghost use Rattle.dx_keys.specs.Numbers.{AnswersBy, AreNumberRoots, IsNumbered, IsNumberedInstance, null_map_of};
 
 use crate::answers::Chased;
 use crate::clashes::read_clash;
@@ -25,9 +25,9 @@ use std::alloc::{AllocError, Global};
 // What the roots of numbers say of an instance: what becomes of its nulls, and of it.
 fn read_chased(alloc: Global, numbering: Numbering, roots: &[u32]) -> Result<Chased, AllocError>
     requires ascend { ValuesAscend numbering.symbols }
-    requires roots { AreRoots numbering.symbols roots.now }
+    requires roots { AreNumberRoots numbering.symbols roots.now }
     requires fit { PartsFit numbering.symbols numbering.tables.items }
-    ensures map { IfOk result (λ c. pairs_of c.map ≡ map_of numbering.symbols roots.now) }
+    ensures map { IfOk result (λ c. pairs_of c.map ≡ null_map_of numbering.symbols roots.now) }
     ensures image { IfOk result (λ c. IsSorting (shown_tables numbering.symbols (map (renumbered roots.now) numbering.tables.items)) c.instance) }
 {
     let Numbering {
@@ -54,12 +54,12 @@ fn chase_numbered(
     numbering: &Numbering,
     rows: &[NumberTable<'_>],
 ) -> Result<Items<u32>, ChaseFault>
-    requires { (schema : Forest) × (I : List TableRows) × Numbered schema I numbering.now rows.now }
-    ensures roots { IfOk result (AreRoots numbering.now.symbols) }
-    ensures ok { (schema : Forest) (I : List TableRows) → Numbered schema I numbering.now rows.now
+    requires { (schema : Forest) × (I : List TableRows) × IsNumberedInstance schema I numbering.now rows.now }
+    ensures roots { IfOk result (AreNumberRoots numbering.now.symbols) }
+    ensures ok { (schema : Forest) (I : List TableRows) → IsNumberedInstance schema I numbering.now rows.now
         → IfOk result (λ roots. AnswersBy (model_tables schema) I numbering.now roots) }
-    ensures fault { (schema : Forest) (I : List TableRows) → Numbered schema I numbering.now rows.now
-        → IfErr result (IsFaultOf (model_tables schema) I) }
+    ensures fault { (schema : Forest) (I : List TableRows) → IsNumberedInstance schema I numbering.now rows.now
+        → IfErr result (IsChaseFault (model_tables schema) I) }
 {
     let count = numbering.symbols.len() as u32;
     let found = chase_rows(alloc, rows, count, numbering.constants)?;
@@ -75,10 +75,10 @@ fn chase_numbered(
 // What the numbers of the values of an instance become. What is demanded of the rows is needed no more after it.
 fn chase_by(alloc: Global, schema: &Schema, numbering: &Numbering) -> Result<Items<u32>, ChaseFault>
     requires { (I : List TableRows) × IsNumbered schema.now I numbering.now }
-    ensures roots { IfOk result (AreRoots numbering.now.symbols) }
+    ensures roots { IfOk result (AreNumberRoots numbering.now.symbols) }
     ensures ok { (I : List TableRows) → IsNumbered schema.now I numbering.now
         → IfOk result (λ roots. AnswersBy (model_tables schema.now) I numbering.now roots) }
-    ensures fault { (I : List TableRows) → IsNumbered schema.now I numbering.now → IfErr result (IsFaultOf (model_tables schema.now) I) }
+    ensures fault { (I : List TableRows) → IsNumbered schema.now I numbering.now → IfErr result (IsChaseFault (model_tables schema.now) I) }
 {
     let rows = number_tables(alloc, schema, &numbering.tables)?;
     chase_numbered(alloc, numbering, &rows)
@@ -88,7 +88,7 @@ fn chase_by(alloc: Global, schema: &Schema, numbering: &Numbering) -> Result<Ite
 fn chase_numbers(alloc: Global, instance: Instance, schema: &Schema) -> Result<Chased, ChaseFault>
     requires { widths instance ≡ schema_widths schema.now }
     ensures ok { IfOk result (IsChased (model_tables schema.now) instance) }
-    ensures fault { IfErr result (IsFaultOf (model_tables schema.now) instance) }
+    ensures fault { IfErr result (IsChaseFault (model_tables schema.now) instance) }
 {
     let _instance_tables = instance.tables();
     let numbering = number(alloc, instance)?;
@@ -106,7 +106,7 @@ fn chase_numbers(alloc: Global, instance: Instance, schema: &Schema) -> Result<C
 pub fn chase(alloc: Global, instance: Instance, schema: &Schema) -> Result<Chased, ChaseFault>
     requires { widths instance ≡ schema_widths schema.now }
     ensures ok { IfOk result (IsChased (model_tables schema.now) instance) }
-    ensures fault { IfErr result (IsFaultOf (model_tables schema.now) instance) }
+    ensures fault { IfErr result (IsChaseFault (model_tables schema.now) instance) }
 {
     if !has_no_determinations(schema) {
         return chase_numbers(alloc, instance, schema);

@@ -2,9 +2,9 @@
 ghost use Rattle.std.specs.Prelude.{◌≡◌, ◌<◌, ◌⊎◌, IfOk, length};
 ghost use Rattle.std.specs.declared.cmp.Ordering.TheVariants.{Greater};
 ghost use Rattle.dx_model.specs.Values.{row_cmp};
-ghost use Rattle.dx_chase.specs.Joins.{at, demand_at};
-ghost use Rattle.dx_chase.specs.Rows.{AreBelow, IsRowDemand, columns_at};
-ghost use Rattle.dx_keys.specs.Numbers.{AreRoots, CanRead, IsRead, row_read};
+ghost use Rattle.dx_chase.specs.Joins.{nth, demand_at};
+ghost use Rattle.dx_chase.specs.Rows.{TablesAreBelow, IsRowDemand, determination_columns};
+ghost use Rattle.dx_keys.specs.Numbers.{AreNumberRoots, CanRead, IsClashByValues, row_read};
 
 use crate::answers::Clash;
 use crate::reading::{read_row, read_steps};
@@ -22,8 +22,8 @@ fn demand_row(
     demands: &Demands<'_, '_>,
     i: u32,
 ) -> Result<Row, AllocError>
-    requires roots { AreRoots symbols.now roots.now }
-    requires below { AreBelow (length symbols.now) tables.now }
+    requires roots { AreNumberRoots symbols.now roots.now }
+    requires below { TablesAreBelow (length symbols.now) tables.now }
     requires demand { IsRowDemand tables.now (demand_at demands.now i) }
     requires inside { i < length demands.now }
     ensures { IfOk result (λ row. row ≡ row_read symbols.now tables.now roots.now (demand_at demands.now i)) }
@@ -38,7 +38,7 @@ fn column_at(tables: &[NumberTable<'_>], demands: &Demands<'_, '_>, i: u32, plac
     requires demand { IsRowDemand tables.now (demand_at demands.now i) }
     requires inside { i < length demands.now }
     requires place { place < length (demand_at demands.now i).right }
-    ensures { result ≡ at (columns_at tables.now (demand_at demands.now i).table (demand_at demands.now i).determination).right place }
+    ensures { result ≡ nth (determination_columns tables.now (demand_at demands.now i).table (demand_at demands.now i).determination).right place }
 {
     let demand = demands.asked(i);
     let table = &tables[demand.table as usize];
@@ -72,7 +72,7 @@ pub fn read_clash(
     place: ClashAt,
 ) -> Result<Clash, AllocError>
     requires { CanRead symbols.now tables.now found.now place }
-    ensures { IfOk result (IsRead symbols.now tables.now found.now place) }
+    ensures { IfOk result (IsClashByValues symbols.now tables.now found.now place) }
 {
     let demands = &found.demands;
     let roots = found.chased.roots.items();

@@ -1,7 +1,7 @@
 // What is made of an instance if no table has a key or a dependency: nothing changes.
 ghost use Rattle.std.specs.Prelude.{◌≡◌, ◌<◌, ◌↔◌, [], List, IfOk, IsTrue, length};
 ghost use Rattle.dx_ports.specs.Members.{Each};
-ghost use Rattle.dx_schema.specs.Tables.{determinations_of, table_at, tables_of};
+ghost use Rattle.dx_schema.specs.Tables.{determinations_of, schema_table, tables_of};
 ghost use Rattle.dx_model.specs.Tables.{IsKeyed, Table as ModelTable};
 ghost use Rattle.dx_instance.specs.Stored.{facts};
 ghost use Rattle.dx_keys.specs.Answers.{IsChased};
@@ -14,7 +14,7 @@ use std::alloc::{AllocError, Global};
 /// Whether a table has neither a key nor a dependency.
 fn is_free(schema: &Schema, table: u32) -> bool
     requires { table < length (tables_of schema.now) }
-    ensures { IsTrue result ↔ (determinations_of (table_at schema.now table) ≡ []) }
+    ensures { IsTrue result ↔ (determinations_of (schema_table schema.now table) ≡ []) }
 {
     schema.keys_of(table).is_empty() && schema.deps_of(table).is_empty()
 }

@@ -2,12 +2,12 @@
 ghost use Rattle.std.specs.Prelude.{◌≡◌, ◌<◌, IfOk, length, map};
 ghost use Rattle.dx_ports.specs.Members.{Each};
 ghost use Rattle.dx_model.specs.Tables.{cell};
-ghost use Rattle.dx_chase.specs.Joins.{at};
+ghost use Rattle.dx_chase.specs.Joins.{nth};
 ghost use Rattle.dx_instance.specs.NullMaps.{pairs_of};
 ghost use Rattle.dx_instance.specs.Numbers.{ValuesAscend};
-ghost use Rattle.dx_instance.specs.Shown.{PartsFit, RowsFit, renumbered, shown_tables};
+ghost use Rattle.dx_instance.specs.Shown.{PartsFit, NumberRowsFit, renumbered, shown_tables};
 ghost use Rattle.dx_instance.specs.Stored.{IsSorting};
-ghost use Rattle.dx_keys.specs.Numbers.{AreRoots, map_of, null_of, steps_of};
+ghost use Rattle.dx_keys.specs.Numbers.{AreNumberRoots, null_map_of, null_of, steps_of};
 
 use dx_chase::Step;
 use dx_instance::{Instance, NullId, NullMap, Row, Rows, Symbols, Value, copy_value};
@@ -37,8 +37,8 @@ fn null_at(symbols: &Symbols, number: u32) -> NullId
 /// `AllocError` if there is no memory.
 pub fn read_map(alloc: Global, symbols: &Symbols, roots: &[u32]) -> Result<NullMap, AllocError>
     requires ascend { ValuesAscend symbols.now }
-    requires roots { AreRoots symbols.now roots.now }
-    ensures { IfOk result (λ m. pairs_of m ≡ map_of symbols.now roots.now) }
+    requires roots { AreNumberRoots symbols.now roots.now }
+    ensures { IfOk result (λ m. pairs_of m ≡ null_map_of symbols.now roots.now) }
 {
     let mut map = NullMap::new(alloc);
     let count = symbols.len() as u32;
@@ -87,9 +87,9 @@ pub fn read_row(
     roots: &[u32],
     numbers: &[u32],
 ) -> Result<Row, AllocError>
-    requires roots { AreRoots symbols.now roots.now }
+    requires roots { AreNumberRoots symbols.now roots.now }
     requires numbers { Each numbers.now (λ v. v < length symbols.now) }
-    ensures { IfOk result (λ row. row ≡ map (cell symbols.now) (map (at roots.now) numbers.now)) }
+    ensures { IfOk result (λ row. row ≡ map (cell symbols.now) (map (nth roots.now) numbers.now)) }
 {
     let mut row = Row::new(alloc);
     for number in numbers {
@@ -101,7 +101,7 @@ pub fn read_row(
 
 // The rows of tables, which go, each number at its root.
 fn at_roots(alloc: Global, roots: &[u32], tables: Vec<Rows>) -> Result<Vec<Rows>, AllocError>
-    requires { Each tables.items (RowsFit (length roots.now)) }
+    requires { Each tables.items (NumberRowsFit (length roots.now)) }
     ensures { IfOk result (λ all. all.items ≡ map (renumbered roots.now) tables.items) }
 {
     let mut all = Vec::new(alloc);
@@ -122,7 +122,7 @@ pub fn read_image(
     roots: &[u32],
     tables: Vec<Rows>,
 ) -> Result<Instance, AllocError>
-    requires roots { AreRoots symbols roots.now }
+    requires roots { AreNumberRoots symbols roots.now }
     requires fit { PartsFit symbols tables.items }
     ensures { IfOk result (IsSorting (shown_tables symbols (map (renumbered roots.now) tables.items))) }
 {

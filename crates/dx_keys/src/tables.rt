@@ -1,7 +1,7 @@
 // Tables of numbers with what determines what in them.
 ghost use Rattle.std.specs.Prelude.{◌≡◌, ◌<◌, IfOk, length, map};
 ghost use Rattle.dx_model.specs.Tables.{table_of};
-ghost use Rattle.dx_schema.specs.Tables.{key_determinations, model_tables, table_at, tables_of};
+ghost use Rattle.dx_schema.specs.Tables.{key_determinations, model_tables, schema_table, tables_of};
 ghost use Rattle.dx_keys.specs.Numbers.{AreTablesIn, determination_of};
 
 use crate::numbering::counted;
@@ -23,7 +23,7 @@ fn copied(alloc: Global, numbers: &[u32]) -> Result<Items<u32>, AllocError>
 // What the keys of a table determine: each determines all columns.
 fn keys_as_columns(alloc: Global, schema: &Schema, table: u32) -> Result<Items<Columns>, AllocError>
     requires { table < length (tables_of schema.now) }
-    ensures { IfOk result (λ all. map determination_of all ≡ key_determinations (table_at schema.now table)) }
+    ensures { IfOk result (λ all. map determination_of all ≡ key_determinations (schema_table schema.now table)) }
 {
     let width = schema.width(table);
     let mut all = Items::new(alloc);

@@ -1,7 +1,7 @@
 -- Employees and persons: lines and conditions with names that are there, and with names that aren't.
 use Rattle.std.proofs.Common.{◌≡◌, ℕ, List, [], ◌∷◌, Option, Some, None, codes, refl}
-use Rattle.dx_schema.specs.Forest.{Forest, none, set, bare}
-use Rattle.dx_schema.specs.Tables.{Text}
+use Rattle.dx_schema.specs.Forest.{Forest, none, set, bare_set}
+use Rattle.dx_ports.specs.Texts.{Text}
 use Rattle.dx_tokens.specs.declared.faults.TextFault.{TextFault}
 use Rattle.dx_tokens.specs.declared.faults.TextFault.TheVariants.{At}
 use Rattle.dx_tokens.specs.declared.faults.TextKind.TheVariants.{UnknownName, Width}
@@ -17,7 +17,7 @@ use Rattle.dx_line_text.specs.Conditions.{conditions_fault, conditions_of}
 
 -- a set of one level, with one column
 abbrev flat : Text → Text → Forest → Forest
-flat name column rest = set (bare name (column ∷ [])) none rest
+flat name column rest = set (bare_set name (column ∷ [])) none rest
 
 -- offices and employees
 abbrev employees : Forest

@@ -12,7 +12,7 @@ use Rattle.dx_schema_text.specs.declared.texts.SourceText.TheVariants as sources
 use Rattle.dx_schema_text.specs.declared.texts.LineText.{LineText}
 use Rattle.dx_funcs.specs.declared.conversion.Conversion.{Conversion}
 use Rattle.dx_funcs.specs.Names.{first_named}
-use Rattle.dx_line_text.specs.Naming.{set_names, columns_in, name_fault, place_fault, places_fault, call_fault, source_fault, line_fault}
+use Rattle.dx_line_text.specs.Naming.{set_names, columns_in, name_fault, place_fault, places_fault, source_call_fault, source_fault, line_fault}
 use Rattle.dx_schema_text.specs.declared.texts.OnlyText.{OnlyText}
 use Rattle.dx_funcs.specs.declared.row_test.RowTest.{RowTest}
 use Rattle.dx_line_text.specs.Conditions.{test_names, condition_fault}
@@ -33,7 +33,7 @@ of_place f p e h = go (is_among p.set (set_names f)) h
     go true k = of_name (is_among p.column (columns_in f p.set)) p.column_place e k
     go false k = unknown p.set_place e k
 
-of_call : (f : Forest) (found : Option Conversion) (place : ℕ) (args : List PlaceText) (e : TextFault) → call_fault f found place args ≡ Some e → IsOfNames e
+of_call : (f : Forest) (found : Option Conversion) (place : ℕ) (args : List PlaceText) (e : TextFault) → source_call_fault f found place args ≡ Some e → IsOfNames e
 of_call f None place args e h = unknown place e h
 of_call f (Some c) place args e h = go (eqb c.arity (length args)) h
   where

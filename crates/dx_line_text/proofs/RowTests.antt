@@ -5,7 +5,8 @@ use Rattle.dx_ports.specs.Members.{◌∈◌, here, there, Distinct, Each}
 use Rattle.dx_ports.proofs.Members.{in_map, from_map}
 use Rattle.dx_ports.proofs.Firsts.{two_none, each_none}
 use Rattle.dx_schema.specs.Forest.{Forest}
-use Rattle.dx_schema.specs.Tables.{Text, model_tables}
+use Rattle.dx_schema.specs.Tables.{model_tables}
+use Rattle.dx_ports.specs.Texts.{Text}
 use Rattle.dx_schema.specs.Faults.{is_among}
 use Rattle.dx_schema.proofs.Valid.{among_in, in_among}
 use Rattle.dx_tokens.specs.declared.faults.TextFault.TheVariants.{At}
@@ -13,9 +14,9 @@ use Rattle.dx_tokens.specs.declared.faults.TextKind.TheVariants.{UnknownName}
 use Rattle.dx_schema_text.specs.declared.texts.OnlyText.{OnlyText}
 use Rattle.dx_funcs.specs.declared.row_test.RowTest.{RowTest}
 use Rattle.dx_lines.specs.declared.line.Condition.{Condition}
-use Rattle.dx_lines.specs.Limits.{IsColumn}
+use Rattle.dx_lines.specs.Limits.{IsSchemaColumn}
 use Rattle.dx_line_text.specs.Naming.{name_fault, place_fault}
-use Rattle.dx_line_text.specs.Conditions.{test_names, test_code, condition_fault, conditions_fault, condition_of, conditions_of, IsTested}
+use Rattle.dx_line_text.specs.Conditions.{test_names, test_code, condition_fault, conditions_fault, condition_of, conditions_of, ConditionIsListed}
 use Rattle.dx_line_text.proofs.Found.{not_found}
 use Rattle.dx_line_text.proofs.Fits.{place_fits}
 
@@ -77,13 +78,13 @@ from_text f list os read is h c m =
     (o.0, o.2, both.0, both.1)
 
 -- they are about columns of the source
-pub conditions_fit : (f : Forest) (list : List RowTest) (os : List OnlyText) (read : List Condition) → read ≡ conditions_of f list os → conditions_fault f list os ≡ None → Each read (λ c. IsColumn (model_tables f) c.place)
+pub conditions_fit : (f : Forest) (list : List RowTest) (os : List OnlyText) (read : List Condition) → read ≡ conditions_of f list os → conditions_fault f list os ≡ None → Each read (λ c. IsSchemaColumn (model_tables f) c.place)
 conditions_fit f list os read is h c m =
     let o = from_text f list os read is h c m in
-    subst (λ (c : Condition). IsColumn (model_tables f) c.place) o.1 (place_fits f o.0.place o.2)
+    subst (λ (c : Condition). IsSchemaColumn (model_tables f) c.place) o.1 (place_fits f o.0.place o.2)
 
 -- and their row tests are listed
-pub conditions_tested : (f : Forest) (list : List RowTest) (os : List OnlyText) (read : List Condition) → read ≡ conditions_of f list os → conditions_fault f list os ≡ None → Each read (IsTested list)
+pub conditions_tested : (f : Forest) (list : List RowTest) (os : List OnlyText) (read : List Condition) → read ≡ conditions_of f list os → conditions_fault f list os ≡ None → Each read (ConditionIsListed list)
 conditions_tested f list os read is h c m =
     let o = from_text f list os read is h c m in
-    subst (IsTested list) o.1 (listed_code list o.0.test (name_there (test_names list) o.0.test o.0.test_place o.3))
+    subst (ConditionIsListed list) o.1 (listed_code list o.0.test (name_there (test_names list) o.0.test o.0.test_place o.3))

@@ -4,8 +4,8 @@ use Rattle.dx_tokens.specs.declared.faults.TextFault.{TextFault}
 use Rattle.dx_tokens.specs.declared.faults.TextFault.TheVariants.{Memory}
 
 -- an Ok is x, and there is no fault; an Err is the fault
-abbrev pub Reads : {A : Type 0} → Result A TextFault → A → Option TextFault → Type 0
-Reads {A} result x fault = MatchResult result (λ (y : A). (y ≡ x) × (fault ≡ None)) (λ e. fault ≡ Some e)
+abbrev pub AnswersOrFault : {A : Type 0} → Result A TextFault → A → Option TextFault → Type 0
+AnswersOrFault {A} result x fault = MatchResult result (λ (y : A). (y ≡ x) × (fault ≡ None)) (λ e. fault ≡ Some e)
 
 -- the same, but an Err may also say that there is no memory
 abbrev pub ReadsOrMemory : {A : Type 0} → Result A TextFault → A → Option TextFault → Type 0

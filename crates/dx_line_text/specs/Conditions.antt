@@ -4,12 +4,12 @@ use Rattle.std.specs.Cmp.Lexicographic.{pointwise}
 use Rattle.dx_ports.specs.Firsts.{first_of}
 use Rattle.dx_ports.specs.Members.{◌∈◌}
 use Rattle.dx_schema.specs.Forest.{Forest}
-use Rattle.dx_schema.specs.Tables.{Text}
+use Rattle.dx_ports.specs.Texts.{Text}
 use Rattle.dx_tokens.specs.declared.faults.TextFault.{TextFault}
 use Rattle.dx_schema_text.specs.declared.texts.OnlyText.{OnlyText}
 use Rattle.dx_funcs.specs.declared.row_test.RowTest.{RowTest}
 use Rattle.dx_lines.specs.declared.line.Condition.{Condition}
-use Rattle.dx_line_text.specs.Naming.{name_fault, place_fault, place_of}
+use Rattle.dx_line_text.specs.Naming.{name_fault, place_fault, place_of_text}
 
 -- the names of row tests
 abbrev pub test_names : List RowTest → List Text
@@ -30,12 +30,12 @@ conditions_fault f list os = first_of (map (condition_fault f list) os)
 
 -- a condition, by the numbers of what it names
 abbrev pub condition_of : Forest → List RowTest → OnlyText → Condition
-condition_of f list o = record { place = place_of f o.place; code = test_code list o.test }
+condition_of f list o = record { place = place_of_text f o.place; code = test_code list o.test }
 
 -- conditions, by the numbers of what they name
 abbrev pub conditions_of : Forest → List RowTest → List OnlyText → List Condition
 conditions_of f list os = map (condition_of f list) os
 
 -- the row test of a condition is listed
-abbrev pub IsTested : List RowTest → Condition → Type 0
-IsTested list c = c.code ∈ map (λ (t : RowTest). t.code) list
+abbrev pub ConditionIsListed : List RowTest → Condition → Type 0
+ConditionIsListed list c = c.code ∈ map (λ (t : RowTest). t.code) list

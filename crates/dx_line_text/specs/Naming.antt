@@ -2,7 +2,8 @@
 use Rattle.std.specs.Prelude.{ℕ, List, [], ◌∷◌, Option, Some, None, cond, eqb, length, map, nat_eq}
 use Rattle.std.specs.Cmp.Lexicographic.{pointwise}
 use Rattle.dx_schema.specs.Forest.{Forest}
-use Rattle.dx_schema.specs.Tables.{Text, TableOf, tables_of, table_at, number_of}
+use Rattle.dx_schema.specs.Tables.{TableOf, tables_of, schema_table, number_of_name}
+use Rattle.dx_ports.specs.Texts.{Text}
 use Rattle.dx_schema.specs.Faults.{is_among}
 use Rattle.dx_tokens.specs.declared.faults.TextFault.{TextFault}
 use Rattle.dx_tokens.specs.declared.faults.TextFault.TheVariants.{At}
@@ -28,11 +29,11 @@ set_names f = map (λ (t : TableOf). t.name) (tables_of f)
 
 -- the number of the set of this name
 abbrev pub set_number : Forest → Text → ℕ
-set_number f x = number_of x (set_names f)
+set_number f x = number_of_name x (set_names f)
 
 -- the names of the columns of the set of this name
 abbrev pub columns_in : Forest → Text → List Text
-columns_in f x = (table_at f (set_number f x)).columns
+columns_in f x = (schema_table f (set_number f x)).columns
 
 -- ---- faults
 
@@ -50,15 +51,15 @@ abbrev pub places_fault : Forest → List PlaceText → Option TextFault
 places_fault f places = first_of (map (place_fault f) places)
 
 -- of a conversion its name is looked at, then how many arguments it takes, then its arguments
-abbrev pub call_fault : Forest → Option Conversion → ℕ → List PlaceText → Option TextFault
-call_fault f None place args = Some (At place UnknownName)
-call_fault f (Some c) place args = cond (eqb c.arity (length args)) (places_fault f args) (Some (At place Width))
+abbrev pub source_call_fault : Forest → Option Conversion → ℕ → List PlaceText → Option TextFault
+source_call_fault f None place args = Some (At place UnknownName)
+source_call_fault f (Some c) place args = cond (eqb c.arity (length args)) (places_fault f args) (Some (At place Width))
 
 -- the first fault of a source; a literal has none
 abbrev pub source_fault : Forest → List Conversion → SourceText → Option TextFault
 source_fault f list (sources.Column p) = place_fault f p
 source_fault f list (sources.Literal t) = None
-source_fault f list (sources.Call name place args) = call_fault f (first_named list name) place args
+source_fault f list (sources.Call name place args) = source_call_fault f (first_named list name) place args
 
 -- of a line its source is looked at, then its target
 abbrev pub line_fault : Forest → Forest → List Conversion → LineText → Option TextFault
@@ -71,8 +72,8 @@ lines_fault source target list lines = first_of (map (line_fault source target l
 -- ---- values
 
 -- the column that a place names: the number of its set, and its own number among the set's columns
-abbrev pub place_of : Forest → PlaceText → Place
-place_of f p = record { table = set_number f p.set; column = number_of p.column (columns_in f p.set) }
+abbrev pub place_of_text : Forest → PlaceText → Place
+place_of_text f p = record { table = set_number f p.set; column = number_of_name p.column (columns_in f p.set) }
 
 -- the code of a conversion that was found
 abbrev pub code_of : Option Conversion → ℕ
@@ -81,21 +82,21 @@ code_of (Some c) = c.code
 
 -- a conversion of the columns that its arguments name
 abbrev pub call_of : Forest → Option Conversion → List PlaceText → Origin
-call_of f found args = origins.Call (code_of found) (map (place_of f) args)
+call_of f found args = origins.Call (code_of found) (map (place_of_text f) args)
 
 -- where a line's values come from
 abbrev pub origin_of : Forest → List Conversion → SourceText → Origin
-origin_of f list (sources.Column p) = origins.Column (place_of f p)
+origin_of f list (sources.Column p) = origins.Column (place_of_text f p)
 origin_of f list (sources.Literal t) = origins.Literal t
 origin_of f list (sources.Call name place args) = call_of f (first_named list name) args
 
 -- a line, by the numbers of what it names
-abbrev pub line_of : Forest → Forest → List Conversion → LineText → Line
-line_of source target list l = record { target = place_of target l.target; source = origin_of source list l.source }
+abbrev pub line_of_text : Forest → Forest → List Conversion → LineText → Line
+line_of_text source target list l = record { target = place_of_text target l.target; source = origin_of source list l.source }
 
 -- lines, by the numbers of what they name
 abbrev pub lines_of : Forest → Forest → List Conversion → List LineText → List Line
-lines_of source target list lines = map (line_of source target list) lines
+lines_of source target list lines = map (line_of_text source target list) lines
 
 -- ---- what is offered
 
@@ -105,6 +106,6 @@ IsOfferedFrom list (origins.Column a) = Unit {0}
 IsOfferedFrom list (origins.Literal t) = Unit {0}
 IsOfferedFrom list (origins.Call code args) = IsListed list code (length args)
 
--- where a line's source is a conversion, it is listed with as many arguments as it takes
+-- if a line's source is a conversion, it is listed with as many arguments as it takes
 abbrev pub IsOffered : List Conversion → Line → Type 0
 IsOffered list l = IsOfferedFrom list l.source

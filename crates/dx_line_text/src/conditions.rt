@@ -4,10 +4,10 @@ ghost use Rattle.dx_ports.specs.Members.{Each};
 ghost use Rattle.dx_schema.specs.Tables.{model_tables};
 ghost use Rattle.dx_tokens.specs.declared.faults.TextFault.TheVariants.{Memory};
 ghost use Rattle.dx_funcs.specs.Judging.{tested};
-ghost use Rattle.dx_lines.specs.Limits.{IsColumn};
-ghost use Rattle.dx_line_text.specs.Answers.{Reads};
+ghost use Rattle.dx_lines.specs.Limits.{IsSchemaColumn};
+ghost use Rattle.dx_line_text.specs.Answers.{AnswersOrFault};
 ghost use Rattle.dx_line_text.specs.Naming.{name_fault};
-ghost use Rattle.dx_line_text.specs.Conditions.{condition_fault, condition_of, conditions_fault, conditions_of, test_code, test_names, IsTested};
+ghost use Rattle.dx_line_text.specs.Conditions.{condition_fault, condition_of, conditions_fault, conditions_of, test_code, test_names, ConditionIsListed};
 
 use crate::places::read_place;
 use dx_funcs::{Meaning, Tests};
@@ -23,7 +23,7 @@ fn read_test<P, M>(tests: &Tests<P, M>, condition: &OnlyText) -> Result<u32, Tex
 where
     P: Fn(u32, &Text) -> Result<bool, AllocError>,
     M: Meaning,
-    ensures { Reads result (test_code (tested tests.now) condition.now.test)
+    ensures { AnswersOrFault result (test_code (tested tests.now) condition.now.test)
         (name_fault (test_names (tested tests.now)) condition.now.test condition.now.test_place) }
 {
     let Some(test) = tests.find(&condition.test) else {
@@ -44,7 +44,7 @@ fn read_condition<P, M>(
 where
     P: Fn(u32, &Text) -> Result<bool, AllocError>,
     M: Meaning,
-    ensures { Reads result (condition_of source.now (tested tests.now) condition.now) (condition_fault source.now (tested tests.now) condition.now) }
+    ensures { AnswersOrFault result (condition_of source.now (tested tests.now) condition.now) (condition_fault source.now (tested tests.now) condition.now) }
 {
     let place = read_place(source, &condition.place)?;
     let code = read_test(tests, condition)?;
@@ -70,8 +70,8 @@ where
     ensures conditions { IfOk result (λ cs. cs ≡ conditions_of source.now (tested tests.now) conditions.now) }
     ensures none { OnOk result (conditions_fault source.now (tested tests.now) conditions.now ≡ None) }
     ensures fault { IfErr result (λ e. (e ≡ Memory) ⊎ (conditions_fault source.now (tested tests.now) conditions.now ≡ Some e)) }
-    ensures columns { IfOk result (λ cs. Each cs (λ c. IsColumn (model_tables source.now) c.place)) }
-    ensures listed { IfOk result (λ cs. Each cs (IsTested (tested tests.now))) }
+    ensures columns { IfOk result (λ cs. Each cs (λ c. IsSchemaColumn (model_tables source.now) c.place)) }
+    ensures listed { IfOk result (λ cs. Each cs (ConditionIsListed (tested tests.now))) }
 {
     let mut read = Items::new(alloc);
     for condition in conditions {

@@ -7,7 +7,7 @@ ghost use Rattle.dx_funcs.specs.Names.{first_named};
 ghost use Rattle.dx_funcs.specs.Serving.{offered};
 ghost use Rattle.dx_lines.specs.Limits.{LineFits};
 ghost use Rattle.dx_line_text.specs.Answers.{ReadsOrMemory};
-ghost use Rattle.dx_line_text.specs.Naming.{call_fault, call_of, line_fault, line_of, lines_fault, lines_of, origin_of, source_fault, IsOffered};
+ghost use Rattle.dx_line_text.specs.Naming.{source_call_fault, call_of, line_fault, line_of_text, lines_fault, lines_of, origin_of, source_fault, IsOffered};
 
 use crate::places::{read_place, read_places};
 use dx_funcs::{Host, Meaning};
@@ -32,7 +32,7 @@ where
     M: Meaning,
     ensures { ReadsOrMemory result
         (call_of schema.now (first_named (offered host.now) name.now) args.now)
-        (call_fault schema.now (first_named (offered host.now) name.now) place args.now) }
+        (source_call_fault schema.now (first_named (offered host.now) name.now) place args.now) }
 {
     let Some(conversion) = host.find(name) else {
         return Err(TextFault::At {
@@ -87,7 +87,7 @@ where
     F: Fn(u32, &Items<Text>) -> Result<Text, AllocError>,
     M: Meaning,
     ensures { ReadsOrMemory result
-        (line_of source.now target.now (offered host.now) line.now)
+        (line_of_text source.now target.now (offered host.now) line.now)
         (line_fault source.now target.now (offered host.now) line.now) }
 {
     let origin = read_source(alloc, source, host, &line.source)?;

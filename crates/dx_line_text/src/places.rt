@@ -1,7 +1,7 @@
 // The columns that places name.
 ghost use Rattle.std.specs.Prelude.{map};
-ghost use Rattle.dx_line_text.specs.Answers.{Reads, ReadsOrMemory};
-ghost use Rattle.dx_line_text.specs.Naming.{place_fault, place_of, places_fault};
+ghost use Rattle.dx_line_text.specs.Answers.{AnswersOrFault, ReadsOrMemory};
+ghost use Rattle.dx_line_text.specs.Naming.{place_fault, place_of_text, places_fault};
 
 use dx_lines::Place;
 use dx_ports::Items;
@@ -12,7 +12,7 @@ use std::alloc::Global;
 
 /// The column that a place names. Refused is a set that isn't there, then a column that isn't there.
 pub fn read_place(schema: &Schema, place: &PlaceText) -> Result<Place, TextFault>
-    ensures { Reads result (place_of schema.now place.now) (place_fault schema.now place.now) }
+    ensures { AnswersOrFault result (place_of_text schema.now place.now) (place_fault schema.now place.now) }
 {
     // What holds of the tables of each schema.
     let _tables = schema.tables();
@@ -37,7 +37,7 @@ pub fn read_places(
     schema: &Schema,
     places: &[PlaceText],
 ) -> Result<Items<Place>, TextFault>
-    ensures { ReadsOrMemory result (map (place_of schema.now) places.now) (places_fault schema.now places.now) }
+    ensures { ReadsOrMemory result (map (place_of_text schema.now) places.now) (places_fault schema.now places.now) }
 {
     let mut columns = Items::new(alloc);
     for place in places {

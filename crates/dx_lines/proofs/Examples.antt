@@ -17,12 +17,12 @@ use Rattle.dx_lines.specs.declared.term.Term.{Term}
 use Rattle.dx_lines.specs.declared.term.Term.TheVariants.{Var as Variable, Call}
 use Rattle.dx_lines.specs.Ways.{ways}
 use Rattle.dx_lines.specs.Candidates.{candidates_of}
-use Rattle.dx_lines.specs.Parts.{parts, part_of}
+use Rattle.dx_lines.specs.Parts.{parts, part_occurrences}
 use Rattle.dx_logical.specs.Unfolding.{variant_of}
 use Rattle.dx_lines.specs.Kept.{kept_candidates}
 use Rattle.dx_lines.specs.Rules.{kept_rules}
-use Rattle.dx_lines.specs.Limits.{passed, IsColumn, LineFits}
-use Rattle.dx_lines.specs.Reading.{HaveColumn, IsRead, IsReached}
+use Rattle.dx_lines.specs.Limits.{passed_limit, IsSchemaColumn, LineFits}
+use Rattle.dx_lines.specs.Reading.{HaveColumn, CanBeRead, IsReached}
 use Rattle.dx_logical.specs.declared.relation.Occurrence.{Occurrence}
 use Rattle.dx_ports.specs.Members.{here, there}
 
@@ -77,7 +77,7 @@ company_rules : kept_rules company_lines company units ≡
     ∷ []
 company_rules = refl
 
-company_passes_none : passed company_lines company units ≡ None
+company_passes_none : passed_limit company_lines company units ≡ None
 company_passes_none = refl
 
 -- ---- trip(no, start, goal) with two links to city(code, label); visit(a, b)
@@ -216,10 +216,10 @@ six = twice 1 ∷ twice 2 ∷ twice 3 ∷ twice 4 ∷ twice 5 ∷ table 1 [] ∷
 abbrev seven : List Table
 seven = twice 1 ∷ twice 2 ∷ twice 3 ∷ twice 4 ∷ twice 5 ∷ twice 6 ∷ table 1 [] ∷ []
 
-six_pass_none : passed [] six six ≡ None
+six_pass_none : passed_limit [] six six ≡ None
 six_pass_none = refl
 
-seven_pass : passed [] seven seven ≡ Some (record { what = counts.Occurrences; number = 64 })
+seven_pass : passed_limit [] seven seven ≡ Some (record { what = counts.Occurrences; number = 64 })
 seven_pass = refl
 
 -- ---- the order of terms, and terms that are found twice
@@ -278,32 +278,32 @@ two_to_each (suc n) = from_column 0 0 0 n ∷ from_column 0 1 0 n ∷ two_to_eac
 abbrev one : List Table
 one = table 1 [] ∷ []
 
-sixty_four_occurrences : passed [] (fan 1 63) (fan 1 63) ≡ None
+sixty_four_occurrences : passed_limit [] (fan 1 63) (fan 1 63) ≡ None
 sixty_four_occurrences = refl
 
-sixty_five_in_the_source : passed [] (fan 1 64) one ≡ Some (record { what = counts.Occurrences; number = 64 })
+sixty_five_in_the_source : passed_limit [] (fan 1 64) one ≡ Some (record { what = counts.Occurrences; number = 64 })
 sixty_five_in_the_source = refl
 
-sixty_five_in_the_target : passed [] one (fan 1 64) ≡ Some (record { what = counts.Occurrences; number = 64 })
+sixty_five_in_the_target : passed_limit [] one (fan 1 64) ≡ Some (record { what = counts.Occurrences; number = 64 })
 sixty_five_in_the_target = refl
 
-sixty_four_ways : passed (from_each 64 0) (table 64 [] ∷ []) one ≡ None
+sixty_four_ways : passed_limit (from_each 64 0) (table 64 [] ∷ []) one ≡ None
 sixty_four_ways = refl
 
-sixty_five_ways : passed (from_each 65 0) (table 65 [] ∷ []) one ≡ Some (record { what = counts.Ways; number = 64 })
+sixty_five_ways : passed_limit (from_each 65 0) (table 65 [] ∷ []) one ≡ Some (record { what = counts.Ways; number = 64 })
 sixty_five_ways = refl
 
-all_candidates : passed (two_to_each 10) (table 2 [] ∷ []) (table 10 [] ∷ one) ≡ None
+all_candidates : passed_limit (two_to_each 10) (table 2 [] ∷ []) (table 10 [] ∷ one) ≡ None
 all_candidates = refl
 
-one_candidate_more : passed (from_column 0 0 1 0 ∷ two_to_each 10) (table 2 [] ∷ []) (table 10 [] ∷ one) ≡ Some (record { what = counts.Candidates; number = 1024 })
+one_candidate_more : passed_limit (from_column 0 0 1 0 ∷ two_to_each 10) (table 2 [] ∷ []) (table 10 [] ∷ one) ≡ Some (record { what = counts.Candidates; number = 1024 })
 one_candidate_more = refl
 
 -- where several limits are passed, occurrences are told before ways, and ways before candidates
-occurrences_first : passed (from_each 65 0) (fan 65 64) one ≡ Some (record { what = counts.Occurrences; number = 64 })
+occurrences_first : passed_limit (from_each 65 0) (fan 65 64) one ≡ Some (record { what = counts.Occurrences; number = 64 })
 occurrences_first = refl
 
-ways_first : passed (from_each 33 0 ++ from_each 33 1) (table 33 [] ∷ []) (table 2 [] ∷ []) ≡ Some (record { what = counts.Ways; number = 64 })
+ways_first : passed_limit (from_each 33 0 ++ from_each 33 1) (table 33 [] ∷ []) (table 2 [] ∷ []) ≡ Some (record { what = counts.Ways; number = 64 })
 ways_first = refl
 
 -- ---- optional links
@@ -347,7 +347,7 @@ one_line_rules : kept_rules (from_column 0 0 0 0 ∷ []) open_company places ≡
 one_line_rules = refl
 
 -- the parts of the employee with the department: the whole, the employee alone, the department
-open_parts : map (λ a. map (λ (o : Occurrence). o.table) (part_of (variant_of open_company 0 1).occurrences a)) (parts open_company (variant_of open_company 0 1).occurrences) ≡
+open_parts : map (λ a. map (λ (o : Occurrence). o.table) (part_occurrences (variant_of open_company 0 1).occurrences a)) (parts open_company (variant_of open_company 0 1).occurrences) ≡
     (0 ∷ 1 ∷ []) ∷ (0 ∷ []) ∷ (1 ∷ []) ∷ []
 open_parts = refl
 
@@ -372,10 +372,10 @@ abbrev star : ℕ → List Table
 star n = open_table n (open_links n) ∷ many_of n []
 
 -- 128 and 7 variants are accepted, 256 and 8 are not
-seven_open : passed [] (star 7) one ≡ None
+seven_open : passed_limit [] (star 7) one ≡ None
 seven_open = refl
 
-eight_open : passed [] (star 8) one ≡ Some (record { what = counts.Variants; number = 256 })
+eight_open : passed_limit [] (star 8) one ≡ Some (record { what = counts.Variants; number = 256 })
 eight_open = refl
 
 -- ---- lines that fit, and that can be read
@@ -384,22 +384,22 @@ eight_open = refl
 last_columns_fit : LineFits (table 2 [] ∷ []) (table 3 [] ∷ []) (from_column 0 1 0 2)
 last_columns_fit = record {
   to = record { table = omega arith; column = omega arith };
-  from = λ a m. elim m [ here e ↦ subst (IsColumn (table 2 [] ∷ [])) e (record { table = omega arith; column = omega arith }) | there n ↦ elim n [ ] ];
+  from = λ a m. elim m [ here e ↦ subst (IsSchemaColumn (table 2 [] ∷ [])) e (record { table = omega arith; column = omega arith }) | there n ↦ elim n [ ] ];
 }
 
-no_column_behind : ¬ IsColumn (table 2 [] ∷ []) (at 0 2)
+no_column_behind : ¬ IsSchemaColumn (table 2 [] ∷ []) (at 0 2)
 no_column_behind h = let c = h.column in omega (arith, c)
 
-no_table_behind : ¬ IsColumn (table 2 [] ∷ []) (at 1 0)
+no_table_behind : ¬ IsSchemaColumn (table 2 [] ∷ []) (at 1 0)
 no_table_behind h = let c = h.table in omega (arith, c)
 
 abbrev seen_one : List Occurrence
 seen_one = record { table = 0; variables = 0 ∷ 1 ∷ []; parent = None; link = 0 } ∷ []
 
-last_is_read : IsRead seen_one (from_column 0 1 0 2)
+last_is_read : CanBeRead seen_one (from_column 0 1 0 2)
 last_is_read a m = elim m [ here e ↦ subst (HaveColumn seen_one) e (λ o n h. elim n [ here g ↦ subst (λ (p : Occurrence). 1 < length p.variables) g (omega arith) | there k ↦ elim k [ ] ]) | there n ↦ elim n [ ] ]
 
-behind_is_not_read : ¬ IsRead seen_one (from_column 0 2 0 1)
+behind_is_not_read : ¬ CanBeRead seen_one (from_column 0 2 0 1)
 behind_is_not_read h = let b = h (at 0 2) (here refl) (record { table = 0; variables = 0 ∷ 1 ∷ []; parent = None; link = 0 }) (here refl) refl in omega (arith, b)
 
 last_is_reached : IsReached seen_one (from_column 0 2 0 1)

@@ -9,7 +9,7 @@ use Rattle.dx_lines.specs.declared.line.Place.{Place}
 use Rattle.dx_lines.specs.declared.line.Line.{Line}
 use Rattle.dx_logical.specs.declared.relation.Relation.{Relation}
 use Rattle.dx_logical.specs.Unfolding.{variants_of}
-use Rattle.dx_lines.specs.Ways.{named}
+use Rattle.dx_lines.specs.Ways.{named_columns}
 use Rattle.dx_lines.specs.Candidates.{upto, all_variants, pair_ways, candidates_of}
 
 -- the first of these, or else what is found otherwise
@@ -41,18 +41,18 @@ abbrev pub has_many_ways : List Line → List Table → List Table → Bool
 has_many_ways lines source target = list_any (λ s. list_any (λ t. nat_lt 64 (length (pair_ways lines s t))) (all_variants target)) (all_variants source)
 
 -- the first limit that is passed: those of the source's tables, then those of the target's, then ways, then candidates
-abbrev pub passed : List Line → List Table → List Table → Option Limit
-passed lines source target =
+abbrev pub passed_limit : List Line → List Table → List Table → Option Limit
+passed_limit lines source target =
     first_or (passed_by source ++ passed_by target)
     (cond (has_many_ways lines source target) (Some (record { what = Ways; number = 64 }))
     (cond (nat_lt 1024 (length (candidates_of lines source target))) (Some (record { what = Candidates; number = 1024 })) None))
 
 -- a place is a column of a schema
-pub record IsColumn (schema : List Table) (a : Place) : Type 0 where
+pub record IsSchemaColumn (schema : List Table) (a : Place) : Type 0 where
   pub table : a.table < length schema
   pub column : a.column < (table_of schema a.table).width
 
 -- the places of a line are columns of their schemas
 pub record LineFits (source target : List Table) (l : Line) : Type 0 where
-  pub to : IsColumn target l.target
-  pub from : Each (named l.source) (IsColumn source)
+  pub to : IsSchemaColumn target l.target
+  pub from : Each (named_columns l.source) (IsSchemaColumn source)

@@ -3,12 +3,13 @@ use Rattle.std.proofs.Common.{◌≡◌, ℕ, Some, None, List, [], ◌∷◌, r
 use Rattle.std.specs.Prelude.{map}
 use Rattle.dx_model.specs.declared.tables.Link.{Link}
 use Rattle.dx_model.specs.Tables.{Table}
-use Rattle.dx_schema.specs.Forest.{Forest, none, set, bare}
-use Rattle.dx_schema.specs.Tables.{Text, model_tables}
+use Rattle.dx_schema.specs.Forest.{Forest, none, set, bare_set}
+use Rattle.dx_schema.specs.Tables.{model_tables}
+use Rattle.dx_ports.specs.Texts.{Text}
 use Rattle.dx_logical.specs.declared.relation.Occurrence.{Occurrence}
 use Rattle.dx_logical.specs.declared.relation.Relation.{Relation}
 use Rattle.dx_logical.specs.Unfolding.{variants_of, unfolding_of, sub}
-use Rattle.dx_logical.specs.Laws.{variables_of}
+use Rattle.dx_logical.specs.Laws.{unfolding_variables}
 
 -- tables with their variables
 abbrev atoms : List Occurrence → List (ℕ × List ℕ)
@@ -32,7 +33,7 @@ c = 99 ∷ []
 abbrev employees : Forest
 employees =
     set (record { name = a; columns = a ∷ b ∷ []; keys = []; deps = []; refs = record { columns = b ∷ []; set = b; referred = a ∷ []; optional = false } ∷ [] }) none
-    (set (bare b (a ∷ [])) none none)
+    (set (bare_set b (a ∷ [])) none none)
 
 -- emp(0, 1), dept(1)
 employees-unfolded : unfolded_from (model_tables employees) 0 ≡ (0, 0 ∷ 1 ∷ []) ∷ (1, 1 ∷ []) ∷ []
@@ -51,7 +52,7 @@ departments-unfolded = refl
 
 -- unit(#id, b) with the inner set staff(#up, a)
 abbrev units : Forest
-units = set (bare a (b ∷ [])) (set (bare b (a ∷ [])) none none) none
+units = set (bare_set a (b ∷ [])) (set (bare_set b (a ∷ [])) none none) none
 
 -- staff(0, 1), unit(0, 2)
 staff-unfolded : unfolded_from (model_tables units) 1 ≡ (1, 0 ∷ 1 ∷ []) ∷ (0, 0 ∷ 2 ∷ []) ∷ []
@@ -61,7 +62,7 @@ staff-unfolded = refl
 abbrev trips : Forest
 trips =
     set (record { name = a; columns = a ∷ b ∷ c ∷ []; keys = []; deps = []; refs = record { columns = b ∷ []; set = b; referred = a ∷ []; optional = false } ∷ record { columns = c ∷ []; set = b; referred = a ∷ []; optional = false } ∷ [] }) none
-    (set (bare b (a ∷ b ∷ [])) none none)
+    (set (bare_set b (a ∷ b ∷ [])) none none)
 
 -- trip(0, 1, 2), city(1, 3), city(2, 4)
 trips-unfolded : unfolded_from (model_tables trips) 0 ≡ (0, 0 ∷ 1 ∷ 2 ∷ []) ∷ (1, 1 ∷ 3 ∷ []) ∷ (1, 2 ∷ 4 ∷ []) ∷ []
@@ -112,7 +113,7 @@ five : length (sub (unfolding_of (twice 1 ∷ twice 2 ∷ twice 3 ∷ twice 4 �
 five = refl
 
 -- variables are numbered by first appearance
-trips-variables : variables_of (unfolding_of (model_tables trips) 0) ≡ 0 ∷ 1 ∷ 2 ∷ 1 ∷ 3 ∷ 2 ∷ 4 ∷ []
+trips-variables : unfolding_variables (unfolding_of (model_tables trips) 0) ≡ 0 ∷ 1 ∷ 2 ∷ 1 ∷ 3 ∷ 2 ∷ 4 ∷ []
 trips-variables = refl
 
 -- ---- optional links

@@ -12,7 +12,7 @@ use Rattle.dx_ports.proofs.Members.{in_map, from_map, in_flat_map, from_flat_map
 use Rattle.dx_model.specs.Values.{value_cmp}
 use Rattle.dx_model.specs.Instances.{moved, fact_moved, given, values, image, IsHomomorphism}
 use Rattle.dx_model.specs.Tables.{Table, FactFits}
-use Rattle.dx_model.specs.Rules.{said}
+use Rattle.dx_model.specs.Rules.{fact_of_atom}
 use Rattle.dx_model.specs.Chase.{ForcedEqual}
 use Rattle.dx_model.specs.Following.{frozen}
 use Rattle.dx_model.specs.Laws.{MovesFollow, ForcedImageStays, UncoveredIsPart, KeysByMembers, ImageByMembers, ReductByMembers, ForcedMapByMembers, NoneReceivesByMembers, UniversalByMembers, CoreByMembers, KeyedMapIsEmpty, NoKeysHold, MapsJoin, SaidByMoves, FrozenFits}
@@ -143,12 +143,12 @@ said_by_moves texts atoms K = (
   (λ w. (
     (λ n. w.0 n.var),
     λ f m.
-        let a = from_map (said texts (λ v. Null (record { rule = 0; var = v; row = 0 }))) atoms m in
+        let a = from_map (fact_of_atom texts (λ v. Null (record { rule = 0; var = v; row = 0 }))) atoms m in
         subst (λ (e : Fact). fact_moved (λ n. w.0 n.var) e ∈ K) a.2 (rw (said_moved (λ n. w.0 n.var) texts (λ v. Null (record { rule = 0; var = v; row = 0 })) a.0) (w.1 a.0 a.1)),
   )),
   (λ w. (
     (λ v. w.0 (record { rule = 0; var = v; row = 0 })),
-    λ a m. rw (← said_moved w.0 texts (λ v. Null (record { rule = 0; var = v; row = 0 })) a) (w.1 _ (in_map (said texts (λ v. Null (record { rule = 0; var = v; row = 0 }))) m)),
+    λ a m. rw (← said_moved w.0 texts (λ v. Null (record { rule = 0; var = v; row = 0 })) a) (w.1 _ (in_map (fact_of_atom texts (λ v. Null (record { rule = 0; var = v; row = 0 }))) m)),
   )),
 )
 

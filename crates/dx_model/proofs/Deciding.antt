@@ -14,9 +14,10 @@ use Rattle.dx_model.specs.declared.rules.Rule.{Rule}
 use Rattle.dx_ports.specs.Members.{◌∈◌, ◌⊆◌, here, there, Each}
 use Rattle.dx_ports.proofs.Members.{from_append, in_map, in_flat_map, from_flat_map}
 use Rattle.dx_ports.proofs.Tests.{from_filter}
-use Rattle.dx_model.specs.Values.{Text, Conversions}
+use Rattle.dx_model.specs.Values.{Conversions}
+use Rattle.dx_ports.specs.Texts.{Text}
 use Rattle.dx_model.specs.Instances.{values}
-use Rattle.dx_model.specs.Rules.{cell_value, said, cells_of, existential_in, existentials, canonical}
+use Rattle.dx_model.specs.Rules.{cell_value, fact_of_atom, cells_of, existential_in, existentials, canonical}
 use Rattle.dx_model.specs.Fitting.{IsRule}
 use Rattle.dx_model.specs.Following.{frozen, frozen_text, IsClean, are_none, underived, CanGo, PrunedAfter}
 use Rattle.dx_model.specs.Laws.{FollowsIsDecided, PrunedExists}
@@ -33,7 +34,7 @@ cells_with texts u v (Var x ∷ cs) s = let r = cells_with texts u v cs (λ y m.
 cells_with texts u v (Ex x ∷ cs) s = let e = s x (here refl) in let r = cells_with texts u v cs (λ y m. s y (there m)) in cc
 cells_with texts u v (Lit t ∷ cs) s = let r = cells_with texts u v cs (λ y m. s y (there m)) in cc
 
-said_with : (texts : ℕ → Text) (u v : ℕ → Value) (a : Atom) → ((x : ℕ) → Ex x ∈ a.cells → u x ≡ v x) → said texts u a ≡ said texts v a
+said_with : (texts : ℕ → Text) (u v : ℕ → Value) (a : Atom) → ((x : ℕ) → Ex x ∈ a.cells → u x ≡ v x) → fact_of_atom texts u a ≡ fact_of_atom texts v a
 said_with texts u v a s = let e = cells_with texts u v a.cells s in (λ i. record { table = a.table; row = e i })
 
 pub from_existential : (v : ℕ) (c : Cell) → v ∈ existential_in c → c ≡ Ex v
@@ -53,11 +54,11 @@ in_existentials v atoms a m n = in_flat_map existential_in (in_flat_map (λ (a :
 
 module _ (texts : ℕ → Text) (atoms : List Atom) (K : List Fact) where
   abbrev AllIn : (ℕ → Value) → List Atom → Type 0
-  AllIn vs list = Each list (λ a. said texts vs a ∈ K)
+  AllIn vs list = Each list (λ a. fact_of_atom texts vs a ∈ K)
 
   all_in : (vs : ℕ → Value) (list : List Atom) → AllIn vs list ⊎ (¬ (AllIn vs list))
   all_in vs [] = inl (λ a m. elim m [ ])
-  all_in vs (a ∷ list) = elim (decide_in same_fact (said texts vs a) K) [
+  all_in vs (a ∷ list) = elim (decide_in same_fact (fact_of_atom texts vs a) K) [
     | inr n ↦ inr (λ h. n (h a (here refl)))
     | inl h ↦ elim (all_in vs list) [
       | inr n ↦ inr (λ k. n (λ b m. k b (there m)))
@@ -65,8 +66,8 @@ module _ (texts : ℕ → Text) (atoms : List Atom) (K : List Fact) where
     ]
   ]
     where
-      both : said texts vs a ∈ K → AllIn vs list → AllIn vs (a ∷ list)
-      both h k b (here e) = subst (λ (c : Atom). said texts vs c ∈ K) e h
+      both : fact_of_atom texts vs a ∈ K → AllIn vs list → AllIn vs (a ∷ list)
+      both h k b (here e) = subst (λ (c : Atom). fact_of_atom texts vs c ∈ K) e h
       both h k b (there m) = k b m
 
   -- the value of an existential variable of the atoms stands in K

@@ -16,10 +16,10 @@ use Rattle.dx_model.specs.declared.rules.Cell.TheVariants.{Var, Ex, Lit}
 use Rattle.dx_model.specs.declared.rules.Atom.{Atom}
 use Rattle.dx_model.specs.declared.rules.Rule.{Rule}
 use Rattle.dx_ports.specs.Members.{◌∈◌, here, there}
-use Rattle.dx_model.specs.Rules.{cell_value, said, cells_of, AreRows, canonical, premise_fact, IsMatch}
+use Rattle.dx_model.specs.Rules.{cell_value, fact_of_atom, cells_of, AreRows, canonical, premise_fact, IsMatch}
 use Rattle.dx_ports.proofs.Members.{from_map, in_map, in_left, in_right, in_flat_map, from_flat_map, from_append}
-use Rattle.dx_model.specs.Following.{Follows, frozen, IsPlain, frozen_text, IsClean}
-use Rattle.dx_model.specs.Fitting.{Numbered, IsVariable, variable_in, premise_variables, IsRule}
+use Rattle.dx_model.specs.Following.{Follows, frozen, CanBeFrozen, frozen_text, IsClean}
+use Rattle.dx_model.specs.Fitting.{ByFirstAppearance, IsVariable, cell_variable, premise_variables, IsRule}
 use Rattle.dx_model.specs.Covers.{below}
 use Rattle.dx_model.specs.Laws.{FollowsByFrozen, FollowsByPrefix}
 use Rattle.dx_model.specs.Instances.{both, fact_both}
@@ -29,7 +29,7 @@ use Rattle.dx_model.proofs.Lists.{find_some, find_none, in_below, from_below}
 use Rattle.dx_model.proofs.RowsExist.{below_after}
 
 module _ (convert : ℕ → List (List ℕ) → List ℕ) (freeze : ℕ → List ℕ) (thaw : List ℕ → Option ℕ) (d : Rule)
-    (back : (x : ℕ) → Var x ∈ cells_of (d.premise ++ d.conclusion) → thaw (freeze x) ≡ Some x) (dp : IsPlain thaw d) where
+    (back : (x : ℕ) → Var x ∈ cells_of (d.premise ++ d.conclusion) → thaw (freeze x) ≡ Some x) (dp : CanBeFrozen thaw d) where
   -- the frozen texts become those of a match, and the others stay
   by_thaw : (ℕ → List ℕ) → List ℕ → Option ℕ → List ℕ
   by_thaw texts t None = t
@@ -56,7 +56,7 @@ module _ (convert : ℕ → List (List ℕ) → List ℕ) (freeze : ℕ → List
       rw w.1 (cc)
 
   -- a match in the frozen premise, thawed, is a match wherever the rule has one
-  match_thawed : (I : List Fact) (texts : ℕ → List ℕ) (w : IsMatch convert d I texts) (r : Rule) → IsPlain thaw r → (t : ℕ → List ℕ)
+  match_thawed : (I : List Fact) (texts : ℕ → List ℕ) (w : IsMatch convert d I texts) (r : Rule) → CanBeFrozen thaw r → (t : ℕ → List ℕ)
       → IsMatch convert r (frozen freeze d) t → IsMatch convert r I (λ x. thawed texts (t x))
   match_thawed I texts w r rp t m = record {
     premise = λ a i.
@@ -76,8 +76,8 @@ module _ (convert : ℕ → List (List ℕ) → List ℕ) (freeze : ℕ → List
       frozen_cells texts (Ex x ∷ cs) h = let k = frozen_cells texts cs (λ y m. h y (there m)) in cc
       frozen_cells texts (Lit x ∷ cs) h = let k = frozen_cells texts cs (λ y m. h y (there m)) in cc
 
-  sufficient : (R : List Rule) (rows : List (List (List (List ℕ)))) → ((r : Rule) → r ∈ R → IsPlain thaw r) → AreRows convert R (frozen freeze d) rows
-      → (values : ℕ → Value) → ((a : Atom) → a ∈ d.conclusion → said freeze values a ∈ canonical 0 R rows) → Follows convert R d
+  sufficient : (R : List Rule) (rows : List (List (List (List ℕ)))) → ((r : Rule) → r ∈ R → CanBeFrozen thaw r) → AreRows convert R (frozen freeze d) rows
+      → (values : ℕ → Value) → ((a : Atom) → a ∈ d.conclusion → fact_of_atom freeze values a ∈ canonical 0 R rows) → Follows convert R d
   sufficient R rows p a values c I K s texts w =
       let G = canonical_moves convert R (frozen freeze d) I K rows (thawed texts) a
       (λ r m b n t l. thawed_plain texts t ((p r m).literals b n t l)) (λ r m. match_thawed I texts w r (p r m)) s in
@@ -98,23 +98,23 @@ follows_by_frozen convert freeze thaw R d rows back dp p a = (
 -- ---- a prefix and digits
 
 -- there are no more variables than places at which they are numbered
-pub few_numbered : (n m : ℕ) (xs : List ℕ) → Numbered n xs m → m ≤ n + length xs
+pub few_numbered : (n m : ℕ) (xs : List ℕ) → ByFirstAppearance n xs m → m ≤ n + length xs
 few_numbered n m [] e = omega (arith, e)
 few_numbered n m (x ∷ xs) (inl (l, r)) = let i = few_numbered n m xs r in omega (arith, i)
 few_numbered n m (x ∷ xs) (inr (e, r)) = let i = few_numbered (suc n) m xs r in omega (arith, i)
 
-few_in_cell : (c : Cell) → length (variable_in c) ≤ 1
+few_in_cell : (c : Cell) → length (cell_variable c) ≤ 1
 few_in_cell (Var x) = omega arith
 few_in_cell (Ex v) = omega arith
 few_in_cell (Lit t) = omega arith
 
-pub few_in_cells : (cs : List Cell) → length (flat_map variable_in cs) ≤ length cs
+pub few_in_cells : (cs : List Cell) → length (flat_map cell_variable cs) ≤ length cs
 few_in_cells [] = omega arith
-few_in_cells (c ∷ cs) = let a = few_in_cell c in let b = few_in_cells cs in let e = length-append (variable_in c) (flat_map variable_in cs) in omega (arith, a, b, e)
+few_in_cells (c ∷ cs) = let a = few_in_cell c in let b = few_in_cells cs in let e = length-append (cell_variable c) (flat_map cell_variable cs) in omega (arith, a, b, e)
 
 few_variables : (d : Rule) → IsRule d → premise_variables d < 2 ^ 64
 few_variables d r =
-    let a = few_numbered 0 (premise_variables d) (flat_map variable_in (cells_of d.premise)) r.numbered in
+    let a = few_numbered 0 (premise_variables d) (flat_map cell_variable (cells_of d.premise)) r.numbered in
     let b = few_in_cells (cells_of d.premise) in
     let c = r.few_variables in
     omega (arith, a, b, c)
@@ -154,7 +154,7 @@ module _ (prefix : List ℕ) (n : ℕ) (small : n < 2 ^ 64) where
           let w = find_some (λ y. bytes_eq (frozen_text prefix y) t) y (below n) e in
           absurd (clean (decimal y) (sym ((bytes_eq-Decides (frozen_text prefix y) t).0 w.1)))
 
-  plain_by : (r : Rule) → IsRule r × (r.derived ≡ []) × IsClean prefix r → IsPlain thaw_below r
+  plain_by : (r : Rule) → IsRule r × (r.derived ≡ []) × IsClean prefix r → CanBeFrozen thaw_below r
   plain_by r h = record {
     derived = h.1;
     variables = λ a m c k. variable_of c (h.0.plain a m c k);

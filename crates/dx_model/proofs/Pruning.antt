@@ -13,10 +13,11 @@ use Rattle.dx_model.specs.declared.rules.Rule.{Rule}
 use Rattle.dx_ports.specs.Members.{◌∈◌, ◌⊆◌, here, there, Each}
 use Rattle.dx_ports.proofs.Members.{in_left, in_right, from_append, from_flat_map}
 use Rattle.dx_ports.proofs.Tests.{from_filter}
-use Rattle.dx_model.specs.Values.{Text, Conversions}
+use Rattle.dx_model.specs.Values.{Conversions}
+use Rattle.dx_ports.specs.Texts.{Text}
 use Rattle.dx_model.specs.Instances.{HoldsConstants}
 use Rattle.dx_model.specs.Tables.{Table, table_of, FactFits}
-use Rattle.dx_model.specs.Rules.{cell_value, said, premise_fact, Satisfies}
+use Rattle.dx_model.specs.Rules.{cell_value, fact_of_atom, premise_fact, Satisfies}
 use Rattle.dx_model.specs.Solutions.{AtomFits}
 use Rattle.dx_model.specs.Following.{SatisfyAll, Implies, are_none, CanGo, PrunedAfter}
 use Rattle.dx_model.specs.Laws.{ImpliesEach, OnePruned, PrunedImplies, FollowsInSchemas}
@@ -145,7 +146,7 @@ source_fits schema f = elim (fact_fits schema f) [
   | inl a ↦ elim (are_constants f.row) [ inl b ↦ inl (a, b) | inr n ↦ inr (λ h. n h.1) ]
 ]
 
-pub said_fits : (schema : List Table) (texts : ℕ → Text) (values : ℕ → Value) (a : Atom) → AtomFits schema a → FactFits schema (said texts values a)
+pub said_fits : (schema : List Table) (texts : ℕ → Text) (values : ℕ → Value) (a : Atom) → AtomFits schema a → FactFits schema (fact_of_atom texts values a)
 said_fits schema texts values a h = record { table = h.table; width = length-map a.cells (cell_value texts values) ∙ h.width }
 
 pub premise_constants : (texts : ℕ → Text) (cs : List Cell) → AreConstants (map (cell_value texts (λ _. Const [])) cs)
@@ -167,10 +168,10 @@ follows_in_schemas convert source target R d fit h I K s texts m =
     let fits_L : (f : Fact) → f ∈ L → FactFits target f = λ f k. (from_kept (FactFits target) (fact_fits target) f K k).1 in
     let satisfied : SatisfyAll convert R J L = λ r k t n.
     let v = s r k t (match_of convert r J I t into n) in
-    (v.0, λ a l. in_kept (FactFits target) (fact_fits target) (said t v.0 a) K (v.1 a l) (said_fits target t v.0 a ((fit r (there k)).conclusion a l))) in
+    (v.0, λ a l. in_kept (FactFits target) (fact_fits target) (fact_of_atom t v.0 a) K (v.1 a l) (said_fits target t v.0 a ((fit r (there k)).conclusion a l))) in
     let n = h J L fits_J constants fits_L satisfied texts (record {
       premise = λ a k. in_kept (IsSource source) (source_fits source) (premise_fact texts a) I (m.premise a k)
           (said_fits source texts (λ _. Const []) a ((fit d (here refl)).premise a k), premise_constants texts a.cells);
       derived = m.derived;
     }) in
-    (n.0, λ a k. (from_kept (FactFits target) (fact_fits target) (said texts n.0 a) K (n.1 a k)).0)
+    (n.0, λ a k. (from_kept (FactFits target) (fact_fits target) (fact_of_atom texts n.0 a) K (n.1 a k)).0)

@@ -15,10 +15,11 @@ use Rattle.dx_model.specs.declared.rules.Rule.{Rule}
 use Rattle.dx_ports.specs.Members.{◌∈◌, ◌⊆◌, here, there, Each}
 use Rattle.dx_ports.proofs.Members.{in_map, from_map, in_right, in_flat_map, from_flat_map}
 use Rattle.dx_ports.proofs.Tests.{map_same}
-use Rattle.dx_model.specs.Values.{Text, Tuple, Conversions, tuple_cmp}
+use Rattle.dx_model.specs.Values.{Tuple, Conversions, tuple_cmp}
+use Rattle.dx_ports.specs.Texts.{Text}
 use Rattle.dx_model.specs.Tables.{AreWithin}
 use Rattle.dx_model.specs.Rules.{cell_value, premise_fact, after_cells, cells_of, Derive, IsMatch, exported, text_of}
-use Rattle.dx_model.specs.Fitting.{Numbered, variable_in, premise_variables, IsRule}
+use Rattle.dx_model.specs.Fitting.{ByFirstAppearance, cell_variable, premise_variables, IsRule}
 use Rattle.dx_model.specs.Covers.{below}
 use Rattle.dx_model.specs.Laws.{RowsOfAll, RowsOfAllExist, RowsOfAllByMembers, OneRows, RowsExist, RowsByMembers, SatisfiedByRows}
 use Rattle.dx_model.proofs.Orders.{tuple_total, tuple_exact}
@@ -157,7 +158,7 @@ below_after x (Ex v ∷ cs) (there m) = below_after x cs m
 below_after x (Lit t ∷ cs) (there m) = below_after x cs m
 
 -- each number up to the last stands among numbers by first appearance
-appears : (n m : ℕ) (xs : List ℕ) → Numbered n xs m → (x : ℕ) → n ≤ x → x < m → x ∈ xs
+appears : (n m : ℕ) (xs : List ℕ) → ByFirstAppearance n xs m → (x : ℕ) → n ≤ x → x < m → x ∈ xs
 appears n m [] e x a b = absurd (omega (arith, e))
 appears n m (y ∷ ys) (inl (l, r)) x a b = there (appears n m ys r x a b)
 appears n m (y ∷ ys) (inr (e, r)) x a b = elim (cases_order x n) [
@@ -165,7 +166,7 @@ appears n m (y ∷ ys) (inr (e, r)) x a b = elim (cases_order x n) [
   | inr o ↦ elim o [ inl k ↦ absurd (omega (arith, a, k)) | inr k ↦ there (appears (suc n) m ys r x (omega (arith, k)) b) ]
 ]
 
-pub from_variable : (x : ℕ) (c : Cell) → x ∈ variable_in c → c ≡ Var x
+pub from_variable : (x : ℕ) (c : Cell) → x ∈ cell_variable c → c ≡ Var x
 from_variable x (Var y) (here e) = ap Var e
 from_variable x (Var y) (there m) = elim m [ ]
 from_variable x (Ex v) m = elim m [ ]
@@ -173,7 +174,7 @@ from_variable x (Lit t) m = elim m [ ]
 
 stands : (d : Rule) → IsRule d → (x : ℕ) → x < premise_variables d → Var x ∈ cells_of d.premise
 stands d r x h =
-    let w = from_flat_map variable_in (cells_of d.premise) (appears 0 (premise_variables d) _ r.numbered x (omega arith) h) in
+    let w = from_flat_map cell_variable (cells_of d.premise) (appears 0 (premise_variables d) _ r.numbered x (omega arith) h) in
     subst (λ c. c ∈ cells_of d.premise) (from_variable x w.0 w.2) w.1
 
 -- ---- the texts of an instance

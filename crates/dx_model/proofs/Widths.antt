@@ -8,7 +8,7 @@ use Rattle.dx_ports.specs.Members.{◌∈◌, here, there, Each}
 use Rattle.dx_ports.proofs.Members.{in_flat_map}
 use Rattle.dx_model.specs.Tables.{Table}
 use Rattle.dx_model.specs.Fitting.{conclusions_of}
-use Rattle.dx_model.specs.Laws.{FitsByWidths, WidthsAgree, RulesHaveWidths}
+use Rattle.dx_model.specs.Laws.{FitsByWidths, AtomWidthsAgree, RulesHaveWidths}
 
 abbrev no_table : Table
 no_table = record { width = 0; determinations = []; links = []; optional = [] }
@@ -34,7 +34,7 @@ in_get [] i w e = absurd (cc)
 in_get (v ∷ ws) zero w e = let d : v ≡ w = cc in here d
 in_get (v ∷ ws) (suc i) w e = there (in_get ws i w e)
 
-pub widths_agree : WidthsAgree
+pub widths_agree : AtomWidthsAgree
 widths_agree widths atoms wide fit = record {
   some = λ a m. wide (length a.cells) (in_get widths a.table (length a.cells) (fit a m));
   one = λ a m b n e. let p = fit a m in let q = fit b n in let r = ap (slice_get widths) e in cc;

@@ -16,7 +16,8 @@ use Rattle.dx_model.specs.declared.covers.Cover.{Cover}
 use Rattle.dx_ports.specs.Members.{◌∈◌, Each}
 use Rattle.dx_model.specs.Instances.{same_null}
 use Rattle.dx_model.specs.Rules.{cell_value, cells_of, exported, text_of, at_place}
-use Rattle.dx_model.specs.Values.{Text, Tuple, Rows}
+use Rattle.dx_model.specs.Values.{Tuple, Rows}
+use Rattle.dx_ports.specs.Texts.{Text}
 
 -- the cell that a list of images gives for a variable of a list
 abbrev pub image_of : List ℕ → List Cell → ℕ → Cell
@@ -31,13 +32,13 @@ cell_under i m (Ex v) = slice_index_or m.existential v (Ex 0)
 cell_under i m (Lit t) = Lit t
 
 -- a variable or a literal, and no existential variable
-abbrev pub IsKnown : Cell → Type 0
-IsKnown c = ((y : ℕ) × (c ≡ Var y)) ⊎ ((t : Text) × (c ≡ Lit t))
+abbrev pub IsNoExistential : Cell → Type 0
+IsNoExistential c = ((y : ℕ) × (c ≡ Var y)) ⊎ ((t : Text) × (c ≡ Lit t))
 
 -- g makes each atom of i's conclusion one of j's, keeps literals, and makes exported variables variables or literals
 pub record Carries (g : Cell → Cell) (i j : Rule) : Type 0 where
   pub literal : (t : Text) → g (Lit t) ≡ Lit t
-  pub known : (x : ℕ) → Var x ∈ cells_of i.conclusion → IsKnown (g (Var x))
+  pub known : (x : ℕ) → Var x ∈ cells_of i.conclusion → IsNoExistential (g (Var x))
   pub atoms : (a : Atom) → a ∈ i.conclusion → record { table = a.table; cells = map g a.cells } ∈ j.conclusion
 
 -- m is a cell map from rule i to rule j
@@ -142,8 +143,8 @@ abbrev pub rule_at : List Rule → ℕ → Rule
 rule_at R i = slice_index_or R i (record { premise = []; derived = []; conclusion = [] })
 
 -- the row of rule i at place k
-abbrev pub row_at : Rows → ℕ → ℕ → Tuple
-row_at rows i k = slice_index_or (slice_index_or rows i []) k []
+abbrev pub tuple_at : Rows → ℕ → ℕ → Tuple
+tuple_at rows i k = slice_index_or (slice_index_or rows i []) k []
 
 -- rule j is before rule i: a cell map leads from i to j, and none back or j is less
 abbrev pub before : List Rule → ℕ → ℕ → Bool
@@ -159,9 +160,9 @@ abbrev pub rank : List Rule → ℕ → ℕ
 rank R i = count_before R i (length R)
 
 -- what a cell of rule j is at place l
-abbrev pub value_at : List Rule → Rows → ℕ → ℕ → Cell → Value
-value_at R rows j l =
-    cell_value (text_of (exported (rule_at R j)) (row_at rows j l)) (λ v. Null (record { rule = j; var = v; row = l }))
+abbrev pub cell_value_at : List Rule → Rows → ℕ → ℕ → Cell → Value
+cell_value_at R rows j l =
+    cell_value (text_of (exported (rule_at R j)) (tuple_at rows j l)) (λ v. Null (record { rule = j; var = v; row = l }))
 
 -- k is a place of rule i
 abbrev pub IsPlace : List Rule → Rows → ℕ → ℕ → Type 0
@@ -169,7 +170,7 @@ IsPlace R rows i k = (i < length R) × (i < length rows) × (k < length (slice_i
 
 -- the fact that an atom of rule i says at place k
 abbrev pub said_at : List Rule → Rows → ℕ → ℕ → Atom → Fact
-said_at R rows i k a = record { table = a.table; row = map (value_at R rows i k) a.cells }
+said_at R rows i k a = record { table = a.table; row = map (cell_value_at R rows i k) a.cells }
 
 -- f is what some atom of rule i's conclusion says at place k
 abbrev pub SaysAt : List Rule → Rows → ℕ → ℕ → Fact → Type 0
@@ -177,11 +178,11 @@ SaysAt R rows i k f = (a : Atom) × (a ∈ (rule_at R i).conclusion) × (said_at
 
 -- the value that c's cell map gives, at c's place, for a cell of rule i
 abbrev pub value_under : List Rule → Rows → ℕ → Cover → Cell → Value
-value_under R rows i c e = value_at R rows c.rule c.row (cell_under (rule_at R i) c.cells e)
+value_under R rows i c e = cell_value_at R rows c.rule c.row (cell_under (rule_at R i) c.cells e)
 
 -- under c's cell map the exported variables have the values that they have at place k of rule i
 abbrev pub SameExported : List Rule → Rows → ℕ → ℕ → Cover → Type 0
-SameExported R rows i k c = Each (exported (rule_at R i)) (λ x. value_at R rows i k (Var x) ≡ value_under R rows i c (Var x))
+SameExported R rows i k c = Each (exported (rule_at R i)) (λ x. cell_value_at R rows i k (Var x) ≡ value_under R rows i c (Var x))
 
 -- c covers place k of rule i: a cell map under which the exported variables have the same values
 pub record Covers (R : List Rule) (rows : Rows) (i k : ℕ) (c : Cover) : Type 0 where
@@ -212,7 +213,7 @@ cover_choices R rows i =
 -- the test of SameExported
 abbrev pub agrees : List Rule → Rows → ℕ → ℕ → Cover → Bool
 agrees R rows i k c =
-    list_all (λ x. same_value (value_at R rows i k (Var x)) (value_under R rows i c (Var x))) (exported (rule_at R i))
+    list_all (λ x. same_value (cell_value_at R rows i k (Var x)) (value_under R rows i c (Var x))) (exported (rule_at R i))
 
 -- the least cover of place k of rule i
 abbrev pub least_cover : List Rule → Rows → ℕ → ℕ → Option Cover

@@ -13,13 +13,13 @@ use Rattle.dx_model.specs.Solutions.{AtomFits}
 
 -- numbers by first appearance: each is below n, or is n, and then the others are so below the next; at the end all are
 -- below m
-abbrev pub Numbered : ℕ → List ℕ → ℕ → Type 0
-Numbered n [] m = n ≡ m
-Numbered n (x ∷ xs) m = ((x < n) × Numbered n xs m) ⊎ ((x ≡ n) × Numbered (suc n) xs m)
+abbrev pub ByFirstAppearance : ℕ → List ℕ → ℕ → Type 0
+ByFirstAppearance n [] m = n ≡ m
+ByFirstAppearance n (x ∷ xs) m = ((x < n) × ByFirstAppearance n xs m) ⊎ ((x ≡ n) × ByFirstAppearance (suc n) xs m)
 
 -- the existential variables of a conclusion are numbered by first appearance
 abbrev pub AreNumbered : List Atom → Type 0
-AreNumbered atoms = (m : ℕ) × Numbered 0 (existentials atoms) m
+AreNumbered atoms = (m : ℕ) × ByFirstAppearance 0 (existentials atoms) m
 
 -- a cell is a variable
 abbrev pub IsVariable : Cell → Type 0
@@ -28,10 +28,10 @@ IsVariable (Ex v) = ⊥
 IsVariable (Lit t) = ⊥
 
 -- the variable of a cell, if it is one
-abbrev pub variable_in : Cell → List ℕ
-variable_in (Var x) = x ∷ []
-variable_in (Ex v) = []
-variable_in (Lit t) = []
+abbrev pub cell_variable : Cell → List ℕ
+cell_variable (Var x) = x ∷ []
+cell_variable (Ex v) = []
+cell_variable (Lit t) = []
 
 -- the number of a rule's premise variables
 abbrev pub premise_variables : Rule → ℕ
@@ -44,7 +44,7 @@ premise_variables d = after_cells (cells_of d.premise)
 pub record IsRule (d : Rule) : Type 0 where
   pub some_premise : 0 < length d.premise
   pub plain : Each d.premise (λ a. Each a.cells IsVariable)
-  pub numbered : Numbered 0 (flat_map variable_in (cells_of d.premise)) (premise_variables d)
+  pub numbered : ByFirstAppearance 0 (flat_map cell_variable (cells_of d.premise)) (premise_variables d)
   pub derived : Each d.derived (λ e. AreWithin e.args (premise_variables d))
   pub some_conclusion : 0 < length d.conclusion
   pub known : (x : ℕ) → Var x ∈ cells_of d.conclusion → x < premise_variables d + length d.derived

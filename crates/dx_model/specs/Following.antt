@@ -10,7 +10,8 @@ use Rattle.dx_model.specs.declared.rules.Derived.{Derived}
 use Rattle.dx_model.specs.declared.rules.Rule.{Rule}
 use Rattle.dx_ports.specs.Members.{◌∈◌, Each}
 use Rattle.dx_model.specs.Rules.{premise_fact, Satisfies}
-use Rattle.dx_model.specs.Values.{Text, Conversions}
+use Rattle.dx_model.specs.Values.{Conversions}
+use Rattle.dx_ports.specs.Texts.{Text}
 
 -- I and K satisfy each of the rules
 abbrev pub SatisfyAll : Conversions → List Rule → List Fact → List Fact → Type 0
@@ -58,7 +59,7 @@ abbrev pub frozen : (ℕ → Text) → Rule → List Fact
 frozen freeze d = map (premise_fact freeze) d.premise
 
 -- a rule without derived variables, with variables alone in its premise, and no literal that thaw reads
-pub record IsPlain (thaw : Text → Option ℕ) (d : Rule) : Type 0 where
+pub record CanBeFrozen (thaw : Text → Option ℕ) (d : Rule) : Type 0 where
   pub derived : d.derived ≡ []
   pub variables : (a : Atom) → a ∈ d.premise → (c : Cell) → c ∈ a.cells → (x : ℕ) × (c ≡ Var x)
   pub literals : (a : Atom) → a ∈ d.conclusion → (t : Text) → Lit t ∈ a.cells → thaw t ≡ None

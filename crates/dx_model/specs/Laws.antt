@@ -18,12 +18,13 @@ use Rattle.dx_model.specs.Instances.{HoldsConstants, MapsInto, IsHomomorphism, I
 use Rattle.dx_model.specs.Tables.{table_of, IsInstance, KeysHold, LinksHold, IsKeyed}
 use Rattle.dx_model.specs.Chase.{ForcedEqual, IsForcedMap, IsKeyStep, IsClashAt, NoneReceives, after, AreSteps}
 use Rattle.dx_model.specs.Solutions.{AtomFits, IsSolution, IsUniversal, IsClosed}
-use Rattle.dx_model.specs.Rules.{cells_of, exported, Increase, said, IsMatch, IsRows, Satisfies, PlacesSatisfied, Fixed, AreRows, canonical}
+use Rattle.dx_model.specs.Rules.{cells_of, exported, Increase, fact_of_atom, IsMatch, IsRows, Satisfies, PlacesSatisfied, KeepsLiterals, AreRows, canonical}
 use Rattle.dx_model.specs.Covers.{SaysAt, HasWidths, IsCellMap, Carries, cell_maps, used_maps, has_map, before, rank, rule_at, IsPlace, SameExported, CoversFall, uncovered, folded, uncovered_part, cover_fold, least_cover}
 use Rattle.dx_model.specs.Blocks.{IsBlock, IsClosedPart, Spares, IsNeeded, IsReduct, IsWithout}
-use Rattle.dx_model.specs.Following.{SatisfyAll, Follows, Implies, IsPruned, frozen, IsPlain, frozen_text, IsClean}
+use Rattle.dx_model.specs.Following.{SatisfyAll, Follows, Implies, IsPruned, frozen, CanBeFrozen, frozen_text, IsClean}
 use Rattle.dx_model.specs.Fitting.{IsRule, RuleFits, AtomFitsWidths, AtomsFitWidths, AgreeInWidths, conclusions_of}
-use Rattle.dx_model.specs.Values.{Text, Tuple, Rows, Conversions, FactsAscend}
+use Rattle.dx_model.specs.Values.{Tuple, Rows, Conversions, FactsAscend}
+use Rattle.dx_ports.specs.Texts.{Text}
 
 -- the exported variables ascend, and are exactly those that stand in the conclusion
 abbrev pub ExportedExactly : Type 0
@@ -34,7 +35,7 @@ ExportedExactly = (d : Rule) → Increase (exported d) × ((x : ℕ) → (x ∈ 
 abbrev pub CanonicalMovesInto : Type 0
 CanonicalMovesInto =
     (convert : Conversions) (R : List Rule) (I J K : List Fact) (rows : Rows) (r : Text → Text)
-    → AreRows convert R I rows → Each R (Fixed r)
+    → AreRows convert R I rows → Each R (KeepsLiterals r)
     → Each R (λ d. (texts : ℕ → Text) → IsMatch convert d I texts → IsMatch convert d J (λ x. r (texts x)))
     → Each R (λ d. Satisfies convert d J K) → (g : NullId → Value) × ((f : Fact) → f ∈ canonical 0 R rows → fact_both r g f ∈ K)
 
@@ -256,8 +257,8 @@ abbrev pub FollowsByFrozen : Type 0
 FollowsByFrozen =
     (convert : Conversions) (freeze : ℕ → Text) (thaw : Text → Option ℕ) (R : List Rule) (d : Rule) (rows : Rows)
     → ((x : ℕ) → Var x ∈ cells_of (d.premise ++ d.conclusion) → thaw (freeze x) ≡ Some x)
-    → IsPlain thaw d → Each R (IsPlain thaw) → AreRows convert R (frozen freeze d) rows
-    → Follows convert R d ↔ ((values : ℕ → Value) × Each d.conclusion (λ a. said freeze values a ∈ canonical 0 R rows))
+    → CanBeFrozen thaw d → Each R (CanBeFrozen thaw) → AreRows convert R (frozen freeze d) rows
+    → Follows convert R d ↔ ((values : ℕ → Value) × Each d.conclusion (λ a. fact_of_atom freeze values a ∈ canonical 0 R rows))
 
 -- the same with a prefix and digits, for rules without derived variables and without literals that begin with the prefix
 abbrev pub FollowsByPrefix : Type 0
@@ -266,7 +267,7 @@ FollowsByPrefix =
     → Each (d ∷ R) (λ r. IsRule r × (r.derived ≡ []) × IsClean prefix r)
     → AreRows convert R (frozen (frozen_text prefix) d) rows
     → Follows convert R d
-    ↔ ((values : ℕ → Value) × Each d.conclusion (λ a. said (frozen_text prefix) values a ∈ canonical 0 R rows))
+    ↔ ((values : ℕ → Value) × Each d.conclusion (λ a. fact_of_atom (frozen_text prefix) values a ∈ canonical 0 R rows))
 
 -- for rules that fit two schemas, it is enough to ask sources of constants and targets of these schemas
 abbrev pub FollowsInSchemas : Type 0
@@ -370,8 +371,8 @@ FitsByWidths =
     (schema : List Table) (a : Atom) → AtomFits schema a ↔ AtomFitsWidths (map (λ (t : Table). t.width) schema) a
 
 -- atoms that fit widths, each at least 1, agree in widths
-abbrev pub WidthsAgree : Type 0
-WidthsAgree =
+abbrev pub AtomWidthsAgree : Type 0
+AtomWidthsAgree =
     (widths : List ℕ) (atoms : List Atom) → Each widths (λ w. 1 ≤ w) → AtomsFitWidths widths atoms → AgreeInWidths atoms
 
 -- rules whose conclusions agree in widths have a width for each table
@@ -452,8 +453,8 @@ MapsJoin = (A B C : List Fact) → MapsInto A B → MapsInto B C → MapsInto A 
 abbrev pub SaidByMoves : Type 0
 SaidByMoves =
     (texts : ℕ → Text) (atoms : List Atom) (K : List Fact)
-    → ((values : ℕ → Value) × Each atoms (λ a. said texts values a ∈ K))
-    ↔ ((g : NullId → Value) × Moves g (map (said texts (λ v. Null (record { rule = 0; var = v; row = 0 }))) atoms) K)
+    → ((values : ℕ → Value) × Each atoms (λ a. fact_of_atom texts values a ∈ K))
+    ↔ ((g : NullId → Value) × Moves g (map (fact_of_atom texts (λ v. Null (record { rule = 0; var = v; row = 0 }))) atoms) K)
 
 -- the frozen premise of a rule that fits is an instance of the source schema, and holds constants alone
 abbrev pub FrozenFits : Type 0

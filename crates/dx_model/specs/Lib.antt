@@ -10,3 +10,4 @@ pub mod Blocks
 pub mod Following
 pub mod Tuples
 pub mod Laws
+pub mod Matches

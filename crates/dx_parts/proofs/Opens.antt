@@ -9,22 +9,22 @@ use Rattle.dx_ports.proofs.Tests.{from_filter, to_filter}
 use Rattle.dx_model.specs.declared.tables.Link.{Link}
 use Rattle.dx_model.specs.Tables.{Table, table_of}
 use Rattle.dx_schema.specs.Forest.{Forest}
-use Rattle.dx_schema.specs.Tables.{tables_of, table_at, model_tables}
+use Rattle.dx_schema.specs.Tables.{tables_of, schema_table, model_tables}
 use Rattle.dx_logical.specs.declared.relation.Occurrence.{Occurrence}
 use Rattle.dx_logical.specs.Unfolding.{sub}
 use Rattle.dx_logical.proofs.Continued.{table_of-model}
 use Rattle.dx_lines.specs.Candidates.{upto}
-use Rattle.dx_lines.specs.Parts.{at, is_led, is_open, is_in_sub, open_in}
+use Rattle.dx_lines.specs.Parts.{nth_occurrence, is_led, is_open, is_in_sub, open_in}
 use Rattle.dx_parts.specs.Parts.{is_first, is_child, is_tip}
 use Rattle.dx_parts.proofs.Lists.{in_upto}
 use Rattle.dx_parts.proofs.Subtree.{stands_behind}
 
-pub same_at : (os : List Occurrence) (n : ℕ) (o : Occurrence) → n < length os → o ≡ get_or os n o → at os n ≡ o
+pub same_at : (os : List Occurrence) (n : ℕ) (o : Occurrence) → n < length os → o ≡ get_or os n o → nth_occurrence os n ≡ o
 same_at os n o h e = sym (e ∙ get_or_default os n o _ h)
 
 -- whether an optional link leads to an occurrence that follows from one
 pub led_here : (f : Forest) (os : List Occurrence) (n p : ℕ) (o q : Occurrence) (links : List Link) → n < length os → o ≡ get_or os n o → o.parent ≡ Some p → p < length os → q ≡ get_or os p q
-    → q.table < length (tables_of f) → links ≡ (table_at f q.table).links → nat_le (length links) o.link ≡ is_open (model_tables f) os n
+    → q.table < length (tables_of f) → links ≡ (schema_table f q.table).links → nat_le (length links) o.link ≡ is_open (model_tables f) os n
 led_here f os n p o q links h e_o e_p h_p e_q within e_links =
     let schema = model_tables f in
     let at_n = same_at os n o h e_o in

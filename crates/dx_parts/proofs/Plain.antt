@@ -16,7 +16,7 @@ use Rattle.dx_lines.specs.declared.line.Line.{Line}
 use Rattle.dx_lines.specs.declared.candidate.Pick.{Pick}
 use Rattle.dx_lines.specs.Ways.{ways}
 use Rattle.dx_lines.specs.Candidates.{upto}
-use Rattle.dx_lines.specs.Parts.{at, is_open, open_in, sublists, Part, parts, is_whole, part_of}
+use Rattle.dx_lines.specs.Parts.{nth_occurrence, is_open, open_in, sublists, UnfoldingPart, parts, is_whole, part_occurrences}
 use Rattle.dx_lines.specs.Kept.{suffices, suffices_at, is_dropped}
 use Rattle.dx_lines.proofs.Sources.{below_upto}
 use Rattle.dx_ways.proofs.WaysAre.{ways_grow}
@@ -28,14 +28,14 @@ use Rattle.dx_parts.proofs.Tree.{HasSubtrees, part_in_sub, sub_in_part}
 module _ (schema : List Table) (t : ℕ) (r : Relation) (u : IsUnfolding schema t r) (plain : HasNoOptional schema) where
   -- no optional link leads to an occurrence
   none_open : (n : ℕ) → n < length r.occurrences → ¬ (is_open schema r.occurrences n ≡ true)
-  none_open n h e = elim (none_or_some (at r.occurrences n).parent) [
+  none_open n h e = elim (none_or_some (nth_occurrence r.occurrences n).parent) [
     | inl f ↦ false≢true (rw f at e)
     | inr f ↦
         let along = (u.along_links f.0 n h f.1).0 in
-        let table = table_of schema (at r.occurrences f.0).table in
+        let table = table_of schema (nth_occurrence r.occurrences f.0).table in
         let long = length-append table.links table.optional in
-        let none_so = ap length (plain (at r.occurrences f.0).table) in
-        let firm = leb-true (length table.links) (at r.occurrences n).link (rw f.1 at e) in
+        let none_so = ap length (plain (nth_occurrence r.occurrences f.0).table) in
+        let firm = leb-true (length table.links) (nth_occurrence r.occurrences n).link (rw f.1 at e) in
         omega (arith, along, long, none_so, firm)
   ]
 
@@ -49,7 +49,7 @@ module _ (schema : List Table) (t : ℕ) (r : Relation) (u : IsUnfolding schema 
       none_in [] h = refl
       none_in (n ∷ ns) h = absurd (h n (here refl))
 
-  whole_by_root : (a : Part) → a ∈ parts schema r.occurrences → is_whole a ≡ eqb a.root 0
+  whole_by_root : (a : UnfoldingPart) → a ∈ parts schema r.occurrences → is_whole a ≡ eqb a.root 0
   whole_by_root a m =
       let f = from_parts schema r.occurrences a m in
       by_list a.without (subst (λ (qs : List ℕ). a.without ∈ sublists qs) (nothing_left_out a.root) f.1)
@@ -67,14 +67,14 @@ module _ (lines : List Line) (source target : List Table) (s t : ℕ) (P Q : Rel
   to_subtrees e =
       let a = from_any (λ a. list_any (suffices_at lines P.occurrences Q.occurrences picks a) (parts target Q.occurrences)) (parts source P.occurrences) e in
       let b = from_any (suffices_at lines P.occurrences Q.occurrences picks a.0) (parts target Q.occurrences) a.2 in
-      let c = and_parts (not (is_whole a.0 && is_whole b.0)) (suffices lines picks (part_of P.occurrences a.0) (part_of Q.occurrences b.0)) b.2 in
+      let c = and_parts (not (is_whole a.0 && is_whole b.0)) (suffices lines picks (part_occurrences P.occurrences a.0) (part_occurrences Q.occurrences b.0)) b.2 in
       let p_in = (from_parts source P.occurrences a.0 a.1).0 in
       let q_in = (from_parts target Q.occurrences b.0 b.1).0 in
       let w = whole_by_root source s P us pure_s a.0 a.1 in
       let v = whole_by_root target t Q ut pure_t b.0 b.1 in
       let proper : not (eqb a.0.root 0 && eqb b.0.root 0) ≡ true = rw (w, v) at c.0 in
-      let grown = are_grow picks (ways lines (part_of P.occurrences a.0) (part_of Q.occurrences b.0)) (ways lines (sub P.occurrences a.0.root) (sub Q.occurrences b.0.root))
-      (ways_grow lines (part_of P.occurrences a.0) (sub P.occurrences a.0.root) (part_of Q.occurrences b.0) (sub Q.occurrences b.0.root) (part_in_sub source s P us ps a.0 p_in) (part_in_sub target t Q ut qs b.0 q_in)) c.1 in
+      let grown = are_grow picks (ways lines (part_occurrences P.occurrences a.0) (part_occurrences Q.occurrences b.0)) (ways lines (sub P.occurrences a.0.root) (sub Q.occurrences b.0.root))
+      (ways_grow lines (part_occurrences P.occurrences a.0) (sub P.occurrences a.0.root) (part_occurrences Q.occurrences b.0) (sub Q.occurrences b.0.root) (part_in_sub source s P us ps a.0 p_in) (part_in_sub target t Q ut qs b.0 q_in)) c.1 in
       to_any (λ p. list_any (subtrees_suffice lines P.occurrences Q.occurrences picks p) (upto (length Q.occurrences))) (upto (length P.occurrences)) (in_upto (length P.occurrences) a.0.root p_in)
       (to_any (subtrees_suffice lines P.occurrences Q.occurrences picks a.0.root) (upto (length Q.occurrences)) (in_upto (length Q.occurrences) b.0.root q_in) (and_from _ _ proper grown))
 
@@ -85,13 +85,13 @@ module _ (lines : List Line) (source target : List Table) (s t : ℕ) (P Q : Rel
       let c = and_parts (not (eqb a.0 0 && eqb b.0 0)) (suffices lines picks (sub P.occurrences a.0) (sub Q.occurrences b.0)) b.2 in
       let p_in = below_upto (length P.occurrences) a.0 a.1 in
       let q_in = below_upto (length Q.occurrences) b.0 b.1 in
-      let x : Part = record { root = a.0; without = [] } in
-      let y : Part = record { root = b.0; without = [] } in
+      let x : UnfoldingPart = record { root = a.0; without = [] } in
+      let y : UnfoldingPart = record { root = b.0; without = [] } in
       let x_in = to_parts source P.occurrences a.0 [] p_in (empty_sublist (open_in source P.occurrences a.0)) in
       let y_in = to_parts target Q.occurrences b.0 [] q_in (empty_sublist (open_in target Q.occurrences b.0)) in
       let proper : not (is_whole x && is_whole y) ≡ true = rw (whole_by_root source s P us pure_s x x_in, whole_by_root target t Q ut pure_t y y_in) c.0 in
-      let grown = are_grow picks (ways lines (sub P.occurrences a.0) (sub Q.occurrences b.0)) (ways lines (part_of P.occurrences x) (part_of Q.occurrences y))
-      (ways_grow lines (sub P.occurrences a.0) (part_of P.occurrences x) (sub Q.occurrences b.0) (part_of Q.occurrences y) (sub_in_part source s P us ps a.0 p_in) (sub_in_part target t Q ut qs b.0 q_in)) c.1 in
+      let grown = are_grow picks (ways lines (sub P.occurrences a.0) (sub Q.occurrences b.0)) (ways lines (part_occurrences P.occurrences x) (part_occurrences Q.occurrences y))
+      (ways_grow lines (sub P.occurrences a.0) (part_occurrences P.occurrences x) (sub Q.occurrences b.0) (part_occurrences Q.occurrences y) (sub_in_part source s P us ps a.0 p_in) (sub_in_part target t Q ut qs b.0 q_in)) c.1 in
       to_any (λ z. list_any (suffices_at lines P.occurrences Q.occurrences picks z) (parts target Q.occurrences)) (parts source P.occurrences) x_in
       (to_any (suffices_at lines P.occurrences Q.occurrences picks x) (parts target Q.occurrences) y_in (and_from _ _ proper grown))
 

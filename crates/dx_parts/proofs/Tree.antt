@@ -16,7 +16,7 @@ use Rattle.dx_logical.specs.Laws.{occurrence_at, IsUnfolding, ComesFrom, itself,
 use Rattle.dx_logical.proofs.Served.{at_place}
 use Rattle.dx_logical.proofs.Subtrees.{comes_further}
 use Rattle.dx_lines.specs.Candidates.{upto}
-use Rattle.dx_lines.specs.Parts.{at, is_open, is_in_sub, open_in, Part, is_in_part, part_of}
+use Rattle.dx_lines.specs.Parts.{nth_occurrence, is_open, is_in_sub, open_in, UnfoldingPart, is_in_part, part_occurrences}
 use Rattle.dx_lines.proofs.Sources.{below_upto}
 use Rattle.dx_parts.specs.Parts.{is_tip, without}
 use Rattle.dx_parts.proofs.Lists.{in_upto}
@@ -37,20 +37,20 @@ abbrev pub HasSubtrees : Relation → Type 0
 HasSubtrees r = (p : ℕ) → p < length r.occurrences → IsSubtree r p (sub r.occurrences p)
 
 -- a member, by its number
-in_place : (os : List Occurrence) (n : ℕ) (x : Occurrence) → n < length os → at os n ≡ x → x ∈ os
+in_place : (os : List Occurrence) (n : ℕ) (x : Occurrence) → n < length os → nth_occurrence os n ≡ x → x ∈ os
 in_place os n x h e = subst (λ (y : Occurrence). y ∈ os) e (in_at os n nowhere h)
 
 module _ (schema : List Table) (t : ℕ) (r : Relation) (u : IsUnfolding schema t r) (subs : HasSubtrees r) where
   abbrev os : List Occurrence
   os = r.occurrences
 
-  parent_of : (n : ℕ) → 0 < n → n < length os → (p : ℕ) × ((at os n).parent ≡ Some p)
-  parent_of n pos h = elim (none_or_some (at os n).parent) [
+  parent_of : (n : ℕ) → 0 < n → n < length os → (p : ℕ) × ((nth_occurrence os n).parent ≡ Some p)
+  parent_of n pos h = elim (none_or_some (nth_occurrence os n).parent) [
     | inl e ↦ let z = u.one_root n h e in absurd (omega (arith, pos, z))
     | inr e ↦ e
   ]
 
-  pub before : (n p : ℕ) → n < length os → (at os n).parent ≡ Some p → p < n
+  pub before : (n p : ℕ) → n < length os → (nth_occurrence os n).parent ≡ Some p → p < n
   before n p l e =
       let P : Option ℕ → Type 0 = λ o. IfSome o (λ m. m < n) in
       subst P e (u.occurrences n l).parent
@@ -90,17 +90,17 @@ module _ (schema : List Table) (t : ℕ) (r : Relation) (u : IsUnfolding schema 
       ((subs p h).exact n w).1 (leb-true p n b.0, ltb-true n (p + length (sub os p)) b.1)
 
   -- a number in a subtree has an occurrence of it
-  sub_has : (p n : ℕ) → p < length os → n < length os → is_in_sub os p n ≡ true → at os n ∈ sub os p
+  sub_has : (p n : ℕ) → p < length os → n < length os → is_in_sub os p n ≡ true → nth_occurrence os n ∈ sub os p
   sub_has p n h w e =
       let b = and_parts (nat_le p n) (nat_lt n (p + length (sub os p))) e in
       let low = leb-true p n b.0 in
       let high = ltb-true n (p + length (sub os p)) b.1 in
       let j : n - p < length (sub os p) = omega (arith, low, high) in
       let same : p + (n - p) ≡ n = omega (arith, low) in
-      in_place (sub os p) (n - p) (at os n) j ((subs p h).items (n - p) j ∙ ap (at os) same)
+      in_place (sub os p) (n - p) (nth_occurrence os n) j ((subs p h).items (n - p) j ∙ ap (nth_occurrence os) same)
 
   -- an occurrence of a subtree has a number in it
-  from_sub : (p : ℕ) (x : Occurrence) → p < length os → x ∈ sub os p → (n : ℕ) × (n < length os) × (is_in_sub os p n ≡ true) × (at os n ≡ x)
+  from_sub : (p : ℕ) (x : Occurrence) → p < length os → x ∈ sub os p → (n : ℕ) × (n < length os) × (is_in_sub os p n ≡ true) × (nth_occurrence os n ≡ x)
   from_sub p x h m =
       let i = at_place nowhere m in
       let w = (subs p h).within in
@@ -115,38 +115,38 @@ module _ (schema : List Table) (t : ℕ) (r : Relation) (u : IsUnfolding schema 
   -- ---- parts
 
   -- the occurrence of a number in a part
-  part_has : (a : Part) (n : ℕ) → n < length os → is_in_part os a n ≡ true → at os n ∈ part_of os a
-  part_has a n w e = in_map (at os) (to_filter (is_in_part os a) (upto (length os)) (in_upto (length os) n w) e)
+  part_has : (a : UnfoldingPart) (n : ℕ) → n < length os → is_in_part os a n ≡ true → nth_occurrence os n ∈ part_occurrences os a
+  part_has a n w e = in_map (nth_occurrence os) (to_filter (is_in_part os a) (upto (length os)) (in_upto (length os) n w) e)
 
-  from_part : (a : Part) (x : Occurrence) → x ∈ part_of os a → (n : ℕ) × (n < length os) × (is_in_part os a n ≡ true) × (at os n ≡ x)
+  from_part : (a : UnfoldingPart) (x : Occurrence) → x ∈ part_occurrences os a → (n : ℕ) × (n < length os) × (is_in_part os a n ≡ true) × (nth_occurrence os n ≡ x)
   from_part a x m =
-      let n = from_map (at os) (filter (is_in_part os a) (upto (length os))) {y = x} m in
+      let n = from_map (nth_occurrence os) (filter (is_in_part os a) (upto (length os))) {y = x} m in
       let f = from_filter (is_in_part os a) (upto (length os)) n.1 in
       (n.0, below_upto (length os) n.0 f.0, f.1, n.2)
 
   -- a part at p is in the subtree at p
-  pub part_in_sub : (a : Part) → a.root < length os → part_of os a ⊆ sub os a.root
+  pub part_in_sub : (a : UnfoldingPart) → a.root < length os → part_occurrences os a ⊆ sub os a.root
   part_in_sub a h x m =
       let n = from_part a x m in
       let e = and_parts (is_in_sub os a.root n.0) (not (list_any (λ q. is_in_sub os q n.0) a.without)) n.2 in
       subst (λ (y : Occurrence). y ∈ sub os a.root) n.3 (sub_has a.root n.0 h n.1 e.0)
 
   -- a part from which nothing is left out has all of its subtree
-  pub sub_in_part : (p : ℕ) → p < length os → sub os p ⊆ part_of os (record { root = p; without = [] })
+  pub sub_in_part : (p : ℕ) → p < length os → sub os p ⊆ part_occurrences os (record { root = p; without = [] })
   sub_in_part p h x m =
       let n = from_sub p x h m in
-      subst (λ (y : Occurrence). y ∈ part_of os (record { root = p; without = [] })) n.3
+      subst (λ (y : Occurrence). y ∈ part_occurrences os (record { root = p; without = [] })) n.3
       (part_has (record { root = p; without = [] }) n.0 n.1 (and_from (is_in_sub os p n.0) (not (list_any (λ q. is_in_sub os q n.0) [])) n.2 refl))
 
   -- a part has occurrences of the whole
-  pub part_within : (a : Part) → part_of os a ⊆ os
+  pub part_within : (a : UnfoldingPart) → part_occurrences os a ⊆ os
   part_within a x m = let n = from_part a x m in in_place os n.0 x n.1 n.3
 
   -- all are in the part that is the whole
-  pub whole_has_all : (0 < length os) → os ⊆ part_of os (record { root = 0; without = [] })
+  pub whole_has_all : (0 < length os) → os ⊆ part_occurrences os (record { root = 0; without = [] })
   whole_has_all some x m =
       let i = at_place nowhere m in
-      subst (λ (y : Occurrence). y ∈ part_of os (record { root = 0; without = [] })) i.2
+      subst (λ (y : Occurrence). y ∈ part_occurrences os (record { root = 0; without = [] })) i.2
       (part_has (record { root = 0; without = [] }) i.0 i.1 (and_from (is_in_sub os 0 i.0) (not (list_any (λ q. is_in_sub os q i.0) [])) (in_sub 0 i.0 some i.1 (first_by i.0 i.1)) refl))
 
   -- ---- the greatest
@@ -155,7 +155,7 @@ module _ (schema : List Table) (t : ℕ) (r : Relation) (u : IsUnfolding schema 
   pub record IsBelow (q : ℕ) : Type 0 where
     pub child : ℕ
     pub within : child < length os
-    pub parent : (at os child).parent ≡ Some 0
+    pub parent : (nth_occurrence os child).parent ≡ Some 0
     pub inside : sub os q ⊆ sub os child
 
   pub is_below : (q : ℕ) → 0 < q → q < length os → IsBelow q
@@ -170,23 +170,23 @@ module _ (schema : List Table) (t : ℕ) (r : Relation) (u : IsUnfolding schema 
       }
 
   -- an occurrence that is not in the subtree at q is in the whole without it
-  outside_has : (q n : ℕ) → q < length os → n < length os → is_in_sub os q n ≡ false → at os n ∈ without os q
+  outside_has : (q n : ℕ) → q < length os → n < length os → is_in_sub os q n ≡ false → nth_occurrence os n ∈ without os q
   outside_has q n h w e = elim (cases_lt n q) [
     | inl l ↦
         let long = length-take-le q os (omega (arith, h)) in
-        in_left (drop (q + length (sub os q)) os) (in_place (take q os) n (at os n) (omega (arith, l, long)) (get_or-take q os n nowhere l))
+        in_left (drop (q + length (sub os q)) os) (in_place (take q os) n (nth_occurrence os n) (omega (arith, l, long)) (get_or-take q os n nowhere l))
     | inr g ↦ elim (cases_lt n (q + length (sub os q))) [
       | inl l ↦ absurd (true≢false (sym (and_from (nat_le q n) (nat_lt n (q + length (sub os q))) (le-leb q n g) (lt-ltb n (q + length (sub os q)) l)) ∙ e))
       | inr f ↦
           let k : ℕ = q + length (sub os q) in
           let long = length-drop k os in
           let same : k + (n - k) ≡ n = omega (arith, f) in
-          in_right (take q os) (in_place (drop k os) (n - k) (at os n) (omega (arith, long, f, w)) (get_or-drop k os (n - k) nowhere ∙ ap (at os) same))
+          in_right (take q os) (in_place (drop k os) (n - k) (nth_occurrence os n) (omega (arith, long, f, w)) (get_or-drop k os (n - k) nowhere ∙ ap (nth_occurrence os) same))
     ]
   ]
 
   -- an occurrence of the whole without the subtree at q has a number that is not in it
-  from_outside : (q : ℕ) (x : Occurrence) → q < length os → x ∈ without os q → (n : ℕ) × (n < length os) × (is_in_sub os q n ≡ false) × (at os n ≡ x)
+  from_outside : (q : ℕ) (x : Occurrence) → q < length os → x ∈ without os q → (n : ℕ) × (n < length os) × (is_in_sub os q n ≡ false) × (nth_occurrence os n ≡ x)
   from_outside q x h m = elim (from_append (take q os) m) [
     | inl a ↦
         let i = at_place nowhere a in
@@ -217,7 +217,7 @@ module _ (schema : List Table) (t : ℕ) (r : Relation) (u : IsUnfolding schema 
           neither (inr b) low high = omega (arith, b, high)
 
   -- a number that is not left out is not in a subtree that is
-  kept_outside : (a : Part) (q n : ℕ) → q ∈ a.without → is_in_part os a n ≡ true → is_in_sub os q n ≡ false
+  kept_outside : (a : UnfoldingPart) (q n : ℕ) → q ∈ a.without → is_in_part os a n ≡ true → is_in_sub os q n ≡ false
   kept_outside a q n m e =
       let b = and_parts (is_in_sub os a.root n) (not (list_any (λ q. is_in_sub os q n) a.without)) e in
       none_of (λ q. is_in_sub os q n) a.without q (not-true (list_any (λ q. is_in_sub os q n) a.without) b.1) m
@@ -249,7 +249,7 @@ module _ (schema : List Table) (t : ℕ) (r : Relation) (u : IsUnfolding schema 
   has_tip q h e = tip_by (length os) q (omega arith) h e
 
   -- a part without the subtree at q, from which q' comes, is in the whole without the subtree at q'
-  pub part_in_without : (a : Part) (q p : ℕ) → q ∈ a.without → q < length os → p < length os → ComesFrom r q p → part_of os a ⊆ without os p
+  pub part_in_without : (a : UnfoldingPart) (q p : ℕ) → q ∈ a.without → q < length os → p < length os → ComesFrom r q p → part_occurrences os a ⊆ without os p
   part_in_without a q p m h w c x i =
       let n = from_part a x i in
       let out = kept_outside a q n.0 m n.2 in
@@ -260,11 +260,11 @@ module _ (schema : List Table) (t : ℕ) (r : Relation) (u : IsUnfolding schema 
       subst (λ (y : Occurrence). y ∈ without os p) n.3 (outside_has p n.0 w n.1 out_p)
 
   -- and the whole without the subtree at q is in the part that leaves out this subtree
-  pub without_in_part : (q : ℕ) → q < length os → 0 < length os → without os q ⊆ part_of os (record { root = 0; without = q ∷ [] })
+  pub without_in_part : (q : ℕ) → q < length os → 0 < length os → without os q ⊆ part_occurrences os (record { root = 0; without = q ∷ [] })
   without_in_part q h some x m =
       let n = from_outside q x h m in
       let none_so : list_any (λ p. is_in_sub os p n.0) (q ∷ []) ≡ false = rw n.2 refl in
-      subst (λ (y : Occurrence). y ∈ part_of os (record { root = 0; without = q ∷ [] })) n.3
+      subst (λ (y : Occurrence). y ∈ part_occurrences os (record { root = 0; without = q ∷ [] })) n.3
       (part_has (record { root = 0; without = q ∷ [] }) n.0 n.1
       (and_from (is_in_sub os 0 n.0) (not (list_any (λ p. is_in_sub os p n.0) (q ∷ []))) (in_sub 0 n.0 some n.1 (first_by n.0 n.1)) (ap not none_so)))
 
@@ -280,7 +280,7 @@ module _ (schema : List Table) (t : ℕ) (r : Relation) (u : IsUnfolding schema 
   ]
     where
       root_closed : ¬ (is_open schema os 0 ≡ true)
-      root_closed e = elim (none_or_some (at os 0).parent) [
+      root_closed e = elim (none_or_some (nth_occurrence os 0).parent) [
         | inl f ↦ false≢true (rw f at e)
         | inr f ↦ let b = before 0 f.0 u.some f.1 in omega (arith, b)
       ]

@@ -4,3 +4,4 @@ pub mod Faults
 pub mod MemInputs
 pub mod MemOutputs
 pub mod Firsts
+pub mod Texts

@@ -1,5 +1,6 @@
 -- Members of lists.
-use Rattle.std.specs.Prelude.{◌≡◌, List, [], ◌∷◌}
+use Rattle.std.specs.Prelude.{◌≡◌, List, [], ◌∷◌, ◌++◌, map}
+use Rattle.std.specs.Borrow.{Bor}
 
 -- x is a member of the list
 infix 4 ◌∈◌
@@ -25,3 +26,11 @@ Each {X} xs P = (x : X) → x ∈ xs → P x
 abbrev pub Distinct : {X : Type 0} → List X → Type 0
 Distinct [] = Unit {0}
 Distinct (x ∷ xs) = (¬ (x ∈ xs)) × Distinct xs
+
+-- the second list begins with the first
+abbrev pub IsPrefix : {X : Type 0} → List X → List X → Type 0
+IsPrefix {X} front whole = (rest : List X) × (whole ≡ front ++ rest)
+
+-- what stands behind references
+abbrev pub behind : {X : Type 0} → List (Bor X) → List X
+behind rs = map (λ r. r.now) rs

@@ -1,7 +1,7 @@
 // What is read from: files by name.
 ghost use Rattle.std.specs.Prelude.{◌≡◌, ℕ, ◌≤◌, ◌<◌, List, [], length, Option, Some, None, OnOk, OnErr, IfSome, IsErrOf, IsSomeAnd};
 ghost use Rattle.std.specs.FinMap.{get};
-ghost use Rattle.dx_ports.specs.Entries.{Held};
+ghost use Rattle.dx_ports.specs.Entries.{FileMap};
 ghost use Rattle.dx_ports.specs.Faults.{Rose};
 ghost use Rattle.dx_ports.specs.declared.inputs.FetchFault.TheVariants.{Memory};
 
@@ -32,13 +32,13 @@ impl From<AllocError> for FetchFault {
 
 /// What is read from. No call changes what it holds.
 pub trait Inputs {
-    /// The bytes by name, where it tells them.
-    ghost holds: { Self → Option Held };
+    /// The bytes by name, if it tells them.
+    ghost holds: { Self → Option FileMap };
 
     /// How many reads have failed; no other call changes it.
     ghost faults: { Self → ℕ };
 
-    /// The name at which a read failed, where it tells it.
+    /// The name at which a read failed, if it tells it.
     ghost stopped: { Self → Option (List ℕ) };
 
     /// The bytes of a file of at most `limit` bytes; a longer one is refused. They are put into `into`, in place of

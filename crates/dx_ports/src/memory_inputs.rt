@@ -2,7 +2,7 @@
 ghost use Rattle.std.specs.Prelude.{◌≡◌, ℕ, ◌≤◌, ◌<◌, List, [], length, Option, Some, None, OnOk, OnErr, IfSome, IsErrOf, IsSomeAnd, Contains, slice_get, min, ◌+◌, ◌-◌, ◌^◌, ◌⊎◌};
 ghost use Rattle.std.specs.Option.{option_map, option_copied};
 ghost use Rattle.std.specs.FinMap.{get};
-ghost use Rattle.dx_ports.specs.Entries.{Held, held_by};
+ghost use Rattle.dx_ports.specs.Entries.{FileMap, file_map};
 ghost use Rattle.dx_ports.specs.Faults.{Rose};
 
 use crate::{FetchFault, File, Inputs, Text};
@@ -24,7 +24,7 @@ impl MemInputs {
     /// Inputs that hold these files, of equal names the first. The calls of `fetch` with these numbers fail, counted
     /// from 0.
     pub fn new(files: Vec<File>, fails: Vec<u64>) -> MemInputs
-        ensures holds { ⟦<MemInputs as Inputs>⟧.holds result ≡ Some (held_by files.items) }
+        ensures holds { ⟦<MemInputs as Inputs>⟧.holds result ≡ Some (file_map files.items) }
         ensures faults { ⟦<MemInputs as Inputs>⟧.faults result ≡ 0 }
         ensures stopped { ⟦<MemInputs as Inputs>⟧.stopped result ≡ None }
         ensures calls { next_call result ≡ 0 }
@@ -42,7 +42,7 @@ impl MemInputs {
 
 /// The bytes of the first file of this name. None if there is none.
 pub fn bytes_named<'a>(files: &'a [File], name: &Text) -> Option<&'a [u8]>
-    ensures { option_copied result ≡ get (held_by files.now) name.now }
+    ensures { option_copied result ≡ get (file_map files.now) name.now }
 {
     for file in files {
         if file.name == *name {
@@ -55,7 +55,7 @@ pub fn bytes_named<'a>(files: &'a [File], name: &Text) -> Option<&'a [u8]>
 impl Inputs for MemInputs {
     ghost use Rattle.dx_ports.specs.MemInputs.{next_call, failing_calls};
 
-    ghost holds = { λ m. Some (held_by m.files.items) };
+    ghost holds = { λ m. Some (file_map m.files.items) };
 
     ghost faults = { λ m. m.faults };
 

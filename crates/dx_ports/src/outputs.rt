@@ -35,10 +35,10 @@ impl<T: Drop> From<AllocFailed<T>> for PutFault {
 
 /// What is written to. What is told before a call is told after it.
 pub trait Outputs {
-    /// The files written whole, where it tells them.
+    /// The files written whole, if it tells them.
     ghost files: { Self → Option (List Entry) };
 
-    /// What was said, where it tells it.
+    /// What was said, if it tells it.
     ghost said: { Self → Option (List ℕ) };
 
     /// How many writes have failed; no other call changes it.

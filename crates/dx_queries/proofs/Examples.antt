@@ -8,7 +8,7 @@ use Rattle.dx_model.specs.declared.facts.Fact.{Fact}
 use Rattle.dx_model.specs.declared.rules.Cell.{Cell}
 use Rattle.dx_model.specs.declared.rules.Cell.TheVariants.{Var, Lit}
 use Rattle.dx_model.specs.declared.rules.Atom.{Atom}
-use Rattle.dx_model.specs.Values.{Text}
+use Rattle.dx_ports.specs.Texts.{Text}
 use Rattle.dx_queries.specs.declared.query.Part.{Part}
 use Rattle.dx_queries.specs.Queries.{IsAnswer, IsAnswerOf, fact_said}
 

@@ -12,16 +12,16 @@ use Rattle.dx_model.specs.declared.facts.Fact.{Fact}
 use Rattle.dx_model.specs.declared.rules.Cell.{Cell}
 use Rattle.dx_model.specs.declared.rules.Cell.TheVariants.{Var, Ex, Lit}
 use Rattle.dx_model.specs.declared.rules.Atom.{Atom}
-use Rattle.dx_model.specs.Values.{Tuple, tuple_cmp}
-use Rattle.dx_model.specs.Rules.{Ascend, cells_of}
-use Rattle.dx_model.specs.Fitting.{variable_in}
+use Rattle.dx_model.specs.Values.{Tuple, tuple_cmp, constants}
+use Rattle.dx_model.specs.Rules.{TuplesAscend, cells_of}
+use Rattle.dx_model.specs.Fitting.{cell_variable}
 use Rattle.dx_model.proofs.Ascending.{from_in_order, in_in_order, in_order, in_order_ascends, one_ascending}
 use Rattle.dx_model.proofs.Decided.{decide_in, same_fact}
 use Rattle.dx_model.proofs.Orders.{tuple_exact, tuple_total}
 use Rattle.dx_queries.specs.declared.query.Part.{Part}
 use Rattle.dx_queries.specs.declared.query.Query.{Query}
-use Rattle.dx_queries.specs.Queries.{IsAnswer, IsAnswerOf, assigned, constants, fact_said}
-use Rattle.dx_queries.specs.Laws.{AnswersExist, OneList, WithinOrPasses}
+use Rattle.dx_queries.specs.Queries.{IsAnswer, IsAnswerOf, assigned, fact_said}
+use Rattle.dx_queries.specs.Laws.{AnswersExist, OneAnswerList, WithinOrPasses}
 
 -- ---- assignments of some variables by some values
 
@@ -63,7 +63,7 @@ one_like values (x ∷ xs) vs h =
 -- ---- a part
 
 abbrev variables_of : List Atom → List ℕ
-variables_of atoms = flat_map variable_in (cells_of atoms)
+variables_of atoms = flat_map cell_variable (cells_of atoms)
 
 abbrev values_in : List Fact → List Value
 values_in K = flat_map (λ (f : Fact). f.row) K
@@ -78,7 +78,7 @@ same_row values f xs cells like among = map_same (assigned f) (assigned values) 
     same (Lit t) m = refl
 
 variable_there : (atoms : List Atom) (x : ℕ) → Var x ∈ cells_of atoms → x ∈ variables_of atoms
-variable_there atoms x m = in_flat_map variable_in m (here refl)
+variable_there atoms x m = in_flat_map cell_variable m (here refl)
 
 cell_there : (atoms : List Atom) (a : Atom) (c : Cell) → a ∈ atoms → c ∈ a.cells → c ∈ cells_of atoms
 cell_there atoms a c m k = in_flat_map (λ (b : Atom). b.cells) m k
@@ -89,7 +89,7 @@ same_said values f atoms like a m =
     (λ i. record { table = a.table; row = e i })
 
 -- a variable of an atom, and the value that it has in the atom's fact
-variable_is : (x : ℕ) (c : Cell) → x ∈ variable_in c → c ≡ Var x
+variable_is : (x : ℕ) (c : Cell) → x ∈ cell_variable c → c ≡ Var x
 variable_is x (Var y) (here e) = ap Var e
 variable_is x (Var y) (there m) = elim m [ ]
 variable_is x (Ex v) m = elim m [ ]
@@ -97,7 +97,7 @@ variable_is x (Lit t) m = elim m [ ]
 
 value_there : (K : List Fact) (values : ℕ → Value) (atoms : List Atom) → Each atoms (λ a. fact_said values a ∈ K) → Each (variables_of atoms) (λ x. values x ∈ values_in K)
 value_there K values atoms h x m =
-    let c = from_flat_map variable_in (cells_of atoms) m in
+    let c = from_flat_map cell_variable (cells_of atoms) m in
     let a = from_flat_map (λ (b : Atom). b.cells) atoms c.1 in
     let v : assigned values c.0 ∈ values_in K = in_flat_map (λ (f : Fact). f.row) (h a.0 a.1) (in_map (assigned values) a.2) in
     subst (λ (d : Cell). assigned values d ∈ values_in K) (variable_is x c.0 c.2) v
@@ -204,11 +204,11 @@ answers_exist widths K q fits =
       },
     )
 
-pub one_list : OneList
+pub one_list : OneAnswerList
 one_list K q rows others a b =
     one_ascending tuple_cmp tuple_total rows others a.ascend b.ascend (λ t m. (b.exact t).1 ((a.exact t).0 m)) (λ t m. (a.exact t).1 ((b.exact t).0 m))
 
-ascending_distinct : (rows : List Tuple) → Ascend rows → Distinct rows
+ascending_distinct : (rows : List Tuple) → TuplesAscend rows → Distinct rows
 ascending_distinct [] a = tt
 ascending_distinct (t ∷ rows) a = ((λ m. below_itself t (a.0 t m)), ascending_distinct rows a.1)
   where

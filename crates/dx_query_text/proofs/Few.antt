@@ -7,7 +7,7 @@ use Rattle.dx_ports.specs.Members.{here, there, Each}
 use Rattle.dx_tgd_text.specs.Numbering.{text_cells}
 use Rattle.dx_tgd_text.proofs.Written.{atoms_few, cells_few}
 use Rattle.dx_query_text.specs.declared.texts.PartText.{PartText}
-use Rattle.dx_query_text.specs.Naming.{IsNarrow}
+use Rattle.dx_query_text.specs.Naming.{PartHasFewCells}
 use Rattle.dx_query_text.specs.Spelling.{SpellsPart, part_of, SpellsQuery, query_of}
 use Rattle.dx_query_text.specs.Texts.{IsQueryText}
 use Rattle.dx_query_text.specs.Laws.{TextsHaveFewCells}
@@ -38,7 +38,7 @@ pub texts_have_few_cells : TextsHaveFewCells
 texts_have_few_cells text parts says = query_few (length text) parts _ (lexemes_few text) says.spelled
 
 -- the parts of a short text are narrow
-pub short_are_narrow : (text : List ℕ) (parts : List PartText) → length text < 2 ^ 32 - 1 → IsQueryText text parts → Each parts IsNarrow
+pub short_are_narrow : (text : List ℕ) (parts : List PartText) → length text < 2 ^ 32 - 1 → IsQueryText text parts → Each parts PartHasFewCells
 short_are_narrow text parts short says p m =
     let few = texts_have_few_cells text parts says p m in
     record { atoms = omega (arith, short, few); answer = omega (arith, short, few) }

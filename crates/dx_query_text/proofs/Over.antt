@@ -13,10 +13,10 @@ use Rattle.dx_line_text.specs.Answers.{ReadsOrMemory}
 use Rattle.dx_queries.specs.declared.query.Query.{Query}
 use Rattle.dx_queries.specs.Results.{FitsQuery}
 use Rattle.dx_query_text.specs.declared.texts.PartText.{PartText}
-use Rattle.dx_query_text.specs.Naming.{IsNarrow, query_fault, query_of}
-use Rattle.dx_query_text.specs.Texts.{IsQueryText, IsTextFault, read_text}
-use Rattle.dx_query_text.specs.Queries.{HasFewAtoms, IsFaultOver, IsPlaced, IsQueryOver, IsToldFault, named, named_read, read_over}
-use Rattle.dx_query_text.specs.Laws.{FaultsArePlaced, NeverSaidAndFaulty, OneFault, OneQuery, QueryOrFault}
+use Rattle.dx_query_text.specs.Naming.{PartHasFewCells, query_fault, query_of}
+use Rattle.dx_query_text.specs.Texts.{IsQueryText, IsQueryTextFault, query_of_text}
+use Rattle.dx_query_text.specs.Queries.{HasFewAtoms, IsFaultOver, IsPlaced, IsQueryOver, IsQueryFaultOrMemory, query_unless_fault, named_read, read_over}
+use Rattle.dx_query_text.specs.Laws.{FaultsArePlaced, NeverSaidAndFaulty, OneQueryFault, OneQuery, QueryOrFault}
 use Rattle.dx_query_text.proofs.Answered.{fault_read, query_read, text_fault, text_query}
 use Rattle.dx_query_text.proofs.Few.{short_are_narrow}
 use Rattle.dx_query_text.proofs.Fitting.{read_queries_fit}
@@ -27,35 +27,35 @@ module _ (target : Forest) (text : List ℕ) where
 
   said_read : (q : Query) → IsQueryOver target text q → read_over target text ≡ Ok q
   said_read q (parts, says, none, is) =
-      ap (named_read target) (query_read text parts says) ∙ ap (named target parts) none ∙ ap (λ (p : Query). Ok p) (sym is)
+      ap (named_read target) (query_read text parts says) ∙ ap (query_unless_fault target parts) none ∙ ap (λ (p : Query). Ok p) (sym is)
 
   faulty_read : (e : TextFault) → IsFaultOver target text e → read_over target text ≡ Err e
   faulty_read e (inl fault) = ap (named_read target) (fault_read text e fault)
-  faulty_read e (inr (parts, says, some)) = ap (named_read target) (query_read text parts says) ∙ ap (named target parts) some
+  faulty_read e (inr (parts, says, some)) = ap (named_read target) (query_read text parts says) ∙ ap (query_unless_fault target parts) some
 
   -- ---- what is answered is said
 
-  named_said : (parts : List PartText) (o : Option TextFault) (q : Query) → IsQueryText text parts → query_fault target parts ≡ o → named target parts o ≡ Ok q → IsQueryOver target text q
+  named_said : (parts : List PartText) (o : Option TextFault) (q : Query) → IsQueryText text parts → query_fault target parts ≡ o → query_unless_fault target parts o ≡ Ok q → IsQueryOver target text q
   named_said parts None q says is e = (parts, says, is, sym (same_ok (query_of target parts) q e))
   named_said parts (Some f) q says is e = absurd cc
 
-  read_said : (q : Query) (r : Result (List PartText) TextFault) → read_text text ≡ r → named_read target r ≡ Ok q → IsQueryOver target text q
+  read_said : (q : Query) (r : Result (List PartText) TextFault) → query_of_text text ≡ r → named_read target r ≡ Ok q → IsQueryOver target text q
   read_said q (Ok parts) is e = named_said parts (query_fault target parts) q (text_query text parts is) refl e
   read_said q (Err f) is e = absurd cc
 
   over_said : (q : Query) → read_over target text ≡ Ok q → IsQueryOver target text q
-  over_said q e = read_said q (read_text text) refl e
+  over_said q e = read_said q (query_of_text text) refl e
 
-  named_faulty : (parts : List PartText) (o : Option TextFault) (e : TextFault) → IsQueryText text parts → query_fault target parts ≡ o → named target parts o ≡ Err e → IsFaultOver target text e
+  named_faulty : (parts : List PartText) (o : Option TextFault) (e : TextFault) → IsQueryText text parts → query_fault target parts ≡ o → query_unless_fault target parts o ≡ Err e → IsFaultOver target text e
   named_faulty parts None e says is k = absurd cc
   named_faulty parts (Some f) e says is k = inr (parts, says, is ∙ ap (λ (g : TextFault). Some g) (same_err f e k))
 
-  read_faulty : (e : TextFault) (r : Result (List PartText) TextFault) → read_text text ≡ r → named_read target r ≡ Err e → IsFaultOver target text e
+  read_faulty : (e : TextFault) (r : Result (List PartText) TextFault) → query_of_text text ≡ r → named_read target r ≡ Err e → IsFaultOver target text e
   read_faulty e (Ok parts) is k = named_faulty parts (query_fault target parts) e (text_query text parts is) refl k
-  read_faulty e (Err f) is k = inl (subst (IsTextFault text) (same_err f e k) (text_fault text f is))
+  read_faulty e (Err f) is k = inl (subst (IsQueryTextFault text) (same_err f e k) (text_fault text f is))
 
   over_faulty : (e : TextFault) → read_over target text ≡ Err e → IsFaultOver target text e
-  over_faulty e k = read_faulty e (read_text text) refl k
+  over_faulty e k = read_faulty e (query_of_text text) refl k
 
   is_placed : (e : TextFault) → IsFaultOver target text e → IsPlaced e
   is_placed e (inl fault) = placed_text text e fault
@@ -66,7 +66,7 @@ module _ (target : Forest) (text : List ℕ) where
 pub one_query : OneQuery
 one_query target text p q a b = same_ok p q (sym (said_read target text p a) ∙ said_read target text q b)
 
-pub one_fault : OneFault
+pub one_fault : OneQueryFault
 one_fault target text e f a b = same_err e f (sym (faulty_read target text e a) ∙ faulty_read target text f b)
 
 pub query_or_fault : QueryOrFault
@@ -88,7 +88,7 @@ reads_query target text r h = reads_ok (IsQueryOver target text) r (read_over ta
 pub reads_query_only : (target : Forest) (text : List ℕ) (r : Result Query TextFault) → Reads r (read_over target text) → (q : Query) → IsQueryOver target text q → Reads r (Ok q)
 reads_query_only target text r h q says = subst (Reads r) (said_read target text q says) h
 
-pub reads_told : (target : Forest) (text : List ℕ) (r : Result Query TextFault) → Reads r (read_over target text) → IfErr r (IsToldFault target text)
+pub reads_told : (target : Forest) (text : List ℕ) (r : Result Query TextFault) → Reads r (read_over target text) → IfErr r (IsQueryFaultOrMemory target text)
 reads_told target text r h = reads_err (IsFaultOver target text) r (read_over target text) h (over_faulty target text)
 
 pub reads_fault_only : (target : Forest) (text : List ℕ) (r : Result Query TextFault) → Reads r (read_over target text) → (e : TextFault) → IsFaultOver target text e → Reads r (Err e)
@@ -100,23 +100,23 @@ reads_fit target text r h = reads_ok (λ q. HasFewAtoms q → FitsQuery (schema_
 -- ---- the steps of the call
 
 -- the parts that are read of a short text are narrow
-pub read_narrow : (text : List ℕ) (parts : List PartText) → length text < 2 ^ 32 - 1 → read_text text ≡ Ok parts → Each parts IsNarrow
+pub read_narrow : (text : List ℕ) (parts : List PartText) → length text < 2 ^ 32 - 1 → query_of_text text ≡ Ok parts → Each parts PartHasFewCells
 read_narrow text parts short e = short_are_narrow text parts short (text_query text parts e)
 
 -- the text is at fault
-pub parts_refused : (target : Forest) (text : List ℕ) (e : TextFault) → Reads (Err e) (read_text text) → Reads (Err e) (read_over target text)
+pub parts_refused : (target : Forest) (text : List ℕ) (e : TextFault) → Reads (Err e) (query_of_text text) → Reads (Err e) (read_over target text)
 parts_refused target text Memory h = tt
 parts_refused target text (At place kind) h = ap (named_read target) h
 parts_refused target text (TooDeep place) h = ap (named_read target) h
 
 -- its parts are read, and then their names
-by_names : (target : Forest) (parts : List PartText) (r : Result Query TextFault) → ReadsOrMemory r (query_of target parts) (query_fault target parts) → Reads r (named target parts (query_fault target parts))
-by_names target parts (Ok q) h = ap (named target parts) h.1 ∙ ap (λ (p : Query). Ok p) (sym h.0)
+by_names : (target : Forest) (parts : List PartText) (r : Result Query TextFault) → ReadsOrMemory r (query_of target parts) (query_fault target parts) → Reads r (query_unless_fault target parts (query_fault target parts))
+by_names target parts (Ok q) h = ap (query_unless_fault target parts) h.1 ∙ ap (λ (p : Query). Ok p) (sym h.0)
 by_names target parts (Err Memory) h = tt
 by_names target parts (Err (At place kind)) (inl m) = absurd cc
-by_names target parts (Err (At place kind)) (inr s) = ap (named target parts) s
+by_names target parts (Err (At place kind)) (inr s) = ap (query_unless_fault target parts) s
 by_names target parts (Err (TooDeep place)) (inl m) = absurd cc
-by_names target parts (Err (TooDeep place)) (inr s) = ap (named target parts) s
+by_names target parts (Err (TooDeep place)) (inr s) = ap (query_unless_fault target parts) s
 
-pub names_read : (target : Forest) (text : List ℕ) (parts : List PartText) (r : Result Query TextFault) → read_text text ≡ Ok parts → ReadsOrMemory r (query_of target parts) (query_fault target parts) → Reads r (read_over target text)
+pub names_read : (target : Forest) (text : List ℕ) (parts : List PartText) (r : Result Query TextFault) → query_of_text text ≡ Ok parts → ReadsOrMemory r (query_of target parts) (query_fault target parts) → Reads r (read_over target text)
 names_read target text parts r is h = subst (Reads r) (sym (ap (named_read target) is)) (by_names target parts r h)

@@ -3,7 +3,7 @@ use Rattle.std.proofs.Common.{◌≡◌, ℕ, List, [], ◌∷◌, Bool, true, f
 use Rattle.std.specs.Prelude.{eqb}
 use Rattle.dx_ports.specs.Firsts.{first_of}
 use Rattle.dx_schema.specs.Forest.{Forest}
-use Rattle.dx_schema.specs.Tables.{Text}
+use Rattle.dx_ports.specs.Texts.{Text}
 use Rattle.dx_schema.specs.Faults.{is_among}
 use Rattle.dx_tokens.specs.declared.faults.TextFault.{TextFault}
 use Rattle.dx_tokens.specs.declared.faults.TextFault.TheVariants.{At, Memory, TooDeep}
@@ -14,11 +14,11 @@ use Rattle.dx_schema_text.specs.declared.texts.CellText.TheVariants.{Name, Liter
 use Rattle.dx_schema_text.specs.declared.texts.AtomText.{AtomText}
 use Rattle.dx_tgd_text.specs.Reading.{atom_fault, atoms_fault}
 use Rattle.dx_query_text.specs.declared.texts.PartText.{PartText}
-use Rattle.dx_query_text.specs.Naming.{answer_cell_fault, answer_fault, part_fault, query_fault, variables_of, width_fault, width_of}
+use Rattle.dx_query_text.specs.Naming.{answer_cell_fault, answer_fault, part_fault, query_fault, part_variables, width_fault, width_of}
 use Rattle.dx_query_text.specs.Queries.{IsPlaced}
-use Rattle.dx_query_text.specs.Texts.{IsTextFault}
+use Rattle.dx_query_text.specs.Texts.{IsQueryTextFault}
 
-pub placed_text : (text : List ℕ) (e : TextFault) → IsTextFault text e → IsPlaced e
+pub placed_text : (text : List ℕ) (e : TextFault) → IsQueryTextFault text e → IsPlaced e
 placed_text text (At place kind) h = tt
 placed_text text (TooDeep place) h = h
 placed_text text Memory h = h
@@ -56,7 +56,7 @@ part_placed : (f : Forest) (width : ℕ) (p : PartText) → Placed (part_fault f
 part_placed f width p =
     first_placed (atoms_fault f p.atoms) _ (all_placed (atom_fault f) (atom_placed f) p.atoms)
     (first_placed (width_fault width p) _ (width_placed width p)
-    (first_placed (answer_fault (variables_of p) p.answer) [] (all_placed (answer_cell_fault (variables_of p)) (cell_placed (variables_of p)) p.answer) tt))
+    (first_placed (answer_fault (part_variables p) p.answer) [] (all_placed (answer_cell_fault (part_variables p)) (cell_placed (part_variables p)) p.answer) tt))
 
 pub placed_parts : (f : Forest) (parts : List PartText) (e : TextFault) → query_fault f parts ≡ Some e → IsPlaced e
 placed_parts f parts e h = rw h at (all_placed (part_fault f (width_of parts)) (part_placed f (width_of parts)) parts)

@@ -4,11 +4,11 @@ use Rattle.std.specs.Prelude.{codes}
 use Rattle.dx_tokens.specs.declared.scanner.Lexeme.{Lexeme}
 use Rattle.dx_grammar.specs.Readers.{many, Many}
 use Rattle.dx_grammar.proofs.Spelled.{Finds, give_finds, then_finds, last_finds, head_finds, many_finds, Again, NotNext, many_again}
-use Rattle.dx_schema_text.specs.Grammar.{word_is, number_is, mark_is}
+use Rattle.dx_schema_text.specs.Grammar.{word_is, digit_is, mark_is}
 use Rattle.dx_schema_text.specs.Reading.{cells_reader, atoms_reader}
 use Rattle.dx_schema_text.proofs.Found.{cells_finds, atoms_finds}
 use Rattle.dx_schema_text.proofs.Again.{cells_again, atoms_again, no_comma}
-use Rattle.dx_schema_text.specs.Spelling.{IsKeyword, Parted, SpellsAtom, SpellsCell}
+use Rattle.dx_schema_text.specs.Spelling.{IsKeyword, SpellsCommaList, SpellsAtom, SpellsCell}
 use Rattle.dx_query_text.specs.declared.texts.PartText.{PartText}
 use Rattle.dx_query_text.specs.Reading.{part_reader, query_reader}
 use Rattle.dx_query_text.specs.Spelling.{SpellsPart, part_of, SpellsQuery, query_of}
@@ -19,14 +19,14 @@ use Rattle.dx_query_text.proofs.Follows.{begins_part, part_consumes}
 part_finds : Finds part_reader SpellsPart
 unfolding part_reader
 part_finds =
-    head_finds begins_part _ SpellsPart (λ k kw. head_finds (mark_is (codes "(")) _ _ (λ o ow. then_finds (cells_reader true) _ (Parted (SpellsCell true)) _ (cells_finds true) (λ answer u h.
-    head_finds (mark_is (codes ")")) _ _ (λ c cw. head_finds (word_is (codes "from")) _ _ (λ f fw. then_finds (atoms_reader true) _ (Parted (SpellsAtom true)) _ (atoms_finds true) (λ atoms v g.
+    head_finds begins_part _ SpellsPart (λ k kw. head_finds (mark_is (codes "(")) _ _ (λ o ow. then_finds (cells_reader true) _ (SpellsCommaList (SpellsCell true)) _ (cells_finds true) (λ answer u h.
+    head_finds (mark_is (codes ")")) _ _ (λ c cw. head_finds (word_is (codes "from")) _ _ (λ f fw. then_finds (atoms_reader true) _ (SpellsCommaList (SpellsAtom true)) _ (atoms_finds true) (λ atoms v g.
     head_finds (mark_is (codes ";")) _ _ (λ e ew. give_finds _ _ (part_of k o c f e kw ow h cw fw g ew))))))))
 
 pub query_finds : Finds query_reader SpellsQuery
 unfolding query_reader
 query_finds =
-    head_finds (word_is (codes "query")) _ SpellsQuery (λ k kw. head_finds (number_is (codes "1")) _ _ (λ n nw. head_finds (mark_is (codes ";")) _ _ (λ e ew. then_finds part_reader _ SpellsPart _ part_finds (λ first u h.
+    head_finds (word_is (codes "query")) _ SpellsQuery (λ k kw. head_finds (digit_is (codes "1")) _ _ (λ n nw. head_finds (mark_is (codes ";")) _ _ (λ e ew. then_finds part_reader _ SpellsPart _ part_finds (λ first u h.
     last_finds (many begins_part part_reader) _ (Many SpellsPart) _ (many_finds begins_part part_reader SpellsPart part_finds) (λ others v m. query_of k n e kw nw ew h m)))))
 
 -- ---- what is spelled is read

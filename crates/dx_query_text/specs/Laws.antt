@@ -8,9 +8,9 @@ use Rattle.dx_tgd_text.specs.Numbering.{text_cells}
 use Rattle.dx_queries.specs.declared.query.Query.{Query}
 use Rattle.dx_queries.specs.Results.{FitsPart, FitsQuery}
 use Rattle.dx_query_text.specs.declared.texts.PartText.{PartText}
-use Rattle.dx_query_text.specs.Naming.{part_fault, part_of}
+use Rattle.dx_query_text.specs.Naming.{part_fault, part_of_text}
 use Rattle.dx_query_text.specs.Queries.{HasFewAtoms, IsFaultOver, IsPlaced, IsQueryOver}
-use Rattle.dx_query_text.specs.Texts.{IsQueryText, IsTextFault}
+use Rattle.dx_query_text.specs.Texts.{IsQueryText, IsQueryTextFault}
 
 -- ---- texts
 
@@ -19,14 +19,14 @@ abbrev pub OneText : Type 0
 OneText = (text : List ℕ) (p q : List PartText) → IsQueryText text p → IsQueryText text q → p ≡ q
 
 abbrev pub OneTextFault : Type 0
-OneTextFault = (text : List ℕ) (e f : TextFault) → IsTextFault text e → IsTextFault text f → e ≡ f
+OneTextFault = (text : List ℕ) (e f : TextFault) → IsQueryTextFault text e → IsQueryTextFault text f → e ≡ f
 
 -- it has one of the two, and never both
 abbrev pub TextOrFault : Type 0
-TextOrFault = (text : List ℕ) → ((q : List PartText) × IsQueryText text q) ⊎ ((e : TextFault) × IsTextFault text e)
+TextOrFault = (text : List ℕ) → ((q : List PartText) × IsQueryText text q) ⊎ ((e : TextFault) × IsQueryTextFault text e)
 
-abbrev pub NeverBoth : Type 0
-NeverBoth = (text : List ℕ) (q : List PartText) (e : TextFault) → IsQueryText text q → ¬ (IsTextFault text e)
+abbrev pub NeverQueryAndFault : Type 0
+NeverQueryAndFault = (text : List ℕ) (q : List PartText) (e : TextFault) → IsQueryText text q → ¬ (IsQueryTextFault text e)
 
 -- a part has no more cells than the text has bytes
 abbrev pub TextsHaveFewCells : Type 0
@@ -38,8 +38,8 @@ TextsHaveFewCells = (text : List ℕ) (parts : List PartText) → IsQueryText te
 abbrev pub OneQuery : Type 0
 OneQuery = (target : Forest) (text : List ℕ) (p q : Query) → IsQueryOver target text p → IsQueryOver target text q → p ≡ q
 
-abbrev pub OneFault : Type 0
-OneFault = (target : Forest) (text : List ℕ) (e f : TextFault) → IsFaultOver target text e → IsFaultOver target text f → e ≡ f
+abbrev pub OneQueryFault : Type 0
+OneQueryFault = (target : Forest) (text : List ℕ) (e f : TextFault) → IsFaultOver target text e → IsFaultOver target text f → e ≡ f
 
 -- it has one of the two, and never both
 abbrev pub QueryOrFault : Type 0
@@ -54,7 +54,7 @@ FaultsArePlaced = (target : Forest) (text : List ℕ) (e : TextFault) → IsFaul
 
 -- a part without a fault, of 64 atoms at most, fits the schema
 abbrev pub ReadPartsFit : Type 0
-ReadPartsFit = (f : Forest) (width : ℕ) (p : PartText) → length p.atoms ≤ 64 → part_fault f width p ≡ None → FitsPart (schema_widths f) width (part_of f p)
+ReadPartsFit = (f : Forest) (width : ℕ) (p : PartText) → length p.atoms ≤ 64 → part_fault f width p ≡ None → FitsPart (schema_widths f) width (part_of_text f p)
 
 -- so does a query that a text says, if none of its parts has more
 abbrev pub ReadQueriesFit : Type 0

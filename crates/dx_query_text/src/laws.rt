@@ -1,5 +1,5 @@
 // The laws of query texts. The definitions alone carry them: no body computes anything.
-ghost use Rattle.dx_query_text.specs.Laws.{FaultsArePlaced, NeverBoth, NeverSaidAndFaulty, OneFault, OneQuery, OneText, OneTextFault, QueryOrFault, ReadPartsFit, ReadQueriesFit, TextOrFault, TextsHaveFewCells};
+ghost use Rattle.dx_query_text.specs.Laws.{FaultsArePlaced, NeverQueryAndFault, NeverSaidAndFaulty, OneQueryFault, OneQuery, OneText, OneTextFault, QueryOrFault, ReadPartsFit, ReadQueriesFit, TextOrFault, TextsHaveFewCells};
 
 /// A text says the parts of one query, or it has one first fault as a text.
 pub fn a_text_says_one_thing()

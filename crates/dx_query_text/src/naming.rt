@@ -3,7 +3,7 @@ ghost use Rattle.std.specs.Prelude.{◌≡◌, ◌⊎◌, ◌<◌, ◌^◌, None
 ghost use Rattle.dx_ports.specs.Firsts.{first_of};
 ghost use Rattle.dx_ports.specs.Members.{Each};
 ghost use Rattle.dx_line_text.specs.Answers.{ReadsOrMemory};
-ghost use Rattle.dx_query_text.specs.Naming.{IsNarrow, answer_cell_fault, answer_fault, part_fault, part_of, query_fault, query_of, width_fault, width_of};
+ghost use Rattle.dx_query_text.specs.Naming.{PartHasFewCells, answer_cell_fault, answer_fault, part_fault, part_of_text, query_fault, query_of, width_fault, width_of};
 
 use crate::texts::PartText;
 use dx_ports::Items;
@@ -60,8 +60,8 @@ fn check_answer(answer: &[CellText], known: &Names) -> Result<(), TextFault>
 
 // A part of a query whose answers have this width.
 fn read_part(alloc: Global, part: &PartText, width: u32, target: &Schema) -> Result<Part, TextFault>
-    requires { IsNarrow part.now }
-    ensures { ReadsOrMemory result (part_of target.now part.now) (part_fault target.now width part.now) }
+    requires { PartHasFewCells part.now }
+    ensures { ReadsOrMemory result (part_of_text target.now part.now) (part_fault target.now width part.now) }
 {
     let none = Names::new(alloc);
     let known = Names::of_atoms(alloc, part.atoms.items(), &none)?;
@@ -74,7 +74,7 @@ fn read_part(alloc: Global, part: &PartText, width: u32, target: &Schema) -> Res
 
 // How many cells the answer of the first part has.
 fn width(parts: &[PartText]) -> u32
-    requires { Each parts.now IsNarrow }
+    requires { Each parts.now PartHasFewCells }
     ensures { result ≡ width_of parts.now }
 {
     if parts.is_empty() {
@@ -93,7 +93,7 @@ pub(crate) fn named_query(
     parts: &[PartText],
     target: &Schema,
 ) -> Result<Query, TextFault>
-    requires { Each parts.now IsNarrow }
+    requires { Each parts.now PartHasFewCells }
     ensures { ReadsOrMemory result (query_of target.now parts.now) (query_fault target.now parts.now) }
 {
     let width = width(parts);

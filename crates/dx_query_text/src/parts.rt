@@ -1,13 +1,13 @@
 // The parts of a query text, read with its first fault as a text.
 ghost use Rattle.std.specs.Prelude.{◌≡◌, ◌-◌, ◌<◌, ◌≤◌, codes, length};
-ghost use Rattle.dx_grammar.specs.Readers.{Gives, many, whole, with_front};
+ghost use Rattle.dx_grammar.specs.Readers.{ReadsAs, many, whole, with_front};
 ghost use Rattle.dx_tokens.specs.Judged.{Reads};
 ghost use Rattle.dx_tokens.specs.declared.faults.TextFault.TheVariants.{At};
 ghost use Rattle.dx_tokens.specs.declared.faults.TextKind.TheVariants.{Expected};
 ghost use Rattle.dx_schema_text.specs.Grammar.{word_is};
-ghost use Rattle.dx_schema_text.specs.Texts.{place_of};
+ghost use Rattle.dx_schema_text.specs.Texts.{token_place};
 ghost use Rattle.dx_query_text.specs.Reading.{part_reader, query_reader};
-ghost use Rattle.dx_query_text.specs.Texts.{read_text, told_of};
+ghost use Rattle.dx_query_text.specs.Texts.{query_of_text, query_of_tokens};
 
 use crate::texts::PartText;
 use dx_grammar::{ReadError, nothing_left};
@@ -19,7 +19,7 @@ use std::alloc::Global;
 // A part, and what is left after it.
 #[tactic(auto, unfolding(crate::specs::Reading::part_reader))]
 fn part(alloc: Global, tokens: &[Lexeme]) -> Result<(PartText, &[Lexeme]), ReadError>
-    ensures { Gives (λ x. (x.0, x.1.now)) result (part_reader tokens.now) }
+    ensures { ReadsAs (λ x. (x.0, x.1.now)) result (part_reader tokens.now) }
 {
     let (begin, rest) = keyword(tokens, b"answer")?;
     let (_, rest) = mark(rest, b"(")?;
@@ -42,7 +42,7 @@ fn more_parts(
     parts: Items<PartText>,
     tokens: &[Lexeme],
 ) -> Result<(Items<PartText>, &[Lexeme]), ReadError>
-    ensures { Gives (λ x. (x.0, x.1.now)) result (with_front parts (many (word_is (codes "answer")) part_reader tokens.now)) }
+    ensures { ReadsAs (λ x. (x.0, x.1.now)) result (with_front parts (many (word_is (codes "answer")) part_reader tokens.now)) }
 {
     let mut parts = parts;
     let mut rest = tokens;
@@ -57,7 +57,7 @@ fn more_parts(
 // The parts of a query, and what is left after them.
 #[tactic(auto, unfolding(crate::specs::Reading::query_reader))]
 fn query(alloc: Global, tokens: &[Lexeme]) -> Result<(Items<PartText>, &[Lexeme]), ReadError>
-    ensures { Gives (λ x. (x.0, x.1.now)) result (query_reader tokens.now) }
+    ensures { ReadsAs (λ x. (x.0, x.1.now)) result (query_reader tokens.now) }
 {
     let (_, rest) = keyword(tokens, b"query")?;
     let (_, rest) = number(rest, b"1")?;
@@ -70,7 +70,7 @@ fn query(alloc: Global, tokens: &[Lexeme]) -> Result<(Items<PartText>, &[Lexeme]
 
 // The parts of the query that all of the tokens say.
 fn whole_query(alloc: Global, tokens: &[Lexeme]) -> Result<Items<PartText>, ReadError>
-    ensures { Gives (λ x. x) result (whole query_reader tokens.now) }
+    ensures { ReadsAs (λ x. x) result (whole query_reader tokens.now) }
 {
     let (parts, rest) = query(alloc, tokens)?;
     nothing_left(rest)?;
@@ -81,7 +81,7 @@ fn whole_query(alloc: Global, tokens: &[Lexeme]) -> Result<Items<PartText>, Read
 fn fault_at(tokens: &[Lexeme], left: usize) -> TextFault
     requires some { 0 < left }
     requires inside { left ≤ length tokens.now }
-    ensures { result ≡ At (place_of tokens.now (length tokens.now - left)) Expected }
+    ensures { result ≡ At (token_place tokens.now (length tokens.now - left)) Expected }
 {
     TextFault::At {
         place: tokens[tokens.len() - left].place,
@@ -96,7 +96,7 @@ fn parts_of(
     stop: Option<(u64, TextKind)>,
     tokens: &[Lexeme],
 ) -> Result<Items<PartText>, TextFault>
-    ensures { Reads result (told_of end stop tokens.now) }
+    ensures { Reads result (query_of_tokens end stop tokens.now) }
 {
     match whole_query(alloc, tokens) {
         Ok(parts) => match stop {
@@ -115,7 +115,7 @@ fn parts_of(
 ///
 /// `At` with the first fault of the text as a text. `Memory` if there is no memory, which may come at any point.
 pub(crate) fn read_parts(alloc: Global, text: &[u8]) -> Result<Items<PartText>, TextFault>
-    ensures { Reads result (read_text text.now) }
+    ensures { Reads result (query_of_text text.now) }
 {
     let (tokens, stop) = judged(scan(alloc, text)?)?;
     parts_of(alloc, text.len() as u64, stop, tokens.items())

@@ -3,7 +3,7 @@ ghost use Rattle.std.specs.Prelude.{◌≡◌, ◌<◌, ◌≤◌, ◌-◌, ◌^
 ghost use Rattle.dx_tokens.specs.Judged.{Reads};
 ghost use Rattle.dx_schema.specs.Tables.{schema_widths};
 ghost use Rattle.dx_queries.specs.Results.{FitsQuery};
-ghost use Rattle.dx_query_text.specs.Queries.{AnswersFault, AnswersQuery, HasFewAtoms, IsQueryOver, IsToldFault, read_over};
+ghost use Rattle.dx_query_text.specs.Queries.{AnswersQueryFault, AnswersQuery, HasFewAtoms, IsQueryOver, IsQueryFaultOrMemory, read_over};
 
 use crate::naming::named_query;
 use crate::parts::read_parts;
@@ -42,8 +42,8 @@ pub fn read_query(alloc: Global, text: &[u8], target: &Schema) -> Result<Query, 
     ensures query_only { AnswersQuery target.now text.now result }
 
     // A refusal is the text's first fault, and its first fault is refused.
-    ensures fault { IfErr result (IsToldFault target.now text.now) }
-    ensures fault_only { AnswersFault target.now text.now result }
+    ensures fault { IfErr result (IsQueryFaultOrMemory target.now text.now) }
+    ensures fault_only { AnswersQueryFault target.now text.now result }
     ensures fit { IfOk result (λ q. HasFewAtoms q → FitsQuery (schema_widths target.now) q) }
 {
     read(alloc, text, target)

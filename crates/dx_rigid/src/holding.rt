@@ -2,7 +2,7 @@
 ghost use Rattle.std.specs.Prelude.{◌≡◌, ◌<◌, ℕ, EachIndex, false, true, length, slice_index, slice_index_or};
 ghost use Rattle.std.specs.Bool.{OnTrue};
 ghost use Rattle.dx_instance.specs.Cells.{numbers_at};
-ghost use Rattle.dx_rigid.specs.Alone.{rows_in};
+ghost use Rattle.dx_rigid.specs.Alone.{number_rows};
 
 use dx_instance::Numbers;
 
@@ -31,9 +31,9 @@ pub(crate) fn row_holds_marked(row: &[u32], marks: &[bool]) -> bool
 // Whether each number in a table is marked.
 fn table_holds_marked(numbers: &Numbers<'_>, table: u32, marks: &[bool]) -> bool
     requires { table < length numbers.now.tables }
-    ensures { OnTrue result ((p : ℕ) → p < length (rows_in numbers.now table)
-        → EachIndex (numbers_at (rows_in numbers.now table) p)
-        (λ c. slice_index_or marks.now (slice_index (numbers_at (rows_in numbers.now table) p) c) false ≡ true)) }
+    ensures { OnTrue result ((p : ℕ) → p < length (number_rows numbers.now table)
+        → EachIndex (numbers_at (number_rows numbers.now table) p)
+        (λ c. slice_index_or marks.now (slice_index (numbers_at (number_rows numbers.now table) p) c) false ≡ true)) }
 {
     for place in 0..numbers.count(table) {
         if !row_holds_marked(numbers.row(table, place), marks) {
@@ -45,9 +45,9 @@ fn table_holds_marked(numbers: &Numbers<'_>, table: u32, marks: &[bool]) -> bool
 
 /// Whether each number in a row is marked.
 pub(crate) fn hold_marked(numbers: &Numbers<'_>, marks: &[bool]) -> bool
-    ensures { OnTrue result ((t p : ℕ) → t < length numbers.now.tables → p < length (rows_in numbers.now t)
-        → EachIndex (numbers_at (rows_in numbers.now t) p)
-        (λ c. slice_index_or marks.now (slice_index (numbers_at (rows_in numbers.now t) p) c) false ≡ true)) }
+    ensures { OnTrue result ((t p : ℕ) → t < length numbers.now.tables → p < length (number_rows numbers.now t)
+        → EachIndex (numbers_at (number_rows numbers.now t) p)
+        (λ c. slice_index_or marks.now (slice_index (numbers_at (number_rows numbers.now t) p) c) false ≡ true)) }
 {
     for table in 0..numbers.tables() {
         if !table_holds_marked(numbers, table, marks) {

@@ -8,12 +8,13 @@ use Rattle.dx_model.specs.declared.rules.Atom.{Atom}
 use Rattle.dx_model.specs.Rules.{cells_of}
 use Rattle.dx_model.specs.Solutions.{AtomFits}
 use Rattle.dx_schema.specs.Forest.{Forest}
-use Rattle.dx_schema.specs.Tables.{Text, AreTables, model_tables, tables_of}
+use Rattle.dx_schema.specs.Tables.{AreTables, model_tables, tables_of}
+use Rattle.dx_ports.specs.Texts.{Text}
 use Rattle.dx_schema.proofs.Facts.{atom_table, atom_width}
 use Rattle.dx_tokens.specs.declared.faults.TextFault.{TextFault}
 use Rattle.dx_schema_text.specs.declared.texts.AtomText.{AtomText}
 use Rattle.dx_rule_text.specs.Printed.{table_name}
-use Rattle.dx_tgd_text.specs.Reading.{atom_fault, atom_of, atoms_fault, atoms_of, cell_of}
+use Rattle.dx_tgd_text.specs.Reading.{atom_fault, atom_of_text, atoms_fault, atoms_of_texts, cell_of}
 use Rattle.dx_tgd_text.proofs.Found.{set_found}
 use Rattle.dx_rule_laws.proofs.Says.{Paired, no_pair, one_pair, SaysCell, SaysAtom}
 use Rattle.dx_rule_laws.proofs.Cells.{HaveNumbers, numbers_within, cells_back}
@@ -27,7 +28,7 @@ paired_length R (x ∷ xs) (y ∷ ys) (one_pair r h) = ap suc (paired_length R x
 -- an atom has no fault, and is read as it was
 pub record IsAtomBack (f : Forest) (known fresh : List Text) (a : Atom) (t : AtomText) : Type 0 where
   pub no_fault : atom_fault f t ≡ None
-  pub same : atom_of f known fresh t ≡ a
+  pub same : atom_of_text f known fresh t ≡ a
 
 atom_back : (f : Forest) (known fresh : List Text) (a : Atom) (t : AtomText) → AreTables (tables_of f) → AtomFits (model_tables f) a → SaysAtom (table_name f) a t → HaveNumbers known fresh a.cells → IsAtomBack f known fresh a t
 atom_back f known fresh a t tables fits s h =
@@ -40,7 +41,7 @@ atom_back f known fresh a t tables fits s h =
 
 pub record AreAtomsBack (f : Forest) (known fresh : List Text) (atoms : List Atom) (texts : List AtomText) : Type 0 where
   pub no_fault : atoms_fault f texts ≡ None
-  pub same : atoms_of f known fresh texts ≡ atoms
+  pub same : atoms_of_texts f known fresh texts ≡ atoms
 
 pub atoms_back : (f : Forest) (known fresh : List Text) (atoms : List Atom) (texts : List AtomText) → AreTables (tables_of f) → Each atoms (AtomFits (model_tables f)) → Paired (SaysAtom (table_name f)) atoms texts
     → HaveNumbers known fresh (cells_of atoms) → AreAtomsBack f known fresh atoms texts
@@ -52,5 +53,5 @@ atoms_back f known fresh (a ∷ atoms) (t ∷ texts) tables fits (one_pair s k) 
     let others = atoms_back f known fresh atoms texts tables (λ b m. fits b (there m)) k (numbers_within known fresh (cells_of atoms) (a.cells ++ cells_of atoms) (λ c m. in_right a.cells m) h) in
     record {
       no_fault = ap (λ (o : Option TextFault). first_of (o ∷ map (atom_fault f) texts)) first.no_fault ∙ others.no_fault;
-      same = ap (λ (b : Atom). b ∷ atoms_of f known fresh texts) first.same ∙ ap (λ (bs : List Atom). a ∷ bs) others.same;
+      same = ap (λ (b : Atom). b ∷ atoms_of_texts f known fresh texts) first.same ∙ ap (λ (bs : List Atom). a ∷ bs) others.same;
     }

@@ -10,9 +10,9 @@ use Rattle.dx_model.specs.declared.rules.Derived.{Derived}
 use Rattle.dx_model.specs.declared.rules.Rule.{Rule}
 use Rattle.dx_model.specs.Rules.{existential_in, existentials}
 use Rattle.dx_model.specs.Solutions.{AtomFits}
-use Rattle.dx_model.specs.Fitting.{IsVariable, variable_in, premise_variables, IsRule, RuleFits}
+use Rattle.dx_model.specs.Fitting.{IsVariable, cell_variable, premise_variables, IsRule, RuleFits}
 use Rattle.dx_schema.specs.Forest.{Forest}
-use Rattle.dx_schema.specs.Tables.{AreTables, model_tables, tables_of, table_at}
+use Rattle.dx_schema.specs.Tables.{AreTables, model_tables, tables_of, schema_table}
 use Rattle.dx_schema.proofs.Facts.{atom_table, atom_width}
 use Rattle.dx_schema_text.specs.Spelling.{SpellsRule}
 use Rattle.dx_schema_text.proofs.PrintScans.{Reads, ReadsAll, reads_all}
@@ -21,7 +21,7 @@ use Rattle.dx_funcs.specs.Names.{conversion_name}
 use Rattle.dx_funcs.specs.Offers.{IsOffer}
 use Rattle.dx_rule_text.specs.Printed.{rule_text, table_name}
 use Rattle.dx_tgd_text.specs.Laws.{AreOffered}
-use Rattle.dx_rule_laws.specs.ReadBack.{HasNamedTables, IsPrintable, IsWritable}
+use Rattle.dx_rule_laws.specs.ReadBack.{HasNamedTables, IsPrintableRule, IsWritable}
 use Rattle.dx_rule_laws.specs.Laws.{PrintedRulesAreRead}
 use Rattle.dx_rule_laws.proofs.Says.{Counted, counted, SaysRule}
 use Rattle.dx_rule_laws.proofs.Spelled.{Spelled, CanStand, CanBeAtom, CanBeDerived, CanBeRule, rule_read}
@@ -31,7 +31,7 @@ use Rattle.dx_rule_laws.proofs.ReadBack.{variables_below, existentials_below, ru
 -- the atom has a cell, since its table has a column
 some_cell : (f : Forest) (a : Atom) → AreTables (tables_of f) → AtomFits (model_tables f) a → 0 < length a.cells
 some_cell f a tables fits =
-    let column = (tables.each_table (table_at f a.table) (in_at (tables_of f) a.table _ (atom_table f a fits))).some_column in
+    let column = (tables.each_table (schema_table f a.table) (in_at (tables_of f) a.table _ (atom_table f a fits))).some_column in
     let width = atom_width f a fits in
     omega (arith, column, width)
 
@@ -44,7 +44,7 @@ premise_can source target list d tables fits named a m = record {
   where
     can : (c : Cell) → c ∈ a.cells → IsVariable c → CanStand false c
     can (Var n) within plain =
-        let below = numbered_below 0 _ (premise_variables d) fits.rule.numbered n (in_flat_map variable_in (in_flat_map (λ (b : Atom). b.cells) m within) (here refl)) in
+        let below = numbered_below 0 _ (premise_variables d) fits.rule.numbered n (in_flat_map cell_variable (in_flat_map (λ (b : Atom). b.cells) m within) (here refl)) in
         let few = variables_below d fits.rule in
         omega (arith, below, few)
     can (Ex v) within plain = absurd plain
@@ -93,7 +93,7 @@ derived_can source target list d offer rule offered w c m =
     }
 
 -- a rule that can be printed can be written
-pub can_be_written : (source target : Forest) (list : List Conversion) (d : Rule) → AreTables (tables_of source) → AreTables (tables_of target) → IsOffer list → IsPrintable source target list d → CanBeRule source target list d
+pub can_be_written : (source target : Forest) (list : List Conversion) (d : Rule) → AreTables (tables_of source) → AreTables (tables_of target) → IsOffer list → IsPrintableRule source target list d → CanBeRule source target list d
 can_be_written source target list d from to offer p = record {
   some_premise = p.fits.rule.some_premise;
   premise = premise_can source target list d from p.fits p.named;

@@ -5,8 +5,9 @@ use Rattle.dx_model.specs.declared.rules.Cell.{Cell}
 use Rattle.dx_model.specs.declared.rules.Cell.TheVariants.{Var, Ex, Lit}
 use Rattle.dx_model.specs.declared.rules.Atom.{Atom}
 use Rattle.dx_model.specs.Rules.{cells_of, existential_in}
-use Rattle.dx_model.specs.Fitting.{IsVariable, variable_in}
-use Rattle.dx_schema.specs.Tables.{Text, number_of}
+use Rattle.dx_model.specs.Fitting.{IsVariable, cell_variable}
+use Rattle.dx_schema.specs.Tables.{number_of_name}
+use Rattle.dx_ports.specs.Texts.{Text}
 use Rattle.dx_schema.specs.Faults.{is_among}
 use Rattle.dx_schema_text.specs.declared.texts.CellText.{CellText}
 use Rattle.dx_schema_text.specs.declared.texts.CellText.TheVariants.{Name, Literal}
@@ -33,7 +34,7 @@ paired_cells name (a ∷ atoms) (t ∷ texts) (one_pair s h) = paired_append Say
 -- ---- names
 
 -- the names of a premise are those of its variables
-pub premise_names : (cells : List Cell) (texts : List CellText) → Paired SaysCell cells texts → Each cells IsVariable → new_names [] texts ≡ map variable_text (flat_map variable_in cells)
+pub premise_names : (cells : List Cell) (texts : List CellText) → Paired SaysCell cells texts → Each cells IsVariable → new_names [] texts ≡ map variable_text (flat_map cell_variable cells)
 premise_names [] [] no_pair each = refl
 premise_names [] (t ∷ texts) h each = elim h [ ]
 premise_names (Var n ∷ cells) [] h each = elim h [ ]
@@ -71,9 +72,9 @@ conclusion_names known (Lit u ∷ cells) (Name x place ∷ texts) (one_pair s h)
 -- the names of the variables and existential variables in cells have their numbers
 pub record HaveNumbers (known fresh : List Text) (cells : List Cell) : Type 0 where
   pub variable_known : (n : ℕ) → Var n ∈ cells → is_among (variable_text n) known ≡ true
-  pub variable_number : (n : ℕ) → Var n ∈ cells → number_of (variable_text n) known ≡ n
+  pub variable_number : (n : ℕ) → Var n ∈ cells → number_of_name (variable_text n) known ≡ n
   pub existential_new : (v : ℕ) → Ex v ∈ cells → is_among (existential_text v) known ≡ false
-  pub existential_number : (v : ℕ) → Ex v ∈ cells → number_of (existential_text v) fresh ≡ v
+  pub existential_number : (v : ℕ) → Ex v ∈ cells → number_of_name (existential_text v) fresh ≡ v
 
 pub numbers_within : (known fresh : List Text) (some all : List Cell) → ((c : Cell) → c ∈ some → c ∈ all) → HaveNumbers known fresh all → HaveNumbers known fresh some
 numbers_within known fresh some all within h = record {
@@ -86,10 +87,10 @@ numbers_within known fresh some all within h = record {
 cell_back : (known fresh : List Text) (c : Cell) (t : CellText) → SaysCell c t → HaveNumbers known fresh (c ∷ []) → cell_of known fresh t ≡ c
 cell_back known fresh (Var n) (Name x place) s h =
     let known_here : is_among x known ≡ true = ap (λ (y : Text). is_among y known) s ∙ h.variable_known n (here refl) in
-    ap (λ (b : Bool). cond b (Var (number_of x known)) (Ex (number_of x fresh))) known_here ∙ ap Var (ap (λ (y : Text). number_of y known) s ∙ h.variable_number n (here refl))
+    ap (λ (b : Bool). cond b (Var (number_of_name x known)) (Ex (number_of_name x fresh))) known_here ∙ ap Var (ap (λ (y : Text). number_of_name y known) s ∙ h.variable_number n (here refl))
 cell_back known fresh (Ex v) (Name x place) s h =
     let new_here : is_among x known ≡ false = ap (λ (y : Text). is_among y known) s ∙ h.existential_new v (here refl) in
-    ap (λ (b : Bool). cond b (Var (number_of x known)) (Ex (number_of x fresh))) new_here ∙ ap Ex (ap (λ (y : Text). number_of y fresh) s ∙ h.existential_number v (here refl))
+    ap (λ (b : Bool). cond b (Var (number_of_name x known)) (Ex (number_of_name x fresh))) new_here ∙ ap Ex (ap (λ (y : Text). number_of_name y fresh) s ∙ h.existential_number v (here refl))
 cell_back known fresh (Lit u) (Literal t) s h = ap Lit s
 cell_back known fresh (Var n) (Literal t) s h = absurd s
 cell_back known fresh (Ex v) (Literal t) s h = absurd s

@@ -11,7 +11,7 @@ use Rattle.dx_model.specs.declared.rules.Atom.{Atom}
 use Rattle.dx_model.specs.declared.tables.Link.{Link}
 use Rattle.dx_model.specs.Solutions.{cells_in}
 use Rattle.dx_model.specs.Tables.{Table, table_of}
-use Rattle.dx_logical.specs.Filled.{given, fresh_below, filled}
+use Rattle.dx_logical.specs.Filled.{given_item, fresh_below, row_with_fresh}
 use Rattle.dx_closing.specs.declared.growing.Growing.{Growing}
 use Rattle.dx_closing.specs.Closing.{serves, supplied, through_link, through_links, through_atom, gone, begun}
 use Rattle.dx_rule_laws.specs.ReadBack.{IsStringText, HasStringTexts}
@@ -42,23 +42,23 @@ right_at (c ∷ row) (suc k) h = right_at row k (λ d m. h d (there m))
 right_in : (columns : List ℕ) (row : List Cell) → Each row IsRightCell → Each (cells_in columns row) IsRightCell
 right_in columns row h c m = let k = from_map (λ k. slice_index_or row k (Lit [])) columns m in subst IsRightCell k.2 (right_at row k.0 h)
 
-right_given : (ks : List ℕ) (xs : List Cell) (c : ℕ) (fresh : ℕ) → Each xs IsRightCell → IsRightCell (unwrap_or (given ks xs c) (Ex fresh))
+right_given : (ks : List ℕ) (xs : List Cell) (c : ℕ) (fresh : ℕ) → Each xs IsRightCell → IsRightCell (unwrap_or (given_item ks xs c) (Ex fresh))
 right_given [] xs c fresh h = tt
 right_given (k ∷ ks) [] c fresh h = tt
 right_given (k ∷ ks) (x ∷ xs) c fresh h = go (eqb k c) (right_given ks xs c fresh (λ d m. h d (there m)))
   where
-    go : (b : Bool) → IsRightCell (unwrap_or (given ks xs c) (Ex fresh)) → IsRightCell (unwrap_or (cond b (Some x) (given ks xs c)) (Ex fresh))
+    go : (b : Bool) → IsRightCell (unwrap_or (given_item ks xs c) (Ex fresh)) → IsRightCell (unwrap_or (cond b (Some x) (given_item ks xs c)) (Ex fresh))
     go true later = h x (here refl)
     go false later = later
 
-right_filled : (n : ℕ) (ks : List ℕ) (xs : List Cell) (w : ℕ) → Each xs IsRightCell → Each (filled Ex n ks xs w) IsRightCell
+right_filled : (n : ℕ) (ks : List ℕ) (xs : List Cell) (w : ℕ) → Each xs IsRightCell → Each (row_with_fresh Ex n ks xs w) IsRightCell
 right_filled n ks xs zero h c m = elim m [ ]
-right_filled n ks xs (suc w) h c m = elim (from_append (filled Ex n ks xs w) m) [
+right_filled n ks xs (suc w) h c m = elim (from_append (row_with_fresh Ex n ks xs w) m) [
   | inl k ↦ right_filled n ks xs w h c k
   | inr k ↦ only k
 ]
   where
-    only : c ∈ (unwrap_or (given ks xs w) (Ex (n + fresh_below ks xs w)) ∷ []) → IsRightCell c
+    only : c ∈ (unwrap_or (given_item ks xs w) (Ex (n + fresh_below ks xs w)) ∷ []) → IsRightCell c
     only (here e) = subst IsRightCell e (right_given ks xs w (n + fresh_below ks xs w) h)
     only (there k) = elim k [ ]
 
@@ -70,7 +70,7 @@ AreRightAtoms atoms = Each atoms (λ a. Each a.cells IsRightCell)
 right_link : (schema : List Table) (row : List Cell) (C : Growing) (l : Link) → Each row IsRightCell → AreRightAtoms C.atoms → AreRightAtoms (through_link schema row C l).atoms
 right_link schema row C l r h = go (list_any (serves l (cells_in l.from row)) C.atoms)
   where
-    only : (a : Atom) → a ∈ (record { table = l.table; cells = filled Ex C.next l.to (cells_in l.from row) (table_of schema l.table).width } ∷ []) → Each a.cells IsRightCell
+    only : (a : Atom) → a ∈ (record { table = l.table; cells = row_with_fresh Ex C.next l.to (cells_in l.from row) (table_of schema l.table).width } ∷ []) → Each a.cells IsRightCell
     only a (here e) = subst (λ (b : Atom). Each b.cells IsRightCell) e (right_filled C.next l.to (cells_in l.from row) (table_of schema l.table).width (right_in l.from row r))
     only a (there k) = elim k [ ]
 

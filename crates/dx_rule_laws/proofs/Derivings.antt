@@ -6,7 +6,8 @@ use Rattle.dx_ports.specs.Members.{here, there, Each}
 use Rattle.dx_ports.specs.Firsts.{first_of}
 use Rattle.dx_model.specs.declared.rules.Derived.{Derived}
 use Rattle.dx_model.specs.Tables.{AreWithin}
-use Rattle.dx_schema.specs.Tables.{Text, number_of}
+use Rattle.dx_schema.specs.Tables.{number_of_name}
+use Rattle.dx_ports.specs.Texts.{Text}
 use Rattle.dx_schema.specs.Faults.{is_among}
 use Rattle.dx_tokens.specs.declared.faults.TextFault.{TextFault}
 use Rattle.dx_tokens.specs.declared.faults.TextFault.TheVariants.{At}
@@ -20,7 +21,7 @@ use Rattle.dx_funcs.specs.Offers.{IsOffer, IsListed}
 use Rattle.dx_funcs.proofs.Named.{conversion_found, conversion_named}
 use Rattle.dx_line_text.specs.Naming.{code_of}
 use Rattle.dx_rule_text.specs.Printed.{variable_text}
-use Rattle.dx_tgd_text.specs.Reading.{arg_fault, arg_of, args_fault, call_fault, derived_fault, derived_faults, derived_names, derived_of}
+use Rattle.dx_tgd_text.specs.Reading.{arg_fault, arg_of, args_fault, derived_call_fault, derived_fault, derived_faults, derived_names, derived_of_text}
 use Rattle.dx_rule_laws.proofs.Says.{Paired, no_pair, one_pair, SaysVariable, Counted, counted, SaysDerived}
 use Rattle.dx_rule_laws.proofs.Runs.{run, run_one, DifferBelow, among_run, absent_run, number_run}
 
@@ -41,8 +42,8 @@ arguments_back bound m call (n ∷ args) (Name x place ∷ texts) differ fits wi
     let others = arguments_back bound m call args texts differ fits (λ k w. within k (there w)) h in
     let lt = within n (here refl) in
     let there_is : is_among x variables ≡ true = ap (λ (y : Text). is_among y variables) s ∙ among_run variable_text 0 m n (omega arith) (omega arith) in
-    let number : 0 + number_of (variable_text n) variables ≡ n = number_run variable_text bound 0 m n differ (omega arith) (omega arith) (omega arith) in
-    let at : number_of x variables ≡ n = ap (λ (y : Text). number_of y variables) s ∙ omega (arith, number) in
+    let number : 0 + number_of_name (variable_text n) variables ≡ n = number_run variable_text bound 0 m n differ (omega arith) (omega arith) (omega arith) in
+    let at : number_of_name x variables ≡ n = ap (λ (y : Text). number_of_name y variables) s ∙ omega (arith, number) in
     record {
       no_fault = ap (λ (b : Bool). first_of (cond b None (Some (At place Unsafe)) ∷ map (arg_fault variables call) texts)) there_is ∙ others.no_fault;
       same = ap (λ (k : ℕ). k ∷ map (arg_of variables) texts) at ∙ ap (λ (ks : List ℕ). n ∷ ks) others.same;
@@ -70,7 +71,7 @@ is_found list code count offer listed = record {
 
 pub record IsDerivedBack (list : List Conversion) (variables known : List Text) (d : Derived) (t : DerivedText) : Type 0 where
   pub no_fault : derived_fault list variables known t ≡ None
-  pub same : derived_of list variables t ≡ d
+  pub same : derived_of_text list variables t ≡ d
 
 -- one derived variable, after n known names
 derived_back : (list : List Conversion) (bound m : ℕ) (d : Counted) (t : DerivedText) → IsOffer list → DifferBelow bound variable_text → m ≤ d.number → d.number < bound → IsListed list d.derived.code (length d.derived.args) → AreWithin d.derived.args m
@@ -85,8 +86,8 @@ derived_back list bound m d t offer differ low high listed within s =
     let wide : eqb c.conversion.arity (length t.args) ≡ true = eq-eqb c.conversion.arity (length t.args) (c.takes ∙ sym args.many) in
     record {
       no_fault =
-          ap (λ (b : Bool). cond b (Some (At t.place Unsafe)) (call_fault variables (first_named list t.call) t.call_place t.args)) new
-          ∙ ap (λ (o : Option Conversion). call_fault variables o t.call_place t.args) found
+          ap (λ (b : Bool). cond b (Some (At t.place Unsafe)) (derived_call_fault variables (first_named list t.call) t.call_place t.args)) new
+          ∙ ap (λ (o : Option Conversion). derived_call_fault variables o t.call_place t.args) found
           ∙ ap (λ (b : Bool). cond b (args_fault variables t.call_place t.args) (Some (At t.call_place Width))) wide
           ∙ args.no_fault;
       same = ap (λ (k : ℕ). record { code = k; args = map (arg_of variables) t.args }) (ap code_of found ∙ c.coded) ∙ ap (λ (ks : List ℕ). record { code = d.derived.code; args = ks }) args.same;
@@ -97,7 +98,7 @@ derived_back list bound m d t offer differ low high listed within s =
 
 pub record AreDerivedBack (list : List Conversion) (m n : ℕ) (ds : List Derived) (texts : List DerivedText) : Type 0 where
   pub no_fault : derived_faults list (run variable_text 0 m) (run variable_text 0 n) texts ≡ None
-  pub same : map (derived_of list (run variable_text 0 m)) texts ≡ ds
+  pub same : map (derived_of_text list (run variable_text 0 m)) texts ≡ ds
   pub names : run variable_text 0 n ++ derived_names texts ≡ run variable_text 0 (n + length ds)
 
 pub derivings_back : (list : List Conversion) (bound m n : ℕ) (ds : List Derived) (texts : List DerivedText) → IsOffer list → DifferBelow bound variable_text → m ≤ n → n + length ds ≤ bound
@@ -117,7 +118,7 @@ derivings_back list bound m n (d ∷ ds) (t ∷ texts) offer differ low high lis
     let rest : derived_faults list variables (known ++ t.name ∷ []) texts ≡ None = ap (λ (names : List Text). derived_faults list variables names texts) more ∙ others.no_fault in
     record {
       no_fault = ap (λ (o : Option TextFault). first_of (o ∷ derived_faults list variables (known ++ t.name ∷ []) texts ∷ [])) first.no_fault ∙ ap (λ (o : Option TextFault). first_of (o ∷ [])) rest;
-      same = ap (λ (e : Derived). e ∷ map (derived_of list variables) texts) first.same ∙ ap (λ (es : List Derived). d ∷ es) others.same;
+      same = ap (λ (e : Derived). e ∷ map (derived_of_text list variables) texts) first.same ∙ ap (λ (es : List Derived). d ∷ es) others.same;
       names =
           sym (append_assoc known (t.name ∷ []) (derived_names texts)) ∙ ap (λ (names : List Text). names ++ derived_names texts) more ∙ others.names
           ∙ ap (run variable_text 0) sum;

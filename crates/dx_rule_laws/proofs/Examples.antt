@@ -5,7 +5,7 @@ use Rattle.dx_model.specs.declared.rules.Cell.{Cell}
 use Rattle.dx_model.specs.declared.rules.Cell.TheVariants.{Var, Ex, Lit}
 use Rattle.dx_model.specs.declared.rules.Derived.{Derived}
 use Rattle.dx_model.specs.declared.rules.Rule.{Rule}
-use Rattle.dx_schema.specs.Forest.{Forest, none, set, bare}
+use Rattle.dx_schema.specs.Forest.{Forest, none, set, bare_set}
 use Rattle.dx_tokens.specs.declared.tokenizer.TokenKind.TheVariants.{Str}
 use Rattle.dx_tokens.specs.declared.faults.TextKind.TheVariants.{Character}
 use Rattle.dx_tokens.specs.Tokens.{wide_at, item_at, string_from, piece_at}
@@ -14,19 +14,20 @@ use Rattle.dx_schema_text.specs.declared.texts.CellText.{CellText}
 use Rattle.dx_schema_text.specs.declared.texts.CellText.TheVariants.{Name}
 use Rattle.dx_schema_text.specs.declared.texts.RuleText.{RuleText}
 use Rattle.dx_funcs.specs.declared.conversion.Conversion.{Conversion}
-use Rattle.dx_rule_text.specs.Printed.{Text, rule_text}
-use Rattle.dx_tgd_text.specs.Reading.{rule_of}
+use Rattle.dx_rule_text.specs.Printed.{rule_text}
+use Rattle.dx_ports.specs.Texts.{Text}
+use Rattle.dx_tgd_text.specs.Reading.{rule_of_text}
 
 -- employees with a name and a place, persons with a name and a telephone
 abbrev employees : Forest
-employees = set (bare (codes "emp") (codes "name" ∷ codes "place" ∷ [])) none none
+employees = set (bare_set (codes "emp") (codes "name" ∷ codes "place" ∷ [])) none none
 
 abbrev persons : Forest
-persons = set (bare (codes "person") (codes "name" ∷ codes "phone" ∷ [])) none none
+persons = set (bare_set (codes "person") (codes "name" ∷ codes "phone" ∷ [])) none none
 
 -- employees twice, which is no schema
 abbrev twice : Forest
-twice = set (bare (codes "emp") (codes "name" ∷ codes "place" ∷ [])) none employees
+twice = set (bare_set (codes "emp") (codes "name" ∷ codes "place" ∷ [])) none employees
 
 -- two conversions of one name, which is no offer
 abbrev doubled : List Conversion
@@ -57,7 +58,7 @@ unfolding digits
 other_order = refl
 
 read_in_order :
-    rule_of employees persons [] (said (codes "x1") (codes "x0") (named (codes "x0") 27 ∷ named (codes "y0") 31 ∷ []))
+    rule_of_text employees persons [] (said (codes "x1") (codes "x0") (named (codes "x0") 27 ∷ named (codes "y0") 31 ∷ []))
     ≡ rule 0 (Var 0 ∷ Var 1 ∷ []) [] (Var 1 ∷ Ex 0 ∷ [])
 read_in_order = refl
 
@@ -67,7 +68,7 @@ unfolding digits
 second_table = refl
 
 read_as_first :
-    rule_of twice persons [] (said (codes "x0") (codes "x1") (named (codes "x0") 27 ∷ named (codes "y0") 31 ∷ []))
+    rule_of_text twice persons [] (said (codes "x0") (codes "x1") (named (codes "x0") 27 ∷ named (codes "y0") 31 ∷ []))
     ≡ rule 0 (Var 0 ∷ Var 1 ∷ []) [] (Var 0 ∷ Ex 0 ∷ [])
 read_as_first = refl
 
@@ -77,7 +78,7 @@ unfolding digits
 second_conversion = refl
 
 read_as_first_conversion :
-    rule_of employees persons doubled (record {
+    rule_of_text employees persons doubled (record {
       premise = (said (codes "x0") (codes "x1") []).premise;
       derived = record { name = codes "x2"; place = 23; call = codes "trim"; call_place = 28; args = named (codes "x0") 33 ∷ [] } ∷ [];
       conclusion = record { set = codes "person"; place = 40; cells = named (codes "x2") 47 ∷ named (codes "y0") 51 ∷ [] } ∷ [];

@@ -34,7 +34,7 @@ use Rattle.dx_lines.specs.declared.term.Term.{Term}
 use Rattle.dx_lines.specs.declared.term.Term.TheVariants.{Var, Call}
 use Rattle.dx_lines.specs.declared.candidate.Pick.{Pick}
 use Rattle.dx_lines.specs.Ways.{ways}
-use Rattle.dx_lines.specs.Rules.{atom_by, cell_by, cell_for, conversions, derived_by, left_over, literal_of, or_else, picked, reaches, rule_by, text_of}
+use Rattle.dx_lines.specs.Rules.{atom_by, cell_by, cell_for, conversions, derived_by, left_over, literal_of, or_else, picked_term, reaches, rule_by, literal_text}
 use Rattle.dx_lines.proofs.Sources.{from_kept}
 use Rattle.dx_lines.proofs.Conversions.{from_conversions}
 use Rattle.dx_ways.specs.Laws.{TermBy}
@@ -79,7 +79,7 @@ IsWritableOrigin list (origins.Column a) = Unit {0}
 IsWritableOrigin list (origins.Literal t) = IsStringText t
 IsWritableOrigin list (origins.Call code args) = IsWord (conversion_name list code)
 
-call_found : (f : Forest) (found : Option Conversion) (place : ℕ) (args : List PlaceText) → naming.call_fault f found place args ≡ None → (c : Conversion) × (found ≡ Some c)
+call_found : (f : Forest) (found : Option Conversion) (place : ℕ) (args : List PlaceText) → naming.source_call_fault f found place args ≡ None → (c : Conversion) × (found ≡ Some c)
 call_found f None place args e = absurd cc
 call_found f (Some c) place args e = (c, refl)
 
@@ -93,22 +93,22 @@ origin_writable f list (sources.Call name place args) offer right e =
 lines_writable : (source target : Forest) (list : List Conversion) (lines : List LineText) → IsOffer list → Each lines (λ l. IsRightSource l.source) → naming.lines_fault source target list lines ≡ None
     → Each (naming.lines_of source target list lines) (λ l. IsWritableOrigin list l.source)
 lines_writable source target list lines offer right e l m =
-    let t = from_map (naming.line_of source target list) lines m in
+    let t = from_map (naming.line_of_text source target list) lines m in
     let fine = each_none (naming.line_fault source target list) lines e t.0 t.1 in
     subst (λ (k : Line). IsWritableOrigin list k.source) t.2 (origin_writable source list t.0.source offer (right t.0 t.1) (two_none (naming.source_fault source list t.0.source) (naming.place_fault target t.0.target) fine).0)
 
 -- ---- literals
 
 -- the text of a literal line is that of one of the lines
-literal_from : (lines : List Line) (Q : List Occurrence) (y : ℕ) (t : List ℕ) → literal_of lines Q y ≡ Some t → (l : Line) × (l ∈ lines) × (text_of l.source ≡ Some t)
+literal_from : (lines : List Line) (Q : List Occurrence) (y : ℕ) (t : List ℕ) → literal_of lines Q y ≡ Some t → (l : Line) × (l ∈ lines) × (literal_text l.source ≡ Some t)
 literal_from [] Q y t e = absurd cc
-literal_from (l ∷ lines) Q y t e = go (reaches Q l y) (text_of l.source) refl e (literal_from lines Q y t)
+literal_from (l ∷ lines) Q y t e = go (reaches Q l y) (literal_text l.source) refl e (literal_from lines Q y t)
   where
-    later : ((k : Line) × (k ∈ lines) × (text_of k.source ≡ Some t)) → (k : Line) × (k ∈ (l ∷ lines)) × (text_of k.source ≡ Some t)
+    later : ((k : Line) × (k ∈ lines) × (literal_text k.source ≡ Some t)) → (k : Line) × (k ∈ (l ∷ lines)) × (literal_text k.source ≡ Some t)
     later (k, m, is) = (k, there m, is)
 
-    go : (b : Bool) (o : Option (List ℕ)) → text_of l.source ≡ o → cond b (or_else o (literal_of lines Q y)) (literal_of lines Q y) ≡ Some t
-        → (literal_of lines Q y ≡ Some t → (k : Line) × (k ∈ lines) × (text_of k.source ≡ Some t)) → (k : Line) × (k ∈ (l ∷ lines)) × (text_of k.source ≡ Some t)
+    go : (b : Bool) (o : Option (List ℕ)) → literal_text l.source ≡ o → cond b (or_else o (literal_of lines Q y)) (literal_of lines Q y) ≡ Some t
+        → (literal_of lines Q y ≡ Some t → (k : Line) × (k ∈ lines) × (literal_text k.source ≡ Some t)) → (k : Line) × (k ∈ (l ∷ lines)) × (literal_text k.source ≡ Some t)
     go true (Some u) is f next = (l, here refl, is ∙ f)
     go true None is f next = later (next f)
     go false o is f next = later (next f)
@@ -120,7 +120,7 @@ cell_literal n calls left (Some (Call c xs)) l y t e = absurd cc
 cell_literal n calls left None (Some u) y t e = ap Some (cc e)
 cell_literal n calls left None None y t e = absurd cc
 
-text_writable : (list : List Conversion) (o : Origin) (t : List ℕ) → IsWritableOrigin list o → text_of o ≡ Some t → IsStringText t
+text_writable : (list : List Conversion) (o : Origin) (t : List ℕ) → IsWritableOrigin list o → literal_text o ≡ Some t → IsStringText t
 text_writable list (origins.Column a) t w e = absurd cc
 text_writable list (origins.Literal u) t w e = let same : u ≡ t = cc e in subst IsStringText same w
 text_writable list (origins.Call code args) t w e = absurd cc
@@ -164,7 +164,7 @@ rule_writable list lines S T picks writable are = record { conversions = λ e m.
         let o = from_map (atom_by (cell_for lines S T.occurrences picks)) T.occurrences m in
         let among : Lit t ∈ map (cell_for lines S T.occurrences picks) o.0.variables = subst (λ (b : Atom). Lit t ∈ b.cells) (sym o.2) k in
         let y = from_map (cell_for lines S T.occurrences picks) o.0.variables among in
-        let is = cell_literal S.variables (conversions picks T.occurrences) (left_over lines picks T.occurrences) (picked picks y.0) (literal_of lines T.occurrences y.0) y.0 t y.2 in
+        let is = cell_literal S.variables (conversions picks T.occurrences) (left_over lines picks T.occurrences) (picked_term picks y.0) (literal_of lines T.occurrences y.0) y.0 t y.2 in
         let l = literal_from lines T.occurrences y.0 t is in
         text_writable list l.0.source t (writable l.0 l.1) l.2
 

@@ -12,7 +12,7 @@ use Rattle.dx_tokens.specs.declared.faults.TextFault.{TextFault}
 use Rattle.dx_tokens.specs.declared.scanner.Lexeme.{Lexeme}
 use Rattle.dx_tokens.specs.declared.scanner.Scanned.{Scanned}
 use Rattle.dx_tokens.specs.Tokens.{is_blank, tokens_from}
-use Rattle.dx_tokens.specs.Scan.{text_of, with_lexeme, scan_from, scan_of}
+use Rattle.dx_tokens.specs.Scan.{lexeme_text, with_lexeme, scan_from, scan_of}
 use Rattle.dx_tokens.specs.Lexing.{IsWord, IsTokenText, IsComment, EndsLine, Lexes, nothing, blank, comment, token, IsLexed}
 use Rattle.dx_tokens.proofs.Scans.{scan_after}
 use Rattle.dx_tokens.proofs.Spelled.{StopsBehind}
@@ -57,7 +57,7 @@ stops_too Mark rest more stops = tt
 abbrev pub IsRight : Lexeme → Type 0
 IsRight x = (x.kind ≡ Word → IsWord x.text) × (x.kind ≡ Str → IsStringText x.text)
 
-right_token : (place : ℕ) (kind : TokenKind) (w : List ℕ) → IsTokenText kind w → IsRight (record { place = place; kind = kind; text = text_of kind w })
+right_token : (place : ℕ) (kind : TokenKind) (w : List ℕ) → IsTokenText kind w → IsRight (record { place = place; kind = kind; text = lexeme_text kind w })
 right_token place Word w form = ((λ e. form), (λ e. absurd cc))
 right_token place Number w form = ((λ e. absurd cc), (λ e. absurd cc))
 right_token place Str w form = ((λ e. absurd cc), (λ e. string_text w form))
@@ -94,7 +94,7 @@ scanned_alike place left tokens (comment {rest = rest} c is ends e on) =
     passed place c rest left e (comment_scanned c rest place is ends) (λ more. comment_scanned c (rest ++ 10 ∷ more) place is (ends_too rest more ends)) (scanned_alike (place + length c) rest tokens on)
 scanned_alike place left _ (token {rest = rest} {tokens = ts} kind w form long e on) =
     let others = scanned_alike (place + length w) rest ts on in
-    let x : Lexeme = record { place = place; kind = kind; text = text_of kind w } in
+    let x : Lexeme = record { place = place; kind = kind; text = lexeme_text kind w } in
     let stops = longest_stops kind w rest left form e long in
     record {
       lexemes = x ∷ others.lexemes;

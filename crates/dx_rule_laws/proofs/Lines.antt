@@ -8,7 +8,7 @@ use Rattle.dx_ports.proofs.Members.{in_at, from_map, from_append}
 use Rattle.dx_model.specs.declared.rules.Rule.{Rule}
 use Rattle.dx_model.specs.Fitting.{RuleFits}
 use Rattle.dx_schema.specs.Forest.{Forest, none, set}
-use Rattle.dx_schema.specs.Tables.{Placed, placed, sets_of, count, table_in, AreTables, model_tables, tables_of}
+use Rattle.dx_schema.specs.Tables.{NumberedSet, numbered_sets, sets_of, count, table_in, AreTables, model_tables, tables_of}
 use Rattle.dx_schema.proofs.Facts.{atom_table}
 use Rattle.dx_tokens.specs.declared.scanner.Lexeme.{Lexeme}
 use Rattle.dx_tokens.specs.Tokens.{is_blank}
@@ -22,19 +22,19 @@ use Rattle.dx_schema_text.specs.declared.texts.OnlyText.{OnlyText}
 use Rattle.dx_schema_text.specs.declared.texts.MappingText.{MappingText}
 use Rattle.dx_schema_text.specs.declared.mapping.ItemText.{ItemText}
 use Rattle.dx_schema_text.specs.declared.mapping.ItemText.TheVariants as items
-use Rattle.dx_schema_text.specs.Reading.{lines_among, conditions_among, rules_among, rule_item, mapping_text}
+use Rattle.dx_schema_text.specs.Reading.{lines_among, conditions_among, rules_among, rule_item, mapping_of_items}
 use Rattle.dx_schema_text.specs.Grammar.{since_two}
 use Rattle.dx_schema_text.specs.Spelling.{SpellsRule, SpellsItem, a_rule, SpellsMapping, mapping_of}
 use Rattle.dx_schema_text.specs.Texts.{deepest}
-use Rattle.dx_schema_text.specs.Print.{AreNamed}
+use Rattle.dx_schema_text.specs.Print.{HaveWordNames}
 use Rattle.dx_schema_text.proofs.PrintScans.{Reads, ReadsAll, no_token, blanks_then, both_then, told_as, each_passes, reads_all}
 use Rattle.dx_schema_text.proofs.SpelledWords.{said_is_writable}
 use Rattle.dx_funcs.specs.declared.conversion.Conversion.{Conversion}
 use Rattle.dx_funcs.specs.Offers.{IsOffer}
 use Rattle.dx_rule_text.specs.Printed.{rule_text, rules_text, table_name}
-use Rattle.dx_tgd_text.specs.Reading.{rule_fault, rules_fault, rules_of}
+use Rattle.dx_tgd_text.specs.Reading.{rule_fault, rules_fault, rules_of_texts}
 use Rattle.dx_tgd_text.specs.Laws.{AreOffered}
-use Rattle.dx_rule_laws.specs.ReadBack.{HasNamedTables, with_rules}
+use Rattle.dx_rule_laws.specs.ReadBack.{HasNamedTables, with_more_rules}
 use Rattle.dx_rule_laws.specs.Laws.{PrintedLinesAreRead}
 use Rattle.dx_rule_laws.proofs.Says.{Paired, no_pair, one_pair, SaysRule}
 use Rattle.dx_rule_laws.proofs.Spelled.{Spelled, CanBeRule, rule_read}
@@ -75,35 +75,35 @@ items_more conditions _ others _ ys (one_more {a = a} {others = more} {u = u} {v
     subst (Many (SpellsItem conditions) (a ∷ (more ++ others))) (sym (append_assoc u v ys)) (one_more item (items_more conditions more others v ys rest behind))
 
 -- tokens of rules after those of a mapping
-pub mapping_more : (levels : ℕ) (m : MappingText) (xs : List Lexeme) → SpellsMapping levels m xs → (rules : List RuleText) (ys : List Lexeme) → Many SpellsRule rules ys → SpellsMapping levels (with_rules m rules) (xs ++ ys)
+pub mapping_more : (levels : ℕ) (m : MappingText) (xs : List Lexeme) → SpellsMapping levels m xs → (rules : List RuleText) (ys : List Lexeme) → Many SpellsRule rules ys → SpellsMapping levels (with_more_rules m rules) (xs ++ ys)
 mapping_more levels _ _ (mapping_of {version = version} {from = from} {to = to} {rest = rest} {u = u} {v = v} {w = w} k n e keyword number ending source target some) rules ys behind =
     let more = rest ++ map rule_item rules in
-    let all : mapping_text version from to more ≡ with_rules (mapping_text version from to rest) rules =
+    let all : mapping_of_items version from to more ≡ with_more_rules (mapping_of_items version from to rest) rules =
     ap (λ (ls : List LineText). record { version = version; source = from; target = to; lines = ls; conditions = conditions_among more; rules = rules_among more }) (lines_more rest rules)
     ∙ ap (λ (os : List OnlyText). record { version = version; source = from; target = to; lines = lines_among rest; conditions = os; rules = rules_among more }) (conditions_more rest rules)
     ∙ ap (λ (rs : List RuleText). record { version = version; source = from; target = to; lines = lines_among rest; conditions = conditions_among rest; rules = rs }) (rules_more rest rules) in
     let tokens : u ++ (v ++ (w ++ ys)) ≡ (u ++ (v ++ w)) ++ ys = sym (append_assoc u (v ++ w) ys ∙ ap (λ (zs : List Lexeme). u ++ zs) (append_assoc v w ys)) in
-    subst (λ (zs : List Lexeme). SpellsMapping levels (with_rules (mapping_text version from to rest) rules) (k ∷ n ∷ e ∷ zs)) tokens
+    subst (λ (zs : List Lexeme). SpellsMapping levels (with_more_rules (mapping_of_items version from to rest) rules) (k ∷ n ∷ e ∷ zs)) tokens
     (subst (λ (m : MappingText). SpellsMapping levels m (k ∷ n ∷ e ∷ (u ++ (v ++ (w ++ ys))))) all
     (mapping_of k n e keyword number ending source target (items_more (since_two version) rest (map rule_item rules) w ys some (rule_items (since_two version) rules ys behind))))
 
 -- ---- the names of sets
 
-sets_named : (parent : Option ℕ) (n : ℕ) (f : Forest) → AreNamed f → Each (placed parent n f) (λ s. lexing.IsWord s.label.name)
+sets_named : (parent : Option ℕ) (n : ℕ) (f : Forest) → HaveWordNames f → Each (numbered_sets parent n f) (λ s. lexing.IsWord s.label.name)
 sets_named parent n none named s m = elim m [ ]
-sets_named parent n (set l inner rest) named s (here e) = subst (λ (p : Placed). lexing.IsWord p.label.name) e named.0.name
+sets_named parent n (set l inner rest) named s (here e) = subst (λ (p : NumberedSet). lexing.IsWord p.label.name) e named.0.name
 sets_named parent n (set l inner rest) named s (there m) =
-    elim (from_append (placed (Some n) (suc n) inner) m) [
+    elim (from_append (numbered_sets (Some n) (suc n) inner) m) [
       | inl k ↦ sets_named (Some n) (suc n) inner named.1 s k
       | inr k ↦ sets_named parent (suc (n + count inner)) rest named.2 s k
     ]
 
-table_named : (f : Forest) (t : ℕ) → AreNamed f → t < length (tables_of f) → lexing.IsWord (table_name f t)
+table_named : (f : Forest) (t : ℕ) → HaveWordNames f → t < length (tables_of f) → lexing.IsWord (table_name f t)
 table_named f t named lt =
     let among = from_map (table_in (sets_of f)) (sets_of f) (in_at (tables_of f) t _ lt) in
     subst (λ table. lexing.IsWord table.name) among.2 (sets_named None 0 f named among.0 among.1)
 
-pub tables_named : (source target : Forest) (d : Rule) → AreNamed source → AreNamed target → RuleFits (model_tables source) (model_tables target) d → HasNamedTables source target d
+pub tables_named : (source target : Forest) (d : Rule) → HaveWordNames source → HaveWordNames target → RuleFits (model_tables source) (model_tables target) d → HasNamedTables source target d
 tables_named source target d from to fits = record {
   premise = λ a m. table_named source a.table from (atom_table source a (fits.premise a m));
   conclusion = λ a m. table_named target a.table to (atom_table target a (fits.conclusion a m));
@@ -129,7 +129,7 @@ module _ (source target : Forest) (list : List Conversion) where
   -- rules are read as they were
   record AreRulesBack (ds : List Rule) (texts : List RuleText) : Type 0 where
     no_fault : rules_fault source target list texts ≡ None
-    same : rules_of source target list texts ≡ ds
+    same : rules_of_texts source target list texts ≡ ds
 
   rules_back : (ds : List Rule) (texts : List RuleText) → AreTables (tables_of source) → AreTables (tables_of target) → IsOffer list → Each ds (RuleFits (model_tables source) (model_tables target)) → Each ds (AreOffered list)
       → Paired (SaysRule source target list) ds texts → AreRulesBack ds texts
@@ -141,14 +141,14 @@ module _ (source target : Forest) (list : List Conversion) where
       let others = rules_back ds texts from to offer (λ e m. fits e (there m)) (λ e m. offered e (there m)) h in
       record {
         no_fault = ap (λ (o : Option TextFault). first_of (o ∷ map (rule_fault source target list) texts)) first.no_fault ∙ others.no_fault;
-        same = ap (λ (e : Rule). e ∷ rules_of source target list texts) first.same ∙ ap (λ (es : List Rule). d ∷ es) others.same;
+        same = ap (λ (e : Rule). e ∷ rules_of_texts source target list texts) first.same ∙ ap (λ (es : List Rule). d ∷ es) others.same;
       }
 
 -- ---- the law
 
 -- the mapping's tokens, and after them those of rules
 abbrev SpellsWith : MappingText → List RuleText → List Lexeme → Type 0
-SpellsWith m rules xs = SpellsMapping deepest (with_rules m rules) xs
+SpellsWith m rules xs = SpellsMapping deepest (with_more_rules m rules) xs
 
 pub printed_lines_are_read : PrintedLinesAreRead
 printed_lines_are_read text m list ds says from to offer fits offered writable =

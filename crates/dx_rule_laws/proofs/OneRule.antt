@@ -14,8 +14,8 @@ use Rattle.dx_schema_text.specs.Print.{AreWritable, the_first, printed, sides_te
 use Rattle.dx_schema_text.proofs.Again.{NoItemNext, mapping_again}
 use Rattle.dx_schema_text.proofs.PrintReads.{mapping_of_sides}
 use Rattle.dx_rule_text.specs.Printed.{rule_text}
-use Rattle.dx_tgd_text.specs.Reading.{rule_of}
-use Rattle.dx_rule_laws.specs.ReadBack.{IsReadAs, with_rules}
+use Rattle.dx_tgd_text.specs.Reading.{rule_of_text}
+use Rattle.dx_rule_laws.specs.ReadBack.{IsReadAs, with_more_rules}
 use Rattle.dx_rule_laws.specs.Laws.{OneRuleText, OneRule, PrintedRulesDiffer}
 use Rattle.dx_rule_laws.proofs.CanBeWritten.{printed_rules_are_read}
 use Rattle.dx_rule_laws.proofs.Lines.{mapping_more}
@@ -34,9 +34,9 @@ abbrev bare_tokens : List Lexeme
 bare_tokens = (scan_of (sides_text 1 (printed [] none) (printed [] none))).lexemes
 
 -- the tokens of a rule after those of that mapping
-behind_bare : (r : RuleText) (xs : List Lexeme) → SpellsRule r xs → whole (mapping_reader deepest) (bare_tokens ++ (xs ++ [])) ≡ Ok (with_rules bare (r ∷ []))
+behind_bare : (r : RuleText) (xs : List Lexeme) → SpellsRule r xs → whole (mapping_reader deepest) (bare_tokens ++ (xs ++ [])) ≡ Ok (with_more_rules bare (r ∷ []))
 behind_bare r xs spells =
-    whole_again (mapping_reader deepest) (SpellsMapping deepest) NoItemNext (mapping_again deepest) refl (with_rules bare (r ∷ [])) (bare_tokens ++ (xs ++ []))
+    whole_again (mapping_reader deepest) (SpellsMapping deepest) NoItemNext (mapping_again deepest) refl (with_more_rules bare (r ∷ [])) (bare_tokens ++ (xs ++ []))
     (mapping_more deepest bare bare_tokens bare_text.spelled (r ∷ []) (xs ++ []) (one_more spells no_more))
 
 same_mapping : (m n : MappingText) → ◌≡◌ {A = Result MappingText ℕ} (Ok m) (Ok n) → m ≡ n
@@ -45,14 +45,14 @@ same_mapping m n e = cc e
 same_first : (r s : RuleText) → r ∷ [] ≡ s ∷ [] → r ≡ s
 same_first r s e = cc e
 
-same_rule : (r s : RuleText) → ◌≡◌ {A = Result MappingText ℕ} (Ok (with_rules bare (r ∷ []))) (Ok (with_rules bare (s ∷ []))) → r ≡ s
-same_rule r s e = same_first r s (ap (λ (m : MappingText). m.rules) (same_mapping (with_rules bare (r ∷ [])) (with_rules bare (s ∷ [])) e))
+same_rule : (r s : RuleText) → ◌≡◌ {A = Result MappingText ℕ} (Ok (with_more_rules bare (r ∷ []))) (Ok (with_more_rules bare (s ∷ []))) → r ≡ s
+same_rule r s e = same_first r s (ap (λ (m : MappingText). m.rules) (same_mapping (with_more_rules bare (r ∷ [])) (with_more_rules bare (s ∷ [])) e))
 
 pub one_rule_text : OneRuleText
 one_rule_text text r s p q = same_rule r s (sym (behind_bare r (scan_of text).lexemes p.spelled) ∙ behind_bare s (scan_of text).lexemes q.spelled)
 
 pub one_rule : OneRule
-one_rule source target list d e text p q = sym p.same ∙ ap (rule_of source target list) (one_rule_text text p.said q.said p.is_text q.is_text) ∙ q.same
+one_rule source target list d e text p q = sym p.same ∙ ap (rule_of_text source target list) (one_rule_text text p.said q.said p.is_text q.is_text) ∙ q.same
 
 pub printed_rules_differ : PrintedRulesDiffer
 printed_rules_differ source target list d e from to offer p q same =

@@ -8,18 +8,19 @@ use Rattle.dx_model.specs.declared.rules.Atom.{Atom}
 use Rattle.dx_model.specs.declared.rules.Derived.{Derived}
 use Rattle.dx_model.specs.declared.rules.Rule.{Rule}
 use Rattle.dx_model.specs.Rules.{cells_of, existential_in, existentials}
-use Rattle.dx_model.specs.Fitting.{IsVariable, variable_in, premise_variables, IsRule, RuleFits}
+use Rattle.dx_model.specs.Fitting.{IsVariable, cell_variable, premise_variables, IsRule, RuleFits}
 use Rattle.dx_model.proofs.Frozen.{few_numbered, few_in_cells}
 use Rattle.dx_model.proofs.Cells.{few_existentials}
 use Rattle.dx_schema.specs.Forest.{Forest}
-use Rattle.dx_schema.specs.Tables.{Text, AreTables, model_tables, tables_of}
+use Rattle.dx_schema.specs.Tables.{AreTables, model_tables, tables_of}
+use Rattle.dx_ports.specs.Texts.{Text}
 use Rattle.dx_schema.specs.Faults.{is_among}
 use Rattle.dx_schema_text.specs.declared.texts.RuleText.{RuleText}
 use Rattle.dx_funcs.specs.declared.conversion.Conversion.{Conversion}
 use Rattle.dx_funcs.specs.Offers.{IsOffer}
 use Rattle.dx_rule_text.specs.Printed.{variable_text, table_name}
 use Rattle.dx_tgd_text.specs.Numbering.{appeared, new_names, text_cells}
-use Rattle.dx_tgd_text.specs.Reading.{variables_of, known_of, fresh_of, derived_faults, derived_of, atoms_of, rule_fault, rule_of}
+use Rattle.dx_tgd_text.specs.Reading.{names_of_premise, known_of, fresh_of, derived_faults, derived_of_text, atoms_of_texts, rule_fault, rule_of_text}
 use Rattle.dx_tgd_text.specs.Laws.{AreOffered}
 use Rattle.dx_rule_laws.proofs.Says.{Paired, existential_text, SaysCell, SaysRule}
 use Rattle.dx_rule_laws.proofs.VariableTexts.{one_variable, one_existential, variable_no_existential}
@@ -32,7 +33,7 @@ use Rattle.dx_rule_laws.proofs.Derivings.{AreDerivedBack, derivings_back}
 
 pub variables_below : (d : Rule) → IsRule d → premise_variables d + length d.derived < 2 ^ 32
 variables_below d rule =
-    let few = few_numbered 0 (premise_variables d) (flat_map variable_in (cells_of d.premise)) rule.numbered in
+    let few = few_numbered 0 (premise_variables d) (flat_map cell_variable (cells_of d.premise)) rule.numbered in
     let short = few_in_cells (cells_of d.premise) in
     let bound = rule.few_variables in
     omega (arith, few, short, bound)
@@ -53,11 +54,11 @@ existentials_differ : DifferBelow (2 ^ 32) existential_text
 existentials_differ m n h k e = one_existential m n (omega arith) (omega arith) e
 
 -- the variables of the premise, which are numbered by first appearance
-variables_are : (source target : Forest) (list : List Conversion) (d : Rule) (t : RuleText) → IsRule d → SaysRule source target list d t → variables_of t ≡ run variable_text 0 (premise_variables d)
+variables_are : (source target : Forest) (list : List Conversion) (d : Rule) (t : RuleText) → IsRule d → SaysRule source target list d t → names_of_premise t ≡ run variable_text 0 (premise_variables d)
 variables_are source target list d t rule says =
     let few = variables_below d rule in
     ap (appeared []) (premise_names (cells_of d.premise) (text_cells t.premise) (paired_cells (table_name source) d.premise t.premise says.premise) plain)
-    ∙ appeared_run variable_text (2 ^ 32) 0 (flat_map variable_in (cells_of d.premise)) (premise_variables d) differ (omega arith) rule.numbered
+    ∙ appeared_run variable_text (2 ^ 32) 0 (flat_map cell_variable (cells_of d.premise)) (premise_variables d) differ (omega arith) rule.numbered
   where
     plain : Each (cells_of d.premise) IsVariable
     plain c m = let f = from_flat_map (λ (a : Atom). a.cells) d.premise m in rule.plain f.0 f.1 c f.2
@@ -79,7 +80,7 @@ premise_numbers d rule = record {
     plain c m = let f = from_flat_map (λ (a : Atom). a.cells) d.premise m in rule.plain f.0 f.1 c f.2
 
     below : (n : ℕ) → Var n ∈ cells_of d.premise → n < premise_variables d
-    below n m = numbered_below 0 (flat_map variable_in (cells_of d.premise)) (premise_variables d) rule.numbered n (in_flat_map variable_in m (here refl))
+    below n m = numbered_below 0 (flat_map cell_variable (cells_of d.premise)) (premise_variables d) rule.numbered n (in_flat_map cell_variable m (here refl))
 
 -- no existential variable has the name of a variable
 no_variable : (k v : ℕ) → is_among (existential_text v) (run variable_text 0 k) ≡ false
@@ -120,7 +121,7 @@ existentials_are source target list d t rule says known_is =
 
 pub record IsRuleBack (source target : Forest) (list : List Conversion) (d : Rule) (t : RuleText) : Type 0 where
   pub no_fault : rule_fault source target list t ≡ None
-  pub same : rule_of source target list t ≡ d
+  pub same : rule_of_text source target list t ≡ d
 
 pub rule_back : (source target : Forest) (list : List Conversion) (d : Rule) (t : RuleText) → AreTables (tables_of source) → AreTables (tables_of target) → IsOffer list → RuleFits (model_tables source) (model_tables target) d → AreOffered list d
     → SaysRule source target list d t → IsRuleBack source target list d t
@@ -129,7 +130,7 @@ rule_back source target list d t from to offer fits offered says =
     let m = premise_variables d in
     let few = variables_below d rule in
     let variables = run variable_text 0 m in
-    let variables_is : variables_of t ≡ variables = variables_are source target list d t rule says in
+    let variables_is : names_of_premise t ≡ variables = variables_are source target list d t rule says in
     let derived : AreDerivedBack list m m d.derived t.derived = derivings_back list (2 ^ 32) m m d.derived t.derived offer differ (omega arith) (omega arith) offered rule.derived says.derived in
     let known = run variable_text 0 (m + length d.derived) in
     let known_is : known_of t ≡ known = ap (λ (names : List Text). names ++ map (λ e. e.name) t.derived) variables_is ∙ derived.names in
@@ -140,10 +141,10 @@ rule_back source target list d t from to offer fits offered says =
     record {
       no_fault = rw (premise.no_fault, conclusion.no_fault) (ap (λ (names : List Text). first_of (derived_faults list names names t.derived ∷ None ∷ [])) variables_is ∙ rw derived.no_fault refl);
       same =
-          ap (λ (names : List Text). record { premise = atoms_of source names [] t.premise; derived = map (derived_of list names) t.derived; conclusion = atoms_of target (known_of t) (fresh_of t) t.conclusion }) variables_is
-          ∙ ap (λ (names : List Text). record { premise = atoms_of source variables [] t.premise; derived = map (derived_of list variables) t.derived; conclusion = atoms_of target names (fresh_of t) t.conclusion }) known_is
-          ∙ ap (λ (names : List Text). record { premise = atoms_of source variables [] t.premise; derived = map (derived_of list variables) t.derived; conclusion = atoms_of target known names t.conclusion }) fresh_is
-          ∙ ap (λ (atoms : List Atom). record { premise = atoms; derived = map (derived_of list variables) t.derived; conclusion = atoms_of target known fresh t.conclusion }) premise.same
-          ∙ ap (λ (ds : List Derived). record { premise = d.premise; derived = ds; conclusion = atoms_of target known fresh t.conclusion }) derived.same
+          ap (λ (names : List Text). record { premise = atoms_of_texts source names [] t.premise; derived = map (derived_of_text list names) t.derived; conclusion = atoms_of_texts target (known_of t) (fresh_of t) t.conclusion }) variables_is
+          ∙ ap (λ (names : List Text). record { premise = atoms_of_texts source variables [] t.premise; derived = map (derived_of_text list variables) t.derived; conclusion = atoms_of_texts target names (fresh_of t) t.conclusion }) known_is
+          ∙ ap (λ (names : List Text). record { premise = atoms_of_texts source variables [] t.premise; derived = map (derived_of_text list variables) t.derived; conclusion = atoms_of_texts target known names t.conclusion }) fresh_is
+          ∙ ap (λ (atoms : List Atom). record { premise = atoms; derived = map (derived_of_text list variables) t.derived; conclusion = atoms_of_texts target known fresh t.conclusion }) premise.same
+          ∙ ap (λ (ds : List Derived). record { premise = d.premise; derived = ds; conclusion = atoms_of_texts target known fresh t.conclusion }) derived.same
           ∙ ap (λ (atoms : List Atom). record { premise = d.premise; derived = d.derived; conclusion = atoms }) conclusion.same;
     }

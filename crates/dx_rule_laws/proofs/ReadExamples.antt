@@ -2,7 +2,7 @@
 use Rattle.std.proofs.Common.{◌≡◌, ℕ, List, [], ◌∷◌, Option, Some, None, codes, refl, sym, ap, subst}
 use Rattle.dx_model.specs.declared.rules.Cell.TheVariants.{Var, Ex}
 use Rattle.dx_model.specs.declared.rules.Rule.{Rule}
-use Rattle.dx_schema.specs.Forest.{Forest, none, set, bare}
+use Rattle.dx_schema.specs.Forest.{Forest, none, set, bare_set}
 use Rattle.dx_tokens.specs.declared.tokenizer.TokenKind.TheVariants.{Word, Mark}
 use Rattle.dx_tokens.specs.declared.faults.TextFault.TheVariants.{At}
 use Rattle.dx_tokens.specs.declared.faults.TextKind.TheVariants.{Character, UnknownName}
@@ -15,17 +15,17 @@ use Rattle.dx_schema_text.specs.declared.texts.RuleText.{RuleText}
 use Rattle.dx_schema_text.specs.declared.texts.CellText.TheVariants.{Name}
 use Rattle.dx_schema_text.specs.Spelling.{SpellsRule, comma_then, parted, a_name, atom_of, no_where}
 use Rattle.dx_schema_text.specs.Spelling as spelling
-use Rattle.dx_rule_text.specs.Printed.{Text}
+use Rattle.dx_ports.specs.Texts.{Text}
 use Rattle.dx_tgd_text.specs.Reading.{rule_fault}
 use Rattle.dx_rule_laws.specs.ReadBack.{IsRuleText, IsReadAs}
 use Rattle.dx_rule_laws.proofs.OneRule.{one_rule_text}
 
 -- employees with a name and a place, persons with a name and a telephone
 abbrev employees : Forest
-employees = set (bare (codes "emp") (codes "name" ∷ codes "place" ∷ [])) none none
+employees = set (bare_set (codes "emp") (codes "name" ∷ codes "place" ∷ [])) none none
 
 abbrev persons : Forest
-persons = set (bare (codes "person") (codes "name" ∷ codes "phone" ∷ [])) none none
+persons = set (bare_set (codes "person") (codes "name" ∷ codes "phone" ∷ [])) none none
 
 abbrev word : ℕ → Text → Lexeme
 word place text = record { place = place; kind = Word; text = text }

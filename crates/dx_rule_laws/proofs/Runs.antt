@@ -4,19 +4,20 @@ use Rattle.std.specs.Prelude.{◌||◌}
 use Rattle.std.proofs.lemmas.Bool.{cases_eq}
 use Rattle.std.specs.Cmp.Lexicographic.{pointwise, same_text, other_text}
 use Rattle.dx_ports.specs.Members.{◌∈◌, here, there}
-use Rattle.dx_model.specs.Fitting.{Numbered}
-use Rattle.dx_schema.specs.Tables.{Text, number_of}
+use Rattle.dx_model.specs.Fitting.{ByFirstAppearance}
+use Rattle.dx_schema.specs.Tables.{number_of_name}
+use Rattle.dx_ports.specs.Texts.{Text}
 use Rattle.dx_schema.specs.Faults.{is_among}
 use Rattle.dx_tgd_text.specs.Numbering.{appeared}
 
 -- ---- numbers by first appearance
 
-pub numbered_up : (n : ℕ) (xs : List ℕ) (m : ℕ) → Numbered n xs m → n ≤ m
+pub numbered_up : (n : ℕ) (xs : List ℕ) (m : ℕ) → ByFirstAppearance n xs m → n ≤ m
 numbered_up n [] m h = omega (arith, h)
 numbered_up n (x ∷ xs) m (inl h) = numbered_up n xs m h.1
 numbered_up n (x ∷ xs) m (inr h) = let k = numbered_up (suc n) xs m h.1 in omega (arith, k)
 
-pub numbered_below : (n : ℕ) (xs : List ℕ) (m : ℕ) → Numbered n xs m → (x : ℕ) → x ∈ xs → x < m
+pub numbered_below : (n : ℕ) (xs : List ℕ) (m : ℕ) → ByFirstAppearance n xs m → (x : ℕ) → x ∈ xs → x < m
 numbered_below n [] m h x member = elim member [ ]
 numbered_below n (y ∷ ys) m (inl h) x (here e) = let k = numbered_up n ys m h.1 in let l = h.0 in omega (arith, k, l, e)
 numbered_below n (y ∷ ys) m (inl h) x (there member) = numbered_below n ys m h.1 x member
@@ -85,7 +86,7 @@ absent_run f s zero y other = refl
 absent_run f s (suc k) y other = rw (other_name (f s) y (other s (omega arith))) (absent_run f (suc s) k y (λ n lt. other n (omega arith)))
 
 -- its number is its place in the row
-pub number_run : (f : ℕ → Text) (bound s k x : ℕ) → DifferBelow bound f → s + k ≤ bound → s ≤ x → x < s + k → s + number_of (f x) (run f s k) ≡ x
+pub number_run : (f : ℕ → Text) (bound s k x : ℕ) → DifferBelow bound f → s + k ≤ bound → s ≤ x → x < s + k → s + number_of_name (f x) (run f s k) ≡ x
 number_run f bound s zero x differ fits low high = absurd (omega arith)
 number_run f bound s (suc k) x differ fits low high =
     elim (cases_eq s x) [
@@ -97,7 +98,7 @@ number_run f bound s (suc k) x differ fits low high =
 
 -- ---- names that appear
 
-pub appeared_run : (f : ℕ → Text) (bound n : ℕ) (xs : List ℕ) (m : ℕ) → DifferBelow bound f → m ≤ bound → Numbered n xs m → appeared (run f 0 n) (map f xs) ≡ run f 0 m
+pub appeared_run : (f : ℕ → Text) (bound n : ℕ) (xs : List ℕ) (m : ℕ) → DifferBelow bound f → m ≤ bound → ByFirstAppearance n xs m → appeared (run f 0 n) (map f xs) ≡ run f 0 m
 appeared_run f bound n [] m differ fits h = ap (run f 0) h
 appeared_run f bound n (x ∷ xs) m differ fits (inl h) =
     let lt = h.0 in

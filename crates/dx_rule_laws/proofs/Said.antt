@@ -9,7 +9,8 @@ use Rattle.dx_model.specs.declared.rules.Cell.TheVariants.{Var, Ex, Lit}
 use Rattle.dx_model.specs.declared.rules.Atom.{Atom}
 use Rattle.dx_model.specs.declared.rules.Derived.{Derived}
 use Rattle.dx_schema.specs.Forest.{Forest}
-use Rattle.dx_schema.specs.Tables.{Text, number_of}
+use Rattle.dx_schema.specs.Tables.{number_of_name}
+use Rattle.dx_ports.specs.Texts.{Text}
 use Rattle.dx_schema.specs.Faults.{is_among}
 use Rattle.dx_tokens.specs.declared.tokenizer.TokenKind.{TokenKind}
 use Rattle.dx_tokens.specs.declared.tokenizer.TokenKind.TheVariants.{Word, Number, Str, Mark}
@@ -28,7 +29,7 @@ use Rattle.dx_schema_text.specs.declared.texts.MappingText.{MappingText}
 use Rattle.dx_schema_text.specs.declared.mapping.ItemText.{ItemText}
 use Rattle.dx_schema_text.specs.Grammar.{is_string_kind}
 use Rattle.dx_schema_text.specs.Reading.{rules_among}
-use Rattle.dx_schema_text.specs.Spelling.{Comma, comma_then, Parted, parted, SpellsCell, a_name, a_text, SpellsAtom, atom_of, SpellsDerived, derived_of, SpellsWhere, no_where, where_of, SpellsRule, rule_of, SpellsItem, a_line, a_rule, a_condition, SpellsMapping, mapping_of}
+use Rattle.dx_schema_text.specs.Spelling.{Comma, comma_then, SpellsCommaList, parted, SpellsCell, a_name, a_text, SpellsAtom, atom_of, SpellsDerived, derived_of, SpellsWhere, no_where, where_of, SpellsRule, rule_of, SpellsItem, a_line, a_rule, a_condition, SpellsMapping, mapping_of}
 use Rattle.dx_schema_text.proofs.SpelledWords.{kind_word}
 use Rattle.dx_funcs.specs.declared.conversion.Conversion.{Conversion}
 use Rattle.dx_funcs.specs.Names.{first_named, conversion_name}
@@ -73,7 +74,7 @@ module _ {A : Type 0} (R : A → List Lexeme → Type 0) (P : A → Type 0) (so 
   more_so _ _ (one_more {a = a} {u = u} {v = v} r rest) h x (here e) = subst P e (comma_so a u r (λ y m. h y (in_left v m)))
   more_so _ _ (one_more {others = others} {u = u} {v = v} r rest) h x (there m) = more_so others v rest (λ y k. h y (in_right u k)) x m
 
-  parted_so : (list : List A) (u : List Lexeme) → Parted R list u → AreRight u → Each list P
+  parted_so : (list : List A) (u : List Lexeme) → SpellsCommaList R list u → AreRight u → Each list P
   parted_so _ _ (parted {a = a} {u = u} {v = v} r rest) h x (here e) = subst P e (so a u r (λ y m. h y (in_left v m)))
   parted_so _ _ (parted {others = others} {u = u} {v = v} r rest) h x (there m) = more_so others v rest (λ y k. h y (in_right u k)) x m
 
@@ -113,13 +114,13 @@ cell_literal : (known fresh : List Text) (c : CellText) (text : Text) → IsRigh
 cell_literal known fresh (Literal u) text h e = let same : u ≡ text = cc e in subst IsStringText same h
 cell_literal known fresh (Name x place) text h e = go (is_among x known) e
   where
-    go : (b : Bool) → cond b (Var (number_of x known)) (Ex (number_of x fresh)) ≡ Lit text → IsStringText text
+    go : (b : Bool) → cond b (Var (number_of_name x known)) (Ex (number_of_name x fresh)) ≡ Lit text → IsStringText text
     go true k = absurd cc
     go false k = absurd cc
 
-atoms_literals : (f : Forest) (known fresh : List Text) (atoms : List AtomText) → Each atoms (λ a. Each a.cells IsRightCell) → Each (reading.atoms_of f known fresh atoms) HasStringTexts
+atoms_literals : (f : Forest) (known fresh : List Text) (atoms : List AtomText) → Each atoms (λ a. Each a.cells IsRightCell) → Each (reading.atoms_of_texts f known fresh atoms) HasStringTexts
 atoms_literals f known fresh atoms h a m text k =
-    let t = from_map (reading.atom_of f known fresh) atoms m in
+    let t = from_map (reading.atom_of_text f known fresh) atoms m in
     let among : Lit text ∈ map (reading.cell_of known fresh) t.0.cells = subst (λ (b : Atom). Lit text ∈ b.cells) (sym t.2) k in
     let c = from_map (reading.cell_of known fresh) t.0.cells among in
     cell_literal known fresh c.0 text (h t.0 t.1 c.0 c.1) c.2
@@ -134,14 +135,14 @@ found_named (k ∷ ks) x c e = go (pointwise nat_eq k.name x) refl (found_named 
     go true s later f = let is : k ≡ c = cc f in ap (λ (d : Conversion). d.name) (sym is) ∙ same_text k.name x (sym s)
     go false s later f = later f
 
-call_found : (variables : List Text) (found : Option Conversion) (place : ℕ) (args : List CellText) → reading.call_fault variables found place args ≡ None → (c : Conversion) × (found ≡ Some c)
+call_found : (variables : List Text) (found : Option Conversion) (place : ℕ) (args : List CellText) → reading.derived_call_fault variables found place args ≡ None → (c : Conversion) × (found ≡ Some c)
 call_found variables None place args e = absurd cc
 call_found variables (Some c) place args e = (c, refl)
 
 derived_found : (list : List Conversion) (variables known : List Text) (d : DerivedText) → reading.derived_fault list variables known d ≡ None → (c : Conversion) × (first_named list d.call ≡ Some c)
 derived_found list variables known d e = go (is_among d.name known) e
   where
-    go : (b : Bool) → cond b (Some (At d.place Unsafe)) (reading.call_fault variables (first_named list d.call) d.call_place d.args) ≡ None → (c : Conversion) × (first_named list d.call ≡ Some c)
+    go : (b : Bool) → cond b (Some (At d.place Unsafe)) (reading.derived_call_fault variables (first_named list d.call) d.call_place d.args) ≡ None → (c : Conversion) × (first_named list d.call ≡ Some c)
     go true k = absurd cc
     go false k = call_found variables (first_named list d.call) d.call_place d.args k
 
@@ -163,19 +164,19 @@ call_named list x c offer found =
 
 -- ---- rules
 
-rule_writable : (source target : Forest) (list : List Conversion) (r : RuleText) → IsOffer list → IsRightRule r → reading.rule_fault source target list r ≡ None → IsWritable list (reading.rule_of source target list r)
+rule_writable : (source target : Forest) (list : List Conversion) (r : RuleText) → IsOffer list → IsRightRule r → reading.rule_fault source target list r ≡ None → IsWritable list (reading.rule_of_text source target list r)
 rule_writable source target list r offer right no_fault = record {
   conversions = λ e m. conversions e m;
   literals = atoms_literals target (reading.known_of r) (reading.fresh_of r) r.conclusion right.literals;
 }
   where
-    derived_fine : reading.derived_faults list (reading.variables_of r) (reading.variables_of r) r.derived ≡ None
-    derived_fine = (two_none (reading.derived_faults list (reading.variables_of r) (reading.variables_of r) r.derived) (reading.atoms_fault target r.conclusion) (first_none (reading.atoms_fault source r.premise) _ no_fault).1).0
+    derived_fine : reading.derived_faults list (reading.names_of_premise r) (reading.names_of_premise r) r.derived ≡ None
+    derived_fine = (two_none (reading.derived_faults list (reading.names_of_premise r) (reading.names_of_premise r) r.derived) (reading.atoms_fault target r.conclusion) (first_none (reading.atoms_fault source r.premise) _ no_fault).1).0
 
-    conversions : (e : Derived) → e ∈ map (reading.derived_of list (reading.variables_of r)) r.derived → IsWord (conversion_name list e.code)
+    conversions : (e : Derived) → e ∈ map (reading.derived_of_text list (reading.names_of_premise r)) r.derived → IsWord (conversion_name list e.code)
     conversions e m =
-        let t = from_map (reading.derived_of list (reading.variables_of r)) r.derived m in
-        let c = all_found list (reading.variables_of r) (reading.variables_of r) r.derived derived_fine t.0 t.1 in
+        let t = from_map (reading.derived_of_text list (reading.names_of_premise r)) r.derived m in
+        let c = all_found list (reading.names_of_premise r) (reading.names_of_premise r) r.derived derived_fine t.0 t.1 in
         let named : conversion_name list e.code ≡ t.0.call = ap (λ (d : Derived). conversion_name list d.code) (sym t.2) ∙ call_named list t.0.call c.0 offer c.1 in
         subst IsWord (sym named) (right.calls t.0 t.1)
 
@@ -185,9 +186,9 @@ said_rules_are_writable text m list r says offer among no_fault =
 
 pub said_rules_are_read_again : SaidRulesAreReadAgain
 said_rules_are_read_again text m list says from to offer narrow no_fault =
-    let ds = reading.rules_of m.source m.target list m.rules in
+    let ds = reading.rules_of_texts m.source m.target list m.rules in
     printed_lines_are_read text m list ds says from to offer
     (all_fit m.source m.target list m.rules ds narrow refl no_fault (λ r k. (texts_have_whole_rules text m says r k).0))
     (all_offered m.source m.target list m.rules ds refl no_fault)
-    (λ d k. (let r = from_map (reading.rule_of m.source m.target list) m.rules k in
+    (λ d k. (let r = from_map (reading.rule_of_text m.source m.target list) m.rules k in
     subst (IsWritable list) r.2 (said_rules_are_writable text m list r.0 says offer r.1 (each_none (reading.rule_fault m.source m.target list) m.rules no_fault r.0 r.1))))

@@ -17,11 +17,12 @@ use Rattle.dx_tokens.specs.Quoted.{quoted}
 use Rattle.dx_tokens.proofs.Quotes.{texts_are_quoted}
 use Rattle.dx_grammar.specs.Readers.{Many, no_more, one_more}
 use Rattle.dx_schema_text.specs.Reading.{name_cell, literal_cell}
-use Rattle.dx_schema_text.specs.Spelling.{Comma, comma_then, Parted, parted, SpellsCell, a_name, a_text, SpellsAtom, atom_of, SpellsDerived, derived_of, SpellsWhere, no_where, where_of, SpellsRule, rule_of}
+use Rattle.dx_schema_text.specs.Spelling.{Comma, comma_then, SpellsCommaList, parted, SpellsCell, a_name, a_text, SpellsAtom, atom_of, SpellsDerived, derived_of, SpellsWhere, no_where, where_of, SpellsRule, rule_of}
 use Rattle.dx_schema_text.proofs.PrintScans.{Reads, EndsWord, lexeme, no_token, token_then, word_then, mark_then, blanks_then, both_then, told_as, each_passes, a_word}
 use Rattle.dx_funcs.specs.declared.conversion.Conversion.{Conversion}
 use Rattle.dx_funcs.specs.Names.{conversion_name}
-use Rattle.dx_rule_text.specs.Printed.{Text, separated, variable_text, cell_text, atom_text, derived_text, derived_texts, where_text, rule_text, table_name}
+use Rattle.dx_rule_text.specs.Printed.{separated, variable_text, cell_text, atom_text, derived_text, derived_texts, where_text, rule_text, table_name}
+use Rattle.dx_ports.specs.Texts.{Text}
 use Rattle.dx_rule_laws.specs.ReadBack.{IsStringText}
 use Rattle.dx_rule_laws.proofs.Says.{Paired, no_pair, one_pair, existential_text, SaysCell, SaysVariable, SaysAtom, Counted, counted, SaysDerived, SaysRule}
 use Rattle.dx_rule_laws.proofs.VariableTexts.{variable_word, existential_word}
@@ -57,10 +58,10 @@ module _ {A B : Type 0} (f : A → Text) (Says : A → B → Type 0) (Spells : B
       told_as (Spelled (Paired Says) (Many (Comma Spells)) xs) _ _ more after (others_read xs after more (λ y m. each y (there m)) ends) (λ v k.
       record { text = h.text ∷ k.text; says = one_pair h.says k.says; spells = one_more (comma_then _ refl h.spells) k.spells })))))
 
-  pub separated_read : (xs : List A) (place : ℕ) (more : List ℕ) → 0 < length xs → Each xs (ReadsEverywhere f Says Spells) → EndsWord more → Reads (Spelled (Paired Says) (Parted Spells) xs) place (separated (map f xs) ++ more) more
+  pub separated_read : (xs : List A) (place : ℕ) (more : List ℕ) → 0 < length xs → Each xs (ReadsEverywhere f Says Spells) → EndsWord more → Reads (Spelled (Paired Says) (SpellsCommaList Spells) xs) place (separated (map f xs) ++ more) more
   separated_read [] place more some each ends = absurd (omega arith)
   separated_read (x ∷ xs) place more some each ends =
-      subst (λ (text : List ℕ). Reads (Spelled (Paired Says) (Parted Spells) (x ∷ xs)) place text more) (sym (append_assoc (f x) (behind_commas xs) more))
+      subst (λ (text : List ℕ). Reads (Spelled (Paired Says) (SpellsCommaList Spells) (x ∷ xs)) place text more) (sym (append_assoc (f x) (behind_commas xs) more))
       (both_then (Spelled Says Spells x) _ _ (behind_commas xs ++ more) more _ (each x (here refl) _ (behind_commas xs ++ more) (ends_before xs more ends)) (λ u after h.
       told_as (Spelled (Paired Says) (Many (Comma Spells)) xs) _ _ more after (others_read xs after more (λ y m. each y (there m)) ends) (λ v k.
       record { text = h.text ∷ k.text; says = one_pair h.says k.says; spells = parted h.spells k.spells })))
@@ -103,7 +104,7 @@ atom_read strings name a can place more ends =
     subst (λ (text : List ℕ). Reads (Spelled (SaysAtom name) (SpellsAtom strings) a) place text more) (sym (atom_flat name a more))
     (word_then _ (name a.table) _ more place can.word refl
     (mark_then _ (codes "(") _ more _ refl
-    (both_then (Spelled (Paired SaysCell) (Parted (SpellsCell strings)) a.cells) _ _ (codes ")" ++ more) more _
+    (both_then (Spelled (Paired SaysCell) (SpellsCommaList (SpellsCell strings)) a.cells) _ _ (codes ")" ++ more) more _
     (separated_read cell_text SaysCell (SpellsCell strings) a.cells _ (codes ")" ++ more) can.some_cell (λ c m. cell_read strings c (can.cells c m)) refl) (λ u after h.
     mark_then _ (codes ")") more more _ refl
     (no_token _ _ more (record {
@@ -113,7 +114,7 @@ atom_read strings name a can place more ends =
     }))))))
 
 pub atoms_read : (strings : Bool) (name : ℕ → Text) (atoms : List Atom) (place : ℕ) (more : List ℕ) → 0 < length atoms → Each atoms (CanBeAtom strings name) → EndsWord more
-    → Reads (Spelled (Paired (SaysAtom name)) (Parted (SpellsAtom strings)) atoms) place (separated (map (atom_text name) atoms) ++ more) more
+    → Reads (Spelled (Paired (SaysAtom name)) (SpellsCommaList (SpellsAtom strings)) atoms) place (separated (map (atom_text name) atoms) ++ more) more
 atoms_read strings name atoms place more some can ends = separated_read (atom_text name) (SaysAtom name) (SpellsAtom strings) atoms place more some (λ a m. atom_read strings name a (can a m)) ends
 
 -- ---- derived variables
@@ -141,7 +142,7 @@ derived_read name d can place more ends =
     (blanks_then _ (codes " ") _ more _ (each_passes is_blank (codes " ") refl)
     (word_then _ (name d.derived.code) _ more _ can.word refl
     (mark_then _ (codes "(") _ more _ refl
-    (both_then (Spelled (Paired SaysVariable) (Parted (SpellsCell false)) d.derived.args) _ _ (codes ")" ++ more) more _
+    (both_then (Spelled (Paired SaysVariable) (SpellsCommaList (SpellsCell false)) d.derived.args) _ _ (codes ")" ++ more) more _
     (separated_read variable_text SaysVariable (SpellsCell false) d.derived.args _ (codes ")" ++ more) can.some_argument (λ n m. variable_read n (can.args n m)) refl) (λ u after h.
     mark_then _ (codes ")") more more _ refl
     (no_token _ _ more (record {
@@ -167,7 +168,7 @@ where_read name n (d ∷ ds) place more can ends =
     (blanks_then _ (codes " ") _ more place (each_passes is_blank (codes " ") refl)
     (word_then _ (codes "where") _ more _ (a_word (codes "where") refl) refl
     (blanks_then _ (codes " ") _ more _ (each_passes is_blank (codes " ") refl)
-    (told_as (Spelled (Paired (SaysDerived name)) (Parted SpellsDerived) (counted n (d ∷ ds))) _ _ more _
+    (told_as (Spelled (Paired (SaysDerived name)) (SpellsCommaList SpellsDerived) (counted n (d ∷ ds))) _ _ more _
     (separated_read (counted_text name) (SaysDerived name) SpellsDerived (counted n (d ∷ ds)) _ more (omega arith) (λ c m. derived_read name c (can c m)) ends) (λ u h.
     record { text = h.text; says = h.says; spells = where_of _ refl h.spells })))))
 
@@ -196,14 +197,14 @@ rule_read source target list d place more can =
     subst (λ (text : List ℕ). Reads (Spelled (SaysRule source target list) SpellsRule d) place text more) (sym (rule_flat (codes "rule ") from wheres to more))
     (word_then _ (codes "rule") _ more place (a_word (codes "rule") refl) refl
     (blanks_then _ (codes " ") _ more _ (each_passes is_blank (codes " ") refl)
-    (both_then (Spelled (Paired (SaysAtom (table_name source))) (Parted (SpellsAtom false)) d.premise) _ _ (wheres ++ behind_wheres) more _
+    (both_then (Spelled (Paired (SaysAtom (table_name source))) (SpellsCommaList (SpellsAtom false)) d.premise) _ _ (wheres ++ behind_wheres) more _
     (atoms_read false (table_name source) d.premise _ (wheres ++ behind_wheres) can.some_premise can.premise (ends_before_where (conversion_name list) (after_cells (cells_of d.premise)) d.derived behind_wheres refl)) (λ u after h.
     both_then (Spelled (Paired (SaysDerived (conversion_name list))) SpellsWhere (counted (after_cells (cells_of d.premise)) d.derived)) _ _ behind_wheres more _
     (where_read (conversion_name list) (after_cells (cells_of d.premise)) d.derived after behind_wheres can.derived refl) (λ v behind g.
     blanks_then _ (codes " ") _ more _ (each_passes is_blank (codes " ") refl)
     (mark_then _ (codes "->") _ more _ refl
     (blanks_then _ (codes " ") _ more _ (each_passes is_blank (codes " ") refl)
-    (both_then (Spelled (Paired (SaysAtom (table_name target))) (Parted (SpellsAtom true)) d.conclusion) _ _ behind_to more _
+    (both_then (Spelled (Paired (SaysAtom (table_name target))) (SpellsCommaList (SpellsAtom true)) d.conclusion) _ _ behind_to more _
     (atoms_read true (table_name target) d.conclusion _ behind_to can.some_conclusion can.conclusion refl) (λ w last k.
     mark_then _ (codes ";") more more _ refl
     (no_token _ _ more (record {

@@ -8,7 +8,7 @@ use Rattle.std.proofs.lemmas.Bool.{cases_lt}
 use Rattle.dx_ports.specs.Members.{◌∈◌, here, there, Each}
 use Rattle.dx_ports.proofs.Members.{from_append, in_left}
 use Rattle.dx_tokens.specs.declared.tokenizer.TokenKind.TheVariants.{Str}
-use Rattle.dx_tokens.specs.Scan.{text_of}
+use Rattle.dx_tokens.specs.Scan.{lexeme_text}
 use Rattle.dx_tokens.specs.Lexing.{IsCharacter, IsString}
 use Rattle.dx_tokens.specs.Quoted.{escaped, quoted}
 use Rattle.dx_tokens.proofs.Quotes.{strings_are_quoted}
@@ -66,8 +66,8 @@ in_escaped (x ∷ bs) b m = go (x == 34 || x == 92) (in_escaped bs b) m
     go false later (here e) = here e
     go false later (there k) = there (later k)
 
-pub string_text : (w : List ℕ) → IsString w → IsStringText (text_of Str w)
+pub string_text : (w : List ℕ) → IsString w → IsStringText (lexeme_text Str w)
 string_text w s =
-    let t = text_of Str w in
+    let t = lexeme_text Str w in
     let all : HaveNoControl (quoted t) = subst HaveNoControl (strings_are_quoted w s) (string_has w s) in
     (token_utf8 Str w s, λ b m. all b (there (in_left (34 ∷ []) (in_escaped t b m))))

@@ -14,21 +14,22 @@ use Rattle.dx_funcs.specs.Offers.{IsOffer}
 use Rattle.dx_closing.specs.Closing.{IsClosingOf}
 use Rattle.dx_lines.specs.Rules.{kept_rules}
 use Rattle.dx_line_text.specs.Naming.{lines_fault, lines_of}
-use Rattle.dx_rule_text.specs.Printed.{Text, rule_text, rules_text}
-use Rattle.dx_tgd_text.specs.Reading.{IsNarrow, rule_fault, rule_of, rules_fault, rules_of}
+use Rattle.dx_rule_text.specs.Printed.{rule_text, rules_text}
+use Rattle.dx_ports.specs.Texts.{Text}
+use Rattle.dx_tgd_text.specs.Reading.{RuleHasFewCells, rule_fault, rule_of_text, rules_fault, rules_of_texts}
 use Rattle.dx_tgd_text.specs.Laws.{AreOffered}
-use Rattle.dx_rule_laws.specs.ReadBack.{IsRuleText, IsReadAs, AreReadBehind, IsPrintable, IsWritable}
+use Rattle.dx_rule_laws.specs.ReadBack.{IsRuleText, IsReadAs, AreReadBehind, IsPrintableRule, IsWritable}
 
 -- between two schemas with offered conversions, the text of each rule that can be printed is read as this rule
 abbrev pub PrintedRulesAreRead : Type 0
 PrintedRulesAreRead =
-    (source target : Forest) (list : List Conversion) (d : Rule) → AreTables (tables_of source) → AreTables (tables_of target) → IsOffer list → IsPrintable source target list d
+    (source target : Forest) (list : List Conversion) (d : Rule) → AreTables (tables_of source) → AreTables (tables_of target) → IsOffer list → IsPrintableRule source target list d
     → IsReadAs source target list d (rule_text source target list d)
 
 -- so no two of them have one text
 abbrev pub PrintedRulesDiffer : Type 0
 PrintedRulesDiffer =
-    (source target : Forest) (list : List Conversion) (d e : Rule) → AreTables (tables_of source) → AreTables (tables_of target) → IsOffer list → IsPrintable source target list d → IsPrintable source target list e
+    (source target : Forest) (list : List Conversion) (d e : Rule) → AreTables (tables_of source) → AreTables (tables_of target) → IsOffer list → IsPrintableRule source target list d → IsPrintableRule source target list e
     → rule_text source target list d ≡ rule_text source target list e → d ≡ e
 
 -- after a mapping text whose sides are schemas, the lines of rules that fit them and can be written are read as rules of the mapping: these
@@ -42,7 +43,7 @@ PrintedLinesAreRead =
 abbrev pub SaidRulesAreWritable : Type 0
 SaidRulesAreWritable =
     (text : Text) (m : MappingText) (list : List Conversion) (r : RuleText) → IsMappingText text m → IsOffer list → r ∈ m.rules → rule_fault m.source m.target list r ≡ None
-    → IsWritable list (rule_of m.source m.target list r)
+    → IsWritable list (rule_of_text m.source m.target list r)
 
 -- and so it is of each rule that the lines of a mapping text stand for
 abbrev pub LineRulesAreWritable : Type 0
@@ -50,7 +51,7 @@ LineRulesAreWritable =
     (text : Text) (m : MappingText) (list : List Conversion) → IsMappingText text m → IsOffer list → lines_fault m.source m.target list m.lines ≡ None
     → Each (kept_rules (lines_of m.source m.target list m.lines) (model_tables m.source) (model_tables m.target)) (IsWritable list)
 
--- and of the closing of a rule, where it is so of the rule
+-- and of the closing of a rule, if it is so of the rule
 abbrev pub ClosingsAreWritable : Type 0
 ClosingsAreWritable = (schema : List Table) (list : List Conversion) (d e : Rule) → IsClosingOf schema d e → IsWritable list d → IsWritable list e
 
@@ -58,15 +59,15 @@ ClosingsAreWritable = (schema : List Table) (list : List Conversion) (d e : Rule
 abbrev pub SaidRulesAreReadAgain : Type 0
 SaidRulesAreReadAgain =
     (text : Text) (m : MappingText) (list : List Conversion) → IsMappingText text m → AreTables (tables_of m.source) → AreTables (tables_of m.target) → IsOffer list
-    → Each m.rules IsNarrow → rules_fault m.source m.target list m.rules ≡ None
-    → AreReadBehind m list (rules_of m.source m.target list m.rules) (text ++ (codes "\n" ++ rules_text m.source m.target list (rules_of m.source m.target list m.rules)))
+    → Each m.rules RuleHasFewCells → rules_fault m.source m.target list m.rules ≡ None
+    → AreReadBehind m list (rules_of_texts m.source m.target list m.rules) (text ++ (codes "\n" ++ rules_text m.source m.target list (rules_of_texts m.source m.target list m.rules)))
 
 -- and those rules can be printed
 abbrev pub SaidRulesArePrintable : Type 0
 SaidRulesArePrintable =
     (text : Text) (m : MappingText) (list : List Conversion) → IsMappingText text m → AreTables (tables_of m.source) → AreTables (tables_of m.target) → IsOffer list
-    → Each m.rules IsNarrow → rules_fault m.source m.target list m.rules ≡ None
-    → Each (rules_of m.source m.target list m.rules) (IsPrintable m.source m.target list)
+    → Each m.rules RuleHasFewCells → rules_fault m.source m.target list m.rules ≡ None
+    → Each (rules_of_texts m.source m.target list m.rules) (IsPrintableRule m.source m.target list)
 
 -- a text says at most one rule, and is read as at most one
 abbrev pub OneRuleText : Type 0

@@ -15,8 +15,9 @@ use Rattle.dx_schema_text.specs.Texts.{IsMappingText}
 use Rattle.dx_schema_text.specs.Spelling.{SpellsRule}
 use Rattle.dx_funcs.specs.declared.conversion.Conversion.{Conversion}
 use Rattle.dx_funcs.specs.Names.{conversion_name}
-use Rattle.dx_rule_text.specs.Printed.{Text, table_name}
-use Rattle.dx_tgd_text.specs.Reading.{rule_fault, rule_of, rules_fault, rules_of}
+use Rattle.dx_rule_text.specs.Printed.{table_name}
+use Rattle.dx_ports.specs.Texts.{Text}
+use Rattle.dx_tgd_text.specs.Reading.{rule_fault, rule_of_text, rules_fault, rules_of_texts}
 use Rattle.dx_tgd_text.specs.Laws.{AreOffered}
 
 -- the text says this rule: all of it is tokens, which spell the rule
@@ -29,7 +30,7 @@ pub record IsReadAs (source target : Forest) (list : List Conversion) (d : Rule)
   pub said : RuleText
   pub is_text : IsRuleText text said
   pub no_fault : rule_fault source target list said ≡ None
-  pub same : rule_of source target list said ≡ d
+  pub same : rule_of_text source target list said ≡ d
 
 -- a text that can stand in a string: UTF-8 without a byte below 32
 abbrev pub IsStringText : Text → Type 0
@@ -54,20 +55,20 @@ pub record IsWritable (list : List Conversion) (d : Rule) : Type 0 where
   pub literals : Each d.conclusion HasStringTexts
 
 -- a rule that is read again when it is printed: it fits the schemas, its conversions are listed, and it can be written
-pub record IsPrintable (source target : Forest) (list : List Conversion) (d : Rule) : Type 0 where
+pub record IsPrintableRule (source target : Forest) (list : List Conversion) (d : Rule) : Type 0 where
   pub fits : RuleFits (model_tables source) (model_tables target) d
   pub offered : AreOffered list d
   pub named : HasNamedTables source target d
   pub writable : IsWritable list d
 
 -- a mapping with rules after its own
-abbrev pub with_rules : MappingText → List RuleText → MappingText
-with_rules m rules = record m { rules = m.rules ++ rules }
+abbrev pub with_more_rules : MappingText → List RuleText → MappingText
+with_more_rules m rules = record m { rules = m.rules ++ rules }
 
 -- the text is read as a mapping with these rules after its own: it says the mapping and rules without a fault, which are
 -- these by the numbers of what they name
 pub record AreReadBehind (m : MappingText) (list : List Conversion) (ds : List Rule) (text : Text) : Type 0 where
   pub said : List RuleText
-  pub is_text : IsMappingText text (with_rules m said)
+  pub is_text : IsMappingText text (with_more_rules m said)
   pub no_fault : rules_fault m.source m.target list said ≡ None
-  pub same : rules_of m.source m.target list said ≡ ds
+  pub same : rules_of_texts m.source m.target list said ≡ ds

@@ -2,7 +2,7 @@
 //!
 //! specs/ReadBack says when a text is read as a rule: all of it is tokens that spell a rule, nothing of it is at fault, and by
 //! the numbers of what it names it is just this rule. The law `a_printed_rule_is_read`: the text that `print_rule` gives is
-//! read as the rule that was printed, where the names of its sets and conversions are words and its literals can stand in
+//! read as the rule that was printed, if the names of its sets and conversions are words and its literals can stand in
 //! strings. After a mapping text, the lines of `print_rules` are read as rules of that mapping (`printed_lines_are_read`);
 //! of rules that a text says nothing more is asked (`rules_that_are_said_are_read_again`,
 //! `rules_that_are_said_can_be_printed`). What a text is read as is one rule or one list of rules (`a_text_says_one_rule`),

@@ -4,7 +4,7 @@ use Rattle.std.specs.Prelude.{codes}
 use Rattle.std.specs.Fmt.{digits}
 use Rattle.dx_model.specs.declared.rules.Cell.TheVariants.{Var, Ex, Lit}
 use Rattle.dx_model.specs.declared.rules.Rule.{Rule}
-use Rattle.dx_schema.specs.Forest.{Forest, none, set, bare}
+use Rattle.dx_schema.specs.Forest.{Forest, none, set, bare_set}
 use Rattle.dx_funcs.specs.Shipped.{shipped_conversions}
 use Rattle.dx_rule_text.specs.Printed.{rule_text, rules_text}
 
@@ -12,15 +12,15 @@ use Rattle.dx_rule_text.specs.Printed.{rule_text, rules_text}
 abbrev source : Forest
 source =
     set (record { name = codes "emp"; columns = codes "name" ∷ codes "dept" ∷ []; keys = []; deps = []; refs = record { columns = codes "dept" ∷ []; set = codes "dept"; referred = codes "dname" ∷ []; optional = false } ∷ [] }) none
-    (set (bare (codes "dept") (codes "dname" ∷ [])) none none)
+    (set (bare_set (codes "dept") (codes "dname" ∷ [])) none none)
 
 -- units, and the staff of each
 abbrev target : Forest
-target = set (bare (codes "unit") (codes "uname" ∷ [])) (set (bare (codes "staff") (codes "sname" ∷ [])) none none) none
+target = set (bare_set (codes "unit") (codes "uname" ∷ [])) (set (bare_set (codes "staff") (codes "sname" ∷ [])) none none) none
 
 -- persons
 abbrev persons : Forest
-persons = set (bare (codes "person") (codes "name" ∷ codes "town" ∷ [])) none none
+persons = set (bare_set (codes "person") (codes "name" ∷ codes "town" ∷ [])) none none
 
 -- an existential variable
 with_existential :

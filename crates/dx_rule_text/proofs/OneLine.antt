@@ -13,7 +13,8 @@ use Rattle.dx_model.specs.Rules.{after_cells, cells_of}
 use Rattle.dx_schema.specs.Forest.{Forest}
 use Rattle.dx_tokens.specs.Quoted.{escaped, quoted}
 use Rattle.dx_funcs.specs.Names.{conversion_name}
-use Rattle.dx_rule_text.specs.Printed.{Text, atom_text, atoms_text, cell_text, derived_text, derived_texts, separated, table_name, variable_text, where_text}
+use Rattle.dx_rule_text.specs.Printed.{atom_text, atoms_text, cell_text, derived_text, derived_texts, separated, table_name, variable_text, where_text}
+use Rattle.dx_ports.specs.Texts.{Text}
 use Rattle.dx_rule_text.specs.Laws.{IsOneLine, IsOneLineAtom, RulesAreOneLine}
 
 nothing : IsOneLine []

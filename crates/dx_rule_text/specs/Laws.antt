@@ -7,7 +7,8 @@ use Rattle.dx_model.specs.declared.rules.Rule.{Rule}
 use Rattle.dx_schema.specs.Forest.{Forest}
 use Rattle.dx_funcs.specs.declared.conversion.Conversion.{Conversion}
 use Rattle.dx_funcs.specs.Names.{conversion_name}
-use Rattle.dx_rule_text.specs.Printed.{Text, rule_text, table_name}
+use Rattle.dx_rule_text.specs.Printed.{rule_text, table_name}
+use Rattle.dx_ports.specs.Texts.{Text}
 
 -- a text without a line feed
 abbrev pub IsOneLine : Text → Type 0

@@ -9,14 +9,11 @@ use Rattle.dx_model.specs.declared.rules.Derived.{Derived}
 use Rattle.dx_model.specs.declared.rules.Rule.{Rule}
 use Rattle.dx_model.specs.Rules.{after_cells, cells_of}
 use Rattle.dx_schema.specs.Forest.{Forest}
-use Rattle.dx_schema.specs.Tables.{tables_of, table_at}
+use Rattle.dx_schema.specs.Tables.{tables_of, schema_table}
 use Rattle.dx_tokens.specs.Quoted.{quoted}
 use Rattle.dx_funcs.specs.declared.conversion.Conversion.{Conversion}
 use Rattle.dx_funcs.specs.Names.{conversion_name}
-
--- a text, by its bytes
-abbrev pub Text : Type 0
-Text = List ℕ
+use Rattle.dx_ports.specs.Texts.{Text}
 
 -- texts in order, with a comma and a space between
 abbrev pub separated : List Text → Text
@@ -57,7 +54,7 @@ where_text name n (d ∷ ds) = codes " where " ++ separated (derived_texts name 
 
 -- the name of a table of a schema
 abbrev pub table_name : Forest → ℕ → Text
-table_name schema t = (table_at schema t).name
+table_name schema t = (schema_table schema t).name
 
 -- a rule in one line: its premise, its derived variables, which are numbered on from the premise's variables, and its conclusion
 abbrev pub rule_text : Forest → Forest → List Conversion → Rule → Text

@@ -2,7 +2,7 @@
 //!
 //! `print_rule` prints a rule with the names that its schemas and its conversions have (specs/Printed), `print_rules` each
 //! of many in a line of its own, and `push_string` a text as a string: each exactly the text of the definition. The law
-//! `a_rule_is_one_line`: where no name and no literal has a line feed, neither has the text.
+//! `a_rule_is_one_line`: if no name and no literal has a line feed, neither has the text.
 #![tactic(auto)]
 
 mod atoms;

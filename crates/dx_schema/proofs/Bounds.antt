@@ -9,8 +9,8 @@ use Rattle.dx_ports.proofs.Members.{from_append, from_map}
 use Rattle.dx_schema.specs.declared.sets.KeyDecl.{KeyDecl}
 use Rattle.dx_schema.specs.declared.sets.RefDecl.{RefDecl}
 use Rattle.dx_schema.specs.Forest.{Forest, none, set, Tree, forest_of}
-use Rattle.dx_schema.specs.Tables.{Placed, placed, sets_of, count, where_has_inner, where_inner, key_named, keys_in, dep_named, deps_in, link_up, links_in, optional_in, firm_refs, optional_refs, link_of, table_in, tables_of}
-use Rattle.dx_schema.specs.Bounds.{RulesBelow, HasFewRules, HasNumbers}
+use Rattle.dx_schema.specs.Tables.{NumberedSet, numbered_sets, sets_of, count, where_has_inner, where_inner, key_named, keys_in, dep_named, deps_in, link_up, links_in, optional_in, firm_refs, optional_refs, link_of, table_in, tables_of}
+use Rattle.dx_schema.specs.Bounds.{RulesBelow, HasFewRules, HasSmallNumbers}
 
 -- what is below n is below what is greater
 pub rules_raised : (n m : ℕ) (f : Forest) → n ≤ m → RulesBelow n f → RulesBelow m f
@@ -45,11 +45,11 @@ not_few n ts k t f whole lt is refuted = ((λ e. absurd (false≢true e)), (λ h
 
 -- ---- tables
 
-rules_placed : (n : ℕ) (p : Option ℕ) (m : ℕ) (f : Forest) (s : Placed) → RulesBelow n f → s ∈ placed p m f → (length s.label.keys + length s.label.deps < n) × (length s.label.refs < n)
+rules_placed : (n : ℕ) (p : Option ℕ) (m : ℕ) (f : Forest) (s : NumberedSet) → RulesBelow n f → s ∈ numbered_sets p m f → (length s.label.keys + length s.label.deps < n) × (length s.label.refs < n)
 rules_placed n p m none s h mem = elim mem [ ]
 rules_placed n p m (set l i r) s h (here e) = rw (← e) (h.0, h.1)
 rules_placed n p m (set l i r) s h (there mem) =
-    elim (from_append (placed (Some m) (suc m) i) mem) [
+    elim (from_append (numbered_sets (Some m) (suc m) i) mem) [
       | inl a ↦ rules_placed n (Some m) (suc m) i s h.2 a
       | inr b ↦ rules_placed n p (suc (m + count i)) r s h.3 b
     ]
@@ -58,11 +58,11 @@ one_in_front : {X : Type 0} (f : Forest) (x : X) → length (where_has_inner f x
 one_in_front none x = omega arith
 one_in_front (set l i r) x = omega arith
 
-one_up : (sets : List Placed) (s : Placed) (p : Option ℕ) → length (link_up sets s p) ≤ 1
+one_up : (sets : List NumberedSet) (s : NumberedSet) (p : Option ℕ) → length (link_up sets s p) ≤ 1
 one_up sets s None = omega arith
 one_up sets s (Some p) = omega arith
 
-few_determinations : (s : Placed) → length s.label.keys + length s.label.deps < 2 ^ 32 - 2 → length (keys_in s) + length (deps_in s) < 2 ^ 32 - 1
+few_determinations : (s : NumberedSet) → length s.label.keys + length s.label.deps < 2 ^ 32 - 2 → length (keys_in s) + length (deps_in s) < 2 ^ 32 - 1
 few_determinations s h =
     let front : List (List (List ℕ)) = where_has_inner s.inner (codes "#id" ∷ []) in
     let own : List (List (List ℕ)) = map (λ (k : KeyDecl). where_inner s.parent (codes "#up") ++ k.columns) s.label.keys in
@@ -80,7 +80,7 @@ both_kept {X} p (x ∷ xs) =
     by_test true e = omega (arith, e)
     by_test false e = omega (arith, e)
 
-few_links : (sets : List Placed) (s : Placed) → length s.label.refs < 2 ^ 32 - 2 → length (links_in sets s) + length (optional_in sets s) < 2 ^ 32 - 1
+few_links : (sets : List NumberedSet) (s : NumberedSet) → length s.label.refs < 2 ^ 32 - 2 → length (links_in sets s) + length (optional_in sets s) < 2 ^ 32 - 1
 few_links sets s h =
     let all = both_kept (λ (r : RefDecl). r.optional) s.label.refs in
     let a = length-append (link_up sets s s.parent) (map (link_of sets s) (firm_refs s.label.refs)) in
@@ -89,14 +89,14 @@ few_links sets s h =
     let d = one_up sets s s.parent in
     omega (arith, h, all, a, b, c, d)
 
-numbers_in_table : (sets : List Placed) (s : Placed) → (length s.label.keys + length s.label.deps < 2 ^ 32 - 2) × (length s.label.refs < 2 ^ 32 - 2) → HasNumbers (table_in sets s)
+numbers_in_table : (sets : List NumberedSet) (s : NumberedSet) → (length s.label.keys + length s.label.deps < 2 ^ 32 - 2) × (length s.label.refs < 2 ^ 32 - 2) → HasSmallNumbers (table_in sets s)
 numbers_in_table sets s h = record { determinations = few_determinations s h.0; links = few_links sets s h.1 }
 
 -- the determinations and links of each table have numbers
-pub tables_numbered : (f g : Forest) → HasFewRules f → f ≡ g → Each (tables_of g) HasNumbers
-tables_numbered f g h e = subst (λ x. Each (tables_of x) HasNumbers) e all
+pub tables_numbered : (f g : Forest) → HasFewRules f → f ≡ g → Each (tables_of g) HasSmallNumbers
+tables_numbered f g h e = subst (λ x. Each (tables_of x) HasSmallNumbers) e all
   where
-    all : Each (tables_of f) HasNumbers
+    all : Each (tables_of f) HasSmallNumbers
     all t m =
         let s = from_map (table_in (sets_of f)) (sets_of f) {y = t} m in
-        subst HasNumbers s.2 (numbers_in_table (sets_of f) s.0 (rules_placed (2 ^ 32 - 2) None 0 f s.0 h s.1))
+        subst HasSmallNumbers s.2 (numbers_in_table (sets_of f) s.0 (rules_placed (2 ^ 32 - 2) None 0 f s.0 h s.1))

@@ -1,7 +1,8 @@
 -- Units with their staff, and employees that refer to departments: their tables.
 use Rattle.std.proofs.Common.{false, Some, None, ◌≡◌, [], ◌∷◌, refl}
-use Rattle.dx_schema.specs.Forest.{Forest, bare, none, set}
-use Rattle.dx_schema.specs.Tables.{Text, no_table, tables_of}
+use Rattle.dx_schema.specs.Forest.{Forest, bare_set, none, set}
+use Rattle.dx_schema.specs.Tables.{no_table, tables_of}
+use Rattle.dx_ports.specs.Texts.{Text}
 
 abbrev a : Text
 a = 97 ∷ []

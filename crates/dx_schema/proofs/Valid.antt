@@ -18,9 +18,10 @@ use Rattle.dx_schema.specs.declared.sets.KeyDecl.{KeyDecl}
 use Rattle.dx_schema.specs.declared.sets.DepDecl.{DepDecl}
 use Rattle.dx_schema.specs.declared.sets.RefDecl.{RefDecl}
 use Rattle.dx_schema.specs.Forest.{Label, Forest, none, set, has_sets}
-use Rattle.dx_schema.specs.Tables.{Text, TableOf, Placed, placed, sets_of, names_of, count, where_has_inner, where_inner, columns_of, columns_at, number_of, numbers_of, key_named, keys_in, link_of, link_up, links_in, table_in, tables_of, IsLink, IsTable, AreTables, AreColumns, IsDep, dep_named, deps_in}
+use Rattle.dx_schema.specs.Tables.{TableOf, NumberedSet, numbered_sets, sets_of, names_of, count, where_has_inner, where_inner, columns_of, columns_at, number_of_name, numbers_of_names, key_named, keys_in, link_of, link_up, links_in, table_in, tables_of, IsLink, IsSchemaTable, AreTables, AreColumns, IsDep, dep_named, deps_in}
+use Rattle.dx_ports.specs.Texts.{Text}
 use Rattle.dx_ports.specs.Firsts.{first_of}
-use Rattle.dx_schema.specs.Faults.{fault_if, is_among, names_in, twice_in, names_within, set_fault, sets_fault, columns_fault, key_fault, dep_fault, declared_at, ref_fault, rules_fault, form_fault}
+use Rattle.dx_schema.specs.Faults.{fault_if, is_among, level_names, twice_in, names_within, set_fault, sets_fault, columns_fault, key_fault, dep_fault, declared_at, ref_fault, declarations_fault, form_fault}
 use Rattle.dx_schema.proofs.Preorder.{length_placed}
 use Rattle.dx_schema.proofs.Loops.{among_number}
 use Rattle.dx_ports.proofs.Tests.{from_filter}
@@ -124,26 +125,26 @@ distinct_columns (set l i r) (Some p) columns rest d = (no_id, ((λ m. d.1.0 (in
     no_id (here e) = d.0 (here e)
     no_id (there m) = d.0 (there (in_left rest m))
 
-declared_inside : (s : Placed) → s.label.columns ⊆ columns_of s
+declared_inside : (s : NumberedSet) → s.label.columns ⊆ columns_of s
 declared_inside s x m = in_right (where_has_inner s.inner id_name) (in_right (where_inner s.parent up_name) m)
 
-id_inside : (s : Placed) → has_sets s.inner ≡ true → id_name ∈ columns_of s
+id_inside : (s : NumberedSet) → has_sets s.inner ≡ true → id_name ∈ columns_of s
 id_inside s h = go s.inner h
   where
     go : (i : Forest) → has_sets i ≡ true → id_name ∈ (where_has_inner i id_name ++ (where_inner s.parent up_name ++ s.label.columns))
     go none e = absurd (false≢true e)
     go (set l i r) e = here refl
 
-up_inside : (s : Placed) (p : ℕ) → s.parent ≡ Some p → up_name ∈ columns_of s
+up_inside : (s : NumberedSet) (p : ℕ) → s.parent ≡ Some p → up_name ∈ columns_of s
 up_inside s p e = in_right (where_has_inner s.inner id_name) (rw e (here refl))
 
 -- ---- numbers of names
 
-number_at : (x : Text) (xs : List Text) → x ∈ xs → get_or xs (number_of x xs) [] ≡ x
+number_at : (x : Text) (xs : List Text) → x ∈ xs → get_or xs (number_of_name x xs) [] ≡ x
 number_at x [] m = elim m [ ]
 number_at x (y ∷ ys) m = go (pointwise nat_eq y x) refl m (number_at x ys)
   where
-    go : (b : Bool) → pointwise nat_eq y x ≡ b → x ∈ (y ∷ ys) → (x ∈ ys → get_or ys (number_of x ys) [] ≡ x) → get_or (y ∷ ys) (cond b 0 (suc (number_of x ys))) [] ≡ x
+    go : (b : Bool) → pointwise nat_eq y x ≡ b → x ∈ (y ∷ ys) → (x ∈ ys → get_or ys (number_of_name x ys) [] ≡ x) → get_or (y ∷ ys) (cond b 0 (suc (number_of_name x ys))) [] ≡ x
     go true e n f = same_text y x (sym e)
     go false e (here d) f = absurd (other_text y x (sym e) d)
     go false e (there n) f = f n
@@ -156,20 +157,20 @@ distinct_map f (x ∷ xs) one d = (new, distinct_map f xs (λ y z m n. one y z (
     new m = let r = from_map f xs m in d.0 (rw (one x r.0 (here refl) (there r.1) (sym r.2)) r.1)
 
 -- the numbers of distinct names of columns
-numbers_fit : (columns names : List Text) → names ⊆ columns → Distinct names → AreWithin (numbers_of names columns) (length columns) × Distinct (numbers_of names columns)
-numbers_fit columns names s d = (within, distinct_map (λ x. number_of x columns) names one d)
+numbers_fit : (columns names : List Text) → names ⊆ columns → Distinct names → AreWithin (numbers_of_names names columns) (length columns) × Distinct (numbers_of_names names columns)
+numbers_fit columns names s d = (within, distinct_map (λ x. number_of_name x columns) names one d)
   where
-    within : AreWithin (numbers_of names columns) (length columns)
+    within : AreWithin (numbers_of_names names columns) (length columns)
     within c m =
-        let r = from_map (λ x. number_of x columns) names {y = c} m in
+        let r = from_map (λ x. number_of_name x columns) names {y = c} m in
         rw (← r.2) (among_number r.0 columns (in_among r.0 columns (s r.0 r.1)))
 
-    one : (x y : Text) → x ∈ names → y ∈ names → number_of x columns ≡ number_of y columns → x ≡ y
+    one : (x y : Text) → x ∈ names → y ∈ names → number_of_name x columns ≡ number_of_name y columns → x ≡ y
     one x y m n e = sym (number_at x columns (s x m)) ∙ ap (λ k. get_or columns k []) e ∙ number_at y columns (s y n)
 
 -- ---- sets, one by one
 
-set_ok : (before : List Text) (s : Placed) → set_fault before s ≡ None
+set_ok : (before : List Text) (s : NumberedSet) → set_fault before s ≡ None
     → (¬ (s.label.name ∈ before)) × (1 ≤ length s.label.columns) × (length (columns_of s) ≤ 64) × Distinct (names_within s)
 set_ok before s h =
     let a = first_none _ _ h in
@@ -182,82 +183,82 @@ set_ok before s h =
     some (suc n) e = omega arith
 
 -- each set has no fault after those before it, and their names differ
-sets_ok : (before : List Text) (sets : List Placed) → sets_fault before sets ≡ None
-    → AreNew before (names_of sets) × ((s : Placed) → s ∈ sets → (b : List Text) × (set_fault b s ≡ None))
+sets_ok : (before : List Text) (sets : List NumberedSet) → sets_fault before sets ≡ None
+    → AreNew before (names_of sets) × ((s : NumberedSet) → s ∈ sets → (b : List Text) × (set_fault b s ≡ None))
 sets_ok before [] h = ((tt, λ x m. elim m [ ]), λ x m. elim m [ ])
 sets_ok before (s ∷ sets) h =
     let a = first_none _ _ h in
     let r = sets_ok (before ++ s.label.name ∷ []) sets (none_of _ a.1) in
     (new_more before (names_of sets) s.label.name (set_ok before s a.0).0 r.0, each a.0 r.1)
   where
-    each : set_fault before s ≡ None → ((t : Placed) → t ∈ sets → (b : List Text) × (set_fault b t ≡ None)) → (t : Placed) → t ∈ (s ∷ sets) → (b : List Text) × (set_fault b t ≡ None)
+    each : set_fault before s ≡ None → ((t : NumberedSet) → t ∈ sets → (b : List Text) × (set_fault b t ≡ None)) → (t : NumberedSet) → t ∈ (s ∷ sets) → (b : List Text) × (set_fault b t ≡ None)
     each e f t (here d) = (before, rw (← d) e)
     each e f t (there m) = f t m
 
 -- ---- the parents of inner sets
 
 -- the set's parent is one of these sets, of which the first has number n, and has inner sets
-abbrev HasParent : ℕ → List Placed → Placed → Type 0
+abbrev HasParent : ℕ → List NumberedSet → NumberedSet → Type 0
 HasParent n sets s = (k : ℕ) × (s.parent ≡ Some (n + k)) × (k < length sets) × (has_sets (get_or sets k s).inner ≡ true)
 
-some_set : (p : Option ℕ) (n : ℕ) (f : Forest) (s : Placed) → s ∈ placed p n f → has_sets f ≡ true
+some_set : (p : Option ℕ) (n : ℕ) (f : Forest) (s : NumberedSet) → s ∈ numbered_sets p n f → has_sets f ≡ true
 some_set p n none s m = elim m [ ]
 some_set p n (set l i r) s m = refl
 
-parent_here : (p : Option ℕ) (n : ℕ) (l : Label) (i : Forest) (more : List Placed) (s : Placed) → has_sets i ≡ true → s.parent ≡ Some n → HasParent n (record { label = l; number = n; parent = p; inner = i } ∷ more) s
+parent_here : (p : Option ℕ) (n : ℕ) (l : Label) (i : Forest) (more : List NumberedSet) (s : NumberedSet) → has_sets i ≡ true → s.parent ≡ Some n → HasParent n (record { label = l; number = n; parent = p; inner = i } ∷ more) s
 parent_here p n l i more s h e = (0, e ∙ ap Some (omega arith), omega arith, h)
 
-parent_first : (n : ℕ) (first : Placed) (left right : List Placed) (s : Placed) → HasParent (suc n) left s → HasParent n (first ∷ (left ++ right)) s
+parent_first : (n : ℕ) (first : NumberedSet) (left right : List NumberedSet) (s : NumberedSet) → HasParent (suc n) left s → HasParent n (first ∷ (left ++ right)) s
 parent_first n first left right s h =
     let at : get_or (left ++ right) h.0 s ≡ get_or left h.0 s = get_or_append_left left right s h.0 h.2 in
-    (suc h.0, h.1 ∙ ap Some (omega arith), omega (arith, h.2, length-append left right), ap (λ (q : Placed). has_sets q.inner) at ∙ h.3)
+    (suc h.0, h.1 ∙ ap Some (omega arith), omega (arith, h.2, length-append left right), ap (λ (q : NumberedSet). has_sets q.inner) at ∙ h.3)
 
-parent_second : (n m : ℕ) (first : Placed) (left right : List Placed) (s : Placed) → m ≡ suc (n + length left) → HasParent m right s → HasParent n (first ∷ (left ++ right)) s
+parent_second : (n m : ℕ) (first : NumberedSet) (left right : List NumberedSet) (s : NumberedSet) → m ≡ suc (n + length left) → HasParent m right s → HasParent n (first ∷ (left ++ right)) s
 parent_second n m first left right s e h =
     let at : get_or (left ++ right) (length left + h.0) s ≡ get_or right h.0 s = get_or-append-add left right h.0 s in
-    (suc (length left + h.0), h.1 ∙ ap Some (omega (arith, e)), omega (arith, h.2, length-append left right), ap (λ (q : Placed). has_sets q.inner) at ∙ h.3)
+    (suc (length left + h.0), h.1 ∙ ap Some (omega (arith, e)), omega (arith, h.2, length-append left right), ap (λ (q : NumberedSet). has_sets q.inner) at ∙ h.3)
 
-parent_of : (p : Option ℕ) (n : ℕ) (f : Forest) (s : Placed) → s ∈ placed p n f → (s.parent ≡ p) ⊎ HasParent n (placed p n f) s
+parent_of : (p : Option ℕ) (n : ℕ) (f : Forest) (s : NumberedSet) → s ∈ numbered_sets p n f → (s.parent ≡ p) ⊎ HasParent n (numbered_sets p n f) s
 parent_of p n none s m = elim m [ ]
 parent_of p n (set l i r) s (here e) = inl (rw (← e) refl)
 parent_of p n (set l i r) s (there m) =
-    elim (from_append (placed (Some n) (suc n) i) m) [
+    elim (from_append (numbered_sets (Some n) (suc n) i) m) [
       | inl a ↦ elim (parent_of (Some n) (suc n) i s a) [
         | inl e ↦ inr (parent_here p n l i _ s (some_set (Some n) (suc n) i s a) e)
-        | inr h ↦ inr (parent_first n _ (placed (Some n) (suc n) i) (placed p (suc (n + count i)) r) s h)
+        | inr h ↦ inr (parent_first n _ (numbered_sets (Some n) (suc n) i) (numbered_sets p (suc (n + count i)) r) s h)
       ]
       | inr b ↦ elim (parent_of p (suc (n + count i)) r s b) [
         | inl e ↦ inl e
-        | inr h ↦ inr (parent_second n (suc (n + count i)) _ (placed (Some n) (suc n) i) (placed p (suc (n + count i)) r) s (let e = length_placed (Some n) (suc n) i in omega (arith, e)) h)
+        | inr h ↦ inr (parent_second n (suc (n + count i)) _ (numbered_sets (Some n) (suc n) i) (numbered_sets p (suc (n + count i)) r) s (let e = length_placed (Some n) (suc n) i in omega (arith, e)) h)
       ]
     ]
 
 -- ---- keys and dependencies
 
 -- a set without a fault of its own
-record IsSound (s : Placed) : Type 0 where
+record IsSound (s : NumberedSet) : Type 0 where
   some_column : 1 ≤ length s.label.columns
   few_columns : length (columns_of s) ≤ 64
   columns : Distinct (columns_of s)
   no_id : ¬ (id_name ∈ s.label.columns)
   no_up : ¬ (up_name ∈ s.label.columns)
 
-sound_of : (before : List Text) (s : Placed) → set_fault before s ≡ None → IsSound s
+sound_of : (before : List Text) (s : NumberedSet) → set_fault before s ≡ None → IsSound s
 sound_of before s h =
     let o = set_ok before s h in
     record {
       some_column = o.1;
       few_columns = o.2;
-      columns = distinct_columns s.inner s.parent s.label.columns (names_in s.inner) o.3;
-      no_id = λ m. o.3.0 (there (in_left (names_in s.inner) m));
-      no_up = λ m. o.3.1.0 (in_left (names_in s.inner) m);
+      columns = distinct_columns s.inner s.parent s.label.columns (level_names s.inner) o.3;
+      no_id = λ m. o.3.0 (there (in_left (level_names s.inner) m));
+      no_up = λ m. o.3.1.0 (in_left (level_names s.inner) m);
     }
 
 -- names of columns, at least one, and each once
-abbrev AreNames : Placed → List Text → Type 0
+abbrev AreNames : NumberedSet → List Text → Type 0
 AreNames s names = (1 ≤ length names) × (names ⊆ columns_of s) × Distinct names
 
-alone : (s : Placed) (x : Text) → x ∈ columns_of s → AreNames s (x ∷ [])
+alone : (s : NumberedSet) (x : Text) → x ∈ columns_of s → AreNames s (x ∷ [])
 alone s x m = (omega arith, (λ y n. one y n), ((λ n. elim n [ ]), tt))
   where
     one : (y : Text) → y ∈ (x ∷ []) → y ∈ columns_of s
@@ -265,7 +266,7 @@ alone s x m = (omega arith, (λ y n. one y n), ((λ n. elim n [ ]), tt))
     one y (there n) = elim n [ ]
 
 -- declared columns, of an inner set with `#up` in front
-with_up : (s : Placed) (names : List Text) → IsSound s → 1 ≤ length names → (names ⊆ s.label.columns) → Distinct names → AreNames s (where_inner s.parent up_name ++ names)
+with_up : (s : NumberedSet) (names : List Text) → IsSound s → 1 ≤ length names → (names ⊆ s.label.columns) → Distinct names → AreNames s (where_inner s.parent up_name ++ names)
 with_up s names sound some inside d = go s.parent refl
   where
     at : (p : ℕ) → s.parent ≡ Some p → (x : Text) → x ∈ (up_name ∷ names) → x ∈ columns_of s
@@ -276,19 +277,19 @@ with_up s names sound some inside d = go s.parent refl
     go None e = (some, (λ x m. declared_inside s x (inside x m)), d)
     go (Some p) e = (omega arith, at p e, ((λ m. sound.no_up (inside up_name m)), d))
 
-columns_fit : (s : Placed) (names : List Text) → AreNames s names → AreColumns (length (columns_of s)) (numbers_of names (columns_of s))
+columns_fit : (s : NumberedSet) (names : List Text) → AreNames s names → AreColumns (length (columns_of s)) (numbers_of_names names (columns_of s))
 columns_fit s names h =
     let n = numbers_fit (columns_of s) names h.1 h.2 in
-    record { some = omega (arith, h.0, length-map names (λ x. number_of x (columns_of s))); within = n.0; distinct = n.1 }
+    record { some = omega (arith, h.0, length-map names (λ x. number_of_name x (columns_of s))); within = n.0; distinct = n.1 }
 
 -- the columns of a key without a fault
-key_columns : (s : Placed) (k : KeyDecl) → key_fault s k ≡ None → (1 ≤ length k.columns) × AreNew [] k.columns × (k.columns ⊆ s.label.columns)
+key_columns : (s : NumberedSet) (k : KeyDecl) → key_fault s k ≡ None → (1 ≤ length k.columns) × AreNew [] k.columns × (k.columns ⊆ s.label.columns)
 key_columns s k h =
     let r = two_none (fault_if (eqb (length k.columns) 0) (Bad (BadLink s.label.name))) (columns_fault s.label.columns [] k.columns) h in
     let c = columns_none_new s.label.columns [] k.columns r.1 in
     (not_empty k.columns (if_none _ _ r.0), c.0, c.1)
 
-keys_fit : (s : Placed) → IsSound s → first_of (map (key_fault s) s.label.keys) ≡ None → (k : Key) → k ∈ keys_in s → AreColumns (length (columns_of s)) k.columns
+keys_fit : (s : NumberedSet) → IsSound s → first_of (map (key_fault s) s.label.keys) ≡ None → (k : Key) → k ∈ keys_in s → AreColumns (length (columns_of s)) k.columns
 keys_fit s sound h k m =
     let r = from_map (key_named s) (where_has_inner s.inner (id_name ∷ []) ++ map (λ (d : KeyDecl). where_inner s.parent up_name ++ d.columns) s.label.keys) {y = k} m in
     subst (λ (y : Key). AreColumns (length (columns_of s)) y.columns) r.2 (columns_fit s r.0 (elim (from_append (where_has_inner s.inner (id_name ∷ [])) r.1) [
@@ -311,13 +312,13 @@ keys_fit s sound h k m =
         subst (AreNames s) d.2 (with_up s d.0.columns sound f.0 f.2 f.1.0)
 
 -- the columns of a dependency without a fault, on both sides
-record IsNamedDep (s : Placed) (d : DepDecl) : Type 0 where
+record IsNamedDep (s : NumberedSet) (d : DepDecl) : Type 0 where
   some_columns : 1 ≤ length d.columns
   some_decided : 1 ≤ length d.decides
   columns : AreNew [] d.columns × (d.columns ⊆ s.label.columns)
   decides : AreNew [] d.decides × (d.decides ⊆ s.label.columns)
 
-dep_columns : (s : Placed) (d : DepDecl) → dep_fault s d ≡ None → IsNamedDep s d
+dep_columns : (s : NumberedSet) (d : DepDecl) → dep_fault s d ≡ None → IsNamedDep s d
 dep_columns s d h =
     let f1 = fault_if (eqb (length d.columns) 0 || eqb (length d.decides) 0) (Bad (BadLink s.label.name)) in
     let f2 = columns_fault s.label.columns [] d.columns in
@@ -332,7 +333,7 @@ dep_columns s d h =
       decides = columns_none_new s.label.columns [] d.decides b.1;
     }
 
-deps_fit : (s : Placed) → IsSound s → first_of (map (dep_fault s) s.label.deps) ≡ None → (d : Dep) → d ∈ deps_in s → IsDep (length (columns_of s)) d
+deps_fit : (s : NumberedSet) → IsSound s → first_of (map (dep_fault s) s.label.deps) ≡ None → (d : Dep) → d ∈ deps_in s → IsDep (length (columns_of s)) d
 deps_fit s sound h d m =
     let r = from_map (dep_named s) s.label.deps {y = d} m in
     let f = dep_columns s r.0 (each_none (dep_fault s) s.label.deps h r.0 r.1) in
@@ -344,37 +345,37 @@ deps_fit s sound h d m =
 -- ---- links
 
 -- the columns of a table are those of its set
-pub columns_are : (all sets : List Placed) → map (λ (t : TableOf). t.columns) (map (table_in all) sets) ≡ map columns_of sets
+pub columns_are : (all sets : List NumberedSet) → map (λ (t : TableOf). t.columns) (map (table_in all) sets) ≡ map columns_of sets
 columns_are all [] = refl
 columns_are all (s ∷ sets) = ap (λ cs. columns_of s ∷ cs) (columns_are all sets)
 
-names_are : (all sets : List Placed) → map (λ (t : TableOf). t.name) (map (table_in all) sets) ≡ names_of sets
+names_are : (all sets : List NumberedSet) → map (λ (t : TableOf). t.name) (map (table_in all) sets) ≡ names_of sets
 names_are all [] = refl
 names_are all (s ∷ sets) = ap (λ ns. s.label.name ∷ ns) (names_are all sets)
 
-columns_at-is : (sets : List Placed) (t : ℕ) (d : Placed) → t < length sets → columns_at sets t ≡ columns_of (get_or sets t d)
+columns_at-is : (sets : List NumberedSet) (t : ℕ) (d : NumberedSet) → t < length sets → columns_at sets t ≡ columns_of (get_or sets t d)
 columns_at-is sets t d lt = get_or-map columns_of sets t d [] lt
 
-declared_at-is : (sets : List Placed) (t : ℕ) (d : Placed) → t < length sets → declared_at sets t ≡ (get_or sets t d).label.columns
-declared_at-is sets t d lt = get_or-map (λ (s : Placed). s.label.columns) sets t d [] lt
+declared_at-is : (sets : List NumberedSet) (t : ℕ) (d : NumberedSet) → t < length sets → declared_at sets t ≡ (get_or sets t d).label.columns
+declared_at-is sets t d lt = get_or-map (λ (s : NumberedSet). s.label.columns) sets t d [] lt
 
 -- a link by names
-record IsNamedLink (sets : List Placed) (s : Placed) (t : ℕ) (mine theirs : List Text) : Type 0 where
+record IsNamedLink (sets : List NumberedSet) (s : NumberedSet) (t : ℕ) (mine theirs : List Text) : Type 0 where
   table : t < length sets
   same_length : length mine ≡ length theirs
   own : AreNames s mine
   inside : theirs ⊆ columns_at sets t
   distinct : Distinct theirs
 
-link_fits : (sets : List Placed) (s : Placed) (t : ℕ) (own referred : List Text) → IsNamedLink sets s t own referred
-    → IsLink (map (table_in sets) sets) (length (columns_of s)) (record { from = numbers_of own (columns_of s); table = t; to = numbers_of referred (columns_at sets t) })
+link_fits : (sets : List NumberedSet) (s : NumberedSet) (t : ℕ) (own referred : List Text) → IsNamedLink sets s t own referred
+    → IsLink (map (table_in sets) sets) (length (columns_of s)) (record { from = numbers_of_names own (columns_of s); table = t; to = numbers_of_names referred (columns_at sets t) })
 link_fits sets s t own referred h =
     let a = numbers_fit (columns_of s) own h.own.1 h.own.2 in
     let b = numbers_fit (columns_at sets t) referred h.inside h.distinct in
     record {
       table = rw (length-map sets (table_in sets)) h.table;
-      some = omega (arith, h.own.0, length-map own (λ x. number_of x (columns_of s)));
-      same_length = length-map own (λ x. number_of x (columns_of s)) ∙ h.same_length ∙ sym (length-map referred (λ x. number_of x (columns_at sets t)));
+      some = omega (arith, h.own.0, length-map own (λ x. number_of_name x (columns_of s)));
+      same_length = length-map own (λ x. number_of_name x (columns_of s)) ∙ h.same_length ∙ sym (length-map referred (λ x. number_of_name x (columns_at sets t)));
       from = a.0;
       to = rw (columns_are sets sets) b.0;
       from_distinct = a.1;
@@ -382,9 +383,9 @@ link_fits sets s t own referred h =
     }
 
 -- the link of a ref
-ref_fits : (sets : List Placed) (s : Placed) (r : RefDecl) → ref_fault sets s r ≡ None → IsNamedLink sets s (number_of r.set (names_of sets)) r.columns r.referred
+ref_fits : (sets : List NumberedSet) (s : NumberedSet) (r : RefDecl) → ref_fault sets s r ≡ None → IsNamedLink sets s (number_of_name r.set (names_of sets)) r.columns r.referred
 ref_fits sets s r h =
-    let t = number_of r.set (names_of sets) in
+    let t = number_of_name r.set (names_of sets) in
     let f1 = fault_if (eqb (length r.columns) 0 || eqb (length r.referred) 0) (Bad (BadLink s.label.name)) in
     let f2 = columns_fault s.label.columns [] r.columns in
     let f3 = fault_if (not (is_among r.set (names_of sets))) (Bad (UnknownName r.set)) in
@@ -397,7 +398,7 @@ ref_fits sets s r h =
     let some = not_empty r.columns (neither (eqb (length r.columns) 0) (eqb (length r.referred) 0) (if_none _ _ a.0)).0 in
     let own = columns_none_new s.label.columns [] r.columns b.0 in
     let there_is : is_among r.set (names_of sets) ≡ true = not_none (is_among r.set (names_of sets)) (Bad (UnknownName r.set)) c.0 in
-    let lt : t < length sets = omega (arith, among_number r.set (names_of sets) there_is, length-map sets (λ (q : Placed). q.label.name)) in
+    let lt : t < length sets = omega (arith, among_number r.set (names_of sets) there_is, length-map sets (λ (q : NumberedSet). q.label.name)) in
     let to = columns_none_new (declared_at sets t) [] r.referred d.0 in
     record {
       table = lt;
@@ -408,7 +409,7 @@ ref_fits sets s r h =
     }
 
 -- the link of an inner set to its parent
-up_fits : (sets : List Placed) (s : Placed) (p : ℕ) → s.parent ≡ Some p → p < length sets → has_sets (get_or sets p s).inner ≡ true → IsNamedLink sets s p (up_name ∷ []) (id_name ∷ [])
+up_fits : (sets : List NumberedSet) (s : NumberedSet) (p : ℕ) → s.parent ≡ Some p → p < length sets → has_sets (get_or sets p s).inner ≡ true → IsNamedLink sets s p (up_name ∷ []) (id_name ∷ [])
 up_fits sets s p e lt h = record {
   table = lt;
   same_length = refl;
@@ -418,21 +419,21 @@ up_fits sets s p e lt h = record {
 }
 
 -- the links of a set's table and its optional ones are of its refs
-abbrev every_ref : List Placed → Placed → List Link
+abbrev every_ref : List NumberedSet → NumberedSet → List Link
 every_ref sets s = link_up sets s s.parent ++ map (link_of sets s) s.label.refs
 
-of_some_refs : (sets : List Placed) (s : Placed) (p : RefDecl → Bool) (l : Link) → l ∈ map (link_of sets s) (filter p s.label.refs) → l ∈ every_ref sets s
+of_some_refs : (sets : List NumberedSet) (s : NumberedSet) (p : RefDecl → Bool) (l : Link) → l ∈ map (link_of sets s) (filter p s.label.refs) → l ∈ every_ref sets s
 of_some_refs sets s p l m =
     let r = from_map (link_of sets s) (filter p s.label.refs) {y = l} m in
     in_right (link_up sets s s.parent) (subst (λ (x : Link). x ∈ map (link_of sets s) s.label.refs) r.2 (in_map (link_of sets s) (from_filter p s.label.refs r.1).0))
 
-of_links : (sets : List Placed) (s : Placed) (l : Link) → l ∈ links_in sets s → l ∈ every_ref sets s
+of_links : (sets : List NumberedSet) (s : NumberedSet) (l : Link) → l ∈ links_in sets s → l ∈ every_ref sets s
 of_links sets s l n = elim (from_append (link_up sets s s.parent) n) [
   | inl a ↦ in_left (map (link_of sets s) s.label.refs) a
   | inr b ↦ of_some_refs sets s (λ r. not r.optional) l b
 ]
 
-links_fit : (f : Forest) (s : Placed) → s ∈ sets_of f → first_of (map (ref_fault (sets_of f) s) s.label.refs) ≡ None
+links_fit : (f : Forest) (s : NumberedSet) → s ∈ sets_of f → first_of (map (ref_fault (sets_of f) s) s.label.refs) ≡ None
     → (l : Link) → l ∈ every_ref (sets_of f) s → IsLink (map (table_in (sets_of f)) (sets_of f)) (length (columns_of s)) l
 links_fit f s m h l n =
     elim (from_append (link_up (sets_of f) s s.parent) n) [
@@ -444,7 +445,7 @@ links_fit f s m h l n =
     referring b =
         let r = from_map (link_of (sets_of f) s) s.label.refs {y = l} b in
         subst (IsLink (map (table_in (sets_of f)) (sets_of f)) (length (columns_of s))) r.2
-        (link_fits (sets_of f) s (number_of r.0.set (names_of (sets_of f))) r.0.columns r.0.referred (ref_fits (sets_of f) s r.0 (each_none (ref_fault (sets_of f) s) s.label.refs h r.0 r.1)))
+        (link_fits (sets_of f) s (number_of_name r.0.set (names_of (sets_of f))) r.0.columns r.0.referred (ref_fits (sets_of f) s r.0 (each_none (ref_fault (sets_of f) s) s.label.refs h r.0 r.1)))
 
     only : (p : ℕ) → s.parent ≡ Some p → l ∈ link_up (sets_of f) s (Some p) → IsLink (map (table_in (sets_of f)) (sets_of f)) (length (columns_of s)) l
     only p e (there b) = elim b [ ]
@@ -461,7 +462,7 @@ links_fit f s m h l n =
 
 -- ---- the whole
 
-rules_none : (sets : List Placed) (s : Placed) → rules_fault sets s ≡ None
+rules_none : (sets : List NumberedSet) (s : NumberedSet) → declarations_fault sets s ≡ None
     → (first_of (map (key_fault s) s.label.keys) ≡ None) × (first_of (map (dep_fault s) s.label.deps) ≡ None) × (first_of (map (ref_fault sets s) s.label.refs) ≡ None)
 rules_none sets s h =
     let keys = first_of (map (key_fault s) s.label.keys) in
@@ -485,14 +486,14 @@ are_tables f h =
       each_table = λ t m. of_table (from_map (table_in (sets_of f)) (sets_of f) {y = t} m) sets.1 rules;
     }
   where
-    of_table : {t : TableOf} → (s : Placed) × (s ∈ sets_of f) × (table_in (sets_of f) s ≡ t) → ((s : Placed) → s ∈ sets_of f → (b : List Text) × (set_fault b s ≡ None))
-        → first_of (map (rules_fault (sets_of f)) (sets_of f)) ≡ None → IsTable (tables_of f) t
+    of_table : {t : TableOf} → (s : NumberedSet) × (s ∈ sets_of f) × (table_in (sets_of f) s ≡ t) → ((s : NumberedSet) → s ∈ sets_of f → (b : List Text) × (set_fault b s ≡ None))
+        → first_of (map (declarations_fault (sets_of f)) (sets_of f)) ≡ None → IsSchemaTable (tables_of f) t
     of_table q sets rules =
         let o = sets q.0 q.1 in
         let sound = sound_of o.0 q.0 o.1 in
-        let r = rules_none (sets_of f) q.0 (each_none (rules_fault (sets_of f)) (sets_of f) rules q.0 q.1) in
+        let r = rules_none (sets_of f) q.0 (each_none (declarations_fault (sets_of f)) (sets_of f) rules q.0 q.1) in
         let wide : 1 ≤ length (columns_of q.0) = omega (arith, sound.some_column, length-append (where_has_inner q.0.inner id_name) (where_inner q.0.parent up_name ++ q.0.label.columns), length-append (where_inner q.0.parent up_name) q.0.label.columns) in
-        subst (IsTable (tables_of f)) q.2 (record {
+        subst (IsSchemaTable (tables_of f)) q.2 (record {
           some_column = wide;
           few_columns = sound.few_columns;
           distinct_columns = sound.columns;

@@ -10,11 +10,11 @@ use Rattle.dx_model.specs.declared.tables.Link.{Link}
 use Rattle.dx_model.specs.Tables.{Table, table_of}
 use Rattle.dx_schema.specs.declared.cycles.Edge.{Edge}
 use Rattle.dx_schema.specs.Forest.{Forest}
-use Rattle.dx_schema.specs.Tables.{TableOf, tables_of, table_at, no_table, model_tables, as_numbers, AreTables, IsTable, IsLink}
+use Rattle.dx_schema.specs.Tables.{TableOf, tables_of, schema_table, no_table, model_tables, as_numbers, AreTables, IsSchemaTable, IsLink}
 use Rattle.dx_schema.specs.Marks.{LeadsTo, step, more, IsCycleOrNone, edges_of}
-use Rattle.dx_schema.specs.Bounds.{HasFewRules, HasNumbers}
+use Rattle.dx_schema.specs.Bounds.{HasFewRules, HasSmallNumbers}
 use Rattle.dx_schema.proofs.Bounds.{tables_numbered}
-use Rattle.dx_schema.specs.Links.{every_link, Leads, directly, further, IsAcyclic, IsFirstCycle}
+use Rattle.dx_schema.specs.Links.{every_link, LeadsByLinks, directly, further, IsAcyclic, IsFirstCycle}
 use Rattle.dx_schema.proofs.Marks.{LeadsTo-snoc}
 
 -- a link of a table
@@ -49,12 +49,12 @@ edge_is schema es e all c =
     let same : r.0 ≡ e.from = omega (arith, r.1) in
     (rw (← same) r.2, subst (λ k. IsLinkAt schema k e.to) same r.3)
 
-front : {schema : List Table} {b c : ℕ} (a : ℕ) → IsLinkAt schema a b → Leads schema b c → Leads schema a c
-front {schema = schema} {b = b} a h (directly l m) = further l (subst (λ t. Leads schema a t) h.2 (directly h.0 h.1)) m
+front : {schema : List Table} {b c : ℕ} (a : ℕ) → IsLinkAt schema a b → LeadsByLinks schema b c → LeadsByLinks schema a c
+front {schema = schema} {b = b} a h (directly l m) = further l (subst (λ t. LeadsByLinks schema a t) h.2 (directly h.0 h.1)) m
 front {schema = schema} {b = b} a h (further l w m) = further l (front a h w) m
 
-leads_from : {es : List Edge} {a b : ℕ} (schema : List Table) → es ≡ edges_of 0 schema → LeadsTo es a b → (a < length schema) × Leads schema a b
-leads_from {es = es} schema all (step e c) = let r = edge_is schema es e all c in (r.0, subst (λ t. Leads schema e.from t) r.1.2 (directly r.1.0 r.1.1))
+leads_from : {es : List Edge} {a b : ℕ} (schema : List Table) → es ≡ edges_of 0 schema → LeadsTo es a b → (a < length schema) × LeadsByLinks schema a b
+leads_from {es = es} schema all (step e c) = let r = edge_is schema es e all c in (r.0, subst (λ t. LeadsByLinks schema e.from t) r.1.2 (directly r.1.0 r.1.1))
 leads_from {es = es} schema all (more e c way) = let r = edge_is schema es e all c in (r.0, front e.from r.1 (leads_from schema all way).1)
 
 contains_edge : (schema : List Table) (es : List Edge) (k : ℕ) (l : Link) → es ≡ edges_of 0 schema → l ∈ every_link (table_of schema k) → Contains es (record { from = k; to = l.table })
@@ -63,12 +63,12 @@ contains_edge schema es k l all m =
     let e : 0 + k ≡ k = omega arith in
     rw all (contains_from_in (subst P e (edge_of 0 schema k l m)))
 
-leads_to : {schema : List Table} {a b : ℕ} (es : List Edge) → es ≡ edges_of 0 schema → Leads schema a b → LeadsTo es a b
+leads_to : {schema : List Table} {a b : ℕ} (es : List Edge) → es ≡ edges_of 0 schema → LeadsByLinks schema a b → LeadsTo es a b
 leads_to {schema = schema} {a = a} es all (directly l m) = step (record { from = a; to = l.table }) (contains_edge schema es a l all m)
 leads_to {schema = schema} {a = a} es all (further {u = u} l w m) = LeadsTo-snoc (leads_to es all w) (record { from = u; to = l.table }) (contains_edge schema es u l all m) refl
 
 -- each link of a table is a link, optional or not
-pub every_fits : (tables : List TableOf) (t : TableOf) → IsTable tables t → (l : Link) → l ∈ (t.links ++ t.optional) → IsLink tables (length t.columns) l
+pub every_fits : (tables : List TableOf) (t : TableOf) → IsSchemaTable tables t → (l : Link) → l ∈ (t.links ++ t.optional) → IsLink tables (length t.columns) l
 every_fits tables t a l m = elim (from_append t.links m) [ inl i ↦ a.links l i | inr i ↦ a.optional l i ]
 
 -- links of tables lead to tables
@@ -125,7 +125,7 @@ judged tables es count None a all n h = acyclic_when tables es count a all n h
 judged tables es count (Some t) a all n h = cycle_when tables es count t all n h
 
 -- the links of a table as numbers are its links, and then its optional ones
-pub every_at : (f : Forest) (t : ℕ) → t < length (tables_of f) → every_link (table_of (model_tables f) t) ≡ (table_at f t).links ++ (table_at f t).optional
+pub every_at : (f : Forest) (t : ℕ) → t < length (tables_of f) → every_link (table_of (model_tables f) t) ≡ (schema_table f t).links ++ (schema_table f t).optional
 every_at f t h = ap every_link (get_or-map as_numbers (tables_of f) t _ _ h)
 
 -- a link by its number, where optional ones come after the others
@@ -141,32 +141,32 @@ pub links_counted : (tables : List TableOf) (f g : Forest) (i : ℕ) (t : TableO
 links_counted tables f g i t e view few lt is =
     let same : tables ≡ tables_of g = e ∙ ap tables_of view in
     let lt' : i < length tables = rw same lt in
-    let at : t ≡ table_at g i = is ∙ (get_or_default tables i t no_table lt' ∙ ap (λ (ts : List TableOf). get_or ts i no_table) same) in
+    let at : t ≡ schema_table g i = is ∙ (get_or_default tables i t no_table lt' ∙ ap (λ (ts : List TableOf). get_or ts i no_table) same) in
     let m : t ∈ tables_of g = subst (λ (ts : List TableOf). t ∈ ts) same (subst (λ (x : TableOf). x ∈ tables) (sym is) (in_at tables i t lt')) in
     let long : length (every_link (table_of (model_tables g) i)) ≡ length (t.links ++ t.optional) = ap length (every_at g i lt) ∙ ap (λ (x : TableOf). length (x.links ++ x.optional)) (sym at) in
     ((tables_numbered f g few view t m).links, sym (long ∙ length-append t.links t.optional))
 
 -- a link of a table by its number
 record IsOwn (g : Forest) (i : ℕ) (t : TableOf) : Type 0 where
-  pub at : t ≡ table_at g i
+  pub at : t ≡ schema_table g i
   pub every : every_link (table_of (model_tables g) i) ≡ t.links ++ t.optional
-  pub fits : (l : Link) → l ∈ (t.links ++ t.optional) → IsLink (tables_of g) (length (table_at g i).columns) l
+  pub fits : (l : Link) → l ∈ (t.links ++ t.optional) → IsLink (tables_of g) (length (schema_table g i).columns) l
 
 own_table : (tables : List TableOf) (f g : Forest) (i : ℕ) (t : TableOf) → tables ≡ tables_of f → f ≡ g → AreTables tables → i < length (tables_of g) → t ≡ get_or tables i t → IsOwn g i t
 own_table tables f g i t e view a lt is =
     let same : tables ≡ tables_of g = e ∙ ap tables_of view in
     let lt' : i < length tables = rw same lt in
-    let at : t ≡ table_at g i = is ∙ (get_or_default tables i t no_table lt' ∙ ap (λ (ts : List TableOf). get_or ts i no_table) same) in
+    let at : t ≡ schema_table g i = is ∙ (get_or_default tables i t no_table lt' ∙ ap (λ (ts : List TableOf). get_or ts i no_table) same) in
     let m : t ∈ tables = subst (λ (x : TableOf). x ∈ tables) (sym is) (in_at tables i t lt') in
     let own : (l : Link) → l ∈ (t.links ++ t.optional) → IsLink tables (length t.columns) l = every_fits tables t (a.each_table t m) in
     record {
       at = at;
       every = every_at g i lt ∙ ap (λ (x : TableOf). x.links ++ x.optional) (sym at);
-      fits = λ l n. subst (λ (ts : List TableOf). IsLink ts (length (table_at g i).columns) l) same (subst (λ (x : TableOf). IsLink tables (length x.columns) l) at (own l n));
+      fits = λ l n. subst (λ (ts : List TableOf). IsLink ts (length (schema_table g i).columns) l) same (subst (λ (x : TableOf). IsLink tables (length x.columns) l) at (own l n));
     }
 
 abbrev pub IsLinkOf : Forest → ℕ → ℕ → Link → Type 0
-IsLinkOf g i k l = (l ≡ get_or (every_link (table_of (model_tables g) i)) k (record { from = []; table = 0; to = [] })) × IsLink (tables_of g) (length (table_at g i).columns) l
+IsLinkOf g i k l = (l ≡ get_or (every_link (table_of (model_tables g) i)) k (record { from = []; table = 0; to = [] })) × IsLink (tables_of g) (length (schema_table g i).columns) l
 
 pub first_link : (tables : List TableOf) (f g : Forest) (i k : ℕ) (t : TableOf) (links : List Link) (l : Link) → tables ≡ tables_of f → f ≡ g → AreTables tables → i < length (tables_of g) → t ≡ get_or tables i t
     → links ≡ t.links → k < length links → l ≡ get_or links k l → IsLinkOf g i k l

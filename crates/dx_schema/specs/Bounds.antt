@@ -13,6 +13,6 @@ abbrev pub HasFewRules : Forest → Type 0
 HasFewRules f = RulesBelow (2 ^ 32 - 2) f
 
 -- the determinations of a table have numbers of 32 bits, its dependencies after its keys, and so have its links, its optional ones after the others
-pub record HasNumbers (t : TableOf) : Type 0 where
+pub record HasSmallNumbers (t : TableOf) : Type 0 where
   pub determinations : length t.keys + length t.deps < 2 ^ 32 - 1
   pub links : length t.links + length t.optional < 2 ^ 32 - 1

@@ -17,8 +17,8 @@ pub record Label : Type 0 where
   pub refs : List RefDecl
 
 -- a set with this name and these columns, and nothing else
-abbrev pub bare : List ℕ → List (List ℕ) → Label
-bare name columns = record { name = name; columns = columns; keys = []; deps = []; refs = [] }
+abbrev pub bare_set : List ℕ → List (List ℕ) → Label
+bare_set name columns = record { name = name; columns = columns; keys = []; deps = []; refs = [] }
 
 -- the sets of one level in order, each with its inner sets
 pub data Forest : Type 0 where
@@ -47,40 +47,40 @@ label_code = code_by ((List ℕ × List (List ℕ)) × (List KeyDecl × (List De
     (λ l. ((l.name, l.columns), (l.keys, (l.deps, l.refs)))) (λ p. record { name = p.0.0; columns = p.0.1; keys = p.1.0; deps = p.1.1.0; refs = p.1.1.1 }) (λ _. refl)
 
 -- a forest as a list: each set, then its inner sets, then the sets after it; `None` where a level ends
-abbrev pub listed : Forest → List (Option Label)
-listed none = None ∷ []
-listed (set l inner rest) = Some l ∷ (listed inner ++ listed rest)
+abbrev pub labels_in_order : Forest → List (Option Label)
+labels_in_order none = None ∷ []
+labels_in_order (set l inner rest) = Some l ∷ (labels_in_order inner ++ labels_in_order rest)
 
 -- the first two of the forests become the inner sets of a set and the sets after it
-abbrev pub joined : Label → List Forest → List Forest
-joined l [] = []
-joined l (i ∷ []) = []
-joined l (i ∷ r ∷ stack) = set l i r ∷ stack
+abbrev pub join_forests : Label → List Forest → List Forest
+join_forests l [] = []
+join_forests l (i ∷ []) = []
+join_forests l (i ∷ r ∷ stack) = set l i r ∷ stack
 
 -- the forests that a list gives, from its end
 abbrev pub stacked : List (Option Label) → List Forest
 stacked [] = []
 stacked (None ∷ rest) = none ∷ stacked rest
-stacked (Some l ∷ rest) = joined l (stacked rest)
+stacked (Some l ∷ rest) = join_forests l (stacked rest)
 
-stacked-listed : (f : Forest) (rest : List (Option Label)) → stacked (listed f ++ rest) ≡ f ∷ stacked rest
+stacked-listed : (f : Forest) (rest : List (Option Label)) → stacked (labels_in_order f ++ rest) ≡ f ∷ stacked rest
 stacked-listed none rest = refl
 stacked-listed (set l i r) rest =
-    let e : stacked ((listed i ++ listed r) ++ rest) ≡ i ∷ r ∷ stacked rest = ap stacked (append_assoc (listed i) (listed r) rest) ∙ stacked-listed i (listed r ++ rest) ∙ ap (λ fs. i ∷ fs) (stacked-listed r rest) in
-    ap (joined l) e
+    let e : stacked ((labels_in_order i ++ labels_in_order r) ++ rest) ≡ i ∷ r ∷ stacked rest = ap stacked (append_assoc (labels_in_order i) (labels_in_order r) rest) ∙ stacked-listed i (labels_in_order r ++ rest) ∙ ap (λ fs. i ∷ fs) (stacked-listed r rest) in
+    ap (join_forests l) e
 
--- the first of some forests, and no sets where there is none
+-- the first of some forests, and no sets if there is none
 abbrev pub first_of_forests : List Forest → Forest
 first_of_forests [] = none
 first_of_forests (f ∷ fs) = f
 
 -- a forest is what its list gives
-pub forest_back : (f : Forest) → first_of_forests (stacked (listed f)) ≡ f
-forest_back f = ap (λ xs. first_of_forests (stacked xs)) (sym (append-nil (listed f))) ∙ ap first_of_forests (stacked-listed f [])
+pub forest_back : (f : Forest) → first_of_forests (stacked (labels_in_order f)) ≡ f
+forest_back f = ap (λ xs. first_of_forests (stacked xs)) (sym (append-nil (labels_in_order f))) ∙ ap first_of_forests (stacked-listed f [])
 
 -- a forest, told by its list
 abbrev pub forest_code : Coded Forest
-forest_code = code_by (List (Option Label)) (coded_list (coded_option label_code)) listed (λ xs. first_of_forests (stacked xs)) forest_back
+forest_code = code_by (List (Option Label)) (coded_list (coded_option label_code)) labels_in_order (λ xs. first_of_forests (stacked xs)) forest_back
 
 -- ---- views
 

@@ -12,11 +12,8 @@ use Rattle.dx_schema.specs.declared.sets.KeyDecl.{KeyDecl}
 use Rattle.dx_schema.specs.declared.sets.DepDecl.{DepDecl}
 use Rattle.dx_schema.specs.declared.sets.RefDecl.{RefDecl}
 use Rattle.dx_schema.specs.declared.tables.Table.{Table}
-use Rattle.dx_schema.specs.Forest.{Label, Forest, Tree, bare, none, set}
-
--- a text, by its bytes
-abbrev pub Text : Type 0
-Text = List ℕ
+use Rattle.dx_schema.specs.Forest.{Label, Forest, Tree, bare_set, none, set}
+use Rattle.dx_ports.specs.Texts.{Text}
 
 -- a table, as the code has it
 abbrev pub TableOf : Type 0
@@ -25,14 +22,14 @@ TableOf = Table
 -- ---- sets in preorder
 
 -- a set, its number, the number of the set that it is an inner set of, and its inner sets
-pub record Placed : Type 0 where
+pub record NumberedSet : Type 0 where
   pub label : Label
   pub number : ℕ
   pub parent : Option ℕ
   pub inner : Forest
 
 -- a set without where it stands
-abbrev pub tree_of : Placed → Tree
+abbrev pub tree_of : NumberedSet → Tree
 tree_of s = record { label = s.label; inner = s.inner }
 
 -- how many sets a forest has, at all depths
@@ -41,88 +38,88 @@ count none = 0
 count (set l inner rest) = suc (count inner + count rest)
 
 -- the sets in preorder, of which the first has number n; those of the top level have this parent
-abbrev pub placed : Option ℕ → ℕ → Forest → List Placed
-placed parent n none = []
-placed parent n (set l inner rest) =
+abbrev pub numbered_sets : Option ℕ → ℕ → Forest → List NumberedSet
+numbered_sets parent n none = []
+numbered_sets parent n (set l inner rest) =
     record { label = l; number = n; parent = parent; inner = inner }
-    ∷ (placed (Some n) (suc n) inner ++ placed parent (suc (n + count inner)) rest)
+    ∷ (numbered_sets (Some n) (suc n) inner ++ numbered_sets parent (suc (n + count inner)) rest)
 
 -- the sets of a schema in preorder, numbered from 0
-abbrev pub sets_of : Forest → List Placed
-sets_of f = placed None 0 f
+abbrev pub sets_of : Forest → List NumberedSet
+sets_of f = numbered_sets None 0 f
 
 -- the numbers of the sets of one level, of which the first has number n
-abbrev pub numbers_in : ℕ → Forest → List ℕ
-numbers_in n none = []
-numbers_in n (set l inner rest) = n ∷ numbers_in (suc (n + count inner)) rest
+abbrev pub level_numbers : ℕ → Forest → List ℕ
+level_numbers n none = []
+level_numbers n (set l inner rest) = n ∷ level_numbers (suc (n + count inner)) rest
 
 -- ---- columns
 
--- a name in front where a set has inner sets
+-- a name in front if a set has inner sets
 abbrev pub where_has_inner : {X : Type 0} → Forest → X → List X
 where_has_inner none x = []
 where_has_inner (set l inner rest) x = x ∷ []
 
--- a name in front where a set is an inner set
+-- a name in front if a set is an inner set
 abbrev pub where_inner : {X : Type 0} → Option ℕ → X → List X
 where_inner None x = []
 where_inner (Some p) x = x ∷ []
 
--- the columns of a set's table: `#id` where it has inner sets, `#up` where it is an inner set, then its own
-abbrev pub columns_of : Placed → List Text
+-- the columns of a set's table: `#id` if it has inner sets, `#up` if it is an inner set, then its own
+abbrev pub columns_of : NumberedSet → List Text
 columns_of s = where_has_inner s.inner (codes "#id") ++ (where_inner s.parent (codes "#up") ++ s.label.columns)
 
 -- the number of the first of the names that is x, or how many names there are
-abbrev pub number_of : Text → List Text → ℕ
-number_of x [] = 0
-number_of x (y ∷ ys) = cond (pointwise nat_eq y x) 0 (suc (number_of x ys))
+abbrev pub number_of_name : Text → List Text → ℕ
+number_of_name x [] = 0
+number_of_name x (y ∷ ys) = cond (pointwise nat_eq y x) 0 (suc (number_of_name x ys))
 
 -- the numbers of names
-abbrev pub numbers_of : List Text → List Text → List ℕ
-numbers_of names columns = map (λ x. number_of x columns) names
+abbrev pub numbers_of_names : List Text → List Text → List ℕ
+numbers_of_names names columns = map (λ x. number_of_name x columns) names
 
 -- ---- keys, dependencies and links
 
 -- a key by the names of its columns
-abbrev pub key_named : Placed → List Text → Key
-key_named s names = record { columns = numbers_of names (columns_of s) }
+abbrev pub key_named : NumberedSet → List Text → Key
+key_named s names = record { columns = numbers_of_names names (columns_of s) }
 
--- the keys of a set's table: `#id` where it has that column, then each declared key, of an inner set with `#up` in front
-abbrev pub keys_in : Placed → List Key
+-- the keys of a set's table: `#id` if it has that column, then each declared key, of an inner set with `#up` in front
+abbrev pub keys_in : NumberedSet → List Key
 keys_in s =
     map (key_named s) (where_has_inner s.inner (codes "#id" ∷ []) ++ map (λ (k : KeyDecl). where_inner s.parent (codes "#up") ++ k.columns) s.label.keys)
 
 -- a dependency by the names of its columns, of an inner set with `#up` in front of those on the left
-abbrev pub dep_named : Placed → DepDecl → Dep
+abbrev pub dep_named : NumberedSet → DepDecl → Dep
 dep_named s d =
     record {
-      columns = numbers_of (where_inner s.parent (codes "#up") ++ d.columns) (columns_of s);
-      decides = numbers_of d.decides (columns_of s);
+      columns = numbers_of_names (where_inner s.parent (codes "#up") ++ d.columns) (columns_of s);
+      decides = numbers_of_names d.decides (columns_of s);
     }
 
 -- the dependencies of a set's table: each declared one
-abbrev pub deps_in : Placed → List Dep
+abbrev pub deps_in : NumberedSet → List Dep
 deps_in s = map (dep_named s) s.label.deps
 
 -- the names of sets
-abbrev pub names_of : List Placed → List Text
+abbrev pub names_of : List NumberedSet → List Text
 names_of sets = map (λ s. s.label.name) sets
 
 -- the columns of the set with a number
-abbrev pub columns_at : List Placed → ℕ → List Text
+abbrev pub columns_at : List NumberedSet → ℕ → List Text
 columns_at sets t = slice_index_or (map columns_of sets) t []
 
 -- the link of a ref
-abbrev pub link_of : List Placed → Placed → RefDecl → Link
+abbrev pub link_of : List NumberedSet → NumberedSet → RefDecl → Link
 link_of sets s r =
-    let t = number_of r.set (names_of sets) in
-    record { from = numbers_of r.columns (columns_of s); table = t; to = numbers_of r.referred (columns_at sets t) }
+    let t = number_of_name r.set (names_of sets) in
+    record { from = numbers_of_names r.columns (columns_of s); table = t; to = numbers_of_names r.referred (columns_at sets t) }
 
 -- the link of an inner set to the set that it is in
-abbrev pub link_up : List Placed → Placed → Option ℕ → List Link
+abbrev pub link_up : List NumberedSet → NumberedSet → Option ℕ → List Link
 link_up sets s None = []
 link_up sets s (Some p) =
-    record { from = numbers_of (codes "#up" ∷ []) (columns_of s); table = p; to = numbers_of (codes "#id" ∷ []) (columns_at sets p) } ∷ []
+    record { from = numbers_of_names (codes "#up" ∷ []) (columns_of s); table = p; to = numbers_of_names (codes "#id" ∷ []) (columns_at sets p) } ∷ []
 
 -- the refs that aren't optional, in order
 abbrev pub firm_refs : List RefDecl → List RefDecl
@@ -132,19 +129,19 @@ firm_refs refs = filter (λ r. not r.optional) refs
 abbrev pub optional_refs : List RefDecl → List RefDecl
 optional_refs refs = filter (λ r. r.optional) refs
 
--- the links of a set's table: that of `#up` to `#id` where it has that column, then each ref that isn't optional
-abbrev pub links_in : List Placed → Placed → List Link
+-- the links of a set's table: that of `#up` to `#id` if it has that column, then each ref that isn't optional
+abbrev pub links_in : List NumberedSet → NumberedSet → List Link
 links_in sets s = link_up sets s s.parent ++ map (link_of sets s) (firm_refs s.label.refs)
 
 -- the optional links of a set's table: each optional ref
-abbrev pub optional_in : List Placed → Placed → List Link
+abbrev pub optional_in : List NumberedSet → NumberedSet → List Link
 optional_in sets s = map (link_of sets s) (optional_refs s.label.refs)
 
 -- ---- tables
 
 -- a set as a table, among the sets of its schema
-abbrev pub table_in : List Placed → Placed → TableOf
-table_in sets s = record { name = s.label.name; columns = columns_of s; keys = keys_in s; deps = deps_in s; links = links_in sets s; optional = optional_in sets s; parent = s.parent; inner = numbers_in (suc s.number) s.inner }
+abbrev pub table_in : List NumberedSet → NumberedSet → TableOf
+table_in sets s = record { name = s.label.name; columns = columns_of s; keys = keys_in s; deps = deps_in s; links = links_in sets s; optional = optional_in sets s; parent = s.parent; inner = level_numbers (suc s.number) s.inner }
 
 -- the tables of a schema: its sets in preorder
 abbrev pub tables_of : Forest → List TableOf
@@ -155,8 +152,8 @@ abbrev pub no_table : TableOf
 no_table = record { name = []; columns = []; keys = []; deps = []; links = []; optional = []; parent = None; inner = [] }
 
 -- the table with a number
-abbrev pub table_at : Forest → ℕ → TableOf
-table_at f t = slice_index_or (tables_of f) t no_table
+abbrev pub schema_table : Forest → ℕ → TableOf
+schema_table f t = slice_index_or (tables_of f) t no_table
 
 -- a dependency: its columns determine those that it decides
 abbrev pub dep_of : Dep → Determination
@@ -179,8 +176,8 @@ abbrev pub schema_widths : Forest → List ℕ
 schema_widths f = map (λ (t : TableOf). length t.columns) (tables_of f)
 
 -- what stands at a number that no set has
-abbrev pub nowhere : Placed
-nowhere = record { label = bare [] []; number = 0; parent = None; inner = none }
+abbrev pub nowhere : NumberedSet
+nowhere = record { label = bare_set [] []; number = 0; parent = None; inner = none }
 
 -- the set with a number, with its inner sets
 abbrev pub tree_at : Forest → ℕ → Tree
@@ -214,7 +211,7 @@ pub record IsLink (tables : List TableOf) (width : ℕ) (link : Link) : Type 0 w
   pub to_distinct : Distinct link.to
 
 -- what holds of a table among those of its schema
-pub record IsTable (tables : List TableOf) (t : TableOf) : Type 0 where
+pub record IsSchemaTable (tables : List TableOf) (t : TableOf) : Type 0 where
   pub some_column : 1 ≤ length t.columns
   pub few_columns : length t.columns ≤ 64
   pub distinct_columns : Distinct t.columns
@@ -227,4 +224,4 @@ pub record IsTable (tables : List TableOf) (t : TableOf) : Type 0 where
 pub record AreTables (tables : List TableOf) : Type 0 where
   pub few_tables : length tables ≤ 64
   pub distinct_names : Distinct (map (λ (t : TableOf). t.name) tables)
-  pub each_table : Each tables (IsTable tables)
+  pub each_table : Each tables (IsSchemaTable tables)

@@ -3,9 +3,9 @@ ghost use Rattle.std.specs.Prelude.{◌≡◌, ◌<◌, ◌≤◌, ◌↔◌, �
 ghost use Rattle.dx_ports.specs.Members.{◌∈◌, Each};
 ghost use Rattle.dx_model.specs.Tables.{DeterminationsFit, table_of};
 ghost use Rattle.dx_schema.specs.Forest.{forest_of};
-ghost use Rattle.dx_schema.specs.Tables.{count, tables_of, table_at, tree_at, model_tables, number_of, schema_widths, AreTables, IsLink};
-ghost use Rattle.dx_schema.specs.Bounds.{HasFewRules, HasNumbers};
-ghost use Rattle.dx_schema.specs.Links.{every_link, IsAcyclic, IsFaultless, IsFirstFault};
+ghost use Rattle.dx_schema.specs.Tables.{count, tables_of, schema_table, tree_at, model_tables, number_of_name, schema_widths, AreTables, IsLink};
+ghost use Rattle.dx_schema.specs.Bounds.{HasFewRules, HasSmallNumbers};
+ghost use Rattle.dx_schema.specs.Links.{every_link, IsAcyclic, IsFaultless, IsFirstSchemaFault};
 ghost use Rattle.dx_schema.specs.declared.fault.SchemaFault.TheVariants.{Memory};
 
 use crate::build::checked_tables;
@@ -76,7 +76,7 @@ impl Schema {
         requires few { HasFewRules trees }
         ensures ok { IfOk result (λ s. s ≡ trees) }
         ensures faultless { OnOk result (IsFaultless trees) }
-        ensures fault { IfErr result (λ e. (e ≡ Memory) ⊎ IsFirstFault trees e) }
+        ensures fault { IfErr result (λ e. (e ≡ Memory) ⊎ IsFirstSchemaFault trees e) }
     {
         let tables = checked_tables(alloc, &trees)?;
         Ok(Schema { trees, tables })
@@ -88,7 +88,7 @@ impl Schema {
         ensures facts { AreTables (tables_of self.now) }
         ensures fits { DeterminationsFit (model_tables self.now) }
         ensures acyclic { IsAcyclic (model_tables self.now) }
-        ensures numbers { Each (tables_of self.now) HasNumbers }
+        ensures numbers { Each (tables_of self.now) HasSmallNumbers }
     {
         self.tables.len() as u32
     }
@@ -113,7 +113,7 @@ impl Schema {
     /// The name of a table.
     pub fn name(&self, table: u32) -> &Text
         requires { table < length (tables_of self.now) }
-        ensures { result.now ≡ (table_at self.now table).name }
+        ensures { result.now ≡ (schema_table self.now table).name }
     {
         &self.tables[table as usize].name
     }
@@ -121,7 +121,7 @@ impl Schema {
     /// How many columns a table has.
     pub fn width(&self, table: u32) -> u32
         requires { table < length (tables_of self.now) }
-        ensures number { result ≡ length (table_at self.now table).columns }
+        ensures number { result ≡ length (schema_table self.now table).columns }
         ensures some { 1 ≤ result }
         ensures few { result ≤ 64 }
     {
@@ -131,7 +131,7 @@ impl Schema {
     /// The names of a table's columns.
     pub fn columns(&self, table: u32) -> &[Text]
         requires { table < length (tables_of self.now) }
-        ensures names { result.now ≡ (table_at self.now table).columns }
+        ensures names { result.now ≡ (schema_table self.now table).columns }
         ensures few { length result.now ≤ 64 }
     {
         self.tables[table as usize].columns.items()
@@ -140,15 +140,15 @@ impl Schema {
     /// The name of a column.
     pub fn column_name(&self, table: u32, column: u32) -> &Text
         requires table { table < length (tables_of self.now) }
-        requires column { column < length (table_at self.now table).columns }
-        ensures { result.now ≡ slice_index_or (table_at self.now table).columns column [] }
+        requires column { column < length (schema_table self.now table).columns }
+        ensures { result.now ≡ slice_index_or (schema_table self.now table).columns column [] }
     {
         &self.columns(table)[column as usize]
     }
 
     /// The table of this name. None if there is none.
     pub fn table_named(&self, name: &Text) -> Option<u32>
-        ensures some { IfSome result (λ t. (t < length (tables_of self.now)) × ((table_at self.now t).name ≡ name.now)) }
+        ensures some { IfSome result (λ t. (t < length (tables_of self.now)) × ((schema_table self.now t).name ≡ name.now)) }
         ensures none { IsSome result ↔ (name.now ∈ map (λ t. t.name) (tables_of self.now)) }
     {
         for (number, table) in self.tables.iter().enumerate() {
@@ -162,9 +162,9 @@ impl Schema {
     /// The column of this name. None if there is none.
     pub fn column_named(&self, table: u32, name: &Text) -> Option<u32>
         requires { table < length (tables_of self.now) }
-        ensures some { IfSome result (λ c. (c < length (table_at self.now table).columns)
-            × (slice_index_or (table_at self.now table).columns c [] ≡ name.now)) }
-        ensures none { IsSome result ↔ (name.now ∈ (table_at self.now table).columns) }
+        ensures some { IfSome result (λ c. (c < length (schema_table self.now table).columns)
+            × (slice_index_or (schema_table self.now table).columns c [] ≡ name.now)) }
+        ensures none { IsSome result ↔ (name.now ∈ (schema_table self.now table).columns) }
     {
         number_in(self.columns(table), name)
     }
@@ -172,7 +172,7 @@ impl Schema {
     /// The keys of a table.
     pub fn keys_of(&self, table: u32) -> &[Key]
         requires { table < length (tables_of self.now) }
-        ensures { result.now ≡ (table_at self.now table).keys }
+        ensures { result.now ≡ (schema_table self.now table).keys }
     {
         self.tables[table as usize].keys.items()
     }
@@ -180,7 +180,7 @@ impl Schema {
     /// The dependencies of a table.
     pub fn deps_of(&self, table: u32) -> &[Dep]
         requires { table < length (tables_of self.now) }
-        ensures { result.now ≡ (table_at self.now table).deps }
+        ensures { result.now ≡ (schema_table self.now table).deps }
     {
         self.tables[table as usize].deps.items()
     }
@@ -188,7 +188,7 @@ impl Schema {
     /// The links of a table.
     pub fn links_of(&self, table: u32) -> &[Link]
         requires { table < length (tables_of self.now) }
-        ensures { result.now ≡ (table_at self.now table).links }
+        ensures { result.now ≡ (schema_table self.now table).links }
     {
         self.tables[table as usize].links.items()
     }
@@ -196,7 +196,7 @@ impl Schema {
     /// The optional links of a table.
     pub fn optional_links_of(&self, table: u32) -> &[Link]
         requires { table < length (tables_of self.now) }
-        ensures { result.now ≡ (table_at self.now table).optional }
+        ensures { result.now ≡ (schema_table self.now table).optional }
     {
         self.tables[table as usize].optional.items()
     }
@@ -210,12 +210,12 @@ impl Schema {
         (own.links.len() + own.optional.len()) as u32
     }
 
-    /// A link of a table by its number, where optional links come after the others.
+    /// A link of a table by its number, if optional links come after the others.
     pub fn link(&self, table: u32, number: u32) -> &Link
         requires table { table < length (tables_of self.now) }
         requires number { number < length (every_link (table_of (model_tables self.now) table)) }
         ensures link { result.now ≡ slice_index_or (every_link (table_of (model_tables self.now) table)) number (record { from = []; table = 0; to = [] }) }
-        ensures is { IsLink (tables_of self.now) (length (table_at self.now table).columns) result.now }
+        ensures is { IsLink (tables_of self.now) (length (schema_table self.now table).columns) result.now }
     {
         let own = &self.tables[table as usize];
         let links = own.links.items();
@@ -230,7 +230,7 @@ impl Schema {
     /// The table of the set that a table's set is an inner set of. None for a set of the top level.
     pub fn parent(&self, table: u32) -> Option<u32>
         requires { table < length (tables_of self.now) }
-        ensures { result ≡ (table_at self.now table).parent }
+        ensures { result ≡ (schema_table self.now table).parent }
     {
         self.tables[table as usize].parent
     }
@@ -238,7 +238,7 @@ impl Schema {
     /// The tables of a set's inner sets, in order.
     pub fn inner(&self, table: u32) -> &[u32]
         requires { table < length (tables_of self.now) }
-        ensures { result.now ≡ (table_at self.now table).inner }
+        ensures { result.now ≡ (schema_table self.now table).inner }
     {
         self.tables[table as usize].inner.items()
     }
@@ -246,7 +246,7 @@ impl Schema {
     /// Whether a table has the column `#id`, which it has if its set has inner sets.
     pub fn has_id(&self, table: u32) -> bool
         requires { table < length (tables_of self.now) }
-        ensures { IsTrue result ↔ (0 < length (table_at self.now table).inner) }
+        ensures { IsTrue result ↔ (0 < length (schema_table self.now table).inner) }
     {
         !self.inner(table).is_empty()
     }

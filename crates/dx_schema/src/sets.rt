@@ -1,7 +1,7 @@
 // Sets as they are declared, each with its inner sets.
 ghost use Rattle.std.specs.Prelude.{◌≡◌, ◌≤◌, ◌↔◌, [], OnOk, OnErr, IsTrue, not};
 ghost use Rattle.dx_schema.specs.Bounds.{HasFewRules};
-ghost use Rattle.dx_schema.specs.Forest.{bare, forest_of, followed_by, has_sets, none, set};
+ghost use Rattle.dx_schema.specs.Forest.{bare_set, forest_of, followed_by, has_sets, none, set};
 ghost use Rattle.dx_schema.specs.Tables.{count};
 
 use crate::nodes::count_sets;
@@ -91,7 +91,7 @@ impl Model for Trees {
 impl SetTree {
     /// A set with these columns, without keys, dependencies, refs and inner sets. It takes no memory.
     pub fn new(alloc: Global, name: Text, columns: Items<Text>) -> SetTree
-        ensures { result ≡ record { label = bare name columns; inner = none } }
+        ensures { result ≡ record { label = bare_set name columns; inner = none } }
     {
         SetTree {
             name,

@@ -1,8 +1,8 @@
 // Sets as tables.
 ghost use Rattle.std.specs.Prelude.{◌≡◌, ◌<◌, ◌≤◌, ◌+◌, ◌++◌, [], ◌∷◌, length, map, codes, IfOk, OnOk, slice_index_or};
 ghost use Rattle.dx_ports.specs.Members.{Each};
-ghost use Rattle.dx_schema.specs.Tables.{columns_of, count, names_of, numbers_of, where_inner, where_has_inner, columns_at, firm_refs, key_named, keys_in, dep_named, deps_in, link_of, link_up, links_in, optional_in, table_in};
-ghost use Rattle.dx_schema.specs.Nodes.{seen};
+ghost use Rattle.dx_schema.specs.Tables.{columns_of, count, names_of, numbers_of_names, where_inner, where_has_inner, columns_at, firm_refs, key_named, keys_in, dep_named, deps_in, link_of, link_up, links_in, optional_in, table_in};
+ghost use Rattle.dx_schema.specs.Nodes.{node_view};
 
 use crate::checks::columns_made;
 use crate::names::{copies, number_among, numbers_among};
@@ -31,7 +31,7 @@ pub struct Table {
 // The number of one name, as a list.
 fn number_alone(alloc: Global, all: &[Text], name: &str) -> Result<Items<u32>, AllocError>
     requires { length all.now ≤ 64 }
-    ensures { IfOk result (λ ns. ns ≡ numbers_of (name.now ∷ []) all.now) }
+    ensures { IfOk result (λ ns. ns ≡ numbers_of_names (name.now ∷ []) all.now) }
 {
     let mut out = Items::new(alloc);
     out.push(number_among(all, &Text::from_str(alloc, name)?))?;
@@ -52,11 +52,11 @@ fn key_names(alloc: Global, node: &Node, columns: &[Text]) -> Result<Items<Text>
     Ok(names)
 }
 
-// The key of `#id`, where the set has inner sets.
+// The key of `#id`, if the set has inner sets.
 fn keys_begun(alloc: Global, node: &Node, own: &[Text]) -> Result<Items<Key>, AllocError>
-    requires columns { own.now ≡ columns_of (seen node.now) }
+    requires columns { own.now ≡ columns_of (node_view node.now) }
     requires few { length own.now ≤ 64 }
-    ensures { IfOk result (λ keys. keys ≡ map (key_named (seen node.now)) (where_has_inner (seen node.now).inner (codes "#id" ∷ []))) }
+    ensures { IfOk result (λ keys. keys ≡ map (key_named (node_view node.now)) (where_has_inner (node_view node.now).inner (codes "#id" ∷ []))) }
 {
     let tree = node.tree;
     let mut keys = Items::new(alloc);
@@ -69,9 +69,9 @@ fn keys_begun(alloc: Global, node: &Node, own: &[Text]) -> Result<Items<Key>, Al
 
 // The keys of a set's table.
 fn keys_made(alloc: Global, node: &Node, own: &[Text]) -> Result<Items<Key>, AllocError>
-    requires columns { own.now ≡ columns_of (seen node.now) }
+    requires columns { own.now ≡ columns_of (node_view node.now) }
     requires few { length own.now ≤ 64 }
-    ensures { IfOk result (λ keys. keys ≡ keys_in (seen node.now)) }
+    ensures { IfOk result (λ keys. keys ≡ keys_in (node_view node.now)) }
 {
     let tree = node.tree;
     let mut keys = keys_begun(alloc, node, own)?;
@@ -85,9 +85,9 @@ fn keys_made(alloc: Global, node: &Node, own: &[Text]) -> Result<Items<Key>, All
 
 // A dependency of a set's table.
 fn dep_made(alloc: Global, node: &Node, own: &[Text], dep: &DepDecl) -> Result<Dep, AllocError>
-    requires columns { own.now ≡ columns_of (seen node.now) }
+    requires columns { own.now ≡ columns_of (node_view node.now) }
     requires few { length own.now ≤ 64 }
-    ensures { IfOk result (λ d. d ≡ dep_named (seen node.now) dep.now) }
+    ensures { IfOk result (λ d. d ≡ dep_named (node_view node.now) dep.now) }
 {
     let names = key_names(alloc, node, dep.columns.items())?;
     let columns = numbers_among(alloc, own, names.items())?;
@@ -97,9 +97,9 @@ fn dep_made(alloc: Global, node: &Node, own: &[Text], dep: &DepDecl) -> Result<D
 
 // The dependencies of a set's table.
 fn deps_made(alloc: Global, node: &Node, own: &[Text]) -> Result<Items<Dep>, AllocError>
-    requires columns { own.now ≡ columns_of (seen node.now) }
+    requires columns { own.now ≡ columns_of (node_view node.now) }
     requires few { length own.now ≤ 64 }
-    ensures { IfOk result (λ deps. deps ≡ deps_in (seen node.now)) }
+    ensures { IfOk result (λ deps. deps ≡ deps_in (node_view node.now)) }
 {
     let tree = node.tree;
     let mut deps = Items::new(alloc);
@@ -129,13 +129,13 @@ fn link_made(
     own: &[Text],
     link: &RefDecl,
 ) -> Result<Link, AllocError>
-    requires names { names.now ≡ names_of (map seen sets.now) }
+    requires names { names.now ≡ names_of (map node_view sets.now) }
     requires few_names { length names.now ≤ 64 }
-    requires columns { columns.now ≡ map columns_of (map seen sets.now) }
+    requires columns { columns.now ≡ map columns_of (map node_view sets.now) }
     requires few { Each columns.now (λ c. length c ≤ 64) }
-    requires own { own.now ≡ columns_of (seen node.now) }
+    requires own { own.now ≡ columns_of (node_view node.now) }
     requires few_own { length own.now ≤ 64 }
-    ensures { IfOk result (λ l. l ≡ link_of (map seen sets.now) (seen node.now) link.now) }
+    ensures { IfOk result (λ l. l ≡ link_of (map node_view sets.now) (node_view node.now) link.now) }
 {
     let table = number_among(names, &link.set);
     let from = numbers_among(alloc, own, link.columns.items())?;
@@ -152,11 +152,11 @@ fn links_begun(
     node: &Node,
     own: &[Text],
 ) -> Result<Items<Link>, AllocError>
-    requires columns { columns.now ≡ map columns_of (map seen sets.now) }
+    requires columns { columns.now ≡ map columns_of (map node_view sets.now) }
     requires few { Each columns.now (λ c. length c ≤ 64) }
-    requires own { own.now ≡ columns_of (seen node.now) }
+    requires own { own.now ≡ columns_of (node_view node.now) }
     requires few_own { length own.now ≤ 64 }
-    ensures { IfOk result (λ links. links ≡ link_up (map seen sets.now) (seen node.now) (seen node.now).parent) }
+    ensures { IfOk result (λ links. links ≡ link_up (map node_view sets.now) (node_view node.now) (node_view node.now).parent) }
 {
     let mut links = Items::new(alloc);
     if let Some(table) = node.parent {
@@ -176,13 +176,13 @@ fn links_made(
     node: &Node,
     own: &[Text],
 ) -> Result<Items<Link>, AllocError>
-    requires names { names.now ≡ names_of (map seen sets.now) }
+    requires names { names.now ≡ names_of (map node_view sets.now) }
     requires few_names { length names.now ≤ 64 }
-    requires columns { columns.now ≡ map columns_of (map seen sets.now) }
+    requires columns { columns.now ≡ map columns_of (map node_view sets.now) }
     requires few { Each columns.now (λ c. length c ≤ 64) }
-    requires own { own.now ≡ columns_of (seen node.now) }
+    requires own { own.now ≡ columns_of (node_view node.now) }
     requires few_own { length own.now ≤ 64 }
-    ensures { IfOk result (λ links. links ≡ links_in (map seen sets.now) (seen node.now)) }
+    ensures { IfOk result (λ links. links ≡ links_in (map node_view sets.now) (node_view node.now)) }
 {
     let tree = node.tree;
     let mut links = links_begun(alloc, columns, sets, node, own)?;
@@ -203,13 +203,13 @@ fn optional_made(
     node: &Node,
     own: &[Text],
 ) -> Result<Items<Link>, AllocError>
-    requires names { names.now ≡ names_of (map seen sets.now) }
+    requires names { names.now ≡ names_of (map node_view sets.now) }
     requires few_names { length names.now ≤ 64 }
-    requires columns { columns.now ≡ map columns_of (map seen sets.now) }
+    requires columns { columns.now ≡ map columns_of (map node_view sets.now) }
     requires few { Each columns.now (λ c. length c ≤ 64) }
-    requires own { own.now ≡ columns_of (seen node.now) }
+    requires own { own.now ≡ columns_of (node_view node.now) }
     requires few_own { length own.now ≤ 64 }
-    ensures { IfOk result (λ links. links ≡ optional_in (map seen sets.now) (seen node.now)) }
+    ensures { IfOk result (λ links. links ≡ optional_in (map node_view sets.now) (node_view node.now)) }
 {
     let tree = node.tree;
     let mut links = Items::new(alloc);
@@ -230,14 +230,14 @@ fn table_made(
     node: &Node,
     own: &[Text],
 ) -> Result<Table, AllocError>
-    requires names { names.now ≡ names_of (map seen sets.now) }
+    requires names { names.now ≡ names_of (map node_view sets.now) }
     requires few_names { length names.now ≤ 64 }
-    requires columns { columns.now ≡ map columns_of (map seen sets.now) }
+    requires columns { columns.now ≡ map columns_of (map node_view sets.now) }
     requires few { Each columns.now (λ c. length c ≤ 64) }
-    requires own { own.now ≡ columns_of (seen node.now) }
+    requires own { own.now ≡ columns_of (node_view node.now) }
     requires few_own { length own.now ≤ 64 }
-    requires bounded { (seen node.now).number + count (seen node.now).inner < 64 }
-    ensures { IfOk result (λ table. table ≡ table_in (map seen sets.now) (seen node.now)) }
+    requires bounded { (node_view node.now).number + count (node_view node.now).inner < 64 }
+    ensures { IfOk result (λ table. table ≡ table_in (map node_view sets.now) (node_view node.now)) }
 {
     let tree = node.tree;
     Ok(Table {
@@ -254,7 +254,7 @@ fn table_made(
 
 // The columns of each set's table.
 fn all_columns(alloc: Global, sets: &[Node]) -> Result<Items<Items<Text>>, AllocError>
-    ensures { IfOk result (λ columns. columns ≡ map columns_of (map seen sets.now)) }
+    ensures { IfOk result (λ columns. columns ≡ map columns_of (map node_view sets.now)) }
 {
     let mut columns = Items::new(alloc);
     for node in sets {
@@ -265,11 +265,11 @@ fn all_columns(alloc: Global, sets: &[Node]) -> Result<Items<Items<Text>>, Alloc
 
 /// The tables of sets, in order.
 pub fn tables_made(alloc: Global, names: &[Text], sets: &[Node]) -> Result<Vec<Table>, AllocError>
-    requires names { names.now ≡ names_of (map seen sets.now) }
+    requires names { names.now ≡ names_of (map node_view sets.now) }
     requires few_names { length names.now ≤ 64 }
-    requires few { Each (map columns_of (map seen sets.now)) (λ c. length c ≤ 64) }
-    requires bounded { Each (map seen sets.now) (λ s. s.number + count s.inner < 64) }
-    ensures { IfOk result (λ tables. tables.items ≡ map (table_in (map seen sets.now)) (map seen sets.now)) }
+    requires few { Each (map columns_of (map node_view sets.now)) (λ c. length c ≤ 64) }
+    requires bounded { Each (map node_view sets.now) (λ s. s.number + count s.inner < 64) }
+    ensures { IfOk result (λ tables. tables.items ≡ map (table_in (map node_view sets.now)) (map node_view sets.now)) }
 {
     let columns = all_columns(alloc, sets)?;
     let mut tables = Vec::new(alloc);

@@ -21,9 +21,9 @@ use Rattle.dx_schema_text.specs.declared.texts.RuleText.{RuleText}
 use Rattle.dx_schema_text.specs.declared.texts.OnlyText.{OnlyText}
 use Rattle.dx_schema_text.specs.declared.texts.MappingText.{MappingText}
 use Rattle.dx_schema_text.specs.declared.mapping.ItemText.{ItemText}
-use Rattle.dx_schema_text.specs.Grammar.{is_word, word_is, number_is, mark_is, since_two, since_three}
-use Rattle.dx_schema_text.specs.Reading.{comma_word, words_reader, key_reader, decided_reader, dep_reader, optional_reader, referred_reader, ref_reader, key_clause, dep_clause, ref_clause, set_clause, begins_determination, determination_reader, begins_clause, last_clause_reader, clause_reader_with, set_head_reader, set_reader_of, clause_reader, set_reader, tree_of, place_reader, comma_place, places_reader, string_reader, column_reader, call_reader, named_reader, source_reader, line_reader, name_reader, literal_reader, cell_reader, comma_cell, cells_reader, atom_reader, comma_atom, atoms_reader, derived_reader, comma_derived, where_reader, optional_where, rule_reader, only_reader, line_item, rule_item, only_item, begins_item, item_reader, side_reader, body_reader, numbered_reader, mapping_text, mapping_reader}
-use Rattle.dx_schema_text.specs.Spelling.{IsMark, IsKeyword, Comma, comma_then, Parted, parted, SpellsName, name_of, SpellsKey, key_of, SpellsDep, dep_of, SpellsOptional, not_optional, is_optional, SpellsRef, ref_of, SpellsHead, head_of, SpellsSet, set_of, SpellsClauses, no_clause, clause_first, SpellsClause, a_key, a_dep, a_ref, a_set, SpellsPlace, place_of, SpellsSource, a_literal, a_column, a_call, SpellsLine, line_of, SpellsCell, a_name, a_text, SpellsAtom, atom_of, SpellsDerived, derived_of, SpellsWhere, no_where, where_of, SpellsRule, rule_of, SpellsOnly, only_of, SpellsItem, a_line, a_rule, a_condition, SpellsSide, side_of, IsVersion, version_one, version_two, version_three, SpellsMapping, mapping_of}
+use Rattle.dx_schema_text.specs.Grammar.{is_word, word_is, digit_is, mark_is, since_two, since_three}
+use Rattle.dx_schema_text.specs.Reading.{comma_word, words_reader, key_reader, decided_reader, dep_reader, optional_reader, referred_reader, ref_reader, key_clause, dep_clause, ref_clause, set_clause, begins_determination, determination_reader, begins_clause, last_clause_reader, clause_reader_with, set_head_reader, set_reader_of, clause_reader, set_reader, tree_of_clauses, place_reader, comma_place, places_reader, string_reader, column_reader, call_reader, named_reader, source_reader, line_reader, name_reader, literal_reader, cell_reader, comma_cell, cells_reader, atom_reader, comma_atom, atoms_reader, derived_reader, comma_derived, where_reader, optional_where, rule_reader, only_reader, line_item, rule_item, only_item, begins_item, item_reader, side_reader, body_reader, numbered_reader, mapping_of_items, mapping_reader}
+use Rattle.dx_schema_text.specs.Spelling.{IsMarkToken, IsKeyword, Comma, comma_then, SpellsCommaList, parted, SpellsName, name_of, SpellsKey, key_of, SpellsDep, dep_of, SpellsOptional, not_optional, is_optional, SpellsRef, ref_of, SpellsHead, head_of, SpellsSet, set_of, SpellsClauses, no_clause, clause_first, SpellsClause, a_key, a_dep, a_ref, a_set, SpellsPlace, place_of, SpellsSource, a_literal, a_column, a_call, SpellsLine, line_of, SpellsCell, a_name, a_text, SpellsAtom, atom_of, SpellsDerived, derived_of, SpellsWhere, no_where, where_of, SpellsRule, rule_of, SpellsOnly, only_of, SpellsItem, a_line, a_rule, a_condition, SpellsSide, side_of, IsVersion, version_one, version_two, version_three, SpellsMapping, mapping_of}
 use Rattle.dx_schema_text.proofs.Apart.{apart_marks, apart_numbers, apart_words, apart_mark_word, apart_word_mark, apart_any_word_string, apart_string_any_word}
 use Rattle.dx_schema_text.proofs.Follows.{comma_word_consumes, comma_place_consumes, comma_cell_consumes, comma_atom_consumes, comma_derived_consumes, apart_determination, clause_consumes, set_consumes, item_consumes}
 use Rattle.std.proofs.lemmas.Bool.{or_left, or_right, or_parts}
@@ -58,14 +58,14 @@ comma_first R (comma_then {u = u} c e h) = (c, u, refl, e)
 comma_begins : {A : Type 0} (R : A → List Lexeme → Type 0) → BeginWith comma (Comma R)
 comma_begins R = record { begin = λ a u h. comma_first R h }
 
-parted_behind : {A : Type 0} (r q : Reader Lexeme A) (R : A → List Lexeme → Type 0) → Again r R Any → Again q (Comma R) Any → Consumes q → {items : List A} {w : List Lexeme} → Parted R items w → (rest : List Lexeme) → NotNext comma rest
+parted_behind : {A : Type 0} (r q : Reader Lexeme A) (R : A → List Lexeme → Type 0) → Again r R Any → Again q (Comma R) Any → Consumes q → {items : List A} {w : List Lexeme} → SpellsCommaList R items w → (rest : List Lexeme) → NotNext comma rest
     → (r >>= λ first. many comma q >>= λ others. give (first ∷ others)) (w ++ rest) ≡ Ok (items, rest)
 parted_behind r q R one more consumes (parted {a = a} {others = others} {u = u} {v = v} h m) rest stop =
     let all = (many_again comma q (Comma R) consumes (comma_begins R) more).again others v rest m stop in
     rw (append_assoc u v rest, one.again a u (v ++ rest) h tt, all) refl
 
 -- one or more
-parted_again : {A : Type 0} (r q : Reader Lexeme A) (R : A → List Lexeme → Type 0) → Again r R Any → Again q (Comma R) Any → Consumes q → Again (r >>= λ first. many comma q >>= λ others. give (first ∷ others)) (Parted R) (NotNext comma)
+parted_again : {A : Type 0} (r q : Reader Lexeme A) (R : A → List Lexeme → Type 0) → Again r R Any → Again q (Comma R) Any → Consumes q → Again (r >>= λ first. many comma q >>= λ others. give (first ∷ others)) (SpellsCommaList R) (NotNext comma)
 parted_again r q R one more consumes = record { again = λ items w rest h stop. parted_behind r q R one more consumes h rest stop }
 
 -- a mark that is no comma comes next
@@ -81,7 +81,7 @@ comma_word_again : Again comma_word (Comma SpellsName) Any
 unfolding comma_word
 comma_word_again = comma_again (token is_word >>= λ w. give w.text) SpellsName (record { again = λ a u rest h ok. name_behind h rest })
 
-words_behind : {names : List (List ℕ)} {w : List Lexeme} → Parted SpellsName names w → (rest : List Lexeme) → NotNext comma rest → words_reader (w ++ rest) ≡ Ok (names, rest)
+words_behind : {names : List (List ℕ)} {w : List Lexeme} → SpellsCommaList SpellsName names w → (rest : List Lexeme) → NotNext comma rest → words_reader (w ++ rest) ≡ Ok (names, rest)
 unfolding words_reader
 words_behind (parted {others = others} {v = v} (name_of x e) m) rest stop =
     let all = (many_again comma comma_word (Comma SpellsName) comma_word_consumes (comma_begins SpellsName) comma_word_again).again others v rest m stop in
@@ -110,7 +110,7 @@ dep_behind (dep_of {u = u} {v = v} k o c arrow p d e kw ow names cw aw pw decide
       ew,
     ) refl
 
-optional_behind : {optionals b : Bool} {w : List Lexeme} → SpellsOptional optionals b w → (e : Lexeme) (rest : List Lexeme) → IsMark (codes ";") e → optional_reader optionals (w ++ e ∷ rest) ≡ Ok (b, e ∷ rest)
+optional_behind : {optionals b : Bool} {w : List Lexeme} → SpellsOptional optionals b w → (e : Lexeme) (rest : List Lexeme) → IsMarkToken (codes ";") e → optional_reader optionals (w ++ e ∷ rest) ≡ Ok (b, e ∷ rest)
 unfolding optional_reader
 optional_behind {optionals = false} not_optional e rest ew = refl
 optional_behind {optionals = true} not_optional e rest ew = rw (apart_mark_word (codes ";") (codes "optional") e ew) refl
@@ -273,15 +273,15 @@ with_set {version = version} {t = t} {a = a} h inner rest read =
     ∙ last_again inner set_clause (a ++ rest) rest t read
 
 -- a closing brace begins no determination
-brace_determination : (version : ℕ) (c : Lexeme) → IsMark (codes "}") c → begins_determination (since_three version) c ≡ false
+brace_determination : (version : ℕ) (c : Lexeme) → IsMarkToken (codes "}") c → begins_determination (since_three version) c ≡ false
 brace_determination version c cw = apart_determination (since_three version) (mark_is (codes "}")) (apart_mark_word (codes "}") (codes "key")) (apart_mark_word (codes "}") (codes "dep")) c cw
 
-closing_stops : (version levels : ℕ) (c : Lexeme) (rest : List Lexeme) → IsMark (codes "}") c → NotNext (begins_clause version levels) (c ∷ rest)
+closing_stops : (version levels : ℕ) (c : Lexeme) (rest : List Lexeme) → IsMarkToken (codes "}") c → NotNext (begins_clause version levels) (c ∷ rest)
 closing_stops version zero c rest cw = rw (brace_determination version c cw, apart_mark_word (codes "}") (codes "ref") c cw) refl
 closing_stops version (suc levels) c rest cw = rw (brace_determination version c cw, apart_mark_word (codes "}") (codes "ref") c cw, apart_mark_word (codes "}") (codes "set") c cw) refl
 
-set_made : (version levels : ℕ) (name : List ℕ) (columns : List (List ℕ)) (cs : List Clause) (c : Lexeme) (xs after rest : List Lexeme) → set_head_reader xs ≡ Ok ((name, columns), after) → many (begins_clause version levels) (clause_reader version levels) after ≡ Ok (cs, c ∷ rest) → IsMark (codes "}") c
-    → set_reader version levels xs ≡ Ok (tree_of name columns cs, rest)
+set_made : (version levels : ℕ) (name : List ℕ) (columns : List (List ℕ)) (cs : List Clause) (c : Lexeme) (xs after rest : List Lexeme) → set_head_reader xs ≡ Ok ((name, columns), after) → many (begins_clause version levels) (clause_reader version levels) after ≡ Ok (cs, c ∷ rest) → IsMarkToken (codes "}") c
+    → set_reader version levels xs ≡ Ok (tree_of_clauses name columns cs, rest)
 unfolding set_reader_of
 set_made version levels name columns cs c xs after rest e f cw = rw (e, f, cw) refl
 
@@ -323,7 +323,7 @@ comma_place_again : Again comma_place (Comma SpellsPlace) Any
 unfolding comma_place
 comma_place_again = comma_again place_reader SpellsPlace place_again
 
-places_again : Again places_reader (Parted SpellsPlace) (NotNext comma)
+places_again : Again places_reader (SpellsCommaList SpellsPlace) (NotNext comma)
 unfolding places_reader
 places_again = parted_again place_reader comma_place SpellsPlace place_again comma_place_again comma_place_consumes
 
@@ -355,7 +355,7 @@ comma_cell_again : (strings : Bool) → Again (comma_cell strings) (Comma (Spell
 unfolding comma_cell
 comma_cell_again strings = comma_again (cell_reader strings) (SpellsCell strings) (cell_again strings)
 
-pub cells_again : (strings : Bool) → Again (cells_reader strings) (Parted (SpellsCell strings)) (NotNext comma)
+pub cells_again : (strings : Bool) → Again (cells_reader strings) (SpellsCommaList (SpellsCell strings)) (NotNext comma)
 unfolding cells_reader
 cells_again strings = parted_again (cell_reader strings) (comma_cell strings) (SpellsCell strings) (cell_again strings) (comma_cell_again strings) (comma_cell_consumes strings)
 
@@ -371,7 +371,7 @@ comma_atom_again : (strings : Bool) → Again (comma_atom strings) (Comma (Spell
 unfolding comma_atom
 comma_atom_again strings = comma_again (atom_reader strings) (SpellsAtom strings) (atom_again strings)
 
-pub atoms_again : (strings : Bool) → Again (atoms_reader strings) (Parted (SpellsAtom strings)) (NotNext comma)
+pub atoms_again : (strings : Bool) → Again (atoms_reader strings) (SpellsCommaList (SpellsAtom strings)) (NotNext comma)
 unfolding atoms_reader
 atoms_again strings = parted_again (atom_reader strings) (comma_atom strings) (SpellsAtom strings) (atom_again strings) (comma_atom_again strings) (comma_atom_consumes strings)
 
@@ -388,14 +388,14 @@ unfolding comma_derived
 comma_derived_again = comma_again derived_reader SpellsDerived derived_again
 
 -- derived variables, up to an arrow
-where_behind : {ds : List DerivedText} {a : List Lexeme} → SpellsWhere ds a → (arrow : Lexeme) (rest : List Lexeme) → IsMark (codes "->") arrow → optional_where (a ++ arrow ∷ rest) ≡ Ok (ds, arrow ∷ rest)
+where_behind : {ds : List DerivedText} {a : List Lexeme} → SpellsWhere ds a → (arrow : Lexeme) (rest : List Lexeme) → IsMarkToken (codes "->") arrow → optional_where (a ++ arrow ∷ rest) ≡ Ok (ds, arrow ∷ rest)
 unfolding optional_where where_reader
 where_behind no_where arrow rest aw = rw (apart_mark_word (codes "->") (codes "where") arrow aw) refl
 where_behind (where_of {ds = ds} {u = u} k kw h) arrow rest aw =
     rw kw ((parted_again derived_reader comma_derived SpellsDerived derived_again comma_derived_again comma_derived_consumes).again ds u (arrow ∷ rest) h (no_comma (codes "->") arrow refl aw))
 
 -- nothing that may follow the premise begins with a comma
-where_no_comma : {ds : List DerivedText} {a : List Lexeme} → SpellsWhere ds a → (arrow : Lexeme) (rest : List Lexeme) → IsMark (codes "->") arrow → NotNext comma (a ++ arrow ∷ rest)
+where_no_comma : {ds : List DerivedText} {a : List Lexeme} → SpellsWhere ds a → (arrow : Lexeme) (rest : List Lexeme) → IsMarkToken (codes "->") arrow → NotNext comma (a ++ arrow ∷ rest)
 where_no_comma no_where arrow rest aw = no_comma (codes "->") arrow refl aw
 where_no_comma (where_of k kw h) arrow rest aw = apart_word_mark (codes "where") (codes ",") k kw
 
@@ -505,15 +505,15 @@ fewer_begin false (x ∷ rest) h =
     let two = or_parts (word_is (codes "line") x) (rule_or_only x) h in
     rw (two.0, (or_parts (word_is (codes "rule") x) (word_is (codes "only") x) two.1).0) refl
 
-body_behind : {version levels : ℕ} {from to : Forest} {items : List ItemText} {u v w : List Lexeme} (e : Lexeme) → IsMark (codes ";") e → SpellsSide version (codes "source") levels from u → SpellsSide version (codes "target") levels to v
-    → Many (SpellsItem (since_two version)) items w → (rest : List Lexeme) → NoItemNext rest → body_reader version levels (e ∷ (u ++ (v ++ (w ++ rest)))) ≡ Ok (mapping_text version from to items, rest)
+body_behind : {version levels : ℕ} {from to : Forest} {items : List ItemText} {u v w : List Lexeme} (e : Lexeme) → IsMarkToken (codes ";") e → SpellsSide version (codes "source") levels from u → SpellsSide version (codes "target") levels to v
+    → Many (SpellsItem (since_two version)) items w → (rest : List Lexeme) → NoItemNext rest → body_reader version levels (e ∷ (u ++ (v ++ (w ++ rest)))) ≡ Ok (mapping_of_items version from to items, rest)
 unfolding body_reader
 body_behind {version = version} {items = items} {v = v} {w = w} e ew from to h rest stop =
     rw (ew, side_behind from (v ++ (w ++ rest)), side_behind to (w ++ rest), (items_again (since_two version)).again items w rest h (fewer_begin (since_two version) rest stop)) refl
 
 -- the number of a version tells which body is read
 version_read : {version : ℕ} {n : Lexeme} → IsVersion version n → (levels : ℕ) (xs : List Lexeme)
-    → either (number_is (codes "1")) (numbered_reader (codes "1") 1 levels) (either (number_is (codes "2")) (numbered_reader (codes "2") 2 levels) (numbered_reader (codes "3") 3 levels)) (n ∷ xs) ≡ body_reader version levels xs
+    → either (digit_is (codes "1")) (numbered_reader (codes "1") 1 levels) (either (digit_is (codes "2")) (numbered_reader (codes "2") 2 levels) (numbered_reader (codes "3") 3 levels)) (n ∷ xs) ≡ body_reader version levels xs
 version_read (version_one nw) levels xs = rw nw refl
 version_read (version_two {n = n} nw) levels xs = rw (apart_numbers (codes "2") (codes "1") refl n nw, nw) refl
 version_read (version_three {n = n} nw) levels xs = rw (apart_numbers (codes "3") (codes "1") refl n nw, apart_numbers (codes "3") (codes "2") refl n nw, nw) refl

@@ -6,7 +6,7 @@ use Rattle.std.proofs.lemmas.Bool.{and_parts}
 use Rattle.dx_tokens.specs.declared.tokenizer.TokenKind.{TokenKind}
 use Rattle.dx_tokens.specs.declared.tokenizer.TokenKind.TheVariants.{Word, Number, Str, Mark}
 use Rattle.dx_grammar.proofs.Verdicts.{AreApart}
-use Rattle.dx_schema_text.specs.Grammar.{is_word_kind, is_number_kind, is_string_kind, is_mark_kind, is_word, is_string, word_is, number_is, mark_is}
+use Rattle.dx_schema_text.specs.Grammar.{is_word_kind, is_number_kind, is_string_kind, is_mark_kind, is_word, is_string, word_is, digit_is, mark_is}
 
 mark_no_word : (k : TokenKind) → is_mark_kind k ≡ true → is_word_kind k ≡ false
 mark_no_word Word e = absurd cc
@@ -38,7 +38,7 @@ apart_marks m n ne x e =
     let is : x.text ≡ m = same_text x.text m (sym both.1) in
     rw (both.0, is) ne
 
-pub apart_numbers : (m n : List ℕ) → pointwise nat_eq m n ≡ false → AreApart (number_is m) (number_is n)
+pub apart_numbers : (m n : List ℕ) → pointwise nat_eq m n ≡ false → AreApart (digit_is m) (digit_is n)
 apart_numbers m n ne x e =
     let both = and_parts (is_number_kind x.kind) (pointwise nat_eq x.text m) e in
     let is : x.text ≡ m = same_text x.text m (sym both.1) in

@@ -5,17 +5,17 @@ use Rattle.std.proofs.lemmas.Bool.{cases_Bool}
 use Rattle.std.proofs.lemmas.List.{length-append, take_all}
 use Rattle.dx_tokens.specs.declared.scanner.Lexeme.{Lexeme}
 use Rattle.dx_grammar.specs.Forms.{Starts}
-use Rattle.dx_grammar.specs.Readers.{Reader, passed, ◌>>=◌, give, token, next_is, either, many_within, many, whole_of, whole, Many, no_more, one_more, Tells}
+use Rattle.dx_grammar.specs.Readers.{Reader, pass_on, ◌>>=◌, give, token, next_is, either, many_within, many, whole_of, whole, Many, no_more, one_more, TellsOfTokens}
 use Rattle.dx_grammar.proofs.Exact.{whole_start}
 use Rattle.dx_grammar.proofs.Told.{start_take, fault_is_one}
 use Rattle.dx_grammar.proofs.Spelled.{Found, Finds, many_finds}
 use Rattle.dx_schema.specs.Forest.{Tree}
 use Rattle.dx_schema_text.specs.declared.clauses.Clause.{Clause}
 use Rattle.dx_schema_text.specs.declared.texts.MappingText.{MappingText}
-use Rattle.dx_schema_text.specs.Grammar.{word_is, number_is, mark_is, since_two, since_three}
-use Rattle.dx_schema_text.specs.Reading.{determination_reader, begins_determination, ref_reader, ref_clause, set_clause, tree_of, begins_clause, last_clause_reader, clause_reader_with, set_head_reader, set_reader_of, clause_reader, set_reader, side_reader, body_reader, mapping_reader}
+use Rattle.dx_schema_text.specs.Grammar.{word_is, digit_is, mark_is, since_two, since_three}
+use Rattle.dx_schema_text.specs.Reading.{determination_reader, begins_determination, ref_reader, ref_clause, set_clause, tree_of_clauses, begins_clause, last_clause_reader, clause_reader_with, set_head_reader, set_reader_of, clause_reader, set_reader, side_reader, body_reader, mapping_reader}
 use Rattle.dx_schema_text.specs.Spelling.{IsKeyword, IsVersion, version_one, version_two, version_three, SpellsHead, SpellsSet, SpellsClause, SpellsSide}
-use Rattle.dx_schema_text.specs.Texts.{deepest, form, deeper_form, judged_tokens, IsUnexpected, StandsDeeper, OpenSets, one_set, and_inner, OpenSide, open_side, OpenMapping, in_source, in_target, IsSetTooDeep}
+use Rattle.dx_schema_text.specs.Texts.{deepest, mapping_form, deeper_form, judged_tokens, IsUnexpectedInMapping, StandsDeeper, OpenSets, one_set, and_inner, OpenSide, open_side, OpenMapping, in_source, in_target, IsSetTooDeep}
 use Rattle.dx_schema_text.proofs.Apart.{apart_word_mark}
 use Rattle.dx_schema_text.proofs.Found.{set_head_finds, clause_finds, clauses_of, set_finds, side_finds}
 use Rattle.dx_schema_text.proofs.Telling.{mapping_tells}
@@ -46,13 +46,13 @@ cut_as A B xs left S T h c = (c.0, c.1, c.2, c.3, c.4, c.5, h c.0 c.6)
 
 then_cases : {A B : Type 0} (xs : List Lexeme) (rr qq : Result (A × List Lexeme) ℕ) (f g : A → Reader Lexeme B) (R : A → List Lexeme → Type 0) (S T : List Lexeme → Type 0)
     → (qq ≡ rr) ⊎ Cut S xs rr → Found R xs rr → ((front : List Lexeme) → S front → T front) → ((a : A) (u : List Lexeme) → R a u → Alike (f a) (g a) (λ front. T (u ++ front)))
-    → (passed qq g ≡ passed rr f) ⊎ Cut T xs (passed rr f)
+    → (pass_on qq g ≡ pass_on rr f) ⊎ Cut T xs (pass_on rr f)
 then_cases xs (Ok p) qq f g R S T (inl e) h w rest = elim ((rest p.0 h.0 h.2).alike p.1) [
-  | inl s ↦ inl (ap (λ r. passed r g) e ∙ s)
+  | inl s ↦ inl (ap (λ r. pass_on r g) e ∙ s)
   | inr c ↦ inr (cut_moved h.0 p.1 xs (f p.0 p.1) (λ front. T (h.0 ++ front)) T h.1 (λ front t. t) c)
 ]
 then_cases xs (Ok p) qq f g R S T (inr c) h w rest = absurd c
-then_cases xs (Err left) qq f g R S T (inl e) h w rest = inl (ap (λ r. passed r g) e)
+then_cases xs (Err left) qq f g R S T (inl e) h w rest = inl (ap (λ r. pass_on r g) e)
 then_cases {A = A} {B = B} xs (Err left) qq f g R S T (inr c) h w rest = inr (cut_as A B xs left S T w c)
 
 then_alike : {A B : Type 0} (r q : Reader Lexeme A) (f g : A → Reader Lexeme B) (R : A → List Lexeme → Type 0) (S T : List Lexeme → Type 0)
@@ -66,8 +66,8 @@ after_alike : {A B : Type 0} (r : Reader Lexeme A) (f g : A → Reader Lexeme B)
 after_alike r f g R T finds rest = then_alike r r f g R Never T (same_alike r Never) finds (λ front n. absurd n) rest
 
 -- the same last readers, of whatever was read
-map_cases : {A B : Type 0} (xs : List Lexeme) (rr qq : Result (A × List Lexeme) ℕ) (f : A → Reader Lexeme B) (S : List Lexeme → Type 0) → (qq ≡ rr) ⊎ Cut S xs rr → (passed qq f ≡ passed rr f) ⊎ Cut S xs (passed rr f)
-map_cases xs rr qq f S (inl e) = inl (ap (λ r. passed r f) e)
+map_cases : {A B : Type 0} (xs : List Lexeme) (rr qq : Result (A × List Lexeme) ℕ) (f : A → Reader Lexeme B) (S : List Lexeme → Type 0) → (qq ≡ rr) ⊎ Cut S xs rr → (pass_on qq f ≡ pass_on rr f) ⊎ Cut S xs (pass_on rr f)
+map_cases xs rr qq f S (inl e) = inl (ap (λ r. pass_on r f) e)
 map_cases xs (Ok p) qq f S (inr c) = absurd c
 map_cases {A = A} {B = B} xs (Err left) qq f S (inr c) = inr (cut_as A B xs left S S (λ front t. t) c)
 
@@ -75,7 +75,7 @@ before_alike : {A B : Type 0} (r q : Reader Lexeme A) (f : A → Reader Lexeme B
 before_alike r q f S one = record { alike = λ xs. map_cases xs (r xs) (q xs) f S (one.alike xs) }
 
 head_by : {B : Type 0} (p : Lexeme → Bool) (f g : Lexeme → Reader Lexeme B) (T : List Lexeme → Type 0) (x : Lexeme) (xs : List Lexeme) (b : Bool) (left : ℕ) → (b ≡ true → Alike (f x) (g x) (λ front. T (x ∷ front)))
-    → (passed (cond b (Ok (x, xs)) (Err left)) g ≡ passed (cond b (Ok (x, xs)) (Err left)) f) ⊎ Cut T (x ∷ xs) (passed (cond b (Ok (x, xs)) (Err left)) f)
+    → (pass_on (cond b (Ok (x, xs)) (Err left)) g ≡ pass_on (cond b (Ok (x, xs)) (Err left)) f) ⊎ Cut T (x ∷ xs) (pass_on (cond b (Ok (x, xs)) (Err left)) f)
 head_by p f g T x xs true left rest = elim ((rest refl).alike xs) [
   | inl s ↦ inl s
   | inr c ↦ inr (cut_moved (x ∷ []) xs (x ∷ xs) (f x xs) (λ front. T (x ∷ front)) T refl (λ front t. t) c)
@@ -116,7 +116,7 @@ module _ {A : Type 0} (p : Lexeme → Bool) (r q : Reader Lexeme A) (R : A → L
       (λ a u h. record {
         alike = λ ys. elim (map_cases ys (many_within p r n ys) (many_within p q n ys) (λ others. give (a ∷ others)) (After R S) (rest.alike ys)) [
           | inl e ↦ inl e
-          | inr c ↦ inr (cut_moved [] ys ys (passed (many_within p r n ys) (λ others. give (a ∷ others))) (After R S) (λ front. After R S (u ++ front)) refl (λ front t. longer a u h front t) c)
+          | inr c ↦ inr (cut_moved [] ys ys (pass_on (many_within p r n ys) (λ others. give (a ∷ others))) (After R S) (λ front. After R S (u ++ front)) refl (λ front t. longer a u h front t) c)
         ];
       })).alike xs
     where
@@ -156,21 +156,21 @@ abbrev Clauses : ℕ → List Lexeme → Type 0
 Clauses version front = (cs : List Clause) × Many (SpellsClause version 0) cs front
 
 -- first one clause and then more are read, and then h
-joined_as : (a : Clause) (h : List Clause → Tree) (rr : Result (List Clause × List Lexeme) ℕ) → passed (passed rr (λ others. give (a ∷ others))) (closed h) ≡ passed rr (closed (λ cs. h (a ∷ cs)))
+joined_as : (a : Clause) (h : List Clause → Tree) (rr : Result (List Clause × List Lexeme) ℕ) → pass_on (pass_on rr (λ others. give (a ∷ others))) (closed h) ≡ pass_on rr (closed (λ cs. h (a ∷ cs)))
 joined_as a h (Ok p) = refl
 joined_as a h (Err left) = refl
 
 -- a clause that both read
 clause_by : (version n : ℕ) (h : List Clause → Tree) (xs : List Lexeme) (rr qq : Result (Clause × List Lexeme) ℕ) → qq ≡ rr → Found (SpellsClause version 0) xs rr
-    → ((k : List Clause → Tree) (ys : List Lexeme) → (passed (a_level version n ys) (closed k) ≡ passed (no_level version n ys) (closed k)) ⊎ Cut (Clauses version) ys (passed (no_level version n ys) (closed k)))
-    → (passed (passed qq (λ a. a_level version n >>= λ others. give (a ∷ others))) (closed h) ≡ passed (passed rr (λ a. no_level version n >>= λ others. give (a ∷ others))) (closed h))
-    ⊎ Cut (Clauses version) xs (passed (passed rr (λ a. no_level version n >>= λ others. give (a ∷ others))) (closed h))
+    → ((k : List Clause → Tree) (ys : List Lexeme) → (pass_on (a_level version n ys) (closed k) ≡ pass_on (no_level version n ys) (closed k)) ⊎ Cut (Clauses version) ys (pass_on (no_level version n ys) (closed k)))
+    → (pass_on (pass_on qq (λ a. a_level version n >>= λ others. give (a ∷ others))) (closed h) ≡ pass_on (pass_on rr (λ a. no_level version n >>= λ others. give (a ∷ others))) (closed h))
+    ⊎ Cut (Clauses version) xs (pass_on (pass_on rr (λ a. no_level version n >>= λ others. give (a ∷ others))) (closed h))
 clause_by version n h xs (Ok p) qq e f more = elim (more (λ cs. h (p.0 ∷ cs)) p.1) [
-  | inl s ↦ inl (ap (λ r. passed (passed r (λ a. a_level version n >>= λ others. give (a ∷ others))) (closed h)) e ∙ (joined_as p.0 h (a_level version n p.1) ∙ (s ∙ sym (joined_as p.0 h (no_level version n p.1)))))
+  | inl s ↦ inl (ap (λ r. pass_on (pass_on r (λ a. a_level version n >>= λ others. give (a ∷ others))) (closed h)) e ∙ (joined_as p.0 h (a_level version n p.1) ∙ (s ∙ sym (joined_as p.0 h (no_level version n p.1)))))
   | inr c ↦ inr (subst (Cut (Clauses version) xs) (sym (joined_as p.0 h (no_level version n p.1)))
-      (cut_moved f.0 p.1 xs (passed (no_level version n p.1) (closed (λ cs. h (p.0 ∷ cs)))) (Clauses version) (Clauses version) f.1 (λ front t. (p.0 ∷ t.0, one_more f.2 t.1)) c))
+      (cut_moved f.0 p.1 xs (pass_on (no_level version n p.1) (closed (λ cs. h (p.0 ∷ cs)))) (Clauses version) (Clauses version) f.1 (λ front t. (p.0 ∷ t.0, one_more f.2 t.1)) c))
 ]
-clause_by version n h xs (Err left) qq e f more = inl (ap (λ r. passed (passed r (λ a. a_level version n >>= λ others. give (a ∷ others))) (closed h)) e)
+clause_by version n h xs (Err left) qq e f more = inl (ap (λ r. pass_on (pass_on r (λ a. a_level version n >>= λ others. give (a ∷ others))) (closed h)) e)
 
 determined_same : (version : ℕ) (x : Lexeme) (xs : List Lexeme) → begins_determination (since_three version) x ≡ true → clause_reader version 1 (x ∷ xs) ≡ clause_reader version 0 (x ∷ xs)
 unfolding clause_reader last_clause_reader clause_reader_with
@@ -183,7 +183,7 @@ ref_same version x xs e f = rw (e, f) refl
 no_level_finds : (version : ℕ) → Finds (clause_reader version 0) (SpellsClause version 0)
 no_level_finds version = clause_finds version 0
 
-loop : (version n : ℕ) (h : List Clause → Tree) (xs : List Lexeme) → (passed (a_level version n xs) (closed h) ≡ passed (no_level version n xs) (closed h)) ⊎ Cut (Clauses version) xs (passed (no_level version n xs) (closed h))
+loop : (version n : ℕ) (h : List Clause → Tree) (xs : List Lexeme) → (pass_on (a_level version n xs) (closed h) ≡ pass_on (no_level version n xs) (closed h)) ⊎ Cut (Clauses version) xs (pass_on (no_level version n xs) (closed h))
 loop version zero h xs = inl refl
 loop version (suc n) h [] = inl refl
 loop version (suc n) h (x ∷ xs) = elim (cases_Bool (begins_determination (since_three version) x)) [
@@ -203,7 +203,7 @@ deepest_alike : (version : ℕ) → Alike (set_reader version 0) (set_reader ver
 unfolding set_reader_of many
 deepest_alike version =
     after_alike set_head_reader _ _ (λ head u. SpellsHead head.0 head.1 u) (OpenSets version 1) set_head_finds (λ head u h. record {
-      alike = λ xs. elim (loop version (length xs) (tree_of head.0 head.1) xs) [
+      alike = λ xs. elim (loop version (length xs) (tree_of_clauses head.0 head.1) xs) [
         | inl e ↦ inl e
         | inr c ↦ inr (cut_moved [] xs xs _ (Clauses version) (λ front. OpenSets version 1 (u ++ front)) refl (λ front t. one_set h (clauses_of version 0 t.1)) c)
       ];
@@ -261,48 +261,48 @@ mapping_alike : Alike (mapping_reader deepest) (mapping_reader 16) (OpenMapping 
 unfolding mapping_reader
 mapping_alike =
     head_alike (word_is (codes "mapping")) _ _ (OpenMapping 16) (λ k kw.
-    either_alike (number_is (codes "1")) _ _ _ _ (λ front. OpenMapping 16 (k ∷ front))
-    (head_alike (number_is (codes "1")) _ _ (λ front. OpenMapping 16 (k ∷ front)) (λ n nw. body_alike 1 k n kw (version_one nw)))
-    (either_alike (number_is (codes "2")) _ _ _ _ (λ front. OpenMapping 16 (k ∷ front))
-    (head_alike (number_is (codes "2")) _ _ (λ front. OpenMapping 16 (k ∷ front)) (λ n nw. body_alike 2 k n kw (version_two nw)))
-    (head_alike (number_is (codes "3")) _ _ (λ front. OpenMapping 16 (k ∷ front)) (λ n nw. body_alike 3 k n kw (version_three nw)))))
+    either_alike (digit_is (codes "1")) _ _ _ _ (λ front. OpenMapping 16 (k ∷ front))
+    (head_alike (digit_is (codes "1")) _ _ (λ front. OpenMapping 16 (k ∷ front)) (λ n nw. body_alike 1 k n kw (version_one nw)))
+    (either_alike (digit_is (codes "2")) _ _ _ _ (λ front. OpenMapping 16 (k ∷ front))
+    (head_alike (digit_is (codes "2")) _ _ (λ front. OpenMapping 16 (k ∷ front)) (λ n nw. body_alike 2 k n kw (version_two nw)))
+    (head_alike (digit_is (codes "3")) _ _ (λ front. OpenMapping 16 (k ∷ front)) (λ n nw. body_alike 3 k n kw (version_three nw)))))
 
 -- ---- the fault
 
 le_same : (n : ℕ) → n ≤ n
 le_same n = omega arith
 
-not_all : (text : List ℕ) (place : ℕ) (u : IsUnexpected text place) → ¬ (Starts form (judged_tokens text))
+not_all : (text : List ℕ) (place : ℕ) (u : IsUnexpectedInMapping text place) → ¬ (Starts mapping_form (judged_tokens text))
 not_all text place u s =
     let xs = judged_tokens text in
-    u.first.here (start_take form (suc u.number) (length xs) xs u.first.inside (subst (Starts form) (sym (take_all (length xs) xs (le_same (length xs)))) s))
+    u.first.here (start_take mapping_form (suc u.number) (length xs) xs u.first.inside (subst (Starts mapping_form) (sym (take_all (length xs) xs (le_same (length xs)))) s))
 
 -- the readers don't answer the same
-never_same : (text : List ℕ) (place : ℕ) (u : IsUnexpected text place) → StandsDeeper text u.number → (r : Result MappingText ℕ) → Tells form (judged_tokens text) r → Tells deeper_form (judged_tokens text) r → ⊥
-never_same text place u d (Ok m) t k = not_all text place u (whole_start form (judged_tokens text) t)
+never_same : (text : List ℕ) (place : ℕ) (u : IsUnexpectedInMapping text place) → StandsDeeper text u.number → (r : Result MappingText ℕ) → TellsOfTokens mapping_form (judged_tokens text) r → TellsOfTokens deeper_form (judged_tokens text) r → ⊥
+never_same text place u d (Ok m) t k = not_all text place u (whole_start mapping_form (judged_tokens text) t)
 never_same text place u d (Err zero) t k = not_all text place u t.0
 never_same text place u d (Err (suc left)) t k =
     let xs = judged_tokens text in
-    let n = fault_is_one form xs (length xs - suc left) u.number t.1 u.first in
+    let n = fault_is_one mapping_form xs (length xs - suc left) u.number t.1 u.first in
     k.1.here (subst (λ i. Starts deeper_form (take (suc i) xs)) (sym n) d)
 
-set_there : (text : List ℕ) (place : ℕ) (u : IsUnexpected text place) (rr : Result (MappingText × List Lexeme) ℕ) → Tells form (judged_tokens text) (whole_of rr) → Cut (OpenMapping 16) (judged_tokens text) rr → IsSetTooDeep text u.number
+set_there : (text : List ℕ) (place : ℕ) (u : IsUnexpectedInMapping text place) (rr : Result (MappingText × List Lexeme) ℕ) → TellsOfTokens mapping_form (judged_tokens text) (whole_of rr) → Cut (OpenMapping 16) (judged_tokens text) rr → IsSetTooDeep text u.number
 set_there text place u (Ok p) t c = absurd c
 set_there text place u (Err left) t c =
     let xs = judged_tokens text in
     let front = c.0 in
     let x = c.1 in
     let back = c.2 in
-    let h = subst (λ (l : ℕ). Tells form xs (whole_of {X = Lexeme} {A = MappingText} (Err l))) c.4 t in
+    let h = subst (λ (l : ℕ). TellsOfTokens mapping_form xs (whole_of {X = Lexeme} {A = MappingText} (Err l))) c.4 t in
     let size : length xs ≡ length front + suc (length back) = ap length c.3 ∙ length-append front (x ∷ back) in
-    let n : u.number ≡ length front = sym (fault_is_one form xs (length xs - suc (length back)) u.number h.1 u.first) ∙ omega (arith, size) in
+    let n : u.number ≡ length front = sym (fault_is_one mapping_form xs (length xs - suc (length back)) u.number h.1 u.first) ∙ omega (arith, size) in
     record { front = front; token = x; back = back; are = c.3; at = n; word = c.5; inside = c.6 }
 
-pub deeper_at_set : (text : List ℕ) (place : ℕ) (u : IsUnexpected text place) → StandsDeeper text u.number → IsSetTooDeep text u.number
+pub deeper_at_set : (text : List ℕ) (place : ℕ) (u : IsUnexpectedInMapping text place) → StandsDeeper text u.number → IsSetTooDeep text u.number
 deeper_at_set text place u d =
     let xs = judged_tokens text in
     let t = mapping_tells deepest xs in
     elim (mapping_alike.alike xs) [
-      | inl s ↦ absurd (never_same text place u d (whole (mapping_reader deepest) xs) t (subst (Tells deeper_form xs) (ap (λ r. whole_of r) s) (mapping_tells 16 xs)))
+      | inl s ↦ absurd (never_same text place u d (whole (mapping_reader deepest) xs) t (subst (TellsOfTokens deeper_form xs) (ap (λ r. whole_of r) s) (mapping_tells 16 xs)))
       | inr c ↦ set_there text place u (mapping_reader deepest xs) t c
     ]

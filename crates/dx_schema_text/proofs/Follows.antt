@@ -10,7 +10,7 @@ use Rattle.dx_grammar.proofs.Combined.{one_reads, nothing_reads, then_reads, the
 use Rattle.dx_grammar.proofs.Loops.{Consumes}
 use Rattle.dx_schema.specs.Forest.{Tree}
 use Rattle.dx_schema_text.specs.declared.clauses.Clause.{Clause}
-use Rattle.dx_schema_text.specs.Grammar.{is_word, is_string, word_is, number_is, mark_is, since_two, since_three, word, string, keyword, mark, words, key, dep, determination, optional_word, ref, set_head, set_of, last_clause, clause_with, clause, set, place, places, behind_word, source, line, cell, cells, atom, atoms, derived, where_part, rule, only, item, side, body, numbered, mapping}
+use Rattle.dx_schema_text.specs.Grammar.{is_word, is_string, word_is, digit_is, mark_is, since_two, since_three, word, string, keyword, mark, words, key, dep, determination, optional_word, ref, set_head, set_of, last_clause, clause_with, clause, set, place, places, behind_word, line_source, line, rule_cell, cells, atom, atoms, derived, where_part, rule, only, item, side, body, version_body, mapping}
 use Rattle.dx_schema_text.specs.Reading.{comma_word, words_reader, key_reader, decided_reader, dep_reader, determination_reader, begins_determination, optional_reader, referred_reader, ref_reader, key_clause, dep_clause, ref_clause, set_clause, begins_clause, last_clause_reader, clause_reader_with, set_head_reader, set_reader_of, clause_reader, set_reader, place_reader, comma_place, places_reader, string_reader, column_reader, call_reader, named_reader, source_reader, line_reader, name_reader, literal_reader, cell_reader, comma_cell, cells_reader, atom_reader, comma_atom, atoms_reader, derived_reader, comma_derived, where_reader, optional_where, rule_reader, only_reader, line_item, rule_item, only_item, begins_item, item_reader, side_reader, body_reader, numbered_reader, mapping_reader}
 use Rattle.dx_schema_text.proofs.Apart.{apart_marks, apart_numbers, apart_words, apart_mark_word, apart_word_mark, apart_any_word_string, apart_string_any_word}
 
@@ -299,8 +299,8 @@ named_reads : IsReader Anything (word ▸ behind_word) named_reader
 unfolding named_reader
 named_reads = then_any Anything word behind_word (token is_word) _ (a is_word) (λ name. behind_reads name)
 
-pub source_reads : IsReader Anything source source_reader
-unfolding source source_reader
+pub source_reads : IsReader Anything line_source source_reader
+unfolding line_source source_reader
 source_reads =
     either_reads Anything is_string string (word ▸ behind_word) string_reader named_reader string_reads named_reads (begins_one is_string)
     (λ more ok. stops_at is_string is_word (word ▸ behind_word) more (begins_with is_word behind_word) apart_string_any_word)
@@ -309,7 +309,7 @@ pub line_reads : IsReader Anything line line_reader
 unfolding line line_reader
 line_reads =
     then_any Anything _ _ _ _ (a (word_is (codes "line"))) (λ keyword'.
-    then_any Anything source _ source_reader _ source_reads (λ from.
+    then_any Anything line_source _ source_reader _ source_reads (λ from.
     then_any Anything _ _ _ _ (a (mark_is (codes "->"))) (λ arrow.
     then_any Anything place _ place_reader _ place_reads (λ target.
     last_reads Anything (mark (codes ";")) (token (mark_is (codes ";"))) _ (a (mark_is (codes ";")))))))
@@ -324,26 +324,26 @@ literal_reads : IsReader Anything string literal_reader
 unfolding literal_reader
 literal_reads = last_reads Anything string (token is_string) _ (a is_string)
 
-pub cell_reads : (strings : Bool) → IsReader Anything (cell strings) (cell_reader strings)
-unfolding cell cell_reader
+pub cell_reads : (strings : Bool) → IsReader Anything (rule_cell strings) (cell_reader strings)
+unfolding rule_cell cell_reader
 cell_reads false = name_reads
 cell_reads true =
     either_reads Anything is_word word string name_reader literal_reader name_reads literal_reads (begins_one is_word)
     (λ more ok. stops_at is_word is_string string more (begins_one is_string) apart_any_word_string)
 
-pub comma_cell_reads : (strings : Bool) → IsReader Anything (mark (codes ",") ▸ cell strings) (comma_cell strings)
+pub comma_cell_reads : (strings : Bool) → IsReader Anything (mark (codes ",") ▸ rule_cell strings) (comma_cell strings)
 unfolding comma_cell
-comma_cell_reads strings = then_any Anything (mark (codes ",")) (cell strings) (token comma) _ (a comma) (λ c. cell_reads strings)
+comma_cell_reads strings = then_any Anything (mark (codes ",")) (rule_cell strings) (token comma) _ (a comma) (λ c. cell_reads strings)
 
 pub comma_cell_consumes : (strings : Bool) → Consumes (comma_cell strings)
-comma_cell_consumes strings = consumes comma (mark (codes ",") ▸ cell strings) (comma_cell strings) (comma_cell_reads strings) (begins_with comma (cell strings))
+comma_cell_consumes strings = consumes comma (mark (codes ",") ▸ rule_cell strings) (comma_cell strings) (comma_cell_reads strings) (begins_with comma (rule_cell strings))
 
 pub cells_reads : (strings : Bool) → IsReader (Stops comma) (cells strings) (cells_reader strings)
 unfolding cells cells_reader
 cells_reads strings =
-    then_any (Stops comma) (cell strings) (repeated (mark (codes ",") ▸ cell strings)) (cell_reader strings) _ (cell_reads strings) (λ first.
-    last_reads (Stops comma) (repeated (mark (codes ",") ▸ cell strings)) (many comma (comma_cell strings)) (λ others. first ∷ others)
-    (many_reads comma (mark (codes ",") ▸ cell strings) (comma_cell strings) (comma_cell_reads strings) (begins_with comma (cell strings))))
+    then_any (Stops comma) (rule_cell strings) (repeated (mark (codes ",") ▸ rule_cell strings)) (cell_reader strings) _ (cell_reads strings) (λ first.
+    last_reads (Stops comma) (repeated (mark (codes ",") ▸ rule_cell strings)) (many comma (comma_cell strings)) (λ others. first ∷ others)
+    (many_reads comma (mark (codes ",") ▸ rule_cell strings) (comma_cell strings) (comma_cell_reads strings) (begins_with comma (rule_cell strings))))
 
 pub atom_reads : (strings : Bool) → IsReader Anything (atom strings) (atom_reader strings)
 unfolding atom atom_reader
@@ -536,30 +536,30 @@ body_reads version levels =
     last_reads NoItem (repeated (item (since_two version))) (many (begins_item (since_two version)) (item_reader (since_two version))) _ (items_read (since_two version)))))
 
 -- the number of a version, and what stands after it
-numbered_reads : (number : List ℕ) (version levels : ℕ) → IsReader NoItem (numbered number version levels) (numbered_reader number version levels)
-numbered_reads number version levels = then_any NoItem _ _ _ _ (a (number_is number)) (λ n. body_reads version levels)
+numbered_reads : (number : List ℕ) (version levels : ℕ) → IsReader NoItem (version_body number version levels) (numbered_reader number version levels)
+numbered_reads number version levels = then_any NoItem _ _ _ _ (a (digit_is number)) (λ n. body_reads version levels)
 
-numbered_begins : (number : List ℕ) (version levels : ℕ) → Begins (number_is number) (numbered number version levels)
-numbered_begins number version levels = begins_with (number_is number) (body version levels)
+numbered_begins : (number : List ℕ) (version levels : ℕ) → Begins (digit_is number) (version_body number version levels)
+numbered_begins number version levels = begins_with (digit_is number) (body version levels)
 
 abbrev two_or_three : Lexeme → Bool
-two_or_three x = number_is (codes "2") x || number_is (codes "3") x
+two_or_three x = digit_is (codes "2") x || digit_is (codes "3") x
 
-later_begins : (levels : ℕ) → Begins two_or_three (numbered (codes "2") 2 levels ∣ numbered (codes "3") 3 levels)
+later_begins : (levels : ℕ) → Begins two_or_three (version_body (codes "2") 2 levels ∣ version_body (codes "3") 3 levels)
 later_begins levels =
-    begins_choice two_or_three (numbered (codes "2") 2 levels) (numbered (codes "3") 3 levels)
-    (begins_wider (number_is (codes "2")) two_or_three (numbered (codes "2") 2 levels) (λ x e. (or_parts (number_is (codes "2") x) (number_is (codes "3") x) e).0) (numbered_begins (codes "2") 2 levels))
-    (begins_wider (number_is (codes "3")) two_or_three (numbered (codes "3") 3 levels) (λ x e. (or_parts (number_is (codes "2") x) (number_is (codes "3") x) e).1) (numbered_begins (codes "3") 3 levels))
+    begins_choice two_or_three (version_body (codes "2") 2 levels) (version_body (codes "3") 3 levels)
+    (begins_wider (digit_is (codes "2")) two_or_three (version_body (codes "2") 2 levels) (λ x e. (or_parts (digit_is (codes "2") x) (digit_is (codes "3") x) e).0) (numbered_begins (codes "2") 2 levels))
+    (begins_wider (digit_is (codes "3")) two_or_three (version_body (codes "3") 3 levels) (λ x e. (or_parts (digit_is (codes "2") x) (digit_is (codes "3") x) e).1) (numbered_begins (codes "3") 3 levels))
 
-later_reads : (levels : ℕ) → IsReader NoItem (numbered (codes "2") 2 levels ∣ numbered (codes "3") 3 levels) (either (number_is (codes "2")) (numbered_reader (codes "2") 2 levels) (numbered_reader (codes "3") 3 levels))
+later_reads : (levels : ℕ) → IsReader NoItem (version_body (codes "2") 2 levels ∣ version_body (codes "3") 3 levels) (either (digit_is (codes "2")) (numbered_reader (codes "2") 2 levels) (numbered_reader (codes "3") 3 levels))
 later_reads levels =
-    either_reads NoItem (number_is (codes "2")) _ _ _ _ (numbered_reads (codes "2") 2 levels) (numbered_reads (codes "3") 3 levels) (numbered_begins (codes "2") 2 levels)
-    (λ more ok. stops_at (number_is (codes "2")) (number_is (codes "3")) _ more (numbered_begins (codes "3") 3 levels) (apart_numbers (codes "2") (codes "3") refl))
+    either_reads NoItem (digit_is (codes "2")) _ _ _ _ (numbered_reads (codes "2") 2 levels) (numbered_reads (codes "3") 3 levels) (numbered_begins (codes "2") 2 levels)
+    (λ more ok. stops_at (digit_is (codes "2")) (digit_is (codes "3")) _ more (numbered_begins (codes "3") 3 levels) (apart_numbers (codes "2") (codes "3") refl))
 
 pub mapping_reads : (levels : ℕ) → IsReader NoItem (mapping levels) (mapping_reader levels)
 unfolding mapping mapping_reader
 mapping_reads levels =
     then_any NoItem _ _ _ _ (a (word_is (codes "mapping"))) (λ keyword'.
-    either_reads NoItem (number_is (codes "1")) _ _ _ _ (numbered_reads (codes "1") 1 levels) (later_reads levels) (numbered_begins (codes "1") 1 levels)
-    (λ more ok. stops_at (number_is (codes "1")) two_or_three _ more (later_begins levels)
-    (apart_or (number_is (codes "1")) (number_is (codes "2")) (number_is (codes "3")) (apart_numbers (codes "1") (codes "2") refl) (apart_numbers (codes "1") (codes "3") refl))))
+    either_reads NoItem (digit_is (codes "1")) _ _ _ _ (numbered_reads (codes "1") 1 levels) (later_reads levels) (numbered_begins (codes "1") 1 levels)
+    (λ more ok. stops_at (digit_is (codes "1")) two_or_three _ more (later_begins levels)
+    (apart_or (digit_is (codes "1")) (digit_is (codes "2")) (digit_is (codes "3")) (apart_numbers (codes "1") (codes "2") refl) (apart_numbers (codes "1") (codes "3") refl))))

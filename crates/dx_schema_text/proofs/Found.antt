@@ -6,18 +6,18 @@ use Rattle.dx_grammar.specs.Readers.{Reader, ◌>>=◌, give, token, many, Many,
 use Rattle.dx_grammar.proofs.Spelled.{Finds, give_finds, then_finds, last_finds, head_finds, either_finds, many_finds, finds_wider}
 use Rattle.dx_schema.specs.Forest.{Tree}
 use Rattle.dx_schema_text.specs.declared.clauses.Clause.{Clause}
-use Rattle.dx_schema_text.specs.Grammar.{is_word, is_string, word_is, number_is, mark_is, since_two, since_three}
+use Rattle.dx_schema_text.specs.Grammar.{is_word, is_string, word_is, digit_is, mark_is, since_two, since_three}
 use Rattle.dx_schema_text.specs.Reading.{comma_word, words_reader, key_reader, decided_reader, dep_reader, optional_reader, referred_reader, ref_reader, key_clause, dep_clause, ref_clause, set_clause, begins_determination, determination_reader, begins_clause, last_clause_reader, clause_reader_with, set_head_reader, set_reader_of, clause_reader, set_reader, place_reader, comma_place, places_reader, string_reader, column_reader, call_reader, named_reader, source_reader, line_reader, name_reader, literal_reader, cell_reader, comma_cell, cells_reader, atom_reader, comma_atom, atoms_reader, derived_reader, comma_derived, where_reader, optional_where, rule_reader, only_reader, line_item, rule_item, only_item, begins_item, item_reader, side_reader, body_reader, mapping_reader}
-use Rattle.dx_schema_text.specs.Spelling.{IsWord, IsKeyword, Comma, comma_then, Parted, parted, SpellsName, name_of, SpellsKey, key_of, SpellsDep, dep_of, SpellsOptional, not_optional, is_optional, SpellsRef, ref_of, SpellsHead, head_of, SpellsSet, set_of, SpellsClauses, no_clause, clause_first, SpellsClause, a_key, a_dep, a_ref, a_set, SpellsPlace, place_of, SpellsSource, a_literal, a_column, a_call, SpellsLine, line_of, SpellsCell, a_name, a_text, SpellsAtom, atom_of, SpellsDerived, derived_of, SpellsWhere, no_where, where_of, SpellsRule, rule_of, SpellsOnly, only_of, SpellsItem, a_line, a_rule, a_condition, SpellsSide, side_of, IsVersion, version_one, version_two, version_three, SpellsMapping, mapping_of}
+use Rattle.dx_schema_text.specs.Spelling.{IsWordToken, IsKeyword, Comma, comma_then, SpellsCommaList, parted, SpellsName, name_of, SpellsKey, key_of, SpellsDep, dep_of, SpellsOptional, not_optional, is_optional, SpellsRef, ref_of, SpellsHead, head_of, SpellsSet, set_of, SpellsClauses, no_clause, clause_first, SpellsClause, a_key, a_dep, a_ref, a_set, SpellsPlace, place_of, SpellsSource, a_literal, a_column, a_call, SpellsLine, line_of, SpellsCell, a_name, a_text, SpellsAtom, atom_of, SpellsDerived, derived_of, SpellsWhere, no_where, where_of, SpellsRule, rule_of, SpellsOnly, only_of, SpellsItem, a_line, a_rule, a_condition, SpellsSide, side_of, IsVersion, version_one, version_two, version_three, SpellsMapping, mapping_of}
 
 -- a comma, and what another reader reads
 comma_finds : {A : Type 0} (r : Reader Lexeme A) (R : A → List Lexeme → Type 0) → Finds r R → Finds (token (mark_is (codes ",")) >>= λ c. r) (Comma R)
 comma_finds r R one = head_finds (mark_is (codes ",")) (λ c. r) (Comma R) (λ c e. finds_wider r R (λ a u. Comma R a (c ∷ u)) one (λ a u h. comma_then c e h))
 
 -- one or more
-parted_finds : {A : Type 0} (r q : Reader Lexeme A) (R : A → List Lexeme → Type 0) → Finds r R → Finds q (Comma R) → Finds (r >>= λ first. many (mark_is (codes ",")) q >>= λ others. give (first ∷ others)) (Parted R)
+parted_finds : {A : Type 0} (r q : Reader Lexeme A) (R : A → List Lexeme → Type 0) → Finds r R → Finds q (Comma R) → Finds (r >>= λ first. many (mark_is (codes ",")) q >>= λ others. give (first ∷ others)) (SpellsCommaList R)
 parted_finds r q R one more =
-    then_finds r _ R (Parted R) one (λ first u h. last_finds (many (mark_is (codes ",")) q) (λ others. first ∷ others) (Many (Comma R)) (λ items v. Parted R items (u ++ v)) (many_finds (mark_is (codes ",")) q (Comma R) more) (λ others v m. parted h m))
+    then_finds r _ R (SpellsCommaList R) one (λ first u h. last_finds (many (mark_is (codes ",")) q) (λ others. first ∷ others) (Many (Comma R)) (λ items v. SpellsCommaList R items (u ++ v)) (many_finds (mark_is (codes ",")) q (Comma R) more) (λ others v m. parted h m))
 
 -- ---- sets
 
@@ -25,24 +25,24 @@ comma_word_finds : Finds comma_word (Comma SpellsName)
 unfolding comma_word
 comma_word_finds = comma_finds (token is_word >>= λ w. give w.text) SpellsName (head_finds is_word _ SpellsName (λ w e. give_finds w.text _ (name_of w e)))
 
-words_finds : Finds words_reader (Parted SpellsName)
+words_finds : Finds words_reader (SpellsCommaList SpellsName)
 unfolding words_reader
 words_finds =
-    head_finds is_word _ (Parted SpellsName) (λ w e. last_finds (many (mark_is (codes ",")) comma_word) (λ others. w.text ∷ others) (Many (Comma SpellsName)) (λ items v. Parted SpellsName items (w ∷ v))
+    head_finds is_word _ (SpellsCommaList SpellsName) (λ w e. last_finds (many (mark_is (codes ",")) comma_word) (λ others. w.text ∷ others) (Many (Comma SpellsName)) (λ items v. SpellsCommaList SpellsName items (w ∷ v))
     (many_finds (mark_is (codes ",")) comma_word (Comma SpellsName) comma_word_finds) (λ others v m. parted (name_of w e) m))
 
 key_finds : Finds key_reader SpellsKey
 unfolding key_reader
 key_finds =
-    head_finds (word_is (codes "key")) _ SpellsKey (λ k kw. head_finds (mark_is (codes "(")) _ _ (λ o ow. then_finds words_reader _ (Parted SpellsName) _ words_finds (λ ws u h.
+    head_finds (word_is (codes "key")) _ SpellsKey (λ k kw. head_finds (mark_is (codes "(")) _ _ (λ o ow. then_finds words_reader _ (SpellsCommaList SpellsName) _ words_finds (λ ws u h.
     head_finds (mark_is (codes ")")) _ _ (λ c cw. head_finds (mark_is (codes ";")) _ _ (λ e ew. give_finds _ _ (key_of k o c e kw ow h cw ew))))))
 
 dep_finds : Finds dep_reader SpellsDep
 unfolding dep_reader decided_reader
 dep_finds =
-    head_finds (word_is (codes "dep")) _ SpellsDep (λ k kw. head_finds (mark_is (codes "(")) _ _ (λ o ow. then_finds words_reader _ (Parted SpellsName) _ words_finds (λ ws u h.
+    head_finds (word_is (codes "dep")) _ SpellsDep (λ k kw. head_finds (mark_is (codes "(")) _ _ (λ o ow. then_finds words_reader _ (SpellsCommaList SpellsName) _ words_finds (λ ws u h.
     head_finds (mark_is (codes ")")) _ _ (λ c cw. head_finds (mark_is (codes "->")) _ _ (λ arrow aw. head_finds (mark_is (codes "(")) _ _ (λ p pw.
-    then_finds words_reader _ (Parted SpellsName) _ words_finds (λ vs v g. head_finds (mark_is (codes ")")) _ _ (λ d dw. head_finds (mark_is (codes ";")) _ _ (λ e ew.
+    then_finds words_reader _ (SpellsCommaList SpellsName) _ words_finds (λ vs v g. head_finds (mark_is (codes ")")) _ _ (λ d dw. head_finds (mark_is (codes ";")) _ _ (λ e ew.
     give_finds _ _ (dep_of k o c arrow p d e kw ow h cw aw pw g dw ew))))))))))
 
 optional_finds : (optionals : Bool) → Finds (optional_reader optionals) (SpellsOptional optionals)
@@ -54,15 +54,15 @@ optional_finds true =
 ref_finds : (optionals : Bool) → Finds (ref_reader optionals) (SpellsRef optionals)
 unfolding ref_reader referred_reader
 ref_finds optionals =
-    head_finds (word_is (codes "ref")) _ (SpellsRef optionals) (λ k kw. head_finds (mark_is (codes "(")) _ _ (λ o ow. then_finds words_reader _ (Parted SpellsName) _ words_finds (λ ws u h.
+    head_finds (word_is (codes "ref")) _ (SpellsRef optionals) (λ k kw. head_finds (mark_is (codes "(")) _ _ (λ o ow. then_finds words_reader _ (SpellsCommaList SpellsName) _ words_finds (λ ws u h.
     head_finds (mark_is (codes ")")) _ _ (λ c cw. head_finds (mark_is (codes "->")) _ _ (λ arrow aw. head_finds is_word _ _ (λ s sw. head_finds (mark_is (codes "(")) _ _ (λ p pw.
-    then_finds words_reader _ (Parted SpellsName) _ words_finds (λ vs v g. head_finds (mark_is (codes ")")) _ _ (λ d dw. then_finds (optional_reader optionals) _ (SpellsOptional optionals) _ (optional_finds optionals) (λ b w f. head_finds (mark_is (codes ";")) _ _ (λ e ew.
+    then_finds words_reader _ (SpellsCommaList SpellsName) _ words_finds (λ vs v g. head_finds (mark_is (codes ")")) _ _ (λ d dw. then_finds (optional_reader optionals) _ (SpellsOptional optionals) _ (optional_finds optionals) (λ b w f. head_finds (mark_is (codes ";")) _ _ (λ e ew.
     give_finds _ _ (ref_of k o c arrow s p d e kw ow h cw aw sw pw g dw f ew))))))))))))
 
 pub set_head_finds : Finds set_head_reader (λ h u. SpellsHead h.0 h.1 u)
 unfolding set_head_reader
 set_head_finds =
-    head_finds (word_is (codes "set")) _ _ (λ k kw. head_finds is_word _ _ (λ n nw. head_finds (mark_is (codes "{")) _ _ (λ o ow. then_finds words_reader _ (Parted SpellsName) _ words_finds (λ ws u h.
+    head_finds (word_is (codes "set")) _ _ (λ k kw. head_finds is_word _ _ (λ n nw. head_finds (mark_is (codes "{")) _ _ (λ o ow. then_finds words_reader _ (SpellsCommaList SpellsName) _ words_finds (λ ws u h.
     head_finds (mark_is (codes ";")) _ _ (λ e ew. give_finds _ _ (head_of k n o e kw nw ow h ew))))))
 
 pub clauses_of : (version levels : ℕ) {cs : List Clause} {u : List Lexeme} → Many (SpellsClause version levels) cs u → SpellsClauses version levels cs u
@@ -113,17 +113,17 @@ comma_place_finds : Finds comma_place (Comma SpellsPlace)
 unfolding comma_place
 comma_place_finds = comma_finds place_reader SpellsPlace place_finds
 
-places_finds : Finds places_reader (Parted SpellsPlace)
+places_finds : Finds places_reader (SpellsCommaList SpellsPlace)
 unfolding places_reader
 places_finds = parted_finds place_reader comma_place SpellsPlace place_finds comma_place_finds
 
-column_finds : (n : Lexeme) → IsWord n → Finds (column_reader n) (λ s v. SpellsSource s (n ∷ v))
+column_finds : (n : Lexeme) → IsWordToken n → Finds (column_reader n) (λ s v. SpellsSource s (n ∷ v))
 unfolding column_reader
 column_finds n nw = head_finds (mark_is (codes ".")) _ _ (λ dot dw. head_finds is_word _ _ (λ c cw. give_finds _ _ (a_column (place_of n dot c nw dw cw))))
 
-call_finds : (n : Lexeme) → IsWord n → Finds (call_reader n) (λ s v. SpellsSource s (n ∷ v))
+call_finds : (n : Lexeme) → IsWordToken n → Finds (call_reader n) (λ s v. SpellsSource s (n ∷ v))
 unfolding call_reader
-call_finds n nw = head_finds (mark_is (codes "(")) _ _ (λ o ow. then_finds places_reader _ (Parted SpellsPlace) _ places_finds (λ args u h. head_finds (mark_is (codes ")")) _ _ (λ c cw. give_finds _ _ (a_call n o c nw ow h cw))))
+call_finds n nw = head_finds (mark_is (codes "(")) _ _ (λ o ow. then_finds places_reader _ (SpellsCommaList SpellsPlace) _ places_finds (λ args u h. head_finds (mark_is (codes ")")) _ _ (λ c cw. give_finds _ _ (a_call n o c nw ow h cw))))
 
 named_finds : Finds named_reader SpellsSource
 unfolding named_reader
@@ -162,21 +162,21 @@ comma_cell_finds : (strings : Bool) → Finds (comma_cell strings) (Comma (Spell
 unfolding comma_cell
 comma_cell_finds strings = comma_finds (cell_reader strings) (SpellsCell strings) (cell_finds strings)
 
-pub cells_finds : (strings : Bool) → Finds (cells_reader strings) (Parted (SpellsCell strings))
+pub cells_finds : (strings : Bool) → Finds (cells_reader strings) (SpellsCommaList (SpellsCell strings))
 unfolding cells_reader
 cells_finds strings = parted_finds (cell_reader strings) (comma_cell strings) (SpellsCell strings) (cell_finds strings) (comma_cell_finds strings)
 
 atom_finds : (strings : Bool) → Finds (atom_reader strings) (SpellsAtom strings)
 unfolding atom_reader
 atom_finds strings =
-    head_finds is_word _ (SpellsAtom strings) (λ s sw. head_finds (mark_is (codes "(")) _ _ (λ o ow. then_finds (cells_reader strings) _ (Parted (SpellsCell strings)) _ (cells_finds strings) (λ cs u h.
+    head_finds is_word _ (SpellsAtom strings) (λ s sw. head_finds (mark_is (codes "(")) _ _ (λ o ow. then_finds (cells_reader strings) _ (SpellsCommaList (SpellsCell strings)) _ (cells_finds strings) (λ cs u h.
     head_finds (mark_is (codes ")")) _ _ (λ c cw. give_finds _ _ (atom_of s o c sw ow h cw)))))
 
 comma_atom_finds : (strings : Bool) → Finds (comma_atom strings) (Comma (SpellsAtom strings))
 unfolding comma_atom
 comma_atom_finds strings = comma_finds (atom_reader strings) (SpellsAtom strings) (atom_finds strings)
 
-pub atoms_finds : (strings : Bool) → Finds (atoms_reader strings) (Parted (SpellsAtom strings))
+pub atoms_finds : (strings : Bool) → Finds (atoms_reader strings) (SpellsCommaList (SpellsAtom strings))
 unfolding atoms_reader
 atoms_finds strings = parted_finds (atom_reader strings) (comma_atom strings) (SpellsAtom strings) (atom_finds strings) (comma_atom_finds strings)
 
@@ -184,7 +184,7 @@ derived_finds : Finds derived_reader SpellsDerived
 unfolding derived_reader
 derived_finds =
     head_finds is_word _ SpellsDerived (λ n nw. head_finds (mark_is (codes "=")) _ _ (λ equal qw. head_finds is_word _ _ (λ call kw. head_finds (mark_is (codes "(")) _ _ (λ o ow.
-    then_finds (cells_reader false) _ (Parted (SpellsCell false)) _ (cells_finds false) (λ args u h. head_finds (mark_is (codes ")")) _ _ (λ c cw. give_finds _ _ (derived_of n equal call o c nw qw kw ow h cw)))))))
+    then_finds (cells_reader false) _ (SpellsCommaList (SpellsCell false)) _ (cells_finds false) (λ args u h. head_finds (mark_is (codes ")")) _ _ (λ c cw. give_finds _ _ (derived_of n equal call o c nw qw kw ow h cw)))))))
 
 comma_derived_finds : Finds comma_derived (Comma SpellsDerived)
 unfolding comma_derived
@@ -193,7 +193,7 @@ comma_derived_finds = comma_finds derived_reader SpellsDerived derived_finds
 where_finds : Finds where_reader SpellsWhere
 unfolding where_reader
 where_finds =
-    head_finds (word_is (codes "where")) _ SpellsWhere (λ k kw. finds_wider _ (Parted SpellsDerived) (λ ds u. SpellsWhere ds (k ∷ u))
+    head_finds (word_is (codes "where")) _ SpellsWhere (λ k kw. finds_wider _ (SpellsCommaList SpellsDerived) (λ ds u. SpellsWhere ds (k ∷ u))
     (parted_finds derived_reader comma_derived SpellsDerived derived_finds comma_derived_finds) (λ ds u h. where_of k kw h))
 
 optional_where_finds : Finds optional_where SpellsWhere
@@ -203,9 +203,9 @@ optional_where_finds = either_finds (word_is (codes "where")) where_reader (give
 rule_finds : Finds rule_reader SpellsRule
 unfolding rule_reader
 rule_finds =
-    head_finds (word_is (codes "rule")) _ SpellsRule (λ k kw. then_finds (atoms_reader false) _ (Parted (SpellsAtom false)) _ (atoms_finds false) (λ premise u h.
+    head_finds (word_is (codes "rule")) _ SpellsRule (λ k kw. then_finds (atoms_reader false) _ (SpellsCommaList (SpellsAtom false)) _ (atoms_finds false) (λ premise u h.
     then_finds optional_where _ SpellsWhere _ optional_where_finds (λ ds v g. head_finds (mark_is (codes "->")) _ _ (λ arrow aw.
-    then_finds (atoms_reader true) _ (Parted (SpellsAtom true)) _ (atoms_finds true) (λ conclusion w f. head_finds (mark_is (codes ";")) _ _ (λ e ew. give_finds _ _ (rule_of k arrow e kw h g aw f ew)))))))
+    then_finds (atoms_reader true) _ (SpellsCommaList (SpellsAtom true)) _ (atoms_finds true) (λ conclusion w f. head_finds (mark_is (codes ";")) _ _ (λ e ew. give_finds _ _ (rule_of k arrow e kw h g aw f ew)))))))
 
 -- ---- conditions
 
@@ -248,8 +248,8 @@ pub mapping_finds : (levels : ℕ) → Finds (mapping_reader levels) (SpellsMapp
 unfolding mapping_reader
 mapping_finds levels =
     head_finds (word_is (codes "mapping")) _ (SpellsMapping levels) (λ k kw.
-    either_finds (number_is (codes "1")) _ _ (λ m w. SpellsMapping levels m (k ∷ w))
-    (head_finds (number_is (codes "1")) _ _ (λ n nw. body_finds 1 levels k n kw (version_one nw)))
-    (either_finds (number_is (codes "2")) _ _ (λ m w. SpellsMapping levels m (k ∷ w))
-    (head_finds (number_is (codes "2")) _ _ (λ n nw. body_finds 2 levels k n kw (version_two nw)))
-    (head_finds (number_is (codes "3")) _ _ (λ n nw. body_finds 3 levels k n kw (version_three nw)))))
+    either_finds (digit_is (codes "1")) _ _ (λ m w. SpellsMapping levels m (k ∷ w))
+    (head_finds (digit_is (codes "1")) _ _ (λ n nw. body_finds 1 levels k n kw (version_one nw)))
+    (either_finds (digit_is (codes "2")) _ _ (λ m w. SpellsMapping levels m (k ∷ w))
+    (head_finds (digit_is (codes "2")) _ _ (λ n nw. body_finds 2 levels k n kw (version_two nw)))
+    (head_finds (digit_is (codes "3")) _ _ (λ n nw. body_finds 3 levels k n kw (version_three nw)))))

@@ -7,16 +7,16 @@ use Rattle.dx_tokens.specs.declared.tokenizer.TokenKind.TheVariants.{Word, Numbe
 use Rattle.dx_tokens.specs.declared.scanner.Lexeme.{Lexeme}
 use Rattle.dx_grammar.specs.Forms.{Starts, Derives}
 use Rattle.dx_grammar.specs.Laws.{HasTokens}
-use Rattle.dx_grammar.specs.Readers.{whole, Tells}
+use Rattle.dx_grammar.specs.Readers.{whole, TellsOfTokens}
 use Rattle.dx_grammar.proofs.Exact.{whole_start}
 use Rattle.dx_grammar.proofs.Told.{start_take}
 use Rattle.dx_grammar.proofs.Fronts.{starts_fronts}
 use Rattle.dx_grammar.proofs.Spelled.{whole_again, whole_finds}
 use Rattle.dx_schema_text.specs.declared.texts.MappingText.{MappingText}
-use Rattle.dx_schema_text.specs.Grammar.{word, string, since_two, since_three, words, key, dep, determination, optional_word, ref, set_head, set_of, last_clause, clause_with, clause, set, place, places, behind_word, source, line, cell, cells, atom, atoms, derived, where_part, rule, only, item, side, body, mapping}
+use Rattle.dx_schema_text.specs.Grammar.{word, string, since_two, since_three, words, key, dep, determination, optional_word, ref, set_head, set_of, last_clause, clause_with, clause, set, place, places, behind_word, line_source, line, rule_cell, cells, atom, atoms, derived, where_part, rule, only, item, side, body, mapping}
 use Rattle.dx_schema_text.specs.Reading.{mapping_reader}
 use Rattle.dx_schema_text.specs.Spelling.{SpellsMapping}
-use Rattle.dx_schema_text.specs.Texts.{deepest, form, deeper_form}
+use Rattle.dx_schema_text.specs.Texts.{deepest, mapping_form, deeper_form}
 use Rattle.dx_schema_text.specs.Laws.{SpelledAreTexts, StandingGoesOn}
 use Rattle.dx_schema_text.proofs.Found.{mapping_finds}
 use Rattle.dx_schema_text.proofs.Again.{NoItemNext, mapping_again}
@@ -27,19 +27,19 @@ use Rattle.dx_schema_text.proofs.Telling.{mapping_tells}
 le_same : (n : ℕ) → n ≤ n
 le_same n = omega arith
 
-to_text : (xs : List Lexeme) → ((m : MappingText) × SpellsMapping deepest m xs) → Derives form xs
-to_text xs s = subst (Tells form xs) (whole_again (mapping_reader deepest) (SpellsMapping deepest) NoItemNext (mapping_again deepest) refl s.0 xs s.1) (mapping_tells deepest xs)
+to_text : (xs : List Lexeme) → ((m : MappingText) × SpellsMapping deepest m xs) → Derives mapping_form xs
+to_text xs s = subst (TellsOfTokens mapping_form xs) (whole_again (mapping_reader deepest) (SpellsMapping deepest) NoItemNext (mapping_again deepest) refl s.0 xs s.1) (mapping_tells deepest xs)
 
-to_spelled : (xs : List Lexeme) → Derives form xs → (m : MappingText) × SpellsMapping deepest m xs
+to_spelled : (xs : List Lexeme) → Derives mapping_form xs → (m : MappingText) × SpellsMapping deepest m xs
 to_spelled xs d = answer (whole (mapping_reader deepest) xs) refl (mapping_tells deepest xs)
   where
-    answer : (r : Result MappingText ℕ) → whole (mapping_reader deepest) xs ≡ r → Tells form xs (whole (mapping_reader deepest) xs) → (m : MappingText) × SpellsMapping deepest m xs
+    answer : (r : Result MappingText ℕ) → whole (mapping_reader deepest) xs ≡ r → TellsOfTokens mapping_form xs (whole (mapping_reader deepest) xs) → (m : MappingText) × SpellsMapping deepest m xs
     answer (Ok m) is t = (m, whole_finds (mapping_reader deepest) (SpellsMapping deepest) (mapping_finds deepest) xs m is)
-    answer (Err zero) is t = let h = subst (Tells form xs) is t in absurd (h.1 d)
+    answer (Err zero) is t = let h = subst (TellsOfTokens mapping_form xs) is t in absurd (h.1 d)
     answer (Err (suc left)) is t =
-        let h = subst (Tells form xs) is t in
-        let all = subst (Starts form) (sym (take_all (length xs) xs (le_same (length xs)))) (whole_start form xs d) in
-        absurd (h.1.here (start_take form (suc (length xs - suc left)) (length xs) xs h.1.inside all))
+        let h = subst (TellsOfTokens mapping_form xs) is t in
+        let all = subst (Starts mapping_form) (sym (take_all (length xs) xs (le_same (length xs)))) (whole_start mapping_form xs d) in
+        absurd (h.1.here (start_take mapping_form (suc (length xs - suc left)) (length xs) xs h.1.inside all))
 
 pub spelled_are_texts : SpelledAreTexts
 spelled_are_texts xs = (to_text xs, to_spelled xs)
@@ -102,8 +102,8 @@ place_tokens : HasTokens place
 unfolding place
 place_tokens = w & (made Mark (codes "."), refl) & w
 
-source_tokens : HasTokens source
-unfolding source behind_word places
+source_tokens : HasTokens line_source
+unfolding line_source behind_word places
 source_tokens =
     s & (w & (((made Mark (codes "."), refl) & w)
     & ((made Mark (codes "("), refl) & (place_tokens & ((made Mark (codes ","), refl) & place_tokens)) & (made Mark (codes ")"), refl))))
@@ -112,8 +112,8 @@ line_tokens : HasTokens line
 unfolding line
 line_tokens = (made Word (codes "line"), refl) & source_tokens & (made Mark (codes "->"), refl) & place_tokens & (made Mark (codes ";"), refl)
 
-cell_tokens : (strings : Bool) → HasTokens (cell strings)
-unfolding cell
+cell_tokens : (strings : Bool) → HasTokens (rule_cell strings)
+unfolding rule_cell
 cell_tokens false = w
 cell_tokens true = w & s
 
@@ -166,4 +166,4 @@ mapping_tokens levels =
     & (((made Number (codes "1"), refl) & body_tokens 1 levels) & (((made Number (codes "2"), refl) & body_tokens 2 levels) & ((made Number (codes "3"), refl) & body_tokens 3 levels)))
 
 pub standing_goes_on : StandingGoesOn
-standing_goes_on = (starts_fronts form (mapping_tokens deepest), starts_fronts deeper_form (mapping_tokens 16))
+standing_goes_on = (starts_fronts mapping_form (mapping_tokens deepest), starts_fronts deeper_form (mapping_tokens 16))

@@ -4,13 +4,13 @@ use Rattle.std.specs.Prelude.{codes}
 use Rattle.std.proofs.lemmas.Bool.{false≢true}
 use Rattle.dx_ports.specs.Members.{here}
 use Rattle.dx_ports.proofs.Members.{each_cons}
-use Rattle.dx_schema.specs.Forest.{Label, bare, none, set}
-use Rattle.dx_schema_text.specs.Print.{printed, IsNamed, IsOfVersion, AreWritable}
+use Rattle.dx_schema.specs.Forest.{Label, bare_set, none, set}
+use Rattle.dx_schema_text.specs.Print.{printed, HasWordNames, IsOfVersion, AreWritable}
 use Rattle.dx_schema_text.proofs.PrintScans.{a_word}
 use Rattle.dx_schema_text.proofs.SpelledWords.{each_none}
 
 abbrev staff : Label
-staff = bare (codes "staff") (codes "sname" ∷ [])
+staff = bare_set (codes "staff") (codes "sname" ∷ [])
 
 abbrev unit : Label
 unit = record {
@@ -27,10 +27,10 @@ no_sets = refl
 two_levels : printed [] (set unit (set staff none none) (set staff none none)) ≡ codes "set unit {\n  uname, place;\n  key (uname);\n  ref (place) -> town (tname, land);\n  set staff {\n    sname;\n  }\n}\nset staff {\n  sname;\n}\n"
 two_levels = refl
 
-staff_named : IsNamed staff
+staff_named : HasWordNames staff
 staff_named = record { name = a_word (codes "staff") refl; columns = (a_word (codes "sname") refl, each_none _); keys = each_none _; deps = each_none _; refs = each_none _ }
 
-unit_named : IsNamed unit
+unit_named : HasWordNames unit
 unit_named = record {
   name = a_word (codes "unit") refl;
   columns = (a_word (codes "uname") refl, each_cons _ _ (a_word (codes "place") refl) (each_none _));
@@ -80,7 +80,7 @@ no_order_of_version_one o = let no : false ≡ true = o.refs _ (here refl) refl 
     never : false ≡ true → ⊥
     never e = absurd cc
 
-address_named : IsNamed address
+address_named : HasWordNames address
 address_named = record {
   name = a_word (codes "addr") refl;
   columns = (a_word (codes "town") refl, each_cons _ _ (a_word (codes "zip") refl) (each_none _));

@@ -15,11 +15,11 @@ use Rattle.dx_schema.specs.declared.sets.RefDecl.{RefDecl}
 use Rattle.dx_schema.specs.Forest.{Label, Forest, none, set, Tree, forest_of}
 use Rattle.dx_schema.specs.Faults.{depth}
 use Rattle.dx_schema_text.specs.declared.clauses.Clause.{Clause}
-use Rattle.dx_schema_text.specs.Reading.{key_clause, dep_clause, ref_clause, set_clause, keys_among, deps_among, refs_among, sets_among, tree_of}
+use Rattle.dx_schema_text.specs.Reading.{key_clause, dep_clause, ref_clause, set_clause, keys_among, deps_among, refs_among, sets_among, tree_of_clauses}
 use Rattle.dx_schema_text.specs.Grammar.{word_is, since_two, since_three}
-use Rattle.dx_schema_text.specs.Spelling.{IsMark, IsWord, Comma, comma_then, Parted, parted, SpellsName, name_of, SpellsKey, key_of, SpellsDep, dep_of, SpellsOptional, not_optional, is_optional, SpellsRef, ref_of, SpellsHead, head_of, SpellsSet, set_of, SpellsClauses, no_clause, clause_first, a_key, a_dep, a_ref, a_set, SpellsSide, side_of, IsVersion, version_one, version_two, version_three, SpellsMapping, mapping_of}
+use Rattle.dx_schema_text.specs.Spelling.{IsMarkToken, IsWordToken, Comma, comma_then, SpellsCommaList, parted, SpellsName, name_of, SpellsKey, key_of, SpellsDep, dep_of, SpellsOptional, not_optional, is_optional, SpellsRef, ref_of, SpellsHead, head_of, SpellsSet, set_of, SpellsClauses, no_clause, clause_first, a_key, a_dep, a_ref, a_set, SpellsSide, side_of, IsVersion, version_one, version_two, version_three, SpellsMapping, mapping_of}
 use Rattle.dx_schema_text.specs.Texts.{deepest, IsMappingText}
-use Rattle.dx_schema_text.specs.Print.{names_text, optional_text, wider, key_line, dep_line, ref_line, head_lines, front_lines, last_line, printed, AreNames, IsNamedDep, IsNamedRef, IsNamed, AreNamed, IsOfVersion, AreOfVersion, AreWritable, IsKnown, the_first, the_second, the_third, digit_of, sides_text, sides, IsReadAgain}
+use Rattle.dx_schema_text.specs.Print.{names_text, optional_text, wider, key_line, dep_line, ref_line, head_lines, front_lines, last_line, printed, AreNames, IsNamedDep, IsNamedRef, HasWordNames, HaveWordNames, IsOfVersion, AreOfVersion, AreWritable, IsKnownVersion, the_first, the_second, the_third, digit_of, sides_text, sides, IsReadAgain}
 use Rattle.dx_schema_text.proofs.PrintScans.{Reads, EndsWord, lexeme, no_token, token_then, word_then, mark_then, blanks_then, both_then, told_as, each_passes, a_word, each_append, reads_all}
 
 abbrev AreBlank : List ℕ → Type 0
@@ -30,10 +30,10 @@ AreBlank bs = Each bs (λ b. IsTrue (is_blank b))
 abbrev others_text : List (List ℕ) → List ℕ
 others_text names = flat_map (λ other. codes ", " ++ other) names
 
-comma_name : (x y : Lexeme) (names : List (List ℕ)) (v : List Lexeme) → IsMark (codes ",") x → IsWord y → Many (Comma SpellsName) names v → Many (Comma SpellsName) (y.text ∷ names) (x ∷ y ∷ v)
+comma_name : (x y : Lexeme) (names : List (List ℕ)) (v : List Lexeme) → IsMarkToken (codes ",") x → IsWordToken y → Many (Comma SpellsName) names v → Many (Comma SpellsName) (y.text ∷ names) (x ∷ y ∷ v)
 comma_name x y names v m w h = one_more (comma_then x m (name_of y w)) h
 
-first_name : (y : Lexeme) (names : List (List ℕ)) (v : List Lexeme) → IsWord y → Many (Comma SpellsName) names v → Parted SpellsName (y.text ∷ names) (y ∷ v)
+first_name : (y : Lexeme) (names : List (List ℕ)) (v : List Lexeme) → IsWordToken y → Many (Comma SpellsName) names v → SpellsCommaList SpellsName (y.text ∷ names) (y ∷ v)
 first_name y names v w h = parted (name_of y w) h
 
 -- no word goes on before a comma, nor before what ends a word
@@ -50,10 +50,10 @@ others_read (name ∷ names) place more each ends =
     (word_then _ name (others_text names ++ more) more _ (each name (here refl)) (ends_before names more ends)
     (told_as (Many (Comma SpellsName) names) _ _ more _ (others_read names _ more (λ n m. each n (there m)) ends) (λ v h. comma_name _ _ names v refl refl h)))))
 
-names_read : (names : List (List ℕ)) (place : ℕ) (more : List ℕ) → AreNames names → EndsWord more → Reads (Parted SpellsName names) place (names_text names ++ more) more
+names_read : (names : List (List ℕ)) (place : ℕ) (more : List ℕ) → AreNames names → EndsWord more → Reads (SpellsCommaList SpellsName names) place (names_text names ++ more) more
 names_read [] place more h ends = absurd h
 names_read (name ∷ names) place more h ends =
-    subst (λ (text : List ℕ). Reads (Parted SpellsName (name ∷ names)) place text more) (sym (append_assoc name (others_text names) more))
+    subst (λ (text : List ℕ). Reads (SpellsCommaList SpellsName (name ∷ names)) place text more) (sym (append_assoc name (others_text names) more))
     (word_then _ name (others_text names ++ more) more place h.0 (ends_before names more ends)
     (told_as (Many (Comma SpellsName) names) _ _ more _ (others_read names _ more h.1 ends) (λ v m. first_name _ names v refl m)))
 
@@ -69,7 +69,7 @@ key_read margin k place tail blank named =
     (word_then _ (codes "key") _ tail _ (a_word (codes "key") refl) refl
     (blanks_then _ (codes " ") _ tail _ (each_passes is_blank (codes " ") refl)
     (mark_then _ (codes "(") _ tail _ refl
-    (both_then (Parted SpellsName k.columns) _ _ _ tail _ (names_read k.columns _ (codes ");\n" ++ tail) named refl) (λ u after h.
+    (both_then (SpellsCommaList SpellsName k.columns) _ _ _ tail _ (names_read k.columns _ (codes ");\n" ++ tail) named refl) (λ u after h.
     mark_then _ (codes ")") _ tail _ refl
     (mark_then _ (codes ";") _ tail _ refl
     (blanks_then _ (codes "\n") tail tail _ (each_passes is_blank (codes "\n") refl)
@@ -85,13 +85,13 @@ dep_read margin d place tail blank named =
     (word_then _ (codes "dep") _ tail _ (a_word (codes "dep") refl) refl
     (blanks_then _ (codes " ") _ tail _ (each_passes is_blank (codes " ") refl)
     (mark_then _ (codes "(") _ tail _ refl
-    (both_then (Parted SpellsName d.columns) _ _ _ tail _ (names_read d.columns _ (codes ") -> (" ++ (names_text d.decides ++ (codes ");\n" ++ tail))) named.columns refl) (λ u after h.
+    (both_then (SpellsCommaList SpellsName d.columns) _ _ _ tail _ (names_read d.columns _ (codes ") -> (" ++ (names_text d.decides ++ (codes ");\n" ++ tail))) named.columns refl) (λ u after h.
     mark_then _ (codes ")") _ tail _ refl
     (blanks_then _ (codes " ") _ tail _ (each_passes is_blank (codes " ") refl)
     (mark_then _ (codes "->") _ tail _ refl
     (blanks_then _ (codes " ") _ tail _ (each_passes is_blank (codes " ") refl)
     (mark_then _ (codes "(") _ tail _ refl
-    (both_then (Parted SpellsName d.decides) _ _ _ tail _ (names_read d.decides _ (codes ");\n" ++ tail) named.decides refl) (λ v behind g.
+    (both_then (SpellsCommaList SpellsName d.decides) _ _ _ tail _ (names_read d.decides _ (codes ");\n" ++ tail) named.decides refl) (λ v behind g.
     mark_then _ (codes ")") _ tail _ refl
     (mark_then _ (codes ";") _ tail _ refl
     (blanks_then _ (codes "\n") tail tail _ (each_passes is_blank (codes "\n") refl)
@@ -101,7 +101,7 @@ no_optional : ¬ (false ≡ true)
 no_optional e = absurd cc
 
 -- the end of a ref, after its last bracket
-optional_end : (b : Bool) (optionals : Bool) (place : ℕ) (tail : List ℕ) → (b ≡ true → optionals ≡ true) → (R : List Lexeme → Type 0) → ((w : List Lexeme) (e : Lexeme) → SpellsOptional optionals b w → IsMark (codes ";") e → R (w ++ e ∷ []))
+optional_end : (b : Bool) (optionals : Bool) (place : ℕ) (tail : List ℕ) → (b ≡ true → optionals ≡ true) → (R : List Lexeme → Type 0) → ((w : List Lexeme) (e : Lexeme) → SpellsOptional optionals b w → IsMarkToken (codes ";") e → R (w ++ e ∷ []))
     → Reads R place (optional_text b ++ (codes ";\n" ++ tail)) tail
 optional_end false optionals place tail sayable R made =
     mark_then _ (codes ";") _ tail _ refl
@@ -127,7 +127,7 @@ ref_read margin r optionals place tail blank named sayable =
     (word_then _ (codes "ref") _ tail _ (a_word (codes "ref") refl) refl
     (blanks_then _ (codes " ") _ tail _ (each_passes is_blank (codes " ") refl)
     (mark_then _ (codes "(") _ tail _ refl
-    (both_then (Parted SpellsName r.columns) _ _ _ tail _ (names_read r.columns _ (codes ") -> " ++ (r.set ++ (codes " (" ++ (names_text r.referred ++ (codes ")" ++ end))))) named.columns refl) (λ u after h.
+    (both_then (SpellsCommaList SpellsName r.columns) _ _ _ tail _ (names_read r.columns _ (codes ") -> " ++ (r.set ++ (codes " (" ++ (names_text r.referred ++ (codes ")" ++ end))))) named.columns refl) (λ u after h.
     mark_then _ (codes ")") _ tail _ refl
     (blanks_then _ (codes " ") _ tail _ (each_passes is_blank (codes " ") refl)
     (mark_then _ (codes "->") _ tail _ refl
@@ -135,7 +135,7 @@ ref_read margin r optionals place tail blank named sayable =
     (word_then _ r.set _ tail _ named.refers refl
     (blanks_then _ (codes " ") _ tail _ (each_passes is_blank (codes " ") refl)
     (mark_then _ (codes "(") _ tail _ refl
-    (both_then (Parted SpellsName r.referred) _ _ _ tail _ (names_read r.referred _ (codes ")" ++ end) named.referred refl) (λ v behind g.
+    (both_then (SpellsCommaList SpellsName r.referred) _ _ _ tail _ (names_read r.referred _ (codes ")" ++ end) named.referred refl) (λ v behind g.
     mark_then _ (codes ")") _ tail _ refl
     (optional_end r.optional optionals _ tail sayable _ (λ w e is ew. ref_of _ _ _ _ _ _ _ _ refl refl h refl refl refl refl g refl is ew))))))))))))))))
 
@@ -261,7 +261,7 @@ sets_are l inner =
 abbrev tree_with : Label → List KeyDecl → List DepDecl → List RefDecl → Forest → Tree
 tree_with l keys deps refs inner = record { label = record { name = l.name; columns = l.columns; keys = keys; deps = deps; refs = refs }; inner = inner }
 
-tree_is : (l : Label) (inner : Forest) → tree_of l.name l.columns (clauses_of l inner) ≡ record { label = l; inner = inner }
+tree_is : (l : Label) (inner : Forest) → tree_of_clauses l.name l.columns (clauses_of l inner) ≡ record { label = l; inner = inner }
 tree_is l inner =
     let cs = clauses_of l inner in
     ap (λ ks. tree_with l ks (deps_among cs) (refs_among cs) (sets_among cs)) (keys_are l inner)
@@ -278,7 +278,7 @@ head_flat margin l tail = simp append_assoc
 wider_blank : (margin : List ℕ) → AreBlank margin → AreBlank (wider margin)
 wider_blank margin blank = each_append is_blank margin (codes "  ") blank (each_passes is_blank (codes "  ") refl)
 
-head_read : (margin : List ℕ) (l : Label) (place : ℕ) (tail : List ℕ) → AreBlank margin → IsNamed l → Reads (SpellsHead l.name l.columns) place (head_lines margin l ++ tail) tail
+head_read : (margin : List ℕ) (l : Label) (place : ℕ) (tail : List ℕ) → AreBlank margin → HasWordNames l → Reads (SpellsHead l.name l.columns) place (head_lines margin l ++ tail) tail
 head_read margin l place tail blank named =
     subst (λ (text : List ℕ). Reads (SpellsHead l.name l.columns) place text tail) (sym (head_flat margin l tail))
     (blanks_then _ margin _ tail place blank
@@ -289,7 +289,7 @@ head_read margin l place tail blank named =
     (mark_then _ (codes "{") _ tail _ refl
     (blanks_then _ (codes "\n") _ tail _ (each_passes is_blank (codes "\n") refl)
     (blanks_then _ (wider margin) _ tail _ (wider_blank margin blank)
-    (both_then (Parted SpellsName l.columns) _ _ _ tail _ (names_read l.columns _ (codes ";\n" ++ tail) named.columns refl) (λ u after h.
+    (both_then (SpellsCommaList SpellsName l.columns) _ _ _ tail _ (names_read l.columns _ (codes ";\n" ++ tail) named.columns refl) (λ u after h.
     mark_then _ (codes ";") _ tail _ refl
     (blanks_then _ (codes "\n") tail tail _ (each_passes is_blank (codes "\n") refl)
     (no_token _ _ tail (head_of _ _ _ _ refl refl refl h refl)))))))))))))
@@ -307,11 +307,11 @@ front_flat margin l tail =
 abbrev InnerRead : ℕ → ℕ → List ℕ → Forest → Type 0
 InnerRead version levels margin f = (place : ℕ) (tail : List ℕ) → Reads (SpellsClauses version levels (set_clauses f)) place (printed margin f ++ tail) tail
 
-set_closed : (version levels : ℕ) (l : Label) (inner : Forest) (u v : List Lexeme) (c : Lexeme) → SpellsHead l.name l.columns u → SpellsClauses version levels (clauses_of l inner) v → IsMark (codes "}") c
+set_closed : (version levels : ℕ) (l : Label) (inner : Forest) (u v : List Lexeme) (c : Lexeme) → SpellsHead l.name l.columns u → SpellsClauses version levels (clauses_of l inner) v → IsMarkToken (codes "}") c
     → SpellsSet version levels (record { label = l; inner = inner }) (u ++ (v ++ c ∷ []))
 set_closed version levels l inner u v c head clauses closing = subst (λ (t : Tree). SpellsSet version levels t (u ++ (v ++ c ∷ []))) (tree_is l inner) (set_of c head clauses closing)
 
-set_read : (version levels : ℕ) (margin : List ℕ) (l : Label) (inner : Forest) (place : ℕ) (more : List ℕ) → AreBlank margin → IsNamed l → IsOfVersion version l → InnerRead version levels (wider margin) inner
+set_read : (version levels : ℕ) (margin : List ℕ) (l : Label) (inner : Forest) (place : ℕ) (more : List ℕ) → AreBlank margin → HasWordNames l → IsOfVersion version l → InnerRead version levels (wider margin) inner
     → Reads (SpellsSet version levels (record { label = l; inner = inner })) place (front_lines margin l ++ (printed (wider margin) inner ++ (last_line margin ++ more))) more
 set_read version levels margin l inner place more blank named first on =
     subst (λ (text : List ℕ). Reads (SpellsSet version levels (record { label = l; inner = inner })) place text more) (sym (front_flat margin l (printed (wider margin) inner ++ (last_line margin ++ more))))
@@ -332,7 +332,7 @@ level_flat margin l inner rest tail =
     append_assoc (front_lines margin l) _ tail ∙ ap (λ (xs : List ℕ). front_lines margin l ++ xs) (append_assoc (printed (wider margin) inner) _ tail
     ∙ ap (λ (xs : List ℕ). printed (wider margin) inner ++ xs) (append_assoc (last_line margin) (printed margin rest) tail))
 
-inner_read : (version : ℕ) (f : Forest) (levels : ℕ) (margin : List ℕ) → AreBlank margin → AreNamed f → AreOfVersion version f → depth f ≤ levels → InnerRead version levels margin f
+inner_read : (version : ℕ) (f : Forest) (levels : ℕ) (margin : List ℕ) → AreBlank margin → HaveWordNames f → AreOfVersion version f → depth f ≤ levels → InnerRead version levels margin f
 inner_read version none levels margin blank named first deep place tail = no_token _ place tail no_clause
 inner_read version (set l i r) zero margin blank named first deep place tail = absurd (omega arith)
 inner_read version (set l i r) (suc n) margin blank named first deep place tail =
@@ -351,7 +351,7 @@ forest_is : (f : Forest) → forest_of (trees_of f) ≡ f
 forest_is none = refl
 forest_is (set l i r) = ap (λ f. set l i f) (forest_is r)
 
-sets_read : (version : ℕ) (f : Forest) (levels : ℕ) (margin : List ℕ) → AreBlank margin → AreNamed f → AreOfVersion version f → depth f ≤ suc levels → (place : ℕ) (tail : List ℕ) → Reads (Many (SpellsSet version levels) (trees_of f)) place (printed margin f ++ tail) tail
+sets_read : (version : ℕ) (f : Forest) (levels : ℕ) (margin : List ℕ) → AreBlank margin → HaveWordNames f → AreOfVersion version f → depth f ≤ suc levels → (place : ℕ) (tail : List ℕ) → Reads (Many (SpellsSet version levels) (trees_of f)) place (printed margin f ++ tail) tail
 sets_read version none levels margin blank named first deep place tail = no_token _ place tail no_more
 sets_read version (set l i r) n margin blank named first deep place tail =
     subst (λ (text : List ℕ). Reads (Many (SpellsSet version n) (trees_of (set l i r))) place text tail) (sym (level_flat margin l i r tail))
@@ -359,7 +359,7 @@ sets_read version (set l i r) n margin blank named first deep place tail =
     (set_read version n margin l i place (printed margin r ++ tail) blank named.0 first.0 (inner_read version i n (wider margin) (wider_blank margin blank) named.1 first.1 (omega arith))) (λ u after h.
     told_as (Many (SpellsSet version n) (trees_of r)) _ _ tail after (sets_read version r n margin blank named.2 first.2 (omega arith) after tail) (λ v c. one_more h c)))
 
-side_closed : (version : ℕ) (name : List ℕ) (f : Forest) (k o c : Lexeme) (u : List Lexeme) → word_is name k ≡ true → IsMark (codes "{") o → Many (SpellsSet version deepest) (trees_of f) u → IsMark (codes "}") c
+side_closed : (version : ℕ) (name : List ℕ) (f : Forest) (k o c : Lexeme) (u : List Lexeme) → word_is name k ≡ true → IsMarkToken (codes "{") o → Many (SpellsSet version deepest) (trees_of f) u → IsMarkToken (codes "}") c
     → SpellsSide version name deepest f (k ∷ o ∷ (u ++ c ∷ []))
 side_closed version name f k o c u word opening sets closing = subst (λ (g : Forest). SpellsSide version name deepest g (k ∷ o ∷ (u ++ c ∷ []))) (forest_is f) (side_of k o c word opening sets closing)
 
@@ -376,17 +376,17 @@ side_read version name f place more word is w =
     (no_token _ _ more (side_closed version name f _ _ _ u is refl h refl))))))))
 
 -- the digit of a version is a number, and it tells the version
-digit_text : {version : ℕ} → IsKnown version → lexing.IsTokenText Number (digit_of version)
+digit_text : {version : ℕ} → IsKnownVersion version → lexing.IsTokenText Number (digit_of version)
 digit_text the_first = (refl, each_passes is_digit [] refl)
 digit_text the_second = (refl, each_passes is_digit [] refl)
 digit_text the_third = (refl, each_passes is_digit [] refl)
 
-digit_tells : {version : ℕ} → IsKnown version → (place : ℕ) → IsVersion version (lexeme place Number (digit_of version))
+digit_tells : {version : ℕ} → IsKnownVersion version → (place : ℕ) → IsVersion version (lexeme place Number (digit_of version))
 digit_tells the_first place = version_one refl
 digit_tells the_second place = version_two refl
 digit_tells the_third place = version_three refl
 
-mapping_read : (version : ℕ) (from to : Forest) → IsKnown version → AreWritable version from → AreWritable version to → Reads (SpellsMapping deepest (sides version from to)) 0 (sides_text version (printed [] from) (printed [] to)) []
+mapping_read : (version : ℕ) (from to : Forest) → IsKnownVersion version → AreWritable version from → AreWritable version to → Reads (SpellsMapping deepest (sides version from to)) 0 (sides_text version (printed [] from) (printed [] to)) []
 mapping_read version from to known f t =
     word_then _ (codes "mapping") _ [] 0 (a_word (codes "mapping") refl) refl
     (blanks_then _ (codes " ") _ [] _ (each_passes is_blank (codes " ") refl)
@@ -397,10 +397,10 @@ mapping_read version from to known f t =
     both_then (SpellsSide version (codes "target") deepest to) _ _ [] [] _ (side_read version (codes "target") to _ [] (a_word (codes "target") refl) refl t) (λ v behind g.
     no_token _ _ [] (mapping_of _ _ _ refl (digit_tells known _) refl h g no_more))))))))
 
-pub mapping_of_sides : (version : ℕ) (from to : Forest) → IsKnown version → AreWritable version from → AreWritable version to → IsMappingText (sides_text version (printed [] from) (printed [] to)) (sides version from to)
+pub mapping_of_sides : (version : ℕ) (from to : Forest) → IsKnownVersion version → AreWritable version from → AreWritable version to → IsMappingText (sides_text version (printed [] from) (printed [] to)) (sides version from to)
 mapping_of_sides version from to known f t = let r = reads_all (SpellsMapping deepest (sides version from to)) _ (mapping_read version from to known f t) in record { no_stop = r.no_stop; spelled = r.has }
 
-pub read_again : (version : ℕ) (trees : Forest) (text : List ℕ) → text ≡ printed [] trees → IsKnown version → AreWritable version trees → IsReadAgain version trees text
+pub read_again : (version : ℕ) (trees : Forest) (text : List ℕ) → text ≡ printed [] trees → IsKnownVersion version → AreWritable version trees → IsReadAgain version trees text
 read_again version trees text is known w = record {
   source = λ others o. rw is (mapping_of_sides version trees others known w o);
   target = λ others o. rw is (mapping_of_sides version others trees known o w);

@@ -10,7 +10,7 @@ use Rattle.dx_tokens.specs.declared.tokenizer.TokenKind.TheVariants.{Word, Mark}
 use Rattle.dx_tokens.specs.declared.scanner.Lexeme.{Lexeme}
 use Rattle.dx_tokens.specs.declared.scanner.Scanned.{Scanned}
 use Rattle.dx_tokens.specs.Tokens.{is_blank, is_word_start, is_word_byte}
-use Rattle.dx_tokens.specs.Scan.{text_of, with_lexeme, scan_from, scan_of}
+use Rattle.dx_tokens.specs.Scan.{lexeme_text, with_lexeme, scan_from, scan_of}
 use Rattle.dx_tokens.specs.Lexing.{IsWord, IsMark, IsTokenText}
 use Rattle.dx_tokens.proofs.Spelled.{StopsBehind}
 use Rattle.dx_tokens.proofs.PartScans.{token_scanned, blanks_scanned}
@@ -31,7 +31,7 @@ abbrev pub EndsWord : List ℕ → Type 0
 EndsWord more = StopsBehind Word more
 
 abbrev pub lexeme : ℕ → TokenKind → List ℕ → Lexeme
-lexeme place kind w = record { place = place; kind = kind; text = text_of kind w }
+lexeme place kind w = record { place = place; kind = kind; text = lexeme_text kind w }
 
 pub no_token : (R : List Lexeme → Type 0) (place : ℕ) (more : List ℕ) → R [] → Reads R place more more
 no_token R place more h = record { lexemes = []; after = place; scanned = refl; has = h }

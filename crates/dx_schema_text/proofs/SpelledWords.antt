@@ -17,10 +17,10 @@ use Rattle.dx_schema_text.specs.declared.clauses.Clause.{Clause}
 use Rattle.dx_schema_text.specs.declared.texts.MappingText.{MappingText}
 use Rattle.dx_schema_text.specs.Grammar.{is_word_kind}
 use Rattle.dx_schema_text.specs.Reading.{keys_among, deps_among, refs_among, sets_among}
-use Rattle.dx_schema_text.specs.Spelling.{IsWord as IsWordToken, Comma, comma_then, Parted, parted, SpellsName, name_of, SpellsKey, key_of, SpellsDep, dep_of, SpellsRef, ref_of, SpellsHead, head_of, SpellsSet, set_of, SpellsClauses, no_clause, clause_first, SpellsClause, a_key, a_dep, a_ref, a_set, SpellsSide, side_of, SpellsMapping, mapping_of}
+use Rattle.dx_schema_text.specs.Spelling.{IsWordToken, Comma, comma_then, SpellsCommaList, parted, SpellsName, name_of, SpellsKey, key_of, SpellsDep, dep_of, SpellsRef, ref_of, SpellsHead, head_of, SpellsSet, set_of, SpellsClauses, no_clause, clause_first, SpellsClause, a_key, a_dep, a_ref, a_set, SpellsSide, side_of, SpellsMapping, mapping_of}
 use Rattle.dx_schema_text.specs.Texts.{IsMappingText}
 use Rattle.dx_schema_text.proofs.Versions.{said_sayable}
-use Rattle.dx_schema_text.specs.Print.{AreNames, IsNamedDep, IsNamedRef, IsNamed, AreNamed, AreWritable}
+use Rattle.dx_schema_text.specs.Print.{AreNames, IsNamedDep, IsNamedRef, HasWordNames, HaveWordNames, AreWritable}
 
 -- a token that can stand for a word is one
 pub kind_word : (k : TokenKind) → is_word_kind k ≡ true → k ≡ Word
@@ -55,7 +55,7 @@ many_right : {names : List (List ℕ)} {u : List Lexeme} → Many (Comma SpellsN
 many_right no_more h = each_none _
 many_right (one_more {a = a} {others = others} {u = u} {v = v} c m) h = each_cons a others (comma_right c (right_front u v h)) (many_right m (right_back u v h))
 
-names_right : {names : List (List ℕ)} {u : List Lexeme} → Parted SpellsName names u → WordsAreRight u → AreNames names
+names_right : {names : List (List ℕ)} {u : List Lexeme} → SpellsCommaList SpellsName names u → WordsAreRight u → AreNames names
 names_right (parted {u = u} {v = v} n m) h = (name_right n (right_front u v h), many_right m (right_back u v h))
 
 -- ---- sets
@@ -80,10 +80,10 @@ head_right (head_of {u = u} k n o e kw nw ow names ew) h = (word_right n nw h.1.
 
 -- what clauses say of a set
 abbrev AreRight : ℕ → List Clause → Type 0
-AreRight levels cs = Each (keys_among cs) (λ (k : KeyDecl). AreNames k.columns) × Each (deps_among cs) IsNamedDep × Each (refs_among cs) IsNamedRef × AreNamed (sets_among cs) × (depth (sets_among cs) ≤ levels)
+AreRight levels cs = Each (keys_among cs) (λ (k : KeyDecl). AreNames k.columns) × Each (deps_among cs) IsNamedDep × Each (refs_among cs) IsNamedRef × HaveWordNames (sets_among cs) × (depth (sets_among cs) ≤ levels)
 
 mutual
-  set_right : {version levels : ℕ} {t : Tree} {a : List Lexeme} → SpellsSet version levels t a → WordsAreRight a → IsNamed t.label × AreNamed t.inner × (depth t.inner ≤ levels)
+  set_right : {version levels : ℕ} {t : Tree} {a : List Lexeme} → SpellsSet version levels t a → WordsAreRight a → HasWordNames t.label × HaveWordNames t.inner × (depth t.inner ≤ levels)
   set_right (set_of {u = u} {v = v} c head cs cw) h =
       let front = head_right head (right_front u (v ++ c ∷ []) h) in
       let inside = clauses_right cs (right_front v (c ∷ []) (right_back u (v ++ c ∷ []) h)) in
@@ -99,17 +99,17 @@ mutual
   clause_right (a_ref {r = r} s) cs h rest = (rest.0, rest.1, each_cons r (refs_among cs) (ref_right s h) rest.2, rest.3, rest.4)
   clause_right (a_set {t = t} s) cs h rest = let one = set_right s h in (rest.0, rest.1, rest.2, (one.0, one.1, rest.3), omega (arith, one.2, rest.4))
 
-trees_right : {version levels : ℕ} {trees : List Tree} {u : List Lexeme} → Many (SpellsSet version levels) trees u → WordsAreRight u → AreNamed (forest_of trees) × (depth (forest_of trees) ≤ suc levels)
+trees_right : {version levels : ℕ} {trees : List Tree} {u : List Lexeme} → Many (SpellsSet version levels) trees u → WordsAreRight u → HaveWordNames (forest_of trees) × (depth (forest_of trees) ≤ suc levels)
 trees_right no_more h = (tt, omega arith)
 trees_right (one_more {u = u} {v = v} s m) h =
     let one = set_right s (right_front u v h) in
     let rest = trees_right m (right_back u v h) in
     ((one.0, one.1, rest.0), omega (arith, one.2, rest.1))
 
-side_right : {version : ℕ} {name : List ℕ} {levels : ℕ} {f : Forest} {a : List Lexeme} → SpellsSide version name levels f a → WordsAreRight a → AreNamed f × (depth f ≤ suc levels)
+side_right : {version : ℕ} {name : List ℕ} {levels : ℕ} {f : Forest} {a : List Lexeme} → SpellsSide version name levels f a → WordsAreRight a → HaveWordNames f × (depth f ≤ suc levels)
 side_right (side_of {u = u} k o c kw ow m cw) h = trees_right m (right_front u (c ∷ []) h.1.1)
 
-mapping_right : {levels : ℕ} {m : MappingText} {a : List Lexeme} → SpellsMapping levels m a → WordsAreRight a → (AreNamed m.source × (depth m.source ≤ suc levels)) × (AreNamed m.target × (depth m.target ≤ suc levels))
+mapping_right : {levels : ℕ} {m : MappingText} {a : List Lexeme} → SpellsMapping levels m a → WordsAreRight a → (HaveWordNames m.source × (depth m.source ≤ suc levels)) × (HaveWordNames m.target × (depth m.target ≤ suc levels))
 mapping_right (mapping_of {u = u} {v = v} {w = w} k n e kw nw ew from to items) h =
     let back = right_back u (v ++ w) h.1.1.1 in
     (side_right from (right_front u (v ++ w) h.1.1.1), side_right to (right_front v w back))

@@ -4,7 +4,7 @@ use Rattle.std.specs.Prelude.{codes}
 use Rattle.std.proofs.lemmas.List.{append-nil}
 use Rattle.dx_tokens.specs.declared.scanner.Lexeme.{Lexeme}
 use Rattle.dx_grammar.specs.Forms.{Form, repeated, Derives, is_one, Starts, at_one, in_first, in_second, in_left, in_right, in_again}
-use Rattle.dx_grammar.specs.Readers.{Reader, whole_of, whole, Many, no_more, one_more, Tells}
+use Rattle.dx_grammar.specs.Readers.{Reader, whole_of, whole, Many, no_more, one_more, TellsOfTokens}
 use Rattle.dx_grammar.proofs.Told.{answers}
 use Rattle.dx_grammar.proofs.Verdicts.{IsReader, Anything}
 use Rattle.dx_schema.specs.Forest.{Tree, Forest}
@@ -24,7 +24,7 @@ whole_text : {A : Type 0} (f : Form Lexeme) (r : Reader Lexeme A) → IsReader A
 whole_text f r reads a u e =
     let read : r u ≡ Ok (a, []) = subst (λ xs. r xs ≡ Ok (a, [])) (append-nil u) e in
     let all : whole r u ≡ Ok a = ap (λ x. whole_of x) read in
-    subst (Tells f u) all (answers Anything f r reads tt u)
+    subst (TellsOfTokens f u) all (answers Anything f r reads tt u)
 
 head_text : {name : List ℕ} {columns : List (List ℕ)} {u : List Lexeme} → SpellsHead name columns u → Derives set_head u
 head_text {name = name} {columns = columns} {u = u} h = whole_text set_head set_head_reader set_head_reads (name, columns) u (head_behind h [])

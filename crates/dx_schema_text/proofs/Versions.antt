@@ -13,7 +13,7 @@ use Rattle.dx_schema_text.specs.Grammar.{since_two, since_three}
 use Rattle.dx_schema_text.specs.Reading.{deps_among, refs_among, sets_among, conditions_among}
 use Rattle.dx_schema_text.specs.Spelling.{SpellsOptional, not_optional, is_optional, SpellsRef, ref_of, SpellsSet, set_of, SpellsClauses, no_clause, clause_first, a_key, a_dep, a_ref, a_set, SpellsItem, a_line, a_rule, SpellsSide, side_of, IsVersion, version_one, version_two, version_three, SpellsMapping, mapping_of}
 use Rattle.dx_schema_text.specs.Laws.{SaidIsOfVersion}
-use Rattle.dx_schema_text.specs.Print.{IsOfVersion, AreOfVersion, IsKnown, the_first, the_second, the_third}
+use Rattle.dx_schema_text.specs.Print.{IsOfVersion, AreOfVersion, IsKnownVersion, the_first, the_second, the_third}
 
 optional_sayable : {optionals b : Bool} {xs : List Lexeme} → SpellsOptional optionals b xs → b ≡ true → optionals ≡ true
 optional_sayable not_optional e = absurd cc
@@ -62,12 +62,12 @@ without_conditions : {items : List ItemText} {xs : List Lexeme} (conditions : Bo
 without_conditions false said e = none_said said
 without_conditions true said e = absurd cc
 
-known : {version : ℕ} {n : Lexeme} → IsVersion version n → IsKnown version
+known : {version : ℕ} {n : Lexeme} → IsVersion version n → IsKnownVersion version
 known (version_one e) = the_first
 known (version_two e) = the_second
 known (version_three e) = the_third
 
-is_of_version : {levels : ℕ} {m : MappingText} {xs : List Lexeme} → SpellsMapping levels m xs → IsKnown m.version × (since_two m.version ≡ false → m.conditions ≡ [])
+is_of_version : {levels : ℕ} {m : MappingText} {xs : List Lexeme} → SpellsMapping levels m xs → IsKnownVersion m.version × (since_two m.version ≡ false → m.conditions ≡ [])
 is_of_version (mapping_of {version = version} k n e keyword number ending from to rest) = (known number, without_conditions (since_two version) rest)
 
 pub said_is_of_version : SaidIsOfVersion

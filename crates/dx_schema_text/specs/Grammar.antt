@@ -44,8 +44,8 @@ is_string x = is_string_kind x.kind
 abbrev pub word_is : List ℕ → Lexeme → Bool
 word_is w x = is_word x && pointwise nat_eq x.text w
 
-abbrev pub number_is : List ℕ → Lexeme → Bool
-number_is n x = is_number_kind x.kind && pointwise nat_eq x.text n
+abbrev pub digit_is : List ℕ → Lexeme → Bool
+digit_is n x = is_number_kind x.kind && pointwise nat_eq x.text n
 
 abbrev pub mark_is : List ℕ → Lexeme → Bool
 mark_is m x = is_mark_kind x.kind && pointwise nat_eq x.text m
@@ -142,21 +142,21 @@ unfoldable pub behind_word : Form Lexeme
 behind_word = (mark (codes ".") ▸ word) ∣ (mark (codes "(") ▸ places ▸ mark (codes ")"))
 
 -- string | place | word "(" places ")"
-unfoldable pub source : Form Lexeme
-source = string ∣ (word ▸ behind_word)
+unfoldable pub line_source : Form Lexeme
+line_source = string ∣ (word ▸ behind_word)
 
 -- "line" source "->" place ";"
 unfoldable pub line : Form Lexeme
-line = keyword (codes "line") ▸ source ▸ mark (codes "->") ▸ place ▸ mark (codes ";")
+line = keyword (codes "line") ▸ line_source ▸ mark (codes "->") ▸ place ▸ mark (codes ";")
 
--- a word, and where strings may stand, a word or a string
-unfoldable pub cell : Bool → Form Lexeme
-cell false = word
-cell true = word ∣ string
+-- a word, and if strings may stand, a word or a string
+unfoldable pub rule_cell : Bool → Form Lexeme
+rule_cell false = word
+rule_cell true = word ∣ string
 
 -- cell { "," cell }
 unfoldable pub cells : Bool → Form Lexeme
-cells strings = cell strings ▸ repeated (mark (codes ",") ▸ cell strings)
+cells strings = rule_cell strings ▸ repeated (mark (codes ",") ▸ rule_cell strings)
 
 -- word "(" cells ")"
 unfoldable pub atom : Bool → Form Lexeme
@@ -196,9 +196,9 @@ unfoldable pub body : ℕ → ℕ → Form Lexeme
 body version levels = mark (codes ";") ▸ side version (codes "source") levels ▸ side version (codes "target") levels ▸ repeated (item (since_two version))
 
 -- the digit of a version, with a body of that version
-abbrev pub numbered : List ℕ → ℕ → ℕ → Form Lexeme
-numbered number version levels = one (number_is number) ▸ body version levels
+abbrev pub version_body : List ℕ → ℕ → ℕ → Form Lexeme
+version_body number version levels = one (digit_is number) ▸ body version levels
 
--- "mapping", and "1", "2" or "3" with a body of that version, where sets have so many levels of inner sets, at most
+-- "mapping", and "1", "2" or "3" with a body of that version, if sets have so many levels of inner sets, at most
 unfoldable pub mapping : ℕ → Form Lexeme
-mapping levels = keyword (codes "mapping") ▸ (numbered (codes "1") 1 levels ∣ numbered (codes "2") 2 levels ∣ numbered (codes "3") 3 levels)
+mapping levels = keyword (codes "mapping") ▸ (version_body (codes "1") 1 levels ∣ version_body (codes "2") 2 levels ∣ version_body (codes "3") 3 levels)

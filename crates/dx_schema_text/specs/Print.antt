@@ -79,7 +79,7 @@ pub record IsNamedRef (r : RefDecl) : Type 0 where
   pub referred : AreNames r.referred
 
 -- each name of a set is a word, and no list of its names is empty
-pub record IsNamed (l : Label) : Type 0 where
+pub record HasWordNames (l : Label) : Type 0 where
   pub name : IsWord l.name
   pub columns : AreNames l.columns
   pub keys : Each l.keys (λ k. AreNames k.columns)
@@ -87,9 +87,9 @@ pub record IsNamed (l : Label) : Type 0 where
   pub refs : Each l.refs IsNamedRef
 
 -- the same of all sets
-abbrev pub AreNamed : Forest → Type 0
-AreNamed none = Unit {0}
-AreNamed (set l inner rest) = IsNamed l × AreNamed inner × AreNamed rest
+abbrev pub HaveWordNames : Forest → Type 0
+HaveWordNames none = Unit {0}
+HaveWordNames (set l inner rest) = HasWordNames l × HaveWordNames inner × HaveWordNames rest
 
 -- a mapping text of this version can say the set: it has a dependency alone from version 3 on, and an optional ref alone from version 2 on
 pub record IsOfVersion (version : ℕ) (l : Label) : Type 0 where
@@ -103,15 +103,15 @@ AreOfVersion version (set l inner rest) = IsOfVersion version l × AreOfVersion 
 
 -- every name is a word, no list of names is empty, a text of this version can say the sets, and there are no more than 16 levels of them
 pub record AreWritable (version : ℕ) (f : Forest) : Type 0 where
-  pub named : AreNamed f
+  pub named : HaveWordNames f
   pub sayable : AreOfVersion version f
   pub levels : depth f ≤ 16
 
 -- a version that a text may have
-pub data IsKnown : ℕ → Type 0 where
-  the_first : IsKnown 1
-  the_second : IsKnown 2
-  the_third : IsKnown 3
+pub data IsKnownVersion : ℕ → Type 0 where
+  the_first : IsKnownVersion 1
+  the_second : IsKnownVersion 2
+  the_third : IsKnownVersion 3
 
 -- the digit of a version
 abbrev pub digit_of : ℕ → List ℕ
@@ -125,7 +125,7 @@ sides_text version from to = codes "mapping " ++ (digit_of version ++ (codes ";\
 abbrev pub sides : ℕ → Forest → Forest → MappingText
 sides version from to = record { version = version; source = from; target = to; lines = []; conditions = []; rules = [] }
 
--- the text is that of the sets: where it stands as a side of a mapping of this version, and other sets are printed as the other side, the mapping is read with these sets
+-- the text is that of the sets: if it stands as a side of a mapping of this version, and other sets are printed as the other side, the mapping is read with these sets
 pub record IsReadAgain (version : ℕ) (trees : Forest) (text : List ℕ) : Type 0 where
   pub source : (others : Forest) → AreWritable version others → IsMappingText (sides_text version text (printed [] others)) (sides version trees others)
   pub target : (others : Forest) → AreWritable version others → IsMappingText (sides_text version (printed [] others) text) (sides version others trees)

@@ -21,7 +21,7 @@ use Rattle.dx_schema_text.specs.declared.clauses.Clause.{Clause}
 use Rattle.dx_schema_text.specs.declared.clauses.Clause.TheVariants as clauses
 use Rattle.dx_schema_text.specs.declared.mapping.ItemText.{ItemText}
 use Rattle.dx_schema_text.specs.declared.mapping.ItemText.TheVariants as items
-use Rattle.dx_schema_text.specs.Grammar.{is_word, is_string, word_is, number_is, mark_is, since_two, since_three}
+use Rattle.dx_schema_text.specs.Grammar.{is_word, is_string, word_is, digit_is, mark_is, since_two, since_three}
 
 -- ---- names
 
@@ -147,8 +147,8 @@ sets_among (clauses.Ref r ∷ cs) = sets_among cs
 sets_among (clauses.Set t ∷ cs) = set t.label t.inner (sets_among cs)
 
 -- a set with this name, these columns and these clauses
-abbrev pub tree_of : List ℕ → List (List ℕ) → List Clause → Tree
-tree_of name columns cs = record { label = record { name = name; columns = columns; keys = keys_among cs; deps = deps_among cs; refs = refs_among cs }; inner = sets_among cs }
+abbrev pub tree_of_clauses : List ℕ → List (List ℕ) → List Clause → Tree
+tree_of_clauses name columns cs = record { label = record { name = name; columns = columns; keys = keys_among cs; deps = deps_among cs; refs = refs_among cs }; inner = sets_among cs }
 
 -- a key begins with "key", and if dependencies may stand one begins with "dep"
 abbrev pub begins_determination : Bool → Lexeme → Bool
@@ -160,7 +160,7 @@ unfoldable pub determination_reader : Bool → Reader Lexeme Clause
 determination_reader false = key_reader >>= λ k. give (key_clause k)
 determination_reader true = either (word_is (codes "key")) (key_reader >>= λ k. give (key_clause k)) (dep_reader >>= λ d. give (dep_clause d))
 
--- a clause begins as a key or a dependency, or with "ref", and where inner sets may stand with "set"
+-- a clause begins as a key or a dependency, or with "ref", and if inner sets may stand with "set"
 abbrev pub begins_clause : ℕ → ℕ → Lexeme → Bool
 begins_clause version zero x = begins_determination (since_three version) x || word_is (codes "ref") x
 begins_clause version (suc levels) x = begins_determination (since_three version) x || (word_is (codes "ref") x || word_is (codes "set") x)
@@ -185,13 +185,13 @@ set_head_reader = do
   ending ← token (mark_is (codes ";"))
   give (name.text, columns)
 
--- a set, where its clauses begin so and are read so
+-- a set, if its clauses begin so and are read so
 unfoldable pub set_reader_of : (Lexeme → Bool) → Reader Lexeme Clause → Reader Lexeme Tree
 set_reader_of begins clause = do
   head ← set_head_reader
   cs ← many begins clause
   closing ← token (mark_is (codes "}"))
-  give (tree_of head.0 head.1 cs)
+  give (tree_of_clauses head.0 head.1 cs)
 
 -- a clause of a set with so many levels of inner sets, at most, in a text of this version
 unfoldable pub clause_reader : ℕ → ℕ → Reader Lexeme Clause
@@ -300,7 +300,7 @@ literal_reader = do
   x ← token is_string
   give (literal_cell x)
 
--- a cell: a word, and where strings may stand, a word or a string
+-- a cell: a word, and if strings may stand, a word or a string
 unfoldable pub cell_reader : Bool → Reader Lexeme CellText
 cell_reader false = name_reader
 cell_reader true = either is_word name_reader literal_reader
@@ -442,24 +442,24 @@ side_reader version name levels = do
   give (forest_of trees)
 
 -- the mapping of this version, of these sides and items
-abbrev pub mapping_text : ℕ → Forest → Forest → List ItemText → MappingText
-mapping_text version from to rest = record { version = version; source = from; target = to; lines = lines_among rest; conditions = conditions_among rest; rules = rules_among rest }
+abbrev pub mapping_of_items : ℕ → Forest → Forest → List ItemText → MappingText
+mapping_of_items version from to rest = record { version = version; source = from; target = to; lines = lines_among rest; conditions = conditions_among rest; rules = rules_among rest }
 
--- what stands after the number of a version, where sets have so many levels of inner sets, at most
+-- what stands after the number of a version, if sets have so many levels of inner sets, at most
 unfoldable pub body_reader : ℕ → ℕ → Reader Lexeme MappingText
 body_reader version levels = do
   ending ← token (mark_is (codes ";"))
   from ← side_reader version (codes "source") levels
   to ← side_reader version (codes "target") levels
   rest ← many (begins_item (since_two version)) (item_reader (since_two version))
-  give (mapping_text version from to rest)
+  give (mapping_of_items version from to rest)
 
 -- the digit of a version, and what stands after it
 abbrev pub numbered_reader : List ℕ → ℕ → ℕ → Reader Lexeme MappingText
-numbered_reader number version levels = token (number_is number) >>= λ n. body_reader version levels
+numbered_reader number version levels = token (digit_is number) >>= λ n. body_reader version levels
 
 -- a mapping of version 1, 2 or 3 whose sets have so many levels of inner sets, at most
 unfoldable pub mapping_reader : ℕ → Reader Lexeme MappingText
 mapping_reader levels = do
   keyword ← token (word_is (codes "mapping"))
-  either (number_is (codes "1")) (numbered_reader (codes "1") 1 levels) (either (number_is (codes "2")) (numbered_reader (codes "2") 2 levels) (numbered_reader (codes "3") 3 levels))
+  either (digit_is (codes "1")) (numbered_reader (codes "1") 1 levels) (either (digit_is (codes "2")) (numbered_reader (codes "2") 2 levels) (numbered_reader (codes "3") 3 levels))

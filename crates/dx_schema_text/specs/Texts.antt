@@ -17,17 +17,17 @@ use Rattle.dx_schema_text.specs.declared.clauses.Clause.{Clause}
 use Rattle.dx_schema_text.specs.declared.texts.MappingText.{MappingText}
 use Rattle.dx_schema_text.specs.Grammar.{mapping}
 use Rattle.dx_schema_text.specs.Reading.{mapping_reader}
-use Rattle.dx_schema_text.specs.Spelling.{IsKeyword, IsMark, IsVersion, SpellsHead, SpellsSet, SpellsClauses, SpellsSide, SpellsMapping}
+use Rattle.dx_schema_text.specs.Spelling.{IsKeyword, IsMarkToken, IsVersion, SpellsHead, SpellsSet, SpellsClauses, SpellsSide, SpellsMapping}
 
 -- a set stands at depth 16 at most: a root has 15 levels of inner sets
 abbrev pub deepest : ℕ
 deepest = 15
 
 -- the form of a mapping text
-abbrev pub form : Form Lexeme
-form = mapping deepest
+abbrev pub mapping_form : Form Lexeme
+mapping_form = mapping deepest
 
--- the same where sets may be nested one level deeper
+-- the same if sets may be nested one level deeper
 abbrev pub deeper_form : Form Lexeme
 deeper_form = mapping 16
 
@@ -54,8 +54,8 @@ fault_in None = None
 fault_in (Some s) = Some (s.place, s.kind)
 
 -- The token that stands at this place is the first that can't stand.
-abbrev pub IsUnexpected : List ℕ → ℕ → Type 0
-IsUnexpected text place = IsUnexpectedAt form (λ (x : Lexeme). x.place) (judged_tokens text) place
+abbrev pub IsUnexpectedInMapping : List ℕ → ℕ → Type 0
+IsUnexpectedInMapping text place = IsUnexpectedAt mapping_form (λ (x : Lexeme). x.place) (judged_tokens text) place
 
 -- The token could stand if sets might be nested one level deeper.
 abbrev pub StandsDeeper : List ℕ → ℕ → Type 0
@@ -63,11 +63,11 @@ StandsDeeper text number = Starts deeper_form (take (suc number) (judged_tokens 
 
 -- The token at this place is the first that can't stand, and it couldn't one level deeper either.
 abbrev pub StandsNowhere : List ℕ → ℕ → Type 0
-StandsNowhere text place = (u : IsUnexpected text place) × ¬ (StandsDeeper text u.number)
+StandsNowhere text place = (u : IsUnexpectedInMapping text place) × ¬ (StandsDeeper text u.number)
 
 -- The token at this place is the first that can't stand, and it could one level deeper.
 abbrev pub StandsTooDeep : List ℕ → ℕ → Type 0
-StandsTooDeep text place = (u : IsUnexpected text place) × StandsDeeper text u.number
+StandsTooDeep text place = (u : IsUnexpectedInMapping text place) × StandsDeeper text u.number
 
 -- So many sets are open after these tokens, which begin with the word `set` of the outermost: of each stand the head and whole
 -- clauses there, with as many levels of inner sets as it has room for.
@@ -77,13 +77,13 @@ pub data OpenSets : ℕ → ℕ → List Lexeme → Type 0 where
 
 -- A side is open after these tokens: its name, an opening brace, whole sets, and so many open ones.
 pub data OpenSide : ℕ → List ℕ → ℕ → List Lexeme → Type 0 where
-  open_side : {version : ℕ} {name : List ℕ} {n : ℕ} {trees : List Tree} {u w : List Lexeme} (k o : Lexeme) → IsKeyword name k → IsMark (codes "{") o → Many (SpellsSet version deepest) trees u → OpenSets version n w
+  open_side : {version : ℕ} {name : List ℕ} {n : ℕ} {trees : List Tree} {u w : List Lexeme} (k o : Lexeme) → IsKeyword name k → IsMarkToken (codes "{") o → Many (SpellsSet version deepest) trees u → OpenSets version n w
       → OpenSide version name n (k ∷ o ∷ (u ++ w))
 
 -- So many sets of a mapping are open after these tokens.
 pub data OpenMapping : ℕ → List Lexeme → Type 0 where
-  in_source : {version n : ℕ} {u : List Lexeme} (k v e : Lexeme) → IsKeyword (codes "mapping") k → IsVersion version v → IsMark (codes ";") e → OpenSide version (codes "source") n u → OpenMapping n (k ∷ v ∷ e ∷ u)
-  in_target : {version n : ℕ} {from : Forest} {u w : List Lexeme} (k v e : Lexeme) → IsKeyword (codes "mapping") k → IsVersion version v → IsMark (codes ";") e → SpellsSide version (codes "source") deepest from u
+  in_source : {version n : ℕ} {u : List Lexeme} (k v e : Lexeme) → IsKeyword (codes "mapping") k → IsVersion version v → IsMarkToken (codes ";") e → OpenSide version (codes "source") n u → OpenMapping n (k ∷ v ∷ e ∷ u)
+  in_target : {version n : ℕ} {from : Forest} {u w : List Lexeme} (k v e : Lexeme) → IsKeyword (codes "mapping") k → IsVersion version v → IsMarkToken (codes ";") e → SpellsSide version (codes "source") deepest from u
       → OpenSide version (codes "target") n w → OpenMapping n (k ∷ v ∷ e ∷ (u ++ w))
 
 -- The token of this number is the word `set` of a set at depth 17: 16 sets are open before it.
@@ -97,14 +97,14 @@ pub record IsSetTooDeep (text : List ℕ) (number : ℕ) : Type 0 where
   pub inside : OpenMapping 16 front
 
 -- All tokens can stand, and the text stops at a token fault or ends too early.
-abbrev pub IsStopped : List ℕ → ℕ → TextKind → Type 0
-IsStopped text place kind = IsStoppedAt form (judged_tokens text) (fault_in (scan_of text).stop) (length text) Ended place kind
+abbrev pub MappingStops : List ℕ → ℕ → TextKind → Type 0
+MappingStops text place kind = IsStoppedAt mapping_form (judged_tokens text) (fault_in (scan_of text).stop) (length text) Ended place kind
 
 -- The first fault of a text.
-abbrev pub IsTextFault : List ℕ → TextFault → Type 0
-IsTextFault text e = IsFaultBy (StandsNowhere text) (StandsTooDeep text) (IsStopped text) e
+abbrev pub IsMappingTextFault : List ℕ → TextFault → Type 0
+IsMappingTextFault text e = IsFaultBy (StandsNowhere text) (StandsTooDeep text) (MappingStops text) e
 
--- ---- the answer, as it is computed: the tokens are read with 15 levels of inner sets, and where one can't stand, with 16
+-- ---- the answer, as it is computed: the tokens are read with 15 levels of inner sets, and if one can't stand, with 16
 
 -- whether a reader stops at the token with which so many are left, or before it
 abbrev pub stops_by : {A : Type 0} → ℕ → Result A ℕ → Bool
@@ -112,36 +112,36 @@ stops_by left (Ok a) = false
 stops_by left (Err n) = nat_le left n
 
 -- the place of a token
-abbrev pub place_of : List Lexeme → ℕ → ℕ
-place_of xs k = (slice_index_or xs k (record { place = 0; kind = Word; text = [] })).place
+abbrev pub token_place : List Lexeme → ℕ → ℕ
+token_place xs k = (slice_index_or xs k (record { place = 0; kind = Word; text = [] })).place
 
 -- the fault at the token with which so many are left: it can't stand with one level more either, or it can
 abbrev pub unexpected : List Lexeme → ℕ → Bool → TextFault
-unexpected xs left true = At (place_of xs (length xs - left)) Expected
-unexpected xs left false = TooDeep (place_of xs (length xs - left))
+unexpected xs left true = At (token_place xs (length xs - left)) Expected
+unexpected xs left false = TooDeep (token_place xs (length xs - left))
 
--- what is answered of tokens, where the text has so many bytes and its tokens stop so
-abbrev pub told : ℕ → Option (ℕ × TextKind) → List Lexeme → Result MappingText ℕ → Result MappingText ℕ → Result MappingText TextFault
-told end stop xs (Err zero) deeper = Err (stop_fault end stop)
-told end stop xs (Err (suc left)) deeper = Err (unexpected xs (suc left) (stops_by (suc left) deeper))
-told end (Some p) xs (Ok m) deeper = Err (At p.0 p.1)
-told end None xs (Ok m) deeper = Ok m
+-- what is answered of tokens, if the text has so many bytes and its tokens stop so
+abbrev pub mapping_outcome : ℕ → Option (ℕ × TextKind) → List Lexeme → Result MappingText ℕ → Result MappingText ℕ → Result MappingText TextFault
+mapping_outcome end stop xs (Err zero) deeper = Err (stop_fault end stop)
+mapping_outcome end stop xs (Err (suc left)) deeper = Err (unexpected xs (suc left) (stops_by (suc left) deeper))
+mapping_outcome end (Some p) xs (Ok m) deeper = Err (At p.0 p.1)
+mapping_outcome end None xs (Ok m) deeper = Ok m
 
 -- what is answered of tokens that are read with 15 levels of inner sets, and then with 16
-unfoldable pub told_of : ℕ → Option (ℕ × TextKind) → List Lexeme → Result MappingText TextFault
-told_of end stop xs = told end stop xs (whole (mapping_reader deepest) xs) (whole (mapping_reader 16) xs)
+unfoldable pub mapping_of_tokens : ℕ → Option (ℕ × TextKind) → List Lexeme → Result MappingText TextFault
+mapping_of_tokens end stop xs = mapping_outcome end stop xs (whole (mapping_reader deepest) xs) (whole (mapping_reader 16) xs)
 
 -- what is answered of a text
-abbrev pub read_text : List ℕ → Result MappingText TextFault
-read_text text = told_of (length text) (fault_in (scan_of text).stop) (judged_tokens text)
+abbrev pub mapping_of_text : List ℕ → Result MappingText TextFault
+mapping_of_text text = mapping_of_tokens (length text) (fault_in (scan_of text).stop) (judged_tokens text)
 
 -- a fault that is told is the text's first, unless memory ran out
-abbrev pub IsToldFault : List ℕ → TextFault → Type 0
-IsToldFault text e = (e ≡ Memory) ⊎ IsTextFault text e
+abbrev pub IsMappingFaultOrMemory : List ℕ → TextFault → Type 0
+IsMappingFaultOrMemory text e = (e ≡ Memory) ⊎ IsMappingTextFault text e
 
 -- whatever mapping the text says is answered, and whatever first fault it has
 abbrev pub AnswersMapping : List ℕ → Result MappingText TextFault → Type 0
 AnswersMapping text r = (m : MappingText) → IsMappingText text m → Reads r (Ok m)
 
-abbrev pub AnswersFault : List ℕ → Result MappingText TextFault → Type 0
-AnswersFault text r = (e : TextFault) → IsTextFault text e → Reads r (Err e)
+abbrev pub AnswersMappingFault : List ℕ → Result MappingText TextFault → Type 0
+AnswersMappingFault text r = (e : TextFault) → IsMappingTextFault text e → Reads r (Err e)

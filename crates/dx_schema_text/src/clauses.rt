@@ -1,8 +1,8 @@
 // Sets with their clauses.
 ghost use Rattle.std.specs.Prelude.{◌≡◌, ℕ, List, codes, IfOk};
-ghost use Rattle.dx_grammar.specs.Readers.{passed, give, next_is, many, Gives};
+ghost use Rattle.dx_grammar.specs.Readers.{pass_on, give, next_is, many, ReadsAs};
 ghost use Rattle.dx_schema_text.specs.Grammar.{since_two, since_three};
-ghost use Rattle.dx_schema_text.specs.Reading.{key_reader, dependency_of, decided_reader, dep_reader, begins_determination, determination_reader, reference_of, optional_reader, referred_reader, ref_reader, key_clause, dep_clause, ref_clause, set_clause, begins_clause, last_clause_reader, clause_reader_with, clause_reader, set_head_reader, set_reader, tree_of};
+ghost use Rattle.dx_schema_text.specs.Reading.{key_reader, dependency_of, decided_reader, dep_reader, begins_determination, determination_reader, reference_of, optional_reader, referred_reader, ref_reader, key_clause, dep_clause, ref_clause, set_clause, begins_clause, last_clause_reader, clause_reader_with, clause_reader, set_head_reader, set_reader, tree_of_clauses};
 
 use crate::lexemes::{keyword, mark, names, next_is_keyword, word};
 use dx_grammar::ReadError;
@@ -22,7 +22,7 @@ pub enum Clause {
 
 #[tactic(auto, unfolding(crate::specs::Reading::key_reader))]
 fn key(alloc: Global, tokens: &[Lexeme]) -> Result<(KeyDecl, &[Lexeme]), ReadError>
-    ensures { Gives (λ x. (x.0, x.1.now)) result (key_reader tokens.now) }
+    ensures { ReadsAs (λ x. (x.0, x.1.now)) result (key_reader tokens.now) }
 {
     let (_, rest) = keyword(tokens, b"key")?;
     let (_, rest) = mark(rest, b"(")?;
@@ -35,7 +35,7 @@ fn key(alloc: Global, tokens: &[Lexeme]) -> Result<(KeyDecl, &[Lexeme]), ReadErr
 // The columns that a dependency's columns decide.
 #[tactic(auto, unfolding(crate::specs::Reading::decided_reader))]
 fn decided(alloc: Global, tokens: &[Lexeme]) -> Result<(Items<Text>, &[Lexeme]), ReadError>
-    ensures { (columns : List (List ℕ)) → Gives (λ x. (dependency_of columns x.0, x.1.now)) result (decided_reader columns tokens.now) }
+    ensures { (columns : List (List ℕ)) → ReadsAs (λ x. (dependency_of columns x.0, x.1.now)) result (decided_reader columns tokens.now) }
 {
     let (_, rest) = mark(tokens, b"(")?;
     let (decides, rest) = names(alloc, rest)?;
@@ -46,7 +46,7 @@ fn decided(alloc: Global, tokens: &[Lexeme]) -> Result<(Items<Text>, &[Lexeme]),
 
 #[tactic(auto, unfolding(crate::specs::Reading::dep_reader))]
 fn dependency(alloc: Global, tokens: &[Lexeme]) -> Result<(DepDecl, &[Lexeme]), ReadError>
-    ensures { Gives (λ x. (x.0, x.1.now)) result (dep_reader tokens.now) }
+    ensures { ReadsAs (λ x. (x.0, x.1.now)) result (dep_reader tokens.now) }
 {
     let (_, rest) = keyword(tokens, b"dep")?;
     let (_, rest) = mark(rest, b"(")?;
@@ -60,7 +60,7 @@ fn dependency(alloc: Global, tokens: &[Lexeme]) -> Result<(DepDecl, &[Lexeme]), 
 // Whether the word `optional` comes next, if refs may be optional.
 #[tactic(auto, unfolding(crate::specs::Reading::optional_reader))]
 fn optional(optionals: bool, tokens: &[Lexeme]) -> Result<(bool, &[Lexeme]), ReadError>
-    ensures { Gives (λ x. (x.0, x.1.now)) result (optional_reader optionals tokens.now) }
+    ensures { ReadsAs (λ x. (x.0, x.1.now)) result (optional_reader optionals tokens.now) }
 {
     if optionals && next_is_keyword(tokens, b"optional") {
         let (_, rest) = keyword(tokens, b"optional")?;
@@ -77,7 +77,7 @@ fn referred(
     optionals: bool,
     tokens: &[Lexeme],
 ) -> Result<(Text, Items<Text>, bool, &[Lexeme]), ReadError>
-    ensures { (columns : List (List ℕ)) → Gives (λ x. (reference_of columns x.0 x.1 x.2, x.3.now)) result (referred_reader optionals columns tokens.now) }
+    ensures { (columns : List (List ℕ)) → ReadsAs (λ x. (reference_of columns x.0 x.1 x.2, x.3.now)) result (referred_reader optionals columns tokens.now) }
 {
     let (set, rest) = word(tokens)?;
     let (_, rest) = mark(rest, b"(")?;
@@ -94,7 +94,7 @@ fn reference(
     optionals: bool,
     tokens: &[Lexeme],
 ) -> Result<(RefDecl, &[Lexeme]), ReadError>
-    ensures { Gives (λ x. (x.0, x.1.now)) result (ref_reader optionals tokens.now) }
+    ensures { ReadsAs (λ x. (x.0, x.1.now)) result (ref_reader optionals tokens.now) }
 {
     let (_, rest) = keyword(tokens, b"ref")?;
     let (_, rest) = mark(rest, b"(")?;
@@ -118,7 +118,7 @@ fn next_is_determination(tokens: &[Lexeme], dependencies: bool) -> bool
     next_is_keyword(tokens, b"key") || (dependencies && next_is_keyword(tokens, b"dep"))
 }
 
-// Whether a clause comes next, where a set has so many levels of inner sets, at most.
+// Whether a clause comes next, if a set has so many levels of inner sets, at most.
 fn next_is_clause(tokens: &[Lexeme], version: u32, levels: u32) -> bool
     ensures { result ≡ next_is (begins_clause version levels) tokens.now }
 {
@@ -134,7 +134,7 @@ fn tree_made(
     columns: Items<Text>,
     clauses: Items<Clause>,
 ) -> Result<SetTree, AllocError>
-    ensures { IfOk result (λ t. t ≡ tree_of name columns clauses) }
+    ensures { IfOk result (λ t. t ≡ tree_of_clauses name columns clauses) }
 {
     let mut keys = Items::new(alloc);
     let mut deps = Items::new(alloc);
@@ -159,14 +159,14 @@ fn tree_made(
 }
 
 fn key_among(alloc: Global, tokens: &[Lexeme]) -> Result<(Clause, &[Lexeme]), ReadError>
-    ensures { Gives (λ x. (x.0, x.1.now)) result (passed (key_reader tokens.now) (λ k. give (key_clause k))) }
+    ensures { ReadsAs (λ x. (x.0, x.1.now)) result (pass_on (key_reader tokens.now) (λ k. give (key_clause k))) }
 {
     let (key, rest) = key(alloc, tokens)?;
     Ok((Clause::Key(key), rest))
 }
 
 fn dep_among(alloc: Global, tokens: &[Lexeme]) -> Result<(Clause, &[Lexeme]), ReadError>
-    ensures { Gives (λ x. (x.0, x.1.now)) result (passed (dep_reader tokens.now) (λ d. give (dep_clause d))) }
+    ensures { ReadsAs (λ x. (x.0, x.1.now)) result (pass_on (dep_reader tokens.now) (λ d. give (dep_clause d))) }
 {
     let (dependency, rest) = dependency(alloc, tokens)?;
     Ok((Clause::Dep(dependency), rest))
@@ -179,7 +179,7 @@ fn determination(
     dependencies: bool,
     tokens: &[Lexeme],
 ) -> Result<(Clause, &[Lexeme]), ReadError>
-    ensures { Gives (λ x. (x.0, x.1.now)) result (determination_reader dependencies tokens.now) }
+    ensures { ReadsAs (λ x. (x.0, x.1.now)) result (determination_reader dependencies tokens.now) }
 {
     if !dependencies || next_is_keyword(tokens, b"key") {
         key_among(alloc, tokens)
@@ -193,7 +193,7 @@ fn ref_among(
     version: u32,
     tokens: &[Lexeme],
 ) -> Result<(Clause, &[Lexeme]), ReadError>
-    ensures { Gives (λ x. (x.0, x.1.now)) result (passed (ref_reader (since_two version) tokens.now) (λ r. give (ref_clause r))) }
+    ensures { ReadsAs (λ x. (x.0, x.1.now)) result (pass_on (ref_reader (since_two version) tokens.now) (λ r. give (ref_clause r))) }
 {
     let (reference, rest) = reference(alloc, version >= 2, tokens)?;
     Ok((Clause::Ref(reference), rest))
@@ -206,7 +206,7 @@ fn last_clause(
     version: u32,
     tokens: &[Lexeme],
 ) -> Result<(Clause, &[Lexeme]), ReadError>
-    ensures { Gives (λ x. (x.0, x.1.now)) result (last_clause_reader version tokens.now) }
+    ensures { ReadsAs (λ x. (x.0, x.1.now)) result (last_clause_reader version tokens.now) }
 {
     if next_is_determination(tokens, version >= 3) {
         determination(alloc, version >= 3, tokens)
@@ -222,7 +222,7 @@ fn set_among(
     levels: u32,
     tokens: &[Lexeme],
 ) -> Result<(Clause, &[Lexeme]), ReadError>
-    ensures { Gives (λ x. (x.0, x.1.now)) result (passed (set_reader version levels tokens.now) (λ t. give (set_clause t))) }
+    ensures { ReadsAs (λ x. (x.0, x.1.now)) result (pass_on (set_reader version levels tokens.now) (λ t. give (set_clause t))) }
 {
     let (tree, rest) = set(alloc, version, levels, tokens)?;
     Ok((Clause::Set(tree), rest))
@@ -237,7 +237,7 @@ fn clause_with(
     levels: u32,
     tokens: &[Lexeme],
 ) -> Result<(Clause, &[Lexeme]), ReadError>
-    ensures { Gives (λ x. (x.0, x.1.now)) result (clause_reader_with version (set_reader version levels) tokens.now) }
+    ensures { ReadsAs (λ x. (x.0, x.1.now)) result (clause_reader_with version (set_reader version levels) tokens.now) }
 {
     if next_is_determination(tokens, version >= 3) {
         determination(alloc, version >= 3, tokens)
@@ -255,7 +255,7 @@ fn one_clause(
     levels: u32,
     tokens: &[Lexeme],
 ) -> Result<(Clause, &[Lexeme]), ReadError>
-    ensures { Gives (λ x. (x.0, x.1.now)) result (clause_reader version levels tokens.now) }
+    ensures { ReadsAs (λ x. (x.0, x.1.now)) result (clause_reader version levels tokens.now) }
 {
     if levels == 0 {
         last_clause(alloc, version, tokens)
@@ -271,7 +271,7 @@ fn clauses(
     levels: u32,
     tokens: &[Lexeme],
 ) -> Result<(Items<Clause>, &[Lexeme]), ReadError>
-    ensures { Gives (λ x. (x.0, x.1.now)) result (many (begins_clause version levels) (clause_reader version levels) tokens.now) }
+    ensures { ReadsAs (λ x. (x.0, x.1.now)) result (many (begins_clause version levels) (clause_reader version levels) tokens.now) }
 {
     let mut clauses = Items::new(alloc);
     let mut rest = tokens;
@@ -286,7 +286,7 @@ fn clauses(
 // The name and the columns of a set.
 #[tactic(auto, unfolding(crate::specs::Reading::set_head_reader))]
 fn set_head(alloc: Global, tokens: &[Lexeme]) -> Result<(Text, Items<Text>, &[Lexeme]), ReadError>
-    ensures { Gives (λ x. ((x.0, x.1), x.2.now)) result (set_head_reader tokens.now) }
+    ensures { ReadsAs (λ x. ((x.0, x.1), x.2.now)) result (set_head_reader tokens.now) }
 {
     let (_, rest) = keyword(tokens, b"set")?;
     let (name, rest) = word(rest)?;
@@ -305,7 +305,7 @@ pub(crate) fn set(
     levels: u32,
     tokens: &[Lexeme],
 ) -> Result<(SetTree, &[Lexeme]), ReadError>
-    ensures { Gives (λ x. (x.0, x.1.now)) result (set_reader version levels tokens.now) }
+    ensures { ReadsAs (λ x. (x.0, x.1.now)) result (set_reader version levels tokens.now) }
 {
     let (name, columns, rest) = set_head(alloc, tokens)?;
     let (clauses, rest) = clauses(alloc, version, levels, rest)?;

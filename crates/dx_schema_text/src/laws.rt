@@ -1,5 +1,5 @@
 // The laws of mapping texts. The definitions alone carry them: no body computes anything.
-ghost use Rattle.dx_schema_text.specs.Laws.{MappingOrFault, NeverBoth, OneFault, OneMapping, SaidIsOfVersion, SaidIsWritable, SpelledAreTexts, StandingGoesOn, TextsHaveFewRules, TooDeepAreSets};
+ghost use Rattle.dx_schema_text.specs.Laws.{MappingOrFault, NeverMappingAndFault, OneMappingFault, OneMapping, SaidIsOfVersion, SaidIsWritable, SpelledAreTexts, StandingGoesOn, TextsHaveFewRules, TooDeepAreSets};
 
 /// A text says one mapping, or it has one first fault.
 pub fn a_text_says_one_thing()

@@ -1,7 +1,7 @@
 // The first tokens of a list: words, strings, marks, and names.
 ghost use Rattle.std.specs.Prelude.{◌≡◌, ◌∷◌, [], codes};
-ghost use Rattle.dx_grammar.specs.Readers.{token, next_is, many, with_front, Gives};
-ghost use Rattle.dx_schema_text.specs.Grammar.{is_word, is_string, word_is, number_is, mark_is};
+ghost use Rattle.dx_grammar.specs.Readers.{token, next_is, many, with_front, ReadsAs};
+ghost use Rattle.dx_schema_text.specs.Grammar.{is_word, is_string, word_is, digit_is, mark_is};
 ghost use Rattle.dx_schema_text.specs.Reading.{comma_word, words_reader};
 
 use dx_grammar::ReadError;
@@ -28,7 +28,7 @@ pub(crate) fn is_keyword(lexeme: &Lexeme, word: &[u8]) -> bool
 }
 
 fn is_number(lexeme: &Lexeme, number: &[u8]) -> bool
-    ensures { result ≡ number_is number.now lexeme.now }
+    ensures { result ≡ digit_is number.now lexeme.now }
 {
     matches!(lexeme.kind, TokenKind::Number) && lexeme.text.bytes() == number
 }
@@ -71,7 +71,7 @@ pub(crate) fn next_is_mark(tokens: &[Lexeme], mark: &[u8]) -> bool
 
 /// Whether this number comes next.
 pub(crate) fn next_is_number(tokens: &[Lexeme], number: &[u8]) -> bool
-    ensures { result ≡ next_is (number_is number.now) tokens.now }
+    ensures { result ≡ next_is (digit_is number.now) tokens.now }
 {
     match tokens.split_first() {
         Some((first, _)) => is_number(first, number),
@@ -91,7 +91,7 @@ pub fn next_is_keyword(tokens: &[Lexeme], word: &[u8]) -> bool
 
 /// A word, and what is left after it.
 pub(crate) fn word(tokens: &[Lexeme]) -> Result<(&Lexeme, &[Lexeme]), ReadError>
-    ensures { Gives (λ x. (x.0.now, x.1.now)) result (token is_word tokens.now) }
+    ensures { ReadsAs (λ x. (x.0.now, x.1.now)) result (token is_word tokens.now) }
 {
     match tokens.split_first() {
         Some((first, rest)) if is_any_word(first) => Ok((first, rest)),
@@ -102,7 +102,7 @@ pub(crate) fn word(tokens: &[Lexeme]) -> Result<(&Lexeme, &[Lexeme]), ReadError>
 
 /// A string, and what is left after it.
 pub(crate) fn string(tokens: &[Lexeme]) -> Result<(&Lexeme, &[Lexeme]), ReadError>
-    ensures { Gives (λ x. (x.0.now, x.1.now)) result (token is_string tokens.now) }
+    ensures { ReadsAs (λ x. (x.0.now, x.1.now)) result (token is_string tokens.now) }
 {
     match tokens.split_first() {
         Some((first, rest)) if is_any_string(first) => Ok((first, rest)),
@@ -120,7 +120,7 @@ pub fn keyword<'a>(
     tokens: &'a [Lexeme],
     word: &[u8],
 ) -> Result<(&'a Lexeme, &'a [Lexeme]), ReadError>
-    ensures { Gives (λ x. (x.0.now, x.1.now)) result (token (word_is word.now) tokens.now) }
+    ensures { ReadsAs (λ x. (x.0.now, x.1.now)) result (token (word_is word.now) tokens.now) }
 {
     match tokens.split_first() {
         Some((first, rest)) if is_keyword(first, word) => Ok((first, rest)),
@@ -138,7 +138,7 @@ pub fn number<'a>(
     tokens: &'a [Lexeme],
     number: &[u8],
 ) -> Result<(&'a Lexeme, &'a [Lexeme]), ReadError>
-    ensures { Gives (λ x. (x.0.now, x.1.now)) result (token (number_is number.now) tokens.now) }
+    ensures { ReadsAs (λ x. (x.0.now, x.1.now)) result (token (digit_is number.now) tokens.now) }
 {
     match tokens.split_first() {
         Some((first, rest)) if is_number(first, number) => Ok((first, rest)),
@@ -153,7 +153,7 @@ pub fn number<'a>(
 ///
 /// `Left` with how many tokens are left at the first that can't stand.
 pub fn mark<'a>(tokens: &'a [Lexeme], mark: &[u8]) -> Result<(&'a Lexeme, &'a [Lexeme]), ReadError>
-    ensures { Gives (λ x. (x.0.now, x.1.now)) result (token (mark_is mark.now) tokens.now) }
+    ensures { ReadsAs (λ x. (x.0.now, x.1.now)) result (token (mark_is mark.now) tokens.now) }
 {
     match tokens.split_first() {
         Some((first, rest)) if is_mark(first, mark) => Ok((first, rest)),
@@ -164,7 +164,7 @@ pub fn mark<'a>(tokens: &'a [Lexeme], mark: &[u8]) -> Result<(&'a Lexeme, &'a [L
 
 #[tactic(auto, unfolding(crate::specs::Reading::comma_word))]
 fn comma_name(tokens: &[Lexeme]) -> Result<(Text, &[Lexeme]), ReadError>
-    ensures { Gives (λ x. (x.0, x.1.now)) result (comma_word tokens.now) }
+    ensures { ReadsAs (λ x. (x.0, x.1.now)) result (comma_word tokens.now) }
 {
     let (_, rest) = mark(tokens, b",")?;
     let (name, rest) = word(rest)?;
@@ -173,7 +173,7 @@ fn comma_name(tokens: &[Lexeme]) -> Result<(Text, &[Lexeme]), ReadError>
 
 // These names, and those that follow, each after a comma.
 fn more_names(names: Items<Text>, tokens: &[Lexeme]) -> Result<(Items<Text>, &[Lexeme]), ReadError>
-    ensures { Gives (λ x. (x.0, x.1.now)) result (with_front names (many (mark_is (codes ",")) comma_word tokens.now)) }
+    ensures { ReadsAs (λ x. (x.0, x.1.now)) result (with_front names (many (mark_is (codes ",")) comma_word tokens.now)) }
 {
     let mut names = names;
     let mut rest = tokens;
@@ -188,7 +188,7 @@ fn more_names(names: Items<Text>, tokens: &[Lexeme]) -> Result<(Items<Text>, &[L
 /// Names parted by commas, and what is left after them.
 #[tactic(auto, unfolding(crate::specs::Reading::words_reader))]
 pub(crate) fn names(alloc: Global, tokens: &[Lexeme]) -> Result<(Items<Text>, &[Lexeme]), ReadError>
-    ensures { Gives (λ x. (x.0, x.1.now)) result (words_reader tokens.now) }
+    ensures { ReadsAs (λ x. (x.0, x.1.now)) result (words_reader tokens.now) }
 {
     let (first, rest) = word(tokens)?;
     let mut names = Items::new(alloc);

@@ -1,6 +1,6 @@
 // Lines from sources to places of the target, and conditions on columns of the source.
 ghost use Rattle.std.specs.Prelude.{◌≡◌, codes};
-ghost use Rattle.dx_grammar.specs.Readers.{many, with_front, Gives};
+ghost use Rattle.dx_grammar.specs.Readers.{many, with_front, ReadsAs};
 ghost use Rattle.dx_schema_text.specs.Grammar.{mark_is};
 ghost use Rattle.dx_schema_text.specs.Reading.{place_reader, comma_place, places_reader, string_reader, column_reader, call_reader, named_reader, source_reader, line_reader, only_reader};
 
@@ -13,7 +13,7 @@ use std::alloc::Global;
 
 #[tactic(auto, unfolding(crate::specs::Reading::place_reader))]
 fn place(tokens: &[Lexeme]) -> Result<(PlaceText, &[Lexeme]), ReadError>
-    ensures { Gives (λ x. (x.0, x.1.now)) result (place_reader tokens.now) }
+    ensures { ReadsAs (λ x. (x.0, x.1.now)) result (place_reader tokens.now) }
 {
     let (set, rest) = word(tokens)?;
     let (_, rest) = mark(rest, b".")?;
@@ -29,7 +29,7 @@ fn place(tokens: &[Lexeme]) -> Result<(PlaceText, &[Lexeme]), ReadError>
 
 #[tactic(auto, unfolding(crate::specs::Reading::comma_place))]
 fn next_place(tokens: &[Lexeme]) -> Result<(PlaceText, &[Lexeme]), ReadError>
-    ensures { Gives (λ x. (x.0, x.1.now)) result (comma_place tokens.now) }
+    ensures { ReadsAs (λ x. (x.0, x.1.now)) result (comma_place tokens.now) }
 {
     let (_, rest) = mark(tokens, b",")?;
     place(rest)
@@ -40,7 +40,7 @@ fn more_places(
     places: Items<PlaceText>,
     tokens: &[Lexeme],
 ) -> Result<(Items<PlaceText>, &[Lexeme]), ReadError>
-    ensures { Gives (λ x. (x.0, x.1.now)) result (with_front places (many (mark_is (codes ",")) comma_place tokens.now)) }
+    ensures { ReadsAs (λ x. (x.0, x.1.now)) result (with_front places (many (mark_is (codes ",")) comma_place tokens.now)) }
 {
     let mut places = places;
     let mut rest = tokens;
@@ -54,7 +54,7 @@ fn more_places(
 
 #[tactic(auto, unfolding(crate::specs::Reading::places_reader))]
 fn places(alloc: Global, tokens: &[Lexeme]) -> Result<(Items<PlaceText>, &[Lexeme]), ReadError>
-    ensures { Gives (λ x. (x.0, x.1.now)) result (places_reader tokens.now) }
+    ensures { ReadsAs (λ x. (x.0, x.1.now)) result (places_reader tokens.now) }
 {
     let (first, rest) = place(tokens)?;
     let mut places = Items::new(alloc);
@@ -64,7 +64,7 @@ fn places(alloc: Global, tokens: &[Lexeme]) -> Result<(Items<PlaceText>, &[Lexem
 
 #[tactic(auto, unfolding(crate::specs::Reading::string_reader))]
 fn literal(tokens: &[Lexeme]) -> Result<(SourceText, &[Lexeme]), ReadError>
-    ensures { Gives (λ x. (x.0, x.1.now)) result (string_reader tokens.now) }
+    ensures { ReadsAs (λ x. (x.0, x.1.now)) result (string_reader tokens.now) }
 {
     let (text, rest) = string(tokens)?;
     Ok((SourceText::Literal(text.text.copy()?), rest))
@@ -73,7 +73,7 @@ fn literal(tokens: &[Lexeme]) -> Result<(SourceText, &[Lexeme]), ReadError>
 // The column after the name of a set.
 #[tactic(auto, unfolding(crate::specs::Reading::column_reader))]
 fn column<'a>(set: &Lexeme, tokens: &'a [Lexeme]) -> Result<(SourceText, &'a [Lexeme]), ReadError>
-    ensures { Gives (λ x. (x.0, x.1.now)) result (column_reader set.now tokens.now) }
+    ensures { ReadsAs (λ x. (x.0, x.1.now)) result (column_reader set.now tokens.now) }
 {
     let (_, rest) = mark(tokens, b".")?;
     let (column, rest) = word(rest)?;
@@ -93,7 +93,7 @@ fn call<'a>(
     name: &Lexeme,
     tokens: &'a [Lexeme],
 ) -> Result<(SourceText, &'a [Lexeme]), ReadError>
-    ensures { Gives (λ x. (x.0, x.1.now)) result (call_reader name.now tokens.now) }
+    ensures { ReadsAs (λ x. (x.0, x.1.now)) result (call_reader name.now tokens.now) }
 {
     let (_, rest) = mark(tokens, b"(")?;
     let (args, rest) = places(alloc, rest)?;
@@ -108,7 +108,7 @@ fn call<'a>(
 
 #[tactic(auto, unfolding(crate::specs::Reading::named_reader))]
 fn named(alloc: Global, tokens: &[Lexeme]) -> Result<(SourceText, &[Lexeme]), ReadError>
-    ensures { Gives (λ x. (x.0, x.1.now)) result (named_reader tokens.now) }
+    ensures { ReadsAs (λ x. (x.0, x.1.now)) result (named_reader tokens.now) }
 {
     let (name, rest) = word(tokens)?;
     if next_is_mark(rest, b".") {
@@ -120,7 +120,7 @@ fn named(alloc: Global, tokens: &[Lexeme]) -> Result<(SourceText, &[Lexeme]), Re
 
 #[tactic(auto, unfolding(crate::specs::Reading::source_reader))]
 fn source(alloc: Global, tokens: &[Lexeme]) -> Result<(SourceText, &[Lexeme]), ReadError>
-    ensures { Gives (λ x. (x.0, x.1.now)) result (source_reader tokens.now) }
+    ensures { ReadsAs (λ x. (x.0, x.1.now)) result (source_reader tokens.now) }
 {
     if next_is_string(tokens) {
         literal(tokens)
@@ -132,7 +132,7 @@ fn source(alloc: Global, tokens: &[Lexeme]) -> Result<(SourceText, &[Lexeme]), R
 /// A line, and what is left after it.
 #[tactic(auto, unfolding(crate::specs::Reading::line_reader))]
 pub(crate) fn line(alloc: Global, tokens: &[Lexeme]) -> Result<(LineText, &[Lexeme]), ReadError>
-    ensures { Gives (λ x. (x.0, x.1.now)) result (line_reader tokens.now) }
+    ensures { ReadsAs (λ x. (x.0, x.1.now)) result (line_reader tokens.now) }
 {
     let (_, rest) = keyword(tokens, b"line")?;
     let (source, rest) = source(alloc, rest)?;
@@ -145,7 +145,7 @@ pub(crate) fn line(alloc: Global, tokens: &[Lexeme]) -> Result<(LineText, &[Lexe
 /// A condition, and what is left after it.
 #[tactic(auto, unfolding(crate::specs::Reading::only_reader))]
 pub(crate) fn only(tokens: &[Lexeme]) -> Result<(OnlyText, &[Lexeme]), ReadError>
-    ensures { Gives (λ x. (x.0, x.1.now)) result (only_reader tokens.now) }
+    ensures { ReadsAs (λ x. (x.0, x.1.now)) result (only_reader tokens.now) }
 {
     let (_, rest) = keyword(tokens, b"only")?;
     let (place, rest) = place(rest)?;

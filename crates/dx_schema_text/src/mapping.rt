@@ -1,8 +1,8 @@
 // Whole mapping texts.
 ghost use Rattle.std.specs.Prelude.{◌≡◌, codes, IfOk};
-ghost use Rattle.dx_grammar.specs.Readers.{next_is, many, passed, give, whole, Gives};
+ghost use Rattle.dx_grammar.specs.Readers.{next_is, many, pass_on, give, whole, ReadsAs};
 ghost use Rattle.dx_schema_text.specs.Grammar.{word_is, since_two};
-ghost use Rattle.dx_schema_text.specs.Reading.{line_reader, rule_reader, only_reader, line_item, rule_item, only_item, begins_item, item_reader, set_reader, side_reader, body_reader, mapping_reader, mapping_text};
+ghost use Rattle.dx_schema_text.specs.Reading.{line_reader, rule_reader, only_reader, line_item, rule_item, only_item, begins_item, item_reader, set_reader, side_reader, body_reader, mapping_reader, mapping_of_items};
 
 use crate::clauses::set;
 use crate::lexemes::{keyword, mark, next_is_keyword, next_is_number, number};
@@ -24,21 +24,21 @@ pub enum ItemText {
 }
 
 fn line_among(alloc: Global, tokens: &[Lexeme]) -> Result<(ItemText, &[Lexeme]), ReadError>
-    ensures { Gives (λ x. (x.0, x.1.now)) result (passed (line_reader tokens.now) (λ l. give (line_item l))) }
+    ensures { ReadsAs (λ x. (x.0, x.1.now)) result (pass_on (line_reader tokens.now) (λ l. give (line_item l))) }
 {
     let (line, rest) = line(alloc, tokens)?;
     Ok((ItemText::Line(line), rest))
 }
 
 fn rule_among(alloc: Global, tokens: &[Lexeme]) -> Result<(ItemText, &[Lexeme]), ReadError>
-    ensures { Gives (λ x. (x.0, x.1.now)) result (passed (rule_reader tokens.now) (λ r. give (rule_item r))) }
+    ensures { ReadsAs (λ x. (x.0, x.1.now)) result (pass_on (rule_reader tokens.now) (λ r. give (rule_item r))) }
 {
     let (rule, rest) = rule(alloc, tokens)?;
     Ok((ItemText::Rule(rule), rest))
 }
 
 fn only_among(tokens: &[Lexeme]) -> Result<(ItemText, &[Lexeme]), ReadError>
-    ensures { Gives (λ x. (x.0, x.1.now)) result (passed (only_reader tokens.now) (λ o. give (only_item o))) }
+    ensures { ReadsAs (λ x. (x.0, x.1.now)) result (pass_on (only_reader tokens.now) (λ o. give (only_item o))) }
 {
     let (only, rest) = only(tokens)?;
     Ok((ItemText::Only(only), rest))
@@ -51,7 +51,7 @@ fn item(
     conditions: bool,
     tokens: &[Lexeme],
 ) -> Result<(ItemText, &[Lexeme]), ReadError>
-    ensures { Gives (λ x. (x.0, x.1.now)) result (item_reader conditions tokens.now) }
+    ensures { ReadsAs (λ x. (x.0, x.1.now)) result (item_reader conditions tokens.now) }
 {
     if next_is_keyword(tokens, b"line") {
         line_among(alloc, tokens)
@@ -75,7 +75,7 @@ fn items(
     conditions: bool,
     tokens: &[Lexeme],
 ) -> Result<(Items<ItemText>, &[Lexeme]), ReadError>
-    ensures { Gives (λ x. (x.0, x.1.now)) result (many (begins_item conditions) (item_reader conditions) tokens.now) }
+    ensures { ReadsAs (λ x. (x.0, x.1.now)) result (many (begins_item conditions) (item_reader conditions) tokens.now) }
 {
     let mut items = Items::new(alloc);
     let mut rest = tokens;
@@ -93,7 +93,7 @@ fn sets(
     levels: u32,
     tokens: &[Lexeme],
 ) -> Result<(Items<SetTree>, &[Lexeme]), ReadError>
-    ensures { Gives (λ x. (x.0, x.1.now)) result (many (word_is (codes "set")) (set_reader version levels) tokens.now) }
+    ensures { ReadsAs (λ x. (x.0, x.1.now)) result (many (word_is (codes "set")) (set_reader version levels) tokens.now) }
 {
     let mut sets = Items::new(alloc);
     let mut rest = tokens;
@@ -114,7 +114,7 @@ fn side<'a>(
     levels: u32,
     tokens: &'a [Lexeme],
 ) -> Result<(Trees, &'a [Lexeme]), ReadError>
-    ensures { Gives (λ x. (x.0, x.1.now)) result (side_reader version name.now levels tokens.now) }
+    ensures { ReadsAs (λ x. (x.0, x.1.now)) result (side_reader version name.now levels tokens.now) }
 {
     let (_, rest) = keyword(tokens, name)?;
     let (_, rest) = mark(rest, b"{")?;
@@ -131,7 +131,7 @@ fn mapping_made(
     target: Trees,
     items: Items<ItemText>,
 ) -> Result<MappingText, AllocError>
-    ensures { IfOk result (λ m. m ≡ mapping_text version source target items) }
+    ensures { IfOk result (λ m. m ≡ mapping_of_items version source target items) }
 {
     let mut lines = Items::new(alloc);
     let mut conditions = Items::new(alloc);
@@ -161,7 +161,7 @@ fn body(
     levels: u32,
     tokens: &[Lexeme],
 ) -> Result<(MappingText, &[Lexeme]), ReadError>
-    ensures { Gives (λ x. (x.0, x.1.now)) result (body_reader version levels tokens.now) }
+    ensures { ReadsAs (λ x. (x.0, x.1.now)) result (body_reader version levels tokens.now) }
 {
     let (_, rest) = mark(tokens, b";")?;
     let (source, rest) = side(alloc, version, b"source", levels, rest)?;
@@ -176,7 +176,7 @@ fn mapping(
     levels: u32,
     tokens: &[Lexeme],
 ) -> Result<(MappingText, &[Lexeme]), ReadError>
-    ensures { Gives (λ x. (x.0, x.1.now)) result (mapping_reader levels tokens.now) }
+    ensures { ReadsAs (λ x. (x.0, x.1.now)) result (mapping_reader levels tokens.now) }
 {
     let (_, rest) = keyword(tokens, b"mapping")?;
     if next_is_number(rest, b"1") {
@@ -197,7 +197,7 @@ pub(crate) fn whole_mapping(
     levels: u32,
     tokens: &[Lexeme],
 ) -> Result<MappingText, ReadError>
-    ensures { Gives (λ m. m) result (whole (mapping_reader levels) tokens.now) }
+    ensures { ReadsAs (λ m. m) result (whole (mapping_reader levels) tokens.now) }
 {
     let (mapping, rest) = mapping(alloc, levels, tokens)?;
     nothing_left(rest)?;

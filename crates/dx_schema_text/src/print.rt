@@ -1,7 +1,7 @@
 // The text of sets.
 ghost use Rattle.std.specs.Prelude.{◌≡◌, ℕ, ◌++◌, [], IfOk, OnOk, flat_map, string_bytes};
 ghost use Rattle.dx_schema.specs.Forest.{forest_of};
-ghost use Rattle.dx_schema_text.specs.Print.{AreWritable, IsKnown, IsReadAgain, front_lines, group, head_lines, dep_line, key_line, last_line, names_text, optional_text, printed, ref_line, wider};
+ghost use Rattle.dx_schema_text.specs.Print.{AreWritable, IsKnownVersion, IsReadAgain, front_lines, group, head_lines, dep_line, key_line, last_line, names_text, optional_text, printed, ref_line, wider};
 
 use dx_ports::Text;
 use dx_schema::{DepDecl, KeyDecl, RefDecl, SetTree};
@@ -176,7 +176,7 @@ fn push_sets(
 /// `AllocError` if there is no memory.
 pub fn print_trees(alloc: Global, trees: &[SetTree]) -> Result<Text, AllocError>
     ensures text { IfOk result (λ t. t ≡ printed [] (forest_of trees.now)) }
-    ensures read_again { IfOk result (λ t. (version : ℕ) → IsKnown version → AreWritable version (forest_of trees.now) → IsReadAgain version (forest_of trees.now) t) }
+    ensures read_again { IfOk result (λ t. (version : ℕ) → IsKnownVersion version → AreWritable version (forest_of trees.now) → IsReadAgain version (forest_of trees.now) t) }
 {
     let margin = Text::from_str(alloc, "")?;
     let mut out = String::new(alloc);

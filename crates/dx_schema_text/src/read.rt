@@ -2,7 +2,7 @@
 ghost use Rattle.std.specs.Prelude.{◌≡◌, ◌⊎◌, ◌++◌, ◌<◌, ◌≤◌, ℕ, length, IfOk, IfErr};
 ghost use Rattle.dx_grammar.specs.Readers.{whole};
 ghost use Rattle.dx_schema_text.specs.Reading.{mapping_reader};
-ghost use Rattle.dx_schema_text.specs.Texts.{begun_in, fault_in, stops_by, unexpected, told_of, read_text, IsMappingText, IsToldFault, AnswersMapping, AnswersFault};
+ghost use Rattle.dx_schema_text.specs.Texts.{begun_in, fault_in, stops_by, unexpected, mapping_of_tokens, mapping_of_text, IsMappingText, IsMappingFaultOrMemory, AnswersMapping, AnswersMappingFault};
 ghost use Rattle.dx_tokens.specs.Judged.{Reads};
 ghost use Rattle.dx_tokens.specs.declared.faults.TextFault.TheVariants.{Memory};
 
@@ -55,14 +55,14 @@ fn fault_at(alloc: Global, tokens: &[Lexeme], left: usize) -> TextFault
     }
 }
 
-// The mapping that the tokens say, where the text has so many bytes and its tokens stop so.
+// The mapping that the tokens say, if the text has so many bytes and its tokens stop so.
 fn mapping_of(
     alloc: Global,
     end: u64,
     stop: Option<(u64, TextKind)>,
     tokens: &[Lexeme],
 ) -> Result<MappingText, TextFault>
-    ensures { Reads result (told_of end stop tokens.now) }
+    ensures { Reads result (mapping_of_tokens end stop tokens.now) }
 {
     match whole_mapping(alloc, LEVELS, tokens) {
         Ok(mapping) => match stop {
@@ -76,7 +76,7 @@ fn mapping_of(
 }
 
 fn read(alloc: Global, text: &[u8]) -> Result<MappingText, TextFault>
-    ensures { Reads result (read_text text.now) }
+    ensures { Reads result (mapping_of_text text.now) }
 {
     let (tokens, stop) = judged(scan(alloc, text)?)?;
     mapping_of(alloc, text.len() as u64, stop, tokens.items())
@@ -87,18 +87,18 @@ fn read(alloc: Global, text: &[u8]) -> Result<MappingText, TextFault>
 /// # Errors
 ///
 /// `At` with the place of the first fault: `Character` at a byte that can't stand there, `Expected` at the first byte of a
-/// token that can't, `Ended` at the end of the text where it ends too early. `TooDeep` at the first byte of a token
-/// that can't stand, but could if sets might be nested one level deeper. `Memory` where memory runs out.
+/// token that can't, `Ended` at the end of the text if it ends too early. `TooDeep` at the first byte of a token
+/// that can't stand, but could if sets might be nested one level deeper. `Memory` if memory runs out.
 pub fn read_mapping(alloc: Global, text: &[u8]) -> Result<MappingText, TextFault>
-    ensures value { Reads result (read_text text.now) }
+    ensures value { Reads result (mapping_of_text text.now) }
 
     // What is read is what the text says, and what it says is read.
     ensures mapping { IfOk result (IsMappingText text.now) }
     ensures mapping_only { AnswersMapping text.now result }
 
     // A refusal is the text's first fault, and its first fault is refused.
-    ensures fault { IfErr result (IsToldFault text.now) }
-    ensures fault_only { AnswersFault text.now result }
+    ensures fault { IfErr result (IsMappingFaultOrMemory text.now) }
+    ensures fault_only { AnswersMappingFault text.now result }
 {
     read(alloc, text)
 }

@@ -1,6 +1,6 @@
 // Rules that are written by hand.
 ghost use Rattle.std.specs.Prelude.{◌≡◌, codes};
-ghost use Rattle.dx_grammar.specs.Readers.{many, with_front, Gives};
+ghost use Rattle.dx_grammar.specs.Readers.{many, with_front, ReadsAs};
 ghost use Rattle.dx_schema_text.specs.Grammar.{mark_is};
 ghost use Rattle.dx_schema_text.specs.Reading.{name_reader, literal_reader, cell_reader, comma_cell, cells_reader, atom_reader, comma_atom, atoms_reader, derived_reader, comma_derived, where_reader, optional_where, rule_reader};
 
@@ -13,7 +13,7 @@ use std::alloc::Global;
 
 #[tactic(auto, unfolding(crate::specs::Reading::name_reader))]
 fn name(tokens: &[Lexeme]) -> Result<(CellText, &[Lexeme]), ReadError>
-    ensures { Gives (λ x. (x.0, x.1.now)) result (name_reader tokens.now) }
+    ensures { ReadsAs (λ x. (x.0, x.1.now)) result (name_reader tokens.now) }
 {
     let (word, rest) = word(tokens)?;
     let name = CellText::Name {
@@ -25,16 +25,16 @@ fn name(tokens: &[Lexeme]) -> Result<(CellText, &[Lexeme]), ReadError>
 
 #[tactic(auto, unfolding(crate::specs::Reading::literal_reader))]
 fn literal(tokens: &[Lexeme]) -> Result<(CellText, &[Lexeme]), ReadError>
-    ensures { Gives (λ x. (x.0, x.1.now)) result (literal_reader tokens.now) }
+    ensures { ReadsAs (λ x. (x.0, x.1.now)) result (literal_reader tokens.now) }
 {
     let (text, rest) = string(tokens)?;
     Ok((CellText::Literal(text.text.copy()?), rest))
 }
 
-// A name, or where strings may stand, a name or a string.
+// A name, or if strings may stand, a name or a string.
 #[tactic(auto, unfolding(crate::specs::Reading::cell_reader))]
 fn cell(strings: bool, tokens: &[Lexeme]) -> Result<(CellText, &[Lexeme]), ReadError>
-    ensures { Gives (λ x. (x.0, x.1.now)) result (cell_reader strings tokens.now) }
+    ensures { ReadsAs (λ x. (x.0, x.1.now)) result (cell_reader strings tokens.now) }
 {
     if !strings || next_is_word(tokens) {
         name(tokens)
@@ -45,7 +45,7 @@ fn cell(strings: bool, tokens: &[Lexeme]) -> Result<(CellText, &[Lexeme]), ReadE
 
 #[tactic(auto, unfolding(crate::specs::Reading::comma_cell))]
 fn next_cell(strings: bool, tokens: &[Lexeme]) -> Result<(CellText, &[Lexeme]), ReadError>
-    ensures { Gives (λ x. (x.0, x.1.now)) result (comma_cell strings tokens.now) }
+    ensures { ReadsAs (λ x. (x.0, x.1.now)) result (comma_cell strings tokens.now) }
 {
     let (_, rest) = mark(tokens, b",")?;
     cell(strings, rest)
@@ -57,7 +57,7 @@ fn more_cells(
     cells: Items<CellText>,
     tokens: &[Lexeme],
 ) -> Result<(Items<CellText>, &[Lexeme]), ReadError>
-    ensures { Gives (λ x. (x.0, x.1.now)) result (with_front cells (many (mark_is (codes ",")) (comma_cell strings) tokens.now)) }
+    ensures { ReadsAs (λ x. (x.0, x.1.now)) result (with_front cells (many (mark_is (codes ",")) (comma_cell strings) tokens.now)) }
 {
     let mut cells = cells;
     let mut rest = tokens;
@@ -80,7 +80,7 @@ pub fn cells(
     strings: bool,
     tokens: &[Lexeme],
 ) -> Result<(Items<CellText>, &[Lexeme]), ReadError>
-    ensures { Gives (λ x. (x.0, x.1.now)) result (cells_reader strings tokens.now) }
+    ensures { ReadsAs (λ x. (x.0, x.1.now)) result (cells_reader strings tokens.now) }
 {
     let (first, rest) = cell(strings, tokens)?;
     let mut cells = Items::new(alloc);
@@ -90,7 +90,7 @@ pub fn cells(
 
 #[tactic(auto, unfolding(crate::specs::Reading::atom_reader))]
 fn atom(alloc: Global, strings: bool, tokens: &[Lexeme]) -> Result<(AtomText, &[Lexeme]), ReadError>
-    ensures { Gives (λ x. (x.0, x.1.now)) result (atom_reader strings tokens.now) }
+    ensures { ReadsAs (λ x. (x.0, x.1.now)) result (atom_reader strings tokens.now) }
 {
     let (set, rest) = word(tokens)?;
     let (_, rest) = mark(rest, b"(")?;
@@ -110,7 +110,7 @@ fn next_atom(
     strings: bool,
     tokens: &[Lexeme],
 ) -> Result<(AtomText, &[Lexeme]), ReadError>
-    ensures { Gives (λ x. (x.0, x.1.now)) result (comma_atom strings tokens.now) }
+    ensures { ReadsAs (λ x. (x.0, x.1.now)) result (comma_atom strings tokens.now) }
 {
     let (_, rest) = mark(tokens, b",")?;
     atom(alloc, strings, rest)
@@ -123,7 +123,7 @@ fn more_atoms(
     atoms: Items<AtomText>,
     tokens: &[Lexeme],
 ) -> Result<(Items<AtomText>, &[Lexeme]), ReadError>
-    ensures { Gives (λ x. (x.0, x.1.now)) result (with_front atoms (many (mark_is (codes ",")) (comma_atom strings) tokens.now)) }
+    ensures { ReadsAs (λ x. (x.0, x.1.now)) result (with_front atoms (many (mark_is (codes ",")) (comma_atom strings) tokens.now)) }
 {
     let mut atoms = atoms;
     let mut rest = tokens;
@@ -146,7 +146,7 @@ pub fn atoms(
     strings: bool,
     tokens: &[Lexeme],
 ) -> Result<(Items<AtomText>, &[Lexeme]), ReadError>
-    ensures { Gives (λ x. (x.0, x.1.now)) result (atoms_reader strings tokens.now) }
+    ensures { ReadsAs (λ x. (x.0, x.1.now)) result (atoms_reader strings tokens.now) }
 {
     let (first, rest) = atom(alloc, strings, tokens)?;
     let mut atoms = Items::new(alloc);
@@ -156,7 +156,7 @@ pub fn atoms(
 
 #[tactic(auto, unfolding(crate::specs::Reading::derived_reader))]
 fn derived(alloc: Global, tokens: &[Lexeme]) -> Result<(DerivedText, &[Lexeme]), ReadError>
-    ensures { Gives (λ x. (x.0, x.1.now)) result (derived_reader tokens.now) }
+    ensures { ReadsAs (λ x. (x.0, x.1.now)) result (derived_reader tokens.now) }
 {
     let (name, rest) = word(tokens)?;
     let (_, rest) = mark(rest, b"=")?;
@@ -176,7 +176,7 @@ fn derived(alloc: Global, tokens: &[Lexeme]) -> Result<(DerivedText, &[Lexeme]),
 
 #[tactic(auto, unfolding(crate::specs::Reading::comma_derived))]
 fn next_derived(alloc: Global, tokens: &[Lexeme]) -> Result<(DerivedText, &[Lexeme]), ReadError>
-    ensures { Gives (λ x. (x.0, x.1.now)) result (comma_derived tokens.now) }
+    ensures { ReadsAs (λ x. (x.0, x.1.now)) result (comma_derived tokens.now) }
 {
     let (_, rest) = mark(tokens, b",")?;
     derived(alloc, rest)
@@ -188,7 +188,7 @@ fn more_derived(
     all: Items<DerivedText>,
     tokens: &[Lexeme],
 ) -> Result<(Items<DerivedText>, &[Lexeme]), ReadError>
-    ensures { Gives (λ x. (x.0, x.1.now)) result (with_front all (many (mark_is (codes ",")) comma_derived tokens.now)) }
+    ensures { ReadsAs (λ x. (x.0, x.1.now)) result (with_front all (many (mark_is (codes ",")) comma_derived tokens.now)) }
 {
     let mut all = all;
     let mut rest = tokens;
@@ -205,7 +205,7 @@ fn where_part(
     alloc: Global,
     tokens: &[Lexeme],
 ) -> Result<(Items<DerivedText>, &[Lexeme]), ReadError>
-    ensures { Gives (λ x. (x.0, x.1.now)) result (where_reader tokens.now) }
+    ensures { ReadsAs (λ x. (x.0, x.1.now)) result (where_reader tokens.now) }
 {
     let (_, rest) = keyword(tokens, b"where")?;
     let (first, rest) = derived(alloc, rest)?;
@@ -219,7 +219,7 @@ fn derived_variables(
     alloc: Global,
     tokens: &[Lexeme],
 ) -> Result<(Items<DerivedText>, &[Lexeme]), ReadError>
-    ensures { Gives (λ x. (x.0, x.1.now)) result (optional_where tokens.now) }
+    ensures { ReadsAs (λ x. (x.0, x.1.now)) result (optional_where tokens.now) }
 {
     if next_is_keyword(tokens, b"where") {
         where_part(alloc, tokens)
@@ -231,7 +231,7 @@ fn derived_variables(
 /// A rule, and what is left after it.
 #[tactic(auto, unfolding(crate::specs::Reading::rule_reader))]
 pub(crate) fn rule(alloc: Global, tokens: &[Lexeme]) -> Result<(RuleText, &[Lexeme]), ReadError>
-    ensures { Gives (λ x. (x.0, x.1.now)) result (rule_reader tokens.now) }
+    ensures { ReadsAs (λ x. (x.0, x.1.now)) result (rule_reader tokens.now) }
 {
     let (_, rest) = keyword(tokens, b"rule")?;
     let (premise, rest) = atoms(alloc, false, rest)?;

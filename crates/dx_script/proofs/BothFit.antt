@@ -10,12 +10,12 @@ use Rattle.dx_model.specs.declared.rules.Atom.{Atom}
 use Rattle.dx_model.specs.declared.rules.Rule.{Rule}
 use Rattle.dx_model.specs.declared.covers.CellMap.{CellMap}
 use Rattle.dx_model.specs.Rules.{cells_of, exported}
-use Rattle.dx_model.specs.Covers.{HasWidths, IsKnown, below, before, cell_under, rule_at, used_maps}
+use Rattle.dx_model.specs.Covers.{HasWidths, IsNoExistential, below, before, cell_under, rule_at, used_maps}
 use Rattle.dx_model.proofs.Lists.{from_below}
 use Rattle.dx_model.proofs.Canonical.{in_variables, from_variables}
 use Rattle.dx_model.proofs.Carrying.{maps_carry}
 use Rattle.dx_model.proofs.Before.{from_used, widths_at}
-use Rattle.dx_schema.specs.Names.{Named}
+use Rattle.dx_schema.specs.Names.{TableNames}
 use Rattle.dx_funcs.specs.declared.conversion.Conversion.{Conversion}
 use Rattle.dx_script.specs.declared.form.Unless.{Unless}
 use Rattle.dx_script.specs.Names.{table_numbered}
@@ -27,14 +27,14 @@ use Rattle.dx_script.proofs.RuleFacts.{NamesFit, conclusion_fits}
 use Rattle.dx_script.proofs.Fitted.{position_below, TestIn, PartsFit, script_fits}
 
 -- a test reads columns that are there
-test_in : (R : List Rule) (i j x : ℕ) (e : Cell) → x ∈ exported (rule_at R i) → IsKnown e → e ∈ cells_of (rule_at R j).conclusion → TestIn R i j (test_of (rule_at R i) (rule_at R j) x e)
+test_in : (R : List Rule) (i j x : ℕ) (e : Cell) → x ∈ exported (rule_at R i) → IsNoExistential e → e ∈ cells_of (rule_at R j).conclusion → TestIn R i j (test_of (rule_at R i) (rule_at R j) x e)
 test_in R i j x (Var y) m n s =
     (position_below y (exported (rule_at R j)) (in_variables y (cells_of (rule_at R j).conclusion) s), position_below x (exported (rule_at R i)) m)
 test_in R i j x (Lit t) m n s = position_below x (exported (rule_at R i)) m
 test_in R i j x (Ex v) m (inl (y, e)) s = absurd (cc)
 test_in R i j x (Ex v) m (inr (t, e)) s = absurd (cc)
 
-module _ (source target : List Named) (list : List Conversion) (R : List Rule) (good : NamesFit source target list R) where
+module _ (source target : List TableNames) (list : List Conversion) (R : List Rule) (good : NamesFit source target list R) where
   width : ℕ → ℕ
   width t = length (table_numbered target t).columns
 
@@ -58,7 +58,7 @@ module _ (source target : List Named) (list : List Conversion) (R : List Rule) (
       let d = from_map (unless_of R r a.0) (used_maps (rule_at R r) (rule_at R a.0)) a.2 in
       subst (λ (z : Unless). (z.rule < length R) × Each z.tests (TestIn R r z.rule)) d.2 (from_below a.0 (length R) f.0, tests_in r a.0 d.0 d.1)
 
-pub generated_fit : (source target : List Named) (list : List Conversion) (R : List Rule) → NamesFit source target list R
+pub generated_fit : (source target : List TableNames) (list : List Conversion) (R : List Rule) → NamesFit source target list R
     → FitsScript source target list (plain_steps source target list R) × FitsScript source target list (rewritten_steps source target list R)
 generated_fit source target list R good = (
   script_fits source target list (λ r. []) R good (λ r h u m. elim m [ ]),

@@ -3,7 +3,7 @@ use Rattle.std.proofs.Common.{◌≡◌, ℕ, ◌<◌, true, false, List, [], �
 use Rattle.dx_model.specs.declared.rules.Cell.TheVariants.{Var, Ex, Lit}
 use Rattle.dx_model.specs.declared.rules.Rule.{Rule}
 use Rattle.std.specs.Prelude.{codes}
-use Rattle.dx_schema.specs.Names.{Named}
+use Rattle.dx_schema.specs.Names.{TableNames}
 use Rattle.dx_funcs.specs.declared.conversion.Conversion.{Conversion}
 use Rattle.dx_script.specs.declared.form.Step.{Step}
 use Rattle.dx_script.specs.declared.form.Step.TheVariants.{Create, MatchRows, KeepRows, InsertRows}
@@ -18,10 +18,10 @@ use Rattle.dx_script.specs.Generated.{equals, plain_steps, spots}
 use Rattle.dx_script.specs.Rewritten.{rewritten_steps, unless_parts}
 
 -- tables of two columns
-source : List Named
+source : List TableNames
 source = record { name = codes "A"; columns = codes "a" ∷ codes "b" ∷ [] } ∷ []
 
-target : List Named
+target : List TableNames
 target = record { name = codes "T"; columns = codes "c" ∷ codes "d" ∷ [] } ∷ []
 
 list : List Conversion

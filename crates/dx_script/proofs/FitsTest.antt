@@ -5,12 +5,12 @@ use Rattle.std.proofs.lemmas.Bool.Decides.{Decides-eqb}
 use Rattle.std.proofs.lemmas.List.{drop_all, get_or-map, get_or_default, length-map}
 use Rattle.std.proofs.lemmas.Bool.{cases_lt}
 use Rattle.dx_ports.proofs.Loops.{not_so}
-use Rattle.dx_model.specs.Values.{Text}
-use Rattle.dx_schema.specs.Names.{Named}
+use Rattle.dx_ports.specs.Texts.{Text}
+use Rattle.dx_schema.specs.Names.{TableNames}
 use Rattle.dx_funcs.specs.declared.conversion.Conversion.{Conversion}
 use Rattle.dx_script.specs.declared.form.Step.{Step}
 use Rattle.dx_script.specs.declared.form.Step.TheVariants.{Create, MatchRows, KeepRows, InsertRows}
-use Rattle.dx_script.specs.Fits.{FitsScript, InsertFits, ReadsKept, StepFits, created, created_in, kept_rules}
+use Rattle.dx_script.specs.Fits.{FitsScript, InsertFits, ReadsKept, StepFits, created, created_in, rules_with_keep}
 use Rattle.dx_script.specs.Names.{table_numbered}
 use Rattle.dx_script.proofs.NameFacts.{no_table}
 use Rattle.dx_script.proofs.Made.{both_end, both_more, head_is, made_next}
@@ -20,18 +20,18 @@ abbrev pub no_step : Step
 no_step = Create [] []
 
 -- each of the first steps fits after those before it
-abbrev pub FitBelow : List Named → List Named → List Conversion → List Step → List Step → ℕ → Type 0
+abbrev pub FitBelow : List TableNames → List TableNames → List Conversion → List Step → List Step → ℕ → Type 0
 FitBelow source target list keeps steps n =
     (k : ℕ) → k < n → k < length steps → StepFits source target list keeps (take k steps) (get_or steps k no_step)
 
 -- ---- created tables
 
 -- a table as a step creates it
-abbrev pub shown : Named → Text × List Text
+abbrev pub shown : TableNames → Text × List Text
 shown t = (t.name, t.columns)
 
 -- the rest of the steps creates the rest of the tables exactly if all of the steps create all of them
-pub record Created (next at : ℕ) (steps : List Step) (tables : List Named) : Type 0 where
+pub record Created (next at : ℕ) (steps : List Step) (tables : List TableNames) : Type 0 where
   pub within : next ≤ length tables
   pub same : (created steps ≡ map shown tables) ↔ (created (drop at steps) ≡ drop next (map shown tables))
 
@@ -41,13 +41,13 @@ no_created (MatchRows r select sources equal) h = refl
 no_created (KeepRows r unless) h = refl
 no_created (InsertRows table r kept cells) h = refl
 
-pub none_created : (next at : ℕ) (steps : List Step) (tables : List Named) (s : Step) → at < length steps → s ≡ get_or steps at s → ((t : _) (u : _) → ¬ (s ≡ Create t u))
+pub none_created : (next at : ℕ) (steps : List Step) (tables : List TableNames) (s : Step) → at < length steps → s ≡ get_or steps at s → ((t : _) (u : _) → ¬ (s ≡ Create t u))
     → Created next at steps tables → Created next (at + 1) steps tables
 none_created next at steps tables s lt is h p =
     let e : created (drop at steps) ≡ created (drop (at + 1) steps) = made_next created_in steps at s lt is ∙ ap (λ z. z ++ created (drop (at + 1) steps)) (no_created s h) in
     record { within = p.within; same = ((λ q. sym e ∙ p.same.0 q), (λ q. p.same.1 (e ∙ q))) }
 
-module _ (next at : ℕ) (steps : List Step) (tables : List Named) (s : Step) (t : Text) (u : List Text) (lt : at < length steps) (is : s ≡ get_or steps at s) (e : s ≡ Create t u) where
+module _ (next at : ℕ) (steps : List Step) (tables : List TableNames) (s : Step) (t : Text) (u : List Text) (lt : at < length steps) (is : s ≡ get_or steps at s) (e : s ≡ Create t u) where
   opened : created (drop at steps) ≡ (t, u) ∷ created (drop (at + 1) steps)
   opened = made_next created_in steps at s lt is ∙ ap (λ z. created_in z ++ created (drop (at + 1) steps)) e
 
@@ -70,7 +70,7 @@ module _ (next at : ℕ) (steps : List Step) (tables : List Named) (s : Step) (t
           let g : shown (table_numbered tables next) ≡ (t, u) = sym (get_or-map shown tables next no_table (t, u) k) ∙ h.1 in
           (k, ap (λ (z : Text × List Text). record { name = z.0; columns = z.1 }) g)
 
-pub all_created : (next at : ℕ) (steps : List Step) (tables : List Named) (b : Bool) → length steps ≤ at → (IsTrue b ↔ (next ≡ length tables)) → Created next at steps tables → (IsTrue b ↔ (created steps ≡ map shown tables))
+pub all_created : (next at : ℕ) (steps : List Step) (tables : List TableNames) (b : Bool) → length steps ≤ at → (IsTrue b ↔ (next ≡ length tables)) → Created next at steps tables → (IsTrue b ↔ (created steps ≡ map shown tables))
 all_created next at steps tables b past t p =
     let e : created (drop at steps) ≡ [] = ap created (drop_all at steps past) in
     both_end (map shown tables) next b (rw (length-map tables shown) t) (rw (length-map tables shown) p.within) ((λ q. sym e ∙ p.same.0 q), (λ q. p.same.1 (e ∙ q)))
@@ -78,12 +78,12 @@ all_created next at steps tables b past t p =
 -- ---- scripts
 
 -- the keep tables of a script alone say what an insert has to read
-reads_alike : (a b before : List Step) (r : ℕ) (kept : Bool) → kept_rules a ≡ kept_rules b → ReadsKept a before r kept → ReadsKept b before r kept
+reads_alike : (a b before : List Step) (r : ℕ) (kept : Bool) → rules_with_keep a ≡ rules_with_keep b → ReadsKept a before r kept → ReadsKept b before r kept
 reads_alike a b before r true e h = h
 reads_alike a b before r false e h = λ m. h (rw e m)
 
-module _ (source target : List Named) (list : List Conversion) where
-  steps_alike : (a b before : List Step) (s : Step) → kept_rules a ≡ kept_rules b → StepFits source target list a before s → StepFits source target list b before s
+module _ (source target : List TableNames) (list : List Conversion) where
+  steps_alike : (a b before : List Step) (s : Step) → rules_with_keep a ≡ rules_with_keep b → StepFits source target list a before s → StepFits source target list b before s
   steps_alike a b before (Create table columns) e h = h
   steps_alike a b before (MatchRows r select sources equal) e h = h
   steps_alike a b before (KeepRows r unless) e h = h
@@ -99,7 +99,7 @@ module _ (source target : List Named) (list : List Conversion) where
   rejoined (s ∷ steps) (suc k) h = ap (λ z. s ∷ z) (rejoined steps k (omega arith))
 
   -- a script whose steps all fit
-  pub script_fits : (keeps steps : List Step) (n : ℕ) → created steps ≡ map shown target → kept_rules keeps ≡ kept_rules steps → length steps ≤ n → FitBelow source target list keeps steps n → FitsScript source target list steps
+  pub script_fits : (keeps steps : List Step) (n : ℕ) → created steps ≡ map shown target → rules_with_keep keeps ≡ rules_with_keep steps → length steps ≤ n → FitBelow source target list keeps steps n → FitsScript source target list steps
   script_fits keeps steps n c e past f = record {
     creates = c;
     each = λ before after s q.
@@ -112,7 +112,7 @@ module _ (source target : List Named) (list : List Conversion) where
   }
 
   -- each step of a script that fits
-  pub step_of : (keeps steps : List Step) (k : ℕ) (s : Step) → kept_rules keeps ≡ kept_rules steps → k < length steps → s ≡ get_or steps k s → FitsScript source target list steps → StepFits source target list keeps (take k steps) s
+  pub step_of : (keeps steps : List Step) (k : ℕ) (s : Step) → rules_with_keep keeps ≡ rules_with_keep steps → k < length steps → s ≡ get_or steps k s → FitsScript source target list steps → StepFits source target list keeps (take k steps) s
   step_of keeps steps k s e l is f =
       let b : s ≡ get_or steps k no_step = is ∙ get_or_default steps k s no_step l in
       steps_alike steps keeps (take k steps) s (sym e) (f.each (take k steps) (drop (suc k) steps) s (rejoined steps k l ∙ ap (λ z. take k steps ++ (z ∷ drop (suc k) steps)) (sym b)))

@@ -14,12 +14,12 @@ use Rattle.dx_model.specs.declared.rules.Cell.TheVariants.{Var, Ex, Lit}
 use Rattle.dx_model.specs.declared.rules.Atom.{Atom}
 use Rattle.dx_model.specs.declared.rules.Derived.{Derived}
 use Rattle.dx_model.specs.declared.rules.Rule.{Rule}
-use Rattle.dx_model.specs.Values.{Text}
+use Rattle.dx_ports.specs.Texts.{Text}
 use Rattle.dx_model.specs.Rules.{cells_of, after_cells, exported}
 use Rattle.dx_model.specs.Covers.{below, rule_at}
 use Rattle.dx_model.proofs.Lists.{in_below, from_below, length_below}
 use Rattle.dx_model.proofs.Canonical.{in_variables}
-use Rattle.dx_schema.specs.Names.{Named}
+use Rattle.dx_schema.specs.Names.{TableNames}
 use Rattle.dx_funcs.specs.declared.conversion.Conversion.{Conversion}
 use Rattle.dx_script.specs.declared.form.Equal.{Equal}
 use Rattle.dx_script.specs.declared.form.Test.{Test}
@@ -31,7 +31,7 @@ use Rattle.dx_script.specs.declared.form.Step.TheVariants.{Create, MatchRows, Ke
 use Rattle.dx_funcs.specs.Names.{conversion_name, TakesTexts}
 use Rattle.dx_script.specs.Names.{table_numbered, table_names, table_named, column_at}
 use Rattle.dx_script.specs.Meaning.{table_of_alias}
-use Rattle.dx_script.specs.Fits.{created_in, created, width_in, match_widths, kept_in, kept_rules, HasColumn, CellFits, SelectFits, MatchFits, TestFits, OutFits, ReadsKept, StepFits, FitsScript}
+use Rattle.dx_script.specs.Fits.{created_in, created, width_in, match_widths, kept_in, rules_with_keep, HasColumn, CellFits, SelectFits, MatchFits, TestFits, OutFits, ReadsKept, StepFits, FitsScript}
 use Rattle.dx_script.specs.Generated.{Spot, spots, first_spot, shows, equals, select_of, selects_of, sources_of, create_steps, match_step, match_steps, keep_step, keep_steps, has_parts, out_of, insert_step, inserts_of, insert_steps, script_with}
 use Rattle.dx_script.proofs.NameFacts.{no_table, nat_lt_tells, takes_texts, table_number}
 use Rattle.dx_script.proofs.RuleFacts.{NamesFit, premise_fits, conclusion_fits, stands, arguments_below, exported_known}
@@ -73,13 +73,13 @@ position_below x (y ∷ ys) m = elim (cases_Bool (eqb x y)) [
 widths_append : (xs ys : List Step) → match_widths (xs ++ ys) ≡ match_widths xs ++ match_widths ys
 widths_append xs ys = flat_map-append width_in xs ys
 
-kept_append : (xs ys : List Step) → kept_rules (xs ++ ys) ≡ kept_rules xs ++ kept_rules ys
+kept_append : (xs ys : List Step) → rules_with_keep (xs ++ ys) ≡ rules_with_keep xs ++ rules_with_keep ys
 kept_append xs ys = flat_map-append kept_in xs ys
 
 created_append : (xs ys : List Step) → created (xs ++ ys) ≡ created xs ++ created ys
 created_append xs ys = flat_map-append created_in xs ys
 
-module _ (source target : List Named) (list : List Conversion) (whole : List Step) where
+module _ (source target : List TableNames) (list : List Conversion) (whole : List Step) where
   -- each of the steps fits after those before it
   abbrev pub AllFit : List Step → List Step → Type 0
   AllFit before [] = Unit {0}
@@ -115,7 +115,7 @@ module _ (source target : List Named) (list : List Conversion) (whole : List Ste
 
 -- ---- the parts of a match step
 
-module _ (source target : List Named) (list : List Conversion) (R : List Rule) (d : Rule) (good : NamesFit source target list R) (member : d ∈ R) where
+module _ (source target : List TableNames) (list : List Conversion) (R : List Rule) (d : Rule) (good : NamesFit source target list R) (member : d ∈ R) where
   all : List Spot
   all = spots source 0 d.premise
 
@@ -168,7 +168,7 @@ module _ (source target : List Named) (list : List Conversion) (R : List Rule) (
     sources_named = λ name m.
         let w = from_map (λ (a : Atom). (table_numbered source a.table).name) d.premise m in
         let a = premise_fits source target list R d good member w.0 w.1 in
-        subst (λ z. z ∈ table_names source) w.2 (in_map (λ (t : Named). t.name) (in_at source (w.0).table no_table a.0));
+        subst (λ z. z ∈ table_names source) w.2 (in_map (λ (t : TableNames). t.name) (in_at source (w.0).table no_table a.0));
     selected = λ s m. let w = from_map (select_of list all d) (exported d) m in subst (SelectFits source list (sources_of source d)) w.2 (select_fits w.0 w.1);
     equal_cells = λ e m.
         let w = from_equals all e m in
@@ -187,19 +187,19 @@ TestIn R r j (Same own text) = own < length (exported (rule_at R r))
 abbrev pub PartsFit : List Rule → (ℕ → List Unless) → Type 0
 PartsFit R keeps = (r : ℕ) → r < length R → Each (keeps r) (λ u. (u.rule < length R) × Each u.tests (TestIn R r u.rule))
 
-create_widths : (ts : List Named) → match_widths (create_steps ts) ≡ []
+create_widths : (ts : List TableNames) → match_widths (create_steps ts) ≡ []
 create_widths [] = refl
 create_widths (t ∷ ts) = create_widths ts
 
-create_kept : (ts : List Named) → kept_rules (create_steps ts) ≡ []
+create_kept : (ts : List TableNames) → rules_with_keep (create_steps ts) ≡ []
 create_kept [] = refl
 create_kept (t ∷ ts) = create_kept ts
 
-create_created : (ts : List Named) → created (create_steps ts) ≡ map (λ (t : Named). (t.name, t.columns)) ts
+create_created : (ts : List TableNames) → created (create_steps ts) ≡ map (λ (t : TableNames). (t.name, t.columns)) ts
 create_created [] = refl
 create_created (t ∷ ts) = ap (λ z. (t.name, t.columns) ∷ z) (create_created ts)
 
-insert_created : (target : List Named) (kept : Bool) (r : ℕ) (d : Rule) (atoms : List Atom) → created (map (insert_step target kept r d) atoms) ≡ []
+insert_created : (target : List TableNames) (kept : Bool) (r : ℕ) (d : Rule) (atoms : List Atom) → created (map (insert_step target kept r d) atoms) ≡ []
 insert_created target kept r d [] = refl
 insert_created target kept r d (a ∷ atoms) = insert_created target kept r d atoms
 
@@ -220,7 +220,7 @@ keep_widths keeps (n ∷ ns) = widths_append (keep_step n (keeps n)) (flat_map (
     one r (u ∷ us) = refl
 
 -- a rule among those with keep tables
-from_kept : (steps : List Step) (r : ℕ) → r ∈ kept_rules steps → (unless : List Unless) × (KeepRows r unless ∈ steps)
+from_kept : (steps : List Step) (r : ℕ) → r ∈ rules_with_keep steps → (unless : List Unless) × (KeepRows r unless ∈ steps)
 from_kept [] r m = elim m [ ]
 from_kept (Create t cs ∷ ss) r m = let w = from_kept ss r m in (w.0, there w.1)
 from_kept (MatchRows q se so eq ∷ ss) r m = let w = from_kept ss r m in (w.0, there w.1)
@@ -228,10 +228,10 @@ from_kept (KeepRows q unless ∷ ss) r (here e) = (unless, here (ap (λ z. KeepR
 from_kept (KeepRows q unless ∷ ss) r (there m) = let w = from_kept ss r m in (w.0, there w.1)
 from_kept (InsertRows t q k cs ∷ ss) r m = let w = from_kept ss r m in (w.0, there w.1)
 
-in_kept : (steps : List Step) (r : ℕ) (unless : List Unless) → KeepRows r unless ∈ steps → r ∈ kept_rules steps
+in_kept : (steps : List Step) (r : ℕ) (unless : List Unless) → KeepRows r unless ∈ steps → r ∈ rules_with_keep steps
 in_kept steps r unless m = in_flat_map kept_in m (here refl)
 
-module _ (source target : List Named) (list : List Conversion) (keeps : ℕ → List Unless) (R : List Rule) (good : NamesFit source target list R) (parts : PartsFit R keeps) where
+module _ (source target : List TableNames) (list : List Conversion) (keeps : ℕ → List Unless) (R : List Rule) (good : NamesFit source target list R) (parts : PartsFit R keeps) where
   abbrev whole : List Step
   whole = script_with source target list keeps R
 
@@ -248,7 +248,7 @@ module _ (source target : List Named) (list : List Conversion) (keeps : ℕ → 
   rule_in j h = in_at R j _ h
 
   -- creates
-  creates_fit : (ts : List Named) (before : List Step) → Fit before (create_steps ts)
+  creates_fit : (ts : List TableNames) (before : List Step) → Fit before (create_steps ts)
   creates_fit [] before = tt
   creates_fit (t ∷ ts) before = (tt, creates_fit ts (before ++ Create t.name t.columns ∷ []))
 
@@ -294,17 +294,17 @@ module _ (source target : List Named) (list : List Conversion) (keeps : ℕ → 
       widths_append (create_steps target) (match_steps source list R)
       ∙ (ap (λ z. z ++ match_widths (match_steps source list R)) (create_widths target) ∙ widths_of_matches (below (length R)))
 
-  no_kept : (ns : List ℕ) → kept_rules (map matching ns) ≡ []
+  no_kept : (ns : List ℕ) → rules_with_keep (map matching ns) ≡ []
   no_kept [] = refl
   no_kept (n ∷ ns) = no_kept ns
 
-  matched_kept : (xs : List Step) → kept_rules (matched ++ xs) ≡ kept_rules xs
+  matched_kept : (xs : List Step) → rules_with_keep (matched ++ xs) ≡ rules_with_keep xs
   matched_kept xs =
       kept_append matched xs
-      ∙ ap (λ z. z ++ kept_rules xs) (kept_append (create_steps target) (match_steps source list R)
-      ∙ (ap (λ z. z ++ kept_rules (match_steps source list R)) (create_kept target) ∙ no_kept (below (length R))))
+      ∙ ap (λ z. z ++ rules_with_keep xs) (kept_append (create_steps target) (match_steps source list R)
+      ∙ (ap (λ z. z ++ rules_with_keep (match_steps source list R)) (create_kept target) ∙ no_kept (below (length R))))
 
-  not_yet : (j : ℕ) → ¬ (j ∈ kept_rules (matched ++ flat_map keeping (below j)))
+  not_yet : (j : ℕ) → ¬ (j ∈ rules_with_keep (matched ++ flat_map keeping (below j)))
   not_yet j m =
       let w = from_kept (flat_map keeping (below j)) j (subst (λ z. j ∈ z) (matched_kept (flat_map keeping (below j))) m) in
       let f = from_flat_map keeping (below j) w.1 in
@@ -317,7 +317,7 @@ module _ (source target : List Named) (list : List Conversion) (keeps : ℕ → 
   test_fits before e r other h k (Columns c own) w = (has_column before e other c k w.0, has_column before e r own h w.1)
   test_fits before e r other h k (Same own text) w = has_column before e r own h w
 
-  keep_fits : (before : List Step) → HasTables before → (r : ℕ) → r < length R → ¬ (r ∈ kept_rules before) → (us : List Unless) → keeps r ≡ us → Fit before (keep_step r us)
+  keep_fits : (before : List Step) → HasTables before → (r : ℕ) → r < length R → ¬ (r ∈ rules_with_keep before) → (us : List Unless) → keeps r ≡ us → Fit before (keep_step r us)
   keep_fits before e r h n [] q = tt
   keep_fits before e r h n (u ∷ us) q = (
     record {
@@ -342,8 +342,8 @@ module _ (source target : List Named) (list : List Conversion) (keeps : ℕ → 
 
   record IsReady (before : List Step) : Type 0 where
     tables : HasTables before
-    made : Each target (λ (t : Named). t.name ∈ map (λ (z : Text × List Text). z.0) (created before))
-    keeps_made : (r : ℕ) → r < length R → has_parts (keeps r) ≡ true → r ∈ kept_rules before
+    made : Each target (λ (t : TableNames). t.name ∈ map (λ (z : Text × List Text). z.0) (created before))
+    keeps_made : (r : ℕ) → r < length R → has_parts (keeps r) ≡ true → r ∈ rules_with_keep before
 
   kept_too_tables : HasTables kept_too
   kept_too_tables = widths_append matched (keep_steps keeps R) ∙ (ap (λ z. match_widths matched ++ z) (keep_widths keeps (below (length R))) ∙ (append-nil (match_widths matched) ∙ matched_tables))
@@ -354,7 +354,7 @@ module _ (source target : List Named) (list : List Conversion) (keeps : ℕ → 
     made = λ t m.
         let a : created kept_too ≡ created matched ++ created (keep_steps keeps R) = created_append matched (keep_steps keeps R) in
         let b : created matched ≡ created (create_steps target) ++ created (match_steps source list R) = created_append (create_steps target) (match_steps source list R) in
-        let n : (t.name, t.columns) ∈ map (λ (u : Named). (u.name, u.columns)) target = in_map (λ (u : Named). (u.name, u.columns)) m in
+        let n : (t.name, t.columns) ∈ map (λ (u : TableNames). (u.name, u.columns)) target = in_map (λ (u : TableNames). (u.name, u.columns)) m in
         let c : (t.name, t.columns) ∈ created matched = subst (λ z. (t.name, t.columns) ∈ z) (sym b) (in_left (created (match_steps source list R)) (subst (λ z. (t.name, t.columns) ∈ z) (sym (create_created target)) n)) in
         in_map (λ (z : Text × List Text). z.0) (subst (λ z. (t.name, t.columns) ∈ z) (sym a) (in_left (created (keep_steps keeps R)) c));
     keeps_made = λ r h e. in_kept kept_too r (keeps r) (in_right matched (in_flat_map keeping (in_below r (length R) h) (in_keep_step r (keeps r) e)));
@@ -369,7 +369,7 @@ module _ (source target : List Named) (list : List Conversion) (keeps : ℕ → 
         made = λ t m.
             let c : created (before ++ s) ≡ created before = created_append before s ∙ append-nil (created before) in
             subst (λ z. t.name ∈ map (λ (u : Text × List Text). u.0) z) (sym c) (b.made t m);
-        keeps_made = λ q h k. subst (λ z. q ∈ z) (sym (kept_append before s)) (in_left (kept_rules s) (b.keeps_made q h k));
+        keeps_made = λ q h k. subst (λ z. q ∈ z) (sym (kept_append before s)) (in_left (rules_with_keep s) (b.keeps_made q h k));
       }
 
   reads_kept : (before : List Step) → IsReady before → (r : ℕ) → r < length R → (kept : Bool) → has_parts (keeps r) ≡ kept → ReadsKept whole before r kept
@@ -417,7 +417,7 @@ module _ (source target : List Named) (list : List Conversion) (keeps : ℕ → 
       (fit_append source target list whole (create_steps target) (match_steps source list R) _ matches_fit
       (fit_append source target list whole matched (keep_steps keeps R) (insert_steps target keeps R) keeps_fit inserts_fit))
 
-  whole_creates : created whole ≡ map (λ (t : Named). (t.name, t.columns)) target
+  whole_creates : created whole ≡ map (λ (t : TableNames). (t.name, t.columns)) target
   whole_creates =
       created_append (create_steps target) (match_steps source list R ++ (keep_steps keeps R ++ insert_steps target keeps R))
       ∙ (ap (λ z. created (create_steps target) ++ z) rest ∙ (append-nil (created (create_steps target)) ∙ create_created target))

@@ -7,15 +7,15 @@ use Rattle.std.proofs.lemmas.Simd.{map-map}
 use Rattle.dx_ports.specs.Members.{◌∈◌, here, there, Each}
 use Rattle.dx_ports.proofs.Members.{in_right, from_append}
 use Rattle.dx_ports.proofs.Lists.{cut_at}
-use Rattle.dx_model.specs.Values.{Text}
+use Rattle.dx_ports.specs.Texts.{Text}
 use Rattle.dx_schema.specs.Forest.{Forest}
-use Rattle.dx_schema.specs.Tables.{AreTables, TableOf, tables_of, table_at, number_of}
-use Rattle.dx_schema.specs.Names.{Named, named_of, names_of_table}
+use Rattle.dx_schema.specs.Tables.{AreTables, TableOf, tables_of, schema_table, number_of_name}
+use Rattle.dx_schema.specs.Names.{TableNames, table_names_of, names_of_table}
 use Rattle.dx_schema.proofs.Whole.{are_named}
 use Rattle.dx_script.specs.declared.form.Step.{Step}
 use Rattle.dx_script.specs.declared.form.Step.TheVariants.{Create, MatchRows, KeepRows, InsertRows}
 use Rattle.dx_script.specs.Names.{table_numbered, table_names, table_named}
-use Rattle.dx_script.specs.Fits.{created, created_in, kept_in, kept_rules}
+use Rattle.dx_script.specs.Fits.{created, created_in, kept_in, rules_with_keep}
 use Rattle.dx_script.proofs.NameFacts.{no_table, table_number, same_text, other_text}
 
 -- ---- what the rest of the steps makes
@@ -79,28 +79,28 @@ other_create s t n u e d m = elim (rw e at m) [ here q ↦ absurd (d q) | there 
 
 -- ---- tables by their names
 
-pub named_count : (f : Forest) → length (named_of f) ≡ length (tables_of f)
+pub named_count : (f : Forest) → length (table_names_of f) ≡ length (tables_of f)
 named_count f = length-map (tables_of f) names_of_table
 
-pub named_at : (f : Forest) (t : ℕ) → t < length (tables_of f) → table_numbered (named_of f) t ≡ names_of_table (table_at f t)
+pub named_at : (f : Forest) (t : ℕ) → t < length (tables_of f) → table_numbered (table_names_of f) t ≡ names_of_table (schema_table f t)
 named_at f t lt = get_or-map names_of_table (tables_of f) t _ no_table lt
 
-pub names_are : (f : Forest) → table_names (named_of f) ≡ map (λ (t : TableOf). t.name) (tables_of f)
-names_are f = map-map (λ (n : Named). n.name) names_of_table (tables_of f)
+pub names_are : (f : Forest) → table_names (table_names_of f) ≡ map (λ (t : TableOf). t.name) (tables_of f)
+names_are f = map-map (λ (n : TableNames). n.name) names_of_table (tables_of f)
 
 -- the table of a name that is there
-pub table_there : (f : Forest) (t : ℕ) (name : Text) → AreTables (tables_of f) → t < length (tables_of f) → (table_at f t).name ≡ name
-    → table_numbered (named_of f) (table_named (named_of f) name) ≡ names_of_table (table_at f t)
+pub table_there : (f : Forest) (t : ℕ) (name : Text) → AreTables (tables_of f) → t < length (tables_of f) → (schema_table f t).name ≡ name
+    → table_numbered (table_names_of f) (table_named (table_names_of f) name) ≡ names_of_table (schema_table f t)
 table_there f t name a lt e =
-    let n : (table_numbered (named_of f) t).name ≡ name = ap (λ (z : Named). z.name) (named_at f t lt) ∙ e in
-    let w : table_named (named_of f) name ≡ t = ap (table_named (named_of f)) (sym n) ∙ table_number (named_of f) t (are_named f a) (rw (named_count f) lt) in
-    ap (table_numbered (named_of f)) w ∙ named_at f t lt
+    let n : (table_numbered (table_names_of f) t).name ≡ name = ap (λ (z : TableNames). z.name) (named_at f t lt) ∙ e in
+    let w : table_named (table_names_of f) name ≡ t = ap (table_named (table_names_of f)) (sym n) ∙ table_number (table_names_of f) t (are_named f a) (rw (named_count f) lt) in
+    ap (table_numbered (table_names_of f)) w ∙ named_at f t lt
 
-number_past : (x : Text) (xs : List Text) → ¬ (x ∈ xs) → number_of x xs ≡ length xs
+number_past : (x : Text) (xs : List Text) → ¬ (x ∈ xs) → number_of_name x xs ≡ length xs
 number_past x [] h = refl
 number_past x (y ∷ ys) h = rw (other_text y x (λ e. h (here e))) (ap suc (number_past x ys (λ m. h (there m))))
 
-past_all : (tables : List Named) (n : ℕ) → length tables ≤ n → table_numbered tables n ≡ no_table
+past_all : (tables : List TableNames) (n : ℕ) → length tables ≤ n → table_numbered tables n ≡ no_table
 past_all [] zero h = refl
 past_all [] (suc n) h = refl
 past_all (t ∷ ts) zero h = absurd (omega arith)
@@ -108,10 +108,10 @@ past_all (t ∷ ts) (suc n) h = past_all ts n (omega arith)
 
 -- a name that isn't there has no columns
 pub table_nowhere : (f : Forest) (name : Text) → ¬ (name ∈ map (λ (t : TableOf). t.name) (tables_of f))
-    → table_numbered (named_of f) (table_named (named_of f) name) ≡ no_table
+    → table_numbered (table_names_of f) (table_named (table_names_of f) name) ≡ no_table
 table_nowhere f name h =
-    let e : table_named (named_of f) name ≡ length (table_names (named_of f)) = number_past name (table_names (named_of f)) (λ m. h (rw (names_are f) at m)) in
-    past_all (named_of f) (table_named (named_of f) name) (omega (arith, e, length-map (named_of f) (λ (n : Named). n.name)))
+    let e : table_named (table_names_of f) name ≡ length (table_names (table_names_of f)) = number_past name (table_names (table_names_of f)) (λ m. h (rw (names_are f) at m)) in
+    past_all (table_names_of f) (table_named (table_names_of f) name) (omega (arith, e, length-map (table_names_of f) (λ (n : TableNames). n.name)))
 
 -- ---- the created tables, one by one
 

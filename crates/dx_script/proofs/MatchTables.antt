@@ -15,14 +15,15 @@ use Rattle.dx_ports.specs.Members.{◌∈◌, here, there}
 use Rattle.dx_model.specs.Rules.{cell_value, premise_fact, cells_of, after_cells, exported, Derive, IsMatch}
 use Rattle.dx_ports.proofs.Members.{in_flat_map}
 use Rattle.dx_script.specs.declared.form.Equal.{Equal}
-use Rattle.dx_schema.specs.Names.{Named}
+use Rattle.dx_schema.specs.Names.{TableNames}
 use Rattle.dx_funcs.specs.declared.conversion.Conversion.{Conversion}
 use Rattle.dx_funcs.specs.Names.{conversion_name, call_named}
 use Rattle.dx_script.specs.Names.{table_numbered, table_named, column_named, column_at}
-use Rattle.dx_script.specs.Meaning.{table_of_alias, cell_text as shown, selected}
+use Rattle.dx_script.specs.Meaning.{table_of_alias, alias_cell_text as shown, selected}
 use Rattle.dx_script.specs.Meaning.{IsAssignment, IsMatchTable}
 use Rattle.dx_model.specs.Rules.{IsRows}
-use Rattle.dx_model.specs.Values.{Text, Tuple, Conversions}
+use Rattle.dx_model.specs.Values.{Tuple, Conversions}
+use Rattle.dx_ports.specs.Texts.{Text}
 use Rattle.dx_script.specs.Generated.{Spot, spots, first_spot, shows, equals, select_of, selects_of, sources_of}
 use Rattle.dx_script.proofs.RuleFacts.{premise_fits, premise_variable, stands, arguments_below, exported_known, NamesFit, WidthsFit}
 use Rattle.dx_ports.proofs.Members.{in_at}
@@ -69,7 +70,7 @@ same_rows texts (c ∷ cs) (t ∷ ts) e h =
     let q : cell_value texts (λ _. Const []) c ≡ Const t = rw a (ap Const b) in
     cc
 
-module _ (source target : List Named) (convert : Conversions) (list : List Conversion) (R : List Rule) (d : Rule) (I : List Fact)
+module _ (source target : List TableNames) (convert : Conversions) (list : List Conversion) (R : List Rule) (d : Rule) (I : List Fact)
     (good : NamesFit source target list R) (member : d ∈ R) (widths : WidthsFit source I) where
   call : Text → Tuple → Text
   call = call_named convert list
@@ -269,7 +270,7 @@ module _ (source target : List Named) (convert : Conversions) (list : List Conve
     (λ (texts, g, e). (rows_of texts, assigns texts g, e ∙ sym (selects (rows_of texts) texts (value_first texts) g))),
   )
 
-pub table_is_rows : (source target : List Named) (convert : Conversions) (list : List Conversion) (R : List Rule) (d : Rule) (I : List Fact) (ts : List Tuple)
+pub table_is_rows : (source target : List TableNames) (convert : Conversions) (list : List Conversion) (R : List Rule) (d : Rule) (I : List Fact) (ts : List Tuple)
     → NamesFit source target list R → d ∈ R → WidthsFit source I
     → IsMatchTable source (call_named convert list) I (selects_of source list d) (sources_of source d) (equals (spots source 0 d.premise)) ts ↔ IsRows convert d I ts
 unfolding all call

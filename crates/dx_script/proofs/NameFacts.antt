@@ -8,9 +8,10 @@ use Rattle.std.proofs.lemmas.Slice.Eq.{bytes_eq-Decides}
 use Rattle.std.proofs.lemmas.List.{get_or-map, length-map}
 use Rattle.dx_ports.specs.Members.{◌∈◌, Distinct}
 use Rattle.dx_ports.proofs.Members.{in_at, in_map}
-use Rattle.dx_model.specs.Values.{Text, Tuple, Conversions}
-use Rattle.dx_schema.specs.Tables.{number_of}
-use Rattle.dx_schema.specs.Names.{Named, AreNamed}
+use Rattle.dx_model.specs.Values.{Tuple, Conversions}
+use Rattle.dx_ports.specs.Texts.{Text}
+use Rattle.dx_schema.specs.Tables.{number_of_name}
+use Rattle.dx_schema.specs.Names.{TableNames, HaveDistinctNames}
 use Rattle.dx_funcs.specs.declared.conversion.Conversion.{Conversion}
 use Rattle.dx_funcs.specs.Offers.{IsListed, IsOffer}
 use Rattle.dx_funcs.proofs.Named.{calls_by_name_are_by_code, each_is_told}
@@ -27,7 +28,7 @@ pub other_text : (x y : Text) → ¬ (x ≡ y) → pointwise nat_eq x y ≡ fals
 other_text x y n = elim (cases_Bool (pointwise nat_eq x y)) [ inl t ↦ absurd (n ((bytes_eq-Decides x y).0 t)) | inr f ↦ f ]
 
 -- the number of the name at a place is the place, where no name stands twice
-pub number_is : (xs : List Text) (n : ℕ) → Distinct xs → n < length xs → number_of (get_or xs n []) xs ≡ n
+pub number_is : (xs : List Text) (n : ℕ) → Distinct xs → n < length xs → number_of_name (get_or xs n []) xs ≡ n
 number_is [] n d h = absurd (omega arith)
 number_is (y ∷ ys) zero d h = rw (same_text y) refl
 number_is (y ∷ ys) (suc n) d h =
@@ -37,15 +38,15 @@ number_is (y ∷ ys) (suc n) d h =
 
 -- ---- tables and columns
 
-abbrev pub no_table : Named
+abbrev pub no_table : TableNames
 no_table = record { name = []; columns = [] }
 
-pub table_number : (tables : List Named) (t : ℕ) → AreNamed tables → t < length tables → table_named tables (table_numbered tables t).name ≡ t
+pub table_number : (tables : List TableNames) (t : ℕ) → HaveDistinctNames tables → t < length tables → table_named tables (table_numbered tables t).name ≡ t
 table_number tables t a h =
-    let e : get_or (table_names tables) t [] ≡ (table_numbered tables t).name = get_or-map (λ (n : Named). n.name) tables t no_table [] h in
-    ap (λ n. number_of n (table_names tables)) (sym e) ∙ number_is (table_names tables) t a.apart (rw (length-map tables (λ (n : Named). n.name)) h)
+    let e : get_or (table_names tables) t [] ≡ (table_numbered tables t).name = get_or-map (λ (n : TableNames). n.name) tables t no_table [] h in
+    ap (λ n. number_of_name n (table_names tables)) (sym e) ∙ number_is (table_names tables) t a.apart (rw (length-map tables (λ (n : TableNames). n.name)) h)
 
-pub column_number : (tables : List Named) (t c : ℕ) → AreNamed tables → t < length tables → c < length (table_numbered tables t).columns
+pub column_number : (tables : List TableNames) (t c : ℕ) → HaveDistinctNames tables → t < length tables → c < length (table_numbered tables t).columns
     → column_named tables t (column_at tables t c) ≡ c
 column_number tables t c a h k =
     number_is (table_numbered tables t).columns c (a.columns_apart (table_numbered tables t) (in_at tables t no_table h)) k

@@ -14,10 +14,10 @@ use Rattle.dx_model.specs.Tables.{Table, table_of, IsInstance}
 use Rattle.dx_model.specs.Rules.{exported, cells_of, after_cells}
 use Rattle.dx_model.specs.Solutions.{AtomFits}
 use Rattle.dx_model.proofs.Canonical.{from_variables}
-use Rattle.dx_model.specs.Fitting.{Numbered, IsRule, IsVariable, variable_in, premise_variables}
+use Rattle.dx_model.specs.Fitting.{ByFirstAppearance, IsRule, IsVariable, cell_variable, premise_variables}
 use Rattle.dx_schema.specs.Forest.{Forest}
 use Rattle.dx_schema.specs.Tables.{TableOf, as_numbers, model_tables, tables_of, no_table}
-use Rattle.dx_schema.specs.Names.{Named, AreNamed, named_of, names_of_table}
+use Rattle.dx_schema.specs.Names.{TableNames, HaveDistinctNames, table_names_of, names_of_table}
 use Rattle.dx_funcs.specs.Offers.{IsListed, IsOffer}
 use Rattle.std.specs.Prelude.{None}
 use Rattle.dx_model.proofs.RowsExist.{from_variable}
@@ -30,7 +30,7 @@ use Rattle.dx_script.proofs.NameFacts.{nat_lt_tells}
 -- ---- numbers by first appearance
 
 -- a number below the end is below the beginning or stands in the list
-pub numbered_stands : (n : ℕ) (xs : List ℕ) (m x : ℕ) → Numbered n xs m → x < m → (x < n) ⊎ (x ∈ xs)
+pub numbered_stands : (n : ℕ) (xs : List ℕ) (m x : ℕ) → ByFirstAppearance n xs m → x < m → (x < n) ⊎ (x ∈ xs)
 numbered_stands n [] m x h l = inl (omega (arith, l, h))
 numbered_stands n (y ∷ ys) m x (inl h) l = elim (numbered_stands n ys m x h.1 l) [ inl a ↦ inl a | inr b ↦ inr (there b) ]
 numbered_stands n (y ∷ ys) m x (inr h) l = go (numbered_stands (suc n) ys m x h.1 l) (nat_lt_tells x n)
@@ -48,18 +48,18 @@ variable_of (Lit t) i = elim i [ ]
 -- ---- names and widths
 
 -- an atom is of one of the tables, with as many cells as the table has columns
-pub record AtomIsWide (tables : List Named) (a : Atom) : Type 0 where
+pub record AtomIsWide (tables : List TableNames) (a : Atom) : Type 0 where
   pub table : a.table < length tables
   pub width : length a.cells ≡ length (table_numbered tables a.table).columns
 
 -- each fact has as many values as its table has columns
-abbrev pub WidthsFit : List Named → List Fact → Type 0
+abbrev pub WidthsFit : List TableNames → List Fact → Type 0
 WidthsFit tables I = Each I (λ f. length f.row ≡ length (table_numbered tables f.table).columns)
 
 -- rules over tables that are told by names, with listed conversions
-pub record NamesFit (source target : List Named) (list : List Conversion) (R : List Rule) : Type 0 where
-  pub source_tables : AreNamed source
-  pub target_tables : AreNamed target
+pub record NamesFit (source target : List TableNames) (list : List Conversion) (R : List Rule) : Type 0 where
+  pub source_tables : HaveDistinctNames source
+  pub target_tables : HaveDistinctNames target
   pub offer : IsOffer list
   pub rules : Each R IsRule
   pub premises : Each R (λ d. Each d.premise (AtomIsWide source))
@@ -71,26 +71,26 @@ pub record NamesFit (source target : List Named) (list : List Conversion) (R : L
 no_numbers : Table
 no_numbers = record { width = 0; determinations = []; links = []; optional = [] }
 
-same_width : (f : Forest) (t : ℕ) → t < length (tables_of f) → (table_of (model_tables f) t).width ≡ length (table_numbered (named_of f) t).columns
+same_width : (f : Forest) (t : ℕ) → t < length (tables_of f) → (table_of (model_tables f) t).width ≡ length (table_numbered (table_names_of f) t).columns
 unfolding no_numbers
 same_width f t h =
     ap (λ (z : Table). z.width) (get_or-map as_numbers (tables_of f) t table_zero no_numbers h)
-    ∙ sym (ap (λ (z : Named). length z.columns) (get_or-map names_of_table (tables_of f) t table_zero (record { name = []; columns = [] }) h))
+    ∙ sym (ap (λ (z : TableNames). length z.columns) (get_or-map names_of_table (tables_of f) t table_zero (record { name = []; columns = [] }) h))
   where
     table_zero : TableOf
     table_zero = no_table
 
-atom_is_wide : (f : Forest) (a : Atom) → AtomFits (model_tables f) a → AtomIsWide (named_of f) a
+atom_is_wide : (f : Forest) (a : Atom) → AtomFits (model_tables f) a → AtomIsWide (table_names_of f) a
 atom_is_wide f a w =
     let h : a.table < length (tables_of f) = rw (length-map (tables_of f) as_numbers) at w.table in
     record { table = rw (length-map (tables_of f) names_of_table) h; width = w.width ∙ same_width f a.table h }
 
-pub widths_fit : (f : Forest) (I : List Fact) → IsInstance (model_tables f) I → WidthsFit (named_of f) I
+pub widths_fit : (f : Forest) (I : List Fact) → IsInstance (model_tables f) I → WidthsFit (table_names_of f) I
 widths_fit f I i e m =
     let h : e.table < length (tables_of f) = rw (length-map (tables_of f) as_numbers) at (i e m).table in
     (i e m).width ∙ same_width f e.table h
 
-pub names_fit : (source target : Forest) (list : List Conversion) (R : List Rule) → RulesFit source target list R → NamesFit (named_of source) (named_of target) list R
+pub names_fit : (source target : Forest) (list : List Conversion) (R : List Rule) → RulesFit source target list R → NamesFit (table_names_of source) (table_names_of target) list R
 names_fit source target list R g = record {
   source_tables = are_named source g.source_tables;
   target_tables = are_named target g.target_tables;
@@ -103,7 +103,7 @@ names_fit source target list R g = record {
 
 -- ---- rules that fit
 
-module _ (source target : List Named) (list : List Conversion) (R : List Rule) (d : Rule) (good : NamesFit source target list R) (member : d ∈ R) where
+module _ (source target : List TableNames) (list : List Conversion) (R : List Rule) (d : Rule) (good : NamesFit source target list R) (member : d ∈ R) where
   pub premise_fits : (a : Atom) → a ∈ d.premise → (a.table < length source) × (length a.cells ≡ length (table_numbered source a.table).columns)
   premise_fits a m = let w = good.premises d member a m in (w.table, w.width)
 
@@ -115,9 +115,9 @@ module _ (source target : List Named) (list : List Conversion) (R : List Rule) (
 
   -- each number below the first derived one stands in the premise
   pub stands : (x : ℕ) → x < after_cells (cells_of d.premise) → Var x ∈ cells_of d.premise
-  stands x h = elim (numbered_stands 0 (flat_map variable_in (cells_of d.premise)) (premise_variables d) x (good.rules d member).numbered h) [
+  stands x h = elim (numbered_stands 0 (flat_map cell_variable (cells_of d.premise)) (premise_variables d) x (good.rules d member).numbered h) [
     | inl a ↦ absurd (omega (arith, a))
-    | inr b ↦ let w = from_flat_map variable_in (cells_of d.premise) b in subst (λ c. c ∈ cells_of d.premise) (from_variable x w.0 w.2) w.1
+    | inr b ↦ let w = from_flat_map cell_variable (cells_of d.premise) b in subst (λ c. c ∈ cells_of d.premise) (from_variable x w.0 w.2) w.1
   ]
 
   pub arguments_below : (e : Derived) → e ∈ d.derived → (y : ℕ) → y ∈ e.args → y < after_cells (cells_of d.premise)

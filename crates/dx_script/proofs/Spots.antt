@@ -8,7 +8,7 @@ use Rattle.dx_model.specs.declared.rules.Atom.{Atom}
 use Rattle.dx_ports.specs.Members.{◌∈◌, here, there}
 use Rattle.dx_model.specs.Rules.{cells_of}
 use Rattle.dx_ports.proofs.Members.{in_left, in_right, from_append, in_flat_map, from_flat_map}
-use Rattle.dx_schema.specs.Names.{Named}
+use Rattle.dx_schema.specs.Names.{TableNames}
 use Rattle.dx_script.specs.declared.form.Equal.{Equal}
 use Rattle.dx_script.specs.Names.{column_at}
 use Rattle.dx_script.specs.Generated.{Spot, spots_of_cells, spots, is_variable, first_spot, shows, further, equals}
@@ -20,10 +20,10 @@ abbrev pub cell_in : List Cell → ℕ → Cell
 cell_in cs c = get_or cs c (Ex 0)
 
 -- the spot of a column of a row of cells
-abbrev spot : List Named → ℕ → ℕ → ℕ → Cell → Spot
+abbrev spot : List TableNames → ℕ → ℕ → ℕ → Cell → Spot
 spot source alias table column c = record { alias = alias; column = column; name = column_at source table column; cell = c }
 
-module _ (source : List Named) where
+module _ (source : List TableNames) where
   from_cells : (alias table k : ℕ) (cs : List Cell) (s : Spot) → s ∈ spots_of_cells source alias table k cs
       → (j q : ℕ) × (q ≡ k + j) × (j < length cs) × (spot source alias table q (cell_in cs j) ≡ s)
   from_cells alias table k [] s m = elim m [ ]

@@ -12,8 +12,8 @@ use Rattle.dx_model.specs.declared.rules.Cell.TheVariants.{Var, Ex, Lit}
 use Rattle.dx_model.specs.declared.rules.Atom.{Atom}
 use Rattle.dx_model.specs.declared.rules.Rule.{Rule}
 use Rattle.dx_ports.specs.Members.{◌∈◌, ◌⊆◌, here, there}
-use Rattle.dx_model.specs.Rules.{cell_value, said, cells_of, exported, text_of, IsRows, AreRows, at_place, canonical}
-use Rattle.dx_model.specs.Covers.{rule_at, row_at}
+use Rattle.dx_model.specs.Rules.{cell_value, fact_of_atom, cells_of, exported, text_of, IsRows, AreRows, at_place, canonical}
+use Rattle.dx_model.specs.Covers.{rule_at, tuple_at}
 use Rattle.dx_ports.proofs.Members.{in_map, from_map, in_flat_map}
 use Rattle.dx_model.proofs.Canonical.{in_variables}
 use Rattle.dx_model.proofs.CoverFold.{in_canonical, from_canonical}
@@ -22,14 +22,15 @@ use Rattle.dx_script.specs.declared.form.Equal.{Equal}
 use Rattle.dx_script.specs.declared.form.Unless.{Unless}
 use Rattle.dx_script.specs.declared.form.Step.{Step}
 use Rattle.dx_script.specs.declared.form.Step.TheVariants.{Create, MatchRows, KeepRows, InsertRows}
-use Rattle.dx_model.specs.Values.{Text, Tuple, Rows, Conversions}
-use Rattle.dx_schema.specs.Names.{Named}
+use Rattle.dx_model.specs.Values.{Tuple, Rows, Conversions}
+use Rattle.dx_ports.specs.Texts.{Text}
+use Rattle.dx_schema.specs.Names.{TableNames}
 use Rattle.dx_funcs.specs.declared.conversion.Conversion.{Conversion}
 use Rattle.dx_funcs.specs.Names.{call_named}
 use Rattle.dx_script.specs.Names.{table_numbered, table_named}
-use Rattle.dx_script.specs.Meaning.{match_table, tuple_at, in_column, HasNoPartner, IsKept, inserted, IsInserted, IsMatchTable, Means}
+use Rattle.dx_script.specs.Meaning.{match_table, in_column, HasNoPartner, IsInKeepTable, inserted, IsInserted, IsMatchTable, Means}
 use Rattle.dx_script.specs.Generated.{match_step, has_parts, out_of, plain_steps, script_with}
-use Rattle.dx_script.specs.Laws.{IsLeft}
+use Rattle.dx_script.specs.Laws.{IsLeftPlace}
 use Rattle.dx_ports.proofs.Members.{in_at}
 use Rattle.dx_ports.proofs.Tests.{map_same}
 use Rattle.dx_script.proofs.NameFacts.{table_number}
@@ -74,7 +75,7 @@ column_text x (y ∷ ys) (u ∷ t) m = elim (cases_Bool (eqb x y)) [
     go f (there k) = k
 
 -- what a match step says of the tables
-abbrev Reads : List Named → (List ℕ → Tuple → Text) → List Fact → Rows → Step → Type 0
+abbrev Reads : List TableNames → (List ℕ → Tuple → Text) → List Fact → Rows → Step → Type 0
 Reads source call I tables (MatchRows r select from equal) = (r < length tables) × IsMatchTable source call I select from equal (match_table tables r)
 Reads source call I tables (Create table columns) = Unit {0}
 Reads source call I tables (KeepRows r unless) = Unit {0}
@@ -90,7 +91,7 @@ pub at_most : (a b : ℕ) → ((j : ℕ) → j < a → j < b) → a ≤ b
 at_most zero b h = omega arith
 at_most (suc a) b h = let k = h a (omega arith) in omega arith
 
-module _ (source target : List Named) (convert : Conversions) (list : List Conversion) (keeps : ℕ → List Unless) (R : List Rule) (I : List Fact) (tables : Rows) (K : List Fact)
+module _ (source target : List TableNames) (convert : Conversions) (list : List Conversion) (keeps : ℕ → List Unless) (R : List Rule) (I : List Fact) (tables : Rows) (K : List Fact)
     (good : NamesFit source target list R) (widths : WidthsFit source I) where
   abbrev steps : List Step
   steps = script_with source target list keeps R
@@ -104,7 +105,7 @@ module _ (source target : List Named) (convert : Conversions) (list : List Conve
   -- what an insert step of a rule makes
   makes : (j k : ℕ) (a : Atom) → j < length R → a ∈ (rule_at R j).conclusion → (t : Tuple)
       → record { table = table_named target (table_numbered target a.table).name; row = map (inserted j k t) (map (out_of (rule_at R j)) a.cells) }
-      ≡ said (text_of (exported (rule_at R j)) t) (λ v. Null (record { rule = j; var = v; row = k })) a
+      ≡ fact_of_atom (text_of (exported (rule_at R j)) t) (λ v. Null (record { rule = j; var = v; row = k })) a
   makes j k a h m t =
       let d : Rule = rule_at R j in
       let texts : ℕ → List ℕ = text_of (exported d) t in
@@ -116,7 +117,7 @@ module _ (source target : List Named) (convert : Conversions) (list : List Conve
       (λ i. record { table = p i; row = q i })
 
   -- What the steps insert is what is left.
-  left_of : length tables ≡ length R → (f : Fact) → IsInserted target steps tables f → IsLeft keeps R tables f
+  left_of : length tables ≡ length R → (f : Fact) → IsInserted target steps tables f → IsLeftPlace keeps R tables f
   left_of l f s =
       let w = an_insert source target list keeps R s.table s.rule s.kept s.cells s.step in
       let d : Rule = rule_at R w.0 in
@@ -126,27 +127,27 @@ module _ (source target : List Named) (convert : Conversions) (list : List Conve
       let ec : map (out_of d) (w.2).cells ≡ s.cells = let e = w.4 in cc in
       let t : Tuple = tuple_at tables w.0 s.place in
       let inside : s.place < length (match_table tables w.0) = rw (er) s.within in
-      let same : said (text_of (exported d) t) (λ v. Null (record { rule = w.0; var = v; row = s.place })) w.2 ≡ f =
+      let same : fact_of_atom (text_of (exported d) t) (λ v. Null (record { rule = w.0; var = v; row = s.place })) w.2 ≡ f =
       sym (makes w.0 s.place w.2 w.1 w.3 t) ∙ (rw (et, ec, er) s.is) in
       record {
         rule = w.0;
         place = s.place;
         is_place = (w.1, omega (arith, l, w.1), inside);
         no_partner = parts w.0 w.1 t (keeps w.0) refl (λ k. rw (← er) at (s.stays (rw (← ek) k)));
-        fact = subst (λ g. g ∈ at_place w.0 d s.place t) same (in_map (said (text_of (exported d) t) (λ v. Null (record { rule = w.0; var = v; row = s.place }))) w.3);
+        fact = subst (λ g. g ∈ at_place w.0 d s.place t) same (in_map (fact_of_atom (text_of (exported d) t) (λ v. Null (record { rule = w.0; var = v; row = s.place }))) w.3);
       }
     where
-      parts : (j : ℕ) → j < length R → (t : Tuple) (us : List Unless) → keeps j ≡ us → (has_parts (keeps j) ≡ true → IsKept steps tables j t) → HasNoPartner tables us t
+      parts : (j : ℕ) → j < length R → (t : Tuple) (us : List Unless) → keeps j ≡ us → (has_parts (keeps j) ≡ true → IsInKeepTable steps tables j t) → HasNoPartner tables us t
       parts j h t [] e k = λ u m. elim m [ ]
       parts j h t (u ∷ us) e k =
           let p : has_parts (keeps j) ≡ true = ap has_parts e in
           k p (u ∷ us) (rw e at (keep_in source target list keeps R j h p))
 
-  inserted_of : (f : Fact) → IsLeft keeps R tables f → IsInserted target steps tables f
+  inserted_of : (f : Fact) → IsLeftPlace keeps R tables f → IsInserted target steps tables f
   inserted_of f s =
       let d : Rule = rule_at R s.rule in
-      let t : Tuple = row_at tables s.rule s.place in
-      let w = from_map (said (text_of (exported d) t) (λ v. Null (record { rule = s.rule; var = v; row = s.place }))) d.conclusion s.fact in
+      let t : Tuple = tuple_at tables s.rule s.place in
+      let w = from_map (fact_of_atom (text_of (exported d) t) (λ v. Null (record { rule = s.rule; var = v; row = s.place }))) d.conclusion s.fact in
       record {
         table = (table_numbered target (w.0).table).name;
         rule = s.rule;
@@ -159,7 +160,7 @@ module _ (source target : List Named) (convert : Conversions) (list : List Conve
         is = makes s.rule s.place w.0 s.is_place.0 w.1 t ∙ w.2;
       }
 
-  means_left : Means source target call steps I tables K → AreRows convert R I tables × ((f : Fact) → (f ∈ K) ↔ IsLeft keeps R tables f)
+  means_left : Means source target call steps I tables K → AreRows convert R I tables × ((f : Fact) → (f ∈ K) ↔ IsLeftPlace keeps R tables f)
   unfolding call
   means_left m =
       let below : length R ≤ length tables = at_most (length R) (length tables) (λ j h. (m.matches _ _ _ _ (match_in source target list keeps R j h)).0) in
@@ -177,7 +178,7 @@ module _ (source target : List Named) (convert : Conversions) (list : List Conve
         (λ f. ((λ k. left_of l f ((m.facts f).0 k)), (λ k. (m.facts f).1 (inserted_of f k)))),
       )
 
-  left_means : AreRows convert R I tables → ((f : Fact) → (f ∈ K) ↔ IsLeft keeps R tables f) → Means source target call steps I tables K
+  left_means : AreRows convert R I tables → ((f : Fact) → (f ∈ K) ↔ IsLeftPlace keeps R tables f) → Means source target call steps I tables K
   unfolding call
   left_means a k =
       let w = rows_at convert R I tables a in
@@ -193,15 +194,15 @@ module _ (source target : List Named) (convert : Conversions) (list : List Conve
           let t = (table_is_rows source target convert list R (rule_at R j) I (match_table tables j) good (rule_in j h) widths).1 (w.1 j h) in
           subst (Reads source call I tables) e (rw w.0 h, t)
 
-pub script_means_left : (source target : List Named) (convert : Conversions) (list : List Conversion) (keeps : ℕ → List Unless) (R : List Rule) (I : List Fact) (tables : Rows) (K : List Fact)
+pub script_means_left : (source target : List TableNames) (convert : Conversions) (list : List Conversion) (keeps : ℕ → List Unless) (R : List Rule) (I : List Fact) (tables : Rows) (K : List Fact)
     → NamesFit source target list R → WidthsFit source I
     → Means source target (call_named convert list) (script_with source target list keeps R) I tables K
-    ↔ (AreRows convert R I tables × ((f : Fact) → (f ∈ K) ↔ IsLeft keeps R tables f))
+    ↔ (AreRows convert R I tables × ((f : Fact) → (f ∈ K) ↔ IsLeftPlace keeps R tables f))
 unfolding call
 script_means_left source target convert list keeps R I tables K good widths =
     (means_left source target convert list keeps R I tables K good widths, (λ w. left_means source target convert list keeps R I tables K good widths w.0 w.1))
 
-pub plain_means_canonical : (source target : List Named) (convert : Conversions) (list : List Conversion) (R : List Rule) (I : List Fact) (tables : Rows) (K : List Fact)
+pub plain_means_canonical : (source target : List TableNames) (convert : Conversions) (list : List Conversion) (R : List Rule) (I : List Fact) (tables : Rows) (K : List Fact)
     → NamesFit source target list R → WidthsFit source I
     → Means source target (call_named convert list) (plain_steps source target list R) I tables K
     ↔ (AreRows convert R I tables × (K ⊆ canonical 0 R tables) × (canonical 0 R tables ⊆ K))
@@ -213,7 +214,7 @@ plain_means_canonical source target convert list R I tables K good widths =
       (λ w. s.1 (w.0, λ f. ((λ k. left f (w.1 f k)), (λ l. w.2 f (in_canonical 0 R tables l.rule l.rule l.place (omega arith) l.is_place f l.fact))))),
     )
   where
-    left : (f : Fact) → f ∈ canonical 0 R tables → IsLeft (λ r. []) R tables f
+    left : (f : Fact) → f ∈ canonical 0 R tables → IsLeftPlace (λ r. []) R tables f
     left f m =
         let w = from_canonical 0 R tables f m in
         let q : w.0 ≡ w.1 = omega (arith, w.3) in

@@ -6,9 +6,10 @@ use Rattle.std.specs.declared.cmp.Ordering.TheVariants.{Less, Greater}
 use Rattle.std.proofs.lemmas.Cmp.{lists_total, nat_list_cmp_total}
 use Rattle.dx_model.specs.declared.facts.Fact.{Fact}
 use Rattle.dx_ports.specs.Members.{◌∈◌, here, there}
-use Rattle.dx_model.specs.Rules.{Ascend}
-use Rattle.dx_schema.specs.Names.{Named}
-use Rattle.dx_model.specs.Values.{Text, Tuple, Rows}
+use Rattle.dx_model.specs.Rules.{TuplesAscend}
+use Rattle.dx_schema.specs.Names.{TableNames}
+use Rattle.dx_model.specs.Values.{Tuple, Rows}
+use Rattle.dx_ports.specs.Texts.{Text}
 use Rattle.dx_script.specs.declared.form.Step.{Step}
 use Rattle.dx_script.specs.Meaning.{match_table, IsInserted, Means}
 use Rattle.dx_script.specs.Laws.{MeaningIsUnique}
@@ -21,19 +22,19 @@ not_both t u p q =
     let b : Less ≡ Greater = a in
     cc
 
-same_head : (t u : Tuple) (ts us : List Tuple) → Ascend (t ∷ ts) → Ascend (u ∷ us) → t ∈ (u ∷ us) → u ∈ (t ∷ ts) → t ≡ u
+same_head : (t u : Tuple) (ts us : List Tuple) → TuplesAscend (t ∷ ts) → TuplesAscend (u ∷ us) → t ∈ (u ∷ us) → u ∈ (t ∷ ts) → t ≡ u
 same_head t u ts us a b (here e) n = sym e
 same_head t u ts us a b (there m) (here e) = e
 same_head t u ts us a b (there m) (there n) = absurd (not_both t u (a.0 u n) (b.0 t m))
 
-not_below_itself : (t : Tuple) (ts : List Tuple) → Ascend (t ∷ ts) → t ∈ ts → ⊥
+not_below_itself : (t : Tuple) (ts : List Tuple) → TuplesAscend (t ∷ ts) → t ∈ ts → ⊥
 not_below_itself t ts a m = not_both t t (a.0 t m) (a.0 t m)
 
 in_tail : (t x : Tuple) (us : List Tuple) → x ∈ (t ∷ us) → (t ≡ x → ⊥) → x ∈ us
 in_tail t x us (here e) n = absurd (n e)
 in_tail t x us (there m) n = m
 
-pub one_list : (ts us : List Tuple) → Ascend ts → Ascend us → ((t : Tuple) → (t ∈ ts → t ∈ us) × (t ∈ us → t ∈ ts)) → ts ≡ us
+pub one_list : (ts us : List Tuple) → TuplesAscend ts → TuplesAscend us → ((t : Tuple) → (t ∈ ts → t ∈ us) × (t ∈ us → t ∈ ts)) → ts ≡ us
 one_list [] [] a b h = refl
 one_list [] (u ∷ us) a b h = elim ((h u).1 (here refl)) [ ]
 one_list (t ∷ ts) [] a b h = elim ((h t).0 (here refl)) [ ]
@@ -54,7 +55,7 @@ one_by_one (x ∷ xs) (y ∷ ys) l h =
     let r : xs ≡ ys = one_by_one xs ys (omega arith) (λ k m. h (suc k) (omega arith)) in
     cc
 
-module _ (source target : List Named) (call : Text → Tuple → Text) (steps : List Step) (I : List Fact) where
+module _ (source target : List TableNames) (call : Text → Tuple → Text) (steps : List Step) (I : List Fact) where
   below : (tables others : Rows) (K L : List Fact) → Means source target call steps I tables K → Means source target call steps I others L → length tables ≤ length others
   below tables others K L m n = at_most (length tables) (length others) (λ r h. let w = m.no_more r h in (n.matches r w.0 w.1 w.2 w.3).0)
 

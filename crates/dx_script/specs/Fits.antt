@@ -1,8 +1,8 @@
 -- When a script fits a source, a target and a list of conversions.
 use Rattle.std.specs.Prelude.{◌≡◌, ℕ, ◌<◌, Bool, true, false, List, [], ◌∷◌, ◌++◌, flat_map, map, length, slice_index_or}
 use Rattle.dx_ports.specs.Members.{◌∈◌, Each}
-use Rattle.dx_model.specs.Values.{Text}
-use Rattle.dx_schema.specs.Names.{Named}
+use Rattle.dx_ports.specs.Texts.{Text}
+use Rattle.dx_schema.specs.Names.{TableNames}
 use Rattle.dx_funcs.specs.declared.conversion.Conversion.{Conversion}
 use Rattle.dx_script.specs.declared.form.CellRef.{CellRef}
 use Rattle.dx_script.specs.declared.form.Select.{Select}
@@ -51,8 +51,8 @@ kept_in (KeepRows r unless) = r ∷ []
 kept_in (InsertRows table r kept cells) = []
 
 -- the rules whose keep tables the steps make
-abbrev pub kept_rules : List Step → List ℕ
-kept_rules steps = flat_map kept_in steps
+abbrev pub rules_with_keep : List Step → List ℕ
+rules_with_keep steps = flat_map kept_in steps
 
 -- the steps make a match table of rule r with a column c
 abbrev pub HasColumn : List Step → ℕ → ℕ → Type 0
@@ -61,21 +61,21 @@ HasColumn steps r c = (r < length (match_widths steps)) × (c < slice_index_or (
 -- ---- parts of steps
 
 -- a cell is a column of the source table of its alias
-pub record CellFits (source : List Named) (sources : List Text) (cell : CellRef) : Type 0 where
+pub record CellFits (source : List TableNames) (sources : List Text) (cell : CellRef) : Type 0 where
   pub alias : cell.alias < length sources
   pub column : cell.column ∈ (table_numbered source (table_of_alias source sources cell.alias)).columns
 
 -- what is selected is a cell, or a listed conversion with as many cells as it takes
-abbrev pub SelectFits : List Named → List Conversion → List Text → Select → Type 0
+abbrev pub SelectFits : List TableNames → List Conversion → List Text → Select → Type 0
 SelectFits source list sources (Cell cell) = CellFits source sources cell
 SelectFits source list sources (Call name args) = TakesTexts list name (length args) × Each args (CellFits source sources)
 
 -- both cells that are to be equal fit
-abbrev pub EqualFits : List Named → List Text → Equal → Type 0
+abbrev pub EqualFits : List TableNames → List Text → Equal → Type 0
 EqualFits source sources equal = CellFits source sources equal.left × CellFits source sources equal.right
 
 -- the step of a match table comes as the numbers of rules do, and has names of source tables, columns and conversions alone
-pub record MatchFits (source : List Named) (list : List Conversion) (before : List Step) (r : ℕ) (select : List Select) (sources : List Text) (equal : List Equal) : Type 0 where
+pub record MatchFits (source : List TableNames) (list : List Conversion) (before : List Step) (r : ℕ) (select : List Select) (sources : List Text) (equal : List Equal) : Type 0 where
   pub number : r ≡ length (match_widths before)
   pub sources_named : Each sources (λ name. name ∈ table_names source)
   pub selected : Each select (SelectFits source list sources)
@@ -94,7 +94,7 @@ pub record UnlessFits (before : List Step) (r : ℕ) (u : Unless) : Type 0 where
 -- the step of a keep table comes after its match table, and no other makes the table
 pub record KeepFits (before : List Step) (r : ℕ) (unless : List Unless) : Type 0 where
   pub rule : r < length (match_widths before)
-  pub one : ¬ (r ∈ kept_rules before)
+  pub one : ¬ (r ∈ rules_with_keep before)
   pub parts : Each unless (UnlessFits before r)
 
 -- a column of the match table of rule r, a literal, or the null of an existential variable
@@ -105,11 +105,11 @@ OutFits before r (Skolem v) = Unit {0}
 
 -- an insert reads the keep table of its rule, made before it, exactly if the script makes one
 abbrev pub ReadsKept : List Step → List Step → ℕ → Bool → Type 0
-ReadsKept steps before r true = r ∈ kept_rules before
-ReadsKept steps before r false = ¬ (r ∈ kept_rules steps)
+ReadsKept steps before r true = r ∈ rules_with_keep before
+ReadsKept steps before r false = ¬ (r ∈ rules_with_keep steps)
 
 -- an insert comes after its target table and its match table, and has a value for each column
-pub record InsertFits (target : List Named) (steps before : List Step) (table : Text) (r : ℕ) (kept : Bool) (cells : List Out) : Type 0 where
+pub record InsertFits (target : List TableNames) (steps before : List Step) (table : Text) (r : ℕ) (kept : Bool) (cells : List Out) : Type 0 where
   pub made : table ∈ map (λ (t : Text × List Text). t.0) (created before)
   pub width : length cells ≡ length (table_numbered target (table_named target table)).columns
   pub rule : r < length (match_widths before)
@@ -119,13 +119,13 @@ pub record InsertFits (target : List Named) (steps before : List Step) (table : 
 -- ---- scripts
 
 -- a step, after the steps before it
-abbrev pub StepFits : List Named → List Named → List Conversion → List Step → List Step → Step → Type 0
+abbrev pub StepFits : List TableNames → List TableNames → List Conversion → List Step → List Step → Step → Type 0
 StepFits source target list steps before (Create table columns) = Unit {0}
 StepFits source target list steps before (MatchRows r select sources equal) = MatchFits source list before r select sources equal
 StepFits source target list steps before (KeepRows r unless) = KeepFits before r unless
 StepFits source target list steps before (InsertRows table r kept cells) = InsertFits target steps before table r kept cells
 
 -- a script fits: it creates the target's tables in order, and each step fits after those before it
-pub record FitsScript (source target : List Named) (list : List Conversion) (steps : List Step) : Type 0 where
-  pub creates : created steps ≡ map (λ (t : Named). (t.name, t.columns)) target
+pub record FitsScript (source target : List TableNames) (list : List Conversion) (steps : List Step) : Type 0 where
+  pub creates : created steps ≡ map (λ (t : TableNames). (t.name, t.columns)) target
   pub each : (before after : List Step) (step : Step) → steps ≡ before ++ step ∷ after → StepFits source target list steps before step

@@ -5,10 +5,10 @@ use Rattle.dx_model.specs.declared.rules.Cell.{Cell}
 use Rattle.dx_model.specs.declared.rules.Cell.TheVariants.{Var, Ex, Lit}
 use Rattle.dx_model.specs.declared.rules.Atom.{Atom}
 use Rattle.dx_model.specs.declared.rules.Rule.{Rule}
-use Rattle.dx_model.specs.Values.{Text}
+use Rattle.dx_ports.specs.Texts.{Text}
 use Rattle.dx_model.specs.Rules.{cells_of, after_cells, exported}
 use Rattle.dx_model.specs.Covers.{below, rule_at}
-use Rattle.dx_schema.specs.Names.{Named}
+use Rattle.dx_schema.specs.Names.{TableNames}
 use Rattle.dx_funcs.specs.declared.conversion.Conversion.{Conversion}
 use Rattle.dx_script.specs.declared.form.CellRef.{CellRef}
 use Rattle.dx_script.specs.declared.form.Select.{Select}
@@ -32,13 +32,13 @@ pub record Spot : Type 0 where
   pub cell : Cell
 
 -- the cells of an atom, from a column on
-abbrev pub spots_of_cells : List Named → ℕ → ℕ → ℕ → List Cell → List Spot
+abbrev pub spots_of_cells : List TableNames → ℕ → ℕ → ℕ → List Cell → List Spot
 spots_of_cells source alias table column [] = []
 spots_of_cells source alias table column (c ∷ cs) =
     record { alias = alias; column = column; name = column_at source table column; cell = c } ∷ spots_of_cells source alias table (suc column) cs
 
 -- the cells of these atoms, in order of atoms and columns; the first atom has this alias
-abbrev pub spots : List Named → ℕ → List Atom → List Spot
+abbrev pub spots : List TableNames → ℕ → List Atom → List Spot
 spots source alias [] = []
 spots source alias (a ∷ atoms) = spots_of_cells source alias a.table 0 a.cells ++ spots source (suc alias) atoms
 
@@ -81,15 +81,15 @@ select_of list all d x =
     cond (nat_lt x n) (Shown (shows (first_spot x all))) (Call (conversion_name list e.code) (map (λ y. shows (first_spot y all)) e.args))
 
 -- what is selected for a rule: its exported variables, ascending
-abbrev pub selects_of : List Named → List Conversion → Rule → List Select
+abbrev pub selects_of : List TableNames → List Conversion → Rule → List Select
 selects_of source list d = map (select_of list (spots source 0 d.premise) d) (exported d)
 
 -- the names of the premise's tables
-abbrev pub sources_of : List Named → Rule → List Text
+abbrev pub sources_of : List TableNames → Rule → List Text
 sources_of source d = map (λ (a : Atom). (table_numbered source a.table).name) d.premise
 
 -- the match step of rule number r
-abbrev pub match_step : List Named → List Conversion → ℕ → Rule → Step
+abbrev pub match_step : List TableNames → List Conversion → ℕ → Rule → Step
 match_step source list r d = MatchRows r (selects_of source list d) (sources_of source d) (equals (spots source 0 d.premise))
 
 -- ---- keep steps
@@ -113,21 +113,21 @@ out_of d (Ex v) = Skolem v
 out_of d (Lit t) = Literal t
 
 -- the insert step of a conclusion atom of rule number r
-abbrev pub insert_step : List Named → Bool → ℕ → Rule → Atom → Step
+abbrev pub insert_step : List TableNames → Bool → ℕ → Rule → Atom → Step
 insert_step target kept r d a = InsertRows (table_numbered target a.table).name r kept (map (out_of d) a.cells)
 
 -- the insert steps of rule number r, in order of its conclusion
-abbrev pub inserts_of : List Named → Bool → ℕ → Rule → List Step
+abbrev pub inserts_of : List TableNames → Bool → ℕ → Rule → List Step
 inserts_of target kept r d = map (insert_step target kept r d) d.conclusion
 
 -- ---- scripts
 
 -- a create step for each table, in order
-abbrev pub create_steps : List Named → List Step
-create_steps target = map (λ (t : Named). Create t.name t.columns) target
+abbrev pub create_steps : List TableNames → List Step
+create_steps target = map (λ (t : TableNames). Create t.name t.columns) target
 
 -- a match step for each rule, in order
-abbrev pub match_steps : List Named → List Conversion → List Rule → List Step
+abbrev pub match_steps : List TableNames → List Conversion → List Rule → List Step
 match_steps source list R = map (λ r. match_step source list r (rule_at R r)) (below (length R))
 
 -- a keep step for each rule that has parts, in order
@@ -135,13 +135,13 @@ abbrev pub keep_steps : (ℕ → List Unless) → List Rule → List Step
 keep_steps keeps R = flat_map (λ r. keep_step r (keeps r)) (below (length R))
 
 -- an insert step for each rule and each atom of its conclusion, in order, from the keep table if there is one
-abbrev pub insert_steps : List Named → (ℕ → List Unless) → List Rule → List Step
+abbrev pub insert_steps : List TableNames → (ℕ → List Unless) → List Rule → List Step
 insert_steps target keeps R = flat_map (λ r. inserts_of target (has_parts (keeps r)) r (rule_at R r)) (below (length R))
 
 -- the script of rules, of which each keeps the tuples without a partner by its parts
-abbrev pub script_with : List Named → List Named → List Conversion → (ℕ → List Unless) → List Rule → List Step
+abbrev pub script_with : List TableNames → List TableNames → List Conversion → (ℕ → List Unless) → List Rule → List Step
 script_with source target list keeps R = create_steps target ++ (match_steps source list R ++ (keep_steps keeps R ++ insert_steps target keeps R))
 
 -- the plain script has no keep steps
-abbrev pub plain_steps : List Named → List Named → List Conversion → List Rule → List Step
+abbrev pub plain_steps : List TableNames → List TableNames → List Conversion → List Rule → List Step
 plain_steps source target list R = script_with source target list (λ r. []) R

@@ -7,7 +7,7 @@ use Rattle.dx_model.specs.declared.rules.Rule.{Rule}
 use Rattle.dx_model.specs.declared.covers.CellMap.{CellMap}
 use Rattle.dx_model.specs.Rules.{exported}
 use Rattle.dx_model.specs.Covers.{below, before, cell_under, rule_at, used_maps}
-use Rattle.dx_schema.specs.Names.{Named}
+use Rattle.dx_schema.specs.Names.{TableNames}
 use Rattle.dx_funcs.specs.declared.conversion.Conversion.{Conversion}
 use Rattle.dx_script.specs.declared.form.Test.{Test}
 use Rattle.dx_script.specs.declared.form.Test.TheVariants.{Columns, Literal as Same}
@@ -38,5 +38,5 @@ abbrev pub unless_parts : List Rule → ℕ → List Unless
 unless_parts R i = flat_map (λ j. map (unless_of R i j) (used_maps (rule_at R i) (rule_at R j))) (rules_before R i)
 
 -- the rewritten script
-abbrev pub rewritten_steps : List Named → List Named → List Conversion → List Rule → List Step
+abbrev pub rewritten_steps : List TableNames → List TableNames → List Conversion → List Rule → List Step
 rewritten_steps source target list R = script_with source target list (unless_parts R) R

@@ -1,8 +1,8 @@
 // What the steps before a step make.
 ghost use Rattle.std.specs.Prelude.{◌≡◌, ◌↔◌, ◌<◌, ◌≤◌, IsTrue, List, MatchOption, length, map, slice_index_or};
 ghost use Rattle.dx_ports.specs.Members.{◌∈◌};
-ghost use Rattle.dx_model.specs.Values.{Text as AnyText};
-ghost use Rattle.dx_script.specs.Fits.{created, kept_rules, match_widths};
+ghost use Rattle.dx_ports.specs.Texts.{Text as AnyText};
+ghost use Rattle.dx_script.specs.Fits.{created, rules_with_keep, match_widths};
 
 use crate::form::Step;
 use dx_ports::Text;
@@ -39,7 +39,7 @@ pub(crate) fn match_width(steps: &[Step], rule: u32) -> Option<u64>
 
 /// Whether the steps make the keep table of a rule.
 pub(crate) fn is_kept(steps: &[Step], number: u32) -> bool
-    ensures { IsTrue result ↔ (number ∈ kept_rules steps.now) }
+    ensures { IsTrue result ↔ (number ∈ rules_with_keep steps.now) }
 {
     for step in steps {
         if let Step::KeepRows { rule, .. } = step {
@@ -67,7 +67,7 @@ pub(crate) fn is_created(steps: &[Step], name: &Text) -> bool
 
 /// The steps up to the last that makes a keep table.
 pub(crate) fn through_keeps(steps: &[Step]) -> &[Step]
-    ensures { kept_rules result.now ≡ kept_rules steps.now }
+    ensures { rules_with_keep result.now ≡ rules_with_keep steps.now }
 {
     let mut end = 0;
     for number in 0..steps.len() {

@@ -1,10 +1,10 @@
 // Whether a script fits two schemas and a list of conversions.
 ghost use Rattle.std.specs.Prelude.{◌≡◌, ◌↔◌, IsTrue, map};
 ghost use Rattle.dx_ports.specs.Members.{◌∈◌};
-ghost use Rattle.dx_schema.specs.Names.{Named, named_of};
+ghost use Rattle.dx_schema.specs.Names.{TableNames, table_names_of};
 ghost use Rattle.dx_funcs.specs.Serving.{offered};
 ghost use Rattle.dx_script.specs.Names.{IsTableAt};
-ghost use Rattle.dx_script.specs.Fits.{FitsScript, InsertFits, KeepFits, MatchFits, ReadsKept, StepFits, created, kept_rules};
+ghost use Rattle.dx_script.specs.Fits.{FitsScript, InsertFits, KeepFits, MatchFits, ReadsKept, StepFits, created, rules_with_keep};
 
 use crate::before::{is_created, is_kept, match_count, match_width, through_keeps};
 use crate::form::{Equal, Out, Script, Select, Step, Unless};
@@ -16,7 +16,7 @@ use std::alloc::AllocError;
 
 /// Whether the table with a number has this name and these columns.
 fn is_table_at(target: &Schema, number: u32, name: &Text, columns: &[Text]) -> bool
-    ensures { IsTrue result ↔ IsTableAt (named_of target.now) number (record { name = name.now; columns = columns.now }) }
+    ensures { IsTrue result ↔ IsTableAt (table_names_of target.now) number (record { name = name.now; columns = columns.now }) }
 {
     if number >= target.tables() {
         return false;
@@ -29,7 +29,7 @@ fn is_table_at(target: &Schema, number: u32, name: &Text, columns: &[Text]) -> b
 
 /// Whether the tables that the steps create are those of the target, in order.
 fn create_target(steps: &[Step], target: &Schema) -> bool
-    ensures { IsTrue result ↔ (created steps.now ≡ map (λ (t : Named). (t.name, t.columns)) (named_of target.now)) }
+    ensures { IsTrue result ↔ (created steps.now ≡ map (λ (t : TableNames). (t.name, t.columns)) (table_names_of target.now)) }
 {
     let tables = target.tables();
     let mut next: u32 = 0;
@@ -54,7 +54,7 @@ fn match_fits<F: Fn(u32, &Items<Text>) -> Result<Text, AllocError>, M: Meaning>(
     sources: &[Text],
     equal: &[Equal],
 ) -> bool
-    ensures { IsTrue result ↔ MatchFits (named_of source.now) (offered host.now) before.now rule select.now sources.now equal.now }
+    ensures { IsTrue result ↔ MatchFits (table_names_of source.now) (offered host.now) before.now rule select.now sources.now equal.now }
 {
     rule as usize == match_count(before)
         && are_tables(source, sources)
@@ -92,7 +92,7 @@ fn insert_fits(
     kept: bool,
     cells: &[Out],
 ) -> bool
-    ensures { IsTrue result ↔ InsertFits (named_of target.now) keeps.now before.now table.now rule kept cells.now }
+    ensures { IsTrue result ↔ InsertFits (table_names_of target.now) keeps.now before.now table.now rule kept cells.now }
 {
     is_created(before, table)
         && cells.len() as u64 == width_named(target, table)
@@ -110,7 +110,7 @@ fn step_fits<F: Fn(u32, &Items<Text>) -> Result<Text, AllocError>, M: Meaning>(
     before: &[Step],
     step: &Step,
 ) -> bool
-    ensures { IsTrue result ↔ StepFits (named_of source.now) (named_of target.now) (offered host.now) keeps.now before.now step.now }
+    ensures { IsTrue result ↔ StepFits (table_names_of source.now) (table_names_of target.now) (offered host.now) keeps.now before.now step.now }
 {
     match step {
         Step::Create { .. } => true,
@@ -147,7 +147,7 @@ pub fn fits<F: Fn(u32, &Items<Text>) -> Result<Text, AllocError>, M: Meaning>(
     target: &Schema,
     host: &Host<F, M>,
 ) -> bool
-    ensures { IsTrue result ↔ FitsScript (named_of source.now) (named_of target.now) (offered host.now) script.now.steps }
+    ensures { IsTrue result ↔ FitsScript (table_names_of source.now) (table_names_of target.now) (offered host.now) script.now.steps }
 {
     let steps = script.steps.items();
     if !create_target(steps, target) {

@@ -1,7 +1,7 @@
 // Whether the parts of a step fit.
 ghost use Rattle.std.specs.Prelude.{◌≡◌, ◌↔◌, ◌<◌, IsTrue, length, slice_index_or};
 ghost use Rattle.dx_ports.specs.Members.{◌∈◌, Each};
-ghost use Rattle.dx_schema.specs.Names.{named_of};
+ghost use Rattle.dx_schema.specs.Names.{table_names_of};
 ghost use Rattle.dx_funcs.specs.Names.{TakesTexts};
 ghost use Rattle.dx_funcs.specs.Serving.{offered};
 ghost use Rattle.dx_script.specs.Names.{table_names, table_named, table_numbered};
@@ -16,7 +16,7 @@ use std::alloc::AllocError;
 
 /// Whether a table of this name has this column.
 fn has_column(schema: &Schema, table: &Text, column: &Text) -> bool
-    ensures { IsTrue result ↔ (column.now ∈ (table_numbered (named_of schema.now) (table_named (named_of schema.now) table.now)).columns) }
+    ensures { IsTrue result ↔ (column.now ∈ (table_numbered (table_names_of schema.now) (table_named (table_names_of schema.now) table.now)).columns) }
 {
     // The call tells that names tell the tables apart.
     let _tables = schema.tables();
@@ -28,7 +28,7 @@ fn has_column(schema: &Schema, table: &Text, column: &Text) -> bool
 
 /// How many columns the table of this name has; none if it isn't there.
 pub(crate) fn width_named(schema: &Schema, table: &Text) -> u64
-    ensures { result ≡ length (table_numbered (named_of schema.now) (table_named (named_of schema.now) table.now)).columns }
+    ensures { result ≡ length (table_numbered (table_names_of schema.now) (table_named (table_names_of schema.now) table.now)).columns }
 {
     // The call tells that names tell the tables apart.
     let _tables = schema.tables();
@@ -40,14 +40,14 @@ pub(crate) fn width_named(schema: &Schema, table: &Text) -> u64
 
 /// Whether it is the name of a table.
 fn is_table(schema: &Schema, name: &Text) -> bool
-    ensures { IsTrue result ↔ (name.now ∈ table_names (named_of schema.now)) }
+    ensures { IsTrue result ↔ (name.now ∈ table_names (table_names_of schema.now)) }
 {
     schema.table_named(name).is_some()
 }
 
 /// Whether all are names of tables.
 pub(crate) fn are_tables(schema: &Schema, names: &[Text]) -> bool
-    ensures { IsTrue result ↔ Each names.now (λ name. name ∈ table_names (named_of schema.now)) }
+    ensures { IsTrue result ↔ Each names.now (λ name. name ∈ table_names (table_names_of schema.now)) }
 {
     for name in names {
         if !is_table(schema, name) {
@@ -59,7 +59,7 @@ pub(crate) fn are_tables(schema: &Schema, names: &[Text]) -> bool
 
 /// Whether a cell is a column of the table of its alias.
 fn cell_fits(source: &Schema, sources: &[Text], cell: &CellRef) -> bool
-    ensures { IsTrue result ↔ CellFits (named_of source.now) sources.now cell.now }
+    ensures { IsTrue result ↔ CellFits (table_names_of source.now) sources.now cell.now }
 {
     let alias = cell.alias as usize;
     alias < sources.len() && has_column(source, &sources[alias], &cell.column)
@@ -67,7 +67,7 @@ fn cell_fits(source: &Schema, sources: &[Text], cell: &CellRef) -> bool
 
 /// Whether all cells are columns of the tables of their aliases.
 fn cells_fit(source: &Schema, sources: &[Text], cells: &[CellRef]) -> bool
-    ensures { IsTrue result ↔ Each cells.now (CellFits (named_of source.now) sources.now) }
+    ensures { IsTrue result ↔ Each cells.now (CellFits (table_names_of source.now) sources.now) }
 {
     for cell in cells {
         if !cell_fits(source, sources, cell) {
@@ -98,7 +98,7 @@ fn select_fits<F: Fn(u32, &Items<Text>) -> Result<Text, AllocError>, M: Meaning>
     sources: &[Text],
     select: &Select,
 ) -> bool
-    ensures { IsTrue result ↔ SelectFits (named_of source.now) (offered host.now) sources.now select.now }
+    ensures { IsTrue result ↔ SelectFits (table_names_of source.now) (offered host.now) sources.now select.now }
 {
     match select {
         Select::Cell(cell) => cell_fits(source, sources, cell),
@@ -115,7 +115,7 @@ pub(crate) fn selects_fit<F: Fn(u32, &Items<Text>) -> Result<Text, AllocError>, 
     sources: &[Text],
     selects: &[Select],
 ) -> bool
-    ensures { IsTrue result ↔ Each selects.now (SelectFits (named_of source.now) (offered host.now) sources.now) }
+    ensures { IsTrue result ↔ Each selects.now (SelectFits (table_names_of source.now) (offered host.now) sources.now) }
 {
     for select in selects {
         if !select_fits(source, host, sources, select) {
@@ -127,14 +127,14 @@ pub(crate) fn selects_fit<F: Fn(u32, &Items<Text>) -> Result<Text, AllocError>, 
 
 /// Whether two cells that are to be equal fit.
 fn equal_fits(source: &Schema, sources: &[Text], equal: &Equal) -> bool
-    ensures { IsTrue result ↔ EqualFits (named_of source.now) sources.now equal.now }
+    ensures { IsTrue result ↔ EqualFits (table_names_of source.now) sources.now equal.now }
 {
     cell_fits(source, sources, &equal.left) && cell_fits(source, sources, &equal.right)
 }
 
 /// Whether the cells of all equalities fit.
 pub(crate) fn equals_fit(source: &Schema, sources: &[Text], equals: &[Equal]) -> bool
-    ensures { IsTrue result ↔ Each equals.now (EqualFits (named_of source.now) sources.now) }
+    ensures { IsTrue result ↔ Each equals.now (EqualFits (table_names_of source.now) sources.now) }
 {
     for equal in equals {
         if !equal_fits(source, sources, equal) {

@@ -15,8 +15,8 @@ use Rattle.dx_grammar.proofs.Loops.{Consumes}
 use Rattle.dx_script_tokens.specs.declared.scanner.ScriptToken.{ScriptToken}
 use Rattle.dx_script_tokens.specs.declared.kinds.ScriptKind.{ScriptKind}
 use Rattle.dx_script_tokens.specs.declared.kinds.ScriptKind.TheVariants as kinds
-use Rattle.dx_script_text.specs.Grammar.{of_kind, number, match_is, keep_is, alias_is, column_is, number_is, is_table, is_comma, is_and, any, declared_column, create_rest, cell, call, value, item, items, select, source, sources, equal, where_part, match_rest, test, tests, unless, keep_tail, keep_rest, text_out, column_out, skolem_tail, skolem_out, out, insert_end, insert_tail, insert, table_rest, step, script}
-use Rattle.dx_script_text.specs.Reading.{declared_reader, create_reader, cell_reader, call_reader, cell_value_reader, value_reader, item_reader, comma_item, items_reader, no_items, select_reader, source_reader, comma_source, sources_reader, equal_reader, equals_reader, where_reader, matched_reader, match_reader, columns_reader, text_reader, test_reader, tests_reader, optional_tests, unless_reader, keep_tail_reader, keep_reader, text_out_reader, column_out_reader, skolem_tail_reader, skolem_reader, out_reader, comma_out, outs_reader, insert_end_reader, insert_tail_reader, insert_reader, table_reader, created_reader, step_reader, begins_step, script_reader}
+use Rattle.dx_script_text.specs.Grammar.{of_kind, number, match_is, keep_is, alias_is, column_is, number_is, is_table, is_comma, is_and, any, declared_column, create_rest, alias_cell, call, value, select_item, items, select, from_source, sources, equal, where_clause, match_rest, test, tests, unless, keep_tail, keep_rest, text_out, column_out, skolem_tail, skolem_out, out, insert_end, insert_tail, insert, table_rest, step, script}
+use Rattle.dx_script_text.specs.Reading.{declared_reader, create_reader, alias_cell_reader, select_call_reader, cell_value_reader, value_reader, select_item_reader, comma_item, items_reader, no_items, select_reader, from_source_reader, comma_source, sources_reader, equal_reader, equals_reader, where_clause_reader, matched_reader, match_reader, columns_reader, text_reader, test_reader, tests_reader, optional_tests, unless_reader, keep_tail_reader, keep_reader, text_out_reader, column_out_reader, skolem_tail_reader, skolem_reader, out_reader, comma_out, outs_reader, insert_end_reader, insert_tail_reader, insert_reader, table_reader, created_reader, step_reader, begins_step, script_reader}
 use Rattle.dx_script_text.proofs.Apart.{apart_kinds, apart_number_kind}
 
 -- a token, whatever follows
@@ -53,23 +53,23 @@ create_reads =
 
 -- ---- CREATE TABLE m<r>
 
-pub cell_reads : IsReader Anything cell cell_reader
-unfolding cell cell_reader
+pub cell_reads : IsReader Anything alias_cell alias_cell_reader
+unfolding alias_cell alias_cell_reader
 cell_reads = then_any Anything _ _ _ _ (a (of_kind kinds.Alias)) (λ x. then_any Anything _ _ _ _ (a (of_kind kinds.Dot)) (λ d. last_reads Anything (any kinds.Name) (token (of_kind kinds.Name)) _ (a (of_kind kinds.Name))))
 
-pub comma_cell_consumes : Consumes (past is_comma cell_reader)
-comma_cell_consumes = past_consumes is_comma cell cell_reader cell_reads
+pub comma_cell_consumes : Consumes (past is_comma alias_cell_reader)
+comma_cell_consumes = past_consumes is_comma alias_cell alias_cell_reader cell_reads
 
-call_reads : IsReader Anything call call_reader
-unfolding call call_reader
+call_reads : IsReader Anything call select_call_reader
+unfolding call select_call_reader
 call_reads =
     then_any Anything _ _ _ _ (a (of_kind kinds.Name)) (λ x.
     then_any Anything _ _ _ _ (a (of_kind kinds.Open)) (λ o.
-    then_reads Anything (Stops is_comma) (listed is_comma cell) (any kinds.Close) (list_reader is_comma cell_reader) _ (list_reads is_comma cell cell_reader cell_reads) (λ args. last_reads Anything (any kinds.Close) (token (of_kind kinds.Close)) _ (a (of_kind kinds.Close)))
+    then_reads Anything (Stops is_comma) (listed is_comma alias_cell) (any kinds.Close) (list_reader is_comma alias_cell_reader) _ (list_reads is_comma alias_cell alias_cell_reader cell_reads) (λ args. last_reads Anything (any kinds.Close) (token (of_kind kinds.Close)) _ (a (of_kind kinds.Close)))
     (λ more ok. stops_kind kinds.Comma kinds.Close (any kinds.Close) more (apart_kinds kinds.Comma kinds.Close refl) (begins_one (of_kind kinds.Close)))))
 
-cell_begins : Begins (of_kind kinds.Alias) cell
-unfolding cell
+cell_begins : Begins (of_kind kinds.Alias) alias_cell
+unfolding alias_cell
 cell_begins = begins_with (of_kind kinds.Alias) _
 
 call_begins : Begins (of_kind kinds.Name) call
@@ -79,7 +79,7 @@ call_begins = begins_with (of_kind kinds.Name) _
 pub value_reads : IsReader Anything value value_reader
 unfolding value value_reader cell_value_reader
 value_reads =
-    either_reads Anything (of_kind kinds.Alias) cell call _ call_reader (last_reads Anything cell cell_reader _ cell_reads) call_reads cell_begins
+    either_reads Anything (of_kind kinds.Alias) alias_cell call _ select_call_reader (last_reads Anything alias_cell alias_cell_reader _ cell_reads) call_reads cell_begins
     (λ more ok. stops_at (of_kind kinds.Alias) (of_kind kinds.Name) call more call_begins (apart_kinds kinds.Alias kinds.Name refl))
 
 abbrev alias_or_name : ScriptToken → Bool
@@ -88,35 +88,35 @@ alias_or_name x = of_kind kinds.Alias x || of_kind kinds.Name x
 value_begins : Begins alias_or_name value
 unfolding value
 value_begins =
-    begins_choice alias_or_name cell call
-    (begins_wider (of_kind kinds.Alias) alias_or_name cell (λ x e. (or_parts (of_kind kinds.Alias x) (of_kind kinds.Name x) e).0) cell_begins)
+    begins_choice alias_or_name alias_cell call
+    (begins_wider (of_kind kinds.Alias) alias_or_name alias_cell (λ x e. (or_parts (of_kind kinds.Alias x) (of_kind kinds.Name x) e).0) cell_begins)
     (begins_wider (of_kind kinds.Name) alias_or_name call (λ x e. (or_parts (of_kind kinds.Alias x) (of_kind kinds.Name x) e).1) call_begins)
 
-pub item_reads : (n : ℕ) → IsReader Anything (item n) (item_reader n)
-unfolding item item_reader
+pub item_reads : (n : ℕ) → IsReader Anything (select_item n) (select_item_reader n)
+unfolding select_item select_item_reader
 item_reads n = then_any Anything value _ value_reader _ value_reads (λ c. then_any Anything _ _ _ _ (a (of_kind kinds.As)) (λ k. last_reads Anything (one (column_is n)) (token (column_is n)) _ (a (column_is n))))
 
-pub comma_item_reads : (n : ℕ) → IsReader Anything (one is_comma ▸ item n) (comma_item n)
+pub comma_item_reads : (n : ℕ) → IsReader Anything (one is_comma ▸ select_item n) (comma_item n)
 unfolding comma_item
-comma_item_reads n = past_reads is_comma (item n) (item_reader n) (item_reads n)
+comma_item_reads n = past_reads is_comma (select_item n) (select_item_reader n) (item_reads n)
 
 pub comma_item_consumes : (n : ℕ) → Consumes (comma_item n)
 unfolding comma_item
-comma_item_consumes n = past_consumes is_comma (item n) (item_reader n) (item_reads n)
+comma_item_consumes n = past_consumes is_comma (select_item n) (select_item_reader n) (item_reads n)
 
 pub items_reads : (top : ℕ) → IsReader (Stops is_comma) (items top) (items_reader top)
 unfolding items items_reader
 items_reads top =
-    then_any (Stops is_comma) (item 0) (counted top 1 (λ n. one is_comma ▸ item n)) (item_reader 0) _ (item_reads 0) (λ first.
-    last_reads (Stops is_comma) (counted top 1 (λ n. one is_comma ▸ item n)) (counted_reader is_comma comma_item top 1) (λ others. first ∷ others) (counted_reads is_comma (λ n. one is_comma ▸ item n) comma_item comma_item_reads (λ n. past_begins is_comma (item n)) top 1))
+    then_any (Stops is_comma) (select_item 0) (counted top 1 (λ n. one is_comma ▸ select_item n)) (select_item_reader 0) _ (item_reads 0) (λ first.
+    last_reads (Stops is_comma) (counted top 1 (λ n. one is_comma ▸ select_item n)) (counted_reader is_comma comma_item top 1) (λ others. first ∷ others) (counted_reads is_comma (λ n. one is_comma ▸ select_item n) comma_item comma_item_reads (λ n. past_begins is_comma (select_item n)) top 1))
 
 no_items_reads : (P : List (Form ScriptToken) → Type 0) → IsReader P (one (number_is 1)) no_items
 unfolding no_items
 no_items_reads P = last_reads P (one (number_is 1)) (token (number_is 1)) _ (one_reads P (number_is 1))
 
 items_begin : (top : ℕ) → Begins alias_or_name (items top)
-unfolding items item
-items_begin top = begins_both alias_or_name (item 0) _ (begins_both alias_or_name value _ value_begins)
+unfolding items select_item
+items_begin top = begins_both alias_or_name (select_item 0) _ (begins_both alias_or_name value _ value_begins)
 
 pub select_reads : (top : ℕ) → IsReader (Stops is_comma) (select top) (select_reader top)
 unfolding select select_reader
@@ -124,47 +124,47 @@ select_reads top =
     either_reads (Stops is_comma) (number_is 1) (one (number_is 1)) (items top) no_items (items_reader top) (no_items_reads (Stops is_comma)) (items_reads top) (begins_one (number_is 1))
     (λ more ok. stops_at (number_is 1) alias_or_name (items top) more (items_begin top) (apart_or (number_is 1) (of_kind kinds.Alias) (of_kind kinds.Name) (apart_number_kind kinds.Number 1 kinds.Alias refl) (apart_number_kind kinds.Number 1 kinds.Name refl)))
 
-pub source_reads : (n : ℕ) → IsReader Anything (source n) (source_reader n)
-unfolding source source_reader
+pub source_reads : (n : ℕ) → IsReader Anything (from_source n) (from_source_reader n)
+unfolding from_source from_source_reader
 source_reads n =
     then_any Anything _ _ _ _ (a (of_kind kinds.Source)) (λ s. then_any Anything _ _ _ _ (a (of_kind kinds.Dot)) (λ d. then_any Anything _ _ _ _ (a (of_kind kinds.Name)) (λ t. then_any Anything _ _ _ _ (a (of_kind kinds.As)) (λ k.
     last_reads Anything (one (alias_is n)) (token (alias_is n)) _ (a (alias_is n))))))
 
-pub comma_source_reads : (n : ℕ) → IsReader Anything (one is_comma ▸ source n) (comma_source n)
+pub comma_source_reads : (n : ℕ) → IsReader Anything (one is_comma ▸ from_source n) (comma_source n)
 unfolding comma_source
-comma_source_reads n = past_reads is_comma (source n) (source_reader n) (source_reads n)
+comma_source_reads n = past_reads is_comma (from_source n) (from_source_reader n) (source_reads n)
 
 pub comma_source_consumes : (n : ℕ) → Consumes (comma_source n)
 unfolding comma_source
-comma_source_consumes n = past_consumes is_comma (source n) (source_reader n) (source_reads n)
+comma_source_consumes n = past_consumes is_comma (from_source n) (from_source_reader n) (source_reads n)
 
 pub sources_reads : (top : ℕ) → IsReader (Stops is_comma) (sources top) (sources_reader top)
 unfolding sources sources_reader
 sources_reads top =
-    then_any (Stops is_comma) (source 0) (counted top 1 (λ n. one is_comma ▸ source n)) (source_reader 0) _ (source_reads 0) (λ first.
-    last_reads (Stops is_comma) (counted top 1 (λ n. one is_comma ▸ source n)) (counted_reader is_comma comma_source top 1) (λ others. first ∷ others) (counted_reads is_comma (λ n. one is_comma ▸ source n) comma_source comma_source_reads (λ n. past_begins is_comma (source n)) top 1))
+    then_any (Stops is_comma) (from_source 0) (counted top 1 (λ n. one is_comma ▸ from_source n)) (from_source_reader 0) _ (source_reads 0) (λ first.
+    last_reads (Stops is_comma) (counted top 1 (λ n. one is_comma ▸ from_source n)) (counted_reader is_comma comma_source top 1) (λ others. first ∷ others) (counted_reads is_comma (λ n. one is_comma ▸ from_source n) comma_source comma_source_reads (λ n. past_begins is_comma (from_source n)) top 1))
 
 pub equal_reads : IsReader Anything equal equal_reader
 unfolding equal equal_reader
-equal_reads = then_any Anything cell _ cell_reader _ cell_reads (λ l. then_any Anything _ _ _ _ (a (of_kind kinds.Equal)) (λ s. last_reads Anything cell cell_reader _ cell_reads))
+equal_reads = then_any Anything alias_cell _ alias_cell_reader _ cell_reads (λ l. then_any Anything _ _ _ _ (a (of_kind kinds.Equal)) (λ s. last_reads Anything alias_cell alias_cell_reader _ cell_reads))
 
 pub and_equal_consumes : Consumes (past is_and equal_reader)
 and_equal_consumes = past_consumes is_and equal equal_reader equal_reads
 
-pub equals_reads : IsReader (Stops is_and) where_part equals_reader
-unfolding where_part equals_reader
+pub equals_reads : IsReader (Stops is_and) where_clause equals_reader
+unfolding where_clause equals_reader
 equals_reads = then_any (Stops is_and) (any kinds.Where) (listed is_and equal) (token (of_kind kinds.Where)) _ (a (of_kind kinds.Where)) (λ k. list_reads is_and equal equal_reader equal_reads)
 
 -- what may stand after WHERE and its list
 abbrev NoWhere : List (Form ScriptToken) → Type 0
 NoWhere more = Stops is_and more × Stops (of_kind kinds.Where) more
 
-pub where_reads : IsReader NoWhere (optional where_part) where_reader
-unfolding where_reader where_part
+pub where_reads : IsReader NoWhere (optional where_clause) where_clause_reader
+unfolding where_clause_reader where_clause
 where_reads =
-    either_reads NoWhere (of_kind kinds.Where) where_part nothing equals_reader (give []) (weak equals_reads) (nothing_reads NoWhere []) (begins_with (of_kind kinds.Where) _)
+    either_reads NoWhere (of_kind kinds.Where) where_clause nothing equals_reader (give []) (weak equals_reads) (nothing_reads NoWhere []) (begins_with (of_kind kinds.Where) _)
     (λ more ok. stops_past (of_kind kinds.Where) nothing more (λ x e. refl) ok.1) where
-      weak : IsReader (Stops is_and) where_part equals_reader → IsReader NoWhere where_part equals_reader
+      weak : IsReader (Stops is_and) where_clause equals_reader → IsReader NoWhere where_clause equals_reader
       weak r = record { reads = λ more xs ok. r.reads more xs ok.0; leaves = r.leaves }
 
 no_where : (m : ScriptKind) (b : Form ScriptToken) (more : List (Form ScriptToken)) → AreApart is_and (of_kind m) → AreApart (of_kind kinds.Where) (of_kind m) → Begins (of_kind m) b → NoWhere (b ∷ more)
@@ -177,13 +177,13 @@ optional_begins p q b c h k = record {
   first = λ x e. let two = or_parts (p x) (q x) e in rw (h.first x two.0, h.some, k.first x two.1) refl;
 }
 
-where_begins : Begins (of_kind kinds.Where) where_part
-unfolding where_part
+where_begins : Begins (of_kind kinds.Where) where_clause
+unfolding where_clause
 where_begins = begins_with (of_kind kinds.Where) _
 
-sources_stop : (more : List (Form ScriptToken)) → Stops is_comma ((optional where_part ▸ any kinds.Semicolon) ∷ more)
+sources_stop : (more : List (Form ScriptToken)) → Stops is_comma ((optional where_clause ▸ any kinds.Semicolon) ∷ more)
 sources_stop more =
-    stops_at is_comma (λ x. of_kind kinds.Where x || of_kind kinds.Semicolon x) (optional where_part ▸ any kinds.Semicolon) more (optional_begins (of_kind kinds.Where) (of_kind kinds.Semicolon) where_part (any kinds.Semicolon) where_begins (begins_one (of_kind kinds.Semicolon)))
+    stops_at is_comma (λ x. of_kind kinds.Where x || of_kind kinds.Semicolon x) (optional where_clause ▸ any kinds.Semicolon) more (optional_begins (of_kind kinds.Where) (of_kind kinds.Semicolon) where_clause (any kinds.Semicolon) where_begins (begins_one (of_kind kinds.Semicolon)))
     (apart_or is_comma (of_kind kinds.Where) (of_kind kinds.Semicolon) (apart_kinds kinds.Comma kinds.Where refl) (apart_kinds kinds.Comma kinds.Semicolon refl))
 
 pub match_reads : (top : ℕ) → IsReader Anything (match_rest top) (match_reader top)
@@ -195,8 +195,8 @@ match_reads top =
     then_any Anything _ _ _ _ (a (of_kind kinds.Distinct)) (λ d.
     then_reads Anything (Stops is_comma) (select top) _ (select_reader top) _ (select_reads top) (λ chosen.
     then_any Anything _ _ _ _ (a (of_kind kinds.From)) (λ f.
-    then_reads Anything (Stops is_comma) (sources top) (optional where_part ▸ any kinds.Semicolon) (sources_reader top) _ (sources_reads top) (λ from.
-    then_reads Anything NoWhere (optional where_part) (any kinds.Semicolon) where_reader _ where_reads (λ equals. last_reads Anything (any kinds.Semicolon) (token (of_kind kinds.Semicolon)) _ (a (of_kind kinds.Semicolon)))
+    then_reads Anything (Stops is_comma) (sources top) (optional where_clause ▸ any kinds.Semicolon) (sources_reader top) _ (sources_reads top) (λ from.
+    then_reads Anything NoWhere (optional where_clause) (any kinds.Semicolon) where_clause_reader _ where_reads (λ equals. last_reads Anything (any kinds.Semicolon) (token (of_kind kinds.Semicolon)) _ (a (of_kind kinds.Semicolon)))
     (λ more ok. no_where kinds.Semicolon (any kinds.Semicolon) more (apart_kinds kinds.And kinds.Semicolon refl) (apart_kinds kinds.Where kinds.Semicolon refl) (begins_one (of_kind kinds.Semicolon))))
     (λ more ok. sources_stop more)))
     (λ more ok. stops_kind kinds.Comma kinds.From _ more (apart_kinds kinds.Comma kinds.From refl) (begins_with (of_kind kinds.From) _))))))

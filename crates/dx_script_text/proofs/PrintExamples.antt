@@ -13,7 +13,7 @@ use Rattle.dx_script.specs.declared.form.Step.TheVariants as steps
 use Rattle.dx_ports.specs.Members.{Each}
 use Rattle.dx_ports.proofs.Members.{each_cons}
 use Rattle.dx_tokens.specs.Tokens.{is_word_byte}
-use Rattle.dx_script_text.specs.Printable.{AreCounted, AreSome, IsCellRef, IsEqual, IsName, IsOut, IsPrintable, IsSelect, IsSmall, IsStep, IsTest, IsUnless}
+use Rattle.dx_script_text.specs.Printable.{AreCounted, AreSome, IsCellRef, IsEqual, IsScriptName, IsOut, IsPrintableScript, IsSelect, NumberFits, IsStep, IsTest, IsUnless}
 use Rattle.dx_script_text.specs.Print.{create_text, match_text, keep_text, insert_text}
 
 created : create_text (codes "unit") (codes "#id" ∷ codes "uname" ∷ []) ≡ codes "CREATE TABLE target.\"unit\" (\"#id\" TEXT, \"uname\" TEXT);\n"
@@ -48,31 +48,31 @@ no_item P x m = elim m [ ]
 one_item : {X : Type 0} (P : X → Type 0) (x : X) → P x → Each (x ∷ []) P
 one_item P x p = each_cons x [] p (no_item P)
 
-hash : IsName (codes "#t")
+hash : IsScriptName (codes "#t")
 hash = (refl, one_item (λ b. is_word_byte b ≡ true) 116 refl)
 
-letter : IsName (codes "a")
+letter : IsScriptName (codes "a")
 letter = (refl, no_item (λ b. is_word_byte b ≡ true))
 
 -- a name has a character, and no blank
-no_character : ¬ IsName []
+no_character : ¬ IsScriptName []
 no_character h = h
 
-no_blank : ¬ IsName (codes " a")
+no_blank : ¬ IsScriptName (codes " a")
 no_blank h = absurd (cc h.0)
 
 cell_is : IsCellRef (record { alias = 4294967295; column = codes "a" })
 cell_is = (omega arith, letter)
 
 create_step : IsStep (steps.Create (codes "#t") (codes "a" ∷ []))
-create_step = (hash, ((λ e. cc), one_item IsName (codes "a") letter))
+create_step = (hash, ((λ e. cc), one_item IsScriptName (codes "a") letter))
 
 -- a target table without columns can't be
 no_columns : ¬ IsStep (steps.Create (codes "#t") [])
 no_columns h = h.1.0 refl
 
 match_step : IsStep (steps.MatchRows 4294967295 (selected.Cell (record { alias = 4294967295; column = codes "a" }) ∷ []) (codes "a" ∷ []) [])
-match_step = (omega arith, (one_item IsSelect (selected.Cell (record { alias = 4294967295; column = codes "a" })) cell_is, omega arith), (((λ e. cc), one_item IsName (codes "a") letter), omega arith), no_item IsEqual)
+match_step = (omega arith, (one_item IsSelect (selected.Cell (record { alias = 4294967295; column = codes "a" })) cell_is, omega arith), (((λ e. cc), one_item IsScriptName (codes "a") letter), omega arith), no_item IsEqual)
 
 keep_step : IsStep (steps.KeepRows 4294967295 (record { rule = 0; tests = tested.Columns 4294967295 10 ∷ [] } ∷ []))
 keep_step = (omega arith, ((λ e. cc), one_item IsUnless (record { rule = 0; tests = tested.Columns 4294967295 10 ∷ [] }) (omega arith, one_item IsTest (tested.Columns 4294967295 10) (omega arith, omega arith))))
@@ -80,7 +80,7 @@ keep_step = (omega arith, ((λ e. cc), one_item IsUnless (record { rule = 0; tes
 insert_step : IsStep (steps.InsertRows (codes "#t") 4294967295 true (outs.Skolem 4294967295 ∷ []))
 insert_step = (hash, omega arith, ((λ e. cc), one_item IsOut (outs.Skolem 4294967295) (omega arith)))
 
-printable : IsPrintable (record { steps = steps.Create (codes "#t") (codes "a" ∷ []) ∷ steps.InsertRows (codes "#t") 4294967295 true (outs.Skolem 4294967295 ∷ []) ∷ [] })
+printable : IsPrintableScript (record { steps = steps.Create (codes "#t") (codes "a" ∷ []) ∷ steps.InsertRows (codes "#t") 4294967295 true (outs.Skolem 4294967295 ∷ []) ∷ [] })
 printable =
     each_cons (steps.Create (codes "#t") (codes "a" ∷ [])) (steps.InsertRows (codes "#t") 4294967295 true (outs.Skolem 4294967295 ∷ []) ∷ []) create_step
     (one_item IsStep (steps.InsertRows (codes "#t") 4294967295 true (outs.Skolem 4294967295 ∷ [])) insert_step)
@@ -109,7 +109,7 @@ column_out = omega arith
 
 -- a step of any of these; as many columns and aliases as there are numbers
 any_match : (select : List Select) (sources : List (List ℕ)) (equal : List Equal) → Each select IsSelect → length select ≡ 4294967296
-    → AreSome IsName sources → length sources ≡ 4294967296 → Each equal IsEqual → IsStep (steps.MatchRows 0 select sources equal)
+    → AreSome IsScriptName sources → length sources ≡ 4294967296 → Each equal IsEqual → IsStep (steps.MatchRows 0 select sources equal)
 any_match select sources equal s n t m e = (omega arith, (s, omega (arith, n)), (t, omega (arith, m)), e)
 
 any_keep : (unless : List Unless) → AreSome IsUnless unless → IsStep (steps.KeepRows 0 unless)
@@ -119,7 +119,7 @@ any_insert : (kept : Bool) (cells : List Out) → AreSome IsOut cells → IsStep
 any_insert kept cells c = (letter, omega arith, c)
 
 -- what is not
-one_too_great : ¬ IsSmall 4294967296
+one_too_great : ¬ NumberFits 4294967296
 one_too_great h = omega (arith, h)
 
 one_too_many : (names : List (List ℕ)) → length names ≡ 4294967297 → ¬ AreCounted names

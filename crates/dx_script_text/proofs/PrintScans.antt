@@ -7,19 +7,19 @@ use Rattle.dx_ports.specs.Members.{Each, here, there}
 use Rattle.dx_tokens.specs.Tokens.{is_blank, is_digit, is_word_start, is_word_byte}
 use Rattle.dx_tokens.proofs.Lexed.{AllPass, StopsAt}
 use Rattle.dx_grammar.specs.Readers.{Many, no_more, one_more}
-use Rattle.dx_grammar.specs.Lists.{Past, past_one, Listed, list_of}
-use Rattle.dx_grammar.specs.Numbers.{Numbered, none_more, next_one}
+use Rattle.dx_grammar.specs.Lists.{Past, past_one, SpellsList, list_of}
+use Rattle.dx_grammar.specs.Numbers.{SpellsNumbered, none_more, next_one}
 use Rattle.dx_script_tokens.specs.declared.kinds.ScriptKind.{ScriptKind}
 use Rattle.dx_script_tokens.specs.declared.kinds.ScriptKind.TheVariants as kinds
 use Rattle.dx_script_tokens.specs.declared.scanner.ScriptToken.{ScriptToken}
 use Rattle.dx_script_tokens.specs.declared.scanner.ScriptScan.{ScriptScan}
-use Rattle.dx_script_tokens.specs.Numbers.{greatest}
-use Rattle.dx_script_tokens.specs.Kinds.{numbered_word, small_word, inner_word, word_says, is_mark, mark_kind}
-use Rattle.dx_script_tokens.specs.Scan.{plain_token, with_token, with_tokens, scan_from, scan_of}
+use Rattle.dx_script_tokens.specs.Numbers.{greatest_number}
+use Rattle.dx_script_tokens.specs.Kinds.{numbered_word, small_word, inner_word, word_says, is_script_mark, mark_kind}
+use Rattle.dx_script_tokens.specs.Scan.{plain_token, with_token, with_tokens, script_scan_from, script_scan_of}
 use Rattle.dx_script_tokens.proofs.Standing.{IsWordOf, word_scanned, number_scanned, IsNameText, name_scanned, text_scanned, mark_scanned, blank_past}
-use Rattle.dx_script_tokens.specs.Quoted.{doubled, quoted}
-use Rattle.dx_script_text.specs.Print.{parted, numbered, name_text}
-use Rattle.dx_script_text.specs.Printable.{IsName, AreSome}
+use Rattle.dx_script_tokens.specs.Quoted.{doubled, single_quoted}
+use Rattle.dx_script_text.specs.Print.{parted, texts_from, name_text}
+use Rattle.dx_script_text.specs.Printable.{IsScriptName, AreSome}
 use Rattle.dx_script_text.specs.Grammar.{is_comma, is_and}
 use Rattle.dx_script_tokens.proofs.QuotedTexts.{is_quote, undoubled-doubled, quoted_read}
 
@@ -27,7 +27,7 @@ use Rattle.dx_script_tokens.proofs.QuotedTexts.{is_quote, undoubled-doubled, quo
 pub record Reads (R : List ScriptToken → Type 0) (place : ℕ) (text more : List ℕ) : Type 0 where
   pub tokens : List ScriptToken
   pub after : ℕ
-  pub scanned : scan_from 0 place text ≡ with_tokens tokens (scan_from 0 after more)
+  pub scanned : script_scan_from 0 place text ≡ with_tokens tokens (script_scan_from 0 after more)
   pub has : R tokens
 
 -- no word and no text goes on here
@@ -37,18 +37,18 @@ Ends more = StopsAt is_word_byte more × StopsAt is_quote more
 pub no_token : (R : List ScriptToken → Type 0) (place : ℕ) (more : List ℕ) → R [] → Reads R place more more
 no_token R place more h = record { tokens = []; after = place; scanned = refl; has = h }
 
-one_then : (R : List ScriptToken → Type 0) (x : ScriptToken) (text tail more : List ℕ) (place next : ℕ) → scan_from 0 place text ≡ with_token x (scan_from 0 next tail) → Reads (λ u. R (x ∷ u)) next tail more → Reads R place text more
+one_then : (R : List ScriptToken → Type 0) (x : ScriptToken) (text tail more : List ℕ) (place next : ℕ) → script_scan_from 0 place text ≡ with_token x (script_scan_from 0 next tail) → Reads (λ u. R (x ∷ u)) next tail more → Reads R place text more
 one_then R x text tail more place next e on = record { tokens = x ∷ on.tokens; after = on.after; scanned = e ∙ ap (with_token x) on.scanned; has = on.has }
 
 pub word_then : (R : List ScriptToken → Type 0) (w : List ℕ) (kind : ScriptKind) (number : ℕ) (tail more : List ℕ) (place : ℕ) → IsWordOf w kind number → StopsAt is_word_byte tail
     → Reads (λ u. R (plain_token place kind number ∷ u)) (place + length w) tail more → Reads R place (w ++ tail) more
 word_then R w kind number tail more place is stops on = one_then R (plain_token place kind number) (w ++ tail) tail more place (place + length w) (word_scanned w kind number tail place is stops) on
 
-pub number_then : (R : List ScriptToken → Type 0) (n : ℕ) (tail more : List ℕ) (place : ℕ) → n ≤ greatest → StopsAt is_digit tail
+pub number_then : (R : List ScriptToken → Type 0) (n : ℕ) (tail more : List ℕ) (place : ℕ) → n ≤ greatest_number → StopsAt is_digit tail
     → Reads (λ u. R (plain_token place kinds.Number n ∷ u)) (place + length (decimal n)) tail more → Reads R place (decimal n ++ tail) more
 number_then R n tail more place le stops on = one_then R (plain_token place kinds.Number n) (decimal n ++ tail) tail more place (place + length (decimal n)) (number_scanned n tail place le stops) on
 
-pub mark_then : (R : List ScriptToken → Type 0) (b : ℕ) (tail more : List ℕ) (place : ℕ) → is_mark b ≡ true → Reads (λ u. R (plain_token place (mark_kind b) 0 ∷ u)) (place + 1) tail more → Reads R place (b ∷ tail) more
+pub mark_then : (R : List ScriptToken → Type 0) (b : ℕ) (tail more : List ℕ) (place : ℕ) → is_script_mark b ≡ true → Reads (λ u. R (plain_token place (mark_kind b) 0 ∷ u)) (place + 1) tail more → Reads R place (b ∷ tail) more
 mark_then R b tail more place is on = one_then R (plain_token place (mark_kind b) 0) (b ∷ tail) tail more place (place + 1) (mark_scanned b tail place is) on
 
 pub blank_then : (R : List ScriptToken → Type 0) (b : ℕ) (tail more : List ℕ) (place : ℕ) → is_blank b ≡ true → Reads R (place + 1) tail more → Reads R place (b ∷ tail) more
@@ -58,18 +58,18 @@ all_from : (bs : List ℕ) → Each bs (λ b. is_word_byte b ≡ true) → AllPa
 all_from [] each = tt
 all_from (b ∷ bs) each = (each b (here refl), all_from bs (λ c m. each c (there m)))
 
-name_is : (name : List ℕ) → IsName name → IsNameText name
+name_is : (name : List ℕ) → IsScriptName name → IsNameText name
 name_is [] h = h
 name_is (c ∷ rest) h = (h.0, all_from rest h.1)
 
-pub name_then : (R : List ScriptToken → Type 0) (name tail more : List ℕ) (place : ℕ) → IsName name
+pub name_then : (R : List ScriptToken → Type 0) (name tail more : List ℕ) (place : ℕ) → IsScriptName name
     → ((next : ℕ) → Reads (λ u. R (record { place = place; kind = kinds.Name; number = 0; text = name } ∷ u)) next tail more) → Reads R place (name_text name ++ tail) more
 name_then R name tail more place is on = one_then R (record { place = place; kind = kinds.Name; number = 0; text = name }) (name_text name ++ tail) tail more place _ (name_scanned name tail place (name_is name is)) (on _)
 
 pub text_then : (R : List ScriptToken → Type 0) (text tail more : List ℕ) (place : ℕ) → IsUtf8 text → StopsAt is_quote tail
-    → ((next : ℕ) → Reads (λ u. R (record { place = place; kind = kinds.Text; number = 0; text = text } ∷ u)) next tail more) → Reads R place (quoted text ++ tail) more
+    → ((next : ℕ) → Reads (λ u. R (record { place = place; kind = kinds.Text; number = 0; text = text } ∷ u)) next tail more) → Reads R place (single_quoted text ++ tail) more
 text_then R text tail more place utf8 stops on =
-    one_then R (record { place = place; kind = kinds.Text; number = 0; text = text }) (quoted text ++ tail) tail more place _ (text_scanned (doubled text) text tail place (quoted_read text utf8 tail stops) (undoubled-doubled text)) (on _)
+    one_then R (record { place = place; kind = kinds.Text; number = 0; text = text }) (single_quoted text ++ tail) tail more place _ (text_scanned (doubled text) text tail place (quoted_read text utf8 tail stops) (undoubled-doubled text)) (on _)
 
 -- what has S, and then the others
 pub both_then : (S R : List ScriptToken → Type 0) (text tail more : List ℕ) (place : ℕ) → Reads S place text tail → ((u : List ScriptToken) (after : ℕ) → S u → Reads (λ v. R (u ++ v)) after tail more) → Reads R place text more
@@ -78,7 +78,7 @@ both_then S R text tail more place first on =
     record {
       tokens = first.tokens ++ next.tokens;
       after = next.after;
-      scanned = first.scanned ∙ ap (with_tokens first.tokens) next.scanned ∙ ap (λ (xs : List ScriptToken). record { tokens = xs; stop = (scan_from 0 next.after more).stop }) (sym (append_assoc first.tokens next.tokens _));
+      scanned = first.scanned ∙ ap (with_tokens first.tokens) next.scanned ∙ ap (λ (xs : List ScriptToken). record { tokens = xs; stop = (script_scan_from 0 next.after more).stop }) (sym (append_assoc first.tokens next.tokens _));
       has = next.has;
     }
 
@@ -211,41 +211,41 @@ module _ {A : Type 0} (p : ScriptToken → Bool) (between : List ℕ) (sep : IsG
       both_then (R x) (λ u. Many (Past p R) (x ∷ xs) (t ∷ u)) (f x ++ (behind xs ++ tail)) (behind xs ++ tail) tail next (one x next (behind xs ++ tail) (each x (here refl)) (ends_before xs tail ends)) (λ u after h.
       told_as (Many (Past p R) xs) (λ v. Many (Past p R) (x ∷ xs) (t ∷ (u ++ v))) (behind xs ++ tail) tail after (others_read xs after tail (λ y m. each y (there m)) ends) (λ v m. one_more (past_one t e h) m))))
 
-  pub list_read : (xs : List A) (place : ℕ) (tail : List ℕ) → AreSome P xs → Ends tail → Reads (Listed p R xs) place (parted between (map f xs) ++ tail) tail
+  pub list_read : (xs : List A) (place : ℕ) (tail : List ℕ) → AreSome P xs → Ends tail → Reads (SpellsList p R xs) place (parted between (map f xs) ++ tail) tail
   list_read [] place tail some ends = absurd (some.0 refl)
   list_read (x ∷ xs) place tail some ends =
-      subst (λ (text : List ℕ). Reads (Listed p R (x ∷ xs)) place text tail) (sym (append_assoc (f x) (behind xs) tail))
-      (both_then (R x) (Listed p R (x ∷ xs)) (f x ++ (behind xs ++ tail)) (behind xs ++ tail) tail place (one x place (behind xs ++ tail) (some.1 x (here refl)) (ends_before xs tail ends)) (λ u after h.
-      told_as (Many (Past p R) xs) (λ v. Listed p R (x ∷ xs) (u ++ v)) (behind xs ++ tail) tail after (others_read xs after tail (λ y m. some.1 y (there m)) ends) (λ v m. list_of h m)))
+      subst (λ (text : List ℕ). Reads (SpellsList p R (x ∷ xs)) place text tail) (sym (append_assoc (f x) (behind xs) tail))
+      (both_then (R x) (SpellsList p R (x ∷ xs)) (f x ++ (behind xs ++ tail)) (behind xs ++ tail) tail place (one x place (behind xs ++ tail) (some.1 x (here refl)) (ends_before xs tail ends)) (λ u after h.
+      told_as (Many (Past p R) xs) (λ v. SpellsList p R (x ∷ xs) (u ++ v)) (behind xs ++ tail) tail after (others_read xs after tail (λ y m. some.1 y (there m)) ends) (λ v m. list_of h m)))
 
 -- the same with a number for each item
-module _ {A : Type 0} (f : ℕ → A → List ℕ) (P : A → Type 0) (R : ℕ → A → List ScriptToken → Type 0) (one : (n : ℕ) (x : A) (place : ℕ) (tail : List ℕ) → n ≤ greatest → P x → Ends tail → Reads (R n x) place (f n x ++ tail) tail) where
+module _ {A : Type 0} (f : ℕ → A → List ℕ) (P : A → Type 0) (R : ℕ → A → List ScriptToken → Type 0) (one : (n : ℕ) (x : A) (place : ℕ) (tail : List ℕ) → n ≤ greatest_number → P x → Ends tail → Reads (R n x) place (f n x ++ tail) tail) where
   abbrev behind_from : ℕ → List A → List ℕ
-  behind_from n xs = flat_map (λ other. codes ", " ++ other) (numbered f n xs)
+  behind_from n xs = flat_map (λ other. codes ", " ++ other) (texts_from f n xs)
 
   ends_from : (n : ℕ) (xs : List A) (tail : List ℕ) → Ends tail → Ends (behind_from n xs ++ tail)
   ends_from n [] tail ends = ends
   ends_from n (x ∷ xs) tail ends = (refl, refl)
 
-  pub numbered_read : (n : ℕ) (xs : List A) (place : ℕ) (tail : List ℕ) → n + length xs ≤ 4294967296 → Each xs P → Ends tail → Reads (Numbered (λ k. Past is_comma (R k)) n xs) place (behind_from n xs ++ tail) tail
+  pub numbered_read : (n : ℕ) (xs : List A) (place : ℕ) (tail : List ℕ) → n + length xs ≤ 4294967296 → Each xs P → Ends tail → Reads (SpellsNumbered (λ k. Past is_comma (R k)) n xs) place (behind_from n xs ++ tail) tail
   numbered_read n [] place tail room each ends = no_token _ place tail none_more
   numbered_read n (x ∷ xs) place tail room each ends =
       let rest : List ℕ = behind_from (suc n) xs ++ tail in
-      subst (λ (text : List ℕ). Reads (Numbered (λ k. Past is_comma (R k)) n (x ∷ xs)) place text tail) (sym (append_assoc (codes ", " ++ f n x) (behind_from (suc n) xs) tail ∙ append_assoc (codes ", ") (f n x) rest))
-      (comma_gap.gap (Numbered (λ k. Past is_comma (R k)) n (x ∷ xs)) (f n x ++ rest) tail place (λ t next e.
-      both_then (R n x) (λ u. Numbered (λ k. Past is_comma (R k)) n (x ∷ xs) (t ∷ u)) (f n x ++ rest) rest tail next (one n x next rest (omega (arith, room)) (each x (here refl)) (ends_from (suc n) xs tail ends)) (λ u after h.
-      told_as (Numbered (λ k. Past is_comma (R k)) (suc n) xs) (λ v. Numbered (λ k. Past is_comma (R k)) n (x ∷ xs) (t ∷ (u ++ v))) rest tail after (numbered_read (suc n) xs after tail (omega (arith, room)) (λ y m. each y (there m)) ends) (λ v m. next_one (past_one t e h) m))))
+      subst (λ (text : List ℕ). Reads (SpellsNumbered (λ k. Past is_comma (R k)) n (x ∷ xs)) place text tail) (sym (append_assoc (codes ", " ++ f n x) (behind_from (suc n) xs) tail ∙ append_assoc (codes ", ") (f n x) rest))
+      (comma_gap.gap (SpellsNumbered (λ k. Past is_comma (R k)) n (x ∷ xs)) (f n x ++ rest) tail place (λ t next e.
+      both_then (R n x) (λ u. SpellsNumbered (λ k. Past is_comma (R k)) n (x ∷ xs) (t ∷ u)) (f n x ++ rest) rest tail next (one n x next rest (omega (arith, room)) (each x (here refl)) (ends_from (suc n) xs tail ends)) (λ u after h.
+      told_as (SpellsNumbered (λ k. Past is_comma (R k)) (suc n) xs) (λ v. SpellsNumbered (λ k. Past is_comma (R k)) n (x ∷ xs) (t ∷ (u ++ v))) rest tail after (numbered_read (suc n) xs after tail (omega (arith, room)) (λ y m. each y (there m)) ends) (λ v m. next_one (past_one t e h) m))))
 
 -- ---- a whole text
 
 pub record ReadsAll (R : List ScriptToken → Type 0) (text : List ℕ) : Type 0 where
-  pub no_stop : (scan_of text).stop ≡ None
-  pub has : R (scan_of text).tokens
+  pub no_stop : (script_scan_of text).stop ≡ None
+  pub has : R (script_scan_of text).tokens
 
 pub reads_all : (R : List ScriptToken → Type 0) (text : List ℕ) → Reads R 0 text [] → ReadsAll R text
-unfolding scan_from
+unfolding script_scan_from
 reads_all R text r =
-    let e : scan_of text ≡ with_tokens r.tokens (record { tokens = []; stop = None }) = r.scanned in
+    let e : script_scan_of text ≡ with_tokens r.tokens (record { tokens = []; stop = None }) = r.scanned in
     record {
       no_stop = ap (λ (s : ScriptScan). s.stop) e;
       has = subst R (sym (ap (λ (s : ScriptScan). s.tokens) e ∙ append-nil r.tokens)) r.has;

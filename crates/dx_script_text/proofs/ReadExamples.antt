@@ -7,21 +7,21 @@ use Rattle.dx_grammar.specs.Readers.{many}
 use Rattle.dx_grammar.specs.Numbers.{counted_reader, knowing, knowing_within}
 use Rattle.dx_script_tokens.specs.Numbers.{more_digits, numeral_of}
 use Rattle.dx_script_tokens.specs.Kinds.{numbered_word, small_word, inner_word, word_says}
-use Rattle.dx_script_tokens.specs.Pieces.{text_item, text_from, piece_at}
-use Rattle.dx_script_tokens.specs.Scan.{scan_from}
+use Rattle.dx_script_tokens.specs.Pieces.{text_item, text_from, script_piece_at}
+use Rattle.dx_script_tokens.specs.Scan.{script_scan_from}
 use Rattle.dx_script.specs.declared.form.Test.TheVariants as tested
 use Rattle.dx_script.specs.declared.form.Out.TheVariants as outs
 use Rattle.dx_script.specs.declared.form.Step.TheVariants as steps
 use Rattle.dx_script.specs.declared.form.Script.{Script}
-use Rattle.dx_script_text.specs.Reading.{call_reader, cell_reader, cell_value_reader, column_out_reader, columns_reader, comma_item, comma_out, comma_source, create_reader, created_reader, declared_reader, equal_reader, equals_reader, insert_end_reader, insert_reader, insert_tail_reader, item_reader, items_reader, keep_reader, keep_tail_reader, matched_reader, match_reader, no_items, optional_tests, out_reader, outs_reader, script_reader, select_reader, skolem_reader, skolem_tail_reader, source_reader, sources_reader, step_reader, table_reader, test_reader, tests_reader, text_out_reader, text_reader, unless_reader, value_reader, where_reader}
+use Rattle.dx_script_text.specs.Reading.{select_call_reader, alias_cell_reader, cell_value_reader, column_out_reader, columns_reader, comma_item, comma_out, comma_source, create_reader, created_reader, declared_reader, equal_reader, equals_reader, insert_end_reader, insert_reader, insert_tail_reader, select_item_reader, items_reader, keep_reader, keep_tail_reader, matched_reader, match_reader, no_items, optional_tests, out_reader, outs_reader, script_reader, select_reader, skolem_reader, skolem_tail_reader, from_source_reader, sources_reader, step_reader, table_reader, test_reader, tests_reader, text_out_reader, text_reader, unless_reader, value_reader, where_clause_reader}
 use Rattle.dx_tokens.specs.Judged.{Reads}
-use Rattle.dx_script_text.specs.Texts.{told_of, read_text, IsToldFault}
+use Rattle.dx_script_text.specs.Texts.{script_of_tokens, script_of_text, IsScriptFaultOrMemory}
 use Rattle.dx_script_text.proofs.Answered.{never_said_and_faulty, text_script}
 
 -- what is read of a text
 read : List ℕ → Result Script TextFault
-unfolding told_of scan_from piece_at text_from text_item word_says inner_word small_word numbered_word numeral_of more_digits many knowing knowing_within counted_reader script_reader step_reader created_reader table_reader create_reader declared_reader match_reader matched_reader select_reader no_items items_reader comma_item item_reader value_reader cell_value_reader call_reader cell_reader sources_reader comma_source source_reader where_reader equals_reader equal_reader keep_reader keep_tail_reader unless_reader optional_tests tests_reader test_reader columns_reader text_reader insert_reader insert_tail_reader outs_reader comma_out out_reader skolem_reader skolem_tail_reader text_out_reader column_out_reader insert_end_reader
-read text = read_text text
+unfolding script_of_tokens script_scan_from script_piece_at text_from text_item word_says inner_word small_word numbered_word numeral_of more_digits many knowing knowing_within counted_reader script_reader step_reader created_reader table_reader create_reader declared_reader match_reader matched_reader select_reader no_items items_reader comma_item select_item_reader value_reader cell_value_reader select_call_reader alias_cell_reader sources_reader comma_source from_source_reader where_clause_reader equals_reader equal_reader keep_reader keep_tail_reader unless_reader optional_tests tests_reader test_reader columns_reader text_reader insert_reader insert_tail_reader outs_reader comma_out out_reader skolem_reader skolem_tail_reader text_out_reader column_out_reader insert_end_reader
+read text = script_of_text text
 
 -- a step of each kind
 created : read (codes "CREATE TABLE target.\"t\"(\"a\" TEXT);") ≡ Ok (record { steps = steps.Create (codes "t") (codes "a" ∷ []) ∷ [] })
@@ -141,7 +141,7 @@ another_place h = omega (arith, ap place_in h) where
   place_in (Err Memory) = 0
 
 -- of a text without a fault want of memory alone is told
-told_of_nothing : (e : TextFault) → IsToldFault [] e → e ≡ Memory
+told_of_nothing : (e : TextFault) → IsScriptFaultOrMemory [] e → e ≡ Memory
 unfolding read
 told_of_nothing e (inl m) = m
 told_of_nothing e (inr f) = absurd (never_said_and_faulty [] (record { steps = [] }) e (text_script [] (record { steps = [] }) no_steps) f)

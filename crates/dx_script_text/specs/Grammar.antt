@@ -3,7 +3,7 @@ use Rattle.std.specs.Prelude.{ℕ, Bool, ◌||◌, nat_eq}
 use Rattle.dx_script_tokens.specs.declared.scanner.ScriptToken.{ScriptToken}
 use Rattle.dx_script_tokens.specs.declared.kinds.ScriptKind.{ScriptKind}
 use Rattle.dx_script_tokens.specs.declared.kinds.ScriptKind.TheVariants as kinds
-use Rattle.dx_script_tokens.specs.Kinds.{rank}
+use Rattle.dx_script_tokens.specs.Kinds.{kind_number}
 use Rattle.dx_grammar.specs.Forms.{Form, one, ◌▸◌, ◌∣◌, repeated, optional}
 use Rattle.dx_grammar.specs.Lists.{listed}
 use Rattle.dx_grammar.specs.Numbers.{any_to, counted, has_number}
@@ -12,7 +12,7 @@ use Rattle.dx_grammar.specs.Numbers.{any_to, counted, has_number}
 
 -- the token is of this kind
 abbrev pub of_kind : ScriptKind → ScriptToken → Bool
-of_kind k x = nat_eq (rank x.kind) (rank k)
+of_kind k x = nat_eq (kind_number x.kind) (kind_number k)
 
 -- the number of a token
 abbrev pub number : ScriptToken → ℕ
@@ -59,48 +59,48 @@ unfoldable pub create_rest : Form ScriptToken
 create_rest = any kinds.Target ▸ any kinds.Dot ▸ any kinds.Name ▸ any kinds.Open ▸ listed is_comma declared_column ▸ any kinds.Close ▸ any kinds.Semicolon
 
 -- a<n> . "column"
-unfoldable pub cell : Form ScriptToken
-cell = any kinds.Alias ▸ any kinds.Dot ▸ any kinds.Name
+unfoldable pub alias_cell : Form ScriptToken
+alias_cell = any kinds.Alias ▸ any kinds.Dot ▸ any kinds.Name
 
 -- "conversion" ( cell , cell )
 unfoldable pub call : Form ScriptToken
-call = any kinds.Name ▸ any kinds.Open ▸ listed is_comma cell ▸ any kinds.Close
+call = any kinds.Name ▸ any kinds.Open ▸ listed is_comma alias_cell ▸ any kinds.Close
 
 -- cell | call
 unfoldable pub value : Form ScriptToken
-value = cell ∣ call
+value = alias_cell ∣ call
 
 -- value AS c<n>
-unfoldable pub item : ℕ → Form ScriptToken
-item n = value ▸ any kinds.As ▸ one (column_is n)
+unfoldable pub select_item : ℕ → Form ScriptToken
+select_item n = value ▸ any kinds.As ▸ one (column_is n)
 
 -- cell AS c0, cell AS c1 and so on
 unfoldable pub items : ℕ → Form ScriptToken
-items top = item 0 ▸ counted top 1 (λ n. one is_comma ▸ item n)
+items top = select_item 0 ▸ counted top 1 (λ n. one is_comma ▸ select_item n)
 
 -- 1 | items
 unfoldable pub select : ℕ → Form ScriptToken
 select top = one (number_is 1) ∣ items top
 
 -- source . "table" AS a<n>
-unfoldable pub source : ℕ → Form ScriptToken
-source n = any kinds.Source ▸ any kinds.Dot ▸ any kinds.Name ▸ any kinds.As ▸ one (alias_is n)
+unfoldable pub from_source : ℕ → Form ScriptToken
+from_source n = any kinds.Source ▸ any kinds.Dot ▸ any kinds.Name ▸ any kinds.As ▸ one (alias_is n)
 
 -- source AS a0, source AS a1 and so on
 unfoldable pub sources : ℕ → Form ScriptToken
-sources top = source 0 ▸ counted top 1 (λ n. one is_comma ▸ source n)
+sources top = from_source 0 ▸ counted top 1 (λ n. one is_comma ▸ from_source n)
 
 -- cell = cell
 unfoldable pub equal : Form ScriptToken
-equal = cell ▸ any kinds.Equal ▸ cell
+equal = alias_cell ▸ any kinds.Equal ▸ alias_cell
 
 -- WHERE equal { AND equal }
-unfoldable pub where_part : Form ScriptToken
-where_part = any kinds.Where ▸ listed is_and equal
+unfoldable pub where_clause : Form ScriptToken
+where_clause = any kinds.Where ▸ listed is_and equal
 
 -- m<r> AS SELECT DISTINCT select FROM sources [ where ] ;
 unfoldable pub match_rest : ℕ → Form ScriptToken
-match_rest top = any kinds.Match ▸ any kinds.As ▸ any kinds.Select ▸ any kinds.Distinct ▸ select top ▸ any kinds.From ▸ sources top ▸ optional where_part ▸ any kinds.Semicolon
+match_rest top = any kinds.Match ▸ any kinds.As ▸ any kinds.Select ▸ any kinds.Distinct ▸ select top ▸ any kinds.From ▸ sources top ▸ optional where_clause ▸ any kinds.Semicolon
 
 -- n . c<other> = m . c<own> | m . c<own> = 'text'
 unfoldable pub test : Form ScriptToken

@@ -1,7 +1,7 @@
 -- The text of scripts.
 use Rattle.std.specs.Prelude.{ℕ, suc, Bool, true, false, List, [], ◌∷◌, ◌++◌, map, codes, decimal}
 use Rattle.std.specs.List.{flat_map}
-use Rattle.dx_script_tokens.specs.Quoted.{quoted}
+use Rattle.dx_script_tokens.specs.Quoted.{single_quoted}
 use Rattle.dx_script.specs.declared.form.CellRef.{CellRef}
 use Rattle.dx_script.specs.declared.form.Select.{Select}
 use Rattle.dx_script.specs.declared.form.Select.TheVariants as selected
@@ -25,9 +25,9 @@ parted between [] = []
 parted between (text ∷ others) = text ++ flat_map (λ other. between ++ other) others
 
 -- the texts of items in order, of which the first has number n
-abbrev pub numbered : {A : Type 0} → (ℕ → A → Bytes) → ℕ → List A → List Bytes
-numbered f n [] = []
-numbered f n (x ∷ xs) = f n x ∷ numbered f (suc n) xs
+abbrev pub texts_from : {A : Type 0} → (ℕ → A → Bytes) → ℕ → List A → List Bytes
+texts_from f n [] = []
+texts_from f n (x ∷ xs) = f n x ∷ texts_from f (suc n) xs
 
 -- ---- names
 
@@ -47,16 +47,16 @@ create_text table columns = codes "CREATE TABLE target." ++ (name_text table ++ 
 -- ---- CREATE TABLE m<r>
 
 -- a cell of an alias
-abbrev pub cell_text : CellRef → Bytes
-cell_text c = codes "a" ++ (decimal c.alias ++ (codes "." ++ name_text c.column))
+abbrev pub cell_ref_text : CellRef → Bytes
+cell_ref_text c = codes "a" ++ (decimal c.alias ++ (codes "." ++ name_text c.column))
 
 -- a conversion of cells
 abbrev pub call_text : Bytes → List CellRef → Bytes
-call_text name args = name_text name ++ (codes "(" ++ (parted (codes ", ") (map cell_text args) ++ codes ")"))
+call_text name args = name_text name ++ (codes "(" ++ (parted (codes ", ") (map cell_ref_text args) ++ codes ")"))
 
 -- a cell, or a conversion of cells
 abbrev pub value_text : Select → Bytes
-value_text (selected.Cell c) = cell_text c
+value_text (selected.Cell c) = cell_ref_text c
 value_text (selected.Call name args) = call_text name args
 
 -- the selected column with number n
@@ -66,32 +66,32 @@ item_text n s = value_text s ++ (codes " AS c" ++ decimal n)
 -- the selected columns, or 1 if there are none
 abbrev pub select_text : List Select → Bytes
 select_text [] = codes "1"
-select_text (s ∷ others) = parted (codes ", ") (numbered item_text 0 (s ∷ others))
+select_text (s ∷ others) = parted (codes ", ") (texts_from item_text 0 (s ∷ others))
 
 -- the source table with alias n
-abbrev pub source_text : ℕ → Bytes → Bytes
-source_text n table = codes "source." ++ (name_text table ++ (codes " AS a" ++ decimal n))
+abbrev pub source_alias_text : ℕ → Bytes → Bytes
+source_alias_text n table = codes "source." ++ (name_text table ++ (codes " AS a" ++ decimal n))
 
 abbrev pub equal_text : Equal → Bytes
-equal_text e = cell_text e.left ++ (codes " = " ++ cell_text e.right)
+equal_text e = cell_ref_text e.left ++ (codes " = " ++ cell_ref_text e.right)
 
 -- conditions that all hold, or nothing if there are none
-abbrev pub where_text : List Bytes → Bytes
-where_text [] = []
-where_text (text ∷ others) = codes " WHERE " ++ parted (codes " AND ") (text ∷ others)
+abbrev pub where_clause_text : List Bytes → Bytes
+where_clause_text [] = []
+where_clause_text (text ∷ others) = codes " WHERE " ++ parted (codes " AND ") (text ∷ others)
 
 abbrev pub match_text : ℕ → List Select → List Bytes → List Equal → Bytes
 match_text rule select sources equal =
-    codes "CREATE TABLE m" ++ (decimal rule ++ (codes " AS SELECT DISTINCT " ++ (select_text select ++ (codes " FROM " ++ (parted (codes ", ") (numbered source_text 0 sources) ++ (where_text (map equal_text equal) ++ codes ";\n"))))))
+    codes "CREATE TABLE m" ++ (decimal rule ++ (codes " AS SELECT DISTINCT " ++ (select_text select ++ (codes " FROM " ++ (parted (codes ", ") (texts_from source_alias_text 0 sources) ++ (where_clause_text (map equal_text equal) ++ codes ";\n"))))))
 
 -- ---- CREATE TABLE k<r>
 
 abbrev pub test_text : Test → Bytes
 test_text (tested.Columns other own) = codes "n.c" ++ (decimal other ++ (codes " = m.c" ++ decimal own))
-test_text (tested.Literal own text) = codes "m.c" ++ (decimal own ++ (codes " = " ++ quoted text))
+test_text (tested.Literal own text) = codes "m.c" ++ (decimal own ++ (codes " = " ++ single_quoted text))
 
 abbrev pub unless_text : Unless → Bytes
-unless_text u = codes "NOT EXISTS (SELECT * FROM m" ++ (decimal u.rule ++ (codes " AS n" ++ (where_text (map test_text u.tests) ++ codes ")")))
+unless_text u = codes "NOT EXISTS (SELECT * FROM m" ++ (decimal u.rule ++ (codes " AS n" ++ (where_clause_text (map test_text u.tests) ++ codes ")")))
 
 abbrev pub keep_text : ℕ → List Unless → Bytes
 keep_text rule unless = codes "CREATE TABLE k" ++ (decimal rule ++ (codes " AS SELECT * FROM m" ++ (decimal rule ++ (codes " AS m WHERE " ++ (parted (codes " AND ") (map unless_text unless) ++ codes ";\n")))))
@@ -101,7 +101,7 @@ keep_text rule unless = codes "CREATE TABLE k" ++ (decimal rule ++ (codes " AS S
 -- a cell of a fact of a rule
 abbrev pub out_text : ℕ → Out → Bytes
 out_text rule (outs.Column n) = codes "m.c" ++ decimal n
-out_text rule (outs.Literal text) = quoted text
+out_text rule (outs.Literal text) = single_quoted text
 out_text rule (outs.Skolem v) = codes "SKOLEM(" ++ (decimal rule ++ (codes ", " ++ (decimal v ++ codes ", m.place)")))
 
 -- the letter of a keep table, of a match table

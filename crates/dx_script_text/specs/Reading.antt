@@ -2,7 +2,7 @@
 use Rattle.std.specs.Prelude.{ℕ, ◌-◌, Bool, ◌||◌, List, [], ◌∷◌, length}
 use Rattle.dx_grammar.specs.Readers.{Reader, ◌>>=◌, give, token, either, many, with_front}
 use Rattle.dx_grammar.specs.Lists.{past, list_reader}
-use Rattle.dx_grammar.specs.Numbers.{counted_reader, Knower, ◌then◌, giving, always, number_token, choosing, knowing, with_number, unknowing}
+use Rattle.dx_grammar.specs.Numbers.{counted_reader, Knower, ◌then◌, giving, always, number_token, choosing, knowing, number_then, unknowing}
 use Rattle.dx_script_tokens.specs.declared.scanner.ScriptToken.{ScriptToken}
 use Rattle.dx_script_tokens.specs.declared.kinds.ScriptKind.TheVariants as kinds
 use Rattle.dx_script.specs.declared.form.CellRef.{CellRef}
@@ -20,11 +20,11 @@ use Rattle.dx_script_text.specs.Grammar.{of_kind, number, match_is, alias_is, co
 
 -- ---- values
 
-abbrev pub cell_at : ScriptToken → ScriptToken → CellRef
-cell_at a c = record { alias = a.number; column = c.text }
+abbrev pub alias_cell_of : ScriptToken → ScriptToken → CellRef
+alias_cell_of a c = record { alias = a.number; column = c.text }
 
-abbrev pub cell_value : CellRef → Select
-cell_value c = selected.Cell c
+abbrev pub cell_select : CellRef → Select
+cell_select c = selected.Cell c
 
 abbrev pub call_value : List ℕ → List CellRef → Select
 call_value name args = selected.Call name args
@@ -32,14 +32,14 @@ call_value name args = selected.Call name args
 abbrev pub create_step : List ℕ → List (List ℕ) → Step
 create_step table columns = made.Create table columns
 
-abbrev pub match_step : ℕ → List Select → List (List ℕ) → List Equal → Step
-match_step rule select sources equal = made.MatchRows rule select sources equal
+abbrev pub match_step_of : ℕ → List Select → List (List ℕ) → List Equal → Step
+match_step_of rule select sources equal = made.MatchRows rule select sources equal
 
-abbrev pub keep_step : ℕ → List Unless → Step
-keep_step rule unless = made.KeepRows rule unless
+abbrev pub keep_step_of : ℕ → List Unless → Step
+keep_step_of rule unless = made.KeepRows rule unless
 
-abbrev pub insert_step : List ℕ → ℕ → Bool → List Out → Step
-insert_step table rule kept cells = made.InsertRows table rule kept cells
+abbrev pub insert_step_of : List ℕ → ℕ → Bool → List Out → Step
+insert_step_of table rule kept cells = made.InsertRows table rule kept cells
 
 abbrev pub columns_test : ℕ → ℕ → Test
 columns_test other own = tested.Columns other own
@@ -83,42 +83,42 @@ create_reader = do
 
 -- ---- CREATE TABLE m<r>
 
-unfoldable pub cell_reader : Reader ScriptToken CellRef
-cell_reader = do
+unfoldable pub alias_cell_reader : Reader ScriptToken CellRef
+alias_cell_reader = do
   a ← token (of_kind kinds.Alias)
   dot ← token (of_kind kinds.Dot)
   c ← token (of_kind kinds.Name)
-  give (cell_at a c)
+  give (alias_cell_of a c)
 
-unfoldable pub call_reader : Reader ScriptToken Select
-call_reader = do
+unfoldable pub select_call_reader : Reader ScriptToken Select
+select_call_reader = do
   name ← token (of_kind kinds.Name)
   opening ← token (of_kind kinds.Open)
-  args ← list_reader is_comma cell_reader
+  args ← list_reader is_comma alias_cell_reader
   closing ← token (of_kind kinds.Close)
   give (call_value name.text args)
 
 unfoldable pub cell_value_reader : Reader ScriptToken Select
 cell_value_reader = do
-  c ← cell_reader
-  give (cell_value c)
+  c ← alias_cell_reader
+  give (cell_select c)
 
 unfoldable pub value_reader : Reader ScriptToken Select
-value_reader = either (of_kind kinds.Alias) cell_value_reader call_reader
+value_reader = either (of_kind kinds.Alias) cell_value_reader select_call_reader
 
-unfoldable pub item_reader : ℕ → Reader ScriptToken Select
-item_reader n = do
+unfoldable pub select_item_reader : ℕ → Reader ScriptToken Select
+select_item_reader n = do
   c ← value_reader
   keyword ← token (of_kind kinds.As)
   k ← token (column_is n)
   give c
 
 unfoldable pub comma_item : ℕ → Reader ScriptToken Select
-comma_item n = past is_comma (item_reader n)
+comma_item n = past is_comma (select_item_reader n)
 
 unfoldable pub items_reader : ℕ → Reader ScriptToken (List Select)
 items_reader top = do
-  first ← item_reader 0
+  first ← select_item_reader 0
   others ← counted_reader is_comma comma_item top 1
   give (first ∷ others)
 
@@ -130,8 +130,8 @@ no_items = do
 unfoldable pub select_reader : ℕ → Reader ScriptToken (List Select)
 select_reader top = either (number_is 1) no_items (items_reader top)
 
-unfoldable pub source_reader : ℕ → Reader ScriptToken (List ℕ)
-source_reader n = do
+unfoldable pub from_source_reader : ℕ → Reader ScriptToken (List ℕ)
+from_source_reader n = do
   side ← token (of_kind kinds.Source)
   dot ← token (of_kind kinds.Dot)
   table ← token (of_kind kinds.Name)
@@ -140,33 +140,33 @@ source_reader n = do
   give table.text
 
 unfoldable pub comma_source : ℕ → Reader ScriptToken (List ℕ)
-comma_source n = past is_comma (source_reader n)
+comma_source n = past is_comma (from_source_reader n)
 
 unfoldable pub sources_reader : ℕ → Reader ScriptToken (List (List ℕ))
 sources_reader top = do
-  first ← source_reader 0
+  first ← from_source_reader 0
   others ← counted_reader is_comma comma_source top 1
   give (first ∷ others)
 
 unfoldable pub equal_reader : Reader ScriptToken Equal
 equal_reader = do
-  left ← cell_reader
+  left ← alias_cell_reader
   sign ← token (of_kind kinds.Equal)
-  right ← cell_reader
+  right ← alias_cell_reader
   give (record { left = left; right = right })
 
 unfoldable pub equals_reader : Reader ScriptToken (List Equal)
 equals_reader = past (of_kind kinds.Where) (list_reader is_and equal_reader)
 
-unfoldable pub where_reader : Reader ScriptToken (List Equal)
-where_reader = either (of_kind kinds.Where) equals_reader (give [])
+unfoldable pub where_clause_reader : Reader ScriptToken (List Equal)
+where_clause_reader = either (of_kind kinds.Where) equals_reader (give [])
 
 unfoldable pub matched_reader : ℕ → ℕ → List Select → Reader ScriptToken Step
 matched_reader top r select = do
   sources ← sources_reader top
-  equal ← where_reader
+  equal ← where_clause_reader
   ending ← token (of_kind kinds.Semicolon)
-  give (match_step r select sources equal)
+  give (match_step_of r select sources equal)
 
 unfoldable pub match_reader : ℕ → Reader ScriptToken Step
 match_reader top = do
@@ -236,10 +236,10 @@ keep_tail_reader r = do
   where_word ← token (of_kind kinds.Where)
   unless ← list_reader is_and unless_reader
   ending ← token (of_kind kinds.Semicolon)
-  give (keep_step r unless)
+  give (keep_step_of r unless)
 
 unfoldable pub keep_reader : ℕ → Reader ScriptToken Step
-keep_reader top = with_number (of_kind kinds.Keep) number top keep_tail_reader
+keep_reader top = number_then (of_kind kinds.Keep) number top keep_tail_reader
 
 -- ---- INSERT
 
@@ -286,7 +286,7 @@ insert_end_reader = do
   give tt
 
 unfoldable pub insert_tail_reader : ℕ → List ℕ → Knower ScriptToken Step
-insert_tail_reader top table = outs_reader top then λ cells. always (token (of_kind kinds.From)) then λ from_word. number_token is_table number top then λ t. always insert_end_reader then λ u. giving (insert_step table t.number (of_kind kinds.Keep t) cells)
+insert_tail_reader top table = outs_reader top then λ cells. always (token (of_kind kinds.From)) then λ from_word. number_token is_table number top then λ t. always insert_end_reader then λ u. giving (insert_step_of table t.number (of_kind kinds.Keep t) cells)
 
 unfoldable pub insert_reader : ℕ → Reader ScriptToken Step
 insert_reader top = do

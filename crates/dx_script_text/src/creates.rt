@@ -1,6 +1,6 @@
 // Steps that create a target table.
 ghost use Rattle.std.specs.Prelude.{◌≡◌};
-ghost use Rattle.dx_grammar.specs.Readers.{many, with_front, Gives};
+ghost use Rattle.dx_grammar.specs.Readers.{many, with_front, ReadsAs};
 ghost use Rattle.dx_grammar.specs.Lists.{past, list_reader};
 ghost use Rattle.dx_script_text.specs.Grammar.{is_comma};
 ghost use Rattle.dx_script_text.specs.Reading.{declared_reader, create_reader};
@@ -14,7 +14,7 @@ use std::alloc::Global;
 
 #[tactic(auto, unfolding(crate::specs::Reading::declared_reader))]
 fn declared(tokens: &[ScriptToken]) -> Result<(Text, &[ScriptToken]), ReadError>
-    ensures { Gives (λ x. (x.0, x.1.now)) result (declared_reader tokens.now) }
+    ensures { ReadsAs (λ x. (x.0, x.1.now)) result (declared_reader tokens.now) }
 {
     let (name, rest) = any_of(tokens, ScriptKind::Name)?;
     let (_, rest) = any_of(rest, ScriptKind::Type)?;
@@ -22,7 +22,7 @@ fn declared(tokens: &[ScriptToken]) -> Result<(Text, &[ScriptToken]), ReadError>
 }
 
 fn comma_declared(tokens: &[ScriptToken]) -> Result<(Text, &[ScriptToken]), ReadError>
-    ensures { Gives (λ x. (x.0, x.1.now)) result (past is_comma declared_reader tokens.now) }
+    ensures { ReadsAs (λ x. (x.0, x.1.now)) result (past is_comma declared_reader tokens.now) }
 {
     let (_, rest) = any_of(tokens, ScriptKind::Comma)?;
     declared(rest)
@@ -33,7 +33,7 @@ fn more_declared(
     all: Items<Text>,
     tokens: &[ScriptToken],
 ) -> Result<(Items<Text>, &[ScriptToken]), ReadError>
-    ensures { Gives (λ x. (x.0, x.1.now)) result (with_front all (many is_comma (past is_comma declared_reader) tokens.now)) }
+    ensures { ReadsAs (λ x. (x.0, x.1.now)) result (with_front all (many is_comma (past is_comma declared_reader) tokens.now)) }
 {
     let mut all = all;
     let mut rest = tokens;
@@ -49,7 +49,7 @@ fn columns(
     alloc: Global,
     tokens: &[ScriptToken],
 ) -> Result<(Items<Text>, &[ScriptToken]), ReadError>
-    ensures { Gives (λ x. (x.0, x.1.now)) result (list_reader is_comma declared_reader tokens.now) }
+    ensures { ReadsAs (λ x. (x.0, x.1.now)) result (list_reader is_comma declared_reader tokens.now) }
 {
     let (first, rest) = declared(tokens)?;
     let mut all = Items::new(alloc);
@@ -57,13 +57,13 @@ fn columns(
     more_declared(all, rest)
 }
 
-/// What stands after `ScriptKind::Create ScriptKind::Table` where a target table is created.
+/// What stands after `ScriptKind::Create ScriptKind::Table` if a target table is created.
 #[tactic(auto, unfolding(crate::specs::Reading::create_reader))]
 pub(crate) fn create(
     alloc: Global,
     tokens: &[ScriptToken],
 ) -> Result<(Step, &[ScriptToken]), ReadError>
-    ensures { Gives (λ x. (x.0, x.1.now)) result (create_reader tokens.now) }
+    ensures { ReadsAs (λ x. (x.0, x.1.now)) result (create_reader tokens.now) }
 {
     let (_, rest) = any_of(tokens, ScriptKind::Target)?;
     let (_, rest) = any_of(rest, ScriptKind::Dot)?;

@@ -1,9 +1,9 @@
 // Steps that insert facts. The rule is learned from the first token that has it.
 ghost use Rattle.std.specs.Prelude.{◌≡◌};
-ghost use Rattle.dx_grammar.specs.Readers.{Gives};
+ghost use Rattle.dx_grammar.specs.Readers.{ReadsAs};
 ghost use Rattle.dx_grammar.specs.Numbers.{always, knowing, with_front_known};
 ghost use Rattle.dx_script_text.specs.Grammar.{is_comma};
-ghost use Rattle.dx_script_tokens.specs.Numbers.{greatest};
+ghost use Rattle.dx_script_tokens.specs.Numbers.{greatest_number};
 ghost use Rattle.dx_script_text.specs.Reading.{text_out_reader, column_out_reader, skolem_tail_reader, skolem_reader, out_reader, comma_out, outs_reader, insert_end_reader, insert_tail_reader, insert_reader};
 
 use crate::tokens::{any_of, is_of, next_of, rule_of, table_of};
@@ -15,7 +15,7 @@ use std::alloc::Global;
 
 #[tactic(auto, unfolding(crate::specs::Reading::text_out_reader))]
 fn text_out(tokens: &[ScriptToken]) -> Result<(Out, &[ScriptToken]), ReadError>
-    ensures { Gives (λ x. (x.0, x.1.now)) result (text_out_reader tokens.now) }
+    ensures { ReadsAs (λ x. (x.0, x.1.now)) result (text_out_reader tokens.now) }
 {
     let (text, rest) = any_of(tokens, ScriptKind::Text)?;
     Ok((Out::Literal(text.text.copy()?), rest))
@@ -23,7 +23,7 @@ fn text_out(tokens: &[ScriptToken]) -> Result<(Out, &[ScriptToken]), ReadError>
 
 #[tactic(auto, unfolding(crate::specs::Reading::column_out_reader))]
 fn column_out(tokens: &[ScriptToken]) -> Result<(Out, &[ScriptToken]), ReadError>
-    ensures { Gives (λ x. (x.0, x.1.now)) result (column_out_reader tokens.now) }
+    ensures { ReadsAs (λ x. (x.0, x.1.now)) result (column_out_reader tokens.now) }
 {
     let (_, rest) = any_of(tokens, ScriptKind::Own)?;
     let (_, rest) = any_of(rest, ScriptKind::Dot)?;
@@ -33,7 +33,7 @@ fn column_out(tokens: &[ScriptToken]) -> Result<(Out, &[ScriptToken]), ReadError
 
 #[tactic(auto, unfolding(crate::specs::Reading::skolem_tail_reader))]
 fn skolem_tail(tokens: &[ScriptToken]) -> Result<(u32, &[ScriptToken]), ReadError>
-    ensures { Gives (λ x. (x.0, x.1.now)) result (skolem_tail_reader tokens.now) }
+    ensures { ReadsAs (λ x. (x.0, x.1.now)) result (skolem_tail_reader tokens.now) }
 {
     let (_, rest) = any_of(tokens, ScriptKind::Comma)?;
     let (variable, rest) = any_of(rest, ScriptKind::Number)?;
@@ -50,7 +50,7 @@ fn skolem_out(
     known: Option<u32>,
     tokens: &[ScriptToken],
 ) -> Result<(Out, Option<u32>, &[ScriptToken]), ReadError>
-    ensures { Gives (λ x. ((x.0, x.1), x.2.now)) result (skolem_reader greatest known tokens.now) }
+    ensures { ReadsAs (λ x. ((x.0, x.1), x.2.now)) result (skolem_reader greatest_number known tokens.now) }
 {
     let (_, rest) = any_of(tokens, ScriptKind::Skolem)?;
     let (_, rest) = any_of(rest, ScriptKind::Open)?;
@@ -63,7 +63,7 @@ fn plain_text(
     known: Option<u32>,
     tokens: &[ScriptToken],
 ) -> Result<(Out, Option<u32>, &[ScriptToken]), ReadError>
-    ensures { Gives (λ x. ((x.0, x.1), x.2.now)) result (always text_out_reader known tokens.now) }
+    ensures { ReadsAs (λ x. ((x.0, x.1), x.2.now)) result (always text_out_reader known tokens.now) }
 {
     let (out, rest) = text_out(tokens)?;
     Ok((out, known, rest))
@@ -73,7 +73,7 @@ fn plain_column(
     known: Option<u32>,
     tokens: &[ScriptToken],
 ) -> Result<(Out, Option<u32>, &[ScriptToken]), ReadError>
-    ensures { Gives (λ x. ((x.0, x.1), x.2.now)) result (always column_out_reader known tokens.now) }
+    ensures { ReadsAs (λ x. ((x.0, x.1), x.2.now)) result (always column_out_reader known tokens.now) }
 {
     let (out, rest) = column_out(tokens)?;
     Ok((out, known, rest))
@@ -84,7 +84,7 @@ fn out(
     known: Option<u32>,
     tokens: &[ScriptToken],
 ) -> Result<(Out, Option<u32>, &[ScriptToken]), ReadError>
-    ensures { Gives (λ x. ((x.0, x.1), x.2.now)) result (out_reader greatest known tokens.now) }
+    ensures { ReadsAs (λ x. ((x.0, x.1), x.2.now)) result (out_reader greatest_number known tokens.now) }
 {
     if next_of(tokens, ScriptKind::Text) {
         plain_text(known, tokens)
@@ -100,7 +100,7 @@ fn next_out(
     known: Option<u32>,
     tokens: &[ScriptToken],
 ) -> Result<(Out, Option<u32>, &[ScriptToken]), ReadError>
-    ensures { Gives (λ x. ((x.0, x.1), x.2.now)) result (comma_out greatest known tokens.now) }
+    ensures { ReadsAs (λ x. ((x.0, x.1), x.2.now)) result (comma_out greatest_number known tokens.now) }
 {
     let (_, rest) = any_of(tokens, ScriptKind::Comma)?;
     out(known, rest)
@@ -112,7 +112,7 @@ fn more_outs(
     first: Option<u32>,
     tokens: &[ScriptToken],
 ) -> Result<(Items<Out>, Option<u32>, &[ScriptToken]), ReadError>
-    ensures { Gives (λ x. ((x.0, x.1), x.2.now)) result (with_front_known all (knowing is_comma (comma_out greatest) first tokens.now)) }
+    ensures { ReadsAs (λ x. ((x.0, x.1), x.2.now)) result (with_front_known all (knowing is_comma (comma_out greatest_number) first tokens.now)) }
 {
     let mut all = all;
     let mut known = first;
@@ -132,7 +132,7 @@ fn outs(
     known: Option<u32>,
     tokens: &[ScriptToken],
 ) -> Result<(Items<Out>, Option<u32>, &[ScriptToken]), ReadError>
-    ensures { Gives (λ x. ((x.0, x.1), x.2.now)) result (outs_reader greatest known tokens.now) }
+    ensures { ReadsAs (λ x. ((x.0, x.1), x.2.now)) result (outs_reader greatest_number known tokens.now) }
 {
     let (first, known, rest) = out(known, tokens)?;
     let mut all = Items::new(alloc);
@@ -142,7 +142,7 @@ fn outs(
 
 #[tactic(auto, unfolding(crate::specs::Reading::insert_end_reader))]
 fn insert_end(tokens: &[ScriptToken]) -> Result<((), &[ScriptToken]), ReadError>
-    ensures { Gives (λ x. (x.0, x.1.now)) result (insert_end_reader tokens.now) }
+    ensures { ReadsAs (λ x. (x.0, x.1.now)) result (insert_end_reader tokens.now) }
 {
     let (_, rest) = any_of(tokens, ScriptKind::As)?;
     let (_, rest) = any_of(rest, ScriptKind::Own)?;
@@ -157,7 +157,7 @@ fn insert_tail(
     known: Option<u32>,
     tokens: &[ScriptToken],
 ) -> Result<(Step, Option<u32>, &[ScriptToken]), ReadError>
-    ensures { Gives (λ x. ((x.0, x.1), x.2.now)) result (insert_tail_reader greatest table known tokens.now) }
+    ensures { ReadsAs (λ x. ((x.0, x.1), x.2.now)) result (insert_tail_reader greatest_number table known tokens.now) }
 {
     let (cells, known, rest) = outs(alloc, known, tokens)?;
     let (_, rest) = any_of(rest, ScriptKind::From)?;
@@ -178,7 +178,7 @@ pub(crate) fn insert_rows(
     alloc: Global,
     tokens: &[ScriptToken],
 ) -> Result<(Step, &[ScriptToken]), ReadError>
-    ensures { Gives (λ x. (x.0, x.1.now)) result (insert_reader greatest tokens.now) }
+    ensures { ReadsAs (λ x. (x.0, x.1.now)) result (insert_reader greatest_number tokens.now) }
 {
     let (_, rest) = any_of(tokens, ScriptKind::Insert)?;
     let (_, rest) = any_of(rest, ScriptKind::Into)?;

@@ -1,9 +1,9 @@
 // Steps that keep matches of a rule.
 ghost use Rattle.std.specs.Prelude.{◌≡◌};
-ghost use Rattle.dx_grammar.specs.Readers.{many, with_front, Gives};
+ghost use Rattle.dx_grammar.specs.Readers.{many, with_front, ReadsAs};
 ghost use Rattle.dx_grammar.specs.Lists.{past, list_reader};
 ghost use Rattle.dx_script_text.specs.Grammar.{is_and};
-ghost use Rattle.dx_script_tokens.specs.Numbers.{greatest};
+ghost use Rattle.dx_script_tokens.specs.Numbers.{greatest_number};
 ghost use Rattle.dx_script_text.specs.Reading.{columns_reader, text_reader, test_reader, tests_reader, optional_tests, unless_reader, keep_tail_reader, keep_reader};
 
 use crate::tokens::{any_of, next_of, rule_of, that};
@@ -15,7 +15,7 @@ use std::alloc::Global;
 
 #[tactic(auto, unfolding(crate::specs::Reading::columns_reader))]
 fn columns_test(tokens: &[ScriptToken]) -> Result<(Test, &[ScriptToken]), ReadError>
-    ensures { Gives (λ x. (x.0, x.1.now)) result (columns_reader tokens.now) }
+    ensures { ReadsAs (λ x. (x.0, x.1.now)) result (columns_reader tokens.now) }
 {
     let (_, rest) = any_of(tokens, ScriptKind::Other)?;
     let (_, rest) = any_of(rest, ScriptKind::Dot)?;
@@ -33,7 +33,7 @@ fn columns_test(tokens: &[ScriptToken]) -> Result<(Test, &[ScriptToken]), ReadEr
 
 #[tactic(auto, unfolding(crate::specs::Reading::text_reader))]
 fn text_test(tokens: &[ScriptToken]) -> Result<(Test, &[ScriptToken]), ReadError>
-    ensures { Gives (λ x. (x.0, x.1.now)) result (text_reader tokens.now) }
+    ensures { ReadsAs (λ x. (x.0, x.1.now)) result (text_reader tokens.now) }
 {
     let (_, rest) = any_of(tokens, ScriptKind::Own)?;
     let (_, rest) = any_of(rest, ScriptKind::Dot)?;
@@ -49,7 +49,7 @@ fn text_test(tokens: &[ScriptToken]) -> Result<(Test, &[ScriptToken]), ReadError
 
 #[tactic(auto, unfolding(crate::specs::Reading::test_reader))]
 fn test(tokens: &[ScriptToken]) -> Result<(Test, &[ScriptToken]), ReadError>
-    ensures { Gives (λ x. (x.0, x.1.now)) result (test_reader tokens.now) }
+    ensures { ReadsAs (λ x. (x.0, x.1.now)) result (test_reader tokens.now) }
 {
     if next_of(tokens, ScriptKind::Other) {
         columns_test(tokens)
@@ -59,7 +59,7 @@ fn test(tokens: &[ScriptToken]) -> Result<(Test, &[ScriptToken]), ReadError>
 }
 
 fn and_test(tokens: &[ScriptToken]) -> Result<(Test, &[ScriptToken]), ReadError>
-    ensures { Gives (λ x. (x.0, x.1.now)) result (past is_and test_reader tokens.now) }
+    ensures { ReadsAs (λ x. (x.0, x.1.now)) result (past is_and test_reader tokens.now) }
 {
     let (_, rest) = any_of(tokens, ScriptKind::And)?;
     test(rest)
@@ -70,7 +70,7 @@ fn more_tests(
     all: Items<Test>,
     tokens: &[ScriptToken],
 ) -> Result<(Items<Test>, &[ScriptToken]), ReadError>
-    ensures { Gives (λ x. (x.0, x.1.now)) result (with_front all (many is_and (past is_and test_reader) tokens.now)) }
+    ensures { ReadsAs (λ x. (x.0, x.1.now)) result (with_front all (many is_and (past is_and test_reader) tokens.now)) }
 {
     let mut all = all;
     let mut rest = tokens;
@@ -84,7 +84,7 @@ fn more_tests(
 
 #[tactic(auto, unfolding(crate::specs::Reading::tests_reader))]
 fn tests(alloc: Global, tokens: &[ScriptToken]) -> Result<(Items<Test>, &[ScriptToken]), ReadError>
-    ensures { Gives (λ x. (x.0, x.1.now)) result (tests_reader tokens.now) }
+    ensures { ReadsAs (λ x. (x.0, x.1.now)) result (tests_reader tokens.now) }
 {
     let (_, rest) = any_of(tokens, ScriptKind::Where)?;
     let (first, rest) = test(rest)?;
@@ -98,7 +98,7 @@ fn where_tests(
     alloc: Global,
     tokens: &[ScriptToken],
 ) -> Result<(Items<Test>, &[ScriptToken]), ReadError>
-    ensures { Gives (λ x. (x.0, x.1.now)) result (optional_tests tokens.now) }
+    ensures { ReadsAs (λ x. (x.0, x.1.now)) result (optional_tests tokens.now) }
 {
     if next_of(tokens, ScriptKind::Where) {
         tests(alloc, tokens)
@@ -109,7 +109,7 @@ fn where_tests(
 
 #[tactic(auto, unfolding(crate::specs::Reading::unless_reader))]
 fn unless(alloc: Global, tokens: &[ScriptToken]) -> Result<(Unless, &[ScriptToken]), ReadError>
-    ensures { Gives (λ x. (x.0, x.1.now)) result (unless_reader tokens.now) }
+    ensures { ReadsAs (λ x. (x.0, x.1.now)) result (unless_reader tokens.now) }
 {
     let (_, rest) = any_of(tokens, ScriptKind::Not)?;
     let (_, rest) = any_of(rest, ScriptKind::Exists)?;
@@ -130,7 +130,7 @@ fn unless(alloc: Global, tokens: &[ScriptToken]) -> Result<(Unless, &[ScriptToke
 }
 
 fn and_unless(alloc: Global, tokens: &[ScriptToken]) -> Result<(Unless, &[ScriptToken]), ReadError>
-    ensures { Gives (λ x. (x.0, x.1.now)) result (past is_and unless_reader tokens.now) }
+    ensures { ReadsAs (λ x. (x.0, x.1.now)) result (past is_and unless_reader tokens.now) }
 {
     let (_, rest) = any_of(tokens, ScriptKind::And)?;
     unless(alloc, rest)
@@ -142,7 +142,7 @@ fn more_unless(
     all: Items<Unless>,
     tokens: &[ScriptToken],
 ) -> Result<(Items<Unless>, &[ScriptToken]), ReadError>
-    ensures { Gives (λ x. (x.0, x.1.now)) result (with_front all (many is_and (past is_and unless_reader) tokens.now)) }
+    ensures { ReadsAs (λ x. (x.0, x.1.now)) result (with_front all (many is_and (past is_and unless_reader) tokens.now)) }
 {
     let mut all = all;
     let mut rest = tokens;
@@ -158,7 +158,7 @@ fn all_unless(
     alloc: Global,
     tokens: &[ScriptToken],
 ) -> Result<(Items<Unless>, &[ScriptToken]), ReadError>
-    ensures { Gives (λ x. (x.0, x.1.now)) result (list_reader is_and unless_reader tokens.now) }
+    ensures { ReadsAs (λ x. (x.0, x.1.now)) result (list_reader is_and unless_reader tokens.now) }
 {
     let (first, rest) = unless(alloc, tokens)?;
     let mut all = Items::new(alloc);
@@ -172,7 +172,7 @@ fn keep_tail(
     rule: u32,
     tokens: &[ScriptToken],
 ) -> Result<(Step, &[ScriptToken]), ReadError>
-    ensures { Gives (λ x. (x.0, x.1.now)) result (keep_tail_reader rule tokens.now) }
+    ensures { ReadsAs (λ x. (x.0, x.1.now)) result (keep_tail_reader rule tokens.now) }
 {
     let (_, rest) = any_of(tokens, ScriptKind::As)?;
     let (_, rest) = any_of(rest, ScriptKind::Select)?;
@@ -187,13 +187,13 @@ fn keep_tail(
     Ok((Step::KeepRows { rule, unless }, rest))
 }
 
-/// What stands after `ScriptKind::Create ScriptKind::Table` where matches are kept.
+/// What stands after `ScriptKind::Create ScriptKind::Table` if matches are kept.
 #[tactic(auto, unfolding(crate::specs::Reading::keep_reader))]
 pub(crate) fn keep_rows(
     alloc: Global,
     tokens: &[ScriptToken],
 ) -> Result<(Step, &[ScriptToken]), ReadError>
-    ensures { Gives (λ x. (x.0, x.1.now)) result (keep_reader greatest tokens.now) }
+    ensures { ReadsAs (λ x. (x.0, x.1.now)) result (keep_reader greatest_number tokens.now) }
 {
     let (table, rest) = rule_of(tokens, ScriptKind::Keep, None)?;
     keep_tail(alloc, table.number, rest)

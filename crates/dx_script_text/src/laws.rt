@@ -1,5 +1,5 @@
 // The laws of scripts' texts. The definitions alone carry them: no body computes anything.
-ghost use Rattle.dx_script_text.specs.Laws.{NeverBoth, OneFault, OneScript, ScriptOrFault, StartsAreSpelled, TextsAreSpelled};
+ghost use Rattle.dx_script_text.specs.Laws.{NeverScriptAndFault, OneScriptFault, OneScript, ScriptOrFault, StartsAreSpelled, TextsAreSpelled};
 
 /// The texts of the grammar are the token lists that spell a script, and its starts are the fronts of these.
 pub fn a_script_is_spelled()

@@ -1,11 +1,11 @@
 // Steps that match a rule.
 ghost use Rattle.std.specs.Prelude.{ℕ, List};
 ghost use Rattle.dx_script.specs.declared.form.Select.{Select as Chosen};
-ghost use Rattle.dx_grammar.specs.Readers.{many, with_front, Gives};
+ghost use Rattle.dx_grammar.specs.Readers.{many, with_front, ReadsAs};
 ghost use Rattle.dx_grammar.specs.Lists.{past, list_reader};
 ghost use Rattle.dx_script_text.specs.Grammar.{is_comma, is_and};
-ghost use Rattle.dx_script_tokens.specs.Numbers.{greatest};
-ghost use Rattle.dx_script_text.specs.Reading.{cell_reader, call_reader, cell_value_reader, value_reader, item_reader, comma_item, items_reader, no_items, select_reader, source_reader, comma_source, sources_reader, and_counted, equal_reader, equals_reader, where_reader, match_step, matched_reader, match_reader};
+ghost use Rattle.dx_script_tokens.specs.Numbers.{greatest_number};
+ghost use Rattle.dx_script_text.specs.Reading.{alias_cell_reader, select_call_reader, cell_value_reader, value_reader, select_item_reader, comma_item, items_reader, no_items, select_reader, from_source_reader, comma_source, sources_reader, and_counted, equal_reader, equals_reader, where_clause_reader, match_step_of, matched_reader, match_reader};
 
 use crate::tokens::{any_of, next_counts, next_has, next_of, that};
 use dx_grammar::ReadError;
@@ -16,7 +16,7 @@ use std::alloc::Global;
 
 #[tactic(auto, unfolding(crate::specs::Reading::cell_reader))]
 fn cell(tokens: &[ScriptToken]) -> Result<(CellRef, &[ScriptToken]), ReadError>
-    ensures { Gives (λ x. (x.0, x.1.now)) result (cell_reader tokens.now) }
+    ensures { ReadsAs (λ x. (x.0, x.1.now)) result (alias_cell_reader tokens.now) }
 {
     let (alias, rest) = any_of(tokens, ScriptKind::Alias)?;
     let (_, rest) = any_of(rest, ScriptKind::Dot)?;
@@ -29,7 +29,7 @@ fn cell(tokens: &[ScriptToken]) -> Result<(CellRef, &[ScriptToken]), ReadError>
 }
 
 fn comma_cell(tokens: &[ScriptToken]) -> Result<(CellRef, &[ScriptToken]), ReadError>
-    ensures { Gives (λ x. (x.0, x.1.now)) result (past is_comma cell_reader tokens.now) }
+    ensures { ReadsAs (λ x. (x.0, x.1.now)) result (past is_comma alias_cell_reader tokens.now) }
 {
     let (_, rest) = any_of(tokens, ScriptKind::Comma)?;
     cell(rest)
@@ -40,7 +40,7 @@ fn more_cells(
     all: Items<CellRef>,
     tokens: &[ScriptToken],
 ) -> Result<(Items<CellRef>, &[ScriptToken]), ReadError>
-    ensures { Gives (λ x. (x.0, x.1.now)) result (with_front all (many is_comma (past is_comma cell_reader) tokens.now)) }
+    ensures { ReadsAs (λ x. (x.0, x.1.now)) result (with_front all (many is_comma (past is_comma alias_cell_reader) tokens.now)) }
 {
     let mut all = all;
     let mut rest = tokens;
@@ -56,7 +56,7 @@ fn cells(
     alloc: Global,
     tokens: &[ScriptToken],
 ) -> Result<(Items<CellRef>, &[ScriptToken]), ReadError>
-    ensures { Gives (λ x. (x.0, x.1.now)) result (list_reader is_comma cell_reader tokens.now) }
+    ensures { ReadsAs (λ x. (x.0, x.1.now)) result (list_reader is_comma alias_cell_reader tokens.now) }
 {
     let (first, rest) = cell(tokens)?;
     let mut all = Items::new(alloc);
@@ -66,7 +66,7 @@ fn cells(
 
 #[tactic(auto, unfolding(crate::specs::Reading::call_reader))]
 fn call(alloc: Global, tokens: &[ScriptToken]) -> Result<(Select, &[ScriptToken]), ReadError>
-    ensures { Gives (λ x. (x.0, x.1.now)) result (call_reader tokens.now) }
+    ensures { ReadsAs (λ x. (x.0, x.1.now)) result (select_call_reader tokens.now) }
 {
     let (name, rest) = any_of(tokens, ScriptKind::Name)?;
     let (_, rest) = any_of(rest, ScriptKind::Open)?;
@@ -81,7 +81,7 @@ fn call(alloc: Global, tokens: &[ScriptToken]) -> Result<(Select, &[ScriptToken]
 
 #[tactic(auto, unfolding(crate::specs::Reading::cell_value_reader))]
 fn cell_value(tokens: &[ScriptToken]) -> Result<(Select, &[ScriptToken]), ReadError>
-    ensures { Gives (λ x. (x.0, x.1.now)) result (cell_value_reader tokens.now) }
+    ensures { ReadsAs (λ x. (x.0, x.1.now)) result (cell_value_reader tokens.now) }
 {
     let (cell, rest) = cell(tokens)?;
     Ok((Select::Cell(cell), rest))
@@ -89,7 +89,7 @@ fn cell_value(tokens: &[ScriptToken]) -> Result<(Select, &[ScriptToken]), ReadEr
 
 #[tactic(auto, unfolding(crate::specs::Reading::value_reader))]
 fn value(alloc: Global, tokens: &[ScriptToken]) -> Result<(Select, &[ScriptToken]), ReadError>
-    ensures { Gives (λ x. (x.0, x.1.now)) result (value_reader tokens.now) }
+    ensures { ReadsAs (λ x. (x.0, x.1.now)) result (value_reader tokens.now) }
 {
     if next_of(tokens, ScriptKind::Alias) {
         cell_value(tokens)
@@ -104,7 +104,7 @@ fn item(
     number: u32,
     tokens: &[ScriptToken],
 ) -> Result<(Select, &[ScriptToken]), ReadError>
-    ensures { Gives (λ x. (x.0, x.1.now)) result (item_reader number tokens.now) }
+    ensures { ReadsAs (λ x. (x.0, x.1.now)) result (select_item_reader number tokens.now) }
 {
     let (value, rest) = value(alloc, tokens)?;
     let (_, rest) = any_of(rest, ScriptKind::As)?;
@@ -118,7 +118,7 @@ fn next_item(
     number: u32,
     tokens: &[ScriptToken],
 ) -> Result<(Select, &[ScriptToken]), ReadError>
-    ensures { Gives (λ x. (x.0, x.1.now)) result (comma_item number tokens.now) }
+    ensures { ReadsAs (λ x. (x.0, x.1.now)) result (comma_item number tokens.now) }
 {
     let (_, rest) = any_of(tokens, ScriptKind::Comma)?;
     item(alloc, number, rest)
@@ -130,7 +130,7 @@ fn more_items(
     all: Items<Select>,
     tokens: &[ScriptToken],
 ) -> Result<(Items<Select>, &[ScriptToken]), ReadError>
-    ensures { Gives (λ x. (x.0, x.1.now)) result (and_counted comma_item all tokens.now) }
+    ensures { ReadsAs (λ x. (x.0, x.1.now)) result (and_counted comma_item all tokens.now) }
 {
     let mut all = all;
     let mut rest = tokens;
@@ -147,7 +147,7 @@ fn items(
     alloc: Global,
     tokens: &[ScriptToken],
 ) -> Result<(Items<Select>, &[ScriptToken]), ReadError>
-    ensures { Gives (λ x. (x.0, x.1.now)) result (items_reader greatest tokens.now) }
+    ensures { ReadsAs (λ x. (x.0, x.1.now)) result (items_reader greatest_number tokens.now) }
 {
     let (first, rest) = item(alloc, 0, tokens)?;
     let mut all = Items::new(alloc);
@@ -160,7 +160,7 @@ fn no_item(
     alloc: Global,
     tokens: &[ScriptToken],
 ) -> Result<(Items<Select>, &[ScriptToken]), ReadError>
-    ensures { Gives (λ x. (x.0, x.1.now)) result (no_items tokens.now) }
+    ensures { ReadsAs (λ x. (x.0, x.1.now)) result (no_items tokens.now) }
 {
     let (_, rest) = that(tokens, ScriptKind::Number, 1)?;
     Ok((Items::new(alloc), rest))
@@ -171,7 +171,7 @@ fn select(
     alloc: Global,
     tokens: &[ScriptToken],
 ) -> Result<(Items<Select>, &[ScriptToken]), ReadError>
-    ensures { Gives (λ x. (x.0, x.1.now)) result (select_reader greatest tokens.now) }
+    ensures { ReadsAs (λ x. (x.0, x.1.now)) result (select_reader greatest_number tokens.now) }
 {
     if next_has(tokens, ScriptKind::Number, 1) {
         no_item(alloc, tokens)
@@ -182,7 +182,7 @@ fn select(
 
 #[tactic(auto, unfolding(crate::specs::Reading::source_reader))]
 fn source(number: u32, tokens: &[ScriptToken]) -> Result<(Text, &[ScriptToken]), ReadError>
-    ensures { Gives (λ x. (x.0, x.1.now)) result (source_reader number tokens.now) }
+    ensures { ReadsAs (λ x. (x.0, x.1.now)) result (from_source_reader number tokens.now) }
 {
     let (_, rest) = any_of(tokens, ScriptKind::Source)?;
     let (_, rest) = any_of(rest, ScriptKind::Dot)?;
@@ -194,7 +194,7 @@ fn source(number: u32, tokens: &[ScriptToken]) -> Result<(Text, &[ScriptToken]),
 
 #[tactic(auto, unfolding(crate::specs::Reading::comma_source))]
 fn next_source(number: u32, tokens: &[ScriptToken]) -> Result<(Text, &[ScriptToken]), ReadError>
-    ensures { Gives (λ x. (x.0, x.1.now)) result (comma_source number tokens.now) }
+    ensures { ReadsAs (λ x. (x.0, x.1.now)) result (comma_source number tokens.now) }
 {
     let (_, rest) = any_of(tokens, ScriptKind::Comma)?;
     source(number, rest)
@@ -205,7 +205,7 @@ fn more_sources(
     all: Items<Text>,
     tokens: &[ScriptToken],
 ) -> Result<(Items<Text>, &[ScriptToken]), ReadError>
-    ensures { Gives (λ x. (x.0, x.1.now)) result (and_counted comma_source all tokens.now) }
+    ensures { ReadsAs (λ x. (x.0, x.1.now)) result (and_counted comma_source all tokens.now) }
 {
     let mut all = all;
     let mut rest = tokens;
@@ -222,7 +222,7 @@ fn sources(
     alloc: Global,
     tokens: &[ScriptToken],
 ) -> Result<(Items<Text>, &[ScriptToken]), ReadError>
-    ensures { Gives (λ x. (x.0, x.1.now)) result (sources_reader greatest tokens.now) }
+    ensures { ReadsAs (λ x. (x.0, x.1.now)) result (sources_reader greatest_number tokens.now) }
 {
     let (first, rest) = source(0, tokens)?;
     let mut all = Items::new(alloc);
@@ -232,7 +232,7 @@ fn sources(
 
 #[tactic(auto, unfolding(crate::specs::Reading::equal_reader))]
 fn equal(tokens: &[ScriptToken]) -> Result<(Equal, &[ScriptToken]), ReadError>
-    ensures { Gives (λ x. (x.0, x.1.now)) result (equal_reader tokens.now) }
+    ensures { ReadsAs (λ x. (x.0, x.1.now)) result (equal_reader tokens.now) }
 {
     let (left, rest) = cell(tokens)?;
     let (_, rest) = any_of(rest, ScriptKind::Equal)?;
@@ -241,7 +241,7 @@ fn equal(tokens: &[ScriptToken]) -> Result<(Equal, &[ScriptToken]), ReadError>
 }
 
 fn and_equal(tokens: &[ScriptToken]) -> Result<(Equal, &[ScriptToken]), ReadError>
-    ensures { Gives (λ x. (x.0, x.1.now)) result (past is_and equal_reader tokens.now) }
+    ensures { ReadsAs (λ x. (x.0, x.1.now)) result (past is_and equal_reader tokens.now) }
 {
     let (_, rest) = any_of(tokens, ScriptKind::And)?;
     equal(rest)
@@ -252,7 +252,7 @@ fn more_equal(
     all: Items<Equal>,
     tokens: &[ScriptToken],
 ) -> Result<(Items<Equal>, &[ScriptToken]), ReadError>
-    ensures { Gives (λ x. (x.0, x.1.now)) result (with_front all (many is_and (past is_and equal_reader) tokens.now)) }
+    ensures { ReadsAs (λ x. (x.0, x.1.now)) result (with_front all (many is_and (past is_and equal_reader) tokens.now)) }
 {
     let mut all = all;
     let mut rest = tokens;
@@ -269,7 +269,7 @@ fn equals(
     alloc: Global,
     tokens: &[ScriptToken],
 ) -> Result<(Items<Equal>, &[ScriptToken]), ReadError>
-    ensures { Gives (λ x. (x.0, x.1.now)) result (equals_reader tokens.now) }
+    ensures { ReadsAs (λ x. (x.0, x.1.now)) result (equals_reader tokens.now) }
 {
     let (_, rest) = any_of(tokens, ScriptKind::Where)?;
     let (first, rest) = equal(rest)?;
@@ -283,7 +283,7 @@ fn where_part(
     alloc: Global,
     tokens: &[ScriptToken],
 ) -> Result<(Items<Equal>, &[ScriptToken]), ReadError>
-    ensures { Gives (λ x. (x.0, x.1.now)) result (where_reader tokens.now) }
+    ensures { ReadsAs (λ x. (x.0, x.1.now)) result (where_clause_reader tokens.now) }
 {
     if next_of(tokens, ScriptKind::Where) {
         equals(alloc, tokens)
@@ -299,7 +299,7 @@ fn matched(
     tokens: &[ScriptToken],
 ) -> Result<(Items<Text>, Items<Equal>, &[ScriptToken]), ReadError>
     ensures { (r : ℕ) (select : List Chosen)
-        → Gives (λ x. (match_step r select x.0 x.1, x.2.now)) result (matched_reader greatest r select tokens.now) }
+        → ReadsAs (λ x. (match_step_of r select x.0 x.1, x.2.now)) result (matched_reader greatest_number r select tokens.now) }
 {
     let (sources, rest) = sources(alloc, tokens)?;
     let (equal, rest) = where_part(alloc, rest)?;
@@ -307,13 +307,13 @@ fn matched(
     Ok((sources, equal, rest))
 }
 
-/// What stands after `ScriptKind::Create ScriptKind::Table` where a rule is matched.
+/// What stands after `ScriptKind::Create ScriptKind::Table` if a rule is matched.
 #[tactic(auto, unfolding(crate::specs::Reading::match_reader))]
 pub(crate) fn match_rows(
     alloc: Global,
     tokens: &[ScriptToken],
 ) -> Result<(Step, &[ScriptToken]), ReadError>
-    ensures { Gives (λ x. (x.0, x.1.now)) result (match_reader greatest tokens.now) }
+    ensures { ReadsAs (λ x. (x.0, x.1.now)) result (match_reader greatest_number tokens.now) }
 {
     let (table, rest) = any_of(tokens, ScriptKind::Match)?;
     let (_, rest) = any_of(rest, ScriptKind::As)?;

@@ -1,6 +1,6 @@
 // The text of steps that keep matches of a rule.
 ghost use Rattle.std.specs.Prelude.{◌≡◌, ◌++◌, OnOk, codes, map, string_bytes};
-ghost use Rattle.dx_script_text.specs.Print.{keep_text, parted, test_text, unless_text, where_text};
+ghost use Rattle.dx_script_text.specs.Print.{keep_text, parted, test_text, unless_text, where_clause_text};
 
 use crate::print_names::push_quoted;
 use dx_script::{Test, Unless};
@@ -25,7 +25,7 @@ fn push_test(test: &Test, out: &mut String) -> Result<(), AllocError>
 
 // The tests of a partner, after WHERE. Nothing if there is none.
 fn push_tests(tests: &[Test], out: &mut String) -> Result<(), AllocError>
-    ensures { OnOk result (string_bytes out.new ≡ string_bytes out.old ++ where_text (map test_text tests.now)) }
+    ensures { OnOk result (string_bytes out.new ≡ string_bytes out.old ++ where_clause_text (map test_text tests.now)) }
 {
     let Some((first, others)) = tests.split_first() else {
         return Ok(());

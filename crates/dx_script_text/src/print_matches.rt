@@ -1,6 +1,6 @@
 // The text of steps that match a rule.
 ghost use Rattle.std.specs.Prelude.{◌≡◌, ◌++◌, OnOk, codes, map, string_bytes};
-ghost use Rattle.dx_script_text.specs.Print.{call_text, cell_text, equal_text, item_text, match_text, numbered, parted, select_text, source_text, value_text, where_text};
+ghost use Rattle.dx_script_text.specs.Print.{call_text, cell_ref_text, equal_text, item_text, match_text, texts_from, parted, select_text, source_alias_text, value_text, where_clause_text};
 
 use crate::print_names::push_name;
 use dx_ports::{Items, Text};
@@ -10,7 +10,7 @@ use std::fmt::Write;
 
 // A cell of an alias.
 fn push_cell(cell: &CellRef, out: &mut String) -> Result<(), AllocError>
-    ensures { OnOk result (string_bytes out.new ≡ string_bytes out.old ++ cell_text cell.now) }
+    ensures { OnOk result (string_bytes out.new ≡ string_bytes out.old ++ cell_ref_text cell.now) }
 {
     write!(out, "a{}.", cell.alias)?;
     push_name(&cell.column, out)
@@ -18,7 +18,7 @@ fn push_cell(cell: &CellRef, out: &mut String) -> Result<(), AllocError>
 
 // Cells, parted by a comma and a space.
 fn push_cells(cells: &[CellRef], out: &mut String) -> Result<(), AllocError>
-    ensures { OnOk result (string_bytes out.new ≡ string_bytes out.old ++ parted (codes ", ") (map cell_text cells.now)) }
+    ensures { OnOk result (string_bytes out.new ≡ string_bytes out.old ++ parted (codes ", ") (map cell_ref_text cells.now)) }
 {
     let Some((cell, others)) = cells.split_first() else {
         return Ok(());
@@ -81,7 +81,7 @@ fn push_select(select: &[Select], out: &mut String) -> Result<(), AllocError>
 
 // The source table with this alias.
 fn push_source(number: u64, table: &Text, out: &mut String) -> Result<(), AllocError>
-    ensures { OnOk result (string_bytes out.new ≡ string_bytes out.old ++ source_text number table.now) }
+    ensures { OnOk result (string_bytes out.new ≡ string_bytes out.old ++ source_alias_text number table.now) }
 {
     out.push_str("source.")?;
     push_name(table, out)?;
@@ -91,7 +91,7 @@ fn push_source(number: u64, table: &Text, out: &mut String) -> Result<(), AllocE
 
 // The source tables, parted by a comma and a space.
 fn push_sources(sources: &[Text], out: &mut String) -> Result<(), AllocError>
-    ensures { OnOk result (string_bytes out.new ≡ string_bytes out.old ++ parted (codes ", ") (numbered source_text 0 sources.now)) }
+    ensures { OnOk result (string_bytes out.new ≡ string_bytes out.old ++ parted (codes ", ") (texts_from source_alias_text 0 sources.now)) }
 {
     let Some((first, others)) = sources.split_first() else {
         return Ok(());
@@ -117,7 +117,7 @@ fn push_equal(equal: &Equal, out: &mut String) -> Result<(), AllocError>
 
 // What is equal, after WHERE. Nothing if there is nothing.
 fn push_where(equal: &[Equal], out: &mut String) -> Result<(), AllocError>
-    ensures { OnOk result (string_bytes out.new ≡ string_bytes out.old ++ where_text (map equal_text equal.now)) }
+    ensures { OnOk result (string_bytes out.new ≡ string_bytes out.old ++ where_clause_text (map equal_text equal.now)) }
 {
     let Some((first, others)) = equal.split_first() else {
         return Ok(());

@@ -1,7 +1,7 @@
 // Names in double quotes, and texts in single quotes.
 ghost use Rattle.std.specs.Prelude.{◌≡◌, ◌++◌, OnOk, encode_utf8, string_bytes};
 ghost use Rattle.dx_script_text.specs.Print.{name_text};
-ghost use Rattle.dx_script_tokens.specs.Quoted.{doubled, quoted};
+ghost use Rattle.dx_script_tokens.specs.Quoted.{doubled, single_quoted};
 
 use dx_ports::Text;
 use std::alloc::AllocError;
@@ -28,7 +28,7 @@ fn push_doubled(character: char, out: &mut String) -> Result<(), AllocError>
 
 /// Appends a text in single quotes, with each single quote of the text doubled.
 pub(crate) fn push_quoted(text: &str, out: &mut String) -> Result<(), AllocError>
-    ensures { OnOk result (string_bytes out.new ≡ string_bytes out.old ++ quoted text.now) }
+    ensures { OnOk result (string_bytes out.new ≡ string_bytes out.old ++ single_quoted text.now) }
 {
     out.push('\'')?;
     for character in text.chars() {

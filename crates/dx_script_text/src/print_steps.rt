@@ -1,6 +1,6 @@
 // The text of scripts.
 ghost use Rattle.std.specs.Prelude.{◌≡◌, ◌++◌, IfOk, OnOk, codes, map, string_bytes};
-ghost use Rattle.dx_script_text.specs.Printable.{IsPrintable};
+ghost use Rattle.dx_script_text.specs.Printable.{IsPrintableScript};
 ghost use Rattle.dx_script_text.specs.Texts.{IsScriptText};
 ghost use Rattle.dx_script_text.specs.Print.{create_text, declared_text, parted, script_text, step_text};
 
@@ -77,7 +77,7 @@ fn push_step(step: &Step, out: &mut String) -> Result<(), AllocError>
 /// `AllocError` if there is no memory.
 pub fn print_script(alloc: Global, script: &Script) -> Result<Text, AllocError>
     ensures text { IfOk result (λ t. t ≡ script_text script.now) }
-    ensures read_again { IfOk result (λ t. IsPrintable script.now → IsScriptText t script.now) }
+    ensures read_again { IfOk result (λ t. IsPrintableScript script.now → IsScriptText t script.now) }
 {
     let mut out = String::new(alloc);
     for step in script.steps.items() {

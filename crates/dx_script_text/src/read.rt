@@ -1,11 +1,11 @@
 // A script's text, read with its first fault.
 ghost use Rattle.std.specs.Prelude.{◌≡◌, ◌++◌, ◌-◌, ◌<◌, ◌≤◌, length, IfOk, IfErr};
-ghost use Rattle.dx_grammar.specs.Readers.{many, next_is, whole, Gives};
+ghost use Rattle.dx_grammar.specs.Readers.{many, next_is, whole, ReadsAs};
 ghost use Rattle.dx_tokens.specs.Judged.{Reads};
 ghost use Rattle.dx_tokens.specs.declared.faults.TextFault.TheVariants.{At};
 ghost use Rattle.dx_tokens.specs.declared.faults.TextKind.TheVariants.{Expected};
-ghost use Rattle.dx_script_tokens.specs.Numbers.{greatest};
-ghost use Rattle.dx_script_text.specs.Texts.{begun_in, fault_in, place_of, told_of, read_text, IsScriptText, IsToldFault, AnswersScript, AnswersFault};
+ghost use Rattle.dx_script_tokens.specs.Numbers.{greatest_number};
+ghost use Rattle.dx_script_text.specs.Texts.{script_begun_in, script_fault_in, script_token_place, script_of_tokens, script_of_text, IsScriptText, IsScriptFaultOrMemory, AnswersScript, AnswersScriptFault};
 ghost use Rattle.dx_script_text.specs.Reading.{table_reader, created_reader, step_reader, begins_step, script_reader};
 
 use crate::creates::create;
@@ -22,7 +22,7 @@ use std::alloc::{AllocError, Global};
 
 #[tactic(auto, unfolding(crate::specs::Reading::table_reader))]
 fn table(alloc: Global, tokens: &[ScriptToken]) -> Result<(Step, &[ScriptToken]), ReadError>
-    ensures { Gives (λ x. (x.0, x.1.now)) result (table_reader greatest tokens.now) }
+    ensures { ReadsAs (λ x. (x.0, x.1.now)) result (table_reader greatest_number tokens.now) }
 {
     if next_of(tokens, ScriptKind::Target) {
         create(alloc, tokens)
@@ -35,7 +35,7 @@ fn table(alloc: Global, tokens: &[ScriptToken]) -> Result<(Step, &[ScriptToken])
 
 #[tactic(auto, unfolding(crate::specs::Reading::created_reader))]
 fn created(alloc: Global, tokens: &[ScriptToken]) -> Result<(Step, &[ScriptToken]), ReadError>
-    ensures { Gives (λ x. (x.0, x.1.now)) result (created_reader greatest tokens.now) }
+    ensures { ReadsAs (λ x. (x.0, x.1.now)) result (created_reader greatest_number tokens.now) }
 {
     let (_, rest) = any_of(tokens, ScriptKind::Create)?;
     let (_, rest) = any_of(rest, ScriptKind::Table)?;
@@ -44,7 +44,7 @@ fn created(alloc: Global, tokens: &[ScriptToken]) -> Result<(Step, &[ScriptToken
 
 #[tactic(auto, unfolding(crate::specs::Reading::step_reader))]
 fn step(alloc: Global, tokens: &[ScriptToken]) -> Result<(Step, &[ScriptToken]), ReadError>
-    ensures { Gives (λ x. (x.0, x.1.now)) result (step_reader greatest tokens.now) }
+    ensures { ReadsAs (λ x. (x.0, x.1.now)) result (step_reader greatest_number tokens.now) }
 {
     if next_of(tokens, ScriptKind::Create) {
         created(alloc, tokens)
@@ -61,7 +61,7 @@ fn next_is_step(tokens: &[ScriptToken]) -> bool
 
 #[tactic(auto, unfolding(crate::specs::Reading::script_reader))]
 fn steps(alloc: Global, tokens: &[ScriptToken]) -> Result<(Items<Step>, &[ScriptToken]), ReadError>
-    ensures { Gives (λ x. (x.0, x.1.now)) result (many begins_step (step_reader greatest) tokens.now) }
+    ensures { ReadsAs (λ x. (x.0, x.1.now)) result (many begins_step (step_reader greatest_number) tokens.now) }
 {
     let mut all = Items::new(alloc);
     let mut rest = tokens;
@@ -75,7 +75,7 @@ fn steps(alloc: Global, tokens: &[ScriptToken]) -> Result<(Items<Step>, &[Script
 
 #[tactic(auto, unfolding(crate::specs::Reading::script_reader))]
 fn whole_script(alloc: Global, tokens: &[ScriptToken]) -> Result<Items<Step>, ReadError>
-    ensures { Gives (λ x. x) result (whole (script_reader greatest) tokens.now) }
+    ensures { ReadsAs (λ x. x) result (whole (script_reader greatest_number) tokens.now) }
 {
     let (steps, rest) = steps(alloc, tokens)?;
     nothing_left(rest)?;
@@ -84,8 +84,8 @@ fn whole_script(alloc: Global, tokens: &[ScriptToken]) -> Result<Items<Step>, Re
 
 // The tokens that are judged one after the other, and the token fault at which they stop.
 fn judged(scan: ScriptScan) -> Result<(Items<ScriptToken>, Option<(u64, TextKind)>), AllocError>
-    ensures tokens { IfOk result (λ x. x.0 ≡ scan.tokens ++ begun_in scan.stop) }
-    ensures stop { IfOk result (λ x. x.1 ≡ fault_in scan.stop) }
+    ensures tokens { IfOk result (λ x. x.0 ≡ scan.tokens ++ script_begun_in scan.stop) }
+    ensures stop { IfOk result (λ x. x.1 ≡ script_fault_in scan.stop) }
 {
     let ScriptScan { tokens, stop } = scan;
     let mut tokens = tokens;
@@ -104,7 +104,7 @@ fn judged(scan: ScriptScan) -> Result<(Items<ScriptToken>, Option<(u64, TextKind
 fn fault_at(tokens: &[ScriptToken], left: usize) -> TextFault
     requires some { 0 < left }
     requires inside { left ≤ length tokens.now }
-    ensures { result ≡ At (place_of tokens.now (length tokens.now - left)) Expected }
+    ensures { result ≡ At (script_token_place tokens.now (length tokens.now - left)) Expected }
 {
     TextFault::At {
         place: tokens[tokens.len() - left].place,
@@ -119,7 +119,7 @@ fn script_of(
     stop: Option<(u64, TextKind)>,
     tokens: &[ScriptToken],
 ) -> Result<Script, TextFault>
-    ensures { Reads result (told_of end stop tokens.now) }
+    ensures { Reads result (script_of_tokens end stop tokens.now) }
 {
     match whole_script(alloc, tokens) {
         Ok(steps) => match stop {
@@ -133,7 +133,7 @@ fn script_of(
 }
 
 fn read(alloc: Global, text: &[u8]) -> Result<Script, TextFault>
-    ensures { Reads result (read_text text.now) }
+    ensures { Reads result (script_of_text text.now) }
 {
     let (tokens, stop) = judged(scan_script(alloc, text)?)?;
     script_of(alloc, text.len() as u64, stop, tokens.items())
@@ -144,17 +144,17 @@ fn read(alloc: Global, text: &[u8]) -> Result<Script, TextFault>
 /// # Errors
 ///
 /// `At` with the place of the first fault: `Character` at a byte that can't stand there, `Expected` at the first byte of a
-/// token that can't, `Ended` at the end of the text where it ends too early. `Memory` where memory runs out.
+/// token that can't, `Ended` at the end of the text if it ends too early. `Memory` if memory runs out.
 pub fn read_script(alloc: Global, text: &[u8]) -> Result<Script, TextFault>
-    ensures value { Reads result (read_text text.now) }
+    ensures value { Reads result (script_of_text text.now) }
 
     // What is read is what the text says, and what it says is read.
     ensures script { IfOk result (IsScriptText text.now) }
     ensures script_only { AnswersScript text.now result }
 
     // A refusal is the text's first fault, and its first fault is refused.
-    ensures fault { IfErr result (IsToldFault text.now) }
-    ensures fault_only { AnswersFault text.now result }
+    ensures fault { IfErr result (IsScriptFaultOrMemory text.now) }
+    ensures fault_only { AnswersScriptFault text.now result }
 {
     read(alloc, text)
 }

@@ -1,7 +1,7 @@
 // The first tokens of a list.
 ghost use Rattle.std.specs.Prelude.{◌≡◌};
-ghost use Rattle.dx_grammar.specs.Readers.{token, next_is, Gives};
-ghost use Rattle.dx_grammar.specs.Numbers.{counts_on, has_number, may_be, numbered};
+ghost use Rattle.dx_grammar.specs.Readers.{token, next_is, ReadsAs};
+ghost use Rattle.dx_grammar.specs.Numbers.{counts_on, has_number, may_be, passes_with_number};
 ghost use Rattle.dx_script_text.specs.Grammar.{of_kind, is_comma, is_table, number as number_of};
 
 use dx_grammar::ReadError;
@@ -55,7 +55,7 @@ pub(crate) fn any_of(
     tokens: &[ScriptToken],
     kind: ScriptKind,
 ) -> Result<(&ScriptToken, &[ScriptToken]), ReadError>
-    ensures { Gives (λ x. (x.0.now, x.1.now)) result (token (of_kind kind) tokens.now) }
+    ensures { ReadsAs (λ x. (x.0.now, x.1.now)) result (token (of_kind kind) tokens.now) }
 {
     match tokens.split_first() {
         Some((first, rest)) if is_of(first, kind) => Ok((first, rest)),
@@ -70,7 +70,7 @@ pub(crate) fn that(
     kind: ScriptKind,
     number: u32,
 ) -> Result<(&ScriptToken, &[ScriptToken]), ReadError>
-    ensures { Gives (λ x. (x.0.now, x.1.now)) result (token (has_number (of_kind kind) number_of number) tokens.now) }
+    ensures { ReadsAs (λ x. (x.0.now, x.1.now)) result (token (has_number (of_kind kind) number_of number) tokens.now) }
 {
     match tokens.split_first() {
         Some((first, rest)) if has(first, kind, number) => Ok((first, rest)),
@@ -90,13 +90,13 @@ fn may(known: Option<u32>, number: u32) -> bool
 }
 
 fn may_have(token: &ScriptToken, kind: ScriptKind, known: Option<u32>) -> bool
-    ensures { result ≡ numbered (of_kind kind) number_of 4294967295 known token.now }
+    ensures { result ≡ passes_with_number (of_kind kind) number_of 4294967295 known token.now }
 {
     is_of(token, kind) && may(known, token.number)
 }
 
 fn may_be_table(token: &ScriptToken, known: Option<u32>) -> bool
-    ensures { result ≡ numbered is_table number_of 4294967295 known token.now }
+    ensures { result ≡ passes_with_number is_table number_of 4294967295 known token.now }
 {
     (is_of(token, ScriptKind::Match) || is_of(token, ScriptKind::Keep)) && may(known, token.number)
 }
@@ -107,7 +107,7 @@ pub(crate) fn rule_of(
     kind: ScriptKind,
     known: Option<u32>,
 ) -> Result<(&ScriptToken, &[ScriptToken]), ReadError>
-    ensures { Gives (λ x. (x.0.now, x.1.now)) result (token (numbered (of_kind kind) number_of 4294967295 known) tokens.now) }
+    ensures { ReadsAs (λ x. (x.0.now, x.1.now)) result (token (passes_with_number (of_kind kind) number_of 4294967295 known) tokens.now) }
 {
     match tokens.split_first() {
         Some((first, rest)) if may_have(first, kind, known) => Ok((first, rest)),
@@ -121,7 +121,7 @@ pub(crate) fn table_of(
     tokens: &[ScriptToken],
     known: Option<u32>,
 ) -> Result<(&ScriptToken, &[ScriptToken]), ReadError>
-    ensures { Gives (λ x. (x.0.now, x.1.now)) result (token (numbered is_table number_of 4294967295 known) tokens.now) }
+    ensures { ReadsAs (λ x. (x.0.now, x.1.now)) result (token (passes_with_number is_table number_of 4294967295 known) tokens.now) }
 {
     match tokens.split_first() {
         Some((first, rest)) if may_be_table(first, known) => Ok((first, rest)),

@@ -7,7 +7,7 @@ use Rattle.std.proofs.lemmas.Fmt.{decimal_by_steps}
 use Rattle.std.proofs.lemmas.List.{length-append}
 use Rattle.dx_tokens.specs.Tokens.{is_digit}
 use Rattle.dx_tokens.proofs.Lexed.{AllPass, StopsAt}
-use Rattle.dx_script_tokens.specs.Numbers.{greatest, with_digit, longer, more_step, more_digits, number_at, numeral_of}
+use Rattle.dx_script_tokens.specs.Numbers.{greatest_number, with_digit, longer, more_step, more_digits, number_at, numeral_of}
 use Rattle.dx_script_tokens.proofs.Digits.{past}
 
 past_longer : (len : ℕ) (p : ℕ × ℕ) → longer (past len p) ≡ past (suc len) p
@@ -60,16 +60,16 @@ all_append (x ∷ xs) d all e = (all.0, all_append xs d all.1 e)
 digit_is : (x : ℕ) → x < 10 → is_digit (48 + x) ≡ true
 digit_is x l = grind (arith, nat_tests)
 
-le_test : (k : ℕ) → k ≤ greatest → nat_le k greatest ≡ true
+le_test : (k : ℕ) → k ≤ greatest_number → nat_le k greatest_number ≡ true
 le_test k le = grind (arith, nat_tests)
 
-one_digit : (m x : ℕ) → x < 10 → 10 * m + x ≤ greatest → more_digits m ((48 + x) ∷ []) ≡ (1, 10 * m + x)
+one_digit : (m x : ℕ) → x < 10 → 10 * m + x ≤ greatest_number → more_digits m ((48 + x) ∷ []) ≡ (1, 10 * m + x)
 unfolding more_digits
 one_digit m x l le =
     let value : 48 + x - 48 ≡ x = omega arith in
     rw (digit_is x l, value, le_test (10 * m + x) le) refl
 
-first_step : (m : ℕ) → m < 10 → m ≤ greatest → IsDecimal m ((48 + m) ∷ [])
+first_step : (m : ℕ) → m < 10 → m ≤ greatest_number → IsDecimal m ((48 + m) ∷ [])
 unfolding more_digits
 first_step m l le = record {
   first = 48 + m;
@@ -82,7 +82,7 @@ first_step m l le = record {
   value = ap (λ (n : ℕ). (0, n)) (omega arith);
 }
 
-next_step : (m : ℕ) (ds : List ℕ) → 10 ≤ m → m ≤ greatest → IsDecimal (m / 10) ds → IsDecimal m (ds ++ (48 + m % 10) ∷ [])
+next_step : (m : ℕ) (ds : List ℕ) → 10 ≤ m → m ≤ greatest_number → IsDecimal (m / 10) ds → IsDecimal m (ds ++ (48 + m % 10) ∷ [])
 next_step m ds l le d =
     let some : 0 < m / 10 = omega arith in
     let whole : 10 * (m / 10) + m % 10 ≡ m = omega arith in
@@ -98,8 +98,8 @@ next_step m ds l le d =
       value = more_append (d.first - 48) (m / 10) d.others ((48 + m % 10) ∷ []) d.value ∙ ap (past (length d.others)) last ∙ ap (λ (n : ℕ). (n, m)) (sym (length-append d.others ((48 + m % 10) ∷ [])));
     }
 
-pub decimal_read : (n : ℕ) → n ≤ greatest → IsDecimal n (decimal n)
-decimal_read n le = decimal_by_steps (λ m ds. m ≤ greatest → IsDecimal m ds) (λ m l h. first_step m l h) (λ m ds l h le. next_step m ds l le (h (omega (arith, le)))) n (omega (arith, le)) le
+pub decimal_read : (n : ℕ) → n ≤ greatest_number → IsDecimal n (decimal n)
+decimal_read n le = decimal_by_steps (λ m ds. m ≤ greatest_number → IsDecimal m ds) (λ m l h. first_step m l h) (λ m ds l h le. next_step m ds l le (h (omega (arith, le)))) n (omega (arith, le)) le
 
 -- the number that its first digit begins, if no digit is after it
 zero_is : (k : ℕ) → ¬ (0 < k) → 0 ≡ k

@@ -9,8 +9,8 @@ use Rattle.dx_script_tokens.specs.declared.scanner.ScriptToken.{ScriptToken}
 use Rattle.dx_script_tokens.specs.declared.scanner.ScriptScan.{ScriptScan}
 use Rattle.dx_script_tokens.specs.Numbers.{more_digits, numeral_of}
 use Rattle.dx_script_tokens.specs.Kinds.{numbered_word, small_word, inner_word, word_says}
-use Rattle.dx_script_tokens.specs.Pieces.{text_item, text_from, piece_at}
-use Rattle.dx_script_tokens.specs.Scan.{scan_from, scan_of}
+use Rattle.dx_script_tokens.specs.Pieces.{text_item, text_from, script_piece_at}
+use Rattle.dx_script_tokens.specs.Scan.{script_scan_from, script_scan_of}
 
 -- a word or a mark without a number, one with a number, and a name or a text
 abbrev plain : ℕ → ScriptKind → ScriptToken
@@ -30,8 +30,8 @@ faulty tokens place kind begun = record { tokens = tokens; stop = Some (record {
 
 -- the scan of a text
 scanned : List ℕ → ScriptScan
-unfolding scan_from piece_at text_from text_item wide_at word_says inner_word small_word numbered_word numeral_of more_digits
-scanned text = scan_of text
+unfolding script_scan_from script_piece_at text_from text_item wide_at word_says inner_word small_word numbered_word numeral_of more_digits
+scanned text = script_scan_of text
 
 -- ---- words, marks and numbers
 

@@ -8,8 +8,8 @@ use Rattle.dx_script_tokens.specs.declared.pieces.Shape.{Shape}
 use Rattle.dx_script_tokens.specs.declared.pieces.Piece.TheVariants as pieces
 use Rattle.dx_script_tokens.specs.declared.scanner.ScriptToken.{ScriptToken}
 use Rattle.dx_script_tokens.specs.declared.scanner.ScriptStop.{ScriptStop}
-use Rattle.dx_script_tokens.specs.Scan.{scan_from, stopped, token_of, with_token, with_tokens}
-use Rattle.dx_script_tokens.specs.Lexing.{IsTokenText, Span, Lexes, nothing, blank, token, IsFaulty, IsTokensOrFault, token_said, begun_of, LexedIsScanned, FaultyIsScanned}
+use Rattle.dx_script_tokens.specs.Scan.{script_scan_from, script_stopped, token_of, with_token, with_tokens}
+use Rattle.dx_script_tokens.specs.Lexing.{IsScriptTokenText, Span, LexesScript, nothing, blank, token, BeginsScriptFault, IsScriptTokensOrFault, token_said, script_begun_of, ScriptTokensAreScanned, ScriptFaultIsScanned}
 use Rattle.dx_script_tokens.proofs.Standing.{blank_past, token_past}
 use Rattle.dx_script_tokens.proofs.Meanings as means
 use Rattle.dx_script_tokens.proofs.Meanings.{StopsBehind, PieceMeans, piece_means, FaultyPiece, faulty_piece, none_left, token_first, token_piece, longest, longest_stops, stops_ends}
@@ -17,14 +17,14 @@ use Rattle.dx_script_tokens.proofs.Meanings.{StopsBehind, PieceMeans, piece_mean
 -- ---- tokens are scanned
 
 -- a token that is written is scanned as that token
-token_scanned : (shape : Shape) (w after : List ℕ) (place : ℕ) → IsTokenText shape w → StopsBehind shape w after → scan_from 0 place (w ++ after) ≡ with_token (token_of place shape w) (scan_from 0 (place + length w) after)
+token_scanned : (shape : Shape) (w after : List ℕ) (place : ℕ) → IsScriptTokenText shape w → StopsBehind shape w after → script_scan_from 0 place (w ++ after) ≡ with_token (token_of place shape w) (script_scan_from 0 (place + length w) after)
 token_scanned shape w after place form stops =
     let f = token_first shape w form in
     let cut : f.first ∷ (f.others ++ after) ≡ w ++ after = sym (ap (λ (x : List ℕ). x ++ after) f.splits) in
     let size : length w ≡ suc (length f.others) = ap length f.splits in
     let piece = token_piece shape w after f.first (f.others ++ after) form stops cut ∙ ap (λ (n : ℕ). pieces.Token shape n) size in
-    sym (ap (scan_from 0 place) cut) ∙ token_past shape place f.first f.others after piece
-    ∙ ap (λ (x : List ℕ). with_token (token_of place shape x) (scan_from 0 (place + length x) after)) (sym f.splits)
+    sym (ap (script_scan_from 0 place) cut) ∙ token_past shape place f.first f.others after piece
+    ∙ ap (λ (x : List ℕ). with_token (token_of place shape x) (script_scan_from 0 (place + length x) after)) (sym f.splits)
 
 -- the token's bytes in the text
 token_slice : (text front w rest : List ℕ) (place : ℕ) → text ≡ front ++ (w ++ rest) → length front ≡ place → slice_range text place (place + length w) ≡ w
@@ -36,32 +36,32 @@ token_slice text front w rest place e size =
 record ScanLeads (text : List ℕ) (place : ℕ) (left : List ℕ) (tokens : List Span) (behind : List ℕ) : Type 0 where
   there : ℕ
   adds_up : there + length behind ≡ place + length left
-  leads : scan_from 0 place left ≡ with_tokens (map (token_said text) tokens) (scan_from 0 there behind)
+  leads : script_scan_from 0 place left ≡ with_tokens (map (token_said text) tokens) (script_scan_from 0 there behind)
 
 further : (text front w rest left : List ℕ) → text ≡ front ++ left → left ≡ w ++ rest → text ≡ (front ++ w) ++ rest
 further text front w rest left e cut = e ∙ ap (λ (x : List ℕ). front ++ x) cut ∙ sym (append_assoc front w rest)
 
-scan_leads : (text front : List ℕ) (place : ℕ) (left : List ℕ) (tokens : List Span) (behind : List ℕ) → text ≡ front ++ left → length front ≡ place → Lexes place left tokens behind → ScanLeads text place left tokens behind
+scan_leads : (text front : List ℕ) (place : ℕ) (left : List ℕ) (tokens : List Span) (behind : List ℕ) → text ≡ front ++ left → length front ≡ place → LexesScript place left tokens behind → ScanLeads text place left tokens behind
 scan_leads text front place left tokens behind split size nothing = record { there = place; adds_up = refl; leads = refl }
 scan_leads text front place left tokens behind split size (blank {rest = rest} b t e on) =
     let l = scan_leads text (front ++ b ∷ []) (place + 1) rest tokens behind (further text front (b ∷ []) rest left split e) (length_push front b ∙ ap (λ (n : ℕ). n + 1) size) on in
-    let p : scan_from 0 place left ≡ scan_from 0 (place + 1) rest = ap (scan_from 0 place) e ∙ blank_past place b rest t in
+    let p : script_scan_from 0 place left ≡ script_scan_from 0 (place + 1) rest = ap (script_scan_from 0 place) e ∙ blank_past place b rest t in
     record { there = l.there; adds_up = omega (arith, l.adds_up, ap length e); leads = p ∙ l.leads }
 scan_leads text front place left tokens behind split size (token {rest = rest} {tokens = ts} shape w form long ends e on) =
     let l = scan_leads text (front ++ w) (place + length w) rest ts behind (further text front w rest left split e) (length-append front w ∙ ap (λ (n : ℕ). n + length w) size) on in
     let x : ScriptToken = token_of place shape w in
-    let p : scan_from 0 place left ≡ with_token x (scan_from 0 (place + length w) rest) =
-    ap (scan_from 0 place) e ∙ token_scanned shape w rest place form (longest_stops shape w rest left form e long ends) in
+    let p : script_scan_from 0 place left ≡ with_token x (script_scan_from 0 (place + length w) rest) =
+    ap (script_scan_from 0 place) e ∙ token_scanned shape w rest place form (longest_stops shape w rest left form e long ends) in
     let same : w ≡ slice_range text place (place + length w) = sym (token_slice text front w rest place (split ∙ ap (λ (y : List ℕ). front ++ y) e) size) in
-    let q : with_token x (with_tokens (map (token_said text) ts) (scan_from 0 l.there behind)) ≡ with_tokens (map (token_said text) (record { start = place; end = place + length w; shape = shape } ∷ ts)) (scan_from 0 l.there behind) =
-    ap (λ (y : List ℕ). with_token (token_of place shape y) (with_tokens (map (token_said text) ts) (scan_from 0 l.there behind))) same in
+    let q : with_token x (with_tokens (map (token_said text) ts) (script_scan_from 0 l.there behind)) ≡ with_tokens (map (token_said text) (record { start = place; end = place + length w; shape = shape } ∷ ts)) (script_scan_from 0 l.there behind) =
+    ap (λ (y : List ℕ). with_token (token_of place shape y) (with_tokens (map (token_said text) ts) (script_scan_from 0 l.there behind))) same in
     record { there = l.there; adds_up = omega (arith, l.adds_up, ap length e, length-append w rest); leads = p ∙ ap (with_token x) l.leads ∙ q }
 
-end_scanned : (place : ℕ) → scan_from 0 place [] ≡ record { tokens = []; stop = None }
-unfolding scan_from
+end_scanned : (place : ℕ) → script_scan_from 0 place [] ≡ record { tokens = []; stop = None }
+unfolding script_scan_from
 end_scanned place = refl
 
-pub lexed_is_scanned : (text : List ℕ) → LexedIsScanned text
+pub lexed_is_scanned : (text : List ℕ) → ScriptTokensAreScanned text
 lexed_is_scanned text tokens lexes =
     let l = scan_leads text [] 0 text tokens [] refl refl lexes in
     l.leads ∙ ap (with_tokens (map (token_said text) tokens)) (end_scanned l.there)
@@ -70,8 +70,8 @@ lexed_is_scanned text tokens lexes =
 -- ---- a fault stops the scan
 
 fault_scanned : (place b : ℕ) (rest : List ℕ) (offset : ℕ) (kind : TextKind) → FaultyPiece b rest offset kind
-    → scan_from 0 place (b ∷ rest) ≡ stopped (record { place = place + offset; kind = kind; begun = begun_of place (b ∷ rest) })
-unfolding scan_from
+    → script_scan_from 0 place (b ∷ rest) ≡ script_stopped (record { place = place + offset; kind = kind; begun = script_begun_of place (b ∷ rest) })
+unfolding script_scan_from
 fault_scanned place b rest offset Character p = rw p refl
 fault_scanned place b rest offset Ended p =
     let end : place + 1 + length rest ≡ place + offset = omega (arith, p.1) in
@@ -81,13 +81,13 @@ fault_scanned place b rest offset UnknownName p = absurd p
 fault_scanned place b rest offset Width p = absurd p
 fault_scanned place b rest offset Unsafe p = absurd p
 
-pub faulty_is_scanned : (text : List ℕ) → FaultyIsScanned text
+pub faulty_is_scanned : (text : List ℕ) → ScriptFaultIsScanned text
 faulty_is_scanned text tokens [] place offset kind lexes adds_up faulty = absurd (none_left offset kind faulty)
 faulty_is_scanned text tokens (b ∷ rest) place offset kind lexes adds_up faulty =
     let l = scan_leads text [] 0 text tokens (b ∷ rest) refl refl lexes in
     let here : l.there ≡ place = omega (arith, l.adds_up, adds_up) in
-    let stop : ScriptStop = record { place = place + offset; kind = kind; begun = begun_of place (b ∷ rest) } in
-    l.leads ∙ ap (λ (n : ℕ). with_tokens (map (token_said text) tokens) (scan_from 0 n (b ∷ rest))) here
+    let stop : ScriptStop = record { place = place + offset; kind = kind; begun = script_begun_of place (b ∷ rest) } in
+    l.leads ∙ ap (λ (n : ℕ). with_tokens (map (token_said text) tokens) (script_scan_from 0 n (b ∷ rest))) here
     ∙ ap (with_tokens (map (token_said text) tokens)) (fault_scanned place b rest offset kind (faulty_piece b rest offset kind faulty))
     ∙ ap (λ (xs : List ScriptToken). record { tokens = xs; stop = Some stop }) (append-nil (map (token_said text) tokens))
 
@@ -97,7 +97,7 @@ faulty_is_scanned text tokens (b ∷ rest) place offset kind lexes adds_up fault
 record IsFaultyAt (left : List ℕ) : Type 0 where
   offset : ℕ
   kind : TextKind
-  faulty : IsFaulty left offset kind
+  faulty : BeginsScriptFault left offset kind
 
 abbrev Stops : List ℕ → Type 0
 Stops [] = Unit {0}
@@ -107,7 +107,7 @@ Stops (b ∷ rest) = IsFaultyAt (b ∷ rest)
 record IsWalked (place : ℕ) (left : List ℕ) : Type 0 where
   tokens : List Span
   behind : List ℕ
-  lexes : Lexes place left tokens behind
+  lexes : LexesScript place left tokens behind
   stops : Stops behind
 
 walk_from : (fuel place : ℕ) (left : List ℕ) → length left ≤ fuel → IsWalked place left
@@ -131,10 +131,10 @@ walk_from (suc fuel) place (b ∷ rest) le = go (λ there bs. walk_from fuel the
         }
     go further (means.fault offset kind f p) = record { tokens = []; behind = b ∷ rest; lexes = nothing; stops = record { offset = offset; kind = kind; faulty = f } }
 
-pub tokens_or_fault : (text : List ℕ) → IsTokensOrFault text
+pub tokens_or_fault : (text : List ℕ) → IsScriptTokensOrFault text
 tokens_or_fault text = let w = walk_from (length text) 0 text (omega arith) in go w.tokens w.behind w.lexes w.stops
   where
-    go : (tokens : List Span) (behind : List ℕ) → Lexes 0 text tokens behind → Stops behind → IsTokensOrFault text
+    go : (tokens : List Span) (behind : List ℕ) → LexesScript 0 text tokens behind → Stops behind → IsScriptTokensOrFault text
     go tokens [] lexes stops = inl (tokens, lexes)
     go tokens (b ∷ rest) lexes stops =
         let l = scan_leads text [] 0 text tokens (b ∷ rest) refl refl lexes in

@@ -20,10 +20,10 @@ use Rattle.dx_script_tokens.specs.declared.pieces.Shape.{Shape}
 use Rattle.dx_script_tokens.specs.declared.pieces.Shape.TheVariants.{Word, Number, Name, Text, Mark}
 use Rattle.dx_script_tokens.specs.declared.pieces.Piece.TheVariants as pieces
 use Rattle.dx_script_tokens.specs.Numbers.{number_at}
-use Rattle.dx_script_tokens.specs.Kinds.{is_mark}
-use Rattle.dx_script_tokens.specs.Pieces.{name_at, piece_at, text_from}
+use Rattle.dx_script_tokens.specs.Kinds.{is_script_mark}
+use Rattle.dx_script_tokens.specs.Pieces.{name_at, script_piece_at, text_from}
 use Rattle.dx_script_tokens.specs.Quoted.{doubled}
-use Rattle.dx_script_tokens.specs.Lexing.{IsNameText, IsTokenText, IsLongest, Ends, BeginsNothing, IsNameFront, can_follow, IsNoCharacter, IsFaulty, no_token, bad_name, cut_name, bad_text, cut_text}
+use Rattle.dx_script_tokens.specs.Lexing.{IsNameText, IsScriptTokenText, IsLongestScriptToken, EndsText, BeginsNoScriptToken, IsNameFront, can_follow, BeginsNoCharacter, BeginsScriptFault, no_token, bad_name, cut_name, bad_text, cut_text}
 use Rattle.dx_script_tokens.proofs.Decimal.{decimal_read}
 use Rattle.dx_script_tokens.proofs.Numerals.{number_form, number_front}
 use Rattle.dx_script_tokens.proofs.QuotedTexts.{is_quote, quote_doubled, quote_ends, quoted_read, text_passed}
@@ -33,31 +33,31 @@ use Rattle.dx_script_tokens.proofs.Utf8.{text_read}
 
 -- ---- what stands at a byte
 
-pub blank_piece : (b : ℕ) (rest : List ℕ) → is_blank b ≡ true → piece_at b rest ≡ pieces.Blank
-unfolding piece_at
+pub blank_piece : (b : ℕ) (rest : List ℕ) → is_blank b ≡ true → script_piece_at b rest ≡ pieces.Blank
+unfolding script_piece_at
 blank_piece b rest e = rw e refl
 
-word_at : (b : ℕ) (rest : List ℕ) → is_word_start b ≡ true → piece_at b rest ≡ pieces.Token Word (1 + run is_word_byte rest)
-unfolding piece_at
+word_at : (b : ℕ) (rest : List ℕ) → is_word_start b ≡ true → script_piece_at b rest ≡ pieces.Token Word (1 + run is_word_byte rest)
+unfolding script_piece_at
 word_at b rest e = let n : is_blank b ≡ false = grind (arith, nat_tests) in rw (n, e) refl
 
-digit_at : (b : ℕ) (rest : List ℕ) → is_digit b ≡ true → piece_at b rest ≡ pieces.Token Number (number_at b rest).0
-unfolding piece_at
+digit_at : (b : ℕ) (rest : List ℕ) → is_digit b ≡ true → script_piece_at b rest ≡ pieces.Token Number (number_at b rest).0
+unfolding script_piece_at
 digit_at b rest e =
     let n : is_blank b ≡ false = grind (arith, nat_tests) in
     let m : is_word_start b ≡ false = grind (arith, nat_tests) in
     rw (n, m, e) refl
 
-name_is : (rest : List ℕ) → piece_at 34 rest ≡ name_at rest
-unfolding piece_at
+name_is : (rest : List ℕ) → script_piece_at 34 rest ≡ name_at rest
+unfolding script_piece_at
 name_is rest = refl
 
-text_is : (rest : List ℕ) → piece_at 39 rest ≡ text_from 0 1 rest
-unfolding piece_at
+text_is : (rest : List ℕ) → script_piece_at 39 rest ≡ text_from 0 1 rest
+unfolding script_piece_at
 text_is rest = refl
 
-other_fault : (b : ℕ) (rest : List ℕ) → is_blank b ≡ false → is_word_start b ≡ false → is_digit b ≡ false → is_mark b ≡ false → (b == 34) ≡ false → (b == 39) ≡ false → piece_at b rest ≡ pieces.Fault 0
-unfolding piece_at
+other_fault : (b : ℕ) (rest : List ℕ) → is_blank b ≡ false → is_word_start b ≡ false → is_digit b ≡ false → is_script_mark b ≡ false → (b == 34) ≡ false → (b == 39) ≡ false → script_piece_at b rest ≡ pieces.Fault 0
+unfolding script_piece_at
 other_fault b rest p q r s t u = rw (p, q, r, s, t, u) refl
 
 -- ---- tokens
@@ -75,7 +75,7 @@ pub record HasFirst (w : List ℕ) : Type 0 where
   pub others : List ℕ
   pub splits : w ≡ first ∷ others
 
-pub token_first : (shape : Shape) (w : List ℕ) → IsTokenText shape w → HasFirst w
+pub token_first : (shape : Shape) (w : List ℕ) → IsScriptTokenText shape w → HasFirst w
 token_first Word [] form = absurd form
 token_first Word (b ∷ bs) form = record { first = b; others = bs; splits = refl }
 token_first Number [] form = nothing form.0 form.1 form.2
@@ -88,12 +88,12 @@ token_first Text w form = record { first = 39; others = doubled form.0 ++ 39 ∷
 token_first Mark w form = record { first = form.0; others = []; splits = form.2 }
 
 -- a name is read at its quotation mark
-name_read : (name after : List ℕ) → IsNameText name → piece_at 34 ((name ++ 34 ∷ []) ++ after) ≡ pieces.Token Name (suc (length (name ++ 34 ∷ [])))
+name_read : (name after : List ℕ) → IsNameText name → script_piece_at 34 ((name ++ 34 ∷ []) ++ after) ≡ pieces.Token Name (suc (length (name ++ 34 ∷ [])))
 name_read [] after h = absurd h
 name_read (c ∷ cs) after h = name_piece c cs after (h.0, all_from is_word_byte cs h.1)
 
 -- a token that is spelled is the piece that stands there
-pub token_piece : (shape : Shape) (w after : List ℕ) (b : ℕ) (rest : List ℕ) → IsTokenText shape w → StopsBehind shape w after → b ∷ rest ≡ w ++ after → piece_at b rest ≡ pieces.Token shape (length w)
+pub token_piece : (shape : Shape) (w after : List ℕ) (b : ℕ) (rest : List ℕ) → IsScriptTokenText shape w → StopsBehind shape w after → b ∷ rest ≡ w ++ after → script_piece_at b rest ≡ pieces.Token shape (length w)
 token_piece Word [] after b rest form stops e = absurd form
 token_piece Word (c ∷ cs) after b rest form stops e =
     let first : b ≡ c = cc in
@@ -149,7 +149,7 @@ text_no_longer text (c ∷ after) shape len u e = elim (cases_eq c 39) [
 ]
 
 -- a token at the front is no longer than the token that is read there
-front_short : (kind shape : Shape) (w after : List ℕ) (b : ℕ) (rest : List ℕ) (len : ℕ) → IsTokenText kind w → b ∷ rest ≡ w ++ after → piece_at b rest ≡ pieces.Token shape len → length w ≤ len
+front_short : (kind shape : Shape) (w after : List ℕ) (b : ℕ) (rest : List ℕ) (len : ℕ) → IsScriptTokenText kind w → b ∷ rest ≡ w ++ after → script_piece_at b rest ≡ pieces.Token shape len → length w ≤ len
 front_short Word shape [] after b rest len form e p = absurd form
 front_short Word shape (c ∷ cs) after b rest len form e p =
     let first : c ≡ b = cc in
@@ -171,7 +171,7 @@ front_short Text shape w after b rest len form e p =
     let first : b ≡ 39 = cc in
     let others : rest ≡ (doubled form.0 ++ 39 ∷ []) ++ after = cc in
     let size : 2 + length (doubled form.0) ≡ length w = omega (arith, ap length form.2, length-append (doubled form.0) (39 ∷ [])) in
-    let at_quote : piece_at 39 rest ≡ pieces.Token shape len = subst (λ (x : ℕ). piece_at x rest ≡ pieces.Token shape len) first p in
+    let at_quote : script_piece_at 39 rest ≡ pieces.Token shape len = subst (λ (x : ℕ). script_piece_at x rest ≡ pieces.Token shape len) first p in
     let read : text_from 0 1 (doubled form.0 ++ 39 ∷ after) ≡ pieces.Token shape len =
     ap (text_from 0 1) (sym (others ∙ append_assoc (doubled form.0) (39 ∷ []) after)) ∙ (sym (text_is rest) ∙ at_quote) in
     let h = text_no_longer form.0 after shape len form.1 read in
@@ -180,12 +180,12 @@ front_short Mark shape w after b rest len form e p =
     let s = size_of Mark shape (length w) len (sym (token_piece Mark w after b rest form tt e) ∙ p) in omega (arith, s)
 
 -- a token that nothing lengthens is as long as it can be
-pub longest : (shape : Shape) (w after : List ℕ) (b : ℕ) (rest : List ℕ) → IsTokenText shape w → StopsBehind shape w after → b ∷ rest ≡ w ++ after → IsLongest w (b ∷ rest)
+pub longest : (shape : Shape) (w after : List ℕ) (b : ℕ) (rest : List ℕ) → IsScriptTokenText shape w → StopsBehind shape w after → b ∷ rest ≡ w ++ after → IsLongestScriptToken w (b ∷ rest)
 longest shape w after b rest form stops e kind longer more is split =
     front_short kind shape longer more b rest (length w) is split (token_piece shape w after b rest form stops e)
 
 -- and after it stands no quote that is doubled
-pub stops_ends : (shape : Shape) (w after : List ℕ) → StopsBehind shape w after → Ends shape after
+pub stops_ends : (shape : Shape) (w after : List ℕ) → StopsBehind shape w after → EndsText shape after
 stops_ends Word w after s = tt
 stops_ends Number w after s = tt
 stops_ends Name w after s = tt
@@ -197,13 +197,13 @@ word_more : (w : List ℕ) (c : ℕ) → IsWord w → is_word_byte c ≡ true �
 word_more [] c form e = absurd form
 word_more (b ∷ bs) c form e = (form.0, each_push bs c form.1 e)
 
-one_longer : (w rest left : List ℕ) (c : ℕ) → left ≡ w ++ c ∷ rest → IsLongest w left → ¬ (IsWord (w ++ c ∷ []))
+one_longer : (w rest left : List ℕ) (c : ℕ) → left ≡ w ++ c ∷ rest → IsLongestScriptToken w left → ¬ (IsWord (w ++ c ∷ []))
 one_longer w rest left c e long form =
     let more : length (w ++ c ∷ []) ≤ length w = long Word (w ++ c ∷ []) rest form (e ∙ sym (append_assoc w (c ∷ []) rest)) in
     absurd (omega (arith, more, length_push w c))
 
 -- after a token that is as long as it can be stands nothing that lengthens it
-pub longest_stops : (shape : Shape) (w after left : List ℕ) → IsTokenText shape w → left ≡ w ++ after → IsLongest w left → Ends shape after → StopsBehind shape w after
+pub longest_stops : (shape : Shape) (w after left : List ℕ) → IsScriptTokenText shape w → left ≡ w ++ after → IsLongestScriptToken w left → EndsText shape after → StopsBehind shape w after
 longest_stops Word w [] left form e long ends = tt
 longest_stops Word w (c ∷ after) left form e long ends = false_from_ne_true (is_word_byte c) (λ t. one_longer w after left c e long (word_more w c form t))
 longest_stops Number w after left form e long ends = λ b rest split.
@@ -225,12 +225,12 @@ longest_stops Mark w after left form e long ends = tt
 
 -- the piece of a fault
 abbrev pub FaultyPiece : ℕ → List ℕ → ℕ → TextKind → Type 0
-FaultyPiece b rest offset Character = piece_at b rest ≡ pieces.Fault offset
-FaultyPiece b rest offset Ended = (piece_at b rest ≡ pieces.Cut) × (offset ≡ 1 + length rest)
+FaultyPiece b rest offset Character = script_piece_at b rest ≡ pieces.Fault offset
+FaultyPiece b rest offset Ended = (script_piece_at b rest ≡ pieces.Cut) × (offset ≡ 1 + length rest)
 FaultyPiece b rest offset kind = ⊥
 
 -- no token is read where the piece is a fault
-no_token_at : (b : ℕ) (rest : List ℕ) → b ≢ 34 → b ≢ 39 → piece_at b rest ≡ pieces.Fault 0 → (shape : Shape) (w after : List ℕ) → IsTokenText shape w → ¬ (b ∷ rest ≡ w ++ after)
+no_token_at : (b : ℕ) (rest : List ℕ) → b ≢ 34 → b ≢ 39 → script_piece_at b rest ≡ pieces.Fault 0 → (shape : Shape) (w after : List ℕ) → IsScriptTokenText shape w → ¬ (b ∷ rest ≡ w ++ after)
 no_token_at b rest m n h Word [] after form e = form
 no_token_at b rest m n h Word (c ∷ cs) after form e =
     let first : c ≡ b = cc in
@@ -246,10 +246,10 @@ no_token_at b rest m n h Text w after form e =
     n (let first : b ≡ 39 = cc in first)
 no_token_at b rest m n h Mark w after form e = let p = token_piece Mark w after b rest form tt e in absurd (cc)
 
-fault_nothing : (b : ℕ) (rest : List ℕ) → b ≢ 34 → b ≢ 39 → piece_at b rest ≡ pieces.Fault 0 → BeginsNothing (b ∷ rest)
+fault_nothing : (b : ℕ) (rest : List ℕ) → b ≢ 34 → b ≢ 39 → script_piece_at b rest ≡ pieces.Fault 0 → BeginsNoScriptToken (b ∷ rest)
 fault_nothing b rest m n h = record {
   some_left = λ e. absurd (cc);
-  no_blank = λ c more t e. (let first : c ≡ b = cc in let p : piece_at b rest ≡ pieces.Blank = blank_piece b rest (rw (← first) t) in absurd (cc));
+  no_blank = λ c more t e. (let first : c ≡ b = cc in let p : script_piece_at b rest ≡ pieces.Blank = blank_piece b rest (rw (← first) t) in absurd (cc));
   no_token = λ shape w more form e. absurd (no_token_at b rest m n h shape w more form e);
   no_name = λ more e. m (let first : b ≡ 34 = cc in first);
   no_text = λ more e. n (let first : b ≡ 39 = cc in first);
@@ -295,10 +295,10 @@ cut_name_faulty : (front : List ℕ) (b : ℕ) (rest : List ℕ) → IsNameFront
 cut_name_faulty front b rest h e =
     let first : b ≡ 34 = cc in
     let others : rest ≡ front = cc in
-    let p : piece_at b rest ≡ pieces.Cut = rw (first, others) (name_is front ∙ cut_name_piece front h) in
+    let p : script_piece_at b rest ≡ pieces.Cut = rw (first, others) (name_is front ∙ cut_name_piece front h) in
     (p, omega arith)
 
-bad_text_faulty : (text behind : List ℕ) (b : ℕ) (rest : List ℕ) → IsUtf8 text → b ∷ rest ≡ 39 ∷ (doubled text ++ behind) → IsNoCharacter behind → FaultyPiece b rest (1 + length (doubled text)) Character
+bad_text_faulty : (text behind : List ℕ) (b : ℕ) (rest : List ℕ) → IsUtf8 text → b ∷ rest ≡ 39 ∷ (doubled text ++ behind) → BeginsNoCharacter behind → FaultyPiece b rest (1 + length (doubled text)) Character
 bad_text_faulty text behind b rest u e none =
     let first : b ≡ 39 = cc in
     let others : rest ≡ doubled text ++ behind = cc in
@@ -308,15 +308,15 @@ cut_text_faulty : (text behind more : List ℕ) (c b : ℕ) (rest : List ℕ) �
 cut_text_faulty text behind more c b rest u e ok f n =
     let first : b ≡ 39 = cc in
     let others : rest ≡ doubled text ++ behind = cc in
-    let p : piece_at b rest ≡ pieces.Cut = rw (first, others) (text_is (doubled text ++ behind) ∙ text_passed text u 1 behind ∙ cut_is_cut (1 + length (doubled text)) c behind more ok f n) in
+    let p : script_piece_at b rest ≡ pieces.Cut = rw (first, others) (text_is (doubled text ++ behind) ∙ text_passed text u 1 behind ∙ cut_is_cut (1 + length (doubled text)) c behind more ok f n) in
     (p, omega arith)
 
 -- ---- what a piece means
 
 pub data PieceMeans (b : ℕ) (rest : List ℕ) : Type 0 where
   blank : is_blank b ≡ true → PieceMeans b rest
-  token : (shape : Shape) (w after : List ℕ) → IsTokenText shape w → StopsBehind shape w after → b ∷ rest ≡ w ++ after → PieceMeans b rest
-  fault : (offset : ℕ) (kind : TextKind) → IsFaulty (b ∷ rest) offset kind → FaultyPiece b rest offset kind → PieceMeans b rest
+  token : (shape : Shape) (w after : List ℕ) → IsScriptTokenText shape w → StopsBehind shape w after → b ∷ rest ≡ w ++ after → PieceMeans b rest
+  fault : (offset : ℕ) (kind : TextKind) → BeginsScriptFault (b ∷ rest) offset kind → FaultyPiece b rest offset kind → PieceMeans b rest
 
 word_means : (b : ℕ) (rest : List ℕ) → is_word_start b ≡ true → PieceMeans b rest
 word_means b rest t = let r = prefix_split is_word_byte rest in token Word (b ∷ r.front) r.after (t, r.pass) r.stops (ap (λ (x : List ℕ). b ∷ x) r.splits)
@@ -375,7 +375,7 @@ piece_means b rest =
         | inl t ↦ word_means b rest t
         | inr q ↦ elim (cases_Bool (is_digit b)) [
           | inl t ↦ number_means b rest t
-          | inr r ↦ elim (cases_Bool (is_mark b)) [
+          | inr r ↦ elim (cases_Bool (is_script_mark b)) [
             | inl t ↦ token Mark (b ∷ []) rest (b, t, refl) tt refl
             | inr s ↦ elim (cases_Bool (b == 34)) [
               | inl t ↦ subst (λ (x : ℕ). PieceMeans x rest) (sym (eqb-true b 34 t)) (name_means rest)
@@ -391,23 +391,23 @@ piece_means b rest =
       ]
     ]
 
-from_fault : (b : ℕ) (rest : List ℕ) (offset : ℕ) (kind : TextKind) → BeginsNothing (b ∷ rest) → IsFaulty (b ∷ rest) offset kind → FaultyPiece b rest offset kind → piece_at b rest ≡ pieces.Fault 0
+from_fault : (b : ℕ) (rest : List ℕ) (offset : ℕ) (kind : TextKind) → BeginsNoScriptToken (b ∷ rest) → BeginsScriptFault (b ∷ rest) offset kind → FaultyPiece b rest offset kind → script_piece_at b rest ≡ pieces.Fault 0
 from_fault b rest offset kind none (no_token n) p = p
 from_fault b rest offset kind none (bad_name front c more h e f) p = absurd (none.no_name (front ++ c ∷ more) e)
 from_fault b rest offset kind none (cut_name front h e) p = absurd (none.no_name front e)
 from_fault b rest offset kind none (bad_text text behind u e n) p = absurd (none.no_text (doubled text ++ behind) e)
 from_fault b rest offset kind none (cut_text text behind more c u e ok f n) p = absurd (none.no_text (doubled text ++ behind) e)
 
-nothing_fault : (b : ℕ) (rest : List ℕ) → BeginsNothing (b ∷ rest) → piece_at b rest ≡ pieces.Fault 0
+nothing_fault : (b : ℕ) (rest : List ℕ) → BeginsNoScriptToken (b ∷ rest) → script_piece_at b rest ≡ pieces.Fault 0
 nothing_fault b rest none = go (piece_means b rest)
   where
-    go : PieceMeans b rest → piece_at b rest ≡ pieces.Fault 0
+    go : PieceMeans b rest → script_piece_at b rest ≡ pieces.Fault 0
     go (blank t) = absurd (none.no_blank b rest t refl)
     go (token shape w after form stops e) = absurd (none.no_token shape w after form e)
     go (fault offset kind f p) = from_fault b rest offset kind none f p
 
 -- a fault is the piece that stands there
-pub faulty_piece : (b : ℕ) (rest : List ℕ) (offset : ℕ) (kind : TextKind) → IsFaulty (b ∷ rest) offset kind → FaultyPiece b rest offset kind
+pub faulty_piece : (b : ℕ) (rest : List ℕ) (offset : ℕ) (kind : TextKind) → BeginsScriptFault (b ∷ rest) offset kind → FaultyPiece b rest offset kind
 faulty_piece b rest offset kind (no_token none) = nothing_fault b rest none
 faulty_piece b rest offset kind (bad_name front c more h e f) = bad_name_faulty front c more b rest h e f
 faulty_piece b rest offset kind (cut_name front h e) = cut_name_faulty front b rest h e
@@ -415,7 +415,7 @@ faulty_piece b rest offset kind (bad_text text behind u e none) = bad_text_fault
 faulty_piece b rest offset kind (cut_text text behind more c u e ok f n) = cut_text_faulty text behind more c b rest u e ok f n
 
 -- nothing is left, so nothing is at fault
-pub none_left : (offset : ℕ) (kind : TextKind) → ¬ (IsFaulty [] offset kind)
+pub none_left : (offset : ℕ) (kind : TextKind) → ¬ (BeginsScriptFault [] offset kind)
 none_left offset kind (no_token none) = none.some_left refl
 none_left offset kind (bad_name front c more h e f) = absurd (cc)
 none_left offset kind (cut_name front h e) = absurd (cc)

@@ -4,7 +4,7 @@ use Rattle.std.specs.Prelude.{◌↔◌, ◌==◌, IsTrue}
 use Rattle.std.proofs.lemmas.Bool.Decides.{Decides-eqb}
 use Rattle.dx_script_tokens.specs.declared.kinds.ScriptKind.{ScriptKind}
 use Rattle.dx_script_tokens.specs.declared.kinds.ScriptKind.TheVariants as kinds
-use Rattle.dx_script_tokens.specs.Kinds.{rank}
+use Rattle.dx_script_tokens.specs.Kinds.{kind_number}
 
 abbrev ranked : List ScriptKind
 ranked =
@@ -16,7 +16,7 @@ ranked =
 abbrev kind_ranked : ℕ → ScriptKind
 kind_ranked n = get_or ranked n kinds.Star
 
-of_rank : (k : ScriptKind) → kind_ranked (rank k) ≡ k
+of_rank : (k : ScriptKind) → kind_ranked (kind_number k) ≡ k
 of_rank kinds.Create = refl
 of_rank kinds.Table = refl
 of_rank kinds.Target = refl
@@ -52,10 +52,10 @@ of_rank kinds.Dot = refl
 of_rank kinds.Equal = refl
 of_rank kinds.Star = refl
 
-pub one_rank : (j k : ScriptKind) → rank j ≡ rank k → j ≡ k
+pub one_rank : (j k : ScriptKind) → kind_number j ≡ kind_number k → j ≡ k
 one_rank j k e = sym (of_rank j) ∙ (ap kind_ranked e ∙ of_rank k)
 
-pub same_kind : (b : Bool) (j k : ScriptKind) → b ≡ (rank j == rank k) → IsTrue b ↔ (j ≡ k)
+pub same_kind : (b : Bool) (j k : ScriptKind) → b ≡ (kind_number j == kind_number k) → IsTrue b ↔ (j ≡ k)
 same_kind b j k e =
-    let d = Decides-eqb (rank j) (rank k) in
-    (λ t. one_rank j k (d.0 (sym e ∙ t)), λ is. e ∙ d.1 (ap (λ i. rank i) is))
+    let d = Decides-eqb (kind_number j) (kind_number k) in
+    (λ t. one_rank j k (d.0 (sym e ∙ t)), λ is. e ∙ d.1 (ap (λ i. kind_number i) is))

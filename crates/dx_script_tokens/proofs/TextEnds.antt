@@ -17,7 +17,7 @@ use Rattle.dx_tokens.proofs.Unfinished.{item_bad, item_cut}
 use Rattle.dx_script_tokens.specs.declared.pieces.Piece.TheVariants as pieces
 use Rattle.dx_script_tokens.specs.Pieces.{text_item, text_from}
 use Rattle.dx_script_tokens.specs.Quoted.{doubled}
-use Rattle.dx_script_tokens.specs.Lexing.{IsNoCharacter}
+use Rattle.dx_script_tokens.specs.Lexing.{BeginsNoCharacter}
 use Rattle.dx_script_tokens.proofs.Doubled.{doubled-append, plain_character}
 use Rattle.dx_script_tokens.proofs.QuotedTexts.{is_quote, small_item, wide_is}
 
@@ -85,7 +85,7 @@ no_fault_begins b rest w (wide h i) = ((λ k g. (let s = wide_is b rest h in abs
 data Next (b : ℕ) (rest : List ℕ) : Type 0 where
   ends : b ≡ 39 → StopsAt is_quote rest → Next b rest
   goes : (x k : ℕ) → IsScalar x → 1 ≤ k → k ≤ 1 + length rest → take k (b ∷ rest) ≡ doubled (encode_utf8 x) → text_item b rest ≡ items.Whole k → Next b rest
-  bad : text_item b rest ≡ items.Bad 0 → IsNoCharacter (b ∷ rest) → Next b rest
+  bad : text_item b rest ≡ items.Bad 0 → BeginsNoCharacter (b ∷ rest) → Next b rest
   cut : (x : ℕ) (more : List ℕ) → IsScalar x → (b ∷ rest) ++ more ≡ encode_utf8 x → more ≢ [] → text_item b rest ≡ items.Cut → Next b rest
 
 scalar_quote : IsScalar 39
@@ -176,7 +176,7 @@ next b rest = elim (cases_eq b 39) [
 -- how a text goes on after its first single quote
 pub data TextMeans (rest : List ℕ) : Type 0 where
   whole : (text after : List ℕ) → IsUtf8 text → StopsAt is_quote after → rest ≡ doubled text ++ 39 ∷ after → TextMeans rest
-  faulty : (text behind : List ℕ) → IsUtf8 text → rest ≡ doubled text ++ behind → IsNoCharacter behind → TextMeans rest
+  faulty : (text behind : List ℕ) → IsUtf8 text → rest ≡ doubled text ++ behind → BeginsNoCharacter behind → TextMeans rest
   cut_off : (text behind more : List ℕ) (c : ℕ) → IsUtf8 text → rest ≡ doubled text ++ behind → IsScalar c → behind ++ more ≡ encode_utf8 c → more ≢ [] → TextMeans rest
 
 put_back : (x : ℕ) (text front behind bs rest : List ℕ) → bs ≡ front ++ rest → front ≡ doubled (encode_utf8 x) → rest ≡ doubled text ++ behind → bs ≡ doubled (encode_utf8 x ++ text) ++ behind
@@ -229,7 +229,7 @@ unfolding text_from
 stops_end n = refl
 
 -- where no character begins, the text is at fault
-pub none_is_fault : (n : ℕ) (rest : List ℕ) → IsNoCharacter rest → text_from 0 n rest ≡ pieces.Fault n
+pub none_is_fault : (n : ℕ) (rest : List ℕ) → BeginsNoCharacter rest → text_from 0 n rest ≡ pieces.Fault n
 none_is_fault n [] none = absurd (none.not_cut 39 (39 ∷ []) scalar_quote (sym (encode_ascii 39 (lit< tt))))
 none_is_fault n (b ∷ rest) none = go (next b rest)
   where

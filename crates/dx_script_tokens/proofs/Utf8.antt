@@ -19,9 +19,9 @@ use Rattle.dx_script_tokens.specs.declared.pieces.Shape.TheVariants as shapes
 use Rattle.dx_script_tokens.specs.declared.pieces.Piece.{Piece}
 use Rattle.dx_script_tokens.specs.declared.pieces.Piece.TheVariants as pieces
 use Rattle.dx_script_tokens.specs.Numbers.{number_at}
-use Rattle.dx_script_tokens.specs.Kinds.{is_mark}
-use Rattle.dx_script_tokens.specs.Pieces.{name_end, name_at, quote_at, text_item, text_step, text_from, piece_at}
-use Rattle.dx_script_tokens.specs.Scan.{but_last, inside, undoubled, SaysUtf8}
+use Rattle.dx_script_tokens.specs.Kinds.{is_script_mark}
+use Rattle.dx_script_tokens.specs.Pieces.{name_end, name_at, quote_at, text_item, text_step, text_from, script_piece_at}
+use Rattle.dx_script_tokens.specs.Scan.{but_last, between_quotes, undoubled, SaysUtf8}
 use Rattle.dx_script_tokens.proofs.Passing.{text_goes_on}
 
 -- ---- bytes
@@ -39,7 +39,7 @@ but_last_take (x ∷ y ∷ xs) =
     let more : suc (suc (length xs)) - 1 ≡ suc (suc (length xs) - 1) = omega arith in
     ap (λ (n : ℕ). take n (x ∷ y ∷ xs)) more ∙ ap (λ (zs : List ℕ). x ∷ zs) (but_last_take (y ∷ xs))
 
-pub inside_part : (bs : List ℕ) → 2 ≤ length bs → take (length bs - 1 - 1) (drop 1 bs) ≡ inside bs
+pub inside_part : (bs : List ℕ) → 2 ≤ length bs → take (length bs - 1 - 1) (drop 1 bs) ≡ between_quotes bs
 inside_part [] le = absurd (omega arith)
 inside_part (b ∷ rest) le =
     let less : suc (length rest) - 1 - 1 ≡ length rest - 1 = omega arith in
@@ -262,8 +262,8 @@ text_says rest shape len r =
 plain_says : (w : List ℕ) (shape : Shape) (p : Piece) (len : ℕ) → SaysUtf8 (shape_in p) w → p ≡ pieces.Token shape len → SaysUtf8 shape w
 plain_says w shape p len h e = subst (λ (s : Shape). SaysUtf8 s w) (ap shape_in e) h
 
-pub piece_utf8 : (b : ℕ) (rest : List ℕ) (shape : Shape) (len : ℕ) → piece_at b rest ≡ pieces.Token shape len → SaysUtf8 shape (take len (b ∷ rest))
-unfolding piece_at
+pub piece_utf8 : (b : ℕ) (rest : List ℕ) (shape : Shape) (len : ℕ) → script_piece_at b rest ≡ pieces.Token shape len → SaysUtf8 shape (take len (b ∷ rest))
+unfolding script_piece_at
 piece_utf8 b rest shape len h =
     let w = take len (b ∷ rest) in
     elim (taken (is_blank b) pieces.Blank _ (pieces.Token shape len) h) [
@@ -272,7 +272,7 @@ piece_utf8 b rest shape len h =
         | inl t ↦ plain_says w shape (pieces.Token shapes.Word (1 + run is_word_byte rest)) len tt t.1
         | inr word ↦ elim (taken (is_digit b) (pieces.Token shapes.Number (number_at b rest).0) _ (pieces.Token shape len) word.1) [
           | inl t ↦ plain_says w shape (pieces.Token shapes.Number (number_at b rest).0) len tt t.1
-          | inr digit ↦ elim (taken (is_mark b) (pieces.Token shapes.Mark 1) _ (pieces.Token shape len) digit.1) [
+          | inr digit ↦ elim (taken (is_script_mark b) (pieces.Token shapes.Mark 1) _ (pieces.Token shape len) digit.1) [
             | inl t ↦ plain_says w shape (pieces.Token shapes.Mark 1) len tt t.1
             | inr mark ↦ elim (taken (b == 34) (name_at rest) _ (pieces.Token shape len) mark.1) [
               | inl t ↦ rw (eqb-true b 34 t.0) (name_says rest shape len (name_read rest shape len t.1))

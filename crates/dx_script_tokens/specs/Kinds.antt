@@ -6,8 +6,8 @@ use Rattle.dx_script_tokens.specs.declared.kinds.ScriptKind.TheVariants as kinds
 use Rattle.dx_script_tokens.specs.Numbers.{numeral_of}
 
 -- two texts are one
-abbrev pub same : List ℕ → List ℕ → Bool
-same w v = pointwise nat_eq w v
+abbrev pub same_text : List ℕ → List ℕ → Bool
+same_text w v = pointwise nat_eq w v
 
 -- the kind of words that a letter and a number make
 abbrev pub letter_kind : ℕ → ScriptKind
@@ -25,40 +25,40 @@ numbered_word (b ∷ rest) = with_letter b (numeral_of rest)
 -- the words in lower case that stand for themselves
 unfoldable pub small_word : List ℕ → ScriptKind × ℕ
 small_word w =
-    if same w (codes "target") then (kinds.Target, 0)
-    else (if same w (codes "source") then (kinds.Source, 0)
-    else (if same w (codes "place") then (kinds.Place, 0)
-    else (if same w (codes "m") then (kinds.Own, 0)
-    else (if same w (codes "n") then (kinds.Other, 0)
+    if same_text w (codes "target") then (kinds.Target, 0)
+    else (if same_text w (codes "source") then (kinds.Source, 0)
+    else (if same_text w (codes "place") then (kinds.Place, 0)
+    else (if same_text w (codes "m") then (kinds.Own, 0)
+    else (if same_text w (codes "n") then (kinds.Other, 0)
     else numbered_word w))))
 
 -- the words that stand between parts of a step
 unfoldable pub inner_word : List ℕ → ScriptKind × ℕ
 inner_word w =
-    if same w (codes "DISTINCT") then (kinds.Distinct, 0)
-    else (if same w (codes "FROM") then (kinds.From, 0)
-    else (if same w (codes "WHERE") then (kinds.Where, 0)
-    else (if same w (codes "AND") then (kinds.And, 0)
-    else (if same w (codes "NOT") then (kinds.Not, 0)
-    else (if same w (codes "EXISTS") then (kinds.Exists, 0)
-    else (if same w (codes "SKOLEM") then (kinds.Skolem, 0)
-    else (if same w (codes "TEXT") then (kinds.Type, 0)
+    if same_text w (codes "DISTINCT") then (kinds.Distinct, 0)
+    else (if same_text w (codes "FROM") then (kinds.From, 0)
+    else (if same_text w (codes "WHERE") then (kinds.Where, 0)
+    else (if same_text w (codes "AND") then (kinds.And, 0)
+    else (if same_text w (codes "NOT") then (kinds.Not, 0)
+    else (if same_text w (codes "EXISTS") then (kinds.Exists, 0)
+    else (if same_text w (codes "SKOLEM") then (kinds.Skolem, 0)
+    else (if same_text w (codes "TEXT") then (kinds.Type, 0)
     else small_word w)))))))
 
 -- what a word says: its kind, and its number, which is 0 if it has none
 unfoldable pub word_says : List ℕ → ScriptKind × ℕ
 word_says w =
-    if same w (codes "CREATE") then (kinds.Create, 0)
-    else (if same w (codes "TABLE") then (kinds.Table, 0)
-    else (if same w (codes "AS") then (kinds.As, 0)
-    else (if same w (codes "SELECT") then (kinds.Select, 0)
-    else (if same w (codes "INSERT") then (kinds.Insert, 0)
-    else (if same w (codes "INTO") then (kinds.Into, 0)
+    if same_text w (codes "CREATE") then (kinds.Create, 0)
+    else (if same_text w (codes "TABLE") then (kinds.Table, 0)
+    else (if same_text w (codes "AS") then (kinds.As, 0)
+    else (if same_text w (codes "SELECT") then (kinds.Select, 0)
+    else (if same_text w (codes "INSERT") then (kinds.Insert, 0)
+    else (if same_text w (codes "INTO") then (kinds.Into, 0)
     else inner_word w)))))
 
 -- ( ) , ; . = *
-abbrev pub is_mark : ℕ → Bool
-is_mark b = b == 40 || (b == 41 || (b == 44 || (b == 59 || (b == 46 || (b == 61 || b == 42)))))
+abbrev pub is_script_mark : ℕ → Bool
+is_script_mark b = b == 40 || (b == 41 || (b == 44 || (b == 59 || (b == 46 || (b == 61 || b == 42)))))
 
 -- which mark it is
 abbrev pub mark_kind : ℕ → ScriptKind
@@ -71,38 +71,38 @@ mark_kind b =
     else (if b == 61 then kinds.Equal else kinds.Star)))))
 
 -- each kind has a number of its own, by which kinds are compared
-abbrev pub rank : ScriptKind → ℕ
-rank kinds.Create = 0
-rank kinds.Table = 1
-rank kinds.Target = 2
-rank kinds.Source = 3
-rank kinds.As = 4
-rank kinds.Select = 5
-rank kinds.Distinct = 6
-rank kinds.From = 7
-rank kinds.Where = 8
-rank kinds.And = 9
-rank kinds.Not = 10
-rank kinds.Exists = 11
-rank kinds.Insert = 12
-rank kinds.Into = 13
-rank kinds.Skolem = 14
-rank kinds.Place = 15
-rank kinds.Type = 16
-rank kinds.Own = 17
-rank kinds.Other = 18
-rank kinds.Match = 19
-rank kinds.Keep = 20
-rank kinds.Alias = 21
-rank kinds.Column = 22
-rank kinds.Word = 23
-rank kinds.Number = 24
-rank kinds.Name = 25
-rank kinds.Text = 26
-rank kinds.Open = 27
-rank kinds.Close = 28
-rank kinds.Comma = 29
-rank kinds.Semicolon = 30
-rank kinds.Dot = 31
-rank kinds.Equal = 32
-rank kinds.Star = 33
+abbrev pub kind_number : ScriptKind → ℕ
+kind_number kinds.Create = 0
+kind_number kinds.Table = 1
+kind_number kinds.Target = 2
+kind_number kinds.Source = 3
+kind_number kinds.As = 4
+kind_number kinds.Select = 5
+kind_number kinds.Distinct = 6
+kind_number kinds.From = 7
+kind_number kinds.Where = 8
+kind_number kinds.And = 9
+kind_number kinds.Not = 10
+kind_number kinds.Exists = 11
+kind_number kinds.Insert = 12
+kind_number kinds.Into = 13
+kind_number kinds.Skolem = 14
+kind_number kinds.Place = 15
+kind_number kinds.Type = 16
+kind_number kinds.Own = 17
+kind_number kinds.Other = 18
+kind_number kinds.Match = 19
+kind_number kinds.Keep = 20
+kind_number kinds.Alias = 21
+kind_number kinds.Column = 22
+kind_number kinds.Word = 23
+kind_number kinds.Number = 24
+kind_number kinds.Name = 25
+kind_number kinds.Text = 26
+kind_number kinds.Open = 27
+kind_number kinds.Close = 28
+kind_number kinds.Comma = 29
+kind_number kinds.Semicolon = 30
+kind_number kinds.Dot = 31
+kind_number kinds.Equal = 32
+kind_number kinds.Star = 33

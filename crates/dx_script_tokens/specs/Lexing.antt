@@ -10,16 +10,16 @@ use Rattle.dx_tokens.specs.Lexing.{IsWord}
 use Rattle.dx_script_tokens.specs.declared.pieces.Shape.{Shape}
 use Rattle.dx_script_tokens.specs.declared.pieces.Shape.TheVariants.{Word, Number, Name, Text, Mark}
 use Rattle.dx_script_tokens.specs.declared.scanner.ScriptToken.{ScriptToken}
-use Rattle.dx_script_tokens.specs.Numbers.{greatest}
-use Rattle.dx_script_tokens.specs.Kinds.{is_mark}
-use Rattle.dx_script_tokens.specs.Quoted.{doubled, quoted}
-use Rattle.dx_script_tokens.specs.Scan.{begun_at, scan_of, token_of}
+use Rattle.dx_script_tokens.specs.Numbers.{greatest_number}
+use Rattle.dx_script_tokens.specs.Kinds.{is_script_mark}
+use Rattle.dx_script_tokens.specs.Quoted.{doubled, single_quoted}
+use Rattle.dx_script_tokens.specs.Scan.{begun_at, script_scan_of, token_of}
 
 -- ---- tokens
 
 -- a number up to the greatest, in decimal
-abbrev pub IsNumber : List ℕ → Type 0
-IsNumber w = (n : ℕ) × (n ≤ greatest) × (w ≡ decimal n)
+abbrev pub IsScriptNumber : List ℕ → Type 0
+IsScriptNumber w = (n : ℕ) × (n ≤ greatest_number) × (w ≡ decimal n)
 
 -- letters, digits and _, of which there is one at least; the first may be #
 abbrev pub IsNameText : List ℕ → Type 0
@@ -27,34 +27,34 @@ IsNameText [] = ⊥
 IsNameText (c ∷ cs) = IsTrue (c == 35 || is_word_byte c) × Each cs (λ b. IsTrue (is_word_byte b))
 
 -- a name in double quotes
-abbrev pub IsName : List ℕ → Type 0
-IsName w = (name : List ℕ) × IsNameText name × (w ≡ 34 ∷ (name ++ 34 ∷ []))
+abbrev pub IsQuotedName : List ℕ → Type 0
+IsQuotedName w = (name : List ℕ) × IsNameText name × (w ≡ 34 ∷ (name ++ 34 ∷ []))
 
 -- a UTF-8 text in single quotes, with each single quote of it doubled
 abbrev pub IsText : List ℕ → Type 0
-IsText w = (text : List ℕ) × IsUtf8 text × (w ≡ quoted text)
+IsText w = (text : List ℕ) × IsUtf8 text × (w ≡ single_quoted text)
 
 -- one of ( ) , ; . = *
-abbrev pub IsMark : List ℕ → Type 0
-IsMark w = (b : ℕ) × IsTrue (is_mark b) × (w ≡ b ∷ [])
+abbrev pub IsScriptMark : List ℕ → Type 0
+IsScriptMark w = (b : ℕ) × IsTrue (is_script_mark b) × (w ≡ b ∷ [])
 
 -- a token of a shape
-abbrev pub IsTokenText : Shape → List ℕ → Type 0
-IsTokenText Word w = IsWord w
-IsTokenText Number w = IsNumber w
-IsTokenText Name w = IsName w
-IsTokenText Text w = IsText w
-IsTokenText Mark w = IsMark w
+abbrev pub IsScriptTokenText : Shape → List ℕ → Type 0
+IsScriptTokenText Word w = IsWord w
+IsScriptTokenText Number w = IsScriptNumber w
+IsScriptTokenText Name w = IsQuotedName w
+IsScriptTokenText Text w = IsText w
+IsScriptTokenText Mark w = IsScriptMark w
 
 -- no front of what is left is a longer token
-abbrev pub IsLongest : List ℕ → List ℕ → Type 0
-IsLongest w left =
-    (shape : Shape) (longer rest : List ℕ) → IsTokenText shape longer → left ≡ longer ++ rest → length longer ≤ length w
+abbrev pub IsLongestScriptToken : List ℕ → List ℕ → Type 0
+IsLongestScriptToken w left =
+    (shape : Shape) (longer rest : List ℕ) → IsScriptTokenText shape longer → left ≡ longer ++ rest → length longer ≤ length w
 
 -- after a text no single quote stands, since two of them are one that is doubled
-abbrev pub Ends : Shape → List ℕ → Type 0
-Ends Text (b ∷ rest) = b ≢ 39
-Ends _ _ = Unit {0}
+abbrev pub EndsText : Shape → List ℕ → Type 0
+EndsText Text (b ∷ rest) = b ≢ 39
+EndsText _ _ = Unit {0}
 
 -- the bytes of a token, and its shape
 pub record Span : Type 0 where
@@ -63,25 +63,25 @@ pub record Span : Type 0 where
   pub shape : Shape
 
 -- From a place on, blanks and tokens stand one after the other, each token as long as it can be, up to what is after them.
-pub data Lexes : ℕ → List ℕ → List Span → List ℕ → Type 0 where
-  nothing : {place : ℕ} {behind : List ℕ} → Lexes place behind [] behind
+pub data LexesScript : ℕ → List ℕ → List Span → List ℕ → Type 0 where
+  nothing : {place : ℕ} {behind : List ℕ} → LexesScript place behind [] behind
   blank : {place : ℕ} {left rest behind : List ℕ} {tokens : List Span} (b : ℕ) → IsTrue (is_blank b) → left ≡ b ∷ rest
-      → Lexes (place + 1) rest tokens behind → Lexes place left tokens behind
-  token : {place : ℕ} {left rest behind : List ℕ} {tokens : List Span} (shape : Shape) (w : List ℕ) → IsTokenText shape w
-      → IsLongest w left → Ends shape rest → left ≡ w ++ rest → Lexes (place + length w) rest tokens behind
-      → Lexes place left (record { start = place; end = place + length w; shape = shape } ∷ tokens) behind
+      → LexesScript (place + 1) rest tokens behind → LexesScript place left tokens behind
+  token : {place : ℕ} {left rest behind : List ℕ} {tokens : List Span} (shape : Shape) (w : List ℕ) → IsScriptTokenText shape w
+      → IsLongestScriptToken w left → EndsText shape rest → left ≡ w ++ rest → LexesScript (place + length w) rest tokens behind
+      → LexesScript place left (record { start = place; end = place + length w; shape = shape } ∷ tokens) behind
 
 -- the tokens of a text
-abbrev pub IsLexed : List ℕ → List Span → Type 0
-IsLexed text tokens = Lexes 0 text tokens []
+abbrev pub AreScriptTokens : List ℕ → List Span → Type 0
+AreScriptTokens text tokens = LexesScript 0 text tokens []
 
 -- ---- faults
 
 -- something is left, and no blank, token or quotation mark begins there
-pub record BeginsNothing (left : List ℕ) : Type 0 where
+pub record BeginsNoScriptToken (left : List ℕ) : Type 0 where
   pub some_left : left ≢ []
   pub no_blank : (b : ℕ) (rest : List ℕ) → IsTrue (is_blank b) → left ≢ b ∷ rest
-  pub no_token : (shape : Shape) (w rest : List ℕ) → IsTokenText shape w → left ≢ w ++ rest
+  pub no_token : (shape : Shape) (w rest : List ℕ) → IsScriptTokenText shape w → left ≢ w ++ rest
   pub no_name : (rest : List ℕ) → left ≢ 34 ∷ rest
   pub no_text : (rest : List ℕ) → left ≢ 39 ∷ rest
 
@@ -96,28 +96,28 @@ can_follow [] b = b == 35 || is_word_byte b
 can_follow (c ∷ cs) b = b == 34 || is_word_byte b
 
 -- no UTF-8 character begins there, nor one that the end of the text cuts
-pub record IsNoCharacter (left : List ℕ) : Type 0 where
+pub record BeginsNoCharacter (left : List ℕ) : Type 0 where
   pub no_character : (c : ℕ) (rest : List ℕ) → IsScalar c → left ≢ encode_utf8 c ++ rest
   pub not_cut : (c : ℕ) (more : List ℕ) → IsScalar c → left ++ more ≢ encode_utf8 c
 
 -- What is left begins with a fault of a kind, so many bytes after its beginning.
-pub data IsFaulty (left : List ℕ) : ℕ → TextKind → Type 0 where
-  no_token : BeginsNothing left → IsFaulty left 0 Character
+pub data BeginsScriptFault (left : List ℕ) : ℕ → TextKind → Type 0 where
+  no_token : BeginsNoScriptToken left → BeginsScriptFault left 0 Character
   bad_name : (front : List ℕ) (b : ℕ) (rest : List ℕ) → IsNameFront front → left ≡ 34 ∷ (front ++ b ∷ rest)
-      → can_follow front b ≡ false → IsFaulty left (1 + length front) Character
-  cut_name : (front : List ℕ) → IsNameFront front → left ≡ 34 ∷ front → IsFaulty left (length left) Ended
-  bad_text : (text rest : List ℕ) → IsUtf8 text → left ≡ 39 ∷ (doubled text ++ rest) → IsNoCharacter rest
-      → IsFaulty left (1 + length (doubled text)) Character
+      → can_follow front b ≡ false → BeginsScriptFault left (1 + length front) Character
+  cut_name : (front : List ℕ) → IsNameFront front → left ≡ 34 ∷ front → BeginsScriptFault left (length left) Ended
+  bad_text : (text rest : List ℕ) → IsUtf8 text → left ≡ 39 ∷ (doubled text ++ rest) → BeginsNoCharacter rest
+      → BeginsScriptFault left (1 + length (doubled text)) Character
   cut_text : (text rest more : List ℕ) (c : ℕ) → IsUtf8 text → left ≡ 39 ∷ (doubled text ++ rest) → IsScalar c
-      → rest ++ more ≡ encode_utf8 c → more ≢ [] → IsFaulty left (length left) Ended
+      → rest ++ more ≡ encode_utf8 c → more ≢ [] → BeginsScriptFault left (length left) Ended
 
 -- the first fault of the tokens of a text: so many bytes after its tokens
-pub record IsFirstTokenFault (text : List ℕ) (place : ℕ) (kind : TextKind) : Type 0 where
+pub record IsFirstScriptFault (text : List ℕ) (place : ℕ) (kind : TextKind) : Type 0 where
   pub tokens : List Span
   pub behind : List ℕ
-  pub lexes : Lexes 0 text tokens behind
+  pub lexes : LexesScript 0 text tokens behind
   pub offset : ℕ
-  pub faulty : IsFaulty behind offset kind
+  pub faulty : BeginsScriptFault behind offset kind
   pub at_place : place + length behind ≡ length text + offset
 
 -- ---- laws
@@ -127,26 +127,26 @@ abbrev pub token_said : List ℕ → Span → ScriptToken
 token_said text s = token_of s.start s.shape (slice_range text s.start s.end)
 
 -- the name or text that is begun if what is left is faulty
-abbrev pub begun_of : ℕ → List ℕ → Option ScriptToken
-begun_of place [] = None
-begun_of place (b ∷ rest) = begun_at place b
+abbrev pub script_begun_of : ℕ → List ℕ → Option ScriptToken
+script_begun_of place [] = None
+script_begun_of place (b ∷ rest) = begun_at place b
 
 -- a text has tokens, or a first fault
-abbrev pub IsTokensOrFault : List ℕ → Type 0
-IsTokensOrFault text =
-    ((tokens : List Span) × IsLexed text tokens) ⊎ ((place : ℕ) × (kind : TextKind) × IsFirstTokenFault text place kind)
+abbrev pub IsScriptTokensOrFault : List ℕ → Type 0
+IsScriptTokensOrFault text =
+    ((tokens : List Span) × AreScriptTokens text tokens) ⊎ ((place : ℕ) × (kind : TextKind) × IsFirstScriptFault text place kind)
 
 -- the scan of a text that has tokens gives them and no stop
-abbrev pub LexedIsScanned : List ℕ → Type 0
-LexedIsScanned text =
-    (tokens : List Span) → IsLexed text tokens → scan_of text ≡ record { tokens = map (token_said text) tokens; stop = None }
+abbrev pub ScriptTokensAreScanned : List ℕ → Type 0
+ScriptTokensAreScanned text =
+    (tokens : List Span) → AreScriptTokens text tokens → script_scan_of text ≡ record { tokens = map (token_said text) tokens; stop = None }
 
 -- the scan of a text with a fault after some tokens gives these tokens, and stops at that fault with what is begun there
-abbrev pub FaultyIsScanned : List ℕ → Type 0
-FaultyIsScanned text =
-    (tokens : List Span) (behind : List ℕ) (place offset : ℕ) (kind : TextKind) → Lexes 0 text tokens behind → place + length behind ≡ length text
-    → IsFaulty behind offset kind
-    → scan_of text ≡ record {
+abbrev pub ScriptFaultIsScanned : List ℕ → Type 0
+ScriptFaultIsScanned text =
+    (tokens : List Span) (behind : List ℕ) (place offset : ℕ) (kind : TextKind) → LexesScript 0 text tokens behind → place + length behind ≡ length text
+    → BeginsScriptFault behind offset kind
+    → script_scan_of text ≡ record {
       tokens = map (token_said text) tokens;
-      stop = Some (record { place = place + offset; kind = kind; begun = begun_of place behind });
+      stop = Some (record { place = place + offset; kind = kind; begun = script_begun_of place behind });
     }

@@ -3,12 +3,12 @@ use Rattle.std.specs.Prelude.{ℕ, suc, ◌+◌, ◌-◌, ◌*◌, ◌&&◌, ◌
 use Rattle.dx_tokens.specs.Tokens.{is_digit}
 
 -- the greatest number
-abbrev pub greatest : ℕ
-greatest = 4294967295
+abbrev pub greatest_number : ℕ
+greatest_number = 4294967295
 
 -- a value with one digit more, if that does not pass the greatest
 abbrev pub with_digit : ℕ → ℕ → Option ℕ
-with_digit value d = if is_digit d && nat_le (10 * value + (d - 48)) greatest then Some (10 * value + (d - 48)) else None
+with_digit value d = if is_digit d && nat_le (10 * value + (d - 48)) greatest_number then Some (10 * value + (d - 48)) else None
 
 -- one digit more
 abbrev pub longer : ℕ × ℕ → ℕ × ℕ
@@ -33,6 +33,6 @@ numeral_of [] = None
 numeral_of (b ∷ rest) = if is_digit b && (number_at b rest).0 == suc (length rest) then Some (number_at b rest).1 else None
 
 -- the value, or 0 if there is none
-abbrev pub value_of : Option ℕ → ℕ
-value_of None = 0
-value_of (Some n) = n
+abbrev pub or_zero : Option ℕ → ℕ
+or_zero None = 0
+or_zero (Some n) = n

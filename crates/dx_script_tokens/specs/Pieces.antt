@@ -7,7 +7,7 @@ use Rattle.dx_script_tokens.specs.declared.pieces.Piece.{Piece}
 use Rattle.dx_script_tokens.specs.declared.pieces.Piece.TheVariants as pieces
 use Rattle.dx_script_tokens.specs.declared.pieces.Shape.TheVariants.{Word, Number, Name, Text, Mark}
 use Rattle.dx_script_tokens.specs.Numbers.{number_at}
-use Rattle.dx_script_tokens.specs.Kinds.{is_mark}
+use Rattle.dx_script_tokens.specs.Kinds.{is_script_mark}
 
 -- ---- names in double quotes
 
@@ -47,19 +47,19 @@ text_from zero n (b ∷ rest) = text_step (text_item b rest) n (λ left. text_fr
 -- ---- all pieces
 
 -- what stands next
-unfoldable pub piece_at : ℕ → List ℕ → Piece
-piece_at b rest =
+unfoldable pub script_piece_at : ℕ → List ℕ → Piece
+script_piece_at b rest =
     if is_blank b then pieces.Blank
     else (if is_word_start b then pieces.Token Word (1 + run is_word_byte rest)
     else (if is_digit b then pieces.Token Number (number_at b rest).0
-    else (if is_mark b then pieces.Token Mark 1
+    else (if is_script_mark b then pieces.Token Mark 1
     else (if b == 34 then name_at rest
     else (if b == 39 then text_from 0 1 rest
     else pieces.Fault 0)))))
 
 -- a piece of a text lies in so many bytes
-abbrev pub PieceWithin : ℕ → Piece → Type 0
-PieceWithin n pieces.Blank = 1 ≤ n
-PieceWithin n (pieces.Token shape len) = (1 ≤ len) × (len ≤ n)
-PieceWithin n (pieces.Fault offset) = offset < n
-PieceWithin n pieces.Cut = Unit {0}
+abbrev pub ScriptPieceWithin : ℕ → Piece → Type 0
+ScriptPieceWithin n pieces.Blank = 1 ≤ n
+ScriptPieceWithin n (pieces.Token shape len) = (1 ≤ len) × (len ≤ n)
+ScriptPieceWithin n (pieces.Fault offset) = offset < n
+ScriptPieceWithin n pieces.Cut = Unit {0}

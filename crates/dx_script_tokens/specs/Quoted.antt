@@ -7,5 +7,5 @@ doubled [] = []
 doubled (b ∷ bs) = if b == 39 then 39 ∷ 39 ∷ doubled bs else b ∷ doubled bs
 
 -- a text in single quotes
-abbrev pub quoted : List ℕ → List ℕ
-quoted text = 39 ∷ (doubled text ++ 39 ∷ [])
+abbrev pub single_quoted : List ℕ → List ℕ
+single_quoted text = 39 ∷ (doubled text ++ 39 ∷ [])

@@ -1,6 +1,6 @@
 // The kinds of tokens, and marks.
 ghost use Rattle.std.specs.Prelude.{◌≡◌, ◌↔◌, IsTrue, nat_eq};
-ghost use Rattle.dx_script_tokens.specs.Kinds.{is_mark, mark_kind, rank};
+ghost use Rattle.dx_script_tokens.specs.Kinds.{is_script_mark, mark_kind, kind_number};
 
 /// Which token it is.
 #[derive(Clone, Copy)]
@@ -56,7 +56,7 @@ pub enum ScriptKind {
 impl ScriptKind {
     // The number of a kind, by which kinds are compared.
     fn rank(self) -> u8
-        ensures { result ≡ rank self }
+        ensures { result ≡ kind_number self }
     {
         match self {
             ScriptKind::Create => 0,
@@ -98,7 +98,7 @@ impl ScriptKind {
 
     /// Whether two kinds are one.
     pub fn is(self, other: ScriptKind) -> bool
-        ensures value { result ≡ nat_eq (rank self) (rank other) }
+        ensures value { result ≡ nat_eq (kind_number self) (kind_number other) }
         ensures same { IsTrue result ↔ (self ≡ other) }
     {
         self.rank() == other.rank()
@@ -106,7 +106,7 @@ impl ScriptKind {
 }
 
 pub(crate) fn is_mark_byte(b: u8) -> bool
-    ensures { result ≡ is_mark b }
+    ensures { result ≡ is_script_mark b }
 {
     matches!(b, b'(' | b')' | b',' | b';' | b'.' | b'=' | b'*')
 }

@@ -1,7 +1,7 @@
 // What stands next in a text: a blank, a token, or a fault.
 ghost use Rattle.std.specs.Prelude.{◌≡◌, ◌+◌, ◌<◌, ◌≤◌, ◌^◌, length};
 ghost use Rattle.dx_tokens.specs.Tokens.{run, is_word_byte, ItemWithin};
-ghost use Rattle.dx_script_tokens.specs.Pieces.{PieceWithin, name_at, name_end, piece_at, quote_at, text_from, text_item};
+ghost use Rattle.dx_script_tokens.specs.Pieces.{ScriptPieceWithin, name_at, name_end, script_piece_at, quote_at, text_from, text_item};
 
 use crate::kinds::is_mark_byte;
 use crate::numbers::number;
@@ -41,7 +41,7 @@ fn word_run(bytes: &[u8]) -> usize
 fn name_rest(n: usize, rest: &[u8]) -> Piece
     requires { n + length rest.now < 2 ^ 64 }
     ensures value { result ≡ name_end n rest.now }
-    ensures within { PieceWithin (n + length rest.now) result }
+    ensures within { ScriptPieceWithin (n + length rest.now) result }
 {
     match rest {
         [] => Piece::Cut,
@@ -54,7 +54,7 @@ fn name_rest(n: usize, rest: &[u8]) -> Piece
 fn name_piece(rest: &[u8]) -> Piece
     requires { length rest.now + 1 < 2 ^ 64 }
     ensures value { result ≡ name_at rest.now }
-    ensures within { PieceWithin (1 + length rest.now) result }
+    ensures within { ScriptPieceWithin (1 + length rest.now) result }
 {
     let Some((first, others)) = rest.split_first() else {
         return Piece::Cut;
@@ -96,7 +96,7 @@ fn next_item(b: u8, rest: &[u8]) -> Item
 fn text_piece(text: &[u8]) -> Piece
     requires { length text.now + 1 < 2 ^ 64 }
     ensures value { result ≡ text_from 0 1 text.now }
-    ensures within { PieceWithin (1 + length text.now) result }
+    ensures within { ScriptPieceWithin (1 + length text.now) result }
 {
     let mut rest = text;
     let mut n = 1usize;
@@ -118,8 +118,8 @@ fn text_piece(text: &[u8]) -> Piece
 #[tactic(auto, unfolding(crate::specs::Pieces::piece_at))]
 pub(crate) fn next_piece(b: u8, rest: &[u8]) -> Piece
     requires { length rest.now + 1 < 2 ^ 64 }
-    ensures value { result ≡ piece_at b rest.now }
-    ensures within { PieceWithin (1 + length rest.now) result }
+    ensures value { result ≡ script_piece_at b rest.now }
+    ensures within { ScriptPieceWithin (1 + length rest.now) result }
 {
     if is_blank_byte(b) {
         Piece::Blank

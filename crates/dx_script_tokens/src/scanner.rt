@@ -1,6 +1,6 @@
 // The tokens of a script's text up to its first fault.
 ghost use Rattle.std.specs.Prelude.{◌≡◌, ◌<◌, ◌≤◌, ◌^◌, IfOk, IsUtf8, length};
-ghost use Rattle.dx_script_tokens.specs.Scan.{SaysUtf8, begun_at, inside, mark_of, name_token, plain_token, scan_of, stop_at, stopped, text_token, token_of, undoubled, with_tokens};
+ghost use Rattle.dx_script_tokens.specs.Scan.{SaysUtf8, begun_at, between_quotes, mark_of, name_token, plain_token, script_scan_of, stop_at, script_stopped, text_token, token_of, undoubled, with_tokens};
 
 use crate::kinds::{ScriptKind, mark};
 use crate::numbers::numeral;
@@ -39,7 +39,7 @@ pub struct ScriptScan {
 
 // The bytes between the first and the last.
 fn inside(bytes: &[u8]) -> &[u8]
-    ensures { result.now ≡ inside bytes.now }
+    ensures { result.now ≡ between_quotes bytes.now }
 {
     match bytes {
         [_, middle @ .., _] => middle,
@@ -94,7 +94,7 @@ fn plain(
 
 // The name that bytes are.
 fn name_token(alloc: Global, place: u64, bytes: &[u8]) -> Result<ScriptToken, AllocError>
-    requires { IsUtf8 (inside bytes.now) }
+    requires { IsUtf8 (between_quotes bytes.now) }
     ensures { IfOk result (λ t. t ≡ name_token place bytes.now) }
 {
     Ok(ScriptToken {
@@ -107,7 +107,7 @@ fn name_token(alloc: Global, place: u64, bytes: &[u8]) -> Result<ScriptToken, Al
 
 // The text that bytes are.
 fn text_token(alloc: Global, place: u64, bytes: &[u8]) -> Result<ScriptToken, AllocError>
-    requires { IsUtf8 (undoubled (inside bytes.now)) }
+    requires { IsUtf8 (undoubled (between_quotes bytes.now)) }
     ensures { IfOk result (λ t. t ≡ text_token place bytes.now) }
 {
     let characters = undoubled(alloc, inside(bytes))?;
@@ -169,7 +169,7 @@ fn stopped_at(
     kind: TextKind,
     b: u8,
 ) -> Result<ScriptScan, AllocError>
-    ensures { IfOk result (λ s. s ≡ with_tokens tokens (stopped (stop_at begin place kind b))) }
+    ensures { IfOk result (λ s. s ≡ with_tokens tokens (script_stopped (stop_at begin place kind b))) }
 {
     Ok(ScriptScan {
         tokens,
@@ -187,7 +187,7 @@ fn stopped_at(
 ///
 /// `AllocError` if there is no memory.
 pub fn scan_script(alloc: Global, text: &[u8]) -> Result<ScriptScan, AllocError>
-    ensures { IfOk result (λ s. s ≡ scan_of text.now) }
+    ensures { IfOk result (λ s. s ≡ script_scan_of text.now) }
 {
     let mut tokens = Items::new(alloc);
     let mut rest = text;

@@ -1,12 +1,12 @@
 // What words say.
 ghost use Rattle.std.specs.Prelude.{◌≡◌};
-ghost use Rattle.dx_script_tokens.specs.Kinds.{inner_word, letter_kind, numbered_word, same, small_word, word_says};
+ghost use Rattle.dx_script_tokens.specs.Kinds.{inner_word, letter_kind, numbered_word, same_text, small_word, word_says};
 
 use crate::kinds::ScriptKind;
 use crate::numbers::numeral;
 
 fn is(word: &[u8], other: &str) -> bool
-    ensures { result ≡ same word.now other.now }
+    ensures { result ≡ same_text word.now other.now }
 {
     word == other.as_bytes()
 }

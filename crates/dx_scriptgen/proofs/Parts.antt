@@ -14,7 +14,7 @@ use Rattle.dx_model.specs.declared.rules.Rule.{Rule}
 use Rattle.dx_model.specs.declared.covers.CellMap.{CellMap}
 use Rattle.dx_model.specs.declared.covers.Meeting.{Meeting}
 use Rattle.dx_model.specs.Rules.{Increase, cells_of, exported}
-use Rattle.dx_model.specs.Covers.{HasWidths, IsKnown, below, cell_maps, cell_under, choices, first_met, image_of, is_cell_map, map_of, meetings, used_maps}
+use Rattle.dx_model.specs.Covers.{HasWidths, IsNoExistential, below, cell_maps, cell_under, choices, first_met, image_of, is_cell_map, map_of, meetings, used_maps}
 use Rattle.dx_model.proofs.Lists.{from_below}
 use Rattle.dx_model.proofs.Canonical.{exported_exactly}
 use Rattle.dx_model.proofs.Before.{from_used}
@@ -87,7 +87,7 @@ tests_are i j m u =
     ∙ sym (by_places (λ x. test_of i j x (cell_under i m (Var x))) (exported i)))
 
 -- the images of exported variables are known
-pub images_known : (width : ℕ → ℕ) (i j : Rule) (m : CellMap) → HasWidths width i → HasWidths width j → m ∈ used_maps i j → Each m.exported IsKnown
+pub images_known : (width : ℕ → ℕ) (i j : Rule) (m : CellMap) → HasWidths width i → HasWidths width j → m ∈ used_maps i j → Each m.exported IsNoExistential
 images_known width i j m a b u c n =
     let l = as_long i j m u in
     let up : Increase (exported i) = (exported_exactly i).0 in
@@ -95,8 +95,8 @@ images_known width i j m a b u c n =
     let h : q.0 < length (exported i) = rw (← l) q.1 in
     let x : ℕ = get_or (exported i) q.0 0 in
     let carried = maps_carry width i j m a b (from_used i j m u) in
-    let known : IsKnown (cell_under i m (Var x)) = carried.known x (((exported_exactly i).1 x).0 (in_at (exported i) q.0 0 h)) in
-    subst IsKnown (image_is (exported i) m.exported q.0 up h l ∙ q.2) known
+    let known : IsNoExistential (cell_under i m (Var x)) = carried.known x (((exported_exactly i).1 x).0 (in_at (exported i) q.0 0 h)) in
+    subst IsNoExistential (image_is (exported i) m.exported q.0 up h l ∙ q.2) known
 
 -- atoms of one table that have one width have the widths of some function
 abbrev width_in : List Atom → ℕ → ℕ
@@ -118,7 +118,7 @@ width_found atoms w a m = go atoms (λ b n. w.one a m b n) m
         later f (there k) = k
 
 -- the images of exported variables, among rules whose conclusions agree in their widths
-pub known_among : (R : List Rule) (i j : Rule) (m : CellMap) → AgreeInWidths (conclusions_of R) → i ∈ R → j ∈ R → m ∈ used_maps i j → Each m.exported IsKnown
+pub known_among : (R : List Rule) (i j : Rule) (m : CellMap) → AgreeInWidths (conclusions_of R) → i ∈ R → j ∈ R → m ∈ used_maps i j → Each m.exported IsNoExistential
 known_among R i j m w a b u =
     images_known (width_in (conclusions_of R)) i j m
     (λ c n. width_found (conclusions_of R) w c (in_flat_map (λ (d : Rule). d.conclusion) a n))

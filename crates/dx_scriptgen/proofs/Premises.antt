@@ -16,9 +16,9 @@ use Rattle.dx_model.specs.declared.rules.Atom.{Atom}
 use Rattle.dx_model.specs.Covers.{below}
 use Rattle.dx_model.specs.Rules.{cells_of}
 use Rattle.dx_model.specs.declared.rules.Rule.{Rule}
-use Rattle.dx_model.specs.Fitting.{IsRule, IsVariable, Numbered, premise_variables, variable_in}
+use Rattle.dx_model.specs.Fitting.{IsRule, IsVariable, ByFirstAppearance, premise_variables, cell_variable}
 use Rattle.dx_model.proofs.Lists.{from_below}
-use Rattle.dx_schema.specs.Names.{Named}
+use Rattle.dx_schema.specs.Names.{TableNames}
 use Rattle.dx_script.specs.declared.form.CellRef.{CellRef}
 use Rattle.dx_script.specs.declared.form.Equal.{Equal}
 use Rattle.dx_script.specs.Names.{column_at}
@@ -67,7 +67,7 @@ pub record Knows (done : List Spot) (rest : List ℕ) (m : ℕ) (p : Premise) : 
   pub standing : (x : ℕ) → x < length p.firsts → (s : Spot) × (s ∈ done) × (s.cell ≡ Var x)
   pub few : (s : Spot) → s ∈ done → (x : ℕ) → s.cell ≡ Var x → x < length p.firsts
   pub equal : p.equal ≡ equals done
-  pub numbered : Numbered (length p.firsts) rest m
+  pub numbered : ByFirstAppearance (length p.firsts) rest m
 
 -- the equal cells of a list with one spot more, if first cells stay
 equals_more : (done : List Spot) (s : Spot) → ((t : Spot) → t ∈ done → (x : ℕ) → t.cell ≡ Var x → first_spot x (done ++ s ∷ []) ≡ first_spot x done)
@@ -104,7 +104,7 @@ module _ (done : List Spot) (s : Spot) (rest : List ℕ) (m x : ℕ) (p : Premis
       equals_more done s (λ t l y e. stays y (k.few t l y e))
       ∙ (ap (λ z. z ++ further (done ++ s ∷ []) s s.cell) (sym k.equal) ∙ ap (λ c. p.equal ++ further (done ++ s ∷ []) s c) is)
 
-  known : x < length p.firsts → Numbered (length p.firsts) rest m
+  known : x < length p.firsts → ByFirstAppearance (length p.firsts) rest m
       → Knows (done ++ s ∷ []) rest m (record { firsts = p.firsts; equal = p.equal ++ record { left = get_or p.firsts x (shows s); right = shows s } ∷ [] })
   known h numbers =
       let w = k.standing x h in
@@ -132,7 +132,7 @@ module _ (done : List Spot) (s : Spot) (rest : List ℕ) (m x : ℕ) (p : Premis
       same : {t : Spot} (y : ℕ) → s ≡ t → t.cell ≡ Var y → y < length p.firsts
       same y q e = let v : Var x ≡ Var y = sym is ∙ (ap (λ (z : Spot). z.cell) q ∙ e) in let u : x ≡ y = cc in omega (arith, u, h)
 
-  fresh : x ≡ length p.firsts → Numbered (suc (length p.firsts)) rest m → Knows (done ++ s ∷ []) rest m (record { firsts = p.firsts ++ shows s ∷ []; equal = p.equal })
+  fresh : x ≡ length p.firsts → ByFirstAppearance (suc (length p.firsts)) rest m → Knows (done ++ s ∷ []) rest m (record { firsts = p.firsts ++ shows s ∷ []; equal = p.equal })
   fresh h numbers =
       let l : length (p.firsts ++ shows s ∷ []) ≡ suc (length p.firsts) = length-append p.firsts (shows s ∷ []) ∙ (omega arith) in
       let none : (t : Spot) → t ∈ done → ¬ (t.cell ≡ Var x) = λ t q e. let b = k.few t q x e in omega (arith, b, h) in
@@ -153,7 +153,7 @@ module _ (done : List Spot) (s : Spot) (rest : List ℕ) (m x : ℕ) (p : Premis
           | inr r ↦ last t y r e l
         ];
         equal = sym (equal_grows ∙ (ap (λ z. p.equal ++ z) b ∙ append-nil p.equal));
-        numbered = subst (λ z. Numbered z rest m) (sym l) numbers;
+        numbered = subst (λ z. ByFirstAppearance z rest m) (sym l) numbers;
       }
     where
       last : (t : Spot) (y : ℕ) → t ∈ (s ∷ []) → t.cell ≡ Var y → length (p.firsts ++ shows s ∷ []) ≡ suc (length p.firsts) → y < length (p.firsts ++ shows s ∷ [])
@@ -163,7 +163,7 @@ module _ (done : List Spot) (s : Spot) (rest : List ℕ) (m x : ℕ) (p : Premis
   pub one_cell : Knows (done ++ s ∷ []) rest m (met x (shows s) p)
   one_cell = go k.numbered (nat_lt_tells x (length p.firsts))
     where
-      go : Numbered (length p.firsts) (x ∷ rest) m → ((nat_lt x (length p.firsts) ≡ true) × (x < length p.firsts)) ⊎ ((nat_lt x (length p.firsts) ≡ false) × (length p.firsts ≤ x)) → Knows (done ++ s ∷ []) rest m (met x (shows s) p)
+      go : ByFirstAppearance (length p.firsts) (x ∷ rest) m → ((nat_lt x (length p.firsts) ≡ true) × (x < length p.firsts)) ⊎ ((nat_lt x (length p.firsts) ≡ false) × (length p.firsts ≤ x)) → Knows (done ++ s ∷ []) rest m (met x (shows s) p)
       go (inl w) (inl t) = rw t.0 (known t.1 w.1)
       go (inl w) (inr t) = absurd (let g = t.1 in omega (arith, w.0, g))
       go (inr w) (inl t) = absurd (let g = t.1 in omega (arith, w.0, g))
@@ -184,9 +184,9 @@ further_on alias column done s a c h z m = elim (from_append done m) [
     last (here e) = inr (ap (λ (t : Spot). t.alias) (sym e) ∙ a, let q : z.column ≡ s.column = ap (λ (t : Spot). t.column) (sym e) in omega (arith, q, c))
     last (there k) = elim k [ ]
 
-module _ (source : List Named) (m : ℕ) where
+module _ (source : List TableNames) (m : ℕ) where
   pub some_cells : (alias table column : ℕ) (cs : List Cell) (done : List Spot) (rest : List ℕ) (p : Premise) → ((c : Cell) → c ∈ cs → IsVariable c)
-      → Knows done (flat_map variable_in cs ++ rest) m p → AllBefore alias column done
+      → Knows done (flat_map cell_variable cs ++ rest) m p → AllBefore alias column done
       → Knows (done ++ spots_of_cells source alias table column cs) rest m (met_spots (spots_of_cells source alias table column cs) p)
       × AllBefore (suc alias) 0 (done ++ spots_of_cells source alias table column cs)
   some_cells alias table column [] done rest p v k b =
@@ -197,7 +197,7 @@ module _ (source : List Named) (m : ℕ) where
       next z (inr l) = inl (omega (arith, l.0))
   some_cells alias table column (Var x ∷ cs) done rest p v k b =
       let s : Spot = record { alias = alias; column = column; name = column_at source table column; cell = Var x } in
-      let one = one_cell done s (flat_map variable_in cs ++ rest) m x p k refl b in
+      let one = one_cell done s (flat_map cell_variable cs ++ rest) m x p k refl b in
       let more = some_cells alias table (suc column) cs (done ++ s ∷ []) rest (met x (shows s) p) (λ c n. v c (there n)) one (further_on alias column done s refl refl b) in
       let e : (done ++ s ∷ []) ++ spots_of_cells source alias table (suc column) cs ≡ done ++ s ∷ spots_of_cells source alias table (suc column) cs = append_assoc done (s ∷ []) (spots_of_cells source alias table (suc column) cs) in
       (subst (λ z. Knows z rest m (met_spots (spots_of_cells source alias table (suc column) cs) (met x (shows s) p))) e more.0, subst (AllBefore (suc alias) 0) e more.1)
@@ -205,23 +205,23 @@ module _ (source : List Named) (m : ℕ) where
   some_cells alias table column (Lit t ∷ cs) done rest p v k b = elim (v (Lit t) (here refl)) [ ]
 
   some_atoms : (alias : ℕ) (atoms : List Atom) (done : List Spot) (p : Premise) → ((a : Atom) → a ∈ atoms → (c : Cell) → c ∈ a.cells → IsVariable c)
-      → Knows done (flat_map variable_in (cells_of atoms)) m p → AllBefore alias 0 done → Knows (done ++ spots source alias atoms) [] m (met_spots (spots source alias atoms) p)
+      → Knows done (flat_map cell_variable (cells_of atoms)) m p → AllBefore alias 0 done → Knows (done ++ spots source alias atoms) [] m (met_spots (spots source alias atoms) p)
   some_atoms alias [] done p v k b = subst (λ z. Knows z [] m p) (sym (append-nil done)) k
   some_atoms alias (a ∷ atoms) done p v k b =
       let here_spots : List Spot = spots_of_cells source alias a.table 0 a.cells in
-      let k2 : Knows done (flat_map variable_in a.cells ++ flat_map variable_in (cells_of atoms)) m p = subst (λ z. Knows done z m p) (flat_map-append variable_in a.cells (cells_of atoms)) k in
-      let one = some_cells alias a.table 0 a.cells done (flat_map variable_in (cells_of atoms)) p (v a (here refl)) k2 b in
+      let k2 : Knows done (flat_map cell_variable a.cells ++ flat_map cell_variable (cells_of atoms)) m p = subst (λ z. Knows done z m p) (flat_map-append cell_variable a.cells (cells_of atoms)) k in
+      let one = some_cells alias a.table 0 a.cells done (flat_map cell_variable (cells_of atoms)) p (v a (here refl)) k2 b in
       let more = some_atoms (suc alias) atoms (done ++ here_spots) (met_spots here_spots p) (λ d n. v d (there n)) one.0 one.1 in
       let e : (done ++ here_spots) ++ spots source (suc alias) atoms ≡ done ++ (here_spots ++ spots source (suc alias) atoms) = append_assoc done here_spots (spots source (suc alias) atoms) in
       subst (λ z. Knows (done ++ (here_spots ++ spots source (suc alias) atoms)) [] m z) (sym (met_append here_spots (spots source (suc alias) atoms) p))
       (subst (λ z. Knows z [] m (met_spots (spots source (suc alias) atoms) (met_spots here_spots p))) e more)
 
 -- what is met in the premise of a rule: the first cells of its variables, in order, and what is equal to them
-pub premise_met : (source : List Named) (d : Rule) (p : Premise) → IsRule d → p ≡ met_spots (spots source 0 d.premise) (record { firsts = []; equal = [] })
+pub premise_met : (source : List TableNames) (d : Rule) (p : Premise) → IsRule d → p ≡ met_spots (spots source 0 d.premise) (record { firsts = []; equal = [] })
     → (p.firsts ≡ map (λ x. shows (first_spot x (spots source 0 d.premise))) (below (premise_variables d))) × (p.equal ≡ equals (spots source 0 d.premise))
 premise_met source d p r e =
     let start : Premise = record { firsts = []; equal = [] } in
-    let k0 : Knows [] (flat_map variable_in (cells_of d.premise)) (premise_variables d) start =
+    let k0 : Knows [] (flat_map cell_variable (cells_of d.premise)) (premise_variables d) start =
     record { firsts = refl; standing = λ x h. absurd (omega arith); few = λ s m x q. elim m [ ]; equal = refl; numbered = r.numbered } in
     let k = some_atoms source (premise_variables d) 0 d.premise [] start r.plain k0 (λ z m. elim m [ ]) in
     let w : Knows (spots source 0 d.premise) [] (premise_variables d) p = subst (λ z. Knows (spots source 0 d.premise) [] (premise_variables d) z) (sym e) k in
@@ -244,7 +244,7 @@ few_atoms atoms i h l f =
     ap (λ z. length (cells_of z)) (sym (take-append-drop i atoms)) ∙ (ap length (flat_map-append (λ (b : Atom). b.cells) (take i atoms) (drop i atoms)) ∙ length-append (cells_of (take i atoms)) (cells_of (drop i atoms))) in
     omega (arith, q, l, f)
 
-pub one_atom : (source : List Named) (atoms : List Atom) (i : ℕ) (a : Atom) (p q whole : Premise) → i < length atoms → a ≡ get_or atoms i a → q ≡ met_spots (spots_of_cells source i a.table 0 a.cells) p
+pub one_atom : (source : List TableNames) (atoms : List Atom) (i : ℕ) (a : Atom) (p q whole : Premise) → i < length atoms → a ≡ get_or atoms i a → q ≡ met_spots (spots_of_cells source i a.table 0 a.cells) p
     → met_spots (spots source i (drop i atoms)) p ≡ whole → met_spots (spots source (i + 1) (drop (i + 1) atoms)) q ≡ whole
 one_atom source atoms i a p q whole h e m k =
     let d : drop i atoms ≡ a ∷ drop (i + 1) atoms = cut_at atoms i a h e in

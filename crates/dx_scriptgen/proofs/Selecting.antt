@@ -7,7 +7,7 @@ use Rattle.dx_ports.proofs.Members.{in_at, in_map}
 use Rattle.dx_ports.proofs.Tests.{map_same}
 use Rattle.dx_model.specs.declared.rules.Derived.{Derived}
 use Rattle.dx_model.specs.declared.rules.Rule.{Rule}
-use Rattle.dx_model.specs.Values.{Text}
+use Rattle.dx_ports.specs.Texts.{Text}
 use Rattle.dx_model.specs.Fitting.{premise_variables}
 use Rattle.dx_funcs.specs.declared.conversion.Conversion.{Conversion}
 use Rattle.dx_funcs.specs.Names.{conversion_name}

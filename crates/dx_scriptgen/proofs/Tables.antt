@@ -9,13 +9,13 @@ use Rattle.dx_model.specs.Rules.{exported, cells_of}
 use Rattle.dx_model.specs.Fitting.{IsRule}
 use Rattle.dx_model.proofs.Cells.{variables_few}
 use Rattle.dx_schema.specs.Forest.{Forest}
-use Rattle.dx_schema.specs.Tables.{TableOf, table_at, tables_of, no_table}
-use Rattle.dx_schema.specs.Names.{Named, named_of, names_of_table}
+use Rattle.dx_schema.specs.Tables.{TableOf, schema_table, tables_of, no_table}
+use Rattle.dx_schema.specs.Names.{TableNames, table_names_of, names_of_table}
 
-pub named_item : (f : Forest) (t : ℕ) (d : Named) → t < length (tables_of f) → names_of_table (table_at f t) ≡ get_or (named_of f) t d
+pub named_item : (f : Forest) (t : ℕ) (d : TableNames) → t < length (tables_of f) → names_of_table (schema_table f t) ≡ get_or (table_names_of f) t d
 named_item f t d h = sym (get_or-map names_of_table (tables_of f) t no_table d h)
 
-pub named_within : (f : Forest) (t : ℕ) → t < length (tables_of f) → t < length (named_of f)
+pub named_within : (f : Forest) (t : ℕ) → t < length (tables_of f) → t < length (table_names_of f)
 named_within f t h = rw (length-map (tables_of f) names_of_table) h
 
 -- ---- few variables

@@ -13,8 +13,8 @@ use Rattle.dx_model.specs.Covers.{below, rule_at}
 use Rattle.dx_model.specs.Fitting.{AgreeInWidths, RuleFits, conclusions_of}
 use Rattle.dx_model.proofs.Lists.{from_below}
 use Rattle.dx_schema.specs.Forest.{Forest}
-use Rattle.dx_schema.specs.Tables.{AreTables, model_tables, table_at, tables_of}
-use Rattle.dx_schema.specs.Names.{Named}
+use Rattle.dx_schema.specs.Tables.{AreTables, model_tables, schema_table, tables_of}
+use Rattle.dx_schema.specs.Names.{TableNames}
 use Rattle.dx_funcs.specs.declared.conversion.Conversion.{Conversion}
 use Rattle.dx_script.specs.declared.form.Unless.{Unless}
 use Rattle.dx_script.specs.declared.form.Step.{Step}
@@ -25,7 +25,7 @@ use Rattle.dx_ports.proofs.Members.{in_at}
 use Rattle.dx_schema.proofs.Facts.{atom_table, atom_width}
 
 -- the steps of all kinds, one kind after the other
-pub whole_is : (S T : List Named) (list : List Conversion) (parts : List (List Unless)) (R : List Rule) (kept : List Bool) (s0 s1 s2 s3 s4 : List Step)
+pub whole_is : (S T : List TableNames) (list : List Conversion) (parts : List (List Unless)) (R : List Rule) (kept : List Bool) (s0 s1 s2 s3 s4 : List Step)
     → s0 ≡ [] → s1 ≡ s0 ++ create_steps T → s2 ≡ s1 ++ match_steps S list R → kept ≡ map has_parts parts → length parts ≡ length R
     → s3 ≡ s2 ++ flat_map (λ r. keep_step r (get_or parts r [])) (below (length parts))
     → s4 ≡ s3 ++ flat_map (λ r. inserts_of T (get_or kept r false) r (rule_at R r)) (below (length R))
@@ -44,7 +44,7 @@ whole_is S T list parts R kept s0 s1 s2 s3 s4 a b c k l d e =
     ∙ append_assoc (create_steps T) (match_steps S list R) (keep_steps keeps R ++ insert_steps T keeps R))))
 
 -- only the parts of the rules that are there count
-pub same_script : (S T : List Named) (list : List Conversion) (keeps others : ℕ → List Unless) (R : List Rule) → ((r : ℕ) → r < length R → keeps r ≡ others r)
+pub same_script : (S T : List TableNames) (list : List Conversion) (keeps others : ℕ → List Unless) (R : List Rule) → ((r : ℕ) → r < length R → keeps r ≡ others r)
     → script_with S T list keeps R ≡ script_with S T list others R
 same_script S T list keeps others R h =
     let a : keep_steps keeps R ≡ keep_steps others R =
@@ -55,7 +55,7 @@ same_script S T list keeps others R h =
     (λ i. create_steps T ++ (match_steps S list R ++ (a i ++ b i)))
 
 -- the script of parts that are listed by rule
-pub listed_script : (S T : List Named) (list : List Conversion) (keeps : ℕ → List Unless) (parts : List (List Unless)) (R : List Rule) (steps : List Step) → parts ≡ map keeps (below (length R))
+pub listed_script : (S T : List TableNames) (list : List Conversion) (keeps : ℕ → List Unless) (parts : List (List Unless)) (R : List Rule) (steps : List Step) → parts ≡ map keeps (below (length R))
     → steps ≡ script_with S T list (λ r. get_or parts r []) R → steps ≡ script_with S T list keeps R
 listed_script S T list keeps parts R steps e p =
     p ∙ same_script S T list (λ r. get_or parts r []) keeps R (λ r h. ap (λ z. get_or z r []) e ∙ at_below keeps (length R) r [] h)
@@ -64,11 +64,11 @@ listed_script S T list keeps parts R steps e p =
 pub agree_in_widths : (source : List Table) (target : Forest) (R : List Rule) → AreTables (tables_of target) → Each R (RuleFits source (model_tables target)) → AgreeInWidths (conclusions_of R)
 agree_in_widths source target R t f = record {
   some = λ a m. let w = fits a m in some a w (atom_width target a w) (atom_table target a w);
-  one = λ a m b n e. atom_width target a (fits a m) ∙ (ap (λ z. length (table_at target z).columns) e ∙ sym (atom_width target b (fits b n)));
+  one = λ a m b n e. atom_width target a (fits a m) ∙ (ap (λ z. length (schema_table target z).columns) e ∙ sym (atom_width target b (fits b n)));
 }
   where
     fits : (a : Atom) → a ∈ conclusions_of R → AtomFits (model_tables target) a
     fits a m = let w = from_flat_map (λ (d : Rule). d.conclusion) R m in (f w.0 w.1).conclusion a w.2
 
-    some : (a : Atom) → AtomFits (model_tables target) a → length a.cells ≡ length (table_at target a.table).columns → a.table < length (tables_of target) → 1 ≤ length a.cells
-    some a w e h = let s = (t.each_table (table_at target a.table) (in_at (tables_of target) a.table no_table h)).some_column in omega (arith, s, e)
+    some : (a : Atom) → AtomFits (model_tables target) a → length a.cells ≡ length (schema_table target a.table).columns → a.table < length (tables_of target) → 1 ≤ length a.cells
+    some a w e h = let s = (t.each_table (schema_table target a.table) (in_at (tables_of target) a.table no_table h)).some_column in omega (arith, s, e)

@@ -3,7 +3,7 @@ use Rattle.std.specs.Prelude.{ℕ, cond, nat_lt, List, [], ◌∷◌, ◌++◌, 
 use Rattle.dx_model.specs.declared.rules.Cell.{Cell}
 use Rattle.dx_model.specs.declared.rules.Cell.TheVariants.{Var, Ex, Lit}
 use Rattle.dx_model.specs.declared.rules.Atom.{Atom}
-use Rattle.dx_schema.specs.Names.{Named}
+use Rattle.dx_schema.specs.Names.{TableNames}
 use Rattle.dx_script.specs.declared.form.CellRef.{CellRef}
 use Rattle.dx_script.specs.Generated.{Spot, shows, spots_of_cells}
 use Rattle.dx_scriptgen.specs.declared.premise.Premise.{Premise}
@@ -27,5 +27,5 @@ met_spots [] p = p
 met_spots (s ∷ ss) p = met_spots ss (met_cell (shows s) s.cell p)
 
 -- the cells of the atom of an alias
-abbrev pub met_atom : List Named → ℕ → Atom → Premise → Premise
+abbrev pub met_atom : List TableNames → ℕ → Atom → Premise → Premise
 met_atom source alias a p = met_spots (spots_of_cells source alias a.table 0 a.cells) p

@@ -2,7 +2,7 @@
 use Rattle.std.specs.Prelude.{ℕ, List, [], Bool, false, flat_map, length, slice_index_or}
 use Rattle.dx_model.specs.declared.rules.Rule.{Rule}
 use Rattle.dx_model.specs.Covers.{below, rule_at}
-use Rattle.dx_schema.specs.Names.{Named}
+use Rattle.dx_schema.specs.Names.{TableNames}
 use Rattle.dx_script.specs.declared.form.Step.{Step}
 use Rattle.dx_script.specs.declared.form.Unless.{Unless}
 use Rattle.dx_script.specs.Generated.{inserts_of, keep_step}
@@ -16,5 +16,5 @@ abbrev pub keeps_by : List (List Unless) → List Step
 keeps_by parts = flat_map (λ r. keep_step r (parts_in parts r)) (below (length parts))
 
 -- the insert steps of all rules, of each from its keep table if it is told to have one
-abbrev pub inserts_by : List Named → List Bool → List Rule → List Step
+abbrev pub inserts_by : List TableNames → List Bool → List Rule → List Step
 inserts_by target kept R = flat_map (λ r. inserts_of target (slice_index_or kept r false) r (rule_at R r)) (below (length R))

@@ -9,7 +9,7 @@ ghost use Rattle.dx_model.specs.Rules.{AreRows, canonical};
 ghost use Rattle.dx_model.specs.Covers.{below, least_cover, uncovered};
 ghost use Rattle.dx_model.specs.Fitting.{IsRule, RuleFits};
 ghost use Rattle.dx_schema.specs.Tables.{model_tables};
-ghost use Rattle.dx_schema.specs.Names.{named_of};
+ghost use Rattle.dx_schema.specs.Names.{table_names_of};
 ghost use Rattle.dx_funcs.specs.Names.{call_named};
 ghost use Rattle.dx_funcs.specs.Offers.{IsListed};
 ghost use Rattle.dx_funcs.specs.Serving.{offered};
@@ -33,7 +33,7 @@ use std::alloc::{AllocError, Global};
 
 /// Adds a create step for each table.
 fn push_creates(alloc: Global, steps: &mut Items<Step>, target: &Schema) -> Result<(), AllocError>
-    ensures { OnOk result (steps.new ≡ steps.old ++ create_steps (named_of target.now)) }
+    ensures { OnOk result (steps.new ≡ steps.old ++ create_steps (table_names_of target.now)) }
 {
     for table in 0..target.tables() {
         steps.push(Step::Create {
@@ -56,7 +56,7 @@ fn push_matches<F: Fn(u32, &Items<Text>) -> Result<Text, AllocError>, M: Meaning
     requires premises { Each rules.now (λ d. Each d.premise (AtomFits (model_tables source.now))) }
     requires listed { Each rules.now (λ d. Each d.derived (λ e. IsListed (offered host.now) e.code (length e.args))) }
     requires few { length rules.now < 4294967296 }
-    ensures { OnOk result (steps.new ≡ steps.old ++ match_steps (named_of source.now) (offered host.now) rules.now) }
+    ensures { OnOk result (steps.new ≡ steps.old ++ match_steps (table_names_of source.now) (offered host.now) rules.now) }
 {
     for number in 0..rules.len() {
         steps.push(match_step(alloc, number as u32, &rules[number], source, host)?)?;
@@ -103,7 +103,7 @@ fn push_all_inserts(
     requires conclusions { Each rules.now (λ d. Each d.conclusion (AtomFits (model_tables target.now))) }
     requires one { length kept.now ≡ length rules.now }
     requires few { length rules.now < 4294967296 }
-    ensures { OnOk result (steps.new ≡ steps.old ++ inserts_by (named_of target.now) kept.now rules.now) }
+    ensures { OnOk result (steps.new ≡ steps.old ++ inserts_by (table_names_of target.now) kept.now rules.now) }
 {
     for number in 0..rules.len() {
         let rule = &rules[number];
@@ -136,7 +136,7 @@ fn script_of<F: Fn(u32, &Items<Text>) -> Result<Text, AllocError>, M: Meaning>(
     requires one { length parts.items ≡ length rules.now }
     requires few { length rules.now < 4294967296 }
     ensures { IfOk result (λ s. s.steps
-        ≡ script_with (named_of source.now) (named_of target.now) (offered host.now) (parts_in parts.items) rules.now) }
+        ≡ script_with (table_names_of source.now) (table_names_of target.now) (offered host.now) (parts_in parts.items) rules.now) }
 {
     let mut steps = Items::new(alloc);
     push_creates(alloc, &mut steps, target)?;
@@ -173,10 +173,10 @@ pub fn plain_script<F: Fn(u32, &Items<Text>) -> Result<Text, AllocError>, M: Mea
     requires rules { Each rules.now (RuleFits (model_tables source.now) (model_tables target.now)) }
     requires listed { Each rules.now (λ d. Each d.derived (λ e. IsListed (offered host.now) e.code (length e.args))) }
     requires few { length rules.now < 2 ^ 32 - 1 }
-    ensures steps { IfOk result (λ s. s.steps ≡ plain_steps (named_of source.now) (named_of target.now) (offered host.now) rules.now) }
-    ensures fits { IfOk result (λ s. FitsScript (named_of source.now) (named_of target.now) (offered host.now) s.steps) }
+    ensures steps { IfOk result (λ s. s.steps ≡ plain_steps (table_names_of source.now) (table_names_of target.now) (offered host.now) rules.now) }
+    ensures fits { IfOk result (λ s. FitsScript (table_names_of source.now) (table_names_of target.now) (offered host.now) s.steps) }
     ensures means { IfOk result (λ s. (I K : List Fact) (rows : Rows) → IsInstance (model_tables source.now) I
-        → Means (named_of source.now) (named_of target.now) (call_named M.apply (offered host.now)) s.steps I rows K
+        → Means (table_names_of source.now) (table_names_of target.now) (call_named M.apply (offered host.now)) s.steps I rows K
         ↔ (AreRows M.apply rules.now I rows × (K ⊆ canonical 0 rules.now rows) × (canonical 0 rules.now rows ⊆ K))) }
 {
     // Both calls tell that names tell the tables apart.
@@ -200,10 +200,10 @@ pub fn rewritten_script<F: Fn(u32, &Items<Text>) -> Result<Text, AllocError>, M:
     requires rules { Each rules.now (RuleFits (model_tables source.now) (model_tables target.now)) }
     requires listed { Each rules.now (λ d. Each d.derived (λ e. IsListed (offered host.now) e.code (length e.args))) }
     requires few { length rules.now < 2 ^ 32 - 1 }
-    ensures steps { IfOk result (λ s. s.steps ≡ rewritten_steps (named_of source.now) (named_of target.now) (offered host.now) rules.now) }
-    ensures fits { IfOk result (λ s. FitsScript (named_of source.now) (named_of target.now) (offered host.now) s.steps) }
+    ensures steps { IfOk result (λ s. s.steps ≡ rewritten_steps (table_names_of source.now) (table_names_of target.now) (offered host.now) rules.now) }
+    ensures fits { IfOk result (λ s. FitsScript (table_names_of source.now) (table_names_of target.now) (offered host.now) s.steps) }
     ensures means { IfOk result (λ s. (I K : List Fact) (rows : Rows) → IsInstance (model_tables source.now) I
-        → Means (named_of source.now) (named_of target.now) (call_named M.apply (offered host.now)) s.steps I rows K
+        → Means (table_names_of source.now) (table_names_of target.now) (call_named M.apply (offered host.now)) s.steps I rows K
         ↔ (AreRows M.apply rules.now I rows
         × (K ⊆ uncovered (least_cover rules.now rows) 0 rules.now rows) × (uncovered (least_cover rules.now rows) 0 rules.now rows ⊆ K))) }
 {

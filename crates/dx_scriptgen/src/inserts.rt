@@ -5,7 +5,7 @@ ghost use Rattle.dx_ports.specs.Members.{Each};
 ghost use Rattle.dx_model.specs.declared.rules.Rule.{Rule as RuleValue};
 ghost use Rattle.dx_model.specs.Rules.{exported as exported_of};
 ghost use Rattle.dx_schema.specs.Tables.{tables_of};
-ghost use Rattle.dx_schema.specs.Names.{named_of};
+ghost use Rattle.dx_schema.specs.Names.{table_names_of};
 ghost use Rattle.dx_script.specs.Generated.{inserts_of, out_of as out_for};
 
 use dx_model::{Atom, Cell, Rule};
@@ -64,7 +64,7 @@ pub(crate) fn push_inserts(
     requires tables { Each rule.now.conclusion (λ a. a.table < length (tables_of target.now)) }
     requires variables { variables.now ≡ exported_of rule.now }
     requires few { length variables.now < 4294967296 }
-    ensures { OnOk result (steps.new ≡ steps.old ++ inserts_of (named_of target.now) kept number rule.now) }
+    ensures { OnOk result (steps.new ≡ steps.old ++ inserts_of (table_names_of target.now) kept number rule.now) }
 {
     for atom in rule.conclusion.items() {
         steps.push(Step::InsertRows {

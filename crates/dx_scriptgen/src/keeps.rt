@@ -2,7 +2,7 @@
 ghost use Rattle.std.specs.Prelude.{◌≡◌, ◌<◌, ◌++◌, IfOk, OnOk, length, map};
 ghost use Rattle.dx_ports.specs.Members.{Each};
 ghost use Rattle.dx_model.specs.Rules.{exported as exported_of};
-ghost use Rattle.dx_model.specs.Covers.{IsKnown, below, rule_at, used_maps};
+ghost use Rattle.dx_model.specs.Covers.{IsNoExistential, below, rule_at, used_maps};
 ghost use Rattle.dx_model.specs.Fitting.{AgreeInWidths, IsRule, conclusions_of};
 ghost use Rattle.dx_cover.specs.Covering.{covers_of};
 ghost use Rattle.dx_script.specs.Rewritten.{unless_of, unless_parts};
@@ -17,7 +17,7 @@ use std::alloc::{AllocError, Global};
 
 /// The test that a column of its own has the text of a cell of the other rule, by that rule's exported variables.
 fn test_of(own: u32, cell: &Cell, others: &[u32]) -> Result<Test, AllocError>
-    requires known { IsKnown cell.now }
+    requires known { IsNoExistential cell.now }
     requires few { length others.now < 4294967296 }
     ensures { IfOk result (λ t. t ≡ test_for others.now own cell.now) }
 {
@@ -36,7 +36,7 @@ fn test_of(own: u32, cell: &Cell, others: &[u32]) -> Result<Test, AllocError>
 
 /// The tests of a cell map, by the exported variables of the rule that it leads to.
 fn tests_of(alloc: Global, cells: &[Cell], others: &[u32]) -> Result<Items<Test>, AllocError>
-    requires known { Each cells.now IsKnown }
+    requires known { Each cells.now IsNoExistential }
     requires own { length cells.now < 4294967296 }
     requires few { length others.now < 4294967296 }
     ensures { IfOk result (λ ts. ts ≡ tests_for others.now cells.now) }

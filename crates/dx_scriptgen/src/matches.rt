@@ -4,7 +4,7 @@ ghost use Rattle.dx_ports.specs.Members.{Each};
 ghost use Rattle.dx_model.specs.Rules.{exported as exported_of};
 ghost use Rattle.dx_model.specs.Fitting.{IsRule, premise_variables};
 ghost use Rattle.dx_schema.specs.Tables.{model_tables, tables_of};
-ghost use Rattle.dx_schema.specs.Names.{named_of};
+ghost use Rattle.dx_schema.specs.Names.{table_names_of};
 ghost use Rattle.dx_funcs.specs.Offers.{IsListed};
 ghost use Rattle.dx_funcs.specs.Serving.{offered};
 ghost use Rattle.dx_model.specs.declared.rules.Atom.{Atom as AtomValue};
@@ -51,7 +51,7 @@ fn select_of<F: Fn(u32, &Items<Text>) -> Result<Text, AllocError>, M: Meaning>(
 /// The names of the tables of atoms.
 fn table_names(alloc: Global, source: &Schema, atoms: &[Atom]) -> Result<Items<Text>, AllocError>
     requires tables { Each atoms.now (λ a. a.table < length (tables_of source.now)) }
-    ensures { IfOk result (λ names. names ≡ map (λ (a : AtomValue). (table_numbered (named_of source.now) a.table).name) atoms.now) }
+    ensures { IfOk result (λ names. names ≡ map (λ (a : AtomValue). (table_numbered (table_names_of source.now) a.table).name) atoms.now) }
 {
     let mut names = Items::new(alloc);
     for atom in atoms {
@@ -92,7 +92,7 @@ pub(crate) fn match_step<F: Fn(u32, &Items<Text>) -> Result<Text, AllocError>, M
     requires rule { IsRule rule.now }
     requires atoms { Each rule.now.premise (AtomFits (model_tables source.now)) }
     requires listed { Each rule.now.derived (λ e. IsListed (offered host.now) e.code (length e.args)) }
-    ensures { IfOk result (λ s. s ≡ match_of (named_of source.now) (offered host.now) number rule.now) }
+    ensures { IfOk result (λ s. s ≡ match_of (table_names_of source.now) (offered host.now) number rule.now) }
 {
     let atoms = rule.premise.items();
     let premise = Premise::of_atoms(alloc, source, atoms)?;

@@ -2,8 +2,8 @@
 ghost use Rattle.std.specs.Prelude.{◌≡◌, ◌<◌, ◌≤◌, [], IfOk, OnOk, length};
 ghost use Rattle.dx_ports.specs.Members.{Each};
 ghost use Rattle.dx_model.specs.Rules.{cells_of};
-ghost use Rattle.dx_schema.specs.Tables.{table_at, tables_of};
-ghost use Rattle.dx_schema.specs.Names.{named_of};
+ghost use Rattle.dx_schema.specs.Tables.{schema_table, tables_of};
+ghost use Rattle.dx_schema.specs.Names.{table_names_of};
 ghost use Rattle.dx_script.specs.Generated.{spots};
 ghost use Rattle.dx_scriptgen.specs.Premises.{met as met_of, met_atom, met_spots};
 
@@ -38,9 +38,9 @@ impl Premise {
     /// The cells of one atom more.
     fn add_atom(&mut self, source: &Schema, alias: u32, atom: &Atom) -> Result<(), AllocError>
         requires table { atom.now.table < length (tables_of source.now) }
-        requires width { length atom.now.cells ≡ length (table_at source.now atom.now.table).columns }
+        requires width { length atom.now.cells ≡ length (schema_table source.now atom.now.table).columns }
         ensures some { 1 ≤ length atom.now.cells }
-        ensures met { OnOk result (self.new ≡ met_atom (named_of source.now) alias atom.now self.old) }
+        ensures met { OnOk result (self.new ≡ met_atom (table_names_of source.now) alias atom.now self.old) }
     {
         let cells = atom.cells.items();
         for column in 0..source.width(atom.table) {
@@ -65,9 +65,9 @@ impl Premise {
         atoms: &[Atom],
     ) -> Result<Premise, AllocError>
         requires tables { Each atoms.now (λ a. a.table < length (tables_of source.now)) }
-        requires widths { Each atoms.now (λ a. length a.cells ≡ length (table_at source.now a.table).columns) }
+        requires widths { Each atoms.now (λ a. length a.cells ≡ length (schema_table source.now a.table).columns) }
         requires few { length (cells_of atoms.now) < 4294967296 }
-        ensures { IfOk result (λ p. p ≡ met_spots (spots (named_of source.now) 0 atoms.now) (record { firsts = []; equal = [] })) }
+        ensures { IfOk result (λ p. p ≡ met_spots (spots (table_names_of source.now) 0 atoms.now) (record { firsts = []; equal = [] })) }
     {
         let mut premise = Premise {
             firsts: Items::new(alloc),

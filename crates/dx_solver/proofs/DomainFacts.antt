@@ -10,19 +10,19 @@ use Rattle.std.proofs.lemmas.Grind.{pow_more}
 use Rattle.dx_solver.specs.declared.domain.Domain.{Domain}
 use Rattle.dx_solver.specs.declared.domain.Domain.TheVariants.{Any}
 use Rattle.dx_solver.specs.declared.node.Node.{Node}
-use Rattle.dx_solver.specs.Domains.{Has, Keeps, size, weight, worth}
+use Rattle.dx_solver.specs.Domains.{DomainHas, Keeps, domain_size, weight, worth}
 
 -- another domain for a variable
-pub keeps_set : (ds : List Domain) (v : ℕ) (d : Domain) (a : ℕ → ℕ) → v < length ds → Keeps ds a → Has d (a v) → Keeps (set ds v d) a
+pub keeps_set : (ds : List Domain) (v : ℕ) (d : Domain) (a : ℕ → ℕ) → v < length ds → Keeps ds a → DomainHas d (a v) → Keeps (set ds v d) a
 keeps_set ds v d a h k m w = elim (cases_eq w v) [
-  | inl e ↦ subst (λ (u : ℕ). Has (get_or (set ds v d) u Any) (a u)) (sym e)
-      (subst (λ (x : Domain). Has x (a v)) (sym (get_or-set_same ds v d Any h)) m)
-  | inr n ↦ subst (λ (x : Domain). Has x (a w)) (sym (get_or-set_other ds v w d Any n)) (k w)
+  | inl e ↦ subst (λ (u : ℕ). DomainHas (get_or (set ds v d) u Any) (a u)) (sym e)
+      (subst (λ (x : Domain). DomainHas x (a v)) (sym (get_or-set_same ds v d Any h)) m)
+  | inr n ↦ subst (λ (x : Domain). DomainHas x (a w)) (sym (get_or-set_other ds v w d Any n)) (k w)
 ]
 
-pub less_set : (m : ℕ) (ds : List Domain) (v : ℕ) (d : Domain) → v < length ds → size m d < size m (get_or ds v Any)
+pub less_set : (m : ℕ) (ds : List Domain) (v : ℕ) (d : Domain) → v < length ds → domain_size m d < domain_size m (get_or ds v Any)
     → weight m (set ds v d) < weight m ds
-less_set m ds v d h l = let e = sum_by-set (size m) ds v d Any h in omega (arith, e, l)
+less_set m ds v d h l = let e = sum_by-set (domain_size m) ds v d Any h in omega (arith, e, l)
 
 -- powers of three
 up : (a w : ℕ) → a ≤ w → 3 ^ a ≤ 3 ^ w
@@ -52,15 +52,15 @@ pub worth_two : (m n : Node) (w : ℕ) → weight (2 ^ 32) m.domains.items < w �
 worth_two m n w h k = let t = twice (weight (2 ^ 32) m.domains.items) (weight (2 ^ 32) n.domains.items) w h k in omega (arith, t)
 
 -- one domain more
-pub keeps_push : (ds : List Domain) (d : Domain) (a : ℕ → ℕ) → Keeps ds a → Has d (a (length ds)) → Keeps (ds ++ d ∷ []) a
+pub keeps_push : (ds : List Domain) (d : Domain) (a : ℕ → ℕ) → Keeps ds a → DomainHas d (a (length ds)) → Keeps (ds ++ d ∷ []) a
 keeps_push ds d a k h w = elim (cases_lt w (length ds)) [
-  | inl l ↦ subst (λ (x : Domain). Has x (a w)) (sym (get_or_append_left ds (d ∷ []) Any w l)) (k w)
+  | inl l ↦ subst (λ (x : Domain). DomainHas x (a w)) (sym (get_or_append_left ds (d ∷ []) Any w l)) (k w)
   | inr l ↦ elim (cases_eq w (length ds)) [
-    | inl e ↦ subst (λ (u : ℕ). Has (get_or (ds ++ d ∷ []) u Any) (a u)) (sym e)
-        (subst (λ (x : Domain). Has x (a (length ds))) (sym (get_or_push ds d Any (length ds) refl)) h)
+    | inl e ↦ subst (λ (u : ℕ). DomainHas (get_or (ds ++ d ∷ []) u Any) (a u)) (sym e)
+        (subst (λ (x : Domain). DomainHas x (a (length ds))) (sym (get_or_push ds d Any (length ds) refl)) h)
     | inr n ↦
         let long = length-append ds (d ∷ []) in
         let past : get_or (ds ++ d ∷ []) w Any ≡ Any = get_or_past (ds ++ d ∷ []) w Any (omega (arith, long, l, n)) in
-        subst (λ (x : Domain). Has x (a w)) (sym past) tt
+        subst (λ (x : Domain). DomainHas x (a w)) (sym past) tt
   ]
 ]

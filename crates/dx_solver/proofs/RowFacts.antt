@@ -13,8 +13,8 @@ use Rattle.dx_solver.specs.declared.atom.Term.TheVariants.{Number}
 use Rattle.dx_solver.specs.declared.atom.PatternAtom.{PatternAtom}
 use Rattle.dx_solver.specs.declared.domain.Domain.{Domain}
 use Rattle.dx_solver.specs.declared.rows.Key.{Key}
-use Rattle.dx_solver.specs.Domains.{HasKey, IsImage, Keeps, term_at}
-use Rattle.dx_solver.specs.Questions.{Stands, number_under, row_under}
+use Rattle.dx_solver.specs.Domains.{HasKey, IsImageRow, Keeps, term_at}
+use Rattle.dx_solver.specs.Questions.{HasImageRow, number_under, row_under}
 
 -- the number in a column of what terms become
 pub column_of : (f : Term → ℕ) (terms : List Term) (row : List ℕ) (c : ℕ) (d : Term) → c < length terms → row ≡ map f terms
@@ -66,18 +66,18 @@ no_more P K a n q done key none met p l h m = elim (cases_eq p q) [
 ]
 
 -- an image, and a row that stands
-pub stands_at : (T : List NumberTable) (out : List (List Bool)) (a : ℕ → ℕ) (atom : PatternAtom) (p : ℕ) → IsImage T out a atom p
-    → Stands T out a atom
+pub stands_at : (T : List NumberTable) (out : List (List Bool)) (a : ℕ → ℕ) (atom : PatternAtom) (p : ℕ) → IsImageRow T out a atom p
+    → HasImageRow T out a atom
 stands_at T out a atom p i = (p, i.place, i.kept, i.row)
 
-pub image_of : (T : List NumberTable) (out : List (List Bool)) (a : ℕ → ℕ) (atom : PatternAtom) → (s : Stands T out a atom)
-    → IsImage T out a atom s.0
+pub image_of : (T : List NumberTable) (out : List (List Bool)) (a : ℕ → ℕ) (atom : PatternAtom) → (s : HasImageRow T out a atom)
+    → IsImageRow T out a atom s.0
 image_of T out a atom s = record { place = s.1; kept = s.2; row = s.3 }
 
 -- the key that an image has
 pub has_key : (T : List NumberTable) (out : List (List Bool)) (a : ℕ → ℕ) (atom : PatternAtom) (key : Option Key) (p : ℕ)
     → IfSome key (λ k. (k.column < length atom.terms) × (number_under a (term_at atom.terms k.column) ≡ k.number))
-    → IsImage T out a atom p → HasKey (numbers_of_table T atom.table).rows key p
+    → IsImageRow T out a atom p → HasKey (numbers_of_table T atom.table).rows key p
 has_key T out a atom None p h i = tt
 has_key T out a atom (Some k) p h i =
     column_of (number_under a) atom.terms (numbers_at (numbers_of_table T atom.table).rows p) k.column (Number 0) h.0 i.row ∙ h.1
@@ -90,7 +90,7 @@ key_for ds terms a (Some x) h k = (h.0, h.1 a k)
 
 -- an atom does not stand if what it becomes is no row
 pub none_stands : (T : List NumberTable) (out : List (List Bool)) (a : ℕ → ℕ) (atom : PatternAtom) (row : List ℕ)
-    → row ≡ row_under a atom → ¬ (row ∈ (numbers_of_table T atom.table).rows) → ¬ (Stands T out a atom)
+    → row ≡ row_under a atom → ¬ (row ∈ (numbers_of_table T atom.table).rows) → ¬ (HasImageRow T out a atom)
 none_stands T out a atom row e none s =
     let rows = (numbers_of_table T atom.table).rows in
     none (subst (λ (r : List ℕ). r ∈ rows) (s.3 ∙ sym e) (in_at rows s.0 [] s.1))

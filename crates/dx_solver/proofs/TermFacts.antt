@@ -14,8 +14,8 @@ use Rattle.dx_solver.specs.declared.atom.Term.TheVariants.{Number, Variable}
 use Rattle.dx_solver.specs.declared.atom.PatternAtom.{PatternAtom}
 use Rattle.dx_solver.specs.declared.domain.Domain.{Domain}
 use Rattle.dx_solver.specs.declared.domain.Domain.TheVariants.{Any}
-use Rattle.dx_solver.specs.Domains.{Has, IsBound, IsFree, IsImage, atom_at, IsLeft, Keeps, choices, size, term_at}
-use Rattle.dx_solver.specs.Questions.{FitsAtom, Solves, Stands, answered, number_under, row_under}
+use Rattle.dx_solver.specs.Domains.{DomainHas, IsBound, IsFreeTerm, IsImageRow, pattern_atom_at, IsLeftNumber, Keeps, choice_count, domain_size, term_at}
+use Rattle.dx_solver.specs.Questions.{FitsAtom, Solves, HasImageRow, answered, number_under, row_under}
 use Rattle.dx_solver.proofs.RowFacts.{column_of}
 
 map_same : (f g : Term → ℕ) (ts : List Term) → ((t : Term) → t ∈ ts → f t ≡ g t) → map f ts ≡ map g ts
@@ -26,21 +26,21 @@ none_some : (o : Option ℕ) (n : ℕ) → o ≡ None → o ≡ Some n → ⊥
 none_some o n e d = let k : ◌≡◌ {A = Option ℕ} None (Some n) = sym e ∙ d in cc
 
 -- what is left of one variable
-pub left_known : (known : Option ℕ) (n : ℕ) (d : Domain) → known ≡ Some n → IsLeft known d n
+pub left_known : (known : Option ℕ) (n : ℕ) (d : Domain) → known ≡ Some n → IsLeftNumber known d n
 left_known known n d e = record {
   fixed = λ m k. let s : ◌≡◌ {A = Option ℕ} (Some n) (Some m) = sym e ∙ k in cc;
   left = λ m k h l. absurd (none_some known n k e);
 }
 
-pub left_other : (known : Option ℕ) (d : Domain) (x : ℕ) → known ≡ None → ((n : ℕ) → Has d n → size (2 ^ 32) d ≤ 1 → x ≡ n)
-    → IsLeft known d x
+pub left_other : (known : Option ℕ) (d : Domain) (x : ℕ) → known ≡ None → ((n : ℕ) → DomainHas d n → domain_size (2 ^ 32) d ≤ 1 → x ≡ n)
+    → IsLeftNumber known d x
 left_other known d x e h = record {
   fixed = λ m k. absurd (none_some known m e k);
   left = λ m k i l. h m i l;
 }
 
 module _ (T : List NumberTable) (out : List (List Bool)) (atoms : List PatternAtom) (known : List (Option ℕ)) (ds : List Domain) (xs : List ℕ)
-    (left : (v : ℕ) → v < length known → IsLeft (get_or known v None) (get_or ds v Any) (answered xs v)) where
+    (left : (v : ℕ) → v < length known → IsLeftNumber (get_or known v None) (get_or ds v Any) (answered xs v)) where
   number_same : (a : ℕ → ℕ) → Keeps ds a → Solves T out atoms known a → (atom : PatternAtom) → FitsAtom T (length known) atom
       → IsBound ds atom → (t : Term) → t ∈ atom.terms → number_under a t ≡ number_under (answered xs) t
   number_same a k s atom f b (Number n) m = refl
@@ -53,7 +53,7 @@ module _ (T : List NumberTable) (out : List (List Bool)) (atoms : List PatternAt
       by None e = sym ((left v h).left (a v) e (k v) (b (Variable v) m))
       by (Some n) e = s.keeps v n e ∙ sym ((left v h).fixed n e)
 
-  pub none_left : Each atoms (FitsAtom T (length known)) → Each atoms (IsBound ds) → ¬ (Each atoms (Stands T out (answered xs)))
+  pub none_left : Each atoms (FitsAtom T (length known)) → Each atoms (IsBound ds) → ¬ (Each atoms (HasImageRow T out (answered xs)))
       → (a : ℕ → ℕ) → Keeps ds a → ¬ (Solves T out atoms known a)
   none_left fits bound none a k s = none (λ atom m.
       let p = s.stands atom m in
@@ -61,7 +61,7 @@ module _ (T : List NumberTable) (out : List (List Bool)) (atoms : List PatternAt
       map_same (number_under a) (number_under (answered xs)) atom.terms (number_same a k s atom (fits atom m) (bound atom m)) in
       (p.0, p.1, p.2, p.3 ∙ e))
 
-  pub found_left : Each atoms (Stands T out (answered xs)) → Solves T out atoms known (answered xs)
+  pub found_left : Each atoms (HasImageRow T out (answered xs)) → Solves T out atoms known (answered xs)
   found_left s = record {
     stands = s;
     keeps = λ v n e. elim (cases_lt v (length known)) [
@@ -78,7 +78,7 @@ variable_below T n atom c v f h e =
 
 -- the number that a variable has stands in its column
 pub value_in : (T : List NumberTable) (out : List (List Bool)) (a : ℕ → ℕ) (atom : PatternAtom) (p c v : ℕ) (places numbers : List ℕ)
-    → IsImage T out a atom p → c < length atom.terms → term_at atom.terms c ≡ Variable v → p ∈ places
+    → IsImageRow T out a atom p → c < length atom.terms → term_at atom.terms c ≡ Variable v → p ∈ places
     → numbers ≡ map (number_in (numbers_of_table T atom.table).rows c) places → a v ∈ numbers
 value_in T out a atom p c v places numbers i h e m d =
     let row = numbers_at (numbers_of_table T atom.table).rows p in
@@ -91,8 +91,8 @@ value_in T out a atom p c v places numbers i h e m d =
     (subst (λ (x : ℕ). x ∈ map (number_in (numbers_of_table T atom.table).rows c) places) (is ∙ v_is) there)
 
 -- a term that is free, in its atom
-pub free_here : (atoms : List PatternAtom) (ds : List Domain) (k c : ℕ) (atom : PatternAtom) → IsFree atoms ds k c
-    → atom ≡ get_or atoms k atom → (c < length atom.terms) × (1 < choices ds (term_at atom.terms c))
+pub free_here : (atoms : List PatternAtom) (ds : List Domain) (k c : ℕ) (atom : PatternAtom) → IsFreeTerm atoms ds k c
+    → atom ≡ get_or atoms k atom → (c < length atom.terms) × (1 < choice_count ds (term_at atom.terms c))
 free_here atoms ds k c atom f e =
-    let is : atom_at atoms k ≡ atom = get_or_default atoms k (record { table = 0; terms = [] }) atom f.atom ∙ sym e in
-    (subst (λ (x : PatternAtom). c < length x.terms) is f.column, subst (λ (x : PatternAtom). 1 < choices ds (term_at x.terms c)) is f.many)
+    let is : pattern_atom_at atoms k ≡ atom = get_or_default atoms k (record { table = 0; terms = [] }) atom f.atom ∙ sym e in
+    (subst (λ (x : PatternAtom). c < length x.terms) is f.column, subst (λ (x : PatternAtom). 1 < choice_count ds (term_at x.terms c)) is f.many)

@@ -16,55 +16,55 @@ use Rattle.dx_solver.specs.declared.rows.Key.{Key}
 use Rattle.dx_solver.specs.declared.node.Node.{Node}
 
 -- the domain has the number
-abbrev pub Has : Domain → ℕ → Type 0
-Has Any n = Unit {0}
-Has (One m) n = n ≡ m
-Has (Many ns) n = n ∈ ns
+abbrev pub DomainHas : Domain → ℕ → Type 0
+DomainHas Any n = Unit {0}
+DomainHas (One m) n = n ≡ m
+DomainHas (Many ns) n = n ∈ ns
 
 -- each variable has a number of its domain
 abbrev pub Keeps : List Domain → (ℕ → ℕ) → Type 0
-Keeps ds a = (v : ℕ) → Has (slice_index_or ds v Any) (a v)
+Keeps ds a = (v : ℕ) → DomainHas (slice_index_or ds v Any) (a v)
 
 -- how many numbers a domain has; m if it has any number
-abbrev pub size : ℕ → Domain → ℕ
-size m Any = m
-size m (One n) = 1
-size m (Many ns) = length ns
+abbrev pub domain_size : ℕ → Domain → ℕ
+domain_size m Any = m
+domain_size m (One n) = 1
+domain_size m (Many ns) = length ns
 
 -- how many numbers the domains have in all
 abbrev pub weight : ℕ → List Domain → ℕ
-weight m ds = sum_by (size m) ds
+weight m ds = sum_by (domain_size m) ds
 
 -- a term by its column
 abbrev pub term_at : List Term → ℕ → Term
 term_at terms c = slice_index_or terms c (Number 0)
 
 -- how many numbers a term can still have
-abbrev pub choices : List Domain → Term → ℕ
-choices ds (Number n) = 1
-choices ds (Variable v) = size (2 ^ 32) (slice_index_or ds v Any)
+abbrev pub choice_count : List Domain → Term → ℕ
+choice_count ds (Number n) = 1
+choice_count ds (Variable v) = domain_size (2 ^ 32) (slice_index_or ds v Any)
 
 -- each term of the atom has one number left at most
 abbrev pub IsBound : List Domain → PatternAtom → Type 0
-IsBound ds atom = Each atom.terms (λ t. choices ds t ≤ 1)
+IsBound ds atom = Each atom.terms (λ t. choice_count ds t ≤ 1)
 
 -- an atom by its place
-abbrev pub atom_at : List PatternAtom → ℕ → PatternAtom
-atom_at atoms k = slice_index_or atoms k (record { table = 0; terms = [] })
+abbrev pub pattern_atom_at : List PatternAtom → ℕ → PatternAtom
+pattern_atom_at atoms k = slice_index_or atoms k (record { table = 0; terms = [] })
 
 -- two numbers or more are left for the term in a column of an atom
-pub record IsFree (atoms : List PatternAtom) (ds : List Domain) (k c : ℕ) : Type 0 where
+pub record IsFreeTerm (atoms : List PatternAtom) (ds : List Domain) (k c : ℕ) : Type 0 where
   pub atom : k < length atoms
-  pub column : c < length (atom_at atoms k).terms
-  pub many : 1 < choices ds (term_at (atom_at atoms k).terms c)
+  pub column : c < length (pattern_atom_at atoms k).terms
+  pub many : 1 < choice_count ds (term_at (pattern_atom_at atoms k).terms c)
 
 -- what an answer gives a variable: the number that is known, or else what is left
-pub record IsLeft (known : Option ℕ) (d : Domain) (x : ℕ) : Type 0 where
+pub record IsLeftNumber (known : Option ℕ) (d : Domain) (x : ℕ) : Type 0 where
   pub fixed : (n : ℕ) → known ≡ Some n → x ≡ n
-  pub left : (n : ℕ) → known ≡ None → Has d n → size (2 ^ 32) d ≤ 1 → x ≡ n
+  pub left : (n : ℕ) → known ≡ None → DomainHas d n → domain_size (2 ^ 32) d ≤ 1 → x ≡ n
 
 -- the row at a place is not taken out, and is what the atom becomes
-pub record IsImage (tables : List NumberTable) (out : List (List Bool)) (a : ℕ → ℕ) (atom : PatternAtom) (p : ℕ) : Type 0 where
+pub record IsImageRow (tables : List NumberTable) (out : List (List Bool)) (a : ℕ → ℕ) (atom : PatternAtom) (p : ℕ) : Type 0 where
   pub place : p < length (numbers_of_table tables atom.table).rows
   pub kept : is_out out atom.table p ≡ false
   pub row : numbers_at (numbers_of_table tables atom.table).rows p ≡ row_under a atom
@@ -93,7 +93,7 @@ IsNextPlace rows key a o = MatchOption o ((p : ℕ) → a ≤ p → p < length r
 
 -- no row at a place from a up to b is what the atom becomes by numbers that the domains allow
 abbrev pub NoImage : List NumberTable → List (List Bool) → List Domain → PatternAtom → ℕ → ℕ → Type 0
-NoImage tables out ds atom a b = (f : ℕ → ℕ) → Keeps ds f → (p : ℕ) → a ≤ p → p < b → ¬ (IsImage tables out f atom p)
+NoImage tables out ds atom a b = (f : ℕ → ℕ) → Keeps ds f → (p : ℕ) → a ≤ p → p < b → ¬ (IsImageRow tables out f atom p)
 
 -- a place from a on with no such row before it, or nothing if there is none from a on
 abbrev pub IsNextImage : List NumberTable → List (List Bool) → List Domain → PatternAtom → ℕ → Option ℕ → Type 0

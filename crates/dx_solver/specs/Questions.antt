@@ -18,15 +18,15 @@ abbrev pub row_under : (ℕ → ℕ) → PatternAtom → List ℕ
 row_under a atom = map (number_under a) atom.terms
 
 -- a row of the atom's table that is not taken out is what the atom becomes
-abbrev pub Stands : List NumberTable → List (List Bool) → (ℕ → ℕ) → PatternAtom → Type 0
-Stands tables out a atom =
+abbrev pub HasImageRow : List NumberTable → List (List Bool) → (ℕ → ℕ) → PatternAtom → Type 0
+HasImageRow tables out a atom =
     (p : ℕ) × (p < length (numbers_of_table tables atom.table).rows) × (is_out out atom.table p ≡ false)
     × (numbers_at (numbers_of_table tables atom.table).rows p ≡ row_under a atom)
 
 -- each atom becomes such a row, and each variable that is known has its number
 pub record Solves (tables : List NumberTable) (out : List (List Bool)) (atoms : List PatternAtom) (known : List (Option ℕ)) (a : ℕ → ℕ)
     : Type 0 where
-  pub stands : Each atoms (Stands tables out a)
+  pub stands : Each atoms (HasImageRow tables out a)
   pub keeps : (v n : ℕ) → slice_index_or known v None ≡ Some n → a v ≡ n
 
 -- the terms are as many as the table has columns, and each variable is below n

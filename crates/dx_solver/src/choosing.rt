@@ -1,8 +1,8 @@
 // The variable that is tried next.
 ghost use Rattle.std.specs.Prelude.{◌≡◌, ◌<◌, ◌≤◌, ◌^◌, IfOk, MatchOption, length, slice_index_or};
 ghost use Rattle.dx_ports.specs.Members.{Each};
-ghost use Rattle.dx_solver.specs.Domains.{IsBound, IsBranched, IsFree, choices, size, term_at};
-ghost use Rattle.dx_solver.specs.Questions.{FitsAtom, Stands};
+ghost use Rattle.dx_solver.specs.Domains.{IsBound, IsBranched, IsFreeTerm, choice_count, domain_size, term_at};
+ghost use Rattle.dx_solver.specs.Questions.{FitsAtom, HasImageRow};
 ghost use Rattle.dx_solver.specs.declared.atom.Term.TheVariants.{Variable};
 ghost use Rattle.dx_solver.specs.declared.domain.Domain.TheVariants.{Any};
 
@@ -23,7 +23,7 @@ pub(crate) struct Choice {
 
 // How many numbers a term can still have.
 fn choices_of(domains: &[Domain], term: Term) -> u64
-    ensures { result ≡ choices domains.now term }
+    ensures { result ≡ choice_count domains.now term }
 {
     match term {
         Term::Number(_) => 1,
@@ -37,15 +37,15 @@ fn choices_of(domains: &[Domain], term: Term) -> u64
 // How many numbers the term in a column can still have.
 fn choices_at(domains: &[Domain], terms: &[Term], column: usize) -> u64
     requires { column < length terms.now }
-    ensures { result ≡ choices domains.now (term_at terms.now column) }
+    ensures { result ≡ choice_count domains.now (term_at terms.now column) }
 {
     choices_of(domains, terms[column])
 }
 
 // The first column of a term that has two numbers or more left.
 fn free_column(domains: &[Domain], terms: &[Term]) -> Option<usize>
-    ensures { MatchOption result (Each terms.now (λ t. choices domains.now t ≤ 1))
-        (λ c. (c < length terms.now) × (1 < choices domains.now (term_at terms.now c))) }
+    ensures { MatchOption result (Each terms.now (λ t. choice_count domains.now t ≤ 1))
+        (λ c. (c < length terms.now) × (1 < choice_count domains.now (term_at terms.now c))) }
 {
     for column in 0..terms.len() {
         if choices_at(domains, terms, column) > 1 {
@@ -70,9 +70,9 @@ fn cost_of(domains: &[Domain], failures: &[u32], term: Term) -> u64 {
 // The first column from `free` on of a term of the least cost, of those that have two numbers or more left.
 fn least_column(domains: &[Domain], failures: &[u32], terms: &[Term], free: usize) -> usize
     requires within { free < length terms.now }
-    requires free { 1 < choices domains.now (term_at terms.now free) }
+    requires free { 1 < choice_count domains.now (term_at terms.now free) }
     ensures within { result < length terms.now }
-    ensures free { 1 < choices domains.now (term_at terms.now result) }
+    ensures free { 1 < choice_count domains.now (term_at terms.now result) }
 {
     let mut best = free;
     let mut least = cost_of(domains, failures, terms[free]);
@@ -90,7 +90,7 @@ fn least_column(domains: &[Domain], failures: &[u32], terms: &[Term], free: usiz
 // A term of the least cost, of those in an atom that have two numbers or more left.
 fn choose_in(domains: &[Domain], failures: &[u32], atom: &PatternAtom) -> Option<usize>
     ensures { MatchOption result (IsBound domains.now atom.now)
-        (λ c. (c < length atom.now.terms) × (1 < choices domains.now (term_at atom.now.terms c))) }
+        (λ c. (c < length atom.now.terms) × (1 < choice_count domains.now (term_at atom.now.terms c))) }
 {
     match free_column(domains, atom.terms.items()) {
         None => None,
@@ -100,7 +100,7 @@ fn choose_in(domains: &[Domain], failures: &[u32], atom: &PatternAtom) -> Option
 
 // The first atom with such a term.
 fn first_choice(domains: &[Domain], failures: &[u32], atoms: &[PatternAtom]) -> Option<Choice>
-    ensures { MatchOption result (Each atoms.now (IsBound domains.now)) (λ c. IsFree atoms.now domains.now c.atom c.column) }
+    ensures { MatchOption result (Each atoms.now (IsBound domains.now)) (λ c. IsFreeTerm atoms.now domains.now c.atom c.column) }
 {
     for atom in 0..atoms.len() {
         if let Some(column) = choose_in(domains, failures, &atoms[atom]) {
@@ -117,8 +117,8 @@ fn least_choice(
     atoms: &[PatternAtom],
     first: Choice,
 ) -> Choice
-    requires { IsFree atoms.now domains.now first.atom first.column }
-    ensures { IsFree atoms.now domains.now result.atom result.column }
+    requires { IsFreeTerm atoms.now domains.now first.atom first.column }
+    ensures { IsFreeTerm atoms.now domains.now result.atom result.column }
 {
     let mut best = first;
     let mut least = cost_of(
@@ -141,7 +141,7 @@ fn least_choice(
 /// A term that has two numbers or more left: the first with the fewest numbers for each time that an atom with its variable
 /// could be no row.
 pub(crate) fn choose(domains: &[Domain], failures: &[u32], atoms: &[PatternAtom]) -> Option<Choice>
-    ensures { MatchOption result (Each atoms.now (IsBound domains.now)) (λ c. IsFree atoms.now domains.now c.atom c.column) }
+    ensures { MatchOption result (Each atoms.now (IsBound domains.now)) (λ c. IsFreeTerm atoms.now domains.now c.atom c.column) }
 {
     match first_choice(domains, failures, atoms) {
         None => None,
@@ -163,8 +163,8 @@ fn split_at(
     requires column { column < length atom.now.terms }
     requires variable { term_at atom.now.terms column ≡ Variable variable }
     requires below { variable < length node.now.domains.items }
-    requires many { 1 < size (2 ^ 32) (slice_index_or node.now.domains.items variable Any) }
-    ensures { IfOk result (λ _. IsBranched (λ a. Stands question.now.numbers.now.tables question.now.taken.now a atom.now)
+    requires many { 1 < domain_size (2 ^ 32) (slice_index_or node.now.domains.items variable Any) }
+    ensures { IfOk result (λ _. IsBranched (λ a. HasImageRow question.now.numbers.now.tables question.now.taken.now a atom.now)
         node.now nodes.old.items nodes.new.items) }
 {
     match &node.domains[variable as usize] {
@@ -187,9 +187,9 @@ pub(crate) fn split(
     nodes: &mut Vec<Node>,
 ) -> Result<(), AllocError>
     requires fits { Each question.now.atoms.now (FitsAtom question.now.numbers.now.tables (length node.now.domains.items)) }
-    requires free { IsFree question.now.atoms.now node.now.domains.items choice.atom choice.column }
+    requires free { IsFreeTerm question.now.atoms.now node.now.domains.items choice.atom choice.column }
     ensures { IfOk result (λ _. IsBranched (λ a. Each question.now.atoms.now
-        (Stands question.now.numbers.now.tables question.now.taken.now a)) node.now nodes.old.items nodes.new.items) }
+        (HasImageRow question.now.numbers.now.tables question.now.taken.now a)) node.now nodes.old.items nodes.new.items) }
 {
     let atoms = question.atoms;
     let atom = &atoms[choice.atom];

@@ -2,8 +2,8 @@
 ghost use Rattle.std.specs.Prelude.{◌≡◌, ◌<◌, ◌≤◌, ◌^◌, ℕ, IfOk, length, true, slice_index_or};
 ghost use Rattle.dx_ports.specs.Members.{◌∈◌, Each};
 ghost use Rattle.dx_instance.specs.Shown.{numbers_of_table};
-ghost use Rattle.dx_solver.specs.Domains.{Has, IsBranched, IsImage, Keeps, size, term_at, weight};
-ghost use Rattle.dx_solver.specs.Questions.{FitsAtom, Stands};
+ghost use Rattle.dx_solver.specs.Domains.{DomainHas, IsBranched, IsImageRow, Keeps, domain_size, term_at, weight};
+ghost use Rattle.dx_solver.specs.Questions.{FitsAtom, HasImageRow};
 ghost use Rattle.dx_solver.specs.declared.domain.Domain.TheVariants.{Any};
 ghost use Rattle.dx_solver.specs.declared.atom.Term.TheVariants.{Variable};
 
@@ -17,10 +17,10 @@ use std::alloc::{AllocError, Global};
 // Gives a variable a domain, if that is smaller than the one that it has. Says whether it was.
 fn narrow(domains: &mut Vec<Domain>, variable: u32, domain: Domain) -> bool
     requires { variable < length domains.old.items }
-    ensures kept { (a : ℕ → ℕ) → Keeps domains.old.items a → Has domain (a variable) → Keeps domains.new.items a }
+    ensures kept { (a : ℕ → ℕ) → Keeps domains.old.items a → DomainHas domain (a variable) → Keeps domains.new.items a }
     ensures many { length domains.new.items ≡ length domains.old.items }
     ensures lighter { weight (2 ^ 32) domains.new.items ≤ weight (2 ^ 32) domains.old.items }
-    ensures less { size (2 ^ 32) domain < size (2 ^ 32) (slice_index_or domains.old.items variable Any)
+    ensures less { domain_size (2 ^ 32) domain < domain_size (2 ^ 32) (slice_index_or domains.old.items variable Any)
         → weight (2 ^ 32) domains.new.items < weight (2 ^ 32) domains.old.items }
 {
     if domain.size() >= domains[variable as usize].size() {
@@ -54,7 +54,7 @@ fn cut_column(
     requires column { column < length atom.now.terms }
     requires within { Each places.now (λ p. p < length (numbers_of_table question.now.numbers.now.tables atom.now.table).rows) }
     ensures kept { IfOk result (λ _. (a : ℕ → ℕ) (p : ℕ) → Keeps domains.old.items a → p ∈ places.now
-        → IsImage question.now.numbers.now.tables question.now.taken.now a atom.now p → Keeps domains.new.items a) }
+        → IsImageRow question.now.numbers.now.tables question.now.taken.now a atom.now p → Keeps domains.new.items a) }
     ensures many { IfOk result (λ _. length domains.new.items ≡ length domains.old.items) }
     ensures lighter { IfOk result (λ _. weight (2 ^ 32) domains.new.items ≤ weight (2 ^ 32) domains.old.items) }
 {
@@ -126,7 +126,7 @@ pub(crate) fn cut(
 ) -> Result<bool, AllocError>
     requires { FitsAtom question.now.numbers.now.tables (length domains.old.items) atom.now }
     ensures kept { IfOk result (λ alive. (a : ℕ → ℕ) → Keeps domains.old.items a
-        → Stands question.now.numbers.now.tables question.now.taken.now a atom.now → (alive ≡ true) × Keeps domains.new.items a) }
+        → HasImageRow question.now.numbers.now.tables question.now.taken.now a atom.now → (alive ≡ true) × Keeps domains.new.items a) }
     ensures many { IfOk result (λ _. length domains.new.items ≡ length domains.old.items) }
     ensures lighter { IfOk result (λ _. weight (2 ^ 32) domains.new.items ≤ weight (2 ^ 32) domains.old.items) }
 {
@@ -164,7 +164,7 @@ pub(crate) fn list(
     requires column { column < length atom.now.terms }
     requires variable { term_at atom.now.terms column ≡ Variable variable }
     requires unknown { slice_index_or node.now.domains.items variable Any ≡ Any }
-    ensures { IfOk result (λ _. IsBranched (λ a. Stands question.now.numbers.now.tables question.now.taken.now a atom.now)
+    ensures { IfOk result (λ _. IsBranched (λ a. HasImageRow question.now.numbers.now.tables question.now.taken.now a atom.now)
         node.now nodes.old.items nodes.new.items) }
 {
     let places = candidates(alloc, question, node.domains.as_slice(), atom)?;

@@ -1,7 +1,7 @@
 // What a variable can still become.
 ghost use Rattle.std.specs.Prelude.{◌≡◌, ◌<◌, ◌≤◌, ◌^◌, ℕ, IfOk, length, true};
 ghost use Rattle.dx_ports.specs.Members.{◌∈◌};
-ghost use Rattle.dx_solver.specs.Domains.{Has, size};
+ghost use Rattle.dx_solver.specs.Domains.{DomainHas, domain_size};
 
 use crate::values::Values;
 use std::alloc::{AllocError, Global};
@@ -17,8 +17,8 @@ pub(crate) enum Domain {
 impl Domain {
     /// These numbers.
     pub(crate) fn of(list: Vec<u32>) -> Domain
-        ensures all { (n : ℕ) → n ∈ list.items → Has result n }
-        ensures few { (m : ℕ) → size m result ≤ length list.items }
+        ensures all { (n : ℕ) → n ∈ list.items → DomainHas result n }
+        ensures few { (m : ℕ) → domain_size m result ≤ length list.items }
     {
         let values = Values::of(list);
         let items = values.items();
@@ -30,7 +30,7 @@ impl Domain {
 
     /// Whether it has the number.
     pub(crate) fn has(&self, number: u32) -> bool
-        ensures { Has self.now number → result ≡ true }
+        ensures { DomainHas self.now number → result ≡ true }
     {
         match self {
             Domain::Any => true,
@@ -41,7 +41,7 @@ impl Domain {
 
     /// How many numbers it has; more than any list has if it has all.
     pub(crate) fn size(&self) -> u64
-        ensures { result ≡ size (2 ^ 32) self.now }
+        ensures { result ≡ domain_size (2 ^ 32) self.now }
     {
         match self {
             Domain::Any => 1 << 32,

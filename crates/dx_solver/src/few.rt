@@ -2,7 +2,7 @@
 ghost use Rattle.std.specs.Prelude.{◌≡◌, ◌<◌, ℕ, IfOk, length, map, slice_index};
 ghost use Rattle.dx_ports.specs.Members.{Each};
 ghost use Rattle.dx_solver.specs.Domains.{Keeps, term_at};
-ghost use Rattle.dx_solver.specs.Finding.{Finds};
+ghost use Rattle.dx_solver.specs.Finding.{FindsNumbers};
 ghost use Rattle.dx_solver.specs.Questions.{FitsAtom, Solves, number_under};
 
 use crate::atom::{PatternAtom, Term};
@@ -133,7 +133,7 @@ fn found_at(
 ) -> Result<Found, AllocError>
     requires fits { Each question.now.atoms.now (FitsAtom question.now.numbers.now.tables (length question.now.known.now)) }
     requires many { length domains.now ≡ length question.now.known.now }
-    ensures { IfOk result (Finds (Solves question.now.numbers.now.tables question.now.taken.now question.now.atoms.now
+    ensures { IfOk result (FindsNumbers (Solves question.now.numbers.now.tables question.now.taken.now question.now.atoms.now
         question.now.known.now) domains.now (length question.now.known.now)) }
 {
     match answer_at(alloc, question, domains)? {
@@ -152,7 +152,7 @@ fn place_left(
 ) -> Result<Found, AllocError>
     requires fits { Each question.now.atoms.now (FitsAtom question.now.numbers.now.tables (length question.now.known.now)) }
     requires many { length domains.now ≡ length question.now.known.now }
-    ensures { IfOk result (Finds (Solves question.now.numbers.now.tables question.now.taken.now question.now.atoms.now
+    ensures { IfOk result (FindsNumbers (Solves question.now.numbers.now.tables question.now.taken.now question.now.atoms.now
         question.now.known.now) domains.now (length question.now.known.now)) }
 {
     if depth == 0 || !progress.step() {
@@ -196,7 +196,7 @@ pub(crate) fn search_few(
 ) -> Result<Found, AllocError>
     requires fits { Each question.now.atoms.now (FitsAtom question.now.numbers.now.tables (length question.now.known.now)) }
     requires many { length domains.now ≡ length question.now.known.now }
-    ensures { IfOk result (Finds (Solves question.now.numbers.now.tables question.now.taken.now question.now.atoms.now
+    ensures { IfOk result (FindsNumbers (Solves question.now.numbers.now.tables question.now.taken.now question.now.atoms.now
         question.now.known.now) domains.now (length question.now.known.now)) }
 {
     let count = question.atoms.len();

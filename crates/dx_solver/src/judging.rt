@@ -2,8 +2,8 @@
 ghost use Rattle.std.specs.Prelude.{◌≡◌, ◌↔◌, ◌<◌, ℕ, IfOk, IfSome, IsTrue, MatchOption, None, length, map, slice_index_or};
 ghost use Rattle.dx_ports.specs.Members.{Each};
 ghost use Rattle.dx_instance.specs.Shown.{numbers_of_table};
-ghost use Rattle.dx_solver.specs.Domains.{IsBound, IsImage, IsLeft, Keeps, term_at};
-ghost use Rattle.dx_solver.specs.Questions.{FitsAtom, Solves, Stands, answered, number_under};
+ghost use Rattle.dx_solver.specs.Domains.{IsBound, IsImageRow, IsLeftNumber, Keeps, term_at};
+ghost use Rattle.dx_solver.specs.Questions.{FitsAtom, Solves, HasImageRow, answered, number_under};
 ghost use Rattle.dx_solver.specs.declared.domain.Domain.TheVariants.{Any};
 
 use crate::atom::{PatternAtom, Term};
@@ -14,7 +14,7 @@ use std::alloc::{AllocError, Global};
 
 // The number that a variable has if at most one is left.
 fn number_left(known: Option<u32>, domain: &Domain) -> u32
-    ensures { IsLeft known domain.now result }
+    ensures { IsLeftNumber known domain.now result }
 {
     if let Some(number) = known {
         return number;
@@ -61,7 +61,7 @@ fn is_image(question: &Question<'_, '_>, xs: &[u32], atom: &PatternAtom, place: 
     requires width { length atom.now.terms ≡ (numbers_of_table question.now.numbers.now.tables atom.now.table).width }
     requires place { place < length (numbers_of_table question.now.numbers.now.tables atom.now.table).rows }
     ensures { IsTrue result
-        ↔ IsImage question.now.numbers.now.tables question.now.taken.now (answered xs.now) atom.now place }
+        ↔ IsImageRow question.now.numbers.now.tables question.now.taken.now (answered xs.now) atom.now place }
 {
     if question.taken.has(atom.table, place) {
         return false;
@@ -84,11 +84,11 @@ fn first_key(xs: &[u32], terms: &[Term]) -> Option<Key>
     }
 }
 
-// Whether the atom becomes a row that is not taken out, where rows are looked at one by one.
+// Whether the atom becomes a row that is not taken out, if rows are looked at one by one.
 fn stands_among(question: &Question<'_, '_>, xs: &[u32], atom: &PatternAtom) -> bool
     requires table { atom.now.table < length question.now.numbers.now.tables }
     requires width { length atom.now.terms ≡ (numbers_of_table question.now.numbers.now.tables atom.now.table).width }
-    ensures { IsTrue result ↔ Stands question.now.numbers.now.tables question.now.taken.now (answered xs.now) atom.now }
+    ensures { IsTrue result ↔ HasImageRow question.now.numbers.now.tables question.now.taken.now (answered xs.now) atom.now }
 {
     let numbers = question.numbers;
     let count = numbers.count(atom.table);
@@ -125,7 +125,7 @@ fn stands(
     requires table { atom.now.table < length question.now.numbers.now.tables }
     requires width { length atom.now.terms ≡ (numbers_of_table question.now.numbers.now.tables atom.now.table).width }
     ensures { IfOk result (λ b. IsTrue b
-        ↔ Stands question.now.numbers.now.tables question.now.taken.now (answered xs.now) atom.now) }
+        ↔ HasImageRow question.now.numbers.now.tables question.now.taken.now (answered xs.now) atom.now) }
 {
     let row = row_of(alloc, xs, atom.terms.items())?;
     match question.numbers.find_row(atom.table, row.as_slice()) {
@@ -151,7 +151,7 @@ pub(crate) fn all_stand(
 ) -> Result<bool, AllocError>
     requires { Each question.now.atoms.now (FitsAtom question.now.numbers.now.tables (length question.now.known.now)) }
     ensures { IfOk result (λ b. IsTrue b
-        ↔ Each question.now.atoms.now (Stands question.now.numbers.now.tables question.now.taken.now (answered xs.now))) }
+        ↔ Each question.now.atoms.now (HasImageRow question.now.numbers.now.tables question.now.taken.now (answered xs.now))) }
 {
     let atoms = question.atoms;
     for atom in atoms {
@@ -176,7 +176,7 @@ pub(crate) fn numbers_left(
     requires { length domains.now ≡ length question.now.known.now }
     ensures many { IfOk result (λ xs. length xs.items ≡ length question.now.known.now) }
     ensures left { IfOk result (λ xs. (v : ℕ) → v < length question.now.known.now
-        → IsLeft (slice_index_or question.now.known.now v None) (slice_index_or domains.now v Any) (answered xs.items v)) }
+        → IsLeftNumber (slice_index_or question.now.known.now v None) (slice_index_or domains.now v Any) (answered xs.items v)) }
 {
     let known = question.known;
     let mut all = Vec::with_capacity(alloc, known.len())?;

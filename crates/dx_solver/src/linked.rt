@@ -25,7 +25,7 @@ struct Linked {
     first: usize,
 }
 
-// Whether the number of a term is known, where the variables that were met have one.
+// Whether the number of a term is known, if the variables that were met have one.
 fn is_known(is_met: &[bool], term: Term) -> bool {
     match term {
         Term::Number(_) => true,

@@ -1,7 +1,7 @@
 // Nodes of a search.
 ghost use Rattle.std.specs.Prelude.{◌≡◌, ◌<◌, ◌^◌, ◌⊎◌, ℕ, IfOk, length, slice_index, slice_index_or};
 ghost use Rattle.dx_ports.specs.Members.{◌∈◌};
-ghost use Rattle.dx_solver.specs.Domains.{Has, IsBranched, Keeps, size, weight};
+ghost use Rattle.dx_solver.specs.Domains.{DomainHas, IsBranched, Keeps, domain_size, weight};
 ghost use Rattle.dx_solver.specs.declared.domain.Domain.TheVariants.{Any, One, Many};
 
 use crate::domain::Domain;
@@ -28,10 +28,10 @@ impl Node {
         domain: Domain,
     ) -> Result<Node, AllocError>
         requires { variable < length self.now.domains.items }
-        ensures kept { IfOk result (λ node. (a : ℕ → ℕ) → Keeps self.now.domains.items a → Has domain (a variable)
+        ensures kept { IfOk result (λ node. (a : ℕ → ℕ) → Keeps self.now.domains.items a → DomainHas domain (a variable)
             → Keeps node.domains.items a) }
         ensures many { IfOk result (λ node. length node.domains.items ≡ length self.now.domains.items) }
-        ensures lighter { IfOk result (λ node. size (2 ^ 32) domain < size (2 ^ 32) (slice_index_or self.now.domains.items variable Any)
+        ensures lighter { IfOk result (λ node. domain_size (2 ^ 32) domain < domain_size (2 ^ 32) (slice_index_or self.now.domains.items variable Any)
             → weight (2 ^ 32) node.domains.items < weight (2 ^ 32) self.now.domains.items) }
     {
         let mut domains = copies(alloc, &self.domains)?;
@@ -61,8 +61,8 @@ pub(crate) fn copies(alloc: Global, domains: &[Domain]) -> Result<Vec<Domain>, A
 // All but the first of the numbers.
 fn rest_of(alloc: Global, values: &Values) -> Result<Domain, AllocError>
     requires { 1 < length values.now }
-    ensures all { IfOk result (λ d. (n : ℕ) → n ∈ values.now → Has (One (slice_index_or values.now 0 0)) n ⊎ Has d n) }
-    ensures few { IfOk result (λ d. size (2 ^ 32) d < length values.now) }
+    ensures all { IfOk result (λ d. (n : ℕ) → n ∈ values.now → DomainHas (One (slice_index_or values.now 0 0)) n ⊎ DomainHas d n) }
+    ensures few { IfOk result (λ d. domain_size (2 ^ 32) d < length values.now) }
 {
     let items = values.items();
     let mut rest = Vec::with_capacity(alloc, items.len())?;

@@ -5,7 +5,7 @@ ghost use Rattle.dx_ports.specs.Members.{◌∈◌, Each};
 ghost use Rattle.dx_instance.specs.Cells.{numbers_at};
 ghost use Rattle.dx_instance.specs.Indexes.{number_in};
 ghost use Rattle.dx_instance.specs.Shown.{numbers_of_table};
-ghost use Rattle.dx_solver.specs.Domains.{IsImage, IsNextImage, IsNextPlace, Keeps, choices, term_at};
+ghost use Rattle.dx_solver.specs.Domains.{IsImageRow, IsNextImage, IsNextPlace, Keeps, choice_count, term_at};
 ghost use Rattle.dx_solver.specs.Questions.{FitsAtom, number_under};
 ghost use Rattle.dx_solver.specs.declared.atom.Term.TheVariants.{Variable};
 ghost use Rattle.dx_solver.specs.declared.domain.Domain.{Domain as Left};
@@ -26,7 +26,7 @@ pub(crate) struct Key {
 /// The variable in a column, if it is one.
 pub(crate) fn variable_at(terms: &[Term], column: usize) -> Option<u32>
     requires { column < length terms.now }
-    ensures { MatchOption result ((ds : List Left) → choices ds (term_at terms.now column) ≡ 1)
+    ensures { MatchOption result ((ds : List Left) → choice_count ds (term_at terms.now column) ≡ 1)
         (λ v. term_at terms.now column ≡ Variable v) }
 {
     match terms[column] {
@@ -209,7 +209,7 @@ fn is_candidate(
     requires fits { FitsAtom question.now.numbers.now.tables (length domains.now) atom.now }
     requires place { place < length (numbers_of_table question.now.numbers.now.tables atom.now.table).rows }
     ensures { (a : ℕ → ℕ) → Keeps domains.now a
-        → IsImage question.now.numbers.now.tables question.now.taken.now a atom.now place → result ≡ true }
+        → IsImageRow question.now.numbers.now.tables question.now.taken.now a atom.now place → result ≡ true }
 {
     if question.taken.has(atom.table, place) {
         return false;
@@ -257,7 +257,7 @@ pub(crate) fn candidates(
 ) -> Result<Vec<u32>, AllocError>
     requires { FitsAtom question.now.numbers.now.tables (length domains.now) atom.now }
     ensures all { IfOk result (λ places. (a : ℕ → ℕ) → Keeps domains.now a → (p : ℕ)
-        → IsImage question.now.numbers.now.tables question.now.taken.now a atom.now p → p ∈ places.items) }
+        → IsImageRow question.now.numbers.now.tables question.now.taken.now a atom.now p → p ∈ places.items) }
     ensures within { IfOk result (λ places. Each places.items
         (λ p. p < length (numbers_of_table question.now.numbers.now.tables atom.now.table).rows)) }
     ensures few { IfOk result (λ places. length places.items < 2 ^ 32) }

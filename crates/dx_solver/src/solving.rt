@@ -2,8 +2,8 @@
 ghost use Rattle.std.specs.Prelude.{◌≡◌, ℕ, IfOk, IfSome, MatchOption, None, Some, length, slice_index_or};
 ghost use Rattle.std.specs.Bool.{OnTrue};
 ghost use Rattle.dx_ports.specs.Members.{Each};
-ghost use Rattle.dx_solver.specs.Domains.{Has, IsBranched, Keeps};
-ghost use Rattle.dx_solver.specs.Questions.{FitsAtom, Solves, Stands, answered};
+ghost use Rattle.dx_solver.specs.Domains.{DomainHas, IsBranched, Keeps};
+ghost use Rattle.dx_solver.specs.Questions.{FitsAtom, Solves, HasImageRow, answered};
 
 use crate::atom::PatternAtom;
 use crate::choosing::{choose, split};
@@ -82,7 +82,7 @@ fn search(
 
 // What is known of a variable.
 fn known_domain(known: Option<u32>) -> Domain
-    ensures { (n : ℕ) → ((m : ℕ) → known ≡ Some m → n ≡ m) → Has result n }
+    ensures { (n : ℕ) → ((m : ℕ) → known ≡ Some m → n ≡ m) → DomainHas result n }
 {
     match known {
         None => Domain::Any,
@@ -107,7 +107,7 @@ fn known_domains(alloc: Global, known: &[Option<u32>]) -> Result<Vec<Domain>, Al
 fn is_hopeless(question: &Question<'_, '_>, domains: &[Domain]) -> bool
     requires { Each question.now.atoms.now (FitsAtom question.now.numbers.now.tables (length domains.now)) }
     ensures { OnTrue result ((a : ℕ → ℕ) → Keeps domains.now a
-        → ¬ (Each question.now.atoms.now (Stands question.now.numbers.now.tables question.now.taken.now a))) }
+        → ¬ (Each question.now.atoms.now (HasImageRow question.now.numbers.now.tables question.now.taken.now a))) }
 {
     let atoms = question.atoms;
     if atoms.len() == 0 {

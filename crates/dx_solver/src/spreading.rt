@@ -2,7 +2,7 @@
 ghost use Rattle.std.specs.Prelude.{◌≡◌, ◌≤◌, ◌^◌, ℕ, IfOk, length, true};
 ghost use Rattle.dx_ports.specs.Members.{Each};
 ghost use Rattle.dx_solver.specs.Domains.{Keeps, weight};
-ghost use Rattle.dx_solver.specs.Questions.{FitsAtom, Stands};
+ghost use Rattle.dx_solver.specs.Questions.{FitsAtom, HasImageRow};
 
 use crate::atom::{PatternAtom, Term};
 use crate::cutting::{cut, is_known};
@@ -208,7 +208,7 @@ fn spread_one(
 ) -> Result<bool, AllocError>
     requires { FitsAtom question.now.numbers.now.tables (length domains.old.items) atom.now }
     ensures kept { IfOk result (λ alive. (a : ℕ → ℕ) → Keeps domains.old.items a
-        → Stands question.now.numbers.now.tables question.now.taken.now a atom.now → (alive ≡ true) × Keeps domains.new.items a) }
+        → HasImageRow question.now.numbers.now.tables question.now.taken.now a atom.now → (alive ≡ true) × Keeps domains.new.items a) }
     ensures many { IfOk result (λ _. length domains.new.items ≡ length domains.old.items) }
     ensures lighter { IfOk result (λ _. weight (2 ^ 32) domains.new.items ≤ weight (2 ^ 32) domains.old.items) }
 {
@@ -234,7 +234,7 @@ pub(crate) fn spread(
 ) -> Result<bool, AllocError>
     requires { Each question.now.atoms.now (FitsAtom question.now.numbers.now.tables (length domains.old.items)) }
     ensures kept { IfOk result (λ alive. (a : ℕ → ℕ) → Keeps domains.old.items a
-        → Each question.now.atoms.now (Stands question.now.numbers.now.tables question.now.taken.now a)
+        → Each question.now.atoms.now (HasImageRow question.now.numbers.now.tables question.now.taken.now a)
         → (alive ≡ true) × Keeps domains.new.items a) }
     ensures many { IfOk result (λ _. length domains.new.items ≡ length domains.old.items) }
     ensures lighter { IfOk result (λ _. weight (2 ^ 32) domains.new.items ≤ weight (2 ^ 32) domains.old.items) }

@@ -4,7 +4,7 @@ use Rattle.std.proofs.lemmas.Bool.{cases_lt}
 use Rattle.dx_stages.specs.Worlds.{World}
 use Rattle.dx_stages.specs.Stages.{Stage, next, stay, each, by, over, into, saying, file, computing, testing, notions, checking, become}
 use Rattle.dx_ports.specs.Members.{◌∈◌, here, there}
-use Rattle.dx_stages.specs.Laws.{PassesOne, IsDecided, Leads, AreApart, AsksOnly}
+use Rattle.dx_stages.specs.Laws.{PassesOne, IsDecided, Leads, AsksOtherFiles, AsksOnly}
 
 -- every value is given
 abbrev pub Any : {A : Type 0} → A → Type 0
@@ -271,7 +271,7 @@ notions_decided Alike Given refused passed one never either =
 
 -- ---- names
 
-pub apart_by : {E A B C : Type 0} (P Q : List ℕ → Type 0) (s : Stage E A B) (t : Stage E B C) → AsksOnly P s → AsksOnly Q t → ((n : List ℕ) → P n → ¬ (Q n)) → AreApart s t
+pub apart_by : {E A B C : Type 0} (P Q : List ℕ → Type 0) (s : Stage E A B) (t : Stage E B C) → AsksOnly P s → AsksOnly Q t → ((n : List ℕ) → P n → ¬ (Q n)) → AsksOtherFiles s t
 apart_by P Q s t p q never c d a b n pb x y = never n (p c a n x) (q d b n y)
 
 pub next_only : {E A B C : Type 0} (P : List ℕ → Type 0) (s : Stage E A B) (t : Stage E B C) → AsksOnly P s → AsksOnly P t → AsksOnly P (next s t)

@@ -1,19 +1,19 @@
 -- The notions on small values: what the inputs hold, what stages in a row refuse, pass and ask for, and what a run leaves.
 use Rattle.std.proofs.Common.{◌≡◌, ℕ, ◌+◌, List, [], ◌∷◌, ◌++◌, length, refl, sym, ap, inl, inr, arith, Option, Some, None, Result, Ok, Err}
 use Rattle.std.specs.FinMap.{get}
-use Rattle.dx_ports.specs.Entries.{Entry, Held}
+use Rattle.dx_ports.specs.Entries.{Entry, FileMap}
 use Rattle.dx_stages.specs.declared.stop.Stop.TheVariants as stops
 use Rattle.dx_stages.specs.declared.plan.Ended.{Ended}
 use Rattle.dx_stages.specs.declared.plan.Ended.TheVariants as endeds
-use Rattle.dx_stages.specs.Worlds.{World, IsOf, Found, IsTold, IsOnce}
+use Rattle.dx_stages.specs.Worlds.{World, IsOf, Found, HoldsFound, IsOnce}
 use Rattle.dx_stages.specs.Stages.{Stage, next, each, file, computing}
-use Rattle.dx_stages.specs.Running.{Meets, Told, FailedAt}
-use Rattle.dx_stages.specs.Ending.{Planned, Written, WroteFirst, Ends, Counts, IsOutside, IsRefusedAs}
+use Rattle.dx_stages.specs.Running.{Meets, InputState, FailedAt}
+use Rattle.dx_stages.specs.Ending.{PlanContent, OutputState, WroteFirst, Ends, Counts, IsOutside, IsRefusedAs}
 
 -- ---- worlds
 
 -- if the inputs tell what they hold, the world is that
-told_is_the_world : (m : Held) (c : World) → IsOf (Some m) c → (n : List ℕ) → c n ≡ get m n
+told_is_the_world : (m : FileMap) (c : World) → IsOf (Some m) c → (n : List ℕ) → c n ≡ get m n
 told_is_the_world m c held = held
 
 -- if they tell nothing, it may be any
@@ -21,7 +21,7 @@ any_world : (c : World) → IsOf None c
 any_world c = tt
 
 -- what was found is what they told
-told_is_found : (m : Held) (f : Found) → IsTold (Some m) (f ∷ []) → get m f.name ≡ f.bytes
+told_is_found : (m : FileMap) (f : Found) → HoldsFound (Some m) (f ∷ []) → get m f.name ≡ f.bytes
 told_is_found m f told = told.0
 
 abbrev nothing : Found
@@ -115,7 +115,7 @@ first_comes_first c = (1 ∷ [], refl, (1 ∷ 2 ∷ [], refl, refl))
 
 -- ---- what is counted
 
-abbrev told : ℕ → Option (List ℕ) → Told
+abbrev told : ℕ → Option (List ℕ) → InputState
 told faults stopped = record { holds = None; faults = faults; stopped = stopped }
 
 memory_is_no_fault : ¬ (FailedAt {E = ℕ} {B = ℕ} (told 0 None) (told 1 None) (Err stops.Memory))
@@ -165,7 +165,7 @@ reason endeds.Memory = 0
 another_refusal : ¬ (IsRefusedAs {D = ℕ} {R = ℕ} (λ x y. x ≡ y) 7 (endeds.Refused 8))
 another_refusal (k, is, alike) = let e : 8 ≡ k = ap reason is in let f : k ≡ 7 = alike in omega (arith, e, f)
 
-abbrev written : List Entry → List ℕ → Written
+abbrev written : List Entry → List ℕ → OutputState
 written files said = record { files = Some files; said = Some said }
 
 abbrev first_file : Entry
@@ -183,8 +183,8 @@ nothing_is_said_before : ¬ (WroteFirst (first_file ∷ second_file ∷ []) (3 �
 nothing_is_said_before h = let e : Some (3 ∷ []) ≡ Some [] = h.silent (omega arith) in absurd (cc e)
 
 -- what is refused, or could not be read, has written nothing
-refused_wrote_nothing : (s : Stage ℕ ℕ (Planned ℕ)) (c : World) → ¬ (Ends s c 0 (written [] []) (written (first_file ∷ []) []) (endeds.Refused 7))
-refused_wrote_nothing s c h = let e : Some (first_file ∷ []) ≡ Some [] = ap (λ (w : Written). w.files) h.1 in absurd (cc e)
+refused_wrote_nothing : (s : Stage ℕ ℕ (PlanContent ℕ)) (c : World) → ¬ (Ends s c 0 (written [] []) (written (first_file ∷ []) []) (endeds.Refused 7))
+refused_wrote_nothing s c h = let e : Some (first_file ∷ []) ≡ Some [] = ap (λ (w : OutputState). w.files) h.1 in absurd (cc e)
 
-unread_wrote_nothing : (s : Stage ℕ ℕ (Planned ℕ)) (c : World) → ¬ (Ends s c 0 (written [] []) (written (first_file ∷ []) []) (endeds.ReadFault []))
-unread_wrote_nothing s c h = let e : Some (first_file ∷ []) ≡ Some [] = ap (λ (w : Written). w.files) h.1 in absurd (cc e)
+unread_wrote_nothing : (s : Stage ℕ ℕ (PlanContent ℕ)) (c : World) → ¬ (Ends s c 0 (written [] []) (written (first_file ∷ []) []) (endeds.ReadFault []))
+unread_wrote_nothing s c h = let e : Some (first_file ∷ []) ≡ Some [] = ap (λ (w : OutputState). w.files) h.1 in absurd (cc e)

@@ -1,14 +1,14 @@
 -- What is computed of stages in a row, from what is computed of each.
 use Rattle.std.proofs.Common.{◌≡◌, ◌⊎◌, ◌≤◌, ℕ, List, [], ◌∷◌, ◌++◌, refl, sym, ◌∙◌, subst, inl, inr, arith, Option, Result, Ok, Err}
 use Rattle.std.specs.Result.{IsErrAnd}
-use Rattle.dx_ports.specs.Entries.{Held}
+use Rattle.dx_ports.specs.Entries.{FileMap}
 use Rattle.dx_ports.specs.Faults.{Rose}
 use Rattle.dx_stages.specs.declared.stop.Stop.{Stop}
 use Rattle.dx_stages.specs.declared.stop.Stop.TheVariants as stops
-use Rattle.dx_stages.specs.Worlds.{World, Agrees, IsTold, Has}
+use Rattle.dx_stages.specs.Worlds.{World, Agrees, HoldsFound, WasAsked}
 use Rattle.dx_stages.specs.Stages.{Stage, next, stay, each, by, over, into, file, saying, become}
-use Rattle.dx_stages.specs.Laws.{AreApart}
-use Rattle.dx_stages.specs.Running.{Answers, Meets, Gives, Told, FailedAt, Ran, said}
+use Rattle.dx_stages.specs.Laws.{AsksOtherFiles}
+use Rattle.dx_stages.specs.Running.{Answers, Meets, Gives, InputState, FailedAt, Ran, with_refusal}
 use Rattle.dx_stages.proofs.Worlds.{agrees_both, told_both, has_either, once_both, a_world}
 
 -- ---- what follows of one stage
@@ -25,7 +25,7 @@ meets_within s t w c a (Err (stops.Refused e)) m = w.refuses c a e m
 meets_within s t w c a (Err (stops.Failed n)) m = w.asks c a n m
 meets_within s t w c a (Err stops.Memory) m = tt
 
-pub ran_within : {E A B : Type 0} (s t : Stage E A B) → Within s t → (a : A) (r : Result B (Stop E)) (old new : Told) → Ran s a r old new → Ran t a r old new
+pub ran_within : {E A B : Type 0} (s t : Stage E A B) → Within s t → (a : A) (r : Result B (Stop E)) (old new : InputState) → Ran s a r old new → Ran t a r old new
 ran_within s t w a r old new x = record {
   kept = x.kept;
   counted = x.counted;
@@ -45,14 +45,14 @@ gives_meets s a (Err (stops.Refused e)) g c = g c
 gives_meets s a (Err (stops.Failed n)) g c = absurd g
 gives_meets s a (Err stops.Memory) g c = tt
 
-gives_no_fault : {E A B : Type 0} (s : Stage E A B) (a : A) (r : Result B (Stop E)) (told : Told) → Gives s a r → FailedAt told told r
+gives_no_fault : {E A B : Type 0} (s : Stage E A B) (a : A) (r : Result B (Stop E)) (told : InputState) → Gives s a r → FailedAt told told r
 gives_no_fault s a (Ok b) told g = refl
 gives_no_fault s a (Err (stops.Refused e)) told g = refl
 gives_no_fault s a (Err (stops.Failed n)) told g = absurd g
 gives_no_fault s a (Err stops.Memory) told g = refl
 
 -- no file is read
-pub ran_value : {E A B : Type 0} (s : Stage E A B) (a : A) (r : Result B (Stop E)) (told : Told) → Gives s a r → Ran s a r told told
+pub ran_value : {E A B : Type 0} (s : Stage E A B) (a : A) (r : Result B (Stop E)) (told : InputState) → Gives s a r → Ran s a r told told
 ran_value s a r told g = record {
   kept = refl;
   counted = omega arith;
@@ -61,7 +61,7 @@ ran_value s a r told g = record {
 }
 
 -- memory ran out
-pub ran_out : {E A B : Type 0} (s : Stage E A B) (a : A) (told : Told) → Ran s a (Err stops.Memory) told told
+pub ran_out : {E A B : Type 0} (s : Stage E A B) (a : A) (told : InputState) → Ran s a (Err stops.Memory) told told
 ran_out s a told = ran_value s a (Err stops.Memory) told tt
 
 -- ---- one after the other
@@ -71,13 +71,13 @@ stops_next s t c a (stops.Refused e) m = inl m
 stops_next s t c a (stops.Failed n) m = inl m
 stops_next s t c a stops.Memory m = tt
 
-pub fault_of : {E : Type 0} (B C : Type 0) (old new : Told) (e : Stop E) → FailedAt {B = B} old new (Err e) → FailedAt {B = C} old new (Err e)
+pub fault_of : {E : Type 0} (B C : Type 0) (old new : InputState) (e : Stop E) → FailedAt {B = B} old new (Err e) → FailedAt {B = C} old new (Err e)
 fault_of B C old new (stops.Refused e) f = f
 fault_of B C old new (stops.Failed n) f = f
 fault_of B C old new stops.Memory f = f
 
 -- the first stage stops
-pub ran_stop : {E A B C : Type 0} (s : Stage E A B) (t : Stage E B C) (a : A) (e : Stop E) (old new : Told) → Ran s a (Err e) old new → Ran (next s t) a (Err e) old new
+pub ran_stop : {E A B C : Type 0} (s : Stage E A B) (t : Stage E B C) (a : A) (e : Stop E) (old new : InputState) → Ran s a (Err e) old new → Ran (next s t) a (Err e) old new
 ran_stop {E} {A} {B} {C} s t a e old new x = record {
   kept = x.kept;
   counted = x.counted;
@@ -97,14 +97,14 @@ meets_next s t c a b (Err (stops.Refused e)) p m = inr (b, p, m)
 meets_next s t c a b (Err (stops.Failed n)) p m = inr (b, p, m)
 meets_next s t c a b (Err stops.Memory) p m = tt
 
-fault_since : {E C : Type 0} (old mid new : Told) (r : Result C (Stop E)) → mid.faults ≡ old.faults → FailedAt mid new r → FailedAt old new r
+fault_since : {E C : Type 0} (old mid new : InputState) (r : Result C (Stop E)) → mid.faults ≡ old.faults → FailedAt mid new r → FailedAt old new r
 fault_since old mid new (Ok x) same f = f ∙ same
 fault_since old mid new (Err (stops.Refused e)) same f = f ∙ same
 fault_since old mid new (Err (stops.Failed n)) same f = (subst (λ (k : ℕ). Rose k new.faults) same f.0, f.1)
 fault_since old mid new (Err stops.Memory) same f = f ∙ same
 
 -- the first stage passes, and the second is computed on what it passes
-pub ran_next : {E A B C : Type 0} (s : Stage E A B) (t : Stage E B C) (a : A) (b : B) (r : Result C (Stop E)) (old mid new : Told) → AreApart s t
+pub ran_next : {E A B C : Type 0} (s : Stage E A B) (t : Stage E B C) (a : A) (b : B) (r : Result C (Stop E)) (old mid new : InputState) → AsksOtherFiles s t
     → Ran s a (Ok b) old mid → Ran t b r mid new → Ran (next s t) a r old new
 ran_next {E} {A} {B} {C} s t a b r old mid new apart x y = record {
   kept = y.kept ∙ x.kept;
@@ -119,20 +119,20 @@ ran_next {E} {A} {B} {C} s t a b r old mid new apart x y = record {
   };
 }
   where
-    later : IsTold old.holds y.finds.found
-    later = subst (λ (o : Option Held). IsTold o y.finds.found) x.kept y.finds.told
+    later : HoldsFound old.holds y.finds.found
+    later = subst (λ (o : Option FileMap). HoldsFound o y.finds.found) x.kept y.finds.told
 
-    never : (n : List ℕ) → Has n x.finds.found → ¬ (Has n y.finds.found)
+    never : (n : List ℕ) → WasAsked n x.finds.found → ¬ (WasAsked n y.finds.found)
     never n p q =
         let c = a_world old.holds x.finds.found x.finds.told x.finds.once in
         let d = a_world old.holds y.finds.found later y.finds.once in
         apart c.0 d.0 a b n (x.finds.meets c.0 c.2) (x.finds.asked c.0 c.2 n p) (y.finds.asked d.0 d.2 n q)
 
-    which : (c : World) → Agrees c x.finds.found → Agrees c y.finds.found → (n : List ℕ) → Has n x.finds.found ⊎ Has n y.finds.found → (next s t).asks c a n
+    which : (c : World) → Agrees c x.finds.found → Agrees c y.finds.found → (n : List ℕ) → WasAsked n x.finds.found ⊎ WasAsked n y.finds.found → (next s t).asks c a n
     which c g h n (inl p) = inl (x.finds.asked c g n p)
     which c g h n (inr q) = inr (b, x.finds.meets c g, y.finds.asked c h n q)
 
-    asked : (c : World) → Agrees c (x.finds.found ++ y.finds.found) → (n : List ℕ) → Has n (x.finds.found ++ y.finds.found) → (next s t).asks c a n
+    asked : (c : World) → Agrees c (x.finds.found ++ y.finds.found) → (n : List ℕ) → WasAsked n (x.finds.found ++ y.finds.found) → (next s t).asks c a n
     asked c g n h = let k = agrees_both c x.finds.found y.finds.found g in which c k.0 k.1 n (has_either n x.finds.found y.finds.found h)
 
 -- ---- one for each
@@ -189,7 +189,7 @@ each_both f (x ∷ xs) ys = more_both f x xs ys (each_both f xs ys)
 
 -- ---- changes
 
-ran_alike : {E F A A' B C : Type 0} (s : Stage E A B) (t : Stage F A' C) (a : A) (a' : A') (r : Result B (Stop E)) (q : Result C (Stop F)) (old new : Told)
+ran_alike : {E F A A' B C : Type 0} (s : Stage E A B) (t : Stage F A' C) (a : A) (a' : A') (r : Result B (Stop E)) (q : Result C (Stop F)) (old new : InputState)
     → ((c : World) (n : List ℕ) → s.asks c a n → t.asks c a' n) → ((c : World) → Meets s c a r → Meets t c a' q)
     → (FailedAt old new r → FailedAt old new q) → Ran s a r old new → Ran t a' q old new
 ran_alike s t a a' r q old new asks meets fault x = record {
@@ -205,7 +205,7 @@ ran_alike s t a a' r q old new asks meets fault x = record {
   };
 }
 
-pub ran_by : {E A B : Type 0} (f : A → Stage E A B) (a : A) (r : Result B (Stop E)) (old new : Told) → Ran (f a) a r old new → Ran (by f) a r old new
+pub ran_by : {E A B : Type 0} (f : A → Stage E A B) (a : A) (r : Result B (Stop E)) (old new : InputState) → Ran (f a) a r old new → Ran (by f) a r old new
 ran_by f a r old new x = ran_alike (f a) (by f) a a r r old new (λ c n h. h) (meets_by f a r) (λ h. h) x
   where
     meets_by : {E A B : Type 0} (f : A → Stage E A B) (a : A) (r : Result B (Stop E)) (c : World) → Meets (f a) c a r → Meets (by f) c a r
@@ -214,7 +214,7 @@ ran_by f a r old new x = ran_alike (f a) (by f) a a r r old new (λ c n h. h) (m
     meets_by f a (Err (stops.Failed n)) c m = m
     meets_by f a (Err stops.Memory) c m = tt
 
-pub ran_over : {E A B C : Type 0} (f : A → B) (s : Stage E B C) (a : A) (r : Result C (Stop E)) (old new : Told) → Ran s (f a) r old new → Ran (over f s) a r old new
+pub ran_over : {E A B C : Type 0} (f : A → B) (s : Stage E B C) (a : A) (r : Result C (Stop E)) (old new : InputState) → Ran s (f a) r old new → Ran (over f s) a r old new
 ran_over f s a r old new x = ran_alike s (over f s) (f a) a r r old new (λ c n h. h) (meets_over f s a r) (λ h. h) x
   where
     meets_over : {E A B C : Type 0} (f : A → B) (s : Stage E B C) (a : A) (r : Result C (Stop E)) (c : World) → Meets s c (f a) r → Meets (over f s) c a r
@@ -223,10 +223,10 @@ ran_over f s a r old new x = ran_alike s (over f s) (f a) a r r old new (λ c n 
     meets_over f s a (Err (stops.Failed n)) c m = m
     meets_over f s a (Err stops.Memory) c m = tt
 
-pub ran_into : {E A B C : Type 0} (f : A → B → C) (s : Stage E A B) (a : A) (b : B) (old new : Told) → Ran s a (Ok b) old new → Ran (into f s) a (Ok (f a b)) old new
+pub ran_into : {E A B C : Type 0} (f : A → B → C) (s : Stage E A B) (a : A) (b : B) (old new : InputState) → Ran s a (Ok b) old new → Ran (into f s) a (Ok (f a b)) old new
 ran_into f s a b old new x = ran_alike s (into f s) a a (Ok b) (Ok (f a b)) old new (λ c n h. h) (λ c m. (b, m, refl)) (λ h. h) x
 
-pub ran_into_stop : {E A B C : Type 0} (f : A → B → C) (s : Stage E A B) (a : A) (e : Stop E) (old new : Told) → Ran s a (Err e) old new → Ran (into f s) a (Err e) old new
+pub ran_into_stop : {E A B C : Type 0} (f : A → B → C) (s : Stage E A B) (a : A) (e : Stop E) (old new : InputState) → Ran s a (Err e) old new → Ran (into f s) a (Err e) old new
 ran_into_stop {E} {A} {B} {C} f s a e old new x = ran_alike s (into f s) a a (Err e) (Err e) old new (λ c n h. h) (meets_into f s a e) (fault_of B C old new e) x
   where
     meets_into : {E A B C : Type 0} (f : A → B → C) (s : Stage E A B) (a : A) (e : Stop E) (c : World) → Meets s c a (Err e) → Meets (into f s) c a (Err e)
@@ -236,33 +236,33 @@ ran_into_stop {E} {A} {B} {C} f s a e old new x = ran_alike s (into f s) a a (Er
 
 -- ---- one for each, one more
 
-ran_alone : {E A B : Type 0} (s : Stage E A B) (a : A) (r : Result B (Stop E)) (old new : Told) → Ran s a r old new → Ran (next s stay) a r old new
+ran_alone : {E A B : Type 0} (s : Stage E A B) (a : A) (r : Result B (Stop E)) (old new : InputState) → Ran s a r old new → Ran (next s stay) a r old new
 ran_alone s a (Ok b) old new x = ran_next s stay a b (Ok b) old new new (λ c d a b n p q h. h) x (ran_value stay b (Ok b) new (λ c. refl))
 ran_alone s a (Err e) old new x = ran_stop s stay a e old new x
 
-apart_alone : {E A B C : Type 0} (s : Stage E A B) (t : Stage E B C) → AreApart s t → AreApart s (next t stay)
+apart_alone : {E A B C : Type 0} (s : Stage E A B) (t : Stage E B C) → AsksOtherFiles s t → AsksOtherFiles s (next t stay)
 apart_alone s t apart c d a b n p q (inl h) = apart c d a b n p q h
 apart_alone s t apart c d a b n p q (inr h) = h.2
 
 -- the stages of some passed, and that of one more is computed
-pub ran_more : {E X S : Type 0} (f : X → Stage E S S) (xs : List X) (x : X) (a b : S) (r : Result S (Stop E)) (old mid new : Told) → AreApart (each f xs) (f x)
+pub ran_more : {E X S : Type 0} (f : X → Stage E S S) (xs : List X) (x : X) (a b : S) (r : Result S (Stop E)) (old mid new : InputState) → AsksOtherFiles (each f xs) (f x)
     → Ran (each f xs) a (Ok b) old mid → Ran (f x) b r mid new → Ran (each f (xs ++ x ∷ [])) a r old new
 ran_more f xs x a b r old mid new apart p q =
     ran_within (next (each f xs) (each f (x ∷ []))) (each f (xs ++ x ∷ [])) (each_both f xs (x ∷ [])) a r old new
     (ran_next (each f xs) (each f (x ∷ [])) a b r old mid new (apart_alone (each f xs) (f x) apart) p (ran_alone (f x) b r mid new q))
 
 -- the stages of some stopped, and so those of all
-pub ran_front : {E X S : Type 0} (f : X → Stage E S S) (xs ys : List X) (a : S) (e : Stop E) (old new : Told) → Ran (each f xs) a (Err e) old new → Ran (each f (xs ++ ys)) a (Err e) old new
+pub ran_front : {E X S : Type 0} (f : X → Stage E S S) (xs ys : List X) (a : S) (e : Stop E) (old new : InputState) → Ran (each f xs) a (Err e) old new → Ran (each f (xs ++ ys)) a (Err e) old new
 ran_front f xs ys a e old new p =
     ran_within (next (each f xs) (each f ys)) (each f (xs ++ ys)) (each_both f xs ys) a (Err e) old new (ran_stop (each f xs) (each f ys) a e old new p)
 
 -- ---- a file, and stages that ask for nothing
 
-pub silent_apart : {E A B C : Type 0} (s : Stage E A B) (t : Stage E B C) → ((d : World) (b : B) (n : List ℕ) → ¬ (t.asks d b n)) → AreApart s t
+pub silent_apart : {E A B C : Type 0} (s : Stage E A B) (t : Stage E B C) → ((d : World) (b : B) (n : List ℕ) → ¬ (t.asks d b n)) → AsksOtherFiles s t
 silent_apart s t silent c d a b n p q h = silent d b n h
 
 -- a file that was fetched is that which the stage asks for
-pub ran_file : {E A : Type 0} (n k : List ℕ) (limit bound : ℕ) (absent missing long wide : E) (a : A) (r : Result (List ℕ) (Stop E)) (old new : Told)
+pub ran_file : {E A : Type 0} (n k : List ℕ) (limit bound : ℕ) (absent missing long wide : E) (a : A) (r : Result (List ℕ) (Stop E)) (old new : InputState)
     → n ≡ k → limit ≡ bound → absent ≡ missing → long ≡ wide
     → Ran (file {A = Unit {0}} n limit absent long) tt r old new → Ran (file {A = A} k bound missing wide) a r old new
 ran_file {E} {A} n k limit bound absent missing long wide a r old new e f g h x =
@@ -280,7 +280,7 @@ ran_file {E} {A} n k limit bound absent missing long wide a r old new e f g h x 
     meets_file n limit absent long a (Err stops.Memory) c m = tt
 
 -- what was computed passes in some world
-pub ran_passes : {E A B : Type 0} (s : Stage E A B) (a : A) (b : B) (old new : Told) → Ran s a (Ok b) old new → (c : World) × s.passes c a b
+pub ran_passes : {E A B : Type 0} (s : Stage E A B) (a : A) (b : B) (old new : InputState) → Ran s a (Ok b) old new → (c : World) × s.passes c a b
 ran_passes s a b old new x =
     let c = a_world old.holds x.finds.found x.finds.told x.finds.once in (c.0, x.finds.meets c.0 c.2)
 
@@ -298,7 +298,7 @@ answer_refuses memory f s a r e k is other k_is h = of (subst (Answers memory s 
     of (inr r) = λ c. (e, r c, k_is)
 
 -- where memory runs out in the end, there is no reason to give
-pub ran_memory : {E A B : Type 0} (s : Stage E A B) (a : A) (b : B) (old new : Told) → Ran s a (Ok b) old new → Ran s a (Err stops.Memory) old new
+pub ran_memory : {E A B : Type 0} (s : Stage E A B) (a : A) (b : B) (old new : InputState) → Ran s a (Ok b) old new → Ran s a (Err stops.Memory) old new
 ran_memory s a b old new x = ran_alike s s a a (Ok b) (Err stops.Memory) old new (λ c n h. h) (λ c m. tt) (λ h. h) x
 
 -- ---- calls with a word of their own for want of memory
@@ -326,18 +326,18 @@ as_error (Err e) x P q p = subst (λ y. P (Err y)) (sym q) p
 
 -- ---- what ran, said in other words
 
-pub ran_saying : {E F A B : Type 0} (f : E → F) (s : Stage E A B) (a : A) (r : Result B (Stop E)) (q : Result B (Stop F)) (old new : Told) → q ≡ said f r → Ran s a r old new
+pub ran_saying : {E F A B : Type 0} (f : E → F) (s : Stage E A B) (a : A) (r : Result B (Stop E)) (q : Result B (Stop F)) (old new : InputState) → q ≡ with_refusal f r → Ran s a r old new
     → Ran (saying f s) a q old new
 ran_saying {E} {F} {A} {B} f s a r q old new is x =
-    subst (λ v. Ran (saying f s) a v old new) (sym is) (ran_alike s (saying f s) a a r (said f r) old new (λ c n h. h) (meets_said r) (failed_said r) x)
+    subst (λ v. Ran (saying f s) a v old new) (sym is) (ran_alike s (saying f s) a a r (with_refusal f r) old new (λ c n h. h) (meets_said r) (failed_said r) x)
   where
-    meets_said : (r : Result B (Stop E)) (c : World) → Meets s c a r → Meets (saying f s) c a (said f r)
+    meets_said : (r : Result B (Stop E)) (c : World) → Meets s c a r → Meets (saying f s) c a (with_refusal f r)
     meets_said (Ok b) c m = m
     meets_said (Err (stops.Refused e)) c m = (e, m, refl)
     meets_said (Err (stops.Failed n)) c m = m
     meets_said (Err stops.Memory) c m = tt
 
-    failed_said : (r : Result B (Stop E)) → FailedAt old new r → FailedAt old new (said f r)
+    failed_said : (r : Result B (Stop E)) → FailedAt old new r → FailedAt old new (with_refusal f r)
     failed_said (Ok b) h = h
     failed_said (Err (stops.Refused e)) h = h
     failed_said (Err (stops.Failed n)) h = h
@@ -345,7 +345,7 @@ ran_saying {E} {F} {A} {B} f s a r q old new is x =
 
 -- ---- what is passed becomes one of these
 
-pub ran_become : {E A B C : Type 0} (R : A → B → C → Type 0) (s : Stage E A B) (a : A) (b : B) (x : C) (old new : Told) → R a b x → Ran s a (Ok b) old new → Ran (become R s) a (Ok x) old new
+pub ran_become : {E A B C : Type 0} (R : A → B → C → Type 0) (s : Stage E A B) (a : A) (b : B) (x : C) (old new : InputState) → R a b x → Ran s a (Ok b) old new → Ran (become R s) a (Ok x) old new
 ran_become R s a b x old new h ran = ran_alike s (become R s) a a (Ok b) (Ok x) old new (λ c n k. k) (λ c m. (b, m, h)) (λ k. k) ran
 
 pub gives_become : {E A B C : Type 0} (R : A → B → C → Type 0) (s : Stage E A B) (a : A) (b : B) (x : C) → R a b x → Gives s a (Ok b) → Gives (become R s) a (Ok x)

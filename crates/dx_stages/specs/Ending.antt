@@ -11,47 +11,47 @@ use Rattle.dx_stages.specs.declared.plan.Ended.{Ended}
 use Rattle.dx_stages.specs.declared.plan.Ended.TheVariants as endeds
 use Rattle.dx_stages.specs.Worlds.{World, IsOf}
 use Rattle.dx_stages.specs.Stages.{Stage}
-use Rattle.dx_stages.specs.Running.{Told}
+use Rattle.dx_stages.specs.Running.{InputState}
 
 -- ---- what is planned, and what is written of it
 
 -- what is done, the files in order, and the text that is said after them
-pub record Planned (D : Type 0) : Type 0 where
+pub record PlanContent (D : Type 0) : Type 0 where
   pub done : D
   pub files : List Entry
   pub text : List ℕ
 
-abbrev pub planned_of : {D : Type 0} → Plan D → Planned D
+abbrev pub planned_of : {D : Type 0} → Plan D → PlanContent D
 planned_of p = record { done = p.done; files = entries_of p.files.items; text = p.text.items }
 
 -- a computed plan, by what it plans
-abbrev pub planned : {D R : Type 0} → Result (Plan D) (Stop R) → Result (Planned D) (Stop R)
+abbrev pub planned : {D R : Type 0} → Result (Plan D) (Stop R) → Result (PlanContent D) (Stop R)
 planned (Ok p) = Ok (planned_of p)
 planned (Err e) = Err e
 
 -- what the outputs tell
-pub record Written : Type 0 where
+pub record OutputState : Type 0 where
   pub files : Option (List Entry)
   pub said : Option (List ℕ)
 
 -- all was written and said
-pub record WroteAll (files : List Entry) (text : List ℕ) (old new : Written) : Type 0 where
+pub record WroteAll (files : List Entry) (text : List ℕ) (old new : OutputState) : Type 0 where
   pub put : new.files ≡ appended old.files files
   pub said : new.said ≡ appended old.said text
 
 -- the first files were written, and only after all of them a prefix of the text was said
-pub record WroteFirst (files : List Entry) (text : List ℕ) (count : ℕ) (old new : Written) : Type 0 where
+pub record WroteFirst (files : List Entry) (text : List ℕ) (count : ℕ) (old new : OutputState) : Type 0 where
   pub within : count ≤ length files
   pub put : new.files ≡ appended old.files (take count files)
   pub said : GrewByPrefix old.said text new.said
   pub silent : count < length files → new.said ≡ old.said
 
 -- what writing that stopped leaves
-abbrev pub StoppedBy : List Entry → List ℕ → Written → Written → WriteStop → Type 0
+abbrev pub StoppedBy : List Entry → List ℕ → OutputState → OutputState → WriteStop → Type 0
 StoppedBy files text old new (write_stops.Failed count) = WroteFirst files text count old new
 StoppedBy files text old new write_stops.OutOfMemory = (count : ℕ) × WroteFirst files text count old new
 
--- a write fault was counted where one is told, and else none
+-- a write fault was counted if one is told, and else none
 abbrev pub CountedAt : ℕ → ℕ → WriteStop → Type 0
 CountedAt old new (write_stops.Failed count) = Rose old new
 CountedAt old new write_stops.OutOfMemory = new ≡ old
@@ -59,15 +59,15 @@ CountedAt old new write_stops.OutOfMemory = new ≡ old
 -- ---- how a run ends
 
 -- In a world, of what it was given: why it ended so, and what it leaves.
-abbrev pub Ends : {A D R : Type 0} → Stage R A (Planned D) → World → A → Written → Written → Ended D R → Type 0
-Ends {A} {D} {R} s c a old new (endeds.Done d) = (p : Planned D) × s.passes c a p × (p.done ≡ d) × WroteAll p.files p.text old new
+abbrev pub Ends : {A D R : Type 0} → Stage R A (PlanContent D) → World → A → OutputState → OutputState → Ended D R → Type 0
+Ends {A} {D} {R} s c a old new (endeds.Done d) = (p : PlanContent D) × s.passes c a p × (p.done ≡ d) × WroteAll p.files p.text old new
 Ends {A} {D} {R} s c a old new (endeds.Refused e) = s.refuses c a e × (new ≡ old)
 Ends {A} {D} {R} s c a old new (endeds.ReadFault n) = s.asks c a n × (new ≡ old)
-Ends {A} {D} {R} s c a old new (endeds.WriteFault count) = (p : Planned D) × s.passes c a p × WroteFirst p.files p.text count old new
-Ends {A} {D} {R} s c a old new endeds.Memory = (new ≡ old) ⊎ ((p : Planned D) × s.passes c a p × ((count : ℕ) × WroteFirst p.files p.text count old new))
+Ends {A} {D} {R} s c a old new (endeds.WriteFault count) = (p : PlanContent D) × s.passes c a p × WroteFirst p.files p.text count old new
+Ends {A} {D} {R} s c a old new endeds.Memory = (new ≡ old) ⊎ ((p : PlanContent D) × s.passes c a p × ((count : ℕ) × WroteFirst p.files p.text count old new))
 
--- a fault is answered exactly where one was counted
-abbrev pub Counts : {D R : Type 0} → Told → Told → ℕ → ℕ → Ended D R → Type 0
+-- a fault is answered exactly if one was counted
+abbrev pub Counts : {D R : Type 0} → InputState → InputState → ℕ → ℕ → Ended D R → Type 0
 Counts old new writes writes' (endeds.Done d) = (new.faults ≡ old.faults) × (writes' ≡ writes)
 Counts old new writes writes' (endeds.Refused e) = (new.faults ≡ old.faults) × (writes' ≡ writes)
 Counts old new writes writes' (endeds.ReadFault n) = Rose old.faults new.faults × IfSome new.stopped (λ k. k ≡ n) × (writes' ≡ writes)
@@ -86,22 +86,22 @@ IsOutside endeds.Memory = Unit {0}
 abbrev pub IsRefusedAs : {D R : Type 0} → (R → R → Type 0) → R → Ended D R → Type 0
 IsRefusedAs {D} {R} Alike r e = (k : R) × (e ≡ endeds.Refused k) × Alike k r
 
--- There is a world, which is what the inputs hold where they tell, in which the run ended so for its reason, and left what it
--- had to; where there is a reason to refuse there, no other ending comes but one of outside, and where there is a plan, no refusal.
-pub record Runs {A D R : Type 0} (Alike : R → R → Type 0) (s : Stage R A (Planned D)) (a : A) (e : Ended D R) (old new : Told) (before after : Written) (writes writes' : ℕ) : Type 0 where
+-- There is a world, which is what the inputs hold if they tell, in which the run ended so for its reason, and left what it
+-- had to; if there is a reason to refuse there, no other ending comes but one of outside, and if there is a plan, no refusal.
+pub record Runs {A D R : Type 0} (Alike : R → R → Type 0) (s : Stage R A (PlanContent D)) (a : A) (e : Ended D R) (old new : InputState) (before after : OutputState) (writes writes' : ℕ) : Type 0 where
   pub world : World
   pub held : IsOf old.holds world
   pub ends : Ends s world a before after e
   pub exact : (r : R) → s.refuses world a r → IsRefusedAs Alike r e ⊎ IsOutside e
-  pub complete : (p : Planned D) → s.passes world a p → (r : R) → ¬ (e ≡ endeds.Refused r)
+  pub complete : (p : PlanContent D) → s.passes world a p → (r : R) → ¬ (e ≡ endeds.Refused r)
   pub kept : new.holds ≡ old.holds
   pub counts : Counts old new writes writes' e
 
 -- how a plan was carried out
-pub data Carried {D R : Type 0} (r : Result (Planned D) (Stop R)) (before after : Written) (writes writes' : ℕ) (e : Ended D R) : Type 0 where
-  done_all : (p : Planned D) → r ≡ Ok p → e ≡ endeds.Done p.done → WroteAll p.files p.text before after → writes' ≡ writes → Carried r before after writes writes' e
-  done_some : (p : Planned D) (count : ℕ) → r ≡ Ok p → e ≡ endeds.WriteFault count → WroteFirst p.files p.text count before after → Rose writes writes' → Carried r before after writes writes' e
-  out_of_memory : (p : Planned D) (count : ℕ) → r ≡ Ok p → e ≡ endeds.Memory → WroteFirst p.files p.text count before after → writes' ≡ writes → Carried r before after writes writes' e
-  was_refused : (k : R) → r ≡ Err (stops.Refused k) → e ≡ endeds.Refused k → after ≡ before → writes' ≡ writes → Carried r before after writes writes' e
-  was_failed : (n : List ℕ) → r ≡ Err (stops.Failed n) → e ≡ endeds.ReadFault n → after ≡ before → writes' ≡ writes → Carried r before after writes writes' e
-  had_none : r ≡ Err stops.Memory → e ≡ endeds.Memory → after ≡ before → writes' ≡ writes → Carried r before after writes writes' e
+pub data CarriesOut {D R : Type 0} (r : Result (PlanContent D) (Stop R)) (before after : OutputState) (writes writes' : ℕ) (e : Ended D R) : Type 0 where
+  done_all : (p : PlanContent D) → r ≡ Ok p → e ≡ endeds.Done p.done → WroteAll p.files p.text before after → writes' ≡ writes → CarriesOut r before after writes writes' e
+  done_some : (p : PlanContent D) (count : ℕ) → r ≡ Ok p → e ≡ endeds.WriteFault count → WroteFirst p.files p.text count before after → Rose writes writes' → CarriesOut r before after writes writes' e
+  out_of_memory : (p : PlanContent D) (count : ℕ) → r ≡ Ok p → e ≡ endeds.Memory → WroteFirst p.files p.text count before after → writes' ≡ writes → CarriesOut r before after writes writes' e
+  was_refused : (k : R) → r ≡ Err (stops.Refused k) → e ≡ endeds.Refused k → after ≡ before → writes' ≡ writes → CarriesOut r before after writes writes' e
+  was_failed : (n : List ℕ) → r ≡ Err (stops.Failed n) → e ≡ endeds.ReadFault n → after ≡ before → writes' ≡ writes → CarriesOut r before after writes writes' e
+  had_none : r ≡ Err stops.Memory → e ≡ endeds.Memory → after ≡ before → writes' ≡ writes → CarriesOut r before after writes writes' e

@@ -1,10 +1,10 @@
 -- What is computed of a stage, and what a run does with it.
 use Rattle.std.specs.Prelude.{◌≡◌, ◌⊎◌, ◌≤◌, ℕ, List, Option, IfSome, Result, Ok, Err}
-use Rattle.dx_ports.specs.Entries.{Held}
+use Rattle.dx_ports.specs.Entries.{FileMap}
 use Rattle.dx_ports.specs.Faults.{Rose}
 use Rattle.dx_stages.specs.declared.stop.Stop.{Stop}
 use Rattle.dx_stages.specs.declared.stop.Stop.TheVariants as stops
-use Rattle.dx_stages.specs.Worlds.{World, Found, Agrees, IsTold, IsOnce, Has}
+use Rattle.dx_stages.specs.Worlds.{World, Found, Agrees, HoldsFound, IsOnce, WasAsked}
 use Rattle.dx_stages.specs.Stages.{Stage}
 
 -- the result is one that the stage gives in this world; for want of memory there is no reason
@@ -22,28 +22,28 @@ Gives s a (Err (stops.Failed n)) = ⊥
 Gives s a (Err stops.Memory) = Unit {0}
 
 -- what the inputs tell
-pub record Told : Type 0 where
-  pub holds : Option Held
+pub record InputState : Type 0 where
+  pub holds : Option FileMap
   pub faults : ℕ
   pub stopped : Option (List ℕ)
 
 -- a read failed at this name, and else none failed
-abbrev pub FailedAt : {E B : Type 0} → Told → Told → Result B (Stop E) → Type 0
+abbrev pub FailedAt : {E B : Type 0} → InputState → InputState → Result B (Stop E) → Type 0
 FailedAt old new (Ok b) = new.faults ≡ old.faults
 FailedAt old new (Err (stops.Refused e)) = new.faults ≡ old.faults
 FailedAt old new (Err (stops.Failed n)) = Rose old.faults new.faults × IfSome new.stopped (λ k. k ≡ n)
 FailedAt old new (Err stops.Memory) = new.faults ≡ old.faults
 
 -- These files were found under names that the stage asks for, each once; in each world in which they are so the result is the stage's.
-pub record Finds {E A B : Type 0} (s : Stage E A B) (holds : Option Held) (a : A) (r : Result B (Stop E)) : Type 0 where
+pub record Finds {E A B : Type 0} (s : Stage E A B) (holds : Option FileMap) (a : A) (r : Result B (Stop E)) : Type 0 where
   pub found : List Found
-  pub told : IsTold holds found
+  pub told : HoldsFound holds found
   pub once : IsOnce found
-  pub asked : (c : World) → Agrees c found → (n : List ℕ) → Has n found → s.asks c a n
+  pub asked : (c : World) → Agrees c found → (n : List ℕ) → WasAsked n found → s.asks c a n
   pub meets : (c : World) → Agrees c found → Meets s c a r
 
--- the inputs hold what they held, and a fault is answered exactly where one was counted
-pub record Ran {E A B : Type 0} (s : Stage E A B) (a : A) (r : Result B (Stop E)) (old new : Told) : Type 0 where
+-- the inputs hold what they held, and a fault is answered exactly if one was counted
+pub record Ran {E A B : Type 0} (s : Stage E A B) (a : A) (r : Result B (Stop E)) (old new : InputState) : Type 0 where
   pub kept : new.holds ≡ old.holds
   pub counted : old.faults ≤ new.faults
   pub failed : FailedAt old new r
@@ -55,8 +55,8 @@ Answers memory s a (Ok b) = (c : World) → s.passes c a b
 Answers memory s a (Err e) = (e ≡ memory) ⊎ ((c : World) → s.refuses c a e)
 
 -- the same result, of which a refusal is said so
-abbrev pub said : {E F B : Type 0} → (E → F) → Result B (Stop E) → Result B (Stop F)
-said f (Ok b) = Ok b
-said f (Err (stops.Refused e)) = Err (stops.Refused (f e))
-said f (Err (stops.Failed n)) = Err (stops.Failed n)
-said f (Err stops.Memory) = Err stops.Memory
+abbrev pub with_refusal : {E F B : Type 0} → (E → F) → Result B (Stop E) → Result B (Stop F)
+with_refusal f (Ok b) = Ok b
+with_refusal f (Err (stops.Refused e)) = Err (stops.Refused (f e))
+with_refusal f (Err (stops.Failed n)) = Err (stops.Failed n)
+with_refusal f (Err stops.Memory) = Err stops.Memory

@@ -75,7 +75,7 @@ saying {E} {F} {A} {B} f s = record {
 
 -- ---- the first stages
 
--- a file of this name, which may have so many bytes; it says this where the file is absent, and that where it is too long
+-- a file of this name, which may have so many bytes; it says this if the file is absent, and that if it is too long
 abbrev pub file : {E A : Type 0} → List ℕ → ℕ → E → E → Stage E A (List ℕ)
 file {E} {A} name limit absent long = record {
   refuses = λ c a e. ((c name ≡ None) × (e ≡ absent)) ⊎ ((bytes : List ℕ) × (c name ≡ Some bytes) × (limit < length bytes) × (e ≡ long));

@@ -9,13 +9,14 @@ use Rattle.dx_ports.proofs.Members.{contains_from_in, from_map, in_at}
 use Rattle.dx_model.specs.declared.values.Value.{Value}
 use Rattle.dx_model.specs.declared.values.Value.TheVariants.{Const, Null}
 use Rattle.dx_model.specs.Values.{Tuple, tuple_cmp, value_cmp}
-use Rattle.dx_model.specs.Rules.{Ascend}
+use Rattle.dx_model.specs.Rules.{TuplesAscend}
 use Rattle.dx_instance.specs.Cells.{NumbersAscend, numbers_at}
 use Rattle.dx_instance.specs.Numbers.{ValuesAscend, value_of}
 use Rattle.dx_instance.proofs.ShownFacts.{number_less}
-use Rattle.dx_joins.specs.Shown.{AreTexts, is_text, text_in, texts_of}
+use Rattle.dx_joins.specs.Shown.{AreTexts, is_text, texts_of}
+use Rattle.dx_instance.specs.Ranks.{text_of_value}
 
-texts_compare : (v w : Value) → is_text v ≡ true → is_text w ≡ true → slice_cmp nat_cmp (text_in v) (text_in w) ≡ value_cmp v w
+texts_compare : (v w : Value) → is_text v ≡ true → is_text w ≡ true → slice_cmp nat_cmp (text_of_value v) (text_of_value w) ≡ value_cmp v w
 texts_compare (Const t) (Const u) e f = refl
 texts_compare (Const t) (Null n) e f = absurd (cc f)
 texts_compare (Null m) w e f = absurd (cc e)
@@ -32,7 +33,7 @@ tuple_less S (x ∷ a) (y ∷ b) up h k =
     let rest = tuple_less S a b up (λ z m. h z (there m)) (λ z m. k z (there m)) in
     (λ i. ordering_then (first i) (rest i))
 
-pub tuples_ascend : (S : List Value) (rows : List (List ℕ)) → ValuesAscend S → Each rows (AreTexts S) → NumbersAscend rows → Ascend (map (texts_of S) rows)
+pub tuples_ascend : (S : List Value) (rows : List (List ℕ)) → ValuesAscend S → Each rows (AreTexts S) → NumbersAscend rows → TuplesAscend (map (texts_of S) rows)
 tuples_ascend S [] up h n = tt
 tuples_ascend S (r ∷ rows) up h n = (
   (λ t m. let q = from_map (texts_of S) rows m in below q.0 q.1 t q.2),

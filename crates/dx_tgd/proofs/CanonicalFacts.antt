@@ -12,9 +12,9 @@ use Rattle.dx_model.specs.declared.rules.Atom.{Atom}
 use Rattle.dx_model.specs.declared.rules.Rule.{Rule}
 use Rattle.dx_ports.specs.Members.{◌∈◌, here, there, Each}
 use Rattle.dx_model.specs.Values.{Tuple, Rows}
-use Rattle.dx_model.specs.Rules.{said, text_of, exported, cell_value, at_place, at_places, canonical, cells_of}
+use Rattle.dx_model.specs.Rules.{fact_of_atom, text_of, exported, cell_value, at_place, at_places, canonical, cells_of}
 use Rattle.dx_tgd.specs.Counting.{canonical_cells}
-use Rattle.dx_tgd.specs.Placed.{NullsHavePlaces, null_at}
+use Rattle.dx_tgd.specs.Placed.{NullsHavePlaces, place_null}
 
 -- one place more
 pub places_more : (i k : ℕ) (d : Rule) (ts : List Tuple) (n : ℕ) (t : Tuple) → n < length ts → t ≡ get_or ts n t → at_places i d k (take (n + 1) ts) ≡ at_places i d k (take n ts) ++ at_place i d (k + n) t
@@ -61,7 +61,7 @@ pub place_room : (i : ℕ) (d : Rule) (ts : List Tuple) (n : ℕ) (t : Tuple) �
     → length (at_places i d 0 (take n ts)) + length d.conclusion ≤ length (at_places i d 0 ts)
 place_room i d ts n t h e =
     let m : length (at_places i d 0 (take (n + 1) ts)) ≡ length (at_places i d 0 (take n ts)) + length (at_place i d (0 + n) t) = ap length (places_more i 0 d ts n t h e) ∙ length-append (at_places i d 0 (take n ts)) (at_place i d (0 + n) t) in
-    let l : length (at_place i d (0 + n) t) ≡ length d.conclusion = length-map d.conclusion (said (text_of (exported d) t) (null_at i (0 + n))) in
+    let l : length (at_place i d (0 + n) t) ≡ length d.conclusion = length-map d.conclusion (fact_of_atom (text_of (exported d) t) (place_null i (0 + n))) in
     omega (arith, m, l, places_whole i 0 d ts (n + 1))
 
 -- the facts of the first rules and the next are no more than those of all
@@ -80,7 +80,7 @@ few_atoms (a ∷ atoms) e = omega (arith, e a (here refl), few_atoms atoms (λ b
 few_at_places : (i k : ℕ) (d : Rule) (ts : List Tuple) → Each d.conclusion (λ a. 1 ≤ length a.cells) → length (at_places i d k ts) ≤ length ts * length (cells_of d.conclusion)
 few_at_places i k d [] e = omega arith
 few_at_places i k d (t ∷ ts) e =
-    let m : length (at_place i d k t) ≡ length d.conclusion = length-map d.conclusion (said (text_of (exported d) t) (null_at i k)) in
+    let m : length (at_place i d k t) ≡ length d.conclusion = length-map d.conclusion (fact_of_atom (text_of (exported d) t) (place_null i k)) in
     omega (arith, m, few_atoms d.conclusion e, few_at_places i (suc k) d ts e, length-append (at_place i d k t) (at_places i d (suc k) ts))
 
 -- the canonical facts are no more than the canonical cells, where each atom has a cell
@@ -93,7 +93,7 @@ few_facts k (d ∷ R) (ts ∷ rows) e =
 -- ---- nulls
 
 -- a null in a row that cells say is one of the place
-null_of_cells : (texts : ℕ → List ℕ) (i k : ℕ) (cells : List Cell) (n : NullId) → Null n ∈ map (cell_value texts (null_at i k)) cells → (n.rule ≡ i) × (n.row ≡ k)
+null_of_cells : (texts : ℕ → List ℕ) (i k : ℕ) (cells : List Cell) (n : NullId) → Null n ∈ map (cell_value texts (place_null i k)) cells → (n.rule ≡ i) × (n.row ≡ k)
 null_of_cells texts i k [] n m = elim m [ ]
 null_of_cells texts i k (Var x ∷ cells) n (here e) = absurd (cc)
 null_of_cells texts i k (Lit t ∷ cells) n (here e) = absurd (cc)
@@ -104,7 +104,7 @@ null_of_cells texts i k (c ∷ cells) n (there m) = null_of_cells texts i k cell
 
 null_of_place : (i k : ℕ) (d : Rule) (t : Tuple) (f : Fact) (n : NullId) → f ∈ at_place i d k t → Null n ∈ f.row → (n.rule ≡ i) × (n.row ≡ k)
 null_of_place i k d t f n m h =
-    let a = from_map (said (text_of (exported d) t) (null_at i k)) d.conclusion m in
+    let a = from_map (fact_of_atom (text_of (exported d) t) (place_null i k)) d.conclusion m in
     null_of_cells (text_of (exported d) t) i k a.0.cells n (rw (← a.2) at h)
 
 null_of_places : (i k : ℕ) (d : Rule) (ts : List Tuple) (f : Fact) (n : NullId) → f ∈ at_places i d k ts → Null n ∈ f.row → (n.rule ≡ i) × (n.row < k + length ts)

@@ -12,13 +12,13 @@ use Rattle.dx_ports.specs.Members.{◌∈◌, ◌⊆◌, here, there, Each}
 use Rattle.dx_ports.proofs.Members.{in_left, in_right, from_append}
 use Rattle.dx_model.proofs.Widths.{in_get}
 use Rattle.dx_instance.specs.Stored.{AddsRow, TableRows, facts, rows_of, widths, without_rows}
-use Rattle.dx_tgd.specs.Gained.{Gains}
+use Rattle.dx_tgd.specs.Gained.{GainsFacts}
 use Rattle.dx_tgd.specs.Placed.{FitsWidths}
 use Rattle.dx_tgd.proofs.CanonicalFacts.{places_more, rules_more}
 use Rattle.dx_tgd.proofs.Tables.{no_facts}
 use Rattle.dx_instance.proofs.StoredFacts.{fact_from_row, row_from_fact, widths_without}
 
-pub gains_nothing : (I : List TableRows) → Gains I I []
+pub gains_nothing : (I : List TableRows) → GainsFacts I I []
 gains_nothing I = record {
   widths_stay = refl;
   kept = (λ f m. m);
@@ -27,7 +27,7 @@ gains_nothing I = record {
   few = (λ t. omega arith);
 }
 
-pub gains_more : {I J K : List TableRows} (A B : List Fact) → Gains I J A → Gains J K B → Gains I K (A ++ B)
+pub gains_more : {I J K : List TableRows} (A B : List Fact) → GainsFacts I J A → GainsFacts J K B → GainsFacts I K (A ++ B)
 gains_more {I} {J} {K} A B g h = record {
   widths_stay = h.widths_stay ∙ g.widths_stay;
   kept = (λ f m. h.kept f (g.kept f m));
@@ -50,7 +50,7 @@ module _ (I J : List TableRows) (t : ℕ) (row : List Value) where
   ]
 
   -- what an instance gains of a row that is added
-  pub gains_added : AddsRow I J t row → Gains I J (the_fact ∷ [])
+  pub gains_added : AddsRow I J t row → GainsFacts I J (the_fact ∷ [])
   gains_added a = record {
     widths_stay = a.widths_stay;
     kept = (λ f m. elim (rows_at a f.table) [
@@ -78,28 +78,28 @@ module _ (I J : List TableRows) (t : ℕ) (row : List Value) where
 
 -- one fact more, in order of what says them
 pub gains_next : {X : Type 0} {I J K : List TableRows} (f : X → Fact) (xs : List X) (i : ℕ) (x : X) → i < length xs → x ≡ get_or xs i x
-    → Gains I J (map f (take i xs)) → Gains J K (f x ∷ []) → Gains I K (map f (take (i + 1) xs))
+    → GainsFacts I J (map f (take i xs)) → GainsFacts J K (f x ∷ []) → GainsFacts I K (map f (take (i + 1) xs))
 gains_next {X} {I} {J} {K} f xs i x h e g k =
     let s : map f (take (i + 1) xs) ≡ map f (take i xs) ++ f x ∷ [] = ap (map f) (take_more xs i x h) ∙ (map-append f (take i xs) (get_or xs i x ∷ []) ∙ ap (λ (z : X). map f (take i xs) ++ f z ∷ []) (sym e)) in
     rw s (gains_more (map f (take i xs)) (f x ∷ []) g k)
 
 pub gains_place : {I J K : List TableRows} (i : ℕ) (d : Rule) (ts : List Tuple) (n : ℕ) (t : Tuple) → n < length ts → t ≡ get_or ts n t
-    → Gains I J (at_places i d 0 (take n ts)) → Gains J K (at_place i d n t) → Gains I K (at_places i d 0 (take (n + 1) ts))
+    → GainsFacts I J (at_places i d 0 (take n ts)) → GainsFacts J K (at_place i d n t) → GainsFacts I K (at_places i d 0 (take (n + 1) ts))
 gains_place {I} {J} {K} i d ts n t h e g k =
     let z : n ≡ 0 + n = omega arith in
-    rw (places_more i 0 d ts n t h e) (gains_more (at_places i d 0 (take n ts)) (at_place i d (0 + n) t) g (subst (λ (x : ℕ). Gains J K (at_place i d x t)) z k))
+    rw (places_more i 0 d ts n t h e) (gains_more (at_places i d 0 (take n ts)) (at_place i d (0 + n) t) g (subst (λ (x : ℕ). GainsFacts J K (at_place i d x t)) z k))
 
 pub gains_rule : {I J K : List TableRows} (R : List Rule) (rows : Rows) (n : ℕ) (d : Rule) (ts : List Tuple) → n < length R → n < length rows → d ≡ get_or R n d → ts ≡ get_or rows n ts
-    → Gains I J (canonical 0 (take n R) (take n rows)) → Gains J K (at_places n d 0 ts) → Gains I K (canonical 0 (take (n + 1) R) (take (n + 1) rows))
+    → GainsFacts I J (canonical 0 (take n R) (take n rows)) → GainsFacts J K (at_places n d 0 ts) → GainsFacts I K (canonical 0 (take (n + 1) R) (take (n + 1) rows))
 gains_rule {I} {J} {K} R rows n d ts h l e f g k =
     let z : n ≡ 0 + n = omega arith in
-    rw (rules_more 0 R rows n d ts h l e f) (gains_more (canonical 0 (take n R) (take n rows)) (at_places (0 + n) d 0 ts) g (subst (λ (x : ℕ). Gains J K (at_places x d 0 ts)) z k))
+    rw (rules_more 0 R rows n d ts h l e f) (gains_more (canonical 0 (take n R) (take n rows)) (at_places (0 + n) d 0 ts) g (subst (λ (x : ℕ). GainsFacts J K (at_places x d 0 ts)) z k))
 
 -- what starts without rows has the gained facts alone
-pub only_gained : (ws : List ℕ) (I J : List TableRows) (more : List Fact) → I ≡ without_rows ws → Gains I J more → facts J ⊆ more
+pub only_gained : (ws : List ℕ) (I J : List TableRows) (more : List Fact) → I ≡ without_rows ws → GainsFacts I J more → facts J ⊆ more
 only_gained ws I J more e g f m = elim (g.only f m) [ inl l ↦ absurd (no_facts ws f (subst (λ (z : List TableRows). f ∈ facts z) e l)) | inr r ↦ r ]
 
-pub widths_gained : (ws : List ℕ) (I J : List TableRows) (more : List Fact) → I ≡ without_rows ws → Gains I J more → widths J ≡ ws
+pub widths_gained : (ws : List ℕ) (I J : List TableRows) (more : List Fact) → I ≡ without_rows ws → GainsFacts I J more → widths J ≡ ws
 widths_gained ws I J more e g = g.widths_stay ∙ (ap widths e ∙ widths_without ws)
 
 pub atoms_have_cells : (ws : List ℕ) (R : List Rule) → Each ws (λ w. 1 ≤ w) → Each R (FitsWidths ws) → Each R (λ d. Each d.conclusion (λ a. 1 ≤ length a.cells))

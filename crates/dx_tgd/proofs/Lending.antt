@@ -10,7 +10,8 @@ use Rattle.dx_model.specs.declared.values.Value.TheVariants.{Null}
 use Rattle.dx_model.specs.Values.{Rows, Tuple}
 use Rattle.dx_instance.specs.Cells.{NumberTable, numbers_at}
 use Rattle.dx_instance.specs.Numbers.{value_of}
-use Rattle.dx_joins.specs.Shown.{AreTexts, is_text, text_in, texts_of}
+use Rattle.dx_joins.specs.Shown.{AreTexts, is_text, texts_of}
+use Rattle.dx_instance.specs.Ranks.{text_of_value}
 use Rattle.dx_tgd.specs.Texts.{tuples_in}
 
 -- an element of a mapped list
@@ -22,7 +23,7 @@ get_map f (x ∷ xs) (suc i) d e h = get_map f xs i d e (omega (arith, h))
 -- ---- a text of a tuple
 
 pub text_within : (S : List Value) (row : List ℕ) (t : Tuple) (i : ℕ) → texts_of S row ≡ t → i < length t → i < length row
-text_within S row t i e h = let n = ap length e in let m = length-map row (λ n. text_in (value_of S n)) in omega (arith, h, n, m)
+text_within S row t i e h = let n = ap length e in let m = length-map row (λ n. text_of_value (value_of S n)) in omega (arith, h, n, m)
 
 pub text_number : (S : List Value) (row : List ℕ) (i n : ℕ) → AreTexts S row → i < length row → n ≡ get_or row i 0
     → (n < length S) × (is_text (value_of S n) ≡ true)
@@ -32,10 +33,10 @@ pub no_null : (v w : Value) (n : NullId) → v ≡ w → v ≡ Null n → is_tex
 no_null v w n e f h = let k = subst (λ x. is_text x ≡ true) (sym e ∙ f) h in absurd (cc k)
 
 pub text_read : (S : List Value) (row : List ℕ) (t : Tuple) (i n : ℕ) → texts_of S row ≡ t → i < length row → n ≡ get_or row i 0
-    → text_in (value_of S n) ≡ get_or t i []
+    → text_of_value (value_of S n) ≡ get_or t i []
 text_read S row t i n e h k =
-    ap (λ m. text_in (value_of S m)) k
-    ∙ (sym (get_map (λ m. text_in (value_of S m)) row i [] 0 h) ∙ ap (λ u. get_or u i []) e)
+    ap (λ m. text_of_value (value_of S m)) k
+    ∙ (sym (get_map (λ m. text_of_value (value_of S m)) row i [] 0 h) ∙ ap (λ u. get_or u i []) e)
 
 -- ---- a tuple of a rule
 

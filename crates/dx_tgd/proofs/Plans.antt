@@ -15,7 +15,7 @@ use Rattle.dx_model.specs.declared.rules.Cell.TheVariants.{Var, Ex, Lit}
 use Rattle.dx_model.specs.declared.rules.Atom.{Atom}
 use Rattle.dx_model.specs.declared.rules.Rule.{Rule}
 use Rattle.dx_model.specs.Values.{Tuple, value_cmp}
-use Rattle.dx_model.specs.Rules.{cell_value, exported, said, text_of}
+use Rattle.dx_model.specs.Rules.{cell_value, exported, fact_of_atom, text_of}
 use Rattle.dx_model.proofs.Canonical.{exported_exactly}
 use Rattle.dx_model.proofs.Orders.{value_total}
 use Rattle.dx_instance.specs.Numbers.{Extends, ValuesAscend, value_of}
@@ -24,18 +24,19 @@ use Rattle.dx_instance.proofs.ShownFacts.{grown_value, longer}
 use Rattle.dx_tgd.specs.declared.planned.PlannedCell.{PlannedCell}
 use Rattle.dx_tgd.specs.declared.planned.PlannedCell.TheVariants.{Column, Fixed, Nulls}
 use Rattle.dx_tgd.specs.declared.planned.PlannedAtom.{PlannedAtom}
-use Rattle.dx_tgd.specs.Placed.{null_at}
-use Rattle.dx_tgd.specs.Planned.{AreNulls, HasNumber, IsPlanned, IsPlannedAtom, StandsAs, number_of, planned_fact}
-use Rattle.dx_joins.specs.Shown.{AreTexts, text_in, texts_of}
+use Rattle.dx_tgd.specs.Placed.{place_null}
+use Rattle.dx_tgd.specs.Planned.{AreNullNumbers, HasNumber, IsCellPlan, IsPlannedAtom, StandsAs, planned_number, planned_fact}
+use Rattle.dx_joins.specs.Shown.{AreTexts, texts_of}
+use Rattle.dx_instance.specs.Ranks.{text_of_value}
 use Rattle.dx_joins.proofs.Translating.{text_back}
 
 pub grown_stands : (S T : List Value) (n : ℕ) (v : Value) → Extends S T → StandsAs S n v → StandsAs T n v
 grown_stands S T n v e s = record { within = omega (arith, s.within, longer S T e); value = grown_value S T n e s.within ∙ s.value }
 
-grown_nulls : (S T : List Value) (i v n : ℕ) (ns : List ℕ) → Extends S T → AreNulls S i v n ns → AreNulls T i v n ns
-grown_nulls S T i v n ns e h = record { many = h.many; each = λ k b. grown_stands S T (slice_index ns k) (null_at i k v) e (h.each k b) }
+grown_nulls : (S T : List Value) (i v n : ℕ) (ns : List ℕ) → Extends S T → AreNullNumbers S i v n ns → AreNullNumbers T i v n ns
+grown_nulls S T i v n ns e h = record { many = h.many; each = λ k b. grown_stands S T (slice_index ns k) (place_null i k v) e (h.each k b) }
 
-pub grown_plan : (S T : List Value) (i : ℕ) (vars : List ℕ) (n : ℕ) (p : PlannedCell) (c : Cell) → Extends S T → IsPlanned S i vars n p c → IsPlanned T i vars n p c
+pub grown_plan : (S T : List Value) (i : ℕ) (vars : List ℕ) (n : ℕ) (p : PlannedCell) (c : Cell) → Extends S T → IsCellPlan S i vars n p c → IsCellPlan T i vars n p c
 grown_plan S T i vars n (Column j) (Var x) e h = h
 grown_plan S T i vars n (Column j) (Ex v) e h = absurd h
 grown_plan S T i vars n (Column j) (Lit t) e h = absurd h
@@ -52,12 +53,12 @@ zip_more {X} {Y} R xs ys i x y h e z r = rw (take_more ys i y h, ← e) (zip_pus
 
 -- one cell more
 pub plans_more : (S T : List Value) (i : ℕ) (vars : List ℕ) (n : ℕ) (ps : List PlannedCell) (cs : List Cell) (k : ℕ) (p : PlannedCell) (c : Cell) → k < length cs → c ≡ get_or cs k c → Extends S T
-    → AllZip (IsPlanned S i vars n) ps (take k cs) → IsPlanned T i vars n p c → AllZip (IsPlanned T i vars n) (ps ++ p ∷ []) (take (k + 1) cs)
+    → AllZip (IsCellPlan S i vars n) ps (take k cs) → IsCellPlan T i vars n p c → AllZip (IsCellPlan T i vars n) (ps ++ p ∷ []) (take (k + 1) cs)
 plans_more S T i vars n ps cs k p c h e g z r =
-    zip_more (IsPlanned T i vars n) ps cs k p c h e (zip_grow (IsPlanned S i vars n) (IsPlanned T i vars n) ps (take k cs) (λ q d. grown_plan S T i vars n q d g) z) r
+    zip_more (IsCellPlan T i vars n) ps cs k p c h e (zip_grow (IsCellPlan S i vars n) (IsCellPlan T i vars n) ps (take k cs) (λ q d. grown_plan S T i vars n q d g) z) r
 
 grown_atom : (S T : List Value) (i : ℕ) (vars : List ℕ) (n : ℕ) (p : PlannedAtom) (a : Atom) → Extends S T → IsPlannedAtom S i vars n p a → IsPlannedAtom T i vars n p a
-grown_atom S T i vars n p a g h = record { table = h.table; cells = zip_grow (IsPlanned S i vars n) (IsPlanned T i vars n) p.cells.items a.cells (λ q d. grown_plan S T i vars n q d g) h.cells }
+grown_atom S T i vars n p a g h = record { table = h.table; cells = zip_grow (IsCellPlan S i vars n) (IsCellPlan T i vars n) p.cells.items a.cells (λ q d. grown_plan S T i vars n q d g) h.cells }
 
 -- one atom more
 pub atoms_more : (S T : List Value) (i : ℕ) (vars : List ℕ) (n : ℕ) (ps : List PlannedAtom) (atoms : List Atom) (k : ℕ) (p : PlannedAtom) (a : Atom) → k < length atoms → a ≡ get_or atoms k a → Extends S T
@@ -66,19 +67,19 @@ atoms_more S T i vars n ps atoms k p a h e g z r =
     zip_more (IsPlannedAtom T i vars n) ps atoms k p a h e (zip_grow (IsPlannedAtom S i vars n) (IsPlannedAtom T i vars n) ps (take k atoms) (λ q d. grown_atom S T i vars n q d g) z) r
 
 -- one null more
-pub nulls_more : (S T : List Value) (i v k n : ℕ) (ns : List ℕ) → Extends S T → AreNulls S i v k ns → n < length T → value_of T n ≡ null_at i k v → AreNulls T i v (k + 1) (ns ++ n ∷ [])
+pub nulls_more : (S T : List Value) (i v k n : ℕ) (ns : List ℕ) → Extends S T → AreNullNumbers S i v k ns → n < length T → value_of T n ≡ place_null i k v → AreNullNumbers T i v (k + 1) (ns ++ n ∷ [])
 nulls_more S T i v k n ns g h b e = record { many = omega (arith, h.many, length-append ns (n ∷ [])); each = each }
   where
-    each : (j : ℕ) → j < k + 1 → StandsAs T (slice_index (ns ++ n ∷ []) j) (null_at i j v)
+    each : (j : ℕ) → j < k + 1 → StandsAs T (slice_index (ns ++ n ∷ []) j) (place_null i j v)
     each j l = elim (cases_lt j k) [
-      | inl s ↦ subst (λ (x : ℕ). StandsAs T x (null_at i j v)) (sym (get_or_append_left ns (n ∷ []) 0 j (omega (arith, s, h.many)))) (grown_stands S T (slice_index ns j) (null_at i j v) g (h.each j s))
+      | inl s ↦ subst (λ (x : ℕ). StandsAs T x (place_null i j v)) (sym (get_or_append_left ns (n ∷ []) 0 j (omega (arith, s, h.many)))) (grown_stands S T (slice_index ns j) (place_null i j v) g (h.each j s))
       | inr s ↦
           let q : j ≡ k = omega arith in
           let at : slice_index (ns ++ n ∷ []) j ≡ n = get_or_push ns n 0 j (omega (arith, q, h.many)) in
-          subst (λ (x : ℕ). StandsAs T x (null_at i j v)) (sym at) (record { within = b; value = rw q e })
+          subst (λ (x : ℕ). StandsAs T x (place_null i j v)) (sym at) (record { within = b; value = rw q e })
     ]
 
-pub no_nulls : (S : List Value) (i v : ℕ) → AreNulls S i v 0 []
+pub no_nulls : (S : List Value) (i v : ℕ) → AreNullNumbers S i v 0 []
 no_nulls S i v = record { many = refl; each = λ k h. absurd (omega arith) }
 
 -- where the text of a variable stands
@@ -114,13 +115,13 @@ pub record Stands (S : List Value) (d : Rule) (places : ℕ) (row : List ℕ) (k
   pub wide : length row ≡ length (exported d)
   pub place : k < places
 
-cell_stands : (S : List Value) (i : ℕ) (d : Rule) (n k : ℕ) (row : List ℕ) (p : PlannedCell) (c : Cell) → Stands S d n row k → IsPlanned S i (exported d) n p c
-    → HasNumber row k p × StandsAs S (number_of row k p) (cell_value (text_of (exported d) (texts_of S row)) (null_at i k) c)
+cell_stands : (S : List Value) (i : ℕ) (d : Rule) (n k : ℕ) (row : List ℕ) (p : PlannedCell) (c : Cell) → Stands S d n row k → IsCellPlan S i (exported d) n p c
+    → HasNumber row k p × StandsAs S (planned_number row k p) (cell_value (text_of (exported d) (texts_of S row)) (place_null i k) c)
 cell_stands S i d n k row (Column j) (Var x) s h =
     let b : j < length row = omega (arith, h.within, s.wide) in
     let at = s.texts (get_or row j 0) (in_at row j 0 b) in
-    let t : text_of (exported d) (texts_of S row) x ≡ text_in (value_of S (get_or row j 0)) =
-    h.text (texts_of S row) (length-map row (λ (m : ℕ). text_in (value_of S m)) ∙ s.wide) ∙ get_or-map (λ (m : ℕ). text_in (value_of S m)) row j 0 [] b in
+    let t : text_of (exported d) (texts_of S row) x ≡ text_of_value (value_of S (get_or row j 0)) =
+    h.text (texts_of S row) (length-map row (λ (m : ℕ). text_of_value (value_of S m)) ∙ s.wide) ∙ get_or-map (λ (m : ℕ). text_of_value (value_of S m)) row j 0 [] b in
     (b, record { within = at.0; value = sym (text_back (value_of S (get_or row j 0)) at.1) ∙ ap Const (sym t) })
 cell_stands S i d n k row (Column j) (Ex v) s h = absurd h
 cell_stands S i d n k row (Column j) (Lit t) s h = absurd h
@@ -131,8 +132,8 @@ cell_stands S i d n k row (Nulls ns) (Var x) s h = absurd h
 cell_stands S i d n k row (Nulls ns) (Ex v) s h = (omega (arith, h.many, s.place), h.each k s.place)
 cell_stands S i d n k row (Nulls ns) (Lit t) s h = absurd h
 
-pub cells_stand : (S : List Value) (i : ℕ) (d : Rule) (n k : ℕ) (row : List ℕ) (ps : List PlannedCell) (cs : List Cell) → Stands S d n row k → AllZip (IsPlanned S i (exported d) n) ps cs
-    → Each ps (λ p. HasNumber row k p × (number_of row k p < length S)) × (shown_row S (map (number_of row k) ps) ≡ map (cell_value (text_of (exported d) (texts_of S row)) (null_at i k)) cs) × (length ps ≡ length cs)
+pub cells_stand : (S : List Value) (i : ℕ) (d : Rule) (n k : ℕ) (row : List ℕ) (ps : List PlannedCell) (cs : List Cell) → Stands S d n row k → AllZip (IsCellPlan S i (exported d) n) ps cs
+    → Each ps (λ p. HasNumber row k p × (planned_number row k p < length S)) × (shown_row S (map (planned_number row k) ps) ≡ map (cell_value (text_of (exported d) (texts_of S row)) (place_null i k)) cs) × (length ps ≡ length cs)
 cells_stand S i d n k row [] [] s z = ((λ p m. elim m [ ]), refl, refl)
 cells_stand S i d n k row [] (c ∷ cs) s z = absurd z
 cells_stand S i d n k row (p ∷ ps) [] s z = absurd z
@@ -143,22 +144,22 @@ cells_stand S i d n k row (p ∷ ps) (c ∷ cs) s z =
     let after = rest.1 in
     (each one rest.0, cc (first, after), ap suc rest.2)
   where
-    each : HasNumber row k p × StandsAs S (number_of row k p) (cell_value (text_of (exported d) (texts_of S row)) (null_at i k) c) → Each ps (λ q. HasNumber row k q × (number_of row k q < length S))
-        → Each (p ∷ ps) (λ q. HasNumber row k q × (number_of row k q < length S))
-    each one rest q (here e) = subst (λ (x : PlannedCell). HasNumber row k x × (number_of row k x < length S)) e (one.0, one.1.within)
+    each : HasNumber row k p × StandsAs S (planned_number row k p) (cell_value (text_of (exported d) (texts_of S row)) (place_null i k) c) → Each ps (λ q. HasNumber row k q × (planned_number row k q < length S))
+        → Each (p ∷ ps) (λ q. HasNumber row k q × (planned_number row k q < length S))
+    each one rest q (here e) = subst (λ (x : PlannedCell). HasNumber row k x × (planned_number row k x < length S)) e (one.0, one.1.within)
     each one rest q (there m) = rest q m
 
 -- the planned atoms say what the conclusion says at the place
 pub plan_says : (S : List Value) (i : ℕ) (d : Rule) (n k : ℕ) (row : List ℕ) (ps : List PlannedAtom) (atoms : List Atom) → Stands S d n row k → AllZip (IsPlannedAtom S i (exported d) n) ps atoms
-    → map (planned_fact S row k) ps ≡ map (said (text_of (exported d) (texts_of S row)) (null_at i k)) atoms
+    → map (planned_fact S row k) ps ≡ map (fact_of_atom (text_of (exported d) (texts_of S row)) (place_null i k)) atoms
 plan_says S i d n k row [] [] s z = refl
 plan_says S i d n k row [] (a ∷ atoms) s z = absurd z
 plan_says S i d n k row (p ∷ ps) [] s z = absurd z
 plan_says S i d n k row (p ∷ ps) (a ∷ atoms) s z =
-    let one : planned_fact S row k p ≡ said (text_of (exported d) (texts_of S row)) (null_at i k) a =
+    let one : planned_fact S row k p ≡ fact_of_atom (text_of (exported d) (texts_of S row)) (place_null i k) a =
     (λ j. record { table = z.0.table j; row = (cells_stand S i d n k row p.cells.items a.cells s z.0.cells).1 j }) in
     let rest = plan_says S i d n k row ps atoms s z.1 in
     cc (one, rest)
 
-pub some_below : (row : List ℕ) (k : ℕ) (cells : List PlannedCell) (n : ℕ) → Each cells (λ c. number_of row k c < n) → Each (map (number_of row k) cells) (λ x. x < n)
-some_below row k cells n h x m = let r = from_map (number_of row k) cells m in rw (← r.2) (h r.0 r.1)
+pub some_below : (row : List ℕ) (k : ℕ) (cells : List PlannedCell) (n : ℕ) → Each cells (λ c. planned_number row k c < n) → Each (map (planned_number row k) cells) (λ x. x < n)
+some_below row k cells n h x m = let r = from_map (planned_number row k) cells m in rw (← r.2) (h r.0 r.1)

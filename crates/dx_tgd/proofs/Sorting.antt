@@ -12,7 +12,7 @@ use Rattle.std.proofs.lemmas.Cmp.{lists_total, nat_list_cmp_total, lists_equiv, 
 use Rattle.std.proofs.lemmas.Slice.Eq.{bytes_eq-Decides, slice_eq-Decides}
 use Rattle.std.specs.Cmp.Lexicographic.{lists_ties, texts_ties}
 use Rattle.dx_ports.specs.Members.{◌∈◌, here, there}
-use Rattle.dx_model.specs.Rules.{Ascend}
+use Rattle.dx_model.specs.Rules.{TuplesAscend}
 use Rattle.dx_ports.proofs.Members.{contains_from_in, in_from_contains}
 
 each_below : (t : List (List ℕ)) (ts : List (List (List ℕ))) → AllByRecursion (λ u. slice_cmp (slice_cmp nat_cmp) t u ≡ Less) ts
@@ -21,12 +21,12 @@ each_below t [] h u m = elim m [ ]
 each_below t (v ∷ ts) h u (here e) = rw (← e) h.0
 each_below t (v ∷ ts) h u (there m) = each_below t ts h.1 u m
 
-ascend_from : (ts : List (List (List ℕ))) → IsStrictlySortedBy (slice_cmp (slice_cmp nat_cmp)) ts → Ascend ts
+ascend_from : (ts : List (List (List ℕ))) → IsStrictlySortedBy (slice_cmp (slice_cmp nat_cmp)) ts → TuplesAscend ts
 unfolding IsStrictlySortedBy
 ascend_from [] h = tt
 ascend_from (t ∷ ts) h = (each_below t ts h.0, ascend_from ts h.1)
 
-pub ascend_dedup : (ts : List (List (List ℕ))) → IsSorted (slice_cmp (slice_cmp nat_cmp)) ts → Ascend (dedup (pointwise bytes_eq) ts)
+pub ascend_dedup : (ts : List (List (List ℕ))) → IsSorted (slice_cmp (slice_cmp nat_cmp)) ts → TuplesAscend (dedup (pointwise bytes_eq) ts)
 ascend_dedup ts h = ascend_from _ (IsStrictlySortedBy-dedup (lists_total nat_list_cmp_total) (lists_ties (slice_cmp nat_cmp) texts_ties) ts h)
 
 pub same_members : (xs ys : List (List (List ℕ))) → IsPermutation xs ys → IsPermutation ys xs → (t : List (List ℕ)) → (t ∈ dedup (pointwise bytes_eq) ys → t ∈ xs) × (t ∈ xs → t ∈ dedup (pointwise bytes_eq) ys)

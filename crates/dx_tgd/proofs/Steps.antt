@@ -19,7 +19,7 @@ use Rattle.dx_instance.specs.Stored.{IsSorting, TableRows, facts, rows_of, width
 use Rattle.dx_instance.proofs.StoredFacts.{widths_without, sorting_facts}
 use Rattle.dx_tgd.specs.declared.planned.PlannedAtom.{PlannedAtom}
 use Rattle.dx_tgd.specs.Counting.{canonical_cells}
-use Rattle.dx_tgd.specs.Gained.{Gains, HasRoom}
+use Rattle.dx_tgd.specs.Gained.{GainsFacts, HasRoomForRows}
 use Rattle.dx_model.specs.Fitting.{AtomFitsWidths}
 use Rattle.dx_tgd.specs.Placed.{FitsWidths}
 use Rattle.dx_tgd.specs.Planned.{CanStand, IsPlannedAtom, planned_fact}
@@ -86,16 +86,16 @@ module _ (S T L : List Value) (i : ℕ) (d : Rule) (t : NumberTable) (n k : ℕ)
   pub stand_at : (ws vs : List ℕ) → ws ≡ vs → FitsWidths vs d → Each ps (CanStand ws (length L) row k)
   stand_at ws vs e f = rw (e, a.same) (all_stand vs ps d.conclusion a.plan f)
 
-  pub room_at : (I J : List TableRows) → Gains I J (at_places i d 0 (take k (map (texts_of S) t.rows))) → HasRoom I (length (at_places i d 0 (map (texts_of S) t.rows))) → HasRoom J (length ps)
+  pub room_at : (I J : List TableRows) → GainsFacts I J (at_places i d 0 (take k (map (texts_of S) t.rows))) → HasRoomForRows I (length (at_places i d 0 (map (texts_of S) t.rows))) → HasRoomForRows J (length ps)
   room_at I J g r u =
       let long = length-map t.rows (texts_of S) in
       let b : k < length (map (texts_of S) t.rows) = omega (arith, long, a.place) in
       omega (arith, g.few u, r u, place_room i d (map (texts_of S) t.rows) k (texts_of S row) b tuple_at, zip_long (IsPlannedAtom T i (exported d) n) ps d.conclusion a.plan)
 
-  pub more_at : (I J K : List TableRows) → Gains I J (at_places i d 0 (take k (map (texts_of S) t.rows))) → Gains J K (map (planned_fact L row k) ps) → Gains I K (at_places i d 0 (take (k + 1) (map (texts_of S) t.rows)))
+  pub more_at : (I J K : List TableRows) → GainsFacts I J (at_places i d 0 (take k (map (texts_of S) t.rows))) → GainsFacts J K (map (planned_fact L row k) ps) → GainsFacts I K (at_places i d 0 (take (k + 1) (map (texts_of S) t.rows)))
   more_at I J K g h =
       let long = length-map t.rows (texts_of S) in
-      gains_place i d (map (texts_of S) t.rows) k (texts_of S row) (omega (arith, long, a.place)) tuple_at g (subst (λ (fs : List Fact). Gains J K fs) says_at h)
+      gains_place i d (map (texts_of S) t.rows) k (texts_of S row) (omega (arith, long, a.place)) tuple_at g (subst (λ (fs : List Fact). GainsFacts J K fs) says_at h)
 
 -- ---- one rule
 
@@ -134,11 +134,11 @@ module _ (S L : List Value) (R : List Rule) (ts : List NumberTable) (i : ℕ) (d
   read : tuples ≡ get_or (tuples_in S ts) i tuples
   read = ap (λ (u : NumberTable). map (texts_of S) u.rows) a.table ∙ sym (get_or-map (λ (u : NumberTable). map (texts_of S) u.rows) ts i t tuples many)
 
-  pub room_of_rule : (I J : List TableRows) → Gains I J (canonical 0 (take i R) (take i (tuples_in S ts))) → HasRoom I (length (canonical 0 R (tuples_in S ts))) → HasRoom J (length (at_places i d 0 (map (texts_of L) t.rows)))
+  pub room_of_rule : (I J : List TableRows) → GainsFacts I J (canonical 0 (take i R) (take i (tuples_in S ts))) → HasRoomForRows I (length (canonical 0 R (tuples_in S ts))) → HasRoomForRows J (length (at_places i d 0 (map (texts_of L) t.rows)))
   room_of_rule I J g r u = rw same_tuples (omega (arith, g.few u, r u, rule_room R (tuples_in S ts) i d tuples a.within within_tuples a.rule read))
 
-  pub more_of_rule : (I J K : List TableRows) → Gains I J (canonical 0 (take i R) (take i (tuples_in S ts))) → Gains J K (at_places i d 0 (map (texts_of L) t.rows)) → Gains I K (canonical 0 (take (i + 1) R) (take (i + 1) (tuples_in S ts)))
-  more_of_rule I J K g h = gains_rule R (tuples_in S ts) i d tuples a.within within_tuples a.rule read g (subst (λ (us : List Tuple). Gains J K (at_places i d 0 us)) same_tuples h)
+  pub more_of_rule : (I J K : List TableRows) → GainsFacts I J (canonical 0 (take i R) (take i (tuples_in S ts))) → GainsFacts J K (at_places i d 0 (map (texts_of L) t.rows)) → GainsFacts I K (canonical 0 (take (i + 1) R) (take (i + 1) (tuples_in S ts)))
+  more_of_rule I J K g h = gains_rule R (tuples_in S ts) i d tuples a.within within_tuples a.rule read g (subst (λ (us : List Tuple). GainsFacts J K (at_places i d 0 us)) same_tuples h)
 
 pub all_rules : (S : List Value) (R : List Rule) (ts : List NumberTable) (i : ℕ) → FitRules S R ts → length R ≤ i → canonical 0 (take i R) (take i (tuples_in S ts)) ≡ canonical 0 R (tuples_in S ts)
 all_rules S R ts i f h =
@@ -154,22 +154,22 @@ pub fits_first : (ws : List ℕ) (I : List TableRows) (R : List Rule) → I ≡ 
 fits_first ws I R e f = subst (λ (z : List ℕ). Each R (FitsWidths z)) (sym (ap widths e ∙ widths_without ws)) f
 
 pub room_first : (ws : List ℕ) (I : List TableRows) (R : List Rule) (rows : Rows) → I ≡ without_rows ws → Each ws (λ w. 1 ≤ w) → Each R (FitsWidths ws) → canonical_cells R rows < 2 ^ 32 - 1
-    → HasRoom I (length (canonical 0 R rows))
+    → HasRoomForRows I (length (canonical 0 R rows))
 room_first ws I R rows e s f h t =
     let n : rows_of I t ≡ [] = ap (λ (z : List TableRows). rows_of z t) e ∙ no_rows ws t in
     let l : length (rows_of I t) ≡ 0 = ap length n in
     omega (arith, l, h, few_facts 0 R rows (atoms_have_cells ws R s f))
 
-pub few_tables : (ws : List ℕ) (I J : List TableRows) (more : List Fact) → I ≡ without_rows ws → Gains I J more → length ws < 2 ^ 32 - 1 → length J < 2 ^ 32 - 1
+pub few_tables : (ws : List ℕ) (I J : List TableRows) (more : List Fact) → I ≡ without_rows ws → GainsFacts I J more → length ws < 2 ^ 32 - 1 → length J < 2 ^ 32 - 1
 few_tables ws I J more e g h =
     let l = ap length (widths_gained ws I J more e g) in
     omega (arith, h, l, length-map J (λ (t : TableRows). t.width))
 
-pub sorted_widths : (r : Result (List TableRows) AllocError) (ws : List ℕ) (I J : List TableRows) (more : List Fact) → I ≡ without_rows ws → Gains I J more → IfOk r (IsSorting J) → IfOk r (λ K. widths K ≡ ws)
+pub sorted_widths : (r : Result (List TableRows) AllocError) (ws : List ℕ) (I J : List TableRows) (more : List Fact) → I ≡ without_rows ws → GainsFacts I J more → IfOk r (IsSorting J) → IfOk r (λ K. widths K ≡ ws)
 sorted_widths (Ok K) ws I J more e g s = s.widths_stay ∙ widths_gained ws I J more e g
 sorted_widths (Err x) ws I J more e g s = tt
 
-pub sorted_all : (r : Result (List TableRows) AllocError) (ws : List ℕ) (I J : List TableRows) (more : List Fact) → I ≡ without_rows ws → Gains I J more → IfOk r (IsSorting J) → IfOk r (λ K. facts K ≈ more)
+pub sorted_all : (r : Result (List TableRows) AllocError) (ws : List ℕ) (I J : List TableRows) (more : List Fact) → I ≡ without_rows ws → GainsFacts I J more → IfOk r (IsSorting J) → IfOk r (λ K. facts K ≈ more)
 sorted_all (Ok K) ws I J more e g s =
     let same = sorting_facts J K s in
     ((λ f m. only_gained ws I J more e g f (same.0 f m)), (λ f m. same.1 f (g.there f m)))

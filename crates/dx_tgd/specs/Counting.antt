@@ -6,10 +6,6 @@ use Rattle.dx_model.specs.declared.rules.Rule.{Rule}
 use Rattle.dx_model.specs.Values.{Rows}
 use Rattle.dx_model.specs.Rules.{cells_of}
 
--- the tuples of each rule
-abbrev pub rows_in : Matches → Rows
-rows_in m = map (λ (p : Places). p.tuples) m.rules
-
 -- the sum over the rules of the number of places times the number of cells of the conclusion
 abbrev pub canonical_cells : List Rule → Rows → ℕ
 canonical_cells [] rows = 0

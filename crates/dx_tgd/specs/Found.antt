@@ -8,7 +8,7 @@ use Rattle.dx_model.specs.Values.{Conversions, Rows, Tuple}
 use Rattle.dx_model.specs.Rules.{AreRows, exported}
 use Rattle.dx_ports.specs.Members.{◌∈◌, Each}
 use Rattle.dx_instance.specs.Cells.{NumberTable, NumbersAscend}
-use Rattle.dx_joins.specs.Shown.{AreTexts, IsShown, StandFor, texts_of}
+use Rattle.dx_joins.specs.Shown.{AreTexts, IsMatchTuple, StandFor, texts_of}
 use Rattle.dx_ports.specs.declared.file.Count.TheVariants.{TargetCells}
 use Rattle.dx_tgd.specs.declared.fault.CanonFault.{CanonFault}
 use Rattle.dx_tgd.specs.declared.fault.CanonFault.TheVariants.{Memory, Limit}
@@ -16,18 +16,18 @@ use Rattle.dx_tgd.specs.Counting.{canonical_cells}
 
 -- a match of the rule exports the tuple
 abbrev pub IsTuple : Conversions → List Fact → Rule → Tuple → Type 0
-IsTuple convert I d t = IsShown convert d.premise d.derived I (exported d) t
+IsTuple convert I d t = IsMatchTuple convert d.premise d.derived I (exported d) t
 
 -- the rows stand for exactly the tuples that the rule's matches export
 abbrev pub IsFoundRule : Conversions → List Fact → List Value → Rule → NumberTable → Type 0
 IsFoundRule convert I symbols d t = StandFor (length (exported d)) (IsTuple convert I d) symbols t
 
 -- each rule has such rows
-abbrev pub AreFound : Conversions → List Fact → List Value → List Rule → List NumberTable → Type 0
-AreFound convert I symbols R tables = AllZip (IsFoundRule convert I symbols) R tables
+abbrev pub AreFoundRules : Conversions → List Fact → List Value → List Rule → List NumberTable → Type 0
+AreFoundRules convert I symbols R tables = AllZip (IsFoundRule convert I symbols) R tables
 
 -- the new rows ascend, and stand under the new symbols for the same tuples
-pub record IsReordered (old new : List Value) (t u : NumberTable) : Type 0 where
+pub record IsRenumbering (old new : List Value) (t u : NumberTable) : Type 0 where
   pub width : u.width ≡ t.width
   pub ascend : NumbersAscend u.rows
   pub texts : Each u.rows (AreTexts new)
@@ -40,6 +40,6 @@ pub record MoreCells (convert : Conversions) (R : List Rule) (I : List Fact) (li
   pub more : limit < canonical_cells R rows
 
 -- the limit is refused if the rules' rows make more canonical cells; for want of memory there is no reason
-abbrev pub IsRefusal : Conversions → List Rule → List Fact → ℕ → CanonFault → Type 0
-IsRefusal convert R I limit Memory = Unit {0}
-IsRefusal convert R I limit (Limit l) = (l ≡ record { what = TargetCells; number = limit }) × MoreCells convert R I limit
+abbrev pub IsCanonicalRefusal : Conversions → List Rule → List Fact → ℕ → CanonFault → Type 0
+IsCanonicalRefusal convert R I limit Memory = Unit {0}
+IsCanonicalRefusal convert R I limit (Limit l) = (l ≡ record { what = TargetCells; number = limit }) × MoreCells convert R I limit

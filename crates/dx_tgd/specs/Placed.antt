@@ -11,8 +11,8 @@ use Rattle.dx_model.specs.Values.{Tuple, Rows}
 use Rattle.dx_model.specs.Rules.{canonical, cells_of, exported}
 
 -- the null of an existential variable, at a place of a rule
-abbrev pub null_at : ℕ → ℕ → ℕ → Value
-null_at rule place v = Null (record { rule = rule; var = v; row = place })
+abbrev pub place_null : ℕ → ℕ → ℕ → Value
+place_null rule place v = Null (record { rule = rule; var = v; row = place })
 
 -- the atoms of the conclusion are of tables with as many columns as they have cells
 abbrev pub FitsWidths : List ℕ → Rule → Type 0
@@ -23,20 +23,20 @@ abbrev pub HasCell : Rule → Type 0
 HasCell d = 1 ≤ length (cells_of d.conclusion)
 
 -- each tuple has as many texts
-abbrev pub AreLong : ℕ → List Tuple → Type 0
-AreLong n ts = Each ts (λ (t : Tuple). length t ≡ n)
+abbrev pub HaveLength : ℕ → List Tuple → Type 0
+HaveLength n ts = Each ts (λ (t : Tuple). length t ≡ n)
 
 -- each tuple has a text for each exported variable of its rule
 abbrev pub FitTuples : List Rule → Rows → Type 0
 FitTuples [] rows = Unit {0}
 FitTuples (d ∷ R) [] = Unit {0}
-FitTuples (d ∷ R) (ts ∷ rows) = AreLong (length (exported d)) ts × FitTuples R rows
+FitTuples (d ∷ R) (ts ∷ rows) = HaveLength (length (exported d)) ts × FitTuples R rows
 
 -- the null names a rule, and a place of this rule
-pub record HasPlace (R : List Rule) (rows : Rows) (n : NullId) : Type 0 where
+pub record NamesPlace (R : List Rule) (rows : Rows) (n : NullId) : Type 0 where
   pub rule : n.rule < length R
   pub place : n.row < length (slice_index_or rows n.rule [])
 
 -- each null of the canonical instance names a rule and a place that are there
 abbrev pub NullsHavePlaces : Type 0
-NullsHavePlaces = (R : List Rule) (rows : Rows) (f : Fact) (n : NullId) → f ∈ canonical 0 R rows → Null n ∈ f.row → HasPlace R rows n
+NullsHavePlaces = (R : List Rule) (rows : Rows) (f : Fact) (n : NullId) → f ∈ canonical 0 R rows → Null n ∈ f.row → NamesPlace R rows n

@@ -6,7 +6,7 @@ ghost use Rattle.dx_model.specs.Rules.{exported as exported_of};
 ghost use Rattle.dx_instance.specs.Numbers.{Extends};
 ghost use Rattle.dx_instance.specs.Shown.{AreBelow, shown_row, shown_tables};
 ghost use Rattle.dx_instance.specs.Stored.{IsSorting, rows_of, table_at, widths, without_rows};
-ghost use Rattle.dx_tgd.specs.Gained.{Gains};
+ghost use Rattle.dx_tgd.specs.Gained.{GainsFacts};
 ghost use Rattle.dx_tgd.specs.Planned.{IsPlannedAtom, built};
 
 use crate::planned::PlannedAtom;
@@ -26,13 +26,13 @@ pub(crate) struct Builder {
 impl Model for Builder {
     ghost use Rattle.std.specs.Prelude.{length};
     ghost use Rattle.dx_ports.specs.Members.{Each};
-    ghost use Rattle.dx_instance.specs.Shown.{Numbered, RowsFit};
+    ghost use Rattle.dx_instance.specs.Shown.{NumberedInstance, NumberRowsFit};
 
     ghost Value = { Numbered };
 
     ghost view = { λ b. record { symbols = b.symbols; tables = b.tables.items } };
 
-    ghost invariant = { λ b. Each b.tables.items (RowsFit (length b.symbols)) };
+    ghost invariant = { λ b. Each b.tables.items (NumberRowsFit (length b.symbols)) };
 }
 
 impl Builder {
@@ -84,7 +84,7 @@ impl Builder {
         requires below { AreBelow (length self.old.symbols) numbers.now }
         requires room { length (rows_of (built self.old) table) < 2 ^ 32 - 1 }
         ensures symbols { OnOk result (self.new.symbols ≡ self.old.symbols) }
-        ensures added { OnOk result (Gains (built self.old) (built self.new) (record { table = table; row = shown_row self.old.symbols numbers.now } ∷ [])) }
+        ensures added { OnOk result (GainsFacts (built self.old) (built self.new) (record { table = table; row = shown_row self.old.symbols numbers.now } ∷ [])) }
     {
         self.tables[table as usize].push(numbers)
     }

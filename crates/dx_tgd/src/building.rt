@@ -7,11 +7,11 @@ ghost use Rattle.dx_instance.specs.Cells.{NumberTable};
 ghost use Rattle.dx_instance.specs.Numbers.{Extends};
 ghost use Rattle.dx_instance.specs.Stored.{facts, rows_of, widths};
 ghost use Rattle.dx_tgd.specs.Counting.{canonical_cells};
-ghost use Rattle.dx_tgd.specs.Gained.{Gains, HasRoom};
+ghost use Rattle.dx_tgd.specs.Gained.{GainsFacts, HasRoomForRows};
 ghost use Rattle.dx_tgd.specs.Placed.{FitsWidths, HasCell};
 ghost use Rattle.dx_joins.specs.Shown.{AreTexts, texts_of};
 ghost use Rattle.dx_tgd.specs.Texts.{FitRules, tuples_in};
-ghost use Rattle.dx_tgd.specs.Planned.{CanStand, HasNumber, built, number_of, planned_fact};
+ghost use Rattle.dx_tgd.specs.Planned.{CanStand, HasNumber, built, planned_number, planned_fact};
 
 use crate::builder::Builder;
 use crate::planned::{PlannedAtom, PlannedCell};
@@ -23,7 +23,7 @@ use std::alloc::{AllocError, Global};
 // The number of a planned cell at a place.
 fn number_at(cell: &PlannedCell, row: &[u32], place: u32) -> u32
     requires { HasNumber row.now place cell.now }
-    ensures { result ≡ number_of row.now place cell.now }
+    ensures { result ≡ planned_number row.now place cell.now }
 {
     match cell {
         PlannedCell::Column(column) => row[*column],
@@ -40,7 +40,7 @@ fn fill(
     buffer: &mut Vec<u32>,
 ) -> Result<(), AllocError>
     requires { Each cells.now (HasNumber row.now place) }
-    ensures { OnOk result (buffer.new.items ≡ map (number_of row.now place) cells.now) }
+    ensures { OnOk result (buffer.new.items ≡ map (planned_number row.now place) cells.now) }
 {
     buffer.clear();
     for cell in cells {
@@ -58,9 +58,9 @@ fn add_place(
     target: &mut Builder,
 ) -> Result<(), AllocError>
     requires stand { Each atoms.now (CanStand (widths (built target.old)) (length target.old.symbols) row.now place) }
-    requires room { HasRoom (built target.old) (length atoms.now) }
+    requires room { HasRoomForRows (built target.old) (length atoms.now) }
     ensures symbols { OnOk result (target.new.symbols ≡ target.old.symbols) }
-    ensures gained { OnOk result (Gains (built target.old) (built target.new) (map (planned_fact target.old.symbols row.now place) atoms.now)) }
+    ensures gained { OnOk result (GainsFacts (built target.old) (built target.new) (map (planned_fact target.old.symbols row.now place) atoms.now)) }
 {
     for atom in atoms {
         fill(&atom.cells, row, place, buffer)?;
@@ -80,9 +80,9 @@ fn add_rule(
     requires width { rows.now.width ≡ length (exported_of rule.now) }
     requires texts { Each rows.now.rows (AreTexts target.old.symbols) }
     requires fits { FitsWidths (widths (built target.old)) rule.now }
-    requires room { HasRoom (built target.old) (length (at_places number rule.now 0 (map (texts_of target.old.symbols) rows.now.rows))) }
+    requires room { HasRoomForRows (built target.old) (length (at_places number rule.now 0 (map (texts_of target.old.symbols) rows.now.rows))) }
     ensures grows { OnOk result (Extends target.old.symbols target.new.symbols) }
-    ensures gained { OnOk result (Gains (built target.old) (built target.new) (at_places number rule.now 0 (map (texts_of target.old.symbols) rows.now.rows))) }
+    ensures gained { OnOk result (GainsFacts (built target.old) (built target.new) (at_places number rule.now 0 (map (texts_of target.old.symbols) rows.now.rows))) }
 {
     let variables = exported(alloc, rule)?;
     let plan = target.plan(alloc, rule, number, &variables, rows.count())?;
@@ -103,8 +103,8 @@ fn add_rules(
     requires rules { length rules.now < 2 ^ 32 }
     requires tuples { FitRules target.old.symbols rules.now rows.now }
     requires fits { Each rules.now (FitsWidths (widths (built target.old))) }
-    requires room { HasRoom (built target.old) (length (canonical 0 rules.now (tuples_in target.old.symbols rows.now))) }
-    ensures { OnOk result (Gains (built target.old) (built target.new) (canonical 0 rules.now (tuples_in target.old.symbols rows.now))) }
+    requires room { HasRoomForRows (built target.old) (length (canonical 0 rules.now (tuples_in target.old.symbols rows.now))) }
+    ensures { OnOk result (GainsFacts (built target.old) (built target.new) (canonical 0 rules.now (tuples_in target.old.symbols rows.now))) }
 {
     for i in 0..rules.len() {
         add_rule(alloc, &rules[i], i as u32, &rows[i], target)?;

@@ -6,7 +6,7 @@ ghost use Rattle.dx_model.specs.Fitting.{AtomsFitWidths, IsRule};
 ghost use Rattle.dx_model.specs.Rules.{IsRows, exported as exported_of};
 ghost use Rattle.dx_funcs.specs.Offers.{IsListed};
 ghost use Rattle.dx_funcs.specs.Serving.{Serves, offered};
-ghost use Rattle.dx_instance.specs.Numbers.{AreApart, Extends};
+ghost use Rattle.dx_instance.specs.Numbers.{AreDistinctValues, Extends};
 ghost use Rattle.dx_instance.specs.Shown.{shown_tables};
 ghost use Rattle.dx_instance.specs.Stored.{facts, widths};
 ghost use Rattle.dx_joins.specs.Shown.{MoreTuples};
@@ -41,9 +41,9 @@ pub(crate) fn rule_rows<F: Fn(u32, &Items<Text>) -> Result<Text, AllocError>, M:
     requires rule { IsRule rule.now }
     requires premise { AtomsFitWidths (widths (shown_tables source.now.symbols source.now.tables)) rule.now.premise }
     requires symbols { Extends source.now.symbols symbols.old }
-    requires apart { AreApart symbols.old }
+    requires apart { AreDistinctValues symbols.old }
     ensures grows { Extends symbols.old symbols.new }
-    ensures apart { AreApart symbols.new }
+    ensures apart { AreDistinctValues symbols.new }
     ensures rows { IfOk result (λ o. MatchOption o
         (MoreTuples most (IsTuple M.apply (facts (shown_tables source.now.symbols source.now.tables)) rule.now))
         (IsFoundRule M.apply (facts (shown_tables source.now.symbols source.now.tables)) symbols.new rule.now)) }

@@ -8,12 +8,12 @@ ghost use Rattle.dx_funcs.specs.Serving.{Serves, offered};
 ghost use Rattle.dx_model.specs.Fitting.{AtomsFitWidths, IsRule};
 ghost use Rattle.dx_model.specs.Rules.{AreRows, canonical};
 ghost use Rattle.dx_model.specs.Values.{RowsAscend};
-ghost use Rattle.dx_instance.specs.Numbers.{AreApart, Extends};
+ghost use Rattle.dx_instance.specs.Numbers.{AreDistinctValues, Extends};
 ghost use Rattle.dx_instance.specs.Shown.{shown_tables};
 ghost use Rattle.dx_instance.specs.Stored.{facts, rows_of, widths};
 ghost use Rattle.dx_schema.specs.Tables.{schema_widths};
 ghost use Rattle.dx_tgd.specs.Counting.{canonical_cells};
-ghost use Rattle.dx_tgd.specs.Found.{AreFound, IsRefusal};
+ghost use Rattle.dx_tgd.specs.Found.{AreFoundRules, IsCanonicalRefusal};
 ghost use Rattle.dx_tgd.specs.Placed.{HasCell};
 ghost use Rattle.dx_tgd.specs.Texts.{tuples_in};
 
@@ -33,9 +33,9 @@ use std::alloc::{AllocError, Global};
 
 // The literals of a conclusion become symbols, so that nothing but nulls is new later.
 fn intern_literals(rule: &Rule, symbols: &mut Symbols) -> Result<(), AllocError>
-    requires { AreApart symbols.old }
+    requires { AreDistinctValues symbols.old }
     ensures grows { Extends symbols.old symbols.new }
-    ensures apart { AreApart symbols.new }
+    ensures apart { AreDistinctValues symbols.new }
 {
     for atom in rule.conclusion.items() {
         intern_cells(atom.cells.items(), symbols)?;
@@ -45,9 +45,9 @@ fn intern_literals(rule: &Rule, symbols: &mut Symbols) -> Result<(), AllocError>
 
 // The literals among these cells become symbols.
 fn intern_cells(cells: &[Cell], symbols: &mut Symbols) -> Result<(), AllocError>
-    requires { AreApart symbols.old }
+    requires { AreDistinctValues symbols.old }
     ensures grows { Extends symbols.old symbols.new }
-    ensures apart { AreApart symbols.new }
+    ensures apart { AreDistinctValues symbols.new }
 {
     for cell in cells {
         if let Cell::Lit(text) = cell {
@@ -82,12 +82,12 @@ fn find_rules<F: Fn(u32, &Items<Text>) -> Result<Text, AllocError>, M: Meaning>(
     requires rules { Each rules.now IsRule }
     requires premises { Each rules.now (λ d. AtomsFitWidths (widths (shown_tables source.now.symbols source.now.tables)) d.premise) }
     requires cells { Each rules.now HasCell }
-    requires apart { AreApart source.now.symbols }
+    requires apart { AreDistinctValues source.now.symbols }
     requires symbols { symbols.old ≡ source.now.symbols }
     requires none { tables.old.items ≡ [] }
-    ensures found { OnOk result (AreFound M.apply (facts (shown_tables source.now.symbols source.now.tables)) symbols.new rules.now tables.new.items) }
+    ensures found { OnOk result (AreFoundRules M.apply (facts (shown_tables source.now.symbols source.now.tables)) symbols.new rules.now tables.new.items) }
     ensures within { OnOk result (canonical_cells rules.now (tuples_in symbols.new tables.new.items) ≤ limit) }
-    ensures refused { IfErr result (IsRefusal M.apply rules.now (facts (shown_tables source.now.symbols source.now.tables)) limit) }
+    ensures refused { IfErr result (IsCanonicalRefusal M.apply rules.now (facts (shown_tables source.now.symbols source.now.tables)) limit) }
 {
     let mut left = limit;
     for rule in rules {
@@ -120,10 +120,10 @@ fn found_rules<F: Fn(u32, &Items<Text>) -> Result<Text, AllocError>, M: Meaning>
     requires rules { Each rules.now IsRule }
     requires premises { Each rules.now (λ d. AtomsFitWidths (widths (shown_tables source.now.symbols source.now.tables)) d.premise) }
     requires cells { Each rules.now HasCell }
-    requires apart { AreApart source.now.symbols }
-    ensures found { IfOk result (λ f. AreFound M.apply (facts (shown_tables source.now.symbols source.now.tables)) f.symbols rules.now f.tables.items) }
+    requires apart { AreDistinctValues source.now.symbols }
+    ensures found { IfOk result (λ f. AreFoundRules M.apply (facts (shown_tables source.now.symbols source.now.tables)) f.symbols rules.now f.tables.items) }
     ensures within { IfOk result (λ f. canonical_cells rules.now (tuples_in f.symbols f.tables.items) ≤ limit) }
-    ensures refused { IfErr result (IsRefusal M.apply rules.now (facts (shown_tables source.now.symbols source.now.tables)) limit) }
+    ensures refused { IfErr result (IsCanonicalRefusal M.apply rules.now (facts (shown_tables source.now.symbols source.now.tables)) limit) }
 {
     let mut symbols = source.copy_symbols(alloc)?;
     let mut tables = Vec::new(alloc);
@@ -157,7 +157,7 @@ pub fn canonical_plain<F: Fn(u32, &Items<Text>) -> Result<Text, AllocError>, M: 
     ensures facts { IfOk result (λ m. facts m.instance ≈ canonical 0 rules.now m.matches) }
     ensures widths { IfOk result (λ m. widths m.instance ≡ schema_widths target.now) }
     ensures ascend { IfOk result (λ m. (t : ℕ) → RowsAscend (rows_of m.instance t)) }
-    ensures refused { IfErr result (IsRefusal M.apply rules.now (facts source.now) limit) }
+    ensures refused { IfErr result (IsCanonicalRefusal M.apply rules.now (facts source.now) limit) }
 {
     let columns = target.widths(alloc)?;
     let found = found_rules(alloc, rules, &source.numbers(), host, limit)?;

@@ -8,7 +8,7 @@ ghost use Rattle.dx_model.specs.Values.{value_cmp};
 ghost use Rattle.dx_model.specs.Rules.{exported as exported_of};
 ghost use Rattle.dx_model.specs.declared.rules.Cell.TheVariants.{Var};
 ghost use Rattle.dx_instance.specs.Numbers.{Extends, value_of};
-ghost use Rattle.dx_tgd.specs.Planned.{AreNulls, IsColumn, IsPlanned, IsPlannedAtom};
+ghost use Rattle.dx_tgd.specs.Planned.{AreNullNumbers, IsVariableColumn, IsCellPlan, IsPlannedAtom};
 
 use crate::planned::{PlannedAtom, PlannedCell};
 use dx_instance::{NullId, Symbols, Value};
@@ -53,7 +53,7 @@ fn null_numbers(
     variable: u32,
     places: u32,
 ) -> Result<Vec<u32>, AllocError>
-    ensures nulls { IfOk result (λ v. AreNulls symbols.new rule variable places v.items) }
+    ensures nulls { IfOk result (λ v. AreNullNumbers symbols.new rule variable places v.items) }
     ensures grows { Extends symbols.old symbols.new }
 {
     let mut numbers = Vec::with_capacity(alloc, places as usize)?;
@@ -72,7 +72,7 @@ fn null_numbers(
 // The column of a variable.
 fn column_of(variables: &[u32], x: u32) -> usize
     requires { x ∈ variables.now }
-    ensures { IsColumn variables.now x result }
+    ensures { IsVariableColumn variables.now x result }
 {
     for i in 0..variables.len() {
         if variables[i] == x {
@@ -92,7 +92,7 @@ fn planned_cell(
     symbols: &mut Symbols,
 ) -> Result<PlannedCell, AllocError>
     requires listed { (x : ℕ) → cell.now ≡ Var x → x ∈ variables.now }
-    ensures planned { IfOk result (λ p. IsPlanned symbols.new rule variables.now places p cell.now) }
+    ensures planned { IfOk result (λ p. IsCellPlan symbols.new rule variables.now places p cell.now) }
     ensures grows { Extends symbols.old symbols.new }
 {
     match cell {
@@ -115,7 +115,7 @@ fn planned_cells(
     symbols: &mut Symbols,
 ) -> Result<Vec<PlannedCell>, AllocError>
     requires listed { (x : ℕ) → Var x ∈ cells.now → x ∈ variables.now }
-    ensures planned { IfOk result (λ v. AllZip (IsPlanned symbols.new rule variables.now places) v.items cells.now) }
+    ensures planned { IfOk result (λ v. AllZip (IsCellPlan symbols.new rule variables.now places) v.items cells.now) }
     ensures grows { Extends symbols.old symbols.new }
 {
     let mut planned = Vec::new(alloc);

@@ -2,7 +2,7 @@
 ghost use Rattle.std.specs.Prelude.{◌≡◌, ◌<◌, ◌^◌, [], IfOk, length, slice_index_or};
 ghost use Rattle.dx_ports.specs.Members.{Each};
 ghost use Rattle.dx_joins.specs.Shown.{AreTexts};
-ghost use Rattle.dx_tgd.specs.Counting.{rows_in};
+ghost use Rattle.dx_model.specs.Matches.{rows_of_matches};
 ghost use Rattle.dx_tgd.specs.Texts.{tuples_in};
 
 use crate::texts::matches_of;
@@ -82,7 +82,7 @@ impl RuleMatches {
     ///
     /// `AllocError` if there is no memory.
     pub fn texts(&self, alloc: Global) -> Result<Matches, AllocError>
-        ensures { IfOk result (λ m. rows_in m ≡ self.now) }
+        ensures { IfOk result (λ m. rows_of_matches m ≡ self.now) }
     {
         matches_of(alloc, &self.tables, &self.symbols)
     }

@@ -1,11 +1,12 @@
 // The texts for which rows of numbers stand.
 ghost use Rattle.std.specs.Prelude.{◌≡◌, ◌++◌, ℕ, IfOk, OnOk, map};
 ghost use Rattle.dx_ports.specs.Members.{Each};
-ghost use Rattle.dx_model.specs.Rules.{Ascend};
+ghost use Rattle.dx_model.specs.Rules.{TuplesAscend};
 ghost use Rattle.dx_instance.specs.Cells.{NumbersAscend};
 ghost use Rattle.dx_instance.specs.Numbers.{ValuesAscend};
-ghost use Rattle.dx_joins.specs.Shown.{AreTexts, text_in, texts_of};
-ghost use Rattle.dx_tgd.specs.Counting.{rows_in};
+ghost use Rattle.dx_joins.specs.Shown.{AreTexts, texts_of};
+ghost use Rattle.dx_instance.specs.Ranks.{text_of_value};
+ghost use Rattle.dx_model.specs.Matches.{rows_of_matches};
 ghost use Rattle.dx_tgd.specs.Texts.{tuples_in};
 
 use dx_instance::{Rows, Symbols, Value};
@@ -15,7 +16,7 @@ use std::alloc::{AllocError, Global};
 
 // A copy of the text of a value, and a text without bytes for a null.
 fn text_copy(alloc: Global, value: &Value) -> Result<Text, AllocError>
-    ensures { IfOk result (λ t. t ≡ text_in value.now) }
+    ensures { IfOk result (λ t. t ≡ text_of_value value.now) }
 {
     match value {
         Value::Const(text) => text.copy(),
@@ -47,7 +48,7 @@ fn push_texts(
 pub fn places_of_rows(alloc: Global, rows: &Rows, symbols: &Symbols) -> Result<Places, AllocError>
     requires { Each rows.now.rows (AreTexts symbols.now) }
     ensures exact { IfOk result (λ p. p.tuples ≡ map (texts_of symbols.now) rows.now.rows) }
-    ensures ascend { IfOk result (λ p. ValuesAscend symbols.now → NumbersAscend rows.now.rows → Ascend p.tuples) }
+    ensures ascend { IfOk result (λ p. ValuesAscend symbols.now → NumbersAscend rows.now.rows → TuplesAscend p.tuples) }
 {
     let width = rows.width() as usize;
     let count = rows.count() as usize;
@@ -67,7 +68,7 @@ pub fn places_of_rows(alloc: Global, rows: &Rows, symbols: &Symbols) -> Result<P
 /// `AllocError` if there is no memory.
 pub fn matches_of(alloc: Global, tables: &[Rows], symbols: &Symbols) -> Result<Matches, AllocError>
     requires texts { Each tables.now (λ t. Each t.rows (AreTexts symbols.now)) }
-    ensures { IfOk result (λ m. rows_in m ≡ tuples_in symbols.now tables.now) }
+    ensures { IfOk result (λ m. rows_of_matches m ≡ tuples_in symbols.now tables.now) }
 {
     let mut rules = Items::new(alloc);
     for rows in tables {

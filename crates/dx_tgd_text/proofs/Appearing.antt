@@ -5,14 +5,15 @@ use Rattle.std.specs.Cmp.Lexicographic.{pointwise, other_text}
 use Rattle.std.proofs.lemmas.List.{append-nil, length-append}
 use Rattle.dx_ports.specs.Members.{◌∈◌, here, there}
 use Rattle.dx_ports.proofs.Lists.{cut_at}
-use Rattle.dx_model.specs.Fitting.{Numbered}
-use Rattle.dx_schema.specs.Tables.{Text, number_of}
+use Rattle.dx_model.specs.Fitting.{ByFirstAppearance}
+use Rattle.dx_schema.specs.Tables.{number_of_name}
+use Rattle.dx_ports.specs.Texts.{Text}
 use Rattle.dx_schema.specs.Faults.{is_among}
 use Rattle.dx_schema.proofs.Loops.{among_number}
 use Rattle.dx_schema_text.specs.declared.texts.CellText.{CellText}
 use Rattle.dx_schema_text.specs.declared.texts.CellText.TheVariants.{Name, Literal}
 use Rattle.dx_schema_text.specs.declared.texts.AtomText.{AtomText}
-use Rattle.dx_tgd_text.specs.Numbering.{with_name, appeared, names_in, new_name, new_names, text_cells}
+use Rattle.dx_tgd_text.specs.Numbering.{with_name, appeared, unknown_names, new_name, new_names, text_cells}
 
 -- ---- names in front and after
 
@@ -25,20 +26,20 @@ among_append x (z ∷ zs) ys = go (pointwise nat_eq z x) (among_append x zs ys)
     go false r = r
 
 -- a name in front keeps its number
-pub number_front : (x : Text) (xs ys : List Text) → is_among x xs ≡ true → number_of x (xs ++ ys) ≡ number_of x xs
+pub number_front : (x : Text) (xs ys : List Text) → is_among x xs ≡ true → number_of_name x (xs ++ ys) ≡ number_of_name x xs
 number_front x [] ys h = absurd cc
 number_front x (z ∷ zs) ys h = go (pointwise nat_eq z x) (number_front x zs ys) h
   where
-    go : (b : Bool) → (is_among x zs ≡ true → number_of x (zs ++ ys) ≡ number_of x zs) → (b || is_among x zs) ≡ true → cond b 0 (suc (number_of x (zs ++ ys))) ≡ cond b 0 (suc (number_of x zs))
+    go : (b : Bool) → (is_among x zs ≡ true → number_of_name x (zs ++ ys) ≡ number_of_name x zs) → (b || is_among x zs) ≡ true → cond b 0 (suc (number_of_name x (zs ++ ys))) ≡ cond b 0 (suc (number_of_name x zs))
     go true r k = refl
     go false r k = ap suc (r k)
 
 -- a name that is not in front is numbered after what is
-pub number_past : (x : Text) (xs ys : List Text) → is_among x xs ≡ false → number_of x (xs ++ ys) ≡ length xs + number_of x ys
+pub number_past : (x : Text) (xs ys : List Text) → is_among x xs ≡ false → number_of_name x (xs ++ ys) ≡ length xs + number_of_name x ys
 number_past x [] ys h = omega arith
 number_past x (z ∷ zs) ys h = go (pointwise nat_eq z x) (number_past x zs ys) h
   where
-    go : (b : Bool) → (is_among x zs ≡ false → number_of x (zs ++ ys) ≡ length zs + number_of x ys) → (b || is_among x zs) ≡ false → cond b 0 (suc (number_of x (zs ++ ys))) ≡ suc (length zs) + number_of x ys
+    go : (b : Bool) → (is_among x zs ≡ false → number_of_name x (zs ++ ys) ≡ length zs + number_of_name x ys) → (b || is_among x zs) ≡ false → cond b 0 (suc (number_of_name x (zs ++ ys))) ≡ suc (length zs) + number_of_name x ys
     go true r k = absurd cc
     go false r k = let e = r k in omega (arith, e)
 
@@ -50,10 +51,10 @@ among_self x ys = go (pointwise nat_eq x x) refl
     go true e = refl
     go false e = absurd (other_text x x (sym e) refl)
 
-number_self : (x : Text) (ys : List Text) → number_of x (x ∷ ys) ≡ 0
+number_self : (x : Text) (ys : List Text) → number_of_name x (x ∷ ys) ≡ 0
 number_self x ys = go (pointwise nat_eq x x) refl
   where
-    go : (b : Bool) → pointwise nat_eq x x ≡ b → cond b 0 (suc (number_of x ys)) ≡ 0
+    go : (b : Bool) → pointwise nat_eq x x ≡ b → cond b 0 (suc (number_of_name x ys)) ≡ 0
     go true e = refl
     go false e = absurd (other_text x x (sym e) refl)
 
@@ -99,24 +100,24 @@ among_appeared x names (y ∷ ys) (here e) = subst (λ z. is_among z (appeared (
     go false k = rw (among_append y names (y ∷ []), k) (among_self y [])
 
 -- names have their numbers by first appearance
-pub numbers_appear : (names xs : List Text) → Numbered (length names) (map (λ x. number_of x (appeared names xs)) xs) (length (appeared names xs))
+pub numbers_appear : (names xs : List Text) → ByFirstAppearance (length names) (map (λ x. number_of_name x (appeared names xs)) xs) (length (appeared names xs))
 numbers_appear names [] = refl
 numbers_appear names (x ∷ xs) = go (is_among x names) refl (numbers_appear names xs) (numbers_appear (names ++ x ∷ []) xs)
   where
-    go : (b : Bool) → is_among x names ≡ b → Numbered (length names) (map (λ y. number_of y (appeared names xs)) xs) (length (appeared names xs))
-        → Numbered (length (names ++ x ∷ [])) (map (λ y. number_of y (appeared (names ++ x ∷ []) xs)) xs) (length (appeared (names ++ x ∷ []) xs))
-        → Numbered (length names) (number_of x (appeared (cond b names (names ++ x ∷ [])) xs) ∷ map (λ y. number_of y (appeared (cond b names (names ++ x ∷ [])) xs)) xs) (length (appeared (cond b names (names ++ x ∷ [])) xs))
+    go : (b : Bool) → is_among x names ≡ b → ByFirstAppearance (length names) (map (λ y. number_of_name y (appeared names xs)) xs) (length (appeared names xs))
+        → ByFirstAppearance (length (names ++ x ∷ [])) (map (λ y. number_of_name y (appeared (names ++ x ∷ []) xs)) xs) (length (appeared (names ++ x ∷ []) xs))
+        → ByFirstAppearance (length names) (number_of_name x (appeared (cond b names (names ++ x ∷ [])) xs) ∷ map (λ y. number_of_name y (appeared (cond b names (names ++ x ∷ [])) xs)) xs) (length (appeared (cond b names (names ++ x ∷ [])) xs))
     go true e q r =
         let f = front names xs in
-        let n : number_of x (appeared names xs) ≡ number_of x names = ap (number_of x) f.1 ∙ number_front x names f.0 e in
+        let n : number_of_name x (appeared names xs) ≡ number_of_name x names = ap (number_of_name x) f.1 ∙ number_front x names f.0 e in
         let lt = among_number x names e in
         inl (omega (arith, n, lt), q)
     go false e q r =
         let f = front (names ++ x ∷ []) xs in
-        let last : length names + number_of x (x ∷ f.0) ≡ length names = omega (arith, number_self x f.0) in
-        let n : number_of x (appeared (names ++ x ∷ []) xs) ≡ length names = ap (number_of x) (f.1 ∙ append_assoc names (x ∷ []) f.0) ∙ number_past x names (x ∷ f.0) e ∙ last in
+        let last : length names + number_of_name x (x ∷ f.0) ≡ length names = omega (arith, number_self x f.0) in
+        let n : number_of_name x (appeared (names ++ x ∷ []) xs) ≡ length names = ap (number_of_name x) (f.1 ∙ append_assoc names (x ∷ []) f.0) ∙ number_past x names (x ∷ f.0) e ∙ last in
         let one : length (names ++ x ∷ []) ≡ suc (length names) = omega (arith, length-append names (x ∷ [])) in
-        inr (n, subst (λ k. Numbered k (map (λ y. number_of y (appeared (names ++ x ∷ []) xs)) xs) (length (appeared (names ++ x ∷ []) xs))) one r)
+        inr (n, subst (λ k. ByFirstAppearance k (map (λ y. number_of_name y (appeared (names ++ x ∷ []) xs)) xs) (length (appeared (names ++ x ∷ []) xs))) one r)
 
 -- ---- the names of cells
 
@@ -133,7 +134,7 @@ pub new_names_append : (known : List Text) (cs ds : List CellText) → new_names
 new_names_append known [] ds = refl
 new_names_append known (c ∷ cs) ds = ap (λ ns. new_name known c ++ ns) (new_names_append known cs ds) ∙ sym (append_assoc (new_name known c) (new_names known cs) (new_names known ds))
 
-pub names_few : (known : List Text) (atoms : List AtomText) → length (names_in known atoms) ≤ length (text_cells atoms)
+pub names_few : (known : List Text) (atoms : List AtomText) → length (unknown_names known atoms) ≤ length (text_cells atoms)
 names_few known atoms = let a = appeared_few [] (new_names known (text_cells atoms)) in let b = new_names_few known (text_cells atoms) in omega (arith, a, b)
 
 -- one atom more

@@ -2,7 +2,8 @@
 use Rattle.std.proofs.Common.{◌≡◌, ℕ, ◌+◌, ◌<◌, ◌≤◌, List, ◌++◌, Some, None, Bool, true, false, cond, length, take, drop, refl, sym, ap, ◌∙◌, arith}
 use Rattle.std.specs.Prelude.{◌||◌}
 use Rattle.std.proofs.lemmas.List.{length-take, take-append-drop}
-use Rattle.dx_schema.specs.Tables.{Text, number_of}
+use Rattle.dx_schema.specs.Tables.{number_of_name}
+use Rattle.dx_ports.specs.Texts.{Text}
 use Rattle.dx_schema.specs.Faults.{is_among}
 use Rattle.dx_schema.proofs.Loops.{among_number}
 use Rattle.dx_tokens.specs.declared.faults.TextFault.TheVariants.{At}
@@ -20,24 +21,24 @@ front_missing x known v none = go (is_among x (take v known)) (sym (among_append
     go false e = refl
 
 -- a known name with a number in front is one of the names in front
-pub front_found : (x : Text) (known : List Text) (v n : ℕ) → v ≤ length known → n ≡ number_of x known → n < v → (n ≡ number_of x (take v known)) × (is_among x (take v known) ≡ true)
+pub front_found : (x : Text) (known : List Text) (v n : ℕ) → v ≤ length known → n ≡ number_of_name x known → n < v → (n ≡ number_of_name x (take v known)) × (is_among x (take v known) ≡ true)
 front_found x known v n le is lt = go (is_among x (take v known)) refl
   where
-    go : (b : Bool) → is_among x (take v known) ≡ b → (n ≡ number_of x (take v known)) × (is_among x (take v known) ≡ true)
-    go true e = (is ∙ ap (number_of x) (sym (parts v known)) ∙ number_front x (take v known) (drop v known) e, e)
+    go : (b : Bool) → is_among x (take v known) ≡ b → (n ≡ number_of_name x (take v known)) × (is_among x (take v known) ≡ true)
+    go true e = (is ∙ ap (number_of_name x) (sym (parts v known)) ∙ number_front x (take v known) (drop v known) e, e)
     go false e =
-        let k : n ≡ length (take v known) + number_of x (drop v known) = is ∙ ap (number_of x) (sym (parts v known)) ∙ number_past x (take v known) (drop v known) e in
+        let k : n ≡ length (take v known) + number_of_name x (drop v known) = is ∙ ap (number_of_name x) (sym (parts v known)) ∙ number_past x (take v known) (drop v known) e in
         let l : length (take v known) ≡ v = omega (arith, length-take v known, le) in
         absurd (omega (arith, k, l, lt))
 
 -- and one with another number is not
-pub front_past : (x : Text) (known : List Text) (v n : ℕ) → v ≤ length known → n ≡ number_of x known → v ≤ n → is_among x (take v known) ≡ false
+pub front_past : (x : Text) (known : List Text) (v n : ℕ) → v ≤ length known → n ≡ number_of_name x known → v ≤ n → is_among x (take v known) ≡ false
 front_past x known v n le is past = go (is_among x (take v known)) refl
   where
     go : (b : Bool) → is_among x (take v known) ≡ b → b ≡ false
     go false e = refl
     go true e =
-        let k : n ≡ number_of x (take v known) = is ∙ ap (number_of x) (sym (parts v known)) ∙ number_front x (take v known) (drop v known) e in
+        let k : n ≡ number_of_name x (take v known) = is ∙ ap (number_of_name x) (sym (parts v known)) ∙ number_front x (take v known) (drop v known) e in
         let lt = among_number x (take v known) e in
         let l : length (take v known) ≡ v = omega (arith, length-take v known, le) in
         absurd (omega (arith, k, l, lt, past))

@@ -1,8 +1,8 @@
 -- A rule from employees to persons: read by numbers, and refused at the first word that is at fault.
 use Rattle.std.proofs.Common.{◌≡◌, ℕ, List, [], ◌∷◌, Option, Some, None, codes, refl}
 use Rattle.dx_model.specs.declared.rules.Cell.TheVariants.{Var, Ex, Lit}
-use Rattle.dx_schema.specs.Forest.{Forest, none, set, bare}
-use Rattle.dx_schema.specs.Tables.{Text}
+use Rattle.dx_schema.specs.Forest.{Forest, none, set, bare_set}
+use Rattle.dx_ports.specs.Texts.{Text}
 use Rattle.dx_tokens.specs.declared.faults.TextFault.{TextFault}
 use Rattle.dx_tokens.specs.declared.faults.TextFault.TheVariants.{At}
 use Rattle.dx_tokens.specs.declared.faults.TextKind.TheVariants.{UnknownName, Width, Unsafe}
@@ -12,14 +12,14 @@ use Rattle.dx_schema_text.specs.declared.texts.AtomText.{AtomText}
 use Rattle.dx_schema_text.specs.declared.texts.DerivedText.{DerivedText}
 use Rattle.dx_schema_text.specs.declared.texts.RuleText.{RuleText}
 use Rattle.dx_funcs.specs.declared.conversion.Conversion.{Conversion}
-use Rattle.dx_tgd_text.specs.Reading.{rule_fault, rule_of, rules_fault}
+use Rattle.dx_tgd_text.specs.Reading.{rule_fault, rule_of_text, rules_fault}
 
 -- employees with a name and a place, persons with a name and a telephone
 abbrev employees : Forest
-employees = set (bare (codes "emp") (codes "name" ∷ codes "place" ∷ [])) none none
+employees = set (bare_set (codes "emp") (codes "name" ∷ codes "place" ∷ [])) none none
 
 abbrev persons : Forest
-persons = set (bare (codes "person") (codes "name" ∷ codes "phone" ∷ [])) none none
+persons = set (bare_set (codes "person") (codes "name" ∷ codes "phone" ∷ [])) none none
 
 -- one conversion, of two texts
 abbrev offer : List Conversion
@@ -51,7 +51,7 @@ pair args = derived (codes "z") 16 args
 
 -- variables by first appearance, the derived one after them, and the others existential
 numbers :
-    rule_of employees persons offer (rule (y ∷ x ∷ []) (pair (x ∷ y ∷ []) ∷ []) (named (codes "z") 47 ∷ named (codes "w") 49 ∷ []))
+    rule_of_text employees persons offer (rule (y ∷ x ∷ []) (pair (x ∷ y ∷ []) ∷ []) (named (codes "z") 47 ∷ named (codes "w") 49 ∷ []))
     ≡ record {
       premise = record { table = 0; cells = Var 0 ∷ Var 1 ∷ [] } ∷ [];
       derived = record { code = 2; args = 1 ∷ 0 ∷ [] } ∷ [];
@@ -81,18 +81,18 @@ derived_argument : fault (rule (x ∷ y ∷ []) (pair (x ∷ y ∷ []) ∷ deriv
 derived_argument = refl
 
 -- the existential variables by first appearance, each once; a literal as it is
-existentials : (rule_of employees persons offer (rule (x ∷ y ∷ []) [] (named (codes "w") 47 ∷ named (codes "v") 49 ∷ []))).conclusion ≡ record { table = 0; cells = Ex 0 ∷ Ex 1 ∷ [] } ∷ []
+existentials : (rule_of_text employees persons offer (rule (x ∷ y ∷ []) [] (named (codes "w") 47 ∷ named (codes "v") 49 ∷ []))).conclusion ≡ record { table = 0; cells = Ex 0 ∷ Ex 1 ∷ [] } ∷ []
 existentials = refl
 
-one_existential : (rule_of employees persons offer (rule (x ∷ y ∷ []) [] (named (codes "w") 47 ∷ named (codes "w") 49 ∷ []))).conclusion ≡ record { table = 0; cells = Ex 0 ∷ Ex 0 ∷ [] } ∷ []
+one_existential : (rule_of_text employees persons offer (rule (x ∷ y ∷ []) [] (named (codes "w") 47 ∷ named (codes "w") 49 ∷ []))).conclusion ≡ record { table = 0; cells = Ex 0 ∷ Ex 0 ∷ [] } ∷ []
 one_existential = refl
 
-literal : (rule_of employees persons offer (rule (x ∷ y ∷ []) [] (Literal (codes "w") ∷ y ∷ []))).conclusion ≡ record { table = 0; cells = Lit (codes "w") ∷ Var 1 ∷ [] } ∷ []
+literal : (rule_of_text employees persons offer (rule (x ∷ y ∷ []) [] (Literal (codes "w") ∷ y ∷ []))).conclusion ≡ record { table = 0; cells = Lit (codes "w") ∷ Var 1 ∷ [] } ∷ []
 literal = refl
 
 -- derived variables in their order
 two_derived :
-    (rule_of employees persons offer (rule (x ∷ y ∷ []) (pair (x ∷ y ∷ []) ∷ derived (codes "v") 30 (y ∷ x ∷ []) ∷ []) (named (codes "v") 47 ∷ named (codes "z") 49 ∷ []))).conclusion
+    (rule_of_text employees persons offer (rule (x ∷ y ∷ []) (pair (x ∷ y ∷ []) ∷ derived (codes "v") 30 (y ∷ x ∷ []) ∷ []) (named (codes "v") 47 ∷ named (codes "z") 49 ∷ []))).conclusion
     ≡ record { table = 0; cells = Var 3 ∷ Var 2 ∷ [] } ∷ []
 two_derived = refl
 

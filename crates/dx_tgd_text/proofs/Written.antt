@@ -12,10 +12,10 @@ use Rattle.dx_schema_text.specs.declared.texts.RuleText.{RuleText}
 use Rattle.dx_schema_text.specs.declared.texts.MappingText.{MappingText}
 use Rattle.dx_schema_text.specs.declared.mapping.ItemText.{ItemText}
 use Rattle.dx_schema_text.specs.Reading.{rules_among}
-use Rattle.dx_schema_text.specs.Spelling.{Comma, comma_then, Parted, parted, SpellsCell, a_name, a_text, SpellsAtom, atom_of, SpellsDerived, derived_of, SpellsWhere, no_where, where_of, SpellsRule, rule_of, SpellsItem, a_line, a_rule, a_condition, SpellsMapping, mapping_of}
+use Rattle.dx_schema_text.specs.Spelling.{Comma, comma_then, SpellsCommaList, parted, SpellsCell, a_name, a_text, SpellsAtom, atom_of, SpellsDerived, derived_of, SpellsWhere, no_where, where_of, SpellsRule, rule_of, SpellsItem, a_line, a_rule, a_condition, SpellsMapping, mapping_of}
 use Rattle.dx_tgd_text.specs.Numbering.{text_cells}
 use Rattle.dx_tgd_text.specs.Reading.{size_of}
-use Rattle.dx_tgd_text.specs.Laws.{IsName, IsWhole, TextsHaveWholeRules}
+use Rattle.dx_tgd_text.specs.Laws.{IsNameCell, IsWholeRule, TextsHaveWholeRules}
 
 -- ---- lists that are parted by commas
 
@@ -35,7 +35,7 @@ module _ {A : Type 0} (R : A → List Lexeme → Type 0) (n : A → ℕ) (few : 
       let g = more_few others v rest in
       omega (arith, f, g, length-append u v)
 
-  parted_few : (list : List A) (u : List Lexeme) → Parted R list u → total n list ≤ length u
+  parted_few : (list : List A) (u : List Lexeme) → SpellsCommaList R list u → total n list ≤ length u
   parted_few _ _ (parted {a = a} {others = others} {u = u} {v = v} r rest) =
       let f = few a u r in
       let g = more_few others v rest in
@@ -50,11 +50,11 @@ module _ {A : Type 0} (R : A → List Lexeme → Type 0) (P : A → Type 0) (so 
   more_so _ _ (one_more {a = a} {u = u} r rest) x (here e) = subst P e (comma_so a u r)
   more_so _ _ (one_more {others = others} {v = v} r rest) x (there m) = more_so others v rest x m
 
-  parted_so : (list : List A) (u : List Lexeme) → Parted R list u → Each list P
+  parted_so : (list : List A) (u : List Lexeme) → SpellsCommaList R list u → Each list P
   parted_so _ _ (parted {a = a} {u = u} r rest) x (here e) = subst P e (so a u r)
   parted_so _ _ (parted {others = others} {v = v} r rest) x (there m) = more_so others v rest x m
 
-parted_some : {A : Type 0} (R : A → List Lexeme → Type 0) (list : List A) (u : List Lexeme) → Parted R list u → 0 < length list
+parted_some : {A : Type 0} (R : A → List Lexeme → Type 0) (list : List A) (u : List Lexeme) → SpellsCommaList R list u → 0 < length list
 parted_some R _ _ (parted r rest) = omega arith
 
 total_one : {A : Type 0} (list : List A) → total (λ a. 1) list ≡ length list
@@ -67,11 +67,11 @@ cell_few : (b : Bool) (c : CellText) (u : List Lexeme) → SpellsCell b c u → 
 cell_few b _ _ (a_name w is) = omega arith
 cell_few b _ _ (a_text s is) = omega arith
 
-cell_named : (b : Bool) → b ≡ false → (c : CellText) (u : List Lexeme) → SpellsCell b c u → IsName c
+cell_named : (b : Bool) → b ≡ false → (c : CellText) (u : List Lexeme) → SpellsCell b c u → IsNameCell c
 cell_named b e _ _ (a_name w is) = tt
 cell_named b e _ _ (a_text s is) = cc e
 
-pub cells_few : (b : Bool) (cs : List CellText) (u : List Lexeme) → Parted (SpellsCell b) cs u → length cs ≤ length u
+pub cells_few : (b : Bool) (cs : List CellText) (u : List Lexeme) → SpellsCommaList (SpellsCell b) cs u → length cs ≤ length u
 cells_few b cs u p = let f = parted_few (SpellsCell b) (λ c. 1) (cell_few b) cs u p in let t = total_one cs in omega (arith, f, t)
 
 atom_few : (b : Bool) (a : AtomText) (u : List Lexeme) → SpellsAtom b a u → length a.cells ≤ length u
@@ -79,14 +79,14 @@ atom_few b _ _ (atom_of {cs = cs} {u = u} s o c word opening cells closing) =
     let f = cells_few b cs u cells in
     omega (arith, f, length-append u (c ∷ []))
 
-atom_named : (a : AtomText) (u : List Lexeme) → SpellsAtom false a u → Each a.cells IsName
-atom_named _ _ (atom_of {cs = cs} {u = u} s o c word opening cells closing) = parted_so (SpellsCell false) IsName (cell_named false refl) cs u cells
+atom_named : (a : AtomText) (u : List Lexeme) → SpellsAtom false a u → Each a.cells IsNameCell
+atom_named _ _ (atom_of {cs = cs} {u = u} s o c word opening cells closing) = parted_so (SpellsCell false) IsNameCell (cell_named false refl) cs u cells
 
 total_cells : (atoms : List AtomText) → total (λ (a : AtomText). length a.cells) atoms ≡ length (text_cells atoms)
 total_cells [] = refl
 total_cells (a ∷ atoms) = let t = total_cells atoms in omega (arith, t, length-append a.cells (text_cells atoms))
 
-pub atoms_few : (b : Bool) (atoms : List AtomText) (u : List Lexeme) → Parted (SpellsAtom b) atoms u → length (text_cells atoms) ≤ length u
+pub atoms_few : (b : Bool) (atoms : List AtomText) (u : List Lexeme) → SpellsCommaList (SpellsAtom b) atoms u → length (text_cells atoms) ≤ length u
 atoms_few b atoms u p =
     let f = parted_few (SpellsAtom b) (λ (a : AtomText). length a.cells) (atom_few b) atoms u p in
     let t = total_cells atoms in
@@ -108,14 +108,14 @@ where_few ds _ (where_of {u = u} k is p) =
     let t = total_one ds in
     omega (arith, f, t)
 
-rule_whole : (r : RuleText) (xs : List Lexeme) → SpellsRule r xs → IsWhole r × (size_of r ≤ length xs)
+rule_whole : (r : RuleText) (xs : List Lexeme) → SpellsRule r xs → IsWholeRule r × (size_of r ≤ length xs)
 rule_whole _ _ (rule_of {premise = premise} {conclusion = conclusion} {ds = ds} {u = u} {v = v} {w = w} k arrow e keyword p d is c ending) =
     let f = atoms_few false premise u p in
     let g = where_few ds v d in
     let h = atoms_few true conclusion w c in (
       record {
         some_premise = parted_some (SpellsAtom false) premise u p;
-        names = cells_have IsName premise (parted_so (SpellsAtom false) (λ a. Each a.cells IsName) atom_named premise u p);
+        names = cells_have IsNameCell premise (parted_so (SpellsAtom false) (λ a. Each a.cells IsNameCell) atom_named premise u p);
         some_conclusion = parted_some (SpellsAtom true) conclusion w c;
       },
       omega (arith, f, g, h, length-append u (v ++ arrow ∷ (w ++ e ∷ [])), length-append v (arrow ∷ (w ++ e ∷ [])), length-append w (e ∷ [])),
@@ -124,7 +124,7 @@ rule_whole _ _ (rule_of {premise = premise} {conclusion = conclusion} {ds = ds} 
 -- ---- mappings
 
 abbrev IsGood : ℕ → RuleText → Type 0
-IsGood n r = IsWhole r × (size_of r ≤ n)
+IsGood n r = IsWholeRule r × (size_of r ≤ n)
 
 more_good : (n k : ℕ) → n ≤ k → (rs : List RuleText) → Each rs (IsGood n) → Each rs (IsGood k)
 more_good n k le rs h r m = let g = h r m in let few = g.1 in (g.0, omega (arith, le, few))

@@ -1,6 +1,6 @@
 -- Names by their first appearance.
 use Rattle.std.specs.Prelude.{cond, List, [], ◌∷◌, ◌++◌, flat_map}
-use Rattle.dx_schema.specs.Tables.{Text}
+use Rattle.dx_ports.specs.Texts.{Text}
 use Rattle.dx_schema.specs.Faults.{is_among}
 use Rattle.dx_schema_text.specs.declared.texts.CellText.{CellText}
 use Rattle.dx_schema_text.specs.declared.texts.CellText.TheVariants.{Name, Literal}
@@ -29,5 +29,5 @@ abbrev pub text_cells : List AtomText → List CellText
 text_cells atoms = flat_map (λ (a : AtomText). a.cells) atoms
 
 -- the names in atoms that are not known, by first appearance
-abbrev pub names_in : List Text → List AtomText → List Text
-names_in known atoms = appeared [] (new_names known (text_cells atoms))
+abbrev pub unknown_names : List Text → List AtomText → List Text
+unknown_names known atoms = appeared [] (new_names known (text_cells atoms))

@@ -1,8 +1,8 @@
 // Atoms, by the numbers of what they name.
 ghost use Rattle.std.specs.Prelude.{◌≡◌, IfOk, map};
-ghost use Rattle.dx_line_text.specs.Answers.{Reads, ReadsOrMemory};
+ghost use Rattle.dx_line_text.specs.Answers.{AnswersOrFault, ReadsOrMemory};
 ghost use Rattle.dx_line_text.specs.Naming.{set_number};
-ghost use Rattle.dx_tgd_text.specs.Reading.{atom_fault, atom_of, atoms_fault, atoms_of, cell_of};
+ghost use Rattle.dx_tgd_text.specs.Reading.{atom_fault, atom_of_text, atoms_fault, atoms_of_texts, cell_of};
 
 use crate::names::Names;
 use dx_model::{Atom, Cell};
@@ -14,7 +14,7 @@ use std::alloc::{AllocError, Global};
 
 // The table of an atom's set. Refused is a set that isn't there, then another number of cells than the set has columns.
 fn read_set(schema: &Schema, atom: &AtomText) -> Result<u32, TextFault>
-    ensures { Reads result (set_number schema.now atom.now.set) (atom_fault schema.now atom.now) }
+    ensures { AnswersOrFault result (set_number schema.now atom.now.set) (atom_fault schema.now atom.now) }
 {
     // What holds of the tables of each schema.
     let _tables = schema.tables();
@@ -72,7 +72,7 @@ fn read_atom(
     known: &Names,
     fresh: &Names,
 ) -> Result<Atom, TextFault>
-    ensures { ReadsOrMemory result (atom_of schema.now known.now fresh.now atom.now) (atom_fault schema.now atom.now) }
+    ensures { ReadsOrMemory result (atom_of_text schema.now known.now fresh.now atom.now) (atom_fault schema.now atom.now) }
 {
     let table = read_set(schema, atom)?;
     let cells = read_cells(alloc, atom.cells.items(), known, fresh)?;
@@ -93,7 +93,7 @@ pub fn read_atoms(
     fresh: &Names,
 ) -> Result<Items<Atom>, TextFault>
     ensures { ReadsOrMemory result
-        (atoms_of schema.now known.now fresh.now atoms.now)
+        (atoms_of_texts schema.now known.now fresh.now atoms.now)
         (atoms_fault schema.now atoms.now) }
 {
     let mut read = Items::new(alloc);

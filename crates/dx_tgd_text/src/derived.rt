@@ -2,8 +2,8 @@
 ghost use Rattle.std.specs.Prelude.{◌≡◌, ◌⊎◌, ◌+◌, ◌-◌, ◌^◌, ◌<◌, ◌≤◌, ◌++◌, None, Some, MatchResult, length, map, take};
 ghost use Rattle.dx_tokens.specs.declared.faults.TextFault.TheVariants.{Memory};
 ghost use Rattle.dx_funcs.specs.Serving.{offered};
-ghost use Rattle.dx_line_text.specs.Answers.{Reads, ReadsOrMemory};
-ghost use Rattle.dx_tgd_text.specs.Reading.{arg_fault, arg_of, args_fault, conversion_fault, derived_fault, derived_faults, derived_names, derived_of};
+ghost use Rattle.dx_line_text.specs.Answers.{AnswersOrFault, ReadsOrMemory};
+ghost use Rattle.dx_tgd_text.specs.Reading.{arg_fault, arg_of, args_fault, conversion_fault, derived_fault, derived_faults, derived_names, derived_of_text};
 
 use crate::names::Names;
 use dx_funcs::{Host, Meaning};
@@ -16,7 +16,7 @@ use std::alloc::{AllocError, Global};
 // The variable that an argument names, which is one of the first `variables` known names.
 fn read_arg(arg: &CellText, call: u64, known: &Names, variables: u32) -> Result<u32, TextFault>
     requires { variables ≤ length known.now }
-    ensures { Reads result
+    ensures { AnswersOrFault result
         (arg_of (take variables known.now) arg.now)
         (arg_fault (take variables known.now) call arg.now) }
 {
@@ -67,7 +67,7 @@ where
     M: Meaning,
     requires { variables ≤ length known.now }
     ensures { ReadsOrMemory result
-        (derived_of (offered host.now) (take variables known.now) derived.now)
+        (derived_of_text (offered host.now) (take variables known.now) derived.now)
         (conversion_fault (offered host.now) (take variables known.now) derived.now) }
 {
     let place = derived.call_place;
@@ -89,7 +89,7 @@ where
     })
 }
 
-// A derived variable, where the first `variables` known names are those of the premise.
+// A derived variable, if the first `variables` known names are those of the premise.
 fn read_one<F, M>(
     alloc: Global,
     derived: &DerivedText,
@@ -102,7 +102,7 @@ where
     M: Meaning,
     requires { variables ≤ length known.now }
     ensures { ReadsOrMemory result
-        (derived_of (offered host.now) (take variables known.now) derived.now)
+        (derived_of_text (offered host.now) (take variables known.now) derived.now)
         (derived_fault (offered host.now) (take variables known.now) known.now derived.now) }
 {
     if known.find(&derived.name).is_some() {
@@ -114,7 +114,7 @@ where
     read_call(alloc, derived, host, known, variables)
 }
 
-/// Derived variables, where the known names are those of the premise. After an Ok the derived ones are known too. Refused is,
+/// Derived variables, if the known names are those of the premise. After an Ok the derived ones are known too. Refused is,
 /// variable by variable, a name that is known; a conversion that isn't listed, or takes another number of arguments; the first
 /// argument that is no variable of the premise.
 pub fn read_derived<F, M>(
@@ -128,7 +128,7 @@ where
     M: Meaning,
     requires { length known.old + length derived.now < 2 ^ 32 - 1 }
     ensures { MatchResult result
-        (λ ds. (ds ≡ map (derived_of (offered host.now) known.old) derived.now)
+        (λ ds. (ds ≡ map (derived_of_text (offered host.now) known.old) derived.now)
         × (derived_faults (offered host.now) known.old known.old derived.now ≡ None)
         × (known.new ≡ known.old ++ derived_names derived.now))
         (λ e. (e ≡ Memory) ⊎ (derived_faults (offered host.now) known.old known.old derived.now ≡ Some e)) }

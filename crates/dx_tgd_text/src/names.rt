@@ -1,8 +1,8 @@
 // Names by their first appearance.
 ghost use Rattle.std.specs.Prelude.{◌≡◌, ◌+◌, ◌-◌, ◌^◌, ◌<◌, ◌≤◌, [], true, false, IfOk, OnOk, MatchOption, length};
 ghost use Rattle.dx_schema.specs.Faults.{is_among};
-ghost use Rattle.dx_schema.specs.Tables.{number_of};
-ghost use Rattle.dx_tgd_text.specs.Numbering.{appeared, names_in, new_names, text_cells, with_name};
+ghost use Rattle.dx_schema.specs.Tables.{number_of_name};
+ghost use Rattle.dx_tgd_text.specs.Numbering.{appeared, unknown_names, new_names, text_cells, with_name};
 
 use dx_ports::Text;
 use dx_schema_text::{AtomText, CellText};
@@ -46,7 +46,7 @@ impl Names {
     /// The number of a name. None if it isn't there.
     pub fn find(&self, name: &Text) -> Option<u32>
         ensures { MatchOption result (is_among name.now self.now ≡ false)
-            (λ n. (is_among name.now self.now ≡ true) × (n ≡ number_of name.now self.now) × (n < length self.now)) }
+            (λ n. (is_among name.now self.now ≡ true) × (n ≡ number_of_name name.now self.now) × (n < length self.now)) }
     {
         match self.names.get_index_of(name) {
             Some(number) => Some(number as u32),
@@ -56,7 +56,7 @@ impl Names {
 
     /// The number of a name. How many names there are if it isn't there.
     pub fn number(&self, name: &Text) -> u32
-        ensures { result ≡ number_of name.now self.now }
+        ensures { result ≡ number_of_name name.now self.now }
     {
         match self.find(name) {
             Some(number) => number,
@@ -99,7 +99,7 @@ impl Names {
     /// `AllocError` if there is no memory.
     pub fn of_atoms(alloc: Global, atoms: &[AtomText], known: &Names) -> Result<Names, AllocError>
         requires { length (text_cells atoms.now) < 2 ^ 32 - 1 }
-        ensures { IfOk result (λ n. n ≡ names_in known.now atoms.now) }
+        ensures { IfOk result (λ n. n ≡ unknown_names known.now atoms.now) }
     {
         let mut names = Names::new(alloc);
         for atom in atoms {

@@ -6,8 +6,8 @@ ghost use Rattle.dx_schema.specs.Tables.{model_tables};
 ghost use Rattle.dx_tokens.specs.declared.faults.TextFault.TheVariants.{Memory};
 ghost use Rattle.dx_funcs.specs.Serving.{offered};
 ghost use Rattle.dx_line_text.specs.Answers.{ReadsOrMemory};
-ghost use Rattle.dx_tgd_text.specs.Laws.{AreOffered, IsWhole};
-ghost use Rattle.dx_tgd_text.specs.Reading.{IsNarrow, rule_fault, rule_of, rules_fault, rules_of};
+ghost use Rattle.dx_tgd_text.specs.Laws.{AreOffered, IsWholeRule};
+ghost use Rattle.dx_tgd_text.specs.Reading.{RuleHasFewCells, rule_fault, rule_of_text, rules_fault, rules_of_texts};
 
 use crate::atoms::read_atoms;
 use crate::derived::read_derived;
@@ -31,9 +31,9 @@ fn read_rule<F, M>(
 where
     F: Fn(u32, &Items<Text>) -> Result<Text, AllocError>,
     M: Meaning,
-    requires { IsNarrow rule.now }
+    requires { RuleHasFewCells rule.now }
     ensures { ReadsOrMemory result
-        (rule_of source.now target.now (offered host.now) rule.now)
+        (rule_of_text source.now target.now (offered host.now) rule.now)
         (rule_fault source.now target.now (offered host.now) rule.now) }
 {
     let none = Names::new(alloc);
@@ -71,11 +71,11 @@ pub fn read_rules<F, M>(
 where
     F: Fn(u32, &Items<Text>) -> Result<Text, AllocError>,
     M: Meaning,
-    requires narrow { Each rules.now IsNarrow }
-    ensures rules { IfOk result (λ ds. ds.items ≡ rules_of source.now target.now (offered host.now) rules.now) }
+    requires narrow { Each rules.now RuleHasFewCells }
+    ensures rules { IfOk result (λ ds. ds.items ≡ rules_of_texts source.now target.now (offered host.now) rules.now) }
     ensures none { OnOk result (rules_fault source.now target.now (offered host.now) rules.now ≡ None) }
     ensures fault { IfErr result (λ e. (e ≡ Memory) ⊎ (rules_fault source.now target.now (offered host.now) rules.now ≡ Some e)) }
-    ensures fit { IfOk result (λ ds. Each rules.now IsWhole
+    ensures fit { IfOk result (λ ds. Each rules.now IsWholeRule
         → Each ds.items (RuleFits (model_tables source.now) (model_tables target.now))) }
     ensures listed { IfOk result (λ ds. Each ds.items (AreOffered (offered host.now))) }
 {

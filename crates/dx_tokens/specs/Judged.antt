@@ -14,7 +14,7 @@ IsFaultBy Unexpected Deeper Stopped (At place other) = ⊥
 IsFaultBy Unexpected Deeper Stopped (TooDeep place) = Deeper place
 IsFaultBy Unexpected Deeper Stopped Memory = ⊥
 
--- the fault where all tokens can stand and more are wanted: the token fault, or that the text ends
+-- the fault if all tokens can stand and more are wanted: the token fault, or that the text ends
 abbrev pub stop_fault : ℕ → Option (ℕ × TextKind) → TextFault
 stop_fault end (Some p) = At p.0 p.1
 stop_fault end None = At end Ended

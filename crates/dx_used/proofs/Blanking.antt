@@ -7,7 +7,7 @@ use Rattle.dx_ports.proofs.Members.{same_append, same_equal, same_map, same_tran
 use Rattle.dx_model.specs.declared.values.Value.{Value}
 use Rattle.dx_model.specs.declared.values.Value.TheVariants.{Const, Null}
 use Rattle.dx_model.specs.declared.facts.Fact.{Fact}
-use Rattle.dx_used.specs.Used.{Agree, Marks, blank, blanked, fact_blanked}
+use Rattle.dx_used.specs.Used.{AgreeOnUsed, Marks, blank, blanked, fact_blanked}
 
 -- ---- rows
 
@@ -51,9 +51,9 @@ blanked_at (false ∷ used) (v ∷ row) (suc i) d h = blanked_at used row i d (o
 -- ---- instances
 
 -- the same facts agree
-pub agree_same : (used : Marks) {I J : List Fact} → I ≈ J → Agree used I J
+pub agree_same : (used : Marks) {I J : List Fact} → I ≈ J → AgreeOnUsed used I J
 agree_same used s = same_map (fact_blanked used) s
 
-pub agree_append : (used : Marks) (I J K L : List Fact) → Agree used I J → Agree used K L → Agree used (I ++ K) (J ++ L)
+pub agree_append : (used : Marks) (I J K L : List Fact) → AgreeOnUsed used I J → AgreeOnUsed used K L → AgreeOnUsed used (I ++ K) (J ++ L)
 agree_append used I J K L s t =
     same_trans (same_equal (map-append (fact_blanked used) I K)) (same_trans (same_append s t) (same_equal (sym (map-append (fact_blanked used) J L))))

@@ -8,7 +8,7 @@ use Rattle.dx_model.specs.declared.rules.Cell.TheVariants.{Var, Lit}
 use Rattle.dx_model.specs.declared.rules.Atom.{Atom}
 use Rattle.dx_model.specs.declared.rules.Rule.{Rule}
 use Rattle.dx_lines.specs.declared.line.Condition.{Condition}
-use Rattle.dx_used.specs.Used.{times, mentions, IsIdle, AreIdle, Agree, Asks, IsUsedBy, IsUsed, HaveWidths, blanked, fact_blanked}
+use Rattle.dx_used.specs.Used.{times, mentions, IsIdle, AreIdle, AgreeOnUsed, AsksOfValue, IsUsedBy, IsUsed, HaveWidths, blanked, fact_blanked}
 use Rattle.dx_used.specs.Named.{AreExact, IsNamed, ReadNamed}
 use Rattle.dx_used.specs.Passing.{Passes, passing}
 
@@ -52,10 +52,10 @@ second_is_blank a b c = refl
 abbrev of : List ℕ → List ℕ → Fact
 of a b = record { table = 0; row = Const a ∷ Const b ∷ [] }
 
-they_agree : (a b c : List ℕ) → Agree ((true ∷ false ∷ []) ∷ []) (of a b ∷ []) (of a c ∷ [])
+they_agree : (a b c : List ℕ) → AgreeOnUsed ((true ∷ false ∷ []) ∷ []) (of a b ∷ []) (of a c ∷ [])
 they_agree a b c = ((λ f m. m), (λ f m. m))
 
-they_differ : ¬ Agree ((true ∷ false ∷ []) ∷ []) (of [] [] ∷ []) (of (0 ∷ []) [] ∷ [])
+they_differ : ¬ AgreeOnUsed ((true ∷ false ∷ []) ∷ []) (of [] [] ∷ []) (of (0 ∷ []) [] ∷ [])
 they_differ w = elim (w.0 (fact_blanked ((true ∷ false ∷ []) ∷ []) (of [] [])) (here refl)) [
   | here e ↦ absurd (cc (ap (λ (f : Fact). f.row) e))
   | there m ↦ elim m [ ]
@@ -67,10 +67,10 @@ they_differ w = elim (w.0 (fact_blanked ((true ∷ false ∷ []) ∷ []) (of [] 
 not_idle : (d : Rule) (x n : ℕ) → times x (mentions d) ≡ n → ¬ (n ≡ 1) → ¬ IsIdle d (Var x)
 not_idle d x n e o i = let same : x ≡ i.0 = cc i.1 in o (sym e ∙ (ap (λ y. times y (mentions d)) same ∙ i.2))
 
-a_literal_asks : (t : List ℕ) → Asks rule (Var 1 ∷ Lit t ∷ []) 1
+a_literal_asks : (t : List ℕ) → AsksOfValue rule (Var 1 ∷ Lit t ∷ []) 1
 a_literal_asks t i = absurd (cc (i.1))
 
-nothing_is_asked_behind_the_last : ¬ Asks rule (Var 0 ∷ []) 1
+nothing_is_asked_behind_the_last : ¬ AsksOfValue rule (Var 0 ∷ []) 1
 nothing_is_asked_behind_the_last a = a
 
 exported_is_used : IsUsedBy rule 0 0
@@ -81,7 +81,7 @@ joined_is_used = (second, there (here refl), refl, not_idle rule 2 2 refl (λ e.
 
 idle_is_not_used : ¬ IsUsedBy rule 0 1
 idle_is_not_used w = elim w.1 [
-  | here e ↦ subst (λ (a : Atom). Asks rule a.cells 1) (sym e) w.3 (1, refl, refl)
+  | here e ↦ subst (λ (a : Atom). AsksOfValue rule a.cells 1) (sym e) w.3 (1, refl, refl)
   | there m ↦ elim m [
     | here e ↦ absurd (omega (arith, ap (λ (a : Atom). a.table) e, w.2))
     | there n ↦ elim n [ ]

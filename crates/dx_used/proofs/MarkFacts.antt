@@ -13,11 +13,11 @@ use Rattle.dx_model.specs.declared.rules.Atom.{Atom}
 use Rattle.dx_model.specs.declared.rules.Derived.{Derived}
 use Rattle.dx_model.specs.declared.rules.Rule.{Rule}
 use Rattle.dx_model.specs.Rules.{cells_of}
-use Rattle.dx_model.specs.Fitting.{IsRule, premise_variables, variable_in}
+use Rattle.dx_model.specs.Fitting.{IsRule, premise_variables, cell_variable}
 use Rattle.dx_model.proofs.Frozen.{few_in_cells, few_numbered}
 use Rattle.dx_model.proofs.RowsExist.{below_after}
-use Rattle.dx_used.specs.Used.{times, mentions, IsIdle, AreIdle, Asks, IsUsedBy, IsUsed, HaveWidths, UsesOnly, Marks, marks_at}
-use Rattle.dx_used.specs.Counting.{up_to_two, Counts, HasPlace, KeepMarks, UsesOnlyOf, AreNewWhere, AreUsed}
+use Rattle.dx_used.specs.Used.{times, mentions, IsIdle, AreIdle, AsksOfValue, IsUsedBy, IsUsed, HaveWidths, UsesOnly, Marks, marks_at}
+use Rattle.dx_used.specs.Counting.{up_to_two, CountsCells, CellHasPlace, KeepMarks, UsesOnlyOf, AreNewWhere, AreUsed}
 use Rattle.dx_used.proofs.UsedLaws.{times-append}
 
 -- ---- counts
@@ -44,8 +44,8 @@ no_more cells v x n =
     let b : times x (Var v ∷ []) ≡ 0 = rw (ne_eqb x v n) refl in
     omega (arith, a, b)
 
-pub counted_set : (cells : List Cell) (counts : List ℕ) (v : ℕ) → Counts cells counts → v < length counts → get_or counts v 0 < 2
-    → Counts (cells ++ Var v ∷ []) (slice_set counts v (get_or counts v 0 + 1))
+pub counted_set : (cells : List Cell) (counts : List ℕ) (v : ℕ) → CountsCells cells counts → v < length counts → get_or counts v 0 < 2
+    → CountsCells (cells ++ Var v ∷ []) (slice_set counts v (get_or counts v 0 + 1))
 counted_set cells counts v h k l x b = elim (cases_eq x v) [
   | inl e ↦ subst (λ y. get_or (slice_set counts v (get_or counts v 0 + 1)) y 0 ≡ up_to_two (times y (cells ++ Var v ∷ []))) (sym e) at_v
   | inr n ↦ get_or-set_other counts v x (get_or counts v 0 + 1) 0 n ∙ (h x (subst (λ m. x < m) (length-set counts v (get_or counts v 0 + 1)) b) ∙ ap up_to_two (sym (no_more cells v x n)))
@@ -57,7 +57,7 @@ counted_set cells counts v h k l x b = elim (cases_eq x v) [
         get_or-set_same counts v (get_or counts v 0 + 1) 0 k
         ∙ (ap (λ n. n + 1) c ∙ (sym (next_count (times v cells) (subst (λ n. n < 2) c l)) ∙ ap up_to_two (sym (one_more cells v))))
 
-pub counted_full : (cells : List Cell) (counts : List ℕ) (v : ℕ) → Counts cells counts → 2 ≤ get_or counts v 0 → Counts (cells ++ Var v ∷ []) counts
+pub counted_full : (cells : List Cell) (counts : List ℕ) (v : ℕ) → CountsCells cells counts → 2 ≤ get_or counts v 0 → CountsCells (cells ++ Var v ∷ []) counts
 counted_full cells counts v h l x b = elim (cases_eq x v) [
   | inl e ↦ subst (λ y. get_or counts y 0 ≡ up_to_two (times y (cells ++ Var v ∷ []))) (sym e) (at_v (subst (λ y. y < length counts) e b))
   | inr n ↦ h x b ∙ ap up_to_two (sym (no_more cells v x n))
@@ -68,29 +68,29 @@ counted_full cells counts v h l x b = elim (cases_eq x v) [
         let c = h v k in
         c ∙ (sym (full_count (times v cells) (subst (λ n. 2 ≤ n) c l)) ∙ ap up_to_two (sym (one_more cells v)))
 
-pub counted_out : (cells : List Cell) (counts : List ℕ) (v : ℕ) → Counts cells counts → length counts ≤ v → Counts (cells ++ Var v ∷ []) counts
+pub counted_out : (cells : List Cell) (counts : List ℕ) (v : ℕ) → CountsCells cells counts → length counts ≤ v → CountsCells (cells ++ Var v ∷ []) counts
 counted_out cells counts v h l x b = h x b ∙ ap up_to_two (sym (no_more cells v x (λ e. let k : v < length counts = subst (λ y. y < length counts) e b in omega (arith, k, l))))
 
-counted_plain : (cells : List Cell) (c : Cell) (counts : List ℕ) → ((x : ℕ) → times x (c ∷ []) ≡ 0) → Counts cells counts → Counts (cells ++ c ∷ []) counts
+counted_plain : (cells : List Cell) (c : Cell) (counts : List ℕ) → ((x : ℕ) → times x (c ∷ []) ≡ 0) → CountsCells cells counts → CountsCells (cells ++ c ∷ []) counts
 counted_plain cells c counts z h x b =
     let a = times-append x cells (c ∷ []) in
     let n = z x in
     let s : times x (cells ++ c ∷ []) ≡ times x cells = omega (arith, a, n) in
     h x b ∙ ap up_to_two (sym s)
 
-pub counted_other : (cells : List Cell) (c : Cell) (counts : List ℕ) → ((x : ℕ) → ¬ (c ≡ Var x)) → Counts cells counts → Counts (cells ++ c ∷ []) counts
+pub counted_other : (cells : List Cell) (c : Cell) (counts : List ℕ) → ((x : ℕ) → ¬ (c ≡ Var x)) → CountsCells cells counts → CountsCells (cells ++ c ∷ []) counts
 counted_other cells (Var y) counts n h = absurd (n y refl)
 counted_other cells (Ex v) counts n h = counted_plain cells (Ex v) counts (λ x. refl) h
 counted_other cells (Lit t) counts n h = counted_plain cells (Lit t) counts (λ x. refl) h
 
 -- one item more of a list whose items give cells
 pub counted_more : {X : Type 0} (f : X → List Cell) (before : List Cell) (xs : List X) (i : ℕ) (d : X) (new : List ℕ) → i < length xs
-    → Counts ((before ++ flat_map f (take i xs)) ++ f (get_or xs i d)) new → Counts (before ++ flat_map f (take (i + 1) xs)) new
+    → CountsCells ((before ++ flat_map f (take i xs)) ++ f (get_or xs i d)) new → CountsCells (before ++ flat_map f (take (i + 1) xs)) new
 counted_more {X} f before xs i d new h c =
     let t = take_more xs i d h in
     let e : (before ++ flat_map f (take i xs)) ++ f (get_or xs i d) ≡ before ++ flat_map f (take (i + 1) xs) =
     append_assoc before (flat_map f (take i xs)) (f (get_or xs i d)) ∙ ap (λ ys. before ++ ys) (sym (flat_last f (take i xs) (get_or xs i d)) ∙ ap (flat_map f) (sym t)) in
-    subst (λ cs. Counts cs new) e c
+    subst (λ cs. CountsCells cs new) e c
   where
     flat_last : (f : X → List Cell) (ys : List X) (y : X) → flat_map f (ys ++ y ∷ []) ≡ flat_map f ys ++ f y
     flat_last f [] y = end (f y)
@@ -102,33 +102,33 @@ counted_more {X} f before xs i d new h c =
 
 -- the same, with the item that a loop gives
 pub counted_item : {X : Type 0} (f : X → List Cell) (before : List Cell) (xs : List X) (i : ℕ) (y : X) (new : List ℕ) → i < length xs → y ≡ get_or xs i y
-    → Counts ((before ++ flat_map f (take i xs)) ++ f y) new → Counts (before ++ flat_map f (take (i + 1) xs)) new
-counted_item f before xs i y new h e c = counted_more f before xs i y new h (subst (λ z. Counts ((before ++ flat_map f (take i xs)) ++ f z) new) e c)
+    → CountsCells ((before ++ flat_map f (take i xs)) ++ f y) new → CountsCells (before ++ flat_map f (take (i + 1) xs)) new
+counted_item f before xs i y new h e c = counted_more f before xs i y new h (subst (λ z. CountsCells ((before ++ flat_map f (take i xs)) ++ f z) new) e c)
 
 -- the items of a list of cells
-pub counted_cell : (before cells : List Cell) (i : ℕ) (y : Cell) (new : List ℕ) → i < length cells → y ≡ get_or cells i y → Counts ((before ++ take i cells) ++ y ∷ []) new → Counts (before ++ take (i + 1) cells) new
+pub counted_cell : (before cells : List Cell) (i : ℕ) (y : Cell) (new : List ℕ) → i < length cells → y ≡ get_or cells i y → CountsCells ((before ++ take i cells) ++ y ∷ []) new → CountsCells (before ++ take (i + 1) cells) new
 counted_cell before cells i y new h e c =
-    subst (λ cs. Counts cs new) (append_assoc before (take i cells) (y ∷ []) ∙ ap (λ ys. before ++ ys) (ap (λ z. take i cells ++ z ∷ []) e ∙ sym (take_more cells i y h))) c
+    subst (λ cs. CountsCells cs new) (append_assoc before (take i cells) (y ∷ []) ∙ ap (λ ys. before ++ ys) (ap (λ z. take i cells ++ z ∷ []) e ∙ sym (take_more cells i y h))) c
 
-pub counted_variable : (before : List Cell) (xs : List ℕ) (i : ℕ) (new : List ℕ) → i < length xs → Counts ((before ++ map Var (take i xs)) ++ Var (get_or xs i 0) ∷ []) new → Counts (before ++ map Var (take (i + 1) xs)) new
+pub counted_variable : (before : List Cell) (xs : List ℕ) (i : ℕ) (new : List ℕ) → i < length xs → CountsCells ((before ++ map Var (take i xs)) ++ Var (get_or xs i 0) ∷ []) new → CountsCells (before ++ map Var (take (i + 1) xs)) new
 counted_variable before xs i new h c =
-    subst (λ cs. Counts cs new) (append_assoc before (map Var (take i xs)) (Var (get_or xs i 0) ∷ []) ∙ ap (λ ys. before ++ ys) (sym (map-append Var (take i xs) (get_or xs i 0 ∷ [])) ∙ ap (map Var) (sym (take_more xs i 0 h)))) c
+    subst (λ cs. CountsCells cs new) (append_assoc before (map Var (take i xs)) (Var (get_or xs i 0) ∷ []) ∙ ap (λ ys. before ++ ys) (sym (map-append Var (take i xs) (get_or xs i 0 ∷ [])) ∙ ap (map Var) (sym (take_more xs i 0 h)))) c
 
 -- nothing yet, and all
-pub counted_none : (before : List Cell) (counts : List ℕ) → Counts before counts → Counts (before ++ []) counts
-counted_none before counts c = subst (λ cs. Counts cs counts) (sym (append-nil before)) c
+pub counted_none : (before : List Cell) (counts : List ℕ) → CountsCells before counts → CountsCells (before ++ []) counts
+counted_none before counts c = subst (λ cs. CountsCells cs counts) (sym (append-nil before)) c
 
-pub counted_all : {X : Type 0} (f : List X → List Cell) (before : List Cell) (xs : List X) (i : ℕ) (counts : List ℕ) → length xs ≤ i → Counts (before ++ f (take i xs)) counts → Counts (before ++ f xs) counts
-counted_all f before xs i counts h c = subst (λ ys. Counts (before ++ f ys) counts) (take_all i xs h) c
+pub counted_all : {X : Type 0} (f : List X → List Cell) (before : List Cell) (xs : List X) (i : ℕ) (counts : List ℕ) → length xs ≤ i → CountsCells (before ++ f (take i xs)) counts → CountsCells (before ++ f xs) counts
+counted_all f before xs i counts h c = subst (λ ys. CountsCells (before ++ f ys) counts) (take_all i xs h) c
 
 pub counted_rule : (d : Rule) (premise conclusion : List Atom) (derived : List Derived) (counts : List ℕ) → premise ≡ d.premise → conclusion ≡ d.conclusion → derived ≡ d.derived
-    → Counts ((([] ++ cells_of premise) ++ cells_of conclusion) ++ flat_map (λ (e : Derived). map Var e.args) derived) counts → Counts (mentions d) counts
+    → CountsCells ((([] ++ cells_of premise) ++ cells_of conclusion) ++ flat_map (λ (e : Derived). map Var e.args) derived) counts → CountsCells (mentions d) counts
 counted_rule d premise conclusion derived counts p q r c =
     let e = append_assoc (cells_of premise) (cells_of conclusion) (flat_map (λ (e : Derived). map Var e.args) derived) in
-    let k : Counts (cells_of premise ++ (cells_of conclusion ++ flat_map (λ (e : Derived). map Var e.args) derived)) counts = subst (λ cs. Counts cs counts) e c in
+    let k : CountsCells (cells_of premise ++ (cells_of conclusion ++ flat_map (λ (e : Derived). map Var e.args) derived)) counts = subst (λ cs. CountsCells cs counts) e c in
     rw (sym p, sym q, sym r) k
 
-pub zero_counts : (n : ℕ) (counts : List ℕ) → (◌≡◌ {A = List ℕ} counts (replicate n 0)) → Counts [] counts
+pub zero_counts : (n : ℕ) (counts : List ℕ) → (◌≡◌ {A = List ℕ} counts (replicate n 0)) → CountsCells [] counts
 zero_counts n counts e x h = ap (λ xs. get_or xs x 0) e ∙ zeros n x
   where
     zeros : (n x : ℕ) → ◌≡◌ {A = ℕ} (get_or (replicate n 0) x 0) 0
@@ -151,10 +151,10 @@ pub all_cells : (atoms : List Atom) (i count : ℕ) → length atoms ≤ i → c
 all_cells atoms i count h c = c ∙ ap (λ bs. min (length (cells_of bs)) (2 ^ 64 - 1)) (take_all i atoms h)
 
 -- the variables of a rule have places, since they are numbered by first appearance
-pub have_places : (d : Rule) (a : Atom) (places : ℕ) → IsRule d → a ∈ d.premise → places ≡ min (length (cells_of d.premise)) (2 ^ 64 - 1) → Each a.cells (HasPlace places)
+pub have_places : (d : Rule) (a : Atom) (places : ℕ) → IsRule d → a ∈ d.premise → places ≡ min (length (cells_of d.premise)) (2 ^ 64 - 1) → Each a.cells (CellHasPlace places)
 have_places d a places r m e c k x p =
     let b : x < premise_variables d = below_after x (cells_of d.premise) (subst (λ (z : Cell). z ∈ cells_of d.premise) p (in_flat_map (λ (z : Atom). z.cells) m k)) in
-    let f = few_numbered 0 (premise_variables d) (flat_map variable_in (cells_of d.premise)) r.numbered in
+    let f = few_numbered 0 (premise_variables d) (flat_map cell_variable (cells_of d.premise)) r.numbered in
     let g = few_in_cells (cells_of d.premise) in
     let w = r.few_variables in
     omega (arith, b, f, g, e, w)
@@ -165,13 +165,13 @@ have_places d a places r m e c k x p =
 pub asks_other : (d : Rule) (c : Cell) → ((x : ℕ) → ¬ (c ≡ Var x)) → ¬ IsIdle d c
 asks_other d c n i = n i.0 i.1
 
-pub asks_in : (d : Rule) (cells : List Cell) (i : ℕ) (c : Cell) → i < length cells → c ≡ get_or cells i c → ¬ IsIdle d c → Asks d cells i
+pub asks_in : (d : Rule) (cells : List Cell) (i : ℕ) (c : Cell) → i < length cells → c ≡ get_or cells i c → ¬ IsIdle d c → AsksOfValue d cells i
 asks_in d [] i c h e n = absurd (omega (arith, h))
 asks_in d (x ∷ cells) zero c h e n = subst (λ (b : Cell). ¬ IsIdle d b) e n
 asks_in d (x ∷ cells) (suc i) c h e n = asks_in d cells i c (omega (arith, h)) e n
 
 -- what asks something stands in no column without a mark
-asks_not : (d : Rule) (marks : List Bool) (cells : List Cell) (i : ℕ) → i < length marks → get_or marks i false ≡ false → AreIdle d marks cells → ¬ Asks d cells i
+asks_not : (d : Rule) (marks : List Bool) (cells : List Cell) (i : ℕ) → i < length marks → get_or marks i false ≡ false → AreIdle d marks cells → ¬ AsksOfValue d cells i
 asks_not d [] cells i l e a w = absurd (omega (arith, l))
 asks_not d (u ∷ marks) [] i l e a w = w
 asks_not d (true ∷ marks) (c ∷ cells) zero l e a w = absurd (cc e)
@@ -268,9 +268,9 @@ atom_more table d atoms old new i a s h e all k u =
     (atoms_kept table old new d (take i d.premise) k all) u
 
 -- what is lent is what it is lent of
-pub idle_lent : (d : Rule) (marks : List Bool) (counts lent : List ℕ) (cells given : List Cell) → lent ≡ counts → given ≡ cells → Counts (mentions d) counts
-    → ((e : Rule) → Counts (mentions e) lent → AreIdle e marks given) → AreIdle d marks cells
-idle_lent d marks counts lent cells given l g c h = subst (λ cs. AreIdle d marks cs) g (h d (subst (λ ns. Counts (mentions d) ns) (sym l) c))
+pub idle_lent : (d : Rule) (marks : List Bool) (counts lent : List ℕ) (cells given : List Cell) → lent ≡ counts → given ≡ cells → CountsCells (mentions d) counts
+    → ((e : Rule) → CountsCells (mentions e) lent → AreIdle e marks given) → AreIdle d marks cells
+idle_lent d marks counts lent cells given l g c h = subst (λ cs. AreIdle d marks cs) g (h d (subst (λ ns. CountsCells (mentions d) ns) (sym l) c))
 
 pub no_change : (marks : List Bool) → KeepMarks marks marks
 no_change marks i e = e
@@ -331,13 +331,13 @@ new_trans P a b c k l i e = elim (l i e) [ inl m ↦ k i m | inr p ↦ inr p ]
 -- those of an atom's cells are those of its rule
 pub new_by_atom : (d : Rule) (table : ℕ) (atoms : List Atom) (i : ℕ) (a : Atom) (counts lent : List ℕ) (given : List Cell) (old new : List Bool)
     → atoms ≡ d.premise → i < length atoms → a ≡ get_or atoms i a → a.table ≡ table → lent ≡ counts → given ≡ a.cells
-    → Counts (mentions d) counts → length counts ≡ min (length (cells_of d.premise)) (2 ^ 64 - 1) → IsRule d
-    → ((e : Rule) → Counts (mentions e) lent → Each given (HasPlace (length lent)) → AreNewWhere (Asks e given) old new) → AreNewWhere (IsUsedBy d table) old new
+    → CountsCells (mentions d) counts → length counts ≡ min (length (cells_of d.premise)) (2 ^ 64 - 1) → IsRule d
+    → ((e : Rule) → CountsCells (mentions e) lent → Each given (CellHasPlace (length lent)) → AreNewWhere (AsksOfValue e given) old new) → AreNewWhere (IsUsedBy d table) old new
 new_by_atom d table atoms i a counts lent given old new s h e t l g k n r f j b =
     let m : a ∈ d.premise = subst (λ bs. a ∈ bs) s (item_in atoms i a h e) in
-    let p : Each a.cells (HasPlace (length lent)) = have_places d a (length lent) r m (ap length l ∙ n) in
-    let q : AreNewWhere (Asks d given) old new = f d (subst (λ ns. Counts (mentions d) ns) (sym l) k) (subst (λ cs. Each cs (HasPlace (length lent))) (sym g) p) in
-    elim (q j b) [ inl o ↦ inl o | inr w ↦ inr (a, m, t, subst (λ cs. Asks d cs j) g w) ]
+    let p : Each a.cells (CellHasPlace (length lent)) = have_places d a (length lent) r m (ap length l ∙ n) in
+    let q : AreNewWhere (AsksOfValue d given) old new = f d (subst (λ ns. CountsCells (mentions d) ns) (sym l) k) (subst (λ cs. Each cs (CellHasPlace (length lent))) (sym g) p) in
+    elim (q j b) [ inl o ↦ inl o | inr w ↦ inr (a, m, t, subst (λ cs. AsksOfValue d cs j) g w) ]
 
 pub none_marked : (rules : List Rule) (table n : ℕ) (marks : List Bool) → (◌≡◌ {A = List Bool} marks (replicate n false)) → AreUsed rules table marks
 none_marked rules table n marks e i k = true_false (sym k ∙ (ap (λ ms. get_or ms i false) e ∙ all_false n i))

@@ -13,12 +13,13 @@ use Rattle.dx_model.specs.declared.rules.Rule.{Rule}
 use Rattle.dx_ports.specs.Members.{◌∈◌, here, there}
 use Rattle.dx_ports.proofs.Members.{in_map, from_map, in_flat_map, same_sym}
 use Rattle.dx_ports.proofs.Tests.{map_same}
-use Rattle.dx_model.specs.Values.{Text, Tuple, Conversions}
+use Rattle.dx_model.specs.Values.{Tuple, Conversions}
+use Rattle.dx_ports.specs.Texts.{Text}
 use Rattle.dx_model.specs.Rules.{cell_value, premise_fact, after_cells, cells_of, Derive, IsMatch, exported, IsRows, Satisfies}
 use Rattle.dx_model.proofs.Canonical.{from_variables}
 use Rattle.dx_model.proofs.RowsExist.{below_after}
 use Rattle.dx_model.proofs.Universal.{said_same}
-use Rattle.dx_used.specs.Used.{times, arguments, mentions, AreIdle, Marks, marks_at, UsesOnly, blank, blanked, fact_blanked, Agree}
+use Rattle.dx_used.specs.Used.{times, arguments, mentions, AreIdle, Marks, marks_at, UsesOnly, blank, blanked, fact_blanked, AgreeOnUsed}
 use Rattle.dx_used.specs.Laws.{SameRows, SameTargets, SameSolutions, SameUniversal}
 
 -- ---- how often a variable stands
@@ -271,7 +272,7 @@ derive_kept convert texts new n (e ∷ ds) k g d = (
   derive_kept convert texts new (suc n) ds (λ i h. k i (omega (arith, h))) (λ f m. g f (there m)) d.1,
 )
 
-module _ (convert : Conversions) (used : Marks) (d : Rule) (I J : List Fact) (only : UsesOnly used d) (agree : Agree used I J) where
+module _ (convert : Conversions) (used : Marks) (d : Rule) (I J : List Fact) (only : UsesOnly used d) (agree : AgreeOnUsed used I J) where
   meets : (texts : ℕ → Text) → IsMatch convert d I texts → (a : Atom) → a ∈ d.premise → Meets used J texts a
   meets texts m a k =
       let b = agree.0 _ (in_map (fact_blanked used) (m.premise a k)) in
@@ -310,7 +311,7 @@ module _ (convert : Conversions) (used : Marks) (d : Rule) (I J : List Fact) (on
       let v = s w.0 w.1 in
       (v.0, λ a k. subst (λ f. f ∈ K) (said_same w.0 texts v.0 a (λ x n. w.2 x (in_flat_map (λ (b : Atom). b.cells) k n))) (v.1 a k))
 
-same_rows_of : (convert : Conversions) (used : Marks) (d : Rule) (I J : List Fact) (rows : List Tuple) → UsesOnly used d → Agree used I J → IsRows convert d I rows → IsRows convert d J rows
+same_rows_of : (convert : Conversions) (used : Marks) (d : Rule) (I J : List Fact) (rows : List Tuple) → UsesOnly used d → AgreeOnUsed used I J → IsRows convert d I rows → IsRows convert d J rows
 same_rows_of convert used d I J rows u a r = record {
   ascend = r.ascend;
   exact = λ t. (

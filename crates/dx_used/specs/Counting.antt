@@ -15,12 +15,12 @@ up_to_two (suc zero) = 1
 up_to_two (suc (suc n)) = 2
 
 -- under each variable for which there is a place stands how often it is among these cells, up to two
-abbrev pub Counts : List Cell → List ℕ → Type 0
-Counts cells counts = (x : ℕ) → x < length counts → slice_index_or counts x 0 ≡ up_to_two (times x cells)
+abbrev pub CountsCells : List Cell → List ℕ → Type 0
+CountsCells cells counts = (x : ℕ) → x < length counts → slice_index_or counts x 0 ≡ up_to_two (times x cells)
 
 -- a cell, if it is a variable, has one of so many places
-abbrev pub HasPlace : ℕ → Cell → Type 0
-HasPlace places c = (x : ℕ) → c ≡ Var x → x < places
+abbrev pub CellHasPlace : ℕ → Cell → Type 0
+CellHasPlace places c = (x : ℕ) → c ≡ Var x → x < places
 
 -- columns that are marked stay so
 abbrev pub KeepMarks : List Bool → List Bool → Type 0

@@ -50,14 +50,14 @@ abbrev pub UsesOnly : Marks → Rule → Type 0
 UsesOnly used d = Each d.premise (λ a. AreIdle d (marks_at used a.table) a.cells)
 
 -- of these cells of a rule, that in a column asks something of the value there: it is not idle
-abbrev pub Asks : Rule → List Cell → ℕ → Type 0
-Asks d [] column = ⊥
-Asks d (c ∷ cells) zero = ¬ IsIdle d c
-Asks d (c ∷ cells) (suc column) = Asks d cells column
+abbrev pub AsksOfValue : Rule → List Cell → ℕ → Type 0
+AsksOfValue d [] column = ⊥
+AsksOfValue d (c ∷ cells) zero = ¬ IsIdle d c
+AsksOfValue d (c ∷ cells) (suc column) = AsksOfValue d cells column
 
 -- a column of a table is used by a rule: an atom of its premise, over the table, has there a cell that asks something
 abbrev pub IsUsedBy : Rule → ℕ → ℕ → Type 0
-IsUsedBy d table column = (a : Atom) × (a ∈ d.premise) × (a.table ≡ table) × Asks d a.cells column
+IsUsedBy d table column = (a : Atom) × (a ∈ d.premise) × (a.table ≡ table) × AsksOfValue d a.cells column
 
 -- a column of a table is used by some rule
 abbrev pub IsUsed : List Rule → ℕ → ℕ → Type 0
@@ -84,5 +84,5 @@ abbrev pub fact_blanked : Marks → Fact → Fact
 fact_blanked used f = record { table = f.table; row = blanked (marks_at used f.table) f.row }
 
 -- two instances agree on the used columns: with the other columns blank they have the same facts
-abbrev pub Agree : Marks → List Fact → List Fact → Type 0
-Agree used I J = map (fact_blanked used) I ≈ map (fact_blanked used) J
+abbrev pub AgreeOnUsed : Marks → List Fact → List Fact → Type 0
+AgreeOnUsed used I J = map (fact_blanked used) I ≈ map (fact_blanked used) J

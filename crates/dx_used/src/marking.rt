@@ -3,9 +3,9 @@ ghost use Rattle.std.specs.Prelude.{◌≡◌, true, IfOk, OnOk, length, slice_i
 ghost use Rattle.dx_ports.specs.Members.{Each};
 ghost use Rattle.dx_model.specs.declared.rules.Rule.{Rule};
 ghost use Rattle.dx_model.specs.Fitting.{IsRule};
-ghost use Rattle.dx_used.specs.Used.{AreIdle, Asks, HaveWidths, IsUsedBy, UsesOnly, mentions};
+ghost use Rattle.dx_used.specs.Used.{AreIdle, AsksOfValue, HaveWidths, IsUsedBy, UsesOnly, mentions};
 ghost use Rattle.dx_used.specs.Named.{AreExact, IsNamed, ReadNamed};
-ghost use Rattle.dx_used.specs.Counting.{AreNewWhere, AreRead, AreUsed, Counts, HasPlace, KeepMarks, ReadsNamed, UsesOnlyOf};
+ghost use Rattle.dx_used.specs.Counting.{AreNewWhere, AreRead, AreUsed, CountsCells, CellHasPlace, KeepMarks, ReadsNamed, UsesOnlyOf};
 
 use crate::mentions::{is_idle, mentions_of};
 use dx_lines::Condition;
@@ -15,9 +15,9 @@ use std::alloc::{AllocError, Global};
 
 // Marks each column whose cell asks something of the value there.
 fn mark_cells(cells: &[Cell], counts: &[u8], marks: &mut [bool])
-    ensures idle { (d : Rule) → Counts (mentions d) counts.now → AreIdle d marks.new cells.now }
-    ensures asks { (d : Rule) → Counts (mentions d) counts.now → Each cells.now (HasPlace (length counts.now))
-        → AreNewWhere (Asks d cells.now) marks.old marks.new }
+    ensures idle { (d : Rule) → CountsCells (mentions d) counts.now → AreIdle d marks.new cells.now }
+    ensures asks { (d : Rule) → CountsCells (mentions d) counts.now → Each cells.now (CellHasPlace (length counts.now))
+        → AreNewWhere (AsksOfValue d cells.now) marks.old marks.new }
     ensures keep { KeepMarks marks.old marks.new }
 {
     for column in 0..cells.len() {

@@ -8,12 +8,12 @@ use Rattle.dx_model.specs.Tables.{Table}
 use Rattle.dx_schema.specs.declared.sets.DepDecl.{DepDecl}
 use Rattle.dx_schema.specs.declared.sets.RefDecl.{RefDecl}
 use Rattle.dx_schema.specs.Forest.{Forest, none, set}
-use Rattle.dx_schema.specs.Tables.{Placed, placed, sets_of, count, optional_refs, table_in, tables_of, as_numbers, model_tables}
+use Rattle.dx_schema.specs.Tables.{NumberedSet, numbered_sets, sets_of, count, optional_refs, table_in, tables_of, as_numbers, model_tables}
 use Rattle.dx_logical.specs.Laws.{HasNoOptional}
 use Rattle.dx_schema_text.specs.declared.texts.MappingText.{MappingText}
 use Rattle.dx_schema_text.specs.Grammar.{since_three}
 use Rattle.dx_schema_text.specs.Texts.{IsMappingText}
-use Rattle.dx_schema_text.specs.Print.{IsKnown, the_first, the_second, the_third, AreOfVersion}
+use Rattle.dx_schema_text.specs.Print.{IsKnownVersion, the_first, the_second, the_third, AreOfVersion}
 use Rattle.dx_schema_text.proofs.SpelledWords.{said_is_writable}
 use Rattle.dx_schema_text.proofs.Versions.{said_is_of_version}
 use Rattle.dx_version_laws.specs.Laws.{HasNoDependency, HasKeysAlone, FirstVersionIsPlain, EarlierHaveKeysAlone}
@@ -28,11 +28,11 @@ none_optional [] h = refl
 none_optional (r ∷ refs) h = rw (not_optional r.optional (h r (here refl))) (none_optional refs (λ x m. h x (there m)))
 
 -- so no set of a forest that a text of version 1 can say has an optional ref
-placed_plain : (p : Option ℕ) (n : ℕ) (f : Forest) (s : Placed) → AreOfVersion 1 f → s ∈ placed p n f → optional_refs s.label.refs ≡ []
+placed_plain : (p : Option ℕ) (n : ℕ) (f : Forest) (s : NumberedSet) → AreOfVersion 1 f → s ∈ numbered_sets p n f → optional_refs s.label.refs ≡ []
 placed_plain p n none s h mem = elim mem [ ]
-placed_plain p n (set l i r) s h (here e) = subst (λ (x : Placed). optional_refs x.label.refs ≡ []) e (none_optional l.refs h.0.refs)
+placed_plain p n (set l i r) s h (here e) = subst (λ (x : NumberedSet). optional_refs x.label.refs ≡ []) e (none_optional l.refs h.0.refs)
 placed_plain p n (set l i r) s h (there mem) =
-    elim (from_append (placed (Some n) (suc n) i) mem) [
+    elim (from_append (numbered_sets (Some n) (suc n) i) mem) [
       | inl a ↦ placed_plain (Some n) (suc n) i s h.1 a
       | inr b ↦ placed_plain p (suc (n + count i)) r s h.2 b
     ]
@@ -56,11 +56,11 @@ none_said version [] earlier h = refl
 none_said version (d ∷ ds) earlier h = absurd (false≢true (sym earlier ∙ h d (here refl)))
 
 -- so no set of a forest that a text of an earlier version can say has a dependency
-placed_keyed : (version : ℕ) (p : Option ℕ) (n : ℕ) (f : Forest) (s : Placed) → since_three version ≡ false → AreOfVersion version f → s ∈ placed p n f → s.label.deps ≡ []
+placed_keyed : (version : ℕ) (p : Option ℕ) (n : ℕ) (f : Forest) (s : NumberedSet) → since_three version ≡ false → AreOfVersion version f → s ∈ numbered_sets p n f → s.label.deps ≡ []
 placed_keyed version p n none s earlier h mem = elim mem [ ]
-placed_keyed version p n (set l i r) s earlier h (here e) = subst (λ (x : Placed). x.label.deps ≡ []) e (none_said version l.deps earlier h.0.deps)
+placed_keyed version p n (set l i r) s earlier h (here e) = subst (λ (x : NumberedSet). x.label.deps ≡ []) e (none_said version l.deps earlier h.0.deps)
 placed_keyed version p n (set l i r) s earlier h (there mem) =
-    elim (from_append (placed (Some n) (suc n) i) mem) [
+    elim (from_append (numbered_sets (Some n) (suc n) i) mem) [
       | inl a ↦ placed_keyed version (Some n) (suc n) i s earlier h.1 a
       | inr b ↦ placed_keyed version p (suc (n + count i)) r s earlier h.2 b
     ]
@@ -75,7 +75,7 @@ keys_alone text m is earlier =
     let w = said_is_writable text m is in
     record { source = no_dependency m.version m.source earlier w.0.sayable; target = no_dependency m.version m.target earlier w.1.sayable }
 
-before_three : (version : ℕ) → IsKnown version → version < 3 → since_three version ≡ false
+before_three : (version : ℕ) → IsKnownVersion version → version < 3 → since_three version ≡ false
 before_three _ the_first less = refl
 before_three _ the_second less = refl
 before_three _ the_third less = absurd (omega arith)

@@ -17,7 +17,7 @@ pub record HasKeysAlone (m : MappingText) : Type 0 where
   pub target : HasNoDependency m.target
 
 -- a mapping that has no optional link, no condition and no dependency
-pub record IsPlain (m : MappingText) : Type 0 where
+pub record IsPlainMapping (m : MappingText) : Type 0 where
   pub source : HasNoOptional (model_tables m.source)
   pub target : HasNoOptional (model_tables m.target)
   pub conditions : m.conditions ≡ []
@@ -25,7 +25,7 @@ pub record IsPlain (m : MappingText) : Type 0 where
 
 -- each text of version 1 says one
 abbrev pub FirstVersionIsPlain : Type 0
-FirstVersionIsPlain = (text : List ℕ) (m : MappingText) → IsMappingText text m → m.version ≡ 1 → IsPlain m
+FirstVersionIsPlain = (text : List ℕ) (m : MappingText) → IsMappingText text m → m.version ≡ 1 → IsPlainMapping m
 
 -- each text of a version before 3 says a mapping that has no dependency
 abbrev pub EarlierHaveKeysAlone : Type 0

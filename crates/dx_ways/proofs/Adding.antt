@@ -8,7 +8,7 @@ use Rattle.dx_ports.specs.Members.{◌∈◌, here, there}
 use Rattle.dx_lines.specs.declared.candidate.Pick.{Pick}
 use Rattle.dx_lines.specs.Ways.{pick_cmp, put_by, put_in, ascending}
 use Rattle.dx_lines.proofs.Ascending.{from_put, from_ascending}
-use Rattle.dx_ways.specs.Laws.{Ascends}
+use Rattle.dx_ways.specs.Laws.{PicksAscend}
 use Rattle.dx_ways.specs.Tried.{put_all}
 use Rattle.dx_ways.proofs.Order.{one_ascending}
 use Rattle.dx_ways.proofs.Puts.{to_put, to_ascending, put_ascends, ascending_ascends}
@@ -56,12 +56,12 @@ to_all out (x ∷ xs) t (inl m) = to_all (put_in x out) xs t (inl (to_put x out 
 to_all out (x ∷ xs) t (inr (here e)) = to_all (put_in x out) xs t (inl (to_put x out t (inl e)))
 to_all out (x ∷ xs) t (inr (there m)) = to_all (put_in x out) xs t (inr m)
 
-pub all_ascends : (out xs : List Pick) → Ascends out → Ascends (put_all out xs)
+pub all_ascends : (out xs : List Pick) → PicksAscend out → PicksAscend (put_all out xs)
 all_ascends out [] a = a
 all_ascends out (x ∷ xs) a = all_ascends (put_in x out) xs (put_ascends x out a)
 
 -- the same members make the same list
-pub all_same : (out xs ys : List Pick) → Ascends out → ((k : Pick) → (k ∈ xs) ↔ (k ∈ ys)) → put_all out xs ≡ put_all out ys
+pub all_same : (out xs ys : List Pick) → PicksAscend out → ((k : Pick) → (k ∈ xs) ↔ (k ∈ ys)) → put_all out xs ≡ put_all out ys
 all_same out xs ys a h =
     one_ascending (put_all out xs) (put_all out ys) (all_ascends out xs a) (all_ascends out ys a) (λ k. ((λ m. over k xs ys (h k).0 (from_all out xs k m)), (λ m. over k ys xs (h k).1 (from_all out ys k m))))
   where

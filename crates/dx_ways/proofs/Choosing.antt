@@ -11,8 +11,8 @@ use Rattle.dx_lines.specs.declared.line.Origin.{Origin}
 use Rattle.dx_lines.specs.declared.line.Origin.TheVariants.{Column, Literal, Call as Converted}
 use Rattle.dx_lines.specs.declared.term.Term.{Term}
 use Rattle.dx_lines.specs.declared.term.Term.TheVariants.{Var, Call}
-use Rattle.dx_lines.specs.Ways.{is_of, variable_in, named, with_table, choices, variable_at, term_by}
-use Rattle.dx_ways.specs.Laws.{seen_at, TermBy, Chosen}
+use Rattle.dx_lines.specs.Ways.{is_of, variable_in, named_columns, with_table, occurrence_choices, variable_at, term_by}
+use Rattle.dx_ways.specs.Laws.{seen_at, TermBy, ChoosesOf}
 use Rattle.dx_ports.proofs.Tests.{from_filter, to_filter, map_same}
 
 -- ---- the first occurrence of a table
@@ -99,21 +99,21 @@ to_with P t f c0 i e h = elim (cases_Bool (list_any (is_of t) c0)) [
       )
 ]
 
-pub from_choices : (P : List Occurrence) (places : List Place) (c : List Occurrence) → c ∈ choices P places → Inside P c × HasTables c places
+pub from_choices : (P : List Occurrence) (places : List Place) (c : List Occurrence) → c ∈ occurrence_choices P places → Inside P c × HasTables c places
 from_choices P [] c (here e) = ((λ o m. none o (rw (← e) at m)), (λ a m. elim m [ ]))
   where
     none : (o : Occurrence) → o ∈ [] → o ∈ P
     none o m = elim m [ ]
 from_choices P [] c (there m) = elim m [ ]
 from_choices P (a ∷ more) c m =
-    let r = from_flat_map (with_table P a.table) (choices P more) m in
+    let r = from_flat_map (with_table P a.table) (occurrence_choices P more) m in
     let h = from_choices P more r.0 r.1 in
     let w = from_with P a.table r.0 c r.2 in
     (w.inside h.0, has_more a more c w.has (w.wider more h.1))
 
 -- a function that chooses gives a choice
-pub to_choices : (P : List Occurrence) (places : List Place) (f : ℕ → Occurrence) → Each places (Chosen P f)
-    → (c : List Occurrence) × (c ∈ choices P places) × IsBy f c
+pub to_choices : (P : List Occurrence) (places : List Place) (f : ℕ → Occurrence) → Each places (ChoosesOf P f)
+    → (c : List Occurrence) × (c ∈ occurrence_choices P places) × IsBy f c
 to_choices P [] f h = ([], here refl, (λ o m. elim m [ ]))
 to_choices P (a ∷ more) f h =
     let r = to_choices P more f (λ b m. h b (there m)) in
@@ -131,13 +131,13 @@ from_term_by c (Literal s) t m = elim m [ ]
 from_term_by c (Converted code args) t (here e) = sym e ∙ ap (λ (xs : List ℕ). Call code xs) (map_same (variable_at c) (seen_at (first_of c)) args (λ a m. variable_is c a))
 from_term_by c (Converted code args) t (there m) = elim m [ ]
 
-pub to_term_by : (c : List Occurrence) (f : ℕ → Occurrence) (s : Origin) (t : Term) → Each (named s) (λ a. variable_at c a ≡ seen_at f a) → TermBy f s t → t ∈ term_by s c
+pub to_term_by : (c : List Occurrence) (f : ℕ → Occurrence) (s : Origin) (t : Term) → Each (named_columns s) (λ a. variable_at c a ≡ seen_at f a) → TermBy f s t → t ∈ term_by s c
 to_term_by c f (Column a) t h e = here (ap Var (h a (here refl)) ∙ sym e)
 to_term_by c f (Literal s) t h e = absurd e
 to_term_by c f (Converted code args) t h e = here (ap (λ (xs : List ℕ). Call code xs) (map_same (variable_at c) (seen_at f) args h) ∙ sym e)
 
 -- the first of each table is chosen among P
-pub first_chosen : (P c : List Occurrence) (places : List Place) → Inside P c → HasTables c places → Each places (Chosen P (first_of c))
+pub first_chosen : (P c : List Occurrence) (places : List Place) → Inside P c → HasTables c places → Each places (ChoosesOf P (first_of c))
 first_chosen P c places i h a m = let f = first_is c a.table (h a m) in (i (first_of c a.table) f.0, f.1)
 
 -- a choice by f shows what f chooses

@@ -14,7 +14,7 @@ use Rattle.dx_lines.specs.declared.term.Term.{Term}
 use Rattle.dx_lines.specs.declared.term.Term.TheVariants.{Var, Call}
 use Rattle.dx_lines.specs.declared.candidate.Pick.{Pick}
 use Rattle.dx_lines.specs.Ways.{pick, term_cmp, pick_cmp}
-use Rattle.dx_ways.specs.Laws.{Ascends, OneAscending}
+use Rattle.dx_ways.specs.Laws.{PicksAscend, OnePickList}
 
 -- ---- the order
 
@@ -102,7 +102,7 @@ first_same j k js ks a b (here e) n = e
 first_same j k js ks a b (there m) (here e) = sym e
 first_same j k js ks a b (there m) (there n) = absurd (not_both j k (a k n) (b j m))
 
-pub one_ascending : OneAscending
+pub one_ascending : OnePickList
 one_ascending [] [] a b h = refl
 one_ascending [] (k ∷ ks) a b h = elim ((h k).1 (here refl)) [ ]
 one_ascending (j ∷ js) [] a b h = elim ((h j).0 (here refl)) [ ]
@@ -119,7 +119,7 @@ in_later j k js ks a b h n i (here e) = subst (λ (z : Pick). z ∈ ks) e n
 in_later j k js ks a b h n i (there m) = in_rest i k ks (not_same k i (pick_total.trans k j i (b j n) (a i m))) (h i (there m))
 
 -- a list that ascends is no longer than one that ascends and has its members
-pub no_longer : (js ks : List Pick) → Ascends js → Ascends ks → js ⊆ ks → length js ≤ length ks
+pub no_longer : (js ks : List Pick) → PicksAscend js → PicksAscend ks → js ⊆ ks → length js ≤ length ks
 no_longer [] ks a b h = omega arith
 no_longer (j ∷ js) [] a b h = elim (h j (here refl)) [ ]
 no_longer (j ∷ js) (k ∷ ks) a b h =

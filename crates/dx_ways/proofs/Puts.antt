@@ -6,7 +6,7 @@ use Rattle.dx_ports.specs.Members.{◌∈◌, here, there, Each}
 use Rattle.dx_lines.specs.declared.candidate.Pick.{Pick}
 use Rattle.dx_lines.specs.Ways.{pick_cmp, put_by, put_in, ascending}
 use Rattle.dx_lines.proofs.Ascending.{from_put}
-use Rattle.dx_ways.specs.Laws.{Ascends}
+use Rattle.dx_ways.specs.Laws.{PicksAscend}
 use Rattle.dx_ways.proofs.Order.{pick_total, pick_exact, above}
 
 -- ---- members
@@ -39,15 +39,15 @@ below_first x y ys l a i (there m) = pick_total.trans x y i l (a i m)
 below_put : (x y : Pick) (ys : List Pick) → pick_cmp y x ≡ Less → Each ys (λ i. pick_cmp y i ≡ Less) → Each (put_in x ys) (λ i. pick_cmp y i ≡ Less)
 below_put x y ys l a i m = elim (from_put x ys i m) [ inl e ↦ subst (λ (z : Pick). pick_cmp y z ≡ Less) e l | inr n ↦ a i n ]
 
-ascends_by : (o : Ordering) (x y : Pick) (ys : List Pick) → pick_cmp x y ≡ o → Ascends (y ∷ ys) → Ascends (put_in x ys) → Ascends (put_by o x y ys (put_in x ys))
+ascends_by : (o : Ordering) (x y : Pick) (ys : List Pick) → pick_cmp x y ≡ o → PicksAscend (y ∷ ys) → PicksAscend (put_in x ys) → PicksAscend (put_by o x y ys (put_in x ys))
 ascends_by Less x y ys e a h = (below_first x y ys e a.0, a)
 ascends_by Equal x y ys e a h = a
 ascends_by Greater x y ys e a h = (below_put x y ys (above x y e) a.0, h)
 
-pub put_ascends : (x : Pick) (xs : List Pick) → Ascends xs → Ascends (put_in x xs)
+pub put_ascends : (x : Pick) (xs : List Pick) → PicksAscend xs → PicksAscend (put_in x xs)
 put_ascends x [] a = ((λ i m. elim m [ ]), tt)
 put_ascends x (y ∷ ys) a = ascends_by (pick_cmp x y) x y ys refl a (put_ascends x ys a.1)
 
-pub ascending_ascends : (xs : List Pick) → Ascends (ascending xs)
+pub ascending_ascends : (xs : List Pick) → PicksAscend (ascending xs)
 ascending_ascends [] = tt
 ascending_ascends (x ∷ xs) = put_ascends x (ascending xs) (ascending_ascends xs)

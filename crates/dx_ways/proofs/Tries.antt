@@ -14,8 +14,8 @@ use Rattle.dx_lines.specs.declared.line.Line.{Line}
 use Rattle.dx_lines.specs.declared.term.Term.{Term}
 use Rattle.dx_lines.specs.declared.term.Term.TheVariants.{Var, Call}
 use Rattle.dx_lines.specs.declared.candidate.Pick.{Pick}
-use Rattle.dx_lines.specs.Ways.{is_of, variable_in, named, with_table, term_by, pick, put_in, line_ways, ways}
-use Rattle.dx_ways.specs.Laws.{Ascends, TermBy, Chosen, seen_at}
+use Rattle.dx_lines.specs.Ways.{is_of, variable_in, named_columns, with_table, term_by, pick, put_in, line_ways, ways}
+use Rattle.dx_ways.specs.Laws.{PicksAscend, TermBy, ChoosesOf, seen_at}
 use Rattle.dx_ways.specs.Tried.{put_all, with_unlike, column_of, agrees_in, is_like, has_tables, one_or_none, picks_by, tried}
 use Rattle.dx_ways.proofs.Choosing.{first_of, Inside, HasTables, IsBy, has_more, IsWith, from_with, to_with, from_term_by, to_term_by, first_chosen, seen_by}
 use Rattle.dx_ways.proofs.WaysAre.{IsLineWay, from_line, to_line}
@@ -52,7 +52,7 @@ from_tried s ys P (a ∷ more) c0 k m =
     let g = from_tried s ys P more r.0 k r.2 in
     (g.0, grown_more P a more c0 r.0 g.0 (from_with P a.table c0 r.0 r.1) g.1, g.2)
 
-to_tried : (s : Origin) (ys : List ℕ) (P : List Occurrence) (places : List Place) (f : ℕ → Occurrence) (c0 : List Occurrence) → Each places (Chosen P f) → IsBy f c0
+to_tried : (s : Origin) (ys : List ℕ) (P : List Occurrence) (places : List Place) (f : ℕ → Occurrence) (c0 : List Occurrence) → Each places (ChoosesOf P f) → IsBy f c0
     → (c : List Occurrence) × Grown P places c0 c × IsBy f c × (picks_by s ys c ⊆ tried s ys P places c0)
 to_tried s ys P [] f c0 h b = (c0, grown_none P c0, b, (λ k m. m))
 to_tried s ys P (a ∷ more) f c0 h b =
@@ -94,7 +94,7 @@ like_shows places o p a l t m =
     by true c e h = h
     by false c e h = absurd (false≢true e)
 
-term_same : (f g : ℕ → Occurrence) (s : Origin) (t : Term) → Each (named s) (λ a. seen_at f a ≡ seen_at g a) → TermBy f s t → TermBy g s t
+term_same : (f g : ℕ → Occurrence) (s : Origin) (t : Term) → Each (named_columns s) (λ a. seen_at f a ≡ seen_at g a) → TermBy f s t → TermBy g s t
 term_same f g (Column a) t h e = e ∙ ap Var (h a (here refl))
 term_same f g (Literal u) t h e = e
 term_same f g (Converted code args) t h e = e ∙ ap (λ (xs : List ℕ). Call code xs) (map_same (seen_at f) (seen_at g) args h)
@@ -107,7 +107,7 @@ ys_of Q l = with_unlike eqb [] (column_of l.target Q)
 
 -- the occurrences that differ in the columns that it names
 abbrev pub os_of : List Occurrence → Line → List Occurrence
-os_of P l = with_unlike (is_like (named l.source)) [] P
+os_of P l = with_unlike (is_like (named_columns l.source)) [] P
 
 variable_stands : (Q : List Occurrence) (l : Line) (y : ℕ) → y ∈ ys_of Q l → (o : Occurrence) × (o ∈ Q) × (o.table ≡ l.target.table) × (variable_in o l.target.column ≡ y)
 variable_stands Q l y m = elim (from_unlike eqb [] (column_of l.target Q) m) [
@@ -126,57 +126,57 @@ stands_variable Q l o y m t v =
 
 -- what f chooses, by the first that is like it
 abbrev rep : List Occurrence → Line → (ℕ → Occurrence) → ℕ → Occurrence
-rep P l f t = first_like (is_like (named l.source)) (os_of P l) (f t)
+rep P l f t = first_like (is_like (named_columns l.source)) (os_of P l) (f t)
 
-rep_is : (P : List Occurrence) (l : Line) (f : ℕ → Occurrence) → Each (named l.source) (Chosen P f) → (a : Place) → a ∈ named l.source
+rep_is : (P : List Occurrence) (l : Line) (f : ℕ → Occurrence) → Each (named_columns l.source) (ChoosesOf P f) → (a : Place) → a ∈ named_columns l.source
     → (rep P l f a.table ∈ os_of P l) × ((rep P l f a.table).table ≡ a.table) × (seen_at (rep P l f) a ≡ seen_at f a)
 rep_is P l f h a m =
     let p = h a m in
-    let r = to_unlike (is_like (named l.source)) (like_itself (named l.source)) [] P p.0 in
-    let k = first_like_is (is_like (named l.source)) (os_of P l) (f a.table) (to_any (λ (y : Occurrence). is_like (named l.source) y (f a.table)) (os_of P l) r.1 r.2) in
-    let s = like_shows (named l.source) (rep P l f a.table) (f a.table) a k.1 p.1 m in
+    let r = to_unlike (is_like (named_columns l.source)) (like_itself (named_columns l.source)) [] P p.0 in
+    let k = first_like_is (is_like (named_columns l.source)) (os_of P l) (f a.table) (to_any (λ (y : Occurrence). is_like (named_columns l.source) y (f a.table)) (os_of P l) r.1 r.2) in
+    let s = like_shows (named_columns l.source) (rep P l f a.table) (f a.table) a k.1 p.1 m in
     (k.0, s.0, s.1)
 
-from_line_tried : (P Q : List Occurrence) (l : Line) (k : Pick) → k ∈ tried l.source (ys_of Q l) (os_of P l) (named l.source) [] → k ∈ line_ways P Q l
+from_line_tried : (P Q : List Occurrence) (l : Line) (k : Pick) → k ∈ tried l.source (ys_of Q l) (os_of P l) (named_columns l.source) [] → k ∈ line_ways P Q l
 from_line_tried P Q l k m =
-    let g = from_tried l.source (ys_of Q l) (os_of P l) (named l.source) [] k m in
+    let g = from_tried l.source (ys_of Q l) (os_of P l) (named_columns l.source) [] k m in
     let c = g.0 in
     let t = from_flat_map (λ (u : Term). map (λ (y : ℕ). pick y u) (ys_of Q l)) (term_by l.source c) g.2 in
     let y = from_map (λ (z : ℕ). pick z t.0) (ys_of Q l) t.2 in
     let o = variable_stands Q l y.0 y.1 in
     let i : Inside (os_of P l) c = g.1.inside (λ p n. elim n [ ]) in
-    let h = first_chosen (os_of P l) c (named l.source) i g.1.has in
+    let h = first_chosen (os_of P l) c (named_columns l.source) i g.1.has in
     to_line P Q l k (record {
       target = o.0;
       is_in = o.1;
       is_there = o.2;
       has = o.3 ∙ ap (λ (j : Pick). j.variable) y.2;
       choice = first_of c;
-      chosen = λ a n. let q = h a n in (elim (from_unlike (is_like (named l.source)) [] P q.0) [ inl z ↦ elim z [ ] | inr z ↦ z ], q.1);
+      chosen = λ a n. let q = h a n in (elim (from_unlike (is_like (named_columns l.source)) [] P q.0) [ inl z ↦ elim z [ ] | inr z ↦ z ], q.1);
       term = subst (TermBy (first_of c) l.source) (ap (λ (j : Pick). j.term) y.2) (from_term_by c l.source t.0 t.1);
     })
 
-to_line_tried : (P Q : List Occurrence) (l : Line) (k : Pick) → IsLineWay P Q l k → k ∈ tried l.source (ys_of Q l) (os_of P l) (named l.source) []
+to_line_tried : (P Q : List Occurrence) (l : Line) (k : Pick) → IsLineWay P Q l k → k ∈ tried l.source (ys_of Q l) (os_of P l) (named_columns l.source) []
 to_line_tried P Q l k w =
     let f = rep P l w.choice in
-    let chosen : Each (named l.source) (Chosen (os_of P l) f) = λ a m. let r = rep_is P l w.choice w.chosen a m in (r.0, r.1) in
-    let g = to_tried l.source (ys_of Q l) (os_of P l) (named l.source) f [] chosen (λ o m. elim m [ ]) in
+    let chosen : Each (named_columns l.source) (ChoosesOf (os_of P l) f) = λ a m. let r = rep_is P l w.choice w.chosen a m in (r.0, r.1) in
+    let g = to_tried l.source (ys_of Q l) (os_of P l) (named_columns l.source) f [] chosen (λ o m. elim m [ ]) in
     let t : TermBy f l.source k.term = term_same w.choice f l.source k.term (λ a m. sym (rep_is P l w.choice w.chosen a m).2) w.term in
-    let u = to_term_by g.0 f l.source k.term (seen_by g.0 f (named l.source) g.1.has g.2) t in
+    let u = to_term_by g.0 f l.source k.term (seen_by g.0 f (named_columns l.source) g.1.has g.2) t in
     let y = stands_variable Q l w.target k.variable w.is_in w.is_there w.has in
     g.3 k (in_flat_map (λ (v : Term). map (λ (z : ℕ). pick z v) (ys_of Q l)) u (in_map (λ (z : ℕ). pick z k.term) y))
 
 -- what is tried is put in with the same outcome
-pub line_same : (P Q : List Occurrence) (l : Line) (out : List Pick) (places : List Place) (ys : List ℕ) (os c : List Occurrence) → Ascends out → places ≡ named l.source → ys ≡ ys_of Q l
+pub line_same : (P Q : List Occurrence) (l : Line) (out : List Pick) (places : List Place) (ys : List ℕ) (os c : List Occurrence) → PicksAscend out → places ≡ named_columns l.source → ys ≡ ys_of Q l
     → os ≡ with_unlike (is_like places) [] P → c ≡ [] → put_all out (tried l.source ys os places c) ≡ put_all out (line_ways P Q l)
 line_same P Q l out places ys os c a n e d b = rw (d, e, n, b)
-    (all_same out (tried l.source (ys_of Q l) (os_of P l) (named l.source) []) (line_ways P Q l) a (λ k. (from_line_tried P Q l k, (λ m. to_line_tried P Q l k (from_line P Q l k m)))))
+    (all_same out (tried l.source (ys_of Q l) (os_of P l) (named_columns l.source) []) (line_ways P Q l) a (λ k. (from_line_tried P Q l k, (λ m. to_line_tried P Q l k (from_line P Q l k m)))))
 
 -- where nothing is given, nothing is put in
-nothing : (out xs : List Pick) → Ascends out → ((k : Pick) → ¬ (k ∈ xs)) → out ≡ put_all out xs
+nothing : (out xs : List Pick) → PicksAscend out → ((k : Pick) → ¬ (k ∈ xs)) → out ≡ put_all out xs
 nothing out xs a n = all_same out [] xs a (λ k. ((λ m. elim m [ ]), (λ m. absurd (n k m))))
 
-pub literal_none : (P Q : List Occurrence) (l : Line) (u : List ℕ) (out : List Pick) → Ascends out → l.source ≡ Literal u → out ≡ put_all out (line_ways P Q l)
+pub literal_none : (P Q : List Occurrence) (l : Line) (u : List ℕ) (out : List Pick) → PicksAscend out → l.source ≡ Literal u → out ≡ put_all out (line_ways P Q l)
 literal_none P Q l u out a e = nothing out (line_ways P Q l) a (λ k m. let w = from_line P Q l k m in no w.choice l.source k.term e w.term)
   where
     no : (f : ℕ → Occurrence) (s : Origin) (t : Term) → s ≡ Literal u → ¬ (TermBy f s t)
@@ -184,7 +184,7 @@ literal_none P Q l u out a e = nothing out (line_ways P Q l) a (λ k m. let w = 
     no f (Literal v) t d h = h
     no f (Converted code args) t d h = absurd (cc)
 
-pub no_variables : (P Q : List Occurrence) (l : Line) (out : List Pick) (ys : List ℕ) → Ascends out → ys ≡ ys_of Q l → ys ≡ [] → out ≡ put_all out (line_ways P Q l)
+pub no_variables : (P Q : List Occurrence) (l : Line) (out : List Pick) (ys : List ℕ) → PicksAscend out → ys ≡ ys_of Q l → ys ≡ [] → out ≡ put_all out (line_ways P Q l)
 no_variables P Q l out ys a e d = nothing out (line_ways P Q l) a (λ k m.
     let w = from_line P Q l k m in
     none k.variable (subst (λ (zs : List ℕ). k.variable ∈ zs) (sym e ∙ d) (stands_variable Q l w.target k.variable w.is_in w.is_there w.has)))
@@ -192,11 +192,11 @@ no_variables P Q l out ys a e d = nothing out (line_ways P Q l) a (λ k m.
     none : (y : ℕ) → ¬ (y ∈ [])
     none y m = elim m [ ]
 
-pub no_tables : (P Q : List Occurrence) (l : Line) (out : List Pick) (places : List Place) (os : List Occurrence) → Ascends out → places ≡ named l.source → os ≡ with_unlike (is_like places) [] P
+pub no_tables : (P Q : List Occurrence) (l : Line) (out : List Pick) (places : List Place) (os : List Occurrence) → PicksAscend out → places ≡ named_columns l.source → os ≡ with_unlike (is_like places) [] P
     → has_tables os places ≡ false → out ≡ put_all out (line_ways P Q l)
 no_tables P Q l out places os a n e f = nothing out (line_ways P Q l) a (λ k m.
     let w = from_line P Q l k m in
-    let t : has_tables (os_of P l) (named l.source) ≡ true = all_true (λ (b : Place). list_any (is_of b.table) (os_of P l)) (named l.source) (λ b i.
+    let t : has_tables (os_of P l) (named_columns l.source) ≡ true = all_true (λ (b : Place). list_any (is_of b.table) (os_of P l)) (named_columns l.source) (λ b i.
     let r = rep_is P l w.choice w.chosen b i in
     to_any (is_of b.table) (os_of P l) r.0 (eq-eqb (rep P l w.choice b.table).table b.table r.1)) in
     true≢false (sym t ∙ (rw (e, n) at f)))
@@ -278,5 +278,5 @@ pub line_step : (P Q : List Occurrence) (lines : List Line) (i : ℕ) (l : Line)
 line_step P Q lines i l out new whole h e n k =
     rest_same out new (line_ways P Q l) (flat_map (line_ways P Q) (drop (i + 1) lines)) whole (ap (put_all out) (sym (line_next P Q lines i l h e)) ∙ k) n
 
-pub still_ascends : (P Q : List Occurrence) (l : Line) (out new : List Pick) → Ascends out → new ≡ put_all out (line_ways P Q l) → Ascends new
+pub still_ascends : (P Q : List Occurrence) (l : Line) (out new : List Pick) → PicksAscend out → new ≡ put_all out (line_ways P Q l) → PicksAscend new
 still_ascends P Q l out new a n = rw (n) (all_ascends out (line_ways P Q l) a)

@@ -9,10 +9,6 @@ use Rattle.dx_lines.specs.declared.term.Term.{Term}
 use Rattle.dx_lines.specs.declared.candidate.Pick.{Pick}
 use Rattle.dx_lines.specs.Ways.{is_of, variable_in, with_table, term_by, pick, put_in}
 
--- what stands behind references
-abbrev pub behind : {X : Type 0} → List (Bor X) → List X
-behind rs = map (λ r. r.now) rs
-
 -- more picks than are accepted
 abbrev pub AreTooMany : List Pick → Type 0
 AreTooMany picks = 64 < length picks
@@ -31,7 +27,7 @@ with_unlike like out (x ∷ xs) = with_unlike like (cond (list_any (λ y. like y
 abbrev pub column_of : Place → List Occurrence → List ℕ
 column_of a Q = map (λ o. variable_in o a.column) (filter (is_of a.table) Q)
 
--- where this is a column of o's table, o and p have the same variable in it
+-- if this is a column of o's table, o and p have the same variable in it
 abbrev pub agrees_in : Occurrence → Occurrence → Place → Bool
 agrees_in o p a = not (is_of a.table o) || eqb (variable_in o a.column) (variable_in p a.column)
 

@@ -3,8 +3,8 @@ ghost use Rattle.std.specs.Prelude.{◌≡◌, ◌≤◌, ◌<◌, IfOk, IfErr, 
 ghost use Rattle.dx_ports.specs.Members.{Each};
 ghost use Rattle.dx_lines.specs.Ways.{line_ways, ways as ways_of};
 ghost use Rattle.dx_ways.specs.declared.fault.WaysFault.TheVariants.{TooMany};
-ghost use Rattle.dx_lines.specs.Reading.{IsRead, IsReached};
-ghost use Rattle.dx_ways.specs.Laws.{Ascends};
+ghost use Rattle.dx_lines.specs.Reading.{CanBeRead, IsReached};
+ghost use Rattle.dx_ways.specs.Laws.{PicksAscend};
 ghost use Rattle.dx_ways.specs.Tried.{put_all};
 
 use crate::fault::WaysFault;
@@ -22,7 +22,7 @@ fn add_line(
     to: &[Occurrence],
     found: &mut Vec<Pick>,
 ) -> Result<(), WaysFault>
-    requires ascends { Ascends found.old.items }
+    requires ascends { PicksAscend found.old.items }
     requires few { length found.old.items ≤ 64 }
     ensures all { OnOk result (found.new.items ≡ put_all found.old.items (line_ways from.now to.now line.now)) }
     ensures few { OnOk result (length found.new.items ≤ 64) }
@@ -47,14 +47,14 @@ fn add_line(
 ///
 /// # Errors
 ///
-/// `TooMany` where there are more than 64 ways. `Memory` if there is no memory.
+/// `TooMany` if there are more than 64 ways. `Memory` if there is no memory.
 pub fn ways(
     alloc: Global,
     lines: &[Line],
     from: &[Occurrence],
     to: &[Occurrence],
 ) -> Result<Vec<Pick>, WaysFault>
-    requires from { Each lines.now (IsRead from.now) }
+    requires from { Each lines.now (CanBeRead from.now) }
     requires to { Each lines.now (IsReached to.now) }
     ensures ways { IfOk result (λ found. found.items ≡ ways_of lines.now from.now to.now) }
     ensures few { IfOk result (λ found. length found.items ≤ 64) }

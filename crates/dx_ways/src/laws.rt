@@ -1,7 +1,7 @@
 // The laws of ways. The definitions alone carry them: the bodies compute nothing.
-ghost use Rattle.dx_ways.specs.Laws.{OneAscending, WaysAre, WaysAscend, WaysGrow};
+ghost use Rattle.dx_ways.specs.Laws.{OnePickList, WaysAre, WaysAscend, WaysGrow};
 
-/// A pick is in the list of ways exactly where some line, an occurrence of its target table, and a choice of an
+/// A pick is in the list of ways exactly if some line, an occurrence of its target table, and a choice of an
 /// occurrence for each table that its source names give it.
 pub fn ways_are()
     ensures { WaysAre }

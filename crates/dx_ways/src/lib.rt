@@ -1,7 +1,7 @@
 //! The ways that lines give between the occurrences of two unfoldings.
 //!
-//! `ways` gives exactly the ascending list of `dx_lines` (specs/Ways), where it has no more than 64 members, and answers
-//! `TooMany` only where it has more. It tries one choice of occurrences after another, among those that differ in the
+//! `ways` gives exactly the ascending list of `dx_lines` (specs/Ways), if it has no more than 64 members, and answers
+//! `TooMany` only if it has more. It tries one choice of occurrences after another, among those that differ in the
 //! columns that a line names (specs/Tried), and stops at the 65th way. specs/Laws says what the list is: its members,
 //! without a list, that it ascends, and that it grows with the occurrences.
 #![tactic(auto)]

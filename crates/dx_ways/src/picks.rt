@@ -1,7 +1,7 @@
 // Picks: their order, and lists of them.
 ghost use Rattle.std.specs.Prelude.{◌≡◌, IfOk};
 ghost use Rattle.dx_lines.specs.Ways.{pick_cmp, term_cmp};
-ghost use Rattle.dx_lines.specs.Kept.{is_among as is_among_of};
+ghost use Rattle.dx_lines.specs.Kept.{is_pick_among as is_among_of};
 
 use dx_lines::{Pick, Term};
 use dx_ports::Items;

@@ -2,7 +2,8 @@
 ghost use Rattle.std.specs.Prelude.{◌≡◌, ◌≤◌, ◌<◌, ◌∷◌, List, IfOk, IfErr, OnOk, insert, length, map};
 ghost use Rattle.dx_ways.specs.declared.fault.WaysFault.TheVariants.{TooMany};
 ghost use Rattle.dx_lines.specs.Ways.{pick, put_in};
-ghost use Rattle.dx_ways.specs.Tried.{AreTooMany, behind, picks_by, put_all, tried};
+ghost use Rattle.dx_ways.specs.Tried.{AreTooMany, picks_by, put_all, tried};
+ghost use Rattle.dx_ports.specs.Members.{behind};
 
 use crate::fault::WaysFault;
 use crate::picks::{copy_term, pick_order};
@@ -37,7 +38,7 @@ fn insert_pick(found: &mut Vec<Pick>, place: usize, pick: Pick) -> Result<(), Al
     Ok(())
 }
 
-/// Puts a pick into an ascending list, where it isn't there.
+/// Puts a pick into an ascending list, if it isn't there.
 fn put_pick(found: &mut Vec<Pick>, pick: Pick) -> Result<(), WaysFault>
     requires { length found.old.items ≤ 64 }
     ensures put { OnOk result (found.new.items ≡ put_in pick found.old.items) }

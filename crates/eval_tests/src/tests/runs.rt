@@ -4,7 +4,7 @@ ghost use Rattle.dx_funcs.specs.Offers.{IsListed};
 ghost use Rattle.dx_funcs.specs.Serving.{Serves, offered};
 ghost use Rattle.dx_funcs.specs.Shipped.{shipped_apply, shipped_conversions};
 ghost use Rattle.dx_instance.specs.Stored.{widths};
-ghost use Rattle.dx_schema.specs.Names.{named_of};
+ghost use Rattle.dx_schema.specs.Names.{table_names_of};
 ghost use Rattle.dx_schema.specs.Tables.{schema_widths};
 ghost use Rattle.dx_script.specs.Fits.{FitsScript};
 ghost use Rattle.clio_accept.specs.Laws.{MappingFits};
@@ -410,7 +410,7 @@ fn is_exact<F: Fn(u32, &Items<Text>) -> Result<Text, AllocError>, M: Meaning>(
     lines: &str,
 ) -> Result<bool, AllocError>
     requires serves { Serves F.Fn M.apply host.now }
-    requires fits { FitsScript (named_of mapping.now.source) (named_of mapping.now.target) (offered host.now) script.now.steps }
+    requires fits { FitsScript (table_names_of mapping.now.source) (table_names_of mapping.now.target) (offered host.now) script.now.steps }
     requires widths { widths rows.now ≡ schema_widths mapping.now.source }
 {
     let (source, target) = (&mapping.source, &mapping.target);

@@ -1,16 +1,13 @@
-use Rattle.std.proofs.Common.{Err, Ok}
 use Rattle.std.proofs.lemmas.Result.{err_from_is_err_and}
 use Rattle.dx_funcs.specs.Judging.{tested}
 use Rattle.dx_funcs.specs.Serving.{offered}
-use Rattle.dx_exchange.specs.declared.mode.Mode.TheVariants.{Plain}
-use Rattle.clio_source.proofs.Left.{ran_first}
-use Rattle.clio_ending.specs.Ending.{source_refusal}
 use Rattle.clio_steps.specs.declared.texts.Side.TheVariants.{First}
 use Rattle.clio_steps.specs.Steps.{Program, program, wanted}
-use Rattle.clio_answer.proofs.AnswerRuns.{answers_made, answers_stop, exchange_stops, finished, mapping_stops, query_stops, rows_stop, target_widths}
+use Rattle.clio_answer.proofs.AnswerFiles.{all_answered, no_answers, no_exchange, no_rows}
+use Rattle.clio_answer.proofs.AnswerRuns.{mapping_stops, query_stops, target_widths}
 use Rattle.clio_steps.proofs.Mappings.{mapping_fits}
 use Rattle.clio_steps.proofs.Plans.{rules_fit}
-use Rattle.clio_steps.proofs.SameExchange.{agreeing_widths, same_exchange}
+use Rattle.clio_steps.proofs.SameExchange.{agreeing_widths}
 use Rattle.clio_answer.proofs.answering.answer_files.Goals as goal
 
 pub returns-in_err-mapping : goal.returns-in_err-mapping
@@ -34,10 +31,8 @@ pub returns-in_err-rows : goal.returns-in_err-rows
 returns-in_err-rows g c =
     let P : Program = program (offered c.args.host.now) (tested c.args.tests.now) g.M.Meaning.apply g.M.Meaning.passes in
     let p = err_from_is_err_and c.from_residual-in_err-rows.result c.from_residual-in_err-rows.ensures.1 in
-    let read = c.in_err-rows.ensures in
-    let stop = c.in_err-rows.field-0.0 in
-    let M = c.in_ok-mapping.mapping in
-    rw (p.1, p.2) (rows_stop P M c.in_ok-query.query stop _ _ _ _ c.in_ok-mapping.ensures c.in_ok-query.ensures (ran_first source_refusal g.M.Meaning.passes (wanted M) (Err stop) _ _ read.2))
+    rw (p.1, p.2)
+    (no_rows P c.in_ok-mapping.mapping c.in_ok-query.query _ _ _ _ c.in_err-rows.field-0.0 c.in_ok-mapping.ensures c.in_ok-query.ensures c.in_err-rows.ensures)
 
 pub exchange_rows-requires-clause-fits : goal.exchange_rows-requires-clause-fits
 exchange_rows-requires-clause-fits g c =
@@ -53,14 +48,9 @@ pub returns-in_err-exchange : goal.returns-in_err-exchange
 returns-in_err-exchange g c =
     let P : Program = program (offered c.args.host.now) (tested c.args.tests.now) g.M.Meaning.apply g.M.Meaning.passes in
     let p = err_from_is_err_and c.from_residual-in_err-exchange.result c.from_residual-in_err-exchange.ensures.1 in
-    let M = c.in_ok-mapping.mapping in
-    let read = c.in_ok-rows.ensures in
-    let I = read.2.0 in
-    let source = ran_first source_refusal g.M.Meaning.passes (wanted M) (Ok (I, c.in_ok-rows.field-0-1)) _ _ read.2.3 in
-    let stop = c.in_err-exchange.field-0.0 in
-    let gives = same_exchange P Plain M read.0 I c.in_ok-rows.rows (Err stop) read.1 read.2.1 c.in_err-exchange.ensures in
-    let q = c.in_ok-query.query in
-    rw (p.1, p.2) (finished P M q I _ _ _ _ _ c.in_ok-mapping.ensures c.in_ok-query.ensures source (exchange_stops P M q I stop gives))
+    rw (p.1, p.2)
+    (no_exchange P c.in_ok-mapping.mapping c.in_ok-query.query _ _ _ _ c.in_ok-rows.rows c.in_ok-rows.field-0-1 c.in_err-exchange.field-0.0
+    c.in_ok-mapping.ensures c.in_ok-query.ensures c.in_ok-rows.ensures c.in_err-exchange.ensures)
 
 pub list_answers-requires : goal.list_answers-requires
 list_answers-requires g c =
@@ -71,24 +61,12 @@ pub returns-in_err-answers : goal.returns-in_err-answers
 returns-in_err-answers g c =
     let P : Program = program (offered c.args.host.now) (tested c.args.tests.now) g.M.Meaning.apply g.M.Meaning.passes in
     let p = err_from_is_err_and c.from_residual-in_err-answers.result c.from_residual-in_err-answers.ensures.1 in
-    let M = c.in_ok-mapping.mapping in
-    let read = c.in_ok-rows.ensures in
-    let I = read.2.0 in
-    let source = ran_first source_refusal g.M.Meaning.passes (wanted M) (Ok (I, c.in_ok-rows.field-0-1)) _ _ read.2.3 in
-    let e = c.in_ok-exchange.exchange in
-    let gives = same_exchange P Plain M read.0 I c.in_ok-rows.rows (Ok e) read.1 read.2.1 c.in_ok-exchange.ensures in
-    let q = c.in_ok-query.query in
-    rw (p.1, p.2) (finished P M q I _ _ _ _ _ c.in_ok-mapping.ensures c.in_ok-query.ensures source (answers_stop P M q I e c.in_err-answers.field-0.0 gives c.in_err-answers.ensures))
+    rw (p.1, p.2)
+    (no_answers P c.in_ok-mapping.mapping c.in_ok-query.query _ _ _ _ c.in_ok-rows.rows c.in_ok-rows.field-0-1 c.in_ok-exchange.exchange
+    c.in_err-answers.field-0.0 c.in_ok-mapping.ensures c.in_ok-query.ensures c.in_ok-rows.ensures c.in_ok-exchange.ensures c.in_err-answers.ensures)
 
 pub returns : goal.returns
 returns g c =
     let P : Program = program (offered c.args.host.now) (tested c.args.tests.now) g.M.Meaning.apply g.M.Meaning.passes in
-    let M = c.in_ok-mapping.mapping in
-    let read = c.in_ok-rows.ensures in
-    let I = read.2.0 in
-    let source = ran_first source_refusal g.M.Meaning.passes (wanted M) (Ok (I, c.in_ok-rows.field-0-1)) _ _ read.2.3 in
-    let e = c.in_ok-exchange.exchange in
-    let gives = same_exchange P Plain M read.0 I c.in_ok-rows.rows (Ok e) read.1 read.2.1 c.in_ok-exchange.ensures in
-    let q = c.in_ok-query.query in
-    let a = c.in_ok-answers.answers in
-    finished P M q I _ _ _ _ _ c.in_ok-mapping.ensures c.in_ok-query.ensures source (answers_made P M q I e a gives c.in_ok-answers.ensures)
+    all_answered P c.in_ok-mapping.mapping c.in_ok-query.query _ _ _ _ c.in_ok-rows.rows c.in_ok-rows.field-0-1 c.in_ok-exchange.exchange
+    c.in_ok-answers.answers c.in_ok-mapping.ensures c.in_ok-query.ensures c.in_ok-rows.ensures c.in_ok-exchange.ensures c.in_ok-answers.ensures

@@ -1,6 +1,6 @@
 use Rattle.std.proofs.Common.{ℕ, ◌<◌, ◌≤◌, ◌-◌, length}
-use Rattle.dx_instance.specs.Numbers.{value_of}
-use Rattle.clio_files.specs.Marks.{IsConstant, IsNull}
+use Rattle.dx_instance.specs.Numbers.{value_of, IsConstant}
+use Rattle.clio_files.specs.Marks.{IsNull}
 use Rattle.clio_files.proofs.marks.first_null.Given as goal
 
 abbrev pub invariant-loop-low : goal.invariant-loop-low

@@ -1,5 +1,5 @@
 use Rattle.std.proofs.Common.{◌<◌, arith, length, take}
-use Rattle.clio_files.specs.Marks.{numbers_in}
+use Rattle.clio_files.specs.Marks.{table_numbers}
 use Rattle.clio_files.proofs.MarkFacts.{tables_marked}
 use Rattle.clio_files.proofs.marks.marks_of.Goals as goal
 
@@ -11,5 +11,5 @@ loop-table-preserved c =
     record {
       many = omega (arith, c.mark_table.ensures.many, c.loop-table.invariant.many);
       marked = tables_marked c.args.first tables i c.mark_table.new.marks.items within
-          (c.mark_table.ensures.marked (numbers_in (take i tables)) c.loop-table.invariant.marked);
+          (c.mark_table.ensures.marked (table_numbers (take i tables)) c.loop-table.invariant.marked);
     }

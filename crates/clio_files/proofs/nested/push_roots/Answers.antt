@@ -1,6 +1,6 @@
 use Rattle.std.proofs.Common.{ap, arith, map}
 use Rattle.dx_schema.proofs.Preorder.{count_more}
-use Rattle.clio_files.specs.Files.{seen}
+use Rattle.clio_files.specs.Files.{printed_view}
 use Rattle.clio_files.proofs.RootFiles.{root_within, roots_more, sets_few}
 use Rattle.clio_files.proofs.nested.push_roots.Goals as goal
 
@@ -45,7 +45,7 @@ loop-tree-preserved c =
       sorted = rw c.root_file.ensures.same c.loop-tree.invariant.sorted;
       root = omega (arith, more, c.count.ensures, c.loop-tree.invariant.root);
       adds =
-          roots_more c.args.schema.now c.args.target.now (map seen c.args.files.now.items) ts k c.tree-item.result c.loop-tree.root
+          roots_more c.args.schema.now c.args.target.now (map printed_view c.args.files.now.items) ts k c.tree-item.result c.loop-tree.root
           c.loop-tree.files.items c.push.new.self.items c.in_ok-root_file.field-0 c.loop-tree-test.true c.tree-item.is
           c.loop-tree.invariant.root c.loop-tree.invariant.adds c.in_ok-root_file.ensures.file c.in_ok-push.ensures.items;
     }

@@ -1,8 +1,8 @@
 use Rattle.std.proofs.Common.{◌≡◌, map, take}
 use Rattle.dx_instance.specs.Stored.{IsSorting}
 use Rattle.dx_schema.specs.Forest.{forest_of}
-use Rattle.dx_schema.specs.Tables.{count, numbers_in}
-use Rattle.clio_files.specs.Files.{seen}
+use Rattle.dx_schema.specs.Tables.{count, level_numbers}
+use Rattle.clio_files.specs.Files.{printed_view}
 use Rattle.clio_files.specs.Printing.{AddsRoots}
 use Rattle.clio_files.proofs.nested.push_roots.Given as goal
 
@@ -11,6 +11,6 @@ abbrev pub invariant-loop-tree : goal.invariant-loop-tree
 invariant-loop-tree l = record {
   sorted : IsSorting l.target l.sorted;
   root : l.root ≡ count (forest_of (take l.tree-index l.tree-items));
-  adds : AddsRoots l.schema l.target (numbers_in 0 (forest_of (take l.tree-index l.tree-items))) (map seen l.fn.files.items)
-      (map seen l.files.items);
+  adds : AddsRoots l.schema l.target (level_numbers 0 (forest_of (take l.tree-index l.tree-items))) (map printed_view l.fn.files.items)
+      (map printed_view l.files.items);
 }

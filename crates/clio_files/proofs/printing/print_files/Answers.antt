@@ -3,7 +3,7 @@ use Rattle.std.specs.Prelude.{if◌then◌else◌}
 use Rattle.dx_funcs.specs.Serving.{offered}
 use Rattle.dx_instance.specs.NullMaps.{pairs_of}
 use Rattle.clio_source.specs.Source.{roots}
-use Rattle.clio_files.specs.Files.{seen}
+use Rattle.clio_files.specs.Files.{printed_view}
 use Rattle.clio_files.specs.Printing.{AddsRoots}
 use Rattle.clio_files.specs.Sheets.{file_of, fold_sheet, nulls_sheet}
 use Rattle.clio_files.specs.Texts.{texts_told}
@@ -22,14 +22,14 @@ returns g c =
     let nulls = file_of (nulls_sheet c.args.rules.now e.matches c.in_ok-nulls.nulls.items) in
     let fold = file_of (fold_sheet (pairs_of e.fold)) in
     let added = c.in_ok-push_tables.ensures in
-    let before = map seen c.push-2.new.self.items in
-    let all = map seen c.if-nested.printed.items in
+    let before = map printed_view c.push-2.new.self.items in
+    let all = map printed_view c.if-nested.printed.items in
     let two =
     two_more c.push_tables.new.files.items c.push.new.self.items c.push-2.new.self.items c.in_ok-nulls_file.field-0
     c.in_ok-fold_file.field-0 nulls fold (rw c.deref.ensures.value at c.in_ok-nulls_file.ensures) c.in_ok-fold_file.ensures
     c.in_ok-push.ensures.items c.in_ok-push-2.ensures.items in
     let parts =
-    four_parts texts added.tables (map seen c.in_ok-printed.printed.items) (map seen c.push_tables.new.files.items) before nulls fold
+    four_parts texts added.tables (map printed_view c.in_ok-printed.printed.items) (map printed_view c.push_tables.new.files.items) before nulls fold
     c.in_ok-printed.ensures added.is two in
     let more : AddsRoots target e.target (if nested then roots target else []) before all =
     elim c.if-nested.branch [

@@ -4,7 +4,8 @@ use Rattle.std.proofs.lemmas.List.{length-map, take_all}
 use Rattle.dx_ports.proofs.Members.{in_at}
 use Rattle.dx_model.specs.declared.values.NullId.{NullId}
 use Rattle.clio_files.specs.Printing.{AreRecords}
-use Rattle.clio_files.specs.Sheets.{nulls_sheet, variable_text}
+use Rattle.clio_files.specs.Sheets.{nulls_sheet}
+use Rattle.dx_rule_text.specs.Printed.{variable_text}
 use Rattle.clio_files.proofs.SheetLists.{variables_at, lines_of, null_lines_more, sheet_told, has_list}
 use Rattle.clio_files.proofs.sheets.nulls_file.Goals as goal
 

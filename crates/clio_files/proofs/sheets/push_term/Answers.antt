@@ -1,6 +1,6 @@
 use Rattle.std.proofs.Common.{[], ◌∷◌}
 use Rattle.dx_instance.specs.ValueText.{const_text}
-use Rattle.clio_files.specs.Sheets.{variable_text}
+use Rattle.dx_rule_text.specs.Printed.{variable_text}
 use Rattle.clio_files.proofs.sheets.push_term.Goals as goal
 
 pub returns : goal.returns

@@ -1,7 +1,8 @@
 use Rattle.std.proofs.Common.{◌++◌, List, ℕ, sym, subst, map, take}
 use Rattle.std.proofs.lemmas.List.{append-nil, take_all}
 use Rattle.clio_files.specs.Printing.{AreRecords}
-use Rattle.clio_files.specs.Sheets.{term_records, variable_text}
+use Rattle.clio_files.specs.Sheets.{term_records}
+use Rattle.dx_rule_text.specs.Printed.{variable_text}
 use Rattle.clio_files.proofs.SheetLists.{terms_more}
 use Rattle.clio_files.proofs.sheets.push_terms.Goals as goal
 

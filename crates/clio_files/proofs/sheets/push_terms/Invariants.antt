@@ -1,6 +1,7 @@
 use Rattle.std.proofs.Common.{◌++◌, List, ℕ, map, take}
 use Rattle.clio_files.specs.Printing.{AreRecords}
-use Rattle.clio_files.specs.Sheets.{term_records, variable_text}
+use Rattle.clio_files.specs.Sheets.{term_records}
+use Rattle.dx_rule_text.specs.Printed.{variable_text}
 use Rattle.clio_files.proofs.sheets.push_terms.Given as goal
 
 -- the records of the variables so far

@@ -1,7 +1,7 @@
 use Rattle.std.proofs.Common.{◌≡◌, ◌+◌, ℕ, Ok, Err, arith, length, subst}
 use Rattle.std.proofs.lemmas.Result.{err_from_is_err_and}
 use Rattle.dx_schema.specs.Tables.{tables_of}
-use Rattle.clio_given.specs.Reading.{ReadFits, read_of}
+use Rattle.clio_given.specs.Reading.{GivenReadFits, read_of}
 use Rattle.clio_given.proofs.Runs.{all_came, ended, none_came, one_came}
 use Rattle.clio_given.proofs.files.read_files.Goals as goal
 
@@ -31,7 +31,7 @@ returns-clause-fit g c =
     let low = c.loop-table-test.false in
     let high = c.loop-table.auto.table-end in
     let end : c.loop-table.table ≡ length (tables_of c.args.schema.now) = omega (arith, low, high, c.tables-table-end.ensures.count) in
-    subst (λ (n : ℕ). ReadFits c.args.schema.now n c.loop-table.so_far) end c.loop-table.invariant.fit
+    subst (λ (n : ℕ). GivenReadFits c.args.schema.now n c.loop-table.so_far) end c.loop-table.invariant.fit
 
 pub returns-clause-read : goal.returns-clause-read
 returns-clause-read g c =

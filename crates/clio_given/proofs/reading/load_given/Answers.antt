@@ -4,7 +4,7 @@ use Rattle.dx_stages.specs.declared.stop.Stop.TheVariants as stops
 use Rattle.dx_stages.specs.Running.{Gives}
 use Rattle.clio_source.specs.declared.fault.SourceRefusal.{SourceRefusal}
 use Rattle.clio_given.specs.declared.reading.Reading.{Reading}
-use Rattle.clio_given.specs.Given.{loading}
+use Rattle.clio_given.specs.Given.{given_loading}
 use Rattle.clio_given.specs.Reading.{read_of}
 use Rattle.clio_given.proofs.Fits.{cells_are, fit_more, loaded, no_cells_left}
 use Rattle.clio_given.proofs.reading.load_given.Goals as goal
@@ -15,7 +15,7 @@ returns-in_default-clause-read c =
     let n = c.args.table in
     let S = c.rows_of_bytes.new.symbols in
     let same = cells_are f n c.count.result c.width.result S c.in_ok-rows.rows c.count.ensures.count c.width.ensures.number in
-    subst (λ (e : SourceRefusal). Gives (loading f n) (read_of c.args.before, c.args.bytes.now) (Err (stops.Refused e))) (sym c.too_many_cells.ensures)
+    subst (λ (e : SourceRefusal). Gives (given_loading f n) (read_of c.args.before, c.args.bytes.now) (Err (stops.Refused e))) (sym c.too_many_cells.ensures)
     (no_cells_left f n (read_of c.args.before) c.args.bytes.now (map (shown_row S) c.in_ok-rows.rows.rows) c.in_ok-rows.ensures.rows
     (subst (λ (k : ℕ). c.args.before.cells_left < k) same c.in_default.ensures))
 

@@ -2,7 +2,7 @@ use Rattle.std.proofs.Common.{◌≡◌, take, Ok}
 use Rattle.dx_schema.specs.Forest.{forest_of}
 use Rattle.dx_schema.specs.Tables.{count}
 use Rattle.dx_stages.specs.Stages.{each}
-use Rattle.clio_source.specs.Fitting.{IsBlank, RanTo, ReadFits}
+use Rattle.clio_source.specs.Fitting.{UnusedAreBlank, RanTo, ReadFits}
 use Rattle.clio_source.specs.Source.{at_start, reading}
 use Rattle.clio_source.proofs.Roots.{first_roots}
 use Rattle.clio_source.proofs.files.read_files.Given as goal
@@ -12,7 +12,7 @@ invariant-loop-tree g l =
     record {
       root : l.root ≡ count (forest_of (take l.tree-index l.tree-items));
       fit : ReadFits l.schema l.root l.so_far;
-      blank : IsBlank l.used l.schema l.so_far;
+      blank : UnusedAreBlank l.used l.schema l.so_far;
       read : RanTo l.used (each (reading l.schema) (first_roots l.tree-items l.tree-index)) at_start (Ok l.so_far)
           (record { holds = g.I.Inputs.holds l.initial.inputs; faults = g.I.Inputs.faults l.initial.inputs; stopped = g.I.Inputs.stopped l.initial.inputs })
           (record { holds = g.I.Inputs.holds l.inputs; faults = g.I.Inputs.faults l.inputs; stopped = g.I.Inputs.stopped l.inputs });

@@ -4,11 +4,11 @@ use Rattle.dx_model.specs.declared.values.Value.{Value}
 use Rattle.dx_instance.specs.Cells.{NumberTable}
 use Rattle.dx_instance.specs.Shown.{shown_row}
 use Rattle.dx_schema.specs.Forest.{Forest}
-use Rattle.dx_schema.specs.Tables.{table_at}
+use Rattle.dx_schema.specs.Tables.{schema_table}
 use Rattle.dx_stages.specs.declared.stop.Stop.TheVariants as stops
 use Rattle.clio_source.specs.declared.fault.SourceRefusal.{SourceRefusal}
 use Rattle.clio_source.specs.declared.reading.Reading.{Reading}
-use Rattle.clio_source.specs.Source.{as_facts, cells_in, flat, loading}
+use Rattle.clio_source.specs.Source.{as_facts, fact_cells, flat, loading}
 use Rattle.dx_used.specs.Used.{blanked}
 use Rattle.clio_source.specs.Fitting.{GivesTo, rows_shown}
 use Rattle.clio_source.proofs.Blank.{blank_more}
@@ -17,8 +17,8 @@ use Rattle.clio_source.proofs.Runs.{loaded, no_cells_left}
 use Rattle.clio_source.proofs.tables.load_table.Goals as goal
 
 -- rows have as many cells as the facts of the whole rows
-cells : (f : Forest) (root many width : ℕ) (S : List Value) (t : NumberTable) (marks : List Bool) (whole : List (List Value)) → many ≡ length t.rows → width ≡ length (table_at f root).columns
-    → rows_shown S t ≡ map (blanked marks) whole → many * width ≡ cells_in f (as_facts root whole)
+cells : (f : Forest) (root many width : ℕ) (S : List Value) (t : NumberTable) (marks : List Bool) (whole : List (List Value)) → many ≡ length t.rows → width ≡ length (schema_table f root).columns
+    → rows_shown S t ≡ map (blanked marks) whole → many * width ≡ fact_cells f (as_facts root whole)
 cells f root many width S t marks whole m w e =
     let shown : many ≡ length whole = m ∙ sym (length-map t.rows (shown_row S)) ∙ ap length e ∙ length-map whole (blanked marks) in
     ap (λ n. n * width) shown ∙ ap (λ n. length whole * n) w ∙ sym (cells_of_rows f root whole)

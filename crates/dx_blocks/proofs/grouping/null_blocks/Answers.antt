@@ -1,7 +1,7 @@
 use Rattle.std.proofs.Common.{◌≡◌, ◌<◌, ◌++◌, ◌∷◌, [], ◌∙◌, ap, arith, length, get_or}
 use Rattle.std.proofs.lemmas.List.{get_or_read}
 use Rattle.dx_blocks.specs.declared.block.Block.{Block}
-use Rattle.dx_blocks.specs.Nulls.{null_at}
+use Rattle.dx_model.specs.Values.{null_at}
 use Rattle.dx_blocks.specs.Labels.{block_at}
 use Rattle.dx_blocks.proofs.Filling.{null_filled}
 use Rattle.dx_blocks.proofs.grouping.null_blocks.Goals as goal

@@ -2,9 +2,9 @@ use Rattle.std.proofs.Common.{◌≡◌, ◌<◌, ℕ, List, length, get_or, ref
 use Rattle.std.proofs.lemmas.List.{get_or_default}
 use Rattle.dx_ports.specs.Members.{Each}
 use Rattle.dx_ports.proofs.Members.{in_at}
-use Rattle.dx_instance.specs.Shown.{Numbered}
+use Rattle.dx_instance.specs.Shown.{NumberedInstance}
 use Rattle.dx_blocks.specs.declared.numbered.At.{At}
-use Rattle.dx_blocks.specs.Numbered.{IsRow}
+use Rattle.dx_blocks.specs.Numbered.{IsRowIn}
 use Rattle.dx_blocks.proofs.NumberFilling.{label_within, block_within, row_put_read, row_skipped, rows_put}
 use Rattle.dx_blocks.proofs.number_filling.place_rows.Goals as goal
 use Rattle.dx_blocks.proofs.number_filling.place_rows.Goals.{in-Some+in_ok-push, in_default}
@@ -12,7 +12,7 @@ use Rattle.dx_blocks.proofs.number_filling.place_rows.Goals.{in-Some+in_ok-push,
 abbrev item : List At → ℕ → At
 item rows i = get_or rows i (record { table = 0; place = 0 })
 
-there_is : (N : Numbered) (rows : List At) (i : ℕ) → Each rows (IsRow N) → i < length rows → IsRow N (item rows i)
+there_is : (N : NumberedInstance) (rows : List At) (i : ℕ) → Each rows (IsRowIn N) → i < length rows → IsRowIn N (item rows i)
 there_is N rows i r h = r (item rows i) (in_at rows i (record { table = 0; place = 0 }) h)
 
 item_is : (rows : List At) (i : ℕ) → i < length rows → item rows i ≡ get_or rows i (item rows i)

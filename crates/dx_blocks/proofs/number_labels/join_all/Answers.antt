@@ -2,9 +2,9 @@ use Rattle.std.proofs.Common.{◌≡◌, ◌<◌, ℕ, List, length, get_or}
 use Rattle.std.proofs.lemmas.List.{get_or_default, length-map, take_all}
 use Rattle.dx_ports.specs.Members.{Each}
 use Rattle.dx_ports.proofs.Members.{in_at}
-use Rattle.dx_instance.specs.Shown.{Numbered}
+use Rattle.dx_instance.specs.Shown.{NumberedInstance}
 use Rattle.dx_blocks.specs.declared.numbered.At.{At}
-use Rattle.dx_blocks.specs.Numbered.{IsRow, fact_of}
+use Rattle.dx_blocks.specs.Numbered.{IsRowIn, fact_of}
 use Rattle.dx_blocks.specs.NullRows.{facts_of, nulls_from}
 use Rattle.dx_blocks.proofs.Labelling.{all_start, all_joined}
 use Rattle.dx_blocks.proofs.NumberLabelling.{at_joined, at_passed, no_nulls}
@@ -14,7 +14,7 @@ use Rattle.dx_blocks.proofs.number_labels.join_all.Goals.{in-Some, in_default}
 abbrev item : List At → ℕ → At
 item rows i = get_or rows i (record { table = 0; place = 0 })
 
-there_is : (N : Numbered) (rows : List At) (i : ℕ) → Each rows (IsRow N) → i < length rows → IsRow N (item rows i)
+there_is : (N : NumberedInstance) (rows : List At) (i : ℕ) → Each rows (IsRowIn N) → i < length rows → IsRowIn N (item rows i)
 there_is N rows i r h = r (item rows i) (in_at rows i (record { table = 0; place = 0 }) h)
 
 item_is : (rows : List At) (i : ℕ) → i < length rows → item rows i ≡ get_or rows i (item rows i)

@@ -5,7 +5,7 @@ use Rattle.dx_funcs.specs.Serving.{offered}
 use Rattle.dx_instance.specs.Shown.{shown_tables}
 use Rattle.dx_instance.specs.Stored.{facts}
 use Rattle.dx_joins.specs.Shown.{MoreTuples}
-use Rattle.dx_schema.specs.Names.{named_of}
+use Rattle.dx_schema.specs.Names.{table_names_of}
 use Rattle.dx_joins.proofs.Carrying.{found}
 use Rattle.dx_eval.specs.Finding.{IsFoundStep, IsFoundUpTo}
 use Rattle.dx_eval.specs.Query.{IsSelected}
@@ -16,13 +16,13 @@ use Rattle.dx_eval.proofs.finding.find_steps.Goals as goal
 
 pub loop-step-init : goal.loop-step-init
 loop-step-init g c =
-    let N = named_of c.args.source.now in
+    let N = table_names_of c.args.source.now in
     let I = facts (shown_tables c.args.rows.now.symbols c.args.rows.now.tables) in
     start N (call_named g.M.Meaning.apply (offered c.args.host.now)) I c.args.steps.now c.args.rows.now.symbols c.args.symbols.now c.args.tables.now.items c.args.limit c.requires.symbols c.requires.none c.requires.apart
 
 pub matched_rows-requires-clause-fit : goal.matched_rows-requires-clause-fit
 matched_rows-requires-clause-fit g c =
-    let N = named_of c.args.source.now in
+    let N = table_names_of c.args.source.now in
     let L = offered c.args.host.now in
     let w = c.in-MatchRows in
     matching_fits N L (take c.loop-step.step-index c.args.steps.now) c.step-item.result w.rule w.select w.sources w.equal w.is
@@ -30,7 +30,7 @@ matched_rows-requires-clause-fit g c =
 
 pub returns-in_err-table-clause-refused : goal.returns-in_err-table-clause-refused
 returns-in_err-table-clause-refused g c =
-    let N = named_of c.args.source.now in
+    let N = table_names_of c.args.source.now in
     let L = offered c.args.host.now in
     let C = call_named g.M.Meaning.apply L in
     let I = facts (shown_tables c.args.rows.now.symbols c.args.rows.now.tables) in
@@ -59,7 +59,7 @@ overflow_mul-left g c =
 
 pub loop-step-preserved : goal.loop-step-preserved
 loop-step-preserved g c =
-    let N = named_of c.args.source.now in
+    let N = table_names_of c.args.source.now in
     let L = offered c.args.host.now in
     let C = call_named g.M.Meaning.apply L in
     let I = facts (shown_tables c.args.rows.now.symbols c.args.rows.now.tables) in
@@ -83,7 +83,7 @@ loop-step-preserved g c =
 
 pub returns-clause-found : goal.returns-clause-found
 returns-clause-found g c =
-    let N = named_of c.args.source.now in
+    let N = table_names_of c.args.source.now in
     let I = facts (shown_tables c.args.rows.now.symbols c.args.rows.now.tables) in
     all_found N (call_named g.M.Meaning.apply (offered c.args.host.now)) I c.args.steps.now c.args.rows.now.symbols c.loop-step.symbols c.loop-step.tables.items c.args.limit c.loop-step.left c.loop-step.step-index c.loop-step-test.false c.loop-step.invariant
 

@@ -3,9 +3,9 @@ use Rattle.std.specs.Prelude.{map}
 use Rattle.dx_model.specs.declared.values.Value.{Value}
 use Rattle.dx_instance.proofs.ShownFacts.{extends_both, table_read}
 use Rattle.dx_joins.specs.Shown.{texts_of}
-use Rattle.dx_schema.specs.Names.{named_of}
+use Rattle.dx_schema.specs.Names.{table_names_of}
 use Rattle.dx_instance.proofs.NumberFacts.{stays}
-use Rattle.dx_tgd.specs.Gained.{Gains}
+use Rattle.dx_tgd.specs.Gained.{GainsFacts}
 use Rattle.dx_tgd.specs.Planned.{built}
 use Rattle.dx_tgd.specs.Texts.{tuples_in}
 use Rattle.dx_eval.proofs.Inserts.{all_inserted, all_texts_there, all_there, none_below, places_low, rule_more_grown}
@@ -18,11 +18,11 @@ pub loop-rule-init : goal.loop-rule-init
 loop-rule-init c = record {
   grows = stays c.args.target.now.symbols;
   wide = c.requires.widths;
-  made = none_below (named_of c.args.schema.now) c.args.steps.now (tuples_in c.args.target.now.symbols c.args.tables.now) (built c.args.target.now) c.requires.empty;
+  made = none_below (table_names_of c.args.schema.now) c.args.steps.now (tuples_in c.args.target.now.symbols c.args.tables.now) (built c.args.target.now) c.requires.empty;
 }
 
 pub returns-clause-facts : goal.returns-clause-facts
-returns-clause-facts c = all_inserted (named_of c.args.schema.now) c.args.steps.now c.args.target.now.symbols c.args.tables.now c.loop-rule.rule (built c.loop-rule.target) c.loop-rule-test.false c.loop-rule.invariant.made
+returns-clause-facts c = all_inserted (table_names_of c.args.schema.now) c.args.steps.now c.args.target.now.symbols c.args.tables.now c.loop-rule.rule (built c.loop-rule.target) c.loop-rule-test.false c.loop-rule.invariant.made
 
 pub stay_places-requires-clause-texts : goal.stay_places-requires-clause-texts
 stay_places-requires-clause-texts c =
@@ -44,11 +44,11 @@ insert_rule-requires-clause-places c =
 
 pub loop-rule-preserved : goal.loop-rule-preserved
 loop-rule-preserved c =
-    let N = named_of c.args.schema.now in
+    let N = table_names_of c.args.schema.now in
     let S = c.args.target.now.symbols in
     let T = c.loop-rule.target.symbols in
     let stay = subst (λ (z : List Value). Stay c.args.steps.now (tuples_in z c.args.tables.now) c.loop-rule.rule c.in_ok-places.places.items) c.symbols.ensures.same c.in_ok-places.ensures in
-    let gained = subst (λ (ps : List ℕ). Gains (built c.loop-rule.target) (built c.insert_rule.new.target) (facts_by N c.args.steps.now c.loop-rule.rule (map (texts_of T) c.index-tables-rule.result.rows) ps))
+    let gained = subst (λ (ps : List ℕ). GainsFacts (built c.loop-rule.target) (built c.insert_rule.new.target) (facts_by N c.args.steps.now c.loop-rule.rule (map (texts_of T) c.index-tables-rule.result.rows) ps))
     c.deref.ensures.value c.in_ok-insert_rule.ensures.gained in
     record {
       grows = extends_both S T c.insert_rule.new.target.symbols c.loop-rule.invariant.grows c.in_ok-insert_rule.ensures.grows;

@@ -3,7 +3,7 @@ use Rattle.dx_model.specs.declared.facts.Fact.{Fact}
 use Rattle.dx_ports.specs.Members.{◌∈◌}
 use Rattle.dx_instance.specs.Numbers.{Extends}
 use Rattle.dx_instance.specs.Stored.{facts, widths}
-use Rattle.dx_schema.specs.Names.{named_of}
+use Rattle.dx_schema.specs.Names.{table_names_of}
 use Rattle.dx_schema.specs.Tables.{schema_widths}
 use Rattle.dx_tgd.specs.Planned.{built}
 use Rattle.dx_tgd.specs.Texts.{tuples_in}
@@ -14,5 +14,5 @@ abbrev pub invariant-loop-rule : goal.invariant-loop-rule
 invariant-loop-rule l = record {
   grows : Extends l.fn.target.symbols l.target.symbols;
   wide : widths (built l.target) ≡ schema_widths l.schema;
-  made : (f : Fact) → (f ∈ facts (built l.target)) ↔ IsInsertedBelow (named_of l.schema) l.steps (tuples_in l.fn.target.symbols l.tables) l.rule f;
+  made : (f : Fact) → (f ∈ facts (built l.target)) ↔ IsInsertedBelow (table_names_of l.schema) l.steps (tuples_in l.fn.target.symbols l.tables) l.rule f;
 }

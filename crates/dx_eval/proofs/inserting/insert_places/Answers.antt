@@ -8,7 +8,7 @@ use Rattle.dx_joins.specs.Shown.{texts_of}
 use Rattle.dx_joins.proofs.Growing.{texts_grow}
 use Rattle.dx_script.specs.Meaning.{inserted}
 use Rattle.dx_tgd.proofs.Ascending.{row_there}
-use Rattle.dx_tgd.specs.Gained.{Gains}
+use Rattle.dx_tgd.specs.Gained.{GainsFacts}
 use Rattle.dx_tgd.specs.Planned.{built}
 use Rattle.dx_eval.specs.Inserting.{placed_fact}
 use Rattle.dx_eval.proofs.Inserts.{all_placed, gains_at, long_shown, long_tables, wide_as}
@@ -54,7 +54,7 @@ loop-place-preserved c =
       grows = rw c.in_ok-add.ensures.symbols (extends_both S T U c.loop-place.invariant.grows c.in_ok-fill.ensures.grows);
       gains = gains_at S T U c.args.rows.now.rows c.row.result.now c.deref.result.now c.args.table c.args.rule k c.loop-place.place-index c.args.places.now c.args.cells.now
           c.loop-place-test.true (get_or_default c.args.places.now c.loop-place.place-index 0 k c.loop-place-test.true) low c.row.ensures.row c.loop-place.invariant.grows c.requires.texts shown c.loop-place.invariant.gains
-          (subst (λ (I : List TableRows). Gains I (built c.add.new.self) (record { table = c.args.table; row = shown_row U c.deref.result.now } ∷ [])) c.in_ok-fill.ensures.same c.in_ok-add.ensures.added);
+          (subst (λ (I : List TableRows). GainsFacts I (built c.add.new.self) (record { table = c.args.table; row = shown_row U c.deref.result.now } ∷ [])) c.in_ok-fill.ensures.same c.in_ok-add.ensures.added);
     }
 
 pub returns-clause-gained : goal.returns-clause-gained

@@ -2,7 +2,7 @@ use Rattle.std.proofs.Common.{take}
 use Rattle.std.specs.Prelude.{map}
 use Rattle.dx_instance.specs.Numbers.{Extends}
 use Rattle.dx_joins.specs.Shown.{texts_of}
-use Rattle.dx_tgd.specs.Gained.{Gains}
+use Rattle.dx_tgd.specs.Gained.{GainsFacts}
 use Rattle.dx_tgd.specs.Planned.{built}
 use Rattle.dx_eval.specs.Inserting.{placed_fact}
 use Rattle.dx_eval.proofs.inserting.insert_places.Given as goal
@@ -10,5 +10,5 @@ use Rattle.dx_eval.proofs.inserting.insert_places.Given as goal
 abbrev pub invariant-loop-place : goal.invariant-loop-place
 invariant-loop-place l = record {
   grows : Extends l.fn.target.symbols l.target.symbols;
-  gains : Gains (built l.fn.target) (built l.target) (map (placed_fact l.table l.rule (map (texts_of l.fn.target.symbols) l.rows.rows) l.cells) (take l.place-index l.places));
+  gains : GainsFacts (built l.fn.target) (built l.target) (map (placed_fact l.table l.rule (map (texts_of l.fn.target.symbols) l.rows.rows) l.cells) (take l.place-index l.places));
 }

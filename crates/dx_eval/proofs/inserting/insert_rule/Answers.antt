@@ -2,14 +2,14 @@ use Rattle.std.proofs.Common.{◌∙◌, List, ap, subst}
 use Rattle.std.specs.Prelude.{map}
 use Rattle.dx_instance.proofs.ShownFacts.{extends_both}
 use Rattle.dx_joins.specs.Shown.{texts_of}
-use Rattle.dx_schema.specs.Names.{named_of}
+use Rattle.dx_schema.specs.Names.{table_names_of}
 use Rattle.dx_instance.proofs.NumberFacts.{stays}
 use Rattle.dx_script.specs.declared.form.Out.{Out}
 use Rattle.dx_script.specs.declared.form.Step.TheVariants.{InsertRows}
-use Rattle.dx_tgd.specs.Gained.{Gains}
+use Rattle.dx_tgd.specs.Gained.{GainsFacts}
 use Rattle.dx_tgd.specs.Planned.{built}
 use Rattle.dx_tgd.proofs.Gaining.{gains_nothing}
-use Rattle.dx_eval.specs.Inserting.{facts_in, placed_fact}
+use Rattle.dx_eval.specs.Inserting.{inserted_facts, placed_fact}
 use Rattle.dx_eval.proofs.Inserts.{all_gained, all_texts_there, cells_wide, gains_insert, gains_same, insert_of_another, other_facts, step_in, table_low}
 use Rattle.dx_eval.proofs.inserting.insert_rule.Goals.{in-InsertRows+then-number-rule+in_ok-insert_places, in-InsertRows+else-number-rule, in_default}
 use Rattle.dx_eval.proofs.inserting.insert_rule.Goals as goal
@@ -45,7 +45,7 @@ insert_places-requires-clause-width c =
 
 pub loop-step-preserved : goal.loop-step-preserved
 loop-step-preserved c =
-    let N = named_of c.args.schema.now in
+    let N = table_names_of c.args.schema.now in
     let S = c.args.target.now.symbols in
     let T = c.loop-step.target.symbols in
     let rows = c.args.rows.now.rows in
@@ -56,17 +56,17 @@ loop-step-preserved c =
         gains = gains_insert N c.args.steps.now c.loop-step.step-index c.step-item.result w.in-InsertRows.table w.table_number-table.result r w.in-InsertRows.kept w.in-InsertRows.cells S T rows c.args.places.now
             c.loop-step-test.true c.step-item.is (w.in-InsertRows.is ∙ ap (λ z. InsertRows w.in-InsertRows.table z w.in-InsertRows.kept w.in-InsertRows.cells) w.if-number-rule.true) w.table_number-table.ensures.number
             c.loop-step.invariant.grows c.requires.texts c.loop-step.invariant.gains
-            (subst (λ (cells : List Out). Gains (built c.loop-step.target) (built w.insert_places.new.target) (map (placed_fact w.table_number-table.result r (map (texts_of T) rows) cells) c.args.places.now)) w.items.ensures w.in_ok-insert_places.ensures.gained);
+            (subst (λ (cells : List Out). GainsFacts (built c.loop-step.target) (built w.insert_places.new.target) (map (placed_fact w.table_number-table.result r (map (texts_of T) rows) cells) c.args.places.now)) w.items.ensures w.in_ok-insert_places.ensures.gained);
       })
       | in-InsertRows+else-number-rule w ↦ rw w.target-is (record {
         grows = c.loop-step.invariant.grows;
-        gains = gains_same (facts_in N r (map (texts_of S) rows) c.args.places.now) c.args.steps.now c.loop-step.step-index c.step-item.result c.loop-step-test.true c.step-item.is
+        gains = gains_same (inserted_facts N r (map (texts_of S) rows) c.args.places.now) c.args.steps.now c.loop-step.step-index c.step-item.result c.loop-step-test.true c.step-item.is
             (other_facts N r (map (texts_of S) rows) c.args.places.now c.step-item.result
             (insert_of_another c.step-item.result w.in-InsertRows.table w.in-InsertRows.number r w.in-InsertRows.kept w.in-InsertRows.cells w.in-InsertRows.is w.if-number-rule.false)) c.loop-step.invariant.gains;
       })
       | in_default w ↦ rw w.target-is (record {
         grows = c.loop-step.invariant.grows;
-        gains = gains_same (facts_in N r (map (texts_of S) rows) c.args.places.now) c.args.steps.now c.loop-step.step-index c.step-item.result c.loop-step-test.true c.step-item.is
+        gains = gains_same (inserted_facts N r (map (texts_of S) rows) c.args.places.now) c.args.steps.now c.loop-step.step-index c.step-item.result c.loop-step-test.true c.step-item.is
             (other_facts N r (map (texts_of S) rows) c.args.places.now c.step-item.result (λ t k cs. w.in_default.not-InsertRows t r k cs)) c.loop-step.invariant.gains;
       })
     ]
@@ -76,4 +76,4 @@ returns-clause-grows c = c.loop-step.invariant.grows
 
 pub returns-clause-gained : goal.returns-clause-gained
 returns-clause-gained c =
-    all_gained (facts_in (named_of c.args.schema.now) c.args.rule (map (texts_of c.args.target.now.symbols) c.args.rows.now.rows) c.args.places.now) c.args.steps.now c.loop-step.step-index c.loop-step-test.false c.loop-step.invariant.gains
+    all_gained (inserted_facts (table_names_of c.args.schema.now) c.args.rule (map (texts_of c.args.target.now.symbols) c.args.rows.now.rows) c.args.places.now) c.args.steps.now c.loop-step.step-index c.loop-step-test.false c.loop-step.invariant.gains

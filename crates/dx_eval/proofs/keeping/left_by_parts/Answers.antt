@@ -3,7 +3,7 @@ use Rattle.dx_ports.proofs.Loops.{each_item}
 use Rattle.dx_instance.specs.Shown.{numbers_of_table}
 use Rattle.dx_instance.proofs.ShownFacts.{table_read}
 use Rattle.dx_script.specs.declared.form.Test.{Test}
-use Rattle.dx_eval.specs.Keeping.{LacksPartner, LacksPartners, Leaves, PartStands}
+use Rattle.dx_eval.specs.Keeping.{LacksPartner, LacksPartners, KeepsPlaces, PartStands}
 use Rattle.dx_eval.proofs.Partners.{left_within, parts_all, parts_more, parts_none, texts_at}
 use Rattle.dx_eval.proofs.keeping.left_by_parts.Goals as goal
 
@@ -41,8 +41,8 @@ loop-part-preserved c =
     let d = table_read c.args.tables.now c.part-item.result.rule c.index-tables-part.result s.rule c.index-tables-part.is in
     parts_more c.args.symbols.now c.args.tables.now c.args.rule c.args.unless.now c.loop-part.part-index c.part-item.result c.index-tables-rule.result c.index-tables-part.result c.args.places.items c.loop-part.left.items c.in_ok-left.left.items
     c.loop-part-test.true c.part-item.is e d c.loop-part.invariant
-    (subst (λ (ps : List ℕ). Leaves (LacksPartner c.args.symbols.now c.index-tables-rule.result.rows c.index-tables-part.result.rows c.part-item.result.tests) ps c.in_ok-left.left.items) c.deref.ensures.value
-    (subst (λ (ts : List Test). Leaves (LacksPartner c.args.symbols.now c.index-tables-rule.result.rows c.index-tables-part.result.rows ts) c.deref.result.now c.in_ok-left.left.items) c.items.ensures c.in_ok-left.ensures))
+    (subst (λ (ps : List ℕ). KeepsPlaces (LacksPartner c.args.symbols.now c.index-tables-rule.result.rows c.index-tables-part.result.rows c.part-item.result.tests) ps c.in_ok-left.left.items) c.deref.ensures.value
+    (subst (λ (ts : List Test). KeepsPlaces (LacksPartner c.args.symbols.now c.index-tables-rule.result.rows c.index-tables-part.result.rows ts) c.deref.result.now c.in_ok-left.left.items) c.items.ensures c.in_ok-left.ensures))
 
 pub returns : goal.returns
 returns c = parts_all c.args.symbols.now c.args.tables.now c.args.rule c.loop-part.part-index c.args.unless.now c.args.places.items c.loop-part.left.items c.loop-part-test.false c.loop-part.invariant

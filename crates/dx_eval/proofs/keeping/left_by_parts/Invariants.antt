@@ -1,6 +1,6 @@
 use Rattle.std.proofs.Common.{take}
-use Rattle.dx_eval.specs.Keeping.{LacksPartners, Leaves}
+use Rattle.dx_eval.specs.Keeping.{LacksPartners, KeepsPlaces}
 use Rattle.dx_eval.proofs.keeping.left_by_parts.Given as goal
 
 abbrev pub invariant-loop-part : goal.invariant-loop-part
-invariant-loop-part l = Leaves (LacksPartners l.symbols l.tables l.rule (take l.part-index l.unless)) l.fn.places.items l.left.items
+invariant-loop-part l = KeepsPlaces (LacksPartners l.symbols l.tables l.rule (take l.part-index l.unless)) l.fn.places.items l.left.items

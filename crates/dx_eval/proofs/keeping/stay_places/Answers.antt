@@ -4,7 +4,7 @@ use Rattle.dx_instance.specs.Cells.{NumberTable}
 use Rattle.dx_instance.proofs.ShownFacts.{table_read}
 use Rattle.dx_script.specs.declared.form.Unless.{Unless}
 use Rattle.dx_script.specs.declared.form.Step.TheVariants.{KeepRows}
-use Rattle.dx_eval.specs.Keeping.{LacksPartners, Leaves}
+use Rattle.dx_eval.specs.Keeping.{LacksPartners, KeepsPlaces}
 use Rattle.dx_eval.proofs.Inserts.{step_in}
 use Rattle.dx_eval.proofs.Partners.{keep_of_another, no_keep, stay_all, stay_keep, stay_other, stay_start}
 use Rattle.dx_eval.proofs.keeping.stay_places.Goals.{in-KeepRows+then-number-rule+in_ok-places-2, in-KeepRows+else-number-rule, in_default}
@@ -31,7 +31,7 @@ loop-step-preserved c =
     elim c.match-step.branch [
       | in-KeepRows+then-number-rule+in_ok-places-2 w ↦ rw w.places-is (stay_keep S ts r c.args.steps.now c.loop-step.step-index c.step-item.result c.loop-step-test.true c.step-item.is c.loop-step.places.items w.in_ok-places-2.places.items w.in-KeepRows.unless
           (w.in-KeepRows.is ∙ ap (λ z. KeepRows z w.in-KeepRows.unless) w.if-number-rule.true) c.loop-step.invariant
-          (subst (λ (us : List Unless). Leaves (LacksPartners S ts r us) c.loop-step.places.items w.in_ok-places-2.places.items) w.items.ensures w.in_ok-places-2.ensures))
+          (subst (λ (us : List Unless). KeepsPlaces (LacksPartners S ts r us) c.loop-step.places.items w.in_ok-places-2.places.items) w.items.ensures w.in_ok-places-2.ensures))
       | in-KeepRows+else-number-rule w ↦ rw w.places-is (stay_other S ts r c.args.steps.now c.loop-step.step-index c.step-item.result c.loop-step-test.true c.step-item.is c.loop-step.places.items
           (keep_of_another c.step-item.result w.in-KeepRows.number r w.in-KeepRows.unless w.in-KeepRows.is w.if-number-rule.false) c.loop-step.invariant)
       | in_default w ↦ rw w.places-is (stay_other S ts r c.args.steps.now c.loop-step.step-index c.step-item.result c.loop-step-test.true c.step-item.is c.loop-step.places.items

@@ -4,14 +4,14 @@ use Rattle.dx_funcs.specs.Names.{call_named}
 use Rattle.dx_funcs.specs.Serving.{offered}
 use Rattle.dx_instance.specs.Shown.{shown_tables}
 use Rattle.dx_instance.specs.Stored.{facts, widths}
-use Rattle.dx_schema.specs.Names.{named_of}
+use Rattle.dx_schema.specs.Names.{table_names_of}
 use Rattle.dx_eval.specs.Query.{IsSelected}
 use Rattle.dx_eval.proofs.QueryFits.{empty_selected, empty_stands, query_fits, query_listed, query_rows, source_widths}
 use Rattle.dx_eval.proofs.matching.step_rows.Goals as goal
 
 pub returns-then-is_empty-clause-rows : goal.returns-then-is_empty-clause-rows
 returns-then-is_empty-clause-rows g c =
-    let N = named_of c.args.source.now in
+    let N = table_names_of c.args.source.now in
     let L = offered c.args.host.now in
     let I = facts (shown_tables c.args.rows.now.symbols c.args.rows.now.tables) in
     let none = eqb-true (length c.args.sources.now) 0 (sym c.if-is_empty.ensures) in

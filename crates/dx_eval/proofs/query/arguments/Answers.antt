@@ -1,8 +1,8 @@
 use Rattle.dx_ports.proofs.Loops.{each_item}
-use Rattle.dx_schema.specs.Names.{named_of}
+use Rattle.dx_schema.specs.Names.{table_names_of}
 use Rattle.dx_script.specs.Fits.{CellFits}
 use Rattle.dx_eval.proofs.query.arguments.Goals as goal
 
 pub variable_of_cell-requires-clause-fits : goal.variable_of_cell-requires-clause-fits
 variable_of_cell-requires-clause-fits c =
-    each_item (CellFits (named_of c.args.source.now) c.args.sources.now) c.args.cells.now c.loop-cell.cell-index c.cell-item.result c.loop-cell-test.true c.cell-item.is c.requires.fit
+    each_item (CellFits (table_names_of c.args.source.now) c.args.sources.now) c.args.cells.now c.loop-cell.cell-index c.cell-item.result c.loop-cell-test.true c.cell-item.is c.requires.fit

@@ -1,8 +1,8 @@
 use Rattle.std.proofs.Common.{◌≡◌, take}
 use Rattle.std.specs.Prelude.{map}
-use Rattle.dx_schema.specs.Names.{named_of}
+use Rattle.dx_schema.specs.Names.{table_names_of}
 use Rattle.dx_eval.specs.Variables.{variable_of}
 use Rattle.dx_eval.proofs.query.arguments.Given as goal
 
 abbrev pub invariant-loop-cell : goal.invariant-loop-cell
-invariant-loop-cell l = l.args ≡ map (variable_of (named_of l.source) l.sources l.rows) (take l.cell-index l.cells)
+invariant-loop-cell l = l.args ≡ map (variable_of (table_names_of l.source) l.sources l.rows) (take l.cell-index l.cells)

@@ -1,9 +1,9 @@
 use Rattle.std.proofs.Common.{◌≡◌, take}
 use Rattle.dx_funcs.specs.Serving.{offered}
-use Rattle.dx_schema.specs.Names.{named_of}
+use Rattle.dx_schema.specs.Names.{table_names_of}
 use Rattle.dx_eval.specs.Variables.{variable_of}
-use Rattle.dx_eval.specs.Query.{derived_of}
+use Rattle.dx_eval.specs.Query.{derived_of_selects}
 use Rattle.dx_eval.proofs.query.derived_variables.Given as goal
 
 abbrev pub invariant-loop-one : goal.invariant-loop-one
-invariant-loop-one g l = l.derived.items ≡ derived_of (offered l.host) (variable_of (named_of l.source) l.sources l.rows) (take l.one-index l.select)
+invariant-loop-one g l = l.derived.items ≡ derived_of_selects (offered l.host) (variable_of (table_names_of l.source) l.sources l.rows) (take l.one-index l.select)

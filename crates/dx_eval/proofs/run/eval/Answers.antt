@@ -8,7 +8,7 @@ use Rattle.dx_funcs.specs.Names.{call_named}
 use Rattle.dx_funcs.specs.Serving.{offered}
 use Rattle.dx_instance.specs.Shown.{shown_tables}
 use Rattle.dx_instance.specs.Stored.{TableRows, facts}
-use Rattle.dx_schema.specs.Names.{named_of}
+use Rattle.dx_schema.specs.Names.{table_names_of}
 use Rattle.dx_script.specs.declared.form.Step.{Step}
 use Rattle.dx_script.specs.Fits.{FitsScript}
 use Rattle.dx_script.specs.Meaning.{IsInserted}
@@ -24,7 +24,7 @@ use Rattle.dx_eval.proofs.run.eval.Goals as goal
 
 pub in_order-requires-clause-ascend : goal.in_order-requires-clause-ascend
 in_order-requires-clause-ascend g c =
-    let N = named_of c.args.source.now in
+    let N = table_names_of c.args.source.now in
     let L = offered c.args.host.now in
     let C = call_named g.M.Meaning.apply L in
     let I = facts (shown_tables c.numbers.result.symbols c.numbers.result.tables) in
@@ -35,7 +35,7 @@ in_order-requires-clause-ascend g c =
 
 pub in_order-requires-clause-texts : goal.in_order-requires-clause-texts
 in_order-requires-clause-texts g c =
-    let N = named_of c.args.source.now in
+    let N = table_names_of c.args.source.now in
     let L = offered c.args.host.now in
     let C = call_named g.M.Meaning.apply L in
     let I = facts (shown_tables c.numbers.result.symbols c.numbers.result.tables) in
@@ -46,7 +46,7 @@ in_order-requires-clause-texts g c =
 
 pub matches_of-requires : goal.matches_of-requires
 matches_of-requires g c =
-    let N = named_of c.args.source.now in
+    let N = table_names_of c.args.source.now in
     let L = offered c.args.host.now in
     let C = call_named g.M.Meaning.apply L in
     let I = facts (shown_tables c.numbers.result.symbols c.numbers.result.tables) in
@@ -60,7 +60,7 @@ matches_of-requires g c =
 
 pub insert_all-requires-clause-texts : goal.insert_all-requires-clause-texts
 insert_all-requires-clause-texts g c =
-    let N = named_of c.args.source.now in
+    let N = table_names_of c.args.source.now in
     let L = offered c.args.host.now in
     let C = call_named g.M.Meaning.apply L in
     let I = facts (shown_tables c.numbers.result.symbols c.numbers.result.tables) in
@@ -74,7 +74,7 @@ insert_all-requires-clause-texts g c =
 
 pub insert_all-requires-clause-keeps : goal.insert_all-requires-clause-keeps
 insert_all-requires-clause-keeps g c =
-    let N = named_of c.args.source.now in
+    let N = table_names_of c.args.source.now in
     let L = offered c.args.host.now in
     let C = call_named g.M.Meaning.apply L in
     let I = facts (shown_tables c.numbers.result.symbols c.numbers.result.tables) in
@@ -84,13 +84,13 @@ insert_all-requires-clause-keeps g c =
     let S = c.in_ok-symbols.field-0.symbols in
     let ts = c.in_ok-symbols.field-0.tables.items in
     let found = found_reordered N C I T S (matchings R) us ts c.in_ok-symbols.ensures.same c.in_ok-found.ensures.found in
-    let M = named_of c.args.target.now in
+    let M = table_names_of c.args.target.now in
     let fits = subst (λ (z : List Step). FitsScript N M L z) (sym c.items-steps.ensures) c.requires.fits in
     rw c.deref-3.ensures.value (parts_stand N M L R fits C I S ts found)
 
 pub insert_all-requires-clause-inserts : goal.insert_all-requires-clause-inserts
 insert_all-requires-clause-inserts g c =
-    let N = named_of c.args.source.now in
+    let N = table_names_of c.args.source.now in
     let L = offered c.args.host.now in
     let C = call_named g.M.Meaning.apply L in
     let I = facts (shown_tables c.numbers.result.symbols c.numbers.result.tables) in
@@ -100,16 +100,16 @@ insert_all-requires-clause-inserts g c =
     let S = c.in_ok-symbols.field-0.symbols in
     let ts = c.in_ok-symbols.field-0.tables.items in
     let found = found_reordered N C I T S (matchings R) us ts c.in_ok-symbols.ensures.same c.in_ok-found.ensures.found in
-    let M = named_of c.args.target.now in
+    let M = table_names_of c.args.target.now in
     let fits = subst (λ (z : List Step). FitsScript N M L z) (sym c.items-steps.ensures) c.requires.fits in
     rw c.deref-3.ensures.value (insert_stands N M L R fits C I S ts found)
 
 pub insert_all-requires-clause-reads : goal.insert_all-requires-clause-reads
 insert_all-requires-clause-reads g c =
-    let N = named_of c.args.source.now in
+    let N = table_names_of c.args.source.now in
     let L = offered c.args.host.now in
     let R = c.items-steps.result.now in
-    let M = named_of c.args.target.now in
+    let M = table_names_of c.args.target.now in
     let fits = subst (λ (z : List Step). FitsScript N M L z) (sym c.items-steps.ensures) c.requires.fits in
     reads_kept N M L R fits
 
@@ -121,7 +121,7 @@ insert_all-requires-clause-empty g c = nothing_built c.deref-2.result.now (built
 
 pub returns-in_err-found-clause-refused : goal.returns-in_err-found-clause-refused
 returns-in_err-found-clause-refused g c =
-    let N = named_of c.args.source.now in
+    let N = table_names_of c.args.source.now in
     let C = call_named g.M.Meaning.apply (offered c.args.host.now) in
     let I = facts (shown_tables c.numbers.result.symbols c.numbers.result.tables) in
     let e = err_from_is_err_and c.from_residual-in_err-found.result c.from_residual-in_err-found.ensures.1 in
@@ -130,7 +130,7 @@ returns-in_err-found-clause-refused g c =
 
 pub returns-clause-made : goal.returns-clause-made
 returns-clause-made g c =
-    let N = named_of c.args.source.now in
+    let N = table_names_of c.args.source.now in
     let L = offered c.args.host.now in
     let C = call_named g.M.Meaning.apply L in
     let I = facts (shown_tables c.numbers.result.symbols c.numbers.result.tables) in
@@ -139,7 +139,7 @@ returns-clause-made g c =
     let us = c.in_ok-found.found.tables.items in
     let S = c.in_ok-symbols.field-0.symbols in
     let ts = c.in_ok-symbols.field-0.tables.items in
-    let M = named_of c.args.target.now in
+    let M = table_names_of c.args.target.now in
     let fits = subst (λ (z : List Step). FitsScript N M L z) (sym c.items-steps.ensures) c.requires.fits in
     let B = built c.insert_all.new.target in
     let same = ap (λ (z : List Value). tuples_in z c.deref-3.result.now) c.in_ok-builder.ensures.symbols ∙ ap (tuples_in S) c.deref-3.ensures.value in

@@ -1,7 +1,7 @@
 use Rattle.dx_ports.proofs.Loops.{all_so, each_item, each_more, not_so}
 use Rattle.dx_ports.proofs.Members.{in_at}
 use Rattle.dx_model.specs.declared.tables.Dep.{Dep}
-use Rattle.dx_schema.specs.Tables.{table_at}
+use Rattle.dx_schema.specs.Tables.{schema_table}
 use Rattle.dx_holds.specs.Columns.{RowsDetermine}
 use Rattle.dx_holds.proofs.Tables.{dep_fits}
 use Rattle.dx_holds.proofs.keys.table_deps_hold.Goals as goal
@@ -19,13 +19,13 @@ determine-requires-clause-right c =
 pub returns-then-not-determine : goal.returns-then-not-determine
 returns-then-not-determine c =
     not_so c.if-not-determine.true (rw (c.items.ensures, c.items-in-loop-dep.ensures) at c.determine.ensures)
-    (each_item (λ (d : Dep). RowsDetermine c.args.instance.now c.args.table d.columns d.decides) (table_at c.args.schema.now c.args.table).deps c.loop-dep.dep-index c.dep-item.result (rw c.deps_of-dep-items.ensures at c.loop-dep-test.true) (rw c.deps_of-dep-items.ensures at c.dep-item.is))
+    (each_item (λ (d : Dep). RowsDetermine c.args.instance.now c.args.table d.columns d.decides) (schema_table c.args.schema.now c.args.table).deps c.loop-dep.dep-index c.dep-item.result (rw c.deps_of-dep-items.ensures at c.loop-dep-test.true) (rw c.deps_of-dep-items.ensures at c.dep-item.is))
 
 pub loop-dep-preserved : goal.loop-dep-preserved
 loop-dep-preserved c =
-    each_more (λ (d : Dep). RowsDetermine c.args.instance.now c.args.table d.columns d.decides) (table_at c.args.schema.now c.args.table).deps c.loop-dep.dep-index c.dep-item.result (rw c.deps_of-dep-items.ensures at c.loop-dep-test.true) (rw c.deps_of-dep-items.ensures at c.dep-item.is)
+    each_more (λ (d : Dep). RowsDetermine c.args.instance.now c.args.table d.columns d.decides) (schema_table c.args.schema.now c.args.table).deps c.loop-dep.dep-index c.dep-item.result (rw c.deps_of-dep-items.ensures at c.loop-dep-test.true) (rw c.deps_of-dep-items.ensures at c.dep-item.is)
     c.loop-dep.invariant (rw (c.items.ensures, c.items-in-loop-dep.ensures) at (c.determine.ensures.0 c.if-not-determine.false))
 
 pub returns : goal.returns
 returns c =
-    all_so (λ (d : Dep). RowsDetermine c.args.instance.now c.args.table d.columns d.decides) (table_at c.args.schema.now c.args.table).deps c.loop-dep.dep-index (rw c.deps_of-dep-items.ensures at c.loop-dep-test.false) c.loop-dep.invariant (λ q. q)
+    all_so (λ (d : Dep). RowsDetermine c.args.instance.now c.args.table d.columns d.decides) (schema_table c.args.schema.now c.args.table).deps c.loop-dep.dep-index (rw c.deps_of-dep-items.ensures at c.loop-dep-test.false) c.loop-dep.invariant (λ q. q)

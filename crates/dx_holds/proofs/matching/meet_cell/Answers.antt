@@ -4,7 +4,7 @@ use Rattle.dx_model.specs.declared.values.Value.{Value}
 use Rattle.dx_model.specs.declared.rules.Cell.{Cell}
 use Rattle.dx_model.specs.Rules.{cell_value}
 use Rattle.dx_instance.specs.Places.{value_at}
-use Rattle.dx_holds.specs.Searching.{Misses, Narrows, texts}
+use Rattle.dx_holds.specs.Searching.{Misses, AddsExactly, texts}
 use Rattle.dx_holds.proofs.Narrowing.{answer_known}
 use Rattle.dx_holds.proofs.matching.meet_cell.Goals as goal
 
@@ -12,7 +12,7 @@ pub returns-in-Ex-clause-cases : goal.returns-in-Ex-clause-cases
 returns-in-Ex-clause-cases c =
     subst
     (λ (k : Cell). MatchBool c.meet_variable.result
-    (Narrows c.args.question.now.target.now (vec_capacity c.args.found.now) c.args.found.now.items (λ values. cell_value (texts c.args.question.now.atoms.now c.args.question.now.tuple.now) values k ≡ value_at c.args.question.now.target.now c.args.table c.args.place c.args.column) c.meet_variable.new.found.items)
+    (AddsExactly c.args.question.now.target.now (vec_capacity c.args.found.now) c.args.found.now.items (λ values. cell_value (texts c.args.question.now.atoms.now c.args.question.now.tuple.now) values k ≡ value_at c.args.question.now.target.now c.args.table c.args.place c.args.column) c.meet_variable.new.found.items)
     (Misses c.args.question.now.target.now c.args.found.now.items (λ values. cell_value (texts c.args.question.now.atoms.now c.args.question.now.tuple.now) values k ≡ value_at c.args.question.now.target.now c.args.table c.args.place c.args.column) c.meet_variable.new.found.items))
     (sym c.in-Ex.is) c.meet_variable.ensures.cases
 

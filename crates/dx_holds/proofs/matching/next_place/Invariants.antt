@@ -1,6 +1,6 @@
 use Rattle.std.proofs.Common.{◌≡◌, ◌≤◌, ◌-◌, length, vec_capacity}
 use Rattle.dx_instance.specs.Stored.{rows_of}
-use Rattle.dx_holds.specs.Searching.{Skips, texts}
+use Rattle.dx_holds.specs.Searching.{HasNoMatchBetween, texts}
 use Rattle.dx_holds.proofs.matching.next_place.Given as goal
 
 abbrev pub decreases-loop-place : goal.decreases-loop-place
@@ -11,5 +11,5 @@ invariant-loop-place l = record {
   capacity : vec_capacity l.found ≡ vec_capacity l.fn.found;
   same : l.found.items ≡ l.fn.found.items;
   later : l.from ≤ l.next;
-  skips : Skips (texts l.question.atoms.now l.question.tuple.now) l.question.target.now l.fn.found.items l.atom l.from l.next;
+  skips : HasNoMatchBetween (texts l.question.atoms.now l.question.tuple.now) l.question.target.now l.fn.found.items l.atom l.from l.next;
 }

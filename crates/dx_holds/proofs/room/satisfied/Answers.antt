@@ -3,7 +3,7 @@ use Rattle.std.proofs.lemmas.List.{get_or_default}
 use Rattle.dx_ports.specs.Members.{◌∈◌, Each}
 use Rattle.dx_ports.proofs.Loops.{all_so, each_item, each_more, not_so}
 use Rattle.dx_model.specs.declared.values.Value.{Value}
-use Rattle.dx_model.specs.Rules.{cells_of, exported, said}
+use Rattle.dx_model.specs.Rules.{cells_of, exported, fact_of_atom}
 use Rattle.dx_model.specs.Values.{Tuple}
 use Rattle.dx_instance.specs.Stored.{facts}
 use Rattle.dx_holds.specs.Searching.{texts}
@@ -28,7 +28,7 @@ pub returns-then-not-completes-clause-value : goal.returns-then-not-completes-cl
 returns-then-not-completes-clause-value c =
     let t = tuple_there c.args.places.now.tuples c.loop-place.place c.len-place-end.result c.tuple.result.now c.loop-place-test.true c.len-place-end.ensures c.tuple.ensures in
     not_so c.if-not-completes.true (rw c.items-atoms.ensures at c.completes.ensures.value)
-    (each_item (λ (t : Tuple). (values : ℕ → Value) × Each c.args.rule.now.conclusion (λ a. said (texts c.args.rule.now.conclusion t) values a ∈ facts c.args.target.now)) c.args.places.now.tuples c.loop-place.place c.tuple.result.now t.0 t.1)
+    (each_item (λ (t : Tuple). (values : ℕ → Value) × Each c.args.rule.now.conclusion (λ a. fact_of_atom (texts c.args.rule.now.conclusion t) values a ∈ facts c.args.target.now)) c.args.places.now.tuples c.loop-place.place c.tuple.result.now t.0 t.1)
 
 pub loop-place-preserved : goal.loop-place-preserved
 loop-place-preserved c =
@@ -38,11 +38,11 @@ loop-place-preserved c =
       done = omega (arith, c.loop-place.invariant.done, c.completes.ensures.done_capacity);
       atoms = c.loop-place.invariant.atoms;
       existentials = c.loop-place.invariant.existentials;
-      held = each_more (λ (t : Tuple). (values : ℕ → Value) × Each c.args.rule.now.conclusion (λ a. said (texts c.args.rule.now.conclusion t) values a ∈ facts c.args.target.now)) c.args.places.now.tuples c.loop-place.place c.tuple.result.now
+      held = each_more (λ (t : Tuple). (values : ℕ → Value) × Each c.args.rule.now.conclusion (λ a. fact_of_atom (texts c.args.rule.now.conclusion t) values a ∈ facts c.args.target.now)) c.args.places.now.tuples c.loop-place.place c.tuple.result.now
           t.0 t.1 c.loop-place.invariant.held ((rw c.items-atoms.ensures at c.completes.ensures.value).0 c.if-not-completes.false);
     }
 
 pub returns-clause-value : goal.returns-clause-value
 returns-clause-value c =
-    all_so (λ (t : Tuple). (values : ℕ → Value) × Each c.args.rule.now.conclusion (λ a. said (texts c.args.rule.now.conclusion t) values a ∈ facts c.args.target.now)) c.args.places.now.tuples c.loop-place.place
+    all_so (λ (t : Tuple). (values : ℕ → Value) × Each c.args.rule.now.conclusion (λ a. fact_of_atom (texts c.args.rule.now.conclusion t) values a ∈ facts c.args.target.now)) c.args.places.now.tuples c.loop-place.place
     (rw c.len-place-end.ensures at c.loop-place-test.false) c.loop-place.invariant.held (λ q. q)

@@ -1,7 +1,7 @@
 use Rattle.std.proofs.Common.{◌≡◌, ◌≤◌, ℕ, take, vec_capacity}
 use Rattle.dx_ports.specs.Members.{◌∈◌, Each}
 use Rattle.dx_model.specs.declared.values.Value.{Value}
-use Rattle.dx_model.specs.Rules.{said}
+use Rattle.dx_model.specs.Rules.{fact_of_atom}
 use Rattle.dx_model.specs.Values.{Tuple}
 use Rattle.dx_instance.specs.Stored.{facts}
 use Rattle.dx_holds.specs.Searching.{texts}
@@ -13,5 +13,5 @@ invariant-loop-place l = record {
   done : l.room-inside.atoms ≤ vec_capacity l.room-inside.done;
   atoms : l.room-inside.atoms ≡ l.fn.room.atoms;
   existentials : l.room-inside.existentials ≡ l.fn.room.existentials;
-  held : Each (take {A = Tuple} l.place l.places.tuples) (λ t. (values : ℕ → Value) × Each l.rule.conclusion (λ a. said (texts l.rule.conclusion t) values a ∈ facts l.target));
+  held : Each (take {A = Tuple} l.place l.places.tuples) (λ t. (values : ℕ → Value) × Each l.rule.conclusion (λ a. fact_of_atom (texts l.rule.conclusion t) values a ∈ facts l.target));
 }

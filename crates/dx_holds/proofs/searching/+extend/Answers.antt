@@ -3,7 +3,8 @@ use Rattle.std.specs.Prelude.{Some}
 use Rattle.std.proofs.lemmas.List.{get_or_default}
 use Rattle.dx_ports.proofs.Members.{in_at}
 use Rattle.dx_model.specs.declared.rules.Cell.TheVariants.{Ex}
-use Rattle.dx_holds.specs.Searching.{NoneLeft, atom_at, texts}
+use Rattle.dx_holds.specs.Searching.{NoneLeft, texts}
+use Rattle.dx_model.specs.Rules.{atom_at}
 use Rattle.dx_holds.proofs.Narrowing.{begins_on, cut, in_cells}
 use Rattle.dx_holds.proofs.Parts.{begins_longer, done_few, done_room, fails_after, or_else, since_longer, state_more, tried_all, tried_fail, tried_skip}
 use Rattle.dx_holds.proofs.searching.+extend.Goals as goal

@@ -5,7 +5,7 @@ use Rattle.dx_ports.specs.Members.{◌∈◌}
 use Rattle.dx_ports.proofs.Loops.{each_item, each_more}
 use Rattle.dx_model.specs.declared.rules.Cell.{Cell}
 use Rattle.dx_model.specs.declared.rules.Cell.TheVariants.{Ex}
-use Rattle.dx_holds.specs.Searching.{names}
+use Rattle.dx_holds.specs.Searching.{found_variables}
 use Rattle.dx_holds.proofs.Finding.{found_none, found_some, same_ex}
 use Rattle.dx_holds.proofs.searching.has_found.Goals as goal
 use Rattle.dx_holds.proofs.searching.has_found.Goals.{in-Ex+else-is_some, in_default}
@@ -22,9 +22,9 @@ returns-then-is_some c = (
 
 pub loop-cell-preserved : goal.loop-cell-preserved
 loop-cell-preserved c =
-    each_more (λ (z : Cell). (v : ℕ) → z ≡ Ex v → ¬ (v ∈ names c.args.found.now)) c.args.cells.now c.loop-cell.cell-index c.cell-item.result c.loop-cell-test.true c.cell-item.is c.loop-cell.invariant
+    each_more (λ (z : Cell). (v : ℕ) → z ≡ Ex v → ¬ (v ∈ found_variables c.args.found.now)) c.args.cells.now c.loop-cell.cell-index c.cell-item.result c.loop-cell-test.true c.cell-item.is c.loop-cell.invariant
     (elim c.match-cell.branch [
-      | in-Ex+else-is_some w ↦ λ v e. subst (λ (x : ℕ). ¬ (x ∈ names c.args.found.now)) (same_ex w.in-Ex.variable v (sym w.in-Ex.is ∙ e)) (found_none c.args.found.now w.in-Ex.variable w.found_at.result (sym w.is_some.ensures ∙ w.if-is_some.false) w.found_at.ensures)
+      | in-Ex+else-is_some w ↦ λ v e. subst (λ (x : ℕ). ¬ (x ∈ found_variables c.args.found.now)) (same_ex w.in-Ex.variable v (sym w.in-Ex.is ∙ e)) (found_none c.args.found.now w.in-Ex.variable w.found_at.result (sym w.is_some.ensures ∙ w.if-is_some.false) w.found_at.ensures)
       | in_default w ↦ λ v e. absurd (w.in_default.not-Ex v e)
     ])
 

@@ -3,7 +3,7 @@ use Rattle.std.specs.Option.{option_copied}
 use Rattle.std.proofs.lemmas.Bool.{false≢true}
 use Rattle.dx_ports.proofs.Members.{in_at}
 use Rattle.dx_instance.specs.Stored.{table_at}
-use Rattle.dx_hom.specs.Bound.{Bound}
+use Rattle.dx_hom.specs.Bound.{BindingState}
 use Rattle.dx_hom.proofs.Placing.{row_wide}
 use Rattle.dx_hom.proofs.Steps.{cut, row_excluded, row_met, skips_more, skips_on}
 use Rattle.dx_hom.proofs.searching.place_from.Goals as goal
@@ -63,19 +63,19 @@ loop-place-preserved c =
           let fails = w.if-meet_row.ensures.cases in
           let more = rw same at fails.begins in
           let cells : c.if-is_open.found.cells ≡ old =
-          ap (λ (b : Bound). b.cells) (w.found-is ∙ w.truncate.ensures)
+          ap (λ (b : BindingState). b.cells) (w.found-is ∙ w.truncate.ensures)
           ∙ cut old w.meet_row.new.found.cells c.len-bound.result c.len-bound.ensures more in
           let excluded = row_excluded T gone fixed avoid c.loop-place.found.cells w.meet_row.new.found.cells old fact w.items.result.now p
           w.items.ensures same fails in
           record {
-            room = ap (λ (b : Bound). b.room) (w.found-is ∙ w.truncate.ensures) ∙ (w.meet_row.ensures.room ∙ c.loop-place.invariant.room);
+            room = ap (λ (b : BindingState). b.room) (w.found-is ∙ w.truncate.ensures) ∙ (w.meet_row.ensures.room ∙ c.loop-place.invariant.room);
             same = cells;
             from = omega (arith, place.0, c.loop-place.invariant.from);
             skips = skips_more T gone fixed avoid old fact c.args.next p skips (λ o. excluded);
           }
       | else-is_open w ↦ record {
-        room = ap (λ (b : Bound). b.room) w.found-is ∙ c.loop-place.invariant.room;
-        same = ap (λ (b : Bound). b.cells) w.found-is ∙ same;
+        room = ap (λ (b : BindingState). b.room) w.found-is ∙ c.loop-place.invariant.room;
+        same = ap (λ (b : BindingState). b.cells) w.found-is ∙ same;
         from = omega (arith, place.0, c.loop-place.invariant.from);
         skips = skips_more T gone fixed avoid old fact c.args.next p skips (λ o. absurd (false≢true (w.if-is_open.ensures.1 o)));
       }

@@ -3,7 +3,7 @@ use Rattle.std.proofs.lemmas.List.{length-map}
 use Rattle.dx_model.specs.declared.values.Value.{Value}
 use Rattle.dx_ports.specs.Members.{Each}
 use Rattle.dx_instance.specs.Cells.{NumberTable}
-use Rattle.dx_instance.specs.Shown.{NumbersFit, RowsFit, renumbered, shown_tables}
+use Rattle.dx_instance.specs.Shown.{NumbersFit, NumberRowsFit, renumbered, shown_tables}
 use Rattle.dx_instance.specs.Stored.{IsSorting}
 use Rattle.dx_instance.proofs.SortFacts.{if_ok, images_fit, parts_rows}
 use Rattle.dx_instance.proofs.instance.image_by.Goals as goal
@@ -15,8 +15,8 @@ pub from_rows-requires-clause-fit : goal.from_rows-requires-clause-fit
 from_rows-requires-clause-fit c =
     let n = length c.args.symbols.now in
     let fit = images_fit n n c.args.images.now c.args.tables.now c.requires.within (parts_rows c.args.symbols.now c.args.tables.now c.requires.fit) in
-    subst (λ (l : List NumberTable). Each l (RowsFit (length c.in_ok-copy.field-0))) (sym c.in_ok-rows.ensures)
-    (subst (λ (s : List Value). Each (map (renumbered c.args.images.now) c.args.tables.now) (RowsFit (length s))) (sym c.in_ok-copy.ensures) fit)
+    subst (λ (l : List NumberTable). Each l (NumberRowsFit (length c.in_ok-copy.field-0))) (sym c.in_ok-rows.ensures)
+    (subst (λ (s : List Value). Each (map (renumbered c.args.images.now) c.args.tables.now) (NumberRowsFit (length s))) (sym c.in_ok-copy.ensures) fit)
 
 pub from_rows-requires-clause-few : goal.from_rows-requires-clause-few
 from_rows-requires-clause-few c =

@@ -1,7 +1,7 @@
 use Rattle.std.proofs.Common.{ap, subst, sym, length, List}
 use Rattle.dx_ports.specs.Members.{Each}
 use Rattle.dx_instance.specs.Cells.{NumberTable}
-use Rattle.dx_instance.specs.Shown.{RowsFit, shown_tables}
+use Rattle.dx_instance.specs.Shown.{NumberRowsFit, shown_tables}
 use Rattle.dx_instance.proofs.SortFacts.{if_ok, images_fit, same_sorting}
 use Rattle.dx_instance.proofs.instance.of_ranks.Goals as goal
 
@@ -12,7 +12,7 @@ pub of_ordered-requires-clause-fit : goal.of_ordered-requires-clause-fit
 of_ordered-requires-clause-fit c =
     let symbols = c.args.ordered.symbols in
     let ranks = c.args.ordered.ranks.items in
-    subst (λ (l : List NumberTable). Each l (RowsFit (length symbols))) (sym c.in_ok-ranked.ensures)
+    subst (λ (l : List NumberTable). Each l (NumberRowsFit (length symbols))) (sym c.in_ok-ranked.ensures)
     (rw c.deref.ensures.value (images_fit (length symbols) (length ranks) ranks c.args.tables.items c.requires.within c.requires.fit))
 
 pub returns : goal.returns

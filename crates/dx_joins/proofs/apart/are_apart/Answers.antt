@@ -5,7 +5,7 @@ use Rattle.dx_ports.specs.Members.{◌∈◌, Each}
 use Rattle.dx_ports.proofs.Members.{from_flat_map, item_in}
 use Rattle.dx_ports.proofs.Loops.{each_more}
 use Rattle.dx_joins.specs.declared.pattern.Pattern.{Pattern}
-use Rattle.dx_joins.specs.Joining.{variables_of}
+use Rattle.dx_joins.specs.Joining.{variables_of_patterns}
 use Rattle.dx_joins.proofs.Patterns.{in_pattern}
 use Rattle.dx_joins.proofs.apart.are_apart.Goals as goal
 
@@ -19,7 +19,7 @@ returns-then-one_stands_in c =
 
 pub loop-pattern-preserved : goal.loop-pattern-preserved
 loop-pattern-preserved c =
-    each_more (λ (p : Pattern). Each p.variables.items (λ x. ¬ (x ∈ variables_of c.args.first.now))) c.args.others.now c.loop-pattern.pattern-index c.pattern-item.result c.loop-pattern-test.true c.pattern-item.is c.loop-pattern.invariant
+    each_more (λ (p : Pattern). Each p.variables.items (λ x. ¬ (x ∈ variables_of_patterns c.args.first.now))) c.args.others.now c.loop-pattern.pattern-index c.pattern-item.result c.loop-pattern-test.true c.pattern-item.is c.loop-pattern.invariant
     (λ x m k. true≢false (sym (c.one_stands_in.ensures.1 (x, subst (λ (l : List ℕ). x ∈ l) (sym c.deref.ensures.value) m, k)) ∙ c.if-one_stands_in.false))
 
 pub returns : goal.returns

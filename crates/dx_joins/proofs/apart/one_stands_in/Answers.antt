@@ -4,7 +4,7 @@ use Rattle.std.proofs.lemmas.List.{get_or_default, take_all}
 use Rattle.dx_ports.specs.Members.{◌∈◌}
 use Rattle.dx_ports.proofs.Members.{in_at}
 use Rattle.dx_ports.proofs.Loops.{each_more}
-use Rattle.dx_joins.specs.Joining.{variables_of}
+use Rattle.dx_joins.specs.Joining.{variables_of_patterns}
 use Rattle.dx_joins.proofs.apart.one_stands_in.Goals as goal
 
 pub returns-then-stands_in : goal.returns-then-stands_in
@@ -19,7 +19,7 @@ pub loop-x-preserved : goal.loop-x-preserved
 loop-x-preserved c =
     let xs = c.args.variables.now in
     let x = get_or xs c.loop-x.x-index 0 in
-    each_more (λ (z : ℕ). ¬ (z ∈ variables_of c.args.patterns.now)) xs c.loop-x.x-index x c.loop-x-test.true
+    each_more (λ (z : ℕ). ¬ (z ∈ variables_of_patterns c.args.patterns.now)) xs c.loop-x.x-index x c.loop-x-test.true
     (get_or_default xs c.loop-x.x-index 0 x c.loop-x-test.true) c.loop-x.invariant
     (λ k. true≢false (sym (c.stands_in.ensures.1 k) ∙ c.if-stands_in.false))
 

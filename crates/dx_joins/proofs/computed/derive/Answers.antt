@@ -5,7 +5,7 @@ use Rattle.dx_model.specs.declared.rules.Derived.{Derived}
 use Rattle.dx_instance.proofs.NumberFacts.{stays}
 use Rattle.dx_instance.proofs.ShownFacts.{extends_both}
 use Rattle.dx_joins.specs.Shown.{AreTexts, texts_of}
-use Rattle.dx_joins.specs.Derivations.{derived_texts}
+use Rattle.dx_joins.specs.Derivations.{derived_values}
 use Rattle.dx_joins.proofs.Growing.{derive_more, texts_grow}
 use Rattle.dx_joins.proofs.computed.derive.Goals as goal
 
@@ -47,4 +47,4 @@ loop-one-preserved g c =
     }
 
 pub returns-clause-shown : goal.returns-clause-shown
-returns-clause-shown g c = c.loop-one.invariant.shown ∙ ap (λ (l : List Derived). texts_of c.args.symbols.now c.args.row.now ++ derived_texts g.M.Meaning.apply c.args.names.now l (texts_of c.args.symbols.now c.args.row.now)) (take_all c.loop-one.one-index c.args.derived.now c.loop-one-test.false)
+returns-clause-shown g c = c.loop-one.invariant.shown ∙ ap (λ (l : List Derived). texts_of c.args.symbols.now c.args.row.now ++ derived_values g.M.Meaning.apply c.args.names.now l (texts_of c.args.symbols.now c.args.row.now)) (take_all c.loop-one.one-index c.args.derived.now c.loop-one-test.false)

@@ -1,13 +1,13 @@
 use Rattle.std.proofs.Common.{◌≡◌, ◌++◌, take}
-use Rattle.dx_instance.specs.Numbers.{AreApart, Extends}
+use Rattle.dx_instance.specs.Numbers.{AreDistinctValues, Extends}
 use Rattle.dx_joins.specs.Shown.{AreTexts, texts_of}
-use Rattle.dx_joins.specs.Derivations.{derived_texts}
+use Rattle.dx_joins.specs.Derivations.{derived_values}
 use Rattle.dx_joins.proofs.computed.derive.Given as goal
 
 abbrev pub invariant-loop-one : goal.invariant-loop-one
 invariant-loop-one g l = record {
   grows : Extends l.initial.symbols l.symbols;
-  apart : AreApart l.symbols;
+  apart : AreDistinctValues l.symbols;
   texts : AreTexts l.symbols l.buffer.items;
-  shown : texts_of l.symbols l.buffer.items ≡ texts_of l.initial.symbols l.row ++ derived_texts g.M.Meaning.apply l.names (take l.one-index l.derived) (texts_of l.initial.symbols l.row);
+  shown : texts_of l.symbols l.buffer.items ≡ texts_of l.initial.symbols l.row ++ derived_values g.M.Meaning.apply l.names (take l.one-index l.derived) (texts_of l.initial.symbols l.row);
 }

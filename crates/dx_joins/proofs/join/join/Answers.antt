@@ -1,7 +1,7 @@
 use Rattle.std.proofs.Common.{◌⊎◌, subst, arith, ℕ, List}
 use Rattle.dx_ports.specs.Members.{◌∈◌}
 use Rattle.dx_instance.specs.Shown.{numbers_of_table}
-use Rattle.dx_joins.specs.Collecting.{Gains, MoreThan}
+use Rattle.dx_joins.specs.Collecting.{CollectsRows, MoreThan}
 use Rattle.dx_joins.specs.Planning.{PairsWith}
 use Rattle.dx_joins.proofs.ByPlace.{by_more, by_full, by_all}
 use Rattle.dx_joins.proofs.join.join.Goals as goal
@@ -16,9 +16,9 @@ returns-then-branch c =
 pub loop-place-preserved : goal.loop-place-preserved
 loop-place-preserved c =
     let E : List ℕ → List ℕ → Type 0 = λ r t. PairsWith c.args.plan.now c.args.marks.now (numbers_of_table c.args.source.now.tables c.args.table).rows r t in
-    let more : Gains c.loop-place.out c.join_left.new.out (E c.row-left.result.now) = rw c.if-branch.false at c.in_ok-join_left.ensures in
+    let more : CollectsRows c.loop-place.out c.join_left.new.out (E c.row-left.result.now) = rw c.if-branch.false at c.in_ok-join_left.ensures in
     by_more E c.args.rows.now.rows c.args.out.now c.loop-place.out c.join_left.new.out c.loop-place.place c.loop-place.invariant
-    (subst (λ (r : List ℕ). Gains c.loop-place.out c.join_left.new.out (E r)) c.row-left.ensures.row more)
+    (subst (λ (r : List ℕ). CollectsRows c.loop-place.out c.join_left.new.out (E r)) c.row-left.ensures.row more)
 
 pub returns : goal.returns
 returns c =

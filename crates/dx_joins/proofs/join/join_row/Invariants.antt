@@ -1,15 +1,15 @@
 use Rattle.std.proofs.Common.{◌<◌, ◌-◌, ◌%◌, ℕ, length}
 use Rattle.dx_instance.specs.Shown.{numbers_of_table}
-use Rattle.dx_instance.specs.Cells.{key_of, numbers_at}
-use Rattle.dx_joins.specs.Collecting.{Gains}
-use Rattle.dx_joins.specs.Looking.{IsNext, keys_of, numbers_in}
+use Rattle.dx_instance.specs.Cells.{row_key, numbers_at}
+use Rattle.dx_joins.specs.Collecting.{CollectsRows}
+use Rattle.dx_joins.specs.Looking.{IsNextInBucket, keys_of, numbers_at_places}
 use Rattle.dx_joins.specs.Planning.{Pairs}
 use Rattle.dx_joins.proofs.join.join_row.Given as goal
 
 abbrev pub invariant-loop-place : goal.invariant-loop-place
 invariant-loop-place l = record {
-  gains : Gains l.initial.out l.out (λ t. (q : ℕ) × (q < l.place) × Pairs l.plan l.marks l.left (numbers_at (numbers_of_table l.source.tables l.table).rows q) t);
-  next : IsNext (keys_of l.plan.by_right.items (numbers_of_table l.source.tables l.table).rows) (length l.index.heads.items) (key_of (numbers_in l.left l.plan.by_left.items) % length l.index.heads.items) l.place l.place;
+  gains : CollectsRows l.initial.out l.out (λ t. (q : ℕ) × (q < l.place) × Pairs l.plan l.marks l.left (numbers_at (numbers_of_table l.source.tables l.table).rows q) t);
+  next : IsNextInBucket (keys_of l.plan.by_right.items (numbers_of_table l.source.tables l.table).rows) (length l.index.heads.items) (row_key (numbers_at_places l.left l.plan.by_left.items) % length l.index.heads.items) l.place l.place;
 }
 
 abbrev pub decreases-loop-place : goal.decreases-loop-place

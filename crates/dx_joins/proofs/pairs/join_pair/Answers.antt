@@ -2,7 +2,7 @@ use Rattle.std.proofs.Common.{◌∙◌, ◌++◌, arith, sym, ap, subst, ℕ, L
 use Rattle.std.proofs.lemmas.Bool.{true≢false}
 use Rattle.dx_ports.specs.Members.{◌∈◌}
 use Rattle.dx_ports.proofs.Members.{in_right}
-use Rattle.dx_joins.specs.Looking.{numbers_in}
+use Rattle.dx_joins.specs.Looking.{numbers_at_places}
 use Rattle.dx_joins.proofs.Places.{places_within, joined_agree}
 use Rattle.dx_joins.proofs.Collections.{gains_nothing}
 use Rattle.dx_joins.proofs.Pairing.{paired}
@@ -20,7 +20,7 @@ returns-then-not-are_marked c = gains_nothing c.args.out.now _ (λ t p. true≢f
 pub returns-then-not-agree : goal.returns-then-not-agree
 returns-then-not-agree c =
     let p = c.args.plan.now in
-    gains_nothing c.args.out.now _ (λ t q. true≢false (sym (c.agree.ensures.1 (ap (λ (l : List ℕ). numbers_in (c.args.left.now ++ c.args.right.now) l) c.deref.ensures.value
+    gains_nothing c.args.out.now _ (λ t q. true≢false (sym (c.agree.ensures.1 (ap (λ (l : List ℕ). numbers_at_places (c.args.left.now ++ c.args.right.now) l) c.deref.ensures.value
     ∙ joined_agree p.left.items p.right.items p.kept.items p.firsts.items c.args.left.now c.args.right.now t c.requires.plan.firsts q.joined)) ∙ c.if-not-agree.true))
 
 pub gather-requires : goal.gather-requires
@@ -34,7 +34,7 @@ gather-requires c = record {
 pub returns : goal.returns
 returns c =
     let p = c.args.plan.now in
-    let agree = ap (λ (l : List ℕ). numbers_in (c.args.left.now ++ c.args.right.now) l) (sym c.deref.ensures.value) ∙ c.agree.ensures.0 c.if-not-agree.false in
-    let buffer = c.deref-3.ensures.value ∙ c.in_ok-gather.ensures ∙ ap (λ (l : List ℕ). numbers_in (c.args.left.now ++ c.args.right.now) l) c.deref-2.ensures.value in
+    let agree = ap (λ (l : List ℕ). numbers_at_places (c.args.left.now ++ c.args.right.now) l) (sym c.deref.ensures.value) ∙ c.agree.ensures.0 c.if-not-agree.false in
+    let buffer = c.deref-3.ensures.value ∙ c.in_ok-gather.ensures ∙ ap (λ (l : List ℕ). numbers_at_places (c.args.left.now ++ c.args.right.now) l) c.deref-2.ensures.value in
     paired c.push.result p c.args.marks.now c.args.left.now c.args.right.now c.deref-3.result.now c.args.out.now c.push.new.self c.requires.plan c.requires.left (c.are_marked.ensures.0 c.if-not-are_marked.false)
     agree buffer c.push.ensures

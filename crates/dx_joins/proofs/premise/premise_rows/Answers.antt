@@ -2,7 +2,7 @@ use Rattle.std.proofs.Common.{◌≡◌, ◌∙◌, ◌-◌, ◌+◌, ◌++◌, 
 use Rattle.std.proofs.lemmas.List.{take_more, take_all, drop_more, length-drop}
 use Rattle.dx_ports.proofs.Members.{item_in}
 use Rattle.dx_joins.specs.declared.pattern.Pattern.{Pattern}
-use Rattle.dx_joins.specs.Planning.{Carries, StepsTo}
+use Rattle.dx_joins.specs.Planning.{HoldsPartialMatches, StepsTo}
 use Rattle.dx_joins.proofs.Carrying.{carry_start, last_known, last_told, told_from, some_length}
 use Rattle.dx_joins.proofs.Patterns.{split_length}
 use Rattle.dx_joins.proofs.premise.premise_rows.Goals as goal
@@ -28,11 +28,11 @@ loop-i-preserved c =
     let h : i < length ps = omega (arith, c.loop-i-test.true) in
     let later : drop i ps ≡ p ∷ drop (i + 1) ps = drop_more ps i p h ∙ ap (λ (a : Pattern). a ∷ drop (i + 1) ps) (sym c.index-patterns-i.is) in
     let first : take (i + 1) ps ≡ take i ps ++ p ∷ [] = take_more ps i p h ∙ ap (λ (a : Pattern). take i ps ++ a ∷ []) (sym c.index-patterns-i.is) in
-    let inv : Carries c.args.source.now.tables c.args.marks.now (take i ps) (p ∷ drop (i + 1) ps) c.args.shown.now c.loop-i.partial = rw (← later) c.loop-i.invariant in
+    let inv : HoldsPartialMatches c.args.source.now.tables c.args.marks.now (take i ps) (p ∷ drop (i + 1) ps) c.args.shown.now c.loop-i.partial = rw (← later) c.loop-i.invariant in
     let rest : take (length ps - (i + 1)) (drop (i + 1) ps) ≡ drop (i + 1) ps = take_all (length ps - (i + 1)) (drop (i + 1) ps) (omega (arith, length-drop (i + 1) ps)) in
-    let inv2 : Carries c.args.source.now.tables c.args.marks.now (take i ps) (p ∷ take (length ps - (i + 1)) (drop (i + 1) ps)) c.args.shown.now c.loop-i.partial = rw rest inv in
+    let inv2 : HoldsPartialMatches c.args.source.now.tables c.args.marks.now (take i ps) (p ∷ take (length ps - (i + 1)) (drop (i + 1) ps)) c.args.shown.now c.loop-i.partial = rw rest inv in
     let next = c.in_ok-partial-2.ensures (take i ps) inv2 in
-    rw first (subst (λ (l : List Pattern). Carries c.args.source.now.tables c.args.marks.now (take i ps ++ p ∷ []) l c.args.shown.now c.in_ok-partial-2.partial) rest next)
+    rw first (subst (λ (l : List Pattern). HoldsPartialMatches c.args.source.now.tables c.args.marks.now (take i ps ++ p ∷ []) l c.args.shown.now c.in_ok-partial-2.partial) rest next)
 
 pub step-requires-clause-known : goal.step-requires-clause-known
 step-requires-clause-known c =

@@ -1,6 +1,6 @@
 use Rattle.std.proofs.Common.{◌∙◌, ◌⊎◌, ap, List, ℕ, length}
 use Rattle.dx_ports.specs.Members.{◌∈◌}
-use Rattle.dx_joins.specs.Collecting.{AreThose, Collection, Gains, MoreThan}
+use Rattle.dx_joins.specs.Collecting.{AreThose, Collection, CollectsRows, MoreThan}
 use Rattle.dx_joins.specs.Planning.{StepsTo}
 use Rattle.dx_joins.proofs.Carrying.{few_rows, from_plan, plan_steps, step_done, step_full}
 use Rattle.dx_joins.proofs.premise.step.Goals as goal
@@ -21,7 +21,7 @@ returns-clause-rows c =
     let e = c.in_ok-plan.ensures in
     let P : List ℕ → Type 0 = from_plan c.args.source.now.tables c.args.marks.now c.args.partial.now c.args.pattern.now plan in
     let Q : List ℕ → Type 0 = StepsTo c.args.source.now.tables c.args.marks.now c.args.partial.now c.args.pattern.now c.args.kept.now in
-    let gains : Gains c.new-out.result c.join.new.out P = rw c.if-branch.false at c.in_ok-join.ensures in
+    let gains : CollectsRows c.new-out.result c.join.new.out P = rw c.if-branch.false at c.in_ok-join.ensures in
     step_done c.finish.result c.new-out.result c.join.new.out c.args.most (length c.args.kept.now) P Q (ap (λ (x : Collection). x.most) c.new-out.ensures) (ap (λ (x : Collection). x.width) c.new-out.ensures)
     (ap (λ (x : Collection). x.rows) c.new-out.ensures)
     (plan_steps c.args.source.now.tables c.args.marks.now c.args.partial.now c.args.pattern.now plan c.args.kept.now (e.left ∙ c.deref.ensures.value) (e.right ∙ c.deref-2.ensures.value) e.kept) gains c.finish.ensures
@@ -29,6 +29,6 @@ returns-clause-rows c =
 pub returns-clause-within : goal.returns-clause-within
 returns-clause-within c =
     let P : List ℕ → Type 0 = from_plan c.args.source.now.tables c.args.marks.now c.args.partial.now c.args.pattern.now c.in_ok-plan.plan in
-    let gains : Gains c.new-out.result c.join.new.out P = rw c.if-branch.false at c.in_ok-join.ensures in
+    let gains : CollectsRows c.new-out.result c.join.new.out P = rw c.if-branch.false at c.in_ok-join.ensures in
     few_rows c.finish.result c.join.new.out.most c.args.most (MoreThan c.join.new.out.most (λ t. t ∈ c.join.new.out.rows)) (AreThose c.join.new.out.width (λ t. t ∈ c.join.new.out.rows))
     (gains.most ∙ ap (λ (x : Collection). x.most) c.new-out.ensures) c.finish.ensures

@@ -1,6 +1,6 @@
 use Rattle.std.proofs.Common.{◌⊎◌, subst, refl, arith, ℕ, List, [], length}
 use Rattle.dx_ports.specs.Members.{◌∈◌}
-use Rattle.dx_joins.specs.Collecting.{Collection, Gains, MoreThan}
+use Rattle.dx_joins.specs.Collecting.{Collection, CollectsRows, MoreThan}
 use Rattle.dx_joins.specs.Products.{Crosses, CrossesWith}
 use Rattle.dx_joins.proofs.ByPlace.{by_all, by_full, by_more}
 use Rattle.dx_joins.proofs.Carrying.{step_done, step_full}
@@ -19,9 +19,9 @@ pub loop-place-preserved : goal.loop-place-preserved
 loop-place-preserved c =
     let E : List ℕ → List ℕ → Type 0 = λ r t. CrossesWith c.args.rights.now.rows c.args.places.now r t in
     let start : Collection = record { width = length c.args.places.now; most = c.args.most; rows = [] } in
-    let more : Gains c.loop-place.out c.cross_row.new.out (E c.row.result.now) = rw c.if-branch.false at c.in_ok-cross_row.ensures in
+    let more : CollectsRows c.loop-place.out c.cross_row.new.out (E c.row.result.now) = rw c.if-branch.false at c.in_ok-cross_row.ensures in
     by_more E c.args.lefts.now.rows start c.loop-place.out c.cross_row.new.out c.loop-place.place c.loop-place.invariant
-    (subst (λ (r : List ℕ). Gains c.loop-place.out c.cross_row.new.out (E r)) c.row.ensures.row more)
+    (subst (λ (r : List ℕ). CollectsRows c.loop-place.out c.cross_row.new.out (E r)) c.row.ensures.row more)
 
 pub returns-clause-rows : goal.returns-clause-rows
 returns-clause-rows c =

@@ -1,8 +1,8 @@
 use Rattle.std.proofs.Common.{◌≡◌, ◌<◌, ◌++◌, ℕ}
 use Rattle.dx_instance.specs.Cells.{numbers_at}
-use Rattle.dx_joins.specs.Collecting.{Gains}
-use Rattle.dx_joins.specs.Looking.{numbers_in}
+use Rattle.dx_joins.specs.Collecting.{CollectsRows}
+use Rattle.dx_joins.specs.Looking.{numbers_at_places}
 use Rattle.dx_joins.proofs.product.cross_row.Given as goal
 
 abbrev pub invariant-loop-place : goal.invariant-loop-place
-invariant-loop-place l = Gains l.initial.out l.out (λ t. (q : ℕ) × (q < l.place) × (t ≡ numbers_in (l.left ++ numbers_at l.rights.rows q) l.places))
+invariant-loop-place l = CollectsRows l.initial.out l.out (λ t. (q : ℕ) × (q < l.place) × (t ≡ numbers_at_places (l.left ++ numbers_at l.rights.rows q) l.places))

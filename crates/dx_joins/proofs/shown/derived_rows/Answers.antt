@@ -10,7 +10,7 @@ use Rattle.dx_instance.specs.Cells.{numbers_at}
 use Rattle.dx_instance.proofs.NumberFacts.{stays}
 use Rattle.dx_instance.proofs.ShownFacts.{extends_both}
 use Rattle.dx_joins.specs.Collecting.{AreThose, Collection, MoreThan}
-use Rattle.dx_joins.specs.Planning.{place_of}
+use Rattle.dx_joins.specs.Planning.{first_place}
 use Rattle.dx_joins.specs.Shown.{AreTexts}
 use Rattle.dx_joins.specs.Derivations.{DerivesTo}
 use Rattle.dx_joins.proofs.Carrying.{few_rows}
@@ -30,7 +30,7 @@ loop-place-init g c = record {
       let rows = c.args.rows.now.rows in
       let S0 = c.args.symbols.now in
       let names = c.deref.ensures.value ∙ c.in_ok-names.ensures in
-      let at : c.in_ok-places.places.items ≡ map (place_of (wanted ++ range_with_len c.args.first (length derived))) c.args.shown.now = c.in_ok-places.ensures ∙ ap (λ (l : List ℕ). map (place_of l) c.args.shown.now) names in
+      let at : c.in_ok-places.places.items ≡ map (first_place (wanted ++ range_with_len c.args.first (length derived))) c.args.shown.now = c.in_ok-places.ensures ∙ ap (λ (l : List ℕ). map (first_place l) c.args.shown.now) names in
       let wide : Each rows (λ (r : List ℕ). length r ≡ length wanted) = λ r m. c.count-place-end.ensures.wide r m ∙ c.requires.many in
       upto_none g.M.Meaning.apply wanted derived c.args.first c.args.shown.now c.in_ok-places.places.items S0 rows c.requires.texts wide at c.requires.shown (length-range_with_len c.args.first (length derived))
       (length c.args.shown.now) c.args.most c.new-out.result (ap (λ (x : Collection). x.rows) c.new-out.ensures);
@@ -68,7 +68,7 @@ derive_row-requires-clause-places g c =
     let rows = c.args.rows.now.rows in
     let S0 = c.args.symbols.now in
     let names = c.deref.ensures.value ∙ c.in_ok-names.ensures in
-    let at : c.deref-in-loop-place.result.now ≡ map (place_of (wanted ++ range_with_len c.args.first (length derived))) c.args.shown.now = c.deref-in-loop-place.ensures.value ∙ c.in_ok-places.ensures ∙ ap (λ (l : List ℕ). map (place_of l) c.args.shown.now) names in
+    let at : c.deref-in-loop-place.result.now ≡ map (first_place (wanted ++ range_with_len c.args.first (length derived))) c.args.shown.now = c.deref-in-loop-place.ensures.value ∙ c.in_ok-places.ensures ∙ ap (λ (l : List ℕ). map (first_place l) c.args.shown.now) names in
     let wide : Each rows (λ (r : List ℕ). length r ≡ length wanted) = λ r m. c.count-place-end.ensures.wide r m ∙ c.requires.many in
     λ i m. let h = places_within wanted (range_with_len c.args.first (length derived)) c.args.shown.now c.deref-in-loop-place.result.now c.requires.shown at i m in omega (arith, h, length-range_with_len c.args.first (length derived))
 
@@ -79,9 +79,9 @@ derive_row-requires-clause-width g c =
     let rows = c.args.rows.now.rows in
     let S0 = c.args.symbols.now in
     let names = c.deref.ensures.value ∙ c.in_ok-names.ensures in
-    let at : c.deref-in-loop-place.result.now ≡ map (place_of (wanted ++ range_with_len c.args.first (length derived))) c.args.shown.now = c.deref-in-loop-place.ensures.value ∙ c.in_ok-places.ensures ∙ ap (λ (l : List ℕ). map (place_of l) c.args.shown.now) names in
+    let at : c.deref-in-loop-place.result.now ≡ map (first_place (wanted ++ range_with_len c.args.first (length derived))) c.args.shown.now = c.deref-in-loop-place.ensures.value ∙ c.in_ok-places.ensures ∙ ap (λ (l : List ℕ). map (first_place l) c.args.shown.now) names in
     let wide : Each rows (λ (r : List ℕ). length r ≡ length wanted) = λ r m. c.count-place-end.ensures.wide r m ∙ c.requires.many in
-    c.loop-place.invariant.width ∙ sym (ap length at ∙ length-map c.args.shown.now (place_of (wanted ++ range_with_len c.args.first (length derived))))
+    c.loop-place.invariant.width ∙ sym (ap length at ∙ length-map c.args.shown.now (first_place (wanted ++ range_with_len c.args.first (length derived))))
 
 pub returns-in_err-derive_row-clause-grows : goal.returns-in_err-derive_row-clause-grows
 returns-in_err-derive_row-clause-grows g c = extends_both c.args.symbols.now c.loop-place.symbols c.derive_row.new.symbols c.loop-place.invariant.grows c.derive_row.ensures.grows
@@ -96,7 +96,7 @@ returns-then-branch-clause-rows g c =
     let rows = c.args.rows.now.rows in
     let S0 = c.args.symbols.now in
     let names = c.deref.ensures.value ∙ c.in_ok-names.ensures in
-    let at : c.deref-in-loop-place.result.now ≡ map (place_of (wanted ++ range_with_len c.args.first (length derived))) c.args.shown.now = c.deref-in-loop-place.ensures.value ∙ c.in_ok-places.ensures ∙ ap (λ (l : List ℕ). map (place_of l) c.args.shown.now) names in
+    let at : c.deref-in-loop-place.result.now ≡ map (first_place (wanted ++ range_with_len c.args.first (length derived))) c.args.shown.now = c.deref-in-loop-place.ensures.value ∙ c.in_ok-places.ensures ∙ ap (λ (l : List ℕ). map (first_place l) c.args.shown.now) names in
     let wide : Each rows (λ (r : List ℕ). length r ≡ length wanted) = λ r m. c.count-place-end.ensures.wide r m ∙ c.requires.many in
     let d = subst (λ (r : List ℕ). DerivesTo g.M.Meaning.apply wanted derived c.deref-in-loop-place.result.now c.loop-place.symbols c.derive_row.new.symbols r c.in_ok-derive_row.field-0 c.loop-place.out c.derive_row.new.out) c.row.ensures.row c.in_ok-derive_row.ensures.derives in
     let inside : c.loop-place.place < length rows = omega (arith, c.loop-place-test.true, c.count-place-end.ensures.count) in
@@ -112,7 +112,7 @@ loop-place-preserved g c =
     let rows = c.args.rows.now.rows in
     let S0 = c.args.symbols.now in
     let names = c.deref.ensures.value ∙ c.in_ok-names.ensures in
-    let at : c.deref-in-loop-place.result.now ≡ map (place_of (wanted ++ range_with_len c.args.first (length derived))) c.args.shown.now = c.deref-in-loop-place.ensures.value ∙ c.in_ok-places.ensures ∙ ap (λ (l : List ℕ). map (place_of l) c.args.shown.now) names in
+    let at : c.deref-in-loop-place.result.now ≡ map (first_place (wanted ++ range_with_len c.args.first (length derived))) c.args.shown.now = c.deref-in-loop-place.ensures.value ∙ c.in_ok-places.ensures ∙ ap (λ (l : List ℕ). map (first_place l) c.args.shown.now) names in
     let wide : Each rows (λ (r : List ℕ). length r ≡ length wanted) = λ r m. c.count-place-end.ensures.wide r m ∙ c.requires.many in
     let d = subst (λ (r : List ℕ). DerivesTo g.M.Meaning.apply wanted derived c.deref-in-loop-place.result.now c.loop-place.symbols c.derive_row.new.symbols r c.in_ok-derive_row.field-0 c.loop-place.out c.derive_row.new.out) c.row.ensures.row c.in_ok-derive_row.ensures.derives in
     let inside : c.loop-place.place < length rows = omega (arith, c.loop-place-test.true, c.count-place-end.ensures.count) in
@@ -139,7 +139,7 @@ returns-clause-rows g c =
     let rows = c.args.rows.now.rows in
     let S0 = c.args.symbols.now in
     let names = c.deref.ensures.value ∙ c.in_ok-names.ensures in
-    let at : c.in_ok-places.places.items ≡ map (place_of (wanted ++ range_with_len c.args.first (length derived))) c.args.shown.now = c.in_ok-places.ensures ∙ ap (λ (l : List ℕ). map (place_of l) c.args.shown.now) names in
+    let at : c.in_ok-places.places.items ≡ map (first_place (wanted ++ range_with_len c.args.first (length derived))) c.args.shown.now = c.in_ok-places.ensures ∙ ap (λ (l : List ℕ). map (first_place l) c.args.shown.now) names in
     let wide : Each rows (λ (r : List ℕ). length r ≡ length wanted) = λ r m. c.count-place-end.ensures.wide r m ∙ c.requires.many in
     upto_all g.M.Meaning.apply wanted derived c.args.first c.args.shown.now c.in_ok-places.places.items S0 rows c.requires.texts wide at c.requires.shown (length-range_with_len c.args.first (length derived))
     c.finish.result c.loop-place.symbols c.loop-place.out c.loop-place.place c.args.most (omega (arith, c.loop-place-test.false, c.count-place-end.ensures.count, c.loop-place.auto.place-end)) c.loop-place.invariant.most c.loop-place.invariant.width

@@ -4,8 +4,8 @@ use Rattle.std.proofs.lemmas.List.{nil_from_length}
 use Rattle.dx_ports.specs.Members.{◌∈◌, Each}
 use Rattle.dx_instance.specs.Stored.{facts, widths}
 use Rattle.dx_instance.specs.Shown.{shown_tables}
-use Rattle.dx_joins.specs.Shown.{IsShown, StandFor}
-use Rattle.dx_joins.specs.Derivations.{GivenBy, IsWanted}
+use Rattle.dx_joins.specs.Shown.{IsMatchTuple, StandFor}
+use Rattle.dx_joins.specs.Derivations.{GivenBy, IsVariableWanted}
 use Rattle.dx_joins.proofs.Growing.{texts_grow}
 use Rattle.dx_joins.proofs.Whole.{args_wanted, fits_wanted, given_same, no_derived, none_found, result_grow, result_same, room_wanted, shown_wanted, stand_grow}
 use Rattle.dx_joins.proofs.shown.shown_rows.Goals as goal
@@ -14,9 +14,9 @@ use Rattle.dx_joins.proofs.Carrying.{found}
 pub returns-then-is_empty-clause-rows : goal.returns-then-is_empty-clause-rows
 returns-then-is_empty-clause-rows g c =
     let I = facts (shown_tables c.args.source.now.symbols c.args.source.now.tables) in
-    let plain = result_grow c.premise_shown.result c.args.most (length c.args.shown.now) (IsShown g.M.Meaning.apply c.args.premise.now [] I c.args.shown.now) c.args.source.now.symbols c.args.symbols.now c.requires.symbols (c.premise_shown.ensures.rows g.M.Meaning.apply) in
+    let plain = result_grow c.premise_shown.result c.args.most (length c.args.shown.now) (IsMatchTuple g.M.Meaning.apply c.args.premise.now [] I c.args.shown.now) c.args.source.now.symbols c.args.symbols.now c.requires.symbols (c.premise_shown.ensures.rows g.M.Meaning.apply) in
     let none = nil_from_length c.args.derived.now (eqb-true (length c.args.derived.now) 0 (sym c.if-is_empty.ensures)) in
-    result_same c.premise_shown.result c.args.most (length c.args.shown.now) (IsShown g.M.Meaning.apply c.args.premise.now [] I c.args.shown.now) (IsShown g.M.Meaning.apply c.args.premise.now c.args.derived.now I c.args.shown.now)
+    result_same c.premise_shown.result c.args.most (length c.args.shown.now) (IsMatchTuple g.M.Meaning.apply c.args.premise.now [] I c.args.shown.now) (IsMatchTuple g.M.Meaning.apply c.args.premise.now c.args.derived.now I c.args.shown.now)
     c.args.symbols.now (no_derived g.M.Meaning.apply c.args.premise.now c.args.derived.now I c.args.shown.now none) plain
 
 pub derived_rows-requires-clause-many : goal.derived_rows-requires-clause-many
@@ -34,7 +34,7 @@ derived_rows-requires-clause-shown g c =
     let first = c.premise_variables-first.result in
     let w = sym c.deref-in-Some.ensures.value in
     let below = subst (λ (l : List ℕ). Each l (λ x. x < first)) w c.in_ok-wanted.ensures.below in
-    let all = subst (λ (l : List ℕ). (x : ℕ) → x < first → IsWanted c.args.derived.now c.args.shown.now x → x ∈ l) w c.in_ok-wanted.ensures.all in
+    let all = subst (λ (l : List ℕ). (x : ℕ) → x < first → IsVariableWanted c.args.derived.now c.args.shown.now x → x ∈ l) w c.in_ok-wanted.ensures.all in
     let few = subst (λ (l : List ℕ). length l ≤ first) w c.in_ok-wanted.ensures.few in
     shown_wanted (widths (shown_tables c.args.source.now.symbols c.args.source.now.tables)) c.args.premise.now c.args.derived.now c.args.shown.now c.deref-in-Some.result.now first c.requires.fits c.premise_variables-first.ensures.number below all few
 
@@ -43,7 +43,7 @@ derived_rows-requires-clause-known g c =
     let first = c.premise_variables-first.result in
     let w = sym c.deref-in-Some.ensures.value in
     let below = subst (λ (l : List ℕ). Each l (λ x. x < first)) w c.in_ok-wanted.ensures.below in
-    let all = subst (λ (l : List ℕ). (x : ℕ) → x < first → IsWanted c.args.derived.now c.args.shown.now x → x ∈ l) w c.in_ok-wanted.ensures.all in
+    let all = subst (λ (l : List ℕ). (x : ℕ) → x < first → IsVariableWanted c.args.derived.now c.args.shown.now x → x ∈ l) w c.in_ok-wanted.ensures.all in
     let few = subst (λ (l : List ℕ). length l ≤ first) w c.in_ok-wanted.ensures.few in
     args_wanted (widths (shown_tables c.args.source.now.symbols c.args.source.now.tables)) c.args.premise.now c.args.derived.now c.args.shown.now c.deref-in-Some.result.now first c.requires.fits c.premise_variables-first.ensures.number below all few
 
@@ -52,7 +52,7 @@ derived_rows-requires-clause-numbers g c =
     let first = c.premise_variables-first.result in
     let w = sym c.deref-in-Some.ensures.value in
     let below = subst (λ (l : List ℕ). Each l (λ x. x < first)) w c.in_ok-wanted.ensures.below in
-    let all = subst (λ (l : List ℕ). (x : ℕ) → x < first → IsWanted c.args.derived.now c.args.shown.now x → x ∈ l) w c.in_ok-wanted.ensures.all in
+    let all = subst (λ (l : List ℕ). (x : ℕ) → x < first → IsVariableWanted c.args.derived.now c.args.shown.now x → x ∈ l) w c.in_ok-wanted.ensures.all in
     let few = subst (λ (l : List ℕ). length l ≤ first) w c.in_ok-wanted.ensures.few in
     room_wanted (widths (shown_tables c.args.source.now.symbols c.args.source.now.tables)) c.args.premise.now c.args.derived.now c.args.shown.now c.deref-in-Some.result.now first c.requires.fits c.premise_variables-first.ensures.number below all few
 
@@ -61,7 +61,7 @@ premise_shown-requires-2 g c =
     let first = c.premise_variables-first.result in
     let w = sym c.deref.ensures.value in
     let below = subst (λ (l : List ℕ). Each l (λ x. x < first)) w c.in_ok-wanted.ensures.below in
-    let all = subst (λ (l : List ℕ). (x : ℕ) → x < first → IsWanted c.args.derived.now c.args.shown.now x → x ∈ l) w c.in_ok-wanted.ensures.all in
+    let all = subst (λ (l : List ℕ). (x : ℕ) → x < first → IsVariableWanted c.args.derived.now c.args.shown.now x → x ∈ l) w c.in_ok-wanted.ensures.all in
     let few = subst (λ (l : List ℕ). length l ≤ first) w c.in_ok-wanted.ensures.few in
     record { fits = fits_wanted (widths (shown_tables c.args.source.now.symbols c.args.source.now.tables)) c.args.premise.now c.args.derived.now c.args.shown.now c.deref.result.now first c.requires.fits c.premise_variables-first.ensures.number below all few }
 
@@ -75,13 +75,13 @@ returns-clause-rows g c =
     let wanted = c.deref-in-Some.result.now in
     let w = sym c.deref-in-Some.ensures.value in
     let below = subst (λ (l : List ℕ). Each l (λ x. x < first)) w c.in_ok-wanted.ensures.below in
-    let all = subst (λ (l : List ℕ). (x : ℕ) → x < first → IsWanted c.args.derived.now c.args.shown.now x → x ∈ l) w c.in_ok-wanted.ensures.all in
+    let all = subst (λ (l : List ℕ). (x : ℕ) → x < first → IsVariableWanted c.args.derived.now c.args.shown.now x → x ∈ l) w c.in_ok-wanted.ensures.all in
     let few = subst (λ (l : List ℕ). length l ≤ first) w c.in_ok-wanted.ensures.few in
-    let s0 = found c.in_ok-rows.field-0 c.in-Some.rows _ (StandFor (length c.deref.result.now) (IsShown g.M.Meaning.apply c.args.premise.now [] I c.deref.result.now) c.args.source.now.symbols) c.in-Some.is (c.in_ok-rows.ensures.rows g.M.Meaning.apply) in
-    let s1 = subst (λ (l : List ℕ). StandFor (length l) (IsShown g.M.Meaning.apply c.args.premise.now [] I l) c.args.source.now.symbols c.in-Some.rows) (c.deref.ensures.value ∙ w) s0 in
-    let s = stand_grow (length wanted) (IsShown g.M.Meaning.apply c.args.premise.now [] I wanted) c.args.source.now.symbols c.args.symbols.now c.in-Some.rows c.requires.symbols s1 in
+    let s0 = found c.in_ok-rows.field-0 c.in-Some.rows _ (StandFor (length c.deref.result.now) (IsMatchTuple g.M.Meaning.apply c.args.premise.now [] I c.deref.result.now) c.args.source.now.symbols) c.in-Some.is (c.in_ok-rows.ensures.rows g.M.Meaning.apply) in
+    let s1 = subst (λ (l : List ℕ). StandFor (length l) (IsMatchTuple g.M.Meaning.apply c.args.premise.now [] I l) c.args.source.now.symbols c.in-Some.rows) (c.deref.ensures.value ∙ w) s0 in
+    let s = stand_grow (length wanted) (IsMatchTuple g.M.Meaning.apply c.args.premise.now [] I wanted) c.args.source.now.symbols c.args.symbols.now c.in-Some.rows c.requires.symbols s1 in
     result_same c.derived_rows.result c.args.most (length c.args.shown.now) (GivenBy g.M.Meaning.apply wanted c.args.derived.now first c.args.shown.now c.args.symbols.now c.in-Some.rows.rows)
-    (IsShown g.M.Meaning.apply c.args.premise.now c.args.derived.now I c.args.shown.now) c.derived_rows.new.symbols
+    (IsMatchTuple g.M.Meaning.apply c.args.premise.now c.args.derived.now I c.args.shown.now) c.derived_rows.new.symbols
     (given_same (widths (shown_tables c.args.source.now.symbols c.args.source.now.tables)) c.args.premise.now c.args.derived.now c.args.shown.now wanted first c.requires.fits c.premise_variables-first.ensures.number below all few
     g.M.Meaning.apply I c.args.symbols.now c.in-Some.rows s) c.derived_rows.ensures.rows
 

@@ -9,7 +9,7 @@ use Rattle.dx_schema.proofs.Preorder.{forest_size-inner}
 use Rattle.dx_instance.specs.Places.{row_at}
 use Rattle.dx_instance.specs.Stored.{rows_of, table_at}
 use Rattle.dx_json.specs.Nesting.{object_of, objects, objects_below, rows_below, up_column, with_sets}
-use Rattle.dx_json.specs.Orders.{Fit, IsReady, SourceFits, all_slots, level_length, filled, order_of, slots_of, source_data, tree_in}
+use Rattle.dx_json.specs.Orders.{Fit, TreeIsReady, SourceFits, all_slots, level_length, members_with_values, order_of, slots_of, source_data, tree_in}
 use Rattle.dx_json.specs.Wrote.{WroteValue}
 use Rattle.dx_json.proofs.Nested.{next_row, no_row_left, rows_left}
 use Rattle.dx_json.proofs.Ordered.{filled-order, level_long, order_fits, order_there, tree_there}
@@ -43,8 +43,8 @@ write_objects-loop-place-preserved t c =
     let wide : length (row_at I table place) ≡ (table_at I table).width = c.tables.ensures.rows (table_at I table) (in_at I table _ c.requires.ready.0) (row_at I table place) (in_at (rows_of I table) place _ next.0) in
     let inner : c.tree.inside.inner ≡ tree.inner = ap (λ v. v.inner) c.tree.view_is in
     let order = order_there c.args.orders.now table c.index-orders-table.result (order_of tree.label tree.inner true table) c.requires.ready.2 c.index-orders-table.is c.requires.ready.3 in
-    let same : filled (source_data I c.tree.inside.inner (row_at I table place)) (slots_of c.index-orders-table.result.entries) ≡ object_at (row_at I table place) =
-    ap (λ f. filled (source_data I f (row_at I table place)) (slots_of c.index-orders-table.result.entries)) inner ∙ ap (filled (source_data I tree.inner (row_at I table place))) order ∙ filled-order I tree.label tree.inner true table (row_at I table place) (omega (arith, wide, c.requires.ready.1)) in
+    let same : members_with_values (source_data I c.tree.inside.inner (row_at I table place)) (slots_of c.index-orders-table.result.entries) ≡ object_at (row_at I table place) =
+    ap (λ f. members_with_values (source_data I f (row_at I table place)) (slots_of c.index-orders-table.result.entries)) inner ∙ ap (members_with_values (source_data I tree.inner (row_at I table place))) order ∙ filled-order I tree.label tree.inner true table (row_at I table place) (omega (arith, wide, c.requires.ready.1)) in
     record {
       way = item_written c.args.out.now c.loop-place.out c.write_object.new.out object_at (rows_left I table up id c.loop-place.next) (rows_left I table up id (place + 1)) (row_at I table place) _ _ next.1 same c.loop-place.invariant.way c.in_ok-write_object.ensures;
       within = omega (arith, next.0);
@@ -66,7 +66,7 @@ write_object-loop-name-init t c =
     let value = source_data I c.args.sets.now (row_at I c.args.table c.args.place) in
     let all : c.into_iter-name-iterator.result ≡ c.args.order.now.entries = search rules in
     record {
-      way = rw all (begun c.args.out.now c.begin_object.new.self begin_object (member_tokens (filled value (slots_of c.args.order.now.entries))) c.begin_object.ensures.room.0 c.in_ok-begin_object.ensures.ok);
+      way = rw all (begun c.args.out.now c.begin_object.new.self begin_object (member_tokens (members_with_values value (slots_of c.args.order.now.entries))) c.begin_object.ensures.room.0 c.in_ok-begin_object.ensures.ok);
       fit = rw all c.requires.fit;
     }
 
@@ -89,7 +89,7 @@ pub write_object-returns : goal.write_object-returns
 write_object-returns t c =
     let I = c.args.instance.now in
     let value = source_data I c.args.sets.now (row_at I c.args.table c.args.place) in
-    on_ok_weaker c.end_object.result (λ e. ended c.args.out.now c.loop-name.out c.end_object.new.self _ _ end_object (ap (λ es. member_tokens (filled value (slots_of es))) c.in-None.ensures.steps.0) c.loop-name.invariant.way c.end_object.ensures.room.0 e) c.end_object.ensures.ok
+    on_ok_weaker c.end_object.result (λ e. ended c.args.out.now c.loop-name.out c.end_object.new.self _ _ end_object (ap (λ es. member_tokens (members_with_values value (slots_of es))) c.in-None.ensures.steps.0) c.loop-name.invariant.way c.end_object.ensures.room.0 e) c.end_object.ensures.ok
 
 pub write_objects-write_object-requires : goal.write_objects-write_object-requires
 write_objects-write_object-requires t c =
@@ -137,7 +137,7 @@ write_source-write_objects-requires t c =
     let within : at < length ts = omega (arith, fits.0, level_long ts, ap level_length c.items.ensures) in
     let there : tree_in c.args.sets.now at ≡ s = ap (λ f. tree_in f at) (sym c.items.ensures) ∙ tree_there ts at s within ∙ sym c.index-items-at.is in
     let smaller = forest_size-inner ts at s within c.index-items-at.is in
-    (omega (arith, smaller, ap forest_size c.items.ensures, c.decreases), subst (IsReady c.args.instance.now (all_slots c.args.orders.now) c.in-Inner.below) there fits.1)
+    (omega (arith, smaller, ap forest_size c.items.ensures, c.decreases), subst (TreeIsReady c.args.instance.now (all_slots c.args.orders.now) c.in-Inner.below) there fits.1)
 
 pub write_source-offset_bounds-items-at : goal.write_source-offset_bounds-items-at
 write_source-offset_bounds-items-at t c =

@@ -6,7 +6,7 @@ use Rattle.dx_schema.specs.Forest.{forest_size}
 use Rattle.dx_instance.specs.Places.{row_at}
 use Rattle.dx_instance.specs.Stored.{rows_of, table_at}
 use Rattle.dx_json.specs.Nesting.{object_of, objects, objects_below, up_column, with_sets}
-use Rattle.dx_json.specs.Orders.{Fit, all_slots, filled, object_in, slots_of, source_data}
+use Rattle.dx_json.specs.Orders.{Fit, all_slots, members_with_values, object_in, slots_of, source_data}
 use Rattle.dx_json.proofs.Nested.{rows_left}
 use Rattle.dx_json.proofs.Tokens.{IsOnTheWay, item_tokens, member_tokens}
 use Rattle.dx_json.proofs.nesting.+nest.Given as goal
@@ -22,7 +22,7 @@ invariant-write_objects-loop-place l = record {
 -- the members so far, and those that are left, are all
 abbrev pub invariant-write_object-loop-name : goal.invariant-write_object-loop-name
 invariant-write_object-loop-name l = record {
-  way : IsOnTheWay l.fn.out l.out (member_tokens (filled (source_data l.instance l.sets (row_at l.instance l.table l.place)) (slots_of l.name-iterator)))
+  way : IsOnTheWay l.fn.out l.out (member_tokens (members_with_values (source_data l.instance l.sets (row_at l.instance l.table l.place)) (slots_of l.name-iterator)))
       (json_tokens (outline (object (object_in l.instance l.sets (row_at l.instance l.table l.place) l.order))));
   fit : Fit l.instance (all_slots l.orders) (table_at l.instance l.table).width l.sets (slots_of l.name-iterator);
 }

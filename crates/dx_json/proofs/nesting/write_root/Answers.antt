@@ -6,7 +6,7 @@ use Rattle.dx_ports.proofs.Members.{in_at}
 use Rattle.dx_instance.specs.Places.{row_at}
 use Rattle.dx_instance.specs.Stored.{rows_of, table_at}
 use Rattle.dx_json.specs.Nesting.{object_of, objects, with_sets}
-use Rattle.dx_json.specs.Orders.{Fit, all_slots, filled, order_of, slots_of, source_data}
+use Rattle.dx_json.specs.Orders.{Fit, all_slots, members_with_values, order_of, slots_of, source_data}
 use Rattle.dx_json.proofs.Ordered.{filled-order, order_fits, order_there}
 use Rattle.dx_json.proofs.Tokens.{begun, ended, item_tokens, item_written}
 use Rattle.dx_json.proofs.nesting.write_root.Goals as goal
@@ -40,8 +40,8 @@ loop-place-preserved c =
     let wide : length row ≡ (table_at I root).width = c.tables.ensures.rows (table_at I root) (in_at I root _ c.requires.table) row (in_at rows place _ below) in
     let inner : c.tree.inside.inner ≡ tree.inner = ap (λ v. v.inner) c.tree.view_is in
     let order = order_there c.args.orders.now root c.index-orders-root.result (order_of tree.label tree.inner false root) ready.within c.index-orders-root.is ready.order in
-    let same : filled (source_data I c.tree.inside.inner row) (slots_of c.index-orders-root.result.entries) ≡ object_at row =
-    ap (λ f. filled (source_data I f row) (slots_of c.index-orders-root.result.entries)) inner ∙ ap (filled (source_data I tree.inner row)) order ∙ filled-order I tree.label tree.inner false root row (omega (arith, wide, c.requires.columns)) in
+    let same : members_with_values (source_data I c.tree.inside.inner row) (slots_of c.index-orders-root.result.entries) ≡ object_at row =
+    ap (λ f. members_with_values (source_data I f row) (slots_of c.index-orders-root.result.entries)) inner ∙ ap (members_with_values (source_data I tree.inner row)) order ∙ filled-order I tree.label tree.inner false root row (omega (arith, wide, c.requires.columns)) in
     item_written c.args.out.now c.loop-place.out c.write_object.new.out object_at (drop place rows) (drop (place + 1) rows) row _ _ (drop_more rows place [] below) same c.loop-place.invariant c.in_ok-write_object.ensures
 
 pub returns : goal.returns

@@ -6,7 +6,7 @@ use Rattle.serde_json.specs.Find.{get_member}
 use Rattle.dx_json.specs.declared.fault.JsonKind.TheVariants as kind
 use Rattle.dx_json.specs.declared.place.Place.{Place}
 use Rattle.dx_schema.specs.Tables.{count}
-use Rattle.dx_json.specs.Said.{below, member_says, item_says, items_say, object_says, sets_say}
+use Rattle.dx_json.specs.Said.{path_below, member_says, item_says, items_say, object_says, sets_say}
 use Rattle.dx_json.specs.Documents.{first_fault}
 use Rattle.dx_json.proofs.Steps.{added_more, columns_next, count_at, fails_left, items_left, no_object, none_there, refused, set_says, sets_left, unknown_first}
 use Rattle.dx_json.proofs.shredding.+walk.Goals as goal
@@ -39,7 +39,7 @@ push_item-returns-in_default-clause-fault t c =
     let inner = c.args.tree.now.inner in
     let at = c.args.at.now in
     let k = c.args.k in
-    let path : c.in_ok-path.path ≡ below at.path (decimal k) = search rules in
+    let path : c.in_ok-path.path ≡ path_below at.path (decimal k) = search rules in
     let none = none_there c.as_object.result (λ m. members_view m.now) _ c.in_default.not-Some c.as_object.ensures in
     ap first_fault (no_object l inner (sets_say inner) at k (view c.args.item.now) none) ∙ ap (λ p. Some (kind.Shape p)) (sym path)
 
@@ -79,7 +79,7 @@ push_sets-returns-in_err-push_member-clause-fault t c =
     let place : Place = record { table = c.loop-inner.table; up = c.in_ok-copy_of.field-0; path = c.in_ok-path_below.field-0 } in
     let rest = sets_say (forest_of (drop (c.loop-inner.inner-index + 1) ts)) (record { table = suc (c.loop-inner.table + count s.inner); up = at.up; path = at.path }) ms in
     let named : c.inner.inside.name ≡ s.label.name = ap (λ v. v.label.name) c.inner.view_is in
-    let path : c.in_ok-path_below.field-0 ≡ below at.path s.label.name = c.in_ok-path_below.ensures ∙ ap (below at.path) (c.as_str.ensures ∙ named) in
+    let path : c.in_ok-path_below.field-0 ≡ path_below at.path s.label.name = c.in_ok-path_below.ensures ∙ ap (path_below at.path) (c.as_str.ensures ∙ named) in
     let left = sets_left (record { table = c.loop-inner.table; up = at.up; path = at.path }) ms ts c.loop-inner.inner-index s c.loop-inner-test.true c.inner-item.is in
     let here = set_says ms s at c.loop-inner.table c.in_ok-copy_of.field-0 c.in_ok-path_below.field-0 _ (c.member_of-member.ensures ∙ ap (λ n. get_member n ms) (c.as_str-in-loop-inner.ensures ∙ named)) c.in_ok-copy_of.ensures path in
     refused c.from_residual-in_err-push_member.result c.in_err-push_member.field-0.0 (sets_say c.args.sets.now at ms) c.from_residual-in_err-push_member.ensures.1
@@ -95,7 +95,7 @@ push_sets-loop-inner-preserved t c =
     let place : Place = record { table = c.loop-inner.table; up = c.in_ok-copy_of.field-0; path = c.in_ok-path_below.field-0 } in
     let rest = sets_say (forest_of (drop (c.loop-inner.inner-index + 1) ts)) (record { table = suc (c.loop-inner.table + count s.inner); up = at.up; path = at.path }) ms in
     let named : c.inner.inside.name ≡ s.label.name = ap (λ v. v.label.name) c.inner.view_is in
-    let path : c.in_ok-path_below.field-0 ≡ below at.path s.label.name = c.in_ok-path_below.ensures ∙ ap (below at.path) (c.as_str.ensures ∙ named) in
+    let path : c.in_ok-path_below.field-0 ≡ path_below at.path s.label.name = c.in_ok-path_below.ensures ∙ ap (path_below at.path) (c.as_str.ensures ∙ named) in
     let left = sets_left (record { table = c.loop-inner.table; up = at.up; path = at.path }) ms ts c.loop-inner.inner-index s c.loop-inner-test.true c.inner-item.is in
     let here = set_says ms s at c.loop-inner.table c.in_ok-copy_of.field-0 c.in_ok-path_below.field-0 _ (c.member_of-member.ensures ∙ ap (λ n. get_member n ms) (c.as_str-in-loop-inner.ensures ∙ named)) c.in_ok-copy_of.ensures path in
     let sets : c.count.result ≡ count s.inner = c.count.ensures ∙ ap (λ v. count v.inner) c.inner.view_is in

@@ -1,5 +1,5 @@
 use Rattle.std.proofs.Common.{◌∙◌, ap}
-use Rattle.dx_keys.specs.Numbers.{IsNumbered, map_of}
+use Rattle.dx_keys.specs.Numbers.{IsNumbered, null_map_of}
 use Rattle.dx_keys.proofs.InOrder.{values_ascend}
 use Rattle.dx_keys.proofs.chasing.chase_numbers.Goals as goal
 
@@ -15,4 +15,4 @@ pub returns-clause-ok : goal.returns-clause-ok
 returns-clause-ok c =
     let M : IsNumbered c.args.schema.now c.args.instance c.in_ok-numbering.numbering = record { widths_are = c.requires; wide = c.tables-instance_tables.ensures.rows; determined = c.tables-schema_tables.ensures.fits; numbering = c.in_ok-numbering.ensures } in
     c.in_ok-roots.ensures.ok c.args.instance M c.in_ok-read_chased.field-0.map c.in_ok-read_chased.field-0.instance
-    (c.in_ok-read_chased.ensures.map ∙ ap (map_of c.in_ok-numbering.numbering.symbols) c.items.ensures) (rw c.items.ensures at c.in_ok-read_chased.ensures.image)
+    (c.in_ok-read_chased.ensures.map ∙ ap (null_map_of c.in_ok-numbering.numbering.symbols) c.items.ensures) (rw c.items.ensures at c.in_ok-read_chased.ensures.image)

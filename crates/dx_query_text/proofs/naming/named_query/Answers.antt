@@ -1,12 +1,12 @@
 use Rattle.std.proofs.lemmas.Result.{err_from_is_err_and}
 use Rattle.dx_ports.proofs.Loops.{each_item}
 use Rattle.dx_tgd_text.proofs.RuleSteps.{loop_more}
-use Rattle.dx_query_text.specs.Naming.{IsNarrow, part_fault, part_of}
+use Rattle.dx_query_text.specs.Naming.{PartHasFewCells, part_fault, part_of_text}
 use Rattle.dx_query_text.proofs.Steps.{part_at_fault}
 use Rattle.dx_query_text.proofs.naming.named_query.Goals as goal
 
 pub read_part-requires : goal.read_part-requires
-read_part-requires c = each_item IsNarrow c.args.parts.now c.loop-part.part-index c.part-item.result c.loop-part-test.true c.part-item.is c.requires
+read_part-requires c = each_item PartHasFewCells c.args.parts.now c.loop-part.part-index c.part-item.result c.loop-part-test.true c.part-item.is c.requires
 
 pub returns-in_err-read_part : goal.returns-in_err-read_part
 returns-in_err-read_part c =
@@ -15,4 +15,4 @@ returns-in_err-read_part c =
 
 pub loop-part-preserved : goal.loop-part-preserved
 loop-part-preserved c =
-    loop_more (part_of c.args.target.now) (part_fault c.args.target.now c.width-width.result) c.args.parts.now c.loop-part.part-index c.part-item.result c.loop-part.read c.push.new.self _ c.loop-part-test.true c.part-item.is c.loop-part.invariant c.in_ok-read_part.ensures c.in_ok-push.ensures.ok
+    loop_more (part_of_text c.args.target.now) (part_fault c.args.target.now c.width-width.result) c.args.parts.now c.loop-part.part-index c.part-item.result c.loop-part.read c.push.new.self _ c.loop-part-test.true c.part-item.is c.loop-part.invariant c.in_ok-read_part.ensures c.in_ok-push.ensures.ok

@@ -1,8 +1,8 @@
 use Rattle.std.proofs.Common.{◌≡◌, map, drop}
-use Rattle.dx_schema.specs.Nodes.{seen}
+use Rattle.dx_schema.specs.Nodes.{node_view}
 use Rattle.dx_ports.specs.Firsts.{first_of}
 use Rattle.dx_schema.specs.Faults.{dep_fault}
 use Rattle.dx_schema.proofs.checks.deps_checked.Given as goal
 
 abbrev pub invariant-loop-dep : goal.invariant-loop-dep
-invariant-loop-dep l = first_of (map (dep_fault (seen l.node)) l.dep-items) ≡ first_of (map (dep_fault (seen l.node)) (drop l.dep-index l.dep-items))
+invariant-loop-dep l = first_of (map (dep_fault (node_view l.node)) l.dep-items) ≡ first_of (map (dep_fault (node_view l.node)) (drop l.dep-index l.dep-items))

@@ -1,6 +1,6 @@
 use Rattle.std.proofs.Common.{◌<◌, sym, subst, arith}
 use Rattle.std.proofs.lemmas.Result.{err_from_is_err_and}
-use Rattle.dx_grammar.specs.Readers.{Gives}
+use Rattle.dx_grammar.specs.Readers.{ReadsAs}
 use Rattle.dx_grammar.proofs.Loops.{loop_on, loop_shorter, loop_fails, loop_stops}
 use Rattle.dx_schema_text.specs.Reading.{begins_clause, clause_reader}
 use Rattle.dx_schema_text.proofs.Follows.{clause_consumes}
@@ -22,12 +22,12 @@ pub clauses-returns : goal.clauses-returns
 clauses-returns t c = loop_stops (begins_clause c.args.version c.args.levels) (clause_reader c.args.version c.args.levels) (clause_consumes c.args.version c.args.levels) c.clauses.clauses c.clauses.rest.now _ (sym c.clauses-test.ensures) c.clauses.invariant
 
 pub one_clause-returns-then-levels-eq0 : goal.one_clause-returns-then-levels-eq0
-one_clause-returns-then-levels-eq0 t c = subst (Gives (λ x. (x.0, x.1.now)) c.last_clause.result) (no_level c.args.version c.args.levels c.args.tokens.now c.if-levels-eq0.true) c.last_clause.ensures
+one_clause-returns-then-levels-eq0 t c = subst (ReadsAs (λ x. (x.0, x.1.now)) c.last_clause.result) (no_level c.args.version c.args.levels c.args.tokens.now c.if-levels-eq0.true) c.last_clause.ensures
 
 pub one_clause-returns-else-levels-eq0 : goal.one_clause-returns-else-levels-eq0
 one_clause-returns-else-levels-eq0 t c =
     let some : 0 < c.args.levels = omega arith in
-    subst (Gives (λ x. (x.0, x.1.now)) c.clause_with.result) (one_level c.args.version c.args.levels c.args.tokens.now some) c.clause_with.ensures
+    subst (ReadsAs (λ x. (x.0, x.1.now)) c.clause_with.result) (one_level c.args.version c.args.levels c.args.tokens.now some) c.clause_with.ensures
 
 pub set-returns-in_err-clauses : goal.set-returns-in_err-clauses
 set-returns-in_err-clauses t c =

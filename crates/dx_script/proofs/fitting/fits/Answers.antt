@@ -1,9 +1,9 @@
 use Rattle.std.proofs.Common.{◌≡◌, ◌<◌, ◌≤◌, length, arith, refl, sym, ◌∙◌, subst, ap}
 use Rattle.std.proofs.lemmas.Bool.{false≢true}
 use Rattle.dx_ports.proofs.Loops.{not_so}
-use Rattle.dx_schema.specs.Names.{named_of}
+use Rattle.dx_schema.specs.Names.{table_names_of}
 use Rattle.dx_funcs.specs.Serving.{offered}
-use Rattle.dx_script.specs.Fits.{kept_rules}
+use Rattle.dx_script.specs.Fits.{rules_with_keep}
 use Rattle.dx_script.proofs.FitsTest.{one_fits, script_fits, step_of}
 use Rattle.dx_script.proofs.fitting.fits.Goals as goal
 
@@ -13,17 +13,17 @@ returns-then-not-create_target g c = not_so c.if-not-create_target.true (rw c.it
 pub returns-then-not-step_fits : goal.returns-then-not-step_fits
 returns-then-not-step_fits g c =
     not_so c.if-not-step_fits.true c.step_fits.ensures
-    (λ f. step_of (named_of c.args.source.now) (named_of c.args.target.now) (offered c.args.host.now) c.through_keeps-keeps.result.now c.items-steps.result.now c.loop-number.number c.index-steps-number.result c.through_keeps-keeps.ensures
+    (λ f. step_of (table_names_of c.args.source.now) (table_names_of c.args.target.now) (offered c.args.host.now) c.through_keeps-keeps.result.now c.items-steps.result.now c.loop-number.number c.index-steps-number.result c.through_keeps-keeps.ensures
     (omega arith) c.index-steps-number.is (rw c.items-steps.ensures f))
 
 pub loop-number-preserved : goal.loop-number-preserved
 loop-number-preserved g c =
-    one_fits (named_of c.args.source.now) (named_of c.args.target.now) (offered c.args.host.now) c.through_keeps-keeps.result.now c.items-steps.result.now c.loop-number.number c.index-steps-number.result
+    one_fits (table_names_of c.args.source.now) (table_names_of c.args.target.now) (offered c.args.host.now) c.through_keeps-keeps.result.now c.items-steps.result.now c.loop-number.number c.index-steps-number.result
     (omega arith) c.index-steps-number.is (c.step_fits.ensures.0 c.if-not-step_fits.false) c.loop-number.invariant
 
 pub returns : goal.returns
 returns g c = (
-  (λ t. rw (← c.items-steps.ensures) (script_fits (named_of c.args.source.now) (named_of c.args.target.now) (offered c.args.host.now) c.through_keeps-keeps.result.now c.items-steps.result.now c.loop-number.number
+  (λ t. rw (← c.items-steps.ensures) (script_fits (table_names_of c.args.source.now) (table_names_of c.args.target.now) (offered c.args.host.now) c.through_keeps-keeps.result.now c.items-steps.result.now c.loop-number.number
       (c.create_target.ensures.0 c.if-not-create_target.false) c.through_keeps-keeps.ensures (omega arith) c.loop-number.invariant)),
   (λ f. refl),
 )

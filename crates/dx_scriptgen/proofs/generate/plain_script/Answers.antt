@@ -2,7 +2,7 @@ use Rattle.std.proofs.Common.{◌≡◌, ◌∙◌, [], ap, sym, subst, length}
 use Rattle.std.proofs.lemmas.Result.{IfOk-weaker}
 use Rattle.std.specs.Prelude.{map}
 use Rattle.dx_model.specs.Covers.{below}
-use Rattle.dx_schema.specs.Names.{named_of}
+use Rattle.dx_schema.specs.Names.{table_names_of}
 use Rattle.dx_schema.specs.Tables.{model_tables, tables_of}
 use Rattle.dx_funcs.specs.Serving.{offered}
 use Rattle.dx_script.specs.declared.form.Script.{Script}
@@ -25,13 +25,13 @@ script_of-requires-clause-one g c = ap length c.in_ok-parts.ensures ∙ length_m
 pub returns-clause-steps : goal.returns-clause-steps
 returns-clause-steps g c =
     IfOk-weaker c.script_of.result _ _
-    (λ s e. listed_script (named_of c.args.source.now) (named_of c.args.target.now) (offered c.args.host.now) (λ r. []) c.in_ok-parts.parts.items c.args.rules.now s.steps c.in_ok-parts.ensures e)
+    (λ s e. listed_script (table_names_of c.args.source.now) (table_names_of c.args.target.now) (offered c.args.host.now) (λ r. []) c.in_ok-parts.parts.items c.args.rules.now s.steps c.in_ok-parts.ensures e)
     c.script_of.ensures
 
 pub returns-clause-fits : goal.returns-clause-fits
 returns-clause-fits g c =
-    let S = named_of c.args.source.now in
-    let T = named_of c.args.target.now in
+    let S = table_names_of c.args.source.now in
+    let T = table_names_of c.args.target.now in
     let list = offered c.args.host.now in
     let R = c.args.rules.now in
     let good : RulesFit c.args.source.now c.args.target.now list R = record {
@@ -47,8 +47,8 @@ returns-clause-fits g c =
 
 pub returns-clause-means : goal.returns-clause-means
 returns-clause-means g c =
-    let S = named_of c.args.source.now in
-    let T = named_of c.args.target.now in
+    let S = table_names_of c.args.source.now in
+    let T = table_names_of c.args.target.now in
     let list = offered c.args.host.now in
     let R = c.args.rules.now in
     let good : RulesFit c.args.source.now c.args.target.now list R = record {

@@ -4,7 +4,7 @@ use Rattle.dx_ports.specs.Members.{◌∈◌}
 use Rattle.dx_ports.proofs.Members.{in_at, item_in}
 use Rattle.dx_model.specs.declared.rules.Rule.{Rule}
 use Rattle.dx_model.specs.Covers.{rule_at}
-use Rattle.dx_schema.specs.Names.{named_of}
+use Rattle.dx_schema.specs.Names.{table_names_of}
 use Rattle.dx_funcs.specs.Serving.{offered}
 use Rattle.dx_script.specs.Generated.{match_step}
 use Rattle.dx_scriptgen.proofs.Lists.{map_more}
@@ -24,6 +24,6 @@ loop-number-preserved g c =
     let n = c.loop-number.number in
     let R = c.args.rules.now in
     let d = c.index-rules-number.result in
-    map_more (λ r. match_step (named_of c.args.source.now) (offered c.args.host.now) r (rule_at R r)) n c.args.steps.now c.loop-number.steps c.push.new.self c.loop-number.invariant
+    map_more (λ r. match_step (table_names_of c.args.source.now) (offered c.args.host.now) r (rule_at R r)) n c.args.steps.now c.loop-number.steps c.push.new.self c.loop-number.invariant
     (c.in_ok-push.ensures.ok
-    ∙ ap (λ z. c.loop-number.steps ++ z ∷ []) (c.in_ok-match_step.ensures ∙ ap (match_step (named_of c.args.source.now) (offered c.args.host.now) n) (c.index-rules-number.is ∙ get_or_default R n d _ c.loop-number-test.true)))
+    ∙ ap (λ z. c.loop-number.steps ++ z ∷ []) (c.in_ok-match_step.ensures ∙ ap (match_step (table_names_of c.args.source.now) (offered c.args.host.now) n) (c.index-rules-number.is ∙ get_or_default R n d _ c.loop-number-test.true)))

@@ -1,10 +1,10 @@
 use Rattle.std.proofs.Common.{◌≡◌, ◌+◌, ◌++◌, List, [], take, drop, eqb, false, length}
 use Rattle.std.specs.Prelude.{map, flat_map, slice_index_or}
 use Rattle.dx_model.specs.Covers.{below, rule_at}
-use Rattle.dx_schema.specs.Names.{named_of}
+use Rattle.dx_schema.specs.Names.{table_names_of}
 use Rattle.dx_funcs.specs.Serving.{offered}
 use Rattle.dx_script.specs.Generated.{match_step}
 use Rattle.dx_scriptgen.proofs.generate.push_matches.Given as goal
 
 abbrev pub invariant-loop-number : goal.invariant-loop-number
-invariant-loop-number g l = l.steps ≡ l.initial.steps ++ map (λ r. match_step (named_of l.source) (offered l.host) r (rule_at l.rules r)) (below l.number)
+invariant-loop-number g l = l.steps ≡ l.initial.steps ++ map (λ r. match_step (table_names_of l.source) (offered l.host) r (rule_at l.rules r)) (below l.number)

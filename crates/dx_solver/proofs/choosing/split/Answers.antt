@@ -1,7 +1,7 @@
 use Rattle.std.proofs.Common.{arith, length}
 use Rattle.dx_ports.specs.Members.{Each}
 use Rattle.dx_ports.proofs.Members.{item_in}
-use Rattle.dx_solver.specs.Questions.{Stands}
+use Rattle.dx_solver.specs.Questions.{HasImageRow}
 use Rattle.dx_solver.proofs.SearchFacts.{ok_weaken, weaken}
 use Rattle.dx_solver.proofs.TermFacts.{free_here, variable_below}
 use Rattle.dx_solver.proofs.choosing.split.Goals as goal
@@ -21,7 +21,7 @@ returns-in-Some c =
     let atoms = c.args.question.now.atoms.now in
     let atom = c.index-atoms-choice.result in
     let m = item_in atoms c.args.choice.atom atom c.requires.free.atom c.index-atoms-choice.is in
-    ok_weaken c.split_at.result (weaken (λ a. Stands T out a atom) (λ a. Each atoms (Stands T out a)) (λ a s. s atom m)
+    ok_weaken c.split_at.result (weaken (λ a. HasImageRow T out a atom) (λ a. Each atoms (HasImageRow T out a)) (λ a s. s atom m)
     c.args.node.now c.args.nodes.now.items c.split_at.new.nodes.items) c.split_at.ensures
 
 pub split_at-requires-clause-fits : goal.split_at-requires-clause-fits

@@ -2,7 +2,7 @@ use Rattle.std.proofs.Common.{◌∙◌, ◌^◌, ◌∷◌, [], ap, arith, leng
 use Rattle.dx_ports.specs.Members.{here}
 use Rattle.std.proofs.lemmas.List.{length-map}
 use Rattle.dx_solver.specs.declared.domain.Domain.{Domain}
-use Rattle.dx_solver.specs.Domains.{size}
+use Rattle.dx_solver.specs.Domains.{domain_size}
 use Rattle.dx_solver.proofs.DomainFacts.{worth_one}
 use Rattle.dx_solver.proofs.RowFacts.{image_of}
 use Rattle.dx_solver.proofs.SearchFacts.{one_only}
@@ -22,7 +22,7 @@ returns c =
     let listed = c.in_ok-listed.listed in
     let numbers = c.in_ok-numbers.numbers.items in
     let rows = c.as_slice-rows.result.now in
-    let any = ap (λ (d : Domain). size (2 ^ 32) d) c.requires.unknown in
+    let any = ap (λ (d : Domain). domain_size (2 ^ 32) d) c.requires.unknown in
     let many = ap length c.in_ok-numbers.ensures ∙ length-map rows _ in
     let same = ap length c.as_slice-rows.ensures.value in
     let few = c.of-domain.ensures.few (2 ^ 32) in

@@ -1,7 +1,7 @@
 use Rattle.std.proofs.Common.{◌∙◌, ℕ, ap, arith, length, subst, sym}
 use Rattle.dx_ports.proofs.Members.{item_in}
 use Rattle.dx_instance.specs.Shown.{numbers_of_table}
-use Rattle.dx_solver.specs.Domains.{IsImage}
+use Rattle.dx_solver.specs.Domains.{IsImageRow}
 use Rattle.dx_solver.specs.Questions.{FitsAtom}
 use Rattle.dx_solver.specs.declared.few.Found.TheVariants.{Nothing}
 use Rattle.dx_solver.proofs.RowFacts.{image_of, place_all, place_more}
@@ -33,7 +33,7 @@ loop-at-preserved t c =
     let atom = c.index-atoms-place.result in
     let nothing = rw (c.in-Nothing.is, c.deref.ensures.value) at c.in_ok-found.ensures in
     record {
-      none = λ a k s. place_more (IsImage T out a atom) (λ q. ⊥) c.loop-at.next c.in-Some-next_candidate.at (c.loop-at.invariant.none a k s)
+      none = λ a k s. place_more (IsImageRow T out a atom) (λ q. ⊥) c.loop-at.next c.in-Some-next_candidate.at (c.loop-at.invariant.none a k s)
           (c.in-Some-next_candidate.ensures.2 a k)
           (λ i. nothing a (c.in_ok-below.ensures.kept a k (rw (c.row-row.ensures.row, c.items.ensures) i.row)) s);
       next = omega (arith, c.in-Some-next_candidate.ensures.1, c.count-count.ensures);
@@ -47,5 +47,5 @@ returns t c = λ a k s.
     let atom = c.index-atoms-place.result in
     let st = s.stands atom (item_in atoms _ atom (omega arith) c.index-atoms-place.is) in
     let none = rw c.in_default-next_candidate.is at c.next_candidate.ensures in
-    place_all (IsImage T out a atom) (λ q. ⊥) c.loop-at.next (length (numbers_of_table T atom.table).rows) (c.loop-at.invariant.none a k s)
+    place_all (IsImageRow T out a atom) (λ q. ⊥) c.loop-at.next (length (numbers_of_table T atom.table).rows) (c.loop-at.invariant.none a k s)
     (none a k) (λ q i. i.place) st.0 (image_of T out a atom st)

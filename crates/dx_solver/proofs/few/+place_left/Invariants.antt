@@ -1,5 +1,5 @@
 use Rattle.std.proofs.Common.{◌≤◌, ◌<◌, ◌-◌, ℕ}
-use Rattle.dx_solver.specs.Domains.{IsImage, Keeps}
+use Rattle.dx_solver.specs.Domains.{IsImageRow, Keeps}
 use Rattle.dx_solver.specs.Questions.{Solves}
 use Rattle.dx_solver.proofs.few.+place_left.Given as goal
 
@@ -13,6 +13,6 @@ abbrev pub invariant-loop-at : goal.invariant-loop-at
 invariant-loop-at l = record {
   none : (a : ℕ → ℕ) → Keeps l.domains a
       → Solves l.question.numbers.now.tables l.question.taken.now l.question.atoms.now l.question.known.now a
-      → (p : ℕ) → p < l.next → ¬ (IsImage l.question.numbers.now.tables l.question.taken.now a l.atom p);
+      → (p : ℕ) → p < l.next → ¬ (IsImageRow l.question.numbers.now.tables l.question.taken.now a l.atom p);
   next : l.next ≤ l.count;
 }

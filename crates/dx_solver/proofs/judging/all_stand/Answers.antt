@@ -1,7 +1,7 @@
 use Rattle.std.proofs.Common.{◌<◌, arith, length}
 use Rattle.dx_ports.proofs.Loops.{all_so, each_item, each_more, not_so}
 use Rattle.dx_ports.proofs.Members.{item_in}
-use Rattle.dx_solver.specs.Questions.{Stands, answered}
+use Rattle.dx_solver.specs.Questions.{HasImageRow, answered}
 use Rattle.dx_solver.proofs.judging.all_stand.Goals as goal
 
 pub stands-requires-clause-table : goal.stands-requires-clause-table
@@ -19,14 +19,14 @@ stands-requires-clause-width c =
 pub returns-then-not-is_there : goal.returns-then-not-is_there
 returns-then-not-is_there c =
     let atoms = c.args.question.now.atoms.now in
-    let P = Stands c.args.question.now.numbers.now.tables c.args.question.now.taken.now (answered c.args.xs.now) in
+    let P = HasImageRow c.args.question.now.numbers.now.tables c.args.question.now.taken.now (answered c.args.xs.now) in
     let h : c.loop-atom.atom-index < length atoms = omega arith in
     not_so c.if-not-is_there.true c.in_ok-is_there.ensures (each_item P atoms c.loop-atom.atom-index c.atom-item.result h c.atom-item.is)
 
 pub loop-atom-preserved : goal.loop-atom-preserved
 loop-atom-preserved c =
     let atoms = c.args.question.now.atoms.now in
-    let P = Stands c.args.question.now.numbers.now.tables c.args.question.now.taken.now (answered c.args.xs.now) in
+    let P = HasImageRow c.args.question.now.numbers.now.tables c.args.question.now.taken.now (answered c.args.xs.now) in
     let h : c.loop-atom.atom-index < length atoms = omega arith in
     each_more P atoms c.loop-atom.atom-index c.atom-item.result h c.atom-item.is c.loop-atom.invariant
     (c.in_ok-is_there.ensures.0 c.if-not-is_there.false)
@@ -34,5 +34,5 @@ loop-atom-preserved c =
 pub returns : goal.returns
 returns c =
     let atoms = c.args.question.now.atoms.now in
-    let P = Stands c.args.question.now.numbers.now.tables c.args.question.now.taken.now (answered c.args.xs.now) in
+    let P = HasImageRow c.args.question.now.numbers.now.tables c.args.question.now.taken.now (answered c.args.xs.now) in
     all_so P atoms c.loop-atom.atom-index (omega arith) c.loop-atom.invariant (λ e. e)

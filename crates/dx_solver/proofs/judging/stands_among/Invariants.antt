@@ -1,5 +1,5 @@
 use Rattle.std.proofs.Common.{◌≤◌, ◌<◌, ◌-◌, ℕ}
-use Rattle.dx_solver.specs.Domains.{IsImage}
+use Rattle.dx_solver.specs.Domains.{IsImageRow}
 use Rattle.dx_solver.specs.Questions.{answered}
 use Rattle.dx_solver.proofs.judging.stands_among.Given as goal
 
@@ -8,6 +8,6 @@ decreases-loop-place l = l.count - l.next
 
 abbrev pub invariant-loop-place : goal.invariant-loop-place
 invariant-loop-place l = record {
-  none : (p : ℕ) → 0 ≤ p → p < l.next → ¬ (IsImage l.question.numbers.now.tables l.question.taken.now (answered l.xs) l.atom p);
+  none : (p : ℕ) → 0 ≤ p → p < l.next → ¬ (IsImageRow l.question.numbers.now.tables l.question.taken.now (answered l.xs) l.atom p);
   next : l.next ≤ l.count;
 }

@@ -2,7 +2,7 @@ use Rattle.std.proofs.Common.{◌∙◌, ◌^◌, ◌∷◌, ◌++◌, [], List,
 use Rattle.dx_ports.specs.Members.{here, there}
 use Rattle.dx_solver.specs.declared.node.Node.{Node}
 use Rattle.dx_solver.specs.declared.domain.Domain.{Domain}
-use Rattle.dx_solver.specs.Domains.{Has, size}
+use Rattle.dx_solver.specs.Domains.{DomainHas, domain_size}
 use Rattle.dx_solver.proofs.DomainFacts.{worth_two}
 use Rattle.dx_solver.proofs.SearchFacts.{two_only}
 use Rattle.dx_solver.proofs.node.fork.Goals as goal
@@ -13,7 +13,7 @@ returns c =
     let v = c.args.variable in
     let other = c.in_ok-other.other in
     let one = c.in_ok-one.one in
-    let is = ap (λ (d : Domain). size (2 ^ 32) d) c.requires.values in
+    let is = ap (λ (d : Domain). domain_size (2 ^ 32) d) c.requires.values in
     let l = c.in_ok-other.ensures.lighter (omega (arith, is, c.in_ok-rest.ensures.few)) in
     let k = c.in_ok-one.ensures.lighter (omega (arith, is, c.requires.many)) in
     record {
@@ -23,7 +23,7 @@ returns c =
       less = worth_two other one _ l k;
       many = two_only other one _ c.in_ok-other.ensures.many c.in_ok-one.ensures.many;
       all = λ a u keeps.
-          elim (c.in_ok-rest.ensures.all (a v) (subst (λ (d : Domain). Has d (a v)) c.requires.values (keeps v))) [
+          elim (c.in_ok-rest.ensures.all (a v) (subst (λ (d : Domain). DomainHas d (a v)) c.requires.values (keeps v))) [
             | inl e ↦ (one, there (here refl), c.in_ok-one.ensures.kept a keeps (rw c.items.ensures e))
             | inr h ↦ (other, here refl, c.in_ok-other.ensures.kept a keeps h)
           ];

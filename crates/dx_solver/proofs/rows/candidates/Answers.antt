@@ -3,7 +3,7 @@ use Rattle.std.proofs.lemmas.List.{length-append}
 use Rattle.dx_ports.specs.Members.{◌∈◌, Each, here}
 use Rattle.dx_ports.proofs.Members.{in_left, in_right}
 use Rattle.dx_instance.specs.Shown.{numbers_of_table}
-use Rattle.dx_solver.specs.Domains.{IsImage}
+use Rattle.dx_solver.specs.Domains.{IsImageRow}
 use Rattle.dx_solver.proofs.RowFacts.{each_push, place_all, place_more}
 use Rattle.dx_solver.proofs.rows.candidates.Goals as goal
 
@@ -19,7 +19,7 @@ loop-place-preserved c =
     let pushed : new ≡ old ++ p ∷ [] = c.in_ok-push.ensures.items in
     let long = simp length-append at (ap length pushed) in
     record {
-      all = λ a k. place_more (IsImage T out a atom) (λ q. q ∈ new) c.loop-place.next p
+      all = λ a k. place_more (IsImageRow T out a atom) (λ q. q ∈ new) c.loop-place.next p
           (λ q h i. subst (λ (l : List ℕ). q ∈ l) (sym pushed) (in_left (p ∷ []) (c.loop-place.invariant.all a k q h i)))
           (place.2 a k) (λ i. subst (λ (l : List ℕ). p ∈ l) (sym pushed) (in_right old (here refl)));
       within = subst (λ (l : List ℕ). Each l (λ q. q < length (numbers_of_table T atom.table).rows)) (sym pushed)
@@ -34,5 +34,5 @@ returns-clause-all c =
     let out = c.args.question.now.taken.now in
     let atom = c.args.atom.now in
     let none = rw c.in_default.is at c.next_candidate.ensures in
-    λ a k. place_all (IsImage T out a atom) (λ q. q ∈ c.loop-place.places.items) c.loop-place.next
+    λ a k. place_all (IsImageRow T out a atom) (λ q. q ∈ c.loop-place.places.items) c.loop-place.next
     (length (numbers_of_table T atom.table).rows) (c.loop-place.invariant.all a k) (none a k) (λ q i. i.place)

@@ -1,7 +1,7 @@
 use Rattle.std.proofs.Common.{◌≤◌, ◌<◌, ◌-◌, ℕ, length}
 use Rattle.dx_ports.specs.Members.{◌∈◌, Each}
 use Rattle.dx_instance.specs.Shown.{numbers_of_table}
-use Rattle.dx_solver.specs.Domains.{IsImage, Keeps}
+use Rattle.dx_solver.specs.Domains.{IsImageRow, Keeps}
 use Rattle.dx_solver.proofs.rows.candidates.Given as goal
 
 abbrev pub decreases-loop-place : goal.decreases-loop-place
@@ -10,7 +10,7 @@ decreases-loop-place l = l.count - l.next
 abbrev pub invariant-loop-place : goal.invariant-loop-place
 invariant-loop-place l = record {
   all : (a : ℕ → ℕ) → Keeps l.domains a → (p : ℕ) → p < l.next
-      → IsImage l.question.numbers.now.tables l.question.taken.now a l.atom p → p ∈ l.places.items;
+      → IsImageRow l.question.numbers.now.tables l.question.taken.now a l.atom p → p ∈ l.places.items;
   within : Each l.places.items (λ p. p < length (numbers_of_table l.question.numbers.now.tables l.atom.table).rows);
   few : length l.places.items ≤ l.next;
   next : l.next ≤ l.count;

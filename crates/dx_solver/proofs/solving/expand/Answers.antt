@@ -2,7 +2,7 @@ use Rattle.std.proofs.Common.{◌∙◌, ℕ, subst, sym}
 use Rattle.std.proofs.lemmas.Bool.{false≢true}
 use Rattle.dx_ports.specs.Members.{Each}
 use Rattle.dx_solver.specs.declared.node.Node.{Node}
-use Rattle.dx_solver.specs.Questions.{FitsAtom, Solves, Stands}
+use Rattle.dx_solver.specs.Questions.{FitsAtom, Solves, HasImageRow}
 use Rattle.dx_solver.proofs.SearchFacts.{from_cut, nothing, ok_match}
 use Rattle.dx_solver.proofs.solving.expand.Goals as goal
 
@@ -31,6 +31,6 @@ returns-clause-exact c =
     let out = c.args.question.now.taken.now in
     let atoms = c.args.question.now.atoms.now in
     let cut : Node = record { domains = c.spread.new.domains; changed = c.args.node.changed } in
-    from_cut (Solves T out atoms c.args.question.now.known.now) (λ a. Each atoms (Stands T out a)) (λ a s. s.stands) c.args.node cut
+    from_cut (Solves T out atoms c.args.question.now.known.now) (λ a. Each atoms (HasImageRow T out a)) (λ a s. s.stands) c.args.node cut
     (λ a s k. (c.in_ok-alive.ensures.kept a k s.stands).1) c.in_ok-alive.ensures.many c.in_ok-alive.ensures.lighter
     c.args.nodes.now.items c.split.new.nodes.items c.in_ok-split-in-Some.ensures

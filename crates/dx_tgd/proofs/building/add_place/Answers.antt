@@ -4,8 +4,8 @@ use Rattle.std.proofs.lemmas.List.{length-map}
 use Rattle.dx_ports.proofs.Members.{item_in}
 use Rattle.dx_model.specs.declared.values.Value.{Value}
 use Rattle.dx_instance.specs.Shown.{shown_row}
-use Rattle.dx_tgd.specs.Gained.{Gains}
-use Rattle.dx_tgd.specs.Planned.{built, number_of, planned_fact}
+use Rattle.dx_tgd.specs.Gained.{GainsFacts}
+use Rattle.dx_tgd.specs.Planned.{built, planned_number, planned_fact}
 use Rattle.dx_tgd.proofs.Gaining.{gains_next}
 use Rattle.dx_tgd.proofs.Plans.{some_below}
 use Rattle.dx_tgd.proofs.Tables.{wide_table}
@@ -25,7 +25,7 @@ pub add-requires-clause-width : goal.add-requires-clause-width
 add-requires-clause-width c =
     let s = c.requires.stand c.atom-item.result (item_in c.args.atoms.now c.loop-atom.atom-index c.atom-item.result c.loop-atom-test.true c.atom-item.is) in
     let w = wide_table (built c.loop-atom.target) c.atom-item.result.table (length c.atom-item.result.cells.items) (rw c.loop-atom.invariant.gains.widths_stay s.wide) in
-    ap length c.deref-in-loop-atom.ensures.value ∙ ap length c.in_ok-fill.ensures ∙ length-map c.deref.result.now (number_of c.args.row.now c.args.place) ∙ ap length c.deref.ensures.value ∙ sym w.1
+    ap length c.deref-in-loop-atom.ensures.value ∙ ap length c.in_ok-fill.ensures ∙ length-map c.deref.result.now (planned_number c.args.row.now c.args.place) ∙ ap length c.deref.ensures.value ∙ sym w.1
 
 pub add-requires-clause-below : goal.add-requires-clause-below
 add-requires-clause-below c =
@@ -34,12 +34,12 @@ add-requires-clause-below c =
 
 pub loop-atom-preserved : goal.loop-atom-preserved
 loop-atom-preserved c =
-    let numbers : c.deref-in-loop-atom.result.now ≡ map (number_of c.args.row.now c.args.place) c.atom-item.result.cells.items =
-    c.deref-in-loop-atom.ensures.value ∙ c.in_ok-fill.ensures ∙ ap (map (number_of c.args.row.now c.args.place)) c.deref.ensures.value in
-    let row : shown_row c.loop-atom.target.symbols c.deref-in-loop-atom.result.now ≡ shown_row c.args.target.now.symbols (map (number_of c.args.row.now c.args.place) c.atom-item.result.cells.items) =
+    let numbers : c.deref-in-loop-atom.result.now ≡ map (planned_number c.args.row.now c.args.place) c.atom-item.result.cells.items =
+    c.deref-in-loop-atom.ensures.value ∙ c.in_ok-fill.ensures ∙ ap (map (planned_number c.args.row.now c.args.place)) c.deref.ensures.value in
+    let row : shown_row c.loop-atom.target.symbols c.deref-in-loop-atom.result.now ≡ shown_row c.args.target.now.symbols (map (planned_number c.args.row.now c.args.place) c.atom-item.result.cells.items) =
     ap (λ (S : List Value). shown_row S c.deref-in-loop-atom.result.now) c.loop-atom.invariant.symbols ∙ ap (λ (ns : List ℕ). shown_row c.args.target.now.symbols ns) numbers in
     record {
       symbols = c.in_ok-add.ensures.symbols ∙ c.loop-atom.invariant.symbols;
       gains = gains_next (planned_fact c.args.target.now.symbols c.args.row.now c.args.place) c.args.atoms.now c.loop-atom.atom-index c.atom-item.result c.loop-atom-test.true c.atom-item.is c.loop-atom.invariant.gains
-          (subst (λ (vs : List Value). Gains (built c.loop-atom.target) (built c.add.new.self) (record { table = c.atom-item.result.table; row = vs } ∷ [])) row c.in_ok-add.ensures.added);
+          (subst (λ (vs : List Value). GainsFacts (built c.loop-atom.target) (built c.add.new.self) (record { table = c.atom-item.result.table; row = vs } ∷ [])) row c.in_ok-add.ensures.added);
     }

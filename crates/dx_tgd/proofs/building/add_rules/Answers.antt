@@ -3,7 +3,7 @@ use Rattle.dx_ports.proofs.Members.{item_in}
 use Rattle.dx_ports.proofs.Lists.{zip_long}
 use Rattle.dx_model.specs.declared.facts.Fact.{Fact}
 use Rattle.dx_instance.proofs.ShownFacts.{extends_both}
-use Rattle.dx_tgd.specs.Gained.{Gains}
+use Rattle.dx_tgd.specs.Gained.{GainsFacts}
 use Rattle.dx_tgd.specs.Planned.{built}
 use Rattle.dx_tgd.specs.Texts.{FitRule}
 use Rattle.dx_tgd.proofs.Steps.{RulesAt, all_rules, fit_at, more_of_rule, room_of_rule, texts_of_rule}
@@ -39,4 +39,4 @@ loop-i-preserved c =
     }
 
 pub returns : goal.returns
-returns c = subst (λ (fs : List Fact). Gains (built c.args.target.now) (built c.loop-i.target) fs) (all_rules c.args.target.now.symbols c.args.rules.now c.args.rows.now c.loop-i.i c.requires.tuples c.loop-i-test.false) c.loop-i.invariant.gains
+returns c = subst (λ (fs : List Fact). GainsFacts (built c.args.target.now) (built c.loop-i.target) fs) (all_rules c.args.target.now.symbols c.args.rules.now c.args.rows.now c.loop-i.i c.requires.tuples c.loop-i-test.false) c.loop-i.invariant.gains

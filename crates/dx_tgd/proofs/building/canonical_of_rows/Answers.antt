@@ -2,7 +2,7 @@ use Rattle.std.proofs.Common.{◌<◌, ◌-◌, ◌^◌, List, subst, sym}
 use Rattle.dx_model.specs.declared.values.Value.{Value}
 use Rattle.dx_model.specs.Rules.{canonical}
 use Rattle.dx_tgd.specs.Counting.{canonical_cells}
-use Rattle.dx_tgd.specs.Gained.{Gains}
+use Rattle.dx_tgd.specs.Gained.{GainsFacts}
 use Rattle.dx_tgd.specs.Planned.{built}
 use Rattle.dx_tgd.specs.Texts.{tuples_in}
 use Rattle.dx_tgd.proofs.Steps.{few_tables, fits_first, room_first, sorted_all, sorted_widths}
@@ -25,4 +25,4 @@ returns-clause-widths c = sorted_widths c.finish.result c.args.columns.now (buil
 pub returns-clause-facts : goal.returns-clause-facts
 returns-clause-facts c =
     sorted_all c.finish.result c.args.columns.now (built c.in_ok-target.target) (built c.add_rules.new.target) (canonical 0 c.args.rules.now (tuples_in c.args.symbols c.args.rows.now)) c.in_ok-target.ensures.empty
-    (subst (λ (S : List Value). Gains (built c.in_ok-target.target) (built c.add_rules.new.target) (canonical 0 c.args.rules.now (tuples_in S c.args.rows.now))) c.in_ok-target.ensures.symbols c.in_ok-add_rules.ensures) c.finish.ensures
+    (subst (λ (S : List Value). GainsFacts (built c.in_ok-target.target) (built c.add_rules.new.target) (canonical 0 c.args.rules.now (tuples_in S c.args.rows.now))) c.in_ok-target.ensures.symbols c.in_ok-add_rules.ensures) c.finish.ensures

@@ -1,7 +1,7 @@
 use Rattle.std.proofs.Common.{ap, subst, sym, List}
 use Rattle.dx_model.specs.declared.values.Value.{Value}
 use Rattle.dx_model.specs.Fitting.{AtomsFitWidths}
-use Rattle.dx_instance.specs.Numbers.{AreApart, Extends}
+use Rattle.dx_instance.specs.Numbers.{AreDistinctValues, Extends}
 use Rattle.dx_instance.specs.Stored.{TableRows, facts, widths}
 use Rattle.dx_instance.proofs.NumberFacts.{stays}
 use Rattle.dx_instance.specs.Shown.{shown_tables}
@@ -18,7 +18,7 @@ pub rule_rows-requires-clause-symbols : goal.rule_rows-requires-clause-symbols
 rule_rows-requires-clause-symbols g c = subst (λ (s : List Value). Extends c.numbers-numbers.result.symbols s) (sym c.in_ok-symbols.ensures) (stays c.numbers-numbers.result.symbols)
 
 pub rule_rows-requires-clause-apart : goal.rule_rows-requires-clause-apart
-rule_rows-requires-clause-apart g c = subst (λ (s : List Value). AreApart s) (sym c.in_ok-symbols.ensures) c.numbers-numbers.ensures.fit.apart
+rule_rows-requires-clause-apart g c = subst (λ (s : List Value). AreDistinctValues s) (sym c.in_ok-symbols.ensures) c.numbers-numbers.ensures.fit.apart
 
 pub one_in_order-requires-clause-ascend : goal.one_in_order-requires-clause-ascend
 one_in_order-requires-clause-ascend g c = (found c.in_ok-found.found c.in-Some.rows _ _ c.in-Some.is c.in_ok-found.ensures.rows).ascend

@@ -11,7 +11,7 @@ use Rattle.dx_instance.specs.Stored.{TableRows, facts, widths}
 use Rattle.dx_instance.proofs.RankFacts.{ascend_apart}
 use Rattle.dx_schema.specs.Tables.{schema_widths}
 use Rattle.dx_tgd.specs.Counting.{canonical_cells}
-use Rattle.dx_tgd.specs.Found.{IsFoundRule, IsReordered}
+use Rattle.dx_tgd.specs.Found.{IsFoundRule, IsRenumbering}
 use Rattle.dx_tgd.specs.Texts.{tuples_in}
 use Rattle.dx_tgd.proofs.Founds.{all_rule_rows, found_ascend, found_fit, found_reordered, found_texts, have_cells, reordered_cells}
 use Rattle.dx_tgd.proofs.plain.canonical_plain.Goals as goal
@@ -37,7 +37,7 @@ pub new-requires-clause-few : goal.new-requires-clause-few
 new-requires-clause-few g c =
     let I = facts (shown_tables c.numbers.result.symbols c.numbers.result.tables) in
     let found = AllZip-long (IsFoundRule g.M.Meaning.apply I c.in_ok-found.found.symbols) c.args.rules.now c.in_ok-found.found.tables.items c.in_ok-found.ensures.found in
-    let same = AllZip-long (IsReordered c.in_ok-found.found.symbols c.in_ok-ordered.ordered.symbols) c.in_ok-found.found.tables.items c.in_ok-ordered.ordered.tables.items c.in_ok-ordered.ensures.same in
+    let same = AllZip-long (IsRenumbering c.in_ok-found.found.symbols c.in_ok-ordered.ordered.symbols) c.in_ok-found.found.tables.items c.in_ok-ordered.ordered.tables.items c.in_ok-ordered.ensures.same in
     let few = c.requires.few in
     omega (arith, found, same, few)
 

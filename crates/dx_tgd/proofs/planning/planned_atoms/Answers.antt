@@ -5,7 +5,7 @@ use Rattle.dx_model.specs.declared.rules.Cell.{Cell}
 use Rattle.dx_model.specs.declared.rules.Cell.TheVariants.{Var}
 use Rattle.dx_ports.specs.Members.{◌∈◌}
 use Rattle.dx_ports.proofs.Members.{item_in}
-use Rattle.dx_tgd.specs.Planned.{IsPlanned}
+use Rattle.dx_tgd.specs.Planned.{IsCellPlan}
 use Rattle.dx_tgd.proofs.Plans.{atoms_more}
 use Rattle.dx_tgd.proofs.planning.planned_atoms.Goals as goal
 
@@ -19,6 +19,6 @@ pub loop-atom-preserved : goal.loop-atom-preserved
 loop-atom-preserved c = record {
   planned = rw c.in_ok-push.ensures.items (atoms_more c.loop-atom.symbols c.planned_cells.new.symbols c.args.rule c.args.variables.now c.args.places c.loop-atom.planned.items c.args.atoms.now c.loop-atom.atom-index _ c.atom-item.result
       c.loop-atom-test.true c.atom-item.is c.planned_cells.ensures.grows c.loop-atom.invariant.planned
-      (record { table = refl; cells = subst (λ (z : List Cell). AllZip (IsPlanned c.planned_cells.new.symbols c.args.rule c.args.variables.now c.args.places) c.in_ok-cells.cells.items z) c.items.ensures c.in_ok-cells.ensures.planned }));
+      (record { table = refl; cells = subst (λ (z : List Cell). AllZip (IsCellPlan c.planned_cells.new.symbols c.args.rule c.args.variables.now c.args.places) c.in_ok-cells.cells.items z) c.items.ensures c.in_ok-cells.ensures.planned }));
   grows = extends_both c.args.symbols.now c.loop-atom.symbols c.planned_cells.new.symbols c.loop-atom.invariant.grows c.planned_cells.ensures.grows;
 }

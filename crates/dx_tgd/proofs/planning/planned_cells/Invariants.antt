@@ -1,8 +1,8 @@
 use Rattle.std.proofs.Common.{take}
 use Rattle.std.specs.List.{AllZip}
 use Rattle.dx_instance.specs.Numbers.{Extends}
-use Rattle.dx_tgd.specs.Planned.{IsPlanned}
+use Rattle.dx_tgd.specs.Planned.{IsCellPlan}
 use Rattle.dx_tgd.proofs.planning.planned_cells.Given as goal
 
 abbrev pub invariant-loop-cell : goal.invariant-loop-cell
-invariant-loop-cell l = record { planned : AllZip (IsPlanned l.symbols l.rule l.variables l.places) l.planned.items (take l.cell-index l.cells); grows : Extends l.fn.symbols l.symbols }
+invariant-loop-cell l = record { planned : AllZip (IsCellPlan l.symbols l.rule l.variables l.places) l.planned.items (take l.cell-index l.cells); grows : Extends l.fn.symbols l.symbols }

@@ -1,6 +1,6 @@
 use Rattle.std.proofs.Common.{◌∙◌, arith, subst, sym}
 use Rattle.std.proofs.lemmas.Nat.{mul-lt}
-use Rattle.dx_model.specs.Rules.{Ascend}
+use Rattle.dx_model.specs.Rules.{TuplesAscend}
 use Rattle.dx_tgd.proofs.Ascending.{row_there, tuples_ascend}
 use Rattle.dx_tgd.proofs.Copied.{copied_all, copied_more, copied_none}
 use Rattle.dx_tgd.proofs.texts.places_of_rows.Goals as goal
@@ -31,4 +31,4 @@ pub returns-clause-ascend : goal.returns-clause-ascend
 returns-clause-ascend c = λ up n.
     let all = (copied_all c.args.symbols.now c.args.rows.now c.loop-place.place c.count-count.result c.width-width.result c.loop-place.texts.items c.count-count.ensures.count c.width-width.ensures
     (rw (← c.count-place-end.ensures.count) c.loop-place-test.false) c.loop-place.invariant).1 in
-    subst Ascend (sym (c.of_texts.ensures ∙ all)) (tuples_ascend c.args.symbols.now c.args.rows.now.rows up c.requires n)
+    subst TuplesAscend (sym (c.of_texts.ensures ∙ all)) (tuples_ascend c.args.symbols.now c.args.rows.now.rows up c.requires n)

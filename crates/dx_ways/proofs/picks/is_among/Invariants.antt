@@ -1,5 +1,5 @@
 use Rattle.std.proofs.Common.{◌≡◌, drop}
-use Rattle.dx_lines.specs.Kept.{is_among as is_among_of}
+use Rattle.dx_lines.specs.Kept.{is_pick_among as is_among_of}
 use Rattle.dx_ways.proofs.picks.is_among.Given as goal
 
 abbrev pub invariant-loop-one : goal.invariant-loop-one

@@ -5,7 +5,7 @@ use Rattle.dx_model.specs.Instances.{given}
 use Rattle.dx_blocks.specs.declared.numbered.At.{At}
 use Rattle.dx_blocks.specs.Numbered.{fact_of}
 use Rattle.dx_core.specs.Asking.{pairs_by}
-use Rattle.dx_core.specs.Left.{left_of, shown_by}
+use Rattle.dx_core.specs.Left.{facts_left, shown_by}
 use Rattle.dx_core.proofs.Asked.{distinct_rows, mark_place, mark_table, row_within}
 use Rattle.dx_core.proofs.Marked.{left_inside, marked_out}
 use Rattle.dx_core.proofs.Spared.{all_stay_left, less_left, others_left, same_none, still_moves}
@@ -29,12 +29,12 @@ loop-row-init c =
     let xs = c.args.answer.now in
     let at = c.args.at in
     let w = row_within s.numbers fit at (c.requires.block.numbers.rows at c.requires.at) in
-    let all = all_stay_left s.numbers fit b c.requires.block xs (left_of s.numbers s.taken) (fact_of s.numbers at)
+    let all = all_stay_left s.numbers fit b c.requires.block xs (facts_left s.numbers s.taken) (fact_of s.numbers at)
     (left_inside (shown_by s.numbers) s.taken) c.requires.moves in
     record {
       numbers = refl;
       moves = rw c.take_out.ensures (still_moves s.numbers fit b c.requires.block xs s.taken s.marks at c.requires.at
-          (left_of s.numbers s.taken) (left_inside (shown_by s.numbers) s.taken) all (λ e i m. (c.requires.moves e i m).1));
+          (facts_left s.numbers s.taken) (left_inside (shown_by s.numbers) s.taken) all (λ e i m. (c.requires.moves e i m).1));
       inside = rw c.take_out.ensures (less_left s.numbers fit b c.requires.block xs s.taken s.marks at c.requires.at);
       gone = rw c.take_out.ensures (λ m. marked_out (shown_by s.numbers) s.taken at.table at.place s.marks w.0 w.1 (distinct_rows s.numbers fit) m);
       others = rw c.take_out.ensures (others_left s.numbers fit b c.requires.block s.taken s.marks at c.requires.at);
@@ -56,7 +56,7 @@ loop-row-preserved c =
     let less = less_left s.numbers fit b c.requires.block xs mid has _ in_block in
     record {
       numbers = e;
-      moves = rw c.take_out-in-loop-row.ensures (still_moves s.numbers fit b c.requires.block xs mid has _ in_block (left_of s.numbers s.taken)
+      moves = rw c.take_out-in-loop-row.ensures (still_moves s.numbers fit b c.requires.block xs mid has _ in_block (facts_left s.numbers s.taken)
           (left_inside (shown_by s.numbers) s.taken) c.loop-row.invariant.moves (λ d i m. none d i));
       inside = rw c.take_out-in-loop-row.ensures (λ f m. c.loop-row.invariant.inside f (less f m));
       gone = rw c.take_out-in-loop-row.ensures (λ m. c.loop-row.invariant.gone (less _ m));

@@ -4,18 +4,18 @@ use Rattle.dx_ports.proofs.Loops.{each_item}
 use Rattle.dx_ports.proofs.Members.{from_map}
 use Rattle.dx_model.specs.declared.values.NullId.{NullId}
 use Rattle.dx_model.specs.declared.facts.Fact.{Fact}
-use Rattle.dx_instance.specs.Shown.{Numbered}
+use Rattle.dx_instance.specs.Shown.{NumberedInstance}
 use Rattle.dx_instance.specs.NullMaps.{becomes}
 use Rattle.dx_model.specs.Instances.{Moves, given}
 use Rattle.dx_blocks.specs.Numbered.{fact_of, null_under, shown_block}
 use Rattle.dx_core.specs.Asking.{pairs_by}
-use Rattle.dx_core.specs.Left.{left_of, shown_by}
+use Rattle.dx_core.specs.Left.{facts_left, shown_by}
 use Rattle.dx_core.specs.Sparing.{IsTried}
 use Rattle.dx_core.proofs.Mapped.{mapped_listed, mapped_more, mapped_moves, mapped_null_map, mapped_start, next_shown, none_shown}
 use Rattle.dx_core.proofs.sparing.Reduction.map_into.Goals as goal
 use Rattle.dx_core.proofs.sparing.Reduction.map_into.Goals.{in-Some+in_ok-give_all, in_default}
 
-some_is : {V : Type 0} (N : Numbered) (nulls : List ℕ) (F T : List Fact) (items : V → List ℕ) (o : Option V) (v : V) → o ≡ Some v
+some_is : {V : Type 0} (N : NumberedInstance) (nulls : List ℕ) (F T : List Fact) (items : V → List ℕ) (o : Option V) (v : V) → o ≡ Some v
     → IfSome o (λ x. Moves (given (pairs_by N nulls (items x))) F T) → Moves (given (pairs_by N nulls (items v))) F T
 some_is N nulls F T items None v e p = absurd (cc e)
 some_is {V} N nulls F T items (Some x) v e p =
@@ -60,7 +60,7 @@ loop-block-preserved c =
           let xs = w.in-Some.answer.items in
           let nulls = rw (w.items.ensures, w.deref.ensures.value) at w.in_ok-give_all.ensures.nulls in
           let others = rw w.items.ensures at w.in_ok-give_all.ensures.others in
-          let moves = some_is s.numbers b.nulls (map (fact_of s.numbers) b.rows) (left_of s.numbers s.taken) (λ v. v.items)
+          let moves = some_is s.numbers b.nulls (map (fact_of s.numbers) b.rows) (facts_left s.numbers s.taken) (λ v. v.items)
           c.in_ok-answer.field-0 w.in-Some.answer w.in-Some.is c.in_ok-answer.ensures.moves in
           rw w.map-is (mapped_more (shown_by s.numbers) s.taken (shown_block s.numbers b) t.block (given (pairs_by s.numbers b.nulls xs))
           c.loop-block.map w.give_all.new.made

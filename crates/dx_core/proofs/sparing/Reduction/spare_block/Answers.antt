@@ -2,7 +2,7 @@ use Rattle.std.proofs.Common.{◌∙◌, ap, length, refl, sym}
 use Rattle.std.proofs.lemmas.Bool.{true≢false}
 use Rattle.dx_ports.proofs.Members.{in_at}
 use Rattle.dx_model.proofs.Reduction.{reduct_itself, reduct_of_reduct}
-use Rattle.dx_core.specs.Left.{left_of}
+use Rattle.dx_core.specs.Left.{facts_left}
 use Rattle.dx_core.proofs.Spared.{all_tried, known_start, needed_row, none_tried, same_needed}
 use Rattle.dx_core.proofs.sparing.Reduction.spare_block.Goals as goal
 use Rattle.dx_core.proofs.sparing.Reduction.spare_block.Goals.{then-branch, else-branch}
@@ -11,9 +11,9 @@ pub loop-at-init : goal.loop-at-init
 loop-at-init c =
     let s = c.args.self.now in record {
       numbers = refl;
-      reduct = reduct_itself (left_of s.numbers s.taken);
-      needed = none_tried s.numbers (left_of s.numbers s.taken) c.args.block.now.rows;
-      known = known_start s.numbers (left_of s.numbers s.taken) c.args.block.now.nulls c.in_ok-known.known.items _
+      reduct = reduct_itself (facts_left s.numbers s.taken);
+      needed = none_tried s.numbers (facts_left s.numbers s.taken) c.args.block.now.rows;
+      known = known_start s.numbers (facts_left s.numbers s.taken) c.args.block.now.nulls c.in_ok-known.known.items _
           (ap (λ xs. length xs) c.items.ensures) c.in_ok-known.ensures;
       others = λ f m n. m;
       same = λ e. refl;
@@ -36,7 +36,7 @@ loop-at-preserved c =
     record {
       numbers = c.spare_row.ensures.numbers ∙ e;
       reduct = reduct_of_reduct _ _ _ c.loop-at.invariant.reduct r;
-      needed = needed_row s.numbers (left_of s.numbers c.loop-at.self.taken) (left_of s.numbers c.spare_row.new.self.taken)
+      needed = needed_row s.numbers (facts_left s.numbers c.loop-at.self.taken) (facts_left s.numbers c.spare_row.new.self.taken)
           c.args.block.now.rows c.loop-at.at-index (record { table = 0; place = 0 }) (rw c.items-at-items.ensures at c.loop-at-test.true) r
           (same_needed s.numbers c.loop-at.self.numbers c.spare_row.new.self.taken _ e
           (rw c.items-at-items.ensures at c.in_ok-spare_row.ensures.needed)) c.loop-at.invariant.needed;
@@ -53,7 +53,7 @@ returns c =
     let s = c.args.self.now in record {
       numbers = c.loop-at.invariant.numbers;
       reduct = c.loop-at.invariant.reduct;
-      needed = all_tried s.numbers (left_of s.numbers c.loop-at.self.taken) c.args.block.now.rows c.loop-at.at-index
+      needed = all_tried s.numbers (facts_left s.numbers c.loop-at.self.taken) c.args.block.now.rows c.loop-at.at-index
           (rw c.items-at-items.ensures at c.loop-at-test.false) c.loop-at.invariant.needed;
       others = c.loop-at.invariant.others;
       same = c.loop-at.invariant.same;

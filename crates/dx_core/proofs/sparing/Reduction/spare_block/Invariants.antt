@@ -3,18 +3,18 @@ use Rattle.dx_ports.specs.Members.{◌∈◌, Each}
 use Rattle.dx_model.specs.declared.facts.Fact.{Fact}
 use Rattle.dx_model.specs.Blocks.{IsReduct}
 use Rattle.dx_blocks.specs.Numbered.{fact_of, shown_block}
-use Rattle.dx_core.specs.Asking.{IsKnown}
-use Rattle.dx_core.specs.Left.{left_of}
+use Rattle.dx_core.specs.Asking.{KnownAreRigid}
+use Rattle.dx_core.specs.Left.{facts_left}
 use Rattle.dx_core.specs.Sparing.{NeededIn}
 use Rattle.dx_core.proofs.sparing.Reduction.spare_block.Given as goal
 
 abbrev pub invariant-loop-at : goal.invariant-loop-at
 invariant-loop-at l = record {
   numbers : l.self.numbers ≡ l.fn.self.numbers;
-  reduct : IsReduct (left_of l.fn.self.numbers l.fn.self.taken) (left_of l.fn.self.numbers l.self.taken);
-  needed : Each (map (fact_of l.fn.self.numbers) (take l.at-index l.block.rows)) (NeededIn (left_of l.fn.self.numbers l.self.taken));
-  known : IsKnown l.fn.self.numbers (left_of l.fn.self.numbers l.self.taken) l.block.nulls l.known.items;
-  others : (f : Fact) → f ∈ left_of l.fn.self.numbers l.fn.self.taken → ¬ (f ∈ (shown_block l.fn.self.numbers l.block).facts)
-      → f ∈ left_of l.fn.self.numbers l.self.taken;
+  reduct : IsReduct (facts_left l.fn.self.numbers l.fn.self.taken) (facts_left l.fn.self.numbers l.self.taken);
+  needed : Each (map (fact_of l.fn.self.numbers) (take l.at-index l.block.rows)) (NeededIn (facts_left l.fn.self.numbers l.self.taken));
+  known : KnownAreRigid l.fn.self.numbers (facts_left l.fn.self.numbers l.self.taken) l.block.nulls l.known.items;
+  others : (f : Fact) → f ∈ facts_left l.fn.self.numbers l.fn.self.taken → ¬ (f ∈ (shown_block l.fn.self.numbers l.block).facts)
+      → f ∈ facts_left l.fn.self.numbers l.self.taken;
   same : l.spared ≡ false → l.self.taken ≡ l.fn.self.taken;
 }

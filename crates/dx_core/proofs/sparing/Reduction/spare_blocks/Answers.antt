@@ -2,16 +2,16 @@ use Rattle.std.proofs.Common.{◌≡◌, ◌∙◌, ◌++◌, ◌∷◌, [], Lis
 use Rattle.std.proofs.lemmas.List.{map-append}
 use Rattle.dx_ports.specs.Members.{Each}
 use Rattle.dx_model.proofs.Reduction.{reduct_of_reduct}
-use Rattle.dx_instance.specs.Shown.{Numbered}
+use Rattle.dx_instance.specs.Shown.{NumberedInstance}
 use Rattle.dx_instance.specs.Stored.{facts}
 use Rattle.dx_blocks.specs.declared.numbered.NumberBlock.{NumberBlock}
 use Rattle.dx_blocks.specs.Numbered.{shown_block}
-use Rattle.dx_core.specs.Left.{left_of, shown_by}
+use Rattle.dx_core.specs.Left.{facts_left, shown_by}
 use Rattle.dx_core.specs.Sparing.{IsLeftOrIn}
 use Rattle.dx_core.proofs.Passed.{all_to_try, core_left, each_more, last_in, needed_more, none_left, others_in, rest_more}
 use Rattle.dx_core.proofs.sparing.Reduction.spare_blocks.Goals as goal
 
-shown_more : (N : Numbered) (old new : List NumberBlock) (b : NumberBlock) → old ≡ new ++ b ∷ []
+shown_more : (N : NumberedInstance) (old new : List NumberBlock) (b : NumberBlock) → old ≡ new ++ b ∷ []
     → map (shown_block N) old ≡ map (shown_block N) new ++ shown_block N b ∷ []
 shown_more N old new b e = ap (map (shown_block N)) e ∙ map-append (shown_block N) new (b ∷ [])
 
@@ -22,7 +22,7 @@ loop-block-init c =
       reduct = c.requires.reduct;
       tried = c.requires.tried;
       changed = rw c.new-changed.ensures.items (λ b m. elim m [ ]);
-      needed = all_to_try (map (shown_block N) c.args.blocks.items) (left_of N c.args.self.now.taken);
+      needed = all_to_try (map (shown_block N) c.args.blocks.items) (facts_left N c.args.self.now.taken);
       rest = λ f m. inl (c.requires.whole f m);
     }
 
@@ -69,14 +69,14 @@ loop-block-preserved-then-not-branch c =
           (map (shown_block N) c.pop.new.self.items) (shown_block N c.in-Some.block) _ _ popped
           (rw e at c.in_ok-spare_block.ensures.reduct) (rw e at c.in_ok-spare_block.ensures.needed)
           c.loop-block.invariant.needed;
-      rest = subst (λ (g : List (List Bool)). Each (facts (shown_by N)) (IsLeftOrIn (left_of N g) (map (shown_block N) c.loop-block.changed.items)))
+      rest = subst (λ (g : List (List Bool)). Each (facts (shown_by N)) (IsLeftOrIn (facts_left N g) (map (shown_block N) c.loop-block.changed.items)))
           (sym (c.in_ok-spare_block.ensures.same c.if-not-branch.true)) c.loop-block.invariant.rest;
     }
 
 pub returns-clause-core : goal.returns-clause-core
 returns-clause-core c =
     let N = c.args.self.now.numbers in
-    core_left (facts (shown_by N)) (left_of N c.loop-block.self.taken) (map (shown_block N) c.args.blocks.items)
+    core_left (facts (shown_by N)) (facts_left N c.loop-block.self.taken) (map (shown_block N) c.args.blocks.items)
     (map (shown_block N) c.loop-block.left.items) c.requires.blocks
     (ap (map (shown_block N)) (none_left c.loop-block.left.items (sym c.loop-block.left.ok.0 ∙ c.in_default.ensures.cases.0)))
     c.loop-block.invariant.reduct c.loop-block.invariant.needed

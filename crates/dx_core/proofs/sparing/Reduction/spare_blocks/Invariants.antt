@@ -3,7 +3,7 @@ use Rattle.dx_ports.specs.Members.{Each}
 use Rattle.dx_model.specs.Blocks.{IsReduct}
 use Rattle.dx_instance.specs.Stored.{facts}
 use Rattle.dx_blocks.specs.Numbered.{shown_block}
-use Rattle.dx_core.specs.Left.{left_of, shown_by}
+use Rattle.dx_core.specs.Left.{facts_left, shown_by}
 use Rattle.dx_core.specs.Sparing.{IsLeftOrIn, IsTried}
 use Rattle.dx_core.proofs.Passed.{AreNeeded}
 use Rattle.dx_core.proofs.sparing.Reduction.spare_blocks.Given as goal
@@ -14,11 +14,11 @@ decreases-loop-block l = vec_len l.left
 abbrev pub invariant-loop-block : goal.invariant-loop-block
 invariant-loop-block l = record {
   numbers : l.self.numbers ≡ l.fn.self.numbers;
-  reduct : IsReduct (facts (shown_by l.fn.self.numbers)) (left_of l.fn.self.numbers l.self.taken);
+  reduct : IsReduct (facts (shown_by l.fn.self.numbers)) (facts_left l.fn.self.numbers l.self.taken);
   tried : Each l.left.items (IsTried l.fn.self.numbers);
   changed : Each l.changed.items (IsTried l.fn.self.numbers);
   needed : AreNeeded (map (shown_block l.fn.self.numbers) l.fn.blocks.items) (map (shown_block l.fn.self.numbers) l.left.items)
-      (left_of l.fn.self.numbers l.self.taken);
+      (facts_left l.fn.self.numbers l.self.taken);
   rest : Each (facts (shown_by l.fn.self.numbers))
-      (IsLeftOrIn (left_of l.fn.self.numbers l.self.taken) (map (shown_block l.fn.self.numbers) l.changed.items));
+      (IsLeftOrIn (facts_left l.fn.self.numbers l.self.taken) (map (shown_block l.fn.self.numbers) l.changed.items));
 }

@@ -1,12 +1,12 @@
 use Rattle.std.proofs.Common.{map, sym}
 use Rattle.dx_model.proofs.Reduction.{reduct_itself}
 use Rattle.dx_blocks.specs.Numbered.{fact_of}
-use Rattle.dx_core.specs.Left.{left_of}
+use Rattle.dx_core.specs.Left.{facts_left}
 use Rattle.dx_core.proofs.Spared.{known_stays, none_needed, none_told, same_gone, same_moves, same_others, same_reduct, some_told}
 use Rattle.dx_core.proofs.sparing.Reduction.spare_in_small.Goals as goal
 
 pub returns-in-None-clause-reduct : goal.returns-in-None-clause-reduct
-returns-in-None-clause-reduct c = rw c.in_ok-together.ensures.taken (reduct_itself (left_of c.args.self.now.numbers c.args.self.now.taken))
+returns-in-None-clause-reduct c = rw c.in_ok-together.ensures.taken (reduct_itself (facts_left c.args.self.now.numbers c.args.self.now.taken))
 
 pub returns-in-None-clause-needed : goal.returns-in-None-clause-needed
 returns-in-None-clause-needed c =
@@ -14,7 +14,7 @@ returns-in-None-clause-needed c =
     let none = none_told s.numbers _ _ _ c.args.block.now.nulls (λ v. v.items) c.in_ok-together.together c.in-None.is
     (rw c.items-rows.ensures at c.in_ok-together.ensures.exact) in
     rw c.in_ok-together.ensures.taken
-    (none_needed (left_of s.numbers s.taken) (map (fact_of s.numbers) c.args.block.now.rows) (fact_of s.numbers c.args.at) none)
+    (none_needed (facts_left s.numbers s.taken) (map (fact_of s.numbers) c.args.block.now.rows) (fact_of s.numbers c.args.at) none)
 
 pub fold_block-requires-clause-moves : goal.fold_block-requires-clause-moves
 fold_block-requires-clause-moves c =
@@ -39,7 +39,7 @@ returns-in-Some-clause-needed c = λ m.
 pub returns-in-Some-clause-known : goal.returns-in-Some-clause-known
 returns-in-Some-clause-known c =
     let s = c.args.self.now in
-    known_stays s.numbers (left_of s.numbers s.taken) _ c.args.block.now.nulls c.args.known.now
+    known_stays s.numbers (facts_left s.numbers s.taken) _ c.args.block.now.nulls c.args.known.now
     (same_reduct s.numbers c.ask.new.self.numbers s.taken c.ask.new.self.taken c.fold_block.new.self.taken c.in_ok-together.ensures.numbers
     c.in_ok-together.ensures.taken c.fold_block.ensures.reduct) c.requires.known
 

@@ -2,13 +2,13 @@ use Rattle.std.proofs.Common.{◌∙◌, [], ◌∷◌, map, sym}
 use Rattle.std.proofs.lemmas.Bool.{true≢false}
 use Rattle.dx_model.proofs.Reduction.{reduct_itself}
 use Rattle.dx_blocks.specs.Numbered.{fact_of}
-use Rattle.dx_core.specs.Left.{left_of}
+use Rattle.dx_core.specs.Left.{facts_left}
 use Rattle.dx_core.proofs.Asked.{mark_place, mark_table, row_left}
 use Rattle.dx_core.proofs.Spared.{alone_same, gone_needed, known_stays, none_needed, nulls_kept, none_told, one_less, others_left, same_avoids, same_moves, some_told}
 use Rattle.dx_core.proofs.sparing.Reduction.spare_row.Goals as goal
 
 pub returns-then-has-clause-reduct : goal.returns-then-has-clause-reduct
-returns-then-has-clause-reduct c = reduct_itself (left_of c.args.self.now.numbers c.args.self.now.taken)
+returns-then-has-clause-reduct c = reduct_itself (facts_left c.args.self.now.numbers c.args.self.now.taken)
 
 pub returns-then-has-clause-needed : goal.returns-then-has-clause-needed
 returns-then-has-clause-needed c = λ m.
@@ -18,14 +18,14 @@ returns-then-has-clause-needed c = λ m.
 
 pub returns-in-None-clause-reduct : goal.returns-in-None-clause-reduct
 returns-in-None-clause-reduct c =
-    rw c.in_ok-alone.ensures.taken (reduct_itself (left_of c.args.self.now.numbers c.args.self.now.taken))
+    rw c.in_ok-alone.ensures.taken (reduct_itself (facts_left c.args.self.now.numbers c.args.self.now.taken))
 
 pub returns-in-None-clause-needed : goal.returns-in-None-clause-needed
 returns-in-None-clause-needed c =
     let s = c.args.self.now in
     let none = rw c.in-None.is at c.in_ok-alone.ensures.exact in
     rw c.in_ok-alone.ensures.taken
-    (none_needed (left_of s.numbers s.taken) (fact_of s.numbers c.args.at ∷ []) (fact_of s.numbers c.args.at) none)
+    (none_needed (facts_left s.numbers s.taken) (fact_of s.numbers c.args.at ∷ []) (fact_of s.numbers c.args.at) none)
 
 pub returns-in-None-clause-known : goal.returns-in-None-clause-known
 returns-in-None-clause-known c =
@@ -33,9 +33,9 @@ returns-in-None-clause-known c =
     let none = rw c.in-None.is at c.in_ok-alone.ensures.exact in
     let keeps = rw (c.in_ok-alone.ensures.numbers, c.items-nulls.ensures) at c.keep_nulls.ensures in
     rw c.in_ok-alone.ensures.taken
-    (keeps (left_of s.numbers s.taken) (λ x i j.
+    (keeps (facts_left s.numbers s.taken) (λ x i j.
     nulls_kept s.numbers c.len-fit.ensures.fit c.args.at (c.requires.block.numbers.rows c.args.at c.requires.at)
-    (left_of s.numbers s.taken) none x i (c.requires.block.numbers.nulls x j)) c.requires.known)
+    (facts_left s.numbers s.taken) none x i (c.requires.block.numbers.nulls x j)) c.requires.known)
 
 pub ask_all-requires-clause-alone : goal.ask_all-requires-clause-alone
 ask_all-requires-clause-alone c =
@@ -45,7 +45,7 @@ ask_all-requires-clause-alone c =
 
 pub returns-in-None-together-clause-reduct : goal.returns-in-None-together-clause-reduct
 returns-in-None-together-clause-reduct c =
-    rw (c.in_ok-together.ensures.taken, c.in_ok-alone.ensures.taken) (reduct_itself (left_of c.args.self.now.numbers c.args.self.now.taken))
+    rw (c.in_ok-together.ensures.taken, c.in_ok-alone.ensures.taken) (reduct_itself (facts_left c.args.self.now.numbers c.args.self.now.taken))
 
 pub returns-in-None-together-clause-needed : goal.returns-in-None-together-clause-needed
 returns-in-None-together-clause-needed c =
@@ -55,7 +55,7 @@ returns-in-None-together-clause-needed c =
     (none_told c.ask_alone.new.self.numbers _ _ _ c.args.block.now.nulls (λ v. v.items) c.in_ok-together.together c.in-None-together.is
     c.in_ok-together.ensures.exact) in
     rw (c.in_ok-together.ensures.taken, c.in_ok-alone.ensures.taken)
-    (none_needed (left_of s.numbers s.taken) (map (fact_of s.numbers) c.args.block.now.rows) (fact_of s.numbers c.args.at) none)
+    (none_needed (facts_left s.numbers s.taken) (map (fact_of s.numbers) c.args.block.now.rows) (fact_of s.numbers c.args.at) none)
 
 pub take_out-requires-clause-table : goal.take_out-requires-clause-table
 take_out-requires-clause-table c =
@@ -94,7 +94,7 @@ returns-in-Some-clause-known c =
     (some_told c.ask_alone.new.self.numbers _ _ _ c.args.block.now.nulls (λ v. v.items) c.in_ok-together.together _ c.in-Some.is
     c.in_ok-together.ensures.exact) in
     rw (c.take_out.ensures, c.in_ok-together.ensures.taken, c.in_ok-alone.ensures.taken)
-    (known_stays s.numbers (left_of s.numbers s.taken) _ c.args.block.now.nulls c.args.known.now.items
+    (known_stays s.numbers (facts_left s.numbers s.taken) _ c.args.block.now.nulls c.args.known.now.items
     (one_less s.numbers c.len-fit.ensures.fit c.args.block.now c.requires.block s.taken s.marks c.args.at c.requires.at
     _ moves) c.requires.known)
 

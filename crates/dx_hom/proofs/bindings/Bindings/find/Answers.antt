@@ -3,8 +3,8 @@ use Rattle.std.proofs.lemmas.List.{get_or_default}
 use Rattle.dx_ports.specs.Members.{◌∈◌}
 use Rattle.dx_ports.proofs.Members.{in_at}
 use Rattle.dx_hom.specs.declared.matching.Found.{Found}
-use Rattle.dx_hom.specs.Bound.{Bound, bucket, cell_at}
-use Rattle.dx_hom.specs.Narrowing.{names}
+use Rattle.dx_hom.specs.Bound.{BindingState, bucket, found_at}
+use Rattle.dx_hom.specs.Narrowing.{found_nulls}
 use Rattle.dx_hom.proofs.BoundFacts.{looks_first, looks_next, many_buckets, nowhere}
 use Rattle.dx_hom.proofs.bindings.Bindings.find.Goals as goal
 
@@ -27,7 +27,7 @@ returns-then-eq c =
     let there : c.index.result.now ∈ cells =
     subst (λ (x : Found). x ∈ cells) (sym at) (in_at cells (c.loop-code.code - 1) c.index.result.now within) in
     let e : c.index.result.now.null ≡ c.args.null = search rules in
-    (subst (λ (l : List Found). c.index.result.now ∈ l) (ap (λ (b : Bound). b.cells) c.self.view_is) there, e)
+    (subst (λ (l : List Found). c.index.result.now ∈ l) (ap (λ (b : BindingState). b.cells) c.self.view_is) there, e)
 
 pub loop-code-preserved : goal.loop-code-preserved
 loop-code-preserved c =
@@ -42,8 +42,8 @@ loop-code-preserved c =
     let inside : p < length before = omega (arith, within, many, bound.linked.many) in
     let next = c.index-code-in-loop-code.ensures ∙ get_or_default before p _ 0 inside in
     let d : c.index.result.now.null ≡ c.args.null → ⊥ = search rules in
-    let at : c.index.result.now ≡ cell_at cells p = c.index.ensures ∙ get_or_default cells p _ _ within in
-    let differs : ¬ ((cell_at cells p).null ≡ c.args.null) = λ q. d (ap (λ (b : Found). b.null) at ∙ q) in
+    let at : c.index.result.now ≡ found_at cells p = c.index.ensures ∙ get_or_default cells p _ _ within in
+    let differs : ¬ ((found_at cells p).null ≡ c.args.null) = λ q. d (ap (λ (b : Found). b.null) at ∙ q) in
     (looks_next (length heads) cells c.args.null heads before p c.loop-code.code c.index-code-in-loop-code.result.now refl e next bound
     c.loop-code.invariant differs).0
 
@@ -60,8 +60,8 @@ loop-code-smaller c =
     let inside : p < length before = omega (arith, within, many, bound.linked.many) in
     let next = c.index-code-in-loop-code.ensures ∙ get_or_default before p _ 0 inside in
     let d : c.index.result.now.null ≡ c.args.null → ⊥ = search rules in
-    let at : c.index.result.now ≡ cell_at cells p = c.index.ensures ∙ get_or_default cells p _ _ within in
-    let differs : ¬ ((cell_at cells p).null ≡ c.args.null) = λ q. d (ap (λ (b : Found). b.null) at ∙ q) in
+    let at : c.index.result.now ≡ found_at cells p = c.index.ensures ∙ get_or_default cells p _ _ within in
+    let differs : ¬ ((found_at cells p).null ≡ c.args.null) = λ q. d (ap (λ (b : Found). b.null) at ∙ q) in
     (looks_next (length heads) cells c.args.null heads before p c.loop-code.code c.index-code-in-loop-code.result.now refl e next bound
     c.loop-code.invariant differs).1
 
@@ -69,4 +69,4 @@ pub returns : goal.returns
 returns c =
     let none = nowhere (length c.self.inside.heads.items) c.self.inside.cells.items c.args.null c.loop-code.code (omega arith)
     c.loop-code.invariant in
-    subst (λ (l : List Found). ¬ (c.args.null ∈ names l)) (ap (λ (b : Bound). b.cells) c.self.view_is) none
+    subst (λ (l : List Found). ¬ (c.args.null ∈ found_nulls l)) (ap (λ (b : BindingState). b.cells) c.self.view_is) none

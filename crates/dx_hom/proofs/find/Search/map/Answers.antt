@@ -3,7 +3,7 @@ use Rattle.std.proofs.lemmas.List.{get_or_default}
 use Rattle.dx_ports.specs.Members.{◌∈◌}
 use Rattle.dx_ports.proofs.Loops.{each_item}
 use Rattle.dx_hom.specs.declared.matching.Found.{Found}
-use Rattle.dx_hom.specs.Narrowing.{IsCell}
+use Rattle.dx_hom.specs.Narrowing.{IsNullCell}
 use Rattle.dx_hom.specs.Room.{Room}
 use Rattle.dx_hom.proofs.Placing.{MadeFrom, made_all, made_more, made_none}
 use Rattle.dx_hom.proofs.find.Search.map.Goals as goal
@@ -23,7 +23,7 @@ cell-value-requires c =
     let same : cells ≡ c.args.self.now.found = ap (λ (r : Room). r.found) c.self.view_is in
     let h : i < length cells = omega (arith, c.loop-left.invariant.within, c.loop-left-test.true) in
     let at : entry ≡ get_or cells i entry = c.at-entry.ensures ∙ get_or_default cells i _ _ h in
-    let cell = each_item (IsCell c.args.into.now) cells i entry h at (λ b m. c.requires b (subst (λ (l : List Found). b ∈ l) same m)) in
+    let cell = each_item (IsNullCell c.args.into.now) cells i entry h at (λ b m. c.requires b (subst (λ (l : List Found). b ∈ l) same m)) in
     record { table = cell.table; place = cell.place; column = cell.column }
 
 pub loop-left-preserved : goal.loop-left-preserved

@@ -1,7 +1,7 @@
 use Rattle.std.proofs.Common.{◌∙◌, ◌<◌, ℕ, List, arith, ap, get_or, length}
 use Rattle.std.specs.Prelude.{slice_index}
 use Rattle.std.proofs.lemmas.List.{get_or_default}
-use Rattle.dx_instance.specs.Cells.{NumberTable, rows_in}
+use Rattle.dx_instance.specs.Cells.{NumberTable, rows_of_cells}
 use Rattle.dx_instance.proofs.CellFacts.{cell_below, renumbered_is, replaced_all}
 use Rattle.dx_instance.proofs.cells.Rows.into_renumbered.Goals as goal
 
@@ -18,5 +18,5 @@ bounds-ranks-index c =
 pub returns : goal.returns
 returns c =
     let whole = replaced_all (slice_index c.args.ranks.now) c.self.inside.cells.items c.loop-i.cells.items c.loop-i.i (omega (arith, c.loop-i-test.false, c.len-i-end.ensures, c.self.inside.cells.ok.0)) c.loop-i.invariant in
-    ap (λ (cells : List ℕ). let t : NumberTable = record { width = c.self.inside.width; rows = rows_in c.self.inside.count c.self.inside.width cells } in t) whole
+    ap (λ (cells : List ℕ). let t : NumberTable = record { width = c.self.inside.width; rows = rows_of_cells c.self.inside.count c.self.inside.width cells } in t) whole
     ∙ renumbered_is c.args.self c.self.inside.count c.self.inside.width c.self.inside.cells.items c.args.ranks.now c.self.view_is

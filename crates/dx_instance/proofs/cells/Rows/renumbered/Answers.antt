@@ -1,7 +1,7 @@
 use Rattle.std.proofs.Common.{◌≡◌, ◌∙◌, ℕ, List, refl, sym, ap, length, get_or, map}
 use Rattle.std.specs.Prelude.{slice_index}
 use Rattle.std.proofs.lemmas.List.{take_all, length-map, map_more, get_or_default}
-use Rattle.dx_instance.specs.Cells.{NumberTable, rows_in}
+use Rattle.dx_instance.specs.Cells.{NumberTable, rows_of_cells}
 use Rattle.dx_instance.proofs.CellFacts.{cell_below, renumbered_is}
 use Rattle.dx_instance.proofs.cells.Rows.renumbered.Goals as goal
 
@@ -27,5 +27,5 @@ pub returns : goal.returns
 returns c =
     let all = c.as_slice-cell-items.ensures.value in
     let whole = c.loop-cell.invariant ∙ ap (λ (l : List ℕ). map (slice_index c.args.ranks.now) l) (take_all c.loop-cell.cell-index c.as_slice-cell-items.result.now c.loop-cell-test.false ∙ all) in
-    ap (λ (cells : List ℕ). let t : NumberTable = record { width = c.self.inside.width; rows = rows_in c.self.inside.count c.self.inside.width cells } in t) whole
+    ap (λ (cells : List ℕ). let t : NumberTable = record { width = c.self.inside.width; rows = rows_of_cells c.self.inside.count c.self.inside.width cells } in t) whole
     ∙ renumbered_is c.args.self.now c.self.inside.count c.self.inside.width c.self.inside.cells.items c.args.ranks.now c.self.view_is

@@ -1,6 +1,6 @@
 use Rattle.std.proofs.Common.{subst, sym, arith, ℕ}
 use Rattle.dx_ports.specs.Members.{Each}
-use Rattle.dx_instance.specs.Shown.{RowsFit}
+use Rattle.dx_instance.specs.Shown.{NumberRowsFit}
 use Rattle.dx_instance.proofs.SortFacts.{if_ok, ranks_show, same_sorting}
 use Rattle.dx_instance.proofs.instance.Instance.from_rows.Goals as goal
 
@@ -11,7 +11,7 @@ pub of_ranks-requires-clause-within : goal.of_ranks-requires-clause-within
 of_ranks-requires-clause-within c n h = let o = c.in_ok-into_order.ensures in let w = o.within n (omega (arith, h, o.ranked)) in omega (arith, w)
 
 pub of_ranks-requires-clause-fit : goal.of_ranks-requires-clause-fit
-of_ranks-requires-clause-fit c = subst (λ (n : ℕ). Each c.args.tables.items (RowsFit n)) (sym c.in_ok-into_order.ensures.ranked) c.requires.fit
+of_ranks-requires-clause-fit c = subst (λ (n : ℕ). Each c.args.tables.items (NumberRowsFit n)) (sym c.in_ok-into_order.ensures.ranked) c.requires.fit
 
 pub returns : goal.returns
 returns c =

@@ -2,7 +2,7 @@ use Rattle.std.proofs.Common.{◌≡◌, ◌∙◌, sym, ap, subst, arith, lengt
 use Rattle.std.proofs.lemmas.List.{length-map}
 use Rattle.dx_ports.specs.Members.{Each}
 use Rattle.dx_instance.specs.Cells.{NumberTable}
-use Rattle.dx_instance.specs.Shown.{NumbersFit, RowsFit, renumbered, shown_tables}
+use Rattle.dx_instance.specs.Shown.{NumbersFit, NumberRowsFit, renumbered, shown_tables}
 use Rattle.dx_instance.specs.Stored.{IsSorting}
 use Rattle.dx_instance.proofs.SortFacts.{if_ok, instance_maps, images_fit, parts_rows}
 use Rattle.dx_instance.proofs.instance.Instance.map_anew.Goals as goal
@@ -17,7 +17,7 @@ pub from_rows-requires-clause-fit : goal.from_rows-requires-clause-fit
 from_rows-requires-clause-fit c =
     let o = c.in_ok-images.ensures.images in
     let all = c.in_ok-tables.ensures ∙ ap (λ (l : List NumberTable). map (renumbered c.deref-2.result.now) l) c.deref.ensures.value in
-    subst (λ (l : List NumberTable). Each l (RowsFit (length c.images_of.new.into))) (sym all)
+    subst (λ (l : List NumberTable). Each l (NumberRowsFit (length c.images_of.new.into))) (sym all)
     (rw c.deref-2.ensures.value (images_fit (length c.images_of.new.into) (length c.self.inside.symbols) c.in_ok-images.images.items c.self.inside.tables.items o.within (parts_rows c.self.inside.symbols c.self.inside.tables.items c.self.invariant)))
 
 pub from_rows-requires-clause-few : goal.from_rows-requires-clause-few

@@ -3,7 +3,7 @@ use Rattle.std.proofs.lemmas.List.{get_or_default, length-map}
 use Rattle.std.specs.Prelude.{map, slice_index}
 use Rattle.dx_ports.specs.Members.{◌∈◌, ◌⊆◌, Distinct, Each}
 use Rattle.dx_ports.proofs.Members.{in_right}
-use Rattle.dx_joins.specs.Planning.{place_of}
+use Rattle.dx_joins.specs.Planning.{first_place}
 use Rattle.dx_joins.proofs.Places.{shared_more, each_push}
 use Rattle.dx_joins.proofs.plan.Plan.build.Goals as goal
 use Rattle.dx_joins.proofs.plan.Plan.build.Goals.{then-first-left+in_ok-push+in_ok-push-2, else-first-left}
@@ -17,7 +17,7 @@ loop-column-preserved c = elim c.if-first-left.branch [
       let firsts = c.in_ok-firsts.firsts.items in
       let here : c.loop-column.column < length firsts = omega (arith, c.in_ok-firsts.firsts.ok.0, c.loop-column-test.true) in
       let at : c.index-first.result.now ≡ get_or firsts c.loop-column.column 0 = c.index-first.ensures ∙ get_or_default firsts c.loop-column.column c.index-first.result.now 0 here in
-      let e = c.in_ok-firsts.ensures ∙ ap (λ (l : List ℕ). map (place_of l) c.args.right.now) (c.deref.ensures.value ∙ c.in_ok-names.ensures) in
+      let e = c.in_ok-firsts.ensures ∙ ap (λ (l : List ℕ). map (first_place l) c.args.right.now) (c.deref.ensures.value ∙ c.in_ok-names.ensures) in
       let low : get_or firsts c.loop-column.column 0 < length c.args.left.now = rw (← at) w.if-first-left.true in
       rw (w.by_left-is, w.by_right-is, w.in_ok-push.ensures.items, w.in_ok-push-2.ensures.items) (record {
         left_within = each_push _ _ _ c.loop-column.invariant.left_within w.if-first-left.true;
@@ -43,18 +43,18 @@ returns-clause-plan c =
     let er = c.in_ok-copied-2.ensures in
     let ek = c.in_ok-copied-3.ensures in
     let fs = c.in_ok-firsts.firsts.items in
-    let firsts : fs ≡ map (place_of (left ++ right)) right = c.in_ok-firsts.ensures ∙ ap (λ (z : List ℕ). map (place_of z) right) (c.deref.ensures.value ∙ c.in_ok-names.ensures) in
-    let many : length fs ≡ length right = ap length firsts ∙ length-map right (place_of (left ++ right)) in
+    let firsts : fs ≡ map (first_place (left ++ right)) right = c.in_ok-firsts.ensures ∙ ap (λ (z : List ℕ). map (first_place z) right) (c.deref.ensures.value ∙ c.in_ok-names.ensures) in
+    let many : length fs ≡ length right = ap length firsts ∙ length-map right (first_place (left ++ right)) in
     let ps = c.in_ok-places.field-0.items in
-    let places : ps ≡ map (place_of (left ++ right)) kept = c.in_ok-places.ensures ∙ ap (λ (z : List ℕ). map (place_of z) kept) (c.deref-2.ensures.value ∙ c.in_ok-names.ensures) in
+    let places : ps ≡ map (first_place (left ++ right)) kept = c.in_ok-places.ensures ∙ ap (λ (z : List ℕ). map (first_place z) kept) (c.deref-2.ensures.value ∙ c.in_ok-names.ensures) in
     let inv = c.loop-column.invariant in
     let bl = c.loop-column.by_left.items in
     let br = c.loop-column.by_right.items in
     record {
       once = of_same (λ a b d. Distinct a) l r k left right kept el er ek c.requires.once;
       known = of_same (λ a b d. d ⊆ (a ++ b)) l r k left right kept el er ek c.requires.known;
-      firsts = of_same (λ a b d. fs ≡ map (place_of (a ++ b)) b) l r k left right kept el er ek firsts;
-      places = of_same (λ a b d. ps ≡ map (place_of (a ++ b)) d) l r k left right kept el er ek places;
+      firsts = of_same (λ a b d. fs ≡ map (first_place (a ++ b)) b) l r k left right kept el er ek firsts;
+      places = of_same (λ a b d. ps ≡ map (first_place (a ++ b)) d) l r k left right kept el er ek places;
       left_within = of_same (λ a b d. Each bl (λ i. i < length a)) l r k left right kept el er ek inv.left_within;
       right_within = of_same (λ a b d. Each br (λ i. i < length b)) l r k left right kept el er ek (subst (λ (n : ℕ). Each br (λ i. i < n)) many inv.right_within);
       shared = of_same (λ a b d. map (slice_index a) bl ≡ map (slice_index b) br) l r k left right kept el er ek inv.shared;

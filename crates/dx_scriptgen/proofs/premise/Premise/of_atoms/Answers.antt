@@ -1,7 +1,7 @@
 use Rattle.std.proofs.Common.{◌≡◌, ◌<◌, ◌≤◌, ℕ, ◌+◌, ◌∙◌, ◌++◌, ◌∷◌, List, [], ap, sym, subst, length, get_or, drop, arith}
 use Rattle.dx_ports.proofs.Loops.{each_item}
 use Rattle.dx_model.specs.declared.rules.Atom.{Atom}
-use Rattle.dx_schema.specs.Tables.{table_at, tables_of}
+use Rattle.dx_schema.specs.Tables.{schema_table, tables_of}
 use Rattle.dx_scriptgen.proofs.Premises.{one_atom, more_cells, few_atoms}
 use Rattle.dx_scriptgen.proofs.premise.Premise.of_atoms.Goals as goal
 
@@ -11,7 +11,7 @@ add_atom-requires-clause-table c =
 
 pub add_atom-requires-clause-width : goal.add_atom-requires-clause-width
 add_atom-requires-clause-width c =
-    each_item (λ (a : Atom). length a.cells ≡ length (table_at c.args.source.now a.table).columns) c.args.atoms.now c.loop-alias.alias c.index-atoms-alias.result c.loop-alias-test.true c.index-atoms-alias.is c.requires.widths
+    each_item (λ (a : Atom). length a.cells ≡ length (schema_table c.args.source.now a.table).columns) c.args.atoms.now c.loop-alias.alias c.index-atoms-alias.result c.loop-alias-test.true c.index-atoms-alias.is c.requires.widths
 
 pub loop-alias-preserved : goal.loop-alias-preserved
 loop-alias-preserved c = (

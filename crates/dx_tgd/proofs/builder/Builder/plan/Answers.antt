@@ -1,5 +1,5 @@
 use Rattle.std.proofs.Common.{◌∙◌, ap}
-use Rattle.dx_instance.specs.Shown.{Numbered}
+use Rattle.dx_instance.specs.Shown.{NumberedInstance}
 use Rattle.dx_instance.proofs.ShownFacts.{grown_fitting}
 use Rattle.dx_tgd.specs.Planned.{built}
 use Rattle.dx_tgd.proofs.Plans.{atoms_listed}
@@ -14,4 +14,4 @@ invariant_of-self c = grown_fit c.self.inside.symbols c.planned_atoms.new.symbol
 
 pub returns-clause-same : goal.returns-clause-same
 returns-clause-same c =
-    grown_fitting c.self.inside.symbols c.planned_atoms.new.symbols c.self.inside.tables.items c.planned_atoms.ensures.grows c.self.invariant ∙ ap (λ (b : Numbered). built b) c.self.view_is
+    grown_fitting c.self.inside.symbols c.planned_atoms.new.symbols c.self.inside.tables.items c.planned_atoms.ensures.grows c.self.invariant ∙ ap (λ (b : NumberedInstance). built b) c.self.view_is

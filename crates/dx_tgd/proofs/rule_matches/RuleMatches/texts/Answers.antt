@@ -1,7 +1,7 @@
 use Rattle.std.proofs.Common.{◌≡◌, ◌∙◌, ap, subst}
 use Rattle.std.specs.Prelude.{IfOk}
 use Rattle.dx_model.specs.Values.{Rows}
-use Rattle.dx_tgd.specs.Counting.{rows_in}
+use Rattle.dx_model.specs.Matches.{rows_of_matches}
 use Rattle.dx_tgd.specs.Texts.{tuples_in}
 use Rattle.dx_tgd.proofs.rule_matches.RuleMatches.texts.Goals as goal
 
@@ -10,5 +10,5 @@ matches_of-requires c = record { texts = rw c.deref.ensures.value c.self.invaria
 
 pub returns : goal.returns
 returns c =
-    subst (λ (rs : Rows). IfOk c.matches_of.result (λ m. rows_in m ≡ rs))
+    subst (λ (rs : Rows). IfOk c.matches_of.result (λ m. rows_of_matches m ≡ rs))
     (ap (tuples_in c.self.inside.symbols) c.deref.ensures.value ∙ c.self.view_is) c.matches_of.ensures
