@@ -7,13 +7,13 @@
 
 ghost use Rattle.std.specs.Prelude.{◌≡◌, [], IfOk, length, map};
 ghost use Rattle.std.specs.Process.{exit_status};
-ghost use Rattle.clio_ending.specs.Ending.{status_of};
-ghost use Rattle.clio_ending.specs.declared.ending.Ending.TheVariants.{Memory};
 ghost use Rattle.dx_ports.specs.Members.{◌∈◌};
 ghost use Rattle.dx_funcs.specs.Judging.{Decides};
 ghost use Rattle.dx_funcs.specs.Offers.{IsListed};
 ghost use Rattle.dx_funcs.specs.Serving.{Serves};
 ghost use Rattle.dx_funcs.specs.Shipped.{shipped_apply, shipped_conversions, shipped_passes, shipped_row_tests};
+ghost use Rattle.clio_ending.specs.Ending.{status_of};
+ghost use Rattle.clio_ending.specs.declared.ending.Ending.TheVariants.{Memory};
 
 use clio_folder::{FolderInputs, FolderOutputs};
 use clio_status::status_and_message;

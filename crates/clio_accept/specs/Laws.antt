@@ -1,19 +1,19 @@
 -- What holds of accepted mappings.
 use Rattle.std.specs.Prelude.{◌≡◌, ◌≤◌, ◌<◌, ◌-◌, ◌^◌, ℕ, List, length}
 use Rattle.dx_ports.specs.Members.{Each}
+use Rattle.dx_model.specs.Solutions.{IsClosed}
+use Rattle.dx_model.specs.Fitting.{RuleFits}
+use Rattle.dx_stages.specs.Worlds.{World}
+use Rattle.dx_stages.specs.Laws.{IsDecided, PassesOne}
 use Rattle.dx_schema.specs.Tables.{model_tables}
 use Rattle.dx_schema.specs.Links.{IsFaultless}
-use Rattle.dx_schema_text.specs.Print.{HaveWordNames}
-use Rattle.dx_model.specs.Solutions.{IsClosed}
 use Rattle.dx_funcs.specs.declared.conversion.Conversion.{Conversion}
 use Rattle.dx_funcs.specs.declared.row_test.RowTest.{RowTest}
-use Rattle.dx_model.specs.Fitting.{RuleFits}
 use Rattle.dx_funcs.specs.Offers.{IsListed}
+use Rattle.dx_schema_text.specs.Print.{HaveWordNames}
 use Rattle.dx_lines.specs.Limits.{IsSchemaColumn}
 use Rattle.dx_line_text.specs.Conditions.{ConditionIsListed}
 use Rattle.dx_rule_text.specs.Printed.{AreAtomsOf}
-use Rattle.dx_stages.specs.Worlds.{World}
-use Rattle.dx_stages.specs.Laws.{IsDecided, PassesOne}
 use Rattle.clio_accept.specs.declared.mapping.Mapping.{Mapping}
 use Rattle.clio_accept.specs.Accepting.{accepting}
 use Rattle.clio_accept.specs.Mapping.{NoneReserved}

@@ -6,30 +6,29 @@ use Rattle.dx_ports.specs.Members.{◌∈◌}
 use Rattle.dx_model.specs.declared.rules.Atom.{Atom}
 use Rattle.dx_model.specs.declared.rules.Rule.{Rule}
 use Rattle.dx_model.specs.Tables.{Table}
-use Rattle.dx_tokens.specs.declared.faults.TextFault.{TextFault}
-use Rattle.dx_tokens.specs.declared.faults.TextFault.TheVariants as text_faults
-use Rattle.dx_candidates.specs.declared.fault.CandFault.{CandFault}
-use Rattle.dx_candidates.specs.declared.fault.CandFault.TheVariants as cand_faults
-use Rattle.dx_tgd.specs.declared.fault.CanonFault.{CanonFault}
-use Rattle.dx_tgd.specs.declared.fault.CanonFault.TheVariants as canon_faults
 use Rattle.dx_schema.specs.declared.fault.SchemaFault.{SchemaFault}
 use Rattle.dx_schema.specs.declared.fault.SchemaFault.TheVariants as schema_faults
 use Rattle.dx_schema.specs.Forest.{Forest}
 use Rattle.dx_schema.specs.Tables.{tables_of, schema_table, model_tables}
 use Rattle.dx_schema.specs.Links.{IsFirstSchemaFault}
+use Rattle.dx_funcs.specs.declared.conversion.Conversion.{Conversion}
+use Rattle.dx_funcs.specs.declared.row_test.RowTest.{RowTest}
+use Rattle.dx_tokens.specs.declared.faults.TextFault.{TextFault}
+use Rattle.dx_tokens.specs.declared.faults.TextFault.TheVariants as text_faults
 use Rattle.dx_schema_text.specs.declared.texts.LineText.{LineText}
 use Rattle.dx_schema_text.specs.declared.texts.OnlyText.{OnlyText}
 use Rattle.dx_schema_text.specs.declared.texts.RuleText.{RuleText}
-use Rattle.dx_funcs.specs.declared.conversion.Conversion.{Conversion}
-use Rattle.dx_funcs.specs.declared.row_test.RowTest.{RowTest}
-use Rattle.dx_line_text.specs.Naming.{lines_fault, lines_of}
-use Rattle.dx_line_text.specs.Conditions.{conditions_fault}
 use Rattle.dx_closing.specs.Closing.{IsClosing, IsClosingOf}
 use Rattle.dx_lines.specs.Rules.{kept_rules}
 use Rattle.dx_lines.specs.Limits.{passed_limit}
-use Rattle.dx_tgd_text.specs.Reading.{rules_fault}
+use Rattle.dx_candidates.specs.declared.fault.CandFault.{CandFault}
+use Rattle.dx_candidates.specs.declared.fault.CandFault.TheVariants as cand_faults
+use Rattle.dx_line_text.specs.Naming.{lines_fault, lines_of}
+use Rattle.dx_line_text.specs.Conditions.{conditions_fault}
+use Rattle.dx_tgd_text.specs.Reading.{rules_fault, rules_of_texts as said_rules_of}
+use Rattle.dx_tgd.specs.declared.fault.CanonFault.{CanonFault}
+use Rattle.dx_tgd.specs.declared.fault.CanonFault.TheVariants as canon_faults
 use Rattle.dx_implies.specs.Pruning.{PruningPassesLimit}
-use Rattle.dx_tgd_text.specs.Reading.{rules_of_texts as said_rules_of}
 use Rattle.clio_accept.specs.declared.fault.AcceptFault.{AcceptFault}
 use Rattle.clio_accept.specs.declared.fault.AcceptFault.TheVariants as faults
 use Rattle.clio_accept.specs.declared.fault.MapFault.TheVariants as map_faults

@@ -1,11 +1,11 @@
 // Accepted mappings.
 ghost use Rattle.std.specs.Prelude.{◌≡◌, ◌⊎◌, ◌↔◌, ◌<◌, ◌-◌, ◌^◌, ℕ, length, IfOk, IfErr, IfSome, IfNone, IsTrue, OnOk};
 ghost use Rattle.dx_ports.specs.Members.{Each};
+ghost use Rattle.dx_stages.specs.Running.{Answers};
 ghost use Rattle.dx_schema.specs.Bounds.{HasFewRules};
 ghost use Rattle.dx_schema.specs.Links.{IsFaultless};
 ghost use Rattle.dx_funcs.specs.Judging.{tested};
 ghost use Rattle.dx_funcs.specs.Serving.{offered};
-ghost use Rattle.dx_stages.specs.Running.{Answers};
 ghost use Rattle.dx_tgd_text.specs.Laws.{IsWholeRule};
 ghost use Rattle.dx_tgd_text.specs.Reading.{RuleHasFewCells};
 ghost use Rattle.clio_accept.specs.Accepting.{accepting, accepting_said};

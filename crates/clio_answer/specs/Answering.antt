@@ -2,17 +2,17 @@
 use Rattle.std.specs.Prelude.{◌≡◌, ◌<◌, ◌≤◌, ◌*◌, ℕ, List, codes, length}
 use Rattle.dx_ports.specs.Members.{◌∈◌}
 use Rattle.dx_ports.specs.declared.file.Count.TheVariants.{AnswerCells, QueryAtoms, QueryBytes}
-use Rattle.dx_instance.specs.Stored.{TableRows, facts}
+use Rattle.dx_stages.specs.Ending.{PlanContent}
+use Rattle.dx_stages.specs.Stages.{Stage, next, by, over, into, file, saying, checking, notions}
 use Rattle.dx_schema.specs.Forest.{Forest}
 use Rattle.dx_tokens.specs.declared.faults.TextFault.{TextFault}
+use Rattle.dx_instance.specs.Stored.{TableRows, facts}
+use Rattle.dx_exchange.specs.declared.mode.Mode.TheVariants.{Plain}
+use Rattle.dx_exchange.specs.declared.result.Exchange.{Exchange}
 use Rattle.dx_queries.specs.declared.query.Part.{Part}
 use Rattle.dx_queries.specs.declared.query.Query.{Query}
 use Rattle.dx_queries.specs.Results.{AreConstantAnswers, AnswersPassLimit}
 use Rattle.dx_query_text.specs.Queries.{HasFewAtoms, IsFaultOver, IsQueryOver}
-use Rattle.dx_exchange.specs.declared.mode.Mode.TheVariants.{Plain}
-use Rattle.dx_exchange.specs.declared.result.Exchange.{Exchange}
-use Rattle.dx_stages.specs.Ending.{PlanContent}
-use Rattle.dx_stages.specs.Stages.{Stage, next, by, over, into, file, saying, checking, notions}
 use Rattle.clio_accept.specs.declared.mapping.Mapping.{Mapping}
 use Rattle.clio_source.specs.Source.{source_stages}
 use Rattle.clio_files.specs.Answers.{answer_files}

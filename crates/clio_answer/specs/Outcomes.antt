@@ -1,20 +1,20 @@
 -- The answers to a query in a world, and what there has to be for them.
 use Rattle.std.specs.Prelude.{◌≡◌, ℕ, List, length, Some, ◌≤◌, ◌*◌}
-use Rattle.dx_instance.specs.Stored.{facts}
+use Rattle.dx_model.specs.Values.{Tuple}
+use Rattle.dx_stages.specs.Worlds.{World}
 use Rattle.dx_schema.specs.Forest.{Forest}
 use Rattle.dx_schema.specs.Tables.{model_tables}
+use Rattle.dx_instance.specs.Stored.{facts}
 use Rattle.dx_exchange.specs.declared.mode.Mode.TheVariants.{Plain}
 use Rattle.dx_queries.specs.declared.query.Query.{Query}
 use Rattle.dx_queries.specs.Results.{AreCertain}
 use Rattle.dx_query_text.specs.Queries.{IsQueryOver, HasFewAtoms}
-use Rattle.dx_stages.specs.Worlds.{World}
 use Rattle.clio_files.specs.Answers.{answer_files}
 use Rattle.clio_files.specs.Files.{files_of, summary_of}
 use Rattle.clio_ending.specs.declared.ending.Answers.{Answers}
 use Rattle.clio_steps.specs.Steps.{Program}
-use Rattle.clio_answer.specs.Answering.{query_name, answer_cells, query_bytes}
-use Rattle.dx_model.specs.Values.{Tuple}
 use Rattle.clio_steps.specs.Outcomes.{Writing, IsExchangeIn, HasSolutionIn}
+use Rattle.clio_answer.specs.Answering.{query_name, answer_cells, query_bytes}
 
 -- ---- answers
 

@@ -1,13 +1,13 @@
 // A query, answered on the target of an exchange in plain mode.
 ghost use Rattle.std.specs.Prelude.{◌≡◌, ◌↔◌, ◌≤◌, IfOk, IsTrue, length};
 ghost use Rattle.dx_ports.specs.Members.{Each};
+ghost use Rattle.dx_stages.specs.Ending.{planned, planned_of};
+ghost use Rattle.dx_stages.specs.Running.{Gives, Ran};
 ghost use Rattle.dx_funcs.specs.Judging.{Decides, tested};
 ghost use Rattle.dx_funcs.specs.Serving.{Serves, offered};
 ghost use Rattle.dx_instance.specs.Stored.{widths};
 ghost use Rattle.dx_queries.specs.Results.{FitsQuery};
-ghost use Rattle.dx_stages.specs.Ending.{planned, planned_of};
 ghost use Rattle.clio_accept.specs.declared.mapping.Mapping.{Mapping as MappingOf};
-ghost use Rattle.dx_stages.specs.Running.{Gives, Ran};
 ghost use Rattle.clio_steps.specs.Steps.{program};
 ghost use Rattle.clio_answer.specs.Answering.{answer_stages, answered_plan, answers, listed_answers, query_over, query_bytes, text_query};
 

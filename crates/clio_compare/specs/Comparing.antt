@@ -3,14 +3,15 @@ use Rattle.std.specs.Prelude.{◌≡◌, ◌⊎◌, ◌≤◌, ℕ, List, [], So
 use Rattle.dx_ports.specs.Entries.{Entry}
 use Rattle.dx_ports.specs.Members.{Each}
 use Rattle.dx_ports.specs.declared.file.Count.TheVariants.{FrozenCells}
-use Rattle.dx_model.specs.declared.rules.Rule.{Rule}
 use Rattle.dx_ports.specs.Texts.{Text}
+use Rattle.dx_model.specs.declared.rules.Rule.{Rule}
+use Rattle.dx_stages.specs.Ending.{PlanContent}
+use Rattle.dx_stages.specs.Stages.{Stage, next, become, over, into, checking, notions}
 use Rattle.dx_compare.specs.declared.comparing.Comparison.{Comparison}
 use Rattle.dx_compare.specs.Comparing.{IsComparison, ComparisonPassesLimit}
 use Rattle.dx_compare.specs.Laws.{AreComparable}
-use Rattle.dx_stages.specs.Ending.{PlanContent}
-use Rattle.dx_stages.specs.Stages.{Stage, next, become, over, into, checking, notions}
 use Rattle.clio_accept.specs.declared.mapping.Mapping.{Mapping}
+use Rattle.clio_accept.specs.Mapping.{frozen_cells}
 use Rattle.clio_files.specs.Comparisons.{AreComparedFiles, compared_text}
 use Rattle.clio_files.specs.Files.{files_of}
 use Rattle.clio_files.specs.Sheets.{PrintedFile}
@@ -21,7 +22,6 @@ use Rattle.clio_ending.specs.declared.ending.Refusal.TheVariants as refusals
 use Rattle.clio_ending.specs.declared.faults.OtherFault.TheVariants as other_faults
 use Rattle.clio_steps.specs.declared.texts.Side.TheVariants.{Second}
 use Rattle.clio_steps.specs.Steps.{Program, mapping_stages, text_stages}
-use Rattle.clio_accept.specs.Mapping.{frozen_cells}
 
 -- ---- the other mapping
 

@@ -1,9 +1,9 @@
 -- What holds of comparisons of two mappings.
 use Rattle.std.specs.Prelude.{List}
-use Rattle.dx_compare.specs.declared.comparing.Comparison.{Comparison}
 use Rattle.dx_stages.specs.Ending.{OutputState}
 use Rattle.dx_stages.specs.Laws.{IsDecided}
 use Rattle.dx_stages.specs.Worlds.{World}
+use Rattle.dx_compare.specs.declared.comparing.Comparison.{Comparison}
 use Rattle.clio_accept.specs.declared.mapping.Mapping.{Mapping}
 use Rattle.clio_files.specs.Comparisons.{AreComparedFiles, compared_text}
 use Rattle.clio_files.specs.Files.{files_of}

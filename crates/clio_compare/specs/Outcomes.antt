@@ -2,18 +2,18 @@
 use Rattle.std.specs.Prelude.{◌≡◌, ◌↔◌, ℕ, List, codes, Some}
 use Rattle.dx_model.specs.Following.{Implies}
 use Rattle.dx_model.specs.Values.{Conversions}
+use Rattle.dx_stages.specs.Worlds.{World}
 use Rattle.dx_compare.specs.declared.comparing.Answer.TheVariants as answers
 use Rattle.dx_compare.specs.declared.comparing.Comparison.{Comparison}
 use Rattle.dx_compare.specs.Comparing.{IsComparison}
-use Rattle.dx_stages.specs.Worlds.{World}
 use Rattle.clio_accept.specs.declared.mapping.Mapping.{Mapping}
 use Rattle.clio_accept.specs.Accepting.{accepting}
 use Rattle.clio_files.specs.Comparisons.{AreComparedFiles, compared_text}
 use Rattle.clio_files.specs.Files.{files_of}
 use Rattle.clio_files.specs.Sheets.{PrintedFile}
 use Rattle.clio_steps.specs.Steps.{Program}
-use Rattle.clio_compare.specs.Comparing.{AreBothPlain, AreFree, HaveSameSets}
 use Rattle.clio_steps.specs.Outcomes.{Writing}
+use Rattle.clio_compare.specs.Comparing.{AreBothPlain, AreFree, HaveSameSets}
 
 -- ---- a comparison
 

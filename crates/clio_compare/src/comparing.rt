@@ -1,11 +1,11 @@
 // Two mappings, compared.
 ghost use Rattle.std.specs.Prelude.{◌≡◌, ◌↔◌, ◌≤◌, IfNone, IfOk, IfSome, IsTrue, length};
-ghost use Rattle.dx_funcs.specs.Judging.{tested};
-ghost use Rattle.dx_funcs.specs.Serving.{offered};
 ghost use Rattle.dx_ports.specs.Entries.{entries_of};
 ghost use Rattle.dx_stages.specs.Ending.{planned};
 ghost use Rattle.dx_stages.specs.Running.{Gives, Ran};
 ghost use Rattle.dx_stages.specs.Worlds.{World};
+ghost use Rattle.dx_funcs.specs.Judging.{tested};
+ghost use Rattle.dx_funcs.specs.Serving.{offered};
 ghost use Rattle.clio_files.specs.Comparisons.{FitsComparison};
 ghost use Rattle.clio_ending.specs.declared.ending.Refusal.TheVariants.{Other as OtherRefusal};
 ghost use Rattle.clio_steps.specs.Steps.{program};

@@ -1,20 +1,20 @@
 -- Refusals and endings of a run: their exit statuses, the names of a clash, and which refusals are alike.
 use Rattle.std.specs.Prelude.{◌≡◌, ◌⊎◌, ℕ, List, [], map, slice_index_or}
+use Rattle.dx_ports.specs.Texts.{Text}
+use Rattle.dx_stages.specs.declared.plan.Ended.{Ended}
+use Rattle.dx_stages.specs.declared.plan.Ended.TheVariants as endeds
+use Rattle.dx_schema.specs.Forest.{Forest}
+use Rattle.dx_schema.specs.Tables.{determinations_of, schema_table}
+use Rattle.dx_tokens.specs.declared.faults.TextFault.{TextFault}
+use Rattle.dx_tokens.specs.declared.faults.TextFault.TheVariants as text_faults
+use Rattle.dx_rule_text.specs.Printed.{table_name}
+use Rattle.dx_keys.specs.declared.answers.Clash.{Clash}
+use Rattle.dx_exchange.specs.declared.fault.ExFault.{ExFault}
+use Rattle.dx_exchange.specs.declared.fault.ExFault.TheVariants as exchange_faults
 use Rattle.clio_accept.specs.declared.fault.AcceptFault.{AcceptFault}
 use Rattle.clio_accept.specs.declared.fault.AcceptFault.TheVariants as accept_faults
 use Rattle.clio_source.specs.declared.fault.SourceRefusal.{SourceRefusal}
 use Rattle.clio_source.specs.declared.fault.SourceRefusal.TheVariants as source_refusals
-use Rattle.dx_ports.specs.Texts.{Text}
-use Rattle.dx_schema.specs.Forest.{Forest}
-use Rattle.dx_schema.specs.Tables.{determinations_of, schema_table}
-use Rattle.dx_rule_text.specs.Printed.{table_name}
-use Rattle.dx_tokens.specs.declared.faults.TextFault.{TextFault}
-use Rattle.dx_tokens.specs.declared.faults.TextFault.TheVariants as text_faults
-use Rattle.dx_keys.specs.declared.answers.Clash.{Clash}
-use Rattle.dx_exchange.specs.declared.fault.ExFault.{ExFault}
-use Rattle.dx_exchange.specs.declared.fault.ExFault.TheVariants as exchange_faults
-use Rattle.dx_stages.specs.declared.plan.Ended.{Ended}
-use Rattle.dx_stages.specs.declared.plan.Ended.TheVariants as endeds
 use Rattle.clio_ending.specs.declared.faults.OtherFault.TheVariants as other_faults
 use Rattle.clio_ending.specs.declared.faults.QueryFault.TheVariants as query_faults
 use Rattle.clio_ending.specs.declared.ending.Done.{Done}

@@ -3,30 +3,30 @@ use Rattle.std.specs.Prelude.{Bool, false, true, ℕ, List, [], ◌++◌, codes,
 use Rattle.std.specs.Fmt.{decimal}
 use Rattle.dx_ports.specs.declared.file.Count.{Count}
 use Rattle.dx_ports.specs.declared.file.Count.TheVariants as counts
+use Rattle.dx_ports.specs.Texts.{Text}
+use Rattle.dx_model.specs.declared.values.Value.{Value}
+use Rattle.dx_model.specs.declared.values.Value.TheVariants.{Const, Null}
+use Rattle.dx_schema.specs.declared.fault.SchemaKind.{SchemaKind}
+use Rattle.dx_schema.specs.declared.fault.SchemaKind.TheVariants as schema_kinds
+use Rattle.dx_tokens.specs.Quoted.{quoted}
+use Rattle.dx_tokens.specs.declared.faults.TextKind.{TextKind}
+use Rattle.dx_tokens.specs.declared.faults.TextKind.TheVariants as text_kinds
+use Rattle.dx_rule_text.specs.Printed.{separated}
 use Rattle.dx_csv.specs.declared.fault.RowKind.{RowKind}
 use Rattle.dx_csv.specs.declared.fault.RowKind.TheVariants as kinds
 use Rattle.dx_json.specs.declared.fault.JsonKind.{JsonKind}
 use Rattle.dx_json.specs.declared.fault.JsonKind.TheVariants as json_kinds
-use Rattle.dx_model.specs.declared.values.Value.{Value}
-use Rattle.dx_model.specs.declared.values.Value.TheVariants.{Const, Null}
-use Rattle.dx_ports.specs.Texts.{Text}
-use Rattle.dx_tokens.specs.Quoted.{quoted}
-use Rattle.dx_rule_text.specs.Printed.{separated}
 use Rattle.dx_keys.specs.declared.answers.Clash.{Clash}
-use Rattle.dx_tokens.specs.declared.faults.TextKind.{TextKind}
-use Rattle.dx_tokens.specs.declared.faults.TextKind.TheVariants as text_kinds
-use Rattle.dx_schema.specs.declared.fault.SchemaKind.{SchemaKind}
-use Rattle.dx_schema.specs.declared.fault.SchemaKind.TheVariants as schema_kinds
+use Rattle.clio_accept.specs.declared.fault.MapFault.{MapFault}
+use Rattle.clio_accept.specs.declared.fault.MapFault.TheVariants as map_faults
+use Rattle.clio_source.specs.declared.fault.RowsFault.{RowsFault}
+use Rattle.clio_source.specs.declared.fault.RowsFault.TheVariants as rows_faults
 use Rattle.clio_ending.specs.declared.faults.OtherFault.{OtherFault}
 use Rattle.clio_ending.specs.declared.faults.OtherFault.TheVariants as other_faults
 use Rattle.clio_ending.specs.declared.faults.QueryFault.{QueryFault}
 use Rattle.clio_ending.specs.declared.faults.QueryFault.TheVariants as query_faults
 use Rattle.clio_ending.specs.declared.ending.Ending.{Ending}
 use Rattle.clio_ending.specs.declared.ending.Ending.TheVariants as endings
-use Rattle.clio_accept.specs.declared.fault.MapFault.{MapFault}
-use Rattle.clio_accept.specs.declared.fault.MapFault.TheVariants as map_faults
-use Rattle.clio_source.specs.declared.fault.RowsFault.{RowsFault}
-use Rattle.clio_source.specs.declared.fault.RowsFault.TheVariants as rows_faults
 
 -- the printed name of a count
 abbrev pub count_text : Count → Text

@@ -1,7 +1,7 @@
 // How a run ends.
 ghost use Rattle.std.specs.Prelude.{◌≡◌};
-ghost use Rattle.clio_ending.specs.Ending.{ending_of, refusal_ending, status_of};
 ghost use Rattle.dx_stages.specs.declared.plan.Ended.{Ended as EndedOf};
+ghost use Rattle.clio_ending.specs.Ending.{ending_of, refusal_ending, status_of};
 
 use crate::faults::{OtherFault, QueryFault};
 use clio_accept::MapFault;

@@ -3,9 +3,9 @@ use Rattle.std.specs.Prelude.{◌≡◌, List, [], ◌++◌, codes}
 use Rattle.std.specs.Fmt.{decimal}
 use Rattle.dx_ports.specs.Members.{Each}
 use Rattle.dx_ports.specs.Texts.{Text}
-use Rattle.dx_instance.specs.Stored.{TableRows, widths}
 use Rattle.dx_schema.specs.Forest.{Forest}
 use Rattle.dx_schema.specs.Tables.{TableOf, schema_widths, tables_of}
+use Rattle.dx_instance.specs.Stored.{TableRows, widths}
 use Rattle.dx_csv.specs.Print.{HasNoMark}
 use Rattle.dx_compare.specs.declared.comparing.Answer.{Answer}
 use Rattle.dx_compare.specs.declared.comparing.Answer.TheVariants as answers

@@ -1,8 +1,8 @@
 -- The roots of a target as documents.
 use Rattle.std.specs.Prelude.{◌≡◌, ℕ, List, [], ◌∷◌, length}
-use Rattle.dx_instance.specs.Stored.{TableRows, rows_of}
 use Rattle.dx_schema.specs.Forest.{Forest}
 use Rattle.dx_schema.specs.Tables.{schema_table}
+use Rattle.dx_instance.specs.Stored.{TableRows, rows_of}
 use Rattle.dx_json.specs.Nesting.{IsNestedText}
 use Rattle.clio_source.specs.Source.{json_name}
 use Rattle.clio_files.specs.Sheets.{PrintedFile}

@@ -1,9 +1,9 @@
 -- Records that are printed one by one, and files that are added.
 use Rattle.std.specs.Prelude.{◌≡◌, ℕ, List, [], ◌++◌, length}
 use Rattle.dx_ports.specs.Texts.{Text}
-use Rattle.dx_instance.specs.Stored.{TableRows}
 use Rattle.dx_schema.specs.Forest.{Forest}
 use Rattle.dx_schema.specs.Tables.{TableOf}
+use Rattle.dx_instance.specs.Stored.{TableRows}
 use Rattle.dx_csv.specs.Lines.{HavePrinted}
 use Rattle.clio_files.specs.declared.records.Records.{Records}
 use Rattle.clio_files.specs.Files.{AreTableFiles}

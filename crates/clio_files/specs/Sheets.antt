@@ -3,19 +3,19 @@ use Rattle.std.specs.Prelude.{◌≡◌, ◌↔◌, ℕ, List, [], ◌∷◌, �
 use Rattle.std.specs.List.{flat_map}
 use Rattle.std.specs.Fmt.{decimal}
 use Rattle.dx_ports.specs.Members.{◌∈◌}
+use Rattle.dx_ports.specs.Texts.{Text}
 use Rattle.dx_model.specs.declared.values.NullId.{NullId}
 use Rattle.dx_model.specs.declared.values.Value.TheVariants.{Null}
 use Rattle.dx_model.specs.declared.facts.Fact.{Fact}
 use Rattle.dx_model.specs.declared.facts.NullPair.{NullPair}
 use Rattle.dx_model.specs.declared.rules.Rule.{Rule}
 use Rattle.dx_model.specs.Values.{NullsAscend, Rows, Tuple}
-use Rattle.dx_ports.specs.Texts.{Text}
 use Rattle.dx_model.specs.Instances.{values}
 use Rattle.dx_model.specs.Rules.{exported}
-use Rattle.dx_instance.specs.ValueText.{const_text, null_text, value_text_of}
-use Rattle.dx_tgd.specs.Placed.{NamesPlace}
-use Rattle.dx_csv.specs.Print.{records_text}
 use Rattle.dx_rule_text.specs.Printed.{variable_text}
+use Rattle.dx_instance.specs.ValueText.{const_text, null_text, value_text_of}
+use Rattle.dx_csv.specs.Print.{records_text}
+use Rattle.dx_tgd.specs.Placed.{NamesPlace}
 
 -- a file as it is told of: its name, its bytes and its count
 pub record PrintedFile : Type 0 where

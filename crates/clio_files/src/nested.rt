@@ -1,7 +1,7 @@
 // The roots of a target as documents.
 ghost use Rattle.std.specs.Prelude.{◌≡◌, ◌<◌, IfOk, OnOk, length, map};
-ghost use Rattle.dx_instance.specs.Stored.{IsSorting, widths};
 ghost use Rattle.dx_schema.specs.Tables.{schema_widths, tables_of};
+ghost use Rattle.dx_instance.specs.Stored.{IsSorting, widths};
 ghost use Rattle.clio_source.specs.Source.{roots};
 ghost use Rattle.clio_files.specs.Files.{printed_view};
 ghost use Rattle.clio_files.specs.Nested.{IsRootFile};

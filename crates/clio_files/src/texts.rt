@@ -2,8 +2,8 @@
 ghost use Rattle.std.specs.Prelude.{◌≡◌, IfOk, length, map};
 ghost use Rattle.dx_ports.specs.Members.{Each};
 ghost use Rattle.dx_model.specs.Fitting.{RuleFits};
-ghost use Rattle.dx_funcs.specs.Serving.{offered};
 ghost use Rattle.dx_schema.specs.Tables.{model_tables};
+ghost use Rattle.dx_funcs.specs.Serving.{offered};
 ghost use Rattle.dx_rule_text.specs.Printed.{AreAtomsOf, AreListed};
 ghost use Rattle.dx_script_text.specs.Print.{script_text};
 ghost use Rattle.clio_files.specs.Files.{printed_view};

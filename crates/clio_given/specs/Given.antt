@@ -6,12 +6,12 @@ use Rattle.dx_ports.specs.declared.file.Count.TheVariants.{GivenCells}
 use Rattle.dx_model.specs.declared.facts.Fact.{Fact}
 use Rattle.dx_model.specs.declared.values.Value.{Value}
 use Rattle.dx_model.specs.declared.values.Value.TheVariants.{Const}
-use Rattle.dx_instance.specs.Stored.{TableRows}
-use Rattle.dx_instance.specs.ValueText.{ValueFits, value_text_of}
+use Rattle.dx_stages.specs.Stages.{Stage, next, each, by, over, computing, notions}
 use Rattle.dx_schema.specs.Forest.{Forest}
 use Rattle.dx_schema.specs.Tables.{schema_table, tables_of}
+use Rattle.dx_instance.specs.Stored.{TableRows}
+use Rattle.dx_instance.specs.ValueText.{ValueFits, value_text_of}
 use Rattle.dx_csv.specs.Table.{AreTableRecords, table_records}
-use Rattle.dx_stages.specs.Stages.{Stage, next, each, by, over, computing, notions}
 use Rattle.clio_source.specs.declared.fault.RowsFault.{RowsFault}
 use Rattle.clio_source.specs.declared.fault.RowsFault.TheVariants.{Value as NoValue}
 use Rattle.clio_source.specs.declared.fault.SourceRefusal.{SourceRefusal}

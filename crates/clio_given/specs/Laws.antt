@@ -1,10 +1,10 @@
 -- What holds of given files.
 use Rattle.std.specs.Prelude.{◌≡◌, List}
 use Rattle.dx_model.specs.Tables.{IsInstance}
-use Rattle.dx_instance.specs.Stored.{TableRows, facts}
-use Rattle.dx_schema.specs.Tables.{model_tables}
 use Rattle.dx_stages.specs.Worlds.{World}
 use Rattle.dx_stages.specs.Laws.{IsDecided, PassesOne}
+use Rattle.dx_schema.specs.Tables.{model_tables}
+use Rattle.dx_instance.specs.Stored.{TableRows, facts}
 use Rattle.clio_given.specs.Given.{TargetRequest, given_stages}
 
 -- files say at most one given target

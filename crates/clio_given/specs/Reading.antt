@@ -2,13 +2,13 @@
 use Rattle.std.specs.Prelude.{◌≡◌, ℕ, List, map, take, length, Result, Ok, Err}
 use Rattle.dx_ports.specs.Members.{Each}
 use Rattle.dx_model.specs.declared.values.Value.{Value}
+use Rattle.dx_stages.specs.declared.stop.Stop.{Stop}
+use Rattle.dx_stages.specs.declared.stop.Stop.TheVariants as stops
+use Rattle.dx_schema.specs.Forest.{Forest}
+use Rattle.dx_schema.specs.Tables.{schema_widths}
 use Rattle.dx_instance.specs.Cells.{NumberTable}
 use Rattle.dx_instance.specs.Shown.{NumberRowsFit, shown_row, shown_tables}
 use Rattle.dx_instance.specs.Stored.{facts}
-use Rattle.dx_schema.specs.Forest.{Forest}
-use Rattle.dx_schema.specs.Tables.{schema_widths}
-use Rattle.dx_stages.specs.declared.stop.Stop.{Stop}
-use Rattle.dx_stages.specs.declared.stop.Stop.TheVariants as stops
 use Rattle.clio_source.specs.declared.fault.RowsFault.{RowsFault}
 use Rattle.clio_source.specs.declared.fault.SourceRefusal.{SourceRefusal}
 use Rattle.clio_source.specs.declared.fault.SourceRefusal.TheVariants as refusals

@@ -1,7 +1,7 @@
 // The given files of a schema's tables.
 ghost use Rattle.std.specs.Prelude.{◌≡◌, ◌+◌, ◌<◌, ◌≤◌, length, IfOk};
-ghost use Rattle.dx_schema.specs.Tables.{tables_of};
 ghost use Rattle.dx_stages.specs.Running.{Ran};
+ghost use Rattle.dx_schema.specs.Tables.{tables_of};
 ghost use Rattle.clio_source.specs.Source.{too_many_bytes};
 ghost use Rattle.clio_given.specs.Given.{given_files_stages, given_stages, none_read, given_reading};
 ghost use Rattle.clio_given.specs.Reading.{GivenReadFits, read_of, shown_result};

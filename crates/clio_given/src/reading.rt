@@ -1,11 +1,11 @@
 // What was read so far of the given files, and one table more.
 ghost use Rattle.std.specs.Prelude.{◌≡◌, ◌+◌, ◌*◌, ◌-◌, ◌≤◌, ◌<◌, length, map, IfOk, IfErr, MatchOption};
 ghost use Rattle.dx_ports.specs.Members.{Each};
-ghost use Rattle.dx_instance.specs.Numbers.{Extends};
-ghost use Rattle.dx_instance.specs.Shown.{AreBelow, shown_row};
+ghost use Rattle.dx_stages.specs.Running.{Gives};
 ghost use Rattle.dx_schema.specs.Forest.{Forest};
 ghost use Rattle.dx_schema.specs.Tables.{schema_table, tables_of};
-ghost use Rattle.dx_stages.specs.Running.{Gives};
+ghost use Rattle.dx_instance.specs.Numbers.{Extends};
+ghost use Rattle.dx_instance.specs.Shown.{AreBelow, shown_row};
 ghost use Rattle.clio_given.specs.Given.{SayRows, given_name, given_loading, none_read, too_many_given_cells};
 ghost use Rattle.clio_given.specs.Reading.{GivenIsNotRead, GivenReadFits, read_of, shown_result};
 

@@ -1,14 +1,14 @@
 -- The stages of `judge`: the mapping, the rows, the given target, the verdict on it.
 use Rattle.std.specs.Prelude.{ℕ, List, []}
 use Rattle.dx_model.specs.Values.{Conversions}
-use Rattle.dx_instance.specs.Stored.{TableRows, facts}
+use Rattle.dx_stages.specs.Ending.{PlanContent}
+use Rattle.dx_stages.specs.Stages.{Stage, next, over, into, saying}
 use Rattle.dx_schema.specs.Tables.{model_tables}
+use Rattle.dx_instance.specs.Stored.{TableRows, facts}
 use Rattle.dx_judge.specs.declared.fault.JudgeFault.{JudgeFault}
 use Rattle.dx_judge.specs.declared.fault.JudgeFault.TheVariants as judge_faults
 use Rattle.dx_judge.specs.declared.verdict.Verdict.{Verdict}
 use Rattle.dx_judge.specs.Verdicts.{JudgeInput as Judgeable, judging}
-use Rattle.dx_stages.specs.Ending.{PlanContent}
-use Rattle.dx_stages.specs.Stages.{Stage, next, over, into, saying}
 use Rattle.clio_accept.specs.declared.mapping.Mapping.{Mapping}
 use Rattle.clio_source.specs.Source.{source_left}
 use Rattle.clio_given.specs.Given.{TargetRequest as WantedGiven, given_stages}

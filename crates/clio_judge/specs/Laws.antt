@@ -1,9 +1,9 @@
 -- What holds of verdicts on given targets.
 use Rattle.std.specs.Prelude.{[]}
-use Rattle.dx_judge.specs.declared.verdict.Verdict.{Verdict}
 use Rattle.dx_stages.specs.Ending.{OutputState}
 use Rattle.dx_stages.specs.Laws.{IsDecided}
 use Rattle.dx_stages.specs.Worlds.{World}
+use Rattle.dx_judge.specs.declared.verdict.Verdict.{Verdict}
 use Rattle.clio_accept.specs.declared.mapping.Mapping.{Mapping}
 use Rattle.clio_files.specs.Verdicts.{verdict_text}
 use Rattle.clio_ending.specs.Ending.{AreAlike}

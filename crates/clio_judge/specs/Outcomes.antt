@@ -1,20 +1,20 @@
 -- A verdict in a world, and the given files that are asked for.
 use Rattle.std.specs.Prelude.{◌≡◌, ◌++◌, ℕ, List, [], ◌∷◌, codes, length, Some}
 use Rattle.std.specs.List.{range_with_len}
-use Rattle.dx_instance.specs.Stored.{TableRows}
-use Rattle.dx_schema.specs.Tables.{schema_table, tables_of}
-use Rattle.dx_judge.specs.declared.verdict.Verdict.{Verdict}
-use Rattle.dx_judge.specs.Verdicts.{IsJudgement}
 use Rattle.dx_stages.specs.Worlds.{World}
 use Rattle.dx_stages.specs.Stages.{each}
+use Rattle.dx_schema.specs.Tables.{schema_table, tables_of}
+use Rattle.dx_instance.specs.Stored.{TableRows}
+use Rattle.dx_judge.specs.declared.verdict.Verdict.{Verdict}
+use Rattle.dx_judge.specs.Verdicts.{IsJudgement}
 use Rattle.clio_accept.specs.declared.mapping.Mapping.{Mapping}
 use Rattle.clio_accept.specs.Accepting.{accepting}
 use Rattle.clio_source.specs.Source.{ReadState, source_left}
 use Rattle.clio_given.specs.Given.{TargetRequest as WantedGiven, given_name, given_stages, none_read, given_reading}
 use Rattle.clio_files.specs.Verdicts.{verdict_text}
 use Rattle.clio_steps.specs.Steps.{Program, wanted}
-use Rattle.clio_judge.specs.Judging.{judged, wanted_given}
 use Rattle.clio_steps.specs.Outcomes.{Writing}
+use Rattle.clio_judge.specs.Judging.{judged, wanted_given}
 
 -- ---- a verdict
 

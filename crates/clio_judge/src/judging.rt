@@ -1,13 +1,13 @@
 // A given target, judged.
 ghost use Rattle.std.specs.Prelude.{◌≡◌, IfOk};
-ghost use Rattle.dx_funcs.specs.Judging.{Decides, tested};
-ghost use Rattle.dx_funcs.specs.Serving.{Serves, offered};
-ghost use Rattle.dx_exchange.specs.Exchanging.{Fits};
-ghost use Rattle.dx_instance.specs.Stored.{widths};
-ghost use Rattle.dx_schema.specs.Tables.{model_tables, schema_widths};
 ghost use Rattle.dx_stages.specs.Ending.{planned, planned_of};
 ghost use Rattle.dx_stages.specs.Running.{Gives, Ran};
 ghost use Rattle.dx_stages.specs.Stages.{saying};
+ghost use Rattle.dx_schema.specs.Tables.{model_tables, schema_widths};
+ghost use Rattle.dx_funcs.specs.Judging.{Decides, tested};
+ghost use Rattle.dx_funcs.specs.Serving.{Serves, offered};
+ghost use Rattle.dx_instance.specs.Stored.{widths};
+ghost use Rattle.dx_exchange.specs.Exchanging.{Fits};
 ghost use Rattle.clio_given.specs.Given.{given_stages};
 ghost use Rattle.clio_ending.specs.Ending.{source_refusal};
 ghost use Rattle.clio_steps.specs.Steps.{program};

@@ -1,15 +1,15 @@
 -- The rules of an accepted mapping are read again.
 use Rattle.std.specs.Prelude.{◌≡◌, ◌-◌, ◌^◌, ◌<◌, ℕ, List, [], ◌++◌, codes, length}
-use Rattle.dx_schema_text.specs.declared.texts.MappingText.{MappingText}
-use Rattle.dx_schema_text.specs.Texts.{IsMappingText}
-use Rattle.dx_schema_text.specs.Print.{sides}
+use Rattle.dx_ports.specs.Texts.{Text}
+use Rattle.dx_stages.specs.Worlds.{World}
 use Rattle.dx_funcs.specs.declared.conversion.Conversion.{Conversion}
 use Rattle.dx_funcs.specs.declared.row_test.RowTest.{RowTest}
 use Rattle.dx_funcs.specs.Offers.{IsOffer}
+use Rattle.dx_schema_text.specs.declared.texts.MappingText.{MappingText}
+use Rattle.dx_schema_text.specs.Texts.{IsMappingText}
+use Rattle.dx_schema_text.specs.Print.{sides}
 use Rattle.dx_rule_text.specs.Printed.{rules_text}
-use Rattle.dx_ports.specs.Texts.{Text}
 use Rattle.dx_rule_laws.specs.ReadBack.{AreReadBehind}
-use Rattle.dx_stages.specs.Worlds.{World}
 use Rattle.clio_accept.specs.declared.mapping.Mapping.{Mapping}
 use Rattle.clio_accept.specs.Accepting.{accepting}
 

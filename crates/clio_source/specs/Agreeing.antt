@@ -2,11 +2,11 @@
 use Rattle.std.specs.Prelude.{◌≡◌, ℕ, List, Result, Ok, Err}
 use Rattle.dx_ports.specs.Members.{◌∈◌, Each}
 use Rattle.dx_model.specs.declared.facts.Fact.{Fact}
-use Rattle.dx_instance.specs.Stored.{TableRows, facts, widths}
-use Rattle.dx_schema.specs.Forest.{Forest}
 use Rattle.dx_stages.specs.declared.stop.Stop.{Stop}
 use Rattle.dx_stages.specs.Stages.{Stage}
 use Rattle.dx_stages.specs.Running.{Ran, InputState}
+use Rattle.dx_schema.specs.Forest.{Forest}
+use Rattle.dx_instance.specs.Stored.{TableRows, facts, widths}
 use Rattle.dx_used.specs.Used.{AgreeOnUsed, Marks, fact_blanked}
 use Rattle.clio_source.specs.Source.{flat, form_at, roots}
 

@@ -3,15 +3,15 @@ use Rattle.std.specs.Prelude.{◌≡◌, ◌≤◌, ◌<◌, ℕ, List, [], ◌+
 use Rattle.dx_ports.specs.Members.{Each, ◌≈◌}
 use Rattle.dx_model.specs.declared.values.Value.{Value}
 use Rattle.dx_model.specs.declared.facts.Fact.{Fact}
-use Rattle.dx_instance.specs.Cells.{NumberTable}
-use Rattle.dx_instance.specs.Shown.{NumberRowsFit, numbers_of_table, shown_row, shown_tables}
-use Rattle.dx_instance.specs.Stored.{facts}
-use Rattle.dx_schema.specs.Forest.{Forest}
-use Rattle.dx_schema.specs.Tables.{schema_widths}
 use Rattle.dx_stages.specs.declared.stop.Stop.{Stop}
 use Rattle.dx_stages.specs.declared.stop.Stop.TheVariants as stops
 use Rattle.dx_stages.specs.Stages.{Stage}
 use Rattle.dx_stages.specs.Running.{Gives, Ran, InputState}
+use Rattle.dx_schema.specs.Forest.{Forest}
+use Rattle.dx_schema.specs.Tables.{schema_widths}
+use Rattle.dx_instance.specs.Cells.{NumberTable}
+use Rattle.dx_instance.specs.Shown.{NumberRowsFit, numbers_of_table, shown_row, shown_tables}
+use Rattle.dx_instance.specs.Stored.{facts}
 use Rattle.dx_used.specs.Used.{AgreeOnUsed, Marks}
 use Rattle.clio_source.specs.declared.reading.Reading.{Reading}
 use Rattle.clio_source.specs.declared.fault.RowsFault.{RowsFault}

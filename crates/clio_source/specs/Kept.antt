@@ -4,10 +4,10 @@ use Rattle.std.specs.List.{list_all}
 use Rattle.dx_ports.specs.Members.{◌∈◌, ◌≈◌, Each}
 use Rattle.dx_model.specs.declared.values.Value.{Value}
 use Rattle.dx_funcs.specs.declared.row_test.RowTest.{RowTest}
+use Rattle.dx_lines.specs.declared.line.Condition.{Condition}
 use Rattle.dx_instance.specs.Cells.{NumberTable}
 use Rattle.dx_instance.specs.Shown.{shown_row}
 use Rattle.dx_instance.specs.Stored.{TableRows, facts, widths}
-use Rattle.dx_lines.specs.declared.line.Condition.{Condition}
 use Rattle.dx_used.specs.Passing.{Passes, fact_passes, passing}
 
 -- a row test of this code is listed

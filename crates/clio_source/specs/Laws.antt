@@ -1,15 +1,15 @@
 -- What holds of the source of files.
 use Rattle.std.specs.Prelude.{◌≡◌, ◌<◌, ◌↔◌, ℕ, List, [], None, Ok, length}
 use Rattle.dx_ports.specs.Members.{◌∈◌, ◌≈◌}
-use Rattle.dx_instance.specs.Stored.{TableRows, facts}
-use Rattle.dx_schema.specs.Forest.{Forest}
-use Rattle.dx_schema.specs.Inner.{AreAscending}
-use Rattle.dx_schema.specs.Tables.{schema_table, tables_of}
 use Rattle.dx_stages.specs.Laws.{IsDecided, PassesOne}
 use Rattle.dx_stages.specs.Running.{Ran, InputState}
 use Rattle.dx_stages.specs.Worlds.{World}
-use Rattle.clio_source.specs.Agreeing.{RanAgreeing}
+use Rattle.dx_schema.specs.Forest.{Forest}
+use Rattle.dx_schema.specs.Inner.{AreAscending}
+use Rattle.dx_schema.specs.Tables.{schema_table, tables_of}
+use Rattle.dx_instance.specs.Stored.{TableRows, facts}
 use Rattle.dx_used.specs.Passing.{Passes}
+use Rattle.clio_source.specs.Agreeing.{RanAgreeing}
 use Rattle.clio_source.specs.Source.{SourceRequest, roots, source_left, source_stages}
 
 -- files say at most one source, whatever the tests are

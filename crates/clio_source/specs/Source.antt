@@ -5,16 +5,16 @@ use Rattle.dx_ports.specs.declared.file.Count.TheVariants.{DataBytes, SourceCell
 use Rattle.dx_model.specs.declared.values.Value.{Value}
 use Rattle.dx_model.specs.declared.facts.Fact.{Fact}
 use Rattle.dx_model.specs.Values.{RowsAscend}
-use Rattle.dx_instance.specs.Stored.{TableRows, facts, rows_of, widths}
+use Rattle.dx_stages.specs.Stages.{Stage, next, each, by, over, into, file, computing, notions}
 use Rattle.dx_schema.specs.Forest.{Forest, none, set}
 use Rattle.dx_schema.specs.Tables.{level_numbers, schema_widths, schema_table, tree_at}
 use Rattle.dx_lines.specs.declared.line.Condition.{Condition}
+use Rattle.dx_instance.specs.Stored.{TableRows, facts, rows_of, widths}
 use Rattle.dx_used.specs.Passing.{Passes, passing}
 use Rattle.dx_csv.specs.declared.fault.RowKind.{RowKind}
 use Rattle.dx_csv.specs.Table.{IsAtFault, AreTableRecords, table_records}
 use Rattle.dx_json.specs.declared.fault.JsonKind.{JsonKind}
 use Rattle.dx_json.specs.Documents.{IsFirstDocumentFault, SaysFacts}
-use Rattle.dx_stages.specs.Stages.{Stage, next, each, by, over, into, file, computing, notions}
 use Rattle.clio_source.specs.declared.fault.RowsFault.{RowsFault}
 use Rattle.clio_source.specs.declared.fault.RowsFault.TheVariants.{Absent, Csv, Json}
 use Rattle.clio_source.specs.declared.fault.SourceRefusal.{SourceRefusal}

@@ -2,12 +2,12 @@
 ghost use Rattle.std.specs.Prelude.{◌≡◌, ◌+◌, ◌-◌, ◌≤◌, ◌<◌, ◌^◌, length, map, slice_set, take, None, IfOk, IfErr, OnOk, MatchOption};
 ghost use Rattle.dx_ports.specs.Members.{Each};
 ghost use Rattle.dx_model.specs.Tables.{IsInstance};
+ghost use Rattle.dx_schema.specs.Tables.{count, model_tables, schema_widths, schema_table, tables_of, tree_at};
 ghost use Rattle.dx_instance.specs.Numbers.{Extends};
 ghost use Rattle.dx_instance.specs.Cells.{with_numbers};
 ghost use Rattle.dx_instance.specs.Shown.{NumberRowsFit, Shows, numbers_of_table};
-ghost use Rattle.dx_json.specs.Documents.{HasDocumentFault, SaysFacts};
 ghost use Rattle.dx_used.specs.Used.{Marks};
-ghost use Rattle.dx_schema.specs.Tables.{count, model_tables, schema_widths, schema_table, tables_of, tree_at};
+ghost use Rattle.dx_json.specs.Documents.{HasDocumentFault, SaysFacts};
 ghost use Rattle.clio_source.specs.Source.{ReadState, fact_cells, form_at, loading, named_by, nested, source_cells};
 ghost use Rattle.clio_source.specs.Fitting.{AddsEmpty, AddsFacts, AddsRoot, CanTake, GivesTo, Holds, UnusedAreBlank, NotRead, ReadFits};
 

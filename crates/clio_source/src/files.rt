@@ -1,8 +1,8 @@
 // The files of a schema's roots.
 ghost use Rattle.std.specs.Prelude.{◌≡◌, ◌+◌, ◌<◌, ◌≤◌, length, None, IfOk};
 ghost use Rattle.dx_schema.specs.Tables.{count, schema_table, tables_of, tree_at};
-ghost use Rattle.dx_instance.specs.Stored.{facts};
 ghost use Rattle.dx_funcs.specs.Judging.{Decides, tested};
+ghost use Rattle.dx_instance.specs.Stored.{facts};
 ghost use Rattle.dx_used.specs.Named.{ReadNamed};
 ghost use Rattle.clio_source.specs.Agreeing.{AreBlank, RanAgreeing};
 ghost use Rattle.clio_source.specs.Kept.{AreTested};

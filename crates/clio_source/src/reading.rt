@@ -1,9 +1,9 @@
 // What was read so far.
 ghost use Rattle.std.specs.Prelude.{◌≡◌};
 ghost use Rattle.dx_schema.specs.Forest.{Forest};
+ghost use Rattle.dx_used.specs.Used.{Marks};
 ghost use Rattle.clio_source.specs.Source.{at_start, too_many_bytes, too_many_cells};
 ghost use Rattle.clio_source.specs.Fitting.{Holds, UnusedAreBlank, ReadFits};
-ghost use Rattle.dx_used.specs.Used.{Marks};
 
 use crate::fault::SourceRefusal;
 use dx_instance::{Gathered, Rows};

@@ -1,12 +1,12 @@
 // A flat root: its file is a table.
 ghost use Rattle.std.specs.Prelude.{◌≡◌, ◌+◌, ◌*◌, ◌-◌, ◌≤◌, ◌<◌, length, IfOk, IfErr, MatchOption};
 ghost use Rattle.dx_ports.specs.Members.{Each};
+ghost use Rattle.dx_schema.specs.Tables.{schema_table, tables_of};
 ghost use Rattle.dx_instance.specs.Numbers.{Extends};
 ghost use Rattle.dx_instance.specs.Shown.{AreBelow};
 ghost use Rattle.dx_used.specs.Used.{marks_at};
 ghost use Rattle.dx_csv.specs.Blanks.{IsTableUsed};
 ghost use Rattle.dx_csv.specs.Table.{table_records};
-ghost use Rattle.dx_schema.specs.Tables.{schema_table, tables_of};
 ghost use Rattle.clio_source.specs.Source.{ReadState, flat, loading, named_by};
 ghost use Rattle.clio_source.specs.Fitting.{GivesTo, Holds, UnusedAreBlank, NotRead, ReadFits, rows_shown};
 

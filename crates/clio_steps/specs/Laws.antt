@@ -1,8 +1,8 @@
 -- What holds of the steps that commands share.
-use Rattle.dx_exchange.specs.declared.mode.Mode.{Mode}
-use Rattle.dx_exchange.specs.declared.result.Exchange.{Exchange}
 use Rattle.dx_stages.specs.Laws.{IsDecided}
 use Rattle.dx_stages.specs.Worlds.{World}
+use Rattle.dx_exchange.specs.declared.mode.Mode.{Mode}
+use Rattle.dx_exchange.specs.declared.result.Exchange.{Exchange}
 use Rattle.clio_accept.specs.declared.mapping.Mapping.{Mapping}
 use Rattle.clio_ending.specs.Ending.{AreAlike}
 use Rattle.clio_steps.specs.Steps.{Program, exchanges}

@@ -1,28 +1,28 @@
 -- What there is in a world: an accepted mapping, its exchange, a solution or none, a clash; and how a plan was written.
 use Rattle.std.specs.Prelude.{◌≡◌, ◌++◌, ℕ, List, ◌∷◌, codes, length, Some, ◌≤◌}
 use Rattle.dx_ports.specs.Entries.{Entry}
-use Rattle.dx_model.specs.Values.{Rows}
 use Rattle.dx_ports.specs.Texts.{Text}
-use Rattle.dx_keys.specs.declared.answers.Clash.{Clash}
-use Rattle.dx_instance.specs.Stored.{TableRows, facts}
-use Rattle.dx_schema.specs.Forest.{Forest}
-use Rattle.dx_schema.specs.Tables.{model_tables}
-use Rattle.dx_exchange.specs.declared.mode.Mode.{Mode}
-use Rattle.dx_exchange.specs.declared.result.Exchange.{Exchange}
-use Rattle.dx_exchange.specs.Exchanging.{HasClash, IsExchange}
+use Rattle.dx_model.specs.Values.{Rows}
+use Rattle.dx_model.specs.declared.facts.Fact.{Fact}
+use Rattle.dx_model.specs.Rules.{AreRows}
+use Rattle.dx_model.specs.Solutions.{IsSolution}
 use Rattle.dx_stages.specs.Worlds.{World}
 use Rattle.dx_stages.specs.Ending.{WroteAll, WroteFirst, OutputState}
 use Rattle.dx_stages.specs.Stages.{each}
+use Rattle.dx_schema.specs.Forest.{Forest}
+use Rattle.dx_schema.specs.Tables.{model_tables}
+use Rattle.dx_instance.specs.Stored.{TableRows, facts}
+use Rattle.dx_tgd.specs.Counting.{canonical_cells}
+use Rattle.dx_keys.specs.declared.answers.Clash.{Clash}
+use Rattle.dx_exchange.specs.declared.mode.Mode.{Mode}
+use Rattle.dx_exchange.specs.declared.result.Exchange.{Exchange}
+use Rattle.dx_exchange.specs.Exchanging.{HasClash, IsExchange}
 use Rattle.clio_accept.specs.declared.mapping.Mapping.{Mapping}
 use Rattle.clio_accept.specs.Accepting.{accepting}
 use Rattle.clio_source.specs.Source.{ReadState, at_start, file_at, reading, roots, source_stages}
 use Rattle.clio_ending.specs.declared.ending.Refusal.TheVariants as refusals
 use Rattle.clio_ending.specs.Ending.{named_clash}
 use Rattle.clio_steps.specs.Steps.{Program, asked, wanted, target_cells, text_bytes}
-use Rattle.dx_model.specs.declared.facts.Fact.{Fact}
-use Rattle.dx_model.specs.Rules.{AreRows}
-use Rattle.dx_model.specs.Solutions.{IsSolution}
-use Rattle.dx_tgd.specs.Counting.{canonical_cells}
 
 -- ---- how it is written
 

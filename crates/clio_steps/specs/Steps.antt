@@ -2,15 +2,15 @@
 use Rattle.std.specs.Prelude.{ℕ, List, codes}
 use Rattle.dx_ports.specs.declared.file.Count.TheVariants.{TextBytes}
 use Rattle.dx_model.specs.Values.{Conversions}
+use Rattle.dx_stages.specs.Stages.{Stage, next, by, over, into, file, saying}
+use Rattle.dx_schema.specs.Tables.{model_tables}
 use Rattle.dx_funcs.specs.declared.conversion.Conversion.{Conversion}
 use Rattle.dx_funcs.specs.declared.row_test.RowTest.{RowTest}
-use Rattle.dx_used.specs.Passing.{Passes}
 use Rattle.dx_instance.specs.Stored.{TableRows, facts}
-use Rattle.dx_schema.specs.Tables.{model_tables}
+use Rattle.dx_used.specs.Passing.{Passes}
 use Rattle.dx_exchange.specs.declared.mode.Mode.{Mode}
 use Rattle.dx_exchange.specs.declared.result.Exchange.{Exchange}
 use Rattle.dx_exchange.specs.Exchanging.{ExchangeInput, exchanging}
-use Rattle.dx_stages.specs.Stages.{Stage, next, by, over, into, file, saying}
 use Rattle.clio_accept.specs.declared.mapping.Mapping.{Mapping}
 use Rattle.clio_accept.specs.declared.fault.AcceptFault.{AcceptFault}
 use Rattle.clio_accept.specs.declared.fault.MapFault.TheVariants as map_faults

@@ -1,7 +1,7 @@
 // The exchange of the source files of a mapping text.
+ghost use Rattle.dx_stages.specs.Running.{Ran};
 ghost use Rattle.dx_funcs.specs.Judging.{Decides, tested};
 ghost use Rattle.dx_funcs.specs.Serving.{Serves, offered};
-ghost use Rattle.dx_stages.specs.Running.{Ran};
 ghost use Rattle.clio_steps.specs.Steps.{exchanges, program};
 
 use crate::source::read_used_rows;

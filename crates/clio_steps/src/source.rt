@@ -1,8 +1,8 @@
 // The rows of the source files.
 ghost use Rattle.std.specs.Prelude.{◌≡◌};
 ghost use Rattle.dx_ports.specs.Members.{Each};
-ghost use Rattle.dx_funcs.specs.Judging.{Decides, tested};
 ghost use Rattle.dx_stages.specs.Stages.{saying};
+ghost use Rattle.dx_funcs.specs.Judging.{Decides, tested};
 ghost use Rattle.dx_used.specs.Named.{ReadNamed};
 ghost use Rattle.dx_used.specs.Used.{Marks, UsesOnly};
 ghost use Rattle.clio_source.specs.Agreeing.{RanAgreeing};

@@ -1,11 +1,11 @@
 // The target: the exchange of rows under a mapping.
 ghost use Rattle.std.specs.Prelude.{◌≡◌};
+ghost use Rattle.dx_stages.specs.Running.{Gives};
+ghost use Rattle.dx_stages.specs.Stages.{by};
+ghost use Rattle.dx_schema.specs.Tables.{model_tables, schema_widths};
 ghost use Rattle.dx_funcs.specs.Serving.{Serves, offered};
 ghost use Rattle.dx_instance.specs.Stored.{widths};
 ghost use Rattle.dx_exchange.specs.Exchanging.{Fits};
-ghost use Rattle.dx_schema.specs.Tables.{model_tables, schema_widths};
-ghost use Rattle.dx_stages.specs.Running.{Gives};
-ghost use Rattle.dx_stages.specs.Stages.{by};
 ghost use Rattle.clio_steps.specs.Steps.{named_stage};
 
 use clio_accept::Mapping;

@@ -1,9 +1,9 @@
 // The mapping texts, read and accepted.
 ghost use Rattle.std.specs.Prelude.{◌≡◌, ◌≤◌, length};
-ghost use Rattle.dx_funcs.specs.Judging.{tested};
-ghost use Rattle.dx_funcs.specs.Serving.{offered};
 ghost use Rattle.dx_stages.specs.Running.{Gives, Ran};
 ghost use Rattle.dx_stages.specs.Stages.{saying};
+ghost use Rattle.dx_funcs.specs.Judging.{tested};
+ghost use Rattle.dx_funcs.specs.Serving.{offered};
 ghost use Rattle.clio_accept.specs.Accepting.{accepting};
 ghost use Rattle.clio_accept.specs.declared.fault.AcceptFault.TheVariants.{Mapping as MappingFault};
 ghost use Rattle.clio_steps.specs.Steps.{absent_text, program, text_bytes, text_name, side_refusal, text_stages};

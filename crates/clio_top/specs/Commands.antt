@@ -4,15 +4,15 @@ use Rattle.dx_stages.specs.Ending.{PlanContent}
 use Rattle.dx_stages.specs.Stages.{Stage, next, by, over, computing}
 use Rattle.clio_ending.specs.declared.ending.Done.{Done}
 use Rattle.clio_ending.specs.declared.ending.Refusal.{Refusal}
-use Rattle.clio_top.specs.declared.command.Command.{Command}
-use Rattle.clio_top.specs.declared.command.Command.TheVariants.{Answering, Comparing, Demonstrating, Exchanging, Judging, Showing}
-use Rattle.clio_top.specs.Words.{Word, or_usage, says}
 use Rattle.clio_steps.specs.Steps.{Program}
-use Rattle.clio_top.specs.Running.{exchange_stages, show_stages}
-use Rattle.clio_top.specs.Demo.{demo_stages}
 use Rattle.clio_answer.specs.Answering.{answer_stages}
 use Rattle.clio_judge.specs.Judging.{judge_stages}
 use Rattle.clio_compare.specs.Comparing.{compare_stages}
+use Rattle.clio_top.specs.declared.command.Command.{Command}
+use Rattle.clio_top.specs.declared.command.Command.TheVariants.{Answering, Comparing, Demonstrating, Exchanging, Judging, Showing}
+use Rattle.clio_top.specs.Words.{Word, or_usage, says}
+use Rattle.clio_top.specs.Running.{exchange_stages, show_stages}
+use Rattle.clio_top.specs.Demo.{demo_stages}
 
 -- the stages of a command
 abbrev pub stages_of : Program → Command → Stage Refusal (Unit {0}) (PlanContent Done)

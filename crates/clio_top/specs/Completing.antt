@@ -3,13 +3,13 @@ use Rattle.std.specs.Prelude.{◌≡◌, ◌⊎◌, ℕ, List, [], ◌∷◌, co
 use Rattle.std.specs.FinMap.{from_entries, get}
 use Rattle.dx_ports.specs.Entries.{Entry, FileMap}
 use Rattle.dx_ports.specs.Texts.{Text}
+use Rattle.dx_stages.specs.Worlds.{World}
+use Rattle.dx_stages.specs.Ending.{PlanContent}
 use Rattle.dx_keys.specs.declared.answers.Clash.{Clash}
 use Rattle.dx_exchange.specs.declared.mode.Mode.{Mode}
 use Rattle.dx_exchange.specs.declared.result.Exchange.{Exchange}
 use Rattle.dx_judge.specs.declared.verdict.Verdict.{Verdict}
 use Rattle.dx_compare.specs.declared.comparing.Comparison.{Comparison}
-use Rattle.dx_stages.specs.Worlds.{World}
-use Rattle.dx_stages.specs.Ending.{PlanContent}
 use Rattle.clio_ending.specs.declared.ending.Done.{Done}
 use Rattle.clio_ending.specs.declared.ending.Answers.{Answers}
 use Rattle.clio_ending.specs.declared.ending.Done.TheVariants.{Answered, Compared, Demo, Exchanged, Judged, Shown}
@@ -18,14 +18,14 @@ use Rattle.clio_ending.specs.declared.ending.Ending.TheVariants as endings
 use Rattle.clio_ending.specs.declared.ending.Refusal.{Refusal}
 use Rattle.clio_ending.specs.declared.ending.Refusal.TheVariants as refusals
 use Rattle.clio_ending.specs.Ending.{AreAlike, refusal_ending}
+use Rattle.clio_steps.specs.Steps.{Program}
+use Rattle.clio_steps.specs.Outcomes.{HasNoSolutionIn, HasMappingIn, HasSolutionIn}
+use Rattle.clio_answer.specs.Outcomes.{HasQueryIn, HasFewAnswers}
 use Rattle.clio_top.specs.declared.command.Command.{Command}
 use Rattle.clio_top.specs.declared.command.Command.TheVariants.{Answering, Comparing, Demonstrating, Exchanging, Judging, Showing}
 use Rattle.clio_top.specs.Words.{Word, says}
-use Rattle.clio_steps.specs.Steps.{Program}
 use Rattle.clio_top.specs.Demo.{demo_world}
 use Rattle.clio_top.specs.Commands.{run_stages}
-use Rattle.clio_steps.specs.Outcomes.{HasNoSolutionIn, HasMappingIn, HasSolutionIn}
-use Rattle.clio_answer.specs.Outcomes.{HasQueryIn, HasFewAnswers}
 
 -- ---- the stages
 

@@ -4,14 +4,14 @@ use Rattle.std.specs.Fmt.{decimal}
 use Rattle.std.specs.FinMap.{from_entries, get}
 use Rattle.dx_ports.specs.Entries.{FileMap}
 use Rattle.dx_model.specs.declared.values.NullId.{NullId}
-use Rattle.dx_instance.specs.Stored.{TableRows, facts, rows_of}
-use Rattle.dx_schema.specs.Tables.{TableOf, tables_of}
-use Rattle.dx_exchange.specs.declared.mode.Mode.{Mode}
-use Rattle.dx_exchange.specs.declared.result.Exchange.{Exchange}
-use Rattle.dx_gen.specs.Demo.{demo}
 use Rattle.dx_stages.specs.Ending.{PlanContent}
 use Rattle.dx_stages.specs.Stages.{Stage, become}
 use Rattle.dx_stages.specs.Worlds.{World}
+use Rattle.dx_schema.specs.Tables.{TableOf, tables_of}
+use Rattle.dx_instance.specs.Stored.{TableRows, facts, rows_of}
+use Rattle.dx_exchange.specs.declared.mode.Mode.{Mode}
+use Rattle.dx_exchange.specs.declared.result.Exchange.{Exchange}
+use Rattle.dx_gen.specs.Demo.{demo}
 use Rattle.clio_accept.specs.declared.mapping.Mapping.{Mapping}
 use Rattle.clio_files.specs.Sheets.{AreTargetNulls}
 use Rattle.clio_ending.specs.declared.ending.Done.{Done}

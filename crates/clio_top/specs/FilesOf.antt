@@ -2,15 +2,15 @@
 use Rattle.std.specs.Prelude.{◌≡◌, ◌⊎◌, List, Bool, codes}
 use Rattle.dx_ports.specs.Entries.{Entry}
 use Rattle.dx_ports.specs.Members.{◌∈◌, Each}
+use Rattle.dx_ports.specs.Texts.{Text}
 use Rattle.dx_model.specs.declared.values.NullId.{NullId}
 use Rattle.dx_model.specs.declared.values.Value.TheVariants.{Null}
 use Rattle.dx_model.specs.Instances.{values}
-use Rattle.dx_ports.specs.Texts.{Text}
-use Rattle.dx_funcs.specs.declared.conversion.Conversion.{Conversion}
-use Rattle.dx_instance.specs.Stored.{TableRows, facts, widths}
 use Rattle.dx_schema.specs.Forest.{Forest}
 use Rattle.dx_schema.specs.Tables.{TableOf, schema_widths, tables_of}
+use Rattle.dx_funcs.specs.declared.conversion.Conversion.{Conversion}
 use Rattle.dx_tokens.specs.Lexing.{IsWord}
+use Rattle.dx_instance.specs.Stored.{TableRows, facts, widths}
 use Rattle.dx_exchange.specs.declared.mode.Mode.{Mode}
 use Rattle.dx_exchange.specs.declared.result.Exchange.{Exchange}
 use Rattle.dx_exchange.specs.Exchanging.{IsExchange}

@@ -5,9 +5,9 @@ use Rattle.dx_stages.specs.Ending.{OutputState}
 use Rattle.clio_ending.specs.declared.ending.Done.{Done}
 use Rattle.clio_ending.specs.declared.ending.Ending.{Ending}
 use Rattle.clio_ending.specs.declared.ending.Ending.TheVariants as endings
-use Rattle.clio_top.specs.Words.{Word}
 use Rattle.clio_steps.specs.Steps.{Program}
 use Rattle.clio_steps.specs.Outcomes.{wrote_first}
+use Rattle.clio_top.specs.Words.{Word}
 use Rattle.clio_top.specs.Promises.{AsAsked}
 
 -- of what the words ask for so many files were put, the first ones, and after all of them a part of the text was said

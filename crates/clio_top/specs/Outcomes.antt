@@ -1,18 +1,18 @@
 -- What an exchange, a mapping that is shown and a demo come to in a world.
 use Rattle.std.specs.Prelude.{◌≡◌, ℕ, List, [], codes, length, Some, Bool}
 use Rattle.dx_model.specs.declared.values.NullId.{NullId}
+use Rattle.dx_stages.specs.Worlds.{World}
 use Rattle.dx_instance.specs.Stored.{facts}
 use Rattle.dx_exchange.specs.declared.mode.Mode.{Mode}
 use Rattle.dx_exchange.specs.declared.result.Exchange.{Exchange}
-use Rattle.dx_stages.specs.Worlds.{World}
 use Rattle.clio_accept.specs.declared.mapping.Mapping.{Mapping}
 use Rattle.clio_accept.specs.Accepting.{accepting}
 use Rattle.clio_files.specs.Files.{AreFiles, contents_of, files_of, summary_of}
 use Rattle.clio_files.specs.Sheets.{AreTargetNulls, PrintedFile}
 use Rattle.clio_files.specs.Texts.{texts_told}
 use Rattle.clio_steps.specs.Steps.{Program}
-use Rattle.clio_top.specs.Demo.{demo_text, demo_world}
 use Rattle.clio_steps.specs.Outcomes.{Writing, IsExchangeIn}
+use Rattle.clio_top.specs.Demo.{demo_text, demo_world}
 
 -- such an exchange, whose files were written, and then their summary was said
 pub record IsDoneIn (P : Program) (mode : Mode) (nested : Bool) (c : World) (e : Exchange) (Wrote : Writing) : Type 0 where

@@ -3,41 +3,41 @@
 use Rattle.std.specs.Prelude.{◌≡◌, ◌⊎◌, ◌↔◌, ℕ, List, codes, map, Some, None, Bool}
 use Rattle.dx_ports.specs.Members.{Distinct}
 use Rattle.dx_ports.specs.Texts.{Text}
+use Rattle.dx_stages.specs.declared.plan.Ended.TheVariants as endeds
+use Rattle.dx_stages.specs.Worlds.{World}
+use Rattle.dx_stages.specs.Laws.{IsDecided}
+use Rattle.dx_stages.specs.Ending.{Ends, OutputState}
 use Rattle.dx_keys.specs.declared.answers.Clash.{Clash}
 use Rattle.dx_exchange.specs.declared.mode.Mode.{Mode}
 use Rattle.dx_exchange.specs.declared.mode.Mode.TheVariants.{Plain}
 use Rattle.dx_exchange.specs.declared.result.Exchange.{Exchange}
 use Rattle.dx_exchange.specs.declared.fault.ExFault.TheVariants as exchange_faults
 use Rattle.dx_exchange.specs.Exchanging.{ExchangeInput, exchanging}
-use Rattle.dx_compare.specs.declared.comparing.Comparison.{Comparison}
+use Rattle.dx_queries.specs.declared.query.Query.{Query}
 use Rattle.dx_judge.specs.declared.verdict.Verdict.{Verdict}
-use Rattle.dx_stages.specs.declared.plan.Ended.TheVariants as endeds
-use Rattle.dx_stages.specs.Worlds.{World}
-use Rattle.dx_stages.specs.Laws.{IsDecided}
-use Rattle.dx_stages.specs.Ending.{Ends, OutputState}
+use Rattle.dx_compare.specs.declared.comparing.Comparison.{Comparison}
 use Rattle.clio_accept.specs.declared.mapping.Mapping.{Mapping}
 use Rattle.clio_accept.specs.declared.fault.AcceptFault.TheVariants as accept_faults
 use Rattle.clio_accept.specs.Accepting.{accepting}
 use Rattle.clio_files.specs.Sheets.{PrintedFile}
-use Rattle.dx_queries.specs.declared.query.Query.{Query}
 use Rattle.clio_ending.specs.declared.ending.Answers.{Answers}
 use Rattle.clio_ending.specs.declared.ending.Done.{Done}
 use Rattle.clio_ending.specs.declared.ending.Done.TheVariants.{Answered, Compared, Demo, Exchanged, Judged, Shown}
 use Rattle.clio_ending.specs.declared.ending.Refusal.TheVariants as refusals
 use Rattle.clio_ending.specs.Ending.{AreAlike}
+use Rattle.clio_steps.specs.Steps.{Program, mapping_stages}
+use Rattle.clio_steps.specs.Outcomes.{IsClashIn, IsNextFile, Writing, wrote_all, HasNoSolutionIn}
+use Rattle.clio_answer.specs.Answering.{query_over, query_name}
+use Rattle.clio_answer.specs.Outcomes.{IsAnsweredIn}
+use Rattle.clio_judge.specs.Judging.{RowsAndBytes, rows_and_bytes, wanted_given}
+use Rattle.clio_judge.specs.Outcomes.{IsJudgedIn, IsNextGiven}
+use Rattle.clio_compare.specs.Outcomes.{IsComparedIn}
 use Rattle.clio_top.specs.declared.command.Command.{Command}
 use Rattle.clio_top.specs.declared.command.Command.TheVariants.{Answering, Comparing, Demonstrating, Exchanging, Judging, Showing}
 use Rattle.clio_top.specs.Words.{Word, says}
-use Rattle.clio_steps.specs.Steps.{Program, mapping_stages}
-use Rattle.clio_judge.specs.Judging.{RowsAndBytes, rows_and_bytes, wanted_given}
 use Rattle.clio_top.specs.Demo.{demo_world}
 use Rattle.clio_top.specs.Commands.{run_stages}
-use Rattle.clio_answer.specs.Answering.{query_over, query_name}
-use Rattle.clio_answer.specs.Outcomes.{IsAnsweredIn}
-use Rattle.clio_steps.specs.Outcomes.{IsClashIn, IsNextFile, Writing, wrote_all, HasNoSolutionIn}
-use Rattle.clio_compare.specs.Outcomes.{IsComparedIn}
 use Rattle.clio_top.specs.Outcomes.{IsDemoIn, IsDoneIn, IsShownIn}
-use Rattle.clio_judge.specs.Outcomes.{IsJudgedIn, IsNextGiven}
 
 -- there is one reason to refuse a run, up to which clash is told, or a plan, and never both
 abbrev pub RefusedOrPlanned : Type 0

@@ -1,12 +1,12 @@
 -- The stages of an exchange and of showing, and what is written of them.
 use Rattle.std.specs.Prelude.{◌≡◌, ℕ, List, [], Bool, Option}
 use Rattle.dx_ports.specs.Entries.{Entry, FileMap}
-use Rattle.dx_funcs.specs.declared.conversion.Conversion.{Conversion}
-use Rattle.dx_exchange.specs.declared.mode.Mode.{Mode}
-use Rattle.dx_exchange.specs.declared.result.Exchange.{Exchange}
 use Rattle.dx_stages.specs.Ending.{PlanContent, OutputState}
 use Rattle.dx_stages.specs.Running.{InputState as ToldOf}
 use Rattle.dx_stages.specs.Stages.{Stage, become, into}
+use Rattle.dx_funcs.specs.declared.conversion.Conversion.{Conversion}
+use Rattle.dx_exchange.specs.declared.mode.Mode.{Mode}
+use Rattle.dx_exchange.specs.declared.result.Exchange.{Exchange}
 use Rattle.clio_accept.specs.declared.mapping.Mapping.{Mapping}
 use Rattle.clio_files.specs.Files.{AreFiles, contents_of, files_of, summary_of}
 use Rattle.clio_files.specs.Sheets.{PrintedFile}

@@ -1,14 +1,14 @@
 // What is said of the exchange of a demo.
 ghost use Rattle.std.specs.Prelude.{◌≡◌, ◌≤◌, ◌++◌, codes, IfOk, OnOk, length, string_bytes};
 ghost use Rattle.std.specs.Fmt.{decimal};
-ghost use Rattle.dx_instance.specs.Stored.{widths};
+ghost use Rattle.dx_stages.specs.Ending.{planned, planned_of};
+ghost use Rattle.dx_stages.specs.Running.{Gives};
 ghost use Rattle.dx_schema.specs.Tables.{schema_widths, tables_of};
 ghost use Rattle.dx_funcs.specs.Judging.{Decides, tested};
 ghost use Rattle.dx_funcs.specs.Serving.{Serves, offered};
-ghost use Rattle.dx_stages.specs.Ending.{planned, planned_of};
-ghost use Rattle.dx_stages.specs.Running.{Gives};
-ghost use Rattle.clio_top.specs.Demo.{IsDemoPlan, counts_text, demo_stages, demo_text};
+ghost use Rattle.dx_instance.specs.Stored.{widths};
 ghost use Rattle.clio_steps.specs.Steps.{program};
+ghost use Rattle.clio_top.specs.Demo.{IsDemoPlan, counts_text, demo_stages, demo_text};
 
 use crate::demo_inputs::DemoInputs;
 use clio_accept::Mapping;

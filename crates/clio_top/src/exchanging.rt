@@ -1,13 +1,13 @@
 // Data, exchanged, and what is written of it.
 ghost use Rattle.std.specs.Prelude.{◌≡◌, IfOk};
-ghost use Rattle.dx_funcs.specs.Judging.{Decides, tested};
-ghost use Rattle.dx_funcs.specs.Serving.{Serves, offered};
 ghost use Rattle.dx_stages.specs.Ending.{planned, planned_of};
 ghost use Rattle.dx_stages.specs.Running.{Ran};
+ghost use Rattle.dx_funcs.specs.Judging.{Decides, tested};
+ghost use Rattle.dx_funcs.specs.Serving.{Serves, offered};
 ghost use Rattle.clio_files.specs.Files.{FitsFiles};
 ghost use Rattle.clio_files.specs.Texts.{FitTexts};
-ghost use Rattle.clio_top.specs.Running.{IsPlanOf, exchange_stages};
 ghost use Rattle.clio_steps.specs.Steps.{program};
+ghost use Rattle.clio_top.specs.Running.{IsPlanOf, exchange_stages};
 
 use clio_accept::Mapping;
 use clio_ending::{Done, Refusal};

@@ -1,9 +1,9 @@
 // The files of an exchange.
 ghost use Rattle.std.specs.Prelude.{◌≡◌, IfOk};
-ghost use Rattle.dx_funcs.specs.Serving.{offered};
-ghost use Rattle.dx_instance.specs.Stored.{widths};
 ghost use Rattle.dx_ports.specs.Entries.{entries_of};
 ghost use Rattle.dx_schema.specs.Tables.{schema_widths};
+ghost use Rattle.dx_funcs.specs.Serving.{offered};
+ghost use Rattle.dx_instance.specs.Stored.{widths};
 ghost use Rattle.clio_files.specs.Texts.{FitTexts};
 ghost use Rattle.clio_top.specs.FilesOf.{AreFilesOf, HaveColumnNames, NullsHaveTexts};
 

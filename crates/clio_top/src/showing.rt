@@ -1,9 +1,9 @@
 // A mapping, shown: its rules, and their script.
 ghost use Rattle.std.specs.Prelude.{◌≡◌, IfOk};
-ghost use Rattle.dx_funcs.specs.Judging.{tested};
-ghost use Rattle.dx_funcs.specs.Serving.{offered};
 ghost use Rattle.dx_stages.specs.Ending.{planned, planned_of};
 ghost use Rattle.dx_stages.specs.Running.{Ran};
+ghost use Rattle.dx_funcs.specs.Judging.{tested};
+ghost use Rattle.dx_funcs.specs.Serving.{offered};
 ghost use Rattle.clio_files.specs.Texts.{FitTexts};
 ghost use Rattle.clio_steps.specs.Steps.{program};
 ghost use Rattle.clio_top.specs.Running.{show_stages, shown_plan};

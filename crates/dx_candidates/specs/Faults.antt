@@ -3,10 +3,10 @@ use Rattle.std.specs.Prelude.{◌≡◌, ◌⊎◌, Bool, true, List, Option, No
 use Rattle.dx_ports.specs.declared.file.Limit.{Limit}
 use Rattle.dx_ports.specs.declared.file.Count.TheVariants.{Variants, Occurrences, Ways, Candidates}
 use Rattle.dx_model.specs.Tables.{Table}
-use Rattle.dx_lines.specs.declared.line.Line.{Line}
-use Rattle.dx_lines.specs.Limits.{first_or, passed_by, passed_limit}
 use Rattle.dx_logical.specs.declared.fault.ManyFault.{ManyFault}
 use Rattle.dx_logical.specs.declared.fault.ManyFault.TheVariants as unfolded
+use Rattle.dx_lines.specs.declared.line.Line.{Line}
+use Rattle.dx_lines.specs.Limits.{first_or, passed_by, passed_limit}
 use Rattle.dx_ways.specs.declared.fault.WaysFault.{WaysFault}
 use Rattle.dx_ways.specs.declared.fault.WaysFault.TheVariants as many
 use Rattle.dx_candidates.specs.declared.fault.CandFault.{CandFault}

@@ -1,9 +1,9 @@
 -- Why a list of answers is refused.
 use Rattle.std.specs.Prelude.{◌≡◌, ℕ, List}
+use Rattle.dx_ports.specs.declared.file.Count.TheVariants.{AnswerCells}
 use Rattle.dx_model.specs.declared.facts.Fact.{Fact}
 use Rattle.dx_queries.specs.declared.query.Query.{Query}
 use Rattle.dx_queries.specs.Results.{AnswersPassLimit}
-use Rattle.dx_ports.specs.declared.file.Count.TheVariants.{AnswerCells}
 use Rattle.dx_certain.specs.declared.fault.CertainFault.{CertainFault}
 use Rattle.dx_certain.specs.declared.fault.CertainFault.TheVariants.{Limit, Memory}
 

@@ -1,9 +1,9 @@
 // The certain answers of a query.
 ghost use Rattle.std.specs.Prelude.{◌≡◌, ◌<◌, ◌≤◌, ◌*◌, ◌/◌, ◌^◌, ◌∷◌, ◌++◌, [], ℕ, List, IfErr, IfOk, OnOk, length, map};
 ghost use Rattle.dx_ports.specs.Members.{◌∈◌, Each};
+ghost use Rattle.dx_model.specs.Values.{RowsAscend};
 ghost use Rattle.dx_instance.specs.Stored.{facts, rows_of, table_at, widths};
 ghost use Rattle.dx_instance.specs.Places.{row_at};
-ghost use Rattle.dx_model.specs.Values.{RowsAscend};
 ghost use Rattle.dx_instance.specs.Ranks.{text_of_value};
 ghost use Rattle.dx_instance.specs.Numbers.{IsConstant};
 ghost use Rattle.dx_queries.specs.Results.{AreConstantAnswers, FitsPart, FitsQuery};

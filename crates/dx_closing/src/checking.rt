@@ -2,9 +2,9 @@
 ghost use Rattle.std.specs.Prelude.{◌↔◌, ℕ, IfSome, IsSome, IsTrue, flat_map};
 ghost use Rattle.dx_ports.specs.Members.{Each};
 ghost use Rattle.dx_model.specs.Solutions.{AtomFits};
-ghost use Rattle.dx_schema.specs.Tables.{model_tables};
 ghost use Rattle.dx_model.specs.Fitting.{AreNumbered, ByFirstAppearance};
 ghost use Rattle.dx_model.specs.Rules.{existential_in};
+ghost use Rattle.dx_schema.specs.Tables.{model_tables};
 
 use dx_model::{Atom, Cell};
 use dx_schema::Schema;

@@ -3,9 +3,9 @@ ghost use Rattle.std.specs.Prelude.{◌≡◌, ◌≤◌, ◌<◌, List, IfOk, I
 ghost use Rattle.dx_ports.specs.Members.{Each};
 ghost use Rattle.dx_model.specs.declared.rules.Atom.{Atom as AtomRow};
 ghost use Rattle.dx_model.specs.Solutions.{AtomFits, IsClosed};
+ghost use Rattle.dx_model.specs.Fitting.{AreNumbered};
 ghost use Rattle.dx_schema.specs.Tables.{model_tables};
 ghost use Rattle.dx_closing.specs.declared.fault.CloseFault.TheVariants.{TooWide};
-ghost use Rattle.dx_model.specs.Fitting.{AreNumbered};
 ghost use Rattle.dx_closing.specs.Closing.{IsClosing, IsClosingOf};
 
 use crate::fault::CloseFault;

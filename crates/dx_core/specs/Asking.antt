@@ -1,24 +1,24 @@
 -- Questions about rows of a block: whether an endomorphism of what is left moves none of them to a certain fact.
 use Rattle.std.specs.Prelude.{◌≡◌, ◌<◌, ℕ, Bool, false, List, [], ◌∷◌, length, Option, Some, None, slice_index_or}
 use Rattle.std.specs.List.{AllZip, AllPairs}
+use Rattle.dx_ports.specs.Members.{◌∈◌, Each}
 use Rattle.dx_model.specs.declared.values.NullId.{NullId}
 use Rattle.dx_model.specs.declared.values.Value.{Value}
 use Rattle.dx_model.specs.declared.facts.Fact.{Fact}
 use Rattle.dx_model.specs.declared.facts.NullPair.{NullPair}
 use Rattle.dx_model.specs.Instances.{Moves, fact_moved}
-use Rattle.dx_ports.specs.Members.{◌∈◌, Each}
 use Rattle.dx_instance.specs.Cells.{numbers_at}
 use Rattle.dx_instance.specs.Numbers.{value_of}
 use Rattle.dx_instance.specs.Shown.{NumberedInstance, numbers_of_table}
 use Rattle.dx_blocks.specs.declared.numbered.At.{At}
 use Rattle.dx_blocks.specs.Numbered.{null_under}
+use Rattle.dx_blocks.specs.NullRows.{row_numbers}
+use Rattle.dx_rigid.specs.Rigid.{IsRigid}
 use Rattle.dx_solver.specs.declared.atom.Term.{Term}
 use Rattle.dx_solver.specs.declared.atom.Term.TheVariants.{Number, Variable}
 use Rattle.dx_solver.specs.declared.atom.PatternAtom.{PatternAtom}
 use Rattle.dx_solver.specs.Marks.{is_out}
 use Rattle.dx_solver.specs.Questions.{answered, number_under}
-use Rattle.dx_rigid.specs.Rigid.{IsRigid}
-use Rattle.dx_blocks.specs.NullRows.{row_numbers}
 
 -- the numbers ascend
 abbrev pub AscendStrictly : List ℕ → Type 0

@@ -1,10 +1,10 @@
 -- Facts that no endomorphism moves to a certain fact.
 use Rattle.std.specs.Prelude.{◌≡◌, ◌⊎◌, List}
+use Rattle.dx_ports.specs.Members.{◌∈◌}
 use Rattle.dx_model.specs.declared.values.NullId.{NullId}
 use Rattle.dx_model.specs.declared.values.Value.{Value}
 use Rattle.dx_model.specs.declared.facts.Fact.{Fact}
 use Rattle.dx_model.specs.Instances.{Moves, fact_moved}
-use Rattle.dx_ports.specs.Members.{◌∈◌}
 use Rattle.dx_instance.specs.Shown.{NumberedInstance}
 use Rattle.dx_blocks.specs.declared.numbered.At.{At}
 use Rattle.dx_blocks.specs.Numbered.{fact_of}

@@ -1,6 +1,7 @@
 -- States of the search for cell maps: what is below a state that the search has gone through gives nothing new.
 use Rattle.std.specs.Prelude.{◌≡◌, ◌↔◌, ℕ, ◌-◌, ◌≤◌, Bool, true, false, cond, eqb, nat_lt, ◌&&◌, ◌||◌, List, [], ◌∷◌, ◌++◌, map, length, drop}
 use Rattle.std.specs.List.{filter, list_any}
+use Rattle.dx_ports.specs.Members.{Each}
 use Rattle.dx_model.specs.declared.rules.Cell.{Cell}
 use Rattle.dx_model.specs.declared.rules.Cell.TheVariants.{Var, Ex, Lit}
 use Rattle.dx_model.specs.declared.rules.Atom.{Atom}
@@ -8,7 +9,6 @@ use Rattle.dx_model.specs.declared.rules.Rule.{Rule}
 use Rattle.dx_model.specs.declared.covers.CellMap.{CellMap}
 use Rattle.dx_model.specs.declared.covers.Meeting.{Meeting}
 use Rattle.dx_model.specs.Covers.{is_cell_map, same_cell}
-use Rattle.dx_ports.specs.Members.{Each}
 use Rattle.dx_cover.specs.declared.states.State.{State}
 use Rattle.dx_cover.specs.declared.states.Search.{Search}
 use Rattle.dx_cover.specs.declared.search.Outlook.{Outlook}

@@ -5,12 +5,12 @@ ghost use Rattle.dx_ports.specs.Members.{Each};
 ghost use Rattle.dx_model.specs.declared.covers.Cover.{Cover};
 ghost use Rattle.dx_model.specs.Rules.{exported as exported_of};
 ghost use Rattle.dx_model.specs.Covers.{places_by, rule_at, used_maps};
+ghost use Rattle.dx_model.specs.Matches.{rows_of_matches};
 ghost use Rattle.dx_instance.specs.Shown.{numbers_of_table};
 ghost use Rattle.dx_cover.specs.Covering.{covers_of};
 ghost use Rattle.dx_cover_fold.specs.Codes.{RowHasColumn, IsPlanned};
 ghost use Rattle.dx_cover_fold.specs.Found.{AreLeast, AreOrFirsts, AreOwn, FindsAmong, IndexesCells, images_by, no_map, or_first as first_or};
 ghost use Rattle.dx_cover_fold.specs.Found.{variable_cells};
-ghost use Rattle.dx_model.specs.Matches.{rows_of_matches};
 
 use crate::found::Found;
 use crate::images::{as_cells, images_of};

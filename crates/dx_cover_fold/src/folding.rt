@@ -1,16 +1,16 @@
 // The cover fold.
 ghost use Rattle.std.specs.Prelude.{◌≡◌, ◌<◌, ◌^◌, IfOk, length, map, suc};
+ghost use Rattle.dx_ports.specs.Members.{Each};
 ghost use Rattle.dx_model.specs.declared.values.Value.TheVariants.{Null as NullValue};
 ghost use Rattle.dx_model.specs.Rules.{exported as exported_of};
 ghost use Rattle.dx_model.specs.declared.rules.Cell.TheVariants.{Ex as ExCell};
 ghost use Rattle.dx_model.specs.Covers.{IsPlace, folded, least_cover, value_under};
-ghost use Rattle.dx_ports.specs.Members.{Each};
+ghost use Rattle.dx_model.specs.Matches.{rows_of_matches};
 ghost use Rattle.dx_joins.specs.Shown.{AreTexts};
 ghost use Rattle.dx_cover.specs.Covering.{covers_of};
 ghost use Rattle.dx_cover_fold.specs.Found.{AllLeast, cover_of};
 ghost use Rattle.dx_cover_fold.specs.Folding.{IsCoverFold};
 ghost use Rattle.dx_cover_fold.specs.Matched.{tuples_of};
-ghost use Rattle.dx_model.specs.Matches.{rows_of_matches};
 
 use crate::covering::least_covers;
 use crate::found::Found;

@@ -2,11 +2,11 @@
 ghost use Rattle.std.specs.Prelude.{◌≡◌, ◌↔◌, ◌<◌, ◌-◌, ◌+◌, ◌^◌, [], IsTrue, length, slice_index_or};
 ghost use Rattle.dx_ports.specs.Members.{◌∈◌, Each};
 ghost use Rattle.dx_model.specs.declared.values.Value.TheVariants.{Const as ConstValue};
+ghost use Rattle.dx_model.specs.Covers.{tuple_at};
+ghost use Rattle.dx_model.specs.Matches.{rows_of_matches};
 ghost use Rattle.dx_instance.specs.Numbers.{AreDistinctValues, value_of};
 ghost use Rattle.dx_instance.specs.Shown.{numbers_of_table};
 ghost use Rattle.dx_joins.specs.Shown.{AreTexts, texts_of};
-ghost use Rattle.dx_model.specs.Covers.{tuple_at};
-ghost use Rattle.dx_model.specs.Matches.{rows_of_matches};
 ghost use Rattle.dx_cover_fold.specs.Codes.{IsCode};
 
 use dx_instance::{Rows, Symbols};

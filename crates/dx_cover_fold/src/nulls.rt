@@ -4,8 +4,8 @@ ghost use Rattle.dx_ports.specs.Members.{◌∈◌};
 ghost use Rattle.dx_model.specs.declared.values.NullId.{NullId as AnyNull};
 ghost use Rattle.dx_model.specs.Rules.{cells_of};
 ghost use Rattle.dx_model.specs.Covers.{after_existential};
-ghost use Rattle.dx_cover_fold.specs.Folding.{IsNullAt, IsNullOf, IsPlaceNull};
 ghost use Rattle.dx_model.specs.Matches.{rows_of_matches};
+ghost use Rattle.dx_cover_fold.specs.Folding.{IsNullAt, IsNullOf, IsPlaceNull};
 
 use crate::matched::Matched;
 use dx_model::{Atom, Cell, NullId, Rule};

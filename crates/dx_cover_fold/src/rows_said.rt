@@ -2,8 +2,8 @@
 ghost use Rattle.std.specs.Prelude.{◌≡◌, IfOk};
 ghost use Rattle.dx_model.specs.declared.values.Value.TheVariants.{Null as NullValue};
 ghost use Rattle.dx_model.specs.Rules.{cell_value, text_of};
-ghost use Rattle.dx_joins.specs.Shown.{AreTexts, texts_of};
 ghost use Rattle.dx_instance.specs.Ranks.{text_of_value};
+ghost use Rattle.dx_joins.specs.Shown.{AreTexts, texts_of};
 
 use crate::matched::Matched;
 use dx_model::{Cell, NullId, Value};

@@ -3,10 +3,10 @@ use Rattle.std.specs.Prelude.{◌≡◌, ◌⊎◌, ◌+◌, ◌*◌, ◌<◌, �
 use Rattle.dx_ports.specs.Members.{◌∈◌}
 use Rattle.dx_model.specs.declared.values.Value.{Value}
 use Rattle.dx_model.specs.declared.values.Value.TheVariants.{Const}
+use Rattle.dx_model.specs.Values.{constants}
 use Rattle.dx_instance.specs.Numbers.{IsNumberOf}
 use Rattle.dx_used.specs.Used.{blanked}
 use Rattle.dx_csv.specs.Table.{AreTableRecords}
-use Rattle.dx_model.specs.Values.{constants}
 
 -- the rows of a table, blank in the columns that are not used
 abbrev pub IsTableUsed : List Bool → List (List (List ℕ)) → List (List ℕ) → List (List Value) → Type 0

@@ -5,11 +5,11 @@ use Rattle.csv.specs.Records.{AllText}
 use Rattle.csv.specs.Reading.{default_config, strip_bom, records as records_of}
 use Rattle.dx_model.specs.declared.values.Value.{Value}
 use Rattle.dx_model.specs.declared.values.Value.TheVariants.{Const}
+use Rattle.dx_model.specs.Values.{constants}
 use Rattle.dx_csv.specs.declared.fault.RowFault.{RowFault}
 use Rattle.dx_csv.specs.declared.fault.RowFault.TheVariants as fault
 use Rattle.dx_csv.specs.declared.fault.RowKind.{RowKind}
 use Rattle.dx_csv.specs.declared.fault.RowKind.TheVariants as kind
-use Rattle.dx_model.specs.Values.{constants}
 
 -- the records of the bytes of a table
 abbrev pub table_records : List ℕ → List (List (List ℕ))

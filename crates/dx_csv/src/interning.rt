@@ -1,8 +1,8 @@
 // The fields of a table as rows of numbers.
 ghost use Rattle.std.specs.Prelude.{◌≡◌, ◌*◌, ◌+◌, ◌<◌, ◌^◌, ◌-◌, IfOk, IfErr, OnOk, length, map};
 ghost use Rattle.dx_ports.specs.Members.{Each};
-ghost use Rattle.dx_instance.specs.Numbers.{Extends, value_of};
 ghost use Rattle.dx_model.specs.declared.values.Value.TheVariants.{Const};
+ghost use Rattle.dx_instance.specs.Numbers.{Extends, value_of};
 ghost use Rattle.dx_instance.specs.Shown.{AreBelow, shown_row};
 ghost use Rattle.dx_csv.specs.Blanks.{AreNumbersOfTexts, AreSettled, HasBlank, IsTableUsed, OthersStay, constants_used, is_used};
 ghost use Rattle.dx_csv.specs.Fields.{records_in};

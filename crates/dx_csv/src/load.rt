@@ -1,9 +1,9 @@
 // A table of constants, read from its bytes.
 ghost use Rattle.std.specs.Prelude.{◌≡◌, ◌<◌, ◌-◌, ◌^◌, ◌↔◌, ◌++◌, ◌∷◌, ℕ, List, length, true, false, IsTrue, IfOk, IfErr, IfSome, OnOk, MatchOption};
 ghost use Rattle.csv.specs.Records.{fields_of, AllText};
+ghost use Rattle.dx_model.specs.Values.{constants};
 ghost use Rattle.dx_csv.specs.Fields.{AreFields, HaveFields, fields_in};
 ghost use Rattle.dx_csv.specs.Table.{FirstDifference, HasTableFault, AreTableRecords, table_records};
-ghost use Rattle.dx_model.specs.Values.{constants};
 
 use crate::fault::{RowFault, RowKind};
 use crate::fields::{Fields, Texts};

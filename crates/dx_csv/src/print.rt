@@ -1,8 +1,8 @@
 // The text of records and of tables.
 ghost use Rattle.std.specs.Prelude.{◌≡◌, ◌<◌, ◌++◌, ◌∷◌, [], ℕ, List, IfOk, OnOk, length, map};
+ghost use Rattle.dx_model.specs.Values.{RowsAscend};
 ghost use Rattle.dx_instance.specs.Shown.{AreBelow, shown_row};
 ghost use Rattle.dx_instance.specs.Stored.{rows_of, table_at};
-ghost use Rattle.dx_model.specs.Values.{RowsAscend};
 ghost use Rattle.dx_instance.specs.ValueText.{value_text_of};
 ghost use Rattle.dx_csv.specs.Lines.{HavePrinted};
 ghost use Rattle.dx_csv.specs.Print.{HasNoMark, IsTableText, records_text, table_lines};

@@ -2,12 +2,13 @@
 use Rattle.std.specs.Prelude.{◌≡◌, ℕ, ◌*◌, ◌<◌, ◌≤◌, cond, eqb, List, length, map, sum}
 use Rattle.dx_ports.specs.Members.{◌∈◌}
 use Rattle.dx_ports.specs.declared.file.Count.TheVariants.{TargetCells}
+use Rattle.dx_ports.specs.Texts.{Text}
 use Rattle.dx_model.specs.declared.facts.Fact.{Fact}
 use Rattle.dx_model.specs.declared.matches.Places.{Places}
 use Rattle.dx_model.specs.declared.matches.Matches.{Matches}
 use Rattle.dx_model.specs.Values.{Tuple, Rows}
-use Rattle.dx_ports.specs.Texts.{Text}
 use Rattle.dx_model.specs.Covers.{below}
+use Rattle.dx_model.specs.Matches.{rows_of_matches}
 use Rattle.dx_schema.specs.Names.{TableNames}
 use Rattle.dx_instance.specs.Stored.{facts, widths}
 use Rattle.dx_script.specs.declared.form.Select.{Select}
@@ -18,7 +19,6 @@ use Rattle.dx_script.specs.Meaning.{IsMatchTable, Means, match_table}
 use Rattle.dx_eval.specs.declared.made.Made.{Made}
 use Rattle.dx_eval.specs.declared.fault.EvalFault.{EvalFault}
 use Rattle.dx_eval.specs.declared.fault.EvalFault.TheVariants.{Limit}
-use Rattle.dx_model.specs.Matches.{rows_of_matches}
 
 -- ---- the cells that a script inserts, each rule's for all of its matches
 

@@ -2,22 +2,22 @@
 use Rattle.std.specs.Prelude.{◌≡◌, ℕ, ◌+◌, ◌∷◌, ◌++◌, [], List, MatchOption, Option, length, flat_map}
 use Rattle.std.specs.List.{AllZip}
 use Rattle.dx_ports.specs.Members.{◌∈◌, Each}
+use Rattle.dx_ports.specs.Texts.{Text}
 use Rattle.dx_model.specs.declared.facts.Fact.{Fact}
 use Rattle.dx_model.specs.declared.values.Value.{Value}
 use Rattle.dx_model.specs.Values.{Tuple}
-use Rattle.dx_ports.specs.Texts.{Text}
 use Rattle.dx_schema.specs.Names.{TableNames}
 use Rattle.dx_funcs.specs.declared.conversion.Conversion.{Conversion}
 use Rattle.dx_instance.specs.Cells.{NumberTable}
 use Rattle.dx_instance.specs.Numbers.{AreDistinctValues, Extends}
 use Rattle.dx_joins.specs.Shown.{MoreTuples, StandFor}
+use Rattle.dx_tgd.specs.Texts.{tuples_in}
 use Rattle.dx_script.specs.declared.form.Select.{Select}
 use Rattle.dx_script.specs.declared.form.Equal.{Equal}
 use Rattle.dx_script.specs.declared.form.Step.{Step}
 use Rattle.dx_script.specs.declared.form.Step.TheVariants.{Create, MatchRows, KeepRows, InsertRows}
 use Rattle.dx_script.specs.Fits.{MatchFits, SelectFits, EqualFits}
 use Rattle.dx_script.specs.Names.{table_names}
-use Rattle.dx_tgd.specs.Texts.{tuples_in}
 use Rattle.dx_eval.specs.declared.fault.EvalFault.{EvalFault}
 use Rattle.dx_eval.specs.declared.fault.EvalFault.TheVariants.{Limit, Memory}
 use Rattle.dx_eval.specs.Evaluating.{ScriptPassesLimit, script_cells}

@@ -1,9 +1,9 @@
 -- What insert steps make of the places of a rule.
 use Rattle.std.specs.Prelude.{◌≡◌, ℕ, ◌<◌, cond, eqb, List, [], length, map, flat_map, slice_index_or}
 use Rattle.dx_ports.specs.Members.{◌∈◌, Each}
+use Rattle.dx_ports.specs.Texts.{Text}
 use Rattle.dx_model.specs.declared.facts.Fact.{Fact}
 use Rattle.dx_model.specs.Values.{Tuple, Rows}
-use Rattle.dx_ports.specs.Texts.{Text}
 use Rattle.dx_schema.specs.Names.{TableNames}
 use Rattle.dx_script.specs.declared.form.Out.{Out}
 use Rattle.dx_script.specs.declared.form.Out.TheVariants.{Column, Literal, Skolem}

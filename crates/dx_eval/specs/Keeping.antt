@@ -3,6 +3,7 @@ use Rattle.std.specs.Prelude.{◌≡◌, ◌↔◌, ℕ, ◌<◌, List, [], ◌�
 use Rattle.dx_ports.specs.Members.{◌∈◌, Each}
 use Rattle.dx_model.specs.declared.values.Value.{Value}
 use Rattle.dx_model.specs.Values.{Tuple, Rows}
+use Rattle.dx_model.specs.Covers.{tuple_at}
 use Rattle.dx_instance.specs.Cells.{NumberTable, NumbersAscend, numbers_at}
 use Rattle.dx_instance.specs.Shown.{numbers_of_table}
 use Rattle.dx_joins.specs.Shown.{texts_of}
@@ -11,7 +12,6 @@ use Rattle.dx_script.specs.declared.form.Test.TheVariants.{Columns, Literal}
 use Rattle.dx_script.specs.declared.form.Unless.{Unless}
 use Rattle.dx_script.specs.declared.form.Step.{Step}
 use Rattle.dx_script.specs.Meaning.{IsInKeepTable, MakesTrue, in_column, match_table}
-use Rattle.dx_model.specs.Covers.{tuple_at}
 
 -- ---- partners
 

@@ -2,9 +2,10 @@
 use Rattle.std.specs.Prelude.{◌≡◌, ◌⊎◌, ℕ, List, length, map}
 use Rattle.dx_ports.specs.Members.{◌≈◌}
 use Rattle.dx_ports.specs.declared.file.Count.TheVariants.{TargetCells}
+use Rattle.dx_ports.specs.Texts.{Text}
 use Rattle.dx_model.specs.declared.facts.Fact.{Fact}
 use Rattle.dx_model.specs.Values.{Tuple, Rows}
-use Rattle.dx_ports.specs.Texts.{Text}
+use Rattle.dx_model.specs.Matches.{rows_of_matches}
 use Rattle.dx_schema.specs.Names.{TableNames}
 use Rattle.dx_instance.specs.Stored.{facts, widths}
 use Rattle.dx_script.specs.declared.form.Step.{Step}
@@ -13,7 +14,6 @@ use Rattle.dx_eval.specs.declared.made.Made.{Made}
 use Rattle.dx_eval.specs.declared.fault.EvalFault.{EvalFault}
 use Rattle.dx_eval.specs.declared.fault.EvalFault.TheVariants.{Limit}
 use Rattle.dx_eval.specs.Evaluating.{AreMatchTables, IsMade, ScriptPassesLimit}
-use Rattle.dx_model.specs.Matches.{rows_of_matches}
 
 -- two runs of a script on the same rows have the same matches and the same facts
 abbrev pub RunsAgree : Type 0

@@ -1,9 +1,8 @@
 -- The cells of a match step as variables: cells that are to be equal have one variable.
-use Rattle.std.specs.Prelude.{◌≡◌, ◌⊎◌, ℕ, ◌<◌, ◌^◌, cond, eqb, List, []}
-use Rattle.std.specs.Prelude.{length, map, sum, slice_index, slice_index_or}
+use Rattle.std.specs.Prelude.{◌≡◌, ◌⊎◌, ℕ, ◌<◌, ◌^◌, cond, eqb, List, [], length, map, sum, slice_index, slice_index_or}
 use Rattle.dx_ports.specs.Members.{Each}
-use Rattle.dx_model.specs.Values.{Tuple}
 use Rattle.dx_ports.specs.Texts.{Text}
+use Rattle.dx_model.specs.Values.{Tuple}
 use Rattle.dx_model.specs.Covers.{below}
 use Rattle.dx_schema.specs.Names.{TableNames}
 use Rattle.dx_script.specs.declared.form.CellRef.{CellRef}

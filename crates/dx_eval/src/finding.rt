@@ -1,15 +1,14 @@
 // The match tables of a script, within a limit on the cells that are inserted.
-ghost use Rattle.std.specs.Prelude.{◌≡◌, ◌↔◌, ◌<◌, ◌≤◌, ◌*◌, ◌^◌, ℕ};
-ghost use Rattle.std.specs.Prelude.{IfOk, IfErr, MatchOption, OnOk, Some, [], length};
+ghost use Rattle.std.specs.Prelude.{◌≡◌, ◌↔◌, ◌<◌, ◌≤◌, ◌*◌, ◌^◌, ℕ, IfOk, IfErr, MatchOption, OnOk, Some, [], length};
 ghost use Rattle.dx_ports.specs.declared.file.Count.TheVariants.{TargetCells};
 ghost use Rattle.dx_ports.specs.Members.{Each};
+ghost use Rattle.dx_schema.specs.Names.{table_names_of};
+ghost use Rattle.dx_schema.specs.Tables.{schema_widths};
 ghost use Rattle.dx_funcs.specs.Names.{call_named};
 ghost use Rattle.dx_funcs.specs.Serving.{Serves, offered};
 ghost use Rattle.dx_instance.specs.Numbers.{AreDistinctValues, Extends};
 ghost use Rattle.dx_instance.specs.Shown.{shown_tables};
 ghost use Rattle.dx_instance.specs.Stored.{facts, widths};
-ghost use Rattle.dx_schema.specs.Names.{table_names_of};
-ghost use Rattle.dx_schema.specs.Tables.{schema_widths};
 ghost use Rattle.dx_tgd.specs.Texts.{tuples_in};
 ghost use Rattle.dx_eval.specs.declared.fault.EvalFault.TheVariants.{Limit as Refused};
 ghost use Rattle.dx_eval.specs.Evaluating.{cells_for, inserted_cells, script_cells};

@@ -1,22 +1,21 @@
 // What insert steps make of the places that keep steps leave.
-ghost use Rattle.std.specs.Prelude.{◌≡◌, ◌↔◌, ◌<◌, ℕ, List, []};
-ghost use Rattle.std.specs.Prelude.{IfOk, OnOk, IsTrue, Bool, length, map, slice_index};
+ghost use Rattle.std.specs.Prelude.{◌≡◌, ◌↔◌, ◌<◌, ℕ, List, [], IfOk, OnOk, IsTrue, Bool, length, map, slice_index};
 ghost use Rattle.dx_ports.specs.Members.{◌∈◌, Each};
 ghost use Rattle.dx_ports.specs.Texts.{Text as AnyText};
 ghost use Rattle.dx_model.specs.declared.facts.Fact.{Fact as AnyFact};
+ghost use Rattle.dx_schema.specs.Names.{table_names_of};
+ghost use Rattle.dx_schema.specs.Tables.{schema_widths};
 ghost use Rattle.dx_instance.specs.Numbers.{Extends};
 ghost use Rattle.dx_instance.specs.Shown.{AreBelow, numbers_of_table, shown_row};
 ghost use Rattle.dx_instance.specs.Stored.{facts, widths};
 ghost use Rattle.dx_joins.specs.Shown.{AreTexts, texts_of};
-ghost use Rattle.dx_schema.specs.Names.{table_names_of};
-ghost use Rattle.dx_schema.specs.Tables.{schema_widths};
+ghost use Rattle.dx_tgd.specs.Gained.{GainsFacts};
+ghost use Rattle.dx_tgd.specs.Planned.{StandsAs, built};
+ghost use Rattle.dx_tgd.specs.Texts.{tuples_in};
 ghost use Rattle.dx_script.specs.declared.form.Out.{Out as AnyOut};
 ghost use Rattle.dx_script.specs.declared.form.Unless.{Unless as AnyUnless};
 ghost use Rattle.dx_script.specs.declared.form.Step.TheVariants.{InsertRows, KeepRows};
 ghost use Rattle.dx_script.specs.Meaning.{IsInserted, inserted};
-ghost use Rattle.dx_tgd.specs.Gained.{GainsFacts};
-ghost use Rattle.dx_tgd.specs.Planned.{StandsAs, built};
-ghost use Rattle.dx_tgd.specs.Texts.{tuples_in};
 ghost use Rattle.dx_eval.specs.Keeping.{PartStands};
 ghost use Rattle.dx_eval.specs.Inserting.{InsertStands, OutStands, facts_by, placed_fact};
 

@@ -6,9 +6,9 @@ ghost use Rattle.dx_instance.specs.Numbers.{AreDistinctValues, value_of};
 ghost use Rattle.dx_instance.specs.Cells.{NumbersAscend};
 ghost use Rattle.dx_instance.specs.Shown.{numbers_of_table};
 ghost use Rattle.dx_joins.specs.Shown.{AreTexts, texts_of};
+ghost use Rattle.dx_tgd.specs.Texts.{tuples_in};
 ghost use Rattle.dx_script.specs.declared.form.Unless.{Unless as AnyUnless};
 ghost use Rattle.dx_script.specs.declared.form.Step.TheVariants.{KeepRows};
-ghost use Rattle.dx_tgd.specs.Texts.{tuples_in};
 ghost use Rattle.dx_eval.specs.Keeping.{HoldsAlone, LacksPartner, LacksPartners, KeepsPlaces, PartStands, Stay, TestStands};
 ghost use Rattle.dx_eval.specs.Keeping.{column_numbers, own_columns};
 

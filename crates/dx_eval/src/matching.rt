@@ -1,14 +1,14 @@
 // The tuples of a match step, as rows of numbers.
 ghost use Rattle.std.specs.Prelude.{◌≡◌, ◌<◌, [], ◌∷◌, IfOk, MatchOption, length};
 ghost use Rattle.dx_ports.specs.Members.{◌∈◌, Each};
+ghost use Rattle.dx_schema.specs.Names.{table_names_of};
+ghost use Rattle.dx_schema.specs.Tables.{schema_widths};
 ghost use Rattle.dx_funcs.specs.Names.{call_named};
 ghost use Rattle.dx_funcs.specs.Serving.{Serves, offered};
 ghost use Rattle.dx_instance.specs.Numbers.{AreDistinctValues, Extends};
 ghost use Rattle.dx_instance.specs.Shown.{shown_tables};
 ghost use Rattle.dx_instance.specs.Stored.{facts, widths};
 ghost use Rattle.dx_joins.specs.Shown.{MoreTuples, StandFor};
-ghost use Rattle.dx_schema.specs.Names.{table_names_of};
-ghost use Rattle.dx_schema.specs.Tables.{schema_widths};
 ghost use Rattle.dx_script.specs.Fits.{SelectFits, EqualFits};
 ghost use Rattle.dx_script.specs.Names.{table_names};
 ghost use Rattle.dx_eval.specs.Query.{IsSelected};

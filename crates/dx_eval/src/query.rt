@@ -2,9 +2,9 @@
 ghost use Rattle.std.specs.Prelude.{◌≡◌, ◌<◌, ◌^◌, ◌+◌, IfOk, map};
 ghost use Rattle.dx_ports.specs.Members.{◌∈◌, Each};
 ghost use Rattle.dx_model.specs.declared.rules.Cell.TheVariants.{Var};
+ghost use Rattle.dx_schema.specs.Names.{table_names_of};
 ghost use Rattle.dx_funcs.specs.Names.{first_named};
 ghost use Rattle.dx_funcs.specs.Serving.{offered};
-ghost use Rattle.dx_schema.specs.Names.{table_names_of};
 ghost use Rattle.dx_script.specs.Fits.{CellFits, SelectFits, EqualFits};
 ghost use Rattle.dx_script.specs.Names.{table_names};
 ghost use Rattle.dx_eval.specs.Variables.{AreWide, variable_of};

@@ -1,11 +1,11 @@
 // A run of a script.
 ghost use Rattle.std.specs.Prelude.{◌≡◌, ℕ, IfOk, IfErr};
 ghost use Rattle.dx_model.specs.Values.{RowsAscend};
+ghost use Rattle.dx_schema.specs.Names.{table_names_of};
+ghost use Rattle.dx_schema.specs.Tables.{schema_widths};
 ghost use Rattle.dx_funcs.specs.Names.{call_named};
 ghost use Rattle.dx_funcs.specs.Serving.{Serves, offered};
 ghost use Rattle.dx_instance.specs.Stored.{facts, rows_of, widths};
-ghost use Rattle.dx_schema.specs.Names.{table_names_of};
-ghost use Rattle.dx_schema.specs.Tables.{schema_widths};
 ghost use Rattle.dx_script.specs.Fits.{FitsScript};
 ghost use Rattle.dx_eval.specs.Evaluating.{IsMade};
 ghost use Rattle.dx_eval.specs.Finding.{IsEvalRefusal};

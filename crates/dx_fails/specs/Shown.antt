@@ -8,11 +8,11 @@ use Rattle.dx_model.specs.Chase.{Break}
 use Rattle.dx_model.specs.Tables.{Determination, Table, values_in, determination_at}
 use Rattle.dx_instance.specs.Stored.{TableRows, facts, rows_of, widths}
 use Rattle.dx_instance.specs.Places.{row_at, value_at, fact_at}
+use Rattle.dx_holds.specs.Columns.{RowsAgree, RowsLead}
 use Rattle.dx_fails.specs.declared.alone.LoneRow.{LoneRow}
 use Rattle.dx_fails.specs.declared.broken.Apart.{Apart}
 use Rattle.dx_fails.specs.declared.broken.BrokenKey.{BrokenKey}
 use Rattle.dx_fails.specs.declared.determining.Determines.{Determines}
-use Rattle.dx_holds.specs.Columns.{RowsAgree, RowsLead}
 use Rattle.dx_fails.specs.Firsts.{DeterminationHolds, HasDetermination, HasLink, HasLinked, IsFirstFailing, LinkHolds, link_at}
 
 -- the first determination that does not hold, and two rows that agree on its left and differ in a column of its right

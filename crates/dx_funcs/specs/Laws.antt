@@ -1,9 +1,9 @@
 -- What holds of each offer: its names and codes tell its conversions.
 use Rattle.std.specs.Prelude.{◌≡◌, ℕ, List, Some, map}
 use Rattle.dx_ports.specs.Members.{◌∈◌}
+use Rattle.dx_ports.specs.Texts.{Text}
 use Rattle.dx_funcs.specs.declared.conversion.Conversion.{Conversion}
 use Rattle.dx_funcs.specs.Names.{call_named, conversion_name, first_named}
-use Rattle.dx_ports.specs.Texts.{Text}
 use Rattle.dx_funcs.specs.Offers.{IsOffer}
 
 -- a name or a code tells which listed conversion it is

@@ -1,11 +1,11 @@
 -- Keys, dependencies and links of one table, by the places of rows.
 use Rattle.std.specs.Prelude.{◌≡◌, ℕ, ◌<◌, List, Some, length}
+use Rattle.dx_ports.specs.Members.{◌∈◌, Each}
 use Rattle.dx_model.specs.declared.values.Value.{Value}
 use Rattle.dx_model.specs.declared.tables.Key.{Key}
 use Rattle.dx_model.specs.declared.tables.Dep.{Dep}
 use Rattle.dx_model.specs.declared.tables.Link.{Link}
 use Rattle.dx_model.specs.Tables.{values_in}
-use Rattle.dx_ports.specs.Members.{◌∈◌, Each}
 use Rattle.dx_schema.specs.Tables.{TableOf}
 use Rattle.dx_instance.specs.Stored.{TableRows, rows_of, table_at}
 use Rattle.dx_instance.specs.Places.{HasValues, IsFirstWith, row_at}

@@ -1,12 +1,12 @@
 -- A search for values of existential variables.
 use Rattle.std.specs.Prelude.{◌≡◌, ◌↔◌, ℕ, ◌<◌, ◌≤◌, List, [], ◌++◌, Option, Some, None, drop, length, map, slice_index_or}
 use Rattle.dx_ports.specs.Members.{◌∈◌, Distinct, Each, IsPrefix}
+use Rattle.dx_ports.specs.Texts.{Text}
 use Rattle.dx_model.specs.declared.values.Value.{Value}
 use Rattle.dx_model.specs.declared.facts.Fact.{Fact}
 use Rattle.dx_model.specs.declared.rules.Atom.{Atom}
 use Rattle.dx_model.specs.declared.rules.Cell.TheVariants.{Ex}
 use Rattle.dx_model.specs.Values.{Tuple}
-use Rattle.dx_ports.specs.Texts.{Text}
 use Rattle.dx_model.specs.Rules.{cell_value, cells_of, fact_of_atom, text_of, variables, atom_at}
 use Rattle.dx_instance.specs.Stored.{TableRows, facts, rows_of, table_at}
 use Rattle.dx_instance.specs.Places.{row_at, value_at}

@@ -1,14 +1,14 @@
 -- What is said of g by cells that hold its values.
 use Rattle.std.specs.Prelude.{◌≡◌, ◌↔◌, ℕ, ◌<◌, ◌≤◌, List, [], ◌∷◌, ◌++◌, length, map, Some, Bool, MatchBool}
-use Rattle.dx_model.specs.declared.values.NullId.{NullId}
-use Rattle.dx_model.specs.declared.values.Value.{Value}
-use Rattle.dx_instance.specs.NullMaps.{ByNull}
 use Rattle.std.specs.FinMap as finite
 use Rattle.dx_ports.specs.Members.{◌∈◌, ◌⊆◌, Distinct, IsPrefix}
-use Rattle.dx_hom.specs.declared.matching.Found.{Found}
+use Rattle.dx_model.specs.declared.values.NullId.{NullId}
+use Rattle.dx_model.specs.declared.values.Value.{Value}
+use Rattle.dx_model.specs.Instances.{moved, nulls_in}
+use Rattle.dx_instance.specs.NullMaps.{ByNull}
 use Rattle.dx_instance.specs.Stored.{TableRows, rows_of, table_at}
 use Rattle.dx_instance.specs.Places.{row_at, value_at}
-use Rattle.dx_model.specs.Instances.{moved, nulls_in}
+use Rattle.dx_hom.specs.declared.matching.Found.{Found}
 use Rattle.dx_hom.specs.Bound.{BindingState}
 
 -- the nulls that were found

@@ -1,16 +1,16 @@
 -- What a search asks and answers.
 use Rattle.std.specs.Prelude.{◌≡◌, ℕ, ◌<◌, ◌≤◌, Bool, false, MatchBool, MatchOption, Option, Some, List, [], length}
+use Rattle.std.specs.FinMap as finite
+use Rattle.dx_ports.specs.Members.{◌∈◌, ◌⊆◌}
 use Rattle.dx_model.specs.declared.values.NullId.{NullId}
 use Rattle.dx_model.specs.declared.values.Value.{Value}
 use Rattle.dx_model.specs.declared.facts.Fact.{Fact}
-use Rattle.dx_instance.specs.NullMaps.{ByNull}
-use Rattle.std.specs.FinMap as finite
-use Rattle.dx_ports.specs.Members.{◌∈◌, ◌⊆◌}
 use Rattle.dx_model.specs.Instances.{fact_moved, moved, values, nulls_in}
-use Rattle.dx_hom.specs.declared.matching.Found.{Found}
+use Rattle.dx_instance.specs.NullMaps.{ByNull}
 use Rattle.dx_instance.specs.Stored.{TableRows, rows_of, table_at}
-use Rattle.dx_hom.specs.View.{gone_at}
 use Rattle.dx_instance.specs.Places.{fact_at}
+use Rattle.dx_hom.specs.declared.matching.Found.{Found}
+use Rattle.dx_hom.specs.View.{gone_at}
 use Rattle.dx_hom.specs.Bound.{BindingState}
 use Rattle.dx_hom.specs.Narrowing.{found_nulls, null_value, IsGood, ExtendsPartialMap, Narrows}
 

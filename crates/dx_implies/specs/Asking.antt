@@ -2,12 +2,12 @@
 use Rattle.std.specs.Prelude.{◌≡◌, ℕ, ◌<◌, List, length}
 use Rattle.std.specs.List.{AllZip}
 use Rattle.dx_ports.specs.Members.{◌∈◌}
+use Rattle.dx_ports.specs.Texts.{Text}
 use Rattle.dx_model.specs.declared.values.Value.{Value}
 use Rattle.dx_model.specs.declared.values.Value.TheVariants.{Const}
 use Rattle.dx_model.specs.declared.rules.Cell.{Cell}
 use Rattle.dx_model.specs.declared.rules.Cell.TheVariants.{Var, Ex, Lit}
 use Rattle.dx_model.specs.declared.rules.Atom.{Atom}
-use Rattle.dx_ports.specs.Texts.{Text}
 use Rattle.dx_instance.specs.Numbers.{value_of}
 use Rattle.dx_instance.specs.Cells.{NumberTable}
 use Rattle.dx_instance.specs.Shown.{numbers_of_table}

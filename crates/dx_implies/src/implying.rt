@@ -9,9 +9,9 @@ ghost use Rattle.dx_model.specs.Rules.{AreRows, canonical, fact_of_atom};
 ghost use Rattle.dx_model.specs.Values.{Conversions};
 ghost use Rattle.dx_schema.specs.Tables.{model_tables, schema_widths};
 ghost use Rattle.dx_instance.specs.Stored.{facts, widths};
-ghost use Rattle.dx_solver.specs.Questions.{HasImageRow};
 ghost use Rattle.dx_tgd.specs.Counting.{canonical_cells};
 ghost use Rattle.dx_tgd.specs.Found.{IsCanonicalRefusal as IsTooLarge};
+ghost use Rattle.dx_solver.specs.Questions.{HasImageRow};
 ghost use Rattle.dx_implies.specs.Asking.{AtomFitsTable};
 ghost use Rattle.dx_implies.specs.Frozen.{IsFrozenRefusal, PassesFrozen};
 

@@ -1,11 +1,11 @@
 -- Rows of numbers, as they lie one after the other.
 use Rattle.std.specs.Prelude.{◌≡◌, ℕ, zero, suc, ◌+◌, ◌*◌, ◌%◌, ◌^◌, ◌<◌, List, [], ◌∷◌, ◌++◌, length, take, drop, fold, slice_index, slice_index_or, Option, MatchOption}
 use Rattle.std.specs.Prelude.{false}
-use Rattle.dx_ports.specs.Members.{◌∈◌, ◌⊆◌, Each}
 use Rattle.std.specs.Ordering.{is_lt, nat_cmp}
 use Rattle.std.specs.Cmp.Lexicographic.{slice_cmp}
 use Rattle.std.specs.List.{AllPairs}
 use Rattle.std.specs.declared.cmp.Ordering.TheVariants.{Less}
+use Rattle.dx_ports.specs.Members.{◌∈◌, ◌⊆◌, Each}
 
 -- a table of numbers: how many columns it has, and its rows
 pub record NumberTable : Type 0 where

@@ -1,9 +1,9 @@
 -- Images of instances under null maps.
 use Rattle.std.specs.Prelude.{◌≡◌, ℕ, ◌<◌, List, length, slice_index}
+use Rattle.dx_ports.specs.Members.{◌≈◌}
 use Rattle.dx_model.specs.declared.values.Value.{Value}
 use Rattle.dx_model.specs.Instances.{image, moved}
 use Rattle.dx_model.specs.Values.{RowsAscend}
-use Rattle.dx_ports.specs.Members.{◌≈◌}
 use Rattle.dx_instance.specs.NullMaps.{ByNull, becomes, pairs_of}
 use Rattle.dx_instance.specs.Numbers.{value_of}
 use Rattle.dx_instance.specs.Stored.{TableRows, facts, rows_of, widths}

@@ -1,11 +1,11 @@
 -- The laws of instances, null maps and value texts. Each is the clause of a public function with an empty body.
 use Rattle.std.specs.Prelude.{◌≡◌, ◌↔◌, ℕ, List, length, map}
+use Rattle.dx_ports.specs.Members.{Each}
 use Rattle.dx_model.specs.declared.values.NullId.{NullId}
 use Rattle.dx_model.specs.declared.values.Value.{Value}
 use Rattle.dx_model.specs.Instances.{given}
 use Rattle.dx_model.specs.Tables.{IsInstance, Table}
 use Rattle.dx_model.specs.Values.{FactsAscend, RowsAscend}
-use Rattle.dx_ports.specs.Members.{Each}
 use Rattle.dx_instance.specs.NullMaps.{ByNull, becomes, pairs_of}
 use Rattle.dx_instance.specs.Stored.{TableRows, facts, rows_of, widths}
 use Rattle.dx_instance.specs.ValueText.{IsNoValueText, ValueFits, value_text_of}

@@ -3,8 +3,8 @@ use Rattle.std.specs.Prelude.{◌≡◌, ℕ, ◌<◌, ◌≤◌, List, [], map,
 use Rattle.dx_model.specs.declared.values.Value.{Value}
 use Rattle.dx_model.specs.Covers.{same_value}
 use Rattle.dx_model.specs.Tables.{cell, values_in}
-use Rattle.dx_instance.specs.Stored.{TableRows, rows_of}
 use Rattle.dx_model.specs.declared.facts.Fact.{Fact}
+use Rattle.dx_instance.specs.Stored.{TableRows, rows_of}
 
 -- the row at a place of a table
 abbrev pub row_at : List TableRows → ℕ → ℕ → List Value

@@ -4,10 +4,10 @@ ghost use Rattle.std.specs.Bool.{OnTrue};
 ghost use Rattle.std.specs.FinMap as finite;
 ghost use Rattle.std.specs.Option.{option_copied};
 ghost use Rattle.std.specs.declared.cmp.Ordering.TheVariants.{Less};
+ghost use Rattle.dx_ports.specs.Members.{Each};
 ghost use Rattle.dx_model.specs.Instances.{given};
 ghost use Rattle.dx_model.specs.Values.{null_cmp};
 ghost use Rattle.dx_model.specs.declared.values.NullId.{NullId as Id};
-ghost use Rattle.dx_ports.specs.Members.{Each};
 ghost use Rattle.dx_instance.specs.NullMaps.{IsMergeStep, NoPairIsItself, PairsAscend, entries_in, is_itself, with_proper};
 
 use dx_model::{NullId, NullPair, Value, copy_value};

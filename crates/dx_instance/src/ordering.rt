@@ -1,8 +1,8 @@
 // Values put in order, their texts in one buffer.
 ghost use Rattle.std.specs.Prelude.{◌≡◌, ◌≤◌, ◌-◌, ◌<◌, ◌^◌, ℕ, IfOk, IfSome, IsUtf8, OnOk, length, map, slice_index, string_bytes, take, drop, ◌++◌};
 ghost use Rattle.std.specs.Int.{to_be_bytes, w64};
-ghost use Rattle.dx_model.specs.declared.values.Value.TheVariants.{Const};
 ghost use Rattle.dx_ports.specs.Members.{Each};
+ghost use Rattle.dx_model.specs.declared.values.Value.TheVariants.{Const};
 ghost use Rattle.dx_instance.specs.Keys.{AreSmall, IsSmallSecond, IsSmallValue, NumbersAreKeyed, ValuesAreKeyed, packed, places_of, second_key, value_key};
 ghost use Rattle.dx_instance.specs.Numbers.{IsOrdering, value_of};
 ghost use Rattle.dx_instance.specs.Ranks.{AreDistinct, AreEnds, AreLengths, IsShortLength, LiesInBuffer, joined_texts, text_of_value};

@@ -2,8 +2,8 @@
 ghost use Rattle.std.specs.Prelude.{◌≡◌, ◌<◌, ◌≤◌, ◌^◌, ℕ, [], ◌∷◌, ◌++◌, IfOk, IfSome, OnOk, OnErr, Some, length, slice_index};
 ghost use Rattle.std.specs.Bool.{OnTrue};
 ghost use Rattle.std.specs.declared.cmp.Ordering.TheVariants.{Less};
-ghost use Rattle.dx_model.specs.Values.{value_cmp};
 ghost use Rattle.dx_ports.specs.Members.{Each, ◌∈◌};
+ghost use Rattle.dx_model.specs.Values.{value_cmp};
 ghost use Rattle.dx_instance.specs.Numbers.{AreDistinctValues, Extends, IsConstant, IsNumberOf, IsOrdering, IsSomeNull, ValuesAscend, value_of};
 
 use crate::hints::hint_of;

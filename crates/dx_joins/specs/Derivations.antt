@@ -2,13 +2,13 @@
 use Rattle.std.specs.Prelude.{◌≡◌, ◌⊎◌, ℕ, Bool, List, [], ◌++◌, length, map, slice_index_or}
 use Rattle.std.specs.List.{range_with_len}
 use Rattle.dx_ports.specs.Members.{◌∈◌}
+use Rattle.dx_ports.specs.Texts.{Text}
 use Rattle.dx_model.specs.declared.values.Value.{Value}
-use Rattle.dx_joins.specs.Collecting.{Collection, Collects}
-use Rattle.dx_joins.specs.Shown.{AreTexts, texts_of}
 use Rattle.dx_model.specs.declared.rules.Derived.{Derived}
 use Rattle.dx_model.specs.Values.{Conversions, Tuple}
-use Rattle.dx_ports.specs.Texts.{Text}
 use Rattle.dx_model.specs.Rules.{text_of}
+use Rattle.dx_joins.specs.Collecting.{Collection, Collects}
+use Rattle.dx_joins.specs.Shown.{AreTexts, texts_of}
 
 -- the text of a derived variable, if these variables have the texts of a tuple
 abbrev pub derived_value : Conversions → List ℕ → Derived → Tuple → Text

@@ -1,6 +1,7 @@
 -- What the matches of a premise give to variables, as texts and as rows of numbers that stand for texts.
 use Rattle.std.specs.Prelude.{◌≡◌, ◌↔◌, ◌<◌, ◌+◌, ◌^◌, ℕ, Bool, true, false, List, [], ◌∷◌, length, map, flat_map}
 use Rattle.dx_ports.specs.Members.{◌∈◌, Distinct, Each}
+use Rattle.dx_ports.specs.Texts.{Text}
 use Rattle.dx_model.specs.declared.values.Value.{Value}
 use Rattle.dx_model.specs.declared.values.Value.TheVariants.{Const, Null}
 use Rattle.dx_model.specs.declared.facts.Fact.{Fact}
@@ -8,7 +9,6 @@ use Rattle.dx_model.specs.declared.rules.Cell.TheVariants.{Var}
 use Rattle.dx_model.specs.declared.rules.Atom.{Atom}
 use Rattle.dx_model.specs.declared.rules.Derived.{Derived}
 use Rattle.dx_model.specs.Values.{Conversions, Tuple}
-use Rattle.dx_ports.specs.Texts.{Text}
 use Rattle.dx_model.specs.Tables.{AreWithin}
 use Rattle.dx_model.specs.Rules.{Derive, after_cells, cells_of, premise_fact}
 use Rattle.dx_model.specs.Fitting.{AtomsFitWidths, IsVariable, cell_variable}
@@ -16,8 +16,8 @@ use Rattle.dx_instance.specs.Numbers.{value_of}
 use Rattle.dx_instance.specs.Cells.{NumberTable, NumbersAscend}
 use Rattle.dx_instance.specs.Shown.{NumberedInstance, shown_tables}
 use Rattle.dx_instance.specs.Stored.{facts}
-use Rattle.dx_joins.specs.declared.pattern.Pattern.{Pattern}
 use Rattle.dx_instance.specs.Ranks.{text_of_value}
+use Rattle.dx_joins.specs.declared.pattern.Pattern.{Pattern}
 
 -- whether a value is a text
 abbrev pub is_text : Value → Bool

@@ -9,8 +9,8 @@ ghost use Rattle.dx_funcs.specs.Offers.{IsListed};
 ghost use Rattle.dx_funcs.specs.Serving.{Serves, offered};
 ghost use Rattle.dx_instance.specs.Numbers.{AreDistinctValues, Extends, value_of};
 ghost use Rattle.dx_instance.specs.Shown.{AreBelow};
-ghost use Rattle.dx_joins.specs.Shown.{AreTexts, texts_of};
 ghost use Rattle.dx_instance.specs.Ranks.{text_of_value};
+ghost use Rattle.dx_joins.specs.Shown.{AreTexts, texts_of};
 ghost use Rattle.dx_joins.specs.Derivations.{derived_value, with_derived};
 
 use crate::plan::place;

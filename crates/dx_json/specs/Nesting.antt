@@ -2,12 +2,12 @@
 use Rattle.std.specs.Prelude.{◌≡◌, ℕ, suc, ◌+◌, List, [], ◌∷◌, ◌++◌, Bool, true, false, drop, filter, if◌then◌else◌}
 use Rattle.serde_json.specs.Data.{string, array, object, Items, no_items, item, Members, no_members, put}
 use Rattle.serde_json.specs.Written.{compact_text}
+use Rattle.dx_ports.specs.Texts.{Text}
 use Rattle.dx_model.specs.declared.values.Value.{Value}
 use Rattle.dx_model.specs.Covers.{same_value}
 use Rattle.dx_model.specs.Tables.{cell}
 use Rattle.dx_schema.specs.Forest.{Label, Forest, Tree, none, set, has_sets}
 use Rattle.dx_schema.specs.Tables.{count, tree_at}
-use Rattle.dx_ports.specs.Texts.{Text}
 use Rattle.dx_instance.specs.Stored.{IsSorting, TableRows, rows_of}
 use Rattle.dx_instance.specs.ValueText.{value_text_of}
 

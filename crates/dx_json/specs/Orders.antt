@@ -5,11 +5,11 @@ use Rattle.std.specs.BTreeMap.{BTreeMap}
 use Rattle.std.specs.Ordering.{nat_cmp, match_ordering}
 use Rattle.std.specs.Cmp.Lexicographic.{slice_cmp}
 use Rattle.serde_json.specs.Data.{Data, string, array, Members, no_members, member}
+use Rattle.dx_ports.specs.Texts.{Text}
 use Rattle.dx_model.specs.declared.values.Value.{Value}
 use Rattle.dx_model.specs.Tables.{cell}
 use Rattle.dx_schema.specs.Forest.{Label, Forest, Tree, none, set, bare_set}
 use Rattle.dx_schema.specs.Tables.{count}
-use Rattle.dx_ports.specs.Texts.{Text}
 use Rattle.dx_instance.specs.Stored.{TableRows, table_at}
 use Rattle.dx_instance.specs.ValueText.{value_text_of}
 use Rattle.dx_json.specs.declared.orders.Source.{Source}

@@ -1,7 +1,6 @@
 -- What holds of verdicts. Each law is the clause of a public function with an empty body.
 use Rattle.std.specs.Prelude.{◌≡◌, List}
 use Rattle.dx_ports.specs.Members.{◌≈◌}
-use Rattle.dx_funcs.specs.declared.conversion.Conversion.{Conversion}
 use Rattle.dx_model.specs.declared.facts.Fact.{Fact}
 use Rattle.dx_model.specs.declared.rules.Rule.{Rule}
 use Rattle.dx_model.specs.Values.{Conversions, Rows}
@@ -10,8 +9,9 @@ use Rattle.dx_model.specs.Tables.{IsInstance, Table}
 use Rattle.dx_model.specs.Rules.{AreRows, canonical}
 use Rattle.dx_model.specs.Chase.{NoneReceives}
 use Rattle.dx_model.specs.Solutions.{IsSolution, IsUniversal}
-use Rattle.dx_exchange.specs.Exchanging.{Fits}
 use Rattle.dx_stages.specs.Laws.{IsDecided}
+use Rattle.dx_funcs.specs.declared.conversion.Conversion.{Conversion}
+use Rattle.dx_exchange.specs.Exchanging.{Fits}
 use Rattle.dx_judge.specs.declared.verdict.Why.{Why}
 use Rattle.dx_judge.specs.declared.verdict.Why.TheVariants as whys
 use Rattle.dx_judge.specs.declared.verdict.Verdict.{Verdict}

@@ -1,16 +1,16 @@
 // The verdict on an instance.
 ghost use Rattle.std.specs.Prelude.{◌≡◌, ◌<◌, ◌-◌, ◌^◌, ℕ, List, IfOk, length};
 ghost use Rattle.dx_ports.specs.Members.{Each, ◌≈◌};
-ghost use Rattle.dx_funcs.specs.Serving.{Serves, offered};
 ghost use Rattle.dx_model.specs.declared.facts.Fact.{Fact as FactRow};
 ghost use Rattle.dx_model.specs.Chase.{NoneReceives};
 ghost use Rattle.dx_model.specs.Fitting.{AtomsFitWidths};
 ghost use Rattle.dx_model.specs.Rules.{AreRows, canonical};
 ghost use Rattle.dx_model.specs.Solutions.{IsClosed};
 ghost use Rattle.dx_model.specs.Values.{Conversions};
-ghost use Rattle.dx_schema.specs.Tables.{model_tables, schema_widths};
-ghost use Rattle.dx_instance.specs.Stored.{facts, widths};
 ghost use Rattle.dx_stages.specs.Running.{Answers};
+ghost use Rattle.dx_schema.specs.Tables.{model_tables, schema_widths};
+ghost use Rattle.dx_funcs.specs.Serving.{Serves, offered};
+ghost use Rattle.dx_instance.specs.Stored.{facts, widths};
 ghost use Rattle.dx_exchange.specs.Exchanging.{Fits};
 ghost use Rattle.dx_judge.specs.Parts.{IsChasedOf, IsSolutionVerdict, IsUniversalOne};
 ghost use Rattle.dx_judge.specs.Verdicts.{IsVerdict, judging};

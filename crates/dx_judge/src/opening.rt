@@ -3,8 +3,8 @@ ghost use Rattle.std.specs.Prelude.{◌≡◌, ◌↔◌, ◌<◌, ◌^◌, ◌�
 ghost use Rattle.dx_ports.specs.Members.{Each};
 ghost use Rattle.dx_model.specs.Fitting.{AtomsFitWidths};
 ghost use Rattle.dx_model.specs.Rules.{exported as exported_of};
-ghost use Rattle.dx_instance.specs.Stored.{facts, widths};
 ghost use Rattle.dx_model.specs.Matches.{rows_of_matches};
+ghost use Rattle.dx_instance.specs.Stored.{facts, widths};
 ghost use Rattle.dx_judge.specs.Turning.{IsTurnedOne};
 ghost use Rattle.dx_judge.specs.Open.{TuplesFitRules, IsFirstOpen, IsFirstTuple, TupleHolds};
 

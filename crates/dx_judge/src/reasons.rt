@@ -3,10 +3,10 @@ ghost use Rattle.std.specs.Prelude.{◌≡◌, ◌<◌, ◌≤◌, ◌^◌, ℕ,
 ghost use Rattle.dx_ports.specs.Members.{Each};
 ghost use Rattle.dx_model.specs.Fitting.{AtomsFitWidths};
 ghost use Rattle.dx_model.specs.Values.{RowsAscend};
+ghost use Rattle.dx_model.specs.Matches.{rows_of_matches};
 ghost use Rattle.dx_schema.specs.Tables.{model_tables, schema_widths};
 ghost use Rattle.dx_instance.specs.Stored.{facts, rows_of, widths};
 ghost use Rattle.dx_fails.specs.Shown.{IsBrokenKey, IsLoneRow};
-ghost use Rattle.dx_model.specs.Matches.{rows_of_matches};
 ghost use Rattle.dx_judge.specs.Open.{TuplesFitRules, IsFirstReason, IsKeyFault, IsKeyOrLink, IsLinkFault};
 
 use crate::opening::first_open;

@@ -2,11 +2,11 @@
 ghost use Rattle.std.specs.Prelude.{◌≡◌, ◌<◌, IfOk, length, map};
 ghost use Rattle.dx_ports.specs.Members.{Each};
 ghost use Rattle.dx_model.specs.Tables.{cell};
-ghost use Rattle.dx_chase.specs.Joins.{nth};
 ghost use Rattle.dx_instance.specs.NullMaps.{pairs_of};
 ghost use Rattle.dx_instance.specs.Numbers.{ValuesAscend};
 ghost use Rattle.dx_instance.specs.Shown.{PartsFit, NumberRowsFit, renumbered, shown_tables};
 ghost use Rattle.dx_instance.specs.Stored.{IsSorting};
+ghost use Rattle.dx_chase.specs.Joins.{nth};
 ghost use Rattle.dx_keys.specs.Numbers.{AreNumberRoots, null_map_of, null_of, steps_of};
 
 use dx_chase::Step;

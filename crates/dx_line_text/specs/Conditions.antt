@@ -3,11 +3,11 @@ use Rattle.std.specs.Prelude.{ℕ, List, [], ◌∷◌, Option, cond, map, nat_e
 use Rattle.std.specs.Cmp.Lexicographic.{pointwise}
 use Rattle.dx_ports.specs.Firsts.{first_of}
 use Rattle.dx_ports.specs.Members.{◌∈◌}
-use Rattle.dx_schema.specs.Forest.{Forest}
 use Rattle.dx_ports.specs.Texts.{Text}
+use Rattle.dx_schema.specs.Forest.{Forest}
+use Rattle.dx_funcs.specs.declared.row_test.RowTest.{RowTest}
 use Rattle.dx_tokens.specs.declared.faults.TextFault.{TextFault}
 use Rattle.dx_schema_text.specs.declared.texts.OnlyText.{OnlyText}
-use Rattle.dx_funcs.specs.declared.row_test.RowTest.{RowTest}
 use Rattle.dx_lines.specs.declared.line.Condition.{Condition}
 use Rattle.dx_line_text.specs.Naming.{name_fault, place_fault, place_of_text}
 

@@ -1,10 +1,14 @@
 -- What the words of lines name: the first that is at fault, and the lines by numbers.
 use Rattle.std.specs.Prelude.{ℕ, List, [], ◌∷◌, Option, Some, None, cond, eqb, length, map, nat_eq}
 use Rattle.std.specs.Cmp.Lexicographic.{pointwise}
+use Rattle.dx_ports.specs.Texts.{Text}
+use Rattle.dx_ports.specs.Firsts.{first_of}
 use Rattle.dx_schema.specs.Forest.{Forest}
 use Rattle.dx_schema.specs.Tables.{TableOf, tables_of, schema_table, number_of_name}
-use Rattle.dx_ports.specs.Texts.{Text}
 use Rattle.dx_schema.specs.Faults.{is_among}
+use Rattle.dx_funcs.specs.declared.conversion.Conversion.{Conversion}
+use Rattle.dx_funcs.specs.Names.{first_named}
+use Rattle.dx_funcs.specs.Offers.{IsListed}
 use Rattle.dx_tokens.specs.declared.faults.TextFault.{TextFault}
 use Rattle.dx_tokens.specs.declared.faults.TextFault.TheVariants.{At}
 use Rattle.dx_tokens.specs.declared.faults.TextKind.TheVariants.{UnknownName, Width}
@@ -12,14 +16,10 @@ use Rattle.dx_schema_text.specs.declared.texts.PlaceText.{PlaceText}
 use Rattle.dx_schema_text.specs.declared.texts.SourceText.{SourceText}
 use Rattle.dx_schema_text.specs.declared.texts.SourceText.TheVariants as sources
 use Rattle.dx_schema_text.specs.declared.texts.LineText.{LineText}
-use Rattle.dx_funcs.specs.declared.conversion.Conversion.{Conversion}
-use Rattle.dx_funcs.specs.Names.{first_named}
-use Rattle.dx_funcs.specs.Offers.{IsListed}
 use Rattle.dx_lines.specs.declared.line.Place.{Place}
 use Rattle.dx_lines.specs.declared.line.Origin.{Origin}
 use Rattle.dx_lines.specs.declared.line.Origin.TheVariants as origins
 use Rattle.dx_lines.specs.declared.line.Line.{Line}
-use Rattle.dx_ports.specs.Firsts.{first_of}
 
 -- ---- names
 

@@ -2,8 +2,8 @@
 ghost use Rattle.std.specs.Prelude.{◌≡◌, ◌⊎◌, None, Some, IfErr, IfOk, OnOk};
 ghost use Rattle.dx_ports.specs.Members.{Each};
 ghost use Rattle.dx_schema.specs.Tables.{model_tables};
-ghost use Rattle.dx_tokens.specs.declared.faults.TextFault.TheVariants.{Memory};
 ghost use Rattle.dx_funcs.specs.Judging.{tested};
+ghost use Rattle.dx_tokens.specs.declared.faults.TextFault.TheVariants.{Memory};
 ghost use Rattle.dx_lines.specs.Limits.{IsSchemaColumn};
 ghost use Rattle.dx_line_text.specs.Answers.{AnswersOrFault};
 ghost use Rattle.dx_line_text.specs.Naming.{name_fault};

@@ -2,9 +2,9 @@
 ghost use Rattle.std.specs.Prelude.{◌≡◌, ◌⊎◌, None, Some, IfErr, IfOk, OnOk};
 ghost use Rattle.dx_ports.specs.Members.{Each};
 ghost use Rattle.dx_schema.specs.Tables.{model_tables};
-ghost use Rattle.dx_tokens.specs.declared.faults.TextFault.TheVariants.{Memory};
 ghost use Rattle.dx_funcs.specs.Names.{first_named};
 ghost use Rattle.dx_funcs.specs.Serving.{offered};
+ghost use Rattle.dx_tokens.specs.declared.faults.TextFault.TheVariants.{Memory};
 ghost use Rattle.dx_lines.specs.Limits.{LineFits};
 ghost use Rattle.dx_line_text.specs.Answers.{ReadsOrMemory};
 ghost use Rattle.dx_line_text.specs.Naming.{source_call_fault, call_of, line_fault, line_of_text, lines_fault, lines_of, origin_of, source_fault, IsOffered};

@@ -5,10 +5,10 @@ use Rattle.dx_ports.specs.declared.file.Limit.{Limit}
 use Rattle.dx_ports.specs.declared.file.Count.TheVariants.{Variants, Occurrences, Ways, Candidates}
 use Rattle.dx_ports.specs.Members.{Each}
 use Rattle.dx_model.specs.Tables.{Table, table_of}
-use Rattle.dx_lines.specs.declared.line.Place.{Place}
-use Rattle.dx_lines.specs.declared.line.Line.{Line}
 use Rattle.dx_logical.specs.declared.relation.Relation.{Relation}
 use Rattle.dx_logical.specs.Unfolding.{variants_of}
+use Rattle.dx_lines.specs.declared.line.Place.{Place}
+use Rattle.dx_lines.specs.declared.line.Line.{Line}
 use Rattle.dx_lines.specs.Ways.{named_columns}
 use Rattle.dx_lines.specs.Candidates.{upto, all_variants, pair_ways, candidates_of}
 

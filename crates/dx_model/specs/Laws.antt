@@ -1,5 +1,7 @@
 -- The laws of the book. Each is the clause of a public function with an empty body.
 use Rattle.std.specs.Prelude.{◌≡◌, ◌↔◌, ℕ, suc, ◌<◌, ◌≤◌, ◌⊎◌, true, length, Option, None, Some, List, [], ◌∷◌, ◌++◌, map}
+use Rattle.dx_ports.specs.Members.{◌∈◌, ◌⊆◌, ◌≈◌, Each}
+use Rattle.dx_ports.specs.Texts.{Text}
 use Rattle.dx_model.specs.declared.values.NullId.{NullId}
 use Rattle.dx_model.specs.declared.values.Value.{Value}
 use Rattle.dx_model.specs.declared.values.Value.TheVariants.{Null}
@@ -7,15 +9,12 @@ use Rattle.dx_model.specs.declared.facts.Fact.{Fact}
 use Rattle.dx_model.specs.declared.facts.NullPair.{NullPair}
 use Rattle.dx_model.specs.declared.rules.Atom.{Atom}
 use Rattle.dx_model.specs.declared.rules.Rule.{Rule}
-use Rattle.dx_model.specs.Tables.{Determination}
-use Rattle.dx_model.specs.Tables.{Table}
+use Rattle.dx_model.specs.Tables.{Determination, Table, table_of, IsInstance, KeysHold, LinksHold, IsKeyed}
 use Rattle.dx_model.specs.declared.rules.Cell.{Cell}
 use Rattle.dx_model.specs.declared.rules.Cell.TheVariants.{Var}
 use Rattle.dx_model.specs.declared.covers.CellMap.{CellMap}
 use Rattle.dx_model.specs.declared.covers.Cover.{Cover}
-use Rattle.dx_ports.specs.Members.{◌∈◌, ◌⊆◌, ◌≈◌, Each}
 use Rattle.dx_model.specs.Instances.{HoldsConstants, MapsInto, IsHomomorphism, IsCore, Moves, moved, fact_moved, fact_both, given, image, values}
-use Rattle.dx_model.specs.Tables.{table_of, IsInstance, KeysHold, LinksHold, IsKeyed}
 use Rattle.dx_model.specs.Chase.{ForcedEqual, IsForcedMap, IsKeyStep, IsClashAt, NoneReceives, after, AreSteps}
 use Rattle.dx_model.specs.Solutions.{AtomFits, IsSolution, IsUniversal, IsClosed}
 use Rattle.dx_model.specs.Rules.{cells_of, exported, Increase, fact_of_atom, IsMatch, IsRows, Satisfies, PlacesSatisfied, KeepsLiterals, AreRows, canonical}
@@ -24,7 +23,6 @@ use Rattle.dx_model.specs.Blocks.{IsBlock, IsClosedPart, Spares, IsNeeded, IsRed
 use Rattle.dx_model.specs.Following.{SatisfyAll, Follows, Implies, IsPruned, frozen, CanBeFrozen, frozen_text, IsClean}
 use Rattle.dx_model.specs.Fitting.{IsRule, RuleFits, AtomFitsWidths, AtomsFitWidths, AgreeInWidths, conclusions_of}
 use Rattle.dx_model.specs.Values.{Tuple, Rows, Conversions, FactsAscend}
-use Rattle.dx_ports.specs.Texts.{Text}
 
 -- the exported variables ascend, and are exactly those that stand in the conclusion
 abbrev pub ExportedExactly : Type 0

@@ -1,7 +1,7 @@
 -- Tuples of texts, as they lie one after the other.
 use Rattle.std.specs.Prelude.{ℕ, zero, suc, List, [], ◌∷◌, take, drop}
-use Rattle.dx_model.specs.Values.{Tuple}
 use Rattle.dx_ports.specs.Texts.{Text}
+use Rattle.dx_model.specs.Values.{Tuple}
 
 -- the first n tuples of so many texts each
 abbrev pub in_tuples : ℕ → ℕ → List Text → List Tuple

@@ -1,7 +1,7 @@
 // Outputs in memory, which can be made to fail.
 ghost use Rattle.std.specs.Prelude.{◌≡◌, ℕ, [], ◌∷◌, Some, OnOk, OnErr, IsErrOf, IsTrue, Contains, min, take, ◌↔◌, ◌⊎◌, ◌+◌, ◌-◌, ◌^◌, ◌≤◌, ◌<◌};
-ghost use Rattle.dx_ports.specs.Entries.{entries_of, appended, GrewByPrefix};
 ghost use Rattle.std.specs.Bool.{OnTrue, MatchBool};
+ghost use Rattle.dx_ports.specs.Entries.{entries_of, appended, GrewByPrefix};
 ghost use Rattle.dx_ports.specs.Faults.{Rose};
 
 use crate::{File, Outputs, PutFault, Text};

@@ -1,5 +1,7 @@
 -- What a query text says, and its first fault as a text.
 use Rattle.std.specs.Prelude.{◌≡◌, ℕ, zero, suc, ◌-◌, List, length, Option, Some, None, Result, Ok, Err}
+use Rattle.dx_grammar.specs.Faults.{IsStoppedAt, IsUnexpectedAt}
+use Rattle.dx_grammar.specs.Readers.{whole}
 use Rattle.dx_tokens.specs.declared.faults.TextFault.{TextFault}
 use Rattle.dx_tokens.specs.declared.faults.TextFault.TheVariants.{At}
 use Rattle.dx_tokens.specs.declared.faults.TextKind.{TextKind}
@@ -7,8 +9,6 @@ use Rattle.dx_tokens.specs.declared.faults.TextKind.TheVariants.{Expected, Ended
 use Rattle.dx_tokens.specs.declared.scanner.Lexeme.{Lexeme}
 use Rattle.dx_tokens.specs.Judged.{IsFaultBy, stop_fault}
 use Rattle.dx_tokens.specs.Scan.{scan_of}
-use Rattle.dx_grammar.specs.Faults.{IsStoppedAt, IsUnexpectedAt}
-use Rattle.dx_grammar.specs.Readers.{whole}
 use Rattle.dx_schema_text.specs.Texts.{fault_in, judged_tokens, token_place}
 use Rattle.dx_query_text.specs.declared.texts.PartText.{PartText}
 use Rattle.dx_query_text.specs.Grammar.{query}

@@ -1,10 +1,10 @@
 -- What is known of an instance's rigid nulls.
 use Rattle.std.specs.Prelude.{List}
+use Rattle.dx_ports.specs.Members.{◌∈◌, Each}
 use Rattle.dx_model.specs.declared.values.NullId.{NullId}
 use Rattle.dx_model.specs.declared.values.Value.TheVariants.{Null}
 use Rattle.dx_model.specs.declared.facts.Fact.{Fact}
 use Rattle.dx_model.specs.Instances.{values}
-use Rattle.dx_ports.specs.Members.{◌∈◌, Each}
 use Rattle.dx_rigid.specs.Rigid.{IsRigid}
 use Rattle.dx_rigid.specs.declared.rigid.RigidNulls.{RigidNulls}
 use Rattle.dx_rigid.specs.declared.rigid.RigidNulls.TheVariants.{All, These}

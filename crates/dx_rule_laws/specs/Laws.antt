@@ -1,21 +1,21 @@
 -- Printed rules are read again.
 use Rattle.std.specs.Prelude.{◌≡◌, List, ◌++◌, None, codes}
 use Rattle.dx_ports.specs.Members.{◌∈◌, Each}
+use Rattle.dx_ports.specs.Texts.{Text}
 use Rattle.dx_model.specs.declared.rules.Rule.{Rule}
 use Rattle.dx_model.specs.Tables.{Table}
 use Rattle.dx_model.specs.Fitting.{RuleFits}
 use Rattle.dx_schema.specs.Forest.{Forest}
 use Rattle.dx_schema.specs.Tables.{AreTables, tables_of, model_tables}
+use Rattle.dx_funcs.specs.declared.conversion.Conversion.{Conversion}
+use Rattle.dx_funcs.specs.Offers.{IsOffer}
 use Rattle.dx_schema_text.specs.declared.texts.RuleText.{RuleText}
 use Rattle.dx_schema_text.specs.declared.texts.MappingText.{MappingText}
 use Rattle.dx_schema_text.specs.Texts.{IsMappingText}
-use Rattle.dx_funcs.specs.declared.conversion.Conversion.{Conversion}
-use Rattle.dx_funcs.specs.Offers.{IsOffer}
 use Rattle.dx_closing.specs.Closing.{IsClosingOf}
 use Rattle.dx_lines.specs.Rules.{kept_rules}
 use Rattle.dx_line_text.specs.Naming.{lines_fault, lines_of}
 use Rattle.dx_rule_text.specs.Printed.{rule_text, rules_text}
-use Rattle.dx_ports.specs.Texts.{Text}
 use Rattle.dx_tgd_text.specs.Reading.{RuleHasFewCells, rule_fault, rule_of_text, rules_fault, rules_of_texts}
 use Rattle.dx_tgd_text.specs.Laws.{AreOffered}
 use Rattle.dx_rule_laws.specs.ReadBack.{IsRuleText, IsReadAs, AreReadBehind, IsPrintableRule, IsWritable}

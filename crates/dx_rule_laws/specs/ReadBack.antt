@@ -1,22 +1,22 @@
 -- When a text is read as a rule, and which rules can be written so that they are.
 use Rattle.std.specs.Prelude.{◌≡◌, ◌≤◌, List, None, IsUtf8, ◌++◌}
 use Rattle.dx_ports.specs.Members.{◌∈◌, Each}
+use Rattle.dx_ports.specs.Texts.{Text}
 use Rattle.dx_model.specs.declared.rules.Cell.TheVariants.{Lit}
 use Rattle.dx_model.specs.declared.rules.Atom.{Atom}
 use Rattle.dx_model.specs.declared.rules.Rule.{Rule}
 use Rattle.dx_model.specs.Fitting.{RuleFits}
 use Rattle.dx_schema.specs.Forest.{Forest}
 use Rattle.dx_schema.specs.Tables.{model_tables}
+use Rattle.dx_funcs.specs.declared.conversion.Conversion.{Conversion}
+use Rattle.dx_funcs.specs.Names.{conversion_name}
 use Rattle.dx_tokens.specs.Scan.{scan_of}
 use Rattle.dx_tokens.specs.Lexing.{IsWord}
 use Rattle.dx_schema_text.specs.declared.texts.RuleText.{RuleText}
 use Rattle.dx_schema_text.specs.declared.texts.MappingText.{MappingText}
 use Rattle.dx_schema_text.specs.Texts.{IsMappingText}
 use Rattle.dx_schema_text.specs.Spelling.{SpellsRule}
-use Rattle.dx_funcs.specs.declared.conversion.Conversion.{Conversion}
-use Rattle.dx_funcs.specs.Names.{conversion_name}
 use Rattle.dx_rule_text.specs.Printed.{table_name}
-use Rattle.dx_ports.specs.Texts.{Text}
 use Rattle.dx_tgd_text.specs.Reading.{rule_fault, rule_of_text, rules_fault, rules_of_texts}
 use Rattle.dx_tgd_text.specs.Laws.{AreOffered}
 

@@ -1,6 +1,7 @@
 -- What holds of each printed rule.
 use Rattle.std.specs.Prelude.{List}
 use Rattle.dx_ports.specs.Members.{◌∈◌, Each}
+use Rattle.dx_ports.specs.Texts.{Text}
 use Rattle.dx_model.specs.declared.rules.Cell.TheVariants.{Lit}
 use Rattle.dx_model.specs.declared.rules.Atom.{Atom}
 use Rattle.dx_model.specs.declared.rules.Rule.{Rule}
@@ -8,7 +9,6 @@ use Rattle.dx_schema.specs.Forest.{Forest}
 use Rattle.dx_funcs.specs.declared.conversion.Conversion.{Conversion}
 use Rattle.dx_funcs.specs.Names.{conversion_name}
 use Rattle.dx_rule_text.specs.Printed.{rule_text, table_name}
-use Rattle.dx_ports.specs.Texts.{Text}
 
 -- a text without a line feed
 abbrev pub IsOneLine : Text → Type 0

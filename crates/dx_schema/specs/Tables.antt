@@ -3,17 +3,16 @@ use Rattle.std.specs.Prelude.{◌≡◌, ℕ, suc, ◌+◌, ◌<◌, ◌≤◌, 
 use Rattle.std.specs.List.{filter}
 use Rattle.std.specs.Cmp.Lexicographic.{pointwise}
 use Rattle.dx_ports.specs.Members.{Distinct, Each}
+use Rattle.dx_ports.specs.Texts.{Text}
 use Rattle.dx_model.specs.declared.tables.Key.{Key}
 use Rattle.dx_model.specs.declared.tables.Dep.{Dep}
 use Rattle.dx_model.specs.declared.tables.Link.{Link}
-use Rattle.dx_model.specs.Tables.{AreWithin, Determination, key_of}
-use Rattle.dx_model.specs.Tables.{Table as Numbers}
+use Rattle.dx_model.specs.Tables.{AreWithin, Determination, key_of, Table as Numbers}
 use Rattle.dx_schema.specs.declared.sets.KeyDecl.{KeyDecl}
 use Rattle.dx_schema.specs.declared.sets.DepDecl.{DepDecl}
 use Rattle.dx_schema.specs.declared.sets.RefDecl.{RefDecl}
 use Rattle.dx_schema.specs.declared.tables.Table.{Table}
 use Rattle.dx_schema.specs.Forest.{Label, Forest, Tree, bare_set, none, set}
-use Rattle.dx_ports.specs.Texts.{Text}
 
 -- a table, as the code has it
 abbrev pub TableOf : Type 0

@@ -1,10 +1,10 @@
 -- The grammar of mapping texts, over tokens with their texts.
 use Rattle.std.specs.Prelude.{ℕ, zero, suc, Bool, true, false, ◌&&◌, List, codes, nat_eq, nat_le}
 use Rattle.std.specs.Cmp.Lexicographic.{pointwise}
+use Rattle.dx_grammar.specs.Forms.{Form, nothing, one, ◌▸◌, ◌∣◌, repeated, optional}
 use Rattle.dx_tokens.specs.declared.tokenizer.TokenKind.{TokenKind}
 use Rattle.dx_tokens.specs.declared.tokenizer.TokenKind.TheVariants.{Word, Number, Str, Mark}
 use Rattle.dx_tokens.specs.declared.scanner.Lexeme.{Lexeme}
-use Rattle.dx_grammar.specs.Forms.{Form, nothing, one, ◌▸◌, ◌∣◌, repeated, optional}
 
 -- ---- tokens
 

@@ -1,8 +1,8 @@
 -- What holds of every text.
 use Rattle.std.specs.Prelude.{◌≡◌, ◌⊎◌, ◌↔◌, ℕ, false, List, [], length}
+use Rattle.dx_schema.specs.Bounds.{RulesBelow}
 use Rattle.dx_grammar.specs.Forms.{Derives}
 use Rattle.dx_grammar.specs.Laws.{StartsAreFronts}
-use Rattle.dx_schema.specs.Bounds.{RulesBelow}
 use Rattle.dx_tokens.specs.declared.faults.TextFault.{TextFault}
 use Rattle.dx_tokens.specs.declared.faults.TextFault.TheVariants.{TooDeep}
 use Rattle.dx_tokens.specs.declared.scanner.Lexeme.{Lexeme}

@@ -1,11 +1,11 @@
 -- What the forms of mapping texts say: a reader for each.
 use Rattle.std.specs.Prelude.{ℕ, zero, suc, Bool, true, false, ◌||◌, List, [], ◌∷◌, codes}
-use Rattle.dx_tokens.specs.declared.scanner.Lexeme.{Lexeme}
-use Rattle.dx_grammar.specs.Readers.{Reader, ◌>>=◌, give, token, either, many}
 use Rattle.dx_schema.specs.declared.sets.KeyDecl.{KeyDecl}
 use Rattle.dx_schema.specs.declared.sets.DepDecl.{DepDecl}
 use Rattle.dx_schema.specs.declared.sets.RefDecl.{RefDecl}
 use Rattle.dx_schema.specs.Forest.{Forest, none, set, Tree, forest_of}
+use Rattle.dx_grammar.specs.Readers.{Reader, ◌>>=◌, give, token, either, many}
+use Rattle.dx_tokens.specs.declared.scanner.Lexeme.{Lexeme}
 use Rattle.dx_schema_text.specs.declared.texts.PlaceText.{PlaceText}
 use Rattle.dx_schema_text.specs.declared.texts.SourceText.{SourceText}
 use Rattle.dx_schema_text.specs.declared.texts.SourceText.TheVariants as sources

@@ -1,11 +1,11 @@
 -- Which tokens spell which value, form by form.
 use Rattle.std.specs.Prelude.{◌≡◌, ℕ, suc, Bool, true, false, List, [], ◌∷◌, ◌++◌, codes}
-use Rattle.dx_tokens.specs.declared.scanner.Lexeme.{Lexeme}
-use Rattle.dx_grammar.specs.Readers.{Many}
 use Rattle.dx_schema.specs.declared.sets.KeyDecl.{KeyDecl}
 use Rattle.dx_schema.specs.declared.sets.DepDecl.{DepDecl}
 use Rattle.dx_schema.specs.declared.sets.RefDecl.{RefDecl}
 use Rattle.dx_schema.specs.Forest.{Forest, Tree, forest_of}
+use Rattle.dx_grammar.specs.Readers.{Many}
+use Rattle.dx_tokens.specs.declared.scanner.Lexeme.{Lexeme}
 use Rattle.dx_schema_text.specs.declared.texts.PlaceText.{PlaceText}
 use Rattle.dx_schema_text.specs.declared.texts.SourceText.{SourceText}
 use Rattle.dx_schema_text.specs.declared.texts.LineText.{LineText}

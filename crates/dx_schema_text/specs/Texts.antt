@@ -1,5 +1,9 @@
 -- What a mapping text says, and its first fault.
 use Rattle.std.specs.Prelude.{◌≡◌, ◌⊎◌, ℕ, zero, suc, ◌-◌, List, [], ◌∷◌, ◌++◌, length, take, codes, Option, Some, None, Result, Ok, Err, Bool, true, false, nat_le, slice_index_or}
+use Rattle.dx_schema.specs.Forest.{Forest, Tree}
+use Rattle.dx_grammar.specs.Forms.{Form, Starts}
+use Rattle.dx_grammar.specs.Faults.{IsUnexpectedAt, IsStoppedAt}
+use Rattle.dx_grammar.specs.Readers.{Many, whole}
 use Rattle.dx_tokens.specs.declared.faults.TextFault.{TextFault}
 use Rattle.dx_tokens.specs.declared.faults.TextFault.TheVariants.{At, TooDeep, Memory}
 use Rattle.dx_tokens.specs.declared.faults.TextKind.{TextKind}
@@ -9,10 +13,6 @@ use Rattle.dx_tokens.specs.declared.scanner.Lexeme.{Lexeme}
 use Rattle.dx_tokens.specs.declared.scanner.Stop.{Stop}
 use Rattle.dx_tokens.specs.Judged.{IsFaultBy, stop_fault, Reads}
 use Rattle.dx_tokens.specs.Scan.{scan_of}
-use Rattle.dx_grammar.specs.Forms.{Form, Starts}
-use Rattle.dx_grammar.specs.Faults.{IsUnexpectedAt, IsStoppedAt}
-use Rattle.dx_grammar.specs.Readers.{Many, whole}
-use Rattle.dx_schema.specs.Forest.{Forest, Tree}
 use Rattle.dx_schema_text.specs.declared.clauses.Clause.{Clause}
 use Rattle.dx_schema_text.specs.declared.texts.MappingText.{MappingText}
 use Rattle.dx_schema_text.specs.Grammar.{mapping}

@@ -1,10 +1,10 @@
 // A mapping text, read with its first fault.
 ghost use Rattle.std.specs.Prelude.{◌≡◌, ◌⊎◌, ◌++◌, ◌<◌, ◌≤◌, ℕ, length, IfOk, IfErr};
 ghost use Rattle.dx_grammar.specs.Readers.{whole};
-ghost use Rattle.dx_schema_text.specs.Reading.{mapping_reader};
-ghost use Rattle.dx_schema_text.specs.Texts.{begun_in, fault_in, stops_by, unexpected, mapping_of_tokens, mapping_of_text, IsMappingText, IsMappingFaultOrMemory, AnswersMapping, AnswersMappingFault};
 ghost use Rattle.dx_tokens.specs.Judged.{Reads};
 ghost use Rattle.dx_tokens.specs.declared.faults.TextFault.TheVariants.{Memory};
+ghost use Rattle.dx_schema_text.specs.Reading.{mapping_reader};
+ghost use Rattle.dx_schema_text.specs.Texts.{begun_in, fault_in, stops_by, unexpected, mapping_of_tokens, mapping_of_text, IsMappingText, IsMappingFaultOrMemory, AnswersMapping, AnswersMappingFault};
 
 use crate::mapping::whole_mapping;
 use crate::texts::MappingText;

@@ -4,6 +4,7 @@ use Rattle.dx_ports.specs.Members.{◌∈◌, Each}
 use Rattle.dx_ports.specs.Texts.{Text}
 use Rattle.dx_schema.specs.Names.{TableNames}
 use Rattle.dx_funcs.specs.declared.conversion.Conversion.{Conversion}
+use Rattle.dx_funcs.specs.Names.{TakesTexts}
 use Rattle.dx_script.specs.declared.form.CellRef.{CellRef}
 use Rattle.dx_script.specs.declared.form.Select.{Select}
 use Rattle.dx_script.specs.declared.form.Select.TheVariants.{Cell, Call}
@@ -15,7 +16,6 @@ use Rattle.dx_script.specs.declared.form.Out.{Out}
 use Rattle.dx_script.specs.declared.form.Out.TheVariants.{Column, Literal, Skolem}
 use Rattle.dx_script.specs.declared.form.Step.{Step}
 use Rattle.dx_script.specs.declared.form.Step.TheVariants.{Create, MatchRows, KeepRows, InsertRows}
-use Rattle.dx_funcs.specs.Names.{TakesTexts}
 use Rattle.dx_script.specs.Names.{table_numbered, table_names, table_named}
 use Rattle.dx_script.specs.Meaning.{table_of_alias}
 

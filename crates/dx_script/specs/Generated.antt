@@ -1,15 +1,16 @@
 -- The scripts of rules.
 use Rattle.std.specs.Prelude.{ℕ, suc, ◌-◌, ◌&&◌, Bool, true, false, cond, eqb, nat_lt, List, [], ◌∷◌, ◌++◌, map, flat_map, length, slice_index_or}
 use Rattle.std.specs.List.{position_or_len}
+use Rattle.dx_ports.specs.Texts.{Text}
 use Rattle.dx_model.specs.declared.rules.Cell.{Cell}
 use Rattle.dx_model.specs.declared.rules.Cell.TheVariants.{Var, Ex, Lit}
 use Rattle.dx_model.specs.declared.rules.Atom.{Atom}
 use Rattle.dx_model.specs.declared.rules.Rule.{Rule}
-use Rattle.dx_ports.specs.Texts.{Text}
 use Rattle.dx_model.specs.Rules.{cells_of, after_cells, exported}
 use Rattle.dx_model.specs.Covers.{below, rule_at}
 use Rattle.dx_schema.specs.Names.{TableNames}
 use Rattle.dx_funcs.specs.declared.conversion.Conversion.{Conversion}
+use Rattle.dx_funcs.specs.Names.{conversion_name}
 use Rattle.dx_script.specs.declared.form.CellRef.{CellRef}
 use Rattle.dx_script.specs.declared.form.Select.{Select}
 use Rattle.dx_script.specs.declared.form.Select.TheVariants.{Cell as Shown, Call}
@@ -19,7 +20,6 @@ use Rattle.dx_script.specs.declared.form.Out.{Out}
 use Rattle.dx_script.specs.declared.form.Out.TheVariants.{Column, Literal, Skolem}
 use Rattle.dx_script.specs.declared.form.Step.{Step}
 use Rattle.dx_script.specs.declared.form.Step.TheVariants.{Create, MatchRows, KeepRows, InsertRows}
-use Rattle.dx_funcs.specs.Names.{conversion_name}
 use Rattle.dx_script.specs.Names.{table_numbered, column_at}
 
 -- ---- the cells of a premise

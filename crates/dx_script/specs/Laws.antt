@@ -1,10 +1,10 @@
 -- What the scripts of rules mean.
 use Rattle.std.specs.Prelude.{◌≡◌, ◌↔◌, ℕ, List, length}
 use Rattle.dx_ports.specs.Members.{◌∈◌, ◌⊆◌, Each}
+use Rattle.dx_ports.specs.Texts.{Text}
 use Rattle.dx_model.specs.declared.facts.Fact.{Fact}
 use Rattle.dx_model.specs.declared.rules.Rule.{Rule}
 use Rattle.dx_model.specs.Values.{Tuple, Rows, Conversions}
-use Rattle.dx_ports.specs.Texts.{Text}
 use Rattle.dx_model.specs.Tables.{IsInstance}
 use Rattle.dx_model.specs.Rules.{IsRows, AreRows, at_place, canonical}
 use Rattle.dx_model.specs.Covers.{IsPlace, least_cover, rule_at, tuple_at, uncovered}
@@ -14,9 +14,9 @@ use Rattle.dx_schema.specs.Tables.{AreTables, model_tables, tables_of}
 use Rattle.dx_schema.specs.Names.{TableNames, table_names_of}
 use Rattle.dx_funcs.specs.declared.conversion.Conversion.{Conversion}
 use Rattle.dx_funcs.specs.Offers.{IsListed, IsOffer}
+use Rattle.dx_funcs.specs.Names.{call_named}
 use Rattle.dx_script.specs.declared.form.Unless.{Unless}
 use Rattle.dx_script.specs.declared.form.Step.{Step}
-use Rattle.dx_funcs.specs.Names.{call_named}
 use Rattle.dx_script.specs.Meaning.{HasNoPartner, IsMatchTable, Means}
 use Rattle.dx_script.specs.Fits.{FitsScript}
 use Rattle.dx_script.specs.Generated.{equals, plain_steps, script_with, selects_of, sources_of, spots}

@@ -1,12 +1,13 @@
 -- What a script means on the rows of a source.
 use Rattle.std.specs.Prelude.{◌≡◌, ◌↔◌, ℕ, ◌<◌, Bool, IsTrue, List, [], map, length, slice_index_or}
 use Rattle.dx_ports.specs.Members.{◌∈◌}
-use Rattle.dx_model.specs.Values.{Tuple, Rows}
 use Rattle.dx_ports.specs.Texts.{Text}
+use Rattle.dx_model.specs.Values.{Tuple, Rows}
 use Rattle.dx_model.specs.declared.values.Value.{Value}
 use Rattle.dx_model.specs.declared.values.Value.TheVariants.{Const, Null}
 use Rattle.dx_model.specs.declared.facts.Fact.{Fact}
 use Rattle.dx_model.specs.Rules.{TuplesAscend}
+use Rattle.dx_model.specs.Covers.{tuple_at}
 use Rattle.dx_schema.specs.Names.{TableNames}
 use Rattle.dx_script.specs.declared.form.CellRef.{CellRef}
 use Rattle.dx_script.specs.declared.form.Select.{Select}
@@ -20,7 +21,6 @@ use Rattle.dx_script.specs.declared.form.Out.TheVariants.{Column, Literal, Skole
 use Rattle.dx_script.specs.declared.form.Step.{Step}
 use Rattle.dx_script.specs.declared.form.Step.TheVariants.{MatchRows, KeepRows, InsertRows}
 use Rattle.dx_script.specs.Names.{table_named, column_named}
-use Rattle.dx_model.specs.Covers.{tuple_at}
 
 -- ---- match tables
 

@@ -1,12 +1,12 @@
 -- The grammar of scripts, over tokens with what they say.
 use Rattle.std.specs.Prelude.{ℕ, Bool, ◌||◌, nat_eq}
+use Rattle.dx_grammar.specs.Forms.{Form, one, ◌▸◌, ◌∣◌, repeated, optional}
+use Rattle.dx_grammar.specs.Lists.{listed}
+use Rattle.dx_grammar.specs.Numbers.{any_to, counted, has_number}
 use Rattle.dx_script_tokens.specs.declared.scanner.ScriptToken.{ScriptToken}
 use Rattle.dx_script_tokens.specs.declared.kinds.ScriptKind.{ScriptKind}
 use Rattle.dx_script_tokens.specs.declared.kinds.ScriptKind.TheVariants as kinds
 use Rattle.dx_script_tokens.specs.Kinds.{kind_number}
-use Rattle.dx_grammar.specs.Forms.{Form, one, ◌▸◌, ◌∣◌, repeated, optional}
-use Rattle.dx_grammar.specs.Lists.{listed}
-use Rattle.dx_grammar.specs.Numbers.{any_to, counted, has_number}
 
 -- ---- tokens
 

@@ -1,11 +1,11 @@
 -- What holds of every text, and of all lists of tokens.
 use Rattle.std.specs.Prelude.{◌≡◌, ◌↔◌, ◌⊎◌, ℕ, List, ◌++◌}
-use Rattle.dx_tokens.specs.declared.faults.TextFault.{TextFault}
-use Rattle.dx_script_tokens.specs.declared.scanner.ScriptToken.{ScriptToken}
-use Rattle.dx_script_tokens.specs.Numbers.{greatest_number}
 use Rattle.dx_grammar.specs.Forms.{Derives, Starts}
+use Rattle.dx_tokens.specs.declared.faults.TextFault.{TextFault}
 use Rattle.dx_script.specs.declared.form.Step.{Step}
 use Rattle.dx_script.specs.declared.form.Script.{Script}
+use Rattle.dx_script_tokens.specs.declared.scanner.ScriptToken.{ScriptToken}
+use Rattle.dx_script_tokens.specs.Numbers.{greatest_number}
 use Rattle.dx_script_text.specs.Spelling.{SpellsScript}
 use Rattle.dx_script_text.specs.Texts.{script_form, IsScriptText, IsScriptTextFault}
 

@@ -1,7 +1,6 @@
 -- The text of scripts.
 use Rattle.std.specs.Prelude.{ℕ, suc, Bool, true, false, List, [], ◌∷◌, ◌++◌, map, codes, decimal}
 use Rattle.std.specs.List.{flat_map}
-use Rattle.dx_script_tokens.specs.Quoted.{single_quoted}
 use Rattle.dx_script.specs.declared.form.CellRef.{CellRef}
 use Rattle.dx_script.specs.declared.form.Select.{Select}
 use Rattle.dx_script.specs.declared.form.Select.TheVariants as selected
@@ -14,6 +13,7 @@ use Rattle.dx_script.specs.declared.form.Out.TheVariants as outs
 use Rattle.dx_script.specs.declared.form.Step.{Step}
 use Rattle.dx_script.specs.declared.form.Step.TheVariants as steps
 use Rattle.dx_script.specs.declared.form.Script.{Script}
+use Rattle.dx_script_tokens.specs.Quoted.{single_quoted}
 
 -- a text, by its bytes
 abbrev pub Bytes : Type 0

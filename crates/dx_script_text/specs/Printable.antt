@@ -2,7 +2,6 @@
 use Rattle.std.specs.Prelude.{◌≡◌, ◌≢◌, ℕ, ◌≤◌, true, ◌||◌, ◌==◌, List, [], ◌∷◌, length, IsUtf8}
 use Rattle.dx_ports.specs.Members.{Each}
 use Rattle.dx_tokens.specs.Tokens.{is_word_byte}
-use Rattle.dx_script_tokens.specs.Numbers.{greatest_number}
 use Rattle.dx_script.specs.declared.form.CellRef.{CellRef}
 use Rattle.dx_script.specs.declared.form.Select.{Select}
 use Rattle.dx_script.specs.declared.form.Select.TheVariants as selected
@@ -15,6 +14,7 @@ use Rattle.dx_script.specs.declared.form.Out.TheVariants as outs
 use Rattle.dx_script.specs.declared.form.Step.{Step}
 use Rattle.dx_script.specs.declared.form.Step.TheVariants as steps
 use Rattle.dx_script.specs.declared.form.Script.{Script}
+use Rattle.dx_script_tokens.specs.Numbers.{greatest_number}
 
 -- a name has letters, digits and _, of which there is one at least, and the first may be #
 abbrev pub IsScriptName : List ℕ → Type 0

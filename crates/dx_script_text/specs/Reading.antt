@@ -3,8 +3,6 @@ use Rattle.std.specs.Prelude.{ℕ, ◌-◌, Bool, ◌||◌, List, [], ◌∷◌,
 use Rattle.dx_grammar.specs.Readers.{Reader, ◌>>=◌, give, token, either, many, with_front}
 use Rattle.dx_grammar.specs.Lists.{past, list_reader}
 use Rattle.dx_grammar.specs.Numbers.{counted_reader, Knower, ◌then◌, giving, always, number_token, choosing, knowing, number_then, unknowing}
-use Rattle.dx_script_tokens.specs.declared.scanner.ScriptToken.{ScriptToken}
-use Rattle.dx_script_tokens.specs.declared.kinds.ScriptKind.TheVariants as kinds
 use Rattle.dx_script.specs.declared.form.CellRef.{CellRef}
 use Rattle.dx_script.specs.declared.form.Select.{Select}
 use Rattle.dx_script.specs.declared.form.Select.TheVariants as selected
@@ -16,6 +14,8 @@ use Rattle.dx_script.specs.declared.form.Out.{Out}
 use Rattle.dx_script.specs.declared.form.Out.TheVariants as outs
 use Rattle.dx_script.specs.declared.form.Step.{Step}
 use Rattle.dx_script.specs.declared.form.Step.TheVariants as made
+use Rattle.dx_script_tokens.specs.declared.scanner.ScriptToken.{ScriptToken}
+use Rattle.dx_script_tokens.specs.declared.kinds.ScriptKind.TheVariants as kinds
 use Rattle.dx_script_text.specs.Grammar.{of_kind, number, match_is, alias_is, column_is, number_is, is_table, is_comma, is_and}
 
 -- ---- values

@@ -3,9 +3,6 @@ use Rattle.std.specs.Prelude.{◌≡◌, ℕ, ◌≤◌, true, List, [], ◌∷�
 use Rattle.dx_grammar.specs.Readers.{Many}
 use Rattle.dx_grammar.specs.Lists.{Past, SpellsList}
 use Rattle.dx_grammar.specs.Numbers.{has_number, SpellsNumbered}
-use Rattle.dx_script_tokens.specs.declared.scanner.ScriptToken.{ScriptToken}
-use Rattle.dx_script_tokens.specs.declared.kinds.ScriptKind.{ScriptKind}
-use Rattle.dx_script_tokens.specs.declared.kinds.ScriptKind.TheVariants as kinds
 use Rattle.dx_script.specs.declared.form.CellRef.{CellRef}
 use Rattle.dx_script.specs.declared.form.Select.{Select}
 use Rattle.dx_script.specs.declared.form.Equal.{Equal}
@@ -13,6 +10,9 @@ use Rattle.dx_script.specs.declared.form.Test.{Test}
 use Rattle.dx_script.specs.declared.form.Unless.{Unless}
 use Rattle.dx_script.specs.declared.form.Out.{Out}
 use Rattle.dx_script.specs.declared.form.Step.{Step}
+use Rattle.dx_script_tokens.specs.declared.scanner.ScriptToken.{ScriptToken}
+use Rattle.dx_script_tokens.specs.declared.kinds.ScriptKind.{ScriptKind}
+use Rattle.dx_script_tokens.specs.declared.kinds.ScriptKind.TheVariants as kinds
 use Rattle.dx_script_text.specs.Grammar.{of_kind, number, match_is, keep_is, alias_is, column_is, number_is, is_table, is_comma, is_and}
 use Rattle.dx_script_text.specs.Reading.{alias_cell_of, cell_select, call_value, create_step, match_step_of, keep_step_of, insert_step_of, columns_test, text_test, column_cell, text_cell, skolem_cell}
 

@@ -1,20 +1,20 @@
 -- What a text says, and its first fault.
 use Rattle.std.specs.Prelude.{◌≡◌, ◌⊎◌, ℕ, zero, suc, ◌-◌, List, [], ◌∷◌, ◌++◌, length, Option, Some, None, Result, Ok, Err, slice_index_or}
+use Rattle.dx_grammar.specs.Forms.{Form}
+use Rattle.dx_grammar.specs.Faults.{IsUnexpectedAt, IsStoppedAt}
+use Rattle.dx_grammar.specs.Readers.{whole}
 use Rattle.dx_tokens.specs.declared.faults.TextFault.{TextFault}
 use Rattle.dx_tokens.specs.declared.faults.TextFault.TheVariants.{At, Memory}
 use Rattle.dx_tokens.specs.declared.faults.TextKind.{TextKind}
 use Rattle.dx_tokens.specs.declared.faults.TextKind.TheVariants.{Expected, Ended}
 use Rattle.dx_tokens.specs.Judged.{IsFaultBy, stop_fault, Reads}
+use Rattle.dx_script.specs.declared.form.Step.{Step}
+use Rattle.dx_script.specs.declared.form.Script.{Script}
 use Rattle.dx_script_tokens.specs.declared.scanner.ScriptToken.{ScriptToken}
 use Rattle.dx_script_tokens.specs.declared.scanner.ScriptStop.{ScriptStop}
 use Rattle.dx_script_tokens.specs.declared.kinds.ScriptKind.TheVariants as kinds
 use Rattle.dx_script_tokens.specs.Numbers.{greatest_number}
 use Rattle.dx_script_tokens.specs.Scan.{script_scan_of, plain_token}
-use Rattle.dx_grammar.specs.Forms.{Form}
-use Rattle.dx_grammar.specs.Faults.{IsUnexpectedAt, IsStoppedAt}
-use Rattle.dx_grammar.specs.Readers.{whole}
-use Rattle.dx_script.specs.declared.form.Step.{Step}
-use Rattle.dx_script.specs.declared.form.Script.{Script}
 use Rattle.dx_script_text.specs.Grammar.{script}
 use Rattle.dx_script_text.specs.Reading.{script_reader}
 use Rattle.dx_script_text.specs.Spelling.{SpellsScript}

@@ -2,8 +2,8 @@
 ghost use Rattle.std.specs.Prelude.{◌≡◌};
 ghost use Rattle.dx_grammar.specs.Readers.{ReadsAs};
 ghost use Rattle.dx_grammar.specs.Numbers.{always, knowing, with_front_known};
-ghost use Rattle.dx_script_text.specs.Grammar.{is_comma};
 ghost use Rattle.dx_script_tokens.specs.Numbers.{greatest_number};
+ghost use Rattle.dx_script_text.specs.Grammar.{is_comma};
 ghost use Rattle.dx_script_text.specs.Reading.{text_out_reader, column_out_reader, skolem_tail_reader, skolem_reader, out_reader, comma_out, outs_reader, insert_end_reader, insert_tail_reader, insert_reader};
 
 use crate::tokens::{any_of, is_of, next_of, rule_of, table_of};

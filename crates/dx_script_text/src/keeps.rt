@@ -2,8 +2,8 @@
 ghost use Rattle.std.specs.Prelude.{◌≡◌};
 ghost use Rattle.dx_grammar.specs.Readers.{many, with_front, ReadsAs};
 ghost use Rattle.dx_grammar.specs.Lists.{past, list_reader};
-ghost use Rattle.dx_script_text.specs.Grammar.{is_and};
 ghost use Rattle.dx_script_tokens.specs.Numbers.{greatest_number};
+ghost use Rattle.dx_script_text.specs.Grammar.{is_and};
 ghost use Rattle.dx_script_text.specs.Reading.{columns_reader, text_reader, test_reader, tests_reader, optional_tests, unless_reader, keep_tail_reader, keep_reader};
 
 use crate::tokens::{any_of, next_of, rule_of, that};

@@ -1,10 +1,10 @@
 // Steps that match a rule.
 ghost use Rattle.std.specs.Prelude.{ℕ, List};
-ghost use Rattle.dx_script.specs.declared.form.Select.{Select as Chosen};
 ghost use Rattle.dx_grammar.specs.Readers.{many, with_front, ReadsAs};
 ghost use Rattle.dx_grammar.specs.Lists.{past, list_reader};
-ghost use Rattle.dx_script_text.specs.Grammar.{is_comma, is_and};
+ghost use Rattle.dx_script.specs.declared.form.Select.{Select as Chosen};
 ghost use Rattle.dx_script_tokens.specs.Numbers.{greatest_number};
+ghost use Rattle.dx_script_text.specs.Grammar.{is_comma, is_and};
 ghost use Rattle.dx_script_text.specs.Reading.{alias_cell_reader, select_call_reader, cell_value_reader, value_reader, select_item_reader, comma_item, items_reader, no_items, select_reader, from_source_reader, comma_source, sources_reader, and_counted, equal_reader, equals_reader, where_clause_reader, match_step_of, matched_reader, match_reader};
 
 use crate::tokens::{any_of, next_counts, next_has, next_of, that};

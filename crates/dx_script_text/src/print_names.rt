@@ -1,7 +1,7 @@
 // Names in double quotes, and texts in single quotes.
 ghost use Rattle.std.specs.Prelude.{◌≡◌, ◌++◌, OnOk, encode_utf8, string_bytes};
-ghost use Rattle.dx_script_text.specs.Print.{name_text};
 ghost use Rattle.dx_script_tokens.specs.Quoted.{doubled, single_quoted};
+ghost use Rattle.dx_script_text.specs.Print.{name_text};
 
 use dx_ports::Text;
 use std::alloc::AllocError;

@@ -4,8 +4,8 @@ ghost use Rattle.dx_ports.specs.Members.{Each};
 ghost use Rattle.dx_model.specs.Rules.{exported as exported_of};
 ghost use Rattle.dx_model.specs.Covers.{IsNoExistential, below, rule_at, used_maps};
 ghost use Rattle.dx_model.specs.Fitting.{AgreeInWidths, IsRule, conclusions_of};
-ghost use Rattle.dx_cover.specs.Covering.{covers_of};
 ghost use Rattle.dx_script.specs.Rewritten.{unless_of, unless_parts};
+ghost use Rattle.dx_cover.specs.Covering.{covers_of};
 ghost use Rattle.dx_scriptgen.specs.Parts.{test_for, tests_for};
 
 use crate::inserts::position;

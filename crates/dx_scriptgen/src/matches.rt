@@ -3,12 +3,12 @@ ghost use Rattle.std.specs.Prelude.{◌≡◌, ◌<◌, ◌+◌, IfOk, List, len
 ghost use Rattle.dx_ports.specs.Members.{Each};
 ghost use Rattle.dx_model.specs.Rules.{exported as exported_of};
 ghost use Rattle.dx_model.specs.Fitting.{IsRule, premise_variables};
+ghost use Rattle.dx_model.specs.declared.rules.Atom.{Atom as AtomValue};
+ghost use Rattle.dx_model.specs.Solutions.{AtomFits};
 ghost use Rattle.dx_schema.specs.Tables.{model_tables, tables_of};
 ghost use Rattle.dx_schema.specs.Names.{table_names_of};
 ghost use Rattle.dx_funcs.specs.Offers.{IsListed};
 ghost use Rattle.dx_funcs.specs.Serving.{offered};
-ghost use Rattle.dx_model.specs.declared.rules.Atom.{Atom as AtomValue};
-ghost use Rattle.dx_model.specs.Solutions.{AtomFits};
 ghost use Rattle.dx_script.specs.Names.{table_numbered};
 ghost use Rattle.dx_script.specs.Generated.{Spot, match_step as match_of, select_of as select_for};
 ghost use Rattle.dx_scriptgen.specs.Selecting.{firsts_of};

@@ -6,10 +6,10 @@ ghost use Rattle.dx_model.specs.Rules.{at_places, canonical, exported as exporte
 ghost use Rattle.dx_instance.specs.Cells.{NumberTable};
 ghost use Rattle.dx_instance.specs.Numbers.{Extends};
 ghost use Rattle.dx_instance.specs.Stored.{facts, rows_of, widths};
+ghost use Rattle.dx_joins.specs.Shown.{AreTexts, texts_of};
 ghost use Rattle.dx_tgd.specs.Counting.{canonical_cells};
 ghost use Rattle.dx_tgd.specs.Gained.{GainsFacts, HasRoomForRows};
 ghost use Rattle.dx_tgd.specs.Placed.{FitsWidths, HasCell};
-ghost use Rattle.dx_joins.specs.Shown.{AreTexts, texts_of};
 ghost use Rattle.dx_tgd.specs.Texts.{FitRules, tuples_in};
 ghost use Rattle.dx_tgd.specs.Planned.{CanStand, HasNumber, built, planned_number, planned_fact};
 

@@ -1,8 +1,8 @@
 // The matches of rules, kept as rows of numbers.
 ghost use Rattle.std.specs.Prelude.{◌≡◌, ◌<◌, ◌^◌, [], IfOk, length, slice_index_or};
 ghost use Rattle.dx_ports.specs.Members.{Each};
-ghost use Rattle.dx_joins.specs.Shown.{AreTexts};
 ghost use Rattle.dx_model.specs.Matches.{rows_of_matches};
+ghost use Rattle.dx_joins.specs.Shown.{AreTexts};
 ghost use Rattle.dx_tgd.specs.Texts.{tuples_in};
 
 use crate::texts::matches_of;

@@ -2,11 +2,11 @@
 ghost use Rattle.std.specs.Prelude.{◌≡◌, ◌++◌, ℕ, IfOk, OnOk, map};
 ghost use Rattle.dx_ports.specs.Members.{Each};
 ghost use Rattle.dx_model.specs.Rules.{TuplesAscend};
+ghost use Rattle.dx_model.specs.Matches.{rows_of_matches};
 ghost use Rattle.dx_instance.specs.Cells.{NumbersAscend};
 ghost use Rattle.dx_instance.specs.Numbers.{ValuesAscend};
-ghost use Rattle.dx_joins.specs.Shown.{AreTexts, texts_of};
 ghost use Rattle.dx_instance.specs.Ranks.{text_of_value};
-ghost use Rattle.dx_model.specs.Matches.{rows_of_matches};
+ghost use Rattle.dx_joins.specs.Shown.{AreTexts, texts_of};
 ghost use Rattle.dx_tgd.specs.Texts.{tuples_in};
 
 use dx_instance::{Rows, Symbols, Value};

@@ -5,13 +5,13 @@ use Rattle.dx_model.specs.Fitting.{RuleFits}
 use Rattle.dx_model.specs.declared.rules.Rule.{Rule}
 use Rattle.dx_schema.specs.Forest.{Forest}
 use Rattle.dx_schema.specs.Tables.{model_tables}
+use Rattle.dx_funcs.specs.declared.conversion.Conversion.{Conversion}
+use Rattle.dx_funcs.specs.Offers.{IsListed}
 use Rattle.dx_schema_text.specs.declared.texts.CellText.{CellText}
 use Rattle.dx_schema_text.specs.declared.texts.CellText.TheVariants.{Name, Literal}
 use Rattle.dx_schema_text.specs.declared.texts.RuleText.{RuleText}
 use Rattle.dx_schema_text.specs.declared.texts.MappingText.{MappingText}
 use Rattle.dx_schema_text.specs.Texts.{IsMappingText}
-use Rattle.dx_funcs.specs.declared.conversion.Conversion.{Conversion}
-use Rattle.dx_funcs.specs.Offers.{IsListed}
 use Rattle.dx_tgd_text.specs.Numbering.{text_cells}
 use Rattle.dx_tgd_text.specs.Reading.{RuleHasFewCells, rule_fault, rule_of_text, size_of}
 

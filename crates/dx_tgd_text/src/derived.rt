@@ -1,7 +1,7 @@
 // Derived variables, by the numbers of what they name.
 ghost use Rattle.std.specs.Prelude.{◌≡◌, ◌⊎◌, ◌+◌, ◌-◌, ◌^◌, ◌<◌, ◌≤◌, ◌++◌, None, Some, MatchResult, length, map, take};
-ghost use Rattle.dx_tokens.specs.declared.faults.TextFault.TheVariants.{Memory};
 ghost use Rattle.dx_funcs.specs.Serving.{offered};
+ghost use Rattle.dx_tokens.specs.declared.faults.TextFault.TheVariants.{Memory};
 ghost use Rattle.dx_line_text.specs.Answers.{AnswersOrFault, ReadsOrMemory};
 ghost use Rattle.dx_tgd_text.specs.Reading.{arg_fault, arg_of, args_fault, conversion_fault, derived_fault, derived_faults, derived_names, derived_of_text};
 

@@ -3,8 +3,8 @@ ghost use Rattle.std.specs.Prelude.{◌≡◌, ◌⊎◌, None, Some, IfErr, IfO
 ghost use Rattle.dx_ports.specs.Members.{Each};
 ghost use Rattle.dx_model.specs.Fitting.{RuleFits};
 ghost use Rattle.dx_schema.specs.Tables.{model_tables};
-ghost use Rattle.dx_tokens.specs.declared.faults.TextFault.TheVariants.{Memory};
 ghost use Rattle.dx_funcs.specs.Serving.{offered};
+ghost use Rattle.dx_tokens.specs.declared.faults.TextFault.TheVariants.{Memory};
 ghost use Rattle.dx_line_text.specs.Answers.{ReadsOrMemory};
 ghost use Rattle.dx_tgd_text.specs.Laws.{AreOffered, IsWholeRule};
 ghost use Rattle.dx_tgd_text.specs.Reading.{RuleHasFewCells, rule_fault, rule_of_text, rules_fault, rules_of_texts};

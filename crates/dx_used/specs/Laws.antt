@@ -1,8 +1,8 @@
 -- Rules see of an instance the columns that they use, and nothing else.
 use Rattle.std.specs.Prelude.{List}
+use Rattle.dx_ports.specs.Members.{Each}
 use Rattle.dx_model.specs.declared.facts.Fact.{Fact}
 use Rattle.dx_model.specs.declared.rules.Rule.{Rule}
-use Rattle.dx_ports.specs.Members.{Each}
 use Rattle.dx_model.specs.Values.{Conversions, Rows}
 use Rattle.dx_model.specs.Rules.{AreRows, Satisfies}
 use Rattle.dx_model.specs.Solutions.{IsSolution, IsUniversal}

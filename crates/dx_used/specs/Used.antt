@@ -1,5 +1,6 @@
 -- Which columns of the source rules use, and instances that agree on these columns.
 use Rattle.std.specs.Prelude.{◌≡◌, ℕ, zero, suc, Bool, true, false, cond, eqb, List, [], ◌∷◌, ◌++◌, length, map, flat_map, slice_index_or}
+use Rattle.dx_ports.specs.Members.{◌∈◌, ◌≈◌, Each}
 use Rattle.dx_model.specs.declared.values.Value.{Value}
 use Rattle.dx_model.specs.declared.values.Value.TheVariants.{Const, Null}
 use Rattle.dx_model.specs.declared.facts.Fact.{Fact}
@@ -8,7 +9,6 @@ use Rattle.dx_model.specs.declared.rules.Cell.TheVariants.{Var, Ex, Lit}
 use Rattle.dx_model.specs.declared.rules.Atom.{Atom}
 use Rattle.dx_model.specs.declared.rules.Derived.{Derived}
 use Rattle.dx_model.specs.declared.rules.Rule.{Rule}
-use Rattle.dx_ports.specs.Members.{◌∈◌, ◌≈◌, Each}
 use Rattle.dx_model.specs.Rules.{cells_of}
 
 -- how often a variable stands among cells

@@ -3,9 +3,9 @@ use Rattle.std.specs.Prelude.{◌≡◌, ◌<◌, ℕ, List, []}
 use Rattle.dx_ports.specs.Members.{Each}
 use Rattle.dx_schema.specs.Forest.{Forest}
 use Rattle.dx_schema.specs.Tables.{model_tables, tables_of}
-use Rattle.dx_logical.specs.Laws.{HasNoOptional}
 use Rattle.dx_schema_text.specs.declared.texts.MappingText.{MappingText}
 use Rattle.dx_schema_text.specs.Texts.{IsMappingText}
+use Rattle.dx_logical.specs.Laws.{HasNoOptional}
 
 -- no table of a schema has a dependency: what its tables determine, they determine by keys
 abbrev pub HasNoDependency : Forest → Type 0

@@ -2,8 +2,8 @@
 ghost use Rattle.std.specs.Prelude.{◌≡◌, ◌≤◌, ◌<◌, IfOk, IfErr, OnOk, length};
 ghost use Rattle.dx_ports.specs.Members.{Each};
 ghost use Rattle.dx_lines.specs.Ways.{line_ways, ways as ways_of};
-ghost use Rattle.dx_ways.specs.declared.fault.WaysFault.TheVariants.{TooMany};
 ghost use Rattle.dx_lines.specs.Reading.{CanBeRead, IsReached};
+ghost use Rattle.dx_ways.specs.declared.fault.WaysFault.TheVariants.{TooMany};
 ghost use Rattle.dx_ways.specs.Laws.{PicksAscend};
 ghost use Rattle.dx_ways.specs.Tried.{put_all};
 

@@ -1,9 +1,9 @@
 // The picks that choices of occurrences give, put into an ascending list of at most 64.
 ghost use Rattle.std.specs.Prelude.{◌≡◌, ◌≤◌, ◌<◌, ◌∷◌, List, IfOk, IfErr, OnOk, insert, length, map};
-ghost use Rattle.dx_ways.specs.declared.fault.WaysFault.TheVariants.{TooMany};
-ghost use Rattle.dx_lines.specs.Ways.{pick, put_in};
-ghost use Rattle.dx_ways.specs.Tried.{AreTooMany, picks_by, put_all, tried};
 ghost use Rattle.dx_ports.specs.Members.{behind};
+ghost use Rattle.dx_lines.specs.Ways.{pick, put_in};
+ghost use Rattle.dx_ways.specs.declared.fault.WaysFault.TheVariants.{TooMany};
+ghost use Rattle.dx_ways.specs.Tried.{AreTooMany, picks_by, put_all, tried};
 
 use crate::fault::WaysFault;
 use crate::picks::{copy_term, pick_order};

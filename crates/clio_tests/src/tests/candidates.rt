@@ -2,9 +2,9 @@
 ghost use Rattle.std.specs.Prelude.{◌≡◌, IfOk, length};
 ghost use Rattle.dx_ports.specs.Members.{Each};
 ghost use Rattle.dx_schema.specs.Tables.{model_tables};
-ghost use Rattle.dx_lines.specs.Limits.{LineFits};
 ghost use Rattle.dx_funcs.specs.Offers.{IsListed};
 ghost use Rattle.dx_funcs.specs.Shipped.{shipped_apply, shipped_conversions};
+ghost use Rattle.dx_lines.specs.Limits.{LineFits};
 
 use dx_candidates::{candidates, kept};
 use dx_funcs::{Host, Meaning, Shipped, convert, shipped_list};

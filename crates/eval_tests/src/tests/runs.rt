@@ -1,11 +1,11 @@
 // Runs of the plain and of the rewritten script of mappings.
 ghost use Rattle.std.specs.Prelude.{◌≡◌, ◌<◌, ◌-◌, ◌^◌, [], IfOk, length};
+ghost use Rattle.dx_schema.specs.Names.{table_names_of};
+ghost use Rattle.dx_schema.specs.Tables.{schema_widths};
 ghost use Rattle.dx_funcs.specs.Offers.{IsListed};
 ghost use Rattle.dx_funcs.specs.Serving.{Serves, offered};
 ghost use Rattle.dx_funcs.specs.Shipped.{shipped_apply, shipped_conversions};
 ghost use Rattle.dx_instance.specs.Stored.{widths};
-ghost use Rattle.dx_schema.specs.Names.{table_names_of};
-ghost use Rattle.dx_schema.specs.Tables.{schema_widths};
 ghost use Rattle.dx_script.specs.Fits.{FitsScript};
 ghost use Rattle.clio_accept.specs.Laws.{MappingFits};
 

@@ -1,7 +1,7 @@
 // Values and their texts, and rows out of lines.
 ghost use Rattle.std.specs.Prelude.{◌≡◌, IfOk};
-ghost use Rattle.dx_instance.specs.Stored.{widths};
 ghost use Rattle.dx_schema.specs.Tables.{schema_widths};
+ghost use Rattle.dx_instance.specs.Stored.{widths};
 
 use dx_instance::{
     Gathered, Instance, Ordered, Row, Symbols, Value, copy_value, value_read, value_text,
