@@ -1,7 +1,7 @@
 //! What a run of a script makes.
 //!
 //! specs/Evaluating says what is made of the rows of a source (`IsMade`: the matches and the facts that the script means, within
-//! a limit on the cells that are inserted for all matches) and when a script passes the limit (`PassesLimit`). `eval` makes
+//! a limit on the cells that are inserted for all matches) and when a script passes the limit (`ScriptPassesLimit`). `eval` makes
 //! exactly that. The laws: two runs of a script agree, and what a script means is made within a limit, or passes it, and
 //! never both.
 //!
