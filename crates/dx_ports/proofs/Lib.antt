@@ -8,3 +8,4 @@ pub mod Firsts
 mod Buffers
 mod LimitExamples
 pub mod Lists
+pub mod Options

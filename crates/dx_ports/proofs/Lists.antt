@@ -1,7 +1,8 @@
 -- Lists from a place on, empty ones, and two lists place by place.
-use Rattle.std.proofs.Common.{◌≡◌, ℕ, suc, ◌+◌, ◌<◌, List, ◌∷◌, sym, ◌∙◌, ap, length, drop, get_or, add-one, drop-cons, zero, [], arith, ◌≤◌, Bool, false, true, refl, Option, Some, None, inl, inr, ◌++◌}
-use Rattle.std.specs.Prelude.{◌==◌, ◌⊎◌}
+use Rattle.std.proofs.Common.{◌≡◌, ℕ, suc, ◌+◌, ◌<◌, List, ◌∷◌, sym, ◌∙◌, ap, length, drop, get_or, add-one, drop-cons, zero, [], arith, ◌≤◌, Bool, false, true, refl, Option, Some, None, inl, inr, ◌++◌, take, subst}
+use Rattle.std.specs.Prelude.{◌==◌, ◌⊎◌, replicate, slice_get}
 use Rattle.std.proofs.lemmas.Bool.{false≢true, eqb-true}
+use Rattle.std.proofs.lemmas.List.{take_more}
 use Rattle.std.specs.List.{AllZip}
 use Rattle.dx_ports.specs.Members.{◌∈◌, here, there}
 
@@ -63,3 +64,62 @@ zip_grow R Q (x ∷ xs) (y ∷ ys) f z = (f x y z.0, zip_grow R Q xs ys f z.1)
 -- lists with equal heads
 pub head_is : (b c : ℕ) (xs ys : List ℕ) → b ∷ xs ≡ c ∷ ys → b ≡ c
 head_is b c xs ys e = cc
+
+-- what stands at a place, asked for with a default and without one
+pub get_at : {X : Type 0} (xs : List X) (i : ℕ) (x : X) → i < length xs → x ≡ get_or xs i x → slice_get xs i ≡ Some x
+get_at [] i x h e = absurd (omega arith)
+get_at (y ∷ xs) zero x h e = ap Some (sym e)
+get_at (y ∷ xs) (suc i) x h e = get_at xs i x (omega arith) e
+
+-- what stands at a place is a member
+pub get_in : {X : Type 0} (xs : List X) (i : ℕ) (x : X) → slice_get xs i ≡ Some x → x ∈ xs
+get_in [] i x e = absurd (no e)
+  where
+    no : None ≡ Some x → ⊥
+    no e = cc
+get_in (y ∷ xs) zero x e = here (cc)
+get_in (y ∷ xs) (suc i) x e = there (get_in xs i x e)
+
+-- nothing is left past the end
+pub drop_past : {X : Type 0} (xs : List X) (i : ℕ) → length xs ≤ i → drop i xs ≡ []
+drop_past [] zero h = refl
+drop_past [] (suc i) h = refl
+drop_past (x ∷ xs) zero h = absurd (omega (arith, h))
+drop_past (x ∷ xs) (suc i) h = drop_past xs i (omega (arith, h))
+
+-- a list of length 0 is empty
+pub none_of_length : {X : Type 0} (xs : List X) → length xs ≡ 0 → xs ≡ []
+none_of_length [] e = refl
+none_of_length (x ∷ xs) e = absurd (omega (arith, e))
+
+-- two lists place by place, at a place
+pub zip_at : {X Y : Type 0} (R : X → Y → Type 0) (xs : List X) (ys : List Y) (i : ℕ) (d : X) (e : Y) → AllZip R xs ys → i < length xs → R (get_or xs i d) (get_or ys i e)
+zip_at R [] [] i d e z h = absurd (omega arith)
+zip_at R [] (y ∷ ys) i d e z h = absurd z
+zip_at R (x ∷ xs) [] i d e z h = absurd z
+zip_at R (x ∷ xs) (y ∷ ys) zero d e z h = z.0
+zip_at R (x ∷ xs) (y ∷ ys) (suc i) d e z h = zip_at R xs ys i d e z.1 (omega (arith, h))
+
+-- one place more of two lists place by place
+pub zip_more : {X Y : Type 0} (R : X → Y → Type 0) (xs : List X) (ys : List Y) (i : ℕ) (x : X) (y : Y) → i < length xs → x ≡ get_or xs i x → AllZip R (take i xs) ys → R x y → AllZip R (take (i + 1) xs) (ys ++ y ∷ [])
+zip_more R xs ys i x y h e z r = rw (take_more xs i x h, ← e) (zip_push R (take i xs) ys x y z r)
+
+-- a member of the first list has a partner in the second
+pub to_zip : {X Y : Type 0} (R : X → Y → Type 0) (xs : List X) (ys : List Y) (x : X) → AllZip R xs ys → x ∈ xs → (y : Y) × (y ∈ ys) × R x y
+to_zip R [] ys x z m = elim m [ ]
+to_zip R (x ∷ xs) [] w z m = absurd z
+to_zip {X} {Y} R (x ∷ xs) (y ∷ ys) w z (here e) = (y, here refl, subst (λ (u : X). R u y) e z.0)
+to_zip R (x ∷ xs) (y ∷ ys) w z (there m) = let r = to_zip R xs ys w z.1 m in (r.0, there r.1, r.2)
+
+-- a member of the second list has a partner in the first
+pub from_zip : {X Y : Type 0} (R : X → Y → Type 0) (xs : List X) (ys : List Y) (y : Y) → AllZip R xs ys → y ∈ ys → (x : X) × (x ∈ xs) × R x y
+from_zip R xs [] y z m = elim m [ ]
+from_zip R [] (y ∷ ys) w z m = absurd z
+from_zip {X} {Y} R (x ∷ xs) (y ∷ ys) w z (here e) = (x, here refl, subst (λ (u : Y). R x u) e z.0)
+from_zip R (x ∷ xs) (y ∷ ys) w z (there m) = let r = from_zip R xs ys w z.1 m in (r.0, there r.1, r.2)
+
+-- a list of marks that are all false is false at each place, and past its end
+pub none_in : (n p : ℕ) → get_or (replicate n false) p false ≡ false
+none_in zero p = refl
+none_in (suc n) zero = refl
+none_in (suc n) (suc p) = none_in n p

@@ -1,6 +1,7 @@
 -- Loops that are true exactly where each member has a property.
-use Rattle.std.proofs.Common.{◌≡◌, ℕ, ◌<◌, ◌≤◌, ◌+◌, List, [], ◌∷◌, length, get_or, take, refl, sym, ◌∙◌, subst, inl, inr}
-use Rattle.std.specs.Prelude.{IsTrue, ◌↔◌, Bool, true, false}
+use Rattle.std.proofs.Common.{◌≡◌, ℕ, ◌<◌, ◌≤◌, ◌+◌, List, [], ◌∷◌, ◌++◌, length, get_or, take, refl, sym, ◌∙◌, subst, inl, inr}
+use Rattle.std.specs.Prelude.{IsTrue, ◌↔◌, ◌||◌, Bool, true, false}
+use Rattle.std.specs.Bool.{OnTrue}
 use Rattle.std.proofs.lemmas.Bool.{false≢true, true≢false}
 use Rattle.std.proofs.lemmas.List.{take_more, take_all}
 use Rattle.dx_ports.specs.Members.{◌∈◌, here, there, Each}
@@ -26,3 +27,21 @@ each_item P xs i x h e a = a x (rw e (in_at xs i x h))
 -- a loop that came to its end tells that the whole holds
 pub all_so : {X Q : Type 0} (P : X → Type 0) (xs : List X) (i : ℕ) → length xs ≤ i → Each (take i xs) P → (Each xs P → Q) → (IsTrue true ↔ Q)
 all_so P xs i h a f = ((λ t. f (λ x m. a x (rw (take_all i xs h) m))), (λ q. refl))
+
+-- what follows from a test that is true
+pub on_true : (b : Bool) (P : Type 0) → (b ≡ true → P) → OnTrue b P
+on_true true P f = f refl
+on_true false P f = tt
+
+-- neither of two tests is true
+pub neither : (a b : Bool) → (a || b) ≡ false → (a ≡ false) × (b ≡ false)
+neither true b h = absurd (cc h)
+neither false b h = (refl, h)
+
+-- each member of a list, and of one more
+pub each_push : (P : ℕ → Type 0) (xs : List ℕ) (x : ℕ) → Each xs P → P x → Each (xs ++ x ∷ []) P
+each_push P xs x h p y m = elim (from_append xs m) [ inl l ↦ h y l | inr r ↦ last r ]
+  where
+    last : y ∈ (x ∷ []) → P y
+    last (here e) = subst P e p
+    last (there n) = elim n [ ]
