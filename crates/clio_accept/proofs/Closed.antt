@@ -5,6 +5,7 @@ use Rattle.std.specs.List.{list_any}
 use Rattle.std.proofs.lemmas.Bool.{cases_Bool, cases_lt, cases_eq, cond-true, cond-false}
 use Rattle.dx_ports.specs.Members.{◌∈◌, here, there, Each}
 use Rattle.dx_ports.proofs.Members.{from_append, from_map, in_at, in_flat_map, from_flat_map}
+use Rattle.dx_ports.proofs.Lists.{get_in}
 use Rattle.dx_model.specs.declared.rules.Cell.{Cell}
 use Rattle.dx_model.specs.declared.rules.Cell.TheVariants.{Var, Ex, Lit}
 use Rattle.dx_model.specs.declared.rules.Atom.{Atom}
@@ -25,7 +26,7 @@ use Rattle.dx_closing.specs.declared.growing.Growing.{Growing}
 use Rattle.dx_closing.specs.Closing.{serves, supplied, through_link, through_links, through_atom, gone, begun, IsClosing}
 use Rattle.dx_closing.proofs.Going.{one_closing}
 use Rattle.dx_closing.proofs.Numbered.{closing_numbered}
-use Rattle.dx_closing.proofs.Served.{closing_serves, get_in}
+use Rattle.dx_closing.proofs.Served.{closing_serves}
 use Rattle.clio_accept.specs.declared.fault.AcceptFault.{AcceptFault}
 use Rattle.clio_accept.specs.declared.fault.AcceptFault.TheVariants.{Memory}
 use Rattle.clio_accept.specs.Mapping.{AreClosings, IsNarrowClosing, IsTooWide, TooWide, WidthRefused}

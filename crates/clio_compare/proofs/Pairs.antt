@@ -13,6 +13,7 @@ use Rattle.dx_model.specs.Fitting.{RuleFits}
 use Rattle.dx_model.specs.Following.{frozen_text}
 use Rattle.dx_model.specs.Tables.{IsInstance}
 use Rattle.dx_ports.specs.Texts.{Text}
+use Rattle.dx_ports.proofs.Lists.{get_at, get_in}
 use Rattle.dx_schema.specs.Forest.{Forest}
 use Rattle.dx_schema.specs.Tables.{AreTables, model_tables, tables_of}
 use Rattle.dx_schema.proofs.Valid.{are_tables}
@@ -22,7 +23,7 @@ use Rattle.dx_compare.specs.declared.comparing.Answer.TheVariants as answers
 use Rattle.dx_compare.specs.declared.comparing.Comparison.{Comparison}
 use Rattle.dx_compare.specs.Comparing.{IsDirectionAnswer, IsComparison}
 use Rattle.dx_compare.specs.Letters.{letters}
-use Rattle.dx_compare.proofs.Answered.{get_front, get_in, get_is}
+use Rattle.dx_compare.proofs.Answered.{get_front}
 use Rattle.dx_compare.proofs.Exists.{canonical_fit, compared_or_past, frozen_fit}
 use Rattle.dx_compare.proofs.Forests.{forests_same}
 use Rattle.dx_stages.specs.declared.stop.Stop.{Stop}
@@ -139,7 +140,7 @@ pub all_plain : (R : List Rule) (i : ℕ) → length R ≤ i → ArePlain (take 
 all_plain R i h before = subst ArePlain (take_all i R h) before
 
 pub is_first : (R : List Rule) (i : ℕ) (d : Rule) → i < length R → d ≡ get_or R i d → ArePlain (take i R) → 0 < length d.derived → IsFirstDerived R i
-is_first R i d lt is before some = record { rule = d; is = get_is R i d lt is; some = derived_some d.derived some; before = before }
+is_first R i d lt is before some = record { rule = d; is = get_at R i d lt is; some = derived_some d.derived some; before = before }
 
 -- ---- tests
 

@@ -17,6 +17,7 @@ use Rattle.dx_instance.specs.ValueText.{ValueFits, const_text, null_text, questi
 use Rattle.dx_instance.proofs.Placed.{row_total}
 use Rattle.dx_instance.proofs.StoredFacts.{fact_from_row, row_from_fact, same_tables}
 use Rattle.dx_instance.proofs.TextFacts.{texts_differ}
+use Rattle.dx_instance.proofs.NoTexts.{plain_text, marked_text}
 use Rattle.dx_schema.specs.Forest.{Forest}
 use Rattle.dx_schema.specs.Tables.{schema_table, tables_of}
 use Rattle.dx_csv.specs.Table.{table_records}
@@ -31,7 +32,7 @@ use Rattle.clio_source.specs.declared.fault.RowsFault.TheVariants.{Absent, Csv, 
 use Rattle.clio_source.specs.declared.fault.SourceRefusal.{SourceRefusal}
 use Rattle.clio_source.specs.declared.fault.SourceRefusal.TheVariants as refusals
 use Rattle.clio_source.specs.Source.{IsStored, ReadState, as_facts, fact_cells, fetching, too_many_bytes}
-use Rattle.clio_source.proofs.Decided.{some_stored}
+use Rattle.clio_source.proofs.Decided.{some_stored, row_of_both, fetching_decided, fetching_one}
 use Rattle.clio_source.proofs.Passed.{AreOf}
 use Rattle.clio_source.proofs.Runs.{its_file}
 use Rattle.clio_given.specs.Given.{AreValuesOf, IsGivenRowsFault, IsGivenFault, IsFirstNoRow, IsNoRow, IsValueOf, SayRows, SaysGivenRows, TargetRequest, given_files_stages, given_name, given_loading, none_read, given_reading, given_storing, too_many_given_cells, with_given_facts}
@@ -80,12 +81,6 @@ null_or text n = elim (below_or (λ a. (b : ℕ) × (b < n) × ((c : ℕ) × (c 
       | inl w ↦ inl (w.0, w.2.0, w.2.1)
       | inr none ↦ inr (λ w. none w.0 w.1 (w.1, w.2))
     ]
-
-plain_text : (t : List ℕ) → starts_with_question_mark t ≡ false → const_text t ≡ t
-plain_text t e = rw e refl
-
-marked_text : (t : List ℕ) → starts_with_question_mark t ≡ true → const_text t ≡ question_mark ∷ t
-marked_text t e = rw e refl
 
 abbrev IsTextOf : List ℕ → Value → Type 0
 IsTextOf text v = ValueFits v × (value_text_of v ≡ text)
@@ -285,16 +280,6 @@ module _ (f : Forest) (table : ℕ) (bytes : List ℕ) where
 
 -- ---- one table
 
-fetching_one : (name : List ℕ) → PassesOne (fetching name)
-fetching_one name =
-    into_one (λ (r : ReadState) (bytes : List ℕ). (r, bytes)) (by (its_file name))
-    (by_one (its_file name) (λ r. file_one ReadState name r.bytes_left (refusals.Rows name Absent) too_many_bytes))
-
-fetching_decided : (name : List ℕ) → IsDecided Same Any (fetching name)
-fetching_decided name =
-    into_decided Same Any (λ (r : ReadState) (bytes : List ℕ). (r, bytes)) (by (its_file name))
-    (by_decided Same Any (its_file name) (λ r g. file_decided Same Any name r.bytes_left (refusals.Rows name Absent) too_many_bytes (λ e. refl)))
-
 module _ (f : Forest) (table : ℕ) where
   says_one : PassesOne (notions (IsGivenFault f table) (SaysGivenRows f table))
   says_one c p q s x y =
@@ -366,11 +351,6 @@ all_of f (u ∷ us) c r s are of (b, one, rest) = all_of f us c b s (λ v m. are
 
 abbrev IsOf : Forest → ReadState → Type 0
 IsOf f r = AreOf f r.facts
-
-row_of_both : (f : Forest) (said : List Fact) (I J : List TableRows) → IsStored f said I → IsStored f said J → (t : ℕ) → rows_of I t ⊆ rows_of J t
-row_of_both f said I J p q t x m =
-    let fact : Fact = record { table = t; row = x } in
-    row_from_fact J fact (q.exact.1 fact (p.exact.0 fact (fact_from_row I t x m)))
 
 storing_one : (f : Forest) → PassesOne (given_storing f)
 storing_one f c r I J p q =

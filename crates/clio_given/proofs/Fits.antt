@@ -21,7 +21,7 @@ use Rattle.dx_stages.specs.Running.{Gives}
 use Rattle.clio_source.specs.declared.fault.SourceRefusal.{SourceRefusal}
 use Rattle.clio_source.specs.declared.fault.SourceRefusal.TheVariants as refusals
 use Rattle.clio_source.specs.Source.{IsStored, ReadState, as_facts, fact_cells}
-use Rattle.clio_source.proofs.Fits.{cells_of_rows}
+use Rattle.clio_source.proofs.Fits.{cells_of_rows, shown_widths}
 use Rattle.clio_source.proofs.Numbers.{facts_of_one, still_fit}
 use Rattle.clio_given.specs.declared.reading.Reading.{Reading}
 use Rattle.clio_given.specs.Given.{SayRows, given_name, given_loading, none_read, too_many_given_cells, with_given_facts}
@@ -123,10 +123,6 @@ loaded f n before after t bytes fit h grows e says few b c =
     λ world. ((with_bytes q bytes, as_facts n rows), (rows, says, refl), within f (with_bytes q bytes, as_facts n rows) few ∙ ap (λ (r : ReadState). Ok r) same)
 
 -- ---- the instance
-
-shown_widths : (S : List Value) (ts : List NumberTable) → widths (shown_tables S ts) ≡ map width_of ts
-shown_widths S [] = refl
-shown_widths S (t ∷ ts) = ap (λ (ws : List ℕ). t.width ∷ ws) (shown_widths S ts)
 
 pub is_stored : (f : Forest) (r : Reading) (I : List TableRows) → GivenReadFits f (length (tables_of f)) r → IsSorting (shown_tables r.symbols r.tables.items) I
     → IsStored f (read_of r).facts I

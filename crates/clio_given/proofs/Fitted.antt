@@ -3,7 +3,7 @@ use Rattle.std.proofs.Common.{◌≡◌, ◌∙◌, ℕ, ◌<◌, List, [], ◌�
 use Rattle.std.specs.List.{AllZip, range_with_len}
 use Rattle.std.proofs.lemmas.List.{get_or-map, length-map}
 use Rattle.dx_ports.specs.Members.{◌∈◌, here, there, Each}
-use Rattle.dx_ports.proofs.Lists.{zip_long}
+use Rattle.dx_ports.proofs.Lists.{zip_long, from_zip}
 use Rattle.dx_ports.proofs.Members.{from_append, from_map}
 use Rattle.dx_ports.proofs.Ranges.{from_range}
 use Rattle.dx_model.specs.declared.facts.Fact.{Fact}
@@ -20,17 +20,10 @@ use Rattle.clio_given.specs.Laws.{GivenFits}
 use Rattle.clio_given.proofs.Decided.{counted}
 use Rattle.clio_given.proofs.Parsed.{table_wide}
 
--- each of the second goes with one of the first
-zip_back : {X Y : Type 0} (R : X → Y → Type 0) (xs : List X) (ys : List Y) (y : Y) → AllZip R xs ys → y ∈ ys → (x : X) × (x ∈ xs) × R x y
-zip_back R xs [] y z m = elim m [ ]
-zip_back R [] (y ∷ ys) w z m = absurd z
-zip_back {X} {Y} R (x ∷ xs) (y ∷ ys) w z (here e) = (x, here refl, subst (λ (u : Y). R x u) e z.0)
-zip_back R (x ∷ xs) (y ∷ ys) w z (there m) = let r = zip_back R xs ys w z.1 m in (r.0, there r.1, r.2)
-
 -- rows are as wide as their table
 rows_wide : (f : Forest) (table : ℕ) (bytes : List ℕ) (rows : List (List Value)) → SayRows f table bytes rows → Each rows (λ row. length row ≡ length (schema_table f table).columns)
 rows_wide f table bytes rows says row m =
-    let x = zip_back (AllZip IsValueOf) says.0 rows row says.2 m in
+    let x = from_zip (AllZip IsValueOf) says.0 rows row says.2 m in
     sym (zip_long IsValueOf x.0 row x.2) ∙ table_wide (table_records bytes) (schema_table f table).columns says.0 says.1 x.0 x.1
 
 rows_fit : (f : Forest) (table : ℕ) (rows : List (List Value)) → table < length (tables_of f) → Each rows (λ row. length row ≡ length (schema_table f table).columns)

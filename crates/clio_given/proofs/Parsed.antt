@@ -23,13 +23,6 @@ use Rattle.clio_given.specs.Reading.{AreShown}
 
 -- ---- options, and symbols
 
-pub none_left : {X : Type 0} (A : Type 0) (B : X → Type 0) (o : Option X) → MatchOption o A B → ((x : X) → ¬ (o ≡ Some x)) → A
-none_left A B None m n = m
-none_left A B (Some x) m n = absurd (n x refl)
-
-pub some_left : {X : Type 0} (A : Type 0) (B : X → Type 0) (o : Option X) (x : X) → o ≡ Some x → MatchOption o A B → B x
-some_left {X} A B o x e m = subst (λ (p : Option X). MatchOption p A B) e m
-
 pub extends_none : (S : List Value) → Extends S S
 extends_none S = record { more = []; is = sym (append-nil S) }
 

@@ -65,10 +65,10 @@ either_one nested f root bytes = elim (one_of_both bytes f root) [
 
 -- ---- one root
 
-fetching_one : (name : List ℕ) → PassesOne (fetching name)
+pub fetching_one : (name : List ℕ) → PassesOne (fetching name)
 fetching_one name = into_one (λ (r : ReadState) (bytes : List ℕ). (r, bytes)) (by (its_file name)) (by_one (its_file name) (λ r. file_one ReadState name r.bytes_left (refusals.Rows name Absent) too_many_bytes))
 
-fetching_decided : (name : List ℕ) → IsDecided Same Any (fetching name)
+pub fetching_decided : (name : List ℕ) → IsDecided Same Any (fetching name)
 fetching_decided name = into_decided Same Any (λ (r : ReadState) (bytes : List ℕ). (r, bytes)) (by (its_file name))
     (by_decided Same Any (its_file name) (λ r g. file_decided Same Any name r.bytes_left (refusals.Rows name Absent) too_many_bytes (λ e. refl)))
 
@@ -110,7 +110,7 @@ row_total : IsTotalOrder row_cmp
 row_total = lists_total value_total
 
 -- a row of one is a row of the other
-row_of_both : (f : Forest) (said : List Fact) (I J : List TableRows) → IsStored f said I → IsStored f said J → (t : ℕ) → rows_of I t ⊆ rows_of J t
+pub row_of_both : (f : Forest) (said : List Fact) (I J : List TableRows) → IsStored f said I → IsStored f said J → (t : ℕ) → rows_of I t ⊆ rows_of J t
 row_of_both f said I J p q t x m = row_from_fact J (record { table = t; row = x }) (q.exact.1 (record { table = t; row = x }) (p.exact.0 (record { table = t; row = x }) (fact_from_row I t x m)))
 
 storing_one : (passes : Passes) (conditions : List Condition) (f : Forest) → PassesOne (storing passes conditions f)

@@ -210,7 +210,7 @@ few_read f r fit few = omega (arith, few, many_tables f (length (tables_of f)) r
 all_wide : (f : Forest) (r : Reading) → ReadFits f (length (tables_of f)) r → map width_of r.tables.items ≡ schema_widths f
 all_wide f r fit = fit.widths ∙ take_all (length (tables_of f)) (schema_widths f) (rw (length-map (tables_of f) (λ (t : TableOf). length t.columns)) (omega arith))
 
-shown_widths : (S : List Value) (ts : List NumberTable) → widths (shown_tables S ts) ≡ map width_of ts
+pub shown_widths : (S : List Value) (ts : List NumberTable) → widths (shown_tables S ts) ≡ map width_of ts
 shown_widths S [] = refl
 shown_widths S (t ∷ ts) = ap (λ ws. t.width ∷ ws) (shown_widths S ts)
 

@@ -7,7 +7,7 @@ use Rattle.std.proofs.Math.Nat.{eq-or-lt_of_le}
 use Rattle.std.proofs.lemmas.List.{take_more, take_all, get_or_default, get_or-map, append-nil, map-append, length-map, length-append}
 use Rattle.dx_ports.specs.Members.{◌∈◌, here, there, Each}
 use Rattle.dx_ports.proofs.Members.{in_map, from_map, in_left, in_right, from_append, in_at, item_in}
-use Rattle.dx_ports.proofs.Lists.{zip_push}
+use Rattle.dx_ports.proofs.Lists.{zip_push, zip_at, from_zip}
 use Rattle.dx_model.specs.declared.values.Value.{Value}
 use Rattle.dx_model.specs.declared.values.Value.TheVariants.{Const}
 use Rattle.dx_model.specs.declared.rules.Cell.{Cell}
@@ -105,20 +105,6 @@ at_table S [] t n e = absurd (cc e)
 at_table S (u ∷ T) zero n e = (omega arith, cc e)
 at_table S (u ∷ T) (suc t) n e = let k = at_table S T t n e in (omega (arith, k.0), k.1)
 
-zip_at : {X Y : Type 0} (R : X → Y → Type 0) (xs : List X) (ys : List Y) (i : ℕ) (d : X) (e : Y) → AllZip R xs ys → i < length xs → R (get_or xs i d) (get_or ys i e)
-zip_at R [] [] i d e z h = absurd (omega arith)
-zip_at R [] (y ∷ ys) i d e z h = absurd z
-zip_at R (x ∷ xs) [] i d e z h = absurd z
-zip_at R (x ∷ xs) (y ∷ ys) zero d e z h = z.0
-zip_at R (x ∷ xs) (y ∷ ys) (suc i) d e z h = zip_at R xs ys i d e z.1 (omega (arith, h))
-
-zip_in : {X Y : Type 0} (R : X → Y → Type 0) (xs : List X) (ys : List Y) (y : Y) → AllZip R xs ys → y ∈ ys → (x : X) × (x ∈ xs) × R x y
-zip_in R [] [] y z m = elim m [ ]
-zip_in R [] (v ∷ ys) y z m = absurd z
-zip_in R (x ∷ xs) [] y z m = elim m [ ]
-zip_in {X} {Y} R (x ∷ xs) (v ∷ ys) y z (here e) = (x, here refl, subst (λ (u : Y). R x u) e z.0)
-zip_in R (x ∷ xs) (v ∷ ys) y z (there m) = let r = zip_in R xs ys y z.1 m in (r.0, there r.1, r.2)
-
 table_there : (T : List NumberTable) (t : ℕ) → t < length T → numbers_of_table T t ∈ T
 table_there T t h = in_at T t (record { width = 0; rows = [] }) h
 
@@ -128,7 +114,7 @@ module _ (S : List Value) (T : List NumberTable) (p : Part) (fits : PartsFit S T
 
   pub suiting_fit : (tables : List NumberTable) → AllZip (IsSuiting source p.answer) p.atoms tables → Each tables (NumberRowsFit (length S))
   suiting_fit tables z t m =
-      let r = zip_in (IsSuiting source p.answer) p.atoms tables t z m in
+      let r = from_zip (IsSuiting source p.answer) p.atoms tables t z m in
       let a = at_table S T r.0.table (length r.0.cells) (wide r.0 r.1) in
       let f = fits.each (numbers_of_table T r.0.table) (table_there T r.0.table a.0) in
       record {
@@ -228,9 +214,6 @@ named_fit S T cells atoms ps e k q m =
 
 pub named_variables : (cells : List Cell) (atoms : List Atom) (ps : List Pattern) → ArePatternsOf cells atoms (length atoms) ps → variables_of_patterns ps ≡ map (cell_number cells) (cells_of atoms)
 named_variables cells atoms ps k = k.variables ∙ ap (λ (l : List Atom). map (cell_number cells) (cells_of l)) (take_all (length atoms) atoms (omega arith))
-
-pub zip_more : {X Y : Type 0} (R : X → Y → Type 0) (xs : List X) (ys : List Y) (i : ℕ) (x : X) (y : Y) → i < length xs → x ≡ get_or xs i x → AllZip R (take i xs) ys → R x y → AllZip R (take (i + 1) xs) (ys ++ y ∷ [])
-zip_more R xs ys i x y h e z r = rw (take_more xs i x h, ← e) (zip_push R (take i xs) ys x y z r)
 
 pub result_suited : (S : List Value) (T : List NumberTable) (p : Part) → PartsFit S T → AtomsFitWidths (widths (shown_tables S T)) p.atoms → (tables : List NumberTable) (K : List TableRows) (result : Result (List TableRows) AllocError)
     → AllZip (IsSuiting (record { symbols = S; tables = T }) p.answer) p.atoms tables → shown_tables S T ≡ K → IfOk result (IsSorting (shown_tables S tables)) → IfOk result (IsSuited K p)

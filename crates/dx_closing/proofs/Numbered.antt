@@ -7,6 +7,7 @@ use Rattle.std.proofs.lemmas.List.{append-nil}
 use Rattle.std.proofs.lemmas.List.Concat.{flat_map-append}
 use Rattle.dx_ports.specs.Members.{◌∈◌, here, there, Each}
 use Rattle.dx_ports.proofs.Members.{in_at, in_flat_map, from_flat_map, from_map}
+use Rattle.dx_ports.proofs.Lists.{get_in}
 use Rattle.dx_model.specs.declared.rules.Cell.{Cell}
 use Rattle.dx_model.specs.declared.rules.Cell.TheVariants.{Var, Ex, Lit}
 use Rattle.dx_model.specs.declared.rules.Atom.{Atom}
@@ -20,7 +21,7 @@ use Rattle.dx_schema.specs.Links.{LinkFits, LinksFit}
 use Rattle.dx_closing.specs.declared.growing.Growing.{Growing}
 use Rattle.dx_closing.specs.Closing.{serves, supplied, through_link, through_links, through_atom, gone, begun, IsClosing}
 use Rattle.dx_closing.proofs.Numbers.{above_numbered, numbered_below}
-use Rattle.dx_closing.proofs.Served.{get_in, gone_fits}
+use Rattle.dx_closing.proofs.Served.{gone_fits}
 use Rattle.dx_closing.proofs.Steps.{fits_at}
 use Rattle.dx_logical.proofs.Facts.{given_among, numbered_further}
 

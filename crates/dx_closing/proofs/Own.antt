@@ -5,6 +5,7 @@ use Rattle.std.specs.List.{list_any}
 use Rattle.std.proofs.lemmas.Bool.{cond-true, eq-eqb, or_right}
 use Rattle.std.proofs.lemmas.Slice.Eq.{bytes_eq-Decides}
 use Rattle.dx_ports.specs.Members.{◌∈◌, here, there, Each}
+use Rattle.dx_ports.proofs.Lists.{get_in}
 use Rattle.dx_model.specs.declared.rules.Cell.{Cell}
 use Rattle.dx_model.specs.declared.rules.Cell.TheVariants.{Var, Ex, Lit}
 use Rattle.dx_model.specs.declared.rules.Atom.{Atom}
@@ -14,7 +15,7 @@ use Rattle.dx_model.specs.Tables.{Table, table_of}
 use Rattle.dx_closing.specs.declared.growing.Growing.{Growing}
 use Rattle.dx_closing.specs.Closing.{cells_are_one, has_cells, serves, supplied, through_link, through_links, through_atom, gone, begun}
 use Rattle.dx_closing.specs.Laws.{ServedIsClosing}
-use Rattle.dx_closing.proofs.Served.{Has, get_in}
+use Rattle.dx_closing.proofs.Served.{Has}
 
 same_cell-refl : (a : Cell) → cells_are_one a a ≡ true
 same_cell-refl (Var x) = eq-eqb x x refl

@@ -7,6 +7,7 @@ use Rattle.std.proofs.lemmas.List.{length-map}
 use Rattle.std.proofs.lemmas.Slice.Eq.{bytes_eq-Decides}
 use Rattle.dx_ports.specs.Members.{◌∈◌, here, there, Each, Distinct}
 use Rattle.dx_ports.proofs.Members.{in_left, in_right, from_append}
+use Rattle.dx_ports.proofs.Lists.{get_in}
 use Rattle.dx_model.specs.declared.rules.Cell.{Cell}
 use Rattle.dx_model.specs.declared.rules.Cell.TheVariants.{Var, Ex, Lit}
 use Rattle.dx_model.specs.declared.rules.Atom.{Atom}
@@ -107,14 +108,6 @@ link_fits schema row C l h fit =
 links_fit : (schema : List Table) (row : List Cell) (C : Growing) (ls : List Link) → ((l : Link) → l ∈ ls → l.table < length schema) → Each C.atoms (AtomFits schema) → Each (through_links schema row C ls).atoms (AtomFits schema)
 links_fit schema row C [] h fit = fit
 links_fit schema row C (l ∷ ls) h fit = links_fit schema row (through_link schema row C l) ls (λ k m. h k (there m)) (link_fits schema row C l (h l (here refl)) fit)
-
-pub get_in : {X : Type 0} (xs : List X) (i : ℕ) (x : X) → slice_get xs i ≡ Some x → x ∈ xs
-get_in [] i x e = absurd (no e)
-  where
-    no : None ≡ Some x → ⊥
-    no e = cc
-get_in (y ∷ xs) zero x e = here (cc)
-get_in (y ∷ xs) (suc i) x e = there (get_in xs i x e)
 
 atom_fits : (schema : List Table) (C : Growing) (o : Option Atom) → LinksFit schema → Each C.atoms (AtomFits schema) → ((a : Atom) → o ≡ Some a → a.table < length schema) → Each (through_atom schema C o).atoms (AtomFits schema)
 atom_fits schema C None fits fit h = fit

@@ -9,6 +9,7 @@ use Rattle.dx_ports.proofs.Members.{from_append, in_left, in_right, item_in}
 use Rattle.dx_model.specs.declared.rules.Rule.{Rule}
 use Rattle.dx_model.specs.Values.{Conversions}
 use Rattle.dx_ports.specs.Texts.{Text}
+use Rattle.dx_ports.proofs.Lists.{get_at, get_in}
 use Rattle.dx_model.specs.Following.{Follows, Implies}
 use Rattle.dx_schema.specs.Forest.{Forest}
 use Rattle.dx_instance.specs.Stored.{facts}
@@ -22,16 +23,6 @@ use Rattle.dx_compare.specs.declared.comparing.Answer.TheVariants as answers
 use Rattle.dx_compare.specs.Comparing.{IsDirectionAnswer, IsFirstRefuted, IsTestedRule, ComparisonPassesLimit, RulePassesLimit}
 
 -- ---- rules by number
-
-pub get_is : {X : Type 0} (xs : List X) (i : ℕ) (x : X) → i < length xs → x ≡ get_or xs i x → slice_get xs i ≡ Some x
-get_is [] i x h e = absurd (omega (arith, h))
-get_is (y ∷ ys) zero x h e = ap Some (sym e)
-get_is (y ∷ ys) (suc i) x h e = get_is ys i x (omega (arith, h)) e
-
-pub get_in : {X : Type 0} (xs : List X) (i : ℕ) (x : X) → slice_get xs i ≡ Some x → x ∈ xs
-get_in [] i x e = absurd (cc)
-get_in (y ∷ ys) zero x e = let d : y ≡ x = cc in here d
-get_in (y ∷ ys) (suc i) x e = there (get_in ys i x e)
 
 pub get_front : {X : Type 0} (xs : List X) (n i : ℕ) (x : X) → slice_get xs n ≡ Some x → n < i → x ∈ take i xs
 get_front [] n i x e h = absurd (cc)
@@ -78,7 +69,7 @@ module _ (limit : ℕ) (P Q : List Rule) (i : ℕ) (f : Followed limit P Q i) (d
   }
 
   tested : IsTestedRule P Q i d
-  tested = record { is = get_is Q i d lt is; before = f.follow }
+  tested = record { is = get_at Q i d lt is; before = f.follow }
 
   pub test_passes : PassesFrozen limit P d → RulePassesLimit limit P Q
   test_passes p = record { number = i; rule = d; tested = tested; passes = p }
@@ -95,8 +86,8 @@ module _ (limit : ℕ) (P Q : List Rule) (i : ℕ) (f : Followed limit P Q i) (d
   refuted_within prefix source target r shown within p = elim (cases_lt p.number i) [
     | inl h ↦ f.within p.rule (get_front Q p.number i p.rule p.tested.is h) p.passes
     | inr h ↦ elim (cases_lt i p.number) [
-      | inl l ↦ shown.refuted none (p.tested.before none d (get_front Q i p.number d (get_is Q i d lt is) l) (facts r.source) (facts r.target) (shown.satisfied none))
-      | inr l ↦ within (subst (PassesFrozen limit P) (get_one Q p.number i p.rule d (omega (arith, h, l)) p.tested.is (get_is Q i d lt is)) p.passes)
+      | inl l ↦ shown.refuted none (p.tested.before none d (get_front Q i p.number d (get_at Q i d lt is) l) (facts r.source) (facts r.target) (shown.satisfied none))
+      | inr l ↦ within (subst (PassesFrozen limit P) (get_one Q p.number i p.rule d (omega (arith, h, l)) p.tested.is (get_at Q i d lt is)) p.passes)
     ]
   ]
     where

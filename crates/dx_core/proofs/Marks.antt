@@ -4,6 +4,7 @@ use Rattle.std.proofs.Common.{length, get_or}
 use Rattle.std.specs.Prelude.{map, replicate}
 use Rattle.std.proofs.Math.ListN.{set, length-set}
 use Rattle.std.proofs.lemmas.List.{length-map, length-replicate}
+use Rattle.dx_ports.proofs.Lists.{none_in}
 use Rattle.dx_instance.specs.Stored.{TableRows, rows_of}
 use Rattle.dx_model.specs.declared.values.Value.{Value}
 use Rattle.dx_instance.specs.Cells.{NumberTable}
@@ -21,11 +22,6 @@ none_there S (t ∷ ts) =
     let first : length t.rows ≡ length (shown S t).rows = sym (length-map t.rows (shown_row S)) in
     let rest = none_there S ts in
     ap (λ n. replicate n false ∷ none_out ts) first ∙ ap (λ xs. replicate (length (shown S t).rows) false ∷ xs) rest
-
-none_in : (n p : ℕ) → get_or (replicate n false) p false ≡ false
-none_in zero p = refl
-none_in (suc n) zero = refl
-none_in (suc n) (suc p) = none_in n p
 
 -- nothing is taken out at first
 pub none_gone : (I : List TableRows) (t p : ℕ) → is_out (all_there I) t p ≡ false

@@ -17,21 +17,13 @@ use Rattle.dx_instance.specs.Numbers.{ValuesAscend, value_of}
 use Rattle.dx_instance.specs.Shown.{AreBelow, NumberedInstance, PartsFit, shown_row}
 use Rattle.dx_instance.specs.Stored.{TableRows, facts, rows_of}
 use Rattle.dx_instance.proofs.ShownFacts.{is_shown, number_less, row_less}
+use Rattle.dx_instance.proofs.KeyFacts.{from_less}
 use Rattle.dx_ports.proofs.Members.{contains_from_in}
 use Rattle.dx_blocks.specs.Blocks.{AreBlocks}
 use Rattle.dx_blocks.specs.declared.numbered.NumberBlock.{NumberBlock}
 use Rattle.dx_blocks.specs.Numbered.{IsNullNumber, IsOfNumbers, null_under, shown_block}
 use Rattle.dx_core.specs.Left.{shown_by}
 use Rattle.dx_core.specs.Sparing.{IsTried}
-
-below_from : (x y : ℕ) → nat_cmp x y ≡ Less → x < y
-below_from x y e = elim (cases_lt x y) [
-  | inl h ↦ h
-  | inr h ↦ elim (cases_eq x y) [
-    | inl d ↦ absurd (cc (rw d at e, nat_self y))
-    | inr d ↦ let l : y < x = omega arith in let a = nat_cmp_total.antisymm x y in absurd (cc (e, a, nat_less y x l))
-  ]
-]
 
 -- ascending in one sense, seen pair by pair
 pairs : {X : Type 0} (R : X → X → Type 0) (xs : List X) → Ascends R xs → AllPairs R xs
@@ -52,7 +44,7 @@ numbers_up N (n ∷ ns) up are a = (
       let l = a.0 (null_under N m) (in_map (null_under N) i) in
       let c : value_cmp (value_of N.symbols n) (value_of N.symbols m) ≡ null_cmp (null_under N n) (null_under N m) =
       ap (λ (v : Value). value_cmp v (value_of N.symbols m)) x.is ∙ ap (value_cmp (Null (null_under N n))) y.is in
-      below_from n m (sym (number_less N.symbols n m up x.within y.within) ∙ (c ∙ l))),
+      from_less n m (sym (number_less N.symbols n m up x.within y.within) ∙ (c ∙ l))),
   numbers_up N ns up (λ m i. are m (there i)) a.1,
 )
 

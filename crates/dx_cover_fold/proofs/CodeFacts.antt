@@ -159,11 +159,3 @@ texts_held S variables row (x ∷ xs) f t e v (there m) = texts_held S variables
 
 -- ---- plans
 
-pub plan_more : {X Y : Type 0} (R : X → Y → Type 0) (xs : List X) (ys : List Y) (i : ℕ) (x : X) (y : Y) → i < length xs → x ≡ get_or xs i x → AllZip R (take i xs) ys → R x y → AllZip R (take (i + 1) xs) (ys ++ y ∷ [])
-plan_more {X} {Y} R xs ys i x y l e h r = subst (λ (z : List X). AllZip R z (ys ++ y ∷ [])) (ap (λ (d : X). take i xs ++ d ∷ []) e ∙ sym (take_more xs i x l)) (push (take i xs) ys h)
-  where
-    push : (us : List X) (vs : List Y) → AllZip R us vs → AllZip R (us ++ x ∷ []) (vs ++ y ∷ [])
-    push [] [] h = (r, tt)
-    push [] (b ∷ vs) h = absurd h
-    push (a ∷ us) [] h = absurd h
-    push (a ∷ us) (b ∷ vs) h = (h.0, push us vs h.1)

@@ -4,6 +4,7 @@ use Rattle.std.specs.Prelude.{cond, ◌||◌}
 use Rattle.std.specs.List.{list_any}
 use Rattle.std.proofs.lemmas.List.{get_or-map, length-map}
 use Rattle.dx_ports.specs.Members.{◌∈◌, here, there}
+use Rattle.dx_ports.proofs.Loops.{neither}
 use Rattle.dx_model.specs.declared.values.Value.{Value}
 use Rattle.dx_model.specs.declared.values.Value.TheVariants.{Const}
 use Rattle.dx_used.specs.Used.{blank}
@@ -17,10 +18,6 @@ pub unused_in : (used : List Bool) (i : ℕ) → is_used used i ≡ false → fa
 unused_in [] i h = absurd (cc h)
 unused_in (u ∷ used) zero h = here h
 unused_in (u ∷ used) (suc i) h = there (unused_in used i h)
-
-neither : (a b : Bool) → (a || b) ≡ false → (a ≡ false) × (b ≡ false)
-neither true b h = absurd (cc h)
-neither false b h = (refl, h)
 
 pub all_used : (same : Bool → Bool) (used : List Bool) → list_any same used ≡ false → same false ≡ true → ¬ (false ∈ used)
 all_used same [] h t m = elim m [ ]

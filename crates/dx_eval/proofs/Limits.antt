@@ -9,7 +9,7 @@ use Rattle.std.proofs.Math.Nat.{mul-le-mul_right, le-div_iff_mul-le}
 use Rattle.dx_ports.specs.Members.{◌∈◌, here, there, Distinct, Each}
 use Rattle.dx_ports.proofs.Members.{in_at, no_longer}
 use Rattle.dx_ports.specs.declared.file.Count.TheVariants.{TargetCells}
-use Rattle.dx_ports.proofs.Lists.{zip_push, zip_long}
+use Rattle.dx_ports.proofs.Lists.{zip_push, zip_long, zip_at}
 use Rattle.dx_model.specs.declared.facts.Fact.{Fact}
 use Rattle.dx_model.specs.declared.values.Value.{Value}
 use Rattle.dx_model.specs.Values.{Tuple, Rows}
@@ -17,8 +17,8 @@ use Rattle.dx_ports.specs.Texts.{Text}
 use Rattle.dx_instance.specs.Cells.{NumberTable}
 use Rattle.dx_instance.specs.Numbers.{AreDistinctValues, Extends}
 use Rattle.dx_instance.proofs.ShownFacts.{extends_both}
+use Rattle.dx_instance.proofs.SortFacts.{distinct_numbers}
 use Rattle.dx_joins.specs.Shown.{MoreTuples, StandFor, texts_of}
-use Rattle.dx_joins.proofs.Distincts.{ascend_distinct}
 use Rattle.dx_joins.proofs.Translating.{distinct_texts}
 use Rattle.dx_schema.specs.Names.{TableNames}
 use Rattle.dx_funcs.specs.declared.conversion.Conversion.{Conversion}
@@ -38,7 +38,7 @@ use Rattle.dx_eval.specs.Evaluating.{ScriptPassesLimit, cells_for, script_cells}
 use Rattle.dx_eval.specs.Query.{IsSelected}
 use Rattle.dx_eval.specs.Finding.{AreFoundSteps, FoundSoFar, IsFoundUpTo, IsEvalRefusal, IsFoundStep, MatchStep, MatchesFit, MatchingFits, matching_in, matchings}
 use Rattle.dx_eval.proofs.Sums.{total, total_less, total_longer, total_more, total_same}
-use Rattle.dx_eval.proofs.Tables.{matching_long, IsTable, are_tables, found_grown, of_step, stands_at, tables_exist, zip_here, no_matching}
+use Rattle.dx_eval.proofs.Tables.{matching_long, IsTable, are_tables, found_grown, of_step, stands_at, tables_exist, no_matching}
 
 -- ---- few and many
 
@@ -83,7 +83,7 @@ reordered_cells steps S T ts us p z =
     cells_less steps (tuples_in T us) (tuples_in S ts) (omega (arith, l, a, b)) (λ k h.
     let i : k < length ts = omega (arith, h, a, l) in
     let j : k < length us = omega (arith, h, a) in
-    let one = reordered_few S T (get_or ts k no_rows) (get_or us k no_rows) p (zip_here (IsRenumbering S T) ts us k no_rows no_rows z i) in
+    let one = reordered_few S T (get_or ts k no_rows) (get_or us k no_rows) p (zip_at (IsRenumbering S T) ts us k no_rows no_rows z i) in
     let x = length-map (get_or us k no_rows).rows (texts_of T) in
     let y = length-map (get_or ts k no_rows).rows (texts_of S) in
     rw (tuples_at T us k j, tuples_at S ts k i) (omega (arith, one, x, y)))
@@ -154,7 +154,7 @@ module _ (source : List TableNames) (call : Text → Tuple → Text) (I : List F
       let w = tables_exist source call I list steps steps fit (λ z m. m) in
       let all = w.0 in
       let p = stands_at source list steps fit r select sources equal member in
-      let own : IsMatchTable source call I select sources equal (match_table all r) = subst (λ (q : MatchStep). IsMatchTable source call I q.select q.sources q.equal (match_table all r)) p.1 (zip_here (IsTable source call I) (matchings steps) all r no_matching [] w.1 p.0) in
+      let own : IsMatchTable source call I select sources equal (match_table all r) = subst (λ (q : MatchStep). IsMatchTable source call I q.select q.sources q.equal (match_table all r)) p.1 (zip_at (IsTable source call I) (matchings steps) all r no_matching [] w.1 p.0) in
       let lw = zip_long (IsTable source call I) (matchings steps) all w.1 in
       let one : length us ≤ length (match_table all r) = no_longer us (match_table all r) distinct (λ t m. (own.exact t).1 (each t m)) in
       let tl = tuples_long S ts in
@@ -178,15 +178,15 @@ module _ (source : List TableNames) (call : Text → Tuple → Text) (I : List F
           let a : k < length ts = omega (arith, l, number) in
           let fl = zip_long (IsFoundStep source call I S) (matchings (take i steps)) ts f.found in
           let b : k < length (matchings (take i steps)) = omega (arith, a, fl) in
-          let found = zip_here (IsFoundStep source call I S) (matchings (take i steps)) ts k no_matching no_rows f.found b in
+          let found = zip_at (IsFoundStep source call I S) (matchings (take i steps)) ts k no_matching no_rows f.found b in
           let split : matchings steps ≡ matchings (take i steps) ++ matchings (drop i steps) = ap matchings (sym (take-append-drop i steps)) ∙ flat_map-append matching_in (take i steps) (drop i steps) in
           let same : get_or (matchings steps) k no_matching ≡ get_or (matchings (take i steps)) k no_matching = ap (λ z. get_or z k no_matching) split ∙ get_or_append_left (matchings (take i steps)) (matchings (drop i steps)) no_matching k b in
           let e = ap length split ∙ length-append (matchings (take i steps)) (matchings (drop i steps)) in
           let c : k < length (matchings steps) = omega (arith, b, e) in
-          let table = zip_here (IsTable source call I) (matchings steps) all k no_matching [] z c in
+          let table = zip_at (IsTable source call I) (matchings steps) all k no_matching [] z c in
           let table_is : IsMatchTable source call I (get_or (matchings (take i steps)) k no_matching).select (get_or (matchings (take i steps)) k no_matching).sources (get_or (matchings (take i steps)) k no_matching).equal (match_table all k) =
           subst (λ (q : MatchStep). IsMatchTable source call I q.select q.sources q.equal (match_table all k)) same table in
-          rw (tuples_at S ts k a) (no_longer (map (texts_of S) (get_or ts k no_rows).rows) (match_table all k) (distinct_texts S (get_or ts k no_rows).rows f.apart found.texts (ascend_distinct (get_or ts k no_rows).rows found.ascend)) (λ t m. (table_is.exact t).1 ((found.exact t).0 m)))
+          rw (tuples_at S ts k a) (no_longer (map (texts_of S) (get_or ts k no_rows).rows) (match_table all k) (distinct_texts S (get_or ts k no_rows).rows f.apart found.texts (distinct_numbers (get_or ts k no_rows).rows found.ascend)) (λ t m. (table_is.exact t).1 ((found.exact t).0 m)))
 
   -- each match step so far has a table
   pub number_is : (list : List Conversion) (old S : List Value) (ts : List NumberTable) (limit left i r : ℕ) (select : List Select) (sources : List Text) (equal : List Equal)
@@ -222,7 +222,7 @@ too_many (Some t) room w P U apart m q =
     let l = length-map t.rows (texts_of U) in
     record {
       tuples = map (texts_of U) t.rows;
-      distinct = distinct_texts U t.rows apart m.texts (ascend_distinct t.rows m.ascend);
+      distinct = distinct_texts U t.rows apart m.texts (distinct_numbers t.rows m.ascend);
       each = (λ u n. (m.exact u).0 n);
       more = let a = q.0 in omega (arith, a, l);
       few = let b = q.1 in omega (arith, b, l);

@@ -6,7 +6,7 @@ use Rattle.std.proofs.lemmas.List.{get_or-map, get_or_append_left, length-append
 use Rattle.std.proofs.lemmas.List.Concat.{flat_map-append}
 use Rattle.dx_ports.specs.Members.{◌∈◌, here, Each}
 use Rattle.dx_ports.proofs.Members.{from_map, in_flat_map, in_left, in_map}
-use Rattle.dx_ports.proofs.Lists.{zip_long}
+use Rattle.dx_ports.proofs.Lists.{zip_long, zip_at}
 use Rattle.dx_model.specs.declared.facts.Fact.{Fact}
 use Rattle.dx_model.specs.declared.matches.Matches.{Matches}
 use Rattle.dx_model.specs.declared.values.Value.{Value}
@@ -40,7 +40,7 @@ use Rattle.dx_eval.specs.Inserting.{InsertStands, OutStands}
 use Rattle.dx_eval.specs.Keeping.{PartStands, TestStands}
 use Rattle.dx_eval.proofs.Inserts.{sorted_facts}
 use Rattle.dx_eval.proofs.Limits.{reordered_cells}
-use Rattle.dx_eval.proofs.Tables.{are_tables, found_reordered, matching_long, no_matching, split_in, to_tables, zip_here}
+use Rattle.dx_eval.proofs.Tables.{are_tables, found_reordered, matching_long, no_matching, split_in, to_tables}
 
 pub matches_fit : (source target : List TableNames) (list : List Conversion) (steps : List Step) → FitsScript source target list steps → MatchesFit source list steps
 matches_fit source target list steps f before after r select sources equal e = f.each before after (MatchRows r select sources equal) e
@@ -72,7 +72,7 @@ module _ (source target : List TableNames) (list : List Conversion) (steps : Lis
   wide_at r k =
       let l = matching_long steps in
       let h : r < length (matchings steps) = omega (arith, l, k) in
-      let z = zip_here (IsFoundStep source call I S) (matchings steps) ts r no_matching none found h in
+      let z = zip_at (IsFoundStep source call I S) (matchings steps) ts r no_matching none found h in
       z.width ∙ sym (ap (λ (q : List ℕ). get_or q r 0) (widths_are steps) ∙ get_or-map (λ (m : MatchStep). length m.select) (matchings steps) r no_matching 0 h)
 
   column_low : (before after : List Step) (s : Step) (r c : ℕ) → steps ≡ before ++ s ∷ after → HasColumn before r c → c < (numbers_of_table ts r).width

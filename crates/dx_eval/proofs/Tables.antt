@@ -6,7 +6,7 @@ use Rattle.std.proofs.lemmas.List.{append_assoc, take-append-drop, length-append
 use Rattle.std.proofs.lemmas.List.Concat.{flat_map-append}
 use Rattle.dx_ports.specs.Members.{◌∈◌, here, there, Each}
 use Rattle.dx_ports.proofs.Members.{in_right}
-use Rattle.dx_ports.proofs.Lists.{zip_long, zip_grow}
+use Rattle.dx_ports.proofs.Lists.{zip_long, zip_grow, zip_at}
 use Rattle.dx_model.specs.declared.facts.Fact.{Fact}
 use Rattle.dx_model.specs.declared.values.Value.{Value}
 use Rattle.dx_model.specs.Values.{Tuple, Rows}
@@ -109,12 +109,6 @@ module _ (source : List TableNames) (list : List Conversion) (steps : List Step)
 
 -- ---- lists side by side
 
-pub zip_here : {X Y : Type 0} (R : X → Y → Type 0) (xs : List X) (ys : List Y) (i : ℕ) (d : X) (e : Y) → AllZip R xs ys → i < length xs → R (get_or xs i d) (get_or ys i e)
-zip_here R [] ys i d e z h = absurd (omega (arith, h))
-zip_here R (x ∷ xs) [] i d e z h = absurd z
-zip_here R (x ∷ xs) (y ∷ ys) zero d e z h = z.0
-zip_here R (x ∷ xs) (y ∷ ys) (suc i) d e z h = zip_here R xs ys i d e z.1 (omega (arith, h))
-
 pub zip_each : {X Y : Type 0} (R : X → Y → Type 0) (P : Y → Type 0) (xs : List X) (ys : List Y) → ((x : X) (y : Y) → R x y → P y) → AllZip R xs ys → Each ys P
 zip_each R P [] [] f z y m = elim m [ ]
 zip_each R P [] (w ∷ ys) f z y m = absurd z
@@ -182,7 +176,7 @@ module _ (source : List TableNames) (call : Text → Tuple → Text) (I : List F
   are_tables list steps tables fit z = record {
     matches = λ r select sources equal m.
         let p = stands_at source list steps fit r select sources equal m in
-        let h = zip_here IsTable (matchings steps) tables r no_matching [] z p.0 in
+        let h = zip_at IsTable (matchings steps) tables r no_matching [] z p.0 in
         let l = zip_long IsTable (matchings steps) tables z in
         let k = p.0 in
         (omega (arith, l, k), subst (λ (q : MatchStep). IsMatchTable source call I q.select q.sources q.equal (match_table tables r)) p.1 h);

@@ -4,13 +4,9 @@ use Rattle.std.proofs.Common.{length, get_or, take, Vec, Global}
 use Rattle.std.specs.Prelude.{map, replicate}
 use Rattle.std.proofs.Math.ListN.{set, length-set}
 use Rattle.std.proofs.lemmas.List.{length-map, length-replicate, map-append, take_more, get_or-map}
+use Rattle.dx_ports.proofs.Lists.{none_in}
 use Rattle.dx_instance.specs.Stored.{TableRows, rows_of}
 use Rattle.dx_hom.specs.View.{all_there, gone_at, marked}
-
-none_in : (n p : ℕ) → get_or (replicate n false) p false ≡ false
-none_in zero p = refl
-none_in (suc n) zero = refl
-none_in (suc n) (suc p) = none_in n p
 
 -- nothing is taken out at first
 pub none_gone : (I : List TableRows) (t p : ℕ) → gone_at (all_there I) t p ≡ false

@@ -7,6 +7,7 @@ use Rattle.std.specs.FinMap as finite
 use Rattle.std.proofs.lemmas.List.{drop_more, take_more, take_all}
 use Rattle.dx_ports.specs.Members.{Each}
 use Rattle.dx_ports.proofs.Members.{in_at}
+use Rattle.dx_ports.proofs.Lists.{drop_past}
 use Rattle.dx_model.specs.declared.values.NullId.{NullId}
 use Rattle.dx_model.specs.declared.values.Value.{Value}
 use Rattle.dx_model.specs.Instances.{given, same_null}
@@ -85,12 +86,6 @@ marked_seen ts t p w x h e d =
     set_seen ts t x ∙ ap (set (seen ts) t) (d ∙ ap (λ l. set l p true) (sym (item_seen ts t w h e)))
 
 -- ---- the first and the last of a null map that is made
-
-drop_past : {X : Type 0} (xs : List X) (i : ℕ) → length xs ≤ i → drop i xs ≡ []
-drop_past [] zero h = refl
-drop_past [] (suc i) h = refl
-drop_past (x ∷ xs) zero h = absurd (omega arith)
-drop_past (x ∷ xs) (suc i) h = drop_past xs i (omega arith)
 
 drop_none : {X : Type 0} (xs : List X) → drop 0 xs ≡ xs
 drop_none [] = refl

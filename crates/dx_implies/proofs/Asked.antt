@@ -16,6 +16,7 @@ use Rattle.dx_model.specs.Covers.{same_value}
 use Rattle.dx_model.specs.Fitting.{AtomsFitWidths}
 use Rattle.dx_model.specs.Rules.{cell_value, cells_of, fact_of_atom}
 use Rattle.dx_ports.specs.Texts.{Text}
+use Rattle.dx_ports.proofs.Lists.{to_zip, from_zip}
 use Rattle.dx_model.proofs.Before.{same_value-refl, same_value-true}
 use Rattle.dx_instance.specs.Cells.{NumberTable, numbers_at}
 use Rattle.dx_instance.specs.Numbers.{AreDistinctValues, value_of}
@@ -94,18 +95,6 @@ module _ (S : List Value) (apart : AreDistinctValues S) (freeze : ℕ → Text) 
       (λ i. first i ∷ others i)
 
 -- ---- members of lists that go together
-
-to_zip : {X Y : Type 0} (R : X → Y → Type 0) (xs : List X) (ys : List Y) (x : X) → AllZip R xs ys → x ∈ xs → (y : Y) × (y ∈ ys) × R x y
-to_zip R [] ys x z m = elim m [ ]
-to_zip R (x ∷ xs) [] w z m = absurd z
-to_zip {X} {Y} R (x ∷ xs) (y ∷ ys) w z (here e) = (y, here refl, subst (λ (u : X). R u y) e z.0)
-to_zip R (x ∷ xs) (y ∷ ys) w z (there m) = let r = to_zip R xs ys w z.1 m in (r.0, there r.1, r.2)
-
-from_zip : {X Y : Type 0} (R : X → Y → Type 0) (xs : List X) (ys : List Y) (y : Y) → AllZip R xs ys → y ∈ ys → (x : X) × (x ∈ xs) × R x y
-from_zip R xs [] y z m = elim m [ ]
-from_zip R [] (y ∷ ys) w z m = absurd z
-from_zip {X} {Y} R (x ∷ xs) (y ∷ ys) w z (here e) = (x, here refl, subst (λ (u : Y). R x u) e z.0)
-from_zip R (x ∷ xs) (y ∷ ys) w z (there m) = let r = from_zip R xs ys w z.1 m in (r.0, there r.1, r.2)
 
 row_place : (rows : List (List ℕ)) (r : List ℕ) → r ∈ rows → (p : ℕ) × (p < length rows) × (numbers_at rows p ≡ r)
 row_place [] r m = elim m [ ]
@@ -218,13 +207,6 @@ module _ (S : List Value) (ts : List NumberTable) (fit : PartsFit S ts) (freeze 
 pub same_variable : (v w : ℕ) → ◌≡◌ {A = Term} (Variable v) (Variable w) → v ≡ w
 same_variable v w e = cc
 
-pub none_left : {X : Type 0} (A : Type 0) (B : X → Type 0) (o : Option X) → MatchOption o A B → ((x : X) → ¬ (o ≡ Some x)) → A
-none_left A B None m n = m
-none_left A B (Some x) m n = absurd (n x refl)
-
-pub some_left : {X : Type 0} (A : Type 0) (B : X → Type 0) (o : Option X) (x : X) → o ≡ Some x → MatchOption o A B → B x
-some_left {X} A B o x e m = subst (λ (p : Option X). MatchOption p A B) e m
-
 -- one item more of each
 pub zip_more : {X Y : Type 0} (R : X → Y → Type 0) (xs : List X) (ys : List Y) (i : ℕ) (x : X) (y : Y) → i < length xs → x ≡ get_or xs i x
     → AllZip R (take i xs) ys → R x y → AllZip R (take (i + 1) xs) (ys ++ y ∷ [])
@@ -265,9 +247,6 @@ answer_stands f ts out atoms known n (Some xs) b e k m d = (
   (λ y. (f xs, subst (λ (z : List (List Bool)). Each atoms (HasImageRow ts z (f xs))) e m.stands)),
   (λ w. d),
 )
-
-pub none_of : {X : Type 0} (A : Type 0) (B : X → Type 0) (o : Option X) → o ≡ None → MatchOption o A B → A
-none_of {X} A B o e m = subst (λ (p : Option X). MatchOption p A B) e m
 
 -- ---- whether a conclusion stands in an instance
 

@@ -84,7 +84,7 @@ becomes_set m k v n = elim (cases_Bool (is_itself k v)) [
       ]
 ]
 
-moved_same : (m : ByNull) (v : Value) → moved (given (pairs_of m)) v ≡ moved (becomes m) v
+pub moved_same : (m : ByNull) (v : Value) → moved (given (pairs_of m)) v ≡ moved (becomes m) v
 moved_same m (Const t) = refl
 moved_same m (Null n) = pairs_give m n
 

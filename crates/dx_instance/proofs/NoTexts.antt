@@ -13,10 +13,10 @@ marked : (text : List ℕ) → starts_with_question_mark text ≡ true → (rest
 marked [] e = absurd (cc)
 marked (b ∷ bs) e = (bs, ap (λ (x : ℕ). x ∷ bs) (eqb-true b question_mark e))
 
-plain_text : (t : List ℕ) → starts_with_question_mark t ≡ false → const_text t ≡ t
+pub plain_text : (t : List ℕ) → starts_with_question_mark t ≡ false → const_text t ≡ t
 plain_text t e = rw e refl
 
-marked_text : (t : List ℕ) → starts_with_question_mark t ≡ true → const_text t ≡ question_mark ∷ t
+pub marked_text : (t : List ℕ) → starts_with_question_mark t ≡ true → const_text t ≡ question_mark ∷ t
 marked_text t e = rw e refl
 
 -- three numerals after `?` are the text of a null

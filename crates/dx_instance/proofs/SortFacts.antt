@@ -44,7 +44,7 @@ rows_ascend T (r ∷ rows) up w a = (
   rows_ascend T rows up (λ x m. w x (there m)) (λ i j d h k. a (suc i) (suc j) d (omega arith) (omega arith)),
 )
 
-distinct_numbers : (rows : List (List ℕ)) → NumbersAscend rows → Distinct rows
+pub distinct_numbers : (rows : List (List ℕ)) → NumbersAscend rows → Distinct rows
 distinct_numbers [] a = tt
 distinct_numbers (r ∷ rows) a = (first, distinct_numbers rows (λ i j d h k. a (suc i) (suc j) d (omega arith) (omega arith)))
   where

@@ -7,7 +7,7 @@ use Rattle.dx_ports.specs.Members.{◌∈◌, ◌⊆◌, here, there}
 use Rattle.dx_ports.proofs.Members.{in_left, in_right, from_append}
 use Rattle.dx_model.proofs.Lists.{from_take}
 use Rattle.dx_instance.specs.Cells.{NumberTable, with_numbers}
-use Rattle.dx_joins.proofs.Distincts.{ascend_distinct}
+use Rattle.dx_instance.proofs.SortFacts.{distinct_numbers}
 use Rattle.dx_joins.specs.Collecting.{Collection, Collects, FirstAscend, CollectsRows, MoreThan}
 
 pub gains_nothing : (c : Collection) (P : List ℕ → Type 0) → ((t : List ℕ) → ¬ (P t)) → CollectsRows c c P
@@ -67,7 +67,7 @@ pub pushed : (full : Bool) (most width n : ℕ) (old rows : List (List ℕ)) (ro
     → Collects full (record { width = width; most = most; rows = old }) (record { width = width; most = most; rows = rows }) (λ t. t ≡ row)
 pushed true most width n old rows row e small f s = record {
   some = take n rows;
-  distinct = ascend_distinct (take n rows) f.1;
+  distinct = distinct_numbers (take n rows) f.1;
   each = λ t m. elim (from_append old (s.1 t (from_take n rows m))) [ inl l ↦ inl l | inr r ↦ inr (last_in r) ];
   more = let k = ltb-true most n (sym e) in omega (arith, k, length-take-le n rows f.0);
   few = omega (arith, small, length-take-le n rows f.0);

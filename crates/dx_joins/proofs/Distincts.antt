@@ -19,9 +19,6 @@ distinct_from (x ∷ xs) h = (
   distinct_from xs (λ i j d a b. h (suc i) (suc j) d (omega (arith, a)) (omega (arith, b))),
 )
 
-pub ascend_distinct : (rows : List (List ℕ)) → NumbersAscend rows → Distinct rows
-ascend_distinct rows up = distinct_from rows (λ i j d h k e. never_less (get_or rows j d) (subst (λ (r : List ℕ). numbers_cmp r (get_or rows j d) ≡ Less) e (up i j d h k)))
-
 pub distinct_map : {X Y : Type 0} (f : X → Y) (xs : List X) → ((x y : X) → x ∈ xs → y ∈ xs → f x ≡ f y → x ≡ y) → Distinct xs → Distinct (map f xs)
 distinct_map f [] apart d = tt
 distinct_map f (x ∷ xs) apart d = (

@@ -11,10 +11,6 @@ use Rattle.std.specs.declared.cmp.Ordering.TheVariants.{Less, Equal, Greater}
 pub item_is : (xs : List ℕ) (i x : ℕ) → i < length xs → x ≡ get_or xs i x → x ≡ get_or xs i 0
 item_is xs i x h e = e ∙ get_or_default xs i x 0 h
 
-pub on_true : (b : Bool) (P : Type 0) → (b ≡ true → P) → OnTrue b P
-on_true true P f = f refl
-on_true false P f = tt
-
 pub is_less : (o : Ordering) → true ≡ (ordering_index o == 0) → o ≡ Less
 is_less Less e = refl
 is_less Equal e = absurd (cc e)

@@ -110,9 +110,3 @@ shared_more left right firsts by_left by_right column e h w s =
     map-append (slice_index left) by_left (slice_index firsts column ∷ []) ∙ ap (λ (l : List ℕ). l ++ slice_index left (slice_index firsts column) ∷ []) s
     ∙ ap (λ (x : ℕ). map (slice_index right) by_right ++ x ∷ []) one ∙ sym (map-append (slice_index right) by_right (column ∷ []))
 
-pub each_push : (P : ℕ → Type 0) (xs : List ℕ) (x : ℕ) → Each xs P → P x → Each (xs ++ x ∷ []) P
-each_push P xs x h p y m = elim (from_append xs m) [ inl l ↦ h y l | inr r ↦ last r ]
-  where
-    last : y ∈ (x ∷ []) → P y
-    last (here e) = subst P e p
-    last (there n) = elim n [ ]

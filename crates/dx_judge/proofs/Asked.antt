@@ -6,7 +6,7 @@ use Rattle.std.specs.declared.alloc.AllocError.{AllocError}
 use Rattle.std.proofs.lemmas.Bool.{cases_Bool, false≢true, true≢false}
 use Rattle.std.proofs.lemmas.List.{get_or-map, get_or_default, length-map, map-append, take_more}
 use Rattle.dx_ports.specs.Members.{◌∈◌, here, there, Each}
-use Rattle.dx_ports.proofs.Lists.{zip_long, zip_push}
+use Rattle.dx_ports.proofs.Lists.{zip_long, zip_push, to_zip, from_zip}
 use Rattle.dx_ports.proofs.Members.{contains_from_in, from_map, in_at, in_flat_map, in_map}
 use Rattle.dx_model.specs.declared.facts.Fact.{Fact}
 use Rattle.dx_model.specs.declared.values.NullId.{NullId}
@@ -38,33 +38,11 @@ use Rattle.dx_judge.proofs.Orders.{can_turn, from_turned, turned_exactly, turned
 
 -- ---- options and lists
 
-pub none_left : {X : Type 0} (A : Type 0) (B : X → Type 0) (o : Option X) → MatchOption o A B → ((x : X) → ¬ (o ≡ Some x)) → A
-none_left A B None m n = m
-none_left A B (Some x) m n = absurd (n x refl)
-
-pub none_of : {X : Type 0} (A : Type 0) (B : X → Type 0) (o : Option X) → o ≡ None → MatchOption o A B → A
-none_of {X} A B o e m = subst (λ (p : Option X). MatchOption p A B) e m
-
-pub some_left : {X : Type 0} (A : Type 0) (B : X → Type 0) (o : Option X) (x : X) → o ≡ Some x → MatchOption o A B → B x
-some_left {X} A B o x e m = subst (λ (p : Option X). MatchOption p A B) e m
-
 -- one item more of each
 pub zip_more : {X Y : Type 0} (R : X → Y → Type 0) (xs : List X) (ys : List Y) (i : ℕ) (x : X) (y : Y) → i < length xs → x ≡ get_or xs i x
     → AllZip R (take i xs) ys → R x y → AllZip R (take (i + 1) xs) (ys ++ y ∷ [])
 zip_more {X} {Y} R xs ys i x y h e z r =
     subst (λ (l : List X). AllZip R l (ys ++ y ∷ [])) (ap (λ (w : X). take i xs ++ w ∷ []) e ∙ sym (take_more xs i x h)) (zip_push R (take i xs) ys x y z r)
-
-to_zip : {X Y : Type 0} (R : X → Y → Type 0) (xs : List X) (ys : List Y) (x : X) → AllZip R xs ys → x ∈ xs → (y : Y) × (y ∈ ys) × R x y
-to_zip R [] ys x z m = elim m [ ]
-to_zip R (x ∷ xs) [] w z m = absurd z
-to_zip {X} {Y} R (x ∷ xs) (y ∷ ys) w z (here e) = (y, here refl, subst (λ (u : X). R u y) e z.0)
-to_zip R (x ∷ xs) (y ∷ ys) w z (there m) = let r = to_zip R xs ys w z.1 m in (r.0, there r.1, r.2)
-
-from_zip : {X Y : Type 0} (R : X → Y → Type 0) (xs : List X) (ys : List Y) (y : Y) → AllZip R xs ys → y ∈ ys → (x : X) × (x ∈ xs) × R x y
-from_zip R xs [] y z m = elim m [ ]
-from_zip R [] (y ∷ ys) w z m = absurd z
-from_zip {X} {Y} R (x ∷ xs) (y ∷ ys) w z (here e) = (x, here refl, subst (λ (u : Y). R x u) e z.0)
-from_zip R (x ∷ xs) (y ∷ ys) w z (there m) = let r = from_zip R xs ys w z.1 m in (r.0, there r.1, r.2)
 
 -- ---- values in an order
 

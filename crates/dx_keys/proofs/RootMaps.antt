@@ -9,6 +9,7 @@ use Rattle.std.proofs.lemmas.Bool.{cases_Bool, eq-eqb, ne_eqb}
 use Rattle.std.proofs.lemmas.List.{drop_all}
 use Rattle.dx_ports.specs.Members.{◌∈◌, here, there, Each}
 use Rattle.dx_ports.proofs.Members.{from_append}
+use Rattle.dx_ports.proofs.Lists.{none_of_length}
 use Rattle.dx_model.specs.declared.values.NullId.{NullId}
 use Rattle.dx_model.specs.declared.values.Value.{Value}
 use Rattle.dx_model.specs.declared.values.Value.TheVariants.{Const, Null}
@@ -33,10 +34,6 @@ pub record MapTo (S : List Value) (roots : List ℕ) (i : ℕ) (m : ByNull) : Ty
 
 drop_one : (S : List Value) (i : ℕ) → i < length S → drop i S ≡ cell S i ∷ drop (i + 1) S
 drop_one S i h = let on : i + 1 ≡ suc i = omega arith in drop-cons S i (Const []) h ∙ ap (λ k. cell S i ∷ drop k S) (sym on)
-
-none_of_length : {X : Type 0} (xs : List X) → length xs ≡ 0 → xs ≡ []
-none_of_length [] e = refl
-none_of_length (x ∷ xs) e = absurd (omega (arith, e))
 
 nothing_more : {X : Type 0} (xs : List X) → xs ++ [] ≡ xs
 nothing_more [] = refl

@@ -18,6 +18,7 @@ use Rattle.dx_model.specs.Fitting.{cell_variable}
 use Rattle.dx_model.proofs.Ascending.{from_in_order, in_in_order, in_order, in_order_ascends, one_ascending}
 use Rattle.dx_model.proofs.Decided.{decide_in, same_fact}
 use Rattle.dx_model.proofs.Orders.{tuple_exact, tuple_total}
+use Rattle.dx_model.proofs.RowsExist.{from_variable}
 use Rattle.dx_queries.specs.declared.query.Part.{Part}
 use Rattle.dx_queries.specs.declared.query.Query.{Query}
 use Rattle.dx_queries.specs.Queries.{IsAnswer, IsAnswerOf, assigned, fact_said}
@@ -88,19 +89,12 @@ same_said values f atoms like a m =
     let e = same_row values f (variables_of atoms) a.cells like (λ x k. variable_there atoms x (cell_there atoms a (Var x) m k)) in
     (λ i. record { table = a.table; row = e i })
 
--- a variable of an atom, and the value that it has in the atom's fact
-variable_is : (x : ℕ) (c : Cell) → x ∈ cell_variable c → c ≡ Var x
-variable_is x (Var y) (here e) = ap Var e
-variable_is x (Var y) (there m) = elim m [ ]
-variable_is x (Ex v) m = elim m [ ]
-variable_is x (Lit t) m = elim m [ ]
-
 value_there : (K : List Fact) (values : ℕ → Value) (atoms : List Atom) → Each atoms (λ a. fact_said values a ∈ K) → Each (variables_of atoms) (λ x. values x ∈ values_in K)
 value_there K values atoms h x m =
     let c = from_flat_map cell_variable (cells_of atoms) m in
     let a = from_flat_map (λ (b : Atom). b.cells) atoms c.1 in
     let v : assigned values c.0 ∈ values_in K = in_flat_map (λ (f : Fact). f.row) (h a.0 a.1) (in_map (assigned values) a.2) in
-    subst (λ (d : Cell). assigned values d ∈ values_in K) (variable_is x c.0 c.2) v
+    subst (λ (d : Cell). assigned values d ∈ values_in K) (from_variable x c.0 c.2) v
 
 -- whether each atom is a fact of K
 decide_each : (K : List Fact) (f : ℕ → Value) (atoms : List Atom) → Each atoms (λ a. fact_said f a ∈ K) ⊎ (¬ (Each atoms (λ a. fact_said f a ∈ K)))

@@ -18,6 +18,7 @@ use Rattle.dx_grammar.proofs.Exact.{whole_start}
 use Rattle.dx_grammar.proofs.Spelled.{whole_finds}
 use Rattle.dx_grammar.proofs.Faults.{same_ok, same_err, unexpected_at, never_both, one_unexpected, one_told, never_stopped}
 use Rattle.dx_schema_text.specs.Texts.{begun_in, fault_in, judged_tokens, token_place}
+use Rattle.dx_schema_text.proofs.Answered.{fault_kind, none_begun, no_fault}
 use Rattle.dx_query_text.specs.declared.texts.PartText.{PartText}
 use Rattle.dx_query_text.specs.Grammar.{query}
 use Rattle.dx_query_text.specs.Reading.{query_reader}
@@ -28,13 +29,6 @@ use Rattle.dx_query_text.proofs.Follows.{query_tells}
 use Rattle.dx_query_text.proofs.Spelled.{query_finds}
 
 -- ---- a query
-
-no_fault : (o : Option Stop) → fault_in o ≡ None → o ≡ None
-no_fault None e = refl
-no_fault (Some s) e = absurd cc
-
-none_begun : (o : Option Stop) (xs : List Lexeme) → o ≡ None → xs ++ begun_in o ≡ xs
-none_begun o xs e = rw e (append-nil xs)
 
 pub query_read : (text : List ℕ) (q : List PartText) → IsQueryText text q → query_of_text text ≡ Ok q
 query_read text q says =
@@ -67,10 +61,6 @@ blank_token = record { place = 0; kind = Word; text = [] }
 
 first_unexpected : (text : List ℕ) (left : ℕ) → suc left ≤ length (judged_tokens text) → IsFirstUnexpected query (judged_tokens text) (length (judged_tokens text) - suc left) → IsUnexpectedInQuery text (token_place (judged_tokens text) (length (judged_tokens text) - suc left))
 first_unexpected text left le first = unexpected_at query (λ (x : Lexeme). x.place) (judged_tokens text) (length (judged_tokens text) - suc left) blank_token first
-
-fault_kind : (o : Option Stop) (p : ℕ × TextKind) → ((s : Stop) → o ≡ Some s → (s.kind ≡ Character) ⊎ (s.kind ≡ Ended)) → fault_in o ≡ Some p → (p.1 ≡ Character) ⊎ (p.1 ≡ Ended)
-fault_kind None p h e = absurd (none-some p e)
-fault_kind (Some s) p h e = subst (λ (q : ℕ × TextKind). (q.1 ≡ Character) ⊎ (q.1 ≡ Ended)) (same_Some (s.place, s.kind) p e) (h s refl)
 
 err_told : (text : List ℕ) (stop : Option (ℕ × TextKind)) (r : Result (List PartText) ℕ) (e : TextFault) → fault_in (scan_of text).stop ≡ stop → TellsOfTokens query (judged_tokens text) r
     → query_outcome (length text) stop (judged_tokens text) r ≡ Err e → IsQueryTextFault text e

@@ -26,6 +26,7 @@ use Rattle.dx_schema.proofs.Preorder.{length_placed}
 use Rattle.dx_schema.proofs.Loops.{among_number}
 use Rattle.dx_ports.proofs.Tests.{from_filter}
 use Rattle.dx_ports.proofs.Firsts.{first_none, none_of, two_none, each_none}
+use Rattle.dx_ports.proofs.Loops.{neither}
 
 -- ---- no fault
 
@@ -41,10 +42,6 @@ not_none false e h = absurd cc
 not_empty : {X : Type 0} (xs : List X) → eqb (length xs) 0 ≡ false → 1 ≤ length xs
 not_empty [] e = absurd cc
 not_empty (x ∷ xs) e = omega arith
-
-neither : (a b : Bool) → (a || b) ≡ false → (a ≡ false) × (b ≡ false)
-neither true b h = absurd (true≢false h)
-neither false b h = (refl, h)
 
 -- ---- names
 

@@ -31,11 +31,11 @@ use Rattle.dx_schema_text.proofs.Telling.{mapping_tells, told_read}
 
 -- ---- a mapping
 
-no_fault : (o : Option Stop) → fault_in o ≡ None → o ≡ None
+pub no_fault : (o : Option Stop) → fault_in o ≡ None → o ≡ None
 no_fault None e = refl
 no_fault (Some s) e = absurd cc
 
-none_begun : (o : Option Stop) (xs : List Lexeme) → o ≡ None → xs ++ begun_in o ≡ xs
+pub none_begun : (o : Option Stop) (xs : List Lexeme) → o ≡ None → xs ++ begun_in o ≡ xs
 none_begun o xs e = rw e (append-nil xs)
 
 pub mapping_read : (text : List ℕ) (m : MappingText) → IsMappingText text m → mapping_of_text text ≡ Ok m
@@ -92,7 +92,7 @@ unexpected_fault : (text : List ℕ) (left : ℕ) (b : Bool) (d : Result Mapping
 unexpected_fault text left true d is le first h = (first_unexpected text left le first, not_deeper (judged_tokens text) left d le h is)
 unexpected_fault text left false d is le first h = (first_unexpected text left le first, deeper (judged_tokens text) left d le h is)
 
-fault_kind : (o : Option Stop) (p : ℕ × TextKind) → ((s : Stop) → o ≡ Some s → (s.kind ≡ Character) ⊎ (s.kind ≡ Ended)) → fault_in o ≡ Some p → (p.1 ≡ Character) ⊎ (p.1 ≡ Ended)
+pub fault_kind : (o : Option Stop) (p : ℕ × TextKind) → ((s : Stop) → o ≡ Some s → (s.kind ≡ Character) ⊎ (s.kind ≡ Ended)) → fault_in o ≡ Some p → (p.1 ≡ Character) ⊎ (p.1 ≡ Ended)
 fault_kind None p h e = absurd (none-some p e)
 fault_kind (Some s) p h e = subst (λ (q : ℕ × TextKind). (q.1 ≡ Character) ⊎ (q.1 ≡ Ended)) (same_Some (s.place, s.kind) p e) (h s refl)
 

@@ -4,6 +4,7 @@ use Rattle.std.specs.Prelude.{map, slice_range}
 use Rattle.std.proofs.lemmas.List.{drop_at, take_at, length-append, length_push}
 use Rattle.dx_tokens.specs.declared.faults.TextKind.{TextKind}
 use Rattle.dx_tokens.specs.declared.faults.TextKind.TheVariants.{Character, Ended, Expected, UnknownName, Width, Unsafe}
+use Rattle.dx_tokens.proofs.ScanLeads.{token_slice, further}
 use Rattle.dx_script_tokens.specs.declared.pieces.Shape.{Shape}
 use Rattle.dx_script_tokens.specs.declared.pieces.Piece.TheVariants as pieces
 use Rattle.dx_script_tokens.specs.declared.scanner.ScriptToken.{ScriptToken}
@@ -26,20 +27,11 @@ token_scanned shape w after place form stops =
     sym (ap (script_scan_from 0 place) cut) ∙ token_past shape place f.first f.others after piece
     ∙ ap (λ (x : List ℕ). with_token (token_of place shape x) (script_scan_from 0 (place + length x) after)) (sym f.splits)
 
--- the token's bytes in the text
-token_slice : (text front w rest : List ℕ) (place : ℕ) → text ≡ front ++ (w ++ rest) → length front ≡ place → slice_range text place (place + length w) ≡ w
-token_slice text front w rest place e size =
-    let n : place + length w - place ≡ length w = omega arith in
-    rw (e, n, drop_at front (w ++ rest) place size) (take_at w rest (length w) refl)
-
 -- what is scanned from a place on is the tokens, and what is scanned after them
 record ScanLeads (text : List ℕ) (place : ℕ) (left : List ℕ) (tokens : List Span) (behind : List ℕ) : Type 0 where
   there : ℕ
   adds_up : there + length behind ≡ place + length left
   leads : script_scan_from 0 place left ≡ with_tokens (map (token_said text) tokens) (script_scan_from 0 there behind)
-
-further : (text front w rest left : List ℕ) → text ≡ front ++ left → left ≡ w ++ rest → text ≡ (front ++ w) ++ rest
-further text front w rest left e cut = e ∙ ap (λ (x : List ℕ). front ++ x) cut ∙ sym (append_assoc front w rest)
 
 scan_leads : (text front : List ℕ) (place : ℕ) (left : List ℕ) (tokens : List Span) (behind : List ℕ) → text ≡ front ++ left → length front ≡ place → LexesScript place left tokens behind → ScanLeads text place left tokens behind
 scan_leads text front place left tokens behind split size nothing = record { there = place; adds_up = refl; leads = refl }

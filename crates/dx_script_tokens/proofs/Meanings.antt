@@ -16,6 +16,7 @@ use Rattle.dx_tokens.proofs.Forms.{prefix_split}
 use Rattle.dx_tokens.proofs.Lexed.{AllPass, StopsAt, run_is}
 use Rattle.dx_tokens.proofs.Skips.{each_push}
 use Rattle.dx_tokens.proofs.Spelled.{all_from}
+use Rattle.dx_tokens.proofs.Meanings.{run_at_least, word_more}
 use Rattle.dx_script_tokens.specs.declared.pieces.Shape.{Shape}
 use Rattle.dx_script_tokens.specs.declared.pieces.Shape.TheVariants.{Word, Number, Name, Text, Mark}
 use Rattle.dx_script_tokens.specs.declared.pieces.Piece.TheVariants as pieces
@@ -119,13 +120,6 @@ token_piece Mark w after b rest form stops e =
     let size : 1 ≡ length w = sym (ap length form.2) in
     rw first (mark_piece form.0 rest form.1 ∙ ap (λ (n : ℕ). pieces.Token Mark n) size)
 
-run_at_least : (p : ℕ → Bool) (bs rest : List ℕ) → AllPass p bs → length bs ≤ run p (bs ++ rest)
-run_at_least p bs rest h = rw (length-prefix_len p (bs ++ rest)) (go bs h)
-  where
-    go : (cs : List ℕ) → AllPass p cs → length cs ≤ prefix_len p (cs ++ rest)
-    go [] h = omega arith
-    go (c ∷ cs) h = rw h.0 (omega (arith, go cs h.1))
-
 size_of : (s t : Shape) (m n : ℕ) → pieces.Token s m ≡ pieces.Token t n → m ≡ n
 size_of s t m n e = cc
 
@@ -192,10 +186,6 @@ stops_ends Name w after s = tt
 stops_ends Text w [] s = tt
 stops_ends Text w (b ∷ after) s = λ e. (let t = eq-eqb b 39 e in absurd (cc))
 stops_ends Mark w after s = tt
-
-word_more : (w : List ℕ) (c : ℕ) → IsWord w → is_word_byte c ≡ true → IsWord (w ++ c ∷ [])
-word_more [] c form e = absurd form
-word_more (b ∷ bs) c form e = (form.0, each_push bs c form.1 e)
 
 one_longer : (w rest left : List ℕ) (c : ℕ) → left ≡ w ++ c ∷ rest → IsLongestScriptToken w left → ¬ (IsWord (w ++ c ∷ []))
 one_longer w rest left c e long form =

@@ -4,14 +4,10 @@ use Rattle.std.proofs.Common.{length, get_or, take, Vec, Global}
 use Rattle.std.specs.Prelude.{map, replicate}
 use Rattle.std.proofs.Math.ListN.{set, length-set}
 use Rattle.std.proofs.lemmas.List.{length-map, length-replicate, map-append, take_more, get_or-map}
+use Rattle.dx_ports.proofs.Lists.{none_in}
 use Rattle.dx_instance.specs.Cells.{NumberTable}
 use Rattle.dx_instance.specs.Shown.{numbers_of_table}
 use Rattle.dx_solver.specs.Marks.{is_out, none_out, with_mark}
-
-none_in : (n p : ℕ) → get_or (replicate n false) p false ≡ false
-none_in zero p = refl
-none_in (suc n) zero = refl
-none_in (suc n) (suc p) = none_in n p
 
 -- nothing is taken out at first
 pub none_taken : (ts : List NumberTable) (t p : ℕ) → is_out (none_out ts) t p ≡ false

@@ -39,13 +39,6 @@ place_all P Q n k done none within q m = elim (cases_lt q n) [
   | inr l ↦ absurd (none q l (within q m) m)
 ]
 
-pub each_push : (P : ℕ → Type 0) (xs : List ℕ) (x : ℕ) → Each xs P → P x → Each (xs ++ x ∷ []) P
-each_push P xs x e p y m = elim (from_append xs m) [ inl l ↦ e y l | inr r ↦ last y r ]
-  where
-    last : (y : ℕ) → y ∈ (x ∷ []) → P y
-    last y (here d) = subst P d p
-    last y (there k) = elim k [ ]
-
 -- rows that agree column by column
 pub same_row : (xs ys : List ℕ) (i : ℕ) → length xs ≡ length ys → length xs ≤ i → take i xs ≡ take i ys → xs ≡ ys
 same_row xs ys i h l e = sym (take_all i xs l) ∙ (e ∙ take_all i ys (omega (arith, h, l)))

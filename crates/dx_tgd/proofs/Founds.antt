@@ -24,7 +24,7 @@ use Rattle.dx_instance.specs.Shown.{AreBelow, renumbered}
 use Rattle.dx_instance.proofs.ShownFacts.{extends_both}
 use Rattle.dx_joins.specs.Shown.{AreTexts, IsMatchTuple, MoreTuples, StandFor, is_text, texts_of}
 use Rattle.dx_instance.specs.Ranks.{text_of_value}
-use Rattle.dx_joins.proofs.Distincts.{ascend_distinct}
+use Rattle.dx_instance.proofs.SortFacts.{distinct_numbers}
 use Rattle.dx_joins.proofs.Translating.{distinct_texts}
 use Rattle.dx_joins.proofs.Whole.{stand_grow}
 use Rattle.dx_tgd.specs.Counting.{canonical_cells}
@@ -200,7 +200,7 @@ to_shown convert I d ts t a q = (a.exact t).1 (q.0, record { premise = q.1.atoms
 -- rows of numbers are no more than the rows of their rule
 found_few : (convert : Conversions) (I : List Fact) (S : List Value) (d : Rule) (t : NumberTable) (ts : List Tuple) → AreDistinctValues S → IsFoundRule convert I S d t → IsRows convert d I ts → length t.rows ≤ length ts
 found_few convert I S d t ts p s a =
-    let few = no_longer (map (texts_of S) t.rows) ts (distinct_texts S t.rows p s.texts (ascend_distinct t.rows s.ascend)) (λ u m. to_shown convert I d ts u a ((s.exact u).0 m)) in
+    let few = no_longer (map (texts_of S) t.rows) ts (distinct_texts S t.rows p s.texts (distinct_numbers t.rows s.ascend)) (λ u m. to_shown convert I d ts u a ((s.exact u).0 m)) in
     omega (arith, few, length-map t.rows (texts_of S))
 
 -- the rows of all rules have no fewer canonical cells than what is found of the first of them
@@ -298,7 +298,7 @@ pub none_passes : (most cells left n : ℕ) → 1 ≤ cells → most ≡ left / 
 none_passes most cells left n some is more = (div-lt_iff_lt-mul {k = cells} {x = left} {y = n} some).0 (rw (← is) more)
 
 pub tuples_distinct : (convert : Conversions) (I : List Fact) (S : List Value) (d : Rule) (t : NumberTable) → AreDistinctValues S → IsFoundRule convert I S d t → Distinct (map (texts_of S) t.rows)
-tuples_distinct convert I S d t p s = distinct_texts S t.rows p s.texts (ascend_distinct t.rows s.ascend)
+tuples_distinct convert I S d t p s = distinct_texts S t.rows p s.texts (distinct_numbers t.rows s.ascend)
 
 pub tuples_shown : (convert : Conversions) (I : List Fact) (S : List Value) (d : Rule) (t : NumberTable) → IsFoundRule convert I S d t → Each (map (texts_of S) t.rows) (IsTuple convert I d)
 tuples_shown convert I S d t s u m = (s.exact u).0 m
@@ -313,7 +313,7 @@ zip_more R xs ys now i x y h is e z r = rw (e, take_more xs i x h, ← is) (zip_
 
 pub reordered_few : (S T : List Value) (t u : NumberTable) → AreDistinctValues T → IsRenumbering S T t u → length u.rows ≤ length t.rows
 reordered_few S T t u p r =
-    let few = no_longer (map (texts_of T) u.rows) (map (texts_of S) t.rows) (distinct_texts T u.rows p r.texts (ascend_distinct u.rows r.ascend)) (λ s m. (r.same s).0 m) in
+    let few = no_longer (map (texts_of T) u.rows) (map (texts_of S) t.rows) (distinct_texts T u.rows p r.texts (distinct_numbers u.rows r.ascend)) (λ s m. (r.same s).0 m) in
     omega (arith, few, length-map u.rows (texts_of T), length-map t.rows (texts_of S))
 
 pub reordered_cells : (S T : List Value) (R : List Rule) (ts us : List NumberTable) → AreDistinctValues T → AllZip (IsRenumbering S T) ts us → canonical_cells R (tuples_in T us) ≤ canonical_cells R (tuples_in S ts)

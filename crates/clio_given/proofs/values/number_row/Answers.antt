@@ -1,6 +1,7 @@
 use Rattle.dx_ports.proofs.Members.{item_in}
+use Rattle.dx_ports.proofs.Options.{some_left, none_left}
 use Rattle.dx_instance.proofs.ShownFacts.{extends_both}
-use Rattle.clio_given.proofs.Parsed.{all_numbered, extends_none, no_row, none_left, none_numbered, numbered_more, some_left}
+use Rattle.clio_given.proofs.Parsed.{all_numbered, extends_none, no_row, none_numbered, numbered_more}
 use Rattle.clio_given.proofs.values.number_row.Goals as goal
 
 pub loop-field-init : goal.loop-field-init

@@ -1,11 +1,12 @@
 use Rattle.std.proofs.Common.{refl, subst, List}
 use Rattle.dx_ports.proofs.Members.{in_flat_map, item_in}
+use Rattle.dx_ports.proofs.Options.{some_left, none_left}
 use Rattle.dx_model.specs.declared.rules.Atom.{Atom}
 use Rattle.dx_model.specs.declared.rules.Cell.{Cell}
 use Rattle.dx_model.specs.Following.{frozen_text}
 use Rattle.dx_implies.specs.Asking.{HasNowhere, SaysAtom, SaysCell}
 use Rattle.std.specs.List.{AllZip}
-use Rattle.dx_implies.proofs.Asked.{none_left, some_left, zip_more}
+use Rattle.dx_implies.proofs.Asked.{zip_more}
 use Rattle.dx_implies.proofs.asking.atoms_of.Goals as goal
 
 pub returns-in_default : goal.returns-in_default

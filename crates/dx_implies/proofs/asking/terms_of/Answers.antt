@@ -1,5 +1,6 @@
 use Rattle.dx_ports.proofs.Members.{item_in}
-use Rattle.dx_implies.proofs.Asked.{none_left, some_left, zip_more}
+use Rattle.dx_ports.proofs.Options.{some_left, none_left}
+use Rattle.dx_implies.proofs.Asked.{zip_more}
 use Rattle.dx_model.specs.Following.{frozen_text}
 use Rattle.dx_implies.specs.Asking.{SaysCell}
 use Rattle.dx_implies.proofs.asking.terms_of.Goals as goal

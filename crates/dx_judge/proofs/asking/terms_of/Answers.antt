@@ -1,9 +1,10 @@
 use Rattle.std.proofs.Common.{arith, subst, List}
 use Rattle.dx_ports.specs.Members.{◌∈◌}
 use Rattle.dx_ports.proofs.Members.{in_at, item_in}
+use Rattle.dx_ports.proofs.Options.{some_left, none_left}
 use Rattle.dx_model.specs.declared.values.Value.{Value}
 use Rattle.dx_judge.specs.Asking.{SaysValue}
-use Rattle.dx_judge.proofs.Asked.{none_left, some_left, value_in, values_more}
+use Rattle.dx_judge.proofs.Asked.{value_in, values_more}
 use Rattle.dx_judge.proofs.asking.terms_of.Goals as goal
 
 pub bounds-row-column : goal.bounds-row-column
