@@ -16,6 +16,7 @@ use Rattle.dx_model.specs.Covers.{after_existential}
 use Rattle.dx_model.specs.Fitting.{AtomsFitWidths}
 use Rattle.dx_model.specs.Values.{Tuple}
 use Rattle.dx_instance.specs.Stored.{TableRows, table_at, widths}
+use Rattle.dx_instance.proofs.ValueNumbers.{wide_at}
 use Rattle.dx_holds.specs.Rooms.{FitsRoom}
 use Rattle.dx_holds.specs.Searching.{AtomsFitInstance}
 
@@ -59,12 +60,6 @@ above_more atoms i old new a cells h e d up here_too before v m =
 -- a larger room fits as well
 pub fits_larger : (d : Rule) (a b m n : ℕ) → a ≤ m → b ≤ n → FitsRoom (record { atoms = a; existentials = b }) d → FitsRoom (record { atoms = m; existentials = n }) d
 fits_larger d a b m n h k f = record { atoms = omega (arith, h, f.atoms); existentials = omega (arith, k, f.existentials) }
-
--- what is asked of the target
-wide_at : (I : List TableRows) (t w : ℕ) → slice_get (widths I) t ≡ Some w → (t < length I) × (w ≡ (table_at I t).width)
-wide_at [] t w e = cc e
-wide_at (x ∷ I) zero w e = (omega arith, cc e)
-wide_at (x ∷ I) (suc t) w e = let r = wide_at I t w e in (omega (arith, r.0), r.1)
 
 pub is_asked : (I : List TableRows) (d : Rule) (t : Tuple) → AtomsFitWidths (widths I) d.conclusion → length t ≡ length (exported d) → AtomsFitInstance I d.conclusion t
 is_asked I d t f l = record { tables = λ a m. wide_at I a.table (length a.cells) (f a m); tuple = l }

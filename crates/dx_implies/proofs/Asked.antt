@@ -17,6 +17,7 @@ use Rattle.dx_model.specs.Fitting.{AtomsFitWidths}
 use Rattle.dx_model.specs.Rules.{cell_value, cells_of, fact_of_atom}
 use Rattle.dx_ports.specs.Texts.{Text}
 use Rattle.dx_ports.proofs.Lists.{to_zip, from_zip}
+use Rattle.dx_ports.proofs.Options.{nothing, none_known, no_number}
 use Rattle.dx_model.proofs.Before.{same_value-refl, same_value-true}
 use Rattle.dx_instance.specs.Cells.{NumberTable, numbers_at}
 use Rattle.dx_instance.specs.Numbers.{AreDistinctValues, value_of}
@@ -25,6 +26,7 @@ use Rattle.dx_instance.specs.Stored.{TableRows, facts, rows_of, table_at, widths
 use Rattle.dx_instance.proofs.NumberFacts.{there_at}
 use Rattle.dx_instance.proofs.ShownFacts.{is_shown, number_same}
 use Rattle.dx_instance.proofs.StoredFacts.{fact_from_row, fact_table, row_from_fact}
+use Rattle.dx_instance.proofs.ValueNumbers.{number_of, number_at, number_back, row_place}
 use Rattle.dx_tgd.proofs.Tables.{wide_table}
 use Rattle.dx_solver.specs.declared.atom.Term.{Term}
 use Rattle.dx_solver.specs.declared.atom.Term.TheVariants.{Variable}
@@ -33,26 +35,6 @@ use Rattle.dx_solver.specs.Questions.{Solves, HasImageRow, number_under, row_und
 use Rattle.dx_implies.specs.Asking.{HasNowhere, IsNowhere, AtomFitsTable, SaysAtom, SaysCell}
 
 -- ---- the number of a value
-
-abbrev number_of : List Value → Value → ℕ
-number_of [] v = zero
-number_of (s ∷ S) v = cond (same_value s v) zero (suc (number_of S v))
-
-number_at : (S : List Value) (v : Value) → v ∈ S → (number_of S v < length S) × (value_of S (number_of S v) ≡ v)
-number_at [] v m = elim m [ ]
-number_at (s ∷ S) v m = elim (cases_Bool (same_value s v)) [
-  | inl y ↦ rw y (omega arith, same_value-true s v y)
-  | inr n ↦ let r = number_at S v (later m n) in rw n (omega (arith, r.0), r.1)
-]
-  where
-    later : v ∈ (s ∷ S) → same_value s v ≡ false → v ∈ S
-    later (here e) n = absurd (true≢false (sym (subst (λ (x : Value). same_value s x ≡ true) e (same_value-refl s)) ∙ n))
-    later (there k) n = k
-
-number_back : (S : List Value) (n : ℕ) → AreDistinctValues S → n < length S → number_of S (value_of S n) ≡ n
-number_back S n apart h =
-    let r = number_at S (value_of S n) (in_at S n (Const []) h) in
-    number_same S (number_of S (value_of S n)) n apart r.0 h r.1
 
 -- ---- cells and terms
 
@@ -95,11 +77,6 @@ module _ (S : List Value) (apart : AreDistinctValues S) (freeze : ℕ → Text) 
       (λ i. first i ∷ others i)
 
 -- ---- members of lists that go together
-
-row_place : (rows : List (List ℕ)) (r : List ℕ) → r ∈ rows → (p : ℕ) × (p < length rows) × (numbers_at rows p ≡ r)
-row_place [] r m = elim m [ ]
-row_place (x ∷ rows) r (here e) = (zero, omega arith, e)
-row_place (x ∷ rows) r (there m) = let w = row_place rows r m in (suc w.0, omega (arith, w.1), w.2)
 
 -- an item doesn't depend on what stands for one that is not there
 pub same_default : {X : Type 0} (us : List X) (k : ℕ) (d e : X) → k < length us → get_or us k d ≡ get_or us k e
@@ -220,17 +197,6 @@ zip_more {X} {Y} R xs ys i x y h e z r =
     push (u ∷ us) (v ∷ vs) z = (z.0, push us vs z.1)
 
 -- ---- what the solver answers
-
-abbrev nothing : Option ℕ
-nothing = None
-
-none_known : (n v : ℕ) → get_or (replicate n nothing) v nothing ≡ nothing
-none_known zero v = refl
-none_known (suc n) zero = refl
-none_known (suc n) (suc v) = none_known n v
-
-no_number : (n : ℕ) → ◌≡◌ {A = Option ℕ} None (Some n) → ⊥
-no_number n e = cc
 
 pub answer_stands : {X : Type 0} (answered_by : X → ℕ → ℕ) (ts : List NumberTable) (out : List (List Bool)) (atoms : List PatternAtom) (known : List (Option ℕ)) (n : ℕ)
     (o : Option X) (b : Bool) → out ≡ [] → known ≡ replicate n nothing

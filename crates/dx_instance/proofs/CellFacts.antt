@@ -37,12 +37,6 @@ rows_more (suc n) w cells row e l =
 pub rows_push : (n w : ℕ) (cells row : List ℕ) → length cells ≡ n * w → length row ≡ w → rows_of_cells (n + 1) w (cells ++ row) ≡ rows_of_cells n w cells ++ row ∷ []
 rows_push n w cells row e l = rw add-one (rows_more n w cells row e l)
 
--- a row lies within the cells
-pub row_within : (n w p : ℕ) → p < n → p * w + w ≤ n * w
-row_within (suc n) w zero h = omega arith
-row_within zero w p h = absurd (omega arith)
-row_within (suc n) w (suc p) h = let r = row_within n w p (omega arith) in omega (arith, r)
-
 -- each row has as many cells as the width
 pub rows_wide : (n w : ℕ) (cells : List ℕ) → length cells ≡ n * w → Each (rows_of_cells n w cells) (λ (r : List ℕ). length r ≡ w)
 rows_wide zero w cells e r m = elim m [ ]

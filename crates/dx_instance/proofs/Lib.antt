@@ -31,3 +31,4 @@ pub mod Sorting
 pub mod NullOrderFacts
 pub mod PartsFacts
 pub mod Placed
+pub mod ValueNumbers

@@ -8,6 +8,7 @@ use Rattle.std.proofs.lemmas.List.{get_or-map, get_or_default, length-map, map-a
 use Rattle.dx_ports.specs.Members.{◌∈◌, here, there, Each}
 use Rattle.dx_ports.proofs.Lists.{zip_long, zip_push, to_zip, from_zip}
 use Rattle.dx_ports.proofs.Members.{contains_from_in, from_map, in_at, in_flat_map, in_map}
+use Rattle.dx_ports.proofs.Options.{nothing, none_known, no_number}
 use Rattle.dx_model.specs.declared.facts.Fact.{Fact}
 use Rattle.dx_model.specs.declared.values.NullId.{NullId}
 use Rattle.dx_model.specs.declared.values.Value.{Value}
@@ -25,6 +26,7 @@ use Rattle.dx_instance.specs.Stored.{TableRows, facts, rows_of, table_at, HasTab
 use Rattle.dx_instance.proofs.NumberFacts.{there_at}
 use Rattle.dx_instance.proofs.ShownFacts.{number_same}
 use Rattle.dx_instance.proofs.StoredFacts.{fact_from_row, fact_table, row_from_fact}
+use Rattle.dx_instance.proofs.ValueNumbers.{number_of, number_at, number_back, row_place}
 use Rattle.dx_blocks.specs.Nulls.{AreKnown, AreNulls}
 use Rattle.dx_blocks.proofs.NullLists.{place_is_one}
 use Rattle.dx_solver.specs.declared.atom.Term.{Term}
@@ -91,26 +93,6 @@ known_nulls F ns are f m n i = (are.exactly n).1 (in_flat_map (λ (e : Fact). e.
 
 -- ---- numbers of values
 
-abbrev number_of : List Value → Value → ℕ
-number_of [] v = zero
-number_of (s ∷ S) v = cond (same_value s v) zero (suc (number_of S v))
-
-number_at : (S : List Value) (v : Value) → v ∈ S → (number_of S v < length S) × (value_of S (number_of S v) ≡ v)
-number_at [] v m = elim m [ ]
-number_at (s ∷ S) v m = elim (cases_Bool (same_value s v)) [
-  | inl y ↦ rw y (omega arith, same_value-true s v y)
-  | inr n ↦ let r = number_at S v (later m n) in rw n (omega (arith, r.0), r.1)
-]
-  where
-    later : v ∈ (s ∷ S) → same_value s v ≡ false → v ∈ S
-    later (here e) n = absurd (true≢false (sym (subst (λ (x : Value). same_value s x ≡ true) e (same_value-refl s)) ∙ n))
-    later (there k) n = k
-
-number_back : (S : List Value) (n : ℕ) → AreDistinctValues S → n < length S → number_of S (value_of S n) ≡ n
-number_back S n apart h =
-    let r = number_at S (value_of S n) (in_at S n (Const []) h) in
-    number_same S (number_of S (value_of S n)) n apart r.0 h r.1
-
 -- ---- what stands for values
 
 module _ (S : List Value) (apart : AreDistinctValues S) (ns : List NullId) where
@@ -155,9 +137,6 @@ module _ (S : List Value) (apart : AreDistinctValues S) (ns : List NullId) where
       let first = value_says a v x z.0 in
       let others = values_say a row terms z.1 in
       (λ i. first i ∷ others i)
-
-row_place : (rows : List (List ℕ)) (r : List ℕ) → r ∈ rows → (p : ℕ) × (p < length rows) × (numbers_at rows p ≡ r)
-row_place rows r m = let k = contains_from_in m in (k.0, k.1, get_or_default rows k.0 [] r k.1 ∙ k.2)
 
 -- ---- the question
 
@@ -263,17 +242,6 @@ module _ (S : List Value) (ts : List NumberTable) (fit : PartsFit S ts) (J : Lis
     solved (Err x) k = tt
 
 -- ---- what the solver answers
-
-abbrev nothing : Option ℕ
-nothing = None
-
-none_known : (n v : ℕ) → get_or (replicate n nothing) v nothing ≡ nothing
-none_known zero v = refl
-none_known (suc n) zero = refl
-none_known (suc n) (suc v) = none_known n v
-
-no_number : (n : ℕ) → ◌≡◌ {A = Option ℕ} None (Some n) → ⊥
-no_number n e = cc
 
 pub answer_stands : {X : Type 0} (answered_by : X → ℕ → ℕ) (ts : List NumberTable) (out : List (List Bool)) (atoms : List PatternAtom) (known : List (Option ℕ)) (n : ℕ)
     (o : Option X) (b : Bool) → out ≡ [] → known ≡ replicate n nothing

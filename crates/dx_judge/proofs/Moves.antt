@@ -23,6 +23,7 @@ use Rattle.dx_model.proofs.Joining.{parts_join}
 use Rattle.dx_model.proofs.Maps.{into_by}
 use Rattle.dx_instance.specs.Stored.{TableRows, facts, rows_of, table_at, widths, HasTableIn}
 use Rattle.dx_instance.proofs.StoredFacts.{fact_from_row, fact_table, row_from_fact}
+use Rattle.dx_instance.proofs.ValueNumbers.{wide_at}
 use Rattle.dx_blocks.specs.declared.block.Block.{Block}
 use Rattle.dx_blocks.specs.Blocks.{AreBlocks}
 use Rattle.dx_blocks.proofs.BlockLaws.{blocks_closed, each_in_block}
@@ -122,11 +123,6 @@ pub blocks_fit : (I J : List TableRows) (bs : List Block) (b : Block) → widths
 blocks_fit I J bs b e wide are m f i = fit_other I J f e wide ((blocks_closed (facts I) bs are b m).inside f i)
 
 -- ---- tuples of rules
-
-wide_at : (I : List TableRows) (t w : ℕ) → slice_get (widths I) t ≡ Some w → (t < length I) × (w ≡ (table_at I t).width)
-wide_at [] t w e = cc e
-wide_at (x ∷ I) zero w e = (omega arith, cc e)
-wide_at (x ∷ I) (suc t) w e = let r = wide_at I t w e in (omega (arith, r.0), r.1)
 
 pub atoms_fit : (I : List TableRows) (atoms : List Atom) → AtomsFitWidths (widths I) atoms → (a : Atom) → a ∈ atoms
     → (a.table < length I) × (length a.cells ≡ (table_at I a.table).width)

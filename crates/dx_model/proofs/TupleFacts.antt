@@ -17,17 +17,17 @@ tuple_is (suc n) w texts (suc p) d h e =
     let s : w + p * w ≡ d = omega (arith, e) in
     tuple_is n w (drop w texts) p (p * w) (omega arith) refl ∙ ap (λ (l : List Text). take w l) (drop-drop (p * w) w texts ∙ ap (λ (m : ℕ). drop m texts) s)
 
--- a tuple lies within the texts
-within : (n w p : ℕ) → p < n → p * w + w ≤ n * w
-within (suc n) w zero h = omega arith
-within zero w p h = absurd (omega arith)
-within (suc n) w (suc p) h = let r = within n w p (omega arith) in omega (arith, r)
+-- a row lies within the cells
+pub row_within : (n w p : ℕ) → p < n → p * w + w ≤ n * w
+row_within (suc n) w zero h = omega arith
+row_within zero w p h = absurd (omega arith)
+row_within (suc n) w (suc p) h = let r = row_within n w p (omega arith) in omega (arith, r)
 
 pub tuple_within : (ts : List Tuple) (n w : ℕ) (texts : List Text) (p : ℕ) → in_tuples n w texts ≡ ts → length texts ≡ n * w → p < length ts → p * w + w ≤ length texts
 tuple_within ts n w texts p v e h =
     let many : n ≡ length ts = sym (length_tuples n w texts) ∙ ap (λ (l : List Tuple). length l) v in
     let b : p < n = omega (arith, many, h) in
-    let r = within n w p b in
+    let r = row_within n w p b in
     omega (arith, e, r)
 
 pub tuple_at : (ts : List Tuple) (n w : ℕ) (texts all : List Text) (p : ℕ) → in_tuples n w texts ≡ ts → all ≡ texts → p < length ts → take (p * w + w - p * w) (drop (p * w) all) ≡ get_or ts p []
