@@ -3,7 +3,7 @@ ghost use Rattle.clio_accept.specs.Laws.{AcceptedFits, AcceptedNamesAreFree, Acc
 
 /// A text is accepted with one mapping or refused for one reason, and never both.
 pub fn a_text_is_accepted_or_refused()
-    ensures mapping { OneMapping }
+    ensures mapping { OneAcceptedMapping }
     ensures refused { AcceptedOrRefused }
 {}
 

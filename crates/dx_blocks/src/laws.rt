@@ -3,7 +3,7 @@ ghost use Rattle.dx_blocks.specs.Laws.{BlocksAreApart, BlocksAreClosed, EachInBl
 
 /// An instance has one list of blocks.
 pub fn one_list_of_blocks()
-    ensures { OneList }
+    ensures { OneBlockList }
 {}
 
 /// Blocks are closed parts without common facts, and each fact that holds a null stands in one.

@@ -20,9 +20,9 @@ pub struct NumberTable<'a> {
 }
 
 impl<'a> Model for NumberTable<'a> {
-    ghost use Rattle.dx_chase.specs.Tables.{ChaseTable as Keyed};
+    ghost use Rattle.dx_chase.specs.Tables.{ChaseTable};
 
-    ghost Value = { Keyed };
+    ghost Value = { ChaseTable };
 
     ghost view = { λ t. record { rows = t.rows.now.rows; determinations = t.determinations } };
 }

@@ -24,7 +24,7 @@ impl<'a> Model for Matched<'a> {
     ghost use Rattle.dx_instance.specs.Shown.{NumberedInstance};
     ghost use Rattle.dx_cover_fold.specs.Matched.{RowsAreComparable};
 
-    ghost Value = { Numbered };
+    ghost Value = { NumberedInstance };
 
     ghost view = { λ m. record { symbols = m.symbols.now; tables = m.tables.now } };
 

@@ -4,9 +4,9 @@ ghost use Rattle.dx_csv.specs.Laws.{OneRowFault, NeverTableAndFault, PrintedRead
 /// Records are a table of one list of rows, or have one fault, and never both.
 pub fn one_reading()
     ensures table { TableIsOne }
-    ensures fault { FaultIsOne }
+    ensures fault { OneRowFault }
     ensures either { TableOrFault }
-    ensures never_both { NeverBoth }
+    ensures never_both { NeverTableAndFault }
 {}
 
 /// What `print_records` prints of records with a field each is read as these records.

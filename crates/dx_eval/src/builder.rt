@@ -23,7 +23,7 @@ impl Model for Builder {
     ghost use Rattle.dx_ports.specs.Members.{Each};
     ghost use Rattle.dx_instance.specs.Shown.{NumberedInstance, NumberRowsFit};
 
-    ghost Value = { Numbered };
+    ghost Value = { NumberedInstance };
 
     ghost view = { λ b. record { symbols = b.symbols; tables = b.tables.items } };
 

@@ -24,7 +24,7 @@ impl Model for Bindings {
     ghost use Rattle.std.specs.Prelude.{◌≤◌, vec_capacity};
     ghost use Rattle.dx_hom.specs.Bound.{AreBound, BindingState};
 
-    ghost Value = { Bound };
+    ghost Value = { BindingState };
 
     ghost view = { λ b. record { room = b.room; cells = b.cells.items } };
 

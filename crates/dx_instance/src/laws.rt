@@ -13,7 +13,7 @@ pub fn sorted_facts_ascend()
 
 /// Tables that are as wide as those of a schema hold an instance of it.
 pub fn facts_fit()
-    ensures { FactsFit }
+    ensures { WidthsMakeInstance }
 {}
 
 /// Two values with the same text are one.

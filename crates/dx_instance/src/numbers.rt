@@ -23,7 +23,7 @@ pub struct Numbers<'a> {
 impl<'a> Model for Numbers<'a> {
     ghost use Rattle.dx_instance.specs.Shown.{NumberedInstance, PartsFit};
 
-    ghost Value = { Numbered };
+    ghost Value = { NumberedInstance };
 
     ghost view = { λ n. record { symbols = n.symbols.now; tables = n.tables.now } };
 

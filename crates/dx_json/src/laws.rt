@@ -4,14 +4,14 @@ ghost use Rattle.dx_json.specs.Laws.{FactsAreOne, DocumentFactsFit, FactsOrFault
 /// Bytes say one list of facts of a root or have one first fault, and never both.
 pub fn one_reading()
     ensures facts { FactsAreOne }
-    ensures fault { FaultIsOne }
+    ensures fault { OneDocumentFault }
     ensures either { FactsOrFault }
-    ensures never_both { NeverBoth }
+    ensures never_both { NeverFactsAndFault }
 {}
 
 /// The facts that bytes say of a root fit the tables of its schema.
 pub fn facts_fit()
-    ensures { FactsFit }
+    ensures { DocumentFactsFit }
 {}
 
 /// A root of an instance has one nested text.

@@ -195,7 +195,7 @@ pub fn parts_join()
 /// have a width for each table.
 pub fn widths_of_atoms()
     ensures fit { FitsByWidths }
-    ensures agree { WidthsAgree }
+    ensures agree { AtomWidthsAgree }
     ensures have { RulesHaveWidths }
 {}
 

@@ -6,7 +6,7 @@ pub fn a_text_says_one_thing()
     ensures query { OneText }
     ensures fault { OneTextFault }
     ensures either { TextOrFault }
-    ensures never_both { NeverBoth }
+    ensures never_both { NeverQueryAndFault }
 {}
 
 /// A part has no more cells than its text has bytes.
@@ -17,7 +17,7 @@ pub fn texts_have_few_cells()
 /// Over a target a text says one query, or it has one first fault, which has a place and a kind.
 pub fn a_text_says_one_query()
     ensures query { OneQuery }
-    ensures fault { OneFault }
+    ensures fault { OneQueryFault }
     ensures either { QueryOrFault }
     ensures never_both { NeverSaidAndFaulty }
     ensures placed { FaultsArePlaced }

@@ -4,9 +4,9 @@ ghost use Rattle.dx_schema_text.specs.Laws.{MappingOrFault, NeverMappingAndFault
 /// A text says one mapping, or it has one first fault.
 pub fn a_text_says_one_thing()
     ensures mapping { OneMapping }
-    ensures fault { OneFault }
+    ensures fault { OneMappingFault }
     ensures either { MappingOrFault }
-    ensures never_both { NeverBoth }
+    ensures never_both { NeverMappingAndFault }
 {}
 
 /// The tokens that spell a mapping are exactly the texts of the form, and those that can stand are the fronts of texts.

@@ -10,7 +10,7 @@ pub fn a_script_is_spelled()
 /// A text says one script, or it has one first fault.
 pub fn a_text_says_one_thing()
     ensures script { OneScript }
-    ensures fault { OneFault }
+    ensures fault { OneScriptFault }
     ensures either { ScriptOrFault }
-    ensures never_both { NeverBoth }
+    ensures never_both { NeverScriptAndFault }
 {}

@@ -14,7 +14,7 @@ pub fn ways_ascend()
 
 /// Two strictly ascending lists of picks that have the same members are one.
 pub fn one_ascending()
-    ensures { OneAscending }
+    ensures { OnePickList }
 {}
 
 /// More occurrences have the same ways, and maybe more.
