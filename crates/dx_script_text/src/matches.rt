@@ -14,7 +14,7 @@ use dx_script::{CellRef, Equal, Select, Step};
 use dx_script_tokens::{ScriptKind, ScriptToken};
 use std::alloc::Global;
 
-#[tactic(auto, unfolding(crate::specs::Reading::cell_reader))]
+#[tactic(auto, unfolding(crate::specs::Reading::alias_cell_reader))]
 fn cell(tokens: &[ScriptToken]) -> Result<(CellRef, &[ScriptToken]), ReadError>
     ensures { ReadsAs (λ x. (x.0, x.1.now)) result (alias_cell_reader tokens.now) }
 {
@@ -64,7 +64,7 @@ fn cells(
     more_cells(all, rest)
 }
 
-#[tactic(auto, unfolding(crate::specs::Reading::call_reader))]
+#[tactic(auto, unfolding(crate::specs::Reading::select_call_reader))]
 fn call(alloc: Global, tokens: &[ScriptToken]) -> Result<(Select, &[ScriptToken]), ReadError>
     ensures { ReadsAs (λ x. (x.0, x.1.now)) result (select_call_reader tokens.now) }
 {
@@ -98,7 +98,7 @@ fn value(alloc: Global, tokens: &[ScriptToken]) -> Result<(Select, &[ScriptToken
     }
 }
 
-#[tactic(auto, unfolding(crate::specs::Reading::item_reader))]
+#[tactic(auto, unfolding(crate::specs::Reading::select_item_reader))]
 fn item(
     alloc: Global,
     number: u32,
@@ -180,7 +180,7 @@ fn select(
     }
 }
 
-#[tactic(auto, unfolding(crate::specs::Reading::source_reader))]
+#[tactic(auto, unfolding(crate::specs::Reading::from_source_reader))]
 fn source(number: u32, tokens: &[ScriptToken]) -> Result<(Text, &[ScriptToken]), ReadError>
     ensures { ReadsAs (λ x. (x.0, x.1.now)) result (from_source_reader number tokens.now) }
 {
@@ -278,7 +278,7 @@ fn equals(
     more_equal(all, rest)
 }
 
-#[tactic(auto, unfolding(crate::specs::Reading::where_reader))]
+#[tactic(auto, unfolding(crate::specs::Reading::where_clause_reader))]
 fn where_part(
     alloc: Global,
     tokens: &[ScriptToken],

@@ -115,7 +115,7 @@ fn text_piece(text: &[u8]) -> Piece
 }
 
 /// What stands next, if a byte is followed by others.
-#[tactic(auto, unfolding(crate::specs::Pieces::piece_at))]
+#[tactic(auto, unfolding(crate::specs::Pieces::script_piece_at))]
 pub(crate) fn next_piece(b: u8, rest: &[u8]) -> Piece
     requires { length rest.now + 1 < 2 ^ 64 }
     ensures value { result ≡ script_piece_at b rest.now }
