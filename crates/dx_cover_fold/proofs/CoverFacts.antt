@@ -30,7 +30,7 @@ use Rattle.dx_cover_fold.specs.declared.index.Index.{Index}
 use Rattle.dx_cover_fold.specs.declared.number_at.NumberAt.{NumberAt}
 use Rattle.dx_cover_fold.specs.Codes.{IsCode, IsHeld, IsPlanned, numbers_by}
 use Rattle.dx_cover_fold.specs.Found.{AreOrFirsts, FindsAmong, IndexesCells, cover_of, first_row_of, images_by, no_map, or_first, own_rows, row_said, variable_cells}
-use Rattle.dx_model.specs.Matches.{rows_of_matches}
+use Rattle.dx_cover_fold.specs.Matched.{matched_tuples}
 use Rattle.dx_cover_fold.proofs.CodeFacts.{codes_said, rows_alike, texts_held}
 use Rattle.dx_cover_fold.proofs.Finding.{all_agree, find_alike, find_below, find_mapped, map_map, map_or}
 
@@ -157,13 +157,13 @@ none_found R rows i found h k l = ap (option_map (cover_of R i)) (h k)
 pub rule_is : (R : List Rule) (i : ℕ) (d : Rule) → i < length R → d ≡ get_or R i d → rule_at R i ≡ d
 rule_is R i d lt is = get_or_default R i _ d lt ∙ sym is
 
-pub tuples_are : (m : NumberedInstance) (i : ℕ) → i < length m.tables → get_or (rows_of_matches m) i [] ≡ map (texts_of m.symbols) (numbers_of_table m.tables i).rows
+pub tuples_are : (m : NumberedInstance) (i : ℕ) → i < length m.tables → get_or (matched_tuples m) i [] ≡ map (texts_of m.symbols) (numbers_of_table m.tables i).rows
 tuples_are m i lt = get_or-map (λ (t : NumberTable). map (texts_of m.symbols) t.rows) m.tables i (record { width = 0; rows = [] }) [] lt
 
-pub places_are : (m : NumberedInstance) (i : ℕ) → i < length m.tables → length (get_or (rows_of_matches m) i []) ≡ length (numbers_of_table m.tables i).rows
+pub places_are : (m : NumberedInstance) (i : ℕ) → i < length m.tables → length (get_or (matched_tuples m) i []) ≡ length (numbers_of_table m.tables i).rows
 places_are m i lt = ap length (tuples_are m i lt) ∙ length-map (numbers_of_table m.tables i).rows (texts_of m.symbols)
 
-pub rules_are : (m : NumberedInstance) → length (rows_of_matches m) ≡ length m.tables
+pub rules_are : (m : NumberedInstance) → length (matched_tuples m) ≡ length m.tables
 rules_are m = length-map m.tables (λ (t : NumberTable). map (texts_of m.symbols) t.rows)
 
 few_taken : {X : Type 0} (n : ℕ) (xs : List X) → length (take n xs) ≤ n

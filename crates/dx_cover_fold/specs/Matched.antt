@@ -12,6 +12,10 @@ use Rattle.dx_joins.specs.Shown.{AreTexts, texts_of}
 abbrev pub tuples_of : List Value → List NumberTable → Rows
 tuples_of symbols tables = map (λ (t : NumberTable). map (texts_of symbols) t.rows) tables
 
+-- the tuples of matches whose rows stand as numbers
+abbrev pub matched_tuples : NumberedInstance → Rows
+matched_tuples m = tuples_of m.symbols m.tables
+
 -- what holds of rows that are compared by their numbers: symbols are distinct, and two more numbers are left; each number of a row
 -- stands for a text
 pub record RowsAreComparable (symbols : List Value) (tables : List NumberTable) : Type 0 where

@@ -5,7 +5,7 @@ ghost use Rattle.dx_ports.specs.Members.{Each};
 ghost use Rattle.dx_model.specs.declared.covers.Cover.{Cover};
 ghost use Rattle.dx_model.specs.Rules.{exported as exported_of};
 ghost use Rattle.dx_model.specs.Covers.{places_by, rule_at, used_maps};
-ghost use Rattle.dx_model.specs.Matches.{rows_of_matches};
+ghost use Rattle.dx_cover_fold.specs.Matched.{matched_tuples};
 ghost use Rattle.dx_instance.specs.Shown.{numbers_of_table};
 ghost use Rattle.dx_cover.specs.Covering.{covers_of};
 ghost use Rattle.dx_cover_fold.specs.Codes.{RowHasColumn, IsPlanned};
@@ -105,10 +105,10 @@ fn by_map(
     requires one { length matches.now.tables ≡ length rules.now }
     requires number { slice_index_or (used_maps (rule_at rules.now i) (rule_at rules.now j)) number no_map ≡ map.now }
     requires own { AreOwn rules.now matches.now i own.now }
-    requires many { length known.now ≡ length (slice_index_or (rows_of_matches matches.now) i []) }
+    requires many { length known.now ≡ length (slice_index_or (matched_tuples matches.now) i []) }
     ensures many { IfOk result (λ v. length v.items ≡ length known.now) }
-    ensures finds { IfOk result (λ v. (C : List Cover) → FindsAmong rules.now (rows_of_matches matches.now) i C known.now
-        → FindsAmong rules.now (rows_of_matches matches.now) i (C ++ places_by (rows_of_matches matches.now) j map.now) v.items) }
+    ensures finds { IfOk result (λ v. (C : List Cover) → FindsAmong rules.now (matched_tuples matches.now) i C known.now
+        → FindsAmong rules.now (matched_tuples matches.now) i (C ++ places_by (matched_tuples matches.now) j map.now) v.items) }
 {
     let (from, to) = (&rules[i as usize], &rules[j as usize]);
     let here = matches.rows(i);
@@ -133,10 +133,10 @@ fn by_maps(
     requires one { length matches.now.tables ≡ length rules.now }
     requires maps { maps.now ≡ used_maps (rule_at rules.now i) (rule_at rules.now j) }
     requires own { AreOwn rules.now matches.now i own.now }
-    requires many { length known.items ≡ length (slice_index_or (rows_of_matches matches.now) i []) }
+    requires many { length known.items ≡ length (slice_index_or (matched_tuples matches.now) i []) }
     ensures many { IfOk result (λ v. length v.items ≡ length known.items) }
-    ensures finds { IfOk result (λ v. (C : List Cover) → FindsAmong rules.now (rows_of_matches matches.now) i C known.items
-        → FindsAmong rules.now (rows_of_matches matches.now) i (C ++ flat_map (places_by (rows_of_matches matches.now) j) (used_maps (rule_at rules.now i) (rule_at rules.now j))) v.items) }
+    ensures finds { IfOk result (λ v. (C : List Cover) → FindsAmong rules.now (matched_tuples matches.now) i C known.items
+        → FindsAmong rules.now (matched_tuples matches.now) i (C ++ flat_map (places_by (matched_tuples matches.now) j) (used_maps (rule_at rules.now i) (rule_at rules.now j))) v.items) }
 {
     let mut found = known;
     for number in 0..maps.len() {
@@ -171,10 +171,10 @@ fn by_rule(
     requires to { j < length rules.now }
     requires one { length matches.now.tables ≡ length rules.now }
     requires own { AreOwn rules.now matches.now i own.now }
-    requires many { length known.items ≡ length (slice_index_or (rows_of_matches matches.now) i []) }
+    requires many { length known.items ≡ length (slice_index_or (matched_tuples matches.now) i []) }
     ensures many { IfOk result (λ v. length v.items ≡ length known.items) }
-    ensures finds { IfOk result (λ v. (C : List Cover) → FindsAmong rules.now (rows_of_matches matches.now) i C known.items
-        → FindsAmong rules.now (rows_of_matches matches.now) i (C ++ flat_map (places_by (rows_of_matches matches.now) j) (used_maps (rule_at rules.now i) (rule_at rules.now j))) v.items) }
+    ensures finds { IfOk result (λ v. (C : List Cover) → FindsAmong rules.now (matched_tuples matches.now) i C known.items
+        → FindsAmong rules.now (matched_tuples matches.now) i (C ++ flat_map (places_by (matched_tuples matches.now) j) (used_maps (rule_at rules.now i) (rule_at rules.now j))) v.items) }
 {
     by_maps(alloc, rules, matches, i, own, j, covers.maps(i, j), known)
 }
@@ -231,7 +231,7 @@ pub(crate) fn least_covers(
     requires few { length rules.now < 2 ^ 32 }
     requires from { i < length rules.now }
     requires one { length matches.now.tables ≡ length rules.now }
-    ensures { IfOk result (λ v. AreLeast rules.now (rows_of_matches matches.now) i v.items) }
+    ensures { IfOk result (λ v. AreLeast rules.now (matched_tuples matches.now) i v.items) }
 {
     let mut found = none_known(alloc, matches.places(i) as usize)?;
     let own = own_of(alloc, rules, matches, i)?;

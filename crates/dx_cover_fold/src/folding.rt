@@ -5,7 +5,7 @@ ghost use Rattle.dx_model.specs.declared.values.Value.TheVariants.{Null as NullV
 ghost use Rattle.dx_model.specs.Rules.{exported as exported_of};
 ghost use Rattle.dx_model.specs.declared.rules.Cell.TheVariants.{Ex as ExCell};
 ghost use Rattle.dx_model.specs.Covers.{IsPlace, folded, least_cover, value_under};
-ghost use Rattle.dx_model.specs.Matches.{rows_of_matches};
+ghost use Rattle.dx_cover_fold.specs.Matched.{matched_tuples};
 ghost use Rattle.dx_joins.specs.Shown.{AreTexts};
 ghost use Rattle.dx_cover.specs.Covering.{covers_of};
 ghost use Rattle.dx_cover_fold.specs.Found.{AllLeast, cover_of};
@@ -44,7 +44,7 @@ fn all_covers(
     requires covers { covers.now ≡ covers_of rules.now }
     requires few { length rules.now < 2 ^ 32 }
     requires one { length matches.now.tables ≡ length rules.now }
-    ensures { IfOk result (λ v. AllLeast rules.now (rows_of_matches matches.now) v.items (length rules.now)) }
+    ensures { IfOk result (λ v. AllLeast rules.now (matched_tuples matches.now) v.items (length rules.now)) }
 {
     let mut all = Vec::new(alloc);
     for i in 0..rules.len() {
@@ -68,8 +68,8 @@ fn value_given(
     requires from { i < length rules.now }
     requires one { length matches.now.tables ≡ length rules.now }
     requires variables { variables.now ≡ map exported_of rules.now }
-    requires place { IsPlace rules.now (rows_of_matches matches.now) found.rule found.row }
-    ensures { IfOk result (λ v. v ≡ value_under rules.now (rows_of_matches matches.now) i (cover_of rules.now i found) (ExCell var)) }
+    requires place { IsPlace rules.now (matched_tuples matches.now) found.rule found.row }
+    ensures { IfOk result (λ v. v ≡ value_under rules.now (matched_tuples matches.now) i (cover_of rules.now i found) (ExCell var)) }
 {
     let _rules = rules;
     let other = Cell::Ex(0);
@@ -98,9 +98,9 @@ fn fold_null(
     requires covers { covers.now ≡ covers_of rules.now }
     requires one { length matches.now.tables ≡ length rules.now }
     requires variables { variables.now ≡ map exported_of rules.now }
-    requires least { AllLeast rules.now (rows_of_matches matches.now) least.now (length rules.now) }
-    requires place { IsPlace rules.now (rows_of_matches matches.now) null.rule null.row }
-    ensures { IfOk result (λ v. v ≡ folded rules.now (rows_of_matches matches.now) (least_cover rules.now (rows_of_matches matches.now)) (suc (length rules.now)) null) }
+    requires least { AllLeast rules.now (matched_tuples matches.now) least.now (length rules.now) }
+    requires place { IsPlace rules.now (matched_tuples matches.now) null.rule null.row }
+    ensures { IfOk result (λ v. v ≡ folded rules.now (matched_tuples matches.now) (least_cover rules.now (matched_tuples matches.now)) (suc (length rules.now)) null) }
 {
     let mut now = null;
     for _step in 0..rules.len() + 1 {
@@ -127,7 +127,7 @@ fn fold_of_matched(
     requires covers { covers.now ≡ covers_of rules.now }
     requires few { length rules.now < 2 ^ 32 }
     requires one { length matches.now.tables ≡ length rules.now }
-    ensures { IfOk result (IsCoverFold rules.now (rows_of_matches matches.now)) }
+    ensures { IfOk result (IsCoverFold rules.now (matched_tuples matches.now)) }
 {
     let variables = all_exported(alloc, rules)?;
     let least = all_covers(alloc, rules, covers, matches)?;

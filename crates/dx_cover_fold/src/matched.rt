@@ -3,7 +3,7 @@ ghost use Rattle.std.specs.Prelude.{◌≡◌, ◌↔◌, ◌<◌, ◌-◌, ◌+
 ghost use Rattle.dx_ports.specs.Members.{◌∈◌, Each};
 ghost use Rattle.dx_model.specs.declared.values.Value.TheVariants.{Const as ConstValue};
 ghost use Rattle.dx_model.specs.Covers.{tuple_at};
-ghost use Rattle.dx_model.specs.Matches.{rows_of_matches};
+ghost use Rattle.dx_cover_fold.specs.Matched.{matched_tuples};
 ghost use Rattle.dx_instance.specs.Numbers.{AreDistinctValues, value_of};
 ghost use Rattle.dx_instance.specs.Shown.{numbers_of_table};
 ghost use Rattle.dx_joins.specs.Shown.{AreTexts, texts_of};
@@ -74,7 +74,7 @@ impl<'a> Matched<'a> {
     /// How many places a rule has.
     pub(crate) fn places(&self, rule: u32) -> u32
         requires { rule < length self.now.tables }
-        ensures { result ≡ length (slice_index_or (rows_of_matches self.now) rule []) }
+        ensures { result ≡ length (slice_index_or (matched_tuples self.now) rule []) }
     {
         self.rows(rule).count()
     }
@@ -82,9 +82,9 @@ impl<'a> Matched<'a> {
     /// The row of a rule at a place, lent.
     pub(crate) fn row(&self, rule: u32, place: u32) -> &'a [u32]
         requires rule { rule < length self.now.tables }
-        requires place { place < length (slice_index_or (rows_of_matches self.now) rule []) }
+        requires place { place < length (slice_index_or (matched_tuples self.now) rule []) }
         ensures texts { AreTexts self.now.symbols result.now }
-        ensures tuple { texts_of self.now.symbols result.now ≡ tuple_at (rows_of_matches self.now) rule place }
+        ensures tuple { texts_of self.now.symbols result.now ≡ tuple_at (matched_tuples self.now) rule place }
     {
         self.rows(rule).row(place)
     }

@@ -4,7 +4,7 @@ ghost use Rattle.dx_ports.specs.Members.{◌∈◌};
 ghost use Rattle.dx_model.specs.declared.values.NullId.{NullId as AnyNull};
 ghost use Rattle.dx_model.specs.Rules.{cells_of};
 ghost use Rattle.dx_model.specs.Covers.{after_existential};
-ghost use Rattle.dx_model.specs.Matches.{rows_of_matches};
+ghost use Rattle.dx_cover_fold.specs.Matched.{matched_tuples};
 ghost use Rattle.dx_cover_fold.specs.Folding.{IsNullAt, IsNullOf, IsPlaceNull};
 
 use crate::matched::Matched;
@@ -77,7 +77,7 @@ pub(crate) fn place_nulls(
 ) -> Result<Vec<NullId>, AllocError>
     requires few { length rules.now < 2 ^ 32 }
     requires one { length matches.now.tables ≡ length rules.now }
-    ensures { IfOk result (λ v. (n : AnyNull) → (n ∈ v.items) ↔ IsPlaceNull rules.now (rows_of_matches matches.now) n) }
+    ensures { IfOk result (λ v. (n : AnyNull) → (n ∈ v.items) ↔ IsPlaceNull rules.now (matched_tuples matches.now) n) }
 {
     let mut nulls = Vec::new(alloc);
     for rule in 0..rules.len() {

@@ -7,7 +7,7 @@ use Rattle.dx_instance.specs.Cells.{NumberTable}
 use Rattle.dx_joins.specs.Shown.{texts_of}
 use Rattle.dx_cover_fold.specs.Codes.{IsPlanned}
 use Rattle.dx_cover_fold.specs.Found.{IndexesCells, images_by, variable_cells}
-use Rattle.dx_model.specs.Matches.{rows_of_matches}
+use Rattle.dx_cover_fold.specs.Matched.{matched_tuples}
 use Rattle.dx_cover_fold.proofs.CodeFacts.{plan_columns}
 use Rattle.dx_cover_fold.proofs.CoverFacts.{map_more, places_are, rule_is, tuples_are}
 use Rattle.dx_cover_fold.proofs.covering.by_map.Goals as goal
@@ -42,7 +42,7 @@ returns-clause-finds c = λ C h.
     let own = subst (λ (t : NumberTable). AllZip (IsPlanned m.symbols (exported (rule_at R c.args.i)) t.width) (variable_cells (rule_at R c.args.i)) c.args.own.now) here c.requires.own in
     let index = subst (λ (d : Rule). IndexesCells m.symbols c.rows-there.result.now (exported (rule_at R c.args.j)) (images_by d c.args.map.now) c.in_ok-index.index) (sym from)
     (subst (λ (d : Rule). IndexesCells m.symbols c.rows-there.result.now (exported d) (images_by c.index-rules-i.result c.args.map.now) c.in_ok-index.index) (sym to) c.in_ok-index.ensures) in
-    map_more R (rows_of_matches m) c.args.i c.args.j c.args.map.now m.symbols c.rows-here.result.now c.rows-there.result.now c.args.own.now c.args.number c.in_ok-index.index c.args.known.now c.in_ok-or_firsts.field-0.items C
+    map_more R (matched_tuples m) c.args.i c.args.j c.args.map.now m.symbols c.rows-here.result.now c.rows-there.result.now c.args.own.now c.args.number c.in_ok-index.index c.args.known.now c.in_ok-or_firsts.field-0.items C
     (tuples_are m c.args.i first ∙ ap (λ (t : NumberTable). map (texts_of m.symbols) t.rows) here)
     (tuples_are m c.args.j second ∙ ap (λ (t : NumberTable). map (texts_of m.symbols) t.rows) there)
     c.rows-here.ensures.apart (record { texts = c.rows-here.ensures.texts; wide = c.rows-here.ensures.wide }) (record { texts = c.rows-there.ensures.texts; wide = c.rows-there.ensures.wide })

@@ -4,7 +4,7 @@ use Rattle.dx_model.specs.declared.covers.CellMap.{CellMap}
 use Rattle.std.specs.Prelude.{flat_map}
 use Rattle.dx_model.specs.Covers.{places_by, rule_at}
 use Rattle.dx_cover_fold.specs.Found.{FindsAmong, no_map}
-use Rattle.dx_model.specs.Matches.{rows_of_matches}
+use Rattle.dx_cover_fold.specs.Matched.{matched_tuples}
 use Rattle.dx_cover_fold.proofs.CoverFacts.{few_maps, maps_more}
 use Rattle.dx_cover_fold.proofs.covering.by_maps.Goals as goal
 
@@ -23,7 +23,7 @@ by_map-requires-clause-many c = ap length c.deref.ensures.value ∙ c.loop-numbe
 pub returns-clause-finds : goal.returns-clause-finds
 returns-clause-finds c = λ C p.
     let all : take c.loop-number.number c.args.maps.now ≡ c.args.maps.now = take_all c.loop-number.number c.args.maps.now (omega (arith, c.loop-number-test.false)) in
-    subst (λ (l : List CellMap). FindsAmong c.args.rules.now (rows_of_matches c.args.matches.now) c.args.i (C ++ flat_map (places_by (rows_of_matches c.args.matches.now) c.args.j) l) c.loop-number.found.items) (all ∙ c.requires.maps)
+    subst (λ (l : List CellMap). FindsAmong c.args.rules.now (matched_tuples c.args.matches.now) c.args.i (C ++ flat_map (places_by (matched_tuples c.args.matches.now) c.args.j) l) c.loop-number.found.items) (all ∙ c.requires.maps)
     (c.loop-number.invariant.1.finds C p)
 
 pub loop-number-preserved : goal.loop-number-preserved
@@ -31,9 +31,9 @@ loop-number-preserved c = (
   c.in_ok-found.ensures.many ∙ ap length c.deref.ensures.value ∙ c.loop-number.invariant.0,
   record {
     finds = λ C p.
-        let more = maps_more (rows_of_matches c.args.matches.now) c.args.j c.loop-number.number c.args.maps.now c.index-maps-number.result C c.loop-number-test.true c.index-maps-number.is in
+        let more = maps_more (matched_tuples c.args.matches.now) c.args.j c.loop-number.number c.args.maps.now c.index-maps-number.result C c.loop-number-test.true c.index-maps-number.is in
         let so_far = c.loop-number.invariant.1.finds C p in
-        let next = c.in_ok-found.ensures.finds (C ++ flat_map (places_by (rows_of_matches c.args.matches.now) c.args.j) (take c.loop-number.number c.args.maps.now)) (rw c.deref.ensures.value so_far) in
-        subst (λ z. FindsAmong c.args.rules.now (rows_of_matches c.args.matches.now) c.args.i z c.in_ok-found.found.items) more next;
+        let next = c.in_ok-found.ensures.finds (C ++ flat_map (places_by (matched_tuples c.args.matches.now) c.args.j) (take c.loop-number.number c.args.maps.now)) (rw c.deref.ensures.value so_far) in
+        subst (λ z. FindsAmong c.args.rules.now (matched_tuples c.args.matches.now) c.args.i z c.in_ok-found.found.items) more next;
   },
 )
