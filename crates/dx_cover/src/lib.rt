@@ -14,6 +14,7 @@
 mod cells;
 mod covers;
 mod partners;
+mod problem;
 mod search;
 mod states;
 mod variables;

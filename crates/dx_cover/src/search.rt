@@ -2,14 +2,14 @@ ghost use Rattle.std.specs.Prelude.{◌≡◌, ◌<◌, ◌≤◌, ℕ, ◌&&◌
 ghost use Rattle.std.specs.List.{list_all, list_any};
 ghost use Rattle.dx_model.specs.declared.rules.Atom.{Atom as AtomValue};
 ghost use Rattle.dx_model.specs.declared.rules.Cell.TheVariants.{Var as VarCell, Ex as ExCell};
-ghost use Rattle.dx_model.specs.Rules.{cells_of, exported};
-ghost use Rattle.dx_model.specs.Covers.{after_existential, below, first_met, is_cell_map, map_of, may_meet, meet, same_cell, same_cells, used_maps};
+ghost use Rattle.dx_model.specs.Covers.{below, first_met, is_cell_map, map_of, may_meet, meet, same_cell, same_cells, used_maps};
 ghost use Rattle.dx_model.specs.Fitting.{AgreeInWidths, IsRule};
 ghost use Rattle.dx_cover.specs.Search.{AreAllSeen, MeetInWidths, found_after, has_met_in, maps_under, agrees_with_one};
 ghost use Rattle.dx_cover.specs.States.{IsSearch, IsTrueFor, last, same_state, state_of};
 
 use crate::cells::{copy_cell, is_same_cell};
 use crate::partners::have_partners;
+use crate::problem::Problem;
 use crate::states::{Search, State, is_known, make_state, remember};
 use crate::variables::{existentials, exported};
 use dx_model::{Atom, Cell, CellMap, Meeting, Rule};
@@ -153,27 +153,16 @@ pub(crate) fn existential_images(
     Ok(images)
 }
 
-/// The exported variables of a rule, and how many existential ones it has.
-#[derive(Drop)]
-pub(crate) struct Variables {
-    pub exported: Vec<u32>,
-    pub existential: u32,
-}
-
 /// The cell map that these meetings make.
 pub(crate) fn map_made(
     alloc: Global,
-    rule: &Rule,
-    variables: &Variables,
+    problem: &Problem<'_>,
     meetings: &[Meeting],
 ) -> Result<CellMap, AllocError>
-    requires exported { variables.now.exported.items ≡ exported rule.now }
-    requires existential { variables.now.existential ≡ after_existential (cells_of rule.now.conclusion) }
-    ensures { IfOk result (λ m. m ≡ map_of rule.now meetings.now) }
+    ensures { IfOk result (λ m. m ≡ map_of problem.now.rule.now meetings.now) }
 {
-    let _of = rule;
-    let exported = images(alloc, variables.exported.as_slice(), meetings)?;
-    let existential = existential_images(alloc, variables.existential, meetings)?;
+    let exported = images(alloc, problem.variables.as_slice(), meetings)?;
+    let existential = existential_images(alloc, problem.existential, meetings)?;
     Ok(CellMap {
         exported: Items::from_vec(exported),
         existential: Items::from_vec(existential),
@@ -194,17 +183,14 @@ pub(crate) fn add_map(found: &mut Vec<CellMap>, map: CellMap) -> Result<(), Allo
 // Adds the cell map that these meetings make, if none agrees with it on the exported variables.
 fn add_map_made(
     alloc: Global,
-    rule: &Rule,
-    variables: &Variables,
+    problem: &Problem<'_>,
     meetings: &[Meeting],
     found: &mut Vec<CellMap>,
 ) -> Result<(), AllocError>
-    requires exported { variables.now.exported.items ≡ exported rule.now }
-    requires existential { variables.now.existential ≡ after_existential (cells_of rule.now.conclusion) }
-    requires few { length found.old.items ≤ 15 }
-    ensures { OnOk result (found.new.items ≡ found_after found.old.items (map_of rule.now meetings.now ∷ [])) }
+    requires { length found.old.items ≤ 15 }
+    ensures { OnOk result (found.new.items ≡ found_after found.old.items (map_of problem.now.rule.now meetings.now ∷ [])) }
 {
-    let map = map_made(alloc, rule, variables, meetings)?;
+    let map = map_made(alloc, problem, meetings)?;
     add_map(found, map)?;
     Ok(())
 }
@@ -236,19 +222,16 @@ pub(crate) fn have_met(variables: &[u32], meetings: &[Meeting]) -> bool
 /// Whether it is known that all cell maps that begin with these meetings agree with one that is found.
 pub(crate) fn is_done(
     alloc: Global,
-    rule: &Rule,
-    variables: &Variables,
+    problem: &Problem<'_>,
     bound: &[Meeting],
     found: &[CellMap],
 ) -> Result<bool, AllocError>
-    requires exported { variables.now.exported.items ≡ exported rule.now }
-    requires existential { variables.now.existential ≡ after_existential (cells_of rule.now.conclusion) }
-    ensures { IfOk result (λ b. IsTrue b → AreAllSeen rule.now bound.now found.now) }
+    ensures { IfOk result (λ b. IsTrue b → AreAllSeen problem.now.rule.now bound.now found.now) }
 {
-    if !have_met(variables.exported.as_slice(), bound) {
+    if !have_met(problem.variables.as_slice(), bound) {
         return Ok(false);
     }
-    let map = map_made(alloc, rule, variables, bound)?;
+    let map = map_made(alloc, problem, bound)?;
     Ok(is_seen(found, &map))
 }
 
@@ -279,17 +262,14 @@ fn is_remembered(
 /// What is known of the cell maps that begin with these meetings.
 pub(crate) fn look_ahead(
     alloc: Global,
-    rule: &Rule,
-    variables: &Variables,
+    problem: &Problem<'_>,
     rest: &[Atom],
     bound: &[Meeting],
     search: &Search,
 ) -> Result<Outlook, AllocError>
-    requires exported { variables.now.exported.items ≡ exported rule.now }
-    requires existential { variables.now.existential ≡ after_existential (cells_of rule.now.conclusion) }
-    requires last { rest.now ≡ last (length rest.now) rule.now.conclusion }
-    ensures { IfOk result (λ k. (others : List AtomValue) → IsSearch rule.now others search.now
-        → IsTrueFor k rule.now bound.now rest.now others search.now.found.items) }
+    requires last { rest.now ≡ last (length rest.now) problem.now.rule.now.conclusion }
+    ensures { IfOk result (λ k. (others : List AtomValue) → IsSearch problem.now.rule.now others search.now
+        → IsTrueFor k problem.now.rule.now bound.now rest.now others search.now.found.items) }
 {
     if search.found.len() == 16 {
         return Ok(Outlook::NothingNew);
@@ -297,7 +277,7 @@ pub(crate) fn look_ahead(
     if !make_map(bound) {
         return Ok(Outlook::NoMap);
     }
-    if is_done(alloc, rule, variables, bound, search.found.as_slice())? {
+    if is_done(alloc, problem, bound, search.found.as_slice())? {
         return Ok(Outlook::NothingNew);
     }
     let is_dead = is_remembered(alloc, false, rest, bound, search.dead.as_slice())?;
@@ -316,41 +296,35 @@ pub(crate) fn look_ahead(
 #[cycle(extend)]
 pub(crate) fn extend(
     alloc: Global,
-    rule: &Rule,
-    variables: &Variables,
+    problem: &Problem<'_>,
     rest: &[Atom],
-    others: &[Atom],
     bound: &mut Vec<Meeting>,
     search: &mut Search,
 ) -> Result<bool, AllocError>
-    requires exported { variables.now.exported.items ≡ exported rule.now }
-    requires existential { variables.now.existential ≡ after_existential (cells_of rule.now.conclusion) }
-    requires widths { MeetInWidths rest.now others.now }
-    requires last { rest.now ≡ last (length rest.now) rule.now.conclusion }
-    requires memory { IsSearch rule.now others.now search.old }
+    requires widths { MeetInWidths rest.now problem.now.others.now }
+    requires last { rest.now ≡ last (length rest.now) problem.now.rule.now.conclusion }
+    requires memory { IsSearch problem.now.rule.now problem.now.others.now search.old }
     ensures bound { OnOk result (bound.new.items ≡ bound.old.items) }
-    ensures memory { OnOk result (IsSearch rule.now others.now search.new) }
+    ensures memory { OnOk result (IsSearch problem.now.rule.now problem.now.others.now search.new) }
     ensures found { OnOk result (search.new.found.items
-        ≡ found_after search.old.found.items (maps_under rule.now bound.old.items rest.now others.now)) }
-    ensures none { IfOk result (λ any. any ≡ false → maps_under rule.now bound.old.items rest.now others.now ≡ []) }
+        ≡ found_after search.old.found.items (maps_under problem.now.rule.now bound.old.items rest.now problem.now.others.now)) }
+    ensures none { IfOk result (λ any. any ≡ false → maps_under problem.now.rule.now bound.old.items rest.now problem.now.others.now ≡ []) }
 {
-    match look_ahead(alloc, rule, variables, rest, bound.as_slice(), search)? {
+    match look_ahead(alloc, problem, rest, bound.as_slice(), search)? {
         Outlook::NoMap => return Ok(false),
         Outlook::NothingNew => return Ok(true),
         Outlook::Open => {}
     }
-    if !have_partners(rest, others, bound.as_slice()) {
+    if !have_partners(rest, problem.others, bound.as_slice()) {
         return Ok(false);
     }
     match rest.split_first() {
         None => {
-            add_map_made(alloc, rule, variables, bound.as_slice(), &mut search.found)?;
+            add_map_made(alloc, problem, bound.as_slice(), &mut search.found)?;
             Ok(true)
         }
         Some((first, after)) => {
-            let any = extend_by_choice(
-                alloc, rule, variables, first, after, others, bound, search,
-            )?;
+            let any = extend_by_choice(alloc, problem, first, after, bound, search)?;
             remember(alloc, rest, bound.as_slice(), any, search)?;
             Ok(any)
         }
@@ -362,33 +336,29 @@ pub(crate) fn extend(
 #[cycle(extend)]
 pub(crate) fn extend_by_choice(
     alloc: Global,
-    rule: &Rule,
-    variables: &Variables,
+    problem: &Problem<'_>,
     first: &Atom,
     after: &[Atom],
-    others: &[Atom],
     bound: &mut Vec<Meeting>,
     search: &mut Search,
 ) -> Result<bool, AllocError>
-    requires exported { variables.now.exported.items ≡ exported rule.now }
-    requires existential { variables.now.existential ≡ after_existential (cells_of rule.now.conclusion) }
-    requires widths { MeetInWidths (first.now ∷ after.now) others.now }
-    requires last { after.now ≡ last (length after.now) rule.now.conclusion }
-    requires memory { IsSearch rule.now others.now search.old }
+    requires widths { MeetInWidths (first.now ∷ after.now) problem.now.others.now }
+    requires last { after.now ≡ last (length after.now) problem.now.rule.now.conclusion }
+    requires memory { IsSearch problem.now.rule.now problem.now.others.now search.old }
     ensures bound { OnOk result (bound.new.items ≡ bound.old.items) }
-    ensures memory { OnOk result (IsSearch rule.now others.now search.new) }
+    ensures memory { OnOk result (IsSearch problem.now.rule.now problem.now.others.now search.new) }
     ensures found { OnOk result (search.new.found.items
-        ≡ found_after search.old.found.items (maps_under rule.now bound.old.items (first.now ∷ after.now) others.now)) }
+        ≡ found_after search.old.found.items (maps_under problem.now.rule.now bound.old.items (first.now ∷ after.now) problem.now.others.now)) }
     ensures none { IfOk result (λ any. any ≡ false
-        → maps_under rule.now bound.old.items (first.now ∷ after.now) others.now ≡ []) }
+        → maps_under problem.now.rule.now bound.old.items (first.now ∷ after.now) problem.now.others.now ≡ []) }
 {
     let start = bound.len();
     let mut any = false;
-    for other in others {
+    for other in problem.others {
         if first.table == other.table {
             let cells = first.cells.items();
             add_meetings(alloc, bound, cells, other.cells.items())?;
-            any |= extend(alloc, rule, variables, after, others, bound, search)?;
+            any |= extend(alloc, problem, after, bound, search)?;
             bound.truncate(start);
         }
     }
@@ -405,18 +375,19 @@ pub fn cover(alloc: Global, i: &Rule, j: &Rule) -> Result<Vec<CellMap>, AllocErr
     requires widths { AgreeInWidths (i.now.conclusion ++ j.now.conclusion) }
     ensures { IfOk result (λ v. v.items ≡ used_maps i.now j.now) }
 {
-    let variables = Variables {
-        exported: exported(alloc, i)?,
+    let problem = Problem {
+        rule: i,
+        others: j.conclusion.items(),
+        variables: exported(alloc, i)?,
         existential: existentials(i),
     };
     let rest = i.conclusion.items();
-    let others = j.conclusion.items();
     let mut bound = Vec::new(alloc);
     let mut search = Search {
         found: Vec::new(alloc),
         gone: Vec::new(alloc),
         dead: Vec::new(alloc),
     };
-    extend(alloc, i, &variables, rest, others, &mut bound, &mut search)?;
+    extend(alloc, &problem, rest, &mut bound, &mut search)?;
     Ok(search.found)
 }

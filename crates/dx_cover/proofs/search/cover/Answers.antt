@@ -8,14 +8,14 @@ use Rattle.dx_cover.proofs.search.cover.Goals as goal
 
 pub returns : goal.returns
 returns c =
-    (rw (c.new.ensures.items, c.new-bound.ensures.items, c.items-rest.ensures, c.items-others.ensures) at c.in_ok-extend.ensures.found) ∙ search_finds_used c.args.i.now c.args.j.now
+    (rw (c.new.ensures.items, c.new-bound.ensures.items, c.items-rest.ensures, c.items.ensures) at c.in_ok-extend.ensures.found) ∙ search_finds_used c.args.i.now c.args.j.now
 
 pub existentials-requires : goal.existentials-requires
 existentials-requires c = existential_few c.args.i.now c.requires.rule
 
 pub extend-requires-clause-widths : goal.extend-requires-clause-widths
 extend-requires-clause-widths c = λ a b m n e.
-    c.requires.widths.one a (in_left c.args.j.now.conclusion (rw c.items-rest.ensures at m)) b (in_right c.args.i.now.conclusion (rw c.items-others.ensures at n)) e
+    c.requires.widths.one a (in_left c.args.j.now.conclusion (rw c.items-rest.ensures at m)) b (in_right c.args.i.now.conclusion (rw c.items.ensures at n)) e
 
 pub extend-requires-clause-last : goal.extend-requires-clause-last
 extend-requires-clause-last c = rw c.items-rest.ensures (all_last c.args.i.now.conclusion)
