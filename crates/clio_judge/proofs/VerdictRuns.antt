@@ -216,11 +216,6 @@ a_verdict P p v g = λ c. (v, g c, refl)
 
 -- ---- the given files
 
--- the given files, and refusals said as those of the run
-pub given_said : (w : WantedGiven) (r : Result (List TableRows) (Stop SourceRefusal)) (q : Result (List TableRows) (Stop SourceRefusal)) (k : Result (List TableRows) (Stop Refusal)) (old new : InputState)
-    → r ≡ q → k ≡ with_refusal source_refusal q → Ran given_stages w r old new → Ran (saying source_refusal given_stages) w k old new
-given_said w r q k old new is k_is x = ran_saying source_refusal given_stages w q k old new k_is (subst (λ v. Ran given_stages w v old new) is x)
-
 -- they have the tables of the schema
 pub given_widths : (w : WantedGiven) (K : List TableRows) (old new : InputState) → Ran (saying source_refusal given_stages) w (Ok K) old new → widths K ≡ schema_widths w.schema
 given_widths w K old new x = let p = ran_passes (saying source_refusal given_stages) w K old new x in p.1.2.widths_are
