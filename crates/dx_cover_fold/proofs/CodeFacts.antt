@@ -158,4 +158,3 @@ texts_held S variables row (x ∷ xs) f t e v (here d) = subst (IsHeld S) (sym (
 texts_held S variables row (x ∷ xs) f t e v (there m) = texts_held S variables row xs f t e v m
 
 -- ---- plans
-

@@ -109,4 +109,3 @@ shared_more left right firsts by_left by_right column e h w s =
     let one : slice_index left (slice_index firsts column) ≡ slice_index right column = ap (slice_index left) at ∙ place_left left right (slice_index right column) (rw at at w) in
     map-append (slice_index left) by_left (slice_index firsts column ∷ []) ∙ ap (λ (l : List ℕ). l ++ slice_index left (slice_index firsts column) ∷ []) s
     ∙ ap (λ (x : ℕ). map (slice_index right) by_right ++ x ∷ []) one ∙ sym (map-append (slice_index right) by_right (column ∷ []))
-
