@@ -24,13 +24,13 @@ use Rattle.clio_source.specs.Source.{SourceRequest, source_left}
 use Rattle.clio_source.proofs.Left.{ran_first}
 use Rattle.clio_ending.specs.declared.ending.Refusal.{Refusal}
 use Rattle.clio_ending.specs.Ending.{source_refusal}
-use Rattle.clio_steps.specs.Steps.{Program, asked, named_stage}
+use Rattle.clio_steps.specs.Steps.{Program, exchange_input, named_stage}
 use Rattle.clio_steps.proofs.Plans.{rows_widths}
 
 -- ---- from the rows that were read to those of the files
 
 made_for : (P : Program) (mode : Mode) (M : Mapping) (used : Marks) (I J : List TableRows) (e : Exchange) → Each M.rules (UsesOnly used)
-    → AgreeOnUsed used (facts I) (facts J) → IsExchange P.apply (asked mode (M, J)) e → IsExchange P.apply (asked mode (M, I)) e
+    → AgreeOnUsed used (facts I) (facts J) → IsExchange P.apply (exchange_input mode (M, J)) e → IsExchange P.apply (exchange_input mode (M, I)) e
 made_for P mode M used I J e uses agree x = record {
   matches = same_rows P.apply used M.rules (facts J) (facts I) e.matches uses (agree.1, agree.0) x.matches;
   within = x.within;
@@ -46,7 +46,7 @@ made_for P mode M used I J e uses agree x = record {
 }
 
 none_for : (P : Program) (mode : Mode) (M : Mapping) (used : Marks) (I J : List TableRows) (fault : ExFault) → Each M.rules (UsesOnly used)
-    → AgreeOnUsed used (facts I) (facts J) → HasNoExchange P.apply (asked mode (M, J)) fault → HasNoExchange P.apply (asked mode (M, I)) fault
+    → AgreeOnUsed used (facts I) (facts J) → HasNoExchange P.apply (exchange_input mode (M, J)) fault → HasNoExchange P.apply (exchange_input mode (M, I)) fault
 none_for P mode M used I J (faults.Clash c) uses agree x = record {
   rows = x.rows;
   are = same_rows P.apply used M.rules (facts J) (facts I) x.rows uses (agree.1, agree.0) x.are;
