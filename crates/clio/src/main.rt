@@ -37,7 +37,7 @@ fn first_block(alloc: Global) -> Result<Vec<u8>, AllocError>
     Vec::with_capacity(alloc, FIRST_BLOCK)
 }
 
-// The words after the program's name. Where one of them is no text, the list is the empty word alone, which no
+// The words after the program's name. If one of them is no text, the list is the empty word alone, which no
 // command has.
 fn words(rt: &(impl Env + AllocGlobal)) -> io::Result<Vec<Text>> {
     let alloc = rt.alloc();

@@ -40,7 +40,7 @@ use Rattle.clio_accept.specs.Mapping.{SourceRefused, TargetRefused, NameRefused,
 use Rattle.clio_accept.specs.Mapping.{LimitRefused, WidthRefused, RulesRefused, FrozenRefused, frozen_cells}
 use Rattle.clio_accept.proofs.Closed.{one_closed, never_closed, closed_or_wide}
 use Rattle.clio_accept.proofs.Ruled.{are_rules, saying_all}
-use Rattle.clio_accept.specs.Accepting.{SchemaPair, line_count, naming, conditions_stage, writing, limits, closing, rule_count, frozen_count, pruning, leaving, taking, with_rules, mapping_of}
+use Rattle.clio_accept.specs.Accepting.{TextsBetween, line_count, naming, conditions_stage, writing, limits, closing, rule_count, frozen_count, pruning, leaving, taking, with_rules, mapping_of}
 use Rattle.clio_accept.specs.Accepting.{source_sets, target_sets, target_names, between_of, said_rules, accepting_said, said_by, accepting}
 
 abbrev Same : AcceptFault → AcceptFault → Type 0
@@ -179,7 +179,7 @@ check refused fits one never either = checking_decided Same Any refused fits one
 line_count_decided : IsDecided Same Any line_count
 line_count_decided = check (λ b. LinesRefused b.lines b.conditions) (λ b. length b.lines + length b.conditions ≤ 512) (λ b d e p q. p.1 ∙ sym q.1) (λ b e. no_lines b.lines b.conditions e) either
   where
-    either : (b : SchemaPair) → (length b.lines + length b.conditions ≤ 512) ⊎ ((e : AcceptFault) × LinesRefused b.lines b.conditions e)
+    either : (b : TextsBetween) → (length b.lines + length b.conditions ≤ 512) ⊎ ((e : AcceptFault) × LinesRefused b.lines b.conditions e)
     either b = elim (cases_lt 512 (length b.lines + length b.conditions)) [
       | inl many ↦ inr (faults.Limit (record { what = Lines; number = 512 }), (many, refl))
       | inr few ↦ inl few
@@ -189,7 +189,7 @@ naming_decided : (list : List Conversion) → IsDecided Same Any (naming list)
 naming_decided list = check (λ b. NamingRefused list b.source b.target b.lines) (λ b. lines_fault b.source b.target list b.lines ≡ None)
     (λ b. one_naming list b.source b.target b.lines) (λ b. no_naming list b.source b.target b.lines) either
   where
-    either : (b : SchemaPair) → (lines_fault b.source b.target list b.lines ≡ None) ⊎ ((e : AcceptFault) × NamingRefused list b.source b.target b.lines e)
+    either : (b : TextsBetween) → (lines_fault b.source b.target list b.lines ≡ None) ⊎ ((e : AcceptFault) × NamingRefused list b.source b.target b.lines e)
     either b = elim (none_or_some (lines_fault b.source b.target list b.lines)) [
       | inl none ↦ inl none
       | inr k ↦ inr (text_refusal k.0, (k.0, k.1, refl))
@@ -199,7 +199,7 @@ testing_decided : (tests : List RowTest) → IsDecided Same Any (conditions_stag
 testing_decided tests = check (λ b. TestingRefused tests b.source b.conditions) (λ b. conditions_fault b.source tests b.conditions ≡ None)
     (λ b. one_testing tests b.source b.conditions) (λ b. no_testing tests b.source b.conditions) either
   where
-    either : (b : SchemaPair) → (conditions_fault b.source tests b.conditions ≡ None) ⊎ ((e : AcceptFault) × TestingRefused tests b.source b.conditions e)
+    either : (b : TextsBetween) → (conditions_fault b.source tests b.conditions ≡ None) ⊎ ((e : AcceptFault) × TestingRefused tests b.source b.conditions e)
     either b = elim (none_or_some (conditions_fault b.source tests b.conditions)) [
       | inl none ↦ inl none
       | inr k ↦ inr (text_refusal k.0, (k.0, k.1, refl))
@@ -209,7 +209,7 @@ limits_decided : (list : List Conversion) → IsDecided Same Any (limits list)
 limits_decided list = check (λ b. LimitRefused list b.source b.target b.lines) (λ b. limit_of list b.source b.target b.lines ≡ None)
     (λ b. one_limit list b.source b.target b.lines) (λ b. no_limit list b.source b.target b.lines) either
   where
-    either : (b : SchemaPair) → (limit_of list b.source b.target b.lines ≡ None) ⊎ ((e : AcceptFault) × LimitRefused list b.source b.target b.lines e)
+    either : (b : TextsBetween) → (limit_of list b.source b.target b.lines ≡ None) ⊎ ((e : AcceptFault) × LimitRefused list b.source b.target b.lines e)
     either b = elim (none_or_some (limit_of list b.source b.target b.lines)) [
       | inl none ↦ inl none
       | inr l ↦ inr (faults.Limit l.0, (l.0, l.1, refl))
@@ -219,7 +219,7 @@ writing_decided : (list : List Conversion) → IsDecided Same Any (writing list)
 writing_decided list = check (λ b. WritingRefused list b.source b.target b.by_hand) (λ b. rules_fault b.source b.target list b.by_hand ≡ None)
     (λ b. one_writing list b.source b.target b.by_hand) (λ b. no_writing list b.source b.target b.by_hand) either
   where
-    either : (b : SchemaPair) → (rules_fault b.source b.target list b.by_hand ≡ None) ⊎ ((e : AcceptFault) × WritingRefused list b.source b.target b.by_hand e)
+    either : (b : TextsBetween) → (rules_fault b.source b.target list b.by_hand ≡ None) ⊎ ((e : AcceptFault) × WritingRefused list b.source b.target b.by_hand e)
     either b = elim (none_or_some (rules_fault b.source b.target list b.by_hand)) [
       | inl none ↦ inl none
       | inr k ↦ inr (text_refusal k.0, (k.0, k.1, refl))
@@ -232,7 +232,7 @@ closing_decided list =
     (λ b R e g a. never_closed (model_tables b.target) (written_of list b.source b.target b.by_hand) a.closed e a.closings)
     (λ b g. either b)
   where
-    either : (b : SchemaPair) → ((R : List Rule) × AreRulesOf list b.source b.target b.lines b.by_hand R) ⊎ ((e : AcceptFault) × WidthRefused (model_tables b.target) (written_of list b.source b.target b.by_hand) e)
+    either : (b : TextsBetween) → ((R : List Rule) × AreRulesOf list b.source b.target b.lines b.by_hand R) ⊎ ((e : AcceptFault) × WidthRefused (model_tables b.target) (written_of list b.source b.target b.by_hand) e)
     either b = elim (closed_or_wide (model_tables b.target) (written_of list b.source b.target b.by_hand)) [
       | inl r ↦ inl (rules_of_lines list b.source b.target b.lines ++ r.0, record { closed = r.0; closings = r.1; are = refl })
       | inr w ↦ inr (TooWide, (w.0, w.1, w.2, refl))
@@ -310,22 +310,22 @@ leaving_decided =
 -- ---- the rules between two schemas
 
 -- the schemas have no fault, and the hand-written rules are whole
-abbrev IsSound : SchemaPair → Type 0
+abbrev IsSound : TextsBetween → Type 0
 IsSound b = (Each b.by_hand IsWholeRule × IsFaultless b.source) × IsFaultless b.target
 
-abbrev IsCounted : SchemaPair → Type 0
+abbrev IsCounted : TextsBetween → Type 0
 IsCounted b = IsSound b × (length b.lines + length b.conditions ≤ 512)
 
-abbrev IsNamed : List Conversion → SchemaPair → Type 0
+abbrev IsNamed : List Conversion → TextsBetween → Type 0
 IsNamed list b = IsCounted b × (lines_fault b.source b.target list b.lines ≡ None)
 
-abbrev IsTestable : List Conversion → List RowTest → SchemaPair → Type 0
+abbrev IsTestable : List Conversion → List RowTest → TextsBetween → Type 0
 IsTestable list tests b = IsNamed list b × (conditions_fault b.source tests b.conditions ≡ None)
 
-abbrev IsWritten : List Conversion → List RowTest → SchemaPair → Type 0
+abbrev IsWritten : List Conversion → List RowTest → TextsBetween → Type 0
 IsWritten list tests b = IsTestable list tests b × (rules_fault b.source b.target list b.by_hand ≡ None)
 
-abbrev IsLimited : List Conversion → List RowTest → SchemaPair → Type 0
+abbrev IsLimited : List Conversion → List RowTest → TextsBetween → Type 0
 IsLimited list tests b = IsWritten list tests b × (limit_of list b.source b.target b.lines ≡ None)
 
 closing_leads : (list : List Conversion) (tests : List RowTest) → Leads (IsLimited list tests) AreRules (closing list)

@@ -23,53 +23,53 @@ use Rattle.dx_implies.specs.Frozen.{IsFrozenRefusal}
 use Rattle.dx_implies.specs.Pruning.{IsPrunedAlways, PruningPassesLimit}
 use Rattle.clio_accept.specs.Mapping.{AreClosings, AreRulesOf, LinesRefused, WidthRefused, frozen_cells, frozen_refusal, limit_of, limit_refusal}
 use Rattle.clio_accept.specs.Mapping.{rules_of_lines, text_refusal, written_of}
-use Rattle.clio_accept.specs.Accepting.{SchemaPair, mapping_of}
+use Rattle.clio_accept.specs.Accepting.{TextsBetween, mapping_of}
 
 -- there are too many lines and conditions
-pub lines_stop : (list : List Conversion) (tests : List RowTest) (b : SchemaPair) (e : AcceptFault) → LinesRefused b.lines b.conditions e → Answers faults.Memory (mapping_of list tests) b (Err e)
+pub lines_stop : (list : List Conversion) (tests : List RowTest) (b : TextsBetween) (e : AcceptFault) → LinesRefused b.lines b.conditions e → Answers faults.Memory (mapping_of list tests) b (Err e)
 lines_stop list tests b e h = inr (λ c. inl h)
 
 -- a word of the lines names nothing
-pub naming_stops : (list : List Conversion) (tests : List RowTest) (b : SchemaPair) (f : TextFault) → length b.lines + length b.conditions ≤ 512 → (f ≡ text_faults.Memory) ⊎ (lines_fault b.source b.target list b.lines ≡ Some f)
+pub naming_stops : (list : List Conversion) (tests : List RowTest) (b : TextsBetween) (f : TextFault) → length b.lines + length b.conditions ≤ 512 → (f ≡ text_faults.Memory) ⊎ (lines_fault b.source b.target list b.lines ≡ Some f)
     → Answers faults.Memory (mapping_of list tests) b (Err (text_refusal f))
 naming_stops list tests b f few (inl is) = inl (ap text_refusal is)
 naming_stops list tests b f few (inr h) = inr (λ c. inr (b, (few, refl), inl (f, h, refl)))
 
 -- a word of the conditions names nothing
-pub testing_stops : (list : List Conversion) (tests : List RowTest) (b : SchemaPair) (f : TextFault) → length b.lines + length b.conditions ≤ 512 → lines_fault b.source b.target list b.lines ≡ None
+pub testing_stops : (list : List Conversion) (tests : List RowTest) (b : TextsBetween) (f : TextFault) → length b.lines + length b.conditions ≤ 512 → lines_fault b.source b.target list b.lines ≡ None
     → (f ≡ text_faults.Memory) ⊎ (conditions_fault b.source tests b.conditions ≡ Some f) → Answers faults.Memory (mapping_of list tests) b (Err (text_refusal f))
 testing_stops list tests b f few named (inl is) = inl (ap text_refusal is)
 testing_stops list tests b f few named (inr h) = inr (λ c. inr (b, (few, refl), inr (b, (named, refl), inl (f, h, refl))))
 
 -- a hand-written rule has a fault
-pub writing_stops : (list : List Conversion) (tests : List RowTest) (b : SchemaPair) (f : TextFault) → length b.lines + length b.conditions ≤ 512 → lines_fault b.source b.target list b.lines ≡ None
+pub writing_stops : (list : List Conversion) (tests : List RowTest) (b : TextsBetween) (f : TextFault) → length b.lines + length b.conditions ≤ 512 → lines_fault b.source b.target list b.lines ≡ None
     → conditions_fault b.source tests b.conditions ≡ None → (f ≡ text_faults.Memory) ⊎ (rules_fault b.source b.target list b.by_hand ≡ Some f) → Answers faults.Memory (mapping_of list tests) b (Err (text_refusal f))
 writing_stops list tests b f few named tested (inl is) = inl (ap text_refusal is)
 writing_stops list tests b f few named tested (inr h) = inr (λ c. inr (b, (few, refl), inr (b, (named, refl), inr (b, (tested, refl), inl (f, h, refl)))))
 
 -- what is known of lines, conditions and hand-written rules without a fault
-pub record AreRead (list : List Conversion) (tests : List RowTest) (b : SchemaPair) : Type 0 where
+pub record AreRead (list : List Conversion) (tests : List RowTest) (b : TextsBetween) : Type 0 where
   pub few : length b.lines + length b.conditions ≤ 512
   pub named : lines_fault b.source b.target list b.lines ≡ None
   pub tested : conditions_fault b.source tests b.conditions ≡ None
   pub written : rules_fault b.source b.target list b.by_hand ≡ None
 
 -- the lines pass a limit
-pub limit_stops : (list : List Conversion) (tests : List RowTest) (b : SchemaPair) (f : CandFault) → AreRead list tests b
+pub limit_stops : (list : List Conversion) (tests : List RowTest) (b : TextsBetween) (f : CandFault) → AreRead list tests b
     → (f ≡ cand_faults.Memory) ⊎ ((l : Limit) × (limit_of list b.source b.target b.lines ≡ Some l) × (f ≡ cand_faults.TooMany l)) → Answers faults.Memory (mapping_of list tests) b (Err (limit_refusal f))
 limit_stops list tests b f r (inl is) = inl (ap limit_refusal is)
 limit_stops list tests b f r (inr (l, h, is)) =
     inr (λ c. inr (b, (r.few, refl), inr (b, (r.named, refl), inr (b, (r.tested, refl), inr (b, (r.written, refl), inl (l, h, ap limit_refusal is))))))
 
 -- a hand-written rule is too wide
-pub width_stops : (list : List Conversion) (tests : List RowTest) (b : SchemaPair) (written : List Rule) (e : AcceptFault) → AreRead list tests b → limit_of list b.source b.target b.lines ≡ None → written ≡ written_of list b.source b.target b.by_hand
+pub width_stops : (list : List Conversion) (tests : List RowTest) (b : TextsBetween) (written : List Rule) (e : AcceptFault) → AreRead list tests b → limit_of list b.source b.target b.lines ≡ None → written ≡ written_of list b.source b.target b.by_hand
     → (e ≡ faults.Memory) ⊎ WidthRefused (model_tables b.target) written e → Answers faults.Memory (mapping_of list tests) b (Err e)
 width_stops list tests b written e r limits are (inl is) = inl is
 width_stops list tests b written e r limits are (inr h) =
     inr (λ c. inr (b, (r.few, refl), inr (b, (r.named, refl), inr (b, (r.tested, refl), inr (b, (r.written, refl), inr (b, (limits, refl), inl (subst (λ ds. WidthRefused (model_tables b.target) ds e) are h)))))))
 
 -- all rules, of which those of lines stand in front
-pub all_rules : (list : List Conversion) (b : SchemaPair) (written kept closed R : List Rule) → written ≡ written_of list b.source b.target b.by_hand → kept ≡ rules_of_lines list b.source b.target b.lines
+pub all_rules : (list : List Conversion) (b : TextsBetween) (written kept closed R : List Rule) → written ≡ written_of list b.source b.target b.by_hand → kept ≡ rules_of_lines list b.source b.target b.lines
     → AreClosings (model_tables b.target) written closed → R ≡ kept ++ closed → AreRulesOf list b.source b.target b.lines b.by_hand R
 all_rules list b written kept closed R are is closings both = record {
   closed = closed;
@@ -78,20 +78,20 @@ all_rules list b written kept closed R are is closings both = record {
 }
 
 -- the rules are too many
-pub count_stops : (list : List Conversion) (tests : List RowTest) (b : SchemaPair) (R : List Rule) → AreRead list tests b → limit_of list b.source b.target b.lines ≡ None → AreRulesOf list b.source b.target b.lines b.by_hand R
+pub count_stops : (list : List Conversion) (tests : List RowTest) (b : TextsBetween) (R : List Rule) → AreRead list tests b → limit_of list b.source b.target b.lines ≡ None → AreRulesOf list b.source b.target b.lines b.by_hand R
     → 256 < length R → Answers faults.Memory (mapping_of list tests) b (Err (faults.Limit (record { what = counts.Rules; number = 256 })))
 count_stops list tests b R r limits are many =
     inr (λ c. inr (b, (r.few, refl), inr (b, (r.named, refl), inr (b, (r.tested, refl), inr (b, (r.written, refl), inr (b, (limits, refl), inr (R, are, inl (many, refl))))))))
 
 -- a test of pruning passes the limit
-pub frozen_stops : (list : List Conversion) (tests : List RowTest) (b : SchemaPair) (R : List Rule) (f : CanonFault) → AreRead list tests b → limit_of list b.source b.target b.lines ≡ None
+pub frozen_stops : (list : List Conversion) (tests : List RowTest) (b : TextsBetween) (R : List Rule) (f : CanonFault) → AreRead list tests b → limit_of list b.source b.target b.lines ≡ None
     → AreRulesOf list b.source b.target b.lines b.by_hand R → length R ≤ 256 → IsFrozenRefusal frozen_cells (PruningPassesLimit frozen_cells R) f → Answers faults.Memory (mapping_of list tests) b (Err (frozen_refusal f))
 frozen_stops list tests b R canon_faults.Memory r limits are few h = inl refl
 frozen_stops list tests b R (canon_faults.Limit l) r limits are few h =
     inr (λ c. inr (b, (r.few, refl), inr (b, (r.named, refl), inr (b, (r.tested, refl), inr (b, (r.written, refl), inr (b, (limits, refl), inr (R, are, inr (R, (few, refl), inl (h.1, ap faults.Limit h.0)))))))))
 
 -- the pruned rules are taken
-pub rules_taken : (list : List Conversion) (tests : List RowTest) (b : SchemaPair) (R P : List Rule) (conditions : List Condition) → AreRead list tests b → limit_of list b.source b.target b.lines ≡ None → AreRulesOf list b.source b.target b.lines b.by_hand R
+pub rules_taken : (list : List Conversion) (tests : List RowTest) (b : TextsBetween) (R P : List Rule) (conditions : List Condition) → AreRead list tests b → limit_of list b.source b.target b.lines ≡ None → AreRulesOf list b.source b.target b.lines b.by_hand R
     → length R ≤ 256 → ¬ (PruningPassesLimit frozen_cells R) → IsPrunedAlways R P → conditions ≡ conditions_of b.source tests b.conditions
     → Answers faults.Memory (mapping_of list tests) b (Ok (record { source = b.source; target = b.target; conditions = conditions; rules = P }))
 rules_taken list tests b R P conditions r limits are few none left read =

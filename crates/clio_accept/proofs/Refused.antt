@@ -16,7 +16,7 @@ use Rattle.clio_accept.specs.declared.fault.AcceptFault.TheVariants as faults
 use Rattle.clio_accept.specs.declared.mapping.Mapping.{Mapping}
 use Rattle.clio_accept.specs.declared.fault.MapFault.TheVariants as map_faults
 use Rattle.clio_accept.specs.Mapping.{IsFirstReserved, NoneReserved, SourceRefused, TargetRefused, text_refusal}
-use Rattle.clio_accept.specs.Accepting.{SchemaPair, accepting, accepting_said, between_of, mapping_of, said_rules, source_sets, target_names, target_sets}
+use Rattle.clio_accept.specs.Accepting.{TextsBetween, accepting, accepting_said, between_of, mapping_of, said_rules, source_sets, target_names, target_sets}
 
 pub by_text : (list : List Conversion) (tests : List RowTest) (text : List ℕ) (f : TextFault) → IsMappingFaultOrMemory text f → Answers Memory (accepting list tests) text (Err (text_refusal f))
 by_text list tests text f (inl is) = inl (ap text_refusal is)
@@ -36,7 +36,7 @@ by_name list tests m schema name source target same r =
     inr (λ c. inr (m, (source, refl), inr (m, (target, refl), inl (name, subst (λ f. IsFirstReserved f name) same r, refl))))
 
 -- the lines, conditions and rules between the two schemas are those of what the text says
-abbrev lines_between : MappingText → Forest → Forest → SchemaPair
+abbrev lines_between : MappingText → Forest → Forest → TextsBetween
 lines_between m source target = record { source = source; target = target; lines = m.lines; conditions = m.conditions; by_hand = m.rules }
 
 same_between : (m : MappingText) (source target : Forest) → source ≡ m.source → target ≡ m.target → lines_between m source target ≡ between_of m

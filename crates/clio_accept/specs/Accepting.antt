@@ -25,7 +25,7 @@ use Rattle.clio_accept.specs.Mapping.{NoneReserved, AreRulesOf, written_of, limi
 -- ---- rules
 
 -- lines, conditions and hand-written rules, and the two schemas that they stand between
-pub record SchemaPair : Type 0 where
+pub record TextsBetween : Type 0 where
   pub source : Forest
   pub target : Forest
   pub lines : List LineText
@@ -33,27 +33,27 @@ pub record SchemaPair : Type 0 where
   pub by_hand : List RuleText
 
 -- at most 512 lines and conditions together
-abbrev pub line_count : Stage AcceptFault SchemaPair SchemaPair
+abbrev pub line_count : Stage AcceptFault TextsBetween TextsBetween
 line_count = checking (λ b. LinesRefused b.lines b.conditions) (λ b. length b.lines + length b.conditions ≤ 512)
 
 -- the words of the lines name what there is
-abbrev pub naming : List Conversion → Stage AcceptFault SchemaPair SchemaPair
+abbrev pub naming : List Conversion → Stage AcceptFault TextsBetween TextsBetween
 naming list = checking (λ b. NamingRefused list b.source b.target b.lines) (λ b. lines_fault b.source b.target list b.lines ≡ None)
 
 -- the words of the conditions name what there is
-abbrev pub conditions_stage : List RowTest → Stage AcceptFault SchemaPair SchemaPair
+abbrev pub conditions_stage : List RowTest → Stage AcceptFault TextsBetween TextsBetween
 conditions_stage tests = checking (λ b. TestingRefused tests b.source b.conditions) (λ b. conditions_fault b.source tests b.conditions ≡ None)
 
 -- the hand-written rules have no fault
-abbrev pub writing : List Conversion → Stage AcceptFault SchemaPair SchemaPair
+abbrev pub writing : List Conversion → Stage AcceptFault TextsBetween TextsBetween
 writing list = checking (λ b. WritingRefused list b.source b.target b.by_hand) (λ b. rules_fault b.source b.target list b.by_hand ≡ None)
 
 -- no limit of lines is passed
-abbrev pub limits : List Conversion → Stage AcceptFault SchemaPair SchemaPair
+abbrev pub limits : List Conversion → Stage AcceptFault TextsBetween TextsBetween
 limits list = checking (λ b. LimitRefused list b.source b.target b.lines) (λ b. limit_of list b.source b.target b.lines ≡ None)
 
 -- the rules that the lines stand for, and the closed hand-written rules, none of which is too wide
-abbrev pub closing : List Conversion → Stage AcceptFault SchemaPair (List Rule)
+abbrev pub closing : List Conversion → Stage AcceptFault TextsBetween (List Rule)
 closing list =
     notions (λ b. WidthRefused (model_tables b.target) (written_of list b.source b.target b.by_hand))
     (λ b. AreRulesOf list b.source b.target b.lines b.by_hand)
@@ -74,14 +74,14 @@ pruning = notions (λ R e. ⊥) IsPrunedAlways
 abbrev pub leaving : Stage AcceptFault (List Rule) (List Rule)
 leaving = next rule_count (next frozen_count pruning)
 
-abbrev pub taking : List Conversion → List RowTest → Stage AcceptFault SchemaPair (List Rule)
+abbrev pub taking : List Conversion → List RowTest → Stage AcceptFault TextsBetween (List Rule)
 taking list tests = next line_count (next (naming list) (next (conditions_stage tests) (next (writing list) (next (limits list) (next (closing list) leaving)))))
 
 -- the two schemas with the conditions and these rules
-abbrev pub with_rules : List RowTest → SchemaPair → List Rule → Mapping
+abbrev pub with_rules : List RowTest → TextsBetween → List Rule → Mapping
 with_rules tests b R = record { source = b.source; target = b.target; conditions = conditions_of b.source tests b.conditions; rules = R }
 
-abbrev pub mapping_of : List Conversion → List RowTest → Stage AcceptFault SchemaPair Mapping
+abbrev pub mapping_of : List Conversion → List RowTest → Stage AcceptFault TextsBetween Mapping
 mapping_of list tests = into (with_rules tests) (taking list tests)
 
 -- ---- the mapping of what a text says
@@ -98,7 +98,7 @@ abbrev pub target_names : Stage AcceptFault MappingText MappingText
 target_names = checking (λ m. NameRefused m.target) (λ m. NoneReserved m.target)
 
 -- the lines, conditions and rules of what a text says
-abbrev pub between_of : MappingText → SchemaPair
+abbrev pub between_of : MappingText → TextsBetween
 between_of m = record { source = m.source; target = m.target; lines = m.lines; conditions = m.conditions; by_hand = m.rules }
 
 abbrev pub said_rules : List Conversion → List RowTest → Stage AcceptFault MappingText Mapping

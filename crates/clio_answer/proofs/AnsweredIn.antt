@@ -19,7 +19,7 @@ use Rattle.clio_ending.specs.declared.ending.Answers.{Answers}
 use Rattle.clio_answer.specs.Answering.{MappingAndQuery, answers, with_source_rows, query_name}
 use Rattle.clio_answer.specs.Outcomes.{IsAnsweredIn}
 use Rattle.clio_steps.specs.Outcomes.{Writing}
-use Rattle.clio_steps.specs.Steps.{MappingAndRows, Program, asked, text_name, wanted}
+use Rattle.clio_steps.specs.Steps.{MappingAndRows, Program, exchange_input, text_name, wanted}
 use Rattle.clio_steps.specs.declared.texts.Side.TheVariants.{First}
 
 -- what is known of answers
@@ -31,7 +31,7 @@ record Known (P : Program) (c : World) (M : Mapping) (q : Query) (I : List Table
   query_held : c query_name ≡ Some query_text
   said : IsQueryOver M.target query_text q
   source : (source_stages P.passes).passes c (wanted M) I
-  exchange : IsExchange P.apply (asked Plain (M, I)) a.exchange
+  exchange : IsExchange P.apply (exchange_input Plain (M, I)) a.exchange
   are : AreConstantAnswers (facts a.exchange.target) q a.rows
 
 answered_with : (P : Program) (c : World) (M : Mapping) (q : Query) (I : List TableRows) (a : Answers) (Wrote : Writing) → Known P c M q I a
@@ -60,7 +60,7 @@ answered_in P c r Wrote (M, (text, there, accepted), (p, (q, (query_text, held, 
       query_held = held.0;
       said = subst (IsQueryOver M.target query_text) (sym b_is) said;
       source = subst (λ (y : MappingAndQuery). (source_stages P.passes).passes c (wanted y.0) I) p_is source;
-      exchange = subst (IsExchange P.apply (asked Plain (M, I))) (sym target_is) (subst (λ (y : MappingAndRows). IsExchange P.apply (asked Plain y) e) filled_is exchange);
+      exchange = subst (IsExchange P.apply (exchange_input Plain (M, I))) (sym target_is) (subst (λ (y : MappingAndRows). IsExchange P.apply (exchange_input Plain y) e) filled_is exchange);
       are = subst (λ (y : Exchange). AreConstantAnswers (facts y.target) q a.rows) (sym from) (subst (λ (y : MappingAndQuery). AreConstantAnswers (facts x.1.target) y.1 a.rows) posed_is are);
     } in
     let width_is : r.0.1 ≡ q = ap (λ (y : MappingAndQuery × Answers). y.0.1) r_is ∙ ap (λ (y : MappingAndQuery). y.1) posed_is in

@@ -30,7 +30,7 @@ use Rattle.clio_ending.specs.declared.ending.Refusal.TheVariants as refusals
 use Rattle.clio_ending.specs.Ending.{AreAlike, source_refusal}
 use Rattle.clio_ending.proofs.Alike.{same_alike}
 use Rattle.clio_steps.specs.declared.texts.Side.TheVariants.{First}
-use Rattle.clio_steps.specs.Steps.{Program, asked, mapping_stages, named_stage, wanted}
+use Rattle.clio_steps.specs.Steps.{Program, exchange_input, mapping_stages, named_stage, wanted}
 use Rattle.clio_answer.specs.Answering.{AreAnswers, QueryAndExchange, PassAnswerCells, MappingAndQuery, answer_cells, answer_stages, answered_plan, answers, with_source_rows, listed_answers, query_answers, query_rows, query_target, query_stages}
 use Rattle.clio_steps.proofs.Mappings.{is_small}
 use Rattle.clio_steps.proofs.Decided.{AreReady, target_decided, text_decided, text_one}
@@ -159,9 +159,9 @@ asking : MappingAndQuery × Exchange → QueryAndExchange
 asking p = (p.0.1, p.1)
 
 -- an exchange that was passed on, beside what was posed
-its_target : (P : Program) (c : World) (p : MappingAndQuery × List TableRows) (b : MappingAndQuery × Exchange) → (query_target P).passes c p b → (b.0 ≡ p.0) × IsExchange P.apply (asked Plain (with_source_rows p)) b.1
+its_target : (P : Program) (c : World) (p : MappingAndQuery × List TableRows) (b : MappingAndQuery × Exchange) → (query_target P).passes c p b → (b.0 ≡ p.0) × IsExchange P.apply (exchange_input Plain (with_source_rows p)) b.1
 its_target P c p b (e, exchange, is) =
-    (ap (λ (r : MappingAndQuery × Exchange). r.0) is, subst (IsExchange P.apply (asked Plain (with_source_rows p))) (sym (ap (λ (r : MappingAndQuery × Exchange). r.1) is)) exchange)
+    (ap (λ (r : MappingAndQuery × Exchange). r.0) is, subst (IsExchange P.apply (exchange_input Plain (with_source_rows p))) (sym (ap (λ (r : MappingAndQuery × Exchange). r.1) is)) exchange)
 
 refused_alike : (P : Program) (c : World) (p : MappingAndQuery × List TableRows) (b d : MappingAndQuery × Exchange) (e : Refusal) → AreFilled P p → (query_target P).passes c p b → (query_target P).passes c p d
     → query_answers.refuses c d e → query_answers.refuses c b e

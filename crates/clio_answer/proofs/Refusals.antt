@@ -7,7 +7,7 @@ use Rattle.dx_stages.specs.Worlds.{World}
 use Rattle.clio_ending.specs.declared.ending.Refusal.TheVariants as refusals
 use Rattle.clio_ending.specs.Ending.{named_clash}
 use Rattle.clio_steps.specs.declared.texts.Side.TheVariants.{First}
-use Rattle.clio_steps.specs.Steps.{MappingAndRows, Program, asked, wanted}
+use Rattle.clio_steps.specs.Steps.{MappingAndRows, Program, exchange_input, wanted}
 use Rattle.clio_steps.specs.Outcomes.{IsClashIn}
 use Rattle.clio_answer.specs.Answering.{MappingAndQuery, answers, with_source_rows}
 use Rattle.clio_answer.proofs.Queried.{IsOfQuery, query_refusals}
@@ -35,7 +35,7 @@ answer_clashes P c k table key column (inr (M, (text, there, accepted), inr (p, 
       accepted = accepted;
       rows = I;
       source = subst (λ (r : MappingAndQuery). (source_stages P.passes).passes c (wanted r.0) I) p_is source;
-      clash = subst (λ (r : MappingAndRows). HasClash P.apply (asked Plain r) k) filled_is (clash_of P Plain (with_source_rows f) (with_source_rows f).0.target k table key column fault none is);
+      clash = subst (λ (r : MappingAndRows). HasClash P.apply (exchange_input Plain r) k) filled_is (clash_of P Plain (with_source_rows f) (with_source_rows f).0.target k table key column fault none is);
       named = subst (λ (r : MappingAndRows). refusals.Clash k table key column ≡ named_clash r.0.target k) filled_is (named_of P Plain (with_source_rows f) (with_source_rows f).0.target k table key column fault none is);
     }
 answer_clashes P c k table key column (inr (M, m, inr (p, x, inr (f, y, inr (g, z, (passes, is)))))) = absurd (true≢false (ap is_clash is))

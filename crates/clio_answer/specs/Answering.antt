@@ -108,7 +108,7 @@ AreAnswers p a = (a.exchange ≡ p.1) × AreConstantAnswers (facts p.1.target) p
 abbrev pub listed_answers : Stage Refusal QueryAndExchange Answers
 listed_answers = notions PassAnswerCells AreAnswers
 
--- beside what was posed
+-- the answers, beside the mapping and the query
 abbrev pub query_answers : Stage Refusal (MappingAndQuery × Exchange) (MappingAndQuery × Answers)
 query_answers =
     into (λ (p : MappingAndQuery × Exchange) (a : Answers). (p.0, a)) (over (λ (p : MappingAndQuery × Exchange). (p.0.1, p.1)) listed_answers)

@@ -1,17 +1,18 @@
 // How a run ends.
 ghost use Rattle.std.specs.Prelude.{◌≡◌};
 ghost use Rattle.dx_stages.specs.declared.plan.Ended.{Ended as EndedOf};
-ghost use Rattle.clio_ending.specs.Ending.{ending_of, refusal_ending, status_of};
+ghost use Rattle.dx_stages.specs.Running.{with_refusal};
+ghost use Rattle.clio_ending.specs.Ending.{ending_of, refusal_ending, source_refusal, status_of};
 
 use crate::faults::{OtherFault, QueryFault};
 use clio_accept::MapFault;
-use clio_source::RowsFault;
+use clio_source::{RowsFault, SourceRefusal};
 use dx_compare::Comparison;
 use dx_exchange::{Clash, Exchange};
 use dx_judge::Verdict;
 use dx_model::Tuples;
 use dx_ports::{Items, Limit, Text};
-use dx_stages::Ended;
+use dx_stages::{Ended, Stop};
 
 /// The answers of a query.
 #[derive(Drop)]
@@ -151,5 +152,22 @@ pub fn as_ending(ended: Ended<Done, Refusal>) -> Ending
         Ended::ReadFault(file) => Ending::ReadFault { file },
         Ended::WriteFault(files) => Ending::WriteFault { files },
         Ended::Memory => Ending::Memory,
+    }
+}
+
+/// What it came to that source or given files were read, with a refusal of that as one of the run.
+pub fn with_source_refusal<T>(read: Result<T, Stop<SourceRefusal>>) -> Result<T, Stop<Refusal>>
+    ensures { result ≡ with_refusal source_refusal read }
+{
+    match read {
+        Ok(value) => Ok(value),
+        Err(Stop::Refused(SourceRefusal::Rows { file, fault })) => {
+            Err(Stop::Refused(Refusal::Rows { file, fault }))
+        }
+        Err(Stop::Refused(SourceRefusal::Limit(limit))) => {
+            Err(Stop::Refused(Refusal::Limit(limit)))
+        }
+        Err(Stop::Failed(file)) => Err(Stop::Failed(file)),
+        Err(Stop::Memory) => Err(Stop::Memory),
     }
 }

@@ -16,6 +16,6 @@ pub use clio_source::RowsFault;
 pub use dx_compare::{Answer, Comparison};
 pub use dx_exchange::{Clash, Exchange};
 pub use dx_judge::{Verdict, Why};
-pub use ending::{Answers, Done, Ending, Refusal, as_ending};
+pub use ending::{Answers, Done, Ending, Refusal, as_ending, with_source_refusal};
 pub use faults::{OtherFault, QueryFault};
 pub use messages::message;

@@ -4,14 +4,14 @@ use Rattle.std.specs.List.{range_with_len}
 use Rattle.dx_schema.specs.Tables.{tables_of}
 use Rattle.dx_stages.specs.Worlds.{World}
 use Rattle.dx_stages.specs.Stages.{each}
-use Rattle.clio_given.specs.Given.{TargetRequest as WantedGiven, given_stages, none_read, given_reading}
+use Rattle.clio_given.specs.Given.{TargetRequest, given_stages, none_read, given_reading}
 use Rattle.clio_given.proofs.Runs.{asks_own as asks_given_file}
 use Rattle.clio_judge.specs.Outcomes.{IsNextGiven}
 use Rattle.clio_steps.proofs.Asking.{one_asks, asks_after}
 
 -- ---- the given files
 
-pub next_given : (c : World) (w : WantedGiven) (n : List ℕ) → given_stages.asks c w n → IsNextGiven c w n
+pub next_given : (c : World) (w : TargetRequest) (n : List ℕ) → given_stages.asks c w n → IsNextGiven c w n
 next_given c w n (inl h) =
     let f = w.schema in
     let r = one_asks (given_reading f) (range_with_len 0 (length (tables_of f))) c (none_read w.bytes_left) n h in record {
@@ -25,7 +25,7 @@ next_given c w n (inl h) =
     }
 next_given c w n (inr h) = absurd h.2
 
-pub asks_given : (c : World) (w : WantedGiven) (n : List ℕ) → IsNextGiven c w n → given_stages.asks c w n
+pub asks_given : (c : World) (w : TargetRequest) (n : List ℕ) → IsNextGiven c w n → given_stages.asks c w n
 asks_given c w n h =
     let f = w.schema in
     inl (subst (λ xs. (each (given_reading f) xs).asks c (none_read w.bytes_left) n) (sym h.tables_are)

@@ -20,9 +20,9 @@ use Rattle.dx_stages.proofs.Decided.{apart_by, each_only}
 use Rattle.dx_stages.proofs.Running.{ran_by, ran_into, ran_into_stop, ran_memory, ran_next, ran_over, ran_passes, ran_saying, ran_stop, ran_value, ran_within, silent_apart}
 use Rattle.clio_accept.specs.declared.mapping.Mapping.{Mapping}
 use Rattle.clio_source.specs.declared.fault.SourceRefusal.{SourceRefusal}
-use Rattle.clio_source.specs.Source.{RootShape, at_start, csv_name, file_at, flat, form_at, named_by, nested, roots, source_left, reading as source_reading}
+use Rattle.clio_source.specs.Source.{RootShape, at_start, csv_name, file_at, flat, shape_at, named_by, nested, roots, source_left, reading as source_reading}
 use Rattle.clio_source.proofs.Roots.{asks_own as asks_root}
-use Rattle.clio_given.specs.Given.{TargetRequest as WantedGiven, given_name, given_stages, none_read, given_reading}
+use Rattle.clio_given.specs.Given.{TargetRequest, given_name, given_stages, none_read, given_reading}
 use Rattle.clio_given.proofs.Runs.{asks_own}
 use Rattle.clio_ending.specs.declared.ending.Done.{Done}
 use Rattle.clio_ending.specs.declared.ending.Refusal.{Refusal}
@@ -97,7 +97,7 @@ source_asks P c M n (inl h) =
     let k = each_only (source_reading M.source) (file_at M.source) (roots M.source) (asks_root M.source) c at_start n h in (k.0, k.2)
 source_asks P c M n (inr h) = absurd h.2
 
-pub given_asks : (c : World) (w : WantedGiven) (n : List ℕ) → given_stages.asks c w n → (t : ℕ) × (n ≡ given_name (schema_table w.schema t).name)
+pub given_asks : (c : World) (w : TargetRequest) (n : List ℕ) → given_stages.asks c w n → (t : ℕ) × (n ≡ given_name (schema_table w.schema t).name)
 given_asks c w n (inl h) =
     let f = w.schema in
     let k = each_only (given_reading f) (λ u. given_name (schema_table f u).name) (range_with_len 0 (length (tables_of f))) (asks_own f) c (none_read w.bytes_left) n h in (k.0, k.2)
@@ -112,7 +112,7 @@ pub rest_asks : (P : Program) → AsksOnly IsData (verdict_of_mapping P)
 unfolding IsData
 rest_asks P c M n (inl h) =
     let k = source_asks P c M n h in
-    subst IsData (sym k.1) (named (form_at M.source k.0) (schema_table M.source k.0).name)
+    subst IsData (sym k.1) (named (shape_at M.source k.0) (schema_table M.source k.0).name)
 rest_asks P c M n (inr (p, passed, h)) =
     let k = given_asks c (wanted_given p) n (after_rows P c p n h) in
     let name = (schema_table p.0.0.target k.0).name in
@@ -130,7 +130,7 @@ rows_apart P M words c d a p n passed h k =
     let s = source_asks P c M n h in
     let g = given_asks d (wanted_given p) n (after_rows P d p n k) in
     let name = (schema_table p.0.0.target g.0).name in
-    plain_end (form_at M.source s.0) (schema_table M.source s.0).name (table_plain M.source s.0 words)
+    plain_end (shape_at M.source s.0) (schema_table M.source s.0).name (table_plain M.source s.0 words)
     (subst HasSlash (sym g.1 ∙ s.1) (given_marked name))
 
 -- ---- the stages
@@ -216,13 +216,8 @@ a_verdict P p v g = λ c. (v, g c, refl)
 
 -- ---- the given files
 
--- the given files, and refusals said as those of the run
-pub given_said : (w : WantedGiven) (r : Result (List TableRows) (Stop SourceRefusal)) (q : Result (List TableRows) (Stop SourceRefusal)) (k : Result (List TableRows) (Stop Refusal)) (old new : InputState)
-    → r ≡ q → k ≡ with_refusal source_refusal q → Ran given_stages w r old new → Ran (saying source_refusal given_stages) w k old new
-given_said w r q k old new is k_is x = ran_saying source_refusal given_stages w q k old new k_is (subst (λ v. Ran given_stages w v old new) is x)
-
 -- they have the tables of the schema
-pub given_widths : (w : WantedGiven) (K : List TableRows) (old new : InputState) → Ran (saying source_refusal given_stages) w (Ok K) old new → widths K ≡ schema_widths w.schema
+pub given_widths : (w : TargetRequest) (K : List TableRows) (old new : InputState) → Ran (saying source_refusal given_stages) w (Ok K) old new → widths K ≡ schema_widths w.schema
 given_widths w K old new x = let p = ran_passes (saying source_refusal given_stages) w K old new x in p.1.2.widths_are
 
 -- ---- what is said

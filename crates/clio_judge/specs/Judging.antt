@@ -8,10 +8,10 @@ use Rattle.dx_instance.specs.Stored.{TableRows, facts}
 use Rattle.dx_judge.specs.declared.fault.JudgeFault.{JudgeFault}
 use Rattle.dx_judge.specs.declared.fault.JudgeFault.TheVariants as judge_faults
 use Rattle.dx_judge.specs.declared.verdict.Verdict.{Verdict}
-use Rattle.dx_judge.specs.Verdicts.{JudgeInput as Judgeable, judging}
+use Rattle.dx_judge.specs.Verdicts.{JudgeInput, judging}
 use Rattle.clio_accept.specs.declared.mapping.Mapping.{Mapping}
 use Rattle.clio_source.specs.Source.{source_left}
-use Rattle.clio_given.specs.Given.{TargetRequest as WantedGiven, given_stages}
+use Rattle.clio_given.specs.Given.{TargetRequest, given_stages}
 use Rattle.clio_files.specs.Verdicts.{verdict_text}
 use Rattle.clio_ending.specs.declared.ending.Done.{Done}
 use Rattle.clio_ending.specs.declared.ending.Done.TheVariants.{Judged}
@@ -36,7 +36,7 @@ abbrev pub RowsAndTarget : Type 0
 RowsAndTarget = MappingAndRows × List TableRows
 
 -- what is wanted of the given files: the tables of the target, in the bytes that are left
-abbrev pub wanted_given : RowsAndBytes → WantedGiven
+abbrev pub wanted_given : RowsAndBytes → TargetRequest
 wanted_given p = record { schema = p.0.0.target; bytes_left = p.1 }
 
 -- the given target, beside the mapping and its rows
@@ -46,7 +46,7 @@ given_rows = into (λ (p : RowsAndBytes) (K : List TableRows). (p.0, K)) (over w
 -- ---- the verdict
 
 -- what is judged: the given target, as a target of the rows under the mapping
-abbrev pub judged : RowsAndTarget → Judgeable
+abbrev pub judged : RowsAndTarget → JudgeInput
 judged p =
     record { rules = p.0.0.rules; schema = model_tables p.0.0.target; rows = facts p.0.1; given = facts p.1; limit = target_cells }
 

@@ -10,7 +10,7 @@ use Rattle.dx_judge.specs.Verdicts.{IsJudgement}
 use Rattle.clio_accept.specs.declared.mapping.Mapping.{Mapping}
 use Rattle.clio_accept.specs.Accepting.{accepting}
 use Rattle.clio_source.specs.Source.{ReadState, source_left}
-use Rattle.clio_given.specs.Given.{TargetRequest as WantedGiven, given_name, given_stages, none_read, given_reading}
+use Rattle.clio_given.specs.Given.{TargetRequest, given_name, given_stages, none_read, given_reading}
 use Rattle.clio_files.specs.Verdicts.{verdict_text}
 use Rattle.clio_steps.specs.Steps.{Program, wanted}
 use Rattle.clio_steps.specs.Outcomes.{Writing}
@@ -34,7 +34,7 @@ pub record IsJudgedIn (P : Program) (c : World) (v : Verdict) (Wrote : Writing) 
   pub written : Wrote [] (verdict_text mapping.target v)
 
 -- the given file of a table, come to when those of all tables before it are held, in form and within the limits
-pub record IsNextGiven (c : World) (w : WantedGiven) (name : List ℕ) : Type 0 where
+pub record IsNextGiven (c : World) (w : TargetRequest) (name : List ℕ) : Type 0 where
   pub before : List ℕ
   pub table : ℕ
   pub after : List ℕ

@@ -14,10 +14,9 @@ ghost use Rattle.clio_steps.specs.Steps.{program};
 ghost use Rattle.clio_judge.specs.Judging.{judge_stages, judged_plan, judged_rows, verdicts};
 
 use clio_accept::Mapping;
-use clio_ending::{Done, Refusal};
+use clio_ending::{Done, Refusal, with_source_refusal};
 use clio_files::verdict_text;
 use clio_given::read_given;
-use clio_source::SourceRefusal;
 use clio_steps::{Side, read_mapping, read_used_rows};
 use dx_funcs::{Host, Meaning, Tests};
 use dx_instance::Instance;
@@ -39,17 +38,7 @@ fn read_target<I: Inputs>(
         (record { holds = I.holds inputs.old; faults = I.faults inputs.old; stopped = I.stopped inputs.old })
         (record { holds = I.holds inputs.new; faults = I.faults inputs.new; stopped = I.stopped inputs.new }) }
 {
-    match read_given(alloc, inputs, target, bytes_left) {
-        Ok(given) => Ok(given),
-        Err(Stop::Refused(SourceRefusal::Rows { file, fault })) => {
-            Err(Stop::Refused(Refusal::Rows { file, fault }))
-        }
-        Err(Stop::Refused(SourceRefusal::Limit(limit))) => Err(Stop::Refused(Refusal::Limit(
-            limit,
-        ))),
-        Err(Stop::Failed(file)) => Err(Stop::Failed(file)),
-        Err(Stop::Memory) => Err(Stop::Memory),
-    }
+    with_source_refusal(read_given(alloc, inputs, target, bytes_left))
 }
 
 // The verdict on a given target of rows under a mapping.

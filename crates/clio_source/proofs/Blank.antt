@@ -17,7 +17,7 @@ use Rattle.dx_schema.proofs.Preorder.{length_placed}
 use Rattle.dx_used.specs.Used.{Marks, blanked, fact_blanked, marks_at}
 use Rattle.dx_used.proofs.Blanking.{blanked_twice}
 use Rattle.clio_source.specs.declared.reading.Reading.{Reading}
-use Rattle.clio_source.specs.Source.{as_facts, flat, form_at, nested, roots}
+use Rattle.clio_source.specs.Source.{as_facts, flat, shape_at, nested, roots}
 use Rattle.clio_source.specs.Agreeing.{AreBlank, IsFlatRoot}
 use Rattle.clio_source.specs.Fitting.{AddsEmpty, AddsFacts, UnusedAreBlank, ReadFits, rows_shown}
 use Rattle.clio_source.proofs.Fits.{many_tables}
@@ -74,10 +74,10 @@ next_after p n (set l i rest) r u d (there a) (there b) lt =
     omega (arith, more, same)
 
 -- a nested root and its inner sets are no flat roots
-none_flat : (f : Forest) (root u : ℕ) → root < length (tables_of f) → (schema_table f root).parent ≡ None → nested ≡ form_at f root → root ≤ u → u < root + 1 + count (tree_at f root).inner → ¬ (IsFlatRoot f u)
+none_flat : (f : Forest) (root u : ℕ) → root < length (tables_of f) → (schema_table f root).parent ≡ None → nested ≡ shape_at f root → root ≤ u → u < root + 1 + count (tree_at f root).inner → ¬ (IsFlatRoot f u)
 none_flat f root u lt parent formed low high is = elim (cases_eq u root) [
   | inl e ↦
-      let clash : flat ≡ nested = is.1 ∙ ap (form_at f) e ∙ sym formed in
+      let clash : flat ≡ nested = is.1 ∙ ap (shape_at f) e ∙ sym formed in
       absurd (cc clash)
   | inr other ↦
       let a_root : root ∈ roots f = ((no_parent f).exact root).1 (lt, parent) in
@@ -87,7 +87,7 @@ none_flat f root u lt parent formed low high is = elim (cases_eq u root) [
       absurd (omega (arith, h, same, high))
 ]
 
-pub blank_document : (used : Marks) (f : Forest) (root last : ℕ) (before after : Reading) (between : List NumberTable) (said : List Fact) → root < length (tables_of f) → (schema_table f root).parent ≡ None → nested ≡ form_at f root
+pub blank_document : (used : Marks) (f : Forest) (root last : ℕ) (before after : Reading) (between : List NumberTable) (said : List Fact) → root < length (tables_of f) → (schema_table f root).parent ≡ None → nested ≡ shape_at f root
     → last ≡ root + 1 + count (tree_at f root).inner → AddsEmpty f last before.tables.items between → AddsFacts before.symbols after.symbols between after.tables.items said
     → Each said (λ fact. (root ≤ fact.table) × (fact.table < last)) → UnusedAreBlank used f before → UnusedAreBlank used f after
 blank_document used f root last before after between said lt parent formed end a p ranges h = λ fact m is.

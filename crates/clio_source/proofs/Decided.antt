@@ -31,7 +31,7 @@ use Rattle.clio_source.specs.declared.fault.SourceRefusal.{SourceRefusal}
 use Rattle.clio_source.specs.declared.fault.SourceRefusal.TheVariants as refusals
 use Rattle.dx_lines.specs.declared.line.Condition.{Condition}
 use Rattle.dx_used.specs.Passing.{Passes, passing}
-use Rattle.clio_source.specs.Source.{RootShape, HaveFault, IsSourceFault, IsStored, ReadState, SayFacts, SaysSourceFacts, SourceRequest, as_facts, at_start, fetching, file_at, files_stages, flat, form_at, loading, named_by, nested, reading, roots, storing, too_many_bytes, with_facts}
+use Rattle.clio_source.specs.Source.{RootShape, HaveFault, IsSourceFault, IsStored, ReadState, SayFacts, SaysSourceFacts, SourceRequest, as_facts, at_start, fetching, file_at, files_stages, flat, shape_at, loading, named_by, nested, reading, roots, storing, too_many_bytes, with_facts}
 use Rattle.clio_source.specs.Laws.{OneSource, OneSourceLeft, ReadOrRefused, ReadOrRefusedLeft, SourceIsOfBoth}
 use Rattle.clio_source.proofs.Runs.{its_file}
 use Rattle.clio_source.proofs.Passed.{AreOf, passed_of, passing_of}
@@ -99,10 +99,10 @@ loading_decided form f root = next_decided Same Any Any (notions (IsSourceFault 
     (computing_decided Same Any (with_facts f) (λ e. refl))
 
 reading_one : (f : Forest) (root : ℕ) → PassesOne (reading f root)
-reading_one f root = next_one (fetching (file_at f root)) (loading (form_at f root) f root) (fetching_one (file_at f root)) (loading_one (form_at f root) f root)
+reading_one f root = next_one (fetching (file_at f root)) (loading (shape_at f root) f root) (fetching_one (file_at f root)) (loading_one (shape_at f root) f root)
 
 reading_decided : (f : Forest) (root : ℕ) → IsDecided Same Any (reading f root)
-reading_decided f root = next_decided Same Any Any (fetching (file_at f root)) (loading (form_at f root) f root) (fetching_one (file_at f root)) (λ c a b g p. tt) (fetching_decided (file_at f root)) (loading_decided (form_at f root) f root)
+reading_decided f root = next_decided Same Any Any (fetching (file_at f root)) (loading (shape_at f root) f root) (fetching_one (file_at f root)) (λ c a b g p. tt) (fetching_decided (file_at f root)) (loading_decided (shape_at f root) f root)
 
 -- ---- the instance
 

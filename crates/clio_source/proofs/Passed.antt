@@ -15,7 +15,7 @@ use Rattle.dx_stages.specs.Worlds.{World}
 use Rattle.dx_stages.specs.Stages.{each}
 use Rattle.dx_lines.specs.declared.line.Condition.{Condition}
 use Rattle.dx_used.specs.Passing.{Passes, fact_passes, passing}
-use Rattle.clio_source.specs.Source.{RootShape, ReadState, SayFacts, at_start, fact_cells, files_stages, flat, form_at, nested, reading, roots, too_many_cells, with_facts}
+use Rattle.clio_source.specs.Source.{RootShape, ReadState, SayFacts, at_start, fact_cells, files_stages, flat, shape_at, nested, reading, roots, too_many_cells, with_facts}
 use Rattle.clio_source.proofs.Roots.{IsRoot, is_root}
 
 -- each fact is of a table of the schema
@@ -41,7 +41,7 @@ counted f q s is = of (nat_lt q.0.cells_left (fact_cells f q.1)) is
 
 one_read : (f : Forest) (root : ℕ) (c : World) (r s : ReadState) → IsRoot f root → AreOf f r.facts → (reading f root).passes c r s → AreOf f s.facts
 one_read f root c r s is of (p, (bytes, found, p_is), (q, (said, says, q_is), s_is)) =
-    let added = said_of (form_at f root) f root p.1 said is says in
+    let added = said_of (shape_at f root) f root p.1 said is says in
     let before : q.0.facts ≡ r.facts = ap (λ (v : ReadState × List Fact). v.0.facts) q_is ∙ ap (λ (v : ReadState × List ℕ). v.0.facts) p_is in
     let after : s.facts ≡ r.facts ++ said = counted f q s s_is ∙ ap (λ fs. fs ++ q.1) before ∙ ap (λ (v : ReadState × List Fact). r.facts ++ v.1) q_is in
     λ x m. elim (from_append r.facts (subst (λ fs. x ∈ fs) after m)) [ inl old ↦ of x old | inr new ↦ added x new ]

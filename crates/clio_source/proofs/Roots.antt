@@ -14,7 +14,7 @@ use Rattle.dx_stages.specs.Laws.{AsksOtherFiles, AsksOnly}
 use Rattle.dx_stages.proofs.Decided.{apart_by, each_only}
 use Rattle.dx_schema.proofs.Inner.{numbers_ascend}
 use Rattle.clio_source.specs.Laws.{RootsHaveNoParent}
-use Rattle.clio_source.specs.Source.{RootShape, csv_name, file_at, flat, form_at, form_of, json_name, named_by, nested, reading, roots}
+use Rattle.clio_source.specs.Source.{RootShape, csv_name, file_at, flat, shape_at, shape_of, json_name, named_by, nested, reading, roots}
 
 -- ---- their numbers
 
@@ -194,11 +194,11 @@ last_number f ts k root whole past at = at ∙ ap (λ (us : List Tree). count (f
 
 -- ---- forms
 
-pub is_flat : (g : Forest) → not (has_sets g) ≡ true → flat ≡ form_of g
+pub is_flat : (g : Forest) → not (has_sets g) ≡ true → flat ≡ shape_of g
 is_flat none e = refl
 is_flat (set l i r) e = absurd (cc e)
 
-pub is_nested : (g : Forest) → not (has_sets g) ≡ false → nested ≡ form_of g
+pub is_nested : (g : Forest) → not (has_sets g) ≡ false → nested ≡ shape_of g
 is_nested none e = absurd (cc e)
 is_nested (set l i r) e = refl
 
@@ -247,4 +247,4 @@ apart f us root distinct within below =
     (each_only (reading f) (file_at f) us (asks_own f)) (asks_own f root) never
   where
     never : (n : List ℕ) → (u : ℕ) × (u ∈ us) × (n ≡ file_at f u) → ¬ (n ≡ file_at f root)
-    never n (u, m, is) e = names_differ f u root distinct (below u m) within (named_one (form_at f u) (form_at f root) _ _ (sym is ∙ e))
+    never n (u, m, is) e = names_differ f u root distinct (below u m) within (named_one (shape_at f u) (shape_at f root) _ _ (sym is ∙ e))

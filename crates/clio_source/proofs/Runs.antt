@@ -18,7 +18,7 @@ use Rattle.clio_source.specs.declared.fault.SourceRefusal.{SourceRefusal}
 use Rattle.clio_source.specs.declared.fault.SourceRefusal.TheVariants as refusals
 use Rattle.clio_source.specs.declared.fault.RowsFault.TheVariants.{Absent}
 use Rattle.clio_source.specs.declared.reading.Reading.{Reading}
-use Rattle.clio_source.specs.Source.{RootShape, ReadState, SayFacts, at_start, fact_cells, fetching, file_at, files_stages, form_at, loading, named_by, reading, too_many_bytes, too_many_cells, with_facts}
+use Rattle.clio_source.specs.Source.{RootShape, ReadState, SayFacts, at_start, fact_cells, fetching, file_at, files_stages, shape_at, loading, named_by, reading, too_many_bytes, too_many_cells, with_facts}
 use Rattle.dx_used.specs.Used.{AgreeOnUsed, Marks}
 use Rattle.clio_source.specs.Fitting.{GivesTo, Holds, NotRead, RanTo}
 use Rattle.clio_source.proofs.Roots.{apart, first_roots, next_root, numbers_between, roots_all, roots_more, roots_rest}
@@ -75,7 +75,7 @@ asked name n copy left long r x old new is copied many wide ran =
 pub stopped : (used : Marks) (f : Forest) (root left : ℕ) (n copy : List ℕ) (long : SourceRefusal) (r : ReadState) (e : Stop SourceRefusal) (old new : InputState) → n ≡ file_at f root → copy ≡ file_at f root → left ≡ r.bytes_left → long ≡ too_many_bytes
     → Ran (file {A = Unit {0}} n left (refusals.Rows copy Absent) long) (tt {0}) (Err e) old new → RanTo used (reading f root) r (Err e) old new
 stopped used f root left n copy long r e old new is copied many wide ran =
-    ran_stop (fetching (file_at f root)) (loading (form_at f root) f root) r e old new
+    ran_stop (fetching (file_at f root)) (loading (shape_at f root) f root) r e old new
     (ran_into_stop (λ (r : ReadState) (bytes : List ℕ). (r, bytes)) (by (its_file (file_at f root))) r e old new (asked (file_at f root) n copy left long r (Err e) old new is copied many wide ran))
 
 -- what a stage gives to a reading, a run of it gives
@@ -85,12 +85,12 @@ to_run used s t a b (Ok r) old new k g = (g.0, g.1, k (Ok g.0) g.2)
 to_run used s t a b (Err e) old new k g = k (Err e) g
 
 pub passed : (used : Marks) (f : Forest) (root left : ℕ) (form : RootShape) (n copy bytes lent : List ℕ) (long : SourceRefusal) (r : ReadState) (x : Result Reading (Stop SourceRefusal)) (old new : InputState) → n ≡ file_at f root → copy ≡ file_at f root → left ≡ r.bytes_left → long ≡ too_many_bytes
-    → lent ≡ bytes → form ≡ form_at f root → Ran (file {A = Unit {0}} n left (refusals.Rows copy Absent) long) (tt {0}) (Ok bytes) old new → GivesTo used (loading form f root) (r, lent) x → RanTo used (reading f root) r x old new
+    → lent ≡ bytes → form ≡ shape_at f root → Ran (file {A = Unit {0}} n left (refusals.Rows copy Absent) long) (tt {0}) (Ok bytes) old new → GivesTo used (loading form f root) (r, lent) x → RanTo used (reading f root) r x old new
 passed used f root left form n copy bytes lent long r x old new is copied many wide same formed ran g =
-    to_run used (loading (form_at f root) f root) (reading f root) (r, bytes) r x old new
-    (λ y given. ran_next (fetching (file_at f root)) (loading (form_at f root) f root) r (r, bytes) y old new new (silent_apart (fetching (file_at f root)) (loading (form_at f root) f root) (silent (form_at f root) f root))
+    to_run used (loading (shape_at f root) f root) (reading f root) (r, bytes) r x old new
+    (λ y given. ran_next (fetching (file_at f root)) (loading (shape_at f root) f root) r (r, bytes) y old new new (silent_apart (fetching (file_at f root)) (loading (shape_at f root) f root) (silent (shape_at f root) f root))
     (ran_into (λ (r : ReadState) (bytes : List ℕ). (r, bytes)) (by (its_file (file_at f root))) r bytes old new (asked (file_at f root) n copy left long r (Ok bytes) old new is copied many wide ran))
-    (ran_value (loading (form_at f root) f root) (r, bytes) y new given))
+    (ran_value (loading (shape_at f root) f root) (r, bytes) y new given))
     (subst (λ k. GivesTo used (loading k f root) (r, bytes) x) formed (subst (λ v. GivesTo used (loading form f root) (r, v) x) same g))
 
 -- ---- one root after the other

@@ -8,7 +8,7 @@ use Rattle.dx_stages.specs.Running.{Ran, InputState}
 use Rattle.dx_schema.specs.Forest.{Forest}
 use Rattle.dx_instance.specs.Stored.{TableRows, facts, widths}
 use Rattle.dx_used.specs.Used.{AgreeOnUsed, Marks, fact_blanked}
-use Rattle.clio_source.specs.Source.{flat, form_at, roots}
+use Rattle.clio_source.specs.Source.{flat, shape_at, roots}
 
 -- The stage ran so and passes an instance, with which the one that was read agrees on the used columns, and a number, which is the one
 -- beside what was read.
@@ -19,7 +19,7 @@ RanAgreeing used s a (Err e) old new = Ran s a (Err e) old new
 
 -- the table of a flat root, whose file is a table
 abbrev pub IsFlatRoot : Forest → ℕ → Type 0
-IsFlatRoot f table = (table ∈ roots f) × (flat ≡ form_at f table)
+IsFlatRoot f table = (table ∈ roots f) × (flat ≡ shape_at f table)
 
 -- in the columns of flat roots that are not used the facts have nothing but the empty constant
 abbrev pub AreBlank : Marks → Forest → List Fact → Type 0

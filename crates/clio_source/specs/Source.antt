@@ -52,12 +52,12 @@ pub data RootShape : Type 0 where
   flat : RootShape
   nested : RootShape
 
-abbrev pub form_of : Forest → RootShape
-form_of none = flat
-form_of (set l inner rest) = nested
+abbrev pub shape_of : Forest → RootShape
+shape_of none = flat
+shape_of (set l inner rest) = nested
 
-abbrev pub form_at : Forest → ℕ → RootShape
-form_at f root = form_of (tree_at f root).inner
+abbrev pub shape_at : Forest → ℕ → RootShape
+shape_at f root = shape_of (tree_at f root).inner
 
 abbrev pub named_by : RootShape → List ℕ → List ℕ
 named_by flat root = csv_name root
@@ -65,7 +65,7 @@ named_by nested root = json_name root
 
 -- the name of a root's file
 abbrev pub file_at : Forest → ℕ → List ℕ
-file_at f root = named_by (form_at f root) (schema_table f root).name
+file_at f root = named_by (shape_at f root) (schema_table f root).name
 
 -- ---- what the bytes of a root's file say
 
@@ -96,7 +96,7 @@ pub record ReadState : Type 0 where
 abbrev pub at_start : ReadState
 at_start = record { facts = []; bytes_left = data_bytes; cells_left = source_cells }
 
--- the file of this name, of as many bytes as are left, beside what was read before it
+-- the file of this name, of at most as many bytes as are left, beside what was read before it
 abbrev pub fetching : List ℕ → Stage SourceRefusal ReadState (ReadState × List ℕ)
 fetching name =
     into (λ (r : ReadState) (bytes : List ℕ). (r, bytes)) (by (λ (r : ReadState). file name r.bytes_left (refusals.Rows name Absent) too_many_bytes))
@@ -126,7 +126,7 @@ loading form f root = next (notions (IsSourceFault form f root) (SaysSourceFacts
 
 -- a root's file, and then what is read of it
 abbrev pub reading : Forest → ℕ → Stage SourceRefusal ReadState ReadState
-reading f root = next (fetching (file_at f root)) (loading (form_at f root) f root)
+reading f root = next (fetching (file_at f root)) (loading (shape_at f root) f root)
 
 -- ---- all roots
 

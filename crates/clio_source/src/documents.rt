@@ -8,7 +8,7 @@ ghost use Rattle.dx_instance.specs.Cells.{with_numbers};
 ghost use Rattle.dx_instance.specs.Shown.{NumberRowsFit, Shows, numbers_of_table};
 ghost use Rattle.dx_used.specs.Used.{Marks};
 ghost use Rattle.dx_json.specs.Documents.{HasDocumentFault, SaysFacts};
-ghost use Rattle.clio_source.specs.Source.{ReadState, fact_cells, form_at, loading, named_by, nested, source_cells};
+ghost use Rattle.clio_source.specs.Source.{ReadState, fact_cells, shape_at, loading, named_by, nested, source_cells};
 ghost use Rattle.clio_source.specs.Fitting.{AddsEmpty, AddsFacts, AddsRoot, CanTake, GivesTo, Holds, UnusedAreBlank, NotRead, ReadFits};
 
 use crate::fault::{RowsFault, SourceRefusal};
@@ -181,7 +181,7 @@ pub(crate) fn load_document(
     requires fit { ReadFits schema.now root before }
     ensures fit { IfOk result (ReadFits schema.now (root + 1 + count (tree_at schema.now root).inner)) }
     ensures read { (used : Marks) (q : ReadState) → Holds used before q → GivesTo used (loading nested schema.now root) (q, bytes.now) result }
-    ensures blank { (used : Marks) → nested ≡ form_at schema.now root → UnusedAreBlank used schema.now before
+    ensures blank { (used : Marks) → nested ≡ shape_at schema.now root → UnusedAreBlank used schema.now before
         → IfOk result (UnusedAreBlank used schema.now) }
 {
     let mut reading = before;

@@ -24,7 +24,7 @@ use Rattle.clio_ending.specs.declared.ending.Refusal.TheVariants as refusals
 use Rattle.clio_ending.specs.Ending.{exchange_refusal, named_clash, source_refusal}
 use Rattle.clio_steps.specs.declared.texts.Side.{Side}
 use Rattle.clio_steps.specs.declared.texts.Side.TheVariants.{First, Second}
-use Rattle.clio_steps.specs.Steps.{MappingAndRows, Program, absent_text, asked, exchanges, rows_stages, side_refusal, text_stages}
+use Rattle.clio_steps.specs.Steps.{MappingAndRows, Program, absent_text, exchange_input, exchanges, rows_stages, side_refusal, text_stages}
 use Rattle.clio_steps.specs.Outcomes.{IsClashIn, HasNoSolutionIn}
 use Rattle.clio_steps.proofs.Mappings.{is_small}
 use Rattle.clio_steps.proofs.Plans.{rules_fit}
@@ -75,15 +75,15 @@ rows_never P c M e (k, refused, is) = ap is_clash is ∙ of_source k
 -- ---- a clash has its reason
 
 pub clash_of : (P : Program) (mode : Mode) (p : MappingAndRows) (target : Forest) (k : Clash) (table : List ℕ) (key : List (List ℕ)) (column : List ℕ) (fault : ExFault)
-    → HasNoExchange P.apply (asked mode p) fault → refusals.Clash k table key column ≡ exchange_refusal target fault → HasClash P.apply (asked mode p) k
+    → HasNoExchange P.apply (exchange_input mode p) fault → refusals.Clash k table key column ≡ exchange_refusal target fault → HasClash P.apply (exchange_input mode p) k
 unfolding clash_in is_clash
-clash_of P mode p target k table key column (exchange_faults.Clash d) h is = subst (HasClash P.apply (asked mode p)) (sym (same_Some k d (ap clash_in is))) h
+clash_of P mode p target k table key column (exchange_faults.Clash d) h is = subst (HasClash P.apply (exchange_input mode p)) (sym (same_Some k d (ap clash_in is))) h
 clash_of P mode p target k table key column (exchange_faults.Limit l) h is = absurd (true≢false (ap is_clash is))
 clash_of P mode p target k table key column exchange_faults.Memory h is = absurd h
 
 -- it is told with the names of the target
 pub named_of : (P : Program) (mode : Mode) (p : MappingAndRows) (target : Forest) (k : Clash) (table : List ℕ) (key : List (List ℕ)) (column : List ℕ) (fault : ExFault)
-    → HasNoExchange P.apply (asked mode p) fault → refusals.Clash k table key column ≡ exchange_refusal target fault
+    → HasNoExchange P.apply (exchange_input mode p) fault → refusals.Clash k table key column ≡ exchange_refusal target fault
     → refusals.Clash k table key column ≡ named_clash target k
 unfolding clash_in is_clash
 named_of P mode p target k table key column (exchange_faults.Clash d) h is = is ∙ ap (named_clash target) (sym (same_Some k d (ap clash_in is)))
@@ -103,21 +103,21 @@ exchange_clashes P mode c k table key column (inr (M, (text, there, accepted), i
   accepted = accepted;
   rows = I;
   source = source;
-  clash = subst (λ (r : MappingAndRows). HasClash P.apply (asked mode r) k) pair_is (clash_of P mode pair pair.0.target k table key column fault none is);
+  clash = subst (λ (r : MappingAndRows). HasClash P.apply (exchange_input mode r) k) pair_is (clash_of P mode pair pair.0.target k table key column fault none is);
   named = subst (λ (r : MappingAndRows). refusals.Clash k table key column ≡ named_clash r.0.target k) pair_is (named_of P mode pair pair.0.target k table key column fault none is);
 }
 
 -- ---- without a solution there is a clash
 
 pub clash_there : (P : Program) (mode : Mode) (c : World) (h : HasNoSolutionIn P c)
-    → (k : Clash) × (exchanging P.apply).refuses c (asked mode (h.mapping, h.rows)) (exchange_faults.Clash k)
+    → (k : Clash) × (exchanging P.apply).refuses c (exchange_input mode (h.mapping, h.rows)) (exchange_faults.Clash k)
 clash_there P mode c h =
     let fits = accepted_fits P.list P.tests c h.text h.mapping (is_small h.text h.few) h.accepted in
     let d = exchange_or_none P.apply P.list (model_tables h.mapping.source) in
-    of (d.either c (asked mode (h.mapping, h.rows)) (rules_fit P h.mapping fits))
+    of (d.either c (exchange_input mode (h.mapping, h.rows)) (rules_fit P h.mapping fits))
   where
-    of : ((e : Exchange) × IsExchange P.apply (asked mode (h.mapping, h.rows)) e) ⊎ ((f : ExFault) × HasNoExchange P.apply (asked mode (h.mapping, h.rows)) f)
-        → (k : Clash) × (exchanging P.apply).refuses c (asked mode (h.mapping, h.rows)) (exchange_faults.Clash k)
+    of : ((e : Exchange) × IsExchange P.apply (exchange_input mode (h.mapping, h.rows)) e) ⊎ ((f : ExFault) × HasNoExchange P.apply (exchange_input mode (h.mapping, h.rows)) f)
+        → (k : Clash) × (exchanging P.apply).refuses c (exchange_input mode (h.mapping, h.rows)) (exchange_faults.Clash k)
     of (inl (e, x)) = absurd (h.none (facts e.target) x.universal.solution)
     of (inr (exchange_faults.Clash k, x)) = (k, x)
     of (inr (exchange_faults.Limit l, x)) = let few = h.within x.rows x.are in let many = x.many in absurd (omega (arith, few, many))

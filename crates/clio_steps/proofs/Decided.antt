@@ -29,7 +29,7 @@ use Rattle.clio_steps.specs.declared.texts.Side.{Side}
 use Rattle.clio_steps.specs.declared.texts.Side.TheVariants.{First}
 use Rattle.clio_ending.specs.Ending.{AreAlike, exchange_refusal, source_refusal}
 use Rattle.clio_ending.proofs.Alike.{alike, same_alike}
-use Rattle.clio_steps.specs.Steps.{MappingAndRows, Program, absent_text, asked, exchanges, mapping_stages, named_stage, rows_stages, target_stages, text_bytes, text_file, text_name, side_refusal, text_stages, too_long, wanted}
+use Rattle.clio_steps.specs.Steps.{MappingAndRows, Program, absent_text, exchange_input, exchanges, mapping_stages, named_stage, rows_stages, target_stages, text_bytes, text_file, text_name, side_refusal, text_stages, too_long, wanted}
 use Rattle.clio_steps.proofs.Mappings.{is_small}
 use Rattle.clio_steps.proofs.Plans.{files_fit, rules_fit, texts_fit}
 
@@ -65,9 +65,9 @@ AreReady P p = MappingFits P.list P.tests p.0
 pub target_decided : (P : Program) (mode : Mode) → IsDecided AreAlike (AreReady P) (by (named_stage P.apply mode))
 unfolding AreReady
 target_decided P mode = record {
-  one = λ c p e f r. (asked_decided p.0.source p.0.target).one c (asked mode p) e f (rules_fit P p.0 r);
-  never_both = λ c p b e r. (asked_decided p.0.source p.0.target).never_both c (asked mode p) b e (rules_fit P p.0 r);
-  either = λ c p r. (asked_decided p.0.source p.0.target).either c (asked mode p) (rules_fit P p.0 r);
+  one = λ c p e f r. (asked_decided p.0.source p.0.target).one c (exchange_input mode p) e f (rules_fit P p.0 r);
+  never_both = λ c p b e r. (asked_decided p.0.source p.0.target).never_both c (exchange_input mode p) b e (rules_fit P p.0 r);
+  either = λ c p r. (asked_decided p.0.source p.0.target).either c (exchange_input mode p) (rules_fit P p.0 r);
 }
   where
     faults_alike : (target : Forest) (e k : ExFault) → FaultsAlike e k → AreAlike (exchange_refusal target e) (exchange_refusal target k)
@@ -103,7 +103,7 @@ exchanges_decided P mode =
 pub record IsMade (P : Program) (mode : Mode) (M : Mapping) (e : Exchange) : Type 0 where
   pub fits : MappingFits P.list P.tests M
   pub rows : List TableRows
-  pub exchange : IsExchange P.apply (asked mode (M, rows)) e
+  pub exchange : IsExchange P.apply (exchange_input mode (M, rows)) e
 
 pub made_in : (P : Program) (mode : Mode) (c : World) (q : Mapping × Exchange) → (exchanges P mode).passes c (tt {0}) q → IsMade P mode q.0 q.1
 made_in P mode c q (M, m, (pair, (I, source, pair_is), (x, exchange, q_is))) =
@@ -111,7 +111,7 @@ made_in P mode c q (M, m, (pair, (I, source, pair_is), (x, exchange, q_is))) =
     (subst (λ (r : MappingAndRows). IsMade P mode r.0 x) (sym pair_is) (record {
       fits = accepted_fits P.list P.tests c m.0 M (is_small m.0 m.1.1) m.2;
       rows = I;
-      exchange = subst (λ (r : MappingAndRows). IsExchange P.apply (asked mode r) x) pair_is exchange;
+      exchange = subst (λ (r : MappingAndRows). IsExchange P.apply (exchange_input mode r) x) pair_is exchange;
     }))
 
 -- an exchange that ran was made

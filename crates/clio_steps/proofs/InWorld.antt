@@ -7,7 +7,7 @@ use Rattle.dx_stages.specs.Worlds.{World}
 use Rattle.dx_stages.specs.Ending.{PlanContent}
 use Rattle.clio_accept.specs.declared.mapping.Mapping.{Mapping}
 use Rattle.clio_ending.specs.declared.ending.Done.{Done}
-use Rattle.clio_steps.specs.Steps.{MappingAndRows, Program, asked, exchanges}
+use Rattle.clio_steps.specs.Steps.{MappingAndRows, Program, exchange_input, exchanges}
 use Rattle.clio_steps.specs.Outcomes.{IsExchangeIn, Writing}
 
 -- ---- an exchange in a world
@@ -20,7 +20,7 @@ in_world P mode c q (M, (text, there, accepted), (pair, (I, source, pair_is), (x
   accepted = accepted;
   rows = I;
   source = source;
-  exchange = subst (IsExchange P.apply (asked mode (M, I))) (sym (ap (λ (r : Mapping × Exchange). r.1) q_is)) (subst (λ (r : MappingAndRows). IsExchange P.apply (asked mode r) x) pair_is exchange);
+  exchange = subst (IsExchange P.apply (exchange_input mode (M, I))) (sym (ap (λ (r : Mapping × Exchange). r.1) q_is)) (subst (λ (r : MappingAndRows). IsExchange P.apply (exchange_input mode r) x) pair_is exchange);
 }
 
 -- its mapping is the one that was passed on

@@ -10,7 +10,7 @@ use Rattle.dx_stages.specs.Laws.{AsksOtherFiles, AsksOnly}
 use Rattle.dx_stages.proofs.Decided.{apart_by, each_only}
 use Rattle.clio_accept.proofs.Silent.{accepting_silent}
 use Rattle.dx_used.specs.Passing.{Passes}
-use Rattle.clio_source.specs.Source.{RootShape, at_start, csv_name, file_at, flat, form_at, json_name, named_by, nested, reading, roots, source_stages, SourceRequest}
+use Rattle.clio_source.specs.Source.{RootShape, at_start, csv_name, file_at, flat, shape_at, json_name, named_by, nested, reading, roots, source_stages, SourceRequest}
 use Rattle.clio_source.proofs.Roots.{asks_own}
 use Rattle.clio_steps.specs.declared.texts.Side.{Side}
 use Rattle.clio_steps.specs.declared.texts.Side.TheVariants.{First, Second}
@@ -38,7 +38,7 @@ pub source_asks : (passes : Passes) (c : World) (w : SourceRequest) (n : List â„
 source_asks passes c w n (inl h) =
     let f = w.schema in
     let k = each_only (reading f) (file_at f) (roots f) (asks_own f) c at_start n h in
-    subst IsData (sym k.2) (named (form_at f k.0) (schema_table f k.0).name)
+    subst IsData (sym k.2) (named (shape_at f k.0) (schema_table f k.0).name)
 source_asks passes c w n (inr h) = absurd h.2
 
 rest_asks : (P : Program) (mode : Mode) â†’ AsksOnly IsData (next (rows_stages P) (target_stages P mode))

@@ -40,7 +40,7 @@ use Rattle.clio_files.specs.Sheets.{rule_of_null, null_texts}
 use Rattle.clio_files.specs.Texts.{FitTexts}
 use Rattle.clio_ending.specs.declared.ending.Refusal.{Refusal}
 use Rattle.clio_ending.specs.Ending.{source_refusal}
-use Rattle.clio_steps.specs.Steps.{MappingAndRows, Program, asked, exchanges, mapping_stages, named_stage, rows_stages, target_stages, wanted}
+use Rattle.clio_steps.specs.Steps.{MappingAndRows, Program, exchange_input, exchanges, mapping_stages, named_stage, rows_stages, target_stages, wanted}
 use Rattle.clio_steps.proofs.Names.{apart}
 use Rattle.clio_steps.proofs.Words.{not_in_word}
 
@@ -103,7 +103,7 @@ tuple_long R rows n fit one p = at R rows n.rule fit one p.rule p.place
     at (d ∷ R) (ts ∷ rows) zero fit one h p = fit.0 _ (in_at ts n.row [] p)
     at (d ∷ R) (ts ∷ rows) (suc i) fit one h p = at R rows i fit.1 (omega (arith, one)) (omega (arith, h)) p
 
-pub files_fit : (P : Program) (mode : Mode) (M : Mapping) (I : List TableRows) (e : Exchange) → MappingFits P.list P.tests M → IsExchange P.apply (asked mode (M, I)) e → FitsFiles M.rules M.target e
+pub files_fit : (P : Program) (mode : Mode) (M : Mapping) (I : List TableRows) (e : Exchange) → MappingFits P.list P.tests M → IsExchange P.apply (exchange_input mode (M, I)) e → FitsFiles M.rules M.target e
 files_fit P mode M I e h x = record {
   widths_are = x.widths_are ∙ model_widths M.target;
   no_marks = no_marks M.target h.target_names;
@@ -125,7 +125,7 @@ some_column (t ∷ ts) zero some k = some t (here refl)
 some_column (t ∷ ts) (suc n) some k = some_column ts n (λ u i. some u (there i)) (omega (arith, k))
 
 -- each fact of the target has a value
-pub facts_wide : (P : Program) (mode : Mode) (M : Mapping) (I : List TableRows) (e : Exchange) → MappingFits P.list P.tests M → IsExchange P.apply (asked mode (M, I)) e → Each (facts e.target) (λ f. 1 ≤ length f.row)
+pub facts_wide : (P : Program) (mode : Mode) (M : Mapping) (I : List TableRows) (e : Exchange) → MappingFits P.list P.tests M → IsExchange P.apply (exchange_input mode (M, I)) e → Each (facts e.target) (λ f. 1 ≤ length f.row)
 facts_wide P mode M I e h x f m =
     let fits = x.universal.solution.fits f m in
     let w = some_column (tables_of M.target) f.table (λ t k. ((are_tables M.target h.target.form).each_table t k).some_column) fits.table in

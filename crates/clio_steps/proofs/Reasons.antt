@@ -39,7 +39,7 @@ use Rattle.dx_stages.specs.Worlds.{World}
 use Rattle.clio_accept.specs.declared.fault.AcceptFault.{AcceptFault}
 use Rattle.clio_accept.specs.declared.fault.AcceptFault.TheVariants as accept_faults
 use Rattle.dx_funcs.specs.declared.row_test.RowTest.{RowTest}
-use Rattle.clio_accept.specs.Accepting.{SchemaPair, accepting, accepting_said, between_of, leaving, taking}
+use Rattle.clio_accept.specs.Accepting.{TextsBetween, accepting, accepting_said, between_of, leaving, taking}
 use Rattle.clio_accept.specs.Mapping.{source_sets_refusal as source_fault_refusal, target_refusal, text_refusal}
 use Rattle.dx_schema_text.specs.declared.texts.LineText.{LineText}
 use Rattle.dx_schema_text.specs.declared.texts.MappingText.{MappingText}
@@ -50,7 +50,7 @@ use Rattle.clio_ending.specs.declared.ending.Refusal.TheVariants as refusals
 use Rattle.clio_ending.specs.Ending.{exchange_refusal, source_refusal}
 use Rattle.clio_steps.specs.declared.texts.Side.{Side}
 use Rattle.clio_steps.specs.declared.texts.Side.TheVariants.{First, Second}
-use Rattle.clio_steps.specs.Steps.{MappingAndRows, Program, absent_text, asked, exchanges, side_refusal as said_refusal, text_stages}
+use Rattle.clio_steps.specs.Steps.{MappingAndRows, Program, absent_text, exchange_input, exchanges, side_refusal as said_refusal, text_stages}
 
 -- ---- first faults
 
@@ -296,7 +296,7 @@ unknown_kept (text_faults.At place kind) u is = cc
 unknown_kept (text_faults.TooDeep place) u is = cc
 unknown_kept text_faults.Memory u is = absurd (let e = u.1 in cc)
 
-taking_never : (list : List Conversion) (tests : List RowTest) (c : World) (b : SchemaPair) → ¬ ((taking list tests).refuses c b accept_faults.Memory)
+taking_never : (list : List Conversion) (tests : List RowTest) (c : World) (b : TextsBetween) → ¬ ((taking list tests).refuses c b accept_faults.Memory)
 taking_never list tests c b (inl (many, is)) = cc
 taking_never list tests c b (inr (b1, p1, inl (k, h, is))) =
     text_kept k (λ e. lines_lack b1.source b1.target list b1.lines (h ∙ ap Some e)) is
@@ -336,7 +336,7 @@ pub source_rows_kept : (k : SourceRefusal) → ¬ (refusals.Usage ≡ source_ref
 source_rows_kept (source_refusals.Rows file fault) is = cc
 source_rows_kept (source_refusals.Limit limit) is = cc
 
-pub none_kept : (P : Program) (mode : Mode) (p : MappingAndRows) (target : Forest) (fault : ExFault) → HasNoExchange P.apply (asked mode p) fault
+pub none_kept : (P : Program) (mode : Mode) (p : MappingAndRows) (target : Forest) (fault : ExFault) → HasNoExchange P.apply (exchange_input mode p) fault
     → ¬ (refusals.Usage ≡ exchange_refusal target fault)
 none_kept P mode p target (exchange_faults.Clash k) h is = cc
 none_kept P mode p target (exchange_faults.Limit l) h is = cc

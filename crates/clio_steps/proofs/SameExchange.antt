@@ -24,13 +24,13 @@ use Rattle.clio_source.specs.Source.{SourceRequest, source_left}
 use Rattle.clio_source.proofs.Left.{ran_first}
 use Rattle.clio_ending.specs.declared.ending.Refusal.{Refusal}
 use Rattle.clio_ending.specs.Ending.{source_refusal}
-use Rattle.clio_steps.specs.Steps.{Program, asked, named_stage}
+use Rattle.clio_steps.specs.Steps.{Program, exchange_input, named_stage}
 use Rattle.clio_steps.proofs.Plans.{rows_widths}
 
 -- ---- from the rows that were read to those of the files
 
 made_for : (P : Program) (mode : Mode) (M : Mapping) (used : Marks) (I J : List TableRows) (e : Exchange) → Each M.rules (UsesOnly used)
-    → AgreeOnUsed used (facts I) (facts J) → IsExchange P.apply (asked mode (M, J)) e → IsExchange P.apply (asked mode (M, I)) e
+    → AgreeOnUsed used (facts I) (facts J) → IsExchange P.apply (exchange_input mode (M, J)) e → IsExchange P.apply (exchange_input mode (M, I)) e
 made_for P mode M used I J e uses agree x = record {
   matches = same_rows P.apply used M.rules (facts J) (facts I) e.matches uses (agree.1, agree.0) x.matches;
   within = x.within;
@@ -46,7 +46,7 @@ made_for P mode M used I J e uses agree x = record {
 }
 
 none_for : (P : Program) (mode : Mode) (M : Mapping) (used : Marks) (I J : List TableRows) (fault : ExFault) → Each M.rules (UsesOnly used)
-    → AgreeOnUsed used (facts I) (facts J) → HasNoExchange P.apply (asked mode (M, J)) fault → HasNoExchange P.apply (asked mode (M, I)) fault
+    → AgreeOnUsed used (facts I) (facts J) → HasNoExchange P.apply (exchange_input mode (M, J)) fault → HasNoExchange P.apply (exchange_input mode (M, I)) fault
 none_for P mode M used I J (faults.Clash c) uses agree x = record {
   rows = x.rows;
   are = same_rows P.apply used M.rules (facts J) (facts I) x.rows uses (agree.1, agree.0) x.are;
@@ -74,17 +74,32 @@ same_exchange P mode M used I J (Err stops.Memory) uses agree g = g
 -- ---- the rows
 
 -- the rows that were read, and how many bytes are left; refusals said as those of the run
-pub rows_agree : (passes : Passes) (used : Marks) (w : SourceRequest) (r : Result (List TableRows × ℕ) (Stop SourceRefusal)) (q : List TableRows × ℕ) (old new : InputState) → r ≡ Ok q
+rows_agree : (passes : Passes) (used : Marks) (w : SourceRequest) (r : Result (List TableRows × ℕ) (Stop SourceRefusal)) (q : List TableRows × ℕ) (old new : InputState) → r ≡ Ok q
     → RanAgreeing used (source_left passes) w r old new → RanAgreeing used (saying source_refusal (source_left passes)) w (Ok q) old new
 rows_agree passes used w r q old new is x =
     let h = subst (λ v. RanAgreeing used (source_left passes) w v old new) is x in
     (h.0, h.1, h.2, ran_saying source_refusal (source_left passes) w (Ok (h.0, q.1)) (Ok (h.0, q.1)) old new refl h.3)
 
-pub no_rows : (passes : Passes) (used : Marks) (w : SourceRequest) (r : Result (List TableRows × ℕ) (Stop SourceRefusal)) (e : Stop SourceRefusal) (k : Stop Refusal) (old new : InputState) → r ≡ Err e
+no_rows : (passes : Passes) (used : Marks) (w : SourceRequest) (r : Result (List TableRows × ℕ) (Stop SourceRefusal)) (e : Stop SourceRefusal) (k : Stop Refusal) (old new : InputState) → r ≡ Err e
     → ◌≡◌ {A = Result (List TableRows × ℕ) (Stop Refusal)} (Err k) (with_refusal source_refusal (Err e)) → RanAgreeing used (source_left passes) w r old new
     → RanAgreeing used (saying source_refusal (source_left passes)) w (Err k) old new
 no_rows passes used w r e k old new is k_is x =
     ran_saying source_refusal (source_left passes) w (Err e) (Err k) old new k_is (subst (λ v. RanAgreeing used (source_left passes) w v old new) is x)
+
+-- what it came to that they were read, and refusals said as those of the run
+pub agreeing_said : (passes : Passes) (used : Marks) (w : SourceRequest) (r : Result (List TableRows × ℕ) (Stop SourceRefusal)) (k : Result (List TableRows × ℕ) (Stop Refusal)) (old new : InputState)
+    → k ≡ with_refusal source_refusal r → RanAgreeing used (source_left passes) w r old new → RanAgreeing used (saying source_refusal (source_left passes)) w k old new
+agreeing_said passes used w (Ok q) k old new is x =
+    subst (λ v. RanAgreeing used (saying source_refusal (source_left passes)) w v old new) (sym is) (rows_agree passes used w (Ok q) q old new refl x)
+agreeing_said passes used w (Err (stops.Refused e)) k old new is x =
+    subst (λ v. RanAgreeing used (saying source_refusal (source_left passes)) w v old new) (sym is)
+    (no_rows passes used w (Err (stops.Refused e)) (stops.Refused e) (stops.Refused (source_refusal e)) old new refl refl x)
+agreeing_said passes used w (Err (stops.Failed n)) k old new is x =
+    subst (λ v. RanAgreeing used (saying source_refusal (source_left passes)) w v old new) (sym is)
+    (no_rows passes used w (Err (stops.Failed n)) (stops.Failed n) (stops.Failed n) old new refl refl x)
+agreeing_said passes used w (Err stops.Memory) k old new is x =
+    subst (λ v. RanAgreeing used (saying source_refusal (source_left passes)) w v old new) (sym is)
+    (no_rows passes used w (Err stops.Memory) stops.Memory stops.Memory old new refl refl x)
 
 -- before any file is read memory ran out
 pub none_read : (passes : Passes) (R : List Rule) (w : SourceRequest) (told : InputState)

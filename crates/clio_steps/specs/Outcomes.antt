@@ -22,7 +22,7 @@ use Rattle.clio_accept.specs.Accepting.{accepting}
 use Rattle.clio_source.specs.Source.{ReadState, at_start, file_at, reading, roots, source_stages}
 use Rattle.clio_ending.specs.declared.ending.Refusal.TheVariants as refusals
 use Rattle.clio_ending.specs.Ending.{named_clash}
-use Rattle.clio_steps.specs.Steps.{Program, asked, wanted, target_cells, text_bytes}
+use Rattle.clio_steps.specs.Steps.{Program, exchange_input, wanted, target_cells, text_bytes}
 
 -- ---- how it is written
 
@@ -48,7 +48,7 @@ pub record IsExchangeIn (P : Program) (mode : Mode) (c : World) (e : Exchange) :
   pub accepted : (accepting P.list P.tests).passes c text mapping
   pub rows : List TableRows
   pub source : (source_stages P.passes).passes c (wanted mapping) rows
-  pub exchange : IsExchange P.apply (asked mode (mapping, rows)) e
+  pub exchange : IsExchange P.apply (exchange_input mode (mapping, rows)) e
 
 -- ---- a clash
 
@@ -61,7 +61,7 @@ pub record IsClashIn (P : Program) (mode : Mode) (c : World) (k : Clash) (table 
   pub accepted : (accepting P.list P.tests).passes c text mapping
   pub rows : List TableRows
   pub source : (source_stages P.passes).passes c (wanted mapping) rows
-  pub clash : HasClash P.apply (asked mode (mapping, rows)) k
+  pub clash : HasClash P.apply (exchange_input mode (mapping, rows)) k
   pub named : refusals.Clash k table key column ≡ named_clash mapping.target k
 
 -- ---- files that are asked for

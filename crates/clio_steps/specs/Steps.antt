@@ -89,14 +89,14 @@ rows_stages P =
 
 -- ---- the exchange
 
--- the exchange of these rows under this mapping
-abbrev pub asked : Mode → MappingAndRows → ExchangeInput
-asked mode p =
+-- what is asked: the exchange of these rows under this mapping
+abbrev pub exchange_input : Mode → MappingAndRows → ExchangeInput
+exchange_input mode p =
     record { rules = p.0.rules; schema = model_tables p.0.target; rows = facts p.1; mode = mode; limit = target_cells }
 
 -- the exchange of the rows; a clash is told with the names that the target has
 abbrev pub named_stage : Conversions → Mode → MappingAndRows → Stage Refusal MappingAndRows Exchange
-named_stage apply mode p = over (asked mode) (saying (exchange_refusal p.0.target) (exchanging apply))
+named_stage apply mode p = over (exchange_input mode) (saying (exchange_refusal p.0.target) (exchanging apply))
 
 -- the exchange of the rows, beside the mapping
 abbrev pub target_stages : Program → Mode → Stage Refusal MappingAndRows (Mapping × Exchange)

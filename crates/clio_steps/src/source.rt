@@ -12,8 +12,8 @@ ghost use Rattle.clio_ending.specs.Ending.{source_refusal};
 ghost use Rattle.clio_steps.specs.Steps.{wanted};
 
 use clio_accept::Mapping;
-use clio_ending::Refusal;
-use clio_source::{SourceRefusal, read_source};
+use clio_ending::{Refusal, with_source_refusal};
+use clio_source::read_source;
 use dx_funcs::{Meaning, Tests};
 use dx_instance::Instance;
 use dx_ports::{Inputs, Items, Text};
@@ -40,17 +40,7 @@ where
         (record { holds = I.holds inputs.new; faults = I.faults inputs.new; stopped = I.stopped inputs.new }) }
 {
     let conditions = mapping.conditions.items();
-    match read_source(alloc, inputs, &mapping.source, conditions, used, tests) {
-        Ok(source) => Ok(source),
-        Err(Stop::Refused(SourceRefusal::Rows { file, fault })) => {
-            Err(Stop::Refused(Refusal::Rows { file, fault }))
-        }
-        Err(Stop::Refused(SourceRefusal::Limit(limit))) => Err(Stop::Refused(Refusal::Limit(
-            limit,
-        ))),
-        Err(Stop::Failed(file)) => Err(Stop::Failed(file)),
-        Err(Stop::Memory) => Err(Stop::Memory),
-    }
+    with_source_refusal(read_source(alloc, inputs, &mapping.source, conditions, used, tests))
 }
 
 /// The rows of the source files of a mapping that pass its conditions, of which the columns that its rules use count; and how many

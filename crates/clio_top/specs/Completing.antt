@@ -96,7 +96,7 @@ abbrev pub HasNoFault : Program → World → List Word → Type 0
 HasNoFault P c words = (e : Refusal) → ¬ ((run_stages P).refuses c words e)
 
 -- Over files that are told, if no read and no write failed: if nothing is at fault, the command of the words is done; if there is a
--- reason to refuse, it is the answer, or one that is alike; and what these come to for an exchange and for showing.
+-- reason to refuse, it is the answer, or one that is alike; and what these come to for an exchange, for showing and for an answer.
 pub record Completes (P : Program) (c : World) (words : List Word) (r : Ending) : Type 0 where
   pub done : (k : Command) → says words ≡ Some k → HasNoFault P c words → OrMemory r ((d : Done) × HasDone k d × (r ≡ endings.Done d))
   pub refused : (e : Refusal) → (run_stages P).refuses c words e → OrMemory r ((f : Refusal) × AreAlike f e × (r ≡ refusal_ending f))

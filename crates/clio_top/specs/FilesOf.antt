@@ -19,7 +19,7 @@ use Rattle.clio_accept.specs.Laws.{MappingFits}
 use Rattle.clio_files.specs.Files.{AreFiles, files_of}
 use Rattle.clio_files.specs.Sheets.{HasTexts, PrintedFile}
 use Rattle.clio_files.specs.Texts.{FitTexts}
-use Rattle.clio_steps.specs.Steps.{Program, asked}
+use Rattle.clio_steps.specs.Steps.{Program, exchange_input}
 
 -- a column's name: a word, or that of one of the two columns that tables have for what lies in one another
 abbrev pub IsColumnName : Text → Type 0
@@ -48,4 +48,4 @@ pub record CanBeWritten (list : List Conversion) (M : Mapping) (e : Exchange) : 
 abbrev pub ExchangesCanBeWritten : Type 0
 ExchangesCanBeWritten =
     (P : Program) (mode : Mode) (M : Mapping) (rows : List TableRows) (e : Exchange) → MappingFits P.list P.tests M
-    → IsExchange P.apply (asked mode (M, rows)) e → CanBeWritten P.list M e
+    → IsExchange P.apply (exchange_input mode (M, rows)) e → CanBeWritten P.list M e

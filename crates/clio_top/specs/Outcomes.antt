@@ -14,7 +14,7 @@ use Rattle.clio_steps.specs.Steps.{Program}
 use Rattle.clio_steps.specs.Outcomes.{Writing, IsExchangeIn}
 use Rattle.clio_top.specs.Demo.{demo_text, demo_world}
 
--- such an exchange, whose files were written, and then their summary was said
+-- an exchange in a world, whose files were written and whose summary was said after them
 pub record IsDoneIn (P : Program) (mode : Mode) (nested : Bool) (c : World) (e : Exchange) (Wrote : Writing) : Type 0 where
   pub exchange : IsExchangeIn P mode c e
   pub files : List PrintedFile

@@ -1,4 +1,4 @@
--- What is done comes to, a finished exchange above all, and a clash: the sentence at the top of docs/ASSURANCE.md, of a run. And laws
+-- What a run that is done comes to, an exchange above all, and what a clash does: the sentence at the top of docs/ASSURANCE.md, of a run. And laws
 -- of its stages.
 use Rattle.std.specs.Prelude.{◌≡◌, ◌⊎◌, ◌↔◌, ℕ, List, codes, map, Some, None, Bool}
 use Rattle.dx_ports.specs.Members.{Distinct}
@@ -145,7 +145,7 @@ AskedInOrder =
 abbrev pub UsageIsOfWords : Type 0
 UsageIsOfWords = (P : Program) (c : World) (words : List Word) → (run_stages P).refuses c words refusals.Usage ↔ (says words ≡ None)
 
--- want of memory is no reason of accepting a text, and none of an exchange
+-- want of memory is no reason to refuse a text, nor an exchange
 abbrev pub MemoryIsNoReason : Type 0
 MemoryIsNoReason =
     (P : Program) (c : World) (text : List ℕ) (a : ExchangeInput)

@@ -2,7 +2,7 @@
 use Rattle.std.specs.Prelude.{◌≡◌, ℕ, List, [], Bool, Option}
 use Rattle.dx_ports.specs.Entries.{Entry, FileMap}
 use Rattle.dx_stages.specs.Ending.{PlanContent, OutputState}
-use Rattle.dx_stages.specs.Running.{InputState as ToldOf}
+use Rattle.dx_stages.specs.Running.{InputState}
 use Rattle.dx_stages.specs.Stages.{Stage, become, into}
 use Rattle.dx_funcs.specs.declared.conversion.Conversion.{Conversion}
 use Rattle.dx_exchange.specs.declared.mode.Mode.{Mode}
@@ -17,7 +17,7 @@ use Rattle.clio_ending.specs.declared.ending.Refusal.{Refusal}
 use Rattle.clio_steps.specs.Steps.{Program, mapping_stages, exchanges}
 
 -- what inputs and outputs tell
-abbrev pub input_state : Option FileMap → ℕ → Option (List ℕ) → ToldOf
+abbrev pub input_state : Option FileMap → ℕ → Option (List ℕ) → InputState
 input_state holds faults stopped = record { holds = holds; faults = faults; stopped = stopped }
 
 abbrev pub written : Option (List Entry) → Option (List ℕ) → OutputState

@@ -95,27 +95,17 @@ where
     }
 }
 
-/// Runs the command that the words say.
+/// Runs the command that the words say. `exchange` reads `mapping.clio` and the files of the source, puts those of the target and
+/// says the summary; `show` says rules and script; `demo` exchanges files that it makes, and says counts; `answer` also reads
+/// `query.clio`, and puts the certain answers; `judge` also reads a given target, and says the verdict; `compare` also reads
+/// `other.clio`, says whether the rules of each imply those of the other, and puts two instances for a direction that is not so.
+/// Everything is computed before the first file is put.
 ///
-/// `exchange` reads `mapping.clio` and the file of each source root, leaves out the rows that don't pass the mapping's conditions,
-/// as the row tests decide, computes the target, puts the files and says the summary. `show` reads `mapping.clio` and says its rules
-/// and their script. `demo` exchanges files that it makes for a number of employees, and says counts. With `--core` the target is a
-/// core. `answer` reads `mapping.clio`, `query.clio` and the source files, and puts the certain answers to the query. `judge` reads
-/// `mapping.clio`, the source files and for each target table a given file, and says the verdict on the given target. `compare` reads
-/// `mapping.clio` and `other.clio` and says whether the rules of each imply those of the other; for a direction that is not implied it
-/// puts two instances that show it. Everything is computed before the first file is put.
-///
-/// There is a world, a look-up from names to bytes, which is what the inputs hold if they tell. What is done is so there (specs/Promises):
-/// after `Done(Exchanged(e))`, `e` is the exchange of the mapping text and of the rows of the source files that pass its conditions, and
-/// exactly its files and its summary were written (`IsDone`); after `Done(Shown)` the rules of the mapping text and their script were
-/// said (`IsShown`); after `Done(Demo(e))` the summary of `e`, the exchange of the demo's own files (`IsDemo`); after
-/// `Done(Answered(a))` the file of `a` was written, which are exactly the certain answers (`IsAnswered`); after `Done(Judged(v))` the
-/// line of `v` was said, the verdict on the given files (`IsJudged`); after `Done(Compared(k))` the files and the lines of `k`, which
-/// tells exactly whether the rules of each mapping text imply those of the other (`IsCompared`). After `Clash` there is no solution
-/// (`IsClashOf`). What another ending leaves says `Leaves` of specs/Leaving: after `WriteFault` the first files of the list, and after
-/// all of them a prefix of the text; after `Memory` nothing, or the same; else nothing. If no call outside failed and the inputs tell,
-/// what there is a solution for is done, and what there is none for is a clash, or memory ran out (specs/Completing). In general the
-/// stages of the words (`run_stages`) give this ending there, and what was written is what they allow.
+/// There is a world, a look-up from names to bytes, which is what the inputs hold if they tell, where what is done is so
+/// (specs/Promises): of an exchange `IsDone`, of rules that were shown `IsShown`, of a demo `IsDemo`, of answers `IsAnswered`, of a
+/// verdict `IsJudged`, of a comparison `IsCompared`. After `Clash` there is no solution (`IsClashOf`). What is left after any ending
+/// says specs/Leaving. If no call outside failed and the inputs tell, what can be done is done, or memory ran out (specs/Completing).
+/// In general the stages of the words (`run_stages`) give this ending there, and what was written is what they allow.
 pub fn run<I: Inputs, O: Outputs, F, P, M>(
     alloc: Global,
     words: &Vec<Text>,

@@ -23,7 +23,7 @@ pub record IsBrokenKey (schema : List Table) (I : List TableRows) (b : BrokenKey
   pub within : b.right < length (rows_of I b.table)
   pub break : Break schema (facts I) (fact_at I b.table b.left) (fact_at I b.table b.right) (determination_at schema b.table b.key) b.column
 
--- the first link that does not hold, and a row that has not the row that it names
+-- the first link that does not hold, and a row that lacks the row that it names
 pub record IsLoneRow (schema : List Table) (I : List TableRows) (r : LoneRow) : Type 0 where
   pub first : IsFirstFailing (HasLink schema) (LinkHolds schema (facts I)) r.table r.link
   pub table : r.table < length I
@@ -54,9 +54,9 @@ pub record AreShadows (I : List TableRows) (t : ℕ) (columns : List ℕ) (S : L
 abbrev pub HasLinkedRow : List TableRows → ℕ → Link → ℕ → Type 0
 HasLinkedRow I t link p = (q : ℕ) × (q < length (rows_of I link.table)) × RowsAgree I t p link.from link.table link.to q
 
--- the first place of the table whose row has not the row that the link names, or each row has it
-abbrev pub IsFirstAlone : List TableRows → ℕ → Link → Option ℕ → Type 0
-IsFirstAlone I t link o = MatchOption o (RowsLead I t link) (λ p. (p < length (rows_of I t)) × (¬ (HasLinkedRow I t link p)))
+-- a place of the table whose row lacks the row that the link names, or each row has it
+abbrev pub IsAloneOrNone : List TableRows → ℕ → Link → Option ℕ → Type 0
+IsAloneOrNone I t link o = MatchOption o (RowsLead I t link) (λ p. (p < length (rows_of I t)) × (¬ (HasLinkedRow I t link p)))
 
 -- ---- one table
 

@@ -4,7 +4,7 @@ ghost use Rattle.dx_model.specs.Tables.{LinksHold};
 ghost use Rattle.dx_schema.specs.Tables.{model_tables, schema_widths};
 ghost use Rattle.dx_instance.specs.Stored.{facts, table_at, widths};
 ghost use Rattle.dx_holds.specs.Columns.{LinkFitsInstance};
-ghost use Rattle.dx_fails.specs.Shown.{AllLead, IsFirstAlone, IsLoneIn, IsLoneRow};
+ghost use Rattle.dx_fails.specs.Shown.{AllLead, IsAloneOrNone, IsLoneIn, IsLoneRow};
 
 use crate::shadows::{shadow_of, shadows};
 use dx_instance::Instance;
@@ -12,7 +12,7 @@ use dx_model::Link;
 use dx_schema::Schema;
 use std::alloc::{AllocError, Global};
 
-/// A table and a link of it that do not hold: a row, by its place, has not the row that the link names.
+/// A table and a link of it that do not hold: a row, by its place, lacks the row that the link names.
 #[derive(Clone, Copy, Debug)]
 pub struct LoneRow {
     pub table: u32,
@@ -20,7 +20,7 @@ pub struct LoneRow {
     pub place: u32,
 }
 
-// The first row of a table that has not the row that the link names.
+// A row of a table that lacks the row that the link names.
 fn first_alone(
     alloc: Global,
     instance: &Instance,
@@ -31,7 +31,7 @@ fn first_alone(
     requires fits { LinkFitsInstance instance.now (table_at instance.now table).width link.now }
     requires some { 1 ≤ length link.now.from }
     requires few { length link.now.from < 2 ^ 32 }
-    ensures { IfOk result (IsFirstAlone instance.now table link.now) }
+    ensures { IfOk result (IsAloneOrNone instance.now table link.now) }
 {
     let named = shadows(alloc, instance, link.table, link.to.items())?;
     for place in 0..instance.count(table) {
@@ -69,7 +69,7 @@ fn alone_in(
     Ok(None)
 }
 
-/// The first table and link that do not hold, with a row that has not the row that the link names. It goes once through the rows
+/// The first table and link that do not hold, with a row that lacks the row that the link names. It goes once through the rows
 /// of both tables for each link, whatever stands in them.
 ///
 /// # Errors

@@ -2,7 +2,7 @@
 //!
 //! `first_broken_key` gives the first table and determination that do not hold (a table's keys, and then its dependencies), two rows
 //! that agree on its left and a column of its right in which they differ, or tells that all of them hold (`KeysHold` of `dx_model`'s
-//! specs/Tables). `first_lone_row` gives the first table and link that do not hold, and a row that has not the row that the link
+//! specs/Tables). `first_lone_row` gives the first table and link that do not hold, and a row that lacks the row that the link
 //! names (specs/Shown, over specs/Firsts).
 //!
 //! Both go once through the rows, whatever stands in them: for a determination each row is compared with the first that has what it
