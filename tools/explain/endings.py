@@ -30,7 +30,7 @@ def usage(words, message):
         return
     if words[0] not in commands:
         yield f"`{visible(words[0][:60])}` is no command: {listed}" + (
-            "; the manual is man clio" if words[0] in ("help", "--help", "-h") else "")
+            "; the manual is man clio, that of clio-explain is man clio-explain" if words[0] in ("help", "--help", "-h") else "")
         return
     numbers = [word for word in words[1:] if re.fullmatch("[1-9][0-9]{0,4}|100000", word)]
     known = OPTIONS.get(words[0], set())
