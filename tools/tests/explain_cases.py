@@ -175,7 +175,29 @@ TRAPS = [
     Case("an open quote in the last field", {"mapping.clio": EMP, "emp.csv": "name,dept\na,\"b\nc,d\n"}, 0, ["a quote of emp.csv is never closed"]),
     Case("nothing to say", {"mapping.clio": EMP, "emp.csv": "name,dept\na,b\n"}, 0, []),
 ]
-CASES = TEXTS + ROWS + DOCUMENTS + LIMITS + WRITES + CLASHES + TRAPS
+AUDIT = {"mapping.clio": "mapping 3; source { set orders { no, buyer, tel; } } target { set sale { no, client; key (no); ref (client) -> client (cid); } "
+                         "set client { cid, name, tel; key (cid); dep (name) -> (tel); } } rule orders(n, b, t) -> sale(n, c), client(c, b, t);",
+         "orders.csv": "no,buyer,tel\n1,ann,\n2,?,7\n"}
+
+
+def judged(name, sales, clients, *wanted):
+    """A given target that is no solution."""
+    return Case(name, {**AUDIT, "given/sale.csv": "no,client\n" + sales, "given/client.csv": "cid,name,tel\n" + clients}, 0, list(wanted), ("judge",))
+
+
+VERDICTS = [
+    judged("a null in the place of an empty text", "1,?0.0.0\n", "?0.0.0,ann,?0.0.1\n", "rule 0: rule orders(", 'from orders.csv, line 2 (record 1): no = "1"',
+           'no row of given/client.csv has name = "ann", tel = ""', "nearest: given/client.csv, line 2 (record 1): cid = ?0.0.0", "tel must be the empty text"),
+    judged("a row that isn't there", "1,?0.0.0\n3,?0.0.0\n", "?0.0.0,ann,\n", "from orders.csv, line 3", 'no row of given/sale.csv has no = "2"\n', 'has name = "?", tel = "7"\n'),
+    judged("rows that don't meet", "1,?0.0.9\n", "?0.0.0,ann,\n", "each row that it asks for is there, but not joined as it asks: by sale.client, client.cid"),
+    judged("a broken key", "1,?0.0.0\n2,?0.0.1\n1,?0.0.5\n", "?0.0.0,ann,\n?0.0.1,??,7\n", "two rows of sale agree on (no) and differ in client:",
+           "given/sale.csv, line 2 (record 1)", "given/sale.csv, line 4 (record 3)"),
+    judged("a broken dependency", "1,?0.0.0\n2,?0.0.1\n", "?0.0.0,ann,\n?0.0.1,??,7\n?0.0.2,ann,8\n", "two rows of client agree on (name) and differ in tel:", "line 4 (record 3)"),
+    judged("a row that leads nowhere", "1,?0.0.0\n2,?0.0.1\n3,?0.0.2\n", "?0.0.0,ann,\n?0.0.1,??,7\n", "1 row of sale leads nowhere by (client) -> client (cid):",
+           'given/sale.csv, line 4 (record 3): no = "3", client = ?0.0.2'),
+    judged("a table without rows", "", "", 'no row of given/sale.csv has no = "1"', 'no row of given/client.csv has name = "ann", tel = ""\n'),
+]
+CASES = TEXTS + ROWS + DOCUMENTS + LIMITS + WRITES + CLASHES + VERDICTS + TRAPS
 WIDE = "mapping 1; source { set a { x; } } target { set b { x; } } line a.x -> b.x;"
 LARGE_CASES = [
     limit("source cells", WIDE, "4,000,001 cells", files={"a.csv": lambda: "x\n" + "a\n" * 4_000_001}, words=("exchange",)),
