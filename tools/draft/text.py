@@ -2,7 +2,7 @@
 from .names import shown
 
 NO_MATCH = {
-    "source": "and lines drop a row that has no match: leave the ref out if no line needs it, or make it optional (mapping 2)",
+    "source": "and lines drop rows without a match: leave the ref out if no line needs it, or make it optional (mapping 2)",
     "target": "but a row without a link would get one to a row of nulls: make the ref optional (mapping 2)",
 }
 

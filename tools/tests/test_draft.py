@@ -89,7 +89,7 @@ class Sqlite(Draft):
                      "// ref (a) -> a (id): it would close a circle of refs", "ref (sender) -> a (id);", "a second ref to a", "key (sender, receiver);",
                      "key (y, x);", "key (z);", "ref (x, y) -> pair (x, y);", 'the index "lower" is over an expression']:
             self.assertIn(line, text)
-        self.assertIn("ref (b) -> b (id);  // NULL is allowed there, and lines drop a row that has no match: leave the ref out if no line needs it, or make it", text)
+        self.assertIn("ref (b) -> b (id);  // NULL is allowed there, and lines drop rows without a match: leave the ref out if no line needs it, or make it", text)
         self.assertIn("ref (b) -> b (id);  // NULL is allowed there, but a row without a link would get one to a row of nulls",
                       self.printed("clio-draft", "sqlite", "old.db", "--side", "target"))
         self.assertNotIn("seen", text)
