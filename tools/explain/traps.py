@@ -124,7 +124,7 @@ class Traps:
             if 0 < count < len(rows):
                 fill = f"rule {unknown[0]} fills" if len(unknown) == 1 else f"rules {listed(map(str, unknown))} fill"
                 yield (f"{count:,} of {len(rows):,} rows of {table.name} {'holds' if count == 1 else 'hold'} nothing but nulls, since {fill} no column there: "
-                       f"if that isn't meant, make refs to {table.name} optional (mapping 2){'' if in_core_mode else ', or use core mode'}")
+                       f"if that isn't meant, {'' if in_core_mode else 'use core mode, '}make refs to {table.name} optional (mapping 2), or write rules in place of lines")
 
     def dropped(self, source):
         """Refs of the source that drop rows, and refs that no line uses."""

@@ -169,9 +169,9 @@ TRAPS = [
     Case("no key", {"mapping.clio": "mapping 1; source { set sale { id, buyer; } } target { set customer { cid, cname; } set orders { oid, cid; ref (cid) -> customer (cid); } }"
                     "line sale.id -> orders.oid; line sale.buyer -> customer.cname;", "sale.csv": "id,buyer\n"}, 0, ["each match of rule 0 makes a row of its own in customer"]),
     Case("rows of nulls", {"mapping.clio": LINKED, "sale.csv": "id,buyer\n1,ann\n", "ware.csv": "sku\n7\n8\n"}, 0,
-         ["2 of 3 rows of orders hold nothing but nulls, since rule 1 fills no column there: if that isn't meant, make refs to orders optional (mapping 2), or use core"]),
+         ["2 of 3 rows of orders hold nothing but nulls, since rule 1 fills no column there: if that isn't meant, use core mode, make refs to orders optional (mapping 2), or"]),
     Case("rows of nulls in core mode", {"mapping.clio": LINKED, "sale.csv": "id,buyer\n1,ann\n", "ware.csv": "sku\n7\n"}, 0,
-         ["1 of 2 rows of orders holds nothing but nulls", "make refs to orders optional (mapping 2)\n"], ("exchange", "--core")),
+         ["1 of 2 rows of orders holds nothing but nulls", "if that isn't meant, make refs to orders optional (mapping 2), or write rules"], ("exchange", "--core")),
     Case("an open quote in the last field", {"mapping.clio": EMP, "emp.csv": "name,dept\na,\"b\nc,d\n"}, 0, ["a quote of emp.csv is never closed"]),
     Case("nothing to say", {"mapping.clio": EMP, "emp.csv": "name,dept\na,b\n"}, 0, []),
 ]
