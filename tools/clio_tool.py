@@ -42,7 +42,7 @@ def run(name, main):
         os.dup2(os.open(os.devnull, os.O_WRONLY), sys.stdout.fileno())
         sys.exit(1)
     except (Refused, OSError) as why:
-        remark(name, why)
+        remark(name, f"{why.filename}: {why.strerror}" if getattr(why, "filename", None) else why)
         sys.exit(2)
     except MemoryError:
         remark(name, "out of memory")

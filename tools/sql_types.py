@@ -153,5 +153,5 @@ def check_cell(text, type_name, is_key):
     if type_name == "text":
         return None
     if is_open(text):
-        return f"is {text or 'empty'}, and a column of a key or ref has a value in each row: give it the type text, or numbers by clio-ids" if is_key else None
+        return f"is {text or 'empty'}, and a column of a key or ref must have a value in each row: give it the type text, numbers by clio-ids, or a rule that fills it" if is_key else None
     return None if HOLDS[type_name](text) else f"is {text[:80]!r}, which is no {type_name} as it is written"

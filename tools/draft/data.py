@@ -77,8 +77,8 @@ class Written:
             there = set(tuples(self.folder, ref.other, referred))
             missing = sum(1 for row in tuples(self.folder, table, own) if row not in there)
             if missing:
-                rows = "1 row has" if missing == 1 else f"{missing} rows have"
-                self.remark(f"{table.word}: {rows} no match in {ref.other.word} by ({', '.join(own)}): lines along the ref drop them")
+                rows, them = ("1 row has", "it") if missing == 1 else (f"{missing} rows have", "them")
+                self.remark(f"{table.word}: {rows} no match in {ref.other.word} by ({', '.join(own)}): lines along the ref drop {them}")
 
 
 def times(count):

@@ -1,6 +1,11 @@
 """A side of a mapping text, printed."""
 from .names import shown
 
+NO_MATCH = {
+    "source": "and lines drop rows without a match: leave the ref out if no line needs it, or make it optional (mapping 2)",
+    "target": "but a row without a link would get one to a row of nulls: make the ref optional (mapping 2)",
+}
+
 
 def side_text(side):
     """The text, with what can't be said as comments."""
@@ -62,7 +67,7 @@ def ref_lines(table, side_name):
         line = f"ref ({', '.join(own)}) -> {ref.other.word} ({', '.join(referred)});"
         if ref.other in seen:
             line += f"  // a second ref to {ref.other.word}: a line of it goes both ways, so leave one out or write rules"
-        elif side_name == "source" and any(table.column(name).may_be_null for name in ref.columns):
-            line += "  // NULL is allowed there, and lines drop a row that has no match: leave the ref out if no line needs it"
+        elif any(table.column(name).may_be_null for name in ref.columns):
+            line += f"  // NULL is allowed there, {NO_MATCH[side_name]}"
         seen.append(ref.other)
         yield line

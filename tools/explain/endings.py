@@ -5,7 +5,7 @@ import signal
 
 from schema import tables_of
 
-from . import clashes, document_faults, given_faults, mapping_faults, other_faults, query_faults, sizes, system_faults, table_faults, traps
+from . import clashes, document_faults, given_faults, mapping_faults, other_faults, query_faults, sizes, system_faults, table_faults, traps, verdicts
 from .placed import MappingText
 from .said import visible
 from .source import file_of
@@ -30,7 +30,7 @@ def usage(words, message):
         return
     if words[0] not in commands:
         yield f"`{visible(words[0][:60])}` is no command: {listed}" + (
-            "; the manual is man clio" if words[0] in ("help", "--help", "-h") else "")
+            "; the manual is man clio, that of clio-explain is man clio-explain" if words[0] in ("help", "--help", "-h") else "")
         return
     numbers = [word for word in words[1:] if re.fullmatch("[1-9][0-9]{0,4}|100000", word)]
     known = OPTIONS.get(words[0], set())
@@ -70,6 +70,8 @@ def explained(status, message, words):
             ": the stack ran out" if -status == signal.SIGSEGV else ": memory may have run out" if -status == signal.SIGKILL else "")
     elif status == 0 and words[0] in ("show", "exchange") and content is not None:
         yield from traps.explain(words, content)
+    elif status == 0 and words == ["judge"] and content is not None:
+        yield from verdicts.explain(content)
     elif status == 2:
         yield from usage(words, message)
     elif status == 3 and content is not None:

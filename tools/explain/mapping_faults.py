@@ -11,6 +11,7 @@ from schema import tables_of
 from .placed import MappingText, open_marks, token_length
 from .said import amount, listed, visible, with_caret
 
+LATER = {"optional": (2, ";"), "only": (2, '"line"'), "dep": (3, '"key"')}  # the version that a word takes, and what can be in its place before
 KINDS = {"word": "a name", "string": 'a text in "', "->": "`->`"}
 CHARACTERS = {
     b"'": "texts are in \", not in '", b"#": "a comment begins with //", b"-": "a name has letters, digits and _ alone; an arrow is ->",
@@ -52,12 +53,21 @@ def at_byte(kind, place, text, message):
     yield from with_caret(text.content, place, token_length(text.content, place))
     if kind in ("unexpected token", "text ended") and text.refusal and text.refusal.message == message:
         yield "here can be " + " or ".join(KINDS.get(one, f"`{one.strip(chr(34))}`") for one in text.reader.allowed)
+        yield from of_version(place, text)
     if kind == "text ended":
         yield from unclosed(text.content)
     elif kind == "bad character":
         yield from of_character(text.content, place)
     elif kind in ("unknown name", "wrong number of cells", "unsafe variable") and not text.refusal:
         yield from of_name(place, text)
+
+
+def of_version(place, text):
+    """A word of a later version of the mapping text than the one that its beginning names."""
+    word = text.content[place:place + token_length(text.content, place)].decode("utf-8", "replace")
+    version, beside = LATER.get(word, (0, None))
+    if version > text.reader.version and beside in text.reader.allowed:
+        yield f"`{word}` takes version {version}: let the text begin with mapping {version};"
 
 
 def unclosed(content):

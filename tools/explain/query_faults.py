@@ -99,4 +99,4 @@ def of_name(place, parts, sides):
                    "all parts answer rows of one width")
         if any(cell.kind == "word" and cell.start == place for cell in part.answer):
             variables = dict.fromkeys(cell.text for atom in part.atoms for cell in atom.cells if cell.kind == "word")
-            yield f"a variable that is answered stands in an atom of its own part; those of part {number}: {listed(variables) or 'none'}"
+            yield f"a variable that is answered must stand in a table of its part; those of part {number}: {listed(variables) or 'none'}"

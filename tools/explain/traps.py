@@ -1,7 +1,7 @@
 """Warnings after a run without a refusal: what the manual's traps name."""
 import pathlib
 
-from clio_csv import ends_open
+from clio_csv import ends_open, records
 from names import read_mapping
 from refusals import Limit
 from rules import EXISTENTIAL, LITERAL, VARIABLE, closed, printed as printed_rule
@@ -78,14 +78,14 @@ class Traps:
     def ungrouped(self):
         """Tables without a key of their own to which rows refer by a value that rules leave open."""
         for number, table in enumerate(self.target):
-            for rule in self.rules:
+            for place, rule in enumerate(self.rules):
                 if any(link.table == number and not has_other_key(table, link.referred) and is_open(rule, atom, link)
                        for atom in rule.conclusion for link in self.target[atom.table].links):
-                    yield (f"{table.name} has no key that decides which rows are one, and other rows refer to it by a value that rules leave open: "
-                           "each match makes a row of its own")
+                    yield (f"each match of rule {place} makes a row of its own in {table.name}: the rule leaves open the value by which other rows "
+                           f"refer to it, and {table.name} has no other key")
                     break
 
-    def of_data(self):
+    def of_data(self, in_core_mode):
         """What happened to the rows of the source."""
         for table in self.source:
             if table.parent is None and not table.inner:
@@ -98,6 +98,7 @@ class Traps:
             if rows.repeats:
                 yield f"{table.name}: of {amount(rows.records, 'row')}, {rows.repeats:,} {'repeats' if rows.repeats == 1 else 'repeat'} an earlier one, which counts once"
         yield from self.dropped(source)
+        yield from self.rows_of_nulls(in_core_mode)
         empty = {}
         for number, rule in enumerate(self.rules):
             try:
@@ -111,6 +112,19 @@ class Traps:
             if count > 1:
                 names = listed(self.target[table].columns[column] for column in self.target[table].keys[key])
                 yield f"{count:,} rows of {self.target[table].name} have nothing in their key ({names}), so they are one row"
+
+    def rows_of_nulls(self, in_core_mode):
+        """Rows in which nothing is known, as a ref of the target asks for, beside others of their table."""
+        for number, table in enumerate(self.target):
+            unknown = [place for place, rule in enumerate(self.rules) if any(atom.table == number and is_unknown(atom) for atom in rule.conclusion)]
+            if not unknown:
+                continue
+            rows = [fields for _, fields in records(pathlib.Path("out", f"{table.name}.csv").read_bytes())][1:]
+            count = sum(1 for fields in rows if all(field[:1] == "?" and field[1:2] != "?" for field in fields))
+            if 0 < count < len(rows):
+                fill = f"rule {unknown[0]} fills" if len(unknown) == 1 else f"rules {listed(map(str, unknown))} fill"
+                yield (f"{count:,} of {len(rows):,} rows of {table.name} {'holds' if count == 1 else 'hold'} nothing but nulls, since {fill} no column there: "
+                       f"if that isn't meant, {'' if in_core_mode else 'use core mode, '}make refs to {table.name} optional (mapping 2), or write rules in place of lines")
 
     def dropped(self, source):
         """Refs of the source that drop rows, and refs that no line uses."""
@@ -156,7 +170,7 @@ class Traps:
 
     def cure(self, link):
         if self.is_used(link):
-            return "make the ref optional, and they are taken too"
+            return "make the ref optional (mapping 2), and they are taken too"
         return "no line uses the ref: leave it out"
 
     def became_one(self, number, rule, matches):
@@ -195,6 +209,11 @@ def filled_cells(rule):
             if cell.kind != EXISTENTIAL or cells.count(cell) > 1]
 
 
+def is_unknown(atom):
+    """Whether a rule leaves each cell of a row open."""
+    return all(cell.kind == EXISTENTIAL for cell in atom.cells)
+
+
 def has_other_key(table, referred):
     """Whether a table has a key besides the columns that are referred to."""
     return any(not set(key) <= set(referred) for key in table.keys)
@@ -212,6 +231,6 @@ def explain(words, content):
         return
     yield from traps.of_mapping()
     if words[0] == "exchange":
-        yield from traps.of_data()
+        yield from traps.of_data("--core" in words)
     else:
         yield from traps.unused_refs()

@@ -41,6 +41,8 @@ def limit(name, content, *wanted, files=None, words=("show",)):
 TEXTS = [
     Case("no mapping", {"my.clio": "", "sub/mapping.clio": ""}, 4, ["there is my.clio", "these folders have one: sub"], ("show",)),
     text("cut", "mapping 1; source {", "line 1, column 20:", "here can be `set` or `}`", "1 bracket not closed", "line 1, column 19:"),
+    text("a word of a later version", "mapping 1; source{set a{x; ref (x) -> b (x) optional;} set b{x;}}", "here can be `;`", "`optional` takes version 2: let the text begin with mapping 2;"),
+    text("a condition in version 1", SIDES + "only a.x filled;", "here can be `line` or `rule`", "`only` takes version 2"),
     text("another version", "mapping 9;", "mapping 9;\n" + " " * 12 + "^", "here can be `1`"),
     text("a bracket in the place of a mark", "mapping 1;\r\nsource{set emp{name}}", "line 2, column 20:", "here can be `,` or `;`"),
     text("a hyphen", "mapping 1;source{set e-mail{x;}}", "column 23:", "a name has letters, digits and _ alone"),
@@ -147,6 +149,8 @@ CLASHES = [
 ]
 DEPT = ("mapping 1; source { set emp { name, dept; ref (dept) -> dept (dname); } set dept { dname, city; } } target { set person { name, town; } }"
         "line emp.name -> person.name;")
+LINKED = ("mapping 1; source { set sale { id, buyer; } set ware { sku; } } target { set orders { oid, who; key (oid); } set item { sku, oid; ref (oid) -> orders (oid); } }"
+          "line sale.id -> orders.oid; line sale.buyer -> orders.who; line ware.sku -> item.sku;")
 TRAPS = [
     Case("a ref that drops rows", {"mapping.clio": DEPT, "emp.csv": "name,dept\nann,toys\nbob,books\nkim,\n", "dept.csv": "dname,city\ntoys,Bonn\n"}, 0,
          ["no rule uses 1 column of dept: city", "nothing fills 1 column of person, and nothing refers there: town",
@@ -163,11 +167,37 @@ TRAPS = [
                         "a.csv": "x,y\n,\n"}, 0, ["2 rows of b have nothing in their key (x)"]),
     Case("texts alone", {"mapping.clio": SIDES + 'line "t" -> b.x;', "a.csv": "x,y\n"}, 0, ["no rule uses a of the source", "no rule makes rows of b: lines from texts alone"]),
     Case("no key", {"mapping.clio": "mapping 1; source { set sale { id, buyer; } } target { set customer { cid, cname; } set orders { oid, cid; ref (cid) -> customer (cid); } }"
-                    "line sale.id -> orders.oid; line sale.buyer -> customer.cname;", "sale.csv": "id,buyer\n"}, 0, ["customer has no key that decides"]),
+                    "line sale.id -> orders.oid; line sale.buyer -> customer.cname;", "sale.csv": "id,buyer\n"}, 0, ["each match of rule 0 makes a row of its own in customer"]),
+    Case("rows of nulls", {"mapping.clio": LINKED, "sale.csv": "id,buyer\n1,ann\n", "ware.csv": "sku\n7\n8\n"}, 0,
+         ["2 of 3 rows of orders hold nothing but nulls, since rule 1 fills no column there: if that isn't meant, use core mode, make refs to orders optional (mapping 2), or"]),
+    Case("rows of nulls in core mode", {"mapping.clio": LINKED, "sale.csv": "id,buyer\n1,ann\n", "ware.csv": "sku\n7\n"}, 0,
+         ["1 of 2 rows of orders holds nothing but nulls", "if that isn't meant, make refs to orders optional (mapping 2), or write rules"], ("exchange", "--core")),
     Case("an open quote in the last field", {"mapping.clio": EMP, "emp.csv": "name,dept\na,\"b\nc,d\n"}, 0, ["a quote of emp.csv is never closed"]),
     Case("nothing to say", {"mapping.clio": EMP, "emp.csv": "name,dept\na,b\n"}, 0, []),
 ]
-CASES = TEXTS + ROWS + DOCUMENTS + LIMITS + WRITES + CLASHES + TRAPS
+AUDIT = {"mapping.clio": "mapping 3; source { set orders { no, buyer, tel; } } target { set sale { no, client; key (no); ref (client) -> client (cid); } "
+                         "set client { cid, name, tel; key (cid); dep (name) -> (tel); } } rule orders(n, b, t) -> sale(n, c), client(c, b, t);",
+         "orders.csv": "no,buyer,tel\n1,ann,\n2,?,7\n"}
+
+
+def judged(name, sales, clients, *wanted):
+    """A given target that is no solution."""
+    return Case(name, {**AUDIT, "given/sale.csv": "no,client\n" + sales, "given/client.csv": "cid,name,tel\n" + clients}, 0, list(wanted), ("judge",))
+
+
+VERDICTS = [
+    judged("a null in the place of an empty text", "1,?0.0.0\n", "?0.0.0,ann,?0.0.1\n", "rule 0: rule orders(", 'from orders.csv, line 2 (record 1): no = "1"',
+           'no row of given/client.csv has name = "ann", tel = ""', "nearest: given/client.csv, line 2 (record 1): cid = ?0.0.0", "tel must be the empty text"),
+    judged("a row that isn't there", "1,?0.0.0\n3,?0.0.0\n", "?0.0.0,ann,\n", "from orders.csv, line 3", 'no row of given/sale.csv has no = "2"\n', 'has name = "?", tel = "7"\n'),
+    judged("rows that don't meet", "1,?0.0.9\n", "?0.0.0,ann,\n", "each row that it asks for is there, but not joined as it asks: by sale.client, client.cid"),
+    judged("a broken key", "1,?0.0.0\n2,?0.0.1\n1,?0.0.5\n", "?0.0.0,ann,\n?0.0.1,??,7\n", "two rows of sale agree on (no) and differ in client:",
+           "given/sale.csv, line 2 (record 1)", "given/sale.csv, line 4 (record 3)"),
+    judged("a broken dependency", "1,?0.0.0\n2,?0.0.1\n", "?0.0.0,ann,\n?0.0.1,??,7\n?0.0.2,ann,8\n", "two rows of client agree on (name) and differ in tel:", "line 4 (record 3)"),
+    judged("a row that leads nowhere", "1,?0.0.0\n2,?0.0.1\n3,?0.0.2\n", "?0.0.0,ann,\n?0.0.1,??,7\n", "1 row of sale leads nowhere by (client) -> client (cid):",
+           'given/sale.csv, line 4 (record 3): no = "3", client = ?0.0.2'),
+    judged("a table without rows", "", "", 'no row of given/sale.csv has no = "1"', 'no row of given/client.csv has name = "ann", tel = ""\n'),
+]
+CASES = TEXTS + ROWS + DOCUMENTS + LIMITS + WRITES + CLASHES + VERDICTS + TRAPS
 WIDE = "mapping 1; source { set a { x; } } target { set b { x; } } line a.x -> b.x;"
 LARGE_CASES = [
     limit("source cells", WIDE, "4,000,001 cells", files={"a.csv": lambda: "x\n" + "a\n" * 4_000_001}, words=("exchange",)),

@@ -89,10 +89,13 @@ class Sqlite(Draft):
                      "// ref (a) -> a (id): it would close a circle of refs", "ref (sender) -> a (id);", "a second ref to a", "key (sender, receiver);",
                      "key (y, x);", "key (z);", "ref (x, y) -> pair (x, y);", 'the index "lower" is over an expression']:
             self.assertIn(line, text)
+        self.assertIn("ref (b) -> b (id);  // NULL is allowed there, and lines drop rows without a match: leave the ref out if no line needs it, or make it", text)
+        self.assertIn("ref (b) -> b (id);  // NULL is allowed there, but a row without a link would get one to a row of nulls",
+                      self.printed("clio-draft", "sqlite", "old.db", "--side", "target"))
         self.assertNotIn("seen", text)
         self.assertNotIn("key (x);", text)
         _, _, said = self.tool("clio-draft", "sqlite", "old.db", "--data", ".")
-        self.assertIn("far: 2 rows have no match in pair by (x, y)", said)
+        self.assertIn("far: 2 rows have no match in pair by (x, y): lines along the ref drop them", said)
 
     def test_limits(self):
         many = ", ".join(f"c{number}" for number in range(65))

@@ -3,6 +3,7 @@
     python3 tests/test_explain.py large    at clio's limits, some minutes
 """
 import contextlib
+import csv
 import os
 import pathlib
 import random
@@ -165,6 +166,35 @@ class Explain(unittest.TestCase):
                 with self.subTest(f"{kind} {number}"), self.there(case.files):
                     self.try_random(counts)
         self.assertGreaterEqual(min(counts.values()), 3, counts)
+
+    def test_verdicts(self):
+        """Something is said of each random target with a row less or a value changed exactly if it is no solution."""
+        counts = {True: 0, False: 0}
+        for kind in "keyed", "lines", "rules":
+            for number in range(8 * TIMES):
+                chance = random.Random(f"verdict {kind} {number}")
+                with self.subTest(f"{kind} {number}"), self.there(random_case(chance, kind).files):
+                    if run(["clio", "exchange"]).returncode == 0:
+                        pathlib.Path("out").rename("given")
+                        self.damage(chance)
+                        broken = b"not a solution" in run(["clio", "judge"]).stdout
+                        said = list(explained(0, "", ["judge"]))
+                        self.assertEqual(bool(said), broken, said)
+                        self.assertTrue(all(line.isprintable() for line in said))
+                        counts[broken] += 1
+        self.assertGreaterEqual(min(counts.values()), 3, counts)
+
+    def damage(self, chance):
+        """Takes a row out of a given table, or changes one of its values."""
+        path = chance.choice([path for path in sorted(pathlib.Path("given").glob("*.csv")) if path.name not in ("nulls.csv", "fold.csv")])
+        header, *rows = [fields for _, fields in records(path.read_bytes())]
+        if rows:
+            row = rows.pop(chance.randrange(len(rows)))
+            if chance.random() < .6:
+                row[chance.randrange(len(row))] = chance.choice(["?9.9.9", "a", ""])
+                rows.append(row)
+        with open(path, "w", newline="", encoding="utf-8") as file:
+            csv.writer(file, lineterminator="\n").writerows([header, *rows])
 
     def try_random(self, counts):
         """A clash exactly if clio ends with 3, and else the same target."""

@@ -100,7 +100,7 @@ class Refusals(Shop):
             self.file("out/b0.csv", content)
             self.refused("clio-tables", "postgres", why=why)
             self.refused("clio-tables", "sqlite", why=why)
-        self.refused("clio-tables", "postgres", "other.clio", why="other.clio")
+        self.refused("clio-tables", "postgres", "other.clio", why="clio-tables: other.clio: No such file")
         self.refused("clio-tables", "mysql", why="usage")
         self.file("mapping.clio", "mapping 1; source { set x {")
         self.refused("clio-tables", "source", why="mapping.clio")
