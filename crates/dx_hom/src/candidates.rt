@@ -23,6 +23,16 @@ const LOOKED_AT_WIDELY: usize = 64;
 /// Up to how many candidates are counted. If more facts than this are left, candidates are counted for the first step alone.
 const FEW: u32 = 16;
 
+/// The facts that are left: those of a list from a place of an order on.
+#[derive(Drop)]
+pub(crate) struct FactsLeft<'a> {
+    pub from: &'a [Fact],
+    pub order: &'a [usize],
+    pub start: usize,
+    ghost some: { start < length order.now },
+    ghost within: { Each order.now (λ i. i < length from.now) },
+}
+
 // What a value becomes by what was found, if that is known.
 fn known<'a>(found: &Bindings, into: &'a Instance, value: &'a Value) -> Option<&'a Value>
     requires { Each found.now.cells (IsNullCell into.now) }
@@ -133,42 +143,34 @@ pub(crate) fn fact_at_turn<'a>(from: &'a [Fact], order: &[usize], place: usize) 
 }
 
 // The first of the facts that are left of which a null was found, or the first of them.
-fn first_linked(found: &Bindings, from: &[Fact], order: &[usize], start: usize) -> usize
-    requires start { start < length order.now }
-    requires within { Each order.now (λ i. i < length from.now) }
-    ensures after { start ≤ result }
-    ensures within { result < length order.now }
+fn first_linked(found: &Bindings, left: &FactsLeft<'_>) -> usize
+    ensures after { left.now.start ≤ result }
+    ensures within { result < length left.now.order.now }
 {
-    for place in start..order.len() {
-        if is_linked(found, fact_at_turn(from, order, place)) {
+    for place in left.start..left.order.len() {
+        if is_linked(found, fact_at_turn(left.from, left.order, place)) {
             return place;
         }
     }
-    start
+    left.start
 }
 
 // The first of the next facts with which the fewest places agree, of those that are looked at.
-fn first_with_fewest(
-    found: &Bindings,
-    into: &Instance,
-    from: &[Fact],
-    order: &[usize],
-    start: usize,
-) -> usize
-    requires start { start < length order.now }
-    requires fits { (f : FactRow) → f ∈ from.now → HasTableIn into.now f }
+fn first_with_fewest(found: &Bindings, into: &Instance, left: &FactsLeft<'_>) -> usize
+    requires fits { (f : FactRow) → f ∈ left.now.from.now → HasTableIn into.now f }
     requires cells { Each found.now.cells (IsNullCell into.now) }
-    requires within { Each order.now (λ i. i < length from.now) }
-    ensures after { start ≤ result }
-    ensures within { result < length order.now }
+    ensures after { left.now.start ≤ result }
+    ensures within { result < length left.now.order.now }
 {
+    let start = left.start;
     let mut best = start;
     let mut fewest = FEW + 1;
-    for place in start..order.len() {
+    for place in start..left.order.len() {
         if fewest <= 1 || place - start == LOOKED_AT {
             break;
         }
-        let count = count_to(found, into, fact_at_turn(from, order, place), fewest);
+        let fact = fact_at_turn(left.from, left.order, place);
+        let count = count_to(found, into, fact, fewest);
         if count < fewest {
             best = place;
             fewest = count;
@@ -188,16 +190,15 @@ fn has_constant(fact: &Fact) -> bool {
 }
 
 // The only one of the next facts that has a constant, of those that are looked at.
-fn only_with_constant(from: &[Fact], order: &[usize], start: usize) -> Option<usize>
-    requires { Each order.now (λ i. i < length from.now) }
-    ensures { IfSome result (λ p. (start ≤ p) × (p < length order.now)) }
+fn only_with_constant(left: &FactsLeft<'_>) -> Option<usize>
+    ensures { IfSome result (λ p. (left.now.start ≤ p) × (p < length left.now.order.now)) }
 {
     let mut only = None;
-    for place in start..order.len() {
-        if place - start == LOOKED_AT {
+    for place in left.start..left.order.len() {
+        if place - left.start == LOOKED_AT {
             break;
         }
-        if has_constant(fact_at_turn(from, order, place)) {
+        if has_constant(fact_at_turn(left.from, left.order, place)) {
             if only.is_some() {
                 return None;
             }
@@ -208,23 +209,15 @@ fn only_with_constant(from: &[Fact], order: &[usize], start: usize) -> Option<us
 }
 
 // The fact that is best moved first. If only one has a constant, it is that one; else candidates are counted.
-fn first_fact(
-    found: &Bindings,
-    into: &Instance,
-    from: &[Fact],
-    order: &[usize],
-    start: usize,
-) -> usize
-    requires start { start < length order.now }
-    requires fits { (f : FactRow) → f ∈ from.now → HasTableIn into.now f }
+fn first_fact(found: &Bindings, into: &Instance, left: &FactsLeft<'_>) -> usize
+    requires fits { (f : FactRow) → f ∈ left.now.from.now → HasTableIn into.now f }
     requires cells { Each found.now.cells (IsNullCell into.now) }
-    requires within { Each order.now (λ i. i < length from.now) }
-    ensures after { start ≤ result }
-    ensures within { result < length order.now }
+    ensures after { left.now.start ≤ result }
+    ensures within { result < length left.now.order.now }
 {
-    match only_with_constant(from, order, start) {
+    match only_with_constant(left) {
         Some(place) => place,
-        None => first_with_fewest(found, into, from, order, start),
+        None => first_with_fewest(found, into, left),
     }
 }
 
@@ -234,30 +227,27 @@ fn most_pressing(
     found: &Bindings,
     into: &Instance,
     failures: &Failures,
-    from: &[Fact],
-    order: &[usize],
-    start: usize,
+    left: &FactsLeft<'_>,
 ) -> usize
-    requires start { start < length order.now }
-    requires fits { (f : FactRow) → f ∈ from.now → HasTableIn into.now f }
+    requires fits { (f : FactRow) → f ∈ left.now.from.now → HasTableIn into.now f }
     requires cells { Each found.now.cells (IsNullCell into.now) }
-    requires within { Each order.now (λ i. i < length from.now) }
-    ensures after { start ≤ result }
-    ensures within { result < length order.now }
+    ensures after { left.now.start ≤ result }
+    ensures within { result < length left.now.order.now }
 {
+    let start = left.start;
     let mut best = start;
     let mut fewest = FEW + 1;
     let mut most = 0;
-    for place in start..order.len() {
+    for place in start..left.order.len() {
         if fewest == 0 || place - start == LOOKED_AT_WIDELY {
             break;
         }
-        let fact = fact_at_turn(from, order, place);
+        let fact = fact_at_turn(left.from, left.order, place);
         if !is_linked(found, fact) {
             continue;
         }
         let count = count_to(found, into, fact, fewest + 1);
-        let failed = failures.of(order[place]);
+        let failed = failures.of(left.order[place]);
         if count < fewest || (count == fewest && failed > most) {
             best = place;
             fewest = count;
@@ -273,30 +263,32 @@ pub(crate) fn next_fact(
     found: &Bindings,
     into: &Instance,
     failures: &Failures,
-    from: &[Fact],
-    order: &[usize],
-    start: usize,
+    left: &FactsLeft<'_>,
 ) -> usize
-    requires start { start < length order.now }
-    requires fits { (f : FactRow) → f ∈ from.now → HasTableIn into.now f }
+    requires fits { (f : FactRow) → f ∈ left.now.from.now → HasTableIn into.now f }
     requires cells { Each found.now.cells (IsNullCell into.now) }
-    requires within { Each order.now (λ i. i < length from.now) }
-    ensures after { start ≤ result }
-    ensures within { result < length order.now }
+    ensures after { left.now.start ≤ result }
+    ensures within { result < length left.now.order.now }
 {
-    let left = order.len() - start;
-    if left == 1 {
+    let start = left.start;
+    let many = left.order.len() - start;
+    if many == 1 {
         return start;
     }
     if start == 0 {
-        return first_fact(found, into, from, order, start);
+        return first_fact(found, into, left);
     }
-    let first = first_linked(found, from, order, start);
+    let first = first_linked(found, left);
+    let later = FactsLeft {
+        from: left.from,
+        order: left.order,
+        start: first,
+    };
     if failures.are_many(start) {
-        return most_pressing(found, into, failures, from, order, first);
+        return most_pressing(found, into, failures, &later);
     }
-    if left > FEW as usize {
+    if many > FEW as usize {
         return first;
     }
-    first_with_fewest(found, into, from, order, first)
+    first_with_fewest(found, into, &later)
 }

@@ -15,6 +15,7 @@ ghost use Rattle.dx_hom.specs.Narrowing.{AtMost, IsNullCell};
 ghost use Rattle.dx_hom.specs.Searching.{FindsAll, Reaches};
 
 use crate::bindings::Bindings;
+use crate::goal::Goal;
 use crate::gone::Gone;
 use crate::searching::{Stack, search};
 use dx_instance::{Instance, NullMap, copy_value};
@@ -84,15 +85,13 @@ impl Search {
         ensures exact { IsTrue result ↔ IsThere fixed.now (option_copied avoid.entry) from.now (facts into.now) }
         ensures found { OnTrue result (IsNullAssignment into.now fixed.now (option_copied avoid.entry) from.now self.new.found) }
     {
-        search(
-            &mut self.found,
-            &mut self.stack,
-            from,
+        let goal = Goal {
             into,
-            &self.none,
+            gone: &self.none,
             fixed,
             avoid,
-        )
+        };
+        search(&mut self.found, &mut self.stack, from, &goal)
     }
 
     /// The same into what is left of the instance without the facts that are gone.
@@ -113,15 +112,13 @@ impl Search {
         ensures exact { IsTrue result ↔ Reaches into.now gone.now fixed.now (option_copied avoid.entry) from.now }
         ensures found { OnTrue result (FindsAll into.now gone.now fixed.now (option_copied avoid.entry) from.now self.new.found) }
     {
-        search(
-            &mut self.found,
-            &mut self.stack,
-            from,
+        let goal = Goal {
             into,
             gone,
             fixed,
             avoid,
-        )
+        };
+        search(&mut self.found, &mut self.stack, from, &goal)
     }
 
     /// The null map that gives each null that was found the value of its cell.

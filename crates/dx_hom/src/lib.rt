@@ -20,6 +20,7 @@ mod bindings;
 mod candidates;
 mod failures;
 mod find;
+mod goal;
 mod gone;
 mod matching;
 mod searching;

@@ -6,7 +6,8 @@ ghost use Rattle.dx_instance.specs.Stored.{rows_of, table_at};
 ghost use Rattle.dx_hom.specs.Narrowing.{Allows, HasRoomForNulls, IsNullCell, IsGood, MeetsNull, MeetsRow, MeetsValue};
 
 use crate::bindings::Bindings;
-use dx_instance::{Instance, NullMap};
+use crate::goal::Goal;
+use dx_instance::NullMap;
 use dx_model::{NullId, Value};
 
 /// A null, and a cell that holds its value.
@@ -16,6 +17,13 @@ pub struct Found {
     pub table: u32,
     pub place: u32,
     pub column: u32,
+}
+
+/// The place of a row.
+#[derive(Clone, Copy)]
+pub(crate) struct Spot {
+    pub table: u32,
+    pub place: u32,
 }
 
 // Whether the null may have this value.
@@ -29,79 +37,71 @@ fn allows(fixed: &NullMap, null: NullId, value: &Value) -> bool
 }
 
 /// Gives the null the value of the cell, if it can have it.
-pub(crate) fn meet_null(found: &mut Bindings, into: &Instance, fixed: &NullMap, cell: Found) -> bool
-    requires cell { IsNullCell into.now cell }
-    requires good { IsGood into.now fixed.now found.old.cells }
+pub(crate) fn meet_null(found: &mut Bindings, goal: &Goal<'_>, cell: Found) -> bool
+    requires cell { IsNullCell goal.now.into.now cell }
+    requires good { IsGood goal.now.into.now goal.now.fixed.now found.old.cells }
     requires room { HasRoomForNulls found.old (cell.null ∷ []) }
     ensures room { found.new.room ≡ found.old.room }
-    ensures cases { MeetsNull into.now fixed.now cell found.old found.new result }
+    ensures cases { MeetsNull goal.now.into.now goal.now.fixed.now cell found.old found.new result }
 {
+    let into = goal.into;
     let value = into.cell(cell.table, cell.place, cell.column);
     if let Some(entry) = found.find(cell.null) {
         return into.cell(entry.table, entry.place, entry.column).is(value);
     }
-    if !allows(fixed, cell.null, value) {
+    if !allows(goal.fixed, cell.null, value) {
         return false;
     }
     found.push(cell);
     true
 }
 
-/// Gives the value the value of the cell, if it can have it.
+/// Gives the value the value in a column of a row, if it can have it.
 pub(crate) fn meet_value(
     found: &mut Bindings,
-    into: &Instance,
-    fixed: &NullMap,
+    goal: &Goal<'_>,
     value: &Value,
-    table: u32,
-    place: u32,
+    spot: Spot,
     column: u32,
 ) -> bool
-    requires table { table < length into.now }
-    requires place { place < length (rows_of into.now table) }
-    requires column { column < (table_at into.now table).width }
-    requires good { IsGood into.now fixed.now found.old.cells }
+    requires table { spot.table < length goal.now.into.now }
+    requires place { spot.place < length (rows_of goal.now.into.now spot.table) }
+    requires column { column < (table_at goal.now.into.now spot.table).width }
+    requires good { IsGood goal.now.into.now goal.now.fixed.now found.old.cells }
     requires room { HasRoomForNulls found.old (nulls_in (value.now ∷ [])) }
     ensures room { found.new.room ≡ found.old.room }
-    ensures cases { MeetsValue into.now fixed.now value.now table place column found.old found.new result }
+    ensures cases { MeetsValue goal.now.into.now goal.now.fixed.now value.now spot.table spot.place column found.old found.new result }
 {
+    let table = spot.table;
+    let place = spot.place;
     match value {
-        Value::Const(_) => value.is(into.cell(table, place, column)),
-        Value::Null(null) => meet_null(
-            found,
-            into,
-            fixed,
-            Found {
+        Value::Const(_) => value.is(goal.into.cell(table, place, column)),
+        Value::Null(null) => {
+            let cell = Found {
                 null: *null,
                 table,
                 place,
                 column,
-            },
-        ),
+            };
+            meet_null(found, goal, cell)
+        }
     }
 }
 
 /// Gives the row the values of the row at a place, if it can have them.
-pub(crate) fn meet_row(
-    found: &mut Bindings,
-    into: &Instance,
-    fixed: &NullMap,
-    row: &[Value],
-    table: u32,
-    place: u32,
-) -> bool
-    requires table { table < length into.now }
-    requires place { place < length (rows_of into.now table) }
-    requires width { length row.now ≡ (table_at into.now table).width }
-    requires wide { length (row_at into.now table place) ≡ (table_at into.now table).width }
-    requires good { IsGood into.now fixed.now found.old.cells }
+pub(crate) fn meet_row(found: &mut Bindings, goal: &Goal<'_>, row: &[Value], spot: Spot) -> bool
+    requires table { spot.table < length goal.now.into.now }
+    requires place { spot.place < length (rows_of goal.now.into.now spot.table) }
+    requires width { length row.now ≡ (table_at goal.now.into.now spot.table).width }
+    requires wide { length (row_at goal.now.into.now spot.table spot.place) ≡ (table_at goal.now.into.now spot.table).width }
+    requires good { IsGood goal.now.into.now goal.now.fixed.now found.old.cells }
     requires room { HasRoomForNulls found.old (nulls_in row.now) }
     ensures room { found.new.room ≡ found.old.room }
-    ensures cases { MeetsRow into.now fixed.now row.now table place found.old found.new result }
+    ensures cases { MeetsRow goal.now.into.now goal.now.fixed.now row.now spot.table spot.place found.old found.new result }
 {
-    for column in 0..into.width(table) {
+    for column in 0..goal.into.width(spot.table) {
         let value = &row[column as usize];
-        if !meet_value(found, into, fixed, value, table, place, column) {
+        if !meet_value(found, goal, value, spot, column) {
             return false;
         }
     }

@@ -11,11 +11,11 @@ ghost use Rattle.dx_hom.specs.Orders.{IsOrder, IsReordered};
 ghost use Rattle.dx_hom.specs.Searching.{IsNextMove, IsOpen, IsSearched};
 
 use crate::bindings::Bindings;
-use crate::candidates::{candidate, fact_at_turn, next_fact};
+use crate::candidates::{FactsLeft, candidate, fact_at_turn, next_fact};
 use crate::failures::Failures;
-use crate::gone::Gone;
-use crate::matching::meet_row;
-use dx_instance::{Instance, NullMap};
+use crate::goal::Goal;
+use crate::matching::{Spot, meet_row};
+use dx_instance::Instance;
 use dx_model::{Fact, Value};
 use std::alloc::{AllocError, Global};
 
@@ -110,50 +110,43 @@ fn is_row(into: &Instance, table: u32, place: u32, row: &[Value]) -> bool
 }
 
 /// Whether the fact at this place may be met.
-pub(crate) fn is_open(
-    into: &Instance,
-    gone: &Gone,
-    avoid: Option<&Fact>,
-    table: u32,
-    place: u32,
-) -> bool
-    requires table { table < length into.now }
-    requires place { place < length (rows_of into.now table) }
-    ensures { IsTrue result ↔ IsOpen into.now gone.now (option_copied avoid.entry) table place }
+pub(crate) fn is_open(goal: &Goal<'_>, table: u32, place: u32) -> bool
+    requires table { table < length goal.now.into.now }
+    requires place { place < length (rows_of goal.now.into.now table) }
+    ensures { IsTrue result ↔ IsOpen goal.now.into.now goal.now.gone.now (option_copied goal.now.avoid) table place }
 {
-    if gone.has(table, place) {
+    if goal.gone.has(table, place) {
         return false;
     }
-    match avoid {
+    match goal.avoid {
         None => true,
-        Some(fact) => !is_at(into, table, place, fact),
+        Some(fact) => !is_at(goal.into, table, place, fact),
     }
 }
 
 /// The least place from `next` on that the fact can be moved to.
 pub(crate) fn place_from(
     found: &mut Bindings,
-    into: &Instance,
-    gone: &Gone,
-    fixed: &NullMap,
-    avoid: Option<&Fact>,
+    goal: &Goal<'_>,
     fact: &Fact,
     next: u32,
 ) -> Option<u32>
-    requires fits { HasTableIn into.now fact.now }
-    requires good { IsGood into.now fixed.now found.old.cells }
+    requires fits { HasTableIn goal.now.into.now fact.now }
+    requires good { IsGood goal.now.into.now goal.now.fixed.now found.old.cells }
     requires room { HasRoomForNulls found.old (nulls_in fact.now.row) }
     ensures room { found.new.room ≡ found.old.room }
     ensures small { IfSome result (λ p. p + 1 < 2 ^ 32) }
-    ensures cases { IsNextMove into.now gone.now fixed.now (option_copied avoid.entry) fact.now next found.old found.new result }
+    ensures cases { IsNextMove goal.now.into.now goal.now.gone.now goal.now.fixed.now (option_copied goal.now.avoid) fact.now next
+        found.old found.new result }
 {
     let bound = found.len();
-    let count = into.count(fact.table);
-    let _wide = into.tables();
+    let table = fact.table;
+    let count = goal.into.count(table);
+    let _wide = goal.into.tables();
     let mut next = next;
-    while let Some(place) = candidate(found, into, fact, next) {
-        if is_open(into, gone, avoid, fact.table, place) {
-            if meet_row(found, into, fixed, fact.row.items(), fact.table, place) {
+    while let Some(place) = candidate(found, goal.into, fact, next) {
+        if is_open(goal, table, place) {
+            if meet_row(found, goal, fact.row.items(), Spot { table, place }) {
                 return Some(place);
             }
             found.truncate(bound);
@@ -174,41 +167,44 @@ fn choose(stack: &mut Stack, found: &Bindings, into: &Instance, from: &[Fact])
 {
     let start = stack.steps.len();
     if start < stack.order.len() {
-        let next = next_fact(found, into, &stack.failures, from, &stack.order, start);
+        let left = FactsLeft {
+            from,
+            order: &stack.order,
+            start,
+        };
+        let next = next_fact(found, into, &stack.failures, &left);
         stack.order.swap(start, next);
     }
 }
 
-/// Whether something moves these facts into the instance. It takes no memory.
+/// Whether something moves these facts to where they are to go. It takes no memory.
 pub(crate) fn search(
     found: &mut Bindings,
     stack: &mut Stack,
     from: &[Fact],
-    into: &Instance,
-    gone: &Gone,
-    fixed: &NullMap,
-    avoid: Option<&Fact>,
+    goal: &Goal<'_>,
 ) -> bool
-    requires fits { (f : FactRow) → f ∈ from.now → HasTableIn into.now f }
+    requires fits { (f : FactRow) → f ∈ from.now → HasTableIn goal.now.into.now f }
     requires found_room { AtMost (nulls_in (values from.now)) found.old.room }
     requires steps_room { length from.now ≤ vec_capacity stack.old.steps }
     requires order_room { length from.now ≤ vec_capacity stack.old.order }
     ensures found_room { found.new.room ≡ found.old.room }
     ensures steps_capacity { vec_capacity stack.new.steps ≡ vec_capacity stack.old.steps }
     ensures order_capacity { vec_capacity stack.new.order ≡ vec_capacity stack.old.order }
-    ensures cases { IsSearched into.now gone.now fixed.now (option_copied avoid.entry) from.now found.new.cells result }
+    ensures cases { IsSearched goal.now.into.now goal.now.gone.now goal.now.fixed.now (option_copied goal.now.avoid) from.now
+        found.new.cells result }
 {
     found.truncate(0);
     stack.begin(from.len());
-    choose(stack, found, into, from);
+    choose(stack, found, goal.into, from);
     let mut next = 0;
     'steps: while stack.steps.len() < from.len() {
         let before = found.len();
         let fact = fact_at_turn(from, &stack.order, stack.steps.len());
-        match place_from(found, into, gone, fixed, avoid, fact, next) {
+        match place_from(found, goal, fact, next) {
             Some(place) => {
                 stack.steps.push_reserved(Step { place, before });
-                choose(stack, found, into, from);
+                choose(stack, found, goal.into, from);
                 next = 0;
             }
             None => match stack.steps.pop() {

@@ -3,7 +3,7 @@ use Rattle.dx_hom.proofs.candidates.most_pressing.Given as goal
 
 abbrev pub invariant-loop-place : goal.invariant-loop-place
 invariant-loop-place l = record {
-  after : l.start ≤ l.best;
-  within : l.best < length l.order;
+  after : l.left.start ≤ l.best;
+  within : l.best < length l.left.order.now;
   few : l.fewest ≤ 17;
 }

@@ -10,50 +10,50 @@ use Rattle.dx_hom.proofs.searching.place_from.Goals as goal
 use Rattle.dx_hom.proofs.searching.place_from.Goals.{then-is_open+else-meet_row, else-is_open}
 
 pub is_open-requires-clause-place : goal.is_open-requires-clause-place
-is_open-requires-clause-place c = (c.in-Some.ensures c.args.fixed.now).1
+is_open-requires-clause-place c = (c.in-Some.ensures c.args.goal.now.fixed.now).1
 
 pub meet_row-requires-clause-wide : goal.meet_row-requires-clause-wide
 meet_row-requires-clause-wide c =
-    row_wide c.args.into.now c.args.fact.now.table c.in-Some.place c.requires.fits.table (c.in-Some.ensures c.args.fixed.now).1
+    row_wide c.args.goal.now.into.now c.args.fact.now.table c.in-Some.place c.requires.fits.table (c.in-Some.ensures c.args.goal.now.fixed.now).1
     c.tables-wide.ensures.rows
 
 pub overflow_add-next : goal.overflow_add-next
 overflow_add-next c =
-    let place = c.in-Some.ensures c.args.fixed.now in
-    let table = in_at c.args.into.now c.args.fact.now.table (record { width = 0; rows = [] }) c.requires.fits.table in
-    let few = c.tables-wide.ensures.few (table_at c.args.into.now c.args.fact.now.table) table in
+    let place = c.in-Some.ensures c.args.goal.now.fixed.now in
+    let table = in_at c.args.goal.now.into.now c.args.fact.now.table (record { width = 0; rows = [] }) c.requires.fits.table in
+    let few = c.tables-wide.ensures.few (table_at c.args.goal.now.into.now c.args.fact.now.table) table in
     omega (arith, place.1, few)
 
 pub loop-place-smaller : goal.loop-place-smaller
 loop-place-smaller c =
-    let place = c.in-Some.ensures c.args.fixed.now in
+    let place = c.in-Some.ensures c.args.goal.now.fixed.now in
     omega (arith, place.0, place.1, c.count-count.ensures)
 
 pub returns-then-meet_row-clause-cases : goal.returns-then-meet_row-clause-cases
 returns-then-meet_row-clause-cases c =
-    let T = c.args.into.now in
+    let T = c.args.goal.now.into.now in
     let old = c.args.found.now.cells in
     let fact = c.args.fact.now in
-    let avoid = option_copied c.args.avoid in
+    let avoid = option_copied c.args.goal.now.avoid in
     let p = c.in-Some.place in
-    let place = rw c.loop-place.invariant.same at (c.in-Some.ensures c.args.fixed.now) in
-    let skips = skips_on T c.args.gone.now c.args.fixed.now avoid old fact c.args.next c.loop-place.next p c.loop-place.invariant.skips
+    let place = rw c.loop-place.invariant.same at (c.in-Some.ensures c.args.goal.now.fixed.now) in
+    let skips = skips_on T c.args.goal.now.gone.now c.args.goal.now.fixed.now avoid old fact c.args.next c.loop-place.next p c.loop-place.invariant.skips
     place.2 in (
       omega (arith, place.0, c.loop-place.invariant.from),
       c.is_open.ensures.0 c.if-is_open.true,
       skips,
-      row_met T c.args.gone.now c.args.fixed.now avoid c.loop-place.found.cells c.meet_row.new.found.cells old fact c.items.result.now p
+      row_met T c.args.goal.now.gone.now c.args.goal.now.fixed.now avoid c.loop-place.found.cells c.meet_row.new.found.cells old fact c.items.result.now p
           c.items.ensures c.loop-place.invariant.same c.if-meet_row.ensures.cases,
     )
 
 pub loop-place-preserved : goal.loop-place-preserved
 loop-place-preserved c =
-    let T = c.args.into.now in
-    let gone = c.args.gone.now in
-    let fixed = c.args.fixed.now in
+    let T = c.args.goal.now.into.now in
+    let gone = c.args.goal.now.gone.now in
+    let fixed = c.args.goal.now.fixed.now in
     let old = c.args.found.now.cells in
     let fact = c.args.fact.now in
-    let avoid = option_copied c.args.avoid in
+    let avoid = option_copied c.args.goal.now.avoid in
     let p = c.in-Some.place in
     let same = c.loop-place.invariant.same in
     let place = rw same at (c.in-Some.ensures fixed) in
