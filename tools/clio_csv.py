@@ -7,7 +7,7 @@ never closed runs to the end of the file. Fields may be of any length and hold a
 import csv
 import io
 
-from clio_tool import Refused
+from clio_tool import Refused, counted
 
 MARK = b"\xef\xbb\xbf"
 csv.field_size_limit(2**31 - 1)
@@ -85,7 +85,7 @@ def read_table(path, columns):
         raise Refused(f"{path}: the header is {','.join(header)[:200]}, and must be {','.join(columns)[:200]}")
     for number, row in enumerate(rows, 1):
         if len(row) != len(columns):
-            raise Refused(f"{path}: record {number} has {len(row)} fields, and must have {len(columns)}")
+            raise Refused(f"{path}: record {number} has {counted(len(row), 'field')}, and must have {len(columns)}")
         yield row
 
 

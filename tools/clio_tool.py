@@ -10,6 +10,11 @@ class Refused(Exception):
     """Something that a tool can't carry; the text says what, where and why."""
 
 
+def counted(count, thing):
+    """A number of things, as in "1 row" and "2 rows"."""
+    return f"{count} {thing}" if count == 1 else f"{count} {thing}s"
+
+
 def program():
     """The path of clio: the one on the path, or else the one that tools/program names."""
     found = shutil.which("clio")

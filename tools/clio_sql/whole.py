@@ -45,7 +45,7 @@ def exchange(engine, mapping, core):
         CoverFold(engine, rules, [target.name for target in targets]).run()
     counts += [("nulls", write_nulls(engine, targets, rules)), ("fold", write_fold(engine))]
     print("".join(f"{name} {number}\n" for name, number in counts), end="")
-    remark("clio-sql", f"{chase.rounds} rounds, {chase.stars.steps} steps")
+    remark("clio-sql", f"rounds: {chase.rounds}, steps: {chase.stars.steps}")
     if core:
         tell_rest(Rigid(engine, targets))
 

@@ -2,7 +2,7 @@
 import pathlib
 
 from clio_csv import read_records
-from clio_tool import Refused
+from clio_tool import Refused, counted
 
 from .model import Column, Table
 
@@ -47,7 +47,7 @@ class Base:
         next(records)
         for number, row in enumerate(records, 1):
             if len(row) != len(table.columns):
-                raise Refused(f"{path}: record {number} has {len(row)} fields, and the header {len(table.columns)}")
+                raise Refused(f"{path}: record {number} has {counted(len(row), 'field')}, and the header {len(table.columns)}")
             yield row
 
 

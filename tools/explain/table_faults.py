@@ -61,7 +61,7 @@ def header(place, columns, content, file):
     single = found[0] if len(found) == 1 else ""
     for delimiter, name in DELIMITERS.items():
         if delimiter in single:
-            yield f"the file has {name} between its fields, and clio reads commas: clio-draft csv . --delimiter '{visible(delimiter)}' --data FOLDER writes it anew"
+            yield f"the file has {name} between its fields, and clio reads commas: in a folder of such files, clio-draft csv . --delimiter '{visible(delimiter)}' --data FOLDER writes them anew"
             return
     if sorted(found) == sorted(columns):
         yield "the columns are the same in another order: declare them as the file has them"

@@ -111,7 +111,7 @@ class Traps:
         for (table, key), count in sorted(empty.items()):
             if count > 1:
                 names = listed(self.target[table].columns[column] for column in self.target[table].keys[key])
-                yield f"{count:,} rows of {self.target[table].name} have nothing in their key ({names}), so they are one row"
+                yield f"{count:,} matches ask for a row of {self.target[table].name} with nothing in its key ({names}), so it is one row"
 
     def rows_of_nulls(self, in_core_mode):
         """Rows in which nothing is known, as a ref of the target asks for, beside others of their table."""

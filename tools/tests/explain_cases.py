@@ -164,7 +164,7 @@ TRAPS = [
     Case("equal rows", {"mapping.clio": EMP.replace("line emp.dept -> person.dept;", ""), "emp.csv": "name,dept\na,b\na,b\na,c\n,\n,d\n"}, 0,
          ["of 5 rows, 1 repeats", "4 matches are 2 different ones, since only emp.name go on"]),
     Case("empty keys", {"mapping.clio": "mapping 1; source { set a { x, y; } } target { set b { x, y; key (x); } } rule a(x, y) -> b(x, z); rule a(x, y) -> b(y, z);",
-                        "a.csv": "x,y\n,\n"}, 0, ["2 rows of b have nothing in their key (x)"]),
+                        "a.csv": "x,y\n,\n"}, 0, ["2 matches ask for a row of b with nothing in its key (x)"]),
     Case("texts alone", {"mapping.clio": SIDES + 'line "t" -> b.x;', "a.csv": "x,y\n"}, 0, ["no rule uses a of the source", "no rule makes rows of b: lines from texts alone"]),
     Case("no key", {"mapping.clio": "mapping 1; source { set sale { id, buyer; } } target { set customer { cid, cname; } set orders { oid, cid; ref (cid) -> customer (cid); } }"
                     "line sale.id -> orders.oid; line sale.buyer -> customer.cname;", "sale.csv": "id,buyer\n"}, 0, ["each match of rule 0 makes a row of its own in customer"]),

@@ -91,12 +91,12 @@ class Refusals(Shop):
         self.refused("clio-tables", "sqlite", "--summary", "-", text="rules.txt 1\n", why="has no customer.csv")
         orders = self.folder / "out/orders.csv"
         orders.write_bytes(orders.read_bytes().rsplit(b"\n", 2)[0] + b"\n")
-        self.refused("clio-tables", "postgres", "--summary", "-", text=summary, why="has 1 rows, and the summary says 2")
+        self.refused("clio-tables", "postgres", "--summary", "-", text=summary, why="has 1 row, and the summary says 2")
 
     def test_files(self):
         self.file("mapping.clio", copy_mapping(["x", "y"]))
         self.refused("clio-tables", "sqlite", why="out/b0.csv is missing")
-        for content, why in [(b"x\n", "the header is x"), (b"x,y\n1\n", "record 1 has 1 fields"), (b"x,y\n1,\xff\n", "not UTF-8"), (b"x,y\n1,a\0\n", "byte 0")]:
+        for content, why in [(b"x\n", "the header is x"), (b"x,y\n1\n", "record 1 has 1 field"), (b"x,y\n1,\xff\n", "not UTF-8"), (b"x,y\n1,a\0\n", "byte 0")]:
             self.file("out/b0.csv", content)
             self.refused("clio-tables", "postgres", why=why)
             self.refused("clio-tables", "sqlite", why=why)
