@@ -20,6 +20,15 @@ use dx_model::Derived;
 use dx_ports::{Items, Text};
 use std::alloc::{AllocError, Global};
 
+/// The variables that rows are for, and the variables that are derived of them, which are numbered from `first` on.
+#[derive(Clone, Copy)]
+pub(crate) struct Derivation<'a> {
+    pub(crate) wanted: &'a [u32],
+    pub(crate) derived: &'a [Derived],
+    pub(crate) first: u32,
+    ghost numbers: { first + length derived.now < 2 ^ 32 },
+}
+
 // The text for which a number stands.
 fn text_at(symbols: &Symbols, number: u32) -> Result<Text, AllocError>
     requires { AreTexts symbols.now (number ∷ []) }
@@ -78,33 +87,34 @@ fn derived_number<F: Fn(u32, &Items<Text>) -> Result<Text, AllocError>, M: Meani
     Ok(number as u32)
 }
 
-/// Puts a row into the buffer, and after it the numbers of the texts of derived variables.
-pub(crate) fn derive<F: Fn(u32, &Items<Text>) -> Result<Text, AllocError>, M: Meaning>(
-    alloc: Global,
-    names: &[u32],
-    row: &[u32],
-    derived: &[Derived],
-    symbols: &mut Symbols,
-    host: &Host<F, M>,
-    buffer: &mut Vec<u32>,
-) -> Result<(), AllocError>
-    requires serves { Serves F.Fn M.apply host.now }
-    requires listed { Each derived.now (λ (e : AnyDerived). IsListed (offered host.now) e.code (length e.args)) }
-    requires known { Each derived.now (λ (e : AnyDerived). e.args ⊆ names.now) }
-    requires many { length row.now ≡ length names.now }
-    requires texts { AreTexts symbols.old row.now }
-    requires apart { AreDistinctValues symbols.old }
-    ensures grows { Extends symbols.old symbols.new }
-    ensures apart { AreDistinctValues symbols.new }
-    ensures texts { OnOk result (AreTexts symbols.new buffer.new.items) }
-    ensures shown { OnOk result (texts_of symbols.new buffer.new.items
-        ≡ with_derived M.apply names.now derived.now (texts_of symbols.old row.now)) }
-{
-    buffer.clear();
-    buffer.extend_from_slice(row)?;
-    for one in derived {
-        let number = derived_number(alloc, names, row, one, symbols, host)?;
-        buffer.push(number)?;
+impl<'a> Derivation<'a> {
+    /// Puts a row into the buffer, and after it the numbers of the texts of derived variables.
+    pub(crate) fn derive<F: Fn(u32, &Items<Text>) -> Result<Text, AllocError>, M: Meaning>(
+        &self,
+        alloc: Global,
+        row: &[u32],
+        symbols: &mut Symbols,
+        host: &Host<F, M>,
+        buffer: &mut Vec<u32>,
+    ) -> Result<(), AllocError>
+        requires serves { Serves F.Fn M.apply host.now }
+        requires listed { Each self.now.derived.now (λ (e : AnyDerived). IsListed (offered host.now) e.code (length e.args)) }
+        requires known { Each self.now.derived.now (λ (e : AnyDerived). e.args ⊆ self.now.wanted.now) }
+        requires many { length row.now ≡ length self.now.wanted.now }
+        requires texts { AreTexts symbols.old row.now }
+        requires apart { AreDistinctValues symbols.old }
+        ensures grows { Extends symbols.old symbols.new }
+        ensures apart { AreDistinctValues symbols.new }
+        ensures texts { OnOk result (AreTexts symbols.new buffer.new.items) }
+        ensures shown { OnOk result (texts_of symbols.new buffer.new.items
+            ≡ with_derived M.apply self.now.wanted.now self.now.derived.now (texts_of symbols.old row.now)) }
+    {
+        buffer.clear();
+        buffer.extend_from_slice(row)?;
+        for one in self.derived {
+            let number = derived_number(alloc, self.wanted, row, one, symbols, host)?;
+            buffer.push(number)?;
+        }
+        Ok(())
     }
-    Ok(())
 }

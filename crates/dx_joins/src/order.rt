@@ -6,6 +6,7 @@ ghost use Rattle.dx_joins.specs.Joining.{variables_of_patterns};
 ghost use Rattle.dx_joins.specs.Planning.{FitPattern, IsMatchRow, AreMatchRows};
 
 use crate::known::Known;
+use crate::marked::Marked;
 use crate::parts::parts_rows;
 use crate::pattern::Pattern;
 use dx_instance::{Numbers, Rows};
@@ -70,21 +71,19 @@ pub(crate) fn ordered_rows(
     alloc: Global,
     patterns: Vec<Pattern>,
     shown: &[u32],
-    marks: &[bool],
-    source: &Numbers,
+    marked: &Marked,
     most: u64,
 ) -> Result<Option<Rows>, AllocError>
     requires some { ¬ (patterns.items ≡ []) }
-    requires fit { Each patterns.items (FitPattern source.now.tables) }
+    requires fit { Each patterns.items (FitPattern marked.now.source.now.tables) }
     requires few { length (variables_of_patterns patterns.items) < 2 ^ 32 }
     requires shown { shown.now ⊆ variables_of_patterns patterns.items }
     requires wide { length shown.now < 2 ^ 32 }
-    requires marks { length marks.now ≡ length source.now.symbols }
     ensures rows { IfOk result (λ o. MatchOption o
-        (MoreThan most (IsMatchRow source.now.tables marks.now patterns.items shown.now))
-        (λ r. AreMatchRows source.now.tables marks.now patterns.items shown.now r)) }
+        (MoreThan most (IsMatchRow marked.now.source.now.tables marked.now.marks.now patterns.items shown.now))
+        (λ r. AreMatchRows marked.now.source.now.tables marked.now.marks.now patterns.items shown.now r)) }
     ensures within { IfOk result (λ o. IfSome o (λ r. length r.rows ≤ most)) }
 {
-    let ordered = in_order(alloc, patterns, source)?;
-    parts_rows(alloc, &ordered, shown, marks, source, most)
+    let ordered = in_order(alloc, patterns, marked.source)?;
+    parts_rows(alloc, &ordered, shown, marked, most)
 }

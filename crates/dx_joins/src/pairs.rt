@@ -2,13 +2,9 @@
 ghost use Rattle.std.specs.Prelude.{◌≡◌, ◌↔◌, ◌<◌, ◌+◌, ◌++◌, IfOk, OnOk, IsTrue, length, map, slice_index};
 ghost use Rattle.dx_ports.specs.Members.{Each};
 ghost use Rattle.dx_instance.specs.Shown.{AreBelow};
-ghost use Rattle.dx_joins.specs.Collecting.{Collects};
 ghost use Rattle.dx_joins.specs.Joining.{AreMarked};
 ghost use Rattle.dx_joins.specs.Looking.{numbers_at_places};
-ghost use Rattle.dx_joins.specs.Planning.{IsJoinPlan, Pairs};
 
-use crate::collected::Collected;
-use crate::plan::Plan;
 use std::alloc::AllocError;
 
 /// Whether each number of the row is marked.
@@ -36,8 +32,8 @@ fn number_at(left: &[u32], right: &[u32], place: usize) -> u32
     }
 }
 
-// Whether the numbers of the right row are those at these places.
-fn agree(left: &[u32], right: &[u32], firsts: &[usize]) -> bool
+/// Whether the numbers of the right row are those at these places.
+pub(crate) fn agree(left: &[u32], right: &[u32], firsts: &[usize]) -> bool
     requires within { Each firsts.now (λ i. i < length left.now + length right.now) }
     requires many { length firsts.now ≡ length right.now }
     ensures { IsTrue result ↔ (numbers_at_places (left.now ++ right.now) firsts.now ≡ right.now) }
@@ -50,7 +46,7 @@ fn agree(left: &[u32], right: &[u32], firsts: &[usize]) -> bool
     true
 }
 
-// Puts the numbers at these places into the buffer.
+/// Puts the numbers at these places into the buffer.
 pub(crate) fn gather(
     left: &[u32],
     right: &[u32],
@@ -65,30 +61,4 @@ pub(crate) fn gather(
         buffer.push(number_at(left, right, *place))?;
     }
     Ok(())
-}
-
-/// Collects what comes of two rows, if anything does. Answers whether there are more rows than are wanted.
-pub(crate) fn join_pair(
-    plan: &Plan,
-    marks: &[bool],
-    left: &[u32],
-    right: &[u32],
-    buffer: &mut Vec<u32>,
-    out: &mut Collected,
-) -> Result<bool, AllocError>
-    requires plan { IsJoinPlan plan.now }
-    requires left { length left.now ≡ length plan.now.left.items }
-    requires right { length right.now ≡ length plan.now.right.items }
-    requires below { AreBelow (length marks.now) right.now }
-    requires width { out.old.width ≡ length plan.now.kept.items }
-    ensures { IfOk result (λ full. Collects full out.old out.new (Pairs plan.now marks.now left.now right.now)) }
-{
-    if !are_marked(marks, right) {
-        return Ok(false);
-    }
-    if !agree(left, right, &plan.firsts) {
-        return Ok(false);
-    }
-    gather(left, right, &plan.places, buffer)?;
-    out.push(buffer)
 }

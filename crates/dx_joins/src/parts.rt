@@ -7,11 +7,12 @@ ghost use Rattle.dx_joins.specs.Planning.{FitPattern, IsMatchRow, AreMatchRows};
 ghost use Rattle.dx_joins.specs.Products.{IsPartOf, IsProduct, IsWide, PartGrows};
 
 use crate::apart::are_apart;
+use crate::marked::Marked;
 use crate::pattern::Pattern;
 use crate::plan::{joined, places};
 use crate::premise::{needed, premise_rows, start};
 use crate::product::cross;
-use dx_instance::{Numbers, Rows};
+use dx_instance::Rows;
 use std::alloc::{AllocError, Global};
 
 /// What patterns give to some of their variables: rows, or None if there are more of them than are wanted.
@@ -38,19 +39,17 @@ fn part_of(
     alloc: Global,
     patterns: &[Pattern],
     shown: &[u32],
-    marks: &[bool],
-    source: &Numbers,
+    marked: &Marked,
     most: u64,
 ) -> Result<Part, AllocError>
     requires some { ¬ (patterns.now ≡ []) }
-    requires fit { Each patterns.now (FitPattern source.now.tables) }
+    requires fit { Each patterns.now (FitPattern marked.now.source.now.tables) }
     requires few { length (variables_of_patterns patterns.now) < 2 ^ 32 }
     requires wide { length shown.now < 2 ^ 32 }
-    requires marks { length marks.now ≡ length source.now.symbols }
-    ensures { IfOk result (IsPartOf source.now.tables marks.now most patterns.now shown.now) }
+    ensures { IfOk result (IsPartOf marked.now.source.now.tables marked.now.marks.now most patterns.now shown.now) }
 {
     let variables = needed(alloc, shown, patterns, &[])?;
-    let rows = premise_rows(alloc, patterns, &variables, marks, source, most)?;
+    let rows = premise_rows(alloc, patterns, &variables, marked, most)?;
     Ok(Part { variables, rows })
 }
 
@@ -100,8 +99,7 @@ fn with_part(
     whole: &Part,
     patterns: &[Pattern],
     shown: &[u32],
-    marks: &[bool],
-    source: &Numbers,
+    marked: &Marked,
     most: u64,
 ) -> Result<Part, AllocError>
     requires whole { IsWide whole.now }
@@ -109,13 +107,12 @@ fn with_part(
     requires wanted { whole.now.variables.items ⊆ shown.now }
     requires apart { Each whole.now.variables.items (λ x. ¬ (x ∈ variables_of_patterns patterns.now)) }
     requires some { ¬ (patterns.now ≡ []) }
-    requires fit { Each patterns.now (FitPattern source.now.tables) }
+    requires fit { Each patterns.now (FitPattern marked.now.source.now.tables) }
     requires few { length (variables_of_patterns patterns.now) < 2 ^ 32 }
     requires wide { length shown.now < 2 ^ 32 }
-    requires marks { length marks.now ≡ length source.now.symbols }
-    ensures { IfOk result (PartGrows source.now.tables marks.now most patterns.now shown.now whole.now) }
+    ensures { IfOk result (PartGrows marked.now.source.now.tables marked.now.marks.now most patterns.now shown.now whole.now) }
 {
-    let part = part_of(alloc, patterns, shown, marks, source, most)?;
+    let part = part_of(alloc, patterns, shown, marked, most)?;
     let variables = joined(alloc, &whole.variables, &part.variables)?;
     let rows = product(alloc, whole, &part, &variables, most)?;
     Ok(Part { variables, rows })
@@ -131,40 +128,30 @@ pub(crate) fn parts_rows(
     alloc: Global,
     patterns: &[Pattern],
     shown: &[u32],
-    marks: &[bool],
-    source: &Numbers,
+    marked: &Marked,
     most: u64,
 ) -> Result<Option<Rows>, AllocError>
     requires some { ¬ (patterns.now ≡ []) }
-    requires fit { Each patterns.now (FitPattern source.now.tables) }
+    requires fit { Each patterns.now (FitPattern marked.now.source.now.tables) }
     requires few { length (variables_of_patterns patterns.now) < 2 ^ 32 }
     requires shown { shown.now ⊆ variables_of_patterns patterns.now }
     requires wide { length shown.now < 2 ^ 32 }
-    requires marks { length marks.now ≡ length source.now.symbols }
     ensures rows { IfOk result (λ o. MatchOption o
-        (MoreThan most (IsMatchRow source.now.tables marks.now patterns.now shown.now))
-        (λ r. AreMatchRows source.now.tables marks.now patterns.now shown.now r)) }
+        (MoreThan most (IsMatchRow marked.now.source.now.tables marked.now.marks.now patterns.now shown.now))
+        (λ r. AreMatchRows marked.now.source.now.tables marked.now.marks.now patterns.now shown.now r)) }
     ensures within { IfOk result (λ o. IfSome o (λ r. length r.rows ≤ most)) }
 {
     let mut whole = no_part(alloc)?;
     let mut done = 0;
     for end in 1..patterns.len() {
         if are_apart(&patterns[done..end], &patterns[end..]) {
-            whole = with_part(
-                alloc,
-                &whole,
-                &patterns[done..end],
-                shown,
-                marks,
-                source,
-                most,
-            )?;
+            whole = with_part(alloc, &whole, &patterns[done..end], shown, marked, most)?;
             done = end;
         }
     }
     if done == 0 {
-        return premise_rows(alloc, patterns, shown, marks, source, most);
+        return premise_rows(alloc, patterns, shown, marked, most);
     }
-    let last = part_of(alloc, &patterns[done..], shown, marks, source, most)?;
+    let last = part_of(alloc, &patterns[done..], shown, marked, most)?;
     product(alloc, &whole, &last, shown, most)
 }

@@ -7,10 +7,11 @@ ghost use Rattle.dx_joins.specs.Joining.{MatchesPatterns, variables_of_patterns}
 ghost use Rattle.dx_joins.specs.Planning.{AddsOnce, CarriesOn, FitPattern, IsVariableNeeded, IsMatchRow, StepsTo, AreMatchRows};
 
 use crate::collected::Collected;
-use crate::join::join;
+use crate::join::Pairing;
+use crate::marked::Marked;
 use crate::pattern::Pattern;
 use crate::plan::{Plan, copied, has, joined};
-use dx_instance::{Numbers, Rows};
+use dx_instance::Rows;
 use std::alloc::{AllocError, Global};
 
 /// Rows of numbers, and the variables that they are for.
@@ -82,33 +83,29 @@ fn step(
     partial: &Partial,
     pattern: &Pattern,
     kept: &[u32],
-    marks: &[bool],
-    source: &Numbers,
+    marked: &Marked,
     most: u64,
 ) -> Result<Option<Rows>, AllocError>
     requires once { Distinct partial.now.variables.items }
     requires wide { partial.now.rows.width ≡ length partial.now.variables.items }
     requires known { kept.now ⊆ (partial.now.variables.items ++ pattern.now.variables.items) }
     requires few { length kept.now < 2 ^ 32 }
-    requires fits { FitPattern source.now.tables pattern.now }
-    requires marks { length marks.now ≡ length source.now.symbols }
+    requires fits { FitPattern marked.now.source.now.tables pattern.now }
     ensures rows { IfOk result (λ o. MatchOption o
-        (MoreThan most (StepsTo source.now.tables marks.now partial.now pattern.now kept.now))
-        (AreThose (length kept.now) (StepsTo source.now.tables marks.now partial.now pattern.now kept.now))) }
+        (MoreThan most (StepsTo marked.now.source.now.tables marked.now.marks.now partial.now pattern.now kept.now))
+        (AreThose (length kept.now) (StepsTo marked.now.source.now.tables marked.now.marks.now partial.now pattern.now kept.now))) }
     ensures within { IfOk result (λ o. IfSome o (λ r. length r.rows ≤ most)) }
 {
     let plan = Plan::build(alloc, &partial.variables, &pattern.variables, kept)?;
-    let room = source.count(pattern.table);
+    let room = marked.source.count(pattern.table);
     let mut out = Collected::new(alloc, kept.len() as u32, most, room);
-    if join(
-        alloc,
-        &plan,
-        marks,
-        source,
-        pattern.table,
-        &partial.rows,
-        &mut out,
-    )? {
+    let pairing = Pairing {
+        plan: &plan,
+        marks: marked.marks,
+        source: marked.source,
+        table: pattern.table,
+    };
+    if pairing.join(alloc, &partial.rows, &mut out)? {
         return Ok(None);
     }
     out.finish()
@@ -121,19 +118,17 @@ fn next(
     pattern: &Pattern,
     later: &[Pattern],
     wanted: &[u32],
-    marks: &[bool],
-    source: &Numbers,
+    marked: &Marked,
 ) -> Result<Partial, AllocError>
     requires once { Distinct partial.now.variables.items }
     requires wide { partial.now.rows.width ≡ length partial.now.variables.items }
     requires few { length partial.now.variables.items + length pattern.now.variables.items < 2 ^ 32 }
-    requires fits { FitPattern source.now.tables pattern.now }
-    requires marks { length marks.now ≡ length source.now.symbols }
-    ensures { IfOk result (CarriesOn source.now.tables marks.now pattern.now later.now wanted.now partial.now) }
+    requires fits { FitPattern marked.now.source.now.tables pattern.now }
+    ensures { IfOk result (CarriesOn marked.now.source.now.tables marked.now.marks.now pattern.now later.now wanted.now partial.now) }
 {
     let names = joined(alloc, &partial.variables, &pattern.variables)?;
     let kept = needed(alloc, &names, later, wanted)?;
-    match step(alloc, partial, pattern, &kept, marks, source, u64::MAX)? {
+    match step(alloc, partial, pattern, &kept, marked, u64::MAX)? {
         Some(rows) => Ok(Partial {
             variables: kept,
             rows,
@@ -166,19 +161,17 @@ pub(crate) fn premise_rows(
     alloc: Global,
     patterns: &[Pattern],
     shown: &[u32],
-    marks: &[bool],
-    source: &Numbers,
+    marked: &Marked,
     most: u64,
 ) -> Result<Option<Rows>, AllocError>
     requires some { ¬ (patterns.now ≡ []) }
-    requires fit { Each patterns.now (FitPattern source.now.tables) }
+    requires fit { Each patterns.now (FitPattern marked.now.source.now.tables) }
     requires few { length (variables_of_patterns patterns.now) < 2 ^ 32 }
     requires shown { shown.now ⊆ variables_of_patterns patterns.now }
     requires wide { length shown.now < 2 ^ 32 }
-    requires marks { length marks.now ≡ length source.now.symbols }
     ensures rows { IfOk result (λ o. MatchOption o
-        (MoreThan most (IsMatchRow source.now.tables marks.now patterns.now shown.now))
-        (λ r. AreMatchRows source.now.tables marks.now patterns.now shown.now r)) }
+        (MoreThan most (IsMatchRow marked.now.source.now.tables marked.now.marks.now patterns.now shown.now))
+        (λ r. AreMatchRows marked.now.source.now.tables marked.now.marks.now patterns.now shown.now r)) }
     ensures within { IfOk result (λ o. IfSome o (λ r. length r.rows ≤ most)) }
 {
     let last = patterns.len() - 1;
@@ -190,9 +183,8 @@ pub(crate) fn premise_rows(
             &patterns[i],
             &patterns[i + 1..],
             shown,
-            marks,
-            source,
+            marked,
         )?;
     }
-    step(alloc, &partial, &patterns[last], shown, marks, source, most)
+    step(alloc, &partial, &patterns[last], shown, marked, most)
 }

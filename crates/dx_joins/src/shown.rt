@@ -14,7 +14,7 @@ ghost use Rattle.dx_joins.specs.Shown.{AreTexts, FitsMatching, IsMatchTuple, Mor
 ghost use Rattle.dx_joins.specs.Derivations.{DerivesTo, GivenBy, IsVariableWanted};
 
 use crate::collected::Collected;
-use crate::computed::derive;
+use crate::computed::Derivation;
 use crate::pairs::gather;
 use crate::plan::{copied, has, places};
 use crate::texts::premise_shown;
@@ -109,30 +109,29 @@ fn names_of(alloc: Global, wanted: &[u32], first: u32, count: u32) -> Result<Vec
 // more rows than are wanted.
 fn derive_row<F: Fn(u32, &Items<Text>) -> Result<Text, AllocError>, M: Meaning>(
     alloc: Global,
-    wanted: &[u32],
+    derivation: &Derivation,
     row: &[u32],
-    derived: &[Derived],
     places: &[usize],
     symbols: &mut Symbols,
     host: &Host<F, M>,
     out: &mut Collected,
 ) -> Result<bool, AllocError>
     requires serves { Serves F.Fn M.apply host.now }
-    requires listed { Each derived.now (λ (e : AnyDerived). IsListed (offered host.now) e.code (length e.args)) }
-    requires known { Each derived.now (λ (e : AnyDerived). e.args ⊆ wanted.now) }
-    requires many { length row.now ≡ length wanted.now }
+    requires listed { Each derivation.now.derived.now (λ (e : AnyDerived). IsListed (offered host.now) e.code (length e.args)) }
+    requires known { Each derivation.now.derived.now (λ (e : AnyDerived). e.args ⊆ derivation.now.wanted.now) }
+    requires many { length row.now ≡ length derivation.now.wanted.now }
     requires texts { AreTexts symbols.old row.now }
     requires apart { AreDistinctValues symbols.old }
-    requires places { Each places.now (λ i. i < length wanted.now + length derived.now) }
+    requires places { Each places.now (λ i. i < length derivation.now.wanted.now + length derivation.now.derived.now) }
     requires width { out.old.width ≡ length places.now }
     ensures grows { Extends symbols.old symbols.new }
     ensures apart { AreDistinctValues symbols.new }
-    ensures derives { IfOk result (λ full.
-        DerivesTo M.apply wanted.now derived.now places.now symbols.old symbols.new row.now full out.old out.new) }
+    ensures derives { IfOk result (λ full. DerivesTo M.apply derivation.now.wanted.now derivation.now.derived.now places.now
+        symbols.old symbols.new row.now full out.old out.new) }
 {
     let mut buffer = Vec::new(alloc);
     let mut gathered = Vec::new(alloc);
-    derive(alloc, wanted, row, derived, symbols, host, &mut buffer)?;
+    derivation.derive(alloc, row, symbols, host, &mut buffer)?;
     gather(&buffer, &[], places, &mut gathered)?;
     out.push(&gathered)
 }
@@ -140,45 +139,37 @@ fn derive_row<F: Fn(u32, &Items<Text>) -> Result<Text, AllocError>, M: Meaning>(
 // The rows that rows and their derived variables give to the variables.
 fn derived_rows<F: Fn(u32, &Items<Text>) -> Result<Text, AllocError>, M: Meaning>(
     alloc: Global,
-    wanted: &[u32],
+    derivation: &Derivation,
     rows: &Rows,
-    derived: &[Derived],
-    first: u32,
     shown: &[u32],
     symbols: &mut Symbols,
     host: &Host<F, M>,
     most: u64,
 ) -> Result<Option<Rows>, AllocError>
     requires serves { Serves F.Fn M.apply host.now }
-    requires listed { Each derived.now (λ (e : AnyDerived). IsListed (offered host.now) e.code (length e.args)) }
-    requires known { Each derived.now (λ (e : AnyDerived). e.args ⊆ wanted.now) }
-    requires many { rows.now.width ≡ length wanted.now }
+    requires listed { Each derivation.now.derived.now (λ (e : AnyDerived). IsListed (offered host.now) e.code (length e.args)) }
+    requires known { Each derivation.now.derived.now (λ (e : AnyDerived). e.args ⊆ derivation.now.wanted.now) }
+    requires many { rows.now.width ≡ length derivation.now.wanted.now }
     requires texts { Each rows.now.rows (AreTexts symbols.old) }
     requires apart { AreDistinctValues symbols.old }
-    requires numbers { first + length derived.now < 2 ^ 32 }
-    requires shown { shown.now ⊆ (wanted.now ++ range_with_len first (length derived.now)) }
+    requires shown { shown.now ⊆ (derivation.now.wanted.now ++ range_with_len derivation.now.first (length derivation.now.derived.now)) }
     requires short { length shown.now < 2 ^ 32 }
     ensures grows { Extends symbols.old symbols.new }
     ensures apart { AreDistinctValues symbols.new }
     ensures rows { IfOk result (λ o. MatchOption o
-        (MoreTuples most (GivenBy M.apply wanted.now derived.now first shown.now symbols.old rows.now.rows))
-        (StandFor (length shown.now) (GivenBy M.apply wanted.now derived.now first shown.now symbols.old rows.now.rows) symbols.new)) }
+        (MoreTuples most (GivenBy M.apply derivation.now.wanted.now derivation.now.derived.now derivation.now.first shown.now
+        symbols.old rows.now.rows))
+        (StandFor (length shown.now) (GivenBy M.apply derivation.now.wanted.now derivation.now.derived.now derivation.now.first shown.now
+        symbols.old rows.now.rows) symbols.new)) }
     ensures within { IfOk result (λ o. IfSome o (λ r. length r.rows ≤ most)) }
 {
-    let names = names_of(alloc, wanted, first, derived.len() as u32)?;
+    let count = derivation.derived.len() as u32;
+    let names = names_of(alloc, derivation.wanted, derivation.first, count)?;
     let places = places(alloc, &names, shown)?;
     let mut out = Collected::new(alloc, shown.len() as u32, most, rows.count());
     for place in 0..rows.count() {
-        if derive_row(
-            alloc,
-            wanted,
-            rows.row(place),
-            derived,
-            &places,
-            symbols,
-            host,
-            &mut out,
-        )? {
+        let row = rows.row(place);
+        if derive_row(alloc, derivation, row, &places, symbols, host, &mut out)? {
             return Ok(None);
         }
     }
@@ -220,9 +211,14 @@ pub fn shown_rows<F: Fn(u32, &Items<Text>) -> Result<Text, AllocError>, M: Meani
     let first = premise_variables(premise) as u32;
     let wanted = wanted_variables(alloc, derived, shown, first)?;
     match premise_shown(alloc, premise, &wanted, source, u64::MAX)? {
-        Some(rows) => derived_rows(
-            alloc, &wanted, &rows, derived, first, shown, symbols, host, most,
-        ),
+        Some(rows) => {
+            let derivation = Derivation {
+                wanted: &wanted,
+                derived,
+                first,
+            };
+            derived_rows(alloc, &derivation, &rows, shown, symbols, host, most)
+        }
         None => unreachable!(),
     }
 }

@@ -9,6 +9,7 @@ ghost use Rattle.dx_instance.specs.Stored.{widths};
 ghost use Rattle.dx_instance.specs.Shown.{PartsFit, shown_tables};
 ghost use Rattle.dx_joins.specs.Shown.{ArePatterns, FitsMatching, IsPattern, IsMatchTuple, MoreTuples, StandFor, shown_facts, is_text};
 
+use crate::marked::Marked;
 use crate::order::ordered_rows;
 use crate::pattern::Pattern;
 use dx_instance::{Numbers, Rows, Value};
@@ -87,5 +88,9 @@ pub(crate) fn premise_shown(
 {
     let patterns = patterns_of(alloc, premise)?;
     let marks = marks_of(alloc, source)?;
-    ordered_rows(alloc, patterns, shown, &marks, source, most)
+    let marked = Marked {
+        source,
+        marks: &marks,
+    };
+    ordered_rows(alloc, patterns, shown, &marked, most)
 }

@@ -8,7 +8,7 @@ parts_rows-requires-clause-some c =
 
 pub parts_rows-requires-clause-fit : goal.parts_rows-requires-clause-fit
 parts_rows-requires-clause-fit c =
-    rw c.deref.ensures.value (each_in (FitPattern c.args.source.now.tables) c.args.patterns.items c.in_ok-ordered.ordered.items c.in_ok-ordered.ensures c.requires.fit)
+    rw c.deref.ensures.value (each_in (FitPattern c.args.marked.now.source.now.tables) c.args.patterns.items c.in_ok-ordered.ordered.items c.in_ok-ordered.ensures c.requires.fit)
 
 pub parts_rows-requires-clause-few : goal.parts_rows-requires-clause-few
 parts_rows-requires-clause-few c =
@@ -20,7 +20,7 @@ parts_rows-requires-clause-shown c =
 
 pub returns-clause-rows : goal.returns-clause-rows
 returns-clause-rows c =
-    reordered_result c.args.source.now.tables c.args.marks.now c.args.patterns.items c.in_ok-ordered.ordered.items c.args.shown.now c.args.most
+    reordered_result c.args.marked.now.source.now.tables c.args.marked.now.marks.now c.args.patterns.items c.in_ok-ordered.ordered.items c.args.shown.now c.args.most
     c.parts_rows.result c.in_ok-ordered.ensures (rw c.deref.ensures.value at c.parts_rows.ensures.rows)
 
 pub returns-clause-within : goal.returns-clause-within

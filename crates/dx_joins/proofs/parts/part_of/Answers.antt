@@ -9,7 +9,7 @@ premise_rows-requires-clause-shown c = λ x m. needed_there c.args.patterns.now 
 
 pub returns : goal.returns
 returns c = record {
-  gives = subst (λ (l : List ℕ). GivesRows c.args.source.now.tables c.args.marks.now c.args.most c.args.patterns.now l c.in_ok-rows.rows) c.deref.ensures.value c.in_ok-rows.ensures.rows;
+  gives = subst (λ (l : List ℕ). GivesRows c.args.marked.now.source.now.tables c.args.marked.now.marks.now c.args.most c.args.patterns.now l c.in_ok-rows.rows) c.deref.ensures.value c.in_ok-rows.ensures.rows;
   known = λ x m. needed_there c.args.patterns.now x (c.in_ok-variables.ensures.only x m);
   wanted = c.in_ok-variables.ensures.some;
   all = λ x m s. c.in_ok-variables.ensures.all x s (inl m);

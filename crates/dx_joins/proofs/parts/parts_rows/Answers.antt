@@ -11,8 +11,8 @@ loop-end-init c =
     let e = c.in_ok-whole.ensures in
     let n = some_length c.args.patterns.now c.requires.some in
     record {
-      part = part_none c.args.source.now.tables c.args.marks.now c.args.most c.args.shown.now c.in_ok-whole.whole e.variables e.rows;
-      apart = start_apart c.args.source.now.tables c.args.marks.now c.args.most c.args.patterns.now c.args.shown.now;
+      part = part_none c.args.marked.now.source.now.tables c.args.marked.now.marks.now c.args.most c.args.shown.now c.in_ok-whole.whole e.variables e.rows;
+      apart = start_apart c.args.marked.now.source.now.tables c.args.marked.now.marks.now c.args.most c.args.patterns.now c.args.shown.now;
       before = omega arith;
       within = n;
     }
@@ -20,7 +20,7 @@ loop-end-init c =
 pub with_part-requires-clause-apart : goal.with_part-requires-clause-apart
 with_part-requires-clause-apart c =
     let i = c.loop-end.invariant in
-    part_apart c.args.source.now.tables c.args.marks.now c.args.most c.args.patterns.now c.args.shown.now c.loop-end.done (c.loop-end.end - c.loop-end.done) c.loop-end.whole i.part i.apart
+    part_apart c.args.marked.now.source.now.tables c.args.marked.now.marks.now c.args.most c.args.patterns.now c.args.shown.now c.loop-end.done (c.loop-end.end - c.loop-end.done) c.loop-end.whole i.part i.apart
 
 pub with_part-requires-clause-fit : goal.with_part-requires-clause-fit
 with_part-requires-clause-fit c = λ p m. c.requires.fit p (slice_in c.args.patterns.now c.loop-end.done (c.loop-end.end - c.loop-end.done) p m)
@@ -39,8 +39,8 @@ loop-end-preserved c =
           let a : ShareNone (slice ps done (end - done)) (take (length ps - end) (drop end ps)) = c.are_apart.ensures.0 w.if-are_apart.true in
           let apart = subst (λ (l : List Pattern). ShareNone (slice ps done (end - done)) l) (rest_all ps end) a in
           rw (w.whole-is, w.done-is) (record {
-            part = next_part c.args.source.now.tables c.args.marks.now c.args.most ps c.args.shown.now done end c.loop-end.whole w.in_ok-whole-2.whole (omega (arith, i.before)) i.apart w.in_ok-whole-2.ensures i.part;
-            apart = next_apart c.args.source.now.tables c.args.marks.now c.args.most ps c.args.shown.now done end (omega (arith, i.before)) i.apart apart;
+            part = next_part c.args.marked.now.source.now.tables c.args.marked.now.marks.now c.args.most ps c.args.shown.now done end c.loop-end.whole w.in_ok-whole-2.whole (omega (arith, i.before)) i.apart w.in_ok-whole-2.ensures i.part;
+            apart = next_apart c.args.marked.now.source.now.tables c.args.marked.now.marks.now c.args.most ps c.args.shown.now done end (omega (arith, i.before)) i.apart apart;
             before = omega arith;
             within = omega (arith, c.loop-end-test.true);
           })
@@ -56,9 +56,9 @@ part_of-requires-clause-few c = let few = slice_few c.args.patterns.now c.loop-e
 pub product-requires-clause-known : goal.product-requires-clause-known
 product-requires-clause-known c =
     let i = c.loop-end.invariant in
-    last_within c.args.source.now.tables c.args.marks.now c.args.most c.args.patterns.now c.args.shown.now c.loop-end.done c.loop-end.whole c.in_ok-last.last (omega (arith, i.within)) i.part c.in_ok-last.ensures c.requires.shown
+    last_within c.args.marked.now.source.now.tables c.args.marked.now.marks.now c.args.most c.args.patterns.now c.args.shown.now c.loop-end.done c.loop-end.whole c.in_ok-last.last (omega (arith, i.within)) i.part c.in_ok-last.ensures c.requires.shown
 
 pub returns-clause-rows : goal.returns-clause-rows
 returns-clause-rows c =
     let i = c.loop-end.invariant in
-    last_gives c.args.source.now.tables c.args.marks.now c.args.most c.args.patterns.now c.args.shown.now c.loop-end.done c.loop-end.whole c.in_ok-last.last c.product.result (omega (arith, i.within)) i.part c.in_ok-last.ensures i.apart c.product.ensures.rows
+    last_gives c.args.marked.now.source.now.tables c.args.marked.now.marks.now c.args.most c.args.patterns.now c.args.shown.now c.loop-end.done c.loop-end.whole c.in_ok-last.last c.product.result (omega (arith, i.within)) i.part c.in_ok-last.ensures i.apart c.product.ensures.rows

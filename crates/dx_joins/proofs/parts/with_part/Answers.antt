@@ -16,5 +16,5 @@ pub returns : goal.returns
 returns c =
     let old = c.args.whole.now.variables.items in
     let is = c.in_ok-variables.ensures ∙ ap (λ (l : List ℕ). l ++ c.deref-2.result.now) c.deref.ensures.value ∙ ap (λ (l : List ℕ). old ++ l) c.deref-2.ensures.value in
-    part_grows c.args.source.now.tables c.args.marks.now c.args.most c.args.patterns.now c.args.shown.now c.args.whole.now c.in_ok-part.part (record { variables = c.in_ok-variables.variables; rows = c.in_ok-rows.rows }) is c.in_ok-part.ensures
+    part_grows c.args.marked.now.source.now.tables c.args.marked.now.marks.now c.args.most c.args.patterns.now c.args.shown.now c.args.whole.now c.in_ok-part.part (record { variables = c.in_ok-variables.variables; rows = c.in_ok-rows.rows }) is c.in_ok-part.ensures
     (subst (λ (l : List ℕ). IsProduct c.args.most c.args.whole.now c.in_ok-part.part l c.in_ok-rows.rows) c.deref-3.ensures.value c.in_ok-rows.ensures.rows)

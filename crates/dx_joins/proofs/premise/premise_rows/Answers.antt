@@ -10,7 +10,7 @@ use Rattle.dx_joins.proofs.premise.premise_rows.Goals as goal
 pub loop-i-init : goal.loop-i-init
 loop-i-init c =
     let e = c.in_ok-partial.ensures in
-    carry_start c.args.source.now.tables c.args.marks.now c.args.patterns.now c.args.shown.now c.in_ok-partial.partial e.variables e.rows e.width
+    carry_start c.args.marked.now.source.now.tables c.args.marked.now.marks.now c.args.patterns.now c.args.shown.now c.in_ok-partial.partial e.variables e.rows e.width
 
 pub next-requires-clause-few : goal.next-requires-clause-few
 next-requires-clause-few c =
@@ -28,11 +28,11 @@ loop-i-preserved c =
     let h : i < length ps = omega (arith, c.loop-i-test.true) in
     let later : drop i ps ≡ p ∷ drop (i + 1) ps = drop_more ps i p h ∙ ap (λ (a : Pattern). a ∷ drop (i + 1) ps) (sym c.index-patterns-i.is) in
     let first : take (i + 1) ps ≡ take i ps ++ p ∷ [] = take_more ps i p h ∙ ap (λ (a : Pattern). take i ps ++ a ∷ []) (sym c.index-patterns-i.is) in
-    let inv : HoldsPartialMatches c.args.source.now.tables c.args.marks.now (take i ps) (p ∷ drop (i + 1) ps) c.args.shown.now c.loop-i.partial = rw (← later) c.loop-i.invariant in
+    let inv : HoldsPartialMatches c.args.marked.now.source.now.tables c.args.marked.now.marks.now (take i ps) (p ∷ drop (i + 1) ps) c.args.shown.now c.loop-i.partial = rw (← later) c.loop-i.invariant in
     let rest : take (length ps - (i + 1)) (drop (i + 1) ps) ≡ drop (i + 1) ps = take_all (length ps - (i + 1)) (drop (i + 1) ps) (omega (arith, length-drop (i + 1) ps)) in
-    let inv2 : HoldsPartialMatches c.args.source.now.tables c.args.marks.now (take i ps) (p ∷ take (length ps - (i + 1)) (drop (i + 1) ps)) c.args.shown.now c.loop-i.partial = rw rest inv in
+    let inv2 : HoldsPartialMatches c.args.marked.now.source.now.tables c.args.marked.now.marks.now (take i ps) (p ∷ take (length ps - (i + 1)) (drop (i + 1) ps)) c.args.shown.now c.loop-i.partial = rw rest inv in
     let next = c.in_ok-partial-2.ensures (take i ps) inv2 in
-    rw first (subst (λ (l : List Pattern). HoldsPartialMatches c.args.source.now.tables c.args.marks.now (take i ps ++ p ∷ []) l c.args.shown.now c.in_ok-partial-2.partial) rest next)
+    rw first (subst (λ (l : List Pattern). HoldsPartialMatches c.args.marked.now.source.now.tables c.args.marked.now.marks.now (take i ps ++ p ∷ []) l c.args.shown.now c.in_ok-partial-2.partial) rest next)
 
 pub step-requires-clause-known : goal.step-requires-clause-known
 step-requires-clause-known c =
@@ -41,7 +41,7 @@ step-requires-clause-known c =
     let n = some_length ps c.requires.some in
     let e : length ps - 1 ≡ i = omega (arith, c.loop-i-test.false, c.loop-i.auto.i-end) in
     let is = c.index-patterns-last.is ∙ ap (λ (k : ℕ). get_or ps k c.index-patterns-last.result) e in
-    last_known c.args.source.now.tables c.args.marks.now ps i c.index-patterns-last.result c.args.shown.now c.loop-i.partial (omega (arith, e, n)) (omega (arith, e)) is c.loop-i.invariant c.requires.shown
+    last_known c.args.marked.now.source.now.tables c.args.marked.now.marks.now ps i c.index-patterns-last.result c.args.shown.now c.loop-i.partial (omega (arith, e, n)) (omega (arith, e)) is c.loop-i.invariant c.requires.shown
 
 pub step-requires-clause-fits : goal.step-requires-clause-fits
 step-requires-clause-fits c =
@@ -56,8 +56,8 @@ returns-clause-rows c =
     let n = some_length ps c.requires.some in
     let e : length ps - 1 ≡ i = omega (arith, c.loop-i-test.false, c.loop-i.auto.i-end) in
     let is = c.index-patterns-last.is ∙ ap (λ (k : ℕ). get_or ps k c.index-patterns-last.result) e in
-    told_from c.args.source.now.tables c.args.marks.now ps c.args.shown.now c.args.most (StepsTo c.args.source.now.tables c.args.marks.now c.loop-i.partial c.index-patterns-last.result c.args.shown.now) c.step.result
-    (last_told c.args.source.now.tables c.args.marks.now ps i c.index-patterns-last.result c.args.shown.now c.loop-i.partial (omega (arith, e, n)) (omega (arith, e)) is c.loop-i.invariant c.requires.shown) c.step.ensures.rows
+    told_from c.args.marked.now.source.now.tables c.args.marked.now.marks.now ps c.args.shown.now c.args.most (StepsTo c.args.marked.now.source.now.tables c.args.marked.now.marks.now c.loop-i.partial c.index-patterns-last.result c.args.shown.now) c.step.result
+    (last_told c.args.marked.now.source.now.tables c.args.marked.now.marks.now ps i c.index-patterns-last.result c.args.shown.now c.loop-i.partial (omega (arith, e, n)) (omega (arith, e)) is c.loop-i.invariant c.requires.shown) c.step.ensures.rows
 
 pub returns-clause-within : goal.returns-clause-within
 returns-clause-within c = c.step.ensures.within

@@ -25,14 +25,14 @@ loop-place-init g c = record {
   width = ap (λ (x : Collection). x.width) c.new-out.ensures;
   most = ap (λ (x : Collection). x.most) c.new-out.ensures;
   standing =
-      let wanted = c.args.wanted.now in
-      let derived = c.args.derived.now in
+      let wanted = c.args.derivation.now.wanted.now in
+      let derived = c.args.derivation.now.derived.now in
       let rows = c.args.rows.now.rows in
       let S0 = c.args.symbols.now in
       let names = c.deref.ensures.value ∙ c.in_ok-names.ensures in
-      let at : c.in_ok-places.places.items ≡ map (first_place (wanted ++ range_with_len c.args.first (length derived))) c.args.shown.now = c.in_ok-places.ensures ∙ ap (λ (l : List ℕ). map (first_place l) c.args.shown.now) names in
+      let at : c.in_ok-places.places.items ≡ map (first_place (wanted ++ range_with_len c.args.derivation.now.first (length derived))) c.args.shown.now = c.in_ok-places.ensures ∙ ap (λ (l : List ℕ). map (first_place l) c.args.shown.now) names in
       let wide : Each rows (λ (r : List ℕ). length r ≡ length wanted) = λ r m. c.count-place-end.ensures.wide r m ∙ c.requires.many in
-      upto_none g.M.Meaning.apply wanted derived c.args.first c.args.shown.now c.in_ok-places.places.items S0 rows c.requires.texts wide at c.requires.shown (length-range_with_len c.args.first (length derived))
+      upto_none g.M.Meaning.apply wanted derived c.args.derivation.now.first c.args.shown.now c.in_ok-places.places.items S0 rows c.requires.texts wide at c.requires.shown (length-range_with_len c.args.derivation.now.first (length derived))
       (length c.args.shown.now) c.args.most c.new-out.result (ap (λ (x : Collection). x.rows) c.new-out.ensures);
 }
 
@@ -44,7 +44,7 @@ derive_row-requires-clause-many g c =
     let rows = c.args.rows.now.rows in
     let row = numbers_at rows c.loop-place.place in
     let wide = c.count-place-end.ensures.wide row (in_at rows c.loop-place.place [] (omega (arith, c.loop-place-test.true, c.count-place-end.ensures.count))) in
-    ap length c.row.ensures.row ∙ wide ∙ c.requires.many
+    ap length c.row-row.ensures.row ∙ wide ∙ c.requires.many
 
 pub derive_row-requires-clause-known : goal.derive_row-requires-clause-known
 derive_row-requires-clause-known g c = c.requires.known
@@ -56,32 +56,32 @@ pub derive_row-requires-clause-texts : goal.derive_row-requires-clause-texts
 derive_row-requires-clause-texts g c =
     let row = numbers_at c.args.rows.now.rows c.loop-place.place in
     let t = c.requires.texts row (in_at c.args.rows.now.rows c.loop-place.place [] (omega (arith, c.loop-place-test.true, c.count-place-end.ensures.count))) in
-    subst (λ (r : List ℕ). AreTexts c.loop-place.symbols r) (sym c.row.ensures.row) (texts_grow c.args.symbols.now c.loop-place.symbols row c.loop-place.invariant.grows t)
+    subst (λ (r : List ℕ). AreTexts c.loop-place.symbols r) (sym c.row-row.ensures.row) (texts_grow c.args.symbols.now c.loop-place.symbols row c.loop-place.invariant.grows t)
 
 pub derive_row-requires-clause-apart : goal.derive_row-requires-clause-apart
 derive_row-requires-clause-apart g c = c.loop-place.invariant.apart
 
 pub derive_row-requires-clause-places : goal.derive_row-requires-clause-places
 derive_row-requires-clause-places g c =
-    let wanted = c.args.wanted.now in
-    let derived = c.args.derived.now in
+    let wanted = c.args.derivation.now.wanted.now in
+    let derived = c.args.derivation.now.derived.now in
     let rows = c.args.rows.now.rows in
     let S0 = c.args.symbols.now in
     let names = c.deref.ensures.value ∙ c.in_ok-names.ensures in
-    let at : c.deref-in-loop-place.result.now ≡ map (first_place (wanted ++ range_with_len c.args.first (length derived))) c.args.shown.now = c.deref-in-loop-place.ensures.value ∙ c.in_ok-places.ensures ∙ ap (λ (l : List ℕ). map (first_place l) c.args.shown.now) names in
+    let at : c.deref-in-loop-place.result.now ≡ map (first_place (wanted ++ range_with_len c.args.derivation.now.first (length derived))) c.args.shown.now = c.deref-in-loop-place.ensures.value ∙ c.in_ok-places.ensures ∙ ap (λ (l : List ℕ). map (first_place l) c.args.shown.now) names in
     let wide : Each rows (λ (r : List ℕ). length r ≡ length wanted) = λ r m. c.count-place-end.ensures.wide r m ∙ c.requires.many in
-    λ i m. let h = places_within wanted (range_with_len c.args.first (length derived)) c.args.shown.now c.deref-in-loop-place.result.now c.requires.shown at i m in omega (arith, h, length-range_with_len c.args.first (length derived))
+    λ i m. let h = places_within wanted (range_with_len c.args.derivation.now.first (length derived)) c.args.shown.now c.deref-in-loop-place.result.now c.requires.shown at i m in omega (arith, h, length-range_with_len c.args.derivation.now.first (length derived))
 
 pub derive_row-requires-clause-width : goal.derive_row-requires-clause-width
 derive_row-requires-clause-width g c =
-    let wanted = c.args.wanted.now in
-    let derived = c.args.derived.now in
+    let wanted = c.args.derivation.now.wanted.now in
+    let derived = c.args.derivation.now.derived.now in
     let rows = c.args.rows.now.rows in
     let S0 = c.args.symbols.now in
     let names = c.deref.ensures.value ∙ c.in_ok-names.ensures in
-    let at : c.deref-in-loop-place.result.now ≡ map (first_place (wanted ++ range_with_len c.args.first (length derived))) c.args.shown.now = c.deref-in-loop-place.ensures.value ∙ c.in_ok-places.ensures ∙ ap (λ (l : List ℕ). map (first_place l) c.args.shown.now) names in
+    let at : c.deref-in-loop-place.result.now ≡ map (first_place (wanted ++ range_with_len c.args.derivation.now.first (length derived))) c.args.shown.now = c.deref-in-loop-place.ensures.value ∙ c.in_ok-places.ensures ∙ ap (λ (l : List ℕ). map (first_place l) c.args.shown.now) names in
     let wide : Each rows (λ (r : List ℕ). length r ≡ length wanted) = λ r m. c.count-place-end.ensures.wide r m ∙ c.requires.many in
-    c.loop-place.invariant.width ∙ sym (ap length at ∙ length-map c.args.shown.now (first_place (wanted ++ range_with_len c.args.first (length derived))))
+    c.loop-place.invariant.width ∙ sym (ap length at ∙ length-map c.args.shown.now (first_place (wanted ++ range_with_len c.args.derivation.now.first (length derived))))
 
 pub returns-in_err-derive_row-clause-grows : goal.returns-in_err-derive_row-clause-grows
 returns-in_err-derive_row-clause-grows g c = extends_both c.args.symbols.now c.loop-place.symbols c.derive_row.new.symbols c.loop-place.invariant.grows c.derive_row.ensures.grows
@@ -91,30 +91,30 @@ returns-then-branch-clause-grows g c = extends_both c.args.symbols.now c.loop-pl
 
 pub returns-then-branch-clause-rows : goal.returns-then-branch-clause-rows
 returns-then-branch-clause-rows g c =
-    let wanted = c.args.wanted.now in
-    let derived = c.args.derived.now in
+    let wanted = c.args.derivation.now.wanted.now in
+    let derived = c.args.derivation.now.derived.now in
     let rows = c.args.rows.now.rows in
     let S0 = c.args.symbols.now in
     let names = c.deref.ensures.value ∙ c.in_ok-names.ensures in
-    let at : c.deref-in-loop-place.result.now ≡ map (first_place (wanted ++ range_with_len c.args.first (length derived))) c.args.shown.now = c.deref-in-loop-place.ensures.value ∙ c.in_ok-places.ensures ∙ ap (λ (l : List ℕ). map (first_place l) c.args.shown.now) names in
+    let at : c.deref-in-loop-place.result.now ≡ map (first_place (wanted ++ range_with_len c.args.derivation.now.first (length derived))) c.args.shown.now = c.deref-in-loop-place.ensures.value ∙ c.in_ok-places.ensures ∙ ap (λ (l : List ℕ). map (first_place l) c.args.shown.now) names in
     let wide : Each rows (λ (r : List ℕ). length r ≡ length wanted) = λ r m. c.count-place-end.ensures.wide r m ∙ c.requires.many in
-    let d = subst (λ (r : List ℕ). DerivesTo g.M.Meaning.apply wanted derived c.deref-in-loop-place.result.now c.loop-place.symbols c.derive_row.new.symbols r c.in_ok-derive_row.field-0 c.loop-place.out c.derive_row.new.out) c.row.ensures.row c.in_ok-derive_row.ensures.derives in
+    let d = subst (λ (r : List ℕ). DerivesTo g.M.Meaning.apply wanted derived c.deref-in-loop-place.result.now c.loop-place.symbols c.derive_row.new.symbols r c.in_ok-derive_row.field-0 c.loop-place.out c.derive_row.new.out) c.row-row.ensures.row c.in_ok-derive_row.ensures.derives in
     let inside : c.loop-place.place < length rows = omega (arith, c.loop-place-test.true, c.count-place-end.ensures.count) in
-    upto_full g.M.Meaning.apply wanted derived c.args.first c.args.shown.now c.deref-in-loop-place.result.now S0 rows c.requires.texts wide at c.requires.shown (length-range_with_len c.args.first (length derived))
+    upto_full g.M.Meaning.apply wanted derived c.args.derivation.now.first c.args.shown.now c.deref-in-loop-place.result.now S0 rows c.requires.texts wide at c.requires.shown (length-range_with_len c.args.derivation.now.first (length derived))
     c.loop-place.symbols c.derive_row.new.symbols c.loop-place.out c.derive_row.new.out c.loop-place.place c.args.most inside c.loop-place.invariant.most c.derive_row.ensures.apart c.loop-place.invariant.grows c.derive_row.ensures.grows
     (subst (λ (b : Bool). DerivesTo g.M.Meaning.apply wanted derived c.deref-in-loop-place.result.now c.loop-place.symbols c.derive_row.new.symbols (numbers_at rows c.loop-place.place) b c.loop-place.out c.derive_row.new.out) c.if-branch.true d)
     c.loop-place.invariant.standing
 
 pub loop-place-preserved : goal.loop-place-preserved
 loop-place-preserved g c =
-    let wanted = c.args.wanted.now in
-    let derived = c.args.derived.now in
+    let wanted = c.args.derivation.now.wanted.now in
+    let derived = c.args.derivation.now.derived.now in
     let rows = c.args.rows.now.rows in
     let S0 = c.args.symbols.now in
     let names = c.deref.ensures.value ∙ c.in_ok-names.ensures in
-    let at : c.deref-in-loop-place.result.now ≡ map (first_place (wanted ++ range_with_len c.args.first (length derived))) c.args.shown.now = c.deref-in-loop-place.ensures.value ∙ c.in_ok-places.ensures ∙ ap (λ (l : List ℕ). map (first_place l) c.args.shown.now) names in
+    let at : c.deref-in-loop-place.result.now ≡ map (first_place (wanted ++ range_with_len c.args.derivation.now.first (length derived))) c.args.shown.now = c.deref-in-loop-place.ensures.value ∙ c.in_ok-places.ensures ∙ ap (λ (l : List ℕ). map (first_place l) c.args.shown.now) names in
     let wide : Each rows (λ (r : List ℕ). length r ≡ length wanted) = λ r m. c.count-place-end.ensures.wide r m ∙ c.requires.many in
-    let d = subst (λ (r : List ℕ). DerivesTo g.M.Meaning.apply wanted derived c.deref-in-loop-place.result.now c.loop-place.symbols c.derive_row.new.symbols r c.in_ok-derive_row.field-0 c.loop-place.out c.derive_row.new.out) c.row.ensures.row c.in_ok-derive_row.ensures.derives in
+    let d = subst (λ (r : List ℕ). DerivesTo g.M.Meaning.apply wanted derived c.deref-in-loop-place.result.now c.loop-place.symbols c.derive_row.new.symbols r c.in_ok-derive_row.field-0 c.loop-place.out c.derive_row.new.out) c.row-row.ensures.row c.in_ok-derive_row.ensures.derives in
     let inside : c.loop-place.place < length rows = omega (arith, c.loop-place-test.true, c.count-place-end.ensures.count) in
     let more = subst (λ (b : Bool). DerivesTo g.M.Meaning.apply wanted derived c.deref-in-loop-place.result.now c.loop-place.symbols c.derive_row.new.symbols (numbers_at rows c.loop-place.place) b c.loop-place.out c.derive_row.new.out) c.if-branch.false d in
     record {
@@ -122,7 +122,7 @@ loop-place-preserved g c =
       apart = c.derive_row.ensures.apart;
       width = more.collects.width ∙ c.loop-place.invariant.width;
       most = more.collects.most ∙ c.loop-place.invariant.most;
-      standing = upto_more g.M.Meaning.apply wanted derived c.args.first c.args.shown.now c.deref-in-loop-place.result.now S0 rows c.requires.texts wide at c.requires.shown (length-range_with_len c.args.first (length derived))
+      standing = upto_more g.M.Meaning.apply wanted derived c.args.derivation.now.first c.args.shown.now c.deref-in-loop-place.result.now S0 rows c.requires.texts wide at c.requires.shown (length-range_with_len c.args.derivation.now.first (length derived))
           c.loop-place.symbols c.derive_row.new.symbols c.loop-place.out c.derive_row.new.out c.loop-place.place inside c.loop-place.invariant.grows c.derive_row.ensures.grows more c.loop-place.invariant.standing;
     }
 
@@ -134,14 +134,14 @@ returns-clause-apart g c = c.loop-place.invariant.apart
 
 pub returns-clause-rows : goal.returns-clause-rows
 returns-clause-rows g c =
-    let wanted = c.args.wanted.now in
-    let derived = c.args.derived.now in
+    let wanted = c.args.derivation.now.wanted.now in
+    let derived = c.args.derivation.now.derived.now in
     let rows = c.args.rows.now.rows in
     let S0 = c.args.symbols.now in
     let names = c.deref.ensures.value ∙ c.in_ok-names.ensures in
-    let at : c.in_ok-places.places.items ≡ map (first_place (wanted ++ range_with_len c.args.first (length derived))) c.args.shown.now = c.in_ok-places.ensures ∙ ap (λ (l : List ℕ). map (first_place l) c.args.shown.now) names in
+    let at : c.in_ok-places.places.items ≡ map (first_place (wanted ++ range_with_len c.args.derivation.now.first (length derived))) c.args.shown.now = c.in_ok-places.ensures ∙ ap (λ (l : List ℕ). map (first_place l) c.args.shown.now) names in
     let wide : Each rows (λ (r : List ℕ). length r ≡ length wanted) = λ r m. c.count-place-end.ensures.wide r m ∙ c.requires.many in
-    upto_all g.M.Meaning.apply wanted derived c.args.first c.args.shown.now c.in_ok-places.places.items S0 rows c.requires.texts wide at c.requires.shown (length-range_with_len c.args.first (length derived))
+    upto_all g.M.Meaning.apply wanted derived c.args.derivation.now.first c.args.shown.now c.in_ok-places.places.items S0 rows c.requires.texts wide at c.requires.shown (length-range_with_len c.args.derivation.now.first (length derived))
     c.finish.result c.loop-place.symbols c.loop-place.out c.loop-place.place c.args.most (omega (arith, c.loop-place-test.false, c.count-place-end.ensures.count, c.loop-place.auto.place-end)) c.loop-place.invariant.most c.loop-place.invariant.width
     c.loop-place.invariant.apart c.loop-place.invariant.standing c.finish.ensures
 

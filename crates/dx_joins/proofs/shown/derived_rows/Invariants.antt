@@ -9,5 +9,5 @@ invariant-loop-place g l = record {
   apart : AreDistinctValues l.symbols;
   width : l.out.width ≡ length l.shown;
   most : l.out.most ≡ l.most;
-  standing : Standing l.symbols l.out (Upto g.M.Meaning.apply l.wanted l.derived l.first l.shown l.initial.symbols l.rows.rows l.place);
+  standing : Standing l.symbols l.out (Upto g.M.Meaning.apply l.derivation.wanted.now l.derivation.derived.now l.derivation.first l.shown l.initial.symbols l.rows.rows l.place);
 }

@@ -47,14 +47,14 @@ derived_rows-requires-clause-known g c =
     let few = subst (λ (l : List ℕ). length l ≤ first) w c.in_ok-wanted.ensures.few in
     args_wanted (widths (shown_tables c.args.source.now.symbols c.args.source.now.tables)) c.args.premise.now c.args.derived.now c.args.shown.now c.deref-in-Some.result.now first c.requires.fits c.premise_variables-first.ensures.number below all few
 
-pub derived_rows-requires-clause-numbers : goal.derived_rows-requires-clause-numbers
-derived_rows-requires-clause-numbers g c =
+pub invariant_of-derivation : goal.invariant_of-derivation
+invariant_of-derivation g c =
     let first = c.premise_variables-first.result in
     let w = sym c.deref-in-Some.ensures.value in
     let below = subst (λ (l : List ℕ). Each l (λ x. x < first)) w c.in_ok-wanted.ensures.below in
     let all = subst (λ (l : List ℕ). (x : ℕ) → x < first → IsVariableWanted c.args.derived.now c.args.shown.now x → x ∈ l) w c.in_ok-wanted.ensures.all in
     let few = subst (λ (l : List ℕ). length l ≤ first) w c.in_ok-wanted.ensures.few in
-    room_wanted (widths (shown_tables c.args.source.now.symbols c.args.source.now.tables)) c.args.premise.now c.args.derived.now c.args.shown.now c.deref-in-Some.result.now first c.requires.fits c.premise_variables-first.ensures.number below all few
+    record { numbers = room_wanted (widths (shown_tables c.args.source.now.symbols c.args.source.now.tables)) c.args.premise.now c.args.derived.now c.args.shown.now c.deref-in-Some.result.now first c.requires.fits c.premise_variables-first.ensures.number below all few }
 
 pub premise_shown-requires-2 : goal.premise_shown-requires-2
 premise_shown-requires-2 g c =

@@ -16,8 +16,8 @@ ordered_rows-requires-clause-few c = (few_variables c.args.premise.now c.in_ok-p
 pub ordered_rows-requires-clause-shown : goal.ordered_rows-requires-clause-shown
 ordered_rows-requires-clause-shown c = (all_known c.args.premise.now c.in_ok-patterns.patterns.items c.args.shown.now c.in_ok-patterns.ensures c.requires.fits.numbered c.requires.fits.known)
 
-pub ordered_rows-requires-clause-marks : goal.ordered_rows-requires-clause-marks
-ordered_rows-requires-clause-marks c = ap length (c.deref.ensures.value ∙ c.in_ok-marks.ensures.marks) ∙ length-map c.args.source.now.symbols is_text
+pub invariant_of-marked : goal.invariant_of-marked
+invariant_of-marked c = record { each = ap length (c.deref.ensures.value ∙ c.in_ok-marks.ensures.marks) ∙ length-map c.args.source.now.symbols is_text }
 
 pub returns-clause-rows : goal.returns-clause-rows
 returns-clause-rows c = λ convert.

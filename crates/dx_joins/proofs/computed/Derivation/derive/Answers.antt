@@ -7,7 +7,7 @@ use Rattle.dx_instance.proofs.ShownFacts.{extends_both}
 use Rattle.dx_joins.specs.Shown.{AreTexts, texts_of}
 use Rattle.dx_joins.specs.Derivations.{derived_values}
 use Rattle.dx_joins.proofs.Growing.{derive_more, texts_grow}
-use Rattle.dx_joins.proofs.computed.derive.Goals as goal
+use Rattle.dx_joins.proofs.computed.Derivation.derive.Goals as goal
 
 pub loop-one-init : goal.loop-one-init
 loop-one-init g c =
@@ -20,10 +20,10 @@ loop-one-init g c =
     }
 
 pub derived_number-requires-clause-listed : goal.derived_number-requires-clause-listed
-derived_number-requires-clause-listed g c = c.requires.listed _ (item_in c.args.derived.now c.loop-one.one-index c.one-item.result c.loop-one-test.true c.one-item.is)
+derived_number-requires-clause-listed g c = c.requires.listed _ (item_in c.args.self.now.derived.now c.loop-one.one-index c.one-item.result c.loop-one-test.true c.one-item.is)
 
 pub derived_number-requires-clause-known : goal.derived_number-requires-clause-known
-derived_number-requires-clause-known g c = c.requires.known _ (item_in c.args.derived.now c.loop-one.one-index c.one-item.result c.loop-one-test.true c.one-item.is)
+derived_number-requires-clause-known g c = c.requires.known _ (item_in c.args.self.now.derived.now c.loop-one.one-index c.one-item.result c.loop-one-test.true c.one-item.is)
 
 pub derived_number-requires-clause-texts : goal.derived_number-requires-clause-texts
 derived_number-requires-clause-texts g c = texts_grow c.args.symbols.now c.loop-one.symbols c.args.row.now c.loop-one.invariant.grows c.requires.texts
@@ -37,7 +37,7 @@ returns-in_err-push-clause-grows g c = extends_both c.args.symbols.now c.loop-on
 pub loop-one-preserved : goal.loop-one-preserved
 loop-one-preserved g c =
     let inv = c.loop-one.invariant in
-    let more = derive_more g.M.Meaning.apply c.args.names.now c.args.derived.now c.args.row.now c.loop-one.buffer.items c.loop-one.one-index c.one-item.result c.in_ok-number.number c.args.symbols.now c.loop-one.symbols c.derived_number.new.symbols
+    let more = derive_more g.M.Meaning.apply c.args.self.now.wanted.now c.args.self.now.derived.now c.args.row.now c.loop-one.buffer.items c.loop-one.one-index c.one-item.result c.in_ok-number.number c.args.symbols.now c.loop-one.symbols c.derived_number.new.symbols
     c.loop-one-test.true c.one-item.is inv.grows c.derived_number.ensures.grows c.requires.texts inv.texts c.in_ok-number.ensures.within c.in_ok-number.ensures.value inv.shown in
     record {
       grows = extends_both c.args.symbols.now c.loop-one.symbols c.derived_number.new.symbols inv.grows c.derived_number.ensures.grows;
@@ -47,4 +47,4 @@ loop-one-preserved g c =
     }
 
 pub returns-clause-shown : goal.returns-clause-shown
-returns-clause-shown g c = c.loop-one.invariant.shown ∙ ap (λ (l : List Derived). texts_of c.args.symbols.now c.args.row.now ++ derived_values g.M.Meaning.apply c.args.names.now l (texts_of c.args.symbols.now c.args.row.now)) (take_all c.loop-one.one-index c.args.derived.now c.loop-one-test.false)
+returns-clause-shown g c = c.loop-one.invariant.shown ∙ ap (λ (l : List Derived). texts_of c.args.symbols.now c.args.row.now ++ derived_values g.M.Meaning.apply c.args.self.now.wanted.now l (texts_of c.args.symbols.now c.args.row.now)) (take_all c.loop-one.one-index c.args.self.now.derived.now c.loop-one-test.false)
