@@ -52,90 +52,80 @@ fn number_for(text: Text, looks: bool, symbols: &mut Gathered) -> Result<u32, Al
     Ok(symbols.push(value)? as u32)
 }
 
-// Puts numbers of a column's texts into its cells. Texts that come often are looked for.
-fn intern_column(
-    texts: &Texts,
-    column: usize,
-    width: usize,
-    count: usize,
-    symbols: &mut Gathered,
-    cells: &mut Vec<u32>,
-) -> Result<(), AllocError>
-    requires column { column < width }
-    requires texts { length texts.now ≡ count * width }
-    requires cells { length cells.old.items ≡ count * width }
-    ensures size { length cells.new.items ≡ length cells.old.items }
-    ensures numbered { OnOk result (AreNumbersOfTexts symbols.new texts.now width column cells.new.items count) }
-    ensures others { OnOk result (OthersStay width column cells.old.items cells.new.items) }
-    ensures grows { Extends symbols.old symbols.new }
-{
-    let mut repeats = Repeats::new();
-    for row in 0..count {
-        let place = row * width + column;
-        let before = symbols.len();
-        let text = texts.at(place)?;
-        let looks = repeats.are_likely(row, &text);
-        let number = number_for(text, looks, symbols)?;
-        repeats.note(u64::from(number) < before);
-        cells[place] = number;
-    }
-    Ok(())
-}
-
-// The same, unless the column is not used: its cells stay.
-fn settle_column(
-    texts: &Texts,
-    column: u32,
+// The texts of a table: so many records, each of so many texts.
+#[derive(Drop)]
+struct Grid<'a> {
+    texts: &'a Texts,
     width: u32,
     count: u32,
-    used: &[bool],
-    symbols: &mut Gathered,
-    cells: &mut Vec<u32>,
-) -> Result<(), AllocError>
-    requires column { column < width }
-    requires texts { length texts.now ≡ count * width }
-    requires cells { length cells.old.items ≡ count * width }
-    requires settled { AreSettled used.now symbols.old texts.now width count cells.old.items (column + 1) }
-    ensures size { length cells.new.items ≡ length cells.old.items }
-    ensures settled { OnOk result (AreSettled used.now symbols.new texts.now width count cells.new.items column) }
-    ensures grows { Extends symbols.old symbols.new }
-{
-    if !is_used(used, column) {
-        return Ok(());
-    }
-    intern_column(
-        texts,
-        column as usize,
-        width as usize,
-        count as usize,
-        symbols,
-        cells,
-    )
+    ghost whole: { length texts.now ≡ count * width },
 }
 
-// The rows of so many records, each of so many texts. Their numbers are found column by column, from the last one on: the
-// first columns are mostly those whose values are all different, and come when those of the others are remembered.
-fn intern_rows(
-    alloc: Global,
-    texts: &Texts,
-    count: u32,
-    width: u32,
-    used: &[bool],
-    symbols: &mut Gathered,
-) -> Result<Rows, AllocError>
-    requires { length texts.now ≡ count * width }
-    ensures shown { IfOk result (λ rows. map (shown_row symbols.new) rows.rows ≡ map (constants_used used.now) (records_in count width texts.now)) }
-    ensures below { IfOk result (λ rows. Each rows.rows (AreBelow (length symbols.new))) }
-    ensures width { IfOk result (λ rows. rows.width ≡ width) }
-    ensures grows { Extends symbols.old symbols.new }
-{
-    let blank = intern_blank(alloc, used, symbols)?;
-    let mut cells = vec![in alloc; blank; texts.len()]?;
-    for settled in 0..width {
-        let column = width - 1 - settled;
-        settle_column(texts, column, width, count, used, symbols, &mut cells)?;
+impl<'a> Grid<'a> {
+    // Puts numbers of a column's texts into its cells. Texts that come often are looked for.
+    fn intern_column(
+        &self,
+        column: u32,
+        symbols: &mut Gathered,
+        cells: &mut Vec<u32>,
+    ) -> Result<(), AllocError>
+        requires column { column < self.now.width }
+        requires cells { length cells.old.items ≡ self.now.count * self.now.width }
+        ensures size { length cells.new.items ≡ length cells.old.items }
+        ensures numbered { OnOk result (AreNumbersOfTexts symbols.new self.now.texts.now self.now.width column cells.new.items self.now.count) }
+        ensures others { OnOk result (OthersStay self.now.width column cells.old.items cells.new.items) }
+        ensures grows { Extends symbols.old symbols.new }
+    {
+        let mut repeats = Repeats::new();
+        for row in 0..self.count as usize {
+            let place = row * self.width as usize + column as usize;
+            let before = symbols.len();
+            let text = self.texts.at(place)?;
+            let looks = repeats.are_likely(row, &text);
+            let number = number_for(text, looks, symbols)?;
+            repeats.note(u64::from(number) < before);
+            cells[place] = number;
+        }
+        Ok(())
     }
-    Ok(Rows::of_cells(width, count, cells))
+
+    // The same, unless the column is not used: its cells stay.
+    fn settle_column(
+        &self,
+        used: &[bool],
+        column: u32,
+        symbols: &mut Gathered,
+        cells: &mut Vec<u32>,
+    ) -> Result<(), AllocError>
+        requires column { column < self.now.width }
+        requires cells { length cells.old.items ≡ self.now.count * self.now.width }
+        requires settled { AreSettled used.now symbols.old self.now.texts.now self.now.width self.now.count cells.old.items (column + 1) }
+        ensures size { length cells.new.items ≡ length cells.old.items }
+        ensures settled { OnOk result (AreSettled used.now symbols.new self.now.texts.now self.now.width self.now.count cells.new.items column) }
+        ensures grows { Extends symbols.old symbols.new }
+    {
+        if !is_used(used, column) {
+            return Ok(());
+        }
+        self.intern_column(column, symbols, cells)
+    }
+
+    // The rows of the records. Their numbers are found column by column, from the last one on: the first columns are mostly
+    // those whose values are all different, and come when those of the others are remembered.
+    fn rows(&self, alloc: Global, used: &[bool], symbols: &mut Gathered) -> Result<Rows, AllocError>
+        ensures shown { IfOk result (λ rows. map (shown_row symbols.new) rows.rows ≡ map (constants_used used.now) (records_in self.now.count self.now.width self.now.texts.now)) }
+        ensures below { IfOk result (λ rows. Each rows.rows (AreBelow (length symbols.new))) }
+        ensures width { IfOk result (λ rows. rows.width ≡ self.now.width) }
+        ensures grows { Extends symbols.old symbols.new }
+    {
+        let blank = intern_blank(alloc, used, symbols)?;
+        let mut cells = vec![in alloc; blank; self.texts.len()]?;
+        for settled in 0..self.width {
+            let column = self.width - 1 - settled;
+            self.settle_column(used, column, symbols, &mut cells)?;
+        }
+        Ok(Rows::of_cells(self.width, self.count, cells))
+    }
 }
 
 /// Reads the rows of a table as `load_table` does, with the same faults, and gives each constant a number: those that
@@ -163,7 +153,11 @@ pub fn load_into(
     ensures grows { Extends symbols.old symbols.new }
 {
     let read = read_fields(alloc, bytes, columns)?;
-    let width = columns.len() as u32;
-    let rows = intern_rows(alloc, &read.0, read.1, width, used, symbols)?;
+    let grid = Grid {
+        texts: &read.0,
+        width: columns.len() as u32,
+        count: read.1,
+    };
+    let rows = grid.rows(alloc, used, symbols)?;
     Ok(rows)
 }

@@ -5,18 +5,18 @@ use Rattle.dx_model.specs.declared.values.Value.TheVariants.{Const}
 use Rattle.dx_instance.proofs.NumberFacts.{stays}
 use Rattle.dx_instance.proofs.ShownFacts.{extends_both}
 use Rattle.dx_csv.proofs.ColumnFacts.{column_more, others_more}
-use Rattle.dx_csv.proofs.interning.intern_column.Goals as goal
+use Rattle.dx_csv.proofs.interning.Grid.intern_column.Goals as goal
 
 pub loop-row-init : goal.loop-row-init
 loop-row-init c = record { size = refl; numbered = λ r h. absurd (omega (arith, h)); others = λ r d h n. refl; grows = stays c.args.symbols.now }
 
 pub loop-row-preserved : goal.loop-row-preserved
 loop-row-preserved c =
-    let texts = c.args.texts.now in
-    let w = c.args.width in
+    let texts = c.args.self.now.texts.now in
+    let w = c.args.self.now.width in
     let k = c.args.column in
     let i = c.loop-row.row in
-    let t = mul-add-lt i w k c.args.count c.loop-row-test.true c.requires.column in
+    let t = mul-add-lt i w k c.args.self.now.count c.loop-row-test.true c.requires.column in
     let b : i * w + k < length c.loop-row.cells.items = omega (arith, t, c.loop-row.invariant.size, c.requires.cells) in
     let g = c.in_ok-number.ensures.grows in
     record {
