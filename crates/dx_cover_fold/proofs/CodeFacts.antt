@@ -156,5 +156,3 @@ pub texts_held : (S : List Value) (variables row xs : List ℕ) (f : ℕ → Val
 texts_held S variables row [] f t e v m = elim m [ ]
 texts_held S variables row (x ∷ xs) f t e v (here d) = subst (IsHeld S) (sym (e x) ∙ d) (text_held S variables row x t)
 texts_held S variables row (x ∷ xs) f t e v (there m) = texts_held S variables row xs f t e v m
-
--- ---- plans

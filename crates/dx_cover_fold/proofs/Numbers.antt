@@ -11,7 +11,7 @@ use Rattle.dx_model.specs.declared.rules.Cell.TheVariants.{Var, Ex, Lit}
 use Rattle.dx_model.specs.declared.rules.Atom.{Atom}
 use Rattle.dx_model.specs.Rules.{cells_of}
 use Rattle.dx_model.specs.Covers.{after_existential}
-use Rattle.dx_cover_fold.specs.Folding.{IsNullAt}
+use Rattle.dx_cover_fold.specs.Folding.{IsNullFor}
 
 greater : (v n : ℕ) → cond (nat_lt v n) n (suc v) ≡ max (suc v) n
 greater v n = elim (cases_lt v n) [
@@ -43,27 +43,24 @@ last_is : {X : Type 0} (x y : X) → x ∈ (y ∷ []) → x ≡ y
 last_is x y (here e) = sym e
 last_is x y (there m) = elim m [ ]
 
-pub null_more : (old nulls new : List NullId) (rule row v : ℕ) (k : NullId) → k ≡ record { rule = rule; var = v; row = row } → new ≡ nulls ++ k ∷ []
-    → ((n : NullId) → (n ∈ nulls) ↔ ((n ∈ old) ⊎ IsNullAt rule row v n)) → (n : NullId) → (n ∈ new) ↔ ((n ∈ old) ⊎ IsNullAt rule row (v + 1) n)
-null_more old nulls new rule row v k is e inv n = rw (e, is) (forth, back)
+pub null_more : (old nulls new : List NullId) (rule var r : ℕ) (k : NullId) → k ≡ record { rule = rule; var = var; row = r } → new ≡ nulls ++ k ∷ []
+    → ((n : NullId) → (n ∈ nulls) ↔ ((n ∈ old) ⊎ IsNullFor rule var r n)) → (n : NullId) → (n ∈ new) ↔ ((n ∈ old) ⊎ IsNullFor rule var (r + 1) n)
+null_more old nulls new rule var r k is e inv n = rw (e, is) (forth, back)
   where
-    one : NullId
-    one = record { rule = rule; var = v; row = row }
-
-    forth : n ∈ (nulls ++ record { rule = rule; var = v; row = row } ∷ []) → (n ∈ old) ⊎ IsNullAt rule row (v + 1) n
+    forth : n ∈ (nulls ++ record { rule = rule; var = var; row = r } ∷ []) → (n ∈ old) ⊎ IsNullFor rule var (r + 1) n
     forth m = elim (from_append nulls m) [
-      | inl l ↦ elim ((inv n).0 l) [ inl o ↦ inl o | inr h ↦ inr (record { rule_is = h.rule_is; row_is = h.row_is; below = let b = h.below in omega arith }) ]
-      | inr r ↦ let d = last_is n (record { rule = rule; var = v; row = row }) r in
-          inr (record { rule_is = ap (λ (z : NullId). z.rule) d; row_is = ap (λ (z : NullId). z.row) d; below = let b : n.var ≡ v = ap (λ (z : NullId). z.var) d in omega arith })
+      | inl l ↦ elim ((inv n).0 l) [ inl o ↦ inl o | inr h ↦ inr (record { rule_is = h.rule_is; var_is = h.var_is; place = let b = h.place in omega arith }) ]
+      | inr l ↦ let d = last_is n (record { rule = rule; var = var; row = r }) l in
+          inr (record { rule_is = ap (λ (z : NullId). z.rule) d; var_is = ap (λ (z : NullId). z.var) d; place = let b : n.row ≡ r = ap (λ (z : NullId). z.row) d in omega arith })
     ]
 
-    back : (n ∈ old) ⊎ IsNullAt rule row (v + 1) n → n ∈ (nulls ++ record { rule = rule; var = v; row = row } ∷ [])
+    back : (n ∈ old) ⊎ IsNullFor rule var (r + 1) n → n ∈ (nulls ++ record { rule = rule; var = var; row = r } ∷ [])
     back (inl o) = in_left _ ((inv n).1 (inl o))
-    back (inr h) = elim (cases_lt n.var v) [
-      | inl l ↦ in_left _ ((inv n).1 (inr (record { rule_is = h.rule_is; row_is = h.row_is; below = l })))
+    back (inr h) = elim (cases_lt n.row r) [
+      | inl l ↦ in_left _ ((inv n).1 (inr (record { rule_is = h.rule_is; var_is = h.var_is; place = l })))
       | inr g ↦
-          let b : v ≡ n.var = let q = h.below in omega arith in
+          let b : r ≡ n.row = let q = h.place in omega arith in
           let p = h.rule_is in
-          let q = h.row_is in
-          in_right nulls (here (λ i. record { rule = sym p i; var = b i; row = sym q i }))
+          let q = h.var_is in
+          in_right nulls (here (λ i. record { rule = sym p i; var = sym q i; row = b i }))
     ]

@@ -13,13 +13,13 @@ pub record IsPlaceNull (R : List Rule) (rows : Rows) (n : NullId) : Type 0 where
   pub place : IsPlace R rows n.rule n.row
   pub variable : n.var < after_existential (cells_of (rule_at R n.rule).conclusion)
 
--- the null of one of so many existential variables of a rule, at a place
-pub record IsNullAt (rule row count : ℕ) (n : NullId) : Type 0 where
+-- the null of an existential variable of a rule, at one of its first places
+pub record IsNullFor (rule var rows : ℕ) (n : NullId) : Type 0 where
   pub rule_is : n.rule ≡ rule
-  pub row_is : n.row ≡ row
-  pub below : n.var < count
+  pub var_is : n.var ≡ var
+  pub place : n.row < rows
 
--- and at one of its first places
+-- and of one of its first existential variables
 pub record IsNullOf (rule rows count : ℕ) (n : NullId) : Type 0 where
   pub rule_is : n.rule ≡ rule
   pub place : n.row < rows

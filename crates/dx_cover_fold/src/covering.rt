@@ -24,51 +24,61 @@ use dx_instance::Rows;
 use dx_model::{CellMap, Rule};
 use std::alloc::{AllocError, Global};
 
-/// What covers a place: what is known of it, or else what an index gives for the numbers of its row.
-fn or_first(
-    alloc: Global,
-    known: Option<Found>,
-    index: &Index,
-    row: &[u32],
-    own: &[NumberAt],
+/// An index of what a cell map gives at the places of a rule: the rule, and the number of the cell map.
+#[derive(Drop)]
+struct MapIndex {
+    index: Index,
     rule: u32,
     map: u32,
-) -> Result<Option<Found>, AllocError>
-    requires { Each own.now (RowHasColumn (length row.now)) }
-    ensures { IfOk result (λ o. o ≡ first_or rule map index.now own.now known row.now) }
-{
-    match known {
-        Some(found) => Ok(Some(found)),
-        None => {
-            let numbers = numbers_said(alloc, row, own)?;
-            match index.first(&numbers) {
-                Some(row) => Ok(Some(Found { rule, map, row })),
-                None => Ok(None),
+}
+
+impl MapIndex {
+    /// What covers a place: what is known of it, or else what the index gives for the numbers of its row.
+    fn or_first(
+        &self,
+        alloc: Global,
+        known: Option<Found>,
+        row: &[u32],
+        own: &[NumberAt],
+    ) -> Result<Option<Found>, AllocError>
+        requires { Each own.now (RowHasColumn (length row.now)) }
+        ensures { IfOk result (λ o. o ≡ first_or self.now.rule self.now.map self.now.index own.now known row.now) }
+    {
+        match known {
+            Some(found) => Ok(Some(found)),
+            None => {
+                let numbers = numbers_said(alloc, row, own)?;
+                match self.index.first(&numbers) {
+                    Some(row) => Ok(Some(Found {
+                        rule: self.rule,
+                        map: self.map,
+                        row,
+                    })),
+                    None => Ok(None),
+                }
             }
         }
     }
-}
 
-/// The same for each place of a rule.
-fn or_firsts(
-    alloc: Global,
-    known: &[Option<Found>],
-    index: &Index,
-    rows: &Rows,
-    own: &[NumberAt],
-    rule: u32,
-    map: u32,
-) -> Result<Vec<Option<Found>>, AllocError>
-    requires columns { Each own.now (RowHasColumn rows.now.width) }
-    requires many { length known.now ≡ length rows.now.rows }
-    ensures { IfOk result (λ v. AreOrFirsts rule map index.now rows.now.rows own.now known.now v.items (length rows.now.rows)) }
-{
-    let mut all = Vec::with_capacity(alloc, known.len())?;
-    for place in 0..rows.count() {
-        let row = rows.row(place);
-        all.push(or_first(alloc, known[place as usize], index, row, own, rule, map)?)?;
+    /// The same for each place of a rule.
+    fn or_firsts(
+        &self,
+        alloc: Global,
+        known: &[Option<Found>],
+        rows: &Rows,
+        own: &[NumberAt],
+    ) -> Result<Vec<Option<Found>>, AllocError>
+        requires columns { Each own.now (RowHasColumn rows.now.width) }
+        requires many { length known.now ≡ length rows.now.rows }
+        ensures { IfOk result (λ v. AreOrFirsts self.now.rule self.now.map self.now.index rows.now.rows own.now known.now v.items (length rows.now.rows)) }
+    {
+        let mut all = Vec::with_capacity(alloc, known.len())?;
+        for place in 0..rows.count() {
+            let row = rows.row(place);
+            all.push(self.or_first(alloc, known[place as usize], row, own)?)?;
+        }
+        Ok(all)
     }
-    Ok(all)
 }
 
 /// An index of what a cell map to a rule gives at that rule's places.
@@ -88,95 +98,85 @@ fn index_by(
     Index::build(alloc, rows, &plan)
 }
 
-/// What covers the places of rule i by one of its cell maps, if nothing is known that does.
-fn by_map(
+/// What it takes to find the covers of the places of one rule: all rules with the covers among them and their matches, the
+/// number of the rule, and the plan of its exported variables.
+#[derive(Drop)]
+struct Covering<'a, 'm> {
     alloc: Global,
-    rules: &[Rule],
-    matches: &Matched<'_>,
-    i: u32,
-    own: &[NumberAt],
-    j: u32,
-    map: &CellMap,
-    number: u32,
-    known: &[Option<Found>],
-) -> Result<Vec<Option<Found>>, AllocError>
-    requires from { i < length rules.now }
-    requires to { j < length rules.now }
-    requires one { length matches.now.tables ≡ length rules.now }
-    requires number { slice_index_or (used_maps (rule_at rules.now i) (rule_at rules.now j)) number no_map ≡ map.now }
-    requires own { AreOwn rules.now matches.now i own.now }
-    requires many { length known.now ≡ length (slice_index_or (matched_tuples matches.now) i []) }
-    ensures many { IfOk result (λ v. length v.items ≡ length known.now) }
-    ensures finds { IfOk result (λ v. (C : List Cover) → FindsAmong rules.now (matched_tuples matches.now) i C known.now
-        → FindsAmong rules.now (matched_tuples matches.now) i (C ++ places_by (matched_tuples matches.now) j map.now) v.items) }
-{
-    let (from, to) = (&rules[i as usize], &rules[j as usize]);
-    let here = matches.rows(i);
-    let there = matches.rows(j);
-    let index = index_by(alloc, from, to, matches, there, map)?;
-    Ok(or_firsts(alloc, known, &index, here, own, j, number)?)
+    rules: &'a [Rule],
+    covers: &'a Covers,
+    matches: &'a Matched<'m>,
+    rule: u32,
+    own: Vec<NumberAt>,
+    ghost from: { rule < length rules.now },
+    ghost one: { length matches.now.tables ≡ length rules.now },
 }
 
-/// What covers the places of rule i by these cell maps to rule j, if nothing is known that does.
-fn by_maps(
-    alloc: Global,
-    rules: &[Rule],
-    matches: &Matched<'_>,
-    i: u32,
-    own: &[NumberAt],
-    j: u32,
-    maps: &[CellMap],
-    known: Vec<Option<Found>>,
-) -> Result<Vec<Option<Found>>, AllocError>
-    requires from { i < length rules.now }
-    requires to { j < length rules.now }
-    requires one { length matches.now.tables ≡ length rules.now }
-    requires maps { maps.now ≡ used_maps (rule_at rules.now i) (rule_at rules.now j) }
-    requires own { AreOwn rules.now matches.now i own.now }
-    requires many { length known.items ≡ length (slice_index_or (matched_tuples matches.now) i []) }
-    ensures many { IfOk result (λ v. length v.items ≡ length known.items) }
-    ensures finds { IfOk result (λ v. (C : List Cover) → FindsAmong rules.now (matched_tuples matches.now) i C known.items
-        → FindsAmong rules.now (matched_tuples matches.now) i (C ++ flat_map (places_by (matched_tuples matches.now) j) (used_maps (rule_at rules.now i) (rule_at rules.now j))) v.items) }
-{
-    let mut found = known;
-    for number in 0..maps.len() {
-        found = by_map(
-            alloc,
-            rules,
-            matches,
-            i,
-            own,
-            j,
-            &maps[number],
-            number as u32,
-            &found,
-        )?;
+impl<'a, 'm> Covering<'a, 'm> {
+    /// What covers the places of the rule by one of its cell maps to another, if nothing is known that does.
+    fn by_map(
+        &self,
+        other: u32,
+        map: &CellMap,
+        number: u32,
+        known: &[Option<Found>],
+    ) -> Result<Vec<Option<Found>>, AllocError>
+        requires to { other < length self.now.rules.now }
+        requires number { slice_index_or (used_maps (rule_at self.now.rules.now self.now.rule) (rule_at self.now.rules.now other)) number no_map ≡ map.now }
+        requires own { AreOwn self.now.rules.now self.now.matches.now self.now.rule self.now.own.items }
+        requires many { length known.now ≡ length (slice_index_or (matched_tuples self.now.matches.now) self.now.rule []) }
+        ensures many { IfOk result (λ v. length v.items ≡ length known.now) }
+        ensures finds { IfOk result (λ v. (C : List Cover) → FindsAmong self.now.rules.now (matched_tuples self.now.matches.now) self.now.rule C known.now
+            → FindsAmong self.now.rules.now (matched_tuples self.now.matches.now) self.now.rule (C ++ places_by (matched_tuples self.now.matches.now) other map.now) v.items) }
+    {
+        let (from, to) = (&self.rules[self.rule as usize], &self.rules[other as usize]);
+        let here = self.matches.rows(self.rule);
+        let there = self.matches.rows(other);
+        let index = MapIndex {
+            index: index_by(self.alloc, from, to, self.matches, there, map)?,
+            rule: other,
+            map: number,
+        };
+        Ok(index.or_firsts(self.alloc, known, here, &self.own)?)
     }
-    Ok(found)
-}
 
-/// What covers the places of rule i by its used cell maps to rule j, if nothing is known that does.
-fn by_rule(
-    alloc: Global,
-    rules: &[Rule],
-    covers: &Covers,
-    matches: &Matched<'_>,
-    i: u32,
-    own: &[NumberAt],
-    j: u32,
-    known: Vec<Option<Found>>,
-) -> Result<Vec<Option<Found>>, AllocError>
-    requires covers { covers.now ≡ covers_of rules.now }
-    requires from { i < length rules.now }
-    requires to { j < length rules.now }
-    requires one { length matches.now.tables ≡ length rules.now }
-    requires own { AreOwn rules.now matches.now i own.now }
-    requires many { length known.items ≡ length (slice_index_or (matched_tuples matches.now) i []) }
-    ensures many { IfOk result (λ v. length v.items ≡ length known.items) }
-    ensures finds { IfOk result (λ v. (C : List Cover) → FindsAmong rules.now (matched_tuples matches.now) i C known.items
-        → FindsAmong rules.now (matched_tuples matches.now) i (C ++ flat_map (places_by (matched_tuples matches.now) j) (used_maps (rule_at rules.now i) (rule_at rules.now j))) v.items) }
-{
-    by_maps(alloc, rules, matches, i, own, j, covers.maps(i, j), known)
+    /// What covers the places of the rule by its used cell maps to another, if nothing is known that does.
+    fn by_rule(
+        &self,
+        other: u32,
+        known: Vec<Option<Found>>,
+    ) -> Result<Vec<Option<Found>>, AllocError>
+        requires covers { self.now.covers.now ≡ covers_of self.now.rules.now }
+        requires to { other < length self.now.rules.now }
+        requires own { AreOwn self.now.rules.now self.now.matches.now self.now.rule self.now.own.items }
+        requires many { length known.items ≡ length (slice_index_or (matched_tuples self.now.matches.now) self.now.rule []) }
+        ensures many { IfOk result (λ v. length v.items ≡ length known.items) }
+        ensures finds { IfOk result (λ v. (C : List Cover) → FindsAmong self.now.rules.now (matched_tuples self.now.matches.now) self.now.rule C known.items
+            → FindsAmong self.now.rules.now (matched_tuples self.now.matches.now) self.now.rule (C ++ flat_map (places_by (matched_tuples self.now.matches.now) other) (used_maps (rule_at self.now.rules.now self.now.rule) (rule_at self.now.rules.now other))) v.items) }
+    {
+        let maps = self.covers.maps(self.rule, other);
+        let mut found = known;
+        for number in 0..maps.len() {
+            found = self.by_map(other, &maps[number], number as u32, &found)?;
+        }
+        Ok(found)
+    }
+
+    /// For each place of the rule its least cover.
+    fn least(&self) -> Result<Vec<Option<Found>>, AllocError>
+        requires covers { self.now.covers.now ≡ covers_of self.now.rules.now }
+        requires few { length self.now.rules.now < 2 ^ 32 }
+        requires own { AreOwn self.now.rules.now self.now.matches.now self.now.rule self.now.own.items }
+        ensures { IfOk result (λ v. AreLeast self.now.rules.now (matched_tuples self.now.matches.now) self.now.rule v.items) }
+    {
+        let mut found = none_known(self.alloc, self.matches.places(self.rule) as usize)?;
+        for other in 0..self.rules.len() {
+            if self.covers.before(other as u32, self.rule) {
+                found = self.by_rule(other as u32, found)?;
+            }
+        }
+        Ok(found)
+    }
 }
 
 /// The plan of a rule's exported variables, for rows of this width.
@@ -193,18 +193,23 @@ fn own_by(
     plan_cells(alloc, matches, &variables, width, &cells)
 }
 
-/// The plan of the exported variables of rule i.
+/// The plan of the exported variables of a rule.
 fn own_of(
     alloc: Global,
     rules: &[Rule],
     matches: &Matched<'_>,
-    i: u32,
+    rule: u32,
 ) -> Result<Vec<NumberAt>, AllocError>
-    requires from { i < length rules.now }
+    requires from { rule < length rules.now }
     requires one { length matches.now.tables ≡ length rules.now }
-    ensures { IfOk result (λ v. AreOwn rules.now matches.now i v.items) }
+    ensures { IfOk result (λ v. AreOwn rules.now matches.now rule v.items) }
 {
-    own_by(alloc, &rules[i as usize], matches, matches.rows(i).width())
+    own_by(
+        alloc,
+        &rules[rule as usize],
+        matches,
+        matches.rows(rule).width(),
+    )
 }
 
 /// Nothing for each of so many places.
@@ -219,26 +224,27 @@ fn none_known(alloc: Global, count: usize) -> Result<Vec<Option<Found>>, AllocEr
     Ok(none)
 }
 
-/// For each place of rule i its least cover.
+/// For each place of a rule its least cover.
 pub(crate) fn least_covers(
     alloc: Global,
     rules: &[Rule],
     covers: &Covers,
     matches: &Matched<'_>,
-    i: u32,
+    rule: u32,
 ) -> Result<Vec<Option<Found>>, AllocError>
     requires covers { covers.now ≡ covers_of rules.now }
     requires few { length rules.now < 2 ^ 32 }
-    requires from { i < length rules.now }
+    requires from { rule < length rules.now }
     requires one { length matches.now.tables ≡ length rules.now }
-    ensures { IfOk result (λ v. AreLeast rules.now (matched_tuples matches.now) i v.items) }
+    ensures { IfOk result (λ v. AreLeast rules.now (matched_tuples matches.now) rule v.items) }
 {
-    let mut found = none_known(alloc, matches.places(i) as usize)?;
-    let own = own_of(alloc, rules, matches, i)?;
-    for j in 0..rules.len() {
-        if covers.before(j as u32, i) {
-            found = by_rule(alloc, rules, covers, matches, i, &own, j as u32, found)?;
-        }
-    }
-    Ok(found)
+    let covering = Covering {
+        alloc,
+        rules,
+        covers,
+        matches,
+        rule,
+        own: own_of(alloc, rules, matches, rule)?,
+    };
+    Ok(covering.least()?)
 }

@@ -53,68 +53,85 @@ fn all_covers(
     Ok(all)
 }
 
-/// The value that a cover gives for an existential variable of rule i.
-fn value_given(
+/// What it takes to fold a null: the rules with the covers among them and their matches, and for each rule its exported
+/// variables and the least covers of its places.
+#[derive(Drop)]
+struct Fold<'a, 'm> {
     alloc: Global,
-    rules: &[Rule],
-    covers: &Covers,
-    matches: &Matched<'_>,
-    variables: &[Items<u32>],
-    i: u32,
-    found: Found,
-    var: u32,
-) -> Result<Value, AllocError>
-    requires covers { covers.now ≡ covers_of rules.now }
-    requires from { i < length rules.now }
-    requires one { length matches.now.tables ≡ length rules.now }
-    requires variables { variables.now ≡ map exported_of rules.now }
-    requires place { IsPlace rules.now (matched_tuples matches.now) found.rule found.row }
-    ensures { IfOk result (λ v. v ≡ value_under rules.now (matched_tuples matches.now) i (cover_of rules.now i found) (ExCell var)) }
-{
-    let _rules = rules;
-    let other = Cell::Ex(0);
-    let cell = match covers.maps(i, found.rule).get(found.map as usize) {
-        Some(map) => match map.existential.items().get(var as usize) {
-            Some(cell) => cell,
-            None => &other,
-        },
-        None => &other,
-    };
-    let variables = variables[found.rule as usize].items();
-    let row = matches.row(found.rule, found.row);
-    value_said(alloc, matches, variables, row, found.rule, found.row, cell)
+    rules: &'a [Rule],
+    covers: &'a Covers,
+    matches: &'a Matched<'m>,
+    variables: Vec<Items<u32>>,
+    least: Vec<Items<Option<Found>>>,
+    ghost one: { length matches.now.tables ≡ length rules.now },
+    ghost exported: { variables.items ≡ map exported_of rules.now },
 }
 
-/// What the cover fold makes of a null of a place.
-fn fold_null(
-    alloc: Global,
-    rules: &[Rule],
-    covers: &Covers,
-    matches: &Matched<'_>,
-    variables: &[Items<u32>],
-    least: &[Items<Option<Found>>],
-    null: NullId,
-) -> Result<Value, AllocError>
-    requires covers { covers.now ≡ covers_of rules.now }
-    requires one { length matches.now.tables ≡ length rules.now }
-    requires variables { variables.now ≡ map exported_of rules.now }
-    requires least { AllLeast rules.now (matched_tuples matches.now) least.now (length rules.now) }
-    requires place { IsPlace rules.now (matched_tuples matches.now) null.rule null.row }
-    ensures { IfOk result (λ v. v ≡ folded rules.now (matched_tuples matches.now) (least_cover rules.now (matched_tuples matches.now)) (suc (length rules.now)) null) }
-{
-    let mut now = null;
-    for _step in 0..rules.len() + 1 {
-        let Some(found) = least[now.rule as usize].items()[now.row as usize] else {
-            return Ok(Value::Null(now));
+impl<'a, 'm> Fold<'a, 'm> {
+    /// The value that a cover gives for an existential variable of a rule.
+    fn value_given(&self, rule: u32, found: Found, var: u32) -> Result<Value, AllocError>
+        requires covers { self.now.covers.now ≡ covers_of self.now.rules.now }
+        requires from { rule < length self.now.rules.now }
+        requires place { IsPlace self.now.rules.now (matched_tuples self.now.matches.now) found.rule found.row }
+        ensures { IfOk result (λ v. v ≡ value_under self.now.rules.now (matched_tuples self.now.matches.now) rule (cover_of self.now.rules.now rule found) (ExCell var)) }
+    {
+        let _rules = self.rules;
+        let other = Cell::Ex(0);
+        let cell = match self.covers.maps(rule, found.rule).get(found.map as usize) {
+            Some(map) => match map.existential.items().get(var as usize) {
+                Some(cell) => cell,
+                None => &other,
+            },
+            None => &other,
         };
-        match value_given(
-            alloc, rules, covers, matches, variables, now.rule, found, now.var,
-        )? {
-            Value::Const(text) => return Ok(Value::Const(text)),
-            Value::Null(next) => now = next,
-        }
+        let variables = self.variables[found.rule as usize].items();
+        let row = self.matches.row(found.rule, found.row);
+        value_said(
+            self.alloc,
+            self.matches,
+            variables,
+            row,
+            found.rule,
+            found.row,
+            cell,
+        )
     }
-    Ok(Value::Null(now))
+
+    /// What the cover fold makes of a null of a place.
+    fn fold_null(&self, null: NullId) -> Result<Value, AllocError>
+        requires covers { self.now.covers.now ≡ covers_of self.now.rules.now }
+        requires least { AllLeast self.now.rules.now (matched_tuples self.now.matches.now) self.now.least.items (length self.now.rules.now) }
+        requires place { IsPlace self.now.rules.now (matched_tuples self.now.matches.now) null.rule null.row }
+        ensures { IfOk result (λ v. v ≡ folded self.now.rules.now (matched_tuples self.now.matches.now) (least_cover self.now.rules.now (matched_tuples self.now.matches.now)) (suc (length self.now.rules.now)) null) }
+    {
+        let mut now = null;
+        for _step in 0..self.rules.len() + 1 {
+            let Some(found) = self.least[now.rule as usize].items()[now.row as usize] else {
+                return Ok(Value::Null(now));
+            };
+            match self.value_given(now.rule, found, now.var)? {
+                Value::Const(text) => return Ok(Value::Const(text)),
+                Value::Null(next) => now = next,
+            }
+        }
+        Ok(Value::Null(now))
+    }
+
+    /// What the nulls of all places become.
+    fn null_map(&self) -> Result<NullMap, AllocError>
+        requires covers { self.now.covers.now ≡ covers_of self.now.rules.now }
+        requires few { length self.now.rules.now < 2 ^ 32 }
+        requires least { AllLeast self.now.rules.now (matched_tuples self.now.matches.now) self.now.least.items (length self.now.rules.now) }
+        ensures { IfOk result (IsCoverFold self.now.rules.now (matched_tuples self.now.matches.now)) }
+    {
+        let nulls = place_nulls(self.alloc, self.rules, self.matches)?;
+        let mut map = NullMap::new(self.alloc);
+        for null in &nulls {
+            let value = self.fold_null(*null)?;
+            map.set(*null, value)?;
+        }
+        Ok(map)
+    }
 }
 
 /// The cover fold over matches whose rules and symbols have numbers.
@@ -129,15 +146,15 @@ fn fold_of_matched(
     requires one { length matches.now.tables ≡ length rules.now }
     ensures { IfOk result (IsCoverFold rules.now (matched_tuples matches.now)) }
 {
-    let variables = all_exported(alloc, rules)?;
-    let least = all_covers(alloc, rules, covers, matches)?;
-    let nulls = place_nulls(alloc, rules, matches)?;
-    let mut map = NullMap::new(alloc);
-    for null in &nulls {
-        let value = fold_null(alloc, rules, covers, matches, &variables, &least, *null)?;
-        map.set(*null, value)?;
-    }
-    Ok(map)
+    let fold = Fold {
+        alloc,
+        rules,
+        covers,
+        matches,
+        variables: all_exported(alloc, rules)?,
+        least: all_covers(alloc, rules, covers, matches)?,
+    };
+    Ok(fold.null_map()?)
 }
 
 /// The cover fold over matches: a null of a covered place becomes what the cover fold makes of the value that the least cover

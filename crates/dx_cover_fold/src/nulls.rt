@@ -5,7 +5,7 @@ ghost use Rattle.dx_model.specs.declared.values.NullId.{NullId as AnyNull};
 ghost use Rattle.dx_model.specs.Rules.{cells_of};
 ghost use Rattle.dx_model.specs.Covers.{after_existential};
 ghost use Rattle.dx_cover_fold.specs.Matched.{matched_tuples};
-ghost use Rattle.dx_cover_fold.specs.Folding.{IsNullAt, IsNullOf, IsPlaceNull};
+ghost use Rattle.dx_cover_fold.specs.Folding.{IsNullFor, IsNullOf, IsPlaceNull};
 
 use crate::matched::Matched;
 use dx_model::{Atom, Cell, NullId, Rule};
@@ -38,22 +38,17 @@ fn existential_count(atoms: &[Atom]) -> u64
     next
 }
 
-/// Adds the nulls of a rule at a place.
-fn push_nulls_at(nulls: &mut Vec<NullId>, rule: u32, row: u32, count: u64) -> Result<(), AllocError>
-    requires { count ≤ 2 ^ 32 }
-    ensures { OnOk result ((n : AnyNull) → (n ∈ nulls.new.items) ↔ ((n ∈ nulls.old.items) ⊎ IsNullAt rule row count n)) }
+/// Adds the nulls of an existential variable of a rule, one for each of its places, in their order.
+fn push_nulls_for(nulls: &mut Vec<NullId>, rule: u32, var: u32, rows: u32) -> Result<(), AllocError>
+    ensures { OnOk result ((n : AnyNull) → (n ∈ nulls.new.items) ↔ ((n ∈ nulls.old.items) ⊎ IsNullFor rule var rows n)) }
 {
-    for var in 0..count {
-        nulls.push(NullId {
-            rule,
-            var: var as u32,
-            row,
-        })?;
+    for row in 0..rows {
+        nulls.push(NullId { rule, var, row })?;
     }
     Ok(())
 }
 
-/// Adds the nulls of a rule at all of its places.
+/// Adds the nulls of a rule at all of its places, variable by variable.
 fn push_nulls_of(
     nulls: &mut Vec<NullId>,
     rule: u32,
@@ -63,13 +58,13 @@ fn push_nulls_of(
     requires { count ≤ 2 ^ 32 }
     ensures { OnOk result ((n : AnyNull) → (n ∈ nulls.new.items) ↔ ((n ∈ nulls.old.items) ⊎ IsNullOf rule rows count n)) }
 {
-    for row in 0..rows {
-        push_nulls_at(nulls, rule, row, count)?;
+    for var in 0..count {
+        push_nulls_for(nulls, rule, var as u32, rows)?;
     }
     Ok(())
 }
 
-/// The nulls of all places.
+/// The nulls of all places, in ascending order.
 pub(crate) fn place_nulls(
     alloc: Global,
     rules: &[Rule],

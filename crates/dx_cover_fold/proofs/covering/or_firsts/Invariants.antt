@@ -1,5 +1,0 @@
-use Rattle.dx_cover_fold.specs.Found.{AreOrFirsts}
-use Rattle.dx_cover_fold.proofs.covering.or_firsts.Given as goal
-
-abbrev pub invariant-loop-place : goal.invariant-loop-place
-invariant-loop-place l = AreOrFirsts l.rule l.map l.index l.rows.rows l.own l.known l.all.items l.place

@@ -1,8 +1,0 @@
-use Rattle.std.specs.Prelude.{◌↔◌, ◌⊎◌}
-use Rattle.dx_ports.specs.Members.{◌∈◌}
-use Rattle.dx_model.specs.declared.values.NullId.{NullId}
-use Rattle.dx_cover_fold.specs.Folding.{IsNullAt}
-use Rattle.dx_cover_fold.proofs.nulls.push_nulls_at.Given as goal
-
-abbrev pub invariant-loop-var : goal.invariant-loop-var
-invariant-loop-var l = (n : NullId) → (n ∈ l.nulls.items) ↔ ((n ∈ l.initial.nulls.items) ⊎ IsNullAt l.rule l.row l.var n)
