@@ -5,7 +5,7 @@ use Rattle.std.specs.Prelude.{map, Option, Some, None}
 use Rattle.std.proofs.lemmas.Bool.{cases_lt}
 use Rattle.std.proofs.lemmas.List.{get_or_default, get_or_past}
 use Rattle.dx_ports.specs.Members.{◌∈◌, Each, here, there}
-use Rattle.dx_ports.proofs.Members.{in_at, in_map}
+use Rattle.dx_ports.proofs.Members.{in_at, in_map, item_in}
 use Rattle.dx_instance.specs.Cells.{NumberTable, numbers_at}
 use Rattle.dx_instance.specs.Indexes.{number_in}
 use Rattle.dx_instance.specs.Shown.{numbers_of_table}
@@ -89,6 +89,11 @@ value_in T out a atom p c v places numbers i h e m d =
     let v_is : number_under a (get_or atom.terms c (Number 0)) ≡ a v = ap (number_under a) e in
     subst (λ (l : List ℕ). a v ∈ l) (sym d)
     (subst (λ (x : ℕ). x ∈ map (number_in (numbers_of_table T atom.table).rows c) places) (is ∙ v_is) there)
+
+-- the same atom is among the atoms
+pub in_atoms : (atoms : List PatternAtom) (k : ℕ) (atom same : PatternAtom) → k < length atoms → atom ≡ get_or atoms k atom
+    → same ≡ atom → same ∈ atoms
+in_atoms atoms k atom same h e is = subst (λ (x : PatternAtom). x ∈ atoms) (sym is) (item_in atoms k atom h e)
 
 -- a term that is free, in its atom
 pub free_here : (atoms : List PatternAtom) (ds : List Domain) (k c : ℕ) (atom : PatternAtom) → IsFreeTerm atoms ds k c

@@ -1,4 +1,5 @@
 pub mod Marks
 pub mod Questions
 pub mod Domains
+pub mod Terms
 pub mod Finding

@@ -3,15 +3,14 @@ ghost use Rattle.std.specs.Prelude.{◌≡◌, ◌<◌, ◌≤◌, ◌^◌, IfOk
 ghost use Rattle.dx_ports.specs.Members.{Each};
 ghost use Rattle.dx_solver.specs.Domains.{IsBound, IsBranched, IsFreeTerm, choice_count, domain_size, term_at};
 ghost use Rattle.dx_solver.specs.Questions.{FitsAtom, HasImageRow};
-ghost use Rattle.dx_solver.specs.declared.atom.Term.TheVariants.{Variable};
 ghost use Rattle.dx_solver.specs.declared.domain.Domain.TheVariants.{Any};
 
 use crate::atom::{PatternAtom, Term};
 use crate::cutting::list;
 use crate::domain::Domain;
 use crate::node::{Node, fork};
+use crate::position::Position;
 use crate::question::Question;
-use crate::rows::variable_at;
 use std::alloc::{AllocError, Global};
 
 /// A term: the place of its atom, and its column.
@@ -149,27 +148,25 @@ pub(crate) fn choose(domains: &[Domain], failures: &[u32], atoms: &[PatternAtom]
     }
 }
 
-// Nodes in which less is left of a variable that stands in a column of an atom.
+// Nodes in which less is left of a variable, where it stands.
 fn split_at(
     alloc: Global,
     question: &Question<'_, '_>,
     node: &Node,
-    atom: &PatternAtom,
-    column: usize,
-    variable: u32,
+    position: &Position<'_>,
     nodes: &mut Vec<Node>,
 ) -> Result<(), AllocError>
-    requires fits { FitsAtom question.now.numbers.now.tables (length node.now.domains.items) atom.now }
-    requires column { column < length atom.now.terms }
-    requires variable { term_at atom.now.terms column ≡ Variable variable }
-    requires below { variable < length node.now.domains.items }
-    requires many { 1 < domain_size (2 ^ 32) (slice_index_or node.now.domains.items variable Any) }
-    ensures { IfOk result (λ _. IsBranched (λ a. HasImageRow question.now.numbers.now.tables question.now.taken.now a atom.now)
+    requires fits { FitsAtom question.now.numbers.now.tables (length node.now.domains.items) position.now.atom.now }
+    requires below { position.now.variable < length node.now.domains.items }
+    requires many { 1 < domain_size (2 ^ 32) (slice_index_or node.now.domains.items position.now.variable Any) }
+    ensures { IfOk result (λ _. IsBranched
+        (λ a. HasImageRow question.now.numbers.now.tables question.now.taken.now a position.now.atom.now)
         node.now nodes.old.items nodes.new.items) }
 {
+    let variable = position.variable;
     match &node.domains[variable as usize] {
         Domain::One(_) => Ok(()),
-        Domain::Any => list(alloc, question, node, atom, column, variable, nodes),
+        Domain::Any => list(alloc, question, node, position, nodes),
         Domain::Many(values) => fork(alloc, node, variable, values, nodes),
     }
 }
@@ -193,8 +190,8 @@ pub(crate) fn split(
 {
     let atoms = question.atoms;
     let atom = &atoms[choice.atom];
-    match variable_at(atom.terms.items(), choice.column) {
+    match Position::of(atom, choice.column) {
         None => Ok(()),
-        Some(variable) => split_at(alloc, question, node, atom, choice.column, variable, nodes),
+        Some(position) => split_at(alloc, question, node, &position, nodes),
     }
 }

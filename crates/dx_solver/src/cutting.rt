@@ -2,16 +2,16 @@
 ghost use Rattle.std.specs.Prelude.{◌≡◌, ◌<◌, ◌≤◌, ◌^◌, ℕ, IfOk, length, true, slice_index_or};
 ghost use Rattle.dx_ports.specs.Members.{◌∈◌, Each};
 ghost use Rattle.dx_instance.specs.Shown.{numbers_of_table};
-ghost use Rattle.dx_solver.specs.Domains.{DomainHas, IsBranched, IsImageRow, Keeps, domain_size, term_at, weight};
+ghost use Rattle.dx_solver.specs.Domains.{DomainHas, IsBranched, IsImageRow, Keeps, domain_size, weight};
 ghost use Rattle.dx_solver.specs.Questions.{FitsAtom, HasImageRow};
 ghost use Rattle.dx_solver.specs.declared.domain.Domain.TheVariants.{Any};
-ghost use Rattle.dx_solver.specs.declared.atom.Term.TheVariants.{Variable};
 
 use crate::atom::{PatternAtom, Term};
 use crate::domain::Domain;
 use crate::node::Node;
+use crate::position::Position;
 use crate::question::Question;
-use crate::rows::{candidates, numbers_in, variable_at};
+use crate::rows::{candidates, numbers_in};
 use std::alloc::{AllocError, Global};
 
 // Gives a variable a domain, if that is smaller than the one that it has. Says whether it was.
@@ -39,35 +39,30 @@ fn is_wanted(domain: &Domain, count: usize, longest: usize) -> bool {
     }
 }
 
-// Cuts the domain of the variable in a column of an atom to the numbers that stand there at these places.
-fn cut_column(
+// Cuts the domain of a variable to the numbers that stand in its column at these places. Says whether it got smaller.
+fn cut_at(
     alloc: Global,
     question: &Question<'_, '_>,
     domains: &mut Vec<Domain>,
-    atom: &PatternAtom,
-    column: u32,
+    position: &Position<'_>,
     places: &[u32],
     longest: usize,
-    changed: &mut Vec<u32>,
-) -> Result<(), AllocError>
-    requires fits { FitsAtom question.now.numbers.now.tables (length domains.old.items) atom.now }
-    requires column { column < length atom.now.terms }
-    requires within { Each places.now (λ p. p < length (numbers_of_table question.now.numbers.now.tables atom.now.table).rows) }
+) -> Result<bool, AllocError>
+    requires fits { FitsAtom question.now.numbers.now.tables (length domains.old.items) position.now.atom.now }
+    requires within { Each places.now (λ p. p < length (numbers_of_table question.now.numbers.now.tables position.now.atom.now.table).rows) }
     ensures kept { IfOk result (λ _. (a : ℕ → ℕ) (p : ℕ) → Keeps domains.old.items a → p ∈ places.now
-        → IsImageRow question.now.numbers.now.tables question.now.taken.now a atom.now p → Keeps domains.new.items a) }
+        → IsImageRow question.now.numbers.now.tables question.now.taken.now a position.now.atom.now p → Keeps domains.new.items a) }
     ensures many { IfOk result (λ _. length domains.new.items ≡ length domains.old.items) }
     ensures lighter { IfOk result (λ _. weight (2 ^ 32) domains.new.items ≤ weight (2 ^ 32) domains.old.items) }
 {
-    if let Some(variable) = variable_at(atom.terms.items(), column as usize) {
-        if is_wanted(&domains[variable as usize], places.len(), longest) {
-            let numbers = numbers_in(alloc, question.numbers, atom.table, column, places)?;
-            let domain = Domain::of(numbers);
-            if narrow(domains, variable, domain) {
-                changed.push(variable)?;
-            }
-        }
+    let variable = position.variable;
+    if !is_wanted(&domains[variable as usize], places.len(), longest) {
+        return Ok(false);
     }
-    Ok(())
+    let table = position.atom.table;
+    let numbers = numbers_in(alloc, question.numbers, table, position.column, places)?;
+    let domain = Domain::of(numbers);
+    Ok(narrow(domains, variable, domain))
 }
 
 /// Up to how many rows a table is gone through for an atom of which no number is known, though some variable has a list.
@@ -139,9 +134,11 @@ pub(crate) fn cut(
         return Ok(false);
     }
     for column in 0..question.numbers.width(atom.table) {
-        cut_column(
-            alloc, question, domains, atom, column, rows, longest, changed,
-        )?;
+        if let Some(position) = Position::of(atom, column as usize) {
+            if cut_at(alloc, question, domains, &position, rows, longest)? {
+                changed.push(position.variable)?;
+            }
+        }
     }
     Ok(true)
 }
@@ -155,24 +152,21 @@ pub(crate) fn list(
     alloc: Global,
     question: &Question<'_, '_>,
     node: &Node,
-    atom: &PatternAtom,
-    column: usize,
-    variable: u32,
+    position: &Position<'_>,
     nodes: &mut Vec<Node>,
 ) -> Result<(), AllocError>
-    requires fits { FitsAtom question.now.numbers.now.tables (length node.now.domains.items) atom.now }
-    requires column { column < length atom.now.terms }
-    requires variable { term_at atom.now.terms column ≡ Variable variable }
-    requires unknown { slice_index_or node.now.domains.items variable Any ≡ Any }
-    ensures { IfOk result (λ _. IsBranched (λ a. HasImageRow question.now.numbers.now.tables question.now.taken.now a atom.now)
+    requires fits { FitsAtom question.now.numbers.now.tables (length node.now.domains.items) position.now.atom.now }
+    requires unknown { slice_index_or node.now.domains.items position.now.variable Any ≡ Any }
+    ensures { IfOk result (λ _. IsBranched
+        (λ a. HasImageRow question.now.numbers.now.tables question.now.taken.now a position.now.atom.now)
         node.now nodes.old.items nodes.new.items) }
 {
+    let atom = position.atom;
     let places = candidates(alloc, question, node.domains.as_slice(), atom)?;
-    let _wide = question.numbers.width(atom.table);
     let rows = places.as_slice();
-    let numbers = numbers_in(alloc, question.numbers, atom.table, column as u32, rows)?;
+    let numbers = numbers_in(alloc, question.numbers, atom.table, position.column, rows)?;
     let domain = Domain::of(numbers);
-    let listed = node.with(alloc, variable, domain)?;
+    let listed = node.with(alloc, position.variable, domain)?;
     nodes.push(listed)?;
     Ok(())
 }

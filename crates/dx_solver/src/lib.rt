@@ -14,6 +14,7 @@ mod forward;
 mod judging;
 mod linked;
 mod node;
+mod position;
 mod question;
 mod rows;
 mod solving;

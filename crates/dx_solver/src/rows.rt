@@ -1,14 +1,12 @@
 // Rows that an atom can be.
-ghost use Rattle.std.specs.Prelude.{◌≡◌, ◌<◌, ◌≤◌, ◌^◌, ℕ, List, IfOk, IfSome, MatchOption, false, true, length, map, slice_index};
+ghost use Rattle.std.specs.Prelude.{◌≡◌, ◌<◌, ◌≤◌, ◌^◌, ℕ, IfOk, IfSome, false, true, length, map, slice_index};
 ghost use Rattle.std.specs.Bool.{OnTrue};
 ghost use Rattle.dx_ports.specs.Members.{◌∈◌, Each};
 ghost use Rattle.dx_instance.specs.Cells.{numbers_at};
 ghost use Rattle.dx_instance.specs.Indexes.{number_in};
 ghost use Rattle.dx_instance.specs.Shown.{numbers_of_table};
-ghost use Rattle.dx_solver.specs.Domains.{IsImageRow, IsNextImage, IsNextPlace, Keeps, choice_count, term_at};
+ghost use Rattle.dx_solver.specs.Domains.{IsImageRow, IsNextImage, IsNextPlace, Keeps, term_at};
 ghost use Rattle.dx_solver.specs.Questions.{FitsAtom, number_under};
-ghost use Rattle.dx_solver.specs.declared.atom.Term.TheVariants.{Variable};
-ghost use Rattle.dx_solver.specs.declared.domain.Domain.{Domain as Left};
 
 use crate::atom::{PatternAtom, Term};
 use crate::domain::Domain;
@@ -21,18 +19,6 @@ use std::alloc::{AllocError, Global};
 pub(crate) struct Key {
     pub column: u32,
     pub number: u32,
-}
-
-/// The variable in a column, if it is one.
-pub(crate) fn variable_at(terms: &[Term], column: usize) -> Option<u32>
-    requires { column < length terms.now }
-    ensures { MatchOption result ((ds : List Left) → choice_count ds (term_at terms.now column) ≡ 1)
-        (λ v. term_at terms.now column ≡ Variable v) }
-{
-    match terms[column] {
-        Term::Number(_) => None,
-        Term::Variable(variable) => Some(variable),
-    }
 }
 
 // The number that a term must have, if one is left alone.
@@ -282,7 +268,7 @@ pub(crate) fn numbers_in(
     alloc: Global,
     numbers: &Numbers<'_>,
     table: u32,
-    column: u32,
+    column: usize,
     places: &[u32],
 ) -> Result<Vec<u32>, AllocError>
     requires table { table < length numbers.now.tables }
@@ -292,7 +278,7 @@ pub(crate) fn numbers_in(
 {
     let mut all = Vec::with_capacity(alloc, places.len())?;
     for place in places {
-        all.push(numbers.row(table, *place)[column as usize])?;
+        all.push(numbers.row(table, *place)[column])?;
     }
     Ok(all)
 }

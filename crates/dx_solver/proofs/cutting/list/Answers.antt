@@ -11,14 +11,16 @@ use Rattle.dx_solver.proofs.cutting.list.Goals as goal
 
 pub with-requires : goal.with-requires
 with-requires c =
-    variable_below c.args.question.now.numbers.now.tables (length c.args.node.now.domains.items) c.args.atom.now c.args.column
-    c.args.variable c.requires.fits c.requires.column c.requires.variable
+    let at = c.args.position.now in
+    variable_below c.args.question.now.numbers.now.tables (length c.args.node.now.domains.items) at.atom.now at.column at.variable
+    c.requires.fits at.within at.stands
 
 pub returns : goal.returns
 returns c =
     let T = c.args.question.now.numbers.now.tables in
     let out = c.args.question.now.taken.now in
-    let atom = c.args.atom.now in
+    let at = c.args.position.now in
+    let atom = at.atom.now in
     let listed = c.in_ok-listed.listed in
     let numbers = c.in_ok-numbers.numbers.items in
     let rows = c.as_slice-rows.result.now in
@@ -38,8 +40,8 @@ returns c =
           let m = c.in_ok-places.ensures.all a (rw c.as_slice.ensures.value k) s.0 i in (
             listed,
             here refl,
-            c.in_ok-listed.ensures.kept a k (c.of-domain.ensures.all (a c.args.variable) (value_in T out a atom s.0
-                c.args.column c.args.variable rows numbers i c.requires.column c.requires.variable (rw c.as_slice-rows.ensures.value m)
+            c.in_ok-listed.ensures.kept a k (c.of-domain.ensures.all (a at.variable) (value_in T out a atom s.0
+                at.column at.variable rows numbers i at.within at.stands (rw c.as_slice-rows.ensures.value m)
                 c.in_ok-numbers.ensures)),
           );
     }
