@@ -1,17 +1,16 @@
 -- The members of objects in the order of their names.
-use Rattle.std.proofs.Common.{◌≡◌, ℕ, zero, suc, ◌+◌, ◌-◌, ◌<◌, ◌≤◌, List, [], ◌∷◌, ◌++◌, length, get_or, drop, map, Bool, true, false, append_assoc, append-nil, refl, sym, ap, ◌∙◌, subst, arith, Ordering, Less, Equal, Greater, nat_cmp, String, Global, BTreeMap, string_bytes, string_cmp}
+use Rattle.std.proofs.Common.{◌≡◌, ℕ, zero, suc, ◌+◌, ◌<◌, ◌≤◌, List, [], ◌∷◌, ◌++◌, length, get_or, drop, Bool, true, false, append_assoc, append-nil, refl, sym, ap, ◌∙◌, subst, arith, Ordering, Less, Equal, Greater, nat_cmp, String, Global, BTreeMap, string_bytes, string_cmp}
 use Rattle.std.specs.BTreeMap.{insert_entry}
 use Rattle.std.specs.Cmp.Lexicographic.{slice_cmp}
 use Rattle.std.specs.Ordering.{match_ordering}
 use Rattle.std.proofs.Math.Seq.{get_or-append_seam}
 use Rattle.std.proofs.lemmas.List.{drop_all, drop_more, get_or-map, length-append, length-map, map-append}
-use Rattle.serde_json.specs.Data.{Data, string, array, Members, no_members, member, put}
+use Rattle.serde_json.specs.Data.{Data, array, put}
 use Rattle.dx_model.specs.declared.values.Value.{Value}
 use Rattle.dx_model.specs.Tables.{cell}
 use Rattle.dx_schema.specs.Forest.{Label, Forest, Tree, none, set, forest_of}
 use Rattle.dx_schema.specs.Tables.{count}
-use Rattle.dx_instance.specs.Stored.{TableRows, table_at}
-use Rattle.dx_instance.specs.ValueText.{value_text_of}
+use Rattle.dx_instance.specs.Stored.{TableRows}
 use Rattle.dx_json.specs.declared.orders.Source.{Source}
 use Rattle.dx_json.specs.declared.orders.Source.TheVariants.{Cell, Inner}
 use Rattle.dx_json.specs.Nesting.{object_of, objects_below, own_from, with_columns, with_sets}
@@ -158,10 +157,10 @@ ready_root I before one all t inner o root next h i n is e a s =
     record { within = here.0; order = here.1 ∙ is; inner = ready I all (before ++ o ∷ []) [] (suc root) t.inner none_after (omega (arith, long, h)) s }
 
 -- the order at the number of a table
-pub order_there : (orders : List (BTreeMap (String Global) Source)) (n : ℕ) (o : BTreeMap (String Global) Source) (s : Slots) → n < length (all_slots orders) → o ≡ get_or orders n o → get_or (all_slots orders) n [] ≡ s → slots_of o.entries ≡ s
-order_there orders n o s lt is e =
+pub order_there : (orders : List (BTreeMap (String Global) Source)) (n : ℕ) (o : BTreeMap (String Global) Source) (s : Slots) → n < length (all_slots orders) → get_or (all_slots orders) n [] ≡ s → slots_of (get_or orders n o).entries ≡ s
+order_there orders n o s lt e =
     let long : length (all_slots orders) ≡ length orders = length-map orders (λ o. slots_of o.entries) in
-    ap (λ o. slots_of o.entries) is ∙ sym (get_or-map (λ o. slots_of o.entries) orders n o [] (omega (arith, long, lt))) ∙ e
+    sym (get_or-map (λ o. slots_of o.entries) orders n o [] (omega (arith, long, lt))) ∙ e
 
 -- ---- a level, by its list
 

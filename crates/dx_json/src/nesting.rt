@@ -121,127 +121,120 @@ fn next_with(instance: &Instance, table: u32, column: u32, value: &Value, from: 
     instance.with_columns(table, &columns, slice::from_ref(value), from)
 }
 
-// Writes the objects of the rows of an inner set's table that are below this `#id`.
-#[cycle(nest)]
-fn write_objects(
-    alloc: Global,
-    instance: &Instance,
-    orders: &[Order],
-    tree: &SetTree,
-    table: u32,
-    id: &Value,
-    out: &mut Writer,
-) -> Result<(), AllocError>
-    requires ready { TreeIsReady instance.now (all_slots orders.now) table tree.now }
-    ensures { OnOk result (WroteValue out.old out.new (array (objects_below instance.now tree.now table id.now))) }
-{
-    prove!(table < instance.tables());
-    let order = &orders[table as usize];
-    let column = column_up(tree);
-    out.begin_array()?;
-    let mut next = 0;
-    while let Some(place) = next_with(instance, table, column, id, next) {
-        write_object(
-            alloc,
-            instance,
-            orders,
-            &tree.inner,
-            order,
-            table,
-            place,
-            out,
-        )?;
-        next = place + 1;
-    }
-    out.end_array()
-}
-
-// Writes the object of a row.
-#[cycle(nest)]
-fn write_object(
-    alloc: Global,
-    instance: &Instance,
-    orders: &[Order],
-    sets: &Trees,
-    order: &Order,
+// A row, by its table and its place.
+#[derive(Clone, Copy)]
+struct RowAt {
     table: u32,
     place: u32,
-    out: &mut Writer,
-) -> Result<(), AllocError>
-    requires table { table < length instance.now }
-    requires place { place < length (rows_of instance.now table) }
-    requires width { 0 < (table_at instance.now table).width }
-    requires fit { Fit instance.now (all_slots orders.now) (table_at instance.now table).width sets.now (slots_of order.now.entries) }
-    ensures { OnOk result (WroteValue out.old out.new
-        (object (object_in instance.now sets.now (row_at instance.now table place) order.now))) }
-{
-    out.begin_object()?;
-    for (name, source) in order.iter() {
-        out.key(name.as_str())?;
-        write_source(alloc, instance, orders, sets, source, table, place, out)?;
-    }
-    out.end_object()
 }
 
-// Writes the value of a member of the object of a row.
-#[cycle(nest)]
-fn write_source(
+// The rows that become documents, and for each of their tables the members of its objects in order.
+#[derive(Drop)]
+struct Nesting<'a> {
     alloc: Global,
-    instance: &Instance,
-    orders: &[Order],
-    sets: &Trees,
-    source: &Source,
-    table: u32,
-    place: u32,
-    out: &mut Writer,
-) -> Result<(), AllocError>
-    requires table { table < length instance.now }
-    requires place { place < length (rows_of instance.now table) }
-    requires width { 0 < (table_at instance.now table).width }
-    requires fits { SourceFits instance.now (all_slots orders.now) (table_at instance.now table).width sets.now source.now }
-    ensures { OnOk result (WroteValue out.old out.new (source_data instance.now sets.now (row_at instance.now table place) source.now)) }
-{
-    match *source {
-        Source::Cell(column) => write_value(alloc, instance.cell(table, place, column), out),
-        Source::Inner(at, below) => {
-            let inner = &sets.items()[at];
-            let id = instance.cell(table, place, 0);
-            write_objects(alloc, instance, orders, inner, below, id, out)
+    instance: &'a Instance,
+    orders: &'a [Order],
+}
+
+impl<'a> Nesting<'a> {
+    // Writes the objects of the rows of an inner set's table that are below this `#id`.
+    #[cycle(nest)]
+    fn write_objects(
+        &self,
+        tree: &SetTree,
+        table: u32,
+        id: &Value,
+        out: &mut Writer,
+    ) -> Result<(), AllocError>
+        requires ready { TreeIsReady self.now.instance.now (all_slots self.now.orders.now) table tree.now }
+        ensures { OnOk result (WroteValue out.old out.new (array (objects_below self.now.instance.now tree.now table id.now))) }
+    {
+        prove!(table < self.instance.tables());
+        let order = &self.orders[table as usize];
+        let column = column_up(tree);
+        out.begin_array()?;
+        let mut next = 0;
+        while let Some(place) = next_with(self.instance, table, column, id, next) {
+            self.write_object(&tree.inner, order, RowAt { table, place }, out)?;
+            next = place + 1;
+        }
+        out.end_array()
+    }
+
+    // Writes the object of a row.
+    #[cycle(nest)]
+    fn write_object(
+        &self,
+        sets: &Trees,
+        order: &Order,
+        row: RowAt,
+        out: &mut Writer,
+    ) -> Result<(), AllocError>
+        requires table { row.table < length self.now.instance.now }
+        requires place { row.place < length (rows_of self.now.instance.now row.table) }
+        requires width { 0 < (table_at self.now.instance.now row.table).width }
+        requires fit { Fit self.now.instance.now (all_slots self.now.orders.now) (table_at self.now.instance.now row.table).width
+            sets.now (slots_of order.now.entries) }
+        ensures { OnOk result (WroteValue out.old out.new
+            (object (object_in self.now.instance.now sets.now (row_at self.now.instance.now row.table row.place) order.now))) }
+    {
+        out.begin_object()?;
+        for (name, source) in order.iter() {
+            out.key(name.as_str())?;
+            self.write_source(sets, source, row, out)?;
+        }
+        out.end_object()
+    }
+
+    // Writes the value of a member of the object of a row.
+    #[cycle(nest)]
+    fn write_source(
+        &self,
+        sets: &Trees,
+        source: &Source,
+        row: RowAt,
+        out: &mut Writer,
+    ) -> Result<(), AllocError>
+        requires table { row.table < length self.now.instance.now }
+        requires place { row.place < length (rows_of self.now.instance.now row.table) }
+        requires width { 0 < (table_at self.now.instance.now row.table).width }
+        requires fits { SourceFits self.now.instance.now (all_slots self.now.orders.now)
+            (table_at self.now.instance.now row.table).width sets.now source.now }
+        ensures { OnOk result (WroteValue out.old out.new
+            (source_data self.now.instance.now sets.now (row_at self.now.instance.now row.table row.place) source.now)) }
+    {
+        match *source {
+            Source::Cell(column) => {
+                write_value(
+                    self.alloc,
+                    self.instance.cell(row.table, row.place, column),
+                    out,
+                )
+            }
+            Source::Inner(at, below) => {
+                let inner = &sets.items()[at];
+                let id = self.instance.cell(row.table, row.place, 0);
+                self.write_objects(inner, below, id, out)
+            }
         }
     }
-}
 
-// Writes the objects of a root's rows.
-fn write_root(
-    alloc: Global,
-    instance: &Instance,
-    orders: &[Order],
-    tree: &SetTree,
-    root: u32,
-    out: &mut Writer,
-) -> Result<(), AllocError>
-    requires table { root < length instance.now }
-    requires width { 0 < (table_at instance.now root).width }
-    requires columns { HasColumns instance.now root tree.now }
-    requires ready { IsReadyRoot instance.now (all_slots orders.now) root tree.now }
-    ensures { OnOk result (WroteValue out.old out.new (array (root_objects instance.now tree.now root))) }
-{
-    prove!(root < instance.tables());
-    let order = &orders[root as usize];
-    out.begin_array()?;
-    for place in 0..instance.count(root) {
-        write_object(
-            alloc,
-            instance,
-            orders,
-            &tree.inner,
-            order,
-            root,
-            place,
-            out,
-        )?;
+    // Writes the objects of a root's rows.
+    fn write_root(&self, tree: &SetTree, root: u32, out: &mut Writer) -> Result<(), AllocError>
+        requires table { root < length self.now.instance.now }
+        requires width { 0 < (table_at self.now.instance.now root).width }
+        requires columns { HasColumns self.now.instance.now root tree.now }
+        requires ready { IsReadyRoot self.now.instance.now (all_slots self.now.orders.now) root tree.now }
+        ensures { OnOk result (WroteValue out.old out.new (array (root_objects self.now.instance.now tree.now root))) }
+    {
+        prove!(root < self.instance.tables());
+        let order = &self.orders[root as usize];
+        out.begin_array()?;
+        for place in 0..self.instance.count(root) {
+            self.write_object(&tree.inner, order, RowAt { table: root, place }, out)?;
+        }
+        out.end_array()
     }
-    out.end_array()
 }
 
 // The string of bytes that are one.
@@ -271,8 +264,13 @@ fn text_of_root(
     ensures { IfOk result (λ text. string_bytes text ≡ nested_text instance.now tree.now root) }
 {
     let orders = root_orders(alloc, instance, tree, root)?;
+    let nesting = Nesting {
+        alloc,
+        instance,
+        orders: &orders,
+    };
     let mut out = Writer::new(Vec::new(alloc));
-    write_root(alloc, instance, &orders, tree, root, &mut out)?;
+    nesting.write_root(tree, root, &mut out)?;
     let mut bytes = out.into_inner();
     bytes.push(b'\n')?;
     string_of(bytes)

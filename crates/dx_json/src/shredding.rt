@@ -74,6 +74,16 @@ fn facts_of(
     }
 }
 
+// A list of objects: the set that they are of, and where it stands.
+#[derive(Drop)]
+struct ObjectList<'a> {
+    alloc: Global,
+    tree: &'a SetTree,
+    at: &'a Place,
+    ghost few: { count tree.now.inner < 64 },
+    ghost room: { at.now.table + suc (count tree.now.inner) < 2 ^ 32 },
+}
+
 // Appends what a document says, up to the first fault, which it gives.
 fn push_document(
     alloc: Global,
@@ -95,7 +105,12 @@ fn push_document(
     };
     let token = reader.next().ok_or(Unread::NotJson)?;
     if let Token::BeginArray = token {
-        return push_array(alloc, tree, &at, reader, out);
+        let list = ObjectList {
+            alloc,
+            tree,
+            at: &at,
+        };
+        return push_array(&list, reader, out);
     }
     read_from(alloc, token, reader, MAX_DEPTH)?;
     Ok(Some(JsonKind::Shape(at.path)))
@@ -104,23 +119,19 @@ fn push_document(
 // Appends what the items of an array say as they are read, up to the first fault, which it gives. The items after that are
 // read nevertheless.
 fn push_array(
-    alloc: Global,
-    tree: &SetTree,
-    at: &Place,
+    list: &ObjectList<'_>,
     reader: &mut Reader<'_>,
     out: &mut FactList,
 ) -> Result<Option<JsonKind>, Unread>
-    requires room { at.now.table + suc (count tree.now.inner) < 2 ^ 32 }
-    requires few { count tree.now.inner < 64 }
     ensures ok { IfOk result (λ met. (ds : Items) × (items_read 126 reader.old ≡ Some (ds, reader.new))
-        × FactsOrFirstFault met out.old out.new (items_said tree.now at.now 0 ds)) }
+        × FactsOrFirstFault met out.old out.new (items_said list.now.tree.now list.now.at.now 0 ds)) }
     ensures refused { result ≡ Err Unread.NotJson → items_read 126 reader.old ≡ None }
 {
     let mut met = None;
     let mut place = 0usize;
     'items: while !reader.take_end_array() {
-        let item = read(alloc, reader, MAX_DEPTH - 1)?;
-        met = push_next(alloc, tree, at, place, &item, met, out)?;
+        let item = read(list.alloc, reader, MAX_DEPTH - 1)?;
+        met = push_next(list, place, &item, met, out)?;
         place = place.checked_add(1).ok_or(Unread::Memory)?;
     }
     Ok(met)
@@ -128,23 +139,19 @@ fn push_array(
 
 // Appends what the k-th item of an array says, unless a fault was met before. Gives the first fault that was met.
 fn push_next(
-    alloc: Global,
-    tree: &SetTree,
-    at: &Place,
+    list: &ObjectList<'_>,
     k: usize,
     item: &Json<'_>,
     met: Option<JsonKind>,
     out: &mut FactList,
 ) -> Result<Option<JsonKind>, AllocError>
-    requires room { at.now.table + suc (count tree.now.inner) < 2 ^ 32 }
-    requires few { count tree.now.inner < 64 }
     ensures { IfOk result (λ now. (old : List Fact) (before : List DocumentItem) → FactsOrFirstFault met old out.old before
-        → FactsOrFirstFault now old out.new (before ++ item_said tree.now at.now k (view item.now))) }
+        → FactsOrFirstFault now old out.new (before ++ item_said list.now.tree.now list.now.at.now k (view item.now))) }
 {
     if met.is_some() {
         return Ok(met);
     }
-    match push_item(alloc, tree, at, k, item, out) {
+    match push_item(list, k, item, out) {
         Ok(()) => Ok(None),
         Err(JsonFault::Bad(kind)) => Ok(Some(kind)),
         Err(JsonFault::Memory) => Err(AllocError),
@@ -154,19 +161,15 @@ fn push_next(
 // Appends what the items of an array say.
 #[cycle(walk)]
 fn push_items(
-    alloc: Global,
-    tree: &SetTree,
-    at: &Place,
+    list: &ObjectList<'_>,
     items: &[Json<'_>],
     out: &mut FactList,
 ) -> Result<(), JsonFault>
-    requires room { at.now.table + suc (count tree.now.inner) < 2 ^ 32 }
-    requires few { count tree.now.inner < 64 }
-    ensures ok { OnOk result (AddsSaid out.old out.new (items_said tree.now at.now 0 (items_view items.now))) }
-    ensures fault { IfErr result (TellsFirstFault (items_said tree.now at.now 0 (items_view items.now))) }
+    ensures ok { OnOk result (AddsSaid out.old out.new (items_said list.now.tree.now list.now.at.now 0 (items_view items.now))) }
+    ensures fault { IfErr result (TellsFirstFault (items_said list.now.tree.now list.now.at.now 0 (items_view items.now))) }
 {
     for (k, item) in items.iter().enumerate() {
-        push_item(alloc, tree, at, k, item, out)?;
+        push_item(list, k, item, out)?;
     }
     Ok(())
 }
@@ -174,73 +177,62 @@ fn push_items(
 // Appends what the k-th item of an array says: it is to be an object.
 #[cycle(walk)]
 fn push_item(
-    alloc: Global,
-    tree: &SetTree,
-    at: &Place,
+    list: &ObjectList<'_>,
     k: usize,
     item: &Json<'_>,
     out: &mut FactList,
 ) -> Result<(), JsonFault>
-    requires room { at.now.table + suc (count tree.now.inner) < 2 ^ 32 }
-    requires few { count tree.now.inner < 64 }
-    ensures ok { OnOk result (AddsSaid out.old out.new (item_said tree.now at.now k (view item.now))) }
-    ensures fault { IfErr result (TellsFirstFault (item_said tree.now at.now k (view item.now))) }
+    ensures ok { OnOk result (AddsSaid out.old out.new (item_said list.now.tree.now list.now.at.now k (view item.now))) }
+    ensures fault { IfErr result (TellsFirstFault (item_said list.now.tree.now list.now.at.now k (view item.now))) }
 {
-    let position = k.to_string(alloc)?;
-    let path = path_below(alloc, &at.path, position.as_str())?;
+    let position = k.to_string(list.alloc)?;
+    let path = path_below(list.alloc, &list.at.path, position.as_str())?;
     let Some(members) = item.as_object() else {
         return Err(JsonFault::Bad(JsonKind::Shape(path)));
     };
-    push_object(alloc, tree, at, k, path, members, out)
+    push_object(list, k, path, members, out)
 }
 
 // Appends what the k-th object of a list says.
 #[cycle(walk)]
 fn push_object<'a>(
-    alloc: Global,
-    tree: &SetTree,
-    at: &Place,
+    list: &ObjectList<'_>,
     k: usize,
     path: Text,
     members: &[(&'a str, Json<'a>)],
     out: &mut FactList,
 ) -> Result<(), JsonFault>
-    requires room { at.now.table + suc (count tree.now.inner) < 2 ^ 32 }
-    requires few { count tree.now.inner < 64 }
-    requires path { path ≡ path_below at.now.path (decimal k) }
-    ensures ok { OnOk result (AddsSaid out.old out.new (object_said tree.now at.now k (members_view members.now))) }
-    ensures fault { IfErr result (TellsFirstFault (object_said tree.now at.now k (members_view members.now))) }
+    requires path { path ≡ path_below list.now.at.now.path (decimal k) }
+    ensures ok { OnOk result (AddsSaid out.old out.new (object_said list.now.tree.now list.now.at.now k (members_view members.now))) }
+    ensures fault { IfErr result (TellsFirstFault (object_said list.now.tree.now list.now.at.now k (members_view members.now))) }
 {
-    check_members(alloc, tree, &path, members)?;
-    let id = id_of(alloc, &at.up, k)?;
-    let row = row_of(alloc, tree, &at.up, &id, &path, members)?;
-    out.push(at.table, &row)?;
+    let tree = list.tree;
+    check_members(list.alloc, tree, &path, members)?;
+    let id = id_of(list.alloc, &list.at.up, k)?;
+    let row = row_of(list.alloc, tree, &list.at.up, &id, &path, members)?;
+    out.push(list.at.table, &row)?;
     let deeper = Place {
-        table: at.table + 1,
+        table: list.at.table + 1,
         up: Some(id),
         path,
     };
-    push_sets(alloc, &tree.inner, &deeper, members, out)
+    push_sets(list.alloc, &tree.inner, &deeper, members, out)
 }
 
 // Appends what the member of an inner set says: an array, `null` or absent.
 #[cycle(walk)]
 fn push_member(
-    alloc: Global,
-    tree: &SetTree,
-    at: &Place,
+    list: &ObjectList<'_>,
     member: Option<&Json<'_>>,
     out: &mut FactList,
 ) -> Result<(), JsonFault>
-    requires room { at.now.table + suc (count tree.now.inner) < 2 ^ 32 }
-    requires few { count tree.now.inner < 64 }
-    ensures ok { OnOk result (AddsSaid out.old out.new (member_said tree.now at.now (lent_view member.entry))) }
-    ensures fault { IfErr result (TellsFirstFault (member_said tree.now at.now (lent_view member.entry))) }
+    ensures ok { OnOk result (AddsSaid out.old out.new (member_said list.now.tree.now list.now.at.now (lent_view member.entry))) }
+    ensures fault { IfErr result (TellsFirstFault (member_said list.now.tree.now list.now.at.now (lent_view member.entry))) }
 {
     match member {
         None | Some(Json::Null) => Ok(()),
-        Some(Json::Array(items)) => push_items(alloc, tree, at, items, out),
-        Some(_) => Err(JsonFault::Bad(JsonKind::Shape(at.path.copy()?))),
+        Some(Json::Array(items)) => push_items(list, items, out),
+        Some(_) => Err(JsonFault::Bad(JsonKind::Shape(list.at.path.copy()?))),
     }
 }
 
@@ -265,8 +257,13 @@ fn push_sets<'a>(
             up: copy_of(&at.up)?,
             path: path_below(alloc, &at.path, inner.name.as_str())?,
         };
+        let list = ObjectList {
+            alloc,
+            tree: inner,
+            at: &place,
+        };
         let member = member_of(members, inner.name.as_str());
-        push_member(alloc, inner, &place, member, out)?;
+        push_member(&list, member, out)?;
         table += 1 + inner.inner.count();
     }
     Ok(())

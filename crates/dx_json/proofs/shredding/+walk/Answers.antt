@@ -13,9 +13,9 @@ use Rattle.dx_json.proofs.shredding.+walk.Goals as goal
 
 pub push_items-returns-in_err-push_item-clause-fault : goal.push_items-returns-in_err-push_item-clause-fault
 push_items-returns-in_err-push_item-clause-fault t c =
-    let l = c.args.tree.now.label in
-    let inner = c.args.tree.now.inner in
-    let at = c.args.at.now in
+    let l = c.args.list.now.tree.now.label in
+    let inner = c.args.list.now.tree.now.inner in
+    let at = c.args.list.now.at.now in
     let k = c.loop-k.k in
     let v = c.index-items-k.result in
     let all = items_say l inner (sets_say inner) at 0 (items_view c.args.items.now) in
@@ -25,9 +25,9 @@ push_items-returns-in_err-push_item-clause-fault t c =
 
 pub push_items-loop-k-preserved : goal.push_items-loop-k-preserved
 push_items-loop-k-preserved t c =
-    let l = c.args.tree.now.label in
-    let inner = c.args.tree.now.inner in
-    let at = c.args.at.now in
+    let l = c.args.list.now.tree.now.label in
+    let inner = c.args.list.now.tree.now.inner in
+    let at = c.args.list.now.at.now in
     let k = c.loop-k.k in
     let v = c.index-items-k.result in
     let left = items_left l inner (sets_say inner) at c.args.items.now k v c.loop-k-test.true c.index-items-k.is in
@@ -35,9 +35,9 @@ push_items-loop-k-preserved t c =
 
 pub push_item-returns-in_default-clause-fault : goal.push_item-returns-in_default-clause-fault
 push_item-returns-in_default-clause-fault t c =
-    let l = c.args.tree.now.label in
-    let inner = c.args.tree.now.inner in
-    let at = c.args.at.now in
+    let l = c.args.list.now.tree.now.label in
+    let inner = c.args.list.now.tree.now.inner in
+    let at = c.args.list.now.at.now in
     let k = c.args.k in
     let path : c.in_ok-path.path ≡ path_below at.path (decimal k) = search rules in
     let none = none_there c.as_object.result (λ m. members_view m.now) _ c.in_default.not-Some c.as_object.ensures in
@@ -45,30 +45,37 @@ push_item-returns-in_default-clause-fault t c =
 
 pub push_object-returns-in_err-check_members-clause-fault : goal.push_object-returns-in_err-check_members-clause-fault
 push_object-returns-in_err-check_members-clause-fault t c =
-    let l = c.args.tree.now.label in
-    let inner = c.args.tree.now.inner in
+    let l = c.args.list.now.tree.now.label in
+    let inner = c.args.list.now.tree.now.inner in
     let ms = members_view c.args.members.now in
-    refused c.from_residual.result c.in_err-check_members.field-0.0 (object_says l inner (sets_say inner) c.args.at.now c.args.k ms) c.from_residual.ensures.1
-    (unknown_first l inner (sets_say inner) c.args.at.now c.args.k ms c.args.path c.in_err-check_members.field-0.0 c.requires.path c.in_err-check_members.ensures.fault)
+    refused c.from_residual.result c.in_err-check_members.field-0.0 (object_says l inner (sets_say inner) c.args.list.now.at.now c.args.k ms) c.from_residual.ensures.1
+    (unknown_first l inner (sets_say inner) c.args.list.now.at.now c.args.k ms c.args.path c.in_err-check_members.field-0.0 c.requires.path c.in_err-check_members.ensures.fault)
 
 pub push_object-returns-in_err-row-clause-fault : goal.push_object-returns-in_err-row-clause-fault
 push_object-returns-in_err-row-clause-fault t c =
-    let l = c.args.tree.now.label in
-    let inner = c.args.tree.now.inner in
+    let l = c.args.list.now.tree.now.label in
+    let inner = c.args.list.now.tree.now.inner in
     let ms = members_view c.args.members.now in
-    refused c.from_residual-in_err-row.result c.in_err-row.field-0.0 (object_says l inner (sets_say inner) c.args.at.now c.args.k ms) c.from_residual-in_err-row.ensures.1
-    (columns_next l inner (sets_say inner) c.args.at.now c.args.k ms c.args.path c.in_err-row.field-0.0 c.requires.path c.in_ok-check_members.ensures.ok c.in_err-row.ensures.fault)
+    refused c.from_residual-in_err-row.result c.in_err-row.field-0.0 (object_says l inner (sets_say inner) c.args.list.now.at.now c.args.k ms) c.from_residual-in_err-row.ensures.1
+    (columns_next l inner (sets_say inner) c.args.list.now.at.now c.args.k ms c.args.path c.in_err-row.field-0.0 c.requires.path c.in_ok-check_members.ensures.ok c.in_err-row.ensures.fault)
+
+pub push_sets-invariant_of-list-clause-few : goal.push_sets-invariant_of-list-clause-few
+push_sets-invariant_of-list-clause-few t c =
+    let s = c.inner-item.result in
+    let fewer = count_below c.items-inner-items.result.now c.loop-inner.inner-index s s.inner c.args.sets.now c.loop-inner-test.true c.inner-item.is refl c.items-inner-items.ensures in
+    omega (arith, fewer, c.requires.few)
+
+pub push_sets-invariant_of-list-clause-room : goal.push_sets-invariant_of-list-clause-room
+push_sets-invariant_of-list-clause-room t c =
+    let s = c.inner-item.result in
+    let counted = count_at c.items-inner-items.result.now c.loop-inner.inner-index s s.inner c.loop-inner-test.true c.inner-item.is refl in
+    omega (arith, counted, c.loop-inner.invariant.room, c.requires.room)
 
 pub push_sets-push_member-requires : goal.push_sets-push_member-requires
 push_sets-push_member-requires t c =
     let ts = c.items-inner-items.result.now in
-    let s = c.inner-item.result in
-    let smaller = forest_size-inner ts c.loop-inner.inner-index s c.loop-inner-test.true c.inner-item.is in
-    let fewer = count_below ts c.loop-inner.inner-index s s.inner c.args.sets.now c.loop-inner-test.true c.inner-item.is refl c.items-inner-items.ensures in
-    let counted = count_at ts c.loop-inner.inner-index s s.inner c.loop-inner-test.true c.inner-item.is refl in (
-      omega (arith, smaller, ap forest_size c.items-inner-items.ensures, c.decreases),
-      (omega (arith, counted, c.loop-inner.invariant.room, c.requires.room), omega (arith, fewer, c.requires.few)),
-    )
+    let smaller = forest_size-inner ts c.loop-inner.inner-index c.inner-item.result c.loop-inner-test.true c.inner-item.is in
+    (omega (arith, smaller, ap forest_size c.items-inner-items.ensures, c.decreases), tt)
 
 pub push_sets-returns-in_err-push_member-clause-fault : goal.push_sets-returns-in_err-push_member-clause-fault
 push_sets-returns-in_err-push_member-clause-fault t c =

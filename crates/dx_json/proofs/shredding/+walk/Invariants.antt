@@ -8,8 +8,8 @@ use Rattle.dx_json.proofs.shredding.+walk.Given as goal
 -- what is added, and what is left to say, are all that is said
 abbrev pub invariant-push_items-loop-k : goal.invariant-push_items-loop-k
 invariant-push_items-loop-k l =
-    map says l.fn.out ++ items_say l.tree.label l.tree.inner (sets_say l.tree.inner) l.at 0 (items_view l.items)
-    ≡ map says l.out ++ items_say l.tree.label l.tree.inner (sets_say l.tree.inner) l.at l.k (items_view (drop l.k l.items))
+    map says l.fn.out ++ items_say l.list.tree.now.label l.list.tree.now.inner (sets_say l.list.tree.now.inner) l.list.at.now 0 (items_view l.items)
+    ≡ map says l.out ++ items_say l.list.tree.now.label l.list.tree.now.inner (sets_say l.list.tree.now.inner) l.list.at.now l.k (items_view (drop l.k l.items))
 
 abbrev pub invariant-push_sets-loop-inner : goal.invariant-push_sets-loop-inner
 invariant-push_sets-loop-inner l = record {
@@ -19,16 +19,16 @@ invariant-push_sets-loop-inner l = record {
 }
 
 abbrev pub decreases-push_items : goal.decreases-push_items
-decreases-push_items l = 5 * forest_size l.tree.now.inner + 6
+decreases-push_items l = 5 * forest_size l.list.now.tree.now.inner + 6
 
 abbrev pub decreases-push_item : goal.decreases-push_item
-decreases-push_item l = 5 * forest_size l.tree.now.inner + 5
+decreases-push_item l = 5 * forest_size l.list.now.tree.now.inner + 5
 
 abbrev pub decreases-push_member : goal.decreases-push_member
-decreases-push_member l = 5 * forest_size l.tree.now.inner + 7
+decreases-push_member l = 5 * forest_size l.list.now.tree.now.inner + 7
 
 abbrev pub decreases-push_object : goal.decreases-push_object
-decreases-push_object l = 5 * forest_size l.tree.now.inner + 4
+decreases-push_object l = 5 * forest_size l.list.now.tree.now.inner + 4
 
 abbrev pub decreases-push_sets : goal.decreases-push_sets
 decreases-push_sets l = 5 * forest_size l.sets.now + 3

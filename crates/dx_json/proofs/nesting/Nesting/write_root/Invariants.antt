@@ -5,10 +5,10 @@ use Rattle.serde_json.specs.Written.{outline}
 use Rattle.dx_instance.specs.Stored.{rows_of}
 use Rattle.dx_json.specs.Nesting.{object_of, objects, root_objects, with_sets}
 use Rattle.dx_json.proofs.Tokens.{IsOnTheWay, item_tokens}
-use Rattle.dx_json.proofs.nesting.write_root.Given as goal
+use Rattle.dx_json.proofs.nesting.Nesting.write_root.Given as goal
 
 -- the objects so far, and those of the rows that are left, are all
 abbrev pub invariant-loop-place : goal.invariant-loop-place
 invariant-loop-place l =
-    IsOnTheWay l.fn.out l.out (item_tokens (objects (object_of l.tree.label l.tree.inner (with_sets l.instance l.tree.inner (suc l.root)) false) (drop l.place (rows_of l.instance l.root))))
-    (json_tokens (outline (array (root_objects l.instance l.tree l.root))))
+    IsOnTheWay l.fn.out l.out (item_tokens (objects (object_of l.tree.label l.tree.inner (with_sets l.self.instance.now l.tree.inner (suc l.root)) false) (drop l.place (rows_of l.self.instance.now l.root))))
+    (json_tokens (outline (array (root_objects l.self.instance.now l.tree l.root))))
