@@ -13,7 +13,7 @@ ghost use Rattle.clio_accept.specs.Mapping.{IsFirstReserved, IsReserved, NoneRes
 ghost use Rattle.clio_accept.specs.declared.fault.AcceptFault.TheVariants.{Memory};
 
 use crate::fault::{AcceptFault, MapFault};
-use crate::lines::mapping_between;
+use crate::lines::{SchemaTexts, mapping_between};
 use crate::mapping::Mapping;
 use dx_funcs::{Host, Meaning, Tests};
 use dx_ports::{Items, Text};
@@ -101,16 +101,14 @@ where
     if let Some(name) = reserved_in(&target)? {
         return Err(AcceptFault::Mapping(MapFault::Reserved(name)));
     }
-    mapping_between(
-        alloc,
-        lines.items(),
-        conditions.items(),
-        rules.items(),
+    let between = SchemaTexts {
         source,
         target,
-        host,
-        tests,
-    )
+        lines: lines.items(),
+        conditions: conditions.items(),
+        by_hand: rules.items(),
+    };
+    mapping_between(alloc, between, host, tests)
 }
 
 /// The mapping that a text defines: its two schemas, its conditions, and what pruning leaves of the rules that its lines stand

@@ -85,15 +85,21 @@ fn count_lines(lines: &[LineText], conditions: &[OnlyText]) -> Result<(), Accept
     Ok(())
 }
 
+/// Two schemas, and the texts of what stands between them.
+#[derive(Drop)]
+pub(crate) struct SchemaTexts<'a> {
+    pub source: Schema,
+    pub target: Schema,
+    pub lines: &'a [LineText],
+    pub conditions: &'a [OnlyText],
+    pub by_hand: &'a [RuleText],
+}
+
 /// The mapping between two schemas: the conditions, and what pruning leaves of the rules that the lines stand for and of the
 /// closed hand-written rules after them.
 pub(crate) fn mapping_between<F, P, M>(
     alloc: Global,
-    lines: &[LineText],
-    conditions: &[OnlyText],
-    by_hand: &[RuleText],
-    source: Schema,
-    target: Schema,
+    said: SchemaTexts<'_>,
     host: &Host<F, M>,
     tests: &Tests<P, M>,
 ) -> Result<Mapping, AcceptFault>
@@ -101,13 +107,26 @@ where
     F: Fn(u32, &Items<Text>) -> Result<Text, AllocError>,
     P: Fn(u32, &Text) -> Result<bool, AllocError>,
     M: Meaning,
-    requires source { IsFaultless source }
-    requires target { IsFaultless target }
-    requires whole { Each by_hand.now IsWholeRule }
-    requires narrow { Each by_hand.now RuleHasFewCells }
+    requires source { IsFaultless said.source }
+    requires target { IsFaultless said.target }
+    requires whole { Each said.by_hand.now IsWholeRule }
+    requires narrow { Each said.by_hand.now RuleHasFewCells }
     ensures { Answers AcceptFault.Memory (mapping_of (offered host.now) (tested tests.now))
-        (record { source = source; target = target; lines = lines.now; conditions = conditions.now; by_hand = by_hand.now }) result }
+        (record {
+          source = said.entry.source;
+          target = said.entry.target;
+          lines = said.entry.lines.now;
+          conditions = said.entry.conditions.now;
+          by_hand = said.entry.by_hand.now;
+        }) result }
 {
+    let SchemaTexts {
+        source,
+        target,
+        lines,
+        conditions,
+        by_hand,
+    } = said;
     count_lines(lines, conditions)?;
     let lines = read_lines(alloc, lines, &source, &target, host)?;
     let conditions = read_conditions(alloc, conditions, &source, tests)?;

@@ -20,7 +20,7 @@ pub returns-in_err-count_lines : goal.returns-in_err-count_lines
 returns-in_err-count_lines g c =
     let list = offered c.args.host.now in
     let tests = tested c.args.tests.now in
-    let b : TextsBetween = record { source = c.args.source; target = c.args.target; lines = c.args.lines.now; conditions = c.args.conditions.now; by_hand = c.args.by_hand.now } in
+    let b : TextsBetween = record { source = c.args.said.source; target = c.args.said.target; lines = c.args.said.lines.now; conditions = c.args.said.conditions.now; by_hand = c.args.said.by_hand.now } in
     let fault = c.in_err-count_lines.field-0.0 in
     as_error _ fault (Answers Memory (mapping_of list tests) b) c.from_residual.ensures.1 (lines_stop list tests b fault c.in_err-count_lines.ensures.many)
 
@@ -28,7 +28,7 @@ pub returns-in_err-lines : goal.returns-in_err-lines
 returns-in_err-lines g c =
     let list = offered c.args.host.now in
     let tests = tested c.args.tests.now in
-    let b : TextsBetween = record { source = c.args.source; target = c.args.target; lines = c.args.lines.now; conditions = c.args.conditions.now; by_hand = c.args.by_hand.now } in
+    let b : TextsBetween = record { source = c.args.said.source; target = c.args.said.target; lines = c.args.said.lines.now; conditions = c.args.said.conditions.now; by_hand = c.args.said.by_hand.now } in
     let fault = c.in_err-lines.field-0.0 in
     as_error _ (text_refusal fault) (Answers Memory (mapping_of list tests) b) c.from_residual-in_err-lines.ensures.1 (naming_stops list tests b fault c.in_ok-count_lines.ensures.few c.in_err-lines.ensures.fault)
 
@@ -36,7 +36,7 @@ pub returns-in_err-conditions : goal.returns-in_err-conditions
 returns-in_err-conditions g c =
     let list = offered c.args.host.now in
     let tests = tested c.args.tests.now in
-    let b : TextsBetween = record { source = c.args.source; target = c.args.target; lines = c.args.lines.now; conditions = c.args.conditions.now; by_hand = c.args.by_hand.now } in
+    let b : TextsBetween = record { source = c.args.said.source; target = c.args.said.target; lines = c.args.said.lines.now; conditions = c.args.said.conditions.now; by_hand = c.args.said.by_hand.now } in
     let fault = c.in_err-conditions.field-0.0 in
     as_error _ (text_refusal fault) (Answers Memory (mapping_of list tests) b) c.from_residual-in_err-conditions.ensures.1
     (testing_stops list tests b fault c.in_ok-count_lines.ensures.few c.in_ok-lines.ensures.none c.in_err-conditions.ensures.fault)
@@ -45,7 +45,7 @@ pub returns-in_err-written : goal.returns-in_err-written
 returns-in_err-written g c =
     let list = offered c.args.host.now in
     let tests = tested c.args.tests.now in
-    let b : TextsBetween = record { source = c.args.source; target = c.args.target; lines = c.args.lines.now; conditions = c.args.conditions.now; by_hand = c.args.by_hand.now } in
+    let b : TextsBetween = record { source = c.args.said.source; target = c.args.said.target; lines = c.args.said.lines.now; conditions = c.args.said.conditions.now; by_hand = c.args.said.by_hand.now } in
     let fault = c.in_err-written.field-0.0 in
     as_error _ (text_refusal fault) (Answers Memory (mapping_of list tests) b) c.from_residual-in_err-written.ensures.1
     (writing_stops list tests b fault c.in_ok-count_lines.ensures.few c.in_ok-lines.ensures.none c.in_ok-conditions.ensures.none c.in_err-written.ensures.fault)
@@ -54,7 +54,7 @@ pub returns-in_err-rules : goal.returns-in_err-rules
 returns-in_err-rules g c =
     let list = offered c.args.host.now in
     let tests = tested c.args.tests.now in
-    let b : TextsBetween = record { source = c.args.source; target = c.args.target; lines = c.args.lines.now; conditions = c.args.conditions.now; by_hand = c.args.by_hand.now } in
+    let b : TextsBetween = record { source = c.args.said.source; target = c.args.said.target; lines = c.args.said.lines.now; conditions = c.args.said.conditions.now; by_hand = c.args.said.by_hand.now } in
     let fault = c.in_err-rules.field-0.0 in
     let r : AreRead list tests b = record { few = c.in_ok-count_lines.ensures.few; named = c.in_ok-lines.ensures.none; tested = c.in_ok-conditions.ensures.none; written = c.in_ok-written.ensures.none } in
     as_error _ (limit_refusal fault) (Answers Memory (mapping_of list tests) b) c.from_residual-in_err-rules.ensures.1
@@ -64,7 +64,7 @@ pub returns-in_err-push_closed : goal.returns-in_err-push_closed
 returns-in_err-push_closed g c =
     let list = offered c.args.host.now in
     let tests = tested c.args.tests.now in
-    let b : TextsBetween = record { source = c.args.source; target = c.args.target; lines = c.args.lines.now; conditions = c.args.conditions.now; by_hand = c.args.by_hand.now } in
+    let b : TextsBetween = record { source = c.args.said.source; target = c.args.said.target; lines = c.args.said.lines.now; conditions = c.args.said.conditions.now; by_hand = c.args.said.by_hand.now } in
     let fault = c.in_err-push_closed.field-0.0 in
     let r : AreRead list tests b = record { few = c.in_ok-count_lines.ensures.few; named = c.in_ok-lines.ensures.none; tested = c.in_ok-conditions.ensures.none; written = c.in_ok-written.ensures.none } in
     as_error _ fault (Answers Memory (mapping_of list tests) b) c.from_residual-in_err-push_closed.ensures.1
@@ -74,7 +74,7 @@ pub returns-then-len-gt-RULES : goal.returns-then-len-gt-RULES
 returns-then-len-gt-RULES g c =
     let list = offered c.args.host.now in
     let tests = tested c.args.tests.now in
-    let b : TextsBetween = record { source = c.args.source; target = c.args.target; lines = c.args.lines.now; conditions = c.args.conditions.now; by_hand = c.args.by_hand.now } in
+    let b : TextsBetween = record { source = c.args.said.source; target = c.args.said.target; lines = c.args.said.lines.now; conditions = c.args.said.conditions.now; by_hand = c.args.said.by_hand.now } in
     let r : AreRead list tests b = record { few = c.in_ok-count_lines.ensures.few; named = c.in_ok-lines.ensures.none; tested = c.in_ok-conditions.ensures.none; written = c.in_ok-written.ensures.none } in
     let e = c.in_ok-push_closed.ensures.closings in
     let all = all_rules list b c.in_ok-written.written.items c.in_ok-rules.rules.items e.0 c.push_closed.new.rules.items c.in_ok-written.ensures.rules
@@ -85,7 +85,7 @@ pub prune-requires-clause-fits : goal.prune-requires-clause-fits
 prune-requires-clause-fits g c =
     let list = offered c.args.host.now in
     let tests = tested c.args.tests.now in
-    let b : TextsBetween = record { source = c.args.source; target = c.args.target; lines = c.args.lines.now; conditions = c.args.conditions.now; by_hand = c.args.by_hand.now } in
+    let b : TextsBetween = record { source = c.args.said.source; target = c.args.said.target; lines = c.args.said.lines.now; conditions = c.args.said.conditions.now; by_hand = c.args.said.by_hand.now } in
     let r : AreRead list tests b = record { few = c.in_ok-count_lines.ensures.few; named = c.in_ok-lines.ensures.none; tested = c.in_ok-conditions.ensures.none; written = c.in_ok-written.ensures.none } in
     let e = c.in_ok-push_closed.ensures.closings in
     let all = all_rules list b c.in_ok-written.written.items c.in_ok-rules.rules.items e.0 c.push_closed.new.rules.items c.in_ok-written.ensures.rules
@@ -103,7 +103,7 @@ pub returns-in_err-left : goal.returns-in_err-left
 returns-in_err-left g c =
     let list = offered c.args.host.now in
     let tests = tested c.args.tests.now in
-    let b : TextsBetween = record { source = c.args.source; target = c.args.target; lines = c.args.lines.now; conditions = c.args.conditions.now; by_hand = c.args.by_hand.now } in
+    let b : TextsBetween = record { source = c.args.said.source; target = c.args.said.target; lines = c.args.said.lines.now; conditions = c.args.said.conditions.now; by_hand = c.args.said.by_hand.now } in
     let r : AreRead list tests b = record { few = c.in_ok-count_lines.ensures.few; named = c.in_ok-lines.ensures.none; tested = c.in_ok-conditions.ensures.none; written = c.in_ok-written.ensures.none } in
     let e = c.in_ok-push_closed.ensures.closings in
     let all = all_rules list b c.in_ok-written.written.items c.in_ok-rules.rules.items e.0 c.push_closed.new.rules.items c.in_ok-written.ensures.rules
@@ -117,7 +117,7 @@ pub returns : goal.returns
 returns g c =
     let list = offered c.args.host.now in
     let tests = tested c.args.tests.now in
-    let b : TextsBetween = record { source = c.args.source; target = c.args.target; lines = c.args.lines.now; conditions = c.args.conditions.now; by_hand = c.args.by_hand.now } in
+    let b : TextsBetween = record { source = c.args.said.source; target = c.args.said.target; lines = c.args.said.lines.now; conditions = c.args.said.conditions.now; by_hand = c.args.said.by_hand.now } in
     let r : AreRead list tests b = record { few = c.in_ok-count_lines.ensures.few; named = c.in_ok-lines.ensures.none; tested = c.in_ok-conditions.ensures.none; written = c.in_ok-written.ensures.none } in
     let e = c.in_ok-push_closed.ensures.closings in
     let all = all_rules list b c.in_ok-written.written.items c.in_ok-rules.rules.items e.0 c.push_closed.new.rules.items c.in_ok-written.ensures.rules
