@@ -44,22 +44,36 @@ fn create_target(steps: &[Step], target: &Schema) -> bool
     next == tables
 }
 
+/// The steps before one, and those that have all keep tables of the script.
+#[derive(Drop)]
+struct Before<'a> {
+    steps: &'a [Step],
+    keeps: &'a [Step],
+}
+
+/// What a match table selects: from which tables, what of them, and where they are equal.
+#[derive(Drop)]
+struct Query<'a> {
+    sources: &'a [Text],
+    select: &'a [Select],
+    equal: &'a [Equal],
+}
+
 /// Whether the step of a match table fits after those before it.
 fn match_fits<F: Fn(u32, &Items<Text>) -> Result<Text, AllocError>, M: Meaning>(
     source: &Schema,
     host: &Host<F, M>,
     before: &[Step],
     rule: u32,
-    select: &[Select],
-    sources: &[Text],
-    equal: &[Equal],
+    query: &Query<'_>,
 ) -> bool
-    ensures { IsTrue result ↔ MatchFits (table_names_of source.now) (offered host.now) before.now rule select.now sources.now equal.now }
+    ensures { IsTrue result ↔ MatchFits (table_names_of source.now) (offered host.now) before.now rule
+        query.now.select.now query.now.sources.now query.now.equal.now }
 {
     rule as usize == match_count(before)
-        && are_tables(source, sources)
-        && selects_fit(source, host, sources, select)
-        && equals_fit(source, sources, equal)
+        && are_tables(source, query.sources)
+        && selects_fit(source, host, query.sources, query.select)
+        && equals_fit(source, query.sources, query.equal)
 }
 
 /// Whether the step of a keep table fits after those before it.
@@ -71,46 +85,47 @@ fn keep_fits(before: &[Step], rule: u32, unless: &[Unless]) -> bool
         && unless_fit(before, rule, unless)
 }
 
-/// Whether an insert reads the right table of its rule, if the keep tables of the script are those of `keeps`.
-fn reads_right(keeps: &[Step], before: &[Step], rule: u32, kept: bool) -> bool
-    ensures { IsTrue result ↔ ReadsKept keeps.now before.now rule kept }
+/// The rows that an insert reads, of the match table of a rule or of its keep table, and what it puts in for each.
+#[derive(Drop)]
+struct Rows<'a> {
+    rule: u32,
+    kept: bool,
+    cells: &'a [Out],
+}
+
+/// Whether an insert reads the right table of its rule.
+fn reads_right(before: &Before<'_>, rule: u32, kept: bool) -> bool
+    ensures { IsTrue result ↔ ReadsKept before.now.keeps.now before.now.steps.now rule kept }
 {
     if kept {
-        is_kept(before, rule)
+        is_kept(before.steps, rule)
     } else {
-        !is_kept(keeps, rule)
+        !is_kept(before.keeps, rule)
     }
 }
 
-/// Whether an insert step fits after those before it, if the keep tables of the script are those of `keeps`.
-fn insert_fits(
-    target: &Schema,
-    keeps: &[Step],
-    before: &[Step],
-    table: &Text,
-    rule: u32,
-    kept: bool,
-    cells: &[Out],
-) -> bool
-    ensures { IsTrue result ↔ InsertFits (table_names_of target.now) keeps.now before.now table.now rule kept cells.now }
+/// Whether an insert step fits after those before it.
+fn insert_fits(target: &Schema, before: &Before<'_>, table: &Text, rows: &Rows<'_>) -> bool
+    ensures { IsTrue result ↔ InsertFits (table_names_of target.now) before.now.keeps.now before.now.steps.now table.now
+        rows.now.rule rows.now.kept rows.now.cells.now }
 {
-    is_created(before, table)
-        && cells.len() as u64 == width_named(target, table)
-        && match_width(before, rule).is_some()
-        && reads_right(keeps, before, rule, kept)
-        && outs_fit(before, rule, cells)
+    is_created(before.steps, table)
+        && rows.cells.len() as u64 == width_named(target, table)
+        && match_width(before.steps, rows.rule).is_some()
+        && reads_right(before, rows.rule, rows.kept)
+        && outs_fit(before.steps, rows.rule, rows.cells)
 }
 
-/// Whether a step fits after those before it, if the keep tables of the script are those of `keeps`.
+/// Whether a step fits after those before it.
 fn step_fits<F: Fn(u32, &Items<Text>) -> Result<Text, AllocError>, M: Meaning>(
     source: &Schema,
     target: &Schema,
     host: &Host<F, M>,
-    keeps: &[Step],
-    before: &[Step],
+    before: &Before<'_>,
     step: &Step,
 ) -> bool
-    ensures { IsTrue result ↔ StepFits (table_names_of source.now) (table_names_of target.now) (offered host.now) keeps.now before.now step.now }
+    ensures { IsTrue result ↔ StepFits (table_names_of source.now) (table_names_of target.now) (offered host.now)
+        before.now.keeps.now before.now.steps.now step.now }
 {
     match step {
         Step::Create { .. } => true,
@@ -119,22 +134,28 @@ fn step_fits<F: Fn(u32, &Items<Text>) -> Result<Text, AllocError>, M: Meaning>(
             select,
             sources,
             equal,
-        } => match_fits(
-            source,
-            host,
-            before,
-            *rule,
-            select.items(),
-            sources.items(),
-            equal.items(),
-        ),
-        Step::KeepRows { rule, unless } => keep_fits(before, *rule, unless.items()),
+        } => {
+            let query = Query {
+                sources: sources.items(),
+                select: select.items(),
+                equal: equal.items(),
+            };
+            match_fits(source, host, before.steps, *rule, &query)
+        }
+        Step::KeepRows { rule, unless } => keep_fits(before.steps, *rule, unless.items()),
         Step::InsertRows {
             table,
             rule,
             kept,
             cells,
-        } => insert_fits(target, keeps, before, table, *rule, *kept, cells.items()),
+        } => {
+            let rows = Rows {
+                rule: *rule,
+                kept: *kept,
+                cells: cells.items(),
+            };
+            insert_fits(target, before, table, &rows)
+        }
     }
 }
 
@@ -155,14 +176,11 @@ pub fn fits<F: Fn(u32, &Items<Text>) -> Result<Text, AllocError>, M: Meaning>(
     }
     let keeps = through_keeps(steps);
     for number in 0..steps.len() {
-        if !step_fits(
-            source,
-            target,
-            host,
+        let before = Before {
+            steps: &steps[..number],
             keeps,
-            &steps[..number],
-            &steps[number],
-        ) {
+        };
+        if !step_fits(source, target, host, &before, &steps[number]) {
             return false;
         }
     }
