@@ -1,5 +1,5 @@
 // The verdict on an instance.
-ghost use Rattle.std.specs.Prelude.{◌≡◌, ◌<◌, ◌-◌, ◌^◌, ℕ, List, IfOk, length};
+ghost use Rattle.std.specs.Prelude.{◌≡◌, ◌<◌, ◌^◌, ℕ, List, IfOk, length};
 ghost use Rattle.dx_ports.specs.Members.{Each, ◌≈◌};
 ghost use Rattle.dx_model.specs.declared.facts.Fact.{Fact as FactRow};
 ghost use Rattle.dx_model.specs.Chase.{NoneReceives};
@@ -21,7 +21,8 @@ use crate::missing::missed_fact;
 use crate::reasons::reason;
 use crate::verdict::Verdict;
 use dx_core::reduce;
-use dx_funcs::{Host, Meaning};
+use dx_exchange::Task;
+use dx_funcs::Meaning;
 use dx_instance::Instance;
 use dx_keys::{ChaseFault, chase};
 use dx_model::Rule;
@@ -114,27 +115,27 @@ fn judge_made(
 /// point.
 pub fn judge<F, M>(
     alloc: Global,
-    rules: &[Rule],
-    source: &Schema,
-    target: &Schema,
-    rows: &Instance,
-    host: &Host<F, M>,
+    task: &Task<'_, F, M>,
     given: &Instance,
-    limit: u64,
 ) -> Result<Verdict, JudgeFault>
 where
     F: Fn(u32, &Items<Text>) -> Result<Text, AllocError>,
     M: Meaning,
-    requires serves { Serves F.Fn M.apply host.now }
-    requires fits { Fits (offered host.now) rules.now (model_tables source.now) (model_tables target.now) }
-    requires rows { widths rows.now ≡ schema_widths source.now }
-    requires given { widths given.now ≡ schema_widths target.now }
-    requires limit { limit < 2 ^ 32 - 1 }
+    requires serves { Serves F.Fn M.apply task.now.host.now }
+    requires fits { Fits (offered task.now.host.now) task.now.rules.now (model_tables task.now.source.now) (model_tables task.now.target.now) }
+    requires given { widths given.now ≡ schema_widths task.now.target.now }
     ensures { Answers JudgeFault.Memory (judging M.apply)
-        (record { rules = rules.now; schema = model_tables target.now; rows = facts rows.now; given = facts given.now; limit = limit })
+        (record { rules = task.now.rules.now; schema = model_tables task.now.target.now; rows = facts task.now.rows.now; given = facts given.now; limit = task.now.limit })
         result }
 {
-    let _tables = target.tables();
-    let made = canonical_plain(alloc, rules, rows, host, target, limit)?;
-    Ok(judge_made(alloc, rules, made, target, given)?)
+    let _tables = task.target.tables();
+    let made = canonical_plain(
+        alloc,
+        task.rules,
+        task.rows,
+        task.host,
+        task.target,
+        task.limit,
+    )?;
+    Ok(judge_made(alloc, task.rules, made, task.target, given)?)
 }
