@@ -23,7 +23,8 @@ fn push_direction(
     requires fits { FitsAnswer source.now target.now answer.now }
     requires source_marks { HaveNoMarks source.now }
     requires target_marks { HaveNoMarks target.now }
-    ensures { OnOk result (AddsDirection direction.now source.now target.now answer.now (map printed_view files.old.items) (map printed_view files.new.items)) }
+    ensures { OnOk result (AddsDirection direction.now source.now target.now answer.now (map printed_view files.old.items)
+        (map printed_view files.new.items)) }
 {
     match answer {
         Answer::Implies => Ok(()),

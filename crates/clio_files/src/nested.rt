@@ -42,7 +42,8 @@ pub(crate) fn push_roots(
     files: &mut Vec<Printed>,
 ) -> Result<(), AllocError>
     requires { widths target.now ≡ schema_widths schema.now }
-    ensures { OnOk result (AddsRoots schema.now target.now (roots schema.now) (map printed_view files.old.items) (map printed_view files.new.items)) }
+    ensures { OnOk result (AddsRoots schema.now target.now (roots schema.now) (map printed_view files.old.items)
+        (map printed_view files.new.items)) }
 {
     let mut sorted = target.sorted()?;
     let mut root = 0;

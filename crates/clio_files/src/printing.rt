@@ -38,7 +38,8 @@ where
     M: Meaning,
     requires texts { FitTexts source.now target.now (offered host.now) rules.now }
     requires fits { FitsFiles rules.now target.now exchange.now }
-    ensures { IfOk result (λ ps. AreFiles source.now target.now (offered host.now) mode nested rules.now exchange.now (map printed_view ps.items)) }
+    ensures { IfOk result (λ ps. AreFiles source.now target.now (offered host.now) mode nested rules.now exchange.now
+        (map printed_view ps.items)) }
 {
     let nulls = nulls_of(alloc, &exchange.target)?;
     let mut printed = print_texts(alloc, rules, source, target, host, mode)?;

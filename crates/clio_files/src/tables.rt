@@ -50,7 +50,8 @@ pub(crate) fn push_tables(
 ) -> Result<(), AllocError>
     requires widths { widths instance.now ≡ schema_widths schema.now }
     requires no_marks { Each (tables_of schema.now) (λ t. HasNoMark t.columns) }
-    ensures { OnOk result (AddsTables front.now (tables_of schema.now) instance.now (map printed_view files.old.items) (map printed_view files.new.items)) }
+    ensures { OnOk result (AddsTables front.now (tables_of schema.now) instance.now (map printed_view files.old.items)
+        (map printed_view files.new.items)) }
 {
     for table in 0..schema.tables() {
         files.push(table_file(alloc, front, schema, instance, table)?)?;

@@ -180,7 +180,8 @@ pub(crate) fn load_document(
     requires file { file ≡ named_by nested (schema_table schema.now root).name }
     requires fit { ReadFits schema.now root before }
     ensures fit { IfOk result (ReadFits schema.now (root + 1 + count (tree_at schema.now root).inner)) }
-    ensures read { (used : Marks) (q : ReadState) → Holds used before q → GivesTo used (loading nested schema.now root) (q, bytes.now) result }
+    ensures read { (used : Marks) (q : ReadState) → Holds used before q → GivesTo used (loading nested schema.now root)
+        (q, bytes.now) result }
     ensures blank { (used : Marks) → nested ≡ shape_at schema.now root → UnusedAreBlank used schema.now before
         → IfOk result (UnusedAreBlank used schema.now) }
 {

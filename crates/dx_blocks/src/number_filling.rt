@@ -46,7 +46,8 @@ pub fn place_rows(
     requires labels { AreLabels (facts_of numbers.now rows.now) (nulls_from numbers.now first) labels.now }
     requires filled { AreFilled (nulls_from numbers.now first) labels.now [] [] (shown_blocks numbers.now blocks.old) }
     requires within { Each blocks.old (IsOfNumbers numbers.now) }
-    ensures filled { let N = numbers.now in OnOk result (AreFilled (nulls_from N first) labels.now [] (facts_of N rows.now) (shown_blocks N blocks.new)) }
+    ensures filled { let N = numbers.now in OnOk result (AreFilled (nulls_from N first) labels.now [] (facts_of N rows.now)
+        (shown_blocks N blocks.new)) }
     ensures within { OnOk result (Each blocks.new (IsOfNumbers numbers.now)) }
 {
     for at in rows {
@@ -72,7 +73,8 @@ pub fn place_nulls(
     requires first { IsFirstNull numbers.now first }
     requires rows { Each rows.now (IsRowIn numbers.now) }
     requires labels { AreLabels (facts_of numbers.now rows.now) (nulls_from numbers.now first) labels.now }
-    requires filled { let N = numbers.now in AreFilled (nulls_from N first) labels.now [] (facts_of N rows.now) (shown_blocks N blocks.old) }
+    requires filled { let N = numbers.now in AreFilled (nulls_from N first) labels.now [] (facts_of N rows.now)
+        (shown_blocks N blocks.old) }
     requires within { Each blocks.old (IsOfNumbers numbers.now) }
     ensures filled { OnOk result (AreBlocksOfRows numbers.now first rows.now labels.now blocks.new) }
     ensures within { OnOk result (Each blocks.new (IsOfNumbers numbers.now)) }

@@ -30,7 +30,8 @@ fn filled_blocks(
     requires rows { AreNullRows numbers.now first (length numbers.now.tables) 0 rows.now }
     requires ascend { FactsAscend (facts_of numbers.now rows.now) }
     requires labels { AreLabels (facts_of numbers.now rows.now) (nulls_from numbers.now first) labels.now }
-    ensures blocks { let N = numbers.now in IfOk result (λ bs. AreBlocks (facts (shown_tables N.symbols N.tables)) (map (shown_block N) bs.items)) }
+    ensures blocks { let N = numbers.now in IfOk result (λ bs. AreBlocks (facts (shown_tables N.symbols N.tables))
+        (map (shown_block N) bs.items)) }
     ensures within { IfOk result (λ bs. Each bs.items (IsOfNumbers numbers.now)) }
 {
     let mut blocks = empty_number_blocks(alloc, labels.len())?;
@@ -47,7 +48,8 @@ fn filled_blocks(
 pub fn number_blocks(alloc: Global, numbers: &Numbers<'_>) -> Result<Vec<NumberBlock>, AllocError>
     requires symbols { ValuesAscend numbers.now.symbols }
     requires rows { Each numbers.now.tables (λ (t : NumberTable). NumbersAscend t.rows) }
-    ensures blocks { let N = numbers.now in IfOk result (λ bs. AreBlocks (facts (shown_tables N.symbols N.tables)) (map (shown_block N) bs.items)) }
+    ensures blocks { let N = numbers.now in IfOk result (λ bs. AreBlocks (facts (shown_tables N.symbols N.tables))
+        (map (shown_block N) bs.items)) }
     ensures within { IfOk result (λ bs. Each bs.items (IsOfNumbers numbers.now)) }
 {
     let first = first_null(numbers);

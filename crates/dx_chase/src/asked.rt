@@ -170,7 +170,8 @@ fn add_rows(
     requires table { table < length tables.now }
     requires determination { determination < determination_count tables.now table }
     requires lie { LieFrom tables.now 0 parts.old.items count }
-    ensures adds { OnOk result (AddsRows tables.now table determination (demands_in tables.now parts.old.items) (demands_in tables.now parts.new.items)) }
+    ensures adds { OnOk result (AddsRows tables.now table determination (demands_in tables.now parts.old.items)
+        (demands_in tables.now parts.new.items)) }
     ensures lie { IfOk result (LieFrom tables.now 0 parts.new.items) }
 {
     let end = sum(count, row_total(tables, table))?;
@@ -191,7 +192,8 @@ fn add_table(
 ) -> Result<u32, AllocError>
     requires table { table < length tables.now }
     requires lie { LieFrom tables.now 0 parts.old.items count }
-    ensures adds { OnOk result (AddsTable tables.now table (demands_in tables.now parts.old.items) (demands_in tables.now parts.new.items)) }
+    ensures adds { OnOk result (AddsTable tables.now table (demands_in tables.now parts.old.items)
+        (demands_in tables.now parts.new.items)) }
     ensures lie { IfOk result (LieFrom tables.now 0 parts.new.items) }
 {
     let total = determination_total(tables, table);

@@ -70,7 +70,8 @@ impl MapIndex {
     ) -> Result<Vec<Option<Found>>, AllocError>
         requires columns { Each own.now (RowHasColumn rows.now.width) }
         requires many { length known.now ≡ length rows.now.rows }
-        ensures { IfOk result (λ v. AreOrFirsts self.now.rule self.now.map self.now.index rows.now.rows own.now known.now v.items (length rows.now.rows)) }
+        ensures { IfOk result (λ v. AreOrFirsts self.now.rule self.now.map self.now.index rows.now.rows own.now known.now v.items
+            (length rows.now.rows)) }
     {
         let mut all = Vec::with_capacity(alloc, known.len())?;
         for place in 0..rows.count() {
@@ -122,11 +123,13 @@ impl<'a, 'm> Covering<'a, 'm> {
         known: &[Option<Found>],
     ) -> Result<Vec<Option<Found>>, AllocError>
         requires to { other < length self.now.rules.now }
-        requires number { slice_index_or (used_maps (rule_at self.now.rules.now self.now.rule) (rule_at self.now.rules.now other)) number no_map ≡ map.now }
+        requires number { slice_index_or (used_maps (rule_at self.now.rules.now self.now.rule)
+            (rule_at self.now.rules.now other)) number no_map ≡ map.now }
         requires own { AreOwn self.now.rules.now self.now.matches.now self.now.rule self.now.own.items }
         requires many { length known.now ≡ length (slice_index_or (matched_tuples self.now.matches.now) self.now.rule []) }
         ensures many { IfOk result (λ v. length v.items ≡ length known.now) }
-        ensures finds { IfOk result (λ v. (C : List Cover) → FindsAmong self.now.rules.now (matched_tuples self.now.matches.now) self.now.rule C known.now
+        ensures finds { IfOk result (λ v. (C : List Cover) → FindsAmong self.now.rules.now
+            (matched_tuples self.now.matches.now) self.now.rule C known.now
             → FindsAmong self.now.rules.now (matched_tuples self.now.matches.now) self.now.rule (C ++ places_by (matched_tuples self.now.matches.now) other map.now) v.items) }
     {
         let (from, to) = (&self.rules[self.rule as usize], &self.rules[other as usize]);
@@ -151,7 +154,8 @@ impl<'a, 'm> Covering<'a, 'm> {
         requires own { AreOwn self.now.rules.now self.now.matches.now self.now.rule self.now.own.items }
         requires many { length known.items ≡ length (slice_index_or (matched_tuples self.now.matches.now) self.now.rule []) }
         ensures many { IfOk result (λ v. length v.items ≡ length known.items) }
-        ensures finds { IfOk result (λ v. (C : List Cover) → FindsAmong self.now.rules.now (matched_tuples self.now.matches.now) self.now.rule C known.items
+        ensures finds { IfOk result (λ v. (C : List Cover) → FindsAmong self.now.rules.now
+            (matched_tuples self.now.matches.now) self.now.rule C known.items
             → FindsAmong self.now.rules.now (matched_tuples self.now.matches.now) self.now.rule (C ++ flat_map (places_by (matched_tuples self.now.matches.now) other) (used_maps (rule_at self.now.rules.now self.now.rule) (rule_at self.now.rules.now other))) v.items) }
     {
         let maps = self.covers.maps(self.rule, other);

@@ -73,7 +73,8 @@ impl<'a, 'm> Fold<'a, 'm> {
         requires covers { self.now.covers.now ≡ covers_of self.now.rules.now }
         requires from { rule < length self.now.rules.now }
         requires place { IsPlace self.now.rules.now (matched_tuples self.now.matches.now) found.rule found.row }
-        ensures { IfOk result (λ v. v ≡ value_under self.now.rules.now (matched_tuples self.now.matches.now) rule (cover_of self.now.rules.now rule found) (ExCell var)) }
+        ensures { IfOk result (λ v. v ≡ value_under self.now.rules.now (matched_tuples self.now.matches.now) rule
+            (cover_of self.now.rules.now rule found) (ExCell var)) }
     {
         let _rules = self.rules;
         let other = Cell::Ex(0);
@@ -100,9 +101,11 @@ impl<'a, 'm> Fold<'a, 'm> {
     /// What the cover fold makes of a null of a place.
     fn fold_null(&self, null: NullId) -> Result<Value, AllocError>
         requires covers { self.now.covers.now ≡ covers_of self.now.rules.now }
-        requires least { AllLeast self.now.rules.now (matched_tuples self.now.matches.now) self.now.least.items (length self.now.rules.now) }
+        requires least { AllLeast self.now.rules.now (matched_tuples self.now.matches.now) self.now.least.items
+            (length self.now.rules.now) }
         requires place { IsPlace self.now.rules.now (matched_tuples self.now.matches.now) null.rule null.row }
-        ensures { IfOk result (λ v. v ≡ folded self.now.rules.now (matched_tuples self.now.matches.now) (least_cover self.now.rules.now (matched_tuples self.now.matches.now)) (suc (length self.now.rules.now)) null) }
+        ensures { IfOk result (λ v. v ≡ folded self.now.rules.now (matched_tuples self.now.matches.now)
+            (least_cover self.now.rules.now (matched_tuples self.now.matches.now)) (suc (length self.now.rules.now)) null) }
     {
         let mut now = null;
         for _step in 0..self.rules.len() + 1 {
@@ -121,7 +124,8 @@ impl<'a, 'm> Fold<'a, 'm> {
     fn null_map(&self) -> Result<NullMap, AllocError>
         requires covers { self.now.covers.now ≡ covers_of self.now.rules.now }
         requires few { length self.now.rules.now < 2 ^ 32 }
-        requires least { AllLeast self.now.rules.now (matched_tuples self.now.matches.now) self.now.least.items (length self.now.rules.now) }
+        requires least { AllLeast self.now.rules.now (matched_tuples self.now.matches.now) self.now.least.items
+            (length self.now.rules.now) }
         ensures { IfOk result (IsCoverFold self.now.rules.now (matched_tuples self.now.matches.now)) }
     {
         let nulls = place_nulls(self.alloc, self.rules, self.matches)?;

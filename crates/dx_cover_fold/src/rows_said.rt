@@ -50,7 +50,8 @@ pub(crate) fn value_said(
     cell: &Cell,
 ) -> Result<Value, AllocError>
     requires { AreTexts matches.now.symbols row.now }
-    ensures { IfOk result (λ v. v ≡ cell_value (text_of variables.now (texts_of matches.now.symbols row.now)) (λ x. NullValue (record { rule = rule; var = x; row = place })) cell.now) }
+    ensures { IfOk result (λ v. v ≡ cell_value (text_of variables.now (texts_of matches.now.symbols row.now))
+        (λ x. NullValue (record { rule = rule; var = x; row = place })) cell.now) }
 {
     match cell {
         Cell::Var(x) => Ok(Value::Const(text_for(alloc, matches, variables, row, *x)?)),

@@ -35,7 +35,8 @@ impl Fields {
 
     /// A part more of the field that is open. After an error nothing is said of the fields.
     pub(crate) fn add(&mut self, more: &str) -> Result<(), AllocError>
-        ensures { (fields : List (List ℕ)) (part : List ℕ) → HaveOpen self.old fields part → OnOk result (HaveOpen self.new fields (part ++ more.now)) }
+        ensures { (fields : List (List ℕ)) (part : List ℕ) → HaveOpen self.old fields part → OnOk result
+            (HaveOpen self.new fields (part ++ more.now)) }
     {
         self.text.push_str(more)?;
         Ok(())
@@ -43,7 +44,8 @@ impl Fields {
 
     /// Ends the field that is open. After an error nothing is said of the fields.
     pub(crate) fn end(&mut self) -> Result<(), AllocError>
-        ensures { (fields : List (List ℕ)) (part : List ℕ) → HaveOpen self.old fields part → OnOk result (HaveFields self.new (fields ++ part ∷ [])) }
+        ensures { (fields : List (List ℕ)) (part : List ℕ) → HaveOpen self.old fields part → OnOk result
+            (HaveFields self.new (fields ++ part ∷ [])) }
     {
         let Ok(end) = u32::try_from(self.text.len()) else {
             return Err(AllocError);

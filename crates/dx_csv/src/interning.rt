@@ -113,7 +113,8 @@ impl<'a> Grid<'a> {
     // The rows of the records. Their numbers are found column by column, from the last one on: the first columns are mostly
     // those whose values are all different, and come when those of the others are remembered.
     fn rows(&self, alloc: Global, used: &[bool], symbols: &mut Gathered) -> Result<Rows, AllocError>
-        ensures shown { IfOk result (λ rows. map (shown_row symbols.new) rows.rows ≡ map (constants_used used.now) (records_in self.now.count self.now.width self.now.texts.now)) }
+        ensures shown { IfOk result (λ rows. map (shown_row symbols.new) rows.rows ≡ map (constants_used used.now)
+            (records_in self.now.count self.now.width self.now.texts.now)) }
         ensures below { IfOk result (λ rows. Each rows.rows (AreBelow (length symbols.new))) }
         ensures width { IfOk result (λ rows. rows.width ≡ self.now.width) }
         ensures grows { Extends symbols.old symbols.new }
@@ -146,7 +147,8 @@ pub fn load_into(
     symbols: &mut Gathered,
 ) -> Result<Rows, RowFault>
     requires { length columns.now < 2 ^ 32 - 1 }
-    ensures rows { IfOk result (λ rows. IsTableUsed used.now (table_records bytes.now) columns.now (map (shown_row symbols.new) rows.rows)) }
+    ensures rows { IfOk result (λ rows. IsTableUsed used.now (table_records bytes.now) columns.now
+        (map (shown_row symbols.new) rows.rows)) }
     ensures width { IfOk result (λ rows. rows.width ≡ length columns.now) }
     ensures below { IfOk result (λ rows. Each rows.rows (AreBelow (length symbols.new))) }
     ensures fault { IfErr result (HasTableFault (table_records bytes.now) columns.now) }

@@ -83,7 +83,8 @@ fn end_quoted(
 // None if its quotes are not closed: nothing is said of the fields then.
 fn push_quoted(text: &str, start: usize, fields: &mut Fields) -> Result<Option<usize>, AllocError>
     requires { is_quote text.now start ≡ true }
-    ensures { IfOk result (λ o. IfSome o (λ after. (field : List ℕ) × FieldAt text.now start after field × GrowsBy fields.old fields.new field)) }
+    ensures { IfOk result (λ o. IfSome o (λ after. (field : List ℕ) × FieldAt text.now start after field
+        × GrowsBy fields.old fields.new field)) }
 {
     let bytes = text.as_bytes();
     let mut from = start + 1;
@@ -108,7 +109,8 @@ fn push_quoted(text: &str, start: usize, fields: &mut Fields) -> Result<Option<u
 #[inline(always)]
 fn push_field(text: &str, start: usize, fields: &mut Fields) -> Result<Option<usize>, AllocError>
     requires { start ≤ length text.now }
-    ensures { IfOk result (λ o. IfSome o (λ after. (field : List ℕ) × FieldAt text.now start after field × GrowsBy fields.old fields.new field)) }
+    ensures { IfOk result (λ o. IfSome o (λ after. (field : List ℕ) × FieldAt text.now start after field
+        × GrowsBy fields.old fields.new field)) }
 {
     let bytes = text.as_bytes();
     if is_quote(bytes, start) {

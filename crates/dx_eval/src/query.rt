@@ -132,7 +132,8 @@ fn shown_variables<F: Fn(u32, &Items<Text>) -> Result<Text, AllocError>, M: Mean
     requires named { Each sources.now (λ name. name ∈ table_names (table_names_of source.now)) }
     requires wide { AreWide (table_names_of source.now) sources.now rows.now }
     requires fit { Each select.now (SelectFits (table_names_of source.now) (offered host.now) sources.now) }
-    ensures shown { IfOk result (λ v. v.items ≡ shown_from (variable_of (table_names_of source.now) sources.now rows.now) first select.now) }
+    ensures shown { IfOk result (λ v. v.items ≡ shown_from
+        (variable_of (table_names_of source.now) sources.now rows.now) first select.now) }
     ensures few { IfOk result (λ v. next_after first select.now < 2 ^ 32) }
 {
     let mut shown = Vec::new(alloc);

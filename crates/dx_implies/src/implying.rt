@@ -67,7 +67,8 @@ pub(crate) fn has_conclusion(
     instance: &Instance,
 ) -> Result<bool, AllocError>
     requires { AtomsFitWidths (widths instance.now) rule.now.conclusion }
-    ensures { IfOk result (λ b. IsTrue b ↔ ((values : ℕ → AnyValue) × Each rule.now.conclusion (λ a. fact_of_atom (frozen_text prefix.now) values a ∈ facts instance.now))) }
+    ensures { IfOk result (λ b. IsTrue b ↔ ((values : ℕ → AnyValue) × Each rule.now.conclusion
+        (λ a. fact_of_atom (frozen_text prefix.now) values a ∈ facts instance.now))) }
 {
     let numbers = instance.numbers();
     match atoms_of(alloc, rule.conclusion.items(), prefix, &numbers)? {
@@ -96,7 +97,8 @@ fn stands_in(
     instance: Instance,
 ) -> Result<bool, AllocError>
     requires { AtomsFitWidths (widths instance) rule.now.conclusion }
-    ensures { IfOk result (λ b. IsTrue b ↔ ((values : ℕ → AnyValue) × Each rule.now.conclusion (λ a. fact_of_atom (frozen_text prefix.now) values a ∈ facts instance))) }
+    ensures { IfOk result (λ b. IsTrue b ↔ ((values : ℕ → AnyValue) × Each rule.now.conclusion
+        (λ a. fact_of_atom (frozen_text prefix.now) values a ∈ facts instance))) }
 {
     let mut indexed = instance;
     index_all(&mut indexed)?;

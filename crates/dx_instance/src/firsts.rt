@@ -32,7 +32,8 @@ impl Parts {
         requires places { length self.old.places.items ≡ length self.old.rows.rows }
         ensures width { OnOk result (self.new.rows.width ≡ self.old.rows.width) }
         ensures first { (f : ℕ → List ℕ) → f place ≡ part.now → AreFirstParts f place self.old → IfOk result (IsFirstOf f place) }
-        ensures parts { (f : ℕ → List ℕ) → f place ≡ part.now → AreFirstParts f place self.old → OnOk result (AreFirstParts f (place + 1) self.new) }
+        ensures parts { (f : ℕ → List ℕ) → f place ≡ part.now → AreFirstParts f place self.old → OnOk result
+            (AreFirstParts f (place + 1) self.new) }
     {
         if let Some(at) = self.rows.find(part) {
             return Ok(self.places[at as usize]);

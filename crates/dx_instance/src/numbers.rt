@@ -80,7 +80,8 @@ impl<'a> Numbers<'a> {
     pub fn first_null(&self) -> u32
         ensures within { result ≤ length self.now.symbols }
         ensures constants { ValuesAscend self.now.symbols → (n : ℕ) → n < result → IsConstant (value_of self.now.symbols n) }
-        ensures nulls { ValuesAscend self.now.symbols → (n : ℕ) → result ≤ n → n < length self.now.symbols → IsSomeNull (value_of self.now.symbols n) }
+        ensures nulls { ValuesAscend self.now.symbols → (n : ℕ) → result ≤ n → n < length self.now.symbols
+            → IsSomeNull (value_of self.now.symbols n) }
     {
         self.symbols.first_null() as u32
     }

@@ -174,7 +174,8 @@ impl<'a> Ties<'a> {
         requires tied { AreTieKeys self.now.values.now self.now.lengths.now self.now.seconds.items }
         requires sorted { AreSorted self.now.values.now (places_of keys.now) }
         requires keyed { NumbersAreKeyed self.now.values.now keys.now }
-        ensures { MatchBool result (IsRise self.now.values.now (places_of keys.now) place) (IsRepeat self.now.values.now (places_of keys.now) place) }
+        ensures { MatchBool result (IsRise self.now.values.now (places_of keys.now) place)
+            (IsRepeat self.now.values.now (places_of keys.now) place) }
     {
         if place == 0 {
             return true;

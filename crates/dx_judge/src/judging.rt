@@ -122,7 +122,8 @@ where
     F: Fn(u32, &Items<Text>) -> Result<Text, AllocError>,
     M: Meaning,
     requires serves { Serves F.Fn M.apply task.now.host.now }
-    requires fits { Fits (offered task.now.host.now) task.now.rules.now (model_tables task.now.source.now) (model_tables task.now.target.now) }
+    requires fits { Fits (offered task.now.host.now) task.now.rules.now (model_tables task.now.source.now)
+        (model_tables task.now.target.now) }
     requires given { widths given.now ≡ schema_widths task.now.target.now }
     ensures { Answers JudgeFault.Memory (judging M.apply)
         (record { rules = task.now.rules.now; schema = model_tables task.now.target.now; rows = facts task.now.rows.now; given = facts given.now; limit = task.now.limit })

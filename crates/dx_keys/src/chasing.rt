@@ -28,7 +28,8 @@ fn read_chased(alloc: Global, numbering: Numbering, roots: &[u32]) -> Result<Cha
     requires roots { AreNumberRoots numbering.symbols roots.now }
     requires fit { PartsFit numbering.symbols numbering.tables.items }
     ensures map { IfOk result (λ c. pairs_of c.map ≡ null_map_of numbering.symbols roots.now) }
-    ensures image { IfOk result (λ c. IsSorting (shown_tables numbering.symbols (map (renumbered roots.now) numbering.tables.items)) c.instance) }
+    ensures image { IfOk result (λ c. IsSorting (shown_tables numbering.symbols
+        (map (renumbered roots.now) numbering.tables.items)) c.instance) }
 {
     let Numbering {
         symbols,

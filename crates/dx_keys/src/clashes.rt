@@ -38,7 +38,8 @@ fn column_at(tables: &[NumberTable<'_>], demands: &Demands<'_, '_>, i: u32, plac
     requires demand { IsRowDemand tables.now (demand_at demands.now i) }
     requires inside { i < length demands.now }
     requires place { place < length (demand_at demands.now i).right }
-    ensures { result ≡ nth (determination_columns tables.now (demand_at demands.now i).table (demand_at demands.now i).determination).right place }
+    ensures { result ≡ nth (determination_columns tables.now (demand_at demands.now i).table
+        (demand_at demands.now i).determination).right place }
 {
     let demand = demands.asked(i);
     let table = &tables[demand.table as usize];

@@ -44,7 +44,8 @@ fn read_condition<P, M>(
 where
     P: Fn(u32, &Text) -> Result<bool, AllocError>,
     M: Meaning,
-    ensures { AnswersOrFault result (condition_of source.now (tested tests.now) condition.now) (condition_fault source.now (tested tests.now) condition.now) }
+    ensures { AnswersOrFault result (condition_of source.now (tested tests.now) condition.now)
+        (condition_fault source.now (tested tests.now) condition.now) }
 {
     let place = read_place(source, &condition.place)?;
     let code = read_test(tests, condition)?;

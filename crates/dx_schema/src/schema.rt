@@ -214,7 +214,8 @@ impl Schema {
     pub fn link(&self, table: u32, number: u32) -> &Link
         requires table { table < length (tables_of self.now) }
         requires number { number < length (every_link (table_of (model_tables self.now) table)) }
-        ensures link { result.now ≡ slice_index_or (every_link (table_of (model_tables self.now) table)) number (record { from = []; table = 0; to = [] }) }
+        ensures link { result.now ≡ slice_index_or (every_link (table_of (model_tables self.now) table)) number
+            (record { from = []; table = 0; to = [] }) }
         ensures is { IsLink (tables_of self.now) (length (schema_table self.now table).columns) result.now }
     {
         let own = &self.tables[table as usize];

@@ -56,7 +56,8 @@ fn key_names(alloc: Global, node: &Node, columns: &[Text]) -> Result<Items<Text>
 fn keys_begun(alloc: Global, node: &Node, own: &[Text]) -> Result<Items<Key>, AllocError>
     requires columns { own.now ≡ columns_of (node_view node.now) }
     requires few { length own.now ≤ 64 }
-    ensures { IfOk result (λ keys. keys ≡ map (key_named (node_view node.now)) (where_has_inner (node_view node.now).inner (codes "#id" ∷ []))) }
+    ensures { IfOk result (λ keys. keys ≡ map (key_named (node_view node.now))
+        (where_has_inner (node_view node.now).inner (codes "#id" ∷ []))) }
 {
     let tree = node.tree;
     let mut keys = Items::new(alloc);

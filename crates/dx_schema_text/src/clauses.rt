@@ -77,7 +77,8 @@ fn referred(
     optionals: bool,
     tokens: &[Lexeme],
 ) -> Result<(Text, Items<Text>, bool, &[Lexeme]), ReadError>
-    ensures { (columns : List (List ℕ)) → ReadsAs (λ x. (reference_of columns x.0 x.1 x.2, x.3.now)) result (referred_reader optionals columns tokens.now) }
+    ensures { (columns : List (List ℕ)) → ReadsAs (λ x. (reference_of columns x.0 x.1 x.2, x.3.now)) result
+        (referred_reader optionals columns tokens.now) }
 {
     let (set, rest) = word(tokens)?;
     let (_, rest) = mark(rest, b"(")?;

@@ -176,7 +176,8 @@ fn push_sets(
 /// `AllocError` if there is no memory.
 pub fn print_trees(alloc: Global, trees: &[SetTree]) -> Result<Text, AllocError>
     ensures text { IfOk result (λ t. t ≡ printed [] (forest_of trees.now)) }
-    ensures read_again { IfOk result (λ t. (version : ℕ) → IsKnownVersion version → AreWritable version (forest_of trees.now) → IsReadAgain version (forest_of trees.now) t) }
+    ensures read_again { IfOk result (λ t. (version : ℕ) → IsKnownVersion version → AreWritable version (forest_of trees.now)
+        → IsReadAgain version (forest_of trees.now) t) }
 {
     let margin = Text::from_str(alloc, "")?;
     let mut out = String::new(alloc);

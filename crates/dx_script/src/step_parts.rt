@@ -16,7 +16,8 @@ use std::alloc::AllocError;
 
 /// Whether a table of this name has this column.
 fn has_column(schema: &Schema, table: &Text, column: &Text) -> bool
-    ensures { IsTrue result ↔ (column.now ∈ (table_numbered (table_names_of schema.now) (table_named (table_names_of schema.now) table.now)).columns) }
+    ensures { IsTrue result ↔ (column.now ∈ (table_numbered (table_names_of schema.now)
+        (table_named (table_names_of schema.now) table.now)).columns) }
 {
     // The call tells that names tell the tables apart.
     let _tables = schema.tables();

@@ -112,7 +112,8 @@ fn more_outs(
     first: Option<u32>,
     tokens: &[ScriptToken],
 ) -> Result<(Items<Out>, Option<u32>, &[ScriptToken]), ReadError>
-    ensures { ReadsAs (λ x. ((x.0, x.1), x.2.now)) result (with_front_known all (knowing is_comma (comma_out greatest_number) first tokens.now)) }
+    ensures { ReadsAs (λ x. ((x.0, x.1), x.2.now)) result
+        (with_front_known all (knowing is_comma (comma_out greatest_number) first tokens.now)) }
 {
     let mut all = all;
     let mut known = first;

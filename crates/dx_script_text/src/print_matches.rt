@@ -91,7 +91,8 @@ fn push_source(number: u64, table: &Text, out: &mut String) -> Result<(), AllocE
 
 // The source tables, parted by a comma and a space.
 fn push_sources(sources: &[Text], out: &mut String) -> Result<(), AllocError>
-    ensures { OnOk result (string_bytes out.new ≡ string_bytes out.old ++ parted (codes ", ") (texts_from source_alias_text 0 sources.now)) }
+    ensures { OnOk result (string_bytes out.new ≡ string_bytes out.old ++ parted (codes ", ")
+        (texts_from source_alias_text 0 sources.now)) }
 {
     let Some((first, others)) = sources.split_first() else {
         return Ok(());

@@ -173,7 +173,8 @@ pub fn plain_script<F: Fn(u32, &Items<Text>) -> Result<Text, AllocError>, M: Mea
     requires rules { Each rules.now (RuleFits (model_tables source.now) (model_tables target.now)) }
     requires listed { Each rules.now (λ d. Each d.derived (λ e. IsListed (offered host.now) e.code (length e.args))) }
     requires few { length rules.now < 2 ^ 32 - 1 }
-    ensures steps { IfOk result (λ s. s.steps ≡ plain_steps (table_names_of source.now) (table_names_of target.now) (offered host.now) rules.now) }
+    ensures steps { IfOk result (λ s. s.steps ≡ plain_steps (table_names_of source.now) (table_names_of target.now)
+        (offered host.now) rules.now) }
     ensures fits { IfOk result (λ s. FitsScript (table_names_of source.now) (table_names_of target.now) (offered host.now) s.steps) }
     ensures means { IfOk result (λ s. (I K : List Fact) (rows : Rows) → IsInstance (model_tables source.now) I
         → Means (table_names_of source.now) (table_names_of target.now) (call_named M.apply (offered host.now)) s.steps I rows K
@@ -200,7 +201,8 @@ pub fn rewritten_script<F: Fn(u32, &Items<Text>) -> Result<Text, AllocError>, M:
     requires rules { Each rules.now (RuleFits (model_tables source.now) (model_tables target.now)) }
     requires listed { Each rules.now (λ d. Each d.derived (λ e. IsListed (offered host.now) e.code (length e.args))) }
     requires few { length rules.now < 2 ^ 32 - 1 }
-    ensures steps { IfOk result (λ s. s.steps ≡ rewritten_steps (table_names_of source.now) (table_names_of target.now) (offered host.now) rules.now) }
+    ensures steps { IfOk result (λ s. s.steps ≡ rewritten_steps (table_names_of source.now) (table_names_of target.now)
+        (offered host.now) rules.now) }
     ensures fits { IfOk result (λ s. FitsScript (table_names_of source.now) (table_names_of target.now) (offered host.now) s.steps) }
     ensures means { IfOk result (λ s. (I K : List Fact) (rows : Rows) → IsInstance (model_tables source.now) I
         → Means (table_names_of source.now) (table_names_of target.now) (call_named M.apply (offered host.now)) s.steps I rows K

@@ -49,7 +49,8 @@ fn cut_at(
     longest: usize,
 ) -> Result<bool, AllocError>
     requires fits { FitsAtom question.now.numbers.now.tables (length domains.old.items) position.now.atom.now }
-    requires within { Each places.now (λ p. p < length (numbers_of_table question.now.numbers.now.tables position.now.atom.now.table).rows) }
+    requires within { Each places.now (λ p. p < length
+        (numbers_of_table question.now.numbers.now.tables position.now.atom.now.table).rows) }
     ensures kept { IfOk result (λ _. (a : ℕ → ℕ) (p : ℕ) → Keeps domains.old.items a → p ∈ places.now
         → IsImageRow question.now.numbers.now.tables question.now.taken.now a position.now.atom.now p → Keeps domains.new.items a) }
     ensures many { IfOk result (λ _. length domains.new.items ≡ length domains.old.items) }

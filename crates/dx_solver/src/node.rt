@@ -31,7 +31,8 @@ impl Node {
         ensures kept { IfOk result (λ node. (a : ℕ → ℕ) → Keeps self.now.domains.items a → DomainHas domain (a variable)
             → Keeps node.domains.items a) }
         ensures many { IfOk result (λ node. length node.domains.items ≡ length self.now.domains.items) }
-        ensures lighter { IfOk result (λ node. domain_size (2 ^ 32) domain < domain_size (2 ^ 32) (slice_index_or self.now.domains.items variable Any)
+        ensures lighter { IfOk result (λ node. domain_size (2 ^ 32) domain < domain_size (2 ^ 32)
+            (slice_index_or self.now.domains.items variable Any)
             → weight (2 ^ 32) node.domains.items < weight (2 ^ 32) self.now.domains.items) }
     {
         let mut domains = copies(alloc, &self.domains)?;

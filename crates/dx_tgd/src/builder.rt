@@ -63,7 +63,8 @@ impl Builder {
         places: u32,
     ) -> Result<Vec<PlannedAtom>, AllocError>
         requires variables { variables.now ≡ exported_of rule.now }
-        ensures planned { IfOk result (λ v. AllZip (IsPlannedAtom self.new.symbols number variables.now places) v.items rule.now.conclusion) }
+        ensures planned { IfOk result (λ v. AllZip
+            (IsPlannedAtom self.new.symbols number variables.now places) v.items rule.now.conclusion) }
         ensures grows { Extends self.old.symbols self.new.symbols }
         ensures same { built self.new ≡ built self.old }
     {
@@ -84,7 +85,8 @@ impl Builder {
         requires below { AreBelow (length self.old.symbols) numbers.now }
         requires room { length (rows_of (built self.old) table) < 2 ^ 32 - 1 }
         ensures symbols { OnOk result (self.new.symbols ≡ self.old.symbols) }
-        ensures added { OnOk result (GainsFacts (built self.old) (built self.new) (record { table = table; row = shown_row self.old.symbols numbers.now } ∷ [])) }
+        ensures added { OnOk result (GainsFacts (built self.old) (built self.new)
+            (record { table = table; row = shown_row self.old.symbols numbers.now } ∷ [])) }
     {
         self.tables[table as usize].push(numbers)
     }

@@ -60,7 +60,8 @@ fn add_place(
     requires stand { Each atoms.now (CanStand (widths (built target.old)) (length target.old.symbols) row.now place) }
     requires room { HasRoomForRows (built target.old) (length atoms.now) }
     ensures symbols { OnOk result (target.new.symbols ≡ target.old.symbols) }
-    ensures gained { OnOk result (GainsFacts (built target.old) (built target.new) (map (planned_fact target.old.symbols row.now place) atoms.now)) }
+    ensures gained { OnOk result (GainsFacts (built target.old) (built target.new)
+        (map (planned_fact target.old.symbols row.now place) atoms.now)) }
 {
     for atom in atoms {
         fill(&atom.cells, row, place, buffer)?;
@@ -80,9 +81,11 @@ fn add_rule(
     requires width { rows.now.width ≡ length (exported_of rule.now) }
     requires texts { Each rows.now.rows (AreTexts target.old.symbols) }
     requires fits { FitsWidths (widths (built target.old)) rule.now }
-    requires room { HasRoomForRows (built target.old) (length (at_places number rule.now 0 (map (texts_of target.old.symbols) rows.now.rows))) }
+    requires room { HasRoomForRows (built target.old)
+        (length (at_places number rule.now 0 (map (texts_of target.old.symbols) rows.now.rows))) }
     ensures grows { OnOk result (Extends target.old.symbols target.new.symbols) }
-    ensures gained { OnOk result (GainsFacts (built target.old) (built target.new) (at_places number rule.now 0 (map (texts_of target.old.symbols) rows.now.rows))) }
+    ensures gained { OnOk result (GainsFacts (built target.old) (built target.new)
+        (at_places number rule.now 0 (map (texts_of target.old.symbols) rows.now.rows))) }
 {
     let variables = exported(alloc, rule)?;
     let plan = target.plan(alloc, rule, number, &variables, rows.count())?;
@@ -104,7 +107,8 @@ fn add_rules(
     requires tuples { FitRules target.old.symbols rules.now rows.now }
     requires fits { Each rules.now (FitsWidths (widths (built target.old))) }
     requires room { HasRoomForRows (built target.old) (length (canonical 0 rules.now (tuples_in target.old.symbols rows.now))) }
-    ensures { OnOk result (GainsFacts (built target.old) (built target.new) (canonical 0 rules.now (tuples_in target.old.symbols rows.now))) }
+    ensures { OnOk result (GainsFacts (built target.old) (built target.new)
+        (canonical 0 rules.now (tuples_in target.old.symbols rows.now))) }
 {
     for i in 0..rules.len() {
         add_rule(alloc, &rules[i], i as u32, &rows[i], target)?;

@@ -85,9 +85,11 @@ fn find_rules<F: Fn(u32, &Items<Text>) -> Result<Text, AllocError>, M: Meaning>(
     requires apart { AreDistinctValues source.now.symbols }
     requires symbols { symbols.old ≡ source.now.symbols }
     requires none { tables.old.items ≡ [] }
-    ensures found { OnOk result (AreFoundRules M.apply (facts (shown_tables source.now.symbols source.now.tables)) symbols.new rules.now tables.new.items) }
+    ensures found { OnOk result (AreFoundRules M.apply
+        (facts (shown_tables source.now.symbols source.now.tables)) symbols.new rules.now tables.new.items) }
     ensures within { OnOk result (canonical_cells rules.now (tuples_in symbols.new tables.new.items) ≤ limit) }
-    ensures refused { IfErr result (IsCanonicalRefusal M.apply rules.now (facts (shown_tables source.now.symbols source.now.tables)) limit) }
+    ensures refused { IfErr result (IsCanonicalRefusal M.apply rules.now
+        (facts (shown_tables source.now.symbols source.now.tables)) limit) }
 {
     let mut left = limit;
     for rule in rules {
@@ -121,9 +123,11 @@ fn found_rules<F: Fn(u32, &Items<Text>) -> Result<Text, AllocError>, M: Meaning>
     requires premises { Each rules.now (λ d. AtomsFitWidths (widths (shown_tables source.now.symbols source.now.tables)) d.premise) }
     requires cells { Each rules.now HasCell }
     requires apart { AreDistinctValues source.now.symbols }
-    ensures found { IfOk result (λ f. AreFoundRules M.apply (facts (shown_tables source.now.symbols source.now.tables)) f.symbols rules.now f.tables.items) }
+    ensures found { IfOk result (λ f. AreFoundRules M.apply
+        (facts (shown_tables source.now.symbols source.now.tables)) f.symbols rules.now f.tables.items) }
     ensures within { IfOk result (λ f. canonical_cells rules.now (tuples_in f.symbols f.tables.items) ≤ limit) }
-    ensures refused { IfErr result (IsCanonicalRefusal M.apply rules.now (facts (shown_tables source.now.symbols source.now.tables)) limit) }
+    ensures refused { IfErr result (IsCanonicalRefusal M.apply rules.now
+        (facts (shown_tables source.now.symbols source.now.tables)) limit) }
 {
     let mut symbols = source.copy_symbols(alloc)?;
     let mut tables = Vec::new(alloc);
