@@ -19,7 +19,7 @@ use Rattle.dx_instance.specs.ValueText.{value_text_of}
 use Rattle.dx_instance.proofs.StoredFacts.{fact_from_row}
 use Rattle.dx_schema.specs.Forest.{Forest}
 use Rattle.dx_schema.specs.Tables.{TableOf, schema_table, tables_of}
-use Rattle.dx_csv.specs.Print.{HasNoMark, records_text, table_lines}
+use Rattle.dx_csv.specs.Print.{HasNoMark, records_text, records_of_table}
 use Rattle.dx_csv.proofs.TableTextFacts.{printed-reads-back}
 use Rattle.dx_json.proofs.OneText.{has_text}
 use Rattle.clio_source.specs.Source.{csv_name, roots, json_name}
@@ -35,7 +35,7 @@ table_file : (front : List ℕ) (t : TableOf) (rows : List (List Value)) → Has
     → (f : PrintedFile) × IsTableFile front t rows f
 table_file front t rows mark some wide =
     let sorted = in_order row_cmp row_total row_exact rows in (
-      record { name = front ++ csv_name t.name; bytes = records_text (table_lines t.columns sorted); count = length sorted },
+      record { name = front ++ csv_name t.name; bytes = records_text (records_of_table t.columns sorted); count = length sorted },
       record {
         name = refl;
         bytes = record {

@@ -14,7 +14,7 @@ use Rattle.dx_model.proofs.Orders.{null_total, value_total}
 use Rattle.dx_instance.specs.Stored.{TableRows, facts, rows_of}
 use Rattle.dx_schema.specs.Forest.{Forest}
 use Rattle.dx_schema.specs.Tables.{TableOf, tables_of}
-use Rattle.dx_csv.specs.Print.{IsTableText, records_text, table_lines}
+use Rattle.dx_csv.specs.Print.{IsTableText, records_text, records_of_table}
 use Rattle.dx_json.proofs.OneText.{text_is_one}
 use Rattle.dx_exchange.specs.declared.mode.Mode.{Mode}
 use Rattle.dx_exchange.specs.declared.result.Exchange.{Exchange}
@@ -41,7 +41,7 @@ sorted_is_one columns rows a b p q =
 table_text_is_one : (columns : List (List ℕ)) (rows : List (List Value)) (a b : List ℕ) → IsTableText columns rows a
     → IsTableText columns rows b → a ≡ b
 table_text_is_one columns rows a b p q =
-    p.is ∙ ap (λ sorted. records_text (table_lines columns sorted)) (sorted_is_one columns rows a b p q) ∙ sym q.is
+    p.is ∙ ap (λ sorted. records_text (records_of_table columns sorted)) (sorted_is_one columns rows a b p q) ∙ sym q.is
 
 table_file_is_one : (front : List ℕ) (t : TableOf) (rows : List (List Value)) (f g : PrintedFile) → IsTableFile front t rows f → IsTableFile front t rows g → f ≡ g
 table_file_is_one front t rows f g p q =

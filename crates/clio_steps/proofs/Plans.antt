@@ -22,7 +22,7 @@ use Rattle.dx_csv.specs.Print.{HasNoMark}
 use Rattle.dx_tgd.proofs.CanonicalFacts.{nulls_have_places}
 use Rattle.dx_exchange.specs.declared.mode.Mode.{Mode}
 use Rattle.dx_exchange.specs.declared.result.Exchange.{Exchange}
-use Rattle.dx_exchange.specs.Exchanging.{Fits, IsExchange}
+use Rattle.dx_exchange.specs.Exchanging.{RulesFitSchemas, IsExchange}
 use Rattle.dx_schema.proofs.ModelWidths.{model_widths}
 use Rattle.dx_exchange.proofs.Lists.{fit_tuples, one_each}
 use Rattle.dx_stages.specs.declared.stop.Stop.{Stop}
@@ -84,7 +84,7 @@ no_marks f h t m =
 
 -- ---- the exchange
 
-pub rules_fit : (P : Program) (M : Mapping) → MappingFits P.list P.tests M → Fits P.list M.rules (model_tables M.source) (model_tables M.target)
+pub rules_fit : (P : Program) (M : Mapping) → MappingFits P.list P.tests M → RulesFitSchemas P.list M.rules (model_tables M.source) (model_tables M.target)
 rules_fit P M h = let few = h.few in record { few = omega (arith, few); listed = h.listed; fit = h.fit; closed = h.closed }
 
 pub texts_fit : (P : Program) (M : Mapping) → MappingFits P.list P.tests M → FitTexts M.source M.target P.list M.rules

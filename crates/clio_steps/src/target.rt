@@ -5,7 +5,7 @@ ghost use Rattle.dx_stages.specs.Stages.{by};
 ghost use Rattle.dx_schema.specs.Tables.{model_tables, schema_widths};
 ghost use Rattle.dx_funcs.specs.Serving.{Serves, offered};
 ghost use Rattle.dx_instance.specs.Stored.{widths};
-ghost use Rattle.dx_exchange.specs.Exchanging.{Fits};
+ghost use Rattle.dx_exchange.specs.Exchanging.{RulesFitSchemas};
 ghost use Rattle.clio_steps.specs.Steps.{named_stage};
 
 use clio_accept::Mapping;
@@ -30,7 +30,7 @@ where
     F: Fn(u32, &Items<Text>) -> Result<Text, AllocError>,
     M: Meaning,
     requires serves { Serves F.Fn M.apply host.now }
-    requires fits { Fits (offered host.now) mapping.now.rules (model_tables mapping.now.source) (model_tables mapping.now.target) }
+    requires fits { RulesFitSchemas (offered host.now) mapping.now.rules (model_tables mapping.now.source) (model_tables mapping.now.target) }
     requires rows { widths rows.now ≡ schema_widths mapping.now.source }
     ensures { Gives (by (named_stage M.apply mode)) (mapping.now, rows.now) result }
 {

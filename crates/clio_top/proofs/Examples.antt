@@ -23,7 +23,7 @@ use Rattle.dx_model.specs.declared.values.Value.TheVariants.{Const}
 use Rattle.dx_model.specs.Following.{CanGo, PrunedAfter, underived}
 use Rattle.dx_model.specs.Rules.{AreRows, IsMatch, IsRows, Satisfies, premise_fact, fact_of_atom as said_fact}
 use Rattle.dx_model.specs.Solutions.{IsSolution}
-use Rattle.dx_model.specs.Tables.{Determination, FactFits, PairFits, RowsFit, table_of}
+use Rattle.dx_model.specs.Tables.{Determination, FactFits, PairObeys, RowsObey, table_of}
 use Rattle.dx_model.specs.Values.{Conversions, Rows, RowsAscend, Tuple, row_cmp, tuple_cmp}
 use Rattle.dx_ports.specs.Texts.{Text}
 use Rattle.dx_model.proofs.RowsExist.{one_rows}
@@ -520,7 +520,7 @@ satisfied convert texts m = ((λ v. Const (texts 0)), (λ a k. concluded a k))
 fact_fits : (name : Text) → FactFits (model_tables persons) (person name)
 fact_fits name = record { table = omega arith; width = refl }
 
-no_determination : (t : ℕ) (a b : List Value) → Each (table_of (model_tables persons) t).determinations (RowsFit a b)
+no_determination : (t : ℕ) (a b : List Value) → Each (table_of (model_tables persons) t).determinations (RowsObey a b)
 no_determination t a b d m = elim (subst (λ (ds : List Determination). d ∈ ds) (person_determinations t) m) [ ]
 
 solves : (convert : Conversions) → IsSolution convert (rule ∷ []) (model_tables persons) (facts rows) solution

@@ -8,7 +8,7 @@ use Rattle.dx_ports.proofs.Members.{contains_from_in, from_flat_map, from_map, i
 use Rattle.dx_model.specs.declared.values.Value.TheVariants.{Null}
 use Rattle.dx_model.specs.declared.facts.Fact.{Fact}
 use Rattle.dx_model.specs.Instances.{Moves, fact_moved, given}
-use Rattle.dx_model.specs.Blocks.{IsReduct}
+use Rattle.dx_model.specs.Blocks.{IsEquivalentPart}
 use Rattle.dx_instance.specs.Cells.{numbers_at}
 use Rattle.dx_instance.specs.Numbers.{value_of}
 use Rattle.dx_instance.specs.Places.{row_at}
@@ -41,7 +41,7 @@ one_at ns i j up h k e = elim (cases_order i j) [
 
 module _ (N : NumberedInstance) (fit : PartsFit N.symbols N.tables) (b : NumberBlock) (t : IsTried N b) (out : List (List Bool))
     (atoms : List PatternAtom) (are : AreAtoms N b.nulls [] b.rows atoms) (known : List (Option ℕ)) where
-  pub found : IsReduct (facts (shown_by N)) (facts_left N out) → ((v n : ℕ) → ¬ (get_or known v None ≡ Some n))
+  pub found : IsEquivalentPart (facts (shown_by N)) (facts_left N out) → ((v n : ℕ) → ¬ (get_or known v None ≡ Some n))
       → (a : ℕ → ℕ) × Solves N.tables out atoms known a
   found r none = (
     answer_of N.symbols r.moves.0 b.nulls,
@@ -106,7 +106,7 @@ module _ (N : NumberedInstance) (fit : PartsFit N.symbols N.tables) (b : NumberB
 
   module _ {V : Type 0} (items : V → List ℕ) (o : Option V)
       (exact : MatchOption o ((a : ℕ → ℕ) → ¬ (Solves N.tables out atoms known a)) (λ v. Solves N.tables out atoms known (answered (items v)))) where
-    pub some_found : IsReduct (facts (shown_by N)) (facts_left N out) → ((v n : ℕ) → ¬ (get_or known v None ≡ Some n)) → ¬ (o ≡ None)
+    pub some_found : IsEquivalentPart (facts (shown_by N)) (facts_left N out) → ((v n : ℕ) → ¬ (get_or known v None ≡ Some n)) → ¬ (o ≡ None)
     some_found r none e = by o e exact
       where
         by : (o : Option V) → o ≡ None

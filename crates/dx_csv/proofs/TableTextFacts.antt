@@ -18,7 +18,7 @@ use Rattle.dx_instance.specs.Stored.{TableRows, IsSorting, rows_of, table_at, wi
 use Rattle.dx_instance.specs.ValueText.{value_text_of}
 use Rattle.dx_csv.specs.Left.{left_from}
 use Rattle.dx_csv.specs.Table.{table_records}
-use Rattle.dx_csv.specs.Print.{HasNoMark, IsTableText, records_text, table_lines}
+use Rattle.dx_csv.specs.Print.{HasNoMark, IsTableText, records_text, records_of_table}
 use Rattle.dx_csv.proofs.LeftFacts.{left-next, left-none}
 
 -- ---- the lines that were written read back
@@ -134,10 +134,10 @@ strip-lines (first ∷ fields) rest h m =
 
 -- a printed table reads back as its lines
 table-read : (columns : List (List ℕ)) (rows : List (List Value)) → 1 ≤ length columns → HasNoMark columns → Each rows (λ row. length row ≡ length columns)
-    → table_records (records_text (table_lines columns rows)) ≡ table_lines columns rows
+    → table_records (records_text (records_of_table columns rows)) ≡ records_of_table columns rows
 table-read columns rows h m w =
     rw (strip-lines columns (map (map value_text_of) rows) h m)
-    (lines-read (table_lines columns rows)
+    (lines-read (records_of_table columns rows)
     ∙ rw (read_back-same columns h) (ap (λ (t : List (List (List ℕ))). columns ∷ t) (read_back-rows (length columns) rows h w)))
 
 -- records with a field each read back
@@ -154,7 +154,7 @@ printed-reads-back first rest m a =
 
 -- ---- one row more
 pub table-more : (columns : List (List ℕ)) (rows : List (List Value)) (i : ℕ) → i < length rows
-    → table_lines columns (take (i + 1) rows) ≡ table_lines columns (take i rows) ++ map value_text_of (slice_index_or rows i []) ∷ []
+    → records_of_table columns (take (i + 1) rows) ≡ records_of_table columns (take i rows) ++ map value_text_of (slice_index_or rows i []) ∷ []
 table-more columns rows i h =
     ap (λ (t : List (List (List ℕ))). columns ∷ t) (
     ap (map (map value_text_of)) (take_more rows i [] h) ∙ map-append (map value_text_of) (take i rows) (slice_index_or rows i [] ∷ [])
@@ -187,13 +187,13 @@ as-many-tables symbols ts tables e = sym (length-map ts (shown symbols)) ∙ ap 
 -- one row of numbers more
 pub numbers-more : (columns : List (List ℕ)) (symbols : List Value) (rows : List (List Value)) (numbers : List (List ℕ)) (i : ℕ) (row : List ℕ)
     → rows ≡ map (shown_row symbols) numbers → i < length numbers → row ≡ numbers_at numbers i
-    → table_lines columns (take i rows) ++ map value_text_of (shown_row symbols row) ∷ [] ≡ table_lines columns (take (i + 1) rows)
+    → records_of_table columns (take i rows) ++ map value_text_of (shown_row symbols row) ∷ [] ≡ records_of_table columns (take (i + 1) rows)
 numbers-more columns symbols rows numbers i row e h is =
     let many : length rows ≡ length numbers = ap (λ (rs : List (List Value)). length rs) e ∙ length-map numbers (shown_row symbols) in
     let at : slice_index_or rows i [] ≡ shown_row symbols row =
     ap (λ (rs : List (List Value)). slice_index_or rs i []) e ∙ get_or-map (shown_row symbols) numbers i [] [] h
     ∙ ap (shown_row symbols) (sym is) in
-    sym (table-more columns rows i (omega (arith, h, many)) ∙ ap (λ r. table_lines columns (take i rows) ++ map value_text_of r ∷ []) at)
+    sym (table-more columns rows i (omega (arith, h, many)) ∙ ap (λ r. records_of_table columns (take i rows) ++ map value_text_of r ∷ []) at)
 
 -- ---- a sorted instance
 pub as-many : (old new : List TableRows) → IsSorting old new → length new ≡ length old
@@ -226,7 +226,7 @@ rows-wide tables t h each = each (table_at tables t) (table-in tables t h)
 pub same-text : (columns : List (List ℕ)) (tables : List TableRows) (t : ℕ) (text : List ℕ)
     → t < length tables → length columns ≡ (table_at tables t).width → HasNoMark columns → RowsAscend (rows_of tables t)
     → Each tables (λ u. 1 ≤ u.width) → Each tables (λ u. Each u.rows (λ r. length r ≡ u.width))
-    → text ≡ records_text (table_lines columns (rows_of tables t)) → IsTableText columns (rows_of tables t) text
+    → text ≡ records_text (records_of_table columns (rows_of tables t)) → IsTableText columns (rows_of tables t) text
 same-text columns tables t text h w m ascend wide each e =
     let some = wide (table_at tables t) (table-in tables t h) in
     record {
@@ -241,7 +241,7 @@ same-text columns tables t text h w m ascend wide each e =
 pub table-text : (columns : List (List ℕ)) (old new : List TableRows) (t : ℕ) (text : List ℕ)
     → t < length old → length columns ≡ (table_at old t).width → HasNoMark columns → IsSorting old new
     → Each new (λ u. 1 ≤ u.width) → Each new (λ u. Each u.rows (λ r. length r ≡ u.width))
-    → text ≡ records_text (table_lines columns (rows_of new t)) → IsTableText columns (rows_of old t) text
+    → text ≡ records_text (records_of_table columns (rows_of new t)) → IsTableText columns (rows_of old t) text
 table-text columns old new t text h w m s wide each e =
     let many = as-many old new s in
     let inside = table-in new t (omega (arith, many)) in

@@ -5,7 +5,7 @@ use Rattle.dx_ports.specs.Members.{◌∈◌, ◌⊆◌, here, there, Each}
 use Rattle.dx_model.specs.declared.values.Value.{Value}
 use Rattle.dx_instance.specs.ValueText.{ValueFits, value_text_of}
 use Rattle.dx_instance.proofs.TextFacts.{texts_differ}
-use Rattle.dx_csv.specs.Print.{IsTableText, table_lines}
+use Rattle.dx_csv.specs.Print.{IsTableText, records_of_table}
 use Rattle.dx_csv.specs.Laws.{TableTextsDiffer}
 
 row_same : (r s : List Value) → Each r ValueFits → Each s ValueFits → map value_text_of r ≡ map value_text_of s → r ≡ s
@@ -34,7 +34,7 @@ rows_same (r ∷ A) (s ∷ B) f g e =
 one_way : (columns : List (List ℕ)) (rows others : List (List Value)) (text : List ℕ) → Each rows (λ (r : List Value). Each r ValueFits) → Each others (λ (r : List Value). Each r ValueFits)
     → IsTableText columns rows text → IsTableText columns others text → rows ⊆ others
 one_way columns rows others text f g p q r m =
-    let e : table_lines columns p.sorted ≡ table_lines columns q.sorted = sym p.reads ∙ q.reads in
+    let e : records_of_table columns p.sorted ≡ records_of_table columns q.sorted = sym p.reads ∙ q.reads in
     let b : map (map value_text_of) p.sorted ≡ map (map value_text_of) q.sorted = cc e in
     let s = rows_same p.sorted q.sorted (λ x n. f x (p.only x n)) (λ x n. g x (q.only x n)) b in
     q.only r (subst (λ (A : List (List Value)). r ∈ A) s (p.kept r m))

@@ -14,8 +14,8 @@ abbrev pub records_text : List (List (List ℕ)) → List ℕ
 records_text records = flat_map (row_text default_writer) records
 
 -- the records of a table: the columns, and the value texts of each row
-abbrev pub table_lines : List (List ℕ) → List (List Value) → List (List (List ℕ))
-table_lines columns rows = columns ∷ map (map value_text_of) rows
+abbrev pub records_of_table : List (List ℕ) → List (List Value) → List (List (List ℕ))
+records_of_table columns rows = columns ∷ map (map value_text_of) rows
 
 -- the first column does not begin with the bytes of a byte order mark
 abbrev pub HasNoMark : List (List ℕ) → Type 0
@@ -28,5 +28,5 @@ pub record IsTableText (columns : List (List ℕ)) (rows : List (List Value)) (t
   pub ascend : RowsAscend sorted
   pub kept : rows ⊆ sorted
   pub only : sorted ⊆ rows
-  pub is : text ≡ records_text (table_lines columns sorted)
-  pub reads : table_records text ≡ table_lines columns sorted
+  pub is : text ≡ records_text (records_of_table columns sorted)
+  pub reads : table_records text ≡ records_of_table columns sorted

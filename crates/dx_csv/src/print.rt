@@ -5,7 +5,7 @@ ghost use Rattle.dx_instance.specs.Shown.{AreBelow, shown_row};
 ghost use Rattle.dx_instance.specs.Stored.{rows_of, table_at};
 ghost use Rattle.dx_instance.specs.ValueText.{value_text_of};
 ghost use Rattle.dx_csv.specs.Lines.{HavePrinted};
-ghost use Rattle.dx_csv.specs.Print.{HasNoMark, IsTableText, records_text, table_lines};
+ghost use Rattle.dx_csv.specs.Print.{HasNoMark, IsTableText, records_text, records_of_table};
 
 use crate::lines::Lines;
 use dx_instance::{Instance, Numbers};
@@ -84,7 +84,7 @@ fn lines_of(
     table: u32,
 ) -> Result<Vec<u8>, AllocError>
     requires { table < length instance.now }
-    ensures { IfOk result (λ bytes. bytes.items ≡ records_text (table_lines columns.now (rows_of instance.now table))) }
+    ensures { IfOk result (λ bytes. bytes.items ≡ records_text (records_of_table columns.now (rows_of instance.now table))) }
 {
     let numbers = instance.numbers();
     let mut lines = Lines::new(alloc);

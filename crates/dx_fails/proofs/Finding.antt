@@ -9,7 +9,7 @@ use Rattle.dx_model.specs.declared.facts.Fact.{Fact}
 use Rattle.dx_model.specs.declared.tables.Link.{Link}
 use Rattle.dx_model.specs.declared.values.Value.{Value}
 use Rattle.dx_model.specs.Chase.{Break}
-use Rattle.dx_model.specs.Tables.{Determination, KeysHold, LinksHold, RowsFit, Table, cell, table_of, values_in, determination_at}
+use Rattle.dx_model.specs.Tables.{Determination, KeysHold, LinksHold, RowsObey, Table, cell, table_of, values_in, determination_at}
 use Rattle.dx_schema.specs.Forest.{Forest}
 use Rattle.dx_schema.specs.Tables.{AreTables, model_tables, no_table, schema_widths, tables_of}
 use Rattle.dx_schema.specs.Tables.{schema_table}
@@ -35,7 +35,7 @@ fact_there I t p h = fact_from_row I t (row_at I t p) (in_at (rows_of I t) p [] 
 
 -- rows that determine fit
 rows_fit : (I : List TableRows) (t : ℕ) (left right : List ℕ) (a b : List Value) → RowsDetermine I t left right → a ∈ rows_of I t → b ∈ rows_of I t
-    → RowsFit a b (record { left = left; right = right })
+    → RowsObey a b (record { left = left; right = right })
 rows_fit I t left right a b d m n e =
     let p = place_of I t a m in
     let q = place_of I t b n in
@@ -118,7 +118,7 @@ keys_hold_by f I n many all a m b o same d i =
     let u = fact_table I a m in
     let k = contains_from_in i in
     let is = get_or_default (table_of (model_tables f) a.table).determinations k.0 no_determination d k.1 ∙ k.2 in
-    subst (λ (x : Determination). RowsFit a.row b.row x) is (all a.table k.0 (omega (arith, u, many)) k.1 a m b o refl (sym same))
+    subst (λ (x : Determination). RowsObey a.row b.row x) is (all a.table k.0 (omega (arith, u, many)) k.1 a m b o refl (sym same))
 
 pub links_hold_by : (f : Forest) (I : List TableRows) (n : ℕ) → length I ≤ n
     → ((t l : ℕ) → t < n → HasLink (model_tables f) t l → LinkHolds (model_tables f) (facts I) t l) → LinksHold (model_tables f) (facts I)

@@ -11,7 +11,7 @@ use Rattle.dx_model.specs.declared.values.Value.TheVariants.{Const}
 use Rattle.dx_model.specs.declared.tables.Key.{Key}
 use Rattle.dx_model.specs.declared.tables.Dep.{Dep}
 use Rattle.dx_model.specs.declared.tables.Link.{Link}
-use Rattle.dx_model.specs.Tables.{Determination, KeysHold, LinksHold, RowsFit, Table, cell, key_of, table_of, values_in}
+use Rattle.dx_model.specs.Tables.{Determination, KeysHold, LinksHold, RowsObey, Table, cell, key_of, table_of, values_in}
 use Rattle.dx_schema.specs.Forest.{Forest}
 use Rattle.dx_schema.specs.Tables.{AreTables, TableOf, as_numbers, dep_of, determinations_of, key_determinations, model_tables, no_table, schema_widths, tables_of}
 use Rattle.dx_schema.specs.Tables.{schema_table}
@@ -77,7 +77,7 @@ AreDistinct I = Each I (λ t. Distinct t.rows)
 abbrev key_in : TableOf → Key → Determination
 key_in t k = key_of (length t.columns) k.columns
 
-determined : (I : List TableRows) (t : ℕ) (left right : List ℕ) (a b : List Value) → RowsDetermine I t left right → a ∈ rows_of I t → b ∈ rows_of I t → RowsFit a b (record { left = left; right = right })
+determined : (I : List TableRows) (t : ℕ) (left right : List ℕ) (a b : List Value) → RowsDetermine I t left right → a ∈ rows_of I t → b ∈ rows_of I t → RowsObey a b (record { left = left; right = right })
 determined I t left right a b d m n e =
     let p = place_of I t a m in
     let q = place_of I t b n in
@@ -108,14 +108,14 @@ same_rows I t columns a b d m n e =
     ]
 
 -- rows of a table in which keys and dependencies hold fit each determination
-rows_fit : (table : TableOf) (I : List TableRows) (t : ℕ) (a b : List Value) → TableHolds I t table → a ∈ rows_of I t → b ∈ rows_of I t → Each (determinations_of table) (RowsFit a b)
+rows_fit : (table : TableOf) (I : List TableRows) (t : ℕ) (a b : List Value) → TableHolds I t table → a ∈ rows_of I t → b ∈ rows_of I t → Each (determinations_of table) (RowsObey a b)
 rows_fit table I t a b holds m n d k = elim (from_append (key_determinations table) k) [
   | inl i ↦
       let key = from_map (key_in table) table.keys {y = d} i in
-      subst (RowsFit a b) key.2 (λ e. ap (values_in (range_with_len 0 (length table.columns))) (same_rows I t key.0.columns a b (holds.0 key.0 key.1) m n e))
+      subst (RowsObey a b) key.2 (λ e. ap (values_in (range_with_len 0 (length table.columns))) (same_rows I t key.0.columns a b (holds.0 key.0 key.1) m n e))
   | inr i ↦
       let dep = from_map dep_of table.deps {y = d} i in
-      subst (RowsFit a b) dep.2 (determined I t dep.0.columns dep.0.decides a b (holds.1 dep.0 dep.1) m n)
+      subst (RowsObey a b) dep.2 (determined I t dep.0.columns dep.0.decides a b (holds.1 dep.0 dep.1) m n)
 ]
 
 pub keys_hold_all : (f : Forest) (I : List TableRows) (n : ℕ) → widths I ≡ schema_widths f → length I ≤ n → ((t : ℕ) → t < n → TableHolds I t (schema_table f t)) → KeysHold (model_tables f) (facts I)
@@ -128,7 +128,7 @@ keys_hold_all f I n e h all a m b o same d k =
 
 module _ (f : Forest) (I : List TableRows) (t : ℕ) (e : widths I ≡ schema_widths f) (h : t < length I) (hold : KeysHold (model_tables f) (facts I)) where
   -- rows at two places fit each determination of the table
-  places_fit : (p q : ℕ) → p < q → q < length (rows_of I t) → Each (determinations_of (schema_table f t)) (RowsFit (row_at I t p) (row_at I t q))
+  places_fit : (p q : ℕ) → p < q → q < length (rows_of I t) → Each (determinations_of (schema_table f t)) (RowsObey (row_at I t p) (row_at I t q))
   places_fit p q b r d m =
       let row_p = in_at (rows_of I t) p [] (omega (arith, b, r)) in
       let row_q = in_at (rows_of I t) q [] r in

@@ -60,10 +60,10 @@ reading_faults path (constant t) = []
 reading_faults path no_integer = wrong_number path ∷ []
 reading_faults path no_constant = wrong_shape path ∷ []
 
-abbrev pub reading_text : MemberValue → Text
-reading_text (constant t) = t
-reading_text no_integer = []
-reading_text no_constant = []
+abbrev pub member_text : MemberValue → Text
+member_text (constant t) = t
+member_text no_integer = []
+member_text no_constant = []
 
 -- the faults of an object's columns, in their order
 abbrev pub column_faults : Text → List Text → Members → List DocumentItem
@@ -73,7 +73,7 @@ column_faults path (c ∷ cs) ms = reading_faults (path_below path c) (reading_o
 -- the constants of an object's columns
 abbrev pub object_constants : List Text → Members → List Value
 object_constants [] ms = []
-object_constants (c ∷ cs) ms = Const (reading_text (reading_of (get_member c ms))) ∷ object_constants cs ms
+object_constants (c ∷ cs) ms = Const (member_text (reading_of (get_member c ms))) ∷ object_constants cs ms
 
 -- what an object's member of a column's name says
 abbrev pub column_reading : Text → Members → MemberValue
@@ -81,7 +81,7 @@ column_reading column ms = reading_of (get_member column ms)
 
 -- a reading at this path has no fault, and is this constant
 abbrev pub ReadsConstant : Text → MemberValue → Text → Type 0
-ReadsConstant path reading text = (reading_faults path reading ≡ []) × (text ≡ reading_text reading)
+ReadsConstant path reading text = (reading_faults path reading ≡ []) × (text ≡ member_text reading)
 
 -- ---- members that the schema doesn't have
 

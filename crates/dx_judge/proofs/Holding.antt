@@ -9,7 +9,7 @@ use Rattle.dx_ports.proofs.Members.{in_at, map_agrees}
 use Rattle.dx_model.specs.declared.facts.Fact.{Fact}
 use Rattle.dx_model.specs.declared.tables.Link.{Link}
 use Rattle.dx_model.specs.declared.values.Value.{Value}
-use Rattle.dx_model.specs.Tables.{Determination, KeysHold, LinksHold, RowsFit, Table, cell, table_of, values_in, determination_at}
+use Rattle.dx_model.specs.Tables.{Determination, KeysHold, LinksHold, RowsObey, Table, cell, table_of, values_in, determination_at}
 use Rattle.dx_model.specs.Chase.{Break}
 use Rattle.dx_model.specs.Values.{row_cmp}
 use Rattle.dx_model.proofs.Decided.{same_list, same_value}
@@ -40,7 +40,7 @@ module _ (schema : List Table) (K : List Fact) where
   pub keys_hold_by : ((t k : ℕ) → HasDetermination schema t k → DeterminationHolds schema K t k) → KeysHold schema K
   keys_hold_by all a m b n same d i =
       let k = number_of (table_of schema a.table).determinations d no_determination i in
-      subst (λ (x : Determination). RowsFit a.row b.row x) k.2 (all a.table k.0 k.1 a m b n refl (sym same))
+      subst (λ (x : Determination). RowsObey a.row b.row x) k.2 (all a.table k.0 k.1 a m b n refl (sym same))
 
   pub determination_holds : KeysHold schema K → (t k : ℕ) → HasDetermination schema t k → DeterminationHolds schema K t k
   determination_holds hold t k h a m b n e d =
@@ -80,7 +80,7 @@ module _ (schema : List Table) (K : List Fact) where
       × (c : ℕ) × (c ∈ (determination_at schema t k).right) × (¬ (cell a.row c ≡ cell b.row c))
 
   abbrev Fit : ℕ → ℕ → Fact → Fact → Type 0
-  Fit t k a b = a.table ≡ t → b.table ≡ t → RowsFit a.row b.row (determination_at schema t k)
+  Fit t k a b = a.table ≡ t → b.table ≡ t → RowsObey a.row b.row (determination_at schema t k)
 
   pair_or : (t k : ℕ) (a b : Fact) → Fit t k a b ⊎ Apart t k a b
   pair_or t k a b = elim (cases_eq a.table t) [

@@ -11,7 +11,7 @@ use Rattle.dx_model.specs.Chase.{NoneReceives}
 use Rattle.dx_model.specs.Solutions.{IsSolution, IsUniversal}
 use Rattle.dx_stages.specs.Laws.{IsDecided}
 use Rattle.dx_funcs.specs.declared.conversion.Conversion.{Conversion}
-use Rattle.dx_exchange.specs.Exchanging.{Fits}
+use Rattle.dx_exchange.specs.Exchanging.{RulesFitSchemas}
 use Rattle.dx_judge.specs.declared.verdict.Why.{Why}
 use Rattle.dx_judge.specs.declared.verdict.Why.TheVariants as whys
 use Rattle.dx_judge.specs.declared.verdict.Verdict.{Verdict}
@@ -52,7 +52,7 @@ VerdictsAreOne = (convert : Conversions) (a : JudgeInput) (v w : Verdict) → Is
 
 -- rules that fit, and an instance of the target's schema
 pub record InputFits (list : List Conversion) (source : List Table) (a : JudgeInput) : Type 0 where
-  pub fits : Fits list a.rules source a.schema
+  pub fits : RulesFitSchemas list a.rules source a.schema
   pub given_fits : IsInstance a.schema a.given
 
 -- each instance of the target's schema has a verdict

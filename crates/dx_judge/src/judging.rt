@@ -11,7 +11,7 @@ ghost use Rattle.dx_stages.specs.Running.{Answers};
 ghost use Rattle.dx_schema.specs.Tables.{model_tables, schema_widths};
 ghost use Rattle.dx_funcs.specs.Serving.{Serves, offered};
 ghost use Rattle.dx_instance.specs.Stored.{facts, widths};
-ghost use Rattle.dx_exchange.specs.Exchanging.{Fits};
+ghost use Rattle.dx_exchange.specs.Exchanging.{RulesFitSchemas};
 ghost use Rattle.dx_judge.specs.Parts.{IsChasedOf, IsSolutionVerdict, IsUniversalOne};
 ghost use Rattle.dx_judge.specs.Verdicts.{IsVerdict, judging};
 
@@ -122,7 +122,7 @@ where
     F: Fn(u32, &Items<Text>) -> Result<Text, AllocError>,
     M: Meaning,
     requires serves { Serves F.Fn M.apply task.now.host.now }
-    requires fits { Fits (offered task.now.host.now) task.now.rules.now (model_tables task.now.source.now)
+    requires fits { RulesFitSchemas (offered task.now.host.now) task.now.rules.now (model_tables task.now.source.now)
         (model_tables task.now.target.now) }
     requires given { widths given.now ≡ schema_widths task.now.target.now }
     ensures { Answers JudgeFault.Memory (judging M.apply)

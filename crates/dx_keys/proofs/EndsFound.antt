@@ -10,7 +10,7 @@ use Rattle.dx_model.specs.declared.values.Value.{Value}
 use Rattle.dx_model.specs.declared.values.Value.TheVariants.{Const, Null}
 use Rattle.dx_model.specs.declared.facts.Fact.{Fact}
 use Rattle.dx_model.specs.declared.facts.NullPair.{NullPair}
-use Rattle.dx_model.specs.Tables.{Table, Determination, table_of, cell, values_in, RowsFit, PairFits, KeysHold}
+use Rattle.dx_model.specs.Tables.{Table, Determination, table_of, cell, values_in, RowsObey, PairObeys, KeysHold}
 use Rattle.dx_model.specs.Values.{null_cmp, value_cmp}
 use Rattle.dx_model.specs.Chase.{Break, IsKeyStep, IsClashAt}
 use Rattle.dx_model.proofs.Decided.{same_list, same_value}
@@ -47,17 +47,17 @@ PairBreaks schema a b =
 columns_or : (u v : List Value) (cs : List ℕ) → Each cs (λ c. cell u c ≡ cell v c) ⊎ DiffersIn u v cs
 columns_or u v cs = each_or (λ c. cell u c ≡ cell v c) (λ c. ¬ (cell u c ≡ cell v c)) (λ c. same_value (cell u c) (cell v c)) cs
 
-rows_or : (u v : List Value) (d : Determination) → RowsFit u v d ⊎ RowsBreak u v d
+rows_or : (u v : List Value) (d : Determination) → RowsObey u v d ⊎ RowsBreak u v d
 rows_or u v d = elim (same_list same_value (values_in d.left u) (values_in d.left v)) [
   | inr n ↦ inl (λ e. absurd (n e))
   | inl s ↦ elim (columns_or u v d.right) [ inl e ↦ inl (λ _. cells_agree d.right u v e) | inr w ↦ inr (s, w) ]
 ]
 
-pair_or : (schema : List Table) (a b : Fact) → PairFits schema a b ⊎ PairBreaks schema a b
+pair_or : (schema : List Table) (a b : Fact) → PairObeys schema a b ⊎ PairBreaks schema a b
 pair_or schema a b = elim (cases_eq a.table b.table) [
   | inr n ↦ inl (λ e. absurd (n e))
   | inl t ↦
-      elim (each_or (RowsFit a.row b.row) (RowsBreak a.row b.row) (rows_or a.row b.row) (table_of schema a.table).determinations) [
+      elim (each_or (RowsObey a.row b.row) (RowsBreak a.row b.row) (rows_or a.row b.row) (table_of schema a.table).determinations) [
         | inl e ↦ inl (λ _. e)
         | inr w ↦ inr (t, w)
       ]
@@ -68,8 +68,8 @@ HasBreak schema B = (a : Fact) × (b : Fact) × (d : Determination) × (c : ℕ)
 
 pub keys_or_break : (schema : List Table) (B : List Fact) → KeysHold schema B ⊎ HasBreak schema B
 keys_or_break schema B =
-    elim (each_or (λ a. Each B (PairFits schema a)) (λ a. (b : Fact) × (b ∈ B) × PairBreaks schema a b)
-    (λ a. each_or (PairFits schema a) (PairBreaks schema a) (pair_or schema a) B) B) [
+    elim (each_or (λ a. Each B (PairObeys schema a)) (λ a. (b : Fact) × (b ∈ B) × PairBreaks schema a b)
+    (λ a. each_or (PairObeys schema a) (PairBreaks schema a) (pair_or schema a) B) B) [
       | inl k ↦ inl k
       | inr w ↦ inr (found w.0 w.1 w.2.0 w.2.1 w.2.2)
     ]

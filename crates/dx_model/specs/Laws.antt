@@ -19,7 +19,7 @@ use Rattle.dx_model.specs.Chase.{ForcedEqual, IsForcedMap, IsKeyStep, IsClashAt,
 use Rattle.dx_model.specs.Solutions.{AtomFits, IsSolution, IsUniversal, IsClosed}
 use Rattle.dx_model.specs.Rules.{cells_of, exported, Increase, fact_of_atom, IsMatch, IsRows, Satisfies, PlacesSatisfied, KeepsLiterals, AreRows, canonical}
 use Rattle.dx_model.specs.Covers.{SaysAt, HasWidths, IsCellMap, Carries, cell_maps, used_maps, has_map, before, rank, rule_at, IsPlace, SameExported, CoversFall, uncovered, folded, uncovered_part, cover_fold, least_cover}
-use Rattle.dx_model.specs.Blocks.{IsBlock, IsClosedPart, Spares, IsNeeded, IsReduct, IsWithout}
+use Rattle.dx_model.specs.Blocks.{IsBlock, IsClosedPart, Spares, IsNeeded, IsEquivalentPart, IsWithout}
 use Rattle.dx_model.specs.Following.{SatisfyAll, Follows, Implies, IsPruned, frozen, CanBeFrozen, frozen_text, IsClean}
 use Rattle.dx_model.specs.Fitting.{IsRule, RuleFits, AtomFitsWidths, AtomsFitWidths, AgreeInWidths, conclusions_of}
 use Rattle.dx_model.specs.Values.{Tuple, Rows, Conversions, FactsAscend}
@@ -196,11 +196,11 @@ BlockServes =
 
 -- what is needed is needed in each reduct
 abbrev pub NeededStays : Type 0
-NeededStays = (A T : List Fact) (f : Fact) → IsReduct A T → IsNeeded A f → IsNeeded T f
+NeededStays = (A T : List Fact) (f : Fact) → IsEquivalentPart A T → IsNeeded A f → IsNeeded T f
 
 -- what can be left out can be taken out
 abbrev pub SpareOne : Type 0
-SpareOne = (A B T : List Fact) (f : Fact) → IsReduct A B → Spares B B f → IsWithout B f T → IsReduct A T
+SpareOne = (A B T : List Fact) (f : Fact) → IsEquivalentPart A B → Spares B B f → IsWithout B f T → IsEquivalentPart A T
 
 -- the image of each homomorphism into a part that is a core is that part
 abbrev pub OntoCore : Type 0
@@ -209,16 +209,16 @@ OntoCore = (A T : List Fact) (h : List NullPair) → T ⊆ A → IsCore T → Is
 -- what a closed part's map into a reduct leaves out can be taken out of it
 abbrev pub TakeOut : Type 0
 TakeOut =
-    (A T B F : List Fact) (f : Fact) → IsReduct A T → IsClosedPart A F
-    → f ∈ F → Spares F T f → IsWithout T f B → IsReduct T B
+    (A T B F : List Fact) (f : Fact) → IsEquivalentPart A T → IsClosedPart A F
+    → f ∈ F → Spares F T f → IsWithout T f B → IsEquivalentPart T B
 
 -- what no part's map into a reduct leaves out is needed in it
 abbrev pub KeepIt : Type 0
-KeepIt = (A T F : List Fact) (f : Fact) → IsReduct A T → F ⊆ A → ¬ (Spares F T f) → IsNeeded T f
+KeepIt = (A T F : List Fact) (f : Fact) → IsEquivalentPart A T → F ⊆ A → ¬ (Spares F T f) → IsNeeded T f
 
 -- a reduct of a reduct is one
 abbrev pub ReductOfReduct : Type 0
-ReductOfReduct = (A T B : List Fact) → IsReduct A T → IsReduct T B → IsReduct A B
+ReductOfReduct = (A T B : List Fact) → IsEquivalentPart A T → IsEquivalentPart T B → IsEquivalentPart A B
 
 -- a fact without nulls is needed
 abbrev pub GroundNeeded : Type 0
@@ -231,7 +231,7 @@ CoreIsUniversal =
     (cover : ℕ → ℕ → Option Cover) (rank : ℕ → ℕ) (bound : ℕ) (m : List NullPair)
     → AreRows convert R I rows → Each R (IsClosed schema) → CoversFall R rows cover rank → ((i : ℕ) → rank i < bound)
     → IsForcedMap schema (uncovered cover 0 R rows) m → KeysHold schema (image m (uncovered cover 0 R rows))
-    → IsReduct (image m (uncovered cover 0 R rows)) T → IsCore T
+    → IsEquivalentPart (image m (uncovered cover 0 R rows)) T → IsCore T
     → IsUniversal convert R schema I T
 
 -- with least covers, a core that is a reduct of the uncovered part of closed rules after its forced map is universal, if keys
@@ -241,7 +241,7 @@ LeastCoreIsUniversal =
     (convert : Conversions) (R : List Rule) (schema : List Table) (I T : List Fact) (rows : Rows) (m : List NullPair)
     → AreRows convert R I rows → Each R (IsClosed schema)
     → IsForcedMap schema (uncovered_part R rows) m → KeysHold schema (image m (uncovered_part R rows))
-    → IsReduct (image m (uncovered_part R rows)) T → IsCore T
+    → IsEquivalentPart (image m (uncovered_part R rows)) T → IsCore T
     → IsUniversal convert R schema I T
 
 -- if no instance in which keys hold receives a part of the canonical instance, there is no solution
@@ -411,7 +411,7 @@ ImageByMembers = (h : List NullPair) (A B : List Fact) → A ≈ B → image h A
 
 -- a reduct is one of each instance with the same members
 abbrev pub ReductByMembers : Type 0
-ReductByMembers = (A B T : List Fact) → A ≈ B → IsReduct A T → IsReduct B T
+ReductByMembers = (A B T : List Fact) → A ≈ B → IsEquivalentPart A T → IsEquivalentPart B T
 
 -- each instance with the members of a core is one
 abbrev pub CoreByMembers : Type 0

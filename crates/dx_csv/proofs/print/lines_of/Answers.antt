@@ -4,7 +4,7 @@ use Rattle.dx_model.specs.declared.values.Value.{Value}
 use Rattle.dx_instance.specs.Shown.{numbers_of_table, shown_row}
 use Rattle.dx_instance.specs.Stored.{rows_of}
 use Rattle.dx_csv.specs.Lines.{HavePrinted}
-use Rattle.dx_csv.specs.Print.{table_lines}
+use Rattle.dx_csv.specs.Print.{records_of_table}
 use Rattle.dx_csv.proofs.TableTextFacts.{as-many-tables, numbers-more, rows-are}
 use Rattle.dx_csv.proofs.print.lines_of.Goals as goal
 
@@ -35,6 +35,6 @@ returns c =
     let many : length rows ≡ length numbers =
     ap (λ (rs : List (List Value)). length rs) are ∙ length-map numbers (shown_row c.numbers-numbers.result.symbols) in
     let all : length rows ≤ c.loop-place.place = omega (arith, many, c.count-place-end.ensures, c.loop-place-test.false) in
-    let done = subst (λ (l : List (List Value)). HavePrinted c.loop-place.lines (table_lines c.args.columns.now l) [])
+    let done = subst (λ (l : List (List Value)). HavePrinted c.loop-place.lines (records_of_table c.args.columns.now l) [])
     (take_all c.loop-place.place rows all) c.loop-place.invariant in
-    c.into_bytes.ensures (table_lines c.args.columns.now rows) done
+    c.into_bytes.ensures (records_of_table c.args.columns.now rows) done

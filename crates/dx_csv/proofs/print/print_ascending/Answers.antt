@@ -1,7 +1,7 @@
 use Rattle.std.proofs.Common.{◌≡◌}
 use Rattle.std.proofs.lemmas.Result.{IfOk-weaker}
 use Rattle.dx_instance.specs.Stored.{rows_of}
-use Rattle.dx_csv.specs.Print.{IsTableText, records_text, table_lines}
+use Rattle.dx_csv.specs.Print.{IsTableText, records_text, records_of_table}
 use Rattle.dx_csv.proofs.TableTextFacts.{same-text}
 use Rattle.dx_csv.proofs.print.print_ascending.Goals as goal
 
@@ -10,6 +10,6 @@ returns c =
     let columns = c.args.columns.now in
     let rows = rows_of c.args.instance.now c.args.table in
     record {
-      text = IfOk-weaker c.lines_of.result (λ t. t.items ≡ records_text (table_lines columns rows)) (λ t. IsTableText columns rows t.items)
+      text = IfOk-weaker c.lines_of.result (λ t. t.items ≡ records_text (records_of_table columns rows)) (λ t. IsTableText columns rows t.items)
           (λ t. same-text columns c.args.instance.now c.args.table t.items c.requires.table c.requires.width c.requires.no_mark c.requires.ascend c.tables.ensures.widths c.tables.ensures.rows) c.lines_of.ensures;
     }

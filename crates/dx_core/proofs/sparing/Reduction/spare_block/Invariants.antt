@@ -1,7 +1,7 @@
 use Rattle.std.proofs.Common.{◌≡◌, false, map, take}
 use Rattle.dx_ports.specs.Members.{◌∈◌, Each}
 use Rattle.dx_model.specs.declared.facts.Fact.{Fact}
-use Rattle.dx_model.specs.Blocks.{IsReduct}
+use Rattle.dx_model.specs.Blocks.{IsEquivalentPart}
 use Rattle.dx_blocks.specs.Numbered.{fact_of, shown_block}
 use Rattle.dx_core.specs.Asking.{KnownAreRigid}
 use Rattle.dx_core.specs.Left.{facts_left}
@@ -11,7 +11,7 @@ use Rattle.dx_core.proofs.sparing.Reduction.spare_block.Given as goal
 abbrev pub invariant-loop-at : goal.invariant-loop-at
 invariant-loop-at l = record {
   numbers : l.self.numbers ≡ l.fn.self.numbers;
-  reduct : IsReduct (facts_left l.fn.self.numbers l.fn.self.taken) (facts_left l.fn.self.numbers l.self.taken);
+  reduct : IsEquivalentPart (facts_left l.fn.self.numbers l.fn.self.taken) (facts_left l.fn.self.numbers l.self.taken);
   needed : Each (map (fact_of l.fn.self.numbers) (take l.at-index l.block.rows)) (NeededIn (facts_left l.fn.self.numbers l.self.taken));
   known : KnownAreRigid l.fn.self.numbers (facts_left l.fn.self.numbers l.self.taken) l.block.nulls l.known.items;
   others : (f : Fact) → f ∈ facts_left l.fn.self.numbers l.fn.self.taken → ¬ (f ∈ (shown_block l.fn.self.numbers l.block).facts)

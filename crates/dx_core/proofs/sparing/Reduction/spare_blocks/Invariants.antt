@@ -1,6 +1,6 @@
 use Rattle.std.proofs.Common.{◌≡◌, map, vec_len}
 use Rattle.dx_ports.specs.Members.{Each}
-use Rattle.dx_model.specs.Blocks.{IsReduct}
+use Rattle.dx_model.specs.Blocks.{IsEquivalentPart}
 use Rattle.dx_instance.specs.Stored.{facts}
 use Rattle.dx_blocks.specs.Numbered.{shown_block}
 use Rattle.dx_core.specs.Left.{facts_left, shown_by}
@@ -14,7 +14,7 @@ decreases-loop-block l = vec_len l.left
 abbrev pub invariant-loop-block : goal.invariant-loop-block
 invariant-loop-block l = record {
   numbers : l.self.numbers ≡ l.fn.self.numbers;
-  reduct : IsReduct (facts (shown_by l.fn.self.numbers)) (facts_left l.fn.self.numbers l.self.taken);
+  reduct : IsEquivalentPart (facts (shown_by l.fn.self.numbers)) (facts_left l.fn.self.numbers l.self.taken);
   tried : Each l.left.items (IsTried l.fn.self.numbers);
   changed : Each l.changed.items (IsTried l.fn.self.numbers);
   needed : AreNeeded (map (shown_block l.fn.self.numbers) l.fn.blocks.items) (map (shown_block l.fn.self.numbers) l.left.items)
