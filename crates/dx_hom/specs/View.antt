@@ -1,4 +1,4 @@
--- Facts by their places, and facts that are taken out.
+-- Facts that are taken out, by their places.
 use Rattle.std.specs.Prelude.{ℕ, Bool, true, false, List, [], length, map, replicate, slice_index_or, slice_set}
 use Rattle.dx_model.specs.declared.facts.Fact.{Fact}
 use Rattle.dx_instance.specs.Stored.{TableRows}

@@ -142,7 +142,7 @@ has_map i j = is_some (cell_maps i j)
 abbrev pub rule_at : List Rule → ℕ → Rule
 rule_at R i = slice_index_or R i (record { premise = []; derived = []; conclusion = [] })
 
--- the row of rule i at place k
+-- the tuple of rule i at place k
 abbrev pub tuple_at : Rows → ℕ → ℕ → Tuple
 tuple_at rows i k = slice_index_or (slice_index_or rows i []) k []
 

@@ -164,7 +164,7 @@ UniversalExactly =
     → IsSolution convert R schema I K
     → IsUniversal convert R schema I K ↔ MapsInto K (image m (canonical 0 R rows))
 
--- what is left of the uncovered part of closed rules after its forced map and a retraction is universal, if keys hold
+-- what is left of the uncovered part of closed rules after its forced map and an endomorphism, whose image it is, is universal, if keys hold
 abbrev pub ReducedIsUniversal : Type 0
 ReducedIsUniversal =
     (convert : Conversions) (R : List Rule) (schema : List Table) (I T : List Fact) (rows : Rows)

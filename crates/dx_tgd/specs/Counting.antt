@@ -1,4 +1,4 @@
--- The canonical cells, and the tuples of matches.
+-- The canonical cells.
 use Rattle.std.specs.Prelude.{◌+◌, ◌*◌, ℕ, List, [], ◌∷◌, length, map}
 use Rattle.dx_model.specs.declared.matches.Places.{Places}
 use Rattle.dx_model.specs.declared.matches.Matches.{Matches}

@@ -1,7 +1,7 @@
 // Picks: their order, and lists of them.
 ghost use Rattle.std.specs.Prelude.{◌≡◌, IfOk};
 ghost use Rattle.dx_lines.specs.Ways.{pick_cmp, term_cmp};
-ghost use Rattle.dx_lines.specs.Kept.{is_pick_among as is_among_of};
+ghost use Rattle.dx_lines.specs.Kept.{is_pick_among};
 
 use dx_lines::{Pick, Term};
 use dx_ports::Items;
@@ -33,7 +33,7 @@ pub fn pick_order(a: &Pick, b: &Pick) -> Ordering
 
 /// Whether a pick is one of these.
 pub fn is_among(found: &[Pick], pick: &Pick) -> bool
-    ensures { result ≡ is_among_of found.now pick.now }
+    ensures { result ≡ is_pick_among found.now pick.now }
 {
     for one in found {
         if pick_order(pick, one).is_eq() {

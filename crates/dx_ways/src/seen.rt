@@ -1,7 +1,7 @@
 // What occurrences show: the variables of their columns, and the term of a choice of them.
 ghost use Rattle.std.specs.Prelude.{◌≡◌, [], IfOk, eqb, map};
 ghost use Rattle.std.specs.List.{list_any};
-ghost use Rattle.dx_lines.specs.Ways.{is_of, named_columns as named_of, term_by, variable_at as variable_at_of, variable_in as variable_in_of};
+ghost use Rattle.dx_lines.specs.Ways.{is_of, named_columns, term_by, variable_at as variable_at_of, variable_in as variable_in_of};
 ghost use Rattle.dx_ways.specs.Tried.{column_of, has_tables as has_tables_of, is_like as is_like_of, one_or_none, with_unlike};
 
 use dx_lines::{Origin, Place, Term};
@@ -12,7 +12,7 @@ use std::slice::from_ref;
 
 /// The columns that a line's source names.
 pub fn named(source: &Origin) -> &[Place]
-    ensures { result.now ≡ named_of source.now }
+    ensures { result.now ≡ named_columns source.now }
 {
     match source {
         Origin::Column(place) => from_ref(place),
