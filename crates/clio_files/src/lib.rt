@@ -30,7 +30,7 @@ pub use comparisons::{compared_text, print_comparison};
 pub use laws::{a_comparison_has_files, an_exchange_has_files, files_are_one, names_are_apart};
 pub use nulls::nulls_of;
 pub use printed::Printed;
-pub use printing::print_files;
+pub use printing::{Output, print_files};
 pub use summaries::{contents, into_files, summary};
 pub use texts::print_texts;
 pub use verdicts::verdict_text;

@@ -17,6 +17,13 @@ use dx_ports::{Items, Text};
 use dx_schema::Schema;
 use std::alloc::{AllocError, Global};
 
+/// How an exchange is printed: the mode of its script, and whether each target root is printed as a document too.
+#[derive(Clone, Copy)]
+pub struct Output {
+    pub mode: Mode,
+    pub nested: bool,
+}
+
 /// The files of an exchange, in order: the rules, their script in this mode, each target table, what the nulls of the target
 /// stand for, the fold, and, if they are asked for, each target root with its inner sets as a document.
 ///
@@ -30,23 +37,22 @@ pub fn print_files<F, M>(
     target: &Schema,
     exchange: &Exchange,
     host: &Host<F, M>,
-    mode: Mode,
-    nested: bool,
+    output: Output,
 ) -> Result<Vec<Printed>, AllocError>
 where
     F: Fn(u32, &Items<Text>) -> Result<Text, AllocError>,
     M: Meaning,
     requires texts { FitTexts source.now target.now (offered host.now) rules.now }
     requires fits { FitsFiles rules.now target.now exchange.now }
-    ensures { IfOk result (λ ps. AreFiles source.now target.now (offered host.now) mode nested rules.now exchange.now
-        (map printed_view ps.items)) }
+    ensures { IfOk result (λ ps. AreFiles source.now target.now (offered host.now) output.mode output.nested rules.now
+        exchange.now (map printed_view ps.items)) }
 {
     let nulls = nulls_of(alloc, &exchange.target)?;
-    let mut printed = print_texts(alloc, rules, source, target, host, mode)?;
+    let mut printed = print_texts(alloc, rules, source, target, host, output.mode)?;
     push_tables(alloc, "", target, &exchange.target, &mut printed)?;
     printed.push(nulls_file(alloc, rules, &exchange.matches, &nulls)?)?;
     printed.push(fold_file(alloc, &exchange.fold)?)?;
-    if nested {
+    if output.nested {
         push_roots(alloc, target, &exchange.target, &mut printed)?;
     }
     Ok(printed)

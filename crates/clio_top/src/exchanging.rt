@@ -11,7 +11,7 @@ ghost use Rattle.clio_top.specs.Running.{IsPlanOf, exchange_stages};
 
 use clio_accept::Mapping;
 use clio_ending::{Done, Refusal};
-use clio_files::{into_files, print_files, summary};
+use clio_files::{Output, into_files, print_files, summary};
 use clio_steps::exchange_files;
 use dx_exchange::{Exchange, Mode};
 use dx_funcs::{Host, Meaning, Tests};
@@ -37,7 +37,8 @@ where
 {
     let rules = mapping.rules.items();
     let Mapping { source, target, .. } = mapping;
-    let printed = print_files(alloc, rules, source, target, &exchange, host, mode, nested)?;
+    let output = Output { mode, nested };
+    let printed = print_files(alloc, rules, source, target, &exchange, host, output)?;
     let text = summary(alloc, &printed)?;
     let files = into_files(alloc, printed)?;
     Ok(Plan {

@@ -8,7 +8,7 @@ ghost use Rattle.clio_files.specs.Texts.{FitTexts};
 ghost use Rattle.clio_top.specs.FilesOf.{AreFilesOf, HaveColumnNames, NullsHaveTexts};
 
 use clio_accept::Mapping;
-use clio_files::{into_files, print_files};
+use clio_files::{Output, into_files, print_files};
 use dx_exchange::{Exchange, Mode};
 use dx_funcs::{Host, Meaning};
 use dx_ports::{File, Items, Text};
@@ -39,6 +39,7 @@ where
 {
     let rules = mapping.rules.items();
     let Mapping { source, target, .. } = mapping;
-    let printed = print_files(alloc, rules, source, target, exchange, host, mode, nested)?;
+    let output = Output { mode, nested };
+    let printed = print_files(alloc, rules, source, target, exchange, host, output)?;
     into_files(alloc, printed)
 }

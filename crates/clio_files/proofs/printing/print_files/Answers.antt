@@ -11,19 +11,19 @@ use Rattle.clio_files.proofs.SheetLists.{two_more}
 use Rattle.clio_files.proofs.TextFiles.{four_parts}
 use Rattle.clio_files.proofs.RootFiles.{none_asked, roots_asked, with_documents}
 use Rattle.clio_files.proofs.printing.print_files.Goals as goal
-use Rattle.clio_files.proofs.printing.print_files.Goals.{then-nested+in_ok-push_roots, else-nested}
+use Rattle.clio_files.proofs.printing.print_files.Goals.{then-output+in_ok-push_roots, else-output}
 
 pub returns : goal.returns
 returns g c =
     let e = c.args.exchange.now in
     let target = c.args.target.now in
-    let nested = c.args.nested in
-    let texts = texts_told c.args.source.now target (offered c.args.host.now) c.args.mode c.args.rules.now in
+    let nested = c.args.output.nested in
+    let texts = texts_told c.args.source.now target (offered c.args.host.now) c.args.output.mode c.args.rules.now in
     let nulls = file_of (nulls_sheet c.args.rules.now e.matches c.in_ok-nulls.nulls.items) in
     let fold = file_of (fold_sheet (pairs_of e.fold)) in
     let added = c.in_ok-push_tables.ensures in
     let before = map printed_view c.push-2.new.self.items in
-    let all = map printed_view c.if-nested.printed.items in
+    let all = map printed_view c.if-output.printed.items in
     let two =
     two_more c.push_tables.new.files.items c.push.new.self.items c.push-2.new.self.items c.in_ok-nulls_file.field-0
     c.in_ok-fold_file.field-0 nulls fold (rw c.deref.ensures.value at c.in_ok-nulls_file.ensures) c.in_ok-fold_file.ensures
@@ -32,10 +32,10 @@ returns g c =
     four_parts texts added.tables (map printed_view c.in_ok-printed.printed.items) (map printed_view c.push_tables.new.files.items) before nulls fold
     c.in_ok-printed.ensures added.is two in
     let more : AddsRoots target e.target (if nested then roots target else []) before all =
-    elim c.if-nested.branch [
-      | then-nested+in_ok-push_roots w ↦
-          roots_asked nested target e.target before all w.if-nested.true (rw w.printed-is w.in_ok-push_roots.ensures)
-      | else-nested w ↦ none_asked nested target e.target before all w.if-nested.false (rw w.printed-is refl)
+    elim c.if-output.branch [
+      | then-output+in_ok-push_roots w ↦
+          roots_asked nested target e.target before all w.if-output.true (rw w.printed-is w.in_ok-push_roots.ensures)
+      | else-output w ↦ none_asked nested target e.target before all w.if-output.false (rw w.printed-is refl)
     ] in record {
       tables = added.tables;
       tables_are = added.are;
