@@ -53,7 +53,8 @@ where
     F: Fn(u32, &Items<Text>) -> Result<Text, AllocError>,
     M: Meaning,
     requires serves { Serves F.Fn M.apply host.now }
-    requires fits { RulesFitSchemas (offered host.now) mapping.now.rules (model_tables mapping.now.source) (model_tables mapping.now.target) }
+    requires fits { RulesFitSchemas (offered host.now) mapping.now.rules (model_tables mapping.now.source)
+        (model_tables mapping.now.target) }
     requires rows { widths rows.now ≡ schema_widths mapping.now.source }
     requires given { widths given.now ≡ schema_widths mapping.now.target }
     ensures { Gives (judged_rows M.apply) ((mapping.now, rows.now), given.now) result }

@@ -30,7 +30,8 @@ where
     F: Fn(u32, &Items<Text>) -> Result<Text, AllocError>,
     M: Meaning,
     requires serves { Serves F.Fn M.apply host.now }
-    requires fits { RulesFitSchemas (offered host.now) mapping.now.rules (model_tables mapping.now.source) (model_tables mapping.now.target) }
+    requires fits { RulesFitSchemas (offered host.now) mapping.now.rules (model_tables mapping.now.source)
+        (model_tables mapping.now.target) }
     requires rows { widths rows.now ≡ schema_widths mapping.now.source }
     ensures { Gives (by (named_stage M.apply mode)) (mapping.now, rows.now) result }
 {
