@@ -1,6 +1,7 @@
 -- From what the calls of `answer_files` give to what its stages gave: a lemma for each way out, so that a proof cites one with variables alone.
 use Rattle.std.proofs.Common.{ℕ, List, Result, Ok, Err}
 use Rattle.dx_ports.specs.Members.{Each}
+use Rattle.dx_ports.specs.States.{InputState}
 use Rattle.dx_instance.specs.Stored.{TableRows}
 use Rattle.dx_used.specs.Used.{Marks, UsesOnly}
 use Rattle.dx_queries.specs.declared.query.Query.{Query}
@@ -8,7 +9,7 @@ use Rattle.dx_exchange.specs.declared.mode.Mode.TheVariants.{Plain}
 use Rattle.dx_exchange.specs.declared.result.Exchange.{Exchange}
 use Rattle.dx_stages.specs.declared.stop.Stop.{Stop}
 use Rattle.dx_stages.specs.Stages.{by, saying}
-use Rattle.dx_stages.specs.Running.{Gives, Ran, InputState}
+use Rattle.dx_stages.specs.Running.{Gives, Ran}
 use Rattle.clio_accept.specs.declared.mapping.Mapping.{Mapping}
 use Rattle.clio_source.specs.Agreeing.{RanAgreeing}
 use Rattle.clio_source.specs.Source.{source_left, source_stages}

@@ -1,5 +1,6 @@
 -- How an answer to a query runs: what stops it, and what it passes on.
 use Rattle.std.proofs.Common.{◌≡◌, ◌⊎◌, ℕ, List, get_or, refl, sym, ◌∙◌, ap, subst, inl, inr, arith, Result, Ok, Err}
+use Rattle.dx_ports.specs.States.{InputState}
 use Rattle.dx_instance.specs.Stored.{TableRows, widths}
 use Rattle.dx_schema.proofs.ModelWidths.{model_widths}
 use Rattle.dx_queries.specs.declared.query.Query.{Query}
@@ -11,7 +12,7 @@ use Rattle.dx_stages.specs.declared.stop.Stop.TheVariants as stops
 use Rattle.dx_stages.specs.Ending.{PlanContent}
 use Rattle.dx_stages.specs.Worlds.{World}
 use Rattle.dx_stages.specs.Stages.{Stage, by, next, over, saying}
-use Rattle.dx_stages.specs.Running.{Gives, Ran, InputState}
+use Rattle.dx_stages.specs.Running.{Gives, Ran}
 use Rattle.dx_stages.specs.Laws.{AsksOtherFiles, AsksOnly}
 use Rattle.dx_stages.proofs.Decided.{apart_by, next_only}
 use Rattle.dx_stages.proofs.Running.{ran_by, ran_into, ran_into_stop, ran_memory, ran_next, ran_over, ran_passes, ran_stop, ran_value, silent_apart}

@@ -4,6 +4,7 @@ use Rattle.std.proofs.lemmas.Bool.{cases_order}
 use Rattle.dx_ports.specs.Members.{◌∈◌, Each, here, there}
 use Rattle.dx_ports.specs.declared.file.Count.TheVariants.{QueryAtoms}
 use Rattle.dx_ports.specs.declared.file.Limit.{Limit}
+use Rattle.dx_ports.specs.States.{InputState}
 use Rattle.dx_schema.specs.Forest.{Forest}
 use Rattle.dx_schema.specs.Tables.{schema_widths}
 use Rattle.dx_tokens.specs.declared.faults.TextFault.{TextFault}
@@ -19,7 +20,7 @@ use Rattle.dx_stages.specs.Worlds.{World}
 use Rattle.dx_stages.specs.declared.stop.Stop.{Stop}
 use Rattle.dx_stages.specs.declared.stop.Stop.TheVariants as stops
 use Rattle.dx_stages.specs.Stages.{by, file, saying}
-use Rattle.dx_stages.specs.Running.{Gives, Ran, InputState}
+use Rattle.dx_stages.specs.Running.{Gives, Ran}
 use Rattle.dx_stages.specs.Laws.{AsksOnly, IsDecided, PassesOne}
 use Rattle.dx_stages.proofs.Decided.{Any, by_decided, by_one, checking_decided, checking_one, file_decided, file_one, into_decided, into_one, next_decided, next_one, notions_decided, saying_decided, weaker}
 use Rattle.dx_stages.proofs.Running.{ran_file, ran_next, ran_passes, ran_stop, ran_value, silent_apart}

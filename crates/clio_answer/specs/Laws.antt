@@ -1,5 +1,5 @@
 -- What holds of the answers to a query.
-use Rattle.dx_stages.specs.Ending.{OutputState}
+use Rattle.dx_ports.specs.States.{OutputState}
 use Rattle.dx_stages.specs.Laws.{IsDecided}
 use Rattle.dx_stages.specs.Worlds.{World}
 use Rattle.clio_ending.specs.declared.ending.Answers.{Answers}

@@ -68,8 +68,7 @@ fn read_posed<I: Inputs>(
     mapping: &Mapping,
 ) -> Result<Query, Stop<Refusal>>
     ensures { Ran (query_over mapping.now) mapping.now result
-        (record { holds = I.holds inputs.old; faults = I.faults inputs.old; stopped = I.stopped inputs.old })
-        (record { holds = I.holds inputs.new; faults = I.faults inputs.new; stopped = I.stopped inputs.new }) }
+        (I.state inputs.old) (I.state inputs.new) }
 {
     let name = Text::from_str(alloc, "query.clio")?;
     let absent = Refusal::Query(QueryFault::Absent);
@@ -107,8 +106,7 @@ where
     requires serves { Serves F.Fn M.apply host.now }
     requires decides { Decides P.Fn M.passes tests.now }
     ensures { Ran (answers (program (offered host.now) (tested tests.now) M.apply M.passes)) (tt {0}) result
-        (record { holds = I.holds inputs.old; faults = I.faults inputs.old; stopped = I.stopped inputs.old })
-        (record { holds = I.holds inputs.new; faults = I.faults inputs.new; stopped = I.stopped inputs.new }) }
+        (I.state inputs.old) (I.state inputs.new) }
 {
     let mapping = read_mapping(alloc, inputs, Side::First, host, tests)?;
     let query = read_posed(alloc, inputs, &mapping)?;
@@ -146,8 +144,7 @@ where
     requires serves { Serves F.Fn M.apply host.now }
     requires decides { Decides P.Fn M.passes tests.now }
     ensures { Ran (answer_stages (program (offered host.now) (tested tests.now) M.apply M.passes)) (tt {0}) (planned result)
-        (record { holds = I.holds inputs.old; faults = I.faults inputs.old; stopped = I.stopped inputs.old })
-        (record { holds = I.holds inputs.new; faults = I.faults inputs.new; stopped = I.stopped inputs.new }) }
+        (I.state inputs.old) (I.state inputs.new) }
 {
     let (posed, answers) = answer_files(alloc, inputs, host, tests)?;
     let (_, query) = posed;

@@ -14,6 +14,7 @@ use Rattle.dx_model.specs.Following.{frozen_text}
 use Rattle.dx_model.specs.Tables.{IsInstance}
 use Rattle.dx_ports.specs.Texts.{Text}
 use Rattle.dx_ports.proofs.Lists.{get_at, get_in}
+use Rattle.dx_ports.specs.States.{InputState}
 use Rattle.dx_schema.specs.Forest.{Forest}
 use Rattle.dx_schema.specs.Tables.{AreTables, model_tables, tables_of}
 use Rattle.dx_schema.proofs.Valid.{are_tables}
@@ -32,7 +33,7 @@ use Rattle.dx_stages.specs.Ending.{PlanContent}
 use Rattle.dx_stages.specs.Worlds.{World}
 use Rattle.dx_stages.specs.Stages.{next, over}
 use Rattle.dx_stages.specs.Laws.{AsksOtherFiles, AsksOnly, IsDecided, PassesOne}
-use Rattle.dx_stages.specs.Running.{Gives, Ran, InputState}
+use Rattle.dx_stages.specs.Running.{Gives, Ran}
 use Rattle.dx_stages.proofs.Running.{ran_into, ran_into_stop, ran_next, ran_over, ran_passes, ran_stop, ran_value, silent_apart}
 use Rattle.dx_stages.proofs.Decided.{Any, apart_by, become_decided, checking_decided, checking_one, into_decided, into_one, next_decided, next_one, notions_decided, over_decided, over_one}
 use Rattle.clio_accept.specs.declared.mapping.Mapping.{Mapping}

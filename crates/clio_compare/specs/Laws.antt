@@ -1,6 +1,6 @@
 -- What holds of comparisons of two mappings.
 use Rattle.std.specs.Prelude.{List}
-use Rattle.dx_stages.specs.Ending.{OutputState}
+use Rattle.dx_ports.specs.States.{OutputState}
 use Rattle.dx_stages.specs.Laws.{IsDecided}
 use Rattle.dx_stages.specs.Worlds.{World}
 use Rattle.dx_compare.specs.declared.comparing.Comparison.{Comparison}

@@ -117,8 +117,7 @@ where
     P: Fn(u32, &Text) -> Result<bool, AllocError>,
     M: Meaning,
     ensures { Ran (comparisons (program (offered host.now) (tested tests.now) M.apply M.passes)) (tt {0}) result
-        (record { holds = I.holds inputs.old; faults = I.faults inputs.old; stopped = I.stopped inputs.old })
-        (record { holds = I.holds inputs.new; faults = I.faults inputs.new; stopped = I.stopped inputs.new }) }
+        (I.state inputs.old) (I.state inputs.new) }
 {
     let first = read_mapping(alloc, inputs, Side::First, host, tests)?;
     let second = read_mapping(alloc, inputs, Side::Second, host, tests)?;
@@ -155,8 +154,7 @@ where
     P: Fn(u32, &Text) -> Result<bool, AllocError>,
     M: Meaning,
     ensures { Ran (compare_stages (program (offered host.now) (tested tests.now) M.apply M.passes)) (tt {0}) (planned result)
-        (record { holds = I.holds inputs.old; faults = I.faults inputs.old; stopped = I.stopped inputs.old })
-        (record { holds = I.holds inputs.new; faults = I.faults inputs.new; stopped = I.stopped inputs.new }) }
+        (I.state inputs.old) (I.state inputs.new) }
 {
     let (mapping, comparison) = compare_files(alloc, inputs, host, tests)?;
     let (files, text) = compared_files(alloc, &mapping, &comparison)?;

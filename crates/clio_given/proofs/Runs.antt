@@ -5,6 +5,7 @@ use Rattle.std.specs.List.{range_with_len}
 use Rattle.std.proofs.lemmas.List.{append_cancel_right}
 use Rattle.dx_ports.specs.Members.{◌∈◌}
 use Rattle.dx_ports.proofs.Ranges.{from_range, range_more}
+use Rattle.dx_ports.specs.States.{InputState}
 use Rattle.dx_instance.specs.Stored.{TableRows}
 use Rattle.dx_schema.specs.Forest.{Forest}
 use Rattle.dx_schema.specs.Tables.{AreTables, schema_table, tables_of}
@@ -12,7 +13,7 @@ use Rattle.dx_stages.specs.declared.stop.Stop.{Stop}
 use Rattle.dx_stages.specs.Worlds.{World}
 use Rattle.dx_stages.specs.Stages.{Stage, by, each, file, next, over, stay}
 use Rattle.dx_stages.specs.Laws.{AsksOtherFiles, AsksOnly}
-use Rattle.dx_stages.specs.Running.{Gives, Ran, InputState}
+use Rattle.dx_stages.specs.Running.{Gives, Ran}
 use Rattle.dx_stages.proofs.Decided.{apart_by, each_only}
 use Rattle.dx_stages.proofs.Running.{ran_by, ran_file, ran_front, ran_into, ran_into_stop, ran_more, ran_next, ran_over, ran_stop, ran_value, silent_apart}
 use Rattle.clio_source.specs.declared.fault.RowsFault.TheVariants.{Absent}

@@ -38,8 +38,7 @@ fn read_table<I: Inputs>(
     requires fit { GivenReadFits schema.now table before }
     ensures fit { IfOk result (GivenReadFits schema.now (table + 1)) }
     ensures read { Ran (given_reading schema.now table) (read_of before) (shown_result result)
-        (record { holds = I.holds inputs.old; faults = I.faults inputs.old; stopped = I.stopped inputs.old })
-        (record { holds = I.holds inputs.new; faults = I.faults inputs.new; stopped = I.stopped inputs.new }) }
+        (I.state inputs.old) (I.state inputs.new) }
 {
     let name = given_name(alloc, schema.name(table))?;
     let absent = SourceRefusal::Rows {
@@ -67,8 +66,7 @@ fn read_files<I: Inputs>(
     ensures fit { IfOk result (GivenReadFits schema.now (length (tables_of schema.now))) }
     ensures few { length (tables_of schema.now) ≤ 64 }
     ensures read { Ran (given_files_stages schema.now) (none_read bytes_left) (shown_result result)
-        (record { holds = I.holds inputs.old; faults = I.faults inputs.old; stopped = I.stopped inputs.old })
-        (record { holds = I.holds inputs.new; faults = I.faults inputs.new; stopped = I.stopped inputs.new }) }
+        (I.state inputs.old) (I.state inputs.new) }
 {
     prove!(schema.tables() <= 64);
     let mut so_far = at_start(alloc, bytes_left);
@@ -93,8 +91,7 @@ pub fn read_given<I: Inputs>(
     bytes_left: u64,
 ) -> Result<Instance, Stop<SourceRefusal>>
     ensures { Ran given_stages (record { schema = schema.now; bytes_left = bytes_left }) result
-        (record { holds = I.holds inputs.old; faults = I.faults inputs.old; stopped = I.stopped inputs.old })
-        (record { holds = I.holds inputs.new; faults = I.faults inputs.new; stopped = I.stopped inputs.new }) }
+        (I.state inputs.old) (I.state inputs.new) }
 {
     let reading = read_files(alloc, inputs, schema, bytes_left)?;
     Ok(Instance::from_gathered(alloc, reading.symbols, reading.tables)?)

@@ -4,6 +4,7 @@ use Rattle.std.specs.Prelude.{codes}
 use Rattle.std.specs.List.{range_with_len}
 use Rattle.dx_ports.specs.Members.{◌∈◌, here, there, Each}
 use Rattle.dx_ports.proofs.Members.{from_append, from_map, in_left}
+use Rattle.dx_ports.specs.States.{InputState}
 use Rattle.dx_instance.specs.Stored.{TableRows, widths}
 use Rattle.dx_schema.specs.Forest.{Forest, none, set}
 use Rattle.dx_schema.specs.Tables.{NumberedSet, TableOf, numbered_sets, schema_widths, sets_of, schema_table, table_in, tables_of}
@@ -14,7 +15,7 @@ use Rattle.dx_stages.specs.declared.stop.Stop.TheVariants as stops
 use Rattle.dx_stages.specs.Worlds.{World}
 use Rattle.dx_stages.specs.Ending.{PlanContent}
 use Rattle.dx_stages.specs.Laws.{AsksOtherFiles, AsksOnly}
-use Rattle.dx_stages.specs.Running.{Gives, Ran, InputState, with_refusal}
+use Rattle.dx_stages.specs.Running.{Gives, Ran, with_refusal}
 use Rattle.dx_stages.specs.Stages.{Stage, by, next, over, saying}
 use Rattle.dx_stages.proofs.Decided.{apart_by, each_only}
 use Rattle.dx_stages.proofs.Running.{ran_by, ran_into, ran_into_stop, ran_memory, ran_next, ran_over, ran_passes, ran_saying, ran_stop, ran_value, ran_within, silent_apart}

@@ -1,6 +1,6 @@
 -- What holds of verdicts on given targets.
 use Rattle.std.specs.Prelude.{[]}
-use Rattle.dx_stages.specs.Ending.{OutputState}
+use Rattle.dx_ports.specs.States.{OutputState}
 use Rattle.dx_stages.specs.Laws.{IsDecided}
 use Rattle.dx_stages.specs.Worlds.{World}
 use Rattle.dx_judge.specs.declared.verdict.Verdict.{Verdict}

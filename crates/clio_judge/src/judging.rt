@@ -35,8 +35,7 @@ fn read_target<I: Inputs>(
     bytes_left: u64,
 ) -> Result<Instance, Stop<Refusal>>
     ensures { Ran (saying source_refusal given_stages) (record { schema = target.now; bytes_left = bytes_left }) result
-        (record { holds = I.holds inputs.old; faults = I.faults inputs.old; stopped = I.stopped inputs.old })
-        (record { holds = I.holds inputs.new; faults = I.faults inputs.new; stopped = I.stopped inputs.new }) }
+        (I.state inputs.old) (I.state inputs.new) }
 {
     with_source_refusal(read_given(alloc, inputs, target, bytes_left))
 }
@@ -92,8 +91,7 @@ where
     requires serves { Serves F.Fn M.apply host.now }
     requires decides { Decides P.Fn M.passes tests.now }
     ensures { Ran (verdicts (program (offered host.now) (tested tests.now) M.apply M.passes)) (tt {0}) result
-        (record { holds = I.holds inputs.old; faults = I.faults inputs.old; stopped = I.stopped inputs.old })
-        (record { holds = I.holds inputs.new; faults = I.faults inputs.new; stopped = I.stopped inputs.new }) }
+        (I.state inputs.old) (I.state inputs.new) }
 {
     let mapping = read_mapping(alloc, inputs, Side::First, host, tests)?;
     let (rows, bytes_left) = read_used_rows(alloc, inputs, &mapping, tests)?;
@@ -128,8 +126,7 @@ where
     requires serves { Serves F.Fn M.apply host.now }
     requires decides { Decides P.Fn M.passes tests.now }
     ensures { Ran (judge_stages (program (offered host.now) (tested tests.now) M.apply M.passes)) (tt {0}) (planned result)
-        (record { holds = I.holds inputs.old; faults = I.faults inputs.old; stopped = I.stopped inputs.old })
-        (record { holds = I.holds inputs.new; faults = I.faults inputs.new; stopped = I.stopped inputs.new }) }
+        (I.state inputs.old) (I.state inputs.new) }
 {
     let (mapping, verdict) = judge_files(alloc, inputs, host, tests)?;
     Ok(plan_judged(alloc, &mapping, verdict)?)

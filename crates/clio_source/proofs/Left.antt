@@ -1,11 +1,12 @@
 -- A source beside the number of bytes that are left, and without it.
 use Rattle.std.proofs.Common.{◌≡◌, ℕ, List, refl, sym, ap, subst, inl, inr, Result, Ok, Err}
+use Rattle.dx_ports.specs.States.{InputState}
 use Rattle.dx_instance.specs.Stored.{TableRows}
 use Rattle.dx_stages.specs.declared.stop.Stop.{Stop}
 use Rattle.dx_stages.specs.declared.stop.Stop.TheVariants as stops
 use Rattle.dx_stages.specs.Worlds.{World}
 use Rattle.dx_stages.specs.Stages.{Stage, saying}
-use Rattle.dx_stages.specs.Running.{FailedAt, Meets, Ran, InputState}
+use Rattle.dx_stages.specs.Running.{FailedAt, Meets, Ran}
 use Rattle.dx_used.specs.Passing.{Passes}
 use Rattle.clio_source.specs.declared.fault.SourceRefusal.{SourceRefusal}
 use Rattle.clio_source.specs.Source.{SourceRequest, source_left, source_stages}

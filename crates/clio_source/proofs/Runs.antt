@@ -2,6 +2,7 @@
 use Rattle.std.proofs.Common.{◌≡◌, ℕ, ◌+◌, ◌-◌, ◌<◌, ◌≤◌, List, [], ◌∷◌, ◌++◌, length, take, get_or, refl, sym, ◌∙◌, ap, subst, Result, Ok, Err, inl, inr, arith}
 use Rattle.std.proofs.lemmas.Bool.Decides.{nat_tests}
 use Rattle.dx_ports.specs.Members.{◌∈◌}
+use Rattle.dx_ports.specs.States.{InputState}
 use Rattle.dx_model.specs.declared.facts.Fact.{Fact}
 use Rattle.dx_instance.specs.Shown.{shown_tables}
 use Rattle.dx_instance.specs.Stored.{facts}
@@ -12,7 +13,7 @@ use Rattle.dx_stages.specs.declared.stop.Stop.TheVariants as stops
 use Rattle.dx_stages.specs.Worlds.{World}
 use Rattle.dx_stages.specs.Stages.{Stage, file, each, by, stay}
 use Rattle.dx_stages.specs.Laws.{AsksOtherFiles}
-use Rattle.dx_stages.specs.Running.{InputState, Ran, Gives}
+use Rattle.dx_stages.specs.Running.{Ran, Gives}
 use Rattle.dx_stages.proofs.Running.{ran_file, ran_next, ran_stop, ran_value, ran_by, ran_into, ran_into_stop, ran_more, ran_front, silent_apart}
 use Rattle.clio_source.specs.declared.fault.SourceRefusal.{SourceRefusal}
 use Rattle.clio_source.specs.declared.fault.SourceRefusal.TheVariants as refusals

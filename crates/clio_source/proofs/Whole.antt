@@ -3,13 +3,14 @@ use Rattle.std.proofs.Common.{◌≡◌, ℕ, refl, sym, ◌∙◌, subst, Ok, E
 use Rattle.std.specs.List.{list_all}
 use Rattle.dx_ports.proofs.Members.{same_sym, same_trans}
 use Rattle.dx_ports.proofs.Tests.{from_filter}
+use Rattle.dx_ports.specs.States.{InputState}
 use Rattle.dx_model.specs.declared.facts.Fact.{Fact}
 use Rattle.dx_instance.specs.Shown.{shown_tables}
 use Rattle.dx_instance.specs.Stored.{IsSorting, TableRows, facts, widths}
 use Rattle.dx_schema.specs.Tables.{schema_widths, tables_of}
 use Rattle.dx_stages.specs.declared.stop.Stop.{Stop}
 use Rattle.dx_stages.specs.Stages.{Stage, into, next, over}
-use Rattle.dx_stages.specs.Running.{Ran, InputState}
+use Rattle.dx_stages.specs.Running.{Ran}
 use Rattle.dx_stages.proofs.Running.{ran_by, ran_next, ran_over, ran_passes, ran_stop, ran_value, silent_apart}
 use Rattle.dx_used.specs.Used.{AgreeOnUsed, Marks}
 use Rattle.dx_used.specs.Named.{ReadNamed}

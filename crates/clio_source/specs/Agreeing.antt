@@ -1,10 +1,11 @@
 -- What is read if only some columns count.
 use Rattle.std.specs.Prelude.{◌≡◌, ℕ, List, Result, Ok, Err}
 use Rattle.dx_ports.specs.Members.{◌∈◌, Each}
+use Rattle.dx_ports.specs.States.{InputState}
 use Rattle.dx_model.specs.declared.facts.Fact.{Fact}
 use Rattle.dx_stages.specs.declared.stop.Stop.{Stop}
 use Rattle.dx_stages.specs.Stages.{Stage}
-use Rattle.dx_stages.specs.Running.{Ran, InputState}
+use Rattle.dx_stages.specs.Running.{Ran}
 use Rattle.dx_schema.specs.Forest.{Forest}
 use Rattle.dx_instance.specs.Stored.{TableRows, facts, widths}
 use Rattle.dx_used.specs.Used.{AgreeOnUsed, Marks, fact_blanked}

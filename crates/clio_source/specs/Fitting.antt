@@ -1,12 +1,13 @@
 -- What the code has of what was read: rows of the tables, as numbers of symbols.
 use Rattle.std.specs.Prelude.{◌≡◌, ◌≤◌, ◌<◌, ℕ, List, [], ◌++◌, map, length, take, Result, Ok, Err}
 use Rattle.dx_ports.specs.Members.{Each, ◌≈◌}
+use Rattle.dx_ports.specs.States.{InputState}
 use Rattle.dx_model.specs.declared.values.Value.{Value}
 use Rattle.dx_model.specs.declared.facts.Fact.{Fact}
 use Rattle.dx_stages.specs.declared.stop.Stop.{Stop}
 use Rattle.dx_stages.specs.declared.stop.Stop.TheVariants as stops
 use Rattle.dx_stages.specs.Stages.{Stage}
-use Rattle.dx_stages.specs.Running.{Gives, Ran, InputState}
+use Rattle.dx_stages.specs.Running.{Gives, Ran}
 use Rattle.dx_schema.specs.Forest.{Forest}
 use Rattle.dx_schema.specs.Tables.{schema_widths}
 use Rattle.dx_instance.specs.Cells.{NumberTable}

@@ -1,8 +1,9 @@
 -- What holds of the source of files.
 use Rattle.std.specs.Prelude.{◌≡◌, ◌<◌, ◌↔◌, ℕ, List, [], None, Ok, length}
 use Rattle.dx_ports.specs.Members.{◌∈◌, ◌≈◌}
+use Rattle.dx_ports.specs.States.{InputState}
 use Rattle.dx_stages.specs.Laws.{IsDecided, PassesOne}
-use Rattle.dx_stages.specs.Running.{Ran, InputState}
+use Rattle.dx_stages.specs.Running.{Ran}
 use Rattle.dx_stages.specs.Worlds.{World}
 use Rattle.dx_schema.specs.Forest.{Forest}
 use Rattle.dx_schema.specs.Inner.{AreAscending}

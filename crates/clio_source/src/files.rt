@@ -50,8 +50,7 @@ fn read_root<I: Inputs>(
     ensures fit { IfOk result (ReadFits schema.now (root + 1 + count (tree_at schema.now root).inner)) }
     ensures blank { UnusedAreBlank used.now schema.now before → IfOk result (UnusedAreBlank used.now schema.now) }
     ensures read { (q : ReadState) → Holds used.now before q → RanTo used.now (reading schema.now root) q result
-        (record { holds = I.holds inputs.old; faults = I.faults inputs.old; stopped = I.stopped inputs.old })
-        (record { holds = I.holds inputs.new; faults = I.faults inputs.new; stopped = I.stopped inputs.new }) }
+        (I.state inputs.old) (I.state inputs.new) }
 {
     let name = root_file_name(alloc, schema, root)?;
     let absent = SourceRefusal::Rows {
@@ -84,8 +83,7 @@ fn read_files<I: Inputs>(
     ensures blank { IfOk result (UnusedAreBlank used.now schema.now) }
     ensures few { length (tables_of schema.now) ≤ 64 }
     ensures read { RanTo used.now (files_stages schema.now) at_start result
-        (record { holds = I.holds inputs.old; faults = I.faults inputs.old; stopped = I.stopped inputs.old })
-        (record { holds = I.holds inputs.new; faults = I.faults inputs.new; stopped = I.stopped inputs.new }) }
+        (I.state inputs.old) (I.state inputs.new) }
 {
     prove!(schema.tables() <= 64);
     let mut so_far = at_start(alloc);
@@ -125,8 +123,7 @@ where
     requires listed { AreTested (tested tests.now) conditions.now }
     requires named { ReadNamed used.now conditions.now }
     ensures read { RanAgreeing used.now (source_left M.passes) (record { schema = schema.now; conditions = conditions.now }) result
-        (record { holds = I.holds inputs.old; faults = I.faults inputs.old; stopped = I.stopped inputs.old })
-        (record { holds = I.holds inputs.new; faults = I.faults inputs.new; stopped = I.stopped inputs.new }) }
+        (I.state inputs.old) (I.state inputs.new) }
     ensures blank { IfOk result (λ q. AreBlank used.now schema.now (facts q.0)) }
 {
     let reading = read_files(alloc, inputs, schema, used)?;

@@ -1,5 +1,6 @@
 -- There is one reason to refuse an exchange, or there is one, and never both.
 use Rattle.std.proofs.Common.{◌≡◌, List, sym, ap, subst, inr, Ok}
+use Rattle.dx_ports.specs.States.{InputState}
 use Rattle.dx_instance.specs.Stored.{TableRows, widths}
 use Rattle.dx_schema.specs.Forest.{Forest}
 use Rattle.dx_schema.specs.Tables.{model_tables, schema_widths}
@@ -13,7 +14,7 @@ use Rattle.dx_exchange.proofs.Decided.{exchange_or_none}
 use Rattle.dx_stages.specs.Worlds.{World}
 use Rattle.dx_stages.specs.Stages.{next, by, over, saying}
 use Rattle.dx_stages.specs.Laws.{PassesOne, IsDecided}
-use Rattle.dx_stages.specs.Running.{Ran, InputState}
+use Rattle.dx_stages.specs.Running.{Ran}
 use Rattle.dx_stages.proofs.Running.{ran_passes}
 use Rattle.dx_stages.proofs.Decided.{Any, next_one, next_decided, over_one, over_decided, into_one, into_decided, file_one, file_decided, saying_decided}
 use Rattle.clio_accept.specs.declared.mapping.Mapping.{Mapping}

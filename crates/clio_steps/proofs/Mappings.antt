@@ -1,9 +1,10 @@
 -- A mapping text, fetched and accepted.
 use Rattle.std.proofs.Common.{◌≡◌, ◌<◌, ◌≤◌, ◌-◌, ◌^◌, ℕ, List, length, refl, subst, sym, Result, Ok, Err, arith}
 use Rattle.dx_ports.specs.declared.file.Limit.{Limit}
+use Rattle.dx_ports.specs.States.{InputState}
 use Rattle.dx_stages.specs.declared.stop.Stop.{Stop}
 use Rattle.dx_stages.specs.Stages.{file, saying}
-use Rattle.dx_stages.specs.Running.{InputState, Ran, Gives}
+use Rattle.dx_stages.specs.Running.{Ran, Gives}
 use Rattle.dx_stages.proofs.Running.{ran_next, ran_passes, ran_stop, ran_value, silent_apart}
 use Rattle.clio_accept.specs.declared.fault.AcceptFault.TheVariants as faults
 use Rattle.clio_accept.specs.declared.mapping.Mapping.{Mapping}

@@ -5,6 +5,7 @@ use Rattle.std.proofs.lemmas.Bool.{cases_Bool, eqb-true}
 use Rattle.csv.specs.Reading.{strip_bom}
 use Rattle.dx_ports.specs.Members.{Each, here, there}
 use Rattle.dx_ports.proofs.Members.{from_append, from_flat_map, from_map, in_at}
+use Rattle.dx_ports.specs.States.{InputState}
 use Rattle.dx_model.specs.declared.facts.Fact.{Fact}
 use Rattle.dx_model.specs.declared.rules.Rule.{Rule}
 use Rattle.dx_model.specs.declared.values.NullId.{NullId}
@@ -28,7 +29,7 @@ use Rattle.dx_exchange.proofs.Lists.{fit_tuples, one_each}
 use Rattle.dx_stages.specs.declared.stop.Stop.{Stop}
 use Rattle.dx_stages.specs.declared.stop.Stop.TheVariants as stops
 use Rattle.dx_stages.specs.Stages.{Stage, become, by, next, over, saying}
-use Rattle.dx_stages.specs.Running.{InputState, Ran, Gives, Meets}
+use Rattle.dx_stages.specs.Running.{Ran, Gives, Meets}
 use Rattle.dx_stages.specs.Worlds.{World}
 use Rattle.dx_stages.proofs.Running.{ran_into, ran_into_stop, ran_memory, ran_next, ran_over, ran_passes, ran_stop, ran_value, silent_apart, fault_of}
 use Rattle.clio_accept.specs.declared.mapping.Mapping.{Mapping}

@@ -1,6 +1,7 @@
 -- Rows that agree on the columns that the rules use have one exchange, or none for one reason.
 use Rattle.std.proofs.Common.{◌≡◌, ℕ, List, [], refl, sym, ◌∙◌, subst, Result, Ok, Err}
 use Rattle.dx_ports.specs.Members.{Each}
+use Rattle.dx_ports.specs.States.{InputState}
 use Rattle.dx_model.specs.declared.rules.Rule.{Rule}
 use Rattle.dx_instance.specs.Stored.{TableRows, facts, widths}
 use Rattle.dx_schema.specs.Tables.{model_tables, schema_widths}
@@ -14,7 +15,7 @@ use Rattle.dx_exchange.specs.Exchanging.{HasNoExchange, IsExchange}
 use Rattle.dx_stages.specs.declared.stop.Stop.{Stop}
 use Rattle.dx_stages.specs.declared.stop.Stop.TheVariants as stops
 use Rattle.dx_stages.specs.Stages.{by, saying}
-use Rattle.dx_stages.specs.Running.{Gives, InputState, with_refusal}
+use Rattle.dx_stages.specs.Running.{Gives, with_refusal}
 use Rattle.dx_stages.proofs.Running.{ran_out, ran_saying}
 use Rattle.clio_accept.specs.declared.mapping.Mapping.{Mapping}
 use Rattle.clio_source.specs.declared.fault.SourceRefusal.{SourceRefusal}

@@ -2,12 +2,13 @@
 use Rattle.std.specs.Prelude.{◌≡◌, ◌++◌, ℕ, List, ◌∷◌, codes, length, Some, ◌≤◌}
 use Rattle.dx_ports.specs.Entries.{Entry}
 use Rattle.dx_ports.specs.Texts.{Text}
+use Rattle.dx_ports.specs.States.{OutputState}
 use Rattle.dx_model.specs.Values.{Rows}
 use Rattle.dx_model.specs.declared.facts.Fact.{Fact}
 use Rattle.dx_model.specs.Rules.{AreRows}
 use Rattle.dx_model.specs.Solutions.{IsSolution}
 use Rattle.dx_stages.specs.Worlds.{World}
-use Rattle.dx_stages.specs.Ending.{WroteAll, WroteFirst, OutputState}
+use Rattle.dx_stages.specs.Ending.{WroteAll, WroteFirst}
 use Rattle.dx_stages.specs.Stages.{each}
 use Rattle.dx_schema.specs.Forest.{Forest}
 use Rattle.dx_schema.specs.Tables.{model_tables}

@@ -31,8 +31,7 @@ where
     requires serves { Serves F.Fn M.apply host.now }
     requires decides { Decides P.Fn M.passes tests.now }
     ensures { Ran (exchanges (program (offered host.now) (tested tests.now) M.apply M.passes) mode) (tt {0}) result
-        (record { holds = I.holds inputs.old; faults = I.faults inputs.old; stopped = I.stopped inputs.old })
-        (record { holds = I.holds inputs.new; faults = I.faults inputs.new; stopped = I.stopped inputs.new }) }
+        (I.state inputs.old) (I.state inputs.new) }
 {
     let mapping = read_mapping(alloc, inputs, Side::First, host, tests)?;
     let (rows, _) = read_used_rows(alloc, inputs, &mapping, tests)?;

@@ -36,8 +36,7 @@ where
     requires listed { AreTested (tested tests.now) mapping.now.conditions }
     requires named { ReadNamed used.now mapping.now.conditions }
     ensures { RanAgreeing used.now (saying source_refusal (source_left M.passes)) (wanted mapping.now) result
-        (record { holds = I.holds inputs.old; faults = I.faults inputs.old; stopped = I.stopped inputs.old })
-        (record { holds = I.holds inputs.new; faults = I.faults inputs.new; stopped = I.stopped inputs.new }) }
+        (I.state inputs.old) (I.state inputs.new) }
 {
     let conditions = mapping.conditions.items();
     with_source_refusal(read_source(alloc, inputs, &mapping.source, conditions, used, tests))
@@ -58,8 +57,7 @@ where
     requires listed { AreTested (tested tests.now) mapping.now.conditions }
     ensures { (used : Marks) × Each mapping.now.rules (UsesOnly used)
         × RanAgreeing used (saying source_refusal (source_left M.passes)) (wanted mapping.now) result
-        (record { holds = I.holds inputs.old; faults = I.faults inputs.old; stopped = I.stopped inputs.old })
-        (record { holds = I.holds inputs.new; faults = I.faults inputs.new; stopped = I.stopped inputs.new }) }
+        (I.state inputs.old) (I.state inputs.new) }
 {
     let widths = mapping.source.widths(alloc)?;
     let conditions = mapping.conditions.items();

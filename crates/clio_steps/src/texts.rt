@@ -93,8 +93,7 @@ where
     P: Fn(u32, &Text) -> Result<bool, AllocError>,
     M: Meaning,
     ensures { Ran (text_stages (program (offered host.now) (tested tests.now) M.apply M.passes) side) (tt {0}) result
-        (record { holds = I.holds inputs.old; faults = I.faults inputs.old; stopped = I.stopped inputs.old })
-        (record { holds = I.holds inputs.new; faults = I.faults inputs.new; stopped = I.stopped inputs.new }) }
+        (I.state inputs.old) (I.state inputs.new) }
 {
     let name = Text::from_str(alloc, side.file())?;
     let long = Refusal::Limit(Limit {

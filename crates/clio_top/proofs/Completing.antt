@@ -6,6 +6,7 @@ use Rattle.dx_ports.specs.Entries.{FileMap}
 use Rattle.dx_ports.specs.Faults.{Rose}
 use Rattle.dx_keys.specs.declared.answers.Clash.{Clash}
 use Rattle.dx_ports.specs.Texts.{Text}
+use Rattle.dx_ports.specs.States.{InputState, OutputState}
 use Rattle.dx_instance.specs.Stored.{facts}
 use Rattle.dx_schema.specs.Tables.{model_tables, schema_widths}
 use Rattle.dx_queries.proofs.Certain.{listed_are_certain}
@@ -18,8 +19,7 @@ use Rattle.dx_exchange.specs.declared.result.Exchange.{Exchange}
 use Rattle.dx_exchange.specs.declared.fault.ExFault.TheVariants as exchange_faults
 use Rattle.dx_stages.specs.declared.plan.Ended.{Ended}
 use Rattle.dx_stages.specs.declared.plan.Ended.TheVariants as endeds
-use Rattle.dx_stages.specs.Ending.{Counts, Ends, IsOutside, IsRefusedAs, PlanContent, Runs, OutputState}
-use Rattle.dx_stages.specs.Running.{InputState}
+use Rattle.dx_stages.specs.Ending.{Counts, Ends, IsOutside, IsRefusedAs, PlanContent, Runs}
 use Rattle.dx_stages.specs.Worlds.{IsOf, World}
 use Rattle.clio_accept.proofs.Accepted.{accepted_fits}
 use Rattle.clio_ending.specs.declared.ending.Done.{Done}

@@ -1,9 +1,9 @@
 -- What a run answers, from how it ended.
 use Rattle.std.proofs.Common.{◌≡◌, ℕ, List, sym, ◌∙◌, subst}
+use Rattle.dx_ports.specs.States.{InputState, OutputState}
 use Rattle.dx_keys.specs.declared.answers.Clash.{Clash}
 use Rattle.dx_stages.specs.declared.plan.Ended.{Ended}
-use Rattle.dx_stages.specs.Ending.{Ends, Runs, OutputState}
-use Rattle.dx_stages.specs.Running.{InputState}
+use Rattle.dx_stages.specs.Ending.{Ends, Runs}
 use Rattle.dx_stages.specs.Worlds.{IsOf, World}
 use Rattle.clio_ending.specs.declared.ending.Done.{Done}
 use Rattle.clio_ending.specs.declared.ending.Ending.{Ending}

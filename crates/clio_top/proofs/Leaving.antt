@@ -1,8 +1,9 @@
 -- What a run leaves that is not done.
 use Rattle.std.proofs.Common.{ℕ, List, inl, inr}
+use Rattle.dx_ports.specs.States.{OutputState}
 use Rattle.dx_stages.specs.declared.plan.Ended.{Ended}
 use Rattle.dx_stages.specs.declared.plan.Ended.TheVariants as endeds
-use Rattle.dx_stages.specs.Ending.{Ends, PlanContent, WroteFirst, OutputState}
+use Rattle.dx_stages.specs.Ending.{Ends, PlanContent, WroteFirst}
 use Rattle.dx_stages.specs.Worlds.{World}
 use Rattle.clio_ending.specs.declared.ending.Done.{Done}
 use Rattle.clio_ending.specs.declared.ending.Refusal.{Refusal}

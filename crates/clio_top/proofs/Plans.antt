@@ -1,10 +1,11 @@
 -- From the stages of showing, and the words, to what is written.
 use Rattle.std.proofs.Common.{◌≡◌, ℕ, List, refl, sym, ap, subst, Result, Ok, Err, None, Some}
+use Rattle.dx_ports.specs.States.{InputState}
 use Rattle.dx_exchange.specs.declared.mode.Mode.{Mode}
 use Rattle.dx_stages.specs.declared.stop.Stop.{Stop}
 use Rattle.dx_stages.specs.declared.stop.Stop.TheVariants as stops
 use Rattle.dx_stages.specs.Stages.{by, over}
-use Rattle.dx_stages.specs.Running.{InputState, Ran}
+use Rattle.dx_stages.specs.Running.{Ran}
 use Rattle.dx_stages.specs.Ending.{PlanContent}
 use Rattle.dx_stages.proofs.Running.{ran_by, ran_into, ran_into_stop, ran_memory, ran_next, ran_over, ran_stop, ran_value}
 use Rattle.clio_accept.specs.declared.mapping.Mapping.{Mapping}

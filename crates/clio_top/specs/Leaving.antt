@@ -1,7 +1,7 @@
 -- What a run leaves that is not done.
 use Rattle.std.specs.Prelude.{◌≡◌, ◌⊎◌, ℕ, List}
+use Rattle.dx_ports.specs.States.{OutputState}
 use Rattle.dx_stages.specs.Worlds.{World}
-use Rattle.dx_stages.specs.Ending.{OutputState}
 use Rattle.clio_ending.specs.declared.ending.Done.{Done}
 use Rattle.clio_ending.specs.declared.ending.Ending.{Ending}
 use Rattle.clio_ending.specs.declared.ending.Ending.TheVariants as endings

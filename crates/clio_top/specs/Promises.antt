@@ -3,10 +3,11 @@
 use Rattle.std.specs.Prelude.{◌≡◌, ◌⊎◌, ◌↔◌, ℕ, List, codes, map, Some, None, Bool}
 use Rattle.dx_ports.specs.Members.{Distinct}
 use Rattle.dx_ports.specs.Texts.{Text}
+use Rattle.dx_ports.specs.States.{OutputState}
 use Rattle.dx_stages.specs.declared.plan.Ended.TheVariants as endeds
 use Rattle.dx_stages.specs.Worlds.{World}
 use Rattle.dx_stages.specs.Laws.{IsDecided}
-use Rattle.dx_stages.specs.Ending.{Ends, OutputState}
+use Rattle.dx_stages.specs.Ending.{Ends}
 use Rattle.dx_keys.specs.declared.answers.Clash.{Clash}
 use Rattle.dx_exchange.specs.declared.mode.Mode.{Mode}
 use Rattle.dx_exchange.specs.declared.mode.Mode.TheVariants.{Plain}

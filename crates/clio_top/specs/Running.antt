@@ -1,8 +1,6 @@
 -- The stages of an exchange and of showing, and what is written of them.
-use Rattle.std.specs.Prelude.{◌≡◌, ℕ, List, [], Bool, Option}
-use Rattle.dx_ports.specs.Entries.{Entry, FileMap}
-use Rattle.dx_stages.specs.Ending.{PlanContent, OutputState}
-use Rattle.dx_stages.specs.Running.{InputState}
+use Rattle.std.specs.Prelude.{◌≡◌, ℕ, List, [], Bool}
+use Rattle.dx_stages.specs.Ending.{PlanContent}
 use Rattle.dx_stages.specs.Stages.{Stage, become, into}
 use Rattle.dx_funcs.specs.declared.conversion.Conversion.{Conversion}
 use Rattle.dx_exchange.specs.declared.mode.Mode.{Mode}
@@ -15,13 +13,6 @@ use Rattle.clio_ending.specs.declared.ending.Done.{Done}
 use Rattle.clio_ending.specs.declared.ending.Done.TheVariants.{Exchanged, Shown}
 use Rattle.clio_ending.specs.declared.ending.Refusal.{Refusal}
 use Rattle.clio_steps.specs.Steps.{Program, mapping_stages, exchanges}
-
--- what inputs and outputs tell
-abbrev pub input_state : Option FileMap → ℕ → Option (List ℕ) → InputState
-input_state holds faults stopped = record { holds = holds; faults = faults; stopped = stopped }
-
-abbrev pub written : Option (List Entry) → Option (List ℕ) → OutputState
-written files said = record { files = files; said = said }
 
 -- what is written of an exchange: its files, and their summary
 abbrev pub IsPlanOf : List Conversion → Mode → Bool → Mapping → Exchange → PlanContent Done → Type 0

@@ -13,11 +13,7 @@ pub(crate) struct DemoInputs {
 }
 
 impl Inputs for DemoInputs {
-    ghost holds = { λ d. Some (file_map d.files.items) };
-
-    ghost faults = { λ _. 0 };
-
-    ghost stopped = { λ _. None };
+    ghost state = { λ d. record { holds = Some (file_map d.files.items); faults = 0; stopped = None } };
 
     fn fetch(&mut self, name: &Text, limit: u64, into: &mut Vec<u8>) -> Result<(), FetchFault> {
         into.clear();

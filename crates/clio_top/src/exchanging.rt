@@ -64,8 +64,7 @@ where
     requires serves { Serves F.Fn M.apply host.now }
     requires decides { Decides P.Fn M.passes tests.now }
     ensures { Ran (exchange_stages (program (offered host.now) (tested tests.now) M.apply M.passes) mode nested) (tt {0}) (planned result)
-        (record { holds = I.holds inputs.old; faults = I.faults inputs.old; stopped = I.stopped inputs.old })
-        (record { holds = I.holds inputs.new; faults = I.faults inputs.new; stopped = I.stopped inputs.new }) }
+        (I.state inputs.old) (I.state inputs.new) }
 {
     let (mapping, exchange) = exchange_files(alloc, inputs, host, tests, mode)?;
     Ok(plan_exchange(alloc, &mapping, exchange, host, mode, nested)?)

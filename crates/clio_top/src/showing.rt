@@ -54,8 +54,7 @@ where
     P: Fn(u32, &Text) -> Result<bool, AllocError>,
     M: Meaning,
     ensures { Ran (show_stages (program (offered host.now) (tested tests.now) M.apply M.passes) mode) (tt {0}) (planned result)
-        (record { holds = I.holds inputs.old; faults = I.faults inputs.old; stopped = I.stopped inputs.old })
-        (record { holds = I.holds inputs.new; faults = I.faults inputs.new; stopped = I.stopped inputs.new }) }
+        (I.state inputs.old) (I.state inputs.new) }
 {
     let mapping = read_mapping(alloc, inputs, Side::First, host, tests)?;
     Ok(plan_shown(alloc, &mapping, host, mode)?)

@@ -21,7 +21,6 @@ ghost use Rattle.clio_ending.specs.declared.ending.Refusal.{Refusal as RefusalOf
 ghost use Rattle.clio_ending.specs.Ending.{AreAlike, ending_of};
 ghost use Rattle.clio_steps.specs.Steps.{program};
 ghost use Rattle.clio_steps.specs.Outcomes.{wrote_all};
-ghost use Rattle.clio_top.specs.Running.{input_state, written};
 ghost use Rattle.clio_top.specs.Commands.{IsInRange, run_stages, stages_of};
 ghost use Rattle.clio_top.specs.Promises.{IsAnswered, IsClashOf, IsCompared, IsDemo, IsDone, IsJudged, IsShown};
 ghost use Rattle.clio_top.specs.Completing.{Completes, CompletesDemo};
@@ -56,8 +55,7 @@ where
     requires decides { Decides P.Fn M.passes tests.now }
     requires range { IsInRange command }
     ensures { Ran (stages_of (program (offered host.now) (tested tests.now) M.apply M.passes) command) (tt {0}) (planned result)
-        (record { holds = I.holds inputs.old; faults = I.faults inputs.old; stopped = I.stopped inputs.old })
-        (record { holds = I.holds inputs.new; faults = I.faults inputs.new; stopped = I.stopped inputs.new }) }
+        (I.state inputs.old) (I.state inputs.new) }
 {
     match command {
         Command::Exchanging { mode, nested } => exchange_plan(
@@ -86,8 +84,7 @@ where
     requires serves { Serves F.Fn M.apply host.now }
     requires decides { Decides P.Fn M.passes tests.now }
     ensures { Ran (run_stages (program (offered host.now) (tested tests.now) M.apply M.passes)) words.now (planned result)
-        (record { holds = I.holds inputs.old; faults = I.faults inputs.old; stopped = I.stopped inputs.old })
-        (record { holds = I.holds inputs.new; faults = I.faults inputs.new; stopped = I.stopped inputs.new }) }
+        (I.state inputs.old) (I.state inputs.new) }
 {
     match command_of(words) {
         Some(command) => plan_command(alloc, command, inputs, host, tests),
@@ -120,40 +117,38 @@ where
     M: Meaning,
     requires serves { Serves F.Fn M.apply host.now }
     requires decides { Decides P.Fn M.passes tests.now }
-    ensures exchanged { (e : ExchangeOf) → result ≡ DoneEnding (Exchanged e) → (c : World) × IsOf (I.holds inputs.old) c
+    ensures exchanged { (e : ExchangeOf) → result ≡ DoneEnding (Exchanged e) → (c : World) × IsOf (I.state inputs.old).holds c
         × IsDone (program (offered host.now) (tested tests.now) M.apply M.passes) c words.now.items e
-        (wrote_all (written (O.files outputs.old) (O.said outputs.old)) (written (O.files outputs.new) (O.said outputs.new))) }
-    ensures shown { result ≡ DoneEnding Shown → (c : World) × IsOf (I.holds inputs.old) c
+        (wrote_all (O.state outputs.old) (O.state outputs.new)) }
+    ensures shown { result ≡ DoneEnding Shown → (c : World) × IsOf (I.state inputs.old).holds c
         × IsShown (program (offered host.now) (tested tests.now) M.apply M.passes) c words.now.items
-        (wrote_all (written (O.files outputs.old) (O.said outputs.old)) (written (O.files outputs.new) (O.said outputs.new))) }
+        (wrote_all (O.state outputs.old) (O.state outputs.new)) }
     ensures demo { (e : ExchangeOf) → result ≡ DoneEnding (Demo e)
         → IsDemo (program (offered host.now) (tested tests.now) M.apply M.passes) words.now.items e
-        (wrote_all (written (O.files outputs.old) (O.said outputs.old)) (written (O.files outputs.new) (O.said outputs.new))) }
-    ensures answered { (a : AnswersOf) → result ≡ DoneEnding (Answered a) → (c : World) × IsOf (I.holds inputs.old) c
+        (wrote_all (O.state outputs.old) (O.state outputs.new)) }
+    ensures answered { (a : AnswersOf) → result ≡ DoneEnding (Answered a) → (c : World) × IsOf (I.state inputs.old).holds c
         × IsAnswered (program (offered host.now) (tested tests.now) M.apply M.passes) c words.now.items a
-        (wrote_all (written (O.files outputs.old) (O.said outputs.old)) (written (O.files outputs.new) (O.said outputs.new))) }
-    ensures judged { (v : VerdictOf) → result ≡ DoneEnding (Judged v) → (c : World) × IsOf (I.holds inputs.old) c
+        (wrote_all (O.state outputs.old) (O.state outputs.new)) }
+    ensures judged { (v : VerdictOf) → result ≡ DoneEnding (Judged v) → (c : World) × IsOf (I.state inputs.old).holds c
         × IsJudged (program (offered host.now) (tested tests.now) M.apply M.passes) c words.now.items v
-        (wrote_all (written (O.files outputs.old) (O.said outputs.old)) (written (O.files outputs.new) (O.said outputs.new))) }
-    ensures compared { (k : ComparisonOf) → result ≡ DoneEnding (Compared k) → (c : World) × IsOf (I.holds inputs.old) c
+        (wrote_all (O.state outputs.old) (O.state outputs.new)) }
+    ensures compared { (k : ComparisonOf) → result ≡ DoneEnding (Compared k) → (c : World) × IsOf (I.state inputs.old).holds c
         × IsCompared (program (offered host.now) (tested tests.now) M.apply M.passes) c words.now.items k
-        (wrote_all (written (O.files outputs.old) (O.said outputs.old)) (written (O.files outputs.new) (O.said outputs.new))) }
+        (wrote_all (O.state outputs.old) (O.state outputs.new)) }
     ensures clash { (k : ClashOf) (table : List ℕ) (key : List (List ℕ)) (column : List ℕ) → result ≡ ClashEnding k table key column
-        → (c : World) × IsOf (I.holds inputs.old) c
+        → (c : World) × IsOf (I.state inputs.old).holds c
         × IsClashOf (program (offered host.now) (tested tests.now) M.apply M.passes) c words.now.items k table key column }
-    ensures left { (c : World) × IsOf (I.holds inputs.old) c
+    ensures left { (c : World) × IsOf (I.state inputs.old).holds c
         × Leaves (program (offered host.now) (tested tests.now) M.apply M.passes) c words.now.items
-        (written (O.files outputs.old) (O.said outputs.old)) (written (O.files outputs.new) (O.said outputs.new)) result }
-    ensures complete { (m : FileMap) → I.holds inputs.old ≡ Some m → ¬ (Rose (I.faults inputs.old) (I.faults inputs.new))
+        (O.state outputs.old) (O.state outputs.new) result }
+    ensures complete { (m : FileMap) → (I.state inputs.old).holds ≡ Some m → ¬ (Rose (I.state inputs.old).faults (I.state inputs.new).faults)
         → ¬ (Rose (O.faults outputs.old) (O.faults outputs.new))
         → Completes (program (offered host.now) (tested tests.now) M.apply M.passes) (λ n. get m n) words.now.items result }
     ensures complete_demo { ¬ (Rose (O.faults outputs.old) (O.faults outputs.new))
         → CompletesDemo (program (offered host.now) (tested tests.now) M.apply M.passes) words.now.items result }
     ensures runs { (e : EndedOf DoneOf RefusalOf) × (result ≡ ending_of e)
         × Runs AreAlike (run_stages (program (offered host.now) (tested tests.now) M.apply M.passes)) words.now.items e
-        (input_state (I.holds inputs.old) (I.faults inputs.old) (I.stopped inputs.old))
-        (input_state (I.holds inputs.new) (I.faults inputs.new) (I.stopped inputs.new))
-        (written (O.files outputs.old) (O.said outputs.old)) (written (O.files outputs.new) (O.said outputs.new))
+        (I.state inputs.old) (I.state inputs.new) (O.state outputs.old) (O.state outputs.new)
         (O.faults outputs.old) (O.faults outputs.new) }
 {
     let plan = plan_words(alloc, words, inputs, host, tests);

@@ -1,6 +1,7 @@
 pub mod Members
 pub mod Entries
 pub mod Faults
+pub mod States
 pub mod MemInputs
 pub mod MemOutputs
 pub mod Firsts

@@ -24,9 +24,9 @@ impl MemInputs {
     /// Inputs that hold these files, of equal names the first. The calls of `fetch` with these numbers fail, counted
     /// from 0.
     pub fn new(files: Vec<File>, fails: Vec<u64>) -> MemInputs
-        ensures holds { ⟦<MemInputs as Inputs>⟧.holds result ≡ Some (file_map files.items) }
-        ensures faults { ⟦<MemInputs as Inputs>⟧.faults result ≡ 0 }
-        ensures stopped { ⟦<MemInputs as Inputs>⟧.stopped result ≡ None }
+        ensures holds { (⟦<MemInputs as Inputs>⟧.state result).holds ≡ Some (file_map files.items) }
+        ensures faults { (⟦<MemInputs as Inputs>⟧.state result).faults ≡ 0 }
+        ensures stopped { (⟦<MemInputs as Inputs>⟧.state result).stopped ≡ None }
         ensures calls { next_call result ≡ 0 }
         ensures fails { failing_calls result ≡ fails.items }
     {
@@ -55,36 +55,32 @@ pub fn bytes_named<'a>(files: &'a [File], name: &Text) -> Option<&'a [u8]>
 impl Inputs for MemInputs {
     ghost use Rattle.dx_ports.specs.MemInputs.{next_call, failing_calls};
 
-    ghost holds = { λ m. Some (file_map m.files.items) };
-
-    ghost faults = { λ m. m.faults };
-
-    ghost stopped = { λ m. m.stopped };
+    ghost state = { λ m. record { holds = Some (file_map m.files.items); faults = m.faults; stopped = m.stopped } };
 
     fn fetch(&mut self, name: &Text, limit: u64, into: &mut Vec<u8>) -> Result<(), FetchFault>
-        ensures kept { ⟦<MemInputs as Inputs>⟧.holds self.new ≡ ⟦<MemInputs as Inputs>⟧.holds self.old }
-        ensures counted { ⟦<MemInputs as Inputs>⟧.faults self.old ≤ ⟦<MemInputs as Inputs>⟧.faults self.new }
-        ensures bytes { IfSome (⟦<MemInputs as Inputs>⟧.holds self.old) (λ m. OnOk result (get m name.now ≡ Some into.new.items)) }
+        ensures kept { (⟦<MemInputs as Inputs>⟧.state self.new).holds ≡ (⟦<MemInputs as Inputs>⟧.state self.old).holds }
+        ensures counted { (⟦<MemInputs as Inputs>⟧.state self.old).faults ≤ (⟦<MemInputs as Inputs>⟧.state self.new).faults }
+        ensures bytes { IfSome (⟦<MemInputs as Inputs>⟧.state self.old).holds (λ m. OnOk result (get m name.now ≡ Some into.new.items)) }
         ensures bound { OnOk result (length into.new.items ≤ limit) }
         ensures refused { OnErr result (into.new.items ≡ []) }
-        ensures absent { IfSome (⟦<MemInputs as Inputs>⟧.holds self.old) (λ m. IsErrOf result FetchFault.Absent → get m name.now ≡ None) }
-        ensures long { IfSome (⟦<MemInputs as Inputs>⟧.holds self.old) (λ m. IsErrOf result FetchFault.Long
+        ensures absent { IfSome (⟦<MemInputs as Inputs>⟧.state self.old).holds (λ m. IsErrOf result FetchFault.Absent → get m name.now ≡ None) }
+        ensures long { IfSome (⟦<MemInputs as Inputs>⟧.state self.old).holds (λ m. IsErrOf result FetchFault.Long
             → IsSomeAnd (get m name.now) (λ bytes. limit < length bytes)) }
         ensures failed { IsErrOf result FetchFault.Failed
-            → Rose (⟦<MemInputs as Inputs>⟧.faults self.old) (⟦<MemInputs as Inputs>⟧.faults self.new) }
-        ensures named { IsErrOf result FetchFault.Failed → IfSome (⟦<MemInputs as Inputs>⟧.stopped self.new) (λ n. n ≡ name.now) }
+            → Rose (⟦<MemInputs as Inputs>⟧.state self.old).faults (⟦<MemInputs as Inputs>⟧.state self.new).faults }
+        ensures named { IsErrOf result FetchFault.Failed → IfSome (⟦<MemInputs as Inputs>⟧.state self.new).stopped (λ n. n ≡ name.now) }
         ensures steady { ¬ (IsErrOf result FetchFault.Failed)
-            → ⟦<MemInputs as Inputs>⟧.faults self.new ≡ ⟦<MemInputs as Inputs>⟧.faults self.old }
+            → (⟦<MemInputs as Inputs>⟧.state self.new).faults ≡ (⟦<MemInputs as Inputs>⟧.state self.old).faults }
         ensures stays { ¬ (IsErrOf result FetchFault.Failed)
-            → ⟦<MemInputs as Inputs>⟧.stopped self.new ≡ ⟦<MemInputs as Inputs>⟧.stopped self.old }
+            → (⟦<MemInputs as Inputs>⟧.state self.new).stopped ≡ (⟦<MemInputs as Inputs>⟧.state self.old).stopped }
 
         // What the trait leaves open: which calls fail, and that each of them counts one fault.
         ensures only_these { IsErrOf result FetchFault.Failed → Contains (failing_calls self.old) (next_call self.old) }
         ensures these { Contains (failing_calls self.old) (next_call self.old)
             → IsErrOf result FetchFault.Failed ⊎ IsErrOf result FetchFault.Memory }
-        ensures tells { IsErrOf result FetchFault.Failed → ⟦<MemInputs as Inputs>⟧.stopped self.new ≡ Some name.now }
+        ensures tells { IsErrOf result FetchFault.Failed → (⟦<MemInputs as Inputs>⟧.state self.new).stopped ≡ Some name.now }
         ensures raised { IsErrOf result FetchFault.Failed
-            → ⟦<MemInputs as Inputs>⟧.faults self.new ≡ min (⟦<MemInputs as Inputs>⟧.faults self.old + 1) (2 ^ 64 - 1) }
+            → (⟦<MemInputs as Inputs>⟧.state self.new).faults ≡ min ((⟦<MemInputs as Inputs>⟧.state self.old).faults + 1) (2 ^ 64 - 1) }
         ensures number { next_call self.new ≡ min (next_call self.old + 1) (2 ^ 64 - 1) }
         ensures same_numbers { failing_calls self.new ≡ failing_calls self.old }
     {

@@ -24,8 +24,8 @@ impl MemOutputs {
 
     /// Outputs with no files. The calls of `put` and `say` with these numbers fail, counted together from 0.
     pub fn new(alloc: Global, fails: Vec<u64>) -> MemOutputs
-        ensures files { ⟦<MemOutputs as Outputs>⟧.files result ≡ Some [] }
-        ensures said { ⟦<MemOutputs as Outputs>⟧.said result ≡ Some [] }
+        ensures files { (⟦<MemOutputs as Outputs>⟧.state result).files ≡ Some [] }
+        ensures said { (⟦<MemOutputs as Outputs>⟧.state result).said ≡ Some [] }
         ensures faults { ⟦<MemOutputs as Outputs>⟧.faults result ≡ 0 }
         ensures calls { next_write result ≡ 0 }
         ensures fails { failing_writes result ≡ fails.items }
@@ -36,8 +36,8 @@ impl MemOutputs {
 
     /// Outputs as those of `new`, of which a `say` that fails says the first `keep` bytes, or all if there are fewer.
     pub fn cutting(alloc: Global, fails: Vec<u64>, keep: u64) -> MemOutputs
-        ensures files { ⟦<MemOutputs as Outputs>⟧.files result ≡ Some [] }
-        ensures said { ⟦<MemOutputs as Outputs>⟧.said result ≡ Some [] }
+        ensures files { (⟦<MemOutputs as Outputs>⟧.state result).files ≡ Some [] }
+        ensures said { (⟦<MemOutputs as Outputs>⟧.state result).said ≡ Some [] }
         ensures faults { ⟦<MemOutputs as Outputs>⟧.faults result ≡ 0 }
         ensures calls { next_write result ≡ 0 }
         ensures fails { failing_writes result ≡ fails.items }
@@ -56,14 +56,14 @@ impl MemOutputs {
 
     /// The files that were put, in order.
     pub fn files(&self) -> &[File]
-        ensures { ⟦<MemOutputs as Outputs>⟧.files self.now ≡ Some (entries_of result.now) }
+        ensures { (⟦<MemOutputs as Outputs>⟧.state self.now).files ≡ Some (entries_of result.now) }
     {
         &self.files
     }
 
     /// What was said.
     pub fn said(&self) -> &[u8]
-        ensures { ⟦<MemOutputs as Outputs>⟧.said self.now ≡ Some result.now }
+        ensures { (⟦<MemOutputs as Outputs>⟧.state self.now).said ≡ Some result.now }
     {
         &self.said
     }
@@ -110,17 +110,15 @@ impl MemOutputs {
 impl Outputs for MemOutputs {
     ghost use Rattle.dx_ports.specs.MemOutputs.{next_write, failing_writes, kept_front};
 
-    ghost files = { λ m. Some (entries_of m.files.items) };
-
-    ghost said = { λ m. Some m.said.items };
+    ghost state = { λ m. record { files = Some (entries_of m.files.items); said = Some m.said.items } };
 
     ghost faults = { λ m. m.faults };
 
     fn put(&mut self, name: &Text, bytes: &[u8]) -> Result<(), PutFault>
-        ensures put { OnOk result (⟦<MemOutputs as Outputs>⟧.files self.new
-            ≡ appended (⟦<MemOutputs as Outputs>⟧.files self.old) ((name.now, bytes.now) ∷ [])) }
-        ensures refused { OnErr result (⟦<MemOutputs as Outputs>⟧.files self.new ≡ ⟦<MemOutputs as Outputs>⟧.files self.old) }
-        ensures said { ⟦<MemOutputs as Outputs>⟧.said self.new ≡ ⟦<MemOutputs as Outputs>⟧.said self.old }
+        ensures put { OnOk result ((⟦<MemOutputs as Outputs>⟧.state self.new).files
+            ≡ appended (⟦<MemOutputs as Outputs>⟧.state self.old).files ((name.now, bytes.now) ∷ [])) }
+        ensures refused { OnErr result ((⟦<MemOutputs as Outputs>⟧.state self.new).files ≡ (⟦<MemOutputs as Outputs>⟧.state self.old).files) }
+        ensures said { (⟦<MemOutputs as Outputs>⟧.state self.new).said ≡ (⟦<MemOutputs as Outputs>⟧.state self.old).said }
         ensures counted { ⟦<MemOutputs as Outputs>⟧.faults self.old ≤ ⟦<MemOutputs as Outputs>⟧.faults self.new }
         ensures failed { IsErrOf result PutFault.Failed
             → Rose (⟦<MemOutputs as Outputs>⟧.faults self.old) (⟦<MemOutputs as Outputs>⟧.faults self.new) }
@@ -148,15 +146,15 @@ impl Outputs for MemOutputs {
     }
 
     fn say(&mut self, bytes: &[u8]) -> Result<(), PutFault>
-        ensures said { OnOk result (⟦<MemOutputs as Outputs>⟧.said self.new
-            ≡ appended (⟦<MemOutputs as Outputs>⟧.said self.old) bytes.now) }
+        ensures said { OnOk result ((⟦<MemOutputs as Outputs>⟧.state self.new).said
+            ≡ appended (⟦<MemOutputs as Outputs>⟧.state self.old).said bytes.now) }
         ensures nothing { IsErrOf result PutFault.Memory
-            → ⟦<MemOutputs as Outputs>⟧.said self.new ≡ ⟦<MemOutputs as Outputs>⟧.said self.old }
-        ensures cut { IsErrOf result PutFault.Failed → ⟦<MemOutputs as Outputs>⟧.said self.new
-            ≡ appended (⟦<MemOutputs as Outputs>⟧.said self.old) (take (kept_front self.old) bytes.now) }
-        ensures refused { OnErr result (GrewByPrefix (⟦<MemOutputs as Outputs>⟧.said self.old) bytes.now
-            (⟦<MemOutputs as Outputs>⟧.said self.new)) }
-        ensures files { ⟦<MemOutputs as Outputs>⟧.files self.new ≡ ⟦<MemOutputs as Outputs>⟧.files self.old }
+            → (⟦<MemOutputs as Outputs>⟧.state self.new).said ≡ (⟦<MemOutputs as Outputs>⟧.state self.old).said }
+        ensures cut { IsErrOf result PutFault.Failed → (⟦<MemOutputs as Outputs>⟧.state self.new).said
+            ≡ appended (⟦<MemOutputs as Outputs>⟧.state self.old).said (take (kept_front self.old) bytes.now) }
+        ensures refused { OnErr result (GrewByPrefix (⟦<MemOutputs as Outputs>⟧.state self.old).said bytes.now
+            (⟦<MemOutputs as Outputs>⟧.state self.new).said) }
+        ensures files { (⟦<MemOutputs as Outputs>⟧.state self.new).files ≡ (⟦<MemOutputs as Outputs>⟧.state self.old).files }
         ensures counted { ⟦<MemOutputs as Outputs>⟧.faults self.old ≤ ⟦<MemOutputs as Outputs>⟧.faults self.new }
         ensures failed { IsErrOf result PutFault.Failed
             → Rose (⟦<MemOutputs as Outputs>⟧.faults self.old) (⟦<MemOutputs as Outputs>⟧.faults self.new) }

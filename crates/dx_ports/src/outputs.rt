@@ -1,7 +1,8 @@
 // What is written to: files by name, and a text that is said.
 ghost use Rattle.std.specs.Prelude.{◌≡◌, ℕ, ◌≤◌, List, [], ◌∷◌, Option, OnOk, OnErr, IsErrOf};
-ghost use Rattle.dx_ports.specs.Entries.{Entry, appended, GrewByPrefix};
+ghost use Rattle.dx_ports.specs.Entries.{appended, GrewByPrefix};
 ghost use Rattle.dx_ports.specs.Faults.{Rose};
+ghost use Rattle.dx_ports.specs.States.{OutputState};
 ghost use Rattle.dx_ports.specs.declared.outputs.PutFault.TheVariants.{Memory};
 
 use crate::Text;
@@ -35,11 +36,8 @@ impl<T: Drop> From<AllocFailed<T>> for PutFault {
 
 /// What is written to. What is told before a call is told after it.
 pub trait Outputs {
-    /// The files written whole, if it tells them.
-    ghost files: { Self → Option (List Entry) };
-
-    /// What was said, if it tells it.
-    ghost said: { Self → Option (List ℕ) };
+    /// What it tells: the files written whole, and what was said.
+    ghost state: { Self → OutputState };
 
     /// How many writes have failed; no other call changes it.
     ghost faults: { Self → ℕ };
@@ -51,9 +49,9 @@ pub trait Outputs {
     /// `Failed`: a write failed, and was counted. `Memory` if there is no memory. The files that were written whole
     /// are the same then.
     fn put(&mut self, name: &Text, bytes: &[u8]) -> Result<(), PutFault>
-        ensures put { OnOk result (files self.new ≡ appended (files self.old) ((name.now, bytes.now) ∷ [])) }
-        ensures refused { OnErr result (files self.new ≡ files self.old) }
-        ensures said { said self.new ≡ said self.old }
+        ensures put { OnOk result ((state self.new).files ≡ appended (state self.old).files ((name.now, bytes.now) ∷ [])) }
+        ensures refused { OnErr result ((state self.new).files ≡ (state self.old).files) }
+        ensures said { (state self.new).said ≡ (state self.old).said }
         ensures counted { faults self.old ≤ faults self.new }
         ensures failed { IsErrOf result PutFault.Failed → Rose (faults self.old) (faults self.new) }
         ensures steady { ¬ (IsErrOf result PutFault.Failed) → faults self.new ≡ faults self.old };
@@ -65,9 +63,9 @@ pub trait Outputs {
     /// `Failed`: a write failed, and was counted. `Memory` if there is no memory. A front of the bytes was said
     /// then, which may be empty.
     fn say(&mut self, bytes: &[u8]) -> Result<(), PutFault>
-        ensures said { OnOk result (said self.new ≡ appended (said self.old) bytes.now) }
-        ensures refused { OnErr result (GrewByPrefix (said self.old) bytes.now (said self.new)) }
-        ensures files { files self.new ≡ files self.old }
+        ensures said { OnOk result ((state self.new).said ≡ appended (state self.old).said bytes.now) }
+        ensures refused { OnErr result (GrewByPrefix (state self.old).said bytes.now (state self.new).said) }
+        ensures files { (state self.new).files ≡ (state self.old).files }
         ensures counted { faults self.old ≤ faults self.new }
         ensures failed { IsErrOf result PutFault.Failed → Rose (faults self.old) (faults self.new) }
         ensures steady { ¬ (IsErrOf result PutFault.Failed) → faults self.new ≡ faults self.old };

@@ -2,13 +2,14 @@
 use Rattle.std.proofs.Common.{◌≡◌, ℕ, ◌+◌, List, [], ◌∷◌, ◌++◌, length, refl, sym, ap, inl, inr, arith, Option, Some, None, Result, Ok, Err}
 use Rattle.std.specs.FinMap.{get}
 use Rattle.dx_ports.specs.Entries.{Entry, FileMap}
+use Rattle.dx_ports.specs.States.{InputState, OutputState}
 use Rattle.dx_stages.specs.declared.stop.Stop.TheVariants as stops
 use Rattle.dx_stages.specs.declared.plan.Ended.{Ended}
 use Rattle.dx_stages.specs.declared.plan.Ended.TheVariants as endeds
 use Rattle.dx_stages.specs.Worlds.{World, IsOf, Found, HoldsFound, IsOnce}
 use Rattle.dx_stages.specs.Stages.{Stage, next, each, file, computing}
-use Rattle.dx_stages.specs.Running.{Meets, InputState, FailedAt}
-use Rattle.dx_stages.specs.Ending.{PlanContent, OutputState, WroteFirst, Ends, Counts, IsOutside, IsRefusedAs}
+use Rattle.dx_stages.specs.Running.{Meets, FailedAt}
+use Rattle.dx_stages.specs.Ending.{PlanContent, WroteFirst, Ends, Counts, IsOutside, IsRefusedAs}
 
 -- ---- worlds
 

@@ -3,12 +3,13 @@ use Rattle.std.proofs.Common.{◌≡◌, ◌⊎◌, ◌≤◌, ℕ, List, [], �
 use Rattle.std.specs.Result.{IsErrAnd}
 use Rattle.dx_ports.specs.Entries.{FileMap}
 use Rattle.dx_ports.specs.Faults.{Rose}
+use Rattle.dx_ports.specs.States.{InputState}
 use Rattle.dx_stages.specs.declared.stop.Stop.{Stop}
 use Rattle.dx_stages.specs.declared.stop.Stop.TheVariants as stops
 use Rattle.dx_stages.specs.Worlds.{World, Agrees, HoldsFound, WasAsked}
 use Rattle.dx_stages.specs.Stages.{Stage, next, stay, each, by, over, into, file, saying, become}
 use Rattle.dx_stages.specs.Laws.{AsksOtherFiles}
-use Rattle.dx_stages.specs.Running.{Answers, Meets, Gives, InputState, FailedAt, Ran, with_refusal}
+use Rattle.dx_stages.specs.Running.{Answers, Meets, Gives, FailedAt, Ran, with_refusal}
 use Rattle.dx_stages.proofs.Worlds.{agrees_both, told_both, has_either, once_both, a_world}
 
 -- ---- what follows of one stage

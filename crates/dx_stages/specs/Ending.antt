@@ -2,6 +2,7 @@
 use Rattle.std.specs.Prelude.{◌≡◌, ◌⊎◌, ◌<◌, ◌≤◌, ℕ, List, take, length, Option, IfSome, Result, Ok, Err}
 use Rattle.dx_ports.specs.Entries.{Entry, entries_of, appended, GrewByPrefix}
 use Rattle.dx_ports.specs.Faults.{Rose}
+use Rattle.dx_ports.specs.States.{InputState, OutputState}
 use Rattle.dx_stages.specs.declared.stop.Stop.{Stop}
 use Rattle.dx_stages.specs.declared.stop.Stop.TheVariants as stops
 use Rattle.dx_stages.specs.declared.writing.WriteStop.{WriteStop}
@@ -11,7 +12,6 @@ use Rattle.dx_stages.specs.declared.plan.Ended.{Ended}
 use Rattle.dx_stages.specs.declared.plan.Ended.TheVariants as endeds
 use Rattle.dx_stages.specs.Worlds.{World, IsOf}
 use Rattle.dx_stages.specs.Stages.{Stage}
-use Rattle.dx_stages.specs.Running.{InputState}
 
 -- ---- what is planned, and what is written of it
 
@@ -28,11 +28,6 @@ planned_of p = record { done = p.done; files = entries_of p.files.items; text = 
 abbrev pub planned : {D R : Type 0} → Result (Plan D) (Stop R) → Result (PlanContent D) (Stop R)
 planned (Ok p) = Ok (planned_of p)
 planned (Err e) = Err e
-
--- what the outputs tell
-pub record OutputState : Type 0 where
-  pub files : Option (List Entry)
-  pub said : Option (List ℕ)
 
 -- all was written and said
 pub record WroteAll (files : List Entry) (text : List ℕ) (old new : OutputState) : Type 0 where

@@ -2,6 +2,7 @@
 use Rattle.std.specs.Prelude.{◌≡◌, ◌⊎◌, ◌≤◌, ℕ, List, Option, IfSome, Result, Ok, Err}
 use Rattle.dx_ports.specs.Entries.{FileMap}
 use Rattle.dx_ports.specs.Faults.{Rose}
+use Rattle.dx_ports.specs.States.{InputState}
 use Rattle.dx_stages.specs.declared.stop.Stop.{Stop}
 use Rattle.dx_stages.specs.declared.stop.Stop.TheVariants as stops
 use Rattle.dx_stages.specs.Worlds.{World, Found, Agrees, HoldsFound, IsOnce, WasAsked}
@@ -20,12 +21,6 @@ Gives s a (Ok b) = (c : World) → s.passes c a b
 Gives s a (Err (stops.Refused e)) = (c : World) → s.refuses c a e
 Gives s a (Err (stops.Failed n)) = ⊥
 Gives s a (Err stops.Memory) = Unit {0}
-
--- what the inputs tell
-pub record InputState : Type 0 where
-  pub holds : Option FileMap
-  pub faults : ℕ
-  pub stopped : Option (List ℕ)
 
 -- a read failed at this name, and else none failed
 abbrev pub FailedAt : {E B : Type 0} → InputState → InputState → Result B (Stop E) → Type 0

@@ -10,6 +10,5 @@ abbrev pub invariant-loop-table : goal.invariant-loop-table
 invariant-loop-table g l = record {
   fit : GivenReadFits l.schema l.table l.so_far;
   read : Ran (each (given_reading l.schema) (range_with_len 0 l.table)) (none_read l.bytes_left) (Ok (read_of l.so_far))
-      (record { holds = g.I.Inputs.holds l.initial.inputs; faults = g.I.Inputs.faults l.initial.inputs; stopped = g.I.Inputs.stopped l.initial.inputs })
-      (record { holds = g.I.Inputs.holds l.inputs; faults = g.I.Inputs.faults l.inputs; stopped = g.I.Inputs.stopped l.inputs });
+      (g.I.Inputs.state l.initial.inputs) (g.I.Inputs.state l.inputs);
 }

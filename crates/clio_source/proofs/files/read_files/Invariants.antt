@@ -14,6 +14,5 @@ invariant-loop-tree g l =
       fit : ReadFits l.schema l.root l.so_far;
       blank : UnusedAreBlank l.used l.schema l.so_far;
       read : RanTo l.used (each (reading l.schema) (first_roots l.tree-items l.tree-index)) at_start (Ok l.so_far)
-          (record { holds = g.I.Inputs.holds l.initial.inputs; faults = g.I.Inputs.faults l.initial.inputs; stopped = g.I.Inputs.stopped l.initial.inputs })
-          (record { holds = g.I.Inputs.holds l.inputs; faults = g.I.Inputs.faults l.inputs; stopped = g.I.Inputs.stopped l.inputs });
+          (g.I.Inputs.state l.initial.inputs) (g.I.Inputs.state l.inputs);
     }
