@@ -18,6 +18,7 @@ use clio_ending::{Done, Refusal, with_source_refusal};
 use clio_files::verdict_text;
 use clio_given::read_given;
 use clio_steps::{Side, read_mapping, read_used_rows};
+use dx_exchange::Task;
 use dx_funcs::{Host, Meaning, Tests};
 use dx_instance::Instance;
 use dx_judge::{JudgeFault, Verdict, judge};
@@ -60,16 +61,15 @@ where
 {
     let rules = mapping.rules.items();
     let Mapping { source, target, .. } = mapping;
-    match judge(
-        alloc,
+    let task = Task {
         rules,
         source,
         target,
         rows,
         host,
-        given,
-        TARGET_CELLS,
-    ) {
+        limit: TARGET_CELLS,
+    };
+    match judge(alloc, &task, given) {
         Ok(verdict) => Ok(verdict),
         Err(JudgeFault::Limit(limit)) => Err(Stop::Refused(Refusal::Limit(limit))),
         Err(JudgeFault::Memory) => Err(Stop::Memory),

@@ -10,7 +10,7 @@ ghost use Rattle.clio_steps.specs.Steps.{named_stage};
 
 use clio_accept::Mapping;
 use clio_ending::{Refusal, named_clash};
-use dx_exchange::{ExFault, Exchange, Mode, exchange};
+use dx_exchange::{ExFault, Exchange, Mode, Task, exchange};
 use dx_funcs::{Host, Meaning};
 use dx_instance::Instance;
 use dx_ports::limits::TARGET_CELLS;
@@ -37,7 +37,15 @@ where
 {
     let rules = mapping.rules.items();
     let Mapping { source, target, .. } = mapping;
-    match exchange(alloc, rules, source, target, rows, host, mode, TARGET_CELLS) {
+    let task = Task {
+        rules,
+        source,
+        target,
+        rows,
+        host,
+        limit: TARGET_CELLS,
+    };
+    match exchange(alloc, &task, mode) {
         Ok(exchange) => Ok(exchange),
         Err(ExFault::Clash(clash)) => Err(Stop::Refused(named_clash(alloc, clash, target)?)),
         Err(ExFault::Limit(limit)) => Err(Stop::Refused(Refusal::Limit(limit))),
