@@ -1,9 +1,8 @@
 """What a refusal of a query leaves out: the line, the word, and the sets and variables that exist there."""
 import os
 import re
-from typing import NamedTuple
 
-from grammar import Token
+from queries import QueryGrammar
 from refusals import Refusal
 from schema import tables_of
 
@@ -12,31 +11,8 @@ from .placed import MappingText, PlacedReader, token_length
 from .said import amount, listed, visible, with_caret
 
 
-class PartText(NamedTuple):
-    """A part of a query as it is written: the word `answer`, what is answered, and the atoms."""
-    word: Token
-    answer: list
-    atoms: list
-
-
-class QueryReader(PlacedReader):
-    """Reads the grammar of queries."""
-
-    def query(self):
-        """The parts of a whole text, one after the other."""
-        for one in ('"query"', '"1"', ";"):
-            self.take(one)
-        yield self.part()
-        while not self.is_at_end():
-            yield self.part()
-
-    def part(self):
-        """A part, up to its semicolon."""
-        word = self.take('"answer"')
-        self.take("(")
-        answer = self.listed(lambda: self.take("word", "string"), ")")[0]
-        self.take('"from"')
-        return PartText(word, answer, self.listed(lambda: self.call("word", "string"), ";")[0])
+class PlacedQueryReader(QueryGrammar, PlacedReader):
+    """Reads the grammar of queries, and keeps where it stopped."""
 
 
 class QueryText:
@@ -44,7 +20,7 @@ class QueryText:
 
     def __init__(self, content):
         self.content, self.refusal, self.parts = content, None, []
-        self.reader = QueryReader(content)
+        self.reader = PlacedQueryReader(content)
         try:
             for part in self.reader.query():
                 self.parts.append(part)

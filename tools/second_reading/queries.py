@@ -22,19 +22,19 @@ class Part(NamedTuple):
     atoms: list
 
 
-class QueryReader(Reader):
-    """Reads the grammar of queries."""
+class QueryGrammar:
+    """The grammar of queries, over what a reader takes."""
 
     def query(self):
-        """A whole text: at least one part."""
+        """The parts of a whole text, at least one, one after the other."""
         for one in ('"query"', '"1"', ";"):
             self.take(one)
-        parts = [self.part()]
+        yield self.part()
         while not self.is_at_end():
-            parts.append(self.part())
-        return parts
+            yield self.part()
 
     def part(self):
+        """A part, up to its semicolon."""
         word = self.take('"answer"')
         self.take("(")
         answer = self.listed(lambda: self.take("word", "string"), ")")[0]
@@ -42,9 +42,13 @@ class QueryReader(Reader):
         return PartText(word, answer, self.listed(lambda: self.call("word", "string"), ";")[0])
 
 
+class QueryReader(QueryGrammar, Reader):
+    """Reads the grammar of queries."""
+
+
 def read_query(text, tables):
     """The parts of a query, or its first fault."""
-    texts = QueryReader(text).query()
+    texts = list(QueryReader(text).query())
     parts = [part_of(part, len(texts[0].answer), tables) for part in texts]
     if any(len(part.atoms) > QUERY_ATOMS for part in parts):
         raise Limit("query atoms", QUERY_ATOMS)
