@@ -1,5 +1,5 @@
 -- What is no solution, no null map and no image, what keys and orders do not ask, each on small values.
-use Rattle.std.proofs.Common.{◌≡◌, ◌<◌, ℕ, List, [], ◌∷◌, codes, refl, sym, ◌∙◌, ap, subst, arith}
+use Rattle.std.proofs.Common.{◌≡◌, ◌<◌, ℕ, zero, suc, List, [], ◌∷◌, codes, refl, sym, ◌∙◌, ap, subst, arith}
 use Rattle.std.specs.declared.cmp.Ordering.TheVariants.{Less, Greater}
 use Rattle.dx_ports.specs.Members.{◌∈◌, here, there, Each}
 use Rattle.dx_ports.specs.Texts.{Text}
@@ -16,7 +16,7 @@ use Rattle.dx_model.specs.declared.rules.Rule.{Rule}
 use Rattle.dx_model.specs.Values.{Conversions, constants, fact_cmp, null_cmp, row_cmp, tuple_cmp, value_cmp}
 use Rattle.dx_model.specs.Instances.{HoldsConstants, IsHomomorphism, IsNullMap, MapsInto, fact_both, fact_moved, nulls_in}
 use Rattle.dx_model.specs.Tables.{Determination, DeterminationsFit, FactFits, KeysHold, LinksHold, PairObeys, Table, key_of, table_of, values_in}
-use Rattle.dx_model.specs.Rules.{Increase, IsMatch, canonical, existentials, premise_fact}
+use Rattle.dx_model.specs.Rules.{Increase, IsMatch, IsRows, canonical, existentials, premise_fact}
 use Rattle.dx_model.specs.Solutions.{IsSolution, IsUniversal}
 use Rattle.dx_model.specs.Chase.{IsForcedMap}
 
@@ -135,6 +135,36 @@ both_atoms = refl
 
 row_of_constants : constants (codes "ann" ∷ codes "bob" ∷ []) ≡ ann ∷ bob ∷ []
 row_of_constants = refl
+
+-- emp(x0, x1) -> person(x0, y0): two matches that agree on what is exported are one row
+abbrev first_of_two : Rule
+first_of_two = record { premise = atom 0 (Var 0 ∷ Var 1 ∷ []) ∷ []; derived = []; conclusion = atom 0 (Var 0 ∷ Ex 0 ∷ []) ∷ [] }
+
+abbrev ann_with_two : List Fact
+ann_with_two = fact 0 (ann ∷ bob ∷ []) ∷ fact 0 (ann ∷ rome ∷ []) ∷ []
+
+abbrev ann_then_bob : ℕ → Text
+ann_then_bob zero = codes "ann"
+ann_then_bob (suc x) = codes "bob"
+
+one_row : (convert : Conversions) → IsRows convert first_of_two ann_with_two ((codes "ann" ∷ []) ∷ [])
+one_row convert = record { ascend = ((λ x m. elim m [ ]), tt); exact = λ t. (from t, (λ w. listed t w.0 w.1 w.2)) }
+  where
+    premise : (a : Atom) → a ∈ first_of_two.premise → premise_fact ann_then_bob a ∈ ann_with_two
+    premise a (here e) = subst (λ (b : Atom). premise_fact ann_then_bob b ∈ ann_with_two) e (here refl)
+    premise a (there m) = elim m [ ]
+
+    from : (t : List Text) → t ∈ ((codes "ann" ∷ []) ∷ []) → (texts : ℕ → Text) × IsMatch convert first_of_two ann_with_two texts × (t ≡ texts 0 ∷ [])
+    from t (here e) = (ann_then_bob, record { premise = premise; derived = tt }, sym e)
+    from t (there m) = elim m [ ]
+
+    is_ann : (texts : ℕ → Text) → premise_fact texts (atom 0 (Var 0 ∷ Var 1 ∷ [])) ∈ ann_with_two → codes "ann" ≡ texts 0
+    is_ann texts (here e) = let d : (ann ∷ bob ∷ []) ≡ (Const (texts 0) ∷ Const (texts 1) ∷ []) = ap (λ (f : Fact). f.row) e in cc
+    is_ann texts (there (here e)) = let d : (ann ∷ rome ∷ []) ≡ (Const (texts 0) ∷ Const (texts 1) ∷ []) = ap (λ (f : Fact). f.row) e in cc
+    is_ann texts (there (there m)) = elim m [ ]
+
+    listed : (t : List Text) (texts : ℕ → Text) → IsMatch convert first_of_two ann_with_two texts → t ≡ texts 0 ∷ [] → t ∈ ((codes "ann" ∷ []) ∷ [])
+    listed t texts m e = here (ap (λ (u : Text). u ∷ []) (is_ann texts (m.premise (atom 0 (Var 0 ∷ Var 1 ∷ [])) (here refl))) ∙ sym e)
 
 -- numbers that increase are distinct
 not_the_same_twice : ¬ (Increase (0 ∷ 0 ∷ []))
