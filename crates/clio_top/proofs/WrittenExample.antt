@@ -271,7 +271,10 @@ small_is_written P e before after d = written P e (wrote_all before after) d
 -- to show is to say its rule and the script of it, and to write nothing
 abbrev pub small_texts : Text
 small_texts =
-    codes "rule emp(x0) -> person(x0, y0);\nCREATE TABLE target.\"person\" (\"name\" TEXT, \"phone\" TEXT);\nCREATE TABLE m0 AS SELECT DISTINCT a0.\"name\" AS c0 FROM source.\"emp\" AS a0;\nINSERT INTO target.\"person\" SELECT m.c0, SKOLEM(0, 0, m.place) FROM m0 AS m;\n"
+    codes "rule emp(x0) -> person(x0, y0);\n"
+    ++ (codes "CREATE TABLE target.\"person\" (\"name\" TEXT, \"phone\" TEXT);\n"
+    ++ (codes "CREATE TABLE m0 AS SELECT DISTINCT a0.\"name\" AS c0 FROM source.\"emp\" AS a0;\n"
+    ++ codes "INSERT INTO target.\"person\" SELECT m.c0, SKOLEM(0, 0, m.place) FROM m0 AS m;\n"))
 
 texts_are : (P : Program) → contents_of (texts_told emps persons P.list Plain (rule ∷ [])) ≡ small_texts
 unfolding digits

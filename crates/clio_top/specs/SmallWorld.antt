@@ -1,5 +1,5 @@
 -- What an exchange writes in the small world, byte by byte.
-use Rattle.std.specs.Prelude.{List, [], ◌∷◌, codes}
+use Rattle.std.specs.Prelude.{List, [], ◌∷◌, ◌++◌, codes}
 use Rattle.dx_ports.specs.Entries.{Entry}
 use Rattle.dx_ports.specs.States.{OutputState}
 use Rattle.dx_ports.specs.Texts.{Text}
@@ -16,7 +16,9 @@ small_files =
     (codes "rules.txt", codes "rule emp(x0) -> person(x0, y0);\n")
     ∷ (
       codes "script.sql",
-      codes "CREATE TABLE target.\"person\" (\"name\" TEXT, \"phone\" TEXT);\nCREATE TABLE m0 AS SELECT DISTINCT a0.\"name\" AS c0 FROM source.\"emp\" AS a0;\nINSERT INTO target.\"person\" SELECT m.c0, SKOLEM(0, 0, m.place) FROM m0 AS m;\n",
+      codes "CREATE TABLE target.\"person\" (\"name\" TEXT, \"phone\" TEXT);\n"
+          ++ (codes "CREATE TABLE m0 AS SELECT DISTINCT a0.\"name\" AS c0 FROM source.\"emp\" AS a0;\n"
+          ++ codes "INSERT INTO target.\"person\" SELECT m.c0, SKOLEM(0, 0, m.place) FROM m0 AS m;\n"),
     )
     ∷ (codes "person.csv", codes "name,phone\nann,?0.0.0\nbob,?0.0.1\n")
     ∷ (codes "nulls.csv", codes "null,variable,value\n?0.0.0,x0,ann\n?0.0.1,x0,bob\n")
