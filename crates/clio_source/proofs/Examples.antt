@@ -1,12 +1,13 @@
--- Departments with their employees, and cities: the files of their roots, and the cells of their facts.
-use Rattle.std.proofs.Common.{◌≡◌, ℕ, List, [], ◌∷◌, codes, refl}
+-- Departments with their employees, and cities: the files of their roots, their bytes, and the cells of their facts.
+use Rattle.std.proofs.Common.{◌≡◌, ℕ, List, [], ◌∷◌, codes, refl, ap, arith, inr, Some}
 use Rattle.std.specs.Prelude.{Ok, Err}
 use Rattle.dx_ports.specs.Members.{here, there}
 use Rattle.dx_model.specs.declared.values.Value.TheVariants.{Const}
 use Rattle.dx_model.specs.declared.facts.Fact.{Fact}
 use Rattle.dx_schema.specs.Forest.{Forest, none, set, bare_set}
 use Rattle.clio_source.specs.Agreeing.{IsFlatRoot}
-use Rattle.clio_source.specs.Source.{ReadState, fact_cells, file_at, roots, too_many_cells, with_facts}
+use Rattle.dx_stages.specs.Worlds.{World}
+use Rattle.clio_source.specs.Source.{ReadState, SaysSourceFacts, as_facts, fact_cells, fetching, file_at, flat, roots, too_many_bytes, too_many_cells, with_facts}
 
 abbrev depts : Forest
 depts =
@@ -56,3 +57,26 @@ they_fit = refl
 
 one_too_many : with_facts depts (before 7, said) ≡ Err too_many_cells
 one_too_many = refl
+
+-- rows are facts of their own table
+of_the_third_table : as_facts 2 ((Const (codes "rome") ∷ []) ∷ []) ≡ record { table = 2; row = Const (codes "rome") ∷ [] } ∷ []
+of_the_third_table = refl
+
+-- ---- bytes: five are left
+
+abbrev all_are : List ℕ → World
+all_are bytes name = Some bytes
+
+abbrev city : List ℕ
+city = codes "city.csv"
+
+-- a file may have as many as are left, and not one more
+five_come : (fetching city).passes (all_are (codes "name\n")) (before 8) (before 8, codes "name\n")
+five_come = (codes "name\n", (refl, omega arith), refl)
+
+six_do_not : (fetching city).refuses (all_are (codes "names\n")) (before 8) too_many_bytes
+six_do_not = inr (codes "names\n", refl, omega arith, refl)
+
+-- and then so many fewer are left
+none_is_left : (q : ReadState × List Fact) → SaysSourceFacts flat depts 2 (before 8, codes "name\n") q → q.0.bytes_left ≡ 0
+none_is_left q x = ap (λ (r : ReadState × List Fact). r.0.bytes_left) x.2

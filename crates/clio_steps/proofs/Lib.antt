@@ -9,3 +9,4 @@ pub mod InWorld
 pub mod Reasons
 pub mod SameExchange
 pub mod There
+pub mod Solved

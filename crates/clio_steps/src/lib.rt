@@ -13,7 +13,7 @@ mod target;
 mod texts;
 
 pub use exchanging::exchange_files;
-pub use laws::an_exchange_or_a_refusal;
+pub use laws::{a_solution_or_none, an_exchange_or_a_refusal};
 pub use source::read_used_rows;
 pub use target::exchange_rows;
 pub use texts::{Side, read_mapping};

@@ -63,7 +63,7 @@ use Rattle.clio_top.proofs.Completing.{planned}
 
 -- ---- what is held
 
-abbrev text : Text
+abbrev pub text : Text
 text = codes "mapping 1; source { set emp { name; } } target { set person { name, phone; } } line emp.name -> person.name;"
 
 abbrev emp_bytes : List ℕ
@@ -73,10 +73,10 @@ emp_bytes = codes "name\nann\nbob\n"
 abbrev table_held : FileMap
 table_held = from_entries ((codes "emp.csv", emp_bytes) ∷ [])
 
-abbrev world : World
+abbrev pub world : World
 world = small_world
 
-has_text : world (codes "mapping.clio") ≡ Some text
+pub has_text : world (codes "mapping.clio") ≡ Some text
 has_text = get-insert nat_list_cmp_total table_held (codes "mapping.clio") text (codes "mapping.clio")
 
 has_table : world (codes "emp.csv") ≡ Some emp_bytes
@@ -203,10 +203,10 @@ scanned = refl
 
 -- ---- what they say
 
-abbrev emps : Forest
+abbrev pub emps : Forest
 emps = set (record { name = codes "emp"; columns = codes "name" ∷ []; keys = []; deps = []; refs = [] }) none none
 
-abbrev persons : Forest
+abbrev pub persons : Forest
 persons = set (record { name = codes "person"; columns = codes "name" ∷ codes "phone" ∷ []; keys = []; deps = []; refs = [] }) none none
 
 abbrev line : LineText
@@ -287,7 +287,7 @@ person_firm_links : (t : ℕ) → (table_of (model_tables persons) t).links ≡ 
 person_firm_links zero = refl
 person_firm_links (suc t) = refl
 
-person_determinations : (t : ℕ) → (table_of (model_tables persons) t).determinations ≡ []
+pub person_determinations : (t : ℕ) → (table_of (model_tables persons) t).determinations ≡ []
 person_determinations zero = refl
 person_determinations (suc t) = refl
 
@@ -310,7 +310,7 @@ premise_atom = record { table = 0; cells = Var 0 ∷ [] }
 abbrev conclusion_atom : Atom
 conclusion_atom = record { table = 0; cells = Var 0 ∷ Ex 0 ∷ [] }
 
-abbrev rule : Rule
+abbrev pub rule : Rule
 rule = record { premise = premise_atom ∷ []; derived = []; conclusion = conclusion_atom ∷ [] }
 
 abbrev pub mapping : Mapping
@@ -379,7 +379,7 @@ taken P =
       ),
     )
 
-accepted : (P : Program) → (accepting P.list P.tests).passes world text mapping
+pub accepted : (P : Program) → (accepting P.list P.tests).passes world text mapping
 accepted P = (said, is_text, (said, (emps_are, refl), (said, (persons_are, refl), (said, (names_free, refl), (rule ∷ [], taken P, refl)))))
 
 -- ---- the rows
@@ -446,12 +446,12 @@ rows_ascend zero = ((λ x m. less x m), ((λ x m. elim m [ ]), tt))
     less x (there m) = elim m [ ]
 rows_ascend (suc t) = tt
 
-is_source : (P : Program) → (source_stages P.passes).passes world (wanted mapping) rows
+pub is_source : (P : Program) → (source_stages P.passes).passes world (wanted mapping) rows
 is_source P = (read, (read, was_read, refl), record { widths_are = refl; ascend = rows_ascend; exact = ((λ x m. m), (λ x m. m)) })
 
 -- ---- the matches
 
-abbrev tuples : List Tuple
+abbrev pub tuples : List Tuple
 tuples = (codes "ann" ∷ []) ∷ (codes "bob" ∷ []) ∷ []
 
 -- the names are those of ann and of bob
@@ -467,7 +467,7 @@ matched convert name there_is = record { premise = λ a m. premise a m; derived 
     premise a (here e) = subst (λ (b : Atom). premise_fact (λ x. name) b ∈ facts rows) e there_is
     premise a (there m) = elim m [ ]
 
-are_rows : (convert : Conversions) → IsRows convert rule (facts rows) tuples
+pub are_rows : (convert : Conversions) → IsRows convert rule (facts rows) tuples
 are_rows convert = record { ascend = ((λ x m. less x m), ((λ x m. elim m [ ]), tt)); exact = λ t. (from t, (λ w. listed t w.0 w.1 w.2)) }
   where
     less : (x : Tuple) → x ∈ ((codes "bob" ∷ []) ∷ []) → tuple_cmp (codes "ann" ∷ []) x ≡ Less
@@ -501,7 +501,7 @@ abbrev person : Text → Fact
 person name = record { table = 0; row = Const name ∷ Const name ∷ [] }
 
 -- a name as a telephone would do
-abbrev solution : List Fact
+abbrev pub solution : List Fact
 solution = person (codes "ann") ∷ person (codes "bob") ∷ []
 
 person_there : (name : Text) → (codes "ann" ≡ name) ⊎ (codes "bob" ≡ name) → person name ∈ solution
@@ -523,7 +523,7 @@ fact_fits name = record { table = omega arith; width = refl }
 no_determination : (t : ℕ) (a b : List Value) → Each (table_of (model_tables persons) t).determinations (RowsObey a b)
 no_determination t a b d m = elim (subst (λ (ds : List Determination). d ∈ ds) (person_determinations t) m) [ ]
 
-solves : (convert : Conversions) → IsSolution convert (rule ∷ []) (model_tables persons) (facts rows) solution
+pub solves : (convert : Conversions) → IsSolution convert (rule ∷ []) (model_tables persons) (facts rows) solution
 solves convert = record {
   fits = λ f m. fits f m;
   rules = λ d m. each_rule d m;

@@ -14,3 +14,4 @@ pub mod Plans
 pub mod Ranges
 pub mod Reasons
 pub mod Writing
+pub mod WrittenExample

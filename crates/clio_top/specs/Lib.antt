@@ -7,3 +7,4 @@ pub mod FilesOf
 pub mod Outcomes
 pub mod Promises
 pub mod Leaving
+pub mod SmallWorld

@@ -3,6 +3,7 @@ ghost use Rattle.clio_top.specs.Promises.{AskedInOrder, ClashesAreOfTexts, DoneI
 ghost use Rattle.clio_top.specs.Promises.{MemoryIsNoReason, NoSolutionIsAClash, RefusedOrPlanned, UsageIsOfWords};
 ghost use Rattle.clio_top.specs.Completing.{AnswersArePlanned, DemoIsAClash, DemoIsPlanned, MappingIsShown, NoAnswerIsAClash, SmallIsPlanned, SolutionIsPlanned};
 ghost use Rattle.clio_top.specs.FilesOf.{ExchangesCanBeWritten};
+ghost use Rattle.clio_top.specs.SmallWorld.{SmallIsWritten};
 
 /// There is one reason to refuse a run, or a plan, and never both.
 pub fn refused_or_planned()
@@ -38,6 +39,11 @@ pub fn planned_if_there_is_something()
 /// There is a world in which an exchange is planned in each mode: a mapping of employees to persons, and two employees.
 pub fn an_exchange_is_planned()
     ensures { SmallIsPlanned }
+{}
+
+/// What an exchange that is done there writes, in plain mode, is exactly five files and a summary, byte by byte.
+pub fn an_exchange_writes_this()
+    ensures { SmallIsWritten }
 {}
 
 /// A run is refused with `Usage` exactly if its words say no command. Want of memory is no reason to refuse.

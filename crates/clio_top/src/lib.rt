@@ -25,8 +25,8 @@ pub use clio_ending::{Answers, Done, Ending, OtherFault, QueryFault, message};
 pub use clio_source::RowsFault;
 pub use file_list::files;
 pub use laws::{
-    an_exchange_is_planned, clash_exactly_without_solution, exchanges_can_be_written,
-    files_have_own_names, over_anything, planned_if_there_is_something, refused_or_planned,
-    usage_is_of_words,
+    an_exchange_is_planned, an_exchange_writes_this, clash_exactly_without_solution,
+    exchanges_can_be_written, files_have_own_names, over_anything, planned_if_there_is_something,
+    refused_or_planned, usage_is_of_words,
 };
 pub use top::run;

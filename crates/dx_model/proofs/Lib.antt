@@ -5,6 +5,7 @@ pub mod Closed
 pub mod CanonicalUniversal
 pub mod Orders
 pub mod Examples
+mod SolutionExamples
 pub mod Forced
 pub mod Decided
 pub mod OneMap

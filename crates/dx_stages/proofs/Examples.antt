@@ -2,6 +2,7 @@
 use Rattle.std.proofs.Common.{◌≡◌, ℕ, ◌+◌, List, [], ◌∷◌, ◌++◌, length, refl, sym, ap, inl, inr, arith, Option, Some, None, Result, Ok, Err}
 use Rattle.std.specs.FinMap.{get}
 use Rattle.dx_ports.specs.Entries.{Entry, FileMap}
+use Rattle.dx_ports.specs.Faults.{Rose}
 use Rattle.dx_ports.specs.States.{InputState, OutputState}
 use Rattle.dx_stages.specs.declared.stop.Stop.TheVariants as stops
 use Rattle.dx_stages.specs.declared.plan.Ended.{Ended}
@@ -9,7 +10,7 @@ use Rattle.dx_stages.specs.declared.plan.Ended.TheVariants as endeds
 use Rattle.dx_stages.specs.Worlds.{World, IsOf, Found, HoldsFound, IsOnce}
 use Rattle.dx_stages.specs.Stages.{Stage, next, each, file, computing}
 use Rattle.dx_stages.specs.Running.{Meets, FailedAt}
-use Rattle.dx_stages.specs.Ending.{PlanContent, WroteFirst, Ends, Counts, IsOutside, IsRefusedAs}
+use Rattle.dx_stages.specs.Ending.{PlanContent, WroteAll, WroteFirst, Ends, Counts, IsOutside, IsRefusedAs}
 
 -- ---- worlds
 
@@ -116,6 +117,13 @@ first_comes_first c = (1 ∷ [], refl, (1 ∷ 2 ∷ [], refl, refl))
 
 -- ---- what is counted
 
+-- one more, many more, and none more
+one_more_rose : Rose 4 5
+one_more_rose = omega arith
+
+none_more_did_not : ¬ (Rose 4 4)
+none_more_did_not h = omega (arith, h)
+
 abbrev told : ℕ → Option (List ℕ) → InputState
 told faults stopped = record { holds = None; faults = faults; stopped = stopped }
 
@@ -182,6 +190,20 @@ first_was_written = record { within = omega arith; put = refl; said = (0, refl);
 -- nothing is said before the last file
 nothing_is_said_before : ¬ (WroteFirst (first_file ∷ second_file ∷ []) (3 ∷ []) 1 (written [] []) (written (first_file ∷ []) (3 ∷ [])))
 nothing_is_said_before h = let e : Some (3 ∷ []) ≡ Some [] = h.silent (omega arith) in absurd (cc e)
+
+-- all was written if the text was said too, and each file; both come after what was there before
+said_too : ¬ (WroteAll (first_file ∷ []) (3 ∷ []) (written [] []) (written (first_file ∷ []) []))
+said_too h = let e : [] ≡ (3 ∷ []) = ap (λ (o : Option (List ℕ)). unwrapped o) h.said in absurd (cc e)
+
+each_file : ¬ (WroteAll (first_file ∷ second_file ∷ []) [] (written [] []) (written (first_file ∷ []) []))
+each_file h = let e : Some (first_file ∷ []) ≡ Some (first_file ∷ second_file ∷ []) = h.put in absurd (cc e)
+
+after_what_was_there : WroteAll (second_file ∷ []) (4 ∷ 5 ∷ []) (written (first_file ∷ []) (3 ∷ [])) (written (first_file ∷ second_file ∷ []) (3 ∷ 4 ∷ 5 ∷ []))
+after_what_was_there = record { put = refl; said = refl }
+
+-- a part of the text is its beginning
+a_part_was_said : WroteFirst [] (4 ∷ 5 ∷ []) 0 (written [] (3 ∷ [])) (written [] (3 ∷ 4 ∷ []))
+a_part_was_said = record { within = omega arith; put = refl; said = (1, refl); silent = λ h. absurd (omega (arith, h)) }
 
 -- what is refused, or could not be read, has written nothing
 refused_wrote_nothing : (s : Stage ℕ ℕ (PlanContent ℕ)) (c : World) → ¬ (Ends s c 0 (written [] []) (written (first_file ∷ []) []) (endeds.Refused 7))
