@@ -1,5 +1,6 @@
 -- Accepting a text, one stage after the other.
 use Rattle.std.specs.Prelude.{◌≡◌, ◌≤◌, ◌+◌, ℕ, List, None, length}
+use Rattle.dx_ports.specs.declared.limits.TheConstants.{LINES, RULES}
 use Rattle.dx_model.specs.declared.rules.Rule.{Rule}
 use Rattle.dx_stages.specs.Stages.{Stage, next, over, into, saying, checking, notions}
 use Rattle.dx_schema.specs.Forest.{Forest}
@@ -32,9 +33,9 @@ pub record TextsBetween : Type 0 where
   pub conditions : List OnlyText
   pub by_hand : List RuleText
 
--- at most 512 lines and conditions together
+-- not too many lines and conditions together
 abbrev pub line_count : Stage AcceptFault TextsBetween TextsBetween
-line_count = checking (λ b. LinesRefused b.lines b.conditions) (λ b. length b.lines + length b.conditions ≤ 512)
+line_count = checking (λ b. LinesRefused b.lines b.conditions) (λ b. length b.lines + length b.conditions ≤ LINES)
 
 -- the words of the lines name what there is
 abbrev pub naming : List Conversion → Stage AcceptFault TextsBetween TextsBetween
@@ -58,11 +59,11 @@ closing list =
     notions (λ b. WidthRefused (model_tables b.target) (written_of list b.source b.target b.by_hand))
     (λ b. AreRulesOf list b.source b.target b.lines b.by_hand)
 
--- at most 256 rules
+-- not too many rules
 abbrev pub rule_count : Stage AcceptFault (List Rule) (List Rule)
-rule_count = checking RulesRefused (λ R. length R ≤ 256)
+rule_count = checking RulesRefused (λ R. length R ≤ RULES)
 
--- at most 4,000,000 canonical cells on the frozen premise of each rule that pruning tests
+-- at most so many canonical cells on the frozen premise of each rule that pruning tests
 abbrev pub frozen_count : Stage AcceptFault (List Rule) (List Rule)
 frozen_count = checking FrozenRefused (λ R. ¬ (PruningPassesLimit frozen_cells R))
 

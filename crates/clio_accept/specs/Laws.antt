@@ -1,5 +1,6 @@
 -- What holds of accepted mappings.
 use Rattle.std.specs.Prelude.{◌≡◌, ◌≤◌, ◌<◌, ◌-◌, ◌^◌, ℕ, List, length}
+use Rattle.dx_ports.specs.declared.limits.TheConstants.{RULES}
 use Rattle.dx_ports.specs.Members.{Each}
 use Rattle.dx_model.specs.Solutions.{IsClosed}
 use Rattle.dx_model.specs.Fitting.{RuleFits}
@@ -18,7 +19,7 @@ use Rattle.clio_accept.specs.declared.mapping.Mapping.{Mapping}
 use Rattle.clio_accept.specs.Accepting.{accepting}
 use Rattle.clio_accept.specs.Mapping.{NoneReserved}
 
--- Both schemas are faultless and their names are words; each condition is about a column of the source and has a listed row test; at most 256 rules are left; each fits the schemas, is closed under the
+-- Both schemas are faultless and their names are words; each condition is about a column of the source and has a listed row test; not too many rules are left; each fits the schemas, is closed under the
 -- links of the target, and has conversions of the list alone, each of as many arguments as it takes.
 pub record MappingFits (list : List Conversion) (tests : List RowTest) (M : Mapping) : Type 0 where
   pub source : IsFaultless M.source
@@ -27,7 +28,7 @@ pub record MappingFits (list : List Conversion) (tests : List RowTest) (M : Mapp
   pub target_names : HaveWordNames M.target
   pub columns : Each M.conditions (λ c. IsSchemaColumn (model_tables M.source) c.place)
   pub tested : Each M.conditions (ConditionIsListed tests)
-  pub few : length M.rules ≤ 256
+  pub few : length M.rules ≤ RULES
   pub fit : Each M.rules (RuleFits (model_tables M.source) (model_tables M.target))
   pub closed : Each M.rules (IsClosed (model_tables M.target))
   pub premises : Each M.rules (λ d. AreAtomsOf M.source d.premise)

@@ -2,6 +2,7 @@
 use Rattle.std.specs.Prelude.{◌≡◌, ◌⊎◌, ℕ, ◌+◌, ◌<◌, ◌≤◌, List, [], ◌∷◌, ◌++◌, Option, Some, length, codes}
 use Rattle.dx_ports.specs.declared.file.Count.TheVariants.{Depth, FrozenCells, Lines, Occurrences, Rules}
 use Rattle.dx_ports.specs.declared.file.Limit.{Limit}
+use Rattle.dx_ports.specs.declared.limits.TheConstants.{DEPTH, FROZEN_CELLS, LINES, OCCURRENCES, RULES}
 use Rattle.dx_ports.specs.Members.{◌∈◌}
 use Rattle.dx_model.specs.declared.rules.Atom.{Atom}
 use Rattle.dx_model.specs.declared.rules.Rule.{Rule}
@@ -56,7 +57,7 @@ pub record IsFirstReserved (f : Forest) (name : List ℕ) : Type 0 where
 -- why a mapping is refused, if this is the fault of its text, of its source sets, of its target sets
 abbrev pub text_refusal : TextFault → AcceptFault
 text_refusal (text_faults.At place kind) = faults.Mapping (map_faults.Text place kind)
-text_refusal (text_faults.TooDeep place) = faults.Limit (record { what = Depth; number = 16 })
+text_refusal (text_faults.TooDeep place) = faults.Limit (record { what = Depth; number = DEPTH })
 text_refusal text_faults.Memory = faults.Memory
 
 -- and if this is the fault of the limits of its lines
@@ -95,11 +96,11 @@ limit_of list source target lines = passed_limit (lines_of source target list li
 abbrev pub written_of : List Conversion → Forest → Forest → List RuleText → List Rule
 written_of list source target by_hand = said_rules_of source target list by_hand
 
--- e is the closing of d, and neither the premise nor the closed conclusion has more than 64 atoms
+-- e is the closing of d, and neither the premise nor the closed conclusion has too many atoms
 pub record IsNarrowClosing (schema : List Table) (d e : Rule) : Type 0 where
   pub closing : IsClosingOf schema d e
-  pub premise : length d.premise ≤ 64
-  pub conclusion : length e.conclusion ≤ 64
+  pub premise : length d.premise ≤ OCCURRENCES
+  pub conclusion : length e.conclusion ≤ OCCURRENCES
 
 -- each of these rules is the closing of one of those, in order
 abbrev pub AreClosings : List Table → List Rule → List Rule → Type 0
@@ -108,9 +109,9 @@ AreClosings schema [] (e ∷ es) = ⊥
 AreClosings schema (d ∷ ds) [] = ⊥
 AreClosings schema (d ∷ ds) (e ∷ es) = IsNarrowClosing schema d e × AreClosings schema ds es
 
--- a rule is too wide: its premise has more than 64 atoms, or each closing of its conclusion has
+-- a rule is too wide: its premise has too many atoms, or each closing of its conclusion has
 abbrev pub IsTooWide : List Table → Rule → Type 0
-IsTooWide schema d = (64 < length d.premise) ⊎ ((E : List Atom) → IsClosing schema d.conclusion E → 64 < length E)
+IsTooWide schema d = (OCCURRENCES < length d.premise) ⊎ ((E : List Atom) → IsClosing schema d.conclusion E → OCCURRENCES < length E)
 
 -- the rules of lines, and after them the closed hand-written rules
 pub record AreRulesOf (list : List Conversion) (source target : Forest) (lines : List LineText) (by_hand : List RuleText) (R : List Rule) : Type 0 where
@@ -133,7 +134,7 @@ NameRefused f e = (name : List ℕ) × IsFirstReserved f name × (e ≡ faults.M
 
 -- there are too many lines and conditions
 abbrev pub LinesRefused : List LineText → List OnlyText → AcceptFault → Type 0
-LinesRefused lines conditions e = (512 < length lines + length conditions) × (e ≡ faults.Limit (record { what = Lines; number = 512 }))
+LinesRefused lines conditions e = (LINES < length lines + length conditions) × (e ≡ faults.Limit (record { what = Lines; number = LINES }))
 
 -- a word of a line names nothing, or a conversion has another number of arguments
 abbrev pub NamingRefused : List Conversion → Forest → Forest → List LineText → AcceptFault → Type 0
@@ -153,7 +154,7 @@ LimitRefused list source target lines e = (l : Limit) × (limit_of list source t
 
 -- what is answered of a rule that is too wide
 abbrev pub TooWide : AcceptFault
-TooWide = faults.Limit (record { what = Occurrences; number = 64 })
+TooWide = faults.Limit (record { what = Occurrences; number = OCCURRENCES })
 
 -- a hand-written rule is too wide
 abbrev pub WidthRefused : List Table → List Rule → AcceptFault → Type 0
@@ -161,11 +162,11 @@ WidthRefused schema written e = (d : Rule) × (d ∈ written) × IsTooWide schem
 
 -- there are too many rules
 abbrev pub RulesRefused : List Rule → AcceptFault → Type 0
-RulesRefused R e = (256 < length R) × (e ≡ faults.Limit (record { what = Rules; number = 256 }))
+RulesRefused R e = (RULES < length R) × (e ≡ faults.Limit (record { what = Rules; number = RULES }))
 
 -- how many canonical cells a frozen premise may have
 abbrev pub frozen_cells : ℕ
-frozen_cells = 4000000
+frozen_cells = FROZEN_CELLS
 
 -- a rule that pruning tests has a frozen premise with too many canonical cells
 abbrev pub FrozenRefused : List Rule → AcceptFault → Type 0

@@ -72,7 +72,7 @@ fn push_closed(
 
 // Refused are more than 512 lines and conditions together.
 fn count_lines(lines: &[LineText], conditions: &[OnlyText]) -> Result<(), AcceptFault>
-    ensures few { OnOk result (length lines.now + length conditions.now ≤ 512) }
+    ensures few { OnOk result (length lines.now + length conditions.now ≤ LINES) }
     ensures many { IfErr result (LinesRefused lines.now conditions.now) }
 {
     let lines = lines.len() as u64;

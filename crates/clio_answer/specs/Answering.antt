@@ -2,6 +2,7 @@
 use Rattle.std.specs.Prelude.{◌≡◌, ◌<◌, ◌≤◌, ◌*◌, ℕ, List, codes, length}
 use Rattle.dx_ports.specs.Members.{◌∈◌}
 use Rattle.dx_ports.specs.declared.file.Count.TheVariants.{AnswerCells, QueryAtoms, QueryBytes}
+use Rattle.dx_ports.specs.declared.limits.TheConstants.{ANSWER_CELLS, QUERY_ATOMS, QUERY_BYTES}
 use Rattle.dx_stages.specs.Ending.{PlanContent}
 use Rattle.dx_stages.specs.Stages.{Stage, next, by, over, into, file, saying, checking, notions}
 use Rattle.dx_schema.specs.Forest.{Forest}
@@ -30,11 +31,11 @@ use Rattle.clio_steps.specs.Steps.{MappingAndRows, Program, mapping_stages, name
 
 -- how many bytes the text of a query may have
 abbrev pub query_bytes : ℕ
-query_bytes = 65536
+query_bytes = QUERY_BYTES
 
 -- how many cells the answers may have
 abbrev pub answer_cells : ℕ
-answer_cells = 4000000
+answer_cells = ANSWER_CELLS
 
 abbrev pub query_name : List ℕ
 query_name = codes "query.clio"
@@ -52,9 +53,9 @@ query_file = file query_name query_bytes absent_query long_query
 abbrev pub query_in_text : Forest → Stage TextFault (List ℕ) Query
 query_in_text target = notions (IsFaultOver target) (IsQueryOver target)
 
--- a part has more than 64 atoms
+-- a part has too many atoms
 abbrev pub HasManyAtoms : Query → Refusal → Type 0
-HasManyAtoms q e = (p : Part) × (p ∈ q.parts) × (64 < length p.atoms) × (e ≡ refusals.Limit (record { what = QueryAtoms; number = 64 }))
+HasManyAtoms q e = (p : Part) × (p ∈ q.parts) × (QUERY_ATOMS < length p.atoms) × (e ≡ refusals.Limit (record { what = QueryAtoms; number = QUERY_ATOMS }))
 
 abbrev pub few_atoms : Stage Refusal Query Query
 few_atoms = checking HasManyAtoms HasFewAtoms

@@ -29,7 +29,7 @@ use std::alloc::{AllocError, Global};
 
 // Whether no part of a query has more atoms than are accepted.
 fn have_few_atoms(parts: &[Part]) -> bool
-    ensures { IsTrue result ↔ Each parts.now (λ p. length p.atoms ≤ 64) }
+    ensures { IsTrue result ↔ Each parts.now (λ p. length p.atoms ≤ QUERY_ATOMS) }
 {
     for part in parts {
         if part.atoms.len() > QUERY_ATOMS {

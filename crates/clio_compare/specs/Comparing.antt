@@ -3,6 +3,7 @@ use Rattle.std.specs.Prelude.{◌≡◌, ◌⊎◌, ◌≤◌, ℕ, List, [], So
 use Rattle.dx_ports.specs.Entries.{Entry}
 use Rattle.dx_ports.specs.Members.{Each}
 use Rattle.dx_ports.specs.declared.file.Count.TheVariants.{FrozenCells}
+use Rattle.dx_ports.specs.declared.limits.TheConstants.{RULES}
 use Rattle.dx_ports.specs.Texts.{Text}
 use Rattle.dx_model.specs.declared.rules.Rule.{Rule}
 use Rattle.dx_stages.specs.Ending.{PlanContent}
@@ -124,5 +125,5 @@ compare_stages P = become (λ u q plan. IsComparedPlan q.0 q.1 plan) (comparison
 -- the rules of both mappings are few, have no derived variables, and fit the sets of the first
 pub record AreReady (p : Pair) : Type 0 where
   pub rules : AreComparable p.0.source p.0.target p.0.rules p.1.rules
-  pub few_first : length p.0.rules ≤ 256
-  pub few_second : length p.1.rules ≤ 256
+  pub few_first : length p.0.rules ≤ RULES
+  pub few_second : length p.1.rules ≤ RULES

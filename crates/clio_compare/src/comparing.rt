@@ -1,5 +1,6 @@
 // Two mappings, compared.
 ghost use Rattle.std.specs.Prelude.{◌≡◌, ◌↔◌, ◌≤◌, IfNone, IfOk, IfSome, IsTrue, length};
+ghost use Rattle.dx_ports.specs.declared.limits.TheConstants.{RULES};
 ghost use Rattle.dx_ports.specs.Entries.{entries_of};
 ghost use Rattle.dx_stages.specs.Ending.{planned};
 ghost use Rattle.dx_stages.specs.Running.{Gives, Ran};
@@ -42,7 +43,7 @@ fn are_free(first: &Mapping, second: &Mapping) -> bool
 
 // The number of the first rule with derived variables.
 fn first_derived(rules: &[Rule]) -> Option<u32>
-    requires { length rules.now ≤ 256 }
+    requires { length rules.now ≤ RULES }
     ensures none { IfNone result (ArePlain rules.now) }
     ensures some { IfSome result (IsFirstDerived rules.now) }
 {
@@ -56,8 +57,8 @@ fn first_derived(rules: &[Rule]) -> Option<u32>
 
 // The first rule with derived variables, of the first mapping or, if that has none, of the second.
 fn derived_in(first: &Mapping, second: &Mapping) -> Option<OtherFault>
-    requires first { length first.now.rules ≤ 256 }
-    requires second { length second.now.rules ≤ 256 }
+    requires first { length first.now.rules ≤ RULES }
+    requires second { length second.now.rules ≤ RULES }
     ensures none { IfNone result (AreBothPlain (first.now, second.now)) }
     ensures some { IfSome result (λ f. HasDerived (first.now, second.now) (OtherRefusal f)) }
 {
@@ -73,8 +74,8 @@ fn derived_in(first: &Mapping, second: &Mapping) -> Option<OtherFault>
 
 // Why two mappings can't be compared.
 fn difference(first: &Mapping, second: &Mapping) -> Option<OtherFault>
-    requires first { length first.now.rules ≤ 256 }
-    requires second { length second.now.rules ≤ 256 }
+    requires first { length first.now.rules ≤ RULES }
+    requires second { length second.now.rules ≤ RULES }
     ensures none { IfNone result ((c : World) → comparable.passes c (first.now, second.now) (first.now, second.now)) }
     ensures some { IfSome result (λ f. (c : World) → comparable.refuses c (first.now, second.now) (OtherRefusal f)) }
 {

@@ -3,6 +3,7 @@ use Rattle.std.specs.Prelude.{◌≡◌, ◌⊎◌, ◌-◌, ℕ, suc, List, [],
 use Rattle.std.specs.List.{AllZip, range_with_len}
 use Rattle.dx_ports.specs.Members.{Each}
 use Rattle.dx_ports.specs.declared.file.Count.TheVariants.{GivenCells}
+use Rattle.dx_ports.specs.declared.limits.TheConstants.{GIVEN_CELLS}
 use Rattle.dx_model.specs.declared.facts.Fact.{Fact}
 use Rattle.dx_model.specs.declared.values.Value.{Value}
 use Rattle.dx_model.specs.declared.values.Value.TheVariants.{Const}
@@ -45,7 +46,7 @@ pub record IsFirstNoRow (rows : List (List Value)) (r : ℕ) : Type 0 where
 
 -- how many cells all given rows may have
 abbrev pub given_cells : ℕ
-given_cells = 1000000
+given_cells = GIVEN_CELLS
 
 abbrev pub too_many_given_cells : SourceRefusal
 too_many_given_cells = refusals.Limit (record { what = GivenCells; number = given_cells })

@@ -10,7 +10,7 @@ use crate::names::given_name;
 use crate::reading::{Reading, at_start, load_given};
 use clio_source::{RowsFault, SourceRefusal};
 use dx_instance::Instance;
-use dx_ports::limits::DATA_BYTES;
+use dx_ports::limits::{DATA_BYTES, TABLES};
 use dx_ports::{Count, Inputs, Limit};
 use dx_schema::Schema;
 use dx_stages::{Stop, fetch};
@@ -64,11 +64,11 @@ fn read_files<I: Inputs>(
     bytes_left: u64,
 ) -> Result<Reading, Stop<SourceRefusal>>
     ensures fit { IfOk result (GivenReadFits schema.now (length (tables_of schema.now))) }
-    ensures few { length (tables_of schema.now) ≤ 64 }
+    ensures few { length (tables_of schema.now) ≤ TABLES }
     ensures read { Ran (given_files_stages schema.now) (none_read bytes_left) (shown_result result)
         (I.state inputs.old) (I.state inputs.new) }
 {
-    prove!(schema.tables() <= 64);
+    prove!(schema.tables() as u64 <= TABLES);
     let mut so_far = at_start(alloc, bytes_left);
     for table in 0..schema.tables() {
         so_far = read_table(alloc, inputs, schema, table, so_far)?;

@@ -2,6 +2,7 @@
 use Rattle.std.specs.Prelude.{◌≡◌, ◌-◌, ℕ, List, [], ◌++◌, length, map, sum_by, nat_lt, codes, if◌then◌else◌, Result, Ok, Err}
 use Rattle.dx_ports.specs.Members.{◌≈◌}
 use Rattle.dx_ports.specs.declared.file.Count.TheVariants.{DataBytes, SourceCells}
+use Rattle.dx_ports.specs.declared.limits.TheConstants.{DATA_BYTES, SOURCE_CELLS}
 use Rattle.dx_model.specs.declared.values.Value.{Value}
 use Rattle.dx_model.specs.declared.facts.Fact.{Fact}
 use Rattle.dx_model.specs.Values.{RowsAscend}
@@ -22,10 +23,10 @@ use Rattle.clio_source.specs.declared.fault.SourceRefusal.TheVariants as refusal
 
 -- how many bytes all source files may have, and how many cells all their facts
 abbrev pub data_bytes : ℕ
-data_bytes = 67108864
+data_bytes = DATA_BYTES
 
 abbrev pub source_cells : ℕ
-source_cells = 4000000
+source_cells = SOURCE_CELLS
 
 abbrev pub too_many_bytes : SourceRefusal
 too_many_bytes = refusals.Limit (record { what = DataBytes; number = data_bytes })

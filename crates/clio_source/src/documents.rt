@@ -16,6 +16,7 @@ use crate::reading::{Reading, too_many_cells};
 use dx_instance::{Fact, Gathered, Row, Rows, copy_value};
 use dx_json::{Facts, JsonFault, shred};
 use dx_ports::Text;
+use dx_ports::limits::TABLES;
 use dx_schema::Schema;
 use dx_stages::Stop;
 use json::Scratch;
@@ -159,7 +160,7 @@ fn add_root(
     ensures { OnOk result (AddsRoot schema.now (root + 1 + count (tree_at schema.now root).inner)
         symbols.old symbols.new tables.old.items tables.new.items facts.now) }
 {
-    prove!(schema.tables() <= 64);
+    prove!(schema.tables() as u64 <= TABLES);
     let end = root + 1 + schema.tree(root).inner.count();
     push_tables(alloc, schema, root, end, tables)?;
     push_facts(alloc, root, facts, symbols, tables)?;

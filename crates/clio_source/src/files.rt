@@ -18,6 +18,7 @@ use crate::tables::load_table;
 use dx_funcs::{Meaning, Tests};
 use dx_instance::Instance;
 use dx_lines::Condition;
+use dx_ports::limits::TABLES;
 use dx_ports::{Inputs, Items, Text};
 use dx_schema::Schema;
 use dx_stages::{Stop, fetch};
@@ -81,11 +82,11 @@ fn read_files<I: Inputs>(
 ) -> Result<Reading, Stop<SourceRefusal>>
     ensures fit { IfOk result (ReadFits schema.now (length (tables_of schema.now))) }
     ensures blank { IfOk result (UnusedAreBlank used.now schema.now) }
-    ensures few { length (tables_of schema.now) ≤ 64 }
+    ensures few { length (tables_of schema.now) ≤ TABLES }
     ensures read { RanTo used.now (files_stages schema.now) at_start result
         (I.state inputs.old) (I.state inputs.new) }
 {
-    prove!(schema.tables() <= 64);
+    prove!(schema.tables() as u64 <= TABLES);
     let mut so_far = at_start(alloc);
     let mut root = 0;
     for tree in schema.trees() {

@@ -1,6 +1,7 @@
 -- The stages that commands share: a mapping text, the rows of its source files, their exchange.
 use Rattle.std.specs.Prelude.{ℕ, List, codes}
 use Rattle.dx_ports.specs.declared.file.Count.TheVariants.{TextBytes}
+use Rattle.dx_ports.specs.declared.limits.TheConstants.{TEXT_BYTES, TARGET_CELLS}
 use Rattle.dx_model.specs.Values.{Conversions}
 use Rattle.dx_stages.specs.Stages.{Stage, next, by, over, into, file, saying}
 use Rattle.dx_schema.specs.Tables.{model_tables}
@@ -35,11 +36,11 @@ program list tests apply passes = record { list = list; tests = tests; apply = a
 
 -- how many bytes a mapping text may have
 abbrev pub text_bytes : ℕ
-text_bytes = 1048576
+text_bytes = TEXT_BYTES
 
 -- how many cells the canonical instance may have
 abbrev pub target_cells : ℕ
-target_cells = 4000000
+target_cells = TARGET_CELLS
 
 -- ---- the mapping texts
 

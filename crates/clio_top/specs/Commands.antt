@@ -2,6 +2,7 @@
 use Rattle.std.specs.Prelude.{◌≤◌, List}
 use Rattle.dx_stages.specs.Ending.{PlanContent}
 use Rattle.dx_stages.specs.Stages.{Stage, next, by, over, computing}
+use Rattle.dx_gen.specs.declared.files.TheConstants.{EMPLOYEES}
 use Rattle.clio_ending.specs.declared.ending.Done.{Done}
 use Rattle.clio_ending.specs.declared.ending.Refusal.{Refusal}
 use Rattle.clio_steps.specs.Steps.{Program}
@@ -31,11 +32,11 @@ saying_words = computing (λ words. or_usage (says words))
 abbrev pub run_stages : Program → Stage Refusal (List Word) (PlanContent Done)
 run_stages P = next saying_words (by (λ (c : Command). over (λ (d : Command). tt {0}) (stages_of P c)))
 
--- words can say it: the number of a demo is from 1 to 100,000
+-- words can say it: the number of a demo is from 1 to EMPLOYEES
 abbrev pub IsInRange : Command → Type 0
 IsInRange (Exchanging mode nested) = Unit {0}
 IsInRange (Showing mode) = Unit {0}
-IsInRange (Demonstrating number mode) = (1 ≤ number) × (number ≤ 100000)
+IsInRange (Demonstrating number mode) = (1 ≤ number) × (number ≤ EMPLOYEES)
 IsInRange Answering = Unit {0}
 IsInRange Judging = Unit {0}
 IsInRange Comparing = Unit {0}

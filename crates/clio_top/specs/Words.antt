@@ -2,6 +2,7 @@
 use Rattle.std.specs.Prelude.{ℕ, ◌*◌, ◌+◌, ◌-◌, List, [], ◌∷◌, Option, Some, None, Result, Ok, Err, Bool, true, false, eqb, nat_eq, nat_lt, ◌&&◌, ◌||◌, codes, if◌then◌else◌}
 use Rattle.std.specs.Cmp.Lexicographic.{pointwise}
 use Rattle.dx_tokens.specs.Tokens.{is_digit}
+use Rattle.dx_gen.specs.declared.files.TheConstants.{EMPLOYEES}
 use Rattle.dx_exchange.specs.declared.mode.Mode.{Mode}
 use Rattle.dx_exchange.specs.declared.mode.Mode.TheVariants.{Plain, Core}
 use Rattle.clio_ending.specs.declared.ending.Refusal.{Refusal}
@@ -25,13 +26,13 @@ is_nested w = same_word w (codes "--nested")
 
 -- ---- numerals
 
--- the number that digits say after those of n, as long as it is at most 100,000
+-- the number that digits say after those of n, as long as it is at most EMPLOYEES
 abbrev pub number_after : ℕ → Word → Option ℕ
 number_after n [] = Some n
 number_after n (b ∷ bs) =
-    let m = 10 * n + (b - 48) in if is_digit b && nat_lt m 100001 then number_after m bs else None
+    let m = 10 * n + (b - 48) in if is_digit b && nat_lt m (EMPLOYEES + 1) then number_after m bs else None
 
--- the number of a numeral without a leading zero, from 1 to 100,000
+-- the number of a numeral without a leading zero, from 1 to EMPLOYEES
 abbrev pub numeral_number : Word → Option ℕ
 numeral_number [] = None
 numeral_number (b ∷ bs) = if eqb b 48 then None else number_after 0 (b ∷ bs)

@@ -1,6 +1,7 @@
 // What is said of the exchange of a demo.
 ghost use Rattle.std.specs.Prelude.{◌≡◌, ◌≤◌, ◌++◌, codes, IfOk, OnOk, length, string_bytes};
 ghost use Rattle.std.specs.Fmt.{decimal};
+ghost use Rattle.dx_gen.specs.declared.files.TheConstants.{EMPLOYEES};
 ghost use Rattle.dx_stages.specs.Ending.{planned, planned_of};
 ghost use Rattle.dx_stages.specs.Running.{Gives};
 ghost use Rattle.dx_schema.specs.Tables.{schema_widths, tables_of};
@@ -99,7 +100,7 @@ where
     requires serves { Serves F.Fn M.apply host.now }
     requires decides { Decides P.Fn M.passes tests.now }
     requires some { 1 ≤ number }
-    requires few { number ≤ 100000 }
+    requires few { number ≤ EMPLOYEES }
     ensures { Gives (demo_stages (program (offered host.now) (tested tests.now) M.apply M.passes) number mode) (tt {0}) (planned result) }
 {
     let mut inputs = DemoInputs {

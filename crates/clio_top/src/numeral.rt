@@ -2,9 +2,8 @@
 ghost use Rattle.std.specs.Prelude.{◌≡◌};
 ghost use Rattle.clio_top.specs.Words.{number_after, numeral_number};
 
+use dx_gen::EMPLOYEES;
 use dx_ports::Text;
-
-const GREATEST: u32 = 100_000;
 
 // The number of digits; none if one is no digit, or the number of those up to it is over 100,000.
 fn number_of(digits: &[u8]) -> Option<u32>
@@ -16,7 +15,7 @@ fn number_of(digits: &[u8]) -> Option<u32>
             return None;
         }
         number = 10 * number + u32::from(*digit - b'0');
-        if number > GREATEST {
+        if number > EMPLOYEES {
             return None;
         }
     }

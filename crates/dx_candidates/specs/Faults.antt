@@ -2,6 +2,7 @@
 use Rattle.std.specs.Prelude.{◌≡◌, ◌⊎◌, Bool, true, List, Option, None, Some}
 use Rattle.dx_ports.specs.declared.file.Limit.{Limit}
 use Rattle.dx_ports.specs.declared.file.Count.TheVariants.{Variants, Occurrences, Ways, Candidates}
+use Rattle.dx_ports.specs.declared.limits.TheConstants.{VARIANTS, OCCURRENCES, WAYS, CANDIDATES}
 use Rattle.dx_model.specs.Tables.{Table}
 use Rattle.dx_logical.specs.declared.fault.ManyFault.{ManyFault}
 use Rattle.dx_logical.specs.declared.fault.ManyFault.TheVariants as unfolded
@@ -12,21 +13,21 @@ use Rattle.dx_ways.specs.declared.fault.WaysFault.TheVariants as many
 use Rattle.dx_candidates.specs.declared.fault.CandFault.{CandFault}
 use Rattle.dx_candidates.specs.declared.fault.CandFault.TheVariants.{TooMany, Memory}
 
--- at most 256 variants
+-- the limit of variants
 abbrev pub variants_limit : Limit
-variants_limit = record { what = Variants; number = 256 }
+variants_limit = record { what = Variants; number = VARIANTS }
 
--- at most 64 occurrences
+-- the limit of occurrences
 abbrev pub occurrences_limit : Limit
-occurrences_limit = record { what = Occurrences; number = 64 }
+occurrences_limit = record { what = Occurrences; number = OCCURRENCES }
 
--- at most 64 ways
+-- the limit of ways
 abbrev pub ways_limit : Limit
-ways_limit = record { what = Ways; number = 64 }
+ways_limit = record { what = Ways; number = WAYS }
 
--- at most 1,024 candidates
+-- the limit of candidates
 abbrev pub candidates_limit : Limit
-candidates_limit = record { what = Candidates; number = 1024 }
+candidates_limit = record { what = Candidates; number = CANDIDATES }
 
 -- a fault of unfoldings, as a fault of candidates
 abbrev pub unfoldings_fault : ManyFault → CandFault

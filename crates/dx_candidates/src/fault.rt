@@ -1,5 +1,6 @@
 // Why candidates aren't listed.
 use dx_logical::ManyFault;
+use dx_ports::limits::{OCCURRENCES, VARIANTS, WAYS};
 use dx_ports::{Count, Limit};
 use dx_ways::WaysFault;
 use std::alloc::AllocError;
@@ -35,11 +36,11 @@ impl From<ManyFault> for CandFault {
         match fault {
             ManyFault::TooMany => CandFault::TooMany(Limit {
                 what: Count::Variants,
-                number: 256,
+                number: VARIANTS,
             }),
             ManyFault::TooWide => CandFault::TooMany(Limit {
                 what: Count::Occurrences,
-                number: 64,
+                number: OCCURRENCES,
             }),
             ManyFault::Memory => CandFault::Memory,
         }
@@ -56,7 +57,7 @@ impl From<WaysFault> for CandFault {
         match fault {
             WaysFault::TooMany => CandFault::TooMany(Limit {
                 what: Count::Ways,
-                number: 64,
+                number: WAYS,
             }),
             WaysFault::Memory => CandFault::Memory,
         }

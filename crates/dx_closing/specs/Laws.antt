@@ -1,5 +1,6 @@
 -- What holds of closings.
 use Rattle.std.specs.Prelude.{◌≡◌, ◌<◌, ◌≤◌, ◌*◌, ◌++◌, List, length}
+use Rattle.dx_ports.specs.declared.limits.TheConstants.{OCCURRENCES, COLUMNS}
 use Rattle.dx_ports.specs.Members.{Each}
 use Rattle.dx_model.specs.declared.rules.Atom.{Atom}
 use Rattle.dx_model.specs.declared.rules.Rule.{Rule}
@@ -9,15 +10,15 @@ use Rattle.dx_schema.specs.Links.{IsAcyclic, LinksFit}
 use Rattle.dx_closing.specs.declared.growing.Growing.{Growing}
 use Rattle.dx_closing.specs.Closing.{IsClosing, IsClosingOf}
 
--- the atoms fit and are at most 64, with at most 64 existential variables for each
+-- the atoms fit and are not too many, with at most as many existential variables for each as a table may have columns
 pub record IsRoomy (schema : List Table) (C : Growing) : Type 0 where
   pub fit : Each C.atoms (AtomFits schema)
-  pub few : length C.atoms ≤ 64
-  pub next : C.next ≤ 64 * length C.atoms
+  pub few : length C.atoms ≤ OCCURRENCES
+  pub next : C.next ≤ COLUMNS * length C.atoms
 
 -- more atoms than a closing may have
 abbrev pub IsWideClosing : Growing → Type 0
-IsWideClosing C = 64 < length C.atoms
+IsWideClosing C = OCCURRENCES < length C.atoms
 
 -- ---- laws
 

@@ -13,6 +13,7 @@ use crate::growing::Growing;
 use crate::links::follow_atom;
 use crate::variables::above_all;
 use dx_model::Rule;
+use dx_ports::limits::OCCURRENCES;
 use dx_schema::Schema;
 use std::alloc::Global;
 
@@ -26,18 +27,18 @@ pub fn close(alloc: Global, rule: Rule, target: &Schema) -> Result<Rule, CloseFa
     requires fits { Each rule.conclusion (AtomFits (model_tables target.now)) }
     requires numbered { AreNumbered rule.conclusion }
     ensures closing { IfOk result (λ e. IsClosingOf (model_tables target.now) rule e) }
-    ensures narrow { IfOk result (λ e. length e.conclusion ≤ 64) }
+    ensures narrow { IfOk result (λ e. length e.conclusion ≤ OCCURRENCES) }
     ensures closed { IfOk result (λ e. IsClosed (model_tables target.now) e) }
     ensures numbered { IfOk result (λ e. AreNumbered e.conclusion) }
     ensures wide { IfErr result (λ e. e ≡ TooWide
-        → (E : List AtomRow) → IsClosing (model_tables target.now) rule.conclusion E → 64 < length E) }
+        → (E : List AtomRow) → IsClosing (model_tables target.now) rule.conclusion E → OCCURRENCES < length E) }
 {
     let Rule {
         premise,
         derived,
         conclusion,
     } = rule;
-    if conclusion.len() > 64 {
+    if conclusion.len() > OCCURRENCES {
         return Err(CloseFault::TooWide);
     }
     // Not the number is wanted, but what the call ensures of the tables of each schema.

@@ -15,6 +15,7 @@ use crate::fault::CloseFault;
 use crate::growing::Growing;
 use dx_model::{Atom, Cell, Link};
 use dx_ports::Items;
+use dx_ports::limits::OCCURRENCES;
 use dx_schema::Schema;
 use std::alloc::Global;
 
@@ -56,9 +57,9 @@ fn supply(
     requires roomy { IsRoomy (model_tables target.now) growing.old }
     ensures exact { OnOk result (growing.new ≡ supplied (model_tables target.now) growing.old link.now cells.now) }
     ensures roomy { OnOk result (IsRoomy (model_tables target.now) growing.new) }
-    ensures wide { IfErr result (λ e. e ≡ TooWide → 64 ≤ length growing.old.atoms) }
+    ensures wide { IfErr result (λ e. e ≡ TooWide → OCCURRENCES ≤ length growing.old.atoms) }
 {
-    if growing.atoms.len() >= 64 {
+    if growing.atoms.len() >= OCCURRENCES {
         return Err(CloseFault::TooWide);
     }
     let width = target.width(link.table);

@@ -1,5 +1,6 @@
 // The numbers of existential variables.
-ghost use Rattle.std.specs.Prelude.{◌≡◌, ◌<◌, flat_map};
+ghost use Rattle.std.specs.Prelude.{◌≡◌, ◌<◌, ◌*◌, flat_map};
+ghost use Rattle.dx_ports.specs.declared.limits.TheConstants.{OCCURRENCES, COLUMNS};
 ghost use Rattle.dx_ports.specs.Members.{Each};
 ghost use Rattle.dx_model.specs.Rules.{existential_in, existentials};
 ghost use Rattle.dx_closing.specs.Closing.{above};
@@ -9,7 +10,7 @@ use dx_model::{Atom, Cell};
 /// The least number from `next` on that is above those of the row's existential variables. These are below 4,096: 64
 /// atoms with 64 cells each have no more.
 fn above_row(next: u32, row: &[Cell]) -> u32
-    requires { Each (flat_map existential_in row.now) (λ v. v < 4096) }
+    requires { Each (flat_map existential_in row.now) (λ v. v < OCCURRENCES * COLUMNS) }
     ensures { result ≡ above next (flat_map existential_in row.now) }
 {
     let mut above = next;
@@ -24,7 +25,7 @@ fn above_row(next: u32, row: &[Cell]) -> u32
 /// The least number that is above those of all existential variables. These are below 4,096: 64 atoms with 64 cells
 /// each have no more.
 pub fn above_all(atoms: &[Atom]) -> u32
-    requires { Each (existentials atoms.now) (λ v. v < 4096) }
+    requires { Each (existentials atoms.now) (λ v. v < OCCURRENCES * COLUMNS) }
     ensures { result ≡ above 0 (existentials atoms.now) }
 {
     let mut above = 0;

@@ -9,6 +9,7 @@ use Rattle.dx_model.specs.declared.rules.Rule.{Rule}
 use Rattle.dx_model.specs.declared.covers.CellMap.{CellMap}
 use Rattle.dx_model.specs.declared.covers.Meeting.{Meeting}
 use Rattle.dx_model.specs.Covers.{is_cell_map, same_cell}
+use Rattle.dx_cover.specs.declared.states.TheConstants.{MOST_STATES}
 use Rattle.dx_cover.specs.declared.states.State.{State}
 use Rattle.dx_cover.specs.declared.states.Search.{Search}
 use Rattle.dx_cover.specs.declared.search.Outlook.{Outlook}
@@ -43,9 +44,9 @@ same_meetings _ _ = false
 abbrev pub same_state : State → State → Bool
 same_state s t = eqb s.left t.left && same_meetings s.meetings t.meetings
 
--- the states with one more, if they are fewer than 4096
+-- the states with one more, if they are fewer than MOST_STATES
 abbrev pub remembered : List State → State → List State
-remembered gone s = cond (nat_lt (length gone) 4096) (gone ++ s ∷ []) gone
+remembered gone s = cond (nat_lt (length gone) MOST_STATES) (gone ++ s ∷ []) gone
 
 -- the last n atoms
 abbrev pub last : ℕ → List Atom → List Atom

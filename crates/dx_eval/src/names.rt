@@ -1,5 +1,6 @@
 // Tables and columns by names that are there.
 ghost use Rattle.std.specs.Prelude.{◌≡◌, ◌<◌, ◌≤◌, length};
+ghost use Rattle.dx_ports.specs.declared.limits.TheConstants.{COLUMNS};
 ghost use Rattle.dx_ports.specs.Members.{◌∈◌};
 ghost use Rattle.dx_schema.specs.Names.{table_names_of};
 ghost use Rattle.dx_schema.specs.Tables.{tables_of};
@@ -27,7 +28,7 @@ pub(crate) fn table_number(schema: &Schema, name: &Text) -> u32
 pub(crate) fn table_width(schema: &Schema, name: &Text) -> u32
     requires { name.now ∈ table_names (table_names_of schema.now) }
     ensures width { result ≡ width_named (table_names_of schema.now) name.now }
-    ensures few { result ≤ 64 }
+    ensures few { result ≤ COLUMNS }
 {
     schema.width(table_number(schema, name))
 }

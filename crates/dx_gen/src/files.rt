@@ -8,6 +8,9 @@ use crate::rows::{dept_text, emp_text, phone_text};
 use dx_ports::{File, Text};
 use std::alloc::{AllocError, Global};
 
+/// The most employees of a demo.
+pub const EMPLOYEES: u32 = 100_000;
+
 fn file(alloc: Global, name: &str, text: String) -> Result<File, AllocError>
     ensures { IfOk result (λ f. entry_of f ≡ (name.now, string_bytes text)) }
 {
@@ -24,7 +27,7 @@ fn file(alloc: Global, name: &str, text: String) -> Result<File, AllocError>
 /// `AllocError` if there is no memory.
 pub fn demo_files(alloc: Global, number: u32) -> Result<Vec<File>, AllocError>
     requires some { 1 ≤ number }
-    requires few { number ≤ 100000 }
+    requires few { number ≤ EMPLOYEES }
     ensures { IfOk result (λ files. entries_of files.items ≡ demo number) }
 {
     let mut files = Vec::new(alloc);

@@ -8,4 +8,4 @@ mod files;
 mod mapping;
 mod rows;
 
-pub use files::demo_files;
+pub use files::{EMPLOYEES, demo_files};

@@ -1,6 +1,7 @@
 // Rows as a document.
 ghost use Rattle.std.specs.Prelude.{◌≡◌, ◌+◌, ◌<◌, ◌^◌, [], ◌∷◌, length, suc, string_bytes, IfOk, OnOk};
 ghost use Rattle.serde_json.specs.Data.{array, object, string};
+ghost use Rattle.dx_ports.specs.declared.limits.TheConstants.{TABLES};
 ghost use Rattle.dx_schema.specs.Tables.{count, schema_widths, tables_of, tree_at};
 ghost use Rattle.dx_instance.specs.Places.{IsFirstWith, row_at};
 ghost use Rattle.dx_instance.specs.Stored.{rows_of, table_at, widths};
@@ -72,7 +73,7 @@ fn column_up(tree: &SetTree) -> u32
 // An index of each column `#up` of sets, of which the first has this table.
 fn index_sets(instance: &mut Instance, sets: &Trees, first: u32) -> Result<(), AllocError>
     requires stand { Stand instance.old first sets.now }
-    requires few { count sets.now < 64 }
+    requires few { count sets.now < TABLES }
     requires room { first + count sets.now < 2 ^ 32 }
     ensures { instance.new ≡ instance.old }
 {
@@ -259,7 +260,7 @@ fn text_of_root(
     requires width { 0 < (table_at instance.now root).width }
     requires columns { HasColumns instance.now root tree.now }
     requires stand { Stand instance.now (suc root) tree.now.inner }
-    requires few { count tree.now.inner < 64 }
+    requires few { count tree.now.inner < TABLES }
     requires room { root + suc (count tree.now.inner) < 2 ^ 32 }
     ensures { IfOk result (λ text. string_bytes text ≡ nested_text instance.now tree.now root) }
 {

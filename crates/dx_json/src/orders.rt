@@ -1,5 +1,6 @@
 // The order of the members of objects.
 ghost use Rattle.std.specs.Prelude.{◌≡◌, ◌+◌, ◌<◌, ◌≤◌, ◌^◌, ◌++◌, [], length, suc, true, IfOk, OnOk};
+ghost use Rattle.dx_ports.specs.declared.limits.TheConstants.{TABLES};
 ghost use Rattle.dx_schema.specs.Tables.{count};
 ghost use Rattle.dx_instance.specs.Stored.{table_at};
 ghost use Rattle.dx_json.specs.Nesting.{own_from};
@@ -54,7 +55,7 @@ fn put_columns(
 
 // Puts a member for each of these inner sets, of which the first has this table.
 fn put_sets(alloc: Global, sets: &Trees, first: u32, order: &mut Order) -> Result<(), AllocError>
-    requires few { count sets.now < 64 }
+    requires few { count sets.now < TABLES }
     requires room { first + count sets.now < 2 ^ 32 }
     ensures { OnOk result (slots_of order.new.entries ≡ with_inner sets.now 0 first (slots_of order.old.entries)) }
 {
@@ -85,7 +86,7 @@ fn order_of(
     width: u32,
 ) -> Result<Order, AllocError>
     requires columns { own_from tree.now.inner is_inner + length tree.now.label.columns ≤ width }
-    requires few { count tree.now.inner < 64 }
+    requires few { count tree.now.inner < TABLES }
     requires room { table + suc (count tree.now.inner) < 2 ^ 32 }
     ensures { IfOk result (λ o. slots_of o.entries ≡ order_at tree.now.label tree.now.inner is_inner table) }
 {
@@ -105,7 +106,7 @@ fn push_orders(
     orders: &mut Vec<Order>,
 ) -> Result<(), AllocError>
     requires stand { Stand instance.now first sets.now }
-    requires few { count sets.now < 64 }
+    requires few { count sets.now < TABLES }
     requires room { first + count sets.now < 2 ^ 32 }
     ensures { OnOk result (all_slots orders.new.items ≡ all_slots orders.old.items ++ orders_of sets.now first) }
 {
@@ -140,7 +141,7 @@ pub fn root_orders(
     requires table { root < length instance.now }
     requires columns { HasColumns instance.now root tree.now }
     requires stand { Stand instance.now (suc root) tree.now.inner }
-    requires few { count tree.now.inner < 64 }
+    requires few { count tree.now.inner < TABLES }
     requires room { root + suc (count tree.now.inner) < 2 ^ 32 }
     ensures { IfOk result (λ v. IsReadyRoot instance.now (all_slots v.items) root tree.now) }
 {

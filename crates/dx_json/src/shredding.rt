@@ -3,6 +3,7 @@ ghost use Rattle.std.specs.Prelude.{◌≡◌, ◌+◌, ◌<◌, ◌^◌, ◌++�
 ghost use Rattle.std.specs.Fmt.{decimal};
 ghost use Rattle.serde_json.specs.Data.{Data, Items};
 ghost use Rattle.serde_json.specs.Read.{max_depth, read as read_text};
+ghost use Rattle.dx_ports.specs.declared.limits.TheConstants.{TABLES};
 ghost use Rattle.dx_model.specs.declared.facts.Fact.{Fact};
 ghost use Rattle.dx_model.specs.Tables.{IsInstance};
 ghost use Rattle.dx_schema.specs.Tables.{count, model_tables, schema_table, tables_of};
@@ -58,7 +59,7 @@ fn facts_of(
     table: u32,
 ) -> Result<FactList, JsonFault>
     requires table { table < 2 ^ 31 }
-    requires few { count tree.now.inner < 64 }
+    requires few { count tree.now.inner < TABLES }
     ensures ok { IfOk result (λ facts. (d : Data) × (read_text text.now ≡ Some d) × (tree_says tree.now table d ≡ map says facts)) }
     ensures fault { IfErr result (Refuses (read_text text.now) (tree_says tree.now table)) }
 {
@@ -80,7 +81,7 @@ struct ObjectList<'a> {
     alloc: Global,
     tree: &'a SetTree,
     at: &'a Place,
-    ghost few: { count tree.now.inner < 64 },
+    ghost few: { count tree.now.inner < TABLES },
     ghost room: { at.now.table + suc (count tree.now.inner) < 2 ^ 32 },
 }
 
@@ -93,7 +94,7 @@ fn push_document(
     out: &mut FactList,
 ) -> Result<Option<JsonKind>, Unread>
     requires table { table < 2 ^ 31 }
-    requires few { count tree.now.inner < 64 }
+    requires few { count tree.now.inner < TABLES }
     ensures ok { IfOk result (λ met. (d : Data) × (value_read max_depth reader.old ≡ Some (d, reader.new))
         × FactsOrFirstFault met out.old out.new (tree_says tree.now table d)) }
     ensures refused { result ≡ Err Unread.NotJson → value_read max_depth reader.old ≡ None }
@@ -246,7 +247,7 @@ fn push_sets<'a>(
     out: &mut FactList,
 ) -> Result<(), JsonFault>
     requires room { at.now.table + count sets.now < 2 ^ 32 }
-    requires few { count sets.now < 64 }
+    requires few { count sets.now < TABLES }
     ensures ok { OnOk result (AddsSaid out.old out.new (sets_say sets.now at.now (members_view members.now))) }
     ensures fault { IfErr result (TellsFirstFault (sets_say sets.now at.now (members_view members.now))) }
 {

@@ -3,6 +3,7 @@ use Rattle.std.specs.Prelude.{ℕ, suc, ◌<◌, Bool, cond, nat_lt, Option, Som
 use Rattle.std.specs.List.{list_any}
 use Rattle.dx_ports.specs.declared.file.Limit.{Limit}
 use Rattle.dx_ports.specs.declared.file.Count.TheVariants.{Variants, Occurrences, Ways, Candidates}
+use Rattle.dx_ports.specs.declared.limits.TheConstants.{VARIANTS, OCCURRENCES, WAYS, CANDIDATES}
 use Rattle.dx_ports.specs.Members.{Each}
 use Rattle.dx_model.specs.Tables.{Table, table_of}
 use Rattle.dx_logical.specs.declared.relation.Relation.{Relation}
@@ -22,30 +23,30 @@ first_or (Some l ∷ more) rest = Some l
 abbrev pub count_upto : List Table → ℕ → ℕ
 count_upto schema t = length (flat_map (variants_of schema) (upto (suc t)))
 
--- an unfolding has more than 64 occurrences
+-- an unfolding has too many occurrences
 abbrev pub is_wide : Relation → Bool
-is_wide r = nat_lt 64 (length r.occurrences)
+is_wide r = nat_lt OCCURRENCES (length r.occurrences)
 
 -- the first limit that is passed at table t: variants, then occurrences
 abbrev pub passed_at : List Table → ℕ → Option Limit
 passed_at schema t =
-    cond (nat_lt 256 (count_upto schema t)) (Some (record { what = Variants; number = 256 }))
-    (cond (list_any is_wide (variants_of schema t)) (Some (record { what = Occurrences; number = 64 })) None)
+    cond (nat_lt VARIANTS (count_upto schema t)) (Some (record { what = Variants; number = VARIANTS }))
+    (cond (list_any is_wide (variants_of schema t)) (Some (record { what = Occurrences; number = OCCURRENCES })) None)
 
 -- what is passed at each table of a schema
 abbrev pub passed_by : List Table → List (Option Limit)
 passed_by schema = map (passed_at schema) (upto (length schema))
 
--- a variant of a source table and one of a target table have more than 64 ways
+-- a variant of a source table and one of a target table have too many ways
 abbrev pub has_many_ways : List Line → List Table → List Table → Bool
-has_many_ways lines source target = list_any (λ s. list_any (λ t. nat_lt 64 (length (pair_ways lines s t))) (all_variants target)) (all_variants source)
+has_many_ways lines source target = list_any (λ s. list_any (λ t. nat_lt WAYS (length (pair_ways lines s t))) (all_variants target)) (all_variants source)
 
 -- the first limit that is passed: those of the source's tables, then those of the target's, then ways, then candidates
 abbrev pub passed_limit : List Line → List Table → List Table → Option Limit
 passed_limit lines source target =
     first_or (passed_by source ++ passed_by target)
-    (cond (has_many_ways lines source target) (Some (record { what = Ways; number = 64 }))
-    (cond (nat_lt 1024 (length (candidates_of lines source target))) (Some (record { what = Candidates; number = 1024 })) None))
+    (cond (has_many_ways lines source target) (Some (record { what = Ways; number = WAYS }))
+    (cond (nat_lt CANDIDATES (length (candidates_of lines source target))) (Some (record { what = Candidates; number = CANDIDATES })) None))
 
 -- a place is a column of a schema
 pub record IsSchemaColumn (schema : List Table) (a : Place) : Type 0 where

@@ -21,6 +21,9 @@ pub const LINES: u64 = 512;
 /// Occurrences of an unfolding, and of a premise or a closed conclusion of a rule written by hand.
 pub const OCCURRENCES: u64 = 64;
 
+/// Variants of the tables of a schema, in all.
+pub const VARIANTS: u64 = 256;
+
 /// Ways between a source variant and a target variant.
 pub const WAYS: u64 = 64;
 

@@ -1,5 +1,6 @@
 -- What holds of every text, and of what is read by numbers.
 use Rattle.std.specs.Prelude.{◌≡◌, ◌≤◌, ◌+◌, ◌⊎◌, ℕ, List, None, length}
+use Rattle.dx_ports.specs.declared.limits.TheConstants.{QUERY_ATOMS}
 use Rattle.dx_ports.specs.Members.{Each}
 use Rattle.dx_schema.specs.Forest.{Forest}
 use Rattle.dx_schema.specs.Tables.{schema_widths}
@@ -52,9 +53,9 @@ NeverSaidAndFaulty = (target : Forest) (text : List ℕ) (q : Query) (e : TextFa
 abbrev pub FaultsArePlaced : Type 0
 FaultsArePlaced = (target : Forest) (text : List ℕ) (e : TextFault) → IsFaultOver target text e → IsPlaced e
 
--- a part without a fault, of 64 atoms at most, fits the schema
+-- a part without a fault, of not too many atoms, fits the schema
 abbrev pub ReadPartsFit : Type 0
-ReadPartsFit = (f : Forest) (width : ℕ) (p : PartText) → length p.atoms ≤ 64 → part_fault f width p ≡ None → FitsPart (schema_widths f) width (part_of_text f p)
+ReadPartsFit = (f : Forest) (width : ℕ) (p : PartText) → length p.atoms ≤ QUERY_ATOMS → part_fault f width p ≡ None → FitsPart (schema_widths f) width (part_of_text f p)
 
 -- so does a query that a text says, if none of its parts has more
 abbrev pub ReadQueriesFit : Type 0

@@ -1,5 +1,6 @@
 -- The query that a text says over a target, and its first fault.
 use Rattle.std.specs.Prelude.{◌≡◌, ◌⊎◌, ◌≤◌, ℕ, List, length, Option, Some, None, Result, Ok, Err}
+use Rattle.dx_ports.specs.declared.limits.TheConstants.{QUERY_ATOMS}
 use Rattle.dx_ports.specs.Members.{Each}
 use Rattle.dx_schema.specs.Forest.{Forest}
 use Rattle.dx_tokens.specs.declared.faults.TextFault.{TextFault}
@@ -28,9 +29,9 @@ IsPlaced (At place kind) = Unit {0}
 IsPlaced (TooDeep place) = ⊥
 IsPlaced Memory = ⊥
 
--- no part has more than 64 atoms
+-- no part has too many atoms
 abbrev pub HasFewAtoms : Query → Type 0
-HasFewAtoms q = Each q.parts (λ p. length p.atoms ≤ 64)
+HasFewAtoms q = Each q.parts (λ p. length p.atoms ≤ QUERY_ATOMS)
 
 -- ---- the answer, as it is computed
 

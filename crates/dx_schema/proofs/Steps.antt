@@ -1,5 +1,5 @@
 -- From sets to tables.
-use Rattle.std.proofs.Common.{◌≡◌, ℕ, ◌+◌, ◌<◌, ◌≤◌, List, [], ◌∷◌, Option, Some, None, Bool, true, false, not, is_some, append_assoc, length, map, refl, sym, ap, ◌∙◌, subst, arith, inl, inr, get_or, ◌++◌, take, codes}
+use Rattle.std.proofs.Common.{◌≡◌, ℕ, ◌+◌, ◌^◌, ◌<◌, ◌≤◌, List, [], ◌∷◌, Option, Some, None, Bool, true, false, not, is_some, append_assoc, length, map, refl, sym, ap, ◌∙◌, subst, arith, inl, inr, get_or, ◌++◌, take, codes}
 use Rattle.std.specs.Prelude.{IsTrue, nat_lt}
 use Rattle.std.proofs.lemmas.Bool.{le-ltb, lt-ltb, cases_lt, false≢true}
 use Rattle.std.specs.List.{filter}
@@ -23,6 +23,7 @@ use Rattle.dx_ports.specs.Firsts.{first_of}
 use Rattle.dx_schema.specs.Faults.{depth, sets_fault, declarations_fault, form_fault}
 use Rattle.dx_schema.specs.Links.{IsAcyclic, IsFirstCycle, IsFaultless, IsFirstSchemaFault}
 use Rattle.dx_schema.specs.Nodes.{node_view, AreNodesOf}
+use Rattle.dx_schema.specs.Making.{IsOverview, IsOwnList, IsReadyForTables}
 use Rattle.dx_schema.proofs.Preorder.{length_placed, numbers_bound}
 use Rattle.dx_schema.proofs.Loops.{one_left, shown_in, shown_is, taken}
 use Rattle.dx_schema.proofs.Valid.{are_tables, columns_are}
@@ -96,8 +97,8 @@ keys_done s first keys items i past same e is =
     ∙ ap (λ ks. map (key_named s) (where_has_inner s.inner (codes "#id" ∷ [])) ++ ks) (map-map (key_named s) (λ (k : KeyDecl). where_inner s.parent (codes "#up") ++ k.columns) s.label.keys)))
 
 -- no list of columns is too long, nor is none
-pub few_at : (columns : List (List Text)) (n : ℕ) → Each columns (λ (c : List Text). length c ≤ 64) → length (get_or columns n []) ≤ 64
-few_at columns n few = elim (cases_lt n (length columns)) [ inl lt ↦ few _ (in_at columns n [] lt) | inr ge ↦ rw (get_or-eq_default columns [] ge) (omega arith) ]
+pub few_at : (columns : List (List Text)) (n : ℕ) → Each columns (λ (c : List Text). length c ≤ 64) → length (get_or columns n []) < 2 ^ 32
+few_at columns n few = elim (cases_lt n (length columns)) [ inl lt ↦ let s = few (get_or columns n []) (in_at columns n [] lt) in omega (arith, s) | inr ge ↦ rw (get_or-eq_default columns [] ge) (omega arith) ]
 
 pub own_is : (nodes : List Node) (columns : List (List Text)) (i : ℕ) (node : Node) (own : List Text) → columns ≡ map columns_of (map node_view nodes) → i < length nodes → node ≡ get_or nodes i node → own ≡ get_or columns i own → own ≡ columns_of (node_view node)
 own_is nodes columns i node own e lt is at =
@@ -116,6 +117,19 @@ table_more all nodes i node before after table lt is e pushed made =
 -- a set's number and its inner sets are among 64
 pub bounded : (f : Forest) (nodes : List Node) → AreNodesOf f nodes → Each (map node_view nodes) (λ (s : NumberedSet). s.number + count s.inner < 64)
 bounded f nodes h s m = let b = numbers_bound None 0 f s (rw (← h.sets) m) in omega (arith, b, few_sets f nodes h)
+
+-- the tables of the sets of a forest without a fault of form can be made
+pub ready : (f : Forest) (nodes : List Node) (names : List Text) → AreNodesOf f nodes → names ≡ names_of (sets_of f) → form_fault f ≡ None → IsReadyForTables nodes names
+ready f nodes names h e none_so = record { named = names_seen f nodes names h e; few = few_names f nodes names h e; narrow = narrow f nodes h none_so; bounded = bounded f nodes h }
+
+pub overview : (nodes : List Node) (names : List Text) (columns : List (List Text)) → IsReadyForTables nodes names → columns ≡ map columns_of (map node_view nodes) → IsOverview nodes names columns
+overview nodes names columns h e = record { named = h.named; few = h.few; lists = record { are = e; narrow = rw e h.narrow } }
+
+pub own_list : (nodes : List Node) (names : List Text) (columns : List (List Text)) (i : ℕ) (node : Node) (own : List Text) → IsReadyForTables nodes names → columns ≡ map columns_of (map node_view nodes) → i < length nodes → node ≡ get_or nodes i node
+    → own ≡ get_or columns i own → IsOwnList node own
+own_list nodes names columns i node own h e lt is at =
+    let a = own_is nodes columns i node own e lt is at in
+    record { are = a; few = own_few nodes i node own a lt is h.narrow }
 
 pub bounded_at : (nodes : List Node) (i : ℕ) (node : Node) → Each (map node_view nodes) (λ (s : NumberedSet). s.number + count s.inner < 64) → i < length nodes → node ≡ get_or nodes i node
     → (node_view node).number + count (node_view node).inner < 64

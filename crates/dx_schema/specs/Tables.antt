@@ -2,6 +2,7 @@
 use Rattle.std.specs.Prelude.{◌≡◌, ℕ, suc, ◌+◌, ◌<◌, ◌≤◌, List, [], ◌∷◌, ◌++◌, Option, Some, None, length, map, cond, not, nat_eq, codes, slice_index_or}
 use Rattle.std.specs.List.{filter}
 use Rattle.std.specs.Cmp.Lexicographic.{pointwise}
+use Rattle.dx_ports.specs.declared.limits.TheConstants.{TABLES, COLUMNS}
 use Rattle.dx_ports.specs.Members.{Distinct, Each}
 use Rattle.dx_ports.specs.Texts.{Text}
 use Rattle.dx_model.specs.declared.tables.Key.{Key}
@@ -212,7 +213,7 @@ pub record IsLink (tables : List TableOf) (width : ℕ) (link : Link) : Type 0 w
 -- what holds of a table among those of its schema
 pub record IsSchemaTable (tables : List TableOf) (t : TableOf) : Type 0 where
   pub some_column : 1 ≤ length t.columns
-  pub few_columns : length t.columns ≤ 64
+  pub few_columns : length t.columns ≤ COLUMNS
   pub distinct_columns : Distinct t.columns
   pub keys : Each t.keys (λ k. AreColumns (length t.columns) k.columns)
   pub deps : Each t.deps (IsDep (length t.columns))
@@ -221,6 +222,6 @@ pub record IsSchemaTable (tables : List TableOf) (t : TableOf) : Type 0 where
 
 -- what holds of the tables of each schema
 pub record AreTables (tables : List TableOf) : Type 0 where
-  pub few_tables : length tables ≤ 64
+  pub few_tables : length tables ≤ TABLES
   pub distinct_names : Distinct (map (λ (t : TableOf). t.name) tables)
   pub each_table : Each tables (IsSchemaTable tables)

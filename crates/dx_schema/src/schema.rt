@@ -1,5 +1,6 @@
 // A schema: sets, and the tables that they make.
 ghost use Rattle.std.specs.Prelude.{◌≡◌, ◌<◌, ◌≤◌, ◌↔◌, ◌⊎◌, [], length, map, IfOk, IfErr, OnOk, IfSome, IsSome, IsTrue, slice_index_or};
+ghost use Rattle.dx_ports.specs.declared.limits.TheConstants.{TABLES, COLUMNS};
 ghost use Rattle.dx_ports.specs.Members.{◌∈◌, Each};
 ghost use Rattle.dx_model.specs.Tables.{DeterminationsFit, table_of};
 ghost use Rattle.dx_schema.specs.Forest.{forest_of};
@@ -43,7 +44,7 @@ impl Model for Schema {
 
 // The number of a name. None if it isn't there.
 fn number_in(names: &[Text], name: &Text) -> Option<u32>
-    requires { length names.now ≤ 64 }
+    requires { length names.now ≤ COLUMNS }
     ensures some { IfSome result (λ n. (n < length names.now) × (slice_index_or names.now n [] ≡ name.now)) }
     ensures none { IsSome result ↔ (name.now ∈ names.now) }
 {
@@ -100,8 +101,8 @@ impl Schema {
     /// `AllocError` if there is no memory.
     pub fn widths(&self, alloc: Global) -> Result<Vec<u32>, AllocError>
         ensures all { IfOk result (λ ws. ws.items ≡ schema_widths self.now) }
-        ensures within { Each (schema_widths self.now) (λ w. (1 ≤ w) × (w ≤ 64)) }
-        ensures few { length (schema_widths self.now) ≤ 64 }
+        ensures within { Each (schema_widths self.now) (λ w. (1 ≤ w) × (w ≤ COLUMNS)) }
+        ensures few { length (schema_widths self.now) ≤ TABLES }
     {
         let mut widths = Vec::new(alloc);
         for table in 0..self.tables() {
@@ -123,7 +124,7 @@ impl Schema {
         requires { table < length (tables_of self.now) }
         ensures number { result ≡ length (schema_table self.now table).columns }
         ensures some { 1 ≤ result }
-        ensures few { result ≤ 64 }
+        ensures few { result ≤ COLUMNS }
     {
         self.tables[table as usize].columns.len() as u32
     }
@@ -132,7 +133,7 @@ impl Schema {
     pub fn columns(&self, table: u32) -> &[Text]
         requires { table < length (tables_of self.now) }
         ensures names { result.now ≡ (schema_table self.now table).columns }
-        ensures few { length result.now ≤ 64 }
+        ensures few { length result.now ≤ COLUMNS }
     {
         self.tables[table as usize].columns.items()
     }
@@ -256,7 +257,7 @@ impl Schema {
     pub fn tree(&self, table: u32) -> &SetTree
         requires { table < length (tables_of self.now) }
         ensures tree { result.now ≡ tree_at self.now table }
-        ensures few { count result.now.inner < 64 }
+        ensures few { count result.now.inner < TABLES }
     {
         tree_numbered(&self.trees, table)
     }

@@ -1,5 +1,6 @@
 // Sets as they are declared, each with its inner sets.
 ghost use Rattle.std.specs.Prelude.{◌≡◌, ◌≤◌, ◌↔◌, [], OnOk, OnErr, IsTrue, not};
+ghost use Rattle.dx_ports.specs.declared.limits.TheConstants.{TABLES};
 ghost use Rattle.dx_schema.specs.Bounds.{HasFewRules};
 ghost use Rattle.dx_schema.specs.Forest.{bare_set, forest_of, followed_by, has_sets, none, set};
 ghost use Rattle.dx_schema.specs.Tables.{count};
@@ -136,7 +137,7 @@ impl Trees {
 
     /// How many sets there are, inner sets included.
     pub fn count(&self) -> u32
-        requires { count self.now ≤ 64 }
+        requires { count self.now ≤ TABLES }
         ensures { result ≡ count self.now }
     {
         count_sets(self)

@@ -1,8 +1,9 @@
 // Sets as tables.
-ghost use Rattle.std.specs.Prelude.{◌≡◌, ◌<◌, ◌≤◌, ◌+◌, ◌++◌, [], ◌∷◌, length, map, codes, IfOk, OnOk, slice_index_or};
-ghost use Rattle.dx_ports.specs.Members.{Each};
-ghost use Rattle.dx_schema.specs.Tables.{columns_of, count, names_of, numbers_of_names, where_inner, where_has_inner, columns_at, firm_refs, key_named, keys_in, dep_named, deps_in, link_of, link_up, links_in, optional_in, table_in};
+ghost use Rattle.std.specs.Prelude.{◌≡◌, ◌<◌, ◌≤◌, ◌+◌, ◌^◌, ◌++◌, [], ◌∷◌, length, map, codes, IfOk, OnOk, slice_index_or};
+ghost use Rattle.dx_ports.specs.declared.limits.TheConstants.{TABLES, COLUMNS};
+ghost use Rattle.dx_schema.specs.Tables.{columns_of, count, numbers_of_names, where_inner, where_has_inner, columns_at, firm_refs, key_named, keys_in, dep_named, deps_in, link_of, link_up, links_in, optional_in, table_in};
 ghost use Rattle.dx_schema.specs.Nodes.{node_view};
+ghost use Rattle.dx_schema.specs.Making.{IsColumnLists, IsOverview, IsOwnList, IsReadyForTables};
 
 use crate::checks::columns_made;
 use crate::names::{copies, number_among, numbers_among};
@@ -30,7 +31,7 @@ pub struct Table {
 
 // The number of one name, as a list.
 fn number_alone(alloc: Global, all: &[Text], name: &str) -> Result<Items<u32>, AllocError>
-    requires { length all.now ≤ 64 }
+    requires { length all.now < 2 ^ 32 }
     ensures { IfOk result (λ ns. ns ≡ numbers_of_names (name.now ∷ []) all.now) }
 {
     let mut out = Items::new(alloc);
@@ -55,7 +56,7 @@ fn key_names(alloc: Global, node: &Node, columns: &[Text]) -> Result<Items<Text>
 // The key of `#id`, if the set has inner sets.
 fn keys_begun(alloc: Global, node: &Node, own: &[Text]) -> Result<Items<Key>, AllocError>
     requires columns { own.now ≡ columns_of (node_view node.now) }
-    requires few { length own.now ≤ 64 }
+    requires few { length own.now ≤ COLUMNS }
     ensures { IfOk result (λ keys. keys ≡ map (key_named (node_view node.now))
         (where_has_inner (node_view node.now).inner (codes "#id" ∷ []))) }
 {
@@ -71,7 +72,7 @@ fn keys_begun(alloc: Global, node: &Node, own: &[Text]) -> Result<Items<Key>, Al
 // The keys of a set's table.
 fn keys_made(alloc: Global, node: &Node, own: &[Text]) -> Result<Items<Key>, AllocError>
     requires columns { own.now ≡ columns_of (node_view node.now) }
-    requires few { length own.now ≤ 64 }
+    requires few { length own.now ≤ COLUMNS }
     ensures { IfOk result (λ keys. keys ≡ keys_in (node_view node.now)) }
 {
     let tree = node.tree;
@@ -87,7 +88,7 @@ fn keys_made(alloc: Global, node: &Node, own: &[Text]) -> Result<Items<Key>, All
 // A dependency of a set's table.
 fn dep_made(alloc: Global, node: &Node, own: &[Text], dep: &DepDecl) -> Result<Dep, AllocError>
     requires columns { own.now ≡ columns_of (node_view node.now) }
-    requires few { length own.now ≤ 64 }
+    requires few { length own.now ≤ COLUMNS }
     ensures { IfOk result (λ d. d ≡ dep_named (node_view node.now) dep.now) }
 {
     let names = key_names(alloc, node, dep.columns.items())?;
@@ -99,7 +100,7 @@ fn dep_made(alloc: Global, node: &Node, own: &[Text], dep: &DepDecl) -> Result<D
 // The dependencies of a set's table.
 fn deps_made(alloc: Global, node: &Node, own: &[Text]) -> Result<Items<Dep>, AllocError>
     requires columns { own.now ≡ columns_of (node_view node.now) }
-    requires few { length own.now ≤ 64 }
+    requires few { length own.now ≤ COLUMNS }
     ensures { IfOk result (λ deps. deps ≡ deps_in (node_view node.now)) }
 {
     let tree = node.tree;
@@ -130,12 +131,8 @@ fn link_made(
     own: &[Text],
     link: &RefDecl,
 ) -> Result<Link, AllocError>
-    requires names { names.now ≡ names_of (map node_view sets.now) }
-    requires few_names { length names.now ≤ 64 }
-    requires columns { columns.now ≡ map columns_of (map node_view sets.now) }
-    requires few { Each columns.now (λ c. length c ≤ 64) }
-    requires own { own.now ≡ columns_of (node_view node.now) }
-    requires few_own { length own.now ≤ 64 }
+    requires overview { IsOverview sets.now names.now columns.now }
+    requires own { IsOwnList node.now own.now }
     ensures { IfOk result (λ l. l ≡ link_of (map node_view sets.now) (node_view node.now) link.now) }
 {
     let table = number_among(names, &link.set);
@@ -153,10 +150,8 @@ fn links_begun(
     node: &Node,
     own: &[Text],
 ) -> Result<Items<Link>, AllocError>
-    requires columns { columns.now ≡ map columns_of (map node_view sets.now) }
-    requires few { Each columns.now (λ c. length c ≤ 64) }
-    requires own { own.now ≡ columns_of (node_view node.now) }
-    requires few_own { length own.now ≤ 64 }
+    requires columns { IsColumnLists sets.now columns.now }
+    requires own { IsOwnList node.now own.now }
     ensures { IfOk result (λ links. links ≡ link_up (map node_view sets.now) (node_view node.now) (node_view node.now).parent) }
 {
     let mut links = Items::new(alloc);
@@ -177,12 +172,8 @@ fn links_made(
     node: &Node,
     own: &[Text],
 ) -> Result<Items<Link>, AllocError>
-    requires names { names.now ≡ names_of (map node_view sets.now) }
-    requires few_names { length names.now ≤ 64 }
-    requires columns { columns.now ≡ map columns_of (map node_view sets.now) }
-    requires few { Each columns.now (λ c. length c ≤ 64) }
-    requires own { own.now ≡ columns_of (node_view node.now) }
-    requires few_own { length own.now ≤ 64 }
+    requires overview { IsOverview sets.now names.now columns.now }
+    requires own { IsOwnList node.now own.now }
     ensures { IfOk result (λ links. links ≡ links_in (map node_view sets.now) (node_view node.now)) }
 {
     let tree = node.tree;
@@ -204,12 +195,8 @@ fn optional_made(
     node: &Node,
     own: &[Text],
 ) -> Result<Items<Link>, AllocError>
-    requires names { names.now ≡ names_of (map node_view sets.now) }
-    requires few_names { length names.now ≤ 64 }
-    requires columns { columns.now ≡ map columns_of (map node_view sets.now) }
-    requires few { Each columns.now (λ c. length c ≤ 64) }
-    requires own { own.now ≡ columns_of (node_view node.now) }
-    requires few_own { length own.now ≤ 64 }
+    requires overview { IsOverview sets.now names.now columns.now }
+    requires own { IsOwnList node.now own.now }
     ensures { IfOk result (λ links. links ≡ optional_in (map node_view sets.now) (node_view node.now)) }
 {
     let tree = node.tree;
@@ -231,13 +218,9 @@ fn table_made(
     node: &Node,
     own: &[Text],
 ) -> Result<Table, AllocError>
-    requires names { names.now ≡ names_of (map node_view sets.now) }
-    requires few_names { length names.now ≤ 64 }
-    requires columns { columns.now ≡ map columns_of (map node_view sets.now) }
-    requires few { Each columns.now (λ c. length c ≤ 64) }
-    requires own { own.now ≡ columns_of (node_view node.now) }
-    requires few_own { length own.now ≤ 64 }
-    requires bounded { (node_view node.now).number + count (node_view node.now).inner < 64 }
+    requires overview { IsOverview sets.now names.now columns.now }
+    requires own { IsOwnList node.now own.now }
+    requires bounded { (node_view node.now).number + count (node_view node.now).inner < TABLES }
     ensures { IfOk result (λ table. table ≡ table_in (map node_view sets.now) (node_view node.now)) }
 {
     let tree = node.tree;
@@ -266,10 +249,7 @@ fn all_columns(alloc: Global, sets: &[Node]) -> Result<Items<Items<Text>>, Alloc
 
 /// The tables of sets, in order.
 pub fn tables_made(alloc: Global, names: &[Text], sets: &[Node]) -> Result<Vec<Table>, AllocError>
-    requires names { names.now ≡ names_of (map node_view sets.now) }
-    requires few_names { length names.now ≤ 64 }
-    requires few { Each (map columns_of (map node_view sets.now)) (λ c. length c ≤ 64) }
-    requires bounded { Each (map node_view sets.now) (λ s. s.number + count s.inner < 64) }
+    requires { IsReadyForTables sets.now names.now }
     ensures { IfOk result (λ tables. tables.items ≡ map (table_in (map node_view sets.now)) (map node_view sets.now)) }
 {
     let columns = all_columns(alloc, sets)?;

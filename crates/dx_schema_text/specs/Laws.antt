@@ -30,7 +30,7 @@ NeverMappingAndFault = (text : List ℕ) (m : MappingText) (e : TextFault) → I
 abbrev pub SpelledAreTexts : Type 0
 SpelledAreTexts = (xs : List Lexeme) → ((m : MappingText) × SpellsMapping deepest m xs) ↔ Derives mapping_form xs
 
--- tokens can stand exactly if they go on to a text, with 16 levels of sets and with 17
+-- tokens can stand exactly if they go on to a text, with as many levels of sets as are accepted and with one more
 abbrev pub StandingGoesOn : Type 0
 StandingGoesOn = StartsAreFronts mapping_form × StartsAreFronts deeper_form
 

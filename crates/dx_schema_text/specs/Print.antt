@@ -1,6 +1,7 @@
 -- The text of sets, as a mapping text has them.
 use Rattle.std.specs.Prelude.{◌≡◌, ℕ, ◌≤◌, ◌+◌, Bool, true, false, List, [], ◌∷◌, ◌++◌, codes}
 use Rattle.std.specs.List.{flat_map}
+use Rattle.dx_ports.specs.declared.limits.TheConstants.{DEPTH}
 use Rattle.dx_ports.specs.Members.{Each}
 use Rattle.dx_schema.specs.declared.sets.KeyDecl.{KeyDecl}
 use Rattle.dx_schema.specs.declared.sets.DepDecl.{DepDecl}
@@ -101,11 +102,11 @@ abbrev pub AreOfVersion : ℕ → Forest → Type 0
 AreOfVersion version none = Unit {0}
 AreOfVersion version (set l inner rest) = IsOfVersion version l × AreOfVersion version inner × AreOfVersion version rest
 
--- every name is a word, no list of names is empty, a text of this version can say the sets, and there are no more than 16 levels of them
+-- every name is a word, no list of names is empty, a text of this version can say the sets, and there are not too many levels of them
 pub record AreWritable (version : ℕ) (f : Forest) : Type 0 where
   pub named : HaveWordNames f
   pub sayable : AreOfVersion version f
-  pub levels : depth f ≤ 16
+  pub levels : depth f ≤ DEPTH
 
 -- a version that a text may have
 pub data IsKnownVersion : ℕ → Type 0 where

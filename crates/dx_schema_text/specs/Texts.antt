@@ -1,5 +1,6 @@
 -- What a mapping text says, and its first fault.
 use Rattle.std.specs.Prelude.{◌≡◌, ◌⊎◌, ℕ, zero, suc, ◌-◌, List, [], ◌∷◌, ◌++◌, length, take, codes, Option, Some, None, Result, Ok, Err, Bool, true, false, nat_le, slice_index_or}
+use Rattle.dx_ports.specs.declared.limits.TheConstants.{DEPTH}
 use Rattle.dx_schema.specs.Forest.{Forest, Tree}
 use Rattle.dx_grammar.specs.Forms.{Form, Starts}
 use Rattle.dx_grammar.specs.Faults.{IsUnexpectedAt, IsStoppedAt}
@@ -19,9 +20,9 @@ use Rattle.dx_schema_text.specs.Grammar.{mapping}
 use Rattle.dx_schema_text.specs.Reading.{mapping_reader}
 use Rattle.dx_schema_text.specs.Spelling.{IsKeyword, IsMarkToken, IsVersion, SpellsHead, SpellsSet, SpellsClauses, SpellsSide, SpellsMapping}
 
--- a set stands at depth 16 at most: a root has 15 levels of inner sets
+-- a set stands at depth DEPTH at most: a root has one level less of inner sets
 abbrev pub deepest : ℕ
-deepest = 15
+deepest = DEPTH - 1
 
 -- the form of a mapping text
 abbrev pub mapping_form : Form Lexeme
@@ -29,7 +30,7 @@ mapping_form = mapping deepest
 
 -- the same if sets may be nested one level deeper
 abbrev pub deeper_form : Form Lexeme
-deeper_form = mapping 16
+deeper_form = mapping DEPTH
 
 -- what was begun where the tokens stop
 abbrev pub begun_in : Option Stop → List Lexeme
@@ -86,7 +87,7 @@ pub data OpenMapping : ℕ → List Lexeme → Type 0 where
   in_target : {version n : ℕ} {from : Forest} {u w : List Lexeme} (k v e : Lexeme) → IsKeyword (codes "mapping") k → IsVersion version v → IsMarkToken (codes ";") e → SpellsSide version (codes "source") deepest from u
       → OpenSide version (codes "target") n w → OpenMapping n (k ∷ v ∷ e ∷ (u ++ w))
 
--- The token of this number is the word `set` of a set at depth 17: 16 sets are open before it.
+-- The token of this number is the word `set` of a set that is too deep: DEPTH sets are open before it.
 pub record IsSetTooDeep (text : List ℕ) (number : ℕ) : Type 0 where
   pub front : List Lexeme
   pub token : Lexeme
@@ -94,7 +95,7 @@ pub record IsSetTooDeep (text : List ℕ) (number : ℕ) : Type 0 where
   pub are : judged_tokens text ≡ front ++ token ∷ back
   pub at : number ≡ length front
   pub word : IsKeyword (codes "set") token
-  pub inside : OpenMapping 16 front
+  pub inside : OpenMapping DEPTH front
 
 -- All tokens can stand, and the text stops at a token fault or ends too early.
 abbrev pub MappingStops : List ℕ → ℕ → TextKind → Type 0
@@ -104,7 +105,7 @@ MappingStops text place kind = IsStoppedAt mapping_form (judged_tokens text) (fa
 abbrev pub IsMappingTextFault : List ℕ → TextFault → Type 0
 IsMappingTextFault text e = IsFaultBy (StandsNowhere text) (StandsTooDeep text) (MappingStops text) e
 
--- ---- the answer, as it is computed: the tokens are read with 15 levels of inner sets, and if one can't stand, with 16
+-- ---- the answer, as it is computed: the tokens are read with `deepest` levels of inner sets, and if one can't stand, with one more
 
 -- whether a reader stops at the token with which so many are left, or before it
 abbrev pub stops_by : {A : Type 0} → ℕ → Result A ℕ → Bool
@@ -127,9 +128,9 @@ mapping_outcome end stop xs (Err (suc left)) deeper = Err (unexpected xs (suc le
 mapping_outcome end (Some p) xs (Ok m) deeper = Err (At p.0 p.1)
 mapping_outcome end None xs (Ok m) deeper = Ok m
 
--- what is answered of tokens that are read with 15 levels of inner sets, and then with 16
+-- what is answered of tokens that are read with `deepest` levels of inner sets, and then with one more
 unfoldable pub mapping_of_tokens : ℕ → Option (ℕ × TextKind) → List Lexeme → Result MappingText TextFault
-mapping_of_tokens end stop xs = mapping_outcome end stop xs (whole (mapping_reader deepest) xs) (whole (mapping_reader 16) xs)
+mapping_of_tokens end stop xs = mapping_outcome end stop xs (whole (mapping_reader deepest) xs) (whole (mapping_reader DEPTH) xs)
 
 -- what is answered of a text
 abbrev pub mapping_of_text : List ℕ → Result MappingText TextFault

@@ -10,11 +10,12 @@ use crate::mapping::whole_mapping;
 use crate::texts::MappingText;
 use dx_grammar::ReadError;
 use dx_ports::Items;
+use dx_ports::limits::DEPTH;
 use dx_tokens::{Lexeme, Scanned, Stop, TextFault, TextKind, scan};
 use std::alloc::{AllocError, Global};
 
 /// How many levels of inner sets a root may have.
-const LEVELS: u32 = 15;
+const LEVELS: u32 = DEPTH as u32 - 1;
 
 /// The tokens that are judged one after the other, and the token fault at which they stop.
 ///
@@ -42,7 +43,7 @@ pub fn judged(scanned: Scanned) -> Result<(Items<Lexeme>, Option<(u64, TextKind)
 fn fault_at(alloc: Global, tokens: &[Lexeme], left: usize) -> TextFault
     requires some { 0 < left }
     requires inside { left ≤ length tokens.now }
-    ensures { (result ≡ Memory) ⊎ (result ≡ unexpected tokens.now left (stops_by left (whole (mapping_reader 16) tokens.now))) }
+    ensures { (result ≡ Memory) ⊎ (result ≡ unexpected tokens.now left (stops_by left (whole (mapping_reader DEPTH) tokens.now))) }
 {
     let place = tokens[tokens.len() - left].place;
     match whole_mapping(alloc, LEVELS + 1, tokens) {

@@ -2,6 +2,7 @@
 use Rattle.std.specs.Prelude.{ℕ, ◌<◌, Bool, not, cond, ◌&&◌, ◌||◌, eqb, Option, Some, None, List, [], ◌∷◌, ◌++◌, length, map, flat_map}
 use Rattle.std.specs.Borrow.{Bor}
 use Rattle.std.specs.List.{filter, list_any, list_all}
+use Rattle.dx_ports.specs.declared.limits.TheConstants.{WAYS}
 use Rattle.dx_logical.specs.declared.relation.Occurrence.{Occurrence}
 use Rattle.dx_lines.specs.declared.line.Place.{Place}
 use Rattle.dx_lines.specs.declared.line.Origin.{Origin}
@@ -11,7 +12,7 @@ use Rattle.dx_lines.specs.Ways.{is_of, variable_in, with_table, term_by, pick, p
 
 -- more picks than are accepted
 abbrev pub AreTooMany : List Pick → Type 0
-AreTooMany picks = 64 < length picks
+AreTooMany picks = WAYS < length picks
 
 -- the list with all these put in, one after another
 abbrev pub put_all : List Pick → List Pick → List Pick

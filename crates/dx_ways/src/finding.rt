@@ -1,5 +1,6 @@
 // The ways between occurrences.
 ghost use Rattle.std.specs.Prelude.{◌≡◌, ◌≤◌, ◌<◌, IfOk, IfErr, OnOk, length};
+ghost use Rattle.dx_ports.specs.declared.limits.TheConstants.{WAYS};
 ghost use Rattle.dx_ports.specs.Members.{Each};
 ghost use Rattle.dx_lines.specs.Ways.{line_ways, ways as ways_of};
 ghost use Rattle.dx_lines.specs.Reading.{CanBeRead, IsReached};
@@ -23,10 +24,10 @@ fn add_line(
     found: &mut Vec<Pick>,
 ) -> Result<(), WaysFault>
     requires ascends { PicksAscend found.old.items }
-    requires few { length found.old.items ≤ 64 }
+    requires few { length found.old.items ≤ WAYS }
     ensures all { OnOk result (found.new.items ≡ put_all found.old.items (line_ways from.now to.now line.now)) }
-    ensures few { OnOk result (length found.new.items ≤ 64) }
-    ensures many { IfErr result (λ e. e ≡ TooMany → 64 < length (put_all found.old.items (line_ways from.now to.now line.now))) }
+    ensures few { OnOk result (length found.new.items ≤ WAYS) }
+    ensures many { IfErr result (λ e. e ≡ TooMany → WAYS < length (put_all found.old.items (line_ways from.now to.now line.now))) }
 {
     if let Origin::Literal(_) = &line.source {
         return Ok(());
@@ -57,8 +58,8 @@ pub fn ways(
     requires from { Each lines.now (CanBeRead from.now) }
     requires to { Each lines.now (IsReached to.now) }
     ensures ways { IfOk result (λ found. found.items ≡ ways_of lines.now from.now to.now) }
-    ensures few { IfOk result (λ found. length found.items ≤ 64) }
-    ensures many { IfErr result (λ e. e ≡ TooMany → 64 < length (ways_of lines.now from.now to.now)) }
+    ensures few { IfOk result (λ found. length found.items ≤ WAYS) }
+    ensures many { IfErr result (λ e. e ≡ TooMany → WAYS < length (ways_of lines.now from.now to.now)) }
 {
     let mut found = Vec::new(alloc);
     for line in lines {

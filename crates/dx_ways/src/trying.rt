@@ -1,4 +1,4 @@
-// The picks that choices of occurrences give, put into an ascending list of at most 64.
+// The picks that choices of occurrences give, put into an ascending list, of as many as there may be ways.
 ghost use Rattle.std.specs.Prelude.{◌≡◌, ◌≤◌, ◌<◌, ◌∷◌, List, IfOk, IfErr, OnOk, insert, length, map};
 ghost use Rattle.dx_ports.specs.Members.{behind};
 ghost use Rattle.dx_lines.specs.Ways.{pick, put_in};
@@ -10,6 +10,7 @@ use crate::picks::{copy_term, pick_order};
 use crate::seen::{has_table, term_of};
 use dx_lines::{Origin, Pick, Place, Term};
 use dx_logical::Occurrence;
+use dx_ports::limits::WAYS;
 use std::alloc::{AllocError, Global};
 use std::cmp::Ordering;
 
@@ -40,15 +41,15 @@ fn insert_pick(found: &mut Vec<Pick>, place: usize, pick: Pick) -> Result<(), Al
 
 /// Puts a pick into an ascending list, if it isn't there.
 fn put_pick(found: &mut Vec<Pick>, pick: Pick) -> Result<(), WaysFault>
-    requires { length found.old.items ≤ 64 }
+    requires { length found.old.items ≤ WAYS }
     ensures put { OnOk result (found.new.items ≡ put_in pick found.old.items) }
-    ensures few { OnOk result (length found.new.items ≤ 64) }
-    ensures many { IfErr result (λ e. e ≡ TooMany → 64 < length (put_in pick found.old.items)) }
+    ensures few { OnOk result (length found.new.items ≤ WAYS) }
+    ensures many { IfErr result (λ e. e ≡ TooMany → WAYS < length (put_in pick found.old.items)) }
 {
     match place_for(found, &pick) {
         Ok(_) => Ok(()),
         Err(place) => {
-            if found.len() >= 64 {
+            if found.len() as u64 >= WAYS {
                 return Err(WaysFault::TooMany);
             }
             insert_pick(found, place, pick)?;
@@ -64,9 +65,9 @@ fn add_term(
     variables: &[u32],
     found: &mut Vec<Pick>,
 ) -> Result<(), WaysFault>
-    requires { length found.old.items ≤ 64 }
+    requires { length found.old.items ≤ WAYS }
     ensures all { OnOk result (found.new.items ≡ put_all found.old.items (map (λ y. pick y term.now) variables.now)) }
-    ensures few { OnOk result (length found.new.items ≤ 64) }
+    ensures few { OnOk result (length found.new.items ≤ WAYS) }
     ensures many { IfErr result (λ e. e ≡ TooMany → AreTooMany (put_all found.old.items (map (λ y. pick y term.now) variables.now))) }
 {
     for variable in variables {
@@ -87,9 +88,9 @@ fn add_picks(
     choice: &[&Occurrence],
     found: &mut Vec<Pick>,
 ) -> Result<(), WaysFault>
-    requires { length found.old.items ≤ 64 }
+    requires { length found.old.items ≤ WAYS }
     ensures all { OnOk result (found.new.items ≡ put_all found.old.items (picks_by source.now variables.now (behind choice.now))) }
-    ensures few { OnOk result (length found.new.items ≤ 64) }
+    ensures few { OnOk result (length found.new.items ≤ WAYS) }
     ensures many { IfErr result (λ e. e ≡ TooMany
         → AreTooMany (put_all found.old.items (picks_by source.now variables.now (behind choice.now)))) }
 {
@@ -124,10 +125,10 @@ pub fn add_tried<'a>(
     choice: &[&'a Occurrence],
     found: &mut Vec<Pick>,
 ) -> Result<(), WaysFault>
-    requires { length found.old.items ≤ 64 }
+    requires { length found.old.items ≤ WAYS }
     ensures all { OnOk result (found.new.items
         ≡ put_all found.old.items (tried source.now variables.now (behind among.now) places.now (behind choice.now))) }
-    ensures few { OnOk result (length found.new.items ≤ 64) }
+    ensures few { OnOk result (length found.new.items ≤ WAYS) }
     ensures many { IfErr result (λ e. e ≡ TooMany
         → AreTooMany (put_all found.old.items (tried source.now variables.now (behind among.now) places.now (behind choice.now)))) }
 {

@@ -22,8 +22,8 @@ atoms-init c =
     let e = begun_is c.args.rule.conclusion c.above_all-next.result (rw c.items.ensures at c.above_all-next.ensures) in
     (e, rw e (begun_roomy c.args.target.now c.args.rule.conclusion c.requires.numbered c.tables-tables.ensures.facts c.requires.fits (omega arith)), omega arith)
 
-pub returns-then-len-gt64-clause-wide : goal.returns-then-len-gt64-clause-wide
-returns-then-len-gt64-clause-wide c = λ _ E k. closing_wide (model_tables c.args.target.now) c.args.rule.conclusion E 0 k (rw c.len.ensures at c.if-len-gt64.true)
+pub returns-then-len-gt-OCCURRENCES-clause-wide : goal.returns-then-len-gt-OCCURRENCES-clause-wide
+returns-then-len-gt-OCCURRENCES-clause-wide c = λ _ E k. closing_wide (model_tables c.args.target.now) c.args.rule.conclusion E 0 k (rw c.len.ensures at c.if-len-gt-OCCURRENCES.true)
 
 pub returns-in_err-follow_atom-clause-wide : goal.returns-in_err-follow_atom-clause-wide
 returns-in_err-follow_atom-clause-wide c =
