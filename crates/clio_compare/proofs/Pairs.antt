@@ -2,7 +2,7 @@
 use Rattle.std.proofs.Common.{◌≡◌, ◌⊎◌, ℕ, suc, ◌≤◌, List, [], ◌∷◌, length, get_or, take, ◌+◌, ◌<◌, refl, sym, ◌∙◌, ap, subst, inl, inr, arith, Result, Ok, Err}
 use Rattle.std.specs.Prelude.{codes, true, false, Option, Some, None, IfSome}
 use Rattle.std.proofs.lemmas.Bool.{cases_lt}
-use Rattle.std.proofs.lemmas.List.{take_all}
+use Rattle.std.proofs.lemmas.List.{nil_from_length, take_all}
 use Rattle.dx_ports.specs.declared.file.Limit.{Limit}
 use Rattle.dx_ports.specs.Members.{◌∈◌, here, there, Each}
 use Rattle.dx_ports.proofs.Loops.{each_more}
@@ -123,10 +123,6 @@ refused_pair p c e (inr (q, x, (passes, is))) = inl (_, is)
 
 -- ---- the first rule with derived variables
 
-derived_none : (ds : List Derived) → length ds ≤ 0 → ds ≡ []
-derived_none [] h = refl
-derived_none (d ∷ ds) h = absurd (omega (arith, h))
-
 derived_some : (ds : List Derived) → 0 < length ds → ¬ (ds ≡ [])
 derived_some [] h e = absurd (omega (arith, h))
 derived_some (d ∷ ds) h e = cc
@@ -135,7 +131,7 @@ pub none_before : (R : List Rule) → ArePlain (take 0 R)
 none_before R d m = elim m [ ]
 
 pub one_more_plain : (R : List Rule) (i : ℕ) (d : Rule) → i < length R → d ≡ get_or R i d → ArePlain (take i R) → length d.derived ≤ 0 → ArePlain (take (i + 1) R)
-one_more_plain R i d lt is before none = each_more (λ (r : Rule). r.derived ≡ []) R i d lt is before (derived_none d.derived none)
+one_more_plain R i d lt is before none = each_more (λ (r : Rule). r.derived ≡ []) R i d lt is before (nil_from_length d.derived (omega arith))
 
 pub all_plain : (R : List Rule) (i : ℕ) → length R ≤ i → ArePlain (take i R) → ArePlain R
 all_plain R i h before = subst ArePlain (take_all i R h) before

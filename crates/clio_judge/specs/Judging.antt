@@ -1,10 +1,10 @@
 -- The stages of `judge`: the mapping, the rows, the given target, the verdict on it.
-use Rattle.std.specs.Prelude.{ℕ, List, []}
+use Rattle.std.specs.Prelude.{◌≡◌, ℕ, List, []}
 use Rattle.dx_model.specs.Values.{Conversions}
 use Rattle.dx_stages.specs.Ending.{PlanContent}
 use Rattle.dx_stages.specs.Stages.{Stage, next, over, into, saying}
-use Rattle.dx_schema.specs.Tables.{model_tables}
-use Rattle.dx_instance.specs.Stored.{TableRows, facts}
+use Rattle.dx_schema.specs.Tables.{model_tables, schema_widths}
+use Rattle.dx_instance.specs.Stored.{TableRows, facts, widths}
 use Rattle.dx_judge.specs.declared.fault.JudgeFault.{JudgeFault}
 use Rattle.dx_judge.specs.declared.fault.JudgeFault.TheVariants as judge_faults
 use Rattle.dx_judge.specs.declared.verdict.Verdict.{Verdict}
@@ -44,6 +44,11 @@ abbrev pub given_rows : Stage Refusal RowsAndBytes RowsAndTarget
 given_rows = into (λ (p : RowsAndBytes) (K : List TableRows). (p.0, K)) (over wanted_given (saying source_refusal given_stages))
 
 -- ---- the verdict
+
+-- the rows have the tables of the mapping's source, and the given target those of its target
+pub record HaveTablesOf (M : Mapping) (rows given : List TableRows) : Type 0 where
+  pub rows_fit : widths rows ≡ schema_widths M.source
+  pub given_fits : widths given ≡ schema_widths M.target
 
 -- what is judged: the given target, as a target of the rows under the mapping
 abbrev pub judged : RowsAndTarget → JudgeInput

@@ -3,15 +3,14 @@ ghost use Rattle.std.specs.Prelude.{◌≡◌, IfOk};
 ghost use Rattle.dx_stages.specs.Ending.{planned, planned_of};
 ghost use Rattle.dx_stages.specs.Running.{Gives, Ran};
 ghost use Rattle.dx_stages.specs.Stages.{saying};
-ghost use Rattle.dx_schema.specs.Tables.{model_tables, schema_widths};
+ghost use Rattle.dx_schema.specs.Tables.{model_tables};
 ghost use Rattle.dx_funcs.specs.Judging.{Decides, tested};
 ghost use Rattle.dx_funcs.specs.Serving.{Serves, offered};
-ghost use Rattle.dx_instance.specs.Stored.{widths};
 ghost use Rattle.dx_exchange.specs.Exchanging.{RulesFitSchemas};
 ghost use Rattle.clio_given.specs.Given.{given_stages};
 ghost use Rattle.clio_ending.specs.Ending.{source_refusal};
 ghost use Rattle.clio_steps.specs.Steps.{program};
-ghost use Rattle.clio_judge.specs.Judging.{judge_stages, judged_plan, judged_rows, verdicts};
+ghost use Rattle.clio_judge.specs.Judging.{HaveTablesOf, judge_stages, judged_plan, judged_rows, verdicts};
 
 use clio_accept::Mapping;
 use clio_ending::{Done, Refusal, with_source_refusal};
@@ -55,8 +54,7 @@ where
     requires serves { Serves F.Fn M.apply host.now }
     requires fits { RulesFitSchemas (offered host.now) mapping.now.rules (model_tables mapping.now.source)
         (model_tables mapping.now.target) }
-    requires rows { widths rows.now ≡ schema_widths mapping.now.source }
-    requires given { widths given.now ≡ schema_widths mapping.now.target }
+    requires tables { HaveTablesOf mapping.now rows.now given.now }
     ensures { Gives (judged_rows M.apply) ((mapping.now, rows.now), given.now) result }
 {
     let rules = mapping.rules.items();

@@ -5,7 +5,7 @@ use Rattle.std.specs.declared.alloc.AllocError.{AllocError}
 use Rattle.std.proofs.lemmas.List.{get_or-map, get_or_default, length-map}
 use Rattle.std.proofs.lemmas.Simd.{map-map}
 use Rattle.dx_ports.specs.Members.{◌∈◌, ◌⊆◌, here, there, Each}
-use Rattle.dx_ports.proofs.Members.{in_map, from_map, in_at, contains_from_in, in_flat_map, from_flat_map}
+use Rattle.dx_ports.proofs.Members.{in_map, from_map, in_at, contains_from_in, from_flat_map}
 use Rattle.dx_ports.proofs.Tests.{map_same}
 use Rattle.dx_model.specs.declared.values.Value.{Value}
 use Rattle.dx_model.specs.declared.values.Value.TheVariants.{Const}
@@ -27,6 +27,7 @@ use Rattle.dx_joins.proofs.Translating.{number_in, number_is, number_there, rows
 use Rattle.dx_queries.specs.declared.query.Part.{Part}
 use Rattle.dx_queries.specs.Queries.{assigned, fact_said}
 use Rattle.dx_queries.specs.Results.{PartFits, IsQueryCell}
+use Rattle.dx_queries.proofs.Exist.{cell_there}
 use Rattle.dx_certain.specs.Suiting.{IsSuited, RowSuits, Suits, cell_at, no_atom}
 use Rattle.dx_certain.specs.Naming.{ArePatternsOf, cell_number, variables_among}
 use Rattle.dx_certain.specs.Finding.{IsConstantAnswer, MoreRows, StandForAnswers, answer_values}
@@ -106,9 +107,6 @@ row_in S T i t r e m = rw (rows_shown S T i) (in_map (shown_row S) (subst (λ (k
 atom_number : (atoms : List Atom) (a : Atom) → a ∈ atoms → (i : ℕ) × (i < length atoms) × (atom_at atoms i ≡ a)
 atom_number atoms a m = let c = contains_from_in m in (c.0, c.1, get_or_default atoms c.0 no_atom a c.1 ∙ c.2)
 
-pub in_cells : (atoms : List Atom) (a : Atom) (c : Cell) → a ∈ atoms → c ∈ a.cells → c ∈ cells_of atoms
-in_cells atoms a c m k = in_flat_map (λ (b : Atom). b.cells) m k
-
 module _ (K : List TableRows) (S : List Value) (T : List NumberTable) (p : Part) (w : ℕ) (ps : List Pattern) (fits : PartsFit S T) (suited : IsSuited K p (shown_tables S T)) (part : PartFits w p) (named : ArePatternsOf (cells_of p.atoms) p.atoms (length p.atoms) ps) where
   abbrev pub cells : List Cell
   cells = cells_of p.atoms
@@ -126,7 +124,7 @@ module _ (K : List TableRows) (S : List Value) (T : List NumberTable) (p : Part)
   below_in t r m = (fits.each (numbers_of_table T t) (table_in T t r m)).within r m
 
   atom_cells : (i : ℕ) → i < length p.atoms → (c : Cell) → c ∈ (atom_at p.atoms i).cells → c ∈ cells
-  atom_cells i h c m = in_cells p.atoms (atom_at p.atoms i) c (in_at p.atoms i _ h) m
+  atom_cells i h c m = cell_there p.atoms (atom_at p.atoms i) c (in_at p.atoms i _ h) m
 
   -- the row of an atom, from the numbers of a join
   atom_row : (numbers : ℕ → ℕ) → AllJoin numbers → (i : ℕ) → i < length p.atoms

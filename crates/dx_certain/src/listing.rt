@@ -49,7 +49,6 @@ fn gathered(
 
 // Adds the texts of a row of constants.
 fn push_texts(rows: &Instance, place: u32, texts: &mut Vec<Text>) -> Result<(), AllocError>
-    requires table { 0 < length rows.now }
     requires place { place < length (rows_of rows.now 0) }
     requires wide { length (row_at rows.now 0 place) ≡ (table_at rows.now 0).width }
     requires constants { Each (row_at rows.now 0 place) IsConstant }

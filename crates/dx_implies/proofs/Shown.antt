@@ -7,7 +7,6 @@ use Rattle.dx_ports.specs.Members.{◌∈◌, ◌≈◌, here, there, Each}
 use Rattle.dx_ports.proofs.Members.{in_map}
 use Rattle.dx_model.specs.declared.values.Value.{Value}
 use Rattle.dx_model.specs.declared.facts.Fact.{Fact}
-use Rattle.dx_model.specs.declared.rules.Derived.{Derived}
 use Rattle.dx_model.specs.declared.rules.Rule.{Rule}
 use Rattle.dx_model.specs.Values.{Rows, Conversions}
 use Rattle.dx_ports.specs.Texts.{Text}
@@ -28,6 +27,9 @@ use Rattle.dx_implies.specs.declared.refuting.Refutation.{Refutation}
 use Rattle.dx_implies.specs.Frozen.{IsFrozenRefusal, PassesFrozen, frozen_premise, marks, told_frozen}
 use Rattle.dx_implies.specs.Laws.{IsPlainRule}
 use Rattle.dx_implies.specs.Refuting.{IsRefutation}
+use Rattle.dx_implies.specs.Testing.{IsPlainTestable, PlainRuleFits}
+use Rattle.dx_implies.specs.declared.between.Between.{Between}
+use Rattle.dx_implies.proofs.Answered.{none_within}
 use Rattle.dx_implies.proofs.Cells.{frozen_cells_are_one}
 use Rattle.dx_implies.proofs.Plain.{IsPlain, all_rows_any, follows_any}
 use Rattle.dx_implies.proofs.Premises.{fit_widths}
@@ -38,25 +40,29 @@ indexed I J C ws e f w = (subst (λ (K : List TableRows). facts K ≈ C) (sym e)
 
 -- ---- what the rules are given to
 
-module _ (source target : Forest) (R : List Rule) (d : Rule) (I : List TableRows) (fits : Each (d ∷ R) (RuleFits (model_tables source) (model_tables target)))
-    (plain : Each (d ∷ R) IsPlain) (wide : widths I ≡ schema_widths source) where
-  pub all_rules : Each R IsRule
-  all_rules r m = (fits r (there m)).rule
+module _ (b : Between) (R : List Rule) (d : Rule) (I : List TableRows) (rules : Each (d ∷ R) (IsPlainTestable b)) (wide : widths I ≡ schema_widths b.source.now) where
+  pub all_fit : Each R (PlainRuleFits (widths I) (schema_widths b.target.now))
+  all_fit r m =
+      let k = rules r (there m) in
+      record {
+        rule = k.fits.rule;
+        underived = none_within r.derived k.plain;
+        premise = subst (λ ws. AtomsFitWidths ws r.premise) (sym wide) (fit_widths b.source.now r.premise k.fits.premise);
+        conclusion = fit_widths b.target.now r.conclusion k.fits.conclusion;
+      }
 
-  pub all_premises : Each R (λ (r : Rule). AtomsFitWidths (widths I) r.premise)
-  all_premises r m = subst (λ ws. AtomsFitWidths ws r.premise) (sym wide) (fit_widths source r.premise (fits r (there m)).premise)
+  pub rule_concludes : (ws : List ℕ) → ws ≡ schema_widths b.target.now → AtomsFitWidths ws d.conclusion
+  rule_concludes ws is = subst (λ vs. AtomsFitWidths vs d.conclusion) (sym is) (fit_widths b.target.now d.conclusion (rules d (here refl)).fits.conclusion)
 
-  pub all_conclusions : Each R (λ (r : Rule). AtomsFitWidths (schema_widths target) r.conclusion)
-  all_conclusions r m = fit_widths target r.conclusion (fits r (there m)).conclusion
+-- what is known of testable rules, fact by fact
+pub fits_of : {b : Between} {R : List Rule} → Each R (IsPlainTestable b) → Each R (RuleFits (model_tables b.source.now) (model_tables b.target.now))
+fits_of rules r m = (rules r m).fits
 
-  pub none_derived : Each R (λ (r : Rule). Each r.derived (λ (e : Derived). ⊥))
-  none_derived r m e k = none r.derived (plain r (there m)) k
-    where
-      none : (ds : List Derived) → ds ≡ [] → ¬ (e ∈ ds)
-      none ds is n = elim (subst (λ es. e ∈ es) is n) [ ]
+pub plain_of : {b : Between} {R : List Rule} → Each R (IsPlainTestable b) → Each R IsPlain
+plain_of rules r m = (rules r m).plain
 
-  pub rule_concludes : (ws : List ℕ) → ws ≡ schema_widths target → AtomsFitWidths ws d.conclusion
-  rule_concludes ws is = subst (λ vs. AtomsFitWidths vs d.conclusion) (sym is) (fit_widths target d.conclusion (fits d (here refl)).conclusion)
+pub clean_of : {b : Between} {R : List Rule} → Each R (IsPlainTestable b) → Each R (IsClean b.prefix.now)
+clean_of rules r m = (rules r m).clean
 
 -- ---- what is made of the frozen premise
 

@@ -4,3 +4,4 @@ pub mod Laws
 pub mod Near
 pub mod Refuting
 pub mod Asking
+pub mod Testing

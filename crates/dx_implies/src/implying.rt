@@ -3,8 +3,8 @@ ghost use Rattle.std.specs.Prelude.{◌≡◌, ◌↔◌, ◌<◌, ◌≤◌, �
 ghost use Rattle.dx_ports.specs.Members.{◌∈◌, ◌≈◌, Each};
 ghost use Rattle.dx_model.specs.declared.values.Value.{Value as AnyValue};
 ghost use Rattle.dx_model.specs.declared.rules.Rule.{Rule as RuleOf};
-ghost use Rattle.dx_model.specs.Fitting.{AtomsFitWidths, IsRule, RuleFits};
-ghost use Rattle.dx_model.specs.Following.{Follows, IsClean, frozen_text, underived};
+ghost use Rattle.dx_model.specs.Fitting.{AtomsFitWidths, RuleFits};
+ghost use Rattle.dx_model.specs.Following.{Follows, frozen_text, underived};
 ghost use Rattle.dx_model.specs.Rules.{AreRows, canonical, fact_of_atom};
 ghost use Rattle.dx_model.specs.Values.{Conversions};
 ghost use Rattle.dx_schema.specs.Tables.{model_tables, schema_widths};
@@ -14,8 +14,10 @@ ghost use Rattle.dx_tgd.specs.Found.{IsCanonicalRefusal as IsTooLarge};
 ghost use Rattle.dx_solver.specs.Questions.{HasImageRow};
 ghost use Rattle.dx_implies.specs.Asking.{AtomFitsTable};
 ghost use Rattle.dx_implies.specs.Frozen.{IsFrozenRefusal, PassesFrozen};
+ghost use Rattle.dx_implies.specs.Testing.{IsTestable, PlainRuleFits};
 
 use crate::asking::{above_atoms, atoms_of};
+use crate::between::Between;
 use crate::freezing::frozen_with;
 use crate::host::NoConversions;
 use crate::nearby::near_rules;
@@ -110,26 +112,21 @@ pub(crate) fn made_of(
     alloc: Global,
     rules: &[Rule],
     premise: &Instance,
-    target: &Schema,
-    limit: u64,
+    between: &Between<'_>,
 ) -> Result<Made, CanonFault>
-    requires plain { Each rules.now (λ d. Each d.derived (λ e. ⊥)) }
-    requires rules { Each rules.now IsRule }
+    requires rules { Each rules.now (PlainRuleFits (widths premise.now) (schema_widths between.now.target.now)) }
     requires few { length rules.now < 2 ^ 32 - 1 }
-    requires premises { Each rules.now (λ d. AtomsFitWidths (widths premise.now) d.premise) }
-    requires conclusions { Each rules.now (λ d. AtomsFitWidths (schema_widths target.now) d.conclusion) }
-    requires limit { limit < 2 ^ 32 - 1 }
     ensures matches { IfOk result (λ m. AreRows (λ _ _. []) rules.now (facts premise.now) m.matches) }
-    ensures within { IfOk result (λ m. canonical_cells rules.now m.matches ≤ limit) }
+    ensures within { IfOk result (λ m. canonical_cells rules.now m.matches ≤ between.now.limit) }
     ensures facts { IfOk result (λ m. facts m.instance ≈ canonical 0 rules.now m.matches) }
-    ensures widths { IfOk result (λ m. widths m.instance ≡ schema_widths target.now) }
-    ensures refused { IfErr result (IsTooLarge (λ _ _. []) rules.now (facts premise.now) limit) }
+    ensures widths { IfOk result (λ m. widths m.instance ≡ schema_widths between.now.target.now) }
+    ensures refused { IfErr result (IsTooLarge (λ _ _. []) rules.now (facts premise.now) between.now.limit) }
 {
     let host: Host<_, NoConversions> = Host::build(
         Items::new(alloc),
         |_code: u32, _texts: &Items<Text>| Err(AllocError),
     );
-    canonical_plain(alloc, rules, premise, &host, target, limit)
+    canonical_plain(alloc, rules, premise, &host, between.target, between.limit)
 }
 
 /// Whether the rule follows from those of the others that have no derived variables. The prefix is one with which no literal
@@ -138,24 +135,19 @@ pub(crate) fn follows(
     alloc: Global,
     rule: &Rule,
     others: &[Rule],
-    prefix: &Text,
-    source: &Schema,
-    target: &Schema,
-    limit: u64,
+    between: &Between<'_>,
 ) -> Result<bool, CanonFault>
-    requires fits { Each (rule.now ∷ others.now) (RuleFits (model_tables source.now) (model_tables target.now)) }
-    requires clean { Each (rule.now ∷ others.now) (IsClean prefix.now) }
+    requires rules { Each (rule.now ∷ others.now) (IsTestable between.now) }
     requires plain { rule.now.derived ≡ [] }
     requires few { length others.now < 2 ^ 32 - 1 }
-    requires limit { limit < 2 ^ 32 - 1 }
     ensures follows { IfOk result (λ b. (convert : Conversions) → IsTrue b ↔ Follows convert (underived others.now) rule.now) }
-    ensures within { OnOk result (¬ (PassesFrozen limit (underived others.now) rule.now)) }
-    ensures refused { IfErr result (IsFrozenRefusal limit (PassesFrozen limit (underived others.now) rule.now)) }
+    ensures within { OnOk result (¬ (PassesFrozen between.now.limit (underived others.now) rule.now)) }
+    ensures refused { IfErr result (IsFrozenRefusal between.now.limit (PassesFrozen between.now.limit (underived others.now) rule.now)) }
 {
-    let premise = frozen_with(alloc, rule, prefix, source)?;
+    let premise = frozen_with(alloc, rule, between.prefix, between.source)?;
     let near = near_rules(alloc, others, &premise)?;
-    match made_of(alloc, near.as_slice(), &premise, target, limit) {
-        Ok(made) => Ok(stands_in(alloc, rule, prefix, made.instance)?),
+    match made_of(alloc, near.as_slice(), &premise, between) {
+        Ok(made) => Ok(stands_in(alloc, rule, between.prefix, made.instance)?),
         Err(fault) => Err(told_as_frozen(fault)),
     }
 }
@@ -184,5 +176,11 @@ pub fn implied(
 {
     let most = marks_in(others, marks_in(from_ref(rule), 0));
     let prefix = marks(alloc, most + 1)?;
-    follows(alloc, rule, others, &prefix, source, target, limit)
+    let between = Between {
+        source,
+        target,
+        prefix: &prefix,
+        limit,
+    };
+    follows(alloc, rule, others, &between)
 }

@@ -1,5 +1,5 @@
 -- Facts as a question to the solver: constants by their numbers, nulls by their places in a list.
-use Rattle.std.specs.Prelude.{◌≡◌, ℕ, zero, suc, ◌<◌, List, [], ◌∷◌, cond, length}
+use Rattle.std.specs.Prelude.{◌≡◌, ℕ, zero, suc, ◌<◌, ◌^◌, List, [], ◌∷◌, cond, length}
 use Rattle.std.specs.List.{AllZip}
 use Rattle.dx_ports.specs.Members.{◌∈◌}
 use Rattle.dx_model.specs.declared.facts.Fact.{Fact}
@@ -7,12 +7,18 @@ use Rattle.dx_model.specs.declared.values.NullId.{NullId}
 use Rattle.dx_model.specs.declared.values.Value.{Value}
 use Rattle.dx_model.specs.declared.values.Value.TheVariants.{Const, Null}
 use Rattle.dx_model.specs.Instances.{same_null}
+use Rattle.dx_model.specs.Values.{NullsAscend}
 use Rattle.dx_instance.specs.Numbers.{value_of}
 use Rattle.dx_instance.specs.Stored.{TableRows, table_at}
 use Rattle.dx_solver.specs.declared.atom.Term.{Term}
 use Rattle.dx_solver.specs.declared.atom.Term.TheVariants.{Number, Variable}
 use Rattle.dx_solver.specs.declared.atom.PatternAtom.{PatternAtom}
 use Rattle.dx_judge.specs.Turned.{fact_turned}
+
+-- nulls in ascending order, so few that the place of each is a variable
+pub record AreNullVariables (ns : List NullId) : Type 0 where
+  pub ascend : NullsAscend ns
+  pub few : length ns < 2 ^ 32
 
 -- the first place of a null in a list, or how many nulls there are
 abbrev pub place_in : List NullId → NullId → ℕ

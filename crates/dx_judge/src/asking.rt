@@ -1,5 +1,5 @@
 // Facts as a question to the solver, with a variable for each of their nulls.
-ghost use Rattle.std.specs.Prelude.{◌≡◌, ◌↔◌, ◌<◌, ◌^◌, [], ℕ, IfOk, IsTrue, MatchOption, None, length, replicate};
+ghost use Rattle.std.specs.Prelude.{◌≡◌, ◌↔◌, ◌<◌, [], ℕ, IfOk, IsTrue, MatchOption, None, length, replicate};
 ghost use Rattle.std.specs.List.{AllZip};
 ghost use Rattle.dx_ports.specs.Members.{◌∈◌, Each};
 ghost use Rattle.dx_model.specs.declared.values.NullId.{NullId as Id};
@@ -8,7 +8,7 @@ ghost use Rattle.dx_model.specs.Tables.{values_in};
 ghost use Rattle.dx_model.specs.Values.{NullsAscend, null_at};
 ghost use Rattle.dx_blocks.specs.Nulls.{AreKnown};
 ghost use Rattle.dx_solver.specs.Questions.{FitsAtom, HasImageRow};
-ghost use Rattle.dx_judge.specs.Asking.{HasStranger, HasStrangerIn, IsStranger, SaysTurned, SaysValue, place_in};
+ghost use Rattle.dx_judge.specs.Asking.{AreNullVariables, HasStranger, HasStrangerIn, IsStranger, SaysTurned, SaysValue, place_in};
 ghost use Rattle.dx_judge.specs.Turned.{CanTurn};
 
 use dx_instance::Numbers;
@@ -32,9 +32,8 @@ fn place_of(nulls: &[NullId], null: &NullId) -> usize
 
 // The variable that stands for a null: its place among the nulls.
 fn variable_of(nulls: &[NullId], null: &NullId) -> u32
-    requires ascend { NullsAscend nulls.now }
+    requires nulls { AreNullVariables nulls.now }
     requires known { null.now ∈ nulls.now }
-    requires few { length nulls.now < 2 ^ 32 }
     ensures { result ≡ place_in nulls.now null.now }
 {
     place_of(nulls, null) as u32
@@ -42,9 +41,8 @@ fn variable_of(nulls: &[NullId], null: &NullId) -> u32
 
 // The term that stands for a value. There is none if a constant has no number.
 fn term_of(value: &Value, nulls: &[NullId], numbers: &Numbers<'_>) -> Option<Term>
-    requires ascend { NullsAscend nulls.now }
+    requires nulls { AreNullVariables nulls.now }
     requires known { (n : Id) → value.now ≡ Null n → n ∈ nulls.now }
-    requires few { length nulls.now < 2 ^ 32 }
     ensures { MatchOption result (IsStranger numbers.now.symbols value.now) (SaysValue numbers.now.symbols nulls.now value.now) }
 {
     match value {
@@ -65,9 +63,8 @@ fn terms_of(
     numbers: &Numbers<'_>,
 ) -> Result<Option<Terms>, AllocError>
     requires order { Each order.now (λ c. c < length row.now) }
-    requires ascend { NullsAscend nulls.now }
+    requires nulls { AreNullVariables nulls.now }
     requires known { AreKnown nulls.now row.now }
-    requires few { length nulls.now < 2 ^ 32 }
     ensures { IfOk result (λ o. MatchOption o (HasStranger numbers.now.symbols (values_in order.now row.now))
         (AllZip (SaysValue numbers.now.symbols nulls.now) (values_in order.now row.now))) }
 {
@@ -95,9 +92,8 @@ pub(crate) fn atoms_of(
     numbers: &Numbers<'_>,
 ) -> Result<Option<Vec<PatternAtom>>, AllocError>
     requires orders { Each facts.now (CanTurn orders.now) }
-    requires ascend { NullsAscend nulls.now }
+    requires nulls { AreNullVariables nulls.now }
     requires known { Each facts.now (λ f. AreKnown nulls.now f.row) }
-    requires few { length nulls.now < 2 ^ 32 }
     ensures { IfOk result (λ o. MatchOption o (HasStrangerIn numbers.now.symbols orders.now facts.now)
         (λ all. AllZip (SaysTurned numbers.now.symbols orders.now nulls.now) facts.now all.items)) }
 {

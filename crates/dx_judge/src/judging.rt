@@ -1,18 +1,15 @@
 // The verdict on an instance.
-ghost use Rattle.std.specs.Prelude.{◌≡◌, ◌<◌, ◌^◌, ℕ, List, IfOk, length};
-ghost use Rattle.dx_ports.specs.Members.{Each, ◌≈◌};
+ghost use Rattle.std.specs.Prelude.{◌≡◌, ℕ, List, IfOk};
 ghost use Rattle.dx_model.specs.declared.facts.Fact.{Fact as FactRow};
 ghost use Rattle.dx_model.specs.Chase.{NoneReceives};
-ghost use Rattle.dx_model.specs.Fitting.{AtomsFitWidths};
-ghost use Rattle.dx_model.specs.Rules.{AreRows, canonical};
-ghost use Rattle.dx_model.specs.Solutions.{IsClosed};
+ghost use Rattle.dx_model.specs.Rules.{AreRows};
 ghost use Rattle.dx_model.specs.Values.{Conversions};
 ghost use Rattle.dx_stages.specs.Running.{Answers};
 ghost use Rattle.dx_schema.specs.Tables.{model_tables, schema_widths};
 ghost use Rattle.dx_funcs.specs.Serving.{Serves, offered};
 ghost use Rattle.dx_instance.specs.Stored.{facts, widths};
 ghost use Rattle.dx_exchange.specs.Exchanging.{RulesFitSchemas};
-ghost use Rattle.dx_judge.specs.Parts.{IsChasedOf, IsSolutionVerdict, IsUniversalOne};
+ghost use Rattle.dx_judge.specs.Parts.{ConcludeInto, IsChasedOf, IsMadeInto, IsSolutionVerdict, IsUniversalOne};
 ghost use Rattle.dx_judge.specs.Verdicts.{IsVerdict, judging};
 
 use crate::fault::JudgeFault;
@@ -85,13 +82,8 @@ fn judge_made(
     target: &Schema,
     given: &Instance,
 ) -> Result<Verdict, AllocError>
-    requires closed { Each rules.now (IsClosed (model_tables target.now)) }
-    requires conclusions { Each rules.now (λ d. AtomsFitWidths (schema_widths target.now) d.conclusion) }
-    requires few_rules { length rules.now < 2 ^ 32 }
-    requires are { (convert : Conversions) × (I : List FactRow) × AreRows convert rules.now I made.matches }
-    requires few { Each made.matches (λ ts. length ts < 2 ^ 32) }
-    requires facts { facts made.instance ≈ canonical 0 rules.now made.matches }
-    requires widths { widths made.instance ≡ schema_widths target.now }
+    requires rules { ConcludeInto target.now rules.now }
+    requires made { IsMadeInto target.now rules.now made }
     requires given { widths given.now ≡ schema_widths target.now }
     ensures { (convert : Conversions) (I : List FactRow) (limit : ℕ) → AreRows convert rules.now I made.matches
         → IfOk result (IsVerdict convert

@@ -1,12 +1,11 @@
 // The first place of rules that does not hold.
-ghost use Rattle.std.specs.Prelude.{◌≡◌, ◌↔◌, ◌<◌, ◌^◌, ◌≤◌, IfOk, IsTrue, length};
+ghost use Rattle.std.specs.Prelude.{◌↔◌, IfOk, IsTrue};
 ghost use Rattle.dx_ports.specs.Members.{Each};
 ghost use Rattle.dx_model.specs.Fitting.{AtomsFitWidths};
-ghost use Rattle.dx_model.specs.Rules.{exported as exported_of};
 ghost use Rattle.dx_model.specs.Matches.{rows_of_matches};
 ghost use Rattle.dx_instance.specs.Stored.{facts, widths};
 ghost use Rattle.dx_judge.specs.Turning.{IsTurnedOne};
-ghost use Rattle.dx_judge.specs.Open.{TuplesFitRules, IsFirstOpen, IsFirstTuple, TupleHolds};
+ghost use Rattle.dx_judge.specs.Open.{AreMatchesOf, AreTuplesOf, IsFirstOpen, IsFirstTuple, IsTupleOf, TupleHolds};
 
 use crate::moving::moves_into;
 use crate::saying::facts_said;
@@ -33,8 +32,7 @@ fn tuple_holds(
 ) -> Result<bool, AllocError>
     requires conclusion { AtomsFitWidths (widths given.now.plain.now) rule.now.conclusion }
     requires turned { IsTurnedOne given.now }
-    requires variables { variables.now ≡ exported_of rule.now }
-    requires long { length tuple.now ≡ length variables.now }
+    requires tuple { IsTupleOf rule.now variables.now tuple.now }
     ensures { IfOk result (λ holds. IsTrue holds ↔ TupleHolds rule.now (facts given.now.plain.now) tuple.now) }
 {
     let said = facts_said(alloc, rule.conclusion.items(), variables, tuple)?;
@@ -50,8 +48,7 @@ fn first_tuple(
 ) -> Result<Option<u32>, AllocError>
     requires conclusion { AtomsFitWidths (widths given.now.plain.now) rule.now.conclusion }
     requires turned { IsTurnedOne given.now }
-    requires long { Each places.now.tuples (λ t. length t ≡ length (exported_of rule.now)) }
-    requires few { length places.now.tuples < 2 ^ 32 }
+    requires tuples { AreTuplesOf rule.now places.now.tuples }
     ensures { IfOk result (IsFirstTuple rule.now (facts given.now.plain.now) places.now.tuples) }
 {
     let variables = exported(alloc, rule)?;
@@ -77,10 +74,7 @@ pub(crate) fn first_open(
 ) -> Result<Option<OpenPlace>, AllocError>
     requires conclusions { Each rules.now (λ d. AtomsFitWidths (widths given.now.plain.now) d.conclusion) }
     requires turned { IsTurnedOne given.now }
-    requires many { length matches.now.rules ≡ length rules.now }
-    requires long { TuplesFitRules rules.now (rows_of_matches matches.now) }
-    requires few_rules { length rules.now < 2 ^ 32 }
-    requires few { Each (rows_of_matches matches.now) (λ ts. length ts < 2 ^ 32) }
+    requires matches { AreMatchesOf rules.now matches.now }
     ensures { IfOk result (IsFirstOpen rules.now (rows_of_matches matches.now) (facts given.now.plain.now)) }
 {
     for i in 0..rules.len() {

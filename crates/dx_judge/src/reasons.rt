@@ -1,13 +1,12 @@
 // Why an instance is no solution.
-ghost use Rattle.std.specs.Prelude.{◌≡◌, ◌<◌, ◌≤◌, ◌^◌, ℕ, IfOk, length};
+ghost use Rattle.std.specs.Prelude.{◌≡◌, ◌<◌, IfOk, length};
 ghost use Rattle.dx_ports.specs.Members.{Each};
 ghost use Rattle.dx_model.specs.Fitting.{AtomsFitWidths};
-ghost use Rattle.dx_model.specs.Values.{RowsAscend};
 ghost use Rattle.dx_model.specs.Matches.{rows_of_matches};
 ghost use Rattle.dx_schema.specs.Tables.{model_tables, schema_widths};
 ghost use Rattle.dx_instance.specs.Stored.{facts, rows_of, widths};
 ghost use Rattle.dx_fails.specs.Shown.{IsBrokenKey, IsLoneRow};
-ghost use Rattle.dx_judge.specs.Open.{TuplesFitRules, IsFirstReason, IsKeyFault, IsKeyOrLink, IsLinkFault};
+ghost use Rattle.dx_judge.specs.Open.{AreMatchesOf, IsFirstReason, IsKeyFault, IsKeyOrLink, IsLinkFault};
 
 use crate::opening::first_open;
 use crate::turning::turn;
@@ -75,10 +74,7 @@ pub(crate) fn reason(
 ) -> Result<Option<Why>, AllocError>
     requires widths { widths given.now ≡ schema_widths target.now }
     requires conclusions { Each rules.now (λ d. AtomsFitWidths (widths given.now) d.conclusion) }
-    requires many { length matches.now.rules ≡ length rules.now }
-    requires long { TuplesFitRules rules.now (rows_of_matches matches.now) }
-    requires few_rules { length rules.now < 2 ^ 32 }
-    requires few { Each (rows_of_matches matches.now) (λ ts. length ts < 2 ^ 32) }
+    requires matches { AreMatchesOf rules.now matches.now }
     ensures { IfOk result (IsFirstReason rules.now (rows_of_matches matches.now) (model_tables target.now) given.now) }
 {
     let turned = turn(alloc, given)?;

@@ -81,7 +81,8 @@ same_row values f xs cells like among = map_same (assigned f) (assigned values) 
 variable_there : (atoms : List Atom) (x : ℕ) → Var x ∈ cells_of atoms → x ∈ variables_of atoms
 variable_there atoms x m = in_flat_map cell_variable m (here refl)
 
-cell_there : (atoms : List Atom) (a : Atom) (c : Cell) → a ∈ atoms → c ∈ a.cells → c ∈ cells_of atoms
+-- a cell of an atom is a cell of the atoms
+pub cell_there : (atoms : List Atom) (a : Atom) (c : Cell) → a ∈ atoms → c ∈ a.cells → c ∈ cells_of atoms
 cell_there atoms a c m k = in_flat_map (λ (b : Atom). b.cells) m k
 
 same_said : (values f : ℕ → Value) (atoms : List Atom) → IsLike values (variables_of atoms) f → (a : Atom) → a ∈ atoms → fact_said f a ≡ fact_said values a

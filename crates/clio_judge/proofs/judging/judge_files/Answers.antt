@@ -46,14 +46,13 @@ judge_rows-requires-clause-fits g c =
     let P : Program = program (offered c.args.host.now) (tested c.args.tests.now) g.M.Meaning.apply g.M.Meaning.passes in
     rules_fit P c.in_ok-mapping.mapping (mapping_fits P First c.in_ok-mapping.mapping _ _ c.in_ok-mapping.ensures)
 
-pub judge_rows-requires-clause-rows : goal.judge_rows-requires-clause-rows
-judge_rows-requires-clause-rows g c =
+pub judge_rows-requires-clause-tables : goal.judge_rows-requires-clause-tables
+judge_rows-requires-clause-tables g c =
     let read = c.in_ok-rows.ensures in
-    agreeing_widths g.M.Meaning.passes (wanted c.in_ok-mapping.mapping) read.0 (c.in_ok-rows.rows, c.in_ok-rows.bytes_left) _ _ read.2
-
-pub judge_rows-requires-clause-given : goal.judge_rows-requires-clause-given
-judge_rows-requires-clause-given g c =
-    given_widths (wanted_given ((c.in_ok-mapping.mapping, c.in_ok-rows.rows), c.in_ok-rows.bytes_left)) c.in_ok-given.given _ _ c.in_ok-given.ensures
+    record {
+      rows_fit = agreeing_widths g.M.Meaning.passes (wanted c.in_ok-mapping.mapping) read.0 (c.in_ok-rows.rows, c.in_ok-rows.bytes_left) _ _ read.2;
+      given_fits = given_widths (wanted_given ((c.in_ok-mapping.mapping, c.in_ok-rows.rows), c.in_ok-rows.bytes_left)) c.in_ok-given.given _ _ c.in_ok-given.ensures;
+    }
 
 pub returns-in_err-verdict : goal.returns-in_err-verdict
 returns-in_err-verdict g c =

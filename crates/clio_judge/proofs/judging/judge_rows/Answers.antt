@@ -9,6 +9,9 @@ use Rattle.clio_judge.proofs.judging.judge_rows.Goals as goal
 pub judge-requires-clause-fits : goal.judge-requires-clause-fits
 judge-requires-clause-fits g c = rw c.items-rules.ensures c.requires.fits
 
+pub judge-requires-clause-given : goal.judge-requires-clause-given
+judge-requires-clause-given g c = c.requires.tables.given_fits
+
 pub returns-in-Err-Limit : goal.returns-in-Err-Limit
 returns-in-Err-Limit g c =
     let limit = c.in-Err-Limit.limit in

@@ -19,33 +19,34 @@ pub reason-requires-clause-widths : goal.reason-requires-clause-widths
 reason-requires-clause-widths c = c.in_ok-sorted.ensures.widths_stay ∙ c.requires.given
 
 pub reason-requires-clause-conclusions : goal.reason-requires-clause-conclusions
-reason-requires-clause-conclusions c = rw (c.in_ok-sorted.ensures.widths_stay ∙ c.requires.given) c.requires.conclusions
+reason-requires-clause-conclusions c = rw (c.in_ok-sorted.ensures.widths_stay ∙ c.requires.given) c.requires.rules.conclusions
 
-pub reason-requires-clause-many : goal.reason-requires-clause-many
-reason-requires-clause-many c =
-    let k = c.requires.are in
-    sym (length-map c.in_ok-matches.matches.rules (λ (p : Places). p.tuples)) ∙ ap length c.in_ok-matches.ensures
-    ∙ (rows_of_all k.0 c.args.rules.now k.1 c.args.made.matches c.args.made.matches k.2 k.2).1
+pub reason-requires-clause-matches : goal.reason-requires-clause-matches
+reason-requires-clause-matches c =
+    let k = c.requires.made.are in
+    record {
+      many = sym (length-map c.in_ok-matches.matches.rules (λ (p : Places). p.tuples)) ∙ ap length c.in_ok-matches.ensures
+          ∙ (rows_of_all k.0 c.args.rules.now k.1 c.args.made.matches c.args.made.matches k.2 k.2).1;
+      long = rw c.in_ok-matches.ensures (are_long k.0 c.args.rules.now k.1 c.args.made.matches k.2);
+      few_rules = c.requires.rules.few;
+      few = rw c.in_ok-matches.ensures c.requires.made.few;
+    }
 
-pub reason-requires-clause-long : goal.reason-requires-clause-long
-reason-requires-clause-long c =
-    let k = c.requires.are in rw c.in_ok-matches.ensures (are_long k.0 c.args.rules.now k.1 c.args.made.matches k.2)
-
-pub reason-requires-clause-few : goal.reason-requires-clause-few
-reason-requires-clause-few c = rw c.in_ok-matches.ensures c.requires.few
+pub judge_solution-requires-clause-widths : goal.judge_solution-requires-clause-widths
+judge_solution-requires-clause-widths c = c.requires.made.widths_are
 
 pub judge_solution-requires-clause-given : goal.judge_solution-requires-clause-given
 judge_solution-requires-clause-given c = c.in_ok-sorted.ensures.widths_stay ∙ c.requires.given
 
 pub judge_solution-requires-clause-received : goal.judge_solution-requires-clause-received
 judge_solution-requires-clause-received c =
-    let k = c.requires.are in
+    let k = c.requires.made.are in
     let schema = model_tables c.args.target.now in
     let S = c.in_ok-sorted.sorted in
     let fits : IsInstance schema (facts S) =
     facts_fit schema S (c.in_ok-sorted.ensures.widths_stay ∙ c.requires.given ∙ sym (model_widths c.args.target.now)) c.tables-wide.ensures.rows in
     let none = rw (c.in_default.is, c.in_ok-matches.ensures) at c.in_ok-why.ensures in
-    received k.0 c.args.rules.now schema k.1 c.args.made.matches k.2 S 0 c.args.made.instance c.requires.facts.0
+    received k.0 c.args.rules.now schema k.1 c.args.made.matches k.2 S 0 c.args.made.instance c.requires.made.facts_are.0
     (is_solution k.0 c.args.rules.now schema k.1 c.args.made.matches k.2 S 0 fits none)
 
 pub returns-in-Some : goal.returns-in-Some
@@ -66,5 +67,5 @@ returns c = λ convert I limit are.
     IfOk-weaker c.judge_solution.result (IsSolutionVerdict schema c.args.made.instance S)
     (IsVerdict convert (judged c.args.rules.now schema I c.args.given.now limit))
     (λ v k. as_given convert c.args.rules.now schema I c.args.given.now S limit v c.in_ok-sorted.ensures
-    (solution_verdict convert c.args.rules.now schema I c.args.made.matches are S limit c.args.made.instance c.requires.facts c.requires.closed
+    (solution_verdict convert c.args.rules.now schema I c.args.made.matches are S limit c.args.made.instance c.requires.made.facts_are c.requires.rules.closed
     (is_solution convert c.args.rules.now schema I c.args.made.matches are S limit fits none) v k)) c.judge_solution.ensures

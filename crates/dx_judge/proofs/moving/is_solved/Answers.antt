@@ -1,4 +1,4 @@
-use Rattle.std.proofs.Common.{◌≡◌, ℕ, arith, length, subst}
+use Rattle.std.proofs.Common.{◌≡◌, ℕ, arith, length, rules, subst}
 use Rattle.dx_ports.specs.Members.{Each}
 use Rattle.dx_ports.proofs.Options.{some_left, none_of}
 use Rattle.dx_solver.specs.Questions.{FitsAtom}
@@ -12,6 +12,12 @@ atoms_of-requires-clause-orders c = λ f m. rw c.deref.ensures.value
 
 pub atoms_of-requires-clause-known : goal.atoms_of-requires-clause-known
 atoms_of-requires-clause-known c = rw c.deref-2.ensures.value (known_nulls c.args.from.now c.in_ok-nulls.nulls.items c.in_ok-nulls.ensures)
+
+pub atoms_of-requires-clause-nulls : goal.atoms_of-requires-clause-nulls
+atoms_of-requires-clause-nulls c = record {
+  ascend = rw c.deref-2.ensures.value c.in_ok-nulls.ensures.ascend;
+  few = search rules;
+}
 
 pub can_stand-requires : goal.can_stand-requires
 can_stand-requires c =

@@ -1,14 +1,16 @@
-use Rattle.std.proofs.Common.{[], below_more, get_or}
+use Rattle.std.proofs.Common.{◌∙◌, [], below_more, get_or}
 use Rattle.dx_ports.proofs.Members.{in_at}
 use Rattle.dx_instance.specs.Stored.{facts}
 use Rattle.dx_judge.proofs.Said.{tuples_all}
 use Rattle.dx_judge.proofs.opening.first_tuple.Goals as goal
 
-pub tuple_holds-requires-clause-long : goal.tuple_holds-requires-clause-long
-tuple_holds-requires-clause-long c =
-    rw (c.tuple-tuple.ensures, c.deref.ensures.value, c.in_ok-variables.ensures)
-    (c.requires.long (get_or c.args.places.now.tuples c.loop-place.place [])
-    (in_at c.args.places.now.tuples c.loop-place.place [] (rw c.len-place-end.ensures at c.loop-place-test.true)))
+pub tuple_holds-requires-clause-tuple : goal.tuple_holds-requires-clause-tuple
+tuple_holds-requires-clause-tuple c = record {
+  variables_are = c.deref.ensures.value ∙ c.in_ok-variables.ensures;
+  long = rw (c.tuple-tuple.ensures, c.deref.ensures.value, c.in_ok-variables.ensures)
+      (c.requires.tuples.long (get_or c.args.places.now.tuples c.loop-place.place [])
+      (in_at c.args.places.now.tuples c.loop-place.place [] (rw c.len-place-end.ensures at c.loop-place-test.true)));
+}
 
 pub loop-place-preserved : goal.loop-place-preserved
 loop-place-preserved c = below_more _ _ c.loop-place.invariant ((rw c.tuple-tuple.ensures at c.in_ok-tuple_holds.ensures).0 c.if-not-branch.false)
