@@ -1,15 +1,17 @@
 -- The nulls of rows joined in trees by their numbers.
-use Rattle.std.proofs.Common.{◌≡◌, ℕ, ◌+◌, ◌-◌, ◌<◌, ◌≤◌, List, refl, sym, ◌∙◌, ap, subst, arith}
+use Rattle.std.proofs.Common.{◌≡◌, ℕ, ◌+◌, ◌-◌, ◌<◌, ◌≤◌, List, [], inl, inr, refl, sym, ◌∙◌, ap, subst, arith}
 use Rattle.std.proofs.Common.{length, get_or, take, map}
-use Rattle.std.proofs.lemmas.List.{length-map, get_or-map}
+use Rattle.std.proofs.lemmas.Bool.{cases_lt}
+use Rattle.std.proofs.lemmas.List.{length-map, get_or-map, get_or_past}
 use Rattle.dx_ports.specs.Members.{◌∈◌, Each}
 use Rattle.dx_ports.proofs.Members.{in_at, in_map, from_map, from_flat_map}
 use Rattle.dx_model.specs.declared.values.NullId.{NullId}
 use Rattle.dx_model.specs.declared.values.Value.{Value}
 use Rattle.dx_model.specs.declared.values.Value.TheVariants.{Null}
 use Rattle.dx_model.specs.declared.facts.Fact.{Fact}
+use Rattle.dx_instance.specs.Cells.{NumberTable}
 use Rattle.dx_instance.specs.Numbers.{value_of}
-use Rattle.dx_instance.specs.Shown.{NumberedInstance, PartsFit, AreBelow, shown_row}
+use Rattle.dx_instance.specs.Shown.{NumberedInstance, PartsFit, AreBelow, numbers_of_table, shown_row}
 use Rattle.dx_blocks.specs.declared.numbered.At.{At}
 use Rattle.dx_blocks.specs.Nulls.{StandsIn}
 use Rattle.dx_model.specs.Values.{null_at}
@@ -19,6 +21,28 @@ use Rattle.dx_blocks.specs.Numbered.{IsRowIn, fact_of, null_under}
 use Rattle.dx_blocks.specs.NullRows.{IsFirstNull, facts_of, nulls_from, row_numbers}
 use Rattle.dx_blocks.proofs.Labelling.{RowSoFar, AllSoFar, Knows, null_more, no_null_more, row_joined, fact_joined, fact_passed}
 use Rattle.dx_blocks.proofs.NullRowFacts.{nulls_at, nulls_many, nulls_up, row_is, row_below, row_known}
+
+none_there : (x : ℕ) → x ∈ [] → ⊥
+none_there x m = elim m [ ]
+
+-- a row that has a number is there
+pub row_with_number : (N : NumberedInstance) (a : At) (x : ℕ) → x ∈ row_numbers N a → IsRowIn N a
+row_with_number N a x m = record { table = table; place = place }
+  where
+    place : a.place < length (numbers_of_table N.tables a.table).rows
+    place = elim (cases_lt a.place (length (numbers_of_table N.tables a.table).rows)) [
+      | inl l ↦ l
+      | inr l ↦ absurd (none_there x (subst (λ (r : List ℕ). x ∈ r) (get_or_past (numbers_of_table N.tables a.table).rows a.place [] l) m))
+    ]
+
+    table : a.table < length N.tables
+    table = elim (cases_lt a.table (length N.tables)) [
+      | inl l ↦ l
+      | inr l ↦
+          let past = get_or_past N.tables a.table (record { width = 0; rows = [] }) l in
+          let e : length (numbers_of_table N.tables a.table).rows ≡ 0 = ap (λ (t : NumberTable). length t.rows) past in
+          absurd (omega (arith, place, e))
+    ]
 
 -- the place of a null in the list of those from the first on
 pub place_of_number : (N : NumberedInstance) (first n : ℕ) → first ≤ n → n < length N.symbols

@@ -9,6 +9,11 @@ use Rattle.dx_model.specs.Values.{null_at}
 abbrev pub Falls : List ℕ → Type 0
 Falls parents = (k : ℕ) → k < length parents → slice_index parents k ≤ k
 
+-- each of n numbers has a parent, which is no greater
+pub record IsForest (n : ℕ) (parents : List ℕ) : Type 0 where
+  pub many : length parents ≡ n
+  pub falls : Falls parents
+
 -- c gives each number the label of its parent, and so one label to each tree
 abbrev pub Respects : List ℕ → (ℕ → ℕ) → Type 0
 Respects parents c = (k : ℕ) → k < length parents → c k ≡ c (slice_index parents k)

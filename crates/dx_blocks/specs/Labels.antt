@@ -8,7 +8,7 @@ use Rattle.dx_model.specs.declared.facts.Fact.{Fact}
 use Rattle.dx_model.specs.Values.{FactsAscend, NullsAscend, null_at}
 use Rattle.dx_model.specs.Blocks.{Connected}
 use Rattle.dx_blocks.specs.declared.block.Block.{Block}
-use Rattle.dx_blocks.specs.Nulls.{StandsIn}
+use Rattle.dx_blocks.specs.Nulls.{AreNulls, StandsIn}
 use Rattle.dx_blocks.specs.Forest.{Respects, Falls, ParentsAreConnected}
 
 -- the nulls of the row stand in one tree
@@ -37,6 +37,11 @@ pub record AreLabels (A : List Fact) (ns : List NullId) (labels : List ℕ) : Ty
   pub itself : (k : ℕ) → k < length ns → slice_index labels (slice_index labels k) ≡ slice_index labels k
   pub exactly : (p q : ℕ) → p < length ns → q < length ns
       → (slice_index labels p ≡ slice_index labels q) ↔ Connected A (null_at ns p) (null_at ns q)
+
+-- ns has the nulls of A, and ls their labels
+pub record AreLabelledNulls (A : List Fact) (ns : List NullId) (ls : List ℕ) : Type 0 where
+  pub nulls : AreNulls A ns
+  pub labels : AreLabels A ns ls
 
 -- the null stands at a place with this label
 pub record HasLabel (ns : List NullId) (labels : List ℕ) (label : ℕ) (n : NullId) : Type 0 where

@@ -1,5 +1,5 @@
 -- Numbers of nulls, the rows that hold them, and the facts of rows.
-use Rattle.std.specs.Prelude.{◌≡◌, ◌↔◌, ℕ, ◌<◌, ◌≤◌, ◌-◌, ◌⊎◌, Bool, nat_lt, List, length, map}
+use Rattle.std.specs.Prelude.{◌≡◌, ◌↔◌, ℕ, ◌<◌, ◌≤◌, ◌-◌, ◌⊎◌, Bool, nat_lt, List, [], length, map}
 use Rattle.std.specs.List.{range_with_len}
 use Rattle.dx_ports.specs.Members.{◌∈◌, Each}
 use Rattle.dx_model.specs.declared.values.NullId.{NullId}
@@ -13,8 +13,8 @@ use Rattle.dx_instance.specs.Shown.{NumberedInstance, PartsFit, numbers_of_table
 use Rattle.dx_blocks.specs.declared.block.Block.{Block}
 use Rattle.dx_blocks.specs.declared.numbered.At.{At}
 use Rattle.dx_blocks.specs.declared.numbered.NumberBlock.{NumberBlock}
-use Rattle.dx_blocks.specs.Labels.{AreFilled}
-use Rattle.dx_blocks.specs.Numbered.{IsRowIn, fact_of, null_under, shown_block}
+use Rattle.dx_blocks.specs.Labels.{AreFilled, AreLabels}
+use Rattle.dx_blocks.specs.Numbered.{IsOfNumbers, IsRowIn, fact_of, null_under, shown_block}
 
 -- the parts fit, the symbols ascend, and the numbers of their nulls are those from `first` on
 pub record IsFirstNull (N : NumberedInstance) (first : ℕ) : Type 0 where
@@ -46,9 +46,20 @@ pub record AreNullRows (N : NumberedInstance) (first t p : ℕ) (rows : List At)
   pub all : (a : At) (n : ℕ) → IsRowIn N a → IsRowBefore t p a → n ∈ row_numbers N a → first ≤ n → a ∈ rows
   pub ascend : Ascends (λ (a b : At). IsRowBefore b.table b.place a) rows
 
+-- n is the number of the first null, rs are rows of the instance, and ls the labels of the nulls from n on
+pub record AreLabelledRows (N : NumberedInstance) (n : ℕ) (rs : List At) (ls : List ℕ) : Type 0 where
+  pub first : IsFirstNull N n
+  pub rows : Each rs (IsRowIn N)
+  pub labels : AreLabels (facts_of N rs) (nulls_from N n) ls
+
 -- the blocks that blocks of numbers show
 abbrev pub shown_blocks : NumberedInstance → List NumberBlock → List Block
 shown_blocks N bs = map (shown_block N) bs
+
+-- some facts, and no nulls yet, are put into blocks of numbers of the instance
+pub record HoldFacts (N : NumberedInstance) (n : ℕ) (ls : List ℕ) (held : List Fact) (bs : List NumberBlock) : Type 0 where
+  pub filled : AreFilled (nulls_from N n) ls [] held (shown_blocks N bs)
+  pub within : Each bs (IsOfNumbers N)
 
 -- whether a block has nulls
 abbrev pub has_numbers : NumberBlock → Bool

@@ -26,6 +26,11 @@ pub record AreNulls (A : List Fact) (ns : List NullId) : Type 0 where
 abbrev pub AreKnown : List NullId → List Value → Type 0
 AreKnown ns row = (n : NullId) → Null n ∈ row → n ∈ ns
 
+-- ns ascends, and has each null of the row
+pub record KnowsNulls (ns : List NullId) (row : List Value) : Type 0 where
+  pub ascend : NullsAscend ns
+  pub known : AreKnown ns row
+
 -- the null at a place stands in the row
 pub record StandsIn (ns : List NullId) (row : List Value) (k : ℕ) : Type 0 where
   pub within : k < length ns

@@ -1,9 +1,8 @@
 // Nulls and facts, put into blocks by labels. Block k has the label k; it stays empty if no null has that label.
 ghost use Rattle.std.specs.Prelude.{◌≡◌, [], IfOk, OnOk, replicate};
 ghost use Rattle.std.specs.List.{filter};
-ghost use Rattle.dx_model.specs.Values.{FactsAscend, NullsAscend};
-ghost use Rattle.dx_blocks.specs.Nulls.{AreNulls};
-ghost use Rattle.dx_blocks.specs.Labels.{AreFilled, AreLabels, has_nulls};
+ghost use Rattle.dx_model.specs.Values.{FactsAscend};
+ghost use Rattle.dx_blocks.specs.Labels.{AreFilled, AreLabelledNulls, has_nulls};
 
 use crate::block::Block;
 use crate::nulls::first_place;
@@ -33,8 +32,7 @@ pub fn null_blocks(
     nulls: &[NullId],
     labels: &[usize],
 ) -> Result<Vec<Block>, AllocError>
-    requires nulls { AreNulls facts.now nulls.now }
-    requires labels { AreLabels facts.now nulls.now labels.now }
+    requires { AreLabelledNulls facts.now nulls.now labels.now }
     ensures { IfOk result (λ bs. AreFilled nulls.now labels.now nulls.now [] bs.items) }
 {
     let mut blocks = empty_blocks(alloc, nulls.len())?;
@@ -56,8 +54,7 @@ pub fn place_facts(
     blocks: &mut [Block],
 ) -> Result<(), AllocError>
     requires ascend { FactsAscend facts.items }
-    requires nulls { AreNulls facts.items nulls.now }
-    requires labels { AreLabels facts.items nulls.now labels.now }
+    requires labelled { AreLabelledNulls facts.items nulls.now labels.now }
     requires filled { AreFilled nulls.now labels.now nulls.now [] blocks.old }
     ensures { OnOk result (AreFilled nulls.now labels.now nulls.now facts.items blocks.new) }
 {

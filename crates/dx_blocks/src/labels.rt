@@ -1,8 +1,7 @@
 // Labels of nulls: two nulls have one label exactly if facts connect them.
-ghost use Rattle.std.specs.Prelude.{◌≡◌, IfOk, length};
-ghost use Rattle.dx_model.specs.Values.{NullsAscend};
-ghost use Rattle.dx_blocks.specs.Nulls.{AreKnown, AreNulls, StandsIn};
-ghost use Rattle.dx_blocks.specs.Forest.{Falls};
+ghost use Rattle.std.specs.Prelude.{IfOk, length};
+ghost use Rattle.dx_blocks.specs.Nulls.{AreNulls, KnowsNulls, StandsIn};
+ghost use Rattle.dx_blocks.specs.Forest.{IsForest};
 ghost use Rattle.dx_blocks.specs.Labels.{AreLabels, JoinsAll, JoinsRow};
 
 use crate::forest::{flatten, join, singles};
@@ -12,11 +11,9 @@ use std::alloc::{AllocError, Global};
 
 // Makes one tree of those of the nulls of a row, of which one stands at the place `first`.
 fn join_row(nulls: &[NullId], row: &[Value], first: usize, parents: &mut [usize])
-    requires ascend { NullsAscend nulls.now }
-    requires known { AreKnown nulls.now row.now }
+    requires known { KnowsNulls nulls.now row.now }
     requires first { StandsIn nulls.now row.now first }
-    requires many { length parents.old ≡ length nulls.now }
-    requires falls { Falls parents.old }
+    requires forest { IsForest (length nulls.now) parents.old }
     ensures { JoinsRow nulls.now row.now parents.old parents.new }
 {
     for value in row {
@@ -29,8 +26,7 @@ fn join_row(nulls: &[NullId], row: &[Value], first: usize, parents: &mut [usize]
 // Makes one tree of those of the nulls of each fact.
 fn join_all(facts: &[Fact], nulls: &[NullId], parents: &mut [usize])
     requires nulls { AreNulls facts.now nulls.now }
-    requires many { length parents.old ≡ length nulls.now }
-    requires falls { Falls parents.old }
+    requires forest { IsForest (length nulls.now) parents.old }
     ensures { JoinsAll facts.now nulls.now parents.old parents.new }
 {
     for fact in facts {

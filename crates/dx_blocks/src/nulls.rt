@@ -4,7 +4,7 @@ ghost use Rattle.dx_ports.specs.Members.{◌∈◌};
 ghost use Rattle.dx_model.specs.declared.values.NullId.{NullId};
 ghost use Rattle.dx_model.specs.declared.values.Value.TheVariants.{Null};
 ghost use Rattle.dx_model.specs.Values.{NullsAscend, null_at};
-ghost use Rattle.dx_blocks.specs.Nulls.{AreKnown, AreNulls, StandsIn, row_nulls};
+ghost use Rattle.dx_blocks.specs.Nulls.{AreNulls, KnowsNulls, StandsIn, row_nulls};
 
 use dx_model::{Fact, NullId, Value};
 use std::alloc::{AllocError, Global};
@@ -53,8 +53,7 @@ pub fn place_of(nulls: &[NullId], null: &NullId) -> usize
 
 /// The place of the first null of a row, if it holds one.
 pub fn first_place(nulls: &[NullId], row: &[Value]) -> Option<usize>
-    requires ascend { NullsAscend nulls.now }
-    requires known { AreKnown nulls.now row.now }
+    requires { KnowsNulls nulls.now row.now }
     ensures none { IfNone result ((n : NullId) → ¬ (Null n ∈ row.now)) }
     ensures some { IfSome result (StandsIn nulls.now row.now) }
 {

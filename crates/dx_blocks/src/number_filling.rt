@@ -3,9 +3,9 @@ ghost use Rattle.std.specs.Prelude.{◌≡◌, [], IfOk, OnOk, map, replicate};
 ghost use Rattle.std.specs.List.{filter};
 ghost use Rattle.dx_ports.specs.Members.{Each};
 ghost use Rattle.dx_model.specs.Values.{FactsAscend};
-ghost use Rattle.dx_blocks.specs.Labels.{AreFilled, AreLabels};
-ghost use Rattle.dx_blocks.specs.Numbered.{IsOfNumbers, IsRowIn};
-ghost use Rattle.dx_blocks.specs.NullRows.{AreBlocksOfRows, IsFirstNull, facts_of, has_numbers, nulls_from, shown_blocks};
+ghost use Rattle.dx_blocks.specs.Labels.{AreFilled};
+ghost use Rattle.dx_blocks.specs.Numbered.{IsOfNumbers};
+ghost use Rattle.dx_blocks.specs.NullRows.{AreBlocksOfRows, AreLabelledRows, HoldFacts, facts_of, has_numbers, nulls_from, shown_blocks};
 
 use crate::null_rows::null_in;
 use crate::numbered::{At, NumberBlock};
@@ -40,12 +40,9 @@ pub fn place_rows(
     labels: &[usize],
     blocks: &mut [NumberBlock],
 ) -> Result<(), AllocError>
-    requires first { IsFirstNull numbers.now first }
-    requires rows { Each rows.now (IsRowIn numbers.now) }
+    requires labelled { AreLabelledRows numbers.now first rows.now labels.now }
     requires ascend { FactsAscend (facts_of numbers.now rows.now) }
-    requires labels { AreLabels (facts_of numbers.now rows.now) (nulls_from numbers.now first) labels.now }
-    requires filled { AreFilled (nulls_from numbers.now first) labels.now [] [] (shown_blocks numbers.now blocks.old) }
-    requires within { Each blocks.old (IsOfNumbers numbers.now) }
+    requires held { HoldFacts numbers.now first labels.now [] blocks.old }
     ensures filled { let N = numbers.now in OnOk result (AreFilled (nulls_from N first) labels.now [] (facts_of N rows.now)
         (shown_blocks N blocks.new)) }
     ensures within { OnOk result (Each blocks.new (IsOfNumbers numbers.now)) }
@@ -70,12 +67,8 @@ pub fn place_nulls(
     labels: &[usize],
     blocks: &mut [NumberBlock],
 ) -> Result<(), AllocError>
-    requires first { IsFirstNull numbers.now first }
-    requires rows { Each rows.now (IsRowIn numbers.now) }
-    requires labels { AreLabels (facts_of numbers.now rows.now) (nulls_from numbers.now first) labels.now }
-    requires filled { let N = numbers.now in AreFilled (nulls_from N first) labels.now [] (facts_of N rows.now)
-        (shown_blocks N blocks.old) }
-    requires within { Each blocks.old (IsOfNumbers numbers.now) }
+    requires labelled { AreLabelledRows numbers.now first rows.now labels.now }
+    requires held { HoldFacts numbers.now first labels.now (facts_of numbers.now rows.now) blocks.old }
     ensures filled { OnOk result (AreBlocksOfRows numbers.now first rows.now labels.now blocks.new) }
     ensures within { OnOk result (Each blocks.new (IsOfNumbers numbers.now)) }
 {

@@ -7,8 +7,7 @@ ghost use Rattle.dx_instance.specs.Numbers.{ValuesAscend};
 ghost use Rattle.dx_instance.specs.Cells.{NumberTable, NumbersAscend};
 ghost use Rattle.dx_instance.specs.Shown.{shown_tables};
 ghost use Rattle.dx_blocks.specs.Blocks.{AreBlocks};
-ghost use Rattle.dx_blocks.specs.Labels.{AreLabels};
-ghost use Rattle.dx_blocks.specs.NullRows.{AreNullRows, IsFirstNull, facts_of, nulls_from};
+ghost use Rattle.dx_blocks.specs.NullRows.{AreLabelledRows, AreNullRows, facts_of};
 ghost use Rattle.dx_blocks.specs.Numbered.{IsOfNumbers, shown_block};
 
 use crate::null_rows::{first_null, null_rows};
@@ -26,10 +25,9 @@ fn filled_blocks(
     rows: &[At],
     labels: &[usize],
 ) -> Result<Vec<NumberBlock>, AllocError>
-    requires first { IsFirstNull numbers.now first }
+    requires labelled { AreLabelledRows numbers.now first rows.now labels.now }
     requires rows { AreNullRows numbers.now first (length numbers.now.tables) 0 rows.now }
     requires ascend { FactsAscend (facts_of numbers.now rows.now) }
-    requires labels { AreLabels (facts_of numbers.now rows.now) (nulls_from numbers.now first) labels.now }
     ensures blocks { let N = numbers.now in IfOk result (λ bs. AreBlocks (facts (shown_tables N.symbols N.tables))
         (map (shown_block N) bs.items)) }
     ensures within { IfOk result (λ bs. Each bs.items (IsOfNumbers numbers.now)) }

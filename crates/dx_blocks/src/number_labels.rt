@@ -1,7 +1,7 @@
 // Labels of nulls by their numbers: two nulls have one label exactly if rows connect them.
-ghost use Rattle.std.specs.Prelude.{◌≡◌, ◌+◌, ◌≤◌, IfOk, length};
+ghost use Rattle.std.specs.Prelude.{◌-◌, ◌≤◌, IfOk, length};
 ghost use Rattle.dx_ports.specs.Members.{◌∈◌, Each};
-ghost use Rattle.dx_blocks.specs.Forest.{Falls};
+ghost use Rattle.dx_blocks.specs.Forest.{IsForest};
 ghost use Rattle.dx_blocks.specs.Labels.{AreLabels, JoinsAll, JoinsRow};
 ghost use Rattle.dx_blocks.specs.Numbered.{IsRowIn, fact_of};
 ghost use Rattle.dx_blocks.specs.NullRows.{IsFirstNull, facts_of, nulls_from, row_numbers};
@@ -15,10 +15,8 @@ use std::alloc::{AllocError, Global};
 // Makes one tree of those of the nulls of a row, of which one has the number `one`.
 fn join_row(numbers: &Numbers<'_>, first: u32, at: At, one: u32, parents: &mut [usize])
     requires first { IsFirstNull numbers.now first }
-    requires row { IsRowIn numbers.now at }
     requires one { (one ∈ row_numbers numbers.now at) × (first ≤ one) }
-    requires many { first + length parents.old ≡ length numbers.now.symbols }
-    requires falls { Falls parents.old }
+    requires forest { IsForest (length numbers.now.symbols - first) parents.old }
     ensures { JoinsRow (nulls_from numbers.now first) (fact_of numbers.now at).row parents.old parents.new }
 {
     let row = numbers.row(at.table, at.place);
@@ -33,8 +31,7 @@ fn join_row(numbers: &Numbers<'_>, first: u32, at: At, one: u32, parents: &mut [
 fn join_all(numbers: &Numbers<'_>, first: u32, rows: &[At], parents: &mut [usize])
     requires first { IsFirstNull numbers.now first }
     requires rows { Each rows.now (IsRowIn numbers.now) }
-    requires many { first + length parents.old ≡ length numbers.now.symbols }
-    requires falls { Falls parents.old }
+    requires forest { IsForest (length numbers.now.symbols - first) parents.old }
     ensures { JoinsAll (facts_of numbers.now rows.now) (nulls_from numbers.now first) parents.old parents.new }
 {
     for at in rows {

@@ -2,14 +2,13 @@
 use Rattle.std.proofs.Common.{◌≡◌, ◌∙◌, ℕ, zero, suc, Bool, false, List, [], ◌∷◌, refl, sym, ap}
 use Rattle.std.proofs.Common.{length, get_or}
 use Rattle.std.specs.Prelude.{map, replicate}
-use Rattle.std.proofs.Math.ListN.{set, length-set}
 use Rattle.std.proofs.lemmas.List.{length-map, length-replicate}
 use Rattle.dx_ports.proofs.Lists.{none_in}
 use Rattle.dx_instance.specs.Stored.{TableRows, rows_of}
 use Rattle.dx_model.specs.declared.values.Value.{Value}
 use Rattle.dx_instance.specs.Cells.{NumberTable}
 use Rattle.dx_instance.specs.Shown.{shown, shown_row, shown_tables}
-use Rattle.dx_solver.specs.Marks.{is_out, none_out, with_mark}
+use Rattle.dx_solver.specs.Marks.{is_out, none_out}
 
 -- a mark for each fact of an instance, none of them taken out
 abbrev pub all_there : List TableRows → List (List Bool)
@@ -37,18 +36,3 @@ pub places_marked : (I : List TableRows) (t : ℕ) → length (get_or (all_there
 places_marked [] t = refl
 places_marked (x ∷ I) zero = length-replicate (length x.rows) false
 places_marked (x ∷ I) (suc t) = places_marked I t
-
--- and there are as many after one was taken out
-pub tables_stay : (gone : List (List Bool)) (t p : ℕ) (mark : Bool) → length (with_mark gone t p mark) ≡ length gone
-tables_stay gone t p mark = simp length-set
-
-item_stays : (gone : List (List Bool)) (t u : ℕ) (x : List Bool) → length x ≡ length (get_or gone t [])
-    → length (get_or (set gone t x) u []) ≡ length (get_or gone u [])
-item_stays [] t u x e = refl
-item_stays (g ∷ gone) zero zero x e = e
-item_stays (g ∷ gone) zero (suc u) x e = refl
-item_stays (g ∷ gone) (suc t) zero x e = refl
-item_stays (g ∷ gone) (suc t) (suc u) x e = item_stays gone t u x e
-
-pub places_stay : (gone : List (List Bool)) (t p u : ℕ) (mark : Bool) → length (get_or (with_mark gone t p mark) u []) ≡ length (get_or gone u [])
-places_stay gone t p u mark = item_stays gone t u _ (simp length-set)

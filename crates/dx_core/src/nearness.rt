@@ -120,12 +120,8 @@ impl Ties {
         Ok(())
     }
 
-    /// The places of rows near a row with the nulls at these places, breadth first, as many as the limit at most.
-    ///
-    /// # Errors
-    ///
-    /// `AllocError` if there is no memory.
-    pub(crate) fn near(
+    // The places of rows near a row with the nulls at these places, breadth first, as many as the limit at most.
+    fn near(
         &self,
         alloc: Global,
         nulls: &[usize],

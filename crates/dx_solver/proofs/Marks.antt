@@ -1,9 +1,9 @@
 -- Marks of rows.
-use Rattle.std.proofs.Common.{◌≡◌, ◌∙◌, ℕ, zero, suc, ◌+◌, ◌<◌, Bool, false, List, [], ◌∷◌, ◌++◌, refl, sym, ap, arith}
+use Rattle.std.proofs.Common.{◌≡◌, ◌∙◌, ℕ, zero, suc, ◌+◌, ◌<◌, Bool, false, List, [], ◌∷◌, ◌++◌, refl, sym, ap}
 use Rattle.std.proofs.Common.{length, get_or, take, Vec, Global}
 use Rattle.std.specs.Prelude.{map, replicate}
 use Rattle.std.proofs.Math.ListN.{set, length-set}
-use Rattle.std.proofs.lemmas.List.{length-map, length-replicate, map-append, take_more, get_or-map}
+use Rattle.std.proofs.lemmas.List.{length-map, map-append, map-set, take_more, get_or-map}
 use Rattle.dx_ports.proofs.Lists.{none_in}
 use Rattle.dx_instance.specs.Cells.{NumberTable}
 use Rattle.dx_instance.specs.Shown.{numbers_of_table}
@@ -15,16 +15,7 @@ none_taken [] t p = refl
 none_taken (x ∷ ts) zero p = none_in (length x.rows) p
 none_taken (x ∷ ts) (suc t) p = none_taken ts t p
 
--- there is a mark for each row
-pub tables_marked : (ts : List NumberTable) → length (none_out ts) ≡ length ts
-tables_marked ts = length-map ts (λ (t : NumberTable). replicate (length t.rows) false)
-
-pub places_marked : (ts : List NumberTable) (t : ℕ) → length (get_or (none_out ts) t []) ≡ length (numbers_of_table ts t).rows
-places_marked [] t = refl
-places_marked (x ∷ ts) zero = length-replicate (length x.rows) false
-places_marked (x ∷ ts) (suc t) = places_marked ts t
-
--- and there are as many after one was changed
+-- there are as many after one was changed
 pub tables_stay : (out : List (List Bool)) (t p : ℕ) (m : Bool) → length (with_mark out t p m) ≡ length out
 tables_stay out t p m = simp length-set
 
@@ -48,25 +39,16 @@ pub marks_more : (ts : List NumberTable) (t : ℕ) (old : List (Vec Bool Global)
     → marks.items ≡ replicate (length (numbers_of_table ts t).rows) false → seen old ≡ take t (none_out ts)
     → seen (old ++ marks ∷ []) ≡ take (t + 1) (none_out ts)
 marks_more ts t old marks h e d =
-    let k : t < length (none_out ts) = rw (tables_marked ts) h in
+    let k : t < length (none_out ts) = rw (length-map ts (λ (u : NumberTable). replicate (length u.rows) false)) h in
     let m : get_or (none_out ts) t [] ≡ replicate (length (numbers_of_table ts t).rows) false =
     get_or-map (λ (u : NumberTable). replicate (length u.rows) false) ts t (record { width = 0; rows = [] }) [] h in
     let both : seen old ++ marks.items ∷ [] ≡ take t (none_out ts) ++ get_or (none_out ts) t [] ∷ [] = cc in
     map-append (λ (v : Vec Bool Global). v.items) old (marks ∷ []) ∙ (both ∙ sym (take_more (none_out ts) t [] k))
 
 -- a mark that is set
-item_seen : (ts : List (Vec Bool Global)) (t : ℕ) (w : Vec Bool Global) → t < length ts → w ≡ get_or ts t w
-    → get_or (seen ts) t [] ≡ w.items
-item_seen [] t w h e = absurd (omega arith)
-item_seen (v ∷ ts) zero w h e = ap (λ (v : Vec Bool Global). v.items) (sym e)
-item_seen (v ∷ ts) (suc t) w h e = item_seen ts t w (omega arith) e
-
-set_seen : (ts : List (Vec Bool Global)) (t : ℕ) (x : Vec Bool Global) → seen (set ts t x) ≡ set (seen ts) t x.items
-set_seen [] t x = refl
-set_seen (v ∷ ts) zero x = refl
-set_seen (v ∷ ts) (suc t) x = ap (λ l. v.items ∷ l) (set_seen ts t x)
-
 pub mark_seen : (ts : List (Vec Bool Global)) (t p : ℕ) (m : Bool) (w x : Vec Bool Global) → t < length ts → w ≡ get_or ts t w
     → x.items ≡ set w.items p m → seen (set ts t x) ≡ with_mark (seen ts) t p m
 mark_seen ts t p m w x h e d =
-    set_seen ts t x ∙ ap (set (seen ts) t) (d ∙ ap (λ l. set l p m) (sym (item_seen ts t w h e)))
+    let items = λ (v : Vec Bool Global). v.items in
+    let row : get_or (seen ts) t [] ≡ w.items = get_or-map items ts t w [] h ∙ ap items (sym e) in
+    map-set items ts t x ∙ ap (set (seen ts) t) (d ∙ ap (λ l. set l p m) (sym row))

@@ -2,13 +2,13 @@ use Rattle.std.proofs.Common.{◌∙◌, sym, length}
 use Rattle.dx_blocks.proofs.Labelling.{labels_written, single_trees_fall, single_trees_many}
 use Rattle.dx_blocks.proofs.labels.labels_of.Goals as goal
 
-pub join_all-requires-clause-many : goal.join_all-requires-clause-many
-join_all-requires-clause-many c =
-    single_trees_many c.deref_mut.result.now (length c.args.nulls.now) (c.deref_mut.ensures.value ∙ c.in_ok-labels.ensures)
-
-pub join_all-requires-clause-falls : goal.join_all-requires-clause-falls
-join_all-requires-clause-falls c =
-    single_trees_fall c.deref_mut.result.now (length c.args.nulls.now) (c.deref_mut.ensures.value ∙ c.in_ok-labels.ensures)
+pub join_all-requires-clause-forest : goal.join_all-requires-clause-forest
+join_all-requires-clause-forest c =
+    let singles = c.deref_mut.ensures.value ∙ c.in_ok-labels.ensures in
+    record {
+      many = single_trees_many c.deref_mut.result.now (length c.args.nulls.now) singles;
+      falls = single_trees_fall c.deref_mut.result.now (length c.args.nulls.now) singles;
+    }
 
 pub returns : goal.returns
 returns c =

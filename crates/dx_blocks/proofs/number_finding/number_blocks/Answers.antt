@@ -16,6 +16,10 @@ filled_blocks-requires-clause-ascend c =
     (facts_up c.args.numbers.now c.first_null-first.result (length c.args.numbers.now.tables) 0 c.in_ok-rows.rows.items c.first_null-first.ensures.fit
     c.first_null-first.ensures c.requires.rows c.in_ok-rows.ensures)
 
-pub filled_blocks-requires-clause-labels : goal.filled_blocks-requires-clause-labels
-filled_blocks-requires-clause-labels c =
-    rw (c.deref-2.ensures.value, c.deref-3.ensures.value) (rw c.deref.ensures.value at c.in_ok-labels.ensures)
+pub filled_blocks-requires-clause-labelled : goal.filled_blocks-requires-clause-labelled
+filled_blocks-requires-clause-labelled c = record {
+  first = c.first_null-first.ensures;
+  rows = rw c.deref-2.ensures.value
+      (rows_there c.args.numbers.now c.first_null-first.result (length c.args.numbers.now.tables) 0 c.in_ok-rows.rows.items c.in_ok-rows.ensures);
+  labels = rw (c.deref-2.ensures.value, c.deref-3.ensures.value) (rw c.deref.ensures.value at c.in_ok-labels.ensures);
+}

@@ -1,4 +1,4 @@
-use Rattle.std.proofs.Common.{◌≡◌, ◌<◌, ℕ, List, length, get_or}
+use Rattle.std.proofs.Common.{◌≡◌, ◌∙◌, ◌<◌, ℕ, List, length, get_or}
 use Rattle.std.proofs.lemmas.List.{get_or_default, length-map, take_all}
 use Rattle.dx_ports.specs.Members.{Each}
 use Rattle.dx_ports.proofs.Members.{in_at}
@@ -22,7 +22,7 @@ item_is rows i h = get_or_default rows i (record { table = 0; place = 0 }) (item
 
 pub loop-at-init : goal.loop-at-init
 loop-at-init c =
-    all_start (facts_of c.args.numbers.now c.args.rows.now) (nulls_from c.args.numbers.now c.args.first) c.args.parents.now c.requires.falls
+    all_start (facts_of c.args.numbers.now c.args.rows.now) (nulls_from c.args.numbers.now c.args.first) c.args.parents.now c.requires.forest.falls
 
 pub row-requires-clause-table : goal.row-requires-clause-table
 row-requires-clause-table c = (there_is c.args.numbers.now c.args.rows.now c.loop-at.at-index c.requires.rows c.loop-at-test.true).table
@@ -30,8 +30,11 @@ row-requires-clause-table c = (there_is c.args.numbers.now c.args.rows.now c.loo
 pub row-requires-clause-place : goal.row-requires-clause-place
 row-requires-clause-place c = (there_is c.args.numbers.now c.args.rows.now c.loop-at.at-index c.requires.rows c.loop-at-test.true).place
 
-pub join_row-requires-clause-row : goal.join_row-requires-clause-row
-join_row-requires-clause-row c = there_is c.args.numbers.now c.args.rows.now c.loop-at.at-index c.requires.rows c.loop-at-test.true
+pub join_row-requires-clause-forest : goal.join_row-requires-clause-forest
+join_row-requires-clause-forest c = record {
+  many = c.loop-at.invariant.many ∙ c.requires.forest.many;
+  falls = c.loop-at.invariant.falls;
+}
 
 pub loop-at-preserved : goal.loop-at-preserved
 loop-at-preserved c =

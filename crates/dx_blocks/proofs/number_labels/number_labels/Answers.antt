@@ -1,4 +1,4 @@
-use Rattle.std.proofs.Common.{◌≡◌, ◌-◌, ◌∙◌, sym, ap, arith, length}
+use Rattle.std.proofs.Common.{◌≡◌, ◌-◌, ◌∙◌, sym, ap, length}
 use Rattle.std.specs.List.{range_with_len}
 use Rattle.dx_blocks.specs.NullRows.{facts_of, nulls_from}
 use Rattle.dx_blocks.proofs.Labelling.{labels_written, single_trees_fall, single_trees_many}
@@ -6,18 +6,13 @@ use Rattle.dx_blocks.proofs.NullRowFacts.{nulls_many, nulls_up}
 use Rattle.dx_blocks.proofs.NumberLabelling.{rows_known}
 use Rattle.dx_blocks.proofs.number_labels.number_labels.Goals as goal
 
-pub join_all-requires-clause-many : goal.join_all-requires-clause-many
-join_all-requires-clause-many c =
-    omega (
-      arith,
-      single_trees_many c.deref_mut.result.now (c.len.result - c.args.first) (c.deref_mut.ensures.value ∙ c.in_ok-labels.ensures),
-      c.len.ensures.len,
-      c.requires.first.within,
-    )
-
-pub join_all-requires-clause-falls : goal.join_all-requires-clause-falls
-join_all-requires-clause-falls c =
-    single_trees_fall c.deref_mut.result.now (c.len.result - c.args.first) (c.deref_mut.ensures.value ∙ c.in_ok-labels.ensures)
+pub join_all-requires-clause-forest : goal.join_all-requires-clause-forest
+join_all-requires-clause-forest c =
+    let singles = c.deref_mut.ensures.value ∙ c.in_ok-labels.ensures in
+    record {
+      many = single_trees_many c.deref_mut.result.now (c.len.result - c.args.first) singles ∙ ap (λ n. n - c.args.first) c.len.ensures.len;
+      falls = single_trees_fall c.deref_mut.result.now (c.len.result - c.args.first) singles;
+    }
 
 pub returns : goal.returns
 returns c =

@@ -25,8 +25,8 @@ pub loop-row-init : goal.loop-row-init
 loop-row-init c =
     let s = c.args.self.now in
     let fit = c.len-fit.ensures.fit in
-    let b = c.args.block.now in
-    let xs = c.args.answer.now in
+    let b = c.args.moved.now.block.now in
+    let xs = c.args.moved.now.answer.now in
     let at = c.args.at in
     let w = row_within s.numbers fit at (c.requires.block.numbers.rows at c.requires.at) in
     let all = all_stay_left s.numbers fit b c.requires.block xs (facts_left s.numbers s.taken) (fact_of s.numbers at)
@@ -44,13 +44,13 @@ pub loop-row-preserved : goal.loop-row-preserved
 loop-row-preserved c =
     let s = c.args.self.now in
     let fit = c.len-fit.ensures.fit in
-    let b = c.args.block.now in
-    let xs = c.args.answer.now in
+    let b = c.args.moved.now.block.now in
+    let xs = c.args.moved.now.answer.now in
     let e = c.loop-row.invariant.numbers in
     let mid = c.loop-row.self.taken in
     let has = rw e at c.loop-row.self.marks in
     let r : At = get_or c.items-row-items.result.now c.loop-row.row-index (record { table = 0; place = 0 }) in
-    let in_block : r ∈ c.args.block.now.rows =
+    let in_block : r ∈ c.args.moved.now.block.now.rows =
     rw (← c.items-row-items.ensures) (in_at c.items-row-items.result.now c.loop-row.row-index (record { table = 0; place = 0 }) c.loop-row-test.true) in
     let none = same_none s.numbers c.loop-row.self.numbers b xs r e (c.is_image.ensures c.if-is_image.false) in
     let less = less_left s.numbers fit b c.requires.block xs mid has _ in_block in
@@ -74,7 +74,7 @@ pub take_out-requires-in-loop-row-clause-table : goal.take_out-requires-in-loop-
 take_out-requires-in-loop-row-clause-table c =
     let s = c.args.self.now in
     let r : At = get_or c.items-row-items.result.now c.loop-row.row-index (record { table = 0; place = 0 }) in
-    let in_block : r ∈ c.args.block.now.rows =
+    let in_block : r ∈ c.args.moved.now.block.now.rows =
     rw (← c.items-row-items.ensures) (in_at c.items-row-items.result.now c.loop-row.row-index (record { table = 0; place = 0 }) c.loop-row-test.true) in
     mark_table s.numbers c.len-fit.ensures.fit c.loop-row.self.taken _ (rw c.loop-row.invariant.numbers at c.loop-row.self.marks)
     (c.requires.block.numbers.rows _ in_block)
@@ -83,11 +83,11 @@ pub take_out-requires-in-loop-row-clause-place : goal.take_out-requires-in-loop-
 take_out-requires-in-loop-row-clause-place c =
     let s = c.args.self.now in
     let r : At = get_or c.items-row-items.result.now c.loop-row.row-index (record { table = 0; place = 0 }) in
-    let in_block : r ∈ c.args.block.now.rows =
+    let in_block : r ∈ c.args.moved.now.block.now.rows =
     rw (← c.items-row-items.ensures) (in_at c.items-row-items.result.now c.loop-row.row-index (record { table = 0; place = 0 }) c.loop-row-test.true) in
     mark_place s.numbers c.len-fit.ensures.fit c.loop-row.self.taken _ (rw c.loop-row.invariant.numbers at c.loop-row.self.marks)
     (c.requires.block.numbers.rows _ in_block)
 
 pub returns-clause-reduct : goal.returns-clause-reduct
 returns-clause-reduct c =
-    record { inside = c.loop-row.invariant.inside; moves = (given (pairs_by c.args.self.now.numbers c.args.block.now.nulls c.args.answer.now), c.loop-row.invariant.moves) }
+    record { inside = c.loop-row.invariant.inside; moves = (given (pairs_by c.args.self.now.numbers c.args.moved.now.block.now.nulls c.args.moved.now.answer.now), c.loop-row.invariant.moves) }

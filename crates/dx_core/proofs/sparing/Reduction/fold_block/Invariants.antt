@@ -10,10 +10,10 @@ use Rattle.dx_core.proofs.sparing.Reduction.fold_block.Given as goal
 abbrev pub invariant-loop-row : goal.invariant-loop-row
 invariant-loop-row l = record {
   numbers : l.self.numbers ≡ l.fn.self.numbers;
-  moves : Moves (given (pairs_by l.fn.self.numbers l.block.nulls l.answer)) (facts_left l.fn.self.numbers l.fn.self.taken)
+  moves : Moves (given (pairs_by l.fn.self.numbers l.moved.block.now.nulls l.moved.answer.now)) (facts_left l.fn.self.numbers l.fn.self.taken)
       (facts_left l.fn.self.numbers l.self.taken);
   inside : facts_left l.fn.self.numbers l.self.taken ⊆ facts_left l.fn.self.numbers l.fn.self.taken;
   gone : ¬ (fact_of l.fn.self.numbers l.fn.at ∈ facts_left l.fn.self.numbers l.self.taken);
-  others : (f : Fact) → f ∈ facts_left l.fn.self.numbers l.fn.self.taken → ¬ (f ∈ (shown_block l.fn.self.numbers l.block).facts)
+  others : (f : Fact) → f ∈ facts_left l.fn.self.numbers l.fn.self.taken → ¬ (f ∈ (shown_block l.fn.self.numbers l.moved.block.now).facts)
       → f ∈ facts_left l.fn.self.numbers l.self.taken;
 }

@@ -35,17 +35,16 @@ pub find_block-requires-clause-block : goal.find_block-requires-clause-block
 find_block-requires-clause-block c = each_item (IsTried c.args.self.now.numbers) c.args.blocks.now c.loop-block.block-index c.block-item.result
     c.loop-block-test.true c.block-item.is c.requires.blocks
 
-pub give_all-requires-clause-nulls : goal.give_all-requires-clause-nulls
-give_all-requires-clause-nulls c =
+pub give_all-requires : goal.give_all-requires
+give_all-requires c =
     let t = each_item (IsTried c.args.self.now.numbers) c.args.blocks.now c.loop-block.block-index c.block-item.result
     c.loop-block-test.true c.block-item.is c.requires.blocks in
-    rw c.items.ensures t.numbers.nulls
-
-pub give_all-requires-clause-ascend : goal.give_all-requires-clause-ascend
-give_all-requires-clause-ascend c =
-    let t = each_item (IsTried c.args.self.now.numbers) c.args.blocks.now c.loop-block.block-index c.block-item.result
-    c.loop-block-test.true c.block-item.is c.requires.blocks in
-    rw c.items.ensures t.ascend
+    record {
+      nulls = rw c.items.ensures t.numbers.nulls;
+      ascend = rw c.items.ensures t.ascend;
+      long = rw (c.deref.ensures.value, c.items.ensures) (rw c.in-Some.is at c.in_ok-answer.ensures.long);
+      within = rw c.deref.ensures.value (rw c.in-Some.is at c.in_ok-answer.ensures.within);
+    }
 
 pub loop-block-preserved : goal.loop-block-preserved
 loop-block-preserved c =

@@ -13,7 +13,8 @@ invariant-loop-at l = record {
   numbers : l.self.numbers ≡ l.fn.self.numbers;
   reduct : IsEquivalentPart (facts_left l.fn.self.numbers l.fn.self.taken) (facts_left l.fn.self.numbers l.self.taken);
   needed : Each (map (fact_of l.fn.self.numbers) (take l.at-index l.block.rows)) (NeededIn (facts_left l.fn.self.numbers l.self.taken));
-  known : KnownAreRigid l.fn.self.numbers (facts_left l.fn.self.numbers l.self.taken) l.block.nulls l.known.items;
+  block : l.task.block.now ≡ l.block;
+  known : KnownAreRigid l.fn.self.numbers (facts_left l.fn.self.numbers l.self.taken) l.block.nulls l.task.known.items;
   others : (f : Fact) → f ∈ facts_left l.fn.self.numbers l.fn.self.taken → ¬ (f ∈ (shown_block l.fn.self.numbers l.block).facts)
       → f ∈ facts_left l.fn.self.numbers l.self.taken;
   same : l.spared ≡ false → l.self.taken ≡ l.fn.self.taken;

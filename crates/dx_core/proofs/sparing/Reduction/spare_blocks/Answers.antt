@@ -8,6 +8,7 @@ use Rattle.dx_blocks.specs.declared.numbered.NumberBlock.{NumberBlock}
 use Rattle.dx_blocks.specs.Numbered.{shown_block}
 use Rattle.dx_core.specs.Left.{facts_left, shown_by}
 use Rattle.dx_core.specs.Sparing.{IsLeftOrIn}
+use Rattle.dx_core.proofs.Marked.{all_left_reduct}
 use Rattle.dx_core.proofs.Passed.{all_to_try, core_left, each_more, last_in, needed_more, none_left, others_in, rest_more}
 use Rattle.dx_core.proofs.sparing.Reduction.spare_blocks.Goals as goal
 
@@ -19,7 +20,7 @@ pub loop-block-init : goal.loop-block-init
 loop-block-init c =
     let N = c.args.self.now.numbers in record {
       numbers = refl;
-      reduct = c.requires.reduct;
+      reduct = all_left_reduct (shown_by N) c.args.self.now.taken c.requires.whole;
       tried = c.requires.tried;
       changed = rw c.new-changed.ensures.items (λ b m. elim m [ ]);
       needed = all_to_try (map (shown_block N) c.args.blocks.items) (facts_left N c.args.self.now.taken);

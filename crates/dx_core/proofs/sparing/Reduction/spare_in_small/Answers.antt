@@ -11,18 +11,27 @@ returns-in-None-clause-reduct c = rw c.in_ok-together.ensures.taken (reduct_itse
 pub returns-in-None-clause-needed : goal.returns-in-None-clause-needed
 returns-in-None-clause-needed c =
     let s = c.args.self.now in
-    let none = none_told s.numbers _ _ _ c.args.block.now.nulls (λ v. v.items) c.in_ok-together.together c.in-None.is
+    let none = none_told s.numbers _ _ _ c.args.task.now.block.now.nulls (λ v. v.items) c.in_ok-together.together c.in-None.is
     (rw c.items-rows.ensures at c.in_ok-together.ensures.exact) in
     rw c.in_ok-together.ensures.taken
-    (none_needed (facts_left s.numbers s.taken) (map (fact_of s.numbers) c.args.block.now.rows) (fact_of s.numbers c.args.at) none)
+    (none_needed (facts_left s.numbers s.taken) (map (fact_of s.numbers) c.args.task.now.block.now.rows) (fact_of s.numbers c.args.at) none)
+
+pub ask-requires-clause-asked : goal.ask-requires-clause-asked
+ask-requires-clause-asked c = c.requires
+
+pub fold_block-requires-clause-block : goal.fold_block-requires-clause-block
+fold_block-requires-clause-block c = rw c.in_ok-together.ensures.numbers c.requires.ready.tried
+
+pub fold_block-requires-clause-at : goal.fold_block-requires-clause-at
+fold_block-requires-clause-at c = c.requires.row
 
 pub fold_block-requires-clause-moves : goal.fold_block-requires-clause-moves
 fold_block-requires-clause-moves c =
     let s = c.args.self.now in
-    let moves = some_told s.numbers _ _ _ c.args.block.now.nulls (λ v. v.items) c.in_ok-together.together _ c.in-Some.is
+    let moves = some_told s.numbers _ _ _ c.args.task.now.block.now.nulls (λ v. v.items) c.in_ok-together.together _ c.in-Some.is
     (rw c.items-rows.ensures at c.in_ok-together.ensures.exact) in
     rw c.deref.ensures.value
-    (same_moves c.ask.new.self.numbers s.numbers c.args.block.now.nulls _ c.ask.new.self.taken s.taken c.args.block.now.rows c.args.at
+    (same_moves c.ask.new.self.numbers s.numbers c.args.task.now.block.now.nulls _ c.ask.new.self.taken s.taken c.args.task.now.block.now.rows c.args.at
     (sym c.in_ok-together.ensures.numbers) (sym c.in_ok-together.ensures.taken) moves)
 
 pub returns-in-Some-clause-reduct : goal.returns-in-Some-clause-reduct
@@ -39,12 +48,12 @@ returns-in-Some-clause-needed c = λ m.
 pub returns-in-Some-clause-known : goal.returns-in-Some-clause-known
 returns-in-Some-clause-known c =
     let s = c.args.self.now in
-    known_stays s.numbers (facts_left s.numbers s.taken) _ c.args.block.now.nulls c.args.known.now
+    known_stays s.numbers (facts_left s.numbers s.taken) _ c.args.task.now.block.now.nulls c.args.task.now.known.items
     (same_reduct s.numbers c.ask.new.self.numbers s.taken c.ask.new.self.taken c.fold_block.new.self.taken c.in_ok-together.ensures.numbers
-    c.in_ok-together.ensures.taken c.fold_block.ensures.reduct) c.requires.known
+    c.in_ok-together.ensures.taken c.fold_block.ensures.reduct) c.requires.ready.rigid
 
 pub returns-in-Some-clause-others : goal.returns-in-Some-clause-others
 returns-in-Some-clause-others c =
     let s = c.args.self.now in
-    same_others s.numbers c.ask.new.self.numbers c.args.block.now s.taken c.ask.new.self.taken c.fold_block.new.self.taken
+    same_others s.numbers c.ask.new.self.numbers c.args.task.now.block.now s.taken c.ask.new.self.taken c.fold_block.new.self.taken
     c.in_ok-together.ensures.numbers c.in_ok-together.ensures.taken c.fold_block.ensures.others

@@ -4,7 +4,7 @@ use Rattle.dx_model.proofs.Reduction.{reduct_itself}
 use Rattle.dx_blocks.specs.Numbered.{fact_of}
 use Rattle.dx_core.specs.Left.{facts_left}
 use Rattle.dx_core.proofs.Asked.{mark_place, mark_table, row_left}
-use Rattle.dx_core.proofs.Spared.{alone_same, gone_needed, known_stays, none_needed, nulls_kept, none_told, one_less, others_left, same_avoids, same_moves, some_told}
+use Rattle.dx_core.proofs.Spared.{alone_same, gone_needed, known_stays, none_needed, nulls_kept, none_told, one_less, others_left, same_asked, same_avoids, same_moves, some_told}
 use Rattle.dx_core.proofs.sparing.Reduction.spare_row.Goals as goal
 
 pub returns-then-has-clause-reduct : goal.returns-then-has-clause-reduct
@@ -13,8 +13,20 @@ returns-then-has-clause-reduct c = reduct_itself (facts_left c.args.self.now.num
 pub returns-then-has-clause-needed : goal.returns-then-has-clause-needed
 returns-then-has-clause-needed c = λ m.
     let s = c.args.self.now in
-    let l = row_left s.numbers c.len-fit.ensures.fit s.taken c.args.at (c.requires.block.numbers.rows c.args.at c.requires.at) m in
+    let l = row_left s.numbers c.len-fit.ensures.fit s.taken c.args.at (c.requires.ready.tried.numbers.rows c.args.at c.requires.at) m in
     absurd (true≢false (sym c.if-has.true ∙ (c.has.ensures ∙ l)))
+
+pub spare_in_small-requires : goal.spare_in_small-requires
+spare_in_small-requires c = record { ready = c.requires.ready; row = c.requires.at; left = sym c.has.ensures ∙ c.if-has.false }
+
+pub keep_nulls-requires-clause-row : goal.keep_nulls-requires-clause-row
+keep_nulls-requires-clause-row c = rw c.in_ok-alone.ensures.numbers (c.requires.ready.tried.numbers.rows c.args.at c.requires.at)
+
+pub keep_nulls-requires-clause-long : goal.keep_nulls-requires-clause-long
+keep_nulls-requires-clause-long c = rw c.items-nulls.ensures c.requires.ready.rigid.long
+
+pub ask_alone-requires : goal.ask_alone-requires
+ask_alone-requires c = record { ready = c.requires.ready; row = c.requires.at; left = sym c.has.ensures ∙ c.if-has.false }
 
 pub returns-in-None-clause-reduct : goal.returns-in-None-clause-reduct
 returns-in-None-clause-reduct c =
@@ -34,13 +46,21 @@ returns-in-None-clause-known c =
     let keeps = rw (c.in_ok-alone.ensures.numbers, c.items-nulls.ensures) at c.keep_nulls.ensures in
     rw c.in_ok-alone.ensures.taken
     (keeps (facts_left s.numbers s.taken) (λ x i j.
-    nulls_kept s.numbers c.len-fit.ensures.fit c.args.at (c.requires.block.numbers.rows c.args.at c.requires.at)
-    (facts_left s.numbers s.taken) none x i (c.requires.block.numbers.nulls x j)) c.requires.known)
+    nulls_kept s.numbers c.len-fit.ensures.fit c.args.at (c.requires.ready.tried.numbers.rows c.args.at c.requires.at)
+    (facts_left s.numbers s.taken) none x i (c.requires.ready.tried.numbers.nulls x j)) c.requires.ready.rigid)
+
+pub ask_all-requires-clause-asked : goal.ask_all-requires-clause-asked
+ask_all-requires-clause-asked c =
+    let s = c.args.self.now in
+    let t = c.args.task.now in
+    same_asked s.numbers c.ask_alone.new.self.numbers s.taken c.ask_alone.new.self.taken t.block.now t.known.items c.args.at
+    c.in_ok-alone.ensures.numbers c.in_ok-alone.ensures.taken
+    (record { ready = c.requires.ready; row = c.requires.at; left = sym c.has.ensures ∙ c.if-has.false })
 
 pub ask_all-requires-clause-alone : goal.ask_all-requires-clause-alone
 ask_all-requires-clause-alone c =
     let s = c.args.self.now in
-    alone_same s.numbers c.ask_alone.new.self.numbers s.taken c.ask_alone.new.self.taken c.args.block.now.nulls (λ v. v.items) c.in_ok-alone.alone c.args.at
+    alone_same s.numbers c.ask_alone.new.self.numbers s.taken c.ask_alone.new.self.taken c.args.task.now.block.now.nulls (λ v. v.items) c.in_ok-alone.alone c.args.at
     c.in_ok-alone.ensures.numbers c.in_ok-alone.ensures.taken c.in_ok-alone.ensures.exact
 
 pub returns-in-None-together-clause-reduct : goal.returns-in-None-together-clause-reduct
@@ -50,56 +70,56 @@ returns-in-None-together-clause-reduct c =
 pub returns-in-None-together-clause-needed : goal.returns-in-None-together-clause-needed
 returns-in-None-together-clause-needed c =
     let s = c.args.self.now in
-    let none = same_avoids s.numbers c.ask_alone.new.self.numbers s.taken c.ask_alone.new.self.taken c.args.block.now.rows c.args.at
+    let none = same_avoids s.numbers c.ask_alone.new.self.numbers s.taken c.ask_alone.new.self.taken c.args.task.now.block.now.rows c.args.at
     c.in_ok-alone.ensures.numbers c.in_ok-alone.ensures.taken
-    (none_told c.ask_alone.new.self.numbers _ _ _ c.args.block.now.nulls (λ v. v.items) c.in_ok-together.together c.in-None-together.is
+    (none_told c.ask_alone.new.self.numbers _ _ _ c.args.task.now.block.now.nulls (λ v. v.items) c.in_ok-together.together c.in-None-together.is
     c.in_ok-together.ensures.exact) in
     rw (c.in_ok-together.ensures.taken, c.in_ok-alone.ensures.taken)
-    (none_needed (facts_left s.numbers s.taken) (map (fact_of s.numbers) c.args.block.now.rows) (fact_of s.numbers c.args.at) none)
+    (none_needed (facts_left s.numbers s.taken) (map (fact_of s.numbers) c.args.task.now.block.now.rows) (fact_of s.numbers c.args.at) none)
 
 pub take_out-requires-clause-table : goal.take_out-requires-clause-table
 take_out-requires-clause-table c =
     let s = c.args.self.now in
     rw (c.in_ok-together.ensures.taken, c.in_ok-alone.ensures.taken)
-    (mark_table s.numbers c.len-fit.ensures.fit s.taken c.args.at s.marks (c.requires.block.numbers.rows c.args.at c.requires.at))
+    (mark_table s.numbers c.len-fit.ensures.fit s.taken c.args.at s.marks (c.requires.ready.tried.numbers.rows c.args.at c.requires.at))
 
 pub take_out-requires-clause-place : goal.take_out-requires-clause-place
 take_out-requires-clause-place c =
     let s = c.args.self.now in
     rw (c.in_ok-together.ensures.taken, c.in_ok-alone.ensures.taken)
-    (mark_place s.numbers c.len-fit.ensures.fit s.taken c.args.at s.marks (c.requires.block.numbers.rows c.args.at c.requires.at))
+    (mark_place s.numbers c.len-fit.ensures.fit s.taken c.args.at s.marks (c.requires.ready.tried.numbers.rows c.args.at c.requires.at))
 
 pub returns-in-Some-clause-reduct : goal.returns-in-Some-clause-reduct
 returns-in-Some-clause-reduct c =
     let s = c.args.self.now in
-    let moves = same_moves s.numbers c.ask_alone.new.self.numbers c.args.block.now.nulls _ s.taken
-    c.ask_alone.new.self.taken c.args.block.now.rows c.args.at c.in_ok-alone.ensures.numbers c.in_ok-alone.ensures.taken
-    (some_told c.ask_alone.new.self.numbers _ _ _ c.args.block.now.nulls (λ v. v.items) c.in_ok-together.together _ c.in-Some.is
+    let moves = same_moves s.numbers c.ask_alone.new.self.numbers c.args.task.now.block.now.nulls _ s.taken
+    c.ask_alone.new.self.taken c.args.task.now.block.now.rows c.args.at c.in_ok-alone.ensures.numbers c.in_ok-alone.ensures.taken
+    (some_told c.ask_alone.new.self.numbers _ _ _ c.args.task.now.block.now.nulls (λ v. v.items) c.in_ok-together.together _ c.in-Some.is
     c.in_ok-together.ensures.exact) in
     rw (c.take_out.ensures, c.in_ok-together.ensures.taken, c.in_ok-alone.ensures.taken)
-    (one_less s.numbers c.len-fit.ensures.fit c.args.block.now c.requires.block s.taken s.marks c.args.at c.requires.at
+    (one_less s.numbers c.len-fit.ensures.fit c.args.task.now.block.now c.requires.ready.tried s.taken s.marks c.args.at c.requires.at
     _ moves)
 
 pub returns-in-Some-clause-needed : goal.returns-in-Some-clause-needed
 returns-in-Some-clause-needed c =
     let s = c.args.self.now in
     rw (c.take_out.ensures, c.in_ok-together.ensures.taken, c.in_ok-alone.ensures.taken)
-    (gone_needed s.numbers c.len-fit.ensures.fit c.args.block.now c.requires.block s.taken s.marks c.args.at c.requires.at)
+    (gone_needed s.numbers c.len-fit.ensures.fit c.args.task.now.block.now c.requires.ready.tried s.taken s.marks c.args.at c.requires.at)
 
 pub returns-in-Some-clause-known : goal.returns-in-Some-clause-known
 returns-in-Some-clause-known c =
     let s = c.args.self.now in
-    let moves = same_moves s.numbers c.ask_alone.new.self.numbers c.args.block.now.nulls _ s.taken
-    c.ask_alone.new.self.taken c.args.block.now.rows c.args.at c.in_ok-alone.ensures.numbers c.in_ok-alone.ensures.taken
-    (some_told c.ask_alone.new.self.numbers _ _ _ c.args.block.now.nulls (λ v. v.items) c.in_ok-together.together _ c.in-Some.is
+    let moves = same_moves s.numbers c.ask_alone.new.self.numbers c.args.task.now.block.now.nulls _ s.taken
+    c.ask_alone.new.self.taken c.args.task.now.block.now.rows c.args.at c.in_ok-alone.ensures.numbers c.in_ok-alone.ensures.taken
+    (some_told c.ask_alone.new.self.numbers _ _ _ c.args.task.now.block.now.nulls (λ v. v.items) c.in_ok-together.together _ c.in-Some.is
     c.in_ok-together.ensures.exact) in
     rw (c.take_out.ensures, c.in_ok-together.ensures.taken, c.in_ok-alone.ensures.taken)
-    (known_stays s.numbers (facts_left s.numbers s.taken) _ c.args.block.now.nulls c.args.known.now.items
-    (one_less s.numbers c.len-fit.ensures.fit c.args.block.now c.requires.block s.taken s.marks c.args.at c.requires.at
-    _ moves) c.requires.known)
+    (known_stays s.numbers (facts_left s.numbers s.taken) _ c.args.task.now.block.now.nulls c.args.task.now.known.items
+    (one_less s.numbers c.len-fit.ensures.fit c.args.task.now.block.now c.requires.ready.tried s.taken s.marks c.args.at c.requires.at
+    _ moves) c.requires.ready.rigid)
 
 pub returns-in-Some-clause-others : goal.returns-in-Some-clause-others
 returns-in-Some-clause-others c =
     let s = c.args.self.now in
     rw (c.take_out.ensures, c.in_ok-together.ensures.taken, c.in_ok-alone.ensures.taken)
-    (others_left s.numbers c.len-fit.ensures.fit c.args.block.now c.requires.block s.taken s.marks c.args.at c.requires.at)
+    (others_left s.numbers c.len-fit.ensures.fit c.args.task.now.block.now c.requires.ready.tried s.taken s.marks c.args.at c.requires.at)

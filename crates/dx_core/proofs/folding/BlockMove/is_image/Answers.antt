@@ -4,12 +4,12 @@ use Rattle.dx_model.specs.Instances.{fact_moved, given}
 use Rattle.dx_blocks.specs.Numbered.{fact_of}
 use Rattle.dx_core.specs.Asking.{pairs_by}
 use Rattle.dx_core.proofs.Spared.{each_fact}
-use Rattle.dx_core.proofs.folding.is_image.Goals as goal
+use Rattle.dx_core.proofs.folding.BlockMove.is_image.Goals as goal
 
 pub returns : goal.returns
 returns c = λ z.
     let N = c.args.numbers.now in
-    each_fact N (λ e. ¬ (fact_moved (given (pairs_by N c.args.block.now.nulls c.args.answer.now)) e ≡ fact_of N c.args.to)) c.args.block.now.rows
+    each_fact N (λ e. ¬ (fact_moved (given (pairs_by N c.args.self.now.block.now.nulls c.args.self.now.answer.now)) e ≡ fact_of N c.args.to)) c.args.self.now.block.now.rows
     c.loop-from.from-index (record { table = 0; place = 0 }) (omega (arith, ap (λ xs. length xs) c.items-from-items.ensures, c.loop-from-test.false))
     c.loop-from.invariant
 
