@@ -1,0 +1,15 @@
+-- Between which unfoldings a rule can be drafted.
+use Rattle.std.specs.Prelude.{◌≤◌, List}
+use Rattle.dx_ports.specs.Members.{Each}
+use Rattle.dx_model.specs.Tables.{AreWithin}
+use Rattle.dx_logical.specs.declared.relation.Relation.{Relation}
+use Rattle.dx_lines.specs.declared.line.Line.{Line}
+use Rattle.dx_lines.specs.Reading.{IsReached}
+
+-- The target column of each line can be read at the occurrences of the target table's unfolding, whose variables are fewer than it says;
+-- and both unfoldings have at most 4,096 variables.
+pub record CanBeDrafted (lines : List Line) (S T : Relation) : Type 0 where
+  pub reached : Each lines (IsReached T.occurrences)
+  pub variables : Each T.occurrences (λ o. AreWithin o.variables T.variables)
+  pub few_of_source : S.variables ≤ 4096
+  pub few_of_target : T.variables ≤ 4096
