@@ -1,4 +1,4 @@
-use Rattle.std.proofs.Common.{◌<◌, ◌≤◌, length, arith}
+use Rattle.std.proofs.Common.{◌≤◌, length, arith}
 use Rattle.dx_stages.specs.Running.{Answers}
 use Rattle.dx_stages.proofs.Running.{as_error}
 use Rattle.clio_accept.specs.declared.fault.AcceptFault.TheVariants.{Memory}
