@@ -1,13 +1,13 @@
 -- Candidates and rules, listed by pairs.
-use Rattle.std.proofs.Common.{◌≡◌, ℕ, ◌<◌, ◌≤◌, min, cond, Some, None, List, [], ◌∷◌, ◌++◌, ◌+◌, ◌⊎◌, length, get_or, take, refl, sym, ◌∙◌, ap, subst, inl, inr, arith}
+use Rattle.std.proofs.Common.{◌≡◌, ℕ, ◌<◌, ◌≤◌, min, cond, Some, None, List, [], ◌∷◌, ◌++◌, ◌+◌, length, get_or, take, refl, sym, ◌∙◌, ap, subst, inl, inr, arith}
 use Rattle.std.specs.Prelude.{Bool, true, false, not, map, nat_lt, Option}
 use Rattle.std.specs.List.{list_any, flat_map, filter}
 use Rattle.std.proofs.lemmas.Bool.{lt-ltb, le-ltb, cases_Bool}
 use Rattle.std.proofs.lemmas.List.{append-nil, map-append, length-map, length-append, take_all, take_more}
 use Rattle.std.proofs.lemmas.List.Concat.{flat_map-append}
 use Rattle.std.proofs.lemmas.List.Elements.{filter-append, filter_agree}
-use Rattle.dx_ports.specs.Members.{◌∈◌, Each}
-use Rattle.dx_ports.proofs.Members.{from_flat_map, in_at}
+use Rattle.dx_ports.specs.Members.{Each}
+use Rattle.dx_ports.proofs.Members.{in_at}
 use Rattle.dx_ports.specs.declared.file.Limit.{Limit}
 use Rattle.dx_model.specs.Tables.{Table}
 use Rattle.dx_model.specs.declared.rules.Rule.{Rule}
@@ -22,11 +22,10 @@ use Rattle.dx_lines.specs.Kept.{is_dropped, is_kept}
 use Rattle.dx_lines.specs.Rules.{rule_by, candidate_rule, kept_rules}
 use Rattle.dx_lines.specs.Limits.{first_or, passed_by, has_many_ways, passed_limit, LineFits}
 use Rattle.dx_candidates.specs.declared.fault.CandFault.{CandFault}
-use Rattle.dx_candidates.specs.declared.fault.CandFault.TheVariants.{TooMany, Memory}
 use Rattle.dx_candidates.specs.declared.pairs.Pair.{Pair}
 use Rattle.dx_candidates.specs.Faults.{IsLimitFault, IsFirst, schema_limit, ways_limit, candidates_limit}
 use Rattle.dx_candidates.specs.declared.listing.Plan.{Plan}
-use Rattle.dx_candidates.specs.Listing.{IsCandidatePlan, IsReadyPlan, is_needed, rules_between, rules_of_pair}
+use Rattle.dx_candidates.specs.Listing.{IsCandidatePlan, IsReadyPlan, is_needed, rules_of_pair}
 use Rattle.dx_candidates.specs.Pairs.{IsSoundSchema, variant_at, pair_by, pair_at, pairs_at, pairs_between, has_many_at, have_many_ways, candidates_in, picks_in, IsPair, ArePairs}
 use Rattle.dx_candidates.proofs.Paired.{at_item, item_has, pairs_are}
 use Rattle.dx_candidates.proofs.Readable.{are_variants, are_read, are_reached, have_variables}
