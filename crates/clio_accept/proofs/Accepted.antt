@@ -1,9 +1,9 @@
 -- What holds of an accepted mapping.
-use Rattle.std.proofs.Common.{◌≡◌, ◌≤◌, ℕ, ◌+◌, ◌<◌, List, [], length, None, refl, sym, ◌∙◌, subst, ap, arith, get_or, inl, inr, ◌-◌, ◌^◌, Result, Ok, Err}
+use Rattle.std.proofs.Common.{◌≡◌, ◌≤◌, ℕ, ◌+◌, ◌<◌, List, length, None, refl, sym, ◌∙◌, subst, ap, arith, inl, inr, ◌-◌, ◌^◌, Result, Ok, Err}
 use Rattle.std.specs.Prelude.{map, flat_map, IfOk}
-use Rattle.std.proofs.lemmas.List.{length-map, get_or_default}
+use Rattle.std.proofs.lemmas.List.{length-map}
 use Rattle.dx_ports.specs.Members.{◌∈◌, here, there, Each}
-use Rattle.dx_ports.proofs.Members.{from_append, from_map, from_flat_map, contains_from_in}
+use Rattle.dx_ports.proofs.Members.{from_append, from_map, from_flat_map}
 use Rattle.dx_model.specs.declared.rules.Cell.{Cell}
 use Rattle.dx_model.specs.declared.rules.Cell.TheVariants as cells
 use Rattle.dx_model.specs.declared.rules.Derived.{Derived}

@@ -29,7 +29,7 @@ use Rattle.dx_funcs.specs.declared.row_test.RowTest.{RowTest}
 use Rattle.dx_line_text.specs.Naming.{lines_fault}
 use Rattle.dx_line_text.specs.Conditions.{conditions_fault}
 use Rattle.dx_tgd_text.specs.Reading.{rules_fault}
-use Rattle.dx_stages.specs.Stages.{Stage, next, over, notions, checking}
+use Rattle.dx_stages.specs.Stages.{Stage, next, notions, checking}
 use Rattle.dx_stages.specs.Laws.{PassesOne, IsDecided, Leads}
 use Rattle.dx_stages.proofs.Decided.{Any, next_one, next_decided, checking_one, checking_decided, into_one, into_decided, over_one, over_decided, notions_decided, saying_decided, weaker}
 use Rattle.clio_accept.specs.declared.fault.AcceptFault.{AcceptFault}

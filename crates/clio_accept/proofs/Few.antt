@@ -5,7 +5,7 @@ use Rattle.std.specs.List.{list_any}
 use Rattle.std.proofs.lemmas.Bool.{ltb-false}
 use Rattle.std.proofs.lemmas.List.{length-append}
 use Rattle.dx_ports.specs.declared.file.Limit.{Limit}
-use Rattle.dx_ports.specs.Members.{◌∈◌, here, there, Each}
+use Rattle.dx_ports.specs.Members.{here, there, Each}
 use Rattle.dx_ports.proofs.Members.{in_left, in_right, in_map, from_map, in_at}
 use Rattle.dx_ports.proofs.Tests.{none_of}
 use Rattle.dx_model.specs.Tables.{Table, table_of}
@@ -23,7 +23,6 @@ use Rattle.dx_logical.specs.declared.relation.Relation.{Relation}
 use Rattle.dx_logical.specs.Laws.{IsUnfolding, unfolding_variables}
 use Rattle.dx_logical.specs.Unfolding.{variants_of}
 use Rattle.dx_lines.specs.declared.line.Line.{Line}
-use Rattle.dx_lines.specs.Candidates.{upto}
 use Rattle.dx_lines.specs.Limits.{first_or, count_upto, is_wide, passed_at, passed_by, passed_limit}
 use Rattle.dx_candidates.proofs.Lists.{in_upto}
 use Rattle.dx_rules.proofs.ClosedRules.{occurrences_fit}

@@ -23,7 +23,7 @@ use Rattle.dx_implies.specs.Frozen.{IsFrozenRefusal}
 use Rattle.dx_implies.specs.Pruning.{IsPrunedAlways, PruningPassesLimit}
 use Rattle.clio_accept.specs.Mapping.{AreClosings, AreRulesOf, LinesRefused, WidthRefused, frozen_cells, frozen_refusal, limit_of, limit_refusal}
 use Rattle.clio_accept.specs.Mapping.{rules_of_lines, text_refusal, written_of}
-use Rattle.clio_accept.specs.Accepting.{TextsBetween, mapping_of}
+use Rattle.clio_accept.specs.Accepting.{TextsBetween, leaving, mapping_of}
 
 -- there are too many lines and conditions
 pub lines_stop : (list : List Conversion) (tests : List RowTest) (b : TextsBetween) (e : AcceptFault) → LinesRefused b.lines b.conditions e → Answers faults.Memory (mapping_of list tests) b (Err e)
@@ -77,22 +77,31 @@ all_rules list b written kept closed R are is closings both = record {
   are = both ∙ ap (λ ks. ks ++ closed) is;
 }
 
--- the rules are too many
-pub count_stops : (list : List Conversion) (tests : List RowTest) (b : TextsBetween) (R : List Rule) → AreRead list tests b → limit_of list b.source b.target b.lines ≡ None → AreRulesOf list b.source b.target b.lines b.by_hand R
-    → 256 < length R → Answers faults.Memory (mapping_of list tests) b (Err (faults.Limit (record { what = counts.Rules; number = 256 })))
-count_stops list tests b R r limits are many =
-    inr (λ c. inr (b, (r.few, refl), inr (b, (r.named, refl), inr (b, (r.tested, refl), inr (b, (r.written, refl), inr (b, (limits, refl), inr (R, are, inl (many, refl))))))))
-
--- a test of pruning passes the limit
-pub frozen_stops : (list : List Conversion) (tests : List RowTest) (b : TextsBetween) (R : List Rule) (f : CanonFault) → AreRead list tests b → limit_of list b.source b.target b.lines ≡ None
-    → AreRulesOf list b.source b.target b.lines b.by_hand R → length R ≤ 256 → IsFrozenRefusal frozen_cells (PruningPassesLimit frozen_cells R) f → Answers faults.Memory (mapping_of list tests) b (Err (frozen_refusal f))
-frozen_stops list tests b R canon_faults.Memory r limits are few h = inl refl
-frozen_stops list tests b R (canon_faults.Limit l) r limits are few h =
-    inr (λ c. inr (b, (r.few, refl), inr (b, (r.named, refl), inr (b, (r.tested, refl), inr (b, (r.written, refl), inr (b, (limits, refl), inr (R, are, inr (R, (few, refl), inl (h.1, ap faults.Limit h.0)))))))))
+-- the answer on the rules is an error, and so is that on the mapping
+pub leaving_stops : (list : List Conversion) (tests : List RowTest) (b : TextsBetween) (R : List Rule) (e : AcceptFault) → AreRead list tests b → limit_of list b.source b.target b.lines ≡ None
+    → AreRulesOf list b.source b.target b.lines b.by_hand R → Answers faults.Memory leaving R (Err e) → Answers faults.Memory (mapping_of list tests) b (Err e)
+leaving_stops list tests b R e r limits are (inl is) = inl is
+leaving_stops list tests b R e r limits are (inr h) =
+    inr (λ c. inr (b, (r.few, refl), inr (b, (r.named, refl), inr (b, (r.tested, refl), inr (b, (r.written, refl), inr (b, (limits, refl), inr (R, are, h c)))))))
 
 -- the pruned rules are taken
 pub rules_taken : (list : List Conversion) (tests : List RowTest) (b : TextsBetween) (R P : List Rule) (conditions : List Condition) → AreRead list tests b → limit_of list b.source b.target b.lines ≡ None → AreRulesOf list b.source b.target b.lines b.by_hand R
-    → length R ≤ 256 → ¬ (PruningPassesLimit frozen_cells R) → IsPrunedAlways R P → conditions ≡ conditions_of b.source tests b.conditions
+    → Answers faults.Memory leaving R (Ok P) → conditions ≡ conditions_of b.source tests b.conditions
     → Answers faults.Memory (mapping_of list tests) b (Ok (record { source = b.source; target = b.target; conditions = conditions; rules = P }))
-rules_taken list tests b R P conditions r limits are few none left read =
-    λ c. (P, (b, (r.few, refl), (b, (r.named, refl), (b, (r.tested, refl), (b, (r.written, refl), (b, (limits, refl), (R, are, (R, (few, refl), (R, (none, refl), left)))))))), ap (λ cs. record { source = b.source; target = b.target; conditions = cs; rules = P }) read)
+rules_taken list tests b R P conditions r limits are left read =
+    λ c. (P, (b, (r.few, refl), (b, (r.named, refl), (b, (r.tested, refl), (b, (r.written, refl), (b, (limits, refl), (R, are, left c)))))), ap (λ cs. record { source = b.source; target = b.target; conditions = cs; rules = P }) read)
+
+-- ---- what is left of the rules
+
+-- the rules are too many
+pub count_stops : (R : List Rule) → 256 < length R → Answers faults.Memory leaving R (Err (faults.Limit (record { what = counts.Rules; number = 256 })))
+count_stops R many = inr (λ c. inl (many, refl))
+
+-- a test of pruning passes the limit
+pub frozen_stops : (R : List Rule) (f : CanonFault) → length R ≤ 256 → IsFrozenRefusal frozen_cells (PruningPassesLimit frozen_cells R) f → Answers faults.Memory leaving R (Err (frozen_refusal f))
+frozen_stops R canon_faults.Memory few h = inl refl
+frozen_stops R (canon_faults.Limit l) few h = inr (λ c. inr (R, (few, refl), inl (h.1, ap faults.Limit h.0)))
+
+-- they are pruned
+pub rules_left : (R P : List Rule) → length R ≤ 256 → ¬ (PruningPassesLimit frozen_cells R) → IsPrunedAlways R P → Answers faults.Memory leaving R (Ok P)
+rules_left R P few none left = λ c. (R, (few, refl), (R, (none, refl), left))

@@ -25,12 +25,11 @@ use Rattle.dx_funcs.specs.declared.conversion.Conversion.{Conversion}
 use Rattle.dx_funcs.specs.declared.row_test.RowTest.{RowTest}
 use Rattle.dx_line_text.specs.Naming.{columns_in, set_names, set_number}
 use Rattle.dx_closing.proofs.Growth.{closing_keeps}
-use Rattle.dx_tgd_text.specs.Laws.{IsWholeRule}
 use Rattle.dx_tgd_text.specs.Numbering.{text_cells}
 use Rattle.dx_tgd_text.specs.Reading.{RuleHasFewCells, atom_fault, atom_of_text, atoms_fault, derived_faults, derived_of_text, fresh_of, known_of, rule_fault, rule_of_text, names_of_premise}
 use Rattle.dx_tgd_text.proofs.Fits.{read_rules_fit}
 use Rattle.clio_accept.specs.Mapping.{AreRulesOf, IsNarrowClosing, limit_of, rules_of_lines, written_of}
-use Rattle.clio_accept.specs.Accepting.{TextsBetween}
+use Rattle.clio_accept.specs.Accepting.{IsBetweenSchemas, TextsBetween}
 use Rattle.clio_accept.proofs.Accepted.{IsRead, all_rules_fit, each_fits}
 use Rattle.clio_accept.proofs.LineRules.{AreRead}
 use Rattle.clio_accept.proofs.Closed.{closed_fits, closed_of}
@@ -107,7 +106,8 @@ abbrev pub saying_all : TextsBetween → MappingText
 saying_all b = record { version = 2; source = b.source; target = b.target; lines = b.lines; conditions = b.conditions; rules = b.by_hand }
 
 -- the rules of lines and the closed hand-written ones fit
-pub between_fit : (list : List Conversion) (tests : List RowTest) (b : TextsBetween) (R : List Rule) → IsFaultless b.source → IsFaultless b.target → AreRead list tests b → limit_of list b.source b.target b.lines ≡ None
-    → Each b.by_hand IsWholeRule → Each b.by_hand RuleHasFewCells → AreRulesOf list b.source b.target b.lines b.by_hand R → Each R (RuleFits (model_tables b.source) (model_tables b.target))
-between_fit list tests b R ok fine r limits whole thin are =
-    all_rules_fit list (saying_all b) R (record { source = ok; target = fine; named = r.named; limits = limits; written = r.written; whole = whole }) thin are
+pub between_fit : (list : List Conversion) (tests : List RowTest) (b : TextsBetween) (R : List Rule) → IsBetweenSchemas b → AreRead list tests b → limit_of list b.source b.target b.lines ≡ None
+    → AreRulesOf list b.source b.target b.lines b.by_hand R → Each R (RuleFits (model_tables b.source) (model_tables b.target))
+between_fit list tests b R ready r limits are =
+    all_rules_fit list (saying_all b) R
+    (record { source = ready.source; target = ready.target; named = r.named; limits = limits; written = r.written; whole = ready.whole }) ready.narrow are

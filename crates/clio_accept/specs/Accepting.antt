@@ -2,10 +2,12 @@
 use Rattle.std.specs.Prelude.{◌≡◌, ◌≤◌, ◌+◌, ℕ, List, None, length}
 use Rattle.dx_ports.specs.declared.limits.TheConstants.{LINES, RULES}
 use Rattle.dx_model.specs.declared.rules.Rule.{Rule}
+use Rattle.dx_ports.specs.Members.{Each}
 use Rattle.dx_stages.specs.Stages.{Stage, next, over, into, saying, checking, notions}
 use Rattle.dx_schema.specs.Forest.{Forest}
 use Rattle.dx_schema.specs.Tables.{model_tables}
 use Rattle.dx_schema.specs.Links.{IsFaultless}
+use Rattle.dx_schema.specs.Bounds.{HasFewRules}
 use Rattle.dx_funcs.specs.declared.conversion.Conversion.{Conversion}
 use Rattle.dx_funcs.specs.declared.row_test.RowTest.{RowTest}
 use Rattle.dx_schema_text.specs.declared.texts.LineText.{LineText}
@@ -15,7 +17,8 @@ use Rattle.dx_schema_text.specs.declared.texts.MappingText.{MappingText}
 use Rattle.dx_schema_text.specs.Texts.{IsMappingText, IsMappingTextFault}
 use Rattle.dx_line_text.specs.Naming.{lines_fault}
 use Rattle.dx_line_text.specs.Conditions.{conditions_fault, conditions_of}
-use Rattle.dx_tgd_text.specs.Reading.{rules_fault}
+use Rattle.dx_tgd_text.specs.Laws.{IsWholeRule}
+use Rattle.dx_tgd_text.specs.Reading.{RuleHasFewCells, rules_fault}
 use Rattle.dx_implies.specs.Pruning.{IsPrunedAlways, PruningPassesLimit}
 use Rattle.clio_accept.specs.declared.mapping.Mapping.{Mapping}
 use Rattle.clio_accept.specs.declared.fault.AcceptFault.{AcceptFault}
@@ -32,6 +35,18 @@ pub record TextsBetween : Type 0 where
   pub lines : List LineText
   pub conditions : List OnlyText
   pub by_hand : List RuleText
+
+-- these lines, conditions and hand-written rules between these schemas
+abbrev pub texts_between : Forest → Forest → List LineText → List OnlyText → List RuleText → TextsBetween
+texts_between source target lines conditions by_hand =
+    record { source = source; target = target; lines = lines; conditions = conditions; by_hand = by_hand }
+
+-- They stand between two schemas without a fault, and each hand-written rule is whole and has few cells.
+pub record IsBetweenSchemas (b : TextsBetween) : Type 0 where
+  pub source : IsFaultless b.source
+  pub target : IsFaultless b.target
+  pub whole : Each b.by_hand IsWholeRule
+  pub narrow : Each b.by_hand RuleHasFewCells
 
 -- not too many lines and conditions together
 abbrev pub line_count : Stage AcceptFault TextsBetween TextsBetween
@@ -86,6 +101,14 @@ abbrev pub mapping_of : List Conversion → List RowTest → Stage AcceptFault T
 mapping_of list tests = into (with_rules tests) (taking list tests)
 
 -- ---- the mapping of what a text says
+
+-- What a text says can be taken for a mapping: its sets have few keys, dependencies and refs, and each hand-written rule is whole and
+-- has few cells.
+pub record IsAcceptable (m : MappingText) : Type 0 where
+  pub source : HasFewRules m.source
+  pub target : HasFewRules m.target
+  pub whole : Each m.rules IsWholeRule
+  pub narrow : Each m.rules RuleHasFewCells
 
 -- the sets of the source, and of the target, make a schema
 abbrev pub source_sets : Stage AcceptFault MappingText MappingText

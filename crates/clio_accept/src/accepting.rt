@@ -1,14 +1,11 @@
 // Accepted mappings.
 ghost use Rattle.std.specs.Prelude.{◌≡◌, ◌⊎◌, ◌↔◌, ◌<◌, ◌-◌, ◌^◌, ℕ, length, IfOk, IfErr, IfSome, IfNone, IsTrue, OnOk};
-ghost use Rattle.dx_ports.specs.Members.{Each};
 ghost use Rattle.dx_stages.specs.Running.{Answers};
 ghost use Rattle.dx_schema.specs.Bounds.{HasFewRules};
 ghost use Rattle.dx_schema.specs.Links.{IsFaultless};
 ghost use Rattle.dx_funcs.specs.Judging.{tested};
 ghost use Rattle.dx_funcs.specs.Serving.{offered};
-ghost use Rattle.dx_tgd_text.specs.Laws.{IsWholeRule};
-ghost use Rattle.dx_tgd_text.specs.Reading.{RuleHasFewCells};
-ghost use Rattle.clio_accept.specs.Accepting.{accepting, accepting_said};
+ghost use Rattle.clio_accept.specs.Accepting.{IsAcceptable, accepting, accepting_said};
 ghost use Rattle.clio_accept.specs.Mapping.{IsFirstReserved, IsReserved, NoneReserved, SourceRefused, TargetRefused};
 ghost use Rattle.clio_accept.specs.declared.fault.AcceptFault.TheVariants.{Memory};
 
@@ -82,10 +79,7 @@ where
     F: Fn(u32, &Items<Text>) -> Result<Text, AllocError>,
     P: Fn(u32, &Text) -> Result<bool, AllocError>,
     M: Meaning,
-    requires source { HasFewRules said.source }
-    requires target { HasFewRules said.target }
-    requires whole { Each said.rules IsWholeRule }
-    requires narrow { Each said.rules RuleHasFewCells }
+    requires { IsAcceptable said }
     ensures { Answers AcceptFault.Memory (accepting_said (offered host.now) (tested tests.now)) said result }
 {
     let MappingText {

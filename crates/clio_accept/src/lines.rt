@@ -2,16 +2,13 @@
 ghost use Rattle.std.specs.Prelude.{◌≡◌, ◌⊎◌, ◌+◌, ◌++◌, ◌≤◌, List, length, Some, None, IfOk, IfErr, OnOk, MatchResult};
 ghost use Rattle.dx_ports.specs.Members.{Each};
 ghost use Rattle.dx_model.specs.declared.rules.Rule.{Rule as RuleOf};
-ghost use Rattle.dx_model.specs.Fitting.{AreNumbered};
+ghost use Rattle.dx_model.specs.Fitting.{AreNumbered, RuleFits};
 ghost use Rattle.dx_model.specs.Solutions.{AtomFits};
 ghost use Rattle.dx_stages.specs.Running.{Answers};
-ghost use Rattle.dx_schema.specs.Links.{IsFaultless};
 ghost use Rattle.dx_schema.specs.Tables.{model_tables};
 ghost use Rattle.dx_funcs.specs.Judging.{tested};
 ghost use Rattle.dx_funcs.specs.Serving.{offered};
-ghost use Rattle.dx_tgd_text.specs.Laws.{IsWholeRule};
-ghost use Rattle.dx_tgd_text.specs.Reading.{RuleHasFewCells};
-ghost use Rattle.clio_accept.specs.Accepting.{mapping_of};
+ghost use Rattle.clio_accept.specs.Accepting.{IsBetweenSchemas, leaving, mapping_of, texts_between};
 ghost use Rattle.clio_accept.specs.Mapping.{AreClosings, IsNarrowClosing, IsTooWide, LinesRefused, TooWide, WidthRefused};
 ghost use Rattle.clio_accept.specs.declared.fault.AcceptFault.TheVariants.{Memory};
 
@@ -85,6 +82,26 @@ fn count_lines(lines: &[LineText], conditions: &[OnlyText]) -> Result<(), Accept
     Ok(())
 }
 
+// What pruning leaves of rules. Refused are more than 256 of them, and too many canonical cells on the frozen premise of one.
+fn pruned(
+    alloc: Global,
+    rules: Vec<Rule>,
+    source: &Schema,
+    target: &Schema,
+) -> Result<Items<Rule>, AcceptFault>
+    requires { Each rules.items (RuleFits (model_tables source.now) (model_tables target.now)) }
+    ensures { Answers AcceptFault.Memory leaving rules.items result }
+{
+    if rules.len() as u64 > RULES {
+        return Err(AcceptFault::Limit(Limit {
+            what: Count::Rules,
+            number: RULES,
+        }));
+    }
+    let left = prune(alloc, rules, source, target, FROZEN_CELLS)?;
+    Ok(Items::from_vec(left))
+}
+
 /// Two schemas, and the texts of what stands between them.
 #[derive(Drop)]
 pub(crate) struct SchemaTexts<'a> {
@@ -107,18 +124,10 @@ where
     F: Fn(u32, &Items<Text>) -> Result<Text, AllocError>,
     P: Fn(u32, &Text) -> Result<bool, AllocError>,
     M: Meaning,
-    requires source { IsFaultless said.source }
-    requires target { IsFaultless said.target }
-    requires whole { Each said.by_hand.now IsWholeRule }
-    requires narrow { Each said.by_hand.now RuleHasFewCells }
+    requires { IsBetweenSchemas (texts_between said.source said.target said.lines.now said.conditions.now said.by_hand.now) }
     ensures { Answers AcceptFault.Memory (mapping_of (offered host.now) (tested tests.now))
-        (record {
-          source = said.entry.source;
-          target = said.entry.target;
-          lines = said.entry.lines.now;
-          conditions = said.entry.conditions.now;
-          by_hand = said.entry.by_hand.now;
-        }) result }
+        (texts_between said.entry.source said.entry.target said.entry.lines.now said.entry.conditions.now said.entry.by_hand.now)
+        result }
 {
     let SchemaTexts {
         source,
@@ -133,17 +142,11 @@ where
     let written = read_rules(alloc, by_hand, &source, &target, host)?;
     let mut rules = kept(alloc, lines.items(), &source, &target)?;
     push_closed(alloc, written, &target, &mut rules)?;
-    if rules.len() as u64 > RULES {
-        return Err(AcceptFault::Limit(Limit {
-            what: Count::Rules,
-            number: RULES,
-        }));
-    }
-    let left = prune(alloc, rules, &source, &target, FROZEN_CELLS)?;
+    let left = pruned(alloc, rules, &source, &target)?;
     Ok(Mapping {
         source,
         target,
         conditions,
-        rules: Items::from_vec(left),
+        rules: left,
     })
 }

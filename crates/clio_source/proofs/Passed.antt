@@ -15,8 +15,8 @@ use Rattle.dx_stages.specs.Worlds.{World}
 use Rattle.dx_stages.specs.Stages.{each}
 use Rattle.dx_lines.specs.declared.line.Condition.{Condition}
 use Rattle.dx_used.specs.Passing.{Passes, fact_passes, passing}
-use Rattle.clio_source.specs.Source.{RootShape, ReadState, SayFacts, at_start, fact_cells, files_stages, flat, shape_at, nested, reading, roots, too_many_cells, with_facts}
-use Rattle.clio_source.proofs.Roots.{IsRoot, is_root}
+use Rattle.clio_source.specs.Source.{IsRoot, RootShape, ReadState, SayFacts, at_start, fact_cells, files_stages, flat, shape_at, nested, reading, roots, too_many_cells, with_facts}
+use Rattle.clio_source.proofs.Roots.{is_root}
 
 -- each fact is of a table of the schema
 abbrev pub AreOf : Forest → List Fact → Type 0

@@ -14,7 +14,7 @@ use Rattle.dx_stages.specs.Laws.{AsksOtherFiles, AsksOnly}
 use Rattle.dx_stages.proofs.Decided.{apart_by, each_only}
 use Rattle.dx_schema.proofs.Inner.{numbers_ascend}
 use Rattle.clio_source.specs.Laws.{RootsHaveNoParent}
-use Rattle.clio_source.specs.Source.{RootShape, csv_name, file_at, flat, shape_at, shape_of, json_name, named_by, nested, reading, roots}
+use Rattle.clio_source.specs.Source.{IsRoot, RootShape, csv_name, file_at, flat, shape_at, shape_of, json_name, named_by, nested, reading, roots}
 
 -- ---- their numbers
 
@@ -37,11 +37,6 @@ parent_in p n (set l i r) u d (there m) =
     let at : u - n ≡ suc (length left + (u - next)) = omega (arith, h, length_placed (Some n) (suc n) i) in
     ap (λ k. (get_or (numbered_sets p n (set l i r)) k d).parent) at ∙ ap (λ (s : NumberedSet). s.parent) (get_or-append-add left (numbered_sets p next r) (u - next) d)
     ∙ parent_in p next r u d m
-
--- a root is a table without a parent
-pub record IsRoot (f : Forest) (u : ℕ) : Type 0 where
-  pub within : u < length (tables_of f)
-  pub parent : (schema_table f u).parent ≡ None
 
 pub is_root : (f : Forest) (u : ℕ) → u ∈ roots f → IsRoot f u
 is_root f u m =

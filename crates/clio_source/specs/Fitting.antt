@@ -1,15 +1,16 @@
 -- What the code has of what was read: rows of the tables, as numbers of symbols.
-use Rattle.std.specs.Prelude.{◌≡◌, ◌≤◌, ◌<◌, ℕ, List, [], ◌++◌, map, length, take, Result, Ok, Err}
+use Rattle.std.specs.Prelude.{◌≡◌, ◌≤◌, ◌<◌, ℕ, ◌+◌, List, [], ◌++◌, map, length, take, Result, Ok, Err}
 use Rattle.dx_ports.specs.Members.{Each, ◌≈◌}
 use Rattle.dx_ports.specs.States.{InputState}
 use Rattle.dx_model.specs.declared.values.Value.{Value}
 use Rattle.dx_model.specs.declared.facts.Fact.{Fact}
+use Rattle.dx_model.specs.Tables.{IsInstance}
 use Rattle.dx_stages.specs.declared.stop.Stop.{Stop}
 use Rattle.dx_stages.specs.declared.stop.Stop.TheVariants as stops
 use Rattle.dx_stages.specs.Stages.{Stage}
 use Rattle.dx_stages.specs.Running.{Gives, Ran}
 use Rattle.dx_schema.specs.Forest.{Forest}
-use Rattle.dx_schema.specs.Tables.{schema_widths}
+use Rattle.dx_schema.specs.Tables.{count, model_tables, schema_widths, tables_of, tree_at}
 use Rattle.dx_instance.specs.Cells.{NumberTable}
 use Rattle.dx_instance.specs.Shown.{NumberRowsFit, numbers_of_table, shown_row, shown_tables}
 use Rattle.dx_instance.specs.Stored.{facts}
@@ -18,7 +19,7 @@ use Rattle.clio_source.specs.declared.reading.Reading.{Reading}
 use Rattle.clio_source.specs.declared.fault.RowsFault.{RowsFault}
 use Rattle.clio_source.specs.declared.fault.SourceRefusal.{SourceRefusal}
 use Rattle.clio_source.specs.declared.fault.SourceRefusal.TheVariants as refusals
-use Rattle.clio_source.specs.Source.{RootShape, HaveFault, ReadState, source_cells}
+use Rattle.clio_source.specs.Source.{RootShape, HaveFault, ReadState, fact_cells, source_cells}
 use Rattle.clio_source.specs.Agreeing.{AreBlank}
 
 -- the rows that numbers of symbols show
@@ -72,6 +73,16 @@ pub record CanTake (ts : List NumberTable) (first : ℕ) (said : List Fact) : Ty
   pub within : Each said (λ fact. (first ≤ fact.table) × (fact.table < length ts))
   pub wide : Each said (λ fact. length fact.row ≡ (numbers_of_table ts fact.table).width)
   pub empty : (t : ℕ) → first ≤ t → (numbers_of_table ts t).rows ≡ []
+
+-- A root can be added to these tables with these facts: they are those of the roots before it, with numbers of the symbols; the
+-- facts fit the schema, each is of the root or of one of its inner sets, and they have no more cells than a source may have.
+pub record CanAddRoot (f : Forest) (root : ℕ) (S : List Value) (ts : List NumberTable) (said : List Fact) : Type 0 where
+  pub inside : root < length (tables_of f)
+  pub widths : map (λ (t : NumberTable). t.width) ts ≡ take root (schema_widths f)
+  pub below : Each ts (NumberRowsFit (length S))
+  pub fit : IsInstance (model_tables f) said
+  pub within : Each said (λ fact. (root ≤ fact.table) × (fact.table < root + 1 + count (tree_at f root).inner))
+  pub cells : fact_cells f said ≤ source_cells
 
 -- the tables have these facts besides
 pub record AddsFacts (S T : List Value) (old new : List NumberTable) (said : List Fact) : Type 0 where

@@ -1,5 +1,5 @@
 -- The source of files, one stage after the other.
-use Rattle.std.specs.Prelude.{◌≡◌, ◌-◌, ℕ, List, [], ◌++◌, length, map, sum_by, nat_lt, codes, if◌then◌else◌, Result, Ok, Err}
+use Rattle.std.specs.Prelude.{◌≡◌, ◌-◌, ◌<◌, ℕ, List, [], ◌++◌, length, map, sum_by, nat_lt, codes, if◌then◌else◌, None, Result, Ok, Err}
 use Rattle.dx_ports.specs.Members.{◌≈◌}
 use Rattle.dx_ports.specs.declared.file.Count.TheVariants.{DataBytes, SourceCells}
 use Rattle.dx_ports.specs.declared.limits.TheConstants.{DATA_BYTES, SOURCE_CELLS}
@@ -8,7 +8,7 @@ use Rattle.dx_model.specs.declared.facts.Fact.{Fact}
 use Rattle.dx_model.specs.Values.{RowsAscend}
 use Rattle.dx_stages.specs.Stages.{Stage, next, each, by, over, into, file, computing, notions}
 use Rattle.dx_schema.specs.Forest.{Forest, none, set}
-use Rattle.dx_schema.specs.Tables.{level_numbers, schema_widths, schema_table, tree_at}
+use Rattle.dx_schema.specs.Tables.{level_numbers, schema_widths, schema_table, tables_of, tree_at}
 use Rattle.dx_lines.specs.declared.line.Condition.{Condition}
 use Rattle.dx_instance.specs.Stored.{TableRows, facts, rows_of, widths}
 use Rattle.dx_used.specs.Passing.{Passes, passing}
@@ -47,6 +47,11 @@ json_name table = table ++ codes ".json"
 -- the roots of a schema, in order: the tables of the sets of its top level
 abbrev pub roots : Forest → List ℕ
 roots f = level_numbers 0 f
+
+-- a root is a table without a parent
+pub record IsRoot (f : Forest) (u : ℕ) : Type 0 where
+  pub within : u < length (tables_of f)
+  pub parent : (schema_table f u).parent ≡ None
 
 -- a root without inner sets is flat: its file is a table. One with inner sets is nested: its file is a document
 pub data RootShape : Type 0 where

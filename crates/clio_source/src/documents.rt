@@ -1,5 +1,5 @@
 // A nested root: its file is a document.
-ghost use Rattle.std.specs.Prelude.{◌≡◌, ◌+◌, ◌-◌, ◌≤◌, ◌<◌, ◌^◌, length, map, slice_set, take, None, IfOk, IfErr, OnOk, MatchOption};
+ghost use Rattle.std.specs.Prelude.{◌≡◌, ◌+◌, ◌-◌, ◌≤◌, ◌<◌, ◌^◌, length, map, slice_set, take, IfOk, IfErr, OnOk, MatchOption};
 ghost use Rattle.dx_ports.specs.Members.{Each};
 ghost use Rattle.dx_model.specs.Tables.{IsInstance};
 ghost use Rattle.dx_schema.specs.Tables.{count, model_tables, schema_widths, schema_table, tables_of, tree_at};
@@ -8,8 +8,8 @@ ghost use Rattle.dx_instance.specs.Cells.{with_numbers};
 ghost use Rattle.dx_instance.specs.Shown.{NumberRowsFit, Shows, numbers_of_table};
 ghost use Rattle.dx_used.specs.Used.{Marks};
 ghost use Rattle.dx_json.specs.Documents.{HasDocumentFault, SaysFacts};
-ghost use Rattle.clio_source.specs.Source.{ReadState, fact_cells, shape_at, loading, named_by, nested, source_cells};
-ghost use Rattle.clio_source.specs.Fitting.{AddsEmpty, AddsFacts, AddsRoot, CanTake, GivesTo, Holds, UnusedAreBlank, NotRead, ReadFits};
+ghost use Rattle.clio_source.specs.Source.{IsRoot, ReadState, fact_cells, shape_at, loading, named_by, nested};
+ghost use Rattle.clio_source.specs.Fitting.{AddsEmpty, AddsFacts, AddsRoot, CanAddRoot, CanTake, GivesTo, Holds, UnusedAreBlank, NotRead, ReadFits};
 
 use crate::fault::{RowsFault, SourceRefusal};
 use crate::reading::{Reading, too_many_cells};
@@ -151,12 +151,7 @@ fn add_root(
     symbols: &mut Gathered,
     tables: &mut Vec<Rows>,
 ) -> Result<(), AllocError>
-    requires root { root < length (tables_of schema.now) }
-    requires widths { map (λ t. t.width) tables.old.items ≡ take root (schema_widths schema.now) }
-    requires below { Each tables.old.items (NumberRowsFit (length symbols.old)) }
-    requires fit { IsInstance (model_tables schema.now) facts.now }
-    requires within { Each facts.now (λ fact. (root ≤ fact.table) × (fact.table < root + 1 + count (tree_at schema.now root).inner)) }
-    requires cells { fact_cells schema.now facts.now ≤ source_cells }
+    requires { CanAddRoot schema.now root symbols.old tables.old.items facts.now }
     ensures { OnOk result (AddsRoot schema.now (root + 1 + count (tree_at schema.now root).inner)
         symbols.old symbols.new tables.old.items tables.new.items facts.now) }
 {
@@ -176,8 +171,7 @@ pub(crate) fn load_document(
     bytes: &[u8],
     file: Text,
 ) -> Result<Reading, Stop<SourceRefusal>>
-    requires root { root < length (tables_of schema.now) }
-    requires parent { (schema_table schema.now root).parent ≡ None }
+    requires root { IsRoot schema.now root }
     requires file { file ≡ named_by nested (schema_table schema.now root).name }
     requires fit { ReadFits schema.now root before }
     ensures fit { IfOk result (ReadFits schema.now (root + 1 + count (tree_at schema.now root).inner)) }

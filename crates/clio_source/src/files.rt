@@ -1,12 +1,12 @@
 // The files of a schema's roots.
-ghost use Rattle.std.specs.Prelude.{◌≡◌, ◌+◌, ◌<◌, ◌≤◌, length, None, IfOk};
-ghost use Rattle.dx_schema.specs.Tables.{count, schema_table, tables_of, tree_at};
+ghost use Rattle.std.specs.Prelude.{◌≡◌, ◌+◌, ◌<◌, ◌≤◌, length, IfOk};
+ghost use Rattle.dx_schema.specs.Tables.{count, tables_of, tree_at};
 ghost use Rattle.dx_funcs.specs.Judging.{Decides, tested};
 ghost use Rattle.dx_instance.specs.Stored.{facts};
 ghost use Rattle.dx_used.specs.Named.{ReadNamed};
 ghost use Rattle.clio_source.specs.Agreeing.{AreBlank, RanAgreeing};
 ghost use Rattle.clio_source.specs.Kept.{AreTested};
-ghost use Rattle.clio_source.specs.Source.{ReadState, at_start, file_at, files_stages, reading, source_left};
+ghost use Rattle.clio_source.specs.Source.{IsRoot, ReadState, at_start, file_at, files_stages, reading, source_left};
 ghost use Rattle.clio_source.specs.Fitting.{Holds, UnusedAreBlank, RanTo, ReadFits};
 
 use crate::documents::load_document;
@@ -45,8 +45,7 @@ fn read_root<I: Inputs>(
     used: &[Items<bool>],
     before: Reading,
 ) -> Result<Reading, Stop<SourceRefusal>>
-    requires root { root < length (tables_of schema.now) }
-    requires parent { (schema_table schema.now root).parent ≡ None }
+    requires root { IsRoot schema.now root }
     requires fit { ReadFits schema.now root before }
     ensures fit { IfOk result (ReadFits schema.now (root + 1 + count (tree_at schema.now root).inner)) }
     ensures blank { UnusedAreBlank used.now schema.now before → IfOk result (UnusedAreBlank used.now schema.now) }

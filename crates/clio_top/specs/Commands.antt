@@ -1,8 +1,7 @@
 -- The stages of a run: what its words say, and then the stages of that command.
-use Rattle.std.specs.Prelude.{◌≤◌, List}
+use Rattle.std.specs.Prelude.{List}
 use Rattle.dx_stages.specs.Ending.{PlanContent}
 use Rattle.dx_stages.specs.Stages.{Stage, next, by, over, computing}
-use Rattle.dx_gen.specs.declared.files.TheConstants.{EMPLOYEES}
 use Rattle.clio_ending.specs.declared.ending.Done.{Done}
 use Rattle.clio_ending.specs.declared.ending.Refusal.{Refusal}
 use Rattle.clio_steps.specs.Steps.{Program}
@@ -13,7 +12,7 @@ use Rattle.clio_top.specs.declared.command.Command.{Command}
 use Rattle.clio_top.specs.declared.command.Command.TheVariants.{Answering, Comparing, Demonstrating, Exchanging, Judging, Showing}
 use Rattle.clio_top.specs.Words.{Word, or_usage, says}
 use Rattle.clio_top.specs.Running.{exchange_stages, show_stages}
-use Rattle.clio_top.specs.Demo.{demo_stages}
+use Rattle.clio_top.specs.Demo.{IsDemoNumber, demo_stages}
 
 -- the stages of a command
 abbrev pub stages_of : Program → Command → Stage Refusal (Unit {0}) (PlanContent Done)
@@ -36,7 +35,7 @@ run_stages P = next saying_words (by (λ (c : Command). over (λ (d : Command). 
 abbrev pub IsInRange : Command → Type 0
 IsInRange (Exchanging mode nested) = Unit {0}
 IsInRange (Showing mode) = Unit {0}
-IsInRange (Demonstrating number mode) = (1 ≤ number) × (number ≤ EMPLOYEES)
+IsInRange (Demonstrating number mode) = IsDemoNumber number
 IsInRange Answering = Unit {0}
 IsInRange Judging = Unit {0}
 IsInRange Comparing = Unit {0}

@@ -1,5 +1,5 @@
 -- The exchange of a demo, and what is said of it.
-use Rattle.std.specs.Prelude.{◌≡◌, ◌++◌, ℕ, suc, List, [], ◌∷◌, length, codes}
+use Rattle.std.specs.Prelude.{◌≡◌, ◌≤◌, ◌++◌, ℕ, suc, List, [], ◌∷◌, length, codes}
 use Rattle.std.specs.Fmt.{decimal}
 use Rattle.std.specs.FinMap.{from_entries, get}
 use Rattle.dx_ports.specs.Entries.{FileMap}
@@ -11,6 +11,7 @@ use Rattle.dx_schema.specs.Tables.{TableOf, tables_of}
 use Rattle.dx_instance.specs.Stored.{TableRows, facts, rows_of}
 use Rattle.dx_exchange.specs.declared.mode.Mode.{Mode}
 use Rattle.dx_exchange.specs.declared.result.Exchange.{Exchange}
+use Rattle.dx_gen.specs.declared.files.TheConstants.{EMPLOYEES}
 use Rattle.dx_gen.specs.Demo.{demo}
 use Rattle.clio_accept.specs.declared.mapping.Mapping.{Mapping}
 use Rattle.clio_files.specs.Sheets.{AreTargetNulls}
@@ -58,6 +59,10 @@ abbrev pub IsDemoPlan : ℕ → Mapping → Exchange → PlanContent Done → Ty
 IsDemoPlan number M e plan =
     (nulls : List NullId) × AreTargetNulls (facts e.target) nulls
     × (plan ≡ record { done = dones.Demo e; files = []; text = demo_text number M e.target (length nulls) })
+
+-- a demo is made for 1 to 100,000 employees
+abbrev pub IsDemoNumber : ℕ → Type 0
+IsDemoNumber number = (1 ≤ number) × (number ≤ EMPLOYEES)
 
 -- the exchange of the demo's files, and what is said of it
 abbrev pub demo_stages : Program → ℕ → Mode → Stage Refusal (Unit {0}) (PlanContent Done)

@@ -1,7 +1,6 @@
 // What is said of the exchange of a demo.
-ghost use Rattle.std.specs.Prelude.{◌≡◌, ◌≤◌, ◌++◌, codes, IfOk, OnOk, length, string_bytes};
+ghost use Rattle.std.specs.Prelude.{◌≡◌, ◌++◌, codes, IfOk, OnOk, length, string_bytes};
 ghost use Rattle.std.specs.Fmt.{decimal};
-ghost use Rattle.dx_gen.specs.declared.files.TheConstants.{EMPLOYEES};
 ghost use Rattle.dx_stages.specs.Ending.{planned, planned_of};
 ghost use Rattle.dx_stages.specs.Running.{Gives};
 ghost use Rattle.dx_schema.specs.Tables.{schema_widths, tables_of};
@@ -9,7 +8,7 @@ ghost use Rattle.dx_funcs.specs.Judging.{Decides, tested};
 ghost use Rattle.dx_funcs.specs.Serving.{Serves, offered};
 ghost use Rattle.dx_instance.specs.Stored.{widths};
 ghost use Rattle.clio_steps.specs.Steps.{program};
-ghost use Rattle.clio_top.specs.Demo.{IsDemoPlan, counts_text, demo_stages, demo_text};
+ghost use Rattle.clio_top.specs.Demo.{IsDemoNumber, IsDemoPlan, counts_text, demo_stages, demo_text};
 
 use crate::demo_inputs::DemoInputs;
 use clio_accept::Mapping;
@@ -99,8 +98,7 @@ where
     M: Meaning,
     requires serves { Serves F.Fn M.apply host.now }
     requires decides { Decides P.Fn M.passes tests.now }
-    requires some { 1 ≤ number }
-    requires few { number ≤ EMPLOYEES }
+    requires number { IsDemoNumber number }
     ensures { Gives (demo_stages (program (offered host.now) (tested tests.now) M.apply M.passes) number mode) (tt {0}) (planned result) }
 {
     let mut inputs = DemoInputs {

@@ -1,11 +1,8 @@
 // The files of an exchange.
-ghost use Rattle.std.specs.Prelude.{◌≡◌, IfOk};
+ghost use Rattle.std.specs.Prelude.{IfOk};
 ghost use Rattle.dx_ports.specs.Entries.{entries_of};
-ghost use Rattle.dx_schema.specs.Tables.{schema_widths};
 ghost use Rattle.dx_funcs.specs.Serving.{offered};
-ghost use Rattle.dx_instance.specs.Stored.{widths};
-ghost use Rattle.clio_files.specs.Texts.{FitTexts};
-ghost use Rattle.clio_top.specs.FilesOf.{AreFilesOf, HaveColumnNames, NullsHaveTexts};
+ghost use Rattle.clio_top.specs.FilesOf.{AreFilesOf, CanBeWritten};
 
 use clio_accept::Mapping;
 use clio_files::{Output, into_files, print_files};
@@ -31,10 +28,7 @@ pub fn files<F, M>(
 where
     F: Fn(u32, &Items<Text>) -> Result<Text, AllocError>,
     M: Meaning,
-    requires rules { FitTexts mapping.now.source mapping.now.target (offered host.now) mapping.now.rules }
-    requires names { HaveColumnNames mapping.now.target }
-    requires widths { widths exchange.now.target ≡ schema_widths mapping.now.target }
-    requires nulls { NullsHaveTexts mapping.now exchange.now }
+    requires { CanBeWritten (offered host.now) mapping.now exchange.now }
     ensures { IfOk result (λ fs. AreFilesOf (offered host.now) mode nested mapping.now exchange.now (entries_of fs.items)) }
 {
     let rules = mapping.rules.items();

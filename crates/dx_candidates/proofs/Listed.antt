@@ -1,13 +1,13 @@
 -- Candidates and rules, listed by pairs.
-use Rattle.std.proofs.Common.{◌≡◌, ℕ, suc, ◌<◌, ◌≤◌, min, cond, eqb, Some, None, List, [], ◌∷◌, ◌++◌, ◌+◌, ◌⊎◌, length, get_or, take, refl, sym, ◌∙◌, ap, subst, inl, inr, arith}
+use Rattle.std.proofs.Common.{◌≡◌, ℕ, ◌<◌, ◌≤◌, min, cond, Some, None, List, [], ◌∷◌, ◌++◌, ◌+◌, length, get_or, take, refl, sym, ◌∙◌, ap, subst, inl, inr, arith}
 use Rattle.std.specs.Prelude.{Bool, true, false, not, map, nat_lt, Option}
 use Rattle.std.specs.List.{list_any, flat_map, filter}
 use Rattle.std.proofs.lemmas.Bool.{lt-ltb, le-ltb, cases_Bool}
 use Rattle.std.proofs.lemmas.List.{append-nil, map-append, length-map, length-append, take_all, take_more}
 use Rattle.std.proofs.lemmas.List.Concat.{flat_map-append}
 use Rattle.std.proofs.lemmas.List.Elements.{filter-append, filter_agree}
-use Rattle.dx_ports.specs.Members.{◌∈◌, here, there, Each}
-use Rattle.dx_ports.proofs.Members.{from_flat_map, from_map, in_at}
+use Rattle.dx_ports.specs.Members.{Each}
+use Rattle.dx_ports.proofs.Members.{in_at}
 use Rattle.dx_ports.specs.declared.file.Limit.{Limit}
 use Rattle.dx_model.specs.Tables.{Table}
 use Rattle.dx_model.specs.declared.rules.Rule.{Rule}
@@ -17,16 +17,15 @@ use Rattle.dx_lines.specs.declared.line.Line.{Line}
 use Rattle.dx_lines.specs.declared.candidate.Pick.{Pick}
 use Rattle.dx_lines.specs.declared.candidate.Candidate.{Candidate}
 use Rattle.dx_lines.specs.declared.variant.Variant.{Variant}
-use Rattle.dx_lines.specs.Candidates.{upto, all_variants, pair_ways, pair_candidates, candidates_by, candidates_of, all_picks, combinations, by_variable, grouped, headed}
+use Rattle.dx_lines.specs.Candidates.{upto, all_variants, pair_ways, pair_candidates, candidates_by, candidates_of, all_picks}
 use Rattle.dx_lines.specs.Kept.{is_dropped, is_kept}
 use Rattle.dx_lines.specs.Rules.{rule_by, candidate_rule, kept_rules}
 use Rattle.dx_lines.specs.Limits.{first_or, passed_by, has_many_ways, passed_limit, LineFits}
 use Rattle.dx_candidates.specs.declared.fault.CandFault.{CandFault}
-use Rattle.dx_candidates.specs.declared.fault.CandFault.TheVariants.{TooMany, Memory}
 use Rattle.dx_candidates.specs.declared.pairs.Pair.{Pair}
 use Rattle.dx_candidates.specs.Faults.{IsLimitFault, IsFirst, schema_limit, ways_limit, candidates_limit}
 use Rattle.dx_candidates.specs.declared.listing.Plan.{Plan}
-use Rattle.dx_candidates.specs.Listing.{IsCandidatePlan, IsReadyPlan, is_needed, rules_between, rules_of_pair}
+use Rattle.dx_candidates.specs.Listing.{IsCandidatePlan, IsReadyPlan, is_needed, rules_of_pair}
 use Rattle.dx_candidates.specs.Pairs.{IsSoundSchema, variant_at, pair_by, pair_at, pairs_at, pairs_between, has_many_at, have_many_ways, candidates_in, picks_in, IsPair, ArePairs}
 use Rattle.dx_candidates.proofs.Paired.{at_item, item_has, pairs_are}
 use Rattle.dx_candidates.proofs.Readable.{are_variants, are_read, are_reached, have_variables}
@@ -207,47 +206,6 @@ rules_are lines S T sources targets pairs ss st p q r each =
     (λ x m. rw (p, q) (kept_of_pair lines S T x ss st (rw (p, q) at (each x m)))) in
     ap (λ (cs : List Candidate). map (candidate_rule lines S T) (filter (is_kept lines S T) cs)) c
     ∙ (map_filter_flat (candidate_rule lines S T) (is_kept lines S T) (candidates_in sources targets) pairs ∙ same)
-
--- ---- how many picks
-
-length_grouped : (k : Pick) (groups : List (List Pick)) → length (grouped k groups) ≤ suc (length groups)
-length_grouped k [] = omega arith
-length_grouped k ([] ∷ groups) = omega arith
-length_grouped k ((m ∷ ms) ∷ groups) = by_test (eqb k.variable m.variable)
-  where
-    by_test : (b : Bool) → length (cond b ((k ∷ m ∷ ms) ∷ groups) ((k ∷ []) ∷ (m ∷ ms) ∷ groups)) ≤ suc (suc (length groups))
-    by_test true = omega arith
-    by_test false = omega arith
-
-length_by_variable : (ks : List Pick) → length (by_variable ks) ≤ length ks
-length_by_variable [] = omega arith
-length_by_variable (k ∷ ks) =
-    let l = length_grouped k (by_variable ks) in
-    let r = length_by_variable ks in
-    omega arith
-
-length_combination : (groups : List (List Pick)) (ks : List Pick) → ks ∈ combinations groups → length ks ≡ length groups
-length_combination [] ks (here e) = ap length (sym e)
-length_combination [] ks (there m) = elim m [ ]
-length_combination (g ∷ groups) ks m =
-    let a = from_flat_map (headed (combinations groups)) g {y = ks} m in
-    let b = from_map (λ (js : List Pick). a.0 ∷ js) (combinations groups) {y = ks} a.2 in
-    let r = length_combination groups b.0 b.1 in
-    let e : length ks ≡ suc (length b.0) = sym (ap length b.2) in
-    omega arith
-
-pub length_picks : (found ks : List Pick) → ks ∈ all_picks found → length ks ≤ length found
-length_picks [] ks m = elim m [ ]
-length_picks (k ∷ found) ks m =
-    let a = length_combination (by_variable (k ∷ found)) ks m in
-    let b = length_by_variable (k ∷ found) in
-    omega arith
-
-pub few_picks : (found : List Pick) (all : List (List Pick)) (i : ℕ) (ks picks : List Pick) → length found ≤ 64 → all ≡ all_picks found → i < length all → ks ≡ get_or all i ks → picks ≡ ks → length picks ≤ 64
-few_picks found all i ks picks few e h k p =
-    let m : ks ∈ all = subst (λ (js : List Pick). js ∈ all) (sym k) (in_at all i ks h) in
-    let l = length_picks found ks (subst (λ (xs : List (List Pick)). ks ∈ xs) e m) in
-    rw p (omega arith)
 
 -- ---- plans
 

@@ -51,7 +51,6 @@ fn supply(
     link: &Link,
     cells: &[Cell],
 ) -> Result<(), CloseFault>
-    requires tables { AreTables (tables_of target.now) }
     requires table { link.now.table < length (tables_of target.now) }
     requires pairs { length link.now.to ≡ length cells.now }
     requires roomy { IsRoomy (model_tables target.now) growing.old }

@@ -18,17 +18,16 @@ returns-in_err-said g c =
     let fault = c.in_err-said.field-0.0 in
     as_error _ (text_refusal fault) (Answers Memory (accepting list tests) c.args.text.now) c.from_residual.ensures.1 (by_text list tests c.args.text.now fault c.in_err-said.ensures.fault)
 
-pub accept_said-requires-clause-source : goal.accept_said-requires-clause-source
-accept_said-requires-clause-source g c = (few_rules c.args.text.now c.in_ok-said.said c.requires c.in_ok-said.ensures.mapping).0
-
-pub accept_said-requires-clause-target : goal.accept_said-requires-clause-target
-accept_said-requires-clause-target g c = (few_rules c.args.text.now c.in_ok-said.said c.requires c.in_ok-said.ensures.mapping).1
-
-pub accept_said-requires-clause-whole : goal.accept_said-requires-clause-whole
-accept_said-requires-clause-whole g c r m = (texts_have_whole_rules c.args.text.now c.in_ok-said.said c.in_ok-said.ensures.mapping r m).0
-
-pub accept_said-requires-clause-narrow : goal.accept_said-requires-clause-narrow
-accept_said-requires-clause-narrow g c r m = let few = (texts_have_whole_rules c.args.text.now c.in_ok-said.said c.in_ok-said.ensures.mapping r m).1 in omega (arith, few, c.requires)
+pub accept_said-requires : goal.accept_said-requires
+accept_said-requires g c =
+    let few = few_rules c.args.text.now c.in_ok-said.said c.requires c.in_ok-said.ensures.mapping in
+    let rules = texts_have_whole_rules c.args.text.now c.in_ok-said.said c.in_ok-said.ensures.mapping in
+    record {
+      source = few.0;
+      target = few.1;
+      whole = λ r m. (rules r m).0;
+      narrow = λ r m. let small = (rules r m).1 in omega (arith, small, c.requires);
+    }
 
 pub returns : goal.returns
 returns g c =

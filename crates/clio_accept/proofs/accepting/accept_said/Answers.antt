@@ -32,8 +32,16 @@ returns g c =
     by_mapping (offered c.args.host.now) (tested c.args.tests.now) c.args.said c.in_ok-source.source c.in_ok-target.target _ c.in_ok-source.ensures.faultless c.in_ok-target.ensures.faultless
     c.in_ok-source.ensures.schema c.in_ok-target.ensures.schema (rw c.in_default.is at c.in_ok-name.ensures.none) (rw (c.items.ensures, c.items-2.ensures, c.items-3.ensures) at c.mapping_between.ensures)
 
-pub mapping_between-requires-clause-source : goal.mapping_between-requires-clause-source
-mapping_between-requires-clause-source g c = rw c.in_ok-source.ensures.schema c.in_ok-source.ensures.faultless
+pub source_of-requires : goal.source_of-requires
+source_of-requires g c = c.requires.source
 
-pub mapping_between-requires-clause-target : goal.mapping_between-requires-clause-target
-mapping_between-requires-clause-target g c = rw c.in_ok-target.ensures.schema c.in_ok-target.ensures.faultless
+pub target_of-requires : goal.target_of-requires
+target_of-requires g c = c.requires.target
+
+pub mapping_between-requires : goal.mapping_between-requires
+mapping_between-requires g c = record {
+  source = rw c.in_ok-source.ensures.schema c.in_ok-source.ensures.faultless;
+  target = rw c.in_ok-target.ensures.schema c.in_ok-target.ensures.faultless;
+  whole = rw c.items-3.ensures c.requires.whole;
+  narrow = rw c.items-3.ensures c.requires.narrow;
+}

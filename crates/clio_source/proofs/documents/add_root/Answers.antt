@@ -10,7 +10,7 @@ use Rattle.clio_source.proofs.documents.add_root.Goals as goal
 pub push_tables-requires-clause-last : goal.push_tables-requires-clause-last
 push_tables-requires-clause-last c =
     let same = ap (λ (t : Tree). count t.inner) (c.behind-schema.view_is ∙ c.tree.ensures.tree) in
-    omega (arith, end_within c.args.schema.now c.args.root c.requires.root, c.count.ensures, same)
+    omega (arith, end_within c.args.schema.now c.args.root c.requires.inside, c.count.ensures, same)
 
 pub push_facts-requires-clause-fit : goal.push_facts-requires-clause-fit
 push_facts-requires-clause-fit c =
@@ -18,10 +18,10 @@ push_facts-requires-clause-fit c =
     let last = c.args.root + 1 + c.count.result in
     let same = ap (λ (t : Tree). count t.inner) (c.behind-schema.view_is ∙ c.tree.ensures.tree) in
     let end : c.args.root + 1 + count (tree_at f c.args.root).inner ≡ last = omega (arith, c.count.ensures, same) in
-    let few : last ≤ length (tables_of f) = omega (arith, end_within f c.args.root c.requires.root, end) in
+    let few : last ≤ length (tables_of f) = omega (arith, end_within f c.args.root c.requires.inside, end) in
     let before : Reading = record { symbols = c.args.symbols.now; tables = c.args.tables.now; bytes_left = 0; cells_left = 0 } in
     let fit : ReadFits f c.args.root before = record { widths = c.requires.widths; below = c.requires.below; few = omega arith } in
-    let many = many_tables f c.args.root before (omega (arith, c.requires.root)) fit in
+    let many = many_tables f c.args.root before (omega (arith, c.requires.inside)) fit in
     can_take f c.args.root last c.args.tables.now.items c.push_tables.new.tables.items c.args.facts.now c.in_ok-push_tables.ensures many few c.requires.fit
     (λ fact m. let w = c.requires.within fact m in (omega (arith, w), omega (arith, w, end)))
 

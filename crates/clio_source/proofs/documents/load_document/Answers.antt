@@ -14,23 +14,25 @@ use Rattle.clio_source.proofs.documents.load_document.Goals as goal
 
 pub cells_after-requires : goal.cells_after-requires
 cells_after-requires c =
-    facts_fit c.args.bytes.now c.args.schema.now c.args.root c.in_ok-facts.facts c.requires.root c.requires.parent c.in_ok-facts.ensures.facts
+    facts_fit c.args.bytes.now c.args.schema.now c.args.root c.in_ok-facts.facts c.requires.root.within c.requires.root.parent c.in_ok-facts.ensures.facts
 
 pub returns-in_default-clause-read : goal.returns-in_default-clause-read
 returns-in_default-clause-read c = λ used q h.
     subst (λ (e : SourceRefusal). GivesTo used (loading nested c.args.schema.now c.args.root) (q, c.args.bytes.now) (Err (stops.Refused e))) (sym c.too_many_cells.ensures)
     (no_cells_left used nested c.args.schema.now c.args.root c.args.before.cells_left q c.args.bytes.now c.in_ok-facts.facts c.in_ok-facts.ensures.facts h.cells c.in_default.ensures)
 
-pub add_root-requires-clause-fit : goal.add_root-requires-clause-fit
-add_root-requires-clause-fit c =
-    facts_fit c.args.bytes.now c.args.schema.now c.args.root c.in_ok-facts.facts c.requires.root c.requires.parent c.in_ok-facts.ensures.facts
-
-pub add_root-requires-clause-within : goal.add_root-requires-clause-within
-add_root-requires-clause-within c =
-    between c.args.schema.now c.args.root (c.args.root + 1 + count (tree_at c.args.schema.now c.args.root).inner) c.args.bytes.now c.in_ok-facts.facts (omega arith) c.in_ok-facts.ensures.facts
-
-pub add_root-requires-clause-cells : goal.add_root-requires-clause-cells
-add_root-requires-clause-cells c = omega (arith, c.in-Some.ensures.1, c.requires.fit.few)
+pub add_root-requires : goal.add_root-requires
+add_root-requires c =
+    let f = c.args.schema.now in
+    let root = c.args.root in
+    let facts = c.in_ok-facts.facts in record {
+      inside = c.requires.root.within;
+      widths = c.requires.fit.widths;
+      below = c.requires.fit.below;
+      fit = facts_fit c.args.bytes.now f root facts c.requires.root.within c.requires.root.parent c.in_ok-facts.ensures.facts;
+      within = between f root (root + 1 + count (tree_at f root).inner) c.args.bytes.now facts (omega arith) c.in_ok-facts.ensures.facts;
+      cells = omega (arith, c.in-Some.ensures.1, c.requires.fit.few);
+    }
 
 pub returns-clause-fit : goal.returns-clause-fit
 returns-clause-fit c =
@@ -55,5 +57,5 @@ returns-clause-blank c = λ used formed h.
     let a = c.in_ok-add_root.ensures in
     let last = c.args.root + 1 + count (tree_at c.args.schema.now c.args.root).inner in
     let after : Reading = record { symbols = c.add_root.new.symbols; tables = c.add_root.new.tables; bytes_left = c.saturating_sub.result; cells_left = c.in-Some.cells_left } in
-    blank_document used f c.args.root last c.args.before after a.between c.in_ok-facts.facts c.requires.root c.requires.parent formed refl a.empty a.put
+    blank_document used f c.args.root last c.args.before after a.between c.in_ok-facts.facts c.requires.root.within c.requires.root.parent formed refl a.empty a.put
     (between f c.args.root last c.args.bytes.now c.in_ok-facts.facts (omega arith) c.in_ok-facts.ensures.facts) h

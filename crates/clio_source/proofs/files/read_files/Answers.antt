@@ -17,11 +17,7 @@ loop-tree-init g c = record {
 
 pub read_root-requires-clause-root : goal.read_root-requires-clause-root
 read_root-requires-clause-root g c =
-    (next_root c.trees-tree-items.result.now c.loop-tree.tree-index c.tree-item.result c.loop-tree.root c.args.schema.now c.trees-tree-items.ensures c.loop-tree-test.true c.tree-item.is c.loop-tree.invariant.root).within
-
-pub read_root-requires-clause-parent : goal.read_root-requires-clause-parent
-read_root-requires-clause-parent g c =
-    (next_root c.trees-tree-items.result.now c.loop-tree.tree-index c.tree-item.result c.loop-tree.root c.args.schema.now c.trees-tree-items.ensures c.loop-tree-test.true c.tree-item.is c.loop-tree.invariant.root).parent
+    next_root c.trees-tree-items.result.now c.loop-tree.tree-index c.tree-item.result c.loop-tree.root c.args.schema.now c.trees-tree-items.ensures c.loop-tree-test.true c.tree-item.is c.loop-tree.invariant.root
 
 pub returns-in_err-so_far-clause-read : goal.returns-in_err-so_far-clause-read
 returns-in_err-so_far-clause-read g c =

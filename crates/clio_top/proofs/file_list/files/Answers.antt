@@ -6,4 +6,4 @@ print_files-requires-clause-texts g c = rw c.items-rules.ensures c.requires.rule
 
 pub print_files-requires-clause-fits : goal.print_files-requires-clause-fits
 print_files-requires-clause-fits g c =
-    rw c.items-rules.ensures (fits_files c.args.mapping.now c.args.exchange.now c.requires.names c.requires.widths c.requires.nulls)
+    rw c.items-rules.ensures (fits_files c.args.mapping.now c.args.exchange.now c.requires.names c.requires.widths_are c.requires.nulls)
