@@ -1,9 +1,10 @@
 -- The order of the members of an object: that of their names. A later member takes the place of an earlier one of its name.
-use Rattle.std.specs.Prelude.{◌≡◌, ℕ, zero, suc, ◌+◌, ◌<◌, ◌≤◌, List, [], ◌∷◌, ◌++◌, Bool, true, false, length, map, slice_index_or, ⊤, String, string_bytes}
+use Rattle.std.specs.Prelude.{◌≡◌, ℕ, zero, suc, ◌+◌, ◌<◌, ◌≤◌, ◌^◌, List, [], ◌∷◌, ◌++◌, Bool, true, false, length, map, slice_index_or, ⊤, String, string_bytes}
 use Rattle.std.specs.declared.alloc.Global.{Global}
 use Rattle.std.specs.BTreeMap.{BTreeMap}
 use Rattle.std.specs.Ordering.{nat_cmp, match_ordering}
 use Rattle.std.specs.Cmp.Lexicographic.{slice_cmp}
+use Rattle.dx_ports.specs.declared.limits.TheConstants.{TABLES}
 use Rattle.serde_json.specs.Data.{Data, string, array, Members, no_members, member}
 use Rattle.dx_ports.specs.Texts.{Text}
 use Rattle.dx_model.specs.declared.values.Value.{Value}
@@ -15,6 +16,7 @@ use Rattle.dx_instance.specs.ValueText.{value_text_of}
 use Rattle.dx_json.specs.declared.orders.Source.{Source}
 use Rattle.dx_json.specs.declared.orders.Source.TheVariants.{Cell, Inner}
 use Rattle.dx_json.specs.Nesting.{objects_below, own_from}
+use Rattle.dx_json.specs.Standing.{Stand}
 
 -- the members of an object: their names, and where their values come from
 abbrev pub Slots : Type 0
@@ -91,6 +93,14 @@ TreeIsReady I orders table t = Ready I orders table (set t.label t.inner none)
 -- the table has the columns of a set that is no inner set
 abbrev pub HasColumns : List TableRows → ℕ → Tree → Type 0
 HasColumns I table t = own_from t.inner false + length t.label.columns ≤ (table_at I table).width
+
+-- the root has its table there, with its columns, and its inner sets have theirs; there are few, and each has a number
+pub record HasRoot (I : List TableRows) (root : ℕ) (t : Tree) : Type 0 where
+  pub table : root < length I
+  pub columns : HasColumns I root t
+  pub stand : Stand I (suc root) t.inner
+  pub few : count t.inner < TABLES
+  pub room : root + suc (count t.inner) < 2 ^ 32
 
 -- a root has its order at its table's number, and its inner sets are ready
 pub record IsReadyRoot (I : List TableRows) (orders : List Slots) (root : ℕ) (t : Tree) : Type 0 where

@@ -1,5 +1,5 @@
 // Rows as a document.
-ghost use Rattle.std.specs.Prelude.{◌≡◌, ◌+◌, ◌<◌, ◌^◌, [], ◌∷◌, length, suc, string_bytes, IfOk, OnOk};
+ghost use Rattle.std.specs.Prelude.{◌≡◌, ◌+◌, ◌<◌, ◌^◌, [], ◌∷◌, length, string_bytes, IfOk, OnOk};
 ghost use Rattle.serde_json.specs.Data.{array, object, string};
 ghost use Rattle.dx_ports.specs.declared.limits.TheConstants.{TABLES};
 ghost use Rattle.dx_schema.specs.Tables.{count, schema_widths, tables_of, tree_at};
@@ -7,7 +7,7 @@ ghost use Rattle.dx_instance.specs.Places.{IsFirstWith, row_at};
 ghost use Rattle.dx_instance.specs.Stored.{rows_of, table_at, widths};
 ghost use Rattle.dx_instance.specs.ValueText.{starts_with_question_mark, value_text_of};
 ghost use Rattle.dx_json.specs.Nesting.{IsNestedText, nested_text, objects_below, root_objects, up_column};
-ghost use Rattle.dx_json.specs.Orders.{Fit, HasColumns, TreeIsReady, IsReadyRoot, SourceFits, all_slots, object_in, slots_of, source_data};
+ghost use Rattle.dx_json.specs.Orders.{Fit, HasColumns, HasRoot, TreeIsReady, IsReadyRoot, SourceFits, all_slots, object_in, slots_of, source_data};
 ghost use Rattle.dx_json.specs.Standing.{Stand};
 ghost use Rattle.dx_json.specs.Wrote.{WroteValue};
 
@@ -173,7 +173,6 @@ impl<'a> Nesting<'a> {
     ) -> Result<(), AllocError>
         requires table { row.table < length self.now.instance.now }
         requires place { row.place < length (rows_of self.now.instance.now row.table) }
-        requires width { 0 < (table_at self.now.instance.now row.table).width }
         requires fit { Fit self.now.instance.now (all_slots self.now.orders.now) (table_at self.now.instance.now row.table).width
             sets.now (slots_of order.now.entries) }
         ensures { OnOk result (WroteValue out.old out.new
@@ -198,7 +197,6 @@ impl<'a> Nesting<'a> {
     ) -> Result<(), AllocError>
         requires table { row.table < length self.now.instance.now }
         requires place { row.place < length (rows_of self.now.instance.now row.table) }
-        requires width { 0 < (table_at self.now.instance.now row.table).width }
         requires fits { SourceFits self.now.instance.now (all_slots self.now.orders.now)
             (table_at self.now.instance.now row.table).width sets.now source.now }
         ensures { OnOk result (WroteValue out.old out.new
@@ -213,6 +211,7 @@ impl<'a> Nesting<'a> {
                 )
             }
             Source::Inner(at, below) => {
+                prove!(row.table < self.instance.tables());
                 let inner = &sets.items()[at];
                 let id = self.instance.cell(row.table, row.place, 0);
                 self.write_objects(inner, below, id, out)
@@ -223,7 +222,6 @@ impl<'a> Nesting<'a> {
     // Writes the objects of a root's rows.
     fn write_root(&self, tree: &SetTree, root: u32, out: &mut Writer) -> Result<(), AllocError>
         requires table { root < length self.now.instance.now }
-        requires width { 0 < (table_at self.now.instance.now root).width }
         requires columns { HasColumns self.now.instance.now root tree.now }
         requires ready { IsReadyRoot self.now.instance.now (all_slots self.now.orders.now) root tree.now }
         ensures { OnOk result (WroteValue out.old out.new (array (root_objects self.now.instance.now tree.now root))) }
@@ -256,12 +254,7 @@ fn text_of_root(
     tree: &SetTree,
     root: u32,
 ) -> Result<String, AllocError>
-    requires table { root < length instance.now }
-    requires width { 0 < (table_at instance.now root).width }
-    requires columns { HasColumns instance.now root tree.now }
-    requires stand { Stand instance.now (suc root) tree.now.inner }
-    requires few { count tree.now.inner < TABLES }
-    requires room { root + suc (count tree.now.inner) < 2 ^ 32 }
+    requires { HasRoot instance.now root tree.now }
     ensures { IfOk result (λ text. string_bytes text ≡ nested_text instance.now tree.now root) }
 {
     let orders = root_orders(alloc, instance, tree, root)?;

@@ -2,9 +2,8 @@
 ghost use Rattle.std.specs.Prelude.{◌≡◌, ◌+◌, ◌<◌, ◌≤◌, ◌^◌, ◌++◌, [], length, suc, true, IfOk, OnOk};
 ghost use Rattle.dx_ports.specs.declared.limits.TheConstants.{TABLES};
 ghost use Rattle.dx_schema.specs.Tables.{count};
-ghost use Rattle.dx_instance.specs.Stored.{table_at};
 ghost use Rattle.dx_json.specs.Nesting.{own_from};
-ghost use Rattle.dx_json.specs.Orders.{HasColumns, IsReadyRoot, all_slots, order_of as order_at, orders_of, slot_put, slots_of, with_cells, with_inner};
+ghost use Rattle.dx_json.specs.Orders.{HasRoot, IsReadyRoot, all_slots, order_of as order_at, orders_of, slot_put, slots_of, with_cells, with_inner};
 ghost use Rattle.dx_json.specs.Standing.{Stand};
 
 use dx_instance::Instance;
@@ -138,11 +137,7 @@ pub fn root_orders(
     tree: &SetTree,
     root: u32,
 ) -> Result<Vec<Order>, AllocError>
-    requires table { root < length instance.now }
-    requires columns { HasColumns instance.now root tree.now }
-    requires stand { Stand instance.now (suc root) tree.now.inner }
-    requires few { count tree.now.inner < TABLES }
-    requires room { root + suc (count tree.now.inner) < 2 ^ 32 }
+    requires { HasRoot instance.now root tree.now }
     ensures { IfOk result (λ v. IsReadyRoot instance.now (all_slots v.items) root tree.now) }
 {
     let mut orders = empty_orders(alloc, root)?;

@@ -81,6 +81,13 @@ pub record AreTablesIn (schema : List Table) (rows : List TableOfNumbers) (table
 abbrev pub row_read : List Value → List ChaseTable → List ℕ → Demand → List Value
 row_read S tables roots d = map (cell S) (map (nth roots) (number_row tables d.table d.row))
 
+-- what is asked of a demand whose row is read: it is there, and the numbers of rows, and their roots, stand for values
+pub record CanReadDemand (S : List Value) (tables : List ChaseTable) (roots : List ℕ) (demands : List Demand) (i : ℕ) : Type 0 where
+  pub roots_are : AreNumberRoots S roots
+  pub below : TablesAreBelow (length S) tables
+  pub demand : IsRowDemand tables (demand_at demands i)
+  pub inside : i < length demands
+
 -- what is asked of a clash that is read: its numbers stand for values and rows
 pub record CanRead (S : List Value) (tables : List ChaseTable) (c : RowsChased) (p : ClashAt) : Type 0 where
   pub below : TablesAreBelow (length S) tables

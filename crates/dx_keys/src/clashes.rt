@@ -3,8 +3,8 @@ ghost use Rattle.std.specs.Prelude.{◌≡◌, ◌<◌, ◌⊎◌, IfOk, length}
 ghost use Rattle.std.specs.declared.cmp.Ordering.TheVariants.{Greater};
 ghost use Rattle.dx_model.specs.Values.{row_cmp};
 ghost use Rattle.dx_chase.specs.Joins.{nth, demand_at};
-ghost use Rattle.dx_chase.specs.Rows.{TablesAreBelow, IsRowDemand, determination_columns};
-ghost use Rattle.dx_keys.specs.Numbers.{AreNumberRoots, CanRead, IsClashByValues, row_read};
+ghost use Rattle.dx_chase.specs.Rows.{IsRowDemand, determination_columns};
+ghost use Rattle.dx_keys.specs.Numbers.{CanRead, CanReadDemand, IsClashByValues, row_read};
 
 use crate::answers::Clash;
 use crate::reading::{read_row, read_steps};
@@ -22,10 +22,7 @@ fn demand_row(
     demands: &Demands<'_, '_>,
     i: u32,
 ) -> Result<Row, AllocError>
-    requires roots { AreNumberRoots symbols.now roots.now }
-    requires below { TablesAreBelow (length symbols.now) tables.now }
-    requires demand { IsRowDemand tables.now (demand_at demands.now i) }
-    requires inside { i < length demands.now }
+    requires { CanReadDemand symbols.now tables.now roots.now demands.now i }
     ensures { IfOk result (λ row. row ≡ row_read symbols.now tables.now roots.now (demand_at demands.now i)) }
 {
     let demand = demands.asked(i);

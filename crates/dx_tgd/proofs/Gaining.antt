@@ -1,8 +1,8 @@
 -- What an instance gains, step by step.
-use Rattle.std.proofs.Common.{◌≡◌, ℕ, ◌+◌, ◌<◌, ◌≤◌, List, [], ◌∷◌, ◌++◌, ◌⊎◌, inl, inr, refl, sym, ◌∙◌, ap, subst, arith, length, get_or, take, length-append, eqb}
+use Rattle.std.proofs.Common.{◌≡◌, ℕ, ◌+◌, ◌-◌, ◌^◌, ◌<◌, ◌≤◌, List, [], ◌∷◌, ◌++◌, ◌⊎◌, inl, inr, refl, sym, ◌∙◌, ap, subst, arith, length, get_or, take, length-append, eqb}
 use Rattle.std.specs.Prelude.{map}
 use Rattle.std.proofs.lemmas.Bool.{cases_Bool, eqb-true, eqb-false}
-use Rattle.std.proofs.lemmas.List.{take_more, map-append}
+use Rattle.std.proofs.lemmas.List.{length-map, length-take-le, take_more, map-append}
 use Rattle.dx_model.specs.declared.values.Value.{Value}
 use Rattle.dx_model.specs.declared.facts.Fact.{Fact}
 use Rattle.dx_model.specs.declared.rules.Rule.{Rule}
@@ -12,7 +12,7 @@ use Rattle.dx_ports.specs.Members.{◌∈◌, ◌⊆◌, here, there, Each}
 use Rattle.dx_ports.proofs.Members.{in_left, in_right, from_append}
 use Rattle.dx_model.proofs.Widths.{in_get}
 use Rattle.dx_instance.specs.Stored.{AddsRow, TableRows, facts, rows_of, widths, without_rows}
-use Rattle.dx_tgd.specs.Gained.{GainsFacts}
+use Rattle.dx_tgd.specs.Gained.{GainsFacts, HasRoomForRows}
 use Rattle.dx_tgd.specs.Placed.{FitsWidths}
 use Rattle.dx_tgd.proofs.CanonicalFacts.{places_more, rules_more}
 use Rattle.dx_tgd.proofs.Tables.{no_facts}
@@ -75,6 +75,15 @@ module _ (I J : List TableRows) (t : ℕ) (row : List Value) where
       one : (f : Fact) → f.table ≡ t → f.row ∈ (row ∷ []) → the_fact ≡ f
       one f d (here e) = (λ j. record { table = sym d j; row = e j })
       one f d (there k) = elim k [ ]
+
+-- where there is room for all, there is room for the next
+pub room_for_next : {X : Type 0} {I J : List TableRows} (f : X → Fact) (xs : List X) (i t : ℕ) → i < length xs → HasRoomForRows I (length xs) → GainsFacts I J (map f (take i xs)) → length (rows_of J t) < 2 ^ 32 - 1
+room_for_next f xs i t h room g =
+    let few = g.few t in
+    let all = room t in
+    let long = length-map (take i xs) f in
+    let taken = length-take-le i xs (omega (arith, h)) in
+    omega (arith, few, all, long, taken, h)
 
 -- one fact more, in order of what says them
 pub gains_next : {X : Type 0} {I J K : List TableRows} (f : X → Fact) (xs : List X) (i : ℕ) (x : X) → i < length xs → x ≡ get_or xs i x

@@ -4,8 +4,9 @@ ghost use Rattle.std.specs.List.{AllZip};
 ghost use Rattle.dx_ports.specs.Members.{◌∈◌, Each};
 ghost use Rattle.dx_model.specs.Rules.{exported as exported_of};
 ghost use Rattle.dx_instance.specs.Numbers.{Extends};
-ghost use Rattle.dx_instance.specs.Shown.{AreBelow, shown_row, shown_tables};
-ghost use Rattle.dx_instance.specs.Stored.{IsSorting, rows_of, table_at, widths, without_rows};
+ghost use Rattle.dx_instance.specs.Shown.{shown_row};
+ghost use Rattle.dx_instance.specs.Stored.{IsSorting, without_rows};
+ghost use Rattle.dx_tgd.specs.Asked.{HasRoomFor};
 ghost use Rattle.dx_tgd.specs.Gained.{GainsFacts};
 ghost use Rattle.dx_tgd.specs.Planned.{IsPlannedAtom, built};
 
@@ -80,10 +81,7 @@ impl Builder {
 
     /// One row of numbers more.
     pub(crate) fn add(&mut self, table: u32, numbers: &[u32]) -> Result<(), AllocError>
-        requires table { table < length (built self.old) }
-        requires width { length numbers.now ≡ (table_at (built self.old) table).width }
-        requires below { AreBelow (length self.old.symbols) numbers.now }
-        requires room { length (rows_of (built self.old) table) < 2 ^ 32 - 1 }
+        requires { HasRoomFor self.old table numbers.now }
         ensures symbols { OnOk result (self.new.symbols ≡ self.old.symbols) }
         ensures added { OnOk result (GainsFacts (built self.old) (built self.new)
             (record { table = table; row = shown_row self.old.symbols numbers.now } ∷ [])) }

@@ -1,16 +1,15 @@
 // The canonical instance of rows of numbers.
-ghost use Rattle.std.specs.Prelude.{◌≡◌, ◌<◌, ◌≤◌, ◌-◌, ◌^◌, ℕ, IfOk, OnOk, length, map};
+ghost use Rattle.std.specs.Prelude.{◌≡◌, ℕ, IfOk, OnOk, length, map};
 ghost use Rattle.dx_ports.specs.Members.{◌≈◌, Each};
 ghost use Rattle.dx_model.specs.Values.{RowsAscend};
-ghost use Rattle.dx_model.specs.Rules.{at_places, canonical, exported as exported_of};
-ghost use Rattle.dx_instance.specs.Cells.{NumberTable};
+ghost use Rattle.dx_model.specs.Rules.{at_places, canonical};
 ghost use Rattle.dx_instance.specs.Numbers.{Extends};
 ghost use Rattle.dx_instance.specs.Stored.{facts, rows_of, widths};
-ghost use Rattle.dx_joins.specs.Shown.{AreTexts, texts_of};
-ghost use Rattle.dx_tgd.specs.Counting.{canonical_cells};
+ghost use Rattle.dx_joins.specs.Shown.{texts_of};
+ghost use Rattle.dx_tgd.specs.Asked.{HaveRowsToBuild};
 ghost use Rattle.dx_tgd.specs.Gained.{GainsFacts, HasRoomForRows};
-ghost use Rattle.dx_tgd.specs.Placed.{FitsWidths, HasCell};
-ghost use Rattle.dx_tgd.specs.Texts.{FitRules, tuples_in};
+ghost use Rattle.dx_tgd.specs.Placed.{FitsWidths};
+ghost use Rattle.dx_tgd.specs.Texts.{FitRule, tuples_in};
 ghost use Rattle.dx_tgd.specs.Planned.{CanStand, HasNumber, built, planned_number, planned_fact};
 
 use crate::builder::Builder;
@@ -78,8 +77,7 @@ fn add_rule(
     rows: &Rows,
     target: &mut Builder,
 ) -> Result<(), AllocError>
-    requires width { rows.now.width ≡ length (exported_of rule.now) }
-    requires texts { Each rows.now.rows (AreTexts target.old.symbols) }
+    requires tuples { FitRule target.old.symbols rule.now rows.now }
     requires fits { FitsWidths (widths (built target.old)) rule.now }
     requires room { HasRoomForRows (built target.old)
         (length (at_places number rule.now 0 (map (texts_of target.old.symbols) rows.now.rows))) }
@@ -92,26 +90,6 @@ fn add_rule(
     let mut buffer = Vec::new(alloc);
     for place in 0..rows.count() {
         add_place(&plan, rows.row(place), place, &mut buffer, target)?;
-    }
-    Ok(())
-}
-
-// Adds what the conclusions of all rules say at each place.
-fn add_rules(
-    alloc: Global,
-    rules: &[Rule],
-    rows: &[Rows],
-    target: &mut Builder,
-) -> Result<(), AllocError>
-    requires rules { length rules.now < 2 ^ 32 }
-    requires tuples { FitRules target.old.symbols rules.now rows.now }
-    requires fits { Each rules.now (FitsWidths (widths (built target.old))) }
-    requires room { HasRoomForRows (built target.old) (length (canonical 0 rules.now (tuples_in target.old.symbols rows.now))) }
-    ensures { OnOk result (GainsFacts (built target.old) (built target.new)
-        (canonical 0 rules.now (tuples_in target.old.symbols rows.now))) }
-{
-    for i in 0..rules.len() {
-        add_rule(alloc, &rules[i], i as u32, &rows[i], target)?;
     }
     Ok(())
 }
@@ -129,18 +107,14 @@ pub fn canonical_of_rows(
     symbols: Symbols,
     columns: &[u32],
 ) -> Result<Instance, AllocError>
-    requires some { Each columns.now (λ w. 1 ≤ w) }
-    requires few { length columns.now < 2 ^ 32 - 1 }
-    requires fits { Each rules.now (FitsWidths columns.now) }
-    requires cells { Each rules.now HasCell }
-    requires tuples { FitRules symbols rules.now rows.now }
-    requires limit { canonical_cells rules.now (tuples_in symbols rows.now) < 2 ^ 32 - 1 }
-    requires rules { length rules.now < 2 ^ 32 - 1 }
+    requires { HaveRowsToBuild columns.now rules.now symbols rows.now }
     ensures widths { IfOk result (λ I. widths I ≡ columns.now) }
     ensures facts { IfOk result (λ I. facts I ≈ canonical 0 rules.now (tuples_in symbols rows.now)) }
     ensures ascend { IfOk result (λ I. (t : ℕ) → RowsAscend (rows_of I t)) }
 {
     let mut target = Builder::new(alloc, symbols, columns)?;
-    add_rules(alloc, rules, rows, &mut target)?;
+    for i in 0..rules.len() {
+        add_rule(alloc, &rules[i], i as u32, &rows[i], &mut target)?;
+    }
     target.finish(alloc)
 }

@@ -1,15 +1,12 @@
 // The matches of a rule, as the exported texts of each.
-ghost use Rattle.std.specs.Prelude.{◌≡◌, ◌<◌, ◌∷◌, [], ℕ, List, IfOk, MatchOption, length, map};
-ghost use Rattle.dx_ports.specs.Members.{Each};
-ghost use Rattle.dx_model.specs.declared.rules.Derived.{Derived as AnyDerived};
-ghost use Rattle.dx_model.specs.Fitting.{AtomsFitWidths, IsRule};
-ghost use Rattle.dx_model.specs.Rules.{IsRows, exported as exported_of};
-ghost use Rattle.dx_funcs.specs.Offers.{IsListed};
+ghost use Rattle.std.specs.Prelude.{IfOk, MatchOption};
+ghost use Rattle.dx_model.specs.Rules.{IsRows};
 ghost use Rattle.dx_funcs.specs.Serving.{Serves, offered};
 ghost use Rattle.dx_instance.specs.Numbers.{AreDistinctValues, Extends};
 ghost use Rattle.dx_instance.specs.Shown.{shown_tables};
 ghost use Rattle.dx_instance.specs.Stored.{facts, widths};
 ghost use Rattle.dx_joins.specs.Shown.{MoreTuples};
+ghost use Rattle.dx_tgd.specs.Asked.{IsMatchable};
 ghost use Rattle.dx_tgd.specs.Found.{IsFoundRule, IsTuple};
 
 use crate::found::one_in_order;
@@ -37,17 +34,16 @@ pub(crate) fn rule_rows<F: Fn(u32, &Items<Text>) -> Result<Text, AllocError>, M:
     most: u64,
 ) -> Result<Option<Rows>, AllocError>
     requires serves { Serves F.Fn M.apply host.now }
-    requires listed { Each rule.now.derived (λ (e : AnyDerived). IsListed (offered host.now) e.code (length e.args)) }
-    requires rule { IsRule rule.now }
-    requires premise { AtomsFitWidths (widths (shown_tables source.now.symbols source.now.tables)) rule.now.premise }
+    requires rule { IsMatchable (offered host.now) (widths (shown_tables source.now.symbols source.now.tables)) rule.now }
     requires symbols { Extends source.now.symbols symbols.old }
-    requires apart { AreDistinctValues symbols.old }
     ensures grows { Extends symbols.old symbols.new }
     ensures apart { AreDistinctValues symbols.new }
     ensures rows { IfOk result (λ o. MatchOption o
         (MoreTuples most (IsTuple M.apply (facts (shown_tables source.now.symbols source.now.tables)) rule.now))
         (IsFoundRule M.apply (facts (shown_tables source.now.symbols source.now.tables)) symbols.new rule.now)) }
 {
+    // The call tells that no value has two numbers.
+    let _few = symbols.len();
     let columns = exported(alloc, rule)?;
     let premise = rule.premise.items();
     let derived = rule.derived.items();
@@ -68,9 +64,7 @@ pub fn match_rows<F: Fn(u32, &Items<Text>) -> Result<Text, AllocError>, M: Meani
     host: &Host<F, M>,
 ) -> Result<Places, AllocError>
     requires serves { Serves F.Fn M.apply host.now }
-    requires listed { Each rule.now.derived (λ (e : AnyDerived). IsListed (offered host.now) e.code (length e.args)) }
-    requires rule { IsRule rule.now }
-    requires premise { AtomsFitWidths (widths source.now) rule.now.premise }
+    requires rule { IsMatchable (offered host.now) (widths source.now) rule.now }
     ensures { IfOk result (λ places. IsRows M.apply rule.now (facts source.now) places.tuples) }
 {
     let numbers = source.numbers();

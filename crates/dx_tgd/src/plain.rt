@@ -1,17 +1,16 @@
 // The canonical instance, by the plain way: the matches of each rule, and what its conclusion says of them.
-ghost use Rattle.std.specs.Prelude.{◌≡◌, ◌<◌, ◌≤◌, ◌-◌, ◌^◌, [], ℕ, IfOk, IfErr, OnOk, length};
+ghost use Rattle.std.specs.Prelude.{◌≡◌, ◌<◌, ◌≤◌, ◌-◌, ◌^◌, ℕ, IfOk, IfErr};
 ghost use Rattle.dx_ports.specs.Members.{◌≈◌, Each};
 ghost use Rattle.dx_ports.specs.declared.file.Count.TheVariants.{TargetCells};
-ghost use Rattle.dx_model.specs.Fitting.{AtomsFitWidths, IsRule};
 ghost use Rattle.dx_model.specs.Rules.{AreRows, canonical};
 ghost use Rattle.dx_model.specs.Values.{RowsAscend};
 ghost use Rattle.dx_schema.specs.Tables.{schema_widths};
-ghost use Rattle.dx_funcs.specs.Offers.{IsListed};
 ghost use Rattle.dx_funcs.specs.Serving.{Serves, offered};
 ghost use Rattle.dx_instance.specs.Numbers.{AreDistinctValues, Extends};
 ghost use Rattle.dx_instance.specs.Shown.{shown_tables};
 ghost use Rattle.dx_instance.specs.Stored.{facts, rows_of, widths};
 ghost use Rattle.dx_tgd.specs.declared.fault.CanonFault.TheVariants.{Limit as Refused};
+ghost use Rattle.dx_tgd.specs.Asked.{IsMatchable, RulesFitWidths};
 ghost use Rattle.dx_tgd.specs.Counting.{canonical_cells};
 ghost use Rattle.dx_tgd.specs.Found.{AreFoundRules, IsCanonicalRefusal};
 ghost use Rattle.dx_tgd.specs.Placed.{HasCell};
@@ -25,7 +24,7 @@ use crate::made::Made;
 use crate::matching::rule_rows;
 use crate::rule_matches::RuleMatches;
 use dx_funcs::{Host, Meaning};
-use dx_instance::{Instance, Numbers, Rows, Symbols, Value};
+use dx_instance::{Instance, Numbers, Symbols, Value};
 use dx_model::{Cell, Rule};
 use dx_ports::{Count, Items, Limit, Text};
 use dx_schema::Schema;
@@ -67,35 +66,33 @@ fn passed(limit: u64) -> CanonFault
     })
 }
 
-// Adds the matches of each rule, as rows of numbers. A rule may have as many as the limit leaves room for.
-fn find_rules<F: Fn(u32, &Items<Text>) -> Result<Text, AllocError>, M: Meaning>(
+// The matches of each rule, as rows of numbers. A rule may have as many as the limit leaves room for.
+fn found_rules<F: Fn(u32, &Items<Text>) -> Result<Text, AllocError>, M: Meaning>(
     alloc: Global,
     rules: &[Rule],
     source: &Numbers,
-    symbols: &mut Symbols,
-    tables: &mut Vec<Rows>,
     host: &Host<F, M>,
     limit: u64,
-) -> Result<(), CanonFault>
+) -> Result<Found, CanonFault>
     requires serves { Serves F.Fn M.apply host.now }
-    requires listed { Each rules.now (λ d. Each d.derived (λ e. IsListed (offered host.now) e.code (length e.args))) }
-    requires rules { Each rules.now IsRule }
-    requires premises { Each rules.now (λ d. AtomsFitWidths (widths (shown_tables source.now.symbols source.now.tables)) d.premise) }
+    requires matchable { Each rules.now
+        (IsMatchable (offered host.now) (widths (shown_tables source.now.symbols source.now.tables))) }
     requires cells { Each rules.now HasCell }
-    requires apart { AreDistinctValues source.now.symbols }
-    requires symbols { symbols.old ≡ source.now.symbols }
-    requires none { tables.old.items ≡ [] }
-    ensures found { OnOk result (AreFoundRules M.apply
-        (facts (shown_tables source.now.symbols source.now.tables)) symbols.new rules.now tables.new.items) }
-    ensures within { OnOk result (canonical_cells rules.now (tuples_in symbols.new tables.new.items) ≤ limit) }
+    ensures found { IfOk result (λ f. AreFoundRules M.apply
+        (facts (shown_tables source.now.symbols source.now.tables)) f.symbols rules.now f.tables.items) }
+    ensures within { IfOk result (λ f. canonical_cells rules.now (tuples_in f.symbols f.tables.items) ≤ limit) }
     ensures refused { IfErr result (IsCanonicalRefusal M.apply rules.now
         (facts (shown_tables source.now.symbols source.now.tables)) limit) }
 {
+    // The call tells that no value has two numbers.
+    let _few = source.len();
+    let mut symbols = source.copy_symbols(alloc)?;
+    let mut tables = Vec::new(alloc);
     let mut left = limit;
     for rule in rules {
         let cells = conclusion_cells(rule);
-        intern_literals(rule, symbols)?;
-        let found = rule_rows(alloc, rule, source, symbols, host, left / cells)?;
+        intern_literals(rule, &mut symbols)?;
+        let found = rule_rows(alloc, rule, source, &mut symbols, host, left / cells)?;
         let Some(rows) = found else {
             return Err(passed(limit));
         };
@@ -106,32 +103,6 @@ fn find_rules<F: Fn(u32, &Items<Text>) -> Result<Text, AllocError>, M: Meaning>(
         left -= used;
         tables.push(rows)?;
     }
-    Ok(())
-}
-
-// The matches of each rule, as rows of numbers.
-fn found_rules<F: Fn(u32, &Items<Text>) -> Result<Text, AllocError>, M: Meaning>(
-    alloc: Global,
-    rules: &[Rule],
-    source: &Numbers,
-    host: &Host<F, M>,
-    limit: u64,
-) -> Result<Found, CanonFault>
-    requires serves { Serves F.Fn M.apply host.now }
-    requires listed { Each rules.now (λ d. Each d.derived (λ e. IsListed (offered host.now) e.code (length e.args))) }
-    requires rules { Each rules.now IsRule }
-    requires premises { Each rules.now (λ d. AtomsFitWidths (widths (shown_tables source.now.symbols source.now.tables)) d.premise) }
-    requires cells { Each rules.now HasCell }
-    requires apart { AreDistinctValues source.now.symbols }
-    ensures found { IfOk result (λ f. AreFoundRules M.apply
-        (facts (shown_tables source.now.symbols source.now.tables)) f.symbols rules.now f.tables.items) }
-    ensures within { IfOk result (λ f. canonical_cells rules.now (tuples_in f.symbols f.tables.items) ≤ limit) }
-    ensures refused { IfErr result (IsCanonicalRefusal M.apply rules.now
-        (facts (shown_tables source.now.symbols source.now.tables)) limit) }
-{
-    let mut symbols = source.copy_symbols(alloc)?;
-    let mut tables = Vec::new(alloc);
-    find_rules(alloc, rules, source, &mut symbols, &mut tables, host, limit)?;
     Ok(Found { symbols, tables })
 }
 
@@ -150,11 +121,7 @@ pub fn canonical_plain<F: Fn(u32, &Items<Text>) -> Result<Text, AllocError>, M: 
     limit: u64,
 ) -> Result<Made, CanonFault>
     requires serves { Serves F.Fn M.apply host.now }
-    requires listed { Each rules.now (λ d. Each d.derived (λ e. IsListed (offered host.now) e.code (length e.args))) }
-    requires rules { Each rules.now IsRule }
-    requires few { length rules.now < 2 ^ 32 - 1 }
-    requires premises { Each rules.now (λ d. AtomsFitWidths (widths source.now) d.premise) }
-    requires conclusions { Each rules.now (λ d. AtomsFitWidths (schema_widths target.now) d.conclusion) }
+    requires rules { RulesFitWidths (offered host.now) (widths source.now) (schema_widths target.now) rules.now }
     requires limit { limit < 2 ^ 32 - 1 }
     ensures matches { IfOk result (λ m. AreRows M.apply rules.now (facts source.now) m.matches) }
     ensures within { IfOk result (λ m. canonical_cells rules.now m.matches ≤ limit) }

@@ -1,8 +1,6 @@
-use Rattle.std.proofs.Common.{◌≡◌, ◌<◌, ◌≤◌, refl, ap, ◌∙◌, arith, string_bytes, length}
+use Rattle.std.proofs.Common.{◌≡◌, refl, ap, ◌∙◌, arith, string_bytes}
 use Rattle.std.proofs.lemmas.Result.{IfOk-weaker}
-use Rattle.dx_ports.proofs.Members.{in_at}
 use Rattle.dx_schema.specs.Tables.{tree_at}
-use Rattle.dx_instance.specs.Stored.{table_at}
 use Rattle.dx_json.specs.Nesting.{nested_text}
 use Rattle.dx_json.proofs.Fitting.{root_columns, sets_stand}
 use Rattle.dx_json.proofs.nesting.nest_sorted.Goals as goal
@@ -12,19 +10,14 @@ index_sets-requires-clause-stand c =
     let I = c.args.instance.now in
     sets_stand I I c.args.schema.now c.args.root _ c.tree-tree.result.now c.tree.inside.inner c.requires.widths c.requires.root c.tree-tree.ensures.tree refl (ap (λ v. v.inner) c.tree.view_is) (omega arith)
 
-pub text_of_root-requires-clause-width : goal.text_of_root-requires-clause-width
-text_of_root-requires-clause-width c =
-    let I = c.args.instance.now in
-    let within : c.args.root < length I = omega (arith, c.if-prove-2.false, c.tables-2.ensures.number) in
-    let wide : 1 ≤ (table_at I c.args.root).width = c.tables-2.ensures.widths (table_at I c.args.root) (in_at I c.args.root _ within) in
-    rw c.index_sets.ensures (omega (arith, wide))
-
-pub text_of_root-requires-clause-columns : goal.text_of_root-requires-clause-columns
-text_of_root-requires-clause-columns c = root_columns c.args.instance.now _ c.args.schema.now c.args.root c.tree-tree.result.now c.requires.widths c.requires.root c.tree-tree.ensures.tree c.index_sets.ensures
-
-pub text_of_root-requires-clause-stand : goal.text_of_root-requires-clause-stand
-text_of_root-requires-clause-stand c =
-    sets_stand c.args.instance.now _ c.args.schema.now c.args.root _ c.tree-tree.result.now _ c.requires.widths c.requires.root c.tree-tree.ensures.tree c.index_sets.ensures refl refl
+pub text_of_root-requires : goal.text_of_root-requires
+text_of_root-requires c = record {
+  table = rw c.index_sets.ensures (omega (arith, c.if-prove-2.false, c.tables-2.ensures.number));
+  columns = root_columns c.args.instance.now _ c.args.schema.now c.args.root c.tree-tree.result.now c.requires.widths c.requires.root c.tree-tree.ensures.tree c.index_sets.ensures;
+  stand = sets_stand c.args.instance.now _ c.args.schema.now c.args.root _ c.tree-tree.result.now _ c.requires.widths c.requires.root c.tree-tree.ensures.tree c.index_sets.ensures refl refl;
+  few = c.tree-tree.ensures.few;
+  room = omega (arith, c.tables.ensures.facts.few_tables, c.requires.root, c.tree-tree.ensures.few);
+}
 
 pub returns-clause-text : goal.returns-clause-text
 returns-clause-text c =

@@ -6,7 +6,7 @@ use Rattle.dx_model.specs.declared.values.Value.{Value}
 use Rattle.dx_instance.specs.Shown.{shown_row}
 use Rattle.dx_tgd.specs.Gained.{GainsFacts}
 use Rattle.dx_tgd.specs.Planned.{built, planned_number, planned_fact}
-use Rattle.dx_tgd.proofs.Gaining.{gains_next}
+use Rattle.dx_tgd.proofs.Gaining.{gains_next, room_for_next}
 use Rattle.dx_tgd.proofs.Plans.{some_below}
 use Rattle.dx_tgd.proofs.Tables.{wide_table}
 use Rattle.dx_tgd.proofs.building.add_place.Goals as goal
@@ -16,21 +16,16 @@ fill-requires c =
     let s = c.requires.stand c.atom-item.result (item_in c.args.atoms.now c.loop-atom.atom-index c.atom-item.result c.loop-atom-test.true c.atom-item.is) in
     rw c.deref.ensures.value s.there
 
-pub add-requires-clause-table : goal.add-requires-clause-table
-add-requires-clause-table c =
-    let s = c.requires.stand c.atom-item.result (item_in c.args.atoms.now c.loop-atom.atom-index c.atom-item.result c.loop-atom-test.true c.atom-item.is) in
-    (wide_table (built c.loop-atom.target) c.atom-item.result.table (length c.atom-item.result.cells.items) (rw c.loop-atom.invariant.gains.widths_stay s.wide)).0
-
-pub add-requires-clause-width : goal.add-requires-clause-width
-add-requires-clause-width c =
+pub add-requires : goal.add-requires
+add-requires c =
     let s = c.requires.stand c.atom-item.result (item_in c.args.atoms.now c.loop-atom.atom-index c.atom-item.result c.loop-atom-test.true c.atom-item.is) in
     let w = wide_table (built c.loop-atom.target) c.atom-item.result.table (length c.atom-item.result.cells.items) (rw c.loop-atom.invariant.gains.widths_stay s.wide) in
-    ap length c.deref-in-loop-atom.ensures.value ∙ ap length c.in_ok-fill.ensures ∙ length-map c.deref.result.now (planned_number c.args.row.now c.args.place) ∙ ap length c.deref.ensures.value ∙ sym w.1
-
-pub add-requires-clause-below : goal.add-requires-clause-below
-add-requires-clause-below c =
-    let s = c.requires.stand c.atom-item.result (item_in c.args.atoms.now c.loop-atom.atom-index c.atom-item.result c.loop-atom-test.true c.atom-item.is) in
-    rw (c.deref-in-loop-atom.ensures.value, c.in_ok-fill.ensures, c.deref.ensures.value, c.loop-atom.invariant.symbols) (some_below c.args.row.now c.args.place c.atom-item.result.cells.items (length c.args.target.now.symbols) s.below)
+    record {
+      table_there = w.0;
+      width = ap length c.deref-in-loop-atom.ensures.value ∙ ap length c.in_ok-fill.ensures ∙ length-map c.deref.result.now (planned_number c.args.row.now c.args.place) ∙ ap length c.deref.ensures.value ∙ sym w.1;
+      below = rw (c.deref-in-loop-atom.ensures.value, c.in_ok-fill.ensures, c.deref.ensures.value, c.loop-atom.invariant.symbols) (some_below c.args.row.now c.args.place c.atom-item.result.cells.items (length c.args.target.now.symbols) s.below);
+      room = room_for_next (planned_fact c.args.target.now.symbols c.args.row.now c.args.place) c.args.atoms.now c.loop-atom.atom-index c.atom-item.result.table c.loop-atom-test.true c.requires.room c.loop-atom.invariant.gains;
+    }
 
 pub loop-atom-preserved : goal.loop-atom-preserved
 loop-atom-preserved c =

@@ -1,24 +1,22 @@
 use Rattle.std.proofs.Common.{ap, subst, sym, List}
 use Rattle.dx_model.specs.declared.values.Value.{Value}
-use Rattle.dx_model.specs.Fitting.{AtomsFitWidths}
-use Rattle.dx_instance.specs.Numbers.{AreDistinctValues, Extends}
+use Rattle.dx_funcs.specs.Serving.{offered}
+use Rattle.dx_instance.specs.Numbers.{Extends}
 use Rattle.dx_instance.specs.Stored.{TableRows, facts, widths}
 use Rattle.dx_instance.proofs.NumberFacts.{stays}
 use Rattle.dx_instance.specs.Shown.{shown_tables}
 use Rattle.dx_joins.proofs.Whole.{none_found}
 use Rattle.dx_joins.proofs.Carrying.{found}
+use Rattle.dx_tgd.specs.Asked.{IsMatchable}
 use Rattle.dx_tgd.specs.Found.{IsFoundRule}
 use Rattle.dx_tgd.proofs.Founds.{ordered_places}
 use Rattle.dx_tgd.proofs.matching.match_rows.Goals as goal
 
-pub rule_rows-requires-clause-premise : goal.rule_rows-requires-clause-premise
-rule_rows-requires-clause-premise g c = subst (λ (I : List TableRows). AtomsFitWidths (widths I) c.args.rule.now.premise) (sym c.numbers-numbers.ensures.shown) c.requires.premise
+pub rule_rows-requires-clause-rule : goal.rule_rows-requires-clause-rule
+rule_rows-requires-clause-rule g c = subst (λ (I : List TableRows). IsMatchable (offered c.args.host.now) (widths I) c.args.rule.now) (sym c.numbers-numbers.ensures.shown) c.requires.rule
 
 pub rule_rows-requires-clause-symbols : goal.rule_rows-requires-clause-symbols
 rule_rows-requires-clause-symbols g c = subst (λ (s : List Value). Extends c.numbers-numbers.result.symbols s) (sym c.in_ok-symbols.ensures) (stays c.numbers-numbers.result.symbols)
-
-pub rule_rows-requires-clause-apart : goal.rule_rows-requires-clause-apart
-rule_rows-requires-clause-apart g c = subst (λ (s : List Value). AreDistinctValues s) (sym c.in_ok-symbols.ensures) c.numbers-numbers.ensures.fit.apart
 
 pub one_in_order-requires-clause-ascend : goal.one_in_order-requires-clause-ascend
 one_in_order-requires-clause-ascend g c = (found c.in_ok-found.found c.in-Some.rows _ _ c.in-Some.is c.in_ok-found.ensures.rows).ascend

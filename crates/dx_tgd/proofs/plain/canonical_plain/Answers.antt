@@ -1,29 +1,28 @@
 use Rattle.std.proofs.Common.{◌∙◌, ◌≤◌, List, ap, arith, subst, sym}
 use Rattle.std.proofs.lemmas.Slice.Zip.{AllZip-long}
 use Rattle.dx_ports.specs.Members.{◌≈◌, Each}
-use Rattle.dx_model.specs.declared.rules.Rule.{Rule}
 use Rattle.dx_model.specs.declared.values.Value.{Value}
-use Rattle.dx_model.specs.Fitting.{AtomsFitWidths}
+use Rattle.dx_funcs.specs.Serving.{offered}
 use Rattle.dx_model.specs.Rules.{AreRows, canonical}
 use Rattle.dx_model.specs.Values.{Rows}
 use Rattle.dx_instance.specs.Shown.{shown_tables}
 use Rattle.dx_instance.specs.Stored.{TableRows, facts, widths}
 use Rattle.dx_instance.proofs.RankFacts.{ascend_apart}
 use Rattle.dx_schema.specs.Tables.{schema_widths}
+use Rattle.dx_tgd.specs.Asked.{IsMatchable}
 use Rattle.dx_tgd.specs.Counting.{canonical_cells}
 use Rattle.dx_tgd.specs.Found.{IsFoundRule, IsRenumbering}
 use Rattle.dx_tgd.specs.Texts.{tuples_in}
 use Rattle.dx_tgd.proofs.Founds.{all_rule_rows, found_ascend, found_fit, found_reordered, found_texts, have_cells, reordered_cells}
 use Rattle.dx_tgd.proofs.plain.canonical_plain.Goals as goal
 
-pub found_rules-requires-clause-premises : goal.found_rules-requires-clause-premises
-found_rules-requires-clause-premises g c = subst (λ (I : List TableRows). Each c.args.rules.now (λ (d : Rule). AtomsFitWidths (widths I) d.premise)) (sym c.numbers.ensures.shown) c.requires.premises
+pub found_rules-requires-clause-matchable : goal.found_rules-requires-clause-matchable
+found_rules-requires-clause-matchable g c =
+    subst (λ (I : List TableRows). Each c.args.rules.now (IsMatchable (offered c.args.host.now) (widths I))) (sym c.numbers.ensures.shown) c.requires.rules.matchable
 
 pub found_rules-requires-clause-cells : goal.found_rules-requires-clause-cells
-found_rules-requires-clause-cells g c = have_cells (schema_widths c.args.target.now) c.args.rules.now (λ w m. (c.widths.ensures.within w m).0) c.requires.rules c.requires.conclusions
-
-pub found_rules-requires-clause-apart : goal.found_rules-requires-clause-apart
-found_rules-requires-clause-apart g c = c.numbers.ensures.fit.apart
+found_rules-requires-clause-cells g c =
+    have_cells (schema_widths c.args.target.now) c.args.rules.now (λ w m. (c.widths.ensures.within w m).0) (λ d m. (c.requires.rules.matchable d m).rule) c.requires.rules.conclusions
 
 pub in_order-requires-clause-ascend : goal.in_order-requires-clause-ascend
 in_order-requires-clause-ascend g c =
@@ -38,7 +37,7 @@ new-requires-clause-few g c =
     let I = facts (shown_tables c.numbers.result.symbols c.numbers.result.tables) in
     let found = AllZip-long (IsFoundRule g.M.Meaning.apply I c.in_ok-found.found.symbols) c.args.rules.now c.in_ok-found.found.tables.items c.in_ok-found.ensures.found in
     let same = AllZip-long (IsRenumbering c.in_ok-found.found.symbols c.in_ok-ordered.ordered.symbols) c.in_ok-found.found.tables.items c.in_ok-ordered.ordered.tables.items c.in_ok-ordered.ensures.same in
-    let few = c.requires.few in
+    let few = c.requires.rules.few in
     omega (arith, found, same, few)
 
 pub new-requires-clause-texts : goal.new-requires-clause-texts
@@ -49,24 +48,23 @@ new-requires-clause-texts g c =
     let found = found_reordered g.M.Meaning.apply I c.in_ok-found.found.symbols S c.args.rules.now c.in_ok-found.found.tables.items ts c.in_ok-ordered.ensures.same c.in_ok-found.ensures.found in
     found_texts g.M.Meaning.apply I S c.args.rules.now ts found
 
-pub canonical_of_rows-requires-clause-cells : goal.canonical_of_rows-requires-clause-cells
-canonical_of_rows-requires-clause-cells g c = have_cells (schema_widths c.args.target.now) c.args.rules.now (λ w m. (c.widths.ensures.within w m).0) c.requires.rules c.requires.conclusions
-
-pub canonical_of_rows-requires-clause-tuples : goal.canonical_of_rows-requires-clause-tuples
-canonical_of_rows-requires-clause-tuples g c =
+pub canonical_of_rows-requires : goal.canonical_of_rows-requires
+canonical_of_rows-requires g c =
     let I = facts (shown_tables c.numbers.result.symbols c.numbers.result.tables) in
     let S = c.in_ok-ordered.ordered.symbols in
     let ts = c.in_ok-ordered.ordered.tables.items in
     let found = found_reordered g.M.Meaning.apply I c.in_ok-found.found.symbols S c.args.rules.now c.in_ok-found.found.tables.items ts c.in_ok-ordered.ensures.same c.in_ok-found.ensures.found in
-    rw (c.in_ok-symbols.ensures, c.deref.ensures.value) (found_fit g.M.Meaning.apply I S c.args.rules.now ts found)
-
-pub canonical_of_rows-requires-clause-limit : goal.canonical_of_rows-requires-clause-limit
-canonical_of_rows-requires-clause-limit g c =
-    let S = c.in_ok-ordered.ordered.symbols in
     let few = reordered_cells c.in_ok-found.found.symbols S c.args.rules.now c.in_ok-found.found.tables.items c.in_ok-ordered.ordered.tables.items (ascend_apart S c.in_ok-ordered.ensures.ascend) c.in_ok-ordered.ensures.same in
     let within = c.in_ok-found.ensures.within in
     let limit = c.requires.limit in
-    rw (c.in_ok-symbols.ensures, c.deref.ensures.value) (omega (arith, few, within, limit))
+    let columns = c.deref-2.ensures.value ∙ c.in_ok-columns.ensures.all in record {
+      some = rw columns (λ w m. (c.widths.ensures.within w m).0);
+      few = rw columns (omega (arith, c.widths.ensures.few));
+      rules = c.requires.rules.few;
+      fits = rw columns c.requires.rules.conclusions;
+      tuples = rw (c.in_ok-symbols.ensures, c.deref.ensures.value) (found_fit g.M.Meaning.apply I S c.args.rules.now ts found);
+      limit = rw (c.in_ok-symbols.ensures, c.deref.ensures.value) (omega (arith, few, within, limit));
+    }
 
 pub returns-clause-matches : goal.returns-clause-matches
 returns-clause-matches g c =

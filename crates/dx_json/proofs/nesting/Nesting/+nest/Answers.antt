@@ -100,18 +100,14 @@ write_objects-write_object-requires t c =
     let inner : c.tree.inside.inner ≡ tree.inner = ap (λ v. v.inner) c.tree.view_is in
     let order = order_there c.args.self.now.orders.now table c.index-self-table.result (order_of tree.label tree.inner true table) ready.2 ready.3 in
     let next = next_row I table (up_column tree.inner) c.loop-place.next c.in-Some.place c.args.id.now _ _ (ap (λ n. n ∷ []) c.column_up-column.ensures) refl c.in-Some.ensures in
-    let some = c.tables.ensures.widths (table_at I table) (in_at I table _ ready.0) in
     let fit = order_fits I (all_slots c.args.self.now.orders.now) (table_at I table).width tree.label tree.inner true table ready.1 ready.4 in (
       omega (arith, ap forest_size inner, c.decreases),
       (
         ready.0,
         (
           next.0,
-          (
-            omega (arith, some),
-            subst (λ f. Fit I (all_slots c.args.self.now.orders.now) (table_at I table).width f (slots_of (get_or c.args.self.now.orders.now table c.index-self-table.result).entries)) (sym inner)
-                (subst (Fit I (all_slots c.args.self.now.orders.now) (table_at I table).width tree.inner) (sym order) fit),
-          ),
+          subst (λ f. Fit I (all_slots c.args.self.now.orders.now) (table_at I table).width f (slots_of (get_or c.args.self.now.orders.now table c.index-self-table.result).entries)) (sym inner)
+              (subst (Fit I (all_slots c.args.self.now.orders.now) (table_at I table).width tree.inner) (sym order) fit),
         ),
       ),
     )
@@ -121,12 +117,18 @@ write_object-write_source-requires t c =
     let l = c.loop-name in
     let width = (table_at c.args.self.now.instance.now c.args.row.table).width in
     let fit = subst (Fit c.args.self.now.instance.now (all_slots c.args.self.now.orders.now) width c.args.sets.now) (ap slots_of c.in-Some.ensures.steps) l.invariant.fit in
-    (omega (arith, c.decreases), (c.requires.table, (c.requires.place, (c.requires.width, fit.0))))
+    (omega (arith, c.decreases), (c.requires.table, (c.requires.place, fit.0)))
 
 pub write_source-bounds-items-at : goal.write_source-bounds-items-at
 write_source-bounds-items-at t c =
     let fits = subst (SourceFits c.args.self.now.instance.now (all_slots c.args.self.now.orders.now) (table_at c.args.self.now.instance.now c.args.row.table).width c.args.sets.now) c.in-Inner.is c.requires.fits in
     omega (arith, fits.0, level_long c.items.result.now, ap level_length c.items.ensures)
+
+pub write_source-cell-id-requires-clause-column : goal.write_source-cell-id-requires-clause-column
+write_source-cell-id-requires-clause-column t c =
+    let I = c.args.self.now.instance.now in
+    let some = c.tables.ensures.widths (table_at I c.args.row.table) (in_at I c.args.row.table _ c.requires.table) in
+    omega (arith, some)
 
 pub write_source-write_objects-requires : goal.write_source-write_objects-requires
 write_source-write_objects-requires t c =

@@ -2,7 +2,7 @@ use Rattle.std.proofs.Common.{take}
 use Rattle.dx_instance.specs.Shown.{shown_tables}
 use Rattle.dx_instance.specs.Stored.{facts}
 use Rattle.dx_tgd.proofs.Founds.{FoundSoFar}
-use Rattle.dx_tgd.proofs.plain.find_rules.Given as goal
+use Rattle.dx_tgd.proofs.plain.found_rules.Given as goal
 
 -- what is found of the rules so far
 abbrev pub invariant-loop-rule : goal.invariant-loop-rule

@@ -1,40 +1,31 @@
 use Rattle.std.proofs.Common.{◌≡◌, ◌<◌, ◌≤◌, ◌/◌, ◌*◌, ℕ, List, arith, length, refl, subst}
 use Rattle.std.specs.Prelude.{map}
 use Rattle.std.proofs.lemmas.List.{length-map, take_all}
-use Rattle.dx_ports.specs.Members.{Each}
 use Rattle.dx_ports.proofs.Loops.{each_item}
-use Rattle.dx_funcs.specs.Offers.{IsListed}
 use Rattle.dx_funcs.specs.Serving.{offered}
 use Rattle.dx_model.specs.declared.rules.Rule.{Rule}
-use Rattle.dx_model.specs.Fitting.{AtomsFitWidths, IsRule}
 use Rattle.dx_instance.specs.Shown.{shown_tables}
 use Rattle.dx_instance.specs.Stored.{facts, widths}
 use Rattle.dx_instance.proofs.ShownFacts.{extends_both}
 use Rattle.dx_joins.specs.Shown.{texts_of}
 use Rattle.dx_joins.proofs.Carrying.{found}
+use Rattle.dx_tgd.specs.Asked.{IsMatchable}
 use Rattle.dx_tgd.specs.Counting.{canonical_cells}
 use Rattle.dx_tgd.specs.Found.{AreFoundRules, IsFoundRule}
 use Rattle.dx_tgd.specs.Placed.{HasCell}
 use Rattle.dx_tgd.specs.Texts.{tuples_in}
 use Rattle.dx_tgd.proofs.Founds.{found_start, none_found, none_passes, passes, product_fits, so_far_more, tuples_distinct, tuples_shown}
-use Rattle.dx_tgd.proofs.plain.find_rules.Goals as goal
+use Rattle.dx_tgd.proofs.plain.found_rules.Goals as goal
 
 pub conclusion_cells-cells-requires : goal.conclusion_cells-cells-requires
 conclusion_cells-cells-requires g c =
-    let d = each_item IsRule c.args.rules.now c.loop-rule.rule-index c.rule-item.result c.loop-rule-test.true c.rule-item.is c.requires.rules in
-    let k = d.few_cells in
+    let d = each_item (IsMatchable (offered c.args.host.now) (widths (shown_tables c.args.source.now.symbols c.args.source.now.tables))) c.args.rules.now c.loop-rule.rule-index c.rule-item.result c.loop-rule-test.true c.rule-item.is c.requires.matchable in
+    let k = d.rule.few_cells in
     omega (arith, k)
 
-pub rule_rows-requires-clause-listed : goal.rule_rows-requires-clause-listed
-rule_rows-requires-clause-listed g c =
-    each_item (λ (d : Rule). Each d.derived (λ e. IsListed (offered c.args.host.now) e.code (length e.args))) c.args.rules.now c.loop-rule.rule-index c.rule-item.result c.loop-rule-test.true c.rule-item.is c.requires.listed
-
 pub rule_rows-requires-clause-rule : goal.rule_rows-requires-clause-rule
-rule_rows-requires-clause-rule g c = each_item IsRule c.args.rules.now c.loop-rule.rule-index c.rule-item.result c.loop-rule-test.true c.rule-item.is c.requires.rules
-
-pub rule_rows-requires-clause-premise : goal.rule_rows-requires-clause-premise
-rule_rows-requires-clause-premise g c =
-    each_item (λ (d : Rule). AtomsFitWidths (widths (shown_tables c.args.source.now.symbols c.args.source.now.tables)) d.premise) c.args.rules.now c.loop-rule.rule-index c.rule-item.result c.loop-rule-test.true c.rule-item.is c.requires.premises
+rule_rows-requires-clause-rule g c =
+    each_item (IsMatchable (offered c.args.host.now) (widths (shown_tables c.args.source.now.symbols c.args.source.now.tables))) c.args.rules.now c.loop-rule.rule-index c.rule-item.result c.loop-rule-test.true c.rule-item.is c.requires.matchable
 
 pub rule_rows-requires-clause-symbols : goal.rule_rows-requires-clause-symbols
 rule_rows-requires-clause-symbols g c = extends_both c.args.source.now.symbols c.loop-rule.symbols c.intern_literals.new.symbols c.loop-rule.invariant.grows c.in_ok-intern_literals.ensures.grows
@@ -51,7 +42,7 @@ returns-clause-within g c =
 
 pub loop-rule-init : goal.loop-rule-init
 loop-rule-init g c =
-    found_start g.M.Meaning.apply (facts (shown_tables c.args.source.now.symbols c.args.source.now.tables)) c.args.source.now.symbols c.args.symbols.now c.args.tables.now.items c.args.limit c.requires.symbols c.requires.none c.requires.apart
+    found_start g.M.Meaning.apply (facts (shown_tables c.args.source.now.symbols c.args.source.now.tables)) c.args.source.now.symbols c.in_ok-symbols.symbols c.new-tables.result.items c.args.limit c.in_ok-symbols.ensures c.new-tables.ensures.items c.len-few.ensures.fit.apart
 
 pub nonzero_div-left : goal.nonzero_div-left
 nonzero_div-left g c =
@@ -67,13 +58,13 @@ returns-in_default-clause-refused g c =
     rw c.passed.ensures (
       refl,
       passes g.M.Meaning.apply I c.args.source.now.symbols c.loop-rule.symbols c.args.rules.now c.loop-rule.tables.items c.args.limit c.loop-rule.left c.loop-rule.rule-index c.rule-item.result m.tuples
-          c.loop-rule.invariant c.requires.rules c.loop-rule-test.true c.rule-item.is m.distinct m.each (subst (λ (n : ℕ). c.loop-rule.left < length m.tuples * n) c.conclusion_cells-cells.ensures many),
+          c.loop-rule.invariant (λ d k. (c.requires.matchable d k).rule) c.loop-rule-test.true c.rule-item.is m.distinct m.each (subst (λ (n : ℕ). c.loop-rule.left < length m.tuples * n) c.conclusion_cells-cells.ensures many),
     )
 
 pub overflow_mul-used : goal.overflow_mul-used
 overflow_mul-used g c =
-    let d = each_item IsRule c.args.rules.now c.loop-rule.rule-index c.rule-item.result c.loop-rule-test.true c.rule-item.is c.requires.rules in
-    let k = d.few_cells in
+    let d = each_item (IsMatchable (offered c.args.host.now) (widths (shown_tables c.args.source.now.symbols c.args.source.now.tables))) c.args.rules.now c.loop-rule.rule-index c.rule-item.result c.loop-rule-test.true c.rule-item.is c.requires.matchable in
+    let k = d.rule.few_cells in
     let p = product_fits c.count.result c.conclusion_cells-cells.result (omega (arith, c.count.ensures.count, c.count.ensures.few)) (omega (arith, k, c.conclusion_cells-cells.ensures)) in
     omega (arith, p)
 
@@ -86,7 +77,7 @@ returns-then-used-left-clause-refused g c =
     rw c.passed-then-used-left.ensures (
       refl,
       passes g.M.Meaning.apply I c.args.source.now.symbols c.loop-rule.symbols c.args.rules.now c.loop-rule.tables.items c.args.limit c.loop-rule.left c.loop-rule.rule-index c.rule-item.result
-          (map (texts_of c.rule_rows.new.symbols) c.in-Some.rows.rows) c.loop-rule.invariant c.requires.rules c.loop-rule-test.true c.rule-item.is
+          (map (texts_of c.rule_rows.new.symbols) c.in-Some.rows.rows) c.loop-rule.invariant (λ d k. (c.requires.matchable d k).rule) c.loop-rule-test.true c.rule-item.is
           (tuples_distinct g.M.Meaning.apply I c.rule_rows.new.symbols c.rule-item.result c.in-Some.rows c.in_ok-found.ensures.apart s) (tuples_shown g.M.Meaning.apply I c.rule_rows.new.symbols c.rule-item.result c.in-Some.rows s)
           (rw (n, c.conclusion_cells-cells.ensures) at c.if-used-left.true),
     )
