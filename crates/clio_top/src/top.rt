@@ -141,7 +141,8 @@ where
     ensures left { (c : World) × IsOf (I.state inputs.old).holds c
         × Leaves (program (offered host.now) (tested tests.now) M.apply M.passes) c words.now.items
         (O.state outputs.old) (O.state outputs.new) result }
-    ensures complete { (m : FileMap) → (I.state inputs.old).holds ≡ Some m → ¬ (Rose (I.state inputs.old).faults (I.state inputs.new).faults)
+    ensures complete { (m : FileMap) → (I.state inputs.old).holds ≡ Some m
+        → ¬ (Rose (I.state inputs.old).faults (I.state inputs.new).faults)
         → ¬ (Rose (O.faults outputs.old) (O.faults outputs.new))
         → Completes (program (offered host.now) (tested tests.now) M.apply M.passes) (λ n. get m n) words.now.items result }
     ensures complete_demo { ¬ (Rose (O.faults outputs.old) (O.faults outputs.new))

@@ -72,7 +72,8 @@ impl<'a> Grid<'a> {
         requires column { column < self.now.width }
         requires cells { length cells.old.items ≡ self.now.count * self.now.width }
         ensures size { length cells.new.items ≡ length cells.old.items }
-        ensures numbered { OnOk result (AreNumbersOfTexts symbols.new self.now.texts.now self.now.width column cells.new.items self.now.count) }
+        ensures numbered { OnOk result
+            (AreNumbersOfTexts symbols.new self.now.texts.now self.now.width column cells.new.items self.now.count) }
         ensures others { OnOk result (OthersStay self.now.width column cells.old.items cells.new.items) }
         ensures grows { Extends symbols.old symbols.new }
     {
@@ -101,7 +102,8 @@ impl<'a> Grid<'a> {
         requires cells { length cells.old.items ≡ self.now.count * self.now.width }
         requires settled { AreSettled used.now symbols.old self.now.texts.now self.now.width self.now.count cells.old.items (column + 1) }
         ensures size { length cells.new.items ≡ length cells.old.items }
-        ensures settled { OnOk result (AreSettled used.now symbols.new self.now.texts.now self.now.width self.now.count cells.new.items column) }
+        ensures settled { OnOk result
+            (AreSettled used.now symbols.new self.now.texts.now self.now.width self.now.count cells.new.items column) }
         ensures grows { Extends symbols.old symbols.new }
     {
         if !is_used(used, column) {

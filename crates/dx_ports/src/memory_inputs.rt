@@ -60,15 +60,18 @@ impl Inputs for MemInputs {
     fn fetch(&mut self, name: &Text, limit: u64, into: &mut Vec<u8>) -> Result<(), FetchFault>
         ensures kept { (⟦<MemInputs as Inputs>⟧.state self.new).holds ≡ (⟦<MemInputs as Inputs>⟧.state self.old).holds }
         ensures counted { (⟦<MemInputs as Inputs>⟧.state self.old).faults ≤ (⟦<MemInputs as Inputs>⟧.state self.new).faults }
-        ensures bytes { IfSome (⟦<MemInputs as Inputs>⟧.state self.old).holds (λ m. OnOk result (get m name.now ≡ Some into.new.items)) }
+        ensures bytes { IfSome (⟦<MemInputs as Inputs>⟧.state self.old).holds
+            (λ m. OnOk result (get m name.now ≡ Some into.new.items)) }
         ensures bound { OnOk result (length into.new.items ≤ limit) }
         ensures refused { OnErr result (into.new.items ≡ []) }
-        ensures absent { IfSome (⟦<MemInputs as Inputs>⟧.state self.old).holds (λ m. IsErrOf result FetchFault.Absent → get m name.now ≡ None) }
+        ensures absent { IfSome (⟦<MemInputs as Inputs>⟧.state self.old).holds
+            (λ m. IsErrOf result FetchFault.Absent → get m name.now ≡ None) }
         ensures long { IfSome (⟦<MemInputs as Inputs>⟧.state self.old).holds (λ m. IsErrOf result FetchFault.Long
             → IsSomeAnd (get m name.now) (λ bytes. limit < length bytes)) }
         ensures failed { IsErrOf result FetchFault.Failed
             → Rose (⟦<MemInputs as Inputs>⟧.state self.old).faults (⟦<MemInputs as Inputs>⟧.state self.new).faults }
-        ensures named { IsErrOf result FetchFault.Failed → IfSome (⟦<MemInputs as Inputs>⟧.state self.new).stopped (λ n. n ≡ name.now) }
+        ensures named { IsErrOf result FetchFault.Failed
+            → IfSome (⟦<MemInputs as Inputs>⟧.state self.new).stopped (λ n. n ≡ name.now) }
         ensures steady { ¬ (IsErrOf result FetchFault.Failed)
             → (⟦<MemInputs as Inputs>⟧.state self.new).faults ≡ (⟦<MemInputs as Inputs>⟧.state self.old).faults }
         ensures stays { ¬ (IsErrOf result FetchFault.Failed)

@@ -117,7 +117,8 @@ impl Outputs for MemOutputs {
     fn put(&mut self, name: &Text, bytes: &[u8]) -> Result<(), PutFault>
         ensures put { OnOk result ((⟦<MemOutputs as Outputs>⟧.state self.new).files
             ≡ appended (⟦<MemOutputs as Outputs>⟧.state self.old).files ((name.now, bytes.now) ∷ [])) }
-        ensures refused { OnErr result ((⟦<MemOutputs as Outputs>⟧.state self.new).files ≡ (⟦<MemOutputs as Outputs>⟧.state self.old).files) }
+        ensures refused { OnErr result
+            ((⟦<MemOutputs as Outputs>⟧.state self.new).files ≡ (⟦<MemOutputs as Outputs>⟧.state self.old).files) }
         ensures said { (⟦<MemOutputs as Outputs>⟧.state self.new).said ≡ (⟦<MemOutputs as Outputs>⟧.state self.old).said }
         ensures counted { ⟦<MemOutputs as Outputs>⟧.faults self.old ≤ ⟦<MemOutputs as Outputs>⟧.faults self.new }
         ensures failed { IsErrOf result PutFault.Failed
